@@ -2,3 +2,4 @@ pub mod RestLaws
 pub mod ClearRests
 pub mod RestEntries
 pub mod Walks
+pub mod SmoothedLaws

@@ -1,6 +1,6 @@
 -- From the first position of a path along the least rests to its end.
-use Rattle.std.proofs.Common.{◌≡◌, ℕ, suc, ◌+◌, ◌<◌, List, [], ◌∷◌, ◌++◌, length, map, arith, refl, sym, ap, ◌∙◌, subst, append_assoc}
-use Rattle.std.proofs.lemmas.List.{map-append, append-nil}
+use Rattle.std.proofs.Common.{◌≡◌, ℕ, suc, ◌-◌, ◌<◌, List, [], ◌∷◌, ◌++◌, length, get_or, arith, refl, sym, ap, ◌∙◌, subst, append_assoc}
+use Rattle.std.proofs.lemmas.List.{map-append, append-nil, get_or_read}
 use Rattle.plan_model.specs.declared.geometry.Point.{Point}
 use Rattle.plan_model.specs.declared.configuration_spaces.ConfigurationSpace.{ConfigurationSpace}
 use Rattle.plan_model.specs.Spaces.ClearPaths.{path_point}
@@ -8,7 +8,7 @@ use Rattle.plan_model.specs.Spaces.PathChoices.{kept_points, cost_of_choice}
 use Rattle.plan_model.specs.Trees.NodeLists.{length_of_path}
 use Rattle.path_tools.specs.declared.rests.Rest.{Rest}
 use Rattle.path_tools.specs.SmoothPaths.{IsLeastChoice, IsSmoothed}
-use Rattle.path_tools.specs.Rests.{BeginsWith, IsClearRest, IsLeastRest, IsRestBelow}
+use Rattle.path_tools.specs.Rests.{BeginsWith, IsLeastRest, IsRestBelow, AreRestsFrom}
 use Rattle.path_tools.proofs.RestLaws.{IsClearRest-inside, IsLeastRest-same, IsLeastRest-next}
 use Rattle.path_tools.proofs.ClearRests.{IsLeastChoice-rest}
 
@@ -67,6 +67,15 @@ module _ (space : ConfigurationSpace) (path : List Point) where
           subst (λ k. Steps space path points at k cost) (sym next)
           (Steps-by points at cost j w.behind positions w.kept least (subst (λ c. IsLeastChoice space path (w.behind ++ c)) same w.least)
           (w.costs ∙ ap (λ c. cost_of_choice path (w.behind ++ c)) same))
+
+  -- the same by an entry that was read in a table
+  pub Steps-read : (rests : List Rest) (points : List Point) (at cost : ℕ) (entry : Rest) → AreRestsFrom space path 0 rests
+      → HasWalked space path points at cost → ¬ (at ≡ length path - 1) → entry ≡ get_or rests at entry → Steps space path points at entry.next cost
+  Steps-read rests points at cost entry table w inner is =
+      let inside = IsClearRest-inside space path at w.ahead w.onward.clear in
+      let read = get_or_read rests at entry (omega (arith, inside, table.0)) is (record { cost = 0; points = 0; next = 0 }) in
+      Steps-on points at cost entry w (subst (IsRestBelow space path (length path) at) (sym read) (table.1 at (omega arith) inside))
+      (λ end. inner (omega (arith, end)))
 
   -- at the end
   pub HasWalked-end : (points : List Point) (at cost : ℕ) → HasWalked space path points at cost → suc at ≡ length path

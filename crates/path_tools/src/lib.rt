@@ -5,5 +5,6 @@
 
 mod rests;
 mod smoothing;
+pub mod smoothing_laws;
 
 pub use smoothing::smooth;

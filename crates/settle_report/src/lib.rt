@@ -5,7 +5,7 @@
 //! behind. [`settle`] makes each kept cost the cost-to-come, and the calls that speak of costs take a run that is settled.
 //!
 //! [`best`] is the cheapest node in the goal, and [`path_to`] the points from the start to a node. [`report`] is the text,
-//! short or full; [`push_node_line`] and [`push_mark_line`] append one line of it, from the numbers of a node or a mark.
+//! short or full, and [`report_along`] the short one along another path; [`push_node_line`] and [`push_mark_line`] append one line of it, from the numbers of a node or a mark.
 //! [`deliver`] writes a text to a sink.
 //! Each takes a number of steps that is linear in the run and its text, but for the sort by costs of the nodes of a run that is
 //! not settled.
@@ -24,5 +24,5 @@ pub use delivery::deliver;
 pub use mark_lines::push_mark_line;
 pub use node_lines::push_node_line;
 pub use paths::path_to;
-pub use reports::{report, report_by_best, summary, summary_by_best};
+pub use reports::{report, report_along, report_by_best, summary, summary_by_best};
 pub use settling::settle;

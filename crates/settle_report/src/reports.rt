@@ -59,6 +59,28 @@ pub fn report_by_best(
     Ok(text.into_bytes())
 }
 
+/// The short report of a run along another path than its best one, with this cost in 256ths of a lattice step. O(n) for n marks, and
+/// the points of the path.
+///
+/// # Errors
+///
+/// `Memory` if out of memory for the text.
+pub fn report_along(
+    alloc: Global,
+    grown: &Grown,
+    path: &[Point],
+    cost: u64,
+) -> Result<Vec<u8>, Memory>
+    ensures { IfOk result (λ text. text.items ≡ (spec.path_line path.now cost ++ spec.point_lines path.now)
+      ++ spec.counts_line grown.now.task.scene grown.now.limit (state_of_grown grown.now)) }
+{
+    let mut text = String::new(alloc);
+    push_path_line(&mut text, path, cost)?;
+    push_point_lines(&mut text, path)?;
+    push_counts_line(&mut text, grown)?;
+    Ok(text.into_bytes())
+}
+
 /// The short report of a settled run without the lines of its path's points. O(n) for n marks.
 ///
 /// # Errors

@@ -1,9 +1,8 @@
-use Rattle.std.proofs.Common.{◌≡◌, ℕ, suc, ◌+◌, ◌-◌, ◌<◌, ◌≤◌, List, [], ◌∷◌, ◌++◌, length, arith, sym, ap, ◌∙◌, subst}
+use Rattle.std.proofs.Common.{arith, sym, ap, ◌∙◌, subst}
 use Rattle.std.proofs.lemmas.List.{get_or_read}
-use Rattle.plan_model.specs.Spaces.ClearPaths.{path_point}
-use Rattle.path_tools.specs.Rests.{IsRestBelow, rest_at}
-use Rattle.path_tools.proofs.RestLaws.{IsClearRest-inside}
-use Rattle.path_tools.proofs.Walks.{HasWalked, Steps, HasWalked-start, Steps-on, HasWalked-end}
+use Rattle.path_tools.specs.declared.rests.Rest.{Rest}
+use Rattle.path_tools.specs.Rests.{rest_at}
+use Rattle.path_tools.proofs.Walks.{HasWalked, HasWalked-start, Steps-read, HasWalked-end}
 use Rattle.path_tools.proofs.smoothing.cheapest_way.Goals as goal
 
 pub loop-at-init : goal.loop-at-init
@@ -16,25 +15,14 @@ loop-at-init g c =
 
 pub bounds-path-at : goal.bounds-path-at
 bounds-path-at g c =
-    let space = g.C.Clearing.space c.args.hall.now in
-    let path = c.args.path.now in
-    let rests = c.in_ok-rests.rests.items in
-    let walked = c.loop-at.invariant in
-    let inside = IsClearRest-inside space path c.loop-at.at walked.ahead walked.onward.clear in
-    let read = get_or_read rests c.loop-at.at c.index.result.now (omega (arith, inside, c.in_ok-rests.ensures.0)) c.index.ensures (record { cost = 0; points = 0; next = 0 }) in
-    let entry = subst (IsRestBelow space path (length path) c.loop-at.at) (sym read) (c.in_ok-rests.ensures.1 c.loop-at.at (omega arith) inside) in
-    (Steps-on space path c.loop-at.points.items c.loop-at.at _ c.index.result.now walked entry (λ end. c.loop-at-test.true (omega (arith, end)))).inside
+    (Steps-read (g.C.Clearing.space c.args.hall.now) c.args.path.now c.in_ok-rests.rests.items c.loop-at.points.items c.loop-at.at
+    (rest_at c.in_ok-rests.rests.items 0).cost c.index.result.now c.in_ok-rests.ensures c.loop-at.invariant c.loop-at-test.true c.index.ensures).inside
 
 pub loop-at-smaller : goal.loop-at-smaller
 loop-at-smaller g c =
-    let space = g.C.Clearing.space c.args.hall.now in
-    let path = c.args.path.now in
-    let rests = c.in_ok-rests.rests.items in
-    let walked = c.loop-at.invariant in
-    let inside = IsClearRest-inside space path c.loop-at.at walked.ahead walked.onward.clear in
-    let read = get_or_read rests c.loop-at.at c.index.result.now (omega (arith, inside, c.in_ok-rests.ensures.0)) c.index.ensures (record { cost = 0; points = 0; next = 0 }) in
-    let entry = subst (IsRestBelow space path (length path) c.loop-at.at) (sym read) (c.in_ok-rests.ensures.1 c.loop-at.at (omega arith) inside) in
-    let step = Steps-on space path c.loop-at.points.items c.loop-at.at _ c.index.result.now walked entry (λ end. c.loop-at-test.true (omega (arith, end))) in
+    let step =
+    Steps-read (g.C.Clearing.space c.args.hall.now) c.args.path.now c.in_ok-rests.rests.items c.loop-at.points.items c.loop-at.at
+    (rest_at c.in_ok-rests.rests.items 0).cost c.index.result.now c.in_ok-rests.ensures c.loop-at.invariant c.loop-at-test.true c.index.ensures in
     omega (arith, step.onward, step.inside)
 
 pub loop-at-preserved : goal.loop-at-preserved
@@ -42,24 +30,23 @@ loop-at-preserved g c =
     let space = g.C.Clearing.space c.args.hall.now in
     let path = c.args.path.now in
     let rests = c.in_ok-rests.rests.items in
-    let walked = c.loop-at.invariant in
-    let inside = IsClearRest-inside space path c.loop-at.at walked.ahead walked.onward.clear in
-    let read = get_or_read rests c.loop-at.at c.index.result.now (omega (arith, inside, c.in_ok-rests.ensures.0)) c.index.ensures (record { cost = 0; points = 0; next = 0 }) in
-    let entry = subst (IsRestBelow space path (length path) c.loop-at.at) (sym read) (c.in_ok-rests.ensures.1 c.loop-at.at (omega arith) inside) in
-    let step = Steps-on space path c.loop-at.points.items c.loop-at.at _ c.index.result.now walked entry (λ end. c.loop-at-test.true (omega (arith, end))) in
+    let step =
+    Steps-read space path rests c.loop-at.points.items c.loop-at.at (rest_at rests 0).cost c.index.result.now c.in_ok-rests.ensures c.loop-at.invariant
+    c.loop-at-test.true c.index.ensures in
     subst (λ points. HasWalked space path points c.index.result.now.next (rest_at rests 0).cost) (sym c.in_ok-push.ensures.items) step.walked
 
 pub returns-clause-smoothed : goal.returns-clause-smoothed
 returns-clause-smoothed g c =
-    (HasWalked-end (g.C.Clearing.space c.args.hall.now) c.args.path.now c.loop-at.points.items c.loop-at.at _ c.loop-at.invariant
-    (omega (arith, c.requires.some, c.loop-at-test.false))).0
+    (HasWalked-end (g.C.Clearing.space c.args.hall.now) c.args.path.now c.loop-at.points.items c.loop-at.at
+    (rest_at c.in_ok-rests.rests.items 0).cost c.loop-at.invariant (omega (arith, c.requires.some, c.loop-at-test.false))).0
 
 pub returns-clause-cost : goal.returns-clause-cost
 returns-clause-cost g c =
     let rests = c.in_ok-rests.rests.items in
     let end =
-    HasWalked-end (g.C.Clearing.space c.args.hall.now) c.args.path.now c.loop-at.points.items c.loop-at.at _ c.loop-at.invariant
+    HasWalked-end (g.C.Clearing.space c.args.hall.now) c.args.path.now c.loop-at.points.items c.loop-at.at (rest_at rests 0).cost c.loop-at.invariant
     (omega (arith, c.requires.some, c.loop-at-test.false)) in
     let read =
-    get_or_read rests 0 c.index-2.result.now (omega (arith, c.requires.some, c.in_ok-rests.ensures.0)) c.index-2.ensures (record { cost = 0; points = 0; next = 0 }) in
-    ap (λ rest. rest.cost) read ∙ end.1
+    get_or_read rests 0 c.index-2.result.now (omega (arith, c.requires.some, c.in_ok-rests.ensures.0)) c.index-2.ensures
+    (record { cost = 0; points = 0; next = 0 }) in
+    ap (λ (rest : Rest). rest.cost) read ∙ end.1
