@@ -3,3 +3,4 @@ pub mod ClearRests
 pub mod RestEntries
 pub mod Walks
 pub mod SmoothedLaws
+pub mod RunPaths

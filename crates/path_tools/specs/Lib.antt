@@ -1,2 +1,3 @@
 pub mod SmoothPaths
 pub mod Rests
+pub mod SmoothedReports

@@ -4,7 +4,9 @@
 #![tactic(auto)]
 
 mod rests;
+mod smoothed_reports;
 mod smoothing;
 pub mod smoothing_laws;
 
+pub use smoothed_reports::smoothed_report;
 pub use smoothing::smooth;
