@@ -101,8 +101,13 @@ module _ (path : List Point) where
       ⊎ ((cost_of_choice path (i ∷ k ∷ b) ≡ cost_of_choice path (i ∷ j ∷ a)) × (length (i ∷ k ∷ b) < length (i ∷ j ∷ a))))
       → IsChoiceNotAbove path (i ∷ j ∷ a) (i ∷ k ∷ b)
   IsChoiceNotAbove-earlier i j k a b earlier none = record {
-    cost = elim (cases_lt (cost_of_choice path (i ∷ k ∷ b)) (cost_of_choice path (i ∷ j ∷ a))) [ inl less ↦ absurd (none (inl less)) | inr h ↦ omega (arith, h) ];
-    points = λ e. elim (cases_lt (length (i ∷ k ∷ b)) (length (i ∷ j ∷ a))) [ inl less ↦ absurd (none (inr (e, less))) | inr h ↦ omega (arith, h) ];
+    cost =
+        elim (cases_lt (cost_of_choice path (i ∷ k ∷ b)) (cost_of_choice path (i ∷ j ∷ a))) [
+          | inl less ↦ absurd (none (inl less))
+          | inr h ↦ omega (arith, h)
+        ];
+    points = λ e.
+        elim (cases_lt (length (i ∷ k ∷ b)) (length (i ∷ j ∷ a))) [ inl less ↦ absurd (none (inr (e, less))) | inr h ↦ omega (arith, h) ];
     positions = λ e l. (omega arith, λ s. (omega (arith, earlier), λ same. absurd (omega (arith, earlier, same))));
   }
 

@@ -1,7 +1,6 @@
 //! Path smoothing: the cheapest way over some of the points of a path.
 
-ghost use Rattle.std.specs.Prelude.{◌≡◌, ℕ, suc, ◌+◌, ◌<◌, ◌≤◌, length, IfOk};
-ghost use Rattle.plan_model.specs.Geometry.Bounds.{IsBounded};
+ghost use Rattle.std.specs.Prelude.{◌≡◌, suc, ◌<◌, ◌≤◌, length, IfOk};
 ghost use Rattle.plan_model.specs.Spaces.ClearPaths.{IsClearPath};
 ghost use Rattle.plan_model.specs.Trees.NodeLists.{length_of_path};
 ghost use Rattle.path_tools.specs.Rests.{AreRestsFrom, IsRestBelow};
@@ -18,11 +17,9 @@ use swept_check::Clearing;
 /// than the step that the path was planned by. Of all such choices of points the result has the least cost, of these the fewest
 /// points, and of these the positions that come first, compared from the front. A path of one point stays as it is.
 ///
-/// Its cost is the sum of its segments' in 256ths of a lattice step, each rounded up; no other choice costs less, the whole path
-/// among them. Two points may be kept that have others of a clear path between them, so nothing is said of points that are not on
-/// the path.
+/// Costs are in 256ths of a lattice step, each segment rounded up. All points are of the path: a way over other points may cost less.
 ///
-/// O(n²) comparisons for n points, without a root; a segment is tested only if it would be cheaper than the best so far. If the
+/// O(n²) comparisons for n points, without a root; a segment is tested only if the way over it would be better than the best so far. If the
 /// straight segment from a point to the end is clear, that point takes O(1). Memory is linear.
 ///
 /// # Errors
@@ -101,7 +98,12 @@ fn least_rest<C: Clearing>(hall: &C, path: &[Point], rests: &[Rest], position: u
     if hall.clear(from, path[last]) {
         return Rest::through(last as u32, path[last], rests[last], from);
     }
-    let mut best = Rest::through(position as u32 + 1, path[position + 1], rests[position + 1], from);
+    let mut best = Rest::through(
+        position as u32 + 1,
+        path[position + 1],
+        rests[position + 1],
+        from,
+    );
     for next in position + 2..last {
         let to = path[next];
         if best.is_beaten_by(to, rests[next], from) && hall.clear(from, to) {
