@@ -1,0 +1,88 @@
+-- The nodes that a run has are those of a later run with numbers up to its limit; so the first path comes with the first goal node.
+use Rattle.std.proofs.Common.{◌≡◌, ◌<◌, ◌≤◌, ◌+◌, ◌*◌, ◌⊎◌, ℕ, zero, suc, Option, Some, None, inl, inr, refl, sym, ap, ◌∙◌, subst, arith, length, min}
+use Rattle.std.specs.Prelude.{IsSome, IsTrue}
+use Rattle.std.proofs.Math.Nat.{mul-le-mul_right, min-le_left, min-le_right}
+use Rattle.std.proofs.lemmas.Bool.{cases_lt}
+use Rattle.plan_model.proofs.BestNodeLaws.{IsPresent-goal}
+use Rattle.plan_model.proofs.PlacedNodes.{present-of_record, record-of_present}
+use Rattle.plan_model.proofs.TreeStateLaws.{point_at-grows}
+use Rattle.plan_model.specs.Trees.BestNode.{IsGoalNode, goals_of, is_goal_point}
+use Rattle.plan_model.specs.Trees.PointsByNumber.{IsPresent, point_at}
+use Rattle.plan_model.specs.Trees.TreeStates.{GrowsInto}
+use Rattle.plan_model.specs.declared.records.Record.{Record}
+use Rattle.plan_model.specs.declared.scenes.Scene.{Scene}
+use Rattle.plan_model.specs.declared.tasks.Task.{Task}
+use Rattle.plan_model.specs.Runs.Outcomes.{is_placed}
+use Rattle.plan_model.specs.declared.records.Outcome.TheVariants.{Placed}
+use Rattle.step_core.proofs.HeldNodes.{start_present-held}
+use Rattle.step_core.specs.GrownRuns.{state_of_grown, words_of_grown}
+use Rattle.step_core.specs.declared.grown.Grown.{Grown}
+use Rattle.any_time.proofs.BestNodes.{none-best}
+use Rattle.any_time.proofs.FoundPaths.{LeadsIntoGoal-grows}
+use Rattle.any_time.specs.BestPaths.{Shows, best_sum}
+use Rattle.any_time.specs.Items.{AreSlices}
+use Rattle.any_time.specs.Paths.{IsFirstPath}
+use Rattle.any_time.specs.Sessions.{Handles}
+use Rattle.any_time.specs.declared.betters.Better.{Better}
+
+some_entry : (o : Option Record) → IsSome o → (entry : Record) × (o ≡ Some entry)
+some_entry None h = cc
+some_entry (Some entry) h = (entry, refl)
+
+module _ (run later : Grown) (grows : GrowsInto (state_of_grown run) (state_of_grown later)) where
+  -- a node of the later run with a number up to the limit is one already
+  pub IsPresent-before : (n : ℕ) → n ≤ run.limit → IsPresent (state_of_grown later).points n → IsPresent (state_of_grown run).points n
+  IsPresent-before zero low h = start_present-held run.task run.limit (words_of_grown run) run.hold_run
+  IsPresent-before (suc k) low h =
+      let old = some_entry _ (run.hold_run.closed.records.recorded k (omega (arith, low))) in
+      let placed = record-of_present (state_of_grown later) later.hold_run.closed.placed k h in
+      let kept = grows.records k old.0 old.1 in
+      let same : old.0 ≡ placed.0 = (let both = sym kept ∙ placed.1 in cc) in
+      present-of_record (state_of_grown run) run.hold_run.closed.placed k old.0 old.1 (ap (λ (e : Record). e.outcome) same ∙ placed.2)
+
+  -- so without a best sum none of them lies in a goal
+  pub none_below : later.task ≡ run.task → best_sum run ≡ None → (n : ℕ) → n ≤ run.limit
+      → ¬ IsGoalNode (goals_of later.task.scene) (state_of_grown later).points n
+  none_below task none n low goal =
+      let here = IsPresent-before n low (IsPresent-goal (goals_of later.task.scene) (point_at (state_of_grown later).points n) goal) in
+      let own = subst (λ (s : Scene). IsTrue (is_goal_point (goals_of s) (point_at (state_of_grown later).points n))) (ap (λ (t : Task). t.scene) task) goal in
+      none-best run none n (subst (λ o. IsTrue (is_goal_point (goals_of run.task.scene) o)) (point_at-grows (state_of_grown run) (state_of_grown later) grows n here) own)
+
+-- the limit that a slice leads to
+next_low : (limit slice all next : ℕ) → next ≡ min (limit + slice) all → next ≤ limit + slice
+next_low limit slice all next e = subst (λ m. m ≤ limit + slice) (sym e) (min-le_left (limit + slice) all)
+
+next_within : (limit slice all next : ℕ) → next ≡ min (limit + slice) all → next ≤ all
+next_within limit slice all next e = subst (λ m. m ≤ all) (sym e) (min-le_right (limit + slice) all)
+
+-- a number of whole slices below the next limit is not above this one
+slices_below : (slice k j next : ℕ) → next ≤ j * slice + slice → k * slice < next → k * slice ≤ j * slice
+slices_below slice k j next low less =
+    elim (cases_lt j k) [
+      | inl above ↦ (let far : suc j * slice ≤ k * slice = mul-le-mul_right slice (omega (arith, above)) in
+          let one : suc j * slice ≡ j * slice + slice = omega arith in absurd (omega (arith, far, one, low, less)))
+      | inr within ↦ mul-le-mul_right slice within
+    ]
+
+pub below_next : (slice all limit next : ℕ) → AreSlices slice all limit → limit < next → next ≡ min (limit + slice) all
+    → (k : ℕ) → k * slice < next → k * slice ≤ limit
+below_next slice all limit next (inl whole) more is k less =
+    let low = next_low limit slice all next is in
+    let at = whole.1 in
+    subst (λ m. k * slice ≤ m) (sym at) (slices_below slice k whole.0 next (subst (λ m. next ≤ m + slice) at low) less)
+below_next slice all limit next (inr every) more is k less =
+    let within = next_within limit slice all next is in absurd (omega (arith, every, more, within))
+
+-- after the next marks the run has handled a number of whole slices, or all
+pub AreSlices-next : (slice all limit next : ℕ) → AreSlices slice all limit → limit < next → next ≡ min (limit + slice) all → AreSlices slice all next
+AreSlices-next slice all limit next (inl whole) more is =
+    elim (cases_lt all (limit + slice)) [
+      | inl past ↦ (let e : min (limit + slice) all ≡ all = omega (arith, past) in inr (is ∙ e))
+      | inr within ↦ (
+          let e : min (limit + slice) all ≡ limit + slice = omega (arith, within) in
+          let w = whole.1 in
+          let one : suc whole.0 * slice ≡ whole.0 * slice + slice = omega arith in
+          inl (suc whole.0, is ∙ e ∙ ap (λ m. m + slice) w ∙ sym one))
+    ]
+AreSlices-next slice all limit next (inr every) more is =
+    let within = next_within limit slice all next is in absurd (omega (arith, every, more, within))

@@ -1,0 +1,4 @@
+pub mod BestPaths
+pub mod Sessions
+pub mod Paths
+pub mod Items

@@ -1,0 +1,11 @@
+//! Laws of sessions, each the contract of a function that does nothing.
+
+ghost use Rattle.any_time.specs.Items.{ItemsFall};
+
+/// However often a session is polled: costs of the items strictly fall and their marks strictly rise, and each is the best path of the
+/// settled run after so many marks. Each is a path of the run at any later time too, though parents may have changed since, and the
+/// first came at the first slice that gave a goal node. At the end, unless memory was out, the run is settled and over all marks, and
+/// the last item has the cost of its best path. By one worker the runs are the textbook's.
+pub fn items_fall()
+    ensures { ItemsFall }
+{}

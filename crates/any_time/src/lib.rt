@@ -1,0 +1,19 @@
+//! The anytime planner: sessions that grow a run slice by slice, and give each better path as it comes.
+//!
+//! A [`Session`] is a stream of `futures` that its caller polls. A poll handles the next marks (samples), by the workers of
+//! `plan_work`, and settles the run. If the cheapest path into a goal is cheaper than the last one that was given, or is the
+//! first, the poll gives it as a [`Better`]; else it asks to be polled again. Costs of the paths that are given fall, and each is
+//! the best path of the whole run so far: law [`items_fall`]. [`Session::finish`] hands out the run, at the end or before it.
+//!
+//! A session is a stream over each collision checker in which runs can grow: [`Growing`].
+#![tactic(auto)]
+
+mod betters;
+mod growing;
+mod laws;
+mod sessions;
+
+pub use betters::{Better, Last};
+pub use growing::{Growing, grow_slice};
+pub use laws::items_fall;
+pub use sessions::Session;
