@@ -7,12 +7,11 @@ use Rattle.std.specs.List.{FoldsTo}
 use Rattle.futures.specs.declared.task.Poll.TheVariants.{Ready, Pending}
 use Rattle.futures.specs.declared.task.Poll.{Poll}
 use Rattle.std.specs.Prelude.{Result}
-use Rattle.plan_model.proofs.BestNodeLaws.{IsPresent-goal}
-use Rattle.plan_model.proofs.SettledRuns.{IsGoalNode-grows, sum_in-grows, best_sum-grows}
+use Rattle.plan_model.proofs.SettledRuns.{IsGoalNode-grows}
 use Rattle.plan_model.proofs.TreeStateLaws.{GrowsInto-refl, GrowsInto-trans}
 use Rattle.plan_model.specs.Runs.ClosedLaw.{IsClosed}
 use Rattle.plan_model.specs.Runs.Textbook.{setup_of}
-use Rattle.plan_model.specs.Trees.BestNode.{IsBestNode, IsGoalNode, goals_of}
+use Rattle.plan_model.specs.Trees.BestNode.{IsGoalNode, goals_of}
 use Rattle.plan_model.specs.Trees.TreeStates.{GrowsInto, IsSettled, sum_in}
 use Rattle.plan_model.specs.declared.errors.Memory.{Memory}
 use Rattle.plan_model.specs.declared.scenes.Scene.{Scene}
@@ -20,14 +19,14 @@ use Rattle.plan_model.specs.declared.tasks.Task.{Task}
 use Rattle.plan_work.specs.OneWorker.{IsOfTextbook}
 use Rattle.step_core.specs.GrownRuns.{state_of_grown}
 use Rattle.step_core.specs.declared.grown.Grown.{Grown}
-use Rattle.any_time.proofs.BestNodes.{AreNumberedTo-grown, IsGoalNode-best, IsPresent-best, none-best}
+use Rattle.any_time.proofs.BestNodes.{AreNumberedTo-grown, IsGoalNode-best, IsPresent-best}
 use Rattle.any_time.proofs.FirstPaths.{AreSlices-next, below_next, none_below}
 use Rattle.any_time.proofs.FoundPaths.{LeadsIntoGoal-grows, LeadsIntoGoal-shown}
 use Rattle.any_time.proofs.SunkSums.{Sinks, Sinks-grows}
-use Rattle.any_time.specs.BestPaths.{Shows, best_of, best_sum}
-use Rattle.any_time.specs.Items.{Answers, AreSlices, EndsWith, Fall, HasGiven, IfFirst, IsFound, IsRunOf, ItemsFall, betters_among, last_among, last_of}
+use Rattle.any_time.specs.BestPaths.{Shows, best_sum}
+use Rattle.any_time.specs.Items.{Answers, EndsWith, Fall, IfFirst, IsFound, IsRunOf, ItemsFall, betters_among, last_among, last_of}
 use Rattle.any_time.specs.Paths.{IsFirstPath, LeadsIntoGoal}
-use Rattle.any_time.specs.Sessions.{Handles, IsBetter, KeepsOrders, Moves, Polls, SessionState}
+use Rattle.any_time.specs.Sessions.{Handles, IsBetter, Moves, Polls, SessionState}
 use Rattle.any_time.specs.declared.betters.Better.{Better}
 use Rattle.any_time.specs.declared.betters.Last.{Last}
 

@@ -1,5 +1,5 @@
 -- The nodes that a run has are those of a later run with numbers up to its limit; so the first path comes with the first goal node.
-use Rattle.std.proofs.Common.{◌≡◌, ◌<◌, ◌≤◌, ◌+◌, ◌*◌, ◌⊎◌, ℕ, zero, suc, Option, Some, None, inl, inr, refl, sym, ap, ◌∙◌, subst, arith, length, min}
+use Rattle.std.proofs.Common.{◌≡◌, ◌<◌, ◌≤◌, ◌+◌, ◌*◌, ℕ, zero, suc, Option, Some, None, inl, inr, refl, sym, ap, ◌∙◌, subst, arith, min}
 use Rattle.std.specs.Prelude.{IsSome, IsTrue}
 use Rattle.std.proofs.Math.Nat.{mul-le-mul_right, min-le_left, min-le_right}
 use Rattle.std.proofs.lemmas.Bool.{cases_lt}
@@ -12,18 +12,12 @@ use Rattle.plan_model.specs.Trees.TreeStates.{GrowsInto}
 use Rattle.plan_model.specs.declared.records.Record.{Record}
 use Rattle.plan_model.specs.declared.scenes.Scene.{Scene}
 use Rattle.plan_model.specs.declared.tasks.Task.{Task}
-use Rattle.plan_model.specs.Runs.Outcomes.{is_placed}
-use Rattle.plan_model.specs.declared.records.Outcome.TheVariants.{Placed}
 use Rattle.step_core.proofs.HeldNodes.{start_present-held}
 use Rattle.step_core.specs.GrownRuns.{state_of_grown, words_of_grown}
 use Rattle.step_core.specs.declared.grown.Grown.{Grown}
 use Rattle.any_time.proofs.BestNodes.{none-best}
-use Rattle.any_time.proofs.FoundPaths.{LeadsIntoGoal-grows}
-use Rattle.any_time.specs.BestPaths.{Shows, best_sum}
+use Rattle.any_time.specs.BestPaths.{best_sum}
 use Rattle.any_time.specs.Items.{AreSlices}
-use Rattle.any_time.specs.Paths.{IsFirstPath}
-use Rattle.any_time.specs.Sessions.{Handles}
-use Rattle.any_time.specs.declared.betters.Better.{Better}
 
 some_entry : (o : Option Record) → IsSome o → (entry : Record) × (o ≡ Some entry)
 some_entry None h = cc

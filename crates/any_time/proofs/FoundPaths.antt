@@ -3,7 +3,7 @@ use Rattle.std.proofs.Common.{◌≡◌, ℕ, zero, suc, ◌+◌, ◌-◌, ◌<�
 use Rattle.std.proofs.Common.{length-append}
 use Rattle.std.proofs.lemmas.Bool.{cases_lt}
 use Rattle.std.proofs.lemmas.List.{map-append, get_or_append_left, get_or-append_right, reverse-append}
-use Rattle.std.specs.Prelude.{IsTrue, Option, Some, None}
+use Rattle.std.specs.Prelude.{IsTrue, Option, Some}
 use Rattle.plan_model.proofs.ChainLaws.{chain-start, chain-parent}
 use Rattle.plan_model.proofs.NewNodes.{StandsAt-present}
 use Rattle.plan_model.proofs.OrderLaws.{KeepsOrder-falls}
@@ -13,9 +13,9 @@ use Rattle.plan_model.specs.Reports.ReportText.{path_to}
 use Rattle.plan_model.specs.Runs.OrderLaw.{IsAllowedEdge, KeepsOrder}
 use Rattle.plan_model.specs.Runs.Textbook.{Setup, setup_of}
 use Rattle.plan_model.specs.Spaces.ClearPaths.{path_point}
-use Rattle.plan_model.specs.Trees.BestNode.{IsGoalNode, goals_of, is_goal_point, lies_in_goals}
+use Rattle.plan_model.specs.Trees.BestNode.{goals_of, is_goal_point, lies_in_goals}
 use Rattle.plan_model.specs.Trees.NodeLists.{length_of_path}
-use Rattle.plan_model.specs.Trees.PointsByNumber.{AreNumberedTo, IsPresent, StandsAt, point_at, point_of}
+use Rattle.plan_model.specs.Trees.PointsByNumber.{AreNumberedTo, IsPresent, StandsAt, point_of}
 use Rattle.plan_model.specs.Trees.TreeStates.{GrowsInto, TreeState, chain_in}
 use Rattle.plan_model.specs.declared.geometry.Goal.{Goal}
 use Rattle.plan_model.specs.declared.geometry.Point.{Point}

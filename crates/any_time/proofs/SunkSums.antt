@@ -1,9 +1,9 @@
 -- The best sum of a settled run that grows into another stays or falls.
-use Rattle.std.proofs.Common.{◌≡◌, ◌≤◌, ℕ, Option, Some, None, IfSome, IsSomeAnd, refl, sym, ap, subst, ◌∙◌, arith}
+use Rattle.std.proofs.Common.{◌≡◌, ◌≤◌, ℕ, Option, Some, None, IfSome, IsSomeAnd, refl, sym, ap, subst}
 use Rattle.std.specs.Prelude.{option_map}
 use Rattle.plan_model.proofs.BestNodeLaws.{best_node-some}
 use Rattle.plan_model.proofs.SettledRuns.{IsGoalNode-grows, best_sum-grows}
-use Rattle.plan_model.specs.Trees.BestNode.{IsBestNode, IsGoalNode, goals_of}
+use Rattle.plan_model.specs.Trees.BestNode.{IsBestNode, goals_of}
 use Rattle.plan_model.specs.Trees.TreeStates.{GrowsInto, IsSettled, sum_in}
 use Rattle.plan_model.specs.declared.scenes.Scene.{Scene}
 use Rattle.plan_model.specs.declared.tasks.Task.{Task}

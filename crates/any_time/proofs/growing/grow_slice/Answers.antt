@@ -1,4 +1,4 @@
-use Rattle.std.proofs.Common.{◌≡◌, ◌<◌, ◌∙◌, sym, subst, take}
+use Rattle.std.proofs.Common.{◌<◌, ◌∙◌, sym, subst, take}
 use Rattle.plan_model.proofs.SameTrees.{IsSettled-of_textbook}
 use Rattle.plan_model.proofs.TreeStateLaws.{GrowsInto-trans}
 use Rattle.plan_model.specs.Runs.Textbook.{setup_of}

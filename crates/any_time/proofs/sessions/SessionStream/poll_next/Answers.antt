@@ -1,5 +1,5 @@
 use Rattle.std.proofs.Common.{rules, Some, subst}
-use Rattle.futures.specs.declared.task.Poll.TheVariants.{Ready, Pending}
+use Rattle.futures.specs.declared.task.Poll.TheVariants.{Ready}
 use Rattle.std.proofs.Common.{Ok}
 use Rattle.any_time.proofs.PolledSessions.{polls_item, polls_pending}
 use Rattle.any_time.proofs.sessions.SessionStream.poll_next.Goals as goal
