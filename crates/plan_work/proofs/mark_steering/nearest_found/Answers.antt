@@ -78,4 +78,4 @@ returns c =
     let near = numbers_of c.args.pass.now.lists.search.found in
     let all = take_all c.others.index near
     (omega (arith, c.others-test.false, c.found_count-count.ensures, length-map c.args.pass.now.lists.search.found (λ (f : Found). f.node))) in
-    subst (λ ns. IsNearestOf c.args.pass.now.view c.args.p near ns c.others.best.node c.others.best.at) all c.others.invariant.best.nearest
+    record { some = subst (λ ns. IsNearestOf c.args.pass.now.view c.args.p near ns c.others.best.node c.others.best.at) all c.others.invariant.best.nearest }
