@@ -1,27 +1,29 @@
-//! Searches of the kd-tree that several workers grow at once, and the place of a new node in it.
+//! Searches of a kd-tree that several workers grow at the same time, and the placing of new nodes in it.
 //!
-//! The tree is that of Bentley (CACM 1975): a node at even depth splits what is below it by column, one at odd depth by row, and
-//! equal coordinates go right. It is shared as PRRT* has it (Ichnowski and Alterovitz, IROS 2012): links are only added, each by
-//! one exchange of an empty word, so no search waits, and none is told that it must begin anew.
+//! The tree is that of Bentley (CACM 1975): a node at even depth splits the nodes below it by column, one at odd depth
+//! by row, and equal coordinates go right. It is shared as in PRRT* (Ichnowski and Alterovitz, IROS 2012): links are
+//! only added, each by one exchange of an empty word. So no search waits, and none has to start again.
 //!
 //!     depth 0             (50,40)              x < 50 | 50 ≤ x
 //!     depth 1       (20,70)    (80,40)         y < 70 | 70 ≤ y  ..  y < 40 | 40 ≤ y
 //!     depth 2   (30,10)            (50,90)
 //!
-//! Others add nodes while a call walks, so each promise speaks of the nodes that the pass has seen with their points, at entry and
-//! at return (`plan_model/specs/Seen/Sights`). A point is swept if a node is seen there, or the way of the point came to a place that the
-//! call itself found empty: then the point was free at some moment of the call (law `swept_points_were_free` of `step_core`).
-//! [`find`] sweeps one point, [`nearest`] all that are at most as far as its answer, [`near`] and [`around`] all within the radius.
-//! What they find are nodes, seen with their points.
+//! Other workers add nodes during a call. So each promise speaks of the nodes that the pass has seen with their points,
+//! at entry and at return (`plan_model/specs/Seen/Sights`). A point is swept if a node is seen there, or if the way of
+//! the point led to a place that this call found empty; the point was then free at some moment of the call (law
+//! `swept_points_were_free` of `step_core`). [`find`] sweeps one point, [`nearest`] all points that are at most as far
+//! as its answer, [`near`] and [`around`] all points within the radius. What they find are nodes, seen with their
+//! points.
 //!
-//! [`place`] links the node in hand at the end of the way of its point, or tells the node that stands at that very point.
-//! A worker that comes second at a place walks on below the node that came first.
+//! [`place`] links the node in hand at the end of the way of its point, or tells which node stands at that very point.
+//! If two workers come to one place, the second goes on below the node of the first.
 //!
-//! A pass with the share of all workers has seen all nodes as they are: a search shows it nothing new, so that its promise is of all
-//! nodes, and [`place`] shows it nothing but the node that it links.
+//! A pass with the share of all workers has seen all nodes as they are. A search shows it nothing new, so the promise
+//! is then about all nodes; [`place`] shows it only the node that it links.
 //!
-//! No call takes memory or waits, and each visits a node once. Share, worker, records, limit and hand of the pass stay; `place`
-//! changes the stage of the hand alone. Distances are squared, in square lattice steps.
+//! No call takes memory or waits, and each visits a node at most once. The share, worker, records, limit and hand of
+//! the pass stay as they are, except that `place` changes the stage of the hand. Distances are squared, in square
+//! lattice steps.
 #![tactic(auto)]
 
 mod near_search;

@@ -1,6 +1,9 @@
-//! The model of the planner: the types that all crates share, and in `specs/` the definitions that every
-//! contract cites. RRT* is that of Karaman and Frazzoli, Sampling-based Algorithms for Optimal Motion
-//! Planning, IJRR 2011.
+//! The model of the planner: the types that all crates share, and in `specs/` the definitions that every contract
+//! cites. RRT* is that of Karaman and Frazzoli, Sampling-based Algorithms for Optimal Motion Planning, IJRR 2011.
+//!
+//! What the contracts give: laws over the definitions (`laws`), such as that each text spells one scene or has one
+//! first fault, that a scene has one textbook run with one report, and that each edge of a path of a closed run is
+//! clear. Sources and sinks in memory move exactly the bytes that they say.
 #![tactic(auto)]
 
 mod configuration_spaces;

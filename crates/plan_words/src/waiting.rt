@@ -1,4 +1,4 @@
-//! A list of nodes that may wait to be looked at, each once.
+//! A list of nodes that wait to be looked at. No node is on it twice.
 
 ghost use Rattle.std.specs.Prelude.{◌≡◌, ◌⊎◌, ℕ, ◌<◌, ◌≤◌, ◌++◌, [], length, option_to_list, IfOk, IfSome, None};
 ghost use Rattle.plan_words.specs.Waiting.{AreMarked, IsOn, NoneMarked};

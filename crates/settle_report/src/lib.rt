@@ -1,14 +1,16 @@
 //! What is said of a closed run: its costs settled, its best node, and its report as text.
 //!
-//! The cost-to-come of a node is what the edges from the start to it cost together. A run keeps a cost for each node, which
-//! is at least that: if a node gets a cheaper parent, its own kept cost falls at once, but those of its descendants may stay
-//! behind. [`settle`] makes each kept cost the cost-to-come, and the calls that speak of costs take a run that is settled.
+//! The cost-to-come of a node is what the edges from the start to it cost together. A run keeps a cost for each node,
+//! which is at least that: if a node gets a cheaper parent, its own kept cost falls at once, but those of its
+//! descendants may stay behind. [`settle`] makes each kept cost the cost-to-come, and the calls that speak of costs
+//! take a run that is settled.
 //!
-//! [`best`] is the cheapest node in the goal, and [`path_to`] the points from the start to a node. [`report`] is the text,
-//! short or full, and [`report_along`] the short one along another path; [`push_node_line`] and [`push_mark_line`] append one line of it, from the numbers of a node or a mark.
-//! [`deliver`] writes a text to a sink.
-//! Each takes a number of steps that is linear in the run and its text, but for the sort by costs of the nodes of a run that is
-//! not settled.
+//! [`best`] is the cheapest node in a goal, and [`path_to`] gives the points from the start to a node. [`report`] is
+//! the text, short or full, and [`report_along`] the short one along another path; [`push_node_line`] and
+//! [`push_mark_line`] append one line of it, from the numbers of a node or a mark. [`deliver`] writes a text to a sink.
+//!
+//! Each takes time that is linear in the run and its text, except that the nodes of a run that is not settled are
+//! sorted by cost.
 #![tactic(auto)]
 
 mod best_node;

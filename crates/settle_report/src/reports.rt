@@ -1,4 +1,5 @@
-//! The reports of a settled run, as text: its cheapest path into a goal, the counts, and in full its nodes and marks.
+//! The reports of a settled run as text: the cheapest path into a goal, the counts, and in a full report a line for
+//! each node and each mark.
 
 ghost use Rattle.std.specs.Prelude.{◌≡◌, ◌++◌, IfOk, IfSome, OnOk, string_bytes};
 ghost use Rattle.plan_model.specs.Trees.BestNode.{best_node, goals_of};

@@ -1,21 +1,23 @@
-//! The words of a run: how a point, a parent with its cost, and a record are packed into 64 bits each, and read again.
+//! The words of a run: how a point, a parent with its cost, and a record are each packed into 64 bits and read again.
 //!
-//! This is the one place where numbers are packed into one another. Every word that is written has bit 63 set, so that
-//! 0 is a word that is not written yet. `docs/words.md` has the layout, and `layout` has it as constants. The contracts
-//! say what a word is as a number: a sum of products for what is packed, quotients and remainders for what is read.
+//! This is the only place where several numbers are packed into one. Every word that is written has bit 63 set, so 0 is
+//! a word that is not written yet. `docs/words.md` has the layout, and `layout` has it as constants. The contracts say
+//! what a word is as a number: a sum of products for what is packed, quotients and remainders for what is read.
 //!
 //! [`Grown`] is a closed run: a task, and a table of such words with the count of nodes, a counter for each strip, the
-//! nodes, and a record for each mark. Its type keeps the closed law (`plan_model/specs/Runs/ClosedLaw`), and its nodes are linked
-//! to a kd-tree. `word_places` alone knows the order of the words; [`RunWords`] keeps them in one list, and reads and writes them by
-//! their names (`specs/WordNames`), as contracts call them, and `specs/GrownWords` says what tree they stand for.
+//! nodes, and a record for each mark. Its type keeps the closed law (`plan_model/specs/Runs/ClosedLaw`), and its nodes
+//! are linked to a kd-tree. Only `word_places` knows the order of the words. [`RunWords`] keeps them in one list, and
+//! reads and writes them by their names (`specs/WordNames`), as contracts call them. `specs/GrownWords` says which tree
+//! they stand for.
 //!
-//! [`walk`] goes along the way of a point through a [`KdTree`], which is whatever looks up children and points by number: the nodes of
-//! a run while it is packed, or a tree to which others add.
+//! [`walk`] follows the way of a point through a [`KdTree`], which is anything that looks up children and points by
+//! number: the nodes of a run while it is packed, or a tree to which other workers add.
 //!
-//! Several passes may step on the words of one run without a lock. What each knows is its [`View`], what holds between any two
-//! steps is the law of worlds (`specs/Worlds`), and each kind of step has a law that it keeps it (`world_laws`).
+//! Several passes may step on the words of one run without a lock. What each knows is its [`View`], what holds between
+//! any two steps is the law of worlds (`specs/Worlds`), and for each kind of step a law says that it keeps it
+//! (`world_laws`).
 //!
-//! [`ChildIndex`] is what planners find the children of a node by, whose parents are kept elsewhere: in words, or in a list.
+//! [`ChildIndex`] finds the children of a node for planners that keep parents elsewhere: in words, or in a list.
 #![tactic(auto)]
 
 mod child_index;
