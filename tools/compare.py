@@ -3,6 +3,7 @@
 
 Usage: compare.py PROGRAM [FIRST [COUNT]]. For each number from FIRST on (0 and 200 if left out), of each version:
 - `plain`, `plan 1`, `plain full` and `plan 1 full` write what textbook.py writes, and end with its status;
+- `smooth 1` writes what smoothing.py writes;
 - `plan W full`, for W of WORKERS, writes a report that judge.py finds lawful;
 - `show` writes the canonical text, `convert` that of the scene in version 2, and both for a text with faults the line and the kind of
   the first;
@@ -20,6 +21,7 @@ from collections import Counter
 from judge import verdict
 from make_scenes import scene_of, with_faults
 from scene import Fault, read
+from smoothing import smoothed_answer
 from textbook import answer
 from usage import words_or_usage
 
@@ -55,6 +57,7 @@ class Comparison:
             for planner in ("plain", "plan 1"):
                 words = f"{planner} full" if full else planner
                 self.note(number, f"{words}, by the textbook", self.run(words, text) == wanted)
+        self.note(number, "smooth 1, by all choices", self.run("smooth 1", text) == smoothed_answer(text))
         for workers in WORKERS:
             words = f"plan {workers} full"
             output, status = self.run(words, text)

@@ -5,3 +5,4 @@ pub mod GivenAnswers
 pub mod ConcludedCalls
 pub mod GeneratedObstacles
 pub mod ClearStarts
+pub mod CommandWords

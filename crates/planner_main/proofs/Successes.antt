@@ -19,7 +19,7 @@ pub ReportsGrown-answer :
     (report : Report) (grown : Grown) (done : Done) (text : List ℕ) → grown.limit ≡ length (mark_points grown.task.scene)
     → IsSettled (state_of_grown grown) → done.run ≡ Some grown
     → done.status ≡ status_of_report (is_some (best_node (goals_of grown.task.scene) grown.limit (state_of_grown grown)))
-    → text ≡ report grown.task.scene grown.limit (state_of_grown grown) → ReportsGrown report grown.task.scene grown done text
+    → report grown.task.scene grown.limit (state_of_grown grown) text → ReportsGrown report grown.task.scene grown done text
 ReportsGrown-answer report grown done text all_marks settled given status written = record {
   given = given;
   of_scene = refl;

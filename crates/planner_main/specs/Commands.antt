@@ -26,17 +26,23 @@ number_in least most word =
 abbrev pub plan_by : Bool → List ℕ → Option Command
 plan_by full word = option_and_then (λ workers. Some (commands.Plan workers full)) (number_in 1 MOST_WORKERS word)
 
+-- the command to smooth the path of a run by so many workers, which a word says
+abbrev pub smooth_by : List ℕ → Option Command
+smooth_by word = option_and_then (λ workers. Some (commands.Smooth workers)) (number_in 1 MOST_WORKERS word)
+
 -- the command of a word about the generated scene of a number
 abbrev pub command_about : List ℕ → ℕ → Option Command
 command_about word number =
     if bytes_eq word (codes "gen") then Some (commands.Gen number) else (if bytes_eq word (codes "trial") then Some (commands.Trial number) else None)
 
--- The command that two words ask for, if they ask for one: `plain full`, `plan` and a number of workers, or a word and the
--- number of a generated scene.
+-- The command that two words ask for, if they ask for one: `plain full`, `plan` or `smooth` and a number of workers, or a word and
+-- the number of a generated scene.
 abbrev pub command_of_two : List ℕ → List ℕ → Option Command
 command_of_two word second =
     if bytes_eq word (codes "plain") && bytes_eq second (codes "full") then Some (commands.Plain true)
-    else (if bytes_eq word (codes "plan") then plan_by false second else option_and_then (command_about word) (number_in 0 MOST_GENERATED second))
+    else (if bytes_eq word (codes "plan") then plan_by false second
+    else (if bytes_eq word (codes "smooth") then smooth_by second
+    else option_and_then (command_about word) (number_in 0 MOST_GENERATED second)))
 
 -- the command that three words ask for, if they ask for one: `plan`, a number of workers, and `full`
 abbrev pub command_of_three : List ℕ → List ℕ → List ℕ → Option Command
@@ -55,6 +61,7 @@ command_of (word ∷ second ∷ third ∷ fourth ∷ words) = None
 abbrev pub IsNumbered : Command → Type 0
 IsNumbered (commands.Plain full) = Unit {0}
 IsNumbered (commands.Plan workers full) = (1 ≤ workers) × (workers ≤ MOST_WORKERS)
+IsNumbered (commands.Smooth workers) = (1 ≤ workers) × (workers ≤ MOST_WORKERS)
 IsNumbered commands.Show = Unit {0}
 IsNumbered commands.Convert = Unit {0}
 IsNumbered (commands.Gen number) = number ≤ MOST_GENERATED
@@ -64,6 +71,7 @@ IsNumbered (commands.Trial number) = number ≤ MOST_GENERATED
 abbrev pub input_of : Command → Input
 input_of (commands.Plain full) = one_scene
 input_of (commands.Plan workers full) = one_scene
+input_of (commands.Smooth workers) = one_scene
 input_of commands.Show = one_scene
 input_of commands.Convert = one_scene
 input_of (commands.Gen number) = nothing
@@ -77,6 +85,7 @@ reads_text command = reads_bytes (input_of command)
 abbrev pub plans : Command → Bool
 plans (commands.Plain full) = true
 plans (commands.Plan workers full) = true
+plans (commands.Smooth workers) = true
 plans commands.Show = false
 plans commands.Convert = false
 plans (commands.Gen number) = false
@@ -90,6 +99,7 @@ tests_start command = reads_text command && plans command
 abbrev pub greatest_success : Command → ℕ
 greatest_success (commands.Plain full) = NO_PATH
 greatest_success (commands.Plan workers full) = NO_PATH
+greatest_success (commands.Smooth workers) = NO_PATH
 greatest_success commands.Show = DONE
 greatest_success commands.Convert = DONE
 greatest_success (commands.Gen number) = DONE

@@ -18,6 +18,7 @@ use Rattle.plan_model.specs.Texts.CanonicalText.{canonical_text}
 use Rattle.step_core.specs.declared.grown.Grown.{Grown}
 use Rattle.step_core.specs.GrownRuns.{state_of_grown}
 use Rattle.scene_text.specs.Fetching.{ReadsWithin}
+use Rattle.path_tools.specs.SmoothedReports.{IsSmoothedReport}
 use Rattle.planner_main.specs.declared.answers.Answer.{Answer}
 use Rattle.planner_main.specs.declared.commands.Command.{Command}
 use Rattle.planner_main.specs.declared.commands.Command.TheVariants as commands
@@ -40,9 +41,17 @@ abbrev pub status_of_report : Bool → ℕ
 status_of_report true = DONE
 status_of_report false = NO_PATH
 
--- how a scene, and the tree and the records of its run over so many marks, become a text
-abbrev pub Report : Type 0
-Report = Scene → ℕ → TreeState → List ℕ
+-- of a scene, and of the tree and the records of its run over so many marks, which texts are a report
+abbrev pub Report : Type 1
+Report = Scene → ℕ → TreeState → List ℕ → Type 0
+
+-- the text is the report, in full or in short
+abbrev pub IsReport : Bool → Report
+IsReport full scene limit state text = text ≡ report_text full scene limit state
+
+-- the text is the summary
+abbrev pub IsSummary : Report
+IsSummary scene limit state text = text ≡ summary scene limit state
 
 -- The run is of the scene, and of all its marks: it is closed at their number and settled. It is in what is done, the status
 -- says whether some node of it lies in a goal, and the text is such a report of it.
@@ -53,7 +62,7 @@ pub record ReportsGrown (report : Report) (scene : Scene) (grown : Grown) (done 
   pub closed : IsClosed (setup_of scene) (mark_points scene) (length (mark_points scene)) (state_of_grown grown)
   pub settled : IsSettled (state_of_grown grown)
   pub best : done.status ≡ status_of_report (is_some (best_node (goals_of scene) grown.limit (state_of_grown grown)))
-  pub written : text ≡ report scene grown.limit (state_of_grown grown)
+  pub written : report scene grown.limit (state_of_grown grown) text
 
 -- There is a run that is such a one and the textbook run of the scene.
 pub record ReportsScene (report : Report) (scene : Scene) (done : Done) (text : List ℕ) : Type 0 where
@@ -61,11 +70,11 @@ pub record ReportsScene (report : Report) (scene : Scene) (done : Done) (text : 
   pub reported : ReportsGrown report scene grown done text
   pub textbook : IsOfTextbookRun (setup_of scene) (mark_points scene) (state_of_grown grown)
 
--- The text reports a run of the scene: in full or in short. Its marks were handled by so many workers at most, numbered from 0. By
--- one worker it is the textbook run of the scene.
-pub record ReportsPlan (workers : ℕ) (full : Bool) (scene : Scene) (done : Done) (text : List ℕ) : Type 0 where
+-- The text is such a report of a run of the scene. Its marks were handled by so many workers at most, numbered from 0. By one worker it
+-- is the textbook run of the scene.
+pub record ReportsPlan (workers : ℕ) (report : Report) (scene : Scene) (done : Done) (text : List ℕ) : Type 0 where
   pub grown : Grown
-  pub reported : ReportsGrown (report_text full) scene grown done text
+  pub reported : ReportsGrown report scene grown done text
   pub by_workers : (k : ℕ) (entry : Record) → (state_of_grown grown).record_of k ≡ Some entry → entry.worker < workers
   pub textbook : workers ≡ 1 → IsOfTextbookRun (setup_of scene) (mark_points scene) (state_of_grown grown)
 
@@ -85,6 +94,7 @@ pub record WritesConverted (scene : Scene) (done : Done) (text : List ℕ) : Typ
 abbrev pub IsSceneOf : Command → List ℕ → Scene → Type 0
 IsSceneOf (commands.Plain full) bytes scene = IsTextOf scene bytes
 IsSceneOf (commands.Plan workers full) bytes scene = IsTextOf scene bytes
+IsSceneOf (commands.Smooth workers) bytes scene = IsTextOf scene bytes
 IsSceneOf commands.Show bytes scene = IsTextOf scene bytes
 IsSceneOf commands.Convert bytes scene = IsTextOf scene bytes
 IsSceneOf (commands.Gen number) bytes scene = IsGenerated number scene
@@ -99,12 +109,15 @@ pub record OfScene (command : Command) (bytes : List ℕ) (P : Scene → Type 0)
 
 -- what the success of a command means: of the bytes that it read, of what was done, and of the text
 abbrev pub Succeeds : Command → List ℕ → Done → List ℕ → Type 0
-Succeeds (commands.Plain full) bytes done text = OfScene (commands.Plain full) bytes (λ scene. ReportsScene (report_text full) scene done text)
-Succeeds (commands.Plan workers full) bytes done text = OfScene (commands.Plan workers full) bytes (λ scene. ReportsPlan workers full scene done text)
+Succeeds (commands.Plain full) bytes done text = OfScene (commands.Plain full) bytes (λ scene. ReportsScene (IsReport full) scene done text)
+Succeeds (commands.Plan workers full) bytes done text =
+    OfScene (commands.Plan workers full) bytes (λ scene. ReportsPlan workers (IsReport full) scene done text)
+Succeeds (commands.Smooth workers) bytes done text =
+    OfScene (commands.Smooth workers) bytes (λ scene. ReportsPlan workers IsSmoothedReport scene done text)
 Succeeds commands.Show bytes done text = OfScene commands.Show bytes (λ scene. WritesScene scene done text)
 Succeeds commands.Convert bytes done text = OfScene commands.Convert bytes (λ scene. WritesConverted scene done text)
 Succeeds (commands.Gen number) bytes done text = OfScene (commands.Gen number) bytes (λ scene. WritesScene scene done text)
-Succeeds (commands.Trial number) bytes done text = OfScene (commands.Trial number) bytes (λ scene. ReportsScene summary scene done text)
+Succeeds (commands.Trial number) bytes done text = OfScene (commands.Trial number) bytes (λ scene. ReportsScene IsSummary scene done text)
 
 -- what a command that succeeds has read: a whole text, or nothing
 abbrev pub HasRead : Command → SourceState → SourceState → List ℕ → Type 0

@@ -7,13 +7,13 @@ ghost use Rattle.plan_model.specs.Spaces.Clearance.{ClearAt};
 ghost use Rattle.plan_model.specs.declared.limits.TheConstants.{MOST_WORKERS};
 ghost use Rattle.plan_model.specs.declared.records.Record.{Record};
 ghost use Rattle.plan_model.specs.Scenes.MarkPoints.{mark_points};
-ghost use Rattle.plan_model.specs.Reports.ReportText.{report_text, summary};
 ghost use Rattle.plan_model.specs.Runs.SameRuns.{IsOfTextbookRun};
 ghost use Rattle.plan_model.specs.Runs.Textbook.{setup_of};
 ghost use Rattle.plan_model.specs.Trees.TreeStates.{IsSettled};
 ghost use Rattle.scene_text.specs.Fetching.{ReadsWithin};
 ghost use Rattle.planner_main.specs.Commands.{command_of, input_of, plans, IsNumbered};
-ghost use Rattle.planner_main.specs.Conclusions.{Answers, HasScene, IsCaused, ReportsGrown, Succeeds, WritesScene, status_of_report};
+ghost use Rattle.planner_main.specs.Conclusions.{Answers, HasScene, IsCaused, IsReport, IsSummary, ReportsGrown, Succeeds, WritesScene, status_of_report};
+ghost use Rattle.path_tools.specs.SmoothedReports.{IsSmoothedReport};
 ghost use Rattle.planner_main.specs.Inputs.{one_scene};
 ghost use Rattle.planner_main.specs.declared.generated_scenes.TheConstants.{MOST_GENERATED};
 ghost use Rattle.planner_main.specs.declared.statuses.TheConstants.{DONE};
@@ -25,6 +25,7 @@ use crate::refusals::Refusal;
 use crate::statuses::{DONE, NO_PATH};
 use crate::top_call::Done;
 use obstacle_boxes::Boxes;
+use path_tools::smoothed_report;
 use plan_model::{Memory, Scene, Source, Task};
 use plan_work::{Gate, grow};
 use scene_text::{as_version_2, fetch, read_scene, write_scene};
@@ -83,6 +84,7 @@ fn perform<R: Threads + Sync, S: Source, G: Gate>(
     match command {
         Command::Plain { full } => plain(alloc, full, source),
         Command::Plan { workers, full } => plan(rt, alloc, workers, full, source, gate),
+        Command::Smooth(workers) => plan_smoothed(rt, alloc, workers, source, gate),
         Command::Show => show(alloc, source),
         Command::Convert => convert(alloc, source),
         Command::Gen(number) => Ok(generate(alloc, number)?),
@@ -115,8 +117,26 @@ fn plan<R: Threads + Sync, S: Source, G: Gate>(
     ensures { Answers (Some (Command.Plan workers full)) (S.state source.old) (S.state source.new) result }
 {
     let (scene, boxes) = problem_for(alloc, Command::Plan { workers, full }, source)?;
-    let grown = run_by_workers(rt, alloc, workers, scene, boxes, gate)?;
+    let grown = run_by_workers(rt, alloc, workers, scene, &boxes, gate)?;
     Ok(report_of(alloc, full, grown)?)
+}
+
+/// Plans the scene that is read by several workers, and reports it in short with its path smoothed.
+fn plan_smoothed<R: Threads + Sync, S: Source, G: Gate>(
+    rt: &R,
+    alloc: Global,
+    workers: u32,
+    source: &mut S,
+    gate: &G,
+) -> Result<Answer, Refusal>
+    requires some { 1 ≤ workers }
+    requires few { workers ≤ MOST_WORKERS }
+    requires unended { (S.state source.old).has_ended ≡ false }
+    ensures { Answers (Some (Command.Smooth workers)) (S.state source.old) (S.state source.new) result }
+{
+    let (scene, boxes) = problem_for(alloc, Command::Smooth(workers), source)?;
+    let grown = run_by_workers(rt, alloc, workers, scene, &boxes, gate)?;
+    Ok(smoothed_report_of(alloc, &boxes, grown)?)
 }
 
 /// Shows the scene that is read.
@@ -195,12 +215,12 @@ fn run_by_workers<R: Threads + Sync, G: Gate>(
     alloc: Global,
     workers: u32,
     scene: Scene,
-    boxes: Boxes,
+    boxes: &Boxes,
     gate: &G,
 ) -> Result<Grown, Memory>
     requires some { 1 ≤ workers }
     requires few { workers ≤ MOST_WORKERS }
-    requires boxes { boxes ≡ space_of scene }
+    requires boxes { boxes.now ≡ space_of scene }
     requires start { ClearAt (space_of scene) scene.start }
     ensures scene { IfOk result (λ grown. grown.task.scene ≡ scene) }
     ensures all_marks { IfOk result (λ grown. grown.limit ≡ length (mark_points scene)) }
@@ -213,7 +233,7 @@ fn run_by_workers<R: Threads + Sync, G: Gate>(
     let marks = marks(alloc, &scene)?;
     let limit = marks.len() as u32;
     let fresh = Grown::new(alloc, Task { scene, marks })?;
-    let mut grown = grow(rt, alloc, fresh, &boxes, workers, limit, gate)?;
+    let mut grown = grow(rt, alloc, fresh, boxes, workers, limit, gate)?;
     settle(alloc, &mut grown)?;
     Ok(grown)
 }
@@ -222,10 +242,22 @@ fn run_by_workers<R: Threads + Sync, G: Gate>(
 fn report_of(alloc: Global, full: bool, grown: Grown) -> Result<Answer, Memory>
     requires all_marks { grown.limit ≡ length (mark_points grown.task.scene) }
     requires settled { IsSettled (state_of_grown grown) }
-    ensures { IfOk result (λ answer. ReportsGrown (report_text full) grown.task.scene grown answer.done answer.text.items) }
+    ensures { IfOk result (λ answer. ReportsGrown (IsReport full) grown.task.scene grown answer.done answer.text.items) }
 {
     let best = best(&grown);
     let text = report_by_best(alloc, &grown, best, full)?;
+    Ok(answer_of(grown, best, text))
+}
+
+/// The short report of a settled run over all marks of its scene, with its path smoothed.
+fn smoothed_report_of(alloc: Global, boxes: &Boxes, grown: Grown) -> Result<Answer, Memory>
+    requires boxes { boxes.now ≡ space_of grown.task.scene }
+    requires all_marks { grown.limit ≡ length (mark_points grown.task.scene) }
+    requires settled { IsSettled (state_of_grown grown) }
+    ensures { IfOk result (λ answer. ReportsGrown IsSmoothedReport grown.task.scene grown answer.done answer.text.items) }
+{
+    let best = best(&grown);
+    let text = smoothed_report(alloc, boxes, &grown, best)?;
     Ok(answer_of(grown, best, text))
 }
 
@@ -233,7 +265,7 @@ fn report_of(alloc: Global, full: bool, grown: Grown) -> Result<Answer, Memory>
 fn summary_of(alloc: Global, grown: Grown) -> Result<Answer, Memory>
     requires all_marks { grown.limit ≡ length (mark_points grown.task.scene) }
     requires settled { IsSettled (state_of_grown grown) }
-    ensures { IfOk result (λ answer. ReportsGrown summary grown.task.scene grown answer.done answer.text.items) }
+    ensures { IfOk result (λ answer. ReportsGrown IsSummary grown.task.scene grown answer.done answer.text.items) }
 {
     let best = best(&grown);
     let text = summary_by_best(alloc, &grown, best)?;

@@ -22,6 +22,9 @@ pub enum Command {
         /// Whether it is the full report; otherwise it is the short one.
         full: bool,
     },
+    /// `smooth W`: the short report of a run of the scene that is read, grown by so many workers, with its path smoothed: 1 to
+    /// `MOST_WORKERS`.
+    Smooth(u32),
     /// `show`: the canonical text of the scene that is read.
     Show,
     /// `convert`: the canonical text of the scene that is read, in version 2.
@@ -66,6 +69,7 @@ fn command_of_two(word: &str, second: &str) -> Option<Command>
     match (word, second) {
         ("plain", "full") => Some(Command::Plain { full: true }),
         ("plan", _) => plan_by(second, false),
+        ("smooth", _) => Some(Command::Smooth(workers_in(second)?)),
         _ => command_about(word, number_in(second.as_bytes(), 0, MOST_GENERATED)?),
     }
 }
@@ -86,8 +90,17 @@ fn plan_by(word: &str, full: bool) -> Option<Command>
     ensures value { result ≡ plan_by full word.now }
     ensures numbered { IfSome result IsNumbered }
 {
-    let workers = number_in(word.as_bytes(), 1, MOST_WORKERS)?;
+    let workers = workers_in(word)?;
     Some(Command::Plan { workers, full })
+}
+
+/// The number of workers that a word says: 1 to `MOST_WORKERS`.
+fn workers_in(word: &str) -> Option<u32>
+    ensures value { result ≡ number_in 1 MOST_WORKERS word.now }
+    ensures least { IfSome result (λ workers. 1 ≤ workers) }
+    ensures most { IfSome result (λ workers. workers ≤ MOST_WORKERS) }
+{
+    number_in(word.as_bytes(), 1, MOST_WORKERS)
 }
 
 /// The command of a word about the generated scene of a number.

@@ -377,7 +377,13 @@ fn plans_for_a_body(rt: HostRuntime) {
     expect_each(&rt, rt.alloc(), &["plain"], &WITH_BODY);
 }
 
-static READERS: [&[&str]; 4] = [&["plain"], &["plan", "2"], &["show"], &["convert"]];
+static READERS: [&[&str]; 5] = [
+    &["plain"],
+    &["plan", "2"],
+    &["smooth", "2"],
+    &["show"],
+    &["convert"],
+];
 
 // Compares the answer to a case by the commands that read a scene.
 fn expect_by_readers<R: Threads + Sync + Abort>(rt: &R, alloc: Global, case: &Case) {
@@ -576,7 +582,7 @@ fn expect_each_refused<R: Threads + Sync + Abort>(rt: &R, alloc: Global, forms: 
     }
 }
 
-static NO_COMMANDS: [&[&str]; 22] = [
+static NO_COMMANDS: [&[&str]; 27] = [
     &[],
     &["plain full"],
     &["plain  full"],
@@ -599,6 +605,11 @@ static NO_COMMANDS: [&[&str]; 22] = [
     &["gen", ""],
     &["gen", "1", "2"],
     &["trial", "x"],
+    &["smooth"],
+    &["smooth", "0"],
+    &["smooth", "65"],
+    &["smooth", "04"],
+    &["smooth", "2", "full"],
 ];
 
 static OUTSIDE: Case = Case {
@@ -682,3 +693,4 @@ mod limits;
 mod plans;
 mod runs;
 mod second_version;
+mod smoothed;

@@ -56,7 +56,13 @@ pub fn expect_early_faults<R: Threads + Sync + Abort>(rt: &R, alloc: Global, wor
     expect_read_faults(rt, alloc, words, ONE_MARK, 10, &EARLY);
 }
 
-static READING: [&[&str]; 4] = [&["plain"], &["plain", "full"], &["show"], &["convert"]];
+static READING: [&[&str]; 5] = [
+    &["plain"],
+    &["plain", "full"],
+    &["smooth", "1"],
+    &["show"],
+    &["convert"],
+];
 
 #[test]
 fn refuses_a_source_that_fails_early(rt: HostRuntime) {
@@ -124,7 +130,7 @@ fn expect_cut<R: Threads + Sync + Abort>(rt: &R, alloc: Global, room: usize, cut
     drop(called);
 }
 
-static CUTS: [Cut; 11] = [
+static CUTS: [Cut; 12] = [
     Cut {
         words: &["plain", "full"],
         fails: 1,
@@ -151,6 +157,12 @@ static CUTS: [Cut; 11] = [
     },
     Cut {
         words: &["plan", "1", "full"],
+        fails: 3,
+        taken: "path 2 cost 12800\n0 ",
+        run: Some((2, 1)),
+    },
+    Cut {
+        words: &["smooth", "1"],
         fails: 3,
         taken: "path 2 cost 12800\n0 ",
         run: Some((2, 1)),

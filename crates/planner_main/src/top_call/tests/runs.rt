@@ -14,13 +14,15 @@ const IN_GOAL: &str = "prrt 1\nroom 10 10\nstart 5 5\ngoal 0 0 9 9\nstep 4\n";
 const NO_MARK: &str = "prrt 1\nroom 10 10\nstart 5 5\ngoal 0 0 1 1\nstep 4\n";
 
 // Words, the text that is read, the status, and how many nodes and marks the run has, if one is handed out.
-static RUNS: [(&[&str], &str, u8, Option<(u32, u32)>); 16] = [
+static RUNS: [(&[&str], &str, u8, Option<(u32, u32)>); 18] = [
     (&["plain"], ON_NODE, 0, Some((2, 2))),
     (&["plain"], PAST_STEP, 1, Some((4, 3))),
     (&["plain"], NO_MARK, 1, Some((1, 0))),
     (&["plain", "full"], ON_NODE, 0, Some((2, 2))),
     (&["plain", "full"], PAST_STEP, 1, Some((4, 3))),
     (&["plain", "full"], NO_MARK, 1, Some((1, 0))),
+    (&["smooth", "1"], ON_NODE, 0, Some((2, 2))),
+    (&["smooth", "1"], PAST_STEP, 1, Some((4, 3))),
     (&["show"], IN_GOAL, 0, None),
     (&["convert"], IN_GOAL, 0, None),
     (&["gen", "7"], IN_GOAL, 0, None),
