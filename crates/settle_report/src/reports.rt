@@ -73,7 +73,7 @@ pub fn report_along(
     cost: u64,
 ) -> Result<Vec<u8>, Memory>
     ensures { IfOk result (λ text. text.items ≡ (spec.path_line path.now cost ++ spec.point_lines path.now)
-      ++ spec.counts_line grown.now.task.scene grown.now.limit (state_of_grown grown.now)) }
+        ++ spec.counts_line grown.now.task.scene grown.now.limit (state_of_grown grown.now)) }
 {
     let mut text = String::new(alloc);
     push_path_line(&mut text, path, cost)?;
