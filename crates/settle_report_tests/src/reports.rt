@@ -5,7 +5,7 @@ ghost use Rattle.plan_model.specs.Scenes.Limits.{is_goal};
 
 use crate::support::{settle_run, start_alone, sure, unsettled_run};
 use plan_model::{Goal, Point};
-use settle_report::{report, summary};
+use settle_report::{report, report_along, summary};
 use std::alloc::Global;
 use std::process::Abort;
 use step_core::Grown;
@@ -92,4 +92,17 @@ fn reports_the_path_to_the_cheapest_of_the_goals(rt: HostRuntime) {
     let goals = [goal_at(40, 79), goal_at(40, 30)];
     let grown = unsettled_run(&rt, rt.alloc(), &goals);
     assert_reports(&rt, rt.alloc(), grown, full, short, brief);
+}
+
+#[test]
+fn reports_along_another_path(rt: HostRuntime) {
+    let along = "path 2 cost 22669\n0 0\n40 79\nnodes 4 placed 3 same 0 blocked 0\n";
+    let nowhere = "path 0 cost 7\nnodes 4 placed 3 same 0 blocked 0\n";
+    let grown = unsettled_run(&rt, rt.alloc(), &[goal_at(0, 1)]);
+    let path = [Point { x: 0, y: 0 }, Point { x: 40, y: 79 }];
+    let report = sure(&rt, report_along(rt.alloc(), &grown, &path, 22_669));
+    assert_text(&rt, report, along);
+    let report = sure(&rt, report_along(rt.alloc(), &grown, &[], 7));
+    assert_text(&rt, report, nowhere);
+    drop(grown);
 }

@@ -1,0 +1,7 @@
+//! Tests of `path_tools` by its public calls. They are a crate of their own, so that the library is proved once.
+#![tactic(auto)]
+
+#[cfg(test)]
+mod smooth;
+#[cfg(test)]
+mod support;
