@@ -1,5 +1,6 @@
 -- The items of a session fall, from poll to poll, and stay paths of its run.
-use Rattle.std.proofs.Common.{◌≡◌, ◌<◌, ◌≤◌, ◌*◌, ℕ, List, [], ◌∷◌, Option, Some, None, Ok, Err, IfSome, IsSomeAnd, MatchOption, ◌⊎◌, inl, inr, refl, sym, ap, subst, ◌∙◌, arith, length, min, ◌+◌}
+use Rattle.std.proofs.Common.{◌≡◌, ◌<◌, ◌≤◌, ◌*◌, ℕ, List, [], ◌∷◌, Option, Some, None, Ok, Err, IfSome, IsSomeAnd, MatchOption}
+use Rattle.std.proofs.Common.{◌⊎◌, inl, inr, refl, sym, ap, subst, ◌∙◌, arith, length, min, ◌+◌}
 use Rattle.std.specs.Prelude.{All, option_map}
 use Rattle.std.proofs.lemmas.Bool.{cases_lt}
 use Rattle.std.proofs.lemmas.List.Elements.{All-cons, All-nil}
@@ -219,7 +220,8 @@ found_goal after last item shown reaches =
     let goal = IsGoalNode-best after shown.node shown.best in
     let low = AreNumberedTo-grown after shown.node (IsPresent-best after shown.node shown.best) in
     let own = subst (λ (s : Scene). IsGoalNode (goals_of s) (state_of_grown after).points shown.node) (sym (ap (λ (t : Task). t.scene) reaches.0)) goal in
-    (shown.node, omega (arith, low, shown.marks), IsGoalNode-grows (goals_of last.task.scene) (state_of_grown after) (state_of_grown last) reaches.1 shown.node own)
+    let stays = IsGoalNode-grows (goals_of last.task.scene) (state_of_grown after) (state_of_grown last) reaches.1 shown.node own in
+    (shown.node, omega (arith, low, shown.marks), stays)
 
 if_first : (task : Task) (workers slice : ℕ) (before after : Grown) (item : Better) (last : Option Last) (end : Option Grown)
     → Tied task workers slice (Some before) last

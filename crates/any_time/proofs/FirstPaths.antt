@@ -39,7 +39,8 @@ module _ (run later : Grown) (grows : GrowsInto (state_of_grown run) (state_of_g
       → ¬ IsGoalNode (goals_of later.task.scene) (state_of_grown later).points n
   none_below task none n low goal =
       let here = IsPresent-before n low (IsPresent-goal (goals_of later.task.scene) (point_at (state_of_grown later).points n) goal) in
-      let own = subst (λ (s : Scene). IsTrue (is_goal_point (goals_of s) (point_at (state_of_grown later).points n))) (ap (λ (t : Task). t.scene) task) goal in
+      let own = subst (λ (s : Scene). IsTrue (is_goal_point (goals_of s) (point_at (state_of_grown later).points n)))
+      (ap (λ (t : Task). t.scene) task) goal in
       none-best run none n (subst (λ o. IsTrue (is_goal_point (goals_of run.task.scene) o)) (point_at-grows (state_of_grown run) (state_of_grown later) grows n here) own)
 
 -- the limit that a slice leads to

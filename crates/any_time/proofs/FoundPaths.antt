@@ -154,11 +154,15 @@ LeadsIntoGoal-shown run item shown =
     let state = state_of_grown run in
     let present = IsPresent-best run shown.node shown.best in
     let leads = Leads-ordered (setup_of run.task.scene) state run.hold_run.closed.order run.limit (AreNumberedTo-grown run) shown.node present in
-    let along = subst (λ path. Leads (IsAllowedEdge (setup_of run.task.scene)) (IsOfFirstNodes run run.limit) run.task.scene.start (point_of state.points shown.node) path) (sym shown.path) leads in
+    let end = point_of state.points shown.node in
+    let along = subst (λ path. Leads (IsAllowedEdge (setup_of run.task.scene)) (IsOfFirstNodes run run.limit) run.task.scene.start end path)
+    (sym shown.path) leads in
     record {
       last = point_of state.points shown.node;
       goal = in_goals (goals_of run.task.scene) _ _ (StandsAt-present state.points shown.node present) (IsGoalNode-best run shown.node shown.best);
-      leads = subst (λ most. Leads (IsAllowedEdge (setup_of run.task.scene)) (IsOfFirstNodes run most) run.task.scene.start (point_of state.points shown.node) item.path) (sym shown.marks) along;
+      leads =
+          subst (λ most. Leads (IsAllowedEdge (setup_of run.task.scene)) (IsOfFirstNodes run most) run.task.scene.start end item.path)
+          (sym shown.marks) along;
       cost =
           shown.cost ∙ sym (length_of_path-reverse (points_up state shown.node))
           ∙ ap length_of_path (sym (path_to-reverse state shown.node)) ∙ ap length_of_path (sym shown.path);
