@@ -41,7 +41,8 @@ module _ (run later : Grown) (grows : GrowsInto (state_of_grown run) (state_of_g
       let here = IsPresent-before n low (IsPresent-goal (goals_of later.task.scene) (point_at (state_of_grown later).points n) goal) in
       let own = subst (λ (s : Scene). IsTrue (is_goal_point (goals_of s) (point_at (state_of_grown later).points n)))
       (ap (λ (t : Task). t.scene) task) goal in
-      none-best run none n (subst (λ o. IsTrue (is_goal_point (goals_of run.task.scene) o)) (point_at-grows (state_of_grown run) (state_of_grown later) grows n here) own)
+      none-best run none n (subst (λ o. IsTrue (is_goal_point (goals_of run.task.scene) o))
+      (point_at-grows (state_of_grown run) (state_of_grown later) grows n here) own)
 
 -- the limit that a slice leads to
 next_low : (limit slice all next : ℕ) → next ≡ min (limit + slice) all → next ≤ limit + slice

@@ -128,7 +128,8 @@ between_corners e a clearance n t u corners across up =
     (λ on. by_lt_z e.y (pos 0)
     (λ down. past e a (corner (neg_ℤ (pos clearance)) (neg_ℤ (pos clearance))) n t u (corners 0 (omega arith)) (mul-not_negative e.x _ on below)
     (mul-both_not_positive e.y _ (omega (arith, ints)) before))
-    (λ up. past e a (corner (pos clearance) (neg_ℤ (pos clearance))) n t u (corners 1 (omega arith)) (mul-not_negative e.x _ on below) (mul-not_negative e.y _ up after)))
+    (λ up. past e a (corner (pos clearance) (neg_ℤ (pos clearance))) n t u (corners 1 (omega arith))
+    (mul-not_negative e.x _ on below) (mul-not_negative e.y _ up after)))
   where
     least : pos n *ℤ neg_ℤ (pos clearance) ≡ neg_ℤ (pos (clearance * n))
     least = same (times (var (pos n)) (opposite (var (pos clearance)))) (opposite (var (pos (clearance * n)))) (omega arith)

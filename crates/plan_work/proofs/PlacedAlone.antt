@@ -253,7 +253,7 @@ module _
   module _
       (after done : PassState) (entry : Record) (seen : SeesAnew NamesTreeOrPoint tried.view after.view) (now : Nodes)
       (rewired : Rewires (space_of shared.task.scene) (book.tree ++ Some (record { point = p; parent = hanging.parent }) ∷ []) (suc k)
-          (near_new (setup_in before.view.run) (tree_seen before.view).points p) now)
+      (near_new (setup_in before.view.run) (tree_seen before.view).points p) now)
       (mirrors : Mirrors after.view now) (recorded : HasRecorded shared after done entry) (is : entry ≡ own_placed after.view m hanging)
       (alone : WorksAlone before.view k) where
     crew : after.view.crew ≡ record { worker = 0; turn = k } ∷ []

@@ -1,5 +1,6 @@
 -- The choice of a parent by the words of pairs.
-use Rattle.std.proofs.Common.{◌≡◌, ◌≢◌, ◌⊎◌, ℕ, ◌+◌, ◌*◌, ◌^◌, ◌<◌, ◌≤◌, List, ◌∷◌, [], ◌++◌, Option, map, take, length, Some, arith, inl, inr, refl, sym, ap, ◌∙◌, subst}
+use Rattle.std.proofs.Common.{◌≡◌, ◌≢◌, ◌⊎◌, ℕ, ◌+◌, ◌*◌, ◌^◌, ◌<◌, ◌≤◌, List, ◌∷◌, [], ◌++◌, Option}
+use Rattle.std.proofs.Common.{map, take, length, Some, arith, inl, inr, refl, sym, ap, ◌∙◌, subst}
 use Rattle.std.specs.Prelude.{All, Contains, slice_get, slice_index_or}
 use Rattle.std.proofs.lemmas.Bool.{cases_eq, cases_lt}
 use Rattle.std.proofs.lemmas.List.{take_more}
@@ -216,13 +217,13 @@ module _ (space : ConfigurationSpace) (view : View) (p : Point) (among : List Fo
       | inr opened ↦ (
         opened.found.node,
         (let own = is_weighed opened.found opened.on in
-        record {
-          candidate = Contains-after nearest (numbers_of among) opened.found.node (Contains-image (λ (f : Found). f.node) among opened.found opened.on);
-          is = opened.is ∙ key_of opened.found opened.on;
-          edge = subst (λ q. Clear space q p) (sym (point_of-stands points opened.found.node opened.found.point own.stands)) opened.clear;
-          written = own.pair;
-          low = edge_low opened.found.node (IsPresent-stands points opened.found.node opened.found.point own.stands) own.pair;
-        }),
+            record {
+              candidate = Contains-after nearest (numbers_of among) opened.found.node (Contains-image (λ (f : Found). f.node) among opened.found opened.on);
+              is = opened.is ∙ key_of opened.found opened.on;
+              edge = subst (λ q. Clear space q p) (sym (point_of-stands points opened.found.node opened.found.point own.stands)) opened.clear;
+              written = own.pair;
+              low = edge_low opened.found.node (IsPresent-stands points opened.found.node opened.found.point own.stands) own.pair;
+            }),
       )
     ]
 

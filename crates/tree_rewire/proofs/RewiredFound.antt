@@ -1,5 +1,6 @@
 -- Of the nodes found those that are dearer than through a new one are rewired, in rising number; the others need not be looked at.
-use Rattle.std.proofs.Common.{◌≡◌, ℕ, suc, ◌+◌, ◌<◌, ◌≤◌, ◌^◌, Bool, true, false, List, Option, Some, is_some, map, length, ltb, arith, inl, inr, refl, sym, ap, ◌∙◌, subst}
+use Rattle.std.proofs.Common.{◌≡◌, ℕ, suc, ◌+◌, ◌<◌, ◌≤◌, ◌^◌, Bool, true, false, List, Option, Some, is_some}
+use Rattle.std.proofs.Common.{map, length, ltb, arith, inl, inr, refl, sym, ap, ◌∙◌, subst}
 use Rattle.std.specs.Prelude.{All, Contains, IsPermutation, filter, nat_lt, eqb, unwrap_or}
 use Rattle.std.specs.List.{IsDistinct}
 use Rattle.std.specs.List.Sorted.{IsNonDecreasing, IsStrictlyIncreasing}
@@ -174,5 +175,6 @@ pub record Holding (view : View) (k : ℕ) (found : List Found) : Type 0 where
 pub placed_cost_of : (view : View) (k : ℕ) (hand : Hand) → view.hand ≡ Some hand → HasPlaced view k hand → IsLawfulView view
     → cost_seen view (k + 1) ≤ hand.cost
 placed_cost_of view k hand held placed lawful =
-    placed_cost view k hand.point hand held (if_hand (HasPlaced view k) view.hand hand held placed) (if_hand (λ h. hand.point ≡ h.point) view.hand hand held refl)
+    placed_cost view k hand.point hand held (if_hand (HasPlaced view k) view.hand hand held placed)
+    (if_hand (λ h. hand.point ≡ h.point) view.hand hand held refl)
     lawful

@@ -110,13 +110,7 @@ fn word_of(shared: &Shared, pass: &mut Pass, p: Point, node: u32) -> u64
 }
 
 /// The least word of a new node below a found node with a clear edge to it, or the last word, if none of them is less.
-fn least_open<C: Clearing>(
-    shared: &Shared,
-    pass: &mut Pass,
-    hall: &C,
-    p: Point,
-    last: u64,
-) -> u64
+fn least_open<C: Clearing>(shared: &Shared, pass: &mut Pass, hall: &C, p: Point, last: u64) -> u64
     requires belongs { BelongsTo pass.old shared.now }
     requires bounded { IsBounded p }
     requires weighed { All (IsWeighed pass.old.view p) pass.old.lists.search.found }

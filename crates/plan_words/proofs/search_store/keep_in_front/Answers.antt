@@ -30,4 +30,5 @@ founds-preserved c =
 pub returns-clause-kept : goal.returns-clause-kept
 returns-clause-kept c =
     let done : c.founds.index ≡ c.args.found = omega (arith, c.founds-test.false, c.founds.invariant.kept.within) in
-    c.founds.invariant.kept.front ∙ ap (λ n. filter (λ cell. is_dearer (slice_index c.args.pairs.now) c.args.cost (found_in cell)) (take n c.args.cells.now.items)) done
+    c.founds.invariant.kept.front ∙ ap (λ n. filter (λ cell. is_dearer (slice_index c.args.pairs.now) c.args.cost (found_in cell))
+    (take n c.args.cells.now.items)) done

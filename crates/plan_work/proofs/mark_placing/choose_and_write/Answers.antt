@@ -91,6 +91,6 @@ returns-clause-whole g c = λ whole.
     let unshown = c.choose_found-parent.ensures.whole whole in (
       λ name. ap (λ (x : PassState). sees x.view name) written ∙ unshown name,
       IsBestHanging-before (space_of c.args.shared.now.task.scene) before.view mid.view c.args.p c.args.nearest (numbers_of before.lists.search.found)
-      c.choose_found-parent.result
+          c.choose_found-parent.result
           c.choose_found-parent.ensures.seen.goes_on.later.run unshown c.choose_found-parent.ensures.least c.choose_found-parent.ensures.cost,
     )

@@ -50,8 +50,8 @@ pub returns-clause-blocked : goal.returns-clause-blocked
 returns-clause-blocked g c = λ on. (
   (λ e. omega (arith, e, c.if-word-last.false)),
   (λ clear.
-  let here = from_is g (goal.at.returns-clause-blocked g c).After-point-from in
-  both c.clear.result on (c.clear.ensures.1 (subst (λ q. Clear (g.C.Clearing.space c.args.hall.now) q c.args.p) (sym here) clear))),
+      let here = from_is g (goal.at.returns-clause-blocked g c).After-point-from in
+      both c.clear.result on (c.clear.ensures.1 (subst (λ q. Clear (g.C.Clearing.space c.args.hall.now) q c.args.p) (sym here) clear))),
 )
 
 pub returns-clause-open : goal.returns-clause-open

@@ -80,7 +80,8 @@ few-preserved g c =
       earlier = All-more (IsRewired space before new.view from (cost_seen before (c.args.k + 1)))
           (take c.few.index (numbers_of c.args.pass.now.lists.search.found)) _ n
           (take_read (numbers_of c.args.pass.now.lists.search.found) (numbers_of c.few.pass.lists.search.found) c.few.index n
-          (ap (λ (s : SearchLists). numbers_of s.found) h.steps.search) (number_read c.few.pass.lists.search.found c.few.index c.found-found.result c.found-found.ensures))
+          (ap (λ (s : SearchLists). numbers_of s.found) h.steps.search)
+          (number_read c.few.pass.lists.search.found c.few.index c.found-found.result c.found-found.ensures))
           (λ k d below. IsRewired-later space before c.few.pass.view new.view from _ _ done.steps.sees_anew.goes_on (h.earlier k d below))
           (IsRewired-looked space before c.few.pass.view new.view from (c.args.k + 1) n h.steps.sees_anew.goes_on
           (reach g (goal.at.few-preserved g c).After-found-found).present
@@ -89,7 +90,8 @@ few-preserved g c =
           h.steps.sees_anew.goes_on done.steps.sees_anew.goes_on
           (near_read (Contains (numbers_of c.args.pass.now.lists.search.found)) (numbers_of c.args.pass.now.lists.search.found)
           (numbers_of c.few.pass.lists.search.found) c.few.index n
-          (ap (λ (s : SearchLists). numbers_of s.found) h.steps.search) (number_read c.few.pass.lists.search.found c.few.index c.found-found.result c.found-found.ensures)
+          (ap (λ (s : SearchLists). numbers_of s.found) h.steps.search)
+          (number_read c.few.pass.lists.search.found c.few.index c.found-found.result c.found-found.ensures)
           (All-contains_itself (numbers_of c.args.pass.now.lists.search.found)))
           (reach g (goal.at.few-preserved g c).After-found-found).present
           (ap is_some (placed_stands before c.args.k from held.0 held.1 c.requires.placed c.hand_point-from.ensures))
@@ -109,8 +111,13 @@ pub returns-clause-rewired : goal.returns-clause-rewired
 returns-clause-rewired g c =
     let before = c.args.pass.now.view in
     let from = c.hand_point-from.result in
-    let all = take_all c.few.index (numbers_of c.args.pass.now.lists.search.found) (omega (arith, c.few-test.false, c.found_count-count.ensures, length-map
-    c.args.pass.now.lists.search.found (λ (f : Found). f.node))) in
+    let all = take_all c.few.index (numbers_of c.args.pass.now.lists.search.found) (omega (
+      arith,
+      c.few-test.false,
+      c.found_count-count.ensures,
+      length-map
+          c.args.pass.now.lists.search.found (λ (f : Found). f.node),
+    )) in
     let held = some_hand before.hand c.requires.hand in
     let own = subst (λ s. All (IsRewired s before c.few.pass.view from (cost_seen before (c.args.k + 1)))
     (take c.few.index (numbers_of c.args.pass.now.lists.search.found)))
@@ -130,8 +137,13 @@ returns-clause-spread g c =
 pub returns-clause-whole : goal.returns-clause-whole
 returns-clause-whole g c =
     let near = (numbers_of c.args.pass.now.lists.search.found) in
-    let none : drop c.few.index near ≡ [] = drop_all c.few.index near (omega (arith, c.few-test.false, c.found_count-count.ensures, length-map
-    c.args.pass.now.lists.search.found (λ (f : Found). f.node))) in
+    let none : drop c.few.index near ≡ [] = drop_all c.few.index near (omega (
+      arith,
+      c.few-test.false,
+      c.found_count-count.ensures,
+      length-map
+          c.args.pass.now.lists.search.found (λ (f : Found). f.node),
+    )) in
     let next : c.args.k + 1 ≡ suc c.args.k = omega arith in
     λ all tree mirrors.
     let was = c.few.invariant.whole all tree mirrors in

@@ -13,7 +13,8 @@ returns c =
     let cells = c.self.inside.cells in
     let taken = c.self.inside.taken in
     let count = c.self.inside.count in
-    let below = found_below cells.items count i (omega (arith, c.self.invariant.few, c.self.invariant.within)) (omega (arith, c.requires, ap (λ (s : SearchState). length s.lists.found) c.self.view_is)) in
+    let below = found_below cells.items count i (omega (arith, c.self.invariant.few, c.self.invariant.within))
+    (omega (arith, c.requires, ap (λ (s : SearchState). length s.lists.found) c.self.view_is)) in
     ap
     (λ (xs : List Cell). record {
       lists = record { spots = map spot_in xs; taken = taken; found = map found_in (take count (set cells.items i c.of_found.result)) };
