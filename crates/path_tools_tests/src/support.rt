@@ -2,6 +2,7 @@
 
 ghost use Rattle.std.specs.Prelude.{◌≡◌, ℕ, suc, ◌<◌, length, vec_len, IfOk, IsTrue, Ok};
 ghost use Rattle.plan_model.specs.Scenes.Limits.{is_obstacle};
+ghost use Rattle.plan_model.specs.Spaces.Clearance.{Clear};
 ghost use Rattle.plan_model.specs.Spaces.ClearPaths.{IsClearPath};
 
 use plan_model::{Goal, Marks, Memory, Point, Points, Poly, Scene, Sequence, SmallScene, Vertex};
@@ -67,12 +68,21 @@ fn points_at(alloc: Global, places: &[Place]) -> Result<Vec<Point>, Memory>
     Ok(points)
 }
 
+/// Asserts that a segment is clear.
+fn assert_segment<R: Abort>(rt: &R, hall: &Hall, from: Point, to: Point)
+    ensures { Clear hall.now from to }
+{
+    if !hall.clear(from, to) {
+        panic!(rt; "no path goes by {from:?} and {to:?}");
+    }
+}
+
 /// Asserts that each two points that follow each other have a clear segment.
 fn assert_clear<R: Abort>(rt: &R, hall: &Hall, points: &[Point])
     ensures { IsClearPath hall.now points.now }
 {
-    for next in 1..points.len() {
-        assert!(rt; hall.clear(points[next - 1], points[next]));
+    'edges: for first in 0..points.len().saturating_sub(1) {
+        assert_segment(rt, hall, points[first], points[first + 1]);
     }
 }
 
