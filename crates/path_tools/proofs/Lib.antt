@@ -4,3 +4,15 @@ pub mod RestEntries
 pub mod Walks
 pub mod SmoothedLaws
 pub mod RunPaths
+pub mod SheetTrees
+pub mod OwnTurns
+pub mod SheetTexts
+pub mod LawfulSheets
+pub mod ReportsOfRuns
+pub mod LineWords
+pub mod SheetForms
+pub mod SameSheets
+pub mod OneVerdict
+pub mod BrokenLines
+pub mod PresentNodes
+pub mod DecimalWords

@@ -1,3 +1,10 @@
 pub mod SmoothPaths
 pub mod Rests
 pub mod SmoothedReports
+pub mod ExactEdges
+pub mod FirstBreaks
+pub mod ReportLines
+pub mod ReportSheets
+pub mod ReportForms
+pub mod SheetLaws
+pub mod Verdicts

@@ -3,6 +3,10 @@
 //! [`smooth`] takes a path over those of its points that make it cheapest.
 #![tactic(auto)]
 
+mod exact_edges;
+mod number_words;
+mod presence;
+pub mod report_laws;
 mod rests;
 mod smoothed_reports;
 mod smoothing;

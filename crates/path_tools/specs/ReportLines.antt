@@ -1,0 +1,90 @@
+-- The lines of a full report: what each says, its text, and the ranges of its numbers.
+use Rattle.std.specs.Prelude.{ℕ, ◌<◌, ◌≤◌, ◌^◌, List, [], ◌∷◌, ◌++◌, codes, decimal, flat_map}
+use Rattle.plan_model.specs.declared.geometry.Point.{Point}
+use Rattle.plan_model.specs.declared.records.Outcome.{Outcome}
+use Rattle.plan_model.specs.declared.records.Outcome.TheVariants.{Placed, Same, Blocked}
+use Rattle.plan_model.specs.declared.records.Record.{Record}
+use Rattle.plan_model.specs.declared.trees.Knot.{Knot}
+use Rattle.plan_model.specs.Geometry.Bounds.{IsBounded}
+use Rattle.plan_model.specs.Reports.ReportText.{line, outcome_words}
+use Rattle.step_core.specs.PackedRuns.{FitsRecord}
+
+-- the counts of a report: of nodes, and of marks by what became of them
+pub record Tally : Type 0 where
+  pub nodes : ℕ
+  pub placed : ℕ
+  pub same : ℕ
+  pub blocked : ℕ
+
+-- What a line says: that there is no path, or how many points the path has and what it costs; one of these points; the counts;
+-- node n; what became of mark k.
+pub data ReportLine : Type 0 where
+  NoPath : ReportLine
+  PathOf : (points cost : ℕ) → ReportLine
+  PathPoint : (p : Point) → ReportLine
+  Counts : (tally : Tally) → ReportLine
+  NodeLine : (n : ℕ) (knot : Knot) → ReportLine
+  MarkLine : (k : ℕ) (entry : Record) → ReportLine
+
+-- ---- texts
+
+-- the words of a line
+abbrev pub line_words : ReportLine → List (List ℕ)
+line_words NoPath = codes "no" ∷ codes "path" ∷ []
+line_words (PathOf points cost) = codes "path" ∷ decimal points ∷ codes "cost" ∷ decimal cost ∷ []
+line_words (PathPoint p) = decimal p.x ∷ decimal p.y ∷ []
+line_words (Counts tally) =
+    codes "nodes" ∷ decimal tally.nodes ∷ codes "placed" ∷ decimal tally.placed ∷ codes "same" ∷ decimal tally.same
+    ∷ codes "blocked" ∷ decimal tally.blocked ∷ []
+line_words (NodeLine n knot) =
+    codes "node" ∷ decimal n ∷ codes "at" ∷ decimal knot.point.x ∷ decimal knot.point.y
+    ∷ codes "parent" ∷ decimal knot.parent ∷ codes "cost" ∷ decimal knot.cost ∷ []
+line_words (MarkLine k entry) =
+    (codes "mark" ∷ decimal k ∷ codes "worker" ∷ decimal entry.worker ∷ codes "turn" ∷ decimal entry.turn ∷ [])
+    ++ outcome_words entry entry.outcome
+
+-- how a line is spelled: its words with a space between each two, and a line feed
+abbrev pub line_text : ReportLine → List ℕ
+line_text said = line (line_words said)
+
+-- lines one after another
+abbrev pub lines_text : List ReportLine → List ℕ
+lines_text lines = flat_map line_text lines
+
+-- ---- ranges
+
+-- a count fits 64 bits
+pub record FitsTally (tally : Tally) : Type 0 where
+  pub nodes : tally.nodes < 2 ^ 64
+  pub placed : tally.placed < 2 ^ 64
+  pub same : tally.same < 2 ^ 64
+  pub blocked : tally.blocked < 2 ^ 64
+
+-- a node of a run over so many marks, with its parent: coordinates of 20 bits, a cost of 44
+pub record FitsKnot (marks n : ℕ) (knot : Knot) : Type 0 where
+  pub number : n ≤ marks
+  pub point : IsBounded knot.point
+  pub parent : knot.parent ≤ marks
+  pub cost : knot.cost < 2 ^ 44
+
+-- the node at which a mark ended has a number up to that of the last mark
+abbrev pub EndsWithin : ℕ → Outcome → Type 0
+EndsWithin marks Placed = Unit {0}
+EndsWithin marks (Same j) = j ≤ marks
+EndsWithin marks Blocked = Unit {0}
+
+-- a record of a run over so many marks: its fields fit a record's word, and the nodes that it names have numbers up to the last mark's
+pub record FitsEntry (marks : ℕ) (entry : Record) : Type 0 where
+  pub words : FitsRecord entry
+  pub nearest : entry.nearest ≤ marks
+  pub first : entry.first_parent ≤ marks
+  pub ended : EndsWithin marks entry.outcome
+
+-- the numbers of a line of a report over so many marks are in their ranges
+abbrev pub FitsLine : ℕ → ReportLine → Type 0
+FitsLine marks NoPath = Unit {0}
+FitsLine marks (PathOf points cost) = (points < 2 ^ 64) × (cost < 2 ^ 44)
+FitsLine marks (PathPoint p) = IsBounded p
+FitsLine marks (Counts tally) = FitsTally tally
+FitsLine marks (NodeLine n knot) = FitsKnot marks n knot
+FitsLine marks (MarkLine k entry) = (k < marks) × FitsEntry marks entry
