@@ -55,6 +55,7 @@ class Scene:
     step: int
     version: int = 1
     clearance: int = 0
+    informed: bool = False
     body: list = field(default_factory=lambda: [(0, 0)])
     obstacles: list = field(default_factory=list)
     gamma: int = 0

@@ -3,7 +3,7 @@
 from dataclasses import replace
 
 from world_steps import Steps, put
-from world_words import tree_word
+from world_words import NO_BEST, best_in, tree_word
 
 
 class LinksOverAFilledWord(Steps):
@@ -279,6 +279,102 @@ class SpreadsNothing(Steps):
     """A lowered cost stays where it is."""
 
     leaves_out = ("spreading",)
+
+
+class RecordsGoalNodesUnposted(Steps):
+    """A node in a goal is recorded as soon as it is counted."""
+
+    leaves_out = ("posts",)
+
+    def may_end(self, hand, entry):
+        placed = entry.outcome == "placed"
+        return placed == hand.has("linked") and placed == hand.has("counted")
+
+
+class PostsBeforeTheCount(Steps):
+    """A node in a goal is posted as soon as it is linked."""
+
+    posts_from = ("linked",)
+
+    def link(self, i, node, side):
+        found = super().link(i, node, side)
+        hand = self.view(i).hand
+        if not found and self.is_goal(hand.point):
+            self.post(i, hand.node)
+        return found
+
+
+class PostsNoLoweredNodes(Steps):
+    """A node in a goal whose cost fell is not posted."""
+
+    leaves_out = ("posts of lowers",)
+
+
+class PostsAnyNode(Steps):
+    """Nodes are posted that lie in no goal."""
+
+    def is_goal(self, p):
+        return p is not None
+
+
+class PostsTooLittle(Steps):
+    """A node is posted at 1 less than it was seen to cost."""
+
+    def posted_cost(self, i, node):
+        return max(0, super().posted_cost(i, node) - 1)
+
+
+class PostsTooMuch(Steps):
+    """A node is posted at 1 more than it was seen to cost."""
+
+    def posted_cost(self, i, node):
+        return super().posted_cost(i, node) + 1
+
+
+class KeepsTheGreaterPair(Steps):
+    """A post keeps the greater of two pairs."""
+
+    def lesser(self, one, other):
+        return max(one, other)
+
+
+class PostsToItselfAlone(Steps):
+    """A post is seen by the pass alone: the word stays."""
+
+    def post(self, i, node):
+        word = self.world.words[self.run.best]
+        super().post(i, node)
+        self.world.words[self.run.best] = word
+
+
+class JoinsKeepTheGreaterBest(Steps):
+    """A view that takes over another takes the greater best word."""
+
+    def both_bests(self, best, other):
+        return max(best, other)
+
+
+class BeginsWithNoBest(Steps):
+    """The words begin with no best, whatever the run has come to."""
+
+    def __init__(self, world):
+        super().__init__(world)
+        world.words[self.run.best] = NO_BEST
+        self.set_view(0, best=NO_BEST)
+
+
+class SkipsPastTheBound(Steps):
+    """A mark is skipped if the best costs a step more than its bound."""
+
+    def is_skipped(self, hand):
+        return hand.best not in (None, NO_BEST) and best_in(hand.best)[0] <= self.run.bound(hand.mark) + 256
+
+
+class SkipsNothing(Steps):
+    """No mark is skipped."""
+
+    def is_skipped(self, hand):
+        return False
 
 
 BUGS = [bug for bug in Steps.__subclasses__()]

@@ -8,7 +8,7 @@ from geometry import squared_distance
 from rules import class_of, cost, radius_of_class, steer
 from textbook import Record
 from world_views import ends_since, sweeps
-from world_words import goes_right, quota, seen_tree
+from world_words import best_in, best_word, goes_right, quota, seen_tree
 
 
 class Broken(Exception):
@@ -152,6 +152,10 @@ class Pass:
     def extend(self):
         """The mark in hand, whole. Its record."""
         run, before, mark = self.run, self.view, self.run.marks[self.view.hand.mark]
+        if run.goals:
+            yield from self.step("load_best")
+            if self.steps.is_skipped(self.view.hand):
+                return (yield from self.finish(before, best_in(self.view.hand.best)[1], "skipped", 0, mark))
         yield None
         nearest = yield from self.nearest(mark)
         start = self.tree().point(nearest)
@@ -171,6 +175,8 @@ class Pass:
         node = yield from self.place()
         if node is not None:
             return (yield from self.finish(before, nearest, "same", node, p))
+        if self.steps.is_goal(p) and "posts" not in self.leaves_out:
+            yield from self.step("post", self.view.hand.node)
         yield None
         yield from self.rewire(near)
         yield None
@@ -226,11 +232,22 @@ class Pass:
             limit = self.tree().cost(node) + cost(p, at)
             if limit < self.tree().cost(n) and run.is_clear(p, at):
                 while limit < self.tree().cost(n):
-                    yield from self.step("lower", n, node, limit)
+                    yield from self.lower(n, node, limit)
                 yield from self.spread(n)
         tree = self.tree()
         clear = [n for n in near if run.is_clear(p, tree.points[n])]
         promise(all(tree.cost(n) <= first + cost(p, tree.points[n]) for n in clear), "rewire: rewired")
+
+    def lower(self, node, parent, kept):
+        """Lowers a node, and posts it if it lies in a goal. Whether it was lowered."""
+        lowered = yield from self.step("lower", node, parent, kept)
+        if lowered and self.run.goals:
+            yield from self.step("load", self.run.point(node))
+            if self.steps.is_goal(self.tree().point(node)):
+                if "posts of lowers" not in self.leaves_out:
+                    yield from self.step("post", node)
+                promise(self.view.best <= best_word(kept, node), "lower: posted")
+        return lowered
 
     def children(self, node):
         """The nodes whose parent this one was seen to be last."""
@@ -266,7 +283,7 @@ class Pass:
             if through >= kept:
                 return fell
             fell = True
-            if (yield from self.step("lower", n, parent, through)):
+            if (yield from self.lower(n, parent, through)):
                 return fell
 
     def shorten(self, times):
@@ -278,7 +295,7 @@ class Pass:
             ways = [way for way in ways if way[2] is not None and self.steps.may_lower(self.i, *way)]
             if ways:
                 node, parent, kept = self.rng.choice(ways)
-                yield from self.step("lower", node, parent, kept)
+                yield from self.lower(node, parent, kept)
                 yield from self.spread(node)
             yield None
 
@@ -297,11 +314,14 @@ class Pass:
         """What the handling of a mark promises."""
         run, tree, was = self.run, self.tree(), seen_tree(self.run, before.seen)
         mark = run.marks[hand.mark]
+        promise(tree.record(hand.mark) == entry and self.view.hand is None, "extend: stored")
+        promise(self.view.most == before.most and self.view.crew[0] == (entry.worker, entry.turn + 1), "extend: worker and limit")
+        if entry.outcome == "skipped":
+            promise(best_in(hand.best)[0] <= run.bound(hand.mark), "extend: skipped")
+            return
         distance = lambda n: squared_distance(tree.points[n], mark)
         promise(all((distance(entry.nearest), entry.nearest) <= (distance(n), n) for n in was.present), "extend: not above")
         promise(sweeps(run, self.view, before.steps, mark, distance(entry.nearest)), "extend: swept")
-        promise(tree.record(hand.mark) == entry and self.view.hand is None, "extend: stored")
-        promise(self.view.most == before.most and self.view.crew[0] == (entry.worker, entry.turn + 1), "extend: worker and limit")
         if entry.outcome == "same":
             promise(tree.point(entry.other) == p, "extend: same")
         elif entry.outcome == "blocked":

@@ -8,9 +8,12 @@ from itertools import chain
 from geometry import squared_distance
 from rules import class_of, cost, radius_of_class, steer
 from world_words import (
+    NO_BEST,
     SPENT,
     WRITTEN,
     Tree,
+    best_in,
+    best_word,
     cost_in,
     keep,
     linked_nodes,
@@ -29,6 +32,8 @@ MOST_WORKERS = 64
 
 def may_become(kind, word, later):
     """Whether a word of this kind may become the later one."""
+    if kind == "apart":
+        return True
     if kind == "rising":
         return word <= later
     if word in (0, later):
@@ -357,7 +362,11 @@ def is_earlier(tree, entry, n):
 def is_lawful_record(run, tree, k, entry):
     """Whether the tree bears out the record of mark k."""
     mark, start = run.marks[k], tree.point(entry.nearest)
+    if entry.outcome == "skipped":
+        return tree.is_goal_node(entry.nearest) and tree.cost(entry.nearest) <= run.bound(k)
     earlier = [n for n in range(run.nodes) if is_earlier(tree, entry, n)]
+    if any(tree.is_goal_node(n) and tree.first_cost(n) <= run.bound(k) for n in earlier):
+        return False
     if start is None or any(tree.points[n] is None for n in earlier):
         return False
     if not all(is_not_above(lambda n: squared_distance(tree.points[n], mark), entry.nearest, n) for n in earlier):
@@ -402,10 +411,59 @@ def records(run, words, views, tree):
             yield "workers"
 
 
+# ---- the best word
+
+
+def is_best_pair(run, tree, word):
+    """Whether a best word tells of no goal node, or of a linked one that costs no more now."""
+    if word == NO_BEST:
+        return True
+    kept, node = best_in(word)
+    return tree.is_goal_node(node) and tree.cost(node) <= kept
+
+
+def least_placed(tree):
+    """The least pair of first cost and number of the goal nodes that are the start or recorded as placed."""
+    placed = (n for n in range(tree.run.nodes) if tree.has_placed(n) and tree.is_goal_node(n))
+    return min((best_word(tree.first_cost(n), n) for n in placed), default=NO_BEST)
+
+
+def best(run, words, views, tree):
+    """The best word is the pair of a goal node, and at most that of each goal node that is recorded."""
+    if not is_best_pair(run, tree, words[run.best]):
+        yield "pair"
+    if words[run.best] > least_placed(tree):
+        yield "placed"
+
+
+def bests(run, words, views, tree):
+    """So are the best words that views saw last and that hands have taken, by what was seen; and the word now is no greater."""
+    for view in live(run, views):
+        if not is_best_pair(run, tree, view.best):
+            yield "pair"
+        if words[run.best] > view.best:
+            yield "falls"
+        yield from best_sights(run, view)
+        if view.hand and view.hand.best is not None and not is_best_pair(run, tree, view.hand.best):
+            yield "taken_pair"
+
+
+def best_sights(run, view):
+    """What of that a view does not keep by itself."""
+    least, hand = least_placed(seen_tree(run, view.seen)), view.hand
+    if view.best > least:
+        yield "placed"
+    if hand and hand.best is not None and not view.best <= hand.best <= least:
+        yield "taken"
+    if hand and hand.stage == "posted" and view.best > best_word(hand.cost, hand.node):
+        yield "posted"
+
+
 # ---- the law
 
 PARTS = (
     of_run, claimed_marks, turns, shares, linked_tree, hands, trees, pairs, records, seen_pairs, trees_seen, seen_behind, copies, empties,
+    best, bests,
 )
 
 

@@ -305,14 +305,14 @@ def seen_otherwise(rng, world):
 @mutant
 def number_seen_too_high(rng, world):
     """A view has seen a counter or the count above what it is."""
-    places = lambda view: range(world.run.strips + 1)
+    places = lambda view: world.run.numbers
     return must(see(rng, world, places, lambda view, place: world.words[place] + rng.randint(1, 3)))
 
 
 @mutant
 def older_number_seen(rng, world):
     """A view has seen a lower number of a counter or of the count."""
-    places = lambda view: [place for place in range(world.run.strips + 1) if view.seen[place]]
+    places = lambda view: [place for place in world.run.numbers if view.seen[place]]
     see(rng, world, places, lambda view, place: rng.randrange(view.seen[place]))
     return "what was seen of a number may be old, where another view with a share has seen it as it is"
 
@@ -363,7 +363,7 @@ def older_pair_seen(rng, world):
 @mutant
 def taken_over_otherwise(rng, world):
     """A pass that was taken over had seen what its taker has not."""
-    place = rng.randrange(world.run.size)
+    place = rng.choice([place for place in range(world.run.size) if place != world.run.best])
     other = (lambda word: word ^ 1) if world.run.kinds[place] == "falling" else (lambda word: word + 1)
     change = lambda view: {"took": put(view.took, place, other(view.seen[place] or WRITTEN))}
     return must(change_view(rng, world, lambda view: len(view.took) == world.run.size, change))
@@ -398,7 +398,7 @@ def forget(rng, world, test, reason):
 @mutant
 def nobody_sees_a_counter(rng, world):
     """No view with a share has seen a counter as it is."""
-    place = pick(rng, (1 + g for g in range(world.run.strips) if world.words[1 + g]))
+    place = pick(rng, (place for place in world.run.numbers[1:] if world.words[place]))
     return unseen_by_all(world, place, lambda word: word - 1)
 
 

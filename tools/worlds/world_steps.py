@@ -9,7 +9,23 @@ from dataclasses import replace
 from geometry import squared_distance
 from rules import class_of, cost, radius_of_class, steer
 from world_law import is_earlier, is_not_above, turns_by_worker
-from world_words import SPENT, WRITTEN, Hand, Tree, View, World, cost_in, goes_right, point_word, record_word, seen_tree, tree_word
+from world_words import (
+    NO_BEST,
+    SPENT,
+    WRITTEN,
+    Hand,
+    Tree,
+    View,
+    World,
+    best_in,
+    best_word,
+    cost_in,
+    goes_right,
+    point_word,
+    record_word,
+    seen_tree,
+    tree_word,
+)
 
 
 class Refused(Exception):
@@ -32,7 +48,15 @@ def newcomer(run, words):
     made = turns_by_worker(Tree(run, words, "placed"))
     crew = tuple((worker, len(made.get(worker, ()))) for worker in range(run.workers))
     none = (0,) * run.size
-    return World(run, list(words), [View(run, crew, run.opening, None, tuple(words), (), 0, none, none)])
+    best = least_best(run, words)
+    words = put(tuple(words), run.best, best)
+    return World(run, list(words), [View(run, crew, run.opening, None, words, best, (), 0, none, none)])
+
+
+def least_best(run, words):
+    """The best word with which passes go on from a run: the least pair of kept cost and number of its goal nodes."""
+    tree = Tree(run, words, "placed")
+    return min((best_word(tree.cost(n), n) for n in tree.present if tree.is_goal_node(n)), default=NO_BEST)
 
 
 def start_words(run):
@@ -46,6 +70,8 @@ def start_words(run):
 
 def later_word(kind, one, other):
     """Of two words that may both become one word, the later."""
+    if kind == "apart":
+        return one
     if kind == "rising":
         return max(one, other)
     if one == 0:
@@ -105,7 +131,7 @@ class Steps:
     def load(self, i, place):
         """A load: of the count, of a counter, or of a seen node's point, child or tree word."""
         name = self.run.names[place]
-        need(name[0] not in ("first", "record"), "no such load")
+        need(name[0] not in ("best", "first", "record"), "no such load")
         need(name[0] in ("count", "counter") or self.sees_node(i, name[1]), "seen")
         word = self.world.words[place]
         return self.saw(i, place, word, word)
@@ -159,13 +185,24 @@ class Steps:
         return self.run.record(mark)
 
     def may_end(self, hand, entry):
-        """A mark is recorded as placed once its node is counted, and as anything else only if it is not linked."""
+        """A mark is recorded as placed once its node is counted, and posted if it lies in a goal, as skipped if nothing is written, and as
+        anything else only if it is not linked."""
         placed = entry.outcome == "placed"
+        if placed and self.is_goal(hand.point) and hand.stage != "posted" or entry.outcome == "skipped" and hand.stage != "claimed":
+            return False
         return placed == hand.has("linked") and placed == hand.has("counted")
+
+    def is_goal(self, p):
+        """Whether a point lies in a goal by which marks are skipped."""
+        return self.run.lies_in_goal(p)
 
     def may_record(self, i, hand, entry):
         """Whether what the view has seen bears out the record."""
         run, tree = self.run, self.tree(i)
+        if entry.outcome == "skipped":
+            return self.is_skipped(hand) and best_in(hand.best)[1] == entry.nearest
+        if not self.is_unskipped(hand):
+            return False
         start, mark = tree.point(entry.nearest), run.marks[hand.mark]
         own = [n for n in range(run.nodes) if is_earlier(tree, entry, n)]
         if start is None or not all(is_not_above(lambda n: squared_distance(tree.points[n], mark), entry.nearest, n) for n in own):
@@ -176,6 +213,14 @@ class Steps:
         if entry.outcome == "blocked":
             return self.is_blocked(start, p) and all(tree.points[n] != p for n in own)
         return run.is_clear(start, p) and self.may_place(tree, hand, entry, own)
+
+    def is_skipped(self, hand):
+        """Whether the best that was loaded for a mark costs no more than its bound."""
+        return hand.best not in (None, NO_BEST) and best_in(hand.best)[0] <= self.run.bound(hand.mark)
+
+    def is_unskipped(self, hand):
+        """Whether no marks are skipped, or the best that was loaded for this one costs more than its bound."""
+        return not self.run.goals or hand.best is not None and not self.is_skipped(hand)
 
     def is_blocked(self, a, b):
         """Whether the segment is not clear."""
@@ -200,6 +245,7 @@ class Steps:
         """A store of the point of the node in hand, a step from a seen node towards the mark."""
         hand = self.hand(i, "claimed")
         need(self.is_steered(self.tree(i).point(nearest), self.run.marks[hand.mark], p), "steered")
+        need(self.is_unskipped(hand), "unskipped")
         self.world.words[self.run.point(hand.node)] = point_word(p)
         self.stepped(i, hand=replace(hand, stage="pointed", nearest=nearest, point=p))
 
@@ -304,6 +350,42 @@ class Steps:
         self.saw(i, place, expected, tree_word(parent, kept))
         return True
 
+    # ---- the best word
+
+    def load_best(self, i):
+        """A load of the best word, which a hand takes for whose mark nothing is written."""
+        need(self.run.goals, "informed")
+        word, hand = self.world.words[self.run.best], self.view(i).hand
+        takes = hand and hand.stage in self.takes_best
+        self.stepped(i, best=word, hand=replace(hand, best=word) if takes else hand)
+        return word
+
+    takes_best = ("claimed",)
+
+    def may_post(self, i, node):
+        """Whether a node may be posted: it was seen with its point and its cost, and lies in a goal."""
+        tree = self.tree(i)
+        return self.may_write(i) and tree.pair(node) is not None and self.is_goal(tree.point(node))
+
+    def post(self, i, node):
+        """The best word becomes the lesser of what it was and the pair of a goal node, by what that was seen to cost."""
+        need(self.may_post(i, node), "post")
+        word = self.lesser(self.world.words[self.run.best], best_word(self.posted_cost(i, node), node))
+        self.world.words[self.run.best] = word
+        hand = self.view(i).hand
+        own = hand and hand.stage in self.posts_from and hand.node == node
+        self.stepped(i, best=word, hand=replace(hand, stage="posted") if own else hand)
+
+    posts_from = ("counted",)
+
+    def lesser(self, one, other):
+        """The lesser of two best words."""
+        return min(one, other)
+
+    def posted_cost(self, i, node):
+        """The cost that is posted of a node: the one that was seen last."""
+        return self.tree(i).cost(node)
+
     # ---- splits and joins
 
     def split(self, i, hand_on):
@@ -329,12 +411,17 @@ class Steps:
         need(i != j and other != SPENT and not view.hand and not other.hand, "hand")
         seen = self.merged(view.seen, other.seen)
         crew, fills = self.both_crews(view.crew, other.crew), self.both_fills(view.fills, other.fills)
-        self.stepped(i, crew=crew, most=max(view.most, other.most), seen=seen, took=other.seen, fills=fills)
+        best = self.both_bests(view.best, other.best)
+        self.stepped(i, crew=crew, most=max(view.most, other.most), seen=seen, best=best, took=other.seen, fills=fills)
         self.world.views[j] = SPENT
 
     def merged(self, one, other):
         """The later of what two tables say of each word."""
         return tuple(map(later_word, self.run.kinds, one, other))
+
+    def both_bests(self, best, other):
+        """The lesser of both best words."""
+        return min(best, other)
 
     def both_fills(self, fills, other):
         """The fills of both."""

@@ -204,8 +204,12 @@ def hand_of_a_looker(rng, world):
 def another_stage(rng, world):
     """A mark in hand has come less far, or farther."""
     stage = rng.choice(["claimed", "pointed", "half", "treed", "linked", "counted"])
-    change = lambda view: {"hand": replace(view.hand, stage=stage)}
-    return must(change_view(rng, world, lambda view: view.hand and view.hand.stage != stage, change))
+    i = holder(rng, world, lambda hand: hand.stage != stage)
+    if i is None:
+        return None
+    hand = world.views[i].hand
+    world.views[i] = replace(world.views[i], hand=replace(hand, stage=stage))
+    return "a node that is posted may be taken for one that is not" if (hand.stage, stage) == ("posted", "counted") else ""
 
 
 @mutant
@@ -310,5 +314,5 @@ def record_of_another_outcome(rng, world):
     def reason(k, before, after):
         return "" if "placed" in (before.outcome, after.outcome) else "the outcome is true as well"
 
-    change = lambda entry: {"outcome": outcome, "other": 0 if outcome == "blocked" else rng.randrange(world.run.nodes)}
+    change = lambda entry: {"outcome": outcome, "other": 0 if outcome in ("blocked", "skipped") else rng.randrange(world.run.nodes)}
     return changed_record(rng, world, lambda entry: entry.outcome != outcome, change, reason)

@@ -4,6 +4,7 @@ from geometry import squared_distance
 from world_law import (
     MOST_WORKERS,
     are_behind,
+    best_sights,
     follows_ways,
     hand_sights,
     is_lawful_record,
@@ -33,6 +34,8 @@ def is_later(run, before, after):
     """The first thing that a view has lost by steps of its own, or None."""
     if not are_behind(run, before.seen, after.seen):
         return "seen"
+    if after.best > before.best:
+        return "best"
     if after.steps <= before.steps:
         return "steps"
     for name, one, other in (("looked", before.looked, after.looked), ("found_zero", before.found_zero, after.found_zero)):
@@ -110,6 +113,8 @@ def view_law(run, view):
         yield "pairs"
     if view.seen[run.count] > run.nodes or any(view.seen[run.counter(g)] > marks for g in range(run.strips)):
         yield "counts"
+    if any(best_sights(run, view)):
+        yield "best"
     if len(view.crew) == run.workers and any(order_law(run, Tree(run, view.seen))):
         yield "whole"
 

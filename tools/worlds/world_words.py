@@ -3,12 +3,13 @@
 from dataclasses import dataclass
 
 from geometry import Space, squared_distance
-from rules import mark_points
+from rules import bound, mark_points
 from textbook import Record
 
 WRITTEN = 1 << 63
-STAGES = ("claimed", "pointed", "half", "treed", "linked", "counted")
-OUTCOMES = ("placed", "same", "blocked")
+STAGES = ("claimed", "pointed", "half", "treed", "linked", "counted", "posted")
+OUTCOMES = ("placed", "same", "blocked", "skipped")
+NO_BEST = (1 << 64) - 1
 
 
 def point_word(p):
@@ -36,6 +37,16 @@ def cost_in(word):
     return (word >> 18) % (1 << 44)
 
 
+def best_word(kept, node):
+    """The cost of a goal node as the best word."""
+    return (kept << 18) + node
+
+
+def best_in(word):
+    """The cost and the goal node in the best word."""
+    return word >> 18, word % (1 << 18)
+
+
 def record_word(entry):
     """A record as a word."""
     outcome = OUTCOMES.index(entry.outcome)
@@ -46,9 +57,9 @@ def record_of_word(word, first):
     """The record that a word holds, with the first word of its node, or None."""
     if word < WRITTEN:
         return None
-    outcome = OUTCOMES[min((word >> 42) % 4, 2)]
+    outcome = OUTCOMES[(word >> 42) % 4]
     entry = Record(word % 64, (word >> 6) % (1 << 18), (word >> 24) % (1 << 18), outcome)
-    if outcome != "blocked":
+    if outcome in ("placed", "same"):
         entry.other = (word >> 44) % (1 << 18)
     if outcome == "placed":
         entry.first_parent, entry.first_cost = parent_in(first), cost_in(first)
@@ -66,33 +77,35 @@ def goes_right(depth, p, q):
 
 
 class Run:
-    """What a shared run is told once, the places of its words, and the kind of each: rising, once or falling."""
+    """What a shared run is told once, the places of its words, and the kind of each: rising, apart, once or falling."""
 
     def __init__(self, scene, workers, opening):
         self.scene, self.workers, self.opening = scene, workers, opening
         self.space = Space(scene)
         self.start, self.step, self.gamma, self.strips = scene.start, scene.step, scene.gamma, scene.strips
         self.marks = mark_points(scene, self.space)
+        self.goals = scene.goals if scene.informed else []
         self.nodes = len(self.marks) + 1
-        self.names = [("count",), *(("counter", g) for g in range(self.strips))]
+        self.names = [("count",), ("best",), *(("counter", g) for g in range(self.strips))]
         for n in range(self.nodes):
             self.names += [("point", n), ("child", n, 0), ("child", n, 1), ("tree", n), ("first", n)]
         self.names += [("record", k) for k in range(len(self.marks))]
         self.size = len(self.names)
-        self.kinds = [{"count": "rising", "counter": "rising", "tree": "falling"}.get(name[0], "once") for name in self.names]
+        self.kinds = [{"count": "rising", "best": "apart", "counter": "rising", "tree": "falling"}.get(name[0], "once") for name in self.names]
+        self.numbers = [self.count, *(self.counter(g) for g in range(self.strips))]
         self.child_places = [place for place, name in enumerate(self.names) if name[0] == "child"]
         self.tree_places = [place for place, name in enumerate(self.names) if name[0] == "tree"]
         self.tested, self.kept = {}, {}
 
-    count = 0
+    count, best = 0, 1
 
     def counter(self, strip):
         """The place of the counter of a strip."""
-        return 1 + strip
+        return 2 + strip
 
     def point(self, node):
         """The place of the point of a node; its other words follow."""
-        return 1 + self.strips + 5 * node
+        return 2 + self.strips + 5 * node
 
     def child(self, node, side):
         """The place of a child of a node: 0 is the left side, 1 the right."""
@@ -109,6 +122,14 @@ class Run:
     def record(self, mark):
         """The place of the record of a mark."""
         return self.point(self.nodes) + mark
+
+    def lies_in_goal(self, p):
+        """Whether a point lies in a goal by which marks are skipped."""
+        return bool(self.goals) and p is not None and self.scene.is_goal_point(p)
+
+    def bound(self, mark):
+        """The bound of a mark."""
+        return bound(self.start, self.goals, self.marks[mark])
 
     def is_clear(self, a, b):
         """Whether the body is clear along the segment."""
@@ -131,6 +152,8 @@ class Hand:
 
     mark: int
     stage: str = "claimed"
+    # the best word that was loaded for the mark
+    best: int | None = None
     nearest: int = 0
     point: tuple = (0, 0)
     parent: int = 0
@@ -160,6 +183,7 @@ class View:
     most: int
     hand: Hand | None
     seen: tuple
+    best: int
     took: tuple
     steps: int
     looked: tuple
@@ -169,7 +193,7 @@ class View:
 
 
 # What is left of a view that was taken over.
-SPENT = View(None, (), 0, None, (), (), 0, (), ())
+SPENT = View(None, (), 0, None, (), NO_BEST, (), 0, (), ())
 
 
 @dataclass
@@ -253,6 +277,10 @@ class Tree:
                 return nodes, self.run.child(node, side)
             node = self.child(node, side)
         return nodes, None
+
+    def is_goal_node(self, node):
+        """Whether a node is present, and lies in a goal by which marks are skipped."""
+        return self.run.lies_in_goal(self.point(node))
 
     def leads_to(self, q, node):
         """Whether a node is on the way of q."""

@@ -19,12 +19,11 @@ sys.path.append(str(Path(__file__).resolve().parent.parent))
 
 from make_scenes import polygon
 from scene import Scene
-from usage import words_or_usage
+from world_best_mutants import MUTANTS
 from world_bugs import BUGS
 from world_calls import Broken, Pass
 from world_law import are_behind, broken_parts, is_world
 from world_steps import Refused, Steps, newcomer, start_words
-from world_tree_mutants import MUTANTS
 from world_views import cleared, closed_run, is_later, view_law
 from world_words import SPENT, Run, Tree, quota
 
@@ -49,6 +48,11 @@ def ring(rng, width, height, step):
     return points + [(rng.randint(0, width), rng.randint(0, height)) for _ in range(rng.randint(0, 4))]
 
 
+def goal_round(rng, x, y):
+    """A small goal from this corner on."""
+    return x, y, x + rng.randint(0, 2), y + rng.randint(0, 2)
+
+
 def tiny_scene(rng):
     """A scene of a few marks on a small lattice, whose start is clear. In some the marks are crowded, in some they lie in a ring."""
     while True:
@@ -64,6 +68,9 @@ def tiny_scene(rng):
             scene.obstacles.append(polygon(rng, (x, x + size), (y, y + size), 64))
         places = [place() for _ in range(rng.choice([2, 6, 20, 20]))]
         scene.marks = ring(rng, width, height, step) if is_ring else [rng.choice(places) for _ in range(rng.randint(1, 9))]
+        scene.informed = rng.random() < 0.5
+        if scene.informed:
+            scene.goals = [goal_round(rng, *place()) for _ in range(rng.choice([1, 1, 2]))]
         if not is_ring and rng.random() < 0.2:
             scene.drawn, scene.seed = len(scene.marks), rng.getrandbits(64)
         if Run(scene, 1, 0).is_clear(scene.start, scene.start):
@@ -105,6 +112,7 @@ class Player:
             report_unless(broken is None, "law of a view", broken, name)
         if before is not None:
             report_unless(are_behind(self.run, before.words, self.world.words), "a word became what it may not", name)
+            report_unless(self.world.words[self.run.best] <= before.words[self.run.best], "the best word rose", name)
             lost = is_later(self.run, before.views[i], self.world.views[i])
             report_unless(lost is None, "a view lost", lost, name)
             self.check_costs(before.words)
@@ -171,7 +179,7 @@ class Player:
         free = [i for i in range(len(self.world.views)) if self.is_free(i)]
         if free:
             i = self.rng.choice(free)
-            self.rng.choice([self.odd_load, self.odd_load, self.odd_lower, self.odd_split, self.odd_join])(i)
+            self.rng.choice([self.odd_load, self.odd_load, self.odd_lower, self.odd_best, self.odd_split, self.odd_join])(i)
 
     def odd_load(self, i):
         """A load of anything that the view may load; of the count only with nothing in hand."""
@@ -190,6 +198,15 @@ class Player:
             if node != parent and kept is not None and self.steps.may_lower(i, node, parent, kept):
                 self.step("lower", (i, node, parent, kept))
                 return
+
+    def odd_best(self, i):
+        """A load of the best word, but for a mark that is looked at, or a post of any goal node, if it may be made."""
+        hand = self.world.views[i].hand
+        posts = [n for n in range(self.run.nodes) if self.steps.may_post(i, n)]
+        if self.run.goals and not (hand and hand.stage == "claimed") and (not posts or self.rng.random() < 0.5):
+            self.step("load_best", (i,))
+        elif posts:
+            self.step("post", (i, self.rng.choice(posts)))
 
     def odd_split(self, i):
         """A split: the second worker gets a view of its own, or a new view looks."""

@@ -1,4 +1,5 @@
 pub mod CostBounds
+pub mod LeastEdges
 pub mod ReachedRoots
 pub mod RadiusFromRoot
 pub mod RootBounds

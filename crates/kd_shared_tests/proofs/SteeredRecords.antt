@@ -1,7 +1,7 @@
 -- What may be recorded of a mark that was steered from the nearest node: that another node stands at its point, or, if the radius is 0,
 -- that its node was placed below the nearest.
 use Rattle.std.proofs.Common.{◌≡◌, ℕ, zero, suc, refl, ◌+◌, ◌-◌, ◌*◌, ◌<◌, ◌≤◌, ◌^◌, true, Option}
-use Rattle.std.proofs.Common.{Some, None, length, inl, inr, sym, ap, ◌∙◌, subst, arith}
+use Rattle.std.proofs.Common.{[], Some, None, length, inl, inr, sym, ap, ◌∙◌, subst, arith}
 use Rattle.std.specs.Prelude.{◌⊎◌, IfSome, nat_le}
 use Rattle.std.specs.List.{filter, range_with_len}
 use Rattle.std.proofs.Math.Nat.{mul-pos}
@@ -11,6 +11,7 @@ use Rattle.std.proofs.lemmas.List.Elements.{filter_agree}
 use Rattle.std.proofs.lemmas.Nat.{pow_pos}
 use Rattle.plan_model.specs.Spaces.Clearance.{Clear}
 use Rattle.plan_model.specs.Runs.ClosedLaw.{mark_at}
+use Rattle.plan_model.specs.Trees.BestNode.{IsGoalNode}
 use Rattle.plan_model.specs.Trees.LeastPairs.{IsNotAbove}
 use Rattle.plan_model.specs.Trees.Nearness.{distance_to, is_within}
 use Rattle.plan_model.specs.Trees.PointsByNumber.{IsPresent, point_at, point_of}
@@ -21,6 +22,7 @@ use Rattle.plan_model.specs.declared.records.Outcome.{Outcome}
 use Rattle.plan_model.specs.declared.records.Outcome.TheVariants.{Placed, Same}
 use Rattle.plan_model.specs.declared.records.Record.{Record}
 use Rattle.plan_model.proofs.FreePoints.{same-from_distance}
+use Rattle.plan_model.proofs.GoalNodes.{no_goal_node}
 use Rattle.plan_model.proofs.NewNodes.{point_of-stands}
 use Rattle.plan_model.proofs.RadiusLaws.{greatest-passes}
 use Rattle.plan_model.proofs.RecordLaws.{class_of-le}
@@ -86,7 +88,8 @@ own_count-same before after entry goes_on records =
 
 -- ---- records
 
-module _ (view : View) (nearest : ℕ) (entry : Record) (lawful : IsLawfulView view) (steers : SteersFrom nearest view) (is : entry.nearest ≡ nearest) where
+module _ (view : View) (nearest : ℕ) (entry : Record) (lawful : IsLawfulView view) (steers : SteersFrom nearest view) (is : entry.nearest ≡ nearest)
+    (none : view.run.goals ≡ []) where
   -- where the hand was steered from, and where to
   reached : steers.hand.point ≡ steered (point_of (tree_seen view).points entry.nearest) (mark_at view.run.marks steers.hand.mark) view.run.step
   reached =
@@ -98,6 +101,7 @@ module _ (view : View) (nearest : ℕ) (entry : Record) (lawful : IsLawfulView v
   -- so the mark may end with what it may be at that point
   MaySteer-steered : (MayEndAt : Point → Type 0) → MayEndAt steers.hand.point → MaySteer view steers.hand entry MayEndAt
   MaySteer-steered MayEndAt ended = record {
+    cheaper = λ i own goal. absurd (no_goal_node (tree_seen view).points i (subst (λ goals. IsGoalNode goals (tree_seen view).points i) none goal));
     present = subst (IsPresent (tree_seen view).points) (sym is) (present_nearest view nearest lawful steers);
     nearest = λ i own.
         subst (λ m. IsNotAbove (distance_to (mark_at view.run.marks steers.hand.mark) (tree_seen view).points) m i) (sym is)
@@ -110,15 +114,17 @@ module _ (view : View) (nearest : ℕ) (entry : Record) (lawful : IsLawfulView v
       if_hand (λ h. MayRecord view h entry) view.hand steers.hand steers.held (subst (MayEnd view steers.hand entry) (sym e) may)
 
 pub may_finish-same :
-    (view : View) (nearest j : ℕ) (entry : Record) → IsLawfulView view → SteersFrom nearest view → SeesHandPoint view j → entry.nearest ≡ nearest
+    (view : View) (nearest j : ℕ) (entry : Record) → view.run.goals ≡ [] → IsLawfulView view → SteersFrom nearest view → SeesHandPoint view j
+    → entry.nearest ≡ nearest
     → entry.outcome ≡ Same j → IfSome view.hand (λ h. MayRecord view h entry)
-may_finish-same view nearest j entry lawful steers seen is outcome =
+may_finish-same view nearest j entry none lawful steers seen is outcome =
     let same : seen.hand ≡ steers.hand = cc (seen.held, steers.held) in
-    MayRecord-steered view nearest entry lawful steers is (Same j) outcome
-    (MaySteer-steered view nearest entry lawful steers is (SeesPoint view j) (subst (λ h. SeesPoint view j h.point) same seen.stands))
+    MayRecord-steered view nearest entry lawful steers is none (Same j) outcome
+    (MaySteer-steered view nearest entry lawful steers is none (SeesPoint view j) (subst (λ h. SeesPoint view j h.point) same seen.stands))
 
 module _ (view : View) (nearest cost : ℕ) (entry : Record) (lawful : IsLawfulView view) (hangs : HangsBelowNearest nearest cost view)
-    (linked : has_link hangs.steers.hand.stage ≡ true) (gamma : view.run.gamma ≡ 0) where
+    (linked : has_link hangs.steers.hand.stage ≡ true) (gamma : view.run.gamma ≡ 0)
+    (none : view.run.goals ≡ []) where
   -- no own node is a neighbour: it would stand at the very point
   no_neighbour : (i : ℕ) → IsOwnNeighbour view entry hangs.steers.hand.point i → ⊥
   no_neighbour i near =
@@ -149,5 +155,5 @@ module _ (view : View) (nearest cost : ℕ) (entry : Record) (lawful : IsLawfulV
         chosen = λ i near. absurd (no_neighbour i near);
         rewired = λ i near. absurd (no_neighbour i near);
       } in
-      MayRecord-steered view nearest entry lawful hangs.steers is Placed outcome
-      (MaySteer-steered view nearest entry lawful hangs.steers is (λ p. MayBePlaced view hand entry) placed)
+      MayRecord-steered view nearest entry lawful hangs.steers is none Placed outcome
+      (MaySteer-steered view nearest entry lawful hangs.steers is none (λ p. MayBePlaced view hand entry) placed)

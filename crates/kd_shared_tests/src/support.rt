@@ -1,7 +1,7 @@
 //! What the tests do with a pass: it places the points of marks below the nearest nodes, in scenes whose radius is 0.
 //! Trees and passes end by calls of `drop`: the proof of a call is shared, and that of the end of a scope is each function's own.
 
-ghost use Rattle.std.specs.Prelude.{◌≡◌, ◌+◌, ◌<◌, ◌≤◌, All, IfNone, IfOk, IfSome, IsTrue, Ok, Some, length};
+ghost use Rattle.std.specs.Prelude.{◌≡◌, false, ◌+◌, ◌<◌, ◌≤◌, All, IfNone, IfOk, IfSome, IsTrue, Ok, Some, length};
 ghost use Rattle.kd_shared_tests.specs.HeldMarks.{HangsBelowNearest, HoldsMark, HoldsPlaced, SeesHandPoint, SteersFrom};
 ghost use Rattle.plan_model.specs.Spaces.Clearance.{ClearAt};
 ghost use Rattle.plan_model.specs.Spaces.ConfigurationSpace.{space_of};
@@ -161,6 +161,7 @@ pub(crate) fn place_mark(
 fn finish_placed(shared: &Shared, pass: &mut Pass, mark: u32, closest: u32, cost: u64) -> Option<()>
     requires holds { HoldsMark shared.now mark Counted pass.old }
     requires hangs { HangsBelowNearest closest cost pass.old.view }
+    requires plain { shared.now.task.scene.informed ≡ false }
     ensures { IfSome result (λ _. MayClaim shared.now pass.new) }
 {
     if shared.task().scene.gamma != 0 {
@@ -188,6 +189,7 @@ fn finish_same(shared: &Shared, pass: &mut Pass, mark: u32, closest: u32, node: 
     requires holds { HoldsMark shared.now mark Treed pass.old }
     requires steers { SteersFrom closest pass.old.view }
     requires seen { SeesHandPoint pass.old.view node }
+    requires plain { shared.now.task.scene.informed ≡ false }
     ensures { MayClaim shared.now pass.new }
 {
     let entry = Record::unplaced(pass.worker(), pass.turn(), closest, Outcome::Same(node));
@@ -195,7 +197,7 @@ fn finish_same(shared: &Shared, pass: &mut Pass, mark: u32, closest: u32, node: 
 }
 
 /// Places the node of the mark in hand below the node that it was steered from, and records how it ended. Returns `None` if the
-/// way there is blocked, or the record cannot be made.
+/// way there is blocked, the record cannot be made, or a mark may be skipped.
 pub(crate) fn place_and_finish(
     shared: &Shared,
     hall: &Hall,
@@ -208,6 +210,9 @@ pub(crate) fn place_and_finish(
     requires hall { hall.now ≡ space_of shared.now.task.scene }
     ensures { IfSome result (λ _. MayClaim shared.now pass.new) }
 {
+    if shared.task().scene.informed {
+        return None;
+    }
     let cost = hang_from_nearest(shared, hall, pass, mark, closest)?;
     let placing = place_mark(shared, pass, mark, closest, cost);
     match placing {

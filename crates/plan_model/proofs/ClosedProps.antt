@@ -3,7 +3,7 @@ use Rattle.std.specs.Prelude.{ℕ, List, Option}
 use Rattle.std.proofs.Props.{props}
 use Rattle.plan_model.specs.declared.geometry.Point.{Point}
 use Rattle.plan_model.specs.declared.records.Outcome.{Outcome}
-use Rattle.plan_model.specs.declared.records.Outcome.TheVariants.{Placed, Same, Blocked}
+use Rattle.plan_model.specs.declared.records.Outcome.TheVariants.{Placed, Same, Blocked, Skipped}
 use Rattle.plan_model.specs.declared.records.Record.{Record}
 use Rattle.plan_model.specs.Spaces.Clearance.{IsClear}
 use Rattle.plan_model.specs.declared.configuration_spaces.ConfigurationSpace.{ConfigurationSpace}
@@ -11,7 +11,7 @@ use Rattle.plan_model.specs.Trees.PointsByNumber.{StandsAt}
 use Rattle.plan_model.specs.Spaces.RoomOfConfigurations.{Rational}
 use Rattle.plan_model.specs.Trees.TreeStates.{TreeState}
 use Rattle.plan_model.specs.Runs.OrderLaw.{KeepsOrder}
-use Rattle.plan_model.specs.Runs.RecordLaw.{IsPlacedLawfully, IsBlockedLawfully, IsSteeredLawfully, HasLawfulOutcome, IsLawfulRecord}
+use Rattle.plan_model.specs.Runs.RecordLaw.{IsPlacedLawfully, IsBlockedLawfully, IsSkippedLawfully, IsSteeredLawfully, HasLawfulOutcome, IsLawfulRecord}
 use Rattle.plan_model.specs.Runs.ClosedLaw.{IsClosed}
 use Rattle.plan_model.specs.Runs.Textbook.{Setup}
 
@@ -30,6 +30,9 @@ IsPlacedLawfully-prop setup state k entry p = hlevel (props, IsClear-prop)
 IsBlockedLawfully-prop : (setup : Setup) (state : TreeState) (entry : Record) (p : Point) → IsProp (IsBlockedLawfully setup state entry p)
 IsBlockedLawfully-prop setup state entry p = hlevel props
 
+IsSkippedLawfully-prop : (setup : Setup) (state : TreeState) (mark : Point) (entry : Record) → IsProp (IsSkippedLawfully setup state mark entry)
+IsSkippedLawfully-prop setup state mark entry = hlevel props
+
 IsSteeredLawfully-prop :
     (setup : Setup) (state : TreeState) (mark : Point) (entry : Record) (EndsAt : Point → Type 0) → ((p : Point) → IsProp (EndsAt p))
     → IsProp (IsSteeredLawfully setup state mark entry EndsAt)
@@ -44,6 +47,7 @@ HasLawfulOutcome-prop setup state k mark entry (Same j) =
     IsSteeredLawfully-prop setup state mark entry (StandsAt state.points j) (StandsAt-prop state.points j)
 HasLawfulOutcome-prop setup state k mark entry Blocked =
     IsSteeredLawfully-prop setup state mark entry (IsBlockedLawfully setup state entry) (IsBlockedLawfully-prop setup state entry)
+HasLawfulOutcome-prop setup state k mark entry Skipped = IsSkippedLawfully-prop setup state mark entry
 
 IsLawfulRecord-prop : (setup : Setup) (state : TreeState) (k : ℕ) (mark : Point) (entry : Record) → IsProp (IsLawfulRecord setup state k mark entry)
 IsLawfulRecord-prop setup state k mark entry = HasLawfulOutcome-prop setup state k mark entry entry.outcome

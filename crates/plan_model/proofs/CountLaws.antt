@@ -1,18 +1,22 @@
--- In a closed run each mark below the limit was placed, ended on a node, or was blocked, so these add up to the limit.
-use Rattle.std.proofs.Common.{◌≡◌, ℕ, zero, suc, ◌+◌, ◌<◌, Bool, true, false, cond, List, length, Option, Some, None}
+-- In a closed run each mark below the limit was placed, ended on a node, was blocked or was skipped, so these add up to the limit, and none
+-- was skipped if there are no goals to skip by.
+use Rattle.std.proofs.Common.{◌≡◌, ℕ, zero, suc, ◌+◌, ◌<◌, Bool, true, false, cond, List, [], length, Option, Some, None, subst}
 use Rattle.std.proofs.Common.{arith, refl, sym, ap, ◌∙◌, inl, inr}
 use Rattle.std.specs.Prelude.{IsSome}
 use Rattle.std.proofs.lemmas.Bool.{cases_lt, true≢false}
 use Rattle.plan_model.specs.declared.geometry.Point.{Point}
 use Rattle.plan_model.specs.declared.records.Outcome.{Outcome}
-use Rattle.plan_model.specs.declared.records.Outcome.TheVariants.{Placed, Same, Blocked}
+use Rattle.plan_model.specs.declared.records.Outcome.TheVariants.{Placed, Same, Blocked, Skipped}
 use Rattle.plan_model.specs.declared.records.Record.{Record}
-use Rattle.plan_model.specs.Runs.Outcomes.{is_placed, is_same, is_blocked}
+use Rattle.plan_model.specs.Runs.Outcomes.{is_placed, is_same, is_blocked, is_skipped}
 use Rattle.plan_model.specs.Trees.PointsByNumber.{AreNumberedTo, node_count}
 use Rattle.plan_model.specs.Trees.TreeStates.{TreeState}
-use Rattle.plan_model.specs.Runs.ClosedLaw.{has_outcome, outcome_count, IsClosed}
+use Rattle.plan_model.specs.Runs.ClosedLaw.{has_outcome, mark_at, outcome_count, IsClosed}
+use Rattle.plan_model.specs.Runs.RecordLaw.{HasLawfulOutcome}
+use Rattle.plan_model.specs.Trees.BestNode.{IsGoalNode}
 use Rattle.plan_model.specs.Runs.Textbook.{Setup}
-use Rattle.plan_model.proofs.CountsBelow.{count-more, count-longer, count-one_more}
+use Rattle.plan_model.proofs.CountsBelow.{count-more, count-longer, count-none, count-one_more}
+use Rattle.plan_model.proofs.GoalNodes.{no_goal_node}
 use Rattle.plan_model.proofs.NodeCounts.{count-next}
 use Rattle.plan_model.proofs.NextRecords.{RecordsMark}
 use Rattle.plan_model.proofs.OrderLaws.{start-present}
@@ -20,31 +24,40 @@ use Rattle.plan_model.proofs.PlacedNodes.{record-of_present}
 use Rattle.plan_model.proofs.WorkerTurns.{count_still}
 
 one_outcome : (outcome : Outcome)
-    → (cond (is_placed outcome) 1 0 + cond (is_same outcome) 1 0) + cond (is_blocked outcome) 1 0 ≡ 1
+    → ((cond (is_placed outcome) 1 0 + cond (is_same outcome) 1 0) + cond (is_blocked outcome) 1 0) + cond (is_skipped outcome) 1 0 ≡ 1
 one_outcome Placed = refl
 one_outcome (Same j) = refl
 one_outcome Blocked = refl
+one_outcome Skipped = refl
 
 -- a record has one outcome
-one_of_three :
+one_of_four :
     (o : Option Record) → IsSome o
-    → (cond (has_outcome is_placed o) 1 0 + cond (has_outcome is_same o) 1 0) + cond (has_outcome is_blocked o) 1 0 ≡ 1
-one_of_three None h = cc
-one_of_three (Some entry) h = one_outcome entry.outcome
+    → ((cond (has_outcome is_placed o) 1 0 + cond (has_outcome is_same o) 1 0) + cond (has_outcome is_blocked o) 1 0)
+    + cond (has_outcome is_skipped o) 1 0 ≡ 1
+one_of_four None h = cc
+one_of_four (Some entry) h = one_outcome entry.outcome
+
+-- how many marks below the limit were placed, ended on a node, were blocked and were skipped, all together
+abbrev pub outcomes_below : (ℕ → Option Record) → ℕ → ℕ
+outcomes_below record_of limit =
+    ((outcome_count record_of limit is_placed + outcome_count record_of limit is_same) + outcome_count record_of limit is_blocked)
+    + outcome_count record_of limit is_skipped
 
 -- if each mark below the limit has a record, the outcomes add up to the limit
 pub outcomes-add_up :
     (record_of : ℕ → Option Record) (limit : ℕ) → ((k : ℕ) → k < limit → IsSome (record_of k))
-    → (outcome_count record_of limit is_placed + outcome_count record_of limit is_same) + outcome_count record_of limit is_blocked ≡ limit
+    → outcomes_below record_of limit ≡ limit
 outcomes-add_up record_of zero all = refl
 outcomes-add_up record_of (suc limit) all =
     let before = outcomes-add_up record_of limit (λ k below. all k (omega arith)) in
-    let here = one_of_three (record_of limit) (all limit (omega arith)) in
+    let here = one_of_four (record_of limit) (all limit (omega arith)) in
     omega (
       arith,
       count-more (λ k. has_outcome is_placed (record_of k)) limit,
       count-more (λ k. has_outcome is_same (record_of k)) limit,
       count-more (λ k. has_outcome is_blocked (record_of k)) limit,
+      count-more (λ k. has_outcome is_skipped (record_of k)) limit,
       before,
       here,
     )
@@ -52,8 +65,29 @@ outcomes-add_up record_of (suc limit) all =
 -- the outcomes add up to the limit in a closed run
 pub outcomes-closed :
     (setup : Setup) (marks : List Point) (limit : ℕ) (state : TreeState) → IsClosed setup marks limit state
-    → (outcome_count state.record_of limit is_placed + outcome_count state.record_of limit is_same) + outcome_count state.record_of limit is_blocked ≡ limit
+    → outcomes_below state.record_of limit ≡ limit
 outcomes-closed setup marks limit state closed = outcomes-add_up state.record_of limit closed.records.recorded
+
+-- a lawful record is not of a skipped mark, if there are no goals to skip by
+not_skipped :
+    (setup : Setup) (state : TreeState) (k : ℕ) (mark : Point) (entry : Record) (outcome : Outcome) → setup.goals ≡ []
+    → HasLawfulOutcome setup state k mark entry outcome → is_skipped outcome ≡ false
+not_skipped setup state k mark entry Placed none h = refl
+not_skipped setup state k mark entry (Same j) none h = refl
+not_skipped setup state k mark entry Blocked none h = refl
+not_skipped setup state k mark entry Skipped none h =
+    absurd (no_goal_node state.points entry.nearest (subst (λ goals. IsGoalNode goals state.points entry.nearest) none h.goal))
+
+-- in a closed run without goals to skip by no mark is skipped
+pub none_skipped-closed :
+    (setup : Setup) (marks : List Point) (limit : ℕ) (state : TreeState) → IsClosed setup marks limit state
+    → setup.goals ≡ [] → outcome_count state.record_of limit is_skipped ≡ 0
+none_skipped-closed setup marks limit state closed none =
+    count-none (λ k. has_outcome is_skipped (state.record_of k)) limit (λ k below. of_record k (state.record_of k) refl)
+  where
+    of_record : (k : ℕ) (o : Option Record) → state.record_of k ≡ o → has_outcome is_skipped o ≡ false
+    of_record k None h = refl
+    of_record k (Some entry) h = not_skipped setup state k (mark_at marks k) entry entry.outcome none (closed.lawful k entry h)
 
 -- ---- any mark is recorded
 

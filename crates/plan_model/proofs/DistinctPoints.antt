@@ -34,7 +34,7 @@ use Rattle.std.proofs.Math.Seq.{get_or-append_seam}
 use Rattle.plan_model.specs.declared.geometry.Point.{Point}
 use Rattle.plan_model.specs.declared.trees.Twig.{Twig}
 use Rattle.plan_model.specs.declared.records.Outcome.{Outcome}
-use Rattle.plan_model.specs.declared.records.Outcome.TheVariants.{Placed, Same, Blocked}
+use Rattle.plan_model.specs.declared.records.Outcome.TheVariants.{Placed, Same, Blocked, Skipped}
 use Rattle.plan_model.specs.declared.records.Record.{Record}
 use Rattle.plan_model.specs.declared.configuration_spaces.ConfigurationSpace.{ConfigurationSpace}
 use Rattle.plan_model.specs.Trees.PointsByNumber.{point_at, StandsAt, IsPresent, point_of, IsFree, AreDistinct}
@@ -158,6 +158,7 @@ AreDistinct-ends setup tree k mark Placed entry after e h =
     (AreDistinct-placed (points_of tree) e.point e.free h)
 AreDistinct-ends setup tree k mark (Same j) entry after e h = AreDistinct-unplaced tree after e.added h
 AreDistinct-ends setup tree k mark Blocked entry after e h = AreDistinct-unplaced tree after e.added h
+AreDistinct-ends setup tree k mark Skipped entry after e h = AreDistinct-unplaced tree after e.added h
 
 -- the start alone has no other at its point
 pub AreDistinct-start : (start : Point) → AreDistinct (points_of (start_alone start))

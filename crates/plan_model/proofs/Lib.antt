@@ -8,6 +8,8 @@ pub mod KeptCosts
 pub mod LeastScans
 pub mod LeastPairLaws
 pub mod BestNodeLaws
+pub mod GoalPoints
+pub mod GoalBoundLaws
 pub mod DistinctPoints
 pub mod UniqueRuns
 pub mod OpenRoomMarks
@@ -52,6 +54,7 @@ pub mod ParentChoices
 pub mod ParentChanges
 pub mod NodeCounts
 pub mod TreeStateLaws
+pub mod GoalNodes
 pub mod OrderLaws
 pub mod LoweredCosts
 pub mod AddedNodes

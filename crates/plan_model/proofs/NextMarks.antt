@@ -7,7 +7,7 @@ use Rattle.std.proofs.lemmas.List.Sums.{length-filter}
 use Rattle.plan_model.specs.declared.geometry.Point.{Point}
 use Rattle.plan_model.specs.declared.limits.TheConstants.{MOST_WORKERS}
 use Rattle.plan_model.specs.declared.records.Outcome.{Outcome}
-use Rattle.plan_model.specs.declared.records.Outcome.TheVariants.{Placed, Same, Blocked}
+use Rattle.plan_model.specs.declared.records.Outcome.TheVariants.{Placed, Same, Blocked, Skipped}
 use Rattle.plan_model.specs.declared.records.Record.{Record}
 use Rattle.plan_model.specs.Spaces.Clearance.{Clear}
 use Rattle.plan_model.specs.Trees.PointsByNumber.{IsFree, IsPresent, StandsAt, point_of, node_count}
@@ -15,17 +15,20 @@ use Rattle.plan_model.specs.Geometry.Steering.{steered}
 use Rattle.plan_model.specs.Trees.TreeStates.{TreeState, GrowsInto}
 use Rattle.plan_model.specs.Runs.OrderLaw.{KeepsOrder}
 use Rattle.plan_model.specs.Runs.Outcomes.{is_placed}
-use Rattle.plan_model.specs.Runs.RecordLaw.{is_earlier, IsEarlier, earlier_count, IsBlockedLawfully, IsSteeredLawfully, HasLawfulOutcome, IsLawfulRecord}
+use Rattle.plan_model.specs.Runs.RecordLaw.{is_earlier, IsEarlier, earlier_count, IsBlockedLawfully, IsSkippedLawfully}
+use Rattle.plan_model.specs.Runs.RecordLaw.{IsSteeredLawfully, HasLawfulOutcome, IsLawfulRecord}
 use Rattle.plan_model.specs.Runs.ClosedLaw.{mark_at, IsClosed}
-use Rattle.plan_model.specs.Runs.Textbook.{Setup, SteersTo}
+use Rattle.plan_model.specs.Runs.Textbook.{Setup, MayBeCheaper, SteersTo}
 use Rattle.plan_model.specs.Runs.Turns.{turns_of}
+use Rattle.plan_model.proofs.ClosedLaws.{KeepsFirstCosts-closed}
+use Rattle.plan_model.proofs.GoalNodes.{IsGoalNode-before}
 use Rattle.plan_model.proofs.NodeCounts.{count-le_node_count}
 use Rattle.plan_model.proofs.TreeStateLaws.{IsPresent-grows, point_of-grows, StandsAt-before}
 use Rattle.plan_model.proofs.OrderLaws.{start-present}
 use Rattle.plan_model.proofs.LoweredCosts.{AddsRecord, LowersCosts, LowersCosts-adds_record, GrowsInto-lowered, KeepsOrder-lowered}
 use Rattle.plan_model.proofs.EarlierNodes.{earlier-present, HaveSameEarlier, is_earlier-same}
 use Rattle.plan_model.proofs.PlacedNodes.{record-of_present, present-of_record, ArePlacedMarks-from}
-use Rattle.plan_model.proofs.RecordLaws.{IsNotAbove-grows, IsLawfulRecord-grows}
+use Rattle.plan_model.proofs.RecordLaws.{IsNotAbove-grows, IsSkippedLawfully-grows, IsLawfulRecord-grows}
 use Rattle.plan_model.proofs.NextRecords.{RecordsMark, new_or_recorded, AreRecordedBelow-next}
 use Rattle.plan_model.proofs.WorkerTurns.{turn-below, AreTurns-next}
 
@@ -34,11 +37,12 @@ pub record IsBlockedAt (setup : Setup) (state : TreeState) (entry : Record) (p :
   pub free : IsFree state.points p
   pub blocked : ¬ Clear setup.space (point_of state.points entry.nearest) p
 
--- what the outcome says of a mark that is not placed
+-- what the outcome says of a mark that is steered to p and not placed
 abbrev pub EndsUnplaced : Setup → TreeState → Record → Point → Outcome → Type 0
 EndsUnplaced setup state entry p Placed = ⊥
 EndsUnplaced setup state entry p (Same j) = StandsAt state.points j p
 EndsUnplaced setup state entry p Blocked = IsBlockedAt setup state entry p
+EndsUnplaced setup state entry p Skipped = ⊥
 
 -- What the end of mark k leaves: the tree has grown in the order law, and the new record is lawful. If it was placed its node is
 -- there, and no other node is new.
@@ -166,16 +170,20 @@ module _ (setup : Setup) (marks : List Point) (k : ℕ) (before : TreeState) (cl
             count-le_node_count before.points early (length after.points) early-present,
           )
 
-      -- A mark is steered lawfully if it was steered to the point at which it ends.
+      -- A mark is steered lawfully if a path over it might be cheaper, and it was steered to the point at which it ends.
       pub IsSteeredLawfully-steers :
-          (mark p : Point) (EndsAt : Point → Type 0) → SteersTo setup before.points mark entry.nearest p → EndsAt p
-          → IsSteeredLawfully setup after mark entry EndsAt
-      IsSteeredLawfully-steers mark p EndsAt steers h =
+          (mark p : Point) (EndsAt : Point → Type 0) → MayBeCheaper setup before.cost before.points mark
+          → SteersTo setup before.points mark entry.nearest p → EndsAt p → IsSteeredLawfully setup after mark entry EndsAt
+      IsSteeredLawfully-steers mark p EndsAt cheaper steers h =
           let m : ℕ = entry.nearest in
           let same = point_of-grows before after grows m steers.nearest.member in
           let point : p ≡ steered (point_of after.points m) mark setup.step =
           steers.reached ∙ ap (λ a. steered a mark setup.step) (sym same) in
           record {
+            cheaper = λ i early goal.
+                let here = early-present i early in
+                let kept = (KeepsFirstCosts-closed setup marks k before closed).kept i here in
+                omega (arith, cheaper i (IsGoalNode-before setup.goals before after grows i here goal), kept, grows.first_costs i here);
             present = IsPresent-grows before after grows m steers.nearest.member;
             nearest = λ i early.
                 let here = early-present i early in
@@ -185,7 +193,7 @@ module _ (setup : Setup) (marks : List Point) (k : ℕ) (before : TreeState) (cl
 
     -- ---- marks that are not placed
 
-    module _ (mark p : Point) (steers : SteersTo setup before.points mark entry.nearest p) (adds : AddsRecord before after k entry) where
+    module _ (mark : Point) (adds : AddsRecord before after k entry) where
       lowers : LowersCosts setup before after
       lowers = LowersCosts-adds_record setup before after k entry closed.order adds
 
@@ -195,36 +203,48 @@ module _ (setup : Setup) (marks : List Point) (k : ℕ) (before : TreeState) (cl
       records_unplaced : RecordsMark before.record_of after.record_of k entry
       records_unplaced = record { absent = adds.absent; recorded = adds.recorded; others = adds.records }
 
-      -- what is blocked is so lawfully
-      blocked_lawfully : IsBlockedAt setup before entry p → IsBlockedLawfully setup after entry p
-      blocked_lawfully h = record {
-        blocked = λ clear.
-            let same = point_of-grows before after grows_unplaced entry.nearest steers.nearest.member in
-            h.blocked (subst (λ a. Clear setup.space a p) same clear);
-        free = λ i early stands.
-            let here = early-present records_unplaced grows_unplaced i early in
-            h.free i (StandsAt-before before after grows_unplaced i p here stands);
-      }
-
-      steered_lawfully : (EndsAt : Point → Type 0) → EndsAt p → IsSteeredLawfully setup after mark entry EndsAt
-      steered_lawfully EndsAt h = IsSteeredLawfully-steers records_unplaced grows_unplaced mark p EndsAt steers h
-
-      outcome_unplaced : (outcome : Outcome) → EndsUnplaced setup before entry p outcome → HasLawfulOutcome setup after k mark entry outcome
-      outcome_unplaced Placed h = absurd h
-      outcome_unplaced (Same j) h = steered_lawfully (StandsAt after.points j) (grows_unplaced.nodes j p h)
-      outcome_unplaced Blocked h = steered_lawfully (IsBlockedLawfully setup after entry) (blocked_lawfully h)
-
-      -- A mark that is not placed ends lawfully if its outcome is what it says.
-      pub EndsLawfully-unplaced :
-          is_placed entry.outcome ≡ false → EndsUnplaced setup before entry p entry.outcome → EndsLawfully setup before after k mark entry
-      EndsLawfully-unplaced unplaced h = record {
+      ends_unplaced : is_placed entry.outcome ≡ false → IsLawfulRecord setup after k mark entry → EndsLawfully setup before after k mark entry
+      ends_unplaced unplaced lawful = record {
         records = records_unplaced;
         order = KeepsOrder-lowered setup before after lowers closed.order;
         grows = grows_unplaced;
-        lawful = outcome_unplaced entry.outcome h;
+        lawful = lawful;
         others = λ j apart present. ap is_some (sym (lowers.still.points (suc j))) ∙ present;
         own = (
           (λ present. absurd (node-absent (ap is_some (sym (lowers.still.points (suc k))) ∙ present))),
           (λ placed. absurd (true≢false (sym (ap is_placed placed) ∙ unplaced))),
         );
       }
+
+      -- A mark that is skipped ends lawfully if a goal node costs no more than its bound.
+      pub EndsLawfully-skipped :
+          entry.outcome ≡ Skipped → IsSkippedLawfully setup before mark entry → EndsLawfully setup before after k mark entry
+      EndsLawfully-skipped skipped h =
+          ends_unplaced (ap is_placed skipped)
+          (subst (HasLawfulOutcome setup after k mark entry) (sym skipped) (IsSkippedLawfully-grows setup before after grows_unplaced entry mark h))
+
+      module _ (p : Point) (cheaper : MayBeCheaper setup before.cost before.points mark) (steers : SteersTo setup before.points mark entry.nearest p) where
+        -- what is blocked is so lawfully
+        blocked_lawfully : IsBlockedAt setup before entry p → IsBlockedLawfully setup after entry p
+        blocked_lawfully h = record {
+          blocked = λ clear.
+              let same = point_of-grows before after grows_unplaced entry.nearest steers.nearest.member in
+              h.blocked (subst (λ a. Clear setup.space a p) same clear);
+          free = λ i early stands.
+              let here = early-present records_unplaced grows_unplaced i early in
+              h.free i (StandsAt-before before after grows_unplaced i p here stands);
+        }
+
+        steered_lawfully : (EndsAt : Point → Type 0) → EndsAt p → IsSteeredLawfully setup after mark entry EndsAt
+        steered_lawfully EndsAt h = IsSteeredLawfully-steers records_unplaced grows_unplaced mark p EndsAt cheaper steers h
+
+        outcome_unplaced : (outcome : Outcome) → EndsUnplaced setup before entry p outcome → HasLawfulOutcome setup after k mark entry outcome
+        outcome_unplaced Placed h = absurd h
+        outcome_unplaced (Same j) h = steered_lawfully (StandsAt after.points j) (grows_unplaced.nodes j p h)
+        outcome_unplaced Blocked h = steered_lawfully (IsBlockedLawfully setup after entry) (blocked_lawfully h)
+        outcome_unplaced Skipped h = absurd h
+
+        -- A mark that is steered to and not placed ends lawfully if its outcome is what it says.
+        pub EndsLawfully-unplaced :
+            is_placed entry.outcome ≡ false → EndsUnplaced setup before entry p entry.outcome → EndsLawfully setup before after k mark entry
+        EndsLawfully-unplaced unplaced h = ends_unplaced unplaced (outcome_unplaced entry.outcome h)

@@ -2,6 +2,7 @@
 use Rattle.std.proofs.Common.{◌≡◌, ℕ, zero, suc, List, [], ◌∷◌, ◌++◌, Option, Some, refl, sym, ap, ◌∙◌, subst, arith, inr}
 use Rattle.std.specs.Prelude.{All, Contains, unwrap_or}
 use Rattle.std.proofs.lemmas.List.Elements.{All-cons, All-nil, All-contains}
+use Rattle.plan_model.specs.declared.geometry.Goal.{Goal}
 use Rattle.plan_model.specs.declared.geometry.Point.{Point}
 use Rattle.plan_model.specs.Spaces.EmptyRooms.{empty_room, IsInRoom}
 use Rattle.plan_model.specs.Geometry.Roots.{root_ceiling}
@@ -10,10 +11,10 @@ use Rattle.plan_model.specs.Geometry.Radius.{class_of}
 use Rattle.plan_model.specs.Trees.PointsByNumber.{point_of, IsFree, IsPresent, node_count}
 use Rattle.plan_model.specs.Trees.LeastPairs.{IsNotAbove}
 use Rattle.plan_model.specs.Trees.Nearness.{distance_to, IsNearest}
-use Rattle.plan_model.specs.Trees.NodeLists.{points_of}
-use Rattle.plan_model.specs.Runs.Textbook.{Nodes, near_new, cost_through, Rewires, EndsPlaced, placed_record}
+use Rattle.plan_model.specs.Trees.NodeLists.{points_of, sum_of}
+use Rattle.plan_model.specs.Runs.Textbook.{Nodes, MayBeCheaper, near_new, cost_through, Rewires, EndsPlaced, placed_record}
 use Rattle.plan_model.specs.Vectors.Shapes.{at}
-use Rattle.plan_model.specs.Vectors.Runs.{open_setup, node}
+use Rattle.plan_model.specs.Vectors.Runs.{open_setup, open_setup_to, node}
 use Rattle.plan_model.proofs.LeastPairLaws.{IsNotAbove-refl}
 use Rattle.plan_model.proofs.RootLaws.{root_ceiling-from_squares}
 use Rattle.plan_model.proofs.EmptyRoomClearance.{Clear-empty_room}
@@ -21,7 +22,8 @@ use Rattle.plan_model.proofs.EmptyRoomClearance.{Clear-empty_room}
 -- ---- marks in the open room
 
 -- what a mark that is placed at itself, within a step of its nearest node m, has to meet
-pub record IsPlaceable (tree : Nodes) (k m : ℕ) (p : Point) (f cost class : ℕ) (near : List ℕ) (after : Nodes) : Type 0 where
+pub record IsPlaceable (goals : List Goal) (tree : Nodes) (k m : ℕ) (p : Point) (f cost class : ℕ) (near : List ℕ) (after : Nodes) : Type 0 where
+  pub cheaper : MayBeCheaper (open_setup_to goals) (sum_of tree) (points_of tree) p
   pub nearest : IsNearest (points_of tree) p m
   pub reached : p ≡ steered (point_of (points_of tree) m) p 50
   pub free : IsFree (points_of tree) p
@@ -37,15 +39,17 @@ pub record IsPlaceable (tree : Nodes) (k m : ℕ) (p : Point) (f cost class : �
 
 -- such a mark is placed under node f, at that cost and class
 pub EndsPlaced-placeable :
-    (tree : Nodes) (k m : ℕ) (p : Point) (f cost class : ℕ) (near : List ℕ) (after : Nodes)
-    → IsPlaceable tree k m p f cost class near after → EndsPlaced open_setup tree k p (placed_record k m f cost class) after
-EndsPlaced-placeable tree k m p f cost class near after h =
+    (goals : List Goal) (tree : Nodes) (k m : ℕ) (p : Point) (f cost class : ℕ) (near : List ℕ) (after : Nodes)
+    → IsPlaceable goals tree k m p f cost class near after
+    → EndsPlaced (open_setup_to goals) tree k p (placed_record k m f cost class) after
+EndsPlaced-placeable goals tree k m p f cost class near after h =
     let points : List (Option Point) = points_of tree in
     let P : List ℕ → Type 0 = λ ns. Contains (m ∷ ns) f in
     let Q : List ℕ → Type 0 = λ ns. All (IsNotAbove (cost_through tree p) f) (m ∷ ns) in
     let R : List ℕ → Type 0 = λ ns. Rewires (empty_room (at 100 100)) (tree ++ node p f ∷ []) (suc k) ns after in
     let best = subst Q (sym h.are_near) h.best in
     record {
+      cheaper = h.cheaper;
       point = p;
       steers = record { nearest = h.nearest; reached = h.reached };
       free = h.free;
@@ -127,10 +131,13 @@ first_rewires : Rewires (empty_room (at 100 100)) two_nodes 1 (0 ∷ []) two_nod
 unfolding two_nodes
 first_rewires = (two_nodes, inr ((λ c. absurd (omega (arith, c.cheaper, back_to_start))), refl), refl)
 
--- the first mark is placed under the start
-pub first_mark : EndsPlaced open_setup one_node 0 (at 0 50) (placed_record 0 0 0 12800 1) two_nodes
+-- the first mark is placed under the start, if the start is in no goal by which it is skipped
+pub first_mark :
+    (goals : List Goal) → MayBeCheaper (open_setup_to goals) (sum_of one_node) (points_of one_node) (at 0 50)
+    → EndsPlaced (open_setup_to goals) one_node 0 (at 0 50) (placed_record 0 0 0 12800 1) two_nodes
 unfolding one_node two_nodes
-first_mark = EndsPlaced-placeable one_node 0 0 (at 0 50) 0 12800 1 (0 ∷ []) two_nodes (record {
+first_mark goals cheaper = EndsPlaced-placeable goals one_node 0 0 (at 0 50) 0 12800 1 (0 ∷ []) two_nodes (record {
+  cheaper = cheaper;
   nearest = record { member = refl; not_above = first_is_near };
   reached = refl;
   free = first_is_free;

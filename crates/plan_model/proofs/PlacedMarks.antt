@@ -16,7 +16,7 @@ use Rattle.plan_model.specs.Runs.OrderLaw.{IsAllowedEdge, Hangs, KeepsOrder, Kee
 use Rattle.plan_model.specs.Runs.RecordLaw.{earlier_count, IsNeighbour, first_cost_through, IsChosenLawfully, HangsLawfully}
 use Rattle.plan_model.specs.Runs.RecordLaw.{IsPlacedLawfully, IsSteeredLawfully, HasLawfulOutcome}
 use Rattle.plan_model.specs.Runs.ClosedLaw.{IsClosed}
-use Rattle.plan_model.specs.Runs.Textbook.{Setup, near_new, IsCandidate, SteersTo}
+use Rattle.plan_model.specs.Runs.Textbook.{Setup, MayBeCheaper, near_new, IsCandidate, SteersTo}
 use Rattle.plan_model.proofs.NewNodes.{IsPresent-stands}
 use Rattle.plan_model.proofs.OrderLaws.{Hangs-grows}
 use Rattle.plan_model.proofs.TreeStateLaws.{point_at-grows, point_of-grows, node_count-grows}
@@ -33,6 +33,7 @@ kept_cost_through state p i = cost_through_by state.cost state.points p i
 
 -- A parent for a new node at p is chosen by kept costs: the candidate with the least pair of cost through it and number.
 pub record ChoosesParent (setup : Setup) (before : TreeState) (mark : Point) (entry : Record) (p : Point) : Type 0 where
+  pub cheaper : MayBeCheaper setup before.cost before.points mark
   pub steers : SteersTo setup before.points mark entry.nearest p
   pub clear : Clear setup.space (point_of before.points entry.nearest) p
   pub parent : IsFirstLeast (kept_cost_through before p) (IsCandidate setup before.points entry.nearest p) entry.first_parent
@@ -162,7 +163,7 @@ module _
     placed_lawfully : IsSteeredLawfully setup after mark entry (IsPlacedLawfully setup after k entry)
     placed_lawfully =
         IsSteeredLawfully-steers setup marks k before closed after entry leaves.records leaves.grows mark p
-        (IsPlacedLawfully setup after k entry) chooses.steers (record { by_worker = chosen_lawfully; by_tree = hangs_lawfully })
+        (IsPlacedLawfully setup after k entry) chooses.cheaper chooses.steers (record { by_worker = chosen_lawfully; by_tree = hangs_lawfully })
 
     -- A placed mark ends lawfully.
     pub EndsLawfully-placed : entry.outcome ≡ Placed → EndsLawfully setup before after k mark entry

@@ -3,7 +3,7 @@ use Rattle.std.proofs.Common.{◌≡◌, ℕ, suc, Bool, true, false, Option, So
 use Rattle.std.specs.Prelude.{◌↔◌, is_some}
 use Rattle.std.proofs.lemmas.Bool.{false_from_ne_true, true≢false}
 use Rattle.plan_model.specs.declared.records.Outcome.{Outcome}
-use Rattle.plan_model.specs.declared.records.Outcome.TheVariants.{Placed, Same, Blocked}
+use Rattle.plan_model.specs.declared.records.Outcome.TheVariants.{Placed, Same, Blocked, Skipped}
 use Rattle.plan_model.specs.declared.records.Record.{Record}
 use Rattle.plan_model.specs.Runs.Outcomes.{is_placed}
 use Rattle.plan_model.specs.Trees.PointsByNumber.{IsPresent, point_at}
@@ -15,6 +15,7 @@ pub is_placed-true : (outcome : Outcome) → is_placed outcome ≡ true → outc
 is_placed-true Placed h = refl
 is_placed-true (Same j) h = cc
 is_placed-true Blocked h = cc
+is_placed-true Skipped h = cc
 
 -- a mark that counts as placed has a record of that
 pub placed_record : (o : Option Record) → has_outcome is_placed o ≡ true → (entry : Record) × (o ≡ Some entry) × (entry.outcome ≡ Placed)

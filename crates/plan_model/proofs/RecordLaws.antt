@@ -4,23 +4,25 @@ use Rattle.std.specs.Prelude.{IsTrue}
 use Rattle.std.proofs.lemmas.Int.Digits.{length-digits_of-le}
 use Rattle.plan_model.specs.declared.geometry.Point.{Point}
 use Rattle.plan_model.specs.declared.records.Outcome.{Outcome}
-use Rattle.plan_model.specs.declared.records.Outcome.TheVariants.{Placed, Same, Blocked}
+use Rattle.plan_model.specs.declared.records.Outcome.TheVariants.{Placed, Same, Blocked, Skipped}
 use Rattle.plan_model.specs.declared.records.Record.{Record}
 use Rattle.plan_model.specs.Spaces.Clearance.{Clear}
 use Rattle.plan_model.specs.Geometry.Cost.{cost_of}
 use Rattle.plan_model.specs.Geometry.Plane.{squared_distance}
 use Rattle.plan_model.specs.Trees.LeastPairs.{IsNotAbove}
 use Rattle.plan_model.specs.Trees.Nearness.{distance_to, is_within}
-use Rattle.plan_model.specs.Trees.PointsByNumber.{IsPresent, StandsAt, point_of, node_count}
+use Rattle.plan_model.specs.Trees.PointsByNumber.{IsPresent, StandsAt, point_at, point_of, node_count}
 use Rattle.plan_model.specs.Geometry.Radius.{class_of, radius_of_class}
 use Rattle.plan_model.specs.Geometry.Steering.{steered}
 use Rattle.plan_model.specs.Trees.TreeStates.{TreeState, GrowsInto}
 use Rattle.plan_model.specs.Runs.OrderLaw.{most_cost_of}
 use Rattle.plan_model.specs.Runs.RecordLaw.{IsEarlier, IsNeighbour, first_cost_through, IsChosenLawfully, HangsLawfully, IsBlockedLawfully}
-use Rattle.plan_model.specs.Runs.RecordLaw.{IsPlacedLawfully, IsSteeredLawfully, HasLawfulOutcome, IsLawfulRecord}
+use Rattle.plan_model.specs.Runs.RecordLaw.{IsPlacedLawfully, IsSkippedLawfully, IsSteeredLawfully, HasLawfulOutcome, IsLawfulRecord}
 use Rattle.plan_model.specs.Runs.Textbook.{Setup}
+use Rattle.plan_model.proofs.BestNodeLaws.{IsPresent-goal}
 use Rattle.plan_model.proofs.ClassLaws.{below_digits}
 use Rattle.plan_model.proofs.EarlierNodes.{HaveSameEarlier, earlier_count-same}
+use Rattle.plan_model.proofs.GoalNodes.{IsGoalNode-grows, IsGoalNode-before}
 use Rattle.plan_model.proofs.NewNodes.{IsPresent-stands}
 use Rattle.plan_model.proofs.OrderLaws.{most_cost_of-le, Hangs-grows}
 use Rattle.plan_model.proofs.TreeStateLaws.{IsPresent-grows, point_at-grows, point_of-grows, StandsAt-before, cost-grows, node_count-grows}
@@ -37,6 +39,17 @@ IsNotAbove-grows before after grows mark m i own here h =
     let near = ap (λ a. squared_distance a mark) (point_of-grows before after grows m own) in
     let other = ap (λ a. squared_distance a mark) (point_of-grows before after grows i here) in
     record { least = omega (arith, near, other, h.least); first = λ e. h.first (omega (arith, near, other, e)) }
+
+-- the goal node by which a mark was skipped stays one, and costs no more
+pub IsSkippedLawfully-grows :
+    (setup : Setup) (before after : TreeState) (grows : GrowsInto before after) (entry : Record) (mark : Point)
+    → IsSkippedLawfully setup before mark entry → IsSkippedLawfully setup after mark entry
+IsSkippedLawfully-grows setup before after grows entry mark h =
+    let here = IsPresent-goal setup.goals (point_at before.points entry.nearest) h.goal in
+    record {
+      goal = IsGoalNode-grows setup.goals before after grows entry.nearest h.goal;
+      within = omega (arith, h.within, cost-grows before after grows entry.nearest here);
+    }
 
 module _ (setup : Setup) (before after : TreeState) (grows : GrowsInto before after) (entry : Record) (same : HaveSameEarlier before after entry) where
   was_earlier : (i : ℕ) → IsEarlier after entry i → IsEarlier before entry i
@@ -123,6 +136,10 @@ module _ (setup : Setup) (before after : TreeState) (grows : GrowsInto before af
       (mark : Point) (EndedAt EndsAt : Point → Type 0) → (IsPresent before.points entry.nearest → (p : Point) → EndedAt p → EndsAt p)
       → IsSteeredLawfully setup before mark entry EndedAt → IsSteeredLawfully setup after mark entry EndsAt
   IsSteeredLawfully-grows mark EndedAt EndsAt stays h = record {
+    cheaper = λ i early goal.
+        let was = was_earlier i early in
+        let here = same.present i was in
+        omega (arith, h.cheaper i was (IsGoalNode-before setup.goals before after grows i here goal), grows.first_costs i here);
     present = IsPresent-grows before after grows entry.nearest h.present;
     nearest = λ i early.
         let was = was_earlier i early in
@@ -148,6 +165,7 @@ module _ (setup : Setup) (before after : TreeState) (grows : GrowsInto before af
   HasLawfulOutcome-grows k mark Blocked h =
       IsSteeredLawfully-grows mark (IsBlockedLawfully setup before entry) (IsBlockedLawfully setup after entry)
       (λ nearest p blocked. IsBlockedLawfully-grows p nearest blocked) h
+  HasLawfulOutcome-grows k mark Skipped h = IsSkippedLawfully-grows setup before after grows entry mark h
 
   -- A lawful record stays lawful.
   pub IsLawfulRecord-grows : (k : ℕ) (mark : Point) → IsLawfulRecord setup before k mark entry → IsLawfulRecord setup after k mark entry

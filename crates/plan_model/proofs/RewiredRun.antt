@@ -1,13 +1,16 @@
 -- The run in which node 2 gets a cheaper way through node 3.
-use Rattle.std.proofs.Common.{◌≡◌, [], ◌∷◌, refl, arith, inl}
+use Rattle.std.proofs.Common.{◌≡◌, List, [], ◌∷◌, refl, arith, inl}
+use Rattle.plan_model.specs.declared.geometry.Goal.{Goal}
+use Rattle.plan_model.specs.declared.geometry.Point.{Point}
+use Rattle.plan_model.specs.declared.records.Record.{Record}
 use Rattle.plan_model.specs.Spaces.EmptyRooms.{empty_room}
 use Rattle.plan_model.specs.Trees.NodeLists.{sum_of}
-use Rattle.plan_model.specs.Runs.Textbook.{cost_through, IsCheaperThrough, Rewires, IsTextbookRun}
+use Rattle.plan_model.specs.Runs.Textbook.{Nodes, HandlesAll, placed_record, cost_through, IsCheaperThrough, Rewires, IsTextbookRun}
 use Rattle.plan_model.specs.Vectors.Shapes.{at}
-use Rattle.plan_model.specs.Vectors.Runs.{open_setup, marks_to_rewire, rewired_tree, rewired_records}
+use Rattle.plan_model.specs.Vectors.Runs.{open_setup, open_setup_to, marks_to_rewire, rewired_tree, rewired_records}
 use Rattle.plan_model.proofs.EmptyRoomClearance.{Clear-empty_room}
 use Rattle.plan_model.proofs.OpenRoomMarks.{cost_2500, cost_2441, cost_2401, two_nodes}
-use Rattle.plan_model.proofs.ThreeMarks.{StandsAbove, three_nodes, four_nodes, IsTextbookRun-three}
+use Rattle.plan_model.proofs.ThreeMarks.{StandsAbove, AreOpen, AreOpen-not_skipping, three_nodes, four_nodes, IsTextbookRun-more, IsTextbookRun-three}
 
 second_mark : StandsAbove (at 40 79) 25449
 unfolding two_nodes three_nodes
@@ -50,9 +53,17 @@ node_2_moves : Rewires (empty_room (at 100 100)) (four_nodes (at 40 79)) 3 (2 �
 unfolding four_nodes
 node_2_moves = (rewired_tree, inl (is_cheaper, refl), refl)
 
+-- the three marks, and more after them
+pub rewired_run_with_more :
+    (goals : List Goal) → AreOpen goals (at 40 79) → (marks : List Point) (entries : List Record) (end : Nodes)
+    → HandlesAll (open_setup_to goals) 3 rewired_tree marks entries end
+    → IsTextbookRun (open_setup_to goals) (at 0 50 ∷ at 40 79 ∷ at 40 30 ∷ marks) end
+    (placed_record 0 0 0 12800 1 ∷ placed_record 1 1 1 25449 2 ∷ placed_record 2 1 0 12800 2 ∷ entries)
+rewired_run_with_more goals are_open = IsTextbookRun-more goals (at 40 79) 25449 second_mark are_open rewired_tree node_2_moves
+
 -- the three marks, one after another
 pub rewired_run : IsTextbookRun open_setup marks_to_rewire rewired_tree rewired_records
-rewired_run = IsTextbookRun-three (at 40 79) 25449 second_mark rewired_tree node_2_moves
+rewired_run = IsTextbookRun-three [] (at 40 79) 25449 second_mark (AreOpen-not_skipping (at 40 79)) rewired_tree node_2_moves
 
 -- what node 2 costs in the end
 pub rewired_sum : sum_of rewired_tree 2 ≡ 25344

@@ -138,14 +138,20 @@ module _ (setup : Setup) (one other : TreeState) (order : KeepsOrder setup one) 
         ∙ ap (λ nodes. (short_report scene limit one ++ nodes) ++ mark_lines limit other) (node_lines-same limit)
         ∙ ap (λ marks. (short_report scene limit one ++ node_lines limit one) ++ marks) (mark_lines-same limit)
 
--- ---- scenes with the same goals
+-- ---- scenes with the same goals, of which both are informed or neither
 
-module _ (one other : Scene) (limit : ℕ) (state : TreeState) (h : goals_of other ≡ goals_of one) where
+module _
+    (one other : Scene) (limit : ℕ) (state : TreeState) (h : goals_of other ≡ goals_of one) (informed : other.informed ≡ one.informed) where
+  counts_line-same_goals : counts_line other limit state ≡ counts_line one limit state
+  counts_line-same_goals = rw informed refl
+
   -- They have the same short report of a tree,
   pub short_report-same_goals : short_report other limit state ≡ short_report one limit state
   short_report-same_goals =
       ap (λ goals. (head_line state (best_node goals limit state) ++ point_lines (best_path state (best_node goals limit state)))
-      ++ counts_line one limit state) h
+      ++ counts_line other limit state) h
+      ∙ ap (λ counts. (head_line state (best_node (goals_of one) limit state) ++ point_lines (best_path state (best_node (goals_of one) limit state)))
+      ++ counts) counts_line-same_goals
 
   -- the same report, short or full,
   pub report_text-same_goals : (full : Bool) → report_text full other limit state ≡ report_text full one limit state
@@ -154,7 +160,9 @@ module _ (one other : Scene) (limit : ℕ) (state : TreeState) (h : goals_of oth
 
   -- and the same summary.
   pub summary-same_goals : summary other limit state ≡ summary one limit state
-  summary-same_goals = ap (λ goals. head_line state (best_node goals limit state) ++ counts_line one limit state) h
+  summary-same_goals =
+      ap (λ goals. head_line state (best_node goals limit state) ++ counts_line other limit state) h
+      ∙ ap (λ counts. head_line state (best_node (goals_of one) limit state) ++ counts) counts_line-same_goals
 
 -- ---- the textbook run
 

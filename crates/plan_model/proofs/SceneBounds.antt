@@ -1,10 +1,13 @@
 -- What a scene of either version may have is within what is counted on: distances of its points can be taken, points are steered by its
 -- step, and its obstacles go into Minkowski sums.
-use Rattle.std.proofs.Common.{◌≡◌, ◌≤◌, ◌&&◌, Bool, ℕ, true, false, eqb, cond, length, List, [], ◌∷◌, refl, subst, sym, arith}
-use Rattle.std.specs.Prelude.{ℤ, ◌≤ℤ◌, int_le, nat_le}
+use Rattle.std.proofs.Common.{◌≡◌, ◌<◌, ◌≤◌, ◌&&◌, Bool, ℕ, true, false, eqb, cond, length, List, [], ◌∷◌, refl, subst, sym, arith}
+use Rattle.std.specs.Prelude.{All, ℤ, ◌≤ℤ◌, int_le, nat_le}
 use Rattle.std.specs.List.{list_all}
 use Rattle.std.proofs.lemmas.Bool.{and_parts, and_from, leb-true}
 use Rattle.std.proofs.lemmas.Int.{ints}
+use Rattle.std.proofs.lemmas.List.Elements.{All-weaker}
+use Rattle.std.proofs.lemmas.List.Sums.{AllPass-from_list_all}
+use Rattle.plan_model.specs.declared.geometry.Goal.{Goal}
 use Rattle.plan_model.specs.declared.geometry.Point.{Point}
 use Rattle.plan_model.specs.declared.geometry.Vertex.{Vertex}
 use Rattle.plan_model.specs.declared.scenes.Scene.{Scene}
@@ -12,11 +15,11 @@ use Rattle.plan_model.specs.declared.limits.TheConstants.{LEAST_OBSTACLE_COORDIN
 use Rattle.plan_model.specs.declared.limits.TheConstants.{MOST_CLEARANCE, MOST_COORDINATE, MOST_OBSTACLE_COORDINATE, MOST_OBSTACLE_COORDINATE_OF_VERSION_2}
 use Rattle.plan_model.specs.declared.limits.TheConstants.{MOST_OBSTACLE_CORNERS, MOST_SIDE, MOST_SIDE_OF_VERSION_2, MOST_STEERING_STEP, MOST_STEP}
 use Rattle.plan_model.specs.declared.limits.TheConstants.{MOST_STEP_OF_VERSION_2, MOST_SUMMAND_COORDINATE}
-use Rattle.plan_model.specs.Geometry.Bounds.{IsBounded}
+use Rattle.plan_model.specs.Geometry.Bounds.{IsBounded, IsBoundedBox}
 use Rattle.plan_model.specs.Geometry.Convexity.{is_strictly_convex}
 use Rattle.plan_model.specs.Spaces.EmptyRooms.{IsInRoom}
-use Rattle.plan_model.specs.Scenes.Limits.{is_corner_between, is_mark, is_obstacle, least_obstacle_coordinate, most_obstacle_coordinate, most_side}
-use Rattle.plan_model.specs.Scenes.Limits.{most_clearance, most_step}
+use Rattle.plan_model.specs.Scenes.Limits.{is_corner_between, is_goal, is_mark, is_obstacle, least_obstacle_coordinate, most_obstacle_coordinate, most_side}
+use Rattle.plan_model.specs.Scenes.Limits.{most_clearance, most_goals, most_step}
 
 -- ---- the limits of either version
 
@@ -77,6 +80,36 @@ IsBounded-listed version p h =
     let right = leb-true p.x (most_side version) parts.0 in
     let top = leb-true p.y (most_side version) parts.1 in
     record { right = omega (arith, right, most); top = omega (arith, top, most) }
+
+-- a goal that a scene may have
+pub IsBoundedBox-goal : (version : ℕ) (goal : Goal) → is_goal version goal ≡ true → IsBoundedBox goal
+IsBoundedBox-goal version goal h =
+    let most = most_side-counted version in
+    let parts = and_parts _ _ h in
+    let high = and_parts _ _ parts.0 in
+    let low = and_parts _ _ parts.1 in
+    let right = leb-true goal.high.x (most_side version) high.0 in
+    let top = leb-true goal.high.y (most_side version) high.1 in
+    record {
+      across = leb-true _ _ low.0;
+      up = leb-true _ _ low.1;
+      high = record { right = omega (arith, right, most); top = omega (arith, top, most) };
+    }
+
+-- each goal of a scene is so,
+pub All-goals_bounded : (scene : Scene) → All IsBoundedBox scene.goals
+All-goals_bounded scene =
+    let parts = and_parts _ _ scene.goals_within in
+    All-weaker (λ goal. is_goal scene.version goal ≡ true) IsBoundedBox (IsBoundedBox-goal scene.version) scene.goals
+    (AllPass-from_list_all (is_goal scene.version) scene.goals parts.1)
+
+-- and there is one at least
+pub goals-some : (scene : Scene) → 0 < length scene.goals
+goals-some scene =
+    let parts = and_parts (nat_le 1 (length scene.goals) && nat_le (length scene.goals) (most_goals scene.version))
+    (list_all (is_goal scene.version) scene.goals) scene.goals_within in
+    let count = and_parts (nat_le 1 (length scene.goals)) (nat_le (length scene.goals) (most_goals scene.version)) parts.0 in
+    omega (arith, leb-true 1 (length scene.goals) count.0)
 
 pub step-steers : (scene : Scene) → scene.step ≤ MOST_STEERING_STEP
 step-steers scene = omega (arith, scene.step_high, most_step-counted scene.version)

@@ -1,9 +1,8 @@
 -- Settled runs: what stays while one grows into another, and that a textbook run is settled already.
 use Rattle.std.proofs.Common.{◌≡◌, ℕ, ◌≤◌, List, arith, sym, ap, ◌∙◌, subst}
-use Rattle.std.specs.Prelude.{IsTrue}
 use Rattle.plan_model.specs.declared.geometry.Point.{Point}
 use Rattle.plan_model.specs.declared.geometry.Goal.{Goal}
-use Rattle.plan_model.specs.Trees.BestNode.{IsBestNode, IsGoalNode, is_goal_point}
+use Rattle.plan_model.specs.Trees.BestNode.{IsBestNode}
 use Rattle.plan_model.specs.Spaces.Clearance.{ClearAt}
 use Rattle.plan_model.specs.Trees.PointsByNumber.{IsPresent, point_at}
 use Rattle.plan_model.specs.Runs.SameRuns.{IsOfTextbookRun}
@@ -11,8 +10,9 @@ use Rattle.plan_model.specs.Runs.Textbook.{Setup}
 use Rattle.plan_model.specs.Trees.TreeStates.{AreSameRuns, ChangesCosts, GrowsInto, IsSettled, TreeState, state_of, sum_in}
 use Rattle.plan_model.specs.Trees.NodeLists.{sum_by}
 use Rattle.plan_model.proofs.BestNodeLaws.{IsPresent-goal}
+use Rattle.plan_model.proofs.GoalNodes.{IsGoalNode-grows}
 use Rattle.plan_model.proofs.SameTrees.{AreSameRuns-trans, IsSettled-of_textbook}
-use Rattle.plan_model.proofs.TreeStateLaws.{IsPresent-grows, cost-grows, point_at-grows}
+use Rattle.plan_model.proofs.TreeStateLaws.{IsPresent-grows, cost-grows}
 
 -- no sum rises
 pub sum_in-grows :
@@ -24,13 +24,6 @@ sum_in-grows before after grows settled settled_after n here =
     let is = settled_after n (IsPresent-grows before after grows n here) in
     let first : sum_in after n ≤ before.cost n = subst (λ c. c ≤ before.cost n) is falls in
     subst (λ c. sum_in after n ≤ c) was first
-
--- goal nodes stay
-pub IsGoalNode-grows :
-    (goals : List Goal) (before after : TreeState) → GrowsInto before after
-    → (n : ℕ) → IsGoalNode goals before.points n → IsGoalNode goals after.points n
-IsGoalNode-grows goals before after grows n goal =
-    subst (λ o. IsTrue (is_goal_point goals o)) (sym (point_at-grows before after grows n (IsPresent-goal goals (point_at before.points n) goal))) goal
 
 le-through : (l m n : ℕ) → l ≤ m → m ≤ n → l ≤ n
 le-through l m n f g = omega arith

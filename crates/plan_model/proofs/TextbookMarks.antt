@@ -9,7 +9,7 @@ use Rattle.std.proofs.lemmas.Option.{slice_get-get_or}
 use Rattle.plan_model.specs.declared.geometry.Point.{Point}
 use Rattle.plan_model.specs.declared.limits.TheConstants.{MOST_WORKERS}
 use Rattle.plan_model.specs.declared.records.Outcome.{Outcome}
-use Rattle.plan_model.specs.declared.records.Outcome.TheVariants.{Placed, Same, Blocked}
+use Rattle.plan_model.specs.declared.records.Outcome.TheVariants.{Placed, Same, Blocked, Skipped}
 use Rattle.plan_model.specs.declared.records.Record.{Record}
 use Rattle.plan_model.specs.declared.trees.Twig.{Twig}
 use Rattle.plan_model.specs.Spaces.Clearance.{Clear}
@@ -21,7 +21,7 @@ use Rattle.plan_model.specs.Trees.TreeStates.{TreeState, GrowsInto, state_of}
 use Rattle.plan_model.specs.Runs.OrderLaw.{KeepsOrder}
 use Rattle.plan_model.specs.Runs.Outcomes.{is_placed}
 use Rattle.plan_model.specs.Runs.ClosedLaw.{mark_at, IsClosed}
-use Rattle.plan_model.specs.Runs.Textbook.{Nodes, Setup, near_new, SteersTo, EndsPlaced, Ends}
+use Rattle.plan_model.specs.Runs.Textbook.{Nodes, Setup, MayBeCheaper, near_new, SteersTo, EndsPlaced, EndsSkipped, Ends}
 use Rattle.plan_model.proofs.CostLaws.{cost_of-swap}
 use Rattle.plan_model.proofs.SegmentLaws.{Clear-back}
 use Rattle.plan_model.proofs.CountsBelow.{count-all}
@@ -31,7 +31,7 @@ use Rattle.plan_model.proofs.AddedNodes.{AddsNode, GrowsInto-adds, KeepsOrder-ad
 use Rattle.plan_model.proofs.ClosedLaws.{KeepsFirstCosts-closed}
 use Rattle.plan_model.proofs.NearNodes.{squared_distance-swap, IsReachable, near_new-reachable}
 use Rattle.plan_model.proofs.NextRecords.{new_or_recorded}
-use Rattle.plan_model.proofs.NextMarks.{EndsLawfully, EndsUnplaced, IsClosed-next, EndsLawfully-unplaced}
+use Rattle.plan_model.proofs.NextMarks.{EndsLawfully, EndsUnplaced, IsClosed-next, EndsLawfully-unplaced, EndsLawfully-skipped}
 use Rattle.plan_model.proofs.PlacedMarks.{ChoosesParent, LeavesPlaced, parent-reachable, parent-allowed, EndsLawfully-placed}
 use Rattle.plan_model.proofs.TextbookStates.{RecordsNext, RecordsMark-push, AddsRecord-unplaced, PlacesNode, sum-placed, AddsNode-placed}
 use Rattle.plan_model.proofs.TextbookRewiring.{MayRewire, IsReached, Relaxes, Relaxes-all, AreReached-all}
@@ -101,17 +101,30 @@ module _
 
   -- A mark that is not placed ends in its turn.
   EndsInTurn-unplaced :
-      (mark p : Point) (outcome : Outcome) → SteersTo setup (points_of tree) mark entry.nearest p → after ≡ tree ++ None ∷ []
-      → entry.worker ≡ 0 → entry.turn ≡ k → entry.outcome ≡ outcome → is_placed outcome ≡ false → EndsUnplaced setup before_mark entry p outcome
+      (mark p : Point) (outcome : Outcome) → MayBeCheaper setup (sum_of tree) (points_of tree) mark
+      → SteersTo setup (points_of tree) mark entry.nearest p → after ≡ tree ++ None ∷ [] → entry.worker ≡ 0 → entry.turn ≡ k
+      → entry.outcome ≡ outcome → is_placed outcome ≡ false → EndsUnplaced setup before_mark entry p outcome
       → EndsInTurn setup k tree records mark entry after
-  EndsInTurn-unplaced mark p outcome steers added worker turn e unplaced h = record {
+  EndsInTurn-unplaced mark p outcome cheaper steers added worker turn e unplaced h = record {
     nodes = omega (arith, ap length added, length-append tree (None ∷ []), so_far.next.nodes);
     worker = worker;
     turn = turn;
     lawfully =
-        EndsLawfully-unplaced setup marks k before_mark so_far.closed after_mark entry mark p steers
-        (AddsRecord-unplaced tree records k entry so_far.next after added) (ap is_placed e ∙ unplaced)
+        EndsLawfully-unplaced setup marks k before_mark so_far.closed after_mark entry mark
+        (AddsRecord-unplaced tree records k entry so_far.next after added) p cheaper steers (ap is_placed e ∙ unplaced)
         (subst (EndsUnplaced setup before_mark entry p) (sym e) h);
+  }
+
+  -- A skipped mark ends in its turn.
+  EndsInTurn-skipped : (mark : Point) → EndsSkipped setup tree k mark entry after → EndsInTurn setup k tree records mark entry after
+  EndsInTurn-skipped mark ends = record {
+    nodes = omega (arith, ap length ends.added, length-append tree (None ∷ []), so_far.next.nodes);
+    worker = ap (λ r. r.worker) ends.recorded;
+    turn = ap (λ r. r.turn) ends.recorded;
+    lawfully =
+        EndsLawfully-skipped setup marks k before_mark so_far.closed after_mark entry mark
+        (AddsRecord-unplaced tree records k entry so_far.next after ends.added) (ap (λ r. r.outcome) ends.recorded)
+        (record { goal = ends.best.member; within = ends.within });
   }
 
   -- ---- placed marks
@@ -131,6 +144,7 @@ module _
 
     chooses : ChoosesParent setup before_mark mark entry p
     chooses = record {
+      cheaper = ends.cheaper;
       steers = ends.steers;
       clear = ends.clear;
       parent = ends.parent;
@@ -243,11 +257,12 @@ module _
   EndsInTurn-textbook : (mark : Point) (outcome : Outcome) → Ends setup tree k mark outcome entry after → EndsInTurn setup k tree records mark entry after
   EndsInTurn-textbook mark Placed ends = EndsInTurn-placed mark ends
   EndsInTurn-textbook mark (Same j) ends =
-      EndsInTurn-unplaced mark ends.point (Same j) ends.steers ends.added (ap (λ r. r.worker) ends.recorded) (ap (λ r. r.turn) ends.recorded)
-      (ap (λ r. r.outcome) ends.recorded) refl ends.stands
+      EndsInTurn-unplaced mark ends.point (Same j) ends.cheaper ends.steers ends.added (ap (λ r. r.worker) ends.recorded)
+      (ap (λ r. r.turn) ends.recorded) (ap (λ r. r.outcome) ends.recorded) refl ends.stands
   EndsInTurn-textbook mark Blocked ends =
-      EndsInTurn-unplaced mark ends.point Blocked ends.steers ends.added (ap (λ r. r.worker) ends.recorded) (ap (λ r. r.turn) ends.recorded)
-      (ap (λ r. r.outcome) ends.recorded) refl (record { free = ends.free; blocked = ends.blocked })
+      EndsInTurn-unplaced mark ends.point Blocked ends.cheaper ends.steers ends.added (ap (λ r. r.worker) ends.recorded)
+      (ap (λ r. r.turn) ends.recorded) (ap (λ r. r.outcome) ends.recorded) refl (record { free = ends.free; blocked = ends.blocked })
+  EndsInTurn-textbook mark Skipped ends = EndsInTurn-skipped mark ends
 
   -- So the run comes to the next mark.
   pub IsTextbookSoFar-ends :

@@ -1,8 +1,10 @@
 -- The second and the third mark of the worked runs, by where node 2 stands, and the run of all three marks.
-use Rattle.std.proofs.Common.{◌≡◌, ℕ, zero, suc, ◌<◌, [], ◌∷◌, refl, arith, inr}
+use Rattle.std.proofs.Common.{◌≡◌, ℕ, zero, suc, ◌<◌, List, [], ◌∷◌, refl, arith, inr}
 use Rattle.std.specs.Prelude.{All}
 use Rattle.std.proofs.lemmas.List.Elements.{All-cons, All-nil}
+use Rattle.plan_model.specs.declared.geometry.Goal.{Goal}
 use Rattle.plan_model.specs.declared.geometry.Point.{Point}
+use Rattle.plan_model.specs.declared.records.Record.{Record}
 use Rattle.plan_model.specs.Spaces.EmptyRooms.{empty_room, IsInRoom}
 use Rattle.plan_model.specs.Geometry.Plane.{squared_distance}
 use Rattle.plan_model.specs.Trees.PointsByNumber.{IsFree, IsPresent}
@@ -10,9 +12,10 @@ use Rattle.plan_model.specs.Trees.LeastPairs.{IsNotAbove}
 use Rattle.plan_model.specs.Trees.Nearness.{distance_to}
 use Rattle.plan_model.specs.Geometry.Steering.{steered}
 use Rattle.plan_model.specs.Trees.NodeLists.{points_of, sum_of}
-use Rattle.plan_model.specs.Runs.Textbook.{Nodes, near_new, cost_through, Rewires, EndsPlaced, placed_record, IsTextbookRun}
+use Rattle.plan_model.specs.Runs.Textbook.{Nodes, MayBeCheaper, near_new, cost_through, Rewires, EndsPlaced, HandlesAll, placed_record, IsTextbookRun}
 use Rattle.plan_model.specs.Vectors.Shapes.{at}
-use Rattle.plan_model.specs.Vectors.Runs.{open_setup, node}
+use Rattle.plan_model.specs.Vectors.Runs.{open_setup, open_setup_to, node}
+use Rattle.plan_model.proofs.GoalNodes.{no_goal_node}
 use Rattle.plan_model.proofs.LeastPairLaws.{IsNotAbove-refl, IsNotAbove-lesser}
 use Rattle.plan_model.proofs.OpenRoomMarks.{EndsPlaced-placeable, same_x, same_y, cost_2500, cost_2000, one_node, two_nodes, first_mark}
 
@@ -38,7 +41,21 @@ pub record StandsAbove (p : Point) (cost : ℕ) : Type 0 where
   pub way_back : sum_of (three_nodes p) 1 < cost_through (three_nodes p) (at 0 50) 2
   pub way_down : 12800 < cost_through (three_nodes p) (at 40 30) 2
 
-module _ (p : Point) (cost : ℕ) (above : StandsAbove p cost) where
+-- no goal node is there that costs no more than the bound of the mark which comes next
+pub record AreOpen (goals : List Goal) (p : Point) : Type 0 where
+  pub first : MayBeCheaper (open_setup_to goals) (sum_of one_node) (points_of one_node) (at 0 50)
+  pub second : MayBeCheaper (open_setup_to goals) (sum_of two_nodes) (points_of two_nodes) p
+  pub third : MayBeCheaper (open_setup_to goals) (sum_of (three_nodes p)) (points_of (three_nodes p)) (at 40 30)
+
+-- as where no mark is skipped
+pub AreOpen-not_skipping : (p : Point) → AreOpen [] p
+AreOpen-not_skipping p = record {
+  first = λ i goal. absurd (no_goal_node (points_of one_node) i goal);
+  second = λ i goal. absurd (no_goal_node (points_of two_nodes) i goal);
+  third = λ i goal. absurd (no_goal_node (points_of (three_nodes p)) i goal);
+}
+
+module _ (goals : List Goal) (p : Point) (cost : ℕ) (above : StandsAbove p cost) (are_open : AreOpen goals p) where
   -- ---- the second mark
 
   -- node 1 is nearest
@@ -68,9 +85,10 @@ module _ (p : Point) (cost : ℕ) (above : StandsAbove p cost) where
   second_rewires = (three_nodes p, inr ((λ c. omega (arith, c.cheaper, above.way_back)), refl), refl)
 
   -- the second mark is placed under node 1
-  second_mark : EndsPlaced open_setup two_nodes 1 p (placed_record 1 1 1 cost 2) (three_nodes p)
+  second_mark : EndsPlaced (open_setup_to goals) two_nodes 1 p (placed_record 1 1 1 cost 2) (three_nodes p)
   unfolding two_nodes three_nodes
-  second_mark = EndsPlaced-placeable two_nodes 1 1 p 1 cost 2 (1 ∷ []) (three_nodes p) (record {
+  second_mark = EndsPlaced-placeable goals two_nodes 1 1 p 1 cost 2 (1 ∷ []) (three_nodes p) (record {
+    cheaper = are_open.second;
     nearest = record { member = refl; not_above = second_is_near };
     reached = above.reached;
     free = second_is_free;
@@ -144,9 +162,10 @@ module _ (p : Point) (cost : ℕ) (above : StandsAbove p cost) where
         (four_nodes p, inr ((λ c. omega (arith, c.cheaper, back_to_start)), refl), second)
 
     -- the third mark is placed under the start
-    third_mark : EndsPlaced open_setup (three_nodes p) 2 (at 40 30) (placed_record 2 1 0 12800 2) after
+    third_mark : EndsPlaced (open_setup_to goals) (three_nodes p) 2 (at 40 30) (placed_record 2 1 0 12800 2) after
     unfolding three_nodes four_nodes
-    third_mark = EndsPlaced-placeable (three_nodes p) 2 1 (at 40 30) 0 12800 2 (0 ∷ 1 ∷ 2 ∷ []) after (record {
+    third_mark = EndsPlaced-placeable goals (three_nodes p) 2 1 (at 40 30) 0 12800 2 (0 ∷ 1 ∷ 2 ∷ []) after (record {
+      cheaper = are_open.third;
       nearest = record { member = refl; not_above = third_is_near };
       reached = refl;
       free = third_is_free;
@@ -161,9 +180,17 @@ module _ (p : Point) (cost : ℕ) (above : StandsAbove p cost) where
       rewired = third_rewires;
     })
 
+    -- the three marks, and more after them
+    pub IsTextbookRun-more :
+        (marks : List Point) (entries : List Record) (end : Nodes) → HandlesAll (open_setup_to goals) 3 after marks entries end
+        → IsTextbookRun (open_setup_to goals) (at 0 50 ∷ p ∷ at 40 30 ∷ marks) end
+        (placed_record 0 0 0 12800 1 ∷ placed_record 1 1 1 cost 2 ∷ placed_record 2 1 0 12800 2 ∷ entries)
+    unfolding one_node two_nodes three_nodes
+    IsTextbookRun-more marks entries end more =
+        (two_nodes, first_mark goals are_open.first, (three_nodes p, second_mark, (after, third_mark, more)))
+
     -- the three marks, one after another
     pub IsTextbookRun-three :
-        IsTextbookRun open_setup (at 0 50 ∷ p ∷ at 40 30 ∷ []) after
+        IsTextbookRun (open_setup_to goals) (at 0 50 ∷ p ∷ at 40 30 ∷ []) after
         (placed_record 0 0 0 12800 1 ∷ placed_record 1 1 1 cost 2 ∷ placed_record 2 1 0 12800 2 ∷ [])
-    unfolding one_node two_nodes three_nodes
-    IsTextbookRun-three = (two_nodes, first_mark, (three_nodes p, second_mark, (after, third_mark, refl)))
+    IsTextbookRun-three = IsTextbookRun-more [] [] after refl

@@ -1,12 +1,12 @@
 -- The textbook run is one run: the same setup and marks give the same tree and the same records.
-use Rattle.std.proofs.Common.{◌≡◌, ℕ, suc, ◌+◌, List, [], ◌∷◌, ◌++◌, Option, Some, refl, sym, ap, ◌∙◌, subst, inl, inr}
+use Rattle.std.proofs.Common.{◌≡◌, ℕ, suc, ◌+◌, ◌<◌, ◌≤◌, arith, List, [], ◌∷◌, ◌++◌, Option, Some, refl, sym, ap, ◌∙◌, subst, inl, inr}
 use Rattle.std.specs.Prelude.{Bool, IsTrue}
 use Rattle.std.proofs.Props.{props}
 use mathlib.Core.HLevel.{is_prop→PathP}
 use Rattle.plan_model.specs.declared.geometry.Point.{Point}
 use Rattle.plan_model.specs.declared.scenes.Scene.{Scene}
 use Rattle.plan_model.specs.declared.records.Outcome.{Outcome}
-use Rattle.plan_model.specs.declared.records.Outcome.TheVariants.{Placed, Same, Blocked}
+use Rattle.plan_model.specs.declared.records.Outcome.TheVariants.{Placed, Same, Blocked, Skipped}
 use Rattle.plan_model.specs.declared.records.Record.{Record}
 use Rattle.plan_model.specs.declared.configuration_spaces.ConfigurationSpace.{ConfigurationSpace}
 use Rattle.plan_model.specs.Spaces.Clearance.{Clear}
@@ -16,7 +16,8 @@ use Rattle.plan_model.specs.Runs.Outcomes.{is_zero_unless_placed}
 use Rattle.plan_model.specs.Trees.PointsByNumber.{StandsAt, IsPresent, point_of, AreDistinct, node_count}
 use Rattle.plan_model.specs.Trees.Nearness.{distance_to, IsNearest}
 use Rattle.plan_model.specs.Scenes.MarkPoints.{mark_points}
-use Rattle.plan_model.specs.Trees.NodeLists.{points_of}
+use Rattle.plan_model.specs.Trees.NodeLists.{points_of, sum_of}
+use Rattle.plan_model.specs.Trees.BestNode.{IsGoalNode}
 use Rattle.plan_model.specs.Runs.SameRuns.{HaveSameFields, HaveSameInputs}
 use Rattle.plan_model.specs.Runs.Textbook.{
   Nodes,
@@ -30,11 +31,15 @@ use Rattle.plan_model.specs.Runs.Textbook.{
   RewiresOne,
   Rewires,
   SteersTo,
+  mark_bound,
+  MayBeCheaper,
   same_record,
   blocked_record,
+  skipped_record,
   placed_record,
   EndsSame,
   EndsBlocked,
+  EndsSkipped,
   EndsPlaced,
   Ends,
   HandlesAll,
@@ -174,6 +179,42 @@ module _ (setup : Setup) (tree : Nodes) (k : ℕ) (mark : Point) where
             (near_new setup (points_of tree) e.point) after others e.rewired moved;
       }
 
+  -- two records of a skipped mark are the same: one goal node is best
+  EndsSkipped-unique :
+      (one other : Record) (after others : Nodes)
+      → EndsSkipped setup tree k mark one after → EndsSkipped setup tree k mark other others → EndAlike one other after others
+  EndsSkipped-unique one other after others e f =
+      let node : one.nearest ≡ other.nearest =
+      IsFirstLeast-unique (sum_of tree) (IsGoalNode setup.goals (points_of tree)) one.nearest other.nearest e.best f.best in
+      record {
+        records = e.recorded ∙ ap (skipped_record k) node ∙ sym f.recorded;
+        trees = e.added ∙ sym f.added;
+      }
+
+  -- a mark over which a path may be cheaper is not skipped
+  not_cheaper_and_skipped :
+      (one : Record) (after : Nodes) → MayBeCheaper setup (sum_of tree) (points_of tree) mark → ¬ EndsSkipped setup tree k mark one after
+  not_cheaper_and_skipped one after cheaper e =
+      let above : mark_bound setup mark < sum_of tree one.nearest = cheaper one.nearest e.best.member in
+      let below : sum_of tree one.nearest ≤ mark_bound setup mark = e.within in
+      omega (arith, above, below)
+
+  -- so none that ends where a node stands is,
+  pub not_same_and_skipped :
+      (j : ℕ) (one other : Record) (after others : Nodes)
+      → EndsSame setup tree k mark j one after → ¬ EndsSkipped setup tree k mark other others
+  not_same_and_skipped j one other after others e f = not_cheaper_and_skipped other others e.cheaper f
+
+  -- none that is blocked,
+  pub not_blocked_and_skipped :
+      (one other : Record) (after others : Nodes) → EndsBlocked setup tree k mark one after → ¬ EndsSkipped setup tree k mark other others
+  not_blocked_and_skipped one other after others e f = not_cheaper_and_skipped other others e.cheaper f
+
+  -- and none that is placed
+  pub not_placed_and_skipped :
+      (one other : Record) (after others : Nodes) → EndsPlaced setup tree k mark one after → ¬ EndsSkipped setup tree k mark other others
+  not_placed_and_skipped one other after others e f = not_cheaper_and_skipped other others e.cheaper f
+
   -- a mark that ends where a node stands is not blocked
   pub not_same_and_blocked :
       (j : ℕ) (one other : Record) (after others : Nodes)
@@ -212,6 +253,13 @@ module _ (setup : Setup) (tree : Nodes) (k : ℕ) (mark : Point) where
   Ends-unique Placed (Same j) one other after others distinct e f = absurd (not_same_and_placed j other one others after f e)
   Ends-unique Placed Blocked one other after others distinct e f = absurd (not_blocked_and_placed other one others after f e)
   Ends-unique Placed Placed one other after others distinct e f = EndsPlaced-unique one other after others e f
+  Ends-unique (Same i) Skipped one other after others distinct e f = absurd (not_same_and_skipped i one other after others e f)
+  Ends-unique Blocked Skipped one other after others distinct e f = absurd (not_blocked_and_skipped one other after others e f)
+  Ends-unique Placed Skipped one other after others distinct e f = absurd (not_placed_and_skipped one other after others e f)
+  Ends-unique Skipped (Same j) one other after others distinct e f = absurd (not_same_and_skipped j other one others after f e)
+  Ends-unique Skipped Blocked one other after others distinct e f = absurd (not_blocked_and_skipped other one others after f e)
+  Ends-unique Skipped Placed one other after others distinct e f = absurd (not_placed_and_skipped other one others after f e)
+  Ends-unique Skipped Skipped one other after others distinct e f = EndsSkipped-unique one other after others e f
 
 -- ---- whole runs
 

@@ -7,3 +7,4 @@ pub mod NodeLists
 pub mod Branches
 pub mod TreeStates
 pub mod BestNode
+pub mod GoalBounds

@@ -4,6 +4,7 @@ mod clearance;
 mod closed_runs;
 mod converted_scenes;
 mod costs;
+mod goal_bounds;
 mod marks;
 mod paths;
 mod radii;

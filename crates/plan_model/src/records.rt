@@ -14,6 +14,8 @@ pub enum Outcome {
     Same(u32),
     /// The segment from the nearest node to the steered point is not clear.
     Blocked,
+    /// No path over the mark could be cheaper than one that was known: the mark was steered to by no node.
+    Skipped,
 }
 
 /// What became of one mark, and who handled it when.
@@ -23,7 +25,7 @@ pub struct Record {
     pub worker: u32,
     /// How many marks that worker had handled before.
     pub turn: u32,
-    /// The nearest node.
+    /// The nearest node; of a skipped mark the goal node that costs no more than any path over the mark could.
     pub nearest: u32,
     /// What became of the mark.
     pub outcome: Outcome,

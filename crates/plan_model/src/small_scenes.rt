@@ -1,6 +1,6 @@
 //! Small scenes for tests and examples, of this crate and of those above it.
 
-ghost use Rattle.std.specs.Prelude.{◌≡◌, ◌≤◌, [], ◌∷◌, IfOk, IsTrue};
+ghost use Rattle.std.specs.Prelude.{◌≡◌, ◌≤◌, false, [], ◌∷◌, IfOk, IsTrue};
 ghost use Rattle.plan_model.specs.Spaces.Clearance.{ClearAt};
 ghost use Rattle.plan_model.specs.Spaces.ConfigurationSpace.{space_among, space_of};
 ghost use Rattle.plan_model.specs.Spaces.EmptyRooms.{IsInRoom, empty_room};
@@ -87,6 +87,7 @@ impl SmallScene {
         ensures goals { IfOk result (λ scene. scene.goals ≡ self.goal ∷ []) }
         ensures seed { IfOk result (λ scene. scene.seed ≡ self.seed) }
         ensures strips { IfOk result (λ scene. scene.strips ≡ self.strips) }
+        ensures informed { IfOk result (λ scene. scene.informed ≡ false) }
         ensures plan { IfOk result (λ scene. scene.plan ≡ plan) }
     {
         Ok(Scene {
@@ -125,6 +126,7 @@ impl SmallScene {
         }) }
         ensures goals { IfOk result (λ task. task.scene.goals ≡ self.goal ∷ []) }
         ensures strips { IfOk result (λ task. task.scene.strips ≡ self.strips) }
+        ensures informed { IfOk result (λ task. task.scene.informed ≡ false) }
         ensures marks { IfOk result (λ task. task.marks ≡ marks.now) }
         ensures clear { IfOk result (λ task. ClearAt (space_of task.scene) task.scene.start) }
     {

@@ -6,7 +6,7 @@ use Rattle.plan_model.specs.Runs.Textbook.{cost_through, Rewires, IsTextbookRun}
 use Rattle.plan_model.specs.Vectors.Shapes.{at}
 use Rattle.plan_model.specs.Vectors.Runs.{open_setup, marks_to_keep, kept_tree, kept_records}
 use Rattle.plan_model.proofs.OpenRoomMarks.{cost_2500, two_nodes}
-use Rattle.plan_model.proofs.ThreeMarks.{StandsAbove, three_nodes, four_nodes, IsTextbookRun-three}
+use Rattle.plan_model.proofs.ThreeMarks.{StandsAbove, AreOpen-not_skipping, three_nodes, four_nodes, IsTextbookRun-three}
 
 second_mark : StandsAbove (at 40 80) 25600
 unfolding two_nodes three_nodes
@@ -41,7 +41,7 @@ node_2_stays = (kept_tree, inr ((λ c. omega (arith, c.cheaper, own_way, new_way
 
 -- the three marks, one after another
 pub kept_run : IsTextbookRun open_setup marks_to_keep kept_tree kept_records
-kept_run = IsTextbookRun-three (at 40 80) 25600 second_mark kept_tree node_2_stays
+kept_run = IsTextbookRun-three [] (at 40 80) 25600 second_mark (AreOpen-not_skipping (at 40 80)) kept_tree node_2_stays
 
 -- what node 2 costs in the end
 pub kept_sum : sum_of kept_tree 2 ≡ 25600

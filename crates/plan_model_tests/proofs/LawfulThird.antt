@@ -15,6 +15,7 @@ use Rattle.plan_model.specs.Geometry.Roots.{root_ceiling}
 use Rattle.plan_model.specs.Trees.TreeStates.{TreeState}
 use Rattle.plan_model.specs.Vectors.Shapes.{at}
 use Rattle.plan_model.proofs.EmptyRoomClearance.{AreInRoom-from_clear, Clear-empty_room}
+use Rattle.plan_model.proofs.GoalNodes.{no_goal_node}
 use Rattle.plan_model.proofs.OpenRoomMarks.{cost_2000, cost_2500}
 use Rattle.plan_model.proofs.RootLaws.{root_ceiling-from_squares}
 use Rattle.plan_model.proofs.SteeringLaws.{steered-near}
@@ -89,6 +90,7 @@ module _ (first : Point) (cost other last n f c class : ℕ) where
 
       IsThird-fits : IsLawfulRecord (room_by height 50 gamma) state 2 (at 40 30) entry
       IsThird-fits = record {
+        cheaper = λ i early goal. absurd (no_goal_node state.points i goal);
         present = h.present;
         nearest = nearest;
         outcome =

@@ -11,4 +11,7 @@ pub mod UnlawfulOrders
 pub mod LawfulThird
 pub mod UnlawfulThird
 pub mod UnplacedMarks
+pub mod WorkedBounds
+pub mod SkippedRecords
+pub mod SkippedRun
 pub mod OpenedRuns

@@ -1,5 +1,5 @@
 -- Marks in the room of the narrow runs, which are placed at themselves, by what computes of them.
-use Rattle.std.proofs.Common.{◌≡◌, ℕ, suc, ◌*◌, List, [], ◌∷◌, ◌++◌, length, Option, Some, true, sym, ap, ◌∙◌, subst, arith}
+use Rattle.std.proofs.Common.{◌≡◌, ℕ, suc, ◌*◌, List, [], ◌∷◌, ◌++◌, length, Option, Some, true, refl, sym, ap, ◌∙◌, subst, arith}
 use Rattle.std.specs.Prelude.{All, Contains, filter, is_some}
 use Rattle.std.specs.Int.{abs_diff}
 use Rattle.std.specs.List.{range_with_len}
@@ -13,12 +13,13 @@ use Rattle.plan_model.specs.Geometry.Radius.{class_of}
 use Rattle.plan_model.specs.Trees.PointsByNumber.{point_at, point_of, IsFree, IsPresent, node_count}
 use Rattle.plan_model.specs.Trees.LeastPairs.{IsNotAbove, first_least}
 use Rattle.plan_model.specs.Trees.Nearness.{distance_to, is_within, near, IsNearest}
-use Rattle.plan_model.specs.Trees.NodeLists.{points_of}
+use Rattle.plan_model.specs.Trees.NodeLists.{points_of, sum_of}
 use Rattle.plan_model.specs.Runs.Textbook.{Nodes, near_new, cost_through, Rewires, EndsPlaced, placed_record}
 use Rattle.plan_model.specs.Vectors.Shapes.{at}
 use Rattle.plan_model.specs.Vectors.Runs.{node}
 use Rattle.plan_model.proofs.DistinctPoints.{IsPresent-below}
 use Rattle.plan_model.proofs.EmptyRoomClearance.{Clear-empty_room}
+use Rattle.plan_model.proofs.GoalNodes.{MayBeCheaper-not_skipping}
 use Rattle.plan_model.proofs.LeastPairLaws.{IsFirstLeast-among, IsBelowPassing, first_least-some}
 use Rattle.plan_model.proofs.NearNodes.{Contains-near}
 use Rattle.plan_model_tests.specs.NarrowRuns.{narrow_setup}
@@ -73,6 +74,7 @@ EndsPlaced-placeable tree k m p f cost class nodes after h =
     let R : List ℕ → Type 0 = λ ns. Rewires (empty_room (at 100 100)) (tree ++ node p f ∷ []) (suc k) ns after in
     let best = subst Q (sym h.are_near) h.best in
     record {
+      cheaper = MayBeCheaper-not_skipping narrow_setup (sum_of tree) points p refl;
       point = p;
       steers = record { nearest = IsNearest-computed points p m h.nearest; reached = h.reached };
       free = IsFree-computed points p h.free;

@@ -18,6 +18,7 @@ use Rattle.plan_model.specs.Vectors.Runs.{open_setup, marks_to_rewire}
 use Rattle.plan_model.specs.Vectors.Shapes.{at}
 use Rattle.plan_model.proofs.DistinctPoints.{AreDistinct-placed}
 use Rattle.plan_model.proofs.EmptyRoomClearance.{Clear-empty_room}
+use Rattle.plan_model.proofs.GoalNodes.{no_goal_node}
 use Rattle.plan_model.proofs.LeastPairLaws.{IsNotAbove-refl}
 use Rattle.plan_model.proofs.PlacedNodes.{ArePlacedMarks-from}
 use Rattle.plan_model.proofs.SegmentLaws.{Clear-first}
@@ -114,7 +115,7 @@ nearest (suc zero) h = cc
 nearest (suc (suc i)) h = cc
 
 law : IsLawfulRecord open_setup ended_at_start 0 (at 0 0) (same_record 0 0 0)
-law = record { present = refl; nearest = nearest; outcome = refl }
+law = record { cheaper = λ i early goal. absurd (no_goal_node ended_at_start.points i goal); present = refl; nearest = nearest; outcome = refl }
 
 lawful : (k : ℕ) (entry : Record) → ended_at_start.record_of k ≡ Some entry
     → IsLawfulRecord open_setup ended_at_start k (mark_at (at 0 0 ∷ []) k) entry

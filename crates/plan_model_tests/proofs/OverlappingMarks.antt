@@ -18,6 +18,7 @@ use Rattle.plan_model.specs.Vectors.Overlaps.{early_record, overlapped, placed_b
 use Rattle.plan_model.specs.Vectors.Runs.{open_setup, marks_to_rewire}
 use Rattle.plan_model.specs.Vectors.Shapes.{at}
 use Rattle.plan_model.proofs.EmptyRoomClearance.{Clear-empty_room}
+use Rattle.plan_model.proofs.GoalNodes.{no_goal_node}
 use Rattle.plan_model.proofs.LeastPairLaws.{IsNotAbove-lesser, IsNotAbove-refl}
 use Rattle.plan_model.proofs.OpenRoomMarks.{cost_2500}
 use Rattle.plan_model.proofs.RootLaws.{root_ceiling-from_squares}
@@ -196,6 +197,7 @@ fits_3 (suc (suc i)) h = absurd (alone_3 i h)
 
 law_1 : IsLawfulRecord open_setup overlapped 0 (at 0 50) early_record
 law_1 = record {
+  cheaper = λ i early goal. absurd (no_goal_node overlapped.points i goal);
   present = refl;
   nearest = nearest_1;
   outcome = record {
@@ -238,6 +240,7 @@ placed_2 = record {
 
 law_2 : IsLawfulRecord open_setup overlapped 1 (at 40 79) second
 law_2 = record {
+  cheaper = λ i early goal. absurd (no_goal_node overlapped.points i goal);
   present = refl;
   nearest = nearest_2;
   outcome = subst (IsPlacedLawfully open_setup overlapped 1 second) (sym reached) placed_2;
@@ -245,6 +248,7 @@ law_2 = record {
 
 law_3 : IsLawfulRecord open_setup overlapped 2 (at 40 30) third
 law_3 = record {
+  cheaper = λ i early goal. absurd (no_goal_node overlapped.points i goal);
   present = refl;
   nearest = nearest_3;
   outcome = record {

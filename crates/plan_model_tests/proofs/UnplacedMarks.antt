@@ -13,6 +13,7 @@ use Rattle.plan_model.specs.Geometry.Steering.{advanced, steered}
 use Rattle.plan_model.specs.Runs.Textbook.{unplaced_record}
 use Rattle.plan_model.specs.Vectors.Shapes.{at}
 use Rattle.plan_model.proofs.EmptyRoomClearance.{AreInRoom-from_clear, Clear-empty_room}
+use Rattle.plan_model.proofs.GoalNodes.{no_goal_node}
 use Rattle.plan_model.proofs.LeastPairLaws.{IsNotAbove-lesser, IsNotAbove-refl}
 use Rattle.plan_model.proofs.OpenRoomMarks.{same_x, same_y}
 use Rattle.plan_model.proofs.RootLaws.{root_ceiling-from_squares}
@@ -30,7 +31,7 @@ nearest_is_1 (suc (suc zero)) h = cc
 nearest_is_1 (suc (suc (suc i))) h = cc
 
 pub same : IsLawfulRecord (room_by 100 50 50) (ended (at_origin 1 1)) 1 (at 0 0) (at_origin 1 1)
-same = record { present = refl; nearest = nearest_is_1; outcome = refl }
+same = record { cheaper = λ i early goal. absurd (no_goal_node (ended (at_origin 1 1)).points i goal); present = refl; nearest = nearest_is_1; outcome = refl }
 
 pub nearest_absent : ¬ IsLawfulRecord (room_by 100 50 50) (ended (at_origin 9 1)) 1 (at 0 0) (at_origin 9 1)
 nearest_absent h = let present = h.present in cc
@@ -51,7 +52,12 @@ nearest_is_0 (suc (suc (suc zero))) h = cc
 nearest_is_0 (suc (suc (suc (suc i)))) h = cc
 
 pub lesser_number : IsLawfulRecord (room_by 100 50 50) (halfway (in_turn_1 0)) 2 (at 10 0) (in_turn_1 0)
-lesser_number = record { present = refl; nearest = nearest_is_0; outcome = refl }
+lesser_number = record {
+  cheaper = λ i early goal. absurd (no_goal_node (halfway (in_turn_1 0)).points i goal);
+  present = refl;
+  nearest = nearest_is_0;
+  outcome = refl;
+}
 
 pub greater_number : ¬ IsLawfulRecord (room_by 100 50 50) (halfway (in_turn_1 1)) 2 (at 10 0) (in_turn_1 1)
 greater_number h = omega (arith, (h.nearest 0 refl).first refl)
@@ -82,6 +88,7 @@ module _ (p mark q : Point) (height step : ℕ) (ends : steered p mark step ≡ 
 
   IsLawfulRecord-blocked : IsLawfulRecord (room_by height step 50) (start_at p blocked_record) 0 mark blocked_record
   IsLawfulRecord-blocked = record {
+    cheaper = λ i early goal. absurd (no_goal_node (start_at p blocked_record).points i goal);
     present = refl;
     nearest = nearest;
     outcome = subst (IsBlockedLawfully (room_by height step 50) (start_at p blocked_record) blocked_record) (sym ends) ends_outside;

@@ -4,6 +4,7 @@ pub mod LinkedNodes
 pub mod NarrowRuns
 pub mod UnlawfulTrees
 pub mod UnlawfulRecords
+pub mod SkippedMarks
 pub mod UnclosedRuns
 pub mod GrownTrees
 pub mod LesserSights

@@ -29,6 +29,7 @@ ghost use Rattle.plan_model_tests.specs.LesserSights.{LaterSightVectors, SeenAtL
 ghost use Rattle.plan_model_tests.specs.LinkedNodes.{LinkVectors};
 ghost use Rattle.plan_model_tests.specs.NarrowRuns.{FallingRadiusVectors, RewiredInTurnVectors};
 ghost use Rattle.plan_model_tests.specs.OpenPaths.{OpenPathVectors, SameInputVectors};
+ghost use Rattle.plan_model_tests.specs.SkippedMarks.{BoundVectors, SkippedRecordVectors, SkippedRunVectors};
 ghost use Rattle.plan_model_tests.specs.UnclosedRuns.{UnclosedRunVectors};
 ghost use Rattle.plan_model_tests.specs.UnlawfulRecords.{UnlawfulRecordVectors, UnplacedRecordVectors};
 ghost use Rattle.plan_model_tests.specs.UnlawfulTrees.{CostBoundVectors, UnlawfulTreeVectors};
@@ -204,6 +205,21 @@ pub fn unlawful_records()
 /// The same of records of marks without a node.
 pub fn unplaced_records()
     ensures { UnplacedRecordVectors }
+{}
+
+/// Bounds of marks.
+pub fn bounds()
+    ensures { BoundVectors }
+{}
+
+/// Records of skipped marks, and of marks beside a goal node.
+pub fn skipped_records()
+    ensures { SkippedRecordVectors }
+{}
+
+/// A textbook run whose last mark is skipped, and its report.
+pub fn skipped_run()
+    ensures { SkippedRunVectors }
 {}
 
 /// States that are not closed, each for one clause of the closed law: a turn twice or left out, a record too many or too few.

@@ -1,7 +1,7 @@
 -- The steps of a seat, as the table asks for them: whatever its words are then, the law of worlds holds after the step.
 use Rattle.std.proofs.Common.{◌≡◌, ℕ, suc, ◌+◌, ◌%◌, ◌<◌, ◌≤◌, ◌^◌, Bool, true, false, List, ◌∷◌}
 use Rattle.std.proofs.Common.{length, set, Some, None, refl, sym, ap, ◌∙◌, subst, arith}
-use Rattle.std.specs.Prelude.{◌≢◌, ◌==◌, cond, slice_index, slice_set}
+use Rattle.std.specs.Prelude.{◌≢◌, ◌==◌, cond, min, slice_index, slice_set}
 use Rattle.std.proofs.lemmas.Bool.{eqb-false, eqb-true}
 use Rattle.std.proofs.lemmas.List.{length-set, set-get_or}
 use Rattle.std.proofs.lemmas.Option.{same_Some}
@@ -11,22 +11,26 @@ use lib.ListN.{get_elem?}
 use Rattle.atomic_table.specs.Table.{State, Me, Act, step, stepped, Valid, carried_after, Allows, Splits, Joins}
 use Rattle.atomic_table.specs.Table.Act.{keeps}
 use Rattle.plan_words.specs.declared.openings.Aim.{Aim}
-use Rattle.plan_words.specs.Plays.{Claims, Counts, FindsAsSeen, FindsCount, FindsPoint, FindsTree, FindsWholeCount, Finishes, Links, Loads, Lowers}
-use Rattle.plan_words.specs.Plays.{TellsHand, WritesFirst, WritesPoint, WritesTree}
-use Rattle.plan_words.specs.States.{GoesOn, HoldsWorld}
+use Rattle.plan_words.specs.Bests.{FindsGoalNode}
+use Rattle.plan_words.specs.Plays.{Claims, Counts, FindsAsSeen, FindsCount, FindsPoint, FindsTree, FindsWholeCount, Finishes, Links, Loads, LoadsBest}
+use Rattle.plan_words.specs.Plays.{Lowers, Posts, TellsHand, WritesFirst, WritesPoint, WritesTree}
+use Rattle.plan_words.specs.States.{GoesOn, HasWholeShare, HoldsWorld}
 use Rattle.step_core.specs.LaterViews.{IsLater}
+use Rattle.step_core.specs.SeenBests.{MayPost}
 use Rattle.step_core.specs.SeenRecords.{MayRecord}
 use Rattle.step_core.specs.Stages.{MayBeRecorded}
+use Rattle.step_core.specs.ViewSteps.{best_loaded, best_with, hand_with_best, hand_with_post, posted}
 use Rattle.step_core.specs.ViewSteps.{claimed, counted, finished, finished_at, half, joined, last_fill, linked, linked_at, loaded, looker, lowered}
 use Rattle.step_core.specs.ViewSteps.{mark_of, pair_in_hand, parted, place_in, pointed, saw_at, stepped as one_step, steps_then, treed, worker_apart}
 use Rattle.step_core.specs.ViewTrees.{IsSteered, LeadsTo, MayHang, MayLoad, MayLower}
 use Rattle.step_core.specs.Views.{run_sizes, sees, share, spent, words_of_run}
 use Rattle.step_core.specs.WordNames.{Word, Words, WritesWord}
-use Rattle.step_core.specs.WordNames.Word.{ChildOf, Count, Counter, FirstOf, PointOf, RecordOf, TreeOf}
+use Rattle.step_core.specs.WordNames.Word.{Best, ChildOf, Count, Counter, FirstOf, PointOf, RecordOf, TreeOf}
 use Rattle.step_core.specs.WordPlaces.{HasWord, place_of}
 use Rattle.plan_model.specs.declared.geometry.Point.{Point}
 use Rattle.plan_model.specs.declared.records.Record.{Record}
-use Rattle.step_core.specs.Words.{FitsWord, cost_in, parent_in, point_word, record_word, tree_word}
+use Rattle.step_core.specs.Words.{FitsWord, best_cost_in, best_node_in, best_word, no_best}
+use Rattle.step_core.specs.Words.{cost_in, parent_in, point_word, record_word, tree_word}
 use Rattle.step_core.specs.Worlds.{IsWorld}
 use Rattle.step_core.specs.declared.views.Hand.{Hand}
 use Rattle.step_core.specs.declared.views.Member.{Member}
@@ -45,7 +49,8 @@ use Rattle.step_core.proofs.WorldLowers.{IsLater-lowered, IsWorld-lowered, lower
 use Rattle.step_core.proofs.WorldNodes.{IsLater-link, IsWorld-counted, IsWorld-half, IsWorld-linked, IsWorld-pointed, IsWorld-treed}
 use Rattle.step_core.proofs.LaterSteps.{IsLater-counted, IsLater-half, IsLater-pointed, IsLater-treed}
 use Rattle.step_core.proofs.WorldSteps.{HasWord-load, IsWorld-claimed, IsWorld-loaded, seen_within}
-use Rattle.plan_words.proofs.WholeViews.{word_count-whole, words-whole}
+use Rattle.step_core.proofs.WorldPosts.{IsLater-best, IsWorld-best_loaded, IsWorld-posted}
+use Rattle.plan_words.proofs.WholeViews.{best-whole, word_count-whole, words-whole}
 use Rattle.plan_words.proofs.WrittenPoints.{written-seen}
 
 -- the rule of a table of this run
@@ -451,6 +456,53 @@ module _ (run : SharedRun) where
       owes slots id place ((x + 1) % 2 ^ 64) me s then (Counts (step slots place 1 0 none) me x) holds world
       (of_hand me then (λ h. counted me.0 h) hand held refl
       (goes_on words after s.views id me.0 then holds.world at own world (IsLater-counted me.0 hand)))
+
+  -- ---- the best word
+
+  pub may_best :
+      (slots id place : ℕ) (me : Me Aim View) → place ≡ place_of (run_sizes run) Best → me.0.run ≡ run
+      → Allows (Holds run) slots id me place (λ x. x) (LoadsBest (step slots place 0 0 none) me)
+  may_best slots id place me at_place own s holds homes at fits =
+      let x : ℕ = slice_index s.words place in
+      let words : Words = words_of_run run s.words in
+      let is : x ≡ words Best = ap (slice_index s.words) at_place ∙ found_is s Best tt in
+      let then : View = best_loaded me.0 x in
+      let same : best_loaded me.0 (words Best) ≡ then = ap (best_loaded me.0) (sym is) in
+      let world : IsWorld run words (set s.views id then) =
+      subst (λ v. IsWorld run words (set s.views id v)) same (IsWorld-best_loaded run words s.views id me.0 holds.world at own) in
+      let falls = (holds.world.bests id me.0 at own).falls in
+      let later = IsLater-best me.0 x (hand_with_best me.0.hand x) (omega (arith, is, falls)) in
+      owes slots id place x me s then (LoadsBest (step slots place 0 0 none) me x) holds
+      (subst (λ items. IsWorld run (words_of_run run items) (set s.views id then)) (sym (same_list s Best tt place)) world) record {
+        told = record { view_is = refl; goes_on = goes_on words words s.views id me.0 then holds.world at own world later; slots = refl };
+        whole =
+            subst (λ w. HasWholeShare me.0 → w ≢ no_best → FindsGoalNode me.0 (best_node_in w, best_cost_in w)) (sym is)
+            (λ whole. best-whole run words s.views id me.0 holds.world at own whole);
+      }
+
+  pub may_post :
+      (slots id place x n : ℕ) (me : Me Aim View) → place ≡ place_of (run_sizes run) Best → me.0.run ≡ run → MayPost me.0 n
+      → x ≡ best_word (cost_in (sees me.0 (TreeOf n))) n → best_node_in x ≡ n
+      → Allows (Holds run) slots id me place (λ y. min y x) (Posts (step slots place x 0 none) me)
+  may_post slots id place x n me at_place own may is_pair node s holds homes at fits =
+      let y : ℕ = slice_index s.words place in
+      let words : Words = words_of_run run s.words in
+      let is : y ≡ words Best = ap (slice_index s.words) at_place ∙ found_is s Best tt in
+      let after : Words = words_of_run run (slice_set s.words place (min y x)) in
+      let left : min y x ≡ best_with me.0 n (words Best) = ap (λ m. min m x) is ∙ ap (min (words Best)) is_pair in
+      let writes : WritesWord Best (best_with me.0 n (words Best)) words after =
+      WritesWord-set (run_sizes run) s.words place (min y x) (best_with me.0 n (words Best)) Best holds.sized tt at_place left in
+      let then : View = posted me.0 n y in
+      let same : posted me.0 n (words Best) ≡ then = ap (posted me.0 n) (sym is) in
+      let world : IsWorld run after (set s.views id then) =
+      subst (λ v. IsWorld run after (set s.views id v)) same (IsWorld-posted run words after s.views id me.0 holds.world at own n may writes) in
+      let falls = (holds.world.bests id me.0 at own).falls in
+      let later = IsLater-best me.0 (best_with me.0 n y) (hand_with_post me.0.hand n) (omega (arith, is, falls)) in
+      owes slots id place (min y x) me s then (Posts (step slots place x 0 none) me y) holds world record {
+        view_is = ap (λ m. posted me.0 m y) (sym node);
+        goes_on = subst (λ m. GoesOn me.0 (posted me.0 m y)) (sym node) (goes_on words after s.views id me.0 then holds.world at own world later);
+        slots = refl;
+      }
 
   -- ---- splits and joins
 

@@ -100,6 +100,9 @@ module _ (before mid : View) (above : Above) (n : ℕ) (at : Point) (looks : Loo
       fits : (above.node < 2 ^ 18) × (cost < 2 ^ 44)
       fits = fits_word mid at above.node cost looks.goes_on.lawful below_parent
 
+      pub cost-lowered : cost_in (tree_word above.node cost) ≡ cost
+      cost-lowered = cost_in-tree_word above.node cost fits.0 fits.1
+
       pub HasSeenParent-lowered : HasSeenParent after above.node n
       HasSeenParent-lowered = record {
         child = own.child;

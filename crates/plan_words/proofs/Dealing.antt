@@ -5,26 +5,29 @@ use Rattle.std.proofs.lemmas.List.Elements.{All-cons, All-nil}
 use lib.ListN.{get_elem?}
 use mathlib.Core.Option.{some, some-injective, some-ne-none}
 use Rattle.atomic_table.specs.Seated.{TableId}
+use Rattle.plan_model.specs.Runs.Textbook.{skipping_goals}
 use Rattle.plan_model.specs.Runs.Turns.{turns_of}
 use Rattle.plan_words.specs.Parents.{HasParentsWithin}
 use Rattle.plan_words.specs.Dealt.{IsPassOf, StandsFor, each_after}
 use Rattle.plan_words.specs.States.{BelongsTo, HoldsWorld, IsTableOf, IsTied, MayClaim, PassState, SharedState}
-use Rattle.plan_words.specs.States.{StartsAs, first_member, first_view, new_pass, run_in, run_of_opening, with_view}
+use Rattle.plan_words.specs.States.{StartsAs, first_member, first_view, new_pass, run_in, run_of_opening, with_view, without_best}
 use Rattle.plan_words.specs.declared.openings.Opening.{Opening}
-use Rattle.step_core.specs.GrownRuns.{words_of_grown}
-use Rattle.step_core.specs.GrownWords.{HoldRun, record_at, sizes_of}
+use Rattle.step_core.specs.GrownRuns.{state_of_grown, words_of_grown}
+use Rattle.step_core.specs.GrownWords.{HoldRun, record_at, sizes_of, state_of_words}
 use Rattle.step_core.specs.PlacesOfWords.{sizes_in}
+use Rattle.step_core.specs.SeenBests.{IsLeastBest}
 use Rattle.step_core.specs.ViewStarts.{crew_from, member_of}
 use Rattle.step_core.specs.ViewSteps.{parted, second_alone, without_second, worker_apart}
 use Rattle.step_core.specs.Views.{sees}
 use Rattle.step_core.specs.LaterViews.{IsLawfulView}
-use Rattle.step_core.specs.WordNames.{Words}
-use Rattle.step_core.specs.WordNames.Word.{TreeOf}
+use Rattle.step_core.specs.WordNames.{Word, Words, WritesWord}
+use Rattle.step_core.specs.WordNames.Word.{Best, ChildOf, Count, Counter, FirstOf, PointOf, RecordOf, TreeOf}
 use Rattle.step_core.specs.WordPlaces.{word_at, word_count}
 use Rattle.step_core.specs.declared.grown.Grown.{Grown}
 use Rattle.step_core.specs.declared.views.SharedRun.{SharedRun}
 use Rattle.step_core.specs.declared.word_places.WordPlaces.{WordPlaces}
 use Rattle.step_core.proofs.LaterViews.{IsLawfulView-world}
+use Rattle.step_core.proofs.HeldBests.{state-best}
 use Rattle.step_core.proofs.WorldStarts.{IsWorld-started}
 
 -- the workers from w on are w and those past it
@@ -49,7 +52,10 @@ module _ (opening : Opening) where
     sized = sized;
     world =
         IsWorld-started opening.grown.task opening.grown.limit opening.workers opening.grown.words.list.items sized
-        (subst (HoldRun opening.grown.task opening.grown.limit) (sym sees-started) opening.grown.hold_run) opening.some opening.few;
+        (subst (HoldRun opening.grown.task opening.grown.limit) (sym sees-started) opening.grown.hold_run)
+        (subst (λ words. IsLeastBest (skipping_goals opening.grown.task.scene) (state_of_words (sizes_of opening.grown.task) words) (words Best))
+        (sym sees-started) opening.best)
+        opening.some opening.few;
   }
 
   -- the law holds of the first view, and so parents are among the nodes
@@ -189,16 +195,42 @@ each-head has first passes after is own all i pass e = head has first passes own
 -- ---- the passes that a run starts with
 
 pub StartsAs-pass :
-    (shared : SharedState) (grown : Grown) (first : PassState) (w : ℕ) (pass : PassState) → sees first.view ≡ words_of_grown grown
-    → first.view.most ≡ grown.limit → IsPassOf shared first w pass → StartsAs shared grown w pass
+    (shared : SharedState) (grown : Grown) (first : PassState) (w : ℕ) (pass : PassState)
+    → without_best (sees first.view) ≡ without_best (words_of_grown grown) → first.view.most ≡ grown.limit → IsPassOf shared first w pass → StartsAs shared grown w pass
 StartsAs-pass shared grown first w pass seen most is = record {
   belongs = is.0;
   crew = is.1 ∙ ap (λ words. member_of (run_in shared) words w ∷ []) seen;
   most = is.2 ∙ most;
   hand = is.3;
-  seen = is.4 ∙ seen;
+  seen = ap without_best is.4 ∙ seen;
   lists = is.5;
 }
+
+-- whatever is written to the best word, the others are as they were
+pub without_best-written : (words after : Words) (x : ℕ) → WritesWord Best x words after → without_best after ≡ without_best words
+without_best-written words after x writes = λ t name. sym (each name) t
+  where
+    each : (name : Word) → without_best words name ≡ without_best after name
+    each Best = refl
+    each Count = sym (writes.others Count (λ e. cc))
+    each (Counter g) = sym (writes.others (Counter g) (λ e. cc))
+    each (PointOf n) = sym (writes.others (PointOf n) (λ e. cc))
+    each (ChildOf n side) = sym (writes.others (ChildOf n side) (λ e. cc))
+    each (TreeOf n) = sym (writes.others (TreeOf n) (λ e. cc))
+    each (FirstOf n) = sym (writes.others (FirstOf n) (λ e. cc))
+    each (RecordOf k) = sym (writes.others (RecordOf k) (λ e. cc))
+
+-- what is written is the least pair of the run that it is written for, too
+pub IsLeastBest-written :
+    (grown after : Grown) → after.task ≡ grown.task → WritesWord Best (words_of_grown after Best) (words_of_grown grown) (words_of_grown after)
+    → IsLeastBest (skipping_goals grown.task.scene) (state_of_grown grown) (words_of_grown after Best)
+    → IsLeastBest (skipping_goals after.task.scene) (state_of_grown after) (words_of_grown after Best)
+IsLeastBest-written grown after task writes least =
+    let sizes = ap sizes_of task in
+    let state : state_of_grown after ≡ state_of_grown grown =
+    ap (λ s. state_of_words s (words_of_grown after)) sizes ∙ state-best (words_of_grown grown) (words_of_grown after) _ writes (sizes_of grown.task) in
+    subst (λ t. IsLeastBest (skipping_goals t.scene) (state_of_grown after) (words_of_grown after Best)) (sym task)
+    (subst (λ s. IsLeastBest (skipping_goals grown.task.scene) s (words_of_grown after Best)) (sym state) least)
 
 -- each may claim a mark
 pub MayClaim-starts :

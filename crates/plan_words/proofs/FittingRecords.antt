@@ -1,10 +1,11 @@
 -- What a pass may record fits the word of a record.
-use Rattle.std.proofs.Common.{ℕ, ◌*◌, ◌<◌, ◌≤◌, ◌^◌, ap, arith}
+use Rattle.std.proofs.Common.{ℕ, ◌*◌, ◌%◌, ◌<◌, ◌≤◌, ◌^◌, ap, arith, subst, sym}
+use Rattle.std.proofs.lemmas.Nat.{mod_below}
 use Rattle.std.specs.Prelude.{is_some}
 use Rattle.plan_model.specs.Trees.PointsByNumber.{IsPresent}
 use Rattle.plan_model.specs.Geometry.Radius.{class_of}
 use Rattle.plan_model.specs.declared.records.Outcome.{Outcome}
-use Rattle.plan_model.specs.declared.records.Outcome.TheVariants.{Blocked, Placed, Same}
+use Rattle.plan_model.specs.declared.records.Outcome.TheVariants.{Blocked, Placed, Same, Skipped}
 use Rattle.plan_model.specs.declared.records.Record.{Record}
 use Rattle.plan_model.proofs.ClassLaws.{class_from_powers}
 use Rattle.plan_model.proofs.RecordLaws.{class_of-le}
@@ -27,6 +28,7 @@ module _ (view : View) (hand : Hand) (entry : Record) (lawful : IsLawfulView vie
       by_outcome Placed h = small_number entry.nearest h.present
       by_outcome (Same j) h = small_number entry.nearest h.present
       by_outcome Blocked h = small_number entry.nearest h.present
+      by_outcome Skipped h = subst (λ n. n < 2 ^ 18) (sym h.node) (mod_below h.word (2 ^ 18) (omega arith))
 
   -- by a variable, since the class of a numeral computes long
   low_class : (most : ℕ) → 2 ^ 18 ≤ most → most < 2 * 2 ^ 18 → sees view Count ≤ most → entry.class ≤ class_of (sees view Count) → entry.class < 2 ^ 18
@@ -39,3 +41,4 @@ module _ (view : View) (hand : Hand) (entry : Record) (lawful : IsLawfulView vie
       by_outcome Placed h = low_class 262144 (omega arith) (omega arith) (omega (arith, lawful.count, lawful.run.marks)) h.outcome.high
       by_outcome (Same j) h = small_number j (ap is_some h.outcome)
       by_outcome Blocked h = omega arith
+      by_outcome Skipped h = omega arith

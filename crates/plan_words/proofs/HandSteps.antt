@@ -12,7 +12,7 @@ use Rattle.step_core.specs.ViewSteps.{counted, last_fill, linked, linked_at, loa
 use Rattle.step_core.specs.ViewTrees.{LeadsTo, SeesNode}
 use Rattle.step_core.specs.Views.{run_sizes, sees, tree_seen}
 use Rattle.step_core.specs.WordNames.{ChangesOnly, Word}
-use Rattle.step_core.specs.WordNames.Word.{ChildOf, Count, Counter, FirstOf, PointOf, RecordOf, TreeOf}
+use Rattle.step_core.specs.WordNames.Word.{Best, ChildOf, Count, Counter, FirstOf, PointOf, RecordOf, TreeOf}
 use Rattle.step_core.specs.Words.{point_of_word}
 use Rattle.step_core.specs.declared.views.Hand.{Hand}
 use Rattle.step_core.specs.declared.views.Stage.TheVariants.{Treed}
@@ -27,6 +27,7 @@ use Rattle.plan_words.proofs.LookedNodes.{child_fits, child_seen}
 -- children and points are words of nodes
 pub NamesNode-child : (name : Word) → NamesChildOrPoint name → NamesNode name
 NamesNode-child Count h = h
+NamesNode-child Best h = h
 NamesNode-child (Counter g) h = h
 NamesNode-child (PointOf n) h = tt
 NamesNode-child (ChildOf n side) h = tt

@@ -24,7 +24,9 @@ pub mod SeenChildren
 pub mod SeenLists
 mod FirstPairs
 mod SeatSteps
+pub mod Posting
 mod ChildCosts
 mod LoweredChains
 pub mod KeptFound
 pub mod RisingNumbers
+pub mod PlainScenes

@@ -3,19 +3,21 @@ use Rattle.std.proofs.Common.{◌≡◌, ◌≢◌, ◌⊎◌, ℕ, suc, ◌<◌
 use Rattle.std.specs.Prelude.{slice_index, slice_set}
 use Rattle.std.proofs.lemmas.Bool.{cases_eq}
 use Rattle.std.proofs.lemmas.List.{get_or-set_other, get_or-set_same, length-set}
-use Rattle.plan_words.specs.LoweredChildren.{CostsAtMostThrough, HasQueued, IsLoweredChild, LooksOn, LowersChildren, SeesSamePoints}
+use Rattle.plan_words.specs.LoweredChildren.{CostsAtMostThrough, HasQueued, IsLoweredChild, LooksOn, LowersChildren, PostsChanged, SeesSamePoints}
 use Rattle.plan_words.specs.Parents.{FindsLess}
 use Rattle.plan_words.specs.SeenChains.{chain_of, sibling_chain_in}
-use Rattle.plan_words.specs.States.{HasFirstPairs, HasWholeShare}
+use Rattle.plan_words.specs.States.{GoesOn, HasFirstPairs, HasWholeShare}
 use Rattle.plan_words.specs.Waiting.{HasSeenParent, IsOn}
 use Rattle.plan_words.proofs.ChildCosts.{CostsAtMostThrough-kept, HasSeenParent-kept, apart_above}
+use Rattle.plan_words.proofs.Posting.{goal-goes_on}
 use Rattle.plan_words.proofs.SeatSteps.{LooksOn-refl, LooksOn-trans, whole_later}
 use Rattle.plan_words.proofs.SeenChildren.{HasSeenParent-chain, chain-HasSeenParent, pair-seen}
 use Rattle.step_core.specs.ChildChains.{AreMembers, IndexesChains, siblings_from, times}
 use Rattle.step_core.specs.LaterViews.{IsLawfulView}
+use Rattle.step_core.specs.SeenBests.{SeesGoal}
 use Rattle.step_core.specs.Views.{sees}
 use Rattle.step_core.specs.WordNames.Word.{TreeOf}
-use Rattle.step_core.specs.Words.{cost_in}
+use Rattle.step_core.specs.Words.{best_word, cost_in}
 use Rattle.step_core.specs.declared.child_index.ChildIndex.{ChildIndex}
 use Rattle.step_core.specs.declared.views.View.{View}
 use Rattle.step_core.proofs.SiblingWalks.{AreMembers-chain, siblings_from-here, times-else, times-here}
@@ -64,6 +66,7 @@ pub record IsLowering (children : ChildIndex) (m : ℕ) (was now : View) (words_
   pub ahead : (n : ℕ) → 0 < times (siblings_from children child) n → sibling_chain_in words_then n ≡ suc m
   pub met : (n : ℕ) → sibling_chain_in words_then n ≡ suc m → CostsAtMostThrough now m n ⊎ (0 < times (siblings_from children child) n)
   pub lowered : (n : ℕ) → sees now (TreeOf n) ≢ sees was (TreeOf n) → IsLoweredChild was now m n
+  pub posted : PostsChanged (λ n. ⊥) was now
   pub parents : (n g : ℕ) → cost_in (sees now (TreeOf n)) < cost_in (sees was (TreeOf n)) → HasSeenParent now n g → IsOn waiting n
   pub keeps : (n : ℕ) → IsOn queue n → IsOn waiting n
   pub only : (n : ℕ) → IsOn waiting n → IsOn queue n ⊎ HasSeenParent was m n
@@ -81,6 +84,7 @@ IsLowering-start children m view words waiting size child lawful pairs are = rec
   ahead = λ n there. AreMembers-chain (sibling_chain_in words) (suc m) (siblings_from children child) n are there;
   met = λ n here. inr (omega (arith, are.each n here));
   lowered = λ n changed. absurd (changed refl);
+  posted = λ n off changed goal. absurd (changed refl);
   parents = λ n g fell own. absurd (omega (arith, fell));
   keeps = λ n on. on;
   only = λ n on. inl on;
@@ -149,6 +153,14 @@ module _ (children : ChildIndex) (m child : ℕ) (was now then : View) (words_th
         most = CostsAtMostThrough-kept now then m n looks.goes_on same level_step before.most;
       }
 
+  best_step : then.best ≤ now.best
+  best_step = looks.goes_on.later.best
+
+  posted_else : (n : ℕ) → n ≢ child → sees then (TreeOf n) ≢ sees was (TreeOf n) → SeesGoal was n → then.best ≤ best_word (cost_in (sees then (TreeOf n))) n
+  posted_else n apart changed goal =
+      let same = others n apart in
+      omega (arith, h.posted n (λ no. no) (λ e. changed (same ∙ e)) goal, best_step, ap (λ w. best_word (cost_in w) n) same)
+
   -- ---- it is a child still, and costs at most what it costs through node m
 
   module _ (next : ℕ) (words_now more : List ℕ) (siblings : siblings_from children child ≡ child ∷ siblings_from children next)
@@ -158,7 +170,8 @@ module _ (children : ChildIndex) (m child : ℕ) (was now then : View) (words_th
       (as_many : length words_now ≡ length words) (keeps : (n : ℕ) → IsOn waiting n → IsOn more n)
       (only : (n : ℕ) → IsOn more n → IsOn waiting n ⊎ (n ≡ child))
       (parents : (g : ℕ) → sees then (TreeOf child) ≢ sees now (TreeOf child) → HasSeenParent then child g → IsOn more child)
-      (same : (more ≡ waiting) ⊎ (FindsLess (sees now (TreeOf child)) (sees then (TreeOf child)) × (length more ≤ size))) where
+      (same : (more ≡ waiting) ⊎ (FindsLess (sees now (TreeOf child)) (sees then (TreeOf child)) × (length more ≤ size)))
+      (posted : sees then (TreeOf child) ≢ sees now (TreeOf child) → SeesGoal now child → then.best ≤ best_word (cost_in (sees then (TreeOf child))) child) where
     less_then : sees then (TreeOf child) ≢ sees was (TreeOf child) → cost_in (sees then (TreeOf child)) < cost_in (sees was (TreeOf child))
     less_then changed = elim fell [
       | inl e ↦ omega (arith, ap cost_in e, (h.lowered child (λ old. changed (e ∙ old))).less)
@@ -170,6 +183,19 @@ module _ (children : ChildIndex) (m child : ℕ) (was now then : View) (words_th
       | inr apart ↦ lowered_else n apart changed
       | inl e ↦ subst (IsLoweredChild was then m) (sym e)
           (record { was = own_was; is = is; less = less_then (subst (λ i. sees then (TreeOf i) ≢ sees was (TreeOf i)) e changed); most = most })
+    ]
+
+    posted_here : sees then (TreeOf child) ≢ sees was (TreeOf child) → SeesGoal was child → then.best ≤ best_word (cost_in (sees then (TreeOf child))) child
+    posted_here changed goal = elim (cases_eq (sees then (TreeOf child)) (sees now (TreeOf child))) [
+      | inr fresh ↦ posted fresh (goal-goes_on was now child h.looks.goes_on goal)
+      | inl e ↦ omega (arith, h.posted child (λ no. no) (λ old. changed (e ∙ old)) goal, best_step, ap (λ w. best_word (cost_in w) child) e)
+    ]
+
+    posted_then : PostsChanged (λ n. ⊥) was then
+    posted_then n off changed goal = elim (cases_eq n child) [
+      | inr apart ↦ posted_else n apart changed goal
+      | inl e ↦ subst (λ i. then.best ≤ best_word (cost_in (sees then (TreeOf i))) i) (sym e)
+          (posted_here (subst (λ i. sees then (TreeOf i) ≢ sees was (TreeOf i)) e changed) (subst (SeesGoal was) e goal))
     ]
 
     -- whoever has a child then had it
@@ -243,6 +269,7 @@ module _ (children : ChildIndex) (m child : ℕ) (was now then : View) (words_th
       ahead = ahead_then;
       met = met_then;
       lowered = lowered_then;
+      posted = posted_then;
       parents = parents_then;
       keeps = λ n on. keeps n (h.keeps n on);
       only = λ n on. elim (only n on) [
@@ -261,6 +288,9 @@ module _ (children : ChildIndex) (m child : ℕ) (was now then : View) (words_th
 
     pub lowered_found : LowersChildren (λ n. child ≡ n) was then m
     lowered_found n off = lowered_else n (λ e. off (sym e))
+
+    pub posted_found : PostsChanged (λ n. child ≡ n) was then
+    posted_found n off = posted_else n (λ e. off (sym e))
 
     pub parents_found : (n g : ℕ) → ¬ (child ≡ n) → ¬ (child ≡ g) → cost_in (sees then (TreeOf n)) < cost_in (sees was (TreeOf n))
         → HasSeenParent then n g → IsOn waiting n
@@ -301,6 +331,9 @@ module _ (old was now : View) (m : ℕ) (same : (n : ℕ) → sees was (TreeOf n
         less = omega (arith, lowered.less, ap cost_in (same n));
         most = lowered.most;
       }
+
+  pub PostsChanged-since : (but : ℕ → Type 0) → GoesOn old was → PostsChanged but was now → PostsChanged but old now
+  PostsChanged-since but goes_on h n off changed goal = h n off (λ e. changed (e ∙ same n)) (goal-goes_on old was n goes_on goal)
 
   pub HasQueued-since : (waiting : List ℕ) (most size : ℕ) → size ≤ most → HasQueued was now waiting size → HasQueued old now waiting most
   HasQueued-since waiting most size low queued =

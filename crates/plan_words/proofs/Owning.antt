@@ -1,6 +1,6 @@
 -- What a call of a shared tree owes to its table, and what a load tells, by what the tree and the pass keep.
 use Rattle.std.proofs.Common.{◌≡◌, ◌≢◌, ℕ, suc, ◌+◌, ◌%◌, ◌<◌, ◌≤◌, ◌^◌, Bool, true, false, List, [], ◌∷◌, length, Some, None, refl, sym, ap, ◌∙◌, subst, arith}
-use Rattle.std.specs.Prelude.{◌==◌, cond}
+use Rattle.std.specs.Prelude.{◌==◌, cond, min}
 use mathlib.Core.Option.{none, some}
 use prog.Atomic.{either}
 use Rattle.atomic_table.specs.Seated.{TableId}
@@ -8,9 +8,11 @@ use Rattle.atomic_table.specs.Table.{Allows, Joins, Me, Splits, State, step}
 use Rattle.plan_words.specs.declared.openings.Aim.{Aim}
 use Rattle.plan_words.specs.declared.openings.Opening.{Opening}
 use Rattle.plan_model.specs.declared.geometry.Point.{Point}
-use Rattle.plan_words.specs.Plays.{Claims, Counts, FindsAsSeen, Finishes, Links, Loads, Lowers, Tells, WritesFirst, WritesPoint, WritesTree}
+use Rattle.plan_words.specs.Plays.{Claims, Counts, FindsAsSeen, Finishes, Links, Loads, LoadsBest, Lowers, Posts, Tells}
+use Rattle.plan_words.specs.Plays.{WritesFirst, WritesPoint, WritesTree}
 use Rattle.plan_words.specs.States.{BelongsTo, GoesOn, HasWholeShare, HoldsWorld, IsTableOf, PassState, SharedState, run_in, run_of_opening, with_view}
 use Rattle.step_core.specs.LaterViews.{IsLawfulView}
+use Rattle.step_core.specs.SeenBests.{MayPost}
 use Rattle.step_core.specs.SeenRecords.{MayRecord}
 use Rattle.step_core.specs.Stages.{MayBeRecorded}
 use Rattle.step_core.specs.ViewTrees.{IsSteered, LeadsTo, MayHang, MayLoad, MayLower}
@@ -18,10 +20,10 @@ use Rattle.step_core.specs.declared.views.Stage.TheVariants.{Claimed, Half, Link
 use Rattle.step_core.specs.ViewSteps.{claimed, joined, loaded, looker, mark_of, pair_in_hand, parted, place_in, saw_at, stepped as one_step, worker_apart}
 use Rattle.step_core.specs.Views.{last_look, run_sizes, sees, share, spent}
 use Rattle.step_core.specs.WordNames.{Word, WritesWord}
-use Rattle.step_core.specs.WordNames.Word.{ChildOf, Count, Counter, FirstOf, PointOf, RecordOf, TreeOf}
+use Rattle.step_core.specs.WordNames.Word.{Best, ChildOf, Count, Counter, FirstOf, PointOf, RecordOf, TreeOf}
 use Rattle.step_core.specs.WordPlaces.{HasWord, place_of}
 use Rattle.plan_model.specs.declared.records.Record.{Record}
-use Rattle.step_core.specs.Words.{FitsWord, cost_in, parent_in, point_word, record_word, tree_word}
+use Rattle.step_core.specs.Words.{FitsWord, best_node_in, best_word, cost_in, parent_in, point_word, record_word, tree_word}
 use Rattle.step_core.specs.declared.views.Hand.{Hand}
 use Rattle.step_core.specs.declared.views.Member.{Member}
 use Rattle.step_core.specs.declared.views.SharedRun.{SharedRun}
@@ -29,8 +31,8 @@ use Rattle.step_core.specs.declared.views.View.{View}
 use Rattle.step_core.specs.declared.word_places.WordPlaces.{WordPlaces}
 use Rattle.step_core.proofs.SeenByViews.{WritesWord-looked, WritesWord-saw}
 use Rattle.step_core.proofs.WordReads.{place_of-within}
-use Rattle.plan_words.proofs.Allowing.{Holds, may_claim, may_count, may_finish, may_first, may_hand_on, may_link, may_load, may_look, may_lower}
-use Rattle.plan_words.proofs.Allowing.{may_point, may_take_over, may_tree}
+use Rattle.plan_words.proofs.Allowing.{Holds, may_best, may_claim, may_count, may_finish, may_first, may_hand_on, may_link, may_load, may_look, may_lower}
+use Rattle.plan_words.proofs.Allowing.{may_point, may_post, may_take_over, may_tree}
 
 -- the rule by what the table was told
 abbrev pub Kept : Opening → State Aim View → Type 0
@@ -155,6 +157,27 @@ module _ (table : TableId) (key : Opening) (run : SharedRun) (places : WordPlace
     within Count place tt at_place,
     subst (λ r. Allows (Holds r) table.slots id me place (λ x. (x + 1) % 2 ^ 64) (Counts (step table.slots place 1 0 none) me)) (sym fits.key_is)
         (may_count run table.slots id place me hand at_place own held stage),
+  )
+
+  pub may_best_here :
+      (seat : TableId) (id place : ℕ) (me : Me Aim View) → seat ≡ table → me.0.run ≡ run → place ≡ place_of (run_sizes run) Best
+      → (seat ≡ table) × (place < table.words) × Allows (Kept key) table.slots id me place (λ x. x) (LoadsBest (step table.slots place 0 0 none) me)
+  may_best_here seat id place me same own at_place = (
+    same,
+    within Best place tt at_place,
+    subst (λ r. Allows (Holds r) table.slots id me place (λ x. x) (LoadsBest (step table.slots place 0 0 none) me)) (sym fits.key_is)
+        (may_best run table.slots id place me at_place own),
+  )
+
+  pub may_post_here :
+      (seat : TableId) (id place x n : ℕ) (me : Me Aim View) → seat ≡ table → me.0.run ≡ run → place ≡ place_of (run_sizes run) Best → MayPost me.0 n
+      → x ≡ best_word (cost_in (sees me.0 (TreeOf n))) n → best_node_in x ≡ n
+      → (seat ≡ table) × (place < table.words) × Allows (Kept key) table.slots id me place (λ y. min y x) (Posts (step table.slots place x 0 none) me)
+  may_post_here seat id place x n me same own at_place may is_pair node = (
+    same,
+    within Best place tt at_place,
+    subst (λ r. Allows (Holds r) table.slots id me place (λ y. min y x) (Posts (step table.slots place x 0 none) me)) (sym fits.key_is)
+        (may_post run table.slots id place x n me at_place own may is_pair node),
   )
 
   pub may_look_here : (seat : TableId) (id : ℕ) (view : View) → seat ≡ table → view.run ≡ run

@@ -151,6 +151,8 @@ IsLawfulView-stepped view lawful = record {
   pairs = λ n written. IsSeenPair-again view (stepped view) n refl (lawful.pairs n written);
   count = lawful.count;
   counter = lawful.counter;
+  best = lawful.best;
+  taken = lawful.taken;
   order = lawful.order;
 }
 
@@ -188,6 +190,8 @@ IsLawfulView-looker view lawful = record {
   pairs = λ n written. IsSeenPair-again view (looker view) n refl (lawful.pairs n written);
   count = lawful.count;
   counter = lawful.counter;
+  best = lawful.best;
+  taken = λ hand word held has. cc;
   order = λ all. absurd (omega (arith, all, lawful.run.workers.0));
 }
 
@@ -257,6 +261,8 @@ IsTied-parted view member hand tied =
         pairs = λ n written. IsSeenPair-again view (parted view) n refl (lawful.pairs n written);
         count = lawful.count;
         counter = lawful.counter;
+        best = lawful.best;
+        taken = lawful.taken;
         order = λ all. lawful.order (omega (arith, all, fewer_left view.crew, lawful.crew));
       };
     }
@@ -293,6 +299,8 @@ IsTied-apart view member lawful second = record {
     pairs = λ n written. IsSeenPair-again view (worker_apart view) n refl (lawful.pairs n written);
     count = lawful.count;
     counter = lawful.counter;
+    best = lawful.best;
+    taken = λ hand word held has. cc;
     order = λ all. absurd (omega (arith, all, ap (λ l. length l) second, two_at_least view.crew member second, lawful.crew));
   };
 }

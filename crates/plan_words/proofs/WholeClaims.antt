@@ -12,7 +12,7 @@ use Rattle.step_core.specs.LaterViews.{IsLawfulView}
 use Rattle.step_core.specs.ViewSteps.{mark_of}
 use Rattle.step_core.specs.Views.{sees}
 use Rattle.step_core.specs.WordNames.{Word, Words, WritesWord}
-use Rattle.step_core.specs.WordNames.Word.{ChildOf, Count, Counter, FirstOf, PointOf, RecordOf, TreeOf}
+use Rattle.step_core.specs.WordNames.Word.{Best, ChildOf, Count, Counter, FirstOf, PointOf, RecordOf, TreeOf}
 use Rattle.step_core.specs.Worlds.{counters}
 use Rattle.step_core.specs.declared.views.Member.{Member}
 use Rattle.step_core.specs.declared.views.View.{View}
@@ -30,6 +30,7 @@ same_counter g x before after writes same (Counter h) =
       | inr apart ↦ writes.others (Counter h) (λ e. apart cc)
     ]
 same_counter g x before after writes same Count = writes.others Count (λ e. cc)
+same_counter g x before after writes same Best = writes.others Best (λ e. cc)
 same_counter g x before after writes same (PointOf n) = writes.others (PointOf n) (λ e. cc)
 same_counter g x before after writes same (ChildOf n side) = writes.others (ChildOf n side) (λ e. cc)
 same_counter g x before after writes same (TreeOf n) = writes.others (TreeOf n) (λ e. cc)

@@ -1,19 +1,26 @@
 -- A pass with the share of all workers finds each word as it has seen it, and the count as that of the nodes that it sees.
-use Rattle.std.proofs.Common.{◌≡◌, ◌≢◌, ℕ, ◌<◌, List, Some, refl, sym, ap, ◌∙◌, subst}
+use Rattle.std.proofs.Common.{◌≡◌, ◌≢◌, ℕ, ◌<◌, List, Some, arith, refl, sym, ap, ◌∙◌, subst}
 use mathlib.Core.Option.{some}
 use lib.ListN.{get_elem?}
-use Rattle.plan_model.specs.Trees.PointsByNumber.{node_count}
+use Rattle.std.specs.Prelude.{IsTrue}
+use Rattle.plan_model.specs.Trees.BestNode.{IsGoalNode, is_goal_point}
+use Rattle.plan_model.specs.Trees.PointsByNumber.{node_count, point_at}
+use Rattle.plan_model.proofs.BestNodeLaws.{IsPresent-goal}
+use Rattle.plan_words.specs.Bests.{FindsGoalNode}
 use Rattle.plan_words.specs.States.{HasWholeShare}
+use Rattle.step_core.specs.SharedWords.{linked_points}
 use Rattle.step_core.specs.ViewTrees.{MayLoad}
-use Rattle.step_core.specs.Views.{sees, share, tree_seen}
+use Rattle.step_core.specs.Views.{run_sizes, sees, share, tree_seen}
 use Rattle.step_core.specs.WordNames.{Word, Words}
-use Rattle.step_core.specs.WordNames.Word.{ChildOf, Count, Counter, FirstOf, PointOf, RecordOf, TreeOf}
+use Rattle.step_core.specs.WordNames.Word.{Best, ChildOf, Count, Counter, FirstOf, PointOf, RecordOf, TreeOf}
+use Rattle.step_core.specs.Words.{best_cost_in, best_node_in, cost_in, no_best}
 use Rattle.step_core.specs.Worlds.{IsWorld}
 use Rattle.step_core.specs.declared.views.Hand.{Hand}
 use Rattle.step_core.specs.declared.views.SharedRun.{SharedRun}
 use Rattle.step_core.specs.declared.views.Stage.TheVariants.{Linked}
 use Rattle.step_core.specs.declared.views.View.{View}
-use Rattle.step_core.proofs.WholeCopies.{count-whole, nodes-whole, sees-whole}
+use Rattle.step_core.proofs.LinkedStates.{linked-present}
+use Rattle.step_core.proofs.WholeCopies.{count-whole, nodes-whole, points-whole, sees-whole}
 
 module _ (run : SharedRun) (words : Words) (views : List View) (id : ℕ) (view : View) (world : IsWorld run words views)
     (at : get_elem? views id ≡ some view) (own : view.run ≡ run) (whole : HasWholeShare view) where
@@ -22,6 +29,7 @@ module _ (run : SharedRun) (words : Words) (views : List View) (id : ℕ) (view 
 
   pub words-whole : (name : Word) → name ≢ Count → MayLoad view name → words name ≡ sees view name
   words-whole Count apart may = absurd (apart refl)
+  words-whole Best apart may = absurd may
   words-whole (Counter g) apart may = sym (sees-whole run words views id view world at all_workers (Counter g) (subst (λ r. g < r.strips) own may))
   words-whole (PointOf n) apart may =
       sym (sees-whole run words views id view world at all_workers (PointOf n) ((nodes-whole run words views id view world at all_workers n).0 may))
@@ -34,3 +42,20 @@ module _ (run : SharedRun) (words : Words) (views : List View) (id : ℕ) (view 
 
   pub word_count-whole : ((hand : Hand) → view.hand ≡ Some hand → hand.stage ≢ Linked) → words Count ≡ node_count (tree_seen view).points
   word_count-whole done = count-whole run words views id view world at all_workers done
+
+  -- The goal node of the best word is seen, at no more than is said there.
+  pub best-whole : words Best ≢ no_best → FindsGoalNode view (best_node_in (words Best), best_cost_in (words Best))
+  best-whole some_pair =
+      let g : ℕ = best_node_in (words Best) in
+      let is = world.best.pair some_pair in
+      let points = points-whole run words views id view world at all_workers in
+      let here = IsPresent-goal run.goals (point_at (linked_points (run_sizes run) words) g) is.0 in
+      let linked = linked-present (run_sizes run) words g here in
+      let same = sees-whole run words views id view world at all_workers (TreeOf g) linked in
+      record {
+        goal =
+            subst (λ r. IsTrue (is_goal_point r.goals (point_at (tree_seen view).points g))) (sym own)
+            (subst (λ l. IsGoalNode run.goals l g) (sym points) is.0);
+        written = omega (arith, same, (world.trees.written g linked).tree);
+        paid = omega (arith, ap cost_in same, is.1);
+      }

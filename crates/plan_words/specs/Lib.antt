@@ -1,4 +1,5 @@
 pub mod States
+pub mod Bests
 pub mod Dealt
 pub mod Plays
 pub mod Claims

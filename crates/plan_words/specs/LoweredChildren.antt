@@ -11,11 +11,12 @@ use Rattle.plan_words.specs.Waiting.{HasSeenParent}
 use Rattle.plan_words.specs.declared.lowered_children.Above.{Above}
 use Rattle.plan_words.specs.declared.openings.Aim.{Aim}
 use Rattle.step_core.specs.LaterViews.{IsLawfulView}
+use Rattle.step_core.specs.SeenBests.{SeesGoal}
 use Rattle.step_core.specs.ViewTrees.{SeesPoint}
 use Rattle.step_core.specs.Views.{sees}
 use Rattle.step_core.specs.WordNames.{Word}
 use Rattle.step_core.specs.WordNames.Word.{PointOf, TreeOf}
-use Rattle.step_core.specs.Words.{cost_in}
+use Rattle.step_core.specs.Words.{best_word, cost_in}
 use Rattle.step_core.specs.declared.views.View.{View}
 
 -- ---- seats
@@ -78,6 +79,11 @@ IsFoundPair (Some found) n = found.0 ≡ n
 abbrev pub LowersChildren : (ℕ → Type 0) → View → View → ℕ → Type 0
 LowersChildren but before after m =
     (n : ℕ) → ¬ but n → sees after (TreeOf n) ≢ sees before (TreeOf n) → IsLoweredChild before after m n
+
+-- Of each goal node that is seen with another parent or cost, the best word is at most its pair, as it is seen then, unless it is one of these.
+abbrev pub PostsChanged : (ℕ → Type 0) → View → View → Type 0
+PostsChanged but before after =
+    (n : ℕ) → ¬ but n → sees after (TreeOf n) ≢ sees before (TreeOf n) → SeesGoal before n → after.best ≤ best_word (cost_in (sees after (TreeOf n))) n
 
 -- nodes came on the list of those that wait, which then is no longer than this, and the cost of one fell
 pub record HasQueued (before after : View) (waiting : List ℕ) (most : ℕ) : Type 0 where

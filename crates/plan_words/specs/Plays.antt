@@ -6,15 +6,16 @@ use Rattle.plan_model.specs.Trees.PointsByNumber.{node_count}
 use Rattle.plan_model.specs.declared.geometry.Point.{Point}
 use Rattle.plan_model.specs.declared.records.Record.{Record}
 use Rattle.plan_words.specs.declared.openings.Aim.{Aim}
+use Rattle.plan_words.specs.Bests.{FindsGoalNode}
 use Rattle.plan_words.specs.Parents.{FindsLess}
 use Rattle.plan_words.specs.States.{GoesOn, HasWholeShare}
 use Rattle.step_core.specs.SeenRecords.{own_count}
-use Rattle.step_core.specs.ViewSteps.{claimed, counted, finished_at, half, last_fill, linked_at, place_in, pointed, saw_at, treed}
+use Rattle.step_core.specs.ViewSteps.{best_loaded, claimed, counted, finished_at, half, last_fill, linked_at, place_in, pointed, posted, saw_at, treed}
 use Rattle.step_core.specs.ViewTrees.{MayLoad, SeesNode}
 use Rattle.step_core.specs.Views.{sees, tree_seen}
 use Rattle.step_core.specs.WordNames.{Word}
 use Rattle.step_core.specs.WordNames.Word.{Count, PointOf, TreeOf}
-use Rattle.step_core.specs.Words.{cost_in, parent_in}
+use Rattle.step_core.specs.Words.{best_cost_in, best_node_in, cost_in, no_best, parent_in}
 use Rattle.step_core.specs.declared.views.Hand.{Hand}
 use Rattle.step_core.specs.declared.views.Stage.TheVariants.{Linked}
 use Rattle.step_core.specs.declared.views.View.{View}
@@ -107,6 +108,15 @@ pub record Lowers (step : Step Aim) (before : Me Aim View) (found : ℕ) (after 
   pub told : Tells before (saw_at before.0 step.word found (if found == step.first then step.second else found)) after
   pub fell : found ≢ step.first → FindsLess step.first found
   pub whole : HasWholeShare before.0 → found ≡ step.first
+
+-- the best word is seen as it was found; a pass with the whole share finds a goal node that it has seen, at no less than it costs
+pub record LoadsBest (step : Step Aim) (before : Me Aim View) (found : ℕ) (after : Me Aim View) : Type 0 where
+  pub told : Tells before (best_loaded before.0 found) after
+  pub whole : HasWholeShare before.0 → found ≢ no_best → FindsGoalNode before.0 (best_node_in found, best_cost_in found)
+
+-- a node was posted, that of the pair
+abbrev pub Posts : Step Aim → Me Aim View → ℕ → Me Aim View → Type 0
+Posts step before found after = Tells before (posted before.0 (best_node_in step.first) found) after
 
 -- the record is stored, and the hand is empty
 abbrev pub Finishes : Step Aim → Me Aim View → ℕ → Me Aim View → Type 0

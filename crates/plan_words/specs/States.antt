@@ -9,7 +9,8 @@ use Rattle.step_core.specs.LaterViews.{IsLater, IsLawfulView}
 use Rattle.step_core.specs.PlacesOfWords.{sizes_in}
 use Rattle.step_core.specs.ViewStarts.{member_of, newcomer}
 use Rattle.step_core.specs.Views.{IsSharedRun, run_of, run_sizes, sees, share, words_of_run}
-use Rattle.step_core.specs.WordNames.Word.{TreeOf}
+use Rattle.step_core.specs.WordNames.{Words}
+use Rattle.step_core.specs.WordNames.Word.{Best, TreeOf}
 use Rattle.step_core.specs.WordPlaces.{word_count}
 use Rattle.step_core.specs.Worlds.{IsWorld}
 use Rattle.step_core.specs.declared.grown.Grown.{Grown}
@@ -152,11 +153,16 @@ pub record HasRoom (run : SharedRun) (for_spots for_near for_around for_waiting 
 
 -- ---- the start
 
+-- words of which the best is left out: it is no part of a run at rest
+abbrev pub without_best : Words → Words
+without_best words Best = 0
+without_best words name = words name
+
 -- The pass of worker w begins with its worker's turns, has seen all words, and its lists are empty.
 pub record StartsAs (shared : SharedState) (grown : Grown) (w : ℕ) (pass : PassState) : Type 0 where
   pub belongs : BelongsTo pass shared
   pub crew : pass.view.crew ≡ member_of (run_in shared) (words_of_grown grown) w ∷ []
   pub most : pass.view.most ≡ grown.limit
   pub hand : pass.view.hand ≡ None
-  pub seen : sees pass.view ≡ words_of_grown grown
+  pub seen : without_best (sees pass.view) ≡ without_best (words_of_grown grown)
   pub lists : pass ≡ new_pass pass.table pass.view

@@ -126,6 +126,7 @@ impl Shared {
             pass.hand = Some(Hand {
                 mark: mark_of(self.task.scene.strips, next.strip, next.round) as u32,
                 stage: Stage::Claimed,
+                best: None,
                 nearest: 0,
                 point: Point { x: 0, y: 0 },
                 parent: 0,

@@ -24,6 +24,7 @@
 //! list for the same; [`Pass::queue_parent`] and [`Pass::pop_waiting`] handle that list, and are no steps on the table.
 #![tactic(auto)]
 
+mod bests;
 pub mod claim_laws;
 mod claims;
 mod ends;

@@ -3,28 +3,30 @@
 ghost use Rattle.std.specs.Prelude.{◌≡◌, ◌≢◌, ◌⊎◌, ℕ, suc, ◌+◌, ◌<◌, ◌≤◌, ◌^◌, ◌==◌, if◌then◌else◌, IfErr, IfNone, IfOk, IfSome, IsOk, None, length, slice_index, slice_set};
 ghost use Rattle.std.specs.Vec.{vec_capacity};
 ghost use Rattle.plan_model.specs.Geometry.Bounds.{IsBounded};
+ghost use Rattle.plan_words.specs.Bests.{HasPostedHand};
 ghost use Rattle.plan_words.specs.Claims.{SeesAsBefore};
-ghost use Rattle.plan_words.specs.LoweredChildren.{CostsAtMostThrough, HasQueued, IsFound, IsFoundPair, IsSeenAbove, LooksOn, LowersChildren, SeesSamePoints, SitsAt};
+ghost use Rattle.plan_words.specs.LoweredChildren.{CostsAtMostThrough, HasQueued, IsFound, IsFoundPair, IsSeenAbove, LooksOn, LowersChildren, PostsChanged, SeesSamePoints, SitsAt};
 ghost use Rattle.plan_words.specs.Parents.{FindsLess};
 ghost use Rattle.plan_words.specs.SeenChains.{sibling_chain_in};
 ghost use Rattle.plan_words.specs.States.{BelongsTo, GoesOn, HasFirstPairs, HasWholeShare};
 ghost use Rattle.plan_words.specs.Waiting.{HasSeenParent, IsOn};
 ghost use Rattle.step_core.specs.ChildChains.{IndexesChains, size_of};
+ghost use Rattle.step_core.specs.SeenBests.{MayPost, SeesGoal};
 ghost use Rattle.step_core.specs.ViewTrees.{MayLower, SeesNode, SeesPoint};
 ghost use Rattle.step_core.specs.Views.{sees, share};
 ghost use Rattle.step_core.specs.WordNames.{Word};
 ghost use Rattle.step_core.specs.WordNames.Word.{PointOf, TreeOf};
-ghost use Rattle.step_core.specs.Words.{cost_in, parent_in, tree_word};
+ghost use Rattle.step_core.specs.Words.{best_word, cost_in, parent_in, tree_word};
 
 use crate::openings::Aim;
 use crate::passes::Pass;
-use crate::rules::{Load, Lower};
+use crate::rules::{Load, Lower, Post};
 use crate::shared::Shared;
 use crate::waiting::Waiting;
 use atomic_table::Seat;
 use edge_cost::{cost, costs_less_through};
 use plan_model::Point;
-use step_core::{ChildIndex, View, pack_tree, pair_in, point_in};
+use step_core::{ChildIndex, View, pack_best, pack_tree, pair_in, point_in};
 
 /// A node with its point and its cost, as a pass has seen them last.
 #[derive(Clone, Copy)]
@@ -39,16 +41,20 @@ impl Shared {
     /// Those whose cost fell come on the list of the nodes that wait, if they have children themselves. The node is seen with its
     /// parent and its cost, and the pass has a share. O(k) for k children.
     ///
-    /// It loads no costs. An exchange that fails shows a child at a lower cost, with whatever parent: that child is returned, and the
+    /// It loads no costs. Each child that is lowered and lies in a goal by which marks are skipped is posted; the node in hand was posted
+    /// before, if it is counted and lies in one. An exchange that fails shows a child at a lower cost, with whatever parent: that child is returned, and the
     /// others may not have been looked at. `None` if all were.
     pub fn lower_children(&self, pass: &mut Pass, node: u32) -> Option<u32>
         requires belongs { BelongsTo pass.old self.now }
         requires part { 0 < share pass.old.view }
         requires pair { 2 ^ 63 ≤ sees pass.old.view (TreeOf node) }
+        requires posted { HasPostedHand pass.old.view }
         ensures belongs { BelongsTo pass.new self.now }
         ensures looks { LooksOn pass.old.view pass.new.view }
         ensures lists { (pass.new.lists.near ≡ pass.old.lists.near) × (pass.new.lists.around ≡ pass.old.lists.around) × (pass.new.lists.search ≡ pass.old.lists.search) }
         ensures lowered { LowersChildren (IsFound result) pass.old.view pass.new.view node }
+        // of a goal node that was lowered the best word is at most its pair then
+        ensures posted { PostsChanged (IsFound result) pass.old.view pass.new.view }
         ensures all { IfNone result ((n : ℕ) → HasSeenParent pass.new.view node n → CostsAtMostThrough pass.new.view node n) }
         // the child is one that was seen, and is found at less
         ensures found { IfSome result (λ n. HasSeenParent pass.old.view node n × FindsLess (sees pass.old.view (TreeOf n)) (sees pass.new.view (TreeOf n))) }
@@ -85,6 +91,7 @@ impl Shared {
         requires sits { SitsAt self.now seat.old.table_id seat.old.me }
         requires part { 0 < share seat.old.me.0 }
         requires above { IsSeenAbove seat.old.me.0 above }
+        requires posted { HasPostedHand seat.old.me.0 }
         requires child { HasSeenParent seat.old.me.0 above.node child }
         requires seen { seen ≡ sees seat.old.me.0 (TreeOf child) }
         ensures sits { SitsAt self.now seat.new.table_id seat.new.me }
@@ -94,6 +101,7 @@ impl Shared {
         ensures is { IfOk result (λ word. HasSeenParent seat.new.me.0 above.node child × CostsAtMostThrough seat.new.me.0 above.node child) }
         ensures fell { IfOk result (λ word. (word ≡ seen) ⊎ FindsLess seen word) }
         ensures found { IfErr result (λ word. (word ≡ sees seat.new.me.0 (TreeOf child)) × FindsLess seen word) }
+        ensures posted { IfOk result (λ word. word ≢ seen → SeesGoal seat.old.me.0 child → seat.new.me.0.best ≤ best_word (cost_in word) child) }
         ensures whole { HasWholeShare seat.old.me.0 → IsOk result }
         ensures points { HasWholeShare seat.old.me.0 → SeesSamePoints seat.old.me.0 seat.new.me.0 }
     {
@@ -102,7 +110,7 @@ impl Shared {
             return Ok(seen);
         }
         let cost = above.cost + cost(above.point, point);
-        let found = self.exchange_at(seat, child, seen, above.node, cost);
+        let found = self.exchange_at(seat, child, point, seen, above.node, cost);
         if found == seen {
             Ok(pack_tree(above.node, cost))
         } else {
@@ -125,8 +133,59 @@ impl Shared {
         point_in(self.table.shared.load::<Load>(seat, place))
     }
 
-    /// Exchanges the tree word of a node if it is the one that was seen last. Returns what it was.
+    /// Exchanges the tree word of a node, which stands at this point, if it is the one that was seen last, and posts the node then if it
+    /// lies in a goal by which marks are skipped. Returns what the word was.
     fn exchange_at(
+        &self,
+        seat: &mut Seat<Aim, View>,
+        node: u32,
+        point: Point,
+        seen: u64,
+        parent: u32,
+        cost: u64,
+    ) -> u64
+        requires sits { SitsAt self.now seat.old.table_id seat.old.me }
+        requires part { 0 < share seat.old.me.0 }
+        requires posted { HasPostedHand seat.old.me.0 }
+        requires stands { SeesPoint seat.old.me.0 node point }
+        requires may { MayLower seat.old.me.0 node parent cost }
+        requires seen { seen ≡ sees seat.old.me.0 (TreeOf node) }
+        ensures sits { SitsAt self.now seat.new.table_id seat.new.me }
+        ensures looks { LooksOn seat.old.me.0 seat.new.me.0 }
+        ensures here { sees seat.new.me.0 (TreeOf node) ≡ (if result == seen then tree_word parent cost else result) }
+        ensures others { (n : ℕ) → n ≢ node → sees seat.new.me.0 (TreeOf n) ≡ sees seat.old.me.0 (TreeOf n) }
+        ensures points { (n : ℕ) → sees seat.new.me.0 (PointOf n) ≡ sees seat.old.me.0 (PointOf n) }
+        ensures found { result ≢ seen → FindsLess seen result }
+        ensures posted { result ≡ seen → SeesGoal seat.old.me.0 node → seat.new.me.0.best ≤ best_word cost node }
+        ensures whole { HasWholeShare seat.old.me.0 → result ≡ seen }
+    {
+        let found = self.lower_at(seat, node, seen, parent, cost);
+        if found == seen && self.skips_by(point) {
+            self.post_at(seat, node, cost);
+        }
+        found
+    }
+
+    /// Posts a goal node, which was seen at this cost. If it is the node in hand and counted, it was posted before.
+    fn post_at(&self, seat: &mut Seat<Aim, View>, node: u32, cost: u64)
+        requires sits { SitsAt self.now seat.old.table_id seat.old.me }
+        requires may { MayPost seat.old.me.0 node }
+        requires posted { HasPostedHand seat.old.me.0 }
+        requires cost { cost ≡ cost_in (sees seat.old.me.0 (TreeOf node)) }
+        ensures sits { SitsAt self.now seat.new.table_id seat.new.me }
+        ensures looks { LooksOn seat.old.me.0 seat.new.me.0 }
+        ensures seen { sees seat.new.me.0 ≡ sees seat.old.me.0 }
+        ensures posted { seat.new.me.0.best ≤ best_word cost node }
+    {
+        let place = self.places.best();
+        let _found = self
+            .table
+            .shared
+            .fetch_min::<Post>(seat, place, pack_best(cost, node));
+    }
+
+    /// Exchanges the tree word of a node if it is the one that was seen last, and posts nothing. Returns what it was.
+    fn lower_at(
         &self,
         seat: &mut Seat<Aim, View>,
         node: u32,
@@ -166,6 +225,7 @@ pub(crate) fn lower_chain(
     requires index { IndexesChains (length words.old.items) (sibling_chain_in words.old.items) children.now }
     requires sits { SitsAt shared.now seat.old.table_id seat.old.me }
     requires part { 0 < share seat.old.me.0 }
+    requires posted { HasPostedHand seat.old.me.0 }
     requires pairs { HasFirstPairs seat.old.me.0 words.old.items }
     requires low { above.node < length words.old.items }
     requires above { IsSeenAbove seat.old.me.0 above }
@@ -179,6 +239,7 @@ pub(crate) fn lower_chain(
     ensures pairs_found { IfSome result (λ found. (found.0 < length words.old.items) × HasFirstPairs seat.new.me.0 (slice_set words.new.items found.0 found.1)) }
     ensures size { waiting.new ≡ record waiting.old { nodes = waiting.new.nodes } }
     ensures lowered { LowersChildren (IsFoundPair result) seat.old.me.0 seat.new.me.0 above.node }
+    ensures posted { PostsChanged (IsFoundPair result) seat.old.me.0 seat.new.me.0 }
     ensures all { IfNone result ((n : ℕ) → HasSeenParent seat.new.me.0 above.node n → CostsAtMostThrough seat.new.me.0 above.node n) }
     ensures found { IfSome result (λ found. HasSeenParent seat.old.me.0 above.node found.0
         × FindsLess (sees seat.old.me.0 (TreeOf found.0)) (sees seat.new.me.0 (TreeOf found.0))) }

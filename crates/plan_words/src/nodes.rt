@@ -7,6 +7,7 @@ ghost use Rattle.plan_model.specs.Geometry.Bounds.{IsBounded};
 ghost use Rattle.plan_words.specs.Nodes.{NamesChildOrPoint, IsLinkedAt, NamesNode, LeadsOn};
 ghost use Rattle.plan_words.specs.States.{BelongsTo, GoesOn, HasWholeShare, with_view};
 ghost use Rattle.step_core.specs.GrownWords.{child_of_word};
+ghost use Rattle.step_core.specs.SeenBests.{IsUnskipped};
 ghost use Rattle.step_core.specs.ViewSteps.{counted, last_fill, linked, loaded, pointed};
 ghost use Rattle.step_core.specs.ViewTrees.{IsSteered, LeadsTo, SeesNode, SeesPoint, sight_in};
 ghost use Rattle.step_core.specs.Views.{sees, tree_seen};
@@ -76,12 +77,13 @@ impl Shared {
     }
 
     /// Writes the point of the node in hand, for which nothing is written yet. The point is a step towards the mark from a node
-    /// that the pass has seen with its point.
+    /// that the pass has seen with its point. In an informed scene the best was loaded for the mark, and the bound of the mark is below it.
     pub fn write_point(&self, pass: &mut Pass, nearest: u32, p: Point)
         requires belongs { BelongsTo pass.old self.now }
         requires hand { IsSome pass.old.view.hand }
         requires claimed { IfSome pass.old.view.hand (λ hand. hand.stage ≡ Claimed) }
         requires steered { IfSome pass.old.view.hand (λ hand. IsSteered pass.old.view hand.mark nearest p) }
+        requires unskipped { IfSome pass.old.view.hand (λ hand. IsUnskipped pass.old.view hand) }
         ensures view { IfSome pass.old.view.hand (λ hand. pass.new ≡ with_view pass.old (pointed pass.old.view hand nearest p)) }
         ensures goes_on { GoesOn pass.old.view pass.new.view }
     {
@@ -107,12 +109,10 @@ impl Shared {
             .shared
             .store::<WritePoint<S>>(&mut pass.seat, place, pack_point(p));
         pass.hand = Some(Hand {
-            mark: hand.mark,
             stage: Stage::Pointed,
             nearest,
             point: p,
-            parent: hand.parent,
-            cost: hand.cost,
+            ..hand
         });
     }
 

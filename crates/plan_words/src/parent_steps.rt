@@ -1,15 +1,18 @@
 //! The steps on parents and costs: a pass looks at the tree words of nodes that it has seen, writes the first word and the tree
 //! word of the node in its hand, and lowers the cost of a node below a parent by which it is cheaper.
 
-ghost use Rattle.std.specs.Prelude.{◌≡◌, ◌≢◌, ℕ, ◌<◌, ◌≤◌, ◌^◌, ◌==◌, if◌then◌else◌, IfErr, IfOk, IfSome, IsOk, IsSome};
+ghost use Rattle.std.specs.Prelude.{◌≡◌, ◌≢◌, ℕ, ◌<◌, ◌≤◌, ◌^◌, ◌==◌, if◌then◌else◌, false, IfErr, IfOk, IfSome, IsOk, IsSome};
+ghost use Rattle.plan_model.specs.Trees.PointsByNumber.{IsPresent};
+ghost use Rattle.plan_words.specs.Bests.{OnlyPosts};
 ghost use Rattle.plan_words.specs.Parents.{FindsLess, IsEdgeSeen, IsPairIn};
 ghost use Rattle.plan_words.specs.States.{BelongsTo, GoesOn, HasWholeShare, with_view};
+ghost use Rattle.step_core.specs.SeenBests.{SeesGoal};
 ghost use Rattle.step_core.specs.ViewSteps.{half, loaded, lowered, pair_in_hand, treed};
 ghost use Rattle.step_core.specs.ViewTrees.{MayHang, MayLower, SeesNode};
-ghost use Rattle.step_core.specs.Views.{sees, share};
+ghost use Rattle.step_core.specs.Views.{sees, share, tree_seen};
 ghost use Rattle.step_core.specs.WordNames.{WritesWord};
 ghost use Rattle.step_core.specs.WordNames.Word.{TreeOf};
-ghost use Rattle.step_core.specs.Words.{cost_in, tree_word};
+ghost use Rattle.step_core.specs.Words.{best_word, cost_in, tree_word};
 ghost use Rattle.step_core.specs.declared.views.Stage.TheVariants.{Half, Pointed};
 
 use crate::nodes::at_stage;
@@ -74,12 +77,10 @@ impl Shared {
             .shared
             .store::<WriteFirst>(&mut pass.seat, place, pack_tree(parent, cost));
         pass.hand = Some(Hand {
-            mark: hand.mark,
             stage: Stage::Half,
-            nearest: hand.nearest,
-            point: hand.point,
             parent,
             cost,
+            ..hand
         });
     }
 
@@ -102,13 +103,48 @@ impl Shared {
     }
 
     /// Lowers the cost of a node, which gets another parent or keeps its own. The cost is less than the pass has seen of the node:
-    /// it is what the parent was seen to cost and the edge, which is allowed. The pass has a share.
+    /// it is what the parent was seen to cost and the edge, which is allowed. The pass has a share. In an informed scene the point of the
+    /// node is looked at then, and if it lies in a goal it is posted.
     ///
     /// # Errors
     ///
     /// The parent and the cost that the node has at this step, only if it has changed since the pass saw it last. They are seen
     /// then, and the cost is strictly less than was seen. The edge is allowed, as that of [`tree`](Shared::tree).
     pub fn lower(
+        &self,
+        pass: &mut Pass,
+        node: u32,
+        parent: u32,
+        cost: u64,
+    ) -> Result<(), (u32, u64)>
+        requires belongs { BelongsTo pass.old self.now }
+        requires part { 0 < share pass.old.view }
+        requires may { MayLower pass.old.view node parent cost }
+        // in a scene that is not informed this is one step
+        ensures view { self.now.task.scene.informed ≡ false → IfOk result (λ _. pass.new ≡ with_view pass.old (lowered pass.old.view node parent cost)) }
+        ensures kept { IfOk result (λ _. OnlyPosts node pass.old pass.new) }
+        ensures goes_on { GoesOn pass.old.view pass.new.view }
+        ensures view_found { IfErr result (λ _. pass.new ≡ with_view pass.old (loaded pass.old.view (TreeOf node) (sees pass.new.view (TreeOf node)))) }
+        ensures found { IfErr result (λ pair. IsPairIn (sees pass.new.view (TreeOf node)) pair) }
+        ensures edge_found { IfErr result (λ pair. IsEdgeSeen pass.new.view node pair.0) }
+        // all other words are seen as before
+        ensures seen { WritesWord (TreeOf node) (sees pass.new.view (TreeOf node)) (sees pass.old.view) (sees pass.new.view) }
+        // the cost that is seen falls, whichever it is
+        ensures falls { FindsLess (sees pass.old.view (TreeOf node)) (sees pass.new.view (TreeOf node)) }
+        // of a goal node the best word is at most its pair then
+        ensures posted { IfOk result (λ _. SeesGoal pass.old.view node → pass.new.view.best ≤ best_word cost node) }
+        // a pass with the whole share succeeds
+        ensures whole { HasWholeShare pass.old.view → IsOk result }
+    {
+        self.lower_pair(pass, node, parent, cost)?;
+        if self.task.scene.informed {
+            self.post_lowered(pass, node);
+        }
+        Ok(())
+    }
+
+    /// Lowers the parent and the cost of a node, and posts nothing.
+    fn lower_pair(
         &self,
         pass: &mut Pass,
         node: u32,
@@ -136,6 +172,23 @@ impl Shared {
             return Ok(());
         }
         Err(pair_in(found))
+    }
+
+    /// Posts a node whose cost was lowered, if it lies in a goal.
+    fn post_lowered(&self, pass: &mut Pass, node: u32)
+        requires belongs { BelongsTo pass.old self.now }
+        requires part { 0 < share pass.old.view }
+        requires present { IsPresent (tree_seen pass.old.view).points node }
+        requires written { 2 ^ 63 ≤ sees pass.old.view (TreeOf node) }
+        ensures kept { OnlyPosts node pass.old pass.new }
+        ensures goes_on { GoesOn pass.old.view pass.new.view }
+        ensures seen { sees pass.new.view ≡ sees pass.old.view }
+        ensures posted { SeesGoal pass.old.view node → pass.new.view.best ≤ best_word (cost_in (sees pass.old.view (TreeOf node))) node }
+    {
+        let point = self.point(pass, node);
+        if self.skips_by(point) {
+            self.post(pass, node);
+        }
     }
 
     /// Exchanges the tree word of a node if it is the one that the pass saw last. Returns what it was.

@@ -107,6 +107,24 @@ impl Play<Aim, View> for Lower {
     ghost then = { Lowers };
 }
 
+/// A load of the best word.
+pub(crate) struct LoadBest;
+
+impl Play<Aim, View> for LoadBest {
+    ghost use Rattle.plan_words.specs.Plays.{LoadsBest};
+
+    ghost then = { LoadsBest };
+}
+
+/// A post, by which the best word becomes the lesser of two.
+pub(crate) struct Post;
+
+impl Play<Aim, View> for Post {
+    ghost use Rattle.plan_words.specs.Plays.{Posts};
+
+    ghost then = { Posts };
+}
+
 /// A store of a record.
 pub(crate) struct Finish;
 

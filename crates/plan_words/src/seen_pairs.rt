@@ -2,7 +2,8 @@
 
 ghost use Rattle.std.specs.Prelude.{◌≡◌, ◌⊎◌, ℕ, suc, ◌<◌, ◌≤◌, ◌^◌, length, slice_index, slice_set, IfNone, IfOk, IfSome, IsTrue, None, replicate};
 ghost use Rattle.std.specs.Vec.{vec_capacity};
-ghost use Rattle.plan_words.specs.LoweredChildren.{CostsAtMostThrough, HasQueued, IsFoundPair, IsSeenAbove, LooksOn, LowersChildren, SeesSamePoints, SitsAt};
+ghost use Rattle.plan_words.specs.Bests.{HasPostedHand};
+ghost use Rattle.plan_words.specs.LoweredChildren.{CostsAtMostThrough, HasQueued, IsFoundPair, IsSeenAbove, LooksOn, LowersChildren, PostsChanged, SeesSamePoints, SitsAt};
 ghost use Rattle.plan_words.specs.Parents.{FindsLess};
 ghost use Rattle.plan_words.specs.SeenChains.{MayReach, Reaches, chain_of, sibling_chain_in};
 ghost use Rattle.plan_words.specs.States.{HasPairs, HasWholeShare};
@@ -132,6 +133,7 @@ impl SeenPairs {
     ) -> Option<(u32, u64)>
         requires sits { SitsAt shared.now seat.old.table_id seat.old.me }
         requires part { 0 < share seat.old.me.0 }
+        requires posted { HasPostedHand seat.old.me.0 }
         requires pairs { HasPairs seat.old.me.0 self.old }
         requires above { IsSeenAbove seat.old.me.0 above }
         requires size { waiting.old.size ≡ length self.old }
@@ -142,6 +144,7 @@ impl SeenPairs {
         ensures pairs_found { IfSome result (λ found. HasPairs seat.new.me.0 (slice_set self.new found.0 found.1)) }
         ensures size { waiting.new ≡ record waiting.old { nodes = waiting.new.nodes } }
         ensures lowered { LowersChildren (IsFoundPair result) seat.old.me.0 seat.new.me.0 above.node }
+        ensures posted { PostsChanged (IsFoundPair result) seat.old.me.0 seat.new.me.0 }
         ensures all { IfNone result ((n : ℕ) → HasSeenParent seat.new.me.0 above.node n → CostsAtMostThrough seat.new.me.0 above.node n) }
         ensures found { IfSome result (λ found. HasSeenParent seat.old.me.0 above.node found.0
             × FindsLess (sees seat.old.me.0 (TreeOf found.0)) (sees seat.new.me.0 (TreeOf found.0))) }

@@ -101,8 +101,9 @@ impl Shared {
     }
 
     /// Stores the record of the mark in hand; the hand is empty then. The record is by the worker of the pass, in its next turn. It says
-    /// that the mark was placed if its node is counted, and anything else only if its node is not linked; and what it says is
-    /// borne out by what the pass has seen.
+    /// that the mark was placed if its node is counted, and posted if that lies in a goal by which marks are skipped, and anything else only
+    /// if its node is not linked; and what it says is borne out by what the pass has seen. A mark is skipped by the best that was loaded for
+    /// it, before anything else is done, and any other was loaded the best by which it is not skipped.
     pub fn finish(&self, pass: &mut Pass, entry: Record)
         requires belongs { BelongsTo pass.old self.now }
         requires hand { IsSome pass.old.view.hand }

@@ -30,7 +30,8 @@ use step_core::{Grown, Member, RunWords, View};
 impl Shared {
     /// The words of a run in one table, and a pass for each of 1 to `MOST_WORKERS` workers, in the order of their numbers, each
     /// with a share of 1; that of an only worker is the whole. Each has seen the whole run, and its next turn is the number of
-    /// its worker's records there. Takes all memory that later calls but `split` need. O(n * w) for n words and w workers.
+    /// its worker's records there. In an informed scene the best word is the least pair of cost and number of the run's goal nodes. Takes
+    /// all memory that later calls but `split` need. O(n * w) for n words and w workers.
     ///
     /// # Errors
     ///
@@ -46,6 +47,8 @@ impl Shared {
             → StartsAs started.0 grown w pass) }
         ensures may_claim { IfOk result (λ started. All (MayClaim started.0) started.1.items) }
     {
+        let mut grown = grown;
+        grown.write_best();
         let turns = count_turns(alloc, grown.words(), workers)?;
         Shared::deal(alloc, Opening { grown, workers }, turns.as_slice())
     }

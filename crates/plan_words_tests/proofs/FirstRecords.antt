@@ -1,12 +1,14 @@
 -- What a worker may record in its first turn, when the start alone is its own node: that a node was placed below it.
-use Rattle.std.proofs.Common.{◌≡◌, ◌≢◌, ℕ, zero, suc, ◌+◌, ◌≤◌, ◌^◌, Bool, true, false, Option, Some, None, length, inl, inr, refl, sym, ap, ◌∙◌, subst, arith}
+use Rattle.std.proofs.Common.{◌≡◌, ◌≢◌, ℕ, zero, suc, ◌+◌, ◌≤◌, ◌^◌, Bool, true, false, [], Option, Some, None, cond, length}
+use Rattle.std.proofs.Common.{inl, inr, refl, sym, ap, ◌∙◌, subst, arith}
 use Rattle.std.specs.Prelude.{◌==◌, ◌&&◌, IfErr, IfOk, IfSome, IsTrue, Result, Ok, Err, nat_lt}
-use Rattle.std.proofs.lemmas.Bool.{and_parts, cases_Bool, cases_lt, le-ltb}
+use Rattle.std.proofs.lemmas.Bool.{and_parts, cases_Bool, cases_lt, eqb-true, le-ltb}
 use Rattle.std.proofs.lemmas.List.Sums.{length-filter}
 use Rattle.plan_model.specs.Spaces.Clearance.{Clear}
 use Rattle.plan_model.specs.Runs.ClosedLaw.{mark_at}
 use Rattle.plan_model.specs.Spaces.ConfigurationSpace.{space_of}
 use Rattle.plan_model.specs.Geometry.Cost.{cost_of}
+use Rattle.plan_model.specs.Trees.BestNode.{is_goal_point}
 use Rattle.plan_model.specs.Trees.LeastPairs.{IsNotAbove}
 use Rattle.plan_model.specs.Trees.Nearness.{distance_to}
 use Rattle.plan_model.specs.Runs.Outcomes.{is_placed}
@@ -22,20 +24,51 @@ use Rattle.plan_model.proofs.NewNodes.{IsPresent-stands, point_of-stands}
 use Rattle.plan_words.specs.States.{PassState, SharedState, run_in, with_view}
 use Rattle.plan_words.proofs.HandSteps.{at_hand}
 use Rattle.plan_words.proofs.KeptPairs.{if_hand}
+use Rattle.plan_words.proofs.PlainScenes.{no_goals}
 use Rattle.step_core.specs.GrownWords.{record_at}
 use Rattle.step_core.specs.LaterViews.{IsLater, IsLawfulView}
+use Rattle.step_core.specs.SeenBests.{IsUnskipped}
 use Rattle.step_core.specs.SeenRecords.{MayBePlaced, MayEnd, MayRecord, is_own_node, own_count, own_first_cost}
 use Rattle.step_core.specs.ViewSteps.{counted, last_fill, linked, loaded}
 use Rattle.step_core.specs.ViewTrees.{SeesPoint}
 use Rattle.step_core.specs.Views.{sees, setup_in, tree_seen}
 use Rattle.step_core.specs.WordNames.Word.{ChildOf, Count, TreeOf}
-use Rattle.step_core.specs.Words.{cost_in}
+use Rattle.step_core.specs.Words.{best_cost_in, best_node_in, best_of_word, cost_in, no_best}
 use Rattle.step_core.specs.declared.views.Hand.{Hand}
 use Rattle.step_core.specs.declared.views.Stage.{Stage}
-use Rattle.step_core.specs.declared.views.Stage.TheVariants.{Counted, Treed}
+use Rattle.step_core.specs.declared.views.Stage.TheVariants.{Counted, Posted, Treed}
 use Rattle.step_core.specs.declared.views.View.{View}
 use Rattle.step_core.proofs.SeenViews.{SeesPoint-later}
-use Rattle.plan_words_tests.specs.HeldMarks.{HangsFromStart}
+use Rattle.plan_words_tests.specs.HeldMarks.{HangsFromStart, TakesBest}
+
+-- ---- marks that are not skipped
+
+-- in a scene that is not informed none is
+pub unskipped_plain : (shared : SharedState) (view : View) (hand : Hand) → view.hand ≡ Some hand → view.run ≡ run_in shared
+    → shared.task.scene.informed ≡ false → IfSome view.hand (IsUnskipped view)
+unskipped_plain shared view hand held run plain =
+    if_hand (IsUnskipped view) view.hand hand held (λ informed. absurd (informed (no_goals shared view run plain)))
+
+-- nor is one for which the best told of no goal node
+pub unskipped_none : (view : View) → TakesBest None view → IfSome view.hand (IsUnskipped view)
+unskipped_none view takes =
+    if_hand (IsUnskipped view) view.hand takes.hand takes.held
+    (λ informed. (takes.word, takes.taken, λ some_node. absurd (some_node (none_told takes.word takes.tells))))
+  where
+    none_told : (word : ℕ) → best_of_word word ≡ None → word ≡ no_best
+    none_told word tells = by_test (word == no_best) refl
+      where
+        by_test : (b : Bool) → (word == no_best) ≡ b → word ≡ no_best
+        by_test true e = eqb-true word no_best e
+        by_test false e =
+            let told : best_of_word word ≡ Some (best_node_in word, best_cost_in word) =
+            ap (λ b. cond {A = Option (ℕ × ℕ)} b None (Some (best_node_in word, best_cost_in word))) e in
+            let gone = sym tells ∙ told in
+            cc
+
+-- no point lies in none of the goals
+pub posted_plain : (view : View) (hand : Hand) (stage : Stage) → view.run.goals ≡ [] → IsTrue (is_goal_point view.run.goals (Some hand.point)) → hand.stage ≡ stage
+posted_plain view hand stage none goal = let gone = subst (λ goals. IsTrue (is_goal_point goals (Some hand.point))) none goal in cc
 
 -- ---- a node below the start
 
@@ -48,12 +81,16 @@ module _ (before after : View) (later : IsLater before after) where
         | inr (inr fell) ↦ fell.0
       ]
 
+  -- a mark that is not skipped stays so
+  pub unskipped_later : (hand : Hand) → IsUnskipped before hand → IsUnskipped after hand
+  unskipped_later hand unskipped = subst (λ run. IsUnskipped (record before { run = run }) hand) (sym later.run) unskipped
+
   -- it hangs there from now on,
   pub HangsFromStart-hung :
       (shared : SharedState) (hand : Hand) (start p : Point) (cost : ℕ) → before.run ≡ run_in shared → p ≡ hand.point → SeesPoint before 0 start
       → 2 ^ 63 ≤ sees before (TreeOf 0) → Clear (space_of shared.task.scene) start p → cost ≡ cost_of start p
-      → after.hand ≡ Some (record hand { stage = Treed; parent = 0; cost = cost }) → HangsFromStart cost after
-  HangsFromStart-hung shared hand start p cost own is seen written clear edge held = record {
+      → after.hand ≡ Some (record hand { stage = Treed; parent = 0; cost = cost }) → IsUnskipped before hand → HangsFromStart cost after
+  HangsFromStart-hung shared hand start p cost own is seen written clear edge held unskipped = record {
     hand = record hand { stage = Treed; parent = 0; cost = cost };
     held = held;
     parent_is = refl;
@@ -64,6 +101,7 @@ module _ (before after : View) (later : IsLater before after) where
     clear =
         subst (λ q. Clear (setup_in after.run).space start q) is (subst (λ run. Clear (setup_in run).space start p) (sym (later.run ∙ own)) clear);
     written = written_later written;
+    unskipped = unskipped_later hand unskipped;
   }
 
   -- whatever its stage
@@ -79,6 +117,7 @@ module _ (before after : View) (later : IsLater before after) where
     edge = hung.edge;
     clear = subst (λ run. Clear (setup_in run).space hung.start hung.hand.point) (sym later.run) hung.clear;
     written = written_later hung.written;
+    unskipped = unskipped_later hung.hand hung.unskipped;
   }
 
   pub HangsFromStart-kept : (cost : ℕ) → HangsFromStart cost before → after.hand ≡ before.hand → HangsFromStart cost after
@@ -132,7 +171,8 @@ class_of-some n some =
 
 -- The node in hand may be recorded as placed below the start.
 module _ (view : View) (hand : Hand) (entry : Record) (cost : ℕ) (lawful : IsLawfulView view) (hung : HangsFromStart cost view)
-    (held : view.hand ≡ Some hand) (first : entry.turn ≡ 0) (nearest : entry.nearest ≡ 0) (from_start : hand.nearest ≡ 0) where
+    (held : view.hand ≡ Some hand) (first : entry.turn ≡ 0) (nearest : entry.nearest ≡ 0) (from_start : hand.nearest ≡ 0)
+    (posted : IsTrue (is_goal_point view.run.goals (Some hand.point)) → hand.stage ≡ Posted) where
   same_hand : hung.hand ≡ hand
   same_hand = cc (hung.held, held)
 
@@ -147,6 +187,7 @@ module _ (view : View) (hand : Hand) (entry : Record) (cost : ℕ) (lawful : IsL
       entry.outcome ≡ Placed → entry.first_parent ≡ 0 → entry.first_cost ≡ cost → entry.class ≡ 1 → 1 ≤ sees view Count → MayRecord view hand entry
   MayRecord-first outcome parent cost_is class some =
       subst (MayEnd view hand entry) (sym outcome) record {
+        unskipped = subst (IsUnskipped view) same_hand hung.unskipped;
         present = subst (IsPresent (tree_seen view).points) (sym nearest) (IsPresent-stands (tree_seen view).points 0 hung.start hung.seen);
         nearest = λ i own. (
             let alone = own_start view entry first i own in
@@ -175,12 +216,13 @@ module _ (view : View) (hand : Hand) (entry : Record) (cost : ℕ) (lawful : IsL
             subst
             (λ n. (2 ^ 63 ≤ sees view (TreeOf n)) × (cost_in (sees view (TreeOf n)) ≤ hand.cost + cost_of (point_of (tree_seen view).points n) hand.point))
             (sym alone) (hung.written, omega (arith, ((lawful.pairs 0 hung.written).start refl).1)));
+        posted = posted;
       }
 
 pub may_finish :
     (view : View) (hand : Hand) (entry : Record) (cost : ℕ) → IsLawfulView view → HangsFromStart cost view → view.hand ≡ Some hand → entry.turn ≡ 0
-    → entry.nearest ≡ 0 → hand.nearest ≡ 0 → entry.outcome ≡ Placed → entry.first_parent ≡ 0 → entry.first_cost ≡ cost → entry.class ≡ 1
+    → entry.nearest ≡ 0 → hand.nearest ≡ 0 → (IsTrue (is_goal_point view.run.goals (Some hand.point)) → hand.stage ≡ Posted) → entry.outcome ≡ Placed → entry.first_parent ≡ 0 → entry.first_cost ≡ cost → entry.class ≡ 1
     → 1 ≤ sees view Count → IfSome view.hand (λ h. MayRecord view h entry)
-may_finish view hand entry cost lawful hung held first nearest from_start outcome parent cost_is class some =
+may_finish view hand entry cost lawful hung held first nearest from_start posted outcome parent cost_is class some =
     if_hand (λ h. MayRecord view h entry) view.hand hand held
-    (MayRecord-first view hand entry cost lawful hung held first nearest from_start outcome parent cost_is class some)
+    (MayRecord-first view hand entry cost lawful hung held first nearest from_start posted outcome parent cost_is class some)

@@ -1,4 +1,6 @@
+pub mod HeldMarks
 pub mod FirstRecords
 pub mod LinkedPlaces
 pub mod Elements
 pub mod StartMarks
+pub mod InformedMarks

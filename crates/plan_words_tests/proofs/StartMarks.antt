@@ -1,5 +1,5 @@
 -- A mark that lies on the start ends there: no node is nearer, and the start is where the step to it leads.
-use Rattle.std.proofs.Common.{◌≡◌, ℕ, ◌*◌, Some, sym, ap, ◌∙◌, subst, arith}
+use Rattle.std.proofs.Common.{◌≡◌, ℕ, ◌*◌, [], Some, sym, ap, ◌∙◌, subst, arith}
 use Rattle.std.specs.Int.{abs_diff}
 use Rattle.std.specs.Prelude.{IfSome}
 use Rattle.plan_model.specs.Runs.ClosedLaw.{mark_at}
@@ -25,7 +25,8 @@ squared_distance-same p =
     let up : abs_diff p.y p.y ≡ 0 = omega arith in
     omega (arith, ap (λ (g : ℕ). g * g) across, ap (λ (g : ℕ). g * g) up)
 
-module _ (view : View) (hand : Hand) (entry : Record) (seen : SeesPoint view 0 (mark_at view.run.marks hand.mark)) (nearest : entry.nearest ≡ 0) where
+module _ (view : View) (hand : Hand) (entry : Record) (seen : SeesPoint view 0 (mark_at view.run.marks hand.mark)) (nearest : entry.nearest ≡ 0)
+    (none : view.run.goals ≡ []) where
   nearest_at : point_of (tree_seen view).points entry.nearest ≡ mark_at view.run.marks hand.mark
   nearest_at = ap (point_of (tree_seen view).points) nearest ∙ point_of-stands (tree_seen view).points 0 (mark_at view.run.marks hand.mark) seen
 
@@ -39,6 +40,7 @@ module _ (view : View) (hand : Hand) (entry : Record) (seen : SeesPoint view 0 (
 
   MayRecord-start : entry.outcome ≡ Same 0 → MayRecord view hand entry
   MayRecord-start outcome = subst (MayEnd view hand entry) (sym outcome) record {
+    unskipped = λ informed. absurd (informed none);
     present = subst (IsPresent (tree_seen view).points) (sym nearest) (IsPresent-stands (tree_seen view).points 0 (mark_at view.run.marks hand.mark) seen);
     nearest = λ i own. record { least = omega (arith, at_mark); first = λ e. omega (arith, nearest) };
     outcome = subst (SeesPoint view 0) stays seen;
@@ -46,6 +48,6 @@ module _ (view : View) (hand : Hand) (entry : Record) (seen : SeesPoint view 0 (
 
 pub may_finish-start :
     (view : View) (hand : Hand) (entry : Record) → view.hand ≡ Some hand → SeesPoint view 0 (mark_at view.run.marks hand.mark) → entry.nearest ≡ 0
-    → entry.outcome ≡ Same 0 → IfSome view.hand (λ h. MayRecord view h entry)
-may_finish-start view hand entry held seen nearest outcome =
-    if_hand (λ h. MayRecord view h entry) view.hand hand held (MayRecord-start view hand entry seen nearest outcome)
+    → view.run.goals ≡ [] → entry.outcome ≡ Same 0 → IfSome view.hand (λ h. MayRecord view h entry)
+may_finish-start view hand entry held seen nearest none outcome =
+    if_hand (λ h. MayRecord view h entry) view.hand hand held (MayRecord-start view hand entry seen nearest none outcome)

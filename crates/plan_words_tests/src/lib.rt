@@ -2,6 +2,8 @@
 #![tactic(auto)]
 
 #[cfg(test)]
+mod bests;
+#[cfg(test)]
 mod claim;
 #[cfg(test)]
 mod claim_by_threads;

@@ -5,6 +5,7 @@ ghost use Rattle.plan_model.specs.Spaces.Clearance.{ClearAt};
 ghost use Rattle.plan_model.specs.Spaces.ConfigurationSpace.{space_of};
 ghost use Rattle.plan_words.specs.States.{MayClaim};
 ghost use Rattle.plan_words_tests.specs.HeldMarks.{HangsFromStart, HoldsMark};
+ghost use Rattle.step_core.specs.SeenBests.{IsUnskipped};
 ghost use Rattle.step_core.specs.ViewTrees.{SeesPoint};
 ghost use Rattle.step_core.specs.Views.{tree_seen};
 ghost use Rattle.step_core.specs.declared.views.Stage.TheVariants.{Claimed, Counted, Pointed, Treed};
@@ -80,7 +81,7 @@ fn take_mark(shared: &Shared, pass: &mut Pass) -> Option<u32>
 }
 
 /// Claims this mark, the next one.
-fn claim_mark<R: Abort>(rt: &R, shared: &Shared, pass: &mut Pass, mark: u32)
+pub(crate) fn claim_mark<R: Abort>(rt: &R, shared: &Shared, pass: &mut Pass, mark: u32)
     requires may_claim { MayClaim shared.now pass.old }
     requires opening { shared.now.opening ≡ 0 }
     requires marks { length shared.now.task.marks ≡ 3 }
@@ -93,9 +94,11 @@ fn claim_mark<R: Abort>(rt: &R, shared: &Shared, pass: &mut Pass, mark: u32)
 }
 
 /// Writes the point of the mark in hand, steered from the start to where it must come.
-fn write_from_start<R: Abort>(rt: &R, shared: &Shared, pass: &mut Pass, mark: u32, want: Point)
-    requires { HoldsMark shared.now mark Claimed pass.old }
-    ensures { HoldsMark shared.now mark Pointed pass.new }
+pub(crate) fn write_from_start<R: Abort>(rt: &R, shared: &Shared, pass: &mut Pass, mark: u32, want: Point)
+    requires holds { HoldsMark shared.now mark Claimed pass.old }
+    requires unskipped { IfSome pass.old.view.hand (IsUnskipped pass.old.view) }
+    ensures holds { HoldsMark shared.now mark Pointed pass.new }
+    ensures unskipped { IfSome pass.new.view.hand (IsUnskipped pass.new.view) }
 {
     let start = shared.point(pass, 0);
     let towards = shared.task().marks.as_slice()[mark as usize];
@@ -113,6 +116,7 @@ fn hang_from_start<R: Abort>(
     mark: u32,
 ) -> u64
     requires holds { HoldsMark shared.now mark Pointed pass.old }
+    requires unskipped { IfSome pass.old.view.hand (IsUnskipped pass.old.view) }
     requires hall { hall.now ≡ space_of shared.now.task.scene }
     ensures holds { HoldsMark shared.now mark Treed pass.new }
     ensures hangs { HangsFromStart result pass.new.view }
@@ -130,7 +134,7 @@ fn hang_from_start<R: Abort>(
 }
 
 /// Hangs the node in hand below the start, at the cost that it must have.
-fn hang_at_cost<R: Abort>(
+pub(crate) fn hang_at_cost<R: Abort>(
     rt: &R,
     shared: &Shared,
     hall: &Hall,
@@ -139,6 +143,7 @@ fn hang_at_cost<R: Abort>(
     want: u64,
 )
     requires holds { HoldsMark shared.now mark Pointed pass.old }
+    requires unskipped { IfSome pass.old.view.hand (IsUnskipped pass.old.view) }
     requires hall { hall.now ≡ space_of shared.now.task.scene }
     ensures holds { HoldsMark shared.now mark Treed pass.new }
     ensures hangs { HangsFromStart want pass.new.view }
@@ -148,7 +153,7 @@ fn hang_at_cost<R: Abort>(
 }
 
 /// Looks to the right of the start, and finds no node there.
-fn expect_free<R: Abort>(rt: &R, shared: &Shared, pass: &mut Pass, mark: u32, cost: u64)
+pub(crate) fn expect_free<R: Abort>(rt: &R, shared: &Shared, pass: &mut Pass, mark: u32, cost: u64)
     requires holds { HoldsMark shared.now mark Treed pass.old }
     requires hangs { HangsFromStart cost pass.old.view }
     ensures holds { HoldsMark shared.now mark Treed pass.new }
@@ -239,7 +244,7 @@ fn link_below<R: Abort>(
 }
 
 /// Links the node in hand to the right of the start, where no other was linked.
-fn link_first<R: Abort>(rt: &R, shared: &Shared, pass: &mut Pass, mark: u32, cost: u64)
+pub(crate) fn link_first<R: Abort>(rt: &R, shared: &Shared, pass: &mut Pass, mark: u32, cost: u64)
     requires holds { HoldsMark shared.now mark Treed pass.old }
     requires hangs { HangsFromStart cost pass.old.view }
     ensures holds { HoldsMark shared.now mark Counted pass.new }
@@ -289,6 +294,9 @@ fn finish_placed<R: Abort>(rt: &R, shared: &Shared, pass: &mut Pass, mark: u32, 
     if pass.turn() != 0 {
         panic!(rt; "the worker has handled a mark before");
     }
+    if shared.task().scene.informed {
+        panic!(rt; "a mark may be skipped");
+    }
     let entry = Record {
         worker: pass.worker(),
         turn: 0,
@@ -313,6 +321,9 @@ fn hang_both<R: Abort>(rt: &R, shared: &Shared, hall: &Hall, first: &mut Pass, s
     ensures second { HoldsMark shared.now 1 Treed second.new }
     ensures second_hangs { HangsFromStart 12594 second.new.view }
 {
+    if shared.task().scene.informed {
+        panic!(rt; "a mark may be skipped");
+    }
     claim_mark(rt, shared, first, 0);
     claim_mark(rt, shared, second, 1);
     write_from_start(rt, shared, first, 0, ABOVE);

@@ -142,6 +142,9 @@ pub(crate) fn take_turn<R: Abort>(
     ensures part { share pass.new.view ≡ share pass.old.view }
 {
     let mark = shared.claim(pass, limit)?;
+    if shared.task().scene.informed {
+        panic!(rt; "a mark may be skipped");
+    }
     expect_on_start(rt, shared, pass, mark);
     let entry = Record::unplaced(pass.worker(), pass.turn(), 0, Outcome::Same(0));
     shared.finish(pass, entry);

@@ -1,5 +1,5 @@
 -- A pass that works alone handles a mark as in the textbook: what its steps lead to.
-use Rattle.std.proofs.Common.{◌≡◌, ℕ, suc, Some, None, [], ◌∷◌, ◌++◌, sym, ap, ◌∙◌, subst}
+use Rattle.std.proofs.Common.{◌≡◌, false, ℕ, suc, Some, None, [], ◌∷◌, ◌++◌, sym, ap, ◌∙◌, subst}
 use Rattle.kd_shared.specs.Placings.{SeesPlacing}
 use Rattle.kd_shared.specs.declared.placing.Placing.{Placing}
 use Rattle.kd_shared.specs.declared.placing.Placing.TheVariants.{Placed, Same}
@@ -11,6 +11,7 @@ use Rattle.plan_model.specs.Trees.NodeLists.{points_of}
 use Rattle.plan_model.specs.declared.geometry.Point.{Point}
 use Rattle.plan_model.specs.declared.records.Outcome.TheVariants.{Blocked, Same as SameNode}
 use Rattle.plan_model.specs.declared.records.Record.{Record}
+use Rattle.plan_words.proofs.PlainScenes.{no_goals}
 use Rattle.plan_words.specs.Claims.{SeesAsBefore}
 use Rattle.plan_words.specs.States.{GoesOn, PassState, SharedState, turn_of, with_view, worker_of}
 use Rattle.plan_work.proofs.AloneMarks.{KeepsRun-refl, SeesTextbook-recorded, SeesTextbook-still, WorksAlone-recorded, WorksAlone-still}
@@ -83,20 +84,23 @@ module _
     )
 
     -- a node stands at p
-    pub AloneNext-found : (j : ℕ) → entry ≡ own_unplaced found.view m (SameNode j) → SeesPoint found.view j p
+    pub AloneNext-found : shared.task.scene.informed ≡ false → (j : ℕ) → entry ≡ own_unplaced found.view m (SameNode j) → SeesPoint found.view j p
         → WorksAlone done.view (suc k) × SeesTextbook done.view (suc k)
-    AloneNext-found j is stands =
+    AloneNext-found plain j is stands =
         unplaced
-        (Handles-same (setup_in found.view.run) book.tree k m (mark_at found.view.run.marks k) p entry steers_tree j
+        (Handles-same (setup_in found.view.run) book.tree k m (mark_at found.view.run.marks k) p entry
+        (no_goals shared found.view keeps.belongs.run plain) steers_tree j
         (sym (book.nodes.points j) ∙ stands)
         (is ∙ ap (λ members. unplaced_record (worker_of members) (turn_of members) m (SameNode j)) alone.crew))
 
     -- or the segment to it is blocked
-    pub AloneNext-blocked : IsFree (tree_seen found.view).points p → ¬ Clear (setup_in found.view.run).space (point_of (tree_seen found.view).points m) p
+    pub AloneNext-blocked : shared.task.scene.informed ≡ false → IsFree (tree_seen found.view).points p
+        → ¬ Clear (setup_in found.view.run).space (point_of (tree_seen found.view).points m) p
         → entry ≡ own_unplaced found.view m Blocked → WorksAlone done.view (suc k) × SeesTextbook done.view (suc k)
-    AloneNext-blocked free blocked is =
+    AloneNext-blocked plain free blocked is =
         unplaced
-        (Handles-blocked (setup_in found.view.run) book.tree k m (mark_at found.view.run.marks k) p entry steers_tree
+        (Handles-blocked (setup_in found.view.run) book.tree k m (mark_at found.view.run.marks k) p entry
+        (no_goals shared found.view keeps.belongs.run plain) steers_tree
         (λ j stands. free j (book.nodes.points j ∙ stands))
         (λ clear.
         blocked (subst (λ a. Clear (setup_in found.view.run).space a p) (sym (point_of-mirrored found.view book.tree book.nodes m)) clear))

@@ -1,5 +1,5 @@
 -- A mark is handled in steps: what the first of them leave, and what all of them leave together.
-use Rattle.std.proofs.Common.{◌≡◌, ℕ, ◌≤◌, Some, refl, sym, ap, ◌∙◌, subst, arith}
+use Rattle.std.proofs.Common.{◌≡◌, false, ℕ, ◌≤◌, Some, refl, sym, ap, ◌∙◌, subst, arith}
 use Rattle.std.specs.Prelude.{[], IfSome, IsSome, is_some}
 use Rattle.plan_model.specs.Spaces.Clearance.{Clear}
 use Rattle.plan_model.specs.Spaces.ConfigurationSpace.{space_of}
@@ -12,6 +12,7 @@ use Rattle.plan_model.proofs.NewNodes.{point_of-stands}
 use Rattle.plan_model.proofs.SightLaws.{EndsSince-later}
 use Rattle.plan_model.specs.Geometry.Bounds.{IsBounded}
 use Rattle.plan_words.specs.States.{BelongsTo, GoesOn, PassState, SharedState, turn_of, with_view, worker_of}
+use Rattle.plan_words.proofs.PlainScenes.{no_goals}
 use Rattle.plan_words.proofs.GoingOn.{BelongsTo-later, GoesOn-trans}
 use Rattle.step_core.proofs.LawfulSights.{IsLaterMoment-later, KeepsSight-lawful}
 use Rattle.step_core.proofs.SeenWords.{point_at-seen, seen-within}
@@ -158,19 +159,22 @@ module _
     (shared : SharedState) (before found : PassState) (hand : Hand) (k m : ℕ) (from p : Point) (keeps : KeepsRecords shared before found)
     (steers : HasSteered before.view found.view k m from p) (held : found.view.hand ≡ Some hand) (mark : hand.mark ≡ k) where
   -- another node stands at the point
-  pub MayRecord-found : (j : ℕ) → SeesPoint found.view j p → IfSome found.view.hand (λ h. MayRecord found.view h (own_unplaced found.view m (Same j)))
-  MayRecord-found j stands =
+  pub MayRecord-found : shared.task.scene.informed ≡ false → (j : ℕ) → SeesPoint found.view j p
+      → IfSome found.view.hand (λ h. MayRecord found.view h (own_unplaced found.view m (Same j)))
+  MayRecord-found plain j stands =
       if_held found.view (λ h. MayRecord found.view h (own_unplaced found.view m (Same j))) hand held
       (MaySteer-steered found.view hand k m p (own_unplaced found.view m (Same j)) (SeesPoint found.view j)
-      (IsSteeredTo-found shared before found k m from p keeps steers) mark refl stands)
+      (no_goals shared found.view keeps.belongs.run plain) (IsSteeredTo-found shared before found k m from p keeps steers) mark refl stands)
 
   -- or the segment to it is blocked
-  pub MayRecord-blocked : IsFree (tree_seen found.view).points p → ¬ Clear (setup_in found.view.run).space (point_of (tree_seen found.view).points m) p
+  pub MayRecord-blocked : shared.task.scene.informed ≡ false → IsFree (tree_seen found.view).points p
+      → ¬ Clear (setup_in found.view.run).space (point_of (tree_seen found.view).points m) p
       → IfSome found.view.hand (λ h. MayRecord found.view h (own_unplaced found.view m Blocked))
-  MayRecord-blocked free blocked =
+  MayRecord-blocked plain free blocked =
       if_held found.view (λ h. MayRecord found.view h (own_unplaced found.view m Blocked)) hand held
       (MaySteer-steered found.view hand k m p (own_unplaced found.view m Blocked) (MayBeBlocked found.view (own_unplaced found.view m Blocked))
-      (IsSteeredTo-found shared before found k m from p keeps steers) mark refl record { blocked = blocked; free = λ i own. free i })
+      (no_goals shared found.view keeps.belongs.run plain) (IsSteeredTo-found shared before found k m from p keeps steers) mark refl
+      record { blocked = blocked; free = λ i own. free i })
 
   module _ (done : PassState) (entry : Record) (recorded : HasRecorded shared found done entry) where
     handles : HandlesMark shared before done k entry
@@ -252,9 +256,10 @@ module _
           (GoesOn-trans steering.view found.view written.view two goes_on) (ap (λ v. sees v Count) then ∙ count) filled));
     }
 
-    pub MayPlace-written : IsBounded p → Clear (space_of shared.task.scene) from p → MayPlace shared written k m p
+    pub MayPlace-written : shared.task.scene.informed ≡ false → IsBounded p → Clear (space_of shared.task.scene) from p → MayPlace shared written k m p
     unfolding KeepsRecords-written
-    MayPlace-written bounded clear = record {
+    MayPlace-written plain bounded clear = record {
+      plain = plain;
       belongs = KeepsRecords-written.belongs;
       hand = record hand { stage = Pointed; nearest = m; point = p };
       held = ap (λ v. v.hand) then;

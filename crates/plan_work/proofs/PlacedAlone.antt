@@ -26,6 +26,7 @@ use Rattle.plan_model.proofs.ListMembers.{Contains-after, Contains-first}
 use Rattle.plan_model.specs.declared.configuration_spaces.ConfigurationSpace.{ConfigurationSpace}
 use Rattle.plan_words.specs.SearchLists.{numbers_of}
 use Rattle.step_core.proofs.DistinctNumbers.{Contains-cases}
+use Rattle.plan_words.proofs.PlainScenes.{no_goals}
 use Rattle.plan_words.specs.States.{PassState, SharedState, turn_of, worker_of}
 use Rattle.plan_work.proofs.AloneMarks.{KeepsRun, SeesTextbook-recorded, WorksAlone-recorded}
 use Rattle.plan_work.proofs.EqualPoints.{count-same, near_new-same}
@@ -93,6 +94,7 @@ module _
   same_handles =
       let crew : tried.view.crew ≡ record { worker = 0; turn = k } ∷ [] = keeps.crew ∙ alone.crew in
       Handles-same (setup_in before.view.run) book.tree k m (mark_at before.view.run.marks k) p entry
+      (no_goals shared before.view may.belongs.run may.plain)
       (SteersTo-mirrored before.view book.tree book.nodes (mark_at before.view.run.marks k) p m steers) j
       (sym (same_mirrors.points j) ∙ subst (SeesPoint tried.view j) may.pointed.point is_tried.came.stands)
       (is ∙ ap (λ crew. unplaced_record (worker_of crew) (turn_of crew) m (SameNode j)) crew)
@@ -280,7 +282,7 @@ module _
 
     handles : Handles (setup_in before.view.run) book.tree k (mark_at before.view.run.marks k) entry now
     handles =
-        Handles-placed setup tree k m (mark_at before.view.run.marks k) p entry steers_tree f now free clear_tree parent entry_is
+        Handles-placed setup tree k m (mark_at before.view.run.marks k) p entry (no_goals shared before.view may.belongs.run may.plain) steers_tree f now free clear_tree parent entry_is
         (subst (λ ns. Rewires setup.space (tree ++ Some (record { point = p; parent = f }) ∷ []) (suc k) ns now) near_is
         (subst (λ s. Rewires s (tree ++ Some (record { point = p; parent = f }) ∷ []) (suc k) (near_new setup (tree_seen before.view).points p) now) space
         rewired))

@@ -20,6 +20,7 @@ use Rattle.plan_model.proofs.RecordLaws.{class_of-le}
 use Rattle.plan_model.proofs.SegmentLaws.{Clear-back}
 use Rattle.plan_words.specs.SearchLists.{numbers_of}
 use Rattle.plan_words.specs.States.{GoesOn, PassState, SharedState}
+use Rattle.plan_words.proofs.PlainScenes.{no_goals}
 use Rattle.plan_words.proofs.GoingOn.{GoesOn-trans}
 use Rattle.step_core.specs.SeenRecords.{IsOwnNeighbour, MayBePlaced, MayRecord, is_own_node, own_count, own_first_cost}
 use Rattle.kd_shared.specs.Searches.{SweepsWithin}
@@ -40,7 +41,7 @@ use Rattle.step_core.proofs.RecordedNodes.{has_node-recorded, own_recorded, pres
 use Rattle.plan_work.proofs.FilledNear.{looked_still}
 use Rattle.plan_work.proofs.KeptSights.{SweepsWithin-still}
 use Rattle.plan_work.proofs.HeldMarks.{if_held, of_held}
-use Rattle.plan_work.proofs.RecordedMarks.{IsSteeredTo-still, MaySteer-steered, others_still, own_count-same}
+use Rattle.plan_work.proofs.RecordedMarks.{IsSteeredTo-still, MaySteer-steered, no_goal_point, others_still, own_count-same}
 use Rattle.plan_work.proofs.TriedMarks.{HasFilledNear-still, clear_of-may}
 use Rattle.plan_work.specs.Extensions.{IsPlacedAt, IsWithinRadius, WasChosen, WasNeighbour, WasRewired, radius_in}
 use Rattle.plan_work.specs.ExtensionSteps.{HasFilledNear, HasRecorded, IsFilledSince, IsTried, KeepsRecords, MayPlace, hung_by, own_placed}
@@ -79,7 +80,7 @@ pub MayRecord-same :
 MayRecord-same shared before after k m p hanging j may keeps tried =
     if_held after.view (λ hand. MayRecord after.view hand (own_unplaced after.view m (SameNode j))) (hung_by may.hand hanging) tried.came.unchanged
     (MaySteer-steered after.view (hung_by may.hand hanging) k m p (own_unplaced after.view m (SameNode j)) (SeesPoint after.view j)
-    (IsSteeredTo-still before.view after.view k m p keeps.goes_on keeps.records may.steered) may.mark refl
+    (no_goals shared after.view keeps.belongs.run may.plain) (IsSteeredTo-still before.view after.view k m p keeps.goes_on keeps.records may.steered) may.mark refl
     (subst (SeesPoint after.view j) may.pointed.point tried.came.stands))
 
 -- what a rewiring says of the node in hand, by its point and its cost
@@ -233,7 +234,7 @@ module _
   MayRecord-placed =
       if_held after.view (λ hand. MayRecord after.view hand entry) counted_hand (seen.kept.hand ∙ is_tried.came.counted)
       (MaySteer-steered after.view counted_hand k m p entry (λ q. MayBePlaced after.view counted_hand entry)
-      (IsSteeredTo-still before.view after.view k m p whole records may.steered) may.mark refl
+      none (IsSteeredTo-still before.view after.view k m p whole records may.steered) may.mark refl
       record {
         nearest_is = sym may.pointed.nearest;
         parent_is = refl;
@@ -254,7 +255,11 @@ module _
               pair_after i _ close,
               omega (arith, rewired_by i _ close, ap (cost_of (point_of (tree_seen after.view).points i)) may.pointed.point),
             );
+        posted = λ goal. absurd (no_goal_point after.view may.hand.point none goal);
       })
+    where
+      none : after.view.run.goals ≡ []
+      none = no_goals shared after.view (whole.later.run ∙ may.belongs.run) may.plain
 
   -- ---- after the record
 

@@ -1,9 +1,10 @@
 -- What a pass may record of a mark that was steered to p from the nearest node, and that it was handled then.
-use Rattle.std.proofs.Common.{◌≡◌, ◌≢◌, ℕ, zero, suc, ◌+◌, true, Some, length, refl, sym, ap, ◌∙◌, subst, arith}
-use Rattle.std.specs.Prelude.{false, IfSome}
+use Rattle.std.proofs.Common.{◌≡◌, ◌≢◌, ℕ, zero, suc, ◌+◌, true, [], Some, length, refl, sym, ap, ◌∙◌, subst, arith}
+use Rattle.std.specs.Prelude.{false, IfSome, IsTrue}
 use Rattle.std.proofs.lemmas.List.Elements.{filter_agree}
 use Rattle.std.specs.List.{filter, range_with_len}
 use Rattle.plan_model.specs.Runs.ClosedLaw.{mark_at}
+use Rattle.plan_model.specs.Trees.BestNode.{is_goal_point}
 use Rattle.plan_model.specs.Trees.LeastPairs.{IsNotAbove}
 use Rattle.plan_model.specs.Trees.Nearness.{distance_to}
 use Rattle.plan_model.specs.Runs.Outcomes.{is_placed}
@@ -71,23 +72,29 @@ IsSteeredTo-still before after k m p goes_on records h =
           (h.not_above n was));
     }
 
--- So the mark may be recorded as what it may be at p.
+-- So the mark may be recorded as what it may be at p, if no mark is skipped.
 pub MaySteer-steered :
-    (view : View) (hand : Hand) (k m : ℕ) (p : Point) (entry : Record) (MayEndAt : Point → Type 0) → IsSteeredTo view k m p → hand.mark ≡ k
+    (view : View) (hand : Hand) (k m : ℕ) (p : Point) (entry : Record) (MayEndAt : Point → Type 0) → view.run.goals ≡ []
+    → IsSteeredTo view k m p → hand.mark ≡ k
     → entry.nearest ≡ m → MayEndAt p → MaySteer view hand entry MayEndAt
-MaySteer-steered view hand k m p entry MayEndAt h mark is ended =
+MaySteer-steered view hand k m p entry MayEndAt none h mark is ended =
     let points = (tree_seen view).points in
     let reached : p ≡ steered (point_of points entry.nearest) (mark_at view.run.marks hand.mark) view.run.step =
     h.point_is
     ∙ ap (λ q. steered q (mark_at view.run.marks k) view.run.step) (sym (point_of-stands points m h.from h.stands) ∙ ap (point_of points) (sym is))
     ∙ ap (λ j. steered (point_of points entry.nearest) (mark_at view.run.marks j) view.run.step) (sym mark) in
     record {
+      unskipped = λ informed. absurd (informed none);
       present = subst (IsPresent points) (sym is) (IsPresent-stands points m h.from h.stands);
       nearest = λ i own.
           subst (λ n. IsNotAbove (distance_to (mark_at view.run.marks hand.mark) points) n i) (sym is)
           (subst (λ j. IsNotAbove (distance_to (mark_at view.run.marks j) points) m i) (sym mark) (h.not_above i (own_recorded view entry i own)));
       outcome = subst MayEndAt reached ended;
     }
+
+-- and no point lies in a goal by which marks are skipped
+pub no_goal_point : (view : View) (p : Point) → view.run.goals ≡ [] → ¬ IsTrue (is_goal_point view.run.goals (Some p))
+no_goal_point view p none goal = let gone = subst (λ goals. IsTrue (is_goal_point goals (Some p))) none goal in cc
 
 -- ---- records
 

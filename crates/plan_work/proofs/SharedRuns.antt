@@ -6,12 +6,13 @@ use mathlib.Core.Option.{some}
 use Rattle.plan_model.specs.Scenes.MarkPoints.{quota_of}
 use Rattle.plan_model.proofs.StripMarks.{quotas-add_up}
 use Rattle.plan_words.specs.Claims.{AllFull, HasNoneLeft}
-use Rattle.plan_words.specs.States.{MayClaim, PassState, SharedState, StartsAs}
+use Rattle.plan_words.specs.States.{MayClaim, PassState, SharedState, StartsAs, without_best}
 use Rattle.step_core.proofs.WordKinds.{AreBehind-trans}
 use Rattle.step_core.specs.Views.{run_of, sees, share}
 use Rattle.plan_model.proofs.SumsBelow.{sum-le}
-use Rattle.step_core.specs.WordKinds.{AreBehind}
-use Rattle.step_core.specs.WordNames.Word.{Counter}
+use Rattle.step_core.specs.WordKinds.{AreBehind, MayBecome, kind_of}
+use Rattle.step_core.specs.WordNames.{Words}
+use Rattle.step_core.specs.WordNames.Word.{Best, ChildOf, Count, Counter, FirstOf, PointOf, RecordOf, TreeOf}
 use Rattle.step_core.specs.GrownRuns.{state_of_grown, words_of_grown}
 use Rattle.step_core.specs.LastViews.{StandsAsSeen}
 use Rattle.step_core.specs.declared.grown.Grown.{Grown}
@@ -33,6 +34,23 @@ there : (passes : List PassState) (i : ℕ) (d : PassState) → i < length passe
 there [] i d low = absurd (omega (arith, low))
 there (x ∷ passes) zero d low = refl
 there (x ∷ passes) (suc i) d low = there passes i d (omega (arith, low))
+
+-- of the best word it is not said what becomes of it
+behind_same : (words other later : Words) → without_best words ≡ without_best other → AreBehind words later → AreBehind other later
+behind_same words other later same behind Best = tt
+behind_same words other later same behind Count = subst (λ w. MayBecome (kind_of Count) (w Count) (later Count)) same (behind Count)
+behind_same words other later same behind (Counter g) =
+    subst (λ w. MayBecome (kind_of (Counter g)) (w (Counter g)) (later (Counter g))) same (behind (Counter g))
+behind_same words other later same behind (PointOf n) =
+    subst (λ w. MayBecome (kind_of (PointOf n)) (w (PointOf n)) (later (PointOf n))) same (behind (PointOf n))
+behind_same words other later same behind (ChildOf n side) =
+    subst (λ w. MayBecome (kind_of (ChildOf n side)) (w (ChildOf n side)) (later (ChildOf n side))) same (behind (ChildOf n side))
+behind_same words other later same behind (TreeOf n) =
+    subst (λ w. MayBecome (kind_of (TreeOf n)) (w (TreeOf n)) (later (TreeOf n))) same (behind (TreeOf n))
+behind_same words other later same behind (FirstOf n) =
+    subst (λ w. MayBecome (kind_of (FirstOf n)) (w (FirstOf n)) (later (FirstOf n))) same (behind (FirstOf n))
+behind_same words other later same behind (RecordOf k) =
+    subst (λ w. MayBecome (kind_of (RecordOf k)) (w (RecordOf k)) (later (RecordOf k))) same (behind (RecordOf k))
 
 -- a list of one has its first element alone
 pub one_of : (passes : List PassState) (d : PassState) → length passes ≡ 1 → passes ≡ slice_index_or passes 0 d ∷ []
@@ -115,7 +133,7 @@ module _
     pub opening_seen : AreBehind (words_of_grown grown) (sees pass.view)
     opening_seen =
         AreBehind-trans (words_of_grown grown) (sees first.view) (sees pass.view)
-        (subst (λ words. AreBehind words (sees first.view)) (started 0 pass some_pass).seen done_first.goes_on.later.seen) seen_first
+        (behind_same _ (words_of_grown grown) (sees first.view) (started 0 pass some_pass).seen done_first.goes_on.later.seen) seen_first
 
     -- its greatest limit is this one
     pub limit_reached : (state : TreeState) → StandsAsSeen pass.view state → pass.view.most ≡ limit

@@ -5,7 +5,7 @@ use Rattle.plan_model.specs.Trees.PointsByNumber.{IsFree}
 use Rattle.plan_model.specs.Geometry.Steering.{steered}
 use Rattle.plan_model.specs.declared.geometry.Point.{Point}
 use Rattle.plan_model.specs.declared.records.Outcome.{Outcome}
-use Rattle.plan_model.specs.declared.records.Outcome.TheVariants.{Blocked, Placed, Same}
+use Rattle.plan_model.specs.declared.records.Outcome.TheVariants.{Blocked, Placed, Same, Skipped}
 use Rattle.plan_model.specs.declared.records.Record.{Record}
 use Rattle.plan_model.proofs.NewNodes.{point_of-stands}
 use Rattle.step_core.specs.Views.{tree_seen}
@@ -30,6 +30,7 @@ module _ (before after : View) (k : ℕ) (entry : Record) where
   EndsAsSeen-written from p steers Placed ended = WasSteered-to from p (IsPlacedAt before after k entry) steers ended
   EndsAsSeen-written from p steers (Same j) ended = WasSteered-to from p (SeesPoint after j) steers ended
   EndsAsSeen-written from p steers Blocked ended = absurd ended
+  EndsAsSeen-written from p steers Skipped ended = absurd ended
 
   -- each outcome has a nearest node, which steered
   pub HasSteered-ended :
@@ -38,6 +39,7 @@ module _ (before after : View) (k : ℕ) (entry : Record) where
   HasSteered-ended Placed ended = (ended.from, ended.steered)
   HasSteered-ended (Same j) ended = (ended.from, ended.steered)
   HasSteered-ended Blocked ended = (ended.from, ended.steered)
+  HasSteered-ended Skipped ended = absurd ended
 
   -- where no node is seen at the point, the mark was blocked
   pub Blocked-free :
@@ -45,3 +47,4 @@ module _ (before after : View) (k : ℕ) (entry : Record) where
   Blocked-free Placed ended free = absurd (free (suc k) ended.outcome.stands)
   Blocked-free (Same j) ended free = absurd (free j ended.outcome)
   Blocked-free Blocked ended free = refl
+  Blocked-free Skipped ended free = absurd ended

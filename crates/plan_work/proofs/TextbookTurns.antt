@@ -7,7 +7,7 @@ use Rattle.plan_model.specs.Runs.Textbook.{Ends, HandlesAll, Nodes, Setup}
 use Rattle.plan_model.specs.Runs.Turns.{is_of_worker, turns_of}
 use Rattle.plan_model.specs.declared.geometry.Point.{Point}
 use Rattle.plan_model.specs.declared.records.Outcome.{Outcome}
-use Rattle.plan_model.specs.declared.records.Outcome.TheVariants.{Blocked, Placed, Same}
+use Rattle.plan_model.specs.declared.records.Outcome.TheVariants.{Blocked, Placed, Same, Skipped}
 use Rattle.plan_model.specs.declared.records.Record.{Record}
 use Rattle.plan_model.proofs.CountsBelow.{count-all, count-longer, count-same}
 use Rattle.plan_model.proofs.RunLaws.{HandlesAll-length}
@@ -17,6 +17,7 @@ worker-ends : (setup : Setup) (tree : Nodes) (k : ℕ) (mark : Point) (outcome :
 worker-ends setup tree k mark Placed entry after ends = ap (λ (e : Record). e.worker) ends.recorded
 worker-ends setup tree k mark (Same j) entry after ends = ap (λ (e : Record). e.worker) ends.recorded
 worker-ends setup tree k mark Blocked entry after ends = ap (λ (e : Record). e.worker) ends.recorded
+worker-ends setup tree k mark Skipped entry after ends = ap (λ (e : Record). e.worker) ends.recorded
 
 -- each of worker 0
 worker-textbook : (setup : Setup) (k : ℕ) (tree : Nodes) (marks : List Point) (entries : List Record) (after : Nodes)

@@ -1,5 +1,5 @@
 -- What the steps of the handling of one mark leave, by what the pass has seen.
-use Rattle.std.specs.Prelude.{◌≡◌, true, ℕ, ◌*◌, ◌<◌, ◌≤◌, All, Contains, Some, List, refl}
+use Rattle.std.specs.Prelude.{◌≡◌, true, false, ℕ, ◌*◌, ◌<◌, ◌≤◌, All, Contains, Some, List, refl}
 use Rattle.edge_cost.specs.declared.radii.Radii.{Radii}
 use Rattle.kd_shared.specs.Searches.{SweepsWithin}
 use Rattle.kd_shared.specs.Placings.{IsPlacing}
@@ -16,7 +16,7 @@ use Rattle.plan_model.specs.Geometry.Radius.{class_of}
 use Rattle.plan_model.specs.Geometry.Steering.{steered}
 use Rattle.plan_model.specs.declared.geometry.Point.{Point}
 use Rattle.plan_model.specs.declared.records.Outcome.{Outcome}
-use Rattle.plan_model.specs.declared.records.Outcome.TheVariants.{Blocked, Placed, Same}
+use Rattle.plan_model.specs.declared.records.Outcome.TheVariants.{Blocked, Placed, Same, Skipped}
 use Rattle.plan_model.specs.declared.records.Record.{Record}
 use Rattle.plan_model.specs.declared.scenes.Scene.{Scene}
 use Rattle.plan_model.specs.Runs.Textbook.{unplaced_record}
@@ -94,7 +94,7 @@ pub record IsPointed (hand : Hand) (m : ℕ) (p : Point) : Type 0 where
   pub nearest : hand.nearest ≡ m
   pub point : hand.point ≡ p
 
--- Mark k is in hand, its point p is written, and the segment to it from the nearest node m is clear.
+-- Mark k is in hand, its point p is written, and the segment to it from the nearest node m is clear. The scene is not informed.
 pub record MayPlace (shared : SharedState) (pass : PassState) (k m : ℕ) (p : Point) : Type 0 where
   pub belongs : BelongsTo pass shared
   pub hand : Hand
@@ -104,6 +104,7 @@ pub record MayPlace (shared : SharedState) (pass : PassState) (k m : ℕ) (p : P
   pub bounded : IsBounded p
   pub steered : IsSteeredTo pass.view k m p
   pub clear : Clear (space_of shared.task.scene) (point_of (tree_seen pass.view).points m) p
+  pub plain : shared.task.scene.informed ≡ false
 
 -- The node in hand has a parent and a cost. By no near node with a clear edge would it cost less, as they are seen, each by a look after so many
 -- steps.
@@ -134,6 +135,7 @@ abbrev pub EndsWritten : View → View → ℕ → Record → Point → Outcome 
 EndsWritten before after k entry p Placed = IsPlacedAt before after k entry p
 EndsWritten before after k entry p (Same j) = SeesPoint after j p
 EndsWritten before after k entry p Blocked = ⊥
+EndsWritten before after k entry p Skipped = ⊥
 
 -- ---- records
 

@@ -1,5 +1,5 @@
 -- What the handling of one mark leaves, by what the pass has seen.
-use Rattle.std.specs.Prelude.{◌≡◌, ◌≢◌, ℕ, suc, ◌+◌, ◌*◌, ◌<◌, ◌≤◌, Some, IsSome, IfSome}
+use Rattle.std.specs.Prelude.{◌≡◌, ◌≢◌, false, ℕ, suc, ◌+◌, ◌*◌, ◌<◌, ◌≤◌, Some, IsSome, IfSome}
 use Rattle.kd_shared.specs.Searches.{SweepsWithin}
 use Rattle.plan_model.specs.Spaces.Clearance.{Clear}
 use Rattle.plan_model.specs.Runs.ClosedLaw.{mark_at}
@@ -13,7 +13,7 @@ use Rattle.plan_model.specs.Seen.Sights.{IsSwept}
 use Rattle.plan_model.specs.Geometry.Steering.{steered}
 use Rattle.plan_model.specs.declared.geometry.Point.{Point}
 use Rattle.plan_model.specs.declared.records.Outcome.{Outcome}
-use Rattle.plan_model.specs.declared.records.Outcome.TheVariants.{Blocked, Placed, Same}
+use Rattle.plan_model.specs.declared.records.Outcome.TheVariants.{Blocked, Placed, Same, Skipped}
 use Rattle.plan_model.specs.declared.records.Record.{Record}
 use Rattle.plan_words.specs.States.{BelongsTo, GoesOn, MayClaim, PassState, SharedState, turn_of, worker_of}
 use Rattle.step_core.specs.GrownWords.{record_at}
@@ -28,12 +28,13 @@ use Rattle.tree_rewire.specs.Rewirings.{HasSpreadFalls}
 use Rattle.tree_rewire.specs.SeenCosts.{IsLoadedSince, SeesPair, cost_seen}
 use Rattle.plan_work.specs.OneWorker.{SeesTextbook, WorksAlone}
 
--- Mark k is in hand, and nothing is written of it.
+-- Mark k is in hand, and nothing is written of it. The scene is not informed.
 pub record MayExtend (shared : SharedState) (pass : PassState) (k : ℕ) : Type 0 where
   pub belongs : BelongsTo pass shared
   pub hand : IsSome pass.view.hand
   pub mark : IfSome pass.view.hand (λ hand. hand.mark ≡ k)
   pub claimed : IfSome pass.view.hand (λ hand. hand.stage ≡ Claimed)
+  pub plain : shared.task.scene.informed ≡ false
 
 -- The record of mark k stands there, by the worker in its turn; no other and no counter is seen anew, and nothing is in hand. The worker has
 -- had one turn more, and the limit stays.
@@ -123,11 +124,12 @@ pub record WasSteered (before after : View) (k : ℕ) (entry : Record) (EndsAt :
   pub steered : HasSteered before after k entry.nearest from (steered_point after k entry)
   pub outcome : EndsAt (steered_point after k entry)
 
--- what the outcome says: blocked if no node is seen at the point, and only then
+-- what the outcome says: blocked if no node is seen at the point, and only then; no mark is skipped
 abbrev pub EndsAsSeen : View → View → ℕ → Record → Outcome → Type 0
 EndsAsSeen before after k entry Placed = WasSteered before after k entry (IsPlacedAt before after k entry)
 EndsAsSeen before after k entry (Same j) = WasSteered before after k entry (SeesPoint after j)
 EndsAsSeen before after k entry Blocked = WasSteered before after k entry (IsBlockedAt before after entry)
+EndsAsSeen before after k entry Skipped = ⊥
 
 -- ---- the whole
 

@@ -45,7 +45,7 @@ pub(crate) fn extend_by_radii<C: Clearing>(
 /// Handles mark k, which is in hand with nothing written of it, as RRT* does (Karaman and Frazzoli, IJRR 2011), in a tree that
 /// others grow: steers from the nearest node, tests the segment, takes the parent through which the new node costs the least,
 /// links it, rewires the nodes near it, and stores the record, which it returns. All of it by what the pass has seen. The hall
-/// stands for the scene.
+/// stands for the scene, which is not informed.
 ///
 /// The outcome is `Same` only with a node that is seen at the steered point, and `Blocked` exactly if none is seen there at
 /// return; then the segment is not clear. Of a node that was placed the parent was chosen by costs that this call loaded, of each

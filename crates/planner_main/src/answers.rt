@@ -222,6 +222,7 @@ fn run_by_workers<R: Threads + Sync, G: Gate>(
     requires few { workers ≤ MOST_WORKERS }
     requires boxes { boxes.now ≡ space_of scene }
     requires start { ClearAt (space_of scene) scene.start }
+    requires plain { scene.informed ≡ false }
     ensures scene { IfOk result (λ grown. grown.task.scene ≡ scene) }
     ensures all_marks { IfOk result (λ grown. grown.limit ≡ length (mark_points scene)) }
     ensures settled { IfOk result (λ grown. IsSettled (state_of_grown grown)) }

@@ -16,5 +16,7 @@ pub mod RewiredNodes
 pub mod ReadCheaperNodes
 pub mod RewiredLists
 pub mod PutNodes
+pub mod LeastNumbers
+pub mod GoalNodeLists
 pub mod RunsSoFar
 pub mod KeptNodes

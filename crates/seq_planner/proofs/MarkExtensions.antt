@@ -1,7 +1,7 @@
 -- What a mark adds to a sound tree handles it, by its outcome.
 use Rattle.std.proofs.Common.{◌≡◌, ℕ, suc, ◌+◌, ◌*◌, ◌^◌, ◌≤◌, List, [], ◌∷◌, ◌++◌, length, Option, Some, None, arith, refl, sym, ap, ◌∙◌, subst}
 use Rattle.std.specs.Prelude.{All, ◌≢◌}
-use Rattle.std.proofs.lemmas.List.Elements.{All-cons, All-contains}
+use Rattle.std.proofs.lemmas.List.Elements.{All-cons, All-contains, All-nil}
 use Rattle.plan_model.specs.declared.geometry.Point.{Point}
 use Rattle.plan_model.specs.declared.trees.Twig.{Twig}
 use Rattle.plan_model.specs.declared.scenes.Scene.{Scene}
@@ -15,9 +15,9 @@ use Rattle.plan_model.specs.Geometry.Steering.{steered}
 use Rattle.plan_model.specs.Trees.Nearness.{IsNearest}
 use Rattle.plan_model.specs.Trees.OpenNodes.{IsOpenTo}
 use Rattle.plan_model.specs.Trees.PointsByNumber.{StandsAt, IsPresent, IsFree, point_of, node_count}
-use Rattle.plan_model.specs.Trees.NodeLists.{points_of}
+use Rattle.plan_model.specs.Trees.NodeLists.{points_of, sum_of}
 use Rattle.plan_model.specs.Runs.Textbook.{Nodes, setup_of, near_new, SteersTo, Rewires, EndsPlaced, Handles, IsCandidate, IsBestParent, cost_through}
-use Rattle.plan_model.specs.Runs.Textbook.{same_record}
+use Rattle.plan_model.specs.Runs.Textbook.{MayBeCheaper, same_record, skipped_record}
 use Rattle.plan_model.specs.Runs.Textbook.{blocked_record, placed_record}
 use Rattle.plan_model.proofs.LeastPairLaws.{IsFirstLeast-among}
 use Rattle.plan_model.proofs.EmptyRoomClearance.{AreInRoom-from_clear}
@@ -29,10 +29,12 @@ use Rattle.seq_planner.specs.declared.extensions.Extension.{Extension}
 use Rattle.edge_cost.specs.LeastParents.{IsLeastParent}
 use Rattle.edge_cost.specs.declared.parents.Parent.{Parent}
 use Rattle.seq_planner.specs.declared.search_tree.SearchTree.{SearchTree}
-use Rattle.seq_planner.specs.SearchTrees.{AddsRewired, IsExtensionOf, Fits}
+use Rattle.seq_planner.specs.SearchTrees.{AddsRewired, IsExtensionOf, IsSkippedBy, Fits}
 
--- The next mark, of number k, steers from its nearest node, which stands at from, to the point.
+-- A path over the next mark, of number k, may be cheaper than each goal node is. The mark steers from its nearest node, which stands at
+-- from, to the point.
 pub record Steers (scene : Scene) (tree : SearchTree) (mark : Point) (k nearest : ℕ) (from point : Point) : Type 0 where
+  pub cheaper : MayBeCheaper (setup_of scene) (sum_of tree.nodes) (points_of tree.nodes) mark
   pub turn : k ≡ length tree.records.items
   pub numbers : length tree.records.items + 1 ≡ length tree.nodes
   pub is_nearest : IsNearest (points_of tree.nodes) mark nearest
@@ -89,6 +91,15 @@ unplaced scene tree mark extension entry ns present handles h =
       present = present;
     }
 
+-- the best goal node costs no more than the bound of the mark
+pub IsExtensionOf-skipped :
+    (scene : Scene) (tree : SearchTree) (mark : Point) (k goal_node : ℕ) (extension : Extension) → k ≡ length tree.records.items
+    → IsSkippedBy scene tree mark goal_node → IsUnplaced extension (skipped_record k goal_node) → IsExtensionOf scene tree mark extension []
+IsExtensionOf-skipped scene tree mark k goal_node extension turn by own =
+    let P : ℕ → Type 0 = λ n. Handles (setup_of scene) tree.nodes n mark (skipped_record k goal_node) (tree.nodes ++ None ∷ []) in
+    let ends : P k = record { best = by.best; within = by.within; recorded = refl; added = refl } in
+    unplaced scene tree mark extension (skipped_record k goal_node) [] (All-nil (IsPresent (points_of tree.nodes))) (subst P turn ends) own
+
 module _ {scene : Scene} {tree : SearchTree} {mark : Point} {k nearest : ℕ} {from point : Point} (h : Steers scene tree mark k nearest from point) where
   -- the nearest node stands at the point already
   pub IsExtensionOf-same :
@@ -97,6 +108,7 @@ module _ {scene : Scene} {tree : SearchTree} {mark : Point} {k nearest : ℕ} {f
   IsExtensionOf-same {extension = extension} {ns = ns} present same own =
       let P : ℕ → Type 0 = λ n. Handles (setup_of scene) tree.nodes n mark (same_record k nearest nearest) (tree.nodes ++ None ∷ []) in
       let ends : P k = record {
+        cheaper = h.cheaper;
         point = point;
         steers = steers_to h;
         stands = nearest_stands h same;
@@ -113,6 +125,7 @@ module _ {scene : Scene} {tree : SearchTree} {mark : Point} {k nearest : ℕ} {f
       let P : ℕ → Type 0 = λ n. Handles (setup_of scene) tree.nodes n mark (blocked_record k nearest) (tree.nodes ++ None ∷ []) in
       let Q : Point → Type 0 = λ p. ¬ Clear (space_of scene) p point in
       let ends : P k = record {
+        cheaper = h.cheaper;
         point = point;
         steers = steers_to h;
         free = is_free h apart;
@@ -169,6 +182,7 @@ module _ {scene : Scene} {tree : SearchTree} {mark : Point} {k nearest : ℕ} {f
       let entry : Record =
       placed_record k nearest parent.node (cost_through tree.nodes point parent.node) (class_of (node_count (points_of tree.nodes))) in
       let ends : EndsPlaced (setup_of scene) tree.nodes k mark entry after = record {
+        cheaper = h.cheaper;
         point = point;
         steers = steers_to h;
         free = is_free h apart;

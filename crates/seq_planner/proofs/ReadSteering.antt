@@ -5,11 +5,11 @@ use Rattle.plan_model.specs.declared.geometry.Point.{Point}
 use Rattle.plan_model.specs.declared.scenes.Scene.{Scene}
 use Rattle.plan_model.specs.Geometry.Bounds.{IsBounded}
 use Rattle.plan_model.specs.Geometry.Radius.{radius_of}
-use Rattle.plan_model.specs.Runs.Textbook.{setup_of, near_new}
+use Rattle.plan_model.specs.Runs.Textbook.{MayBeCheaper, setup_of, near_new}
 use Rattle.plan_model.specs.Trees.Nearness.{IsNearest, near}
 use Rattle.plan_model.specs.Trees.PointsByNumber.{point_of, node_count}
 use Rattle.plan_model.specs.Geometry.Steering.{steered}
-use Rattle.plan_model.specs.Trees.NodeLists.{points_of}
+use Rattle.plan_model.specs.Trees.NodeLists.{points_of, sum_of}
 use Rattle.seq_planner.specs.declared.search_tree.SearchTree.{SearchTree}
 use Rattle.seq_planner.specs.PlacedLists.{listed_near}
 use Rattle.seq_planner.specs.SearchTrees.{IsSoundTree}
@@ -21,9 +21,11 @@ use Rattle.seq_planner.proofs.SoundTrees.{IsBounded-present}
 -- its number, its point, and the point that it steers to
 pub Steers-read :
     (scene : Scene) (tree : SearchTree) (mark : Point) (k : ℕ) {nearest : ℕ} {from point : Point}
+    → MayBeCheaper (setup_of scene) (sum_of tree.nodes) (points_of tree.nodes) mark
     → k ≡ length tree.records.items → length tree.records.items + 1 ≡ length tree.nodes → IsNearest (points_of tree.nodes) mark nearest
     → from ≡ point_of (points_of tree.nodes) nearest → point ≡ steered from mark scene.step → Steers scene tree mark k nearest from point
-Steers-read scene tree mark k turn numbers is_nearest begins ends = record {
+Steers-read scene tree mark k cheaper turn numbers is_nearest begins ends = record {
+  cheaper = cheaper;
   turn = turn;
   numbers = numbers;
   is_nearest = is_nearest;

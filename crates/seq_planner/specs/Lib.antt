@@ -1,3 +1,4 @@
 pub mod PlacedLists
 pub mod LinkedTrees
+pub mod GoalLists
 pub mod SearchTrees

@@ -10,8 +10,8 @@ use Rattle.plan_model.specs.Geometry.Bounds.{IsBounded}
 use Rattle.plan_model.specs.declared.configuration_spaces.ConfigurationSpace.{ConfigurationSpace}
 use Rattle.plan_model.specs.Spaces.ConfigurationSpace.{space_of}
 use Rattle.plan_model.specs.Trees.PointsByNumber.{StandsAt, IsPresent, IsFree, AreDistinct, node_count}
-use Rattle.plan_model.specs.Trees.NodeLists.{points_of, CostsFall, AreTight}
-use Rattle.plan_model.specs.Runs.Textbook.{Nodes, setup_of, cost_through, Rewires, Handles}
+use Rattle.plan_model.specs.Trees.NodeLists.{points_of, sum_of, CostsFall, AreTight}
+use Rattle.plan_model.specs.Runs.Textbook.{IsBestGoalNode, Nodes, setup_of, cost_through, mark_bound, Rewires, Handles}
 use Rattle.seq_planner.specs.declared.extensions.Extension.{Extension}
 use Rattle.seq_planner.specs.declared.placed_points.PlacedPoints.{PlacedPoints}
 use Rattle.seq_planner.specs.declared.search_tree.SearchTree.{SearchTree}
@@ -78,3 +78,8 @@ pub record GrowsByMark (scene : Scene) (tree : SearchTree) (mark : Point) (after
   pub recorded : after.records.items ≡ tree.records.items ++ entry ∷ []
   pub handled : Handles (setup_of scene) tree.nodes (length tree.records.items) mark entry after.nodes
   pub one_more : length after.nodes ≡ length tree.nodes + 1
+
+-- The next mark may be skipped by this node, the best goal node, which costs no more than the bound of the mark.
+pub record IsSkippedBy (scene : Scene) (tree : SearchTree) (mark : Point) (goal_node : ℕ) : Type 0 where
+  pub best : IsBestGoalNode (setup_of scene) tree.nodes goal_node
+  pub within : sum_of tree.nodes goal_node ≤ mark_bound (setup_of scene) mark

@@ -1,7 +1,7 @@
 //! The extension of a search tree by one mark.
 
 ghost use Rattle.std.specs.Prelude.{◌≡◌, Some, None};
-ghost use Rattle.plan_model.specs.Runs.Textbook.{blocked_record, placed_record, same_record};
+ghost use Rattle.plan_model.specs.Runs.Textbook.{blocked_record, placed_record, same_record, skipped_record};
 
 use edge_cost::Parent;
 use plan_model::{Outcome, Point, Record, Twig};
@@ -41,6 +41,19 @@ impl Extension {
             node: None,
             cost: 0,
             entry: Record::unplaced(0, turn, nearest, Outcome::Blocked),
+        }
+    }
+
+    /// The extension by a mark that is skipped by this goal node.
+    pub(crate) fn skipped(turn: u32, goal_node: u32) -> Extension
+        ensures node { result.node ≡ None }
+        ensures cost { result.cost ≡ 0 }
+        ensures entry { result.entry ≡ skipped_record turn goal_node }
+    {
+        Extension {
+            node: None,
+            cost: 0,
+            entry: Record::unplaced(0, turn, goal_node, Outcome::Skipped),
         }
     }
 

@@ -5,10 +5,13 @@ ghost use Rattle.plan_model.specs.Geometry.Bounds.{IsBounded};
 ghost use Rattle.plan_model.specs.Spaces.Clearance.{ClearAt};
 ghost use Rattle.plan_model.specs.Spaces.ConfigurationSpace.{space_of};
 ghost use Rattle.plan_model.specs.Runs.SameRuns.{IsOfTextbookRun};
-ghost use Rattle.plan_model.specs.Runs.Textbook.{IsTextbookRun, setup_of, start_alone};
+ghost use Rattle.plan_model.specs.Runs.Textbook.{IsTextbookRun, MayBeCheaper, setup_of, start_alone};
+ghost use Rattle.plan_model.specs.Trees.NodeLists.{points_of, sum_of};
 ghost use Rattle.plan_model.specs.Trees.TreeStates.{IsSettled};
+ghost use Rattle.plan_model.specs.declared.geometry.Point.{Point};
 ghost use Rattle.plan_model.specs.declared.limits.TheConstants.{MOST_MARKS};
-ghost use Rattle.seq_planner.specs.SearchTrees.{Fits, GrowsByMark, IsExtensionOf, IsSoundTree, with_cost, with_costs};
+ghost use Rattle.plan_model.specs.declared.scenes.Scene.{Scene};
+ghost use Rattle.seq_planner.specs.SearchTrees.{Fits, GrowsByMark, IsExtensionOf, IsSkippedBy, IsSoundTree, with_cost, with_costs};
 ghost use Rattle.step_core.specs.GrownRuns.{state_of_grown};
 
 use crate::extensions::Extension;
@@ -75,7 +78,7 @@ impl SearchTree {
         })
     }
 
-    /// Handles the next mark.
+    /// Handles the next mark, over which a path may be cheaper than each goal node is.
     ///
     /// # Errors
     ///
@@ -95,6 +98,7 @@ impl SearchTree {
         requires few { length self.old.nodes ≤ MOST_MARKS }
         requires turn { length self.old.records.items + 1 ≡ length self.old.nodes }
         requires bounded { IsBounded mark }
+        requires cheaper { MayBeCheaper (setup_of scene.now) (sum_of self.old.nodes) (points_of self.old.nodes) mark }
         ensures handles { OnOk result (GrowsByMark scene.now self.old mark self.new) }
         ensures sound { OnOk result (IsSoundTree self.new) }
     {
@@ -103,6 +107,24 @@ impl SearchTree {
         if extension.node.is_some() {
             self.rewire(hall, number, &lists.near, &mut lists.pending)?;
         }
+        Ok(())
+    }
+
+    /// Records the next mark as skipped by this goal node.
+    ///
+    /// # Errors
+    ///
+    /// `Memory` if out of memory; the tree is then of no more use.
+    pub(crate) fn skip(&mut self, goal_node: u32) -> Result<(), Memory>
+        requires sound { IsSoundTree self.old }
+        requires few { length self.old.nodes ≤ MOST_MARKS }
+        requires turn { length self.old.records.items + 1 ≡ length self.old.nodes }
+        ensures skips { OnOk result ((scene : Scene) (mark : Point) → IsSkippedBy scene self.old mark goal_node
+            → GrowsByMark scene self.old mark self.new) }
+        ensures sound { OnOk result (IsSoundTree self.new) }
+    {
+        let turn = self.records.len() as u32;
+        self.push(Extension::skipped(turn, goal_node))?;
         Ok(())
     }
 
@@ -158,6 +180,7 @@ impl SearchTree {
         requires few { length self.now.nodes ≤ MOST_MARKS }
         requires turn { length self.now.records.items + 1 ≡ length self.now.nodes }
         requires bounded { IsBounded mark }
+        requires cheaper { MayBeCheaper (setup_of scene.now) (sum_of self.now.nodes) (points_of self.now.nodes) mark }
         ensures { IfOk result (λ extension. IsExtensionOf scene.now self.now mark extension near.new.items) }
     {
         let turn = self.records.len() as u32;

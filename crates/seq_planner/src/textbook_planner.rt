@@ -1,16 +1,22 @@
 //! The textbook planner over the marks of a task.
 
-ghost use Rattle.std.specs.Prelude.{◌≡◌, length, IfOk};
+ghost use Rattle.std.specs.Prelude.{◌≡◌, ◌+◌, ◌≤◌, length, IfOk, OnOk};
+ghost use Rattle.plan_model.specs.Geometry.Bounds.{IsBounded};
 ghost use Rattle.plan_model.specs.Spaces.Clearance.{ClearAt};
 ghost use Rattle.plan_model.specs.Spaces.ConfigurationSpace.{space_of};
 ghost use Rattle.plan_model.specs.Runs.SameRuns.{IsOfTextbookRun};
-ghost use Rattle.plan_model.specs.Runs.Textbook.{setup_of};
+ghost use Rattle.plan_model.specs.Runs.Textbook.{setup_of, skipping_goals};
+ghost use Rattle.plan_model.specs.Trees.NodeLists.{points_of};
 ghost use Rattle.plan_model.specs.Trees.TreeStates.{IsSettled};
+ghost use Rattle.plan_model.specs.declared.limits.TheConstants.{MOST_MARKS};
+ghost use Rattle.seq_planner.specs.GoalLists.{AreGoalNodesBelow};
+ghost use Rattle.seq_planner.specs.SearchTrees.{GrowsByMark, IsSoundTree};
 ghost use Rattle.step_core.specs.GrownRuns.{state_of_grown};
 
+use crate::goal_nodes::GoalNodes;
 use crate::search_tree::{Lists, SearchTree};
 use edge_cost::Radii;
-use plan_model::{Memory, Task};
+use plan_model::{Memory, Point, Scene, Task};
 use std::alloc::Global;
 use step_core::Grown;
 use swept_check::Clearing;
@@ -20,7 +26,8 @@ use swept_check::Clearing;
 ///
 /// The points of all nodes are looked at once for each mark with a node within the rewiring radius. For any other mark it
 /// is at most three times, and once if gamma is 0: O(n) for each of n marks. Besides, a mark costs a root for each parent
-/// that is tried and each node that is rewired, and O(1) for each node whose cost is lowered. `hall` is the collision
+/// that is tried and each node that is rewired, and O(1) for each node whose cost is lowered; in an informed scene it costs two
+/// roots, and O(1) for each goal node and each goal, and a skipped mark nothing else. `hall` is the collision
 /// checker of the scene; it is asked about the edge from the nearest node, and about those to near nodes that would be
 /// cheaper. The closed run is packed once, in O(n * d) for d nodes on the longest way through its kd-tree.
 ///
@@ -40,8 +47,46 @@ pub fn textbook<C: Clearing>(alloc: Global, task: Task, hall: &C) -> Result<Grow
     let radii = Radii::new(scene.step, scene.gamma);
     let mut lists = Lists::new(alloc);
     let mut tree = SearchTree::new(alloc, scene.start)?;
+    let mut goal_nodes = GoalNodes::new(alloc);
+    goal_nodes.look_at_last(scene, &tree)?;
     for &mark in marks {
-        tree.handle(scene, &radii, hall, mark, &mut lists)?;
+        handle_or_skip(
+            &mut tree,
+            &goal_nodes,
+            scene,
+            &radii,
+            hall,
+            mark,
+            &mut lists,
+        )?;
+        goal_nodes.look_at_last(scene, &tree)?;
     }
     tree.into_run(alloc, task)
+}
+
+/// Handles the next mark, or records that it is skipped.
+fn handle_or_skip<C: Clearing>(
+    tree: &mut SearchTree,
+    goal_nodes: &GoalNodes,
+    scene: &Scene,
+    radii: &Radii,
+    hall: &C,
+    mark: Point,
+    lists: &mut Lists,
+) -> Result<(), Memory>
+    requires listed { AreGoalNodesBelow (skipping_goals scene.now) (points_of tree.old.nodes) (length tree.old.nodes) goal_nodes.now.numbers.items }
+    requires step { radii.now.step ≡ scene.now.step }
+    requires gamma { radii.now.gamma ≡ scene.now.gamma }
+    requires hall { C.space hall.now ≡ space_of scene.now }
+    requires sound { IsSoundTree tree.old }
+    requires few { length tree.old.nodes ≤ MOST_MARKS }
+    requires turn { length tree.old.records.items + 1 ≡ length tree.old.nodes }
+    requires bounded { IsBounded mark }
+    ensures handles { OnOk result (GrowsByMark scene.now tree.old mark tree.new) }
+    ensures sound { OnOk result (IsSoundTree tree.new) }
+{
+    match goal_nodes.skipper(scene, tree, mark) {
+        Some(goal_node) => tree.skip(goal_node),
+        None => tree.handle(scene, radii, hall, mark, lists),
+    }
 }

@@ -2,6 +2,8 @@
 #![tactic(auto)]
 
 #[cfg(test)]
+mod informed;
+#[cfg(test)]
 mod near_nodes;
 #[cfg(test)]
 mod outcomes;

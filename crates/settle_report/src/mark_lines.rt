@@ -46,7 +46,7 @@ fn push_handling(text: &mut String, mark: u32, entry: Record) -> Result<(), Allo
     )
 }
 
-/// The rest of a mark's line: what became of it, from its nearest node on.
+/// The rest of a mark's line: what became of it.
 fn push_outcome(text: &mut String, entry: Record) -> Result<(), AllocError>
     ensures { OnOk result (string_bytes text.new ≡ string_bytes text.old ++ line (outcome_words entry entry.outcome)) }
 {
@@ -58,5 +58,6 @@ fn push_outcome(text: &mut String, entry: Record) -> Result<(), AllocError>
         ),
         Outcome::Same(node) => write!(text, "nearest {} same {node}\n", entry.nearest),
         Outcome::Blocked => write!(text, "nearest {} blocked\n", entry.nearest),
+        Outcome::Skipped => write!(text, "skipped by {}\n", entry.nearest),
     }
 }

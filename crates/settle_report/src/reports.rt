@@ -1,13 +1,13 @@
 //! The reports of a settled run as text: the cheapest path into a goal, the counts, and in a full report a line for
 //! each node and each mark.
 
-ghost use Rattle.std.specs.Prelude.{◌≡◌, ◌++◌, IfOk, IfSome, OnOk, string_bytes};
+ghost use Rattle.std.specs.Prelude.{◌≡◌, [], ◌∷◌, ◌++◌, IfOk, IfSome, OnOk, codes, decimal, string_bytes};
 ghost use Rattle.plan_model.specs.Trees.BestNode.{best_node, goals_of};
 ghost use Rattle.plan_model.specs.Runs.ClosedLaw.{outcome_count};
-ghost use Rattle.plan_model.specs.Runs.Outcomes.{is_blocked, is_placed, is_same};
+ghost use Rattle.plan_model.specs.Runs.Outcomes.{is_blocked, is_placed, is_same, is_skipped};
 ghost use Rattle.plan_model.specs.Trees.PointsByNumber.{IsPresent};
 ghost use Rattle.plan_model.specs.Reports.ReportText as spec;
-ghost use Rattle.plan_model.specs.Reports.ReportText.{report_text, summary};
+ghost use Rattle.plan_model.specs.Reports.ReportText.{line, report_text, summary};
 ghost use Rattle.plan_model.specs.Trees.TreeStates.{IsSettled};
 ghost use Rattle.step_core.specs.GrownRuns.{state_of_grown};
 
@@ -169,6 +169,7 @@ struct Counts {
     placed: usize,
     same: usize,
     blocked: usize,
+    skipped: usize,
 }
 
 /// The outcomes of the marks below the limit, counted.
@@ -176,33 +177,59 @@ fn counts_of(grown: &Grown) -> Counts
     ensures placed { result.placed ≡ outcome_count (state_of_grown grown.now).record_of grown.now.limit is_placed }
     ensures same { result.same ≡ outcome_count (state_of_grown grown.now).record_of grown.now.limit is_same }
     ensures blocked { result.blocked ≡ outcome_count (state_of_grown grown.now).record_of grown.now.limit is_blocked }
+    ensures skipped { result.skipped ≡ outcome_count (state_of_grown grown.now).record_of grown.now.limit is_skipped }
 {
     let mut counts = Counts {
         placed: 0,
         same: 0,
         blocked: 0,
+        skipped: 0,
     };
     for mark in 0..grown.limit() {
         match grown.record_of(mark).outcome {
             Outcome::Placed => counts.placed += 1,
             Outcome::Same(_) => counts.same += 1,
             Outcome::Blocked => counts.blocked += 1,
+            Outcome::Skipped => counts.skipped += 1,
         }
     }
     counts
 }
 
-/// The line of the counts of nodes and of marks by their outcomes.
+/// The line of the counts of nodes and of marks by their outcomes; skipped marks are counted where the scene is informed, also none.
 fn push_counts_line(text: &mut String, grown: &Grown) -> Result<(), AllocError>
     ensures { OnOk result (string_bytes text.new ≡ string_bytes text.old ++ spec.counts_line grown.now.task.scene grown.now.limit (state_of_grown grown.now)) }
 {
     let counts = counts_of(grown);
+    if grown.task().scene.informed {
+        push_counts_with_skipped(text, grown.count(), counts)
+    } else {
+        push_counts(text, grown.count(), counts)
+    }
+}
+
+/// The counts of a scene in which marks may be skipped.
+fn push_counts_with_skipped(text: &mut String, nodes: u32, counts: Counts) -> Result<(), AllocError>
+    ensures { OnOk result (string_bytes text.new ≡ string_bytes text.old ++ line (
+        codes "nodes" ∷ decimal nodes ∷ codes "placed" ∷ decimal counts.placed ∷ codes "same" ∷ decimal counts.same
+        ∷ codes "blocked" ∷ decimal counts.blocked ∷ codes "skipped" ∷ decimal counts.skipped ∷ [])) }
+{
     write!(
         text,
-        "nodes {} placed {} same {} blocked {}\n",
-        grown.count(),
-        counts.placed,
-        counts.same,
-        counts.blocked
+        "nodes {nodes} placed {} same {} blocked {} skipped {}\n",
+        counts.placed, counts.same, counts.blocked, counts.skipped
+    )
+}
+
+/// The counts of a scene in which no mark is skipped.
+fn push_counts(text: &mut String, nodes: u32, counts: Counts) -> Result<(), AllocError>
+    ensures { OnOk result (string_bytes text.new ≡ string_bytes text.old ++ line (
+        codes "nodes" ∷ decimal nodes ∷ codes "placed" ∷ decimal counts.placed ∷ codes "same" ∷ decimal counts.same
+        ∷ codes "blocked" ∷ decimal counts.blocked ∷ [])) }
+{
+    write!(
+        text,
+        "nodes {nodes} placed {} same {} blocked {}\n",
+        counts.placed, counts.same, counts.blocked
     )
 }

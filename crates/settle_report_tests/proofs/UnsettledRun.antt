@@ -21,6 +21,7 @@ use Rattle.plan_model.specs.Trees.TreeStates.{TreeState}
 use Rattle.plan_model.specs.Vectors.Runs.{marks_to_rewire, open_setup, rewired_records, rewired_tree}
 use Rattle.plan_model.specs.Vectors.Shapes.{at}
 use Rattle.plan_model.proofs.EmptyRoomClearance.{Clear-empty_room}
+use Rattle.plan_model.proofs.GoalNodes.{no_goal_node}
 use Rattle.plan_model.proofs.LeastPairLaws.{IsNotAbove-lesser, IsNotAbove-refl}
 use Rattle.plan_model.proofs.OpenRoomMarks.{cost_2000, cost_2401, cost_2441, cost_2500}
 use Rattle.plan_model.proofs.RewiredRun.{rewired_run}
@@ -206,6 +207,7 @@ nearest_3 (suc (suc (suc (suc i)))) h = cc
 
 law_1 : IsLawfulRecord rrt_setup unsettled 0 (at 0 50) first
 law_1 = record {
+  cheaper = λ i early goal. absurd (no_goal_node unsettled.points i goal);
   present = refl;
   nearest = nearest_1;
   outcome = record {
@@ -229,6 +231,7 @@ law_1 = record {
 
 law_2 : IsLawfulRecord rrt_setup unsettled 1 (at 40 79) second
 law_2 = record {
+  cheaper = λ i early goal. absurd (no_goal_node unsettled.points i goal);
   present = refl;
   nearest = nearest_2;
   outcome = record {
@@ -252,6 +255,7 @@ law_2 = record {
 
 law_3 : IsLawfulRecord rrt_setup unsettled 2 (at 40 30) third
 law_3 = record {
+  cheaper = λ i early goal. absurd (no_goal_node unsettled.points i goal);
   present = refl;
   nearest = nearest_3;
   outcome = record {

@@ -43,4 +43,7 @@ fn writes_a_line_for_each_other_outcome(rt: HostRuntime) {
     assert_line(&rt, rt.alloc(), 7, same, want);
     let want = "mark 7 worker 2 turn 3 nearest 4 blocked\n";
     assert_line(&rt, rt.alloc(), 7, blocked, want);
+    let skipped = Record::unplaced(2, 3, 4, Outcome::Skipped);
+    let want = "mark 7 worker 2 turn 3 skipped by 4\n";
+    assert_line(&rt, rt.alloc(), 7, skipped, want);
 }

@@ -3,7 +3,7 @@ use Rattle.std.proofs.Common.{◌≡◌, ℕ, zero, suc, ◌+◌, ◌<◌, Bool,
 use Rattle.std.specs.Prelude.{if◌then◌else◌}
 use Rattle.std.proofs.lemmas.Bool.{cases_eq, cases_lt}
 use Rattle.step_core.specs.WordNames.{Word, Words, WritesWord}
-use Rattle.step_core.specs.WordNames.Word.{Count, Counter, PointOf, ChildOf, TreeOf, FirstOf, RecordOf}
+use Rattle.step_core.specs.WordNames.Word.{Count, Best, Counter, PointOf, ChildOf, TreeOf, FirstOf, RecordOf}
 use Rattle.step_core.specs.WordPlaces.{Sizes, HasWord, word_at}
 use Rattle.step_core.specs.Words.{record_of_word}
 use Rattle.step_core.specs.GrownWords.{has_placed, has_node, IsBlank, cleared}
@@ -125,6 +125,7 @@ cleared-all sizes items last m all clears = λ t name. each name t
 
     each : (name : Word) → word_at sizes last name ≡ cleared (word_at sizes items) name
     each Count = clears.others Count (λ h. h)
+    each Best = clears.others Best (λ h. h)
     each (Counter g) = clears.others (Counter g) (λ h. h)
     each (ChildOf n side) = clears.others (ChildOf n side) (λ h. h)
     each (RecordOf k) = clears.others (RecordOf k) (λ h. h)
@@ -144,6 +145,7 @@ cleared-blank words blank = λ t name. sym (each name) t
   where
     each : (name : Word) → words name ≡ cleared words name
     each Count = refl
+    each Best = refl
     each (Counter g) = refl
     each (ChildOf n side) = refl
     each (RecordOf k) = refl

@@ -1,43 +1,55 @@
 -- The record of the mark in hand keeps the law of worlds.
-use Rattle.std.proofs.Common.{◌≡◌, ℕ, ◌*◌, suc, ◌+◌, ◌/◌, ◌%◌, ◌<◌, ◌≤◌, ◌^◌, ◌≢◌, Bool, true, List, ◌∷◌, length, set, Some, refl, sym}
+use Rattle.std.proofs.Common.{◌≡◌, ℕ, ◌*◌, zero, suc, ◌+◌, ◌/◌, ◌%◌, ◌<◌, ◌≤◌, ◌^◌, ◌≢◌, Bool, true, List, ◌∷◌, length, set, Some, refl, sym}
 use Rattle.std.proofs.Common.{ap, ◌∙◌, subst, inl, inr, arith, le_refl}
-use Rattle.std.specs.Prelude.{◌⊎◌, ◌==◌, nat_lt, is_some}
+use Rattle.std.specs.Prelude.{◌⊎◌, ◌==◌, IsTrue, nat_lt, is_some}
 use mathlib.Core.Option.{some}
 use lib.ListN.{get_elem?}
 use Rattle.std.proofs.lemmas.Bool.{cases_eq, eq-eqb, ne_eqb}
 use Rattle.std.proofs.lemmas.Nat.{div-mul-add, mod-mul-add}
 use Rattle.plan_model.specs.Scenes.MarkPoints.{is_claimed}
+use Rattle.plan_model.specs.Trees.BestNode.{IsGoalNode, is_goal_point}
+use Rattle.plan_model.specs.Trees.PointsByNumber.{StandsAt, point_at}
 use Rattle.plan_model.specs.Trees.TreeStates.{GrowsInto}
 use Rattle.plan_model.specs.Runs.Turns.{once_if, turns_of}
+use Rattle.plan_model.specs.declared.records.Outcome.{Outcome}
+use Rattle.plan_model.specs.declared.records.Outcome.TheVariants.{Blocked, Placed, Same, Skipped}
 use Rattle.plan_model.specs.declared.records.Record.{Record}
 use Rattle.plan_model.specs.Runs.Outcomes.{is_placed}
-use Rattle.step_core.specs.GrownWords.{has_placed, record_at}
-use Rattle.step_core.specs.SeenRecords.{MayRecord}
+use Rattle.step_core.specs.GrownWords.{has_node, has_placed, record_at}
+use Rattle.step_core.specs.SeenBests.{IsAtMostPlaced, SeesGoal, seen_first_cost}
+use Rattle.step_core.specs.SeenRecords.{MayEnd, MayRecord}
+use Rattle.step_core.specs.SharedWords.{linked_points}
 use Rattle.step_core.specs.Stages.{MayBeRecorded, has_count, has_link}
-use Rattle.step_core.specs.ViewTrees.{SeesTree}
+use Rattle.step_core.specs.ViewTrees.{SeesPoint, SeesTree}
 use Rattle.step_core.specs.ViewSteps.{finished, one_turn_more, saw}
-use Rattle.step_core.specs.Views.{IsViewOf, holds, run_sizes, sees, share}
+use Rattle.step_core.specs.Views.{IsViewOf, holds, run_sizes, sees, share, tree_seen}
 use Rattle.step_core.specs.WordKinds.{AreBehind}
 use Rattle.step_core.specs.WordNames.{Words, WritesWord}
-use Rattle.step_core.specs.WordNames.Word.{ChildOf, Counter, FirstOf, PointOf, RecordOf, TreeOf}
+use Rattle.step_core.specs.WordNames.Word.{Best, ChildOf, Counter, FirstOf, PointOf, RecordOf, TreeOf}
 use Rattle.step_core.specs.WordPlaces.{HasWord}
-use Rattle.step_core.specs.Words.{FitsWord, IsFirstWord, IsTurnWord, last_field, number_of_outcome, record_of_word, record_word, turn_in, worker_in}
-use Rattle.step_core.specs.Worlds.{IsRecordWord, IsWorld, Records, counters, is_recorded, limit_of, state_in}
+use Rattle.step_core.specs.Words.{FitsWord, IsFirstWord, IsTurnWord, best_word, cost_in, last_field, number_of_outcome, record_of_word, record_word}
+use Rattle.step_core.specs.Words.{turn_in, worker_in}
+use Rattle.step_core.specs.Worlds.{BestWord, IsBestWord, IsRecordWord, IsWorld, Records, SeesBest, counters, is_recorded, limit_of, state_in}
 use Rattle.step_core.specs.declared.views.Hand.{Hand}
 use Rattle.step_core.specs.declared.views.Member.{Member}
 use Rattle.step_core.specs.declared.views.SharedRun.{SharedRun}
+use Rattle.step_core.specs.declared.views.Stage.TheVariants.{Posted}
 use Rattle.step_core.specs.declared.views.View.{View}
 use Rattle.step_core.proofs.FinishedTurns.{Turns-finished, change}
 use Rattle.step_core.proofs.LinkedStates.{GrowsInto-behind}
-use Rattle.step_core.proofs.LawfulRecords.{IsFirstWord-seen, IsLawfulRecord-seen}
+use Rattle.step_core.proofs.LawfulRecords.{HasCome, IsFirstWord-seen, IsLawfulRecord-seen, has_come}
+use Rattle.step_core.proofs.LawfulSights.{IsTrueOf-seen}
 use Rattle.step_core.proofs.MarksInHand.{IsInHand, IsInHand-held, claimed-below, greatest_limit-most, once_if-true}
 use Rattle.step_core.proofs.PackedRecords.{record_of_word-packed}
-use Rattle.step_core.proofs.PlacedWords.{has_placed-record_word}
+use Rattle.step_core.proofs.PackedWords.{cost_in-tree_word}
+use Rattle.step_core.proofs.PlacedWords.{has_node-same, has_placed-record_word}
 use Rattle.step_core.proofs.SawWords.{AreBehind-saw, AreBehind-seen, AreBehind-write, HaveWholePairs-saw, IsFair-saw}
 use Rattle.step_core.proofs.SeenByViews.{IsViewOf-saw, WritesWord-saw}
 use Rattle.step_core.proofs.SeenTreesOfViews.{SeesTree-finished}
+use Rattle.step_core.proofs.SeenViews.{SeesPoint-later}
 use Rattle.step_core.proofs.ViewLists.{maximum-set}
 use Rattle.step_core.proofs.WordKinds.{AreBehind-trans}
+use Rattle.step_core.proofs.WorldBests.{BestWord-step, IsBestWord-grows, SeenBests-set, SeesBest-goes_on, goal-seen_before, same_first_cost}
 use Rattle.step_core.proofs.WorldEmpties.{Empties-kept, last_zero-saw}
 use Rattle.step_core.proofs.WorldHands.{Hands-recorded}
 use Rattle.step_core.proofs.WorldCopies.{Copies-seen}
@@ -45,7 +57,7 @@ use Rattle.step_core.proofs.WorldLinks.{KeepsLinks, LinkedTree-recorded}
 use Rattle.step_core.proofs.WorldPairs.{Pairs-recorded}
 use Rattle.step_core.proofs.WorldParts.{ClaimedMarks-step, record_word-none, SeenBehind-step, Shares-step, limit_of-up, of_run-step, quotas-kept}
 use Rattle.step_core.proofs.WorldSeenPairs.{AreSeenLawfully-own, SeenPairs-set}
-use Rattle.step_core.proofs.WorldSteps.{TreesSeen-set, live, tree}
+use Rattle.step_core.proofs.WorldSteps.{TreesSeen-set, follow, live, tree}
 use Rattle.step_core.proofs.WholeShares.{worker-below}
 use Rattle.step_core.proofs.WorldRecords.{Records-recorded}
 use Rattle.step_core.proofs.WorldTrees.{Trees-kept}
@@ -63,7 +75,8 @@ module _ (run : SharedRun) (words after : Words) (views : List View) (id : ℕ) 
     (crew : List Member) (crew_is : view.crew ≡ member ∷ crew) (x : ℕ) (written : 2 ^ 63 ≤ x) (worker : worker_in x ≡ member.worker)
     (turn : turn_in x ≡ member.turn) (is_packed : IsRecordWord x) (writes : WritesWord (RecordOf hand.mark) x words after) (placed : Bool)
     (reads : (first : ℕ) → has_placed (record_of_word x first) ≡ placed) (linked : placed ≡ has_link hand.stage) (counted : placed ≡ has_count hand.stage)
-    (tree_then : SeesTree (finished view hand.mark x)) (records_then : GrowsInto (state_in run words) (state_in run after) → Records run after) where
+    (tree_then : SeesTree (finished view hand.mark x)) (records_then : GrowsInto (state_in run words) (state_in run after) → Records run after)
+    (least : placed ≡ true → IsTrue (is_goal_point run.goals (Some hand.point)) → view.best ≤ best_word hand.cost (suc hand.mark)) where
   abbrev k : ℕ
   k = hand.mark
 
@@ -162,8 +175,94 @@ module _ (run : SharedRun) (words after : Words) (views : List View) (id : ℕ) 
             keeps_links some_share saw_it.here;
         empties = Empties-kept run words after views id view then at world.empties refl (omega arith) refl keeps_links.children
             (λ n side. last_zero-saw run view of_run (RecordOf k) here x x (ChildOf n side) (λ e. cc));
+        best = best_then grows;
+        bests = SeenBests-set run words after grows views id then (omega (arith, same_best)) world.bests (λ of. knows_best grows seen saw_it);
       }
     where
+      same_best : after Best ≡ words Best
+      same_best = writes.others Best (λ e. cc)
+
+      knew : SeesBest run words view
+      knew = world.bests id view at own
+
+      sees_tree : SeesTree view
+      sees_tree = tree run words views id view world at own
+
+      -- A node that is recorded as placed is that of the hand.
+      come : placed ≡ true → HasCome hand.stage
+      come is = has_come hand.stage (sym counted ∙ is)
+
+      shown : placed ≡ true → SeesPoint view (suc k) hand.point
+      shown is = (sees_tree.holds hand held).shown (come is).link
+
+      stands_now : placed ≡ true → StandsAt (linked_points (run_sizes run) words) (suc k) hand.point
+      stands_now is =
+          subst (λ r. StandsAt (linked_points (run_sizes r) words) (suc k) hand.point) own
+          ((IsTrueOf-seen view words (world.seen.behind id view at) sees_tree (follow run words views id view world at own)).places.nodes (suc k) hand.point
+          (shown is))
+
+      first_word : placed ≡ true → cost_in (words (FirstOf (suc k))) ≡ hand.cost
+      first_word is =
+          let first = world.pairs.first id view at hand held (come is).first in
+          ap cost_in first.word ∙ cost_in-tree_word hand.parent hand.cost first.fits.0 first.fits.1
+
+      placed_by : (first : ℕ) (word : ℕ) → word ≡ x → has_placed (record_of_word word first) ≡ true → placed ≡ true
+      placed_by first word is h = sym (reads first) ∙ ap (λ w. has_placed (record_of_word w first)) (sym is) ∙ h
+
+      best_then : GrowsInto (state_in run words) (state_in run after) → BestWord run after
+      best_then grows =
+          BestWord-step run words after views world.numbers world.links world.trees grows go world.best
+          (subst (IsBestWord run after) (sym same_best) (IsBestWord-grows run words after grows (words Best) world.best.pair)) (omega (arith, same_best)) nodes
+        where
+          nodes : (n : ℕ) → has_node after n ≡ true → IsGoalNode run.goals (linked_points (run_sizes run) after) n
+              → (has_node words n ≡ true) ⊎ (after Best ≤ best_word (cost_in (after (FirstOf n))) n)
+          nodes zero h goal = inl refl
+          nodes (suc j) h goal =
+              elim (cases_eq j k) [
+                | inr apart ↦ inl (sym (has_node-same words after j (writes.others (RecordOf j) (λ e. apart cc))) ∙ h)
+                | inl e ↦ (
+                    let is = placed_by (after (FirstOf (suc j))) (after (RecordOf j)) (ap (λ i. after (RecordOf i)) e ∙ writes.here) h in
+                    let at_point = ap (point_at (linked_points (run_sizes run) after)) (ap suc e) ∙ grows.nodes (suc k) hand.point (stands_now is) in
+                    let low = least is (subst (λ o. IsTrue (is_goal_point run.goals o)) at_point goal) in
+                    let first = ap (λ i. cost_in (after (FirstOf (suc i)))) e ∙ ap cost_in (writes.others (FirstOf (suc k)) (λ f. cc)) ∙ first_word is in
+                    inr (omega (arith, same_best, knew.falls, low, first, e)))
+              ]
+
+      knows_best : GrowsInto (state_in run words) (state_in run after) → AreBehind (sees view) (sees then)
+          → WritesWord (RecordOf k) x (sees view) (sees then) → SeesBest run after then
+      knows_best grows seen saw_it =
+          let saw = SeesBest-goes_on run words after grows (omega (arith, same_best)) view knew in
+          record {
+            pair = saw.pair;
+            falls = saw.falls;
+            placed = least_then;
+            taken_pair = λ other word gone has. cc;
+            taken = λ other word gone has. cc;
+            posted = λ other gone far. cc;
+          }
+        where
+          was_so : (n : ℕ) → has_node (sees view) n ≡ true → SeesGoal then n → view.best ≤ best_word (seen_first_cost then n) n
+          was_so n h goal =
+              subst (λ c. view.best ≤ best_word c n) (sym (same_first_cost view then refl seen sees_tree n h))
+              (knew.placed n h (goal-seen_before view then refl seen sees_tree n h goal))
+
+          least_then : IsAtMostPlaced then view.best
+          least_then zero h goal = was_so zero refl goal
+          least_then (suc j) h goal =
+              elim (cases_eq j k) [
+                | inr apart ↦ was_so (suc j) (sym (has_node-same (sees view) (sees then) j (saw_it.others (RecordOf j) (λ e. apart cc))) ∙ h) goal
+                | inl e ↦ (
+                    let is = placed_by (sees then (FirstOf (suc j))) (sees then (RecordOf j)) (ap (λ i. sees then (RecordOf i)) e ∙ saw_it.here) h in
+                    let at_point = ap (point_at (tree_seen then).points) (ap suc e) ∙ SeesPoint-later view then refl seen (suc k) hand.point (shown is) in
+                    let low = least is (subst (λ r. IsTrue (is_goal_point r.goals (Some hand.point))) own
+                    (subst (λ o. IsTrue (is_goal_point view.run.goals o)) at_point goal)) in
+                    let written = (sees_tree.holds hand held).first_shown (come is).link in
+                    let now : sees view (FirstOf (suc k)) ≡ words (FirstOf (suc k)) =
+                    elim (world.seen.behind id view at (FirstOf (suc k))) [ inl unseen ↦ absurd (omega (arith, unseen, written)) | inr same ↦ same ] in
+                    let first = ap (λ i. cost_in (sees then (FirstOf (suc i)))) e ∙ ap cost_in (saw_it.others (FirstOf (suc k)) (λ f. cc) ∙ now) ∙ first_word is in
+                    omega (arith, low, first, e))
+              ]
+
       keeps_links : KeepsLinks (run_sizes run) words after
       keeps_links = record { children = λ n side. writes.others (ChildOf n side) (λ e. cc); points = λ n h. writes.others (PointOf n) (λ e. cc) }
 
@@ -273,3 +372,13 @@ IsWorld-recorded run words after views id view world at own hand held member cre
     (SeesTree-finished run view (live run words views id view world at own) (tree run words views id view world at own) hand held mark.low
     (none_seen run words views id view world at hand held) entry fits stage)
     (Records-finished run words after views id view world at own hand held member crew crew_is entry fits worker turn stage may writes)
+    (λ placed goal. (world.bests id view at own).posted hand held
+    (by_outcome entry.outcome may placed (subst (λ r. IsTrue (is_goal_point r.goals (Some hand.point))) (sym own) goal)))
+  where
+    -- a goal node was posted
+    by_outcome : (outcome : Outcome) → MayEnd view hand entry outcome → is_placed outcome ≡ true
+        → IsTrue (is_goal_point view.run.goals (Some hand.point)) → hand.stage ≡ Posted
+    by_outcome Placed ended is goal = ended.outcome.posted goal
+    by_outcome (Same j) ended is goal = cc
+    by_outcome Blocked ended is goal = cc
+    by_outcome Skipped ended is goal = cc

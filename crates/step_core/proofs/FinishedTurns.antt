@@ -15,7 +15,7 @@ use Rattle.step_core.specs.ViewSteps.{finished, one_turn_more}
 use Rattle.step_core.specs.Views.{sees, times}
 use Rattle.step_core.specs.WordNames.{Words, WritesWord}
 use Rattle.step_core.specs.WordNames.Word.{FirstOf, RecordOf}
-use Rattle.step_core.specs.Words.{fourth_in, outcome_in, record_in, record_of_word, turn_in, worker_in}
+use Rattle.step_core.specs.Words.{outcome_in, record_in, record_of_word, turn_in, worker_in}
 use Rattle.step_core.specs.Worlds.{IsMember, Turns}
 use Rattle.step_core.specs.declared.views.Member.{Member}
 use Rattle.step_core.specs.declared.views.SharedRun.{SharedRun}
@@ -26,14 +26,12 @@ use Rattle.step_core.proofs.ViewLists.{each-set, sum-one, sum-set, sum-two}
 -- ---- the record in a word
 
 worker_of_record : (number word first : ℕ) → (record_in number word first).worker ≡ worker_in word
-unfolding fourth_in
 worker_of_record zero word first = refl
 worker_of_record (suc zero) word first = refl
 worker_of_record (suc (suc zero)) word first = refl
 worker_of_record (suc (suc (suc n))) word first = refl
 
 turn_of_record : (number word first : ℕ) → (record_in number word first).turn ≡ turn_in word
-unfolding fourth_in
 turn_of_record zero word first = refl
 turn_of_record (suc zero) word first = refl
 turn_of_record (suc (suc zero)) word first = refl

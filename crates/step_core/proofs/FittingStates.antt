@@ -6,7 +6,7 @@ use Rattle.std.proofs.lemmas.Bool.{cases_lt, and_parts, eqb-true}
 use Rattle.std.proofs.lemmas.List.FromFn.{length-range_with_len}
 use Rattle.std.proofs.lemmas.List.Sums.{count_by-le-length}
 use Rattle.plan_model.specs.declared.records.Outcome.{Outcome}
-use Rattle.plan_model.specs.declared.records.Outcome.TheVariants.{Placed, Same, Blocked}
+use Rattle.plan_model.specs.declared.records.Outcome.TheVariants.{Placed, Same, Blocked, Skipped}
 use Rattle.plan_model.specs.declared.records.Record.{Record}
 use Rattle.plan_model.specs.declared.tasks.Task.{Task}
 use Rattle.plan_model.specs.Geometry.Bounds.{IsBounded}
@@ -16,11 +16,12 @@ use Rattle.plan_model.specs.Runs.Outcomes.{is_placed}
 use Rattle.plan_model.specs.Spaces.ConfigurationSpace.{space_of}
 use Rattle.plan_model.specs.Runs.OrderLaw.{most_cost_of}
 use Rattle.plan_model.specs.Runs.Outcomes.{is_zero_unless_placed}
-use Rattle.plan_model.specs.Trees.PointsByNumber.{IsPresent, point_of, node_count}
+use Rattle.plan_model.specs.Trees.PointsByNumber.{IsPresent, point_at, point_of, node_count}
 use Rattle.plan_model.specs.Geometry.Radius.{class_of}
 use Rattle.plan_model.specs.Runs.RecordLaw.{HasLawfulOutcome}
-use Rattle.plan_model.specs.Runs.Textbook.{setup_of}
+use Rattle.plan_model.specs.Runs.Textbook.{setup_of, skipping_goals}
 use Rattle.plan_model.specs.Trees.TreeStates.{TreeState}
+use Rattle.plan_model.proofs.BestNodeLaws.{IsPresent-goal}
 use Rattle.plan_model.proofs.ClassLaws.{class_from_powers}
 use Rattle.plan_model.proofs.CountLaws.{node_count-closed}
 use Rattle.plan_model.proofs.EmptyRoomClearance.{IsInRoom-from_clear_at}
@@ -42,6 +43,9 @@ zero_unless_placed (Same j) parent cost class apart h =
     let parts = and_parts (eqb parent 0) (eqb cost 0 && eqb class 0) h in
     (eqb-true parent 0 parts.0, eqb-true cost 0 (and_parts (eqb cost 0) (eqb class 0) parts.1).0)
 zero_unless_placed Blocked parent cost class apart h =
+    let parts = and_parts (eqb parent 0) (eqb cost 0 && eqb class 0) h in
+    (eqb-true parent 0 parts.0, eqb-true cost 0 (and_parts (eqb cost 0) (eqb class 0) parts.1).0)
+zero_unless_placed Skipped parent cost class apart h =
     let parts = and_parts (eqb parent 0) (eqb cost 0 && eqb class 0) h in
     (eqb-true parent 0 parts.0, eqb-true cost 0 (and_parts (eqb cost 0) (eqb class 0) parts.1).0)
 
@@ -132,11 +136,14 @@ module _
       nearest Placed h = small_number entry.nearest h.present
       nearest (Same j) h = small_number entry.nearest h.present
       nearest Blocked h = small_number entry.nearest h.present
+      nearest Skipped h =
+          small_number entry.nearest (IsPresent-goal (skipping_goals task.scene) (point_at state.points entry.nearest) h.goal)
 
       last : (o : Outcome) → HasLawfulOutcome (setup_of task.scene) state k (mark_at task.marks k) entry o → last_field o entry.class < 2 ^ 18
       last Placed h = low_class entry.class h.outcome.by_worker.of_class.high
       last (Same j) h = small_number j (IsPresent-stands state.points j _ h.outcome)
       last Blocked h = omega arith
+      last Skipped h = omega arith
 
       zeros : (entry.outcome ≡ Placed → ⊥) → (entry.first_parent < 2 ^ 18) × (entry.first_cost < 2 ^ 44)
       zeros apart =
@@ -148,3 +155,4 @@ module _
       first Placed e h = (small_number entry.first_parent h.outcome.by_tree.first.present, low_cost entry.first_cost h.outcome.by_tree.bounded)
       first (Same j) e h = zeros (λ placed. let gone = sym placed ∙ e in cc)
       first Blocked e h = zeros (λ placed. let gone = sym placed ∙ e in cc)
+      first Skipped e h = zeros (λ placed. let gone = sym placed ∙ e in cc)

@@ -73,7 +73,7 @@ module _ (run : SharedRun) (id : ℕ) (words : Words) (views : List View) (world
     WasEmpty-found last lasts (steps now after here next view then come at own is holds go later fills) end at_end found =
         let same : end ≡ then = some-injective end then (sym at_end ∙ ap (λ l. get_elem? l id) is ∙ at-set here id view then at) in
         let looked = ap (λ v. last_zero v (ChildOf n side)) same in
-        elim (later.zero_found (ChildOf n side)) [
+        elim (later.zero_found (ChildOf n side) (λ e. cc)) [
           | inl as_before ↦
               WasEmpty-on now after n side go
               (WasEmpty-found now here come view at (omega (arith, found, looked, as_before)))

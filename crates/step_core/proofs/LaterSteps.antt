@@ -16,36 +16,40 @@ pub IsLater-pointed : (view : View) (hand : Hand) (m : ℕ) (p : Point) → IsLa
 IsLater-pointed view hand m p = record {
   run = refl;
   seen = AreBehind-refl (sees view);
+  best = omega arith;
   steps = omega arith;
   looked = λ name. inl refl;
-  zero_found = λ name. inl refl;
+  zero_found = λ name told. inl refl;
 }
 
 pub IsLater-half : (view : View) (hand : Hand) (parent cost : ℕ) → IsLater view (half view hand parent cost)
 IsLater-half view hand parent cost = record {
   run = refl;
   seen = AreBehind-refl (sees view);
+  best = omega arith;
   steps = omega arith;
   looked = λ name. inl refl;
-  zero_found = λ name. inl refl;
+  zero_found = λ name told. inl refl;
 }
 
 pub IsLater-treed : (view : View) (hand : Hand) → IsLater view (treed view hand)
 IsLater-treed view hand = record {
   run = refl;
   seen = AreBehind-refl (sees view);
+  best = omega arith;
   steps = omega arith;
   looked = λ name. inl refl;
-  zero_found = λ name. inl refl;
+  zero_found = λ name told. inl refl;
 }
 
 pub IsLater-counted : (view : View) (hand : Hand) → IsLater view (counted view hand)
 IsLater-counted view hand = record {
   run = refl;
   seen = AreBehind-refl (sees view);
+  best = omega arith;
   steps = omega arith;
   looked = λ name. inl refl;
-  zero_found = λ name. inl refl;
+  zero_found = λ name told. inl refl;
 }
 
 -- if no child was seen where the node is linked, and no other words of it
@@ -59,13 +63,14 @@ IsLater-linked run view of_run hand n side within low may noted =
     record {
       run = refl;
       seen = AreBehind-shown run view of_run hand n side within low may;
+      best = omega arith;
       steps = omega arith;
       looked = λ name.
           elim (same_name name (ChildOf n side)) [
             | inl e ↦ inr (omega (arith, ap (last_look then) e, looks.here))
             | inr apart ↦ inl (looks.others name apart)
           ];
-      zero_found = λ name.
+      zero_found = λ name told.
           elim (same_name name (ChildOf n side)) [
             | inl e ↦ inr (omega (arith, ap (last_zero then) e, zeros.here), ap (sees view) e ∙ may.child)
             | inr apart ↦ inl (zeros.others name apart)

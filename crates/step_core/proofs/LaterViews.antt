@@ -1,6 +1,6 @@
 -- A view after steps of its own is a later one, and the law of worlds says of each view alone what `IsLawfulView` says.
 use Rattle.std.proofs.Common.{◌≡◌, ℕ, suc, ◌+◌, ◌<◌, ◌≤◌, ◌^◌, true, List, length, Some, refl, sym, ap, ◌∙◌, subst, inl, inr, arith, le_refl, le_trans}
-use Rattle.std.specs.Prelude.{◌⊎◌}
+use Rattle.std.specs.Prelude.{◌≢◌, ◌⊎◌}
 use lib.ListN.{get_elem?}
 use mathlib.Core.Option.{some}
 use Rattle.std.proofs.lemmas.Bool.{cases_Bool, cases_eq}
@@ -16,9 +16,9 @@ use Rattle.step_core.specs.LaterViews.{IsLater, IsLawfulView}
 use Rattle.step_core.specs.ViewSteps.{claimed, finished, joined, loaded, parted, saw, stepped}
 use Rattle.step_core.specs.Views.{IsSharedRun, IsViewOf, last_look, last_zero, run_sizes, sees, share}
 use Rattle.step_core.specs.WordKinds.{AreBehind, MayBecome, WordKind, kind_of}
-use Rattle.step_core.specs.WordKinds.WordKind.{Rising, Once, Falling}
+use Rattle.step_core.specs.WordKinds.WordKind.{Rising, Once, Falling, Apart}
 use Rattle.step_core.specs.WordNames.{Word, Words, WritesWord}
-use Rattle.step_core.specs.WordNames.Word.{Count, Counter, FirstOf, RecordOf}
+use Rattle.step_core.specs.WordNames.Word.{Best, ChildOf, Count, Counter, FirstOf, PointOf, RecordOf, TreeOf}
 use Rattle.step_core.specs.WordPlaces.{HasWord}
 use Rattle.step_core.specs.Worlds.{IsWorld, greatest_limit}
 use Rattle.step_core.specs.declared.views.Hand.{Hand}
@@ -45,27 +45,30 @@ use Rattle.step_core.proofs.WorldSteps.{HasWord-load, follow, live, tree}
 -- ---- later views
 
 -- only 0 may become 0
-pub MayBecome-zero : (kind : WordKind) (word : ℕ) → MayBecome kind word 0 → word ≡ 0
-MayBecome-zero Rising word may = omega (arith, may)
-MayBecome-zero Once word (inl none) = none
-MayBecome-zero Once word (inr none) = none
-MayBecome-zero Falling word (inl none) = none
-MayBecome-zero Falling word (inr (inl none)) = none
-MayBecome-zero Falling word (inr (inr fell)) = absurd (omega (arith, fell.0))
+pub MayBecome-zero : (kind : WordKind) → kind ≢ Apart → (word : ℕ) → MayBecome kind word 0 → word ≡ 0
+MayBecome-zero Rising told word may = omega (arith, may)
+MayBecome-zero Once told word (inl none) = none
+MayBecome-zero Once told word (inr none) = none
+MayBecome-zero Falling told word (inl none) = none
+MayBecome-zero Falling told word (inr (inl none)) = none
+MayBecome-zero Falling told word (inr (inr fell)) = absurd (omega (arith, fell.0))
+MayBecome-zero Apart told word may = absurd (told refl)
 
 pub IsLater-refl : (view : View) → IsLater view view
 IsLater-refl view = record {
   run = refl;
   seen = AreBehind-refl (sees view);
+  best = le_refl view.best;
   steps = le_refl view.steps;
   looked = λ name. inl refl;
-  zero_found = λ name. inl refl;
+  zero_found = λ name told. inl refl;
 }
 
 pub IsLater-trans : (before mid after : View) → IsLater before mid → IsLater mid after → IsLater before after
 IsLater-trans before mid after first then = record {
   run = then.run ∙ first.run;
   seen = AreBehind-trans (sees before) (sees mid) (sees after) first.seen then.seen;
+  best = le_trans then.best first.best;
   steps = le_trans first.steps then.steps;
   looked = λ name.
       elim (then.looked name) [
@@ -75,14 +78,14 @@ IsLater-trans before mid after first then = record {
           | inr since ↦ inr (omega (arith, same, since))
         ]
       ];
-  zero_found = λ name.
-      elim (then.zero_found name) [
+  zero_found = λ name told.
+      elim (then.zero_found name told) [
         | inr since ↦
             inr (
               omega (arith, since.0, first.steps),
-              MayBecome-zero (kind_of name) (sees before name) (subst (MayBecome (kind_of name) (sees before name)) since.1 (first.seen name)),
+              MayBecome-zero (kind_of name) told (sees before name) (subst (MayBecome (kind_of name) (sees before name)) since.1 (first.seen name)),
             )
-        | inl same ↦ elim (first.zero_found name) [
+        | inl same ↦ elim (first.zero_found name told) [
           | inl was ↦ inl (same ∙ was)
           | inr since ↦ inr (omega (arith, same, since.0), since.1)
         ]
@@ -113,13 +116,14 @@ module _ (run : SharedRun) (view : View) (of_run : IsViewOf run view) (name : Wo
       record {
         run = refl;
         seen = AreBehind-write name left (sees view) (sees (saw view name found left)) (WritesWord-saw run view of_run name here found left) may;
+        best = le_refl view.best;
         steps = omega arith;
         looked = λ other.
             elim (same_name other name) [
               | inl e ↦ inr (omega (arith, ap (last_look (saw view name found left)) e, looks.here))
               | inr apart ↦ inl (looks.others other apart)
             ];
-        zero_found = zero_saw;
+        zero_found = λ other told. zero_saw other;
       }
 
 -- ---- each kind of step
@@ -129,12 +133,23 @@ module _ (run : SharedRun) (words : Words) (views : List View) (id : ℕ) (view 
   of_run : IsViewOf run view
   of_run = live run words views id view world at own
 
+  -- the best word is loaded by a step of its own
+  loads-kind : (loader : View) (name : Word) → MayLoad loader name → kind_of name ≢ Apart
+  loads-kind loader Best may = absurd may
+  loads-kind loader Count may = λ e. cc
+  loads-kind loader (Counter g) may = λ e. cc
+  loads-kind loader (PointOf n) may = λ e. cc
+  loads-kind loader (ChildOf n side) may = λ e. cc
+  loads-kind loader (TreeOf n) may = λ e. cc
+  loads-kind loader (FirstOf n) may = λ e. cc
+  loads-kind loader (RecordOf k) may = λ e. cc
+
   -- a load
   pub IsLater-loaded : (name : Word) → MayLoad view name → IsLater view (loaded view name (words name))
   IsLater-loaded name may =
       let here = HasWord-load run words views id view world at own name may in
       IsLater-saw run view of_run name here (words name) (words name) (world.seen.behind id view at name)
-      (λ none. MayBecome-zero (kind_of name) (sees view name) (subst (MayBecome (kind_of name) (sees view name)) none (world.seen.behind id view at name)))
+      (λ none. MayBecome-zero (kind_of name) (loads-kind view name may) (sees view name) (subst (MayBecome (kind_of name) (sees view name)) none (world.seen.behind id view at name)))
 
   -- a claim
   pub IsLater-claimed : (g c limit : ℕ) → g < run.strips → words (Counter g) ≡ c → IsLater view (claimed view g c limit)
@@ -142,20 +157,20 @@ module _ (run : SharedRun) (words : Words) (views : List View) (id : ℕ) (view 
       let seen = world.seen.behind id view at (Counter g) in
       let here : HasWord (run_sizes run) (Counter g) = strip in
       let then = IsLater-saw run view of_run (Counter g) here c (c + 1) (omega (arith, seen, is)) (λ none. omega (arith, seen, is, none)) in
-      record { run = then.run; seen = then.seen; steps = then.steps; looked = then.looked; zero_found = then.zero_found }
+      record { run = then.run; seen = then.seen; best = then.best; steps = then.steps; looked = then.looked; zero_found = then.zero_found }
 
   -- a record
   pub IsLater-finished : (hand : Hand) → view.hand ≡ Some hand → (x : ℕ) → 2 ^ 63 ≤ x → IsLater view (finished view hand.mark x)
   IsLater-finished hand held x written =
       let mark = in_hand run words views id view world at hand held in
       let none : sees view (RecordOf hand.mark) ≡ 0 =
-      MayBecome-zero Once (sees view (RecordOf hand.mark))
+      MayBecome-zero Once (λ e. cc) (sees view (RecordOf hand.mark))
       (subst (MayBecome Once (sees view (RecordOf hand.mark))) (record_word-none (words (RecordOf hand.mark)) (words (FirstOf (suc hand.mark)))
       (world.numbers.packed hand.mark) mark.absent)
       (world.seen.behind id view at (RecordOf hand.mark))) in
       let here : HasWord (run_sizes run) (RecordOf hand.mark) = mark.low in
       let then = IsLater-saw run view of_run (RecordOf hand.mark) here x x (inl none) (λ gone. absurd (omega (arith, written, gone))) in
-      record { run = then.run; seen = then.seen; steps = then.steps; looked = then.looked; zero_found = then.zero_found }
+      record { run = then.run; seen = then.seen; best = then.best; steps = then.steps; looked = then.looked; zero_found = then.zero_found }
 
   -- ---- one view alone
 
@@ -222,6 +237,8 @@ module _ (run : SharedRun) (words : Words) (views : List View) (id : ℕ) (view 
         (le_trans (world.seen.behind id view at Count) (count-most run words views world.numbers world.links));
     counter = λ g strip. subst (λ r. sees view (Counter g) ≤ length r.marks) (sym own)
         (counter_within g (subst (λ r. g < r.strips) own strip));
+    best = (world.bests id view at own).placed;
+    taken = (world.bests id view at own).taken;
     order = λ all. KeepsOrder-whole view.run words views id view here at all;
   }
     where
@@ -243,25 +260,28 @@ pub IsLater-stepped : (view : View) → IsLater view (stepped view)
 IsLater-stepped view = record {
   run = refl;
   seen = AreBehind-refl (sees view);
+  best = le_refl view.best;
   steps = omega arith;
   looked = λ name. inl refl;
-  zero_found = λ name. inl refl;
+  zero_found = λ name told. inl refl;
 }
 
 pub IsLater-parted : (view : View) → IsLater view (parted view)
 IsLater-parted view = record {
   run = refl;
   seen = AreBehind-refl (sees view);
+  best = le_refl view.best;
   steps = omega arith;
   looked = λ name. inl refl;
-  zero_found = λ name. inl refl;
+  zero_found = λ name told. inl refl;
 }
 
 pub IsLater-joined : (view other : View) → IsLater view (joined view other)
 IsLater-joined view other = record {
   run = refl;
   seen = AreBehind-joined view other;
+  best = omega arith;
   steps = omega arith;
   looked = λ name. inl refl;
-  zero_found = λ name. inl refl;
+  zero_found = λ name told. inl refl;
 }

@@ -1,14 +1,14 @@
 -- The later of two words of a kind, and the table of the later words of two tables.
 use Rattle.std.proofs.Common.{◌≡◌, ℕ, ◌+◌, ◌-◌, ◌*◌, ◌%◌, ◌^◌, ◌<◌, ◌≤◌, Bool, true, false, List, length, arith, refl, sym, ap, ◌∙◌, inl, inr}
 use Rattle.std.specs.Prelude.{◌≢◌, ◌⊎◌, ◌==◌, ◌&&◌, nat_lt, nat_le, cond, slice_index}
-use Rattle.std.proofs.lemmas.Bool.{cases_Bool, cases_lt, eqb-true, eqb-false, lt-ltb, le-ltb, le-leb, lt-leb, ltb-true, leb-true}
+use Rattle.std.proofs.lemmas.Bool.{cases_Bool, cases_lt, eqb-true, eqb-false, lt-ltb, le-ltb, le-leb, lt-leb, ltb-true, leb-true, ne_eqb}
 use Rattle.std.proofs.lemmas.List.FromFn.{get_or-map-range_with_len, length-map-range_with_len}
 use Rattle.std.proofs.lemmas.Nat.{mod-mul-add}
 use Rattle.step_core.specs.ViewSteps.{merged}
 use Rattle.step_core.specs.WordKinds.{WordKind, kind_of, kind_at, later_word, MayBecome}
-use Rattle.step_core.specs.WordKinds.WordKind.{Rising, Once, Falling}
+use Rattle.step_core.specs.WordKinds.WordKind.{Rising, Once, Falling, Apart}
 use Rattle.step_core.specs.WordNames.{Word}
-use Rattle.step_core.specs.WordNames.Word.{Count, Counter, PointOf, ChildOf, TreeOf, FirstOf, RecordOf}
+use Rattle.step_core.specs.WordNames.Word.{Count, Best, Counter, PointOf, ChildOf, TreeOf, FirstOf, RecordOf}
 use Rattle.step_core.specs.WordPlaces.{Sizes, HasWord, has_word, node_place, place_of, word_at, word_count}
 use Rattle.step_core.specs.Words.{cost_in}
 use Rattle.step_core.proofs.WordReads.{HasWord-true, place_of-within, word_at-false, word_at-has}
@@ -18,32 +18,41 @@ use Rattle.step_core.proofs.WordReads.{HasWord-true, place_of-within, word_at-fa
 node_kind : (sizes : Sizes) (n r : ℕ) → n ≤ sizes.marks → r < 5 → kind_at sizes (node_place sizes n + r) ≡ cond (r == 3) Falling Once
 node_kind sizes n r low small =
     let place : ℕ = node_place sizes n + r in
-    let past : nat_le place sizes.strips ≡ false = lt-leb place sizes.strips (omega arith) in
+    let other : (place == 1) ≡ false = ne_eqb place 1 (λ e. omega (arith, e)) in
+    let past : nat_le place (sizes.strips + 1) ≡ false = lt-leb place (sizes.strips + 1) (omega arith) in
     let within : nat_lt place (node_place sizes (sizes.marks + 1)) ≡ true = lt-ltb place (node_place sizes (sizes.marks + 1)) (omega (arith, low, small)) in
     let offset : place - node_place sizes 0 ≡ n * 5 + r = omega arith in
     let rest : (place - node_place sizes 0) % 5 ≡ r = ap (λ m. m % 5) offset ∙ mod-mul-add n 5 r small in
-    ap (λ b. cond b Rising (cond (nat_lt place (node_place sizes (sizes.marks + 1)) && (place - node_place sizes 0) % 5 == 3) Falling Once)) past
+    ap (λ b. cond b Apart (cond (nat_le place (sizes.strips + 1)) Rising (cond (nat_lt place (node_place sizes (sizes.marks + 1))
+    && (place - node_place sizes 0) % 5 == 3) Falling Once))) other
+    ∙ ap (λ b. cond b Rising (cond (nat_lt place (node_place sizes (sizes.marks + 1)) && (place - node_place sizes 0) % 5 == 3) Falling Once)) past
     ∙ ap (λ b. cond (b && (place - node_place sizes 0) % 5 == 3) Falling Once) within
     ∙ ap (λ m. cond (m == 3) Falling Once) rest
 
-number_kind : (sizes : Sizes) (place : ℕ) → place ≤ sizes.strips → kind_at sizes place ≡ Rising
-number_kind sizes place low =
-    ap (λ b. cond b Rising (cond (nat_lt place (node_place sizes (sizes.marks + 1)) && (place - node_place sizes 0) % 5 == 3) Falling Once))
-    (le-leb place sizes.strips low)
+number_kind : (sizes : Sizes) (place : ℕ) → place ≢ 1 → place ≤ sizes.strips + 1 → kind_at sizes place ≡ Rising
+number_kind sizes place apart low =
+    ap (λ b. cond b Apart (cond (nat_le place (sizes.strips + 1)) Rising (cond (nat_lt place (node_place sizes (sizes.marks + 1))
+    && (place - node_place sizes 0) % 5 == 3) Falling Once))) (ne_eqb place 1 apart)
+    ∙ ap (λ b. cond b Rising (cond (nat_lt place (node_place sizes (sizes.marks + 1)) && (place - node_place sizes 0) % 5 == 3) Falling Once))
+    (le-leb place (sizes.strips + 1) low)
 
 -- the word at its place has its kind
 pub kind_at-place : (sizes : Sizes) (name : Word) → HasWord sizes name → kind_at sizes (place_of sizes name) ≡ kind_of name
-kind_at-place sizes Count here = number_kind sizes 0 (omega arith)
-kind_at-place sizes (Counter g) here = number_kind sizes (g + 1) (omega (arith, here))
-kind_at-place sizes (PointOf n) here = ap (kind_at sizes) (omega arith) ∙ node_kind sizes n 0 here (omega arith)
+kind_at-place sizes Count here = number_kind sizes 0 (λ e. cc) (omega arith)
+kind_at-place sizes Best here = refl
+kind_at-place sizes (Counter g) here = number_kind sizes (g + 2) (λ e. omega (arith, e)) (omega (arith, here))
+kind_at-place sizes (PointOf n) here =
+    let same : node_place sizes n ≡ node_place sizes n + 0 = omega arith in ap (kind_at sizes) same ∙ node_kind sizes n 0 here (omega arith)
 kind_at-place sizes (ChildOf n false) here = node_kind sizes n 1 here (omega arith)
 kind_at-place sizes (ChildOf n true) here = node_kind sizes n 2 here (omega arith)
 kind_at-place sizes (TreeOf n) here = node_kind sizes n 3 here (omega arith)
 kind_at-place sizes (FirstOf n) here = node_kind sizes n 4 here (omega arith)
 kind_at-place sizes (RecordOf k) here =
     let place : ℕ = place_of sizes (RecordOf k) in
-    ap (λ b. cond b Rising (cond (nat_lt place (node_place sizes (sizes.marks + 1)) && (place - node_place sizes 0) % 5 == 3) Falling Once))
-    (lt-leb place sizes.strips (omega arith))
+    ap (λ b. cond b Apart (cond (nat_le place (sizes.strips + 1)) Rising (cond (nat_lt place (node_place sizes (sizes.marks + 1))
+    && (place - node_place sizes 0) % 5 == 3) Falling Once))) (ne_eqb place 1 (λ e. omega (arith, e)))
+    ∙ ap (λ b. cond b Rising (cond (nat_lt place (node_place sizes (sizes.marks + 1)) && (place - node_place sizes 0) % 5 == 3) Falling Once))
+    (lt-leb place (sizes.strips + 1) (omega arith))
     ∙ ap (λ b. cond (b && (place - node_place sizes 0) % 5 == 3) Falling Once) (le-ltb place (node_place sizes (sizes.marks + 1)) (omega arith))
 
 -- ---- the later of two words
@@ -52,6 +61,7 @@ later-none : (kind : WordKind) → later_word kind 0 0 ≡ 0
 later-none Rising = refl
 later-none Once = refl
 later-none Falling = refl
+later-none Apart = refl
 
 -- it may become what both may
 pub MayBecome-later : (kind : WordKind) (one other now : ℕ) → MayBecome kind one now → MayBecome kind other now
@@ -62,6 +72,7 @@ MayBecome-later Once one other now a b = by_test (one == 0)
     by_test : (t : Bool) → MayBecome Once (cond t other one) now
     by_test true = b
     by_test false = a
+MayBecome-later Apart one other now a b = tt
 MayBecome-later Falling one other now a b = by_test (one == 0) (nat_le (2 ^ 63) other && nat_lt (cost_in other) (cost_in one))
   where
     by_test : (t u : Bool) → MayBecome Falling (cond t other (cond u other one)) now
@@ -72,6 +83,7 @@ MayBecome-later Falling one other now a b = by_test (one == 0) (nat_le (2 ^ 63) 
 -- the first may become it
 pub MayBecome-to_later : (kind : WordKind) (one other : ℕ) → MayBecome kind one (later_word kind one other)
 MayBecome-to_later Rising one other = omega arith
+MayBecome-to_later Apart one other = tt
 MayBecome-to_later Once one other = by_test (one == 0) refl
   where
     by_test : (t : Bool) → (one == 0) ≡ t → MayBecome Once one (cond t other one)
@@ -105,6 +117,7 @@ pub MayBecome-other_to_later :
     → (kind ≡ Falling → 2 ^ 63 ≤ one → 2 ^ 63 ≤ other → cost_in one ≡ cost_in other → one ≡ other) → (kind ≡ Falling → IsWholePair other)
     → MayBecome kind other (later_word kind one other)
 MayBecome-other_to_later Rising one other now a b whole agree also = omega arith
+MayBecome-other_to_later Apart one other now a b whole agree also = tt
 MayBecome-other_to_later Once one other now a b whole agree also = by_test (one == 0) refl
   where
     by_test : (t : Bool) → (one == 0) ≡ t → MayBecome Once other (cond t other one)

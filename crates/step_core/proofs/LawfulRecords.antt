@@ -1,36 +1,40 @@
 -- From what a pass has seen to the record law: a record that the view allows is lawful in the tree now.
-use Rattle.std.proofs.Common.{◌≡◌, ◌≢◌, ℕ, zero, suc, ◌+◌, ◌≤◌, ◌^◌, Bool, true, false, Option, Some}
+use Rattle.std.proofs.Common.{◌≡◌, ◌≢◌, ℕ, zero, suc, ◌+◌, ◌*◌, ◌/◌, ◌%◌, ◌<◌, ◌≤◌, ◌^◌, Bool, true, false, Option, Some}
 use Rattle.std.proofs.Common.{None, List, ◌∷◌, length, refl, sym, ap, ◌∙◌, subst, inl, inr, arith}
 use Rattle.std.specs.Prelude.{◌==◌, ◌&&◌, IsTrue, cond, is_some, nat_lt, unwrap_or}
 use Rattle.std.specs.List.{count_by, range_with_len, sum_by}
 use mathlib.Core.Option.{some}
 use lib.ListN.{get_elem?}
+use Rattle.std.proofs.lemmas.Nat.{div-add-mod', mod_below}
 use Rattle.std.proofs.lemmas.List.FromFn.{length-map-range_with_len}
 use Rattle.std.proofs.lemmas.List.Sums.{length-filter}
 use Rattle.plan_model.specs.Spaces.Clearance.{Clear}
 use Rattle.plan_model.specs.Runs.ClosedLaw.{mark_at}
 use Rattle.plan_model.specs.Geometry.Cost.{cost_of}
 use Rattle.plan_model.specs.Geometry.Plane.{squared_distance}
+use Rattle.plan_model.specs.Trees.BestNode.{IsGoalNode, is_goal_point}
 use Rattle.plan_model.specs.Trees.Nearness.{is_within}
 use Rattle.plan_model.specs.Runs.OrderLaw.{Hangs}
 use Rattle.plan_model.specs.Runs.Outcomes.{is_placed}
 use Rattle.plan_model.specs.Trees.PointsByNumber.{IsPresent, StandsAt, node_count, point_at, point_of}
 use Rattle.plan_model.specs.Geometry.Radius.{class_of, radius_of_class}
 use Rattle.plan_model.specs.Runs.RecordLaw.{HangsLawfully, HasLawfulOutcome, IsBlockedLawfully, IsChosenLawfully, IsEarlier, IsLawfulRecord, IsNeighbour}
-use Rattle.plan_model.specs.Runs.RecordLaw.{IsPlacedLawfully, IsSteeredLawfully, earlier_count, first_cost_through, is_earlier, is_earlier_record}
+use Rattle.plan_model.specs.Runs.RecordLaw.{IsPlacedLawfully, IsSkippedLawfully, IsSteeredLawfully, earlier_count, first_cost_through, is_earlier, is_earlier_record}
 use Rattle.plan_model.specs.Geometry.Steering.{steered}
-use Rattle.plan_model.specs.Runs.Textbook.{Setup}
+use Rattle.plan_model.specs.Runs.Textbook.{Setup, mark_bound}
 use Rattle.plan_model.specs.Trees.TreeStates.{TreeState, first_cost_of}
 use Rattle.plan_model.specs.Runs.Turns.{is_of_worker, once_if}
 use Rattle.plan_model.specs.declared.geometry.Point.{Point}
 use Rattle.plan_model.specs.declared.records.Outcome.{Outcome}
-use Rattle.plan_model.specs.declared.records.Outcome.TheVariants.{Blocked, Placed, Same}
+use Rattle.plan_model.specs.declared.records.Outcome.TheVariants.{Blocked, Placed, Same, Skipped}
 use Rattle.plan_model.specs.declared.records.Record.{Record}
 use Rattle.plan_model.proofs.CountsBelow.{count-first, count-same}
 use Rattle.plan_model.proofs.SumsBelow.{sum-le}
+use Rattle.plan_model.proofs.GoalNodes.{no_goal_node}
 use Rattle.plan_model.proofs.NewNodes.{IsPresent-stands, StandsAt-present}
 use Rattle.plan_model.proofs.RecordLaws.{class_of-le}
 use Rattle.step_core.specs.GrownWords.{has_node, has_placed, record_at}
+use Rattle.step_core.specs.SeenBests.{IsInformed, MayBeSkipped}
 use Rattle.step_core.specs.SeenRecords.{IsOwnNeighbour, MayBeBlocked, MayBePlaced, MayEnd, MayRecord, MaySteer, is_own_node, own_count, own_first_cost}
 use Rattle.step_core.specs.SharedWords.{linked_point}
 use Rattle.step_core.specs.Stages.{MayBeRecorded, has_count, has_first, has_link, has_point}
@@ -39,13 +43,13 @@ use Rattle.step_core.specs.Views.{run_sizes, sees, setup_in, tree_seen}
 use Rattle.step_core.specs.WordKinds.{AreBehind}
 use Rattle.step_core.specs.WordNames.{Words}
 use Rattle.step_core.specs.WordNames.Word.{Count, FirstOf, RecordOf, TreeOf}
-use Rattle.step_core.specs.Words.{IsFirstWord, cost_in, outcome_in, record_in, record_of_word, tree_word}
+use Rattle.step_core.specs.Words.{IsFirstWord, best_cost_in, best_word, cost_in, no_best, outcome_in, record_in, record_of_word, tree_word}
 use Rattle.step_core.specs.Worlds.{IsFirstOf, IsWorld, counted_once, state_in}
 use Rattle.step_core.specs.declared.views.Hand.{Hand}
 use Rattle.step_core.specs.declared.views.Member.{Member}
 use Rattle.step_core.specs.declared.views.SharedRun.{SharedRun}
 use Rattle.step_core.specs.declared.views.Stage.{Stage}
-use Rattle.step_core.specs.declared.views.Stage.TheVariants.{Claimed, Counted, Half, Linked, Pointed, Treed}
+use Rattle.step_core.specs.declared.views.Stage.TheVariants.{Claimed, Counted, Half, Linked, Pointed, Posted, Treed}
 use Rattle.step_core.specs.declared.views.View.{View}
 use Rattle.step_core.proofs.LawfulSights.{IsTrueOf-seen}
 use Rattle.step_core.proofs.LinkedCounts.{count-most}
@@ -53,7 +57,22 @@ use Rattle.step_core.proofs.LinkedStates.{first_cost-linked, linked-present, pla
 use Rattle.step_core.proofs.PackedRecords.{unplaced_at, zeros}
 use Rattle.step_core.proofs.PackedWords.{cost_in-tree_word}
 use Rattle.step_core.proofs.PlacedWords.{has_node-same}
+use Rattle.step_core.proofs.SeenWords.{seen-within}
 use Rattle.step_core.proofs.WorldRecords.{earlier-placed}
+
+-- ---- pairs
+
+-- what is at most a pair has a cost that is no greater
+best_cost-below : (word cost n : ℕ) → n < 2 ^ 18 → word ≤ best_word cost n → best_cost_in word ≤ cost
+best_cost-below word cost n small low =
+    let rest : word / 2 ^ 18 * 2 ^ 18 + word % 2 ^ 18 ≡ word = div-add-mod' word (2 ^ 18) in
+    omega (arith, rest, small, low)
+
+-- and is one
+best_word-some : (word cost n : ℕ) → n < 2 ^ 18 → cost < 2 ^ 44 → word ≤ best_word cost n → word ≢ no_best
+best_word-some word cost n small few low none = omega (arith, none, small, few, low)
+
+-- ---- records
 
 -- whether a record is an earlier one is in its own word
 earlier_same : (entry : Record) (number word first other : ℕ)
@@ -145,18 +164,19 @@ own_count-most run words views id view world at own entry =
 -- ---- stages
 
 -- what a hand that has counted its node has done before
-record HasCome (stage : Stage) : Type 0 where
-  point : has_point stage ≡ true
-  first : has_first stage ≡ true
-  link : has_link stage ≡ true
+pub record HasCome (stage : Stage) : Type 0 where
+  pub point : has_point stage ≡ true
+  pub first : has_first stage ≡ true
+  pub link : has_link stage ≡ true
 
-has_come : (stage : Stage) → has_count stage ≡ true → HasCome stage
+pub has_come : (stage : Stage) → has_count stage ≡ true → HasCome stage
 has_come Claimed e = cc
 has_come Pointed e = cc
 has_come Half e = cc
 has_come Treed e = cc
 has_come Linked e = cc
 has_come Counted e = record { point = refl; first = refl; link = refl }
+has_come Posted e = record { point = refl; first = refl; link = refl }
 
 -- ---- what is seen against what is so
 
@@ -348,6 +368,43 @@ module _ (words : Words) (views : List View) (id : ℕ) (view : View) (world : I
           may.free i own (sym (same_at i (own_seen i own)) ∙ stands);
     }
 
+  -- ---- marks that are skipped, and others
+
+  -- if there is a goal node, there are goals
+  informed : (i : ℕ) → IsGoalNode own_run.goals state.points i → IsInformed own_run
+  informed i goal none = no_goal_node state.points i (subst (λ goals. IsGoalNode goals state.points i) none goal)
+
+  -- what is above the bound of a mark in the best that was loaded is below the first cost of each own goal node
+  cheaper_now :
+      (i : ℕ) → IsTrue (is_own_node view entry i) → IsGoalNode own_run.goals state.points i
+      → (word : ℕ) × (hand.best ≡ Some word) × (word ≢ no_best → mark_bound setup (mark_at own_run.marks hand.mark) < best_cost_in word)
+      → mark_bound setup (mark_at own_run.marks hand.mark) < first_cost_of state i
+  cheaper_now i own goal (word, taken, above) =
+      let here = own_seen i own in
+      let seen = subst (λ o. IsTrue (is_goal_point own_run.goals o)) (same_at i here) goal in
+      let within : i < 2 ^ 18 = omega (arith, seen-within (run_sizes own_run) (sees view) i here, world.run_is.marks) in
+      let least = ((world.bests id view at refl).taken hand word held taken).1 i (node_of i own) seen in
+      let low = best_cost-below word (own_first_cost view i) i within least in
+      let some_pair = best_word-some word (own_first_cost view i) i within (first_cost-small i) least in
+      omega (arith, above some_pair, low, own_cost i own)
+    where
+      node_of : (n : ℕ) → IsTrue (is_own_node view entry n) → has_node (sees view) n ≡ true
+      node_of zero h = refl
+      node_of (suc k) h = earlier-placed entry (record_at (sees view) k) h
+
+      first_cost-small : (n : ℕ) → own_first_cost view n < 2 ^ 44
+      first_cost-small zero = omega arith
+      first_cost-small (suc k) = mod_below (sees view (FirstOf (suc k)) / 2 ^ 18) (2 ^ 44) (omega arith)
+
+  -- a mark that may be skipped is skipped lawfully
+  skipped_now : MayBeSkipped view hand entry.nearest → IsSkippedLawfully setup state (mark_at own_run.marks hand.mark) entry
+  skipped_now may =
+      let pair = (world.bests id view at refl).taken_pair hand may.word held may.taken may.some_node in
+      record {
+        goal = subst (IsGoalNode own_run.goals state.points) (sym may.node) pair.0;
+        within = omega (arith, ap state.cost may.node, pair.1, may.within);
+      }
+
   -- A nearest node that was seen is lawful, and steers to the same point.
   IsSteeredLawfully-own :
       (MayEndAt EndsAt : Point → Type 0)
@@ -357,6 +414,7 @@ module _ (words : Words) (views : List View) (id : ℕ) (view : View) (world : I
   IsSteeredLawfully-own MayEndAt EndsAt now may =
       let mark : Point = mark_at own_run.marks hand.mark in
       record {
+        cheaper = λ i early goal. cheaper_now i (own_of i early) goal (may.unskipped (informed i goal));
         present = ap is_some (same_at entry.nearest may.present) ∙ may.present;
         nearest = λ i early.
             let own = own_of i early in
@@ -383,6 +441,7 @@ module _ (words : Words) (views : List View) (id : ℕ) (view : View) (world : I
           IsSteeredLawfully-own (SeesPoint view j) (StandsAt state.points j) (λ present p is ended. stands_now j p ended) same
       by_outcome Blocked e blocked =
           IsSteeredLawfully-own (MayBeBlocked view entry) (IsBlockedLawfully setup state entry) (λ present p is ended. blocked_now present p ended) blocked
+      by_outcome Skipped e skipped = skipped_now skipped
 
   -- Its first word has its first parent and its first cost, if it was placed.
   IsFirstWord-own : MayRecord view hand entry → MayBeRecorded hand.stage entry.outcome → IsFirstWord entry (words (FirstOf (suc hand.mark)))
@@ -409,6 +468,7 @@ module _ (words : Words) (views : List View) (id : ℕ) (view : View) (world : I
           }
       by_outcome (Same j) e same = unplaced (Same j) e (λ no. cc) (unplaced_at entry (Same j) e)
       by_outcome Blocked e blocked = unplaced Blocked e (λ no. cc) (unplaced_at entry Blocked e)
+      by_outcome Skipped e skipped = unplaced Skipped e (λ no. cc) (unplaced_at entry Skipped e)
 
 -- the same of a view of the run
 pub IsLawfulRecord-seen :

@@ -130,7 +130,7 @@ IsLaterMoment-later before after later = record {
   seen = HasSeenAtLeast-later before after later.run later.seen;
   steps = later.steps;
   empty = λ n side.
-      elim (later.zero_found (ChildOf n side)) [
+      elim (later.zero_found (ChildOf n side) (λ e. cc)) [
         | inl same ↦ inl same
         | inr since ↦ inr (since.0, ap child_of_word since.1)
       ];

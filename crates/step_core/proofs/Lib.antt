@@ -56,6 +56,10 @@ pub mod HandsAt
 pub mod WorldLinks
 pub mod WorldCopies
 pub mod WorldEmpties
+pub mod WorldBests
+pub mod OpeningBests
+pub mod SeenGoals
+pub mod HeldBests
 pub mod WorldHands
 pub mod WorldSteps
 pub mod WorldTrees
@@ -63,6 +67,7 @@ pub mod FinishedTurns
 pub mod FinishedMarks
 pub mod WorldLowers
 pub mod WorldNodes
+pub mod WorldPosts
 pub mod WorldSeenPairs
 pub mod WorldSplits
 pub mod WorldJoins

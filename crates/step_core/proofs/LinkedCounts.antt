@@ -21,7 +21,7 @@ use Rattle.step_core.specs.Worlds.{LinkedTree, Trees, counted_once, hands_at}
 use Rattle.step_core.specs.declared.views.Hand.{Hand}
 use Rattle.step_core.specs.declared.views.SharedRun.{SharedRun}
 use Rattle.step_core.specs.declared.views.Stage.{Stage}
-use Rattle.step_core.specs.declared.views.Stage.TheVariants.{Claimed, Counted, Half, Linked, Pointed, Treed}
+use Rattle.step_core.specs.declared.views.Stage.TheVariants.{Claimed, Counted, Half, Linked, Pointed, Posted, Treed}
 use Rattle.step_core.specs.declared.views.View.{View}
 use Rattle.step_core.proofs.LinkedPresence.{in_child}
 use Rattle.step_core.proofs.LinkedStates.{linked-present}
@@ -36,6 +36,7 @@ counted-linked Half = omega arith
 counted-linked Treed = omega arith
 counted-linked Linked = omega arith
 counted-linked Counted = omega arith
+counted-linked Posted = omega arith
 
 holds-counted : (k : ℕ) (o : Option Hand) → once_if (holds_at has_count k o) ≤ once_if (holds_at has_link k o)
 holds-counted k None = omega arith

@@ -19,7 +19,7 @@ use Rattle.step_core.specs.WordKinds.{AreBehind}
 use Rattle.step_core.specs.WordNames.{Words}
 use Rattle.step_core.specs.WordNames.Word.{ChildOf, FirstOf, PointOf, RecordOf, TreeOf}
 use Rattle.step_core.specs.WordPlaces.{Sizes}
-use Rattle.step_core.specs.Words.{cost_in, fourth_in, outcome_in, parent_in, point_of_word, record_in, record_of_word, tree_word}
+use Rattle.step_core.specs.Words.{cost_in, outcome_in, parent_in, point_of_word, record_in, record_of_word, tree_word}
 use Rattle.step_core.specs.Worlds.{LinkedTree, ClaimedMarks, Trees, is_recorded, state_in}
 use Rattle.step_core.specs.declared.views.SharedRun.{SharedRun}
 use Rattle.step_core.specs.declared.views.View.{View}
@@ -79,13 +79,8 @@ few_nodes run words run_is =
 
 -- ---- records
 
--- the fourth number of an outcome is that of no placed mark
-fourth_unplaced : (word : ℕ) → has_placed (Some (fourth_in word)) ≡ false
-unfolding fourth_in
-fourth_unplaced word = refl
-
 -- of a placed mark the record reads its first cost from the first word
-placed-first : (word first : ℕ) (entry : Record) → record_of_word word first ≡ Some entry → has_placed (Some entry) ≡ true → entry.first_cost ≡ cost_in first
+pub placed-first : (word first : ℕ) (entry : Record) → record_of_word word first ≡ Some entry → has_placed (Some entry) ≡ true → entry.first_cost ≡ cost_in first
 placed-first word first entry e placed = by_test (nat_lt word (2 ^ 63)) (outcome_in word) e
   where
     by_test : (b : Bool) (number : ℕ) → cond b None (Some (record_in number word first)) ≡ Some entry → entry.first_cost ≡ cost_in first
@@ -93,7 +88,7 @@ placed-first word first entry e placed = by_test (nat_lt word (2 ^ 63)) (outcome
     by_test false zero is = ap (λ r. r.first_cost) (sym (same_Some (record_in zero word first) entry is))
     by_test false (suc zero) is = (let no = ap has_placed is ∙ placed in cc)
     by_test false (suc (suc zero)) is = (let no = ap has_placed is ∙ placed in cc)
-    by_test false (suc (suc (suc n))) is = (let no = sym (fourth_unplaced word) ∙ ap has_placed is ∙ placed in cc)
+    by_test false (suc (suc (suc n))) is = (let no = ap has_placed is ∙ placed in cc)
 
 -- of any other mark it does not look at it
 pub record-unplaced : (word first other : ℕ) → has_placed (record_of_word word first) ≡ false → record_of_word word other ≡ record_of_word word first

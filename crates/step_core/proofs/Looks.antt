@@ -12,7 +12,7 @@ use Rattle.step_core.specs.SeenWords.{SeenWords, MayLookAt, LooksAt, seen_tree_o
 use Rattle.step_core.specs.WordKinds.{kind_of, MayBecome, AreBehind}
 use Rattle.step_core.specs.WordKinds.WordKind.{Once}
 use Rattle.step_core.specs.WordNames.{Word, Words}
-use Rattle.step_core.specs.WordNames.Word.{Count, Counter, PointOf, ChildOf, TreeOf, FirstOf, RecordOf}
+use Rattle.step_core.specs.WordNames.Word.{Count, Best, Counter, PointOf, ChildOf, TreeOf, FirstOf, RecordOf}
 use Rattle.step_core.specs.WordPlaces.{Sizes}
 use Rattle.step_core.specs.Words.{point_of_word, tree_of_word}
 use Rattle.step_core.proofs.SeenWords.{HasSeenAtLeast-words, point_at-seen, seen-within}
@@ -29,6 +29,7 @@ same_side true false = inr (λ e. cc)
 -- two names are one, or are not
 pub same_name : (one other : Word) → (one ≡ other) ⊎ (one ≢ other)
 same_name Count Count = inl refl
+same_name Best Best = inl refl
 same_name (Counter g) (Counter h) = elim (cases_eq g h) [ inl e ↦ inl (ap Counter e) | inr apart ↦ inr (λ e. apart cc) ]
 same_name (PointOf n) (PointOf m) = elim (cases_eq n m) [ inl e ↦ inl (ap PointOf e) | inr apart ↦ inr (λ e. apart cc) ]
 same_name (ChildOf n side) (ChildOf m other) =

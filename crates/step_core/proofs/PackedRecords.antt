@@ -4,12 +4,12 @@ use Rattle.std.specs.Prelude.{IsTrue, ◌==◌, ◌&&◌, unwrap_or}
 use Rattle.std.proofs.lemmas.Bool.Decides.{nat_tests}
 use Rattle.std.proofs.lemmas.Option.{same_Some}
 use Rattle.plan_model.specs.declared.records.Outcome.{Outcome}
-use Rattle.plan_model.specs.declared.records.Outcome.TheVariants.{Placed, Same, Blocked}
+use Rattle.plan_model.specs.declared.records.Outcome.TheVariants.{Placed, Same, Blocked, Skipped}
 use Rattle.plan_model.specs.declared.records.Record.{Record}
 use Rattle.plan_model.specs.Runs.Outcomes.{is_zero_unless_placed}
 use Rattle.plan_model.proofs.UniqueRuns.{Record-from_fields}
 use Rattle.step_core.specs.Words.{number_of_outcome, parent_in, cost_in, last_field, record_word, FitsWord, IsFirstWord, worker_in, turn_in}
-use Rattle.step_core.specs.Words.{nearest_in, outcome_in, last_in, placed_in, same_in, blocked_in, record_in, record_of_word}
+use Rattle.step_core.specs.Words.{nearest_in, outcome_in, last_in, placed_in, same_in, blocked_in, skipped_in, record_in, record_of_word}
 use Rattle.step_core.proofs.ReadWords.{if_written-set}
 use Rattle.step_core.proofs.PackedWords.{parent_in-tree_word, cost_in-tree_word}
 
@@ -35,11 +35,12 @@ fields-packed last number nearest turn worker l o n t w =
       worker_is = omega (arith, w);
     }
 
--- an outcome has one of three numbers
+-- an outcome has one of four numbers
 number_of_outcome-few : (outcome : Outcome) → number_of_outcome outcome < 2 ^ 2
 number_of_outcome-few Placed = omega arith
 number_of_outcome-few (Same j) = omega arith
 number_of_outcome-few Blocked = omega arith
+number_of_outcome-few Skipped = omega arith
 
 -- the fields of a record's word
 record_word-fields : (entry : Record) → FitsWord entry
@@ -114,6 +115,20 @@ record_in-packed entry first Blocked e h f =
       first_cost = sym zero_fields.cost_is;
       class = sym zero_fields.class_is;
     })
+record_in-packed entry first Skipped e h f =
+    let word = record_word entry in
+    let fields = record_word-fields entry h in
+    let zero_fields = zeros entry.first_parent entry.first_cost entry.class (unplaced_at entry Skipped e) in
+    ap (λ n. record_in n word first) (fields.number_is ∙ ap number_of_outcome e)
+    ∙ Record-from_fields (skipped_in word) entry (record {
+      worker = fields.worker_is;
+      turn = fields.turn_is;
+      nearest = fields.nearest_is;
+      outcome = sym e;
+      first_parent = sym zero_fields.parent_is;
+      first_cost = sym zero_fields.cost_is;
+      class = sym zero_fields.class_is;
+    })
 
 -- a packed record is read again
 pub record_of_word-packed : (entry : Record) (first : ℕ) → FitsWord entry → IsFirstWord entry first
@@ -173,6 +188,18 @@ record_word-again one entry first h e = by_outcome one.outcome refl
     by_outcome Blocked is =
         let fields = record_word-fields one h in
         ap record_word (sym (by_number 2 (ap number_of_outcome is)))
+        ∙ omega (
+          arith,
+          fields.last_is,
+          fields.nearest_is,
+          fields.turn_is,
+          fields.worker_is,
+          ap number_of_outcome is,
+          ap (λ o. last_field o one.class) is,
+        )
+    by_outcome Skipped is =
+        let fields = record_word-fields one h in
+        ap record_word (sym (by_number 3 (ap number_of_outcome is)))
         ∙ omega (
           arith,
           fields.last_is,

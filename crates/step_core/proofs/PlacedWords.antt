@@ -3,7 +3,7 @@ use Rattle.std.proofs.Common.{◌≡◌, ℕ, zero, suc, ◌≤◌, ◌^◌, Boo
 use Rattle.std.specs.Prelude.{cond, nat_lt}
 use Rattle.plan_model.specs.Runs.Outcomes.{is_placed}
 use Rattle.plan_model.specs.declared.records.Outcome.{Outcome}
-use Rattle.plan_model.specs.declared.records.Outcome.TheVariants.{Placed, Same, Blocked}
+use Rattle.plan_model.specs.declared.records.Outcome.TheVariants.{Placed, Same, Blocked, Skipped}
 use Rattle.plan_model.specs.declared.records.Record.{Record}
 use Rattle.step_core.specs.GrownWords.{has_node, has_placed}
 use Rattle.step_core.specs.WordNames.{Words}
@@ -46,3 +46,4 @@ has_placed-record_word entry first fits =
     by_outcome Placed = refl
     by_outcome (Same j) = refl
     by_outcome Blocked = refl
+    by_outcome Skipped = refl

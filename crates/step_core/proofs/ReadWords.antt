@@ -4,7 +4,7 @@ use Rattle.std.proofs.Common.{if◌then◌else◌, Some, None}
 use Rattle.std.proofs.lemmas.Bool.Decides.{nat_tests}
 use Rattle.std.proofs.lemmas.Nat.{and_mask}
 use Rattle.plan_model.specs.declared.records.Record.{Record}
-use Rattle.step_core.specs.Words.{if_written, outcome_in, fourth_in, record_in, record_of_word}
+use Rattle.step_core.specs.Words.{if_written, outcome_in, skipped_in, record_in, record_of_word}
 
 -- a written word holds its value
 pub if_written-set : {A : Type 0} → (word : ℕ) (value : A) → 2 ^ 63 ≤ word → if_written word value ≡ Some value
@@ -12,12 +12,12 @@ if_written-set word value set =
     let test : nat_lt word (2 ^ 63) ≡ false = grind (arith, nat_tests) in
     ap (λ unset. if unset then None else Some value) test
 
--- an outcome with the fourth number is some record
-pub record_in-fourth : (number word first : ℕ) → 2 < number → record_in number word first ≡ fourth_in word
-record_in-fourth zero word first more = absurd (omega (arith, more))
-record_in-fourth (suc zero) word first more = absurd (omega (arith, more))
-record_in-fourth (suc (suc zero)) word first more = absurd (omega (arith, more))
-record_in-fourth (suc (suc (suc n))) word first more = refl
+-- a record with the last number of an outcome is that of a skipped mark
+pub record_in-skipped : (number word first : ℕ) → 2 < number → record_in number word first ≡ skipped_in word
+record_in-skipped zero word first more = absurd (omega (arith, more))
+record_in-skipped (suc zero) word first more = absurd (omega (arith, more))
+record_in-skipped (suc (suc zero)) word first more = absurd (omega (arith, more))
+record_in-skipped (suc (suc (suc n))) word first more = refl
 
 -- what the code finds in bits 42 and 43 is the outcome
 pub outcome_in-mask : (word number : ℕ) → bit_and (word / 2 ^ 42) 3 ≡ number → outcome_in word ≡ number

@@ -18,7 +18,7 @@ use Rattle.step_core.specs.Views.{IsViewOf, run_sizes, sees, tree_seen}
 use Rattle.step_core.specs.WordKinds.{AreBehind, MayBecome}
 use Rattle.step_core.specs.WordKinds.WordKind.{Falling}
 use Rattle.step_core.specs.WordNames.{Word, Words, WritesWord}
-use Rattle.step_core.specs.WordNames.Word.{Count, Counter, PointOf, ChildOf, TreeOf, FirstOf, RecordOf}
+use Rattle.step_core.specs.WordNames.Word.{Count, Best, Counter, PointOf, ChildOf, TreeOf, FirstOf, RecordOf}
 use Rattle.step_core.specs.WordPlaces.{HasWord}
 use Rattle.step_core.specs.Words.{FitsWord, point_of_word, point_word, record_of_word, record_word, tree_word}
 use Rattle.step_core.specs.declared.views.Hand.{Hand}
@@ -42,6 +42,7 @@ use Rattle.step_core.proofs.WordKinds.{AreBehind-refl}
 -- what may be loaded may be looked at
 MayLookAt-load : (view : View) (name : Word) → MayLoad view name → MayLookAt (tree_seen view) name
 MayLookAt-load view Count may = tt
+MayLookAt-load view Best may = absurd may
 MayLookAt-load view (Counter g) may = tt
 MayLookAt-load view (PointOf n) may = may
 MayLookAt-load view (ChildOf n side) may = may

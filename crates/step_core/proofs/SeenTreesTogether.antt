@@ -12,7 +12,7 @@ use Rattle.step_core.specs.ViewSteps.{joined}
 use Rattle.step_core.specs.ViewTrees.{SeesTree}
 use Rattle.step_core.specs.Views.{run_sizes, sees, words_of_run}
 use Rattle.step_core.specs.WordKinds.{AreBehind, WordKind, kind_of, later_word}
-use Rattle.step_core.specs.WordKinds.WordKind.{Rising, Once, Falling}
+use Rattle.step_core.specs.WordKinds.WordKind.{Rising, Once, Falling, Apart}
 use Rattle.step_core.specs.WordNames.{Word, Words}
 use Rattle.step_core.specs.WordNames.Word.{ChildOf, PointOf, RecordOf, TreeOf}
 use Rattle.step_core.specs.WordPlaces.{Sizes}
@@ -30,6 +30,7 @@ later_word-either Rising one other =
       | inl less ↦ inr (omega (arith, less))
       | inr enough ↦ inl (omega (arith, enough))
     ]
+later_word-either Apart one other = inl refl
 later_word-either Once one other = by_test (one == 0)
   where
     by_test : (b : Bool) → (cond b other one ≡ one) ⊎ (cond b other one ≡ other)

@@ -1,10 +1,11 @@
 -- Each step keeps the law of worlds: the lemma of its kind, at a moment.
-use Rattle.std.proofs.Common.{refl, sym, subst, ◌∙◌, inl, arith}
+use Rattle.std.proofs.Common.{refl, sym, ap, subst, ◌∙◌, ◌≤◌, inl, arith}
 use Rattle.step_core.specs.LaterViews.{IsLater}
 use Rattle.step_core.specs.Steps.{IsMoment, Moment, Step, Steps, view_after, views_after}
-use Rattle.step_core.specs.ViewSteps.{joined, looker, parted, stepped, steps_then, worker_apart}
+use Rattle.step_core.specs.ViewSteps.{best_with, hand_with_best, hand_with_post, joined, looker, parted, stepped, steps_then, worker_apart}
 use Rattle.step_core.specs.WordKinds.{AreBehind}
 use Rattle.step_core.specs.WordNames.{Words}
+use Rattle.step_core.specs.WordNames.Word.{Best}
 use Rattle.step_core.specs.Worlds.{IsWorld}
 use Rattle.step_core.proofs.FinishedMarks.{AreBehind-finished, IsTurnWord-packed, IsWorld-recorded}
 use Rattle.step_core.proofs.LaterSteps.{IsLater-counted, IsLater-half, IsLater-pointed, IsLater-treed}
@@ -16,6 +17,7 @@ use Rattle.step_core.proofs.WorldJoins.{IsWorld-joined}
 use Rattle.step_core.proofs.WorldLowers.{AreBehind-lowered, IsLater-lowered, IsWorld-lowered}
 use Rattle.step_core.proofs.WorldNodes.{AreBehind-half, AreBehind-pointed, AreBehind-treed, IsLater-link, IsWorld-counted, IsWorld-half, IsWorld-linked}
 use Rattle.step_core.proofs.WorldNodes.{IsWorld-pointed, IsWorld-treed}
+use Rattle.step_core.proofs.WorldPosts.{IsLater-best, IsWorld-best_loaded, IsWorld-posted}
 use Rattle.step_core.proofs.WorldSplits.{IsCut-looker, IsCut-parted, IsWorld-cut}
 use Rattle.step_core.proofs.WorldSteps.{AreBehind-claimed, IsWorld-claimed, IsWorld-loaded}
 
@@ -46,6 +48,11 @@ IsWorld-stepped now is (Step.Add hand) after made =
 IsWorld-stepped now is (Step.Lower node parent cost) after made =
     let may = made.may in
     IsWorld-lowered now.run now.words now.views now.id now.view is.world is.at is.own node parent cost may.may may.as_seen after made.leaves may.part
+IsWorld-stepped now is Step.LoadBest after made =
+    subst (λ words. IsWorld now.run words (views_after now Step.LoadBest)) (sym made.leaves)
+    (IsWorld-best_loaded now.run now.words now.views now.id now.view is.world is.at is.own)
+IsWorld-stepped now is (Step.Post n) after made =
+    IsWorld-posted now.run now.words after now.views now.id now.view is.world is.at is.own n made.may made.leaves
 IsWorld-stepped now is (Step.Finish hand entry) after made =
     let may = made.may in
     IsWorld-recorded now.run now.words after now.views now.id now.view is.world is.at is.own hand may.held may.member may.crew may.first entry may.fits
@@ -78,6 +85,8 @@ AreBehind-stepped now is (Step.Finish hand entry) after made =
 AreBehind-stepped now is (Step.Link hand node side) after made = AreBehind-write _ _ now.words after made.leaves (inl made.may.empty)
 AreBehind-stepped now is (Step.Add hand) after made = AreBehind-write _ _ now.words after made.leaves (omega arith)
 AreBehind-stepped now is (Step.Load name) after made = subst (AreBehind now.words) (sym made.leaves) (AreBehind-refl now.words)
+AreBehind-stepped now is Step.LoadBest after made = subst (AreBehind now.words) (sym made.leaves) (AreBehind-refl now.words)
+AreBehind-stepped now is (Step.Post n) after made = AreBehind-write _ _ now.words after made.leaves tt
 AreBehind-stepped now is Step.HandOn after made = subst (AreBehind now.words) (sym made.leaves) (AreBehind-refl now.words)
 AreBehind-stepped now is Step.Look after made = subst (AreBehind now.words) (sym made.leaves) (AreBehind-refl now.words)
 AreBehind-stepped now is (Step.Join other taken) after made = subst (AreBehind now.words) (sym made.leaves) (AreBehind-refl now.words)
@@ -97,9 +106,31 @@ IsLater-step now is (Step.Link hand node side) after made =
 IsLater-step now is (Step.Add hand) after made = IsLater-counted now.view hand
 IsLater-step now is (Step.Lower node parent cost) after made =
     IsLater-lowered now.run now.words now.views now.id now.view is.world is.at is.own node parent cost made.may.may made.may.as_seen
+IsLater-step now is Step.LoadBest after made =
+    IsLater-best now.view (now.words Best) (hand_with_best now.view.hand (now.words Best)) (is.world.bests now.id now.view is.at is.own).falls
+IsLater-step now is (Step.Post n) after made =
+    let falls = (is.world.bests now.id now.view is.at is.own).falls in
+    IsLater-best now.view (best_with now.view n (now.words Best)) (hand_with_post now.view.hand n) (omega (arith, falls))
 IsLater-step now is (Step.Finish hand entry) after made =
     IsLater-finished now.run now.words now.views now.id now.view is.world is.at is.own hand made.may.held _
     (IsTurnWord-packed entry made.may.fits).written
 IsLater-step now is Step.HandOn after made = IsLater-parted now.view
 IsLater-step now is Step.Look after made = IsLater-stepped now.view
 IsLater-step now is (Step.Join other taken) after made = IsLater-joined now.view taken
+
+-- the best word does not rise
+pub best-stepped : (now : Moment) → IsMoment now → (step : Step) (after : Words) → Steps now step after → after Best ≤ now.words Best
+best-stepped now is (Step.Claim g limit) after made = omega (arith, made.leaves.others Best (λ e. cc))
+best-stepped now is (Step.WritePoint hand nearest at) after made = omega (arith, made.leaves.others Best (λ e. cc))
+best-stepped now is (Step.WriteFirst hand parent cost) after made = omega (arith, made.leaves.others Best (λ e. cc))
+best-stepped now is (Step.WriteTree hand) after made = omega (arith, made.leaves.others Best (λ e. cc))
+best-stepped now is (Step.Link hand node side) after made = omega (arith, made.leaves.others Best (λ e. cc))
+best-stepped now is (Step.Add hand) after made = omega (arith, made.leaves.others Best (λ e. cc))
+best-stepped now is (Step.Lower node parent cost) after made = omega (arith, made.leaves.others Best (λ e. cc))
+best-stepped now is (Step.Post n) after made = omega (arith, made.leaves.here)
+best-stepped now is (Step.Finish hand entry) after made = omega (arith, made.leaves.others Best (λ e. cc))
+best-stepped now is (Step.Load name) after made = omega (arith, ap (λ w. w Best) made.leaves)
+best-stepped now is Step.LoadBest after made = omega (arith, ap (λ w. w Best) made.leaves)
+best-stepped now is Step.HandOn after made = omega (arith, ap (λ w. w Best) made.leaves)
+best-stepped now is Step.Look after made = omega (arith, ap (λ w. w Best) made.leaves)
+best-stepped now is (Step.Join other taken) after made = omega (arith, ap (λ w. w Best) made.leaves)

@@ -25,7 +25,7 @@ use Rattle.step_core.specs.Worlds.{IsTold, IsWorld, counted_once, hands_at}
 use Rattle.step_core.specs.declared.views.Hand.{Hand}
 use Rattle.step_core.specs.declared.views.SharedRun.{SharedRun}
 use Rattle.step_core.specs.declared.views.Stage.{Stage}
-use Rattle.step_core.specs.declared.views.Stage.TheVariants.{Claimed, Counted, Half, Linked, Pointed, Treed}
+use Rattle.step_core.specs.declared.views.Stage.TheVariants.{Claimed, Counted, Half, Linked, Pointed, Posted, Treed}
 use Rattle.step_core.specs.declared.views.View.{View}
 use Rattle.step_core.proofs.FinishedMarks.{recorded-below}
 use Rattle.step_core.proofs.GrownPoints.{none_some}
@@ -50,6 +50,7 @@ counted-linked Half other = refl
 counted-linked Treed other = refl
 counted-linked Linked other = absurd (other refl)
 counted-linked Counted other = refl
+counted-linked Posted other = refl
 
 module _ (run : SharedRun) (words : Words) (views : List View) (id : ℕ) (view : View) (world : IsWorld run words views)
     (at : get_elem? views id ≡ some view) (whole : share view ≡ run.workers) where

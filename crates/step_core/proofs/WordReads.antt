@@ -4,7 +4,7 @@ use Rattle.std.specs.Prelude.{◌≢◌, slice_index, slice_set, if◌then◌els
 use Rattle.std.proofs.lemmas.Bool.{cases_Bool, lt-ltb, le-leb, ltb-true, leb-true}
 use Rattle.std.proofs.lemmas.List.{get_or_default, get_or-set_same, get_or-set_other}
 use Rattle.step_core.specs.WordNames.{Word, WritesWord}
-use Rattle.step_core.specs.WordNames.Word.{Count, Counter, PointOf, ChildOf, TreeOf, FirstOf, RecordOf}
+use Rattle.step_core.specs.WordNames.Word.{Count, Best, Counter, PointOf, ChildOf, TreeOf, FirstOf, RecordOf}
 use Rattle.step_core.specs.WordPlaces.{Sizes, place_of, word_count, HasWord, has_word, word_at}
 
 -- ---- places
@@ -12,6 +12,7 @@ use Rattle.step_core.specs.WordPlaces.{Sizes, place_of, word_count, HasWord, has
 -- Words of different names have different places.
 pub place_of-once : (sizes : Sizes) (name other : Word) → HasWord sizes name → HasWord sizes other → place_of sizes name ≡ place_of sizes other → name ≡ other
 place_of-once sizes Count Count here there e = refl
+place_of-once sizes Best Best here there e = refl
 place_of-once sizes (Counter g) (Counter h) here there e = ap Counter (omega (arith, e))
 place_of-once sizes (PointOf n) (PointOf m) here there e = ap PointOf (omega (arith, e))
 place_of-once sizes (ChildOf n false) (ChildOf m false) here there e = ap (λ i. ChildOf i false) (omega (arith, e))
@@ -28,6 +29,7 @@ place_of-once sizes name other here there e = absurd (omega arith)
 -- each stands among the words
 pub place_of-within : (sizes : Sizes) (name : Word) → HasWord sizes name → place_of sizes name < word_count sizes
 place_of-within sizes Count here = omega arith
+place_of-within sizes Best here = omega arith
 place_of-within sizes (Counter g) here = omega (arith, here)
 place_of-within sizes (PointOf n) here = omega (arith, here)
 place_of-within sizes (ChildOf n false) here = omega (arith, here)
@@ -40,6 +42,7 @@ place_of-within sizes (RecordOf k) here = omega (arith, here)
 
 has_word-has : (sizes : Sizes) (name : Word) → HasWord sizes name → has_word sizes name ≡ true
 has_word-has sizes Count here = refl
+has_word-has sizes Best here = refl
 has_word-has sizes (Counter g) here = lt-ltb g sizes.strips here
 has_word-has sizes (PointOf n) here = le-leb n sizes.marks here
 has_word-has sizes (ChildOf n side) here = le-leb n sizes.marks here
@@ -49,6 +52,7 @@ has_word-has sizes (RecordOf k) here = lt-ltb k sizes.marks here
 
 pub HasWord-true : (sizes : Sizes) (name : Word) → has_word sizes name ≡ true → HasWord sizes name
 HasWord-true sizes Count h = tt
+HasWord-true sizes Best h = tt
 HasWord-true sizes (Counter g) h = ltb-true g sizes.strips h
 HasWord-true sizes (PointOf n) h = leb-true n sizes.marks h
 HasWord-true sizes (ChildOf n side) h = leb-true n sizes.marks h

@@ -8,8 +8,9 @@ use Rattle.std.proofs.lemmas.Bool.{cases_eq}
 use Rattle.step_core.specs.GrownWords.{is_linked}
 use Rattle.step_core.specs.Views.{run_sizes, sees, share}
 use Rattle.step_core.specs.WordKinds.{AreBehind, MayBecome, kind_of}
+use Rattle.step_core.specs.WordKinds.WordKind.{Apart}
 use Rattle.step_core.specs.WordNames.{Word, Words, WritesWord}
-use Rattle.step_core.specs.WordNames.Word.{ChildOf, Count, Counter, FirstOf, PointOf, RecordOf, TreeOf}
+use Rattle.step_core.specs.WordNames.Word.{Best, ChildOf, Count, Counter, FirstOf, PointOf, RecordOf, TreeOf}
 use Rattle.step_core.specs.Worlds.{Copies, HasCopy, IsTold}
 use Rattle.step_core.specs.declared.views.Hand.{Hand}
 use Rattle.step_core.specs.declared.views.SharedRun.{SharedRun}
@@ -21,16 +22,28 @@ use Rattle.step_core.proofs.WordKinds.{MayBecome-both}
 use Rattle.step_core.proofs.WorldLinks.{KeepsLinks, is_linked-kept}
 
 -- what was seen as it is, is seen so later, if it stays
-pub same-later : (name : Word) (saw sees now : Words) → AreBehind saw sees → AreBehind sees now → saw name ≡ now name → sees name ≡ now name
-same-later name saw sees now more behind same =
-    MayBecome-both (kind_of name) (now name) (sees name) (subst (λ w. MayBecome (kind_of name) w (sees name)) same (more name)) (behind name)
+pub same-later : (name : Word) → kind_of name ≢ Apart → (saw sees now : Words) → AreBehind saw sees → AreBehind sees now → saw name ≡ now name → sees name ≡ now name
+same-later name told saw sees now more behind same =
+    MayBecome-both (kind_of name) told (now name) (sees name) (subst (λ w. MayBecome (kind_of name) w (sees name)) same (more name)) (behind name)
 
 -- ---- which words tell of the run
+
+-- the best word does not
+pub told-kind : (run : SharedRun) (words : Words) (name : Word) → IsTold run words name → kind_of name ≢ Apart
+told-kind run words Count told = absurd told
+told-kind run words Best told = absurd told
+told-kind run words (Counter g) told = λ e. cc
+told-kind run words (PointOf n) told = λ e. cc
+told-kind run words (ChildOf n side) told = λ e. cc
+told-kind run words (TreeOf n) told = λ e. cc
+told-kind run words (FirstOf n) told = λ e. cc
+told-kind run words (RecordOf k) told = λ e. cc
 
 module _ (run : SharedRun) (before after : Words) where
   -- while children stay, the same words do
   pub IsTold-kept : KeepsLinks (run_sizes run) before after → (name : Word) → IsTold run after name → IsTold run before name
   IsTold-kept keeps Count told = told
+  IsTold-kept keeps Best told = told
   IsTold-kept keeps (Counter g) told = told
   IsTold-kept keeps (PointOf n) told = sym (is_linked-kept (run_sizes run) before after keeps n) ∙ told
   IsTold-kept keeps (ChildOf n side) told = sym (is_linked-kept (run_sizes run) before after keeps n) ∙ told
@@ -49,13 +62,13 @@ module _ (run : SharedRun) (before after : Words) (views : List View) (id : ℕ)
   HasCopy-own : (name : Word) → 0 < share then → sees then name ≡ after name → HasCopy run after later name
   HasCopy-own name part same = record { id = id; view = then; at = at-set views id view then at; run_is = own; part = part; same = same }
 
-  HasCopy-stays : (name : Word) → after name ≡ before name → HasCopy run before views name → HasCopy run after later name
-  HasCopy-stays name stays copy =
+  HasCopy-stays : (name : Word) → kind_of name ≢ Apart → after name ≡ before name → HasCopy run before views name → HasCopy run after later name
+  HasCopy-stays name told stays copy =
       elim (cases_eq copy.id id) [
         | inl here ↦ (
             let is : copy.view ≡ view = some-injective copy.view view (sym copy.at ∙ ap (get_elem? views) here ∙ at) in
             let saw : sees view name ≡ after name = ap (λ u. sees u name) (sym is) ∙ copy.same ∙ sym stays in
-            HasCopy-own name (shares (subst (λ u. 0 < share u) is copy.part)) (same-later name (sees view) (sees then) after more behind saw))
+            HasCopy-own name (shares (subst (λ u. 0 < share u) is copy.part)) (same-later name told (sees view) (sees then) after more behind saw))
         | inr apart ↦ record {
           id = copy.id;
           view = copy.view;
@@ -72,7 +85,7 @@ module _ (run : SharedRun) (before after : Words) (views : List View) (id : ℕ)
       → Copies run after later
   Copies-step each name told =
       elim (each name told) [
-        | inl stays ↦ HasCopy-stays name stays.0 (copies name stays.1)
+        | inl stays ↦ HasCopy-stays name (told-kind run after name told) stays.0 (copies name stays.1)
         | inr seen ↦ HasCopy-own name seen.0 seen.1
       ]
 
@@ -133,6 +146,7 @@ module _ (run : SharedRun) (before after : Words) (views : List View) (id : ℕ)
       each : (name : Word) → IsTold run after name
           → ((after name ≡ before name) × IsTold run before name) ⊎ ((0 < share then) × (sees then name ≡ after name))
       each Count told = absurd told
+      each Best told = absurd told
       each (Counter g) told = inl (writes.others (Counter g) (λ e. cc), told)
       each (PointOf m) told = of_node PointOf (λ i e. cc) (shows.point ∙ sym in_hand.point) m told
       each (TreeOf m) told = of_node TreeOf (λ i e. cc) (shows.tree ∙ sym in_hand.tree) m told

@@ -11,15 +11,17 @@ use Rattle.plan_model.specs.Seen.SeenParents.{AreSeenLawfully}
 use Rattle.plan_model.proofs.SeenParentLaws.{AreSeenLawfully-either}
 use Rattle.step_core.specs.Stages.{has_count, has_first, has_link, has_point, has_tree, holds_at}
 use Rattle.step_core.specs.ViewSteps.{joined}
+use Rattle.step_core.specs.GrownWords.{has_node}
+use Rattle.step_core.specs.SeenBests.{IsAtMostPlaced}
 use Rattle.step_core.specs.ViewTrees.{SeesTree}
 use Rattle.step_core.specs.Views.{IsViewOf, holds, no_run, run_sizes, sees, setup_in, share, spent, times, took_over, tree_seen, words_of_run}
 use Rattle.step_core.specs.WordKinds.{AreBehind, HaveWholePairs, MayBecome, WordKind, kind_of, later_word}
-use Rattle.step_core.specs.WordKinds.WordKind.{Rising, Once, Falling}
+use Rattle.step_core.specs.WordKinds.WordKind.{Rising, Once, Falling, Apart}
 use Rattle.step_core.specs.WordNames.{Word, Words}
-use Rattle.step_core.specs.WordNames.Word.{Count, Counter, PointOf, ChildOf, TreeOf, FirstOf, RecordOf}
+use Rattle.step_core.specs.WordNames.Word.{Count, Best, Counter, PointOf, ChildOf, TreeOf, FirstOf, RecordOf}
 use Rattle.step_core.specs.WordPlaces.{Sizes, word_at, word_count}
 use Rattle.step_core.specs.Words.{cost_in, tree_of_word}
-use Rattle.step_core.specs.Worlds.{Agree, EachView, HasCopy, IsMember, IsWorld, greatest_limit, hands_at, limit_of, state_in}
+use Rattle.step_core.specs.Worlds.{Agree, EachView, HasCopy, IsBestWord, IsMember, IsWorld, SeesBest, greatest_limit, hands_at, limit_of, state_in}
 use Rattle.step_core.specs.declared.views.Member.{Member}
 use Rattle.step_core.specs.declared.views.SharedRun.{SharedRun}
 use Rattle.step_core.specs.declared.views.Stage.{Stage}
@@ -27,7 +29,9 @@ use Rattle.step_core.specs.declared.views.View.{View}
 use Rattle.step_core.proofs.LaterWords.{IsWholePair-later, MayBecome-later, MayBecome-other_to_later, MayBecome-to_later, length-merged, word_at-merged}
 use Rattle.step_core.proofs.ViewLists.{at-set, at-set_other, each-set, maximum-most, maximum-one, sum-set}
 use Rattle.step_core.proofs.SeenTreesTogether.{SeesTree-joined}
-use Rattle.step_core.proofs.WorldCopies.{same-later}
+use Rattle.step_core.proofs.PlacedWords.{has_node-same}
+use Rattle.step_core.proofs.WorldBests.{goal-seen_before, min-either, same_first_cost}
+use Rattle.step_core.proofs.WorldCopies.{same-later, told-kind}
 use Rattle.step_core.proofs.WorldEmpties.{Empties-joined, zero-read}
 use Rattle.step_core.proofs.WorldHands.{Hands-views, IsWrittenFor}
 use Rattle.step_core.proofs.WorldLinks.{LinkedTree-views}
@@ -41,6 +45,7 @@ may_begin : (kind : WordKind) (word : ℕ) → MayBecome kind 0 word
 may_begin Rising word = zero-le
 may_begin Once word = inl refl
 may_begin Falling word = inl refl
+may_begin Apart word = tt
 
 -- and so it is behind all words
 pub AreBehind-nothing : (sizes : Sizes) (words : Words) → AreBehind (word_at sizes []) words
@@ -135,6 +140,7 @@ module _ (run : SharedRun) (words : Words) (views : List View) (id : ℕ) (view 
       (world.seen.behind j other was (TreeOf n)) (λ e. world.seen.pairs_seen id view at n)
       (λ e written also same. world.seen.agree id view at j other was n written also same) (λ e. world.seen.pairs_seen j other was n)
   to_later Count = plain Count (λ e. cc)
+  to_later Best = tt
   to_later (Counter g) = plain (Counter g) (λ e. cc)
   to_later (PointOf n) = plain (PointOf n) (λ e. cc)
   to_later (ChildOf n side) = plain (ChildOf n side) (λ e. cc)
@@ -311,34 +317,36 @@ module _ (run : SharedRun) (words : Words) (views : List View) (id : ℕ) (view 
           (λ of. SeesTree-joined view other (own_too ∙ sym own) (AreBehind-joined view other) AreBehind-other idle_too (world.sights id view at own)
           (world.sights j other was own_too))
           (λ of. absurd (live_spent of));
-      copies = λ name told. copy_after name (world.copies name told);
+      copies = λ name told. copy_after name (told-kind run words name told) (world.copies name told);
       empties = Empties-joined run words views id view j other both world.empties at was apart there live_spent refl (omega arith) refl (λ name. refl);
+      best = world.best;
+      bests = each (λ u. u.run ≡ run → SeesBest run words u) world.bests (λ of. best_both) (λ of. absurd (live_spent of));
     }
       where
         -- who saw a word as it is, is still there, or has come into both
-        copy_both : (name : Word) (u : View) → 0 < share u → share u ≤ share both → AreBehind (sees u) (sees both) → sees u name ≡ words name
+        copy_both : (name : Word) → kind_of name ≢ Apart → (u : View) → 0 < share u → share u ≤ share both → AreBehind (sees u) (sees both) → sees u name ≡ words name
             → HasCopy run words after name
-        copy_both name u part below more same =
+        copy_both name told u part below more same =
             record {
               id = id;
               view = both;
               at = here;
               run_is = own;
               part = omega (arith, part, below);
-              same = same-later name (sees u) (sees both) words more behind_both same;
+              same = same-later name told (sees u) (sees both) words more behind_both same;
             }
 
-        copy_after : (name : Word) → HasCopy run words views name → HasCopy run words after name
-        copy_after name copy =
+        copy_after : (name : Word) → kind_of name ≢ Apart → HasCopy run words views name → HasCopy run words after name
+        copy_after name told copy =
             elim (cases_eq copy.id id) [
               | inl same ↦ (
                   let is : copy.view ≡ view = some-injective copy.view view (sym copy.at ∙ ap (get_elem? views) same ∙ at) in
-                  copy_both name view (subst (λ u. 0 < share u) is copy.part) (omega (arith, length-append view.crew other.crew))
+                  copy_both name told view (subst (λ u. 0 < share u) is copy.part) (omega (arith, length-append view.crew other.crew))
                   (AreBehind-joined view other) (ap (λ u. sees u name) (sym is) ∙ copy.same))
               | inr off ↦ elim (cases_eq copy.id j) [
                 | inl same ↦ (
                     let is : copy.view ≡ other = some-injective copy.view other (sym copy.at ∙ ap (get_elem? views) same ∙ was) in
-                    copy_both name other (subst (λ u. 0 < share u) is copy.part) (omega (arith, length-append view.crew other.crew)) AreBehind-other
+                    copy_both name told other (subst (λ u. 0 < share u) is copy.part) (omega (arith, length-append view.crew other.crew)) AreBehind-other
                     (ap (λ u. sees u name) (sym is) ∙ copy.same))
                 | inr off_too ↦ record {
                   id = copy.id;
@@ -368,6 +376,52 @@ module _ (run : SharedRun) (words : Words) (views : List View) (id : ℕ) (view 
               | inl mine ↦ inl (ap tree_of_word (sym mine) ∙ e)
               | inr theirs ↦ inr (ap tree_of_word (sym theirs) ∙ e)
             ]
+
+        -- a record that both have seen, one of them has seen
+        record_of_one : (k : ℕ) → (sees both (RecordOf k) ≡ sees view (RecordOf k)) ⊎ (sees both (RecordOf k) ≡ sees other (RecordOf k))
+        record_of_one k = by_test (sees view (RecordOf k) == 0) refl
+          where
+            by_test : (t : Bool) → (sees view (RecordOf k) == 0) ≡ t
+                → (sees both (RecordOf k) ≡ sees view (RecordOf k)) ⊎ (sees both (RecordOf k) ≡ sees other (RecordOf k))
+            by_test true e = inr (sees_both (RecordOf k) ∙ ap (λ b. cond b (sees other (RecordOf k)) (sees view (RecordOf k))) e)
+            by_test false e = inl (sees_both (RecordOf k) ∙ ap (λ b. cond b (sees other (RecordOf k)) (sees view (RecordOf k))) e)
+
+        node_of_one : (n : ℕ) → has_node (sees both) n ≡ true → (has_node (sees view) n ≡ true) ⊎ (has_node (sees other) n ≡ true)
+        node_of_one zero h = inl refl
+        node_of_one (suc k) h =
+            elim (record_of_one k) [
+              | inl mine ↦ inl (sym (has_node-same (sees view) (sees both) k mine) ∙ h)
+              | inr theirs ↦ inr (sym (has_node-same (sees other) (sees both) k theirs) ∙ h)
+            ]
+
+        placed_both : IsAtMostPlaced view view.best → IsAtMostPlaced other other.best → IsAtMostPlaced both both.best
+        placed_both mine theirs n node goal =
+            elim (node_of_one n node) [
+              | inl here ↦ (
+                  let tree = world.sights id view at own in
+                  let low = mine n here (goal-seen_before view both refl (AreBehind-joined view other) tree n here goal) in
+                  let same = same_first_cost view both refl (AreBehind-joined view other) tree n here in
+                  omega (arith, low, same))
+              | inr there_too ↦ (
+                  let tree = world.sights j other was own_too in
+                  let low = theirs n there_too (goal-seen_before other both (own ∙ sym own_too) AreBehind-other tree n there_too goal) in
+                  let same = same_first_cost other both (own ∙ sym own_too) AreBehind-other tree n there_too in
+                  omega (arith, low, same))
+            ]
+
+        -- what both know of the best word is the lesser of what either knew
+        best_both : SeesBest run words both
+        best_both =
+            let mine = world.bests id view at own in
+            let theirs = world.bests j other was own_too in
+            record {
+              pair = min-either (IsBestWord run words) view.best other.best mine.pair theirs.pair;
+              falls = omega (arith, mine.falls, theirs.falls);
+              placed = placed_both mine.placed theirs.placed;
+              taken_pair = λ hand word held has. let none = sym idle_too ∙ held in cc;
+              taken = λ hand word held has. let none = sym idle_too ∙ held in cc;
+              posted = λ hand held far. let none = sym idle_too ∙ held in cc;
+            }
 
         live_spent : no_run ≡ run → ⊥
         live_spent of = let none : run.workers ≡ 0 = ap (λ r. r.workers) (sym of) in omega (arith, none, world.run_is.workers.0)

@@ -14,7 +14,7 @@ use Rattle.step_core.specs.Views.{run_sizes, sees, setup_in, share}
 use Rattle.step_core.specs.WordKinds.{AreBehind, HaveWholePairs, MayBecome}
 use Rattle.step_core.specs.WordKinds.WordKind.{Falling}
 use Rattle.step_core.specs.WordNames.{Words, WritesWord}
-use Rattle.step_core.specs.WordNames.Word.{ChildOf, Count, Counter, FirstOf, PointOf, RecordOf, TreeOf}
+use Rattle.step_core.specs.WordNames.Word.{Best, ChildOf, Count, Counter, FirstOf, PointOf, RecordOf, TreeOf}
 use Rattle.step_core.specs.WordPlaces.{HasWord}
 use Rattle.step_core.specs.Words.{cost_in, tree_of_word, tree_word}
 use Rattle.step_core.specs.Worlds.{IsWorld, state_in}
@@ -31,11 +31,12 @@ use Rattle.step_core.proofs.SawWords.{AreBehind-saw, AreBehind-seen, AreBehind-w
 use Rattle.step_core.proofs.SeenByViews.{IsViewOf-saw, WritesWord-saw}
 use Rattle.step_core.proofs.SeenTreesOfViews.{SeesTree-lowered}
 use Rattle.step_core.proofs.WordKinds.{AreBehind-trans}
+use Rattle.step_core.proofs.WorldBests.{FollowsHand-refl}
 use Rattle.step_core.proofs.WorldCopies.{Copies-seen}
 use Rattle.step_core.proofs.WorldEmpties.{Empties-kept, last_zero-saw}
 use Rattle.step_core.proofs.WorldHands.{Hands-step}
 use Rattle.step_core.proofs.WorldLinks.{KeepsLinks, LinkedTree-kept}
-use Rattle.step_core.proofs.WorldNodes.{IsWorld-kept, KeepsMarks, grows_kept, numbers_kept}
+use Rattle.step_core.proofs.WorldNodes.{IsWorld-leaves, KeepsMarks, grows_kept, numbers_kept}
 use Rattle.step_core.proofs.WorldPairs.{Pairs-same}
 use Rattle.step_core.proofs.WorldParts.{is_recorded-kept}
 use Rattle.step_core.proofs.WorldSteps.{follow, live, seen_within, tree}
@@ -155,7 +156,8 @@ module _ (run : SharedRun) (words : Words) (views : List View) (id : ℕ) (view 
         let grows = grows_kept run words after views id view then world at own keeps AreBehind-lowered links in
         let now = AreBehind-saw (TreeOf n) x (sees view) (sees then) after saw_it writes.here behind in
         let more = AreBehind-seen (TreeOf n) x (sees view) (sees then) after saw_it writes.here behind in
-        IsWorld-kept run words after views id view then world at own keeps
+        IsWorld-leaves run words after views id view then world at own keeps
+        (record { word = writes.others Best (λ e. cc); seen = refl; hand = FollowsHand-refl view.hand })
         (IsViewOf-saw run view of_run (TreeOf n) here (sees view (TreeOf n)) x) AreBehind-lowered
         now more refl (world.shares.idle id view at) links
         (Trees-lowered run words after views (set views id then) world.numbers world.links numbers links world.trees AreBehind-lowered n parent cost writes

@@ -23,13 +23,14 @@ use Rattle.step_core.specs.ViewTrees.{IsSteered, LeadsTo, MayHang, SeesPoint, Se
 use Rattle.step_core.specs.Views.{IsViewOf, holds, run_sizes, sees, share, took_over}
 use Rattle.step_core.specs.WordKinds.{AreBehind, HaveWholePairs}
 use Rattle.step_core.specs.WordNames.{Words, WritesWord}
-use Rattle.step_core.specs.WordNames.Word.{ChildOf, Count, Counter, FirstOf, PointOf, RecordOf, TreeOf}
+use Rattle.step_core.specs.WordNames.Word.{Best, ChildOf, Count, Counter, FirstOf, PointOf, RecordOf, TreeOf}
 use Rattle.step_core.specs.WordPlaces.{place_of}
 use Rattle.step_core.specs.Words.{point_of_word, point_word, tree_word}
-use Rattle.step_core.specs.Worlds.{Copies, Empties, Hands, IsFirstOf, IsWorld, LinkedTree, ClaimedMarks, Pairs, Trees, counters, limit_of, state_in}
+use Rattle.step_core.specs.Worlds.{BestWord, ClaimedMarks, Copies, Empties, Hands, IsFirstOf, IsWorld, LinkedTree, Pairs, SeenBests, Trees, counters}
+use Rattle.step_core.specs.Worlds.{limit_of, state_in}
 use Rattle.step_core.specs.declared.views.Hand.{Hand}
 use Rattle.step_core.specs.declared.views.SharedRun.{SharedRun}
-use Rattle.step_core.specs.declared.views.Stage.TheVariants.{Claimed, Counted, Half, Linked, Pointed, Treed}
+use Rattle.step_core.specs.declared.views.Stage.TheVariants.{Claimed, Counted, Half, Linked, Pointed, Posted, Treed}
 use Rattle.step_core.specs.declared.views.View.{View}
 use Rattle.step_core.proofs.FinishedMarks.{in_hand}
 use Rattle.step_core.proofs.HandsAt.{holds_at-stays}
@@ -45,6 +46,7 @@ use Rattle.step_core.proofs.SawWords.{AreBehind-write}
 use Rattle.step_core.proofs.SeenTreesOfViews.{SeesTree-counted, SeesTree-half, SeesTree-linked, SeesTree-pointed, SeesTree-treed}
 use Rattle.step_core.proofs.ViewLists.{maximum-set}
 use Rattle.step_core.proofs.WordKinds.{AreBehind-refl, AreBehind-trans}
+use Rattle.step_core.proofs.WorldBests.{BestWord-kept, FollowsHand, FollowsHand-stage, KeepsBest, SeenBests-kept}
 use Rattle.step_core.proofs.WorldCopies.{Copies-linked, Copies-untold}
 use Rattle.step_core.proofs.WorldEmpties.{Empties-kept, Empties-linked}
 use Rattle.step_core.proofs.WorldHands.{Hands-pointed, Hands-step, blank-held}
@@ -96,8 +98,8 @@ module _ (run : SharedRun) (words after : Words) (views : List View) (id : ℕ) 
       IsViewOf run then → AreBehind words after → AreBehind (sees then) after → AreBehind (sees view) (sees then) → took_over then ≡ took_over view
       → (share then ≡ 0 → then.hand ≡ None) → (links : LinkedTree run after (set views id then)) → Trees run after → Hands after (set views id then)
       → Pairs run after (set views id then) → SeesTree then → Copies run after (set views id then) → Empties run after (set views id then)
-      → IsWorld run after (set views id then)
-  IsWorld-kept of_run go behind more took idle links trees hands pairs tree_then copies empties = record {
+      → BestWord run after → SeenBests run after (set views id then) → IsWorld run after (set views id then)
+  IsWorld-kept of_run go behind more took idle links trees hands pairs tree_then copies empties best bests = record {
     run_is = world.run_is;
     of_run = of_run-step run views id then world.of_run of_run;
     numbers = numbers_kept;
@@ -117,7 +119,30 @@ module _ (run : SharedRun) (words after : Words) (views : List View) (id : ℕ) 
     sights = TreesSeen-set run words views id view world at own then (λ of. tree_then);
     copies = copies;
     empties = empties;
+    best = best;
+    bests = bests;
   }
+
+  -- so it does by a step that leaves the best word, and the best in hand
+  best_kept : KeepsBest words after view then → AreBehind words after → LinkedTree run after (set views id then) → BestWord run after
+  best_kept stays go links =
+      BestWord-kept run words after views world.numbers world.links world.trees (grows_kept go links) go world.best stays.word keeps.records
+
+  bests_kept :
+      KeepsBest words after view then → AreBehind words after → LinkedTree run after (set views id then) → then.run ≡ view.run
+      → AreBehind (sees view) (sees then) → SeenBests run after (set views id then)
+  bests_kept stays go links same more =
+      SeenBests-kept run words after views id view then at own same world.bests (grows_kept go links) more (tree run words views id view world at own)
+      keeps.seen_records stays
+
+  pub IsWorld-leaves :
+      KeepsBest words after view then → IsViewOf run then → AreBehind words after → AreBehind (sees then) after → AreBehind (sees view) (sees then)
+      → took_over then ≡ took_over view → (share then ≡ 0 → then.hand ≡ None) → (links : LinkedTree run after (set views id then)) → Trees run after
+      → Hands after (set views id then) → Pairs run after (set views id then) → SeesTree then → Copies run after (set views id then)
+      → Empties run after (set views id then) → IsWorld run after (set views id then)
+  IsWorld-leaves stays of_run go behind more took idle links trees hands pairs tree_then copies empties =
+      IsWorld-kept of_run go behind more took idle links trees hands pairs tree_then copies empties (best_kept stays go links)
+      (bests_kept stays go links (of_run.run_is ∙ sym own) more)
 
 -- ---- the mark in hand
 
@@ -184,6 +209,15 @@ module _ (run : SharedRun) (words after : Words) (views : List View) (id : ℕ) 
       (subst (λ r. is_linked (run_sizes r) words n ≡ true) own
       (is_linked-seen view words behind_now tree_now (follow run words views id view world at own) n (tree_now.rooted.points n (ap is_some stands))))
 
+  -- the best word stays, and so does the best in hand
+  leaves_best : (then : View) (next : Hand) → then.best ≡ view.best → then.hand ≡ Some next → next.best ≡ hand.best → next.stage ≢ Posted
+      → after Best ≡ words Best → KeepsBest words after view then
+  leaves_best then next seen now best apart word = record {
+    word = word;
+    seen = seen;
+    hand = subst (FollowsHand view.hand) (sym now) (FollowsHand-stage view.hand hand next held best apart);
+  }
+
   -- what is written for it is not there before
   no_first : has_first hand.stage ≡ false → words (FirstOf node) ≡ 0
   no_first = first-held run words words views id view view at world.numbers world.links world.pairs (GrowsInto-refl (state_in run words)) hand held
@@ -224,9 +258,10 @@ module _ (run : SharedRun) (words after : Words) (views : List View) (id : ℕ) 
           let links = LinkedTree-pointed run words after views id view then at world.numbers world.links hand held next refl refl (point_word p)
           (ap has_link stage)
           (sym (ap has_link stage)) (sym (ap has_count stage)) writes in
+          let stays : KeepsBest words after view then = leaves_best then next refl refl refl (λ e. cc) (writes.others Best (λ e. cc)) in
           let recorded = is_recorded-kept words after keeps.records in
           let grows = grows_kept run words after views id view then world at own keeps go_pointed links in
-          IsWorld-kept run words after views id view then world at own keeps (more_steps (Some next)) go_pointed
+          IsWorld-leaves run words after views id view then world at own keeps stays (more_steps (Some next)) go_pointed
           (AreBehind-trans (sees view) words after behind_now go_pointed) (AreBehind-refl (sees view)) refl (some_share then refl) links
           (Trees-kept run words after views (set views id then) world.numbers world.links (numbers_kept run words after views id view then world at own keeps)
           links world.trees go_pointed record {
@@ -276,9 +311,10 @@ module _ (run : SharedRun) (words after : Words) (views : List View) (id : ℕ) 
         let links = LinkedTree-kept run words after views id view then at world.links keeps_links keeps.records (writes.others Count (λ e. cc))
         (holds_at-stays has_link view.hand hand next held refl (sym (ap has_link stage)))
         (holds_at-stays has_count view.hand hand next held refl (sym (ap has_count stage))) in
+        let stays : KeepsBest words after view then = leaves_best then next refl refl refl (λ e. cc) (writes.others Best (λ e. cc)) in
         let recorded = is_recorded-kept words after keeps.records in
         let grows = grows_kept run words after views id view then world at own keeps go links in
-        IsWorld-kept run words after views id view then world at own keeps (more_steps (Some next)) go (AreBehind-trans (sees view) words after behind_now go)
+        IsWorld-leaves run words after views id view then world at own keeps stays (more_steps (Some next)) go (AreBehind-trans (sees view) words after behind_now go)
         (AreBehind-refl (sees view)) refl (some_share then refl) links
         (Trees-kept run words after views (set views id then) world.numbers world.links (numbers_kept run words after views id view then world at own keeps)
         links world.trees go record {
@@ -340,9 +376,10 @@ module _ (run : SharedRun) (words after : Words) (views : List View) (id : ℕ) 
         let links = LinkedTree-kept run words after views id view then at world.links keeps_links keeps.records (writes.others Count (λ e. cc))
         (holds_at-stays has_link view.hand hand next held refl (sym (ap has_link stage)))
         (holds_at-stays has_count view.hand hand next held refl (sym (ap has_count stage))) in
+        let stays : KeepsBest words after view then = leaves_best then next refl refl refl (λ e. cc) (writes.others Best (λ e. cc)) in
         let recorded = is_recorded-kept words after keeps.records in
         let grows = grows_kept run words after views id view then world at own keeps go links in
-        IsWorld-kept run words after views id view then world at own keeps (more_steps (Some next)) go (AreBehind-trans (sees view) words after behind_now go)
+        IsWorld-leaves run words after views id view then world at own keeps stays (more_steps (Some next)) go (AreBehind-trans (sees view) words after behind_now go)
         (AreBehind-refl (sees view)) refl (some_share then refl) links
         (Trees-kept run words after views (set views id then) world.numbers world.links (numbers_kept run words after views id view then world at own keeps)
         links world.trees go record {
@@ -448,9 +485,10 @@ module _ (run : SharedRun) (words after : Words) (views : List View) (id : ℕ) 
           let links = LinkedTree-linked run words after views id view then at world.numbers world.links hand held next refl refl hand.point leads.at n
           leads.depth ends low
           written none (ap has_link stage) refl (sym (ap has_count stage)) puts in
+          let stays : KeepsBest words after view then = leaves_best then next refl refl refl (λ e. cc) (writes.others Best (λ e. cc)) in
           let recorded = is_recorded-kept words after keeps.records in
           let grows = grows_kept run words after views id view then world at own keeps go links in
-          IsWorld-kept run words after views id view then world at own keeps (IsViewOf-linked run view of_run hand n side n_within low steps) go
+          IsWorld-leaves run words after views id view then world at own keeps stays (IsViewOf-linked run view of_run hand n side n_within low steps) go
           behind
           (AreBehind-shown run view of_run hand n side n_within low may_show) refl (some_share then refl) links
           (Trees-linked run words after views (set views id then) world.numbers world.links (numbers_kept run words after views id view then world at own keeps)
@@ -498,9 +536,10 @@ module _ (run : SharedRun) (words after : Words) (views : List View) (id : ℕ) 
         record { children = λ n side. writes.others (ChildOf n side) (λ e. cc); points = λ n linked. writes.others (PointOf n) (λ e. cc) } in
         let links = LinkedTree-counted run words after views id view then at world.numbers world.links hand held next refl refl low (sym (ap has_link stage))
         (ap has_count stage) refl writes in
+        let stays : KeepsBest words after view then = leaves_best then next refl refl refl (λ e. cc) (writes.others Best (λ e. cc)) in
         let recorded = is_recorded-kept words after keeps.records in
         let grows = grows_kept run words after views id view then world at own keeps AreBehind-counted links in
-        IsWorld-kept run words after views id view then world at own keeps (more_steps (Some next)) AreBehind-counted
+        IsWorld-leaves run words after views id view then world at own keeps stays (more_steps (Some next)) AreBehind-counted
         (AreBehind-trans (sees view) words after behind_now AreBehind-counted) (AreBehind-refl (sees view)) refl (some_share then refl) links
         (Trees-kept run words after views (set views id then) world.numbers world.links (numbers_kept run words after views id view then world at own keeps)
         links world.trees AreBehind-counted record {

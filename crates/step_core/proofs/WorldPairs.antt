@@ -22,7 +22,7 @@ use Rattle.step_core.specs.Worlds.{EachView, IsFirstOf, LinkedTree, ClaimedMarks
 use Rattle.step_core.specs.declared.views.Hand.{Hand}
 use Rattle.step_core.specs.declared.views.SharedRun.{SharedRun}
 use Rattle.step_core.specs.declared.views.Stage.{Stage}
-use Rattle.step_core.specs.declared.views.Stage.TheVariants.{Claimed, Counted, Half, Linked, Pointed, Treed}
+use Rattle.step_core.specs.declared.views.Stage.TheVariants.{Claimed, Counted, Half, Linked, Pointed, Posted, Treed}
 use Rattle.step_core.specs.declared.views.View.{View}
 use Rattle.step_core.proofs.HandsAt.{hands_at-held, holders-most, holds_at-other, holds_at-own}
 use Rattle.step_core.proofs.MarksInHand.{once_if-false}
@@ -116,6 +116,7 @@ linked_treed Half h = cc
 linked_treed Treed h = cc
 linked_treed Linked h = refl
 linked_treed Counted h = refl
+linked_treed Posted h = refl
 
 linked_most : (k : ℕ) (o : Option Hand) → once_if (holds_at has_link k o) ≤ once_if (holds_at has_tree k o)
 linked_most k None = omega arith

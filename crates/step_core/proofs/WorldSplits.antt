@@ -17,7 +17,7 @@ use Rattle.step_core.specs.WordKinds.{AreBehind, HaveWholePairs}
 use Rattle.step_core.specs.WordNames.{Word, Words}
 use Rattle.step_core.specs.WordNames.Word.{ChildOf, RecordOf, TreeOf}
 use Rattle.step_core.specs.Words.{tree_of_word}
-use Rattle.step_core.specs.Worlds.{Agree, EachView, IsMember, IsWorld, maximum, hands_at, limit_of, noted_by, noted_in, state_in}
+use Rattle.step_core.specs.Worlds.{Agree, EachView, IsMember, IsWorld, SeesBest, maximum, hands_at, limit_of, noted_by, noted_in, state_in}
 use Rattle.step_core.specs.declared.views.Member.{Member}
 use Rattle.step_core.specs.declared.views.SharedRun.{SharedRun}
 use Rattle.step_core.specs.declared.views.Stage.{Stage}
@@ -26,6 +26,7 @@ use Rattle.step_core.proofs.FinishedTurns.{times-cons}
 use Rattle.step_core.proofs.SeenTreesOfViews.{SeesTree-apart, SeesTree-looker, SeesTree-parted, SeesTree-stepped}
 use Rattle.step_core.proofs.ViewLists.{at-set, each-push, each-set, maximum-one, maximum-push, maximum-set, sum-set}
 use Rattle.step_core.proofs.WordKinds.{AreBehind-refl}
+use Rattle.step_core.proofs.WorldBests.{FollowsHand, FollowsHand-none, FollowsHand-refl, SeesBest-kept}
 use Rattle.step_core.proofs.WorldCopies.{Copies-push, Copies-step}
 use Rattle.step_core.proofs.WorldEmpties.{Empties-push, Empties-step, zero-read}
 use Rattle.step_core.proofs.WorldHands.{Hands-views, IsWrittenFor}
@@ -39,6 +40,7 @@ use Rattle.step_core.proofs.WorldSteps.{live, tree}
 pub record SeesAsMuch (view then : View) : Type 0 where
   pub run : then.run ≡ view.run
   pub seen : then.seen ≡ view.seen
+  pub best : then.best ≡ view.best
   pub took : then.took ≡ view.took
   pub looked : then.looked ≡ view.looked
   pub found_zero : length then.found_zero ≡ length view.found_zero
@@ -227,8 +229,20 @@ module _ (run : SharedRun) (words : Words) (views : List View) (id : ℕ) (view 
               maximum-one (noted_by place i) rest id left (at-set views id view left at),
             ))
             cut.none_right;
+        best = world.best;
+        bests = each-push rest right (λ u. u.run ≡ run → SeesBest run words u)
+            (each-set views id left (λ u. u.run ≡ run → SeesBest run words u) (λ i u apart e. world.bests i u e)
+            (λ of. best_same left cut.tables_left (subst (FollowsHand view.hand) (sym cut.hand) (FollowsHand-refl view.hand))))
+            (λ of. best_same right cut.tables_right (subst (FollowsHand view.hand) (sym cut.no_hand) (FollowsHand-none view.hand)));
       }
     where
+      -- both know as much of the best word
+      best_same : (then : View) → SeesAsMuch view then → FollowsHand view.hand then.hand → SeesBest run words then
+      best_same then same follows =
+          SeesBest-kept view then same.run (subst (AreBehind (sees view)) (sym (sees-same view then same)) (AreBehind-refl (sees view)))
+          (tree run words views id view world at own) run words same.best follows (λ k. ap (λ s. s (RecordOf k)) (sees-same view then same))
+          (world.bests id view at own)
+
       stays : 0 < share view → 0 < share left
       stays part = by_share (share left) refl
         where
@@ -295,6 +309,7 @@ sees_as_much : (view : View) → SeesAsMuch view (looker view)
 sees_as_much view = record {
   run = refl;
   seen = refl;
+  best = refl;
   took = refl;
   looked = refl;
   found_zero = length-replicate (length view.found_zero) 0;
@@ -314,11 +329,12 @@ IsCut-parted view = record {
   no_hand = refl;
   limits = (refl, refl);
   tables_left =
-      record { run = refl; seen = refl; took = refl; looked = refl; found_zero = refl; zero_looks = λ name. omega arith; steps = omega arith; fills = refl };
+      record { run = refl; seen = refl; best = refl; took = refl; looked = refl; found_zero = refl; zero_looks = λ name. omega arith; steps = omega arith; fills = refl };
   tables_right =
       (let same = sees_as_much view in record {
         run = refl;
         seen = refl;
+        best = refl;
         took = refl;
         looked = refl;
         found_zero = same.found_zero;
@@ -342,7 +358,7 @@ IsCut-looker view = record {
   no_hand = refl;
   limits = (refl, refl);
   tables_left =
-      record { run = refl; seen = refl; took = refl; looked = refl; found_zero = refl; zero_looks = λ name. omega arith; steps = omega arith; fills = refl };
+      record { run = refl; seen = refl; best = refl; took = refl; looked = refl; found_zero = refl; zero_looks = λ name. omega arith; steps = omega arith; fills = refl };
   tables_right = sees_as_much view;
   tree_left = SeesTree-stepped view;
   tree_right = SeesTree-looker view;

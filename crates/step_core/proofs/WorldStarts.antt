@@ -1,6 +1,6 @@
 -- A shared run that goes on from a closed run begins with a lawful world: one view, which has the whole share and has seen all words.
 use Rattle.std.proofs.Common.{◌≡◌, ℕ, zero, suc, ◌+◌, ◌<◌, ◌≤◌, Bool, true, false, List, [], ◌∷◌, ◌/◌, ◌^◌}
-use Rattle.std.proofs.Common.{length, map, Option, Some, None, refl, sym, ap, ◌∙◌, subst, inl, inr, arith}
+use Rattle.std.proofs.Common.{length, map, Option, Some, None, refl, sym, ap, ◌∙◌, subst, inl, inr, arith, le_refl}
 use Rattle.std.specs.Prelude.{◌⊎◌, ◌==◌, nat_lt, cond, is_some, max}
 use Rattle.std.specs.List.{count_by, range_with_len}
 use mathlib.Core.Option.{some, some-ne-none, some-injective}
@@ -14,7 +14,10 @@ use Rattle.std.proofs.lemmas.List.Sums.{sum_by-cons}
 use Rattle.plan_model.specs.Scenes.MarkPoints.{is_claimed}
 use Rattle.plan_model.specs.Runs.OrderLaw.{KeepsFirstCosts, KeepsOrder}
 use Rattle.plan_model.specs.Seen.SeenParents.{AreSeenLawfully}
-use Rattle.plan_model.specs.Runs.Textbook.{setup_of}
+use Rattle.plan_model.specs.Runs.Textbook.{skipping_goals, setup_of}
+use Rattle.plan_model.specs.Trees.PointsByNumber.{point_at}
+use Rattle.plan_model.specs.Trees.TreeStates.{first_cost_of, recorded_or}
+use Rattle.plan_model.proofs.BestNodeLaws.{IsPresent-goal}
 use Rattle.plan_model.specs.Runs.Turns.{once_if, turns_of}
 use Rattle.plan_model.specs.declared.records.Record.{Record}
 use Rattle.plan_model.specs.declared.tasks.Task.{Task}
@@ -25,20 +28,24 @@ use Rattle.plan_model.proofs.MarkBounds.{length-marks}
 use Rattle.plan_model.proofs.SceneBounds.{step-steers}
 use Rattle.plan_model.proofs.StripMarks.{is_claimed-below, is_claimed-past}
 use Rattle.plan_model.proofs.WorkerTurns.{AreTurns-longer}
-use Rattle.step_core.specs.GrownWords.{HoldRun, has_node, record_at, run_words, sizes_of, state_of_words}
+use Rattle.step_core.specs.SeenBests.{IsLeastBest}
+use Rattle.step_core.specs.SharedWords.{linked_points}
+use Rattle.step_core.specs.GrownWords.{HoldRun, has_node, has_placed, record_at, run_words, sizes_of, state_of_words}
 use Rattle.step_core.specs.ViewStarts.{crew_from, member_of, newcomer}
 use Rattle.step_core.specs.ViewTrees.{SeesTree}
 use Rattle.step_core.specs.Views.{IsViewOf, last_zero, run_of, run_sizes, sees, setup_in, share, spent, times, took_over, tree_seen}
 use Rattle.step_core.specs.WordKinds.{AreBehind, HaveWholePairs}
 use Rattle.step_core.specs.WordNames.{Words}
-use Rattle.step_core.specs.WordNames.Word.{ChildOf, FirstOf, RecordOf}
+use Rattle.step_core.specs.WordNames.Word.{Best, ChildOf, FirstOf, RecordOf}
 use Rattle.step_core.specs.WordPlaces.{word_count}
-use Rattle.step_core.specs.Words.{FitsWord, fourth_in, outcome_in, record_in, record_of_word}
-use Rattle.step_core.specs.Worlds.{Agree, EachView, IsMember, IsRecordWord, IsWorld, counted_once, Trees, counters, greatest_limit, is_recorded, state_in}
+use Rattle.step_core.specs.Words.{FitsWord, cost_in, outcome_in, record_in, record_of_word}
+use Rattle.step_core.specs.Worlds.{Agree, BestWord, EachView, IsMember, IsRecordWord, IsWorld, SeesBest, counted_once, Trees, counters, greatest_limit, is_recorded, state_in}
 use Rattle.step_core.specs.declared.views.Member.{Member}
 use Rattle.step_core.specs.declared.views.SharedRun.{SharedRun}
 use Rattle.step_core.specs.declared.views.View.{View}
 use Rattle.step_core.proofs.FinishedTurns.{times-cons}
+use Rattle.step_core.proofs.LinkedStates.{placed-first}
+use Rattle.step_core.proofs.SeenGoals.{least-now}
 use Rattle.step_core.proofs.LinkedPresence.{is_linked-closed, node_present, state_by-closed}
 use Rattle.step_core.proofs.LawfulSights.{IsPresent-seen}
 use Rattle.step_core.proofs.MarksInHand.{once_if-false}
@@ -96,7 +103,6 @@ crew-at run words (w ∷ numbers) (suc i) member e = crew-at run words numbers i
 
 -- what is read of a word fits one
 FitsWord-read : (number word first : ℕ) → FitsWord (record_in number word first)
-unfolding fourth_in
 FitsWord-read zero word first = record {
   worker = mod_below word (2 ^ 6) (omega arith);
   turn = mod_below (word / 2 ^ 6) (2 ^ 18) (omega arith);
@@ -195,8 +201,9 @@ only view has own (suc i) u e = absurd (some-ne-none u (sym e))
 
 pub IsWorld-started :
     (task : Task) (limit workers : ℕ) (items : List ℕ) → length items ≡ word_count (sizes_of task) → HoldRun task limit (run_words task items)
+    → IsLeastBest (skipping_goals task.scene) (state_of_words (sizes_of task) (run_words task items)) (run_words task items Best)
     → 1 ≤ workers → workers ≤ MOST_WORKERS → IsWorld (run_of task workers limit) (run_words task items) (newcomer (run_of task workers limit) items ∷ [])
-IsWorld-started task limit workers items sized held some_worker few =
+IsWorld-started task limit workers items sized held least some_worker few =
     let run : SharedRun = run_of task workers limit in
     let words : Words = run_words task items in
     let first : View = newcomer run items in
@@ -279,8 +286,43 @@ IsWorld-started task limit workers items sized held some_worker few =
             only first (λ v. last_zero v (ChildOf n side) ≡ 0) (zero-read (run_sizes run) (length items) (ChildOf n side)) i u e in
             omega (arith, none));
       };
+      best = best trees sees_tree;
+      bests = only first (λ u. u.run ≡ run → SeesBest run words u) (λ of. record {
+        pair = (best trees sees_tree).pair;
+        falls = le_refl (words Best);
+        placed = least-now words first (AreBehind-refl words) sees_tree (FollowWays-held task limit words held) held.start_first (best trees sees_tree);
+        taken_pair = λ hand word gone has. cc;
+        taken = λ hand word gone has. cc;
+        posted = λ hand gone far. cc;
+      });
     }
   where
+    -- the goal nodes are those of the run at rest, and none costs more than it was placed at
+    best : Trees (run_of task workers limit) (run_words task items) → SeesTree (newcomer (run_of task workers limit) items)
+        → BestWord (run_of task workers limit) (run_words task items)
+    best trees sees_tree =
+        let words : Words = run_words task items in
+        let same = state_by-closed task limit words held in
+        let linked_least = subst (λ state. IsLeastBest (skipping_goals task.scene) state (words Best)) (sym same) least in
+        record {
+          pair = λ some_pair. let is = linked_least.pair some_pair in (is.0, omega (arith, is.1));
+          placed = λ n node goal.
+              let low = linked_least.least n goal in
+              let kept = trees.first_costs.kept n (IsPresent-goal (skipping_goals task.scene) (point_at (linked_points (sizes_of task) words) n) goal) in
+              omega (arith, low, kept, first_cost n node);
+        }
+      where
+        first_cost : (n : ℕ) → has_node (run_words task items) n ≡ true
+            → first_cost_of (state_in (run_of task workers limit) (run_words task items)) n ≡ cost_in (run_words task items (FirstOf n))
+        first_cost zero node = sym (ap cost_in held.start_first)
+        first_cost (suc k) node = by_record (record_at (run_words task items) k) refl
+          where
+            by_record : (o : Option Record) → record_at (run_words task items) k ≡ o
+                → recorded_or (cost_in (run_words task items (FirstOf (suc k)))) o ≡ cost_in (run_words task items (FirstOf (suc k)))
+            by_record None e = refl
+            by_record (Some entry) e =
+                placed-first (run_words task items (RecordOf k)) (run_words task items (FirstOf (suc k))) entry e (ap has_placed (sym e) ∙ node)
+
     unplaced : (k : ℕ) → is_recorded (run_words task items) k ≡ false → has_node (run_words task items) (suc k) ≡ false
     unplaced k none =
         once_if-false (has_node (run_words task items) (suc k)) (omega (arith, has_node-recorded (run_words task items) k, ap once_if none))

@@ -19,7 +19,7 @@ use Rattle.step_core.specs.ViewTrees.{MayLoad, SeesNode, SeesTree}
 use Rattle.step_core.specs.Views.{IsSharedRun, IsViewOf, holds, run_sizes, sees, share, spent}
 use Rattle.step_core.specs.WordKinds.{AreBehind}
 use Rattle.step_core.specs.WordNames.{Word, Words, WritesWord}
-use Rattle.step_core.specs.WordNames.Word.{ChildOf, Count, Counter, FirstOf, PointOf, RecordOf, TreeOf}
+use Rattle.step_core.specs.WordNames.Word.{Best, ChildOf, Count, Counter, FirstOf, PointOf, RecordOf, TreeOf}
 use Rattle.step_core.specs.WordPlaces.{HasWord}
 use Rattle.step_core.specs.Worlds.{IsWorld, TreesSeen, counters, greatest_limit, is_recorded, limit_of, state_in}
 use Rattle.step_core.specs.declared.views.SharedRun.{SharedRun}
@@ -35,6 +35,7 @@ use Rattle.step_core.proofs.SeenByViews.{IsViewOf-saw, WritesWord-saw}
 use Rattle.step_core.proofs.SeenTreesOfViews.{SeesTree-claimed, SeesTree-loaded}
 use Rattle.step_core.proofs.ViewLists.{at-set, each-set, maximum-one, maximum-set}
 use Rattle.step_core.proofs.WordKinds.{AreBehind-refl, AreBehind-trans}
+use Rattle.step_core.proofs.WorldBests.{BestWord-kept, FollowsHand-new, FollowsHand-refl, SeenBests-kept}
 use Rattle.step_core.proofs.WorldCopies.{Copies-seen, Copies-step}
 use Rattle.step_core.proofs.WorldEmpties.{Empties-kept, Empties-step, last_zero-saw}
 use Rattle.step_core.proofs.WorldHands.{Hands-step}
@@ -71,6 +72,7 @@ module _ (run : SharedRun) (words : Words) (views : List View) (id : ℕ) (view 
   -- so what may be loaded is a word of the run
   pub HasWord-load : (name : Word) → MayLoad view name → HasWord (run_sizes run) name
   HasWord-load Count may = tt
+  HasWord-load Best may = absurd may
   HasWord-load (Counter g) may = subst (λ r. g < r.strips) own may
   HasWord-load (PointOf n) may = seen_within n may
   HasWord-load (ChildOf n side) may = seen_within n may
@@ -135,6 +137,9 @@ module _ (run : SharedRun) (words : Words) (views : List View) (id : ℕ) (view 
             last_zero-saw run view live name here x x (ChildOf n side) (λ e none. some_child (ap words e ∙ none)),
           ),
         ));
+        best = world.best;
+        bests = SeenBests-kept run words words views id view then at own refl world.bests (GrowsInto-refl (state_in run words)) seen tree
+            (λ k. writes.others (RecordOf k) (λ e. subst (MayLoad view) (sym e) may)) record { word = refl; seen = refl; hand = FollowsHand-refl view.hand };
       }
 
   -- a claim: the counter goes up by one, and the mark is in this hand
@@ -236,6 +241,12 @@ module _ (run : SharedRun) (words : Words) (views : List View) (id : ℕ) (view 
               writes.here;
           empties = Empties-kept run words after views id view then at world.empties refl (omega arith) refl keeps.children
               (λ n side. last_zero-saw run view live (Counter g) here c (c + 1) (ChildOf n side) (λ e. cc));
+          best = BestWord-kept run words after views world.numbers world.links world.trees grows go world.best (counts.others Best (λ e. cc)) records;
+          bests = SeenBests-kept run words after views id view then at own refl world.bests grows seen tree (λ k. writes.others (RecordOf k) (λ e. cc)) record {
+            word = counts.others Best (λ e. cc);
+            seen = refl;
+            hand = FollowsHand-new view.hand (mark_of view.run g c);
+          };
         }
       where
         by_fields : IsViewOf run (saw view (Counter g) c (c + 1)) → IsViewOf run (claimed view g c limit)

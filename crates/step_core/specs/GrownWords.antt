@@ -13,7 +13,7 @@ use Rattle.plan_model.specs.Runs.Textbook.{setup_of}
 use Rattle.plan_model.specs.Trees.TreeStates.{TreeState}
 use Rattle.plan_model.specs.Seen.Ways.{Children, FollowWays}
 use Rattle.step_core.specs.WordNames.{Words}
-use Rattle.step_core.specs.WordNames.Word.{Count, Counter, PointOf, ChildOf, TreeOf, FirstOf, RecordOf}
+use Rattle.step_core.specs.WordNames.Word.{Count, Best, Counter, PointOf, ChildOf, TreeOf, FirstOf, RecordOf}
 use Rattle.step_core.specs.WordPlaces.{Sizes, word_at}
 use Rattle.step_core.specs.Words.{point_of_word, point_in, point_word, parent_in, cost_in, tree_word, record_of_word, record_word}
 
@@ -118,6 +118,7 @@ cleared words (PointOf n) = if has_node words n then words (PointOf n) else 0
 cleared words (TreeOf n) = if has_node words n then words (TreeOf n) else 0
 cleared words (FirstOf n) = if has_node words n then words (FirstOf n) else 0
 cleared words Count = words Count
+cleared words Best = words Best
 cleared words (Counter g) = words (Counter g)
 cleared words (ChildOf n side) = words (ChildOf n side)
 cleared words (RecordOf k) = words (RecordOf k)
@@ -133,7 +134,7 @@ run_words task items = word_at (sizes_of task) items
 -- The words of a closed run: the law holds at its limit, its nodes are linked by the ways of their points, the count is that of its
 -- nodes, and the counter of each strip stands at the strip's quota. The words of its nodes and of its records are written as they are
 -- packed, no record from the limit on is written, and nothing for a number without a node. The first word of node 0 is that of parent 0
--- and cost 0.
+-- and cost 0. Of the best word nothing is said: while a run rests its costs may fall.
 pub record HoldRun (task : Task) (limit : ℕ) (words : Words) : Type 0 where
   pub closed : IsClosed (setup_of task.scene) task.marks limit (state_of_words (sizes_of task) words)
   pub ways : FollowWays (children_of_words words) (points_of_words (sizes_of task) words)

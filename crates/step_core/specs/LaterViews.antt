@@ -1,5 +1,5 @@
 -- What steps of a pass leave of what it knew, and what the law of worlds says of one view.
-use Rattle.std.specs.Prelude.{◌≡◌, ℕ, suc, ◌+◌, ◌^◌, ◌<◌, ◌≤◌, ◌⊎◌, true, false, Some, None, length}
+use Rattle.std.specs.Prelude.{◌≡◌, ◌≢◌, ℕ, suc, ◌+◌, ◌^◌, ◌<◌, ◌≤◌, ◌⊎◌, true, false, Some, None, length}
 use lib.ListN.{get_elem?}
 use mathlib.Core.Option.{some}
 use Rattle.plan_model.specs.Runs.OrderLaw.{KeepsOrder}
@@ -7,25 +7,28 @@ use Rattle.plan_model.specs.Trees.PointsByNumber.{AreDistinct}
 use Rattle.plan_model.specs.Seen.SeenTrees.{FollowSeenWays}
 use Rattle.plan_model.specs.Runs.Turns.{turns_of}
 use Rattle.step_core.specs.GrownWords.{record_at}
+use Rattle.step_core.specs.SeenBests.{IsAtMostPlaced}
 use Rattle.step_core.specs.SharedWords.{state_of_links}
 use Rattle.step_core.specs.Stages.{has_first, has_link}
 use Rattle.step_core.specs.ViewTrees.{IsSeenPair, SeesNode, SeesPoint, SeesTree}
 use Rattle.step_core.specs.Views.{IsSharedRun, IsViewOf, last_look, last_zero, run_sizes, sees, setup_in, share, took_over, tree_seen}
-use Rattle.step_core.specs.WordKinds.{AreBehind}
+use Rattle.step_core.specs.WordKinds.{AreBehind, kind_of}
+use Rattle.step_core.specs.WordKinds.WordKind.{Apart}
 use Rattle.step_core.specs.WordNames.{Word}
 use Rattle.step_core.specs.WordNames.Word.{Count, Counter, TreeOf}
 use Rattle.step_core.specs.declared.views.Hand.{Hand}
 use Rattle.step_core.specs.declared.views.Member.{Member}
 use Rattle.step_core.specs.declared.views.View.{View}
 
--- A view after some more of its own steps. What was seen of a word may become what is seen. The last look at a word is as before, or a later
--- step. The last step that found it 0 is as before, or a later one, and then nothing had been seen of it before.
+-- A view after some more of its own steps. What was seen of a word may become what is seen, and the best word seen is no greater. The last
+-- look at a word is as before, or a later step. The last step that found it 0 is as before, or a later one, and then nothing had been seen of it before.
 pub record IsLater (before after : View) : Type 0 where
   pub run : after.run ≡ before.run
   pub seen : AreBehind (sees before) (sees after)
+  pub best : after.best ≤ before.best
   pub steps : before.steps ≤ after.steps
   pub looked : (name : Word) → (last_look after name ≡ last_look before name) ⊎ (before.steps < last_look after name)
-  pub zero_found : (name : Word) → (last_zero after name ≡ last_zero before name) ⊎ ((before.steps < last_zero after name) × (sees before name ≡ 0))
+  pub zero_found : (name : Word) → kind_of name ≢ Apart → (last_zero after name ≡ last_zero before name) ⊎ ((before.steps < last_zero after name) × (sees before name ≡ 0))
 
 -- What the law says of one view alone.
 pub record IsLawfulView (view : View) : Type 0 where
@@ -69,5 +72,9 @@ pub record IsLawfulView (view : View) : Type 0 where
   -- the count seen is within its limit, and so is each counter
   pub count : sees view Count ≤ length view.run.marks + 1
   pub counter : (g : ℕ) → g < view.run.strips → sees view (Counter g) ≤ length view.run.marks
+  -- the best word seen is at most the pair of each goal node that was seen recorded,
+  pub best : IsAtMostPlaced view view.best
+  -- and so is the one that the hand has taken, which is no less
+  pub taken : (hand : Hand) (word : ℕ) → view.hand ≡ Some hand → hand.best ≡ Some word → (view.best ≤ word) × IsAtMostPlaced view word
   -- with the share of all workers, the tree in the words seen keeps the order law
   pub order : share view ≡ view.run.workers → KeepsOrder (setup_in view.run) (state_of_links (run_sizes view.run) (sees view))

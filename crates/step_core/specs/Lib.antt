@@ -16,6 +16,7 @@ pub mod KdLinkLaws
 pub mod ChildChains
 pub mod PackedRuns
 pub mod SharedWords
+pub mod SeenBests
 pub mod SeenRecords
 pub mod SeenWords
 pub mod Views

@@ -1,9 +1,10 @@
 -- What a pass may record of the mark in its hand, by what it has seen: each fact of the record law is one of the view alone.
-use Rattle.std.specs.Prelude.{◌≡◌, ℕ, zero, suc, ◌+◌, ◌^◌, ◌≤◌, Bool, true, IsTrue, length, filter}
+use Rattle.std.specs.Prelude.{◌≡◌, ℕ, zero, suc, ◌+◌, ◌^◌, ◌≤◌, Bool, true, IsTrue, Some, length, filter}
 use Rattle.std.specs.List.{range_with_len}
 use Rattle.plan_model.specs.Spaces.Clearance.{Clear}
 use Rattle.plan_model.specs.Runs.ClosedLaw.{mark_at}
 use Rattle.plan_model.specs.Geometry.Cost.{cost_of}
+use Rattle.plan_model.specs.Trees.BestNode.{is_goal_point}
 use Rattle.plan_model.specs.Trees.LeastPairs.{IsNotAbove}
 use Rattle.plan_model.specs.Trees.Nearness.{distance_to, is_within}
 use Rattle.plan_model.specs.Trees.PointsByNumber.{IsPresent, point_at, point_of}
@@ -12,14 +13,16 @@ use Rattle.plan_model.specs.Runs.RecordLaw.{is_earlier_record}
 use Rattle.plan_model.specs.Geometry.Steering.{steered}
 use Rattle.plan_model.specs.declared.geometry.Point.{Point}
 use Rattle.plan_model.specs.declared.records.Outcome.{Outcome}
-use Rattle.plan_model.specs.declared.records.Outcome.TheVariants.{Blocked, Placed, Same}
+use Rattle.plan_model.specs.declared.records.Outcome.TheVariants.{Blocked, Placed, Same, Skipped}
 use Rattle.plan_model.specs.declared.records.Record.{Record}
 use Rattle.step_core.specs.GrownWords.{record_at}
+use Rattle.step_core.specs.SeenBests.{IsUnskipped, MayBeSkipped, seen_first_cost}
 use Rattle.step_core.specs.ViewTrees.{SeesPoint}
 use Rattle.step_core.specs.Views.{sees, setup_in, tree_seen}
-use Rattle.step_core.specs.WordNames.Word.{Count, FirstOf, TreeOf}
+use Rattle.step_core.specs.WordNames.Word.{Count, TreeOf}
 use Rattle.step_core.specs.Words.{cost_in}
 use Rattle.step_core.specs.declared.views.Hand.{Hand}
+use Rattle.step_core.specs.declared.views.Stage.TheVariants.{Posted}
 use Rattle.step_core.specs.declared.views.View.{View}
 
 -- ---- the worker's own nodes
@@ -35,8 +38,7 @@ own_count view entry = length (filter (is_own_node view entry) (range_with_len 0
 
 -- what such a node was placed at
 abbrev pub own_first_cost : View → ℕ → ℕ
-own_first_cost view zero = 0
-own_first_cost view (suc k) = cost_in (sees view (FirstOf (suc k)))
+own_first_cost view n = seen_first_cost view n
 
 -- Node i is one of them within the radius of the record's class of p, with a clear edge.
 pub record IsOwnNeighbour (view : View) (entry : Record) (p : Point) (i : ℕ) : Type 0 where
@@ -47,7 +49,8 @@ pub record IsOwnNeighbour (view : View) (entry : Record) (p : Point) (i : ℕ) :
 -- ---- outcomes
 
 -- The mark was placed at the point in hand, with the parent and the cost in hand. The segment to it is clear, the class is that of a number
--- of nodes between the own ones and the count seen, no own neighbour was a cheaper parent, and none is seen dearer than by way of the node.
+-- of nodes between the own ones and the count seen, no own neighbour was a cheaper parent, and none is seen dearer than by way of the node. A
+-- node in a goal by which marks are skipped was posted.
 pub record MayBePlaced (view : View) (hand : Hand) (entry : Record) : Type 0 where
   pub nearest_is : entry.nearest ≡ hand.nearest
   pub parent_is : entry.first_parent ≡ hand.parent
@@ -58,14 +61,17 @@ pub record MayBePlaced (view : View) (hand : Hand) (entry : Record) : Type 0 whe
   pub chosen : (i : ℕ) → IsOwnNeighbour view entry hand.point i → hand.cost ≤ own_first_cost view i + cost_of (point_of (tree_seen view).points i) hand.point
   pub rewired : (i : ℕ) → IsOwnNeighbour view entry hand.point i
       → (2 ^ 63 ≤ sees view (TreeOf i)) × (cost_in (sees view (TreeOf i)) ≤ hand.cost + cost_of (point_of (tree_seen view).points i) hand.point)
+  pub posted : IsTrue (is_goal_point view.run.goals (Some hand.point)) → hand.stage ≡ Posted
 
 -- The segment to p is not clear, and no own node stands at p.
 pub record MayBeBlocked (view : View) (entry : Record) (p : Point) : Type 0 where
   pub blocked : ¬ Clear (setup_in view.run).space (point_of (tree_seen view).points entry.nearest) p
   pub free : (i : ℕ) → IsTrue (is_own_node view entry i) → ¬ SeesPoint view i p
 
--- The nearest node is seen, no own node is nearer to the mark, and the mark may end so at the point to which it steers.
+-- The mark is not skipped. The nearest node is seen, no own node is nearer to the mark, and the mark may end so at the point to which it
+-- steers.
 pub record MaySteer (view : View) (hand : Hand) (entry : Record) (MayEndAt : Point → Type 0) : Type 0 where
+  pub unskipped : IsUnskipped view hand
   pub present : IsPresent (tree_seen view).points entry.nearest
   pub nearest : (i : ℕ) → IsTrue (is_own_node view entry i)
       → IsNotAbove (distance_to (mark_at view.run.marks hand.mark) (tree_seen view).points) entry.nearest i
@@ -76,6 +82,7 @@ abbrev pub MayEnd : View → Hand → Record → Outcome → Type 0
 MayEnd view hand entry Placed = MaySteer view hand entry (λ p. MayBePlaced view hand entry)
 MayEnd view hand entry (Same j) = MaySteer view hand entry (SeesPoint view j)
 MayEnd view hand entry Blocked = MaySteer view hand entry (MayBeBlocked view entry)
+MayEnd view hand entry Skipped = MayBeSkipped view hand entry.nearest
 
 -- The mark may end as the record says.
 abbrev pub MayRecord : View → Hand → Record → Type 0

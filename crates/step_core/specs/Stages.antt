@@ -4,7 +4,7 @@ use Rattle.plan_model.specs.Runs.Outcomes.{is_placed}
 use Rattle.plan_model.specs.declared.records.Outcome.{Outcome}
 use Rattle.step_core.specs.declared.views.Hand.{Hand}
 use Rattle.step_core.specs.declared.views.Stage.{Stage}
-use Rattle.step_core.specs.declared.views.Stage.TheVariants.{Claimed, Pointed, Half, Treed, Linked, Counted}
+use Rattle.step_core.specs.declared.views.Stage.TheVariants.{Claimed, Pointed, Half, Treed, Linked, Counted, Posted}
 
 -- the point of its node is written
 abbrev pub has_point : Stage → Bool
@@ -14,6 +14,7 @@ has_point Half = true
 has_point Treed = true
 has_point Linked = true
 has_point Counted = true
+has_point Posted = true
 
 -- the first word of its node is written
 abbrev pub has_first : Stage → Bool
@@ -23,6 +24,7 @@ has_first Half = true
 has_first Treed = true
 has_first Linked = true
 has_first Counted = true
+has_first Posted = true
 
 -- the tree word of its node is written
 abbrev pub has_tree : Stage → Bool
@@ -32,6 +34,7 @@ has_tree Half = false
 has_tree Treed = true
 has_tree Linked = true
 has_tree Counted = true
+has_tree Posted = true
 
 -- its node stands in a child word
 abbrev pub has_link : Stage → Bool
@@ -41,6 +44,7 @@ has_link Half = false
 has_link Treed = false
 has_link Linked = true
 has_link Counted = true
+has_link Posted = true
 
 -- its node is counted
 abbrev pub has_count : Stage → Bool
@@ -50,6 +54,7 @@ has_count Half = false
 has_count Treed = false
 has_count Linked = false
 has_count Counted = true
+has_count Posted = true
 
 -- mark k is in this hand, at a stage that passes the test
 abbrev pub holds_at : (Stage → Bool) → ℕ → Option Hand → Bool

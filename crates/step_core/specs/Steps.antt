@@ -5,14 +5,15 @@ use lib.ListN.{get_elem?}
 use mathlib.Core.Option.{some}
 use Rattle.plan_model.specs.declared.geometry.Point.{Point}
 use Rattle.plan_model.specs.declared.records.Record.{Record}
+use Rattle.step_core.specs.SeenBests.{IsInformed, IsUnskipped, MayPost}
 use Rattle.step_core.specs.SeenRecords.{MayRecord}
 use Rattle.step_core.specs.Stages.{MayBeRecorded}
-use Rattle.step_core.specs.ViewSteps.{claimed, counted, finished, half, joined, linked, loaded, looker, lowered, mark_of, pair_in_hand, parted}
-use Rattle.step_core.specs.ViewSteps.{pointed, stepped, steps_then, treed, worker_apart}
+use Rattle.step_core.specs.ViewSteps.{best_loaded, best_with, claimed, counted, finished, half, joined, linked, loaded, looker, lowered, mark_of}
+use Rattle.step_core.specs.ViewSteps.{pair_in_hand, parted, pointed, posted, stepped, steps_then, treed, worker_apart}
 use Rattle.step_core.specs.ViewTrees.{IsSteered, LeadsTo, MayHang, MayLoad, MayLower}
 use Rattle.step_core.specs.Views.{sees, share, spent}
 use Rattle.step_core.specs.WordNames.{Word, Words, WritesWord}
-use Rattle.step_core.specs.WordNames.Word.{ChildOf, Count, Counter, FirstOf, PointOf, RecordOf, TreeOf}
+use Rattle.step_core.specs.WordNames.Word.{Best, ChildOf, Count, Counter, FirstOf, PointOf, RecordOf, TreeOf}
 use Rattle.step_core.specs.Words.{FitsWord, point_word, record_word, tree_word}
 use Rattle.step_core.specs.Worlds.{IsWorld}
 use Rattle.step_core.specs.declared.views.Hand.{Hand}
@@ -41,8 +42,9 @@ pub record IsMoment (now : Moment) : Type 0 where
 -- ---- kinds
 
 -- A claim of the next mark of a strip below a limit; a load of a word; for the mark in hand the point of its node, steered from another, its
--- first word, its tree word, its link as a child on one side, and its count; a lower of the cost of a node; the record of the mark in hand; a
--- split that hands on the second worker, and one that hands on none; and a join with the view at another index.
+-- first word, its tree word, its link as a child on one side, and its count; a lower of the cost of a node; a load of the best word, and a post
+-- of a goal node to it; the record of the mark in hand; a split that hands on the second worker, and one that hands on none; and a join with
+-- the view at another index.
 pub data Step : Type 0 where
   Claim : (strip limit : ℕ) → Step
   Load : (name : Word) → Step
@@ -52,6 +54,8 @@ pub data Step : Type 0 where
   Link : (hand : Hand) (node : ℕ) (side : Bool) → Step
   Add : (hand : Hand) → Step
   Lower : (node parent cost : ℕ) → Step
+  LoadBest : Step
+  Post : (node : ℕ) → Step
   Finish : (hand : Hand) (entry : Record) → Step
   HandOn : Step
   Look : Step
@@ -109,12 +113,15 @@ pub record MayJoin (now : Moment) (other : ℕ) (taken : View) : Type 0 where
 abbrev pub MayStep : Moment → Step → Type 0
 MayStep now (Step.Claim strip limit) = MayClaim now strip limit
 MayStep now (Step.Load name) = MayLoad now.view name
-MayStep now (Step.WritePoint hand nearest at) = Holds now.view hand stages.Claimed × IsSteered now.view hand.mark nearest at
+MayStep now (Step.WritePoint hand nearest at) =
+    Holds now.view hand stages.Claimed × IsSteered now.view hand.mark nearest at × IsUnskipped now.view hand
 MayStep now (Step.WriteFirst hand parent cost) = Holds now.view hand stages.Pointed × MayHang now.view hand parent cost
 MayStep now (Step.WriteTree hand) = Holds now.view hand stages.Half
 MayStep now (Step.Link hand node side) = MayLink now hand node side
 MayStep now (Step.Add hand) = Holds now.view hand stages.Linked
 MayStep now (Step.Lower node parent cost) = MayCheapen now node parent cost
+MayStep now Step.LoadBest = IsInformed now.run
+MayStep now (Step.Post node) = MayPost now.view node
 MayStep now (Step.Finish hand entry) = MayFinish now.view hand entry
 MayStep now Step.HandOn = Unit {0}
 MayStep now Step.Look = Unit {0}
@@ -131,6 +138,7 @@ written now (Step.WriteTree hand) = Some (TreeOf (suc hand.mark), pair_in_hand h
 written now (Step.Link hand node side) = Some (ChildOf node side, suc hand.mark)
 written now (Step.Add hand) = Some (Count, now.words Count + 1)
 written now (Step.Lower node parent cost) = Some (TreeOf node, tree_word parent cost)
+written now (Step.Post node) = Some (Best, best_with now.view node (now.words Best))
 written now (Step.Finish hand entry) = Some (RecordOf hand.mark, record_word entry)
 written now other = None
 
@@ -151,6 +159,8 @@ view_after now (Step.WriteTree hand) = treed now.view hand
 view_after now (Step.Link hand node side) = linked now.view hand node side (steps_then now.views now.id now.view)
 view_after now (Step.Add hand) = counted now.view hand
 view_after now (Step.Lower node parent cost) = lowered now.view node parent cost
+view_after now Step.LoadBest = best_loaded now.view (now.words Best)
+view_after now (Step.Post node) = posted now.view node (now.words Best)
 view_after now (Step.Finish hand entry) = finished now.view hand.mark (record_word entry)
 view_after now Step.HandOn = parted now.view
 view_after now Step.Look = stepped now.view

@@ -5,6 +5,7 @@ use Rattle.plan_model.specs.Runs.Turns.{turns_of}
 use Rattle.step_core.specs.GrownWords.{record_at}
 use Rattle.step_core.specs.Views.{words_of_run}
 use Rattle.step_core.specs.WordNames.{Words}
+use Rattle.step_core.specs.WordNames.Word.{Best}
 use Rattle.step_core.specs.declared.views.Member.{Member}
 use Rattle.step_core.specs.declared.views.SharedRun.{SharedRun}
 use Rattle.step_core.specs.declared.views.View.{View}
@@ -26,6 +27,7 @@ newcomer run items =
       most = run.opening;
       hand = None;
       seen = items;
+      best = words_of_run run items Best;
       took = [];
       steps = 0;
       looked = replicate (length items) 0;

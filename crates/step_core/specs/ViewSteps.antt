@@ -1,5 +1,5 @@
 -- What each kind of step makes of the view that makes it, as a function of the view before. The words are those of specs/WordNames.
-use Rattle.std.specs.Prelude.{ℕ, suc, Bool, ◌+◌, ◌==◌, max, Some, None, List, [], ◌∷◌, ◌++◌, length, map, replicate, slice_index, slice_set, if◌then◌else◌}
+use Rattle.std.specs.Prelude.{ℕ, suc, Bool, ◌+◌, ◌==◌, max, min, Option, Some, None, List, [], ◌∷◌, ◌++◌, length, map, replicate, slice_index, slice_set, if◌then◌else◌}
 use Rattle.std.specs.List.{range_with_len}
 use Rattle.plan_model.specs.Scenes.MarkPoints.{mark_of as mark_by_strips}
 use Rattle.plan_model.specs.declared.geometry.Point.{Point}
@@ -8,12 +8,13 @@ use Rattle.step_core.specs.WordKinds.{kind_at, later_word}
 use Rattle.step_core.specs.WordNames.{Word}
 use Rattle.step_core.specs.WordNames.Word.{ChildOf, Counter, FirstOf, PointOf, RecordOf, TreeOf}
 use Rattle.step_core.specs.WordPlaces.{Sizes, place_of, word_count}
-use Rattle.step_core.specs.Words.{point_word, tree_word}
+use Rattle.step_core.specs.Words.{best_word, cost_in, point_word, tree_word}
 use Rattle.step_core.specs.declared.views.Fill.{Fill}
 use Rattle.step_core.specs.declared.views.Hand.{Hand}
 use Rattle.step_core.specs.declared.views.Member.{Member}
 use Rattle.step_core.specs.declared.views.SharedRun.{SharedRun}
-use Rattle.step_core.specs.declared.views.Stage.TheVariants.{Claimed, Counted, Half, Linked, Pointed, Treed}
+use Rattle.step_core.specs.declared.views.Stage.{Stage}
+use Rattle.step_core.specs.declared.views.Stage.TheVariants.{Claimed, Counted, Half, Linked, Pointed, Posted, Treed}
 use Rattle.step_core.specs.declared.views.View.{View}
 
 -- the place of a word in the tables of a view
@@ -48,18 +49,54 @@ mark_of run g c = mark_by_strips run.strips g c
 
 -- a mark in hand for which nothing is written
 abbrev pub new_hand : ℕ → Hand
-new_hand k = record { mark = k; stage = Claimed; nearest = 0; point = record { x = 0; y = 0 }; parent = 0; cost = 0 }
+new_hand k = record { mark = k; stage = Claimed; best = None; nearest = 0; point = record { x = 0; y = 0 }; parent = 0; cost = 0 }
 
 -- The counter of strip g went from c to c + 1, and the mark is in hand.
 abbrev pub claimed : View → ℕ → ℕ → ℕ → View
 claimed view g c limit =
     record (saw view (Counter g) c (c + 1)) { hand = Some (new_hand (mark_of view.run g c)); most = max view.most limit }
 
--- ---- points, parents, links and counts
-
 -- one step more, by which no word is seen
 abbrev pub stepped : View → View
 stepped view = record view { steps = view.steps + 1 }
+
+-- ---- the best word
+
+-- a hand for whose mark nothing is written takes the best word that was loaded
+abbrev pub best_taken : Stage → Hand → ℕ → Hand
+best_taken Claimed hand word = record hand { best = Some word }
+best_taken stage hand word = hand
+
+abbrev pub hand_with_best : Option Hand → ℕ → Option Hand
+hand_with_best None word = None
+hand_with_best (Some hand) word = Some (best_taken hand.stage hand word)
+
+-- a view with one step more, another best word, and this in hand
+abbrev pub with_best : View → ℕ → Option Hand → View
+with_best view best hand = record (stepped view) { best = best; hand = hand }
+
+-- The best word was found so.
+abbrev pub best_loaded : View → ℕ → View
+best_loaded view word = with_best view word (hand_with_best view.hand word)
+
+-- a hand that has counted node n has posted it
+abbrev pub post_noted : Stage → Hand → ℕ → Hand
+post_noted Counted hand n = if suc hand.mark == n then record hand { stage = Posted } else hand
+post_noted stage hand n = hand
+
+abbrev pub hand_with_post : Option Hand → ℕ → Option Hand
+hand_with_post None n = None
+hand_with_post (Some hand) n = Some (post_noted hand.stage hand n)
+
+-- what a post of node n would make of a best word, by what the node was seen to cost
+abbrev pub best_with : View → ℕ → ℕ → ℕ
+best_with view n word = min word (best_word (cost_in (sees view (TreeOf n))) n)
+
+-- Node n was posted, and the best word was found so before: it is the lesser now.
+abbrev pub posted : View → ℕ → ℕ → View
+posted view n word = with_best view (best_with view n word) (hand_with_post view.hand n)
+
+-- ---- points, parents, links and counts
 
 -- The point of the node in hand is written, steered from node m. The pass does not see it as a word: only linked nodes are seen.
 abbrev pub pointed : View → Hand → ℕ → Point → View
@@ -174,13 +211,14 @@ abbrev pub merged : Sizes → List ℕ → List ℕ → List ℕ
 merged sizes one other =
     map (λ place. later_word (kind_at sizes place) (slice_index one place) (slice_index other place)) (range_with_len 0 (word_count sizes))
 
--- Both shares, the greater limit, what either has seen, and the fills of both. The steps stay its own.
+-- Both shares, the greater limit, what either has seen, the lesser best word, and the fills of both. The steps stay its own.
 abbrev pub joined : View → View → View
 joined view other =
     record (stepped view) {
       crew = view.crew ++ other.crew;
       most = max view.most other.most;
       seen = merged (run_sizes view.run) view.seen other.seen;
+      best = min view.best other.best;
       took = other.seen;
       fills = view.fills ++ other.fills;
     }

@@ -14,7 +14,7 @@ use Rattle.step_core.specs.SeenWords.{sight_of_words}
 use Rattle.step_core.specs.Stages.{has_link, has_point}
 use Rattle.step_core.specs.Views.{run_sizes, seen_words, sees, setup_in, tree_seen}
 use Rattle.step_core.specs.WordNames.{Word}
-use Rattle.step_core.specs.WordNames.Word.{Count, Counter, PointOf, ChildOf, TreeOf, FirstOf, RecordOf}
+use Rattle.step_core.specs.WordNames.Word.{Count, Best, Counter, PointOf, ChildOf, TreeOf, FirstOf, RecordOf}
 use Rattle.step_core.specs.Words.{cost_in, parent_in}
 use Rattle.step_core.specs.declared.views.Hand.{Hand}
 use Rattle.step_core.specs.declared.views.View.{View}
@@ -109,6 +109,7 @@ pub record IsSeenPair (view : View) (n : ℕ) : Type 0 where
 -- It may load the count, the counters, and of the nodes that it has seen their points, children and tree words.
 abbrev pub MayLoad : View → Word → Type 0
 MayLoad view Count = Unit {0}
+MayLoad view Best = ⊥
 MayLoad view (Counter g) = g < view.run.strips
 MayLoad view (PointOf n) = SeesNode view n
 MayLoad view (ChildOf n side) = SeesNode view n

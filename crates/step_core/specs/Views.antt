@@ -10,6 +10,7 @@ use Rattle.plan_model.specs.declared.tasks.Task.{Task}
 use Rattle.step_core.specs.SeenWords.{SeenWords, seen_tree_of_words}
 use Rattle.step_core.specs.WordNames.{Word, Words}
 use Rattle.step_core.specs.WordPlaces.{Sizes, word_at, word_count}
+use Rattle.step_core.specs.Words.{no_best}
 use Rattle.step_core.specs.declared.views.Hand.{Hand}
 use Rattle.step_core.specs.declared.views.Member.{Member}
 use Rattle.step_core.specs.declared.views.SharedRun.{SharedRun}
@@ -125,4 +126,4 @@ no_run =
 
 -- what is left of a view that was taken over
 abbrev pub spent : View
-spent = record { run = no_run; crew = []; most = 0; hand = None; seen = []; took = []; steps = 0; looked = []; found_zero = []; fills = [] }
+spent = record { run = no_run; crew = []; most = 0; hand = None; seen = []; best = no_best; took = []; steps = 0; looked = []; found_zero = []; fills = [] }

@@ -3,18 +3,22 @@
 use Rattle.std.specs.Prelude.{◌≡◌, ℕ, ◌+◌, ◌-◌, ◌%◌, ◌<◌, ◌≤◌, ◌==◌, ◌^◌, ◌⊎◌, ◌&&◌, nat_lt, nat_le, max, if◌then◌else◌}
 use Rattle.step_core.specs.Words.{cost_in}
 use Rattle.step_core.specs.WordNames.{Word, Words}
-use Rattle.step_core.specs.WordNames.Word.{Count, Counter, PointOf, ChildOf, TreeOf, FirstOf, RecordOf}
+use Rattle.step_core.specs.WordNames.Word.{Count, Best, Counter, PointOf, ChildOf, TreeOf, FirstOf, RecordOf}
 use Rattle.step_core.specs.WordPlaces.{Sizes, node_place}
 
--- a number that only rises; a word that is written or filled once; a pair of a parent and a cost that only falls
+-- a number that only rises; a word that is written or filled once; a pair of a parent and a cost that only falls; and one that views keep
+-- apart from the others, of which nothing is said here
 pub data WordKind : Type 0 where
   Rising : WordKind
   Once : WordKind
   Falling : WordKind
+  Apart : WordKind
 
--- counts rise; points, children, first words and records are there once and stay; the costs of tree words fall
+-- counts rise; points, children, first words and records are there once and stay; the costs of tree words fall; what a view saw last of the
+-- best word is a number of its own
 abbrev pub kind_of : Word → WordKind
 kind_of Count = Rising
+kind_of Best = Apart
 kind_of (Counter strip) = Rising
 kind_of (PointOf node) = Once
 kind_of (ChildOf node side) = Once
@@ -31,6 +35,7 @@ abbrev pub MayBecome : WordKind → ℕ → ℕ → Type 0
 MayBecome Rising word later = word ≤ later
 MayBecome Once word later = (word ≡ 0) ⊎ (word ≡ later)
 MayBecome Falling word later = (word ≡ 0) ⊎ Falls word later
+MayBecome Apart word later = Unit {0}
 
 -- a tree word is 0, or written
 abbrev pub HaveWholePairs : Words → Type 0
@@ -47,9 +52,11 @@ abbrev pub later_word : WordKind → ℕ → ℕ → ℕ
 later_word Rising one other = max one other
 later_word Once one other = if one == 0 then other else one
 later_word Falling one other = if one == 0 then other else if nat_le (2 ^ 63) other && nat_lt (cost_in other) (cost_in one) then other else one
+later_word Apart one other = one
 
 -- the kind of the word at a place
 abbrev pub kind_at : Sizes → ℕ → WordKind
 kind_at sizes place =
-    if nat_le place sizes.strips then Rising else
+    if place == 1 then Apart else
+    if nat_le place (sizes.strips + 1) then Rising else
     if nat_lt place (node_place sizes (sizes.marks + 1)) && (place - node_place sizes 0) % 5 == 3 then Falling else Once

@@ -1,10 +1,11 @@
 -- The words of a run by their names: what each is the word of. Where a word stands is known to WordPlaces alone.
 use Rattle.std.specs.Prelude.{◌≡◌, ◌≢◌, ℕ, Bool}
 
--- The count of nodes and, of each strip, the counter of its claimed marks; of each node its point, its child on each side, its tree
--- word (parent and kept cost) and its first word (what it was placed with); of each mark its record.
+-- The count of nodes, and the best cost with its goal node; of each strip the counter of its claimed marks; of each node its point, its child
+-- on each side, its tree word (parent and kept cost) and its first word (what it was placed with); of each mark its record.
 pub data Word : Type 0 where
   Count : Word
+  Best : Word
   Counter : (strip : ℕ) → Word
   PointOf : (node : ℕ) → Word
   ChildOf : (node : ℕ) (side : Bool) → Word

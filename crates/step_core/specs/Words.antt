@@ -1,10 +1,10 @@
 -- Points, parents with their costs, and records as 64-bit words: bit 63 set, and each field times the power of 2 at which
--- it stands. What a word reads as: each field by division and remainder.
-use Rattle.std.specs.Prelude.{◌≡◌, ℕ, zero, suc, ◌+◌, ◌*◌, ◌/◌, ◌%◌, ◌^◌, ◌<◌, ◌≤◌, nat_lt, refl}
+-- it stands. The best cost with its goal node is one without bit 63. What a word reads as: each field by division and remainder.
+use Rattle.std.specs.Prelude.{◌≡◌, ℕ, zero, suc, ◌+◌, ◌-◌, ◌*◌, ◌/◌, ◌%◌, ◌^◌, ◌<◌, ◌≤◌, ◌==◌, nat_lt, refl}
 use Rattle.std.specs.Prelude.{if◌then◌else◌, Option, Some, None}
 use Rattle.plan_model.specs.declared.geometry.Point.{Point}
 use Rattle.plan_model.specs.declared.records.Outcome.{Outcome}
-use Rattle.plan_model.specs.declared.records.Outcome.TheVariants.{Placed, Same, Blocked}
+use Rattle.plan_model.specs.declared.records.Outcome.TheVariants.{Placed, Same, Blocked, Skipped}
 use Rattle.plan_model.specs.declared.records.Record.{Record}
 
 -- a word holds its value once bit 63 is set, and nothing before
@@ -43,19 +43,43 @@ cost_in word = word / 2 ^ 18 % 2 ^ 44
 abbrev pub tree_of_word : ℕ → Option (ℕ × ℕ)
 tree_of_word word = if_written word (parent_in word, cost_in word)
 
+-- ---- the best cost
+
+-- the best word while no goal node is known
+abbrev pub no_best : ℕ
+no_best = 2 ^ 64 - 1
+
+-- the cost of a goal node as the best word: the cost above the 18 bits of the node, so that a lesser pair is a lesser number
+abbrev pub best_word : ℕ → ℕ → ℕ
+best_word cost node = cost * 2 ^ 18 + node
+
+-- the goal node in it
+abbrev pub best_node_in : ℕ → ℕ
+best_node_in word = word % 2 ^ 18
+
+-- the cost in it
+abbrev pub best_cost_in : ℕ → ℕ
+best_cost_in word = word / 2 ^ 18
+
+-- the goal node and the cost that the best word holds
+abbrev pub best_of_word : ℕ → Option (ℕ × ℕ)
+best_of_word word = if word == no_best then None else Some (best_node_in word, best_cost_in word)
+
 -- ---- records
 
--- the last field of a record's word: the class of a placed mark, the node of one that ended at a node, 0 of a blocked one
+-- the last field of a record's word: the class of a placed mark, the node of one that ended at a node, 0 of a blocked or a skipped one
 abbrev pub last_field : Outcome → ℕ → ℕ
 last_field Placed class = class
 last_field (Same j) class = j
 last_field Blocked class = 0
+last_field Skipped class = 0
 
 -- the number of an outcome
 abbrev pub number_of_outcome : Outcome → ℕ
 number_of_outcome Placed = 0
 number_of_outcome (Same j) = 1
 number_of_outcome Blocked = 2
+number_of_outcome Skipped = 3
 
 -- a record as a word, without its first parent and first cost
 abbrev pub record_word : Record → ℕ
@@ -139,16 +163,26 @@ blocked_in word =
       unplaced = refl;
     }
 
--- the record in a word with the fourth number of an outcome, which no packed word has: some record, and no law says which
-unfoldable pub fourth_in : ℕ → Record
-fourth_in word = blocked_in word
+-- the record of a skipped mark in a word
+abbrev pub skipped_in : ℕ → Record
+skipped_in word =
+    record {
+      worker = worker_in word;
+      turn = turn_in word;
+      nearest = nearest_in word;
+      outcome = Skipped;
+      first_parent = 0;
+      first_cost = 0;
+      class = 0;
+      unplaced = refl;
+    }
 
--- the record in a word, by the number of its outcome: 0 placed, 1 the same point, 2 blocked
+-- the record in a word, by the number of its outcome: 0 placed, 1 the same point, 2 blocked, 3 skipped
 abbrev pub record_in : ℕ → ℕ → ℕ → Record
 record_in zero word first = placed_in word first
 record_in (suc zero) word first = same_in word
 record_in (suc (suc zero)) word first = blocked_in word
-record_in (suc (suc (suc n))) word first = fourth_in word
+record_in (suc (suc (suc n))) word first = skipped_in word
 
 -- the record that a word holds, with the first word of its node
 abbrev pub record_of_word : ℕ → ℕ → Option Record

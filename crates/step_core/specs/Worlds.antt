@@ -11,12 +11,14 @@ use Rattle.plan_model.specs.declared.limits.TheConstants.{MOST_WORKERS}
 use Rattle.plan_model.specs.declared.records.Record.{Record}
 use Rattle.plan_model.specs.Runs.Turns.{AreTurns, is_of_worker, once_if, turns_of}
 use Rattle.plan_model.specs.Runs.OrderLaw.{Hangs, KeepsFirstCosts, KeepsOrder, most_cost_of}
+use Rattle.plan_model.specs.Trees.BestNode.{IsGoalNode}
 use Rattle.plan_model.specs.Trees.PointsByNumber.{IsPresent, node_count}
 use Rattle.plan_model.specs.Runs.RecordLaw.{IsLawfulRecord, first_cost_through}
 use Rattle.plan_model.specs.Seen.SeenParents.{AreSeenLawfully}
 use Rattle.plan_model.specs.Trees.TreeStates.{TreeState}
 use Rattle.plan_model.specs.Seen.Ways.{FollowWays}
 use Rattle.step_core.specs.GrownWords.{IsWritten, children_of_words, has_node, is_linked, record_at}
+use Rattle.step_core.specs.SeenBests.{IsAtMostPlaced}
 use Rattle.step_core.specs.SharedWords.{linked_points, state_of_links}
 use Rattle.step_core.specs.Stages.{has_count, has_first, has_link, has_point, has_tree, holds_at}
 use Rattle.step_core.specs.ViewSteps.{pair_in_hand}
@@ -25,13 +27,14 @@ use Rattle.step_core.specs.Views.{IsSharedRun, IsViewOf, holds, last_zero, run_s
 use Rattle.step_core.specs.WordKinds.{AreBehind, HaveWholePairs}
 use Rattle.step_core.specs.WordNames.{Word, Words}
 use Rattle.step_core.specs.WordPlaces.{place_of}
-use Rattle.step_core.specs.Words.{FitsWord, cost_in, point_word, record_word, tree_word}
-use Rattle.step_core.specs.WordNames.Word.{ChildOf, Count, Counter, FirstOf, PointOf, RecordOf, TreeOf}
+use Rattle.step_core.specs.Words.{FitsWord, best_cost_in, best_node_in, best_word, cost_in, no_best, point_word, record_word, tree_word}
+use Rattle.step_core.specs.WordNames.Word.{Best, ChildOf, Count, Counter, FirstOf, PointOf, RecordOf, TreeOf}
 use Rattle.step_core.specs.declared.views.Fill.{Fill}
 use Rattle.step_core.specs.declared.views.Hand.{Hand}
 use Rattle.step_core.specs.declared.views.Member.{Member}
 use Rattle.step_core.specs.declared.views.SharedRun.{SharedRun}
 use Rattle.step_core.specs.declared.views.Stage.{Stage}
+use Rattle.step_core.specs.declared.views.Stage.TheVariants.{Posted}
 use Rattle.step_core.specs.declared.views.View.{View}
 
 -- ---- all views
@@ -193,12 +196,40 @@ pub record SeenBehind (words : Words) (views : List View) : Type 0 where
   pub pairs_seen : EachView views (λ view. HaveWholePairs (sees view))
   pub agree : EachView views (λ one. EachView views (λ other. Agree (sees one) (sees other)))
 
+-- ---- the best word
+
+-- There is no best, or it is a linked goal node, with a cost that is no less than that which the node has now.
+abbrev pub IsBestWord : SharedRun → Words → ℕ → Type 0
+IsBestWord run words word =
+    word ≢ no_best
+    → IsGoalNode run.goals (linked_points (run_sizes run) words) (best_node_in word) × (cost_in (words (TreeOf (best_node_in word))) ≤ best_cost_in word)
+
+-- It is so of the best word, which is at most the pair of first cost and number of each goal node that is the start or recorded as placed.
+pub record BestWord (run : SharedRun) (words : Words) : Type 0 where
+  pub pair : IsBestWord run words (words Best)
+  pub placed : (n : ℕ) → has_node words n ≡ true → IsGoalNode run.goals (linked_points (run_sizes run) words) n
+      → words Best ≤ best_word (cost_in (words (FirstOf n))) n
+
+-- So it is of the best word that a view saw last, and of the one that its hand has taken, and neither is less than that now. Both are at most
+-- the pair of each goal node that the view has seen recorded as placed. If the hand has posted its node, the one seen last is at most its pair.
+pub record SeesBest (run : SharedRun) (words : Words) (view : View) : Type 0 where
+  pub pair : IsBestWord run words view.best
+  pub falls : words Best ≤ view.best
+  pub placed : IsAtMostPlaced view view.best
+  pub taken_pair : (hand : Hand) (word : ℕ) → view.hand ≡ Some hand → hand.best ≡ Some word → IsBestWord run words word
+  pub taken : (hand : Hand) (word : ℕ) → view.hand ≡ Some hand → hand.best ≡ Some word → (view.best ≤ word) × IsAtMostPlaced view word
+  pub posted : (hand : Hand) → view.hand ≡ Some hand → hand.stage ≡ Posted → view.best ≤ best_word hand.cost (suc hand.mark)
+
+abbrev pub SeenBests : SharedRun → Words → List View → Type 0
+SeenBests run words views = EachView views (λ view. view.run ≡ run → SeesBest run words view)
+
 -- ---- copies
 
 -- The words that tell of the run: its counters, its records, and the words of its linked nodes. The count is not among them: it follows from
--- the rest.
+-- the rest. Nor is the best word, which views keep apart.
 abbrev pub IsTold : SharedRun → Words → Word → Type 0
 IsTold run words Count = ⊥
+IsTold run words Best = ⊥
 IsTold run words (Counter g) = g < run.strips
 IsTold run words (PointOf n) = is_linked (run_sizes run) words n ≡ true
 IsTold run words (ChildOf n side) = is_linked (run_sizes run) words n ≡ true
@@ -262,3 +293,5 @@ pub record IsWorld (run : SharedRun) (words : Words) (views : List View) : Type 
   pub seen : SeenBehind words views
   pub copies : Copies run words views
   pub empties : Empties run words views
+  pub best : BestWord run words
+  pub bests : SeenBests run words views

@@ -5,7 +5,7 @@ ghost use Rattle.plan_model.specs.Spaces.Clearance.{ClearAt};
 ghost use Rattle.plan_model.specs.Runs.ClosedLaw.{IsClosed};
 ghost use Rattle.plan_model.specs.Spaces.ConfigurationSpace.{space_of};
 ghost use Rattle.plan_model.specs.Trees.PointsByNumber.{IsPresent, node_count, point_at};
-ghost use Rattle.plan_model.specs.Runs.Textbook.{setup_of, start_alone};
+ghost use Rattle.plan_model.specs.Runs.Textbook.{setup_of, skipping_goals, start_alone};
 ghost use Rattle.step_core.specs.HoldRunProps.{HoldRun-prop, Sizes-set};
 ghost use Rattle.step_core.specs.GrownWords.{HoldRun, cleared, sizes_of};
 ghost use Rattle.plan_model.specs.Trees.TreeStates.{AreSameRuns, state_of};
@@ -13,8 +13,12 @@ ghost use Rattle.step_core.specs.KdLinks.{LinksRise};
 ghost use Rattle.step_core.specs.PackedRuns.{state_of_lists};
 ghost use Rattle.step_core.specs.PlacesOfWords.{sizes_in};
 ghost use Rattle.step_core.specs.RunWords.{words_in};
+ghost use Rattle.step_core.specs.SeenBests.{IsLeastBest};
+ghost use Rattle.step_core.specs.WordNames.{WritesWord};
+ghost use Rattle.step_core.specs.WordNames.Word.{Best};
 
 use crate::cleared_words::clear;
+use crate::opening_bests::least_best;
 use crate::packed_runs::packed_run;
 use crate::point_words::{pack_point, read_point};
 use crate::run_words::RunWords;
@@ -158,6 +162,19 @@ impl Grown {
     {
         let word = pack_tree(self.parent(node), cost);
         self.words.set_tree(node as usize, word);
+    }
+
+    /// Writes the best word, by which passes that go on from the run skip marks: the least pair of kept cost and number of the nodes that
+    /// lie in a goal, if there is one and the scene is informed. The run stays the same. O(n) for n marks below the limit; O(1) if the
+    /// scene is not informed.
+    pub fn write_best(&mut self)
+        ensures task { self.new.task ≡ self.old.task }
+        ensures limit { self.new.limit ≡ self.old.limit }
+        ensures words { WritesWord Best (words_of_grown self.new Best) (words_of_grown self.old) (words_of_grown self.new) }
+        ensures best { IsLeastBest (skipping_goals self.old.task.scene) (state_of_grown self.old) (words_of_grown self.new Best) }
+    {
+        let best = least_best(self);
+        self.words.set_best(best);
     }
 
     /// The words of the run. O(1).

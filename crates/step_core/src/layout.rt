@@ -13,11 +13,14 @@ pub(crate) const Y_SHIFT: u32 = 20;
 /// The number of a node has 18 bits, and so have a turn and a class; a parent stands at bit 0.
 pub(crate) const NUMBER_MASK: u64 = (1 << 18) - 1;
 
-/// The lowest bit of the cost in a tree word.
+/// The lowest bit of the cost in a tree word and in the best word.
 pub(crate) const COST_SHIFT: u32 = 18;
 
 /// A cost has 44 bits.
 pub(crate) const COST_MASK: u64 = (1 << 44) - 1;
+
+/// The best word while no goal node is known.
+pub(crate) const NO_BEST: u64 = u64::MAX;
 
 /// A worker has 6 bits and stands at bit 0 of a record's word.
 pub(crate) const WORKER_MASK: u64 = (1 << 6) - 1;
@@ -42,6 +45,9 @@ pub(crate) const SAME: u64 = 1;
 
 /// The outcome of a blocked mark.
 pub(crate) const BLOCKED: u64 = 2;
+
+/// The outcome of a skipped mark.
+pub(crate) const SKIPPED: u64 = 3;
 
 /// The lowest bit of the last field in a record's word: the class, or the node of the same point.
 pub(crate) const LAST_SHIFT: u32 = 44;

@@ -20,6 +20,7 @@
 //! [`ChildIndex`] finds the children of a node for planners that keep parents elsewhere: in words, or in a list.
 #![tactic(auto)]
 
+mod best_words;
 mod child_index;
 mod cleared_words;
 mod grown;
@@ -30,6 +31,7 @@ mod kd_walks;
 mod layout;
 mod measured_nodes;
 mod node_writes;
+mod opening_bests;
 mod packed_runs;
 mod point_words;
 mod record_words;
@@ -41,12 +43,14 @@ mod word_laws;
 mod word_places;
 pub mod world_laws;
 
+pub use best_words::{pack_best, read_best};
 pub use child_index::ChildIndex;
 pub use grown::Grown;
 pub use kd_sides::{distance_to_split, goes_right};
 pub use kd_trees::KdTree;
 pub use kd_walks::{Stop, walk};
 pub use measured_nodes::MeasuredNode;
+pub use opening_bests::lies_in_goals;
 pub use point_words::{pack_point, point_in, read_point};
 pub use record_words::{pack_mark, read_mark};
 pub use run_words::RunWords;

@@ -1,16 +1,16 @@
 //! Records as words: bit 63 set, the worker in bits 0 to 5, its turn in bits 6 to 23, the nearest node in bits 24 to
-//! 41, the outcome in bits 42 and 43 (0 placed, 1 the same point, 2 blocked), and in bits 44 to 61 the class of a
-//! placed mark, the node of one that ended at a node, and 0 of a blocked one. A word is 0 until its mark is done.
+//! 41, the outcome in bits 42 and 43 (0 placed, 1 the same point, 2 blocked, 3 skipped), and in bits 44 to 61 the class
+//! of a placed mark, the node of one that ended at a node, and 0 of any other. A word is 0 until its mark is done.
 //!
 //! The first parent and the first cost of a placed mark are not in it: they are in the first word of its node.
 
 ghost use Rattle.std.specs.Prelude.{◌≡◌, ◌<◌};
 ghost use Rattle.step_core.specs.Words.{FitsWord, last_field, number_of_outcome, record_of_word, record_word};
-ghost use Rattle.step_core.specs.Words.{blocked_in, fourth_in, last_in, nearest_in, placed_in, same_in, turn_in, worker_in};
+ghost use Rattle.step_core.specs.Words.{blocked_in, last_in, nearest_in, placed_in, same_in, skipped_in, turn_in, worker_in};
 
 use crate::layout::{
     BLOCKED, LAST_SHIFT, NEAREST_SHIFT, NUMBER_MASK, OUTCOME_MASK, OUTCOME_SHIFT, PLACED, SAME,
-    TURN_SHIFT, WORKER_MASK, WRITTEN,
+    SKIPPED, TURN_SHIFT, WORKER_MASK, WRITTEN,
 };
 use crate::tree_words::{cost_in, parent_in};
 use plan_model::{Outcome, Record};
@@ -33,7 +33,7 @@ pub fn pack_mark(entry: &Record) -> u64
 /// The record of a word; `None` exactly if bit 63 is 0, as it is until the word is written. O(1).
 ///
 /// `first` is the first word of the node that was placed, and counts only if one was; its two fields are taken as they
-/// stand. The fourth number of an outcome, which no packed record has, reads as some record, and nothing says which.
+/// stand.
 pub fn read_mark(word: u64, first: u64) -> Option<Record>
     ensures read { result ≡ record_of_word word first }
 {
@@ -44,7 +44,7 @@ pub fn read_mark(word: u64, first: u64) -> Option<Record>
         PLACED => placed_in(word, first),
         SAME => same_in(word),
         BLOCKED => blocked_in(word),
-        _ => fourth_in(word),
+        _ => skipped_in(word),
     })
 }
 
@@ -93,11 +93,19 @@ fn blocked_in(word: u64) -> Record
     }
 }
 
-/// Some record in a word with the fourth number of an outcome.
-fn fourth_in(word: u64) -> Record
-    ensures { result ≡ fourth_in word }
+/// The record of a skipped mark.
+fn skipped_in(word: u64) -> Record
+    ensures { result ≡ skipped_in word }
 {
-    blocked_in(word)
+    Record {
+        worker: worker_in(word),
+        turn: turn_in(word),
+        nearest: nearest_in(word),
+        outcome: Outcome::Skipped,
+        first_parent: 0,
+        first_cost: 0,
+        class: 0,
+    }
 }
 
 /// The worker in a record's word.
@@ -135,18 +143,19 @@ fn last_field(entry: &Record) -> u32
     match entry.outcome {
         Outcome::Placed => entry.class,
         Outcome::Same(node) => node,
-        Outcome::Blocked => 0,
+        Outcome::Blocked | Outcome::Skipped => 0,
     }
 }
 
 /// The number of an outcome.
 fn number_of(outcome: Outcome) -> u64
     ensures value { result ≡ number_of_outcome outcome }
-    ensures few { result < 3 }
+    ensures few { result < 4 }
 {
     match outcome {
         Outcome::Placed => PLACED,
         Outcome::Same(_) => SAME,
         Outcome::Blocked => BLOCKED,
+        Outcome::Skipped => SKIPPED,
     }
 }

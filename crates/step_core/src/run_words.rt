@@ -5,7 +5,7 @@ ghost use Rattle.plan_model.specs.Scenes.MarkPoints.{strip_of_mark};
 ghost use Rattle.step_core.specs.GrownWords.{has_node, record_at, sizes_of};
 ghost use Rattle.step_core.specs.PlacesOfWords.{sizes_in};
 ghost use Rattle.step_core.specs.WordNames.{Word, WritesWord};
-ghost use Rattle.step_core.specs.WordNames.Word.{ChildOf, Count, Counter, FirstOf, PointOf, RecordOf, TreeOf};
+ghost use Rattle.step_core.specs.WordNames.Word.{Best, ChildOf, Count, Counter, FirstOf, PointOf, RecordOf, TreeOf};
 ghost use Rattle.step_core.specs.WordPlaces.{HasWord, place_of, word_count};
 
 use crate::record_words::read_mark;
@@ -118,6 +118,14 @@ impl RunWords {
         ensures word { WritesWord Count count (words_in self.old) (words_in self.new) }
     {
         self.set(self.places.count(), count);
+    }
+
+    /// Writes the best word.
+    pub fn set_best(&mut self, word: u64)
+        ensures places { self.new.places ≡ self.old.places }
+        ensures word { WritesWord Best word (words_in self.old) (words_in self.new) }
+    {
+        self.set(self.places.best(), word);
     }
 
     /// Counts a mark in the counter of its strip; the run has one strip or more.

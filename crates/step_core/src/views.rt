@@ -50,6 +50,8 @@ pub enum Stage {
     Linked,
     /// Its node is counted.
     Counted,
+    /// Its node lies in a goal, and the best word is at most the pair of its cost and its number.
+    Posted,
 }
 
 /// A mark that is claimed and not yet recorded.
@@ -59,6 +61,8 @@ pub struct Hand {
     pub mark: u32,
     /// How far it has come.
     pub stage: Stage,
+    /// The best word that was loaded for it, if it was.
+    pub best: Option<u64>,
     /// The node that its point was steered from; 0 before the point is written.
     pub nearest: u32,
     /// The point of its node; (0, 0) before it is written.
@@ -87,8 +91,10 @@ pub struct View {
     pub most: u32,
     /// The mark that it is handling.
     pub hand: Option<Hand>,
-    /// Each word as it last saw it, at its place; 0 if it did not.
+    /// Each word as it last saw it, at its place; 0 if it did not. The best word stands in a field of its own.
     pub seen: LinkedList<u64>,
+    /// The best word as it last saw or left it.
+    pub best: u64,
     /// What the pass that it last took over had seen.
     pub took: LinkedList<u64>,
     /// How many steps it has made.

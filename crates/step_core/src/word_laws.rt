@@ -14,8 +14,8 @@ ghost use Rattle.step_core.specs.PackedRuns.{state_of_lists};
 ghost use Rattle.plan_model.specs.declared.tasks.Task.{Task};
 ghost use Rattle.step_core.specs.WordKinds.{AreBehind};
 ghost use Rattle.step_core.specs.GrownWords.{HoldRun, cleared, is_linked, has_node, sizes_of, state_by, state_of_words};
-ghost use Rattle.step_core.specs.WordNames.{Word, Words};
-ghost use Rattle.step_core.specs.WordNames.Word.{ChildOf};
+ghost use Rattle.step_core.specs.WordNames.{Word, Words, WritesWord};
+ghost use Rattle.step_core.specs.WordNames.Word.{Best, ChildOf};
 ghost use Rattle.step_core.specs.WordPlaces.{HasWord, Sizes, place_of, word_count};
 ghost use Rattle.step_core.specs.declared.grown.Grown.{Grown};
 ghost use Rattle.step_core.specs.Words.{FitsWord, IsFirstWord, point_of_word, point_word, record_of_word, record_word, tree_of_word, tree_word};
@@ -77,6 +77,14 @@ pub fn runs_may_be_packed_again()
     ensures again { (grown : Grown) (knots : List (Option Knot)) (records : List Record)
         → AreSameRuns (state_of_grown grown) (state_of_lists knots records) → length records ≡ grown.limit
         → IsClosed (setup_of grown.task.scene) grown.task.marks (length records) (state_of_lists knots records) }
+{}
+
+/// The best word is no part of a run at rest: whatever is written there, the words are still those of the run, with the same tree.
+pub fn best_words_are_no_part_of_runs()
+    ensures run { (task : Task) (limit word : ℕ) (words after : Words) → HoldRun task limit words → WritesWord Best word words after
+        → HoldRun task limit after }
+    ensures state { (task : Task) (word : ℕ) (words after : Words) → WritesWord Best word words after
+        → state_of_words (sizes_of task) after ≡ state_of_words (sizes_of task) words }
 {}
 
 /// In a closed run the same nodes are present by their links as by their records, nothing is written for a number without a node,

@@ -1,14 +1,14 @@
 //! Where each word of a run stands. Nothing else knows the order:
 //!
 //! ```text
-//!     place   0         1 ..       then five for each node, from 0 on         then
-//!     word    count     counters   point  left  right  tree  first  ..        records
+//!     place   0         1      2 ..       then five for each node, from 0 on         then
+//!     word    count     best   counters   point  left  right  tree  first  ..        records
 //! ```
 
 ghost use Rattle.std.specs.Prelude.{◌≡◌, ◌≤◌, ◌<◌};
 ghost use Rattle.plan_model.specs.declared.limits.TheConstants.{MOST_MARKS, MOST_STRIPS};
 ghost use Rattle.plan_model.specs.Scenes.MarkPoints.{strip_of_mark};
-ghost use Rattle.step_core.specs.WordNames.Word.{ChildOf, Count, Counter, FirstOf, PointOf, RecordOf, TreeOf};
+ghost use Rattle.step_core.specs.WordNames.Word.{Best, ChildOf, Count, Counter, FirstOf, PointOf, RecordOf, TreeOf};
 ghost use Rattle.step_core.specs.WordPlaces.{place_of, word_count};
 
 use plan_model::{Task, strip_of_mark};
@@ -57,12 +57,19 @@ impl WordPlaces {
         0
     }
 
+    /// The best cost of a goal node.
+    pub fn best(self) -> usize
+        ensures { result ≡ place_of (sizes_in self) Best }
+    {
+        1
+    }
+
     /// The counter of a strip, which is one of the run.
     pub fn counter(self, strip: usize) -> usize
         requires { strip < (sizes_in self).strips }
         ensures { result ≡ place_of (sizes_in self) (Counter strip) }
     {
-        strip + 1
+        strip + 2
     }
 
     /// The counter of the strip that a mark of the run belongs to; the run has one strip or more.
@@ -79,7 +86,7 @@ impl WordPlaces {
         requires { node ≤ (sizes_in self).marks }
         ensures { result ≡ place_of (sizes_in self) (PointOf node) }
     {
-        self.strips + 1 + 5 * node
+        self.strips + 2 + 5 * node
     }
 
     /// The left or the right child of a node.

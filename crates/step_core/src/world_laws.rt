@@ -6,6 +6,8 @@ ghost use Rattle.std.specs.Prelude.{◌≡◌, ◌≢◌, ◌↔◌, ℕ, suc, �
 ghost use lib.ListN.{get_elem?};
 ghost use mathlib.Core.Option.{some};
 ghost use Rattle.plan_model.specs.Scenes.MarkPoints.{is_claimed, quota_of};
+ghost use Rattle.plan_model.specs.Runs.Textbook.{skipping_goals};
+ghost use Rattle.plan_model.specs.Trees.BestNode.{IsGoalNode};
 ghost use Rattle.plan_model.specs.Trees.PointsByNumber.{IsFree, node_count};
 ghost use Rattle.plan_model.specs.Seen.Sights.{EndsSince, IsLaterMoment, KeepsSight};
 ghost use Rattle.plan_model.specs.Trees.TreeStates.{TreeState};
@@ -13,32 +15,37 @@ ghost use Rattle.plan_model.specs.declared.geometry.Point.{Point};
 ghost use Rattle.plan_model.specs.declared.limits.TheConstants.{MOST_WORKERS};
 ghost use Rattle.plan_model.specs.declared.records.Record.{Record};
 ghost use Rattle.plan_model.specs.declared.tasks.Task.{Task};
-ghost use Rattle.step_core.specs.GrownWords.{HoldRun, IsLinked, children_of_words, cleared, is_linked, record_at, run_words, sizes_of, state_of_words};
+ghost use Rattle.step_core.specs.GrownWords.{HoldRun, IsLinked, children_of_words, cleared, has_node, is_linked, record_at, run_words, sizes_of, state_of_words};
 ghost use Rattle.step_core.specs.Histories.{HasCome, WasFree};
 ghost use Rattle.step_core.specs.LastViews.{StandsAsSeen};
 ghost use Rattle.step_core.specs.LaterViews.{IsLater, IsLawfulView};
-ghost use Rattle.step_core.specs.ViewStarts.{newcomer};
+ghost use Rattle.step_core.specs.SeenBests.{IsInformed, IsLeastBest, IsUnskipped, MayPost};
 ghost use Rattle.step_core.specs.SeenRecords.{own_count};
 ghost use Rattle.step_core.specs.SharedWords.{linked_points};
 ghost use Rattle.step_core.specs.Steps.{Holds, IsMoment, MayCheapen, MayClaim, MayFinish, MayJoin, MayLink, Moment, Step, Steps, view_after, views_after};
+ghost use Rattle.step_core.specs.ViewStarts.{newcomer};
+ghost use Rattle.step_core.specs.ViewSteps.{best_loaded, best_with, posted};
 ghost use Rattle.step_core.specs.ViewSteps.{claimed, counted, finished, half, joined, linked, loaded, looker, lowered, pair_in_hand, parted};
 ghost use Rattle.step_core.specs.ViewSteps.{pointed, stepped, steps_then, treed, worker_apart};
 ghost use Rattle.step_core.specs.ViewTrees.{IsOnWayOf, IsSteered, LeadsTo, MayHang, MayLoad, SeesNode, sight_in};
 ghost use Rattle.step_core.specs.Views.{holds, last_look, last_zero, run_of, run_sizes, sees, share, spent, tree_seen};
 ghost use Rattle.step_core.specs.WordKinds.{AreBehind, MayBecome, kind_of};
 ghost use Rattle.step_core.specs.WordNames.{Word, Words, WritesWord};
-ghost use Rattle.step_core.specs.WordNames.Word.{ChildOf, Count, Counter, FirstOf, PointOf, RecordOf, TreeOf};
+ghost use Rattle.step_core.specs.WordNames.Word.{Best, ChildOf, Count, Counter, FirstOf, PointOf, RecordOf, TreeOf};
 ghost use Rattle.step_core.specs.WordPlaces.{word_count};
+ghost use Rattle.step_core.specs.Words.{best_cost_in, best_node_in, best_word, no_best};
 ghost use Rattle.step_core.specs.Words.{cost_in, parent_in, point_of_word, point_word, record_word, tree_of_word, tree_word};
 ghost use Rattle.step_core.specs.Worlds.{IsTold, IsWorld, counters, is_recorded};
 ghost use Rattle.step_core.specs.declared.views.Hand.{Hand};
 ghost use Rattle.step_core.specs.declared.views.SharedRun.{SharedRun};
-ghost use Rattle.step_core.specs.declared.views.Stage.TheVariants.{Claimed, Half, Linked, Pointed, Treed};
+ghost use Rattle.step_core.specs.declared.views.Stage.TheVariants.{Claimed, Half, Linked, Pointed, Posted, Treed};
 ghost use Rattle.step_core.specs.declared.views.View.{View};
 
-/// The words of a closed run are a lawful world with one view, which has the share of all workers and has seen all words.
+/// The words of a closed run are a lawful world with one view, which has the share of all workers and has seen all words, once the best
+/// word is the least pair of its goal nodes by which marks are skipped.
 pub fn closed_runs_begin_worlds()
     ensures { (task : Task) (limit workers : ℕ) (items : List ℕ) → length items ≡ word_count (sizes_of task) → HoldRun task limit (run_words task items)
+        → IsLeastBest (skipping_goals task.scene) (state_of_words (sizes_of task) (run_words task items)) (run_words task items Best)
         → 1 ≤ workers → workers ≤ MOST_WORKERS
         → IsWorld (run_of task workers limit) (run_words task items) (newcomer (run_of task workers limit) items ∷ []) }
 {}
@@ -48,6 +55,8 @@ pub fn closed_runs_begin_worlds()
 pub fn steps_keep_the_law()
     ensures law { (now : Moment) → IsMoment now → (step : Step) (after : Words) → Steps now step after → IsWorld now.run after (views_after now step) }
     ensures words { (now : Moment) → IsMoment now → (step : Step) (after : Words) → Steps now step after → AreBehind now.words after }
+    // the best word does not rise
+    ensures best { (now : Moment) → IsMoment now → (step : Step) (after : Words) → Steps now step after → after Best ≤ now.words Best }
     ensures view { (now : Moment) → IsMoment now → (step : Step) (after : Words) → Steps now step after → IsLater now.view (view_after now step) }
 {}
 
@@ -74,11 +83,11 @@ pub fn loads_keep_the_law()
     ensures written_trees { (now : Moment) → IsMoment now → (n : ℕ) → SeesNode now.view n → IsSome (tree_of_word (now.words (TreeOf n))) }
 {}
 
-/// Writing the point of the node in hand keeps the law. Nothing was written for the mark, and the point is a step from a seen
-/// node towards it.
+/// Writing the point of the node in hand keeps the law. Nothing was written for the mark, the mark is not skipped, and the point is a step
+/// from a seen node towards it.
 pub fn points_keep_the_law()
     ensures { (now : Moment) → IsMoment now → (hand : Hand) → Holds now.view hand Claimed → (m : ℕ) (p : Point) → IsSteered now.view hand.mark m p
-        → (after : Words) → WritesWord (PointOf (suc hand.mark)) (point_word p) now.words after
+        → IsUnskipped now.view hand → (after : Words) → WritesWord (PointOf (suc hand.mark)) (point_word p) now.words after
         → IsWorld now.run after (slice_set now.views now.id (pointed now.view hand m p)) }
 {}
 
@@ -130,9 +139,38 @@ pub fn lowers_keep_the_law()
         → (2 ^ 63 ≤ now.words (TreeOf n)) × (cost_in (now.words (TreeOf n)) < cost_in (sees now.view (TreeOf n))) }
 {}
 
+/// Loading the best word keeps the law, in a run in which marks are skipped. A hand for whose mark nothing is written yet takes what was
+/// found.
+pub fn best_loads_keep_the_law()
+    ensures { (now : Moment) → IsMoment now → IsInformed now.run
+        → IsWorld now.run now.words (slice_set now.views now.id (best_loaded now.view (now.words Best))) }
+{}
+
+/// Posting a goal node keeps the law. It is seen with its point and its tree word, and the best word becomes the lesser of what it was
+/// and of the pair of what the node was seen to cost and its number.
+pub fn posts_keep_the_law()
+    ensures { (now : Moment) → IsMoment now → (n : ℕ) → MayPost now.view n → (after : Words)
+        → WritesWord Best (best_with now.view n (now.words Best)) now.words after
+        → IsWorld now.run after (slice_set now.views now.id (posted now.view n (now.words Best))) }
+{}
+
+/// The best word is at most the pair of first cost and number of each goal node that is the start, that is recorded as placed, or that the
+/// hand of a view has posted. If it is a pair, that is of a linked goal node, which costs no more.
+pub fn best_words_are_least()
+    ensures placed { (run : SharedRun) (words : Words) (views : List View) → IsWorld run words views → (n : ℕ) → has_node words n ≡ true
+        → IsGoalNode run.goals (linked_points (run_sizes run) words) n → words Best ≤ best_word (cost_in (words (FirstOf n))) n }
+    ensures in_hand { (now : Moment) → IsMoment now → (hand : Hand) → now.view.hand ≡ Some hand → hand.stage ≡ Posted
+        → now.words Best ≤ best_word (cost_in (now.words (FirstOf (suc hand.mark)))) (suc hand.mark) }
+    ensures pair { (run : SharedRun) (words : Words) (views : List View) → IsWorld run words views → words Best ≢ no_best
+        → IsGoalNode run.goals (linked_points (run_sizes run) words) (best_node_in (words Best))
+        × (cost_in (words (TreeOf (best_node_in (words Best)))) ≤ best_cost_in (words Best)) }
+    // what a view has seen of it is no less
+    ensures seen { (now : Moment) → IsMoment now → now.words Best ≤ now.view.best }
+{}
+
 /// A record of the mark in hand keeps the law. It is of the first worker of the view's crew, and of its next turn. It says that
-/// the mark was placed if its node is counted, and anything else only if its node is not linked. What it says is borne out by what
-/// the view has seen.
+/// the mark was placed if its node is counted, and posted if that lies in a goal by which marks are skipped, and anything else only if its
+/// node is not linked. What it says is borne out by what the view has seen.
 pub fn records_keep_the_law()
     ensures { (now : Moment) → IsMoment now → (hand : Hand) (entry : Record) → MayFinish now.view hand entry → (after : Words)
         → WritesWord (RecordOf hand.mark) (record_word entry) now.words after

@@ -1,6 +1,6 @@
 -- A run in which nothing is claimed, and two passes that see it as it is.
-use Rattle.std.proofs.Common.{◌≡◌, ℕ, zero, suc, ◌<◌, ◌≤◌, ◌^◌, Bool, true, false, None, [], ◌∷◌, arith, refl, sym, ap, ◌∙◌, subst, inl, inr}
-use Rattle.std.specs.Prelude.{◌⊎◌, IsSome, is_some, nat_lt}
+use Rattle.std.proofs.Common.{◌≡◌, ℕ, zero, suc, ◌<◌, ◌≤◌, ◌^◌, Bool, true, false, Some, None, [], ◌∷◌, arith, refl, sym, ap, ◌∙◌, subst, inl, inr}
+use Rattle.std.specs.Prelude.{◌≢◌, ◌⊎◌, IsSome, is_some, nat_lt}
 use Rattle.std.specs.List.{sum_by}
 use mathlib.Core.Option.{some, some-injective, some-ne-none}
 use lib.ListN.{get_elem?}
@@ -15,10 +15,12 @@ use Rattle.plan_model.specs.Runs.Turns.{once_if, times_of, turns_of}
 use Rattle.plan_model.specs.Seen.SeenParents.{AreSeenLawfully}
 use Rattle.plan_model.specs.Seen.SeenTrees.{IsRooted, IsSeen}
 use Rattle.plan_model.specs.Seen.Ways.{FollowWays}
+use Rattle.plan_model.specs.Trees.BestNode.{IsGoalNode}
 use Rattle.plan_model.specs.Trees.PointsByNumber.{IsPresent, StandsAt, node_count}
 use Rattle.plan_model.specs.Trees.TreeStates.{first_cost_of}
 use Rattle.plan_model.specs.Vectors.Shapes.{at}
 use Rattle.plan_model.proofs.EmptyRoomClearance.{Clear-empty_room}
+use Rattle.plan_model.proofs.GoalNodes.{no_goal_node}
 use Rattle.plan_model.proofs.NewNodes.{IsPresent-stands}
 use Rattle.plan_model.proofs.SegmentLaws.{Clear-first}
 use Rattle.plan_model.proofs.StripMarks.{is_claimed-past}
@@ -30,11 +32,13 @@ use Rattle.step_core.specs.ViewTrees.{SeesNode, SeesTree}
 use Rattle.step_core.specs.Views.{IsViewOf, run_sizes, sees, setup_in, share, spent, times, took_over, tree_seen}
 use Rattle.step_core.specs.WordKinds.{AreBehind, HaveWholePairs}
 use Rattle.step_core.specs.WordNames.{Word, Words}
-use Rattle.step_core.specs.WordNames.Word.{ChildOf, Count, Counter, FirstOf, PointOf, RecordOf, TreeOf}
+use Rattle.step_core.specs.WordNames.Word.{Best, ChildOf, Count, Counter, FirstOf, PointOf, RecordOf, TreeOf}
 use Rattle.step_core.specs.WordPlaces.{HasWord, Sizes, word_at}
-use Rattle.step_core.specs.Words.{point_of_word, tree_of_word}
-use Rattle.step_core.specs.Worlds.{Agree, EachView, IsMember, IsWorld, Trees, counters, state_in}
+use Rattle.step_core.specs.Words.{no_best, point_of_word, tree_of_word}
+use Rattle.step_core.specs.Worlds.{Agree, EachView, IsMember, IsWorld, SeesBest, Trees, counters, state_in}
+use Rattle.step_core.specs.declared.views.Hand.{Hand}
 use Rattle.step_core.specs.declared.views.Member.{Member}
+use Rattle.step_core.specs.declared.views.SharedRun.{SharedRun}
 use Rattle.step_core.specs.declared.views.View.{View}
 use Rattle.step_core.proofs.GrownPoints.{record_at-unwritten}
 use Rattle.step_core.proofs.LawfulSights.{IsPresent-seen}
@@ -60,10 +64,15 @@ words = word_at sizes start_table
 past : (name : Word) → ¬ HasWord sizes name → words name ≡ 0
 past name none = word_at-none sizes start_table name none
 
--- only the words of the start are written
-pub blank : (name : Word) → ¬ IsStartWord name → words name ≡ 0
+-- only the words of the start are written, and that there is no best
+abbrev IsFirstWord : Word → Type 0
+IsFirstWord Best = Unit {0}
+IsFirstWord name = IsStartWord name
+
+pub blank : (name : Word) → ¬ IsFirstWord name → words name ≡ 0
 unfolding word_at
 blank Count other = absurd (other tt)
+blank Best other = absurd (other tt)
 blank (Counter zero) other = refl
 blank (Counter (suc g)) other = past (Counter (suc g)) (λ low. omega (arith, low))
 blank (PointOf zero) other = absurd (other refl)
@@ -124,7 +133,7 @@ bounded_mark zero = record { right = omega arith; top = omega arith }
 bounded_mark (suc k) = record { right = omega arith; top = omega arith }
 
 zero_looks : (name : Word) → word_at sizes never name ≤ 3
-zero_looks name = omega (arith, zero-read sizes 13 name)
+zero_looks name = omega (arith, zero-read sizes 14 name)
 
 IsViewOf-one : IsViewOf small_run one
 IsViewOf-one = record { run_is = refl; seen = refl; looked = refl; found_zero = refl; looks = zero_looks; zero_looks = zero_looks }
@@ -248,6 +257,21 @@ lawful_pairs : (view : View) → ((n : ℕ) → sees view (TreeOf n) ≡ words (
     → ((n : ℕ) → SeesNode view n → IsPresent (linked_points sizes words) n) → AreSeenLawfully (setup_in small_run) (tree_seen view) (state_in small_run words)
 lawful_pairs view all tree present = AreSeenLawfully-all small_run words trees view all tree present
 
+-- there is no goal, and no best word
+saw_none : (view : View) → view.run ≡ small_run → view.best ≡ no_best → ((hand : Hand) → view.hand ≢ Some hand) → SeesBest small_run words view
+unfolding word_at
+saw_none view run best none = record {
+  pair = λ some_node. absurd (some_node best);
+  falls = omega (arith, best, least);
+  placed = λ n node goal. absurd (no_goal_node (tree_seen view).points n (subst (λ (r : SharedRun). IsGoalNode r.goals (tree_seen view).points n) run goal));
+  taken_pair = λ hand word e. absurd (none hand e);
+  taken = λ hand word e. absurd (none hand e);
+  posted = λ hand e. absurd (none hand e);
+}
+  where
+    least : words Best ≡ no_best
+    least = refl
+
 pub IsWorld-begun : IsWorld small_run words (one ∷ other ∷ [])
 unfolding word_at
 IsWorld-begun = record {
@@ -310,4 +334,6 @@ IsWorld-begun = record {
   sights = both (λ u. u.run ≡ small_run → SeesTree u) (λ of. SeesTree-one) (λ of. SeesTree-other);
   copies = λ name told. record { id = 0; view = one; at = refl; run_is = refl; part = omega arith; same = refl };
   empties = record { made = λ place i. inl refl; filled = λ n side some_child. absurd (some_child (no_child n side)) };
+  best = record { pair = λ some_node. absurd (some_node refl); placed = λ n node goal. absurd (no_goal_node (linked_points sizes words) n goal) };
+  bests = both (λ u. u.run ≡ small_run → SeesBest small_run words u) (λ of. saw_none one refl refl (λ hand e. cc)) (λ of. saw_none other refl refl (λ hand e. cc));
 }

@@ -1,23 +1,24 @@
 -- What a pass may do by what it has seen, in the run of SmallWorlds; views that are not lawful or later, and runs that are not as was seen,
 -- for one thing each.
 use Rattle.std.specs.Prelude.{◌≡◌, ℕ, ◌^◌, true, false, Some, None, List, [], ◌∷◌, ◌++◌, replicate}
-use Rattle.plan_model.specs.declared.records.Outcome.TheVariants.{Blocked, Placed, Same}
+use Rattle.plan_model.specs.declared.records.Outcome.TheVariants.{Blocked, Placed, Same, Skipped}
 use Rattle.plan_model.specs.Vectors.Overlaps.{placed_by}
 use Rattle.plan_model.specs.Vectors.Shapes.{at}
 use Rattle.step_core.specs.LastViews.{HasOrFell, StandsAsSeen}
 use Rattle.step_core.specs.LaterViews.{IsLater, IsLawfulView}
+use Rattle.step_core.specs.SeenBests.{IsUnskipped, MayBeSkipped, MayPost}
 use Rattle.step_core.specs.SharedWords.{state_of_links}
 use Rattle.step_core.specs.Stages.{MayBeRecorded}
-use Rattle.step_core.specs.ViewSteps.{claimed, joined, loaded, looker, new_hand}
+use Rattle.step_core.specs.ViewSteps.{best_loaded, claimed, joined, loaded, looker, new_hand, posted}
 use Rattle.step_core.specs.ViewStarts.{newcomer}
 use Rattle.step_core.specs.ViewTrees.{IsSteered, LeadsTo, MayHang, MayLoad, MayLower}
 use Rattle.step_core.specs.Views.{run_sizes, words_of_run}
 use Rattle.step_core.specs.WordNames.Word.{ChildOf, Count, Counter, PointOf, TreeOf}
-use Rattle.step_core.specs.Words.{point_word, record_word, tree_word}
-use Rattle.step_core.specs.declared.views.Stage.TheVariants.{Claimed, Counted, Half, Linked, Pointed, Treed}
+use Rattle.step_core.specs.Words.{best_word, no_best, point_word, record_word, tree_word}
+use Rattle.step_core.specs.declared.views.Stage.TheVariants.{Claimed, Counted, Half, Linked, Pointed, Posted, Treed}
 use Rattle.step_core.specs.declared.views.View.{View}
-use Rattle.step_core_tests.specs.SmallWorlds.{claimed_table, hand_at, handling, idle, linked_table, mark_node, never, no_node, node_by, recorded_table}
-use Rattle.step_core_tests.specs.SmallWorlds.{table, small_run, start_above, view_with, worker_at}
+use Rattle.step_core_tests.specs.SmallWorlds.{claimed_table, found_right, hand_at, handling, idle, linked_table, mark_node, never, no_node, node_by}
+use Rattle.step_core_tests.specs.SmallWorlds.{recorded_table, small_run, start_above, table, took_best, view_with, with_goal, worker_at}
 
 -- ---- what a pass may do
 
@@ -42,35 +43,60 @@ pub record AllowedStepVectors : Type 0 where
   pub placed_when_counted : MayBeRecorded Counted Placed
   pub blocked_when_claimed : MayBeRecorded Claimed Blocked
   pub same_when_treed : MayBeRecorded Treed (Same 0)
+  pub skipped_when_claimed : MayBeRecorded Claimed Skipped
+  -- a node that it sees
+  pub posts_a_goal_node : MayPost (with_goal no_best (idle linked_table)) 1
+  -- of the goal node at the mark, where the bound of the mark is 1280
+  pub skips_by_a_path_at_the_bound : MayBeSkipped (with_goal no_best (idle claimed_table)) (took_best (best_word 1280 1)) 1
+  pub goes_on_past_the_bound : IsUnskipped (with_goal no_best (idle claimed_table)) (took_best (best_word 1281 1))
+  pub goes_on_with_no_best : IsUnskipped (with_goal no_best (idle claimed_table)) (took_best no_best)
+  pub goes_on_where_none_is_skipped : IsUnskipped (idle claimed_table) (new_hand 0)
 
 -- ---- what steps leave
 
 -- two steps later, the third of which found the place to the right of node 0 empty
 abbrev pub waited : View
-waited = record (idle claimed_table) { steps = 5; looked = 4 ∷ replicate 12 0; found_zero = 0 ∷ 0 ∷ 0 ∷ 0 ∷ 5 ∷ replicate 8 0 }
+waited = record (idle claimed_table) { steps = 5; looked = 4 ∷ replicate 13 0; found_zero = found_right 5 }
 
 pub record StepVectors : Type 0 where
   -- a load of the child to the right of node 0, which is there, and of one that is not
   pub load_of_a_child :
       loaded (idle claimed_table) (ChildOf 0 true) 1
-      ≡ record (idle (table 1 1 (start_above 1) no_node 0)) { steps = 4; looked = 0 ∷ 0 ∷ 0 ∷ 0 ∷ 4 ∷ replicate 8 0 }
+      ≡ record (idle (table 1 1 (start_above 1) no_node 0)) { steps = 4; looked = found_right 4 }
   pub load_of_no_child :
       loaded (idle claimed_table) (ChildOf 0 true) 0
       ≡ record (idle claimed_table) {
         steps = 4;
-        looked = 0 ∷ 0 ∷ 0 ∷ 0 ∷ 4 ∷ replicate 8 0;
-        found_zero = 0 ∷ 0 ∷ 0 ∷ 0 ∷ 4 ∷ replicate 8 0;
+        looked = found_right 4;
+        found_zero = found_right 4;
       }
   pub claim :
       claimed (idle (table 1 0 (start_above 0) no_node 0)) 0 0 1
-      ≡ record (view_with (worker_at 1 0) 1 (Some (new_hand 0)) claimed_table (0 ∷ 4 ∷ replicate 11 0) []) {
+      ≡ record (view_with (worker_at 1 0) 1 (Some (new_hand 0)) claimed_table (0 ∷ 0 ∷ 4 ∷ replicate 11 0) []) {
         steps = 4;
-        looked = 0 ∷ 4 ∷ replicate 11 0;
+        looked = 0 ∷ 0 ∷ 4 ∷ replicate 11 0;
       }
   -- of the mark that worker 0 has in hand, one that the other has linked
   pub join :
       joined (view_with (worker_at 0 0) 1 None claimed_table never []) (idle linked_table)
       ≡ record (view_with (worker_at 0 0 ++ worker_at 1 0) 1 None linked_table never []) { took = linked_table; steps = 4 }
+  -- a load of the best word, and that of one with a node of its own in hand
+  pub load_of_the_best :
+      best_loaded (handling (new_hand 0) claimed_table) (best_word 9 7)
+      ≡ record (handling (took_best (best_word 9 7)) claimed_table) { steps = 4; best = best_word 9 7 }
+  pub load_that_is_not_taken :
+      best_loaded (handling (hand_at Pointed 0 0) claimed_table) (best_word 9 7)
+      ≡ record (handling (hand_at Pointed 0 0) claimed_table) { steps = 4; best = best_word 9 7 }
+  -- a post of node 1 at the cost 1280, where the best cost was greater and where it was less
+  pub post_of_the_node_in_hand :
+      posted (handling (hand_at Counted 0 1280) linked_table) 1 (best_word 1281 0)
+      ≡ record (handling (hand_at Posted 0 1280) linked_table) { steps = 4; best = best_word 1280 1 }
+  pub post_of_a_dearer_node :
+      posted (handling (hand_at Linked 0 1280) linked_table) 1 (best_word 1280 0)
+      ≡ record (handling (hand_at Linked 0 1280) linked_table) { steps = 4; best = best_word 1280 0 }
+  pub post_of_another_node :
+      posted (handling (hand_at Counted 0 1280) linked_table) 0 no_best
+      ≡ record (handling (hand_at Counted 0 1280) linked_table) { steps = 4; best = best_word 0 0 }
   pub new_looker : looker waited ≡ record waited { crew = []; found_zero = never }
   pub first_view :
       newcomer small_run claimed_table
@@ -83,8 +109,9 @@ pub record LaterViewVectors : Type 0 where
   pub other_run : ¬ IsLater (idle claimed_table) (record waited { run = record small_run { opening = 1 } })
   pub less_seen : ¬ IsLater (idle claimed_table) (record waited { seen = table 1 0 (start_above 0) no_node 0 })
   pub fewer_steps : ¬ IsLater waited (record waited { steps = 4 })
-  pub looked_by_an_earlier_step : ¬ IsLater (idle claimed_table) (record waited { looked = 3 ∷ replicate 12 0 })
-  pub found_by_an_earlier_step : ¬ IsLater (idle claimed_table) (record waited { found_zero = 0 ∷ 0 ∷ 0 ∷ 0 ∷ 3 ∷ replicate 8 0 })
+  pub looked_by_an_earlier_step : ¬ IsLater (idle claimed_table) (record waited { looked = 3 ∷ replicate 13 0 })
+  pub found_by_an_earlier_step : ¬ IsLater (idle claimed_table) (record waited { found_zero = found_right 3 })
+  pub best_rises : ¬ IsLater (with_goal (best_word 1280 1) (idle claimed_table)) (with_goal (best_word 1281 1) (idle claimed_table))
   pub found_where_a_child_was : ¬ IsLater (idle linked_table) (record waited { seen = linked_table })
 
 -- ---- lawful views
@@ -96,7 +123,7 @@ IsLawfullySeen seen = IsLawfulView (idle seen)
 pub record UnlawfulViewVectors : Type 0 where
   pub opens_past_the_marks : ¬ IsLawfulView (record (idle claimed_table) { run = record small_run { opening = 2 } })
   pub no_workers : ¬ IsLawfulView (record (idle claimed_table) { run = record small_run { workers = 0 } })
-  pub too_few_places : ¬ IsLawfulView (record (idle claimed_table) { found_zero = replicate 12 0 })
+  pub too_few_places : ¬ IsLawfulView (record (idle claimed_table) { found_zero = replicate 13 0 })
   pub limit_past_marks : ¬ IsLawfulView (view_with (worker_at 1 0) 2 None claimed_table never [])
   pub share_too_many : ¬ IsLawfulView (view_with (worker_at 0 0 ++ worker_at 1 0 ++ worker_at 1 0) 0 None claimed_table never [])
   pub hand_without_share : ¬ IsLawfulView (view_with [] 1 (Some (new_hand 0)) claimed_table never [])
@@ -141,6 +168,9 @@ pub record UnlawfulViewVectors : Type 0 where
       ¬ IsLawfullySeen (table 1 1 (start_above 1) (node_by (point_word (at 8 9)) 0 (tree_word 0 1281) (tree_word 0 1280)) 0)
   pub count_past_the_marks : ¬ IsLawfullySeen (table 3 1 (start_above 0) no_node 0)
   pub counter_past_the_marks : ¬ IsLawfullySeen (table 1 2 (start_above 0) no_node 0)
+  -- the best word
+  pub best_past_a_recorded_goal_node : ¬ IsLawfulView (with_goal (best_word 1281 1) (idle (recorded_table 0)))
+  pub took_less_than_the_best : ¬ IsLawfulView (with_goal (best_word 1280 1) (handling (took_best (best_word 1279 1)) claimed_table))
   -- with the share of both workers
   pub whole_below_its_edge :
       ¬ IsLawfulView (view_with (worker_at 0 0 ++ worker_at 1 0) 1 None

@@ -5,14 +5,14 @@ use Rattle.plan_model.specs.Vectors.Overlaps.{placed_by}
 use Rattle.plan_model.specs.Vectors.Shapes.{at}
 use Rattle.step_core.specs.Views.{words_of_run}
 use Rattle.step_core.specs.ViewSteps.{new_hand}
-use Rattle.step_core.specs.Words.{point_word, record_word, tree_word}
+use Rattle.step_core.specs.Words.{best_word, no_best, point_word, record_word, tree_word}
 use Rattle.step_core.specs.Worlds.{IsWorld}
 use Rattle.step_core.specs.declared.views.Fill.{Fill}
 use Rattle.step_core.specs.declared.views.Hand.{Hand}
 use Rattle.step_core.specs.declared.views.Member.{Member}
 use Rattle.step_core.specs.declared.views.SharedRun.{SharedRun}
 use Rattle.step_core.specs.declared.views.Stage.{Stage}
-use Rattle.step_core.specs.declared.views.Stage.TheVariants.{Counted, Half, Linked, Pointed, Treed}
+use Rattle.step_core.specs.declared.views.Stage.TheVariants.{Counted, Half, Linked, Pointed, Posted, Treed}
 use Rattle.step_core.specs.declared.views.View.{View}
 
 -- ---- the run
@@ -32,15 +32,23 @@ small_run =
       opening = 0;
     }
 
+-- marks are skipped by a goal at the mark, where node 1 is placed
+abbrev pub goal_run : SharedRun
+goal_run = record small_run { goals = record { low = at 8 9; high = at 8 9 } ∷ [] }
+
 -- ---- its words
 
 -- the words of a node: its point, its left and its right child, its tree word and its first word
 abbrev pub node_by : ℕ → ℕ → ℕ → ℕ → List ℕ
 node_by point right tree first = point ∷ 0 ∷ right ∷ tree ∷ first ∷ []
 
--- the count, the counter, the words of nodes 0 and 1, and of the record of mark 0
+-- the count, the best word, the counter, the words of nodes 0 and 1, and of the record of mark 0
+abbrev pub table_with : ℕ → ℕ → ℕ → List ℕ → List ℕ → ℕ → List ℕ
+table_with best count counter start node entry = count ∷ best ∷ counter ∷ start ++ node ++ entry ∷ []
+
+-- no goal node is known
 abbrev pub table : ℕ → ℕ → List ℕ → List ℕ → ℕ → List ℕ
-table count counter start node entry = count ∷ counter ∷ start ++ node ++ entry ∷ []
+table count counter start node entry = table_with no_best count counter start node entry
 
 -- the start, with this node to its right, and 0 for none
 abbrev pub start_above : ℕ → List ℕ
@@ -74,11 +82,11 @@ recorded_table worker = table 2 1 (start_above 1) mark_node (record_word (placed
 
 -- the mark in hand at this stage, steered from the start, with this parent and this cost
 abbrev pub hand_at : Stage → ℕ → ℕ → Hand
-hand_at stage parent cost = record { mark = 0; stage = stage; nearest = 0; point = at 8 9; parent = parent; cost = cost }
+hand_at stage parent cost = record { mark = 0; stage = stage; best = None; nearest = 0; point = at 8 9; parent = parent; cost = cost }
 
 -- no steps
 abbrev pub never : List ℕ
-never = replicate 13 0
+never = replicate 14 0
 
 abbrev pub view_with : List Member → ℕ → Option Hand → List ℕ → List ℕ → List Fill → View
 view_with crew most hand seen found_zero fills =
@@ -88,6 +96,7 @@ view_with crew most hand seen found_zero fills =
       most = most;
       hand = hand;
       seen = seen;
+      best = no_best;
       took = [];
       steps = 3;
       looked = never;
@@ -105,6 +114,14 @@ handling hand seen = view_with (worker_at 0 0) 1 (Some hand) seen never []
 -- worker 1 has nothing in hand
 abbrev pub idle : List ℕ → View
 idle seen = view_with (worker_at 1 0) 0 None seen never []
+
+-- the view is of the run with a goal, and saw this best word last
+abbrev pub with_goal : ℕ → View → View
+with_goal best view = record view { run = goal_run; best = best }
+
+-- the hand has taken this best word
+abbrev pub took_best : ℕ → Hand
+took_best best = record (new_hand 0) { best = Some best }
 
 -- ---- worlds
 
@@ -125,11 +142,30 @@ AreLawfulInHand hand items = AreLawful items (handling hand items) (idle items)
 
 -- worker 0 filled the place to the right of node 0 when the views had made so many steps
 abbrev pub filled_at : List ℕ → List Fill
-filled_at steps = record { place = 4; steps = steps } ∷ []
+filled_at steps = record { place = 5; steps = steps } ∷ []
 
 -- the step that found this place empty
 abbrev pub found_right : ℕ → List ℕ
-found_right step = 0 ∷ 0 ∷ 0 ∷ 0 ∷ step ∷ replicate 8 0
+found_right step = 0 ∷ 0 ∷ 0 ∷ 0 ∷ 0 ∷ step ∷ replicate 8 0
+
+-- the best word is this, and worker 0 recorded node 1, which is a goal node, as placed at the cost 1280
+abbrev pub recorded_with : ℕ → List ℕ
+recorded_with best = table_with best 2 1 (start_above 1) mark_node (record_word (placed_by 0 0 0 0 1280 1))
+
+-- node 1 is linked, and the best word is this
+abbrev pub linked_with : ℕ → List ℕ
+linked_with best = table_with best 1 1 (start_above 1) mark_node 0
+
+-- a world of the run with a goal, where the views of both workers saw these best words last
+abbrev pub AreLawfulBests : List ℕ → ℕ → ℕ → Type 0
+AreLawfulBests items best other =
+    IsWorld goal_run (words_of_run goal_run items)
+    (with_goal best (view_with (worker_at 0 1) 1 None items never []) ∷ with_goal other (idle items) ∷ [])
+
+-- so it is where worker 0 has this in hand, and neither saw a best word
+abbrev pub AreLawfulTaken : Hand → List ℕ → ℕ → Type 0
+AreLawfulTaken hand items best =
+    IsWorld goal_run (words_of_run goal_run items) (with_goal best (handling hand items) ∷ with_goal no_best (idle items) ∷ [])
 
 pub record LawfulWorldVectors : Type 0 where
   pub nothing_claimed : AreLawful start_table (view_with (worker_at 0 0) 0 None start_table never []) (idle start_table)
@@ -195,9 +231,9 @@ pub record UnlawfulWorldVectors : Type 0 where
   pub took_more_than_it_sees : ¬ AreLawful claimed_table claimer (record (idle claimed_table) { took = table 1 2 (start_above 0) no_node 0 })
   pub counter_seen_by_none :
       ¬ AreLawful claimed_table (handling (new_hand 0) (table 1 0 (start_above 0) no_node 0)) (idle (table 1 0 (start_above 0) no_node 0))
-  pub looked_later : ¬ AreLawful claimed_table claimer (record (idle claimed_table) { looked = 4 ∷ replicate 12 0 })
+  pub looked_later : ¬ AreLawful claimed_table claimer (record (idle claimed_table) { looked = 4 ∷ replicate 13 0 })
   pub found_zero_later : ¬ AreLawful claimed_table claimer (view_with (worker_at 1 0) 0 None claimed_table (found_right 4) [])
-  pub too_few_words : ¬ AreLawful claimed_table claimer (record (idle claimed_table) { looked = replicate 12 0 })
+  pub too_few_words : ¬ AreLawful claimed_table claimer (record (idle claimed_table) { looked = replicate 13 0 })
   -- empty places, and records
   pub found_empty_when_filled :
       ¬ AreLawful linked_table (view_with (worker_at 0 0) 1 (Some (hand_at Linked 0 1280)) linked_table never (filled_at (3 ∷ 2 ∷ [])))
@@ -207,3 +243,14 @@ pub record UnlawfulWorldVectors : Type 0 where
       (idle linked_table)
   pub recorded_by_no_worker :
       ¬ AreLawful (recorded_table 2) (view_with (worker_at 0 0) 1 None (recorded_table 2) never []) (idle (recorded_table 2))
+  -- the best word
+  pub best_of_no_goal_node : ¬ AreLawfulBests (recorded_with (best_word 0 0)) no_best no_best
+  pub best_of_no_node : ¬ AreLawfulTaken (new_hand 0) (table_with (best_word 1280 1) 1 1 (start_above 0) no_node 0) no_best
+  pub best_below_the_cost : ¬ AreLawfulBests (recorded_with (best_word 1279 1)) no_best no_best
+  pub recorded_goal_node_is_no_best : ¬ AreLawfulBests (recorded_with no_best) no_best no_best
+  pub best_above_a_recorded_goal_node : ¬ AreLawfulBests (recorded_with (best_word 1281 1)) no_best no_best
+  pub saw_a_best_that_is_not : ¬ AreLawfulTaken (hand_at Linked 0 1280) (linked_with no_best) (best_word 1280 1)
+  pub saw_no_goal_node_as_best : ¬ AreLawfulTaken (hand_at Linked 0 1280) (linked_with (best_word 1280 1)) (best_word 1280 0)
+  pub saw_recorded_goal_node_and_no_best : ¬ AreLawfulBests (recorded_with (best_word 1280 1)) (best_word 1280 1) no_best
+  pub took_no_goal_node : ¬ AreLawfulTaken (took_best (best_word 0 0)) claimed_table no_best
+  pub posted_and_saw_no_best : ¬ AreLawfulTaken (hand_at Posted 0 1280) (table_with (best_word 1280 1) 2 1 (start_above 1) mark_node 0) no_best

@@ -77,6 +77,14 @@ fn packs_a_blocked_mark(rt: HostRuntime) {
 }
 
 #[test]
+fn packs_a_skipped_mark(rt: HostRuntime) {
+    let entry = Record::unplaced(63, 5, 262_143, Outcome::Skipped);
+    let word = (1 << 63) + 63 + 5 * (1 << 6) + 262_143 * (1 << 24) + 3 * (1 << 42);
+    assert_packed(&rt, entry, word);
+    assert_read(&rt, word, 0, Some(entry));
+}
+
+#[test]
 fn reads_the_greatest_fields(rt: HostRuntime) {
     let entry = Record {
         worker: 63,

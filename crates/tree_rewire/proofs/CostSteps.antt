@@ -13,7 +13,7 @@ use Rattle.step_core.proofs.SeenByViews.{WritesWord-looked}
 use Rattle.step_core.specs.ViewTrees.{SeesNode}
 use Rattle.step_core.specs.Views.{sees, tree_seen}
 use Rattle.step_core.specs.WordNames.{Word, WritesWord}
-use Rattle.step_core.specs.WordNames.Word.{ChildOf, Count, Counter, FirstOf, PointOf, RecordOf, TreeOf}
+use Rattle.step_core.specs.WordNames.Word.{Best, ChildOf, Count, Counter, FirstOf, PointOf, RecordOf, TreeOf}
 use Rattle.step_core.specs.Words.{cost_in}
 use Rattle.step_core.specs.declared.views.View.{View}
 use Rattle.step_core.proofs.KeptPoints.{point_at-kept}
@@ -134,6 +134,7 @@ pub TreeOrPoint-tree : (name : Word) → NamesTree name → NamesTreeOrPoint nam
 TreeOrPoint-tree (TreeOf n) h = h
 TreeOrPoint-tree (PointOf n) h = absurd h
 TreeOrPoint-tree Count h = absurd h
+TreeOrPoint-tree Best h = absurd h
 TreeOrPoint-tree (Counter g) h = absurd h
 TreeOrPoint-tree (ChildOf n side) h = absurd h
 TreeOrPoint-tree (FirstOf n) h = absurd h
@@ -143,6 +144,7 @@ pub TreeOrPoint-point : (name : Word) → NamesPoint name → NamesTreeOrPoint n
 TreeOrPoint-point (PointOf n) h = h
 TreeOrPoint-point (TreeOf n) h = absurd h
 TreeOrPoint-point Count h = absurd h
+TreeOrPoint-point Best h = absurd h
 TreeOrPoint-point (Counter g) h = absurd h
 TreeOrPoint-point (ChildOf n side) h = absurd h
 TreeOrPoint-point (FirstOf n) h = absurd h

@@ -7,7 +7,7 @@ use Rattle.plan_words.specs.LoweredChildren.{IsLoweredChild, LooksOn, LowersChil
 use Rattle.plan_words.specs.States.{HasWholeShare}
 use Rattle.step_core.specs.Views.{sees}
 use Rattle.step_core.specs.WordNames.{Word, WritesWord}
-use Rattle.step_core.specs.WordNames.Word.{ChildOf, Count, Counter, FirstOf, PointOf, RecordOf, TreeOf}
+use Rattle.step_core.specs.WordNames.Word.{Best, ChildOf, Count, Counter, FirstOf, PointOf, RecordOf, TreeOf}
 use Rattle.step_core.specs.Words.{cost_in, parent_in}
 use Rattle.step_core.specs.declared.views.SharedRun.{SharedRun}
 use Rattle.step_core.specs.declared.views.View.{View}
@@ -93,6 +93,7 @@ KeepsParents-children before after m looks points lowered = record { parents = p
     others (TreeOf n) off = absurd (off tt)
     others (PointOf n) off = points n
     others Count off = looks.others Count (λ n. (λ e. cc, λ e. cc))
+    others Best off = looks.others Best (λ n. (λ e. cc, λ e. cc))
     others (Counter g) off = looks.others (Counter g) (λ n. (λ e. cc, λ e. cc))
     others (ChildOf n side) off = looks.others (ChildOf n side) (λ m. (λ e. cc, λ e. cc))
     others (FirstOf n) off = looks.others (FirstOf n) (λ m. (λ e. cc, λ e. cc))

@@ -1,6 +1,6 @@
 //! The rewiring of nodes near a new one.
 
-ghost use Rattle.std.specs.Prelude.{◌≡◌, ◌≢◌, ℕ, suc, ◌+◌, ◌<◌, ◌≤◌, All, Contains, IfSome, IsSome, List};
+ghost use Rattle.std.specs.Prelude.{◌≡◌, ◌≢◌, false, ℕ, suc, ◌+◌, ◌<◌, ◌≤◌, All, Contains, IfSome, IsSome, List};
 ghost use Rattle.std.specs.List.Sorted.{IsStrictlyIncreasing};
 ghost use Rattle.plan_model.specs.Geometry.Bounds.{IsBounded};
 ghost use Rattle.plan_model.specs.Spaces.Clearance.{Clear};
@@ -32,12 +32,14 @@ use swept_check::Clearing;
 
 /// Rewires the nodes on the near list, in their order, once the node of mark k is placed: it becomes the parent of each that
 /// is then strictly cheaper, over a clear edge, and what fell is [spread] before the next is looked at. Each near node is seen
-/// with its point, at most a step from the new one; without any, nothing changes. The pass has a share.
+/// with its point, at most a step from the new one; without any, nothing changes. The pass has a share, and the scene is not
+/// informed.
 ///
 /// An edge is tested only if the node would be cheaper than it was seen to be last. Another pass may lower the node first, or give
 /// it another parent; it is lowered again only while it is still dearer. O(n) for n near nodes, and what the spreads take.
 pub fn rewire<C: Clearing>(shared: &Shared, pass: &mut Pass, hall: &C, k: u32)
     requires belongs { BelongsTo pass.old shared.now }
+    requires plain { shared.now.task.scene.informed ≡ false }
     requires part { 0 < share pass.old.view }
     requires hall { C.space hall.now ≡ space_of shared.now.task.scene }
     requires hand { IsSome pass.old.view.hand }
@@ -137,6 +139,7 @@ fn rewire_node<C: Clearing>(
     node: u32,
 )
     requires belongs { BelongsTo pass.old shared.now }
+    requires plain { shared.now.task.scene.informed ≡ false }
     requires part { 0 < share pass.old.view }
     requires hall { C.space hall.now ≡ space_of shared.now.task.scene }
     requires parent { SeesPoint pass.old.view parent from }
@@ -180,6 +183,7 @@ fn known_cost(shared: &Shared, pass: &mut Pass, node: u32) -> u64
 /// Lowers a node below this parent until it costs no more than through it.
 fn improve(shared: &Shared, pass: &mut Pass, parent: u32, from: Point, node: u32, to: Point)
     requires belongs { BelongsTo pass.old shared.now }
+    requires plain { shared.now.task.scene.informed ≡ false }
     requires part { 0 < share pass.old.view }
     requires parent { SeesPoint pass.old.view parent from }
     requires parent_pair { SeesPair pass.old.view parent }

@@ -1,6 +1,6 @@
 //! A lowered cost comes to the subtree of its node.
 
-ghost use Rattle.std.specs.Prelude.{◌≡◌, ◌<◌, IfNone, IfSome};
+ghost use Rattle.std.specs.Prelude.{◌≡◌, false, ◌<◌, IfNone, IfSome};
 ghost use Rattle.plan_words.specs.Claims.{SeesAsBefore};
 ghost use Rattle.plan_words.specs.States.{BelongsTo, HasWholeShare};
 ghost use Rattle.step_core.specs.ViewTrees.{MayLower};
@@ -14,12 +14,13 @@ use plan_words::{Pass, Shared};
 
 /// Lowers the subtree of a node whose cost fell: each child that costs more than through its parent, both as the pass has seen them
 /// last, and so on from each node whose cost falls. Children are those by the parents that were seen last; without any, nothing
-/// changes. The node is seen with its parent and its cost, and the pass has a share.
+/// changes. The node is seen with its parent and its cost, the pass has a share, and the scene is not informed.
 ///
 /// It loads no costs; an exchange that fails shows what the node costs by now, and with whatever parent. The sum of the costs seen
 /// falls with each exchange, so it ends. O(k) for k children of the node and of those that fell, if no other pass comes between.
 pub fn spread(shared: &Shared, pass: &mut Pass, node: u32)
     requires belongs { BelongsTo pass.old shared.now }
+    requires plain { shared.now.task.scene.informed ≡ false }
     requires part { 0 < share pass.old.view }
     requires pair { SeesPair pass.old.view node }
     ensures belongs { BelongsTo pass.new shared.now }
@@ -45,6 +46,7 @@ pub fn spread(shared: &Shared, pass: &mut Pass, node: u32)
 /// Lowers the children of a node until each costs no more than through it. Those whose cost fell wait then, if they have children.
 fn lower_below(shared: &Shared, pass: &mut Pass, node: u32)
     requires belongs { BelongsTo pass.old shared.now }
+    requires plain { shared.now.task.scene.informed ≡ false }
     requires part { 0 < share pass.old.view }
     requires pair { SeesPair pass.old.view node }
     ensures steps { PassLowers shared.now pass.old pass.new }
@@ -63,6 +65,7 @@ fn lower_below(shared: &Shared, pass: &mut Pass, node: u32)
 /// Lowers a node until it costs no more than through its parent, both as seen last.
 fn settle(shared: &Shared, pass: &mut Pass, node: u32)
     requires belongs { BelongsTo pass.old shared.now }
+    requires plain { shared.now.task.scene.informed ≡ false }
     requires part { 0 < share pass.old.view }
     requires pair { SeesPair pass.old.view node }
     ensures steps { PassSees NamesTreeOrPoint shared.now pass.old pass.new }

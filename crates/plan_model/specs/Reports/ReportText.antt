@@ -4,9 +4,9 @@ use Rattle.std.specs.List.{range_with_len, join_with_byte}
 use Rattle.plan_model.specs.declared.geometry.Point.{Point}
 use Rattle.plan_model.specs.declared.scenes.Scene.{Scene}
 use Rattle.plan_model.specs.declared.records.Outcome.{Outcome}
-use Rattle.plan_model.specs.declared.records.Outcome.TheVariants.{Placed, Same, Blocked}
+use Rattle.plan_model.specs.declared.records.Outcome.TheVariants.{Placed, Same, Blocked, Skipped}
 use Rattle.plan_model.specs.declared.records.Record.{Record}
-use Rattle.plan_model.specs.Runs.Outcomes.{is_placed, is_same, is_blocked}
+use Rattle.plan_model.specs.Runs.Outcomes.{is_placed, is_same, is_blocked, is_skipped}
 use Rattle.plan_model.specs.Trees.PointsByNumber.{point_at, point_of, node_count}
 use Rattle.plan_model.specs.Trees.TreeStates.{TreeState, chain_in, sum_in}
 use Rattle.plan_model.specs.Runs.ClosedLaw.{outcome_count}
@@ -50,14 +50,19 @@ best_path state (Some n) = path_to state n
 
 -- ---- the counts
 
--- How many nodes are present, and how many of the marks below the limit were placed, on a node already, and blocked; of each scene the same
--- counts.
+-- how many of the marks below the limit were skipped, in words, if the scene is informed
+abbrev pub skipped_words : Bool → ℕ → (ℕ → Option Record) → List (List ℕ)
+skipped_words false limit record_of = []
+skipped_words true limit record_of = codes "skipped" ∷ decimal (outcome_count record_of limit is_skipped) ∷ []
+
+-- How many nodes are present, and how many of the marks below the limit were placed, on a node already, and blocked, and in an informed
+-- scene skipped.
 abbrev pub counts_line : Scene → ℕ → TreeState → List ℕ
 counts_line scene limit state =
     line (
     codes "nodes" ∷ decimal (node_count state.points) ∷ codes "placed" ∷ decimal (outcome_count state.record_of limit is_placed)
     ∷ codes "same" ∷ decimal (outcome_count state.record_of limit is_same)
-    ∷ codes "blocked" ∷ decimal (outcome_count state.record_of limit is_blocked) ∷ []
+    ∷ codes "blocked" ∷ decimal (outcome_count state.record_of limit is_blocked) ∷ skipped_words scene.informed limit state.record_of
     )
 
 -- ---- nodes and marks
@@ -79,13 +84,14 @@ node_line_if_present state n (Some p) = node_line state n p
 abbrev pub node_lines : ℕ → TreeState → List ℕ
 node_lines limit state = flat_map (λ n. node_line_if_present state n (point_at state.points n)) (range_with_len 0 (suc limit))
 
--- what became of a mark, in words, from its nearest node on
+-- what became of a mark, in words, after its turn
 abbrev pub outcome_words : Record → Outcome → List (List ℕ)
 outcome_words entry Placed =
     codes "nearest" ∷ decimal entry.nearest ∷ codes "placed" ∷ codes "class" ∷ decimal entry.class
     ∷ codes "first" ∷ decimal entry.first_parent ∷ decimal entry.first_cost ∷ []
 outcome_words entry (Same j) = codes "nearest" ∷ decimal entry.nearest ∷ codes "same" ∷ decimal j ∷ []
 outcome_words entry Blocked = codes "nearest" ∷ decimal entry.nearest ∷ codes "blocked" ∷ []
+outcome_words entry Skipped = codes "skipped" ∷ codes "by" ∷ decimal entry.nearest ∷ []
 
 -- mark k and its record
 abbrev pub mark_line : ℕ → Record → List ℕ

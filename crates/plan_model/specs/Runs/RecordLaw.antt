@@ -1,12 +1,13 @@
 -- The record law: what the record of a mark says is borne out by the tree, whoever handled the mark and whatever others did meanwhile.
-use Rattle.std.specs.Prelude.{◌≢◌, ℕ, zero, suc, ◌+◌, ◌==◌, ◌≤◌, nat_lt, ◌&&◌, Bool, true, false, IsTrue, Option, Some, None, length, filter}
+use Rattle.std.specs.Prelude.{◌≢◌, ℕ, zero, suc, ◌+◌, ◌==◌, ◌<◌, ◌≤◌, nat_lt, ◌&&◌, Bool, true, false, IsTrue, Option, Some, None, length, filter}
 use Rattle.std.specs.List.{range_with_len}
 use Rattle.plan_model.specs.declared.geometry.Point.{Point}
 use Rattle.plan_model.specs.declared.records.Outcome.{Outcome}
-use Rattle.plan_model.specs.declared.records.Outcome.TheVariants.{Placed, Same, Blocked}
+use Rattle.plan_model.specs.declared.records.Outcome.TheVariants.{Placed, Same, Blocked, Skipped}
 use Rattle.plan_model.specs.declared.records.Record.{Record}
 use Rattle.plan_model.specs.Spaces.Clearance.{Clear}
 use Rattle.plan_model.specs.Geometry.Cost.{cost_of}
+use Rattle.plan_model.specs.Trees.BestNode.{IsGoalNode}
 use Rattle.plan_model.specs.Trees.LeastPairs.{IsNotAbove}
 use Rattle.plan_model.specs.Trees.Nearness.{distance_to, is_within}
 use Rattle.plan_model.specs.Trees.NodeLists.{cost_through_by}
@@ -16,7 +17,7 @@ use Rattle.plan_model.specs.Geometry.Steering.{steered}
 use Rattle.plan_model.specs.Trees.TreeStates.{TreeState, first_cost_of}
 use Rattle.plan_model.specs.Runs.Outcomes.{is_placed}
 use Rattle.plan_model.specs.Runs.OrderLaw.{Hangs, most_cost_of}
-use Rattle.plan_model.specs.Runs.Textbook.{Setup}
+use Rattle.plan_model.specs.Runs.Textbook.{Setup, mark_bound}
 
 -- ---- the nodes that the same worker placed earlier
 
@@ -87,17 +88,25 @@ pub record IsBlockedLawfully (setup : Setup) (state : TreeState) (entry : Record
   pub blocked : ¬ Clear setup.space (point_of state.points entry.nearest) p
   pub free : (i : ℕ) → IsEarlier state entry i → ¬ StandsAt state.points i p
 
--- The nearest node is present, no earlier node is nearer to the mark, and this is the outcome at the point to which it steers.
+-- A path over the mark may be cheaper than each goal node was at first that stood already. The nearest node is present, no earlier node is
+-- nearer to the mark, and this is the outcome at the point to which it steers.
 pub record IsSteeredLawfully (setup : Setup) (state : TreeState) (mark : Point) (entry : Record) (EndsAt : Point → Type 0) : Type 0 where
+  pub cheaper : (i : ℕ) → IsEarlier state entry i → IsGoalNode setup.goals state.points i → mark_bound setup mark < first_cost_of state i
   pub present : IsPresent state.points entry.nearest
   pub nearest : (i : ℕ) → IsEarlier state entry i → IsNotAbove (distance_to mark state.points) entry.nearest i
   pub outcome : EndsAt (steered (point_of state.points entry.nearest) mark setup.step)
+
+-- The named node lies in a goal by which marks are skipped, and costs no more than the bound of the mark.
+pub record IsSkippedLawfully (setup : Setup) (state : TreeState) (mark : Point) (entry : Record) : Type 0 where
+  pub goal : IsGoalNode setup.goals state.points entry.nearest
+  pub within : state.cost entry.nearest ≤ mark_bound setup mark
 
 -- what the outcome of mark k says
 abbrev pub HasLawfulOutcome : Setup → TreeState → ℕ → Point → Record → Outcome → Type 0
 HasLawfulOutcome setup state k mark entry Placed = IsSteeredLawfully setup state mark entry (IsPlacedLawfully setup state k entry)
 HasLawfulOutcome setup state k mark entry (Same j) = IsSteeredLawfully setup state mark entry (StandsAt state.points j)
 HasLawfulOutcome setup state k mark entry Blocked = IsSteeredLawfully setup state mark entry (IsBlockedLawfully setup state entry)
+HasLawfulOutcome setup state k mark entry Skipped = IsSkippedLawfully setup state mark entry
 
 -- The record of mark k: its outcome is what it says.
 abbrev pub IsLawfulRecord : Setup → TreeState → ℕ → Point → Record → Type 0

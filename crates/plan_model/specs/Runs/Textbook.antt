@@ -1,11 +1,12 @@
--- The textbook run: RRT* as in Karaman and Frazzoli, IJRR 2011, algorithm 6, one mark after another.
-use Rattle.std.specs.Prelude.{◌≡◌, ℕ, suc, ◌+◌, ◌<◌, ◌⊎◌, refl, IsTrue, Option, Some, None, List, [], ◌∷◌, ◌++◌, slice_set, if◌then◌else◌}
+-- The textbook run: RRT* as in Karaman and Frazzoli, IJRR 2011, algorithm 6, one mark after another. Where there are goals by which marks
+-- are skipped, a mark over which no path could be cheaper than the best one is skipped.
+use Rattle.std.specs.Prelude.{◌≡◌, ℕ, suc, ◌+◌, ◌<◌, ◌≤◌, ◌⊎◌, refl, IsTrue, Option, Some, None, List, [], ◌∷◌, ◌++◌, slice_set, if◌then◌else◌}
 use Rattle.plan_model.specs.declared.geometry.Goal.{Goal}
 use Rattle.plan_model.specs.declared.geometry.Point.{Point}
 use Rattle.plan_model.specs.declared.trees.Twig.{Twig}
 use Rattle.plan_model.specs.declared.scenes.Scene.{Scene}
 use Rattle.plan_model.specs.declared.records.Outcome.{Outcome}
-use Rattle.plan_model.specs.declared.records.Outcome.TheVariants.{Placed, Same, Blocked}
+use Rattle.plan_model.specs.declared.records.Outcome.TheVariants.{Placed, Same, Blocked, Skipped}
 use Rattle.plan_model.specs.declared.records.Record.{Record}
 use Rattle.plan_model.specs.Runs.Outcomes.{is_zero_unless_placed}
 use Rattle.plan_model.specs.declared.configuration_spaces.ConfigurationSpace.{ConfigurationSpace}
@@ -18,6 +19,8 @@ use Rattle.plan_model.specs.Trees.LeastPairs.{IsFirstLeast}
 use Rattle.plan_model.specs.Trees.Nearness.{IsNearest, near}
 use Rattle.plan_model.specs.Trees.NodeLists.{cost_through_by, points_of, sum_of}
 use Rattle.plan_model.specs.Trees.OpenNodes.{IsOpenTo}
+use Rattle.plan_model.specs.Trees.BestNode.{IsGoalNode}
+use Rattle.plan_model.specs.Trees.GoalBounds.{bound_of}
 
 -- a tree as a list: the nodes by number, absent if the mark was not placed
 abbrev pub Nodes : Type 0
@@ -87,6 +90,20 @@ Rewires space tree n [] after = after ≡ tree
 Rewires space tree n (i ∷ near) after =
     (between : Nodes) × RewiresOne space tree n i between × Rewires space between n near after
 
+-- ---- skipping
+
+-- the bound of a mark, by the goals by which marks are skipped
+abbrev pub mark_bound : Setup → Point → ℕ
+mark_bound setup mark = bound_of setup.start setup.goals mark
+
+-- each goal node costs more than the bound of the mark, so that a path over the mark may be cheaper than each
+abbrev pub MayBeCheaper : Setup → (ℕ → ℕ) → List (Option Point) → Point → Type 0
+MayBeCheaper setup costs points mark = (i : ℕ) → IsGoalNode setup.goals points i → mark_bound setup mark < costs i
+
+-- g is the goal node with the least pair of sum and number
+abbrev pub IsBestGoalNode : Setup → Nodes → ℕ → Type 0
+IsBestGoalNode setup tree g = IsFirstLeast (sum_of tree) (IsGoalNode setup.goals (points_of tree)) g
+
 -- ---- one mark
 
 -- m is the nearest node to the mark, and steers towards it to p
@@ -99,6 +116,7 @@ abbrev pub zeros : (outcome : Outcome) → IsTrue (is_zero_unless_placed outcome
 zeros Placed = refl
 zeros (Same j) = refl
 zeros Blocked = refl
+zeros Skipped = refl
 
 -- the record of a mark for which no node is placed, by its worker, the worker's turn, the nearest node and the outcome
 abbrev pub unplaced_record : ℕ → ℕ → ℕ → Outcome → Record
@@ -122,6 +140,10 @@ same_record k nearest j = unplaced_record 0 k nearest (Same j)
 abbrev pub blocked_record : ℕ → ℕ → Record
 blocked_record k nearest = unplaced_record 0 k nearest Blocked
 
+-- the record of mark k, which worker 0 handles in its turn k, if it is skipped by goal node g
+abbrev pub skipped_record : ℕ → ℕ → Record
+skipped_record k g = unplaced_record 0 k g Skipped
+
 -- the record of mark k, which worker 0 handles in its turn k, if it is placed
 abbrev pub placed_record : ℕ → ℕ → ℕ → ℕ → ℕ → Record
 placed_record k nearest parent cost class =
@@ -136,8 +158,16 @@ placed_record k nearest parent cost class =
       unplaced = refl;
     }
 
+-- Mark k is skipped: the best goal node costs no more than its bound. Nothing is placed.
+pub record EndsSkipped (setup : Setup) (tree : Nodes) (k : ℕ) (mark : Point) (entry : Record) (after : Nodes) : Type 0 where
+  pub best : IsBestGoalNode setup tree entry.nearest
+  pub within : sum_of tree entry.nearest ≤ mark_bound setup mark
+  pub recorded : entry ≡ skipped_record k entry.nearest
+  pub added : after ≡ tree ++ None ∷ []
+
 -- Mark k ends where node j stands already: nothing is placed.
 pub record EndsSame (setup : Setup) (tree : Nodes) (k : ℕ) (mark : Point) (j : ℕ) (entry : Record) (after : Nodes) : Type 0 where
+  pub cheaper : MayBeCheaper setup (sum_of tree) (points_of tree) mark
   pub point : Point
   pub steers : SteersTo setup (points_of tree) mark entry.nearest point
   pub stands : StandsAt (points_of tree) j point
@@ -146,6 +176,7 @@ pub record EndsSame (setup : Setup) (tree : Nodes) (k : ℕ) (mark : Point) (j :
 
 -- The segment to the point that mark k steers to is not clear: nothing is placed.
 pub record EndsBlocked (setup : Setup) (tree : Nodes) (k : ℕ) (mark : Point) (entry : Record) (after : Nodes) : Type 0 where
+  pub cheaper : MayBeCheaper setup (sum_of tree) (points_of tree) mark
   pub point : Point
   pub steers : SteersTo setup (points_of tree) mark entry.nearest point
   pub free : IsFree (points_of tree) point
@@ -155,6 +186,7 @@ pub record EndsBlocked (setup : Setup) (tree : Nodes) (k : ℕ) (mark : Point) (
 
 -- Mark k is placed: the new node stands under its best parent, and near nodes that are cheaper through it are rewired.
 pub record EndsPlaced (setup : Setup) (tree : Nodes) (k : ℕ) (mark : Point) (entry : Record) (after : Nodes) : Type 0 where
+  pub cheaper : MayBeCheaper setup (sum_of tree) (points_of tree) mark
   pub point : Point
   pub steers : SteersTo setup (points_of tree) mark entry.nearest point
   pub free : IsFree (points_of tree) point
@@ -170,6 +202,7 @@ abbrev pub Ends : Setup → Nodes → ℕ → Point → Outcome → Record → N
 Ends setup tree k mark (Same j) entry after = EndsSame setup tree k mark j entry after
 Ends setup tree k mark Blocked entry after = EndsBlocked setup tree k mark entry after
 Ends setup tree k mark Placed entry after = EndsPlaced setup tree k mark entry after
+Ends setup tree k mark Skipped entry after = EndsSkipped setup tree k mark entry after
 
 -- Mark k is handled, by the outcome of its record.
 abbrev pub Handles : Setup → Nodes → ℕ → Point → Record → Nodes → Type 0

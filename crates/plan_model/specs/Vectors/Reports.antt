@@ -5,7 +5,7 @@ use Rattle.plan_model.specs.declared.scenes.Scene.{Scene}
 use Rattle.plan_model.specs.declared.trees.Twig.{Twig}
 use Rattle.plan_model.specs.declared.records.Record.{Record}
 use Rattle.plan_model.specs.Trees.TreeStates.{state_of}
-use Rattle.plan_model.specs.Runs.Textbook.{same_record, blocked_record, placed_record}
+use Rattle.plan_model.specs.Runs.Textbook.{same_record, blocked_record, placed_record, skipped_record}
 use Rattle.plan_model.specs.Trees.BestNode.{is_in_goal, lies_in_goals, goals_of, best_node}
 use Rattle.plan_model.specs.Reports.ReportText.{short_report, full_report}
 use Rattle.plan_model.specs.Vectors.Shapes.{at}
@@ -33,6 +33,13 @@ one_of_three =
 abbrev pub three_records : List Record
 three_records = placed_record 0 0 0 12800 1 ∷ same_record 1 1 1 ∷ blocked_record 2 1 ∷ []
 
+-- the start alone, and the record of a mark that was skipped by it
+abbrev pub the_start : List (Option Twig)
+the_start = Some (record { point = at 0 0; parent = 0 }) ∷ []
+
+abbrev pub one_skipped : List Record
+one_skipped = skipped_record 0 0 ∷ []
+
 -- the box with these corners
 abbrev pub box : ℕ → ℕ → ℕ → ℕ → Goal
 box x0 y0 x1 y1 = record { low = at x0 y0; high = at x1 y1 }
@@ -46,7 +53,7 @@ pub record ReportVectors : Type 0 where
   -- a number past the limit is not looked at
   pub past_the_limit : (scene : Scene) → scene.goals ≡ goal_point ∷ [] → best_node (goals_of scene) 0 (state_of two_nodes one_placed) ≡ None
   pub report :
-      (scene : Scene) → scene.goals ≡ goal_point ∷ [] → short_report scene 1 (state_of two_nodes one_placed)
+      (scene : Scene) → scene.goals ≡ goal_point ∷ [] → scene.informed ≡ false → short_report scene 1 (state_of two_nodes one_placed)
       ≡ codes "path 2 cost 12800\n0 0\n30 40\nnodes 2 placed 1 same 0 blocked 0\n"
   -- the box is closed
   pub low_corner : is_in_goal (box 1 2 3 4) (at 1 2) ≡ true
@@ -65,14 +72,22 @@ pub record ReportVectors : Type 0 where
   pub tied : (scene : Scene) → scene.goals ≡ box 30 30 40 40 ∷ [] → best_node (goals_of scene) 3 (state_of two_branches []) ≡ Some 1
   pub none_reached : (scene : Scene) → scene.goals ≡ box 41 41 50 50 ∷ [] → best_node (goals_of scene) 3 (state_of two_branches []) ≡ None
   pub no_path :
-      (scene : Scene) → scene.goals ≡ box 41 41 50 50 ∷ [] → short_report scene 1 (state_of two_nodes one_placed)
+      (scene : Scene) → scene.goals ≡ box 41 41 50 50 ∷ [] → scene.informed ≡ false → short_report scene 1 (state_of two_nodes one_placed)
       ≡ codes "no path\nnodes 2 placed 1 same 0 blocked 0\n"
   pub start_in_goal :
-      (scene : Scene) → scene.goals ≡ box 0 0 9 9 ∷ [] → short_report scene 0 (state_of two_nodes [])
+      (scene : Scene) → scene.goals ≡ box 0 0 9 9 ∷ [] → scene.informed ≡ false → short_report scene 0 (state_of two_nodes [])
       ≡ codes "path 1 cost 0\n0 0\nnodes 2 placed 0 same 0 blocked 0\n"
   -- absent nodes have no line
   pub in_full :
-      (scene : Scene) → scene.goals ≡ box 41 41 50 50 ∷ [] → full_report scene 3 (state_of one_of_three three_records)
+      (scene : Scene) → scene.goals ≡ box 41 41 50 50 ∷ [] → scene.informed ≡ false → full_report scene 3 (state_of one_of_three three_records)
       ≡ codes "no path\nnodes 2 placed 1 same 1 blocked 1\nnode 0 at 0 0 parent 0 cost 0\nnode 1 at 30 40 parent 0 cost 12800\n"
       ++ codes "mark 0 worker 0 turn 0 nearest 0 placed class 1 first 0 12800\n"
       ++ codes "mark 1 worker 0 turn 1 nearest 1 same 1\nmark 2 worker 0 turn 2 nearest 1 blocked\n"
+  -- in an informed scene skipped marks are counted, also if there is none
+  pub none_skipped :
+      (scene : Scene) → scene.goals ≡ box 41 41 50 50 ∷ [] → scene.informed ≡ true → short_report scene 1 (state_of two_nodes one_placed)
+      ≡ codes "no path\nnodes 2 placed 1 same 0 blocked 0 skipped 0\n"
+  pub skipped_in_full :
+      (scene : Scene) → scene.goals ≡ box 0 0 9 9 ∷ [] → scene.informed ≡ true → full_report scene 1 (state_of the_start one_skipped)
+      ≡ codes "path 1 cost 0\n0 0\nnodes 1 placed 0 same 0 blocked 0 skipped 1\nnode 0 at 0 0 parent 0 cost 0\n"
+      ++ codes "mark 0 worker 0 turn 0 skipped by 0\n"

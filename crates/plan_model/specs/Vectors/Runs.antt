@@ -1,5 +1,6 @@
 -- Textbook runs of three marks in an empty room, and their reports: one in which a node is rewired, and one in which its cost is equal.
-use Rattle.std.specs.Prelude.{◌≡◌, ℕ, Option, Some, List, [], ◌∷◌, ◌++◌, codes}
+use Rattle.std.specs.Prelude.{◌≡◌, ℕ, false, Option, Some, List, [], ◌∷◌, ◌++◌, codes}
+use Rattle.plan_model.specs.declared.geometry.Goal.{Goal}
 use Rattle.plan_model.specs.declared.geometry.Point.{Point}
 use Rattle.plan_model.specs.declared.scenes.Scene.{Scene}
 use Rattle.plan_model.specs.declared.trees.Twig.{Twig}
@@ -12,9 +13,14 @@ use Rattle.plan_model.specs.Reports.ReportText.{short_report, full_report}
 use Rattle.plan_model.specs.Vectors.Shapes.{at}
 use Rattle.plan_model.specs.Vectors.Reports.{box}
 
--- a point body in the corner of an empty room; with this gamma the radius is the step for the first three nodes
+-- a point body in the corner of an empty room, and goals by which marks are skipped; with this gamma the radius is the step for the first
+-- three nodes
+abbrev pub open_setup_to : List Goal → Setup
+open_setup_to goals = record { space = empty_room (at 100 100); start = at 0 0; step = 50; gamma = 1000; goals = goals }
+
+-- the same, in which no mark is skipped
 abbrev pub open_setup : Setup
-open_setup = record { space = empty_room (at 100 100); start = at 0 0; step = 50; gamma = 1000; goals = [] }
+open_setup = open_setup_to []
 
 -- the node at p with this parent
 abbrev pub node : Point → ℕ → Option Twig
@@ -57,7 +63,9 @@ kept_text = codes "path 3 cost 25600\n0 0\n0 50\n40 80\nnodes 4 placed 3 same 0 
 pub record RunVectors : Type 0 where
   pub rewired : IsTextbookRun open_setup marks_to_rewire rewired_tree rewired_records
   pub cost_of_rewired : sum_of rewired_tree 2 ≡ 25344
-  pub report_of_rewired : (scene : Scene) → scene.goals ≡ box 40 79 40 79 ∷ [] → full_report scene 3 (state_of rewired_tree rewired_records) ≡ rewired_text
+  pub report_of_rewired : (scene : Scene) → scene.goals ≡ box 40 79 40 79 ∷ [] → scene.informed ≡ false
+      → full_report scene 3 (state_of rewired_tree rewired_records) ≡ rewired_text
   pub kept : IsTextbookRun open_setup marks_to_keep kept_tree kept_records
   pub cost_of_kept : sum_of kept_tree 2 ≡ 25600
-  pub report_of_kept : (scene : Scene) → scene.goals ≡ box 40 80 40 80 ∷ [] → short_report scene 3 (state_of kept_tree kept_records) ≡ kept_text
+  pub report_of_kept : (scene : Scene) → scene.goals ≡ box 40 80 40 80 ∷ [] → scene.informed ≡ false
+      → short_report scene 3 (state_of kept_tree kept_records) ≡ kept_text

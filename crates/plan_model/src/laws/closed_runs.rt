@@ -1,12 +1,12 @@
 //! Laws of closed runs, each the contract of a function that does nothing.
 
-ghost use Rattle.std.specs.Prelude.{◌≡◌, ℕ, suc, ◌+◌, ◌<◌, List, Option, Some, length};
+ghost use Rattle.std.specs.Prelude.{◌≡◌, ℕ, suc, ◌+◌, ◌<◌, List, [], Option, Some, length};
 ghost use Rattle.plan_model.specs.Trees.BestNode.{best_node};
 ghost use Rattle.plan_model.specs.Spaces.Clearance.{ClearAt};
 ghost use Rattle.plan_model.specs.Spaces.ClearPaths.{IsClearPath};
 ghost use Rattle.plan_model.specs.Runs.ClosedLaw.{IsClosed, mark_at, outcome_count};
 ghost use Rattle.plan_model.specs.Runs.OrderLaw.{KeepsFirstCosts};
-ghost use Rattle.plan_model.specs.Runs.Outcomes.{is_blocked, is_placed, is_same};
+ghost use Rattle.plan_model.specs.Runs.Outcomes.{is_blocked, is_placed, is_same, is_skipped};
 ghost use Rattle.plan_model.specs.Trees.PointsByNumber.{AreNumberedTo, IsPresent, node_count};
 ghost use Rattle.plan_model.specs.Reports.ReportText.{best_path, path_to};
 ghost use Rattle.plan_model.specs.Runs.Textbook.{IsTextbookRun, Nodes, Setup};
@@ -44,13 +44,16 @@ pub fn costs_of_closed_runs_fall()
         → IsClosed setup marks limit state → KeepsFirstCosts setup state }
 {}
 
-/// In a closed run the placed, the same and the blocked marks add up to the limit, there is a node for each placed mark beside
-/// the start, and no node has a number past the limit.
+/// In a closed run the placed, the same, the blocked and the skipped marks add up to the limit, and none is skipped if there are no
+/// goals by which marks are skipped. There is a node for each placed mark beside the start, and no node has a number past the limit.
 pub fn marks_of_closed_runs_add_up()
     ensures outcomes { (setup : Setup) (marks : List Point) (limit : ℕ) (state : TreeState)
         → IsClosed setup marks limit state
-        → (outcome_count state.record_of limit is_placed + outcome_count state.record_of limit is_same) + outcome_count state.record_of limit is_blocked
-        ≡ limit }
+        → ((outcome_count state.record_of limit is_placed + outcome_count state.record_of limit is_same)
+        + outcome_count state.record_of limit is_blocked) + outcome_count state.record_of limit is_skipped ≡ limit }
+    ensures none_skipped { (setup : Setup) (marks : List Point) (limit : ℕ) (state : TreeState)
+        → IsClosed setup marks limit state
+        → setup.goals ≡ [] → outcome_count state.record_of limit is_skipped ≡ 0 }
     ensures nodes { (setup : Setup) (marks : List Point) (limit : ℕ) (state : TreeState)
         → IsClosed setup marks limit state
         → node_count state.points ≡ suc (outcome_count state.record_of limit is_placed) }

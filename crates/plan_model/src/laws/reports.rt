@@ -36,11 +36,12 @@ pub fn textbook_runs_have_one_report()
         → (scene : Scene) (limit : ℕ) → summary scene limit other ≡ summary scene limit one }
 {}
 
-/// Of the scene a report looks at its goals alone: scenes that have the same ones have the same report of each tree, short and
-/// full, and the same summary.
+/// Of the scene a report looks at its goals alone, and whether it is informed: scenes that have the same ones, and are both informed or
+/// neither, have the same report of each tree, short and full, and the same summary.
 pub fn same_goals_have_the_same_report()
-    ensures report { (one other : Scene) (limit : ℕ) (state : TreeState) → goals_of other ≡ goals_of one → (full : Bool)
+    ensures report { (one other : Scene) (limit : ℕ) (state : TreeState) → goals_of other ≡ goals_of one → other.informed ≡ one.informed
+        → (full : Bool)
         → report_text full other limit state ≡ report_text full one limit state }
-    ensures summary { (one other : Scene) (limit : ℕ) (state : TreeState) → goals_of other ≡ goals_of one
+    ensures summary { (one other : Scene) (limit : ℕ) (state : TreeState) → goals_of other ≡ goals_of one → other.informed ≡ one.informed
         → summary other limit state ≡ summary one limit state }
 {}

@@ -6,7 +6,8 @@ ghost use Rattle.plan_model.specs.Scenes.MarkPoints.{mark_points};
 ghost use Rattle.plan_model.specs.Trees.Nearness.{IsNearest};
 ghost use Rattle.plan_model.specs.Trees.PointsByNumber.{AreDistinct};
 ghost use Rattle.plan_model.specs.Runs.SameRuns.{HaveSameFields, HaveSameInputs};
-ghost use Rattle.plan_model.specs.Runs.Textbook.{EndsBlocked, EndsPlaced, EndsSame, IsBestParent, IsTextbookRun, Nodes, Rewires, RewiresOne, Setup, setup_of};
+ghost use Rattle.plan_model.specs.Runs.Textbook.{EndsBlocked, EndsPlaced, EndsSame, EndsSkipped, IsBestParent, IsTextbookRun, Nodes};
+ghost use Rattle.plan_model.specs.Runs.Textbook.{Rewires, RewiresOne, Setup, setup_of};
 ghost use Rattle.plan_model.specs.Trees.NodeLists.{points_of};
 ghost use Rattle.plan_model.specs.declared.geometry.Point.{Point};
 ghost use Rattle.plan_model.specs.declared.records.Record.{Record};
@@ -29,7 +30,7 @@ pub fn choices_are_unique()
         → Rewires space tree n near one → Rewires space tree n near other → one ≡ other }
 {}
 
-/// A mark has one outcome: no two of Same, Blocked and Placed.
+/// A mark has one outcome: no two of Same, Blocked, Placed and Skipped.
 pub fn outcomes_exclude_each_other()
     ensures same_or_blocked { (setup : Setup) (tree : Nodes) (k : ℕ) (mark : Point) (j : ℕ) (one other : Record) (after others : Nodes)
         → EndsSame setup tree k mark j one after → ¬ EndsBlocked setup tree k mark other others }
@@ -37,6 +38,12 @@ pub fn outcomes_exclude_each_other()
         → EndsSame setup tree k mark j one after → ¬ EndsPlaced setup tree k mark other others }
     ensures blocked_or_placed { (setup : Setup) (tree : Nodes) (k : ℕ) (mark : Point) (one other : Record) (after others : Nodes)
         → EndsBlocked setup tree k mark one after → ¬ EndsPlaced setup tree k mark other others }
+    ensures same_or_skipped { (setup : Setup) (tree : Nodes) (k : ℕ) (mark : Point) (j : ℕ) (one other : Record) (after others : Nodes)
+        → EndsSame setup tree k mark j one after → ¬ EndsSkipped setup tree k mark other others }
+    ensures blocked_or_skipped { (setup : Setup) (tree : Nodes) (k : ℕ) (mark : Point) (one other : Record) (after others : Nodes)
+        → EndsBlocked setup tree k mark one after → ¬ EndsSkipped setup tree k mark other others }
+    ensures placed_or_skipped { (setup : Setup) (tree : Nodes) (k : ℕ) (mark : Point) (one other : Record) (after others : Nodes)
+        → EndsPlaced setup tree k mark one after → ¬ EndsSkipped setup tree k mark other others }
 {}
 
 /// No two nodes of a textbook run stand at one point.

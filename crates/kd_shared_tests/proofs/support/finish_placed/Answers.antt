@@ -1,5 +1,6 @@
 use Rattle.std.proofs.Common.{◌≡◌, ◌∙◌, ap, arith, refl, sym, true}
 use Rattle.plan_model.specs.Geometry.Radius.{class_of}
+use Rattle.plan_words.proofs.PlainScenes.{no_goals}
 use Rattle.step_core.specs.Stages.{has_link}
 use Rattle.step_core.specs.WordNames.Word.{RecordOf}
 use Rattle.kd_shared_tests.proofs.SteeredMarks.{HangsBelowNearest-kept}
@@ -20,6 +21,7 @@ finish-requires-clause-may c =
     let linked : has_link hangs.steers.hand.stage ≡ true = ap (λ h. has_link h.stage) (sym same) ∙ ap has_link holds.stage_is in
     let run = ap (λ p. p.view.run) step.view ∙ holds.belongs.run in
     let gamma : view.run.gamma ≡ 0 = omega (arith, ap (λ r. r.gamma) run, ap (λ t. t.scene.gamma) c.task.ensures, c.if-task-ne0.false) in
-    may_finish-placed view c.args.closest c.args.cost _ step.goes_on.lawful hangs linked gamma refl refl refl refl
+    may_finish-placed view c.args.closest c.args.cost _ step.goes_on.lawful hangs linked gamma
+    (no_goals c.args.shared.now view run c.requires.plain) refl refl refl refl
     (λ e. omega (arith, step.own e, step.seen.here, own_count-same c.args.pass.now.view view e step.goes_on (λ k. step.seen.others (RecordOf k) (λ is. cc))))
     (c.class.ensures.value ∙ ap class_of (c.from.ensures ∙ sym step.seen.here))

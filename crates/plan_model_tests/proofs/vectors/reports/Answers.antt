@@ -12,7 +12,7 @@ unfolding digits
 returns c = record {
   best = λ scene e. rw e refl;
   past_the_limit = λ scene e. rw e refl;
-  report = λ scene e. rw (e, edge) refl;
+  report = λ scene e plain. rw (e, plain, edge) refl;
   low_corner = refl;
   high_corner = refl;
   left_of_it = refl;
@@ -26,7 +26,9 @@ returns c = record {
   second_goal_alone = refl;
   tied = λ scene e. rw (e, edge) refl;
   none_reached = λ scene e. rw e refl;
-  no_path = λ scene e. rw e refl;
-  start_in_goal = λ scene e. rw e refl;
-  in_full = λ scene e. rw (e, edge) refl;
+  no_path = λ scene e plain. rw (e, plain) refl;
+  start_in_goal = λ scene e plain. rw (e, plain) refl;
+  in_full = λ scene e plain. rw (e, plain, edge) refl;
+  none_skipped = λ scene e informed. rw (e, informed) refl;
+  skipped_in_full = λ scene e informed. rw (e, informed) refl;
 }

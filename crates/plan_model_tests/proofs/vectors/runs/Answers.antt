@@ -1,5 +1,5 @@
 -- A report is computed part by part, after its best node.
-use Rattle.std.proofs.Common.{◌≡◌, ℕ, List, [], ◌∷◌, ◌++◌, Option, Some, refl, ap, ◌∙◌}
+use Rattle.std.proofs.Common.{◌≡◌, ℕ, false, List, [], ◌∷◌, ◌++◌, Option, Some, refl, ap, ◌∙◌}
 use Rattle.std.specs.Prelude.{codes}
 use Rattle.std.specs.Fmt.{digits}
 use Rattle.plan_model.specs.declared.scenes.Scene.{Scene}
@@ -27,9 +27,10 @@ rewired_path : path_part (state_of rewired_tree rewired_records) (Some 2) ≡ co
 unfolding digits
 rewired_path = rw (cost_2500, cost_2401) refl
 
-rewired_counts : (scene : Scene) → counts_line scene 3 (state_of rewired_tree rewired_records) ≡ codes "nodes 4 placed 3 same 0 blocked 0\n"
+rewired_counts : (scene : Scene) → scene.informed ≡ false
+    → counts_line scene 3 (state_of rewired_tree rewired_records) ≡ codes "nodes 4 placed 3 same 0 blocked 0\n"
 unfolding digits
-rewired_counts scene = refl
+rewired_counts scene plain = rw plain refl
 
 rewired_nodes :
     node_lines 3 (state_of rewired_tree rewired_records)
@@ -46,9 +47,10 @@ rewired_marks :
 unfolding digits
 rewired_marks = refl
 
-rewired_report : (scene : Scene) → ((path_part (state_of rewired_tree rewired_records) (Some 2) ++ counts_line scene 3 (state_of rewired_tree rewired_records))
+rewired_report : (scene : Scene) → scene.informed ≡ false
+    → ((path_part (state_of rewired_tree rewired_records) (Some 2) ++ counts_line scene 3 (state_of rewired_tree rewired_records))
     ++ node_lines 3 (state_of rewired_tree rewired_records)) ++ mark_lines 3 (state_of rewired_tree rewired_records) ≡ rewired_text
-rewired_report scene = joined (joined (joined rewired_path (rewired_counts scene)) rewired_nodes) rewired_marks
+rewired_report scene plain = joined (joined (joined rewired_path (rewired_counts scene plain)) rewired_nodes) rewired_marks
 
 kept_best : (scene : Scene) → scene.goals ≡ box 40 80 40 80 ∷ [] → best_node (goals_of scene) 3 (state_of kept_tree kept_records) ≡ Some 2
 kept_best scene e = rw e refl
@@ -57,24 +59,25 @@ kept_path : path_part (state_of kept_tree kept_records) (Some 2) ≡ codes "path
 unfolding digits
 kept_path = rw cost_2500 refl
 
-kept_counts : (scene : Scene) → counts_line scene 3 (state_of kept_tree kept_records) ≡ codes "nodes 4 placed 3 same 0 blocked 0\n"
+kept_counts : (scene : Scene) → scene.informed ≡ false → counts_line scene 3 (state_of kept_tree kept_records) ≡ codes "nodes 4 placed 3 same 0 blocked 0\n"
 unfolding digits
-kept_counts scene = refl
+kept_counts scene plain = rw plain refl
 
-kept_report : (scene : Scene) → path_part (state_of kept_tree kept_records) (Some 2) ++ counts_line scene 3 (state_of kept_tree kept_records) ≡ kept_text
-kept_report scene = joined kept_path (kept_counts scene)
+kept_report : (scene : Scene) → scene.informed ≡ false
+    → path_part (state_of kept_tree kept_records) (Some 2) ++ counts_line scene 3 (state_of kept_tree kept_records) ≡ kept_text
+kept_report scene plain = joined kept_path (kept_counts scene plain)
 
 pub returns : goal.returns
 returns c = record {
   rewired = rewired_run;
   cost_of_rewired = rewired_sum;
-  report_of_rewired = λ scene e.
+  report_of_rewired = λ scene e plain.
       ap (λ best. ((path_part (state_of rewired_tree rewired_records) best ++ counts_line scene 3 (state_of rewired_tree rewired_records))
       ++ node_lines 3 (state_of rewired_tree rewired_records)) ++ mark_lines 3 (state_of rewired_tree rewired_records)) (rewired_best scene e)
-      ∙ rewired_report scene;
+      ∙ rewired_report scene plain;
   kept = kept_run;
   cost_of_kept = kept_sum;
-  report_of_kept = λ scene e.
+  report_of_kept = λ scene e plain.
       ap (λ best. path_part (state_of kept_tree kept_records) best ++ counts_line scene 3 (state_of kept_tree kept_records)) (kept_best scene e)
-      ∙ kept_report scene;
+      ∙ kept_report scene plain;
 }

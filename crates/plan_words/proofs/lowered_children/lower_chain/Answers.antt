@@ -7,13 +7,14 @@ use Rattle.plan_words.specs.States.{HasFirstPairs}
 use Rattle.plan_words.specs.Waiting.{WaitingState}
 use Rattle.plan_words.proofs.ChildCosts.{IsSeenAbove-kept}
 use Rattle.plan_words.proofs.LoweredChains.{HasFirstPairs-at, IsLowering-ends, IsLowering-start, IsLowering-step, chains-at, child_here, child_low}
-use Rattle.plan_words.proofs.LoweredChains.{child_own, child_seen, found_less, lowered_found, own_now, own_was, parents_found, points_then, same_found}
+use Rattle.plan_words.proofs.LoweredChains.{child_own, child_seen, found_less, lowered_found, own_now, own_was, parents_found, points_then, posted_found, same_found}
 use Rattle.plan_words.proofs.SeatSteps.{LooksOn-trans}
 use Rattle.plan_words.proofs.SeenChildren.{chain-HasSeenParent}
 use Rattle.plan_words.proofs.lowered_children.lower_chain.Goals as goal
 use Rattle.plan_words.proofs.lowered_children.lower_chain.Goals.{After-lower_child}
 use Rattle.step_core.specs.Views.{sees}
 use Rattle.step_core.specs.WordNames.Word.{TreeOf}
+use Rattle.step_core.specs.Words.{best_word, cost_in}
 
 pub first_child-child-requires : goal.first_child-child-requires
 first_child-child-requires c = omega (arith, c.requires.index.firsts, c.requires.low)
@@ -92,6 +93,13 @@ returns-in-Err-clause-lowered c =
     let looks = c.lower_child.ensures.looks in
     lowered_found c.args.children.now c.args.above.node c.children.child c.args.seat.now.me.0 c.children.seat.me.0 c.lower_child.new.seat.me.0 _ _ _ _ _
     c.children.invariant.lowering c.requires.pairs (here at) looks c.lower_child.ensures.others c.lower_child.ensures.points
+    (less at c.in-Err.found c.in-Err.ensures.found.0 c.in-Err.ensures.found.1)
+
+pub returns-in-Err-clause-posted : goal.returns-in-Err-clause-posted
+returns-in-Err-clause-posted c =
+    let at = (goal.at.returns-in-Err-clause-posted c).After-lower_child in
+    posted_found c.args.children.now c.args.above.node c.children.child c.args.seat.now.me.0 c.children.seat.me.0 c.lower_child.new.seat.me.0 _ _ _ _ _
+    c.children.invariant.lowering c.requires.pairs (here at) c.lower_child.ensures.looks c.lower_child.ensures.others c.lower_child.ensures.points
     (less at c.in-Err.found c.in-Err.ensures.found.0 c.in-Err.ensures.found.1)
 
 pub returns-in-Err-clause-found : goal.returns-in-Err-clause-found
@@ -206,7 +214,10 @@ children-preserved c =
               | inl e ↦ absurd (more.0 (c.in-Ok.ensures.here ∙ e ∙ sym was))
               | inr less_word ↦ (less_word, omega (arith, more.1, ap (λ w. w.size) c.children.invariant.kept))
             ])
-          ]);
+          ])
+          (λ changed goal.
+          let posted = c.in-Ok.ensures.posted (λ e. changed (sym c.in-Ok.ensures.here ∙ e ∙ seen at)) goal in
+          omega (arith, posted, ap (λ w. best_word (cost_in w) child) c.in-Ok.ensures.here));
       kept = down.kept ∙ ap {A = WaitingState} (λ w. record w { nodes = c.write_down.new.waiting.nodes }) c.children.invariant.kept;
     }
 
@@ -221,6 +232,9 @@ returns-in-Err-clause-points c =
 
 pub returns-clause-lowered : goal.returns-clause-lowered
 returns-clause-lowered c n off changed = c.children.invariant.lowering.lowered n changed
+
+pub returns-clause-posted : goal.returns-clause-posted
+returns-clause-posted c n off changed on_goal = c.children.invariant.lowering.posted n (λ no. no) changed on_goal
 
 pub returns-clause-parents : goal.returns-clause-parents
 returns-clause-parents c n m off off_too less own = c.children.invariant.lowering.parents n m less own

@@ -3,12 +3,13 @@ use Rattle.plan_model.specs.Geometry.Bounds.{IsBounded}
 use Rattle.plan_model.specs.Spaces.Clearance.{Clear}
 use Rattle.plan_words.proofs.HandSteps.{at_hand}
 use Rattle.plan_words.proofs.NearestParents.{IsBounded-hand, MayHang-start}
+use Rattle.step_core.specs.SeenBests.{IsUnskipped}
 use Rattle.step_core.specs.Stages.{has_point}
 use Rattle.step_core.proofs.SeenViews.{SeesPoint-later}
 use Rattle.plan_words.specs.States.{with_view}
 use Rattle.step_core.specs.ViewSteps.{half, treed}
 use Rattle.step_core.specs.declared.views.Stage.TheVariants.{Half}
-use Rattle.plan_words_tests.proofs.FirstRecords.{HangsFromStart-hung}
+use Rattle.plan_words_tests.proofs.FirstRecords.{HangsFromStart-hung, unskipped_later}
 use Rattle.plan_words_tests.proofs.link.hang_from_start.Goals as goal
 
 pub cost-edge-requires-clause-to : goal.cost-edge-requires-clause-to
@@ -51,3 +52,6 @@ returns-clause-hangs g c =
     c.hand_point-p.result edge own is
     (SeesPoint-later c.point-start.new.pass.view old.view later.run later.seen 0 c.point-start.result c.point-start.ensures.found)
     c.tree-pair.ensures.found.written clear c.cost-edge.ensures.value (ap (λ p. p.view.hand) made)
+    (unskipped_later c.point-start.new.pass.view old.view later holds.hand
+    (unskipped_later c.args.pass.now.view c.point-start.new.pass.view c.point-start.ensures.goes_on.later holds.hand
+    (at_hand (IsUnskipped c.args.pass.now.view) c.args.pass.now.view.hand holds.hand holds.held c.requires.unskipped)))

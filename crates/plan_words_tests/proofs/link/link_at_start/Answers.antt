@@ -1,7 +1,12 @@
-use Rattle.std.proofs.Common.{ap, true}
+use Rattle.std.proofs.Common.{ap, refl, true}
 use Rattle.plan_words_tests.proofs.FirstRecords.{HangsFromStart-kept, HangsFromStart-linked}
+use Rattle.plan_words_tests.proofs.HeldMarks.{HoldsMark-kept, HoldsMark-linked, HoldsMark-unlinked}
 use Rattle.plan_words_tests.proofs.LinkedPlaces.{LeadsTo-start, of_hand}
+use Rattle.plan_words_tests.proofs.link.link_at_start.Given.{Over}
 use Rattle.plan_words_tests.proofs.link.link_at_start.Goals as goal
+use Rattle.plan_words_tests.proofs.link.link_at_start.Goals.{After-point-start}
+use Rattle.plan_words_tests.specs.HeldMarks.{HoldsMark}
+use Rattle.step_core.specs.declared.views.Stage.TheVariants.{Treed}
 use Rattle.step_core.specs.ViewTrees.{LeadsTo}
 
 pub link-requires-clause-leads : goal.link-requires-clause-leads
@@ -16,3 +21,19 @@ returns-clause-hangs g c =
     let hung = HangsFromStart-kept c.args.pass.now.view mid.view c.point-start.ensures.goes_on.later c.args.cost c.requires.hangs
     (ap (λ p. p.view.hand) c.point-start.ensures.view) in
     HangsFromStart-linked mid c.link.new.pass c.args.cost 0 true c.link.result c.link.ensures.goes_on.later hung c.link.ensures.view c.link.ensures.view_found
+
+-- the mark stays in hand while the start is looked at
+holds_mid : (g : Over) (c : After-point-start g) → HoldsMark c.args.shared.now c.args.mark Treed c.point-start.new.pass
+holds_mid g c =
+    HoldsMark-kept c.args.shared.now c.args.mark Treed c.args.pass.now c.point-start.new.pass _ c.point-start.ensures.view refl
+    c.point-start.ensures.goes_on c.requires.holds
+
+pub returns-clause-linked : goal.returns-clause-linked
+returns-clause-linked g c =
+    HoldsMark-linked c.args.shared.now c.args.mark 0 true c.point-start.new.pass c.link.new.pass c.link.result
+    (holds_mid g (goal.at.returns-clause-linked g c).After-point-start) c.link.ensures.goes_on c.link.ensures.view
+
+pub returns-clause-same : goal.returns-clause-same
+returns-clause-same g c =
+    HoldsMark-unlinked c.args.shared.now c.args.mark 0 true c.point-start.new.pass c.link.new.pass c.link.result
+    (holds_mid g (goal.at.returns-clause-same g c).After-point-start) c.link.ensures.goes_on c.link.ensures.view_found

@@ -1,6 +1,7 @@
 use Rattle.std.proofs.Common.{◌∙◌, ap, subst, sym}
 use Rattle.plan_model.specs.Runs.ClosedLaw.{mark_at}
 use Rattle.plan_model.specs.declared.records.Record.{Record}
+use Rattle.plan_words.proofs.PlainScenes.{no_goals}
 use Rattle.step_core.specs.ViewTrees.{SeesPoint}
 use Rattle.plan_words_tests.proofs.StartMarks.{may_finish-start}
 use Rattle.plan_words_tests.proofs.support.take_turn.Goals as goal
@@ -12,4 +13,6 @@ finish-requires-clause-may g c =
     let marks = ap (λ run. run.marks) holds.belongs.run in
     let same = ap (λ l. mark_at l holds.hand.mark) marks ∙ ap (mark_at c.args.shared.now.task.marks) holds.mark in
     may_finish-start view holds.hand c.unplaced-entry.result holds.held (subst (SeesPoint view 0) (sym same) c.expect_on_start.ensures.on_start)
-    (ap (λ (entry : Record). entry.nearest) c.unplaced-entry.ensures) (ap (λ (entry : Record). entry.outcome) c.unplaced-entry.ensures)
+    (ap (λ (entry : Record). entry.nearest) c.unplaced-entry.ensures)
+    (no_goals c.args.shared.now view holds.belongs.run (ap (λ t. t.scene.informed) (sym c.task.ensures) ∙ c.if-task.false))
+    (ap (λ (entry : Record). entry.outcome) c.unplaced-entry.ensures)

@@ -3,6 +3,8 @@ use Rattle.std.proofs.Common.{◌≡◌, false, refl, sym, ap, ◌∙◌, subst}
 use Rattle.plan_model.specs.Spaces.Clearance.{Clear}
 use Rattle.plan_model.specs.Trees.PointsByNumber.{point_of}
 use Rattle.plan_words.specs.States.{PassState, with_lists, with_view}
+use Rattle.plan_words.proofs.PlainScenes.{no_goals}
+use Rattle.step_core.specs.SeenBests.{IsUnskipped}
 use Rattle.step_core.specs.ViewSteps.{pointed}
 use Rattle.step_core.specs.ViewTrees.{SeesPoint}
 use Rattle.step_core.specs.Views.{sees, setup_in, tree_seen}
@@ -55,7 +57,7 @@ record_unplaced-requires-clause-may g c =
     let looked = steered g (goal.at.record_unplaced-requires-clause-may g c).After-steer_and_test-class in
     MayRecord-found c.args.shared.now c.args.pass.now c.steer_and_test-class.new.pass looked.hand c.args.k c.steer_and_test-class.result.0.nearest
     c.steer_and_test-class.result.0.from c.steer_and_test-class.result.0.point looked.keeps looked.steers looked.held looked.mark
-    c.steer_and_test-class.result.0.nearest (stands g (goal.at.record_unplaced-requires-clause-may g c).After-steer_and_test-class
+    c.requires.may.plain c.steer_and_test-class.result.0.nearest (stands g (goal.at.record_unplaced-requires-clause-may g c).After-steer_and_test-class
     (same_point-true c.steer_and_test-class.result.0.from c.steer_and_test-class.result.0.point (sym c.eq.ensures ∙ c.if-eq.true)))
 
 -- ---- the segment is not clear
@@ -103,8 +105,8 @@ pub record_unplaced-requires-in-Some-clause-may : goal.record_unplaced-requires-
 record_unplaced-requires-in-Some-clause-may g c =
     let has_looked = looked g (goal.at.record_unplaced-requires-in-Some-clause-may g c).After-find in
     MayRecord-found c.args.shared.now c.args.pass.now c.find.new.pass has_looked.hand c.args.k c.steer_and_test-class.result.0.nearest
-    c.steer_and_test-class.result.0.from c.steer_and_test-class.result.0.point has_looked.keeps has_looked.steers has_looked.held has_looked.mark c.in-Some.node
-    c.in-Some.ensures.found
+    c.steer_and_test-class.result.0.from c.steer_and_test-class.result.0.point has_looked.keeps has_looked.steers has_looked.held has_looked.mark
+    c.requires.may.plain c.in-Some.node c.in-Some.ensures.found
 
 pub record_unplaced-requires-then-not-is_clear-clause-may : goal.record_unplaced-requires-then-not-is_clear-clause-may
 record_unplaced-requires-then-not-is_clear-clause-may g c =
@@ -112,7 +114,7 @@ record_unplaced-requires-then-not-is_clear-clause-may g c =
     let has_looked = looked g here in
     MayRecord-blocked c.args.shared.now c.args.pass.now c.find.new.pass has_looked.hand c.args.k c.steer_and_test-class.result.0.nearest
     c.steer_and_test-class.result.0.from c.steer_and_test-class.result.0.point has_looked.keeps has_looked.steers has_looked.held has_looked.mark
-    c.in_default.ensures.free (blocked g here)
+    c.requires.may.plain c.in_default.ensures.free (blocked g here)
 
 -- ---- the segment is clear, and the point is written
 
@@ -121,6 +123,14 @@ write_point-requires-clause-steered g c =
     let looked = steered g (goal.at.write_point-requires-clause-steered g c).After-steer_and_test-class in
     IsSteered-found c.args.shared.now c.args.pass.now c.steer_and_test-class.new.pass looked.hand c.args.k c.steer_and_test-class.result.0.nearest
     c.steer_and_test-class.result.0.from c.steer_and_test-class.result.0.point looked.keeps looked.steers looked.held looked.mark
+
+-- no mark is skipped
+pub write_point-requires-clause-unskipped : goal.write_point-requires-clause-unskipped
+write_point-requires-clause-unskipped g c =
+    let looked = steered g (goal.at.write_point-requires-clause-unskipped g c).After-steer_and_test-class in
+    let view = c.steer_and_test-class.new.pass.view in
+    if_held view (IsUnskipped view) looked.hand looked.held
+    (λ informed. absurd (informed (no_goals c.args.shared.now view looked.keeps.belongs.run c.requires.may.plain)))
 
 abbrev Steered : (g : Over) → After-write_point g → Type 0
 Steered g c =
@@ -160,7 +170,7 @@ place_rewire_and_record-requires-clause-may g c κs within =
     let looked = steered g (goal.at.place_rewire_and_record-requires-clause-may g c).After-steer_and_test-class in
     MayPlace-written c.args.shared.now c.args.pass.now c.steer_and_test-class.new.pass looked.hand c.args.k c.steer_and_test-class.result.0.nearest
     c.steer_and_test-class.result.0.from c.steer_and_test-class.result.0.point looked.keeps looked.steers looked.held looked.mark c.write_point.new.pass
-    c.write_point.ensures.goes_on (writes g here looked) c.steer_and_test-class.ensures.bounded
+    c.write_point.ensures.goes_on (writes g here looked) c.requires.may.plain c.steer_and_test-class.ensures.bounded
     (subst (λ s. Clear s c.steer_and_test-class.result.0.from c.steer_and_test-class.result.0.point) c.requires.hall
     (c.steer_and_test-class.ensures.clear.0 c.if-not-is_clear.false))
 
@@ -225,7 +235,8 @@ returns-then-eq g c =
           c.record_unplaced.new.pass c.record_unplaced.result recorded m entry_is stands_there;
       textbook = λ alone book.
           AloneNext-found shared before found looked.hand c.args.k m from p looked.keeps looked.steers looked.held looked.mark
-          (whole_steered g here alone).0 alone book c.record_unplaced.new.pass c.record_unplaced.result recorded m entry_is stands_there;
+          (whole_steered g here alone).0 alone book c.record_unplaced.new.pass c.record_unplaced.result recorded c.requires.may.plain m entry_is
+          stands_there;
     }
 
 pub returns-in-Some : goal.returns-in-Some
@@ -251,7 +262,7 @@ returns-in-Some g c =
       textbook = λ alone book.
           AloneNext-found shared before found has_looked.hand c.args.k m from p has_looked.keeps has_looked.steers has_looked.held has_looked.mark
           (found_whole g at.After-find (steered g at.After-steer_and_test-class) (whole_steered g at.After-steer_and_test-class alone).0 alone) alone book
-          last entry recorded c.in-Some.node entry_is c.in-Some.ensures.found;
+          last entry recorded c.requires.may.plain c.in-Some.node entry_is c.in-Some.ensures.found;
     }
 
 pub returns-then-not-is_clear : goal.returns-then-not-is_clear
@@ -278,7 +289,7 @@ returns-then-not-is_clear g c =
       textbook = λ alone book.
           AloneNext-blocked shared before found has_looked.hand c.args.k m from p has_looked.keeps has_looked.steers has_looked.held has_looked.mark
           (found_whole g at.After-find (steered g at.After-steer_and_test-class) (whole_steered g at.After-steer_and_test-class alone).0 alone) alone book
-          last entry recorded c.in_default.ensures.free (blocked g at.After-find) entry_is;
+          last entry recorded c.requires.may.plain c.in_default.ensures.free (blocked g at.After-find) entry_is;
     }
 
 pub returns : goal.returns

@@ -2,7 +2,14 @@ use Rattle.std.proofs.Common.{refl}
 use Rattle.planner_main.specs.declared.commands.Command.TheVariants as commands
 use Rattle.planner_main.proofs.GivenAnswers.{Answers-success, Answers-no_memory}
 use Rattle.planner_main.proofs.Successes.{ReportsGrown-of_scene}
+use Rattle.scene_text.proofs.CoveredScenes.{informed-spelled}
 use Rattle.planner_main.proofs.answers.plan.Goals as goal
+
+-- a scene that was read is not informed
+pub run_by_workers-requires-clause-plain : goal.run_by_workers-requires-clause-plain
+run_by_workers-requires-clause-plain c =
+    let has = c.in_ok-scene.ensures.scene in
+    informed-spelled has.bytes c.in_ok-scene.scene has.spelled.spelled
 
 pub returns-in_err-grown : goal.returns-in_err-grown
 returns-in_err-grown g c =

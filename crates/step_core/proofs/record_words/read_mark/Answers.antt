@@ -1,5 +1,5 @@
 use Rattle.std.proofs.Common.{◌/◌, ◌^◌, ◌∙◌, bit_and, refl, sym, arith}
-use Rattle.step_core.proofs.ReadWords.{record_of_word-is, record_in-fourth}
+use Rattle.step_core.proofs.ReadWords.{record_of_word-is, record_in-skipped}
 use Rattle.step_core.proofs.record_words.read_mark.Goals as goal
 
 pub returns-in-0 : goal.returns-in-0
@@ -20,6 +20,6 @@ returns-in-2 c = record {
 pub returns-in_default : goal.returns-in_default
 returns-in_default c = record {
   read =
-      record_of_word-is c.args.word c.args.first (bit_and (c.args.word / 2 ^ 42) 3) c.fourth_in.result c.if-word-lt-WRITTEN.false refl
-      (c.fourth_in.ensures ∙ sym (record_in-fourth (bit_and (c.args.word / 2 ^ 42) 3) c.args.word c.args.first (grind arith)));
+      record_of_word-is c.args.word c.args.first (bit_and (c.args.word / 2 ^ 42) 3) c.skipped_in.result c.if-word-lt-WRITTEN.false refl
+      (c.skipped_in.ensures ∙ sym (record_in-skipped (bit_and (c.args.word / 2 ^ 42) 3) c.args.word c.args.first (grind arith)));
 }

@@ -15,6 +15,7 @@ use Rattle.plan_model.specs.Trees.TreeStates.{AreSameRuns, state_of}
 use Rattle.plan_model.specs.Vectors.Runs.{node}
 use Rattle.plan_model.specs.Vectors.Shapes.{at}
 use Rattle.plan_model.proofs.EmptyRoomClearance.{AreInRoom-from_clear}
+use Rattle.plan_model.proofs.GoalNodes.{no_goal_node}
 use Rattle.plan_model.proofs.LeastPairLaws.{IsNotAbove-refl}
 use Rattle.plan_model.proofs.OpenRoomMarks.{same_y}
 use Rattle.plan_model.proofs.SameTrees.{IsClosed-of_textbook}
@@ -74,10 +75,18 @@ second_is_blocked clear =
 run : IsTextbookRun low_setup marks three entries
 run = (
   two,
-  record { point = at 0 0; steers = record { nearest = start_of_one (at 0 0); reached = refl }; stands = refl; recorded = refl; added = refl },
+  record {
+    cheaper = λ i goal. absurd (no_goal_node (points_of one) i goal);
+    point = at 0 0;
+    steers = record { nearest = start_of_one (at 0 0); reached = refl };
+    stands = refl;
+    recorded = refl;
+    added = refl;
+  },
   (
     three,
     record {
+      cheaper = λ i goal. absurd (no_goal_node (points_of two) i goal);
       point = at 0 50;
       steers = record { nearest = start_of_two (at 0 50); reached = refl };
       free = second_is_free;

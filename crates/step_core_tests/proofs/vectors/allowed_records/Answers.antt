@@ -94,6 +94,7 @@ pub returns : goal.returns
 unfolding word_at
 returns c = record {
   placed = record {
+    unskipped = λ informed. absurd (informed refl);
     present = refl;
     nearest = nearest (counter_of 1280 1) (hand_at Counted 0 1280) (counted_by 1280 1) refl refl;
     outcome = record {
@@ -101,6 +102,7 @@ returns c = record {
       parent_is = refl;
       cost_is = refl;
       clear = clear;
+      posted = λ goal. cc;
       low = omega arith;
       high = omega arith;
       chosen = chosen 1280 1 1 (omega arith);
@@ -108,6 +110,7 @@ returns c = record {
     };
   };
   blocked = record {
+    unskipped = λ informed. absurd (informed refl);
     present = refl;
     nearest = nearest (claimer_in 8) (new_hand 0) (unplaced_record 0 0 0 Blocked) refl refl;
     outcome = record {
@@ -116,11 +119,13 @@ returns c = record {
     };
   };
   same = record {
+    unskipped = λ informed. absurd (informed refl);
     present = refl;
     nearest = nearest claimer_at_start (new_hand 0) (unplaced_record 0 0 0 (Same 0)) refl refl;
     outcome = refl;
   };
   dearer_past_the_radius = record {
+    unskipped = λ informed. absurd (informed refl);
     present = refl;
     nearest = nearest (counter_of 2000 2048) (hand_at Counted 0 2000) (counted_by 2000 12) refl refl;
     outcome = record {
@@ -128,6 +133,7 @@ returns c = record {
       parent_is = refl;
       cost_is = refl;
       clear = clear;
+      posted = λ goal. cc;
       low = omega arith;
       high = omega arith;
       chosen = past_the_radius;

@@ -2,14 +2,17 @@ use Rattle.std.proofs.Common.{◌≡◌, true, arith, refl, ap, inr}
 use Rattle.std.specs.Prelude.{◌≢◌}
 use Rattle.plan_model.specs.Geometry.Roots.{root_ceiling}
 use Rattle.plan_model.specs.Runs.OrderLaw.{IsAllowedEdge}
+use Rattle.plan_model.specs.Runs.Textbook.{mark_bound}
 use Rattle.plan_model.specs.Seen.Ways.IsOnWay.{begins, goes_on}
+use Rattle.plan_model.specs.Trees.GoalBounds.{bound_of}
 use Rattle.plan_model.specs.Vectors.Shapes.{at}
 use Rattle.plan_model.specs.declared.geometry.Point.{Point}
 use Rattle.plan_model.proofs.EmptyRoomClearance.{Clear-empty_room}
-use Rattle.plan_model.proofs.RootLaws.{root_ceiling-from_squares}
+use Rattle.plan_model.proofs.RootLaws.{root_ceiling-from_squares, root_ceiling-zero}
 use Rattle.step_core.specs.Views.{setup_in}
 use Rattle.step_core.specs.WordPlaces.{word_at}
-use Rattle.step_core_tests.specs.SmallWorlds.{small_run}
+use Rattle.step_core.specs.Words.{best_word, no_best}
+use Rattle.step_core_tests.specs.SmallWorlds.{goal_run, small_run}
 use Rattle.step_core_tests.proofs.vectors.allowed_steps.Goals as goal
 
 edge : root_ceiling 1638400 ≡ 1280
@@ -24,6 +27,11 @@ allowed = record {
       (record { horizontal = omega arith; vertical = omega arith });
   short = omega arith;
 }
+
+-- the edge to the mark, and on to it
+bound : mark_bound (setup_in goal_run) (at 8 9) ≡ 1280
+unfolding bound_of
+bound = omega (arith, edge, root_ceiling-zero)
 
 pub returns : goal.returns
 unfolding word_at
@@ -80,4 +88,17 @@ returns c = record {
   placed_when_counted = record { linked = refl; counted = refl };
   blocked_when_claimed = record { linked = refl; counted = refl };
   same_when_treed = record { linked = refl; counted = refl };
+  skipped_when_claimed = record { linked = refl; counted = refl };
+  posts_a_goal_node = record { part = omega arith; goal = refl; written = omega arith };
+  skips_by_a_path_at_the_bound = record {
+    claimed = refl;
+    word = best_word 1280 1;
+    taken = refl;
+    some_node = λ e. omega (arith, e);
+    node = refl;
+    within = omega (arith, bound);
+  };
+  goes_on_past_the_bound = λ informed. (best_word 1281 1, refl, λ some_node. omega (arith, bound));
+  goes_on_with_no_best = λ informed. (no_best, refl, λ some_node. absurd (some_node refl));
+  goes_on_where_none_is_skipped = λ informed. absurd (informed refl);
 }

@@ -10,8 +10,9 @@ use Rattle.plan_model.proofs.RootLaws.{root_ceiling-from_squares}
 use Rattle.step_core.specs.ViewSteps.{new_hand}
 use Rattle.step_core.specs.WordNames.Word.{ChildOf}
 use Rattle.step_core.specs.WordPlaces.{word_at}
+use Rattle.step_core.specs.Words.{best_word}
 use Rattle.step_core.specs.declared.views.Stage.TheVariants.{Half, Linked, Pointed, Treed}
-use Rattle.step_core_tests.specs.SmallWorlds.{hand_at}
+use Rattle.step_core_tests.specs.SmallWorlds.{hand_at, took_best}
 use Rattle.step_core_tests.proofs.vectors.unlawful_views.Goals as goal
 
 edge : root_ceiling 1638400 ≡ 1280
@@ -26,7 +27,7 @@ unfolding word_at
 returns c = record {
   opens_past_the_marks = λ h. (let e : 2 ≤ 1 = h.run.opening in omega (arith, e));
   no_workers = λ h. (let e : 0 < 0 = h.run.workers.0 in omega (arith, e));
-  too_few_places = λ h. (let e : 12 ≡ 13 = h.of_run.found_zero in omega (arith, e));
+  too_few_places = λ h. (let e : 13 ≡ 14 = h.of_run.found_zero in omega (arith, e));
   limit_past_marks = λ h. (let e : 2 ≤ 1 = h.most in omega (arith, e));
   share_too_many = λ h. (let e : 3 ≤ 2 = h.crew in omega (arith, e));
   hand_without_share = λ h. (let e : Some (new_hand 0) ≡ None = h.idle refl in cc);
@@ -64,5 +65,7 @@ returns c = record {
   above_its_first_cost = λ h. (let e : 1281 ≤ 1280 = (h.pairs 1 (omega arith)).first (omega arith) in omega (arith, e));
   count_past_the_marks = λ h. (let e : 3 ≤ 2 = h.count in omega (arith, e));
   counter_past_the_marks = λ h. (let e : 2 ≤ 1 = h.counter 0 (omega arith) in omega (arith, e));
+  best_past_a_recorded_goal_node = λ h. (let e : best_word 1281 1 ≤ best_word 1280 1 = h.best 1 refl refl in omega (arith, e));
+  took_less_than_the_best = λ h. (let e : best_word 1280 1 ≤ best_word 1279 1 = (h.taken (took_best (best_word 1279 1)) (best_word 1279 1) refl refl).0 in omega (arith, e));
   whole_below_its_edge = λ h. (let e : 0 + root_ceiling 1638400 ≤ 1279 = ((h.order refl).hangs 0 refl).above in omega (arith, e, edge));
 }

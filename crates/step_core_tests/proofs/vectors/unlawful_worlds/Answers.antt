@@ -11,11 +11,11 @@ use Rattle.step_core.specs.Views.{IsViewOf, sees, share, spent}
 use Rattle.step_core.specs.WordNames.{Word, Words}
 use Rattle.step_core.specs.WordNames.Word.{ChildOf, Count, Counter}
 use Rattle.step_core.specs.WordPlaces.{word_at}
-use Rattle.step_core.specs.Words.{point_word, tree_word}
+use Rattle.step_core.specs.Words.{best_word, no_best, point_word, tree_word}
 use Rattle.step_core.specs.Worlds.{HasCopy, HasMade, IsRecordWord}
-use Rattle.step_core.specs.declared.views.Stage.TheVariants.{Half, Linked, Pointed, Treed}
+use Rattle.step_core.specs.declared.views.Stage.TheVariants.{Half, Linked, Pointed, Posted, Treed}
 use Rattle.step_core.specs.declared.views.View.{View}
-use Rattle.step_core_tests.specs.SmallWorlds.{filled_at, hand_at, idle, linked_table, never, small_run, view_with, worker_at}
+use Rattle.step_core_tests.specs.SmallWorlds.{filled_at, hand_at, idle, linked_table, never, small_run, took_best, view_with, worker_at}
 use Rattle.step_core_tests.proofs.vectors.unlawful_worlds.Goals as goal
 
 edge : root_ceiling 1638400 ≡ 1280
@@ -101,10 +101,22 @@ returns c = record {
   counter_seen_by_none = λ h. neither 0 1 (λ e. omega (arith, e)) (copy_of_two _ _ _ (Counter 0) (h.copies (Counter 0) (omega arith)));
   looked_later = λ h. (let e : 4 ≤ 3 = (of_run _ refl (h.of_run 1 _ refl)).looks Count in omega (arith, e));
   found_zero_later = λ h. (let e : 4 ≤ 3 = (of_run _ refl (h.of_run 1 _ refl)).zero_looks (ChildOf 0 true) in omega (arith, e));
-  too_few_words = λ h. (let e : 12 ≡ 13 = (of_run _ refl (h.of_run 1 _ refl)).looked in omega (arith, e));
+  too_few_words = λ h. (let e : 13 ≡ 14 = (of_run _ refl (h.of_run 1 _ refl)).looked in omega (arith, e));
   found_empty_when_filled = λ h. (let e : 3 ≤ 2 = h.empties.filled 0 true (λ zero. omega (arith, zero)) 1 _ refl in omega (arith, e));
   noted_too_many_steps =
       λ h. made_four (view_with (worker_at 0 0) 1 (Some (hand_at Linked 0 1280)) linked_table never (filled_at (3 ∷ 4 ∷ []))) (idle linked_table)
-      refl refl (h.empties.made 4 1);
+      refl refl (h.empties.made 5 1);
+  best_of_no_goal_node = λ h. (let e : false ≡ true = (h.best.pair (λ e. omega (arith, e))).0 in cc);
+  best_of_no_node = λ h. (let e : false ≡ true = (h.best.pair (λ e. omega (arith, e))).0 in cc);
+  best_below_the_cost = λ h. (let e : 1280 ≤ 1279 = (h.best.pair (λ e. omega (arith, e))).1 in omega (arith, e));
+  recorded_goal_node_is_no_best = λ h. (let e : no_best ≤ best_word 1280 1 = h.best.placed 1 refl refl in omega (arith, e));
+  best_above_a_recorded_goal_node = λ h. (let e : best_word 1281 1 ≤ best_word 1280 1 = h.best.placed 1 refl refl in omega (arith, e));
+  saw_a_best_that_is_not = λ h. (let e : no_best ≤ best_word 1280 1 = (h.bests 0 _ refl refl).falls in omega (arith, e));
+  saw_no_goal_node_as_best = λ h. (let e : false ≡ true = ((h.bests 0 _ refl refl).pair (λ e. omega (arith, e))).0 in cc);
+  saw_recorded_goal_node_and_no_best = λ h. (let e : no_best ≤ best_word 1280 1 = (h.bests 1 _ refl refl).placed 1 refl refl in omega (arith, e));
+  took_no_goal_node =
+      λ h. (let e : false ≡ true = ((h.bests 0 _ refl refl).taken_pair (took_best (best_word 0 0)) (best_word 0 0) refl refl (λ e. omega (arith, e))).0 in cc);
+  posted_and_saw_no_best =
+      λ h. (let e : no_best ≤ best_word 1280 1 = (h.bests 0 _ refl refl).posted (hand_at Posted 0 1280) refl refl in omega (arith, e));
   recorded_by_no_worker = λ h. (let e : 2 < 2 = h.records.own_workers 0 (placed_by 2 0 0 0 1280 1) refl (omega arith) in omega (arith, e));
 }

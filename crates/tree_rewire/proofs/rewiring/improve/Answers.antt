@@ -45,7 +45,7 @@ lowers-preserved c =
     record {
       steps = PassSees-trans NamesTree c.args.shared.now c.args.pass.now c.lowers.pass c.lower-found.new.pass h.steps
           (PassSees-lower c.args.shared.now c.lowers.pass c.lower-found.new.pass c.args.node c.args.parent _ _ _ c.lower-found.result h.steps.belongs
-          lower.view lower.view_found lower.goes_on lower.seen);
+          (lower.view c.requires.plain) lower.view_found lower.goes_on lower.seen);
       others = λ m apart. lower.seen.others (TreeOf m) (λ e. apart (let own : m ≡ c.args.node = cc in own)) ∙ h.others m apart;
       pair = lower.falls.written;
       whole = λ all.
@@ -57,7 +57,7 @@ lowers-preserved c =
           elim (h.whole all) [
             | inl same ↦
                 let is = on_ok c.lower-found.result (c.lower-found.new.pass ≡ with_view c.lowers.pass (lowered now c.args.node c.args.parent most))
-                (lower.whole (HasWholeShare-later NamesTree before now h.steps.sees_anew all)) lower.view in
+                (lower.whole (HasWholeShare-later NamesTree before now h.steps.sees_anew all)) (lower.view c.requires.plain) in
                 let writes = WritesWord-lowered now c.lower-found.new.pass.view c.args.node c.args.parent most h.steps.sees_anew.goes_on.lawful h.pair
                 (ap (λ (p : PassState). p.view) is) in
                 inr (record {

@@ -1,6 +1,7 @@
 use Rattle.std.proofs.Common.{◌≡◌, ◌⊎◌, ◌+◌, ◌<◌, ◌≤◌, Some, None, ap, arith, inl, inr, length, refl, subst, sym, ◌∙◌}
 use Rattle.plan_words.specs.States.{HasWholeShare, with_lists}
 use Rattle.plan_words.specs.Waiting.{IsOn}
+use Rattle.plan_words.proofs.Posting.{HasPostedHand-calm}
 use Rattle.step_core.specs.declared.views.SharedRun.{SharedRun}
 use Rattle.tree_rewire.specs.SeenCosts.{NamesTreeOrPoint, PassLowers, cost_seen}
 use Rattle.tree_rewire.specs.Spreads.{IsSpreading, NoneRises, QueuesFallen}
@@ -21,6 +22,11 @@ lowers c =
 
 whole_now : (c : After-lower_children) → HasWholeShare c.args.pass.now.view → HasWholeShare c.tries.pass.view
 whole_now c all = HasWholeShare-later NamesTreeOrPoint c.args.pass.now.view c.tries.pass.view c.tries.invariant.steps.sees_anew all
+
+pub lower_children-requires-clause-posted : goal.lower_children-requires-clause-posted
+lower_children-requires-clause-posted c =
+    let steps = c.tries.invariant.steps in
+    HasPostedHand-calm c.args.shared.now c.tries.pass.view steps.belongs.run c.requires.plain
 
 pub queue_parent-requires : goal.queue_parent-requires
 queue_parent-requires c =

@@ -18,7 +18,7 @@ all_steps c =
     (PassSees-more NamesPoint NamesTreeOrPoint shared c.lowers.pass c.looser.new.pass TreeOrPoint-point looks)
     (PassSees-more NamesTree NamesTreeOrPoint shared c.looser.new.pass c.lower-found.new.pass TreeOrPoint-tree
     (PassSees-lower shared c.looser.new.pass c.lower-found.new.pass c.args.node c.in-Some.parent c.in-Some.cost _ _ c.lower-found.result looks.belongs
-    lower.view lower.view_found lower.goes_on lower.seen)))
+    (lower.view c.requires.plain) lower.view_found lower.goes_on lower.seen)))
 
 only_here : (c : After-lower-found) → OnlyAt c.args.node c.args.pass.now.view c.lower-found.new.pass.view
 only_here c m apart =

@@ -14,7 +14,7 @@ returns-clause-back c =
     λ scene converted tree records h. IsTextbookRun-same_inputs converted scene tree records (HaveSameInputs-unconverted scene converted h)
 
 pub returns-clause-report : goal.returns-clause-report
-returns-clause-report c = λ scene converted limit state h. report_text-same_goals scene converted limit state h.goals
+returns-clause-report c = λ scene converted limit state h. report_text-same_goals scene converted limit state h.goals h.informed
 
 pub returns-clause-summary : goal.returns-clause-summary
-returns-clause-summary c = λ scene converted limit state h. summary-same_goals scene converted limit state h.goals
+returns-clause-summary c = λ scene converted limit state h. summary-same_goals scene converted limit state h.goals h.informed

@@ -1,4 +1,5 @@
-use Rattle.plan_model.proofs.SettledRuns.{IsGoalNode-grows, best_sum-grows, sum_in-grows}
+use Rattle.plan_model.proofs.GoalNodes.{IsGoalNode-grows}
+use Rattle.plan_model.proofs.SettledRuns.{best_sum-grows, sum_in-grows}
 use Rattle.plan_model.proofs.laws.settled_runs.sums_of_settled_runs_fall.Goals as goal
 
 pub returns-clause-sums : goal.returns-clause-sums

@@ -1,107 +1,52 @@
-use Rattle.std.proofs.Common.{◌≢◌, ap, arith, subst, sym, ◌∙◌}
+use Rattle.std.proofs.Common.{◌≡◌, ◌≤◌, ap, refl, subst, sym, ◌∙◌}
 use Rattle.std.specs.Prelude.{is_some}
-use Rattle.plan_words.proofs.LookedNodes.{IsEdgeSeen-pair}
-use Rattle.plan_words.proofs.LoweredNodes.{found_less, found_pair, found_pass, found_writes, lowered_less, lowered_pass, lowered_writes}
+use Rattle.plan_words.proofs.GoingOn.{BelongsTo-later, GoesOn-trans}
+use Rattle.plan_words.proofs.KeptPairs.{fits_word}
+use Rattle.plan_words.proofs.Posting.{OnlyPosts-after, goal-later}
 use Rattle.plan_words.proofs.shared.Shared.lower.Goals as goal
-use Rattle.step_core.specs.LaterViews.{IsLawfulView}
-use Rattle.step_core.specs.ViewTrees.{MayLower}
+use Rattle.plan_words.specs.States.{PassState}
+use Rattle.step_core.specs.ViewSteps.{lowered}
 use Rattle.step_core.specs.Views.{sees}
 use Rattle.step_core.specs.WordNames.Word.{TreeOf}
+use Rattle.step_core.specs.Words.{best_word, cost_in, tree_word}
+use Rattle.step_core.proofs.PackedWords.{cost_in-tree_word}
+use Rattle.step_core.proofs.SeenByViews.{WritesWord-saw}
+use Rattle.step_core.proofs.SeenViews.{IsPresent-later}
 
-pub word-seen-requires : goal.word-seen-requires
-word-seen-requires c =
-    let lawful = c.pass.invariant.1.lawful in
-    let may = subst (λ p. MayLower p.view c.args.node c.args.parent c.args.cost) (sym c.pass.view_is) c.requires.may in
-    let node = lawful.tree.rooted.points c.args.node (ap is_some may.seen.stands) in
-    omega (arith, c.pass.invariant.3.for_each, lawful.within c.args.node node)
+pub returns-in_err-lower_pair-clause-whole : goal.returns-in_err-lower_pair-clause-whole
+returns-in_err-lower_pair-clause-whole c all = let no = c.in_err-lower_pair.ensures.whole all in cc
 
-pub returns-then-found-seen-clause-view : goal.returns-then-found-seen-clause-view
-returns-then-found-seen-clause-view c =
-    let lawful = c.pass.invariant.1.lawful in
-    let may = subst (λ p. MayLower p.view c.args.node c.args.parent c.args.cost) (sym c.pass.view_is) c.requires.may in
+pub post_lowered-requires-clause-belongs : goal.post_lowered-requires-clause-belongs
+post_lowered-requires-clause-belongs c =
+    BelongsTo-later c.args.self.now c.args.pass.now c.lower_pair.new.pass (ap (λ (p : PassState). p.table) c.in_ok-lower_pair.ensures.view)
+    c.in_ok-lower_pair.ensures.goes_on c.requires.belongs
+
+pub post_lowered-requires-clause-present : goal.post_lowered-requires-clause-present
+post_lowered-requires-clause-present c =
+    let later = c.in_ok-lower_pair.ensures.goes_on.later in
+    IsPresent-later c.args.pass.now.view c.lower_pair.new.pass.view later.run later.seen c.args.node (ap is_some c.requires.may.seen.stands)
+
+pub returns-then-self-clause-kept : goal.returns-then-self-clause-kept
+returns-then-self-clause-kept c =
+    OnlyPosts-after c.args.node c.args.pass.now c.lower_pair.new.pass c.post_lowered.new.pass
+    (lowered c.args.pass.now.view c.args.node c.args.parent c.args.cost) c.in_ok-lower_pair.ensures.view refl refl refl c.post_lowered.ensures.kept
+
+pub returns-then-self-clause-goes_on : goal.returns-then-self-clause-goes_on
+returns-then-self-clause-goes_on c =
+    GoesOn-trans c.args.pass.now.view c.lower_pair.new.pass.view c.post_lowered.new.pass.view c.in_ok-lower_pair.ensures.goes_on
+    c.post_lowered.ensures.goes_on
+
+pub returns-then-self-clause-posted : goal.returns-then-self-clause-posted
+returns-then-self-clause-posted c here =
+    let before = c.args.pass.now.view in
+    let mid = c.lower_pair.new.pass.view in
+    let may = c.requires.may in
+    let lawful = c.requires.belongs.lawful in
     let within = lawful.within c.args.node (lawful.tree.rooted.points c.args.node (ap is_some may.seen.stands)) in
-    let seen = c.word-seen.ensures
-    ∙ c.pass.invariant.3.seen c.args.node within ∙ ap (λ p. sees p.view (TreeOf c.args.node)) c.pass.view_is in
-    let was = subst (λ p. IsLawfulView p.view) c.pass.view_is lawful in
-    lowered_pass _ _ c.args.node c.args.parent c.args.cost _ was c.requires.may c.exchange_tree-found.ensures.view (c.if-found-seen.true ∙ seen)
-
-pub returns-then-found-seen-clause-seen : goal.returns-then-found-seen-clause-seen
-returns-then-found-seen-clause-seen c =
-    let lawful = c.pass.invariant.1.lawful in
-    let may = subst (λ p. MayLower p.view c.args.node c.args.parent c.args.cost) (sym c.pass.view_is) c.requires.may in
-    let within = lawful.within c.args.node (lawful.tree.rooted.points c.args.node (ap is_some may.seen.stands)) in
-    let seen = c.word-seen.ensures
-    ∙ c.pass.invariant.3.seen c.args.node within ∙ ap (λ p. sees p.view (TreeOf c.args.node)) c.pass.view_is in
-    let was = subst (λ p. IsLawfulView p.view) c.pass.view_is lawful in
-    lowered_writes _ _ c.args.node c.args.parent c.args.cost _ was c.requires.may c.exchange_tree-found.ensures.view (c.if-found-seen.true ∙ seen)
-
-pub returns-then-found-seen-clause-falls : goal.returns-then-found-seen-clause-falls
-returns-then-found-seen-clause-falls c =
-    let lawful = c.pass.invariant.1.lawful in
-    let may = subst (λ p. MayLower p.view c.args.node c.args.parent c.args.cost) (sym c.pass.view_is) c.requires.may in
-    let within = lawful.within c.args.node (lawful.tree.rooted.points c.args.node (ap is_some may.seen.stands)) in
-    let seen = c.word-seen.ensures
-    ∙ c.pass.invariant.3.seen c.args.node within ∙ ap (λ p. sees p.view (TreeOf c.args.node)) c.pass.view_is in
-    let was = subst (λ p. IsLawfulView p.view) c.pass.view_is lawful in
-    lowered_less _ _ c.args.node c.args.parent c.args.cost _ was c.requires.may c.exchange_tree-found.ensures.view (c.if-found-seen.true ∙ seen)
-
-pub returns-clause-view_found : goal.returns-clause-view_found
-returns-clause-view_found c =
-    let lawful = c.pass.invariant.1.lawful in
-    let may = subst (λ p. MayLower p.view c.args.node c.args.parent c.args.cost) (sym c.pass.view_is) c.requires.may in
-    let within = lawful.within c.args.node (lawful.tree.rooted.points c.args.node (ap is_some may.seen.stands)) in
-    let seen = c.word-seen.ensures
-    ∙ c.pass.invariant.3.seen c.args.node within ∙ ap (λ p. sees p.view (TreeOf c.args.node)) c.pass.view_is in
-    let was = subst (λ p. IsLawfulView p.view) c.pass.view_is lawful in
-    let other : c.exchange_tree-found.result ≢ sees c.args.pass.now.view (TreeOf c.args.node) = λ same. c.if-found-seen.false (same ∙ sym seen) in
-    found_pass _ _ c.args.node c.args.parent c.args.cost _ was c.requires.may c.exchange_tree-found.ensures.view other
-    (c.exchange_tree-found.ensures.found other)
-
-pub returns-clause-found : goal.returns-clause-found
-returns-clause-found c =
-    let lawful = c.pass.invariant.1.lawful in
-    let may = subst (λ p. MayLower p.view c.args.node c.args.parent c.args.cost) (sym c.pass.view_is) c.requires.may in
-    let within = lawful.within c.args.node (lawful.tree.rooted.points c.args.node (ap is_some may.seen.stands)) in
-    let seen = c.word-seen.ensures
-    ∙ c.pass.invariant.3.seen c.args.node within ∙ ap (λ p. sees p.view (TreeOf c.args.node)) c.pass.view_is in
-    let was = subst (λ p. IsLawfulView p.view) c.pass.view_is lawful in
-    let other : c.exchange_tree-found.result ≢ sees c.args.pass.now.view (TreeOf c.args.node) = λ same. c.if-found-seen.false (same ∙ sym seen) in
-    found_pair _ _ c.args.node c.args.parent c.args.cost _ was c.requires.may c.exchange_tree-found.ensures.view other
-    (c.exchange_tree-found.ensures.found other) c.pair_in.result
-    c.pair_in.ensures.parent c.pair_in.ensures.cost
-
-pub returns-clause-edge_found : goal.returns-clause-edge_found
-returns-clause-edge_found c = IsEdgeSeen-pair _ _ c.args.node _ c.exchange_tree-found.ensures.goes_on (returns-clause-found c)
-
-pub returns-clause-seen : goal.returns-clause-seen
-returns-clause-seen c =
-    let lawful = c.pass.invariant.1.lawful in
-    let may = subst (λ p. MayLower p.view c.args.node c.args.parent c.args.cost) (sym c.pass.view_is) c.requires.may in
-    let within = lawful.within c.args.node (lawful.tree.rooted.points c.args.node (ap is_some may.seen.stands)) in
-    let seen = c.word-seen.ensures
-    ∙ c.pass.invariant.3.seen c.args.node within ∙ ap (λ p. sees p.view (TreeOf c.args.node)) c.pass.view_is in
-    let was = subst (λ p. IsLawfulView p.view) c.pass.view_is lawful in
-    let other : c.exchange_tree-found.result ≢ sees c.args.pass.now.view (TreeOf c.args.node) = λ same. c.if-found-seen.false (same ∙ sym seen) in
-    found_writes _ _ c.args.node c.args.parent c.args.cost _ was c.requires.may c.exchange_tree-found.ensures.view other
-    (c.exchange_tree-found.ensures.found other)
-
-pub returns-clause-falls : goal.returns-clause-falls
-returns-clause-falls c =
-    let lawful = c.pass.invariant.1.lawful in
-    let may = subst (λ p. MayLower p.view c.args.node c.args.parent c.args.cost) (sym c.pass.view_is) c.requires.may in
-    let within = lawful.within c.args.node (lawful.tree.rooted.points c.args.node (ap is_some may.seen.stands)) in
-    let seen = c.word-seen.ensures
-    ∙ c.pass.invariant.3.seen c.args.node within ∙ ap (λ p. sees p.view (TreeOf c.args.node)) c.pass.view_is in
-    let was = subst (λ p. IsLawfulView p.view) c.pass.view_is lawful in
-    let other : c.exchange_tree-found.result ≢ sees c.args.pass.now.view (TreeOf c.args.node) = λ same. c.if-found-seen.false (same ∙ sym seen) in
-    found_less _ _ c.args.node c.args.parent c.args.cost _ was c.requires.may c.exchange_tree-found.ensures.view other
-    (c.exchange_tree-found.ensures.found other)
-
-pub returns-clause-whole : goal.returns-clause-whole
-returns-clause-whole c all =
-    let lawful = c.pass.invariant.1.lawful in
-    let may = subst (λ p. MayLower p.view c.args.node c.args.parent c.args.cost) (sym c.pass.view_is) c.requires.may in
-    let within = lawful.within c.args.node (lawful.tree.rooted.points c.args.node (ap is_some may.seen.stands)) in
-    let seen = c.word-seen.ensures
-    ∙ c.pass.invariant.3.seen c.args.node within ∙ ap (λ p. sees p.view (TreeOf c.args.node)) c.pass.view_is in
-    absurd (c.if-found-seen.false (c.exchange_tree-found.ensures.whole all ∙ sym seen))
+    let wrote =
+    ap (λ (p : PassState). sees p.view (TreeOf c.args.node)) c.in_ok-lower_pair.ensures.view
+    ∙ (WritesWord-saw before.run before lawful.of_run (TreeOf c.args.node) within (sees before (TreeOf c.args.node)) (tree_word c.args.parent c.args.cost)).here in
+    let fits = fits_word before may.at c.args.parent c.args.cost lawful may.below in
+    let cost = ap cost_in wrote ∙ cost_in-tree_word c.args.parent c.args.cost fits.0 fits.1 in
+    subst (λ x. c.post_lowered.new.pass.view.best ≤ best_word x c.args.node) cost
+    (c.post_lowered.ensures.posted (goal-later before mid c.args.node may.at c.in_ok-lower_pair.ensures.goes_on may.seen.stands here))

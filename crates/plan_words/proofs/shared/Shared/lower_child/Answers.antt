@@ -2,7 +2,8 @@ use Rattle.std.proofs.Common.{◌≡◌, ◌+◌, ◌<◌, ap, arith, inl, inr, 
 use Rattle.std.specs.Prelude.{cond}
 use Rattle.std.proofs.lemmas.Bool.{cases_lt, eq-eqb}
 use Rattle.plan_model.specs.Geometry.Cost.{cost_of}
-use Rattle.plan_words.proofs.ChildCosts.{CostsAtMostThrough-looked, CostsAtMostThrough-lowered, HasSeenParent-lowered, MayLower-child, own_mid}
+use Rattle.plan_words.proofs.ChildCosts.{CostsAtMostThrough-looked, CostsAtMostThrough-lowered, HasSeenParent-lowered, MayLower-child, cost-lowered, own_mid}
+use Rattle.plan_words.proofs.Posting.{goal-goes_on}
 use Rattle.plan_words.proofs.SeatSteps.{LooksOn-trans}
 use Rattle.plan_words.proofs.shared.Shared.lower_child.Goals as goal
 use Rattle.plan_words.proofs.shared.Shared.lower_child.Goals.{After-cost}
@@ -69,6 +70,24 @@ returns-then-found-seen-clause-is c =
       CostsAtMostThrough-lowered before mid c.args.above c.args.child at point.looks point.same c.requires.above c.requires.child point.found cost cost_is under
           after c.exchange_at-found.ensures.looks.goes_on here c.exchange_at-found.ensures.others,
     )
+
+pub returns-then-found-seen-clause-posted : goal.returns-then-found-seen-clause-posted
+returns-then-found-seen-clause-posted c changed on_goal =
+    let before = c.args.seat.now.me.0 in
+    let mid = c.point_at-point.new.seat.me.0 in
+    let after = c.exchange_at-found.new.seat.me.0 in
+    let point = c.point_at-point.ensures in
+    let at = c.point_at-point.result in
+    let cost = c.args.above.cost + c.cost.result in
+    let cost_is : cost ≡ c.args.above.cost + cost_of c.args.above.point at = omega (arith, c.cost.ensures.value) in
+    let under = less (goal.at.returns-then-found-seen-clause-posted c).After-cost in
+    let here : sees after (TreeOf c.args.child) ≡ tree_word c.args.above.node cost =
+    c.exchange_at-found.ensures.here
+    ∙ ap (λ b. cond b (tree_word c.args.above.node cost) c.exchange_at-found.result) (eq-eqb c.exchange_at-found.result c.args.seen c.if-found-seen.true) in
+    let level = cost-lowered before mid c.args.above c.args.child at point.looks point.same c.requires.above c.requires.child point.found cost cost_is under
+    after c.exchange_at-found.ensures.looks.goes_on here c.exchange_at-found.ensures.others in
+    let posted = c.exchange_at-found.ensures.posted c.if-found-seen.true (goal-goes_on before mid c.args.child point.looks.goes_on on_goal) in
+    omega (arith, posted, level, ap cost_in c.pack_tree.ensures)
 
 pub returns-then-found-seen-clause-points : goal.returns-then-found-seen-clause-points
 returns-then-found-seen-clause-points c all n = c.exchange_at-found.ensures.points n ∙ c.point_at-point.ensures.whole all (PointOf n)

@@ -1,10 +1,10 @@
 use Rattle.std.proofs.Common.{◌≡◌, ◌⊎◌, ◌+◌, ◌≤◌, ◌^◌, ℕ, ap, arith, inl, inr, length, subst, sym, ◌∙◌}
 use Rattle.plan_words.specs.LoweredChildren.{HasQueued, LooksOn, SeesSamePoints}
-use Rattle.plan_words.specs.States.{HasWholeShare}
+use Rattle.plan_words.specs.States.{GoesOn, HasWholeShare}
 use Rattle.plan_words.specs.Waiting.{HasSeenParent, IsOn}
 use Rattle.plan_words.proofs.ChildCosts.{HasSeenParent-kept}
 use Rattle.plan_words.proofs.KeptPairs.{keeps_parent}
-use Rattle.plan_words.proofs.LoweredChains.{HasQueued-since, LowersChildren-since}
+use Rattle.plan_words.proofs.LoweredChains.{HasQueued-since, LowersChildren-since, PostsChanged-since}
 use Rattle.plan_words.proofs.SeatSteps.{Keeps-looked, LooksOn-loaded, LooksOn-trans, whole_later}
 use Rattle.plan_words.proofs.SeenChildren.{HasFirstPairs-all, pair-seen, within-written}
 use Rattle.plan_words.proofs.shared.Shared.lower_children.Goals as goal
@@ -122,6 +122,21 @@ returns-clause-lowered c =
     let at = (goal.at.returns-clause-lowered c).After-lower_children in
     LowersChildren-since c.args.pass.now.view c.pass.inside.seat.me.0 c.lower_children.new.seat.me.0 c.args.node (same_at at)
     (λ n. c.in_ok-child.child ≡ n) c.in_ok-child.ensures.lowered
+
+at_point : (c : After-lower_children) → GoesOn c.args.pass.now.view c.pass.inside.seat.me.0
+at_point c = subst (λ p. GoesOn c.args.pass.now.view p.view) (sym c.pass.view_is) c.point-point.ensures.goes_on
+
+pub returns-clause-posted : goal.returns-clause-posted
+returns-clause-posted c =
+    let at = (goal.at.returns-clause-posted c).After-lower_children in
+    PostsChanged-since c.args.pass.now.view c.pass.inside.seat.me.0 c.lower_children.new.seat.me.0 c.args.node (same_at at)
+    (λ n. c.in_ok-child.child ≡ n) (at_point at) c.in_ok-child.ensures.posted
+
+pub returns-in_err-child-clause-posted : goal.returns-in_err-child-clause-posted
+returns-in_err-child-clause-posted c n off changed on_goal =
+    let at = (goal.at.returns-in_err-child-clause-posted c).After-lower_children in
+    PostsChanged-since c.args.pass.now.view c.pass.inside.seat.me.0 c.lower_children.new.seat.me.0 c.args.node (same_at at)
+    (λ n. ⊥) (at_point at) c.in_err-child.ensures.posted n (λ no. no) changed on_goal
 
 pub returns-clause-parents : goal.returns-clause-parents
 returns-clause-parents c n m off off_too less own =

@@ -2,9 +2,9 @@ use Rattle.std.proofs.Common.{◌∙◌, ap, refl}
 use Rattle.std.specs.Prelude.{slice_index}
 use Rattle.std.proofs.lemmas.Result.{IfOk-weaker}
 use Rattle.plan_model.specs.Runs.Turns.{turns_of}
-use Rattle.plan_words.proofs.Dealing.{MayClaim-starts, StartsAs-pass, sees-started}
+use Rattle.plan_words.proofs.Dealing.{IsLeastBest-written, MayClaim-starts, StartsAs-pass, sees-started, without_best-written}
 use Rattle.plan_words.proofs.shared.Shared.start.Goals as goal
-use Rattle.plan_words.specs.States.{first_view, new_pass}
+use Rattle.plan_words.specs.States.{first_view, new_pass, without_best}
 use Rattle.plan_words.specs.declared.openings.Opening.{Opening}
 use Rattle.step_core.specs.GrownRuns.{words_of_grown}
 use Rattle.step_core.specs.GrownWords.{record_at}
@@ -13,18 +13,34 @@ use Rattle.step_core.specs.RunWords.{words_in}
 
 pub deal-requires-clause-turns : goal.deal-requires-clause-turns
 deal-requires-clause-turns c w low =
-    let grown = c.args.grown in
+    let grown = c.write_best.new.self in
     ap (λ l. slice_index l w) c.as_slice.ensures.value
     ∙ c.in_ok-turns.ensures.each w low
     ∙ ap (λ words. turns_of (record_at (words_in words)) (sizes_in words.places).marks w) c.words.ensures
     ∙ ap (λ s. turns_of (record_at (words_of_grown grown)) s.marks w) grown.of_task
 
+pub invariant_of-deal : goal.invariant_of-deal
+invariant_of-deal c = record {
+  some = c.requires.some;
+  few = c.requires.few;
+  best = IsLeastBest-written c.args.grown c.write_best.new.self c.write_best.ensures.task c.write_best.ensures.words c.write_best.ensures.best;
+}
+
 pub returns-clause-passes : goal.returns-clause-passes
 returns-clause-passes c =
-    let opening : Opening = record { grown = c.args.grown; workers = c.args.workers; some = c.requires.some; few = c.requires.few } in
+    let grown = c.write_best.new.self in
+    let opening : Opening = record {
+      grown = grown;
+      workers = c.args.workers;
+      some = c.requires.some;
+      few = c.requires.few;
+      best = IsLeastBest-written c.args.grown grown c.write_best.ensures.task c.write_best.ensures.words c.write_best.ensures.best;
+    } in
     IfOk-weaker c.deal.result _ _
     (λ started dealt w pass e.
-    StartsAs-pass started.0 c.args.grown (new_pass started.0.table (first_view opening)) w pass (sees-started opening) refl (dealt w pass e))
+    StartsAs-pass started.0 c.args.grown (new_pass started.0.table (first_view opening)) w pass
+    (ap without_best (sees-started opening)
+    ∙ without_best-written (words_of_grown c.args.grown) (words_of_grown grown) _ c.write_best.ensures.words) c.write_best.ensures.limit (dealt w pass e))
     c.deal.ensures.passes
 
 pub returns-clause-may_claim : goal.returns-clause-may_claim

@@ -40,7 +40,7 @@ nearest-nearest-requires-clause-near g c =
 pub returns-then-eq : goal.returns-then-eq
 returns-then-eq g c =
     let steers =
-    Steers-read c.args.scene.now c.args.self.now c.args.mark c.len-turn.result (search (rules, c.len-turn.ensures))
+    Steers-read c.args.scene.now c.args.self.now c.args.mark c.len-turn.result c.requires.cheaper (search (rules, c.len-turn.ensures))
     c.requires.turn c.nearest-nearest.ensures c.point-from.ensures c.steer-point.ensures.value in
     IsExtensionOf-same steers
     (listed_near-present (points_of c.args.self.now.nodes) c.args.mark c.at-radius.result c.near.new.found.items
@@ -51,7 +51,7 @@ returns-then-eq g c =
 pub returns-then-not-clear : goal.returns-then-not-clear
 returns-then-not-clear g c =
     let steers =
-    Steers-read c.args.scene.now c.args.self.now c.args.mark c.len-turn.result (search (rules, c.len-turn.ensures))
+    Steers-read c.args.scene.now c.args.self.now c.args.mark c.len-turn.result c.requires.cheaper (search (rules, c.len-turn.ensures))
     c.requires.turn c.nearest-nearest.ensures c.point-from.ensures c.steer-point.ensures.value in
     IsExtensionOf-blocked steers
     (listed_near-present (points_of c.args.self.now.nodes) c.args.mark c.at-radius.result c.near.new.found.items
@@ -91,14 +91,14 @@ near-requires-then-is_empty-clause-nodes g c =
 pub near-requires-then-is_empty-clause-bounded : goal.near-requires-then-is_empty-clause-bounded
 near-requires-then-is_empty-clause-bounded g c =
     let steers =
-    Steers-read c.args.scene.now c.args.self.now c.args.mark c.len-turn.result (search (rules, c.len-turn.ensures))
+    Steers-read c.args.scene.now c.args.self.now c.args.mark c.len-turn.result c.requires.cheaper (search (rules, c.len-turn.ensures))
     c.requires.turn c.nearest-nearest.ensures c.point-from.ensures c.steer-point.ensures.value in
     IsBounded-steered steers c.requires.sound c.requires.bounded c.steer-point.ensures.right c.steer-point.ensures.top
 
 pub choose-parent-requires-clause-bounded : goal.choose-parent-requires-clause-bounded
 choose-parent-requires-clause-bounded g c κs within =
     let steers =
-    Steers-read c.args.scene.now c.args.self.now c.args.mark c.len-turn.result (search (rules, c.len-turn.ensures))
+    Steers-read c.args.scene.now c.args.self.now c.args.mark c.len-turn.result c.requires.cheaper (search (rules, c.len-turn.ensures))
     c.requires.turn c.nearest-nearest.ensures c.point-from.ensures c.steer-point.ensures.value in
     IsBounded-steered steers c.requires.sound c.requires.bounded c.steer-point.ensures.right c.steer-point.ensures.top
 
@@ -135,7 +135,7 @@ returns g c =
     let points = points_of tree.nodes in
     let placed = c.requires.sound.are_placed in
     let steers =
-    Steers-read c.args.scene.now c.args.self.now c.args.mark c.len-turn.result (search (rules, c.len-turn.ensures))
+    Steers-read c.args.scene.now c.args.self.now c.args.mark c.len-turn.result c.requires.cheaper (search (rules, c.len-turn.ensures))
     c.requires.turn c.nearest-nearest.ensures c.point-from.ensures c.steer-point.ensures.value in
     let apart = same_point-false c.steer-point.result c.point-from.result (sym c.eq.ensures ∙ c.if-eq.false) in
     let count : c.count-present.result ≡ node_count points = c.count-present.ensures points placed in

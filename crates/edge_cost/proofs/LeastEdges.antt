@@ -1,0 +1,109 @@
+-- The point of the first so many goals that is nearest to a point, by its squared distance.
+use Rattle.std.proofs.Common.{◌≡◌, ℕ, ◌+◌, ◌*◌, ◌<◌, ◌≤◌, List, get_or, length, take, arith, sym, ap, ◌∙◌, subst, inl, inr}
+use Rattle.std.specs.Prelude.{All, IsTrue, min, max}
+use Rattle.std.specs.Int.{abs_diff}
+use Rattle.std.proofs.lemmas.Bool.{cases_lt}
+use Rattle.std.proofs.lemmas.List.{take_all}
+use Rattle.std.proofs.lemmas.List.Elements.{All-more, All-nil, All-weaker}
+use Rattle.std.proofs.lemmas.List.Folds.{Any-from_list_any, list_any_at}
+use Rattle.plan_model.specs.declared.geometry.Goal.{Goal}
+use Rattle.plan_model.specs.declared.geometry.Point.{Point}
+use Rattle.plan_model.specs.Geometry.Bounds.{IsBoundedBox}
+use Rattle.plan_model.specs.Geometry.Cost.{cost_of}
+use Rattle.plan_model.specs.Geometry.Plane.{squared_distance}
+use Rattle.plan_model.specs.Geometry.Roots.{root_ceiling}
+use Rattle.plan_model.specs.Trees.BestNode.{is_in_goal, lies_in_goals}
+use Rattle.plan_model.specs.Trees.GoalBounds.{bound_of}
+use Rattle.plan_model.proofs.GoalBoundLaws.{bound_of-is, cost_of-le, squared_distance-le}
+use Rattle.plan_model.proofs.GoalPoints.{is_in_goal-true, in_goal_parts}
+
+-- ---- one goal
+
+-- a number moved into a range
+abbrev pub moved : ℕ → ℕ → ℕ → ℕ
+moved low high n = min (max n low) high
+
+moved-nearest : (low high n m : ℕ) → low ≤ high → low ≤ m → m ≤ high → abs_diff n (moved low high n) ≤ abs_diff n m
+moved-nearest low high n m range l h = omega arith
+
+-- the point of a box with both coordinates moved into their ranges
+abbrev pub moved_into : Goal → Point → Point
+moved_into goal p = record { x = moved goal.low.x goal.high.x p.x; y = moved goal.low.y goal.high.y p.y }
+
+pub moved_into-inside : (goal : Goal) (p : Point) → IsBoundedBox goal → IsTrue (is_in_goal goal (moved_into goal p))
+moved_into-inside goal p box =
+    let across = box.across in
+    let up = box.up in
+    is_in_goal-true goal (moved_into goal p) (record { left = omega arith; right = omega arith; bottom = omega arith; top = omega arith })
+
+pub moved_into-nearest :
+    (goal : Goal) (p : Point) → IsBoundedBox goal → (z : Point) → IsTrue (is_in_goal goal z)
+    → squared_distance p (moved_into goal p) ≤ squared_distance p z
+moved_into-nearest goal p box z h =
+    let inside = in_goal_parts goal z h in
+    squared_distance-le p (moved_into goal p) z (moved-nearest goal.low.x goal.high.x p.x z.x box.across inside.left inside.right)
+    (moved-nearest goal.low.y goal.high.y p.y z.y box.up inside.bottom inside.top)
+
+-- ---- all goals
+
+-- no point of the goal is nearer than that
+abbrev pub IsNoFarther : Point → ℕ → Goal → Type 0
+IsNoFarther p least goal = (z : Point) → IsTrue (is_in_goal goal z) → least ≤ squared_distance p z
+
+-- It is the squared distance to a point of the goals, and no point of the first so many goals is nearer.
+pub record IsLeastOfFirst (goals : List Goal) (p : Point) (count least : ℕ) : Type 0 where
+  pub at : Point
+  pub inside : IsTrue (lies_in_goals goals at)
+  pub reached : least ≡ squared_distance p at
+  pub below : All (IsNoFarther p least) (take count goals)
+
+-- before the first goal, by any point of one
+pub IsLeastOfFirst-none :
+    (goals : List Goal) (p at : Point) (k : ℕ) (none : Goal) (least : ℕ) → k < length goals → IsTrue (is_in_goal (get_or goals k none) at)
+    → least ≡ squared_distance p at → IsLeastOfFirst goals p 0 least
+IsLeastOfFirst-none goals p at k none least below inside is = record {
+  at = at;
+  inside = list_any_at (λ goal. is_in_goal goal at) goals k none below inside;
+  reached = is;
+  below = All-nil (IsNoFarther p least);
+}
+
+-- one goal more, with its nearest point
+pub IsLeastOfFirst-next :
+    (goals : List Goal) (p at : Point) (count : ℕ) (none : Goal) (least : ℕ) → count < length goals → IsTrue (is_in_goal (get_or goals count none) at)
+    → IsNoFarther p (squared_distance p at) (get_or goals count none) → IsLeastOfFirst goals p count least
+    → IsLeastOfFirst goals p (count + 1) (min least (squared_distance p at))
+IsLeastOfFirst-next goals p at count none least below inside nearest h =
+    let least_of : (n : ℕ) → n ≤ least → n ≤ squared_distance p at → All (IsNoFarther p n) (take (count + 1) goals) =
+    λ n l m. All-more (IsNoFarther p n) goals count none below
+    (All-weaker (IsNoFarther p least) (IsNoFarther p n) (λ goal own z i. omega (arith, own z i, l)) (take count goals) h.below)
+    (λ z i. omega (arith, nearest z i, m)) in
+    elim (cases_lt least (squared_distance p at)) [
+      | inl less ↦ record {
+        at = h.at;
+        inside = h.inside;
+        reached = omega (arith, h.reached, less);
+        below = least_of (min least (squared_distance p at)) (omega arith) (omega arith);
+      }
+      | inr more ↦ record {
+        at = at;
+        inside = list_any_at (λ goal. is_in_goal goal at) goals count none below inside;
+        reached = omega (arith, more);
+        below = least_of (min least (squared_distance p at)) (omega arith) (omega arith);
+      }
+    ]
+
+-- after all goals it gives the bound
+pub bound_of-scanned :
+    (start : Point) (goals : List Goal) (p : Point) (count least : ℕ) → count ≡ length goals → IsLeastOfFirst goals p count least
+    → bound_of start goals p ≡ cost_of start p + root_ceiling (65536 * least)
+bound_of-scanned start goals p count least all h =
+    let whole : take count goals ≡ goals = ap (λ n. take n goals) all ∙ take_all (length goals) goals (omega arith) in
+    let below : All (IsNoFarther p least) goals = subst (All (IsNoFarther p least)) whole h.below in
+    let nearest : (z : Point) → IsTrue (lies_in_goals goals z) → cost_of p h.at ≤ cost_of p z =
+    λ z i.
+    let own = Any-from_list_any (λ goal. is_in_goal goal z) goals i in
+    let goal : Goal = own.1 in
+    let here : least ≤ squared_distance p z = (subst (IsNoFarther p least) own.3 (below own.0 own.1 own.2)) z own.4 in
+    cost_of-le p h.at z (omega (arith, here, h.reached)) in
+    bound_of-is start goals p h.at h.inside nearest ∙ ap (λ (d : ℕ). cost_of start p + root_ceiling (65536 * d)) (sym h.reached)

@@ -1,0 +1,30 @@
+-- What a pass finds in the best word.
+use Rattle.std.specs.Prelude.{◌≡◌, ◌⊎◌, ℕ, ◌≤◌, ◌^◌, IsTrue, Some}
+use Rattle.plan_model.specs.Trees.BestNode.{is_goal_point}
+use Rattle.plan_words.specs.States.{PassState, with_view}
+use Rattle.step_core.specs.SeenBests.{SeesGoal}
+use Rattle.step_core.specs.ViewSteps.{hand_with_post}
+use Rattle.step_core.specs.Views.{sees}
+use Rattle.step_core.specs.WordNames.Word.{TreeOf}
+use Rattle.step_core.specs.Words.{cost_in}
+use Rattle.step_core.specs.declared.views.Hand.{Hand}
+use Rattle.step_core.specs.declared.views.Stage.TheVariants.{Counted}
+use Rattle.step_core.specs.declared.views.View.{View}
+
+-- The node is seen as a goal node, and costs no more, as it was seen last.
+pub record FindsGoalNode (view : View) (best : ℕ × ℕ) : Type 0 where
+  pub goal : SeesGoal view best.0
+  pub written : 2 ^ 63 ≤ sees view (TreeOf best.0)
+  pub paid : cost_in (sees view (TreeOf best.0)) ≤ best.1
+
+-- Of the pass only its view is another. Share, limit and hand stay, but that the hand may note a post of node n.
+pub record OnlyPosts (n : ℕ) (before after : PassState) : Type 0 where
+  pub pass : after ≡ with_view before after.view
+  pub crew : after.view.crew ≡ before.view.crew
+  pub most : after.view.most ≡ before.view.most
+  pub hand : (after.view.hand ≡ before.view.hand) ⊎ (after.view.hand ≡ hand_with_post before.view.hand n)
+
+-- A node in hand that is counted lies in no goal by which marks are skipped: one that does has been posted.
+abbrev pub HasPostedHand : View → Type 0
+HasPostedHand view =
+    (hand : Hand) → view.hand ≡ Some hand → hand.stage ≡ Counted → ¬ IsTrue (is_goal_point view.run.goals (Some hand.point))

@@ -1,0 +1,13 @@
+use Rattle.std.proofs.Common.{ap, ◌∙◌}
+use Rattle.step_core.specs.PlacesOfWords.{sizes_in}
+use Rattle.step_core.specs.RunWords.{words_in}
+use Rattle.step_core.proofs.HeldBests.{HoldRun-best}
+use Rattle.step_core.proofs.grown.Grown.write_best.Goals as goal
+
+pub invariant_of-self : goal.invariant_of-self
+invariant_of-self c = record {
+  of_task = ap sizes_in c.set_best.ensures.places ∙ c.args.self.now.of_task;
+  hold_run =
+      HoldRun-best (words_in c.args.self.now.words) (words_in c.set_best.new.self) c.least_best-best.result c.set_best.ensures.word c.args.self.now.task
+      c.args.self.now.limit c.args.self.now.hold_run;
+}
