@@ -68,6 +68,18 @@ def best_not_seen(rng, world):
 
 
 @mutant
+def best_seen_by_none(rng, world):
+    """The best word is lower than what any view has seen of it."""
+    tree, old = Tree(world.run, world.words), world.words[world.run.best]
+    lower = (best_word(tree.cost(n), n) for n in tree.present if tree.is_goal_node(n))
+    word = pick(rng, (word for word in lower if word < old))
+    if word is None:
+        return None
+    world.words[world.run.best] = word
+    return ""
+
+
+@mutant
 def best_taken_too_low(rng, world):
     """A hand has taken a best word that is less than the one that was seen last."""
     taken = lambda view: view.hand and view.hand.best is not None and view.best

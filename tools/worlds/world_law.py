@@ -198,6 +198,12 @@ def copies(run, words, views, tree):
             yield "copy"
 
 
+def best_copy(run, words, views, tree):
+    """Some view with a share saw the best word last as it is."""
+    if all(view.best != words[run.best] for view in live(run, views) if view.crew):
+        yield "copy"
+
+
 def empties(run, words, views, tree):
     """No fill notes more steps of a view than it has made; no view has found a filled place empty by a step after those."""
     noted = {}
@@ -462,8 +468,8 @@ def best_sights(run, view):
 # ---- the law
 
 PARTS = (
-    of_run, claimed_marks, turns, shares, linked_tree, hands, trees, pairs, records, seen_pairs, trees_seen, seen_behind, copies, empties,
-    best, bests,
+    of_run, claimed_marks, turns, shares, linked_tree, hands, trees, pairs, records, seen_pairs, trees_seen, seen_behind, copies, best_copy,
+    empties, best, bests,
 )
 
 

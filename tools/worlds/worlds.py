@@ -19,6 +19,7 @@ sys.path.append(str(Path(__file__).resolve().parent.parent))
 
 from make_scenes import polygon
 from scene import Scene
+from usage import words_or_usage
 from world_best_mutants import MUTANTS
 from world_bugs import BUGS
 from world_calls import Broken, Pass

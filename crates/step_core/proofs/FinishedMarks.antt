@@ -52,7 +52,7 @@ use Rattle.step_core.proofs.WordKinds.{AreBehind-trans}
 use Rattle.step_core.proofs.WorldBests.{BestWord-step, IsBestWord-grows, SeenBests-set, SeesBest-goes_on, goal-seen_before, same_first_cost}
 use Rattle.step_core.proofs.WorldEmpties.{Empties-kept, last_zero-saw}
 use Rattle.step_core.proofs.WorldHands.{Hands-recorded}
-use Rattle.step_core.proofs.WorldCopies.{Copies-seen}
+use Rattle.step_core.proofs.WorldCopies.{BestCopy-step, Copies-seen}
 use Rattle.step_core.proofs.WorldLinks.{KeepsLinks, LinkedTree-recorded}
 use Rattle.step_core.proofs.WorldPairs.{Pairs-recorded}
 use Rattle.step_core.proofs.WorldParts.{ClaimedMarks-step, record_word-none, SeenBehind-step, Shares-step, limit_of-up, of_run-step, quotas-kept}
@@ -173,6 +173,8 @@ module _ (run : SharedRun) (words after : Words) (views : List View) (id : ℕ) 
             (AreBehind-saw (RecordOf k) x (sees view) (sees then) after saw_it writes.here behind) (λ part. omega (arith, part, same_share))
             (RecordOf k) x writes
             keeps_links some_share saw_it.here;
+        best_copy = BestCopy-step run words after views id view then at own world.best_copy (λ part. omega (arith, part, same_share)) same_best
+            (λ saw. saw ∙ sym same_best);
         empties = Empties-kept run words after views id view then at world.empties refl (omega arith) refl keeps_links.children
             (λ n side. last_zero-saw run view of_run (RecordOf k) here x x (ChildOf n side) (λ e. cc));
         best = best_then grows;
@@ -259,7 +261,8 @@ module _ (run : SharedRun) (words after : Words) (views : List View) (id : ℕ) 
                     let written = (sees_tree.holds hand held).first_shown (come is).link in
                     let now : sees view (FirstOf (suc k)) ≡ words (FirstOf (suc k)) =
                     elim (world.seen.behind id view at (FirstOf (suc k))) [ inl unseen ↦ absurd (omega (arith, unseen, written)) | inr same ↦ same ] in
-                    let first = ap (λ i. cost_in (sees then (FirstOf (suc i)))) e ∙ ap cost_in (saw_it.others (FirstOf (suc k)) (λ f. cc) ∙ now) ∙ first_word is in
+                    let first = ap (λ i. cost_in (sees then (FirstOf (suc i)))) e ∙ ap cost_in (saw_it.others (FirstOf (suc k)) (λ f. cc) ∙ now)
+                    ∙ first_word is in
                     omega (arith, low, first, e))
               ]
 

@@ -149,7 +149,8 @@ module _ (run : SharedRun) (words : Words) (views : List View) (id : ℕ) (view 
   IsLater-loaded name may =
       let here = HasWord-load run words views id view world at own name may in
       IsLater-saw run view of_run name here (words name) (words name) (world.seen.behind id view at name)
-      (λ none. MayBecome-zero (kind_of name) (loads-kind view name may) (sees view name) (subst (MayBecome (kind_of name) (sees view name)) none (world.seen.behind id view at name)))
+      (λ none. MayBecome-zero (kind_of name) (loads-kind view name may) (sees view name)
+      (subst (MayBecome (kind_of name) (sees view name)) none (world.seen.behind id view at name)))
 
   -- a claim
   pub IsLater-claimed : (g c limit : ℕ) → g < run.strips → words (Counter g) ≡ c → IsLater view (claimed view g c limit)

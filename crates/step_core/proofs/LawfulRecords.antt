@@ -19,7 +19,8 @@ use Rattle.plan_model.specs.Runs.Outcomes.{is_placed}
 use Rattle.plan_model.specs.Trees.PointsByNumber.{IsPresent, StandsAt, node_count, point_at, point_of}
 use Rattle.plan_model.specs.Geometry.Radius.{class_of, radius_of_class}
 use Rattle.plan_model.specs.Runs.RecordLaw.{HangsLawfully, HasLawfulOutcome, IsBlockedLawfully, IsChosenLawfully, IsEarlier, IsLawfulRecord, IsNeighbour}
-use Rattle.plan_model.specs.Runs.RecordLaw.{IsPlacedLawfully, IsSkippedLawfully, IsSteeredLawfully, earlier_count, first_cost_through, is_earlier, is_earlier_record}
+use Rattle.plan_model.specs.Runs.RecordLaw.{IsPlacedLawfully, IsSkippedLawfully, IsSteeredLawfully, earlier_count, first_cost_through, is_earlier}
+use Rattle.plan_model.specs.Runs.RecordLaw.{is_earlier_record}
 use Rattle.plan_model.specs.Geometry.Steering.{steered}
 use Rattle.plan_model.specs.Runs.Textbook.{Setup, mark_bound}
 use Rattle.plan_model.specs.Trees.TreeStates.{TreeState, first_cost_of}

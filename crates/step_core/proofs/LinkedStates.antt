@@ -80,7 +80,8 @@ few_nodes run words run_is =
 -- ---- records
 
 -- of a placed mark the record reads its first cost from the first word
-pub placed-first : (word first : ℕ) (entry : Record) → record_of_word word first ≡ Some entry → has_placed (Some entry) ≡ true → entry.first_cost ≡ cost_in first
+pub placed-first :
+    (word first : ℕ) (entry : Record) → record_of_word word first ≡ Some entry → has_placed (Some entry) ≡ true → entry.first_cost ≡ cost_in first
 placed-first word first entry e placed = by_test (nat_lt word (2 ^ 63)) (outcome_in word) e
   where
     by_test : (b : Bool) (number : ℕ) → cond b None (Some (record_in number word first)) ≡ Some entry → entry.first_cost ≡ cost_in first

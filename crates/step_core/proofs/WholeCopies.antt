@@ -18,7 +18,7 @@ use Rattle.step_core.specs.ViewTrees.{SeesNode, SeesTree}
 use Rattle.step_core.specs.Views.{run_sizes, sees, share, tree_seen}
 use Rattle.step_core.specs.WordKinds.{AreBehind}
 use Rattle.step_core.specs.WordNames.{Word, Words}
-use Rattle.step_core.specs.WordNames.Word.{ChildOf, Count, FirstOf, PointOf, RecordOf, TreeOf}
+use Rattle.step_core.specs.WordNames.Word.{Best, ChildOf, Count, FirstOf, PointOf, RecordOf, TreeOf}
 use Rattle.step_core.specs.WordPlaces.{Sizes}
 use Rattle.step_core.specs.Words.{cost_in, parent_in, point_of_word, record_of_word, tree_of_word}
 use Rattle.step_core.specs.Worlds.{IsTold, IsWorld, counted_once, hands_at}
@@ -73,6 +73,18 @@ module _ (run : SharedRun) (words : Words) (views : List View) (id : ℕ) (view 
         | inl same ↦ (
             let is : copy.view ≡ view = some-injective copy.view view (sym copy.at ∙ ap (get_elem? views) same ∙ at) in
             ap (λ u. sees u name) (sym is) ∙ copy.same)
+        | inr apart ↦
+            absurd (omega (arith, copy.part, others_shareless run words views id view world at whole copy.id copy.view apart copy.at))
+      ]
+
+  -- and what it saw last of the best word is what that is
+  pub best-whole : view.best ≡ words Best
+  best-whole =
+      let copy = world.best_copy in
+      elim (cases_eq copy.id id) [
+        | inl same ↦ (
+            let is : copy.view ≡ view = some-injective copy.view view (sym copy.at ∙ ap (get_elem? views) same ∙ at) in
+            ap (λ u. u.best) (sym is) ∙ copy.same)
         | inr apart ↦
             absurd (omega (arith, copy.part, others_shareless run words views id view world at whole copy.id copy.view apart copy.at))
       ]

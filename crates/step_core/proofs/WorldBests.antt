@@ -51,8 +51,7 @@ module _ (run : SharedRun) (before after : Words) (grows : GrowsInto (state_in r
   IsBestWord-grows word is some_pair =
       let was = is some_pair in
       let n : ℕ = best_node_in word in
-      let here = IsPresent-goal run.goals (point_at (linked_points (run_sizes run) before) n) was.0 in
-      (
+      let here = IsPresent-goal run.goals (point_at (linked_points (run_sizes run) before) n) was.0 in (
         IsGoalNode-grows run.goals (state_in run before) (state_in run after) grows n was.0,
         le_trans (cost-grows (state_in run before) (state_in run after) grows n here) was.1,
       )

@@ -11,7 +11,7 @@ use Rattle.step_core.specs.WordKinds.{AreBehind, MayBecome, kind_of}
 use Rattle.step_core.specs.WordKinds.WordKind.{Apart}
 use Rattle.step_core.specs.WordNames.{Word, Words, WritesWord}
 use Rattle.step_core.specs.WordNames.Word.{Best, ChildOf, Count, Counter, FirstOf, PointOf, RecordOf, TreeOf}
-use Rattle.step_core.specs.Worlds.{Copies, HasCopy, IsTold}
+use Rattle.step_core.specs.Worlds.{BestCopy, Copies, HasCopy, IsTold}
 use Rattle.step_core.specs.declared.views.Hand.{Hand}
 use Rattle.step_core.specs.declared.views.SharedRun.{SharedRun}
 use Rattle.step_core.specs.declared.views.View.{View}
@@ -22,7 +22,8 @@ use Rattle.step_core.proofs.WordKinds.{MayBecome-both}
 use Rattle.step_core.proofs.WorldLinks.{KeepsLinks, is_linked-kept}
 
 -- what was seen as it is, is seen so later, if it stays
-pub same-later : (name : Word) → kind_of name ≢ Apart → (saw sees now : Words) → AreBehind saw sees → AreBehind sees now → saw name ≡ now name → sees name ≡ now name
+pub same-later :
+    (name : Word) → kind_of name ≢ Apart → (saw sees now : Words) → AreBehind saw sees → AreBehind sees now → saw name ≡ now name → sees name ≡ now name
 same-later name told saw sees now more behind same =
     MayBecome-both (kind_of name) told (now name) (sees name) (subst (λ w. MayBecome (kind_of name) w (sees name)) same (more name)) (behind name)
 
@@ -165,7 +166,46 @@ module _ (run : SharedRun) (before after : Words) (views : List View) (id : ℕ)
             ]
           ]
 
--- one view more
+-- The best word is seen as it is after a step of one view, too, if it stays, and the view sees it then as it is if it did before.
+pub BestCopy-step :
+    (run : SharedRun) (before after : Words) (views : List View) (id : ℕ) (view then : View) → get_elem? views id ≡ some view → then.run ≡ run
+    → BestCopy run before views → (0 < share view → 0 < share then) → after Best ≡ before Best
+    → (view.best ≡ before Best → then.best ≡ after Best) → BestCopy run after (set views id then)
+BestCopy-step run before after views id view then at own copy shares stays keeps =
+    elim (cases_eq copy.id id) [
+      | inl here ↦ (
+          let is : copy.view ≡ view = some-injective copy.view view (sym copy.at ∙ ap (get_elem? views) here ∙ at) in
+          record {
+            id = id;
+            view = then;
+            at = at-set views id view then at;
+            run_is = own;
+            part = shares (subst (λ u. 0 < share u) is copy.part);
+            same = keeps (ap (λ u. u.best) (sym is) ∙ copy.same);
+          })
+      | inr apart ↦ record {
+        id = copy.id;
+        view = copy.view;
+        at = at-set_other views id copy.id then apart ∙ copy.at;
+        run_is = copy.run_is;
+        part = copy.part;
+        same = copy.same ∙ sym stays;
+      }
+    ]
+
+pub BestCopy-push : (run : SharedRun) (words : Words) (views : List View) (more : View) → BestCopy run words views → BestCopy run words (views ++ more ∷ [])
+BestCopy-push run words views more copy =
+    record {
+      id = copy.id;
+      view = copy.view;
+      at = at-push views more copy.view copy.id copy.at;
+      run_is = copy.run_is;
+      part = copy.part;
+      same = copy.same;
+    }
+
+-- ---- one view more
+
 pub Copies-push : (run : SharedRun) (words : Words) (views : List View) (more : View) → Copies run words views → Copies run words (views ++ more ∷ [])
 Copies-push run words views more copies name told =
     let copy = copies name told in

@@ -1,5 +1,5 @@
 -- A join keeps the law of worlds: shares are added, and what either has seen is seen.
-use Rattle.std.proofs.Common.{◌≡◌, ◌≢◌, ℕ, zero, suc, ◌<◌, ◌≤◌, ◌^◌, max, Bool, true, false, List, [], ◌∷◌}
+use Rattle.std.proofs.Common.{◌≡◌, ◌≢◌, ℕ, zero, suc, ◌<◌, ◌≤◌, ◌^◌, max, Bool, true, false, List, [], ◌∷◌, min}
 use Rattle.std.proofs.Common.{◌++◌, length, length-append, set, Some, None, refl, sym, ap, ◌∙◌, subst, inl, inr, arith, zero-le}
 use Rattle.std.specs.Prelude.{◌⊎◌, ◌==◌, ◌&&◌, nat_le, nat_lt, cond}
 use Rattle.std.proofs.lemmas.Bool.{cases_eq, eqb-true, eqb-false, ne_eqb}
@@ -21,7 +21,7 @@ use Rattle.step_core.specs.WordNames.{Word, Words}
 use Rattle.step_core.specs.WordNames.Word.{Count, Best, Counter, PointOf, ChildOf, TreeOf, FirstOf, RecordOf}
 use Rattle.step_core.specs.WordPlaces.{Sizes, word_at, word_count}
 use Rattle.step_core.specs.Words.{cost_in, tree_of_word}
-use Rattle.step_core.specs.Worlds.{Agree, EachView, HasCopy, IsBestWord, IsMember, IsWorld, SeesBest, greatest_limit, hands_at, limit_of, state_in}
+use Rattle.step_core.specs.Worlds.{Agree, BestCopy, EachView, HasCopy, IsBestWord, IsMember, IsWorld, SeesBest, greatest_limit, hands_at, limit_of, state_in}
 use Rattle.step_core.specs.declared.views.Member.{Member}
 use Rattle.step_core.specs.declared.views.SharedRun.{SharedRun}
 use Rattle.step_core.specs.declared.views.Stage.{Stage}
@@ -318,14 +318,16 @@ module _ (run : SharedRun) (words : Words) (views : List View) (id : ℕ) (view 
           (world.sights j other was own_too))
           (λ of. absurd (live_spent of));
       copies = λ name told. copy_after name (told-kind run words name told) (world.copies name told);
+      best_copy = best_after world.best_copy;
       empties = Empties-joined run words views id view j other both world.empties at was apart there live_spent refl (omega arith) refl (λ name. refl);
       best = world.best;
       bests = each (λ u. u.run ≡ run → SeesBest run words u) world.bests (λ of. best_both) (λ of. absurd (live_spent of));
     }
       where
         -- who saw a word as it is, is still there, or has come into both
-        copy_both : (name : Word) → kind_of name ≢ Apart → (u : View) → 0 < share u → share u ≤ share both → AreBehind (sees u) (sees both) → sees u name ≡ words name
-            → HasCopy run words after name
+        copy_both :
+            (name : Word) → kind_of name ≢ Apart → (u : View) → 0 < share u → share u ≤ share both → AreBehind (sees u) (sees both)
+            → sees u name ≡ words name → HasCopy run words after name
         copy_both name told u part below more same =
             record {
               id = id;
@@ -348,6 +350,35 @@ module _ (run : SharedRun) (words : Words) (views : List View) (id : ℕ) (view 
                     let is : copy.view ≡ other = some-injective copy.view other (sym copy.at ∙ ap (get_elem? views) same ∙ was) in
                     copy_both name told other (subst (λ u. 0 < share u) is copy.part) (omega (arith, length-append view.crew other.crew)) AreBehind-other
                     (ap (λ u. sees u name) (sym is) ∙ copy.same))
+                | inr off_too ↦ record {
+                  id = copy.id;
+                  view = copy.view;
+                  at = at-set_other middle j copy.id spent off_too ∙ at-set_other views id copy.id both off ∙ copy.at;
+                  run_is = copy.run_is;
+                  part = copy.part;
+                  same = copy.same;
+                }
+              ]
+            ]
+
+        -- so it is of the best word: neither knew a lesser one than that now
+        best_seen : min view.best other.best ≡ words Best → 0 < share both → BestCopy run words after
+        best_seen same part = record { id = id; view = both; at = here; run_is = own; part = part; same = same }
+
+        best_after : BestCopy run words views → BestCopy run words after
+        best_after copy =
+            let mine = (world.bests id view at own).falls in
+            let theirs = (world.bests j other was own_too).falls in
+            elim (cases_eq copy.id id) [
+              | inl same ↦ (
+                  let is : copy.view ≡ view = some-injective copy.view view (sym copy.at ∙ ap (get_elem? views) same ∙ at) in
+                  best_seen (omega (arith, ap (λ u. u.best) is, copy.same, theirs))
+                  (omega (arith, ap share is, copy.part, length-append view.crew other.crew)))
+              | inr off ↦ elim (cases_eq copy.id j) [
+                | inl same ↦ (
+                    let is : copy.view ≡ other = some-injective copy.view other (sym copy.at ∙ ap (get_elem? views) same ∙ was) in
+                    best_seen (omega (arith, ap (λ u. u.best) is, copy.same, mine))
+                    (omega (arith, ap share is, copy.part, length-append view.crew other.crew)))
                 | inr off_too ↦ record {
                   id = copy.id;
                   view = copy.view;

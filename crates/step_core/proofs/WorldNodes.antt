@@ -26,7 +26,7 @@ use Rattle.step_core.specs.WordNames.{Words, WritesWord}
 use Rattle.step_core.specs.WordNames.Word.{Best, ChildOf, Count, Counter, FirstOf, PointOf, RecordOf, TreeOf}
 use Rattle.step_core.specs.WordPlaces.{place_of}
 use Rattle.step_core.specs.Words.{point_of_word, point_word, tree_word}
-use Rattle.step_core.specs.Worlds.{BestWord, ClaimedMarks, Copies, Empties, Hands, IsFirstOf, IsWorld, LinkedTree, Pairs, SeenBests, Trees, counters}
+use Rattle.step_core.specs.Worlds.{BestCopy, BestWord, ClaimedMarks, Copies, Empties, Hands, IsFirstOf, IsWorld, LinkedTree, Pairs, SeenBests, Trees, counters}
 use Rattle.step_core.specs.Worlds.{limit_of, state_in}
 use Rattle.step_core.specs.declared.views.Hand.{Hand}
 use Rattle.step_core.specs.declared.views.SharedRun.{SharedRun}
@@ -47,7 +47,7 @@ use Rattle.step_core.proofs.SeenTreesOfViews.{SeesTree-counted, SeesTree-half, S
 use Rattle.step_core.proofs.ViewLists.{maximum-set}
 use Rattle.step_core.proofs.WordKinds.{AreBehind-refl, AreBehind-trans}
 use Rattle.step_core.proofs.WorldBests.{BestWord-kept, FollowsHand, FollowsHand-stage, KeepsBest, SeenBests-kept}
-use Rattle.step_core.proofs.WorldCopies.{Copies-linked, Copies-untold}
+use Rattle.step_core.proofs.WorldCopies.{BestCopy-step, Copies-linked, Copies-untold}
 use Rattle.step_core.proofs.WorldEmpties.{Empties-kept, Empties-linked}
 use Rattle.step_core.proofs.WorldHands.{Hands-pointed, Hands-step, blank-held}
 use Rattle.step_core.proofs.WorldLinks.{KeepsLinks, LinkedTree-counted, LinkedTree-kept, LinkedTree-linked, LinkedTree-pointed, is_linked-others, unlinked-held}
@@ -97,9 +97,9 @@ module _ (run : SharedRun) (words after : Words) (views : List View) (id : ℕ) 
   pub IsWorld-kept :
       IsViewOf run then → AreBehind words after → AreBehind (sees then) after → AreBehind (sees view) (sees then) → took_over then ≡ took_over view
       → (share then ≡ 0 → then.hand ≡ None) → (links : LinkedTree run after (set views id then)) → Trees run after → Hands after (set views id then)
-      → Pairs run after (set views id then) → SeesTree then → Copies run after (set views id then) → Empties run after (set views id then)
-      → BestWord run after → SeenBests run after (set views id then) → IsWorld run after (set views id then)
-  IsWorld-kept of_run go behind more took idle links trees hands pairs tree_then copies empties best bests = record {
+      → Pairs run after (set views id then) → SeesTree then → Copies run after (set views id then) → BestCopy run after (set views id then)
+      → Empties run after (set views id then) → BestWord run after → SeenBests run after (set views id then) → IsWorld run after (set views id then)
+  IsWorld-kept of_run go behind more took idle links trees hands pairs tree_then copies best_copy empties best bests = record {
     run_is = world.run_is;
     of_run = of_run-step run views id then world.of_run of_run;
     numbers = numbers_kept;
@@ -118,6 +118,7 @@ module _ (run : SharedRun) (words after : Words) (views : List View) (id : ℕ) 
     records = Records-kept run words after views world.numbers world.links world.trees (grows_kept go links) world.records keeps.records;
     sights = TreesSeen-set run words views id view world at own then (λ of. tree_then);
     copies = copies;
+    best_copy = best_copy;
     empties = empties;
     best = best;
     bests = bests;
@@ -141,7 +142,10 @@ module _ (run : SharedRun) (words after : Words) (views : List View) (id : ℕ) 
       → Hands after (set views id then) → Pairs run after (set views id then) → SeesTree then → Copies run after (set views id then)
       → Empties run after (set views id then) → IsWorld run after (set views id then)
   IsWorld-leaves stays of_run go behind more took idle links trees hands pairs tree_then copies empties =
-      IsWorld-kept of_run go behind more took idle links trees hands pairs tree_then copies empties (best_kept stays go links)
+      IsWorld-kept of_run go behind more took idle links trees hands pairs tree_then copies
+      (BestCopy-step run words after views id view then at of_run.run_is world.best_copy (λ part. omega (arith, part, ap (λ l. length l) keeps.crew)) stays.word
+      (λ saw. stays.seen ∙ saw ∙ sym stays.word))
+      empties (best_kept stays go links)
       (bests_kept stays go links (of_run.run_is ∙ sym own) more)
 
 -- ---- the mark in hand
@@ -314,7 +318,8 @@ module _ (run : SharedRun) (words after : Words) (views : List View) (id : ℕ) 
         let stays : KeepsBest words after view then = leaves_best then next refl refl refl (λ e. cc) (writes.others Best (λ e. cc)) in
         let recorded = is_recorded-kept words after keeps.records in
         let grows = grows_kept run words after views id view then world at own keeps go links in
-        IsWorld-leaves run words after views id view then world at own keeps stays (more_steps (Some next)) go (AreBehind-trans (sees view) words after behind_now go)
+        IsWorld-leaves run words after views id view then world at own keeps stays (more_steps (Some next)) go
+        (AreBehind-trans (sees view) words after behind_now go)
         (AreBehind-refl (sees view)) refl (some_share then refl) links
         (Trees-kept run words after views (set views id then) world.numbers world.links (numbers_kept run words after views id view then world at own keeps)
         links world.trees go record {
@@ -379,7 +384,8 @@ module _ (run : SharedRun) (words after : Words) (views : List View) (id : ℕ) 
         let stays : KeepsBest words after view then = leaves_best then next refl refl refl (λ e. cc) (writes.others Best (λ e. cc)) in
         let recorded = is_recorded-kept words after keeps.records in
         let grows = grows_kept run words after views id view then world at own keeps go links in
-        IsWorld-leaves run words after views id view then world at own keeps stays (more_steps (Some next)) go (AreBehind-trans (sees view) words after behind_now go)
+        IsWorld-leaves run words after views id view then world at own keeps stays (more_steps (Some next)) go
+        (AreBehind-trans (sees view) words after behind_now go)
         (AreBehind-refl (sees view)) refl (some_share then refl) links
         (Trees-kept run words after views (set views id then) world.numbers world.links (numbers_kept run words after views id view then world at own keeps)
         links world.trees go record {

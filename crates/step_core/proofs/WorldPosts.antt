@@ -28,7 +28,7 @@ use Rattle.step_core.specs.WordKinds.{AreBehind}
 use Rattle.step_core.specs.WordNames.{Words, WritesWord}
 use Rattle.step_core.specs.WordNames.Word.{Best, ChildOf, Count, Counter, FirstOf, PointOf, RecordOf, TreeOf}
 use Rattle.step_core.specs.Words.{best_cost_in, best_node_in, best_word, cost_in, point_word, record_of_word, tree_word}
-use Rattle.step_core.specs.Worlds.{BestWord, IsBestWord, IsFirstOf, IsWorld, LinkedTree, SeenBests, SeesBest, state_in}
+use Rattle.step_core.specs.Worlds.{BestCopy, BestWord, IsBestWord, IsFirstOf, IsWorld, LinkedTree, SeenBests, SeesBest, state_in}
 use Rattle.step_core.specs.declared.views.Hand.{Hand}
 use Rattle.step_core.specs.declared.views.SharedRun.{SharedRun}
 use Rattle.step_core.specs.declared.views.Stage.{Stage}
@@ -44,7 +44,8 @@ use Rattle.step_core.proofs.SeenViews.{SeesHand-later}
 use Rattle.step_core.proofs.WordKinds.{AreBehind-refl, AreBehind-trans}
 use Rattle.step_core.proofs.TrueWords.{linked-within}
 use Rattle.step_core.proofs.WorldBests.{BestWord-step, IsBestWord-grows, SeenBests-set, SeesBest-goes_on, min-either}
-use Rattle.step_core.proofs.WorldCopies.{Copies-untold}
+use Rattle.step_core.proofs.ViewLists.{at-set}
+use Rattle.step_core.proofs.WorldCopies.{BestCopy-step, Copies-untold}
 use Rattle.step_core.proofs.WorldEmpties.{Empties-kept}
 use Rattle.step_core.proofs.WorldHands.{Hands-step}
 use Rattle.step_core.proofs.WorldLinks.{KeepsLinks, LinkedTree-kept}
@@ -184,8 +185,9 @@ module _ (run : SharedRun) (words after : Words) (views : List View) (id : ℕ) 
   grows_best = grows_kept run words after views id view then world at own keeps go links
 
   -- keeps the law if it leaves the best word as it must be
-  pub IsWorld-best : BestWord run after → SeenBests run after (set views id then) → IsWorld run after (set views id then)
-  IsWorld-best best_then bests_then =
+  pub IsWorld-best :
+      BestCopy run after (set views id then) → BestWord run after → SeenBests run after (set views id then) → IsWorld run after (set views id then)
+  IsWorld-best best_copy best_then bests_then =
       let of_run = live run words views id view world at own in
       let behind = world.seen.behind id view at in
       let recorded = is_recorded-kept words after keeps.records in
@@ -228,6 +230,7 @@ module _ (run : SharedRun) (words after : Words) (views : List View) (id : ℕ) 
       (SeesTree-best view best next same_hand (tree run words views id view world at own))
       (Copies-untold run words after views id view then at own world.copies (AreBehind-refl (sees view)) (AreBehind-trans (sees view) words after behind go)
       (λ part. part) Best x writes keeps_links (λ told. told))
+      best_copy
       (Empties-kept run words after views id view then at world.empties refl (omega arith) refl (λ m right. writes.others (ChildOf m right) (λ e. cc))
       (λ m right. refl))
       best_then bests_then
@@ -294,8 +297,7 @@ module _ (words : Words) (views : List View) (id : ℕ) (view : View) (world : I
     IsBestWord-pair some_pair =
         let cost : ℕ = cost_in (sees view (TreeOf n)) in
         let node : best_node_in (best_word cost n) ≡ n = mod-mul-add cost (2 ^ 18) n low in
-        let paid : best_cost_in (best_word cost n) ≡ cost = div-mul-add cost (2 ^ 18) n low in
-        (
+        let paid : best_cost_in (best_word cost n) ≡ cost = div-mul-add cost (2 ^ 18) n low in (
           subst (IsGoalNode view.run.goals (linked_points (run_sizes view.run) words)) (sym node) (goal-so n may.goal),
           subst (λ m. cost_in (words (TreeOf m)) ≤ best_cost_in (best_word cost n)) (sym node) (omega (arith, paid, falls-now)),
         )
@@ -393,7 +395,8 @@ module _ (run : SharedRun) (words : Words) (views : List View) (id : ℕ) (view 
   pub IsWorld-best_loaded : IsWorld run words (set views id (best_loaded view (words Best)))
   IsWorld-best_loaded =
       IsWorld-best run words words views id view world at own (words Best) still (words Best) (hand_with_best view.hand (words Best))
-      (KeepsHand-best view.hand (words Best)) world.best
+      (KeepsHand-best view.hand (words Best))
+      (BestCopy-step run words words views id view (best_loaded view (words Best)) at own world.best_copy (λ part. part) refl (λ saw. refl)) world.best
       (SeenBests-set run words words (GrowsInto-refl (state_in run words)) views id (best_loaded view (words Best)) (le_refl (words Best)) world.bests
       (λ of. SeesBest-loaded))
 
@@ -507,6 +510,14 @@ module _ (run : SharedRun) (words after : Words) (views : List View) (id : ℕ) 
   pub IsWorld-posted : IsWorld run after (set views id (posted view n (words Best)))
   IsWorld-posted =
       IsWorld-best run words after views id view world at own lesser writes lesser (hand_with_post view.hand n) same
+      (record {
+        id = id;
+        view = posted view n (words Best);
+        at = at-set views id view (posted view n (words Best)) at;
+        run_is = own;
+        part = may.part;
+        same = sym writes.here;
+      })
       (BestWord-step run words after views world.numbers world.links world.trees grows (AreBehind-write Best lesser words after writes tt) world.best
       (subst (IsBestWord run after) (sym writes.here) (IsBestWord-grows run words after grows lesser pair-lesser)) best-falls (λ m node goal. inl (was m node)))
       (SeenBests-set run words after grows views id (posted view n (words Best)) best-falls world.bests (λ of. SeesBest-posted))

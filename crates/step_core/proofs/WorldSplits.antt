@@ -27,7 +27,7 @@ use Rattle.step_core.proofs.SeenTreesOfViews.{SeesTree-apart, SeesTree-looker, S
 use Rattle.step_core.proofs.ViewLists.{at-set, each-push, each-set, maximum-one, maximum-push, maximum-set, sum-set}
 use Rattle.step_core.proofs.WordKinds.{AreBehind-refl}
 use Rattle.step_core.proofs.WorldBests.{FollowsHand, FollowsHand-none, FollowsHand-refl, SeesBest-kept}
-use Rattle.step_core.proofs.WorldCopies.{Copies-push, Copies-step}
+use Rattle.step_core.proofs.WorldCopies.{BestCopy-push, BestCopy-step, Copies-push, Copies-step}
 use Rattle.step_core.proofs.WorldEmpties.{Empties-push, Empties-step, zero-read}
 use Rattle.step_core.proofs.WorldHands.{Hands-views, IsWrittenFor}
 use Rattle.step_core.proofs.WorldLinks.{LinkedTree-views}
@@ -220,6 +220,8 @@ module _ (run : SharedRun) (words : Words) (views : List View) (id : ℕ) (view 
             (subst (AreBehind (sees view)) (sym (sees-same view left cut.tables_left)) (AreBehind-refl (sees view)))
             (subst (λ s. AreBehind s words) (sym (sees-same view left cut.tables_left)) (world.seen.behind id view at)) stays
             (λ name told. inl (refl, told)));
+        best_copy = BestCopy-push run words rest right
+            (BestCopy-step run words words views id view left at (cut.tables_left.run ∙ own) world.best_copy stays refl (λ saw. cut.tables_left.best ∙ saw));
         empties = Empties-push run words rest right
             (Empties-step run words words views id view left at world.empties cut.tables_left.run cut.tables_left.steps cut.tables_left.fills
             (λ n side some_child. (some_child, cut.tables_left.zero_looks (ChildOf n side))))
@@ -329,7 +331,17 @@ IsCut-parted view = record {
   no_hand = refl;
   limits = (refl, refl);
   tables_left =
-      record { run = refl; seen = refl; best = refl; took = refl; looked = refl; found_zero = refl; zero_looks = λ name. omega arith; steps = omega arith; fills = refl };
+      record {
+        run = refl;
+        seen = refl;
+        best = refl;
+        took = refl;
+        looked = refl;
+        found_zero = refl;
+        zero_looks = λ name. omega arith;
+        steps = omega arith;
+        fills = refl;
+      };
   tables_right =
       (let same = sees_as_much view in record {
         run = refl;
@@ -358,7 +370,17 @@ IsCut-looker view = record {
   no_hand = refl;
   limits = (refl, refl);
   tables_left =
-      record { run = refl; seen = refl; best = refl; took = refl; looked = refl; found_zero = refl; zero_looks = λ name. omega arith; steps = omega arith; fills = refl };
+      record {
+        run = refl;
+        seen = refl;
+        best = refl;
+        took = refl;
+        looked = refl;
+        found_zero = refl;
+        zero_looks = λ name. omega arith;
+        steps = omega arith;
+        fills = refl;
+      };
   tables_right = sees_as_much view;
   tree_left = SeesTree-stepped view;
   tree_right = SeesTree-looker view;

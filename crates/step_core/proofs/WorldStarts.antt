@@ -39,7 +39,8 @@ use Rattle.step_core.specs.WordNames.{Words}
 use Rattle.step_core.specs.WordNames.Word.{Best, ChildOf, FirstOf, RecordOf}
 use Rattle.step_core.specs.WordPlaces.{word_count}
 use Rattle.step_core.specs.Words.{FitsWord, cost_in, outcome_in, record_in, record_of_word}
-use Rattle.step_core.specs.Worlds.{Agree, BestWord, EachView, IsMember, IsRecordWord, IsWorld, SeesBest, counted_once, Trees, counters, greatest_limit, is_recorded, state_in}
+use Rattle.step_core.specs.Worlds.{Agree, BestWord, EachView, IsMember, IsRecordWord, IsWorld, SeesBest, counted_once, Trees, counters}
+use Rattle.step_core.specs.Worlds.{greatest_limit, is_recorded, state_in}
 use Rattle.step_core.specs.declared.views.Member.{Member}
 use Rattle.step_core.specs.declared.views.SharedRun.{SharedRun}
 use Rattle.step_core.specs.declared.views.View.{View}
@@ -279,6 +280,7 @@ IsWorld-started task limit workers items sized held least some_worker few =
       records = Records-held task limit workers words held;
       sights = only first (λ u. u.run ≡ run → SeesTree u) (λ of. sees_tree);
       copies = λ name told. record { id = 0; view = first; at = refl; run_is = refl; part = omega (arith, all, some_worker); same = refl };
+      best_copy = record { id = 0; view = first; at = refl; run_is = refl; part = omega (arith, all, some_worker); same = refl };
       empties = record {
         made = λ place i. inl refl;
         filled = λ n side some_child i u e. (

@@ -36,7 +36,7 @@ use Rattle.step_core.proofs.SeenTreesOfViews.{SeesTree-claimed, SeesTree-loaded}
 use Rattle.step_core.proofs.ViewLists.{at-set, each-set, maximum-one, maximum-set}
 use Rattle.step_core.proofs.WordKinds.{AreBehind-refl, AreBehind-trans}
 use Rattle.step_core.proofs.WorldBests.{BestWord-kept, FollowsHand-new, FollowsHand-refl, SeenBests-kept}
-use Rattle.step_core.proofs.WorldCopies.{Copies-seen, Copies-step}
+use Rattle.step_core.proofs.WorldCopies.{BestCopy-step, Copies-seen, Copies-step}
 use Rattle.step_core.proofs.WorldEmpties.{Empties-kept, Empties-step, last_zero-saw}
 use Rattle.step_core.proofs.WorldHands.{Hands-step}
 use Rattle.step_core.proofs.WorldLinks.{KeepsLinks, LinkedTree-kept}
@@ -130,6 +130,7 @@ module _ (run : SharedRun) (words : Words) (views : List View) (id : ℕ) (view 
         sights = TreesSeen-set then (λ of. sees_tree);
         copies = Copies-step run words words views id view then at own world.copies seen
             (AreBehind-saw name x (sees view) (sees then) words writes refl behind) (λ part. part) (λ other told. inl (refl, told));
+        best_copy = BestCopy-step run words words views id view then at own world.best_copy (λ part. part) refl (λ saw. saw);
         empties = Empties-step run words words views id view then at world.empties refl (omega arith) refl (λ n side some_child. (
           some_child,
           omega (
@@ -239,6 +240,8 @@ module _ (run : SharedRun) (words : Words) (views : List View) (id : ℕ) (view 
           copies = Copies-seen run words after views id view then at own world.copies seen
               (AreBehind-saw (Counter g) (c + 1) (sees view) (sees then) after writes counts.here behind) (λ had. had) (Counter g) (c + 1) counts keeps part
               writes.here;
+          best_copy = BestCopy-step run words after views id view then at own world.best_copy (λ had. had) (counts.others Best (λ e. cc))
+              (λ saw. saw ∙ sym (counts.others Best (λ e. cc)));
           empties = Empties-kept run words after views id view then at world.empties refl (omega arith) refl keeps.children
               (λ n side. last_zero-saw run view live (Counter g) here c (c + 1) (ChildOf n side) (λ e. cc));
           best = BestWord-kept run words after views world.numbers world.links world.trees grows go world.best (counts.others Best (λ e. cc)) records;

@@ -28,7 +28,8 @@ pub record IsLater (before after : View) : Type 0 where
   pub best : after.best ≤ before.best
   pub steps : before.steps ≤ after.steps
   pub looked : (name : Word) → (last_look after name ≡ last_look before name) ⊎ (before.steps < last_look after name)
-  pub zero_found : (name : Word) → kind_of name ≢ Apart → (last_zero after name ≡ last_zero before name) ⊎ ((before.steps < last_zero after name) × (sees before name ≡ 0))
+  pub zero_found : (name : Word) → kind_of name ≢ Apart
+      → (last_zero after name ≡ last_zero before name) ⊎ ((before.steps < last_zero after name) × (sees before name ≡ 0))
 
 -- What the law says of one view alone.
 pub record IsLawfulView (view : View) : Type 0 where

@@ -1,5 +1,6 @@
 -- What each kind of step makes of the view that makes it, as a function of the view before. The words are those of specs/WordNames.
-use Rattle.std.specs.Prelude.{ℕ, suc, Bool, ◌+◌, ◌==◌, max, min, Option, Some, None, List, [], ◌∷◌, ◌++◌, length, map, replicate, slice_index, slice_set, if◌then◌else◌}
+use Rattle.std.specs.Prelude.{ℕ, suc, Bool, ◌+◌, ◌==◌, max, min, Option, Some, None, List, [], ◌∷◌, ◌++◌, length, map, replicate, slice_index}
+use Rattle.std.specs.Prelude.{slice_set, if◌then◌else◌}
 use Rattle.std.specs.List.{range_with_len}
 use Rattle.plan_model.specs.Scenes.MarkPoints.{mark_of as mark_by_strips}
 use Rattle.plan_model.specs.declared.geometry.Point.{Point}

@@ -237,18 +237,26 @@ IsTold run words (TreeOf n) = is_linked (run_sizes run) words n ≡ true
 IsTold run words (FirstOf n) = is_linked (run_sizes run) words n ≡ true
 IsTold run words (RecordOf k) = k < length run.marks
 
--- A view of the run with a share sees the word as it is.
-pub record HasCopy (run : SharedRun) (words : Words) (views : List View) (name : Word) : Type 0 where
+-- A view of the run with a share has the property.
+pub record SomeSharer (run : SharedRun) (views : List View) (has : View → Type 0) : Type 0 where
   pub id : ℕ
   pub view : View
   pub at : get_elem? views id ≡ some view
   pub run_is : view.run ≡ run
   pub part : 0 < share view
-  pub same : sees view name ≡ words name
+  pub same : has view
+
+-- it sees the word as it is
+abbrev pub HasCopy : SharedRun → Words → List View → Word → Type 0
+HasCopy run words views name = SomeSharer run views (λ view. sees view name ≡ words name)
 
 -- Each word that tells of the run is seen as it is by a view with a share: the one that wrote it last, or one that has taken that over.
 abbrev pub Copies : SharedRun → Words → List View → Type 0
 Copies run words views = (name : Word) → IsTold run words name → HasCopy run words views name
+
+-- So is the best word: what a view with a share saw last of it is what it is.
+abbrev pub BestCopy : SharedRun → Words → List View → Type 0
+BestCopy run words views = SomeSharer run views (λ view. view.best ≡ words Best)
 
 -- ---- empty places
 
@@ -292,6 +300,7 @@ pub record IsWorld (run : SharedRun) (words : Words) (views : List View) : Type 
   pub sights : TreesSeen run views
   pub seen : SeenBehind words views
   pub copies : Copies run words views
+  pub best_copy : BestCopy run words views
   pub empties : Empties run words views
   pub best : BestWord run words
   pub bests : SeenBests run words views

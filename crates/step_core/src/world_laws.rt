@@ -15,7 +15,8 @@ ghost use Rattle.plan_model.specs.declared.geometry.Point.{Point};
 ghost use Rattle.plan_model.specs.declared.limits.TheConstants.{MOST_WORKERS};
 ghost use Rattle.plan_model.specs.declared.records.Record.{Record};
 ghost use Rattle.plan_model.specs.declared.tasks.Task.{Task};
-ghost use Rattle.step_core.specs.GrownWords.{HoldRun, IsLinked, children_of_words, cleared, has_node, is_linked, record_at, run_words, sizes_of, state_of_words};
+ghost use Rattle.step_core.specs.GrownWords.{HoldRun, IsLinked, children_of_words, cleared, has_node, is_linked, record_at, run_words, sizes_of};
+ghost use Rattle.step_core.specs.GrownWords.{state_of_words};
 ghost use Rattle.step_core.specs.Histories.{HasCome, WasFree};
 ghost use Rattle.step_core.specs.LastViews.{StandsAsSeen};
 ghost use Rattle.step_core.specs.LaterViews.{IsLater, IsLawfulView};
@@ -272,10 +273,11 @@ pub fn marks_in_hand_are_in_one_hand()
 {}
 
 /// If one view has the whole share, it sees each word that tells of the run as it is: the counters, the records, and the words of
-/// the linked nodes.
+/// the linked nodes; and so the best word.
 pub fn whole_shares_see_all_words()
     ensures words { (now : Moment) → IsMoment now → share now.view ≡ now.run.workers → (name : Word) → IsTold now.run now.words name
         → sees now.view name ≡ now.words name }
+    ensures best { (now : Moment) → IsMoment now → share now.view ≡ now.run.workers → now.view.best ≡ now.words Best }
     // it sees each record that there is, and no other
     ensures records { (now : Moment) → IsMoment now → share now.view ≡ now.run.workers → (k : ℕ) → record_at (sees now.view) k ≡ record_at now.words k }
 {}

@@ -333,7 +333,9 @@ IsWorld-begun = record {
   };
   sights = both (λ u. u.run ≡ small_run → SeesTree u) (λ of. SeesTree-one) (λ of. SeesTree-other);
   copies = λ name told. record { id = 0; view = one; at = refl; run_is = refl; part = omega arith; same = refl };
+  best_copy = record { id = 0; view = one; at = refl; run_is = refl; part = omega arith; same = refl };
   empties = record { made = λ place i. inl refl; filled = λ n side some_child. absurd (some_child (no_child n side)) };
   best = record { pair = λ some_node. absurd (some_node refl); placed = λ n node goal. absurd (no_goal_node (linked_points sizes words) n goal) };
-  bests = both (λ u. u.run ≡ small_run → SeesBest small_run words u) (λ of. saw_none one refl refl (λ hand e. cc)) (λ of. saw_none other refl refl (λ hand e. cc));
+  bests = both (λ u. u.run ≡ small_run → SeesBest small_run words u) (λ of. saw_none one refl refl (λ hand e. cc))
+      (λ of. saw_none other refl refl (λ hand e. cc));
 }

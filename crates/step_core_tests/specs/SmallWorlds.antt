@@ -251,6 +251,7 @@ pub record UnlawfulWorldVectors : Type 0 where
   pub best_above_a_recorded_goal_node : ¬ AreLawfulBests (recorded_with (best_word 1281 1)) no_best no_best
   pub saw_a_best_that_is_not : ¬ AreLawfulTaken (hand_at Linked 0 1280) (linked_with no_best) (best_word 1280 1)
   pub saw_no_goal_node_as_best : ¬ AreLawfulTaken (hand_at Linked 0 1280) (linked_with (best_word 1280 1)) (best_word 1280 0)
+  pub best_seen_by_none : ¬ AreLawfulTaken (hand_at Linked 0 1280) (linked_with (best_word 1280 1)) no_best
   pub saw_recorded_goal_node_and_no_best : ¬ AreLawfulBests (recorded_with (best_word 1280 1)) (best_word 1280 1) no_best
   pub took_no_goal_node : ¬ AreLawfulTaken (took_best (best_word 0 0)) claimed_table no_best
   pub posted_and_saw_no_best : ¬ AreLawfulTaken (hand_at Posted 0 1280) (table_with (best_word 1280 1) 2 1 (start_above 1) mark_node 0) no_best

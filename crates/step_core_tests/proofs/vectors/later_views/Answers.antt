@@ -60,7 +60,14 @@ found (RecordOf k) own = inl (child_alone.others (RecordOf k) (λ e. cc))
 pub returns : goal.returns
 unfolding word_at
 returns c = record {
-  looked_and_found = record { run = refl; seen = AreBehind-refl (sees (idle claimed_table)); best = omega arith; steps = omega arith; looked = looked; zero_found = found };
+  looked_and_found = record {
+    run = refl;
+    seen = AreBehind-refl (sees (idle claimed_table));
+    best = omega arith;
+    steps = omega arith;
+    looked = looked;
+    zero_found = found;
+  };
   other_run = λ h. (let e : 1 ≡ 0 = ap (λ (r : SharedRun). r.opening) h.run in omega (arith, e));
   less_seen = λ h. (let e : 1 ≤ 0 = h.seen (Counter 0) in omega (arith, e));
   fewer_steps = λ h. (let e : 5 ≤ 4 = h.steps in omega (arith, e));

@@ -4,4 +4,16 @@ use Rattle.step_core_tests.proofs.vectors.steps.Goals as goal
 
 pub returns : goal.returns
 unfolding word_at
-returns c = record { load_of_a_child = refl; load_of_no_child = refl; claim = refl; join = refl; load_of_the_best = refl; load_that_is_not_taken = refl; post_of_the_node_in_hand = refl; post_of_a_dearer_node = refl; post_of_another_node = refl; new_looker = refl; first_view = refl }
+returns c = record {
+  load_of_a_child = refl;
+  load_of_no_child = refl;
+  claim = refl;
+  join = refl;
+  load_of_the_best = refl;
+  load_that_is_not_taken = refl;
+  post_of_the_node_in_hand = refl;
+  post_of_a_dearer_node = refl;
+  post_of_another_node = refl;
+  new_looker = refl;
+  first_view = refl;
+}

@@ -66,6 +66,7 @@ returns c = record {
   count_past_the_marks = λ h. (let e : 3 ≤ 2 = h.count in omega (arith, e));
   counter_past_the_marks = λ h. (let e : 2 ≤ 1 = h.counter 0 (omega arith) in omega (arith, e));
   best_past_a_recorded_goal_node = λ h. (let e : best_word 1281 1 ≤ best_word 1280 1 = h.best 1 refl refl in omega (arith, e));
-  took_less_than_the_best = λ h. (let e : best_word 1280 1 ≤ best_word 1279 1 = (h.taken (took_best (best_word 1279 1)) (best_word 1279 1) refl refl).0 in omega (arith, e));
+  took_less_than_the_best =
+      λ h. (let e : best_word 1280 1 ≤ best_word 1279 1 = (h.taken (took_best (best_word 1279 1)) (best_word 1279 1) refl refl).0 in omega (arith, e));
   whole_below_its_edge = λ h. (let e : 0 + root_ceiling 1638400 ≤ 1279 = ((h.order refl).hangs 0 refl).above in omega (arith, e, edge));
 }

@@ -12,7 +12,8 @@ use Rattle.step_core.specs.WordNames.{Word, Words}
 use Rattle.step_core.specs.WordNames.Word.{ChildOf, Count, Counter}
 use Rattle.step_core.specs.WordPlaces.{word_at}
 use Rattle.step_core.specs.Words.{best_word, no_best, point_word, tree_word}
-use Rattle.step_core.specs.Worlds.{HasCopy, HasMade, IsRecordWord}
+use Rattle.step_core.specs.Worlds.{HasMade, IsRecordWord, SomeSharer}
+use Rattle.step_core.specs.declared.views.SharedRun.{SharedRun}
 use Rattle.step_core.specs.declared.views.Stage.TheVariants.{Half, Linked, Pointed, Posted, Treed}
 use Rattle.step_core.specs.declared.views.View.{View}
 use Rattle.step_core_tests.specs.SmallWorlds.{filled_at, hand_at, idle, linked_table, never, small_run, took_best, view_with, worker_at}
@@ -29,15 +30,13 @@ neither : (a b : ℕ) → ¬ (a ≡ b) → ¬ ((a ≡ b) ⊎ (a ≡ b))
 neither a b apart (inl e) = apart e
 neither a b apart (inr e) = apart e
 
--- a word that a view sees as it is, one of the two sees so
-copy_of_two : (one other : View) (words : Words) (name : Word) → HasCopy small_run words (one ∷ other ∷ []) name
-    → (sees one name ≡ words name) ⊎ (sees other name ≡ words name)
-copy_of_two one other words name copy = by_id copy.id copy.view copy.at copy.same
+-- what a view with a share has seen, one of the two has
+one_of_two : (run : SharedRun) (one other : View) (has : View → Type 0) → SomeSharer run (one ∷ other ∷ []) has → has one ⊎ has other
+one_of_two run one other has copy = by_id copy.id copy.view copy.at copy.same
   where
-    by_id : (id : ℕ) (view : View) → get_elem? (one ∷ other ∷ []) id ≡ some view → sees view name ≡ words name
-        → (sees one name ≡ words name) ⊎ (sees other name ≡ words name)
-    by_id zero view at same = inl (subst (λ v. sees v name ≡ words name) (sym (some-injective one view at)) same)
-    by_id (suc zero) view at same = inr (subst (λ v. sees v name ≡ words name) (sym (some-injective other view at)) same)
+    by_id : (id : ℕ) (view : View) → get_elem? (one ∷ other ∷ []) id ≡ some view → has view → has one ⊎ has other
+    by_id zero view at same = inl (subst has (sym (some-injective one view at)) same)
+    by_id (suc zero) view at same = inr (subst has (sym (some-injective other view at)) same)
     by_id (suc (suc id)) view at same = absurd (some-ne-none view (sym at))
 
 -- a view with a share is not spent
@@ -98,7 +97,7 @@ returns c = record {
   saw_no_start = λ h. (let e : false ≡ true = (h.sights 1 _ refl refl).rooted.start in cc);
   saw_start_at_a_cost = λ h. (let e : 5 ≡ 0 = ap (λ (p : ℕ × ℕ). p.1) ((h.seen_pairs 1 _ refl refl).start (0, 5) refl) in omega (arith, e));
   took_more_than_it_sees = λ h. (let e : 2 ≤ 1 = h.seen.took 1 _ refl (Counter 0) in omega (arith, e));
-  counter_seen_by_none = λ h. neither 0 1 (λ e. omega (arith, e)) (copy_of_two _ _ _ (Counter 0) (h.copies (Counter 0) (omega arith)));
+  counter_seen_by_none = λ h. neither 0 1 (λ e. omega (arith, e)) (one_of_two _ _ _ _ (h.copies (Counter 0) (omega arith)));
   looked_later = λ h. (let e : 4 ≤ 3 = (of_run _ refl (h.of_run 1 _ refl)).looks Count in omega (arith, e));
   found_zero_later = λ h. (let e : 4 ≤ 3 = (of_run _ refl (h.of_run 1 _ refl)).zero_looks (ChildOf 0 true) in omega (arith, e));
   too_few_words = λ h. (let e : 13 ≡ 14 = (of_run _ refl (h.of_run 1 _ refl)).looked in omega (arith, e));
@@ -113,6 +112,7 @@ returns c = record {
   best_above_a_recorded_goal_node = λ h. (let e : best_word 1281 1 ≤ best_word 1280 1 = h.best.placed 1 refl refl in omega (arith, e));
   saw_a_best_that_is_not = λ h. (let e : no_best ≤ best_word 1280 1 = (h.bests 0 _ refl refl).falls in omega (arith, e));
   saw_no_goal_node_as_best = λ h. (let e : false ≡ true = ((h.bests 0 _ refl refl).pair (λ e. omega (arith, e))).0 in cc);
+  best_seen_by_none = λ h. neither no_best (best_word 1280 1) (λ e. omega (arith, e)) (one_of_two _ _ _ _ h.best_copy);
   saw_recorded_goal_node_and_no_best = λ h. (let e : no_best ≤ best_word 1280 1 = (h.bests 1 _ refl refl).placed 1 refl refl in omega (arith, e));
   took_no_goal_node =
       λ h. (let e : false ≡ true = ((h.bests 0 _ refl refl).taken_pair (took_best (best_word 0 0)) (best_word 0 0) refl refl (λ e. omega (arith, e))).0 in cc);
