@@ -50,7 +50,7 @@ use Rattle.step_core.proofs.WorldNodes.{IsLater-link, IsWorld-counted, IsWorld-h
 use Rattle.step_core.proofs.LaterSteps.{IsLater-counted, IsLater-half, IsLater-pointed, IsLater-treed}
 use Rattle.step_core.proofs.WorldSteps.{HasWord-load, IsWorld-claimed, IsWorld-loaded, seen_within}
 use Rattle.step_core.proofs.WorldPosts.{IsLater-best, IsWorld-best_loaded, IsWorld-posted}
-use Rattle.plan_words.proofs.WholeViews.{best-whole, word_count-whole, words-whole}
+use Rattle.plan_words.proofs.WholeViews.{best-as_seen, best-whole, word_count-whole, words-whole}
 use Rattle.plan_words.proofs.WrittenPoints.{written-seen}
 
 -- the rule of a table of this run
@@ -475,6 +475,7 @@ module _ (run : SharedRun) where
       owes slots id place x me s then (LoadsBest (step slots place 0 0 none) me x) holds
       (subst (λ items. IsWorld run (words_of_run run items) (set s.views id then)) (sym (same_list s Best tt place)) world) record {
         told = record { view_is = refl; goes_on = goes_on words words s.views id me.0 then holds.world at own world later; slots = refl };
+        same = λ whole. is ∙ best-as_seen run words s.views id me.0 holds.world at own whole;
         whole =
             subst (λ w. HasWholeShare me.0 → w ≢ no_best → FindsGoalNode me.0 (best_node_in w, best_cost_in w)) (sym is)
             (λ whole. best-whole run words s.views id me.0 holds.world at own whole);
@@ -499,9 +500,12 @@ module _ (run : SharedRun) where
       let falls = (holds.world.bests id me.0 at own).falls in
       let later = IsLater-best me.0 (best_with me.0 n y) (hand_with_post me.0.hand n) (omega (arith, is, falls)) in
       owes slots id place (min y x) me s then (Posts (step slots place x 0 none) me y) holds world record {
-        view_is = ap (λ m. posted me.0 m y) (sym node);
-        goes_on = subst (λ m. GoesOn me.0 (posted me.0 m y)) (sym node) (goes_on words after s.views id me.0 then holds.world at own world later);
-        slots = refl;
+        told = record {
+          view_is = ap (λ m. posted me.0 m y) (sym node);
+          goes_on = subst (λ m. GoesOn me.0 (posted me.0 m y)) (sym node) (goes_on words after s.views id me.0 then holds.world at own world later);
+          slots = refl;
+        };
+        same = λ whole. is ∙ best-as_seen run words s.views id me.0 holds.world at own whole;
       }
 
   -- ---- splits and joins

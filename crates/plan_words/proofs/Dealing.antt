@@ -116,6 +116,7 @@ StandsFor-all shared first belongs crew hand lists =
       most = refl;
       hand = hand;
       seen = refl;
+      best = refl;
       lists = lists;
     }
 
@@ -140,6 +141,7 @@ module _ (shared : SharedState) (first : PassState) (w : ℕ) (pass : PassState)
         most = stands.most;
         hand = stands.hand;
         seen = stands.seen;
+        best = stands.best;
         lists = ap (λ p. with_view p (parted pass.view)) stands.lists;
       }
 
@@ -147,7 +149,7 @@ module _ (shared : SharedState) (first : PassState) (w : ℕ) (pass : PassState)
       → IsPassOf shared first w other
   IsPassOf-next other low belongs is =
       subst (IsPassOf shared first w) (sym is)
-      (subst (λ p. BelongsTo p shared) is belongs, second-next low, stands.most, refl, stands.seen, refl)
+      (subst (λ p. BelongsTo p shared) is belongs, second-next low, stands.most, refl, stands.seen, stands.best, refl)
 
   -- once all others have one, it stands for worker 0 alone
   pub IsPassOf-first : shared.workers ≤ w → IsPassOf shared first 0 pass
@@ -158,6 +160,7 @@ module _ (shared : SharedState) (first : PassState) (w : ℕ) (pass : PassState)
         stands.most,
         stands.hand,
         stands.seen,
+        stands.best,
         stands.lists,
       )
 
@@ -196,14 +199,16 @@ each-head has first passes after is own all i pass e = head has first passes own
 
 pub StartsAs-pass :
     (shared : SharedState) (grown : Grown) (first : PassState) (w : ℕ) (pass : PassState)
-    → without_best (sees first.view) ≡ without_best (words_of_grown grown) → first.view.most ≡ grown.limit → IsPassOf shared first w pass → StartsAs shared grown w pass
-StartsAs-pass shared grown first w pass seen most is = record {
+    → without_best (sees first.view) ≡ without_best (words_of_grown grown) → first.view.most ≡ grown.limit
+    → IsLeastBest (skipping_goals grown.task.scene) (state_of_grown grown) first.view.best → IsPassOf shared first w pass → StartsAs shared grown w pass
+StartsAs-pass shared grown first w pass seen most best is = record {
   belongs = is.0;
   crew = is.1 ∙ ap (λ words. member_of (run_in shared) words w ∷ []) seen;
   most = is.2 ∙ most;
   hand = is.3;
   seen = ap without_best is.4 ∙ seen;
-  lists = is.5;
+  best = subst (IsLeastBest (skipping_goals grown.task.scene) (state_of_grown grown)) (sym is.5) best;
+  lists = is.6;
 }
 
 -- whatever is written to the best word, the others are as they were

@@ -171,7 +171,8 @@ module _ (children : ChildIndex) (m child : ℕ) (was now then : View) (words_th
       (only : (n : ℕ) → IsOn more n → IsOn waiting n ⊎ (n ≡ child))
       (parents : (g : ℕ) → sees then (TreeOf child) ≢ sees now (TreeOf child) → HasSeenParent then child g → IsOn more child)
       (same : (more ≡ waiting) ⊎ (FindsLess (sees now (TreeOf child)) (sees then (TreeOf child)) × (length more ≤ size)))
-      (posted : sees then (TreeOf child) ≢ sees now (TreeOf child) → SeesGoal now child → then.best ≤ best_word (cost_in (sees then (TreeOf child))) child) where
+      (posted : sees then (TreeOf child) ≢ sees now (TreeOf child) → SeesGoal now child
+      → then.best ≤ best_word (cost_in (sees then (TreeOf child))) child) where
     less_then : sees then (TreeOf child) ≢ sees was (TreeOf child) → cost_in (sees then (TreeOf child)) < cost_in (sees was (TreeOf child))
     less_then changed = elim fell [
       | inl e ↦ omega (arith, ap cost_in e, (h.lowered child (λ old. changed (e ∙ old))).less)

@@ -1,5 +1,6 @@
 -- What a post leaves of a pass: nothing is seen anew but the best word.
-use Rattle.std.proofs.Common.{◌≡◌, ◌≢◌, ◌⊎◌, ℕ, zero, suc, ◌≤◌, ◌^◌, Bool, true, false, Option, Some, None, List, [], refl, sym, ap, ◌∙◌, subst, inl, inr, arith}
+use Rattle.std.proofs.Common.{◌≡◌, ◌≢◌, ◌⊎◌, ℕ, zero, suc, ◌≤◌, ◌^◌, Bool, true, false, Option, Some, None, List, [], refl, sym, ap, ◌∙◌, subst, inl}
+use Rattle.std.proofs.Common.{inr, arith}
 use Rattle.std.specs.Prelude.{◌+◌, ◌<◌, ◌==◌, ◌*◌, ◌/◌, ◌%◌, IfNone, IfSome, IsTrue, cond, length, slice_index}
 use Rattle.std.proofs.lemmas.Nat.{mod-mul-add, mod_below}
 use Rattle.std.proofs.lemmas.Bool.{eqb-true}
@@ -117,6 +118,12 @@ posted_view view then m n found same is =
 pub posted_low : (view then : View) (m n found : ℕ) → m ≡ n → then ≡ posted view m found → then.best ≤ best_word (cost_in (sees view (TreeOf n))) n
 posted_low view then m n found same is =
     omega (arith, ap (λ (v : View). v.best) is, ap (λ i. best_word (cost_in (sees view (TreeOf i))) i) same)
+
+-- with the whole share the word was found as it was seen
+pub posted_whole :
+    (view then : View) (m n found : ℕ) → m ≡ n → then ≡ posted view m found → found ≡ view.best → then.best ≡ best_with view n view.best
+posted_whole view then m n found same is seen =
+    ap (λ (v : View). v.best) is ∙ ap (λ i. best_with view i found) same ∙ ap (best_with view n) seen
 
 -- ---- points that are looked at again
 

@@ -20,7 +20,7 @@ use Rattle.step_core.specs.declared.views.SharedRun.{SharedRun}
 use Rattle.step_core.specs.declared.views.Stage.TheVariants.{Linked}
 use Rattle.step_core.specs.declared.views.View.{View}
 use Rattle.step_core.proofs.LinkedStates.{linked-present}
-use Rattle.step_core.proofs.WholeCopies.{count-whole, nodes-whole, points-whole, sees-whole}
+use Rattle.step_core.proofs.WholeCopies.{best-whole as best-same, count-whole, nodes-whole, points-whole, sees-whole}
 
 module _ (run : SharedRun) (words : Words) (views : List View) (id : ℕ) (view : View) (world : IsWorld run words views)
     (at : get_elem? views id ≡ some view) (own : view.run ≡ run) (whole : HasWholeShare view) where
@@ -42,6 +42,10 @@ module _ (run : SharedRun) (words : Words) (views : List View) (id : ℕ) (view 
 
   pub word_count-whole : ((hand : Hand) → view.hand ≡ Some hand → hand.stage ≢ Linked) → words Count ≡ node_count (tree_seen view).points
   word_count-whole done = count-whole run words views id view world at all_workers done
+
+  -- what it saw last of the best word is what that is
+  pub best-as_seen : words Best ≡ view.best
+  best-as_seen = sym (best-same run words views id view world at all_workers)
 
   -- The goal node of the best word is seen, at no more than is said there.
   pub best-whole : words Best ≢ no_best → FindsGoalNode view (best_node_in (words Best), best_cost_in (words Best))

@@ -10,7 +10,7 @@ use Rattle.step_core.specs.Views.{sees}
 abbrev pub IsPassOf : SharedState → PassState → ℕ → PassState → Type 0
 IsPassOf shared first w pass =
     BelongsTo pass shared × (pass.view.crew ≡ member_of (run_in shared) (sees first.view) w ∷ []) × (pass.view.most ≡ first.view.most)
-    × (pass.view.hand ≡ None) × (sees pass.view ≡ sees first.view) × (pass ≡ new_pass pass.table pass.view)
+    × (pass.view.hand ≡ None) × (sees pass.view ≡ sees first.view) × (pass.view.best ≡ first.view.best) × (pass ≡ new_pass pass.table pass.view)
 
 -- Before worker w has a pass of its own, the first pass stands for worker 0 and for those from w on.
 pub record StandsFor (shared : SharedState) (first : PassState) (w : ℕ) (pass : PassState) : Type 0 where
@@ -19,6 +19,7 @@ pub record StandsFor (shared : SharedState) (first : PassState) (w : ℕ) (pass 
   pub most : pass.view.most ≡ first.view.most
   pub hand : pass.view.hand ≡ None
   pub seen : sees pass.view ≡ sees first.view
+  pub best : pass.view.best ≡ first.view.best
   pub lists : pass ≡ new_pass pass.table pass.view
 
 -- each pass of a list has it for the number after its place

@@ -1,3 +1,4 @@
+pub mod OpeningBests
 pub mod States
 pub mod Bests
 pub mod Dealt

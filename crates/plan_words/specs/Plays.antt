@@ -109,14 +109,20 @@ pub record Lowers (step : Step Aim) (before : Me Aim View) (found : ℕ) (after 
   pub fell : found ≢ step.first → FindsLess step.first found
   pub whole : HasWholeShare before.0 → found ≡ step.first
 
+-- a pass with the whole share finds the best word as it has seen it
+abbrev pub FindsBestAsSeen : View → ℕ → Type 0
+FindsBestAsSeen view found = HasWholeShare view → found ≡ view.best
+
 -- the best word is seen as it was found; a pass with the whole share finds a goal node that it has seen, at no less than it costs
 pub record LoadsBest (step : Step Aim) (before : Me Aim View) (found : ℕ) (after : Me Aim View) : Type 0 where
   pub told : Tells before (best_loaded before.0 found) after
+  pub same : FindsBestAsSeen before.0 found
   pub whole : HasWholeShare before.0 → found ≢ no_best → FindsGoalNode before.0 (best_node_in found, best_cost_in found)
 
 -- a node was posted, that of the pair
-abbrev pub Posts : Step Aim → Me Aim View → ℕ → Me Aim View → Type 0
-Posts step before found after = Tells before (posted before.0 (best_node_in step.first) found) after
+pub record Posts (step : Step Aim) (before : Me Aim View) (found : ℕ) (after : Me Aim View) : Type 0 where
+  pub told : Tells before (posted before.0 (best_node_in step.first) found) after
+  pub same : FindsBestAsSeen before.0 found
 
 -- the record is stored, and the hand is empty
 abbrev pub Finishes : Step Aim → Me Aim View → ℕ → Me Aim View → Type 0

@@ -1,12 +1,14 @@
 -- What contracts see of a shared tree and of a pass, and what a table of words keeps.
 use Rattle.std.specs.Prelude.{◌≡◌, ℕ, ◌+◌, ◌*◌, ◌<◌, ◌≤◌, Option, Some, None, List, [], ◌∷◌, length, slice_index}
 use Rattle.atomic_table.specs.Seated.{TableId}
+use Rattle.plan_model.specs.Runs.Textbook.{skipping_goals}
 use Rattle.plan_model.specs.declared.tasks.Task.{Task}
 use Rattle.plan_words.specs.declared.openings.Opening.{Opening}
 use Rattle.plan_words.specs.SearchLists.{SearchLists, no_search}
-use Rattle.step_core.specs.GrownRuns.{words_of_grown}
+use Rattle.step_core.specs.GrownRuns.{state_of_grown, words_of_grown}
 use Rattle.step_core.specs.LaterViews.{IsLater, IsLawfulView}
 use Rattle.step_core.specs.PlacesOfWords.{sizes_in}
+use Rattle.step_core.specs.SeenBests.{IsLeastBest}
 use Rattle.step_core.specs.ViewStarts.{member_of, newcomer}
 use Rattle.step_core.specs.Views.{IsSharedRun, run_of, run_sizes, sees, share, words_of_run}
 use Rattle.step_core.specs.WordNames.{Words}
@@ -158,11 +160,13 @@ abbrev pub without_best : Words → Words
 without_best words Best = 0
 without_best words name = words name
 
--- The pass of worker w begins with its worker's turns, has seen all words, and its lists are empty.
+-- The pass of worker w begins with its worker's turns, has seen all words, of the best the least pair of the run's goal nodes, and its lists
+-- are empty.
 pub record StartsAs (shared : SharedState) (grown : Grown) (w : ℕ) (pass : PassState) : Type 0 where
   pub belongs : BelongsTo pass shared
   pub crew : pass.view.crew ≡ member_of (run_in shared) (words_of_grown grown) w ∷ []
   pub most : pass.view.most ≡ grown.limit
   pub hand : pass.view.hand ≡ None
   pub seen : without_best (sees pass.view) ≡ without_best (words_of_grown grown)
+  pub best : IsLeastBest (skipping_goals grown.task.scene) (state_of_grown grown) pass.view.best
   pub lists : pass ≡ new_pass pass.table pass.view

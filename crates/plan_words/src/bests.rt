@@ -7,7 +7,7 @@ ghost use Rattle.plan_words.specs.Bests.{FindsGoalNode};
 ghost use Rattle.plan_words.specs.States.{BelongsTo, GoesOn, HasWholeShare, with_view};
 ghost use Rattle.step_core.specs.GrownWords.{has_node};
 ghost use Rattle.step_core.specs.SeenBests.{IsInformed, MayPost, SeesGoal, seen_first_cost};
-ghost use Rattle.step_core.specs.ViewSteps.{best_loaded, hand_with_best, hand_with_post, with_best};
+ghost use Rattle.step_core.specs.ViewSteps.{best_loaded, best_with, hand_with_best, hand_with_post, with_best};
 ghost use Rattle.step_core.specs.Views.{sees};
 ghost use Rattle.step_core.specs.WordNames.Word.{TreeOf};
 ghost use Rattle.step_core.specs.Words.{best_of_word, best_word, cost_in};
@@ -33,7 +33,9 @@ impl Shared {
         ensures least { IfSome result (λ best. (n : ℕ) → has_node (sees pass.old.view) n ≡ true → SeesGoal pass.old.view n
             → best_word best.1 best.0 ≤ best_word (seen_first_cost pass.old.view n) n) }
         ensures none { IfNone result ((n : ℕ) → has_node (sees pass.old.view) n ≡ true → ¬ SeesGoal pass.old.view n) }
-        // a pass with the whole share has seen the node, and that it costs no more
+        // a pass with the whole share finds what it has seen of the best word
+        ensures same { HasWholeShare pass.old.view → pass.new.view.best ≡ pass.old.view.best }
+        // and it has seen the node, and that it costs no more
         ensures whole { HasWholeShare pass.old.view → IfSome result (FindsGoalNode pass.old.view) }
     {
         let word = self
@@ -53,6 +55,8 @@ impl Shared {
         ensures view { pass.new ≡ with_view pass.old (with_best pass.old.view pass.new.view.best (hand_with_post pass.old.view.hand node)) }
         ensures goes_on { GoesOn pass.old.view pass.new.view }
         ensures posted { pass.new.view.best ≤ best_word (cost_in (sees pass.old.view (TreeOf node))) node }
+        // a pass with the whole share knows what the lesser is
+        ensures whole { HasWholeShare pass.old.view → pass.new.view.best ≡ best_with pass.old.view node pass.old.view.best }
     {
         let (_, cost) = pair_in(pass.pairs.word(node));
         let place = self.places.best();

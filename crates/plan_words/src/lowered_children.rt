@@ -1,11 +1,13 @@
 //! A lowered cost comes to the children of its node.
 
-ghost use Rattle.std.specs.Prelude.{◌≡◌, ◌≢◌, ◌⊎◌, ℕ, suc, ◌+◌, ◌<◌, ◌≤◌, ◌^◌, ◌==◌, if◌then◌else◌, IfErr, IfNone, IfOk, IfSome, IsOk, None, length, slice_index, slice_set};
+ghost use Rattle.std.specs.Prelude.{◌≡◌, ◌≢◌, ◌⊎◌, ℕ, suc, ◌+◌, ◌<◌, ◌≤◌, ◌^◌, ◌==◌, if◌then◌else◌, IfErr, IfNone, IfOk, IfSome, IsOk, None, length};
+ghost use Rattle.std.specs.Prelude.{slice_index, slice_set};
 ghost use Rattle.std.specs.Vec.{vec_capacity};
 ghost use Rattle.plan_model.specs.Geometry.Bounds.{IsBounded};
 ghost use Rattle.plan_words.specs.Bests.{HasPostedHand};
 ghost use Rattle.plan_words.specs.Claims.{SeesAsBefore};
-ghost use Rattle.plan_words.specs.LoweredChildren.{CostsAtMostThrough, HasQueued, IsFound, IsFoundPair, IsSeenAbove, LooksOn, LowersChildren, PostsChanged, SeesSamePoints, SitsAt};
+ghost use Rattle.plan_words.specs.LoweredChildren.{CostsAtMostThrough, HasQueued, IsFound, IsFoundPair, IsSeenAbove, LooksOn, LowersChildren};
+ghost use Rattle.plan_words.specs.LoweredChildren.{PostsChanged, SeesSamePoints, SitsAt};
 ghost use Rattle.plan_words.specs.Parents.{FindsLess};
 ghost use Rattle.plan_words.specs.SeenChains.{sibling_chain_in};
 ghost use Rattle.plan_words.specs.States.{BelongsTo, GoesOn, HasFirstPairs, HasWholeShare};
@@ -42,8 +44,8 @@ impl Shared {
     /// parent and its cost, and the pass has a share. O(k) for k children.
     ///
     /// It loads no costs. Each child that is lowered and lies in a goal by which marks are skipped is posted; the node in hand was posted
-    /// before, if it is counted and lies in one. An exchange that fails shows a child at a lower cost, with whatever parent: that child is returned, and the
-    /// others may not have been looked at. `None` if all were.
+    /// before, if it is counted and lies in one. An exchange that fails shows a child at a lower cost, with whatever parent: that
+    /// child is returned, and the others may not have been looked at. `None` if all were.
     pub fn lower_children(&self, pass: &mut Pass, node: u32) -> Option<u32>
         requires belongs { BelongsTo pass.old self.now }
         requires part { 0 < share pass.old.view }
@@ -51,7 +53,8 @@ impl Shared {
         requires posted { HasPostedHand pass.old.view }
         ensures belongs { BelongsTo pass.new self.now }
         ensures looks { LooksOn pass.old.view pass.new.view }
-        ensures lists { (pass.new.lists.near ≡ pass.old.lists.near) × (pass.new.lists.around ≡ pass.old.lists.around) × (pass.new.lists.search ≡ pass.old.lists.search) }
+        ensures lists { (pass.new.lists.near ≡ pass.old.lists.near) × (pass.new.lists.around ≡ pass.old.lists.around)
+            × (pass.new.lists.search ≡ pass.old.lists.search) }
         ensures lowered { LowersChildren (IsFound result) pass.old.view pass.new.view node }
         // of a goal node that was lowered the best word is at most its pair then
         ensures posted { PostsChanged (IsFound result) pass.old.view pass.new.view }
@@ -60,7 +63,8 @@ impl Shared {
         ensures found { IfSome result (λ n. HasSeenParent pass.old.view node n × FindsLess (sees pass.old.view (TreeOf n)) (sees pass.new.view (TreeOf n))) }
         // each whose cost fell and that has a child waits; the child that was found aside
         ensures parents { (n m : ℕ) → ¬ IsFound result n → ¬ IsFound result m
-            → cost_in (sees pass.new.view (TreeOf n)) < cost_in (sees pass.old.view (TreeOf n)) → HasSeenParent pass.new.view n m → IsOn pass.new.lists.waiting n }
+            → cost_in (sees pass.new.view (TreeOf n)) < cost_in (sees pass.old.view (TreeOf n)) → HasSeenParent pass.new.view n m
+            → IsOn pass.new.lists.waiting n }
         ensures keeps { (n : ℕ) → IsOn pass.old.lists.waiting n → IsOn pass.new.lists.waiting n }
         ensures only { (n : ℕ) → IsOn pass.new.lists.waiting n → IsOn pass.old.lists.waiting n ⊎ HasSeenParent pass.old.view node n }
         // if no cost fell, none came on the list, and there are never more on it than there may be nodes
@@ -236,7 +240,8 @@ pub(crate) fn lower_chain(
     ensures sits { SitsAt shared.now seat.new.table_id seat.new.me }
     ensures looks { LooksOn seat.old.me.0 seat.new.me.0 }
     ensures pairs { IfNone result (HasFirstPairs seat.new.me.0 words.new.items) }
-    ensures pairs_found { IfSome result (λ found. (found.0 < length words.old.items) × HasFirstPairs seat.new.me.0 (slice_set words.new.items found.0 found.1)) }
+    ensures pairs_found { IfSome result (λ found. (found.0 < length words.old.items)
+        × HasFirstPairs seat.new.me.0 (slice_set words.new.items found.0 found.1)) }
     ensures size { waiting.new ≡ record waiting.old { nodes = waiting.new.nodes } }
     ensures lowered { LowersChildren (IsFoundPair result) seat.old.me.0 seat.new.me.0 above.node }
     ensures posted { PostsChanged (IsFoundPair result) seat.old.me.0 seat.new.me.0 }

@@ -1,12 +1,8 @@
 //! What a table is told once, and what a claim tells with its exchange.
 
 ghost use Rattle.std.specs.Prelude.{◌≤◌};
-ghost use Rattle.plan_model.specs.Runs.Textbook.{skipping_goals};
 ghost use Rattle.plan_model.specs.declared.limits.TheConstants.{MOST_WORKERS};
-ghost use Rattle.step_core.specs.GrownRuns.{state_of_grown, words_of_grown};
-ghost use Rattle.step_core.specs.HoldRunProps.{IsLeastBest-prop};
-ghost use Rattle.step_core.specs.SeenBests.{IsLeastBest};
-ghost use Rattle.step_core.specs.WordNames.Word.{Best};
+ghost use Rattle.plan_words.specs.OpeningBests.{HasLeastBest, HasLeastBest-prop};
 
 use step_core::Grown;
 
@@ -17,8 +13,7 @@ pub struct Opening {
     pub(crate) workers: u32,
     ghost some: { 1 ≤ workers },
     ghost few: { workers ≤ MOST_WORKERS },
-    ghost best: { IsLeastBest (skipping_goals grown.task.scene) (state_of_grown grown) (words_of_grown grown Best) }
-        by { IsLeastBest-prop (skipping_goals grown.task.scene) (state_of_grown grown) (words_of_grown grown Best) },
+    ghost best: { HasLeastBest grown } by { HasLeastBest-prop grown },
 }
 
 /// What a claim asks for: the next mark of a strip, below a limit.

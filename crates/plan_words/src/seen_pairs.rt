@@ -3,7 +3,8 @@
 ghost use Rattle.std.specs.Prelude.{◌≡◌, ◌⊎◌, ℕ, suc, ◌<◌, ◌≤◌, ◌^◌, length, slice_index, slice_set, IfNone, IfOk, IfSome, IsTrue, None, replicate};
 ghost use Rattle.std.specs.Vec.{vec_capacity};
 ghost use Rattle.plan_words.specs.Bests.{HasPostedHand};
-ghost use Rattle.plan_words.specs.LoweredChildren.{CostsAtMostThrough, HasQueued, IsFoundPair, IsSeenAbove, LooksOn, LowersChildren, PostsChanged, SeesSamePoints, SitsAt};
+ghost use Rattle.plan_words.specs.LoweredChildren.{CostsAtMostThrough, HasQueued, IsFoundPair, IsSeenAbove, LooksOn, LowersChildren, PostsChanged};
+ghost use Rattle.plan_words.specs.LoweredChildren.{SeesSamePoints, SitsAt};
 ghost use Rattle.plan_words.specs.Parents.{FindsLess};
 ghost use Rattle.plan_words.specs.SeenChains.{MayReach, Reaches, chain_of, sibling_chain_in};
 ghost use Rattle.plan_words.specs.States.{HasPairs, HasWholeShare};

@@ -7,7 +7,8 @@ use Rattle.plan_words.specs.States.{HasFirstPairs}
 use Rattle.plan_words.specs.Waiting.{WaitingState}
 use Rattle.plan_words.proofs.ChildCosts.{IsSeenAbove-kept}
 use Rattle.plan_words.proofs.LoweredChains.{HasFirstPairs-at, IsLowering-ends, IsLowering-start, IsLowering-step, chains-at, child_here, child_low}
-use Rattle.plan_words.proofs.LoweredChains.{child_own, child_seen, found_less, lowered_found, own_now, own_was, parents_found, points_then, posted_found, same_found}
+use Rattle.plan_words.proofs.LoweredChains.{child_own, child_seen, found_less, lowered_found, own_now, own_was, parents_found, points_then}
+use Rattle.plan_words.proofs.LoweredChains.{posted_found, same_found}
 use Rattle.plan_words.proofs.SeatSteps.{LooksOn-trans}
 use Rattle.plan_words.proofs.SeenChildren.{chain-HasSeenParent}
 use Rattle.plan_words.proofs.lowered_children.lower_chain.Goals as goal

@@ -45,7 +45,8 @@ returns-then-self-clause-posted c here =
     let within = lawful.within c.args.node (lawful.tree.rooted.points c.args.node (ap is_some may.seen.stands)) in
     let wrote =
     ap (λ (p : PassState). sees p.view (TreeOf c.args.node)) c.in_ok-lower_pair.ensures.view
-    ∙ (WritesWord-saw before.run before lawful.of_run (TreeOf c.args.node) within (sees before (TreeOf c.args.node)) (tree_word c.args.parent c.args.cost)).here in
+    ∙ (WritesWord-saw before.run before lawful.of_run (TreeOf c.args.node) within (sees before (TreeOf c.args.node))
+    (tree_word c.args.parent c.args.cost)).here in
     let fits = fits_word before may.at c.args.parent c.args.cost lawful may.below in
     let cost = ap cost_in wrote ∙ cost_in-tree_word c.args.parent c.args.cost fits.0 fits.1 in
     subst (λ x. c.post_lowered.new.pass.view.best ≤ best_word x c.args.node) cost

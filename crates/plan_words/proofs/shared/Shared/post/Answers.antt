@@ -1,10 +1,11 @@
 use Rattle.std.proofs.Common.{◌≡◌, ◌≤◌, ◌<◌, ◌^◌, ap, arith, refl, subst, sym, ◌∙◌}
 use Rattle.plan_words.proofs.KeptPairs.{HasPairs-kept, keeps_view}
 use Rattle.plan_words.proofs.Owning.{may_post_here, same_run, same_table, with_view_told}
-use Rattle.plan_words.proofs.Posting.{mark_fits, post_node, post_pair, post_within, posted_low, posted_view}
+use Rattle.plan_words.proofs.Posting.{mark_fits, post_node, post_pair, post_within, posted_low, posted_view, posted_whole}
 use Rattle.plan_words.proofs.shared.Shared.post.Goals as goal
+use Rattle.plan_words.specs.States.{HasWholeShare}
 use Rattle.step_core.specs.SeenBests.{MayPost}
-use Rattle.step_core.specs.ViewSteps.{hand_with_post, posted, with_best}
+use Rattle.step_core.specs.ViewSteps.{best_with, hand_with_post, posted, with_best}
 use Rattle.step_core.specs.Views.{sees}
 use Rattle.step_core.specs.WordNames.Word.{TreeOf}
 use Rattle.step_core.specs.Words.{best_node_in, best_word, cost_in}
@@ -41,7 +42,8 @@ invariant_of-pass c =
     let tied = c.pass.invariant.1 in
     let node = post_node me.0 c.args.node _ _ tied.lawful may c.pack_best.ensures in
     let then = posted me.0 (best_node_in c.pack_best.result) c.fetch_min-found.result in
-    keeps_view me c.fetch_min-found.new.seat.me then _ _ _ _ _ _ _ _ c.pass.inside.pairs c.pass.inside.pairs c.fetch_min-found.ensures.2 c.pass.invariant refl
+    keeps_view me c.fetch_min-found.new.seat.me then _ _ _ _ _ _ _ _ c.pass.inside.pairs c.pass.inside.pairs
+    c.fetch_min-found.ensures.2.told c.pass.invariant refl
     tied.member_is
     (c.note_post-pass-inside.ensures ∙ ap (λ h. hand_with_post h c.args.node) tied.hand_is ∙ ap (hand_with_post me.0.hand) (sym node))
     (HasPairs-kept me.0 then c.pass.inside.pairs refl (λ n. refl))
@@ -53,7 +55,7 @@ returns-clause-view c =
     let then = c.fetch_min-found.new.seat.me.0 in
     let node = post_node me.0 c.args.node _ _ c.pass.invariant.1.lawful may c.pack_best.ensures in
     with_view_told _ _ _ then (λ v. with_best v then.best (hand_with_post v.hand c.args.node)) c.pass.view_is c.fetch_min-found.ensures.0
-    (posted_view me.0 then _ c.args.node _ node c.fetch_min-found.ensures.2.view_is)
+    (posted_view me.0 then _ c.args.node _ node c.fetch_min-found.ensures.2.told.view_is)
 
 pub returns-clause-posted : goal.returns-clause-posted
 returns-clause-posted c =
@@ -62,4 +64,14 @@ returns-clause-posted c =
     let then = c.fetch_min-found.new.seat.me.0 in
     let node = post_node me.0 c.args.node _ _ c.pass.invariant.1.lawful may c.pack_best.ensures in
     subst (λ p. then.best ≤ best_word (cost_in (sees p.view (TreeOf c.args.node))) c.args.node) c.pass.view_is
-    (posted_low me.0 then _ c.args.node _ node c.fetch_min-found.ensures.2.view_is)
+    (posted_low me.0 then _ c.args.node _ node c.fetch_min-found.ensures.2.told.view_is)
+
+pub returns-clause-whole : goal.returns-clause-whole
+returns-clause-whole c whole =
+    let may = subst (λ p. MayPost p.view c.args.node) (sym c.pass.view_is) c.requires.may in
+    let view = c.pass.inside.seat.me.0 in
+    let then = c.fetch_min-found.new.seat.me.0 in
+    let node = post_node view c.args.node _ _ c.pass.invariant.1.lawful may c.pack_best.ensures in
+    let found = c.fetch_min-found.ensures.2 in
+    subst (λ p. then.best ≡ best_with p.view c.args.node p.view.best) c.pass.view_is
+    (posted_whole view then _ c.args.node _ node found.told.view_is (found.same (subst (λ p. HasWholeShare p.view) (sym c.pass.view_is) whole)))

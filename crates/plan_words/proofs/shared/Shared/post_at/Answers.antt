@@ -26,7 +26,7 @@ returns-clause-sits c =
     let after = c.fetch_min-found.new.seat.me in
     let found = c.fetch_min-found.result in
     let node = post_node me.0 c.args.node c.args.cost _ c.requires.sits.lawful c.requires.may c.pack_best.ensures in
-    let told = subst (λ m. Tells me (posted me.0 m found) after) node c.fetch_min-found.ensures.2 in
+    let told = subst (λ m. Tells me (posted me.0 m found) after) node c.fetch_min-found.ensures.2.told in
     SitsAt-posted me after c.args.node found told c.args.self.now _ _ c.fetch_min-found.ensures.0 c.requires.sits
 
 pub returns-clause-looks : goal.returns-clause-looks
@@ -35,7 +35,7 @@ returns-clause-looks c =
     let after = c.fetch_min-found.new.seat.me in
     let found = c.fetch_min-found.result in
     let node = post_node me.0 c.args.node c.args.cost _ c.requires.sits.lawful c.requires.may c.pack_best.ensures in
-    let told = subst (λ m. Tells me (posted me.0 m found) after) node c.fetch_min-found.ensures.2 in
+    let told = subst (λ m. Tells me (posted me.0 m found) after) node c.fetch_min-found.ensures.2.told in
     LooksOn-posted me after c.args.node found told c.requires.posted c.requires.may.goal
 
 pub returns-clause-posted : goal.returns-clause-posted
@@ -44,4 +44,4 @@ returns-clause-posted c =
     let then = c.fetch_min-found.new.seat.me.0 in
     let node = post_node view c.args.node c.args.cost _ c.requires.sits.lawful c.requires.may c.pack_best.ensures in
     subst (λ cost. then.best ≤ best_word cost c.args.node) (sym c.requires.cost)
-    (posted_low view then _ c.args.node _ node c.fetch_min-found.ensures.2.view_is)
+    (posted_low view then _ c.args.node _ node c.fetch_min-found.ensures.2.told.view_is)

@@ -1,4 +1,4 @@
-use Rattle.std.proofs.Common.{◌∙◌, ap, refl}
+use Rattle.std.proofs.Common.{◌∙◌, ap, refl, subst, sym}
 use Rattle.std.specs.Prelude.{slice_index}
 use Rattle.std.proofs.lemmas.Result.{IfOk-weaker}
 use Rattle.plan_model.specs.Runs.Turns.{turns_of}
@@ -6,7 +6,10 @@ use Rattle.plan_words.proofs.Dealing.{IsLeastBest-written, MayClaim-starts, Star
 use Rattle.plan_words.proofs.shared.Shared.start.Goals as goal
 use Rattle.plan_words.specs.States.{first_view, new_pass, without_best}
 use Rattle.plan_words.specs.declared.openings.Opening.{Opening}
-use Rattle.step_core.specs.GrownRuns.{words_of_grown}
+use Rattle.plan_model.specs.Runs.Textbook.{skipping_goals}
+use Rattle.step_core.specs.GrownRuns.{state_of_grown, words_of_grown}
+use Rattle.step_core.specs.SeenBests.{IsLeastBest}
+use Rattle.step_core.specs.WordNames.Word.{Best}
 use Rattle.step_core.specs.GrownWords.{record_at}
 use Rattle.step_core.specs.PlacesOfWords.{sizes_in}
 use Rattle.step_core.specs.RunWords.{words_in}
@@ -40,7 +43,10 @@ returns-clause-passes c =
     (λ started dealt w pass e.
     StartsAs-pass started.0 c.args.grown (new_pass started.0.table (first_view opening)) w pass
     (ap without_best (sees-started opening)
-    ∙ without_best-written (words_of_grown c.args.grown) (words_of_grown grown) _ c.write_best.ensures.words) c.write_best.ensures.limit (dealt w pass e))
+    ∙ without_best-written (words_of_grown c.args.grown) (words_of_grown grown) _ c.write_best.ensures.words) c.write_best.ensures.limit
+    (subst (IsLeastBest (skipping_goals c.args.grown.task.scene) (state_of_grown c.args.grown)) (sym (ap (λ words. words Best) (sees-started opening)))
+    c.write_best.ensures.best)
+    (dealt w pass e))
     c.deal.ensures.passes
 
 pub returns-clause-may_claim : goal.returns-clause-may_claim
