@@ -67,7 +67,8 @@ unskipped_none view takes =
             cc
 
 -- no point lies in none of the goals
-pub posted_plain : (view : View) (hand : Hand) (stage : Stage) → view.run.goals ≡ [] → IsTrue (is_goal_point view.run.goals (Some hand.point)) → hand.stage ≡ stage
+pub posted_plain :
+    (view : View) (hand : Hand) (stage : Stage) → view.run.goals ≡ [] → IsTrue (is_goal_point view.run.goals (Some hand.point)) → hand.stage ≡ stage
 posted_plain view hand stage none goal = let gone = subst (λ goals. IsTrue (is_goal_point goals (Some hand.point))) none goal in cc
 
 -- ---- a node below the start
@@ -221,7 +222,8 @@ module _ (view : View) (hand : Hand) (entry : Record) (cost : ℕ) (lawful : IsL
 
 pub may_finish :
     (view : View) (hand : Hand) (entry : Record) (cost : ℕ) → IsLawfulView view → HangsFromStart cost view → view.hand ≡ Some hand → entry.turn ≡ 0
-    → entry.nearest ≡ 0 → hand.nearest ≡ 0 → (IsTrue (is_goal_point view.run.goals (Some hand.point)) → hand.stage ≡ Posted) → entry.outcome ≡ Placed → entry.first_parent ≡ 0 → entry.first_cost ≡ cost → entry.class ≡ 1
+    → entry.nearest ≡ 0 → hand.nearest ≡ 0 → (IsTrue (is_goal_point view.run.goals (Some hand.point)) → hand.stage ≡ Posted)
+    → entry.outcome ≡ Placed → entry.first_parent ≡ 0 → entry.first_cost ≡ cost → entry.class ≡ 1
     → 1 ≤ sees view Count → IfSome view.hand (λ h. MayRecord view h entry)
 may_finish view hand entry cost lawful hung held first nearest from_start posted outcome parent cost_is class some =
     if_hand (λ h. MayRecord view h entry) view.hand hand held

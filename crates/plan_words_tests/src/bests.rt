@@ -157,14 +157,7 @@ fn finish_posted<R: Abort>(rt: &R, shared: &Shared, pass: &mut Pass, mark: u32, 
 }
 
 /// Records that the mark in hand was skipped by the goal node that the best has told.
-fn skip_mark<R: Abort>(
-    rt: &R,
-    shared: &Shared,
-    pass: &mut Pass,
-    mark: u32,
-    node: u32,
-    cost: u64,
-)
+fn skip_mark<R: Abort>(rt: &R, shared: &Shared, pass: &mut Pass, mark: u32, node: u32, cost: u64)
     requires holds { HoldsMark shared.now mark Claimed pass.old }
     requires takes { TakesBest (Some (node, cost)) pass.old.view }
 {

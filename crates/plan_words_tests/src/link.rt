@@ -94,7 +94,13 @@ pub(crate) fn claim_mark<R: Abort>(rt: &R, shared: &Shared, pass: &mut Pass, mar
 }
 
 /// Writes the point of the mark in hand, steered from the start to where it must come.
-pub(crate) fn write_from_start<R: Abort>(rt: &R, shared: &Shared, pass: &mut Pass, mark: u32, want: Point)
+pub(crate) fn write_from_start<R: Abort>(
+    rt: &R,
+    shared: &Shared,
+    pass: &mut Pass,
+    mark: u32,
+    want: Point,
+)
     requires holds { HoldsMark shared.now mark Claimed pass.old }
     requires unskipped { IfSome pass.old.view.hand (IsUnskipped pass.old.view) }
     ensures holds { HoldsMark shared.now mark Pointed pass.new }
