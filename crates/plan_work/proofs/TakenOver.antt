@@ -8,7 +8,6 @@ use Rattle.step_core.proofs.WordKinds.{AreBehind-refl, AreBehind-trans}
 use Rattle.step_core.specs.Views.{sees, share}
 use Rattle.step_core.specs.WordKinds.{AreBehind}
 use Rattle.plan_work.specs.Workers.{HasTakenOver}
-use Rattle.tree_rewire.specs.SeenCosts.{PassLowers}
 
 -- what holds of all of two lists holds of the first, and of the one that comes next
 pub All-front : (P : PassState → Type 0) (xs ys : List PassState) → All P (xs ++ ys) → All P xs
@@ -57,26 +56,6 @@ HasTakenOver-more shared taken pass other after takes may own its shares most = 
         → (pass.view.most < other.view.most) ⊎ (other.view.most ≤ pass.view.most) → after.view.most ≤ limit
     bounded limit one two (inl less) = omega (arith, most, less, two)
     bounded limit one two (inr more) = omega (arith, most, more, one)
-
--- and lowers costs then
-pub HasTakenOver-lowers :
-    (shared : SharedState) (before after : PassState) → PassLowers shared before after → (taken : List PassState) → HasTakenOver shared taken before
-    → HasTakenOver shared taken after
-HasTakenOver-lowers shared before after steps taken takes =
-    let kept = steps.sees_anew.kept in
-    let same : share after.view ≡ share before.view = ap length kept.crew in
-    record {
-      may_claim = record {
-        belongs = steps.belongs;
-        part = omega (arith, same, takes.may_claim.part);
-        idle = kept.hand ∙ takes.may_claim.idle;
-      };
-      all_shares = same ∙ takes.all_shares;
-      seen = λ k d low.
-          AreBehind-trans (sees (slice_index_or taken k d).view) (sees before.view) (sees after.view) (takes.seen k d low)
-          steps.sees_anew.goes_on.later.seen;
-      most = λ limit each. omega (arith, kept.most, takes.most limit each);
-    }
 
 -- the lists stay together
 pub taken_next : (all rest : List PassState) (other : PassState) (front taken : List PassState) → all ≡ rest ++ taken → rest ≡ front ++ other ∷ []

@@ -19,7 +19,6 @@ use std::thread;
 use std::thread::Threads;
 use step_core::Grown;
 use swept_check::Clearing;
-use tree_rewire::tighten;
 
 /// RRT* by 1 to `MOST_WORKERS` workers over the marks (the samples) of a task below a limit, which go on from a run. Each mark
 /// below the limit then has one record. Each worker has a thread of its own; if no thread can be made, they work one after
@@ -56,8 +55,7 @@ pub fn grow<R: Threads + Sync, C: Clearing, G: Gate>(
 {
     let (shared, mut passes) = Shared::start(alloc, grown, workers)?;
     work_all(rt, &shared, hall, limit, gate, passes.as_mut_slice());
-    let mut pass = take_over_all(&shared, passes);
-    lower_loose(&shared, &mut pass, workers);
+    let pass = take_over_all(&shared, passes);
     Ok(shared.end(pass))
 }
 
@@ -109,16 +107,4 @@ fn take_over_all(shared: &Shared, passes: Vec<Pass>) -> Pass
         shared.join(&mut pass, other);
     }
     pass
-}
-
-/// Lowers the nodes that several workers have left loose, so that settling finds none. One worker leaves none.
-fn lower_loose(shared: &Shared, pass: &mut Pass, workers: u32)
-    requires may_claim { MayClaim shared.now pass.old }
-    requires whole { HasWholeShare pass.old.view }
-    ensures taken { (passes : List PassState) → HasTakenOver shared.now passes pass.old → HasTakenOver shared.now passes pass.new }
-    ensures one { workers ≡ 1 → pass.new ≡ pass.old }
-{
-    if workers > 1 {
-        tighten(shared, pass);
-    }
 }

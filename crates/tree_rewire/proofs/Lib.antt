@@ -14,4 +14,3 @@ pub mod SkippedNodes
 pub mod RewiredFound
 pub mod RewiredTrees
 pub mod LoweredBelow
-pub mod TightenedCosts

@@ -59,20 +59,6 @@ pub record KeepsParents (before after : View) : Type 0 where
   pub written : (n : ℕ) → SeesPair after n → SeesPair before n
   pub others : ChangesOnly NamesTree (sees before) (sees after)
 
--- ---- loose nodes
-
--- a node that is seen with its parent and its cost is within its parent, if a cost of that was seen
-abbrev pub IsWithinIfSeen : View → ℕ → Type 0
-IsWithinIfSeen view n = SeesPair view n → IsWithinSeenParent view n
-
--- so is each such node: none is loose
-abbrev pub AllWithinParents : View → Type 0
-AllWithinParents view = (n : ℕ) → IsWithinIfSeen view n
-
--- no node becomes loose
-abbrev pub KeepsWithin : View → View → Type 0
-KeepsWithin before after = (n : ℕ) → IsWithinIfSeen before n → IsWithinIfSeen after n
-
 -- ---- steps
 
 -- no other node is seen with another parent or cost

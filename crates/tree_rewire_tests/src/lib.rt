@@ -9,5 +9,3 @@ mod spread;
 mod spread_by_threads;
 #[cfg(test)]
 mod support;
-#[cfg(test)]
-mod tighten;

@@ -26,8 +26,14 @@ take_over_all-pass-requires-clause-may_claim g c =
     subst (All (MayClaim shared)) (sym same)
     (all_may_claim shared c.args.grown before after c.args.limit c.in_ok-shared.ensures.passes count done c.requires.low)
 
-pub lower_loose-requires-clause-whole : goal.lower_loose-requires-clause-whole
-lower_loose-requires-clause-whole g c =
+pub end-requires-clause-belongs : goal.end-requires-clause-belongs
+end-requires-clause-belongs g c = c.take_over_all-pass.ensures.taken.may_claim.belongs
+
+pub end-requires-clause-idle : goal.end-requires-clause-idle
+end-requires-clause-idle g c = c.take_over_all-pass.ensures.taken.may_claim.idle
+
+pub end-requires-clause-whole : goal.end-requires-clause-whole
+end-requires-clause-whole g c =
     let shared = c.in_ok-shared.shared in
     let before = c.in_ok-shared.passes.items in
     let after = c.work_all.new.passes in
@@ -41,29 +47,6 @@ lower_loose-requires-clause-whole g c =
     let some_pass : 0 < length before = omega (arith, c.in_ok-shared.ensures.count, c.requires.some) in
     whole_share shared c.args.grown before after c.args.limit c.in_ok-shared.ensures.passes count done c.requires.low
     c.take_over_all-pass.result takes some_pass
-    ∙ c.in_ok-shared.ensures.count ∙ sym c.in_ok-shared.ensures.workers ∙ sym (ap (λ (r : SharedRun). r.workers) takes.may_claim.belongs.run)
-
-pub end-requires-clause-belongs : goal.end-requires-clause-belongs
-end-requires-clause-belongs g c = (c.lower_loose.ensures.taken _ c.take_over_all-pass.ensures.taken).may_claim.belongs
-
-pub end-requires-clause-idle : goal.end-requires-clause-idle
-end-requires-clause-idle g c = (c.lower_loose.ensures.taken _ c.take_over_all-pass.ensures.taken).may_claim.idle
-
-pub end-requires-clause-whole : goal.end-requires-clause-whole
-end-requires-clause-whole g c =
-    let shared = c.in_ok-shared.shared in
-    let before = c.in_ok-shared.passes.items in
-    let after = c.work_all.new.passes in
-    let same : take c.in_ok-shared.passes.len (after ++ drop (length after) before) ≡ after =
-    ap (λ n. take n (after ++ drop (length after) before)) (sym (c.work_all.ensures.count ∙ c.as_mut_slice.ensures.len))
-    ∙ take-append_seam after (drop (length after) before) in
-    let count : length after ≡ length before = c.work_all.ensures.count ∙ ap (λ l. length l) c.as_mut_slice.ensures.value in
-    let done = subst (λ l. (k : ℕ) (d : PassState) → k < length l → HasDone shared c.args.limit (slice_index_or l k d) (slice_index_or after k d))
-    c.as_mut_slice.ensures.value c.work_all.ensures.each in
-    let takes = subst (λ l. HasTakenOver shared l c.lower_loose.new.pass) same (c.lower_loose.ensures.taken _ c.take_over_all-pass.ensures.taken) in
-    let some_pass : 0 < length before = omega (arith, c.in_ok-shared.ensures.count, c.requires.some) in
-    whole_share shared c.args.grown before after c.args.limit c.in_ok-shared.ensures.passes count done c.requires.low
-    c.lower_loose.new.pass takes some_pass
     ∙ c.in_ok-shared.ensures.count ∙ sym c.in_ok-shared.ensures.workers
 
 pub end-requires-clause-none_left : goal.end-requires-clause-none_left
@@ -77,10 +60,10 @@ end-requires-clause-none_left g c =
     let count : length after ≡ length before = c.work_all.ensures.count ∙ ap (λ l. length l) c.as_mut_slice.ensures.value in
     let done = subst (λ l. (k : ℕ) (d : PassState) → k < length l → HasDone shared c.args.limit (slice_index_or l k d) (slice_index_or after k d))
     c.as_mut_slice.ensures.value c.work_all.ensures.each in
-    let takes = subst (λ l. HasTakenOver shared l c.lower_loose.new.pass) same (c.lower_loose.ensures.taken _ c.take_over_all-pass.ensures.taken) in
+    let takes = subst (λ l. HasTakenOver shared l c.take_over_all-pass.result) same c.take_over_all-pass.ensures.taken in
     let some_pass : 0 < length before = omega (arith, c.in_ok-shared.ensures.count, c.requires.some) in
     none_left shared c.args.grown before after c.args.limit c.in_ok-shared.ensures.passes count done c.requires.low
-    c.lower_loose.new.pass takes some_pass
+    c.take_over_all-pass.result takes some_pass
 
 pub returns-clause-limit : goal.returns-clause-limit
 returns-clause-limit g c =
@@ -93,10 +76,10 @@ returns-clause-limit g c =
     let count : length after ≡ length before = c.work_all.ensures.count ∙ ap (λ l. length l) c.as_mut_slice.ensures.value in
     let done = subst (λ l. (k : ℕ) (d : PassState) → k < length l → HasDone shared c.args.limit (slice_index_or l k d) (slice_index_or after k d))
     c.as_mut_slice.ensures.value c.work_all.ensures.each in
-    let takes = subst (λ l. HasTakenOver shared l c.lower_loose.new.pass) same (c.lower_loose.ensures.taken _ c.take_over_all-pass.ensures.taken) in
+    let takes = subst (λ l. HasTakenOver shared l c.take_over_all-pass.result) same c.take_over_all-pass.ensures.taken in
     let some_pass : 0 < length before = omega (arith, c.in_ok-shared.ensures.count, c.requires.some) in
     c.end.ensures.limit ∙ limit_reached shared c.args.grown before after c.args.limit c.in_ok-shared.ensures.passes count done c.requires.low
-    c.lower_loose.new.pass takes some_pass (state_of_grown c.end.result) c.end.ensures.seen
+    c.take_over_all-pass.result takes some_pass (state_of_grown c.end.result) c.end.ensures.seen
 
 pub returns-clause-grows : goal.returns-clause-grows
 returns-clause-grows g c =
@@ -109,10 +92,10 @@ returns-clause-grows g c =
     let count : length after ≡ length before = c.work_all.ensures.count ∙ ap (λ l. length l) c.as_mut_slice.ensures.value in
     let done = subst (λ l. (k : ℕ) (d : PassState) → k < length l → HasDone shared c.args.limit (slice_index_or l k d) (slice_index_or after k d))
     c.as_mut_slice.ensures.value c.work_all.ensures.each in
-    let takes = subst (λ l. HasTakenOver shared l c.lower_loose.new.pass) same (c.lower_loose.ensures.taken _ c.take_over_all-pass.ensures.taken) in
+    let takes = subst (λ l. HasTakenOver shared l c.take_over_all-pass.result) same c.take_over_all-pass.ensures.taken in
     let some_pass : 0 < length before = omega (arith, c.in_ok-shared.ensures.count, c.requires.some) in
     GrowsInto-all shared c.args.grown before after c.args.limit c.in_ok-shared.ensures.passes count done c.requires.low
-    c.lower_loose.new.pass takes some_pass (state_of_grown c.end.result) c.end.ensures.seen
+    c.take_over_all-pass.result takes some_pass (state_of_grown c.end.result) c.end.ensures.seen
     c.in_ok-shared.ensures.task
 
 pub returns-clause-workers : goal.returns-clause-workers
@@ -130,12 +113,12 @@ returns-clause-textbook g c = λ one textbook.
     let count : length after ≡ length before = c.work_all.ensures.count ∙ ap (λ l. length l) c.as_mut_slice.ensures.value in
     let done = subst (λ l. (k : ℕ) (d : PassState) → k < length l → HasDone shared c.args.limit (slice_index_or l k d) (slice_index_or after k d))
     c.as_mut_slice.ensures.value c.work_all.ensures.each in
-    let takes = subst (λ l. HasTakenOver shared l c.lower_loose.new.pass) same (c.lower_loose.ensures.taken _ c.take_over_all-pass.ensures.taken) in
+    let takes = subst (λ l. HasTakenOver shared l c.take_over_all-pass.result) same c.take_over_all-pass.ensures.taken in
     let some_pass : 0 < length before = omega (arith, c.in_ok-shared.ensures.count, c.requires.some) in
-    let pass = c.lower_loose.new.pass in
+    let pass = c.take_over_all-pass.result in
     let alone : length before ≡ 1 = c.in_ok-shared.ensures.count ∙ one in
     let only : pass ≡ slice_index_or after 0 pass =
-    c.lower_loose.ensures.one one ∙ c.take_over_all-pass.ensures.one (slice_index_or after 0 pass) (same ∙ one_of after pass (count ∙ alone)) in
+    c.take_over_all-pass.ensures.one (slice_index_or after 0 pass) (same ∙ one_of after pass (count ∙ alone)) in
     let handled = HasHandled-alone shared c.args.grown before after c.args.limit c.in_ok-shared.ensures.passes count done c.requires.low pass alone
     (c.in_ok-shared.ensures.workers ∙ one) c.in_ok-shared.ensures.task textbook in
     let limit : c.end.result.limit ≡ c.args.limit =
