@@ -1,0 +1,8 @@
+-- Closed discs of the plane.
+use Rattle.std.specs.Prelude.{ℕ, ◌≤◌}
+use Rattle.plan_model.specs.declared.geometry.Point.{Point}
+use Rattle.plan_model.specs.Geometry.Plane.{squared_distance}
+
+-- the square of the point's distance to the center is not above this one
+abbrev pub IsWithin : Point → ℕ → Point → Type 0
+IsWithin center square p = squared_distance p center ≤ square
