@@ -12,6 +12,7 @@ use Rattle.plan_model.specs.Runs.RecordLaw.{IsLawfulRecord}
 use Rattle.plan_model.specs.Runs.Textbook.{setup_of}
 use Rattle.plan_model.specs.Trees.PointsByNumber.{IsPresent}
 use Rattle.path_tools.specs.FirstBreaks.{IsFirstBreak, KeepsPresence}
+use Rattle.path_tools.specs.ReportLines.{extent_of}
 use Rattle.path_tools.specs.ReportSheets.{Sheet, SpellsSheet, state_of_sheet, number_of_node_line, number_of_mark_line}
 use Rattle.path_tools.specs.SheetLaws.{KeepsNodeLaw, HasOwnTurn, KeepsLawAt, KeepsLaw}
 use Rattle.path_tools.specs.Verdicts.{BreaksLawFirst}
@@ -149,7 +150,7 @@ module _ (task : Task) (sheet : Sheet) where
         | inr more ↦ (let e : 4 ≡ other = omega (arith, low, more) in subst (KeepsLaw task sheet) e four)
       ]
 
-  module _ (report : List ℕ) (spelled : SpellsSheet (length task.marks) report sheet) (two : KeepsLaw task sheet 2) where
+  module _ (report : List ℕ) (spelled : SpellsSheet (extent_of task) report sheet) (two : KeepsLaw task sheet 2) where
     -- the first mark that breaks the law of turns breaks it at the first line
     pub BreaksLawFirst-turns : (k : ℕ) → IsFirstBreak KeepsTurns (length sheet.records) (Some k)
         → BreaksLawFirst task report 3 (number_of_mark_line sheet k)
@@ -191,7 +192,7 @@ module _ (task : Task) (sheet : Sheet) where
       → IsFirstBreak KeepsNodes (length sheet.knots) None → KeepsLaw task sheet 2
   KeepsLaw-nodes within none line = nodes_at line (λ n at h. none n (within n h) h)
 
-  pub BreaksLawFirst-nodes : (report : List ℕ) → SpellsSheet (length task.marks) report sheet → (n : ℕ)
+  pub BreaksLawFirst-nodes : (report : List ℕ) → SpellsSheet (extent_of task) report sheet → (n : ℕ)
       → IsFirstBreak KeepsNodes (length sheet.knots) (Some n) → BreaksLawFirst task report 2 (number_of_node_line sheet n)
   BreaksLawFirst-nodes report spelled n first = record {
     sheet = sheet;

@@ -169,23 +169,22 @@ leb-from a b h = grind (arith, nat_tests)
 
 -- the number that is read below a bound is the word's
 pub found-decimal :
-    (o : Option ℕ) (word : List ℕ) (bound : ℕ) → 0 < bound → bound < 2 ^ 64 → is_number word ≡ true → (get_or word 0 0 ≡ 45 → ⊥)
-    → IfSome o (λ n. value_of word ≡ pos n) → IfSome o (λ n. (0 ≤ n) × (n ≤ bound - 1)) → IfSome o (λ n. (n < bound) × (word ≡ decimal n))
-found-decimal None word bound some few h unsigned value within = tt
-found-decimal (Some n) word bound some few h unsigned value within =
-    let low : n < bound = omega (arith, some, within.1) in
-    (low, word_is-decimal word n h unsigned value (omega (arith, low, few)))
+    (o : Option ℕ) (word : List ℕ) (most : ℕ) → most < 2 ^ 64 → is_number word ≡ true → (get_or word 0 0 ≡ 45 → ⊥)
+    → IfSome o (λ n. value_of word ≡ pos n) → IfSome o (λ n. (0 ≤ n) × (n ≤ most)) → IfSome o (λ n. (n ≤ most) × (word ≡ decimal n))
+found-decimal None word most few h unsigned value within = tt
+found-decimal (Some n) word most few h unsigned value within =
+    (within.1, word_is-decimal word n h unsigned value (omega (arith, within.1, few)))
 
 -- and if none is read, the word is no number below the bound
 pub no-decimal :
-    (o : Option ℕ) (word : List ℕ) (bound : ℕ) → bound < 2 ^ 64
-    → IfNone o ((int_le (pos 0) (value_of word) && int_le (value_of word) (pos (bound - 1))) ≡ false)
-    → IfNone o ((n : ℕ) → n < bound → ¬ (word ≡ decimal n))
-no-decimal (Some x) word bound few outside = tt
-no-decimal None word bound few outside = λ n low e. none n low e
+    (o : Option ℕ) (word : List ℕ) (most : ℕ) → most < 2 ^ 64
+    → IfNone o ((int_le (pos 0) (value_of word) && int_le (value_of word) (pos most)) ≡ false)
+    → IfNone o ((n : ℕ) → n ≤ most → ¬ (word ≡ decimal n))
+no-decimal (Some x) word most few outside = tt
+no-decimal None word most few outside = λ n low e. none n low e
   where
-    none : (n : ℕ) → n < bound → word ≡ decimal n → ⊥
+    none : (n : ℕ) → n ≤ most → word ≡ decimal n → ⊥
     none n low e =
         let value : value_of word ≡ pos n = ap value_of e ∙ value_of-decimal n (omega (arith, low, few)) in
-        let fails = subst (λ z. (int_le (pos 0) z && int_le z (pos (bound - 1))) ≡ false) value outside in
-        true≢false (sym (and_from (leb 0 n) (leb n (bound - 1)) (leb-from 0 n (omega arith)) (leb-from n (bound - 1) (omega (arith, low)))) ∙ fails)
+        let fails = subst (λ z. (int_le (pos 0) z && int_le z (pos most)) ≡ false) value outside in
+        true≢false (sym (and_from (leb 0 n) (leb n most) (leb-from 0 n (omega arith)) (leb-from n most low)) ∙ fails)

@@ -20,7 +20,7 @@ use Rattle.plan_model.specs.Trees.NodeLists.{without_costs}
 use Rattle.plan_model.specs.Trees.PointsByNumber.{IsPresent, point_at}
 use Rattle.plan_model.specs.Trees.TreeStates.{TreeState, IsSettled}
 use Rattle.plan_model.proofs.NewNodes.{present_below}
-use Rattle.path_tools.specs.ReportLines.{Tally, ReportLine, lines_text}
+use Rattle.path_tools.specs.ReportLines.{Tally, ReportLine, extent_of, lines_text}
 use Rattle.path_tools.specs.ReportLines.ReportLine.{NoPath, PathOf, PathPoint, Counts}
 use Rattle.path_tools.specs.ReportSheets.{PricedPath, Sheet, head_lines, lines_of_sheet, state_of_sheet, HasForm}
 use Rattle.path_tools.specs.ReportSheets.{number_of_node_line, number_of_mark_line}
@@ -79,7 +79,7 @@ pub length-without_costs : (knots : List (Option Knot)) → length (without_cost
 length-without_costs knots = length-map knots (option_map twig_of)
 
 module _
-    (task : Task) (sheet : Sheet) (form : HasForm (length task.marks) sheet) (kept : (law : ℕ) → KeepsLaw task sheet law)
+    (task : Task) (sheet : Sheet) (form : HasForm (extent_of task) sheet) (kept : (law : ℕ) → KeepsLaw task sheet law)
     (clear : ClearAt (space_of task.scene) task.scene.start) where
   abbrev run : TreeState
   run = state_of_sheet sheet
@@ -123,9 +123,9 @@ module _
     placed = λ k. placed k (slice_get sheet.records k) refl;
   }
 
-  head : head_lines sheet.path sheet.tally ≡ head_lines (best_priced_path task.scene (length task.marks) run) (tally_of (length task.marks) run)
+  head : head_lines sheet.path sheet.tally ≡ head_lines (best_priced_path task.scene (length task.marks) run) (tally_of task.scene (length task.marks) run)
   head =
-      same_heads sheet.path (best_priced_path task.scene (length task.marks) run) sheet.tally (tally_of (length task.marks) run)
+      same_heads sheet.path (best_priced_path task.scene (length task.marks) run) sheet.tally (tally_of task.scene (length task.marks) run)
       (λ i low. (kept 6 (suc i)).head refl i low refl)
 
   pub IsReportOfRun-sheet : (report : List ℕ) → report ≡ lines_text (lines_of_sheet sheet) → IsReportOfRun task report

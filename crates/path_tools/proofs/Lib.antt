@@ -16,3 +16,6 @@ pub mod OneVerdict
 pub mod BrokenLines
 pub mod PresentNodes
 pub mod DecimalWords
+pub mod FirstBreakLaws
+pub mod TurnBreaks
+pub mod NodeBreaks

@@ -1,7 +1,7 @@
 -- What a line says is known by its words, and these by its bytes.
 use Rattle.std.proofs.Common.{◌≡◌, ℕ, ◌+◌, ◌%◌, ◌/◌, ◌<◌, ◌≤◌, ◌^◌, Bool, true, false, not, ◌&&◌, eqb, List, [], ◌∷◌, ◌++◌, length, get_or}
 use Rattle.std.proofs.Common.{arith, refl, sym, ap, ◌∙◌, subst, append_assoc, decimal}
-use Rattle.std.specs.Prelude.{IsTrue, codes}
+use Rattle.std.specs.Prelude.{IsTrue, Option, Some, None, codes}
 use Rattle.std.specs.List.{list_all, join_with_byte}
 use Rattle.std.proofs.lemmas.Bool.{and_parts, eqb-true, true≢false}
 use Rattle.std.proofs.lemmas.Bool.Decides.{nat_tests}
@@ -9,7 +9,7 @@ use Rattle.std.proofs.lemmas.Fmt.{decimal_by_steps, decimal_injective}
 use Rattle.std.proofs.lemmas.List.{append_cancel_left}
 use Rattle.std.proofs.lemmas.List.Folds.{list_all-append}
 use Rattle.plan_model.specs.declared.records.Outcome.{Outcome}
-use Rattle.plan_model.specs.declared.records.Outcome.TheVariants.{Placed, Same, Blocked}
+use Rattle.plan_model.specs.declared.records.Outcome.TheVariants.{Placed, Same, Blocked, Skipped}
 use Rattle.plan_model.specs.declared.records.Record.{Record}
 use Rattle.plan_model.specs.Reports.ReportText.{line, outcome_words}
 use Rattle.plan_model.specs.Runs.Outcomes.{is_zero_unless_placed}
@@ -18,7 +18,7 @@ use Rattle.plan_model.specs.Texts.TextLines.{lines_of, pieces_of}
 use Rattle.plan_model.specs.Texts.TextNumbers.{is_digit}
 use Rattle.plan_model.proofs.UniqueRuns.{Record-from_fields}
 use Rattle.step_core.specs.Words.{last_field}
-use Rattle.path_tools.specs.ReportLines.{ReportLine, line_words, line_text, FitsLine}
+use Rattle.path_tools.specs.ReportLines.{ReportLine, Extent, line_words, line_text, skipped_count, FitsLine, FitsSkipped}
 use Rattle.path_tools.specs.ReportLines.ReportLine.{NoPath, PathOf, PathPoint, Counts, NodeLine, MarkLine}
 
 -- ---- bytes of words
@@ -162,20 +162,28 @@ uncut-outcome entry Placed nearest last parent cost =
 uncut-outcome entry (Same j) nearest last parent cost =
     rw (uncut-decimal entry.nearest (omega (arith, nearest)), uncut-decimal j (omega (arith, last))) refl
 uncut-outcome entry Blocked nearest last parent cost = rw (uncut-decimal entry.nearest (omega (arith, nearest))) refl
+uncut-outcome entry Skipped nearest last parent cost = rw (uncut-decimal entry.nearest (omega (arith, nearest))) refl
+
+uncut-skipped : (informed : Bool) (count : Option ℕ) → FitsSkipped informed count → AreUncut (skipped_count count)
+uncut-skipped false None fits = refl
+uncut-skipped true None fits = absurd fits
+uncut-skipped false (Some count) fits = absurd fits
+uncut-skipped true (Some count) fits = rw (uncut-decimal count fits) refl
 
 -- the words of a line whose numbers are in their ranges have neither spaces nor line feeds
-pub uncut-line : (marks : ℕ) → marks < 2 ^ 64 → (said : ReportLine) → FitsLine marks said → AreUncut (line_words said)
-uncut-line marks few NoPath fits = refl
-uncut-line marks few (PathOf points cost) fits = rw (uncut-decimal points fits.0, uncut-decimal cost (omega (arith, fits.1))) refl
-uncut-line marks few (PathPoint p) fits = rw (uncut-decimal p.x (omega (arith, fits.right)), uncut-decimal p.y (omega (arith, fits.top))) refl
-uncut-line marks few (Counts tally) fits =
+pub uncut-line : (extent : Extent) → extent.marks < 2 ^ 64 → (said : ReportLine) → FitsLine extent said → AreUncut (line_words said)
+uncut-line extent few NoPath fits = refl
+uncut-line extent few (PathOf points cost) fits = rw (uncut-decimal points fits.0, uncut-decimal cost (omega (arith, fits.1))) refl
+uncut-line extent few (PathPoint p) fits = rw (uncut-decimal p.x (omega (arith, fits.right)), uncut-decimal p.y (omega (arith, fits.top))) refl
+uncut-line extent few (Counts tally) fits =
     rw (
       uncut-decimal tally.nodes fits.nodes,
       uncut-decimal tally.placed fits.placed,
       uncut-decimal tally.same fits.same,
       uncut-decimal tally.blocked fits.blocked,
+      uncut-skipped extent.informed tally.skipped fits.skipped,
     ) refl
-uncut-line marks few (NodeLine n knot) fits =
+uncut-line extent few (NodeLine n knot) fits =
     rw (
       uncut-decimal n (omega (arith, few, fits.number)),
       uncut-decimal knot.point.x (omega (arith, fits.point.right)),
@@ -183,7 +191,7 @@ uncut-line marks few (NodeLine n knot) fits =
       uncut-decimal knot.parent (omega (arith, few, fits.parent)),
       uncut-decimal knot.cost (omega (arith, fits.cost)),
     ) refl
-uncut-line marks few (MarkLine k entry) fits =
+uncut-line extent few (MarkLine k entry) fits =
     let own = fits.1 in
     let outcome = uncut-outcome entry entry.outcome own.words.word.nearest own.words.word.last own.words.parent own.words.cost in
     rw (
@@ -222,8 +230,15 @@ zeros_by entry h =
 zeros-same : (entry : Record) (j : ℕ) → entry.outcome ≡ Same j → AreZeros entry
 zeros-same entry j e = zeros_by entry (subst (λ o. IsTrue (is_zero_unless_placed o entry.first_parent entry.first_cost entry.class)) e entry.unplaced)
 
+zeros-skipped : (entry : Record) → entry.outcome ≡ Skipped → AreZeros entry
+zeros-skipped entry e = zeros_by entry (subst (λ o. IsTrue (is_zero_unless_placed o entry.first_parent entry.first_cost entry.class)) e entry.unplaced)
+
 zeros-blocked : (entry : Record) → entry.outcome ≡ Blocked → AreZeros entry
 zeros-blocked entry e = zeros_by entry (subst (λ o. IsTrue (is_zero_unless_placed o entry.first_parent entry.first_cost entry.class)) e entry.unplaced)
+
+-- words that are the same begin with the same byte
+first_byte : (words others : List (List ℕ)) → words ≡ others → get_or (get_or words 0 []) 0 0 ≡ get_or (get_or others 0 []) 0 0
+first_byte words others h = ap (λ (ws : List (List ℕ)). get_or (get_or ws 0 []) 0 0) h
 
 module _
     (entry other : Record) (worker : entry.worker ≡ other.worker) (turn : entry.turn ≡ other.turn)
@@ -274,44 +289,78 @@ module _
         first_cost = one.cost ∙ sym two.cost;
         class = one.class ∙ sym two.class;
       }
+  same_outcomes Skipped Skipped e f last last_too h =
+      let nearest : decimal entry.nearest ≡ decimal other.nearest = cc in
+      let one = zeros-skipped entry e in
+      let two = zeros-skipped other f in
+      record {
+        worker = worker;
+        turn = turn;
+        nearest = same_number entry.nearest other.nearest (omega (arith, near)) (omega (arith, near_too)) nearest;
+        outcome = e ∙ sym f;
+        first_parent = one.parent ∙ sym two.parent;
+        first_cost = one.cost ∙ sym two.cost;
+        class = one.class ∙ sym two.class;
+      }
   same_outcomes Placed (Same i) e f last last_too h = absurd (cc)
   same_outcomes Placed Blocked e f last last_too h = absurd (cc)
   same_outcomes (Same j) Placed e f last last_too h = absurd (cc)
   same_outcomes (Same j) Blocked e f last last_too h = absurd (cc)
   same_outcomes Blocked Placed e f last last_too h = absurd (cc)
   same_outcomes Blocked (Same i) e f last last_too h = absurd (cc)
+  same_outcomes Placed Skipped e f last last_too h =
+      absurd (omega (arith, first_byte (outcome_words entry Placed) (outcome_words other Skipped) h))
+  same_outcomes (Same j) Skipped e f last last_too h =
+      absurd (omega (arith, first_byte (outcome_words entry (Same j)) (outcome_words other Skipped) h))
+  same_outcomes Blocked Skipped e f last last_too h =
+      absurd (omega (arith, first_byte (outcome_words entry Blocked) (outcome_words other Skipped) h))
+  same_outcomes Skipped Placed e f last last_too h =
+      absurd (omega (arith, first_byte (outcome_words entry Skipped) (outcome_words other Placed) h))
+  same_outcomes Skipped (Same i) e f last last_too h =
+      absurd (omega (arith, first_byte (outcome_words entry Skipped) (outcome_words other (Same i)) h))
+  same_outcomes Skipped Blocked e f last last_too h =
+      absurd (omega (arith, first_byte (outcome_words entry Skipped) (outcome_words other Blocked) h))
 
--- words that are the same begin with the same byte
-first_byte : (words others : List (List ℕ)) → words ≡ others → get_or (get_or words 0 []) 0 0 ≡ get_or (get_or others 0 []) 0 0
-first_byte words others h = ap (λ (ws : List (List ℕ)). get_or (get_or ws 0 []) 0 0) h
+-- counts of skipped marks with the same words are the same
+same_skipped : (informed : Bool) (one other : Option ℕ) → FitsSkipped informed one → FitsSkipped informed other
+    → skipped_count one ≡ skipped_count other → one ≡ other
+same_skipped informed None None fits also h = refl
+same_skipped informed None (Some other) fits also h = absurd (cc)
+same_skipped informed (Some one) None fits also h = absurd (cc)
+same_skipped false (Some one) (Some other) fits also h = absurd fits
+same_skipped true (Some one) (Some other) fits also h =
+    let digits : decimal one ≡ decimal other = cc in
+    ap Some (same_number one other fits also digits)
 
 -- Lines with numbers in their ranges that have the same words say the same.
-pub same_said : (marks : ℕ) → marks < 2 ^ 64 → (one other : ReportLine) → FitsLine marks one → FitsLine marks other → line_words one ≡ line_words other
+pub same_said : (extent : Extent) → extent.marks < 2 ^ 64 → (one other : ReportLine) → FitsLine extent one → FitsLine extent other → line_words one ≡ line_words other
     → one ≡ other
-same_said marks few NoPath NoPath fits also h = refl
-same_said marks few (PathOf points cost) (PathOf others price) fits also h =
+same_said extent few NoPath NoPath fits also h = refl
+same_said extent few (PathOf points cost) (PathOf others price) fits also h =
     let a : decimal points ≡ decimal others = cc in
     let b : decimal cost ≡ decimal price = cc in
     let same = same_number points others fits.0 also.0 a in
     let costs = same_number cost price (omega (arith, fits.1)) (omega (arith, also.1)) b in
     λ i. PathOf (same i) (costs i)
-same_said marks few (PathPoint p) (PathPoint q) fits also h =
+same_said extent few (PathPoint p) (PathPoint q) fits also h =
     let a : decimal p.x ≡ decimal q.x = cc in
     let b : decimal p.y ≡ decimal q.y = cc in
     let right = same_number p.x q.x (omega (arith, fits.right)) (omega (arith, also.right)) a in
     let top = same_number p.y q.y (omega (arith, fits.top)) (omega (arith, also.top)) b in
     λ i. PathPoint (record { x = right i; y = top i })
-same_said marks few (Counts tally) (Counts counts) fits also h =
+same_said extent few (Counts tally) (Counts counts) fits also h =
     let a : decimal tally.nodes ≡ decimal counts.nodes = cc in
     let b : decimal tally.placed ≡ decimal counts.placed = cc in
     let c : decimal tally.same ≡ decimal counts.same = cc in
     let d : decimal tally.blocked ≡ decimal counts.blocked = cc in
+    let e : skipped_count tally.skipped ≡ skipped_count counts.skipped = cc in
     let nodes = same_number tally.nodes counts.nodes fits.nodes also.nodes a in
     let placed = same_number tally.placed counts.placed fits.placed also.placed b in
     let same = same_number tally.same counts.same fits.same also.same c in
     let blocked = same_number tally.blocked counts.blocked fits.blocked also.blocked d in
-    λ i. Counts (record { nodes = nodes i; placed = placed i; same = same i; blocked = blocked i })
-same_said marks few (NodeLine n knot) (NodeLine m node) fits also h =
+    let skipped = same_skipped extent.informed tally.skipped counts.skipped fits.skipped also.skipped e in
+    λ i. Counts (record { nodes = nodes i; placed = placed i; same = same i; blocked = blocked i; skipped = skipped i })
+same_said extent few (NodeLine n knot) (NodeLine m node) fits also h =
     let a : decimal n ≡ decimal m = cc in
     let b : decimal knot.point.x ≡ decimal node.point.x = cc in
     let c : decimal knot.point.y ≡ decimal node.point.y = cc in
@@ -323,7 +372,7 @@ same_said marks few (NodeLine n knot) (NodeLine m node) fits also h =
     let parent = same_number knot.parent node.parent (omega (arith, few, fits.parent)) (omega (arith, few, also.parent)) d in
     let cost = same_number knot.cost node.cost (omega (arith, fits.cost)) (omega (arith, also.cost)) e in
     λ i. NodeLine (number i) (record { point = record { x = right i; y = top i }; parent = parent i; cost = cost i })
-same_said marks few (MarkLine k entry) (MarkLine j other) fits also h =
+same_said extent few (MarkLine k entry) (MarkLine j other) fits also h =
     let own = fits.1 in
     let too = also.1 in
     let a : decimal k ≡ decimal j = cc in
@@ -338,50 +387,50 @@ same_said marks few (MarkLine k entry) (MarkLine j other) fits also h =
     entry.outcome other.outcome refl refl own.words.word.last too.words.word.last d in
     let same = Record-from_fields entry other fields in
     λ i. MarkLine (number i) (same i)
-same_said marks few NoPath (PathOf others price) fits also h = absurd (cc)
-same_said marks few NoPath (PathPoint q) fits also h =
+same_said extent few NoPath (PathOf others price) fits also h = absurd (cc)
+same_said extent few NoPath (PathPoint q) fits also h =
     let first : decimal q.x ≡ codes "no" = cc in
     absurd (true≢false (sym (digits-decimal q.x (omega (arith, also.right))) ∙ ap (list_all is_digit) first))
-same_said marks few NoPath (Counts counts) fits also h = absurd (cc)
-same_said marks few NoPath (NodeLine m node) fits also h = absurd (cc)
-same_said marks few NoPath (MarkLine j other) fits also h = absurd (cc)
-same_said marks few (PathOf points cost) NoPath fits also h = absurd (cc)
-same_said marks few (PathOf points cost) (PathPoint q) fits also h = absurd (cc)
-same_said marks few (PathOf points cost) (Counts counts) fits also h = absurd (cc)
-same_said marks few (PathOf points cost) (NodeLine m node) fits also h = absurd (cc)
-same_said marks few (PathOf points cost) (MarkLine j other) fits also h = absurd (cc)
-same_said marks few (PathPoint p) NoPath fits also h =
+same_said extent few NoPath (Counts counts) fits also h = absurd (cc)
+same_said extent few NoPath (NodeLine m node) fits also h = absurd (cc)
+same_said extent few NoPath (MarkLine j other) fits also h = absurd (cc)
+same_said extent few (PathOf points cost) NoPath fits also h = absurd (cc)
+same_said extent few (PathOf points cost) (PathPoint q) fits also h = absurd (cc)
+same_said extent few (PathOf points cost) (Counts counts) fits also h = absurd (cc)
+same_said extent few (PathOf points cost) (NodeLine m node) fits also h = absurd (cc)
+same_said extent few (PathOf points cost) (MarkLine j other) fits also h = absurd (cc)
+same_said extent few (PathPoint p) NoPath fits also h =
     let first : decimal p.x ≡ codes "no" = cc in
     absurd (true≢false (sym (digits-decimal p.x (omega (arith, fits.right))) ∙ ap (list_all is_digit) first))
-same_said marks few (PathPoint p) (PathOf others price) fits also h = absurd (cc)
-same_said marks few (PathPoint p) (Counts counts) fits also h = absurd (cc)
-same_said marks few (PathPoint p) (NodeLine m node) fits also h = absurd (cc)
-same_said marks few (PathPoint p) (MarkLine j other) fits also h = absurd (cc)
-same_said marks few (Counts tally) NoPath fits also h = absurd (cc)
-same_said marks few (Counts tally) (PathOf others price) fits also h = absurd (cc)
-same_said marks few (Counts tally) (PathPoint q) fits also h = absurd (cc)
-same_said marks few (Counts tally) (NodeLine m node) fits also h = absurd (cc)
-same_said marks few (Counts tally) (MarkLine j other) fits also h =
+same_said extent few (PathPoint p) (PathOf others price) fits also h = absurd (cc)
+same_said extent few (PathPoint p) (Counts counts) fits also h = absurd (cc)
+same_said extent few (PathPoint p) (NodeLine m node) fits also h = absurd (cc)
+same_said extent few (PathPoint p) (MarkLine j other) fits also h = absurd (cc)
+same_said extent few (Counts tally) NoPath fits also h = absurd (cc)
+same_said extent few (Counts tally) (PathOf others price) fits also h = absurd (cc)
+same_said extent few (Counts tally) (PathPoint q) fits also h = absurd (cc)
+same_said extent few (Counts tally) (NodeLine m node) fits also h = absurd (cc)
+same_said extent few (Counts tally) (MarkLine j other) fits also h =
     absurd (omega (arith, first_byte (line_words (Counts tally)) (line_words (MarkLine j other)) h))
-same_said marks few (NodeLine n knot) NoPath fits also h = absurd (cc)
-same_said marks few (NodeLine n knot) (PathOf others price) fits also h = absurd (cc)
-same_said marks few (NodeLine n knot) (PathPoint q) fits also h = absurd (cc)
-same_said marks few (NodeLine n knot) (Counts counts) fits also h = absurd (cc)
-same_said marks few (NodeLine n knot) (MarkLine j other) fits also h =
+same_said extent few (NodeLine n knot) NoPath fits also h = absurd (cc)
+same_said extent few (NodeLine n knot) (PathOf others price) fits also h = absurd (cc)
+same_said extent few (NodeLine n knot) (PathPoint q) fits also h = absurd (cc)
+same_said extent few (NodeLine n knot) (Counts counts) fits also h = absurd (cc)
+same_said extent few (NodeLine n knot) (MarkLine j other) fits also h =
     absurd (omega (arith, first_byte (line_words (NodeLine n knot)) (line_words (MarkLine j other)) h))
-same_said marks few (MarkLine k entry) NoPath fits also h = absurd (cc)
-same_said marks few (MarkLine k entry) (PathOf others price) fits also h = absurd (cc)
-same_said marks few (MarkLine k entry) (PathPoint q) fits also h = absurd (cc)
-same_said marks few (MarkLine k entry) (Counts counts) fits also h =
+same_said extent few (MarkLine k entry) NoPath fits also h = absurd (cc)
+same_said extent few (MarkLine k entry) (PathOf others price) fits also h = absurd (cc)
+same_said extent few (MarkLine k entry) (PathPoint q) fits also h = absurd (cc)
+same_said extent few (MarkLine k entry) (Counts counts) fits also h =
     absurd (omega (arith, first_byte (line_words (MarkLine k entry)) (line_words (Counts counts)) h))
-same_said marks few (MarkLine k entry) (NodeLine m node) fits also h =
+same_said extent few (MarkLine k entry) (NodeLine m node) fits also h =
     absurd (omega (arith, first_byte (line_words (MarkLine k entry)) (line_words (NodeLine m node)) h))
 
 -- Texts that begin with lines whose numbers are in their ranges, and are the same, begin with the same line, and go on alike.
-pub same_first_lines : (marks : ℕ) → marks < 2 ^ 64 → (one other : ReportLine) (x y : List ℕ) → FitsLine marks one → FitsLine marks other
+pub same_first_lines : (extent : Extent) → extent.marks < 2 ^ 64 → (one other : ReportLine) (x y : List ℕ) → FitsLine extent one → FitsLine extent other
     → line_text one ++ x ≡ line_text other ++ y → (one ≡ other) × (x ≡ y)
-same_first_lines marks few one other x y fits also h =
+same_first_lines extent few one other x y fits also h =
     let both =
-    same_words (line_words one) (line_words other) x y (some_words one) (some_words other) (uncut-line marks few one fits)
-    (uncut-line marks few other also) h in
-    (same_said marks few one other fits also both.0, both.1)
+    same_words (line_words one) (line_words other) x y (some_words one) (some_words other) (uncut-line extent few one fits)
+    (uncut-line extent few other also) h in
+    (same_said extent few one other fits also both.0, both.1)

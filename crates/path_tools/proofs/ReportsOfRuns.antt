@@ -1,5 +1,5 @@
 -- The full report of a settled run that is closed over all marks is a sheet that keeps every law.
-use Rattle.std.proofs.Common.{◌≡◌, ℕ, zero, suc, ◌-◌, ◌<◌, ◌≤◌, ◌^◌, Bool, true, eqb, List, length, map, get_or, Option, Some, None}
+use Rattle.std.proofs.Common.{◌≡◌, ℕ, zero, suc, ◌-◌, ◌<◌, ◌≤◌, ◌^◌, Bool, true, false, cond, eqb, List, [], length, map, get_or, Option, Some, None}
 use Rattle.std.proofs.Common.{arith, refl, sym, ap, ◌∙◌, subst, inl, inr}
 use Rattle.std.specs.Prelude.{◌&&◌, All, count_by, is_some, option_map, unwrap_or, reverse, slice_get, slice_index_or}
 use Rattle.std.specs.List.{range_with_len}
@@ -9,9 +9,10 @@ use Rattle.std.proofs.lemmas.List.Elements.{All-map}
 use Rattle.std.proofs.lemmas.List.FromFn.{get_or-map-range_with_len, length-map-range_with_len, length-range_with_len}
 use Rattle.std.proofs.lemmas.List.Sums.{count_by-le-length}
 use Rattle.std.proofs.lemmas.Option.{slice_get-get_or, slice_get_past, slice_get_within, get_or_from_slice_get}
+use Rattle.plan_model.specs.declared.geometry.Goal.{Goal}
 use Rattle.plan_model.specs.declared.geometry.Point.{Point}
 use Rattle.plan_model.specs.declared.records.Outcome.{Outcome}
-use Rattle.plan_model.specs.declared.records.Outcome.TheVariants.{Placed, Same, Blocked}
+use Rattle.plan_model.specs.declared.records.Outcome.TheVariants.{Placed, Same, Blocked, Skipped}
 use Rattle.plan_model.specs.declared.records.Record.{Record}
 use Rattle.plan_model.specs.declared.tasks.Task.{Task}
 use Rattle.plan_model.specs.declared.trees.Knot.{Knot}
@@ -19,10 +20,10 @@ use Rattle.plan_model.specs.declared.trees.Twig.{Twig}
 use Rattle.plan_model.specs.Geometry.Bounds.{IsBounded}
 use Rattle.plan_model.specs.Reports.ReportText.{full_report, path_to}
 use Rattle.plan_model.specs.Runs.ClosedLaw.{IsClosed, has_outcome, mark_at}
-use Rattle.plan_model.specs.Runs.Outcomes.{is_placed, is_same, is_blocked, is_zero_unless_placed}
+use Rattle.plan_model.specs.Runs.Outcomes.{is_placed, is_same, is_blocked, is_skipped, is_zero_unless_placed}
 use Rattle.plan_model.specs.Runs.RecordLaw.{HasLawfulOutcome}
 use Rattle.plan_model.specs.Runs.Textbook.{Setup, setup_of, unplaced_record}
-use Rattle.plan_model.specs.Trees.BestNode.{best_node, goals_of}
+use Rattle.plan_model.specs.Trees.BestNode.{best_node, goals_of, is_goal_point}
 use Rattle.plan_model.specs.Trees.NodeLists.{chain_within, without_costs}
 use Rattle.plan_model.specs.Trees.PointsByNumber.{IsPresent, node_count, point_at, point_of}
 use Rattle.plan_model.specs.Trees.TreeStates.{TreeState, AreSameRuns, IsSettled, chain_in}
@@ -39,9 +40,9 @@ use Rattle.plan_model.proofs.WorkerTurns.{times-once, turn-below}
 use Rattle.step_core.specs.PackedRuns.{IsKnot, kept_cost_of, state_of_lists}
 use Rattle.step_core.proofs.FittingStates.{FitsRecord-closed, IsBounded-closed, kept-low, present-closed}
 use Rattle.step_core.proofs.PackedStates.{point_at-lists, parent_of-lists}
-use Rattle.path_tools.specs.ReportLines.{FitsKnot, FitsEntry, FitsTally, EndsWithin}
+use Rattle.path_tools.specs.ReportLines.{FitsKnot, FitsEntry, FitsTally, FitsSkipped, EndsWithin, extent_of}
 use Rattle.path_tools.specs.ReportSheets.{Sheet, FitsOptionalPath, HasForm}
-use Rattle.path_tools.specs.SheetLaws.{HasOwnTurn, KeepsNodeLaw, KeepsLaw, best_priced_path, path_by, tally_of}
+use Rattle.path_tools.specs.SheetLaws.{HasOwnTurn, KeepsNodeLaw, KeepsLaw, best_priced_path, path_by, skipped_of, tally_of}
 use Rattle.path_tools.specs.Verdicts.{IsReportOfRun, IsLawful}
 use Rattle.path_tools.proofs.LawfulSheets.{length-without_costs}
 use Rattle.path_tools.proofs.SheetTexts.{lines_text-sheet}
@@ -58,6 +59,13 @@ first_parent_zero : (o : Outcome) (parent cost class : ℕ) → (o ≡ Placed �
 first_parent_zero Placed parent cost class apart h = absurd (apart refl)
 first_parent_zero (Same j) parent cost class apart h = eqb-true parent 0 (and_parts (eqb parent 0) (eqb cost 0 && eqb class 0) h).0
 first_parent_zero Blocked parent cost class apart h = eqb-true parent 0 (and_parts (eqb parent 0) (eqb cost 0 && eqb class 0) h).0
+first_parent_zero Skipped parent cost class apart h = eqb-true parent 0 (and_parts (eqb parent 0) (eqb cost 0 && eqb class 0) h).0
+
+-- a point lies in a goal by which marks are skipped only if the scene is informed
+informed_by_goal : (informed : Bool) (goals : List Goal) (o : Option Point) → is_goal_point (cond informed goals []) o ≡ true → informed ≡ true
+informed_by_goal true goals o h = refl
+informed_by_goal false goals None h = cc
+informed_by_goal false goals (Some p) h = cc
 
 -- a chain has at most so many members
 length-chain : (most : ℕ) (parents : ℕ → ℕ) (n : ℕ) → length (chain_within most parents n) ≤ most
@@ -158,7 +166,7 @@ module _
   -- ---- its form
 
   abbrev sheet : Sheet
-  sheet = record { path = best_priced_path task.scene limit run; tally = tally_of limit run; knots = knots; records = records }
+  sheet = record { path = best_priced_path task.scene limit run; tally = tally_of task.scene limit run; knots = knots; records = records }
 
   few_nodes : node_count run.points ≤ suc limit
   few_nodes =
@@ -183,7 +191,7 @@ module _
         cost = omega (arith, kept-low task limit run again n present, ap kept_cost_of at);
       }
 
-  record_fits : (k : ℕ) (entry : Record) → slice_get records k ≡ Some entry → FitsEntry limit entry
+  record_fits : (k : ℕ) (entry : Record) → slice_get records k ≡ Some entry → FitsEntry (extent_of task) entry
   record_fits k entry is = record {
     words = FitsRecord-closed task limit run again k entry is;
     nearest = nearest entry.outcome (again.lawful k entry is);
@@ -195,6 +203,7 @@ module _
       nearest Placed h = present-closed task limit run again entry.nearest h.present
       nearest (Same j) h = present-closed task limit run again entry.nearest h.present
       nearest Blocked h = present-closed task limit run again entry.nearest h.present
+      nearest Skipped h = present-closed task limit run again entry.nearest (IsPresent-goal setup.goals (point_at run.points entry.nearest) h.goal)
 
       zeros : (entry.outcome ≡ Placed → ⊥) → entry.first_parent ≤ limit
       zeros apart =
@@ -204,21 +213,28 @@ module _
       first Placed e h = present-closed task limit run again entry.first_parent h.outcome.by_tree.first.present
       first (Same j) e h = zeros (λ placed. let gone = sym placed ∙ e in cc)
       first Blocked e h = zeros (λ placed. let gone = sym placed ∙ e in cc)
+      first Skipped e h = zeros (λ placed. let gone = sym placed ∙ e in cc)
 
-      ended : (o : Outcome) → HasLawfulOutcome setup run k (mark_at task.marks k) entry o → EndsWithin limit o
+      ended : (o : Outcome) → HasLawfulOutcome setup run k (mark_at task.marks k) entry o → EndsWithin (extent_of task) o
       ended Placed h = tt
       ended (Same j) h = present-closed task limit run again j (IsPresent-stands run.points j _ h.outcome)
       ended Blocked h = tt
+      ended Skipped h = informed_by_goal task.scene.informed task.scene.goals (point_at run.points entry.nearest) h.goal
 
   count-within : (test : ℕ → Bool) → count_by test (range_with_len 0 limit) < 2 ^ 64
   count-within test = omega (arith, count_by-le-length test (range_with_len 0 limit), length-range_with_len 0 limit, length-marks task)
 
-  tally_fits : FitsTally (tally_of limit run)
+  skipped_fits : (informed : Bool) → FitsSkipped informed (skipped_of informed limit run)
+  skipped_fits false = tt
+  skipped_fits true = count-within (λ k. has_outcome is_skipped (run.record_of k))
+
+  tally_fits : FitsTally task.scene.informed (tally_of task.scene limit run)
   tally_fits = record {
     nodes = omega (arith, few_nodes, length-marks task);
     placed = count-within (λ k. has_outcome is_placed (run.record_of k));
     same = count-within (λ k. has_outcome is_same (run.record_of k));
     blocked = count-within (λ k. has_outcome is_blocked (run.record_of k));
+    skipped = skipped_fits task.scene.informed;
   }
 
   -- the points along a chain are bounded
@@ -259,7 +275,7 @@ module _
         points = path_bounded n present;
       }
 
-  form : HasForm limit sheet
+  form : HasForm (extent_of task) sheet
   form = record {
     numbers = length-knots;
     start = start-present setup run again.order;

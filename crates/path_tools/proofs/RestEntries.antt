@@ -1,5 +1,5 @@
 -- Entries of the table of least rests.
-use Rattle.std.proofs.Common.{◌≡◌, ℕ, suc, ◌+◌, ◌-◌, ◌*◌, ◌<◌, ◌≤◌, ◌⊎◌, inl, inr, List, [], ◌∷◌, length, replicate, arith, refl, sym, ap, ◌∙◌, subst}
+use Rattle.std.proofs.Common.{◌≡◌, ℕ, suc, ◌+◌, ◌-◌, ◌<◌, ◌≤◌, ◌⊎◌, inl, inr, List, [], ◌∷◌, length, replicate, arith, refl, sym, ap, ◌∙◌, subst}
 use Rattle.std.proofs.lemmas.Bool.{cases_lt}
 use Rattle.std.proofs.lemmas.List.{get_or-replicate, length-replicate}
 use Rattle.plan_model.specs.declared.geometry.Point.{Point}
@@ -9,7 +9,7 @@ use Rattle.plan_model.specs.Spaces.Clearance.{Clear}
 use Rattle.plan_model.specs.Spaces.ClearPaths.{path_point, IsClearPath}
 use Rattle.plan_model.specs.Spaces.PathChoices.{cost_of_choice}
 use Rattle.path_tools.specs.declared.rests.Rest.{Rest}
-use Rattle.path_tools.specs.Rests.{HasRoom, IsClearRest, BeginsBelow, BeginsWith, IsLeastRest, IsRestBelow, rest_at, AreRestsFrom}
+use Rattle.path_tools.specs.Rests.{HasRoom, IsLeastRest, IsRestBelow, rest_at, AreRestsFrom}
 use Rattle.path_tools.proofs.RestLaws.{IsClearRest-inside, IsLeastRest-last, IsLeastRest-straight, IsLeastRest-first, IsLeastRest-takes}
 use Rattle.path_tools.proofs.RestLaws.{IsLeastRest-keeps, IsLeastRest-blocked}
 

@@ -12,7 +12,7 @@ use Rattle.plan_model.specs.declared.records.Record.{Record}
 use Rattle.plan_model.specs.declared.trees.Knot.{Knot}
 use Rattle.plan_model.specs.Runs.Textbook.{unplaced_record}
 use Rattle.path_tools.specs.ReportForms.{counts_place}
-use Rattle.path_tools.specs.ReportLines.{Tally, ReportLine}
+use Rattle.path_tools.specs.ReportLines.{Tally, ReportLine, Extent}
 use Rattle.path_tools.specs.ReportLines.ReportLine.{NoPath, PathOf, PathPoint, Counts, NodeLine, MarkLine}
 use Rattle.path_tools.specs.ReportSheets.{PricedPath, Sheet, HasForm, path_lines, head_lines, line_of_knot, line_of_record, lines_of_knots, lines_of_records}
 use Rattle.path_tools.specs.ReportSheets.{lines_of_sheet}
@@ -178,7 +178,7 @@ same_path (Some path) (Some other) h =
 
 -- ---- sheets
 
-module _ (marks : ℕ) (sheet told : Sheet) (form : HasForm marks sheet) (also : HasForm marks told) (h : lines_of_sheet sheet ≡ lines_of_sheet told) where
+module _ (extent : Extent) (sheet told : Sheet) (form : HasForm extent sheet) (also : HasForm extent told) (h : lines_of_sheet sheet ≡ lines_of_sheet told) where
   abbrev rest_of : Sheet → List ReportLine
   rest_of s = lines_of_knots s.knots ++ lines_of_records s.records
 
@@ -207,7 +207,7 @@ module _ (marks : ℕ) (sheet told : Sheet) (form : HasForm marks sheet) (also :
   bodies : (lines_of_knots sheet.knots ≡ lines_of_knots told.knots) × (lines_of_records sheet.records ≡ lines_of_records told.records)
   bodies =
       split_same (lines_of_knots sheet.knots) (lines_of_knots told.knots) (lines_of_records sheet.records) (lines_of_records told.records)
-      (length-nodes marks sheet form ∙ ap (λ (t : Tally). t.nodes) tally ∙ sym (length-nodes marks told also)) rest
+      (length-nodes extent sheet form ∙ ap (λ (t : Tally). t.nodes) tally ∙ sym (length-nodes extent told also)) rest
 
   -- The two are the same.
   pub same_sheets : sheet ≡ told

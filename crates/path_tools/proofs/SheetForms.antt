@@ -21,7 +21,7 @@ use Rattle.plan_model.proofs.NewNodes.{node_count-some}
 use Rattle.step_core.proofs.PackedLists.{node_count-lists}
 use Rattle.step_core.proofs.PackedStates.{IsKnot-at, point_at-lists}
 use Rattle.path_tools.specs.ReportForms.{nodes_said, counts_place, nodes_to_come, MayFollow, MayStandNext, AreBegun, AreAll}
-use Rattle.path_tools.specs.ReportLines.{Tally, ReportLine, FitsTally, FitsLine}
+use Rattle.path_tools.specs.ReportLines.{Tally, ReportLine, Extent, FitsTally, FitsLine}
 use Rattle.path_tools.specs.ReportLines.ReportLine.{NoPath, PathOf, PathPoint, Counts, NodeLine, MarkLine}
 use Rattle.path_tools.specs.ReportSheets.{PricedPath, Sheet, path_lines, head_lines, line_of_knot, line_of_record, lines_of_knots, lines_of_records}
 use Rattle.path_tools.specs.ReportSheets.{lines_of_sheet, FitsOptionalPath, HasForm, state_of_sheet}
@@ -50,15 +50,15 @@ flat_map-more f n =
 
 -- ---- one line more
 
-AreBegun-none : (marks : ℕ) → AreBegun marks []
-AreBegun-none marks = λ i own is. absurd (omega (arith, slice_get_within [] i own is))
+AreBegun-none : (extent : Extent) → AreBegun extent []
+AreBegun-none extent = λ i own is. absurd (omega (arith, slice_get_within [] i own is))
 
-AreBegun-push : (marks : ℕ) (lines : List ReportLine) (next : ReportLine) → AreBegun marks lines → MayStandNext lines next → FitsLine marks next
-    → AreBegun marks (lines ++ next ∷ [])
-AreBegun-push marks lines next begun stands fits = λ i own is. by_place i own is
+AreBegun-push : (extent : Extent) (lines : List ReportLine) (next : ReportLine) → AreBegun extent lines → MayStandNext lines next → FitsLine extent next
+    → AreBegun extent (lines ++ next ∷ [])
+AreBegun-push extent lines next begun stands fits = λ i own is. by_place i own is
   where
     by_place : (i : ℕ) (own : ReportLine) → slice_get (lines ++ next ∷ []) i ≡ Some own
-        → MayStandNext (take i (lines ++ next ∷ [])) own × FitsLine marks own
+        → MayStandNext (take i (lines ++ next ∷ [])) own × FitsLine extent own
     by_place i own is =
         elim (cases_lt i (length lines)) [
           | inl low ↦ (
@@ -72,7 +72,7 @@ AreBegun-push marks lines next begun stands fits = λ i own is. by_place i own i
               let last : Some next ≡ Some own = sym (slice_get-seam lines next []) ∙ ap (slice_get (lines ++ next ∷ [])) (sym place) ∙ is in
               let same : next ≡ own = cc in
               let before : lines ≡ take i (lines ++ next ∷ []) = sym (take-append_seam lines (next ∷ [])) ∙ ap (λ n. take n (lines ++ next ∷ [])) (sym place) in
-              (subst (λ those. MayStandNext those own) before (subst (MayStandNext lines) same stands), subst (FitsLine marks) same fits))
+              (subst (λ those. MayStandNext those own) before (subst (MayStandNext lines) same stands), subst (FitsLine extent) same fits))
         ]
 
 -- ---- the head
@@ -98,28 +98,28 @@ length-head_lines path tally = omega (arith, length-append (path_lines path) (Co
 
 -- the points of the path stand after its line
 points_begun :
-    (marks count cost : ℕ) (done rest : List Point) → length done + length rest ≡ count
+    (extent : Extent) (count cost : ℕ) (done rest : List Point) → length done + length rest ≡ count
     → ((k : ℕ) (d : Point) → k < length rest → IsBounded (get_or rest k d))
-    → AreBegun marks (PathOf count cost ∷ map PathPoint done) → AreBegun marks (PathOf count cost ∷ map PathPoint (done ++ rest))
-points_begun marks count cost done [] long bounded begun =
-    subst (λ points. AreBegun marks (PathOf count cost ∷ map PathPoint points)) (sym (append-nil done)) begun
-points_begun marks count cost done (p ∷ rest) long bounded begun =
+    → AreBegun extent (PathOf count cost ∷ map PathPoint done) → AreBegun extent (PathOf count cost ∷ map PathPoint (done ++ rest))
+points_begun extent count cost done [] long bounded begun =
+    subst (λ points. AreBegun extent (PathOf count cost ∷ map PathPoint points)) (sym (append-nil done)) begun
+points_begun extent count cost done (p ∷ rest) long bounded begun =
     let lines : List ReportLine = PathOf count cost ∷ map PathPoint done in
     let low : length (map PathPoint done) < count = omega (arith, length-map done PathPoint, long) in
     let stands : MayStandNext lines (PathPoint p) = (omega arith, omega (arith, low)) in
-    let pushed = AreBegun-push marks lines (PathPoint p) begun stands (bounded 0 p (omega arith)) in
-    let next : AreBegun marks (PathOf count cost ∷ map PathPoint (done ++ p ∷ [])) =
-    subst (λ those. AreBegun marks (PathOf count cost ∷ those)) (sym (map-append PathPoint done (p ∷ []))) pushed in
+    let pushed = AreBegun-push extent lines (PathPoint p) begun stands (bounded 0 p (omega arith)) in
+    let next : AreBegun extent (PathOf count cost ∷ map PathPoint (done ++ p ∷ [])) =
+    subst (λ those. AreBegun extent (PathOf count cost ∷ those)) (sym (map-append PathPoint done (p ∷ []))) pushed in
     let further =
-    points_begun marks count cost (done ++ p ∷ []) rest (omega (arith, long, length-append done (p ∷ [])))
+    points_begun extent count cost (done ++ p ∷ []) rest (omega (arith, long, length-append done (p ∷ [])))
     (λ k d below. bounded (suc k) d (omega (arith, below))) next in
-    subst (λ points. AreBegun marks (PathOf count cost ∷ map PathPoint points)) (append_assoc done (p ∷ []) rest) further
+    subst (λ points. AreBegun extent (PathOf count cost ∷ map PathPoint points)) (append_assoc done (p ∷ []) rest) further
 
-path_begun : (marks : ℕ) (path : Option PricedPath) → FitsOptionalPath path → AreBegun marks (path_lines path)
-path_begun marks None fits = AreBegun-push marks [] NoPath (AreBegun-none marks) refl tt
-path_begun marks (Some path) fits =
-    points_begun marks (length path.points) path.cost [] path.points (omega arith) fits.points
-    (AreBegun-push marks [] (PathOf (length path.points) path.cost) (AreBegun-none marks) refl (fits.few, fits.cost))
+path_begun : (extent : Extent) (path : Option PricedPath) → FitsOptionalPath path → AreBegun extent (path_lines path)
+path_begun extent None fits = AreBegun-push extent [] NoPath (AreBegun-none extent) refl tt
+path_begun extent (Some path) fits =
+    points_begun extent (length path.points) path.cost [] path.points (omega arith) fits.points
+    (AreBegun-push extent [] (PathOf (length path.points) path.cost) (AreBegun-none extent) refl (fits.few, fits.cost))
 
 some_path_lines : (path : Option PricedPath) → 0 < length (path_lines path)
 some_path_lines None = omega arith
@@ -129,9 +129,9 @@ own_place : (path : Option PricedPath) → length (path_lines path) ≡ counts_p
 own_place None = refl
 own_place (Some path) = ap suc (length-map path.points PathPoint)
 
-head_begun : (marks : ℕ) (path : Option PricedPath) (tally : Tally) → FitsOptionalPath path → FitsTally tally → AreBegun marks (head_lines path tally)
-head_begun marks path tally fits counts =
-    AreBegun-push marks (path_lines path) (Counts tally) (path_begun marks path fits) (some_path_lines path, own_place path) counts
+head_begun : (extent : Extent) (path : Option PricedPath) (tally : Tally) → FitsOptionalPath path → FitsTally extent.informed tally → AreBegun extent (head_lines path tally)
+head_begun extent path tally fits counts =
+    AreBegun-push extent (path_lines path) (Counts tally) (path_begun extent path fits) (some_path_lines path, own_place path) counts
 
 -- ---- nodes
 
@@ -158,7 +158,7 @@ length-line_of_knot : (n : ℕ) (o : Option Knot) → length (line_of_knot n o) 
 length-line_of_knot n None = refl
 length-line_of_knot n (Some knot) = refl
 
-module _ (marks : ℕ) (sheet : Sheet) (form : HasForm marks sheet) where
+module _ (extent : Extent) (sheet : Sheet) (form : HasForm extent sheet) where
   abbrev head : List ReportLine
   head = head_lines sheet.path sheet.tally
 
@@ -207,14 +207,14 @@ module _ (marks : ℕ) (sheet : Sheet) (form : HasForm marks sheet) where
 
   -- the lines up to those of the nodes below a number stand where they may, and the next number may follow
   record IsNodesBegun (m : ℕ) : Type 0 where
-    begun : AreBegun marks (head ++ lines_below m)
+    begun : AreBegun extent (head ++ lines_below m)
     last : MayFollow m (last_of (head ++ lines_below m))
 
   nodes_none : IsNodesBegun 0
   nodes_none =
       let same : head ++ lines_below 0 ≡ head = append-nil head in
       record {
-        begun = subst (AreBegun marks) (sym same) (head_begun marks sheet.path sheet.tally form.path_fits form.tally_fits);
+        begun = subst (AreBegun extent) (sym same) (head_begun extent sheet.path sheet.tally form.path_fits form.tally_fits);
         last = subst (MayFollow 0) (sym (ap last_of same ∙ last_of-pushed (path_lines sheet.path) (Counts sheet.tally))) refl;
       }
 
@@ -224,7 +224,7 @@ module _ (marks : ℕ) (sheet : Sheet) (form : HasForm marks sheet) where
       below-more m ∙ ap (λ o. lines_below m ++ line_of_knot m o) none ∙ append-nil (lines_below m) in
       let same : head ++ lines_below m ≡ head ++ lines_below (suc m) = ap (λ lines. head ++ lines) (sym more) in
       record {
-        begun = subst (AreBegun marks) same before.begun;
+        begun = subst (AreBegun extent) same before.begun;
         last = subst (λ lines. MayFollow (suc m) (last_of lines)) same (MayFollow-more m (last_of (head ++ lines_below m)) (later m none) before.last);
       }
     where
@@ -248,8 +248,8 @@ module _ (marks : ℕ) (sheet : Sheet) (form : HasForm marks sheet) where
       (omega (arith, place, long, top), omega (arith, place, come, long, top, few, ap length more, count), before.last) in
       record {
         begun =
-            subst (AreBegun marks) same
-            (AreBegun-push marks lines (NodeLine m knot) before.begun stands (form.knots_fit m knot (IsKnot-at sheet.knots m knot some)));
+            subst (AreBegun extent) same
+            (AreBegun-push extent lines (NodeLine m knot) before.begun stands (form.knots_fit m knot (IsKnot-at sheet.knots m knot some)));
         last = subst (λ those. MayFollow (suc m) (last_of those)) same (subst (MayFollow (suc m)) (sym (last_of-pushed lines (NodeLine m knot))) (omega arith));
       }
 
@@ -271,7 +271,7 @@ module _ (marks : ℕ) (sheet : Sheet) (form : HasForm marks sheet) where
 
   -- the lines up to those of the marks below a number stand where they may
   record IsMarksBegun (k : ℕ) : Type 0 where
-    begun : AreBegun marks (before_marks ++ marks_below k)
+    begun : AreBegun extent (before_marks ++ marks_below k)
     long : length (marks_below k) ≡ k
 
   long_before : (more : List ReportLine) → length (before_marks ++ more) ≡ suc (length (path_lines sheet.path)) + sheet.tally.nodes + length more
@@ -299,7 +299,7 @@ module _ (marks : ℕ) (sheet : Sheet) (form : HasForm marks sheet) where
 
   marks_none : IsMarksBegun 0
   marks_none = record {
-    begun = subst (AreBegun marks) (sym (append-nil before_marks)) (nodes_begun (length sheet.knots) (omega arith)).begun;
+    begun = subst (AreBegun extent) (sym (append-nil before_marks)) (nodes_begun (length sheet.knots) (omega arith)).begun;
     long = refl;
   }
 
@@ -316,9 +316,9 @@ module _ (marks : ℕ) (sheet : Sheet) (form : HasForm marks sheet) where
       let long = long_before (marks_below k) in
       let own = before.long in
       let stands : MayStandNext lines (MarkLine k entry) = (omega (arith, come, some_nodes), omega (arith, place, come, long, own)) in
-      let within : k < marks = omega (arith, low, form.all_marks) in
+      let within : k < extent.marks = omega (arith, low, form.all_marks) in
       record {
-        begun = subst (AreBegun marks) same (AreBegun-push marks lines (MarkLine k entry) before.begun stands (within, form.records_fit k entry e));
+        begun = subst (AreBegun extent) same (AreBegun-push extent lines (MarkLine k entry) before.begun stands (within, form.records_fit k entry e));
         long = omega (arith, ap length more, length-append (marks_below k) (MarkLine k entry ∷ []), own);
       }
 
@@ -330,11 +330,11 @@ module _ (marks : ℕ) (sheet : Sheet) (form : HasForm marks sheet) where
   all_marks_begun = marks_begun (length sheet.records) (omega arith)
 
   -- The lines stand where they may,
-  pub AreBegun-sheet : AreBegun marks (lines_of_sheet sheet)
+  pub AreBegun-sheet : AreBegun extent (lines_of_sheet sheet)
   AreBegun-sheet = all_marks_begun.begun
 
   -- and are all of the report.
-  pub AreAll-sheet : AreAll marks (lines_of_sheet sheet)
+  pub AreAll-sheet : AreAll extent (lines_of_sheet sheet)
   AreAll-sheet = record {
     some = omega (arith, come_before (lines_of_records sheet.records), some_nodes);
     long =

@@ -1,5 +1,5 @@
 -- The lines of a sheet are those of a run's full report, if its head is that of the run.
-use Rattle.std.proofs.Common.{◌≡◌, ℕ, suc, List, [], ◌∷◌, ◌++◌, length, map, Option, Some, None, refl, sym, ap, ◌∙◌, append_assoc, append-nil}
+use Rattle.std.proofs.Common.{◌≡◌, ℕ, suc, Bool, true, false, List, [], ◌∷◌, ◌++◌, length, map, Option, Some, None, refl, sym, ap, ◌∙◌, append_assoc, append-nil}
 use Rattle.std.specs.Prelude.{is_some, option_map, slice_get, slice_index_or}
 use Rattle.std.specs.List.{range_with_len, flat_map}
 use Rattle.std.proofs.lemmas.Grind.{flat_map-append}
@@ -8,18 +8,18 @@ use Rattle.plan_model.specs.declared.geometry.Point.{Point}
 use Rattle.plan_model.specs.declared.records.Record.{Record}
 use Rattle.plan_model.specs.declared.scenes.Scene.{Scene}
 use Rattle.plan_model.specs.declared.trees.Knot.{Knot}
-use Rattle.plan_model.specs.Reports.ReportText.{head_line, best_path, counts_line, point_lines, short_report, full_report}
+use Rattle.plan_model.specs.Reports.ReportText.{head_line, best_path, counts_line, no_path_line, point_lines, short_report, skipped_words, full_report}
 use Rattle.plan_model.specs.Reports.ReportText.{node_line_if_present, node_lines, mark_line_if_recorded, mark_lines}
 use Rattle.plan_model.specs.Trees.BestNode.{best_node, goals_of}
 use Rattle.plan_model.specs.Trees.PointsByNumber.{point_at}
 use Rattle.plan_model.specs.Trees.TreeStates.{TreeState, IsSettled, sum_in}
 use Rattle.step_core.specs.PackedRuns.{kept_cost_of, state_of_lists}
 use Rattle.step_core.proofs.PackedStates.{point_at-lists, parent_of-lists}
-use Rattle.path_tools.specs.ReportLines.{ReportLine, line_text, lines_text}
+use Rattle.path_tools.specs.ReportLines.{ReportLine, line_text, lines_text, skipped_count}
 use Rattle.path_tools.specs.ReportLines.ReportLine.{PathPoint, Counts, NodeLine, MarkLine}
 use Rattle.path_tools.specs.ReportSheets.{Sheet, head_lines, line_of_knot, line_of_record, lines_of_knots, lines_of_records}
 use Rattle.path_tools.specs.ReportSheets.{lines_of_sheet, state_of_sheet}
-use Rattle.path_tools.specs.SheetLaws.{path_by, best_priced_path, tally_of}
+use Rattle.path_tools.specs.SheetLaws.{path_by, best_priced_path, skipped_of, tally_of}
 
 -- a list of lists that is mapped twice
 flat_map-flat_map : {X A B : Type 0} → (f : A → List B) (g : X → List A) (xs : List X) → flat_map f (flat_map g xs) ≡ flat_map (λ x. flat_map f (g x)) xs
@@ -28,22 +28,33 @@ flat_map-flat_map f g (x ∷ xs) = flat_map-append f (g x) (flat_map g xs) ∙ a
 
 -- ---- heads
 
+-- the words of the count of skipped marks
+skipped_text : (informed : Bool) (limit : ℕ) (state : TreeState)
+    → skipped_count (skipped_of informed limit state) ≡ skipped_words informed limit state.record_of
+skipped_text false limit state = refl
+skipped_text true limit state = refl
+
+-- the text of the counts
+counts_text : (scene : Scene) (limit : ℕ) (state : TreeState) → lines_text (Counts (tally_of scene limit state) ∷ []) ≡ counts_line scene limit state
+counts_text scene limit state =
+    append-nil (line_text (Counts (tally_of scene limit state))) ∙ rw (skipped_text scene.informed limit state) refl
+
 -- the text of a path and counts, by the best node
 head_text : (scene : Scene) (limit : ℕ) (state : TreeState) (o : Option ℕ)
-    → lines_text (head_lines (path_by state o) (tally_of limit state))
+    → lines_text (head_lines (path_by state o) (tally_of scene limit state))
     ≡ (head_line state o ++ point_lines (best_path state o)) ++ counts_line scene limit state
-head_text scene limit state None = simp (append_assoc, append-nil)
+head_text scene limit state None = ap (λ text. no_path_line ++ text) (counts_text scene limit state)
 head_text scene limit state (Some n) =
     let path : List Point = best_path state (Some n) in
-    let counts : List ReportLine = Counts (tally_of limit state) ∷ [] in
+    let counts : List ReportLine = Counts (tally_of scene limit state) ∷ [] in
     let points = flat_map-append line_text (map PathPoint path) counts in
     let each = flat_map-map line_text PathPoint path in
     ap (λ text. head_line state (Some n) ++ text) (points ∙ ap (λ text. text ++ lines_text counts) each)
-    ∙ ap (λ text. head_line state (Some n) ++ (point_lines path ++ text)) (append-nil (counts_line scene limit state))
+    ∙ ap (λ text. head_line state (Some n) ++ (point_lines path ++ text)) (counts_text scene limit state)
     ∙ sym (append_assoc (head_line state (Some n)) (point_lines path) (counts_line scene limit state))
 
 pub lines_text-head : (scene : Scene) (limit : ℕ) (state : TreeState)
-    → lines_text (head_lines (best_priced_path scene limit state) (tally_of limit state)) ≡ short_report scene limit state
+    → lines_text (head_lines (best_priced_path scene limit state) (tally_of scene limit state)) ≡ short_report scene limit state
 lines_text-head scene limit state = head_text scene limit state (best_node (goals_of scene) limit state)
 
 -- ---- nodes and marks
@@ -88,7 +99,7 @@ module _ (knots : List (Option Knot)) (records : List Record) (settled : IsSettl
 -- The text of a sheet whose head is that of its run is the run's full report.
 pub lines_text-sheet :
     (scene : Scene) (limit : ℕ) (sheet : Sheet) → IsSettled (state_of_sheet sheet) → length sheet.knots ≡ suc limit → length sheet.records ≡ limit
-    → head_lines sheet.path sheet.tally ≡ head_lines (best_priced_path scene limit (state_of_sheet sheet)) (tally_of limit (state_of_sheet sheet))
+    → head_lines sheet.path sheet.tally ≡ head_lines (best_priced_path scene limit (state_of_sheet sheet)) (tally_of scene limit (state_of_sheet sheet))
     → lines_text (lines_of_sheet sheet) ≡ full_report scene limit (state_of_sheet sheet)
 lines_text-sheet scene limit sheet settled numbers all head =
     let own : List ReportLine = head_lines sheet.path sheet.tally in

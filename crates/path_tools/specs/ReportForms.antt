@@ -1,6 +1,6 @@
 -- Where bytes first break the form of a full report: line by line, each against the lines before it.
 use Rattle.std.specs.Prelude.{◌≡◌, ℕ, suc, ◌+◌, ◌-◌, ◌<◌, ◌≤◌, Option, Some, List, [], ◌++◌, length, take, slice_get}
-use Rattle.path_tools.specs.ReportLines.{ReportLine, line_text, lines_text, FitsLine}
+use Rattle.path_tools.specs.ReportLines.{ReportLine, Extent, line_text, lines_text, FitsLine}
 use Rattle.path_tools.specs.ReportLines.ReportLine.{NoPath, PathOf, PathPoint, Counts, NodeLine, MarkLine}
 
 -- how many points the first line says that the path has
@@ -41,21 +41,21 @@ MayStandNext before (MarkLine k entry) =
     (0 < nodes_to_come before) × (length before ≡ suc (counts_place before) + nodes_to_come before + k)
 
 -- each line may stand where it does, with its numbers in their ranges
-abbrev pub AreBegun : ℕ → List ReportLine → Type 0
-AreBegun marks lines = (i : ℕ) (next : ReportLine) → slice_get lines i ≡ Some next → MayStandNext (take i lines) next × FitsLine marks next
+abbrev pub AreBegun : Extent → List ReportLine → Type 0
+AreBegun extent lines = (i : ℕ) (next : ReportLine) → slice_get lines i ≡ Some next → MayStandNext (take i lines) next × FitsLine extent next
 
--- all lines of a report over so many marks are there
-pub record AreAll (marks : ℕ) (lines : List ReportLine) : Type 0 where
+-- all lines of a report are there
+pub record AreAll (extent : Extent) (lines : List ReportLine) : Type 0 where
   pub some : 0 < nodes_to_come lines
-  pub long : length lines ≡ suc (counts_place lines) + nodes_to_come lines + marks
+  pub long : length lines ≡ suc (counts_place lines) + nodes_to_come lines + extent.marks
 
 -- A line, counted from 1, is the first one that breaks the form: the lines before it stand where they may, what follows them does not
 -- begin with a line that may stand next, and they are not all the report.
-pub record BreaksFormFirst (marks : ℕ) (report : List ℕ) (line : ℕ) : Type 0 where
+pub record BreaksFormFirst (extent : Extent) (report : List ℕ) (line : ℕ) : Type 0 where
   pub before : List ReportLine
   pub rest : List ℕ
   pub text : report ≡ lines_text before ++ rest
-  pub begun : AreBegun marks before
+  pub begun : AreBegun extent before
   pub number : line ≡ suc (length before)
-  pub no_next : (next : ReportLine) (after : List ℕ) → MayStandNext before next → FitsLine marks next → ¬ (rest ≡ line_text next ++ after)
-  pub not_all : ¬ (AreAll marks before × (rest ≡ []))
+  pub no_next : (next : ReportLine) (after : List ℕ) → MayStandNext before next → FitsLine extent next → ¬ (rest ≡ line_text next ++ after)
+  pub not_all : ¬ (AreAll extent before × (rest ≡ []))

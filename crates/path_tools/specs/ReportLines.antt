@@ -1,20 +1,22 @@
 -- The lines of a full report: what each says, its text, and the ranges of its numbers.
-use Rattle.std.specs.Prelude.{ℕ, ◌<◌, ◌≤◌, ◌^◌, List, [], ◌∷◌, ◌++◌, codes, decimal, flat_map}
+use Rattle.std.specs.Prelude.{ℕ, ◌<◌, ◌≤◌, ◌^◌, Bool, true, false, IsTrue, Option, Some, None, List, [], ◌∷◌, ◌++◌, length, codes, decimal, flat_map}
 use Rattle.plan_model.specs.declared.geometry.Point.{Point}
 use Rattle.plan_model.specs.declared.records.Outcome.{Outcome}
-use Rattle.plan_model.specs.declared.records.Outcome.TheVariants.{Placed, Same, Blocked}
+use Rattle.plan_model.specs.declared.records.Outcome.TheVariants.{Placed, Same, Blocked, Skipped}
 use Rattle.plan_model.specs.declared.records.Record.{Record}
+use Rattle.plan_model.specs.declared.tasks.Task.{Task}
 use Rattle.plan_model.specs.declared.trees.Knot.{Knot}
 use Rattle.plan_model.specs.Geometry.Bounds.{IsBounded}
 use Rattle.plan_model.specs.Reports.ReportText.{line, outcome_words}
 use Rattle.step_core.specs.PackedRuns.{FitsRecord}
 
--- the counts of a report: of nodes, and of marks by what became of them
+-- the counts of a report: of nodes, and of marks by what became of them, in an informed scene of skipped ones too
 pub record Tally : Type 0 where
   pub nodes : ℕ
   pub placed : ℕ
   pub same : ℕ
   pub blocked : ℕ
+  pub skipped : Option ℕ
 
 -- What a line says: that there is no path, or how many points the path has and what it costs; one of these points; the counts;
 -- node n; what became of mark k.
@@ -28,6 +30,11 @@ pub data ReportLine : Type 0 where
 
 -- ---- texts
 
+-- the words of the count of skipped marks, if there is one
+abbrev pub skipped_count : Option ℕ → List (List ℕ)
+skipped_count None = []
+skipped_count (Some count) = codes "skipped" ∷ decimal count ∷ []
+
 -- the words of a line
 abbrev pub line_words : ReportLine → List (List ℕ)
 line_words NoPath = codes "no" ∷ codes "path" ∷ []
@@ -35,7 +42,7 @@ line_words (PathOf points cost) = codes "path" ∷ decimal points ∷ codes "cos
 line_words (PathPoint p) = decimal p.x ∷ decimal p.y ∷ []
 line_words (Counts tally) =
     codes "nodes" ∷ decimal tally.nodes ∷ codes "placed" ∷ decimal tally.placed ∷ codes "same" ∷ decimal tally.same
-    ∷ codes "blocked" ∷ decimal tally.blocked ∷ []
+    ∷ codes "blocked" ∷ decimal tally.blocked ∷ skipped_count tally.skipped
 line_words (NodeLine n knot) =
     codes "node" ∷ decimal n ∷ codes "at" ∷ decimal knot.point.x ∷ decimal knot.point.y
     ∷ codes "parent" ∷ decimal knot.parent ∷ codes "cost" ∷ decimal knot.cost ∷ []
@@ -53,12 +60,29 @@ lines_text lines = flat_map line_text lines
 
 -- ---- ranges
 
+-- what the form of a report depends on: how many marks there are, and whether any may be skipped
+pub record Extent : Type 0 where
+  pub marks : ℕ
+  pub informed : Bool
+
+-- the marks of a task may be skipped if its scene is informed
+abbrev pub extent_of : Task → Extent
+extent_of task = record { marks = length task.marks; informed = task.scene.informed }
+
+-- skipped marks are counted exactly if any may be skipped
+abbrev pub FitsSkipped : Bool → Option ℕ → Type 0
+FitsSkipped false None = Unit {0}
+FitsSkipped false (Some count) = ⊥
+FitsSkipped true None = ⊥
+FitsSkipped true (Some count) = count < 2 ^ 64
+
 -- a count fits 64 bits
-pub record FitsTally (tally : Tally) : Type 0 where
+pub record FitsTally (informed : Bool) (tally : Tally) : Type 0 where
   pub nodes : tally.nodes < 2 ^ 64
   pub placed : tally.placed < 2 ^ 64
   pub same : tally.same < 2 ^ 64
   pub blocked : tally.blocked < 2 ^ 64
+  pub skipped : FitsSkipped informed tally.skipped
 
 -- a node of a run over so many marks, with its parent: coordinates of 20 bits, a cost of 44
 pub record FitsKnot (marks n : ℕ) (knot : Knot) : Type 0 where
@@ -67,24 +91,25 @@ pub record FitsKnot (marks n : ℕ) (knot : Knot) : Type 0 where
   pub parent : knot.parent ≤ marks
   pub cost : knot.cost < 2 ^ 44
 
--- the node at which a mark ended has a number up to that of the last mark
-abbrev pub EndsWithin : ℕ → Outcome → Type 0
-EndsWithin marks Placed = Unit {0}
-EndsWithin marks (Same j) = j ≤ marks
-EndsWithin marks Blocked = Unit {0}
+-- the node at which a mark ended has a number up to that of the last mark, and a mark is skipped only if it may be
+abbrev pub EndsWithin : Extent → Outcome → Type 0
+EndsWithin extent Placed = Unit {0}
+EndsWithin extent (Same j) = j ≤ extent.marks
+EndsWithin extent Blocked = Unit {0}
+EndsWithin extent Skipped = IsTrue extent.informed
 
 -- a record of a run over so many marks: its fields fit a record's word, and the nodes that it names have numbers up to the last mark's
-pub record FitsEntry (marks : ℕ) (entry : Record) : Type 0 where
+pub record FitsEntry (extent : Extent) (entry : Record) : Type 0 where
   pub words : FitsRecord entry
-  pub nearest : entry.nearest ≤ marks
-  pub first : entry.first_parent ≤ marks
-  pub ended : EndsWithin marks entry.outcome
+  pub nearest : entry.nearest ≤ extent.marks
+  pub first : entry.first_parent ≤ extent.marks
+  pub ended : EndsWithin extent entry.outcome
 
--- the numbers of a line of a report over so many marks are in their ranges
-abbrev pub FitsLine : ℕ → ReportLine → Type 0
-FitsLine marks NoPath = Unit {0}
-FitsLine marks (PathOf points cost) = (points < 2 ^ 64) × (cost < 2 ^ 44)
-FitsLine marks (PathPoint p) = IsBounded p
-FitsLine marks (Counts tally) = FitsTally tally
-FitsLine marks (NodeLine n knot) = FitsKnot marks n knot
-FitsLine marks (MarkLine k entry) = (k < marks) × FitsEntry marks entry
+-- the numbers of a line of a report are in their ranges
+abbrev pub FitsLine : Extent → ReportLine → Type 0
+FitsLine extent NoPath = Unit {0}
+FitsLine extent (PathOf points cost) = (points < 2 ^ 64) × (cost < 2 ^ 44)
+FitsLine extent (PathPoint p) = IsBounded p
+FitsLine extent (Counts tally) = FitsTally extent.informed tally
+FitsLine extent (NodeLine n knot) = FitsKnot extent.marks n knot
+FitsLine extent (MarkLine k entry) = (k < extent.marks) × FitsEntry extent entry

@@ -9,7 +9,7 @@ use Rattle.plan_model.specs.Geometry.Bounds.{IsBounded}
 use Rattle.plan_model.specs.Trees.PointsByNumber.{IsPresent, node_count}
 use Rattle.plan_model.specs.Trees.TreeStates.{TreeState}
 use Rattle.step_core.specs.PackedRuns.{IsKnot, state_of_lists}
-use Rattle.path_tools.specs.ReportLines.{Tally, ReportLine, lines_text, FitsTally, FitsKnot, FitsEntry}
+use Rattle.path_tools.specs.ReportLines.{Tally, ReportLine, Extent, lines_text, FitsTally, FitsKnot, FitsEntry}
 use Rattle.path_tools.specs.ReportLines.ReportLine.{NoPath, PathOf, PathPoint, Counts, NodeLine, MarkLine}
 
 -- a path with its cost
@@ -74,21 +74,21 @@ FitsOptionalPath (Some path) = FitsPath path
 abbrev pub state_of_sheet : Sheet → TreeState
 state_of_sheet sheet = state_of_lists sheet.knots sheet.records
 
--- The form of a full report over so many marks: as many node lines as its head says, the start's among them, a line for each mark,
+-- The form of a full report: as many node lines as its head says, the start's among them, a line for each mark,
 -- and each number in its range.
-pub record HasForm (marks : ℕ) (sheet : Sheet) : Type 0 where
-  pub numbers : length sheet.knots ≡ suc marks
+pub record HasForm (extent : Extent) (sheet : Sheet) : Type 0 where
+  pub numbers : length sheet.knots ≡ suc extent.marks
   pub start : IsPresent (state_of_sheet sheet).points 0
   pub counted : node_count (state_of_sheet sheet).points ≡ sheet.tally.nodes
-  pub all_marks : length sheet.records ≡ marks
+  pub all_marks : length sheet.records ≡ extent.marks
   pub path_fits : FitsOptionalPath sheet.path
-  pub tally_fits : FitsTally sheet.tally
-  pub knots_fit : (n : ℕ) (knot : Knot) → IsKnot sheet.knots n knot → FitsKnot marks n knot
-  pub records_fit : (k : ℕ) (entry : Record) → slice_get sheet.records k ≡ Some entry → FitsEntry marks entry
+  pub tally_fits : FitsTally extent.informed sheet.tally
+  pub knots_fit : (n : ℕ) (knot : Knot) → IsKnot sheet.knots n knot → FitsKnot extent.marks n knot
+  pub records_fit : (k : ℕ) (entry : Record) → slice_get sheet.records k ≡ Some entry → FitsEntry extent entry
 
--- the bytes of a report over so many marks that says this
-pub record SpellsSheet (marks : ℕ) (report : List ℕ) (sheet : Sheet) : Type 0 where
-  pub form : HasForm marks sheet
+-- the bytes of a report that says this
+pub record SpellsSheet (extent : Extent) (report : List ℕ) (sheet : Sheet) : Type 0 where
+  pub form : HasForm extent sheet
   pub text : report ≡ lines_text (lines_of_sheet sheet)
 
 -- ---- where lines stand, counted from 1

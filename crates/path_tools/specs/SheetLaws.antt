@@ -1,12 +1,12 @@
 -- The laws of a full report beside its form, line by line: of nodes, turns, presence, records, and the head.
-use Rattle.std.specs.Prelude.{◌≡◌, ◌≢◌, ℕ, zero, suc, ◌+◌, ◌<◌, is_some, Option, Some, None, length, slice_get}
+use Rattle.std.specs.Prelude.{◌≡◌, ◌≢◌, ℕ, zero, suc, ◌+◌, ◌<◌, is_some, Bool, true, false, Option, Some, None, length, slice_get}
 use Rattle.plan_model.specs.declared.records.Record.{Record}
 use Rattle.plan_model.specs.declared.scenes.Scene.{Scene}
 use Rattle.plan_model.specs.declared.tasks.Task.{Task}
 use Rattle.plan_model.specs.Reports.ReportText.{path_to}
 use Rattle.plan_model.specs.Runs.ClosedLaw.{mark_at, outcome_count}
 use Rattle.plan_model.specs.Runs.OrderLaw.{IsAllowedEdge}
-use Rattle.plan_model.specs.Runs.Outcomes.{is_placed, is_same, is_blocked}
+use Rattle.plan_model.specs.Runs.Outcomes.{is_placed, is_same, is_blocked, is_skipped}
 use Rattle.plan_model.specs.Runs.RecordLaw.{IsLawfulRecord}
 use Rattle.plan_model.specs.Runs.Textbook.{Setup, setup_of}
 use Rattle.plan_model.specs.Runs.Turns.{turns_of}
@@ -57,14 +57,20 @@ path_by state (Some n) = Some (record { points = path_to state n; cost = sum_in 
 abbrev pub best_priced_path : Scene → ℕ → TreeState → Option PricedPath
 best_priced_path scene limit state = path_by state (best_node (goals_of scene) limit state)
 
+-- how many marks were skipped, if the scene is informed
+abbrev pub skipped_of : Bool → ℕ → TreeState → Option ℕ
+skipped_of false limit state = None
+skipped_of true limit state = Some (outcome_count state.record_of limit is_skipped)
+
 -- the counts that the report of a run has
-abbrev pub tally_of : ℕ → TreeState → Tally
-tally_of limit state =
+abbrev pub tally_of : Scene → ℕ → TreeState → Tally
+tally_of scene limit state =
     record {
       nodes = node_count state.points;
       placed = outcome_count state.record_of limit is_placed;
       same = outcome_count state.record_of limit is_same;
       blocked = outcome_count state.record_of limit is_blocked;
+      skipped = skipped_of scene.informed limit state;
     }
 
 -- ---- the laws by their numbers
@@ -83,7 +89,7 @@ pub record KeepsLawAt (task : Task) (sheet : Sheet) (law line : ℕ) : Type 0 wh
   pub head : law ≡ 6 → (i : ℕ) → i < length (head_lines sheet.path sheet.tally) → line ≡ suc i
       → slice_get (head_lines sheet.path sheet.tally) i
       ≡ slice_get
-      (head_lines (best_priced_path task.scene (length task.marks) (state_of_sheet sheet)) (tally_of (length task.marks) (state_of_sheet sheet))) i
+      (head_lines (best_priced_path task.scene (length task.marks) (state_of_sheet sheet)) (tally_of task.scene (length task.marks) (state_of_sheet sheet))) i
 
 -- each line keeps the law
 abbrev pub KeepsLaw : Task → Sheet → ℕ → Type 0

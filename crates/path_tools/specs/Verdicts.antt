@@ -6,6 +6,7 @@ use Rattle.plan_model.specs.Runs.ClosedLaw.{IsClosed}
 use Rattle.plan_model.specs.Runs.Textbook.{setup_of}
 use Rattle.plan_model.specs.Trees.TreeStates.{TreeState, IsSettled}
 use Rattle.path_tools.specs.ReportForms.{BreaksFormFirst}
+use Rattle.path_tools.specs.ReportLines.{extent_of}
 use Rattle.path_tools.specs.ReportSheets.{Sheet, SpellsSheet}
 use Rattle.path_tools.specs.SheetLaws.{KeepsLawAt, KeepsLaw}
 
@@ -19,13 +20,13 @@ pub record IsReportOfRun (task : Task) (report : List ℕ) : Type 0 where
 -- The bytes have the form of a full report, and each line keeps each law.
 pub record IsLawful (task : Task) (report : List ℕ) : Type 0 where
   pub sheet : Sheet
-  pub spelled : SpellsSheet (length task.marks) report sheet
+  pub spelled : SpellsSheet (extent_of task) report sheet
   pub kept : (law : ℕ) → KeepsLaw task sheet law
 
 -- The bytes have the form of a full report; each line keeps the lesser laws, and this is the first one that breaks this law.
 pub record BreaksLawFirst (task : Task) (report : List ℕ) (law line : ℕ) : Type 0 where
   pub sheet : Sheet
-  pub spelled : SpellsSheet (length task.marks) report sheet
+  pub spelled : SpellsSheet (extent_of task) report sheet
   pub lesser : (other : ℕ) → other < law → KeepsLaw task sheet other
   pub before : (i : ℕ) → i < line → KeepsLawAt task sheet law i
   pub broken : ¬ KeepsLawAt task sheet law line
@@ -33,4 +34,4 @@ pub record BreaksLawFirst (task : Task) (report : List ℕ) (law line : ℕ) : T
 -- The verdict that a law is broken, and a line: the least law that is broken, and the first line that breaks it. Law 1 is the form.
 abbrev pub IsBroken : Task → List ℕ → ℕ → ℕ → Type 0
 IsBroken task report law line =
-    ((law ≡ 1) × BreaksFormFirst (length task.marks) report line) ⊎ BreaksLawFirst task report law line
+    ((law ≡ 1) × BreaksFormFirst (extent_of task) report line) ⊎ BreaksLawFirst task report law line

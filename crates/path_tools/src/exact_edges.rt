@@ -51,14 +51,14 @@ pub(crate) fn first_loose<C: Clearing>(
     hall: &C,
     squared_step: u64,
     knots: &[Option<Knot>],
-) -> Option<u32>
+) -> Option<usize>
     requires few { length knots.now ≤ MOST_NODES }
     requires fit { (n : ℕ) (other : Knot) → slice_index_or knots.now n None ≡ Some other → FitsEdges other }
     ensures { IsFirstBreak (KeepsEdges (C.space hall.now) squared_step knots.now) (length knots.now) result }
 {
     for node in 1..knots.len() as u32 {
         if is_loose(hall, squared_step, knots, node) {
-            return Some(node);
+            return Some(node as usize);
         }
     }
     None

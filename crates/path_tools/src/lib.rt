@@ -4,13 +4,17 @@
 #![tactic(auto)]
 
 mod exact_edges;
+mod first_breaks;
+mod nodes;
 mod number_words;
 mod presence;
+mod repeats;
 pub mod report_laws;
 mod rests;
 mod smoothed_reports;
 mod smoothing;
 pub mod smoothing_laws;
+mod turns;
 
 pub use smoothed_reports::smoothed_report;
 pub use smoothing::smooth;

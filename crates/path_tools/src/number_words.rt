@@ -1,15 +1,14 @@
 //! The numbers in a line of a report.
 
-ghost use Rattle.std.specs.Prelude.{◌≡◌, ℕ, ◌<◌, IfNone, IfSome, decimal};
+ghost use Rattle.std.specs.Prelude.{◌≡◌, ℕ, ◌≤◌, IfNone, IfSome, decimal};
 
 use plan_model::{is_number, natural};
 
-/// The number below a bound that a word is in decimal, without a sign and without leading zeros; `None` exactly if it is none. O(n) for
+/// The number up to a greatest that a word is in decimal, without a sign and without leading zeros; `None` exactly if it is none. O(n) for
 /// n bytes.
-pub(crate) fn number_below(word: &[u8], bound: u64) -> Option<u64>
-    requires { 0 < bound }
-    ensures some { IfSome result (λ n. (n < bound) × (word.now ≡ decimal n)) }
-    ensures none { IfNone result ((n : ℕ) → n < bound → ¬ (word.now ≡ decimal n)) }
+pub(crate) fn number_up_to(word: &[u8], most: u64) -> Option<u64>
+    ensures some { IfSome result (λ n. (n ≤ most) × (word.now ≡ decimal n)) }
+    ensures none { IfNone result ((n : ℕ) → n ≤ most → ¬ (word.now ≡ decimal n)) }
 {
     if !is_number(word) {
         return None;
@@ -17,5 +16,5 @@ pub(crate) fn number_below(word: &[u8], bound: u64) -> Option<u64>
     if word[0] == b'-' {
         return None;
     }
-    natural(word, 0, bound - 1)
+    natural(word, 0, most)
 }

@@ -1,4 +1,4 @@
-use Rattle.std.proofs.Common.{◌-◌, ◌≡◌, length}
+use Rattle.std.proofs.Common.{◌-◌}
 use Rattle.path_tools.specs.Rests.{rest_at}
 use Rattle.path_tools.proofs.Walks.{HasWalked}
 use Rattle.path_tools.proofs.smoothing.cheapest_way.Given as goal

@@ -1,7 +1,5 @@
-use Rattle.std.proofs.Common.{◌≡◌, ℕ, suc, ◌+◌, ◌-◌, ◌<◌, ◌≤◌, arith, length, sym, ◌∙◌, subst}
+use Rattle.std.proofs.Common.{◌≡◌, suc, ◌+◌, ◌-◌, ◌<◌, arith, length, sym, ◌∙◌, subst}
 use Rattle.std.proofs.lemmas.Bool.{false≢true}
-use Rattle.plan_model.specs.Spaces.Clearance.{Clear}
-use Rattle.plan_model.specs.Spaces.ClearPaths.{path_point}
 use Rattle.path_tools.specs.Rests.{IsRestBelow, rest_at}
 use Rattle.path_tools.proofs.ClearRests.{IsBounded-on_path}
 use Rattle.path_tools.proofs.RestEntries.{HasRoom-later, low-entry, IsRestBelow-straight, IsRestBelow-blocked, IsRestBelow-keeps}
