@@ -1,12 +1,13 @@
 #!/usr/bin/env python3
 """Judges a full report: whether it is the report of a lawful, settled run of its scene, whoever planned it.
 
-Usage: judge.py SCENE < REPORT. It writes `lawful`, or what is wrong first, and ends with 0 or 1.
+Usage: judge.py SCENE < REPORT. It writes `lawful`, or `broken line L law N` and the reason: the first line that breaks
+the least law that is broken. It ends with 0 or 1.
 
-The order, from the rules of docs/planning.md: the form of each line; each node below its parent by a clear edge no
-longer than the step, at its sum; the turns of each worker from 0 without a gap or a repeat; a node for each placed mark
-and for no other; each record by what its worker must have known when it handled the mark; and the lines of the short
-report.
+The laws, from the rules of docs/planning.md: 1, the form of each line; 2, each node stands alone, below its parent by a
+clear edge no longer than the step, at its sum; 3, the turns of each worker from 0 without a gap or a repeat; 4, a node
+for each placed mark and for no other; 5, each record by what its worker must have known when it handled the mark; 6,
+the lines of the short report.
 """
 
 import bisect
@@ -29,24 +30,51 @@ NODE = re.compile(f"node {N} at {N} {N} parent {N} cost {N}")
 MARK = re.compile(f"mark {N} worker {N} turn {N} nearest {N} (?:(placed) class {N} first {N} {N}|(same) {N}|(blocked))")
 
 
+class Wrong(Exception):
+    """Something in a report is wrong, for this reason."""
+
+
 class Broken(Exception):
-    """A report is not lawful, for this reason."""
+    """A line of a full report breaks a law, for this reason."""
+
+    def __init__(self, law, line, reason):
+        super().__init__(f"broken line {line} law {law}: {reason}")
 
 
 def need(holds, reason):
-    """Refuses the report unless the condition holds."""
+    """Refuses what is looked at unless the condition holds."""
     if not holds:
-        raise Broken(reason)
+        raise Wrong(reason)
 
 
-def record_of(match):
-    """The record of a mark's line."""
-    worker, turn, nearest = (int(match[i]) for i in (2, 3, 4))
-    if match[5]:
-        return Record(worker, turn, nearest, "placed", int(match[6]), int(match[7]), int(match[8]))
-    if match[9]:
-        return Record(worker, turn, nearest, "same", int(match[10]))
-    return Record(worker, turn, nearest, "blocked")
+def fit(match, *limits):
+    """The numbers of a line, if it has the form and each is below its limit; None otherwise."""
+    if not match:
+        return None
+    words = [word for word in match.groups() if word is not None and word.isdigit()]
+    fits = len(words) == len(limits) and all(len(word) <= 20 and int(word) < limit for word, limit in zip(words, limits))
+    return [int(word) for word in words] if fits else None
+
+
+class Lines:
+    """The lines of a text, one after another."""
+
+    def __init__(self, text):
+        *self.lines, self.rest = text.split("\n")
+        self.taken = 0
+
+    def take(self, what, read):
+        """What the next line says, by a function that gives None for a line that does not have the form."""
+        self.taken += 1
+        said = read(self.lines[self.taken - 1]) if self.taken <= len(self.lines) else None
+        if said is None:
+            raise Broken(1, self.taken, f"there is no line of {what}")
+        return said
+
+    def end(self):
+        """Nothing comes after the lines that were taken."""
+        if self.taken < len(self.lines) or self.rest:
+            raise Broken(1, self.taken + 1, "there are lines left")
 
 
 class Judge:
@@ -57,45 +85,90 @@ class Judge:
         self.space = Space(scene)
         self.marks = mark_points(scene, self.space)
         self.tree = Tree(scene.start)
-        self.costs, self.ranked = {}, {}
-        self.parse(text)
+        self.costs, self.ranked, self.records = {}, {}, []
+        self.parse(Lines(text))
 
-    def parse(self, text):
-        """Reads the lines; nothing is compared but their form and the numbers that come in order."""
-        need(text.endswith("\n"), "the last line has no line feed")
-        lines = text[:-1].split("\n")
-        first = next((i for i, line in enumerate(lines) if line.startswith("node ")), len(lines))
-        last = len(lines) - len(self.marks)
-        need(first < last, "there are lines missing")
-        self.head = lines[:first]
+    def parse(self, lines):
+        """Law 1: reads the lines."""
+        points, nodes = lines.take("the path", self.path_of), None
+        for _ in range(points):
+            lines.take("a point of the path", lambda line: fit(POINT.fullmatch(line), 2**20, 2**20))
+        nodes = lines.take("counts", lambda line: fit(COUNTS.fullmatch(line), 2**64, 2**64, 2**64, 2**64))[0]
+        self.head = lines.lines[: lines.taken]
         before = -1
-        for line in lines[first:last]:
-            match = NODE.fullmatch(line)
-            need(match, f"not the line of a node: {line}")
-            n, x, y, parent, kept = map(int, match.groups())
-            need(before < n <= len(self.marks), f"nodes are not in rising number at {n}")
+        for _ in range(max(nodes, 1)):
+            n, x, y, parent, kept = lines.take("a node", lambda line: self.node_of(line, before, nodes))
             before = n
             self.tree.points[n], self.tree.parents[n], self.costs[n] = (x, y), parent, kept
-        self.records = []
-        for k, line in enumerate(lines[last:]):
-            match = MARK.fullmatch(line)
-            need(match and int(match[1]) == k, f"not the line of mark {k}: {line}")
-            self.records.append(record_of(match))
+        self.order = list(self.costs)
+        for k in range(len(self.marks)):
+            self.records.append(lines.take(f"mark {k}", lambda line: self.record_of(line, k)))
+        lines.end()
+
+    def path_of(self, line):
+        """How many points the path has, by the first line."""
+        numbers = [0] if line == "no path" else fit(PATH.fullmatch(line), 2**64, 2**44)
+        return numbers and numbers[0]
+
+    def node_of(self, line, before, nodes):
+        """The numbers of a node's line: the first node is the start, and numbers rise."""
+        bound = len(self.marks) + 1
+        numbers = fit(NODE.fullmatch(line), bound, 2**20, 2**20, bound, 2**44)
+        return numbers if numbers and nodes > 0 and before < numbers[0] and (before >= 0 or numbers[0] == 0) else None
+
+    def record_of(self, line, k):
+        """The record of mark k by its line."""
+        match, bound = MARK.fullmatch(line), len(self.marks) + 1
+        if not match or match[1] != str(k):
+            return None
+        own = [k + 1, MOST_WORKERS, 2**18, bound]
+        if match[5]:
+            numbers = fit(match, *own, 2**18, bound, 2**44)
+            return numbers and Record(*numbers[1:4], "placed", *numbers[4:])
+        if match[9]:
+            numbers = fit(match, *own, bound)
+            return numbers and Record(*numbers[1:4], "same", numbers[4])
+        numbers = fit(match, *own)
+        return numbers and Record(*numbers[1:], "blocked")
+
+    def node_line(self, place):
+        """The number of a node's line, by its place among those of nodes."""
+        return len(self.head) + place + 1
+
+    def mark_line(self, k):
+        """The number of a mark's line."""
+        return len(self.head) + len(self.order) + k + 1
 
     def drawn(self, numbers):
         """The numbers of nodes or marks that are looked at."""
         numbers = list(numbers)
-        return numbers if self.most is None else random.Random(0).sample(numbers, min(self.most, len(numbers)))
+        return numbers if self.most is None else sorted(random.Random(0).sample(numbers, min(self.most, len(numbers))))
 
     def check(self):
-        """Checks all laws in their order."""
-        self.check_nodes()
-        self.check_turns()
-        for k, record in enumerate(self.records):
-            need((record.outcome == "placed") == (k + 1 in self.tree.points), f"mark {k} and node {k + 1} do not agree")
+        """Checks laws 2 to 6, one after another, each line by line."""
+        self.first_at = {}
+        for n in self.order:
+            self.first_at.setdefault(self.tree.points[n], n)
+        for place in self.drawn(range(len(self.order))):
+            self.hold(2, self.node_line(place), self.check_node, self.order[place])
+        self.count_turns()
+        for law, check in ((3, self.check_turn), (4, self.check_presence)):
+            for k, record in enumerate(self.records):
+                self.hold(law, self.mark_line(k), check, k, record)
+        self.sort_turns()
         for k in self.drawn(range(len(self.records))):
-            self.check_record(k, self.records[k])
-        need(self.head == head_lines(self.tree, self.records, self.scene), "the short report is another one")
+            self.hold(5, self.mark_line(k), self.check_record, k, self.records[k])
+        own = head_lines(self.tree, self.records, self.scene)
+        for i, line in enumerate(self.head):
+            if line != (own[i] if i < len(own) else None):
+                raise Broken(6, i + 1, "the short report is another one")
+
+    def hold(self, law, line, check, *about):
+        """Checks a law at a line."""
+        try:
+            check(*about)
+        except Wrong as wrong:
+            raise Broken(law, line, wrong) from None
 
     def edge(self, a, b, what):
         """The cost of an edge that has to be clear and no longer than the step."""
@@ -103,29 +176,38 @@ class Judge:
         need(self.space.is_clear(a, b), f"{what}: the edge is not clear")
         return cost(a, b)
 
-    def check_nodes(self):
-        """Each node hangs below its parent, and its cost is its parent's and the edge."""
-        points, parents = self.tree.points, self.tree.parents
-        need(points.get(0) == self.scene.start and parents[0] == 0 and self.costs.get(0) == 0, "node 0 is not the start")
-        need(len(set(points.values())) == len(points), "two nodes stand at one point")
-        for n in self.drawn(points):
-            if n != 0:
-                parent = parents[n]
-                need(parent in points and parent != n, f"node {n} has no parent")
-                edge = self.edge(points[parent], points[n], f"node {n}")
-                need(self.costs[n] == self.costs[parent] + edge, f"the cost of node {n} is not its sum")
+    def check_node(self, n):
+        """A node stands alone and hangs below its parent, and its cost is its parent's and the edge."""
+        points, parent = self.tree.points, self.tree.parents[n]
+        if n == 0:
+            need(points[0] == self.scene.start and parent == 0 and self.costs[0] == 0, "node 0 is not the start")
+        else:
+            need(self.first_at[points[n]] == n, f"node {n} stands where another does")
+            need(parent in self.costs and parent != n, f"node {n} has no parent")
+            edge = self.edge(points[parent], points[n], f"node {n}")
+            need(self.costs[n] == self.costs[parent] + edge, f"the cost of node {n} is not its sum")
 
-    def check_turns(self):
-        """The turns of each worker run from 0, with no gap and none twice. Keeps the nodes of each worker by turn."""
-        turns = {}
-        for k, record in enumerate(self.records):
-            need(record.worker < MOST_WORKERS, "there are too many workers")
-            turns.setdefault(record.worker, []).append((record.turn, k))
+    def count_turns(self):
+        """Counts the marks of each worker."""
+        self.handled, self.taken = {}, set()
+        for record in self.records:
+            self.handled[record.worker] = self.handled.get(record.worker, 0) + 1
+
+    def check_turn(self, k, record):
+        """The turn of a mark is below the number of its worker's marks, and that of no earlier one."""
+        turn = record.worker, record.turn
+        need(record.turn < self.handled[record.worker] and turn not in self.taken, f"the turn of mark {k} is not its own")
+        self.taken.add(turn)
+
+    def check_presence(self, k, record):
+        """A placed mark has a node, and no other."""
+        need((record.outcome == "placed") == (k + 1 in self.costs), f"mark {k} and node {k + 1} do not agree")
+
+    def sort_turns(self):
+        """Keeps the placed nodes of each worker by turn."""
         self.placed = {}
-        for worker, own in turns.items():
-            own.sort()
-            need([turn for turn, _ in own] == list(range(len(own))), f"worker {worker} leaves out a turn or has one twice")
-            placed = [(turn, k + 1) for turn, k in own if self.records[k].outcome == "placed"]
+        for worker in self.handled:
+            placed = sorted((r.turn, k + 1) for k, r in enumerate(self.records) if r.worker == worker and r.outcome == "placed")
             self.placed[worker] = [turn for turn, _ in placed], [node for _, node in placed]
 
     def earlier_nodes(self, record):
@@ -215,13 +297,13 @@ def verdict(scene, text, full=True, most=None):
             Judge(scene, text, most).check()
         else:
             check_short(scene, text)
-    except Broken as broken:
-        return str(broken)
+    except (Wrong, Broken) as found:
+        return str(found)
     return "lawful"
 
 
 if __name__ == "__main__":
     with open(words_or_usage(__doc__)[0], "rb") as file:
-        answer = verdict(read(file.read()), sys.stdin.read())
+        answer = verdict(read(file.read()), sys.stdin.buffer.read().decode("latin-1"))
     print(answer)
     sys.exit(0 if answer == "lawful" else 1)
