@@ -25,6 +25,7 @@ pub mod SeenLists
 mod FirstPairs
 mod SeatSteps
 pub mod Posting
+pub mod PostedGoals
 mod ChildCosts
 mod LoweredChains
 pub mod KeptFound

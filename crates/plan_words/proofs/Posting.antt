@@ -24,19 +24,20 @@ use Rattle.step_core.specs.LaterViews.{IsLater, IsLawfulView}
 use Rattle.step_core.specs.GrownWords.{has_node}
 use Rattle.step_core.specs.SeenBests.{MayPost, SeesGoal, seen_first_cost}
 use Rattle.step_core.specs.Stages.{has_link}
-use Rattle.step_core.specs.ViewSteps.{best_with, hand_with_post, loaded, post_noted, posted, with_best}
+use Rattle.step_core.specs.ViewSteps.{best_with, hand_with_post, loaded, lowered, post_noted, posted, with_best}
 use Rattle.step_core.specs.ViewTrees.{SeesPoint}
 use Rattle.step_core.specs.SeenWords.{seen_tree_of_words}
 use Rattle.step_core.specs.Views.{run_sizes, sees, tree_seen}
 use Rattle.step_core.specs.WordNames.{Word, Words, WritesWord}
 use Rattle.step_core.specs.WordNames.Word.{FirstOf, PointOf, TreeOf}
-use Rattle.step_core.specs.Words.{best_cost_in, best_node_in, best_of_word, best_word, cost_in, no_best, point_of_word}
+use Rattle.step_core.specs.Words.{best_cost_in, best_node_in, best_of_word, best_word, cost_in, no_best, point_of_word, tree_word}
 use Rattle.step_core.specs.declared.views.Hand.{Hand}
 use Rattle.step_core.specs.declared.views.SharedRun.{SharedRun}
 use Rattle.step_core.specs.declared.views.Stage.{Stage}
 use Rattle.step_core.specs.declared.views.Stage.TheVariants.{Claimed, Counted, Half, Linked, Pointed, Posted, Treed}
 use Rattle.step_core.specs.declared.views.View.{View}
 use Rattle.step_core.proofs.Looks.{same_name}
+use Rattle.step_core.proofs.SeenByViews.{WritesWord-saw}
 use Rattle.step_core.proofs.SeenViews.{SeesPoint-later}
 use Rattle.step_core.proofs.SeenWords.{point_at-seen, seen-within}
 
@@ -161,6 +162,13 @@ goal-later before after n p goes_on stands goal =
     goal-at after n p (SeesPoint-later before after goes_on.later.run goes_on.later.seen n p stands)
     (ap (λ (r : SharedRun). lies_in_goals r.goals p) goes_on.later.run ∙ lies-at before n p stands goal)
 
+-- and was one before, if it was seen there
+pub goal-before : (before after : View) (n : ℕ) (p : Point) → GoesOn before after → SeesPoint before n p → SeesGoal after n → SeesGoal before n
+goal-before before after n p goes_on stands goal =
+    goal-at before n p stands
+    (ap (λ (r : SharedRun). lies_in_goals r.goals p) (sym goes_on.later.run)
+    ∙ lies-at after n p (SeesPoint-later before after goes_on.later.run goes_on.later.seen n p stands) goal)
+
 -- and so is any that was seen so
 pub goal-goes_on : (before after : View) (n : ℕ) → GoesOn before after → SeesGoal before n → SeesGoal after n
 goal-goes_on before after n goes_on goal =
@@ -222,17 +230,24 @@ module _ (me after : Me Aim View) (n found : ℕ) (told : Tells me (posted me.0 
 
 -- ---- a lower and its post
 
+-- the word of the node that is lowered
+pub lowered_here : (before after : PassState) (n parent cost : ℕ) → IsLawfulView before.view → n ≤ length before.view.run.marks
+    → after ≡ with_view before (lowered before.view n parent cost) → sees after.view (TreeOf n) ≡ tree_word parent cost
+lowered_here before after n parent cost lawful within is =
+    ap (λ (p : PassState). sees p.view (TreeOf n)) is
+    ∙ (WritesWord-saw before.view.run before.view lawful.of_run (TreeOf n) within (sees before.view (TreeOf n)) (tree_word parent cost)).here
+
 module _ (n : ℕ) (before mid after : PassState) where
   -- the point is looked at before
   pub OnlyPosts-after : (view : View) → mid ≡ with_view before view → view.crew ≡ before.view.crew → view.most ≡ before.view.most
-      → view.hand ≡ before.view.hand → OnlyPosts n mid after → OnlyPosts n before after
-  OnlyPosts-after view is crew most hand posts = record {
+      → view.hand ≡ before.view.hand → (SeesGoal mid.view n → SeesGoal before.view n) → OnlyPosts n mid after → OnlyPosts n before after
+  OnlyPosts-after view is crew most hand back posts = record {
     pass = posts.pass ∙ ap (λ (p : PassState). with_view p after.view) is;
     crew = posts.crew ∙ ap (λ (p : PassState). p.view.crew) is ∙ crew;
     most = posts.most ∙ ap (λ (p : PassState). p.view.most) is ∙ most;
     hand = elim posts.hand [
       | inl same ↦ inl (same ∙ same_hand)
-      | inr noted ↦ inr (noted ∙ ap (λ h. hand_with_post h n) same_hand)
+      | inr (goal, noted) ↦ inr (back goal, noted ∙ ap (λ h. hand_with_post h n) same_hand)
     ];
   }
     where
@@ -249,10 +264,10 @@ OnlyPosts-none n before after view is crew most hand = record {
 }
 
 pub OnlyPosts-posted : (n : ℕ) (before after : PassState) (best : ℕ) → after ≡ with_view before (with_best before.view best (hand_with_post before.view.hand n))
-    → OnlyPosts n before after
-OnlyPosts-posted n before after best is = record {
+    → SeesGoal before.view n → OnlyPosts n before after
+OnlyPosts-posted n before after best is goal = record {
   pass = is ∙ ap (with_view before) (sym (ap (λ (p : PassState). p.view) is));
   crew = ap (λ (p : PassState). p.view.crew) is;
   most = ap (λ (p : PassState). p.view.most) is;
-  hand = inr (ap (λ (p : PassState). p.view.hand) is);
+  hand = inr (goal, ap (λ (p : PassState). p.view.hand) is);
 }

@@ -6,7 +6,7 @@ use Rattle.step_core.specs.SeenBests.{SeesGoal}
 use Rattle.step_core.specs.ViewSteps.{hand_with_post}
 use Rattle.step_core.specs.Views.{sees}
 use Rattle.step_core.specs.WordNames.Word.{TreeOf}
-use Rattle.step_core.specs.Words.{cost_in}
+use Rattle.step_core.specs.Words.{best_word, cost_in}
 use Rattle.step_core.specs.declared.views.Hand.{Hand}
 use Rattle.step_core.specs.declared.views.Stage.TheVariants.{Counted}
 use Rattle.step_core.specs.declared.views.View.{View}
@@ -17,14 +17,19 @@ pub record FindsGoalNode (view : View) (best : ℕ × ℕ) : Type 0 where
   pub written : 2 ^ 63 ≤ sees view (TreeOf best.0)
   pub paid : cost_in (sees view (TreeOf best.0)) ≤ best.1
 
--- Of the pass only its view is another. Share, limit and hand stay, but that the hand may note a post of node n.
+-- Of the pass only its view is another. Share, limit and hand stay, but that the hand may note a post of node n, a goal node.
 pub record OnlyPosts (n : ℕ) (before after : PassState) : Type 0 where
   pub pass : after ≡ with_view before after.view
   pub crew : after.view.crew ≡ before.view.crew
   pub most : after.view.most ≡ before.view.most
-  pub hand : (after.view.hand ≡ before.view.hand) ⊎ (after.view.hand ≡ hand_with_post before.view.hand n)
+  pub hand : (after.view.hand ≡ before.view.hand) ⊎ (SeesGoal before.view n × (after.view.hand ≡ hand_with_post before.view.hand n))
 
 -- A node in hand that is counted lies in no goal by which marks are skipped: one that does has been posted.
 abbrev pub HasPostedHand : View → Type 0
 HasPostedHand view =
     (hand : Hand) → view.hand ≡ Some hand → hand.stage ≡ Counted → ¬ IsTrue (is_goal_point view.run.goals (Some hand.point))
+
+-- Of each goal node that is seen with its parent and its cost, the best word seen is at most the pair of this cost and its number.
+abbrev pub HasPostedGoals : View → Type 0
+HasPostedGoals view =
+    (n : ℕ) → SeesGoal view n → 2 ^ 63 ≤ sees view (TreeOf n) → view.best ≤ best_word (cost_in (sees view (TreeOf n))) n

@@ -129,6 +129,8 @@ impl Shared {
         ensures edge_found { IfErr result (λ pair. IsEdgeSeen pass.new.view node pair.0) }
         // all other words are seen as before
         ensures seen { WritesWord (TreeOf node) (sees pass.new.view (TreeOf node)) (sees pass.old.view) (sees pass.new.view) }
+        // the node is seen with this parent and at this cost then
+        ensures lowered { IfOk result (λ _. sees pass.new.view (TreeOf node) ≡ tree_word parent cost) }
         // the cost that is seen falls, whichever it is
         ensures falls { FindsLess (sees pass.old.view (TreeOf node)) (sees pass.new.view (TreeOf node)) }
         // of a goal node the best word is at most its pair then

@@ -1,16 +1,17 @@
-use Rattle.std.proofs.Common.{◌≡◌, ◌≤◌, ap, refl, subst, sym, ◌∙◌}
+use Rattle.std.proofs.Common.{◌≡◌, ◌≤◌, ap, length, refl, subst, sym, ◌∙◌}
 use Rattle.std.specs.Prelude.{is_some}
 use Rattle.plan_words.proofs.GoingOn.{BelongsTo-later, GoesOn-trans}
 use Rattle.plan_words.proofs.KeptPairs.{fits_word}
-use Rattle.plan_words.proofs.Posting.{OnlyPosts-after, goal-later}
+use Rattle.plan_words.proofs.Posting.{OnlyPosts-after, goal-before, goal-later, lowered_here}
 use Rattle.plan_words.proofs.shared.Shared.lower.Goals as goal
+use Rattle.plan_words.proofs.shared.Shared.lower.Goals.{After-lower_pair}
 use Rattle.plan_words.specs.States.{PassState}
 use Rattle.step_core.specs.ViewSteps.{lowered}
 use Rattle.step_core.specs.Views.{sees}
+use Rattle.step_core.specs.WordNames.{Words}
 use Rattle.step_core.specs.WordNames.Word.{TreeOf}
-use Rattle.step_core.specs.Words.{best_word, cost_in, tree_word}
+use Rattle.step_core.specs.Words.{best_word, cost_in}
 use Rattle.step_core.proofs.PackedWords.{cost_in-tree_word}
-use Rattle.step_core.proofs.SeenByViews.{WritesWord-saw}
 use Rattle.step_core.proofs.SeenViews.{IsPresent-later}
 
 pub returns-in_err-lower_pair-clause-whole : goal.returns-in_err-lower_pair-clause-whole
@@ -29,12 +30,32 @@ post_lowered-requires-clause-present c =
 pub returns-then-self-clause-kept : goal.returns-then-self-clause-kept
 returns-then-self-clause-kept c =
     OnlyPosts-after c.args.node c.args.pass.now c.lower_pair.new.pass c.post_lowered.new.pass
-    (lowered c.args.pass.now.view c.args.node c.args.parent c.args.cost) c.in_ok-lower_pair.ensures.view refl refl refl c.post_lowered.ensures.kept
+    (lowered c.args.pass.now.view c.args.node c.args.parent c.args.cost) c.in_ok-lower_pair.ensures.view refl refl refl
+    (goal-before c.args.pass.now.view c.lower_pair.new.pass.view c.args.node c.requires.may.at c.in_ok-lower_pair.ensures.goes_on
+    c.requires.may.seen.stands)
+    c.post_lowered.ensures.kept
 
 pub returns-then-self-clause-goes_on : goal.returns-then-self-clause-goes_on
 returns-then-self-clause-goes_on c =
     GoesOn-trans c.args.pass.now.view c.lower_pair.new.pass.view c.post_lowered.new.pass.view c.in_ok-lower_pair.ensures.goes_on
     c.post_lowered.ensures.goes_on
+
+-- the node is one of the run's
+within : (c : After-lower_pair) → c.args.node ≤ length c.args.pass.now.view.run.marks
+within c =
+    let lawful = c.requires.belongs.lawful in
+    lawful.within c.args.node (lawful.tree.rooted.points c.args.node (ap is_some c.requires.may.seen.stands))
+
+pub returns-then-self-clause-lowered : goal.returns-then-self-clause-lowered
+returns-then-self-clause-lowered c =
+    ap (λ (w : Words). w (TreeOf c.args.node)) c.post_lowered.ensures.seen
+    ∙ lowered_here c.args.pass.now c.lower_pair.new.pass c.args.node c.args.parent c.args.cost c.requires.belongs.lawful
+    (within (goal.at.returns-then-self-clause-lowered c).After-lower_pair) c.in_ok-lower_pair.ensures.view
+
+pub returns-else-self-clause-lowered : goal.returns-else-self-clause-lowered
+returns-else-self-clause-lowered c =
+    lowered_here c.args.pass.now c.lower_pair.new.pass c.args.node c.args.parent c.args.cost c.requires.belongs.lawful
+    (within (goal.at.returns-else-self-clause-lowered c).After-lower_pair) c.in_ok-lower_pair.ensures.view
 
 pub returns-then-self-clause-posted : goal.returns-then-self-clause-posted
 returns-then-self-clause-posted c here =
@@ -42,11 +63,8 @@ returns-then-self-clause-posted c here =
     let mid = c.lower_pair.new.pass.view in
     let may = c.requires.may in
     let lawful = c.requires.belongs.lawful in
-    let within = lawful.within c.args.node (lawful.tree.rooted.points c.args.node (ap is_some may.seen.stands)) in
-    let wrote =
-    ap (λ (p : PassState). sees p.view (TreeOf c.args.node)) c.in_ok-lower_pair.ensures.view
-    ∙ (WritesWord-saw before.run before lawful.of_run (TreeOf c.args.node) within (sees before (TreeOf c.args.node))
-    (tree_word c.args.parent c.args.cost)).here in
+    let wrote = lowered_here c.args.pass.now c.lower_pair.new.pass c.args.node c.args.parent c.args.cost lawful
+    (within (goal.at.returns-then-self-clause-posted c).After-lower_pair) c.in_ok-lower_pair.ensures.view in
     let fits = fits_word before may.at c.args.parent c.args.cost lawful may.below in
     let cost = ap cost_in wrote ∙ cost_in-tree_word c.args.parent c.args.cost fits.0 fits.1 in
     subst (λ x. c.post_lowered.new.pass.view.best ≤ best_word x c.args.node) cost
