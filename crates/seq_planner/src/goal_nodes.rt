@@ -3,7 +3,6 @@
 ghost use Rattle.std.specs.Prelude.{◌≡◌, ◌+◌, ◌<◌, ◌≤◌, ℕ, [], ◌⊎◌, All, Contains, IsTrue, IsFalse, IfSome, MatchOption, OnOk, length, slice_index};
 ghost use Rattle.plan_model.specs.Geometry.Bounds.{IsBounded};
 ghost use Rattle.plan_model.specs.Runs.Textbook.{MayBeCheaper, setup_of, skipping_goals};
-ghost use Rattle.plan_model.specs.Trees.BestNode.{lies_in_goals};
 ghost use Rattle.plan_model.specs.Trees.LeastPairs.{IsFirstLeast, IsNotAbove};
 ghost use Rattle.plan_model.specs.Trees.NodeLists.{points_of, sum_of};
 ghost use Rattle.plan_model.specs.declared.limits.TheConstants.{MOST_NODES};
@@ -12,8 +11,9 @@ ghost use Rattle.seq_planner.specs.SearchTrees.{IsSkippedBy, IsSoundTree};
 
 use crate::search_tree::SearchTree;
 use edge_cost::bound;
-use plan_model::{Goal, Memory, Point, Scene};
+use plan_model::{Memory, Point, Scene};
 use std::alloc::Global;
+use step_core::lies_in_goals;
 
 /// The numbers of the nodes that lie in a goal by which marks are skipped: none in a scene that is not informed.
 #[derive(Drop)]
@@ -95,11 +95,4 @@ fn comes_before(costs: &[u64], number: u32, other: u32) -> bool
     let cost = costs[number as usize];
     let other_cost = costs[other as usize];
     cost < other_cost || (cost == other_cost && number < other)
-}
-
-/// Whether the point lies in one of the goals.
-fn lies_in_goals(goals: &[Goal], point: Point) -> bool
-    ensures { result ≡ lies_in_goals goals.now point }
-{
-    goals.iter().any(|goal| goal.contains(point))
 }

@@ -6,8 +6,8 @@
 //! the near ones; near nodes that are strictly cheaper through it are rewired, and their lowered costs reach their
 //! descendants by the index of children. After the last mark the nodes with their costs and the records are packed as a
 //! closed run. In an informed scene a mark is skipped if the best goal node costs no more than the bound of the mark; the goal
-//! nodes are listed as they are placed. The contract of [`textbook`] says that its tree and its records are those of the textbook run over these
-//! marks. Which edges are clear it asks of a collision checker that stands for the scene.
+//! nodes are listed as they are placed. The contract of [`textbook`] says that its tree and its records are those of the textbook run
+//! over these marks. Which edges are clear it asks of a collision checker that stands for the scene.
 #![tactic(auto)]
 
 mod cost_spreading;

@@ -1,14 +1,14 @@
 //! The best node of a run: the cheapest of those that lie in a goal.
 
 ghost use Rattle.std.specs.Prelude.{◌≡◌, IfSome, IsTrue};
-ghost use Rattle.plan_model.specs.Trees.BestNode.{best_node, goals_of, is_goal_point, lies_in_goals};
+ghost use Rattle.plan_model.specs.Trees.BestNode.{best_node, goals_of, is_goal_point};
 ghost use Rattle.plan_model.specs.Trees.LeastPairs.{lesser};
 ghost use Rattle.plan_model.specs.Trees.PointsByNumber.{IsPresent, point_at};
 ghost use Rattle.plan_model.specs.Trees.TreeStates.{IsSettled, sum_in};
 ghost use Rattle.step_core.specs.GrownRuns.{state_of_grown};
 
-use plan_model::{Goal, Point};
-use step_core::Grown;
+use plan_model::Goal;
+use step_core::{Grown, lies_in_goals};
 
 /// The number of the goal node (a node whose point lies in one of the closed goal boxes) with the least cost-to-come, and of those with
 /// the same cost the least number; `None` exactly if no node lies in a goal. O(n) for n marks below the limit.
@@ -40,13 +40,6 @@ fn is_goal_node(grown: &Grown, goals: &[Goal], node: u32) -> bool
         Some(point) => lies_in_goals(goals, point),
         None => false,
     }
-}
-
-/// Whether the point lies in one of the goals.
-fn lies_in_goals(goals: &[Goal], point: Point) -> bool
-    ensures { result ≡ lies_in_goals goals.now point }
-{
-    goals.iter().any(|goal| goal.contains(point))
 }
 
 /// Of a node and perhaps a later one, the one with the lesser cost-to-come, the first if both are equal.
