@@ -1,3 +1,4 @@
+pub mod SideDistances
 pub mod Searching
 pub mod VisitedOnce
 pub mod LoadedChildren

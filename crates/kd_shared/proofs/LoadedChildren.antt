@@ -1,16 +1,15 @@
 -- A loaded child is queued with its point.
-use Rattle.std.proofs.Common.{◌≡◌, ℕ, zero, suc, ◌*◌, ◌<◌, ◌≤◌, Bool, true, false, not, List, [], ◌∷◌, ◌++◌, Some, None, arith, refl}
+use Rattle.std.proofs.Common.{◌≡◌, ℕ, zero, suc, ◌≤◌, Bool, true, false, not, List, [], ◌∷◌, ◌++◌, Some, arith, refl}
 use Rattle.std.proofs.Common.{sym, ap, ◌∙◌, subst, inl, inr}
 use Rattle.std.specs.Prelude.{◌==◌, if◌then◌else◌, MatchOption}
 use Rattle.std.proofs.lemmas.Bool.{cases_eq, ne_eqb}
-use Rattle.std.proofs.lemmas.Nat.{mul-le}
 use Rattle.plan_model.specs.declared.geometry.Point.{Point}
 use Rattle.plan_model.specs.Seen.Sights.{IsLaterMoment, KeepsSight, Sight}
 use Rattle.plan_model.specs.Trees.PointsByNumber.{point_at, point_of}
 use Rattle.plan_model.proofs.NewNodes.{StandsAt-present}
 use Rattle.plan_model.proofs.SightLaws.{IsLaterMoment-trans}
 use Rattle.kd_shared.specs.Loads.{FindsEmpty, KeepsPoints, LoadsChild, LoadsPoint}
-use Rattle.kd_shared.specs.Spots.{IsWithin, LeavesChild, QueuesChild, QueuesWithin}
+use Rattle.kd_shared.specs.Spots.{QueuesChild, QueuesWithin}
 use Rattle.plan_words.specs.declared.spots.Spot.{Spot}
 use Rattle.step_core.specs.GrownWords.{child_of_word}
 use Rattle.step_core.specs.ViewTrees.{SeesNode}
@@ -18,16 +17,12 @@ use Rattle.step_core.specs.Views.{tree_seen}
 use Rattle.step_core.specs.declared.views.View.{View}
 
 -- the child that was loaded is seen, and so is node 0
-pub SeesNode-within : (view : View) (n gap r child chosen : ℕ) (side : Bool) (Empty : Type 0)
-    → MatchOption (child_of_word child) Empty (λ c. ((tree_seen view).child n side ≡ Some c) × SeesNode view c) → IsWithin gap r child chosen
-    → SeesNode view chosen
-SeesNode-within view n gap r child chosen side Empty found (inl (beyond, is)) = inl is
-SeesNode-within view n gap r zero chosen side Empty found (inr (near, is)) = inl is
-SeesNode-within view n gap r (suc c) chosen side Empty found (inr (near, is)) = subst (SeesNode view) (sym is) found.1
-
-mul-lt : (r gap : ℕ) → r < gap → r * r < gap * gap
-mul-lt r (suc gap) less = (let le = mul-le r r gap gap (omega (arith, less)) (omega (arith, less)) in omega (arith, le))
-mul-lt r zero less = absurd (omega (arith, less))
+pub SeesNode-within : (view : View) (n child chosen : ℕ) (side within : Bool) (Empty : Type 0)
+    → MatchOption (child_of_word child) Empty (λ c. ((tree_seen view).child n side ≡ Some c) × SeesNode view c)
+    → chosen ≡ (if within then child else 0) → SeesNode view chosen
+SeesNode-within view n child chosen side false Empty found is = inl is
+SeesNode-within view n zero chosen side true Empty found is = inl is
+SeesNode-within view n (suc c) chosen side true Empty found is = subst (SeesNode view) (sym is) found.1
 
 module _ (before mid after : Sight) (keeps : KeepsSight before) where
   -- what was found empty is so since
@@ -51,7 +46,7 @@ module _ (before mid after : Sight) (keeps : KeepsSight before) where
         | inr apart ↦ load.others n apart ∙ points n
       ]
 
-  module _ (spots put : List Spot) (spot : Spot) (side : Bool) (gap r child chosen : ℕ) (p : Point)
+  module _ (spots put : List Spot) (spot : Spot) (side : Bool) (child chosen : ℕ) (p : Point)
       (load : LoadsChild before mid spot.node side (child_of_word child)) (point : LoadsPoint mid after chosen p) where
     abbrev here : Spot
     here = record { node = chosen; by_rows = not spot.by_rows; point = p }
@@ -63,7 +58,7 @@ module _ (before mid after : Sight) (keeps : KeepsSight before) where
     keeps_points none = KeepsPoints-start p load.points load.later (subst (λ n. LoadsPoint mid after n p) none point)
 
     -- there is none, or one that waits now,
-    queues_found : (word : ℕ) → chosen ≡ word → child ≡ word → put ≡ (if not (word == 0) then spots ++ here ∷ [] else spots)
+    queues_found : (number : ℕ) → chosen ≡ number → child ≡ number → put ≡ (if not (number == 0) then spots ++ here ∷ [] else spots)
         → QueuesChild before after spots put spot side
     queues_found zero none is same = record {
       later = later_then;
@@ -90,21 +85,16 @@ module _ (before mid after : Sight) (keeps : KeepsSight before) where
       );
     }
 
-    -- or it is left out, as the line that splits the two sides is farther than r.
-    pub QueuesWithin-loaded : IsWithin gap r child chosen → put ≡ (if not (chosen == 0) then spots ++ here ∷ [] else spots)
-        → QueuesWithin before after spots put spot side (gap * gap) (r * r)
-    QueuesWithin-loaded (inl (beyond, none)) same = inl (record {
-      later = later_then;
-      keeps = point.keeps;
-      beyond = mul-lt r gap beyond;
-      same = same ∙ ap (λ n. if not (n == 0) then spots ++ here ∷ [] else spots) none;
-      points = keeps_points none;
-    })
-    QueuesWithin-loaded (inr (near, is)) same =
-        inr (queues_found child is refl (same ∙ ap (λ n. if not (n == 0) then spots ++ here ∷ [] else spots) is))
-
--- the near side is never left out
-pub QueuesWithin-near : (before after : Sight) (queue put : List Spot) (spot : Spot) (side : Bool) (r : ℕ)
-    → QueuesWithin before after queue put spot side (0 * 0) (r * r) → QueuesChild before after queue put spot side
-QueuesWithin-near before after queue put spot side r (inl leaves) = absurd (omega (arith, leaves.beyond))
-QueuesWithin-near before after queue put spot side r (inr queues) = queues
+    -- or it is left out.
+    pub QueuesWithin-loaded : (within : Bool) → chosen ≡ (if within then child else 0)
+        → put ≡ (if not (chosen == 0) then spots ++ here ∷ [] else spots) → QueuesWithin before after spots put spot side within
+    QueuesWithin-loaded false none same = inl (
+      refl,
+      record {
+        later = later_then;
+        keeps = point.keeps;
+        same = same ∙ ap (λ n. if not (n == 0) then spots ++ here ∷ [] else spots) none;
+        points = keeps_points none;
+      },
+    )
+    QueuesWithin-loaded true is same = inr (queues_found child is refl (same ∙ ap (λ n. if not (n == 0) then spots ++ here ∷ [] else spots) is))

@@ -7,7 +7,6 @@ use Rattle.plan_model.proofs.SeenTreeLaws.{IsSeen-more}
 use Rattle.plan_words.specs.Claims.{SeesAsBefore}
 use Rattle.plan_words.specs.Nodes.{NamesChildOrPoint}
 use Rattle.plan_words.specs.States.{GoesOn, HasWholeShare}
-use Rattle.plan_words.proofs.GoingOn.{GoesOn-trans}
 use Rattle.step_core.specs.LaterViews.{IsLater, IsLawfulView}
 use Rattle.step_core.specs.ViewSteps.{loaded}
 use Rattle.step_core.specs.ViewTrees.{SeesNode, SeesPoint, sight_in}

@@ -1,5 +1,6 @@
 -- The search of a pass for all near nodes: what waits and what is found at each stage.
 use Rattle.std.proofs.Common.{◌≡◌, ℕ, suc, ◌+◌, ◌*◌, ◌<◌, ◌≤◌, Bool, false, not, List, [], ◌∷◌, length, arith, refl, sym, ap, ◌∙◌, subst}
+use Rattle.std.specs.Prelude.{IsFalse}
 use Rattle.plan_model.specs.declared.geometry.Point.{Point}
 use Rattle.plan_model.specs.Geometry.Bounds.{IsBounded}
 use Rattle.plan_model.specs.Geometry.Plane.{squared_distance}
@@ -8,19 +9,17 @@ use Rattle.plan_words.specs.SearchLists.{SearchLists}
 use Rattle.plan_words.specs.States.{BelongsTo, PassState, SharedState}
 use Rattle.plan_words.specs.declared.spots.Found.{Found}
 use Rattle.plan_words.specs.declared.spots.Spot.{Spot}
-use Rattle.step_core.specs.KdSides.{goes_right_by}
 use Rattle.step_core.specs.LaterViews.{IsLawfulView}
 use Rattle.step_core.specs.ViewTrees.{SeesNode, sight_in}
 use Rattle.step_core.proofs.LawfulSights.{IsBounded-seen, KeepsSight-lawful}
-use Rattle.kd_shared.specs.FarSides.{line_square}
 use Rattle.kd_shared.specs.Loads.{LoadsPoint}
 use Rattle.kd_shared.specs.LookLaws.{OnlyLooks-trans}
 use Rattle.kd_shared.specs.Looking.{KeepsLists, OnlyLooks, PassLooks, searched}
 use Rattle.kd_shared.specs.Searches.{AreGathered}
-use Rattle.kd_shared.specs.Spots.{Notes, QueuesChild, QueuesWithin}
+use Rattle.kd_shared.specs.Spots.{Notes, QueuesWithin, side_distance}
 use Rattle.kd_shared.proofs.Looking.{SeesNode-later}
-use Rattle.kd_shared.proofs.NearSearch.{IsGathering, IsGathering-begins, IsGathering-ends, IsGathering-few_found, IsGathering-room_far}
-use Rattle.kd_shared.proofs.NearSearch.{IsGathering-room_near, IsGathering-seen, IsGathering-stands, IsGathering-visits}
+use Rattle.kd_shared.proofs.NearSearch.{IsGathering, IsGathering-begins, IsGathering-ends, IsGathering-few_found, IsGathering-room_first}
+use Rattle.kd_shared.proofs.NearSearch.{IsGathering-room_last, IsGathering-seen, IsGathering-stands, IsGathering-visits}
 
 -- The pass only looks, and its other lists stay. So many spots of its queue were visited, and those are found that are near.
 pub record IsGatheringPass (shared : SharedState) (entry now : PassState) (p : Point) (r : ℕ) : Type 0 where
@@ -102,7 +101,7 @@ module _ (shared : SharedState) (entry now : PassState) (p : Point) (r : ℕ) (h
 
     room_now : suc now.lists.search.taken + length rest ≤ suc (length now.view.run.marks)
     room_now =
-        IsGathering-room_far (sight_in entry.view) (sight_in now.view) p r now.lists.search.spots now.lists.search.found now.lists.search.taken h.gathers
+        IsGathering-room_first (sight_in entry.view) (sight_in now.view) p r now.lists.search.spots now.lists.search.found now.lists.search.taken h.gathers
         spot rest is (length now.view.run.marks) lawful_now.within
 
     -- (fewer are left to visit)
@@ -135,16 +134,17 @@ module _ (shared : SharedState) (entry now : PassState) (p : Point) (r : ℕ) (h
 
       -- and its children are queued
       module _
-          (half : PassState) (right : Bool) (own : right ≡ goes_right_by spot.by_rows spot.point p) (far_looks : OnlyLooks noted.view half.view)
+          (half : PassState) (right first_within : Bool) (first_looks : OnlyLooks noted.view half.view)
           (half_is : half ≡ searched noted half.view (record noted.lists.search { spots = half.lists.search.spots }))
-          (far_side : QueuesWithin (sight_in noted.view) (sight_in half.view) noted.lists.search.spots half.lists.search.spots spot (not right)
-          (line_square spot p) (r * r)) where
-        far_here : QueuesWithin (sight_in now.view) (sight_in half.view) rest half.lists.search.spots spot (not right) (line_square spot p) (r * r)
-        far_here =
+          (first_is : IsFalse first_within → r < side_distance spot.by_rows spot.point p (not right))
+          (first_side : QueuesWithin (sight_in noted.view) (sight_in half.view) noted.lists.search.spots half.lists.search.spots spot (not right)
+          first_within) where
+        first_here : QueuesWithin (sight_in now.view) (sight_in half.view) rest half.lists.search.spots spot (not right) first_within
+        first_here =
             subst
             (λ (s : PassState). QueuesWithin (sight_in s.view) (sight_in half.view) s.lists.search.spots half.lists.search.spots spot (not right)
-            (line_square spot p) (r * r))
-            same far_side
+            first_within)
+            same first_side
 
         taken_half : half.lists.search.taken ≡ visits
         taken_half = ap (λ (s : PassState). s.lists.search.taken) half_is ∙ ap (λ (s : PassState). s.lists.search.taken) same
@@ -153,24 +153,25 @@ module _ (shared : SharedState) (entry now : PassState) (p : Point) (r : ℕ) (h
         found_half = ap (λ (s : PassState). s.lists.search.found) half_is ∙ ap (λ (s : PassState). s.lists.search.found) same
 
         pub half_seen : SeesNode half.view spot.node
-        half_seen = SeesNode-later noted.view half.view spot.node far_looks.looks.goes_on.later noted_seen
+        half_seen = SeesNode-later noted.view half.view spot.node first_looks.looks.goes_on.later noted_seen
 
         pub half_room : half.lists.search.taken + length half.lists.search.spots ≤ length half.view.run.marks + 1
         half_room =
             let room =
-            IsGathering-room_near (sight_in entry.view) (sight_in now.view) p r now.lists.search.spots now.lists.search.found now.lists.search.taken
-            h.gathers spot rest is (sight_in half.view) half.lists.search.spots found right keeps_now own notes far_here (length half.view.run.marks)
-            far_looks.looks.goes_on.lawful.within in
+            IsGathering-room_last (sight_in entry.view) (sight_in now.view) p r now.lists.search.spots now.lists.search.found now.lists.search.taken
+            h.gathers spot rest is (sight_in half.view) half.lists.search.spots found right first_within keeps_now notes first_is first_here
+            (length half.view.run.marks) first_looks.looks.goes_on.lawful.within in
             omega (arith, room, more, taken_half)
 
-        pub IsGatheringPass-visits : (after : PassState) → BelongsTo after shared → OnlyLooks half.view after.view
+        pub IsGatheringPass-visits : (after : PassState) (last_within : Bool) → BelongsTo after shared → OnlyLooks half.view after.view
             → after ≡ searched half after.view (record half.lists.search { spots = after.lists.search.spots })
-            → QueuesChild (sight_in half.view) (sight_in after.view) half.lists.search.spots after.lists.search.spots spot right
+            → (IsFalse last_within → r < side_distance spot.by_rows spot.point p right)
+            → QueuesWithin (sight_in half.view) (sight_in after.view) half.lists.search.spots after.lists.search.spots spot right last_within
             → IsGatheringPass shared entry after p r
-        IsGatheringPass-visits after belongs near_looks after_is near_side = record {
+        IsGatheringPass-visits after last_within belongs last_looks after_is last_is last_side = record {
           belongs = belongs;
           looks = OnlyLooks-trans entry.view noted.view after.view noted_looks
-              (OnlyLooks-trans noted.view half.view after.view far_looks near_looks);
+              (OnlyLooks-trans noted.view half.view after.view first_looks last_looks);
           lists = KeepsLists-searched entry half after (record half.lists.search { spots = after.lists.search.spots })
               (KeepsLists-searched entry noted half (record noted.lists.search { spots = half.lists.search.spots })
               (KeepsLists-searched entry now noted (record { spots = rest; taken = visits; found = found }) h.lists
@@ -181,8 +182,9 @@ module _ (shared : SharedState) (entry now : PassState) (p : Point) (r : ℕ) (h
               (λ (fs : List Found). IsGathering (sight_in entry.view) (sight_in after.view) p r after.lists.search.spots fs after.lists.search.taken)
               (sym (ap (λ (s : PassState). s.lists.search.found) after_is ∙ found_half))
               (IsGathering-visits (sight_in entry.view) (sight_in now.view) p r now.lists.search.spots now.lists.search.found now.lists.search.taken
-              h.gathers spot rest is (sight_in half.view) half.lists.search.spots found right keeps_now own notes far_here (sight_in after.view)
-              after.lists.search.spots after.lists.search.taken (ap (λ (s : PassState). s.lists.search.taken) after_is ∙ taken_half ∙ more) near_side);
+              h.gathers spot rest is (sight_in half.view) half.lists.search.spots found right first_within keeps_now notes first_is first_here
+              (sight_in after.view) after.lists.search.spots after.lists.search.taken
+              (ap (λ (s : PassState). s.lists.search.taken) after_is ∙ taken_half ∙ more) last_within last_is last_side);
         }
 
         -- a visit more

@@ -1,33 +1,32 @@
 -- The search for all near nodes, by a queue whose front is visited: the nodes found, and the points that wait.
-use Rattle.std.proofs.Common.{◌≡◌, ◌⊎◌, ℕ, suc, ◌+◌, ◌*◌, ◌≤◌, Bool, true, false, not, List, [], ◌∷◌, ◌++◌, length, arith}
+use Rattle.std.proofs.Common.{◌≡◌, ◌⊎◌, ℕ, suc, ◌+◌, ◌*◌, ◌<◌, ◌≤◌, Bool, false, not, List, [], ◌∷◌, ◌++◌, length, arith}
 use Rattle.std.proofs.Common.{refl, sym, ap, ◌∙◌, subst, inl, inr}
-use Rattle.std.specs.Prelude.{Contains}
+use Rattle.std.specs.Prelude.{Contains, IsFalse}
 use Rattle.std.proofs.lemmas.Bool.{cases_eq}
 use Rattle.std.proofs.lemmas.List.{append-nil, length-map, map-append}
 use Rattle.std.proofs.lemmas.List.Elements.{Contains-append_left, Contains-push, Contains-push_cases}
 use Rattle.plan_model.specs.declared.geometry.Point.{Point}
 use Rattle.plan_model.specs.Geometry.Plane.{squared_distance}
-use Rattle.plan_model.specs.Trees.Nearness.{is_within}
 use Rattle.plan_model.specs.Trees.PointsByNumber.{point_at, AreDistinct, StandsAt}
 use Rattle.plan_model.specs.Seen.SeenTrees.{IsSeen}
 use Rattle.plan_model.specs.Seen.Sights.{IsLaterMoment, KeepsSight, Sight}
-use Rattle.plan_model.proofs.NewNodes.{IsPresent-stands, StandsAt-unique}
+use Rattle.plan_model.proofs.NewNodes.{StandsAt-unique}
 use Rattle.plan_model.proofs.SightLaws.{IsFree-ends, IsLaterMoment-trans}
 use Rattle.kd_shared.specs.Loads.{KeepsPoints, LoadsPoint}
 use Rattle.kd_shared.specs.Searches.{AreGathered}
-use Rattle.step_core.specs.KdSides.{goes_right_by}
-use Rattle.kd_shared.specs.FarSides.{line_square}
-use Rattle.kd_shared.specs.Spots.{LeavesChild, Notes, Opens, QueuesChild, QueuesWithin}
+use Rattle.kd_shared.specs.Spots.{LeavesChild, Notes, Opens, QueuesChild, QueuesWithin, side_distance}
 use Rattle.plan_words.specs.SearchLists.{noted, numbers_of}
 use Rattle.plan_words.specs.declared.spots.Found.{Found}
 use Rattle.plan_words.specs.declared.spots.Spot.{Spot}
 use Rattle.plan_model.proofs.ListMembers.{Contains-after, Contains-first}
 use Rattle.step_core.proofs.DistinctNumbers.{AreDifferent, AreDifferent-few, AreDifferent-within, Contains-cases, IsDistinct-from_different}
 use Rattle.step_core.proofs.DistinctNumbers.{Contains-none, length-one_more}
-use Rattle.kd_shared.proofs.Searching.{GoesBelow, GoesTo, IsMet, IsSearch, IsSearch-begins, IsSearch-ends, IsSearch-leaves, IsSearch-opens_far}
-use Rattle.kd_shared.proofs.Searching.{IsSearch-opens_near, IsSearch-takes, IsSearch-visits, Nothing}
+use Rattle.kd_shared.proofs.Searching.{GoesBelow, GoesTo, IsMet, IsSearch, IsSearch-begins, IsSearch-ends, IsSearch-leaves_first, IsSearch-leaves_last}
+use Rattle.kd_shared.proofs.Searching.{IsSearch-opens_first, IsSearch-opens_last, IsSearch-takes, IsSearch-visits, Nothing}
+use Rattle.kd_shared.proofs.SideDistances.{beyond_radius}
 use Rattle.kd_shared.proofs.SortedNear.{is_within-close}
-use Rattle.kd_shared.proofs.VisitedOnce.{AreOnce, AreOnce-few, AreOnce-low, AreOnce-leaves, AreOnce-opens_far, AreOnce-opens_near, AreOnce-takes}
+use Rattle.kd_shared.proofs.VisitedOnce.{AreOnce, AreOnce-few, AreOnce-leaves_first, AreOnce-leaves_last, AreOnce-low, AreOnce-opens_first}
+use Rattle.kd_shared.proofs.VisitedOnce.{AreOnce-opens_last, AreOnce-takes}
 use Rattle.kd_shared.proofs.VisitedOnce.{IsDone, IsDoneOrAt, is_not_done, IsVisiting, IsVisiting-begins, IsVisiting-few}
 
 -- ---- the points of what waits, and of what is found
@@ -160,7 +159,7 @@ pub record IsGathering (before now : Sight) (target : Point) (r : ℕ) (queue : 
   pub only : (f : Found) → Contains found f → StandsAt now.seen.points f.node f.point × (squared_distance f.point target ≤ r * r) × (f.edge ≡ 0)
   pub fresh : AreFreshFound before now target (r * r) (numbers_of found) queue
 
--- After the far side of a node: it is noted, and its far child is left out or waits.
+-- After one side of a node: it is noted, and the child on that side is left out or waits.
 pub record IsHalfWay (before now half : Sight) (target : Point) (bound : ℕ) (mid : List Spot) (numbers done : List ℕ) (spot : Spot) (right : Bool)
     : Type 0 where
   pub later : IsLaterMoment now half
@@ -221,17 +220,17 @@ module _ (before now : Sight) (target : Point) (r : ℕ) (queue : List Spot) (fo
     not_found k = is_not_done now rest spot.node done (IsDone done) taken (h.among spot.node k)
 
     -- Those that are visited, with it, and those that wait are no more than there are nodes.
-    pub IsGathering-room_far : (marks : ℕ) → ((n : ℕ) → IsSeen now.seen n → n ≤ marks) → suc visits + length rest ≤ suc marks
-    IsGathering-room_far marks within =
+    pub IsGathering-room_first : (marks : ℕ) → ((n : ℕ) → IsSeen now.seen n → n ≤ marks) → suc visits + length rest ≤ suc marks
+    IsGathering-room_first marks within =
         let few = AreOnce-few now marks within rest (spot.node ∷ done) (IsDone done) taken in
         omega (arith, few, h.visiting.count, length-one_more spot.node done)
 
     -- ---- one visit
 
-    module _ (half : Sight) (mid : List Spot) (more_found : List Found) (right : Bool) (keeps : KeepsSight now)
-        (own : right ≡ goes_right_by spot.by_rows spot.point target)
+    module _ (half : Sight) (mid : List Spot) (more_found : List Found) (right first_within : Bool) (keeps : KeepsSight now)
         (notes : Notes found more_found spot (squared_distance spot.point target) (r * r))
-        (far_side : QueuesWithin now half rest mid spot (not right) (line_square spot target) (r * r)) where
+        (first_is : IsFalse first_within → r < side_distance spot.by_rows spot.point target (not right))
+        (first_side : QueuesWithin now half rest mid spot (not right) first_within) where
       visited : IsSearch before now target (r * r) (λ n q. Contains (numbers_of more_found) n) rest (GoesBelow now spot spot.point)
       visited =
           IsSearch-visits before now target (r * r) (λ n q. Contains (numbers_of found) n) spot rest spot.point (r * r)
@@ -262,19 +261,19 @@ module _ (before now : Sight) (target : Point) (r : ℕ) (queue : List Spot) (fo
             ]
           ]
 
-      half_way-leaves : LeavesChild now half rest mid (line_square spot target) (r * r)
+      half_way-leaves : r * r < side_distance spot.by_rows spot.point target (not right)
+          * side_distance spot.by_rows spot.point target (not right) → LeavesChild now half rest mid
           → IsHalfWay before now half target (r * r) mid (numbers_of more_found) done spot right
-      half_way-leaves leaves =
+      half_way-leaves beyond leaves =
           record {
             later = leaves.later;
             keeps = leaves.keeps;
             search = subst (λ xs. IsSearch before half target (r * r) (λ n q. Contains (numbers_of more_found) n) xs (GoesTo half spot spot.point right))
                 (sym leaves.same)
-                (IsSearch-leaves before now half target (r * r) (λ n q. Contains (numbers_of more_found) n) spot spot.point
-                IsGathering-stands leaves.later keeps right own
-                rest leaves.beyond visited);
+                (IsSearch-leaves_first before now half target (r * r) (λ n q. Contains (numbers_of more_found) n) spot spot.point
+                IsGathering-stands leaves.later keeps right rest beyond visited);
             once = subst (λ xs. AreOnce half xs (spot.node ∷ done) (IsDoneOrAt done spot.node (not right))) (sym leaves.same)
-                (AreOnce-leaves now half leaves.later rest spot done (not right) taken);
+                (AreOnce-leaves_first now half leaves.later rest spot done (not right) taken);
             stand = AreSeenSpots-same now half leaves.later rest mid leaves.same leaves.points stand_rest;
             fresh = AreFreshFound-same now half leaves.later rest mid leaves.same leaves.points before target (r * r) (numbers_of more_found) fresh_noted;
           }
@@ -286,57 +285,89 @@ module _ (before now : Sight) (target : Point) (r : ℕ) (queue : List Spot) (fo
           record {
             later = queues.later;
             keeps = queues.keeps;
-            search = IsSearch-opens_far before now half target (r * r) (λ n q. Contains (numbers_of more_found) n) spot spot.point
+            search = IsSearch-opens_first before now half target (r * r) (λ n q. Contains (numbers_of more_found) n) spot spot.point
                 IsGathering-stands queues.later keeps
-                right own rest mid opens visited;
-            once = AreOnce-opens_far now half queues.later rest spot done queues.keeps mid (not right) taken opens;
+                right rest mid opens visited;
+            once = AreOnce-opens_first now half queues.later rest spot done queues.keeps mid (not right) taken opens;
             stand = QueuesChild-stands now half rest mid spot (not right) queues stand_rest;
             fresh = QueuesChild-fresh now half rest mid spot (not right) queues before target (r * r) (numbers_of more_found) fresh_noted;
           }
 
       half_way : IsHalfWay before now half target (r * r) mid (numbers_of more_found) done spot right
       half_way =
-          elim far_side [
-            | inl leaves ↦ half_way-leaves leaves
+          elim first_side [
+            | inl (out, leaves) ↦ half_way-leaves
+                (beyond_radius (side_distance spot.by_rows spot.point target (not right)) r first_within first_is out) leaves
             | inr queues ↦ half_way-queues queues
           ]
 
-      -- There is room for a child of the near side, too.
-      pub IsGathering-room_near : (marks : ℕ) → ((n : ℕ) → IsSeen half.seen n → n ≤ marks) → suc visits + length mid ≤ suc marks
-      IsGathering-room_near marks within =
+      -- There is room for a child of the other side, too.
+      pub IsGathering-room_last : (marks : ℕ) → ((n : ℕ) → IsSeen half.seen n → n ≤ marks) → suc visits + length mid ≤ suc marks
+      IsGathering-room_last marks within =
           let few = AreOnce-few half marks within mid (spot.node ∷ done) (IsDoneOrAt done spot.node (not right)) half_way.once in
           omega (arith, few, h.visiting.count, length-one_more spot.node done)
 
-      -- The node is noted, and then its children are queued.
-      pub IsGathering-visits : (after : Sight) (put : List Spot) (next : ℕ) → next ≡ suc visits → QueuesChild half after mid put spot right
-          → IsGathering before after target r put more_found next
-      IsGathering-visits after put next more near_side =
-          let opens = QueuesChild-opens half after mid put spot right near_side in
-          let later = IsLaterMoment-trans now half after half_way.later near_side.later in
-          let distance : ℕ = squared_distance spot.point target in
-          record {
-            search = IsSearch-opens_near before half after target (r * r) (λ n q. Contains (numbers_of more_found) n) spot spot.point
-                (half_way.later.seen.places.nodes spot.node spot.point IsGathering-stands) near_side.later half_way.keeps right mid put
-                opens half_way.search;
-            visiting = record {
-              done = spot.node ∷ done;
-              count = ap suc h.visiting.count ∙ sym more;
-              once = AreOnce-opens_near half after near_side.later mid spot done near_side.keeps put right half_way.once opens;
-            };
-            stand = QueuesChild-stands half after mid put spot right near_side half_way.stand;
-            different = Notes-different found more_found spot distance (r * r) notes h.different not_found;
-            among = λ n k. elim (Notes-cases found more_found spot distance (r * r) notes n k) [
-              | inl old ↦ Contains-after spot.node done n (h.among n old)
-              | inr same ↦ (0, omega arith, same)
-            ];
-            only = λ f k. elim (Notes-spots found more_found spot distance (r * r) notes f k) [
-              | inl old ↦ (let own = h.only f old in (later.seen.places.nodes f.node f.point own.0, own.1, own.2))
-              | inr (same, near) ↦ subst
-                  (λ (g : Found). StandsAt after.seen.points g.node g.point × (squared_distance g.point target ≤ r * r) × (g.edge ≡ 0)) same
-                  (later.seen.places.nodes spot.node spot.point IsGathering-stands, near, refl)
-            ];
-            fresh = QueuesChild-fresh half after mid put spot right near_side before target (r * r) (numbers_of more_found) half_way.fresh;
-          }
+      module _ (after : Sight) (put : List Spot) (next : ℕ) (more : next ≡ suc visits) where
+        -- The node is noted, and both sides are done.
+        visited_all : IsLaterMoment half after → IsSearch before after target (r * r) (λ n q. Contains (numbers_of more_found) n) put Nothing
+            → AreOnce after put (spot.node ∷ done) (IsDone (spot.node ∷ done)) → AreSeenSpots after put
+            → AreFreshFound before after target (r * r) (numbers_of more_found) put → IsGathering before after target r put more_found next
+        visited_all last search once stand fresh =
+            let later = IsLaterMoment-trans now half after half_way.later last in
+            let distance : ℕ = squared_distance spot.point target in
+            record {
+              search = search;
+              visiting = record { done = spot.node ∷ done; count = ap suc h.visiting.count ∙ sym more; once = once };
+              stand = stand;
+              different = Notes-different found more_found spot distance (r * r) notes h.different not_found;
+              among = λ n k. elim (Notes-cases found more_found spot distance (r * r) notes n k) [
+                | inl old ↦ Contains-after spot.node done n (h.among n old)
+                | inr same ↦ (0, omega arith, same)
+              ];
+              only = λ f k. elim (Notes-spots found more_found spot distance (r * r) notes f k) [
+                | inl old ↦ (let own = h.only f old in (later.seen.places.nodes f.node f.point own.0, own.1, own.2))
+                | inr (same, near) ↦ subst
+                    (λ (g : Found). StandsAt after.seen.points g.node g.point × (squared_distance g.point target ≤ r * r) × (g.edge ≡ 0)) same
+                    (later.seen.places.nodes spot.node spot.point IsGathering-stands, near, refl)
+              ];
+              fresh = fresh;
+            }
+
+        stands_half : StandsAt half.seen.points spot.node spot.point
+        stands_half = half_way.later.seen.places.nodes spot.node spot.point IsGathering-stands
+
+        visited-queues : QueuesChild half after mid put spot right → IsGathering before after target r put more_found next
+        visited-queues queues =
+            let opens = QueuesChild-opens half after mid put spot right queues in
+            visited_all queues.later
+            (IsSearch-opens_last before half after target (r * r) (λ n q. Contains (numbers_of more_found) n) spot spot.point
+            stands_half queues.later half_way.keeps right mid put opens half_way.search)
+            (AreOnce-opens_last half after queues.later mid spot done queues.keeps put right half_way.once opens)
+            (QueuesChild-stands half after mid put spot right queues half_way.stand)
+            (QueuesChild-fresh half after mid put spot right queues before target (r * r) (numbers_of more_found) half_way.fresh)
+
+        visited-leaves : r * r < side_distance spot.by_rows spot.point target right * side_distance spot.by_rows spot.point target right
+            → LeavesChild half after mid put → IsGathering before after target r put more_found next
+        visited-leaves beyond leaves =
+            visited_all leaves.later
+            (subst (λ xs. IsSearch before after target (r * r) (λ n q. Contains (numbers_of more_found) n) xs Nothing) (sym leaves.same)
+            (IsSearch-leaves_last before half after target (r * r) (λ n q. Contains (numbers_of more_found) n) spot spot.point
+            stands_half leaves.later half_way.keeps right mid beyond half_way.search))
+            (subst (λ xs. AreOnce after xs (spot.node ∷ done) (IsDone (spot.node ∷ done))) (sym leaves.same)
+            (AreOnce-leaves_last half after leaves.later mid spot done right half_way.once))
+            (AreSeenSpots-same half after leaves.later mid put leaves.same leaves.points half_way.stand)
+            (AreFreshFound-same half after leaves.later mid put leaves.same leaves.points before target (r * r) (numbers_of more_found) half_way.fresh)
+
+        -- The child on the other side is queued, or left out.
+        pub IsGathering-visits : (last_within : Bool)
+            → (IsFalse last_within → r < side_distance spot.by_rows spot.point target right)
+            → QueuesWithin half after mid put spot right last_within → IsGathering before after target r put more_found next
+        IsGathering-visits last_within last_is last_side =
+            elim last_side [
+              | inl (out, leaves) ↦ visited-leaves
+                  (beyond_radius (side_distance spot.by_rows spot.point target right) r last_within last_is out) leaves
+              | inr queues ↦ visited-queues queues
+            ]
 
   -- No more are visited and wait than there are nodes.
   pub IsGathering-few : (marks : ℕ) → ((n : ℕ) → IsSeen now.seen n → n ≤ marks) → length queue + visits ≤ suc marks

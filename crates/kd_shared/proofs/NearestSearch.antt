@@ -1,5 +1,5 @@
 -- The walk to the nearest node: the nearest so far, and the points that are left.
-use Rattle.std.proofs.Common.{◌≡◌, ◌⊎◌, ℕ, suc, ◌*◌, ◌<◌, ◌≤◌, Bool, false, not, Option, Some, None, List, [], ◌∷◌}
+use Rattle.std.proofs.Common.{◌≡◌, ◌⊎◌, ℕ, suc, ◌≤◌, false, Some, None, List, [], ◌∷◌}
 use Rattle.std.proofs.Common.{◌++◌, arith, refl, sym, ap, ◌∙◌, subst, inl, inr}
 use Rattle.std.specs.Prelude.{Contains}
 use Rattle.std.proofs.lemmas.Bool.{cases_eq, cases_lt}
@@ -16,18 +16,17 @@ use Rattle.plan_model.proofs.NewNodes.{IsPresent-stands, point_of-stands, Stands
 use Rattle.plan_model.proofs.SamePoints.{same_or_other}
 use Rattle.plan_model.proofs.SightLaws.{IsFree-ends, IsLaterMoment-trans}
 use Rattle.plan_words.specs.declared.spots.Spot.{Spot}
-use Rattle.step_core.specs.KdSides.{goes_right_by, split_distance}
+use Rattle.step_core.specs.KdSides.{goes_right_by}
 use Rattle.step_core.specs.MeasuredNodes.{IsNearerOf}
 use Rattle.step_core.specs.declared.measured_nodes.MeasuredNode.{MeasuredNode}
 use Rattle.step_core.proofs.DistinctNumbers.{Contains-cases, Contains-none}
 use Rattle.step_core.proofs.SplitSides.{split_distance-le, two_sides}
-use Rattle.kd_shared.specs.FarSides.{far_side, IsChildSpot, IsFinished, line_square, LoadsSpot, near_side, PopsFar, StacksFar, WalksOn}
-use Rattle.kd_shared.specs.Loads.{FindsEmpty, KeepsPoints, LoadsPoint}
+use Rattle.kd_shared.specs.FarSides.{far_side, IsChildSpot, IsFinished, LoadsSpot, near_side, PopsFar, StacksFar, WalksOn}
+use Rattle.kd_shared.specs.Loads.{LoadsPoint}
 use Rattle.kd_shared.specs.Searches.{IsNearestSeen}
 use Rattle.kd_shared.specs.Spots.{Puts}
-use Rattle.kd_shared.proofs.PoppedNodes.{IsFinished-begun}
 use Rattle.kd_shared.proofs.Searching.{ends_here, GoesBelow, GoesBelow-later, GoesTo, IsMet, IsSearch, IsSearch-begins, IsSearch-ends, IsSearch-shifts}
-use Rattle.kd_shared.proofs.Searching.{Nothing, Waits, WaitsAt, waits_at_child, WaitsAt-later}
+use Rattle.kd_shared.proofs.Searching.{Nothing, Waits, WaitsAt, waits_at_child}
 use Rattle.kd_shared.proofs.WalkedOnce.{IsWalking, IsWalking-begins, IsWalking-far, IsWalking-near}
 
 -- ---- the nearest so far

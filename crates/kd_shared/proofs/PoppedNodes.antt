@@ -1,5 +1,5 @@
 -- Nodes are popped off the stack of a walk until one has a child on its far side.
-use Rattle.std.proofs.Common.{◌≡◌, ℕ, ◌≤◌, List, [], ◌∷◌, ◌++◌, Option, Some, None, inl, inr, arith, refl, sym, ap, ◌∙◌, subst}
+use Rattle.std.proofs.Common.{◌≡◌, ℕ, ◌≤◌, List, [], ◌∷◌, ◌++◌, Some, None, inl, inr, arith, refl, sym, ap, ◌∙◌, subst}
 use Rattle.std.specs.Prelude.{Contains}
 use Rattle.std.proofs.lemmas.List.{append_assoc, append-nil}
 use Rattle.std.proofs.lemmas.List.Elements.{Contains-append_left, Contains-push}
@@ -9,7 +9,7 @@ use Rattle.plan_model.proofs.SightLaws.{IsLaterMoment-refl, IsLaterMoment-trans}
 use Rattle.plan_words.specs.declared.spots.Spot.{Spot}
 use Rattle.step_core.proofs.DistinctNumbers.{Contains-cases, Contains-none}
 use Rattle.kd_shared.specs.FarSides.{far_side, IsFinished, LoadsFar, PopsFar}
-use Rattle.kd_shared.specs.Loads.{FindsEmpty, KeepsPoints}
+use Rattle.kd_shared.specs.Loads.{KeepsPoints}
 
 -- The far sides of those that were popped so far are finished, and no point was seen anew.
 pub record IsPopping (before now : Sight) (target : Point) (bound : ℕ) (stack rest : List Spot) : Type 0 where

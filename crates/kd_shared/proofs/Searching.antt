@@ -1,5 +1,5 @@
 -- A search of a kd-tree: which points are met, which wait at a node that is still to be visited, and what each stage does to that.
-use Rattle.std.proofs.Common.{◌≡◌, ◌⊎◌, ℕ, suc, ◌*◌, ◌<◌, ◌≤◌, Bool, false, not, List, [], ◌∷◌, ◌++◌, Some, arith, refl, sym, ap, ◌∙◌, subst, inl, inr}
+use Rattle.std.proofs.Common.{◌≡◌, ◌⊎◌, ℕ, suc, ◌*◌, ◌<◌, ◌≤◌, Bool, false, not, List, [], ◌∷◌, Some, arith, refl, sym, ap, ◌∙◌, subst, inl, inr}
 use Rattle.std.specs.Prelude.{◌≢◌, Contains}
 use Rattle.std.proofs.lemmas.List.Elements.{Contains-append_left, Contains-push, Contains-push_cases}
 use Rattle.plan_model.specs.declared.geometry.Point.{Point}
@@ -12,13 +12,14 @@ use Rattle.plan_model.specs.Seen.Ways.IsOnWay.{begins, goes_on}
 use Rattle.plan_model.proofs.SamePoints.{same_or_other}
 use Rattle.plan_model.proofs.SeenTreeLaws.{IsSeen-more}
 use Rattle.plan_model.proofs.SightLaws.{EndsSince-later, IsLaterMoment-trans}
-use Rattle.step_core.specs.KdSides.{goes_right_by, is_by_rows, split_distance}
+use Rattle.step_core.specs.KdSides.{goes_right_by, is_by_rows}
 use Rattle.kd_shared.specs.Loads.{FindsEmpty}
-use Rattle.kd_shared.specs.Spots.{Opens, Puts}
+use Rattle.kd_shared.specs.Spots.{Opens, Puts, side_distance}
+use Rattle.kd_shared.proofs.SideDistances.{side_distance-le}
 use Rattle.plan_words.specs.declared.spots.Spot.{Spot}
 use Rattle.plan_model.proofs.ListMembers.{Contains-after}
 use Rattle.step_core.proofs.DistinctNumbers.{Contains-cases, Contains-none}
-use Rattle.step_core.proofs.SplitSides.{goes_right-by, is_by_rows-next, split_distance-le, two_sides}
+use Rattle.step_core.proofs.SplitSides.{goes_right-by, is_by_rows-next, two_sides}
 use Rattle.step_core.proofs.SeenWays.{IsOnWay-later}
 
 -- ---- where a point is
@@ -260,36 +261,40 @@ module _
         ];
       }
 
-  module _ (right : Bool) (own : right ≡ goes_right_by spot.by_rows p target) where
-    -- points of the far side are at least as far as the line between the sides
-    beyond : (q : Point) → goes_right_by spot.by_rows p q ≡ not right
-        → split_distance spot.by_rows p target * split_distance spot.by_rows p target ≤ squared_distance q target
-    beyond q goes = split_distance-le spot.by_rows p q target (goes ∙ ap not own)
-
-    -- First the child of the far side is loaded,
-    pub IsSearch-opens_far : (spots put : List Spot) → Opens now after spots put spot (not right)
+  module _ (right : Bool) where
+    -- First the child of one side is loaded,
+    pub IsSearch-opens_first : (spots put : List Spot) → Opens now after spots put spot (not right)
         → IsSearch before now target bound Taken spots (GoesBelow now spot p)
         → IsSearch before after target bound Taken put (GoesTo after spot p right)
-    IsSearch-opens_far spots put opens =
+    IsSearch-opens_first spots put opens =
         IsSearch-opens spots put (not right) (GoesBelow now spot p) (GoesTo after spot p right) opens
         (λ q close below. elim (two_sides (goes_right_by spot.by_rows p q) right) [
           | inl goes ↦ inl (GoesBelow-later now after later spot p q below, goes)
           | inr goes ↦ inr (below, goes)
         ])
 
-    -- or left out as it is beyond the bound;
-    pub IsSearch-leaves : (spots : List Spot) → bound < split_distance spot.by_rows p target * split_distance spot.by_rows p target
+    -- or left out as that side is beyond the bound;
+    pub IsSearch-leaves_first : (spots : List Spot)
+        → bound < side_distance spot.by_rows p target (not right) * side_distance spot.by_rows p target (not right)
         → IsSearch before now target bound Taken spots (GoesBelow now spot p)
         → IsSearch before after target bound Taken spots (GoesTo after spot p right)
-    IsSearch-leaves spots too_far =
+    IsSearch-leaves_first spots too_far =
         IsSearch-later now after later before target keeps bound Taken spots (GoesBelow now spot p) (GoesTo after spot p right)
         (λ q close below. elim (two_sides (goes_right_by spot.by_rows p q) right) [
           | inl goes ↦ (GoesBelow-later now after later spot p q below, goes)
-          | inr goes ↦ absurd (omega (arith, beyond q goes, close, too_far))
+          | inr goes ↦ absurd (omega (arith, side_distance-le spot.by_rows p q target (not right) goes, close, too_far))
         ])
 
-  -- then that of the near side.
-  pub IsSearch-opens_near : (right : Bool) (spots put : List Spot) → Opens now after spots put spot right
-      → IsSearch before now target bound Taken spots (GoesTo now spot p right) → IsSearch before after target bound Taken put Nothing
-  IsSearch-opens_near right spots put opens =
-      IsSearch-opens spots put right (GoesTo now spot p right) Nothing opens (λ q close goes. inr goes)
+    -- then that of the other side,
+    pub IsSearch-opens_last : (spots put : List Spot) → Opens now after spots put spot right
+        → IsSearch before now target bound Taken spots (GoesTo now spot p right) → IsSearch before after target bound Taken put Nothing
+    IsSearch-opens_last spots put opens =
+        IsSearch-opens spots put right (GoesTo now spot p right) Nothing opens (λ q close goes. inr goes)
+
+    -- or it is left out.
+    pub IsSearch-leaves_last : (spots : List Spot)
+        → bound < side_distance spot.by_rows p target right * side_distance spot.by_rows p target right
+        → IsSearch before now target bound Taken spots (GoesTo now spot p right) → IsSearch before after target bound Taken spots Nothing
+    IsSearch-leaves_last spots too_far =
+        IsSearch-later now after later before target keeps bound Taken spots (GoesTo now spot p right) Nothing
+        (λ q close goes. absurd (omega (arith, side_distance-le spot.by_rows p q target right goes.1, close, too_far)))

@@ -11,7 +11,7 @@ use Rattle.plan_words.specs.declared.spots.Spot.{Spot}
 use Rattle.plan_model.proofs.ListMembers.{Contains-first}
 use Rattle.step_core.proofs.DistinctNumbers.{AreDifferent, AreDifferent-after, AreDifferent-few, AreDifferent-within, Contains-cases}
 use Rattle.plan_model.proofs.ListMembers.{Contains-after}
-use Rattle.step_core.proofs.DistinctNumbers.{Contains-none, Contains-within, length-one_more}
+use Rattle.step_core.proofs.DistinctNumbers.{Contains-none, Contains-within}
 
 -- ---- the nodes that wait
 
@@ -119,16 +119,16 @@ is_not_done now spots node done Used h = AreDifferent-after node (nodes_of spots
 
 module _ (now after : Sight) (later : IsLaterMoment now after) (spots : List Spot) (spot : Spot) (done : List ℕ) where
   -- First the child on the one side is loaded,
-  pub AreOnce-opens_far : KeepsSight after → (put : List Spot) (side : Bool) → AreOnce now spots (spot.node ∷ done) (IsDone done)
+  pub AreOnce-opens_first : KeepsSight after → (put : List Spot) (side : Bool) → AreOnce now spots (spot.node ∷ done) (IsDone done)
       → Opens now after spots put spot side → AreOnce after put (spot.node ∷ done) (IsDoneOrAt done spot.node side)
-  AreOnce-opens_far keeps put side h opens =
+  AreOnce-opens_first keeps put side h opens =
       AreOnce-opens now after later (spot.node ∷ done) (IsDone done) (IsDoneOrAt done spot.node side) (λ a b used. inl used) spots h keeps
       spot.node side (is_not_done now spots spot.node done (IsDone done) h) spot put refl (inr (refl, refl)) opens
 
   -- or left out,
-  pub AreOnce-leaves : (side : Bool) → AreOnce now spots (spot.node ∷ done) (IsDone done)
+  pub AreOnce-leaves_first : (side : Bool) → AreOnce now spots (spot.node ∷ done) (IsDone done)
       → AreOnce after spots (spot.node ∷ done) (IsDoneOrAt done spot.node side)
-  AreOnce-leaves side h = AreOnce-later now after later (spot.node ∷ done) (IsDone done) (IsDoneOrAt done spot.node side) (λ a b used. inl used) spots h
+  AreOnce-leaves_first side h = AreOnce-later now after later (spot.node ∷ done) (IsDone done) (IsDoneOrAt done spot.node side) (λ a b used. inl used) spots h
 
   -- the place on the other side is not used yet
   pub is_other_side : (right : Bool) → AreOnce now spots (spot.node ∷ done) (IsDoneOrAt done spot.node (not right))
@@ -137,17 +137,24 @@ module _ (now after : Sight) (later : IsLaterMoment now after) (spots : List Spo
   is_other_side true h (inr (same, side)) = cc
   is_other_side false h (inr (same, side)) = cc
 
-  -- then the child on the other side. The node is done.
-  pub AreOnce-opens_near : KeepsSight after → (put : List Spot) (right : Bool)
+  -- and then the node is done
+  is_done_now : (right : Bool) (a : ℕ) (side : Bool) → IsDoneOrAt done spot.node (not right) a side → IsDone (spot.node ∷ done) a side
+  is_done_now right a side (inl old) = Contains-after spot.node done a old
+  is_done_now right a side (inr (same, used)) = (0, omega arith, sym same)
+
+  -- once the child on the other side is loaded,
+  pub AreOnce-opens_last : KeepsSight after → (put : List Spot) (right : Bool)
       → AreOnce now spots (spot.node ∷ done) (IsDoneOrAt done spot.node (not right)) → Opens now after spots put spot right
       → AreOnce after put (spot.node ∷ done) (IsDone (spot.node ∷ done))
-  AreOnce-opens_near keeps put right h opens =
+  AreOnce-opens_last keeps put right h opens =
       AreOnce-opens now after later (spot.node ∷ done) (IsDoneOrAt done spot.node (not right)) (IsDone (spot.node ∷ done))
-      (λ a b used. elim used [
-        | inl old ↦ Contains-after spot.node done a old
-        | inr (same, side) ↦ (0, omega arith, sym same)
-      ])
-      spots h keeps spot.node right (is_other_side right h) spot put refl (Contains-first spot.node done) opens
+      (is_done_now right) spots h keeps spot.node right (is_other_side right h) spot put refl (Contains-first spot.node done) opens
+
+  -- or left out, too.
+  pub AreOnce-leaves_last : (right : Bool) → AreOnce now spots (spot.node ∷ done) (IsDoneOrAt done spot.node (not right))
+      → AreOnce after spots (spot.node ∷ done) (IsDone (spot.node ∷ done))
+  AreOnce-leaves_last right h =
+      AreOnce-later now after later (spot.node ∷ done) (IsDoneOrAt done spot.node (not right)) (IsDone (spot.node ∷ done)) (is_done_now right) spots h
 
 -- ---- so many visits
 

@@ -1,5 +1,6 @@
 -- What the steps of a search do to the nodes that wait to be visited, and to what it has found.
-use Rattle.std.specs.Prelude.{◌≡◌, ◌⊎◌, ℕ, ◌*◌, ◌<◌, ◌≤◌, Bool, not, Some, List, [], ◌∷◌, ◌++◌}
+use Rattle.std.specs.Prelude.{◌≡◌, ◌⊎◌, ℕ, ◌-◌, ◌<◌, ◌≤◌, Bool, false, not, if◌then◌else◌, Some, List, [], ◌∷◌, ◌++◌}
+use Rattle.plan_model.specs.declared.geometry.Point.{Point}
 use Rattle.plan_model.specs.Trees.PointsByNumber.{StandsAt}
 use Rattle.plan_model.specs.Seen.Sights.{IsLaterMoment, KeepsSight, Sight}
 use Rattle.kd_shared.specs.Loads.{FindsEmpty, KeepsOtherPoints, KeepsPoints}
@@ -31,22 +32,25 @@ pub record QueuesChild (before after : Sight) (queue put : List Spot) (spot : Sp
   pub keeps : KeepsSight after
   pub queues : (FindsEmpty before after spot.node side × (put ≡ queue) × KeepsPoints before after) ⊎ PutsWithPoint before after queue put spot side
 
--- The child on a side is left out, as its split distance has a square above the bound.
-pub record LeavesChild (before after : Sight) (queue put : List Spot) (square bound : ℕ) : Type 0 where
+-- how far a row or a column is from those on one side of a line
+abbrev pub past_line : ℕ → ℕ → Bool → ℕ
+past_line line at right = if right then line - at else at - line
+
+-- how far q is from one side of a node at p, whose children are split by row or by column: 0 if q is on that side
+abbrev pub side_distance : Bool → Point → Point → Bool → ℕ
+side_distance by_rows p q right = if by_rows then past_line p.y q.y right else past_line p.x q.x right
+
+-- The child on a side is left out.
+pub record LeavesChild (before after : Sight) (queue put : List Spot) : Type 0 where
   pub later : IsLaterMoment before after
   pub keeps : KeepsSight after
-  pub beyond : bound < square
   pub same : put ≡ queue
   pub points : KeepsPoints before after
 
--- a child whose side is at this distance, or 0 if that is beyond the radius
-abbrev pub IsWithin : ℕ → ℕ → ℕ → ℕ → Type 0
-IsWithin gap r child chosen = ((r < gap) × (chosen ≡ 0)) ⊎ ((gap ≤ r) × (chosen ≡ child))
-
--- It is queued, or left out.
-abbrev pub QueuesWithin : Sight → Sight → List Spot → List Spot → Spot → Bool → ℕ → ℕ → Type 0
-QueuesWithin before after queue put spot side square bound =
-    LeavesChild before after queue put square bound ⊎ QueuesChild before after queue put spot side
+-- It is queued, or left out if its side is not within reach.
+abbrev pub QueuesWithin : Sight → Sight → List Spot → List Spot → Spot → Bool → Bool → Type 0
+QueuesWithin before after queue put spot side within =
+    ((within ≡ false) × LeavesChild before after queue put) ⊎ QueuesChild before after queue put spot side
 
 -- ---- what is found
 

@@ -1,9 +1,9 @@
 //! The search for the nodes within a radius.
 
-ghost use Rattle.std.specs.Prelude.{◌≡◌, ◌*◌, ◌+◌, ◌<◌, ◌≤◌, length};
+ghost use Rattle.std.specs.Prelude.{◌≡◌, ◌+◌, ◌<◌, ◌≤◌, IsFalse, false, if◌then◌else◌, length, true};
 ghost use Rattle.kd_shared.specs.Looking.{KeepsLists, OnlyLooks, searched};
 ghost use Rattle.kd_shared.specs.Searches.{AreGathered, AreNearSeen};
-ghost use Rattle.kd_shared.specs.Spots.{IsWithin, Notes, QueuesWithin};
+ghost use Rattle.kd_shared.specs.Spots.{Notes, QueuesWithin, side_distance};
 ghost use Rattle.plan_model.specs.Geometry.Bounds.{IsBounded};
 ghost use Rattle.plan_words.specs.States.{BelongsTo};
 ghost use Rattle.step_core.specs.ViewTrees.{SeesNode, sight_in};
@@ -11,7 +11,6 @@ ghost use Rattle.step_core.specs.ViewTrees.{SeesNode, sight_in};
 use crate::squares::square;
 use plan_model::Point;
 use plan_words::{Pass, Shared, Spot};
-use step_core::{distance_to_split, goes_right};
 
 /// Fills the near list of the pass with exactly the nodes that it has seen by then with their points and that stand within a radius
 /// of a point, in rising number; with a radius of 0 with the node at the point, if one is seen. Each point within the radius is
@@ -45,9 +44,9 @@ pub fn around(shared: &Shared, pass: &mut Pass, p: Point, r: u32)
 
 /// Finds the nodes within a radius of a point: the pass has them in the order in which they were found, until its next search.
 ///
-/// It goes breadth first, so that the loads of one depth need not wait for one another, and leaves out a side of a node only if its
-/// line is farther than the radius. No jump depends on what was loaded, as many of them would be guessed wrongly. O(log n + k) on
-/// average for k found of n random nodes, O(n) at worst.
+/// It goes breadth first, so that the loads of one depth need not wait for one another, and leaves out a side of a node only if that is
+/// farther than the radius. No jump depends on what was loaded, as many of them would be guessed wrongly. O(log n + k) on average for
+/// k found of n random nodes, O(n) at worst.
 pub fn gather(shared: &Shared, pass: &mut Pass, p: Point, r: u32)
     requires belongs { BelongsTo pass.old shared.now }
     requires bounded { IsBounded p }
@@ -70,10 +69,9 @@ pub fn gather(shared: &Shared, pass: &mut Pass, p: Point, r: u32)
     );
     'visits: while let Some(spot) = pass.take_spot() {
         note(pass, spot, spot.point.squared_distance(p), most);
-        let right = goes_right(spot.by_rows, spot.point, p);
-        let gap = distance_to_split(spot.by_rows, spot.point, p);
-        queue_child(shared, pass, spot, !right, gap, r);
-        queue_child(shared, pass, spot, right, 0, r);
+        let (left, right) = sides_within(spot.by_rows, spot.point, p, r);
+        queue_child(shared, pass, spot, false, left);
+        queue_child(shared, pass, spot, true, right);
     }
 }
 
@@ -87,10 +85,25 @@ fn note(pass: &mut Pass, spot: Spot, distance: u64, most: u64)
     pass.note_if(spot, distance <= most);
 }
 
-/// Queues the child on one side with its point, if there is one, and the line of that side is no farther than the radius. A child that
-/// is left out is replaced by node 0 before its point is loaded.
+/// Whether the left and the right of a node may hold points within the radius: a side is left out only if it is farther.
 #[inline]
-fn queue_child(shared: &Shared, pass: &mut Pass, spot: Spot, right: bool, gap: u32, r: u32)
+fn sides_within(by_rows: bool, here: Point, p: Point, r: u32) -> (bool, bool)
+    ensures left { IsFalse result.0 → r < side_distance by_rows here p false }
+    ensures right { IsFalse result.1 → r < side_distance by_rows here p true }
+{
+    let short = if by_rows {
+        i64::from(here.y) - i64::from(p.y)
+    } else {
+        i64::from(here.x) - i64::from(p.x)
+    };
+    let reach = i64::from(r);
+    (-reach <= short, short <= reach)
+}
+
+/// Queues the child on one side with its point, if there is one, and the side is within the radius. A child that is left out is
+/// replaced by node 0 before its point is loaded.
+#[inline]
+fn queue_child(shared: &Shared, pass: &mut Pass, spot: Spot, right: bool, within: bool)
     requires belongs { BelongsTo pass.old shared.now }
     requires seen { SeesNode pass.old.view spot.node }
     requires room { pass.old.lists.search.taken + length pass.old.lists.search.spots ≤ length pass.old.view.run.marks + 1 }
@@ -98,9 +111,9 @@ fn queue_child(shared: &Shared, pass: &mut Pass, spot: Spot, right: bool, gap: u
     ensures looks { OnlyLooks pass.old.view pass.new.view }
     ensures others { pass.new ≡ searched pass.old pass.new.view (record pass.old.lists.search { spots = pass.new.lists.search.spots }) }
     ensures queues { QueuesWithin (sight_in pass.old.view) (sight_in pass.new.view) pass.old.lists.search.spots pass.new.lists.search.spots spot right
-        (gap * gap) (r * r) }
+        within }
 {
-    let child = child_within(shared.child_or_start(pass, spot.node, right), gap, r);
+    let child = child_within(shared.child_or_start(pass, spot.node, right), within);
     let point = shared.point(pass, child);
     let by_rows = !spot.by_rows;
     pass.put_spot_if(
@@ -113,10 +126,10 @@ fn queue_child(shared: &Shared, pass: &mut Pass, spot: Spot, right: bool, gap: u
     );
 }
 
-/// The child, or node 0 if its side is farther than the radius.
+/// The child, or node 0 if its side is not within the radius.
 #[inline]
-fn child_within(child: u32, gap: u32, r: u32) -> u32
-    ensures { IsWithin gap r child result }
+fn child_within(child: u32, within: bool) -> u32
+    ensures { result ≡ (if within then child else 0) }
 {
-    if gap <= r { child } else { 0 }
+    if within { child } else { 0 }
 }

@@ -65,7 +65,7 @@ impl SearchStore {
     {
         self.cells.push_reserved(Cell::of(spot));
         if !wanted {
-            let _last = self.cells.pop();
+            let _last = self.cells.take_last();
         }
     }
 

@@ -1,28 +1,24 @@
-use Rattle.std.proofs.Common.{◌≡◌, suc, ◌+◌, ◌*◌, not, List, [], ◌∷◌, ◌++◌, length, false, arith, refl, sym, ap, ◌∙◌, subst}
-use Rattle.std.specs.Prelude.{if◌then◌else◌, option_to_list}
-use Rattle.plan_words.specs.SearchLists.{no_search}
+use Rattle.std.proofs.Common.{◌≡◌, suc, ◌+◌, ◌*◌, List, [], ◌∷◌, ◌++◌, length, false, true, arith, refl, sym, ap, ◌∙◌, subst}
+use Rattle.std.specs.Prelude.{option_to_list}
 use Rattle.plan_words.specs.States.{PassState, with_lists}
 use Rattle.plan_words.specs.declared.spots.Spot.{Spot}
 use Rattle.plan_model.specs.Geometry.Plane.{squared_distance}
-use Rattle.step_core.specs.KdSides.{split_distance}
-use Rattle.step_core.specs.ViewTrees.{sight_in}
 use Rattle.step_core.specs.WordNames.Word.{PointOf}
 use Rattle.kd_shared.specs.Looking.{searched}
-use Rattle.kd_shared.specs.Spots.{Notes, QueuesWithin}
-use Rattle.kd_shared.proofs.LoadedChildren.{QueuesWithin-near}
+use Rattle.kd_shared.specs.Spots.{Notes}
 use Rattle.kd_shared.proofs.Looking.{LoadsPoint-point}
-use Rattle.kd_shared.proofs.NearPasses.{ended_few, ended_gathered, fewer_left, half_room, half_seen, IsGatheringPass, IsGatheringPass-begins}
+use Rattle.kd_shared.proofs.NearPasses.{ended_few, ended_gathered, fewer_left, half_room, half_seen, IsGatheringPass-begins}
 use Rattle.kd_shared.proofs.NearPasses.{IsGatheringPass-visits, noted_room, noted_seen, spot_bounded, taken_more}
 use Rattle.kd_shared.proofs.PassLooks.{PassLooks-load}
 use Rattle.kd_shared.proofs.near_search.gather.Goals as goal
-use Rattle.kd_shared.proofs.near_search.gather.Goals.{After-note, After-queue_child, After-take_spot}
+use Rattle.kd_shared.proofs.near_search.gather.Goals.{After-note, After-take_spot}
 
 pub visits-init : goal.visits-init
 visits-init c =
     let spot : Spot = record { node = 0; by_rows = false; point = c.point-start.result } in
     let first = PassLooks-load c.args.shared.now c.args.pass.now c.point-start.new.pass (PointOf 0) _ _ c.requires.belongs tt
     c.point-start.ensures.view c.point-start.ensures.goes_on c.point-start.ensures.seen c.point-start.ensures.whole in
-    let load = LoadsPoint-point c.args.pass.now.view c.point-start.new.pass.view 0 c.point-start.ensures.goes_on c.point-start.result
+    let load = LoadsPoint-point c.args.pass.now.view c.point-start.new.pass.view 0 c.point-start.ensures.goes_on spot.point
     c.point-start.ensures.found c.point-start.ensures.seen.others in
     let cleared = c.clear_search.ensures.others ∙ ap (with_lists c.point-start.new.pass) c.clear_search.ensures.search in
     let alone = c.put_spot_if.ensures.others
@@ -86,23 +82,13 @@ notes c =
 taken_one : (c : After-note) → c.take_spot.new.self.lists.search.taken ≡ suc c.visits.pass.lists.search.taken
 taken_one c = omega (arith, c.in-Some.ensures.count)
 
--- its far side is queued, or left out
-
-far_side : (c : After-queue_child) → QueuesWithin (sight_in c.note.new.pass.view) (sight_in c.queue_child.new.pass.view)
-    c.note.new.pass.lists.search.spots c.queue_child.new.pass.lists.search.spots c.in-Some.spot (not c.goes_right-right.result)
-    (split_distance c.in-Some.spot.by_rows c.in-Some.spot.point c.args.p * split_distance c.in-Some.spot.by_rows c.in-Some.spot.point c.args.p)
-    (c.args.r * c.args.r)
-far_side c =
-    subst
-    (λ g. QueuesWithin (sight_in c.note.new.pass.view) (sight_in c.queue_child.new.pass.view) c.note.new.pass.lists.search.spots
-    c.queue_child.new.pass.lists.search.spots c.in-Some.spot (not c.goes_right-right.result) (g * g) (c.args.r * c.args.r))
-    c.distance_to_split-gap.ensures c.queue_child.ensures.queues
-
 near_notes : (c : After-note) → Notes c.visits.pass.lists.search.found c.note.new.pass.lists.search.found c.in-Some.spot
     (squared_distance c.in-Some.spot.point c.args.p) (c.args.r * c.args.r)
 near_notes c =
     subst (λ d. Notes c.visits.pass.lists.search.found c.note.new.pass.lists.search.found c.in-Some.spot d (c.args.r * c.args.r))
     c.squared_distance.ensures.value (notes c)
+
+-- its left child is queued, or left out
 
 pub queue_child-requires-clause-seen : goal.queue_child-requires-clause-seen
 queue_child-requires-clause-seen c =
@@ -118,51 +104,45 @@ queue_child-requires-clause-room c =
     c.take_spot.new.self.lists.search.spots c.in-Some.ensures.taken c.note.new.pass c.take_spot.new.self.lists.search.taken
     c.note.new.pass.lists.search.found (taken_one noted) (noted_is noted) (near_notes noted)
 
--- and then its near side
+-- and then its right one
 
 pub queue_child-requires-in-Some-clause-seen : goal.queue_child-requires-in-Some-clause-seen
 queue_child-requires-in-Some-clause-seen c =
     let noted = (goal.at.queue_child-requires-in-Some-clause-seen c).After-note in
-    let half = (goal.at.queue_child-requires-in-Some-clause-seen c).After-queue_child in
     half_seen c.args.shared.now c.args.pass.now c.visits.pass c.args.p c.args.r c.visits.invariant.gathers c.in-Some.spot
     c.take_spot.new.self.lists.search.spots c.in-Some.ensures.taken c.note.new.pass c.take_spot.new.self.lists.search.taken
-    c.note.new.pass.lists.search.found (taken_one noted) (noted_is noted) (near_notes noted) c.queue_child.new.pass c.goes_right-right.result
-    c.goes_right-right.ensures c.queue_child.ensures.looks c.queue_child.ensures.others (far_side half)
+    c.note.new.pass.lists.search.found (taken_one noted) (noted_is noted) (near_notes noted) c.queue_child.new.pass true
+    c.sides_within-left.result.0 c.queue_child.ensures.looks c.queue_child.ensures.others c.sides_within-left.ensures.left c.queue_child.ensures.queues
 
 pub queue_child-requires-in-Some-clause-room : goal.queue_child-requires-in-Some-clause-room
 queue_child-requires-in-Some-clause-room c =
     let noted = (goal.at.queue_child-requires-in-Some-clause-room c).After-note in
-    let half = (goal.at.queue_child-requires-in-Some-clause-room c).After-queue_child in
     half_room c.args.shared.now c.args.pass.now c.visits.pass c.args.p c.args.r c.visits.invariant.gathers c.in-Some.spot
     c.take_spot.new.self.lists.search.spots c.in-Some.ensures.taken c.note.new.pass c.take_spot.new.self.lists.search.taken
-    c.note.new.pass.lists.search.found (taken_one noted) (noted_is noted) (near_notes noted) c.queue_child.new.pass c.goes_right-right.result
-    c.goes_right-right.ensures c.queue_child.ensures.looks c.queue_child.ensures.others (far_side half)
+    c.note.new.pass.lists.search.found (taken_one noted) (noted_is noted) (near_notes noted) c.queue_child.new.pass true
+    c.sides_within-left.result.0 c.queue_child.ensures.looks c.queue_child.ensures.others c.sides_within-left.ensures.left c.queue_child.ensures.queues
 
 pub visits-preserved : goal.visits-preserved
 visits-preserved c =
     let noted = (goal.at.visits-preserved c).After-note in
-    let half = (goal.at.visits-preserved c).After-queue_child in
     record {
       most_is = c.visits.invariant.most_is;
       gathers = IsGatheringPass-visits c.args.shared.now c.args.pass.now c.visits.pass c.args.p c.args.r c.visits.invariant.gathers c.in-Some.spot
           c.take_spot.new.self.lists.search.spots c.in-Some.ensures.taken c.note.new.pass c.take_spot.new.self.lists.search.taken
-          c.note.new.pass.lists.search.found (taken_one noted) (noted_is noted) (near_notes noted) c.queue_child.new.pass c.goes_right-right.result
-          c.goes_right-right.ensures c.queue_child.ensures.looks c.queue_child.ensures.others (far_side half) c.queue_child-in-Some.new.pass
-          c.queue_child-in-Some.ensures.belongs c.queue_child-in-Some.ensures.looks c.queue_child-in-Some.ensures.others
-          (QueuesWithin-near (sight_in c.queue_child.new.pass.view) (sight_in c.queue_child-in-Some.new.pass.view)
-          c.queue_child.new.pass.lists.search.spots c.queue_child-in-Some.new.pass.lists.search.spots c.in-Some.spot c.goes_right-right.result c.args.r
-          c.queue_child-in-Some.ensures.queues);
+          c.note.new.pass.lists.search.found (taken_one noted) (noted_is noted) (near_notes noted) c.queue_child.new.pass true
+          c.sides_within-left.result.0 c.queue_child.ensures.looks c.queue_child.ensures.others c.sides_within-left.ensures.left c.queue_child.ensures.queues
+          c.queue_child-in-Some.new.pass c.sides_within-left.result.1 c.queue_child-in-Some.ensures.belongs c.queue_child-in-Some.ensures.looks
+          c.queue_child-in-Some.ensures.others c.sides_within-left.ensures.right c.queue_child-in-Some.ensures.queues;
     }
 
 pub visits-smaller : goal.visits-smaller
 visits-smaller c =
     let noted = (goal.at.visits-smaller c).After-note in
-    let half = (goal.at.visits-smaller c).After-queue_child in
     let left = fewer_left c.args.shared.now c.args.pass.now c.visits.pass c.args.p c.args.r c.visits.invariant.gathers c.in-Some.spot
     c.take_spot.new.self.lists.search.spots c.in-Some.ensures.taken in
     let visited = taken_more c.args.shared.now c.args.pass.now c.visits.pass c.args.p c.args.r c.visits.invariant.gathers c.in-Some.spot
     c.take_spot.new.self.lists.search.spots c.in-Some.ensures.taken c.note.new.pass c.take_spot.new.self.lists.search.taken
-    c.note.new.pass.lists.search.found (taken_one noted) (noted_is noted) (near_notes noted) c.queue_child.new.pass c.goes_right-right.result
-    c.goes_right-right.ensures c.queue_child.ensures.looks c.queue_child.ensures.others (far_side half) c.queue_child-in-Some.new.pass
-    c.queue_child-in-Some.ensures.others in
+    c.note.new.pass.lists.search.found (taken_one noted) (noted_is noted) (near_notes noted) c.queue_child.new.pass true
+    c.sides_within-left.result.0 c.queue_child.ensures.looks c.queue_child.ensures.others c.sides_within-left.ensures.left c.queue_child.ensures.queues
+    c.queue_child-in-Some.new.pass c.queue_child-in-Some.ensures.others in
     omega (arith, left, visited)

@@ -1,4 +1,4 @@
-use Rattle.std.proofs.Common.{◌*◌, not, [], ◌∷◌, ◌++◌, ◌≡◌, sym, ap, ◌∙◌, subst}
+use Rattle.std.proofs.Common.{not, [], ◌∷◌, ◌++◌, sym, ap, ◌∙◌, subst}
 use Rattle.std.specs.Prelude.{◌==◌, if◌then◌else◌}
 use Rattle.plan_words.specs.States.{PassState}
 use Rattle.plan_words.specs.declared.spots.Spot.{Spot}
@@ -35,13 +35,13 @@ returns-clause-queues c =
     ∙ ap (λ (p : PassState). if not (child.node == 0) then p.lists.search.spots ++ child ∷ [] else p.lists.search.spots) (looks c).view_alone in
     subst
     (λ (p : PassState). QueuesWithin (sight_in before.view) (sight_in p.view) before.lists.search.spots c.put_spot_if.new.self.lists.search.spots
-    c.args.spot c.args.right (c.args.gap * c.args.gap) (c.args.r * c.args.r))
+    c.args.spot c.args.right c.args.within)
     (sym c.put_spot_if.ensures.others)
     (QueuesWithin-loaded (sight_in before.view) (sight_in c.child_or_start.new.pass.view) (sight_in c.point-point.new.pass.view)
     (KeepsSight-lawful before.view c.requires.belongs.lawful) before.lists.search.spots c.put_spot_if.new.self.lists.search.spots
-    c.args.spot c.args.right c.args.gap c.args.r c.child_or_start.result c.child_within-child.result c.point-point.result
+    c.args.spot c.args.right c.child_or_start.result c.child_within-child.result c.point-point.result
     (LoadsChild-child before.view c.child_or_start.new.pass.view c.args.spot.node c.child_or_start.ensures.goes_on c.args.right
     (child_of_word c.child_or_start.result) c.child_or_start.ensures.found c.child_or_start.ensures.seen.others)
     (LoadsPoint-point c.child_or_start.new.pass.view c.point-point.new.pass.view c.child_within-child.result c.point-point.ensures.goes_on
     c.point-point.result c.point-point.ensures.found c.point-point.ensures.seen.others)
-    c.child_within-child.ensures put)
+    c.args.within c.child_within-child.ensures put)

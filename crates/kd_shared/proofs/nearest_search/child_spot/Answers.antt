@@ -1,4 +1,4 @@
-use Rattle.std.proofs.Common.{not, Some, None, refl, ◌∙◌}
+use Rattle.std.proofs.Common.{Some, None, refl, ◌∙◌}
 use Rattle.plan_model.proofs.SightLaws.{IsLaterMoment-trans}
 use Rattle.step_core.specs.ViewTrees.{sight_in}
 use Rattle.step_core.specs.WordNames.Word.{ChildOf, PointOf}

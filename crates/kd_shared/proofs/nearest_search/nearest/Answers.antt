@@ -1,7 +1,6 @@
-use Rattle.std.proofs.Common.{◌≡◌, ◌+◌, [], false, arith, refl, sym, ap, ◌∙◌, subst}
+use Rattle.std.proofs.Common.{false, arith, refl, sym, ap, ◌∙◌, subst}
 use Rattle.plan_model.specs.Geometry.Plane.{squared_distance}
-use Rattle.plan_words.specs.SearchLists.{no_search}
-use Rattle.plan_words.specs.States.{PassState, with_lists}
+use Rattle.plan_words.specs.States.{with_lists}
 use Rattle.plan_words.specs.declared.spots.Spot.{Spot}
 use Rattle.step_core.specs.WordNames.Word.{PointOf}
 use Rattle.step_core.specs.declared.measured_nodes.MeasuredNode.{MeasuredNode}

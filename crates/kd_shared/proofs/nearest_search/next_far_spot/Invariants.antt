@@ -1,4 +1,4 @@
-use Rattle.std.proofs.Common.{◌≡◌, List, length}
+use Rattle.std.proofs.Common.{◌≡◌, length}
 use Rattle.plan_words.specs.States.{BelongsTo}
 use Rattle.step_core.specs.ViewTrees.{sight_in}
 use Rattle.kd_shared.specs.Looking.{OnlyLooks, searched}
