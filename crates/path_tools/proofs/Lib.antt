@@ -19,3 +19,7 @@ pub mod DecimalWords
 pub mod FirstBreakLaws
 pub mod TurnBreaks
 pub mod NodeBreaks
+pub mod FieldWords
+pub mod LineParts
+pub mod CountParts
+pub mod MarkParts

@@ -71,7 +71,7 @@ digits-more n digits h before =
     list_all-append is_digit digits ((48 + n % 10) ∷ []) ∙ rw (before, last) refl
 
 -- it is made of digits
-digits-decimal : (n : ℕ) → n < 2 ^ 64 → list_all is_digit (decimal n) ≡ true
+pub digits-decimal : (n : ℕ) → n < 2 ^ 64 → list_all is_digit (decimal n) ≡ true
 digits-decimal n h = decimal_by_steps AreDigits digits-one digits-more n h
 
 -- ---- lines are cut at line feeds, and words at spaces
@@ -333,8 +333,8 @@ same_skipped true (Some one) (Some other) fits also h =
     ap Some (same_number one other fits also digits)
 
 -- Lines with numbers in their ranges that have the same words say the same.
-pub same_said : (extent : Extent) → extent.marks < 2 ^ 64 → (one other : ReportLine) → FitsLine extent one → FitsLine extent other → line_words one ≡ line_words other
-    → one ≡ other
+pub same_said : (extent : Extent) → extent.marks < 2 ^ 64 → (one other : ReportLine) → FitsLine extent one → FitsLine extent other
+    → line_words one ≡ line_words other → one ≡ other
 same_said extent few NoPath NoPath fits also h = refl
 same_said extent few (PathOf points cost) (PathOf others price) fits also h =
     let a : decimal points ≡ decimal others = cc in

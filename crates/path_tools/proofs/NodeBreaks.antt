@@ -142,7 +142,8 @@ module _ (knots : List (Option Knot)) (records : List Record) where
                 (subst (λ p. Clear space p (point_of run.points (suc n))) above
                 (subst (λ (s : ConfigurationSpace). Clear s (point_of run.points (run.parent (suc n))) (point_of run.points (suc n))) same_space
                 sound_node.edge.clear));
-            short = subst (λ q. squared_distance up.knot.point knot.point ≤ q) same_step (subst (λ q. q ≤ setup.step * setup.step) length sound_node.edge.short);
+            short = subst (λ q. squared_distance up.knot.point knot.point ≤ q) same_step
+                (subst (λ q. q ≤ setup.step * setup.step) length sound_node.edge.short);
             exact = sym (ap kept_cost_of e) ∙ sound_node.exact ∙ (λ i. cost i + edge i);
           };
         }

@@ -178,7 +178,9 @@ same_path (Some path) (Some other) h =
 
 -- ---- sheets
 
-module _ (extent : Extent) (sheet told : Sheet) (form : HasForm extent sheet) (also : HasForm extent told) (h : lines_of_sheet sheet ≡ lines_of_sheet told) where
+module _
+    (extent : Extent) (sheet told : Sheet) (form : HasForm extent sheet) (also : HasForm extent told)
+    (h : lines_of_sheet sheet ≡ lines_of_sheet told) where
   abbrev rest_of : Sheet → List ReportLine
   rest_of s = lines_of_knots s.knots ++ lines_of_records s.records
 

@@ -129,7 +129,8 @@ own_place : (path : Option PricedPath) → length (path_lines path) ≡ counts_p
 own_place None = refl
 own_place (Some path) = ap suc (length-map path.points PathPoint)
 
-head_begun : (extent : Extent) (path : Option PricedPath) (tally : Tally) → FitsOptionalPath path → FitsTally extent.informed tally → AreBegun extent (head_lines path tally)
+head_begun : (extent : Extent) (path : Option PricedPath) (tally : Tally) → FitsOptionalPath path → FitsTally extent.informed tally
+    → AreBegun extent (head_lines path tally)
 head_begun extent path tally fits counts =
     AreBegun-push extent (path_lines path) (Counts tally) (path_begun extent path fits) (some_path_lines path, own_place path) counts
 

@@ -9,14 +9,7 @@ use Rattle.plan_model.specs.declared.trees.Knot.{Knot}
 use Rattle.plan_model.specs.Geometry.Bounds.{IsBounded}
 use Rattle.plan_model.specs.Reports.ReportText.{line, outcome_words}
 use Rattle.step_core.specs.PackedRuns.{FitsRecord}
-
--- the counts of a report: of nodes, and of marks by what became of them, in an informed scene of skipped ones too
-pub record Tally : Type 0 where
-  pub nodes : ℕ
-  pub placed : ℕ
-  pub same : ℕ
-  pub blocked : ℕ
-  pub skipped : Option ℕ
+pub use Rattle.path_tools.specs.declared.tallies.Tally.{Tally}
 
 -- What a line says: that there is no path, or how many points the path has and what it costs; one of these points; the counts;
 -- node n; what became of mark k.

@@ -3,8 +3,13 @@
 //! [`smooth`] takes a path over those of its points that make it cheapest.
 #![tactic(auto)]
 
+mod count_readers;
 mod exact_edges;
+mod fields;
 mod first_breaks;
+mod line_readers;
+mod mark_fields;
+mod mark_readers;
 mod nodes;
 mod number_words;
 mod presence;
@@ -14,6 +19,7 @@ mod rests;
 mod smoothed_reports;
 mod smoothing;
 pub mod smoothing_laws;
+mod tallies;
 mod turns;
 
 pub use smoothed_reports::smoothed_report;
