@@ -1,14 +1,17 @@
 -- What steps leave of a pass that show some words anew, one after another.
-use Rattle.std.proofs.Common.{◌≡◌, ℕ, refl, sym, ap, ◌∙◌, subst, arith}
+use Rattle.std.proofs.Common.{◌≡◌, ℕ, refl, sym, ap, ◌∙◌, subst, arith, inl, inr}
 use Rattle.std.specs.Prelude.{Err, IfErr, IfOk, Ok, Result, unwrap_or}
 use Rattle.plan_model.specs.declared.geometry.Point.{Point}
 use Rattle.plan_model.specs.Geometry.Cost.{cost_of}
 use Rattle.plan_model.specs.Trees.PointsByNumber.{IsPresent, point_of}
+use Rattle.plan_words.specs.Bests.{HasPostedHand, OnlyPosts}
 use Rattle.plan_words.specs.States.{BelongsTo, GoesOn, PassState, SharedState, with_view}
 use Rattle.plan_words.proofs.Claiming.{KeepsHand-trans}
 use Rattle.plan_words.proofs.GoingOn.{BelongsTo-later, GoesOn-refl, GoesOn-trans}
+use Rattle.plan_words.proofs.PostedGoals.{HasPostedHand-kept}
+use Rattle.plan_words.proofs.Posting.{hand-posted}
 use Rattle.step_core.specs.LaterViews.{IsLawfulView}
-use Rattle.step_core.specs.ViewSteps.{loaded, lowered, saw}
+use Rattle.step_core.specs.ViewSteps.{loaded, saw}
 use Rattle.step_core.proofs.SeenByViews.{WritesWord-looked}
 use Rattle.step_core.specs.ViewTrees.{SeesNode}
 use Rattle.step_core.specs.Views.{sees, tree_seen}
@@ -118,15 +121,32 @@ PassSees-any_point shared before after n word value belongs is goes_on writes =
     PassSees-saw NamesPoint shared before after (PointOf n) word word belongs is goes_on
     (λ other off. writes.others other (λ same. off (subst NamesPoint (sym same) tt)))
 
+-- the hand has posted its node still, if it had
+pub HasPostedHand-later : (which : Word → Type 0) (before after : View) → SeesAnew which before after → HasPostedHand before → HasPostedHand after
+HasPostedHand-later which before after steps = HasPostedHand-kept before after steps.goes_on.later.run steps.kept.hand
+
 -- the cost of a node is lowered, or another word was found
-pub PassSees-lower : (shared : SharedState) (before after : PassState) (n parent cost word value : ℕ) (result : Result Unit (ℕ × ℕ))
-    → BelongsTo before shared → IfOk result (λ done. after ≡ with_view before (lowered before.view n parent cost))
+pub PassSees-lower : (shared : SharedState) (before after : PassState) (n word value : ℕ) (result : Result Unit (ℕ × ℕ)) → BelongsTo before shared
+    → HasPostedHand before.view → IfOk result (λ done. OnlyPosts n before after)
     → IfErr result (λ pair. after ≡ with_view before (loaded before.view (TreeOf n) word)) → GoesOn before.view after.view
     → WritesWord (TreeOf n) value (sees before.view) (sees after.view) → PassSees NamesTree shared before after
-PassSees-lower shared before after n parent cost word value (Ok done) belongs is found goes_on writes =
-    PassSees-saw NamesTree shared before after (TreeOf n) _ _ belongs is goes_on
-    (λ other off. writes.others other (λ same. off (subst NamesTree (sym same) tt)))
-PassSees-lower shared before after n parent cost word value (Err pair) belongs is found goes_on writes =
+PassSees-lower shared before after n word value (Ok done) belongs posted posts found goes_on writes = record {
+  belongs = BelongsTo-later shared before after (ap (λ (p : PassState). p.table) posts.pass) goes_on belongs;
+  sees_anew = record {
+    goes_on = goes_on;
+    others = λ other off. writes.others other (λ same. off (subst NamesTree (sym same) tt));
+    kept = record {
+      crew = posts.crew;
+      most = posts.most;
+      hand = elim posts.hand [
+        | inl same ↦ same
+        | inr (goal, noted) ↦ noted ∙ hand-posted before.view n goes_on.was_lawful posted goal
+      ];
+    };
+  };
+  view_alone = posts.pass;
+}
+PassSees-lower shared before after n word value (Err pair) belongs posted posts found goes_on writes =
     PassSees-tree shared before after n word value belongs found goes_on writes
 
 -- both kinds of words

@@ -1,5 +1,6 @@
 pub mod SeenCosts
 pub mod CostSteps
+pub mod PostedFalls
 pub mod ChosenParents
 pub mod LoweredCosts
 pub mod RewiredNodes

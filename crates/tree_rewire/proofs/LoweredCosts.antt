@@ -7,17 +7,13 @@ use Rattle.plan_model.specs.Trees.PointsByNumber.{IsPresent, point_of}
 use Rattle.plan_model.proofs.NewNodes.{point_of-stands}
 use Rattle.plan_words.specs.Parents.{IsPairIn}
 use Rattle.step_core.specs.LaterViews.{IsLawfulView}
-use Rattle.step_core.specs.ViewSteps.{lowered}
 use Rattle.step_core.specs.ViewTrees.{MayLower, SeesPoint}
 use Rattle.step_core.specs.Views.{sees, setup_in, tree_seen}
-use Rattle.step_core.specs.WordNames.{WritesWord}
 use Rattle.step_core.specs.WordNames.Word.{TreeOf}
-use Rattle.step_core.specs.Words.{cost_in, parent_in, tree_word}
+use Rattle.step_core.specs.Words.{cost_in, parent_in}
 use Rattle.step_core.specs.declared.views.View.{View}
-use Rattle.step_core.proofs.SeenByViews.{WritesWord-saw}
 use Rattle.tree_rewire.specs.SeenCosts.{SeesPair, cost_seen, seen_cost_through, parent_seen}
 use Rattle.tree_rewire.specs.Spreads.{IsWithinSeenParent, IsWithinParent}
-use Rattle.tree_rewire.proofs.SeenCosts.{pair_low}
 
 -- a node may be lowered to less than it was seen to cost, through a seen parent over an allowed edge
 pub MayLower-less : (view : View) (n parent cost : ℕ) (at from : Point) → SeesPoint view n at → SeesPair view n → SeesPoint view parent from
@@ -79,10 +75,3 @@ module _ (before after : View) (n parent kept above grand : ℕ) (here there : P
   pub IsWithinSeenParent-parent : kept ≤ above + cost_of there here → IsWithinSeenParent after n
   IsWithinSeenParent-parent most seen =
       IsWithinParent-below after n parent here there parent_is stands parent_stands (omega (arith, most, kept_is, above_is))
-
--- A node is lowered: its word alone is seen anew.
-pub WritesWord-lowered : (before after : View) (n parent cost : ℕ) → IsLawfulView before → SeesPair before n → after ≡ lowered before n parent cost
-    → WritesWord (TreeOf n) (tree_word parent cost) (sees before) (sees after)
-WritesWord-lowered before after n parent cost lawful written is =
-    subst (λ v. WritesWord (TreeOf n) (tree_word parent cost) (sees before) (sees v)) (sym is)
-    (WritesWord-saw before.run before lawful.of_run (TreeOf n) (pair_low before n lawful written) (sees before (TreeOf n)) (tree_word parent cost))

@@ -1,5 +1,5 @@
 -- Near nodes that were looked at whether they are cheaper below a new one.
-use Rattle.std.proofs.Common.{◌≡◌, ℕ, suc, ◌+◌, ◌≤◌, true, List, Some, arith, sym, ap, ◌∙◌, subst}
+use Rattle.std.proofs.Common.{◌≡◌, ℕ, suc, ◌+◌, ◌≤◌, true, List, Some, arith, refl, sym, ap, ◌∙◌, subst}
 use Rattle.std.specs.Prelude.{All, Contains, IfSome}
 use Rattle.std.proofs.lemmas.List.Elements.{All-contains}
 use Rattle.plan_model.specs.declared.geometry.Point.{Point}
@@ -11,12 +11,14 @@ use Rattle.plan_words.specs.States.{GoesOn}
 use Rattle.plan_words.proofs.HandSteps.{at_hand}
 use Rattle.plan_words.proofs.KeptPairs.{if_hand}
 use Rattle.step_core.specs.LaterViews.{IsLawfulView}
-use Rattle.step_core.specs.Stages.{has_first}
+use Rattle.step_core.specs.Stages.{has_count, has_first}
 use Rattle.step_core.specs.ViewTrees.{SeesPoint}
 use Rattle.step_core.specs.Views.{sees, tree_seen}
 use Rattle.step_core.specs.WordNames.Word.{FirstOf}
 use Rattle.step_core.specs.Words.{cost_in}
 use Rattle.step_core.specs.declared.views.Hand.{Hand}
+use Rattle.step_core.specs.declared.views.Stage.{Stage}
+use Rattle.step_core.specs.declared.views.Stage.TheVariants.{Claimed, Counted, Half, Linked, Pointed, Posted, Treed}
 use Rattle.step_core.specs.declared.views.View.{View}
 use Rattle.step_core.proofs.PackedWords.{cost_in-tree_word}
 use Rattle.tree_rewire.specs.Rewirings.{HasPlaced}
@@ -57,6 +59,16 @@ IsRewired-looked space before mid after p parent n goes_on present parent_pair p
 
 -- ---- the new node
 
+-- a counted node has its first word
+first-count : (stage : Stage) → has_count stage ≡ true → has_first stage ≡ true
+first-count Claimed e = cc
+first-count Pointed e = cc
+first-count Half e = cc
+first-count Treed e = cc
+first-count Linked e = cc
+first-count Counted e = refl
+first-count Posted e = refl
+
 -- The node of mark k is placed, and its point is read.
 module _ (view : View) (k : ℕ) (from : Point) (hand : Hand) (hand_is : view.hand ≡ Some hand) (placed : IfSome view.hand (HasPlaced view k))
     (from_is : IfSome view.hand (λ h. from ≡ h.point)) where
@@ -82,7 +94,7 @@ module _ (view : View) (k : ℕ) (from : Point) (hand : Hand) (hand_is : view.ha
   -- it costs at most what it was placed at
   pub placed_cost : IsLawfulView view → cost_seen view (k + 1) ≤ hand.cost
   placed_cost lawful =
-      let far : has_first hand.stage ≡ true = ap has_first own.counted in
+      let far : has_first hand.stage ≡ true = first-count hand.stage own.counted in
       let fits = lawful.pair_fits hand hand_is far in
       let first : cost_in (sees view (FirstOf (suc k))) ≡ hand.cost =
       ap cost_in own.first ∙ cost_in-tree_word hand.parent hand.cost fits.0 fits.1 in

@@ -1,14 +1,14 @@
 -- When near nodes may be rewired, and what is seen then of the nodes whose costs fell and of those below them.
-use Rattle.std.specs.Prelude.{◌≡◌, ◌≢◌, ◌⊎◌, ℕ, suc, ◌<◌}
+use Rattle.std.specs.Prelude.{◌≡◌, ◌≢◌, ◌⊎◌, ℕ, suc, ◌<◌, true}
 use Rattle.plan_model.specs.Spaces.Clearance.{Clear}
 use Rattle.plan_model.specs.declared.configuration_spaces.ConfigurationSpace.{ConfigurationSpace}
 use Rattle.plan_model.specs.Trees.PointsByNumber.{point_of}
+use Rattle.step_core.specs.Stages.{has_count}
 use Rattle.step_core.specs.ViewSteps.{pair_in_hand}
 use Rattle.step_core.specs.ViewTrees.{SeesPoint}
 use Rattle.step_core.specs.Views.{sees, tree_seen}
 use Rattle.step_core.specs.WordNames.Word.{FirstOf}
 use Rattle.step_core.specs.declared.views.Hand.{Hand}
-use Rattle.step_core.specs.declared.views.Stage.TheVariants.{Counted}
 use Rattle.step_core.specs.declared.views.View.{View}
 use Rattle.tree_rewire.specs.SeenCosts.{SeesPair, cost_seen, seen_cost_through, parent_seen}
 use Rattle.tree_rewire.specs.Spreads.{IsWithinParent}
@@ -16,7 +16,7 @@ use Rattle.tree_rewire.specs.Spreads.{IsWithinParent}
 -- The node of mark k is in this hand, linked and counted. It is seen at its point, with its first cost, and with its parent and its cost.
 pub record HasPlaced (view : View) (k : ℕ) (hand : Hand) : Type 0 where
   pub mark : hand.mark ≡ k
-  pub counted : hand.stage ≡ Counted
+  pub counted : has_count hand.stage ≡ true
   pub stands : SeesPoint view (suc k) hand.point
   pub first : sees view (FirstOf (suc k)) ≡ pair_in_hand hand
   pub pair : SeesPair view (suc k)

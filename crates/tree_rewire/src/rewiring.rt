@@ -1,6 +1,6 @@
 //! The rewiring of nodes near a new one.
 
-ghost use Rattle.std.specs.Prelude.{◌≡◌, ◌≢◌, false, ℕ, suc, ◌+◌, ◌<◌, ◌≤◌, All, Contains, IfSome, IsSome, List};
+ghost use Rattle.std.specs.Prelude.{◌≡◌, ◌≢◌, ℕ, suc, ◌+◌, ◌<◌, ◌≤◌, All, Contains, IfSome, IsSome, List};
 ghost use Rattle.std.specs.List.Sorted.{IsStrictlyIncreasing};
 ghost use Rattle.plan_model.specs.Geometry.Bounds.{IsBounded};
 ghost use Rattle.plan_model.specs.Spaces.Clearance.{Clear};
@@ -9,6 +9,7 @@ ghost use Rattle.plan_model.specs.Geometry.Cost.{cost_of};
 ghost use Rattle.plan_model.specs.Runs.OrderLaw.{IsAllowedEdge};
 ghost use Rattle.plan_model.specs.Trees.PointsByNumber.{IsPresent, point_of};
 ghost use Rattle.plan_model.specs.Runs.Textbook.{Nodes, Rewires, RewiresOne};
+ghost use Rattle.plan_words.specs.Bests.{HasPostedGoals, HasPostedHand};
 ghost use Rattle.plan_words.specs.Claims.{SeesAsBefore};
 ghost use Rattle.plan_words.specs.SearchLists.{numbers_of};
 ghost use Rattle.plan_words.specs.States.{BelongsTo, HasWholeShare};
@@ -32,22 +33,23 @@ use swept_check::Clearing;
 
 /// Rewires the nodes on the near list, in their order, once the node of mark k is placed: it becomes the parent of each that
 /// is then strictly cheaper, over a clear edge, and what fell is [spread] before the next is looked at. Each near node is seen
-/// with its point, at most a step from the new one; without any, nothing changes. The pass has a share, and the scene is not
-/// informed.
+/// with its point, at most a step from the new one; without any, nothing changes. The pass has a share, and has posted its new node
+/// if that lies in a goal by which marks are skipped. Each such node that is lowered is posted.
 ///
 /// An edge is tested only if the node would be cheaper than it was seen to be last. Another pass may lower the node first, or give
 /// it another parent; it is lowered again only while it is still dearer. O(n) for n near nodes, and what the spreads take.
 pub fn rewire<C: Clearing>(shared: &Shared, pass: &mut Pass, hall: &C, k: u32)
     requires belongs { BelongsTo pass.old shared.now }
-    requires plain { shared.now.task.scene.informed ≡ false }
     requires part { 0 < share pass.old.view }
+    requires posted { HasPostedHand pass.old.view }
     requires hall { C.space hall.now ≡ space_of shared.now.task.scene }
     requires hand { IsSome pass.old.view.hand }
     requires placed { IfSome pass.old.view.hand (λ hand. HasPlaced pass.old.view k hand) }
     requires near { IfSome pass.old.view.hand (λ hand. All (IsInReach pass.old.view hand.point) pass.old.lists.near) }
     ensures belongs { BelongsTo pass.new shared.now }
     ensures seen { SeesAnew NamesTreeOrPoint pass.old.view pass.new.view }
-    ensures lists { (pass.new.lists.near ≡ pass.old.lists.near) × (pass.new.lists.around ≡ pass.old.lists.around) × (pass.new.lists.search ≡ pass.old.lists.search) }
+    ensures lists { (pass.new.lists.near ≡ pass.old.lists.near) × (pass.new.lists.around ≡ pass.old.lists.around)
+        × (pass.new.lists.search ≡ pass.old.lists.search) }
     ensures pairs { All (SeesPair pass.new.view) pass.old.lists.near }
     // each near node with a clear edge costs no more than through the new node, by the cost that this was placed at
     ensures rewired { IfSome pass.old.view.hand (λ hand. (i : ℕ) → Contains pass.old.lists.near i
@@ -56,6 +58,8 @@ pub fn rewire<C: Clearing>(shared: &Shared, pass: &mut Pass, hall: &C, k: u32)
     // each node whose cost fell, or whose parent's did, costs no more than through its parent, by what is seen then, unless it is a near
     // node to which the new one is a shortcut and which hangs elsewhere, as another pass has lowered it
     ensures spread { HasSpreadFalls (space_of shared.now.task.scene) (Contains pass.old.lists.near) (suc k) pass.old.view pass.new.view }
+    // the goal nodes that a pass with the whole share sees stay posted
+    ensures goals { HasWholeShare pass.old.view → HasPostedGoals pass.old.view → HasPostedGoals pass.new.view }
     // a pass with the whole share sees a tree, and then that tree rewired as in the textbook
     ensures whole { HasWholeShare pass.old.view → (tree : Nodes) → Mirrors pass.old.view tree
         → (after : Nodes) × Rewires (space_of shared.now.task.scene) tree (suc k) pass.old.lists.near after × Mirrors pass.new.view after }
@@ -77,6 +81,7 @@ pub fn rewire<C: Clearing>(shared: &Shared, pass: &mut Pass, hall: &C, k: u32)
 pub fn rewire_found<C: Clearing>(shared: &Shared, pass: &mut Pass, hall: &C, k: u32)
     requires belongs { BelongsTo pass.old shared.now }
     requires part { 0 < share pass.old.view }
+    requires posted { HasPostedHand pass.old.view }
     requires hall { C.space hall.now ≡ space_of shared.now.task.scene }
     requires hand { IsSome pass.old.view.hand }
     requires placed { IfSome pass.old.view.hand (λ hand. HasPlaced pass.old.view k hand) }
@@ -92,6 +97,8 @@ pub fn rewire_found<C: Clearing>(shared: &Shared, pass: &mut Pass, hall: &C, k: 
         → cost_seen pass.new.view i ≤ hand.cost + cost_of hand.point (point_of (tree_seen pass.old.view).points i)) }
     // as `rewire` promises it
     ensures spread { HasSpreadFalls (space_of shared.now.task.scene) (Contains (numbers_of pass.old.lists.search.found)) (suc k) pass.old.view pass.new.view }
+    // the goal nodes that a pass with the whole share sees stay posted
+    ensures goals { HasWholeShare pass.old.view → HasPostedGoals pass.old.view → HasPostedGoals pass.new.view }
     // a pass with the whole share sees a tree, and then that tree rewired as in the textbook, in rising number
     ensures whole { HasWholeShare pass.old.view → (tree : Nodes) → Mirrors pass.old.view tree
         → (near : List ℕ) → IsStrictlyIncreasing near → AreOf pass.old.lists.search.found near
@@ -106,6 +113,7 @@ pub fn rewire_found<C: Clearing>(shared: &Shared, pass: &mut Pass, hall: &C, k: 
 fn rewire_few<C: Clearing>(shared: &Shared, pass: &mut Pass, hall: &C, k: u32)
     requires belongs { BelongsTo pass.old shared.now }
     requires part { 0 < share pass.old.view }
+    requires posted { HasPostedHand pass.old.view }
     requires hall { C.space hall.now ≡ space_of shared.now.task.scene }
     requires hand { IsSome pass.old.view.hand }
     requires placed { IfSome pass.old.view.hand (λ hand. HasPlaced pass.old.view k hand) }
@@ -117,6 +125,7 @@ fn rewire_few<C: Clearing>(shared: &Shared, pass: &mut Pass, hall: &C, k: u32)
         → Clear (space_of shared.now.task.scene) hand.point (point_of (tree_seen pass.old.view).points i)
         → cost_seen pass.new.view i ≤ hand.cost + cost_of hand.point (point_of (tree_seen pass.old.view).points i)) }
     ensures spread { HasSpreadFalls (space_of shared.now.task.scene) (Contains (numbers_of pass.old.lists.search.found)) (suc k) pass.old.view pass.new.view }
+    ensures goals { HasWholeShare pass.old.view → HasPostedGoals pass.old.view → HasPostedGoals pass.new.view }
     ensures whole { HasWholeShare pass.old.view → (tree : Nodes) → Mirrors pass.old.view tree
         → (after : Nodes) × Rewires (space_of shared.now.task.scene) tree (suc k) (numbers_of pass.old.lists.search.found) after
         × Mirrors pass.new.view after }
@@ -139,8 +148,8 @@ fn rewire_node<C: Clearing>(
     node: u32,
 )
     requires belongs { BelongsTo pass.old shared.now }
-    requires plain { shared.now.task.scene.informed ≡ false }
     requires part { 0 < share pass.old.view }
+    requires posted { HasPostedHand pass.old.view }
     requires hall { C.space hall.now ≡ space_of shared.now.task.scene }
     requires parent { SeesPoint pass.old.view parent from }
     requires parent_pair { SeesPair pass.old.view parent }
@@ -151,6 +160,7 @@ fn rewire_node<C: Clearing>(
         → cost_seen pass.new.view node
         ≤ cost_seen pass.old.view parent + cost_of from (point_of (tree_seen pass.old.view).points node) }
     ensures spread { HasSpreadFalls (C.space hall.now) (λ n. n ≡ node) parent pass.old.view pass.new.view }
+    ensures goals { HasWholeShare pass.old.view → HasPostedGoals pass.old.view → HasPostedGoals pass.new.view }
     ensures whole { HasWholeShare pass.old.view → (tree : Nodes) → Mirrors pass.old.view tree
         → (after : Nodes) × RewiresOne (C.space hall.now) tree parent node after × Mirrors pass.new.view after }
 {
@@ -183,8 +193,8 @@ fn known_cost(shared: &Shared, pass: &mut Pass, node: u32) -> u64
 /// Lowers a node below this parent until it costs no more than through it.
 fn improve(shared: &Shared, pass: &mut Pass, parent: u32, from: Point, node: u32, to: Point)
     requires belongs { BelongsTo pass.old shared.now }
-    requires plain { shared.now.task.scene.informed ≡ false }
     requires part { 0 < share pass.old.view }
+    requires posted { HasPostedHand pass.old.view }
     requires parent { SeesPoint pass.old.view parent from }
     requires parent_pair { SeesPair pass.old.view parent }
     requires node { SeesPoint pass.old.view node to }
@@ -196,6 +206,7 @@ fn improve(shared: &Shared, pass: &mut Pass, parent: u32, from: Point, node: u32
     ensures steps { PassSees NamesTree shared.now pass.old pass.new }
     ensures others { OnlyAt node pass.old.view pass.new.view }
     ensures most { cost_seen pass.new.view node ≤ cost_seen pass.old.view parent + cost_of from to }
+    ensures goals { HasWholeShare pass.old.view → HasPostedGoals pass.old.view → HasPostedGoals pass.new.view }
     // a pass with the whole share lowers it once
     ensures whole { HasWholeShare pass.old.view → cost_seen pass.old.view parent + cost_of from to < cost_seen pass.old.view node
         → WritesWord (TreeOf node) (tree_word parent (cost_seen pass.old.view parent + cost_of from to)) (sees pass.old.view) (sees pass.new.view) }

@@ -1,6 +1,7 @@
 //! A lowered cost comes to the subtree of its node.
 
-ghost use Rattle.std.specs.Prelude.{◌≡◌, false, ◌<◌, IfNone, IfSome};
+ghost use Rattle.std.specs.Prelude.{◌≡◌, ◌<◌, IfNone, IfSome};
+ghost use Rattle.plan_words.specs.Bests.{HasPostedGoals, HasPostedHand};
 ghost use Rattle.plan_words.specs.Claims.{SeesAsBefore};
 ghost use Rattle.plan_words.specs.States.{BelongsTo, HasWholeShare};
 ghost use Rattle.step_core.specs.ViewTrees.{MayLower};
@@ -14,14 +15,15 @@ use plan_words::{Pass, Shared};
 
 /// Lowers the subtree of a node whose cost fell: each child that costs more than through its parent, both as the pass has seen them
 /// last, and so on from each node whose cost falls. Children are those by the parents that were seen last; without any, nothing
-/// changes. The node is seen with its parent and its cost, the pass has a share, and the scene is not informed.
+/// changes. The node is seen with its parent and its cost. The pass has a share, and has posted the node in its hand if that is counted
+/// and lies in a goal by which marks are skipped. Each such node that is lowered is posted.
 ///
 /// It loads no costs; an exchange that fails shows what the node costs by now, and with whatever parent. The sum of the costs seen
 /// falls with each exchange, so it ends. O(k) for k children of the node and of those that fell, if no other pass comes between.
 pub fn spread(shared: &Shared, pass: &mut Pass, node: u32)
     requires belongs { BelongsTo pass.old shared.now }
-    requires plain { shared.now.task.scene.informed ≡ false }
     requires part { 0 < share pass.old.view }
+    requires posted { HasPostedHand pass.old.view }
     requires pair { SeesPair pass.old.view node }
     ensures belongs { BelongsTo pass.new shared.now }
     ensures seen { SeesAnew NamesTreeOrPoint pass.old.view pass.new.view }
@@ -31,6 +33,8 @@ pub fn spread(shared: &Shared, pass: &mut Pass, node: u32)
     ensures spread { HasSpread node pass.old.view pass.new.view }
     // and so does each node that is seen with another parent or cost, if its parent is seen with a cost
     ensures settled { HasSettledChanges pass.old.view pass.new.view }
+    // the goal nodes that a pass with the whole share sees stay posted
+    ensures goals { HasWholeShare pass.old.view → HasPostedGoals pass.old.view → HasPostedGoals pass.new.view }
     // of a pass with the whole share each lower succeeds, so no parent changes
     ensures whole { HasWholeShare pass.old.view → KeepsParents pass.old.view pass.new.view }
     // and where all costs but those of the node's children were exact, all are
@@ -46,13 +50,14 @@ pub fn spread(shared: &Shared, pass: &mut Pass, node: u32)
 /// Lowers the children of a node until each costs no more than through it. Those whose cost fell wait then, if they have children.
 fn lower_below(shared: &Shared, pass: &mut Pass, node: u32)
     requires belongs { BelongsTo pass.old shared.now }
-    requires plain { shared.now.task.scene.informed ≡ false }
     requires part { 0 < share pass.old.view }
+    requires posted { HasPostedHand pass.old.view }
     requires pair { SeesPair pass.old.view node }
     ensures steps { PassLowers shared.now pass.old pass.new }
     ensures spreads { SpreadsFrom node pass.old pass.new }
     ensures falls { NoneRises pass.old.view pass.new.view }
     ensures queued { QueuesFallen pass.old pass.new }
+    ensures goals { HasWholeShare pass.old.view → HasPostedGoals pass.old.view → HasPostedGoals pass.new.view }
     ensures whole { HasWholeShare pass.old.view → KeepsParents pass.old.view pass.new.view }
 {
     'tries: while let Some(child) = shared.lower_children(pass, node) {
@@ -65,8 +70,8 @@ fn lower_below(shared: &Shared, pass: &mut Pass, node: u32)
 /// Lowers a node until it costs no more than through its parent, both as seen last.
 fn settle(shared: &Shared, pass: &mut Pass, node: u32)
     requires belongs { BelongsTo pass.old shared.now }
-    requires plain { shared.now.task.scene.informed ≡ false }
     requires part { 0 < share pass.old.view }
+    requires posted { HasPostedHand pass.old.view }
     requires pair { SeesPair pass.old.view node }
     ensures steps { PassSees NamesTreeOrPoint shared.now pass.old pass.new }
     ensures others { OnlyAt node pass.old.view pass.new.view }

@@ -1,14 +1,13 @@
 use Rattle.std.proofs.Common.{◌≡◌, ◌+◌, ◌<◌, ◌≤◌, ◌^◌, ℕ, ap, arith, inl, inr, refl, subst, sym, ◌∙◌}
 use Rattle.plan_model.specs.Geometry.Cost.{cost_of}
 use Rattle.plan_model.specs.Runs.OrderLaw.{IsAllowedEdge}
-use Rattle.plan_words.specs.States.{PassState, with_view}
-use Rattle.step_core.specs.ViewSteps.{lowered}
-use Rattle.step_core.specs.Views.{setup_in}
+use Rattle.step_core.specs.Views.{sees, setup_in}
 use Rattle.step_core.specs.WordNames.Word.{TreeOf}
 use Rattle.step_core.specs.Words.{cost_in, tree_word}
 use Rattle.tree_rewire.specs.SeenCosts.{NamesTree, cost_seen}
-use Rattle.tree_rewire.proofs.CostSteps.{PassSees-lower, PassSees-refl, PassSees-trans}
-use Rattle.tree_rewire.proofs.LoweredCosts.{MayLower-less, WritesWord-lowered}
+use Rattle.tree_rewire.proofs.CostSteps.{HasPostedHand-later, PassSees-lower, PassSees-refl, PassSees-trans}
+use Rattle.tree_rewire.proofs.LoweredCosts.{MayLower-less}
+use Rattle.tree_rewire.proofs.PostedFalls.{HasPostedGoals-lower}
 use Rattle.tree_rewire.proofs.SeenCosts.{SeesPair-later, pair_low, stands_later}
 use Rattle.tree_rewire.proofs.WholeShares.{HasWholeShare-later, on_ok}
 use Rattle.tree_rewire.proofs.rewiring.improve.Goals as goal
@@ -22,6 +21,7 @@ lowers-init c = record {
   steps = PassSees-refl NamesTree c.args.shared.now c.args.pass.now c.requires.belongs;
   others = λ m apart. refl;
   pair = c.requires.pair;
+  goals = λ all posted. posted;
   whole = λ all. inl (λ name. refl);
 }
 
@@ -44,10 +44,18 @@ lowers-preserved c =
     let lower = c.lower-found.ensures in
     record {
       steps = PassSees-trans NamesTree c.args.shared.now c.args.pass.now c.lowers.pass c.lower-found.new.pass h.steps
-          (PassSees-lower c.args.shared.now c.lowers.pass c.lower-found.new.pass c.args.node c.args.parent _ _ _ c.lower-found.result h.steps.belongs
-          (lower.view c.requires.plain) lower.view_found lower.goes_on lower.seen);
+          (PassSees-lower c.args.shared.now c.lowers.pass c.lower-found.new.pass c.args.node _ _ c.lower-found.result h.steps.belongs
+          (HasPostedHand-later NamesTree c.args.pass.now.view c.lowers.pass.view h.steps.sees_anew c.requires.posted) lower.kept lower.view_found
+          lower.goes_on lower.seen);
       others = λ m apart. lower.seen.others (TreeOf m) (λ e. apart (let own : m ≡ c.args.node = cc in own)) ∙ h.others m apart;
       pair = lower.falls.written;
+      goals = λ all posted.
+          let lawful = h.steps.sees_anew.goes_on.lawful in
+          HasPostedGoals-lower c.lowers.pass.view c.lower-found.new.pass.view c.args.node c.args.parent _ _ c.lower-found.result
+          (omega (arith, pair_low c.args.pass.now.view c.args.parent c.requires.belongs.lawful c.requires.parent_pair, c.requires.belongs.lawful.run.marks))
+          (omega (arith, c.lowers-test.true, c.seen_cost-in-lowers.ensures, (lawful.pairs c.args.node h.pair).low)) lower.goes_on lower.seen
+          (lower.whole (HasWholeShare-later NamesTree c.args.pass.now.view c.lowers.pass.view h.steps.sees_anew all)) lower.lowered lower.posted
+          (h.goals all posted);
       whole = λ all.
           let before = c.args.pass.now.view in
           let now = c.lowers.pass.view in
@@ -56,13 +64,11 @@ lowers-preserved c =
           omega (arith, c.seen_cost.ensures, c.cost.ensures.value) in
           elim (h.whole all) [
             | inl same ↦
-                let is = on_ok c.lower-found.result (c.lower-found.new.pass ≡ with_view c.lowers.pass (lowered now c.args.node c.args.parent most))
-                (lower.whole (HasWholeShare-later NamesTree before now h.steps.sees_anew all)) (lower.view c.requires.plain) in
-                let writes = WritesWord-lowered now c.lower-found.new.pass.view c.args.node c.args.parent most h.steps.sees_anew.goes_on.lawful h.pair
-                (ap (λ (p : PassState). p.view) is) in
+                let here = on_ok c.lower-found.result (sees c.lower-found.new.pass.view (TreeOf c.args.node) ≡ tree_word c.args.parent most)
+                (lower.whole (HasWholeShare-later NamesTree before now h.steps.sees_anew all)) lower.lowered in
                 inr (record {
-                  here = writes.here ∙ ap (tree_word c.args.parent) most_is;
-                  others = λ name off. writes.others name off ∙ same name;
+                  here = here ∙ ap (tree_word c.args.parent) most_is;
+                  others = λ name off. lower.seen.others name off ∙ same name;
                 })
             | inr writes ↦
                 let small : c.args.parent < 2 ^ 18 =

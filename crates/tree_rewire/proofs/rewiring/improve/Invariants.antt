@@ -1,5 +1,6 @@
 use Rattle.std.proofs.Common.{◌⊎◌, ◌+◌}
 use Rattle.plan_model.specs.Geometry.Cost.{cost_of}
+use Rattle.plan_words.specs.Bests.{HasPostedGoals}
 use Rattle.plan_words.specs.Claims.{SeesAsBefore}
 use Rattle.plan_words.specs.States.{HasWholeShare}
 use Rattle.step_core.specs.Views.{sees}
@@ -15,6 +16,7 @@ invariant-lowers l = record {
   steps : PassSees NamesTree l.shared l.fn.pass l.pass;
   others : OnlyAt l.node l.fn.pass.view l.pass.view;
   pair : SeesPair l.pass.view l.node;
+  goals : HasWholeShare l.fn.pass.view → HasPostedGoals l.fn.pass.view → HasPostedGoals l.pass.view;
   whole : HasWholeShare l.fn.pass.view → SeesAsBefore l.fn.pass.view l.pass.view
       ⊎ WritesWord (TreeOf l.node) (tree_word l.parent (cost_seen l.fn.pass.view l.parent + cost_of l.fn.from l.fn.to)) (sees l.fn.pass.view)
       (sees l.pass.view);

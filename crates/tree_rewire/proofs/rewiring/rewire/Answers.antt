@@ -8,7 +8,7 @@ use Rattle.plan_words.proofs.HandSteps.{some_hand}
 use Rattle.tree_rewire.specs.Rewirings.{HasSpreadFalls}
 use Rattle.tree_rewire.specs.SeenCosts.{IsInReach, NamesTreeOrPoint, SeesPair, cost_seen}
 use Rattle.tree_rewire.proofs.ChosenParents.{All-more, IsInReach-later, drop_read, near_read, take_read}
-use Rattle.tree_rewire.proofs.CostSteps.{PassLowers-lists, PassLowers-trans}
+use Rattle.tree_rewire.proofs.CostSteps.{HasPostedHand-later, PassLowers-lists, PassLowers-trans}
 use Rattle.tree_rewire.proofs.RewiredNodes.{IsRewired, IsRewired-later, IsRewired-looked, all_rewired, placed_near, placed_pair, placed_stands}
 use Rattle.tree_rewire.proofs.RewiredTrees.{IsRewiring-more}
 use Rattle.tree_rewire.proofs.SeenCosts.{SeesPair-later, stands_later}
@@ -34,6 +34,7 @@ nodes-init g c =
       steps = PassLowers-lists c.args.shared.now pass pass c.requires.belongs refl refl refl refl refl;
       earlier = All-nil (IsRewired (g.C.Clearing.space c.args.hall.now) pass.view pass.view c.hand_point-from.result (cost_seen pass.view (c.args.k + 1)));
       spread = HasSpreadFalls-none (g.C.Clearing.space c.args.hall.now) (Contains pass.lists.near) (c.args.k + 1) pass.view pass.view (λ n pair. refl);
+      goals = λ all posted. posted;
       whole = λ all tree mirrors. record { now = tree; mirrors = mirrors; leads = λ last r. r };
     }
 
@@ -48,6 +49,10 @@ rewire_node-requires-clause-parent_pair g c κs within =
     let held = some_hand c.args.pass.now.view.hand c.requires.hand in
     SeesPair-later c.args.pass.now.view c.nodes.pass.view c.nodes.invariant.steps.sees_anew.goes_on (c.args.k + 1)
     (placed_pair c.args.pass.now.view c.args.k c.hand_point-from.result held.0 held.1 c.requires.placed c.hand_point-from.ensures)
+
+pub rewire_node-requires-clause-posted : goal.rewire_node-requires-clause-posted
+rewire_node-requires-clause-posted g c κs within =
+    HasPostedHand-later NamesTreeOrPoint c.args.pass.now.view c.nodes.pass.view c.nodes.invariant.steps.sees_anew c.requires.posted
 
 pub rewire_node-requires-clause-reach : goal.rewire_node-requires-clause-reach
 rewire_node-requires-clause-reach g c κs within =
@@ -80,6 +85,8 @@ nodes-preserved g c =
           (reach g (goal.at.nodes-preserved g c).After-near_node-node).present
           (ap is_some (placed_stands before c.args.k from held.0 held.1 c.requires.placed c.hand_point-from.ensures))
           (placed_pair before c.args.k from held.0 held.1 c.requires.placed c.hand_point-from.ensures) h.spread done.spread;
+      goals = λ all posted.
+          done.goals (HasWholeShare-later NamesTreeOrPoint before c.nodes.pass.view h.steps.sees_anew all) (h.goals all posted);
       whole = λ all tree mirrors.
           let was = h.whole all tree mirrors in
           IsRewiring-more space tree (c.args.k + 1) n c.args.pass.now.lists.near (drop c.nodes.index c.args.pass.now.lists.near)

@@ -1,6 +1,7 @@
 use Rattle.std.proofs.Common.{◌+◌, All, drop, take}
 use Rattle.std.specs.Prelude.{Contains}
 use Rattle.plan_model.specs.Runs.Textbook.{Nodes}
+use Rattle.plan_words.specs.Bests.{HasPostedGoals}
 use Rattle.plan_words.specs.States.{HasWholeShare}
 use Rattle.tree_rewire.specs.Mirrors.{Mirrors}
 use Rattle.tree_rewire.specs.Rewirings.{HasSpreadFalls}
@@ -16,6 +17,7 @@ invariant-nodes g l = record {
   earlier : All (IsRewired (g.C.Clearing.space l.hall) l.fn.pass.view l.pass.view l.from (cost_seen l.fn.pass.view (l.k + 1)))
       (take l.index l.fn.pass.lists.near);
   spread : HasSpreadFalls (g.C.Clearing.space l.hall) (Contains l.fn.pass.lists.near) (l.k + 1) l.fn.pass.view l.pass.view;
+  goals : HasWholeShare l.fn.pass.view → HasPostedGoals l.fn.pass.view → HasPostedGoals l.pass.view;
   whole : HasWholeShare l.fn.pass.view → (tree : Nodes) → Mirrors l.fn.pass.view tree
       → IsRewiring (g.C.Clearing.space l.hall) tree (l.k + 1) l.fn.pass.lists.near (drop l.index l.fn.pass.lists.near) l.pass.view;
 }

@@ -1,6 +1,7 @@
 use Rattle.std.proofs.Common.{◌+◌, All, drop, take}
 use Rattle.std.specs.Prelude.{Contains}
 use Rattle.plan_model.specs.Runs.Textbook.{Nodes}
+use Rattle.plan_words.specs.Bests.{HasPostedGoals}
 use Rattle.plan_words.specs.SearchLists.{numbers_of}
 use Rattle.plan_words.specs.States.{HasWholeShare}
 use Rattle.tree_rewire.specs.Mirrors.{Mirrors}
@@ -17,6 +18,7 @@ invariant-few g l = record {
   earlier : All (IsRewired (g.C.Clearing.space l.hall) l.fn.pass.view l.pass.view l.from (cost_seen l.fn.pass.view (l.k + 1)))
       (take l.index (numbers_of l.fn.pass.lists.search.found));
   spread : HasSpreadFalls (g.C.Clearing.space l.hall) (Contains (numbers_of l.fn.pass.lists.search.found)) (l.k + 1) l.fn.pass.view l.pass.view;
+  goals : HasWholeShare l.fn.pass.view → HasPostedGoals l.fn.pass.view → HasPostedGoals l.pass.view;
   whole : HasWholeShare l.fn.pass.view → (tree : Nodes) → Mirrors l.fn.pass.view tree
       → IsRewiring (g.C.Clearing.space l.hall) tree (l.k + 1) (numbers_of l.fn.pass.lists.search.found)
       (drop l.index (numbers_of l.fn.pass.lists.search.found)) l.pass.view;

@@ -11,6 +11,7 @@ use Rattle.plan_model.proofs.CostLaws.{cost_of-swap}
 use Rattle.plan_words.proofs.HandSteps.{at_hand, some_hand}
 use Rattle.plan_words.proofs.KeptPairs.{if_hand}
 use Rattle.plan_words.proofs.RisingNumbers.{Contains-number}
+use Rattle.plan_words.specs.Bests.{HasPostedGoals, HasPostedHand}
 use Rattle.plan_words.specs.SearchLists.{is_dearer, numbers_of}
 use Rattle.plan_words.specs.States.{GoesOn, HasWholeShare, Lists, PassState}
 use Rattle.step_core.specs.Views.{share}
@@ -100,6 +101,10 @@ rewire_few-requires-clause-belongs g c κs within = record {
 
 pub rewire_few-requires-clause-part : goal.rewire_few-requires-clause-part
 rewire_few-requires-clause-part g c κs within = subst (λ v. 0 < share v) (sym (ap (λ (s : PassState). s.view) c.keep_dearer.ensures.others)) c.requires.part
+
+pub rewire_few-requires-clause-posted : goal.rewire_few-requires-clause-posted
+rewire_few-requires-clause-posted g c κs within =
+    subst HasPostedHand (sym (ap (λ (s : PassState). s.view) c.keep_dearer.ensures.others)) c.requires.posted
 
 pub rewire_few-requires-clause-hand : goal.rewire_few-requires-clause-hand
 rewire_few-requires-clause-hand g c κs within =
@@ -222,6 +227,11 @@ returns-clause-spread g c =
       | inl within ↦ inl within
       | inr hangs ↦ inr (record { listed = few_last g here n hangs.listed; shortcut = hangs.shortcut; elsewhere = hangs.elsewhere })
     ]
+
+pub returns-clause-goals : goal.returns-clause-goals
+returns-clause-goals g c =
+    let here = (goal.at.returns-clause-goals g c).After-rewire_few in
+    subst (λ v. HasWholeShare v → HasPostedGoals v → HasPostedGoals c.rewire_few.new.pass.view) (view_last g here) c.rewire_few.ensures.goals
 
 pub returns-clause-whole : goal.returns-clause-whole
 returns-clause-whole g c = λ all tree mirrors near rising of.

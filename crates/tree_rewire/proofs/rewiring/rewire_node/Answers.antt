@@ -6,16 +6,19 @@ use Rattle.plan_model.specs.Geometry.Plane.{squared_distance}
 use Rattle.plan_model.specs.Trees.PointsByNumber.{point_of}
 use Rattle.plan_model.specs.Runs.Textbook.{IsCheaperThrough, with_parent}
 use Rattle.plan_model.proofs.NearNodes.{squared_distance-swap}
+use Rattle.plan_words.specs.Bests.{HasPostedGoals}
 use Rattle.plan_words.specs.Claims.{SeesAsBefore}
 use Rattle.plan_words.specs.States.{HasWholeShare}
 use Rattle.plan_words.proofs.GoingOn.{GoesOn-trans}
+use Rattle.plan_words.proofs.PostedGoals.{HasPostedGoals-same}
 use Rattle.step_core.specs.Views.{sees, setup_in, tree_seen}
 use Rattle.step_core.specs.WordNames.Word.{TreeOf}
 use Rattle.step_core.specs.Words.{cost_in}
 use Rattle.step_core.proofs.LawfulSights.{IsBounded-seen}
 use Rattle.step_core.proofs.SeenViews.{IsPresent-later}
 use Rattle.tree_rewire.specs.SeenCosts.{NamesNothing, NamesTreeOrPoint, NamesTree, PassLowers, PassSees, SeesPair, cost_seen}
-use Rattle.tree_rewire.proofs.CostSteps.{PassLowers-sees, PassLowers-trans, PassSees-more, PassSees-point, PassSees-trans, TreeOrPoint-tree}
+use Rattle.tree_rewire.proofs.CostSteps.{HasPostedHand-later, PassLowers-sees, PassLowers-trans}
+use Rattle.tree_rewire.proofs.CostSteps.{PassSees-more, PassSees-point, PassSees-trans, TreeOrPoint-tree}
 use Rattle.tree_rewire.proofs.LoweredCosts.{IsWithinParent-below}
 use Rattle.tree_rewire.proofs.MirroredTrees.{Mirrors-same}
 use Rattle.tree_rewire.proofs.RewiredTrees.{AllTightBut-lowered, Clear-cheaper_through, IsCheaperThrough-seen, Mirrors-rewired, less-cheaper_through}
@@ -104,6 +107,17 @@ improve-requires-clause-from g c = IsBounded-seen c.args.pass.now.view c.args.pa
 pub improve-requires-clause-pair : goal.improve-requires-clause-pair
 improve-requires-clause-pair g c =
     SeesPair-later c.known_cost-kept_cost.new.pass.view c.point-to.new.pass.view c.point-to.ensures.goes_on c.args.node c.known_cost-kept_cost.ensures.pair
+
+pub improve-requires-clause-posted : goal.improve-requires-clause-posted
+improve-requires-clause-posted g c =
+    let to = (goal.at.improve-requires-clause-posted g c).After-seen_cost in
+    HasPostedHand-later NamesTree c.args.pass.now.view c.point-to.new.pass.view (loads g to).sees_anew c.requires.posted
+
+pub spread-requires-clause-posted : goal.spread-requires-clause-posted
+spread-requires-clause-posted g c =
+    let to = (goal.at.spread-requires-clause-posted g c).After-seen_cost in
+    HasPostedHand-later NamesTree c.point-to.new.pass.view c.improve.new.pass.view c.improve.ensures.steps.sees_anew
+    (HasPostedHand-later NamesTree c.args.pass.now.view c.point-to.new.pass.view (loads g to).sees_anew c.requires.posted)
 
 pub spread-requires-clause-pair : goal.spread-requires-clause-pair
 spread-requires-clause-pair g c =
@@ -289,3 +303,21 @@ returns-else-costs_less_through-clause-whole g c =
           cc)
     ] in
     (tree, inr (not, refl), same)
+
+-- ---- goal nodes
+
+-- by the looks at the node nothing is seen anew
+loads_goals : (g : Over) (c : After-seen_cost g) → HasWholeShare c.args.pass.now.view → HasPostedGoals c.args.pass.now.view
+    → HasPostedGoals c.point-to.new.pass.view
+loads_goals g c all =
+    HasPostedGoals-same c.args.pass.now.view c.point-to.new.pass.view (loads g c).sees_anew.goes_on (loads_whole g c all)
+
+pub returns-then-clear-clause-goals : goal.returns-then-clear-clause-goals
+returns-then-clear-clause-goals g c all posted =
+    let to = (goal.at.returns-then-clear-clause-goals g c).After-seen_cost in
+    let all_before = HasWholeShare-later NamesTree c.args.pass.now.view c.point-to.new.pass.view (loads g to).sees_anew all in
+    let all_mid = HasWholeShare-later NamesTree c.point-to.new.pass.view c.improve.new.pass.view c.improve.ensures.steps.sees_anew all_before in
+    c.spread.ensures.goals all_mid (c.improve.ensures.goals all_before (loads_goals g to all posted))
+
+pub returns-else-costs_less_through-clause-goals : goal.returns-else-costs_less_through-clause-goals
+returns-else-costs_less_through-clause-goals g c = loads_goals g (goal.at.returns-else-costs_less_through-clause-goals g c).After-seen_cost

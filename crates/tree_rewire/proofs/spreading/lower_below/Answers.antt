@@ -1,11 +1,11 @@
 use Rattle.std.proofs.Common.{◌≡◌, ◌⊎◌, ◌+◌, ◌<◌, ◌≤◌, Some, None, ap, arith, inl, inr, length, refl, subst, sym, ◌∙◌}
 use Rattle.plan_words.specs.States.{HasWholeShare, with_lists}
 use Rattle.plan_words.specs.Waiting.{IsOn}
-use Rattle.plan_words.proofs.Posting.{HasPostedHand-calm}
+use Rattle.plan_words.proofs.PostedGoals.{HasPostedGoals-children}
 use Rattle.step_core.specs.declared.views.SharedRun.{SharedRun}
 use Rattle.tree_rewire.specs.SeenCosts.{NamesTreeOrPoint, PassLowers, cost_seen}
 use Rattle.tree_rewire.specs.Spreads.{IsSpreading, NoneRises, QueuesFallen}
-use Rattle.tree_rewire.proofs.CostSteps.{PassLowers-lists, PassLowers-sees, PassLowers-trans}
+use Rattle.tree_rewire.proofs.CostSteps.{HasPostedHand-later, PassLowers-lists, PassLowers-sees, PassLowers-trans}
 use Rattle.tree_rewire.proofs.LoweredBelow.{IsSpreading-found, NoneRises-children, NoneRises-settled, NoneRises-trans, PassLowers-looks}
 use Rattle.tree_rewire.proofs.LoweredBelow.{QueuesFallen-same, QueuesFallen-then, SpreadsFrom-all}
 use Rattle.tree_rewire.proofs.SeenCosts.{cost_seen-later, pair_low}
@@ -25,8 +25,13 @@ whole_now c all = HasWholeShare-later NamesTreeOrPoint c.args.pass.now.view c.tr
 
 pub lower_children-requires-clause-posted : goal.lower_children-requires-clause-posted
 lower_children-requires-clause-posted c =
-    let steps = c.tries.invariant.steps in
-    HasPostedHand-calm c.args.shared.now c.tries.pass.view steps.belongs.run c.requires.plain
+    HasPostedHand-later NamesTreeOrPoint c.args.pass.now.view c.tries.pass.view c.tries.invariant.steps.sees_anew c.requires.posted
+
+pub settle-requires-clause-posted : goal.settle-requires-clause-posted
+settle-requires-clause-posted c =
+    HasPostedHand-later NamesTreeOrPoint c.args.pass.now.view c.lower_children.new.pass.view
+    (PassLowers-trans c.args.shared.now c.args.pass.now c.tries.pass c.lower_children.new.pass c.tries.invariant.steps
+    (lowers (goal.at.settle-requires-clause-posted c).After-lower_children)).sees_anew c.requires.posted
 
 pub queue_parent-requires : goal.queue_parent-requires
 queue_parent-requires c =
@@ -134,6 +139,8 @@ tries-preserved c =
           queue.parent node first (h.spreads node first start));
       falls = NoneRises-trans old.view now.view new.view h.falls more;
       queued = QueuesFallen-then old now new h.queued h.falls more (step.sees_anew.goes_on.later.run ∙ run) (queued_then at) run;
+      goals = λ all.
+          absurd (let none = found.whole (HasWholeShare-later NamesTreeOrPoint old.view now.view h.steps.sees_anew all) in cc);
       whole = λ all.
           absurd (let none = found.whole (HasWholeShare-later NamesTreeOrPoint old.view now.view h.steps.sees_anew all) in cc);
     }
@@ -166,3 +173,10 @@ returns-clause-whole c =
     KeepsParents-trans c.args.pass.now.view c.tries.pass.view c.lower_children.new.pass.view (c.tries.invariant.whole all)
     (KeepsParents-children c.tries.pass.view c.lower_children.new.pass.view c.args.node c.lower_children.ensures.looks
     (c.lower_children.ensures.points (whole_now at all)) c.in_default.ensures.lowered)
+
+pub returns-clause-goals : goal.returns-clause-goals
+returns-clause-goals c =
+    let at = (goal.at.returns-clause-goals c).After-lower_children in
+    λ all posted.
+    HasPostedGoals-children c.tries.pass.view c.lower_children.new.pass.view c.lower_children.ensures.looks.goes_on
+    (c.lower_children.ensures.points (whole_now at all)) c.in_default.ensures.posted (c.tries.invariant.goals all posted)

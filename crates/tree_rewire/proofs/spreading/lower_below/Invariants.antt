@@ -1,4 +1,5 @@
 use Rattle.std.proofs.Common.{◌≡◌, ◌⊎◌, ◌+◌, ℕ, length}
+use Rattle.plan_words.specs.Bests.{HasPostedGoals}
 use Rattle.plan_words.specs.States.{HasWholeShare}
 use Rattle.plan_words.specs.Waiting.{IsOn}
 use Rattle.step_core.specs.declared.views.View.{View}
@@ -15,6 +16,7 @@ invariant-tries l = record {
       → IsSpreading node first l.pass.view (λ p. IsOn l.pass.lists.waiting p ⊎ (p ≡ l.node));
   falls : NoneRises l.fn.pass.view l.pass.view;
   queued : QueuesFallen l.fn.pass l.pass;
+  goals : HasWholeShare l.fn.pass.view → HasPostedGoals l.fn.pass.view → HasPostedGoals l.pass.view;
   whole : HasWholeShare l.fn.pass.view → KeepsParents l.fn.pass.view l.pass.view;
 }
 

@@ -3,7 +3,7 @@ use Rattle.step_core.specs.WordNames.Word.{TreeOf}
 use Rattle.step_core.specs.Words.{cost_in}
 use Rattle.tree_rewire.specs.SeenCosts.{NamesPoint, NamesTreeOrPoint, NamesTree, PassSees, cost_seen}
 use Rattle.tree_rewire.specs.Spreads.{OnlyAt}
-use Rattle.tree_rewire.proofs.CostSteps.{PassSees-lower, PassSees-more, PassSees-trans, TreeOrPoint-point, TreeOrPoint-tree}
+use Rattle.tree_rewire.proofs.CostSteps.{HasPostedHand-later, PassSees-lower, PassSees-more, PassSees-trans, TreeOrPoint-point, TreeOrPoint-tree}
 use Rattle.tree_rewire.proofs.spreading.settle.Goals as goal
 use Rattle.tree_rewire.proofs.spreading.settle.Goals.{After-lower-found}
 
@@ -17,8 +17,10 @@ all_steps c =
     (PassSees-trans NamesTreeOrPoint shared c.lowers.pass c.looser.new.pass c.lower-found.new.pass
     (PassSees-more NamesPoint NamesTreeOrPoint shared c.lowers.pass c.looser.new.pass TreeOrPoint-point looks)
     (PassSees-more NamesTree NamesTreeOrPoint shared c.looser.new.pass c.lower-found.new.pass TreeOrPoint-tree
-    (PassSees-lower shared c.looser.new.pass c.lower-found.new.pass c.args.node c.in-Some.parent c.in-Some.cost _ _ c.lower-found.result looks.belongs
-    (lower.view c.requires.plain) lower.view_found lower.goes_on lower.seen)))
+    (PassSees-lower shared c.looser.new.pass c.lower-found.new.pass c.args.node _ _ c.lower-found.result looks.belongs
+    (HasPostedHand-later NamesPoint c.lowers.pass.view c.looser.new.pass.view looks.sees_anew
+    (HasPostedHand-later NamesTreeOrPoint c.args.pass.now.view c.lowers.pass.view c.lowers.invariant.steps.sees_anew c.requires.posted))
+    lower.kept lower.view_found lower.goes_on lower.seen)))
 
 only_here : (c : After-lower-found) → OnlyAt c.args.node c.args.pass.now.view c.lower-found.new.pass.view
 only_here c m apart =

@@ -1,11 +1,12 @@
 use Rattle.std.proofs.Common.{◌≡◌, ◌⊎◌, ◌≤◌, ◌+◌, [], ap, arith, inl, inr, length, refl, subst, sym, ◌∙◌}
+use Rattle.plan_words.specs.Bests.{HasPostedGoals, HasPostedHand}
 use Rattle.plan_words.specs.States.{HasWholeShare, with_lists}
 use Rattle.plan_words.specs.Waiting.{HasSeenParent, IsOn}
 use Rattle.step_core.specs.declared.views.SharedRun.{SharedRun}
 use Rattle.step_core.specs.declared.views.View.{View}
 use Rattle.tree_rewire.specs.SeenCosts.{NamesTreeOrPoint, PassLowers, SeesPair}
 use Rattle.tree_rewire.specs.Spreads.{IsSpreading, KeepsParents}
-use Rattle.tree_rewire.proofs.CostSteps.{PassLowers-lists, PassLowers-trans}
+use Rattle.tree_rewire.proofs.CostSteps.{HasPostedHand-later, PassLowers-lists, PassLowers-trans}
 use Rattle.tree_rewire.proofs.LoweredBelow.{measure_falls}
 use Rattle.tree_rewire.proofs.SeenCosts.{pair_low}
 use Rattle.tree_rewire.proofs.SpreadCosts.{HasSettledChanges-ends, HasSpread-ends, IsSpreading-begins, IsSpreading-waits}
@@ -40,6 +41,7 @@ falls-init c =
           (IsSpreading-begins c.args.node old.view new.lists.waiting c.requires.belongs.lawful c.requires.pair
           (λ n own. c.queue_parent.ensures.parent n (subst (λ v. HasSeenParent v c.args.node n) (sym view_is) own))
           (λ n on. subst (λ ns. IsOn ns n ⊎ (n ≡ c.args.node)) (ap (λ p. p.lists.waiting) clear) (c.queue_parent.ensures.only n on)));
+      goals = λ all. subst (λ v. HasPostedGoals old.view → HasPostedGoals v) (sym (ap (λ p. p.view) queue ∙ view_is)) (λ posted. posted);
       whole = λ all. subst (KeepsParents old.view) (sym (ap (λ p. p.view) queue ∙ view_is)) (KeepsParents-same old.view old.view (λ name. refl));
     }
 
@@ -54,6 +56,11 @@ pub lower_below-requires-clause-pair : goal.lower_below-requires-clause-pair
 lower_below-requires-clause-pair c =
     subst (λ v. SeesPair v c.in-Some.fallen) (sym (ap (λ p. p.view) c.pop_waiting.ensures.others))
     (c.falls.invariant.spreads.pairs c.in-Some.fallen c.in-Some.ensures.was_on)
+
+pub lower_below-requires-clause-posted : goal.lower_below-requires-clause-posted
+lower_below-requires-clause-posted c =
+    subst HasPostedHand (sym (ap (λ p. p.view) c.pop_waiting.ensures.others))
+    (HasPostedHand-later NamesTreeOrPoint c.args.pass.now.view c.falls.pass.view c.falls.invariant.steps.sees_anew c.requires.posted)
 
 pub falls-smaller : goal.falls-smaller
 falls-smaller c =
@@ -91,6 +98,9 @@ falls-preserved c =
             | inr e ↦ subst (SeesPair now.view) (sym e) (h.spreads.pairs fallen c.in-Some.ensures.was_on)
           ])
           h.spreads));
+      goals = λ all posted.
+          subst (λ v. HasWholeShare v → HasPostedGoals v → HasPostedGoals new.view) view_is c.lower_below.ensures.goals
+          (HasWholeShare-later NamesTreeOrPoint old.view now.view h.steps.sees_anew all) (h.goals all posted);
       whole = λ all.
           KeepsParents-trans old.view now.view new.view (h.whole all)
           (subst (λ v. HasWholeShare v → KeepsParents v new.view) view_is c.lower_below.ensures.whole
@@ -136,6 +146,9 @@ returns-clause-whole_tight c =
     λ all tight.
     AllTight-spread c.args.node old.view new.view goes_on.lawful
     (goes_on.lawful.order (HasWholeShare-later NamesTreeOrPoint old.view new.view steps.sees_anew all)) goes_on.later (whole_at at all) spread tight
+
+pub returns-clause-goals : goal.returns-clause-goals
+returns-clause-goals c all posted = subst HasPostedGoals (sym (ap (λ p. p.view) c.pop_waiting.ensures.others)) (c.falls.invariant.goals all posted)
 
 pub returns-clause-belongs : goal.returns-clause-belongs
 returns-clause-belongs c = (pops (goal.at.returns-clause-belongs c).After-pop_waiting).belongs

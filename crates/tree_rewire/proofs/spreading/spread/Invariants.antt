@@ -1,4 +1,5 @@
 use Rattle.std.proofs.Common.{◌+◌, ◌*◌, length}
+use Rattle.plan_words.specs.Bests.{HasPostedGoals}
 use Rattle.plan_words.specs.States.{HasWholeShare}
 use Rattle.plan_words.specs.Waiting.{IsOn}
 use Rattle.tree_rewire.specs.SeenCosts.{PassLowers}
@@ -10,6 +11,7 @@ abbrev pub invariant-falls : goal.invariant-falls
 invariant-falls l = record {
   steps : PassLowers l.shared l.fn.pass l.pass;
   spreads : IsSpreading l.node l.fn.pass.view l.pass.view (IsOn l.pass.lists.waiting);
+  goals : HasWholeShare l.fn.pass.view → HasPostedGoals l.fn.pass.view → HasPostedGoals l.pass.view;
   whole : HasWholeShare l.fn.pass.view → KeepsParents l.fn.pass.view l.pass.view;
 }
 

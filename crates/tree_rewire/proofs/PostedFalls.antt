@@ -1,0 +1,27 @@
+-- Goal nodes of which the best word is at most the pair, while a pass with the whole share lowers costs.
+use Rattle.std.proofs.Common.{◌≡◌, ◌≢◌, ℕ, ◌<◌, ◌≤◌, ◌^◌, Result, Ok, Err, arith, ap, ◌∙◌}
+use Rattle.std.specs.Prelude.{IfOk, IsOk}
+use Rattle.plan_words.specs.Bests.{HasPostedGoals}
+use Rattle.plan_words.specs.States.{GoesOn}
+use Rattle.plan_words.proofs.PostedGoals.{HasPostedGoals-more, SeesGoal-kept}
+use Rattle.step_core.specs.SeenBests.{SeesGoal}
+use Rattle.step_core.specs.Views.{sees}
+use Rattle.step_core.specs.WordNames.{WritesWord}
+use Rattle.step_core.specs.WordNames.Word.{PointOf, TreeOf}
+use Rattle.step_core.specs.Words.{best_word, cost_in, tree_word}
+use Rattle.step_core.specs.declared.views.View.{View}
+use Rattle.step_core.proofs.PackedWords.{cost_in-tree_word}
+
+-- a node is lowered, and posted if it is a goal node
+pub HasPostedGoals-lower : (before after : View) (n parent cost value : ℕ) (result : Result Unit (ℕ × ℕ)) → parent < 2 ^ 18 → cost < 2 ^ 44
+    → GoesOn before after → WritesWord (TreeOf n) value (sees before) (sees after) → IsOk result
+    → IfOk result (λ done. sees after (TreeOf n) ≡ tree_word parent cost) → IfOk result (λ done. SeesGoal before n → after.best ≤ best_word cost n)
+    → HasPostedGoals before → HasPostedGoals after
+HasPostedGoals-lower before after n parent cost value (Ok done) small low goes_on writes ok lowered posted =
+    let cost_is : cost_in (sees after (TreeOf n)) ≡ cost = ap cost_in lowered ∙ cost_in-tree_word parent cost small low in
+    HasPostedGoals-more before after goes_on.later n (λ i apart. writes.others (PointOf i) (λ e. cc))
+    (λ i apart. writes.others (TreeOf i) (λ e. apart cc))
+    (λ goal.
+    let was = SeesGoal-kept before after n goes_on.later (writes.others (PointOf n) (λ e. cc)) goal in
+    omega (arith, posted was, ap (λ c. best_word c n) cost_is))
+HasPostedGoals-lower before after n parent cost value (Err pair) small low goes_on writes ok lowered posted = cc
