@@ -1,8 +1,9 @@
 #!/usr/bin/env python3
 """Tries wrong bodies that the contracts must refuse, besides those that the gate tries.
 
-Usage: wrong_bodies.py all, or wrong_bodies.py CRATE.. for the wrong bodies of some crates. Each is an edit of the form that CONTRIBUTING.md says, in wrong_bodies/CRATE/. A copy of the crates gets these in place of
-the gate's, and `rt must-fail` tries them there. It ends with 1 if a crate is still proved with one of them.
+Usage: wrong_bodies.py all, or wrong_bodies.py CRATE.. for the wrong bodies of some crates. Each is an edit of the form
+that CONTRIBUTING.md says, in wrong_bodies/CRATE/. A copy of the crates gets these in place of the gate's, and
+`rt must-fail` tries them there. It ends with 1 if a crate is still proved with one of them.
 """
 
 import os
