@@ -4,6 +4,7 @@
 Usage: compare.py PROGRAM [FIRST [COUNT]]. For each number from FIRST on (0 and 200 if left out), of each version:
 - `plain`, `plan 1`, `plain full` and `plan 1 full` write what textbook.py writes, and end with its status;
 - `smooth 1` writes what smoothing.py writes;
+- `anytime 1 S`, for a drawn S, writes what anytime.py writes; `anytime 4 S` gives paths that fall to that of its report;
 - `plan W full`, for W of WORKERS, writes a report that judge.py finds lawful;
 - `show` writes the canonical text, `convert` that of the scene in version 2, and both for a text with faults the line and the kind of
   the first;
@@ -18,8 +19,11 @@ import subprocess
 import sys
 from collections import Counter
 
+from anytime import anytime_answer, fit
+from geometry import Space
 from judge import verdict
 from make_scenes import scene_of, with_faults
+from rules import mark_points
 from scene import Fault, read
 from smoothing import smoothed_answer
 from textbook import answer
@@ -58,6 +62,7 @@ class Comparison:
                 words = f"{planner} full" if full else planner
                 self.note(number, f"{words}, by the textbook", self.run(words, text) == wanted)
         self.note(number, "smooth 1, by all choices", self.run("smooth 1", text) == smoothed_answer(text))
+        self.compare_slices(number, scene, text)
         for workers in WORKERS:
             words = f"plan {workers} full"
             output, status = self.run(words, text)
@@ -66,6 +71,16 @@ class Comparison:
                 continue
             self.note(number, words, verdict(scene, output) == "lawful")
             self.compare_mutant(number, scene, output)
+
+    def compare_slices(self, number, scene, text):
+        """Compares the better paths that come slice by slice."""
+        slice_size = random.Random(f"slice {number}").choice([1, 1, 2, 3, 5, 262143])
+        wanted = anytime_answer(text, slice_size)
+        self.note(number, "anytime 1, by the textbook", self.run(f"anytime 1 {slice_size}", text) == wanted)
+        if wanted[1] < 2:
+            output, status = self.run(f"anytime 4 {slice_size}", text)
+            right = status < 2 and fit(output, slice_size, len(mark_points(scene, Space(scene))))
+            self.note(number, "anytime 4, as far as it shows", right)
 
     def compare_mutant(self, number, scene, report):
         """Changes one number of a report: the judge is to refuse it, unless it is lawful all the same."""

@@ -8,20 +8,21 @@ use Rattle.std.specs.List.{FoldsTo}
 use Rattle.futures.specs.declared.task.Poll.TheVariants.{Ready, Pending}
 use Rattle.futures.specs.declared.task.Poll.{Poll}
 use Rattle.std.specs.Prelude.{Result}
-use Rattle.plan_model.proofs.SettledRuns.{IsGoalNode-grows}
+use Rattle.plan_model.proofs.GoalNodes.{IsGoalNode-grows}
 use Rattle.plan_model.proofs.TreeStateLaws.{GrowsInto-refl, GrowsInto-trans}
 use Rattle.plan_model.specs.Runs.ClosedLaw.{IsClosed}
 use Rattle.plan_model.specs.Runs.Textbook.{setup_of}
 use Rattle.plan_model.specs.Trees.BestNode.{IsGoalNode, goals_of}
 use Rattle.plan_model.specs.Trees.TreeStates.{GrowsInto, IsSettled, sum_in}
 use Rattle.plan_model.specs.declared.errors.Memory.{Memory}
+use Rattle.plan_model.specs.declared.records.Record.{Record}
 use Rattle.plan_model.specs.declared.scenes.Scene.{Scene}
 use Rattle.plan_model.specs.declared.tasks.Task.{Task}
 use Rattle.plan_work.specs.OneWorker.{IsOfTextbook}
 use Rattle.step_core.specs.GrownRuns.{state_of_grown}
 use Rattle.step_core.specs.declared.grown.Grown.{Grown}
 use Rattle.any_time.proofs.BestNodes.{AreNumberedTo-grown, IsGoalNode-best, IsPresent-best}
-use Rattle.any_time.proofs.FirstPaths.{AreSlices-next, below_next, none_below}
+use Rattle.any_time.proofs.FirstPaths.{AreSlices-next, below_next, none_below, some_entry}
 use Rattle.any_time.proofs.FoundPaths.{LeadsIntoGoal-grows, LeadsIntoGoal-shown}
 use Rattle.any_time.proofs.SunkSums.{Sinks, Sinks-grows}
 use Rattle.any_time.specs.BestPaths.{Shows, best_sum}
@@ -51,6 +52,14 @@ run_of : (task : Task) (workers slice : ℕ) (run : Grown) (last : Option Last) 
 run_of task workers slice run None h = h.0
 run_of task workers slice run (Some last) h = h.0
 
+-- a mark that was handled has the record that it had
+kept_record : (before after : Grown) → GrowsInto (state_of_grown before) (state_of_grown after) → (k : ℕ) (entry : Record)
+    → (state_of_grown after).record_of k ≡ Some entry → k < before.limit → (state_of_grown before).record_of k ≡ Some entry
+kept_record before after grows k entry is low =
+    let old = some_entry _ (before.hold_run.closed.records.recorded k low) in
+    let kept = grows.records k old.0 old.1 in
+    old.1 ∙ sym kept ∙ is
+
 -- the next marks
 IsRunOf-handles : (task : Task) (workers slice : ℕ) (before after : Grown) → IsRunOf task workers slice before
     → Handles workers slice before after → IsRunOf task workers slice after
@@ -62,6 +71,11 @@ IsRunOf-handles task workers slice before after h handles =
       slices =
           AreSlices-next slice (length task.marks) before.limit after.limit h.slices handles.some
           (subst (λ n. after.limit ≡ min (before.limit + slice) n) all handles.limit);
+      by_workers = λ k entry is.
+          elim (cases_lt k before.limit) [
+            | inl low ↦ h.by_workers k entry (kept_record before after handles.grows k entry is low)
+            | inr high ↦ handles.by_workers k entry is high
+          ];
       textbook = λ one. handles.textbook one (h.textbook one);
     }
 
@@ -100,7 +114,7 @@ goes_on task workers slice before after (Some last) h handles worse = (
 -- ---- runs that grow
 
 -- the later run, if it is there, has come of the earlier one
-abbrev Reaches : Option Grown → Option Grown → Type 0
+abbrev pub Reaches : Option Grown → Option Grown → Type 0
 Reaches before None = Unit {0}
 Reaches None (Some after) = ⊥
 Reaches (Some before) (Some after) = (after.task ≡ before.task) × GrowsInto (state_of_grown before) (state_of_grown after)
@@ -126,7 +140,7 @@ reaches_pending s None after h = absurd h
 reaches_pending s (Some b) None h = absurd h
 reaches_pending s (Some b) (Some a) h = (h.1.task, h.1.grows)
 
-first_better : (best : Option ℕ) (last : Option Last) → IsBetter best last ⊎ (¬ IsBetter best last)
+pub first_better : (best : Option ℕ) (last : Option Last) → IsBetter best last ⊎ (¬ IsBetter best last)
 first_better None last = inr (λ h. h)
 first_better (Some cost) None = inl tt
 first_better (Some cost) (Some last) = elim (cases_lt cost last.cost) [ inl less ↦ inl less | inr not ↦ inr (λ h. omega (arith, h, not)) ]
@@ -150,18 +164,18 @@ reaches_once s u (Ready None) h = subst (λ (v : SessionState). Reaches s.run v.
 reaches_once s u (Ready (Some (Ok item))) h = reaches_given s item s.run u.run h.2
 reaches_once s u (Ready (Some (Err e))) h = Reaches-gone s.run u.run h.2
 
-reaches_on : (s t : SessionState) (answers : Answers) → FoldsTo Polls s answers t → Reaches s.run t.run
+pub reaches_on : (s t : SessionState) (answers : Answers) → FoldsTo Polls s answers t → Reaches s.run t.run
 reaches_on s t [] h = subst (λ (u : SessionState). Reaches s.run u.run) h (Reaches-refl s.run)
 reaches_on s t (answer ∷ answers) h = Reaches-trans s.run h.0.run t.run (reaches_once s h.0 answer h.1) (reaches_on h.0 t answers h.2)
 
 -- ---- one item
 
-cheaper : (best : Option ℕ) (cost : ℕ) (last : Option Last) → best ≡ Some cost → IsBetter best last → IfSome last (λ l. cost < l.cost)
+pub cheaper : (best : Option ℕ) (cost : ℕ) (last : Option Last) → best ≡ Some cost → IsBetter best last → IfSome last (λ l. cost < l.cost)
 cheaper best cost None e better = tt
 cheaper None cost (Some last) e better = absurd better
 cheaper (Some x) cost (Some last) e better = let c : x ≡ cost = cc in omega arith
 
-best_shown : (run : Grown) (item : Better) → Shows run item → best_sum run ≡ Some item.cost
+pub best_shown : (run : Grown) (item : Better) → Shows run item → best_sum run ≡ Some item.cost
 best_shown run item shown = ap (option_map (sum_in (state_of_grown run))) shown.best ∙ ap Some (sym shown.cost)
 
 -- a run is no better than the item that it gave
@@ -350,6 +364,7 @@ ends task workers slice run last h whole best =
       all_marks = all;
       closed = subst (λ (t : Task). IsClosed (setup_of t.scene) t.marks (length task.marks) (state_of_grown run)) h.of_task closed;
       settled = h.settled;
+      by_workers = h.by_workers;
       textbook = h.textbook;
       best = best;
     }
@@ -361,14 +376,25 @@ ended task workers slice None last tied over = tt
 ended task workers slice (Some run) None tied over = ends task workers slice run None tied.0 over.0 (no_best _ over.1)
 ended task workers slice (Some run) (Some last) tied over = ends task workers slice run (Some last) tied.0 over.0 tied.1.cost
 
+no_record : (run : Grown) (k : ℕ) (entry : Record) → (state_of_grown run).record_of k ≡ Some entry → run.limit ≡ 0 → ⊥
+no_record run k entry is zero = let none = run.hold_run.closed.records.none_else k (omega (arith, zero)) in cc
+
 fresh : (task : Task) (workers slice : ℕ) (run : Option Grown) (last : Option Last) → last ≡ None
     → IsSomeAnd run (λ r. (r.task ≡ task) × (r.limit ≡ 0) × IsSettled (state_of_grown r) × IsOfTextbook r)
     → Tied task workers slice run last
 fresh task workers slice None last e h = tt
 fresh task workers slice (Some run) last e h =
     subst (λ (l : Option Last). Tied task workers slice (Some run) l) (sym e)
-    (let none : 0 * slice ≡ 0 = omega arith in
-    (record { of_task = h.0; settled = h.2; slices = inl (0, h.1 ∙ sym none); textbook = λ one. h.3 }, inr h.1))
+    (let none : 0 * slice ≡ 0 = omega arith in (
+      record {
+        of_task = h.0;
+        settled = h.2;
+        slices = inl (0, h.1 ∙ sym none);
+        by_workers = λ k entry is. absurd (no_record run k entry is h.1);
+        textbook = λ one. h.3;
+      },
+      inr h.1,
+    ))
 
 pub items_fall_on : ItemsFall
 items_fall_on task workers slice s t answers new polled =

@@ -19,7 +19,7 @@ use Rattle.any_time.proofs.BestNodes.{none-best}
 use Rattle.any_time.specs.BestPaths.{best_sum}
 use Rattle.any_time.specs.Items.{AreSlices}
 
-some_entry : (o : Option Record) → IsSome o → (entry : Record) × (o ≡ Some entry)
+pub some_entry : (o : Option Record) → IsSome o → (entry : Record) × (o ≡ Some entry)
 some_entry None h = cc
 some_entry (Some entry) h = (entry, refl)
 

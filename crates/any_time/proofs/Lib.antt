@@ -3,4 +3,8 @@ pub mod SunkSums
 pub mod FoundPaths
 pub mod FirstPaths
 pub mod FallingItems
+pub mod KnownOptions
+pub mod SamePaths
+pub mod TextbookSlices
 pub mod PolledSessions
+pub mod GatheredItems

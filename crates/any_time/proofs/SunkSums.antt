@@ -2,7 +2,8 @@
 use Rattle.std.proofs.Common.{◌≡◌, ◌≤◌, ℕ, Option, Some, None, IfSome, IsSomeAnd, refl, sym, ap, subst}
 use Rattle.std.specs.Prelude.{option_map}
 use Rattle.plan_model.proofs.BestNodeLaws.{best_node-some}
-use Rattle.plan_model.proofs.SettledRuns.{IsGoalNode-grows, best_sum-grows}
+use Rattle.plan_model.proofs.GoalNodes.{IsGoalNode-grows}
+use Rattle.plan_model.proofs.SettledRuns.{best_sum-grows}
 use Rattle.plan_model.specs.Trees.BestNode.{IsBestNode, goals_of}
 use Rattle.plan_model.specs.Trees.TreeStates.{GrowsInto, IsSettled, sum_in}
 use Rattle.plan_model.specs.declared.scenes.Scene.{Scene}

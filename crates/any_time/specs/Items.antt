@@ -7,6 +7,7 @@ use Rattle.plan_model.specs.Runs.ClosedLaw.{IsClosed}
 use Rattle.plan_model.specs.Runs.Textbook.{setup_of}
 use Rattle.plan_model.specs.Trees.TreeStates.{GrowsInto, IsSettled}
 use Rattle.plan_model.specs.declared.errors.Memory.{Memory}
+use Rattle.plan_model.specs.declared.records.Record.{Record}
 use Rattle.plan_model.specs.declared.tasks.Task.{Task}
 use Rattle.plan_work.specs.OneWorker.{IsOfTextbook}
 use Rattle.step_core.specs.GrownRuns.{state_of_grown}
@@ -46,11 +47,16 @@ last_among last (better ∷ rest) = last_among (Some (last_of better)) rest
 abbrev pub AreSlices : ℕ → ℕ → ℕ → Type 0
 AreSlices slice all marks = ((k : ℕ) × (marks ≡ k * slice)) ⊎ (marks ≡ all)
 
+-- Each mark of the run was handled by one of so many workers, numbered from 0.
+abbrev pub IsByWorkers : ℕ → Grown → Type 0
+IsByWorkers workers run = (k : ℕ) (entry : Record) → (state_of_grown run).record_of k ≡ Some entry → entry.worker < workers
+
 -- The run is a settled one of the task, after a number of whole slices or all marks; by one worker it is the textbook's over these marks.
 pub record IsRunOf (task : Task) (workers slice : ℕ) (run : Grown) : Type 0 where
   pub of_task : run.task ≡ task
   pub settled : IsSettled (state_of_grown run)
   pub slices : AreSlices slice (length task.marks) run.limit
+  pub by_workers : IsByWorkers workers run
   pub textbook : workers ≡ 1 → IsOfTextbook run
 
 -- The item is the best path of such a run, which has grown into the later one.
@@ -80,6 +86,7 @@ pub record EndsWith (task : Task) (workers : ℕ) (last : Option Last) (run : Gr
   pub all_marks : run.limit ≡ length task.marks
   pub closed : IsClosed (setup_of task.scene) task.marks (length task.marks) (state_of_grown run)
   pub settled : IsSettled (state_of_grown run)
+  pub by_workers : IsByWorkers workers run
   pub textbook : workers ≡ 1 → IsOfTextbook run
   pub best : best_sum run ≡ option_map (λ (l : Last). l.cost) last
 

@@ -1,9 +1,10 @@
 -- What a poll of a session does.
-use Rattle.std.specs.Prelude.{◌≡◌, ◌<◌, ◌+◌, ℕ, min, Option, Some, None, Result, Ok, Err, IsSomeAnd, MatchOption, length}
+use Rattle.std.specs.Prelude.{◌≡◌, ◌<◌, ◌≤◌, ◌+◌, ℕ, min, Option, Some, None, Result, Ok, Err, IsSomeAnd, MatchOption, length}
 use Rattle.futures.specs.declared.task.Poll.{Poll}
 use Rattle.futures.specs.declared.task.Poll.TheVariants.{Ready, Pending}
 use Rattle.plan_model.specs.Trees.TreeStates.{GrowsInto, IsSettled}
 use Rattle.plan_model.specs.declared.errors.Memory.{Memory}
+use Rattle.plan_model.specs.declared.records.Record.{Record}
 use Rattle.plan_model.specs.declared.tasks.Task.{Task}
 use Rattle.plan_work.specs.OneWorker.{IsOfTextbook}
 use Rattle.step_core.specs.GrownRuns.{state_of_grown}
@@ -26,14 +27,15 @@ IsBetter None last = ⊥
 IsBetter (Some cost) None = Unit {0}
 IsBetter (Some cost) (Some last) = cost < last.cost
 
--- The next marks were handled, so many or the rest, and at least one; the run is settled. By one worker they were handled as the
--- textbook does.
+-- The next marks were handled, so many or the rest, and at least one, by workers numbered from 0; the run is settled. By one worker they
+-- were handled as the textbook does.
 pub record Handles (workers slice : ℕ) (before after : Grown) : Type 0 where
   pub task : after.task ≡ before.task
   pub some : before.limit < after.limit
   pub limit : after.limit ≡ min (before.limit + slice) (length before.task.marks)
   pub grows : GrowsInto (state_of_grown before) (state_of_grown after)
   pub settled : IsSettled (state_of_grown after)
+  pub by_workers : (k : ℕ) (entry : Record) → (state_of_grown after).record_of k ≡ Some entry → before.limit ≤ k → entry.worker < workers
   pub textbook : workers ≡ 1 → IsOfTextbook before → IsOfTextbook after
 
 -- all marks are handled and no better path is left, or an item `Memory` was given

@@ -1,6 +1,7 @@
 //! Laws of sessions, each the contract of a function that does nothing.
 
 ghost use Rattle.any_time.specs.Items.{ItemsFall};
+ghost use Rattle.any_time.specs.TextbookItems.{GivesTextbookItems};
 
 /// However often a session is polled: costs of the items strictly fall and their marks strictly rise, and each is the best path of the
 /// settled run after so many marks. Each is a path of the run at any later time too, though parents may have changed since, and the
@@ -8,4 +9,10 @@ ghost use Rattle.any_time.specs.Items.{ItemsFall};
 /// the last item has the cost of its best path. By one worker the runs are the textbook's.
 pub fn items_fall()
     ensures { ItemsFall }
+{}
+
+/// A session by one worker that is polled until its end, and has its run, has given the items of the textbook's runs after each whole number of
+/// slices and after all marks, and no others: the best path of each such run that is cheaper than those of all before it.
+pub fn one_worker_gives_textbook_items()
+    ensures { GivesTextbookItems }
 {}

@@ -8,12 +8,18 @@
 //! A session is a stream over each collision checker in which runs can grow: [`Growing`].
 #![tactic(auto)]
 
+mod better_reports;
 mod betters;
+mod gathering;
 mod growing;
 mod laws;
+mod lists;
 mod sessions;
 
+pub use better_reports::better_report;
 pub use betters::{Better, Last};
+pub use gathering::{FinishedSession, finish_session};
 pub use growing::{Growing, grow_slice};
-pub use laws::items_fall;
+pub use laws::{items_fall, one_worker_gives_textbook_items};
+pub use lists::{BetterLists, Betters, Growns};
 pub use sessions::Session;

@@ -3,4 +3,6 @@
 #![tactic(auto)]
 
 #[cfg(test)]
+mod finished;
+#[cfg(test)]
 mod sessions;

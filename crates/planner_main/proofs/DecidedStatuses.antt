@@ -95,6 +95,7 @@ pub Succeeds-low : (command : Command) (bytes : List ℕ) (done : Done) (text : 
 Succeeds-low (commands.Plain full) bytes done text s = rw s.meaning.reported.best (low_report _)
 Succeeds-low (commands.Plan workers full) bytes done text s = rw s.meaning.reported.best (low_report _)
 Succeeds-low (commands.Smooth workers) bytes done text s = rw s.meaning.reported.best (low_report _)
+Succeeds-low (commands.Anytime workers slice) bytes done text s = rw s.meaning.reported.best (low_report _)
 Succeeds-low commands.Show bytes done text s = omega (arith, s.meaning.status)
 Succeeds-low commands.Convert bytes done text s = omega (arith, s.meaning.written.status)
 Succeeds-low (commands.Gen number) bytes done text s = omega (arith, s.meaning.status)
@@ -104,6 +105,7 @@ greatest_success-low : (command : Command) → greatest_success command ≤ NO_P
 greatest_success-low (commands.Plain full) = omega arith
 greatest_success-low (commands.Plan workers full) = omega arith
 greatest_success-low (commands.Smooth workers) = omega arith
+greatest_success-low (commands.Anytime workers slice) = omega arith
 greatest_success-low commands.Show = omega arith
 greatest_success-low commands.Convert = omega arith
 greatest_success-low (commands.Gen number) = omega arith
@@ -120,6 +122,7 @@ spelled : (command : Command) (bytes : List ℕ) (scene : Scene) → IsSceneOf c
 spelled (commands.Plain full) bytes scene is reads = is
 spelled (commands.Plan workers full) bytes scene is reads = is
 spelled (commands.Smooth workers) bytes scene is reads = is
+spelled (commands.Anytime workers slice) bytes scene is reads = is
 spelled commands.Show bytes scene is reads = is
 spelled commands.Convert bytes scene is reads = is
 spelled (commands.Gen number) bytes scene is reads = absurd (false≢true reads)
@@ -141,6 +144,7 @@ by_meaning bytes command done text s reads = by command s reads (Succeeds-low co
     by (commands.Plain full) s reads low = by_scene bytes (commands.Plain full) done.status _ s reads low
     by (commands.Plan workers full) s reads low = by_scene bytes (commands.Plan workers full) done.status _ s reads low
     by (commands.Smooth workers) s reads low = by_scene bytes (commands.Smooth workers) done.status _ s reads low
+    by (commands.Anytime workers slice) s reads low = by_scene bytes (commands.Anytime workers slice) done.status _ s reads low
     by commands.Show s reads low = by_scene bytes commands.Show done.status _ s reads low
     by commands.Convert s reads low = by_scene bytes commands.Convert done.status _ s reads low
     by (commands.Gen number) s reads low = absurd (false≢true reads)

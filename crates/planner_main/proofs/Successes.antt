@@ -12,7 +12,7 @@ use Rattle.plan_model.specs.Trees.TreeStates.{IsSettled}
 use Rattle.step_core.specs.declared.grown.Grown.{Grown}
 use Rattle.step_core.specs.GrownRuns.{state_of_grown}
 use Rattle.planner_main.specs.declared.top_call.Done.{Done}
-use Rattle.planner_main.specs.Conclusions.{Report, ReportsGrown, ReportsScene, status_of_report}
+use Rattle.planner_main.specs.Conclusions.{HandsOutRunAlone, Report, ReportsGrown, ReportsScene, status_of_report}
 
 -- a settled run over all marks of its scene is reported by its status and such a text; that it is closed, its type says
 pub ReportsGrown-answer :
@@ -46,6 +46,10 @@ ReportsGrown-of_scene report scene grown done text of_scene reported =
 pub ReportsScene-textbook :
     (report : Report) (scene : Scene) (grown : Grown) (done : Done) (text : List ℕ) → grown.task.scene ≡ scene
     → ReportsGrown report grown.task.scene grown done text
-    → IsOfTextbookRun (setup_of scene) (mark_points scene) (state_of_grown grown) → ReportsScene report scene done text
-ReportsScene-textbook report scene grown done text of_scene reported run =
-    record { grown = grown; reported = ReportsGrown-of_scene report scene grown done text of_scene reported; textbook = run }
+    → IsOfTextbookRun (setup_of scene) (mark_points scene) (state_of_grown grown) → HandsOutRunAlone done → ReportsScene report scene done text
+ReportsScene-textbook report scene grown done text of_scene reported run alone = record {
+  grown = grown;
+  reported = ReportsGrown-of_scene report scene grown done text of_scene reported;
+  textbook = run;
+  alone = alone;
+}

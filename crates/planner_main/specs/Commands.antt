@@ -1,7 +1,7 @@
 -- The commands of the program, and the tables of what they read, what they test, and how they succeed.
 use Rattle.std.specs.Prelude.{ℕ, ◌≤◌, ◌&&◌, Bool, true, false, Option, Some, None, option_and_then, List, [], ◌∷◌, codes, bytes_eq, if◌then◌else◌}
 use Rattle.std.specs.Prelude.{pos, int_le, unsigned_abs}
-use Rattle.plan_model.specs.declared.limits.TheConstants.{MOST_WORKERS}
+use Rattle.plan_model.specs.declared.limits.TheConstants.{MOST_MARKS, MOST_WORKERS}
 use Rattle.plan_model.specs.Texts.TextNumbers.{is_number, value_of}
 use Rattle.planner_main.specs.declared.commands.Command.{Command}
 use Rattle.planner_main.specs.declared.commands.Command.TheVariants as commands
@@ -30,6 +30,12 @@ plan_by full word = option_and_then (λ workers. Some (commands.Plan workers ful
 abbrev pub smooth_by : List ℕ → Option Command
 smooth_by word = option_and_then (λ workers. Some (commands.Smooth workers)) (number_in 1 MOST_WORKERS word)
 
+-- the command to grow a run by so many workers, so many marks at a time, which two words say
+abbrev pub anytime_by : List ℕ → List ℕ → Option Command
+anytime_by second third =
+    option_and_then (λ workers. option_and_then (λ slice. Some (commands.Anytime workers slice)) (number_in 1 MOST_MARKS third))
+    (number_in 1 MOST_WORKERS second)
+
 -- the command of a word about the generated scene of a number
 abbrev pub command_about : List ℕ → ℕ → Option Command
 command_about word number =
@@ -44,10 +50,12 @@ command_of_two word second =
     else (if bytes_eq word (codes "smooth") then smooth_by second
     else option_and_then (command_about word) (number_in 0 MOST_GENERATED second)))
 
--- the command that three words ask for, if they ask for one: `plan`, a number of workers, and `full`
+-- the command that three words ask for, if they ask for one: `plan`, a number of workers, and `full`, or `anytime` and two numbers, of
+-- workers and of marks
 abbrev pub command_of_three : List ℕ → List ℕ → List ℕ → Option Command
 command_of_three word second third =
-    if bytes_eq word (codes "plan") && bytes_eq third (codes "full") then plan_by true second else None
+    if bytes_eq word (codes "plan") && bytes_eq third (codes "full") then plan_by true second
+    else (if bytes_eq word (codes "anytime") then anytime_by second third else None)
 
 -- the command that the words ask for, if they ask for one
 abbrev pub command_of : List (List ℕ) → Option Command
@@ -57,11 +65,13 @@ command_of (word ∷ second ∷ []) = command_of_two word second
 command_of (word ∷ second ∷ third ∷ []) = command_of_three word second third
 command_of (word ∷ second ∷ third ∷ fourth ∷ words) = None
 
--- if the command is about a generated scene, there is one of its number; a run is grown by at least one worker, and not too many
+-- if the command is about a generated scene, there is one of its number; a run is grown by at least one worker, and not too many, and by
+-- a mark at a time at least
 abbrev pub IsNumbered : Command → Type 0
 IsNumbered (commands.Plain full) = Unit {0}
 IsNumbered (commands.Plan workers full) = (1 ≤ workers) × (workers ≤ MOST_WORKERS)
 IsNumbered (commands.Smooth workers) = (1 ≤ workers) × (workers ≤ MOST_WORKERS)
+IsNumbered (commands.Anytime workers slice) = (1 ≤ workers) × (workers ≤ MOST_WORKERS) × (1 ≤ slice)
 IsNumbered commands.Show = Unit {0}
 IsNumbered commands.Convert = Unit {0}
 IsNumbered (commands.Gen number) = number ≤ MOST_GENERATED
@@ -72,6 +82,7 @@ abbrev pub input_of : Command → Input
 input_of (commands.Plain full) = one_scene
 input_of (commands.Plan workers full) = one_scene
 input_of (commands.Smooth workers) = one_scene
+input_of (commands.Anytime workers slice) = one_scene
 input_of commands.Show = one_scene
 input_of commands.Convert = one_scene
 input_of (commands.Gen number) = nothing
@@ -86,6 +97,7 @@ abbrev pub plans : Command → Bool
 plans (commands.Plain full) = true
 plans (commands.Plan workers full) = true
 plans (commands.Smooth workers) = true
+plans (commands.Anytime workers slice) = true
 plans commands.Show = false
 plans commands.Convert = false
 plans (commands.Gen number) = false
@@ -100,6 +112,7 @@ abbrev pub greatest_success : Command → ℕ
 greatest_success (commands.Plain full) = NO_PATH
 greatest_success (commands.Plan workers full) = NO_PATH
 greatest_success (commands.Smooth workers) = NO_PATH
+greatest_success (commands.Anytime workers slice) = NO_PATH
 greatest_success commands.Show = DONE
 greatest_success commands.Convert = DONE
 greatest_success (commands.Gen number) = DONE

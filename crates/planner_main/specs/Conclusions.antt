@@ -1,5 +1,5 @@
 -- What the program may answer: a success with its text, or a refusal with its cause and its line.
-use Rattle.std.specs.Prelude.{◌≡◌, ℕ, ◌<◌, ◌⊎◌, Bool, true, false, IsTrue, MatchBool, List, length}
+use Rattle.std.specs.Prelude.{◌≡◌, ℕ, ◌<◌, ◌⊎◌, Bool, true, false, IsTrue, MatchBool, List, [], ◌∷◌, length}
 use Rattle.std.specs.Prelude.{Option, Some, None, is_some, IsSome, IsSomeAnd, Result, IfOk, IfErr}
 use Rattle.plan_model.specs.declared.records.Record.{Record}
 use Rattle.plan_model.specs.declared.scenes.Scene.{Scene}
@@ -19,6 +19,9 @@ use Rattle.step_core.specs.declared.grown.Grown.{Grown}
 use Rattle.step_core.specs.GrownRuns.{state_of_grown}
 use Rattle.scene_text.specs.Fetching.{ReadsWithin}
 use Rattle.path_tools.specs.SmoothedReports.{IsSmoothedReport}
+use Rattle.any_time.specs.BetterPaths.{AreBetterPaths}
+use Rattle.any_time.specs.BetterReports.{better_report}
+use Rattle.any_time.specs.declared.betters.Better.{Better}
 use Rattle.planner_main.specs.declared.answers.Answer.{Answer}
 use Rattle.planner_main.specs.declared.commands.Command.{Command}
 use Rattle.planner_main.specs.declared.commands.Command.TheVariants as commands
@@ -33,8 +36,14 @@ use Rattle.planner_main.specs.Exchanges.{IsReadWhole, IsUnread, IsReadFault, IsT
 use Rattle.planner_main.specs.Refusals.{status_of, line_of}
 
 -- nothing is handed out beside the status
-abbrev pub HandsOutNothing : Done → Type 0
-HandsOutNothing done = done.run ≡ None
+pub record HandsOutNothing (done : Done) : Type 0 where
+  pub no_run : done.run ≡ None
+  pub no_batch : done.batch ≡ []
+  pub no_better : done.better ≡ []
+
+-- nothing is handed out beside the status and the run
+abbrev pub HandsOutRunAlone : Done → Type 0
+HandsOutRunAlone done = HandsOutNothing (record done { run = None })
 
 -- the status of a planned run: whether there is a path
 abbrev pub status_of_report : Bool → ℕ
@@ -53,6 +62,10 @@ IsReport full scene limit state text = text ≡ report_text full scene limit sta
 abbrev pub IsSummary : Report
 IsSummary scene limit state text = text ≡ summary scene limit state
 
+-- the text has a line for each of the better paths and then the short report
+abbrev pub IsBetterReport : List Better → Report
+IsBetterReport items scene limit state text = text ≡ better_report items scene limit state
+
 -- The run is of the scene, and of all its marks: it is closed at their number and settled. It is in what is done, the status
 -- says whether some node of it lies in a goal, and the text is such a report of it.
 pub record ReportsGrown (report : Report) (scene : Scene) (grown : Grown) (done : Done) (text : List ℕ) : Type 0 where
@@ -64,19 +77,33 @@ pub record ReportsGrown (report : Report) (scene : Scene) (grown : Grown) (done 
   pub best : done.status ≡ status_of_report (is_some (best_node (goals_of scene) grown.limit (state_of_grown grown)))
   pub written : report scene grown.limit (state_of_grown grown) text
 
--- There is a run that is such a one and the textbook run of the scene.
+-- There is a run that is such a one and the textbook run of the scene. It alone is handed out.
 pub record ReportsScene (report : Report) (scene : Scene) (done : Done) (text : List ℕ) : Type 0 where
   pub grown : Grown
   pub reported : ReportsGrown report scene grown done text
   pub textbook : IsOfTextbookRun (setup_of scene) (mark_points scene) (state_of_grown grown)
+  pub alone : HandsOutRunAlone done
 
--- The text is such a report of a run of the scene. Its marks were handled by so many workers at most, numbered from 0. By one worker it
--- is the textbook run of the scene.
+-- The text is such a report of a run of the scene, which alone is handed out. Its marks were handled by so many workers at most, numbered
+-- from 0. By one worker it is the textbook run of the scene.
 pub record ReportsPlan (workers : ℕ) (report : Report) (scene : Scene) (done : Done) (text : List ℕ) : Type 0 where
   pub grown : Grown
   pub reported : ReportsGrown report scene grown done text
   pub by_workers : (k : ℕ) (entry : Record) → (state_of_grown grown).record_of k ≡ Some entry → entry.worker < workers
   pub textbook : workers ≡ 1 → IsOfTextbookRun (setup_of scene) (mark_points scene) (state_of_grown grown)
+  pub alone : HandsOutRunAlone done
+
+-- The text is such a report of a run of the scene with its better paths. The run is handed out, and a list for it, which has these paths.
+-- Its marks were handled by so many workers at most, so many at a time. By one worker it is the textbook run of the scene.
+pub record ReportsBetterPaths (workers slice : ℕ) (scene : Scene) (done : Done) (text : List ℕ) : Type 0 where
+  pub grown : Grown
+  pub items : List Better
+  pub reported : ReportsGrown (IsBetterReport items) scene grown done text
+  pub by_workers : (k : ℕ) (entry : Record) → (state_of_grown grown).record_of k ≡ Some entry → entry.worker < workers
+  pub textbook : workers ≡ 1 → IsOfTextbookRun (setup_of scene) (mark_points scene) (state_of_grown grown)
+  pub given : done.better ≡ items ∷ []
+  pub better : AreBetterPaths workers slice grown items
+  pub alone : HandsOutNothing (record done { run = None; better = [] })
 
 -- the text is the canonical text of the scene
 pub record WritesScene (scene : Scene) (done : Done) (text : List ℕ) : Type 0 where
@@ -95,6 +122,7 @@ abbrev pub IsSceneOf : Command → List ℕ → Scene → Type 0
 IsSceneOf (commands.Plain full) bytes scene = IsTextOf scene bytes
 IsSceneOf (commands.Plan workers full) bytes scene = IsTextOf scene bytes
 IsSceneOf (commands.Smooth workers) bytes scene = IsTextOf scene bytes
+IsSceneOf (commands.Anytime workers slice) bytes scene = IsTextOf scene bytes
 IsSceneOf commands.Show bytes scene = IsTextOf scene bytes
 IsSceneOf commands.Convert bytes scene = IsTextOf scene bytes
 IsSceneOf (commands.Gen number) bytes scene = IsGenerated number scene
@@ -114,6 +142,8 @@ Succeeds (commands.Plan workers full) bytes done text =
     OfScene (commands.Plan workers full) bytes (λ scene. ReportsPlan workers (IsReport full) scene done text)
 Succeeds (commands.Smooth workers) bytes done text =
     OfScene (commands.Smooth workers) bytes (λ scene. ReportsPlan workers IsSmoothedReport scene done text)
+Succeeds (commands.Anytime workers slice) bytes done text =
+    OfScene (commands.Anytime workers slice) bytes (λ scene. ReportsBetterPaths workers slice scene done text)
 Succeeds commands.Show bytes done text = OfScene commands.Show bytes (λ scene. WritesScene scene done text)
 Succeeds commands.Convert bytes done text = OfScene commands.Convert bytes (λ scene. WritesConverted scene done text)
 Succeeds (commands.Gen number) bytes done text = OfScene (commands.Gen number) bytes (λ scene. WritesScene scene done text)

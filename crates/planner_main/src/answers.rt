@@ -1,7 +1,7 @@
 //! What is to be written for the words of the command line. Each command has a function that reads what it needs from
 //! the source and makes the text of the answer.
 
-ghost use Rattle.std.specs.Prelude.{◌≡◌, ◌≤◌, ◌<◌, ℕ, false, length, map, is_some, string_bytes, IfOk, IfErr, IsTrue, None, Some, []};
+ghost use Rattle.std.specs.Prelude.{◌≡◌, ◌≤◌, ◌<◌, ℕ, false, length, map, is_some, string_bytes, IfOk, IfErr, IsTrue, None, Some, [], ◌∷◌};
 ghost use Rattle.plan_model.specs.Spaces.ConfigurationSpace.{space_of};
 ghost use Rattle.plan_model.specs.Spaces.Clearance.{ClearAt};
 ghost use Rattle.plan_model.specs.declared.limits.TheConstants.{MOST_WORKERS};
@@ -12,7 +12,9 @@ ghost use Rattle.plan_model.specs.Runs.Textbook.{setup_of};
 ghost use Rattle.plan_model.specs.Trees.TreeStates.{IsSettled};
 ghost use Rattle.scene_text.specs.Fetching.{ReadsWithin};
 ghost use Rattle.planner_main.specs.Commands.{command_of, input_of, plans, IsNumbered};
-ghost use Rattle.planner_main.specs.Conclusions.{Answers, HasScene, IsCaused, IsReport, IsSummary, ReportsGrown, Succeeds, WritesScene, status_of_report};
+ghost use Rattle.planner_main.specs.Conclusions.{Answers, HandsOutNothing, HandsOutRunAlone, HasScene, IsBetterReport, IsCaused, IsReport, IsSummary};
+ghost use Rattle.planner_main.specs.Conclusions.{ReportsGrown, Succeeds, WritesScene, status_of_report};
+ghost use Rattle.any_time.specs.BetterPaths.{AreBetterPaths};
 ghost use Rattle.path_tools.specs.SmoothedReports.{IsSmoothedReport};
 ghost use Rattle.planner_main.specs.Inputs.{one_scene};
 ghost use Rattle.planner_main.specs.declared.generated_scenes.TheConstants.{MOST_GENERATED};
@@ -24,14 +26,17 @@ use crate::generated_scenes::gen_scene;
 use crate::refusals::Refusal;
 use crate::statuses::{DONE, NO_PATH};
 use crate::top_call::Done;
+use any_time::{FinishedSession, better_report, finish_session};
 use obstacle_boxes::Boxes;
 use path_tools::smoothed_report;
-use plan_model::{Memory, Scene, Source, Task};
+use plan_model::{Memory, Scene, Sequence, Source, Task};
 use plan_work::{Gate, grow};
 use scene_text::{as_version_2, fetch, read_scene, write_scene};
 use seq_planner::textbook;
 use settle_report::{best, report_by_best, settle, summary_by_best};
-use std::alloc::Global;
+use std::alloc::{AllocGlobal, Global};
+use std::random::RandomSource;
+use std::sync::Wait;
 use std::thread::Threads;
 use step_core::Grown;
 use strip_sampler::marks;
@@ -53,13 +58,11 @@ pub struct Answer {
 ///
 /// The refusal with its cause: `Words` exactly if the words ask for no command, and nothing is read then; otherwise that of
 /// the command, and the source may have been read.
-pub fn answer_to<R: Threads + Sync, S: Source, G: Gate>(
-    rt: &R,
-    alloc: Global,
-    words: &[String],
-    source: &mut S,
-    gate: &G,
-) -> Result<Answer, Refusal>
+pub fn answer_to<
+    R: Threads + Sync + Wait + RandomSource + AllocGlobal + Clone + Drop,
+    S: Source,
+    G: Gate,
+>(rt: &R, alloc: Global, words: &[String], source: &mut S, gate: &G) -> Result<Answer, Refusal>
     requires { (S.state source.old).has_ended ≡ false }
     ensures { Answers (command_of (map string_bytes words.now)) (S.state source.old) (S.state source.new) result }
 {
@@ -69,14 +72,13 @@ pub fn answer_to<R: Threads + Sync, S: Source, G: Gate>(
     }
 }
 
-/// Does what the command says.
-fn perform<R: Threads + Sync, S: Source, G: Gate>(
-    rt: &R,
-    alloc: Global,
-    command: Command,
-    source: &mut S,
-    gate: &G,
-) -> Result<Answer, Refusal>
+/// Does what the command says. What it calls for a command waits for nothing, and so returns, but for `Anytime`, which is polled
+/// under an executor.
+fn perform<
+    R: Threads + Sync + Wait + RandomSource + AllocGlobal + Clone + Drop,
+    S: Source,
+    G: Gate,
+>(rt: &R, alloc: Global, command: Command, source: &mut S, gate: &G) -> Result<Answer, Refusal>
     requires number { IsNumbered command }
     requires unended { (S.state source.old).has_ended ≡ false }
     ensures { Answers (Some command) (S.state source.old) (S.state source.new) result }
@@ -85,6 +87,7 @@ fn perform<R: Threads + Sync, S: Source, G: Gate>(
         Command::Plain { full } => plain(alloc, full, source),
         Command::Plan { workers, full } => plan(rt, alloc, workers, full, source, gate),
         Command::Smooth(workers) => plan_smoothed(rt, alloc, workers, source, gate),
+        Command::Anytime { workers, slice } => plan_by_slices(rt, alloc, workers, slice, source),
         Command::Show => show(alloc, source),
         Command::Convert => convert(alloc, source),
         Command::Gen(number) => Ok(generate(alloc, number)?),
@@ -137,6 +140,26 @@ fn plan_smoothed<R: Threads + Sync, S: Source, G: Gate>(
     let (scene, boxes) = problem_for(alloc, Command::Smooth(workers), source)?;
     let grown = run_by_workers(rt, alloc, workers, scene, &boxes, gate)?;
     Ok(smoothed_report_of(alloc, &boxes, grown)?)
+}
+
+/// Plans the scene that is read by several workers, so many marks at a time, and reports the better paths as they came, and the run in
+/// short. It waits under an executor.
+fn plan_by_slices<R: Threads + Sync + Wait + RandomSource + AllocGlobal + Clone + Drop, S: Source>(
+    rt: &R,
+    alloc: Global,
+    workers: u32,
+    slice: u32,
+    source: &mut S,
+) -> Result<Answer, Refusal>
+    requires some { 1 ≤ workers }
+    requires few { workers ≤ MOST_WORKERS }
+    requires slice { 1 ≤ slice }
+    requires unended { (S.state source.old).has_ended ≡ false }
+    ensures { Answers (Some (Command.Anytime workers slice)) (S.state source.old) (S.state source.new) result }
+{
+    let (scene, boxes) = problem_for(alloc, Command::Anytime { workers, slice }, source)?;
+    let finished = run_by_slices(rt, alloc, workers, slice, scene, boxes)?;
+    Ok(better_report_of(alloc, finished)?)
 }
 
 /// Shows the scene that is read.
@@ -222,7 +245,6 @@ fn run_by_workers<R: Threads + Sync, G: Gate>(
     requires few { workers ≤ MOST_WORKERS }
     requires boxes { boxes.now ≡ space_of scene }
     requires start { ClearAt (space_of scene) scene.start }
-    requires plain { scene.informed ≡ false }
     ensures scene { IfOk result (λ grown. grown.task.scene ≡ scene) }
     ensures all_marks { IfOk result (λ grown. grown.limit ≡ length (mark_points scene)) }
     ensures settled { IfOk result (λ grown. IsSettled (state_of_grown grown)) }
@@ -239,15 +261,67 @@ fn run_by_workers<R: Threads + Sync, G: Gate>(
     Ok(grown)
 }
 
+/// A run of a scene by several workers, over all its marks, settled, with the better paths that came while it grew by so many marks at
+/// a time.
+fn run_by_slices<R: Threads + Sync + Wait + RandomSource + AllocGlobal + Clone + Drop>(
+    rt: &R,
+    alloc: Global,
+    workers: u32,
+    slice: u32,
+    scene: Scene,
+    boxes: Boxes,
+) -> Result<FinishedSession, Memory>
+    requires some { 1 ≤ workers }
+    requires few { workers ≤ MOST_WORKERS }
+    requires slice { 1 ≤ slice }
+    requires boxes { boxes ≡ space_of scene }
+    requires start { ClearAt (space_of scene) scene.start }
+    ensures scene { IfOk result (λ done. done.run.task.scene ≡ scene) }
+    ensures all_marks { IfOk result (λ done. done.run.limit ≡ length (mark_points scene)) }
+    ensures settled { IfOk result (λ done. IsSettled (state_of_grown done.run)) }
+    ensures workers { IfOk result (λ done. (k : ℕ) (entry : Record)
+        → (state_of_grown done.run).record_of k ≡ Some entry → entry.worker < workers) }
+    ensures textbook { workers ≡ 1 → IfOk result (λ done. IsOfTextbookRun (setup_of scene) (mark_points scene) (state_of_grown done.run)) }
+    ensures better { IfOk result (λ done. AreBetterPaths workers slice done.run done.better) }
+{
+    // the start is clear, so there is room to draw marks in
+    let marks = marks(alloc, &scene)?;
+    finish_session(rt, alloc, Task { scene, marks }, boxes, workers, slice)
+}
+
+/// The better paths of a settled run over all marks of its scene, and its short report.
+fn better_report_of(alloc: Global, finished: FinishedSession) -> Result<Answer, Memory>
+    requires all_marks { finished.run.limit ≡ length (mark_points finished.run.task.scene) }
+    requires settled { IsSettled (state_of_grown finished.run) }
+    ensures reported { IfOk result (λ answer.
+        ReportsGrown (IsBetterReport finished.better) finished.run.task.scene finished.run answer.done answer.text.items) }
+    ensures better { IfOk result (λ answer. answer.done.better ≡ finished.better ∷ []) }
+    ensures alone { IfOk result (λ answer. HandsOutNothing (record answer.done { run = None; better = [] })) }
+{
+    let FinishedSession { run, better } = finished;
+    let best = best(&run);
+    let text = better_report(alloc, better.as_slice(), &run, best)?;
+    let lists = vec![in alloc; better]?;
+    let Answer { done, text } = answer_of(alloc, run, best, text);
+    Ok(Answer {
+        done: Done {
+            better: Sequence::from_vec(lists),
+            ..done
+        },
+        text,
+    })
+}
+
 /// The report of a settled run over all marks of its scene, in full or in short.
 fn report_of(alloc: Global, full: bool, grown: Grown) -> Result<Answer, Memory>
     requires all_marks { grown.limit ≡ length (mark_points grown.task.scene) }
     requires settled { IsSettled (state_of_grown grown) }
-    ensures { IfOk result (λ answer. ReportsGrown (IsReport full) grown.task.scene grown answer.done answer.text.items) }
+    ensures reported { IfOk result (λ answer. ReportsGrown (IsReport full) grown.task.scene grown answer.done answer.text.items) }
+    ensures alone { IfOk result (λ answer. HandsOutRunAlone answer.done) }
 {
     let best = best(&grown);
     let text = report_by_best(alloc, &grown, best, full)?;
-    Ok(answer_of(grown, best, text))
+    Ok(answer_of(alloc, grown, best, text))
 }
 
 /// The short report of a settled run over all marks of its scene, with its path smoothed.
@@ -255,34 +329,37 @@ fn smoothed_report_of(alloc: Global, boxes: &Boxes, grown: Grown) -> Result<Answ
     requires boxes { boxes.now ≡ space_of grown.task.scene }
     requires all_marks { grown.limit ≡ length (mark_points grown.task.scene) }
     requires settled { IsSettled (state_of_grown grown) }
-    ensures { IfOk result (λ answer. ReportsGrown IsSmoothedReport grown.task.scene grown answer.done answer.text.items) }
+    ensures reported { IfOk result (λ answer. ReportsGrown IsSmoothedReport grown.task.scene grown answer.done answer.text.items) }
+    ensures alone { IfOk result (λ answer. HandsOutRunAlone answer.done) }
 {
     let best = best(&grown);
     let text = smoothed_report(alloc, boxes, &grown, best)?;
-    Ok(answer_of(grown, best, text))
+    Ok(answer_of(alloc, grown, best, text))
 }
 
 /// The summary of a settled run over all marks of its scene.
 fn summary_of(alloc: Global, grown: Grown) -> Result<Answer, Memory>
     requires all_marks { grown.limit ≡ length (mark_points grown.task.scene) }
     requires settled { IsSettled (state_of_grown grown) }
-    ensures { IfOk result (λ answer. ReportsGrown IsSummary grown.task.scene grown answer.done answer.text.items) }
+    ensures reported { IfOk result (λ answer. ReportsGrown IsSummary grown.task.scene grown answer.done answer.text.items) }
+    ensures alone { IfOk result (λ answer. HandsOutRunAlone answer.done) }
 {
     let best = best(&grown);
     let text = summary_by_best(alloc, &grown, best)?;
-    Ok(answer_of(grown, best, text))
+    Ok(answer_of(alloc, grown, best, text))
 }
 
 /// The answer that a report of a run with this best node is.
-fn answer_of(grown: Grown, best: Option<u32>, text: Vec<u8>) -> Answer
+fn answer_of(alloc: Global, grown: Grown, best: Option<u32>, text: Vec<u8>) -> Answer
     ensures status { result.done.status ≡ status_of_report (is_some best) }
     ensures run { result.done.run ≡ Some grown }
+    ensures alone { HandsOutRunAlone result.done }
     ensures text { result.text ≡ text }
 {
     let status = if best.is_some() { DONE } else { NO_PATH };
     let done = Done {
         run: Some(grown),
-        ..Done::with_status(status)
+        ..Done::with_status(alloc, status)
     };
     Answer { done, text }
 }
@@ -293,7 +370,7 @@ fn text_of(alloc: Global, scene: &Scene) -> Result<Answer, Memory>
 {
     let text = write_scene(alloc, scene)?;
     Ok(Answer {
-        done: Done::with_status(DONE),
+        done: Done::with_status(alloc, DONE),
         text,
     })
 }

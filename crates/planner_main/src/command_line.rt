@@ -1,22 +1,24 @@
 //! The exit code of the program, from the words of its command line.
 
-ghost use Rattle.std.specs.Prelude.{◌≡◌, ◌⊎◌, false, Option, IfOk, IsErr, IsOk};
+ghost use Rattle.std.specs.Prelude.{◌≡◌, ◌⊎◌, false, IfOk, IsErr, IsOk};
 ghost use Rattle.std.specs.Process.{exit_status};
-ghost use Rattle.step_core.specs.declared.grown.Grown.{Grown};
 ghost use Rattle.planner_main.specs.CommandLines.{given, words_after_name, AreNoText, IsOutOfMemory};
 ghost use Rattle.planner_main.specs.Commands.{command_of};
 ghost use Rattle.planner_main.specs.Endings.{HasConcluded};
 ghost use Rattle.planner_main.specs.Exchanges.{IsUnread, IsUnwritten};
 ghost use Rattle.planner_main.specs.declared.statuses.TheConstants.{WORDS_REFUSED, WRITE_FAULT};
+ghost use Rattle.planner_main.specs.declared.top_call.Done.{Done};
 
 use crate::statuses::NO_MEMORY;
 use crate::top_call::run;
 use plan_model::{Memory, Sink, Source};
 use plan_work::NoGate;
-use std::alloc::Global;
+use std::alloc::{AllocGlobal, Global};
 use std::env::Args;
 use std::io;
 use std::process::ExitCode;
+use std::random::RandomSource;
+use std::sync::Wait;
 use std::thread::Threads;
 
 /// Runs the program on the arguments that `env::args` gives, and returns the code that it ends with: the status of `run`.
@@ -24,19 +26,17 @@ use std::thread::Threads;
 /// Arguments that are no text, which `env::args` tells by an error of another kind than `OutOfMemory`, ask for no command: they
 /// are refused with `WORDS_REFUSED`, or with `WRITE_FAULT` if the sink fails. If the program is out of memory for the words, the code is
 /// `NO_MEMORY`, and nothing is read or written. The source has not given its end.
-pub fn exit_code<R: Threads + Sync, S: Source, K: Sink>(
-    rt: &R,
-    alloc: Global,
-    args: io::Result<Args>,
-    source: &mut S,
-    sink: &mut K,
-) -> ExitCode
+pub fn exit_code<
+    R: Threads + Sync + Wait + RandomSource + AllocGlobal + Clone + Drop,
+    S: Source,
+    K: Sink,
+>(rt: &R, alloc: Global, args: io::Result<Args>, source: &mut S, sink: &mut K) -> ExitCode
     requires { (S.state source.old).has_ended ≡ false }
     // out of memory for the words, and then nothing is read or written; or what `run` does for them
     ensures done { ((exit_status result ≡ NO_MEMORY) × IsUnread (S.state source.old) (S.state source.new)
         × IsUnwritten (K.state sink.old) (K.state sink.new))
-        ⊎ ((run : Option Grown) × HasConcluded (command_of (words_after_name args)) (S.state source.old) (S.state source.new)
-        (K.state sink.old) (K.state sink.new) (record { status = exit_status result; run = run })) }
+        ⊎ ((done : Done) × (exit_status result ≡ done.status) × HasConcluded (command_of (words_after_name args))
+        (S.state source.old) (S.state source.new) (K.state sink.old) (K.state sink.new) done) }
     ensures no_words { IsOutOfMemory args → exit_status result ≡ NO_MEMORY }
     // arguments that are no text are refused as words, whatever memory there is, unless the sink fails
     ensures no_text { AreNoText args → (exit_status result ≡ WORDS_REFUSED) ⊎ (exit_status result ≡ WRITE_FAULT) }
@@ -73,7 +73,7 @@ mod tests {
     const NO_MARK: &str = "prrt 1\nroom 10 10\nstart 5 5\ngoal 0 0 1 1\nstep 4\n";
 
     // The code that the program ends with on this scene and these arguments over this sink.
-    fn code_on<R: Threads + Sync + Abort>(
+    fn code_on<R: Threads + Sync + Wait + RandomSource + AllocGlobal + Clone + Drop + Abort>(
         rt: &R,
         alloc: Global,
         scene: &str,
@@ -87,7 +87,7 @@ mod tests {
     }
 
     // Compares that code, and the text that is written.
-    fn expect<R: Threads + Sync + Abort>(
+    fn expect<R: Threads + Sync + Wait + RandomSource + AllocGlobal + Clone + Drop + Abort>(
         rt: &R,
         alloc: Global,
         scene: &str,

@@ -2,10 +2,10 @@
 
 ghost use Rattle.std.specs.Prelude.{◌≡◌, ◌≤◌, map, string_bytes, IfSome};
 ghost use Rattle.planner_main.specs.Commands.{command_of, command_of_word, command_of_two, command_of_three, command_about};
-ghost use Rattle.planner_main.specs.Commands.{plan_by, number_in, IsNumbered};
+ghost use Rattle.planner_main.specs.Commands.{anytime_by, plan_by, number_in, IsNumbered};
 
 use crate::generated_scenes::MOST_GENERATED;
-use plan_model::{MOST_WORKERS, is_number, natural};
+use plan_model::{MOST_MARKS, MOST_WORKERS, is_number, natural};
 
 /// What the words of the command line ask for.
 #[derive(Clone, Copy, Debug, PartialEq, Eq)]
@@ -25,6 +25,14 @@ pub enum Command {
     /// `smooth W`: the short report of a run of the scene that is read, grown by so many workers, with its path smoothed: 1 to
     /// `MOST_WORKERS`.
     Smooth(u32),
+    /// `anytime W S`: the better paths of a run of the scene that is read, as they come while it grows by a slice of marks at a time,
+    /// and the short report of the run.
+    Anytime {
+        /// How many workers grow it: 1 to `MOST_WORKERS`.
+        workers: u32,
+        /// How many marks a slice has: 1 to `MOST_MARKS`.
+        slice: u32,
+    },
     /// `show`: the canonical text of the scene that is read.
     Show,
     /// `convert`: the canonical text of the scene that is read, in version 2.
@@ -81,6 +89,7 @@ fn command_of_three(word: &str, second: &str, third: &str) -> Option<Command>
 {
     match (word, third) {
         ("plan", "full") => plan_by(second, true),
+        ("anytime", _) => anytime_by(second, third),
         _ => None,
     }
 }
@@ -92,6 +101,16 @@ fn plan_by(word: &str, full: bool) -> Option<Command>
 {
     let workers = workers_in(word)?;
     Some(Command::Plan { workers, full })
+}
+
+/// The command to grow a run by so many workers, so many marks at a time, which two words say.
+fn anytime_by(second: &str, third: &str) -> Option<Command>
+    ensures value { result ≡ anytime_by second.now third.now }
+    ensures numbered { IfSome result IsNumbered }
+{
+    let workers = workers_in(second)?;
+    let slice = number_in(third.as_bytes(), 1, MOST_MARKS)?;
+    Some(Command::Anytime { workers, slice })
 }
 
 /// The number of workers that a word says: 1 to `MOST_WORKERS`.

@@ -6,7 +6,7 @@
 //!
 //! - A success writes the text that the command asks for. A report tells of the textbook run of the scene that the bytes
 //!   spell, of a lawful run that workers have grown for that scene, or of the textbook run of a generated scene, and `run`
-//!   hands out that run with the status. `show`, `convert` and `gen` write the canonical text of a scene.
+//!   hands out that run with the status, and with `anytime W S` its better paths. `show`, `convert` and `gen` write the canonical text of a scene.
 //! - Each refusal has its cause.
 //! - The bytes decide which status comes, if no read or write fails and memory lasts.
 //!

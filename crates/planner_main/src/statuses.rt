@@ -2,10 +2,10 @@
 
 ghost use Rattle.planner_main.specs.FixedNumbers.{FixedNumbers};
 
-/// The command is done; for `plain` and `plan W`, in short or in full, and for `trial`, a path was found.
+/// The command is done; for `plain` and `plan W`, in short or in full, for `smooth W`, `anytime W S` and `trial`, a path was found.
 pub const DONE: u8 = 0;
 
-/// `plain` and `plan W`, in short or in full, and `trial`: no node of the tree lies in a goal.
+/// `plain` and `plan W`, in short or in full, `smooth W`, `anytime W S` and `trial`: no node of the tree lies in a goal.
 pub const NO_PATH: u8 = 1;
 
 /// The words of the command line ask for no command.

@@ -8,10 +8,13 @@ ghost use Rattle.planner_main.specs.Exchanges.{IsWrittenWhole, IsCutShort};
 
 use crate::answers::{Answer, answer_to};
 use crate::statuses::WRITE_FAULT;
-use plan_model::{Sink, Source};
+use any_time::{BetterLists, Growns};
+use plan_model::{Sequence, Sink, Source};
 use plan_work::Gate;
 use settle_report::deliver;
-use std::alloc::Global;
+use std::alloc::{AllocGlobal, Global};
+use std::random::RandomSource;
+use std::sync::Wait;
 use std::thread::Threads;
 use step_core::Grown;
 
@@ -23,16 +26,25 @@ pub struct Done {
     /// The run that was reported: of the scene that was read or generated, over all its marks. `None` if no run was, so for
     /// commands that plan nothing and for refusals.
     pub run: Option<Grown>,
+    /// The runs of a batch, in the order of its scenes; none for other commands and for refusals.
+    pub batch: Growns,
+    /// The better paths, in a list for each scene that is planned slice by slice; no list for other commands and for refusals.
+    pub better: BetterLists,
 }
 
 impl Done {
     /// What is done with this status if nothing is handed out beside it. Every other `Done` is this one with what it hands out
     /// put in.
-    pub(crate) fn with_status(status: u8) -> Done
+    pub(crate) fn with_status(alloc: Global, status: u8) -> Done
         ensures status { result.status ≡ status }
         ensures nothing { HandsOutNothing result }
     {
-        Done { status, run: None }
+        Done {
+            status,
+            run: None,
+            batch: Sequence::from_vec(Vec::new(alloc)),
+            better: Sequence::from_vec(Vec::new(alloc)),
+        }
     }
 }
 
@@ -42,6 +54,8 @@ impl Done {
 ///   report to the sink. `plain full` writes the full report.
 /// - `plan W` and `plan W full` do the same, but `W` workers grow the run, each in a thread of its own if one can be made.
 ///   The gate is told of their turns.
+/// - `anytime W S` does as `plan W` does, but grows the run by `S` marks at a time. It writes a line for each better path, before the
+///   short report. It waits under an executor: for these words alone nothing says that the call returns.
 /// - `show` reads a scene and writes its canonical text. `convert` writes that of the scene in version 2.
 /// - `gen N` reads nothing and writes the canonical text of a generated scene.
 /// - `trial N` reads nothing, plans a generated scene as `plain` does, and writes the report without the points of its path.
@@ -54,14 +68,12 @@ impl Done {
 /// `WORDS_REFUSED`. Unless they ask for a command that reads a scene, nothing is read; else the source may have been read, in
 /// part or to its end, whatever the status. `docs/report-format.md`, "Statuses", has what each status means, and
 /// `docs/proved.md`, "Answers and their causes", when each comes.
-pub fn run<R: Threads + Sync, S: Source, K: Sink, G: Gate>(
-    rt: &R,
-    alloc: Global,
-    words: &[String],
-    source: &mut S,
-    sink: &mut K,
-    gate: &G,
-) -> Done
+pub fn run<
+    R: Threads + Sync + Wait + RandomSource + AllocGlobal + Clone + Drop,
+    S: Source,
+    K: Sink,
+    G: Gate,
+>(rt: &R, alloc: Global, words: &[String], source: &mut S, sink: &mut K, gate: &G) -> Done
     requires { (S.state source.old).has_ended ≡ false }
     ensures { HasConcluded (command_of (map string_bytes words.now)) (S.state source.old) (S.state source.new)
         (K.state sink.old) (K.state sink.new) result }
@@ -69,7 +81,7 @@ pub fn run<R: Threads + Sync, S: Source, K: Sink, G: Gate>(
     match answer_to(rt, alloc, words, source, gate) {
         Ok(Answer { done, text }) => conclude(sink, &text, done),
         Err(refusal) => {
-            let done = Done::with_status(refusal.status());
+            let done = Done::with_status(alloc, refusal.status());
             conclude(sink, refusal.line().as_bytes(), done)
         }
     }

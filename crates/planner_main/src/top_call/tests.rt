@@ -8,6 +8,7 @@ use calls::*;
 use plan_model::{MemSink, MemSource, Memory, Outcome};
 use plan_work::NoGate;
 use std::process::Abort;
+use std::test::Fail;
 
 // A scene, and what is to be answered to it.
 #[derive(Clone, Copy)]
@@ -32,7 +33,7 @@ const MOST_DRAWN_MARKS: &str =
     "prrt 1\nroom 1 1\nstart 0 0\ngoal 1 1 1 1\nstep 4\ngamma 9\nstrips 2\nmarks 262143\n";
 
 // Compares the answer to the scene of a case, which is read in pieces of at most so many bytes.
-fn expect_by_pieces<R: Threads + Sync + Abort>(
+fn expect_by_pieces<R: Threads + Sync + Wait + RandomSource + AllocGlobal + Clone + Drop + Abort>(
     rt: &R,
     alloc: Global,
     words: &[&str],
@@ -45,14 +46,24 @@ fn expect_by_pieces<R: Threads + Sync + Abort>(
 }
 
 // The same in pieces of several lengths, and at once.
-fn expect<R: Threads + Sync + Abort>(rt: &R, alloc: Global, words: &[&str], case: &Case) {
+fn expect<R: Threads + Sync + Wait + RandomSource + AllocGlobal + Clone + Drop + Abort>(
+    rt: &R,
+    alloc: Global,
+    words: &[&str],
+    case: &Case,
+) {
     for most in [1, 2, 7, 1 << 16, 1 << 24] {
         expect_by_pieces(rt, alloc, words, most, case);
     }
 }
 
 // The same of each case.
-fn expect_each<R: Threads + Sync + Abort>(rt: &R, alloc: Global, words: &[&str], cases: &[Case]) {
+fn expect_each<R: Threads + Sync + Wait + RandomSource + AllocGlobal + Clone + Drop + Abort>(
+    rt: &R,
+    alloc: Global,
+    words: &[&str],
+    cases: &[Case],
+) {
     for case in cases {
         expect(rt, alloc, words, case);
     }
@@ -259,7 +270,7 @@ fn corridor_scene<R: Abort>(rt: &R, alloc: Global, corridor: &Corridor) -> Strin
 }
 
 // Compares the report of a corridor.
-fn expect_corridor<R: Threads + Sync + Abort>(
+fn expect_corridor<R: Threads + Sync + Wait + RandomSource + AllocGlobal + Clone + Drop + Abort>(
     rt: &R,
     alloc: Global,
     words: &[&str],
@@ -377,16 +388,21 @@ fn plans_for_a_body(rt: HostRuntime) {
     expect_each(&rt, rt.alloc(), &["plain"], &WITH_BODY);
 }
 
-static READERS: [&[&str]; 5] = [
+static READERS: [&[&str]; 6] = [
     &["plain"],
     &["plan", "2"],
     &["smooth", "2"],
+    &["anytime", "2", "3"],
     &["show"],
     &["convert"],
 ];
 
 // Compares the answer to a case by the commands that read a scene.
-fn expect_by_readers<R: Threads + Sync + Abort>(rt: &R, alloc: Global, case: &Case) {
+fn expect_by_readers<R: Threads + Sync + Wait + RandomSource + AllocGlobal + Clone + Drop + Abort>(
+    rt: &R,
+    alloc: Global,
+    case: &Case,
+) {
     for words in READERS {
         expect(rt, alloc, words, case);
     }
@@ -394,7 +410,11 @@ fn expect_by_readers<R: Threads + Sync + Abort>(rt: &R, alloc: Global, case: &Ca
 
 // Compares the refusal of each text by the commands that read a scene. Each is given with what it shows and with the line
 // that tells its fault.
-fn expect_refused<R: Threads + Sync + Abort>(rt: &R, alloc: Global, cases: &[(&str, &str, &str)]) {
+fn expect_refused<R: Threads + Sync + Wait + RandomSource + AllocGlobal + Clone + Drop + Abort>(
+    rt: &R,
+    alloc: Global,
+    cases: &[(&str, &str, &str)],
+) {
     for (shows, scene, text) in cases {
         let case = Case {
             shows,
@@ -553,7 +573,11 @@ fn shows_scenes(rt: HostRuntime) {
 }
 
 // What a call for words has done over a source whose reads would fail, of which there is none.
-fn call_unread<R: Threads + Sync + Abort>(rt: &R, alloc: Global, words: &[&str]) -> Called {
+fn call_unread<R: Threads + Sync + Wait + RandomSource + AllocGlobal + Clone + Drop + Abort>(
+    rt: &R,
+    alloc: Global,
+    words: &[&str],
+) -> Called {
     let called = call(rt, alloc, words, "prrt 1\n", 10, 1);
     expect_number(rt, called.read_faults, 0, "nothing read");
     called
@@ -568,7 +592,9 @@ static NO_COMMAND: Case = Case {
 };
 
 // Compares the refusal of words over a scene, and over a source whose reads would fail, of which there is none.
-fn expect_words_refused<R: Threads + Sync + Abort>(rt: &R, alloc: Global, words: &[&str]) {
+fn expect_words_refused<
+    R: Threads + Sync + Wait + RandomSource + AllocGlobal + Clone + Drop + Abort,
+>(rt: &R, alloc: Global, words: &[&str]) {
     expect(rt, alloc, words, &NO_COMMAND);
     let called = call_unread(rt, alloc, words);
     expect_answer(rt, words, &called, &NO_COMMAND);
@@ -576,13 +602,15 @@ fn expect_words_refused<R: Threads + Sync + Abort>(rt: &R, alloc: Global, words:
 }
 
 // The same of each form of words.
-fn expect_each_refused<R: Threads + Sync + Abort>(rt: &R, alloc: Global, forms: &[&[&str]]) {
+fn expect_each_refused<
+    R: Threads + Sync + Wait + RandomSource + AllocGlobal + Clone + Drop + Abort,
+>(rt: &R, alloc: Global, forms: &[&[&str]]) {
     for words in forms {
         expect_words_refused(rt, alloc, words);
     }
 }
 
-static NO_COMMANDS: [&[&str]; 27] = [
+static NO_COMMANDS: [&[&str]; 39] = [
     &[],
     &["plain full"],
     &["plain  full"],
@@ -610,6 +638,18 @@ static NO_COMMANDS: [&[&str]; 27] = [
     &["smooth", "65"],
     &["smooth", "04"],
     &["smooth", "2", "full"],
+    &["anytime"],
+    &["anytime", "1"],
+    &["anytime", "1", "0"],
+    &["anytime", "1", "262144"],
+    &["anytime", "0", "1"],
+    &["anytime", "65", "1"],
+    &["anytime", "1", "01"],
+    &["anytime", "1", "full"],
+    &["anytime", "1", "1", "full"],
+    &["Anytime", "1", "1"],
+    &["twin", "1", "full"],
+    &["batch", "1"],
 ];
 
 static OUTSIDE: Case = Case {
@@ -627,7 +667,7 @@ fn refuses_with_the_cause(rt: HostRuntime) {
 }
 
 // Compares how the text of a generated scene begins and ends.
-fn expect_generated<R: Threads + Sync + Abort>(
+fn expect_generated<R: Threads + Sync + Wait + RandomSource + AllocGlobal + Clone + Drop + Abort>(
     rt: &R,
     alloc: Global,
     number: &str,
@@ -651,7 +691,7 @@ fn writes_a_generated_scene(rt: HostRuntime) {
 }
 
 // Compares how the plan of a generated scene begins and ends that has a path.
-fn expect_planned<R: Threads + Sync + Abort>(
+fn expect_planned<R: Threads + Sync + Wait + RandomSource + AllocGlobal + Clone + Drop + Abort>(
     rt: &R,
     alloc: Global,
     number: &str,
@@ -685,6 +725,7 @@ static TRIED: Case = Case {
     run: Some((7605, 8000)),
 };
 
+mod anytime;
 mod calls;
 mod cut_texts;
 mod faults;

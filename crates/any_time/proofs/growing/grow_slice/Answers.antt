@@ -17,6 +17,7 @@ returns g c =
       limit = limit ∙ c.next_limit-limit.ensures.value;
       grows = GrowsInto-trans _ _ _ c.in_ok-later.ensures.grows c.in_ok-settle.ensures.grows;
       settled = c.in_ok-settle.ensures.settled;
+      by_workers = λ k entry is low. c.in_ok-later.ensures.workers k entry (sym (c.in_ok-settle.ensures.costs_alone.records k) ∙ is) low;
       textbook = λ one textbook.
           let grown : IsOfTextbook later = c.in_ok-later.ensures.textbook one textbook in
           let settled =

@@ -23,5 +23,6 @@ returns g c =
       scene = scene;
       of_command = has.spelled;
       start = λ planned. c.in_ok-scene.ensures.start;
-      meaning = ReportsScene-textbook _ _ c.in_ok-grown.grown _ _ run.scene c.in_ok-report_of.ensures run.run;
+      meaning =
+          ReportsScene-textbook _ _ c.in_ok-grown.grown _ _ run.scene c.in_ok-report_of.ensures.reported run.run c.in_ok-report_of.ensures.alone;
     })

@@ -2,14 +2,7 @@ use Rattle.std.proofs.Common.{refl}
 use Rattle.planner_main.specs.declared.commands.Command.TheVariants as commands
 use Rattle.planner_main.proofs.GivenAnswers.{Answers-success, Answers-no_memory}
 use Rattle.planner_main.proofs.Successes.{ReportsGrown-of_scene}
-use Rattle.scene_text.proofs.CoveredScenes.{informed-spelled}
 use Rattle.planner_main.proofs.answers.plan.Goals as goal
-
--- a scene that was read is not informed
-pub run_by_workers-requires-clause-plain : goal.run_by_workers-requires-clause-plain
-run_by_workers-requires-clause-plain c =
-    let has = c.in_ok-scene.ensures.scene in
-    informed-spelled has.bytes c.in_ok-scene.scene has.spelled.spelled
 
 pub returns-in_err-grown : goal.returns-in_err-grown
 returns-in_err-grown g c =
@@ -32,8 +25,9 @@ returns g c =
       start = λ planned. c.in_ok-scene.ensures.start;
       meaning = record {
         grown = c.in_ok-grown.grown;
-        reported = ReportsGrown-of_scene _ _ _ _ _ run.scene c.in_ok-report_of.ensures;
+        reported = ReportsGrown-of_scene _ _ _ _ _ run.scene c.in_ok-report_of.ensures.reported;
         by_workers = run.workers;
         textbook = run.textbook;
+        alone = c.in_ok-report_of.ensures.alone;
       };
     })

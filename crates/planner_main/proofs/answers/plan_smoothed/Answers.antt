@@ -25,8 +25,9 @@ returns g c =
       start = λ planned. c.in_ok-scene.ensures.start;
       meaning = record {
         grown = c.in_ok-grown.grown;
-        reported = ReportsGrown-of_scene _ _ _ _ _ run.scene c.in_ok-smoothed_report_of.ensures;
+        reported = ReportsGrown-of_scene _ _ _ _ _ run.scene c.in_ok-smoothed_report_of.ensures.reported;
         by_workers = run.workers;
         textbook = run.textbook;
+        alone = c.in_ok-smoothed_report_of.ensures.alone;
       };
     })

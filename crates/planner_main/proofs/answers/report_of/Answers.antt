@@ -4,8 +4,8 @@ use Rattle.planner_main.specs.Conclusions.{IsReport, status_of_report}
 use Rattle.planner_main.proofs.Successes.{ReportsGrown-answer}
 use Rattle.planner_main.proofs.answers.report_of.Goals as goal
 
-pub returns : goal.returns
-returns c =
+pub returns-clause-reported : goal.returns-clause-reported
+returns-clause-reported c =
     ReportsGrown-answer (IsReport c.args.full) c.args.grown _ _ c.requires.all_marks c.requires.settled c.answer_of.ensures.run
     (c.answer_of.ensures.status ∙ ap (λ best. status_of_report (is_some best)) c.best-best.ensures.value)
     (ap (λ text. text.items) c.answer_of.ensures.text ∙ c.in_ok-text.ensures)

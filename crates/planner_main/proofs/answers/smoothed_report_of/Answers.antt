@@ -6,8 +6,8 @@ use Rattle.planner_main.proofs.Successes.{ReportsGrown-answer}
 use Rattle.planner_main.proofs.answers.smoothed_report_of.Goals as goal
 use Rattle.step_core.specs.GrownRuns.{state_of_grown}
 
-pub returns : goal.returns
-returns c =
+pub returns-clause-reported : goal.returns-clause-reported
+returns-clause-reported c =
     let grown = c.args.grown in
     ReportsGrown-answer IsSmoothedReport grown _ _ c.requires.all_marks c.requires.settled c.answer_of.ensures.run
     (c.answer_of.ensures.status ∙ ap (λ best. status_of_report (is_some best)) c.best-best.ensures.value)

@@ -8,5 +8,6 @@ returns c =
       scene = c.in_ok-scene.scene;
       of_command = c.in_ok-scene.ensures.scene;
       start = λ planned. c.in_ok-scene.ensures.start;
-      meaning = ReportsScene-textbook _ _ c.in_ok-grown.grown _ _ run.scene c.in_ok-summary_of.ensures run.run;
+      meaning =
+          ReportsScene-textbook _ _ c.in_ok-grown.grown _ _ run.scene c.in_ok-summary_of.ensures.reported run.run c.in_ok-summary_of.ensures.alone;
     }

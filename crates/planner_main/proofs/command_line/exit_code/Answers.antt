@@ -15,7 +15,7 @@ none_asked (Err error) no_text = refl
 pub returns-in-Ok-clause-done : goal.returns-in-Ok-clause-done
 returns-in-Ok-clause-done g c =
     let same = c.deref.ensures.value ∙ c.in-Ok.ensures.words in
-    rw c.from.ensures (rw (← same) (inr (c.run.result.run, c.run.ensures)))
+    rw (← same) (inr (c.run.result, c.from.ensures, c.run.ensures))
 
 pub returns-in-Ok-clause-no_text : goal.returns-in-Ok-clause-no_text
 returns-in-Ok-clause-no_text g c = λ no_text.

@@ -22,11 +22,13 @@ const NO_RUN: Run = Run {
     greatest_worker: 0,
 };
 
-// How a call has ended: with which status, and with which run.
+// How a call has ended: with which status, with which run, and with how many lists of better paths and paths in them.
 #[derive(Clone, Copy)]
 pub struct Ended {
     pub status: u8,
     pub run: Run,
+    pub lists: u64,
+    pub items: u64,
 }
 
 // What a call has done: how it ended, how many of its reads failed, and the sink with what it has written.
@@ -81,6 +83,7 @@ fn outcomes(grown: &Grown) -> [u32; 3] {
             Outcome::Placed => placed = placed.saturating_add(1),
             Outcome::Same(_) => same = same.saturating_add(1),
             Outcome::Blocked => blocked = blocked.saturating_add(1),
+            Outcome::Skipped => {}
         }
     }
     [placed, same, blocked]
@@ -108,22 +111,30 @@ fn counted(grown: &Grown) -> Run {
     }
 }
 
+// How many better paths are in all lists.
+fn items_in(lists: &BetterLists) -> u64 {
+    let mut items = 0_u64;
+    for list in lists.as_slice() {
+        items = items.saturating_add(list.len() as u64);
+    }
+    items
+}
+
 // How a call has ended that has done this.
 fn ending_of(done: &Done) -> Ended {
-    match &done.run {
-        Some(grown) => Ended {
-            status: done.status,
-            run: counted(grown),
+    Ended {
+        status: done.status,
+        run: match &done.run {
+            Some(grown) => counted(grown),
+            None => NO_RUN,
         },
-        None => Ended {
-            status: done.status,
-            run: NO_RUN,
-        },
+        lists: done.better.len() as u64,
+        items: items_in(&done.better),
     }
 }
 
 // How a call over this source and this sink ends. The gate is told of the turns of workers.
-fn call_over<R: Threads + Sync + Abort, G: Gate>(
+fn call_over<R: Threads + Sync + Wait + RandomSource + AllocGlobal + Clone + Drop + Abort, G: Gate>(
     rt: &R,
     alloc: Global,
     words: &[&str],
@@ -143,7 +154,10 @@ fn call_over<R: Threads + Sync + Abort, G: Gate>(
 
 // What a call has done over this sink, and over a source that gives this text in pieces of at most so many bytes (of one byte
 // at least), and fails at one of its reads (0: at none).
-pub fn call_into<R: Threads + Sync + Abort, G: Gate>(
+pub fn call_into<
+    R: Threads + Sync + Wait + RandomSource + AllocGlobal + Clone + Drop + Abort,
+    G: Gate,
+>(
     rt: &R,
     alloc: Global,
     words: &[&str],
@@ -166,21 +180,16 @@ pub fn call_into<R: Threads + Sync + Abort, G: Gate>(
 }
 
 // The same over a sink that does not fail.
-pub fn call_with_gate<R: Threads + Sync + Abort, G: Gate>(
-    rt: &R,
-    alloc: Global,
-    words: &[&str],
-    text: &str,
-    most: usize,
-    fails: u32,
-    gate: &G,
-) -> Called {
+pub fn call_with_gate<
+    R: Threads + Sync + Wait + RandomSource + AllocGlobal + Clone + Drop + Abort,
+    G: Gate,
+>(rt: &R, alloc: Global, words: &[&str], text: &str, most: usize, fails: u32, gate: &G) -> Called {
     let sink = sure(rt, MemSink::new(alloc, 1 << 24, 1 << 24, &[]));
     call_into(rt, alloc, words, text, most, fails, sink, gate)
 }
 
 // The same through the gate that does nothing.
-pub fn call<R: Threads + Sync + Abort>(
+pub fn call<R: Threads + Sync + Wait + RandomSource + AllocGlobal + Clone + Drop + Abort>(
     rt: &R,
     alloc: Global,
     words: &[&str],

@@ -3,7 +3,7 @@
 use super::*;
 
 // Compares the refusal of a text one of whose reads fails, in pieces of at most so many bytes.
-fn expect_read_fault<R: Threads + Sync + Abort>(
+fn expect_read_fault<R: Threads + Sync + Wait + RandomSource + AllocGlobal + Clone + Drop + Abort>(
     rt: &R,
     alloc: Global,
     words: &[&str],
@@ -19,7 +19,7 @@ fn expect_read_fault<R: Threads + Sync + Abort>(
 
 // Compares the refusals of a text one of whose reads fails, in pieces of at most so many bytes. Each such read is told by
 // what it shows.
-fn expect_read_faults<R: Threads + Sync + Abort>(
+fn expect_read_faults<R: Threads + Sync + Wait + RandomSource + AllocGlobal + Clone + Drop + Abort>(
     rt: &R,
     alloc: Global,
     words: &[&str],
@@ -52,14 +52,17 @@ static EARLY: [(u32, &str); 8] = [
 ];
 
 // The same of a small scene, at each of its reads.
-pub fn expect_early_faults<R: Threads + Sync + Abort>(rt: &R, alloc: Global, words: &[&str]) {
+pub fn expect_early_faults<
+    R: Threads + Sync + Wait + RandomSource + AllocGlobal + Clone + Drop + Abort,
+>(rt: &R, alloc: Global, words: &[&str]) {
     expect_read_faults(rt, alloc, words, ONE_MARK, 10, &EARLY);
 }
 
-static READING: [&[&str]; 5] = [
+static READING: [&[&str]; 6] = [
     &["plain"],
     &["plain", "full"],
     &["smooth", "1"],
+    &["anytime", "1", "1"],
     &["show"],
     &["convert"],
 ];
@@ -80,7 +83,7 @@ static LATE: [(u32, &str); 4] = [
 
 // Compares the answers over a source that fails at one of its last reads, and over one that is never asked for the read that
 // would fail: the last bytes come at call 170, and call 171 gives the end.
-fn expect_late_faults<R: Threads + Sync + Abort>(
+fn expect_late_faults<R: Threads + Sync + Wait + RandomSource + AllocGlobal + Clone + Drop + Abort>(
     rt: &R,
     alloc: Global,
     words: &[&str],
@@ -115,7 +118,12 @@ struct Cut<'a> {
 }
 
 // Compares what such a sink takes, which has room for so many bytes, and the run that is handed out even so.
-fn expect_cut<R: Threads + Sync + Abort>(rt: &R, alloc: Global, room: usize, cut: &Cut) {
+fn expect_cut<R: Threads + Sync + Wait + RandomSource + AllocGlobal + Clone + Drop + Abort>(
+    rt: &R,
+    alloc: Global,
+    room: usize,
+    cut: &Cut,
+) {
     let sink = sure(rt, MemSink::new(alloc, room, 10, &[cut.fails]));
     let called = call_into(rt, alloc, cut.words, ONE_MARK, 1 << 16, 0, sink, &NoGate);
     let case = Case {
@@ -130,7 +138,7 @@ fn expect_cut<R: Threads + Sync + Abort>(rt: &R, alloc: Global, room: usize, cut
     drop(called);
 }
 
-static CUTS: [Cut; 12] = [
+static CUTS: [Cut; 14] = [
     Cut {
         words: &["plain", "full"],
         fails: 1,
@@ -165,6 +173,18 @@ static CUTS: [Cut; 12] = [
         words: &["smooth", "1"],
         fails: 3,
         taken: "path 2 cost 12800\n0 ",
+        run: Some((2, 1)),
+    },
+    Cut {
+        words: &["anytime", "1", "1"],
+        fails: 1,
+        taken: "",
+        run: Some((2, 1)),
+    },
+    Cut {
+        words: &["anytime", "1", "1"],
+        fails: 3,
+        taken: "better 12800 marks 1",
         run: Some((2, 1)),
     },
     Cut {

@@ -36,7 +36,11 @@ struct Long<'a> {
 }
 
 // Compares the answer to such a scene.
-fn expect_long<R: Threads + Sync + Abort>(rt: &R, alloc: Global, long: &Long) {
+fn expect_long<R: Threads + Sync + Wait + RandomSource + AllocGlobal + Clone + Drop + Abort>(
+    rt: &R,
+    alloc: Global,
+    long: &Long,
+) {
     let scene = repeated(rt, alloc, long.head, long.line, long.times, long.tail);
     let text = repeated(rt, alloc, long.text, long.line, long.shown, "");
     let case = Case {
@@ -52,7 +56,11 @@ fn expect_long<R: Threads + Sync + Abort>(rt: &R, alloc: Global, long: &Long) {
 }
 
 // The same of each scene.
-fn expect_each_long<R: Threads + Sync + Abort>(rt: &R, alloc: Global, longs: &[Long]) {
+fn expect_each_long<R: Threads + Sync + Wait + RandomSource + AllocGlobal + Clone + Drop + Abort>(
+    rt: &R,
+    alloc: Global,
+    longs: &[Long],
+) {
     for long in longs {
         expect_long(rt, alloc, long);
     }

@@ -209,7 +209,7 @@ fn four_workers_handle_each_mark_of_one_branch(rt: HostRuntime) {
 }
 
 // Compares what two forms of words write for a scene.
-fn expect_same_text<R: Threads + Sync + Abort>(
+fn expect_same_text<R: Threads + Sync + Wait + RandomSource + AllocGlobal + Clone + Drop + Abort>(
     rt: &R,
     alloc: Global,
     words: &[&str],

@@ -36,7 +36,12 @@ static RUNS: [(&[&str], &str, u8, Option<(u32, u32)>); 18] = [
 ];
 
 // Compares the status of a call over the scene of a case, and the run that it hands out.
-fn expect_end<R: Threads + Sync + Abort>(rt: &R, alloc: Global, words: &[&str], case: &Case) {
+fn expect_end<R: Threads + Sync + Wait + RandomSource + AllocGlobal + Clone + Drop + Abort>(
+    rt: &R,
+    alloc: Global,
+    words: &[&str],
+    case: &Case,
+) {
     let called = call(rt, alloc, words, case.scene, 1 << 24, 0);
     expect_ended(rt, &called, case);
     drop(called);
