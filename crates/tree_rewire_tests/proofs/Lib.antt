@@ -1,2 +1,3 @@
 pub mod ReachedNodes
 pub mod PlacedHands
+mod WorkingPasses

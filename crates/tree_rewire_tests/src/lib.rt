@@ -8,4 +8,6 @@ mod spread;
 #[cfg(test)]
 mod spread_by_threads;
 #[cfg(test)]
+mod spread_informed;
+#[cfg(test)]
 mod support;

@@ -1,6 +1,6 @@
 //! A mark whose node becomes the parent of a near one.
 
-ghost use Rattle.std.specs.Prelude.{◌≡◌, ◌≤◌, IfSome, length};
+ghost use Rattle.std.specs.Prelude.{◌≡◌, ◌≤◌, IfSome, false, length};
 ghost use Rattle.plan_model.specs.Spaces.ConfigurationSpace.{space_of};
 ghost use Rattle.plan_words.specs.States.{MayClaim};
 ghost use Rattle.step_core.specs.declared.views.Stage.TheVariants.{Claimed, Pointed, Treed};
@@ -23,6 +23,7 @@ static MARKS: [Point; 3] = [Point { x: 0, y: 50 }, FAR, Point { x: 40, y: 30 }];
 fn begun_after_two<R: Threads + Sync + Abort>(rt: &R, alloc: Global) -> Begun
     ensures opening { result.shared.opening ≡ 2 }
     ensures marks { length result.shared.task.marks ≡ 3 }
+    ensures plain { result.shared.task.scene.informed ≡ false }
     ensures hall { result.hall ≡ space_of result.shared.task.scene }
     ensures may_claim { MayClaim result.shared result.pass }
 {
@@ -42,7 +43,8 @@ fn take_mark(shared: &Shared, pass: &mut Pass) -> Option<u32>
 
 /// Writes the point of the mark in hand, steered from the node that is nearest to it, which is returned.
 fn write_near(shared: &Shared, pass: &mut Pass, mark: u32) -> u32
-    requires { HoldsMark shared.now mark Claimed 0 pass.old }
+    requires holds { HoldsMark shared.now mark Claimed 0 pass.old }
+    requires plain { shared.now.task.scene.informed ≡ false }
     ensures { HoldsMark shared.now mark Pointed result pass.new }
 {
     let towards = shared.task().marks.as_slice()[mark as usize];
@@ -108,6 +110,7 @@ fn hang(
 fn place_mark(shared: &Shared, pass: &mut Pass, mark: u32, nearest: u32) -> Placing
     requires holds { HoldsMark shared.now mark Treed nearest pass.old }
     requires near { HasNearInReach pass.old }
+    requires plain { shared.now.task.scene.informed ≡ false }
     ensures { IfPlaced result (MayRewire shared.now mark pass.new) }
 {
     place(shared, pass, mark)
@@ -118,6 +121,7 @@ fn begin_third<R: Abort>(rt: &R, shared: &Shared, pass: &mut Pass) -> (u32, u32)
     requires may_claim { MayClaim shared.now pass.old }
     requires opening { shared.now.opening ≡ 2 }
     requires marks { length shared.now.task.marks ≡ 3 }
+    requires plain { shared.now.task.scene.informed ≡ false }
     ensures { HoldsMark shared.now result.0 Pointed result.1 pass.new }
 {
     let Some(mark) = take_mark(shared, pass) else {
@@ -162,6 +166,7 @@ fn rewire_third<R: Abort>(
     requires holds { HoldsMark shared.now mark Treed nearest pass.old }
     requires near { HasNearInReach pass.old }
     requires hall { hall.now ≡ space_of shared.now.task.scene }
+    requires plain { shared.now.task.scene.informed ≡ false }
     ensures { IsAtWork shared.now pass.new }
 {
     let Placing::Placed = place_mark(shared, pass, mark, nearest) else {
@@ -176,6 +181,7 @@ fn expect_rewired<R: Abort>(rt: &R, shared: &Shared, hall: &Hall, pass: &mut Pas
     requires opening { shared.now.opening ≡ 2 }
     requires marks { length shared.now.task.marks ≡ 3 }
     requires hall { hall.now ≡ space_of shared.now.task.scene }
+    requires plain { shared.now.task.scene.informed ≡ false }
 {
     let (mark, closest) = begin_third(rt, shared, pass);
     hang_third(rt, shared, hall, pass, mark, closest);

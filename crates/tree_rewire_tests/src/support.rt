@@ -1,7 +1,7 @@
 //! What the tests share: passes that go on from a run, looks at what they see, and a pass with a share that lowers one node below
 //! another.
 
-ghost use Rattle.std.specs.Prelude.{◌≡◌, ◌≢◌, ◌≤◌, All, IfSome, IsTrue, Ok, Some, length};
+ghost use Rattle.std.specs.Prelude.{◌≡◌, ◌≢◌, ◌≤◌, All, IfSome, IsTrue, Ok, Some, false, length};
 ghost use Rattle.plan_model.specs.Geometry.Bounds.{IsBounded};
 ghost use Rattle.plan_model.specs.Runs.OrderLaw.{IsAllowedEdge};
 ghost use Rattle.plan_model.specs.Scenes.Limits.{is_plan};
@@ -69,6 +69,7 @@ pub(crate) fn marks_in_square<R: Abort>(
     requires gamma { gamma ≤ 1000 }
     requires plan { IsTrue (is_plan 1 (Listed marks.now)) }
     ensures marks { result.marks ≡ marks.now }
+    ensures plain { result.scene.informed ≡ false }
     ensures clear { ClearAt (space_of result.scene) result.scene.start }
 {
     let small = SmallScene {

@@ -1,13 +1,24 @@
 use Rattle.std.proofs.Common.{◌≡◌, ap, arith, length, refl, ◌∙◌}
 use Rattle.plan_words.specs.States.{PassState, with_view}
 use Rattle.plan_words.proofs.HandSteps.{at_hand}
+use Rattle.plan_words.proofs.KeptPairs.{if_hand}
+use Rattle.plan_words.proofs.PlainScenes.{no_goals}
+use Rattle.step_core.specs.SeenBests.{IsUnskipped}
 use Rattle.step_core.specs.ViewSteps.{pointed}
 use Rattle.step_core.specs.declared.views.Stage.TheVariants.{Pointed}
 use Rattle.tree_rewire_tests.proofs.rewire.write_near.Goals as goal
 
+pub write_point-requires-clause-unskipped : goal.write_point-requires-clause-unskipped
+write_point-requires-clause-unskipped c =
+    let mid = c.point-from.new.pass.view in
+    let run = ap (λ (s : PassState). s.view.run) c.point-from.ensures.view ∙ c.nearest-node.ensures.belongs.run in
+    let held = ap (λ (s : PassState). s.view.hand) c.point-from.ensures.view ∙ c.nearest-node.ensures.looks.kept.hand ∙ c.requires.holds.held in
+    if_hand (λ hand. IsUnskipped mid hand) mid.hand c.requires.holds.hand held
+    (λ informed. absurd (informed (no_goals c.args.shared.now mid run c.requires.plain)))
+
 pub returns : goal.returns
 returns c =
-    let holds = c.requires in
+    let holds = c.requires.holds in
     let found = c.nearest-node.ensures in
     let mid = c.point-from.new.pass in
     let after = c.write_point.new.pass in

@@ -1,4 +1,4 @@
-use Rattle.std.proofs.Common.{◌≡◌, ◌+◌, length, ap, arith, subst, sym, ◌∙◌}
+use Rattle.std.proofs.Common.{◌≡◌, ◌+◌, ap, arith, subst, sym, ◌∙◌}
 use Rattle.plan_model.specs.Runs.OrderLaw.{IsAllowedEdge}
 use Rattle.plan_words.proofs.GoingOn.{GoesOn-trans}
 use Rattle.step_core.specs.Views.{setup_in}
@@ -7,6 +7,7 @@ use Rattle.step_core.specs.Words.{cost_in}
 use Rattle.tree_rewire.proofs.CostSteps.{PassSees-lower}
 use Rattle.tree_rewire.proofs.LoweredCosts.{MayLower-less}
 use Rattle.tree_rewire.proofs.SeenCosts.{SeesPair-later, stands_later}
+use Rattle.tree_rewire_tests.proofs.WorkingPasses.{IsAtWork-kept}
 use Rattle.tree_rewire_tests.proofs.support.lower_while_dearer.Goals as goal
 
 pub lower-found-requires-clause-may : goal.lower-found-requires-clause-may
@@ -26,13 +27,10 @@ pub lowers-preserved : goal.lowers-preserved
 lowers-preserved c =
     let h = c.lowers.invariant in
     let lower = c.lower-found.ensures in
-    let step = PassSees-lower c.args.shared.now c.lowers.pass c.lower-found.new.pass c.args.node c.args.parent _ _ _ c.lower-found.result h.works.belongs
-    lower.view lower.view_found lower.goes_on lower.seen in
+    let step = PassSees-lower c.args.shared.now c.lowers.pass c.lower-found.new.pass c.args.node _ _ c.lower-found.result h.works.belongs
+    h.works.posted lower.kept lower.view_found lower.goes_on lower.seen in
     record {
-      works = record {
-        belongs = step.belongs;
-        part = omega (arith, h.works.part, ap (λ crew. length crew) step.sees_anew.kept.crew);
-      };
+      works = IsAtWork-kept c.args.shared.now c.lowers.pass c.lower-found.new.pass step.belongs step.sees_anew.goes_on.later.run step.sees_anew.kept h.works;
       goes_on = GoesOn-trans c.args.pass.now.view c.lowers.pass.view c.lower-found.new.pass.view h.goes_on lower.goes_on;
       others = λ m apart. lower.seen.others (TreeOf m) (λ e. apart (let own : m ≡ c.args.node = cc in own)) ∙ h.others m apart;
       pair = lower.falls.written;
