@@ -1,6 +1,7 @@
 use Rattle.std.proofs.Common.{◌≡◌, suc, sym, ap, ◌∙◌, subst}
 use Rattle.std.specs.Prelude.{All, Contains}
 use Rattle.plan_model.specs.declared.records.Record.{Record}
+use Rattle.plan_words.proofs.Posting.{HasPostedHand-calm}
 use Rattle.plan_work.proofs.HeldMarks.{if_held, of_held}
 use Rattle.plan_work.proofs.KeptRecords.{KeepsRecords-anew, KeepsRecords-trans}
 use Rattle.plan_work.proofs.PlacedMarks.{IsPlacedAt-recorded, MayRecord-placed, MayRecord-same, Rewired-hand}
@@ -39,6 +40,12 @@ rewire_found-requires-clause-placed g c κs within =
     may.held c.choose_and_place-placing.ensures.tried in
     let placed = subst (λ placing. IsTried before after may.hand placing c.choose_and_place-placing.result.1) c.in-Placed.is tried in
     HasPlaced-placed after.view c.args.k _ placed.came may.mark
+
+-- the scene is not informed
+pub rewire_found-requires-clause-posted : goal.rewire_found-requires-clause-posted
+rewire_found-requires-clause-posted g c κs within =
+    let keeps = c.choose_and_place-placing.ensures.keeps in
+    HasPostedHand-calm c.args.shared.now c.choose_and_place-placing.new.pass.view keeps.belongs.run c.requires.may.plain
 
 pub rewire_found-requires-clause-near : goal.rewire_found-requires-clause-near
 rewire_found-requires-clause-near g c κs within =
