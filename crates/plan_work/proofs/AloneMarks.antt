@@ -6,7 +6,9 @@ use Rattle.plan_model.specs.Runs.ClosedLaw.{mark_at}
 use Rattle.plan_model.specs.Runs.Textbook.{Handles, IsTextbookRun, Nodes}
 use Rattle.plan_model.specs.declared.records.Record.{Record}
 use Rattle.plan_model.proofs.TextbookStates.{RecordsMark-push}
+use Rattle.plan_words.specs.Bests.{HasPostedGoals}
 use Rattle.plan_words.specs.States.{PassState, SharedState}
+use Rattle.plan_words.proofs.PostedGoals.{HasPostedGoals-step}
 use Rattle.plan_work.proofs.MirroredTrees.{Mirrors-still}
 use Rattle.plan_work.proofs.RecordedMarks.{others_still}
 use Rattle.plan_work.proofs.TextbookSteps.{IsTextbookRun-push, RecordsNext-run}
@@ -14,6 +16,7 @@ use Rattle.plan_work.specs.ExtensionSteps.{HasRecorded}
 use Rattle.plan_work.specs.OneWorker.{SeesTextbook, WorksAlone}
 use Rattle.plan_work.specs.WholeShares.{SeesButCount}
 use Rattle.step_core.specs.GrownWords.{record_at}
+use Rattle.step_core.specs.LaterViews.{IsLater}
 use Rattle.step_core.specs.ViewSteps.{one_turn_more}
 use Rattle.step_core.specs.Views.{sees, setup_in}
 use Rattle.step_core.specs.WordNames.{Word}
@@ -39,14 +42,16 @@ record_still : (before after : View) (j : ℕ) → sees after (RecordOf j) ≡ s
 record_still before after j record_is first_is = λ t. record_of_word (record_is t) (first_is t)
 
 -- no word that tells of the tree or the records is seen anew
-pub SeesTextbook-still : (before after : View) (k : ℕ) → after.run ≡ before.run → SeesButCount before after → SeesTextbook before k → SeesTextbook after k
-SeesTextbook-still before after k run same book = record {
+pub SeesTextbook-still : (before after : View) (k : ℕ) → IsLater before after → SeesButCount before after → SeesTextbook before k → SeesTextbook after k
+SeesTextbook-still before after k later same book = record {
   tree = book.tree;
   records = book.records;
-  run = subst (λ (r : SharedRun). IsTextbookRun (setup_in r) (take k r.marks) book.tree book.records) (sym run) book.run;
+  run = subst (λ (r : SharedRun). IsTextbookRun (setup_in r) (take k r.marks) book.tree book.records) (sym later.run) book.run;
   nodes =
-      Mirrors-still before after run (λ n. same (PointOf n) (λ e. cc)) (λ n. same (TreeOf n) (λ e. cc)) book.tree book.nodes;
+      Mirrors-still before after later.run (λ n. same (PointOf n) (λ e. cc)) (λ n. same (TreeOf n) (λ e. cc)) book.tree book.nodes;
   recorded = λ j. record_still before after j (same (RecordOf j) (λ e. cc)) (same (FirstOf (suc j)) (λ e. cc)) ∙ book.recorded j;
+  best =
+      HasPostedGoals-step before after later (λ n. same (PointOf n) (λ e. cc)) (λ n goal changed. absurd (changed (same (TreeOf n) (λ e. cc)))) book.best;
 }
 
 -- ---- the next mark
@@ -90,8 +95,8 @@ module _
   -- And if the mark was handled as in the textbook, the run has come past it.
   pub SeesTextbook-recorded :
       (book : SeesTextbook begun k) (now : Nodes) → Handles (setup_in begun.run) book.tree k (mark_at begun.run.marks k) entry now
-      → Mirrors mid.view now → SeesTextbook done.view (suc k)
-  SeesTextbook-recorded book now handles mirrors =
+      → Mirrors mid.view now → HasPostedGoals mid.view → SeesTextbook done.view (suc k)
+  SeesTextbook-recorded book now handles mirrors posted =
       let run : done.view.run ≡ begun.run = recorded.goes_on.later.run ∙ kept.run in
       let next = RecordsNext-run (setup_in begun.run) begun.run.marks k book.tree book.records (omega (arith, below)) book.run in
       let pushed = RecordsMark-push book.tree book.records k entry next in
@@ -103,6 +108,9 @@ module _
             (IsTextbookRun-push (setup_in begun.run) begun.run.marks k book.tree book.records (omega (arith, below)) book.run below entry now handles);
         nodes =
             Mirrors-still mid.view done.view recorded.goes_on.later.run (λ n. still (PointOf n) (λ e. cc)) (λ n. still (TreeOf n) (λ e. cc)) now mirrors;
+        best =
+            HasPostedGoals-step mid.view done.view recorded.goes_on.later (λ n. still (PointOf n) (λ e. cc))
+            (λ n goal changed. absurd (changed (still (TreeOf n) (λ e. cc)))) posted;
         recorded = λ j.
             elim (cases_eq j k) [
               | inl e ↦

@@ -1,26 +1,26 @@
 -- A pass that works alone handles a mark as in the textbook: what its steps lead to.
-use Rattle.std.proofs.Common.{◌≡◌, false, ℕ, suc, Some, None, [], ◌∷◌, ◌++◌, sym, ap, ◌∙◌, subst}
+use Rattle.std.proofs.Common.{◌≡◌, ℕ, suc, Some, None, [], ◌∷◌, ◌++◌, sym, ap, ◌∙◌, subst}
 use Rattle.kd_shared.specs.Placings.{SeesPlacing}
 use Rattle.kd_shared.specs.declared.placing.Placing.{Placing}
 use Rattle.kd_shared.specs.declared.placing.Placing.TheVariants.{Placed, Same}
 use Rattle.plan_model.specs.Spaces.Clearance.{Clear}
 use Rattle.plan_model.specs.Runs.ClosedLaw.{mark_at}
 use Rattle.plan_model.specs.Trees.PointsByNumber.{IsFree, point_of}
-use Rattle.plan_model.specs.Runs.Textbook.{Handles, SteersTo, unplaced_record}
-use Rattle.plan_model.specs.Trees.NodeLists.{points_of}
+use Rattle.plan_model.specs.Runs.Textbook.{Handles, MayBeCheaper, SteersTo, unplaced_record}
+use Rattle.plan_model.specs.Trees.NodeLists.{points_of, sum_of}
 use Rattle.plan_model.specs.declared.geometry.Point.{Point}
 use Rattle.plan_model.specs.declared.records.Outcome.TheVariants.{Blocked, Same as SameNode}
 use Rattle.plan_model.specs.declared.records.Record.{Record}
-use Rattle.plan_words.proofs.PlainScenes.{no_goals}
 use Rattle.plan_words.specs.Claims.{SeesAsBefore}
 use Rattle.plan_words.specs.States.{GoesOn, PassState, SharedState, turn_of, with_view, worker_of}
 use Rattle.plan_work.proofs.AloneMarks.{KeepsRun-refl, SeesTextbook-recorded, SeesTextbook-still, WorksAlone-recorded, WorksAlone-still}
 use Rattle.plan_work.proofs.MirroredTrees.{Mirrors-absent, SteersTo-mirrored, point_of-mirrored}
+use Rattle.plan_work.proofs.SkippedAlone.{IsNotSkippedIn-kept, MayBeCheaper-mirrored}
 use Rattle.plan_work.proofs.TextbookSteps.{Handles-blocked, Handles-same}
 use Rattle.plan_work.proofs.WholeLists.{IsFilledWhole-still, IsSteeredWhole-found, IsSteeredWhole-still}
 use Rattle.plan_work.specs.Extensions.{HasSteered}
 use Rattle.plan_work.specs.ExtensionSteps.{HasRecorded, KeepsRecords, own_unplaced}
-use Rattle.plan_work.specs.OneWorker.{SeesTextbook, WorksAlone}
+use Rattle.plan_work.specs.OneWorker.{IsNotSkippedIn, SeesTextbook, WorksAlone}
 use Rattle.plan_work.specs.WholeShares.{IsFilledWhole, IsSteeredWhole, KeepsNode, KeepsOthers, SeesButCount}
 use Rattle.step_core.specs.ViewSteps.{pointed}
 use Rattle.step_core.specs.ViewTrees.{SeesPoint}
@@ -45,6 +45,22 @@ KeepsOthers-after before mid after k placing same others = by_place placing othe
     by_place Placed h = λ n apart. kept n (h n apart)
     by_place (Same j) h = λ n. kept n (h n)
 
+-- and by calls that show nothing new then
+pub KeepsOthers-then : (before mid after : View) (k : ℕ) (placing : Placing) → KeepsOthers before mid k placing → SeesAsBefore mid after
+    → KeepsOthers before after k placing
+KeepsOthers-then before mid after k placing others same = by_place placing others
+  where
+    kept : (n : ℕ) → KeepsNode before mid n → KeepsNode before after n
+    kept n node = record {
+      point = same (PointOf n) ∙ node.point;
+      tree = same (TreeOf n) ∙ node.tree;
+      first = same (FirstOf n) ∙ node.first;
+    }
+
+    by_place : (o : Placing) → KeepsOthers before mid k o → KeepsOthers before after k o
+    by_place Placed h = λ n apart. kept n (h n apart)
+    by_place (Same j) h = λ n. kept n (h n)
+
 -- of a placing that a pass with the share of all workers makes
 pub KeepsOthers-placing : (before after : View) (hand : Hand) (placing : Placing) → SeesPlacing before after hand placing
     → KeepsOthers before after hand.mark placing
@@ -59,12 +75,19 @@ KeepsOthers-placing before after hand (Same j) same = λ n. record { point = sam
 module _
     (shared : SharedState) (before found : PassState) (hand : Hand) (k m : ℕ) (from p : Point) (keeps : KeepsRecords shared before found)
     (steers : HasSteered before.view found.view k m from p) (held : found.view.hand ≡ Some hand) (mark : hand.mark ≡ k)
-    (same : SeesButCount before.view found.view) (begun : WorksAlone before.view k) (read : SeesTextbook before.view k) where
+    (same : SeesButCount before.view found.view) (begun : WorksAlone before.view k) (read : SeesTextbook before.view k)
+    (cheaper : IsNotSkippedIn before.view k) where
   alone : WorksAlone found.view k
   alone = WorksAlone-still before.view found.view k keeps.goes_on.later.run keeps.crew begun
 
   book : SeesTextbook found.view k
-  book = SeesTextbook-still before.view found.view k keeps.goes_on.later.run same read
+  book = SeesTextbook-still before.view found.view k keeps.goes_on.later same read
+
+  cheaper_still : IsNotSkippedIn found.view k
+  cheaper_still = IsNotSkippedIn-kept before.view found.view k keeps.goes_on.later same cheaper
+
+  cheaper_tree : MayBeCheaper (setup_in found.view.run) (sum_of book.tree) (points_of book.tree) (mark_at found.view.run.marks k)
+  cheaper_tree = MayBeCheaper-mirrored found.view book.tree book.nodes k cheaper_still
 
   steers_whole : IsSteeredWhole found.view k m p
   steers_whole = IsSteeredWhole-found before.view found.view keeps.goes_on.later.run (λ n. same (PointOf n) (λ e. cc)) k m from p steers
@@ -80,27 +103,27 @@ module _
     unplaced handles = (
       WorksAlone-recorded shared found.view found done hand k entry recorded held mark (KeepsRun-refl found.view k) alone,
       SeesTextbook-recorded shared found.view found done hand k entry recorded held mark (KeepsRun-refl found.view k) book (book.tree ++ None ∷ [])
-          handles (Mirrors-absent found.view book.tree book.nodes),
+          handles (Mirrors-absent found.view book.tree book.nodes) book.best,
     )
 
     -- a node stands at p
-    pub AloneNext-found : shared.task.scene.informed ≡ false → (j : ℕ) → entry ≡ own_unplaced found.view m (SameNode j) → SeesPoint found.view j p
+    pub AloneNext-found : (j : ℕ) → entry ≡ own_unplaced found.view m (SameNode j) → SeesPoint found.view j p
         → WorksAlone done.view (suc k) × SeesTextbook done.view (suc k)
-    AloneNext-found plain j is stands =
+    AloneNext-found j is stands =
         unplaced
         (Handles-same (setup_in found.view.run) book.tree k m (mark_at found.view.run.marks k) p entry
-        (no_goals shared found.view keeps.belongs.run plain) steers_tree j
+        cheaper_tree steers_tree j
         (sym (book.nodes.points j) ∙ stands)
         (is ∙ ap (λ members. unplaced_record (worker_of members) (turn_of members) m (SameNode j)) alone.crew))
 
     -- or the segment to it is blocked
-    pub AloneNext-blocked : shared.task.scene.informed ≡ false → IsFree (tree_seen found.view).points p
+    pub AloneNext-blocked : IsFree (tree_seen found.view).points p
         → ¬ Clear (setup_in found.view.run).space (point_of (tree_seen found.view).points m) p
         → entry ≡ own_unplaced found.view m Blocked → WorksAlone done.view (suc k) × SeesTextbook done.view (suc k)
-    AloneNext-blocked plain free blocked is =
+    AloneNext-blocked free blocked is =
         unplaced
         (Handles-blocked (setup_in found.view.run) book.tree k m (mark_at found.view.run.marks k) p entry
-        (no_goals shared found.view keeps.belongs.run plain) steers_tree
+        cheaper_tree steers_tree
         (λ j stands. free j (book.nodes.points j ∙ stands))
         (λ clear.
         blocked (subst (λ a. Clear (setup_in found.view.run).space a p) (sym (point_of-mirrored found.view book.tree book.nodes m)) clear))
@@ -116,7 +139,10 @@ module _
     WorksAlone-written = WorksAlone-still found.view written.view k goes_on.later.run (ap (λ (x : PassState). x.view.crew) is) alone
 
     pub SeesTextbook-written : SeesTextbook written.view k
-    SeesTextbook-written = SeesTextbook-still found.view written.view k goes_on.later.run (λ name other. unshown name) book
+    SeesTextbook-written = SeesTextbook-still found.view written.view k goes_on.later (λ name other. unshown name) book
+
+    pub IsNotSkippedIn-written : IsNotSkippedIn written.view k
+    IsNotSkippedIn-written = IsNotSkippedIn-kept found.view written.view k goes_on.later (λ name other. unshown name) cheaper_still
 
     pub IsSteeredWhole-written : IsSteeredWhole written.view k m p
     IsSteeredWhole-written = IsSteeredWhole-still found.view written.view goes_on.later.run (λ n. unshown (PointOf n)) k m p steers_whole

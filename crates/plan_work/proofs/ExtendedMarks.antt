@@ -1,6 +1,6 @@
 -- A mark is handled in steps: what the first of them leave, and what all of them leave together.
-use Rattle.std.proofs.Common.{◌≡◌, false, ℕ, ◌≤◌, Some, refl, sym, ap, ◌∙◌, subst, arith}
-use Rattle.std.specs.Prelude.{[], IfSome, IsSome, is_some}
+use Rattle.std.proofs.Common.{◌≡◌, ℕ, ◌≤◌, Some, refl, sym, ap, ◌∙◌, subst, arith}
+use Rattle.std.specs.Prelude.{IfSome, IsSome, is_some}
 use Rattle.plan_model.specs.Spaces.Clearance.{Clear}
 use Rattle.plan_model.specs.Spaces.ConfigurationSpace.{space_of}
 use Rattle.plan_model.specs.Trees.PointsByNumber.{IsFree, point_of}
@@ -12,10 +12,10 @@ use Rattle.plan_model.proofs.NewNodes.{point_of-stands}
 use Rattle.plan_model.proofs.SightLaws.{EndsSince-later}
 use Rattle.plan_model.specs.Geometry.Bounds.{IsBounded}
 use Rattle.plan_words.specs.States.{BelongsTo, GoesOn, PassState, SharedState, turn_of, with_view, worker_of}
-use Rattle.plan_words.proofs.PlainScenes.{no_goals}
 use Rattle.plan_words.proofs.GoingOn.{BelongsTo-later, GoesOn-trans}
 use Rattle.step_core.proofs.LawfulSights.{IsLaterMoment-later, KeepsSight-lawful}
 use Rattle.step_core.proofs.SeenWords.{point_at-seen, seen-within}
+use Rattle.step_core.specs.SeenBests.{IsUnskipped}
 use Rattle.step_core.specs.SeenRecords.{MayBeBlocked, MayRecord}
 use Rattle.step_core.specs.ViewSteps.{one_turn_more, pointed}
 use Rattle.step_core.specs.ViewTrees.{IsSteered, SeesPoint, sight_in}
@@ -33,10 +33,12 @@ use Rattle.plan_work.proofs.HeldMarks.{holding, if_held}
 use Rattle.plan_work.proofs.KeptRecords.{KeepsRecords-looks, KeepsRecords-trans}
 use Rattle.plan_work.proofs.KeptSights.{HasSteered-still}
 use Rattle.plan_work.proofs.RecordedMarks.{HandlesMark-recorded, IsSteeredTo-still, MaySteer-steered, others_still}
-use Rattle.plan_work.proofs.SteeredOutcomes.{EndsAsSeen-written, WasSteered-to}
+use Rattle.plan_work.proofs.SkippedMarks.{IsUnskipped-kept}
+use Rattle.plan_work.proofs.SteeredOutcomes.{EndsAsSteered-written, WasSteered-to}
 use Rattle.plan_work.proofs.TriedMarks.{HasFilledNear-still}
-use Rattle.plan_work.specs.Extensions.{EndsAsSeen, HandlesMark, HasSteered, IsBlockedAt, IsExtended, WasSteered}
-use Rattle.plan_work.specs.ExtensionSteps.{EndsWritten, HasFilledNear, HasRecorded, IsFilledSince, IsSteeredTo, KeepsRecords, MayPlace, own_unplaced}
+use Rattle.plan_work.specs.Extensions.{EndsAsSteered, HandlesMark, HasSteered, IsBlockedAt, WasSteered}
+use Rattle.plan_work.specs.ExtensionSteps.{EndsWritten, HasFilledNear, HasRecorded, IsFilledSince, IsSteeredAndHandled, IsSteeredTo, KeepsRecords, MayPlace}
+use Rattle.plan_work.specs.ExtensionSteps.{own_unplaced}
 use Rattle.plan_model.specs.declared.records.Outcome.{Outcome}
 
 -- ---- one after another
@@ -159,21 +161,21 @@ module _
     (shared : SharedState) (before found : PassState) (hand : Hand) (k m : ℕ) (from p : Point) (keeps : KeepsRecords shared before found)
     (steers : HasSteered before.view found.view k m from p) (held : found.view.hand ≡ Some hand) (mark : hand.mark ≡ k) where
   -- another node stands at the point
-  pub MayRecord-found : shared.task.scene.informed ≡ false → (j : ℕ) → SeesPoint found.view j p
+  pub MayRecord-found : IsUnskipped found.view hand → (j : ℕ) → SeesPoint found.view j p
       → IfSome found.view.hand (λ h. MayRecord found.view h (own_unplaced found.view m (Same j)))
-  MayRecord-found plain j stands =
+  MayRecord-found unskipped j stands =
       if_held found.view (λ h. MayRecord found.view h (own_unplaced found.view m (Same j))) hand held
       (MaySteer-steered found.view hand k m p (own_unplaced found.view m (Same j)) (SeesPoint found.view j)
-      (no_goals shared found.view keeps.belongs.run plain) (IsSteeredTo-found shared before found k m from p keeps steers) mark refl stands)
+      unskipped (IsSteeredTo-found shared before found k m from p keeps steers) mark refl stands)
 
   -- or the segment to it is blocked
-  pub MayRecord-blocked : shared.task.scene.informed ≡ false → IsFree (tree_seen found.view).points p
+  pub MayRecord-blocked : IsUnskipped found.view hand → IsFree (tree_seen found.view).points p
       → ¬ Clear (setup_in found.view.run).space (point_of (tree_seen found.view).points m) p
       → IfSome found.view.hand (λ h. MayRecord found.view h (own_unplaced found.view m Blocked))
-  MayRecord-blocked plain free blocked =
+  MayRecord-blocked unskipped free blocked =
       if_held found.view (λ h. MayRecord found.view h (own_unplaced found.view m Blocked)) hand held
       (MaySteer-steered found.view hand k m p (own_unplaced found.view m Blocked) (MayBeBlocked found.view (own_unplaced found.view m Blocked))
-      (no_goals shared found.view keeps.belongs.run plain) (IsSteeredTo-found shared before found k m from p keeps steers) mark refl
+      unskipped (IsSteeredTo-found shared before found k m from p keeps steers) mark refl
       record { blocked = blocked; free = λ i own. free i })
 
   module _ (done : PassState) (entry : Record) (recorded : HasRecorded shared found done entry) where
@@ -186,17 +188,18 @@ module _
         (subst (λ n. HasSteered before.view done.view k n from p) (sym is)
         (HasSteered-still before.view found.view done.view keeps.goes_on recorded.goes_on k m from p steers)) ended
 
-    extended : (outcome : Outcome) → entry.outcome ≡ outcome → EndsAsSeen before.view done.view k entry outcome → IsExtended before.view done.view k entry
-    extended outcome is ended = record { stored = handles.stored; outcome = subst (EndsAsSeen before.view done.view k entry) (sym is) ended }
+    extended : (outcome : Outcome) → entry.outcome ≡ outcome → EndsAsSteered before.view done.view k entry outcome
+        → IsSteeredAndHandled before.view done.view k entry
+    extended outcome is ended = record { stored = handles.stored; outcome = subst (EndsAsSteered before.view done.view k entry) (sym is) ended }
 
-    pub IsExtended-found : (j : ℕ) → entry ≡ own_unplaced found.view m (Same j) → SeesPoint found.view j p → IsExtended before.view done.view k entry
+    pub IsExtended-found : (j : ℕ) → entry ≡ own_unplaced found.view m (Same j) → SeesPoint found.view j p → IsSteeredAndHandled before.view done.view k entry
     IsExtended-found j is stands =
         extended (Same j) (ap (λ (e : Record). e.outcome) is)
         (was_steered (ap (λ (e : Record). e.nearest) is) (SeesPoint done.view j) (stands_later found.view done.view recorded.goes_on j p stands))
 
     pub IsExtended-blocked : (steering : View) → GoesOn before.view steering → GoesOn steering found.view → entry ≡ own_unplaced found.view m Blocked
         → IsFree (tree_seen found.view).points p → EndsSince (sight_in found.view) steering.steps p
-        → ¬ Clear (setup_in found.view.run).space (point_of (tree_seen found.view).points m) p → IsExtended before.view done.view k entry
+        → ¬ Clear (setup_in found.view.run).space (point_of (tree_seen found.view).points m) p → IsSteeredAndHandled before.view done.view k entry
     IsExtended-blocked steering one two is free ends blocked =
         let last = ap (λ (x : PassState). x.view) (recorded.view hand held) in
         let nearest = ap (λ (e : Record). e.nearest) is in
@@ -256,10 +259,10 @@ module _
           (GoesOn-trans steering.view found.view written.view two goes_on) (ap (λ v. sees v Count) then ∙ count) filled));
     }
 
-    pub MayPlace-written : shared.task.scene.informed ≡ false → IsBounded p → Clear (space_of shared.task.scene) from p → MayPlace shared written k m p
+    pub MayPlace-written : IsUnskipped found.view hand → IsBounded p → Clear (space_of shared.task.scene) from p → MayPlace shared written k m p
     unfolding KeepsRecords-written
-    MayPlace-written plain bounded clear = record {
-      plain = plain;
+    MayPlace-written unskipped bounded clear = record {
+      unskipped = IsUnskipped-kept found.view written.view hand (record hand { stage = Pointed; nearest = m; point = p }) goes_on.later.run refl refl unskipped;
       belongs = KeepsRecords-written.belongs;
       hand = record hand { stage = Pointed; nearest = m; point = p };
       held = ap (λ v. v.hand) then;
@@ -279,11 +282,11 @@ pub IsExtended-written :
     (shared : SharedState) (before steering found written done : PassState) (k m : ℕ) (from p : Point) (entry : Record)
     → HasLooked shared before steering found k m from p → KeepsRecords shared before written → GoesOn found.view written.view
     → HandlesMark shared written done k entry → entry.nearest ≡ m → EndsWritten before.view done.view k entry p entry.outcome
-    → IsExtended before.view done.view k entry
+    → IsSteeredAndHandled before.view done.view k entry
 IsExtended-written shared before steering found written done k m from p entry looked keeps goes_on handles is ended = record {
   stored = handles.stored;
   outcome =
-      EndsAsSeen-written before.view done.view k entry from p
+      EndsAsSteered-written before.view done.view k entry from p
       (subst (λ n. HasSteered before.view done.view k n from p) (sym is)
       (HasSteered-still before.view found.view done.view looked.keeps.goes_on
       (GoesOn-trans found.view written.view done.view goes_on handles.goes_on) k m from p looked.steers))

@@ -1,9 +1,11 @@
 pub mod HeldMarks
+pub mod SkippedMarks
 pub mod KeptSights
 pub mod FilledNear
 pub mod FoundNear
 pub mod KeptRecords
 pub mod HungMarks
+pub mod PostedNodes
 pub mod TriedMarks
 pub mod PlacedHands
 pub mod NearestListed
@@ -21,7 +23,9 @@ pub mod EqualPoints
 pub mod MirroredTrees
 pub mod TextbookSteps
 pub mod AloneMarks
+pub mod SkippedAlone
 pub mod WholeLists
 pub mod PlacedAlone
 pub mod ExtendedAlone
+pub mod SkippingMarks
 pub mod TextbookEnds

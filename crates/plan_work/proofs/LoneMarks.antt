@@ -11,7 +11,9 @@ use Rattle.plan_model.proofs.StripMarks.{IsMarkOf-own, is_claimed-now, is_claime
 use Rattle.plan_model.proofs.WorkerTurns.{ltb-next}
 use Rattle.plan_words.specs.Claims.{AllFull, IsClaimed, IsLeastOpen, KeepsHand, RaisesCounter, SeesAsBefore}
 use Rattle.plan_words.specs.States.{GoesOn, PassState, SharedState}
+use Rattle.plan_words.proofs.PostedGoals.{HasPostedGoals-step}
 use Rattle.step_core.specs.GrownWords.{record_at}
+use Rattle.step_core.specs.LaterViews.{IsLater}
 use Rattle.step_core.specs.SeenWords.{seen_point}
 use Rattle.step_core.specs.ViewSteps.{mark_of}
 use Rattle.step_core.specs.Views.{sees, setup_in, tree_seen}
@@ -26,7 +28,10 @@ use Rattle.plan_work.specs.OneWorker.{HasClaimed, HasHandled, SeesTextbook, Work
 
 -- ---- while only counters are seen anew
 
-module _ (before after : View) (run : after.run ≡ before.run) (others : ChangesOnly IsCounter (sees before) (sees after)) where
+module _ (before after : View) (later : IsLater before after) (others : ChangesOnly IsCounter (sees before) (sees after)) where
+  run : after.run ≡ before.run
+  run = later.run
+
   point-same : (n : ℕ) → seen_point (sees after) n ≡ seen_point (sees before) n
   point-same n = ap point_of_word (others (PointOf n) (λ no. no))
 
@@ -53,6 +58,9 @@ module _ (before after : View) (run : after.run ≡ before.run) (others : Change
       costs = λ n here. ap cost_in (others (TreeOf n) (λ no. no)) ∙ seen.nodes.costs n here;
     };
     recorded = λ j. record-same j ∙ seen.recorded j;
+    best =
+        HasPostedGoals-step before after later (λ n. others (PointOf n) (λ no. no)) (λ n goal changed. absurd (changed (others (TreeOf n) (λ no. no))))
+        seen.best;
   }
 
   -- and the worker is the only one still
@@ -123,8 +131,8 @@ pub HasHandled-mark :
 HasHandled-mark shared now claimed after limit k m entry handled goes_on others claims raises least handles extended =
     let here : HasHandled now.view k = subst (HasHandled now.view) (sym (least-is now.view k m handled.claimed least)) handled in
     let run = goes_on.later.run in
-    let both = extended (WorksAlone-counted now.view claimed.view run others k claims.crew here.alone)
-    (SeesTextbook-counted now.view claimed.view run others k here.textbook) in
+    let both = extended (WorksAlone-counted now.view claimed.view goes_on.later others k claims.crew here.alone)
+    (SeesTextbook-counted now.view claimed.view goes_on.later others k here.textbook) in
     let was = HasClaimed-claims now.view claimed.view limit k goes_on.was_lawful.run.strips.0 run claims raises here.claimed in
     record {
       alone = both.0;
@@ -156,8 +164,8 @@ HasHandled-all now after limit m handled low goes_on others as_before kept full 
     still =
         let run = goes_on.later.run in
         record {
-          alone = WorksAlone-counted now after run others m kept.crew handled.alone;
-          textbook = SeesTextbook-counted now after run others m handled.textbook;
+          alone = WorksAlone-counted now after goes_on.later others m kept.crew handled.alone;
+          textbook = SeesTextbook-counted now after goes_on.later others m handled.textbook;
           claimed = λ j.
               ap (λ (r : SharedRun). is_claimed r.strips (counters (sees after)) j) run
               ∙ ap (λ f. is_claimed now.run.strips f j) (λ t g. as_before (Counter g) t)

@@ -1,21 +1,23 @@
 -- One worker alone begins with what a run of the textbook has come to, and ends with such a run.
 use Rattle.std.proofs.Common.{◌≡◌, ℕ, ◌+◌, ◌<◌, ◌≤◌, ◌^◌, true, cond, ltb, List, [], ◌∷◌, length}
 use Rattle.std.proofs.Common.{take, Option, Some, None, refl, sym, ap, ◌∙◌, subst, inl, inr, arith}
-use Rattle.std.specs.Prelude.{is_some}
+use Rattle.std.specs.Prelude.{IsTrue, is_some}
 use Rattle.std.proofs.lemmas.Bool.{cases_Bool, cases_lt, le-ltb, lt-ltb}
 use Rattle.std.proofs.lemmas.List.{get_or_past}
 use Rattle.std.proofs.lemmas.List.FromFn.{length-map-range_with_len}
 use lib.Seq.{length-take-le}
 use Rattle.plan_model.specs.Scenes.MarkPoints.{is_claimed}
+use Rattle.plan_model.specs.Trees.BestNode.{IsGoalNode, is_goal_point}
 use Rattle.plan_model.specs.Trees.PointsByNumber.{IsPresent, point_at}
 use Rattle.plan_model.specs.Seen.SeenTrees.{IsSeen}
-use Rattle.plan_model.specs.Runs.Textbook.{IsTextbookRun, setup_of, start_alone}
+use Rattle.plan_model.specs.Runs.Textbook.{IsTextbookRun, setup_of, skipping_goals, start_alone}
 use Rattle.plan_model.specs.Trees.TreeStates.{AreSameRuns, state_of}
 use Rattle.plan_model.specs.Trees.NodeLists.{points_of}
 use Rattle.plan_model.specs.declared.geometry.Point.{Point}
 use Rattle.plan_model.specs.declared.tasks.Task.{Task}
 use Rattle.plan_model.proofs.SameTrees.{AreSameRuns-trans}
 use Rattle.plan_model.proofs.StripMarks.{is_claimed-below, is_claimed-past}
+use Rattle.plan_words.specs.Bests.{HasPostedGoals}
 use Rattle.plan_words.specs.States.{PassState, SharedState, StartsAs, run_in}
 use Rattle.step_core.specs.GrownRuns.{state_of_grown, words_of_grown}
 use Rattle.step_core.specs.GrownWords.{HoldRun, has_node, is_linked, points_of_words, record_at, sizes_of}
@@ -27,7 +29,7 @@ use Rattle.step_core.specs.Views.{run_of, run_sizes, sees, setup_in, tree_seen}
 use Rattle.step_core.specs.WordNames.{Words}
 use Rattle.step_core.specs.WordNames.Word.{PointOf, TreeOf}
 use Rattle.step_core.specs.WordPlaces.{Sizes}
-use Rattle.step_core.specs.Words.{cost_in, parent_in, point_of_word}
+use Rattle.step_core.specs.Words.{best_word, cost_in, parent_in, point_of_word}
 use Rattle.step_core.specs.Worlds.{counters}
 use Rattle.step_core.specs.declared.grown.Grown.{Grown}
 use Rattle.step_core.specs.declared.views.Member.{Member}
@@ -101,6 +103,7 @@ HasHandled-started shared grown pass starts lawful task workers textbook = recor
       costs = λ n here. ap (λ (w : Words). cost_in (w (TreeOf n))) starts.seen ∙ textbook.same.costs n here;
     };
     recorded = λ j. ap (λ (w : Words). record_at w j) starts.seen ∙ textbook.same.records j;
+    best = posted;
   };
   claimed = λ j.
       ap (λ (r : SharedRun). is_claimed r.strips (counters (sees pass.view)) j) run
@@ -138,6 +141,20 @@ HasHandled-started shared grown pass starts lawful task workers textbook = recor
         ap (λ (r : SharedRun). point_at (seen_tree_of_words (run_sizes r) (sees pass.view)).points n) run
         ∙ ap (λ (w : Words). point_at (seen_tree_of_words (sizes_of grown.task) w).points n) starts.seen
         ∙ point_at-held grown.task grown.limit words held n ∙ textbook.same.points n
+
+    -- the best word is the least pair of the run's goal nodes
+    posted : HasPostedGoals pass.view
+    posted n goal written =
+        let same = points n ∙ sym (textbook.same.points n) in
+        let goals : pass.view.run.goals ≡ skipping_goals grown.task.scene = ap (λ (r : SharedRun). r.goals) run in
+        let own : IsGoalNode (skipping_goals grown.task.scene) (state_of_grown grown).points n =
+        subst (λ g. IsTrue (is_goal_point g (point_at (state_of_grown grown).points n))) goals
+        (subst (λ o. IsTrue (is_goal_point pass.view.run.goals o)) same goal) in
+        omega (
+          arith,
+          starts.best.least n own,
+          ap (λ (w : Words). best_word (cost_in (w (TreeOf n))) n) starts.seen,
+        )
 
 -- ---- the end
 

@@ -1,5 +1,5 @@
 -- A pass that works alone places a node, or finds one at its point: the mark is handled as in the textbook.
-use Rattle.std.proofs.Common.{◌≡◌, ℕ, suc, ◌+◌, ◌<◌, ◌≤◌, Some, None, [], ◌∷◌, ◌++◌, length, arith, refl, sym, ap, ◌∙◌, subst, inl, inr}
+use Rattle.std.proofs.Common.{◌≡◌, ℕ, suc, ◌+◌, ◌<◌, ◌≤◌, ◌^◌, Some, None, [], ◌∷◌, ◌++◌, length, arith, refl, sym, ap, ◌∙◌, subst, inl, inr}
 use Rattle.std.specs.Prelude.{All, Contains, List, Option}
 use Rattle.std.proofs.lemmas.Bool.{cases_lt}
 use Rattle.std.proofs.lemmas.List.{get_or_past}
@@ -26,15 +26,19 @@ use Rattle.plan_model.proofs.ListMembers.{Contains-after, Contains-first}
 use Rattle.plan_model.specs.declared.configuration_spaces.ConfigurationSpace.{ConfigurationSpace}
 use Rattle.plan_words.specs.SearchLists.{numbers_of}
 use Rattle.step_core.proofs.DistinctNumbers.{Contains-cases}
-use Rattle.plan_words.proofs.PlainScenes.{no_goals}
+use Rattle.plan_words.proofs.PostedGoals.{HasPostedGoals-more, HasPostedGoals-step}
+use Rattle.plan_words.proofs.Posting.{lies-at}
+use Rattle.plan_words.specs.Bests.{HasPostedGoals}
 use Rattle.plan_words.specs.States.{PassState, SharedState, turn_of, worker_of}
 use Rattle.plan_work.proofs.AloneMarks.{KeepsRun, SeesTextbook-recorded, WorksAlone-recorded}
 use Rattle.plan_work.proofs.EqualPoints.{count-same, near_new-same}
 use Rattle.plan_work.proofs.MirroredTrees.{IsBestParent-mirrored, Mirrors-absent, Mirrors-placed, Mirrors-still, SeesNewNode, SteersTo-mirrored}
 use Rattle.plan_work.proofs.MirroredTrees.{seen_cost_through-mirrored, point_of-mirrored}
 use Rattle.plan_work.proofs.TextbookSteps.{Handles-placed, Handles-same, KeepsOrder-run, RecordsNext-run}
-use Rattle.plan_work.specs.ExtensionSteps.{HasRecorded, IsTried, KeepsRecords, MayPlace, hung_by, own_placed, own_unplaced}
-use Rattle.plan_work.specs.OneWorker.{SeesTextbook, WorksAlone}
+use Rattle.plan_work.specs.ExtensionSteps.{HasRecorded, IsTried, KeepsRecords, MayPlace, hung_by, own_placed, own_unplaced, placed_hand}
+use Rattle.plan_work.proofs.SkippedAlone.{MayBeCheaper-mirrored}
+use Rattle.plan_work.proofs.SkippedMarks.{has_first-placed}
+use Rattle.plan_work.specs.OneWorker.{IsNotSkippedIn, SeesTextbook, WorksAlone}
 use Rattle.plan_work.specs.WholeShares.{IsFilledWhole, IsSteeredWhole, IsTriedWhole}
 use Rattle.plan_work.specs.declared.mark_placing.Hanging.{Hanging}
 use Rattle.step_core.proofs.PackedWords.{cost_in-tree_word, parent_in-tree_word}
@@ -44,10 +48,10 @@ use Rattle.step_core.specs.Stages.{has_link}
 use Rattle.step_core.specs.ViewTrees.{SeesPoint}
 use Rattle.step_core.specs.Views.{run_sizes, sees, setup_in, tree_seen}
 use Rattle.step_core.specs.WordNames.Word.{FirstOf, PointOf, RecordOf, TreeOf}
-use Rattle.step_core.specs.Words.{cost_in, parent_in, point_of_word, tree_word}
+use Rattle.step_core.specs.SeenBests.{SeesGoal}
+use Rattle.step_core.specs.Words.{best_word, cost_in, parent_in, point_of_word, tree_word}
 use Rattle.step_core.specs.declared.views.Hand.{Hand}
 use Rattle.step_core.specs.declared.views.SharedRun.{SharedRun}
-use Rattle.step_core.specs.declared.views.Stage.TheVariants.{Counted}
 use Rattle.step_core.specs.declared.views.View.{View}
 use Rattle.tree_rewire.proofs.SeenCosts.{stands_later}
 use Rattle.tree_rewire.specs.Mirrors.{Mirrors}
@@ -77,7 +81,8 @@ module _
     (may : MayPlace shared before k m p) (keeps : KeepsRecords shared before tried) (is_tried : IsTried before tried may.hand (Same j) hanging)
     (whole : IsTriedWhole (space_of shared.task.scene) before.view tried.view k p m (numbers_of before.lists.search.found) (Same j) hanging)
     (recorded : HasRecorded shared tried done entry) (is : entry ≡ own_unplaced tried.view m (SameNode j))
-    (steers : IsSteeredWhole before.view k m p) (alone : WorksAlone before.view k) (book : SeesTextbook before.view k) where
+    (steers : IsSteeredWhole before.view k m p) (alone : WorksAlone before.view k) (book : SeesTextbook before.view k)
+    (cheaper : IsNotSkippedIn before.view k) where
   same_run : KeepsRun before.view tried.view k
   same_run = record {
     run = keeps.goes_on.later.run;
@@ -90,11 +95,16 @@ module _
   same_mirrors =
       Mirrors-still before.view tried.view keeps.goes_on.later.run (λ n. (whole.others n).point) (λ n. (whole.others n).tree) book.tree book.nodes
 
+  same_posted : HasPostedGoals tried.view
+  same_posted =
+      HasPostedGoals-step before.view tried.view keeps.goes_on.later (λ n. (whole.others n).point)
+      (λ n goal changed. absurd (changed (whole.others n).tree)) book.best
+
   same_handles : Handles (setup_in before.view.run) book.tree k (mark_at before.view.run.marks k) entry (book.tree ++ None ∷ [])
   same_handles =
       let crew : tried.view.crew ≡ record { worker = 0; turn = k } ∷ [] = keeps.crew ∙ alone.crew in
       Handles-same (setup_in before.view.run) book.tree k m (mark_at before.view.run.marks k) p entry
-      (no_goals shared before.view may.belongs.run may.plain)
+      (MayBeCheaper-mirrored before.view book.tree book.nodes k cheaper)
       (SteersTo-mirrored before.view book.tree book.nodes (mark_at before.view.run.marks k) p m steers) j
       (sym (same_mirrors.points j) ∙ subst (SeesPoint tried.view j) may.pointed.point is_tried.came.stands)
       (is ∙ ap (λ crew. unplaced_record (worker_of crew) (turn_of crew) m (SameNode j)) crew)
@@ -103,7 +113,7 @@ module _
   AloneNext-same = (
     WorksAlone-recorded shared before.view tried done (hung_by may.hand hanging) k entry recorded is_tried.came.unchanged may.mark same_run alone,
     SeesTextbook-recorded shared before.view tried done (hung_by may.hand hanging) k entry recorded is_tried.came.unchanged may.mark same_run book
-        (book.tree ++ None ∷ []) same_handles (Mirrors-absent tried.view book.tree same_mirrors),
+        (book.tree ++ None ∷ []) same_handles (Mirrors-absent tried.view book.tree same_mirrors) same_posted,
   )
 
 -- ---- a node that is placed
@@ -154,7 +164,7 @@ module _
   f = hanging.parent
 
   abbrev counted_hand : Hand
-  counted_hand = record (hung_by may.hand hanging) { stage = Counted }
+  counted_hand = placed_hand tried.view (hung_by may.hand hanging)
 
   space : space_of shared.task.scene ≡ setup.space
   space = ap (λ (r : SharedRun). (setup_in r).space) (sym may.belongs.run)
@@ -226,7 +236,8 @@ module _
 
   new_node : SeesNewNode before.view tried.view k f p (cost_through tree p f)
   new_node =
-      let fits = keeps.goes_on.lawful.pair_fits counted_hand is_tried.came.counted refl in
+      let fits = keeps.goes_on.lawful.pair_fits counted_hand is_tried.came.counted
+      (has_first-placed tried.view.run.goals may.hand.point) in
       let word : sees tried.view (TreeOf (suc k)) ≡ tree_word f hanging.cost =
       ap (λ n. sees tried.view (TreeOf (suc n))) (sym may.mark) ∙ is_tried.came.pair in
       record {
@@ -250,6 +261,24 @@ module _
       (RecordsNext-run setup before.view.run.marks k tree book.records within book.run)
       (KeepsOrder-run setup before.view.run.marks k tree book.records within book.run start_clear) (places entry cost_is) new_node
 
+  -- each goal node is posted: the new one by its post, the others were before
+  pub HasPostedGoals-tried : HasPostedGoals tried.view
+  HasPostedGoals-tried =
+      HasPostedGoals-more before.view tried.view keeps.goes_on.later (suc k) (λ n apart. (whole.others n apart).point)
+      (λ n apart. (whole.others n apart).tree) new_posted book.best
+    where
+      fits : (hanging.parent < 2 ^ 18) × (hanging.cost < 2 ^ 44)
+      fits = keeps.goes_on.lawful.pair_fits counted_hand is_tried.came.counted (has_first-placed tried.view.run.goals may.hand.point)
+
+      word : sees tried.view (TreeOf (suc k)) ≡ tree_word f hanging.cost
+      word = ap (λ n. sees tried.view (TreeOf (suc n))) (sym may.mark) ∙ is_tried.came.pair
+
+      new_posted : SeesGoal tried.view (suc k) → tried.view.best ≤ best_word (cost_in (sees tried.view (TreeOf (suc k)))) (suc k)
+      new_posted goal =
+          let lies = lies-at tried.view (suc k) may.hand.point (subst (λ q. SeesPoint tried.view (suc k) q) (sym may.pointed.point) stands) goal in
+          let cost : cost_in (sees tried.view (TreeOf (suc k))) ≡ hanging.cost = ap cost_in word ∙ cost_in-tree_word f hanging.cost fits.0 fits.1 in
+          omega (arith, is_tried.came.posted lies, cost, may.mark)
+
   -- ---- rewired and recorded
 
   module _
@@ -257,7 +286,7 @@ module _
       (rewired : Rewires (space_of shared.task.scene) (book.tree ++ Some (record { point = p; parent = hanging.parent }) ∷ []) (suc k)
       (near_new (setup_in before.view.run) (tree_seen before.view).points p) now)
       (mirrors : Mirrors after.view now) (recorded : HasRecorded shared after done entry) (is : entry ≡ own_placed after.view m hanging)
-      (alone : WorksAlone before.view k) where
+      (alone : WorksAlone before.view k) (cheaper : IsNotSkippedIn before.view k) (posted : HasPostedGoals after.view) where
     crew : after.view.crew ≡ record { worker = 0; turn = k } ∷ []
     crew = seen.kept.crew ∙ keeps.crew ∙ alone.crew
 
@@ -282,7 +311,8 @@ module _
 
     handles : Handles (setup_in before.view.run) book.tree k (mark_at before.view.run.marks k) entry now
     handles =
-        Handles-placed setup tree k m (mark_at before.view.run.marks k) p entry (no_goals shared before.view may.belongs.run may.plain) steers_tree f now free clear_tree parent entry_is
+        Handles-placed setup tree k m (mark_at before.view.run.marks k) p entry
+        (MayBeCheaper-mirrored before.view tree book.nodes k cheaper) steers_tree f now free clear_tree parent entry_is
         (subst (λ ns. Rewires setup.space (tree ++ Some (record { point = p; parent = f }) ∷ []) (suc k) ns now) near_is
         (subst (λ s. Rewires s (tree ++ Some (record { point = p; parent = f }) ∷ []) (suc k) (near_new setup (tree_seen before.view).points p) now) space
         rewired))
@@ -293,5 +323,5 @@ module _
     pub AloneNext-placed : WorksAlone done.view (suc k) × SeesTextbook done.view (suc k)
     AloneNext-placed = (
       WorksAlone-recorded shared before.view after done counted_hand k entry recorded held may.mark run_kept alone,
-      SeesTextbook-recorded shared before.view after done counted_hand k entry recorded held may.mark run_kept book now handles mirrors,
+      SeesTextbook-recorded shared before.view after done counted_hand k entry recorded held may.mark run_kept book now handles mirrors posted,
     )

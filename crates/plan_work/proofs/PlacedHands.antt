@@ -3,6 +3,8 @@ use Rattle.std.proofs.Common.{◌≡◌, ℕ, suc, arith, refl, sym, subst}
 use Rattle.std.specs.Prelude.{IfSome, IsSome}
 use Rattle.kd_shared.specs.Placings.{IsPlaced}
 use Rattle.plan_words.proofs.KeptPairs.{if_hand}
+use Rattle.plan_work.proofs.SkippedMarks.{has_count-placed}
+use Rattle.plan_work.specs.ExtensionSteps.{HasBeenPlaced, placed_hand}
 use Rattle.step_core.specs.ViewSteps.{pair_in_hand}
 use Rattle.step_core.specs.ViewTrees.{SeesPoint}
 use Rattle.step_core.specs.Views.{sees}
@@ -24,5 +26,17 @@ HasPlaced-placed view k hand placed mark =
       counted = refl;
       stands = subst (λ m. SeesPoint view (suc m) hand.point) mark placed.stands;
       first = subst (λ m. sees view (FirstOf (suc m)) ≡ pair_in_hand counted) mark placed.first;
+      pair = subst (λ m. SeesPair view (suc m)) mark (omega (arith, placed.pair));
+    })
+
+-- so may they once it was posted, if it lies in a goal by which marks are skipped
+pub HasPlaced-come : (view : View) (k : ℕ) (hand : Hand) → HasBeenPlaced view hand → hand.mark ≡ k → IfSome view.hand (λ now. HasPlaced view k now)
+HasPlaced-come view k hand placed mark =
+    let now : Hand = placed_hand view hand in
+    if_hand (λ now. HasPlaced view k now) view.hand now placed.counted (record {
+      mark = mark;
+      counted = has_count-placed view.run.goals hand.point;
+      stands = subst (λ m. SeesPoint view (suc m) hand.point) mark placed.stands;
+      first = subst (λ m. sees view (FirstOf (suc m)) ≡ pair_in_hand now) mark placed.first;
       pair = subst (λ m. SeesPair view (suc m)) mark (omega (arith, placed.pair));
     })

@@ -1,5 +1,5 @@
 -- A mark whose node was placed: what its neighbours cost, what may be recorded, and what the whole handling leaves.
-use Rattle.std.proofs.Common.{◌≡◌, ◌≢◌, ℕ, zero, suc, ◌+◌, ◌*◌, ◌≤◌, ◌^◌, true, [], Some, inl, inr, refl, sym, ap, ◌∙◌, subst, arith}
+use Rattle.std.proofs.Common.{◌≡◌, ◌≢◌, ℕ, zero, suc, ◌+◌, ◌*◌, ◌≤◌, ◌^◌, true, Some, inl, inr, refl, sym, ap, ◌∙◌, subst, arith}
 use Rattle.std.specs.Prelude.{All, Contains, IfSome, IsTrue}
 use Rattle.std.proofs.lemmas.Bool.{leb-true}
 use Rattle.std.proofs.lemmas.List.Elements.{All-contains}
@@ -9,6 +9,7 @@ use Rattle.plan_model.specs.Spaces.Clearance.{Clear}
 use Rattle.plan_model.specs.Spaces.ConfigurationSpace.{space_of}
 use Rattle.plan_model.specs.Geometry.Cost.{cost_of}
 use Rattle.plan_model.specs.Geometry.Plane.{squared_distance}
+use Rattle.plan_model.specs.Trees.BestNode.{lies_in_goals}
 use Rattle.plan_model.specs.Trees.Nearness.{distance_to, is_within}
 use Rattle.plan_model.specs.Trees.PointsByNumber.{point_at, point_of}
 use Rattle.plan_model.specs.Geometry.Radius.{class_of, radius_of_class}
@@ -20,7 +21,6 @@ use Rattle.plan_model.proofs.RecordLaws.{class_of-le}
 use Rattle.plan_model.proofs.SegmentLaws.{Clear-back}
 use Rattle.plan_words.specs.SearchLists.{numbers_of}
 use Rattle.plan_words.specs.States.{GoesOn, PassState, SharedState}
-use Rattle.plan_words.proofs.PlainScenes.{no_goals}
 use Rattle.plan_words.proofs.GoingOn.{GoesOn-trans}
 use Rattle.step_core.specs.SeenRecords.{IsOwnNeighbour, MayBePlaced, MayRecord, is_own_node, own_count, own_first_cost}
 use Rattle.kd_shared.specs.Searches.{SweepsWithin}
@@ -31,7 +31,6 @@ use Rattle.step_core.specs.WordNames.Word.{Count, FirstOf, RecordOf, TreeOf}
 use Rattle.step_core.specs.Words.{cost_in, tree_word}
 use Rattle.step_core.specs.declared.views.Hand.{Hand}
 use Rattle.step_core.specs.declared.views.SharedRun.{SharedRun}
-use Rattle.step_core.specs.declared.views.Stage.TheVariants.{Counted}
 use Rattle.step_core.specs.declared.views.View.{View}
 use Rattle.tree_rewire.proofs.SeenCosts.{SeesPair-later, cost_seen-later, stands_later}
 use Rattle.tree_rewire.proofs.SpreadFalls.{HasSpreadFalls-still}
@@ -41,10 +40,11 @@ use Rattle.step_core.proofs.RecordedNodes.{has_node-recorded, own_recorded, pres
 use Rattle.plan_work.proofs.FilledNear.{looked_still}
 use Rattle.plan_work.proofs.KeptSights.{SweepsWithin-still}
 use Rattle.plan_work.proofs.HeldMarks.{if_held, of_held}
-use Rattle.plan_work.proofs.RecordedMarks.{IsSteeredTo-still, MaySteer-steered, no_goal_point, others_still, own_count-same}
+use Rattle.plan_work.proofs.RecordedMarks.{IsSteeredTo-still, MaySteer-steered, others_still, own_count-same}
+use Rattle.plan_work.proofs.SkippedMarks.{IsUnskipped-kept, placed_stage-goal}
 use Rattle.plan_work.proofs.TriedMarks.{HasFilledNear-still, clear_of-may}
 use Rattle.plan_work.specs.Extensions.{IsPlacedAt, IsWithinRadius, WasChosen, WasNeighbour, WasRewired, radius_in}
-use Rattle.plan_work.specs.ExtensionSteps.{HasFilledNear, HasRecorded, IsFilledSince, IsTried, KeepsRecords, MayPlace, hung_by, own_placed}
+use Rattle.plan_work.specs.ExtensionSteps.{HasFilledNear, HasRecorded, IsFilledSince, IsTried, KeepsRecords, MayPlace, hung_by, own_placed, placed_hand}
 use Rattle.plan_work.specs.ExtensionSteps.{own_unplaced}
 use Rattle.plan_work.specs.declared.mark_placing.Hanging.{Hanging}
 
@@ -80,7 +80,8 @@ pub MayRecord-same :
 MayRecord-same shared before after k m p hanging j may keeps tried =
     if_held after.view (λ hand. MayRecord after.view hand (own_unplaced after.view m (SameNode j))) (hung_by may.hand hanging) tried.came.unchanged
     (MaySteer-steered after.view (hung_by may.hand hanging) k m p (own_unplaced after.view m (SameNode j)) (SeesPoint after.view j)
-    (no_goals shared after.view keeps.belongs.run may.plain) (IsSteeredTo-still before.view after.view k m p keeps.goes_on keeps.records may.steered) may.mark refl
+    (IsUnskipped-kept before.view after.view may.hand (hung_by may.hand hanging) keeps.goes_on.later.run refl refl may.unskipped)
+    (IsSteeredTo-still before.view after.view k m p keeps.goes_on keeps.records may.steered) may.mark refl
     (subst (SeesPoint after.view j) may.pointed.point tried.came.stands))
 
 -- what a rewiring says of the node in hand, by its point and its cost
@@ -98,7 +99,7 @@ Rewired-hand shared before tried after k m p hanging may is_tried rewired i amon
     of_held tried.view
     (λ hand. (n : ℕ) → Contains (numbers_of before.lists.search.found) n → Clear (space_of shared.task.scene) hand.point (point_of points n)
     → cost_seen after.view n ≤ hand.cost + cost_of hand.point (point_of points n))
-    (record (hung_by may.hand hanging) { stage = Counted }) is_tried.came.counted rewired in
+    (placed_hand tried.view (hung_by may.hand hanging)) is_tried.came.counted rewired in
     let most = all i among (subst (λ a. Clear (space_of shared.task.scene) a (point_of points i)) (sym may.pointed.point) clear) in
     omega (arith, most, ap (λ a. cost_of a (point_of points i)) may.pointed.point)
 
@@ -194,7 +195,7 @@ module _
   entry = own_placed after.view m hanging
 
   abbrev counted_hand : Hand
-  counted_hand = record (hung_by may.hand hanging) { stage = Counted }
+  counted_hand = placed_hand tried.view (hung_by may.hand hanging)
 
   stood_first : (i : ℕ) → IsTrue (is_own_node after.view entry i) → SeesPoint first.view i (point_of (tree_seen first.view).points i)
   stood_first i own =
@@ -234,7 +235,8 @@ module _
   MayRecord-placed =
       if_held after.view (λ hand. MayRecord after.view hand entry) counted_hand (seen.kept.hand ∙ is_tried.came.counted)
       (MaySteer-steered after.view counted_hand k m p entry (λ q. MayBePlaced after.view counted_hand entry)
-      none (IsSteeredTo-still before.view after.view k m p whole records may.steered) may.mark refl
+      (IsUnskipped-kept before.view after.view may.hand counted_hand whole.later.run refl refl may.unskipped)
+      (IsSteeredTo-still before.view after.view k m p whole records may.steered) may.mark refl
       record {
         nearest_is = sym may.pointed.nearest;
         parent_is = refl;
@@ -255,11 +257,10 @@ module _
               pair_after i _ close,
               omega (arith, rewired_by i _ close, ap (cost_of (point_of (tree_seen after.view).points i)) may.pointed.point),
             );
-        posted = λ goal. absurd (no_goal_point after.view may.hand.point none goal);
+        posted = λ goal.
+            placed_stage-goal tried.view.run.goals may.hand.point
+            (subst (λ (r : SharedRun). lies_in_goals r.goals may.hand.point ≡ true) seen.goes_on.later.run goal);
       })
-    where
-      none : after.view.run.goals ≡ []
-      none = no_goals shared after.view (whole.later.run ∙ may.belongs.run) may.plain
 
   -- ---- after the record
 

@@ -1,10 +1,9 @@
 -- What a pass may record of a mark that was steered to p from the nearest node, and that it was handled then.
-use Rattle.std.proofs.Common.{◌≡◌, ◌≢◌, ℕ, zero, suc, ◌+◌, true, [], Some, length, refl, sym, ap, ◌∙◌, subst, arith}
-use Rattle.std.specs.Prelude.{false, IfSome, IsTrue}
+use Rattle.std.proofs.Common.{◌≡◌, ◌≢◌, ℕ, zero, suc, ◌+◌, true, Some, length, refl, sym, ap, ◌∙◌, subst, arith}
+use Rattle.std.specs.Prelude.{false, IfSome}
 use Rattle.std.proofs.lemmas.List.Elements.{filter_agree}
 use Rattle.std.specs.List.{filter, range_with_len}
 use Rattle.plan_model.specs.Runs.ClosedLaw.{mark_at}
-use Rattle.plan_model.specs.Trees.BestNode.{is_goal_point}
 use Rattle.plan_model.specs.Trees.LeastPairs.{IsNotAbove}
 use Rattle.plan_model.specs.Trees.Nearness.{distance_to}
 use Rattle.plan_model.specs.Runs.Outcomes.{is_placed}
@@ -24,8 +23,9 @@ use Rattle.step_core.proofs.RecordedNodes.{has_node-recorded, own_recorded, pres
 use Rattle.step_core.proofs.SeenByViews.{WritesWord-saw}
 use Rattle.step_core.specs.GrownWords.{has_node, record_at}
 use Rattle.step_core.specs.LaterViews.{IsLawfulView}
+use Rattle.step_core.specs.SeenBests.{IsUnskipped}
 use Rattle.step_core.specs.SeenRecords.{MayBePlaced, MayEnd, MayRecord, MaySteer, is_own_node, own_count}
-use Rattle.step_core.specs.Stages.{has_first}
+use Rattle.step_core.specs.Stages.{has_count, has_first}
 use Rattle.step_core.specs.ViewSteps.{finished, one_turn_more, pair_in_hand}
 use Rattle.step_core.specs.Views.{sees, tree_seen}
 use Rattle.step_core.specs.WordNames.{Word, WritesWord}
@@ -33,7 +33,8 @@ use Rattle.step_core.specs.WordNames.Word.{Counter, FirstOf, RecordOf}
 use Rattle.step_core.specs.Words.{IsFirstWord, record_of_word, record_word}
 use Rattle.step_core.specs.declared.views.Hand.{Hand}
 use Rattle.step_core.specs.declared.views.SharedRun.{SharedRun}
-use Rattle.step_core.specs.declared.views.Stage.TheVariants.{Counted}
+use Rattle.step_core.specs.declared.views.Stage.{Stage}
+use Rattle.step_core.specs.declared.views.Stage.TheVariants.{Claimed, Counted, Half, Linked, Pointed, Posted, Treed}
 use Rattle.step_core.specs.declared.views.View.{View}
 use Rattle.tree_rewire.proofs.SeenCosts.{stands_later}
 use Rattle.plan_work.proofs.HeldMarks.{of_held}
@@ -72,29 +73,25 @@ IsSteeredTo-still before after k m p goes_on records h =
           (h.not_above n was));
     }
 
--- So the mark may be recorded as what it may be at p, if no mark is skipped.
+-- So the mark may be recorded as what it may be at p, if it is not skipped.
 pub MaySteer-steered :
-    (view : View) (hand : Hand) (k m : ℕ) (p : Point) (entry : Record) (MayEndAt : Point → Type 0) → view.run.goals ≡ []
+    (view : View) (hand : Hand) (k m : ℕ) (p : Point) (entry : Record) (MayEndAt : Point → Type 0) → IsUnskipped view hand
     → IsSteeredTo view k m p → hand.mark ≡ k
     → entry.nearest ≡ m → MayEndAt p → MaySteer view hand entry MayEndAt
-MaySteer-steered view hand k m p entry MayEndAt none h mark is ended =
+MaySteer-steered view hand k m p entry MayEndAt unskipped h mark is ended =
     let points = (tree_seen view).points in
     let reached : p ≡ steered (point_of points entry.nearest) (mark_at view.run.marks hand.mark) view.run.step =
     h.point_is
     ∙ ap (λ q. steered q (mark_at view.run.marks k) view.run.step) (sym (point_of-stands points m h.from h.stands) ∙ ap (point_of points) (sym is))
     ∙ ap (λ j. steered (point_of points entry.nearest) (mark_at view.run.marks j) view.run.step) (sym mark) in
     record {
-      unskipped = λ informed. absurd (informed none);
+      unskipped = unskipped;
       present = subst (IsPresent points) (sym is) (IsPresent-stands points m h.from h.stands);
       nearest = λ i own.
           subst (λ n. IsNotAbove (distance_to (mark_at view.run.marks hand.mark) points) n i) (sym is)
           (subst (λ j. IsNotAbove (distance_to (mark_at view.run.marks j) points) m i) (sym mark) (h.not_above i (own_recorded view entry i own)));
       outcome = subst MayEndAt reached ended;
     }
-
--- and no point lies in a goal by which marks are skipped
-pub no_goal_point : (view : View) (p : Point) → view.run.goals ≡ [] → ¬ IsTrue (is_goal_point view.run.goals (Some p))
-no_goal_point view p none goal = let gone = subst (λ goals. IsTrue (is_goal_point goals (Some p))) none goal in cc
 
 -- ---- records
 
@@ -115,13 +112,23 @@ IsFirstWord-unplaced view nearest outcome first unplaced = record {
   cost = omega arith;
 }
 
+-- what is counted has its first word
+has_first-counted : (stage : Stage) → has_count stage ≡ true → has_first stage ≡ true
+has_first-counted Claimed counted = cc
+has_first-counted Pointed counted = cc
+has_first-counted Half counted = refl
+has_first-counted Treed counted = refl
+has_first-counted Linked counted = refl
+has_first-counted Counted counted = refl
+has_first-counted Posted counted = refl
+
 -- That of a placed one has the parent and the cost in hand, as the first word has.
 pub IsFirstWord-placed :
-    (view : View) (hand : Hand) (entry : Record) → IsLawfulView view → view.hand ≡ Some hand → hand.stage ≡ Counted → entry.outcome ≡ Placed
+    (view : View) (hand : Hand) (entry : Record) → IsLawfulView view → view.hand ≡ Some hand → has_count hand.stage ≡ true → entry.outcome ≡ Placed
     → MayRecord view hand entry → (first : ℕ) → first ≡ pair_in_hand hand → IsFirstWord entry first
 IsFirstWord-placed view hand entry lawful held counted placed may first is =
     let ended : MayBePlaced view hand entry = (subst (MayEnd view hand entry) placed may).outcome in
-    let fits = lawful.pair_fits hand held (ap has_first counted) in
+    let fits = lawful.pair_fits hand held (has_first-counted hand.stage counted) in
     record {
       word = λ same. omega (arith, is, ended.parent_is, ended.cost_is);
       parent = omega (arith, ended.parent_is, fits.0);

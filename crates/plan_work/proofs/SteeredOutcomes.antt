@@ -1,5 +1,5 @@
--- What each outcome says of the nearest node, and of the point to which it steered.
-use Rattle.std.proofs.Common.{◌≡◌, ℕ, suc, refl, sym, ap, ◌∙◌, subst}
+-- What each outcome of a mark that is not skipped says of the nearest node, and of the point to which it steered.
+use Rattle.std.proofs.Common.{◌≡◌, ◌≢◌, ℕ, suc, refl, sym, ap, ◌∙◌, subst}
 use Rattle.plan_model.specs.Runs.ClosedLaw.{mark_at}
 use Rattle.plan_model.specs.Trees.PointsByNumber.{IsFree}
 use Rattle.plan_model.specs.Geometry.Steering.{steered}
@@ -10,7 +10,7 @@ use Rattle.plan_model.specs.declared.records.Record.{Record}
 use Rattle.plan_model.proofs.NewNodes.{point_of-stands}
 use Rattle.step_core.specs.Views.{tree_seen}
 use Rattle.step_core.specs.declared.views.View.{View}
-use Rattle.plan_work.specs.Extensions.{EndsAsSeen, HasSteered, IsPlacedAt, WasSteered, steered_point}
+use Rattle.plan_work.specs.Extensions.{EndsAsSeen, EndsAsSteered, HasSteered, IsPlacedAt, WasNotSkipped, WasSteered, steered_point}
 use Rattle.plan_work.specs.ExtensionSteps.{EndsWritten}
 use Rattle.step_core.specs.ViewTrees.{SeesPoint}
 
@@ -24,17 +24,17 @@ module _ (before after : View) (k : ℕ) (entry : Record) where
       record { from = from; steered = subst (HasSteered before after k entry.nearest from) is steers; outcome = subst EndsAt is ended }
 
   -- so does one whose point was written
-  pub EndsAsSeen-written :
+  pub EndsAsSteered-written :
       (from p : Point) → HasSteered before after k entry.nearest from p → (outcome : Outcome) → EndsWritten before after k entry p outcome
-      → EndsAsSeen before after k entry outcome
-  EndsAsSeen-written from p steers Placed ended = WasSteered-to from p (IsPlacedAt before after k entry) steers ended
-  EndsAsSeen-written from p steers (Same j) ended = WasSteered-to from p (SeesPoint after j) steers ended
-  EndsAsSeen-written from p steers Blocked ended = absurd ended
-  EndsAsSeen-written from p steers Skipped ended = absurd ended
+      → EndsAsSteered before after k entry outcome
+  EndsAsSteered-written from p steers Placed ended = WasSteered-to from p (IsPlacedAt before after k entry) steers ended
+  EndsAsSteered-written from p steers (Same j) ended = WasSteered-to from p (SeesPoint after j) steers ended
+  EndsAsSteered-written from p steers Blocked ended = absurd ended
+  EndsAsSteered-written from p steers Skipped ended = absurd ended
 
   -- each outcome has a nearest node, which steered
   pub HasSteered-ended :
-      (outcome : Outcome) → EndsAsSeen before after k entry outcome
+      (outcome : Outcome) → EndsAsSteered before after k entry outcome
       → (from : Point) × HasSteered before after k entry.nearest from (steered_point after k entry)
   HasSteered-ended Placed ended = (ended.from, ended.steered)
   HasSteered-ended (Same j) ended = (ended.from, ended.steered)
@@ -43,8 +43,30 @@ module _ (before after : View) (k : ℕ) (entry : Record) where
 
   -- where no node is seen at the point, the mark was blocked
   pub Blocked-free :
-      (outcome : Outcome) → EndsAsSeen before after k entry outcome → IsFree (tree_seen after).points (steered_point after k entry) → outcome ≡ Blocked
+      (outcome : Outcome) → EndsAsSteered before after k entry outcome → IsFree (tree_seen after).points (steered_point after k entry) → outcome ≡ Blocked
   Blocked-free Placed ended free = absurd (free (suc k) ended.outcome.stands)
   Blocked-free (Same j) ended free = absurd (free j ended.outcome)
   Blocked-free Blocked ended free = refl
   Blocked-free Skipped ended free = absurd ended
+
+  -- a mark that is not skipped ended so
+  pub EndsAsSteered-unskipped : (outcome : Outcome) → outcome ≢ Skipped → EndsAsSeen before after k entry outcome
+      → EndsAsSteered before after k entry outcome
+  EndsAsSteered-unskipped Placed other ended = ended.1
+  EndsAsSteered-unskipped (Same j) other ended = ended.1
+  EndsAsSteered-unskipped Blocked other ended = ended.1
+  EndsAsSteered-unskipped Skipped other ended = absurd (other refl)
+
+  pub WasNotSkipped-unskipped : (outcome : Outcome) → outcome ≢ Skipped → EndsAsSeen before after k entry outcome → WasNotSkipped before after k
+  WasNotSkipped-unskipped Placed other ended = ended.0
+  WasNotSkipped-unskipped (Same j) other ended = ended.0
+  WasNotSkipped-unskipped Blocked other ended = ended.0
+  WasNotSkipped-unskipped Skipped other ended = absurd (other refl)
+
+  -- and such a one is not skipped
+  pub EndsAsSeen-steered : (outcome : Outcome) → WasNotSkipped before after k → EndsAsSteered before after k entry outcome
+      → EndsAsSeen before after k entry outcome
+  EndsAsSeen-steered Placed unskipped ended = (unskipped, ended)
+  EndsAsSeen-steered (Same j) unskipped ended = (unskipped, ended)
+  EndsAsSeen-steered Blocked unskipped ended = (unskipped, ended)
+  EndsAsSeen-steered Skipped unskipped ended = absurd ended

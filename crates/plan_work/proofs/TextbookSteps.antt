@@ -16,7 +16,6 @@ use Rattle.plan_model.specs.declared.geometry.Point.{Point}
 use Rattle.plan_model.specs.declared.records.Outcome.{Outcome}
 use Rattle.plan_model.specs.declared.records.Outcome.TheVariants.{Blocked, Placed, Same, Skipped}
 use Rattle.plan_model.specs.declared.records.Record.{Record}
-use Rattle.plan_model.proofs.GoalNodes.{MayBeCheaper-not_skipping}
 use Rattle.plan_model.proofs.RunLaws.{HandlesAll-length, HandlesAll-push}
 use Rattle.plan_model.proofs.TextbookRuns.{IsClosed-textbook}
 use Rattle.plan_model.proofs.TextbookStates.{RecordsNext}
@@ -89,38 +88,35 @@ module _
 
 -- ---- the ends of a mark
 
--- if no mark is skipped
+-- of a mark that is not skipped
 module _
-    (setup : Setup) (tree : Nodes) (k m : ℕ) (mark p : Point) (entry : Record) (none : setup.goals ≡ []) (steers : SteersTo setup (points_of tree) mark m p)
-  where
-    cheaper : MayBeCheaper setup (sum_of tree) (points_of tree) mark
-    cheaper = MayBeCheaper-not_skipping setup (sum_of tree) (points_of tree) mark none
+    (setup : Setup) (tree : Nodes) (k m : ℕ) (mark p : Point) (entry : Record) (cheaper : MayBeCheaper setup (sum_of tree) (points_of tree) mark)
+    (steers : SteersTo setup (points_of tree) mark m p) where
+  pub Handles-same : (j : ℕ) → StandsAt (points_of tree) j p → entry ≡ same_record k m j → Handles setup tree k mark entry (tree ++ None ∷ [])
+  Handles-same j stands is =
+      subst (λ e. Handles setup tree k mark e (tree ++ None ∷ [])) (sym is)
+      (record { cheaper = cheaper; point = p; steers = steers; stands = stands; recorded = refl; added = refl })
 
-    pub Handles-same : (j : ℕ) → StandsAt (points_of tree) j p → entry ≡ same_record k m j → Handles setup tree k mark entry (tree ++ None ∷ [])
-    Handles-same j stands is =
-        subst (λ e. Handles setup tree k mark e (tree ++ None ∷ [])) (sym is)
-        (record { cheaper = cheaper; point = p; steers = steers; stands = stands; recorded = refl; added = refl })
+  pub Handles-blocked : IsFree (points_of tree) p → ¬ Clear setup.space (point_of (points_of tree) m) p → entry ≡ blocked_record k m
+      → Handles setup tree k mark entry (tree ++ None ∷ [])
+  Handles-blocked free blocked is =
+      subst (λ e. Handles setup tree k mark e (tree ++ None ∷ [])) (sym is)
+      (record { cheaper = cheaper; point = p; steers = steers; free = free; blocked = blocked; recorded = refl; added = refl })
 
-    pub Handles-blocked : IsFree (points_of tree) p → ¬ Clear setup.space (point_of (points_of tree) m) p → entry ≡ blocked_record k m
-        → Handles setup tree k mark entry (tree ++ None ∷ [])
-    Handles-blocked free blocked is =
-        subst (λ e. Handles setup tree k mark e (tree ++ None ∷ [])) (sym is)
-        (record { cheaper = cheaper; point = p; steers = steers; free = free; blocked = blocked; recorded = refl; added = refl })
-
-    pub Handles-placed :
-        (f : ℕ) (after : Nodes) → IsFree (points_of tree) p → Clear setup.space (point_of (points_of tree) m) p → IsBestParent setup tree m p f
-        → entry ≡ placed_record k m f (cost_through tree p f) (class_of (node_count (points_of tree)))
-        → Rewires setup.space (tree ++ Some (record { point = p; parent = f }) ∷ []) (suc k) (near_new setup (points_of tree) p) after
-        → Handles setup tree k mark entry after
-    Handles-placed f after free clear parent is rewired =
-        subst (λ e. Handles setup tree k mark e after) (sym is)
-        (record {
-          cheaper = cheaper;
-          point = p;
-          steers = steers;
-          free = free;
-          clear = clear;
-          parent = parent;
-          recorded = refl;
-          rewired = rewired;
-        })
+  pub Handles-placed :
+      (f : ℕ) (after : Nodes) → IsFree (points_of tree) p → Clear setup.space (point_of (points_of tree) m) p → IsBestParent setup tree m p f
+      → entry ≡ placed_record k m f (cost_through tree p f) (class_of (node_count (points_of tree)))
+      → Rewires setup.space (tree ++ Some (record { point = p; parent = f }) ∷ []) (suc k) (near_new setup (points_of tree) p) after
+      → Handles setup tree k mark entry after
+  Handles-placed f after free clear parent is rewired =
+      subst (λ e. Handles setup tree k mark e after) (sym is)
+      (record {
+        cheaper = cheaper;
+        point = p;
+        steers = steers;
+        free = free;
+        clear = clear;
+        parent = parent;
+        recorded = refl;
+        rewired = rewired;
+      })

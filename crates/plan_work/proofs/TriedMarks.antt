@@ -7,7 +7,7 @@ use Rattle.plan_model.specs.Spaces.ConfigurationSpace.{space_of}
 use Rattle.tree_rewire.proofs.FoundLists.{numbers-weighed}
 use Rattle.tree_rewire.proofs.ChosenFound.{AllWeighed-seen}
 use Rattle.tree_rewire.specs.FoundNodes.{IsWeighed, StandsAsFound}
-use Rattle.kd_shared.specs.Placings.{GoesOnPlacing, IsPlacing, KeepsShare}
+use Rattle.kd_shared.specs.Placings.{GoesOnPlacing, KeepsShare}
 use Rattle.kd_shared.specs.declared.placing.Placing.{Placing}
 use Rattle.plan_model.specs.Spaces.Clearance.{Clear}
 use Rattle.plan_model.specs.declared.configuration_spaces.ConfigurationSpace.{ConfigurationSpace}
@@ -36,7 +36,7 @@ use Rattle.plan_work.proofs.FilledNear.{looked_still}
 use Rattle.plan_work.proofs.KeptRecords.{KeepsRecords-trans}
 use Rattle.plan_work.proofs.KeptSights.{SweepsWithin-still, distance_still, point_still}
 use Rattle.plan_work.specs.Extensions.{radius_in}
-use Rattle.plan_work.specs.ExtensionSteps.{HasFilledNear, IsFilledSince, IsHung, IsSteeredTo, IsTried, KeepsRecords, MayPlace, hung_by}
+use Rattle.plan_work.specs.ExtensionSteps.{HasCome, HasFilledNear, IsFilledSince, IsHung, IsSteeredTo, IsTried, KeepsRecords, MayPlace, hung_by}
 use Rattle.plan_work.specs.declared.mark_placing.Hanging.{Hanging}
 
 -- a node that steers to p is at most a step from it
@@ -122,7 +122,7 @@ pub IsTried-placing :
     → hanging_at.lists.search.found ≡ weighed hand.point before.lists.search.found
     → after.lists.search.found ≡ hanging_at.lists.search.found → sees hanging_at.view Count ≡ sees before.view Count
     → IsHung before.view.steps hanging_at.view hand (hanging.parent, hanging.cost) (numbers_of before.lists.search.found)
-    → IsPlacing after.view (hung_by hand hanging) placing → IsTried before after hand placing hanging
+    → HasCome after.view (hung_by hand hanging) placing → IsTried before after hand placing hanging
 IsTried-placing shared before hanging_at after hand placing hanging keeps goes_on found last count hung came = record {
   mid = hanging_at.view;
   begun = keeps.goes_on;

@@ -1,19 +1,22 @@
 -- What the steps of the handling of one mark leave, by what the pass has seen.
-use Rattle.std.specs.Prelude.{◌≡◌, true, false, ℕ, ◌*◌, ◌<◌, ◌≤◌, All, Contains, Some, List, refl}
+use Rattle.std.specs.Prelude.{◌≡◌, true, false, ℕ, suc, ◌*◌, ◌<◌, ◌≤◌, if◌then◌else◌, All, Contains, IfSome, Some, List, refl}
 use Rattle.edge_cost.specs.declared.radii.Radii.{Radii}
 use Rattle.kd_shared.specs.Searches.{SweepsWithin}
-use Rattle.kd_shared.specs.Placings.{IsPlacing}
+use Rattle.kd_shared.specs.Placings.{IsSame}
 use Rattle.kd_shared.specs.declared.placing.Placing.{Placing}
+use Rattle.kd_shared.specs.declared.placing.Placing.TheVariants as placings
 use Rattle.plan_model.specs.Geometry.Bounds.{IsBounded}
 use Rattle.plan_model.specs.Spaces.Clearance.{Clear}
 use Rattle.plan_model.specs.Spaces.ConfigurationSpace.{space_of}
 use Rattle.plan_model.specs.Runs.ClosedLaw.{mark_at}
 use Rattle.plan_model.specs.Geometry.Plane.{squared_distance}
+use Rattle.plan_model.specs.Trees.BestNode.{lies_in_goals}
 use Rattle.plan_model.specs.Trees.LeastPairs.{IsNotAbove}
 use Rattle.plan_model.specs.Trees.Nearness.{distance_to}
 use Rattle.plan_model.specs.Trees.PointsByNumber.{point_of}
 use Rattle.plan_model.specs.Geometry.Radius.{class_of}
 use Rattle.plan_model.specs.Geometry.Steering.{steered}
+use Rattle.plan_model.specs.declared.geometry.Goal.{Goal}
 use Rattle.plan_model.specs.declared.geometry.Point.{Point}
 use Rattle.plan_model.specs.declared.records.Outcome.{Outcome}
 use Rattle.plan_model.specs.declared.records.Outcome.TheVariants.{Blocked, Placed, Same, Skipped}
@@ -23,20 +26,23 @@ use Rattle.plan_model.specs.Runs.Textbook.{unplaced_record}
 use Rattle.plan_words.specs.SearchLists.{numbers_of, weighed}
 use Rattle.plan_words.specs.declared.spots.Found.{Found}
 use Rattle.plan_words.specs.States.{BelongsTo, GoesOn, MayClaim, PassState, SharedState, turn_of, with_view, worker_of}
+use Rattle.step_core.specs.SeenBests.{IsUnskipped}
 use Rattle.step_core.specs.SeenRecords.{own_count}
 use Rattle.step_core.specs.GrownWords.{has_node, record_at}
-use Rattle.step_core.specs.ViewSteps.{finished}
+use Rattle.step_core.specs.ViewSteps.{best_loaded, finished, pair_in_hand}
 use Rattle.step_core.specs.ViewTrees.{SeesPoint, sight_in}
 use Rattle.step_core.specs.Views.{last_look, sees, setup_in, tree_seen}
-use Rattle.step_core.specs.WordNames.Word.{Count, Counter, RecordOf}
-use Rattle.step_core.specs.Words.{record_word}
+use Rattle.step_core.specs.WordNames.Word.{Count, Counter, FirstOf, RecordOf, TreeOf}
+use Rattle.step_core.specs.Words.{best_word, record_word}
 use Rattle.step_core.specs.declared.views.Hand.{Hand}
-use Rattle.step_core.specs.declared.views.Stage.TheVariants.{Pointed, Treed}
+use Rattle.step_core.specs.declared.views.Stage.{Stage}
+use Rattle.step_core.specs.declared.views.Stage.TheVariants.{Counted, Pointed, Posted, Treed}
 use Rattle.step_core.specs.declared.views.View.{View}
 use Rattle.tree_rewire.specs.FoundNodes.{StandsAsFound}
 use Rattle.tree_rewire.specs.SeenCosts.{IsInReach, IsLoadedSince, SeesPair, seen_cost_through}
 use Rattle.plan_work.specs.declared.mark_placing.Hanging.{Hanging}
-use Rattle.plan_work.specs.Extensions.{IsPlacedAt, radius_in}
+use Rattle.plan_work.specs.Extensions.{EndsAsSteered, HandlesMark, IsPlacedAt, MayExtend, radius_in}
+use Rattle.plan_work.specs.OneWorker.{IsNotSkippedIn, SeesTextbook, WorksAlone}
 
 -- the radii are those of the scene's step and gamma
 pub record AreRadiiOf (scene : Scene) (radii : Radii) : Type 0 where
@@ -78,6 +84,19 @@ pub record IsFilledSince (shared : SharedState) (first pass : PassState) (p : Po
   pub keeps : KeepsRecords shared first pass
   pub filled : HasFilledNear first.view pass.view p class pass.lists.search.found
 
+-- ---- skipping
+
+-- The best word was loaded, and is in hand now, in a scene that is informed. In any other no step was made.
+pub record HasLoadedBest (shared : SharedState) (before after : PassState) : Type 0 where
+  pub keeps : KeepsRecords shared before after
+  pub informed : shared.task.scene.informed ≡ true → after ≡ with_view before (best_loaded before.view after.view.best)
+  pub plain : shared.task.scene.informed ≡ false → after ≡ before
+
+-- Mark k is in hand, nothing is written of it, and it is not skipped.
+pub record MaySteerOn (shared : SharedState) (pass : PassState) (k : ℕ) : Type 0 where
+  pub may : MayExtend shared pass k
+  pub unskipped : IfSome pass.view.hand (IsUnskipped pass.view)
+
 -- ---- placing
 
 -- Node m, which is seen, steers towards mark k to p. By the records seen, no placed node is nearer.
@@ -94,7 +113,7 @@ pub record IsPointed (hand : Hand) (m : ℕ) (p : Point) : Type 0 where
   pub nearest : hand.nearest ≡ m
   pub point : hand.point ≡ p
 
--- Mark k is in hand, its point p is written, and the segment to it from the nearest node m is clear. The scene is not informed.
+-- Mark k is in hand and is not skipped, its point p is written, and the segment to it from the nearest node m is clear.
 pub record MayPlace (shared : SharedState) (pass : PassState) (k m : ℕ) (p : Point) : Type 0 where
   pub belongs : BelongsTo pass shared
   pub hand : Hand
@@ -104,7 +123,7 @@ pub record MayPlace (shared : SharedState) (pass : PassState) (k m : ℕ) (p : P
   pub bounded : IsBounded p
   pub steered : IsSteeredTo pass.view k m p
   pub clear : Clear (space_of shared.task.scene) (point_of (tree_seen pass.view).points m) p
-  pub plain : shared.task.scene.informed ≡ false
+  pub unskipped : IsUnskipped pass.view hand
 
 -- The node in hand has a parent and a cost. By no near node with a clear edge would it cost less, as they are seen, each by a look after so many
 -- steps.
@@ -114,6 +133,27 @@ pub record IsHung (steps : ℕ) (after : View) (hand : Hand) (pair : ℕ × ℕ)
   pub loaded : All (IsLoadedSince steps after) near
   pub chosen : (i : ℕ) → Contains near i → Clear (setup_in after.run).space (point_of (tree_seen after).points i) hand.point
       → pair.1 ≤ seen_cost_through after hand.point i
+
+-- how far a hand has come whose node is placed at p: in a goal by which marks are skipped it has been posted
+abbrev pub placed_stage : List Goal → Point → Stage
+placed_stage goals p = if lies_in_goals goals p then Posted else Counted
+
+-- the hand then
+abbrev pub placed_hand : View → Hand → Hand
+placed_hand view hand = record hand { stage = placed_stage view.run.goals hand.point }
+
+-- The node in hand is seen at its point, with its parent and its cost. It is counted, and if it lies in such a goal it has been posted.
+pub record HasBeenPlaced (view : View) (hand : Hand) : Type 0 where
+  pub stands : SeesPoint view (suc hand.mark) hand.point
+  pub pair : sees view (TreeOf (suc hand.mark)) ≡ pair_in_hand hand
+  pub first : sees view (FirstOf (suc hand.mark)) ≡ pair_in_hand hand
+  pub counted : view.hand ≡ Some (placed_hand view hand)
+  pub posted : lies_in_goals view.run.goals hand.point ≡ true → view.best ≤ best_word hand.cost (suc hand.mark)
+
+-- what became of the node in this hand
+abbrev pub HasCome : View → Hand → Placing → Type 0
+HasCome view hand placings.Placed = HasBeenPlaced view hand
+HasCome view hand (placings.Same j) = IsSame view hand j
 
 -- the hand with a parent and a cost
 abbrev pub hung_by : Hand → Hanging → Hand
@@ -128,7 +168,7 @@ pub record IsTried (before after : PassState) (hand : Hand) (placing : Placing) 
   pub hung : IsHung before.view.steps mid hand (hanging.parent, hanging.cost) (numbers_of before.lists.search.found)
   pub ended : GoesOn mid after.view
   pub count : sees after.view Count ≡ sees mid Count
-  pub came : IsPlacing after.view (hung_by hand hanging) placing
+  pub came : HasCome after.view (hung_by hand hanging) placing
 
 -- a mark whose point p is written is placed there, or ends at a node that is seen there
 abbrev pub EndsWritten : View → View → ℕ → Record → Point → Outcome → Type 0
@@ -164,3 +204,17 @@ pub record HasRecorded (shared : SharedState) (before after : PassState) (entry 
   pub stored : (hand : Hand) → before.view.hand ≡ Some hand → record_at (sees after.view) hand.mark ≡ Some entry
   pub worker : entry.worker ≡ worker_of before.view.crew
   pub turn : entry.turn ≡ turn_of before.view.crew
+
+-- ---- the whole of a mark that is not skipped
+
+-- Mark k was handled, and not skipped: the record that stands there is the one answered, and its outcome is what it says.
+pub record IsSteeredAndHandled (before after : View) (k : ℕ) (entry : Record) : Type 0 where
+  pub stored : record_at (sees after) k ≡ Some entry
+  pub outcome : EndsAsSteered before after k entry entry.outcome
+
+-- What is promised of a mark that is not skipped: it was handled, and a pass that works alone goes on in the textbook run by one mark.
+pub record Places (shared : SharedState) (before after : PassState) (k : ℕ) (entry : Record) : Type 0 where
+  pub handled : HandlesMark shared before after k entry
+  pub extended : IsSteeredAndHandled before.view after.view k entry
+  pub textbook : WorksAlone before.view k → SeesTextbook before.view k → IsNotSkippedIn before.view k
+      → WorksAlone after.view (suc k) × SeesTextbook after.view (suc k)

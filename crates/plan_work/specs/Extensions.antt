@@ -1,5 +1,5 @@
 -- What the handling of one mark leaves, by what the pass has seen.
-use Rattle.std.specs.Prelude.{◌≡◌, ◌≢◌, false, ℕ, suc, ◌+◌, ◌*◌, ◌<◌, ◌≤◌, Some, IsSome, IfSome}
+use Rattle.std.specs.Prelude.{◌≡◌, ◌≢◌, ℕ, suc, ◌+◌, ◌*◌, ◌<◌, ◌≤◌, Some, IsSome, IfSome}
 use Rattle.kd_shared.specs.Searches.{SweepsWithin}
 use Rattle.plan_model.specs.Spaces.Clearance.{Clear}
 use Rattle.plan_model.specs.Runs.ClosedLaw.{mark_at}
@@ -11,30 +11,31 @@ use Rattle.plan_model.specs.Trees.PointsByNumber.{IsFree, IsPresent, point_of}
 use Rattle.plan_model.specs.Geometry.Radius.{class_of, radius_of_class}
 use Rattle.plan_model.specs.Seen.Sights.{IsSwept}
 use Rattle.plan_model.specs.Geometry.Steering.{steered}
+use Rattle.plan_model.specs.Runs.Textbook.{mark_bound}
 use Rattle.plan_model.specs.declared.geometry.Point.{Point}
 use Rattle.plan_model.specs.declared.records.Outcome.{Outcome}
 use Rattle.plan_model.specs.declared.records.Outcome.TheVariants.{Blocked, Placed, Same, Skipped}
 use Rattle.plan_model.specs.declared.records.Record.{Record}
 use Rattle.plan_words.specs.States.{BelongsTo, GoesOn, MayClaim, PassState, SharedState, turn_of, worker_of}
 use Rattle.step_core.specs.GrownWords.{record_at}
-use Rattle.step_core.specs.ViewSteps.{one_turn_more}
+use Rattle.step_core.specs.SeenBests.{IsInformed}
+use Rattle.step_core.specs.ViewSteps.{best_loaded, finished, one_turn_more}
 use Rattle.step_core.specs.ViewTrees.{SeesPoint, sight_in}
 use Rattle.step_core.specs.Views.{last_look, sees, setup_in, tree_seen}
 use Rattle.step_core.specs.WordNames.Word.{Count, Counter, RecordOf, TreeOf}
-use Rattle.step_core.specs.Words.{tree_word}
+use Rattle.step_core.specs.Words.{best_cost_in, best_node_in, no_best, record_word, tree_word}
 use Rattle.step_core.specs.declared.views.Stage.TheVariants.{Claimed}
 use Rattle.step_core.specs.declared.views.View.{View}
 use Rattle.tree_rewire.specs.Rewirings.{HasSpreadFalls}
 use Rattle.tree_rewire.specs.SeenCosts.{IsLoadedSince, SeesPair, cost_seen}
 use Rattle.plan_work.specs.OneWorker.{SeesTextbook, WorksAlone}
 
--- Mark k is in hand, and nothing is written of it. The scene is not informed.
+-- Mark k is in hand, and nothing is written of it.
 pub record MayExtend (shared : SharedState) (pass : PassState) (k : ℕ) : Type 0 where
   pub belongs : BelongsTo pass shared
   pub hand : IsSome pass.view.hand
   pub mark : IfSome pass.view.hand (λ hand. hand.mark ≡ k)
   pub claimed : IfSome pass.view.hand (λ hand. hand.stage ≡ Claimed)
-  pub plain : shared.task.scene.informed ≡ false
 
 -- The record of mark k stands there, by the worker in its turn; no other and no counter is seen anew, and nothing is in hand. The worker has
 -- had one turn more, and the limit stays.
@@ -124,12 +125,33 @@ pub record WasSteered (before after : View) (k : ℕ) (entry : Record) (EndsAt :
   pub steered : HasSteered before after k entry.nearest from (steered_point after k entry)
   pub outcome : EndsAt (steered_point after k entry)
 
--- what the outcome says: blocked if no node is seen at the point, and only then; no mark is skipped
+-- what the outcome of a mark says that is not skipped: blocked if no node is seen at the point, and only then
+abbrev pub EndsAsSteered : View → View → ℕ → Record → Outcome → Type 0
+EndsAsSteered before after k entry Placed = WasSteered before after k entry (IsPlacedAt before after k entry)
+EndsAsSteered before after k entry (Same j) = WasSteered before after k entry (SeesPoint after j)
+EndsAsSteered before after k entry Blocked = WasSteered before after k entry (IsBlockedAt before after entry)
+EndsAsSteered before after k entry Skipped = ⊥
+
+-- If marks may be skipped, the best word was loaded first, and the best that it told of, if any, cost more than the bound of mark k.
+abbrev pub WasNotSkipped : View → View → ℕ → Type 0
+WasNotSkipped before after k =
+    IsInformed after.run → (word : ℕ) × GoesOn (best_loaded before word) after
+    × (word ≢ no_best → mark_bound (setup_in after.run) (mark_at after.run.marks k) < best_cost_in word)
+
+-- Two steps were made: the best word was loaded, and the record stored. The best was the goal node that the record names, at a cost of at most
+-- the bound of mark k.
+pub record WasSkipped (before after : View) (k : ℕ) (entry : Record) : Type 0 where
+  pub informed : IsInformed after.run
+  pub word : ℕ
+  pub some_node : word ≢ no_best
+  pub node : entry.nearest ≡ best_node_in word
+  pub within : best_cost_in word ≤ mark_bound (setup_in after.run) (mark_at after.run.marks k)
+  pub steps : after ≡ finished (best_loaded before word) k (record_word entry)
+
+-- what the outcome says
 abbrev pub EndsAsSeen : View → View → ℕ → Record → Outcome → Type 0
-EndsAsSeen before after k entry Placed = WasSteered before after k entry (IsPlacedAt before after k entry)
-EndsAsSeen before after k entry (Same j) = WasSteered before after k entry (SeesPoint after j)
-EndsAsSeen before after k entry Blocked = WasSteered before after k entry (IsBlockedAt before after entry)
-EndsAsSeen before after k entry Skipped = ⊥
+EndsAsSeen before after k entry Skipped = WasSkipped before after k entry
+EndsAsSeen before after k entry outcome = WasNotSkipped before after k × EndsAsSteered before after k entry outcome
 
 -- ---- the whole
 

@@ -9,26 +9,29 @@ ghost use Rattle.plan_model.specs.Trees.LeastPairs.{IsNotAbove};
 ghost use Rattle.plan_model.specs.Trees.Nearness.{distance_to};
 ghost use Rattle.plan_model.specs.Trees.PointsByNumber.{IsFree, IsPresent, point_of};
 ghost use Rattle.plan_model.specs.Geometry.Radius.{class_of};
+ghost use Rattle.plan_model.specs.Runs.Textbook.{mark_bound};
 ghost use Rattle.plan_model.specs.Seen.Sights.{IsSwept};
 ghost use Rattle.plan_model.specs.declared.geometry.Point.{Point};
-ghost use Rattle.plan_model.specs.declared.records.Outcome.TheVariants.{Blocked, Placed, Same};
+ghost use Rattle.plan_model.specs.declared.records.Outcome.TheVariants.{Blocked, Placed, Same, Skipped};
 ghost use Rattle.plan_model.specs.declared.records.Record.{Record};
 ghost use Rattle.plan_words.specs.States.{GoesOn};
 ghost use Rattle.plan_work.specs.Extensions.{IsExtended, IsWithinRadius, radius_in, steered_point};
 ghost use Rattle.plan_work.specs.Workers.{AllExtended};
+ghost use Rattle.step_core.specs.SeenBests.{IsInformed};
+ghost use Rattle.step_core.specs.ViewSteps.{best_loaded, finished};
 ghost use Rattle.step_core.specs.ViewTrees.{SeesPoint, sight_in};
 ghost use Rattle.step_core.specs.Views.{last_look, sees, setup_in, tree_seen};
 ghost use Rattle.step_core.specs.WordNames.Word.{Count, RecordOf, TreeOf};
-ghost use Rattle.step_core.specs.Words.{tree_word};
+ghost use Rattle.step_core.specs.Words.{best_cost_in, best_node_in, no_best, record_word, tree_word};
 ghost use Rattle.step_core.specs.declared.views.View.{View};
 ghost use Rattle.tree_rewire.specs.Rewirings.{IsInFall};
 ghost use Rattle.tree_rewire.specs.SeenCosts.{SeesPair, cost_seen, parent_seen};
 ghost use Rattle.tree_rewire.specs.Spreads.{IsWithinParent};
 
-/// No node that the pass had seen with its point is nearer to a mark that was handled than its nearest node. The outcome is `Same`
-/// with a node seen at the steered point, and `Blocked` if none is seen there at return; then the segment is not clear.
+/// No node that the pass had seen with its point is nearer to a mark that was handled, and not skipped, than its nearest node. The outcome
+/// is `Same` with a node seen at the steered point, and `Blocked` if none is seen there at return; then the segment is not clear.
 pub fn handled_marks_are_steered_to()
-    ensures nearest { (before after : View) (k : ℕ) (entry : Record) → IsExtended before after k entry → (n : ℕ)
+    ensures nearest { (before after : View) (k : ℕ) (entry : Record) → IsExtended before after k entry → entry.outcome ≢ Skipped → (n : ℕ)
         → IsPresent (tree_seen before).points n
         → IsNotAbove (distance_to (mark_at after.run.marks k) (tree_seen after).points) entry.nearest n }
     ensures same { (before after : View) (k : ℕ) (entry : Record) → IsExtended before after k entry → (j : ℕ) → entry.outcome ≡ Same j
@@ -36,14 +39,29 @@ pub fn handled_marks_are_steered_to()
     ensures blocked { (before after : View) (k : ℕ) (entry : Record) → IsExtended before after k entry → entry.outcome ≡ Blocked
         → IsFree (tree_seen after).points (steered_point after k entry)
         × (¬ Clear (setup_in after.run).space (point_of (tree_seen after).points entry.nearest) (steered_point after k entry)) }
-    ensures free { (before after : View) (k : ℕ) (entry : Record) → IsExtended before after k entry
+    ensures free { (before after : View) (k : ℕ) (entry : Record) → IsExtended before after k entry → entry.outcome ≢ Skipped
         → IsFree (tree_seen after).points (steered_point after k entry) → entry.outcome ≡ Blocked }
     // all points at most as far from the mark as the nearest node are swept, and so is the point of a blocked mark
-    ensures swept { (before after : View) (k : ℕ) (entry : Record) → IsExtended before after k entry → (q : Point)
+    ensures swept { (before after : View) (k : ℕ) (entry : Record) → IsExtended before after k entry → entry.outcome ≢ Skipped → (q : Point)
         → squared_distance q (mark_at after.run.marks k)
         ≤ distance_to (mark_at after.run.marks k) (tree_seen after).points entry.nearest → IsSwept (sight_in after) before.steps q }
     ensures blocked_swept { (before after : View) (k : ℕ) (entry : Record) → IsExtended before after k entry
         → entry.outcome ≡ Blocked → IsSwept (sight_in after) before.steps (steered_point after k entry) }
+{}
+
+/// A mark is skipped only where marks may be, and exactly if the best that the call loaded is known and costs no more than the bound of the
+/// mark; the record names its goal node then, and the call made two steps: the load and the store of the record. Any other call loaded
+/// the best first too, if marks may be skipped.
+pub fn marks_are_skipped_by_the_best()
+    ensures skipped { (before after : View) (k : ℕ) (entry : Record) → IsExtended before after k entry → entry.outcome ≡ Skipped
+        → IsInformed after.run × ((word : ℕ) × (word ≢ no_best) × (entry.nearest ≡ best_node_in word)
+        × (best_cost_in word ≤ mark_bound (setup_in after.run) (mark_at after.run.marks k))
+        × (after ≡ finished (best_loaded before word) k (record_word entry))) }
+    ensures steps { (before after : View) (k : ℕ) (entry : Record) → IsExtended before after k entry → entry.outcome ≡ Skipped
+        → after.steps ≡ before.steps + 2 }
+    ensures unskipped { (before after : View) (k : ℕ) (entry : Record) → IsExtended before after k entry → entry.outcome ≢ Skipped
+        → IsInformed after.run → (word : ℕ) × GoesOn (best_loaded before word) after
+        × (word ≢ no_best → mark_bound (setup_in after.run) (mark_at after.run.marks k) < best_cost_in word) }
 {}
 
 /// A mark that was placed: its node is seen at the steered point, with the class of the count that was loaded in the call. Each node

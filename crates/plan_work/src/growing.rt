@@ -1,6 +1,6 @@
 //! The planner by several workers.
 
-ghost use Rattle.std.specs.Prelude.{◌≡◌, ◌+◌, ◌<◌, ◌≤◌, false, ℕ, [], ◌∷◌, All, IfOk, List, Some, length, slice_index_or};
+ghost use Rattle.std.specs.Prelude.{◌≡◌, ◌+◌, ◌<◌, ◌≤◌, ℕ, [], ◌∷◌, All, IfOk, List, Some, length, slice_index_or};
 ghost use Rattle.plan_model.specs.Spaces.ConfigurationSpace.{space_of};
 ghost use Rattle.plan_model.specs.Trees.TreeStates.{GrowsInto};
 ghost use Rattle.plan_model.specs.declared.limits.TheConstants.{MOST_WORKERS};
@@ -25,7 +25,7 @@ use swept_check::Clearing;
 /// another.
 ///
 /// The limit is at least the run's own, with which no mark is handled, and at most the number of marks. The hall stands for the
-/// scene, which is not informed. O(n * w) for n words of the run and w workers, and what the marks take ([`extend`](crate::extend)).
+/// scene. O(n * w) for n words of the run and w workers, and what the marks take ([`extend`](crate::extend)).
 ///
 /// # Errors
 ///
@@ -40,7 +40,6 @@ pub fn grow<R: Threads + Sync, C: Clearing, G: Gate>(
     gate: &G,
 ) -> Result<Grown, Memory>
     requires hall { C.space hall.now ≡ space_of grown.task.scene }
-    requires plain { grown.task.scene.informed ≡ false }
     requires some { 1 ≤ workers }
     requires few { workers ≤ MOST_WORKERS }
     requires low { grown.limit ≤ limit }
@@ -69,7 +68,6 @@ fn work_all<R: Threads + Sync, C: Clearing, G: Gate>(
     passes: &mut [Pass],
 )
     requires hall { C.space hall.now ≡ space_of shared.now.task.scene }
-    requires plain { shared.now.task.scene.informed ≡ false }
     requires low { shared.now.opening ≤ limit }
     requires limit { limit ≤ length shared.now.task.marks }
     requires some { 1 ≤ length passes.old }
@@ -85,7 +83,6 @@ fn work_all<R: Threads + Sync, C: Clearing, G: Gate>(
         threads,
         &|_number: usize, pass: &mut Pass|
             requires { MayClaim shared.now pass.now × (C.space hall.now ≡ space_of shared.now.task.scene)
-                × (shared.now.task.scene.informed ≡ false)
                 × (shared.now.opening ≤ limit) × (limit ≤ length shared.now.task.marks) }
             ensures { HasDone shared.entry.now limit pass.entry.now pass.exit.now }
         { work(shared, pass, hall, limit, gate) },

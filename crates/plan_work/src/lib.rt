@@ -18,6 +18,7 @@ pub mod extension_laws;
 mod gates;
 mod growing;
 mod mark_placing;
+mod mark_skipping;
 mod mark_steering;
 pub mod placed_laws;
 mod recording;

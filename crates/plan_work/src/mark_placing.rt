@@ -1,17 +1,25 @@
-//! The place of a new node: its parent and its cost, its link in the kd-tree, and the rewiring of the nodes near it.
+//! The place of a new node: its parent and its cost, its link in the kd-tree, its post if it lies in a goal by which marks are skipped,
+//! and the rewiring of the nodes near it.
 
-ghost use Rattle.std.specs.Prelude.{◌≡◌, ◌<◌, suc, All, IfSome, IsSome};
+ghost use Rattle.std.specs.Prelude.{◌≡◌, ◌<◌, ◌≤◌, true, false, suc, All, IfSome, IsSome};
+ghost use Rattle.kd_shared.specs.Placings.{GoesOnPlacing, IsPlaced, KeepsShare};
+ghost use Rattle.plan_model.specs.Runs.Textbook.{skipping_goals};
+ghost use Rattle.plan_model.specs.Trees.BestNode.{lies_in_goals};
 ghost use Rattle.plan_model.specs.Spaces.Clearance.{Clear};
 ghost use Rattle.plan_model.specs.Spaces.ConfigurationSpace.{space_of};
 ghost use Rattle.plan_words.specs.Claims.{SeesAsBefore};
 ghost use Rattle.plan_words.specs.SearchLists.{numbers_of, weighed};
-ghost use Rattle.plan_words.specs.States.{BelongsTo, HasWholeShare, PassState};
+ghost use Rattle.plan_words.specs.States.{BelongsTo, GoesOn, HasWholeShare, PassState, with_view};
 ghost use Rattle.plan_work.specs.Extensions.{HandlesMark};
-ghost use Rattle.plan_work.specs.ExtensionSteps.{EndsWritten, IsFilledSince, IsHung, IsPointed, IsTried, KeepsRecords, MayPlace};
-ghost use Rattle.plan_work.specs.OneWorker.{SeesTextbook, WorksAlone};
-ghost use Rattle.plan_work.specs.WholeShares.{IsBestHanging, IsFilledWhole, IsSteeredWhole, IsTriedWhole};
+ghost use Rattle.plan_work.specs.ExtensionSteps.{EndsWritten, HasCome, IsFilledSince, IsHung, IsPointed, IsTried, KeepsRecords, MayPlace};
+ghost use Rattle.plan_work.specs.OneWorker.{IsNotSkippedIn, SeesTextbook, WorksAlone};
+ghost use Rattle.plan_work.specs.WholeShares.{IsBestHanging, IsFilledWhole, IsSteeredWhole, IsTriedWhole, KeepsOthers};
+ghost use Rattle.step_core.specs.ViewSteps.{hand_with_post, with_best};
 ghost use Rattle.step_core.specs.Views.{sees, share, tree_seen};
-ghost use Rattle.step_core.specs.WordNames.Word.{Count};
+ghost use Rattle.step_core.specs.WordNames.Word.{Count, TreeOf};
+ghost use Rattle.step_core.specs.Words.{best_word, cost_in};
+ghost use Rattle.step_core.specs.declared.views.Hand.{Hand};
+ghost use Rattle.step_core.specs.declared.views.Stage.TheVariants.{Treed};
 ghost use Rattle.tree_rewire.specs.FoundNodes.{StandsAsFound};
 ghost use Rattle.tree_rewire.specs.SeenCosts.{IsInReach};
 ghost use Rattle.plan_model.specs.Trees.PointsByNumber.{point_of};
@@ -21,6 +29,7 @@ use crate::recording::{record_placed, record_unplaced};
 use kd_shared::{Placing, place};
 use plan_model::{Outcome, Point, Record};
 use plan_words::{Pass, Shared};
+use step_core::lies_in_goals;
 use swept_check::Clearing;
 use tree_rewire::{choose_found, rewire_found};
 
@@ -61,6 +70,56 @@ fn choose_and_write<C: Clearing>(
     (parent, cost)
 }
 
+/// Places the node of the mark in hand at its point p, and posts it if it lies in a goal by which marks are skipped: others may skip
+/// marks by it before any node near it is rewired.
+fn place_and_post(shared: &Shared, pass: &mut Pass, k: u32, p: Point) -> Placing
+    requires belongs { BelongsTo pass.old shared.now }
+    requires part { 0 < share pass.old.view }
+    requires hand { IsSome pass.old.view.hand }
+    requires mark { IfSome pass.old.view.hand (λ hand. hand.mark ≡ k) }
+    requires point { IfSome pass.old.view.hand (λ hand. hand.point ≡ p) }
+    requires treed { IfSome pass.old.view.hand (λ hand. hand.stage ≡ Treed) }
+    ensures belongs { BelongsTo pass.new shared.now }
+    ensures goes_on { GoesOnPlacing pass.old.view pass.new.view }
+    ensures share { KeepsShare pass.old.view pass.new.view }
+    ensures view_alone { pass.new ≡ with_view pass.old pass.new.view }
+    ensures placed { IfSome pass.old.view.hand (λ hand. HasCome pass.new.view hand result) }
+    ensures whole { HasWholeShare pass.old.view → IfSome pass.old.view.hand (λ hand. KeepsOthers pass.old.view pass.new.view hand.mark result) }
+{
+    match place(shared, pass, k) {
+        Placing::Placed => {
+            post_goal_node(shared, pass, k, p);
+            Placing::Placed
+        }
+        Placing::Same(node) => Placing::Same(node),
+    }
+}
+
+/// Posts the node of the mark in hand, which is placed at p, if it lies in a goal by which marks are skipped.
+fn post_goal_node(shared: &Shared, pass: &mut Pass, k: u32, p: Point)
+    requires belongs { BelongsTo pass.old shared.now }
+    requires part { 0 < share pass.old.view }
+    requires placed { (hand : Hand) × IsPlaced pass.old.view hand × (hand.mark ≡ k) × (hand.point ≡ p) }
+    ensures belongs { BelongsTo pass.new shared.now }
+    ensures goes_on { GoesOn pass.old.view pass.new.view }
+    ensures in_goal { lies_in_goals pass.old.view.run.goals p ≡ true
+        → (pass.new ≡ with_view pass.old (with_best pass.old.view pass.new.view.best (hand_with_post pass.old.view.hand (suc k))))
+        × (pass.new.view.best ≤ best_word (cost_in (sees pass.old.view (TreeOf (suc k)))) (suc k)) }
+    ensures elsewhere { lies_in_goals pass.old.view.run.goals p ≡ false → pass.new ≡ pass.old }
+{
+    if skips_by(shared, p) {
+        shared.post(pass, k + 1);
+    }
+}
+
+/// Whether the point lies in a goal by which marks are skipped.
+fn skips_by(shared: &Shared, p: Point) -> bool
+    ensures { result ≡ lies_in_goals (skipping_goals shared.now.task.scene) p }
+{
+    let scene = &shared.task().scene;
+    scene.informed && lies_in_goals(scene.goals.as_slice(), p)
+}
+
 /// Hangs the node in hand by the nodes found, which are near its point, and tries to place it.
 fn choose_and_place<C: Clearing>(
     shared: &Shared,
@@ -71,6 +130,7 @@ fn choose_and_place<C: Clearing>(
     class: u32,
 ) -> (Placing, Hanging)
     requires may { MayPlace shared.now pass.old k steering.nearest steering.point }
+    requires part { 0 < share pass.old.view }
     requires near { All (IsInReach pass.old.view steering.point) (numbers_of pass.old.lists.search.found) }
     requires stands { All (StandsAsFound pass.old.view) pass.old.lists.search.found }
     requires hall { C.space hall.now ≡ space_of shared.now.task.scene }
@@ -82,7 +142,7 @@ fn choose_and_place<C: Clearing>(
         (numbers_of pass.old.lists.search.found) result.0 result.1 }
 {
     let (parent, cost) = choose_and_write(shared, pass, hall, steering.point, steering.nearest);
-    let placing = place(shared, pass, k);
+    let placing = place_and_post(shared, pass, k, steering.point);
     (
         placing,
         Hanging {
@@ -114,7 +174,8 @@ pub(crate) fn place_rewire_and_record<C: Clearing>(
     // a pass that works alone does so as in the textbook
     ensures textbook { IsSteeredWhole pass.old.view k steering.nearest steering.point
         → IsFilledWhole pass.old.view steering.point class pass.old.lists.search.found
-        → WorksAlone pass.old.view k → SeesTextbook pass.old.view k → WorksAlone pass.new.view (suc k) × SeesTextbook pass.new.view (suc k) }
+        → WorksAlone pass.old.view k → SeesTextbook pass.old.view k → IsNotSkippedIn pass.old.view k
+        → WorksAlone pass.new.view (suc k) × SeesTextbook pass.new.view (suc k) }
 {
     let (placing, hanging) = choose_and_place(shared, pass, hall, k, steering, class);
     match placing {

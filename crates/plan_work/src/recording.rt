@@ -1,15 +1,14 @@
 //! The record of a mark: what became of it.
 
-ghost use Rattle.std.specs.Prelude.{◌≡◌, ◌<◌, false, suc, IfSome, IsSome};
+ghost use Rattle.std.specs.Prelude.{◌≡◌, ◌<◌, true, false, suc, IfSome, IsSome};
 ghost use Rattle.plan_model.specs.Runs.Outcomes.{is_placed};
 ghost use Rattle.plan_words.specs.States.{BelongsTo};
 ghost use Rattle.plan_work.specs.ExtensionSteps.{HasRecorded, own_placed, own_unplaced};
 ghost use Rattle.step_core.specs.SeenRecords.{MayRecord};
-ghost use Rattle.step_core.specs.Stages.{MayBeRecorded};
+ghost use Rattle.step_core.specs.Stages.{MayBeRecorded, has_count};
 ghost use Rattle.step_core.specs.ViewSteps.{pair_in_hand};
 ghost use Rattle.step_core.specs.Views.{sees, share};
 ghost use Rattle.step_core.specs.WordNames.Word.{FirstOf};
-ghost use Rattle.step_core.specs.declared.views.Stage.TheVariants.{Counted};
 
 use crate::mark_placing::Hanging;
 use plan_model::{Outcome, Record};
@@ -46,7 +45,7 @@ pub(crate) fn record_placed(
     requires belongs { BelongsTo pass.old shared.now }
     requires part { 0 < share pass.old.view }
     requires hand { IsSome pass.old.view.hand }
-    requires counted { IfSome pass.old.view.hand (λ hand. hand.stage ≡ Counted) }
+    requires counted { IfSome pass.old.view.hand (λ hand. has_count hand.stage ≡ true) }
     requires first { IfSome pass.old.view.hand (λ hand. sees pass.old.view (FirstOf (suc hand.mark)) ≡ pair_in_hand hand) }
     requires may { IfSome pass.old.view.hand (λ hand. MayRecord pass.old.view hand (own_placed pass.old.view nearest hanging)) }
     ensures recorded { HasRecorded shared.now pass.old pass.new result }

@@ -1,6 +1,6 @@
 //! A worker, who handles mark after mark.
 
-ghost use Rattle.std.specs.Prelude.{◌≡◌, ◌≤◌, false, length};
+ghost use Rattle.std.specs.Prelude.{◌≡◌, ◌≤◌, length};
 ghost use Rattle.plan_model.specs.Spaces.ConfigurationSpace.{space_of};
 ghost use Rattle.plan_words.specs.Claims.{AllFull, AllLoaded};
 ghost use Rattle.plan_words.specs.States.{GoesOn, MayClaim};
@@ -18,11 +18,10 @@ use swept_check::Clearing;
 /// a mark holds of each that was handled, between two moments of this call.
 ///
 /// The pass has a share and nothing in hand, before and after. The limit is at least that of the opening run, with which no
-/// mark is left, and at most the number of marks. The hall stands for the scene, which is not informed. No memory.
+/// mark is left, and at most the number of marks. The hall stands for the scene. No memory.
 pub fn work<C: Clearing, G: Gate>(shared: &Shared, pass: &mut Pass, hall: &C, limit: u32, gate: &G)
     requires may_claim { MayClaim shared.now pass.old }
     requires hall { C.space hall.now ≡ space_of shared.now.task.scene }
-    requires plain { shared.now.task.scene.informed ≡ false }
     requires low { shared.now.opening ≤ limit }
     requires limit { limit ≤ length shared.now.task.marks }
     ensures goes_on { GoesOn pass.old.view pass.new.view }

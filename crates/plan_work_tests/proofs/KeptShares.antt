@@ -13,7 +13,6 @@ use Rattle.tree_rewire.specs.SeenCosts.{PassSees}
 pub HasShare-kept : (shared : SharedState) (before after : PassState) (n : ℕ) → BelongsTo after shared → KeepsHand before.view after.view
     → HasShare shared n before → HasShare shared n after
 HasShare-kept shared before after n belongs kept has = record {
-  plain = has.plain;
   may_claim = record {
     belongs = belongs;
     part = subst (λ crew. 0 < length crew) (sym kept.crew) has.may_claim.part;
@@ -30,7 +29,6 @@ HasShare-sees which shared before after n sees has = HasShare-kept shared before
 pub HasClaimed-handled : (shared : SharedState) (claimed after : PassState) (n k : ℕ) (entry : Record) → HandlesMark shared claimed after k entry
     → HasClaimed shared n k claimed → HasShare shared n after
 HasClaimed-handled shared claimed after n k entry handles has = record {
-  plain = has.plain;
   may_claim = handles.may_claim;
   share_is = ap (λ crew. length crew) handles.crew ∙ share-turned claimed.view.crew ∙ has.share_is;
 }

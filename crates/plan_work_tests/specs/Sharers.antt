@@ -1,18 +1,16 @@
 -- Passes and their shares, as the tests follow them.
-use Rattle.std.specs.Prelude.{◌≡◌, ℕ, false, length, Some}
+use Rattle.std.specs.Prelude.{◌≡◌, ℕ, length, Some}
 use Rattle.plan_words.specs.States.{BelongsTo, MayClaim, PassState, SharedState}
 use Rattle.step_core.specs.ViewSteps.{new_hand}
 use Rattle.step_core.specs.Views.{share}
 
--- a pass of the tree with this share that may claim a mark, over a scene that is not informed
+-- a pass of the tree with this share that may claim a mark
 pub record HasShare (shared : SharedState) (n : ℕ) (pass : PassState) : Type 0 where
-  pub plain : shared.task.scene.informed ≡ false
   pub may_claim : MayClaim shared pass
   pub share_is : share pass.view ≡ n
 
--- such a pass that has claimed mark k, of which nothing is written
+-- a pass of the tree with this share that has claimed mark k, of which nothing is written
 pub record HasClaimed (shared : SharedState) (n k : ℕ) (pass : PassState) : Type 0 where
-  pub plain : shared.task.scene.informed ≡ false
   pub belongs : BelongsTo pass shared
   pub share_is : share pass.view ≡ n
   pub hand : pass.view.hand ≡ Some (new_hand k)

@@ -1,6 +1,6 @@
 //! Marks that two passes of one thread handle in turn.
 
-ghost use Rattle.std.specs.Prelude.{◌≡◌, ◌∷◌, false, [], IfOk, IsTrue, length};
+ghost use Rattle.std.specs.Prelude.{◌≡◌, ◌∷◌, [], IfOk, IsTrue, length};
 ghost use Rattle.plan_model.specs.Spaces.Clearance.{ClearAt};
 ghost use Rattle.plan_model.specs.Spaces.ConfigurationSpace.{space_of};
 ghost use Rattle.plan_model.specs.Scenes.Limits.{are_obstacles, is_plan};
@@ -103,8 +103,7 @@ fn wall<R: Abort>(rt: &R, alloc: Global) -> Polys
 /// The scene of these marks for a point body in a room of 100 by 100, with the wall.
 fn walled_scene<R: Abort>(rt: &R, alloc: Global, marks: &[Point]) -> Scene
     requires { IsTrue (is_plan 1 (Listed marks.now)) }
-    ensures plan { result.plan ≡ Listed marks.now }
-    ensures informed { result.informed ≡ false }
+    ensures { result.plan ≡ Listed marks.now }
 {
     let body = sure(rt, list_of(alloc, &BODY));
     let obstacles = wall(rt, alloc);
@@ -127,8 +126,7 @@ fn walled_scene<R: Abort>(rt: &R, alloc: Global, marks: &[Point]) -> Scene
 /// The task of these marks in that scene.
 fn walled_task<R: Abort>(rt: &R, alloc: Global, marks: &[Point]) -> Task
     requires { IsTrue (is_plan 1 (Listed marks.now)) }
-    ensures marks { result.marks ≡ marks.now }
-    ensures informed { result.scene.informed ≡ false }
+    ensures { result.marks ≡ marks.now }
 {
     let scene = walled_scene(rt, alloc, marks);
     let marks = sure(rt, list_of(alloc, marks));
@@ -149,7 +147,6 @@ fn task_by_wall<R: Abort>(rt: &R, alloc: Global, marks: &[Point]) -> Task
     requires { IsTrue (is_plan 1 (Listed marks.now)) }
     ensures clear { ClearAt (space_of result.scene) result.scene.start }
     ensures marks { result.marks ≡ marks.now }
-    ensures informed { result.scene.informed ≡ false }
 {
     let task = walled_task(rt, alloc, marks);
     assert_start_clear(rt, alloc, &task.scene);

@@ -1,6 +1,6 @@
 //! Passes that go on from a run of some marks.
 
-ghost use Rattle.std.specs.Prelude.{◌≡◌, ◌≤◌, false, All, IfSome, length};
+ghost use Rattle.std.specs.Prelude.{◌≡◌, ◌≤◌, All, IfSome, length};
 ghost use Rattle.plan_model.specs.Spaces.Clearance.{ClearAt};
 ghost use Rattle.plan_model.specs.Spaces.ConfigurationSpace.{space_of};
 ghost use Rattle.plan_words.specs.States.{MayClaim};
@@ -23,7 +23,6 @@ static SEVEN: [Point; 7] = [START; 7];
 fn seven_marks<R: Abort>(rt: &R, alloc: Global) -> Task
     ensures clear { ClearAt (space_of result.scene) result.scene.start }
     ensures marks { length result.marks ≡ 7 }
-    ensures informed { result.scene.informed ≡ false }
 {
     let small = SmallScene {
         room: Point { x: 100, y: 100 },
@@ -107,7 +106,7 @@ fn opened_after_four<R: Threads + Sync + Abort>(rt: &R, alloc: Global) -> (Opene
     (opened, third)
 }
 
-/// Asserts which mark a pass claims below a limit, if any, and handles it. The scene is not informed.
+/// Asserts which mark a pass claims below a limit, if any, and handles it.
 fn assert_turn<R: Abort>(
     rt: &R,
     shared: &Shared,
@@ -123,7 +122,7 @@ fn assert_turn<R: Abort>(
     ensures may_claim { MayClaim shared.now pass.new }
 {
     let claimed = shared.claim(pass, limit);
-    assert!(rt; claimed == want && !shared.task().scene.informed);
+    assert!(rt; claimed == want);
     if let Some(mark) = claimed {
         extend(shared, pass, hall, mark);
     }

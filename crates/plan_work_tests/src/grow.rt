@@ -77,14 +77,12 @@ fn outcomes(grown: &Grown) -> [u32; 4] {
     [placed, same, blocked, skipped]
 }
 
-/// Whether the outcomes add up to the limit, no mark is skipped, and there is a node for each placed mark.
+/// Whether the outcomes add up to the limit, and there is a node for each placed mark.
 fn adds_up(grown: &Grown) -> bool {
     let [placed, same, blocked, skipped] = outcomes(grown);
-    let others = u64::from(same) + u64::from(blocked);
+    let others = u64::from(same) + u64::from(blocked) + u64::from(skipped);
     let nodes = u64::from(placed) + 1;
-    skipped == 0
-        && u64::from(placed) + others == u64::from(grown.limit())
-        && u64::from(grown.count()) == nodes
+    u64::from(placed) + others == u64::from(grown.limit()) && u64::from(grown.count()) == nodes
 }
 
 /// Asserts something of a run by so many workers up to a limit.
@@ -190,13 +188,12 @@ fn a_limit_of_0_leaves_all_marks(rt: HostRuntime) {
     assert_run_by(&rt, rt.alloc(), 2, 0, 1);
 }
 
-/// The run of three marks by three workers that goes on from one of a single mark. The scene is not informed.
+/// The run of three marks by three workers that goes on from one of a single mark.
 fn grown_on<R: Threads + Sync + Abort>(rt: &R, alloc: Global, begun: Grown) -> Grown
     requires limit { begun.limit ≡ 1 }
     requires marks { length begun.task.marks ≡ 3 }
     ensures { result.limit ≡ 3 }
 {
-    assert!(rt; !begun.task().scene.informed);
     let hall = sure(rt, Hall::new(alloc, &begun.task().scene));
     let grown = sure(rt, grow(rt, alloc, begun, &hall, 3, 3, &NoGate));
     drop(hall);

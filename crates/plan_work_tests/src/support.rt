@@ -1,7 +1,7 @@
 //! What the tests share: values that memory lasts for, the task of some marks in a small room, the nodes and the records of a run, and
 //! two passes of one thread over a shared tree, from its first mark to the run that it comes to.
 
-ghost use Rattle.std.specs.Prelude.{◌≡◌, ◌<◌, ◌≤◌, false, All, IfSome, IsTrue, Ok, Some, length};
+ghost use Rattle.std.specs.Prelude.{◌≡◌, ◌<◌, ◌≤◌, All, IfSome, IsTrue, Ok, Some, length};
 ghost use Rattle.plan_model.specs.Scenes.Limits.{is_plan};
 ghost use Rattle.plan_model.specs.Spaces.Clearance.{ClearAt};
 ghost use Rattle.plan_model.specs.Spaces.ConfigurationSpace.{space_of};
@@ -51,7 +51,6 @@ pub(crate) fn small_task<R: Abort>(rt: &R, alloc: Global, marks: &[Point]) -> Ta
     requires { IsTrue (is_plan 1 (Listed marks.now)) }
     ensures clear { ClearAt (space_of result.scene) result.scene.start }
     ensures marks { result.marks ≡ marks.now }
-    ensures informed { result.scene.informed ≡ false }
 {
     task_to(rt, alloc, Point { x: 40, y: 79 }, 1000, marks)
 }
@@ -70,7 +69,6 @@ pub(crate) fn task_to<R: Abort>(
     requires gamma { gamma ≤ 1000 }
     ensures clear { ClearAt (space_of result.scene) result.scene.start }
     ensures marks { result.marks ≡ marks.now }
-    ensures informed { result.scene.informed ≡ false }
 {
     let small = SmallScene {
         room: Point { x: 100, y: 100 },
@@ -182,7 +180,6 @@ fn last_sharer(shared: &Shared, passes: &mut Vec<Pass>) -> Option<Pass>
 /// The tree of a task, and two passes that may claim its marks.
 fn shared_by_two<R: Abort>(rt: &R, alloc: Global, task: Task) -> (Shared, Vec<Pass>)
     requires clear { ClearAt (space_of task.scene) task.scene.start }
-    requires plain { task.scene.informed ≡ false }
     ensures opening { result.0.opening ≡ 0 }
     ensures workers { result.0.workers ≡ 2 }
     ensures task { result.0.task ≡ task }
@@ -195,7 +192,6 @@ fn shared_by_two<R: Abort>(rt: &R, alloc: Global, task: Task) -> (Shared, Vec<Pa
 /// Two passes that may claim the marks of a task.
 pub(crate) fn two_passes<R: Abort>(rt: &R, alloc: Global, task: Task) -> Two
     requires clear { ClearAt (space_of task.scene) task.scene.start }
-    requires plain { task.scene.informed ≡ false }
     ensures opening { result.0.opening ≡ 0 }
     ensures workers { result.0.workers ≡ 2 }
     ensures task { result.0.task ≡ task }

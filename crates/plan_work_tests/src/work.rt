@@ -1,6 +1,6 @@
 //! A worker that is inside the test of its segment while another places a node.
 
-ghost use Rattle.std.specs.Prelude.{◌≡◌, false, length};
+ghost use Rattle.std.specs.Prelude.{◌≡◌, length};
 ghost use Rattle.plan_model.specs.Spaces.Clearance.{ClearAt};
 ghost use Rattle.plan_model.specs.Spaces.ConfigurationSpace.{space_of};
 ghost use Rattle.plan_work_tests.specs.Sharers.{HasClaimed, HasShare, IsOfThree};
@@ -95,7 +95,6 @@ impl Clearing for Meeting {
 fn task_in_two_strips<R: Abort>(rt: &R, alloc: Global) -> Task
     ensures clear { ClearAt (space_of result.scene) result.scene.start }
     ensures marks { length result.marks ≡ 3 }
-    ensures informed { result.scene.informed ≡ false }
 {
     let goal = Point { x: 40, y: 79 };
     let small = SmallScene {

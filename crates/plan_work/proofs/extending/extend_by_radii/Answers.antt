@@ -1,328 +1,71 @@
-use Rattle.std.specs.Prelude.{IfSome}
-use Rattle.std.proofs.Common.{◌≡◌, false, refl, sym, ap, ◌∙◌, subst}
-use Rattle.plan_model.specs.Spaces.Clearance.{Clear}
-use Rattle.plan_model.specs.Trees.PointsByNumber.{point_of}
-use Rattle.plan_words.specs.States.{PassState, with_lists, with_view}
-use Rattle.plan_words.proofs.PlainScenes.{no_goals}
-use Rattle.step_core.specs.SeenBests.{IsUnskipped}
-use Rattle.step_core.specs.ViewSteps.{pointed}
-use Rattle.step_core.specs.ViewTrees.{SeesPoint}
-use Rattle.step_core.specs.Views.{sees, setup_in, tree_seen}
-use Rattle.step_core.specs.declared.views.View.{View}
-use Rattle.kd_shared.proofs.Looking.{OnlyLooks-refl}
-use Rattle.plan_model.proofs.SamePoints.{same_point-true}
-use Rattle.plan_work.specs.ExtensionSteps.{IsFilledSince, KeepsRecords}
-use Rattle.plan_work.proofs.ExtendedMarks.{HandlesMark-after, HasLooked, HasLooked-looks, IsExtended-blocked, IsExtended-found, IsExtended-written}
-use Rattle.plan_work.proofs.ExtendedMarks.{IsFilledSince-written, IsSteered-found, KeepsRecords-written, MayPlace-written, MayRecord-blocked}
-use Rattle.plan_work.proofs.ExtendedMarks.{MayRecord-found, blocked_here}
-use Rattle.plan_model.specs.Runs.Outcomes.{is_placed}
-use Rattle.plan_model.specs.declared.records.Outcome.{Outcome}
-use Rattle.plan_model.specs.declared.records.Outcome.TheVariants.{Blocked, Same}
-use Rattle.step_core.specs.Stages.{MayBeRecorded, has_count, has_link}
-use Rattle.plan_work.proofs.HeldMarks.{if_held, of_held}
-use Rattle.plan_work.proofs.RecordedMarks.{HandlesMark-recorded}
-use Rattle.plan_work.proofs.extending.extend_by_radii.Given.{Over}
-use Rattle.plan_words.specs.States.{HasWholeShare}
-use Rattle.plan_work.proofs.ExtendedAlone.{AloneNext-blocked, AloneNext-found, IsFilledWhole-written, IsSteeredWhole-written}
-use Rattle.plan_work.proofs.ExtendedAlone.{SeesTextbook-written, WorksAlone-written}
-use Rattle.plan_work.proofs.WholeLists.{HasCounted-claimed, HasCounted-kept, HasWholeShare-kept, SeesButCount-all, SeesButCount-trans}
-use Rattle.plan_work.specs.OneWorker.{WorksAlone}
-use Rattle.plan_work.specs.WholeShares.{IsFilledWhole, SeesButCount}
-use Rattle.step_core.specs.declared.views.Stage.TheVariants.{Claimed}
+use Rattle.std.proofs.Common.{◌≡◌, sym, ap}
+use Rattle.plan_model.specs.declared.records.Outcome.TheVariants.{Skipped}
+use Rattle.plan_work.proofs.ExtendedMarks.{HandlesMark-after}
+use Rattle.plan_work.proofs.HeldMarks.{holding, if_held}
+use Rattle.plan_work.proofs.SkippingMarks.{AloneNext-skipped, EndsAsSteered-loaded, HandlesMark-skipped, IsExtended-skipped, IsNotSkippedIn-loaded}
+use Rattle.plan_work.proofs.SkippingMarks.{SeesTextbook-loaded, WasNotSkipped-loaded, WorksAlone-loaded}
+use Rattle.plan_work.proofs.SteeredOutcomes.{EndsAsSeen-steered}
 use Rattle.plan_work.proofs.extending.extend_by_radii.Goals as goal
-use Rattle.plan_work.proofs.extending.extend_by_radii.Goals.{After-find, After-steer_and_test-class, After-write_point}
+use Rattle.step_core.specs.SeenBests.{MayBeSkipped}
+use Rattle.step_core.specs.Stages.{MayBeRecorded, has_count, has_link}
 
--- ---- the pass has steered
-
-steered : (g : Over) (c : After-steer_and_test-class g)
-    → HasLooked c.args.shared.now c.args.pass.now c.steer_and_test-class.new.pass c.steer_and_test-class.new.pass c.args.k
-    c.steer_and_test-class.result.0.nearest
-    c.steer_and_test-class.result.0.from c.steer_and_test-class.result.0.point
-steered g c =
-    let steer = c.steer_and_test-class.ensures in
-    HasLooked-looks c.args.shared.now c.args.pass.now c.args.pass.now c.steer_and_test-class.new.pass c.steer_and_test-class.new.pass c.args.k
-    c.steer_and_test-class.result.0.nearest c.steer_and_test-class.result.0.from c.steer_and_test-class.result.0.point
-    refl
-    c.requires.may.hand c.requires.may.mark steer.keeps steer.hand steer.keeps.belongs
-    (OnlyLooks-refl c.steer_and_test-class.new.pass.view steer.keeps.belongs.lawful) steer.steered
-
--- the nearest node stands at the point that it steers to, if that is where it stands
-stands : (g : Over) (c : After-steer_and_test-class g) → c.steer_and_test-class.result.0.from ≡ c.steer_and_test-class.result.0.point
-    → SeesPoint c.steer_and_test-class.new.pass.view c.steer_and_test-class.result.0.nearest c.steer_and_test-class.result.0.point
-stands g c same =
-    subst (SeesPoint c.steer_and_test-class.new.pass.view c.steer_and_test-class.result.0.nearest) same c.steer_and_test-class.ensures.steered.stands
+pub record_unplaced-requires-clause-stage : goal.record_unplaced-requires-clause-stage
+record_unplaced-requires-clause-stage g c =
+    let mid = c.skipper.new.pass.view in
+    let own = holding mid (λ hand. MayBeSkipped mid hand c.in-Some.goal_node) c.skipper.ensures.may.hand c.in-Some.ensures.skipped in
+    if_held mid (λ hand. MayBeRecorded hand.stage Skipped) own.hand own.held
+    (record { linked = sym (ap has_link own.says.claimed); counted = sym (ap has_count own.says.claimed) })
 
 pub record_unplaced-requires-clause-may : goal.record_unplaced-requires-clause-may
-record_unplaced-requires-clause-may g c =
-    let looked = steered g (goal.at.record_unplaced-requires-clause-may g c).After-steer_and_test-class in
-    MayRecord-found c.args.shared.now c.args.pass.now c.steer_and_test-class.new.pass looked.hand c.args.k c.steer_and_test-class.result.0.nearest
-    c.steer_and_test-class.result.0.from c.steer_and_test-class.result.0.point looked.keeps looked.steers looked.held looked.mark
-    c.requires.may.plain c.steer_and_test-class.result.0.nearest (stands g (goal.at.record_unplaced-requires-clause-may g c).After-steer_and_test-class
-    (same_point-true c.steer_and_test-class.result.0.from c.steer_and_test-class.result.0.point (sym c.eq.ensures ∙ c.if-eq.true)))
+record_unplaced-requires-clause-may g c = c.in-Some.ensures.skipped
 
--- ---- the segment is not clear
-
-looked : (g : Over) (c : After-find g)
-    → HasLooked c.args.shared.now c.args.pass.now c.steer_and_test-class.new.pass c.find.new.pass c.args.k c.steer_and_test-class.result.0.nearest
-    c.steer_and_test-class.result.0.from c.steer_and_test-class.result.0.point
-looked g c =
-    let steer = c.steer_and_test-class.ensures in
-    HasLooked-looks c.args.shared.now c.args.pass.now c.args.pass.now c.steer_and_test-class.new.pass c.find.new.pass c.args.k
-    c.steer_and_test-class.result.0.nearest c.steer_and_test-class.result.0.from c.steer_and_test-class.result.0.point
-    refl
-    c.requires.may.hand c.requires.may.mark steer.keeps steer.hand c.find.ensures.belongs c.find.ensures.looks steer.steered
-
-blocked : (g : Over) (c : After-find g)
-    → ¬ Clear (setup_in c.find.new.pass.view.run).space (point_of (tree_seen c.find.new.pass.view).points c.steer_and_test-class.result.0.nearest)
-    c.steer_and_test-class.result.0.point
-blocked g c =
-    blocked_here c.args.shared.now c.args.pass.now c.steer_and_test-class.new.pass c.find.new.pass c.args.k c.steer_and_test-class.result.0.nearest
-    c.steer_and_test-class.result.0.from c.steer_and_test-class.result.0.point (looked g c)
-    (λ clear.
-    let yes = sym c.if-not-is_clear.true
-    ∙ c.steer_and_test-class.ensures.clear.1
-    (subst (λ s. Clear s c.steer_and_test-class.result.0.from c.steer_and_test-class.result.0.point) (sym c.requires.hall) clear) in
-    cc)
-
--- the mark may be recorded as one whose node was not placed
-may_end : (g : Over) (c : After-find g) (outcome : Outcome) → is_placed outcome ≡ false
-    → IfSome c.find.new.pass.view.hand (λ hand. MayBeRecorded hand.stage outcome)
-may_end g c outcome unplaced =
-    let has_looked = looked g c in
-    let claimed = of_held c.args.pass.now.view (λ hand. hand.stage ≡ Claimed) has_looked.hand has_looked.was_held c.requires.may.claimed in
-    if_held c.find.new.pass.view (λ hand. MayBeRecorded hand.stage outcome) has_looked.hand has_looked.held
-    (record { linked = unplaced ∙ sym (ap has_link claimed); counted = unplaced ∙ sym (ap has_count claimed) })
-
-pub record_unplaced-requires-in-Some-clause-stage : goal.record_unplaced-requires-in-Some-clause-stage
-record_unplaced-requires-in-Some-clause-stage g c =
-    may_end g (goal.at.record_unplaced-requires-in-Some-clause-stage g c).After-find (Same c.in-Some.node) refl
-
-pub record_unplaced-requires-then-not-is_clear-clause-stage : goal.record_unplaced-requires-then-not-is_clear-clause-stage
-record_unplaced-requires-then-not-is_clear-clause-stage g c =
-    may_end g (goal.at.record_unplaced-requires-then-not-is_clear-clause-stage g c).After-find Blocked refl
-
-pub record_unplaced-requires-in-Some-clause-may : goal.record_unplaced-requires-in-Some-clause-may
-record_unplaced-requires-in-Some-clause-may g c =
-    let has_looked = looked g (goal.at.record_unplaced-requires-in-Some-clause-may g c).After-find in
-    MayRecord-found c.args.shared.now c.args.pass.now c.find.new.pass has_looked.hand c.args.k c.steer_and_test-class.result.0.nearest
-    c.steer_and_test-class.result.0.from c.steer_and_test-class.result.0.point has_looked.keeps has_looked.steers has_looked.held has_looked.mark
-    c.requires.may.plain c.in-Some.node c.in-Some.ensures.found
-
-pub record_unplaced-requires-then-not-is_clear-clause-may : goal.record_unplaced-requires-then-not-is_clear-clause-may
-record_unplaced-requires-then-not-is_clear-clause-may g c =
-    let here = (goal.at.record_unplaced-requires-then-not-is_clear-clause-may g c).After-find in
-    let has_looked = looked g here in
-    MayRecord-blocked c.args.shared.now c.args.pass.now c.find.new.pass has_looked.hand c.args.k c.steer_and_test-class.result.0.nearest
-    c.steer_and_test-class.result.0.from c.steer_and_test-class.result.0.point has_looked.keeps has_looked.steers has_looked.held has_looked.mark
-    c.requires.may.plain c.in_default.ensures.free (blocked g here)
-
--- ---- the segment is clear, and the point is written
-
-pub write_point-requires-clause-steered : goal.write_point-requires-clause-steered
-write_point-requires-clause-steered g c =
-    let looked = steered g (goal.at.write_point-requires-clause-steered g c).After-steer_and_test-class in
-    IsSteered-found c.args.shared.now c.args.pass.now c.steer_and_test-class.new.pass looked.hand c.args.k c.steer_and_test-class.result.0.nearest
-    c.steer_and_test-class.result.0.from c.steer_and_test-class.result.0.point looked.keeps looked.steers looked.held looked.mark
-
--- no mark is skipped
-pub write_point-requires-clause-unskipped : goal.write_point-requires-clause-unskipped
-write_point-requires-clause-unskipped g c =
-    let looked = steered g (goal.at.write_point-requires-clause-unskipped g c).After-steer_and_test-class in
-    let view = c.steer_and_test-class.new.pass.view in
-    if_held view (IsUnskipped view) looked.hand looked.held
-    (λ informed. absurd (informed (no_goals c.args.shared.now view looked.keeps.belongs.run c.requires.may.plain)))
-
-abbrev Steered : (g : Over) → After-write_point g → Type 0
-Steered g c =
-    HasLooked c.args.shared.now c.args.pass.now c.steer_and_test-class.new.pass c.steer_and_test-class.new.pass c.args.k c.steer_and_test-class.result.0.nearest
-    c.steer_and_test-class.result.0.from c.steer_and_test-class.result.0.point
-
-writes : (g : Over) (c : After-write_point g) (looked : Steered g c)
-    → c.write_point.new.pass
-    ≡ with_view c.steer_and_test-class.new.pass
-    (pointed c.steer_and_test-class.new.pass.view looked.hand c.steer_and_test-class.result.0.nearest c.steer_and_test-class.result.0.point)
-writes g c looked =
-    of_held c.steer_and_test-class.new.pass.view
-    (λ hand. c.write_point.new.pass
-    ≡ with_view c.steer_and_test-class.new.pass
-    (pointed c.steer_and_test-class.new.pass.view hand c.steer_and_test-class.result.0.nearest c.steer_and_test-class.result.0.point))
-    looked.hand looked.held c.write_point.ensures.view
-
-keeps : (g : Over) (c : After-write_point g) → Steered g c → KeepsRecords c.args.shared.now c.args.pass.now c.write_point.new.pass
-keeps g c looked =
-    KeepsRecords-written c.args.shared.now c.args.pass.now c.steer_and_test-class.new.pass looked.hand c.args.k c.steer_and_test-class.result.0.nearest
-    c.steer_and_test-class.result.0.from c.steer_and_test-class.result.0.point looked.keeps looked.steers looked.held looked.mark c.write_point.new.pass
-    c.write_point.ensures.goes_on (writes g c looked)
-
--- the near list was filled since the call began
-filled : (g : Over) (c : After-write_point g) → Steered g c
-    → IsFilledSince c.args.shared.now c.args.pass.now c.write_point.new.pass c.steer_and_test-class.result.0.point c.steer_and_test-class.result.1
-filled g c looked =
-    IsFilledSince-written c.args.shared.now c.args.pass.now c.steer_and_test-class.new.pass looked.hand c.args.k c.steer_and_test-class.result.0.nearest
-    c.steer_and_test-class.result.0.from c.steer_and_test-class.result.0.point looked.keeps looked.steers looked.held looked.mark c.write_point.new.pass
-    c.write_point.ensures.goes_on (writes g c looked) c.args.pass.now c.steer_and_test-class.new.pass c.steer_and_test-class.result.1
-    refl
-    c.steer_and_test-class.ensures.keeps c.steer_and_test-class.ensures.filled looked.goes_on refl refl
-
-pub place_rewire_and_record-requires-clause-may : goal.place_rewire_and_record-requires-clause-may
-place_rewire_and_record-requires-clause-may g c κs within =
-    let here = (goal.at.place_rewire_and_record-requires-clause-may g c).After-write_point in
-    let looked = steered g (goal.at.place_rewire_and_record-requires-clause-may g c).After-steer_and_test-class in
-    MayPlace-written c.args.shared.now c.args.pass.now c.steer_and_test-class.new.pass looked.hand c.args.k c.steer_and_test-class.result.0.nearest
-    c.steer_and_test-class.result.0.from c.steer_and_test-class.result.0.point looked.keeps looked.steers looked.held looked.mark c.write_point.new.pass
-    c.write_point.ensures.goes_on (writes g here looked) c.requires.may.plain c.steer_and_test-class.ensures.bounded
-    (subst (λ s. Clear s c.steer_and_test-class.result.0.from c.steer_and_test-class.result.0.point) c.requires.hall
-    (c.steer_and_test-class.ensures.clear.0 c.if-not-is_clear.false))
-
-pub place_rewire_and_record-requires-clause-filled : goal.place_rewire_and_record-requires-clause-filled
-place_rewire_and_record-requires-clause-filled g c κs within =
-    let at = goal.at.place_rewire_and_record-requires-clause-filled g c in
-    (c.args.pass.now, filled g at.After-write_point (steered g at.After-steer_and_test-class))
-
--- ---- of a pass that works alone
-
--- it was shown nothing new but the count, and its near list is that of the textbook
-abbrev IsWhole : (g : Over) → After-steer_and_test-class g → Type 0
-IsWhole g c =
-    SeesButCount c.args.pass.now.view c.steer_and_test-class.new.pass.view
-    × IsFilledWhole c.steer_and_test-class.new.pass.view c.steer_and_test-class.result.0.point c.steer_and_test-class.result.1
-    c.steer_and_test-class.new.pass.lists.search.found
-
-whole_steered : (g : Over) (c : After-steer_and_test-class g) → WorksAlone c.args.pass.now.view c.args.k → IsWhole g c
-whole_steered g c alone =
-    let before = c.args.pass.now.view in
-    let emptied = before in
-    let looked = steered g c in
-    let view : emptied ≡ before = refl in
-    let claimed = HasCounted-claimed before looked.hand looked.was_held
-    (of_held before (λ hand. hand.stage ≡ Claimed) looked.hand looked.was_held c.requires.may.claimed) in
-    let got = c.steer_and_test-class.ensures.whole (subst HasWholeShare (sym view) alone.whole)
-    (HasCounted-kept before emptied (ap (λ (v : View). v.hand) view) claimed) in
-    (SeesButCount-trans before emptied c.steer_and_test-class.new.pass.view (SeesButCount-all before emptied (λ name. ap (λ v. sees v name) view)) got.0, got.1)
-
--- a search for the point shows nothing new either
-found_whole : (g : Over) (c : After-find g)
-    → HasLooked c.args.shared.now c.args.pass.now c.steer_and_test-class.new.pass c.steer_and_test-class.new.pass c.args.k
-    c.steer_and_test-class.result.0.nearest c.steer_and_test-class.result.0.from c.steer_and_test-class.result.0.point
-    → SeesButCount c.args.pass.now.view c.steer_and_test-class.new.pass.view → WorksAlone c.args.pass.now.view c.args.k
-    → SeesButCount c.args.pass.now.view c.find.new.pass.view
-found_whole g c steer same alone =
-    SeesButCount-trans c.args.pass.now.view c.steer_and_test-class.new.pass.view c.find.new.pass.view same
-    (SeesButCount-all c.steer_and_test-class.new.pass.view c.find.new.pass.view
-    (c.find.ensures.looks.whole (HasWholeShare-kept c.args.shared.now c.args.pass.now c.steer_and_test-class.new.pass steer.keeps alone.whole)))
-
--- ---- what was promised
-
-pub returns-then-eq : goal.returns-then-eq
-returns-then-eq g c =
-    let here = (goal.at.returns-then-eq g c).After-steer_and_test-class in
-    let looked = steered g here in
-    let shared = c.args.shared.now in
-    let before = c.args.pass.now in
-    let found = c.steer_and_test-class.new.pass in
-    let m = c.steer_and_test-class.result.0.nearest in
-    let from = c.steer_and_test-class.result.0.from in
-    let p = c.steer_and_test-class.result.0.point in
-    let recorded = c.record_unplaced.ensures.recorded in
-    let entry_is = c.record_unplaced.ensures.entry in
-    let stands_there = stands g here (same_point-true from p (sym c.eq.ensures ∙ c.if-eq.true)) in
-    record {
-      handled =
-          HandlesMark-recorded shared before found c.record_unplaced.new.pass looked.hand c.args.k c.record_unplaced.result looked.keeps recorded
-          looked.held looked.mark;
-      extended =
-          IsExtended-found shared before found looked.hand c.args.k m from p looked.keeps looked.steers looked.held looked.mark
-          c.record_unplaced.new.pass c.record_unplaced.result recorded m entry_is stands_there;
-      textbook = λ alone book.
-          AloneNext-found shared before found looked.hand c.args.k m from p looked.keeps looked.steers looked.held looked.mark
-          (whole_steered g here alone).0 alone book c.record_unplaced.new.pass c.record_unplaced.result recorded c.requires.may.plain m entry_is
-          stands_there;
-    }
+pub steer_and_place-requires-clause-may : goal.steer_and_place-requires-clause-may
+steer_and_place-requires-clause-may g c κs within = record { may = c.skipper.ensures.may; unskipped = c.in_default.ensures.unskipped }
 
 pub returns-in-Some : goal.returns-in-Some
 returns-in-Some g c =
-    let at = goal.at.returns-in-Some g c in
-    let has_looked = looked g at.After-find in
     let shared = c.args.shared.now in
     let before = c.args.pass.now in
-    let found = c.find.new.pass in
-    let m = c.steer_and_test-class.result.0.nearest in
-    let from = c.steer_and_test-class.result.0.from in
-    let p = c.steer_and_test-class.result.0.point in
-    let last = c.record_unplaced-in-Some.new.pass in
-    let entry = c.record_unplaced-in-Some.result in
-    let recorded = c.record_unplaced-in-Some.ensures.recorded in
-    let entry_is = c.record_unplaced-in-Some.ensures.entry in
+    let mid = c.skipper.new.pass in
+    let done = c.record_unplaced.new.pass in
+    let node = c.in-Some.goal_node in
+    let entry = c.record_unplaced.result in
+    let loaded = c.skipper.ensures.loaded in
+    let informed = c.in-Some.ensures.informed in
+    let some = c.skipper.ensures.may.hand in
+    let skipped = c.in-Some.ensures.skipped in
+    let recorded = c.record_unplaced.ensures.recorded in
+    let is = c.record_unplaced.ensures.entry in
     record {
-      handled =
-          HandlesMark-recorded shared before found last has_looked.hand c.args.k entry has_looked.keeps recorded has_looked.held has_looked.mark;
-      extended =
-          IsExtended-found shared before found has_looked.hand c.args.k m from p has_looked.keeps has_looked.steers has_looked.held has_looked.mark
-          last entry recorded c.in-Some.node entry_is c.in-Some.ensures.found;
+      handled = HandlesMark-skipped shared before mid done c.args.k node c.requires.may loaded informed some skipped entry recorded is;
+      extended = IsExtended-skipped shared before mid done c.args.k node c.requires.may loaded informed some skipped entry recorded is;
       textbook = λ alone book.
-          AloneNext-found shared before found has_looked.hand c.args.k m from p has_looked.keeps has_looked.steers has_looked.held has_looked.mark
-          (found_whole g at.After-find (steered g at.After-steer_and_test-class) (whole_steered g at.After-steer_and_test-class alone).0 alone) alone book
-          last entry recorded c.requires.may.plain c.in-Some.node entry_is c.in-Some.ensures.found;
-    }
-
-pub returns-then-not-is_clear : goal.returns-then-not-is_clear
-returns-then-not-is_clear g c =
-    let at = goal.at.returns-then-not-is_clear g c in
-    let has_looked = looked g at.After-find in
-    let shared = c.args.shared.now in
-    let before = c.args.pass.now in
-    let found = c.find.new.pass in
-    let m = c.steer_and_test-class.result.0.nearest in
-    let from = c.steer_and_test-class.result.0.from in
-    let p = c.steer_and_test-class.result.0.point in
-    let last = c.record_unplaced-then-not-is_clear.new.pass in
-    let entry = c.record_unplaced-then-not-is_clear.result in
-    let recorded = c.record_unplaced-then-not-is_clear.ensures.recorded in
-    let entry_is = c.record_unplaced-then-not-is_clear.ensures.entry in
-    record {
-      handled =
-          HandlesMark-recorded shared before found last has_looked.hand c.args.k entry has_looked.keeps recorded has_looked.held has_looked.mark;
-      extended =
-          IsExtended-blocked shared before found has_looked.hand c.args.k m from p has_looked.keeps has_looked.steers has_looked.held has_looked.mark
-          last entry recorded c.steer_and_test-class.new.pass.view has_looked.begun has_looked.goes_on entry_is c.in_default.ensures.free
-          c.in_default.ensures.ends (blocked g at.After-find);
-      textbook = λ alone book.
-          AloneNext-blocked shared before found has_looked.hand c.args.k m from p has_looked.keeps has_looked.steers has_looked.held has_looked.mark
-          (found_whole g at.After-find (steered g at.After-steer_and_test-class) (whole_steered g at.After-steer_and_test-class alone).0 alone) alone book
-          last entry recorded c.requires.may.plain c.in_default.ensures.free (blocked g at.After-find) entry_is;
+          AloneNext-skipped shared before mid done c.args.k node c.requires.may loaded informed some skipped entry recorded is
+          (c.in-Some.ensures.whole alone.whole) alone book;
     }
 
 pub returns : goal.returns
 returns g c =
-    let at = goal.at.returns g c in
-    let here = at.After-write_point in
-    let looked = steered g at.After-steer_and_test-class in
     let shared = c.args.shared.now in
     let before = c.args.pass.now in
-    let found = c.steer_and_test-class.new.pass in
-    let written = c.write_point.new.pass in
-    let last = c.place_rewire_and_record.new.pass in
-    let m = c.steer_and_test-class.result.0.nearest in
-    let from = c.steer_and_test-class.result.0.from in
-    let p = c.steer_and_test-class.result.0.point in
-    let goes_on = c.write_point.ensures.goes_on in
-    let is = writes g here looked in
-    let placed = c.place_rewire_and_record.ensures in
+    let mid = c.skipper.new.pass in
+    let done = c.steer_and_place.new.pass in
+    let entry = c.steer_and_place.result in
+    let loaded = c.skipper.ensures.loaded in
+    let some = c.skipper.ensures.may.hand in
+    let unskipped = c.in_default.ensures.unskipped in
+    let placed = c.steer_and_place.ensures in
     record {
-      handled =
-          HandlesMark-after shared before written last c.args.k c.place_rewire_and_record.result (keeps g here looked) placed.handled;
-      extended =
-          IsExtended-written shared before found found written last c.args.k m from p c.place_rewire_and_record.result looked (keeps g here looked) goes_on
-          placed.handled placed.nearest (placed.ended before (filled g here looked));
+      handled = HandlesMark-after shared before mid done c.args.k entry loaded.keeps placed.handled;
+      extended = record {
+        stored = placed.extended.stored;
+        outcome =
+            EndsAsSeen-steered before.view done.view c.args.k entry entry.outcome
+            (WasNotSkipped-loaded shared before mid c.args.k c.requires.may loaded some unskipped done.view placed.handled.goes_on)
+            (EndsAsSteered-loaded shared before mid c.args.k c.requires.may loaded some unskipped done.view entry placed.extended.outcome);
+      };
       textbook = λ alone book.
-          let whole = whole_steered g at.After-steer_and_test-class alone in
-          placed.textbook
-          (IsSteeredWhole-written shared before found looked.hand c.args.k m from p looked.keeps looked.steers looked.held looked.mark whole.0 alone
-          book written goes_on is)
-          (IsFilledWhole-written shared before found looked.hand c.args.k m from p looked.keeps looked.steers looked.held looked.mark whole.0 alone
-          book written goes_on is c.steer_and_test-class.result.1 whole.1)
-          (WorksAlone-written shared before found looked.hand c.args.k m from p looked.keeps looked.steers looked.held looked.mark whole.0 alone
-          book written goes_on is)
-          (SeesTextbook-written shared before found looked.hand c.args.k m from p looked.keeps looked.steers looked.held looked.mark whole.0 alone
-          book written goes_on is);
+          let read = SeesTextbook-loaded shared before mid c.args.k c.requires.may loaded book in
+          placed.textbook (WorksAlone-loaded shared before mid c.args.k c.requires.may loaded alone) read
+          (IsNotSkippedIn-loaded shared before mid c.args.k c.requires.may loaded some unskipped read);
     }

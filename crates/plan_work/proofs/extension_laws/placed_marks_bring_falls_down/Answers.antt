@@ -5,7 +5,7 @@ use Rattle.plan_work.proofs.extension_laws.placed_marks_bring_falls_down.Goals a
 
 pub returns-clause-linked : goal.returns-clause-linked
 returns-clause-linked c = λ before after k entry extended is.
-    let ended = (subst (EndsAsSeen before after k entry) is extended.outcome).outcome in (
+    let ended = (subst (EndsAsSeen before after k entry) is extended.outcome).1.outcome in (
       ended.linked_at,
       GoesOn-trans before ended.chosen_at ended.linked_at ended.chosen.since ended.in_turn,
       ended.rewired.until,
@@ -14,7 +14,7 @@ returns-clause-linked c = λ before after k entry extended is.
 
 pub returns-clause-fallen : goal.returns-clause-fallen
 returns-clause-fallen c = λ before after k entry extended is.
-    let ended = (subst (EndsAsSeen before after k entry) is extended.outcome).outcome in (
+    let ended = (subst (EndsAsSeen before after k entry) is extended.outcome).1.outcome in (
       ended.linked_at,
       GoesOn-trans before ended.chosen_at ended.linked_at ended.chosen.since ended.in_turn,
       ended.rewired.until,

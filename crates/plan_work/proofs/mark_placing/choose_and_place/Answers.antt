@@ -1,16 +1,14 @@
 use Rattle.std.proofs.Common.{ap, subst, sym, ◌∙◌}
-use Rattle.kd_shared.specs.Placings.{IsPlacing}
 use Rattle.plan_words.specs.SearchLists.{numbers_of, weighed}
 use Rattle.plan_words.specs.States.{PassState}
 use Rattle.plan_work.proofs.HeldMarks.{if_held, of_held}
 use Rattle.plan_work.proofs.KeptRecords.{KeepsRecords-trans}
 use Rattle.plan_work.proofs.TriedMarks.{IsTried-placing, KeepsRecords-placing, reach_of-steered}
-use Rattle.kd_shared.specs.Placings.{SeesPlacing}
-use Rattle.plan_work.proofs.ExtendedAlone.{KeepsOthers-after, KeepsOthers-placing}
+use Rattle.plan_work.proofs.ExtendedAlone.{KeepsOthers-after}
 use Rattle.plan_work.proofs.WholeLists.{HasWholeShare-kept}
 use Rattle.plan_work.specs.WholeShares.{KeepsOthers}
 use Rattle.plan_work.proofs.mark_placing.choose_and_place.Goals as goal
-use Rattle.plan_work.specs.ExtensionSteps.{IsHung, IsTried}
+use Rattle.plan_work.specs.ExtensionSteps.{HasCome, IsHung, IsTried}
 use Rattle.plan_work.specs.declared.mark_placing.Hanging.{Hanging}
 
 pub choose_and_write-parent-requires-clause-nearest : goal.choose_and_write-parent-requires-clause-nearest
@@ -22,42 +20,42 @@ choose_and_write-parent-requires-clause-clear g c κs within = c.requires.may.cl
 
 pub returns-clause-keeps : goal.returns-clause-keeps
 returns-clause-keeps g c =
-    KeepsRecords-trans c.args.shared.now c.args.pass.now c.choose_and_write-parent.new.pass c.place-placing.new.pass c.choose_and_write-parent.ensures.keeps
-    (KeepsRecords-placing c.args.shared.now c.choose_and_write-parent.new.pass c.place-placing.new.pass c.place-placing.ensures.belongs
-    c.place-placing.ensures.goes_on c.place-placing.ensures.share)
+    KeepsRecords-trans c.args.shared.now c.args.pass.now c.choose_and_write-parent.new.pass c.place_and_post-placing.new.pass
+    c.choose_and_write-parent.ensures.keeps
+    (KeepsRecords-placing c.args.shared.now c.choose_and_write-parent.new.pass c.place_and_post-placing.new.pass c.place_and_post-placing.ensures.belongs
+    c.place_and_post-placing.ensures.goes_on c.place_and_post-placing.ensures.share)
 
 pub returns-clause-tried : goal.returns-clause-tried
 returns-clause-tried g c =
     let before = c.args.pass.now in
     let hung_at = c.choose_and_write-parent.new.pass in
-    let after = c.place-placing.new.pass in
+    let after = c.place_and_post-placing.new.pass in
     let may = c.requires.may in
     let hanging : Hanging = record { parent = c.choose_and_write-parent.result.0; cost = c.choose_and_write-parent.result.1; class = c.args.class } in
     let hung = of_held before.view (λ hand. IsHung before.view.steps hung_at.view hand c.choose_and_write-parent.result
     (numbers_of before.lists.search.found)) may.hand may.held
     c.choose_and_write-parent.ensures.hung in
     let found = c.choose_and_write-parent.ensures.found ∙ ap (λ p. weighed p before.lists.search.found) (sym may.pointed.point) in
-    if_held before.view (λ hand. IsTried before after hand c.place-placing.result hanging) may.hand may.held
-    (IsTried-placing c.args.shared.now before hung_at after may.hand c.place-placing.result hanging c.choose_and_write-parent.ensures.keeps
-    c.place-placing.ensures.goes_on found (ap (λ (p : PassState). p.lists.search.found) c.place-placing.ensures.view_alone)
+    if_held before.view (λ hand. IsTried before after hand c.place_and_post-placing.result hanging) may.hand may.held
+    (IsTried-placing c.args.shared.now before hung_at after may.hand c.place_and_post-placing.result hanging c.choose_and_write-parent.ensures.keeps
+    c.place_and_post-placing.ensures.goes_on found (ap (λ (p : PassState). p.lists.search.found) c.place_and_post-placing.ensures.view_alone)
     c.choose_and_write-parent.ensures.count hung
-    (of_held hung_at.view (λ hand. IsPlacing after.view hand c.place-placing.result) _ hung.held c.place-placing.ensures.placed))
+    (of_held hung_at.view (λ hand. HasCome after.view hand c.place_and_post-placing.result) _ hung.held c.place_and_post-placing.ensures.placed))
 
 pub returns-clause-whole : goal.returns-clause-whole
 returns-clause-whole g c = λ whole.
     let before = c.args.pass.now in
     let hung_at = c.choose_and_write-parent.new.pass in
-    let after = c.place-placing.new.pass in
+    let after = c.place_and_post-placing.new.pass in
     let may = c.requires.may in
     let best = c.choose_and_write-parent.ensures.whole whole in
     let hung = of_held before.view (λ hand. IsHung before.view.steps hung_at.view hand c.choose_and_write-parent.result
     (numbers_of before.lists.search.found)) may.hand may.held
     c.choose_and_write-parent.ensures.hung in
-    let placing = of_held hung_at.view (λ hand. SeesPlacing hung_at.view after.view hand c.place-placing.result) _ hung.held
-    (c.place-placing.ensures.whole_seen (HasWholeShare-kept c.args.shared.now before hung_at c.choose_and_write-parent.ensures.keeps whole)) in
+    let others = of_held hung_at.view (λ hand. KeepsOthers hung_at.view after.view hand.mark c.place_and_post-placing.result) _ hung.held
+    (c.place_and_post-placing.ensures.whole (HasWholeShare-kept c.args.shared.now before hung_at c.choose_and_write-parent.ensures.keeps whole)) in
     record {
       best = best.1;
-      others = KeepsOthers-after before.view hung_at.view after.view c.args.k c.place-placing.result best.0
-          (subst (λ n. KeepsOthers hung_at.view after.view n c.place-placing.result) may.mark
-          (KeepsOthers-placing hung_at.view after.view _ c.place-placing.result placing));
+      others = KeepsOthers-after before.view hung_at.view after.view c.args.k c.place_and_post-placing.result best.0
+          (subst (λ n. KeepsOthers hung_at.view after.view n c.place_and_post-placing.result) may.mark others);
     }

@@ -1,24 +1,24 @@
-use Rattle.std.proofs.Common.{◌≡◌, suc, sym, ap, ◌∙◌, subst}
+use Rattle.std.proofs.Common.{◌≡◌, suc, true, sym, ap, ◌∙◌, subst}
 use Rattle.std.specs.Prelude.{All, Contains}
 use Rattle.plan_model.specs.declared.records.Record.{Record}
-use Rattle.plan_words.proofs.Posting.{HasPostedHand-calm}
 use Rattle.plan_work.proofs.HeldMarks.{if_held, of_held}
 use Rattle.plan_work.proofs.KeptRecords.{KeepsRecords-anew, KeepsRecords-trans}
 use Rattle.plan_work.proofs.PlacedMarks.{IsPlacedAt-recorded, MayRecord-placed, MayRecord-same, Rewired-hand}
 use Rattle.plan_work.proofs.RecordedMarks.{HandlesMark-recorded}
 use Rattle.plan_model.specs.Spaces.ConfigurationSpace.{space_of}
-use Rattle.plan_work.proofs.PlacedAlone.{AloneNext-placed, AloneNext-same, Mirrors-tried}
+use Rattle.plan_work.proofs.PlacedAlone.{HasPostedGoals-tried, AloneNext-placed, AloneNext-same, Mirrors-tried}
 use Rattle.plan_work.proofs.WholeLists.{HasWholeShare-kept}
 use Rattle.plan_work.specs.WholeShares.{IsFilledWhole, IsTriedWhole}
 use Rattle.plan_work.proofs.mark_placing.place_rewire_and_record.Goals as goal
-use Rattle.plan_work.specs.ExtensionSteps.{EndsWritten, IsFilledSince, IsTried, hung_by}
+use Rattle.plan_work.specs.ExtensionSteps.{EndsWritten, IsFilledSince, IsTried, hung_by, placed_hand}
+use Rattle.step_core.specs.Stages.{has_count}
 use Rattle.step_core.specs.ViewSteps.{pair_in_hand}
 use Rattle.step_core.specs.ViewTrees.{SeesPoint}
 use Rattle.step_core.specs.Views.{sees}
 use Rattle.step_core.specs.WordNames.Word.{FirstOf}
-use Rattle.step_core.specs.declared.views.Stage.TheVariants.{Counted}
 use Rattle.tree_rewire.proofs.ChosenParents.{IsInReach-later}
-use Rattle.plan_work.proofs.PlacedHands.{HasPlaced-placed}
+use Rattle.plan_work.proofs.PlacedHands.{HasPlaced-come}
+use Rattle.plan_work.proofs.SkippedMarks.{HasPostedHand-placed, has_count-placed}
 use Rattle.tree_rewire.proofs.SeenCosts.{stands_later}
 use Rattle.kd_shared.proofs.SortedNear.{near-increases}
 use Rattle.kd_shared.specs.declared.placing.Placing.TheVariants.{Placed}
@@ -39,13 +39,28 @@ rewire_found-requires-clause-placed g c κs within =
     let tried = of_held before.view (λ hand. IsTried before after hand c.choose_and_place-placing.result.0 c.choose_and_place-placing.result.1) may.hand
     may.held c.choose_and_place-placing.ensures.tried in
     let placed = subst (λ placing. IsTried before after may.hand placing c.choose_and_place-placing.result.1) c.in-Placed.is tried in
-    HasPlaced-placed after.view c.args.k _ placed.came may.mark
+    HasPlaced-come after.view c.args.k _ placed.came may.mark
 
--- the scene is not informed
 pub rewire_found-requires-clause-posted : goal.rewire_found-requires-clause-posted
 rewire_found-requires-clause-posted g c κs within =
-    let keeps = c.choose_and_place-placing.ensures.keeps in
-    HasPostedHand-calm c.args.shared.now c.choose_and_place-placing.new.pass.view keeps.belongs.run c.requires.may.plain
+    let before = c.args.pass.now in
+    let after = c.choose_and_place-placing.new.pass in
+    let may = c.requires.may in
+    let tried = of_held before.view (λ hand. IsTried before after hand c.choose_and_place-placing.result.0 c.choose_and_place-placing.result.1) may.hand
+    may.held c.choose_and_place-placing.ensures.tried in
+    let placed = subst (λ placing. IsTried before after may.hand placing c.choose_and_place-placing.result.1) c.in-Placed.is tried in
+    HasPostedHand-placed after.view (hung_by may.hand c.choose_and_place-placing.result.1) placed.came.counted
+
+pub record_placed-requires-clause-counted : goal.record_placed-requires-clause-counted
+record_placed-requires-clause-counted g c =
+    let before = c.args.pass.now in
+    let after = c.choose_and_place-placing.new.pass in
+    let may = c.requires.may in
+    let tried = of_held before.view (λ hand. IsTried before after hand c.choose_and_place-placing.result.0 c.choose_and_place-placing.result.1) may.hand
+    may.held c.choose_and_place-placing.ensures.tried in
+    let placed = subst (λ placing. IsTried before after may.hand placing c.choose_and_place-placing.result.1) c.in-Placed.is tried in
+    if_held c.rewire_found.new.pass.view (λ hand. has_count hand.stage ≡ true) _
+    (c.rewire_found.ensures.seen.kept.hand ∙ placed.came.counted) (has_count-placed after.view.run.goals may.hand.point)
 
 pub rewire_found-requires-clause-near : goal.rewire_found-requires-clause-near
 rewire_found-requires-clause-near g c κs within =
@@ -124,7 +139,7 @@ returns-in-Placed-clause-handled g c =
     may.held c.choose_and_place-placing.ensures.tried in
     let placed = subst (λ placing. IsTried before after may.hand placing c.choose_and_place-placing.result.1) c.in-Placed.is tried in
     HandlesMark-recorded c.args.shared.now before c.rewire_found.new.pass c.record_placed.new.pass
-    (record (hung_by may.hand c.choose_and_place-placing.result.1) { stage = Counted }) c.args.k c.record_placed.result
+    (placed_hand after.view (hung_by may.hand c.choose_and_place-placing.result.1)) c.args.k c.record_placed.result
     (KeepsRecords-trans c.args.shared.now before after c.rewire_found.new.pass c.choose_and_place-placing.ensures.keeps
     (KeepsRecords-anew NamesTreeOrPoint c.args.shared.now after c.rewire_found.new.pass (λ j no. no) (λ g no. no) c.rewire_found.ensures.belongs
     c.rewire_found.ensures.seen))
@@ -178,7 +193,7 @@ returns-in-Same-clause-ended g c = λ first filled.
 -- ---- of a pass that works alone
 
 pub returns-in-Placed-clause-textbook : goal.returns-in-Placed-clause-textbook
-returns-in-Placed-clause-textbook g c = λ steers filled alone book.
+returns-in-Placed-clause-textbook g c = λ steers filled alone book cheaper.
     let shared = c.args.shared.now in
     let before = c.args.pass.now in
     let after = c.choose_and_place-placing.new.pass in
@@ -204,10 +219,12 @@ returns-in-Placed-clause-textbook g c = λ steers filled alone book.
     let rewired = c.rewire_found.ensures.whole (HasWholeShare-kept shared before after keeps alone.whole) _ mirrors near rises of in
     AloneNext-placed shared before after c.args.k m p hanging may keeps placed whole reach steers filled_class book start_clear c.rewire_found.new.pass
     c.record_placed.new.pass c.record_placed.result c.rewire_found.ensures.seen rewired.0 rewired.1 rewired.2 c.record_placed.ensures.recorded
-    c.record_placed.ensures.entry alone
+    c.record_placed.ensures.entry alone cheaper
+    (c.rewire_found.ensures.goals (HasWholeShare-kept shared before after keeps alone.whole)
+    (HasPostedGoals-tried shared before after c.args.k m p hanging may keeps placed whole reach steers filled_class book start_clear))
 
 pub returns-in-Same-clause-textbook : goal.returns-in-Same-clause-textbook
-returns-in-Same-clause-textbook g c = λ steers filled alone book.
+returns-in-Same-clause-textbook g c = λ steers filled alone book cheaper.
     let shared = c.args.shared.now in
     let before = c.args.pass.now in
     let after = c.choose_and_place-placing.new.pass in
@@ -222,4 +239,4 @@ returns-in-Same-clause-textbook g c = λ steers filled alone book.
     c.in-Same.is (c.choose_and_place-placing.ensures.whole alone.whole) in
     AloneNext-same shared before after c.record_unplaced.new.pass c.args.k c.args.steering.nearest c.in-Same.node c.args.steering.point hanging
     c.record_unplaced.result may c.choose_and_place-placing.ensures.keeps same whole c.record_unplaced.ensures.recorded c.record_unplaced.ensures.entry steers
-    alone book
+    alone book cheaper

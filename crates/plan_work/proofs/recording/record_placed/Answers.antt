@@ -1,4 +1,4 @@
-use Rattle.std.proofs.Common.{◌≡◌, suc, refl, sym, subst}
+use Rattle.std.proofs.Common.{◌≡◌, suc, true, refl, sym, subst}
 use Rattle.std.specs.Prelude.{IfSome}
 use Rattle.plan_model.proofs.UniqueRuns.{Record-from_fields}
 use Rattle.plan_work.proofs.HeldMarks.{of_held}
@@ -6,10 +6,10 @@ use Rattle.plan_work.proofs.RecordedMarks.{HasRecorded-finished, IsFirstWord-pla
 use Rattle.plan_work.proofs.recording.record_placed.Goals as goal
 use Rattle.plan_work.specs.ExtensionSteps.{own_placed}
 use Rattle.step_core.specs.SeenRecords.{MayRecord}
+use Rattle.step_core.specs.Stages.{has_count}
 use Rattle.step_core.specs.ViewSteps.{pair_in_hand}
 use Rattle.step_core.specs.Views.{sees}
 use Rattle.step_core.specs.WordNames.Word.{FirstOf}
-use Rattle.step_core.specs.declared.views.Stage.TheVariants.{Counted}
 
 pub finish-requires-clause-may : goal.finish-requires-clause-may
 finish-requires-clause-may c =
@@ -44,6 +44,7 @@ returns-clause-recorded c =
     HasRecorded-finished c.args.shared.now before c.finish.new.pass _ own (returns-clause-entry c) c.finish.ensures.may_claim c.finish.ensures.goes_on
     c.finish.ensures.view refl refl c.requires.may
     (λ hand held.
-    IsFirstWord-placed before.view hand own c.finish.ensures.goes_on.was_lawful held (of_held before.view (λ h. h.stage ≡ Counted) hand held c.requires.counted)
+    IsFirstWord-placed before.view hand own c.finish.ensures.goes_on.was_lawful held
+    (of_held before.view (λ h. has_count h.stage ≡ true) hand held c.requires.counted)
     refl (of_held before.view (λ h. MayRecord before.view h own) hand held c.requires.may) (sees before.view (FirstOf (suc hand.mark)))
     (of_held before.view (λ h. sees before.view (FirstOf (suc h.mark)) ≡ pair_in_hand h) hand held c.requires.first))

@@ -10,7 +10,6 @@ returns-clause-passes g c k d low =
     let may_claim = rw c.sure.ensures at c.start.ensures.may_claim in
     let starts = rw c.sure.ensures at c.start.ensures.passes in
     record {
-      plain = c.requires.plain;
       may_claim = may_claim k d low;
       share_is = ap (λ crew. length crew) (starts k pass (there passes k d low)).crew;
     }

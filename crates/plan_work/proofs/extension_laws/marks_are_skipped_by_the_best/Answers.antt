@@ -1,0 +1,18 @@
+use Rattle.std.proofs.Common.{ap, arith, subst}
+use Rattle.plan_work.specs.Extensions.{EndsAsSeen}
+use Rattle.plan_work.proofs.SteeredOutcomes.{WasNotSkipped-unskipped}
+use Rattle.plan_work.proofs.extension_laws.marks_are_skipped_by_the_best.Goals as goal
+use Rattle.step_core.specs.declared.views.View.{View}
+
+pub returns-clause-skipped : goal.returns-clause-skipped
+returns-clause-skipped c = λ before after k entry extended is.
+    let was = subst (EndsAsSeen before after k entry) is extended.outcome in
+    (was.informed, (was.word, was.some_node, was.node, was.within, was.steps))
+
+pub returns-clause-steps : goal.returns-clause-steps
+returns-clause-steps c = λ before after k entry extended is.
+    let was = subst (EndsAsSeen before after k entry) is extended.outcome in
+    omega (arith, ap (λ (v : View). v.steps) was.steps)
+
+pub returns-clause-unskipped : goal.returns-clause-unskipped
+returns-clause-unskipped c = λ before after k entry extended other. WasNotSkipped-unskipped before after k entry entry.outcome other extended.outcome

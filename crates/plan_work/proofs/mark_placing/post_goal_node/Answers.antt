@@ -1,0 +1,56 @@
+use Rattle.std.proofs.Common.{◌≡◌, ◌+◌, ◌^◌, ◌≤◌, suc, true, false, ap, ◌∙◌, subst, sym, arith, refl}
+use Rattle.plan_model.specs.Trees.BestNode.{lies_in_goals}
+use Rattle.plan_words.proofs.GoingOn.{BelongsTo-later}
+use Rattle.plan_words.proofs.Posting.{goal-at}
+use Rattle.plan_words.specs.States.{PassState, with_view}
+use Rattle.plan_work.proofs.mark_placing.post_goal_node.Goals as goal
+use Rattle.step_core.specs.SeenBests.{MayPost}
+use Rattle.step_core.specs.ViewSteps.{hand_with_post, with_best}
+use Rattle.step_core.specs.ViewTrees.{SeesPoint}
+use Rattle.step_core.specs.Views.{sees}
+use Rattle.step_core.specs.WordNames.Word.{TreeOf}
+use Rattle.step_core.specs.Words.{best_word, cost_in}
+use Rattle.step_core.specs.declared.views.SharedRun.{SharedRun}
+
+pub post-requires-clause-may : goal.post-requires-clause-may
+post-requires-clause-may c =
+    let before = c.args.pass.now.view in
+    let hand = c.requires.placed.0 in
+    let placed = c.requires.placed.1 in
+    let mark = c.requires.placed.2 in
+    let at = c.requires.placed.3 in
+    let node = ap suc mark in
+    let lies = ap (λ (r : SharedRun). lies_in_goals r.goals c.args.p) c.requires.belongs.run ∙ sym c.skips_by.ensures ∙ c.if-skips_by.true in
+    let one : suc c.args.k ≡ c.args.k + 1 = omega arith in
+    subst (MayPost before) one
+    record {
+      part = c.requires.part;
+      goal = goal-at before (suc c.args.k) c.args.p
+          (subst (SeesPoint before (suc c.args.k)) at (subst (λ n. SeesPoint before n hand.point) node placed.stands)) lies;
+      written = subst (λ n. 2 ^ 63 ≤ sees before (TreeOf n)) node (omega (arith, placed.pair));
+    }
+
+pub returns-then-skips_by-clause-belongs : goal.returns-then-skips_by-clause-belongs
+returns-then-skips_by-clause-belongs c =
+    BelongsTo-later c.args.shared.now c.args.pass.now c.post.new.pass (ap (λ (q : PassState). q.table) c.post.ensures.view) c.post.ensures.goes_on
+    c.requires.belongs
+
+pub returns-then-skips_by-clause-in_goal : goal.returns-then-skips_by-clause-in_goal
+returns-then-skips_by-clause-in_goal c = λ lies.
+    let before = c.args.pass.now in
+    let after = c.post.new.pass in
+    let one : c.args.k + 1 ≡ suc c.args.k = omega arith in
+    subst
+    (λ n. (after ≡ with_view before (with_best before.view after.view.best (hand_with_post before.view.hand n)))
+    × (after.view.best ≤ best_word (cost_in (sees before.view (TreeOf n))) n))
+    one (c.post.ensures.view, c.post.ensures.posted)
+
+pub returns-then-skips_by-clause-elsewhere : goal.returns-then-skips_by-clause-elsewhere
+returns-then-skips_by-clause-elsewhere c = λ no.
+    let lies = ap (λ (r : SharedRun). lies_in_goals r.goals c.args.p) c.requires.belongs.run ∙ sym c.skips_by.ensures ∙ c.if-skips_by.true in
+    absurd (let clash = sym no ∙ lies in cc)
+
+pub returns-else-skips_by-clause-in_goal : goal.returns-else-skips_by-clause-in_goal
+returns-else-skips_by-clause-in_goal c = λ lies.
+    let no = ap (λ (r : SharedRun). lies_in_goals r.goals c.args.p) c.requires.belongs.run ∙ sym c.skips_by.ensures ∙ c.if-skips_by.false in
+    absurd (let clash = sym lies ∙ no in cc)
