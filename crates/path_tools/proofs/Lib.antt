@@ -23,3 +23,4 @@ pub mod FieldWords
 pub mod LineParts
 pub mod CountParts
 pub mod MarkParts
+pub mod HangingNodes

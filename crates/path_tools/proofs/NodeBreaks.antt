@@ -24,9 +24,9 @@ abbrev point_in : Option Knot → Option Point
 point_in o = option_map (λ (knot : Knot). knot.point) o
 
 -- a present node is one of the list
-record IsListed (knots : List (Option Knot)) (n : ℕ) : Type 0 where
-  knot : Knot
-  at : slice_index_or knots n None ≡ Some knot
+pub record IsListed (knots : List (Option Knot)) (n : ℕ) : Type 0 where
+  pub knot : Knot
+  pub at : slice_index_or knots n None ≡ Some knot
 
 module _ (knots : List (Option Knot)) (records : List Record) where
   abbrev run : TreeState
@@ -35,13 +35,13 @@ module _ (knots : List (Option Knot)) (records : List Record) where
   stands : (n : ℕ) (knot : Knot) → slice_index_or knots n None ≡ Some knot → StandsAt run.points n knot.point
   stands n knot e = point_at-lists knots n ∙ ap point_in e
 
-  present : (n : ℕ) (knot : Knot) → slice_index_or knots n None ≡ Some knot → IsPresent run.points n
+  pub present : (n : ℕ) (knot : Knot) → slice_index_or knots n None ≡ Some knot → IsPresent run.points n
   present n knot e = IsPresent-stands run.points n knot.point (stands n knot e)
 
-  own_point : (n : ℕ) (knot : Knot) → slice_index_or knots n None ≡ Some knot → point_of run.points n ≡ knot.point
+  pub own_point : (n : ℕ) (knot : Knot) → slice_index_or knots n None ≡ Some knot → point_of run.points n ≡ knot.point
   own_point n knot e = point_of-stands run.points n knot.point (stands n knot e)
 
-  listed : (n : ℕ) → IsPresent run.points n → IsListed knots n
+  pub listed : (n : ℕ) → IsPresent run.points n → IsListed knots n
   listed n h = by_knot (slice_index_or knots n None) refl_of
     where
       refl_of : slice_index_or knots n None ≡ slice_index_or knots n None

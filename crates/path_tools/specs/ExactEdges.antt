@@ -29,3 +29,18 @@ pub record HangsExactly (space : ConfigurationSpace) (squared_step : ℕ) (knots
 abbrev pub KeepsEdges : ConfigurationSpace → ℕ → List (Option Knot) → ℕ → Type 0
 KeepsEdges space squared_step knots n =
     0 < n → (knot : Knot) → slice_index_or knots n None ≡ Some knot → HangsExactly space squared_step knots n knot
+
+-- ---- first parents
+
+-- The edge is clear and no longer than a step whose square this is, and the second node costs at least what the first does and the edge.
+pub record IsHighEdge (space : ConfigurationSpace) (squared_step : ℕ) (from to : Knot) : Type 0 where
+  pub clear : Clear space from.point to.point
+  pub short : squared_distance from.point to.point ≤ squared_step
+  pub above : from.cost + cost_of from.point to.point ≤ to.cost
+
+-- Node n may hang where this one does, with its parent and at its cost: below another node of the list, by such an edge.
+pub record MayHang (space : ConfigurationSpace) (squared_step : ℕ) (knots : List (Option Knot)) (n : ℕ) (place : Knot) : Type 0 where
+  pub up : Knot
+  pub there : slice_index_or knots place.parent None ≡ Some up
+  pub other : place.parent ≢ n
+  pub edge : IsHighEdge space squared_step up place

@@ -78,7 +78,7 @@ fn is_loose<C: Clearing>(hall: &C, squared_step: u64, knots: &[Option<Knot>], no
 }
 
 /// The node with this number; `None` if there is none.
-fn knot_at(knots: &[Option<Knot>], node: u32) -> Option<Knot>
+pub(crate) fn knot_at(knots: &[Option<Knot>], node: u32) -> Option<Knot>
     ensures { result ≡ slice_index_or knots.now node None }
 {
     let node = node as usize;

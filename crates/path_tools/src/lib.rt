@@ -7,6 +7,7 @@ mod count_readers;
 mod exact_edges;
 mod fields;
 mod first_breaks;
+mod hanging;
 mod line_readers;
 mod mark_fields;
 mod mark_readers;
