@@ -165,7 +165,7 @@ def second_version(size):
     yield "marks, at last 1048576", padded(SECOND, marks, size, b"mark 1 1048576"), refused(MOST_MARKS + 1, 5)
     goals = [b"goal 1 1 2 2\n"] * (MOST_GOALS - 1)
     yield "goals, one too many", padded(SECOND + NEEDED, goals, size, b"goal 1 1 2 2"), refused(MOST_GOALS + 5, 8)
-    yield "`informed`, words", filled(SECOND + b"informed", b" 1", size)[0], refused(2, 10)
+    yield "`informed`, words", filled(SECOND + b"informed", b" 1", size)[0], refused(2, 3)
     start = SECOND + b"clearance "
     yield "`clearance`, digits", start + b"9" * (size - len(start)), refused(2, 5)
 

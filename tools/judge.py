@@ -16,7 +16,7 @@ import re
 import sys
 
 from geometry import Space, squared_distance
-from rules import class_of, cost, mark_points, radius_of_class, steer
+from rules import bound, class_of, cost, mark_points, radius_of_class, steer
 from scene import read
 from textbook import Record, Tree, head_lines
 from usage import words_or_usage
@@ -26,8 +26,10 @@ N = r"(0|[1-9][0-9]*)"
 PATH = re.compile(f"path {N} cost {N}")
 POINT = re.compile(f"{N} {N}")
 COUNTS = re.compile(f"nodes {N} placed {N} same {N} blocked {N}")
+INFORMED_COUNTS = re.compile(f"nodes {N} placed {N} same {N} blocked {N} skipped {N}")
 NODE = re.compile(f"node {N} at {N} {N} parent {N} cost {N}")
 MARK = re.compile(f"mark {N} worker {N} turn {N} nearest {N} (?:(placed) class {N} first {N} {N}|(same) {N}|(blocked))")
+SKIPPED = re.compile(f"mark {N} worker {N} turn {N} skipped by {N}")
 
 
 class Wrong(Exception):
@@ -93,7 +95,8 @@ class Judge:
         points, nodes = lines.take("the path", self.path_of), None
         for _ in range(points):
             lines.take("a point of the path", lambda line: fit(POINT.fullmatch(line), 2**20, 2**20))
-        nodes = lines.take("counts", lambda line: fit(COUNTS.fullmatch(line), 2**64, 2**64, 2**64, 2**64))[0]
+        form, count = (INFORMED_COUNTS, 5) if self.scene.informed else (COUNTS, 4)
+        nodes = lines.take("counts", lambda line: fit(form.fullmatch(line), *[2**64] * count))[0]
         self.head = lines.lines[: lines.taken]
         before = -1
         for _ in range(max(nodes, 1)):
@@ -118,15 +121,19 @@ class Judge:
 
     def record_of(self, line, k):
         """The record of mark k by its line."""
-        match, bound = MARK.fullmatch(line), len(self.marks) + 1
+        skipped, nodes = SKIPPED.fullmatch(line), len(self.marks) + 1
+        match = skipped or MARK.fullmatch(line)
         if not match or match[1] != str(k):
             return None
-        own = [k + 1, MOST_WORKERS, 2**18, bound]
+        own = [k + 1, MOST_WORKERS, 2**18, nodes]
+        if skipped:
+            numbers = fit(match, *own)
+            return numbers and Record(*numbers[1:], "skipped")
         if match[5]:
-            numbers = fit(match, *own, 2**18, bound, 2**44)
+            numbers = fit(match, *own, 2**18, nodes, 2**44)
             return numbers and Record(*numbers[1:4], "placed", *numbers[4:])
         if match[9]:
-            numbers = fit(match, *own, bound)
+            numbers = fit(match, *own, nodes)
             return numbers and Record(*numbers[1:4], "same", numbers[4])
         numbers = fit(match, *own)
         return numbers and Record(*numbers[1:], "blocked")
@@ -236,6 +243,10 @@ class Judge:
         """What the record of mark k says is borne out by the tree and the earlier nodes of its worker."""
         points, mark, what = self.tree.points, self.marks[k], f"mark {k}"
         m = record.nearest
+        if record.outcome == "skipped":
+            self.check_skipped(m, mark, what)
+            return
+        self.check_unskipped(mark, record, what)
         need(m in points, f"{what}: there is no nearest node")
         need((squared_distance(points[m], mark), m) <= self.least_rank(mark, record), f"{what}: an earlier node is nearer")
         p = steer(points[m], mark, self.scene.step)
@@ -246,6 +257,23 @@ class Judge:
             need(all(points[i] != p for i in self.earlier_nodes(record)), f"{what}: an earlier node stands there")
         else:
             self.check_placed(k, record, self.earlier_nodes(record), p)
+
+    def bound(self, mark):
+        """What a path over a mark costs at least."""
+        return bound(self.scene.start, self.scene.goals, mark)
+
+    def check_skipped(self, g, mark, what):
+        """A skipped mark names a goal node that costs no more than the bound of the mark."""
+        need(self.scene.informed, f"{what}: no mark of this scene is skipped")
+        need(g in self.tree.points and self.scene.is_goal_point(self.tree.points[g]), f"{what}: node {g} lies in no goal")
+        need(self.costs[g] <= self.bound(mark), f"{what}: node {g} costs more than the bound")
+
+    def check_unskipped(self, mark, record, what):
+        """Each earlier goal node of the worker cost more at first than the bound of a mark that is not skipped."""
+        if self.scene.informed:
+            goal_nodes = [n for n in self.earlier_nodes(record) if self.scene.is_goal_point(self.tree.points[n])]
+            least = min(map(self.first_cost, goal_nodes), default=None)
+            need(least is None or self.bound(mark) < least, f"{what}: it was to be skipped")
 
     def check_placed(self, k, record, earlier, p):
         """What holds of a mark that was placed at p."""
@@ -271,7 +299,7 @@ def check_short(scene, text):
     """Checks what a short report alone can show: the path is clear and costs what it says, and each mark is counted once."""
     need(text.endswith("\n"), "the last line has no line feed")
     first, *middle, last = text[:-1].split("\n")
-    counts = COUNTS.fullmatch(last)
+    counts = (INFORMED_COUNTS if scene.informed else COUNTS).fullmatch(last)
     need(counts, "there is no line of counts")
     nodes, *handled = map(int, counts.groups())
     marks = len(scene.marks) if scene.drawn is None else scene.drawn

@@ -2,7 +2,7 @@
 """Makes random scenes on small lattices, where ties, touching and blocked edges are frequent; and texts with faults.
 
 Usage: make_scenes.py NUMBER [VERSION] writes the text of the scene of that number, in version 1 or 2; the same words give the same
-scene. A scene of version 2 is that of version 1 with more goals and a clearance.
+scene. A scene of version 2 is that of version 1 with more goals and a clearance; every other is informed.
 """
 
 import random
@@ -97,13 +97,14 @@ def large_scene(rng, version):
 
 
 def as_second(rng, scene):
-    """The scene in version 2, with up to 15 more goals, some of them there already or outside the room, and with a clearance."""
+    """The scene in version 2, with up to 15 more goals, some of them there already or outside the room, and with a clearance; or informed."""
     width, height = scene.room
     for _ in range(rng.choice([0, 0, 1, 2, 15])):
         x, y = rng.randint(0, width), rng.randint(0, height)
         far = min(KEYS[2][b"goal"][1][1], x + rng.randint(0, width // 3)), min(KEYS[2][b"goal"][1][1], y + rng.randint(0, height // 3))
         scene.goals.insert(rng.randint(0, len(scene.goals)), rng.choice([(x, y, *far), (x, y, x, y), scene.goals[0]]))
     scene.clearance = rng.choice([0, 0, 1, min(MOST_CLEARANCE, max(1, min(scene.room) // 20)), min(MOST_CLEARANCE, min(scene.room) // 4)])
+    scene.informed = rng.random() < 0.5
     return scene.converted()
 
 

@@ -35,7 +35,6 @@ KEYS = {version: keys_of(version) for version in (1, 2)}
 MOST_CORNERS = {b"body": 16, b"obstacle": 64}
 NEEDED = (b"room", b"start", b"goal", b"step")
 RIVALS = {b"mark": b"marks", b"marks": b"mark"}
-UNBUILT = (b"informed",)
 
 
 class Fault(Exception):
@@ -71,6 +70,7 @@ class Scene:
         lines += [("clearance", self.clearance)] if self.version == 2 else []
         lines += [("start", *self.start), *(("goal", *goal) for goal in self.goals)]
         lines += [("step", self.step), ("gamma", self.gamma), ("seed", self.seed), ("strips", self.strips)]
+        lines += [("informed", 1)] if self.informed else []
         lines += [("mark", *mark) for mark in self.marks] if self.drawn is None else [("marks", self.drawn)]
         return "".join(" ".join(map(str, line)) + "\n" for line in lines)
 
@@ -127,8 +127,6 @@ def check_line(number, words, keys, given):
     key, values = words[0], words[1:]
     if key not in keys:
         raise Fault(number, 2)
-    if key in UNBUILT:
-        raise Fault(number, 10)
     wanted, (low, high), most = keys[key]
     if (given[key] and most == 1) or (key in RIVALS and given[RIVALS[key]]):
         raise Fault(number, 6)
@@ -175,6 +173,7 @@ def scene_of(version, given):
         gamma=one(b"gamma", 0),
         seed=one(b"seed", 0),
         strips=one(b"strips", 1),
+        informed=one(b"informed", 0) == 1,
         drawn=one(b"marks", None),
         marks=[tuple(numbers) for numbers in given[b"mark"]],
     )

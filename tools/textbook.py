@@ -10,14 +10,17 @@ import sys
 from dataclasses import dataclass
 
 from geometry import Space, squared_distance
-from rules import class_of, cost, mark_points, radius_of_class, steer
+from rules import bound, class_of, cost, mark_points, radius_of_class, steer
 from scene import MOST_TEXT_BYTES, Fault, read
 from usage import words_or_usage
 
 
 @dataclass
 class Record:
-    """What became of a mark: `outcome` is placed, same or blocked; `other` the class or the node of the first two."""
+    """What became of a mark: `outcome` is placed, same, blocked or skipped; `other` the class or the node of the first two.
+
+    `nearest` is the nearest node, of a skipped mark the goal node by which it is skipped.
+    """
 
     worker: int
     turn: int
@@ -59,6 +62,9 @@ def plan(scene, space, marks):
 def handle(tree, scene, space, k, mark):
     """Handles one mark, and gives its record."""
     points = tree.points
+    best = best_node(tree, scene) if scene.informed else None
+    if best is not None and tree.sum(best) <= bound(scene.start, scene.goals, mark):
+        return Record(0, k, best, "skipped")
     nearest = min(points, key=lambda i: (squared_distance(points[i], mark), i))
     p = steer(points[nearest], mark, scene.step)
     for node, point in points.items():
@@ -92,12 +98,15 @@ def head_lines(tree, records, scene):
     else:
         path = [tree.points[n] for n in reversed(tree.chain(best))]
         lines = [f"path {len(path)} cost {tree.sum(best)}", *(f"{x} {y}" for x, y in path)]
-    counts = {outcome: sum(r.outcome == outcome for r in records) for outcome in ("placed", "same", "blocked")}
-    return lines + ["nodes %d placed %d same %d blocked %d" % (len(tree.points), *counts.values())]
+    outcomes = ("placed", "same", "blocked", *(("skipped",) if scene.informed else ()))
+    counts = (f"{outcome} {sum(r.outcome == outcome for r in records)}" for outcome in outcomes)
+    return lines + [" ".join([f"nodes {len(tree.points)}", *counts])]
 
 
 def mark_line(k, record):
     """The line of a mark in the full report."""
+    if record.outcome == "skipped":
+        return f"mark {k} worker {record.worker} turn {record.turn} skipped by {record.nearest}"
     outcome = {
         "placed": f"placed class {record.other} first {record.first_parent} {record.first_cost}",
         "same": f"same {record.other}",

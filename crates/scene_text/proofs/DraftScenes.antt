@@ -1,5 +1,5 @@
 -- The scene that a draft gives: its fields are in their ranges, and are those of the lines.
-use Rattle.std.proofs.Common.{◌≡◌, ℕ, ◌≤◌, true, ℤ, Option, Some, None, List, [], ◌∷◌, length, map, All, refl, sym, ap, ◌∙◌, subst, arith}
+use Rattle.std.proofs.Common.{◌≡◌, ℕ, ◌≤◌, true, ℤ, Option, Some, None, List, [], ◌∷◌, length, map, All, eqb, refl, sym, ap, ◌∙◌, subst, arith}
 use Rattle.std.specs.Option.{unwrap_or}
 use Rattle.std.proofs.lemmas.List.{length-map}
 use Rattle.std.proofs.lemmas.List.Elements.{All-head}
@@ -9,12 +9,12 @@ use Rattle.plan_model.specs.declared.geometry.Goal.{Goal}
 use Rattle.plan_model.specs.declared.text_terms.Key.{Key}
 use Rattle.plan_model.specs.declared.text_terms.Key.TheVariants as keys
 use Rattle.plan_model.specs.declared.limits.TheConstants.{LEAST_SIDE, LEAST_STEP, MOST_GAMMA, MOST_STRIPS}
-use Rattle.plan_model.specs.Scenes.Limits.{IsBetween, are_goals, are_obstacles, is_body, is_plan, most_clearance, most_side, most_step}
+use Rattle.plan_model.specs.Scenes.Limits.{IsBetween, are_goals, are_obstacles, is_body, is_plan, may_be_informed, most_clearance, most_side, most_step}
 use Rattle.plan_model.specs.Texts.LineChecks.{is_inhabited, corners_from, fault_at_end, MayStand, AllMayStand}
 use Rattle.plan_model.specs.Texts.SceneGrammar.{first_of, number_or, point_from, goal_from, body_from, plan_from}
 use Rattle.plan_model.specs.Texts.CanonicalText.{point_numbers, goal_numbers, corner_numbers}
 use Rattle.plan_model.proofs.SceneParts.{IsWithin, room-within, body-within, start-within, goals-within, step-within, clearance-within, gamma-within}
-use Rattle.plan_model.proofs.SceneParts.{strips-within, plan-within}
+use Rattle.plan_model.proofs.SceneParts.{informed-by_number, informed-within, strips-within, plan-within}
 use Rattle.plan_model.proofs.GivenScenes.{obstacles-given}
 use Rattle.scene_text.specs.declared.drafts.Draft.{Draft}
 use Rattle.scene_text.specs.Drafts.{line_numbers, amount_numbers, given_by_draft}
@@ -75,6 +75,12 @@ strips-default version None all = record { above = omega arith; below = omega ar
 strips-default version (Some n) all =
     strips-within version (amount_numbers n) (All-head (MayStand version keys.Strips) (amount_numbers n) [] all)
 
+informed-default : (version : ℕ) (field : Option ℕ) → All (MayStand version keys.Informed) (line_numbers amount_numbers field)
+    → may_be_informed version (eqb (unwrap_or field 0) 1) ≡ true
+informed-default version None all = informed-by_number version 0 (omega arith)
+informed-default version (Some n) all =
+    informed-by_number version n (informed-within version (amount_numbers n) (All-head (MayStand version keys.Informed) (amount_numbers n) [] all))
+
 -- ---- what is missing
 
 stands-goals : (goals : List Goal) → 1 ≤ length goals → is_inhabited (map goal_numbers goals) ≡ true
@@ -99,6 +105,7 @@ pub record AreWithin (version : ℕ) (draft : Draft) : Type 0 where
   pub step : (n : ℕ) → draft.step ≡ Some n → IsWithin LEAST_STEP (most_step version) n
   pub gamma : unwrap_or draft.gamma 0 ≤ MOST_GAMMA
   pub strips : IsWithin 1 MOST_STRIPS (unwrap_or draft.strips 1)
+  pub informed : may_be_informed version (eqb (unwrap_or draft.informed 0) 1) ≡ true
   pub plan : is_plan version (plan_from (line_numbers amount_numbers draft.drawn) (map point_numbers draft.marks.items)) ≡ true
 
 -- what may stand gives fields in their ranges
@@ -119,6 +126,7 @@ AreWithin-draft version draft h =
       step = λ n known. step-within version (amount_numbers n) (known-stands version keys.Step amount_numbers draft.step n (h.stand keys.Step) known);
       gamma = gamma-default version draft.gamma (h.stand keys.Gamma);
       strips = strips-default version draft.strips (h.stand keys.Strips);
+      informed = informed-default version draft.informed (h.stand keys.Informed);
       plan = plan-within version (line_numbers amount_numbers draft.drawn) (map point_numbers points) (h.stand keys.Marks) (h.stand keys.Mark)
           (h.few keys.Mark);
     }

@@ -34,7 +34,7 @@ given_by_draft draft keys.Step = line_numbers amount_numbers draft.step
 given_by_draft draft keys.Gamma = line_numbers amount_numbers draft.gamma
 given_by_draft draft keys.Seed = line_numbers amount_numbers draft.seed
 given_by_draft draft keys.Strips = line_numbers amount_numbers draft.strips
-given_by_draft draft keys.Informed = []
+given_by_draft draft keys.Informed = line_numbers amount_numbers draft.informed
 given_by_draft draft keys.Marks = line_numbers amount_numbers draft.drawn
 given_by_draft draft keys.Mark = map point_numbers draft.marks.items
 

@@ -22,7 +22,7 @@ use plan_model::{
 };
 use std::alloc::{AllocError, Global};
 
-/// What the lines so far give: the version, and a field for each key that is supported.
+/// What the lines so far give: the version, and a field for each key.
 ///
 /// It stands for the numbers of those lines, by their keys, and has nothing else. So the checks of the next line are
 /// those of the grammar over these numbers.
@@ -39,6 +39,7 @@ pub(crate) struct Draft {
     gamma: Option<u32>,
     seed: Option<u64>,
     strips: Option<u32>,
+    informed: Option<u32>,
     drawn: Option<u32>,
     marks: Vec<Point>,
 }
@@ -107,6 +108,7 @@ impl Draft {
             gamma: None,
             seed: None,
             strips: None,
+            informed: None,
             drawn: None,
             marks: Vec::new(alloc),
         }
@@ -127,7 +129,7 @@ impl Draft {
             Key::Gamma => usize::from(self.gamma.is_some()),
             Key::Seed => usize::from(self.seed.is_some()),
             Key::Strips => usize::from(self.strips.is_some()),
-            Key::Informed => 0,
+            Key::Informed => usize::from(self.informed.is_some()),
             Key::Marks => usize::from(self.drawn.is_some()),
             Key::Mark => self.marks.len(),
         }
@@ -211,7 +213,7 @@ impl Draft {
             Key::Gamma => self.gamma = Some(read_amount(words, version, key)? as u32),
             Key::Seed => self.seed = Some(read_amount(words, version, key)?),
             Key::Strips => self.strips = Some(read_amount(words, version, key)? as u32),
-            Key::Informed => unreachable!(),
+            Key::Informed => self.informed = Some(read_amount(words, version, key)? as u32),
             Key::Marks => self.drawn = Some(read_amount(words, version, key)? as u32),
             Key::Mark => self.marks.push(read_point(words, version, key)?)?,
         }
@@ -289,7 +291,7 @@ impl Draft {
             gamma: self.gamma.unwrap_or(0),
             seed: self.seed.unwrap_or(0),
             strips: self.strips.unwrap_or(1),
-            informed: false,
+            informed: self.informed.unwrap_or(0) == 1,
             plan: plan_of(self.drawn, self.marks),
         })
     }

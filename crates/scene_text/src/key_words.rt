@@ -74,25 +74,11 @@ fn named_key(word: &[u8]) -> Option<Key>
     }
 }
 
-/// Whether the reader supports the key. It supports each but `informed`.
-pub(crate) fn is_supported(key: Key) -> bool
-    ensures { result ≡ is_supported key }
+/// Whether the reader supports the key. It supports each.
+pub(crate) fn is_supported(_key: Key) -> bool
+    ensures { result ≡ is_supported _key }
 {
-    match key {
-        Key::Informed => false,
-        Key::Room
-        | Key::Body
-        | Key::Obstacle
-        | Key::Clearance
-        | Key::Start
-        | Key::Goal
-        | Key::Step
-        | Key::Gamma
-        | Key::Seed
-        | Key::Strips
-        | Key::Marks
-        | Key::Mark => true,
-    }
+    true
 }
 
 /// Whether so many words may stand after the key.

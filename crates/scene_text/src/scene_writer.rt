@@ -16,8 +16,6 @@ use std::alloc::{AllocError, Global};
 /// The canonical text of a scene, in its version: one text for each scene, with a line for each field, one space between words and a line
 /// feed at the end of each line. It is never too long to be read. O(n) for n bytes of it.
 ///
-/// That of an informed scene has a line with `informed`, a key of the grammar that the reader does not support.
-///
 /// # Errors
 ///
 /// `Memory` if out of memory for the text.
@@ -25,8 +23,8 @@ pub fn write_scene(alloc: Global, scene: &Scene) -> Result<Vec<u8>, Memory>
     ensures text { IfOk result (λ text. text.items ≡ canonical_text scene.now) }
     // by the whole grammar it gives this scene
     ensures whole { IfOk result (λ text. Spells whole_format text.items scene.now) }
-    // and read again, unless it has the key that is not supported
-    ensures spells { scene.now.informed ≡ false → IfOk result (λ text. Spells supported text.items scene.now) }
+    // and it is read again
+    ensures spells { IfOk result (λ text. Spells supported text.items scene.now) }
     ensures fits { IfOk result (λ text. length text.items ≤ MOST_TEXT_BYTES) }
 {
     let mut text = String::new(alloc);

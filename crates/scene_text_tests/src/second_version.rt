@@ -10,7 +10,7 @@ use scene_text::as_version_2;
 use std::alloc::Global;
 use std::process::Abort;
 
-static FAULTS: [(&str, u32, Kind); 25] = [
+static FAULTS: [(&str, u32, Kind); 27] = [
     ("prrt 3\n", 1, Kind::Version),
     ("prrt 02\n", 1, Kind::Version),
     ("prrt 2 2\n", 1, Kind::Version),
@@ -36,7 +36,9 @@ static FAULTS: [(&str, u32, Kind); 25] = [
     ("prrt 2\nclearance -1\n", 2, Kind::Range),
     ("prrt 2\nclearance 1\nclearance x y\n", 3, Kind::Repeat),
     ("prrt 2\nclearance 1 1\n", 2, Kind::Words),
-    ("prrt 2\ninformed x y\n", 2, Kind::Unbuilt),
+    ("prrt 2\ninformed x y\n", 2, Kind::Words),
+    ("prrt 2\ninformed 2\n", 2, Kind::Range),
+    ("prrt 2\ninformed 0\ninformed 1\n", 3, Kind::Repeat),
     ("prrt 2\nroom 9 9\nstart 0 0\nstep 4\n", 5, Kind::Missing),
 ];
 
@@ -105,9 +107,9 @@ fn as_informed(scene: Scene) -> Scene
 }
 
 #[test]
-fn writes_that_a_scene_is_informed(rt: HostRuntime) {
+fn writes_and_reads_that_a_scene_is_informed(rt: HostRuntime) {
     let scene = as_informed(scene_of(&rt, rt.alloc(), FIRST));
     assert_written(&rt, rt.alloc(), &scene, INFORMED);
     drop(scene);
-    assert_refused(&rt, rt.alloc(), INFORMED, 11, Kind::Unbuilt);
+    assert_converted(&rt, rt.alloc(), INFORMED, INFORMED);
 }

@@ -1,7 +1,7 @@
 //! What the tests of the reader and the writer share: values that memory lasts for, texts with their scenes, texts that are refused, scenes
 //! that are written, and how a refusal is shown.
 
-ghost use Rattle.std.specs.Prelude.{◌≡◌, false, IfOk, Ok};
+ghost use Rattle.std.specs.Prelude.{◌≡◌, Ok};
 
 use plan_model::{Kind, MOST_TEXT_BYTES, Scene};
 use scene_text::{SceneFault, SceneRefusal, read_scene, write_scene};
@@ -24,17 +24,13 @@ pub(crate) const POLYGONS: &str =
     "prrt 1\nobstacle 4 4 6 4 5 7\nroom 9 9\nstart 0 0\nstep 4\ngoal 1 1 2 2\nbody -1 -2 3 -2 3 4 -1 4\nobstacle -9 2 3 2 3 3\n";
 
 /// The scene of a text, or why it is refused.
-pub(crate) fn read(rt: &impl Abort, alloc: Global, text: &str) -> Result<Scene, SceneRefusal>
-    ensures { IfOk result (λ scene. scene.informed ≡ false) }
-{
+pub(crate) fn read(rt: &impl Abort, alloc: Global, text: &str) -> Result<Scene, SceneRefusal> {
     assert!(rt; text.len() <= MOST_TEXT_BYTES);
     read_scene(alloc, text.as_bytes())
 }
 
 /// The scene of a text that is not refused.
-pub(crate) fn scene_of(rt: &impl Abort, alloc: Global, text: &str) -> Scene
-    ensures { result.informed ≡ false }
-{
+pub(crate) fn scene_of(rt: &impl Abort, alloc: Global, text: &str) -> Scene {
     sure(rt, read(rt, alloc, text))
 }
 

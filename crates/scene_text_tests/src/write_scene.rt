@@ -110,7 +110,6 @@ mark 0 0\nmark 1048575 1048575\nmark 0 0\n";
 
 // The scene that is read from what is written for it.
 fn read_again(alloc: Global, scene: &Scene) -> Result<Scene, Fail>
-    requires { scene.now.informed ≡ false }
     // it is the same
     ensures { IfOk result (λ again. again ≡ scene.now) }
 {

@@ -106,9 +106,8 @@ Refused format text number kind =
 
 -- ---- what is supported
 
--- the keys that are supported: every key but `informed`
+-- the keys that are supported: every key
 abbrev pub is_supported : Key → Bool
-is_supported keys.Informed = false
 is_supported key = true
 
 -- what the reader reads: both versions, with the keys that are supported

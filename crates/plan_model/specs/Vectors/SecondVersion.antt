@@ -16,7 +16,8 @@ pub record SecondVersionVectors : Type 0 where
   pub version_in_digits : Refused supported (codes "prrt 02\n") 1 kinds.Version
   pub clearance_of_first : Refused supported (codes "prrt 1\nclearance 1\n") 2 kinds.Key
   pub informed_of_first : Refused whole_format (codes "prrt 1\ninformed 1\n") 2 kinds.Key
-  pub not_supported : Refused supported (codes "prrt 2\ninformed x y\n") 2 kinds.Unbuilt
+  pub informed_words : Refused supported (codes "prrt 2\ninformed x y\n") 2 kinds.Words
+  pub informed_too_great : Refused supported (codes "prrt 2\ninformed 2\n") 2 kinds.Range
   pub clearance_twice : Refused supported (codes "prrt 2\nclearance 1\nclearance x y\n") 3 kinds.Repeat
   pub second_goal_of_first : Refused supported (codes "prrt 1\ngoal 1 1 2 2\ngoal 1 1 2 2\n") 3 kinds.Repeat
   pub second_goal_before_words : Refused supported (codes "prrt 1\nroom 9 9\ngoal 1 1 2 2\ngoal x\n") 4 kinds.Repeat

@@ -730,6 +730,7 @@ mod calls;
 mod cut_texts;
 mod faults;
 mod full_reports;
+mod informed;
 mod limits;
 mod plans;
 mod runs;

@@ -137,9 +137,9 @@ static FAULTY_BY_VERSION: [(&str, &str, &str); 4] = [
         "line 4 kind 6 Repeat\n",
     ),
     (
-        "a key that is not supported",
+        "two words after a key that takes one",
         "prrt 2\ninformed x y\n",
-        "line 2 kind 10 Unbuilt\n",
+        "line 2 kind 3 Words\n",
     ),
 ];
 

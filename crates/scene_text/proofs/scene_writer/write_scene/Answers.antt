@@ -30,8 +30,8 @@ returns-clause-whole c =
     Spells-canonical whole_format c.args.scene.now c.into_bytes.result.items (Covers-whole c.args.scene.now) (returns-clause-text c)
 
 pub returns-clause-spells : goal.returns-clause-spells
-returns-clause-spells c = λ plain.
-    Spells-canonical supported c.args.scene.now c.into_bytes.result.items (Covers-supported c.args.scene.now plain) (returns-clause-text c)
+returns-clause-spells c =
+    Spells-canonical supported c.args.scene.now c.into_bytes.result.items (Covers-supported c.args.scene.now) (returns-clause-text c)
 
 pub returns-clause-fits : goal.returns-clause-fits
 returns-clause-fits c = length-written c.args.scene.now c.into_bytes.result.items (returns-clause-text c)

@@ -9,4 +9,4 @@ returns c =
     let again = c.in_ok-again.again in
     let read : c.deref.result.now ≡ text = search rules in
     Spells-one_scene supported text again c.args.scene.now (subst (λ t. Spells supported t again) read c.in_ok-again.ensures.scene)
-    (c.in_ok-text.ensures.spells c.requires)
+    c.in_ok-text.ensures.spells

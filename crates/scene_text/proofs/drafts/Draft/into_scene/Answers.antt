@@ -1,4 +1,4 @@
-use Rattle.std.proofs.Common.{◌≤◌, length, refl, ◌∙◌, arith}
+use Rattle.std.proofs.Common.{◌≤◌, eqb, length, refl, ap, ◌∙◌, arith}
 use Rattle.std.proofs.lemmas.Grind.{common_steps}
 use Rattle.plan_model.specs.Texts.SceneGrammar.{point_from, number_or}
 use Rattle.plan_model.specs.Texts.CanonicalText.{point_numbers}
@@ -55,6 +55,10 @@ pub invariant_of-result-clause-strips_high : goal.invariant_of-result-clause-str
 invariant_of-result-clause-strips_high c =
     rw c.unwrap_or-4.ensures (AreWithin-draft c.in-Some.version c.args.self (c.requires.stand c.in-Some.version c.in-Some.is)).strips.below
 
+pub invariant_of-result-clause-informed_within : goal.invariant_of-result-clause-informed_within
+invariant_of-result-clause-informed_within c =
+    rw c.unwrap_or-5.ensures (AreWithin-draft c.in-Some.version c.args.self (c.requires.stand c.in-Some.version c.in-Some.is)).informed
+
 pub invariant_of-result-clause-plan_within : goal.invariant_of-result-clause-plan_within
 invariant_of-result-clause-plan_within c =
     rw c.plan_of.ensures (AreWithin-draft c.in-Some.version c.args.self (c.requires.stand c.in-Some.version c.in-Some.is)).plan
@@ -81,6 +85,6 @@ returns-clause-fields c =
       gamma = c.unwrap_or-2.ensures ∙ default-given 0 draft.gamma;
       seed = c.unwrap_or-3.ensures ∙ default-given 0 draft.seed;
       strips = c.unwrap_or-4.ensures ∙ default-given 1 draft.strips;
-      informed = refl;
+      informed = ap (λ n. eqb n 1) (c.unwrap_or-5.ensures ∙ default-given 0 draft.informed);
       plan = c.plan_of.ensures;
     }
