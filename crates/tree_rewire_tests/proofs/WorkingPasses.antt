@@ -1,5 +1,5 @@
 -- Passes with a share that have posted the node in their hand if they have to.
-use Rattle.std.proofs.Common.{◌≡◌, ◌≢◌, ℕ, true, Option, Some, None, [], cond, length, arith, refl, sym, ap, ◌∙◌, subst}
+use Rattle.std.proofs.Common.{◌≡◌, ℕ, true, Option, Some, None, [], cond, length, arith, refl, sym, ap, ◌∙◌, subst}
 use Rattle.std.proofs.lemmas.Option.{same_Some}
 use Rattle.plan_model.proofs.SceneBounds.{goals-some}
 use Rattle.plan_words.specs.Bests.{HasPostedHand}
@@ -31,10 +31,12 @@ IsAtWork-kept shared before after belongs run kept works = record {
 -- ---- the best is loaded
 
 -- the scene is informed
+goals_are : (shared : SharedState) (view : View) → view.run ≡ run_in shared → shared.task.scene.informed ≡ true → view.run.goals ≡ shared.task.scene.goals
+goals_are shared view run informed = ap (λ r. r.goals) run ∙ ap (λ b. cond b shared.task.scene.goals []) informed
+
 pub informed_here : (shared : SharedState) (view : View) → view.run ≡ run_in shared → shared.task.scene.informed ≡ true → IsInformed view.run
 informed_here shared view run informed none =
-    let goals_are = ap (λ r. r.goals) run ∙ ap (λ b. cond b shared.task.scene.goals []) informed in
-    omega (arith, goals-some shared.task.scene, ap (λ l. length l) (sym goals_are ∙ none))
+    omega (arith, goals-some shared.task.scene, ap (λ l. length l) (sym (goals_are shared view run informed) ∙ none))
 
 -- a counted hand takes no best
 HasPostedHand-loaded : (view : View) (word : ℕ) → HasPostedHand view → HasPostedHand (best_loaded view word)
@@ -48,7 +50,7 @@ HasPostedHand-loaded view word posted hand held counted lies = by_hand view.hand
         kept same = posted hand (e ∙ same) counted lies
 
         by_stage : (stage : Stage) → own.stage ≡ stage → Some (best_taken stage own word) ≡ Some hand → ⊥
-        by_stage Claimed s same = (let stage = sym (ap (λ (i : Hand). i.stage) (same_Some same)) ∙ counted in let no = sym s ∙ sym stage in cc)
+        by_stage Claimed s same = (let stage = ap (λ (i : Hand). i.stage) (same_Some (record own { best = Some word }) hand same) ∙ counted in let no = sym s ∙ stage in cc)
         by_stage Pointed s same = kept same
         by_stage Half s same = kept same
         by_stage Treed s same = kept same

@@ -154,6 +154,15 @@ fn hang_third<R: Abort>(
     assert_eq!(rt; choice, (0, 12_800));
 }
 
+/// Rewires the near nodes below the node of the mark in hand, which is placed.
+fn rewire_placed(shared: &Shared, hall: &Hall, pass: &mut Pass, mark: u32)
+    requires may { MayRewire shared.now mark pass.old }
+    requires hall { hall.now ≡ space_of shared.now.task.scene }
+    ensures { IsAtWork shared.now pass.new }
+{
+    rewire(shared, pass, hall, mark);
+}
+
 /// Places the node, and rewires the near ones.
 fn rewire_third<R: Abort>(
     rt: &R,
@@ -172,7 +181,7 @@ fn rewire_third<R: Abort>(
     let Placing::Placed = place_mark(shared, pass, mark, nearest) else {
         panic!(rt; "another node stands there")
     };
-    rewire(shared, pass, hall, mark);
+    rewire_placed(shared, hall, pass, mark);
 }
 
 /// Handles the third mark, below whose node that of the second then hangs.

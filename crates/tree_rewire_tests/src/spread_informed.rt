@@ -1,8 +1,11 @@
 //! A goal node below one that is lowered, in an informed scene.
 
-ghost use Rattle.std.specs.Prelude.{◌≡◌, IfOk, length, true};
+ghost use Rattle.std.specs.Prelude.{◌≡◌, IfOk, IsTrue, length, true};
+ghost use Rattle.plan_model.specs.Scenes.Limits.{is_plan};
 ghost use Rattle.plan_model.specs.Spaces.Clearance.{ClearAt};
 ghost use Rattle.plan_model.specs.Spaces.ConfigurationSpace.{space_of};
+ghost use Rattle.plan_model.specs.Spaces.EmptyRooms.{IsInRoom};
+ghost use Rattle.plan_model.specs.declared.scenes.Marks.TheVariants.{Listed};
 ghost use Rattle.tree_rewire_tests.specs.HeldMarks.{IsAtWork};
 
 use crate::support::{Begun, FAR, START, begun_after, lower_and_spread, sure};
@@ -25,11 +28,13 @@ static TO_GOAL: [Point; 5] = [
     FAR,
 ];
 
-/// The task of these marks in an informed scene in which nothing is rewired.
-fn task_to_goal(alloc: Global) -> Result<Task, Memory>
+/// The task of these marks in an informed scene with this start, in which nothing is rewired.
+fn informed_task(alloc: Global, start: Point, marks: &[Point]) -> Result<Task, Memory>
+    requires start { IsInRoom (record { x = 100; y = 100 }) start }
+    requires marks { IsTrue (is_plan 2 (Listed marks.now)) }
     ensures informed { IfOk result (λ task. task.scene.informed ≡ true) }
-    ensures marks { IfOk result (λ task. length task.marks ≡ 5) }
     ensures clear { IfOk result (λ task. ClearAt (space_of task.scene) task.scene.start) }
+    ensures marks { IfOk result (λ task. task.marks ≡ marks.now) }
 {
     let goal = Goal {
         low: FAR,
@@ -41,19 +46,28 @@ fn task_to_goal(alloc: Global) -> Result<Task, Memory>
         body: Sequence::from_vec(vec![in alloc; Vertex { x: 0, y: 0 }]?),
         obstacles: Sequence::from_vec(Vec::new(alloc)),
         clearance: 0,
-        start: START,
+        start,
         goals: Sequence::from_vec(vec![in alloc; goal]?),
         step: 50,
         gamma: 0,
         seed: 0,
         strips: 1,
         informed: true,
-        plan: Marks::Listed(Sequence::from_vec(Vec::from_slice(alloc, &TO_GOAL)?)),
+        plan: Marks::Listed(Sequence::from_vec(Vec::from_slice(alloc, marks)?)),
     };
     Ok(Task {
         scene,
-        marks: Sequence::from_vec(Vec::from_slice(alloc, &TO_GOAL)?),
+        marks: Sequence::from_vec(Vec::from_slice(alloc, marks)?),
     })
+}
+
+/// The task of the nodes that end in the goal.
+fn task_to_goal(alloc: Global) -> Result<Task, Memory>
+    ensures informed { IfOk result (λ task. task.scene.informed ≡ true) }
+    ensures clear { IfOk result (λ task. ClearAt (space_of task.scene) task.scene.start) }
+    ensures marks { IfOk result (λ task. length task.marks ≡ 5) }
+{
+    informed_task(alloc, START, &TO_GOAL)
 }
 
 /// A pass over a tree of these nodes in that scene, each of which hangs below the one that was nearest.
