@@ -34,6 +34,8 @@ pub mod SoundStatements
 pub mod ReadVersions
 pub mod SceneParts
 pub mod GivenScenes
+pub mod SceneBatchLaws
+pub mod BatchParts
 pub mod CostLaws
 pub mod TriangleLaw
 pub mod StripLaws

@@ -4,6 +4,7 @@ pub mod TextNumbers
 pub mod Keys
 pub mod LineChecks
 pub mod SceneGrammar
+pub mod SceneBatches
 pub mod KindNames
 pub mod CanonicalText
 pub mod Streams

@@ -10,6 +10,7 @@ mod paths;
 mod radii;
 mod reports;
 mod runs;
+mod scene_batches;
 mod scene_texts;
 mod scenes;
 mod seen_trees;

@@ -7,6 +7,9 @@
 /// The most bytes of a scene text.
 pub const MOST_TEXT_BYTES: usize = 16_777_216;
 
+/// The most scenes of a batch.
+pub const MOST_SCENES: usize = 64;
+
 /// The most marks (samples) of a plan.
 pub const MOST_MARKS: u32 = 262_143;
 

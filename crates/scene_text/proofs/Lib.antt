@@ -4,6 +4,8 @@ pub mod PolygonLemmas
 pub mod DraftLemmas
 pub mod DraftScenes
 pub mod ReaderLemmas
+pub mod PartLemmas
+pub mod BatchLemmas
 pub mod TextLemmas
 pub mod StatementTexts
 pub mod DecimalWords

@@ -1,3 +1,4 @@
+pub mod Batches
 pub mod Drafts
 pub mod Fetching
 pub mod Refusals

@@ -4,6 +4,8 @@
 #[cfg(test)]
 mod fetch;
 #[cfg(test)]
+mod read_batch;
+#[cfg(test)]
 mod read_scene;
 #[cfg(test)]
 mod refusals;

@@ -1,0 +1,201 @@
+-- A text spells the scenes of one batch, or is refused as a batch at one line and for one kind.
+use Rattle.std.proofs.Common.{◌≡◌, ℕ, zero, suc, ◌+◌, ◌<◌, ◌≤◌, ◌⊎◌, inl, inr, List, [], ◌∷◌, ◌++◌, length, get_or, refl, sym, ap, subst, ◌∙◌}
+use Rattle.std.proofs.Common.{arith, add-one}
+use Rattle.std.proofs.lemmas.Bool.{cases_order, cases_lt}
+use Rattle.std.proofs.lemmas.List.{ext_get_or, get_or_append_left, length-append}
+use Rattle.std.proofs.Math.Seq.{get_or-append_seam}
+use borrow.Author.Count.{below_more}
+use Rattle.plan_model.specs.declared.limits.TheConstants.{MOST_SCENES}
+use Rattle.plan_model.specs.declared.scenes.Scene.{Scene}
+use Rattle.plan_model.specs.declared.text_terms.Kind.{Kind}
+use Rattle.plan_model.specs.declared.text_terms.Kind.TheVariants as kinds
+use Rattle.plan_model.specs.Texts.TextLines.{lines_of}
+use Rattle.plan_model.specs.Texts.LineChecks.{Format}
+use Rattle.plan_model.specs.Texts.SceneGrammar.{Spells, Refused}
+use Rattle.plan_model.specs.Texts.SceneBatches.{Part, parts_of, part_text, lines_before, SpellsBatch, AreSpelledBelow, IsRefusedPart, FailsAtPart, RefusesBatch}
+use Rattle.plan_model.proofs.Soundness.{Refused-one_line, Refused-one_kind, Spells-not_refused}
+use Rattle.plan_model.proofs.SameScenes.{Spells-one_scene}
+use Rattle.plan_model.proofs.GivenScenes.{decided}
+
+-- ---- one refusal
+
+-- no batch is refused before a part that spells a scene
+not_before : (format : Format) (parts : List Part) (k j number : ℕ) (kind : Kind) → FailsAtPart format parts k number kind
+    → AreSpelledBelow format parts j → k < j → j ≤ MOST_SCENES → ⊥
+not_before format parts k j number kind (inl here) sound l most =
+    let part = here.1 in
+    let spelled = sound k l in
+    Spells-not_refused format (part_text parts k) spelled.0 part.0 kind spelled.1 part.2
+not_before format parts k j number kind (inr many) sound l most = omega (arith, many.0)
+
+at_most : (format : Format) (parts : List Part) (k number : ℕ) (kind : Kind) → FailsAtPart format parts k number kind → k ≤ MOST_SCENES
+at_most format parts k number kind (inl here) = omega (arith, here.0)
+at_most format parts k number kind (inr many) = omega (arith, many.0)
+
+same_part : (format : Format) (parts : List Part) (k j m n : ℕ) (one other : Kind) → FailsAtPart format parts k m one → FailsAtPart format parts j n other
+    → AreSpelledBelow format parts k → AreSpelledBelow format parts j → k ≡ j
+same_part format parts k j m n one other p q below_k below_j =
+    elim (cases_order k j) [
+      | inl e ↦ e
+      | inr (inl less) ↦ absurd (not_before format parts k j m one p below_j less (at_most format parts j n other q))
+      | inr (inr more) ↦ absurd (not_before format parts j k n other q below_k more (at_most format parts k m one p))
+    ]
+
+same_line : (format : Format) (parts : List Part) (k m n : ℕ) (one other : Kind) → FailsAtPart format parts k m one → FailsAtPart format parts k n other
+    → m ≡ n
+same_line format parts k m n one other (inl here) (inl there) =
+    let a = here.1 in
+    let b = there.1 in
+    let e = Refused-one_line format (part_text parts k) a.0 b.0 one other a.2 b.2 in
+    a.1 ∙ (ap (λ line. lines_before parts k + line) e ∙ sym b.1)
+same_line format parts k m n one other (inl here) (inr many) = absurd (omega (arith, here.0, many.0))
+same_line format parts k m n one other (inr many) (inl there) = absurd (omega (arith, many.0, there.0))
+same_line format parts k m n one other (inr many) (inr more) = many.1 ∙ sym more.1
+
+same_kind : (format : Format) (parts : List Part) (k m n : ℕ) (one other : Kind) → FailsAtPart format parts k m one → FailsAtPart format parts k n other
+    → one ≡ other
+same_kind format parts k m n one other (inl here) (inl there) =
+    let a = here.1 in
+    let b = there.1 in
+    Refused-one_kind format (part_text parts k) a.0 b.0 one other a.2 b.2
+same_kind format parts k m n one other (inl here) (inr many) = absurd (omega (arith, here.0, many.0))
+same_kind format parts k m n one other (inr many) (inl there) = absurd (omega (arith, many.0, there.0))
+same_kind format parts k m n one other (inr many) (inr more) = many.2 ∙ sym more.2
+
+pub RefusesBatch-one_line : (format : Format) (text : List ℕ) (m n : ℕ) (one other : Kind) → RefusesBatch format text m one
+    → RefusesBatch format text n other → m ≡ n
+RefusesBatch-one_line format text m n one other p q =
+    let parts = parts_of (lines_of text) in
+    let e = same_part format parts p.0 q.0 m n one other p.3 q.3 p.2 q.2 in
+    same_line format parts q.0 m n one other (subst (λ k. FailsAtPart format parts k m one) e p.3) q.3
+
+pub RefusesBatch-one_kind : (format : Format) (text : List ℕ) (m n : ℕ) (one other : Kind) → RefusesBatch format text m one
+    → RefusesBatch format text n other → one ≡ other
+RefusesBatch-one_kind format text m n one other p q =
+    let parts = parts_of (lines_of text) in
+    let e = same_part format parts p.0 q.0 m n one other p.3 q.3 p.2 q.2 in
+    same_kind format parts q.0 m n one other (subst (λ k. FailsAtPart format parts k m one) e p.3) q.3
+
+-- ---- one batch
+
+no_failure : (format : Format) (text : List ℕ) (scenes : List Scene) (k number : ℕ) (kind : Kind) → SpellsBatch format text scenes
+    → k < length (parts_of (lines_of text)) → FailsAtPart format (parts_of (lines_of text)) k number kind → ⊥
+no_failure format text [] k number kind h l fails = let count = h.count in omega arith
+no_failure format text (scene ∷ scenes) k number kind h l (inl here) =
+    let part = here.1 in
+    let within : k < length (scene ∷ scenes) = (let count = h.count in omega arith) in
+    Spells-not_refused format (part_text (parts_of (lines_of text)) k) (get_or (scene ∷ scenes) k scene) part.0 kind (h.each k scene within) part.2
+no_failure format text (scene ∷ scenes) k number kind h l (inr many) = let count = h.count in let few = h.few in omega (arith, many.0)
+
+pub SpellsBatch-not_refused : (format : Format) (text : List ℕ) (scenes : List Scene) (n : ℕ) (kind : Kind) → SpellsBatch format text scenes
+    → RefusesBatch format text n kind → ⊥
+SpellsBatch-not_refused format text scenes n kind h r = no_failure format text scenes r.0 n kind h r.1 r.3
+
+pub SpellsBatch-one_batch : (format : Format) (text : List ℕ) (one other : List Scene) → SpellsBatch format text one → SpellsBatch format text other
+    → one ≡ other
+SpellsBatch-one_batch format text [] [] a b = refl
+SpellsBatch-one_batch format text [] (scene ∷ other) a b = absurd (let m = a.count in let n = b.count in omega arith)
+SpellsBatch-one_batch format text (scene ∷ one) [] a b = absurd (let m = a.count in let n = b.count in omega arith)
+SpellsBatch-one_batch format text (scene ∷ one) (first ∷ other) a b =
+    let long : length (scene ∷ one) ≡ length (first ∷ other) = a.count ∙ sym b.count in
+    ext_get_or scene (scene ∷ one) (first ∷ other) long (λ k l.
+    Spells-one_scene format (part_text (parts_of (lines_of text)) k) (get_or (scene ∷ one) k scene) (get_or (first ∷ other) k scene)
+    (a.each k scene l) (b.each k scene (omega (arith, l, long))))
+
+-- ---- each text is decided
+
+-- as many scenes, each spelled by the part with its number
+record HasScenes (format : Format) (parts : List Part) (n : ℕ) : Type 0 where
+  scenes : List Scene
+  count : length scenes ≡ n
+  each : (k : ℕ) (d : Scene) → k < n → Spells format (part_text parts k) (get_or scenes k d)
+
+one_scene_more : (format : Format) (parts : List Part) (n : ℕ) → HasScenes format parts n → (scene : Scene) → Spells format (part_text parts n) scene
+    → HasScenes format parts (n + 1)
+one_scene_more format parts n h scene spelled = record {
+  scenes = h.scenes ++ scene ∷ [];
+  count = (let count = h.count in omega (arith, length-append h.scenes (scene ∷ [])));
+  each = λ k d l.
+      elim (cases_lt k n) [
+        | inl less ↦ subst (Spells format (part_text parts k))
+            (sym (get_or_append_left h.scenes (scene ∷ []) d k (let count = h.count in omega arith))) (h.each k d less)
+        | inr more ↦
+            let e : length h.scenes ≡ k = (let count = h.count in omega arith) in
+            let last : get_or (h.scenes ++ scene ∷ []) k d ≡ scene =
+            subst (λ m. get_or (h.scenes ++ scene ∷ []) m d ≡ scene) e (get_or-append_seam h.scenes scene [] d) in
+            let at : n ≡ k = sym h.count ∙ e in
+            subst (Spells format (part_text parts k)) (sym last) (subst (λ m. Spells format (part_text parts m) scene) at spelled)
+      ];
+}
+
+has_scenes : (format : Format) (parts : List Part) (n : ℕ) → AreSpelledBelow format parts n → HasScenes format parts n
+has_scenes format parts zero sound = record { scenes = []; count = refl; each = λ k d l. absurd (omega arith) }
+has_scenes format parts (suc n) sound =
+    let before = has_scenes format parts n (λ k l. sound k (omega (arith, l))) in
+    let last = sound n (omega arith) in
+    subst (HasScenes format parts) (add-one n) (one_scene_more format parts n before last.0 last.1)
+
+-- the first of n parts that is refused
+record HasFirst (format : Format) (parts : List Part) (n : ℕ) : Type 0 where
+  k : ℕ
+  number : ℕ
+  kind : Kind
+  here : k < n
+  before : AreSpelledBelow format parts k
+  refused : IsRefusedPart format parts k number kind
+
+one_part_more : (format : Format) (parts : List Part) (n : ℕ) → AreSpelledBelow format parts n
+    → AreSpelledBelow format parts (n + 1) ⊎ HasFirst format parts (n + 1)
+one_part_more format parts n sound =
+    elim (decided format (part_text parts n)) [
+      | inl spelled ↦ inl (below_more (λ k. (scene : Scene) × Spells format (part_text parts k) scene) n sound spelled)
+      | inr refused ↦ inr (record {
+        k = n;
+        number = lines_before parts n + refused.0;
+        kind = refused.1;
+        here = omega arith;
+        before = sound;
+        refused = (refused.0, refl, refused.2);
+      })
+    ]
+
+first_refused : (format : Format) (parts : List Part) (n : ℕ) → AreSpelledBelow format parts n ⊎ HasFirst format parts n
+first_refused format parts zero = inl (λ k l. absurd (omega arith))
+first_refused format parts (suc n) =
+    subst (λ m. AreSpelledBelow format parts m ⊎ HasFirst format parts m) (add-one n)
+    (elim (first_refused format parts n) [
+      | inl sound ↦ one_part_more format parts n sound
+      | inr first ↦ inr (record {
+        k = first.k;
+        number = first.number;
+        kind = first.kind;
+        here = (let here = first.here in omega arith);
+        before = first.before;
+        refused = first.refused;
+      })
+    ])
+
+-- a text spells a batch, or it is refused as one
+pub batch_decided : (format : Format) (text : List ℕ)
+    → ((scenes : List Scene) × SpellsBatch format text scenes) ⊎ ((number : ℕ) × (kind : Kind) × RefusesBatch format text number kind)
+batch_decided format text =
+    let parts = parts_of (lines_of text) in
+    elim (cases_lt MOST_SCENES (length parts)) [
+      | inl many ↦
+          elim (first_refused format parts MOST_SCENES) [
+            | inl sound ↦ inr (lines_before parts MOST_SCENES, kinds.Many, (MOST_SCENES, many, sound, inr (refl, refl, refl)))
+            | inr first ↦
+                let here = first.here in
+                inr (first.number, first.kind, (first.k, omega (arith, here, many), first.before, inl (here, first.refused)))
+          ]
+      | inr few ↦
+          elim (first_refused format parts (length parts)) [
+            | inl sound ↦
+                let h = has_scenes format parts (length parts) sound in
+                let count = h.count in
+                inl (h.scenes, record { count = h.count; few = omega (arith, few, count); each = λ k d l. h.each k d (omega (arith, l, count)) })
+            | inr first ↦
+                let here = first.here in
+                inr (first.number, first.kind, (first.k, here, first.before, inl (omega (arith, here, few), first.refused)))
+          ]
+    ]

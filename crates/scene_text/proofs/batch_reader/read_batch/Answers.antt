@@ -1,0 +1,52 @@
+use Rattle.std.proofs.Common.{List, ◌≡◌, ◌≢◌, ◌+◌, [], ◌∷◌, ◌++◌, length, subst, sym, ◌∙◌, rules, arith}
+use Rattle.std.proofs.lemmas.Bool.Decides.{nat_tests}
+use Rattle.std.proofs.lemmas.Result.{err_from_is_err_and}
+use Rattle.plan_model.specs.declared.limits.TheConstants.{MOST_SCENES}
+use Rattle.plan_model.specs.declared.scenes.Scene.{Scene}
+use Rattle.scene_text.proofs.BatchLemmas.{HasRead, HasRead-more, IsBatchRefusal-many, ReadsParts-more, ReadsParts-refused, SpellsBatch-read}
+use Rattle.scene_text.proofs.batch_reader.read_batch.Goals as goal
+
+pub returns-in_err-part-clause-fault : goal.returns-in_err-part-clause-fault
+returns-in_err-part-clause-fault c =
+    let p = err_from_is_err_and c.from_residual.result c.from_residual.ensures.1 in
+    rw (p.1, p.2) (ReadsParts-refused c.args.text.now c.loop-scenes.scenes.items c.loop-scenes.before c.loop-scenes.rest.now c.loop-scenes.invariant
+    c.in_err-part.field-0.0 c.in_err-part.ensures.fault)
+
+pub returns-in_default-clause-scenes : goal.returns-in_default-clause-scenes
+returns-in_default-clause-scenes c =
+    let text = c.args.text.now in
+    let part = c.in_ok-part.part in
+    let is = c.in_ok-part.ensures in
+    let pushed : c.push.new.self.items ≡ c.loop-scenes.scenes.items ++ part.scene ∷ [] = search rules in
+    let read = HasRead-more text c.loop-scenes.scenes.items c.loop-scenes.before c.loop-scenes.rest.now c.loop-scenes.invariant part.scene part.lines
+    part.rest.now is.scene is.lines is.rest is.shorter in
+    let kept = subst (λ (scenes : List Scene). HasRead text scenes (c.loop-scenes.before + (part.lines + 1)) part.rest.now) (sym pushed) read in
+    SpellsBatch-read text c.push.new.self.items _ part.rest.now kept c.in_default.ensures.none
+
+pub returns-then-len-eq-MOST_SCENES-clause-fault : goal.returns-then-len-eq-MOST_SCENES-clause-fault
+returns-then-len-eq-MOST_SCENES-clause-fault c =
+    let text = c.args.text.now in
+    let part = c.in_ok-part.part in
+    let is = c.in_ok-part.ensures in
+    let pushed : c.push.new.self.items ≡ c.loop-scenes.scenes.items ++ part.scene ∷ [] = search rules in
+    let read = HasRead-more text c.loop-scenes.scenes.items c.loop-scenes.before c.loop-scenes.rest.now c.loop-scenes.invariant part.scene part.lines
+    part.rest.now is.scene is.lines is.rest is.shorter in
+    let kept = subst (λ (scenes : List Scene). HasRead text scenes (c.loop-scenes.before + (part.lines + 1)) part.rest.now) (sym pushed) read in
+    let long = c.len.ensures ∙ c.push.new.self.ok.0 in
+    let test = c.if-len-eq-MOST_SCENES.true in
+    let most : length c.push.new.self.items ≡ MOST_SCENES = grind (arith, nat_tests, long, test) in
+    IsBatchRefusal-many text c.push.new.self.items _ part.rest.now kept c.in-Some.after.now c.in-Some.ensures.some most
+
+pub loop-scenes-preserved : goal.loop-scenes-preserved
+loop-scenes-preserved c =
+    let text = c.args.text.now in
+    let part = c.in_ok-part.part in
+    let is = c.in_ok-part.ensures in
+    let pushed : c.push.new.self.items ≡ c.loop-scenes.scenes.items ++ part.scene ∷ [] = search rules in
+    let read = HasRead-more text c.loop-scenes.scenes.items c.loop-scenes.before c.loop-scenes.rest.now c.loop-scenes.invariant part.scene part.lines
+    part.rest.now is.scene is.lines is.rest is.shorter in
+    let kept = subst (λ (scenes : List Scene). HasRead text scenes (c.loop-scenes.before + (part.lines + 1)) part.rest.now) (sym pushed) read in
+    let long = c.len.ensures ∙ c.push.new.self.ok.0 in
+    let test = c.if-len-eq-MOST_SCENES.false in
+    let other : length c.push.new.self.items ≢ MOST_SCENES = grind (arith, nat_tests, long, test) in
+    ReadsParts-more text c.push.new.self.items _ part.rest.now kept c.in-Some.after.now c.in-Some.ensures.some other c.in-Some.ensures.shorter
