@@ -62,6 +62,22 @@ static OF_FIVE_MARKS: [Sliced; 5] = [
     },
 ];
 
+// The marks of the first scene and the last of them once more, which is skipped.
+static INFORMED: Case = Case {
+    shows: "an informed scene, with a mark that is skipped",
+    scene: "prrt 2\nroom 100 100\nstart 0 0\ngoal 40 79 40 79\nstep 50\ngamma 1000\ninformed 1\nmark 0 50\nmark 40 79\nmark 40 30\n\
+            mark 40 30\n",
+    status: 0,
+    text: "better 25449 marks 2\nbetter 25344 marks 3\npath 3 cost 25344\n0 0\n40 30\n40 79\n\
+           nodes 4 placed 3 same 0 blocked 0 skipped 1\n",
+    run: Some((4, 4)),
+};
+
+#[test]
+fn gives_better_paths_of_an_informed_scene(rt: HostRuntime) {
+    expect_sliced(&rt, rt.alloc(), "1", "1", &INFORMED, 2);
+}
+
 // Compares the lists of better paths that a call has handed out, and all paths in them.
 fn expect_lists<R: Abort>(rt: &R, called: &Called, lists: u64, items: u64, shows: &str) {
     expect_number(rt, called.ended.lists, lists, shows);
