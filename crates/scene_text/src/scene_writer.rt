@@ -2,9 +2,9 @@
 
 ghost use Rattle.std.specs.Prelude.{◌≡◌, ◌≤◌, [], ◌∷◌, ◌++◌, false, length, map, flat_map, string_bytes, IfOk, OnOk};
 ghost use Rattle.std.specs.Fmt.{signed_decimal};
-ghost use Rattle.plan_model.specs.Texts.CanonicalText.{canonical_text, clearance_statements, corner_numbers, goal_statement, mark_statement, obstacle_statement};
+ghost use Rattle.plan_model.specs.Texts.CanonicalText.{canonical_text, clearance_statements, corner_numbers, goal_statement, mark_statement};
 ghost use Rattle.plan_model.specs.Texts.CanonicalText.{informed_statements, plan_statements, point_numbers, search_statements, statement, task_statements};
-ghost use Rattle.plan_model.specs.Texts.CanonicalText.{version_statement};
+ghost use Rattle.plan_model.specs.Texts.CanonicalText.{obstacle_statement, version_statement};
 ghost use Rattle.plan_model.specs.declared.text_terms.Key.TheVariants as keys;
 ghost use Rattle.plan_model.specs.Reports.ReportText.{line};
 ghost use Rattle.plan_model.specs.Texts.SceneGrammar.{Spells, supported, whole_format};

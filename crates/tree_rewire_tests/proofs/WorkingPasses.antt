@@ -50,7 +50,10 @@ HasPostedHand-loaded view word posted hand held counted lies = by_hand view.hand
         kept same = posted hand (e ∙ same) counted lies
 
         by_stage : (stage : Stage) → own.stage ≡ stage → Some (best_taken stage own word) ≡ Some hand → ⊥
-        by_stage Claimed s same = (let stage = ap (λ (i : Hand). i.stage) (same_Some (record own { best = Some word }) hand same) ∙ counted in let no = sym s ∙ stage in cc)
+        by_stage Claimed s same =
+            (let stage = ap (λ (i : Hand). i.stage) (same_Some (record own { best = Some word }) hand same) ∙ counted in
+            let no = sym s ∙ stage in
+            cc)
         by_stage Pointed s same = kept same
         by_stage Half s same = kept same
         by_stage Treed s same = kept same

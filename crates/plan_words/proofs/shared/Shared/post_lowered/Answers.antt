@@ -21,7 +21,8 @@ returns-then-skips_by-clause-kept c =
     let goal = goal-at mid.view c.args.node c.point-point.result looks.found lies in
     OnlyPosts-after c.args.node before mid c.post.new.pass (loaded before.view (PointOf c.args.node) (sees mid.view (PointOf c.args.node))) looks.view
     refl refl refl
-    (goal-again mid.view before.view c.args.node (sym run) (sym (sees-point_again before.view mid.view c.args.node _ looks.goes_on c.requires.present looks.seen)))
+    (goal-again mid.view before.view c.args.node (sym run)
+    (sym (sees-point_again before.view mid.view c.args.node _ looks.goes_on c.requires.present looks.seen)))
     (OnlyPosts-posted c.args.node mid c.post.new.pass c.post.new.pass.view.best c.post.ensures.view goal)
 
 pub returns-then-skips_by-clause-goes_on : goal.returns-then-skips_by-clause-goes_on
