@@ -2,7 +2,7 @@
 -- that its node was placed below the nearest.
 use Rattle.std.proofs.Common.{◌≡◌, ℕ, zero, suc, refl, ◌+◌, ◌-◌, ◌*◌, ◌<◌, ◌≤◌, ◌^◌, true, Option}
 use Rattle.std.proofs.Common.{[], Some, None, length, inl, inr, sym, ap, ◌∙◌, subst, arith}
-use Rattle.std.specs.Prelude.{◌⊎◌, IfSome, nat_le}
+use Rattle.std.specs.Prelude.{◌⊎◌, IfSome, IsTrue, nat_le}
 use Rattle.std.specs.List.{filter, range_with_len}
 use Rattle.std.proofs.Math.Nat.{mul-pos}
 use Rattle.std.proofs.lemmas.Bool.{cases_lt, le-leb, leb-true}
@@ -11,7 +11,7 @@ use Rattle.std.proofs.lemmas.List.Elements.{filter_agree}
 use Rattle.std.proofs.lemmas.Nat.{pow_pos}
 use Rattle.plan_model.specs.Spaces.Clearance.{Clear}
 use Rattle.plan_model.specs.Runs.ClosedLaw.{mark_at}
-use Rattle.plan_model.specs.Trees.BestNode.{IsGoalNode}
+use Rattle.plan_model.specs.Trees.BestNode.{is_goal_point}
 use Rattle.plan_model.specs.Trees.LeastPairs.{IsNotAbove}
 use Rattle.plan_model.specs.Trees.Nearness.{distance_to, is_within}
 use Rattle.plan_model.specs.Trees.PointsByNumber.{IsPresent, point_at, point_of}
@@ -22,7 +22,6 @@ use Rattle.plan_model.specs.declared.records.Outcome.{Outcome}
 use Rattle.plan_model.specs.declared.records.Outcome.TheVariants.{Placed, Same}
 use Rattle.plan_model.specs.declared.records.Record.{Record}
 use Rattle.plan_model.proofs.FreePoints.{same-from_distance}
-use Rattle.plan_model.proofs.GoalNodes.{no_goal_node}
 use Rattle.plan_model.proofs.NewNodes.{point_of-stands}
 use Rattle.plan_model.proofs.RadiusLaws.{greatest-passes}
 use Rattle.plan_model.proofs.RecordLaws.{class_of-le}
@@ -101,7 +100,7 @@ module _ (view : View) (nearest : ℕ) (entry : Record) (lawful : IsLawfulView v
   -- so the mark may end with what it may be at that point
   MaySteer-steered : (MayEndAt : Point → Type 0) → MayEndAt steers.hand.point → MaySteer view steers.hand entry MayEndAt
   MaySteer-steered MayEndAt ended = record {
-    cheaper = λ i own goal. absurd (no_goal_node (tree_seen view).points i (subst (λ goals. IsGoalNode goals (tree_seen view).points i) none goal));
+    unskipped = λ informed. absurd (informed none);
     present = subst (IsPresent (tree_seen view).points) (sym is) (present_nearest view nearest lawful steers);
     nearest = λ i own.
         subst (λ m. IsNotAbove (distance_to (mark_at view.run.marks steers.hand.mark) (tree_seen view).points) m i) (sym is)
@@ -154,6 +153,7 @@ module _ (view : View) (nearest cost : ℕ) (entry : Record) (lawful : IsLawfulV
         high = omega (arith, class);
         chosen = λ i near. absurd (no_neighbour i near);
         rewired = λ i near. absurd (no_neighbour i near);
+        posted = λ goal. (let gone = subst (λ goals. IsTrue (is_goal_point goals (Some hand.point))) none goal in cc);
       } in
       MayRecord-steered view nearest entry lawful hangs.steers is none Placed outcome
       (MaySteer-steered view nearest entry lawful hangs.steers is none (λ p. MayBePlaced view hand entry) placed)

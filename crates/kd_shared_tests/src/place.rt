@@ -108,6 +108,7 @@ fn begin_mark<R: Abort>(
     ensures holds { HoldsMark shared.now mark Pointed pass.new }
     ensures steers { SteersFrom result.nearest pass.new.view }
 {
+    assert!(rt; !shared.task().scene.informed, "marks may be skipped");
     claim_mark(rt, shared, pass, limit, mark);
     let steering = write_from_nearest(shared, pass, mark);
     assert!(rt; steering.point == want, "the point of mark {mark}");

@@ -97,9 +97,10 @@ pub(crate) struct Steering {
     pub(crate) point: Point,
 }
 
-/// Writes the point of the mark in hand, steered from the nearest node.
+/// Writes the point of the mark in hand, steered from the nearest node, in a scene whose marks are not skipped.
 pub(crate) fn write_from_nearest(shared: &Shared, pass: &mut Pass, mark: u32) -> Steering
-    requires { HoldsMark shared.now mark Claimed pass.old }
+    requires holds { HoldsMark shared.now mark Claimed pass.old }
+    requires plain { shared.now.task.scene.informed ≡ false }
     ensures holds { HoldsMark shared.now mark Pointed pass.new }
     ensures steers { SteersFrom result.nearest pass.new.view }
 {
@@ -222,7 +223,7 @@ pub(crate) fn place_and_finish(
     Some(placing)
 }
 
-/// Places the next mark, if there is one.
+/// Places the next mark, if there is one and no mark may be skipped.
 pub(crate) fn place_next(
     shared: &Shared,
     hall: &Hall,
@@ -235,6 +236,9 @@ pub(crate) fn place_next(
     requires limit { limit ≤ length shared.now.task.marks }
     ensures { IfSome result (λ _. MayClaim shared.now pass.new) }
 {
+    if shared.task().scene.informed {
+        return None;
+    }
     let mark = take_mark(shared, pass, limit)?;
     let steering = write_from_nearest(shared, pass, mark);
     let placing = place_and_finish(shared, hall, pass, mark, steering.nearest)?;
