@@ -8,8 +8,8 @@ write_from_start-requires-clause-unskipped g c =
     unskipped_plain c.args.shared.now c.claim_mark.new.pass.view holds.hand holds.held holds.belongs.run
     (ap (λ t. t.scene.informed) (sym c.task.ensures) ∙ c.if-task.false)
 
-pub write_from_start-2-requires-clause-unskipped : goal.write_from_start-2-requires-clause-unskipped
-write_from_start-2-requires-clause-unskipped g c =
+pub write_from_start-requires-2-clause-unskipped : goal.write_from_start-requires-2-clause-unskipped
+write_from_start-requires-2-clause-unskipped g c =
     let holds = c.claim_mark-2.ensures in
     unskipped_plain c.args.shared.now c.claim_mark-2.new.pass.view holds.hand holds.held holds.belongs.run
     (ap (λ t. t.scene.informed) (sym c.task.ensures) ∙ c.if-task.false)

@@ -1,9 +1,19 @@
-use Rattle.std.proofs.Common.{ap, false, true}
+use Rattle.std.proofs.Common.{ap, false, refl, true}
+use Rattle.plan_words.proofs.GoingOn.{BelongsTo-later}
+use Rattle.plan_words.specs.States.{PassState}
 use Rattle.plan_words_tests.proofs.FirstRecords.{HangsFromStart-kept, HangsFromStart-linked}
+use Rattle.plan_words_tests.proofs.HeldMarks.{HoldsMark-kept, HoldsMark-linked}
 use Rattle.plan_words_tests.proofs.LinkedPlaces.{LeadsTo-below, of_hand}
 use Rattle.plan_words_tests.proofs.link.link_below.Goals as goal
 use Rattle.step_core.proofs.SeenViews.{HasSeenAtLeast-later}
 use Rattle.step_core.specs.ViewTrees.{LeadsTo}
+use Rattle.step_core.specs.declared.views.Stage.TheVariants.{Treed}
+
+pub link-requires-clause-belongs : goal.link-requires-clause-belongs
+link-requires-clause-belongs g c =
+    let met = c.meet_above-above in
+    BelongsTo-later c.args.shared.now met.new.pass c.point-start.new.pass (ap (λ (p : PassState). p.table) c.point-start.ensures.view)
+    c.point-start.ensures.goes_on met.ensures.holds.belongs
 
 pub link-requires-clause-leads : goal.link-requires-clause-leads
 link-requires-clause-leads g c =
@@ -25,3 +35,11 @@ returns-clause-hangs g c =
     (ap (λ p. p.view.hand) c.point-start.ensures.view) in
     HangsFromStart-linked mid c.link.new.pass c.args.cost c.args.met false c.link.result c.link.ensures.goes_on.later hung c.link.ensures.view
     c.link.ensures.view_found
+
+pub returns-clause-linked : goal.returns-clause-linked
+returns-clause-linked g c =
+    let met = c.meet_above-above in
+    let mid = c.point-start.new.pass in
+    let holds = HoldsMark-kept c.args.shared.now c.args.mark Treed met.new.pass mid _ c.point-start.ensures.view refl c.point-start.ensures.goes_on
+    met.ensures.holds in
+    HoldsMark-linked c.args.shared.now c.args.mark c.args.met false mid c.link.new.pass c.link.result holds c.link.ensures.goes_on c.link.ensures.view

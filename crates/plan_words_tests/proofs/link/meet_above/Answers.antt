@@ -1,8 +1,17 @@
-use Rattle.std.proofs.Common.{◌∙◌, ap, true}
+use Rattle.std.proofs.Common.{◌∙◌, ap, refl, true}
 use Rattle.plan_words_tests.proofs.FirstRecords.{HangsFromStart-kept}
+use Rattle.plan_words_tests.proofs.HeldMarks.{HoldsMark-kept}
 use Rattle.plan_words_tests.proofs.link.meet_above.Goals as goal
 use Rattle.step_core.proofs.LaterViews.{IsLater-trans}
 use Rattle.step_core.proofs.SeenViews.{HasSeenAtLeast-later}
+use Rattle.step_core.specs.declared.views.Stage.TheVariants.{Treed}
+
+pub returns-clause-holds : goal.returns-clause-holds
+returns-clause-holds g c =
+    HoldsMark-kept c.args.shared.now c.args.mark Treed c.point-above.new.pass c.child-child.new.pass _ c.child-child.ensures.view refl
+    c.child-child.ensures.goes_on
+    (HoldsMark-kept c.args.shared.now c.args.mark Treed c.args.pass.now c.point-above.new.pass _ c.point-above.ensures.view refl
+    c.point-above.ensures.goes_on c.requires.holds)
 
 pub returns-clause-hangs : goal.returns-clause-hangs
 returns-clause-hangs g c =
