@@ -446,14 +446,15 @@ fn far_below_run<R: Threads + Sync + Abort>(rt: &R, alloc: Global, gate: &OtherF
     run
 }
 
-// Worker 0 has one of the first two marks in hand while worker 1 handles all others, so that it has not seen the last node on its side.
+// Worker 0 has one of the first two marks in hand while worker 1 handles all others, so that it has not seen the last node on its side:
+// that one is left to settling.
 #[test]
-fn no_node_is_left_loose(rt: HostRuntime) {
+fn a_node_that_waits_is_found_by_the_near_ones(rt: HostRuntime) {
     let gate = OtherFirst::new(6);
     let grown = far_below_run(&rt, rt.alloc(), &gate);
     assert_handled(&rt, &gate);
-    assert_node(&rt, &grown, 5, &Some((230, 249, 4, 36_793)));
-    assert_node(&rt, &grown, 8, &Some((70, 51, 7, 36_793)));
+    assert_node(&rt, &grown, 4, &Some((190, 229, 1, 25_344)));
+    assert_node(&rt, &grown, 7, &Some((110, 71, 2, 25_344)));
     drop(grown);
     drop(gate);
 }
