@@ -1,3 +1,4 @@
+use Rattle.plan_words.proofs.PostedGoals.{HasPostedHand-idle}
 use Rattle.plan_work_tests.proofs.KeptShares.{HasShare-sees}
 use Rattle.plan_work_tests.proofs.extend_with_stale_costs.assert_lowered.Goals as goal
 use Rattle.tree_rewire.proofs.CostSteps.{PassSees-lower}
@@ -6,7 +7,8 @@ use Rattle.tree_rewire.specs.SeenCosts.{NamesTree}
 pub returns : goal.returns
 returns g c =
     let lower = c.lower-found.ensures in
+    let may = c.requires.share.may_claim in
     HasShare-sees NamesTree c.args.shared.now c.args.pass.now c.lower-found.new.pass 1
-    (PassSees-lower c.args.shared.now c.args.pass.now c.lower-found.new.pass _ _ _ _ _ c.lower-found.result c.requires.share.may_claim.belongs lower.view
-    lower.view_found lower.goes_on lower.seen)
+    (PassSees-lower c.args.shared.now c.args.pass.now c.lower-found.new.pass _ _ _ c.lower-found.result may.belongs
+    (HasPostedHand-idle c.args.pass.now.view may.idle) lower.kept lower.view_found lower.goes_on lower.seen)
     c.requires.share
