@@ -6,8 +6,8 @@
 //! take a run that is settled.
 //!
 //! [`best`] is the cheapest node in a goal, and [`path_to`] gives the points from the start to a node. [`report`] is
-//! the text, short or full, and [`report_along`] the short one along another path; [`push_node_line`] and
-//! [`push_mark_line`] append one line of it, from the numbers of a node or a mark. [`deliver`] writes a text to a sink.
+//! the text, short or full, and [`report_along`] the short one along another path; the calls that begin with `push`
+//! append one line of it, or those of a path's points. [`deliver`] writes a text to a sink.
 //!
 //! Each takes time that is linear in the run and its text, except that the nodes of a run that is not settled are
 //! sorted by cost.
@@ -25,6 +25,9 @@ pub use best_node::best;
 pub use delivery::deliver;
 pub use mark_lines::push_mark_line;
 pub use node_lines::push_node_line;
-pub use paths::path_to;
-pub use reports::{report, report_along, report_by_best, summary, summary_by_best};
+pub use paths::{path_back, path_to};
+pub use reports::{
+    push_counts_line, push_path_line, push_point_lines, report, report_along, report_by_best,
+    summary, summary_by_best,
+};
 pub use settling::settle;

@@ -21,13 +21,17 @@ pub fn path_to(alloc: Global, grown: &Grown, node: u32) -> Result<Vec<Point>, Me
     requires { IsPresent (state_of_grown grown.now).points node }
     ensures { IfOk result (λ path. path.items ≡ path_to (state_of_grown grown.now) node) }
 {
-    let mut path = points_to_start(alloc, grown, node)?;
+    let mut path = path_back(alloc, grown, node)?;
     path.reverse();
     Ok(path)
 }
 
-/// The points from a node up to the start.
-fn points_to_start(alloc: Global, grown: &Grown, node: u32) -> Result<Vec<Point>, Memory>
+/// The points of the path from a node that is present back to the start, by the node's parents: the same as [`path_to`], in reverse. O(d).
+///
+/// # Errors
+///
+/// `Memory` if out of memory for the points.
+pub fn path_back(alloc: Global, grown: &Grown, node: u32) -> Result<Vec<Point>, Memory>
     requires { IsPresent (state_of_grown grown.now).points node }
     ensures { IfOk result (λ points. points.items ≡ map (point_of (state_of_grown grown.now).points) (chain_in (state_of_grown grown.now) node)) }
 {

@@ -139,15 +139,23 @@ fn push_head_line(
     }
 }
 
-/// The line of a path: of how many points, and its cost in 256ths of a lattice step.
-fn push_path_line(text: &mut String, points: &[Point], cost: u64) -> Result<(), AllocError>
+/// Adds the line of a path: of how many points, and its cost in 256ths of a lattice step. O(1).
+///
+/// # Errors
+///
+/// `AllocError` if out of memory for the line.
+pub fn push_path_line(text: &mut String, points: &[Point], cost: u64) -> Result<(), AllocError>
     ensures { OnOk result (string_bytes text.new ≡ string_bytes text.old ++ spec.path_line points.now cost) }
 {
     write!(text, "path {} cost {cost}\n", points.len())
 }
 
-/// A line for each point.
-fn push_point_lines(text: &mut String, points: &[Point]) -> Result<(), AllocError>
+/// Adds a line for each point. O(n).
+///
+/// # Errors
+///
+/// `AllocError` if out of memory for the lines.
+pub fn push_point_lines(text: &mut String, points: &[Point]) -> Result<(), AllocError>
     ensures { OnOk result (string_bytes text.new ≡ string_bytes text.old ++ spec.point_lines points.now) }
 {
     for point in points {
@@ -196,8 +204,13 @@ fn counts_of(grown: &Grown) -> Counts
     counts
 }
 
-/// The line of the counts of nodes and of marks by their outcomes; skipped marks are counted where the scene is informed, also none.
-fn push_counts_line(text: &mut String, grown: &Grown) -> Result<(), AllocError>
+/// Adds the line of the counts of nodes and of marks by their outcomes; skipped marks are counted where the scene is informed, also none.
+/// O(n) for n marks below the limit.
+///
+/// # Errors
+///
+/// `AllocError` if out of memory for the line.
+pub fn push_counts_line(text: &mut String, grown: &Grown) -> Result<(), AllocError>
     ensures { OnOk result (string_bytes text.new ≡ string_bytes text.old ++ spec.counts_line grown.now.task.scene grown.now.limit (state_of_grown grown.now)) }
 {
     let counts = counts_of(grown);

@@ -2,7 +2,7 @@ use Rattle.std.proofs.Common.{◌++◌, arith, sym, ap, ◌∙◌, append_assoc}
 use Rattle.plan_model.specs.Trees.PointsByNumber.{StandsAt}
 use Rattle.step_core.specs.GrownRuns.{state_of_grown}
 use Rattle.settle_report.proofs.GrownPaths.{FallAlong-grown, steps_up, points_up-start}
-use Rattle.settle_report.proofs.paths.points_to_start.Goals as goal
+use Rattle.settle_report.proofs.paths.path_back.Goals as goal
 
 pub loop-at-smaller : goal.loop-at-smaller
 loop-at-smaller c =

@@ -2,7 +2,7 @@ use Rattle.std.proofs.Common.{◌≡◌, ◌++◌}
 use Rattle.plan_model.specs.Trees.PointsByNumber.{IsPresent}
 use Rattle.step_core.specs.GrownRuns.{state_of_grown}
 use Rattle.settle_report.proofs.GrownPaths.{points_up}
-use Rattle.settle_report.proofs.paths.points_to_start.Given as goal
+use Rattle.settle_report.proofs.paths.path_back.Given as goal
 
 -- the points so far and those from here on are the chain's
 abbrev pub invariant-loop-at : goal.invariant-loop-at
