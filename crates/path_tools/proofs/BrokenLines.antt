@@ -11,11 +11,11 @@ use Rattle.plan_model.specs.Runs.ClosedLaw.{mark_at}
 use Rattle.plan_model.specs.Runs.RecordLaw.{IsLawfulRecord}
 use Rattle.plan_model.specs.Runs.Textbook.{setup_of}
 use Rattle.plan_model.specs.Trees.PointsByNumber.{IsPresent}
-use Rattle.path_tools.specs.FirstBreaks.{IsFirstBreak, KeepsPresence}
+use Rattle.path_tools.specs.FirstBreaks.{IsFirstBreak, KeepsHead, KeepsPresence}
 use Rattle.path_tools.specs.ReportLines.{extent_of}
-use Rattle.path_tools.specs.ReportSheets.{Sheet, SpellsSheet, state_of_sheet, number_of_node_line, number_of_mark_line}
-use Rattle.path_tools.specs.SheetLaws.{KeepsNodeLaw, HasOwnTurn, KeepsLawAt, KeepsLaw}
-use Rattle.path_tools.specs.Verdicts.{BreaksLawFirst}
+use Rattle.path_tools.specs.ReportSheets.{Sheet, SpellsSheet, head_lines, state_of_sheet, number_of_node_line, number_of_mark_line}
+use Rattle.path_tools.specs.SheetLaws.{KeepsNodeLaw, HasOwnTurn, KeepsLawAt, KeepsLaw, best_priced_path, tally_of}
+use Rattle.path_tools.specs.Verdicts.{BreaksLawFirst, IsLawful}
 
 -- among more first nodes no fewer are present
 count-take-le : (knots : List (Option Knot)) (m n : ℕ) → m ≤ n → count_by is_some (take m knots) ≤ count_by is_some (take n knots)
@@ -204,3 +204,73 @@ module _ (task : Task) (sheet : Sheet) where
     ]);
     broken = λ kept. first.2 (λ h. kept.node refl n h refl);
   }
+
+  -- ---- the law of the head
+
+  -- the lines that the head should have
+  abbrev pub KeepsHeads : ℕ → Type 0
+  KeepsHeads =
+      KeepsHead sheet.path sheet.tally (best_priced_path task.scene (length task.marks) (state_of_sheet sheet))
+      (tally_of task.scene (length task.marks) (state_of_sheet sheet))
+
+  abbrev head_count : ℕ
+  head_count = length (head_lines sheet.path sheet.tally)
+
+  heads_at : (line : ℕ) → ((i : ℕ) → i < head_count → line ≡ suc i → KeepsHeads i) → KeepsLawAt task sheet 6 line
+  heads_at line keeps = record {
+    node = λ is n h at. absurd (omega (arith, is));
+    turn = λ is k entry h at. absurd (omega (arith, is));
+    presence = λ is k entry h at. absurd (omega (arith, is));
+    lawful = λ is k entry h at. absurd (omega (arith, is));
+    head = λ is i within at. keeps i within at;
+  }
+
+  pub KeepsLaw-heads : IsFirstBreak KeepsHeads (length (head_lines sheet.path sheet.tally)) None → KeepsLaw task sheet 6
+  KeepsLaw-heads none line = heads_at line (λ i within at. none i within)
+
+  -- no line is asked for a law above that of the head
+  KeepsLaw-past : (law : ℕ) → 6 < law → KeepsLaw task sheet law
+  KeepsLaw-past law high line = record {
+    node = λ is n h at. absurd (omega (arith, high, is));
+    turn = λ is k entry h at. absurd (omega (arith, high, is));
+    presence = λ is k entry h at. absurd (omega (arith, high, is));
+    lawful = λ is k entry h at. absurd (omega (arith, high, is));
+    head = λ is i within at. absurd (omega (arith, high, is));
+  }
+
+  module _
+      (report : List ℕ) (spelled : SpellsSheet (extent_of task) report sheet) (two : KeepsLaw task sheet 2) (three : KeepsLaw task sheet 3)
+      (four : KeepsLaw task sheet 4) (five : KeepsLaw task sheet 5) where
+    lesser_six : (other : ℕ) → other < 6 → KeepsLaw task sheet other
+    lesser_six other low =
+        elim (cases_lt other 5) [
+          | inl less ↦ lesser_five two three four other less
+          | inr more ↦ (let e : 5 ≡ other = omega (arith, low, more) in subst (KeepsLaw task sheet) e five)
+        ]
+
+    -- the first line of the head that is another breaks its law first
+    pub BreaksLawFirst-heads : (i : ℕ) → IsFirstBreak KeepsHeads (length (head_lines sheet.path sheet.tally)) (Some i)
+        → BreaksLawFirst task report 6 (suc i)
+    BreaksLawFirst-heads i first = record {
+      sheet = sheet;
+      spelled = spelled;
+      lesser = lesser_six;
+      before = λ line low. heads_at line (λ j within at. first.1 j (omega (arith, low, at)));
+      broken = λ kept. first.2 (kept.head refl i first.0 refl);
+    }
+
+    -- a sheet that keeps the six laws is lawful
+    pub IsLawful-six : KeepsLaw task sheet 6 → IsLawful task report
+    IsLawful-six six = record {
+      sheet = sheet;
+      spelled = spelled;
+      kept = λ law.
+          elim (cases_lt law 6) [
+            | inl less ↦ lesser_six law less
+            | inr more ↦
+                elim (cases_lt 6 law) [
+                  | inl past ↦ KeepsLaw-past law past
+                  | inr here ↦ (let e : 6 ≡ law = omega (arith, more, here) in subst (KeepsLaw task sheet) e six)
+                ]
+          ];
+    }

@@ -11,6 +11,8 @@ pub mod LawfulSheets
 pub mod ReportsOfRuns
 pub mod LineWords
 pub mod SheetForms
+pub mod FrontLaws
+pub mod FormBreaks
 pub mod SameSheets
 pub mod OneVerdict
 pub mod BrokenLines
@@ -24,3 +26,6 @@ pub mod LineParts
 pub mod CountParts
 pub mod MarkParts
 pub mod HangingNodes
+pub mod HeadBreaks
+pub mod ListedNodes
+pub mod SheetLines

@@ -15,25 +15,26 @@ use Rattle.plan_model.specs.declared.records.Record.{Record}
 use Rattle.plan_model.specs.declared.trees.Knot.{Knot}
 use Rattle.plan_model.specs.Geometry.Bounds.{IsBounded}
 use Rattle.plan_model.specs.Runs.Textbook.{unplaced_record}
-use Rattle.plan_model.specs.Trees.PointsByNumber.{point_at}
+use Rattle.plan_model.specs.Trees.PointsByNumber.{IsPresent, point_at}
 use Rattle.plan_model.proofs.CountsBelow.{range-more}
 use Rattle.plan_model.proofs.NewNodes.{node_count-some}
 use Rattle.step_core.proofs.PackedLists.{node_count-lists}
 use Rattle.step_core.proofs.PackedStates.{IsKnot-at, point_at-lists}
 use Rattle.path_tools.specs.ReportForms.{nodes_said, counts_place, nodes_to_come, MayFollow, MayStandNext, AreBegun, AreAll}
-use Rattle.path_tools.specs.ReportLines.{Tally, ReportLine, Extent, FitsTally, FitsLine}
+use Rattle.step_core.specs.PackedRuns.{IsKnot}
+use Rattle.path_tools.specs.ReportLines.{Tally, ReportLine, Extent, FitsTally, FitsKnot, FitsEntry, FitsLine}
 use Rattle.path_tools.specs.ReportLines.ReportLine.{NoPath, PathOf, PathPoint, Counts, NodeLine, MarkLine}
 use Rattle.path_tools.specs.ReportSheets.{PricedPath, Sheet, path_lines, head_lines, line_of_knot, line_of_record, lines_of_knots, lines_of_records}
 use Rattle.path_tools.specs.ReportSheets.{lines_of_sheet, FitsOptionalPath, HasForm, state_of_sheet}
 
 -- ---- lists
 
-slice_get-left : {A : Type 0} → (xs ys : List A) (i : ℕ) → i < length xs → slice_get (xs ++ ys) i ≡ slice_get xs i
+pub slice_get-left : {A : Type 0} → (xs ys : List A) (i : ℕ) → i < length xs → slice_get (xs ++ ys) i ≡ slice_get xs i
 slice_get-left [] ys i h = absurd (omega (arith, h))
 slice_get-left (x ∷ xs) ys zero h = refl
 slice_get-left (x ∷ xs) ys (suc i) h = slice_get-left xs ys i (omega (arith, h))
 
-slice_get-seam : {A : Type 0} → (xs : List A) (y : A) (ys : List A) → slice_get (xs ++ y ∷ ys) (length xs) ≡ Some y
+pub slice_get-seam : {A : Type 0} → (xs : List A) (y : A) (ys : List A) → slice_get (xs ++ y ∷ ys) (length xs) ≡ Some y
 slice_get-seam [] y ys = refl
 slice_get-seam (x ∷ xs) y ys = slice_get-seam xs y ys
 
@@ -50,10 +51,10 @@ flat_map-more f n =
 
 -- ---- one line more
 
-AreBegun-none : (extent : Extent) → AreBegun extent []
+pub AreBegun-none : (extent : Extent) → AreBegun extent []
 AreBegun-none extent = λ i own is. absurd (omega (arith, slice_get_within [] i own is))
 
-AreBegun-push : (extent : Extent) (lines : List ReportLine) (next : ReportLine) → AreBegun extent lines → MayStandNext lines next → FitsLine extent next
+pub AreBegun-push : (extent : Extent) (lines : List ReportLine) (next : ReportLine) → AreBegun extent lines → MayStandNext lines next → FitsLine extent next
     → AreBegun extent (lines ++ next ∷ [])
 AreBegun-push extent lines next begun stands fits = λ i own is. by_place i own is
   where
@@ -93,12 +94,12 @@ module _ (path : Option PricedPath) (tally : Tally) (more : List ReportLine) whe
       ∙ ap (λ lines. nodes_said (slice_get lines (length (path_lines path)))) (append_assoc (path_lines path) (Counts tally ∷ []) more)
       ∙ ap nodes_said (slice_get-seam (path_lines path) (Counts tally) more)
 
-length-head_lines : (path : Option PricedPath) (tally : Tally) → length (head_lines path tally) ≡ suc (length (path_lines path))
+pub length-head_lines : (path : Option PricedPath) (tally : Tally) → length (head_lines path tally) ≡ suc (length (path_lines path))
 length-head_lines path tally = omega (arith, length-append (path_lines path) (Counts tally ∷ []))
 
--- the points of the path stand after its line
-points_begun :
-    (extent : Extent) (count cost : ℕ) (done rest : List Point) → length done + length rest ≡ count
+-- points of the path stand after its line, as many as it says at most
+pub points_begun :
+    (extent : Extent) (count cost : ℕ) (done rest : List Point) → length done + length rest ≤ count
     → ((k : ℕ) (d : Point) → k < length rest → IsBounded (get_or rest k d))
     → AreBegun extent (PathOf count cost ∷ map PathPoint done) → AreBegun extent (PathOf count cost ∷ map PathPoint (done ++ rest))
 points_begun extent count cost done [] long bounded begun =
@@ -115,21 +116,21 @@ points_begun extent count cost done (p ∷ rest) long bounded begun =
     (λ k d below. bounded (suc k) d (omega (arith, below))) next in
     subst (λ points. AreBegun extent (PathOf count cost ∷ map PathPoint points)) (append_assoc done (p ∷ []) rest) further
 
-path_begun : (extent : Extent) (path : Option PricedPath) → FitsOptionalPath path → AreBegun extent (path_lines path)
+pub path_begun : (extent : Extent) (path : Option PricedPath) → FitsOptionalPath path → AreBegun extent (path_lines path)
 path_begun extent None fits = AreBegun-push extent [] NoPath (AreBegun-none extent) refl tt
 path_begun extent (Some path) fits =
     points_begun extent (length path.points) path.cost [] path.points (omega arith) fits.points
     (AreBegun-push extent [] (PathOf (length path.points) path.cost) (AreBegun-none extent) refl (fits.few, fits.cost))
 
-some_path_lines : (path : Option PricedPath) → 0 < length (path_lines path)
+pub some_path_lines : (path : Option PricedPath) → 0 < length (path_lines path)
 some_path_lines None = omega arith
 some_path_lines (Some path) = omega arith
 
-own_place : (path : Option PricedPath) → length (path_lines path) ≡ counts_place (path_lines path)
+pub own_place : (path : Option PricedPath) → length (path_lines path) ≡ counts_place (path_lines path)
 own_place None = refl
 own_place (Some path) = ap suc (length-map path.points PathPoint)
 
-head_begun : (extent : Extent) (path : Option PricedPath) (tally : Tally) → FitsOptionalPath path → FitsTally extent.informed tally
+pub head_begun : (extent : Extent) (path : Option PricedPath) (tally : Tally) → FitsOptionalPath path → FitsTally extent.informed tally
     → AreBegun extent (head_lines path tally)
 head_begun extent path tally fits counts =
     AreBegun-push extent (path_lines path) (Counts tally) (path_begun extent path fits) (some_path_lines path, own_place path) counts
@@ -159,45 +160,54 @@ length-line_of_knot : (n : ℕ) (o : Option Knot) → length (line_of_knot n o) 
 length-line_of_knot n None = refl
 length-line_of_knot n (Some knot) = refl
 
-module _ (extent : Extent) (sheet : Sheet) (form : HasForm extent sheet) where
-  abbrev head : List ReportLine
-  head = head_lines sheet.path sheet.tally
-
+module _ (knots : List (Option Knot)) where
   -- the lines of the nodes below a number
   abbrev lines_below : ℕ → List ReportLine
-  lines_below m = flat_map (λ n. line_of_knot n (slice_index_or sheet.knots n None)) (range_with_len 0 m)
+  lines_below m = flat_map (λ n. line_of_knot n (slice_index_or knots n None)) (range_with_len 0 m)
 
-  below-more : (m : ℕ) → lines_below (suc m) ≡ lines_below m ++ line_of_knot m (slice_index_or sheet.knots m None)
-  below-more m = flat_map-more (λ n. line_of_knot n (slice_index_or sheet.knots n None)) m
+  below-more : (m : ℕ) → lines_below (suc m) ≡ lines_below m ++ line_of_knot m (slice_index_or knots m None)
+  below-more m = flat_map-more (λ n. line_of_knot n (slice_index_or knots n None)) m
 
   -- there are as many as nodes below the number
-  count_below : (m : ℕ) → m ≤ length sheet.knots → length (lines_below m) ≡ count_by is_some (take m sheet.knots)
+  count_below : (m : ℕ) → m ≤ length knots → length (lines_below m) ≡ count_by is_some (take m knots)
   count_below zero low = refl
   count_below (suc m) low =
       let next : suc m ≡ m + 1 = omega arith in
-      let nodes : take (suc m) sheet.knots ≡ take m sheet.knots ++ slice_index_or sheet.knots m None ∷ [] =
-      ap (λ n. take n sheet.knots) next ∙ take_more sheet.knots m None (omega (arith, low)) in
+      let nodes : take (suc m) knots ≡ take m knots ++ slice_index_or knots m None ∷ [] =
+      ap (λ n. take n knots) next ∙ take_more knots m None (omega (arith, low)) in
       omega (
         arith,
         ap length (below-more m),
-        length-append (lines_below m) (line_of_knot m (slice_index_or sheet.knots m None)),
-        length-line_of_knot m (slice_index_or sheet.knots m None),
+        length-append (lines_below m) (line_of_knot m (slice_index_or knots m None)),
+        length-line_of_knot m (slice_index_or knots m None),
         count_below m (omega (arith, low)),
         ap (count_by is_some) nodes,
-        sum_by_push (λ (o : Option Knot). cond {A = ℕ} (is_some o) 1 0) (take m sheet.knots) (slice_index_or sheet.knots m None),
+        sum_by_push (λ (o : Option Knot). cond {A = ℕ} (is_some o) 1 0) (take m knots) (slice_index_or knots m None),
       )
 
-  all_nodes : count_by is_some sheet.knots ≡ sheet.tally.nodes
-  all_nodes = sym (node_count-lists sheet.knots) ∙ form.counted
+  -- and as many as nodes in all
+  pub length-lines_of_knots : length (lines_of_knots knots) ≡ count_by is_some knots
+  length-lines_of_knots = count_below (length knots) (omega arith) ∙ ap (count_by is_some) (take_all (length knots) knots (omega arith))
 
-  -- so there are as many as the counts say
-  pub length-nodes : length (lines_of_knots sheet.knots) ≡ sheet.tally.nodes
-  length-nodes =
-      count_below (length sheet.knots) (omega arith) ∙ ap (count_by is_some) (take_all (length sheet.knots) sheet.knots (omega arith)) ∙ all_nodes
+-- Lines of nodes and marks that are not all the report yet: the start is there, and no more nodes than the head says.
+pub record BeginsForm (extent : Extent) (sheet : Sheet) : Type 0 where
+  pub start : IsPresent (state_of_sheet sheet).points 0
+  pub few : count_by is_some sheet.knots ≤ sheet.tally.nodes
+  pub path_fits : FitsOptionalPath sheet.path
+  pub tally_fits : FitsTally extent.informed sheet.tally
+  pub knots_fit : (n : ℕ) (knot : Knot) → IsKnot sheet.knots n knot → FitsKnot extent.marks n knot
+  pub records_fit : (k : ℕ) (entry : Record) → slice_get sheet.records k ≡ Some entry → FitsEntry extent entry
 
-  few_below : (m : ℕ) → m ≤ length sheet.knots → length (lines_below m) ≤ sheet.tally.nodes
+module _ (extent : Extent) (sheet : Sheet) (form : BeginsForm extent sheet) where
+  abbrev head : List ReportLine
+  head = head_lines sheet.path sheet.tally
+
+  abbrev nodes_below : ℕ → List ReportLine
+  nodes_below m = lines_below sheet.knots m
+
+  few_below : (m : ℕ) → m ≤ length sheet.knots → length (nodes_below m) ≤ sheet.tally.nodes
   few_below m low =
-      omega (arith, count_below m low, all_nodes, sum_by-take-le (λ (o : Option Knot). cond {A = ℕ} (is_some o) 1 0) sheet.knots m)
+      omega (arith, count_below sheet.knots m low, form.few, sum_by-take-le (λ (o : Option Knot). cond {A = ℕ} (is_some o) 1 0) sheet.knots m)
 
   -- the first node is the start
   start_there : slice_index_or sheet.knots 0 None ≡ None → ⊥
@@ -208,12 +218,12 @@ module _ (extent : Extent) (sheet : Sheet) (form : HasForm extent sheet) where
 
   -- the lines up to those of the nodes below a number stand where they may, and the next number may follow
   record IsNodesBegun (m : ℕ) : Type 0 where
-    begun : AreBegun extent (head ++ lines_below m)
-    last : MayFollow m (last_of (head ++ lines_below m))
+    begun : AreBegun extent (head ++ nodes_below m)
+    last : MayFollow m (last_of (head ++ nodes_below m))
 
   nodes_none : IsNodesBegun 0
   nodes_none =
-      let same : head ++ lines_below 0 ≡ head = append-nil head in
+      let same : head ++ nodes_below 0 ≡ head = append-nil head in
       record {
         begun = subst (AreBegun extent) (sym same) (head_begun extent sheet.path sheet.tally form.path_fits form.tally_fits);
         last = subst (MayFollow 0) (sym (ap last_of same ∙ last_of-pushed (path_lines sheet.path) (Counts sheet.tally))) refl;
@@ -221,12 +231,12 @@ module _ (extent : Extent) (sheet : Sheet) (form : HasForm extent sheet) where
 
   nodes_absent : (m : ℕ) → slice_index_or sheet.knots m None ≡ None → IsNodesBegun m → IsNodesBegun (suc m)
   nodes_absent m none before =
-      let more : lines_below (suc m) ≡ lines_below m =
-      below-more m ∙ ap (λ o. lines_below m ++ line_of_knot m o) none ∙ append-nil (lines_below m) in
-      let same : head ++ lines_below m ≡ head ++ lines_below (suc m) = ap (λ lines. head ++ lines) (sym more) in
+      let more : nodes_below (suc m) ≡ nodes_below m =
+      below-more sheet.knots m ∙ ap (λ o. nodes_below m ++ line_of_knot m o) none ∙ append-nil (nodes_below m) in
+      let same : head ++ nodes_below m ≡ head ++ nodes_below (suc m) = ap (λ lines. head ++ lines) (sym more) in
       record {
         begun = subst (AreBegun extent) same before.begun;
-        last = subst (λ lines. MayFollow (suc m) (last_of lines)) same (MayFollow-more m (last_of (head ++ lines_below m)) (later m none) before.last);
+        last = subst (λ lines. MayFollow (suc m) (last_of lines)) same (MayFollow-more m (last_of (head ++ nodes_below m)) (later m none) before.last);
       }
     where
       later : (m : ℕ) → slice_index_or sheet.knots m None ≡ None → 0 < m
@@ -235,15 +245,15 @@ module _ (extent : Extent) (sheet : Sheet) (form : HasForm extent sheet) where
 
   nodes_present : (m : ℕ) (knot : Knot) → m < length sheet.knots → slice_index_or sheet.knots m None ≡ Some knot → IsNodesBegun m → IsNodesBegun (suc m)
   nodes_present m knot low some before =
-      let lines : List ReportLine = head ++ lines_below m in
-      let more : lines_below (suc m) ≡ lines_below m ++ NodeLine m knot ∷ [] = below-more m ∙ ap (λ o. lines_below m ++ line_of_knot m o) some in
-      let same : lines ++ NodeLine m knot ∷ [] ≡ head ++ lines_below (suc m) =
-      append_assoc head (lines_below m) (NodeLine m knot ∷ []) ∙ ap (λ those. head ++ those) (sym more) in
-      let place = counts_place-head sheet.path sheet.tally (lines_below m) in
-      let come = nodes_to_come-head sheet.path sheet.tally (lines_below m) in
-      let long = length-append head (lines_below m) in
+      let lines : List ReportLine = head ++ nodes_below m in
+      let more : nodes_below (suc m) ≡ nodes_below m ++ NodeLine m knot ∷ [] = below-more sheet.knots m ∙ ap (λ o. nodes_below m ++ line_of_knot m o) some in
+      let same : lines ++ NodeLine m knot ∷ [] ≡ head ++ nodes_below (suc m) =
+      append_assoc head (nodes_below m) (NodeLine m knot ∷ []) ∙ ap (λ those. head ++ those) (sym more) in
+      let place = counts_place-head sheet.path sheet.tally (nodes_below m) in
+      let come = nodes_to_come-head sheet.path sheet.tally (nodes_below m) in
+      let long = length-append head (nodes_below m) in
       let top = length-head_lines sheet.path sheet.tally in
-      let count = length-append (lines_below m) (NodeLine m knot ∷ []) in
+      let count = length-append (nodes_below m) (NodeLine m knot ∷ []) in
       let few = few_below (suc m) (omega (arith, low)) in
       let stands : MayStandNext lines (NodeLine m knot) =
       (omega (arith, place, long, top), omega (arith, place, come, long, top, few, ap length more, count), before.last) in
@@ -262,89 +272,134 @@ module _ (extent : Extent) (sheet : Sheet) (form : HasForm extent sheet) where
   nodes_begun zero low = nodes_none
   nodes_begun (suc m) low = nodes_next m (omega (arith, low)) (slice_index_or sheet.knots m None) refl (nodes_begun m (omega (arith, low)))
 
+  -- The lines of the head and of the nodes stand where they may.
+  pub AreBegun-nodes : AreBegun extent (head ++ lines_of_knots sheet.knots)
+  AreBegun-nodes = (nodes_begun (length sheet.knots) (omega arith)).begun
+
   -- ---- marks
 
-  abbrev before_marks : List ReportLine
-  before_marks = head ++ lines_of_knots sheet.knots
+  -- once there are as many nodes as the head says
+  module _ (full : count_by is_some sheet.knots ≡ sheet.tally.nodes) (within : length sheet.records ≤ extent.marks) where
+    abbrev before_marks : List ReportLine
+    before_marks = head ++ lines_of_knots sheet.knots
 
-  abbrev marks_below : ℕ → List ReportLine
-  marks_below k = flat_map (λ j. line_of_record j (slice_get sheet.records j)) (range_with_len 0 k)
+    abbrev marks_below : ℕ → List ReportLine
+    marks_below k = flat_map (λ j. line_of_record j (slice_get sheet.records j)) (range_with_len 0 k)
 
-  -- the lines up to those of the marks below a number stand where they may
-  record IsMarksBegun (k : ℕ) : Type 0 where
-    begun : AreBegun extent (before_marks ++ marks_below k)
-    long : length (marks_below k) ≡ k
+    -- the lines up to those of the marks below a number stand where they may
+    record IsMarksBegun (k : ℕ) : Type 0 where
+      begun : AreBegun extent (before_marks ++ marks_below k)
+      long : length (marks_below k) ≡ k
 
-  long_before : (more : List ReportLine) → length (before_marks ++ more) ≡ suc (length (path_lines sheet.path)) + sheet.tally.nodes + length more
-  long_before more =
-      omega (
-        arith,
-        length-append before_marks more,
-        length-append head (lines_of_knots sheet.knots),
-        length-head_lines sheet.path sheet.tally,
-        length-nodes,
-      )
+    long_before : (more : List ReportLine) → length (before_marks ++ more) ≡ suc (length (path_lines sheet.path)) + sheet.tally.nodes + length more
+    long_before more =
+        omega (
+          arith,
+          length-append before_marks more,
+          length-append head (lines_of_knots sheet.knots),
+          length-head_lines sheet.path sheet.tally,
+          length-lines_of_knots sheet.knots,
+          full,
+        )
 
-  place_before : (more : List ReportLine) → counts_place (before_marks ++ more) ≡ length (path_lines sheet.path)
-  place_before more =
-      ap counts_place (append_assoc head (lines_of_knots sheet.knots) more)
-      ∙ counts_place-head sheet.path sheet.tally (lines_of_knots sheet.knots ++ more)
+    place_before : (more : List ReportLine) → counts_place (before_marks ++ more) ≡ length (path_lines sheet.path)
+    place_before more =
+        ap counts_place (append_assoc head (lines_of_knots sheet.knots) more)
+        ∙ counts_place-head sheet.path sheet.tally (lines_of_knots sheet.knots ++ more)
 
-  come_before : (more : List ReportLine) → nodes_to_come (before_marks ++ more) ≡ sheet.tally.nodes
-  come_before more =
-      ap nodes_to_come (append_assoc head (lines_of_knots sheet.knots) more)
-      ∙ nodes_to_come-head sheet.path sheet.tally (lines_of_knots sheet.knots ++ more)
+    come_before : (more : List ReportLine) → nodes_to_come (before_marks ++ more) ≡ sheet.tally.nodes
+    come_before more =
+        ap nodes_to_come (append_assoc head (lines_of_knots sheet.knots) more)
+        ∙ nodes_to_come-head sheet.path sheet.tally (lines_of_knots sheet.knots ++ more)
 
-  some_nodes : 0 < sheet.tally.nodes
-  some_nodes = omega (arith, form.counted, node_count-some (state_of_sheet sheet).points 0 form.start)
+    pub some_nodes : 0 < sheet.tally.nodes
+    some_nodes = omega (arith, full, node_count-lists sheet.knots, node_count-some (state_of_sheet sheet).points 0 form.start)
 
-  marks_none : IsMarksBegun 0
-  marks_none = record {
-    begun = subst (AreBegun extent) (sym (append-nil before_marks)) (nodes_begun (length sheet.knots) (omega arith)).begun;
-    long = refl;
+    marks_none : IsMarksBegun 0
+    marks_none = record {
+      begun = subst (AreBegun extent) (sym (append-nil before_marks)) AreBegun-nodes;
+      long = refl;
+    }
+
+    marks_next : (k : ℕ) → k < length sheet.records → (o : Option Record) → slice_get sheet.records k ≡ o → IsMarksBegun k → IsMarksBegun (suc k)
+    marks_next k low None e before = absurd (record_there sheet.records k low e)
+    marks_next k low (Some entry) e before =
+        let lines : List ReportLine = before_marks ++ marks_below k in
+        let more : marks_below (suc k) ≡ marks_below k ++ MarkLine k entry ∷ [] =
+        flat_map-more (λ j. line_of_record j (slice_get sheet.records j)) k ∙ ap (λ o. marks_below k ++ line_of_record k o) e in
+        let same : lines ++ MarkLine k entry ∷ [] ≡ before_marks ++ marks_below (suc k) =
+        append_assoc before_marks (marks_below k) (MarkLine k entry ∷ []) ∙ ap (λ those. before_marks ++ those) (sym more) in
+        let place = place_before (marks_below k) in
+        let come = come_before (marks_below k) in
+        let long = long_before (marks_below k) in
+        let own = before.long in
+        let stands : MayStandNext lines (MarkLine k entry) = (omega (arith, come, some_nodes), omega (arith, place, come, long, own)) in
+        let inside : k < extent.marks = omega (arith, low, within) in
+        record {
+          begun = subst (AreBegun extent) same (AreBegun-push extent lines (MarkLine k entry) before.begun stands (inside, form.records_fit k entry e));
+          long = omega (arith, ap length more, length-append (marks_below k) (MarkLine k entry ∷ []), own);
+        }
+
+    marks_begun : (k : ℕ) → k ≤ length sheet.records → IsMarksBegun k
+    marks_begun zero low = marks_none
+    marks_begun (suc k) low = marks_next k (omega (arith, low)) (slice_get sheet.records k) refl (marks_begun k (omega (arith, low)))
+
+    all_marks_begun : IsMarksBegun (length sheet.records)
+    all_marks_begun = marks_begun (length sheet.records) (omega arith)
+
+    -- The lines of the head, the nodes and the marks so far stand where they may,
+    pub AreBegun-marks : AreBegun extent (lines_of_sheet sheet)
+    AreBegun-marks = all_marks_begun.begun
+
+    -- the line of counts is where it was,
+    pub place-marks : counts_place (lines_of_sheet sheet) ≡ length (path_lines sheet.path)
+    place-marks = place_before (lines_of_records sheet.records)
+
+    -- says how many nodes there are,
+    pub come-marks : nodes_to_come (lines_of_sheet sheet) ≡ sheet.tally.nodes
+    come-marks = come_before (lines_of_records sheet.records)
+
+    -- and there is a line for each mark so far.
+    pub long-marks : length (lines_of_sheet sheet) ≡ suc (length (path_lines sheet.path)) + sheet.tally.nodes + length sheet.records
+    long-marks = omega (arith, long_before (lines_of_records sheet.records), all_marks_begun.long)
+
+-- ---- all lines
+
+module _ (extent : Extent) (sheet : Sheet) (form : HasForm extent sheet) where
+  all_nodes : count_by is_some sheet.knots ≡ sheet.tally.nodes
+  all_nodes = sym (node_count-lists sheet.knots) ∙ form.counted
+
+  -- there are as many lines of nodes as the counts say
+  pub length-nodes : length (lines_of_knots sheet.knots) ≡ sheet.tally.nodes
+  length-nodes = length-lines_of_knots sheet.knots ∙ all_nodes
+
+  begins : BeginsForm extent sheet
+  begins = record {
+    start = form.start;
+    few = omega (arith, all_nodes);
+    path_fits = form.path_fits;
+    tally_fits = form.tally_fits;
+    knots_fit = form.knots_fit;
+    records_fit = form.records_fit;
   }
 
-  marks_next : (k : ℕ) → k < length sheet.records → (o : Option Record) → slice_get sheet.records k ≡ o → IsMarksBegun k → IsMarksBegun (suc k)
-  marks_next k low None e before = absurd (record_there sheet.records k low e)
-  marks_next k low (Some entry) e before =
-      let lines : List ReportLine = before_marks ++ marks_below k in
-      let more : marks_below (suc k) ≡ marks_below k ++ MarkLine k entry ∷ [] =
-      flat_map-more (λ j. line_of_record j (slice_get sheet.records j)) k ∙ ap (λ o. marks_below k ++ line_of_record k o) e in
-      let same : lines ++ MarkLine k entry ∷ [] ≡ before_marks ++ marks_below (suc k) =
-      append_assoc before_marks (marks_below k) (MarkLine k entry ∷ []) ∙ ap (λ those. before_marks ++ those) (sym more) in
-      let place = place_before (marks_below k) in
-      let come = come_before (marks_below k) in
-      let long = long_before (marks_below k) in
-      let own = before.long in
-      let stands : MayStandNext lines (MarkLine k entry) = (omega (arith, come, some_nodes), omega (arith, place, come, long, own)) in
-      let within : k < extent.marks = omega (arith, low, form.all_marks) in
-      record {
-        begun = subst (AreBegun extent) same (AreBegun-push extent lines (MarkLine k entry) before.begun stands (within, form.records_fit k entry e));
-        long = omega (arith, ap length more, length-append (marks_below k) (MarkLine k entry ∷ []), own);
-      }
-
-  marks_begun : (k : ℕ) → k ≤ length sheet.records → IsMarksBegun k
-  marks_begun zero low = marks_none
-  marks_begun (suc k) low = marks_next k (omega (arith, low)) (slice_get sheet.records k) refl (marks_begun k (omega (arith, low)))
-
-  all_marks_begun : IsMarksBegun (length sheet.records)
-  all_marks_begun = marks_begun (length sheet.records) (omega arith)
+  all_marks : length sheet.records ≤ extent.marks
+  all_marks = omega (arith, form.all_marks)
 
   -- The lines stand where they may,
   pub AreBegun-sheet : AreBegun extent (lines_of_sheet sheet)
-  AreBegun-sheet = all_marks_begun.begun
+  AreBegun-sheet = AreBegun-marks extent sheet begins all_nodes all_marks
 
   -- and are all of the report.
   pub AreAll-sheet : AreAll extent (lines_of_sheet sheet)
   AreAll-sheet = record {
-    some = omega (arith, come_before (lines_of_records sheet.records), some_nodes);
+    some = omega (arith, come-marks extent sheet begins all_nodes all_marks, some_nodes extent sheet begins all_nodes all_marks);
     long =
         omega (
           arith,
-          long_before (lines_of_records sheet.records),
-          place_before (lines_of_records sheet.records),
-          come_before (lines_of_records sheet.records),
-          all_marks_begun.long,
+          long-marks extent sheet begins all_nodes all_marks,
+          place-marks extent sheet begins all_nodes all_marks,
+          come-marks extent sheet begins all_nodes all_marks,
           form.all_marks,
         );
   }

@@ -1,5 +1,6 @@
 -- The first number that breaks a law.
 use Rattle.std.specs.Prelude.{◌≡◌, ◌≢◌, ℕ, suc, ◌+◌, ◌*◌, ◌<◌, ◌^◌, min, is_some, Option, Some, None, List, length, slice_get, slice_index_or}
+use Rattle.plan_model.specs.declared.geometry.Point.{Point}
 use Rattle.plan_model.specs.declared.records.Record.{Record}
 use Rattle.plan_model.specs.declared.trees.Knot.{Knot}
 use Rattle.plan_model.specs.Runs.Outcomes.{is_placed}
@@ -7,6 +8,8 @@ use Rattle.plan_model.specs.Runs.Textbook.{Setup}
 use Rattle.plan_model.specs.Runs.Turns.{turns_of}
 use Rattle.plan_model.specs.Trees.PointsByNumber.{IsPresent, point_at}
 use Rattle.step_core.specs.PackedRuns.{state_of_lists}
+use Rattle.path_tools.specs.ReportLines.{Tally}
+use Rattle.path_tools.specs.ReportSheets.{PricedPath, head_lines}
 use Rattle.path_tools.specs.SheetLaws.{HasOwnTurn, KeepsNodeLaw}
 
 -- the first of the numbers below a limit that breaks a law; none if each of them keeps it
@@ -61,3 +64,13 @@ KeepsNode setup knots records n = IsPresent (state_of_lists knots records).point
 abbrev pub KeepsPresence : List (Option Knot) → List Record → ℕ → Type 0
 KeepsPresence knots records k = (entry : Record) → slice_get records k ≡ Some entry
     → is_some (point_at (state_of_lists knots records).points (suc k)) ≡ is_placed entry.outcome
+
+-- ---- the head
+
+-- line i of the head is the one of the own head
+abbrev pub KeepsHead : Option PricedPath → Tally → Option PricedPath → Tally → ℕ → Type 0
+KeepsHead path tally own counts i = slice_get (head_lines path tally) i ≡ slice_get (head_lines own counts) i
+
+-- point i of a path is the one of the own path
+abbrev pub KeepsPoint : List Point → List Point → ℕ → Type 0
+KeepsPoint points own i = slice_get points i ≡ slice_get own i

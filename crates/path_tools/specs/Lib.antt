@@ -3,8 +3,11 @@ pub mod Rests
 pub mod SmoothedReports
 pub mod ExactEdges
 pub mod FirstBreaks
+pub mod FrontLines
 pub mod ReportLines
 pub mod ReportSheets
 pub mod ReportForms
+pub mod SheetsRead
 pub mod SheetLaws
 pub mod Verdicts
+pub mod ListedTrees

@@ -3,11 +3,14 @@
 //! [`smooth`] takes a path over those of its points that make it cheapest.
 #![tactic(auto)]
 
+mod best_paths;
 mod count_readers;
 mod exact_edges;
 mod fields;
 mod first_breaks;
+mod front_lines;
 mod hanging;
+mod heads;
 mod line_readers;
 mod mark_fields;
 mod mark_readers;
@@ -17,6 +20,7 @@ mod presence;
 mod repeats;
 pub mod report_laws;
 mod rests;
+mod sheets;
 mod smoothed_reports;
 mod smoothing;
 pub mod smoothing_laws;

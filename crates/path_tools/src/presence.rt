@@ -20,8 +20,8 @@ pub(crate) fn first_unlike(knots: &[Option<Knot>], records: &[Record]) -> Option
     None
 }
 
-/// Whether a node was placed for the mark.
-fn is_placed(outcome: Outcome) -> bool
+/// Whether a node was placed for the mark. O(1).
+pub(crate) fn is_placed(outcome: Outcome) -> bool
     ensures { result ≡ is_placed_outcome outcome }
 {
     matches!(outcome, Outcome::Placed)

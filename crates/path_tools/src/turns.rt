@@ -12,7 +12,7 @@ use plan_model::{Memory, Record};
 use std::alloc::Global;
 
 /// How many workers a record may name.
-const WORKERS: usize = 64;
+pub(crate) const WORKERS: usize = 64;
 
 /// The first mark whose turn is that of an earlier mark of its worker, or is not below the number of its worker's marks; `None` exactly
 /// if there is none. O(n log n) for n marks.
@@ -68,7 +68,7 @@ fn first_high_turn(records: &[Record]) -> Option<usize>
 }
 
 /// How many marks each worker has handled. O(n).
-fn marks_by_worker(records: &[Record]) -> [u32; WORKERS]
+pub(crate) fn marks_by_worker(records: &[Record]) -> [u32; WORKERS]
     requires few { length records.now ≤ MOST_MARKS }
     requires fit { (k : ℕ) (entry : Record) → slice_get records.now k ≡ Some entry → HasFewTurns entry }
     ensures { (w : ℕ) → w < 64 → slice_index_or result w 0 ≡ turns_of (slice_get records.now) (length records.now) w }

@@ -1,0 +1,48 @@
+-- Where a node of a list stands in the tree of the list.
+use Rattle.std.proofs.Common.{◌≡◌, ℕ, List, Option, Some, None, sym, ap, ◌∙◌}
+use Rattle.std.specs.Prelude.{is_some, option_map, slice_index_or}
+use Rattle.plan_model.specs.declared.geometry.Goal.{Goal}
+use Rattle.plan_model.specs.declared.geometry.Point.{Point}
+use Rattle.plan_model.specs.declared.records.Record.{Record}
+use Rattle.plan_model.specs.declared.trees.Knot.{Knot}
+use Rattle.plan_model.specs.Trees.BestNode.{is_goal_point, lies_in_goals}
+use Rattle.plan_model.specs.Trees.PointsByNumber.{IsPresent, StandsAt, point_at, point_of}
+use Rattle.plan_model.proofs.NewNodes.{IsPresent-stands, point_of-stands}
+use Rattle.step_core.specs.PackedRuns.{state_of_lists}
+use Rattle.step_core.proofs.PackedStates.{point_at-lists}
+
+-- the point of a node of the list
+abbrev point_in : Option Knot → Option Point
+point_in o = option_map (λ (knot : Knot). knot.point) o
+
+module _ (knots : List (Option Knot)) (records : List Record) (n : ℕ) where
+  abbrev points : List (Option Point)
+  points = (state_of_lists knots records).points
+
+  pub stands-listed : (knot : Knot) → slice_index_or knots n None ≡ Some knot → StandsAt points n knot.point
+  stands-listed knot e = point_at-lists knots n ∙ ap point_in e
+
+  pub present-listed : (knot : Knot) → slice_index_or knots n None ≡ Some knot → IsPresent points n
+  present-listed knot e = IsPresent-stands points n knot.point (stands-listed knot e)
+
+  pub point_of-listed : (knot : Knot) → slice_index_or knots n None ≡ Some knot → point_of points n ≡ knot.point
+  point_of-listed knot e = point_of-stands points n knot.point (stands-listed knot e)
+
+  pub same-listed : (knot : Knot) (p : Point) → slice_index_or knots n None ≡ Some knot → StandsAt points n p → knot.point ≡ p
+  same-listed knot p e stands = let both : Some knot.point ≡ Some p = sym (stands-listed knot e) ∙ stands in cc
+
+  absent-listed : slice_index_or knots n None ≡ None → point_at points n ≡ None
+  absent-listed e = point_at-lists knots n ∙ ap point_in e
+
+  pub none-stands : (p : Point) → slice_index_or knots n None ≡ None → StandsAt points n p → ⊥
+  none-stands p e stands = let gone = sym (absent-listed e) ∙ stands in cc
+
+  pub none-present : slice_index_or knots n None ≡ None → IsPresent points n → ⊥
+  none-present e here = let gone = sym here ∙ ap is_some (absent-listed e) in cc
+
+  pub goal-listed : (goals : List Goal) (knot : Knot) → slice_index_or knots n None ≡ Some knot
+      → lies_in_goals goals knot.point ≡ is_goal_point goals (point_at points n)
+  goal-listed goals knot e = ap (is_goal_point goals) (sym (stands-listed knot e))
+
+  pub goal-none : (goals : List Goal) → slice_index_or knots n None ≡ None → is_goal_point goals (point_at points n) ≡ is_goal_point goals None
+  goal-none goals e = ap (is_goal_point goals) (absent-listed e)
