@@ -1,0 +1,6 @@
+pub mod TripleOrder
+pub mod SearchedPairs
+pub mod StraightWays
+pub mod TurnedRanges
+pub mod TurnedRuns
+pub mod NumberedNodes

@@ -1,0 +1,53 @@
+-- What a scene and the scene from its other end have in common, and whole runs of either.
+use Rattle.std.proofs.Common.{◌≡◌, List, length, ap, sym, subst, ◌∙◌}
+use Rattle.plan_model.specs.Runs.ClosedLaw.{IsClosed}
+use Rattle.plan_model.specs.Runs.Textbook.{setup_of}
+use Rattle.plan_model.specs.Scenes.MarkPoints.{mark_points}
+use Rattle.plan_model.specs.Spaces.Clearance.{ClearAt}
+use Rattle.plan_model.specs.Spaces.ConfigurationSpace.{space_of}
+use Rattle.plan_model.specs.Trees.TreeStates.{IsSettled}
+use Rattle.plan_model.specs.declared.geometry.Point.{Point}
+use Rattle.plan_model.specs.declared.scenes.Scene.{Scene}
+use Rattle.plan_model.specs.declared.tasks.Task.{Task}
+use Rattle.step_core.specs.GrownRuns.{state_of_grown}
+use Rattle.step_core.specs.declared.grown.Grown.{Grown}
+use Rattle.twin_trees.specs.TurnedScenes.{IsTurnedRound, goal_middle}
+use Rattle.twin_trees.specs.Twins.{IsTwin, IsWholeRun}
+use Rattle.twin_trees.specs.declared.twin_runs.Twin.{Twin}
+
+module _ (scene turned : Scene) (h : IsTurnedRound scene turned) where
+  -- one collision checker serves both
+  pub space-turned : space_of turned ≡ space_of scene
+  space-turned = ap space_of h.is
+
+  -- so do the marks
+  pub marks-turned : mark_points turned ≡ mark_points scene
+  marks-turned = ap mark_points h.is
+
+  -- the second start is clear if the middle of the first goal is
+  pub ClearAt-turned : ClearAt (space_of scene) (goal_middle scene) → ClearAt (space_of turned) turned.start
+  ClearAt-turned clear =
+      subst (λ space. ClearAt space turned.start) (sym space-turned) (subst (ClearAt (space_of scene)) (sym (ap (λ (s : Scene). s.start) h.is)) clear)
+
+-- a settled run over all marks of a task is a whole run of its scene
+pub IsWholeRun-settled : (grown : Grown) (task : Task) → grown.task ≡ task → grown.limit ≡ length task.marks → IsSettled (state_of_grown grown)
+    → IsWholeRun task.scene grown
+IsWholeRun-settled grown task same all settled =
+    let state = state_of_grown grown in
+    let own : IsClosed (setup_of task.scene) task.marks grown.limit state =
+    subst (λ (t : Task). IsClosed (setup_of t.scene) t.marks grown.limit state) same grown.hold_run.closed in
+    let whole : IsClosed (setup_of task.scene) task.marks (length task.marks) state =
+    subst (λ limit. IsClosed (setup_of task.scene) task.marks limit state) all own in
+    record {
+      scene_is = ap (λ (t : Task). t.scene) same;
+      all_marks = all ∙ ap length task.of_scene;
+      closed = subst (λ (marks : List Point). IsClosed (setup_of task.scene) marks (length marks) state) task.of_scene whole;
+      settled = settled;
+    }
+
+-- the second run of a twin starts in the middle of the first goal, so that is clear
+pub ClearAt-middle : (scene : Scene) (twin : Twin) → IsTwin scene twin → ClearAt (space_of scene) (goal_middle scene)
+ClearAt-middle scene twin h =
+    let clear = h.from_goal.closed.order.start_clear in
+    subst (ClearAt (space_of scene)) (ap (λ (s : Scene). s.start) h.turned_round.is)
+    (subst (λ space. ClearAt space h.turned.start) (space-turned scene h.turned h.turned_round) clear)

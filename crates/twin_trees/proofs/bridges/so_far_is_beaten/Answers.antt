@@ -1,0 +1,7 @@
+use Rattle.std.proofs.Common.{subst, sym}
+use Rattle.twin_trees.specs.BridgeOrder.{IsMatched}
+use Rattle.twin_trees.proofs.bridges.so_far_is_beaten.Goals as goal
+
+pub returns-in-Some-clause-beaten : goal.returns-in-Some-clause-beaten
+returns-in-Some-clause-beaten c = λ true cost first second matched.
+    c.is_beaten.ensures.beaten true cost first second (subst (λ so_far. IsMatched so_far cost first second) c.in-Some.is matched)

@@ -1,0 +1,53 @@
+use Rattle.std.proofs.Common.{◌+◌, ◌<◌, ◌≤◌, arith, ap, sym, subst, inl, inr}
+use Rattle.std.proofs.lemmas.Bool.{cases_lt}
+use Rattle.plan_model.proofs.NewNodes.{IsPresent-stands, point_of-stands}
+use Rattle.plan_model.specs.Geometry.Cost.{cost_of}
+use Rattle.plan_model.specs.Runs.Textbook.{setup_of}
+use Rattle.plan_model.specs.Trees.PointsByNumber.{point_of}
+use Rattle.plan_model.specs.Trees.TreeStates.{sum_in}
+use Rattle.plan_model.specs.declared.tasks.Task.{Task}
+use Rattle.step_core.specs.GrownRuns.{state_of_grown, words_of_grown}
+use Rattle.step_core.specs.GrownWords.{sizes_of}
+use Rattle.step_core.proofs.GrownPoints.{IsBounded-stands}
+use Rattle.twin_trees.specs.BridgeSearches.{Matches}
+use Rattle.twin_trees.proofs.SearchedPairs.{Matches-far}
+use Rattle.twin_trees.proofs.TripleOrder.{false_of_not}
+use Rattle.twin_trees.proofs.bridging.is_too_far.Goals as goal
+
+pub costs_less_through-requires-clause-from : goal.costs_less_through-requires-clause-from
+costs_less_through-requires-clause-from c =
+    let first = c.args.first.now in
+    IsBounded-stands (sizes_of first.task) (words_of_grown first) c.args.end.number c.args.end.point c.requires.stands
+
+pub returns-in-Some : goal.returns-in-Some
+returns-in-Some c = λ far d.
+    let first = c.args.first.now in
+    let second = c.args.second.now in
+    let one = state_of_grown first in
+    let other = state_of_grown second in
+    let a = c.args.end.number in
+    let p = c.args.end.point in
+    let bridge = c.in-Some.bridge in
+    let own = setup_of second.task.scene in
+    let no = false_of_not c.costs_less_through.result far in
+    let root = ap (λ (t : Task). cost_of p t.scene.start) c.task.ensures in
+    let here = point_of-stands one.points a p c.requires.stands in
+    let present = IsPresent-stands one.points a p c.requires.stands in
+    let past : bridge.cost < sum_in one a + cost_of (point_of one.points a) own.start =
+    elim (cases_lt bridge.cost (sum_in one a + cost_of (point_of one.points a) own.start)) [
+      | inl above ↦ above
+      | inr low ↦ (
+          let less : c.cost.result + cost_of p c.task.result.now.scene.start < bridge.cost + 1 =
+          omega (
+            arith,
+            low,
+            c.cost.ensures,
+            c.requires.first a present,
+            ap (λ r. cost_of r own.start) here,
+            root,
+          ) in
+          let yes = c.costs_less_through.ensures.1 less in
+          absurd cc)
+    ] in
+    subst (λ so_far. Matches (setup_of first.task.scene) one other so_far a d) (sym c.in-Some.is)
+    (Matches-far (setup_of first.task.scene) own one other second.hold_run.closed.order bridge a past d)

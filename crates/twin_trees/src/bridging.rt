@@ -1,0 +1,168 @@
+//! The least bridge between two runs.
+//!
+//! A node of the first run is passed over if its cost-to-come and the straight line to the root of the second are above the least way so
+//! far: by the triangle law no way over the node costs less. Of the others, the nodes of the second run within a step are found by strips.
+//! A pair is compared by squares, and its segment is tested only if the way over it is better than the best so far.
+
+ghost use Rattle.std.specs.Prelude.{◌≡◌, ℕ, ◌<◌, ◌≤◌, ◌*◌, ◌^◌, IfOk, IsTrue};
+ghost use Rattle.plan_model.specs.Runs.Textbook.{setup_of};
+ghost use Rattle.plan_model.specs.Spaces.ConfigurationSpace.{space_of};
+ghost use Rattle.plan_model.specs.Trees.PointsByNumber.{StandsAt};
+ghost use Rattle.plan_model.specs.Trees.TreeStates.{IsSettled};
+ghost use Rattle.point_strips.specs.Discs.{IsWithin};
+ghost use Rattle.step_core.specs.GrownRuns.{state_of_grown};
+ghost use Rattle.twin_trees.specs.BridgeOrder.{IsNoWorse};
+ghost use Rattle.twin_trees.specs.BridgeSearches.{AreNodes, Matches, MayBeBest};
+ghost use Rattle.twin_trees.specs.Bridges.{IsBridge};
+
+use crate::bridges::{Bridge, so_far_is_beaten};
+use crate::nodes::strips_of;
+use edge_cost::{cost, costs_less_through};
+use plan_model::Memory;
+use point_strips::{Disc, Numbered, Strips};
+use std::alloc::Global;
+use step_core::Grown;
+use swept_check::Clearing;
+
+/// The bridge between two settled runs: of all pairs of a node of each with a clear segment of at most a step between them, the one over
+/// which the way costs least, of those the one with the least number in the first run, and then in the second. `None` if there is none.
+/// The step is that of the first run, for whose scene the hall stands.
+///
+/// O(n log n + k) for n nodes and k pairs within a step of each other that are not passed over.
+///
+/// # Errors
+///
+/// `Memory` if out of memory for the strips.
+pub(crate) fn least_bridge<C: Clearing>(
+    alloc: Global,
+    hall: &C,
+    first: &Grown,
+    second: &Grown,
+) -> Result<Option<(u32, u32)>, Memory>
+    requires hall { C.space hall.now ≡ space_of first.now.task.scene }
+    requires first { IsSettled (state_of_grown first.now) }
+    requires second { IsSettled (state_of_grown second.now) }
+    ensures { IfOk result (IsBridge (setup_of first.now.task.scene) (state_of_grown first.now) (state_of_grown second.now)) }
+{
+    let strips = strips_of(alloc, second)?;
+    let mut best: Option<Bridge> = None;
+    for node in 0..first.limit() + 1 {
+        best = best_over(hall, first, second, &strips, node, best);
+    }
+    match best {
+        Some(bridge) => Ok(Some((bridge.first, bridge.second))),
+        None => Ok(None),
+    }
+}
+
+/// The best of a bridge so far and of all from a node of the first run, if there is one with this number.
+fn best_over<C: Clearing>(
+    hall: &C,
+    first: &Grown,
+    second: &Grown,
+    strips: &Strips,
+    node: u32,
+    so_far: Option<Bridge>,
+) -> Option<Bridge>
+    requires hall { C.space hall.now ≡ space_of first.now.task.scene }
+    requires first { IsSettled (state_of_grown first.now) }
+    requires second { IsSettled (state_of_grown second.now) }
+    requires nodes { AreNodes (state_of_grown second.now) strips.now }
+    requires best { MayBeBest (setup_of first.now.task.scene) (state_of_grown first.now) (state_of_grown second.now) so_far }
+    ensures best { MayBeBest (setup_of first.now.task.scene) (state_of_grown first.now) (state_of_grown second.now) result }
+    ensures no_worse { IsNoWorse so_far result }
+    ensures from { (d : ℕ) → Matches (setup_of first.now.task.scene) (state_of_grown first.now) (state_of_grown second.now) result node d }
+{
+    match first.point(node) {
+        Some(point) => {
+            let end = Numbered {
+                point,
+                number: node,
+            };
+            best_from(hall, first, second, strips, end, so_far)
+        }
+        None => so_far,
+    }
+}
+
+/// The best of a bridge so far and of all from a node of the first run.
+fn best_from<C: Clearing>(
+    hall: &C,
+    first: &Grown,
+    second: &Grown,
+    strips: &Strips,
+    end: Numbered,
+    so_far: Option<Bridge>,
+) -> Option<Bridge>
+    requires hall { C.space hall.now ≡ space_of first.now.task.scene }
+    requires first { IsSettled (state_of_grown first.now) }
+    requires second { IsSettled (state_of_grown second.now) }
+    requires nodes { AreNodes (state_of_grown second.now) strips.now }
+    requires stands { StandsAt (state_of_grown first.now).points end.number end.point }
+    requires best { MayBeBest (setup_of first.now.task.scene) (state_of_grown first.now) (state_of_grown second.now) so_far }
+    ensures best { MayBeBest (setup_of first.now.task.scene) (state_of_grown first.now) (state_of_grown second.now) result }
+    ensures no_worse { IsNoWorse so_far result }
+    ensures from { (d : ℕ) → Matches (setup_of first.now.task.scene) (state_of_grown first.now) (state_of_grown second.now) result end.number d }
+{
+    if is_too_far(first, second, end, so_far) {
+        return so_far;
+    }
+    let disc = Disc::of_radius(end.point, first.task().scene.step);
+    let mut best = so_far;
+    let mut at = 0;
+    'walk: while let Some(found) = strips.next_within(at, disc) {
+        best = better(hall, first, second, end, strips.at(found), best);
+        at = found + 1;
+    }
+    best
+}
+
+/// Whether each way over a node of the first run costs more than a bridge so far: its cost-to-come and the straight line to the root of
+/// the second run do.
+fn is_too_far(first: &Grown, second: &Grown, end: Numbered, so_far: Option<Bridge>) -> bool
+    requires first { IsSettled (state_of_grown first.now) }
+    requires second { IsSettled (state_of_grown second.now) }
+    requires stands { StandsAt (state_of_grown first.now).points end.number end.point }
+    requires best { MayBeBest (setup_of first.now.task.scene) (state_of_grown first.now) (state_of_grown second.now) so_far }
+    ensures { IsTrue result → (d : ℕ)
+        → Matches (setup_of first.now.task.scene) (state_of_grown first.now) (state_of_grown second.now) so_far end.number d }
+{
+    match so_far {
+        Some(bridge) => {
+            let root = second.task().scene.start;
+            !costs_less_through(first.cost(end.number), end.point, root, bridge.cost + 1)
+        }
+        None => false,
+    }
+}
+
+/// The better one of a bridge so far and that of two nodes within a step of each other, if that is one. The segment is tested last.
+fn better<C: Clearing>(
+    hall: &C,
+    first: &Grown,
+    second: &Grown,
+    end: Numbered,
+    other: Numbered,
+    so_far: Option<Bridge>,
+) -> Option<Bridge>
+    requires hall { C.space hall.now ≡ space_of first.now.task.scene }
+    requires first { IsSettled (state_of_grown first.now) }
+    requires second { IsSettled (state_of_grown second.now) }
+    requires end { StandsAt (state_of_grown first.now).points end.number end.point }
+    requires other { StandsAt (state_of_grown second.now).points other.number other.point }
+    requires within { IsWithin end.point (first.now.task.scene.step * first.now.task.scene.step) other.point }
+    requires best { MayBeBest (setup_of first.now.task.scene) (state_of_grown first.now) (state_of_grown second.now) so_far }
+    ensures best { MayBeBest (setup_of first.now.task.scene) (state_of_grown first.now) (state_of_grown second.now) result }
+    ensures no_worse { IsNoWorse so_far result }
+    ensures pair { Matches (setup_of first.now.task.scene) (state_of_grown first.now) (state_of_grown second.now) result end.number other.number }
+{
+    let come = first.cost(end.number) + second.cost(other.number);
+    if !so_far_is_beaten(so_far, come, end, other) || !hall.clear(end.point, other.point) {
+        return so_far;
+    }
+    Some(Bridge {
+        cost: come + cost(end.point, other.point),
+        first: end.number,
+        second: other.number,
+    })
+}

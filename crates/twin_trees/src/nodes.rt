@@ -1,0 +1,33 @@
+//! The nodes of a run as numbered points, in strips.
+
+ghost use Rattle.std.specs.Prelude.{All, IfOk};
+ghost use Rattle.plan_model.specs.Geometry.Bounds.{IsBounded};
+ghost use Rattle.step_core.specs.GrownRuns.{state_of_grown};
+ghost use Rattle.twin_trees.specs.BridgeSearches.{AreNodes};
+
+use plan_model::Memory;
+use point_strips::{Numbered, Strips};
+use std::alloc::Global;
+use step_core::Grown;
+
+/// The nodes that are present, in strips. O(n log n).
+pub(crate) fn strips_of(alloc: Global, grown: &Grown) -> Result<Strips, Memory>
+    ensures { IfOk result (AreNodes (state_of_grown grown.now)) }
+{
+    let nodes = nodes_of(alloc, grown)?;
+    Ok(Strips::new(nodes))
+}
+
+/// The nodes that are present, by number. O(n).
+fn nodes_of(alloc: Global, grown: &Grown) -> Result<Vec<Numbered>, Memory>
+    ensures nodes { IfOk result (λ nodes. AreNodes (state_of_grown grown.now) nodes.items) }
+    ensures bounded { IfOk result (λ nodes. All (λ n. IsBounded n.point) nodes.items) }
+{
+    let mut nodes = Vec::with_capacity(alloc, grown.count() as usize)?;
+    for number in 0..grown.limit() + 1 {
+        if let Some(point) = grown.point(number) {
+            nodes.push(Numbered { point, number })?;
+        }
+    }
+    Ok(nodes)
+}
