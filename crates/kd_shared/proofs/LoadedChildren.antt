@@ -14,6 +14,7 @@ use Rattle.plan_words.specs.declared.spots.Spot.{Spot}
 use Rattle.step_core.specs.GrownWords.{child_of_word}
 use Rattle.step_core.specs.ViewTrees.{SeesNode}
 use Rattle.step_core.specs.Views.{tree_seen}
+use Rattle.step_core.specs.Words.{point_in}
 use Rattle.step_core.specs.declared.views.View.{View}
 
 -- the child that was loaded is seen, and so is node 0
@@ -46,16 +47,16 @@ module _ (before mid after : Sight) (keeps : KeepsSight before) where
         | inr apart ↦ load.others n apart ∙ points n
       ]
 
-  module _ (spots put : List Spot) (spot : Spot) (side : Bool) (child chosen : ℕ) (p : Point)
-      (load : LoadsChild before mid spot.node side (child_of_word child)) (point : LoadsPoint mid after chosen p) where
+  module _ (spots put : List Spot) (spot : Spot) (side : Bool) (child chosen word : ℕ)
+      (load : LoadsChild before mid spot.node side (child_of_word child)) (point : LoadsPoint mid after chosen (point_in word)) where
     abbrev here : Spot
-    here = record { node = chosen; by_rows = not spot.by_rows; point = p }
+    here = record { node = chosen; by_rows = not spot.by_rows; word = word }
 
     later_then : IsLaterMoment before after
     later_then = IsLaterMoment-trans before mid after load.later point.later
 
     keeps_points : chosen ≡ 0 → KeepsPoints before after
-    keeps_points none = KeepsPoints-start p load.points load.later (subst (λ n. LoadsPoint mid after n p) none point)
+    keeps_points none = KeepsPoints-start (point_in word) load.points load.later (subst (λ n. LoadsPoint mid after n (point_in word)) none point)
 
     -- there is none, or one that waits now,
     queues_found : (number : ℕ) → chosen ≡ number → child ≡ number → put ≡ (if not (number == 0) then spots ++ here ∷ [] else spots)

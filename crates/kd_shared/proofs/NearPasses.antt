@@ -5,7 +5,7 @@ use Rattle.plan_model.specs.declared.geometry.Point.{Point}
 use Rattle.plan_model.specs.Geometry.Bounds.{IsBounded}
 use Rattle.plan_model.specs.Geometry.Plane.{squared_distance}
 use Rattle.plan_model.specs.Seen.Sights.{KeepsSight}
-use Rattle.plan_words.specs.SearchLists.{SearchLists}
+use Rattle.plan_words.specs.SearchLists.{SearchLists, point_of_spot}
 use Rattle.plan_words.specs.States.{BelongsTo, PassState, SharedState}
 use Rattle.plan_words.specs.declared.spots.Found.{Found}
 use Rattle.plan_words.specs.declared.spots.Spot.{Spot}
@@ -48,7 +48,7 @@ KeepsLists-looks shared entry first passes = record {
 
 -- The start is loaded, and waits alone.
 pub IsGatheringPass-begins : (shared : SharedState) (entry first now : PassState) (p : Point) (r : ℕ) (spot : Spot)
-    → PassLooks shared entry first → LoadsPoint (sight_in entry.view) (sight_in first.view) 0 spot.point
+    → PassLooks shared entry first → LoadsPoint (sight_in entry.view) (sight_in first.view) 0 (point_of_spot spot)
     → now ≡ searched first first.view (record { spots = spot ∷ []; taken = 0; found = [] }) → spot.node ≡ 0 → spot.by_rows ≡ false
     → IsGatheringPass shared entry now p r
 IsGatheringPass-begins shared entry first now p r spot passes load is node by_rows =
@@ -93,9 +93,9 @@ module _ (shared : SharedState) (entry now : PassState) (p : Point) (r : ℕ) (h
 
   -- the first spot is taken
   module _ (spot : Spot) (rest : List Spot) (is : now.lists.search.spots ≡ spot ∷ rest) where
-    pub spot_bounded : IsBounded spot.point
+    pub spot_bounded : IsBounded (point_of_spot spot)
     spot_bounded =
-        IsBounded-seen now.view spot.node spot.point
+        IsBounded-seen now.view spot.node (point_of_spot spot)
         (IsGathering-stands (sight_in entry.view) (sight_in now.view) p r now.lists.search.spots now.lists.search.found now.lists.search.taken h.gathers
         spot rest is)
 
@@ -112,7 +112,7 @@ module _ (shared : SharedState) (entry now : PassState) (p : Point) (r : ℕ) (h
     module _
         (noted : PassState) (visits : ℕ) (found : List Found) (more : visits ≡ suc now.lists.search.taken)
         (same : noted ≡ searched now now.view (record { spots = rest; taken = visits; found = found }))
-        (notes : Notes now.lists.search.found found spot (squared_distance spot.point p) (r * r)) where
+        (notes : Notes now.lists.search.found found spot (squared_distance (point_of_spot spot) p) (r * r)) where
       noted_looks : OnlyLooks entry.view noted.view
       noted_looks = subst (λ (s : PassState). OnlyLooks entry.view s.view) (sym same) h.looks
 
@@ -136,7 +136,7 @@ module _ (shared : SharedState) (entry now : PassState) (p : Point) (r : ℕ) (h
       module _
           (half : PassState) (right first_within : Bool) (first_looks : OnlyLooks noted.view half.view)
           (half_is : half ≡ searched noted half.view (record noted.lists.search { spots = half.lists.search.spots }))
-          (first_is : IsFalse first_within → r < side_distance spot.by_rows spot.point p (not right))
+          (first_is : IsFalse first_within → r < side_distance spot.by_rows (point_of_spot spot) p (not right))
           (first_side : QueuesWithin (sight_in noted.view) (sight_in half.view) noted.lists.search.spots half.lists.search.spots spot (not right)
           first_within) where
         first_here : QueuesWithin (sight_in now.view) (sight_in half.view) rest half.lists.search.spots spot (not right) first_within
@@ -165,7 +165,7 @@ module _ (shared : SharedState) (entry now : PassState) (p : Point) (r : ℕ) (h
 
         pub IsGatheringPass-visits : (after : PassState) (last_within : Bool) → BelongsTo after shared → OnlyLooks half.view after.view
             → after ≡ searched half after.view (record half.lists.search { spots = after.lists.search.spots })
-            → (IsFalse last_within → r < side_distance spot.by_rows spot.point p right)
+            → (IsFalse last_within → r < side_distance spot.by_rows (point_of_spot spot) p right)
             → QueuesWithin (sight_in half.view) (sight_in after.view) half.lists.search.spots after.lists.search.spots spot right last_within
             → IsGatheringPass shared entry after p r
         IsGatheringPass-visits after last_within belongs last_looks after_is last_is last_side = record {

@@ -15,7 +15,7 @@ use Rattle.plan_model.proofs.SightLaws.{IsFree-ends, IsLaterMoment-trans}
 use Rattle.kd_shared.specs.Loads.{KeepsPoints, LoadsPoint}
 use Rattle.kd_shared.specs.Searches.{AreGathered}
 use Rattle.kd_shared.specs.Spots.{LeavesChild, Notes, Opens, QueuesChild, QueuesWithin, side_distance}
-use Rattle.plan_words.specs.SearchLists.{noted, numbers_of}
+use Rattle.plan_words.specs.SearchLists.{noted, numbers_of, point_of_spot}
 use Rattle.plan_words.specs.declared.spots.Found.{Found}
 use Rattle.plan_words.specs.declared.spots.Spot.{Spot}
 use Rattle.plan_model.proofs.ListMembers.{Contains-after, Contains-first}
@@ -41,7 +41,7 @@ QueuesChild-opens before after queue put spot side h =
 
 -- the points of the spots that wait are seen
 abbrev pub AreSeenSpots : Sight → List Spot → Type 0
-AreSeenSpots now spots = (spot : Spot) → Contains spots spot → StandsAt now.seen.points spot.node spot.point
+AreSeenSpots now spots = (spot : Spot) → Contains spots spot → StandsAt now.seen.points spot.node (point_of_spot spot)
 
 -- node n is found, or waits
 abbrev pub IsFoundOrWaits : List ℕ → List Spot → ℕ → Type 0
@@ -55,7 +55,7 @@ AreFreshFound before now target bound found spots =
 
 module _ (now after : Sight) (later : IsLaterMoment now after) (queue put : List Spot) (same : put ≡ queue) (points : KeepsPoints now after) where
   AreSeenSpots-same : AreSeenSpots now queue → AreSeenSpots after put
-  AreSeenSpots-same h spot k = later.seen.places.nodes spot.node spot.point (h spot (subst (λ xs. Contains xs spot) same k))
+  AreSeenSpots-same h spot k = later.seen.places.nodes spot.node (point_of_spot spot) (h spot (subst (λ xs. Contains xs spot) same k))
 
   AreFreshFound-same : (before : Sight) (target : Point) (bound : ℕ) (found : List ℕ) → AreFreshFound before now target bound found queue
       → AreFreshFound before after target bound found put
@@ -69,8 +69,8 @@ module _ (now after : Sight) (queue put : List Spot) (spot : Spot) (side : Bool)
         | inl (empty, same, points) ↦ AreSeenSpots-same now after h.later queue put same points old
         | inr (new, stands, others) ↦ (
             λ other k. elim (Contains-push_cases queue new.child other (subst (λ xs. Contains xs other) new.last k)) [
-              | inl before ↦ h.later.seen.places.nodes other.node other.point (old other before)
-              | inr is ↦ subst (λ (s : Spot). StandsAt after.seen.points s.node s.point) is stands
+              | inl before ↦ h.later.seen.places.nodes other.node (point_of_spot other) (old other before)
+              | inr is ↦ subst (λ (s : Spot). StandsAt after.seen.points s.node (point_of_spot s)) is stands
             ])
       ]
 
@@ -164,19 +164,19 @@ pub record IsHalfWay (before now half : Sight) (target : Point) (bound : ℕ) (m
     : Type 0 where
   pub later : IsLaterMoment now half
   pub keeps : KeepsSight half
-  pub search : IsSearch before half target bound (λ n q. Contains numbers n) mid (GoesTo half spot spot.point right)
+  pub search : IsSearch before half target bound (λ n q. Contains numbers n) mid (GoesTo half spot (point_of_spot spot) right)
   pub once : AreOnce half mid (spot.node ∷ done) (IsDoneOrAt done spot.node (not right))
   pub stand : AreSeenSpots half mid
   pub fresh : AreFreshFound before half target bound numbers mid
 
-begins_with : (before now : Sight) (target : Point) (r : ℕ) (spot : Spot) → LoadsPoint before now 0 spot.point → spot.node ≡ 0
+begins_with : (before now : Sight) (target : Point) (r : ℕ) (spot : Spot) → LoadsPoint before now 0 (point_of_spot spot) → spot.node ≡ 0
     → spot.by_rows ≡ false → IsGathering before now target r (spot ∷ []) [] 0
 begins_with before now target r spot load node by_rows = record {
   search = IsSearch-begins before now target (r * r) (λ n q. Contains {X = ℕ} [] n) spot load.later node by_rows;
   visiting = IsVisiting-begins now spot node;
   stand = λ other k. elim (Contains-cases spot other [] k) [
     | inl is ↦
-        subst (λ (s : Spot). StandsAt now.seen.points s.node s.point) is (subst (λ n. StandsAt now.seen.points n spot.point) (sym node) load.stands)
+        subst (λ (s : Spot). StandsAt now.seen.points s.node (point_of_spot s)) is (subst (λ n. StandsAt now.seen.points n (point_of_spot spot)) (sym node) load.stands)
     | inr more ↦ absurd (Contains-none other more)
   ];
   different = tt;
@@ -190,7 +190,7 @@ begins_with before now target r spot load node by_rows = record {
 
 -- It begins at node 0.
 pub IsGathering-begins : (before now : Sight) (target : Point) (r : ℕ) (spot : Spot) (queue : List Spot) (found : List Found)
-    → LoadsPoint before now 0 spot.point → spot.node ≡ 0 → spot.by_rows ≡ false → queue ≡ spot ∷ [] → found ≡ []
+    → LoadsPoint before now 0 (point_of_spot spot) → spot.node ≡ 0 → spot.by_rows ≡ false → queue ≡ spot ∷ [] → found ≡ []
     → IsGathering before now target r queue found 0
 IsGathering-begins before now target r spot queue found load node by_rows only none =
     subst (λ xs. IsGathering before now target r xs found 0) (sym only)
@@ -207,7 +207,7 @@ module _ (before now : Sight) (target : Point) (r : ℕ) (queue : List Spot) (fo
     pub IsGathering-seen : IsSeen now.seen spot.node
     IsGathering-seen = h.search.seen spot first_in
 
-    pub IsGathering-stands : StandsAt now.seen.points spot.node spot.point
+    pub IsGathering-stands : StandsAt now.seen.points spot.node (point_of_spot spot)
     IsGathering-stands = h.stand spot first_in
 
     abbrev done : List ℕ
@@ -228,15 +228,15 @@ module _ (before now : Sight) (target : Point) (r : ℕ) (queue : List Spot) (fo
     -- ---- one visit
 
     module _ (half : Sight) (mid : List Spot) (more_found : List Found) (right first_within : Bool) (keeps : KeepsSight now)
-        (notes : Notes found more_found spot (squared_distance spot.point target) (r * r))
-        (first_is : IsFalse first_within → r < side_distance spot.by_rows spot.point target (not right))
+        (notes : Notes found more_found spot (squared_distance (point_of_spot spot) target) (r * r))
+        (first_is : IsFalse first_within → r < side_distance spot.by_rows (point_of_spot spot) target (not right))
         (first_side : QueuesWithin now half rest mid spot (not right) first_within) where
-      visited : IsSearch before now target (r * r) (λ n q. Contains (numbers_of more_found) n) rest (GoesBelow now spot spot.point)
+      visited : IsSearch before now target (r * r) (λ n q. Contains (numbers_of more_found) n) rest (GoesBelow now spot (point_of_spot spot))
       visited =
-          IsSearch-visits before now target (r * r) (λ n q. Contains (numbers_of found) n) spot rest spot.point (r * r)
+          IsSearch-visits before now target (r * r) (λ n q. Contains (numbers_of found) n) spot rest (point_of_spot spot) (r * r)
           (λ n q. Contains (numbers_of more_found) n)
-          IsGathering-stands (omega arith) (λ n q. Notes-old found more_found spot (squared_distance spot.point target) (r * r) notes n)
-          (Notes-new found more_found spot (squared_distance spot.point target) (r * r) notes)
+          IsGathering-stands (omega arith) (λ n q. Notes-old found more_found spot (squared_distance (point_of_spot spot) target) (r * r) notes n)
+          (Notes-new found more_found spot (squared_distance (point_of_spot spot) target) (r * r) notes)
           (IsSearch-takes before now target (r * r) (λ n q. Contains (numbers_of found) n) spot queue rest first_waits h.search)
 
       stand_rest : AreSeenSpots now rest
@@ -246,14 +246,14 @@ module _ (before now : Sight) (target : Point) (r : ℕ) (queue : List Spot) (fo
       fresh_noted n q stands close =
           elim (cases_eq n spot.node) [
             | inl here ↦ (
-                let same : q ≡ spot.point =
-                StandsAt-unique now.seen.points spot.node q spot.point (subst (λ m. StandsAt now.seen.points m q) here stands) IsGathering-stands in
-                let near : squared_distance spot.point target ≤ r * r = subst (λ p. squared_distance p target ≤ r * r) same close in
+                let same : q ≡ (point_of_spot spot) =
+                StandsAt-unique now.seen.points spot.node q (point_of_spot spot) (subst (λ m. StandsAt now.seen.points m q) here stands) IsGathering-stands in
+                let near : squared_distance (point_of_spot spot) target ≤ r * r = subst (λ p. squared_distance p target ≤ r * r) same close in
                 inr (inl (subst (Contains (numbers_of more_found)) (sym here)
-                (Notes-new found more_found spot (squared_distance spot.point target) (r * r) notes near))))
+                (Notes-new found more_found spot (squared_distance (point_of_spot spot) target) (r * r) notes near))))
             | inr apart ↦ elim (h.fresh n q stands close) [
               | inl entry ↦ inl entry
-              | inr (inl k) ↦ inr (inl (Notes-old found more_found spot (squared_distance spot.point target) (r * r) notes n k))
+              | inr (inl k) ↦ inr (inl (Notes-old found more_found spot (squared_distance (point_of_spot spot) target) (r * r) notes n k))
               | inr (inr (other, k, is)) ↦ elim (Contains-cases spot other rest (subst (λ xs. Contains xs other) first_waits k)) [
                 | inl first ↦ absurd (apart (sym is ∙ ap (λ (s : Spot). s.node) (sym first)))
                 | inr later ↦ inr (inr (other, later, is))
@@ -261,16 +261,16 @@ module _ (before now : Sight) (target : Point) (r : ℕ) (queue : List Spot) (fo
             ]
           ]
 
-      half_way-leaves : r * r < side_distance spot.by_rows spot.point target (not right)
-          * side_distance spot.by_rows spot.point target (not right) → LeavesChild now half rest mid
+      half_way-leaves : r * r < side_distance spot.by_rows (point_of_spot spot) target (not right)
+          * side_distance spot.by_rows (point_of_spot spot) target (not right) → LeavesChild now half rest mid
           → IsHalfWay before now half target (r * r) mid (numbers_of more_found) done spot right
       half_way-leaves beyond leaves =
           record {
             later = leaves.later;
             keeps = leaves.keeps;
-            search = subst (λ xs. IsSearch before half target (r * r) (λ n q. Contains (numbers_of more_found) n) xs (GoesTo half spot spot.point right))
+            search = subst (λ xs. IsSearch before half target (r * r) (λ n q. Contains (numbers_of more_found) n) xs (GoesTo half spot (point_of_spot spot) right))
                 (sym leaves.same)
-                (IsSearch-leaves_first before now half target (r * r) (λ n q. Contains (numbers_of more_found) n) spot spot.point
+                (IsSearch-leaves_first before now half target (r * r) (λ n q. Contains (numbers_of more_found) n) spot (point_of_spot spot)
                 IsGathering-stands leaves.later keeps right rest beyond visited);
             once = subst (λ xs. AreOnce half xs (spot.node ∷ done) (IsDoneOrAt done spot.node (not right))) (sym leaves.same)
                 (AreOnce-leaves_first now half leaves.later rest spot done (not right) taken);
@@ -285,7 +285,7 @@ module _ (before now : Sight) (target : Point) (r : ℕ) (queue : List Spot) (fo
           record {
             later = queues.later;
             keeps = queues.keeps;
-            search = IsSearch-opens_first before now half target (r * r) (λ n q. Contains (numbers_of more_found) n) spot spot.point
+            search = IsSearch-opens_first before now half target (r * r) (λ n q. Contains (numbers_of more_found) n) spot (point_of_spot spot)
                 IsGathering-stands queues.later keeps
                 right rest mid opens visited;
             once = AreOnce-opens_first now half queues.later rest spot done queues.keeps mid (not right) taken opens;
@@ -297,7 +297,7 @@ module _ (before now : Sight) (target : Point) (r : ℕ) (queue : List Spot) (fo
       half_way =
           elim first_side [
             | inl (out, leaves) ↦ half_way-leaves
-                (beyond_radius (side_distance spot.by_rows spot.point target (not right)) r first_within first_is out) leaves
+                (beyond_radius (side_distance spot.by_rows (point_of_spot spot) target (not right)) r first_within first_is out) leaves
             | inr queues ↦ half_way-queues queues
           ]
 
@@ -314,7 +314,7 @@ module _ (before now : Sight) (target : Point) (r : ℕ) (queue : List Spot) (fo
             → AreFreshFound before after target (r * r) (numbers_of more_found) put → IsGathering before after target r put more_found next
         visited_all last search once stand fresh =
             let later = IsLaterMoment-trans now half after half_way.later last in
-            let distance : ℕ = squared_distance spot.point target in
+            let distance : ℕ = squared_distance (point_of_spot spot) target in
             record {
               search = search;
               visiting = record { done = spot.node ∷ done; count = ap suc h.visiting.count ∙ sym more; once = once };
@@ -328,30 +328,30 @@ module _ (before now : Sight) (target : Point) (r : ℕ) (queue : List Spot) (fo
                 | inl old ↦ (let own = h.only f old in (later.seen.places.nodes f.node f.point own.0, own.1, own.2))
                 | inr (same, near) ↦ subst
                     (λ (g : Found). StandsAt after.seen.points g.node g.point × (squared_distance g.point target ≤ r * r) × (g.edge ≡ 0)) same
-                    (later.seen.places.nodes spot.node spot.point IsGathering-stands, near, refl)
+                    (later.seen.places.nodes spot.node (point_of_spot spot) IsGathering-stands, near, refl)
               ];
               fresh = fresh;
             }
 
-        stands_half : StandsAt half.seen.points spot.node spot.point
-        stands_half = half_way.later.seen.places.nodes spot.node spot.point IsGathering-stands
+        stands_half : StandsAt half.seen.points spot.node (point_of_spot spot)
+        stands_half = half_way.later.seen.places.nodes spot.node (point_of_spot spot) IsGathering-stands
 
         visited-queues : QueuesChild half after mid put spot right → IsGathering before after target r put more_found next
         visited-queues queues =
             let opens = QueuesChild-opens half after mid put spot right queues in
             visited_all queues.later
-            (IsSearch-opens_last before half after target (r * r) (λ n q. Contains (numbers_of more_found) n) spot spot.point
+            (IsSearch-opens_last before half after target (r * r) (λ n q. Contains (numbers_of more_found) n) spot (point_of_spot spot)
             stands_half queues.later half_way.keeps right mid put opens half_way.search)
             (AreOnce-opens_last half after queues.later mid spot done queues.keeps put right half_way.once opens)
             (QueuesChild-stands half after mid put spot right queues half_way.stand)
             (QueuesChild-fresh half after mid put spot right queues before target (r * r) (numbers_of more_found) half_way.fresh)
 
-        visited-leaves : r * r < side_distance spot.by_rows spot.point target right * side_distance spot.by_rows spot.point target right
+        visited-leaves : r * r < side_distance spot.by_rows (point_of_spot spot) target right * side_distance spot.by_rows (point_of_spot spot) target right
             → LeavesChild half after mid put → IsGathering before after target r put more_found next
         visited-leaves beyond leaves =
             visited_all leaves.later
             (subst (λ xs. IsSearch before after target (r * r) (λ n q. Contains (numbers_of more_found) n) xs Nothing) (sym leaves.same)
-            (IsSearch-leaves_last before half after target (r * r) (λ n q. Contains (numbers_of more_found) n) spot spot.point
+            (IsSearch-leaves_last before half after target (r * r) (λ n q. Contains (numbers_of more_found) n) spot (point_of_spot spot)
             stands_half leaves.later half_way.keeps right mid beyond half_way.search))
             (subst (λ xs. AreOnce after xs (spot.node ∷ done) (IsDone (spot.node ∷ done))) (sym leaves.same)
             (AreOnce-leaves_last half after leaves.later mid spot done right half_way.once))
@@ -360,12 +360,12 @@ module _ (before now : Sight) (target : Point) (r : ℕ) (queue : List Spot) (fo
 
         -- The child on the other side is queued, or left out.
         pub IsGathering-visits : (last_within : Bool)
-            → (IsFalse last_within → r < side_distance spot.by_rows spot.point target right)
+            → (IsFalse last_within → r < side_distance spot.by_rows (point_of_spot spot) target right)
             → QueuesWithin half after mid put spot right last_within → IsGathering before after target r put more_found next
         IsGathering-visits last_within last_is last_side =
             elim last_side [
               | inl (out, leaves) ↦ visited-leaves
-                  (beyond_radius (side_distance spot.by_rows spot.point target right) r last_within last_is out) leaves
+                  (beyond_radius (side_distance spot.by_rows (point_of_spot spot) target right) r last_within last_is out) leaves
               | inr queues ↦ visited-queues queues
             ]
 

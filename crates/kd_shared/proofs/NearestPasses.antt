@@ -8,7 +8,7 @@ use Rattle.plan_model.specs.Geometry.Plane.{squared_distance}
 use Rattle.plan_model.specs.Seen.Sights.{KeepsSight}
 use Rattle.plan_model.proofs.ListMembers.{Contains-first}
 use Rattle.plan_model.proofs.NewNodes.{IsPresent-stands}
-use Rattle.plan_words.specs.SearchLists.{no_search}
+use Rattle.plan_words.specs.SearchLists.{no_search, point_of_spot}
 use Rattle.plan_words.specs.States.{BelongsTo, PassState, SharedState}
 use Rattle.plan_words.specs.declared.spots.Spot.{Spot}
 use Rattle.step_core.specs.LaterViews.{IsLawfulView}
@@ -35,7 +35,7 @@ pub record IsSeekingPass (shared : SharedState) (entry now : PassState) (p : Poi
 
 -- The start is loaded, and is next.
 pub IsSeekingPass-begins : (shared : SharedState) (entry first now : PassState) (p : Point) (distance : ℕ) (here : Spot) → PassLooks shared entry first
-    → LoadsPoint (sight_in entry.view) (sight_in first.view) 0 here.point → distance ≡ squared_distance here.point p
+    → LoadsPoint (sight_in entry.view) (sight_in first.view) 0 (point_of_spot here) → distance ≡ squared_distance (point_of_spot here) p
     → now ≡ searched first first.view no_search → here.node ≡ 0 → here.by_rows ≡ false → IsSeekingPass shared entry now p distance 0 here 0
 IsSeekingPass-begins shared entry first now p distance here passes load distance_is is node by_rows =
     subst (λ state. IsSeekingPass shared entry state p distance 0 here 0) (sym is) (record {
@@ -60,8 +60,8 @@ module _ (shared : SharedState) (entry now : PassState) (p : Point) (distance be
       let few = IsWalking-few (sight_in now.view) p (length now.view.run.marks) lawful_now.within here now.lists.search.spots visits h.seeks.walking in
       omega (arith, few, lawful_now.run.marks)
 
-  pub here_bounded : IsBounded here.point
-  here_bounded = IsBounded-seen now.view here.node here.point h.seeks.stands
+  pub here_bounded : IsBounded (point_of_spot here)
+  here_bounded = IsBounded-seen now.view here.node (point_of_spot here) h.seeks.stands
 
   pub here_seen : SeesNode now.view here.node
   here_seen = h.seeks.search.seen here (Contains-first here [])
@@ -73,7 +73,7 @@ module _ (shared : SharedState) (entry now : PassState) (p : Point) (distance be
 
   -- the node is put on the stack, if its far side is left
   module _
-      (half : PassState) (less nearer : ℕ) (nearest : IsNearer distance best (squared_distance here.point p) here.node less nearer)
+      (half : PassState) (less nearer : ℕ) (nearest : IsNearer distance best (squared_distance (point_of_spot here) p) here.node less nearer)
       (far_looks : OnlyLooks now.view half.view)
       (half_is : half ≡ searched now half.view (record now.lists.search { spots = half.lists.search.spots }))
       (stacks : StacksFar (sight_in now.view) (sight_in half.view) p less now.lists.search.spots half.lists.search.spots here) where
@@ -83,7 +83,7 @@ module _ (shared : SharedState) (entry now : PassState) (p : Point) (distance be
     pub half_seen_stack : (spot : Spot) → Contains half.lists.search.spots spot → SeesNode half.view spot.node
     half_seen_stack spot k =
         stacks.keeps.rooted.points spot.node
-        (IsPresent-stands (tree_seen half.view).points spot.node spot.point
+        (IsPresent-stands (tree_seen half.view).points spot.node (point_of_spot spot)
         (stands_half (sight_in entry.view) (sight_in now.view) (sight_in half.view) p distance best less nearer here now.lists.search.spots
         half.lists.search.spots visits h.seeks keeps_now nearest stacks spot k))
 

@@ -15,6 +15,7 @@ use Rattle.plan_model.proofs.ListMembers.{Contains-first}
 use Rattle.plan_model.proofs.NewNodes.{IsPresent-stands, point_of-stands, StandsAt-present, StandsAt-unique}
 use Rattle.plan_model.proofs.SamePoints.{same_or_other}
 use Rattle.plan_model.proofs.SightLaws.{IsFree-ends, IsLaterMoment-trans}
+use Rattle.plan_words.specs.SearchLists.{point_of_spot}
 use Rattle.plan_words.specs.declared.spots.Spot.{Spot}
 use Rattle.step_core.specs.KdSides.{goes_right_by}
 use Rattle.step_core.specs.MeasuredNodes.{IsNearerOf}
@@ -69,18 +70,18 @@ IsPairNotAbove-trans a i b j c k one two = record {
 
 -- the way of q goes to the far side of a node on the stack
 abbrev pub IsLeft : Sight → Point → List Spot → Point → Type 0
-IsLeft now target stack q = (spot : Spot) × Contains stack spot × GoesTo now spot spot.point (far_side spot target) q
+IsLeft now target stack q = (spot : Spot) × Contains stack spot × GoesTo now spot (point_of_spot spot) (far_side spot target) q
 
 -- the points of these nodes are seen
 abbrev pub AreStanding : Sight → List Spot → Type 0
-AreStanding now spots = (spot : Spot) → Contains spots spot → StandsAt now.seen.points spot.node spot.point
+AreStanding now spots = (spot : Spot) → Contains spots spot → StandsAt now.seen.points spot.node (point_of_spot spot)
 
 -- The nearest so far is seen. Points that are not met wait at the next node, or on the far side of one on the stack. Nodes whose points were
 -- seen since the walk began are not nearer, but the next one may be.
 pub record IsSeeking (before now : Sight) (target : Point) (distance best : ℕ) (here : Spot) (stack : List Spot) (visits : ℕ) : Type 0 where
   pub best_is : IsBest now target distance best
   pub search : IsSearch before now target distance (IsOutdone target distance best) (here ∷ []) (IsLeft now target stack)
-  pub stands : StandsAt now.seen.points here.node here.point
+  pub stands : StandsAt now.seen.points here.node (point_of_spot here)
   pub stack_stands : AreStanding now stack
   pub fresh : (n : ℕ) (q : Point) → StandsAt now.seen.points n q
       → (StandsAt before.seen.points n q ⊎ IsOutdone target distance best n q) ⊎ (n ≡ here.node)
@@ -93,12 +94,12 @@ pub record HasSought (before now : Sight) (target : Point) (distance best : ℕ)
   pub fresh : (n : ℕ) (q : Point) → StandsAt now.seen.points n q → StandsAt before.seen.points n q ⊎ IsOutdone target distance best n q
 
 -- It begins at node 0.
-pub IsSeeking-begins : (before now : Sight) (target : Point) (distance : ℕ) (here : Spot) → LoadsPoint before now 0 here.point
-    → distance ≡ squared_distance here.point target → here.node ≡ 0 → here.by_rows ≡ false → IsSeeking before now target distance 0 here [] 0
+pub IsSeeking-begins : (before now : Sight) (target : Point) (distance : ℕ) (here : Spot) → LoadsPoint before now 0 (point_of_spot here)
+    → distance ≡ squared_distance (point_of_spot here) target → here.node ≡ 0 → here.by_rows ≡ false → IsSeeking before now target distance 0 here [] 0
 IsSeeking-begins before now target distance here load is node by_rows =
     let begun = IsSearch-begins before now target distance (IsOutdone target distance 0) here load.later node by_rows in
     record {
-      best_is = record { point = here.point; stands = load.stands; distance_is = is };
+      best_is = record { point = point_of_spot here; stands = load.stands; distance_is = is };
       search = record {
         later = begun.later;
         seen = begun.seen;
@@ -108,7 +109,7 @@ IsSeeking-begins before now target distance here load is node by_rows =
           | inr (inr left) ↦ absurd left
         ];
       };
-      stands = subst (λ n. StandsAt now.seen.points n here.point) (sym node) load.stands;
+      stands = subst (λ n. StandsAt now.seen.points n (point_of_spot here)) (sym node) load.stands;
       stack_stands = λ spot k. absurd (Contains-none spot k);
       fresh = λ n q own. elim (cases_eq n 0) [
         | inl start ↦ inr (start ∙ sym node)
@@ -121,7 +122,7 @@ IsSeeking-begins before now target distance here load is node by_rows =
 
 module _ (before now half : Sight) (target : Point) (distance best less nearer : ℕ) (here : Spot) (stack put : List Spot) (visits : ℕ)
     (h : IsSeeking before now target distance best here stack visits) (keeps : KeepsSight now)
-    (nearest : IsNearer distance best (squared_distance here.point target) here.node less nearer)
+    (nearest : IsNearer distance best (squared_distance (point_of_spot here) target) here.node less nearer)
     (stacks : StacksFar now half target less stack put here) where
   still_outdone : (n : ℕ) (q : Point) → IsOutdone target distance best n q → IsOutdone target less nearer n q
   still_outdone n q = IsPairNotAbove-trans less nearer distance best (squared_distance q target) n nearest.before
@@ -136,8 +137,8 @@ module _ (before now half : Sight) (target : Point) (distance best less nearer :
           distance_is = same ∙ h.best_is.distance_is;
         }
         | inr (is, node) ↦ record {
-          point = here.point;
-          stands = stacks.later.seen.places.nodes nearer here.point (subst (λ n. StandsAt now.seen.points n here.point) (sym node) h.stands);
+          point = (point_of_spot here);
+          stands = stacks.later.seen.places.nodes nearer (point_of_spot here) (subst (λ n. StandsAt now.seen.points n (point_of_spot here)) (sym node) h.stands);
           distance_is = is;
         }
       ]
@@ -161,10 +162,10 @@ module _ (before now half : Sight) (target : Point) (distance best less nearer :
   stands_half spot k =
       elim stack_cases [
         | inl same ↦
-            stacks.later.seen.places.nodes spot.node spot.point (h.stack_stands spot (subst (λ xs. Contains xs spot) same k))
+            stacks.later.seen.places.nodes spot.node (point_of_spot spot) (h.stack_stands spot (subst (λ xs. Contains xs spot) same k))
         | inr last ↦ elim (Contains-push_cases stack here spot (subst (λ xs. Contains xs spot) last k)) [
-          | inl old ↦ stacks.later.seen.places.nodes spot.node spot.point (h.stack_stands spot old)
-          | inr is ↦ subst (λ (s : Spot). StandsAt half.seen.points s.node s.point) is (stacks.later.seen.places.nodes here.node here.point h.stands)
+          | inl old ↦ stacks.later.seen.places.nodes spot.node (point_of_spot spot) (h.stack_stands spot old)
+          | inr is ↦ subst (λ (s : Spot). StandsAt half.seen.points s.node (point_of_spot s)) is (stacks.later.seen.places.nodes here.node (point_of_spot here) h.stands)
         ]
       ]
 
@@ -175,38 +176,38 @@ module _ (before now half : Sight) (target : Point) (distance best less nearer :
         | inl (inl entry) ↦ inl entry
         | inl (inr outdone) ↦ inr (still_outdone n q outdone)
         | inr node ↦ (
-            let same : q ≡ here.point =
-            StandsAt-unique now.seen.points here.node q here.point (subst (λ m. StandsAt now.seen.points m q) node there) h.stands in
+            let same : q ≡ (point_of_spot here) =
+            StandsAt-unique now.seen.points here.node q (point_of_spot here) (subst (λ m. StandsAt now.seen.points m q) node there) h.stands in
             inr (subst (IsOutdone target less nearer n) (sym same)
-            (subst (λ m. IsOutdone target less nearer m here.point) (sym node) nearest.one_more)))
+            (subst (λ m. IsOutdone target less nearer m (point_of_spot here)) (sym node) nearest.one_more)))
       ]
 
   -- to the near side of the node, or to a far side
   abbrev LeftHalf : Point → Type 0
-  LeftHalf q = GoesTo half here here.point (near_side here target) q ⊎ IsLeft half target put q
+  LeftHalf q = GoesTo half here (point_of_spot here) (near_side here target) q ⊎ IsLeft half target put q
 
   left_here : (q : Point) → squared_distance q target ≤ less → WaitsAt now here q
       → IsMet before half (IsOutdone target less nearer) q ⊎ (Waits half [] q ⊎ LeftHalf q)
   left_here q close waits =
-      elim (same_or_other here.point q) [
+      elim (same_or_other (point_of_spot here) q) [
         | inl same ↦ inl (inl (
           here.node,
-          stacks.later.seen.places.nodes here.node here.point h.stands ∙ ap Some same,
+          stacks.later.seen.places.nodes here.node (point_of_spot here) h.stands ∙ ap Some same,
           subst (λ r. IsOutdone target less nearer here.node r) same nearest.one_more,
         ))
         | inr other ↦ (
-            let below : GoesBelow now here here.point q = record { waits = waits; other = other } in
-            elim (two_sides (goes_right_by here.by_rows here.point q) (near_side here target)) [
-              | inl goes ↦ inr (inr (inl (GoesBelow-later now half stacks.later here here.point q below, goes)))
+            let below : GoesBelow now here (point_of_spot here) q = record { waits = waits; other = other } in
+            elim (two_sides (goes_right_by here.by_rows (point_of_spot here) q) (near_side here target)) [
+              | inl goes ↦ inr (inr (inl (GoesBelow-later now half stacks.later here (point_of_spot here) q below, goes)))
               | inr goes ↦ elim stacks.stacks [
                 | inl (inl empty, same) ↦
-                    inl (inr (ends_here before now half here here.point h.stands stacks.later (far_side here target) q
+                    inl (inr (ends_here before now half here (point_of_spot here) h.stands stacks.later (far_side here target) q
                     h.search.later.steps empty (below, goes)))
-                | inl (inr too_far, same) ↦ absurd (omega (arith, split_distance-le here.by_rows here.point q target goes, close, too_far))
+                | inl (inr too_far, same) ↦ absurd (omega (arith, split_distance-le here.by_rows (point_of_spot here) q target goes, close, too_far))
                 | inr last ↦ inr (inr (inr (
                   here,
                   subst (λ xs. Contains xs here) (sym last) (Contains-push stack here),
-                  (GoesBelow-later now half stacks.later here here.point q below, goes),
+                  (GoesBelow-later now half stacks.later here (point_of_spot here) q below, goes),
                 )))
               ]
             ])
@@ -222,7 +223,7 @@ module _ (before now half : Sight) (target : Point) (distance best less nearer :
           | inr none ↦ absurd (Contains-none spot none)
         ]
         | inr (spot, k, goes) ↦
-            inr (inr (inr (spot, in_put spot k, (GoesBelow-later now half stacks.later spot spot.point q goes.0, goes.1))))
+            inr (inr (inr (spot, in_put spot k, (GoesBelow-later now half stacks.later spot (point_of_spot spot) q goes.0, goes.1))))
       ])
       h.search
 
@@ -252,10 +253,10 @@ module _ (before now half : Sight) (target : Point) (distance best less nearer :
           | inr (inl goes) ↦ inr (inl (
             child,
             Contains-first child [],
-            waits_at_child before half after here here.point (stacks.later.seen.places.nodes here.node here.point h.stands) load.later [] (child ∷ [])
+            waits_at_child before half after here (point_of_spot here) (stacks.later.seen.places.nodes here.node (point_of_spot here) h.stands) load.later [] (child ∷ [])
                 (near_side here target) puts_near q goes,
           ))
-          | inr (inr (spot, k, goes)) ↦ inr (inr (spot, k, (GoesBelow-later half after load.later spot spot.point q goes.0, goes.1)))
+          | inr (inr (spot, k, goes)) ↦ inr (inr (spot, k, (GoesBelow-later half after load.later spot (point_of_spot spot) q goes.0, goes.1)))
         ])
         search_half
 
@@ -264,7 +265,7 @@ module _ (before now half : Sight) (target : Point) (distance best less nearer :
       best_is = best_later after load.later;
       search = search_near;
       stands = load.finds.stands;
-      stack_stands = λ spot k. load.later.seen.places.nodes spot.node spot.point (stands_half spot k);
+      stack_stands = λ spot k. load.later.seen.places.nodes spot.node (point_of_spot spot) (stands_half spot k);
       fresh = λ n q stands. elim (cases_eq n child.node) [
         | inl is ↦ inr is
         | inr apart ↦ inl (fresh_half n q (sym (load.finds.others n apart) ∙ stands))
@@ -276,7 +277,7 @@ module _ (before now half : Sight) (target : Point) (distance best less nearer :
 
   module _ (mid after : Sight) (near : LoadsSpot half mid here (near_side here target) None) (rest : List Spot) where
     stands_mid : AreStanding mid put
-    stands_mid spot k = near.later.seen.places.nodes spot.node spot.point (stands_half spot k)
+    stands_mid spot k = near.later.seen.places.nodes spot.node (point_of_spot spot) (stands_half spot k)
 
     search_mid : IsSearch before mid target less (IsOutdone target less nearer) [] (IsLeft mid target put)
     search_mid =
@@ -284,19 +285,19 @@ module _ (before now half : Sight) (target : Point) (distance best less nearer :
         [] [] LeftHalf (IsLeft mid target put) (omega arith) (λ n q own. own) (λ spot k. absurd (Contains-none spot k))
         (λ q close left. elim left [
           | inl (spot, k, waits) ↦ absurd (Contains-none spot k)
-          | inr (inl goes) ↦ inl (inr (ends_here before half mid here here.point (stacks.later.seen.places.nodes here.node here.point h.stands) near.later
+          | inr (inl goes) ↦ inl (inr (ends_here before half mid here (point_of_spot here) (stacks.later.seen.places.nodes here.node (point_of_spot here) h.stands) near.later
               (near_side here target) q search_half.later.steps near.finds.0 goes))
-          | inr (inr (spot, k, goes)) ↦ inr (inr (spot, k, (GoesBelow-later half mid near.later spot spot.point q goes.0, goes.1)))
+          | inr (inr (spot, k, goes)) ↦ inr (inr (spot, k, (GoesBelow-later half mid near.later spot (point_of_spot spot) q goes.0, goes.1)))
         ])
         search_half
 
     -- a far side that is finished
     met_far : IsLaterMoment mid after → (spot : Spot) → Contains put spot → IsFinished mid after target less spot → (q : Point)
-        → squared_distance q target ≤ less → GoesTo mid spot spot.point (far_side spot target) q → IsMet before after (IsOutdone target less nearer) q
+        → squared_distance q target ≤ less → GoesTo mid spot (point_of_spot spot) (far_side spot target) q → IsMet before after (IsOutdone target less nearer) q
     met_far later spot k (inl empty) q close goes =
-        inr (ends_here before mid after spot spot.point (stands_mid spot k) later (far_side spot target) q search_mid.later.steps empty goes)
+        inr (ends_here before mid after spot (point_of_spot spot) (stands_mid spot k) later (far_side spot target) q search_mid.later.steps empty goes)
     met_far later spot k (inr too_far) q close goes =
-        absurd (omega (arith, split_distance-le spot.by_rows spot.point q target goes.1, close, too_far))
+        absurd (omega (arith, split_distance-le spot.by_rows (point_of_spot spot) q target goes.1, close, too_far))
 
     fresh_mid : (n : ℕ) (q : Point) → StandsAt mid.seen.points n q → StandsAt before.seen.points n q ⊎ IsOutdone target less nearer n q
     fresh_mid n q stands = fresh_half n q (sym (near.finds.1 n) ∙ stands)
@@ -336,17 +337,17 @@ module _ (before now half : Sight) (target : Point) (distance best less nearer :
           (Contains-append_right rest (above ∷ pops.popped) above (Contains-first above pops.popped))
 
       left_far : (q : Point) → squared_distance q target ≤ less → (spot : Spot) → Contains put spot
-          → GoesTo mid spot spot.point (far_side spot target) q
+          → GoesTo mid spot (point_of_spot spot) (far_side spot target) q
           → IsMet before after (IsOutdone target less nearer) q ⊎ (Waits after (child ∷ []) q ⊎ IsLeft after target rest q)
       left_far q close spot k goes =
           elim (Contains-append_cases rest (above ∷ pops.popped) spot (subst (λ xs. Contains xs spot) pops.found.1 k)) [
-            | inl kept ↦ inr (inr (spot, kept, (GoesBelow-later mid after pops.later spot spot.point q goes.0, goes.1)))
+            | inl kept ↦ inr (inr (spot, kept, (GoesBelow-later mid after pops.later spot (point_of_spot spot) q goes.0, goes.1)))
             | inr more ↦ elim (Contains-cases above spot pops.popped more) [
               | inl is ↦ inr (inl (
                 child,
                 Contains-first child [],
-                waits_at_child before mid after above above.point (stands_mid above above_in) pops.later [] (child ∷ []) (far_side above target) puts_far q
-                    (subst (λ s. GoesTo mid s s.point (far_side s target) q) (sym is) goes),
+                waits_at_child before mid after above (point_of_spot above) (stands_mid above above_in) pops.later [] (child ∷ []) (far_side above target) puts_far q
+                    (subst (λ s. GoesTo mid s (point_of_spot s) (far_side s target) q) (sym is) goes),
               ))
               | inr popped ↦ inl (met_far pops.later spot k (pops.finished spot popped) q close goes)
             ]
@@ -373,7 +374,7 @@ module _ (before now half : Sight) (target : Point) (distance best less nearer :
             best_is = best_later after later;
             search = search_far;
             stands = child_is.stands;
-            stack_stands = λ spot k. pops.later.seen.places.nodes spot.node spot.point (stands_mid spot (in_all spot k));
+            stack_stands = λ spot k. pops.later.seen.places.nodes spot.node (point_of_spot spot) (stands_mid spot (in_all spot k));
             fresh = λ n q stands. elim (cases_eq n child.node) [
               | inl is ↦ inr is
               | inr apart ↦ inl (fresh_mid n q (sym (child_is.others n apart) ∙ stands))

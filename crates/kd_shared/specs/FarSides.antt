@@ -4,19 +4,20 @@ use Rattle.plan_model.specs.declared.geometry.Point.{Point}
 use Rattle.plan_model.specs.Trees.PointsByNumber.{StandsAt}
 use Rattle.plan_model.specs.Seen.Sights.{IsLaterMoment, KeepsSight, Sight}
 use Rattle.kd_shared.specs.Loads.{FindsEmpty, KeepsOtherPoints, KeepsPoints}
+use Rattle.plan_words.specs.SearchLists.{point_of_spot}
 use Rattle.plan_words.specs.declared.spots.Spot.{Spot}
 use Rattle.step_core.specs.KdSides.{goes_right_by, split_distance}
 
 -- the side of a node on which the target is, and the other one
 abbrev pub near_side : Spot → Point → Bool
-near_side spot target = goes_right_by spot.by_rows spot.point target
+near_side spot target = goes_right_by spot.by_rows (point_of_spot spot) target
 
 abbrev pub far_side : Spot → Point → Bool
 far_side spot target = not (near_side spot target)
 
 -- the squared distance of the target from the line between them
 abbrev pub line_square : Spot → Point → ℕ
-line_square spot target = split_distance spot.by_rows spot.point target * split_distance spot.by_rows spot.point target
+line_square spot target = split_distance spot.by_rows (point_of_spot spot) target * split_distance spot.by_rows (point_of_spot spot) target
 
 -- ---- a child
 
@@ -24,7 +25,7 @@ line_square spot target = split_distance spot.by_rows spot.point target * split_
 pub record IsChildSpot (before after : Sight) (spot : Spot) (side : Bool) (child : Spot) : Type 0 where
   pub link : after.seen.child spot.node side ≡ Some child.node
   pub by_rows : child.by_rows ≡ not spot.by_rows
-  pub stands : StandsAt after.seen.points child.node child.point
+  pub stands : StandsAt after.seen.points child.node (point_of_spot child)
   pub others : KeepsOtherPoints before after child.node
 
 -- The child on a side was loaded with its point, or there is none.

@@ -4,7 +4,7 @@ use Rattle.plan_model.specs.declared.geometry.Point.{Point}
 use Rattle.plan_model.specs.Trees.PointsByNumber.{StandsAt}
 use Rattle.plan_model.specs.Seen.Sights.{IsLaterMoment, KeepsSight, Sight}
 use Rattle.kd_shared.specs.Loads.{FindsEmpty, KeepsOtherPoints, KeepsPoints}
-use Rattle.plan_words.specs.SearchLists.{noted}
+use Rattle.plan_words.specs.SearchLists.{noted, point_of_spot}
 use Rattle.plan_words.specs.declared.spots.Found.{Found}
 use Rattle.plan_words.specs.declared.spots.Spot.{Spot}
 
@@ -24,7 +24,7 @@ Opens before after spots put spot side = (FindsEmpty before after spot.node side
 -- A child waits with its point, which was loaded too.
 abbrev pub PutsWithPoint : Sight → Sight → List Spot → List Spot → Spot → Bool → Type 0
 PutsWithPoint before after queue put spot side =
-    (new : Puts after queue put spot side) × StandsAt after.seen.points new.child.node new.child.point
+    (new : Puts after queue put spot side) × StandsAt after.seen.points new.child.node (point_of_spot new.child)
     × KeepsOtherPoints before after new.child.node
 
 pub record QueuesChild (before after : Sight) (queue put : List Spot) (spot : Spot) (side : Bool) : Type 0 where

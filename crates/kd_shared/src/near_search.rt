@@ -57,19 +57,20 @@ pub fn gather(shared: &Shared, pass: &mut Pass, p: Point, r: u32)
     ensures few { length pass.new.lists.search.found ≤ length pass.new.view.run.marks + 1 }
 {
     let most = square(r);
-    let start = shared.point(pass, 0);
+    let start = shared.point_word(pass, 0);
     pass.clear_search();
     pass.put_spot_if(
         Spot {
             node: 0,
             by_rows: false,
-            point: start,
+            word: start,
         },
         true,
     );
     'visits: while let Some(spot) = pass.take_spot() {
-        note(pass, spot, spot.point.squared_distance(p), most);
-        let (left, right) = sides_within(spot.by_rows, spot.point, p, r);
+        let here = spot.point();
+        note(pass, spot, here.squared_distance(p), most);
+        let (left, right) = sides_within(spot.by_rows, here, p, r);
         queue_child(shared, pass, spot, false, left);
         queue_child(shared, pass, spot, true, right);
     }
@@ -114,13 +115,13 @@ fn queue_child(shared: &Shared, pass: &mut Pass, spot: Spot, right: bool, within
         within }
 {
     let child = child_within(shared.child_or_start(pass, spot.node, right), within);
-    let point = shared.point(pass, child);
+    let word = shared.point_word(pass, child);
     let by_rows = !spot.by_rows;
     pass.put_spot_if(
         Spot {
             node: child,
             by_rows,
-            point,
+            word,
         },
         child != 0,
     );

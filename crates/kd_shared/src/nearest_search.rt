@@ -1,7 +1,7 @@
 //! The search for the nearest node of those that are seen.
 
 ghost use Rattle.std.specs.Prelude.{◌≡◌, ◌⊎◌, ◌<◌, ◌≤◌, ◌+◌, Contains, IsFalse, length, nat_le};
-ghost use Rattle.kd_shared.specs.FarSides.{LoadsFar, LoadsSpot, PopsFar, StacksFar, WalksOn, line_square};
+ghost use Rattle.kd_shared.specs.FarSides.{LoadsFar, LoadsSpot, PopsFar, StacksFar, WalksOn, line_square, near_side};
 ghost use Rattle.kd_shared.specs.Looking.{KeepsLists, OnlyLooks, searched};
 ghost use Rattle.kd_shared.specs.Searches.{IsNearestSeen};
 ghost use Rattle.plan_model.specs.Geometry.Bounds.{IsBounded};
@@ -28,16 +28,16 @@ pub fn nearest(shared: &Shared, pass: &mut Pass, p: Point) -> u32
     ensures lists { KeepsLists pass.old pass.new }
     ensures nearest { IsNearestSeen (sight_in pass.old.view) (sight_in pass.new.view) p result }
 {
-    let start = shared.point(pass, 0);
-    let mut best = MeasuredNode::new(0, start, p);
+    let start = shared.point_word(pass, 0);
     let mut here = Spot {
         node: 0,
         by_rows: false,
-        point: start,
+        word: start,
     };
+    let mut best = MeasuredNode::new(0, here.point(), p);
     pass.clear_search();
     'visits: for _visit in 0..MOST_NODES {
-        best = best.nearer(MeasuredNode::new(here.node, here.point, p));
+        best = best.nearer(MeasuredNode::new(here.node, here.point(), p));
         stack_far_side(shared, pass, here, p, best.distance);
         let Some(next) = next_spot(shared, pass, here, p, best.distance) else {
             return best.node;
@@ -57,7 +57,7 @@ fn stack_far_side(shared: &Shared, pass: &mut Pass, here: Spot, p: Point, bound:
     ensures others { pass.new ≡ searched pass.old pass.new.view (record pass.old.lists.search { spots = pass.new.lists.search.spots }) }
     ensures stacks { StacksFar (sight_in pass.old.view) (sight_in pass.new.view) p bound pass.old.lists.search.spots pass.new.lists.search.spots here }
 {
-    let right = goes_right(here.by_rows, here.point, p);
+    let right = goes_right_of(here, p);
     let far = shared.child_or_start(pass, here.node, !right);
     pass.put_spot_if(here, is_left(far, here, p, bound));
 }
@@ -73,7 +73,7 @@ fn next_spot(shared: &Shared, pass: &mut Pass, here: Spot, p: Point, bound: u64)
     ensures walks { WalksOn (sight_in pass.old.view) (sight_in pass.new.view) p bound here pass.old.lists.search.spots pass.new.lists.search.spots
         result }
 {
-    let right = goes_right(here.by_rows, here.point, p);
+    let right = goes_right_of(here, p);
     if let Some(near) = child_spot(shared, pass, here, right) {
         return Some(near);
     }
@@ -109,7 +109,7 @@ fn far_spot(shared: &Shared, pass: &mut Pass, above: Spot, p: Point, bound: u64)
     if !reaches(above, p, bound) {
         return None;
     }
-    let right = goes_right(above.by_rows, above.point, p);
+    let right = goes_right_of(above, p);
     child_spot(shared, pass, above, !right)
 }
 
@@ -125,13 +125,21 @@ fn child_spot(shared: &Shared, pass: &mut Pass, spot: Spot, right: bool) -> Opti
     let Some(node) = shared.child(pass, spot.node, right) else {
         return None;
     };
-    let point = shared.point(pass, node);
+    let word = shared.point_word(pass, node);
     let by_rows = !spot.by_rows;
     Some(Spot {
         node,
         by_rows,
-        point,
+        word,
     })
+}
+
+/// Whether a point belongs to the right of a node.
+#[inline]
+fn goes_right_of(spot: Spot, p: Point) -> bool
+    ensures { result ≡ near_side spot p }
+{
+    goes_right(spot.by_rows, spot.point(), p)
 }
 
 /// Whether the far side of a node is left to walk: it has this child, if not 0, and its points may be within the bound.
@@ -146,5 +154,5 @@ fn is_left(far: u32, here: Spot, p: Point, bound: u64) -> bool
 fn reaches(spot: Spot, p: Point, bound: u64) -> bool
     ensures { result ≡ nat_le (line_square spot p) bound }
 {
-    square(distance_to_split(spot.by_rows, spot.point, p)) <= bound
+    square(distance_to_split(spot.by_rows, spot.point(), p)) <= bound
 }

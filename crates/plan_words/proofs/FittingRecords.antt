@@ -1,5 +1,5 @@
 -- What a pass may record fits the word of a record.
-use Rattle.std.proofs.Common.{ℕ, ◌*◌, ◌%◌, ◌<◌, ◌≤◌, ◌^◌, ap, arith, subst, sym}
+use Rattle.std.proofs.Common.{ℕ, ◌*◌, ◌<◌, ◌≤◌, ◌^◌, ap, arith, subst, sym}
 use Rattle.std.proofs.lemmas.Nat.{mod_below}
 use Rattle.std.specs.Prelude.{is_some}
 use Rattle.plan_model.specs.Trees.PointsByNumber.{IsPresent}

@@ -1,12 +1,13 @@
 -- Nodes found that are kept in place: each is written behind those kept before it, and counted if it passes.
-use Rattle.std.proofs.Common.{◌≡◌, ℕ, ◌+◌, ◌<◌, ◌≤◌, Bool, true, false, cond, List, [], ◌∷◌, length, map, set, take, get_or, refl, sym, ap, ◌∙◌, subst, arith}
+use Rattle.std.proofs.Common.{◌≡◌, ℕ, ◌+◌, ◌<◌, ◌≤◌, Bool, true, false, cond, List, [], ◌∷◌, length, map, set, take, get_or, Some, refl, sym, ap, ◌∙◌, subst, arith}
 use mir.Val.{bool_byte}
-use Rattle.std.specs.Prelude.{All, IsPermutation, filter, nat_lt}
+use Rattle.std.specs.Prelude.{All, IsPermutation, filter, nat_lt, slice_get}
 use Rattle.std.proofs.lemmas.List.Sorted.{length_permutation}
 use Rattle.step_core.specs.Words.{cost_in}
 use Rattle.std.proofs.lemmas.List.Elements.{All-head, All-tail}
 use Rattle.std.proofs.Math.Seq.{take-set-lt}
 use Rattle.std.proofs.lemmas.List.{drop-set-lt, get_or-drop, get_or-map, get_or-take, length-map, length-set, length-take-le, map-set, take-set-le, take_all}
+use Rattle.std.proofs.lemmas.Option.{slice_get-get_or}
 use Rattle.std.proofs.lemmas.List.Filters.{FiltersInPlace, FiltersInPlace-more_no, FiltersInPlace-more_set}
 use Rattle.std.specs.List.Sorted.{IsNonDecreasing, IsNonDecreasingBy}
 use Rattle.plan_words.specs.SearchLists.{found_in, is_dearer, numbers_of}
@@ -52,6 +53,15 @@ All-cells P cells all k d below =
 pub found_below : (cells : List Cell) (count i : ℕ) → count ≤ length cells → i < length (map found_in (take count cells)) → i < count
 found_below cells count i within below = omega (arith, below, length-map (take count cells) found_in, length-take-le count cells within)
 
+-- the record that is read
+pub found_here : (cells : List Cell) (count i : ℕ) (cell : Cell) → i < count → count ≤ length cells → cell ≡ get_or cells i cell
+    → slice_get (map found_in (take count cells)) i ≡ Some (found_in cell)
+found_here cells count i cell below within at =
+    let front = take count cells in
+    let inside : i < length front = omega (arith, below, length-take-le count cells within) in
+    slice_get-get_or (map found_in front) i (found_in cell) (omega (arith, inside, length-map front found_in))
+    ∙ ap Some (get_or-map found_in front i cell (found_in cell) inside ∙ ap found_in (get_or-take count cells i cell below ∙ sym at))
+
 -- another record in the place of one
 pub found-set : (cells : List Cell) (count i : ℕ) (cell : Cell) (found : Found) → i < count → found_in cell ≡ found
     → map found_in (take count (set cells i cell)) ≡ set (map found_in (take count cells)) i found
@@ -73,7 +83,7 @@ low_at p xs ys k i found nodes x h below within at all =
 -- cells whose numbers rise are of records whose numbers do
 pub rising_numbers : (cells : List Cell) → IsNonDecreasingBy (λ cell. cell.node) cells → IsNonDecreasing (numbers_of (map found_in cells))
 rising_numbers cells rising i j d le below =
-    let z : Cell = record { node = 0; tag = 0; point = record { x = 0; y = 0 } } in
+    let z : Cell = record { node = 0; tag = 0; word = 0 } in
     let founds = map found_in cells in
     let long = length-map cells found_in in
     let longer = length-map founds (λ (f : Found). f.node) in

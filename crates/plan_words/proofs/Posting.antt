@@ -1,16 +1,13 @@
 -- What a post leaves of a pass: nothing is seen anew but the best word.
-use Rattle.std.proofs.Common.{◌≡◌, ◌≢◌, ◌⊎◌, ℕ, zero, suc, ◌≤◌, ◌^◌, Bool, true, false, Option, Some, None, List, [], refl, sym, ap, ◌∙◌, subst, inl}
+use Rattle.std.proofs.Common.{◌≡◌, ◌≢◌, ℕ, zero, suc, ◌≤◌, ◌^◌, Bool, true, false, Option, Some, None, List, refl, sym, ap, ◌∙◌, subst, inl}
 use Rattle.std.proofs.Common.{inr, arith}
-use Rattle.std.specs.Prelude.{◌+◌, ◌<◌, ◌==◌, ◌*◌, ◌/◌, ◌%◌, IfNone, IfSome, IsTrue, cond, length, slice_index}
+use Rattle.std.specs.Prelude.{◌+◌, ◌<◌, ◌==◌, ◌/◌, IfNone, IfSome, IsTrue, cond, length, slice_index}
 use Rattle.std.proofs.lemmas.Nat.{mod-mul-add, mod_below}
 use Rattle.std.proofs.lemmas.Bool.{eqb-true}
-use Rattle.std.proofs.lemmas.Option.{same_Some}
 use Rattle.atomic_table.specs.Seated.{TableId}
 use Rattle.atomic_table.specs.Table.{Me}
-use Rattle.plan_model.specs.Runs.Textbook.{skipping_goals}
 use Rattle.plan_model.specs.Trees.BestNode.{is_goal_point, lies_in_goals}
 use Rattle.plan_model.specs.Trees.PointsByNumber.{IsPresent, point_at, point_of}
-use Rattle.plan_model.specs.declared.geometry.Goal.{Goal}
 use Rattle.plan_model.specs.declared.geometry.Point.{Point}
 use Rattle.plan_model.proofs.BestNodeLaws.{IsPresent-goal}
 use Rattle.plan_model.proofs.NewNodes.{StandsAt-present}
@@ -18,17 +15,17 @@ use Rattle.plan_words.proofs.PlainScenes.{no_goals}
 use Rattle.plan_words.specs.Bests.{HasPostedHand, OnlyPosts}
 use Rattle.plan_words.specs.LoweredChildren.{LooksOn, SitsAt}
 use Rattle.plan_words.specs.Plays.{Tells}
-use Rattle.plan_words.specs.States.{BelongsTo, GoesOn, HasPairs, PassState, SharedState, run_in, with_view}
+use Rattle.plan_words.specs.States.{GoesOn, HasPairs, PassState, SharedState, run_in, with_view}
 use Rattle.plan_words.specs.declared.openings.Aim.{Aim}
-use Rattle.step_core.specs.LaterViews.{IsLater, IsLawfulView}
+use Rattle.step_core.specs.LaterViews.{IsLawfulView}
 use Rattle.step_core.specs.GrownWords.{has_node}
 use Rattle.step_core.specs.SeenBests.{MayPost, SeesGoal, seen_first_cost}
 use Rattle.step_core.specs.Stages.{has_link}
-use Rattle.step_core.specs.ViewSteps.{best_with, hand_with_post, loaded, lowered, post_noted, posted, with_best}
+use Rattle.step_core.specs.ViewSteps.{best_with, hand_with_post, lowered, post_noted, posted, with_best}
 use Rattle.step_core.specs.ViewTrees.{SeesPoint}
 use Rattle.step_core.specs.SeenWords.{seen_tree_of_words}
 use Rattle.step_core.specs.Views.{run_sizes, sees, tree_seen}
-use Rattle.step_core.specs.WordNames.{Word, Words, WritesWord}
+use Rattle.step_core.specs.WordNames.{Word, WritesWord}
 use Rattle.step_core.specs.WordNames.Word.{FirstOf, PointOf, TreeOf}
 use Rattle.step_core.specs.Words.{best_cost_in, best_node_in, best_of_word, best_word, cost_in, no_best, point_of_word, tree_word}
 use Rattle.step_core.specs.declared.views.Hand.{Hand}

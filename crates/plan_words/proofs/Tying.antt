@@ -1,5 +1,5 @@
 -- What a pass keeps beside its view, after steps that the law tells nothing of, and the word that it stores for its turn.
-use Rattle.std.proofs.Common.{◌≡◌, ℕ, ◌+◌, ◌*◌, ◌<◌, ◌≤◌, List}
+use Rattle.std.proofs.Common.{◌≡◌, ℕ, ◌+◌, ◌<◌, ◌≤◌, List}
 use Rattle.std.proofs.Common.{[], ◌∷◌, length, Option, Some, None, refl, sym, ap, ◌∙◌, subst, arith, le_trans}
 use Rattle.std.specs.Prelude.{IfSome, IsSome, is_some}
 use mathlib.Core.Option.{some, some-ne-none}

@@ -1,11 +1,15 @@
 -- What a search keeps in a pass: the nodes that wait, how many were taken off, and those that it found among these.
-use Rattle.std.specs.Prelude.{◌≡◌, ℕ, ◌+◌, ◌≤◌, ◌==◌, if◌then◌else◌, Bool, List, [], drop, length, map, nat_lt, take}
+use Rattle.std.specs.Prelude.{ℕ, ◌+◌, ◌≤◌, ◌==◌, if◌then◌else◌, Bool, List, [], drop, length, map, nat_lt, take}
 use Rattle.plan_model.specs.Geometry.Cost.{cost_of}
 use Rattle.plan_model.specs.declared.geometry.Point.{Point}
-use Rattle.step_core.specs.Words.{cost_in}
+use Rattle.step_core.specs.Words.{cost_in, point_in}
 use Rattle.plan_words.specs.declared.spots.Cell.{Cell}
 use Rattle.plan_words.specs.declared.spots.Found.{Found}
 use Rattle.plan_words.specs.declared.spots.Spot.{Spot}
+
+-- where the node of a spot stands
+abbrev pub point_of_spot : Spot → Point
+point_of_spot spot = point_in spot.word
 
 -- The spots that wait, in the order in which they came, how many were taken off before them, and the nodes found.
 pub record SearchLists : Type 0 where
@@ -25,16 +29,16 @@ pub record SearchState : Type 0 where
 -- ---- the cells
 
 abbrev pub cell_of : Spot → Cell
-cell_of spot = record { node = spot.node; tag = if spot.by_rows then 1 else 0; point = spot.point }
+cell_of spot = record { node = spot.node; tag = if spot.by_rows then 1 else 0; word = spot.word }
 
 abbrev pub spot_in : Cell → Spot
-spot_in cell = record { node = cell.node; by_rows = cell.tag == 1; point = cell.point }
+spot_in cell = record { node = cell.node; by_rows = cell.tag == 1; word = cell.word }
 
-abbrev pub found_cell_of : Found → Cell
-found_cell_of found = record { node = found.node; tag = found.edge; point = found.point }
+abbrev pub noted_cell : Spot → Cell
+noted_cell spot = record { node = spot.node; tag = 0; word = spot.word }
 
 abbrev pub found_in : Cell → Found
-found_in cell = record { node = cell.node; edge = cell.tag; point = cell.point }
+found_in cell = record { node = cell.node; edge = cell.tag; point = point_in cell.word }
 
 -- The first cells are those of found nodes, and those past as many as were taken are those of spots that wait.
 abbrev pub lists_in : List Cell → ℕ → ℕ → SearchLists
@@ -49,7 +53,7 @@ pub record IsSearchStore (cells : List Cell) (taken count : ℕ) : Type 0 where
 
 -- the node as it is noted
 abbrev pub noted : Spot → Found
-noted spot = record { node = spot.node; edge = 0; point = spot.point }
+noted spot = record { node = spot.node; edge = 0; point = point_of_spot spot }
 
 abbrev pub numbers_of : List Found → List ℕ
 numbers_of found = map (λ (f : Found). f.node) found

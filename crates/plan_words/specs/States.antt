@@ -1,5 +1,5 @@
 -- What contracts see of a shared tree and of a pass, and what a table of words keeps.
-use Rattle.std.specs.Prelude.{◌≡◌, ℕ, ◌+◌, ◌*◌, ◌<◌, ◌≤◌, Option, Some, None, List, [], ◌∷◌, length, slice_index}
+use Rattle.std.specs.Prelude.{◌≡◌, ℕ, ◌+◌, ◌<◌, ◌≤◌, Option, Some, None, List, [], ◌∷◌, length, slice_index}
 use Rattle.atomic_table.specs.Seated.{TableId}
 use Rattle.plan_model.specs.Runs.Textbook.{skipping_goals}
 use Rattle.plan_model.specs.declared.tasks.Task.{Task}

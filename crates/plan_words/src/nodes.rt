@@ -13,6 +13,7 @@ ghost use Rattle.step_core.specs.ViewTrees.{IsSteered, LeadsTo, SeesNode, SeesPo
 ghost use Rattle.step_core.specs.Views.{sees, tree_seen};
 ghost use Rattle.step_core.specs.WordNames.{ChangesOnly, WritesWord};
 ghost use Rattle.step_core.specs.WordNames.Word.{ChildOf, PointOf};
+ghost use Rattle.step_core.specs.Words.{point_in};
 ghost use Rattle.step_core.specs.declared.views.Stage.TheVariants.{Claimed, Counted, Linked, Treed};
 
 use crate::passes::Pass;
@@ -58,6 +59,24 @@ impl Shared {
         self.table.shared.load::<Load>(seat, place) as u32
     }
 
+    /// The word of the point of a seen node, which is seen there then.
+    #[inline]
+    pub fn point_word(&self, pass: &mut Pass, node: u32) -> u64
+        requires belongs { BelongsTo pass.old self.now }
+        requires seen_node { SeesNode pass.old.view node }
+        ensures view { pass.new ≡ with_view pass.old (loaded pass.old.view (PointOf node) (sees pass.new.view (PointOf node))) }
+        ensures goes_on { GoesOn pass.old.view pass.new.view }
+        // all other words are seen as before
+        ensures seen { WritesWord (PointOf node) (sees pass.new.view (PointOf node)) (sees pass.old.view) (sees pass.new.view) }
+        ensures found { SeesPoint pass.new.view node (point_in result) }
+        // a pass with the whole share finds nothing new
+        ensures whole { HasWholeShare pass.old.view → sees pass.new.view (PointOf node) ≡ sees pass.old.view (PointOf node) }
+    {
+        let seat = &mut pass.seat;
+        let place = self.places.point(node as usize);
+        self.table.shared.load::<Load>(seat, place)
+    }
+
     /// The point of a seen node, which is seen there then.
     pub fn point(&self, pass: &mut Pass, node: u32) -> Point
         requires belongs { BelongsTo pass.old self.now }
@@ -71,9 +90,7 @@ impl Shared {
         // a pass with the whole share finds nothing new
         ensures whole { HasWholeShare pass.old.view → sees pass.new.view (PointOf node) ≡ sees pass.old.view (PointOf node) }
     {
-        let seat = &mut pass.seat;
-        let place = self.places.point(node as usize);
-        point_in(self.table.shared.load::<Load>(seat, place))
+        point_in(self.point_word(pass, node))
     }
 
     /// Writes the point of the node in hand, for which nothing is written yet. The point is a step towards the mark from a node

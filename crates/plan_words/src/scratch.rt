@@ -138,16 +138,16 @@ impl Pass {
         self.lists.search.found(index)
     }
 
-    /// Puts another record in the place of the one found at this index, which is below their count. O(1).
+    /// Gives the one found at this index, which is below their count, this cost of its edge. O(1).
     #[inline]
-    pub fn set_found(&mut self, index: usize, found: Found)
+    pub fn set_edge(&mut self, index: usize, edge: u32)
         requires { index < length self.old.lists.search.found }
         ensures others { self.new ≡ with_lists self.old self.new.lists }
-        ensures set { self.new.lists ≡ record self.old.lists {
-          search = record self.old.lists.search { found = slice_set self.old.lists.search.found index found };
-        } }
+        ensures set { IfSome (slice_get self.old.lists.search.found index) (λ found. self.new.lists ≡ record self.old.lists {
+          search = record self.old.lists.search { found = slice_set self.old.lists.search.found index (record found { edge = edge }) };
+        }) }
     {
-        self.lists.search.set_found(index, found);
+        self.lists.search.set_edge(index, edge);
     }
 
     /// Keeps of the nodes found those that cost more, as the pass saw them last, than this and their edges, in rising number. A node's

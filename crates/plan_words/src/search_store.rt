@@ -109,21 +109,22 @@ impl SearchStore {
           };
         } }
     {
-        self.cells[self.count] = Cell::of_found(Found {
-            node: spot.node,
-            edge: 0,
-            point: spot.point,
-        });
+        self.cells[self.count] = Cell::noted(spot);
         self.count += usize::from(wanted);
     }
 
-    /// Puts another record in the place of the one found at this index.
+    /// Gives the one found at this index this cost of its edge.
     #[inline]
-    pub(crate) fn set_found(&mut self, index: usize, found: Found)
+    pub(crate) fn set_edge(&mut self, index: usize, edge: u32)
         requires { index < length self.old.lists.found }
-        ensures { self.new ≡ record self.old { lists = record self.old.lists { found = slice_set self.old.lists.found index found } } }
+        ensures { IfSome (slice_get self.old.lists.found index) (λ found.
+            self.new ≡ record self.old {
+              lists = record self.old.lists {
+                found = slice_set self.old.lists.found index (record found { edge = edge });
+              };
+            }) }
     {
-        self.cells[index] = Cell::of_found(found);
+        self.cells[index] = self.cells[index].with_edge(edge);
     }
 
     /// Keeps those found that were seen to cost more than this and their edges, in rising number. No jump depends on who does, and none

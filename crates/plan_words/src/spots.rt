@@ -1,19 +1,30 @@
 //! The nodes of a search: those that wait, and those that it found.
 
 ghost use Rattle.std.specs.Prelude.{◌≡◌};
-ghost use Rattle.plan_words.specs.SearchLists.{cell_of, found_cell_of, found_in, spot_in};
+ghost use Rattle.plan_words.specs.SearchLists.{cell_of, found_in, noted, noted_cell, point_of_spot, spot_in};
 
 use plan_model::Point;
+use step_core::point_in;
 
-/// A node that a search has come to, with its point.
+/// A node that a search has come to, with the word of its point.
 #[derive(Clone, Copy)]
 pub struct Spot {
     /// The number of the node.
     pub node: u32,
     /// Whether it stands at an odd depth, so that its children are split by row, or by column.
     pub by_rows: bool,
-    /// Where it stands.
-    pub point: Point,
+    /// The word of its point, as it was loaded: it is taken apart once, when the node is visited.
+    pub word: u64,
+}
+
+impl Spot {
+    /// Where it stands. O(1).
+    #[inline]
+    pub fn point(self) -> Point
+        ensures { result ≡ point_of_spot self }
+    {
+        point_in(self.word)
+    }
 }
 
 /// A node that a search has found, with its point.
@@ -27,13 +38,14 @@ pub struct Found {
     pub point: Point,
 }
 
-/// What both are made of: four numbers, and nothing between them.
+/// What both are made of: two numbers and a word, and nothing between them.
 #[derive(Clone, Copy)]
 pub(crate) struct Cell {
     pub(crate) node: u32,
     /// 1 for a spot whose children are split by row, 0 for one of the others; the cost of the edge of a found node.
     tag: u32,
-    point: Point,
+    /// The word of its point.
+    word: u64,
 }
 
 impl Cell {
@@ -46,20 +58,32 @@ impl Cell {
         Cell {
             node: spot.node,
             tag: u32::from(spot.by_rows),
-            point: spot.point,
+            word: spot.word,
         }
     }
 
-    /// The cell of a found node.
+    /// The cell of the node of a spot that is found, with no cost of an edge.
     #[inline]
-    pub(crate) fn of_found(found: Found) -> Cell
-        ensures cell { result ≡ found_cell_of found }
-        ensures found { found_in result ≡ found }
+    pub(crate) fn noted(spot: Spot) -> Cell
+        ensures cell { result ≡ noted_cell spot }
+        ensures found { found_in result ≡ noted spot }
     {
         Cell {
-            node: found.node,
-            tag: found.edge,
-            point: found.point,
+            node: spot.node,
+            tag: 0,
+            word: spot.word,
+        }
+    }
+
+    /// The same found node with this cost of its edge.
+    #[inline]
+    pub(crate) fn with_edge(self, edge: u32) -> Cell
+        ensures { found_in result ≡ record (found_in self) { edge = edge } }
+    {
+        Cell {
+            node: self.node,
+            tag: edge,
+            word: self.word,
         }
     }
 
@@ -71,7 +95,7 @@ impl Cell {
         Spot {
             node: self.node,
             by_rows: self.tag == 1,
-            point: self.point,
+            word: self.word,
         }
     }
 
@@ -83,7 +107,7 @@ impl Cell {
         Found {
             node: self.node,
             edge: self.tag,
-            point: self.point,
+            point: point_in(self.word),
         }
     }
 }

@@ -1,6 +1,6 @@
 -- The choice of a parent by the words of pairs.
-use Rattle.std.proofs.Common.{◌≡◌, ◌≢◌, ◌⊎◌, ℕ, ◌+◌, ◌*◌, ◌^◌, ◌<◌, ◌≤◌, List, ◌∷◌, [], ◌++◌, Option}
-use Rattle.std.proofs.Common.{map, take, length, Some, arith, inl, inr, refl, sym, ap, ◌∙◌, subst}
+use Rattle.std.proofs.Common.{◌≡◌, ◌≢◌, ◌⊎◌, ℕ, ◌+◌, ◌^◌, ◌<◌, ◌≤◌, List, ◌∷◌, [], ◌++◌, Option}
+use Rattle.std.proofs.Common.{map, take, Some, arith, inl, inr, refl, sym, ap, ◌∙◌, subst}
 use Rattle.std.specs.Prelude.{All, Contains, slice_get, slice_index_or}
 use Rattle.std.proofs.lemmas.Bool.{cases_eq, cases_lt}
 use Rattle.std.proofs.lemmas.List.{take_more}
@@ -29,11 +29,10 @@ use Rattle.step_core.specs.WordNames.Word.{TreeOf}
 use Rattle.step_core.specs.declared.views.View.{View}
 use Rattle.step_core.proofs.DistinctNumbers.{Contains-cases}
 use Rattle.step_core.proofs.PackedWords.{cost_in-tree_word, parent_in-tree_word}
-use Rattle.tree_rewire.specs.FoundNodes.{IsBlockedBelow, IsClearTo, IsNextOf, IsNextWord, IsOpenWord, IsWeighed, StandsAsFound, word_through}
+use Rattle.tree_rewire.specs.FoundNodes.{IsBlockedBelow, IsNextOf, IsNextWord, IsOpenWord, IsWeighed, StandsAsFound, word_through}
 use Rattle.tree_rewire.specs.SeenCosts.{NamesNothing, SeesAnew, SeesPair, cost_seen, seen_cost_through}
-use Rattle.tree_rewire.proofs.CostSteps.{point_of-same, seen_cost_through-same}
 use Rattle.tree_rewire.proofs.FoundLists.{Contains-image, Contains-source}
-use Rattle.tree_rewire.proofs.SeenCosts.{SeesPair-later, pair_low, stands_later}
+use Rattle.tree_rewire.proofs.SeenCosts.{pair_low, stands_later}
 
 -- ---- words
 

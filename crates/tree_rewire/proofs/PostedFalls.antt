@@ -1,5 +1,5 @@
 -- Goal nodes of which the best word is at most the pair, while a pass with the whole share lowers costs.
-use Rattle.std.proofs.Common.{◌≡◌, ◌≢◌, ℕ, ◌<◌, ◌≤◌, ◌^◌, Result, Ok, Err, arith, ap, ◌∙◌}
+use Rattle.std.proofs.Common.{◌≡◌, ℕ, ◌<◌, ◌≤◌, ◌^◌, Result, Ok, Err, arith, ap, ◌∙◌}
 use Rattle.std.specs.Prelude.{IfOk, IsOk}
 use Rattle.plan_words.specs.Bests.{HasPostedGoals}
 use Rattle.plan_words.specs.States.{GoesOn}

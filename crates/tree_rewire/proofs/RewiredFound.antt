@@ -1,8 +1,7 @@
 -- Of the nodes found those that are dearer than through a new one are rewired, in rising number; the others need not be looked at.
-use Rattle.std.proofs.Common.{◌≡◌, ℕ, suc, ◌+◌, ◌<◌, ◌≤◌, ◌^◌, Bool, true, false, List, Option, Some, is_some}
-use Rattle.std.proofs.Common.{map, length, ltb, arith, inl, inr, refl, sym, ap, ◌∙◌, subst}
+use Rattle.std.proofs.Common.{◌≡◌, ℕ, suc, ◌+◌, ◌≤◌, Bool, true, false, List, Option, Some, is_some}
+use Rattle.std.proofs.Common.{arith, refl, sym, ap, ◌∙◌, subst}
 use Rattle.std.specs.Prelude.{All, Contains, IsPermutation, filter, nat_lt, eqb, unwrap_or}
-use Rattle.std.specs.List.{IsDistinct}
 use Rattle.std.specs.List.Sorted.{IsNonDecreasing, IsStrictlyIncreasing}
 use Rattle.std.specs.Ordering.{nat_cmp}
 use Rattle.std.proofs.lemmas.Bool.{ltb-false}
@@ -15,17 +14,16 @@ use Rattle.plan_model.specs.Geometry.Cost.{cost_of}
 use Rattle.plan_model.specs.Runs.Textbook.{Nodes, Rewires}
 use Rattle.plan_model.specs.declared.configuration_spaces.ConfigurationSpace.{ConfigurationSpace}
 use Rattle.plan_model.specs.Trees.NodeLists.{CostsFall, parent_of, points_of, sum_of}
-use Rattle.plan_model.specs.Trees.PointsByNumber.{AreDistinct, IsPresent, point_at, point_of}
+use Rattle.plan_model.specs.Trees.PointsByNumber.{AreDistinct, IsPresent, point_of}
 use Rattle.plan_model.proofs.CostLaws.{cost_of-swap}
 use Rattle.plan_model.proofs.NearNodes.{Contains-filter}
-use Rattle.plan_model.proofs.NewNodes.{IsPresent-stands, point_of-stands}
+use Rattle.plan_model.proofs.NewNodes.{point_of-stands}
 use Rattle.plan_words.specs.SearchLists.{is_dearer, numbers_of}
 use Rattle.plan_words.specs.States.{HasWholeShare, tree_words}
 use Rattle.plan_words.specs.declared.spots.Found.{Found}
 use Rattle.plan_words.proofs.RisingNumbers.{Contains-number, distinct_numbers, eqb-swap, same_numbers}
 use Rattle.step_core.specs.LaterViews.{IsLawfulView}
 use Rattle.step_core.specs.Views.{tree_seen}
-use Rattle.step_core.specs.Words.{cost_in}
 use Rattle.step_core.specs.declared.views.View.{View}
 use Rattle.tree_rewire.specs.FoundNodes.{AreOf, IsWeighed}
 use Rattle.tree_rewire.specs.Mirrors.{Mirrors}

@@ -84,14 +84,7 @@ fn weigh_found(shared: &Shared, pass: &mut Pass, p: Point, nearest: u32)
         let found = pass.found(index);
         let _pair = shared.tree(pass, found.node);
         let edge = cost(found.point, p) as u32;
-        pass.set_found(
-            index,
-            Found {
-                node: found.node,
-                edge,
-                point: found.point,
-            },
-        );
+        pass.set_edge(index, edge);
     }
 }
 

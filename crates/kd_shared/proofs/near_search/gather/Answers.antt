@@ -1,32 +1,34 @@
-use Rattle.std.proofs.Common.{◌≡◌, suc, ◌+◌, ◌*◌, List, [], ◌∷◌, ◌++◌, length, false, true, arith, refl, sym, ap, ◌∙◌, subst}
-use Rattle.std.specs.Prelude.{option_to_list}
+use Rattle.std.proofs.Common.{◌≡◌, ◌<◌, suc, ◌+◌, ◌*◌, List, [], ◌∷◌, ◌++◌, length, false, true, arith, refl, sym, ap, ◌∙◌, subst}
+use Rattle.std.specs.Prelude.{IsFalse, option_to_list}
+use Rattle.plan_words.specs.SearchLists.{point_of_spot}
 use Rattle.plan_words.specs.States.{PassState, with_lists}
 use Rattle.plan_words.specs.declared.spots.Spot.{Spot}
+use Rattle.plan_model.specs.Geometry.Bounds.{IsBounded}
 use Rattle.plan_model.specs.Geometry.Plane.{squared_distance}
 use Rattle.step_core.specs.WordNames.Word.{PointOf}
 use Rattle.kd_shared.specs.Looking.{searched}
-use Rattle.kd_shared.specs.Spots.{Notes}
+use Rattle.kd_shared.specs.Spots.{Notes, side_distance}
 use Rattle.kd_shared.proofs.Looking.{LoadsPoint-point}
 use Rattle.kd_shared.proofs.NearPasses.{ended_few, ended_gathered, fewer_left, half_room, half_seen, IsGatheringPass-begins}
 use Rattle.kd_shared.proofs.NearPasses.{IsGatheringPass-visits, noted_room, noted_seen, spot_bounded, taken_more}
 use Rattle.kd_shared.proofs.PassLooks.{PassLooks-load}
 use Rattle.kd_shared.proofs.near_search.gather.Goals as goal
-use Rattle.kd_shared.proofs.near_search.gather.Goals.{After-note, After-take_spot}
+use Rattle.kd_shared.proofs.near_search.gather.Goals.{After-note, After-sides_within-left, After-take_spot}
 
 pub visits-init : goal.visits-init
 visits-init c =
-    let spot : Spot = record { node = 0; by_rows = false; point = c.point-start.result } in
-    let first = PassLooks-load c.args.shared.now c.args.pass.now c.point-start.new.pass (PointOf 0) _ _ c.requires.belongs tt
-    c.point-start.ensures.view c.point-start.ensures.goes_on c.point-start.ensures.seen c.point-start.ensures.whole in
-    let load = LoadsPoint-point c.args.pass.now.view c.point-start.new.pass.view 0 c.point-start.ensures.goes_on spot.point
-    c.point-start.ensures.found c.point-start.ensures.seen.others in
-    let cleared = c.clear_search.ensures.others ∙ ap (with_lists c.point-start.new.pass) c.clear_search.ensures.search in
+    let spot : Spot = record { node = 0; by_rows = false; word = c.point_word-start.result } in
+    let first = PassLooks-load c.args.shared.now c.args.pass.now c.point_word-start.new.pass (PointOf 0) _ _ c.requires.belongs tt
+    c.point_word-start.ensures.view c.point_word-start.ensures.goes_on c.point_word-start.ensures.seen c.point_word-start.ensures.whole in
+    let load = LoadsPoint-point c.args.pass.now.view c.point_word-start.new.pass.view 0 c.point_word-start.ensures.goes_on (point_of_spot spot)
+    c.point_word-start.ensures.found c.point_word-start.ensures.seen.others in
+    let cleared = c.clear_search.ensures.others ∙ ap (with_lists c.point_word-start.new.pass) c.clear_search.ensures.search in
     let alone = c.put_spot_if.ensures.others
     ∙ ap (with_lists c.clear_search.new.self) c.put_spot_if.ensures.put
     ∙ ap (λ (s : PassState). with_lists s (record s.lists { search = record s.lists.search { spots = s.lists.search.spots ++ spot ∷ [] } })) cleared in
     record {
       most_is = c.square-most.ensures;
-      gathers = IsGatheringPass-begins c.args.shared.now c.args.pass.now c.point-start.new.pass c.put_spot_if.new.self c.args.p c.args.r spot first load
+      gathers = IsGatheringPass-begins c.args.shared.now c.args.pass.now c.point_word-start.new.pass c.put_spot_if.new.self c.args.p c.args.r spot first load
           alone refl refl;
     }
 
@@ -58,8 +60,9 @@ returns-clause-few c =
 
 pub squared_distance-requires-clause-from : goal.squared_distance-requires-clause-from
 squared_distance-requires-clause-from c =
-    spot_bounded c.args.shared.now c.args.pass.now c.visits.pass c.args.p c.args.r c.visits.invariant.gathers c.in-Some.spot
-    c.take_spot.new.self.lists.search.spots c.in-Some.ensures.taken
+    subst IsBounded (sym c.point-here.ensures)
+    (spot_bounded c.args.shared.now c.args.pass.now c.visits.pass c.args.p c.args.r c.visits.invariant.gathers c.in-Some.spot
+    c.take_spot.new.self.lists.search.spots c.in-Some.ensures.taken)
 
 noted_is : (c : After-note) → c.note.new.pass ≡ searched c.visits.pass c.visits.pass.view (record {
   spots = c.take_spot.new.self.lists.search.spots;
@@ -83,10 +86,20 @@ taken_one : (c : After-note) → c.take_spot.new.self.lists.search.taken ≡ suc
 taken_one c = omega (arith, c.in-Some.ensures.count)
 
 near_notes : (c : After-note) → Notes c.visits.pass.lists.search.found c.note.new.pass.lists.search.found c.in-Some.spot
-    (squared_distance c.in-Some.spot.point c.args.p) (c.args.r * c.args.r)
+    (squared_distance (point_of_spot c.in-Some.spot) c.args.p) (c.args.r * c.args.r)
 near_notes c =
     subst (λ d. Notes c.visits.pass.lists.search.found c.note.new.pass.lists.search.found c.in-Some.spot d (c.args.r * c.args.r))
-    c.squared_distance.ensures.value (notes c)
+    (c.squared_distance.ensures.value ∙ ap (λ p. squared_distance p c.args.p) c.point-here.ensures) (notes c)
+
+-- which of its sides are within the radius
+
+left_is : (c : After-sides_within-left) → IsFalse c.sides_within-left.result.0 → c.args.r < side_distance c.in-Some.spot.by_rows (point_of_spot c.in-Some.spot) c.args.p false
+left_is c = subst (λ p. IsFalse c.sides_within-left.result.0 → c.args.r < side_distance c.in-Some.spot.by_rows p c.args.p false) c.point-here.ensures
+    c.sides_within-left.ensures.left
+
+right_is : (c : After-sides_within-left) → IsFalse c.sides_within-left.result.1 → c.args.r < side_distance c.in-Some.spot.by_rows (point_of_spot c.in-Some.spot) c.args.p true
+right_is c = subst (λ p. IsFalse c.sides_within-left.result.1 → c.args.r < side_distance c.in-Some.spot.by_rows p c.args.p true) c.point-here.ensures
+    c.sides_within-left.ensures.right
 
 -- its left child is queued, or left out
 
@@ -109,40 +122,44 @@ queue_child-requires-clause-room c =
 pub queue_child-requires-in-Some-clause-seen : goal.queue_child-requires-in-Some-clause-seen
 queue_child-requires-in-Some-clause-seen c =
     let noted = (goal.at.queue_child-requires-in-Some-clause-seen c).After-note in
+    let sides = (goal.at.queue_child-requires-in-Some-clause-seen c).After-sides_within-left in
     half_seen c.args.shared.now c.args.pass.now c.visits.pass c.args.p c.args.r c.visits.invariant.gathers c.in-Some.spot
     c.take_spot.new.self.lists.search.spots c.in-Some.ensures.taken c.note.new.pass c.take_spot.new.self.lists.search.taken
     c.note.new.pass.lists.search.found (taken_one noted) (noted_is noted) (near_notes noted) c.queue_child.new.pass true
-    c.sides_within-left.result.0 c.queue_child.ensures.looks c.queue_child.ensures.others c.sides_within-left.ensures.left c.queue_child.ensures.queues
+    c.sides_within-left.result.0 c.queue_child.ensures.looks c.queue_child.ensures.others (left_is sides) c.queue_child.ensures.queues
 
 pub queue_child-requires-in-Some-clause-room : goal.queue_child-requires-in-Some-clause-room
 queue_child-requires-in-Some-clause-room c =
     let noted = (goal.at.queue_child-requires-in-Some-clause-room c).After-note in
+    let sides = (goal.at.queue_child-requires-in-Some-clause-room c).After-sides_within-left in
     half_room c.args.shared.now c.args.pass.now c.visits.pass c.args.p c.args.r c.visits.invariant.gathers c.in-Some.spot
     c.take_spot.new.self.lists.search.spots c.in-Some.ensures.taken c.note.new.pass c.take_spot.new.self.lists.search.taken
     c.note.new.pass.lists.search.found (taken_one noted) (noted_is noted) (near_notes noted) c.queue_child.new.pass true
-    c.sides_within-left.result.0 c.queue_child.ensures.looks c.queue_child.ensures.others c.sides_within-left.ensures.left c.queue_child.ensures.queues
+    c.sides_within-left.result.0 c.queue_child.ensures.looks c.queue_child.ensures.others (left_is sides) c.queue_child.ensures.queues
 
 pub visits-preserved : goal.visits-preserved
 visits-preserved c =
     let noted = (goal.at.visits-preserved c).After-note in
+    let sides = (goal.at.visits-preserved c).After-sides_within-left in
     record {
       most_is = c.visits.invariant.most_is;
       gathers = IsGatheringPass-visits c.args.shared.now c.args.pass.now c.visits.pass c.args.p c.args.r c.visits.invariant.gathers c.in-Some.spot
           c.take_spot.new.self.lists.search.spots c.in-Some.ensures.taken c.note.new.pass c.take_spot.new.self.lists.search.taken
           c.note.new.pass.lists.search.found (taken_one noted) (noted_is noted) (near_notes noted) c.queue_child.new.pass true
-          c.sides_within-left.result.0 c.queue_child.ensures.looks c.queue_child.ensures.others c.sides_within-left.ensures.left c.queue_child.ensures.queues
+          c.sides_within-left.result.0 c.queue_child.ensures.looks c.queue_child.ensures.others (left_is sides) c.queue_child.ensures.queues
           c.queue_child-in-Some.new.pass c.sides_within-left.result.1 c.queue_child-in-Some.ensures.belongs c.queue_child-in-Some.ensures.looks
-          c.queue_child-in-Some.ensures.others c.sides_within-left.ensures.right c.queue_child-in-Some.ensures.queues;
+          c.queue_child-in-Some.ensures.others (right_is sides) c.queue_child-in-Some.ensures.queues;
     }
 
 pub visits-smaller : goal.visits-smaller
 visits-smaller c =
     let noted = (goal.at.visits-smaller c).After-note in
+    let sides = (goal.at.visits-smaller c).After-sides_within-left in
     let left = fewer_left c.args.shared.now c.args.pass.now c.visits.pass c.args.p c.args.r c.visits.invariant.gathers c.in-Some.spot
     c.take_spot.new.self.lists.search.spots c.in-Some.ensures.taken in
     let visited = taken_more c.args.shared.now c.args.pass.now c.visits.pass c.args.p c.args.r c.visits.invariant.gathers c.in-Some.spot
     c.take_spot.new.self.lists.search.spots c.in-Some.ensures.taken c.note.new.pass c.take_spot.new.self.lists.search.taken
     c.note.new.pass.lists.search.found (taken_one noted) (noted_is noted) (near_notes noted) c.queue_child.new.pass true
-    c.sides_within-left.result.0 c.queue_child.ensures.looks c.queue_child.ensures.others c.sides_within-left.ensures.left c.queue_child.ensures.queues
+    c.sides_within-left.result.0 c.queue_child.ensures.looks c.queue_child.ensures.others (left_is sides) c.queue_child.ensures.queues
     c.queue_child-in-Some.new.pass c.queue_child-in-Some.ensures.others in
     omega (arith, left, visited)

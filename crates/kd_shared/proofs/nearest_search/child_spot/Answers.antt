@@ -2,6 +2,7 @@ use Rattle.std.proofs.Common.{Some, None, refl, ◌∙◌}
 use Rattle.plan_model.proofs.SightLaws.{IsLaterMoment-trans}
 use Rattle.step_core.specs.ViewTrees.{sight_in}
 use Rattle.step_core.specs.WordNames.Word.{ChildOf, PointOf}
+use Rattle.step_core.specs.Words.{point_in}
 use Rattle.kd_shared.specs.LookLaws.{PassLooks-trans}
 use Rattle.kd_shared.proofs.Looking.{LoadsChild-child, LoadsPoint-point}
 use Rattle.kd_shared.proofs.PassLooks.{PassLooks-load}
@@ -17,18 +18,18 @@ pub returns-clause-looks : goal.returns-clause-looks
 returns-clause-looks c =
     let load = PassLooks-load c.args.shared.now c.args.pass.now c.child.new.pass (ChildOf c.args.spot.node c.args.right) _ _
     c.requires.belongs tt c.child.ensures.view c.child.ensures.goes_on c.child.ensures.seen c.child.ensures.whole in
-    let look = PassLooks-load c.args.shared.now c.child.new.pass c.point-point.new.pass (PointOf c.in-Some.node) _ _
-    load.belongs tt c.point-point.ensures.view c.point-point.ensures.goes_on c.point-point.ensures.seen c.point-point.ensures.whole in
-    (PassLooks-trans c.args.shared.now c.args.pass.now c.child.new.pass c.point-point.new.pass load look).looks
+    let look = PassLooks-load c.args.shared.now c.child.new.pass c.point_word-word.new.pass (PointOf c.in-Some.node) _ _
+    load.belongs tt c.point_word-word.ensures.view c.point_word-word.ensures.goes_on c.point_word-word.ensures.seen c.point_word-word.ensures.whole in
+    (PassLooks-trans c.args.shared.now c.args.pass.now c.child.new.pass c.point_word-word.new.pass load look).looks
 
 pub returns-clause-loads : goal.returns-clause-loads
 returns-clause-loads c =
     let load = LoadsChild-child c.args.pass.now.view c.child.new.pass.view c.args.spot.node c.child.ensures.goes_on c.args.right
     (Some c.in-Some.node) c.in-Some.ensures.found c.child.ensures.seen.others in
-    let point = LoadsPoint-point c.child.new.pass.view c.point-point.new.pass.view c.in-Some.node c.point-point.ensures.goes_on
-    c.point-point.result c.point-point.ensures.found c.point-point.ensures.seen.others in
+    let point = LoadsPoint-point c.child.new.pass.view c.point_word-word.new.pass.view c.in-Some.node c.point_word-word.ensures.goes_on
+    (point_in c.point_word-word.result) c.point_word-word.ensures.found c.point_word-word.ensures.seen.others in
     record {
-      later = IsLaterMoment-trans (sight_in c.args.pass.now.view) (sight_in c.child.new.pass.view) (sight_in c.point-point.new.pass.view)
+      later = IsLaterMoment-trans (sight_in c.args.pass.now.view) (sight_in c.child.new.pass.view) (sight_in c.point_word-word.new.pass.view)
           load.later point.later;
       keeps = point.keeps;
       finds = record {

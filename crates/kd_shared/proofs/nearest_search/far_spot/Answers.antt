@@ -27,4 +27,4 @@ pub returns-clause-loads : goal.returns-clause-loads
 returns-clause-loads c =
     LoadsFar-spot (sight_in c.args.pass.now.view) (sight_in c.child_spot.new.pass.view) c.args.p c.args.bound c.args.above c.child_spot.result
     (subst (λ side. LoadsSpot (sight_in c.args.pass.now.view) (sight_in c.child_spot.new.pass.view) c.args.above (not side) c.child_spot.result)
-    c.goes_right-right.ensures c.child_spot.ensures.loads)
+    c.goes_right_of-right.ensures c.child_spot.ensures.loads)

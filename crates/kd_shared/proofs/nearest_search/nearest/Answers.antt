@@ -1,5 +1,7 @@
 use Rattle.std.proofs.Common.{false, arith, refl, sym, ap, ◌∙◌, subst}
+use Rattle.plan_model.specs.Geometry.Bounds.{IsBounded}
 use Rattle.plan_model.specs.Geometry.Plane.{squared_distance}
+use Rattle.plan_words.specs.SearchLists.{point_of_spot}
 use Rattle.plan_words.specs.States.{with_lists}
 use Rattle.plan_words.specs.declared.spots.Spot.{Spot}
 use Rattle.step_core.specs.WordNames.Word.{PointOf}
@@ -14,23 +16,24 @@ use Rattle.kd_shared.proofs.nearest_search.nearest.Goals.{After-nearer-best}
 
 pub visits-init : goal.visits-init
 visits-init c =
-    let here : Spot = record { node = 0; by_rows = false; point = c.point-start.result } in
-    let first = PassLooks-load c.args.shared.now c.args.pass.now c.point-start.new.pass (PointOf 0) _ _ c.requires.belongs tt
-    c.point-start.ensures.view c.point-start.ensures.goes_on c.point-start.ensures.seen c.point-start.ensures.whole in
-    let load = LoadsPoint-point c.args.pass.now.view c.point-start.new.pass.view 0 c.point-start.ensures.goes_on c.point-start.result
-    c.point-start.ensures.found c.point-start.ensures.seen.others in
-    let cleared = c.clear_search.ensures.others ∙ ap (with_lists c.point-start.new.pass) c.clear_search.ensures.search in
+    let here : Spot = record { node = 0; by_rows = false; word = c.point_word-start.result } in
+    let first = PassLooks-load c.args.shared.now c.args.pass.now c.point_word-start.new.pass (PointOf 0) _ _ c.requires.belongs tt
+    c.point_word-start.ensures.view c.point_word-start.ensures.goes_on c.point_word-start.ensures.seen c.point_word-start.ensures.whole in
+    let load = LoadsPoint-point c.args.pass.now.view c.point_word-start.new.pass.view 0 c.point_word-start.ensures.goes_on (point_of_spot here)
+    c.point_word-start.ensures.found c.point_word-start.ensures.seen.others in
+    let cleared = c.clear_search.ensures.others ∙ ap (with_lists c.point_word-start.new.pass) c.clear_search.ensures.search in
     record {
       seeks = subst (λ (m : MeasuredNode). IsSeekingPass c.args.shared.now c.args.pass.now c.clear_search.new.self c.args.p m.distance m.node here 0)
-          (sym c.new-best.ensures)
-          (IsSeekingPass-begins c.args.shared.now c.args.pass.now c.point-start.new.pass c.clear_search.new.self c.args.p
-          (squared_distance c.point-start.result c.args.p) here first load refl cleared refl refl);
+          (sym (c.new-best.ensures ∙ ap (λ at. record { node = 0; at = at; distance = squared_distance at c.args.p }) c.point.ensures))
+          (IsSeekingPass-begins c.args.shared.now c.args.pass.now c.point_word-start.new.pass c.clear_search.new.self c.args.p
+          (squared_distance (point_of_spot here) c.args.p) here first load refl cleared refl refl);
     }
 
 pub new-requires-clause-at : goal.new-requires-clause-at
 new-requires-clause-at c =
-    here_bounded c.args.shared.now c.args.pass.now c.visits.pass c.args.p c.visits.best.distance c.visits.best.node c.visits.here c.visits._visit
-    c.visits.invariant.seeks
+    subst IsBounded (sym c.point-in-visits.ensures)
+    (here_bounded c.args.shared.now c.args.pass.now c.visits.pass c.args.p c.visits.best.distance c.visits.best.node c.visits.here c.visits._visit
+    c.visits.invariant.seeks)
 
 pub stack_far_side-requires-clause-seen : goal.stack_far_side-requires-clause-seen
 stack_far_side-requires-clause-seen c =
@@ -42,12 +45,13 @@ stack_far_side-requires-clause-room c =
     stack_room c.args.shared.now c.args.pass.now c.visits.pass c.args.p c.visits.best.distance c.visits.best.node c.visits.here c.visits._visit
     c.visits.invariant.seeks
 
-nearest : (c : After-nearer-best) → IsNearer c.visits.best.distance c.visits.best.node (squared_distance c.visits.here.point c.args.p) c.visits.here.node
+nearest : (c : After-nearer-best) → IsNearer c.visits.best.distance c.visits.best.node (squared_distance (point_of_spot c.visits.here) c.args.p) c.visits.here.node
     c.nearer-best.result.distance c.nearer-best.result.node
 nearest c =
     subst
     (λ (m : MeasuredNode). IsNearer c.visits.best.distance c.visits.best.node m.distance m.node c.nearer-best.result.distance c.nearer-best.result.node)
-    c.new.ensures (IsNearer-of c.visits.best c.new.result c.nearer-best.result c.nearer-best.ensures)
+    (c.new.ensures ∙ ap (λ at. record { node = c.visits.here.node; at = at; distance = squared_distance at c.args.p }) c.point-in-visits.ensures)
+    (IsNearer-of c.visits.best c.new.result c.nearer-best.result c.nearer-best.ensures)
 
 pub next_spot-requires-clause-seen : goal.next_spot-requires-clause-seen
 next_spot-requires-clause-seen c =

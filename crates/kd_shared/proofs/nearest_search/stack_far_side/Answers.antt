@@ -17,7 +17,7 @@ use Rattle.kd_shared.proofs.nearest_search.stack_far_side.Goals.{After-put_spot_
 
 load : (c : After-put_spot_if) → PassLooks c.args.shared.now c.args.pass.now c.child_or_start-far.new.pass
 load c =
-    PassLooks-load c.args.shared.now c.args.pass.now c.child_or_start-far.new.pass (ChildOf c.args.here.node (not c.goes_right-right.result)) _ _
+    PassLooks-load c.args.shared.now c.args.pass.now c.child_or_start-far.new.pass (ChildOf c.args.here.node (not c.goes_right_of-right.result)) _ _
     c.requires.belongs tt c.child_or_start-far.ensures.view c.child_or_start-far.ensures.goes_on c.child_or_start-far.ensures.seen
     c.child_or_start-far.ensures.whole
 
@@ -55,8 +55,8 @@ returns-clause-stacks c =
     (subst
     (λ side. LoadsChild (sight_in before.view) (sight_in c.child_or_start-far.new.pass.view) c.args.here.node (not side)
     (child_of_word c.child_or_start-far.result))
-    c.goes_right-right.ensures
+    c.goes_right_of-right.ensures
     (LoadsChild-child before.view c.child_or_start-far.new.pass.view c.args.here.node c.child_or_start-far.ensures.goes_on
-    (not c.goes_right-right.result) (child_of_word c.child_or_start-far.result) c.child_or_start-far.ensures.found
+    (not c.goes_right_of-right.result) (child_of_word c.child_or_start-far.result) c.child_or_start-far.ensures.found
     c.child_or_start-far.ensures.seen.others))
     c.is_left.ensures put)

@@ -1,4 +1,4 @@
-use Rattle.std.proofs.Common.{◌≡◌, ◌+◌, ◌<◌, Bool, arith, ap, sym, ◌∙◌, subst, refl, length, map, take}
+use Rattle.std.proofs.Common.{◌≡◌, ◌+◌, arith, ap, sym, ◌∙◌, length, take}
 use Rattle.std.specs.Prelude.{filter, nat_lt, slice_index}
 use Rattle.step_core.specs.Words.{cost_in}
 use Rattle.plan_words.specs.declared.spots.Found.{Found}

@@ -1,12 +1,11 @@
-use Rattle.std.proofs.Common.{◌≡◌, ◌<◌, ◌∷◌, ap, arith, subst, sym, ◌∙◌}
+use Rattle.std.proofs.Common.{◌≡◌, ◌∷◌, ap, arith, subst, sym, ◌∙◌}
 use Rattle.std.specs.Prelude.{All}
 use Rattle.std.proofs.lemmas.List.Elements.{All-cons, All-tail}
 use Rattle.plan_model.specs.Trees.LeastPairs.{IsFirstLeast}
 use Rattle.plan_model.specs.Trees.OpenNodes.{IsOpenTo}
-use Rattle.plan_model.specs.Geometry.Bounds.{IsBounded}
 use Rattle.plan_model.specs.Spaces.Clearance.{Clear}
 use Rattle.plan_model.specs.Spaces.ConfigurationSpace.{space_of}
-use Rattle.plan_model.specs.Trees.PointsByNumber.{IsPresent, point_of}
+use Rattle.plan_model.specs.Trees.PointsByNumber.{point_of}
 use Rattle.plan_words.proofs.GoingOn.{GoesOn-trans}
 use Rattle.plan_words.specs.SearchLists.{numbers_of, weighed}
 use Rattle.plan_words.specs.States.{GoesOn, PassState, with_view}
@@ -15,7 +14,7 @@ use Rattle.step_core.proofs.SeenViews.{IsPresent-later}
 use Rattle.swept_check.proofs.BoundedSegments.{IsBounded-clear_in_scene}
 use Rattle.step_core.specs.Words.{cost_in, parent_in, tree_word}
 use Rattle.tree_rewire.specs.FoundNodes.{IsWeighed}
-use Rattle.tree_rewire.specs.SeenCosts.{IsInReach, IsLoadedSince, NamesNothing, NamesTree, PassSees, SeesPair, seen_cost_through}
+use Rattle.tree_rewire.specs.SeenCosts.{IsInReach, NamesNothing, NamesTree, PassSees, SeesPair, seen_cost_through}
 use Rattle.tree_rewire.proofs.ChosenFound.{AllWeighed-seen, IsChosenWord, IsChosenWord-least}
 use Rattle.tree_rewire.proofs.ChosenParents.{IsCostBelow-best, IsFirstLeast-after, points_later}
 use Rattle.tree_rewire.proofs.CostSteps.{PassSees-trans, SeesAnew-more, SeesAnew-trans, seen_cost_through-same}

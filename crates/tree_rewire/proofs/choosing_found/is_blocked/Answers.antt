@@ -1,4 +1,4 @@
-use Rattle.std.proofs.Common.{◌≡◌, ◌∙◌, Bool, IsFalse, IsTrue, ap, arith, false, inl, not, refl, true, inr, subst, sym}
+use Rattle.std.proofs.Common.{◌≡◌, ◌∙◌, Bool, IsFalse, IsTrue, ap, arith, false, not, refl, true, inr, subst, sym}
 use Rattle.plan_model.specs.Spaces.Clearance.{Clear}
 use Rattle.plan_model.specs.Trees.PointsByNumber.{IsPresent, point_of}
 use Rattle.step_core.specs.Views.{tree_seen}

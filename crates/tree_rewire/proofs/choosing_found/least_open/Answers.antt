@@ -1,7 +1,7 @@
-use Rattle.std.proofs.Common.{◌≡◌, ◌<◌, ◌^◌, List, map, ap, arith, inl, inr, subst, sym, ◌∙◌}
+use Rattle.std.proofs.Common.{◌<◌, ◌^◌, map, ap, arith, inl, inr, subst, sym, ◌∙◌}
 use Rattle.std.specs.Prelude.{◌≢◌, All, IsTrue}
 use Rattle.edge_cost.proofs.CostBounds.{cost_of-low}
-use Rattle.plan_model.specs.Trees.PointsByNumber.{IsPresent, point_of}
+use Rattle.plan_model.specs.Trees.PointsByNumber.{point_of}
 use Rattle.plan_model.specs.Spaces.Clearance.{Clear}
 use Rattle.plan_words.specs.States.{PassState}
 use Rattle.plan_words.specs.declared.spots.Found.{Found}
@@ -12,7 +12,7 @@ use Rattle.step_core.specs.Words.{parent_in}
 use Rattle.tree_rewire.proofs.ChosenFound.{IsWordOf-next, blocked-first, blocked-next, open_word, present_of, words-same}
 use Rattle.tree_rewire.proofs.CostSteps.{PassSees-refl, PassSees-trans, point_of-same}
 use Rattle.tree_rewire.proofs.SeenCosts.{SeesPair-later}
-use Rattle.tree_rewire.specs.FoundNodes.{IsNextWord, IsWeighed, word_through}
+use Rattle.tree_rewire.specs.FoundNodes.{IsNextWord, word_through}
 use Rattle.tree_rewire.specs.SeenCosts.{NamesNothing, PassSees, SeesPair}
 use Rattle.tree_rewire.proofs.choosing_found.least_open.Given.{Over}
 use Rattle.tree_rewire.proofs.choosing_found.least_open.Goals as goal

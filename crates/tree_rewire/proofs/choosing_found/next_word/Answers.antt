@@ -1,4 +1,4 @@
-use Rattle.std.proofs.Common.{◌≡◌, ◌+◌, ◌<◌, ◌^◌, ◌∙◌, List, map, take, ap, arith, subst}
+use Rattle.std.proofs.Common.{◌+◌, ◌<◌, ◌^◌, ◌∙◌, List, map, take, ap, arith, subst}
 use Rattle.step_core.specs.Words.{tree_word}
 use Rattle.std.proofs.lemmas.List.{take_all}
 use Rattle.plan_words.specs.declared.spots.Found.{Found}

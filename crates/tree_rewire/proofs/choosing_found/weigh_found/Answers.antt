@@ -1,10 +1,9 @@
-use Rattle.std.proofs.Common.{◌≡◌, ◌+◌, ◌++◌, ◌≤◌, ◌∷◌, [], Some, List, length, map, take, drop, set, ap, arith, refl, subst, sym, ◌∙◌}
-use Rattle.std.specs.Prelude.{All, slice_get}
+use Rattle.std.proofs.Common.{◌≡◌, ◌+◌, ◌++◌, ◌≤◌, Some, length, map, take, drop, set, ap, arith, refl, subst, sym, ◌∙◌}
+use Rattle.std.specs.Prelude.{All, IfSome, slice_get}
 use Rattle.std.proofs.lemmas.List.{append-nil, drop_all, length-map, take_all}
 use Rattle.std.proofs.lemmas.List.Edits.{map_over_more}
 use Rattle.std.proofs.lemmas.List.Elements.{All-cons, All-nil}
 use Rattle.std.proofs.lemmas.Option.{get_or_from_slice_get, slice_get_within}
-use Rattle.plan_model.specs.Geometry.Bounds.{IsBounded}
 use Rattle.plan_model.specs.Geometry.Cost.{cost_of}
 use Rattle.plan_model.specs.Trees.PointsByNumber.{IsPresent}
 use Rattle.plan_model.proofs.NewNodes.{IsPresent-stands}
@@ -85,14 +84,20 @@ loads-preserved c =
     let n = x.node in
     let load = c.tree-pair-in-loads.ensures in
     let mid = c.tree-pair-in-loads.new.pass in
-    let then = c.set_found.new.self in
+    let then = c.set_edge.new.self in
     let f : Found → Found = λ g. record g { edge = cost_of g.point c.args.p } in
     let edge = c.cost-edge.ensures.value in
     let node = SeesNode-present c.loads.pass.view n h.seen.goes_on.lawful (present here) in
     let loaded = IsLoadedSince-tree c.loads.pass mid n _ h.seen.goes_on.lawful node load.view in
     let step = PassSees-tree c.args.shared.now c.loads.pass mid n _ _ h.belongs load.view load.goes_on load.seen in
     let was = step.view_alone ∙ ap (λ (s : PassState). with_found s mid.view s.lists.search.found) h.alone in
-    let set_is = c.set_found.ensures.others ∙ ap (with_lists mid) c.set_found.ensures.set in
+    let edged = subst
+    (λ o. IfSome o (λ g. then.lists ≡ record mid.lists {
+      search = record mid.lists.search { found = set mid.lists.search.found c.loads.index (record g { edge = c.cost-edge.result }) };
+    }))
+    (ap (λ (s : PassState). slice_get s.lists.search.found c.loads.index) step.view_alone ∙ c.found-found.ensures)
+    c.set_edge.ensures.set in
+    let set_is = c.set_edge.ensures.others ∙ ap (with_lists mid) edged in
     let view = ap (λ (s : PassState). s.view) set_is in
     let same = map_over_more f all (map f (take c.loads.index all) ++ drop c.loads.index all) c.loads.index x
     (slice_get_within all c.loads.index x (read here)) refl

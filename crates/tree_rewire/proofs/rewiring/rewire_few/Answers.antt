@@ -9,7 +9,7 @@ use Rattle.plan_model.specs.Spaces.ConfigurationSpace.{space_of}
 use Rattle.plan_model.specs.Runs.Textbook.{Rewires}
 use Rattle.plan_words.proofs.HandSteps.{some_hand}
 use Rattle.tree_rewire.specs.Rewirings.{HasSpreadFalls}
-use Rattle.tree_rewire.specs.SeenCosts.{IsInReach, NamesTreeOrPoint, SeesPair, cost_seen}
+use Rattle.tree_rewire.specs.SeenCosts.{IsInReach, NamesTreeOrPoint, cost_seen}
 use Rattle.tree_rewire.proofs.ChosenParents.{All-more, IsInReach-later, drop_read, near_read, take_read}
 use Rattle.tree_rewire.proofs.CostSteps.{HasPostedHand-later, PassLowers-lists, PassLowers-trans}
 use Rattle.tree_rewire.proofs.RewiredNodes.{IsRewired, IsRewired-later, IsRewired-looked, all_rewired, placed_near, placed_pair, placed_stands}

@@ -1,18 +1,17 @@
-use Rattle.std.proofs.Common.{◌+◌, ◌≡◌, ◌<◌, ◌≤◌, ◌^◌, ℕ, Bool, false, true, ap, arith, inl, inr, refl, subst, suc, sym, ◌∙◌}
+use Rattle.std.proofs.Common.{◌+◌, ◌≡◌, ◌<◌, ◌≤◌, ℕ, ap, arith, inl, inr, subst, suc, sym, ◌∙◌}
 use Rattle.std.specs.Prelude.{All, Contains, IfSome, IsSome}
 use Rattle.std.proofs.lemmas.Bool.{cases_Bool, ltb-false}
 use Rattle.std.proofs.lemmas.List.Elements.{All-contains, All-map, Contains-get_or}
 use Rattle.plan_model.specs.Geometry.Cost.{cost_of}
 use Rattle.plan_model.specs.Spaces.Clearance.{Clear}
 use Rattle.plan_model.specs.Spaces.ConfigurationSpace.{space_of}
-use Rattle.plan_model.specs.Runs.Textbook.{Nodes, Rewires}
-use Rattle.plan_model.specs.Trees.PointsByNumber.{IsPresent, point_of}
+use Rattle.plan_model.specs.Trees.PointsByNumber.{point_of}
 use Rattle.plan_model.proofs.CostLaws.{cost_of-swap}
 use Rattle.plan_words.proofs.HandSteps.{at_hand, some_hand}
 use Rattle.plan_words.proofs.KeptPairs.{if_hand}
 use Rattle.plan_words.proofs.RisingNumbers.{Contains-number}
 use Rattle.plan_words.specs.Bests.{HasPostedGoals, HasPostedHand}
-use Rattle.plan_words.specs.SearchLists.{is_dearer, numbers_of}
+use Rattle.plan_words.specs.SearchLists.{numbers_of}
 use Rattle.plan_words.specs.States.{GoesOn, HasWholeShare, Lists, PassState}
 use Rattle.step_core.specs.Views.{share}
 use Rattle.step_core.specs.declared.views.View.{View}

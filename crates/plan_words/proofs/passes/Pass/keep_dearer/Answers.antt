@@ -1,4 +1,4 @@
-use Rattle.std.proofs.Common.{◌≡◌, ◌≤◌, ◌<◌, List, length, arith, ap, sym, subst, ◌∙◌}
+use Rattle.std.proofs.Common.{◌<◌, List, length, arith, ap, sym, subst, ◌∙◌}
 use Rattle.std.specs.Prelude.{All, IsPermutation, filter, slice_index}
 use Rattle.plan_words.proofs.KeptFound.{filter-same}
 use Rattle.plan_words.specs.SearchLists.{is_dearer}

@@ -1,4 +1,4 @@
-use Rattle.std.proofs.Common.{◌≡◌, ◌≤◌, ◌<◌, List, length, map, take, arith, ap, sym, subst, ◌∙◌, rules}
+use Rattle.std.proofs.Common.{◌<◌, List, length, map, take, ap, sym, subst, ◌∙◌, rules}
 use Rattle.std.specs.Prelude.{All, IsPermutation, filter, slice_index}
 use Rattle.std.specs.List.Sorted.{IsNonDecreasing}
 use Rattle.std.proofs.lemmas.List.Sorted.{IsNonDecreasingBy-from_sort_by_key, IsPermutation-map}

@@ -6,8 +6,7 @@ use Rattle.plan_words.proofs.Owning.{found_whole, may_load_here, same_run, same_
 use Rattle.plan_words.proofs.shared.Shared.child_or_start.Goals as goal
 use Rattle.step_core.specs.GrownWords.{child_of_word}
 use Rattle.step_core.specs.ViewTrees.{SeesNode}
-use Rattle.step_core.specs.Views.{last_zero, sees, tree_seen}
-use Rattle.step_core.specs.WordNames.{WritesWord}
+use Rattle.step_core.specs.Views.{last_zero, tree_seen}
 use Rattle.step_core.specs.WordNames.Word.{ChildOf}
 use Rattle.step_core.specs.WordPlaces.{place_of}
 

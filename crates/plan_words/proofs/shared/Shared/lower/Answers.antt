@@ -1,4 +1,4 @@
-use Rattle.std.proofs.Common.{◌≡◌, ◌≤◌, ap, length, refl, subst, sym, ◌∙◌}
+use Rattle.std.proofs.Common.{◌≤◌, ap, length, refl, subst, ◌∙◌}
 use Rattle.std.specs.Prelude.{is_some}
 use Rattle.plan_words.proofs.GoingOn.{BelongsTo-later, GoesOn-trans}
 use Rattle.plan_words.proofs.KeptPairs.{fits_word}
@@ -7,7 +7,6 @@ use Rattle.plan_words.proofs.shared.Shared.lower.Goals as goal
 use Rattle.plan_words.proofs.shared.Shared.lower.Goals.{After-lower_pair}
 use Rattle.plan_words.specs.States.{PassState}
 use Rattle.step_core.specs.ViewSteps.{lowered}
-use Rattle.step_core.specs.Views.{sees}
 use Rattle.step_core.specs.WordNames.{Words}
 use Rattle.step_core.specs.WordNames.Word.{TreeOf}
 use Rattle.step_core.specs.Words.{best_word, cost_in}

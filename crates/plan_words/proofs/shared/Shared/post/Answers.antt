@@ -1,4 +1,4 @@
-use Rattle.std.proofs.Common.{◌≡◌, ◌≤◌, ◌<◌, ◌^◌, ap, arith, refl, subst, sym, ◌∙◌}
+use Rattle.std.proofs.Common.{◌≡◌, ◌≤◌, ap, arith, refl, subst, sym, ◌∙◌}
 use Rattle.plan_words.proofs.KeptPairs.{HasPairs-kept, keeps_view}
 use Rattle.plan_words.proofs.Owning.{may_post_here, same_run, same_table, with_view_told}
 use Rattle.plan_words.proofs.Posting.{mark_fits, post_node, post_pair, post_within, posted_low, posted_view, posted_whole}

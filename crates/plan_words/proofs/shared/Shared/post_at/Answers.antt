@@ -1,4 +1,4 @@
-use Rattle.std.proofs.Common.{◌≡◌, ◌≤◌, ◌<◌, ◌^◌, ap, arith, subst, sym, ◌∙◌}
+use Rattle.std.proofs.Common.{◌≤◌, ap, arith, subst, sym, ◌∙◌}
 use Rattle.plan_words.proofs.Owning.{may_post_here}
 use Rattle.plan_words.proofs.Posting.{LooksOn-posted, SitsAt-posted, post_node, post_within, posted_low}
 use Rattle.plan_words.proofs.shared.Shared.post_at.Goals as goal

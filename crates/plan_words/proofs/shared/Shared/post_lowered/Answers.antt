@@ -1,4 +1,4 @@
-use Rattle.std.proofs.Common.{◌≡◌, ap, refl, subst, sym, ◌∙◌}
+use Rattle.std.proofs.Common.{ap, refl, sym, ◌∙◌}
 use Rattle.plan_model.specs.Trees.BestNode.{lies_in_goals}
 use Rattle.plan_words.proofs.GoingOn.{GoesOn-trans}
 use Rattle.plan_words.proofs.Posting.{OnlyPosts-after, OnlyPosts-posted, goal-at, lies-at, sees-point_again}
