@@ -29,3 +29,12 @@ pub mod HangingNodes
 pub mod HeadBreaks
 pub mod ListedNodes
 pub mod SheetLines
+pub mod SeenLaws
+pub mod SeenTurns
+pub mod OwnNodeLaws
+pub mod RecordBreaks
+pub mod SheetFacts
+pub mod SeenStarts
+pub mod FirstCosts
+pub mod SeenGoals
+pub mod ClassRadii

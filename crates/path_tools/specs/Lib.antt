@@ -11,3 +11,7 @@ pub mod SheetsRead
 pub mod SheetLaws
 pub mod Verdicts
 pub mod ListedTrees
+pub mod OwnNodes
+pub mod JudgedRuns
+pub mod SeenNodes
+pub mod MarkLaws

@@ -1,0 +1,95 @@
+-- What the form of a sheet and the laws that it keeps say of its lists.
+use Rattle.std.proofs.Common.{◌≡◌, ℕ, zero, suc, ◌<◌, true, eqb, ltb, List, [], length, Option, Some, None, refl, sym, ap, ◌∙◌, inl, inr}
+use Rattle.std.specs.Prelude.{◌&&◌, IsSome, is_some, slice_get, slice_index_or}
+use Rattle.std.proofs.lemmas.Bool.{and_parts, cases_order}
+use Rattle.std.proofs.lemmas.Option.{slice_get_within}
+use Rattle.plan_model.specs.declared.records.Record.{Record}
+use Rattle.plan_model.specs.declared.trees.Knot.{Knot}
+use Rattle.plan_model.specs.Runs.Outcomes.{is_placed}
+use Rattle.plan_model.specs.Runs.RecordLaw.{is_earlier_record}
+use Rattle.plan_model.specs.Runs.Textbook.{Setup}
+use Rattle.plan_model.specs.Spaces.Clearance.{ClearAt}
+use Rattle.plan_model.specs.Trees.PointsByNumber.{IsPresent}
+use Rattle.plan_model.specs.Trees.TreeStates.{TreeState}
+use Rattle.plan_model.proofs.OrderLaws.{KeepsOrder-falls, parent-present}
+use Rattle.step_core.specs.PackedRuns.{state_of_lists}
+use Rattle.step_core.proofs.PackedStates.{IsKnot-at}
+use Rattle.path_tools.specs.ExactEdges.{FitsEdges}
+use Rattle.path_tools.specs.FirstBreaks.{HasFewTurns, KeepsPresence, KeepsTurn}
+use Rattle.path_tools.specs.JudgedRuns.{HaveLowTurns}
+use Rattle.path_tools.specs.ListedTrees.{IsSettledList}
+use Rattle.path_tools.specs.OwnNodes.{ArePresent, FitFirstCosts}
+use Rattle.path_tools.specs.ReportLines.{Extent}
+use Rattle.path_tools.specs.ReportSheets.{Sheet, HasForm}
+use Rattle.path_tools.specs.SeenNodes.{HaveOwnTurns}
+use Rattle.path_tools.specs.SheetLaws.{KeepsNodeLaw}
+use Rattle.path_tools.proofs.NodeBreaks.{listed}
+use Rattle.path_tools.proofs.SheetTrees.{IsSettled-sound, KeepsOrder-sound}
+
+-- ---- form
+
+module _ (extent : Extent) (sheet : Sheet) (form : HasForm extent sheet) where
+  pub knots_fit : (n : ℕ) (other : Knot) → slice_index_or sheet.knots n None ≡ Some other → FitsEdges other
+  knots_fit n other is =
+      let fits = form.knots_fit n other (IsKnot-at sheet.knots n other is) in
+      record { point = fits.point; cost = fits.cost }
+
+  pub few_turns : (k : ℕ) (entry : Record) → slice_get sheet.records k ≡ Some entry → HasFewTurns entry
+  few_turns k entry is =
+      let fits = form.records_fit k entry is in
+      record { worker = fits.words.word.worker; turn = fits.words.word.turn }
+
+  pub first_costs : FitFirstCosts sheet.records
+  first_costs = λ k entry is. (form.records_fit k entry is).words.cost
+
+  pub start_there : IsSome (slice_index_or sheet.knots 0 None)
+  start_there = let own = listed sheet.knots sheet.records 0 form.start in ap is_some own.at
+
+-- ---- nodes
+
+-- costs that keep the law of nodes are sums, and fall along parents
+pub IsSettledList-sound : (setup : Setup) (knots : List (Option Knot)) → ClearAt setup.space setup.start → IsPresent (state_of_lists knots []).points 0
+    → ((n : ℕ) → IsPresent (state_of_lists knots []).points n → KeepsNodeLaw setup (state_of_lists knots []) n) → IsSettledList knots
+IsSettledList-sound setup knots clear start kept =
+    let run : TreeState = state_of_lists knots [] in
+    let order = KeepsOrder-sound setup run clear start kept in
+    record {
+      fall = record {
+        start = start;
+        parent = λ n here. parent-present setup run order (suc n) here;
+        falls = λ n here. KeepsOrder-falls setup run order n here;
+      };
+      settled = IsSettled-sound setup run clear start kept;
+    }
+
+-- ---- turns
+
+module _ (records : List Record) (kept : (k : ℕ) → k < length records → KeepsTurn records k) where
+  apart : (j k : ℕ) (one other : Record) → j < k → slice_get records j ≡ Some one → slice_get records k ≡ Some other → one.worker ≡ other.worker
+      → one.turn ≡ other.turn → ⊥
+  apart j k one other before is also worker turn =
+      (kept k (slice_get_within records k other also) other also).once j one before is worker turn
+
+  pub HaveOwnTurns-kept : HaveOwnTurns records
+  HaveOwnTurns-kept j k one other is also worker turn =
+      elim (cases_order j k) [
+        | inl e ↦ e
+        | inr (inl before) ↦ absurd (apart j k one other before is also worker turn)
+        | inr (inr past) ↦ absurd (apart k j other one past also is (sym worker) (sym turn))
+      ]
+
+  pub HaveLowTurns-kept : HaveLowTurns records
+  HaveLowTurns-kept k entry is = (kept k (slice_get_within records k entry is) entry is).below
+
+-- ---- presence
+
+placed_record : (entry : Record) (o : Option Record) → is_earlier_record entry o ≡ true → (other : Record) × (o ≡ Some other) × (is_placed other.outcome ≡ true)
+placed_record entry None h = absurd (cc)
+placed_record entry (Some other) h = (other, refl, (and_parts (is_placed other.outcome) (eqb other.worker entry.worker && ltb other.turn entry.turn) h).0)
+
+pub ArePresent-kept : (knots : List (Option Knot)) (records : List Record) → IsPresent (state_of_lists knots records).points 0
+    → ((k : ℕ) → k < length records → KeepsPresence knots records k) → ArePresent (state_of_lists knots records)
+ArePresent-kept knots records start kept entry zero h = start
+ArePresent-kept knots records start kept entry (suc k) h =
+    let found = placed_record entry (slice_get records k) h in
+    kept k (slice_get_within records k found.0 found.1) found.0 found.1 ∙ found.2

@@ -1,0 +1,53 @@
+use Rattle.std.proofs.Common.{sym, ◌∙◌, subst}
+use Rattle.std.specs.Prelude.{IsTrue}
+use Rattle.std.proofs.lemmas.Bool.{true≢false}
+use Rattle.plan_model.specs.Runs.RecordLaw.{IsNeighbour}
+use Rattle.plan_model.specs.Runs.Textbook.{setup_of}
+use Rattle.plan_model.specs.Spaces.Clearance.{Clear}
+use Rattle.plan_model.specs.Trees.Nearness.{is_within}
+use Rattle.plan_model.specs.Trees.PointsByNumber.{point_at, point_of}
+use Rattle.path_tools.specs.JudgedRuns.{run_of}
+use Rattle.path_tools.proofs.SeenLaws.{count_before-earlier}
+use Rattle.path_tools.proofs.lawful_marks.is_chosen_lawfully.Goals as goal
+
+pub has_class-requires-clause-seen : goal.has_class-requires-clause-seen
+has_class-requires-clause-seen g c = c.requires.seen.counted ∙ sym (count_before-earlier (run_of c.args.judged.now) c.args.entry)
+
+pub returns-then-not-is_clear_from_nearest-clause-only : goal.returns-then-not-is_clear_from_nearest-clause-only
+returns-then-not-is_clear_from_nearest-clause-only g c = λ h bad.
+    true≢false
+    (sym (c.is_clear_from_nearest.ensures.1
+    (subst (λ s. Clear s (point_of (run_of c.args.judged.now).points c.args.entry.nearest) c.args.p) (sym c.requires.hall) bad.clear))
+    ∙ c.if-not-is_clear_from_nearest.true)
+
+pub returns-clause-lawful : goal.returns-clause-lawful
+returns-clause-lawful g c = λ h.
+    let run = run_of c.args.judged.now in
+    let p = c.args.p in
+    let kept = c.keeps_near.ensures.kept h in
+    record {
+      clear =
+          subst (λ s. Clear s (point_of run.points c.args.entry.nearest) p) c.requires.hall
+          (c.is_clear_from_nearest.ensures.0 c.if-not-is_clear_from_nearest.false);
+      of_class = c.has_class.ensures.class c.if-not-has_class.false;
+      chosen = λ i near.
+          (kept i near.earlier (subst (λ r. IsTrue (is_within p r (point_at run.points i))) (sym c.radius_of_class-radius.ensures) near.near)
+          (subst (λ s. Clear s (point_of run.points i) p) (sym c.requires.hall) near.clear)).chosen;
+      rewired = λ i near.
+          (kept i near.earlier (subst (λ r. IsTrue (is_within p r (point_at run.points i))) (sym c.radius_of_class-radius.ensures) near.near)
+          (subst (λ s. Clear s (point_of run.points i) p) (sym c.requires.hall) near.clear)).rewired;
+    }
+
+pub returns-clause-only : goal.returns-clause-only
+returns-clause-only g c = λ h bad.
+    let run = run_of c.args.judged.now in
+    let p = c.args.p in
+    c.keeps_near.ensures.only h
+    (λ i earlier within cleared.
+    let near : IsNeighbour (setup_of c.args.scene.now) run c.args.entry p i =
+    record {
+      earlier = earlier;
+      near = subst (λ r. IsTrue (is_within p r (point_at run.points i))) c.radius_of_class-radius.ensures within;
+      clear = subst (λ s. Clear s (point_of run.points i) p) c.requires.hall cleared;
+    } in
+    record { chosen = bad.chosen i near; rewired = bad.rewired i near })

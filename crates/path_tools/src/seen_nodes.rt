@@ -1,0 +1,144 @@
+//! What a worker has seen of its own nodes before each of its turns.
+
+ghost use Rattle.std.specs.Prelude.{◌≡◌, ◌+◌, ◌<◌, ◌≤◌, ℕ, IfNone, IfOk, IfSome, List, Some, length, min, slice_get, suc};
+ghost use Rattle.plan_model.specs.declared.limits.TheConstants.{MOST_MARKS};
+ghost use Rattle.plan_model.specs.declared.records.Record.{Record};
+ghost use Rattle.path_tools.specs.declared.seen_nodes.Seen.{Seen};
+ghost use Rattle.step_core.specs.PackedRuns.{state_of_lists};
+ghost use Rattle.path_tools.specs.SeenNodes.{AreMarksByTurn, AreSeen, HaveOwnTurns, IsMarkOfTurn};
+
+use crate::best_paths::is_goal_node;
+use crate::presence::is_placed;
+use plan_model::{Goal, Knot, Memory, Record};
+use std::alloc::Global;
+
+/// What a worker has seen of its own nodes.
+#[derive(Clone, Copy, Debug)]
+pub(crate) struct Seen {
+    /// How many there are, the start included.
+    pub nodes: u32,
+    /// The least cost that one of them in a goal was placed at; `None` if none lies in a goal.
+    pub least: Option<u64>,
+}
+
+impl Seen {
+    /// The nodes before any turn: the start alone.
+    fn at_start(goals: &[Goal], knots: &[Option<Knot>]) -> Seen
+        requires { 0 < length knots.now }
+        ensures { (records : List Record) (worker : ℕ) → AreSeen goals.now (state_of_lists knots.now records) worker 0 result }
+    {
+        let least = if is_goal_node(goals, knots, 0) {
+            Some(0)
+        } else {
+            None
+        };
+        Seen { nodes: 1, least }
+    }
+
+    /// The same after the turn in which the worker handled a mark, if there is one.
+    fn after(
+        self,
+        goals: &[Goal],
+        knots: &[Option<Knot>],
+        records: &[Record],
+        mark: Option<u32>,
+    ) -> Seen
+        requires few { length records.now ≤ MOST_MARKS }
+        requires numbers { length knots.now ≡ suc (length records.now) }
+        requires own { HaveOwnTurns records.now }
+        requires low { IfSome mark (λ m. m < length records.now) }
+        requires room { self.nodes ≤ MOST_MARKS }
+        ensures more { result.nodes ≤ self.nodes + 1 }
+        ensures seen { (worker turn : ℕ) → IsMarkOfTurn records.now worker turn mark
+            → AreSeen goals.now (state_of_lists knots.now records.now) worker turn self
+            → AreSeen goals.now (state_of_lists knots.now records.now) worker (suc turn) result }
+    {
+        let Some(mark) = mark else {
+            return self;
+        };
+        let entry = records[mark as usize];
+        if !is_placed(entry.outcome) {
+            return self;
+        }
+        let nodes = self.nodes + 1;
+        if !is_goal_node(goals, knots, mark + 1) {
+            return Seen {
+                nodes,
+                least: self.least,
+            };
+        }
+        Seen {
+            nodes,
+            least: Some(lesser(self.least, entry.first_cost)),
+        }
+    }
+}
+
+/// The lesser of two costs, if there are two.
+fn lesser(cost: Option<u64>, other: u64) -> u64
+    ensures none { IfNone cost (result ≡ other) }
+    ensures some { IfSome cost (λ one. result ≡ min one other) }
+{
+    match cost {
+        Some(one) => one.min(other),
+        None => other,
+    }
+}
+
+/// The marks of a worker by its turns, up to a number of turns. O(n) for n marks.
+///
+/// # Errors
+///
+/// `Memory` if out of memory for them.
+fn marks_by_turn(
+    alloc: Global,
+    records: &[Record],
+    worker: u32,
+    turns: u32,
+) -> Result<Vec<Option<u32>>, Memory>
+    requires few { length records.now ≤ MOST_MARKS }
+    ensures marks { IfOk result (λ order. AreMarksByTurn records.now worker order.items) }
+    ensures length { IfOk result (λ order. length order.items ≡ turns) }
+{
+    let mut order = vec![in alloc; None; turns as usize]?;
+    for (mark, entry) in records.iter().enumerate() {
+        let turn = entry.turn as usize;
+        if entry.worker == worker {
+            if turn < order.len() {
+                order[turn] = Some(mark as u32);
+            }
+        }
+    }
+    Ok(order)
+}
+
+/// What a worker has seen before each of its turns, up to a number of turns, in their order. O(n) for n marks.
+///
+/// # Errors
+///
+/// `Memory` if out of memory for it.
+pub(crate) fn seen_by_turn(
+    alloc: Global,
+    goals: &[Goal],
+    knots: &[Option<Knot>],
+    records: &[Record],
+    worker: u32,
+    turns: u32,
+) -> Result<Vec<Seen>, Memory>
+    requires few { length records.now ≤ MOST_MARKS }
+    requires turns { turns ≤ MOST_MARKS }
+    requires numbers { length knots.now ≡ suc (length records.now) }
+    requires own { HaveOwnTurns records.now }
+    ensures length { IfOk result (λ all. length all.items ≡ turns) }
+    ensures seen { IfOk result (λ all. (turn : ℕ) (seen : Seen) → slice_get all.items turn ≡ Some seen
+        → AreSeen goals.now (state_of_lists knots.now records.now) worker turn seen) }
+{
+    let order = marks_by_turn(alloc, records, worker, turns)?;
+    let mut all = Vec::with_capacity(alloc, order.len())?;
+    let mut seen = Seen::at_start(goals, knots);
+    for mark in &order {
+        all.push(seen)?;
+        seen = seen.after(goals, knots, records, *mark);
+    }
+    Ok(all)
+}
