@@ -8,3 +8,9 @@ pub mod SamePaths
 pub mod TextbookSlices
 pub mod PolledSessions
 pub mod GatheredItems
+pub mod TurnLoop
+pub mod ItemsOfSessions
+pub mod KeptRuns
+pub mod GatheredBatches
+pub mod FinishedBatches
+pub mod BatchReports

@@ -1,5 +1,5 @@
 -- The best path of a run.
-use Rattle.std.specs.Prelude.{◌≡◌, ℕ, Option, Some, option_map}
+use Rattle.std.specs.Prelude.{◌≡◌, ℕ, Bool, Option, Some, option_map, is_some}
 use Rattle.plan_model.specs.Reports.ReportText.{path_to}
 use Rattle.plan_model.specs.Trees.BestNode.{best_node, goals_of}
 use Rattle.plan_model.specs.Trees.TreeStates.{sum_in}
@@ -10,6 +10,10 @@ use Rattle.any_time.specs.declared.betters.Better.{Better}
 -- the best node of a run, if a node lies in a goal
 abbrev pub best_of : Grown → Option ℕ
 best_of run = best_node (goals_of run.task.scene) run.limit (state_of_grown run)
+
+-- whether there is one
+abbrev pub has_path : Grown → Bool
+has_path run = is_some (best_of run)
 
 -- its sum
 abbrev pub best_sum : Grown → Option ℕ

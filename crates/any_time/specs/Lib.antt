@@ -2,7 +2,10 @@ pub mod BestPaths
 pub mod Sessions
 pub mod Paths
 pub mod Items
+pub mod Batches
+pub mod BatchItems
 pub mod TextbookItems
 pub mod BetterPaths
 pub mod Gathering
+pub mod BatchGathering
 pub mod BetterReports

@@ -1,5 +1,6 @@
-//! Laws of sessions, each the contract of a function that does nothing.
+//! Laws of sessions and of batches, each the contract of a function that does nothing.
 
+ghost use Rattle.any_time.specs.BatchItems.{BatchItemsFall, EndsWithSessions, FailsByMemory, ItemsAreOfSessions};
 ghost use Rattle.any_time.specs.Items.{ItemsFall};
 ghost use Rattle.any_time.specs.TextbookItems.{GivesTextbookItems};
 
@@ -15,4 +16,14 @@ pub fn items_fall()
 /// slices and after all marks, and no others: the best path of each such run that is cheaper than those of all before it.
 pub fn one_worker_gives_textbook_items()
     ensures { GivesTextbookItems }
+{}
+
+/// However often a batch is polled: the items of each number, in their order, are those of the session with this number, so that the law
+/// of sessions holds for them. At the end every session is at its end, unless an item `Memory` was given, which is exactly if the batch
+/// has failed.
+pub fn items_are_of_sessions()
+    ensures sessions { ItemsAreOfSessions }
+    ensures fall { BatchItemsFall }
+    ensures failed { FailsByMemory }
+    ensures end { EndsWithSessions }
 {}

@@ -1,6 +1,6 @@
 //! Sessions polled by hand.
 
-ghost use Rattle.std.specs.Prelude.{◌≡◌, ◌≤◌, IsTrue, Ok};
+ghost use Rattle.std.specs.Prelude.{◌≡◌, ◌≤◌, IsSome, IsTrue, Ok};
 ghost use Rattle.plan_model.specs.Scenes.Limits.{is_plan};
 ghost use Rattle.plan_model.specs.declared.limits.TheConstants.{MOST_WORKERS};
 ghost use Rattle.plan_model.specs.declared.scenes.Marks.TheVariants.{Listed};
@@ -19,7 +19,7 @@ use step_core::Grown;
 use swept_check::Hall;
 
 /// What was made, for which memory lasts. A test ends here if none is left, so that no value is dropped on the way.
-fn sure<R: Abort, T>(rt: &R, made: Result<T, Memory>) -> T
+pub(crate) fn sure<R: Abort, T>(rt: &R, made: Result<T, Memory>) -> T
     ensures { made ≡ Ok result }
 {
     match made {
@@ -28,12 +28,12 @@ fn sure<R: Abort, T>(rt: &R, made: Result<T, Memory>) -> T
     }
 }
 
-const ORIGIN: Point = Point { x: 0, y: 0 };
+pub(crate) const ORIGIN: Point = Point { x: 0, y: 0 };
 
-const GOAL: Point = Point { x: 40, y: 79 };
+pub(crate) const GOAL: Point = Point { x: 40, y: 79 };
 
 /// The node of the third mark gives that of the second a cheaper way, and the node of the last a still cheaper one.
-static MARKS: [Point; 5] = [
+pub(crate) static MARKS: [Point; 5] = [
     Point { x: 0, y: 50 },
     GOAL,
     Point { x: 40, y: 30 },
@@ -43,7 +43,7 @@ static MARKS: [Point; 5] = [
 
 /// A session of these marks in an empty room of 100 by 100, from a point of it to one goal point by steps of 50, in which all nodes
 /// are near.
-fn small_session<A: Abort, R: Threads + Sync + Drop>(
+pub(crate) fn small_session<A: Abort, R: Threads + Sync + Drop>(
     rt: &A,
     own: R,
     alloc: Global,
@@ -57,6 +57,7 @@ fn small_session<A: Abort, R: Threads + Sync + Drop>(
     requires some { 1 ≤ workers }
     requires few { workers ≤ MOST_WORKERS }
     requires slice { 1 ≤ slice }
+    ensures { IsSome result.run }
 {
     let small = SmallScene {
         room: Point { x: 100, y: 100 },
@@ -142,7 +143,7 @@ fn report_of(alloc: Global, finished: Option<Grown>) -> Result<Vec<u8>, Memory> 
 }
 
 /// Asserts the short report of what a session hands out.
-fn assert_report<A: Abort>(rt: &A, alloc: Global, finished: Option<Grown>, want: &str) {
+pub(crate) fn assert_report<A: Abort>(rt: &A, alloc: Global, finished: Option<Grown>, want: &str) {
     let text = sure(rt, report_of(alloc, finished));
     assert!(rt; text.as_slice() == want.as_bytes());
 }

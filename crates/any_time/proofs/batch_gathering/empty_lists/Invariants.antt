@@ -1,0 +1,6 @@
+use Rattle.std.proofs.Common.{◌≡◌, length}
+use Rattle.any_time.specs.BatchGathering.{AllEmpty}
+use Rattle.any_time.proofs.batch_gathering.empty_lists.Given as goal
+
+abbrev pub invariant-loop-number : goal.invariant-loop-number
+invariant-loop-number l = (length l.lists.items ≡ l._number) × AllEmpty l.lists.items

@@ -1,0 +1,28 @@
+use Rattle.std.proofs.Common.{◌≡◌, ◌++◌, ◌∷◌, [], ◌+◌, List, Option, Some, length, map, take, sym, ap, ◌∙◌, rules}
+use Rattle.std.proofs.lemmas.Iterator.Adapters.{YieldsList-from_vec}
+use Rattle.std.proofs.lemmas.Iterator.Consumers.{YieldsList-turn}
+use Rattle.std.proofs.lemmas.List.{length_push, map_more, map_push}
+use Rattle.step_core.specs.declared.grown.Grown.{Grown}
+use Rattle.any_time.specs.Sessions.{SessionState}
+use Rattle.any_time.proofs.batches.runs_of.Goals as goal
+
+pub loop-session-preserved : goal.loop-session-preserved
+loop-session-preserved g c =
+    let sessions = c.args.sessions.items in
+    let polled = c.loop-session.yielded in
+    let session = c.in-Some.session in
+    let runs = c.loop-session.runs.items in
+    let run = c.in-Some-finish.run' in
+    let run_of : SessionState → Option Grown = λ s. s.run in
+    let turn = YieldsList-turn (YieldsList-from_vec {s = c.into_iter-session-iterator.result} sessions (search rules) (search rules))
+    polled c.loop-session.session-iterator c.loop-session.yielded_by c.next.result c.next.new.self session c.in-Some.is c.next.ensures.steps in
+    let one_more = length_push polled session in
+    let given : Some run ≡ run_of session = sym c.in-Some-finish.is ∙ c.finish.ensures in (
+      ap length c.push_reserved.ensures.items ∙ (length_push runs run ∙ (ap (λ n. n + 1) c.loop-session.invariant.0 ∙ sym one_more)),
+      search rules,
+      ap (map Some) c.push_reserved.ensures.items
+          ∙ (map_push Some runs run
+          ∙ (ap (λ (xs : List (Option Grown)). xs ++ Some run ∷ []) c.loop-session.invariant.2
+          ∙ (ap (λ (x : Option Grown). map run_of (take (length polled) sessions) ++ x ∷ []) (given ∙ ap run_of turn.1)
+          ∙ (sym (map_more run_of sessions (length polled) session turn.0) ∙ ap (λ n. map run_of (take n sessions)) (sym one_more))))),
+    )
