@@ -5,6 +5,7 @@ Usage: compare.py PROGRAM [FIRST [COUNT]]. For each number from FIRST on (0 and 
 - `plain`, `plan 1`, `plain full` and `plan 1 full` write what textbook.py writes, and end with its status;
 - `smooth 1` writes what smoothing.py writes;
 - `anytime 1 S`, for a drawn S, writes what anytime.py writes; `anytime 4 S` gives paths that fall to that of its report;
+- `twin 1` writes what twins.py writes; `twin 4` shows a lawful path and counts;
 - `plan W full`, for W of WORKERS, writes a report that judge.py finds lawful;
 - `show` writes the canonical text, `convert` that of the scene in version 2, and both for a text with faults the line and the kind of
   the first;
@@ -27,6 +28,7 @@ from rules import mark_points
 from scene import Fault, read
 from smoothing import smoothed_answer
 from textbook import answer
+from twins import twin_answer, twin_verdict
 from usage import words_or_usage
 
 # How many workers plan each scene.
@@ -63,6 +65,7 @@ class Comparison:
                 self.note(number, f"{words}, by the textbook", self.run(words, text) == wanted)
         self.note(number, "smooth 1, by all choices", self.run("smooth 1", text) == smoothed_answer(text))
         self.compare_slices(number, scene, text)
+        self.compare_twins(number, scene, text)
         for workers in WORKERS:
             words = f"plan {workers} full"
             output, status = self.run(words, text)
@@ -81,6 +84,17 @@ class Comparison:
             output, status = self.run(f"anytime 4 {slice_size}", text)
             right = status < 2 and fit(output, slice_size, len(mark_points(scene, Space(scene))))
             self.note(number, "anytime 4, as far as it shows", right)
+
+    def compare_twins(self, number, scene, text):
+        """Compares the two trees, and what shows of those of several workers."""
+        wanted = twin_answer(text)
+        self.note(number, f"twin 1, by all pairs, status {wanted[1]}", self.run("twin 1", text) == wanted)
+        output, status = self.run("twin 4", text)
+        if wanted[1] < 2:
+            right = status == (1 if output.startswith("no path\n") else 0) and twin_verdict(scene, output) == "lawful"
+            self.note(number, "twin 4, as far as it shows", right)
+        else:
+            self.note(number, "twin 4, refused", (output, status) == wanted)
 
     def compare_mutant(self, number, scene, report):
         """Changes one number of a report: the judge is to refuse it, unless it is lawful all the same."""

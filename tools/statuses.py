@@ -23,6 +23,9 @@ BLOCKED = b"prrt 1\nroom 10 10\nobstacle 4 4 6 4 6 6 4 6\nstart 5 5\ngoal 0 0 1 
 LONG = FOUND + b"\n" * (MOST_TEXT_BYTES + 1 - len(FOUND))
 PATH = b"path 2 cost 12800\n0 0\n30 40\nnodes 2 placed 1 same 0 blocked 0\n"
 CONVERTED = b"prrt 2\nroom 10 10\nbody 0 0\nclearance 0\nstart 5 5\ngoal 0 0 1 1\nstep 4\ngamma 0\nseed 0\nstrips 1\n"
+BLOCKED_GOAL = b"prrt 1\nroom 10 10\nobstacle 4 4 6 4 6 6 4 6\nstart 1 1\ngoal 5 5 5 5\nstep 4\n"
+TWIN = b"path 2 cost 12800\n0 0\n30 40\nstart nodes 2 placed 1 same 0 blocked 0\ngoal nodes 1 placed 0 same 1 blocked 0\n"
+NO_TWIN = b"no path\nstart nodes 1 placed 0 same 0 blocked 0\ngoal nodes 1 placed 0 same 0 blocked 0\n"
 NONE = b"no path\nnodes 1 placed 0 same 0 blocked 0\n"
 # More than the program takes to begin, and less than it and a text of so many bytes take.
 FEW_BYTES = 16 << 20
@@ -47,14 +50,17 @@ CASES = [
     Case("path by workers", ["plan", "2"], FOUND, 0, PATH),
     Case("a smoothed path", ["smooth", "2"], FOUND, 0, PATH),
     Case("a better path", ["anytime", "2", "1"], FOUND, 0, b"better 12800 marks 1\n" + PATH),
+    Case("a path between two trees", ["twin", "2"], FOUND, 0, TWIN),
     Case("no path", ["plain"], NO_PATH, 1, NONE),
     Case("no path by workers", ["plan", "2"], NO_PATH, 1, NONE),
     Case("no path to be smoothed", ["smooth", "2"], NO_PATH, 1, NONE),
     Case("no better path", ["anytime", "2", "1"], NO_PATH, 1, NONE),
+    Case("no path between two trees", ["twin", "2"], NO_PATH, 1, NO_TWIN),
     Case("no words", [], FOUND, 2, b"words refused\n"),
     Case("other words", ["plain", "short"], FOUND, 2, b"words refused\n"),
     Case("no worker", ["plan", "0"], FOUND, 2, b"words refused\n"),
     Case("no worker to smooth a path of", ["smooth", "0"], FOUND, 2, b"words refused\n"),
+    Case("no worker for two trees", ["twin", "0"], FOUND, 2, b"words refused\n"),
     Case("no mark in a slice", ["anytime", "1", "0"], FOUND, 2, b"words refused\n"),
     Case("a word that is no text", [b"\xff"], FOUND, 2, b"words refused\n"),
     Case("a word too many that is no text", ["plain", b"\xff"], FOUND, 2, b"words refused\n"),
@@ -66,6 +72,9 @@ CASES = [
     Case("a start that is not clear", ["plain"], BLOCKED, 4, b"start blocked\n"),
     Case("the same by workers", ["plan", "2"], BLOCKED, 4, b"start blocked\n"),
     Case("the same before a path is smoothed", ["smooth", "2"], BLOCKED, 4, b"start blocked\n"),
+    Case("the same before a goal is tested", ["twin", "2"], BLOCKED, 4, b"start blocked\n"),
+    Case("a goal that is not clear", ["twin", "2"], BLOCKED_GOAL, 8, b"goal blocked\n"),
+    Case("the same where it is not tested", ["plain"], BLOCKED_GOAL, 1, NONE),
     Case("a folder to read from", ["plain"], None, 5, b"read fault\n"),
     Case("a full device", ["plain"], FOUND, 6, b"", full_device=True),
     Case("a full device for a refusal", [], FOUND, 6, b"", full_device=True),

@@ -10,9 +10,10 @@ use Rattle.plan_model.specs.Texts.Streams.{SourceState, counted_up}
 use Rattle.scene_text.specs.declared.fetching.FetchFault.{FetchFault}
 use Rattle.scene_text.specs.declared.fetching.FetchFault.TheVariants as fetching
 use Rattle.scene_text.specs.Fetching.{Fetches}
+use Rattle.twin_trees.specs.TurnedScenes.{goal_middle}
 use Rattle.planner_main.specs.declared.commands.Command.{Command}
 use Rattle.planner_main.specs.declared.refusals.Refusal.TheVariants as refusals
-use Rattle.planner_main.specs.Commands.{input_of, plans, reads_text}
+use Rattle.planner_main.specs.Commands.{input_of, plans, reads_text, tests_goal}
 use Rattle.planner_main.specs.Inputs.{Input, one_scene, reads_bytes, SpellsInput}
 use Rattle.planner_main.specs.Conclusions.{IsCaused, HasScene}
 use Rattle.planner_main.specs.Exchanges.{ReadFailed, CameShort}
@@ -69,6 +70,24 @@ StartBlocked-caused command before now scene one planned h blocked = (
     record {
       scenes = scene ∷ [];
       spelled = subst (λ (input : Input). SpellsInput input h.bytes (scene ∷ [])) (sym one) h.spelled;
+      blocked = λ clear. blocked clear.0;
+    },
+  ),
+)
+
+-- a first goal that is not clear in its middle is the cause of its refusal
+pub GoalBlocked-caused : (command : Command) (before now : SourceState) (scene : Scene) → input_of command ≡ one_scene →
+    IsTrue (tests_goal command) → HasScene before now scene → ClearAt (space_of scene) scene.start →
+    ¬ ClearAt (space_of scene) (goal_middle scene) → IsCaused (Some command) before now refusals.GoalBlocked
+GoalBlocked-caused command before now scene one tests h start blocked = (
+  tests,
+  (
+    h.bytes,
+    h.read,
+    record {
+      scenes = scene ∷ [];
+      spelled = subst (λ (input : Input). SpellsInput input h.bytes (scene ∷ [])) (sym one) h.spelled;
+      starts = (start, tt);
       blocked = λ clear. blocked clear.0;
     },
   ),

@@ -23,6 +23,7 @@ status_of-words before now refusals.Words cause = refl
 status_of-words before now refusals.TooLong cause = absurd cause.0
 status_of-words before now (refusals.Text number kind) cause = absurd cause.0
 status_of-words before now refusals.StartBlocked cause = absurd cause.0
+status_of-words before now refusals.GoalBlocked cause = absurd cause.0
 status_of-words before now refusals.ReadFault cause = absurd cause.0
 status_of-words before now refusals.Memory cause = absurd cc
 

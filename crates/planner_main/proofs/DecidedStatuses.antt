@@ -9,18 +9,23 @@ use Rattle.plan_model.specs.declared.text_terms.Kind.{Kind}
 use Rattle.plan_model.specs.Texts.SceneGrammar.{supported}
 use Rattle.plan_model.specs.Texts.Streams.{SourceState}
 use Rattle.plan_model.proofs.Soundness.{Spells-not_refused}
+use Rattle.plan_model.proofs.SameScenes.{Spells-one_scene}
 use Rattle.plan_model.proofs.SpelledScenes.{ClearAt-spelled}
+use Rattle.plan_model.specs.Spaces.Clearance.{ClearAt}
+use Rattle.plan_model.specs.Spaces.ConfigurationSpace.{space_of}
+use Rattle.twin_trees.specs.TurnedScenes.{goal_middle}
+use Rattle.twin_trees.proofs.TurnedRuns.{ClearAt-middle}
 use Rattle.scene_text.specs.Fetching.{CameTooLong}
 use Rattle.planner_main.specs.declared.commands.Command.{Command}
 use Rattle.planner_main.specs.declared.commands.Command.TheVariants as commands
 use Rattle.planner_main.specs.declared.refusals.Refusal.{Refusal}
 use Rattle.planner_main.specs.declared.refusals.Refusal.TheVariants as refusals
-use Rattle.planner_main.specs.declared.statuses.TheConstants.{NO_PATH, TEXT_REFUSED, START_BLOCKED, NO_MEMORY}
+use Rattle.planner_main.specs.declared.statuses.TheConstants.{NO_PATH, GOAL_BLOCKED, TEXT_REFUSED, START_BLOCKED, NO_MEMORY}
 use Rattle.planner_main.specs.declared.top_call.Done.{Done}
-use Rattle.planner_main.specs.Commands.{input_of, plans, reads_text, tests_start, greatest_success}
-use Rattle.planner_main.specs.Conclusions.{BlocksStart, IsCaused, IsSceneOf, IsSuccess, MayStart, OfScene, Succeeds, status_of_report}
+use Rattle.planner_main.specs.Commands.{input_of, plans, reads_text, tests_goal, tests_start, greatest_success}
+use Rattle.planner_main.specs.Conclusions.{BlocksGoal, BlocksStart, IsCaused, IsSceneOf, IsSuccess, MayReach, MayStart, OfScene, Succeeds, status_of_report}
 use Rattle.planner_main.specs.Decisions.{IsDecidedBy, IsDecided}
-use Rattle.planner_main.specs.Inputs.{Input, nothing, one_scene, AreStartsClear, RefusesInput, SpellsInput}
+use Rattle.planner_main.specs.Inputs.{Input, nothing, one_scene, AreGoalsClear, AreStartsClear, RefusesInput, SpellsInput}
 use Rattle.planner_main.specs.Exchanges.{ReadFailed, IsReadWhole, IsUnread}
 use Rattle.planner_main.specs.Refusals.{status_of}
 
@@ -39,6 +44,17 @@ short_input one_scene bytes [] t = absurd t
 short_input one_scene bytes (scene ∷ []) t = t.short
 short_input one_scene bytes (scene ∷ second ∷ scenes) t = absurd t
 
+-- the middles of their first goals are clear together
+same_goals : (input : Input) (bytes : List ℕ) (scenes others : List Scene) → SpellsInput input bytes scenes → SpellsInput input bytes others →
+    AreGoalsClear scenes → AreGoalsClear others
+same_goals nothing bytes scenes others s t clear = rw t.1 tt
+same_goals one_scene bytes [] others s t clear = absurd s
+same_goals one_scene bytes (a ∷ c ∷ scenes) others s t clear = absurd s
+same_goals one_scene bytes (a ∷ []) [] s t clear = absurd t
+same_goals one_scene bytes (a ∷ []) (b ∷ d ∷ others) s t clear = absurd t
+same_goals one_scene bytes (a ∷ []) (b ∷ []) s t clear =
+    (subst (λ scene. ClearAt (space_of scene) (goal_middle scene)) (Spells-one_scene supported bytes a b s.spelled t.spelled) clear.0, tt)
+
 -- the scenes that it spells are clear at their starts together
 same_starts : (input : Input) (bytes : List ℕ) (scenes others : List Scene) → SpellsInput input bytes scenes → SpellsInput input bytes others →
     AreStartsClear scenes → AreStartsClear others
@@ -51,10 +67,11 @@ same_starts one_scene bytes (a ∷ []) (b ∷ []) s t clear = (ClearAt-spelled s
 
 module _ (bytes : List ℕ) (command : Command) (status : ℕ) where
   -- the bytes spell scenes at whose starts the command may start, and it succeeds
-  by_success : (scenes : List Scene) → SpellsInput (input_of command) bytes scenes → MayStart command scenes
+  by_success : (scenes : List Scene) → SpellsInput (input_of command) bytes scenes → MayStart command scenes → MayReach command scenes
       → status ≤ greatest_success command → IsDecidedBy bytes command status
-  by_success scenes t may low = record {
-    done = λ others s m. low;
+  by_success scenes t may reach low = record {
+    done = λ others s m r. low;
+    goal_blocked = λ others s tests starts blocked. absurd (blocked (same_goals (input_of command) bytes scenes others t s (reach tests)));
     blocked = λ others s tests blocked. absurd (blocked (same_starts (input_of command) bytes scenes others t s (may tests)));
     refused = λ number kind f. absurd (not_faulty (input_of command) bytes scenes number kind t f);
     long = λ long. let short = short_input (input_of command) bytes scenes t in absurd (omega arith);
@@ -63,24 +80,36 @@ module _ (bytes : List ℕ) (command : Command) (status : ℕ) where
   by_fault : (number : ℕ) (kind : Kind) → RefusesInput (input_of command) number kind bytes → status ≡ TEXT_REFUSED →
       IsDecidedBy bytes command status
   by_fault number kind f e = record {
-    done = λ scenes t may. absurd (not_faulty (input_of command) bytes scenes number kind t f);
+    done = λ scenes t may reach. absurd (not_faulty (input_of command) bytes scenes number kind t f);
     blocked = λ scenes t tests blocked. absurd (not_faulty (input_of command) bytes scenes number kind t f);
+    goal_blocked = λ scenes t tests starts blocked. absurd (not_faulty (input_of command) bytes scenes number kind t f);
     refused = λ other_number other_kind other. e;
     long = λ long. e;
   }
 
   by_start : BlocksStart command bytes → IsTrue (tests_start command) → status ≡ START_BLOCKED → IsDecidedBy bytes command status
   by_start b tests e = record {
-    done = λ scenes t may. absurd (b.blocked (same_starts (input_of command) bytes scenes b.scenes t b.spelled (may tests)));
+    done = λ scenes t may reach. absurd (b.blocked (same_starts (input_of command) bytes scenes b.scenes t b.spelled (may tests)));
+    goal_blocked = λ scenes t tests' starts blocked. absurd (b.blocked (same_starts (input_of command) bytes scenes b.scenes t b.spelled starts));
     blocked = λ scenes t tests' blocked. e;
+    refused = λ number kind f. absurd (not_faulty (input_of command) bytes b.scenes number kind b.spelled f);
+    long = λ long. let short = short_input (input_of command) bytes b.scenes b.spelled in absurd (omega arith);
+  }
+
+  by_goal : BlocksGoal command bytes → IsTrue (tests_goal command) → status ≡ GOAL_BLOCKED → IsDecidedBy bytes command status
+  by_goal b tests e = record {
+    done = λ scenes t may reach. absurd (b.blocked (same_goals (input_of command) bytes scenes b.scenes t b.spelled (reach tests)));
+    blocked = λ scenes t tests' blocked. absurd (blocked (same_starts (input_of command) bytes b.scenes scenes b.spelled t b.starts));
+    goal_blocked = λ scenes t tests' starts blocked. e;
     refused = λ number kind f. absurd (not_faulty (input_of command) bytes b.scenes number kind b.spelled f);
     long = λ long. let short = short_input (input_of command) bytes b.scenes b.spelled in absurd (omega arith);
   }
 
   by_length : MOST_TEXT_BYTES < length bytes → status ≡ TEXT_REFUSED → IsDecidedBy bytes command status
   by_length long e = record {
-    done = λ scenes t may. let short = short_input (input_of command) bytes scenes t in absurd (omega arith);
+    done = λ scenes t may reach. let short = short_input (input_of command) bytes scenes t in absurd (omega arith);
     blocked = λ scenes t tests blocked. let short = short_input (input_of command) bytes scenes t in absurd (omega arith);
+    goal_blocked = λ scenes t tests starts blocked. let short = short_input (input_of command) bytes scenes t in absurd (omega arith);
     refused = λ number kind f. e;
     long = λ longer. e;
   }
@@ -96,6 +125,7 @@ Succeeds-low (commands.Plain full) bytes done text s = rw s.meaning.reported.bes
 Succeeds-low (commands.Plan workers full) bytes done text s = rw s.meaning.reported.best (low_report _)
 Succeeds-low (commands.Smooth workers) bytes done text s = rw s.meaning.reported.best (low_report _)
 Succeeds-low (commands.Anytime workers slice) bytes done text s = rw s.meaning.reported.best (low_report _)
+Succeeds-low (commands.Twin workers) bytes done text s = rw s.meaning.bridge (low_report _)
 Succeeds-low commands.Show bytes done text s = omega (arith, s.meaning.status)
 Succeeds-low commands.Convert bytes done text s = omega (arith, s.meaning.written.status)
 Succeeds-low (commands.Gen number) bytes done text s = omega (arith, s.meaning.status)
@@ -106,6 +136,7 @@ greatest_success-low (commands.Plain full) = omega arith
 greatest_success-low (commands.Plan workers full) = omega arith
 greatest_success-low (commands.Smooth workers) = omega arith
 greatest_success-low (commands.Anytime workers slice) = omega arith
+greatest_success-low (commands.Twin workers) = omega arith
 greatest_success-low commands.Show = omega arith
 greatest_success-low commands.Convert = omega arith
 greatest_success-low (commands.Gen number) = omega arith
@@ -123,17 +154,18 @@ spelled (commands.Plain full) bytes scene is reads = is
 spelled (commands.Plan workers full) bytes scene is reads = is
 spelled (commands.Smooth workers) bytes scene is reads = is
 spelled (commands.Anytime workers slice) bytes scene is reads = is
+spelled (commands.Twin workers) bytes scene is reads = is
 spelled commands.Show bytes scene is reads = is
 spelled commands.Convert bytes scene is reads = is
 spelled (commands.Gen number) bytes scene is reads = absurd (false≢true reads)
 spelled (commands.Trial number) bytes scene is reads = absurd (false≢true reads)
 
 -- so one that succeeds with something of its scene does so as the bytes decide
-by_scene : (bytes : List ℕ) (command : Command) (status : ℕ) (P : Scene → Type 0) → OfScene command bytes P → IsTrue (reads_text command) →
-    status ≤ greatest_success command → IsDecidedBy bytes command status
-by_scene bytes command status P s reads low =
+by_scene : (bytes : List ℕ) (command : Command) (status : ℕ) (P : Scene → Type 0) (s : OfScene command bytes P) → IsTrue (reads_text command) →
+    MayReach command (s.scene ∷ []) → status ≤ greatest_success command → IsDecidedBy bytes command status
+by_scene bytes command status P s reads reach low =
     by_success bytes command status (s.scene ∷ []) (spelled command bytes s.scene s.of_command reads)
-    (λ tests. (s.start (and_parts (reads_text command) (plans command) tests).1, tt)) low
+    (λ tests. (s.start (and_parts (reads_text command) (plans command) tests).1, tt)) reach low
 
 by_meaning : (bytes : List ℕ) (command : Command) (done : Done) (text : List ℕ) → Succeeds command bytes done text →
     IsTrue (reads_text command) → IsDecidedBy bytes command done.status
@@ -141,12 +173,14 @@ by_meaning bytes command done text s reads = by command s reads (Succeeds-low co
   where
     by : (command : Command) → Succeeds command bytes done text → IsTrue (reads_text command) → done.status ≤ greatest_success command →
         IsDecidedBy bytes command done.status
-    by (commands.Plain full) s reads low = by_scene bytes (commands.Plain full) done.status _ s reads low
-    by (commands.Plan workers full) s reads low = by_scene bytes (commands.Plan workers full) done.status _ s reads low
-    by (commands.Smooth workers) s reads low = by_scene bytes (commands.Smooth workers) done.status _ s reads low
-    by (commands.Anytime workers slice) s reads low = by_scene bytes (commands.Anytime workers slice) done.status _ s reads low
-    by commands.Show s reads low = by_scene bytes commands.Show done.status _ s reads low
-    by commands.Convert s reads low = by_scene bytes commands.Convert done.status _ s reads low
+    by (commands.Plain full) s reads low = by_scene bytes (commands.Plain full) done.status _ s reads (λ tests. absurd (false≢true tests)) low
+    by (commands.Plan workers full) s reads low = by_scene bytes (commands.Plan workers full) done.status _ s reads (λ tests. absurd (false≢true tests)) low
+    by (commands.Smooth workers) s reads low = by_scene bytes (commands.Smooth workers) done.status _ s reads (λ tests. absurd (false≢true tests)) low
+    by (commands.Anytime workers slice) s reads low = by_scene bytes (commands.Anytime workers slice) done.status _ s reads (λ tests. absurd (false≢true tests)) low
+    by (commands.Twin workers) s reads low =
+        by_scene bytes (commands.Twin workers) done.status _ s reads (λ tests. (ClearAt-middle s.scene s.meaning.both s.meaning.twin, tt)) low
+    by commands.Show s reads low = by_scene bytes commands.Show done.status _ s reads (λ tests. absurd (false≢true tests)) low
+    by commands.Convert s reads low = by_scene bytes commands.Convert done.status _ s reads (λ tests. absurd (false≢true tests)) low
     by (commands.Gen number) s reads low = absurd (false≢true reads)
     by (commands.Trial number) s reads low = absurd (false≢true reads)
 
@@ -188,6 +222,18 @@ success_decided asked before now done text s =
     subst (λ (a : Option Command). IfSome a (λ command. IsDecided before.bytes_left command done.status)) (sym s.known)
     (by_reading before now s.command done.status (reads_text s.command) s.bytes s.read decided low)
 
+-- a command that tests the goal of a scene reads it
+tests_goal-reads : (command : Command) → IsTrue (tests_goal command) → IsTrue (reads_text command)
+tests_goal-reads (commands.Twin workers) tests = refl
+tests_goal-reads (commands.Plain full) tests = absurd (false≢true tests)
+tests_goal-reads (commands.Plan workers full) tests = absurd (false≢true tests)
+tests_goal-reads (commands.Smooth workers) tests = absurd (false≢true tests)
+tests_goal-reads (commands.Anytime workers slice) tests = absurd (false≢true tests)
+tests_goal-reads commands.Show tests = absurd (false≢true tests)
+tests_goal-reads commands.Convert tests = absurd (false≢true tests)
+tests_goal-reads (commands.Gen number) tests = absurd (false≢true tests)
+tests_goal-reads (commands.Trial number) tests = absurd (false≢true tests)
+
 -- the status of a refusal, if no read failed
 pub refusal_decided : (asked : Option Command) (before now : SourceState) (refusal : Refusal) → IsCaused asked before now refusal →
     ¬ ReadFailed before now →
@@ -202,5 +248,7 @@ refusal_decided (Some command) before now (refusals.Text number kind) cause sure
 refusal_decided (Some command) before now refusals.StartBlocked cause sure =
     let reads = (and_parts (reads_text command) (plans command) cause.0).0 in
     inr (of_whole before now command _ reads cause.1.0 cause.1.1 (by_start cause.1.0 command _ cause.1.2 cause.0 refl))
+refusal_decided (Some command) before now refusals.GoalBlocked cause sure =
+    inr (of_whole before now command _ (tests_goal-reads command cause.0) cause.1.0 cause.1.1 (by_goal cause.1.0 command _ cause.1.2 cause.0 refl))
 refusal_decided (Some command) before now refusals.ReadFault cause sure = absurd (sure cause.1.rose)
 refusal_decided (Some command) before now refusals.Memory cause sure = inl refl

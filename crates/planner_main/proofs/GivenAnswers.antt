@@ -2,16 +2,23 @@
 use Rattle.std.proofs.Common.{◌≡◌, false, IsTrue, [], Some, Result, Ok, Err, IsErrAnd, refl, sym, ap, subst, arith}
 use Rattle.std.proofs.KnownBytes.{Keeps-refl, Consumes-nil}
 use Rattle.plan_model.specs.declared.scenes.Scene.{Scene}
+use Rattle.plan_model.specs.Spaces.Clearance.{ClearAt}
+use Rattle.plan_model.specs.Spaces.ConfigurationSpace.{space_of}
 use Rattle.plan_model.specs.Texts.Streams.{SourceState}
 use Rattle.scene_text.specs.Fetching.{ReadsWithin}
+use Rattle.twin_trees.specs.TurnedScenes.{goal_middle}
+use Rattle.twin_trees.specs.declared.twin_runs.TwinFault.{TwinFault}
+use Rattle.twin_trees.specs.declared.twin_runs.TwinFault.TheVariants as faults
 use Rattle.planner_main.specs.declared.answers.Answer.{Answer}
 use Rattle.planner_main.specs.declared.commands.Command.{Command}
 use Rattle.planner_main.specs.declared.refusals.Refusal.{Refusal}
 use Rattle.planner_main.specs.declared.refusals.Refusal.TheVariants as refusals
-use Rattle.planner_main.specs.Commands.{input_of, reads_text}
+use Rattle.planner_main.specs.Commands.{input_of, reads_text, tests_goal}
 use Rattle.planner_main.specs.Conclusions.{Answers, HasScene, IsCaused, Succeeds}
 use Rattle.planner_main.specs.Exchanges.{IsUnread}
+use Rattle.planner_main.specs.Faults.{refusal_of_twin}
 use Rattle.planner_main.specs.Inputs.{one_scene, reads_bytes}
+use Rattle.planner_main.proofs.Causes.{GoalBlocked-caused}
 
 -- a command that reads one scene, and has it
 module _ (command : Command) (before now : SourceState) (scene : Scene) (one : input_of command ≡ one_scene)
@@ -34,6 +41,21 @@ module _ (command : Command) (before now : SourceState) (scene : Scene) (one : i
   Answers-no_memory (Err e) only = record {
     success = tt;
     refusal = subst (IsCaused (Some command) before now) (sym only) (refl, h.read.no_fault);
+    unread = λ none. absurd (none reads);
+    within = within;
+  }
+
+  -- is refused: its goal is not clear in its middle, or it is out of memory
+  pub Answers-twin_fault :
+      (fault : TwinFault) (result : Result Answer Refusal) → IsTrue (tests_goal command) → ClearAt (space_of scene) scene.start
+      → (fault ≡ faults.GoalBlocked → ¬ ClearAt (space_of scene) (goal_middle scene))
+      → IsErrAnd result (λ e. e ≡ refusal_of_twin fault) → Answers (Some command) before now result
+  Answers-twin_fault faults.Memory result tests start blocked only = Answers-no_memory result only
+  Answers-twin_fault faults.GoalBlocked (Ok answer) tests start blocked only = absurd only
+  Answers-twin_fault faults.GoalBlocked (Err e) tests start blocked only = record {
+    success = tt;
+    refusal = subst (IsCaused (Some command) before now) (sym only)
+        (GoalBlocked-caused command before now scene one tests h start (blocked refl));
     unread = λ none. absurd (none reads);
     within = within;
   }

@@ -1,5 +1,5 @@
 -- What is reported of a run, and of the scene that it is of.
-use Rattle.std.proofs.Common.{◌≡◌, ℕ, List, length, Some, refl, subst}
+use Rattle.std.proofs.Common.{◌≡◌, ℕ, Option, List, length, None, Some, IfSome, refl, subst}
 use Rattle.std.specs.Prelude.{is_some}
 use Rattle.plan_model.specs.declared.geometry.Point.{Point}
 use Rattle.plan_model.specs.declared.scenes.Scene.{Scene}
@@ -7,12 +7,14 @@ use Rattle.plan_model.specs.Trees.BestNode.{best_node, goals_of}
 use Rattle.plan_model.specs.Runs.ClosedLaw.{IsClosed}
 use Rattle.plan_model.specs.Scenes.MarkPoints.{mark_points}
 use Rattle.plan_model.specs.Runs.SameRuns.{IsOfTextbookRun}
-use Rattle.plan_model.specs.Runs.Textbook.{setup_of}
-use Rattle.plan_model.specs.Trees.TreeStates.{IsSettled}
+use Rattle.plan_model.specs.Runs.Textbook.{Setup, setup_of}
+use Rattle.plan_model.specs.Trees.PointsByNumber.{IsPresent}
+use Rattle.plan_model.specs.Trees.TreeStates.{IsSettled, TreeState}
 use Rattle.step_core.specs.declared.grown.Grown.{Grown}
 use Rattle.step_core.specs.GrownRuns.{state_of_grown}
+use Rattle.twin_trees.specs.Bridges.{IsBridge}
 use Rattle.planner_main.specs.declared.top_call.Done.{Done}
-use Rattle.planner_main.specs.Conclusions.{HandsOutRunAlone, Report, ReportsGrown, ReportsScene, status_of_report}
+use Rattle.planner_main.specs.Conclusions.{HandsOutRunAlone, Report, ReportsGrown, ReportsScene, ReportsTwin, status_of_report}
 
 -- a settled run over all marks of its scene is reported by its status and such a text; that it is closed, its type says
 pub ReportsGrown-answer :
@@ -53,3 +55,15 @@ ReportsScene-textbook report scene grown done text of_scene reported run alone =
   textbook = run;
   alone = alone;
 }
+
+-- the two nodes of a bridge are present
+pub IsBridge-present :
+    (setup : Setup) (one other : TreeState) (bridge : Option (ℕ × ℕ)) → IsBridge setup one other bridge
+    → IfSome bridge (λ pair. IsPresent one.points pair.0 × IsPresent other.points pair.1)
+IsBridge-present setup one other None h = tt
+IsBridge-present setup one other (Some pair) h = (h.member.one_present, h.member.other_present)
+
+-- a report of two runs is one of the scene that the first is of
+pub ReportsTwin-of_scene :
+    (own scene : Scene) (done : Done) (text : List ℕ) → own ≡ scene → ReportsTwin own done text → ReportsTwin scene done text
+ReportsTwin-of_scene own scene done text of_scene reported = subst (λ (s : Scene). ReportsTwin s done text) of_scene reported

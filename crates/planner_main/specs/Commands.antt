@@ -36,19 +36,24 @@ anytime_by second third =
     option_and_then (λ workers. option_and_then (λ slice. Some (commands.Anytime workers slice)) (number_in 1 MOST_MARKS third))
     (number_in 1 MOST_WORKERS second)
 
+-- the command to plan from both ends by so many workers, which a word says
+abbrev pub twin_by : List ℕ → Option Command
+twin_by word = option_and_then (λ workers. Some (commands.Twin workers)) (number_in 1 MOST_WORKERS word)
+
 -- the command of a word about the generated scene of a number
 abbrev pub command_about : List ℕ → ℕ → Option Command
 command_about word number =
     if bytes_eq word (codes "gen") then Some (commands.Gen number) else (if bytes_eq word (codes "trial") then Some (commands.Trial number) else None)
 
--- The command that two words ask for, if they ask for one: `plain full`, `plan` or `smooth` and a number of workers, or a word and
--- the number of a generated scene.
+-- The command that two words ask for, if they ask for one: `plain full`, `plan`, `smooth` or `twin` and a number of workers, or a word
+-- and the number of a generated scene.
 abbrev pub command_of_two : List ℕ → List ℕ → Option Command
 command_of_two word second =
     if bytes_eq word (codes "plain") && bytes_eq second (codes "full") then Some (commands.Plain true)
     else (if bytes_eq word (codes "plan") then plan_by false second
     else (if bytes_eq word (codes "smooth") then smooth_by second
-    else option_and_then (command_about word) (number_in 0 MOST_GENERATED second)))
+    else (if bytes_eq word (codes "twin") then twin_by second
+    else option_and_then (command_about word) (number_in 0 MOST_GENERATED second))))
 
 -- the command that three words ask for, if they ask for one: `plan`, a number of workers, and `full`, or `anytime` and two numbers, of
 -- workers and of marks
@@ -72,6 +77,7 @@ IsNumbered (commands.Plain full) = Unit {0}
 IsNumbered (commands.Plan workers full) = (1 ≤ workers) × (workers ≤ MOST_WORKERS)
 IsNumbered (commands.Smooth workers) = (1 ≤ workers) × (workers ≤ MOST_WORKERS)
 IsNumbered (commands.Anytime workers slice) = (1 ≤ workers) × (workers ≤ MOST_WORKERS) × (1 ≤ slice)
+IsNumbered (commands.Twin workers) = (1 ≤ workers) × (workers ≤ MOST_WORKERS)
 IsNumbered commands.Show = Unit {0}
 IsNumbered commands.Convert = Unit {0}
 IsNumbered (commands.Gen number) = number ≤ MOST_GENERATED
@@ -83,6 +89,7 @@ input_of (commands.Plain full) = one_scene
 input_of (commands.Plan workers full) = one_scene
 input_of (commands.Smooth workers) = one_scene
 input_of (commands.Anytime workers slice) = one_scene
+input_of (commands.Twin workers) = one_scene
 input_of commands.Show = one_scene
 input_of commands.Convert = one_scene
 input_of (commands.Gen number) = nothing
@@ -98,6 +105,7 @@ plans (commands.Plain full) = true
 plans (commands.Plan workers full) = true
 plans (commands.Smooth workers) = true
 plans (commands.Anytime workers slice) = true
+plans (commands.Twin workers) = true
 plans commands.Show = false
 plans commands.Convert = false
 plans (commands.Gen number) = false
@@ -107,12 +115,18 @@ plans (commands.Trial number) = true
 abbrev pub tests_start : Command → Bool
 tests_start command = reads_text command && plans command
 
+-- whether a command is refused if the middle of the first goal of a scene that it reads is not clear
+abbrev pub tests_goal : Command → Bool
+tests_goal (commands.Twin workers) = true
+tests_goal command = false
+
 -- the greatest status that a command may succeed with
 abbrev pub greatest_success : Command → ℕ
 greatest_success (commands.Plain full) = NO_PATH
 greatest_success (commands.Plan workers full) = NO_PATH
 greatest_success (commands.Smooth workers) = NO_PATH
 greatest_success (commands.Anytime workers slice) = NO_PATH
+greatest_success (commands.Twin workers) = NO_PATH
 greatest_success commands.Show = DONE
 greatest_success commands.Convert = DONE
 greatest_success (commands.Gen number) = DONE

@@ -22,6 +22,9 @@ use Rattle.path_tools.specs.SmoothedReports.{IsSmoothedReport}
 use Rattle.any_time.specs.BetterPaths.{AreBetterPaths}
 use Rattle.any_time.specs.BetterReports.{better_report}
 use Rattle.any_time.specs.declared.betters.Better.{Better}
+use Rattle.twin_trees.specs.declared.twin_runs.Twin.{Twin}
+use Rattle.twin_trees.specs.TwinReports.{twin_text}
+use Rattle.twin_trees.specs.Twins.{IsTwin}
 use Rattle.planner_main.specs.declared.answers.Answer.{Answer}
 use Rattle.planner_main.specs.declared.commands.Command.{Command}
 use Rattle.planner_main.specs.declared.commands.Command.TheVariants as commands
@@ -29,8 +32,8 @@ use Rattle.planner_main.specs.declared.refusals.Refusal.{Refusal}
 use Rattle.planner_main.specs.declared.refusals.Refusal.TheVariants as refusals
 use Rattle.planner_main.specs.declared.statuses.TheConstants.{DONE, NO_PATH}
 use Rattle.planner_main.specs.declared.top_call.Done.{Done}
-use Rattle.planner_main.specs.Commands.{input_of, plans, reads_text, tests_start}
-use Rattle.planner_main.specs.Inputs.{AreStartsClear, IsTextOf, RefusesInput, SpellsInput}
+use Rattle.planner_main.specs.Commands.{input_of, plans, reads_text, tests_goal, tests_start}
+use Rattle.planner_main.specs.Inputs.{AreGoalsClear, AreStartsClear, IsTextOf, RefusesInput, SpellsInput}
 use Rattle.planner_main.specs.GeneratedScenes.{IsGenerated}
 use Rattle.planner_main.specs.Exchanges.{IsReadWhole, IsUnread, IsReadFault, IsTooLong, NoReadFailed}
 use Rattle.planner_main.specs.Refusals.{status_of, line_of}
@@ -38,6 +41,7 @@ use Rattle.planner_main.specs.Refusals.{status_of, line_of}
 -- nothing is handed out beside the status
 pub record HandsOutNothing (done : Done) : Type 0 where
   pub no_run : done.run ≡ None
+  pub no_twin : done.twin ≡ None
   pub no_batch : done.batch ≡ []
   pub no_better : done.better ≡ []
 
@@ -105,6 +109,16 @@ pub record ReportsBetterPaths (workers slice : ℕ) (scene : Scene) (done : Done
   pub better : AreBetterPaths workers slice grown items
   pub alone : HandsOutNothing (record done { run = None; better = [] })
 
+-- Two runs of the scene from both of its ends are handed out, with the bridge between them, and nothing else is. The status says whether
+-- there is one, and the text is their report.
+pub record ReportsTwin (scene : Scene) (done : Done) (text : List ℕ) : Type 0 where
+  pub both : Twin
+  pub given : done.twin ≡ Some both
+  pub twin : IsTwin scene both
+  pub bridge : done.status ≡ status_of_report (is_some both.bridge)
+  pub written : text ≡ twin_text both
+  pub alone : HandsOutNothing (record done { twin = None })
+
 -- the text is the canonical text of the scene
 pub record WritesScene (scene : Scene) (done : Done) (text : List ℕ) : Type 0 where
   pub written : text ≡ canonical_text scene
@@ -123,6 +137,7 @@ IsSceneOf (commands.Plain full) bytes scene = IsTextOf scene bytes
 IsSceneOf (commands.Plan workers full) bytes scene = IsTextOf scene bytes
 IsSceneOf (commands.Smooth workers) bytes scene = IsTextOf scene bytes
 IsSceneOf (commands.Anytime workers slice) bytes scene = IsTextOf scene bytes
+IsSceneOf (commands.Twin workers) bytes scene = IsTextOf scene bytes
 IsSceneOf commands.Show bytes scene = IsTextOf scene bytes
 IsSceneOf commands.Convert bytes scene = IsTextOf scene bytes
 IsSceneOf (commands.Gen number) bytes scene = IsGenerated number scene
@@ -144,6 +159,7 @@ Succeeds (commands.Smooth workers) bytes done text =
     OfScene (commands.Smooth workers) bytes (λ scene. ReportsPlan workers IsSmoothedReport scene done text)
 Succeeds (commands.Anytime workers slice) bytes done text =
     OfScene (commands.Anytime workers slice) bytes (λ scene. ReportsBetterPaths workers slice scene done text)
+Succeeds (commands.Twin workers) bytes done text = OfScene (commands.Twin workers) bytes (λ scene. ReportsTwin scene done text)
 Succeeds commands.Show bytes done text = OfScene commands.Show bytes (λ scene. WritesScene scene done text)
 Succeeds commands.Convert bytes done text = OfScene commands.Convert bytes (λ scene. WritesConverted scene done text)
 Succeeds (commands.Gen number) bytes done text = OfScene (commands.Gen number) bytes (λ scene. WritesScene scene done text)
@@ -167,6 +183,13 @@ pub record BlocksStart (command : Command) (bytes : List ℕ) : Type 0 where
   pub spelled : SpellsInput (input_of command) bytes scenes
   pub blocked : ¬ AreStartsClear scenes
 
+-- the bytes that the command reads spell scenes whose starts are clear, and whose first goals are not all clear in their middles
+pub record BlocksGoal (command : Command) (bytes : List ℕ) : Type 0 where
+  pub scenes : List Scene
+  pub spelled : SpellsInput (input_of command) bytes scenes
+  pub starts : AreStartsClear scenes
+  pub blocked : ¬ AreGoalsClear scenes
+
 -- the words ask for a command that stands in a table
 abbrev pub Asks : (Command → Bool) → Option Command → Type 0
 Asks table asked = IsSomeAnd asked (λ command. IsTrue (table command))
@@ -186,12 +209,17 @@ IsCaused asked before now refusals.TooLong = Asks reads_text asked × IsTooLong 
 IsCaused asked before now (refusals.Text number kind) =
     Asks reads_text asked × AskedReads asked before now (λ command. RefusesInput (input_of command) number kind)
 IsCaused asked before now refusals.StartBlocked = Asks tests_start asked × AskedReads asked before now BlocksStart
+IsCaused asked before now refusals.GoalBlocked = Asks tests_goal asked × AskedReads asked before now BlocksGoal
 IsCaused asked before now refusals.ReadFault = Asks reads_text asked × IsReadFault before now
 IsCaused asked before now refusals.Memory = IsSome asked × NoReadFailed before now
 
 -- the start of each scene is clear, if the command tests it
 abbrev pub MayStart : Command → List Scene → Type 0
 MayStart command scenes = IsTrue (tests_start command) → AreStartsClear scenes
+
+-- the middle of the first goal of each scene is clear, if the command tests it
+abbrev pub MayReach : Command → List Scene → Type 0
+MayReach command scenes = IsTrue (tests_goal command) → AreGoalsClear scenes
 
 -- the source was read to its end, and what came is a text of the scene
 pub record HasScene (before now : SourceState) (scene : Scene) : Type 0 where

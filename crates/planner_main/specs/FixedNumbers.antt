@@ -1,6 +1,6 @@
 -- The statuses, and the number of the last generated scene, as numbers that a caller knows.
 use Rattle.std.specs.Prelude.{◌≡◌}
-use Rattle.planner_main.specs.declared.statuses.TheConstants.{DONE, NO_MEMORY, NO_PATH, READ_FAULT, START_BLOCKED, TEXT_REFUSED, WORDS_REFUSED, WRITE_FAULT}
+use Rattle.planner_main.specs.declared.statuses.TheConstants.{DONE, GOAL_BLOCKED, NO_MEMORY, NO_PATH, READ_FAULT, START_BLOCKED, TEXT_REFUSED, WORDS_REFUSED, WRITE_FAULT}
 use Rattle.planner_main.specs.declared.generated_scenes.TheConstants.{MOST_GENERATED}
 
 -- each constant with its value, so that it cannot change without its value here
@@ -13,4 +13,5 @@ pub record FixedNumbers : Type 0 where
   pub read_fault : READ_FAULT ≡ 5
   pub write_fault : WRITE_FAULT ≡ 6
   pub no_memory : NO_MEMORY ≡ 7
+  pub goal_blocked : GOAL_BLOCKED ≡ 8
   pub most_generated : MOST_GENERATED ≡ 9999

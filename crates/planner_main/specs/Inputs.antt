@@ -6,6 +6,7 @@ use Rattle.plan_model.specs.declared.text_terms.Kind.{Kind}
 use Rattle.plan_model.specs.Spaces.ConfigurationSpace.{space_of}
 use Rattle.plan_model.specs.Spaces.Clearance.{ClearAt}
 use Rattle.plan_model.specs.Texts.SceneGrammar.{Spells, Refused, supported}
+use Rattle.twin_trees.specs.TurnedScenes.{goal_middle}
 
 -- a kind of input: nothing at all, or the text of one scene
 pub data Input : Type 0 where
@@ -42,6 +43,11 @@ SpellsInput one_scene bytes scenes = SpellsOne bytes scenes
 abbrev pub RefusesInput : Input → ℕ → Kind → List ℕ → Type 0
 RefusesInput nothing number kind bytes = ⊥
 RefusesInput one_scene number kind bytes = IsFaultyText number kind bytes
+
+-- the middle of the first goal of each scene is clear
+abbrev pub AreGoalsClear : List Scene → Type 0
+AreGoalsClear [] = Unit {0}
+AreGoalsClear (scene ∷ scenes) = ClearAt (space_of scene) (goal_middle scene) × AreGoalsClear scenes
 
 -- the start of each scene is clear
 abbrev pub AreStartsClear : List Scene → Type 0

@@ -5,7 +5,7 @@ use Rattle.plan_model.specs.Texts.KindNames.{fault_words}
 use Rattle.plan_model.specs.Reports.ReportText.{line}
 use Rattle.planner_main.specs.declared.refusals.Refusal.{Refusal}
 use Rattle.planner_main.specs.declared.refusals.Refusal.TheVariants as refusals
-use Rattle.planner_main.specs.declared.statuses.TheConstants.{WORDS_REFUSED, TEXT_REFUSED, START_BLOCKED, READ_FAULT, NO_MEMORY}
+use Rattle.planner_main.specs.declared.statuses.TheConstants.{GOAL_BLOCKED, WORDS_REFUSED, TEXT_REFUSED, START_BLOCKED, READ_FAULT, NO_MEMORY}
 
 -- the words that the program writes in place of a report
 abbrev pub words_of_refusal : Refusal → List (List ℕ)
@@ -13,6 +13,7 @@ words_of_refusal refusals.Words = codes "words" ∷ codes "refused" ∷ []
 words_of_refusal refusals.TooLong = codes "text" ∷ codes "too" ∷ codes "long" ∷ []
 words_of_refusal (refusals.Text number kind) = fault_words number kind
 words_of_refusal refusals.StartBlocked = codes "start" ∷ codes "blocked" ∷ []
+words_of_refusal refusals.GoalBlocked = codes "goal" ∷ codes "blocked" ∷ []
 words_of_refusal refusals.ReadFault = codes "read" ∷ codes "fault" ∷ []
 words_of_refusal refusals.Memory = codes "no" ∷ codes "memory" ∷ []
 
@@ -30,5 +31,6 @@ status_of refusals.Words = WORDS_REFUSED
 status_of refusals.TooLong = TEXT_REFUSED
 status_of (refusals.Text number kind) = TEXT_REFUSED
 status_of refusals.StartBlocked = START_BLOCKED
+status_of refusals.GoalBlocked = GOAL_BLOCKED
 status_of refusals.ReadFault = READ_FAULT
 status_of refusals.Memory = NO_MEMORY

@@ -1,7 +1,7 @@
 //! What is to be written for the words of the command line. Each command has a function that reads what it needs from
 //! the source and makes the text of the answer.
 
-ghost use Rattle.std.specs.Prelude.{◌≡◌, ◌≤◌, ◌<◌, ℕ, false, length, map, is_some, string_bytes, IfOk, IfErr, IsTrue, None, Some, [], ◌∷◌};
+ghost use Rattle.std.specs.Prelude.{◌≡◌, ◌≤◌, ◌<◌, ℕ, false, length, map, is_some, string_bytes, IfOk, IfErr, IsTrue, Err, None, Some, [], ◌∷◌};
 ghost use Rattle.plan_model.specs.Spaces.ConfigurationSpace.{space_of};
 ghost use Rattle.plan_model.specs.Spaces.Clearance.{ClearAt};
 ghost use Rattle.plan_model.specs.declared.limits.TheConstants.{MOST_WORKERS};
@@ -12,9 +12,11 @@ ghost use Rattle.plan_model.specs.Runs.Textbook.{setup_of};
 ghost use Rattle.plan_model.specs.Trees.TreeStates.{IsSettled};
 ghost use Rattle.scene_text.specs.Fetching.{ReadsWithin};
 ghost use Rattle.planner_main.specs.Commands.{command_of, input_of, plans, IsNumbered};
-ghost use Rattle.planner_main.specs.Conclusions.{Answers, HandsOutNothing, HandsOutRunAlone, HasScene, IsBetterReport, IsCaused, IsReport, IsSummary};
+ghost use Rattle.planner_main.specs.Conclusions.{Answers, HandsOutNothing, HandsOutRunAlone, HasScene, IsBetterReport, IsCaused, IsReport, IsSummary, ReportsTwin};
 ghost use Rattle.planner_main.specs.Conclusions.{ReportsGrown, Succeeds, WritesScene, status_of_report};
 ghost use Rattle.any_time.specs.BetterPaths.{AreBetterPaths};
+ghost use Rattle.twin_trees.specs.TurnedScenes.{goal_middle};
+ghost use Rattle.twin_trees.specs.Twins.{IsTwin};
 ghost use Rattle.path_tools.specs.SmoothedReports.{IsSmoothedReport};
 ghost use Rattle.planner_main.specs.Inputs.{one_scene};
 ghost use Rattle.planner_main.specs.declared.generated_scenes.TheConstants.{MOST_GENERATED};
@@ -41,6 +43,7 @@ use std::thread::Threads;
 use step_core::Grown;
 use strip_sampler::marks;
 use swept_check::Hall;
+use twin_trees::{Twin, TwinFault, twin, twin_report};
 
 /// The answer of a command that succeeds.
 #[derive(Drop)]
@@ -88,6 +91,7 @@ fn perform<
         Command::Plan { workers, full } => plan(rt, alloc, workers, full, source, gate),
         Command::Smooth(workers) => plan_smoothed(rt, alloc, workers, source, gate),
         Command::Anytime { workers, slice } => plan_by_slices(rt, alloc, workers, slice, source),
+        Command::Twin(workers) => plan_twin(rt, alloc, workers, source, gate),
         Command::Show => show(alloc, source),
         Command::Convert => convert(alloc, source),
         Command::Gen(number) => Ok(generate(alloc, number)?),
@@ -160,6 +164,24 @@ fn plan_by_slices<R: Threads + Sync + Wait + RandomSource + AllocGlobal + Clone 
     let (scene, boxes) = problem_for(alloc, Command::Anytime { workers, slice }, source)?;
     let finished = run_by_slices(rt, alloc, workers, slice, scene, boxes)?;
     Ok(better_report_of(alloc, finished)?)
+}
+
+/// Plans the scene that is read from both of its ends, by several workers each, and reports both runs and the path over the bridge.
+fn plan_twin<R: Threads + Sync, S: Source, G: Gate>(
+    rt: &R,
+    alloc: Global,
+    workers: u32,
+    source: &mut S,
+    gate: &G,
+) -> Result<Answer, Refusal>
+    requires some { 1 ≤ workers }
+    requires few { workers ≤ MOST_WORKERS }
+    requires unended { (S.state source.old).has_ended ≡ false }
+    ensures { Answers (Some (Command.Twin workers)) (S.state source.old) (S.state source.new) result }
+{
+    let (scene, boxes) = problem_for(alloc, Command::Twin(workers), source)?;
+    let both = twin_of(rt, alloc, workers, scene, &boxes, gate)?;
+    Ok(twin_report_of(alloc, both)?)
 }
 
 /// Shows the scene that is read.
@@ -310,6 +332,51 @@ fn better_report_of(alloc: Global, finished: FinishedSession) -> Result<Answer, 
         },
         text,
     })
+}
+
+/// The two runs of a scene by several workers each, over all its marks, with the bridge between them.
+fn twin_of<R: Threads + Sync, G: Gate>(
+    rt: &R,
+    alloc: Global,
+    workers: u32,
+    scene: Scene,
+    boxes: &Boxes,
+    gate: &G,
+) -> Result<Twin, TwinFault>
+    requires some { 1 ≤ workers }
+    requires few { workers ≤ MOST_WORKERS }
+    requires boxes { boxes.now ≡ space_of scene }
+    requires start { ClearAt (space_of scene) scene.start }
+    ensures twin { IfOk result (IsTwin scene) }
+    ensures blocked { result ≡ Err TwinFault.GoalBlocked → ¬ ClearAt (space_of scene) (goal_middle scene) }
+{
+    // the start is clear, so there is room to draw marks in
+    let marks = marks(alloc, &scene)?;
+    twin(rt, alloc, Task { scene, marks }, boxes, workers, gate)
+}
+
+/// The report of two runs of a scene.
+fn twin_report_of(alloc: Global, both: Twin) -> Result<Answer, Memory>
+    requires { IsTwin both.from_start.task.scene both }
+    ensures { IfOk result (λ answer. ReportsTwin both.from_start.task.scene answer.done answer.text.items) }
+{
+    let text = twin_report(alloc, &both)?;
+    Ok(twin_answer_of(alloc, both, text))
+}
+
+/// The answer that a report of two runs is.
+fn twin_answer_of(alloc: Global, both: Twin, text: Vec<u8>) -> Answer
+    ensures status { result.done.status ≡ status_of_report (is_some both.bridge) }
+    ensures twin { result.done.twin ≡ Some both }
+    ensures alone { HandsOutNothing (record result.done { twin = None }) }
+    ensures text { result.text ≡ text }
+{
+    let status = if both.bridge.is_some() { DONE } else { NO_PATH };
+    let done = Done {
+        twin: Some(both),
+        ..Done::with_status(alloc, status)
+    };
+    Answer { done, text }
 }
 
 /// The report of a settled run over all marks of its scene, in full or in short.

@@ -33,6 +33,9 @@ pub enum Command {
         /// How many marks a slice has: 1 to `MOST_MARKS`.
         slice: u32,
     },
+    /// `twin W`: the report of two trees of the scene that is read, from its start and from the middle of its first goal, each grown by
+    /// so many workers: 1 to `MOST_WORKERS`.
+    Twin(u32),
     /// `show`: the canonical text of the scene that is read.
     Show,
     /// `convert`: the canonical text of the scene that is read, in version 2.
@@ -78,6 +81,7 @@ fn command_of_two(word: &str, second: &str) -> Option<Command>
         ("plain", "full") => Some(Command::Plain { full: true }),
         ("plan", _) => plan_by(second, false),
         ("smooth", _) => Some(Command::Smooth(workers_in(second)?)),
+        ("twin", _) => Some(Command::Twin(workers_in(second)?)),
         _ => command_about(word, number_in(second.as_bytes(), 0, MOST_GENERATED)?),
     }
 }

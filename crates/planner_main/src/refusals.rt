@@ -3,7 +3,9 @@
 ghost use Rattle.std.specs.Prelude.{◌≡◌, ◌≤◌, ◌<◌, ◌+◌, ◌++◌, length, decimal};
 ghost use Rattle.planner_main.specs.Refusals.{message_of, line_of, status_of};
 
-use crate::statuses::{NO_MEMORY, READ_FAULT, START_BLOCKED, TEXT_REFUSED, WORDS_REFUSED};
+use crate::statuses::{
+    GOAL_BLOCKED, NO_MEMORY, READ_FAULT, START_BLOCKED, TEXT_REFUSED, WORDS_REFUSED,
+};
 use arrayvec::ArrayString;
 use itoa::Buffer;
 use plan_model::{Kind, Memory};
@@ -11,6 +13,7 @@ use scene_text::{FetchFault, SceneRefusal};
 use std::error::Error;
 use std::fmt;
 use std::fmt::{Display, Formatter};
+use twin_trees::TwinFault;
 
 /// Why the program writes no report. It is displayed as its line, without the line feed.
 #[derive(Clone, Copy, Debug, PartialEq, Eq)]
@@ -23,6 +26,8 @@ pub enum Refusal {
     Text(u32, Kind),
     /// The start of the scene is not clear.
     StartBlocked,
+    /// The middle of the first goal is not clear.
+    GoalBlocked,
     /// The source could not be read.
     ReadFault,
     /// The program is out of memory.
@@ -38,6 +43,7 @@ impl Refusal {
             Refusal::Words => WORDS_REFUSED,
             Refusal::TooLong | Refusal::Text(..) => TEXT_REFUSED,
             Refusal::StartBlocked => START_BLOCKED,
+            Refusal::GoalBlocked => GOAL_BLOCKED,
             Refusal::ReadFault => READ_FAULT,
             Refusal::Memory => NO_MEMORY,
         }
@@ -62,6 +68,7 @@ impl Refusal {
             Refusal::TooLong => line_from("text too long"),
             Refusal::Text(number, kind) => fault_message(*number, *kind),
             Refusal::StartBlocked => line_from("start blocked"),
+            Refusal::GoalBlocked => line_from("goal blocked"),
             Refusal::ReadFault => line_from("read fault"),
             Refusal::Memory => line_from("no memory"),
         }
@@ -106,6 +113,20 @@ impl From<SceneRefusal> for Refusal {
         match refusal {
             SceneRefusal::Fault(fault) => Refusal::Text(fault.line, fault.kind),
             SceneRefusal::Memory => Refusal::Memory,
+        }
+    }
+}
+
+impl From<TwinFault> for Refusal {
+    ghost use Rattle.planner_main.specs.Faults.{refusal_of_twin};
+    ghost use Rattle.std.specs.Prelude.{◌≡◌};
+
+    ghost from_gives = { λ fault refusal. refusal ≡ refusal_of_twin fault };
+
+    fn from(fault: TwinFault) -> Refusal {
+        match fault {
+            TwinFault::GoalBlocked => Refusal::GoalBlocked,
+            TwinFault::Memory => Refusal::Memory,
         }
     }
 }
@@ -189,7 +210,7 @@ mod tests {
         drop(shown);
     }
 
-    static LINES: [(Refusal, &str); 7] = [
+    static LINES: [(Refusal, &str); 8] = [
         (Refusal::Words, "words refused\n"),
         (Refusal::TooLong, "text too long\n"),
         (
@@ -198,6 +219,7 @@ mod tests {
         ),
         (Refusal::Text(7, Kind::Unbuilt), "line 7 kind 10 Unbuilt\n"),
         (Refusal::StartBlocked, "start blocked\n"),
+        (Refusal::GoalBlocked, "goal blocked\n"),
         (Refusal::ReadFault, "read fault\n"),
         (Refusal::Memory, "no memory\n"),
     ];

@@ -26,6 +26,9 @@ pub const WRITE_FAULT: u8 = 6;
 /// The program is out of memory.
 pub const NO_MEMORY: u8 = 7;
 
+/// The middle of the scene's first goal is not clear.
+pub const GOAL_BLOCKED: u8 = 8;
+
 /// The statuses and the number of the last generated scene have the values that callers know.
 pub fn fixed_numbers()
     ensures { FixedNumbers }

@@ -17,15 +17,18 @@ use std::random::RandomSource;
 use std::sync::Wait;
 use std::thread::Threads;
 use step_core::Grown;
+use twin_trees::Twin;
 
 /// What the program has done.
 #[derive(Drop)]
 pub struct Done {
     /// The status that it ends with: one of `statuses`.
     pub status: u8,
-    /// The run that was reported: of the scene that was read or generated, over all its marks. `None` if no run was, so for
-    /// commands that plan nothing and for refusals.
+    /// The run that was reported: of the scene that was read or generated, over all its marks. `None` if no run was, or two
+    /// were, so for commands that plan nothing, for `twin W` and for refusals.
     pub run: Option<Grown>,
+    /// The two runs that were reported, with the bridge between them; `None` for all commands but `twin W`, and for refusals.
+    pub twin: Option<Twin>,
     /// The runs of a batch, in the order of its scenes; none for other commands and for refusals.
     pub batch: Growns,
     /// The better paths, in a list for each scene that is planned slice by slice; no list for other commands and for refusals.
@@ -42,6 +45,7 @@ impl Done {
         Done {
             status,
             run: None,
+            twin: None,
             batch: Sequence::from_vec(Vec::new(alloc)),
             better: Sequence::from_vec(Vec::new(alloc)),
         }
@@ -56,6 +60,8 @@ impl Done {
 ///   The gate is told of their turns.
 /// - `anytime W S` does as `plan W` does, but grows the run by `S` marks at a time. It writes a line for each better path, before the
 ///   short report. It waits under an executor: for these words alone nothing says that the call returns.
+/// - `twin W` grows two trees of the scene so, one from each end, and writes the path over the cheapest bridge between them with the
+///   counts of both.
 /// - `show` reads a scene and writes its canonical text. `convert` writes that of the scene in version 2.
 /// - `gen N` reads nothing and writes the canonical text of a generated scene.
 /// - `trial N` reads nothing, plans a generated scene as `plain` does, and writes the report without the points of its path.

@@ -5,7 +5,7 @@ use crate::test_calls::{
     copied, expect_number, expect_text, expect_that, given_words, push_text, sure, text_in,
 };
 use calls::*;
-use plan_model::{MemSink, MemSource, Memory, Outcome};
+use plan_model::{MemSink, MemSource, Memory, Outcome, Record};
 use plan_work::NoGate;
 use std::process::Abort;
 use std::test::Fail;
@@ -388,11 +388,12 @@ fn plans_for_a_body(rt: HostRuntime) {
     expect_each(&rt, rt.alloc(), &["plain"], &WITH_BODY);
 }
 
-static READERS: [&[&str]; 6] = [
+static READERS: [&[&str]; 7] = [
     &["plain"],
     &["plan", "2"],
     &["smooth", "2"],
     &["anytime", "2", "3"],
+    &["twin", "2"],
     &["show"],
     &["convert"],
 ];
@@ -610,7 +611,7 @@ fn expect_each_refused<
     }
 }
 
-static NO_COMMANDS: [&[&str]; 39] = [
+static NO_COMMANDS: [&[&str]; 43] = [
     &[],
     &["plain full"],
     &["plain  full"],
@@ -648,6 +649,10 @@ static NO_COMMANDS: [&[&str]; 39] = [
     &["anytime", "1", "full"],
     &["anytime", "1", "1", "full"],
     &["Anytime", "1", "1"],
+    &["twin"],
+    &["twin", "0"],
+    &["twin", "65"],
+    &["twin", "01"],
     &["twin", "1", "full"],
     &["batch", "1"],
 ];
@@ -736,3 +741,4 @@ mod plans;
 mod runs;
 mod second_version;
 mod smoothed;
+mod twins;

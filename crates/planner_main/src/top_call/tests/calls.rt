@@ -13,6 +13,8 @@ pub struct Run {
     pub outcomes: [u32; 3],
     // The greatest number of a worker that has handled a mark.
     pub greatest_worker: u32,
+    // The records of the first two marks, if there are two.
+    pub first_two: Option<(Record, Record)>,
 }
 
 const NO_RUN: Run = Run {
@@ -20,13 +22,23 @@ const NO_RUN: Run = Run {
     marks: 0,
     outcomes: [0; 3],
     greatest_worker: 0,
+    first_two: None,
 };
 
-// How a call has ended: with which status, with which run, and with how many lists of better paths and paths in them.
+// What is counted in the two runs of a scene that a call has handed out, and the bridge between them.
+#[derive(Clone, Copy)]
+pub struct Both {
+    pub from_start: Run,
+    pub from_goal: Run,
+    pub bridge: Option<(u32, u32)>,
+}
+
+// How a call has ended: with which status, with which run or which two runs, and with how many lists of better paths and paths in them.
 #[derive(Clone, Copy)]
 pub struct Ended {
     pub status: u8,
     pub run: Run,
+    pub twin: Option<Both>,
     pub lists: u64,
     pub items: u64,
 }
@@ -101,6 +113,14 @@ fn greatest_worker(grown: &Grown) -> u32 {
     greatest
 }
 
+// The records of the first two marks of a run, if it has two.
+fn first_two(grown: &Grown) -> Option<(Record, Record)> {
+    if grown.limit() < 2 {
+        return None;
+    }
+    Some((grown.record_of(0), grown.record_of(1)))
+}
+
 // What is counted in a run.
 fn counted(grown: &Grown) -> Run {
     Run {
@@ -108,6 +128,16 @@ fn counted(grown: &Grown) -> Run {
         marks: grown.limit(),
         outcomes: outcomes(grown),
         greatest_worker: greatest_worker(grown),
+        first_two: first_two(grown),
+    }
+}
+
+// What is counted in two runs.
+fn counted_both(twin: &Twin) -> Both {
+    Both {
+        from_start: counted(&twin.from_start),
+        from_goal: counted(&twin.from_goal),
+        bridge: twin.bridge,
     }
 }
 
@@ -127,6 +157,10 @@ fn ending_of(done: &Done) -> Ended {
         run: match &done.run {
             Some(grown) => counted(grown),
             None => NO_RUN,
+        },
+        twin: match &done.twin {
+            Some(twin) => Some(counted_both(twin)),
+            None => None,
         },
         lists: done.better.len() as u64,
         items: items_in(&done.better),

@@ -58,11 +58,12 @@ pub fn expect_early_faults<
     expect_read_faults(rt, alloc, words, ONE_MARK, 10, &EARLY);
 }
 
-static READING: [&[&str]; 6] = [
+static READING: [&[&str]; 7] = [
     &["plain"],
     &["plain", "full"],
     &["smooth", "1"],
     &["anytime", "1", "1"],
+    &["twin", "1"],
     &["show"],
     &["convert"],
 ];
@@ -138,7 +139,7 @@ fn expect_cut<R: Threads + Sync + Wait + RandomSource + AllocGlobal + Clone + Dr
     drop(called);
 }
 
-static CUTS: [Cut; 14] = [
+static CUTS: [Cut; 15] = [
     Cut {
         words: &["plain", "full"],
         fails: 1,
@@ -186,6 +187,12 @@ static CUTS: [Cut; 14] = [
         fails: 3,
         taken: "better 12800 marks 1",
         run: Some((2, 1)),
+    },
+    Cut {
+        words: &["twin", "1"],
+        fails: 3,
+        taken: "path 2 cost 12800\n0 ",
+        run: None,
     },
     Cut {
         words: &["show"],

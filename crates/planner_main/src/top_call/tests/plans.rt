@@ -6,7 +6,7 @@ use std::sync::atomic::{AtomicBool, Ordering};
 use std::thread;
 
 // A scene of three marks, of which the node of the third gives that of the second a cheaper way.
-const THREE_MARKS: &str = "\
+pub const THREE_MARKS: &str = "\
     prrt 1\n\
     room 100 100\n\
     start 0 0\n\
@@ -333,19 +333,24 @@ fn refuses_a_scene_as_plain_does(rt: HostRuntime) {
 // A gate for two workers: worker 1 goes on with its first mark only after worker 0 has come to one, and worker 0 only after worker 1
 // has handled one. One thread alone cannot pass it, nor can two of which one keeps the tree to itself while it handles a mark.
 #[derive(Drop)]
-struct OtherFirst {
+pub struct OtherFirst {
     come: AtomicBool,
     handled: AtomicBool,
     in_time: AtomicBool,
 }
 
 impl OtherFirst {
-    fn new() -> OtherFirst {
+    pub fn new() -> OtherFirst {
         OtherFirst {
             come: AtomicBool::new(false),
             handled: AtomicBool::new(false),
             in_time: AtomicBool::new(true),
         }
+    }
+
+    // Whether each flag came that was waited for.
+    pub fn was_in_time(&self) -> bool {
+        self.in_time.load(Ordering::SeqCst)
     }
 
     // Waits for a flag, and notes if it did not come.
@@ -396,11 +401,37 @@ static LINES_BY_TWO: [&str; 3] = [
 fn two_workers_grow_one_tree_at_once(rt: HostRuntime) {
     let gate = OtherFirst::new();
     let called = call_with_gate(&rt, rt.alloc(), BY_TWO, THREE_MARKS, 1000, 0, &gate);
-    expect_that(&rt, gate.in_time.load(Ordering::SeqCst), "in time");
+    expect_that(&rt, gate.was_in_time(), "in time");
     drop(gate);
     for begin in &LINES_BY_TWO {
         expect_line(&rt, called.text(), begin);
     }
     expect_whole(&rt, rt.alloc(), &called, 3, true);
     drop(called);
+}
+
+// Compares the records of the first two marks of a run on that scene through that gate with what those lines say.
+pub fn expect_grown_at_once<R: Abort>(rt: &R, run: &Run) {
+    let Some((first, second)) = run.first_two else {
+        panic!(rt; "fewer than two marks");
+    };
+    expect_that(rt, first.outcome == Outcome::Placed, "the first is placed");
+    expect_that(
+        rt,
+        second.outcome == Outcome::Placed,
+        "the second is placed",
+    );
+    for (number, want, shows) in [
+        (first.worker, 0, "the worker of the first mark"),
+        (first.turn, 0, "its turn"),
+        (first.nearest, 2, "its nearest node"),
+        (second.worker, 1, "the worker of the second mark"),
+        (second.turn, 0, "its turn"),
+        (second.nearest, 0, "its nearest node"),
+        (second.class, 1, "its class"),
+        (second.first_parent, 0, "its first parent"),
+    ] {
+        expect_number(rt, u64::from(number), want, shows);
+    }
+    expect_number(rt, second.first_cost, 12_594, "its first cost");
 }

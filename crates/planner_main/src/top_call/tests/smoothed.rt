@@ -1,5 +1,6 @@
 //! Whole calls that smooth the path of a run.
 
+use super::plans::{OtherFirst, THREE_MARKS, expect_grown_at_once};
 use super::*;
 
 static SMOOTHED: [Case; 5] = [
@@ -85,4 +86,16 @@ fn smooths_the_path_of_a_run_by_several_workers(rt: HostRuntime) {
     for workers in ["1", "2", "64"] {
         expect_each(&rt, rt.alloc(), &["smooth", workers], &OF_ONE_TREE);
     }
+}
+
+// As in the test of that name for `plan 2`.
+#[test]
+fn two_workers_grow_the_tree_of_a_smoothed_path_at_once(rt: HostRuntime) {
+    let gate = OtherFirst::new();
+    let words = ["smooth", "2"];
+    let called = call_with_gate(&rt, rt.alloc(), &words, THREE_MARKS, 1000, 0, &gate);
+    expect_that(&rt, gate.was_in_time(), "in time");
+    drop(gate);
+    expect_grown_at_once(&rt, &called.ended.run);
+    drop(called);
 }
