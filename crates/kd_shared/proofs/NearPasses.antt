@@ -1,12 +1,12 @@
 -- The search of a pass for all near nodes: what waits and what is found at each stage.
-use Rattle.std.proofs.Common.{◌≡◌, ℕ, suc, ◌+◌, ◌*◌, ◌<◌, ◌≤◌, Bool, false, not, List, [], ◌∷◌, length, arith, refl, sym, ap, ◌∙◌, subst}
-use Rattle.std.specs.Prelude.{IsFalse}
+use Rattle.std.proofs.Common.{◌≡◌, ℕ, suc, ◌+◌, ◌*◌, ◌<◌, ◌≤◌, Bool, false, not, List, [], ◌∷◌, ◌++◌, length, arith, refl, sym, ap, ◌∙◌, subst}
+use Rattle.std.specs.Prelude.{◌==◌, IsFalse, if◌then◌else◌}
 use Rattle.plan_model.specs.declared.geometry.Point.{Point}
 use Rattle.plan_model.specs.Geometry.Bounds.{IsBounded}
 use Rattle.plan_model.specs.Geometry.Plane.{squared_distance}
 use Rattle.plan_model.specs.Seen.Sights.{KeepsSight}
 use Rattle.plan_words.specs.SearchLists.{SearchLists, point_of_spot}
-use Rattle.plan_words.specs.States.{BelongsTo, PassState, SharedState}
+use Rattle.plan_words.specs.States.{BelongsTo, PassState, SharedState, with_lists, with_view}
 use Rattle.plan_words.specs.declared.spots.Found.{Found}
 use Rattle.plan_words.specs.declared.spots.Spot.{Spot}
 use Rattle.step_core.specs.LaterViews.{IsLawfulView}
@@ -16,8 +16,7 @@ use Rattle.kd_shared.specs.Loads.{LoadsPoint}
 use Rattle.kd_shared.specs.LookLaws.{OnlyLooks-trans}
 use Rattle.kd_shared.specs.Looking.{KeepsLists, OnlyLooks, PassLooks, searched}
 use Rattle.kd_shared.specs.Searches.{AreGathered}
-use Rattle.kd_shared.specs.Spots.{Notes, QueuesWithin, side_distance}
-use Rattle.kd_shared.proofs.Looking.{SeesNode-later}
+use Rattle.kd_shared.specs.Spots.{IsChildWithin, Notes, QueuesWithin, side_distance}
 use Rattle.kd_shared.proofs.NearSearch.{IsGathering, IsGathering-begins, IsGathering-ends, IsGathering-few_found, IsGathering-room_first}
 use Rattle.kd_shared.proofs.NearSearch.{IsGathering-room_last, IsGathering-seen, IsGathering-stands, IsGathering-visits}
 
@@ -45,6 +44,14 @@ KeepsLists-looks shared entry first passes = record {
   around = ap (λ (s : PassState). s.lists.around) passes.view_alone;
   waiting = ap (λ (s : PassState). s.lists.waiting) passes.view_alone;
 }
+
+-- the pass with one spot more that waits, unless it is node 0's
+abbrev pub with_child : Spot → PassState → PassState
+with_child child s = with_lists s (record s.lists {
+  search = record s.lists.search {
+    spots = if not (child.node == 0) then s.lists.search.spots ++ child ∷ [] else s.lists.search.spots;
+  };
+})
 
 -- The start is loaded, and waits alone.
 pub IsGatheringPass-begins : (shared : SharedState) (entry first now : PassState) (p : Point) (r : ℕ) (spot : Spot)
@@ -152,10 +159,7 @@ module _ (shared : SharedState) (entry now : PassState) (p : Point) (r : ℕ) (h
         found_half : half.lists.search.found ≡ found
         found_half = ap (λ (s : PassState). s.lists.search.found) half_is ∙ ap (λ (s : PassState). s.lists.search.found) same
 
-        pub half_seen : SeesNode half.view spot.node
-        half_seen = SeesNode-later noted.view half.view spot.node first_looks.looks.goes_on.later noted_seen
-
-        pub half_room : half.lists.search.taken + length half.lists.search.spots ≤ length half.view.run.marks + 1
+        half_room : half.lists.search.taken + length half.lists.search.spots ≤ length half.view.run.marks + 1
         half_room =
             let room =
             IsGathering-room_last (sight_in entry.view) (sight_in now.view) p r now.lists.search.spots now.lists.search.found now.lists.search.taken
@@ -163,7 +167,7 @@ module _ (shared : SharedState) (entry now : PassState) (p : Point) (r : ℕ) (h
             (length half.view.run.marks) first_looks.looks.goes_on.lawful.within in
             omega (arith, room, more, taken_half)
 
-        pub IsGatheringPass-visits : (after : PassState) (last_within : Bool) → BelongsTo after shared → OnlyLooks half.view after.view
+        IsGatheringPass-visits : (after : PassState) (last_within : Bool) → BelongsTo after shared → OnlyLooks half.view after.view
             → after ≡ searched half after.view (record half.lists.search { spots = after.lists.search.spots })
             → (IsFalse last_within → r < side_distance spot.by_rows (point_of_spot spot) p right)
             → QueuesWithin (sight_in half.view) (sight_in after.view) half.lists.search.spots after.lists.search.spots spot right last_within
@@ -187,7 +191,71 @@ module _ (shared : SharedState) (entry now : PassState) (p : Point) (r : ℕ) (h
               (ap (λ (s : PassState). s.lists.search.taken) after_is ∙ taken_half ∙ more) last_within last_is last_side);
         }
 
-        -- a visit more
-        pub taken_more : (after : PassState) → after ≡ searched half after.view (record half.lists.search { spots = after.lists.search.spots })
+        -- (a visit more)
+        taken_more : (after : PassState) → after ≡ searched half after.view (record half.lists.search { spots = after.lists.search.spots })
             → after.lists.search.taken ≡ suc now.lists.search.taken
         taken_more after after_is = ap (λ (s : PassState). s.lists.search.taken) after_is ∙ taken_half ∙ more
+
+      -- Both children are loaded, and then put: that is as if each was put when it was loaded.
+      module _
+          (one two : PassState) (first last : Spot) (right first_within last_within : Bool) (first_passes : PassLooks shared noted one)
+          (last_passes : PassLooks shared one two)
+          (first_is : IsFalse first_within → r < side_distance spot.by_rows (point_of_spot spot) p (not right))
+          (last_is : IsFalse last_within → r < side_distance spot.by_rows (point_of_spot spot) p right)
+          (first_child : IsChildWithin (sight_in noted.view) (sight_in one.view) spot (not right) first_within first)
+          (last_child : IsChildWithin (sight_in one.view) (sight_in two.view) spot right last_within last) where
+        abbrev half_way : PassState
+        half_way = with_child first (with_view noted one.view)
+
+        two_alone : two ≡ with_view noted two.view
+        two_alone = last_passes.view_alone ∙ ap (λ (s : PassState). with_view s two.view) first_passes.view_alone
+
+        pub room_first : two.lists.search.taken + length two.lists.search.spots ≤ length two.view.run.marks + 1
+        room_first =
+            omega (
+              arith,
+              noted_room,
+              ap (λ (s : PassState). s.lists.search.taken) two_alone,
+              ap (λ (s : PassState). length s.lists.search.spots) two_alone,
+              ap (λ run. length run.marks) first_passes.looks.looks.goes_on.later.run,
+              ap (λ run. length run.marks) last_passes.looks.looks.goes_on.later.run,
+            )
+
+        -- the left one is put,
+        module _ (three : PassState) (three_is : three ≡ with_child first two) where
+          three_alone : three ≡ with_child first (with_view noted two.view)
+          three_alone = three_is ∙ ap (with_child first) two_alone
+
+          pub room_last : three.lists.search.taken + length three.lists.search.spots ≤ length three.view.run.marks + 1
+          room_last =
+              let room = half_room half_way right first_within first_passes.looks refl first_is (first_child noted.lists.search.spots _ refl) in
+              omega (
+                arith,
+                room,
+                ap (λ (s : PassState). s.lists.search.taken) three_alone,
+                ap (λ (s : PassState). length s.lists.search.spots) three_alone,
+                ap (λ (s : PassState). length s.view.run.marks) three_alone,
+                ap (λ run. length run.marks) last_passes.looks.looks.goes_on.later.run,
+              )
+
+          -- and then the right one
+          module _ (after : PassState) (after_is : after ≡ with_child last three) where
+            abbrev visited : PassState
+            visited = with_child last (with_child first (with_view noted two.view))
+
+            after_alone : after ≡ visited
+            after_alone = after_is ∙ ap (with_child last) three_alone
+
+            pub IsGatheringPass-both : IsGatheringPass shared entry after p r
+            IsGatheringPass-both =
+                subst (λ s. IsGatheringPass shared entry s p r) (sym after_alone)
+                (IsGatheringPass-visits half_way right first_within first_passes.looks refl first_is
+                (first_child noted.lists.search.spots _ refl) visited last_within
+                (record { table = noted_belongs.table; run = last_passes.belongs.run; lawful = last_passes.belongs.lawful })
+                last_passes.looks refl last_is (last_child half_way.lists.search.spots _ refl))
+
+            -- (a visit more)
+            pub taken_both : after.lists.search.taken ≡ suc now.lists.search.taken
+            taken_both =
+                ap (λ (s : PassState). s.lists.search.taken) after_alone
+                ∙ taken_more half_way right first_within first_passes.looks refl first_is (first_child noted.lists.search.spots _ refl) visited refl

@@ -1,5 +1,5 @@
 -- What the steps of a search do to the nodes that wait to be visited, and to what it has found.
-use Rattle.std.specs.Prelude.{◌≡◌, ◌⊎◌, ℕ, ◌-◌, ◌<◌, ◌≤◌, Bool, false, not, if◌then◌else◌, Some, List, [], ◌∷◌, ◌++◌}
+use Rattle.std.specs.Prelude.{◌≡◌, ◌⊎◌, ℕ, ◌-◌, ◌<◌, ◌≤◌, ◌==◌, Bool, false, not, if◌then◌else◌, Some, List, [], ◌∷◌, ◌++◌}
 use Rattle.plan_model.specs.declared.geometry.Point.{Point}
 use Rattle.plan_model.specs.Trees.PointsByNumber.{StandsAt}
 use Rattle.plan_model.specs.Seen.Sights.{IsLaterMoment, KeepsSight, Sight}
@@ -51,6 +51,11 @@ pub record LeavesChild (before after : Sight) (queue put : List Spot) : Type 0 w
 abbrev pub QueuesWithin : Sight → Sight → List Spot → List Spot → Spot → Bool → Bool → Type 0
 QueuesWithin before after queue put spot side within =
     ((within ≡ false) × LeavesChild before after queue put) ⊎ QueuesChild before after queue put spot side
+
+-- This is the spot of the child on a side: if it waits, unless it is node 0, the child is queued, or left out if its side is not within reach.
+abbrev pub IsChildWithin : Sight → Sight → Spot → Bool → Bool → Spot → Type 0
+IsChildWithin before after spot side within child =
+    (queue put : List Spot) → put ≡ (if not (child.node == 0) then queue ++ child ∷ [] else queue) → QueuesWithin before after queue put spot side within
 
 -- ---- what is found
 

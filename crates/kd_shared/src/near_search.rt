@@ -1,9 +1,9 @@
 //! The search for the nodes within a radius.
 
 ghost use Rattle.std.specs.Prelude.{◌≡◌, ◌+◌, ◌<◌, ◌≤◌, IsFalse, false, if◌then◌else◌, length, true};
-ghost use Rattle.kd_shared.specs.Looking.{KeepsLists, OnlyLooks, searched};
+ghost use Rattle.kd_shared.specs.Looking.{KeepsLists, OnlyLooks, PassLooks, searched};
 ghost use Rattle.kd_shared.specs.Searches.{AreGathered, AreNearSeen};
-ghost use Rattle.kd_shared.specs.Spots.{Notes, QueuesWithin, side_distance};
+ghost use Rattle.kd_shared.specs.Spots.{IsChildWithin, Notes, side_distance};
 ghost use Rattle.plan_model.specs.Geometry.Bounds.{IsBounded};
 ghost use Rattle.plan_words.specs.States.{BelongsTo};
 ghost use Rattle.step_core.specs.ViewTrees.{SeesNode, sight_in};
@@ -45,8 +45,8 @@ pub fn around(shared: &Shared, pass: &mut Pass, p: Point, r: u32)
 /// Finds the nodes within a radius of a point: the pass has them in the order in which they were found, until its next search.
 ///
 /// It goes breadth first, so that the loads of one depth need not wait for one another, and leaves out a side of a node only if that is
-/// farther than the radius. No jump depends on what was loaded, as many of them would be guessed wrongly. O(log n + k) on average for
-/// k found of n random nodes, O(n) at worst.
+/// farther than the radius. Both children are loaded before either waits. No jump depends on what was loaded, as many of them would be
+/// guessed wrongly. O(log n + k) on average for k found of n random nodes, O(n) at worst.
 pub fn gather(shared: &Shared, pass: &mut Pass, p: Point, r: u32)
     requires belongs { BelongsTo pass.old shared.now }
     requires bounded { IsBounded p }
@@ -71,8 +71,10 @@ pub fn gather(shared: &Shared, pass: &mut Pass, p: Point, r: u32)
         let here = spot.point();
         note(pass, spot, here.squared_distance(p), most);
         let (left, right) = sides_within(spot.by_rows, here, p, r);
-        queue_child(shared, pass, spot, false, left);
-        queue_child(shared, pass, spot, true, right);
+        let left_child = child_spot(shared, pass, spot, false, left);
+        let right_child = child_spot(shared, pass, spot, true, right);
+        pass.put_spot_if(left_child, left_child.node != 0);
+        pass.put_spot_if(right_child, right_child.node != 0);
     }
 }
 
@@ -101,30 +103,22 @@ fn sides_within(by_rows: bool, here: Point, p: Point, r: u32) -> (bool, bool)
     (-reach <= short, short <= reach)
 }
 
-/// Queues the child on one side with its point, if there is one, and the side is within the radius. A child that is left out is
-/// replaced by node 0 before its point is loaded.
+/// The child on one side with its point: it is to wait, unless it is node 0. If there is none, or its side is not within the radius,
+/// node 0 stands for it before its point is loaded.
 #[inline]
-fn queue_child(shared: &Shared, pass: &mut Pass, spot: Spot, right: bool, within: bool)
+fn child_spot(shared: &Shared, pass: &mut Pass, spot: Spot, right: bool, within: bool) -> Spot
     requires belongs { BelongsTo pass.old shared.now }
     requires seen { SeesNode pass.old.view spot.node }
-    requires room { pass.old.lists.search.taken + length pass.old.lists.search.spots ≤ length pass.old.view.run.marks + 1 }
-    ensures belongs { BelongsTo pass.new shared.now }
-    ensures looks { OnlyLooks pass.old.view pass.new.view }
-    ensures others { pass.new ≡ searched pass.old pass.new.view (record pass.old.lists.search { spots = pass.new.lists.search.spots }) }
-    ensures queues { QueuesWithin (sight_in pass.old.view) (sight_in pass.new.view) pass.old.lists.search.spots pass.new.lists.search.spots spot right
-        within }
+    ensures looks { PassLooks shared.now pass.old pass.new }
+    ensures child { IsChildWithin (sight_in pass.old.view) (sight_in pass.new.view) spot right within result }
 {
-    let child = child_within(shared.child_or_start(pass, spot.node, right), within);
-    let word = shared.point_word(pass, child);
-    let by_rows = !spot.by_rows;
-    pass.put_spot_if(
-        Spot {
-            node: child,
-            by_rows,
-            word,
-        },
-        child != 0,
-    );
+    let node = child_within(shared.child_or_start(pass, spot.node, right), within);
+    let word = shared.point_word(pass, node);
+    Spot {
+        node,
+        by_rows: !spot.by_rows,
+        word,
+    }
 }
 
 /// The child, or node 0 if its side is not within the radius.

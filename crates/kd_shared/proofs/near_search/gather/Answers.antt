@@ -8,9 +8,9 @@ use Rattle.plan_model.specs.Geometry.Plane.{squared_distance}
 use Rattle.step_core.specs.WordNames.Word.{PointOf}
 use Rattle.kd_shared.specs.Looking.{searched}
 use Rattle.kd_shared.specs.Spots.{Notes, side_distance}
-use Rattle.kd_shared.proofs.Looking.{LoadsPoint-point}
-use Rattle.kd_shared.proofs.NearPasses.{ended_few, ended_gathered, fewer_left, half_room, half_seen, IsGatheringPass-begins}
-use Rattle.kd_shared.proofs.NearPasses.{IsGatheringPass-visits, noted_room, noted_seen, spot_bounded, taken_more}
+use Rattle.kd_shared.proofs.Looking.{LoadsPoint-point, SeesNode-later}
+use Rattle.kd_shared.proofs.NearPasses.{ended_few, ended_gathered, fewer_left, IsGatheringPass-begins, IsGatheringPass-both}
+use Rattle.kd_shared.proofs.NearPasses.{noted_seen, room_first, room_last, spot_bounded, taken_both}
 use Rattle.kd_shared.proofs.PassLooks.{PassLooks-load}
 use Rattle.kd_shared.proofs.near_search.gather.Goals as goal
 use Rattle.kd_shared.proofs.near_search.gather.Goals.{After-note, After-sides_within-left, After-take_spot}
@@ -101,65 +101,79 @@ right_is : (c : After-sides_within-left) → IsFalse c.sides_within-left.result.
 right_is c = subst (λ p. IsFalse c.sides_within-left.result.1 → c.args.r < side_distance c.in-Some.spot.by_rows p c.args.p true) c.point-here.ensures
     c.sides_within-left.ensures.right
 
--- its left child is queued, or left out
+-- its children are loaded
 
-pub queue_child-requires-clause-seen : goal.queue_child-requires-clause-seen
-queue_child-requires-clause-seen c =
-    let noted = (goal.at.queue_child-requires-clause-seen c).After-note in
+pub child_spot-left_child-requires-clause-seen : goal.child_spot-left_child-requires-clause-seen
+child_spot-left_child-requires-clause-seen c =
+    let noted = (goal.at.child_spot-left_child-requires-clause-seen c).After-note in
     noted_seen c.args.shared.now c.args.pass.now c.visits.pass c.args.p c.args.r c.visits.invariant.gathers c.in-Some.spot
     c.take_spot.new.self.lists.search.spots c.in-Some.ensures.taken c.note.new.pass c.take_spot.new.self.lists.search.taken
     c.note.new.pass.lists.search.found (taken_one noted) (noted_is noted) (near_notes noted)
 
-pub queue_child-requires-clause-room : goal.queue_child-requires-clause-room
-queue_child-requires-clause-room c =
-    let noted = (goal.at.queue_child-requires-clause-room c).After-note in
-    noted_room c.args.shared.now c.args.pass.now c.visits.pass c.args.p c.args.r c.visits.invariant.gathers c.in-Some.spot
+pub child_spot-right_child-requires-clause-seen : goal.child_spot-right_child-requires-clause-seen
+child_spot-right_child-requires-clause-seen c =
+    let noted = (goal.at.child_spot-right_child-requires-clause-seen c).After-note in
+    SeesNode-later c.note.new.pass.view c.child_spot-left_child.new.pass.view c.in-Some.spot.node
+    c.child_spot-left_child.ensures.looks.looks.looks.goes_on.later
+    (noted_seen c.args.shared.now c.args.pass.now c.visits.pass c.args.p c.args.r c.visits.invariant.gathers c.in-Some.spot
     c.take_spot.new.self.lists.search.spots c.in-Some.ensures.taken c.note.new.pass c.take_spot.new.self.lists.search.taken
-    c.note.new.pass.lists.search.found (taken_one noted) (noted_is noted) (near_notes noted)
+    c.note.new.pass.lists.search.found (taken_one noted) (noted_is noted) (near_notes noted))
 
--- and then its right one
+-- and wait
 
-pub queue_child-requires-in-Some-clause-seen : goal.queue_child-requires-in-Some-clause-seen
-queue_child-requires-in-Some-clause-seen c =
-    let noted = (goal.at.queue_child-requires-in-Some-clause-seen c).After-note in
-    let sides = (goal.at.queue_child-requires-in-Some-clause-seen c).After-sides_within-left in
-    half_seen c.args.shared.now c.args.pass.now c.visits.pass c.args.p c.args.r c.visits.invariant.gathers c.in-Some.spot
+pub put_spot_if-requires-in-Some : goal.put_spot_if-requires-in-Some
+put_spot_if-requires-in-Some c =
+    let noted = (goal.at.put_spot_if-requires-in-Some c).After-note in
+    let sides = (goal.at.put_spot_if-requires-in-Some c).After-sides_within-left in
+    room_first c.args.shared.now c.args.pass.now c.visits.pass c.args.p c.args.r c.visits.invariant.gathers c.in-Some.spot
     c.take_spot.new.self.lists.search.spots c.in-Some.ensures.taken c.note.new.pass c.take_spot.new.self.lists.search.taken
-    c.note.new.pass.lists.search.found (taken_one noted) (noted_is noted) (near_notes noted) c.queue_child.new.pass true
-    c.sides_within-left.result.0 c.queue_child.ensures.looks c.queue_child.ensures.others (left_is sides) c.queue_child.ensures.queues
+    c.note.new.pass.lists.search.found (taken_one noted) (noted_is noted) (near_notes noted) c.child_spot-left_child.new.pass
+    c.child_spot-right_child.new.pass c.child_spot-left_child.result c.child_spot-right_child.result true c.sides_within-left.result.0
+    c.sides_within-left.result.1 c.child_spot-left_child.ensures.looks c.child_spot-right_child.ensures.looks (left_is sides) (right_is sides)
+    c.child_spot-left_child.ensures.child c.child_spot-right_child.ensures.child
 
-pub queue_child-requires-in-Some-clause-room : goal.queue_child-requires-in-Some-clause-room
-queue_child-requires-in-Some-clause-room c =
-    let noted = (goal.at.queue_child-requires-in-Some-clause-room c).After-note in
-    let sides = (goal.at.queue_child-requires-in-Some-clause-room c).After-sides_within-left in
-    half_room c.args.shared.now c.args.pass.now c.visits.pass c.args.p c.args.r c.visits.invariant.gathers c.in-Some.spot
+pub put_spot_if-requires-in-Some-2 : goal.put_spot_if-requires-in-Some-2
+put_spot_if-requires-in-Some-2 c =
+    let noted = (goal.at.put_spot_if-requires-in-Some-2 c).After-note in
+    let sides = (goal.at.put_spot_if-requires-in-Some-2 c).After-sides_within-left in
+    let left = c.put_spot_if-in-Some.ensures.others ∙ ap (with_lists c.child_spot-right_child.new.pass) c.put_spot_if-in-Some.ensures.put in
+    room_last c.args.shared.now c.args.pass.now c.visits.pass c.args.p c.args.r c.visits.invariant.gathers c.in-Some.spot
     c.take_spot.new.self.lists.search.spots c.in-Some.ensures.taken c.note.new.pass c.take_spot.new.self.lists.search.taken
-    c.note.new.pass.lists.search.found (taken_one noted) (noted_is noted) (near_notes noted) c.queue_child.new.pass true
-    c.sides_within-left.result.0 c.queue_child.ensures.looks c.queue_child.ensures.others (left_is sides) c.queue_child.ensures.queues
+    c.note.new.pass.lists.search.found (taken_one noted) (noted_is noted) (near_notes noted) c.child_spot-left_child.new.pass
+    c.child_spot-right_child.new.pass c.child_spot-left_child.result c.child_spot-right_child.result true c.sides_within-left.result.0
+    c.sides_within-left.result.1 c.child_spot-left_child.ensures.looks c.child_spot-right_child.ensures.looks (left_is sides) (right_is sides)
+    c.child_spot-left_child.ensures.child c.child_spot-right_child.ensures.child c.put_spot_if-in-Some.new.self left
 
 pub visits-preserved : goal.visits-preserved
 visits-preserved c =
     let noted = (goal.at.visits-preserved c).After-note in
     let sides = (goal.at.visits-preserved c).After-sides_within-left in
+    let left = c.put_spot_if-in-Some.ensures.others ∙ ap (with_lists c.child_spot-right_child.new.pass) c.put_spot_if-in-Some.ensures.put in
+    let right = c.put_spot_if-in-Some-2.ensures.others ∙ ap (with_lists c.put_spot_if-in-Some.new.self) c.put_spot_if-in-Some-2.ensures.put in
     record {
       most_is = c.visits.invariant.most_is;
-      gathers = IsGatheringPass-visits c.args.shared.now c.args.pass.now c.visits.pass c.args.p c.args.r c.visits.invariant.gathers c.in-Some.spot
+      gathers = IsGatheringPass-both c.args.shared.now c.args.pass.now c.visits.pass c.args.p c.args.r c.visits.invariant.gathers c.in-Some.spot
           c.take_spot.new.self.lists.search.spots c.in-Some.ensures.taken c.note.new.pass c.take_spot.new.self.lists.search.taken
-          c.note.new.pass.lists.search.found (taken_one noted) (noted_is noted) (near_notes noted) c.queue_child.new.pass true
-          c.sides_within-left.result.0 c.queue_child.ensures.looks c.queue_child.ensures.others (left_is sides) c.queue_child.ensures.queues
-          c.queue_child-in-Some.new.pass c.sides_within-left.result.1 c.queue_child-in-Some.ensures.belongs c.queue_child-in-Some.ensures.looks
-          c.queue_child-in-Some.ensures.others (right_is sides) c.queue_child-in-Some.ensures.queues;
+          c.note.new.pass.lists.search.found (taken_one noted) (noted_is noted) (near_notes noted) c.child_spot-left_child.new.pass
+          c.child_spot-right_child.new.pass c.child_spot-left_child.result c.child_spot-right_child.result true c.sides_within-left.result.0
+          c.sides_within-left.result.1 c.child_spot-left_child.ensures.looks c.child_spot-right_child.ensures.looks (left_is sides) (right_is sides)
+          c.child_spot-left_child.ensures.child c.child_spot-right_child.ensures.child c.put_spot_if-in-Some.new.self left
+          c.put_spot_if-in-Some-2.new.self right;
     }
 
 pub visits-smaller : goal.visits-smaller
 visits-smaller c =
     let noted = (goal.at.visits-smaller c).After-note in
     let sides = (goal.at.visits-smaller c).After-sides_within-left in
-    let left = fewer_left c.args.shared.now c.args.pass.now c.visits.pass c.args.p c.args.r c.visits.invariant.gathers c.in-Some.spot
+    let left = c.put_spot_if-in-Some.ensures.others ∙ ap (with_lists c.child_spot-right_child.new.pass) c.put_spot_if-in-Some.ensures.put in
+    let right = c.put_spot_if-in-Some-2.ensures.others ∙ ap (with_lists c.put_spot_if-in-Some.new.self) c.put_spot_if-in-Some-2.ensures.put in
+    let fewer = fewer_left c.args.shared.now c.args.pass.now c.visits.pass c.args.p c.args.r c.visits.invariant.gathers c.in-Some.spot
     c.take_spot.new.self.lists.search.spots c.in-Some.ensures.taken in
-    let visited = taken_more c.args.shared.now c.args.pass.now c.visits.pass c.args.p c.args.r c.visits.invariant.gathers c.in-Some.spot
+    let visited = taken_both c.args.shared.now c.args.pass.now c.visits.pass c.args.p c.args.r c.visits.invariant.gathers c.in-Some.spot
     c.take_spot.new.self.lists.search.spots c.in-Some.ensures.taken c.note.new.pass c.take_spot.new.self.lists.search.taken
-    c.note.new.pass.lists.search.found (taken_one noted) (noted_is noted) (near_notes noted) c.queue_child.new.pass true
-    c.sides_within-left.result.0 c.queue_child.ensures.looks c.queue_child.ensures.others (left_is sides) c.queue_child.ensures.queues
-    c.queue_child-in-Some.new.pass c.queue_child-in-Some.ensures.others in
-    omega (arith, left, visited)
+    c.note.new.pass.lists.search.found (taken_one noted) (noted_is noted) (near_notes noted) c.child_spot-left_child.new.pass
+    c.child_spot-right_child.new.pass c.child_spot-left_child.result c.child_spot-right_child.result true c.sides_within-left.result.0
+    c.sides_within-left.result.1 c.child_spot-left_child.ensures.looks c.child_spot-right_child.ensures.looks (left_is sides) (right_is sides)
+    c.child_spot-left_child.ensures.child c.child_spot-right_child.ensures.child c.put_spot_if-in-Some.new.self left
+    c.put_spot_if-in-Some-2.new.self right in
+    omega (arith, fewer, visited)
