@@ -38,3 +38,4 @@ pub mod SeenStarts
 pub mod FirstCosts
 pub mod SeenGoals
 pub mod ClassRadii
+pub mod SheetVerdicts

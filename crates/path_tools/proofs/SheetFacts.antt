@@ -1,16 +1,19 @@
 -- What the form of a sheet and the laws that it keeps say of its lists.
-use Rattle.std.proofs.Common.{◌≡◌, ℕ, zero, suc, ◌<◌, true, eqb, ltb, List, [], length, Option, Some, None, refl, sym, ap, ◌∙◌, inl, inr}
+use Rattle.std.proofs.Common.{◌≡◌, ℕ, zero, suc, ◌<◌, true, eqb, ltb, arith, List, [], length, Option, Some, None, refl, sym, ap, ◌∙◌, inl, inr, ◌≤◌, subst}
 use Rattle.std.specs.Prelude.{◌&&◌, IsSome, is_some, slice_get, slice_index_or}
 use Rattle.std.proofs.lemmas.Bool.{and_parts, cases_order}
 use Rattle.std.proofs.lemmas.Option.{slice_get_within}
+use Rattle.plan_model.specs.declared.limits.TheConstants.{MOST_MARKS, MOST_NODES}
 use Rattle.plan_model.specs.declared.records.Record.{Record}
+use Rattle.plan_model.specs.declared.tasks.Task.{Task}
 use Rattle.plan_model.specs.declared.trees.Knot.{Knot}
 use Rattle.plan_model.specs.Runs.Outcomes.{is_placed}
 use Rattle.plan_model.specs.Runs.RecordLaw.{is_earlier_record}
-use Rattle.plan_model.specs.Runs.Textbook.{Setup}
+use Rattle.plan_model.specs.Runs.Textbook.{Setup, setup_of}
 use Rattle.plan_model.specs.Spaces.Clearance.{ClearAt}
 use Rattle.plan_model.specs.Trees.PointsByNumber.{IsPresent}
 use Rattle.plan_model.specs.Trees.TreeStates.{TreeState}
+use Rattle.plan_model.proofs.MarkBounds.{length-marks}
 use Rattle.plan_model.proofs.OrderLaws.{KeepsOrder-falls, parent-present}
 use Rattle.step_core.specs.PackedRuns.{state_of_lists}
 use Rattle.step_core.proofs.PackedStates.{IsKnot-at}
@@ -19,10 +22,10 @@ use Rattle.path_tools.specs.FirstBreaks.{HasFewTurns, KeepsPresence, KeepsTurn}
 use Rattle.path_tools.specs.JudgedRuns.{HaveLowTurns}
 use Rattle.path_tools.specs.ListedTrees.{IsSettledList}
 use Rattle.path_tools.specs.OwnNodes.{ArePresent, FitFirstCosts}
-use Rattle.path_tools.specs.ReportLines.{Extent}
-use Rattle.path_tools.specs.ReportSheets.{Sheet, HasForm}
+use Rattle.path_tools.specs.ReportLines.{Extent, extent_of}
+use Rattle.path_tools.specs.ReportSheets.{Sheet, HasForm, number_of_mark_line, number_of_node_line, state_of_sheet}
 use Rattle.path_tools.specs.SeenNodes.{HaveOwnTurns}
-use Rattle.path_tools.specs.SheetLaws.{KeepsNodeLaw}
+use Rattle.path_tools.specs.SheetLaws.{HasOwnTurn, KeepsLaw, KeepsNodeLaw}
 use Rattle.path_tools.proofs.NodeBreaks.{listed}
 use Rattle.path_tools.proofs.SheetTrees.{IsSettled-sound, KeepsOrder-sound}
 
@@ -93,3 +96,42 @@ ArePresent-kept knots records start kept entry zero h = start
 ArePresent-kept knots records start kept entry (suc k) h =
     let found = placed_record entry (slice_get records k) h in
     kept k (slice_get_within records k found.0 found.1) found.0 found.1 ∙ found.2
+
+-- ---- laws kept line by line
+
+module _ (task : Task) (sheet : Sheet) (form : HasForm (extent_of task) sheet) where
+  pub few_records : length sheet.records ≤ MOST_MARKS
+  few_records = omega (arith, form.all_marks, length-marks task)
+
+  pub few_knots : length sheet.knots ≤ MOST_NODES
+  few_knots = omega (arith, form.numbers, length-marks task)
+
+  pub numbers : length sheet.knots ≡ suc (length sheet.records)
+  numbers = omega (arith, form.numbers, form.all_marks)
+
+  -- the law of nodes does not depend on the records
+  listed_law : (records : List Record) (n : ℕ) → KeepsNodeLaw (setup_of task.scene) (state_of_lists sheet.knots records) n
+      → KeepsNodeLaw (setup_of task.scene) (state_of_lists sheet.knots []) n
+  listed_law records zero h = record { stands = h.stands; parent = h.parent; cost = h.cost }
+  listed_law records (suc n) h = record { alone = h.alone; present = h.present; other = h.other; edge = h.edge; exact = h.exact }
+
+  pub settled_of_law : ClearAt (setup_of task.scene).space task.scene.start → KeepsLaw task sheet 2 → IsSettledList sheet.knots
+  settled_of_law clear kept =
+      IsSettledList-sound (setup_of task.scene) sheet.knots clear form.start
+      (λ n here. listed_law sheet.records n ((kept (number_of_node_line sheet n)).node refl n here refl))
+
+  pub turns_of_law : KeepsLaw task sheet 3 → (k : ℕ) → k < length sheet.records → KeepsTurn sheet.records k
+  turns_of_law kept k low entry is =
+      subst (λ m. HasOwnTurn m (slice_get sheet.records) k entry) (sym form.all_marks) ((kept (number_of_mark_line sheet k)).turn refl k entry is refl)
+
+  pub presence_of_law : KeepsLaw task sheet 4 → (k : ℕ) → k < length sheet.records → KeepsPresence sheet.knots sheet.records k
+  presence_of_law kept k low entry is = (kept (number_of_mark_line sheet k)).presence refl k entry is refl
+
+  pub present_of_law : KeepsLaw task sheet 4 → ArePresent (state_of_sheet sheet)
+  present_of_law kept = ArePresent-kept sheet.knots sheet.records form.start (presence_of_law kept)
+
+  pub own_turns_of_law : KeepsLaw task sheet 3 → HaveOwnTurns sheet.records
+  own_turns_of_law kept = HaveOwnTurns-kept sheet.records (turns_of_law kept)
+
+  pub low_turns_of_law : KeepsLaw task sheet 3 → HaveLowTurns sheet.records
+  low_turns_of_law kept = HaveLowTurns-kept sheet.records (turns_of_law kept)

@@ -15,3 +15,4 @@ pub mod OwnNodes
 pub mod JudgedRuns
 pub mod SeenNodes
 pub mod MarkLaws
+pub mod Judgements

@@ -70,8 +70,8 @@ pub(crate) fn first_unlawful<C: Clearing>(
     Ok(first)
 }
 
-/// How many nodes are present.
-fn present_count(knots: &[Option<Knot>]) -> u32
+/// How many nodes are present. O(n).
+pub(crate) fn present_count(knots: &[Option<Knot>]) -> u32
     requires { length knots.now ≤ MOST_NODES }
     ensures { (records : List Record) → result ≡ node_count (state_of_lists knots.now records).points }
 {

@@ -1,6 +1,7 @@
 //! What is made of a path or a report once a run is planned.
 //!
-//! [`smooth`] takes a path over those of its points that make it cheapest.
+//! [`smooth`] takes a path over those of its points that make it cheapest. [`check`] is the judge of full reports, of whatever planner:
+//! that the bytes are the report of a lawful run, or which law is broken first, and at which line.
 #![tactic(auto)]
 
 mod best_paths;
@@ -33,6 +34,8 @@ mod smoothing;
 pub mod smoothing_laws;
 mod tallies;
 mod turns;
+mod verdicts;
 
 pub use smoothed_reports::smoothed_report;
 pub use smoothing::smooth;
+pub use verdicts::{Verdict, check};

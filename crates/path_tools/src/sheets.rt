@@ -94,8 +94,8 @@ fn read_path_lines(
     Ok(Ok((Some(Way { points, cost }), rest)))
 }
 
-/// How many lines a report has of its path.
-fn path_line_count(path: &Option<Way>) -> usize
+/// How many lines a report has of its path. O(1).
+pub(crate) fn path_line_count(path: &Option<Way>) -> usize
     ensures { result ≡ length (path_lines (path_of_way path.now)) }
 {
     match path {

@@ -1,4 +1,4 @@
-use Rattle.std.proofs.Common.{◌≡◌, ◌+◌, ℕ, suc, ◌<◌, arith, below_more, subst}
+use Rattle.std.proofs.Common.{◌≡◌, ◌+◌, suc, arith, below_more, subst}
 use Rattle.plan_model.specs.Spaces.Clearance.{Clear}
 use Rattle.plan_model.specs.Spaces.ClearPaths.{path_point}
 use Rattle.path_tools_tests.proofs.support.assert_clear.Goals as goal

@@ -1,0 +1,92 @@
+use Rattle.std.proofs.Common.{◌≡◌, ℕ, ◌≤◌, List, Option, Some, None, length, arith, sym, ap, ◌∙◌, subst}
+use Rattle.std.specs.Prelude.{slice_get, slice_index_or}
+use Rattle.plan_model.specs.declared.limits.TheConstants.{MOST_MARKS}
+use Rattle.plan_model.specs.declared.records.Record.{Record}
+use Rattle.plan_model.specs.declared.trees.Knot.{Knot}
+use Rattle.step_core.specs.PackedRuns.{state_of_lists}
+use Rattle.path_tools.specs.declared.verdicts.Verdict.TheVariants.{Broken}
+use Rattle.path_tools.specs.ExactEdges.{FitsEdges}
+use Rattle.path_tools.specs.FirstBreaks.{HasFewTurns}
+use Rattle.path_tools.specs.Judgements.{IsVerdict, bytes_of}
+use Rattle.path_tools.specs.JudgedRuns.{HaveLowTurns}
+use Rattle.path_tools.specs.OwnNodes.{ArePresent, FitFirstCosts}
+use Rattle.path_tools.specs.ReportLines.{extent_of}
+use Rattle.path_tools.specs.SeenNodes.{HaveOwnTurns}
+use Rattle.path_tools.specs.SheetsRead.{sheet_read}
+use Rattle.path_tools.proofs.BrokenLines.{KeepsLaw-records}
+use Rattle.path_tools.proofs.SheetFacts.{few_knots, few_records, few_turns, first_costs, knots_fit, low_turns_of_law, own_turns_of_law, present_of_law}
+use Rattle.path_tools.proofs.SheetVerdicts.{broken_record, mark_low, record_by}
+use Rattle.path_tools.proofs.verdicts.record_verdict.Goals as goal
+
+pub first_unlawful-requires-clause-few : goal.first_unlawful-requires-clause-few
+first_unlawful-requires-clause-few g c κs met =
+    subst (λ (es : List Record). length es ≤ MOST_MARKS) (sym c.deref-2.ensures.value)
+    (few_records c.args.task.now (sheet_read c.args.sheet.now) c.requires.form)
+
+pub first_unlawful-requires-clause-fit : goal.first_unlawful-requires-clause-fit
+first_unlawful-requires-clause-fit g c κs met =
+    subst (λ (ks : List (Option Knot)). (n : ℕ) (other : Knot) → slice_index_or ks n None ≡ Some other → FitsEdges other) (sym c.deref.ensures.value)
+    (knots_fit (extent_of c.args.task.now) (sheet_read c.args.sheet.now) c.requires.form)
+
+pub first_unlawful-requires-clause-first : goal.first_unlawful-requires-clause-first
+first_unlawful-requires-clause-first g c κs met =
+    subst FitFirstCosts (sym c.deref-2.ensures.value) (first_costs (extent_of c.args.task.now) (sheet_read c.args.sheet.now) c.requires.form)
+
+pub first_unlawful-requires-clause-turns_fit : goal.first_unlawful-requires-clause-turns_fit
+first_unlawful-requires-clause-turns_fit g c κs met =
+    subst (λ (es : List Record). (k : ℕ) (entry : Record) → slice_get es k ≡ Some entry → HasFewTurns entry) (sym c.deref-2.ensures.value)
+    (few_turns (extent_of c.args.task.now) (sheet_read c.args.sheet.now) c.requires.form)
+
+pub first_unlawful-requires-clause-present : goal.first_unlawful-requires-clause-present
+first_unlawful-requires-clause-present g c κs met =
+    let sheet = sheet_read c.args.sheet.now in
+    subst (λ (ks : List (Option Knot)). ArePresent (state_of_lists ks c.deref-2.result.now)) (sym c.deref.ensures.value)
+    (subst (λ (es : List Record). ArePresent (state_of_lists sheet.knots es)) (sym c.deref-2.ensures.value)
+    (present_of_law c.args.task.now sheet c.requires.form c.requires.presence))
+
+pub first_unlawful-requires-clause-own : goal.first_unlawful-requires-clause-own
+first_unlawful-requires-clause-own g c κs met =
+    subst HaveOwnTurns (sym c.deref-2.ensures.value)
+    (own_turns_of_law c.args.task.now (sheet_read c.args.sheet.now) c.requires.form c.requires.turns)
+
+pub first_unlawful-requires-clause-low : goal.first_unlawful-requires-clause-low
+first_unlawful-requires-clause-low g c κs met =
+    subst HaveLowTurns (sym c.deref-2.ensures.value)
+    (low_turns_of_law c.args.task.now (sheet_read c.args.sheet.now) c.requires.form c.requires.turns)
+
+pub mark_line-requires-clause-few : goal.mark_line-requires-clause-few
+mark_line-requires-clause-few g c = few_knots c.args.task.now (sheet_read c.args.sheet.now) c.requires.form
+
+pub mark_line-requires-clause-low : goal.mark_line-requires-clause-low
+mark_line-requires-clause-low g c =
+    let sheet = sheet_read c.args.sheet.now in
+    omega (
+      arith,
+      c.requires.short,
+      mark_low c.args.task.now sheet c.requires.form c.in-Some.mark (record_by c.args.task.now sheet.knots c.deref.result.now sheet.records c.deref-2.result.now c.in_ok-first.first (Some c.in-Some.mark) c.deref.ensures.value
+          c.deref-2.ensures.value c.in-Some.is c.in_ok-first.ensures).0,
+    )
+
+pub broken-requires : goal.broken-requires
+broken-requires g c =
+    let sheet = sheet_read c.args.sheet.now in
+    omega (
+      arith,
+      c.requires.short,
+      c.mark_line.ensures,
+      mark_low c.args.task.now sheet c.requires.form c.in-Some.mark (record_by c.args.task.now sheet.knots c.deref.result.now sheet.records c.deref-2.result.now c.in_ok-first.first (Some c.in-Some.mark) c.deref.ensures.value
+          c.deref-2.ensures.value c.in-Some.is c.in_ok-first.ensures).0,
+    )
+
+pub returns-in-Some-clause-broken : goal.returns-in-Some-clause-broken
+returns-in-Some-clause-broken g c =
+    let sheet = sheet_read c.args.sheet.now in
+    subst (IsVerdict c.args.task.now (bytes_of sheet)) (sym (c.broken.ensures ∙ ap (λ line. Broken line 5) c.mark_line.ensures))
+    (broken_record c.args.task.now sheet c.requires.form c.requires.nodes c.requires.turns c.requires.presence c.in-Some.mark (record_by c.args.task.now sheet.knots c.deref.result.now sheet.records c.deref-2.result.now c.in_ok-first.first (Some c.in-Some.mark) c.deref.ensures.value
+    c.deref-2.ensures.value c.in-Some.is c.in_ok-first.ensures))
+
+pub returns-in-None-clause-kept : goal.returns-in-None-clause-kept
+returns-in-None-clause-kept g c =
+    let sheet = sheet_read c.args.sheet.now in
+    KeepsLaw-records c.args.task.now sheet (record_by c.args.task.now sheet.knots c.deref.result.now sheet.records c.deref-2.result.now c.in_ok-first.first None c.deref.ensures.value
+    c.deref-2.ensures.value c.in-None.is c.in_ok-first.ensures)
