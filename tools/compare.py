@@ -5,6 +5,7 @@ Usage: compare.py PROGRAM [FIRST [COUNT]]. For each number from FIRST on (0 and 
 - `plain`, `plan 1`, `plain full` and `plan 1 full` write what textbook.py writes, and end with its status;
 - `smooth 1` writes what smoothing.py writes;
 - `anytime 1 S`, for a drawn S, writes what anytime.py writes; `anytime 4 S` gives paths that fall to that of its report;
+- `batch 1 S` writes what batch.py writes for this scene and some before it, and for the same with a text with faults among them;
 - `twin 1` writes what twins.py writes; `twin 4` shows a lawful path and counts;
 - `plan W full`, for W of WORKERS, writes a report that judge.py finds lawful;
 - `show` writes the canonical text, `convert` that of the scene in version 2, and both for a text with faults the line and the kind of
@@ -21,6 +22,7 @@ import sys
 from collections import Counter
 
 from anytime import anytime_answer, fit
+from batch import batch_answer
 from geometry import Space
 from judge import verdict
 from make_scenes import scene_of, with_faults
@@ -66,6 +68,7 @@ class Comparison:
         self.note(number, "smooth 1, by all choices", self.run("smooth 1", text) == smoothed_answer(text))
         self.compare_slices(number, scene, text)
         self.compare_twins(number, scene, text)
+        self.compare_batches(number, version)
         for workers in WORKERS:
             words = f"plan {workers} full"
             output, status = self.run(words, text)
@@ -95,6 +98,17 @@ class Comparison:
             self.note(number, "twin 4, as far as it shows", right)
         else:
             self.note(number, "twin 4, refused", (output, status) == wanted)
+
+    def compare_batches(self, number, version):
+        """Compares what is written of several scenes, the last of which is that of the number."""
+        rng = random.Random(f"batch {number}")
+        slice_size = rng.choice([1, 2, 5, 262143])
+        texts = [scene_of(n, version).text().encode() for n in range(max(0, number - rng.randrange(4)), number + 1)]
+        faulty = texts + [with_faults(number, version)]
+        rng.shuffle(faulty)
+        for what, parts in (("batch 1, by the textbook", texts), ("batch 1, with faults", faulty)):
+            text = b"next\n".join(part if part.endswith(b"\n") or not part else part + b"\n" for part in parts)
+            self.note(number, what, self.run(f"batch 1 {slice_size}", text) == batch_answer(text, slice_size))
 
     def compare_mutant(self, number, scene, report):
         """Changes one number of a report: the judge is to refuse it, unless it is lawful all the same."""

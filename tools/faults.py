@@ -2,14 +2,14 @@
 """Runs a built program with a fault in each run, and prints a table of how the runs ended.
 
 Usage: faults.py PROGRAM [WORDS..]. The words are those of a command that reads a scene; without them it is `plan 2`, `plan 2 full`,
-`smooth 1`, `anytime 1 1`, `twin 1` and, for memory and threads alone, `plan 64 full`. Two scenes are read: the one of
-docs/report-format.md that is rewired, and examples/pillars.scene with few marks. One call in a run fails, or that call and all later ones of its kind: an allocation, a read, a
-write, or the making of a thread; each call in turn, until there is none of that number. Then reads and writes move one byte each, and
-each of them fails in turn. At last the streams are broken from the first: closed, a folder to read from, a full device, a pipe that
-nobody reads.
+`smooth 1`, `anytime 1 1`, `twin 1`, `batch 1 1` and, for memory and threads alone, `plan 64 full`. Two scenes are read: the one of
+docs/report-format.md that is rewired, and examples/pillars.scene with few marks. One call in a run fails, or that call and all
+later ones of its kind: an allocation, a read, a write, or the making of a thread; each call in turn, until there is none of that
+number. Then reads and writes move one byte each, and each of them fails in turn. At last the streams are broken from the first:
+closed, a folder to read from, a full device, a pipe that nobody reads.
 
 A report is held to judge.py, a short one as far as it shows; of a command without workers, of `smooth 1`,
-`anytime 1 1` and `twin 1`, it is the one without a fault. A run with a fault is right if
+`anytime 1 1`, `twin 1` and `batch 1 1`, it is the one without a fault. A run with a fault is right if
 
 - a refused allocation gives `no memory` with 7 and nothing before it, or nothing at all with 7 if nothing was read (there was no
   memory for the words of the command line), or a whole report: it did without, as without a thread;
@@ -71,6 +71,7 @@ COMMANDS = [
     (["smooth", "1"], FAULTS),
     (["anytime", "1", "1"], FAULTS),
     (["twin", "1"], FAULTS),
+    (["batch", "1", "1"], FAULTS),
 ]
 
 

@@ -27,6 +27,7 @@ BLOCKED_GOAL = b"prrt 1\nroom 10 10\nobstacle 4 4 6 4 6 6 4 6\nstart 1 1\ngoal 5
 TWIN = b"path 2 cost 12800\n0 0\n30 40\nstart nodes 2 placed 1 same 0 blocked 0\ngoal nodes 1 placed 0 same 1 blocked 0\n"
 NO_TWIN = b"no path\nstart nodes 1 placed 0 same 0 blocked 0\ngoal nodes 1 placed 0 same 0 blocked 0\n"
 NONE = b"no path\nnodes 1 placed 0 same 0 blocked 0\n"
+FOUND_BETTER = b"better 12800 marks 1\n" + PATH
 # More than the program takes to begin, and less than it and a text of so many bytes take.
 FEW_BYTES = 16 << 20
 SECONDS = 60
@@ -45,32 +46,42 @@ class Case:
     few_bytes: int = 0
 
 
+def of_each(*reports):
+    """The reports of several scenes, each after the line with its number."""
+    return b"".join(b"scene %d\n%s" % numbered for numbered in enumerate(reports))
+
+
 CASES = [
     Case("path", ["plain"], FOUND, 0, PATH),
     Case("path by workers", ["plan", "2"], FOUND, 0, PATH),
     Case("a smoothed path", ["smooth", "2"], FOUND, 0, PATH),
-    Case("a better path", ["anytime", "2", "1"], FOUND, 0, b"better 12800 marks 1\n" + PATH),
     Case("a path between two trees", ["twin", "2"], FOUND, 0, TWIN),
+    Case("a better path", ["anytime", "2", "1"], FOUND, 0, FOUND_BETTER),
+    Case("paths of two scenes", ["batch", "2", "1"], FOUND + b"next\n" + FOUND, 0, of_each(FOUND_BETTER, FOUND_BETTER)),
     Case("no path", ["plain"], NO_PATH, 1, NONE),
     Case("no path by workers", ["plan", "2"], NO_PATH, 1, NONE),
     Case("no path to be smoothed", ["smooth", "2"], NO_PATH, 1, NONE),
     Case("no better path", ["anytime", "2", "1"], NO_PATH, 1, NONE),
     Case("no path between two trees", ["twin", "2"], NO_PATH, 1, NO_TWIN),
+    Case("no path in one of two scenes", ["batch", "2", "1"], NO_PATH + b"next\n" + FOUND, 1, of_each(NONE, FOUND_BETTER)),
     Case("no words", [], FOUND, 2, b"words refused\n"),
     Case("other words", ["plain", "short"], FOUND, 2, b"words refused\n"),
     Case("no worker", ["plan", "0"], FOUND, 2, b"words refused\n"),
     Case("no worker to smooth a path of", ["smooth", "0"], FOUND, 2, b"words refused\n"),
     Case("no worker for two trees", ["twin", "0"], FOUND, 2, b"words refused\n"),
     Case("no mark in a slice", ["anytime", "1", "0"], FOUND, 2, b"words refused\n"),
+    Case("no worker for several scenes", ["batch", "0", "1"], FOUND, 2, b"words refused\n"),
     Case("a word that is no text", [b"\xff"], FOUND, 2, b"words refused\n"),
     Case("a word too many that is no text", ["plain", b"\xff"], FOUND, 2, b"words refused\n"),
     Case("no scene", ["plain"], b"prrt 0\n" + FOUND[7:], 3, b"line 1 kind 1 Version\n"),
     Case("a scene to convert", ["convert"], NO_PATH, 0, CONVERTED),
     Case("no scene to convert", ["convert"], b"prrt 3\n", 3, b"line 1 kind 1 Version\n"),
+    Case("no second scene", ["batch", "1", "1"], FOUND + b"next\n", 3, b"line 8 kind 1 Version\n"),
     Case("no scene to show", ["show"], b"prrt 0\n" + FOUND[7:], 3, b"line 1 kind 1 Version\n"),
     Case("a text that is too long", ["plain"], LONG, 3, b"text too long\n"),
     Case("a start that is not clear", ["plain"], BLOCKED, 4, b"start blocked\n"),
     Case("the same by workers", ["plan", "2"], BLOCKED, 4, b"start blocked\n"),
+    Case("the same of a second scene", ["batch", "1", "1"], FOUND + b"next\n" + BLOCKED, 4, b"start blocked\n"),
     Case("the same before a path is smoothed", ["smooth", "2"], BLOCKED, 4, b"start blocked\n"),
     Case("the same before a goal is tested", ["twin", "2"], BLOCKED, 4, b"start blocked\n"),
     Case("a goal that is not clear", ["twin", "2"], BLOCKED_GOAL, 8, b"goal blocked\n"),

@@ -1,6 +1,5 @@
 -- Words that ask for no command.
-use Rattle.std.proofs.Common.{◌≡◌, ℕ, ◌≤◌, Option, Some, None, List, [], ◌∷◌, length, map, arith, refl}
-use Rattle.planner_main.specs.declared.commands.Command.{Command}
+use Rattle.std.proofs.Common.{◌≡◌, ℕ, ◌≤◌, None, List, [], ◌∷◌, length, map, arith, refl}
 use Rattle.planner_main.specs.Commands.{command_of}
 
 -- there are more than three of them

@@ -8,6 +8,7 @@ use Rattle.plan_model.specs.declared.scenes.Scene.{Scene}
 use Rattle.plan_model.specs.declared.text_terms.Kind.{Kind}
 use Rattle.plan_model.specs.Texts.SceneGrammar.{supported}
 use Rattle.plan_model.specs.Texts.Streams.{SourceState}
+use Rattle.plan_model.proofs.SceneBatchLaws.{SpellsBatch-not_refused, SpellsBatch-one_batch}
 use Rattle.plan_model.proofs.Soundness.{Spells-not_refused}
 use Rattle.plan_model.proofs.SameScenes.{Spells-one_scene}
 use Rattle.plan_model.proofs.SpelledScenes.{ClearAt-spelled}
@@ -25,7 +26,7 @@ use Rattle.planner_main.specs.declared.top_call.Done.{Done}
 use Rattle.planner_main.specs.Commands.{input_of, plans, reads_text, tests_goal, tests_start, greatest_success}
 use Rattle.planner_main.specs.Conclusions.{BlocksGoal, BlocksStart, IsCaused, IsSceneOf, IsSuccess, MayReach, MayStart, OfScene, Succeeds, status_of_report}
 use Rattle.planner_main.specs.Decisions.{IsDecidedBy, IsDecided}
-use Rattle.planner_main.specs.Inputs.{Input, nothing, one_scene, AreGoalsClear, AreStartsClear, RefusesInput, SpellsInput}
+use Rattle.planner_main.specs.Inputs.{Input, nothing, one_scene, several_scenes, AreGoalsClear, AreStartsClear, RefusesInput, SpellsInput}
 use Rattle.planner_main.specs.Exchanges.{ReadFailed, IsReadWhole, IsUnread}
 use Rattle.planner_main.specs.Refusals.{status_of}
 
@@ -36,6 +37,7 @@ not_faulty nothing bytes scenes number kind t f = f
 not_faulty one_scene bytes [] number kind t f = t
 not_faulty one_scene bytes (scene ∷ []) number kind t f = Spells-not_refused supported bytes scene number kind t.spelled f.refused
 not_faulty one_scene bytes (scene ∷ second ∷ scenes) number kind t f = t
+not_faulty several_scenes bytes scenes number kind t f = SpellsBatch-not_refused supported bytes scenes number kind t.spelled f.refused
 
 -- and has a permitted length
 short_input : (input : Input) (bytes : List ℕ) (scenes : List Scene) → SpellsInput input bytes scenes → length bytes ≤ MOST_TEXT_BYTES
@@ -43,6 +45,7 @@ short_input nothing bytes scenes t = omega (arith, ap length t.0)
 short_input one_scene bytes [] t = absurd t
 short_input one_scene bytes (scene ∷ []) t = t.short
 short_input one_scene bytes (scene ∷ second ∷ scenes) t = absurd t
+short_input several_scenes bytes scenes t = t.short
 
 -- the middles of their first goals are clear together
 same_goals : (input : Input) (bytes : List ℕ) (scenes others : List Scene) → SpellsInput input bytes scenes → SpellsInput input bytes others →
@@ -54,6 +57,8 @@ same_goals one_scene bytes (a ∷ []) [] s t clear = absurd t
 same_goals one_scene bytes (a ∷ []) (b ∷ d ∷ others) s t clear = absurd t
 same_goals one_scene bytes (a ∷ []) (b ∷ []) s t clear =
     (subst (λ scene. ClearAt (space_of scene) (goal_middle scene)) (Spells-one_scene supported bytes a b s.spelled t.spelled) clear.0, tt)
+same_goals several_scenes bytes scenes others s t clear =
+    subst AreGoalsClear (SpellsBatch-one_batch supported bytes scenes others s.spelled t.spelled) clear
 
 -- the scenes that it spells are clear at their starts together
 same_starts : (input : Input) (bytes : List ℕ) (scenes others : List Scene) → SpellsInput input bytes scenes → SpellsInput input bytes others →
@@ -64,6 +69,8 @@ same_starts one_scene bytes (a ∷ c ∷ scenes) others s t clear = absurd s
 same_starts one_scene bytes (a ∷ []) [] s t clear = absurd t
 same_starts one_scene bytes (a ∷ []) (b ∷ d ∷ others) s t clear = absurd t
 same_starts one_scene bytes (a ∷ []) (b ∷ []) s t clear = (ClearAt-spelled supported bytes a b s.spelled t.spelled clear.0, tt)
+same_starts several_scenes bytes scenes others s t clear =
+    subst AreStartsClear (SpellsBatch-one_batch supported bytes scenes others s.spelled t.spelled) clear
 
 module _ (bytes : List ℕ) (command : Command) (status : ℕ) where
   -- the bytes spell scenes at whose starts the command may start, and it succeeds
@@ -126,6 +133,7 @@ Succeeds-low (commands.Plan workers full) bytes done text s = rw s.meaning.repor
 Succeeds-low (commands.Smooth workers) bytes done text s = rw s.meaning.reported.best (low_report _)
 Succeeds-low (commands.Anytime workers slice) bytes done text s = rw s.meaning.reported.best (low_report _)
 Succeeds-low (commands.Twin workers) bytes done text s = rw s.meaning.bridge (low_report _)
+Succeeds-low (commands.Batch workers slice) bytes done text s = rw s.meaning.best (low_report _)
 Succeeds-low commands.Show bytes done text s = omega (arith, s.meaning.status)
 Succeeds-low commands.Convert bytes done text s = omega (arith, s.meaning.written.status)
 Succeeds-low (commands.Gen number) bytes done text s = omega (arith, s.meaning.status)
@@ -137,6 +145,7 @@ greatest_success-low (commands.Plan workers full) = omega arith
 greatest_success-low (commands.Smooth workers) = omega arith
 greatest_success-low (commands.Anytime workers slice) = omega arith
 greatest_success-low (commands.Twin workers) = omega arith
+greatest_success-low (commands.Batch workers slice) = omega arith
 greatest_success-low commands.Show = omega arith
 greatest_success-low commands.Convert = omega arith
 greatest_success-low (commands.Gen number) = omega arith
@@ -155,6 +164,7 @@ spelled (commands.Plan workers full) bytes scene is reads = is
 spelled (commands.Smooth workers) bytes scene is reads = is
 spelled (commands.Anytime workers slice) bytes scene is reads = is
 spelled (commands.Twin workers) bytes scene is reads = is
+spelled (commands.Batch workers slice) bytes scene is reads = absurd is
 spelled commands.Show bytes scene is reads = is
 spelled commands.Convert bytes scene is reads = is
 spelled (commands.Gen number) bytes scene is reads = absurd (false≢true reads)
@@ -179,6 +189,8 @@ by_meaning bytes command done text s reads = by command s reads (Succeeds-low co
     by (commands.Anytime workers slice) s reads low = by_scene bytes (commands.Anytime workers slice) done.status _ s reads (λ tests. absurd (false≢true tests)) low
     by (commands.Twin workers) s reads low =
         by_scene bytes (commands.Twin workers) done.status _ s reads (λ tests. (ClearAt-middle s.scene s.meaning.both s.meaning.twin, tt)) low
+    by (commands.Batch workers slice) s reads low =
+        by_success bytes (commands.Batch workers slice) done.status s.scenes s.spelled (λ tests. s.starts) (λ tests. absurd (false≢true tests)) low
     by commands.Show s reads low = by_scene bytes commands.Show done.status _ s reads (λ tests. absurd (false≢true tests)) low
     by commands.Convert s reads low = by_scene bytes commands.Convert done.status _ s reads (λ tests. absurd (false≢true tests)) low
     by (commands.Gen number) s reads low = absurd (false≢true reads)
@@ -229,6 +241,7 @@ tests_goal-reads (commands.Plain full) tests = absurd (false≢true tests)
 tests_goal-reads (commands.Plan workers full) tests = absurd (false≢true tests)
 tests_goal-reads (commands.Smooth workers) tests = absurd (false≢true tests)
 tests_goal-reads (commands.Anytime workers slice) tests = absurd (false≢true tests)
+tests_goal-reads (commands.Batch workers slice) tests = absurd (false≢true tests)
 tests_goal-reads commands.Show tests = absurd (false≢true tests)
 tests_goal-reads commands.Convert tests = absurd (false≢true tests)
 tests_goal-reads (commands.Gen number) tests = absurd (false≢true tests)

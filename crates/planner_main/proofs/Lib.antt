@@ -2,6 +2,7 @@ pub mod Causes
 pub mod DecidedStatuses
 pub mod Successes
 pub mod GivenAnswers
+pub mod GivenBatches
 pub mod ConcludedCalls
 pub mod GeneratedObstacles
 pub mod ClearStarts

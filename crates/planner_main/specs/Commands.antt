@@ -7,7 +7,7 @@ use Rattle.planner_main.specs.declared.commands.Command.{Command}
 use Rattle.planner_main.specs.declared.commands.Command.TheVariants as commands
 use Rattle.planner_main.specs.declared.generated_scenes.TheConstants.{MOST_GENERATED}
 use Rattle.planner_main.specs.declared.statuses.TheConstants.{DONE, NO_PATH}
-use Rattle.planner_main.specs.Inputs.{Input, nothing, one_scene, reads_bytes}
+use Rattle.planner_main.specs.Inputs.{Input, nothing, one_scene, several_scenes, reads_bytes}
 
 -- the command that one word asks for, if it asks for one
 abbrev pub command_of_word : List ℕ → Option Command
@@ -40,6 +40,12 @@ anytime_by second third =
 abbrev pub twin_by : List ℕ → Option Command
 twin_by word = option_and_then (λ workers. Some (commands.Twin workers)) (number_in 1 MOST_WORKERS word)
 
+-- the command to grow a run of each of several scenes in that way
+abbrev pub batch_by : List ℕ → List ℕ → Option Command
+batch_by second third =
+    option_and_then (λ workers. option_and_then (λ slice. Some (commands.Batch workers slice)) (number_in 1 MOST_MARKS third))
+    (number_in 1 MOST_WORKERS second)
+
 -- the command of a word about the generated scene of a number
 abbrev pub command_about : List ℕ → ℕ → Option Command
 command_about word number =
@@ -55,12 +61,13 @@ command_of_two word second =
     else (if bytes_eq word (codes "twin") then twin_by second
     else option_and_then (command_about word) (number_in 0 MOST_GENERATED second))))
 
--- the command that three words ask for, if they ask for one: `plan`, a number of workers, and `full`, or `anytime` and two numbers, of
--- workers and of marks
+-- the command that three words ask for, if they ask for one: `plan`, a number of workers, and `full`, or `anytime` or `batch` and two
+-- numbers, of workers and of marks
 abbrev pub command_of_three : List ℕ → List ℕ → List ℕ → Option Command
 command_of_three word second third =
     if bytes_eq word (codes "plan") && bytes_eq third (codes "full") then plan_by true second
-    else (if bytes_eq word (codes "anytime") then anytime_by second third else None)
+    else (if bytes_eq word (codes "anytime") then anytime_by second third
+    else (if bytes_eq word (codes "batch") then batch_by second third else None))
 
 -- the command that the words ask for, if they ask for one
 abbrev pub command_of : List (List ℕ) → Option Command
@@ -78,6 +85,7 @@ IsNumbered (commands.Plan workers full) = (1 ≤ workers) × (workers ≤ MOST_W
 IsNumbered (commands.Smooth workers) = (1 ≤ workers) × (workers ≤ MOST_WORKERS)
 IsNumbered (commands.Anytime workers slice) = (1 ≤ workers) × (workers ≤ MOST_WORKERS) × (1 ≤ slice)
 IsNumbered (commands.Twin workers) = (1 ≤ workers) × (workers ≤ MOST_WORKERS)
+IsNumbered (commands.Batch workers slice) = (1 ≤ workers) × (workers ≤ MOST_WORKERS) × (1 ≤ slice)
 IsNumbered commands.Show = Unit {0}
 IsNumbered commands.Convert = Unit {0}
 IsNumbered (commands.Gen number) = number ≤ MOST_GENERATED
@@ -90,6 +98,7 @@ input_of (commands.Plan workers full) = one_scene
 input_of (commands.Smooth workers) = one_scene
 input_of (commands.Anytime workers slice) = one_scene
 input_of (commands.Twin workers) = one_scene
+input_of (commands.Batch workers slice) = several_scenes
 input_of commands.Show = one_scene
 input_of commands.Convert = one_scene
 input_of (commands.Gen number) = nothing
@@ -106,6 +115,7 @@ plans (commands.Plan workers full) = true
 plans (commands.Smooth workers) = true
 plans (commands.Anytime workers slice) = true
 plans (commands.Twin workers) = true
+plans (commands.Batch workers slice) = true
 plans commands.Show = false
 plans commands.Convert = false
 plans (commands.Gen number) = false
@@ -127,6 +137,7 @@ greatest_success (commands.Plan workers full) = NO_PATH
 greatest_success (commands.Smooth workers) = NO_PATH
 greatest_success (commands.Anytime workers slice) = NO_PATH
 greatest_success (commands.Twin workers) = NO_PATH
+greatest_success (commands.Batch workers slice) = NO_PATH
 greatest_success commands.Show = DONE
 greatest_success commands.Convert = DONE
 greatest_success (commands.Gen number) = DONE

@@ -1,5 +1,6 @@
 -- What the program may answer: a success with its text, or a refusal with its cause and its line.
-use Rattle.std.specs.Prelude.{◌≡◌, ℕ, ◌<◌, ◌⊎◌, Bool, true, false, IsTrue, MatchBool, List, [], ◌∷◌, length}
+use Rattle.std.specs.Prelude.{◌≡◌, ℕ, ◌<◌, ◌⊎◌, Bool, true, false, IsTrue, MatchBool, List, [], ◌∷◌, length, get_or}
+use Rattle.std.specs.List.{list_all}
 use Rattle.std.specs.Prelude.{Option, Some, None, is_some, IsSome, IsSomeAnd, Result, IfOk, IfErr}
 use Rattle.plan_model.specs.declared.records.Record.{Record}
 use Rattle.plan_model.specs.declared.scenes.Scene.{Scene}
@@ -19,8 +20,9 @@ use Rattle.step_core.specs.declared.grown.Grown.{Grown}
 use Rattle.step_core.specs.GrownRuns.{state_of_grown}
 use Rattle.scene_text.specs.Fetching.{ReadsWithin}
 use Rattle.path_tools.specs.SmoothedReports.{IsSmoothedReport}
+use Rattle.any_time.specs.BestPaths.{has_path}
 use Rattle.any_time.specs.BetterPaths.{AreBetterPaths}
-use Rattle.any_time.specs.BetterReports.{better_report}
+use Rattle.any_time.specs.BetterReports.{batch_report, better_report}
 use Rattle.any_time.specs.declared.betters.Better.{Better}
 use Rattle.twin_trees.specs.declared.twin_runs.Twin.{Twin}
 use Rattle.twin_trees.specs.TwinReports.{twin_text}
@@ -33,7 +35,7 @@ use Rattle.planner_main.specs.declared.refusals.Refusal.TheVariants as refusals
 use Rattle.planner_main.specs.declared.statuses.TheConstants.{DONE, NO_PATH}
 use Rattle.planner_main.specs.declared.top_call.Done.{Done}
 use Rattle.planner_main.specs.Commands.{input_of, plans, reads_text, tests_goal, tests_start}
-use Rattle.planner_main.specs.Inputs.{AreGoalsClear, AreStartsClear, IsTextOf, RefusesInput, SpellsInput}
+use Rattle.planner_main.specs.Inputs.{AreGoalsClear, AreStartsClear, IsBatchOf, IsTextOf, RefusesInput, SpellsInput}
 use Rattle.planner_main.specs.GeneratedScenes.{IsGenerated}
 use Rattle.planner_main.specs.Exchanges.{IsReadWhole, IsUnread, IsReadFault, IsTooLong, NoReadFailed}
 use Rattle.planner_main.specs.Refusals.{status_of, line_of}
@@ -119,6 +121,28 @@ pub record ReportsTwin (scene : Scene) (done : Done) (text : List ℕ) : Type 0 
   pub written : text ≡ twin_text both
   pub alone : HandsOutNothing (record done { twin = None })
 
+-- The run is of the scene, over all its marks, closed and settled, and these are its better paths. Its marks were handled by so many
+-- workers at most, so many at a time. By one worker it is the textbook run of the scene.
+pub record IsRunBySlices (workers slice : ℕ) (scene : Scene) (grown : Grown) (items : List Better) : Type 0 where
+  pub of_scene : grown.task.scene ≡ scene
+  pub all_marks : grown.limit ≡ length (mark_points scene)
+  pub closed : IsClosed (setup_of scene) (mark_points scene) (length (mark_points scene)) (state_of_grown grown)
+  pub settled : IsSettled (state_of_grown grown)
+  pub by_workers : (k : ℕ) (entry : Record) → (state_of_grown grown).record_of k ≡ Some entry → entry.worker < workers
+  pub textbook : workers ≡ 1 → IsOfTextbookRun (setup_of scene) (mark_points scene) (state_of_grown grown)
+  pub better : AreBetterPaths workers slice grown items
+
+-- A run of each of the scenes is handed out, and a list of its better paths, in the order of the scenes, and the text reports them in that
+-- order. The status says whether each run has a node in a goal.
+pub record ReportsBatch (workers slice : ℕ) (scenes : List Scene) (done : Done) (text : List ℕ) : Type 0 where
+  pub runs : length done.batch ≡ length scenes
+  pub lists : length done.better ≡ length scenes
+  pub each : (i : ℕ) (scene : Scene) (grown : Grown) → i < length scenes
+      → IsRunBySlices workers slice (get_or scenes i scene) (get_or done.batch i grown) (get_or done.better i [])
+  pub best : done.status ≡ status_of_report (list_all has_path done.batch)
+  pub written : text ≡ batch_report 0 done.better done.batch
+  pub alone : HandsOutNothing (record done { batch = []; better = [] })
+
 -- the text is the canonical text of the scene
 pub record WritesScene (scene : Scene) (done : Done) (text : List ℕ) : Type 0 where
   pub written : text ≡ canonical_text scene
@@ -131,13 +155,14 @@ pub record WritesConverted (scene : Scene) (done : Done) (text : List ℕ) : Typ
   pub of_scene : IsConverted scene converted
   pub written : WritesScene converted done text
 
--- the scene of a command: that which the bytes spell, or the generated one of its number
+-- the scene of a command: that which the bytes spell, or the generated one of its number; a batch has no such one
 abbrev pub IsSceneOf : Command → List ℕ → Scene → Type 0
 IsSceneOf (commands.Plain full) bytes scene = IsTextOf scene bytes
 IsSceneOf (commands.Plan workers full) bytes scene = IsTextOf scene bytes
 IsSceneOf (commands.Smooth workers) bytes scene = IsTextOf scene bytes
 IsSceneOf (commands.Anytime workers slice) bytes scene = IsTextOf scene bytes
 IsSceneOf (commands.Twin workers) bytes scene = IsTextOf scene bytes
+IsSceneOf (commands.Batch workers slice) bytes scene = ⊥
 IsSceneOf commands.Show bytes scene = IsTextOf scene bytes
 IsSceneOf commands.Convert bytes scene = IsTextOf scene bytes
 IsSceneOf (commands.Gen number) bytes scene = IsGenerated number scene
@@ -150,6 +175,13 @@ pub record OfScene (command : Command) (bytes : List ℕ) (P : Scene → Type 0)
   pub start : IsTrue (plans command) → ClearAt (space_of scene) scene.start
   pub meaning : P scene
 
+-- the bytes spell scenes whose starts are clear, of which something is said
+pub record OfBatch (bytes : List ℕ) (P : List Scene → Type 0) : Type 0 where
+  pub scenes : List Scene
+  pub spelled : IsBatchOf scenes bytes
+  pub starts : AreStartsClear scenes
+  pub meaning : P scenes
+
 -- what the success of a command means: of the bytes that it read, of what was done, and of the text
 abbrev pub Succeeds : Command → List ℕ → Done → List ℕ → Type 0
 Succeeds (commands.Plain full) bytes done text = OfScene (commands.Plain full) bytes (λ scene. ReportsScene (IsReport full) scene done text)
@@ -160,6 +192,7 @@ Succeeds (commands.Smooth workers) bytes done text =
 Succeeds (commands.Anytime workers slice) bytes done text =
     OfScene (commands.Anytime workers slice) bytes (λ scene. ReportsBetterPaths workers slice scene done text)
 Succeeds (commands.Twin workers) bytes done text = OfScene (commands.Twin workers) bytes (λ scene. ReportsTwin scene done text)
+Succeeds (commands.Batch workers slice) bytes done text = OfBatch bytes (λ scenes. ReportsBatch workers slice scenes done text)
 Succeeds commands.Show bytes done text = OfScene commands.Show bytes (λ scene. WritesScene scene done text)
 Succeeds commands.Convert bytes done text = OfScene commands.Convert bytes (λ scene. WritesConverted scene done text)
 Succeeds (commands.Gen number) bytes done text = OfScene (commands.Gen number) bytes (λ scene. WritesScene scene done text)
@@ -220,6 +253,12 @@ MayStart command scenes = IsTrue (tests_start command) → AreStartsClear scenes
 -- the middle of the first goal of each scene is clear, if the command tests it
 abbrev pub MayReach : Command → List Scene → Type 0
 MayReach command scenes = IsTrue (tests_goal command) → AreGoalsClear scenes
+
+-- the source was read to its end, and what came is a text of the scenes
+pub record HasBatch (before now : SourceState) (scenes : List Scene) : Type 0 where
+  pub bytes : List ℕ
+  pub read : IsReadWhole before now bytes
+  pub spelled : IsBatchOf scenes bytes
 
 -- the source was read to its end, and what came is a text of the scene
 pub record HasScene (before now : SourceState) (scene : Scene) : Type 0 where

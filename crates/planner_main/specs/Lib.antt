@@ -6,6 +6,7 @@ pub mod Endings
 pub mod Faults
 pub mod Commands
 pub mod Inputs
+pub mod BatchSessions
 pub mod CommandLines
 pub mod GeneratedScenes
 pub mod FixedNumbers

@@ -23,6 +23,7 @@ ghost use Rattle.planner_main.specs.declared.generated_scenes.TheConstants.{MOST
 ghost use Rattle.planner_main.specs.declared.statuses.TheConstants.{DONE};
 ghost use Rattle.step_core.specs.GrownRuns.{state_of_grown};
 
+use crate::batches::plan_batch;
 use crate::commands::{Command, command_of};
 use crate::generated_scenes::gen_scene;
 use crate::refusals::Refusal;
@@ -75,8 +76,8 @@ pub fn answer_to<
     }
 }
 
-/// Does what the command says. What it calls for a command waits for nothing, and so returns, but for `Anytime`, which is polled
-/// under an executor.
+/// Does what the command says. What it calls for a command waits for nothing, and so returns, but for `Anytime` and `Batch`, which are
+/// polled under an executor.
 fn perform<
     R: Threads + Sync + Wait + RandomSource + AllocGlobal + Clone + Drop,
     S: Source,
@@ -92,6 +93,7 @@ fn perform<
         Command::Smooth(workers) => plan_smoothed(rt, alloc, workers, source, gate),
         Command::Anytime { workers, slice } => plan_by_slices(rt, alloc, workers, slice, source),
         Command::Twin(workers) => plan_twin(rt, alloc, workers, source, gate),
+        Command::Batch { workers, slice } => plan_batch(rt, alloc, workers, slice, source),
         Command::Show => show(alloc, source),
         Command::Convert => convert(alloc, source),
         Command::Gen(number) => Ok(generate(alloc, number)?),

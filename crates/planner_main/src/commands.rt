@@ -2,7 +2,7 @@
 
 ghost use Rattle.std.specs.Prelude.{◌≡◌, ◌≤◌, map, string_bytes, IfSome};
 ghost use Rattle.planner_main.specs.Commands.{command_of, command_of_word, command_of_two, command_of_three, command_about};
-ghost use Rattle.planner_main.specs.Commands.{anytime_by, plan_by, number_in, IsNumbered};
+ghost use Rattle.planner_main.specs.Commands.{anytime_by, batch_by, plan_by, number_in, IsNumbered};
 
 use crate::generated_scenes::MOST_GENERATED;
 use plan_model::{MOST_MARKS, MOST_WORKERS, is_number, natural};
@@ -36,6 +36,13 @@ pub enum Command {
     /// `twin W`: the report of two trees of the scene that is read, from its start and from the middle of its first goal, each grown by
     /// so many workers: 1 to `MOST_WORKERS`.
     Twin(u32),
+    /// `batch W S`: for each of the scenes that are read, what `anytime W S` says of it.
+    Batch {
+        /// How many workers grow each run: 1 to `MOST_WORKERS`.
+        workers: u32,
+        /// How many marks a slice has: 1 to `MOST_MARKS`.
+        slice: u32,
+    },
     /// `show`: the canonical text of the scene that is read.
     Show,
     /// `convert`: the canonical text of the scene that is read, in version 2.
@@ -94,6 +101,7 @@ fn command_of_three(word: &str, second: &str, third: &str) -> Option<Command>
     match (word, third) {
         ("plan", "full") => plan_by(second, true),
         ("anytime", _) => anytime_by(second, third),
+        ("batch", _) => batch_by(second, third),
         _ => None,
     }
 }
@@ -113,8 +121,18 @@ fn anytime_by(second: &str, third: &str) -> Option<Command>
     ensures numbered { IfSome result IsNumbered }
 {
     let workers = workers_in(second)?;
-    let slice = number_in(third.as_bytes(), 1, MOST_MARKS)?;
+    let slice = slice_in(third)?;
     Some(Command::Anytime { workers, slice })
+}
+
+/// The command to grow a run of each of several scenes by so many workers, so many marks at a time, which two words say.
+fn batch_by(second: &str, third: &str) -> Option<Command>
+    ensures value { result ≡ batch_by second.now third.now }
+    ensures numbered { IfSome result IsNumbered }
+{
+    let workers = workers_in(second)?;
+    let slice = slice_in(third)?;
+    Some(Command::Batch { workers, slice })
 }
 
 /// The number of workers that a word says: 1 to `MOST_WORKERS`.
@@ -124,6 +142,14 @@ fn workers_in(word: &str) -> Option<u32>
     ensures most { IfSome result (λ workers. workers ≤ MOST_WORKERS) }
 {
     number_in(word.as_bytes(), 1, MOST_WORKERS)
+}
+
+/// The number of marks of a slice that a word says: 1 to `MOST_MARKS`.
+fn slice_in(word: &str) -> Option<u32>
+    ensures value { result ≡ number_in 1 MOST_MARKS word.now }
+    ensures least { IfSome result (λ slice. 1 ≤ slice) }
+{
+    number_in(word.as_bytes(), 1, MOST_MARKS)
 }
 
 /// The command of a word about the generated scene of a number.

@@ -2,10 +2,12 @@
 
 ghost use Rattle.planner_main.specs.FixedNumbers.{FixedNumbers};
 
-/// The command is done; for `plain` and `plan W`, in short or in full, for `smooth W`, `anytime W S` and `trial`, a path was found.
+/// The command is done; for `plain` and `plan W`, in short or in full, for `smooth W`, `anytime W S` and `trial`, a path was found, for
+/// `batch W S` one of each scene.
 pub const DONE: u8 = 0;
 
-/// `plain` and `plan W`, in short or in full, `smooth W`, `anytime W S` and `trial`: no node of the tree lies in a goal.
+/// `plain` and `plan W`, in short or in full, `smooth W`, `anytime W S` and `trial`: no node of the tree lies in a goal. `batch W S`: so of
+/// some tree.
 pub const NO_PATH: u8 = 1;
 
 /// The words of the command line ask for no command.
@@ -14,7 +16,7 @@ pub const WORDS_REFUSED: u8 = 2;
 /// The text is too long, or is no scene.
 pub const TEXT_REFUSED: u8 = 3;
 
-/// The scene's start is not clear.
+/// The scene's start, or one of those of several, is not clear.
 pub const START_BLOCKED: u8 = 4;
 
 /// The source could not be read.

@@ -59,7 +59,9 @@ impl Done {
 /// - `plan W` and `plan W full` do the same, but `W` workers grow the run, each in a thread of its own if one can be made.
 ///   The gate is told of their turns.
 /// - `anytime W S` does as `plan W` does, but grows the run by `S` marks at a time. It writes a line for each better path, before the
-///   short report. It waits under an executor: for these words alone nothing says that the call returns.
+///   short report. `batch W S` does so for each of several scenes, between whose texts lines `next` stand, in turn. Both wait under an
+///   executor: for these words alone nothing says that the call returns.
+/// - `smooth W` does as `plan W` does, and writes the short report along the smoothed path: the cheapest choice of points of the best one.
 /// - `twin W` grows two trees of the scene so, one from each end, and writes the path over the cheapest bridge between them with the
 ///   counts of both.
 /// - `show` reads a scene and writes its canonical text. `convert` writes that of the scene in version 2.

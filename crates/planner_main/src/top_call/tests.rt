@@ -388,12 +388,13 @@ fn plans_for_a_body(rt: HostRuntime) {
     expect_each(&rt, rt.alloc(), &["plain"], &WITH_BODY);
 }
 
-static READERS: [&[&str]; 7] = [
+static READERS: [&[&str]; 8] = [
     &["plain"],
     &["plan", "2"],
     &["smooth", "2"],
     &["anytime", "2", "3"],
     &["twin", "2"],
+    &["batch", "2", "3"],
     &["show"],
     &["convert"],
 ];
@@ -611,7 +612,7 @@ fn expect_each_refused<
     }
 }
 
-static NO_COMMANDS: [&[&str]; 43] = [
+static NO_COMMANDS: [&[&str]; 50] = [
     &[],
     &["plain full"],
     &["plain  full"],
@@ -654,7 +655,14 @@ static NO_COMMANDS: [&[&str]; 43] = [
     &["twin", "65"],
     &["twin", "01"],
     &["twin", "1", "full"],
+    &["batch"],
     &["batch", "1"],
+    &["batch", "1", "0"],
+    &["batch", "1", "262144"],
+    &["batch", "0", "1"],
+    &["batch", "65", "1"],
+    &["batch", "1", "1", "full"],
+    &["Batch", "1", "1"],
 ];
 
 static OUTSIDE: Case = Case {
@@ -731,6 +739,7 @@ static TRIED: Case = Case {
 };
 
 mod anytime;
+mod batches;
 mod calls;
 mod cut_texts;
 mod faults;

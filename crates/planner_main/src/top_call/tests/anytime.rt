@@ -79,7 +79,7 @@ fn gives_better_paths_of_an_informed_scene(rt: HostRuntime) {
 }
 
 // Compares the lists of better paths that a call has handed out, and all paths in them.
-fn expect_lists<R: Abort>(rt: &R, called: &Called, lists: u64, items: u64, shows: &str) {
+pub fn expect_lists<R: Abort>(rt: &R, called: &Called, lists: u64, items: u64, shows: &str) {
     expect_number(rt, called.ended.lists, lists, shows);
     expect_number(rt, called.ended.items, items, shows);
 }
@@ -158,6 +158,7 @@ fn hands_out_no_list_for_others(rt: HostRuntime) {
         ["smooth", "1"],
         ["gen", "1"],
         ["anytime", "1"],
+        ["batch", "1"],
     ] {
         let called = call(&rt, rt.alloc(), &words, ONE_MARK, 1 << 16, 0);
         expect_lists(&rt, &called, 0, 0, "no list");
@@ -199,18 +200,30 @@ impl<R> RandomSource for NoExecutor<R> {
     }
 }
 
-#[test]
-fn a_refused_executor_is_want_of_memory(rt: HostRuntime) -> Result<(), Fail> {
-    let alloc = rt.alloc();
-    let refusing = NoExecutor { rt: rt.clone()? };
-    let given = given_words(&rt, alloc, &["anytime", "1", "1"]);
+// Compares the answer to words that wait under an executor, by a runtime that makes none.
+fn expect_no_executor<
+    R: Abort,
+    N: Threads + Sync + Wait + RandomSource + AllocGlobal + Clone + Drop,
+>(rt: &R, refusing: &N, alloc: Global, words: &[&str]) {
+    let given = given_words(rt, alloc, words);
     let source = MemSource::new(alloc, ONE_MARK.as_bytes(), 1000, &[]);
     let (mut source, mut sink) = (
-        sure(&rt, source),
-        sure(&rt, MemSink::new(alloc, 1000, 1000, &[])),
+        sure(rt, source),
+        sure(rt, MemSink::new(alloc, 1000, 1000, &[])),
     );
-    let done = run(&refusing, alloc, &given, &mut source, &mut sink, &NoGate);
-    expect_number(&rt, u64::from(done.status), 7, "no executor");
-    expect_text(&rt, &[], text_in(&sink), "no memory\n", "no executor");
+    let done = run(refusing, alloc, &given, &mut source, &mut sink, &NoGate);
+    expect_number(rt, u64::from(done.status), 7, "no executor");
+    expect_text(rt, words, text_in(&sink), "no memory\n", "no executor");
+    drop(done);
+    drop(sink);
+    drop(source);
+    drop(given);
+}
+
+#[test]
+fn a_refused_executor_is_want_of_memory(rt: HostRuntime) -> Result<(), Fail> {
+    let refusing = NoExecutor { rt: rt.clone()? };
+    expect_no_executor(&rt, &refusing, rt.alloc(), &["anytime", "1", "1"]);
+    expect_no_executor(&rt, &refusing, rt.alloc(), &["batch", "1", "1"]);
     Ok(())
 }

@@ -33,12 +33,14 @@ pub struct Both {
     pub bridge: Option<(u32, u32)>,
 }
 
-// How a call has ended: with which status, with which run or which two runs, and with how many lists of better paths and paths in them.
+// How a call has ended: with which status, with which run or which two runs, with how many runs of a batch, and with how many lists of
+// better paths and paths in them.
 #[derive(Clone, Copy)]
 pub struct Ended {
     pub status: u8,
     pub run: Run,
     pub twin: Option<Both>,
+    pub batch: u64,
     pub lists: u64,
     pub items: u64,
 }
@@ -162,6 +164,7 @@ fn ending_of(done: &Done) -> Ended {
             Some(twin) => Some(counted_both(twin)),
             None => None,
         },
+        batch: done.batch.len() as u64,
         lists: done.better.len() as u64,
         items: items_in(&done.better),
     }

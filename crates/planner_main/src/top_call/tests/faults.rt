@@ -58,12 +58,13 @@ pub fn expect_early_faults<
     expect_read_faults(rt, alloc, words, ONE_MARK, 10, &EARLY);
 }
 
-static READING: [&[&str]; 7] = [
+static READING: [&[&str]; 8] = [
     &["plain"],
     &["plain", "full"],
     &["smooth", "1"],
     &["anytime", "1", "1"],
     &["twin", "1"],
+    &["batch", "1", "1"],
     &["show"],
     &["convert"],
 ];
@@ -139,7 +140,7 @@ fn expect_cut<R: Threads + Sync + Wait + RandomSource + AllocGlobal + Clone + Dr
     drop(called);
 }
 
-static CUTS: [Cut; 15] = [
+static CUTS: [Cut; 16] = [
     Cut {
         words: &["plain", "full"],
         fails: 1,
@@ -192,6 +193,12 @@ static CUTS: [Cut; 15] = [
         words: &["twin", "1"],
         fails: 3,
         taken: "path 2 cost 12800\n0 ",
+        run: None,
+    },
+    Cut {
+        words: &["batch", "1", "1"],
+        fails: 3,
+        taken: "scene 0\nbetter 12800",
         run: None,
     },
     Cut {
