@@ -37,6 +37,15 @@ from usage import words_or_usage
 WORKERS = (1, 2, 3, 4, 16, 64)
 
 
+def is_refused(text):
+    """Whether a text is no scene. One with a changed number may be one, with very many marks."""
+    try:
+        read(text)
+    except Fault:
+        return True
+    return False
+
+
 class Comparison:
     """The program, and what was counted."""
 
@@ -104,9 +113,11 @@ class Comparison:
         rng = random.Random(f"batch {number}")
         slice_size = rng.choice([1, 2, 5, 262143])
         texts = [scene_of(n, version).text().encode() for n in range(max(0, number - rng.randrange(4)), number + 1)]
-        faulty = texts + [with_faults(number, version)]
-        rng.shuffle(faulty)
-        for what, parts in (("batch 1, by the textbook", texts), ("batch 1, with faults", faulty)):
+        cases = [("batch 1, by the textbook", texts)]
+        spoiled = with_faults(number, version)
+        if is_refused(spoiled):
+            cases.append(("batch 1, with faults", rng.sample([*texts, spoiled], len(texts) + 1)))
+        for what, parts in cases:
             text = b"next\n".join(part if part.endswith(b"\n") or not part else part + b"\n" for part in parts)
             self.note(number, what, self.run(f"batch 1 {slice_size}", text) == batch_answer(text, slice_size))
 
