@@ -121,7 +121,8 @@ module _ (found after : List Found) (spot : Spot) (distance bound : ℕ) (notes 
   Notes-cases : (n : ℕ) → Contains (numbers_of after) n → Contains (numbers_of found) n ⊎ (spot.node ≡ n)
   Notes-cases n k =
       elim notes [
-        | inl (near, is) ↦ Contains-push_cases (numbers_of found) spot.node n (subst (λ ns. Contains ns n) (ap numbers_of is ∙ numbers_of-push found spot) k)
+        | inl (near, is) ↦ Contains-push_cases (numbers_of found) spot.node n
+            (subst (λ ns. Contains ns n) (ap numbers_of is ∙ numbers_of-push found spot) k)
         | inr (far, is) ↦ inl (subst (λ fs. Contains (numbers_of fs) n) is k)
       ]
 
@@ -176,7 +177,8 @@ begins_with before now target r spot load node by_rows = record {
   visiting = IsVisiting-begins now spot node;
   stand = λ other k. elim (Contains-cases spot other [] k) [
     | inl is ↦
-        subst (λ (s : Spot). StandsAt now.seen.points s.node (point_of_spot s)) is (subst (λ n. StandsAt now.seen.points n (point_of_spot spot)) (sym node) load.stands)
+        subst (λ (s : Spot). StandsAt now.seen.points s.node (point_of_spot s)) is
+        (subst (λ n. StandsAt now.seen.points n (point_of_spot spot)) (sym node) load.stands)
     | inr more ↦ absurd (Contains-none other more)
   ];
   different = tt;
@@ -196,10 +198,10 @@ IsGathering-begins before now target r spot queue found load node by_rows only n
     subst (λ xs. IsGathering before now target r xs found 0) (sym only)
     (subst (λ ns. IsGathering before now target r (spot ∷ []) ns 0) (sym none) (begins_with before now target r spot load node by_rows))
 
-module _ (before now : Sight) (target : Point) (r : ℕ) (queue : List Spot) (found : List Found) (visits : ℕ)
+module _ {before now : Sight} {target : Point} {r : ℕ} {queue : List Spot} {found : List Found} {visits : ℕ}
     (h : IsGathering before now target r queue found visits) where
   -- The first spot that waits is taken,
-  module _ (spot : Spot) (rest : List Spot) (first_waits : queue ≡ spot ∷ rest) where
+  module _ {spot : Spot} {rest : List Spot} (first_waits : queue ≡ spot ∷ rest) where
     first_in : Contains queue spot
     first_in = subst (λ xs. Contains xs spot) (sym first_waits) (Contains-first spot rest)
 
@@ -268,7 +270,8 @@ module _ (before now : Sight) (target : Point) (r : ℕ) (queue : List Spot) (fo
           record {
             later = leaves.later;
             keeps = leaves.keeps;
-            search = subst (λ xs. IsSearch before half target (r * r) (λ n q. Contains (numbers_of more_found) n) xs (GoesTo half spot (point_of_spot spot) right))
+            search = subst
+                (λ xs. IsSearch before half target (r * r) (λ n q. Contains (numbers_of more_found) n) xs (GoesTo half spot (point_of_spot spot) right))
                 (sym leaves.same)
                 (IsSearch-leaves_first before now half target (r * r) (λ n q. Contains (numbers_of more_found) n) spot (point_of_spot spot)
                 IsGathering-stands leaves.later keeps right rest beyond visited);

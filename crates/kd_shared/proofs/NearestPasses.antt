@@ -46,7 +46,14 @@ IsSeekingPass-begins shared entry first now p distance here passes load distance
       seeks = IsSeeking-begins (sight_in entry.view) (sight_in first.view) p distance here load distance_is node by_rows;
     })
 
-module _ (shared : SharedState) (entry now : PassState) (p : Point) (distance best : ℕ) (here : Spot) (visits : ℕ)
+-- One visit: of its node and the nearest so far the nearer one stays, and it waits on the stack if its far side is left.
+pub record VisitsHere (now half : PassState) (p : Point) (distance best less nearer : ℕ) (here : Spot) : Type 0 where
+  pub nearest : IsNearer distance best (squared_distance (point_of_spot here) p) here.node less nearer
+  pub looks : OnlyLooks now.view half.view
+  pub is : half ≡ searched now half.view (record now.lists.search { spots = half.lists.search.spots })
+  pub stacks : StacksFar (sight_in now.view) (sight_in half.view) p less now.lists.search.spots half.lists.search.spots here
+
+module _ {shared : SharedState} {entry now : PassState} {p : Point} {distance best : ℕ} {here : Spot} {visits : ℕ}
     (h : IsSeekingPass shared entry now p distance best here visits) where
   lawful_now : IsLawfulView now.view
   lawful_now = h.looks.looks.goes_on.lawful
@@ -71,33 +78,27 @@ module _ (shared : SharedState) (entry now : PassState) (p : Point) (distance be
       let room = IsWalking-room (sight_in now.view) p (length now.view.run.marks) lawful_now.within here now.lists.search.spots visits h.seeks.walking in
       omega (arith, room, h.none_taken)
 
-  -- the node is put on the stack, if its far side is left
-  module _
-      (half : PassState) (less nearer : ℕ) (nearest : IsNearer distance best (squared_distance (point_of_spot here) p) here.node less nearer)
-      (far_looks : OnlyLooks now.view half.view)
-      (half_is : half ≡ searched now half.view (record now.lists.search { spots = half.lists.search.spots }))
-      (stacks : StacksFar (sight_in now.view) (sight_in half.view) p less now.lists.search.spots half.lists.search.spots here) where
+  -- the node is visited,
+  module _ {half : PassState} {less nearer : ℕ} (v : VisitsHere now half p distance best less nearer here) where
     pub half_seen : SeesNode half.view here.node
-    half_seen = SeesNode-later now.view half.view here.node far_looks.looks.goes_on.later here_seen
+    half_seen = SeesNode-later now.view half.view here.node v.looks.looks.goes_on.later here_seen
 
     pub half_seen_stack : (spot : Spot) → Contains half.lists.search.spots spot → SeesNode half.view spot.node
     half_seen_stack spot k =
-        stacks.keeps.rooted.points spot.node
-        (IsPresent-stands (tree_seen half.view).points spot.node (point_of_spot spot)
-        (stands_half (sight_in entry.view) (sight_in now.view) (sight_in half.view) p distance best less nearer here now.lists.search.spots
-        half.lists.search.spots visits h.seeks keeps_now nearest stacks spot k))
+        v.stacks.keeps.rooted.points spot.node
+        (IsPresent-stands (tree_seen half.view).points spot.node (point_of_spot spot) (stands_half h.seeks keeps_now v.nearest v.stacks spot k))
 
     -- and another is next, or none
     module _
         (after : PassState) (next_looks : OnlyLooks half.view after.view)
         (after_is : after ≡ searched half after.view (record half.lists.search { spots = after.lists.search.spots })) where
       pub walked_looks : OnlyLooks entry.view after.view
-      walked_looks = OnlyLooks-trans entry.view now.view after.view h.looks (OnlyLooks-trans now.view half.view after.view far_looks next_looks)
+      walked_looks = OnlyLooks-trans entry.view now.view after.view h.looks (OnlyLooks-trans now.view half.view after.view v.looks next_looks)
 
       pub walked_lists : KeepsLists entry after
       walked_lists =
           KeepsLists-searched entry half after (record half.lists.search { spots = after.lists.search.spots })
-          (KeepsLists-searched entry now half (record now.lists.search { spots = half.lists.search.spots }) h.lists half_is) after_is
+          (KeepsLists-searched entry now half (record now.lists.search { spots = half.lists.search.spots }) h.lists v.is) after_is
 
       pub IsSeekingPass-walks : (child : Spot) → BelongsTo after shared
           → WalksOn (sight_in half.view) (sight_in after.view) p less here half.lists.search.spots after.lists.search.spots (Some child)
@@ -106,16 +107,14 @@ module _ (shared : SharedState) (entry now : PassState) (p : Point) (distance be
         belongs = belongs;
         looks = walked_looks;
         lists = walked_lists;
-        none_taken = ap (λ (s : PassState). s.lists.search.taken) after_is ∙ ap (λ (s : PassState). s.lists.search.taken) half_is ∙ h.none_taken;
-        seeks = IsSeeking-walks (sight_in entry.view) (sight_in now.view) (sight_in half.view) p distance best less nearer here now.lists.search.spots
-            half.lists.search.spots visits h.seeks keeps_now nearest stacks (sight_in after.view) after.lists.search.spots child walks;
+        none_taken = ap (λ (s : PassState). s.lists.search.taken) after_is ∙ ap (λ (s : PassState). s.lists.search.taken) v.is ∙ h.none_taken;
+        seeks = IsSeeking-walks h.seeks keeps_now v.nearest v.stacks (sight_in after.view) after.lists.search.spots child walks;
       }
 
       pub IsSeekingPass-ends : WalksOn (sight_in half.view) (sight_in after.view) p less here half.lists.search.spots after.lists.search.spots None
           → IsNearestSeen (sight_in entry.view) (sight_in after.view) p nearer
       IsSeekingPass-ends walks =
           HasSought-nearest (sight_in entry.view) (sight_in after.view) p less nearer
-          (HasSought-walks (sight_in entry.view) (sight_in now.view) (sight_in half.view) p distance best less nearer here now.lists.search.spots
-          half.lists.search.spots visits h.seeks keeps_now nearest stacks (sight_in after.view) after.lists.search.spots walks)
+          (HasSought-walks h.seeks keeps_now v.nearest v.stacks (sight_in after.view) after.lists.search.spots walks)
           (KeepsSight-lawful entry.view h.looks.looks.goes_on.was_lawful) (KeepsSight-lawful after.view walked_looks.looks.goes_on.lawful)
           walked_looks.looks.goes_on.lawful.distinct

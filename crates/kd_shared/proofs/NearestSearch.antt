@@ -120,7 +120,7 @@ IsSeeking-begins before now target distance here load is node by_rows =
 
 -- ---- one visit
 
-module _ (before now half : Sight) (target : Point) (distance best less nearer : ℕ) (here : Spot) (stack put : List Spot) (visits : ℕ)
+module _ {before now half : Sight} {target : Point} {distance best less nearer : ℕ} {here : Spot} {stack put : List Spot} {visits : ℕ}
     (h : IsSeeking before now target distance best here stack visits) (keeps : KeepsSight now)
     (nearest : IsNearer distance best (squared_distance (point_of_spot here) target) here.node less nearer)
     (stacks : StacksFar now half target less stack put here) where
@@ -138,7 +138,8 @@ module _ (before now half : Sight) (target : Point) (distance best less nearer :
         }
         | inr (is, node) ↦ record {
           point = (point_of_spot here);
-          stands = stacks.later.seen.places.nodes nearer (point_of_spot here) (subst (λ n. StandsAt now.seen.points n (point_of_spot here)) (sym node) h.stands);
+          stands = stacks.later.seen.places.nodes nearer (point_of_spot here)
+              (subst (λ n. StandsAt now.seen.points n (point_of_spot here)) (sym node) h.stands);
           distance_is = is;
         }
       ]
@@ -157,6 +158,9 @@ module _ (before now half : Sight) (target : Point) (distance best less nearer :
         | inr last ↦ subst (λ xs. Contains xs spot) (sym last) (Contains-append_left stack (here ∷ []) spot k)
       ]
 
+  here_half : StandsAt half.seen.points here.node (point_of_spot here)
+  here_half = stacks.later.seen.places.nodes here.node (point_of_spot here) h.stands
+
   -- (the points of those on the stack are seen)
   pub stands_half : AreStanding half put
   stands_half spot k =
@@ -165,7 +169,7 @@ module _ (before now half : Sight) (target : Point) (distance best less nearer :
             stacks.later.seen.places.nodes spot.node (point_of_spot spot) (h.stack_stands spot (subst (λ xs. Contains xs spot) same k))
         | inr last ↦ elim (Contains-push_cases stack here spot (subst (λ xs. Contains xs spot) last k)) [
           | inl old ↦ stacks.later.seen.places.nodes spot.node (point_of_spot spot) (h.stack_stands spot old)
-          | inr is ↦ subst (λ (s : Spot). StandsAt half.seen.points s.node (point_of_spot s)) is (stacks.later.seen.places.nodes here.node (point_of_spot here) h.stands)
+          | inr is ↦ subst (λ (s : Spot). StandsAt half.seen.points s.node (point_of_spot s)) is here_half
         ]
       ]
 
@@ -192,7 +196,7 @@ module _ (before now half : Sight) (target : Point) (distance best less nearer :
       elim (same_or_other (point_of_spot here) q) [
         | inl same ↦ inl (inl (
           here.node,
-          stacks.later.seen.places.nodes here.node (point_of_spot here) h.stands ∙ ap Some same,
+          here_half ∙ ap Some same,
           subst (λ r. IsOutdone target less nearer here.node r) same nearest.one_more,
         ))
         | inr other ↦ (
@@ -253,8 +257,7 @@ module _ (before now half : Sight) (target : Point) (distance best less nearer :
           | inr (inl goes) ↦ inr (inl (
             child,
             Contains-first child [],
-            waits_at_child before half after here (point_of_spot here) (stacks.later.seen.places.nodes here.node (point_of_spot here) h.stands) load.later [] (child ∷ [])
-                (near_side here target) puts_near q goes,
+            waits_at_child before half after here (point_of_spot here) here_half load.later [] (child ∷ []) (near_side here target) puts_near q goes,
           ))
           | inr (inr (spot, k, goes)) ↦ inr (inr (spot, k, (GoesBelow-later half after load.later spot (point_of_spot spot) q goes.0, goes.1)))
         ])
@@ -285,8 +288,8 @@ module _ (before now half : Sight) (target : Point) (distance best less nearer :
         [] [] LeftHalf (IsLeft mid target put) (omega arith) (λ n q own. own) (λ spot k. absurd (Contains-none spot k))
         (λ q close left. elim left [
           | inl (spot, k, waits) ↦ absurd (Contains-none spot k)
-          | inr (inl goes) ↦ inl (inr (ends_here before half mid here (point_of_spot here) (stacks.later.seen.places.nodes here.node (point_of_spot here) h.stands) near.later
-              (near_side here target) q search_half.later.steps near.finds.0 goes))
+          | inr (inl goes) ↦ inl (inr (ends_here before half mid here (point_of_spot here) here_half near.later (near_side here target) q
+              search_half.later.steps near.finds.0 goes))
           | inr (inr (spot, k, goes)) ↦ inr (inr (spot, k, (GoesBelow-later half mid near.later spot (point_of_spot spot) q goes.0, goes.1)))
         ])
         search_half
@@ -346,7 +349,8 @@ module _ (before now half : Sight) (target : Point) (distance best less nearer :
               | inl is ↦ inr (inl (
                 child,
                 Contains-first child [],
-                waits_at_child before mid after above (point_of_spot above) (stands_mid above above_in) pops.later [] (child ∷ []) (far_side above target) puts_far q
+                waits_at_child before mid after above (point_of_spot above) (stands_mid above above_in) pops.later [] (child ∷ [])
+                    (far_side above target) puts_far q
                     (subst (λ s. GoesTo mid s (point_of_spot s) (far_side s target) q) (sym is) goes),
               ))
               | inr popped ↦ inl (met_far pops.later spot k (pops.finished spot popped) q close goes)

@@ -1,4 +1,4 @@
-use Rattle.std.proofs.Common.{◌≡◌, ◌<◌, suc, ◌+◌, ◌*◌, List, [], ◌∷◌, ◌++◌, length, false, true, arith, refl, sym, ap, ◌∙◌, subst}
+use Rattle.std.proofs.Common.{◌≡◌, ◌<◌, ◌+◌, ◌*◌, List, [], ◌∷◌, ◌++◌, length, false, true, arith, refl, sym, ap, ◌∙◌, subst}
 use Rattle.std.specs.Prelude.{IsFalse, option_to_list}
 use Rattle.plan_words.specs.SearchLists.{point_of_spot}
 use Rattle.plan_words.specs.States.{PassState, with_lists}
@@ -9,11 +9,12 @@ use Rattle.step_core.specs.WordNames.Word.{PointOf}
 use Rattle.kd_shared.specs.Looking.{searched}
 use Rattle.kd_shared.specs.Spots.{Notes, side_distance}
 use Rattle.kd_shared.proofs.Looking.{LoadsPoint-point, SeesNode-later}
-use Rattle.kd_shared.proofs.NearPasses.{ended_few, ended_gathered, fewer_left, IsGatheringPass-begins, IsGatheringPass-both}
-use Rattle.kd_shared.proofs.NearPasses.{noted_seen, room_first, room_last, spot_bounded, taken_both}
+use Rattle.kd_shared.proofs.NearPasses.{ended_few, ended_gathered, fewer_left, IsGatheringPass-begins, IsGatheringPass-both, LoadsBoth}
+use Rattle.kd_shared.proofs.NearPasses.{noted_seen, room_first, room_last, spot_bounded, taken_both, TakesFirst, with_child}
 use Rattle.kd_shared.proofs.PassLooks.{PassLooks-load}
 use Rattle.kd_shared.proofs.near_search.gather.Goals as goal
-use Rattle.kd_shared.proofs.near_search.gather.Goals.{After-note, After-sides_within-left, After-take_spot}
+use Rattle.kd_shared.proofs.near_search.gather.Goals.{After-child_spot-right_child, After-note, After-put_spot_if-in-Some, After-put_spot_if-in-Some-2}
+use Rattle.kd_shared.proofs.near_search.gather.Goals.{After-take_spot}
 
 pub visits-init : goal.visits-init
 visits-init c =
@@ -48,31 +49,21 @@ untaken c none =
 
 pub returns-clause-gathered : goal.returns-clause-gathered
 returns-clause-gathered c =
-    ended_gathered c.args.shared.now c.args.pass.now c.visits.pass c.args.p c.args.r c.visits.invariant.gathers c.take_spot.new.self
+    ended_gathered c.visits.invariant.gathers
     (untaken (goal.at.returns-clause-gathered c).After-take_spot (ap option_to_list (sym c.in_default.is))) (c.take_spot.ensures.none c.in_default.is)
 
 pub returns-clause-few : goal.returns-clause-few
 returns-clause-few c =
-    ended_few c.args.shared.now c.args.pass.now c.visits.pass c.args.p c.args.r c.visits.invariant.gathers c.take_spot.new.self
+    ended_few c.visits.invariant.gathers
     (untaken (goal.at.returns-clause-few c).After-take_spot (ap option_to_list (sym c.in_default.is))) (c.take_spot.ensures.none c.in_default.is)
 
 -- ---- a spot is taken
 
 pub squared_distance-requires-clause-from : goal.squared_distance-requires-clause-from
 squared_distance-requires-clause-from c =
-    subst IsBounded (sym c.point-here.ensures)
-    (spot_bounded c.args.shared.now c.args.pass.now c.visits.pass c.args.p c.args.r c.visits.invariant.gathers c.in-Some.spot
-    c.take_spot.new.self.lists.search.spots c.in-Some.ensures.taken)
+    subst IsBounded (sym c.point-here.ensures) (spot_bounded c.visits.invariant.gathers c.in-Some.ensures.taken)
 
-noted_is : (c : After-note) → c.note.new.pass ≡ searched c.visits.pass c.visits.pass.view (record {
-  spots = c.take_spot.new.self.lists.search.spots;
-  taken = c.take_spot.new.self.lists.search.taken;
-  found = c.note.new.pass.lists.search.found;
-})
-noted_is c =
-    c.note.ensures.others
-    ∙ ap (λ (s : PassState). searched s s.view (record s.lists.search { found = c.note.new.pass.lists.search.found }))
-    (c.take_spot.ensures.others ∙ ap (with_lists c.visits.pass) c.take_spot.ensures.search)
+-- and noted if it is near
 
 notes : (c : After-note) → Notes c.visits.pass.lists.search.found c.note.new.pass.lists.search.found c.in-Some.spot c.squared_distance.result
     (c.args.r * c.args.r)
@@ -82,98 +73,83 @@ notes c =
     (subst (λ fs. Notes fs c.note.new.pass.lists.search.found c.in-Some.spot c.squared_distance.result c.square-most.result)
     (ap (λ l. l.search.found) c.take_spot.ensures.search) c.note.ensures.notes)
 
-taken_one : (c : After-note) → c.take_spot.new.self.lists.search.taken ≡ suc c.visits.pass.lists.search.taken
-taken_one c = omega (arith, c.in-Some.ensures.count)
+takes : (c : After-note) → TakesFirst c.visits.pass c.note.new.pass c.args.p c.args.r c.in-Some.spot
+takes c = record {
+  search = record {
+    spots = c.take_spot.new.self.lists.search.spots;
+    taken = c.take_spot.new.self.lists.search.taken;
+    found = c.note.new.pass.lists.search.found;
+  };
+  first = c.in-Some.ensures.taken;
+  more = omega (arith, c.in-Some.ensures.count);
+  same = c.note.ensures.others
+      ∙ ap (λ (s : PassState). searched s s.view (record s.lists.search { found = c.note.new.pass.lists.search.found }))
+      (c.take_spot.ensures.others ∙ ap (with_lists c.visits.pass) c.take_spot.ensures.search);
+  notes = subst (λ d. Notes c.visits.pass.lists.search.found c.note.new.pass.lists.search.found c.in-Some.spot d (c.args.r * c.args.r))
+      (c.squared_distance.ensures.value ∙ ap (λ p. squared_distance p c.args.p) c.point-here.ensures) (notes c);
+}
 
-near_notes : (c : After-note) → Notes c.visits.pass.lists.search.found c.note.new.pass.lists.search.found c.in-Some.spot
-    (squared_distance (point_of_spot c.in-Some.spot) c.args.p) (c.args.r * c.args.r)
-near_notes c =
-    subst (λ d. Notes c.visits.pass.lists.search.found c.note.new.pass.lists.search.found c.in-Some.spot d (c.args.r * c.args.r))
-    (c.squared_distance.ensures.value ∙ ap (λ p. squared_distance p c.args.p) c.point-here.ensures) (notes c)
+-- its children are loaded, if their sides are within the radius
 
--- which of its sides are within the radius
-
-left_is : (c : After-sides_within-left) → IsFalse c.sides_within-left.result.0 → c.args.r < side_distance c.in-Some.spot.by_rows (point_of_spot c.in-Some.spot) c.args.p false
-left_is c = subst (λ p. IsFalse c.sides_within-left.result.0 → c.args.r < side_distance c.in-Some.spot.by_rows p c.args.p false) c.point-here.ensures
-    c.sides_within-left.ensures.left
-
-right_is : (c : After-sides_within-left) → IsFalse c.sides_within-left.result.1 → c.args.r < side_distance c.in-Some.spot.by_rows (point_of_spot c.in-Some.spot) c.args.p true
-right_is c = subst (λ p. IsFalse c.sides_within-left.result.1 → c.args.r < side_distance c.in-Some.spot.by_rows p c.args.p true) c.point-here.ensures
-    c.sides_within-left.ensures.right
-
--- its children are loaded
+loads : (c : After-child_spot-right_child) → LoadsBoth c.args.shared.now c.note.new.pass c.child_spot-right_child.new.pass c.args.p c.args.r
+    c.in-Some.spot c.child_spot-left_child.result c.child_spot-right_child.result
+loads c = record {
+  one = c.child_spot-left_child.new.pass;
+  first_within = c.sides_within-left.result.0;
+  last_within = c.sides_within-left.result.1;
+  first_passes = c.child_spot-left_child.ensures.looks;
+  last_passes = c.child_spot-right_child.ensures.looks;
+  first_is = subst (λ p. IsFalse c.sides_within-left.result.0 → c.args.r < side_distance c.in-Some.spot.by_rows p c.args.p false)
+      c.point-here.ensures c.sides_within-left.ensures.left;
+  last_is = subst (λ p. IsFalse c.sides_within-left.result.1 → c.args.r < side_distance c.in-Some.spot.by_rows p c.args.p true)
+      c.point-here.ensures c.sides_within-left.ensures.right;
+  first_child = c.child_spot-left_child.ensures.child;
+  last_child = c.child_spot-right_child.ensures.child;
+}
 
 pub child_spot-left_child-requires-clause-seen : goal.child_spot-left_child-requires-clause-seen
 child_spot-left_child-requires-clause-seen c =
-    let noted = (goal.at.child_spot-left_child-requires-clause-seen c).After-note in
-    noted_seen c.args.shared.now c.args.pass.now c.visits.pass c.args.p c.args.r c.visits.invariant.gathers c.in-Some.spot
-    c.take_spot.new.self.lists.search.spots c.in-Some.ensures.taken c.note.new.pass c.take_spot.new.self.lists.search.taken
-    c.note.new.pass.lists.search.found (taken_one noted) (noted_is noted) (near_notes noted)
+    let at = goal.at.child_spot-left_child-requires-clause-seen c in
+    noted_seen c.visits.invariant.gathers (takes at.After-note)
 
 pub child_spot-right_child-requires-clause-seen : goal.child_spot-right_child-requires-clause-seen
 child_spot-right_child-requires-clause-seen c =
-    let noted = (goal.at.child_spot-right_child-requires-clause-seen c).After-note in
+    let at = goal.at.child_spot-right_child-requires-clause-seen c in
     SeesNode-later c.note.new.pass.view c.child_spot-left_child.new.pass.view c.in-Some.spot.node
     c.child_spot-left_child.ensures.looks.looks.looks.goes_on.later
-    (noted_seen c.args.shared.now c.args.pass.now c.visits.pass c.args.p c.args.r c.visits.invariant.gathers c.in-Some.spot
-    c.take_spot.new.self.lists.search.spots c.in-Some.ensures.taken c.note.new.pass c.take_spot.new.self.lists.search.taken
-    c.note.new.pass.lists.search.found (taken_one noted) (noted_is noted) (near_notes noted))
+    (noted_seen c.visits.invariant.gathers (takes at.After-note))
 
 -- and wait
 
+left_is : (c : After-put_spot_if-in-Some) → c.put_spot_if-in-Some.new.self ≡ with_child c.child_spot-left_child.result c.child_spot-right_child.new.pass
+left_is c = c.put_spot_if-in-Some.ensures.others ∙ ap (with_lists c.child_spot-right_child.new.pass) c.put_spot_if-in-Some.ensures.put
+
+right_is : (c : After-put_spot_if-in-Some-2) → c.put_spot_if-in-Some-2.new.self ≡ with_child c.child_spot-right_child.result c.put_spot_if-in-Some.new.self
+right_is c = c.put_spot_if-in-Some-2.ensures.others ∙ ap (with_lists c.put_spot_if-in-Some.new.self) c.put_spot_if-in-Some-2.ensures.put
+
 pub put_spot_if-requires-in-Some : goal.put_spot_if-requires-in-Some
 put_spot_if-requires-in-Some c =
-    let noted = (goal.at.put_spot_if-requires-in-Some c).After-note in
-    let sides = (goal.at.put_spot_if-requires-in-Some c).After-sides_within-left in
-    room_first c.args.shared.now c.args.pass.now c.visits.pass c.args.p c.args.r c.visits.invariant.gathers c.in-Some.spot
-    c.take_spot.new.self.lists.search.spots c.in-Some.ensures.taken c.note.new.pass c.take_spot.new.self.lists.search.taken
-    c.note.new.pass.lists.search.found (taken_one noted) (noted_is noted) (near_notes noted) c.child_spot-left_child.new.pass
-    c.child_spot-right_child.new.pass c.child_spot-left_child.result c.child_spot-right_child.result true c.sides_within-left.result.0
-    c.sides_within-left.result.1 c.child_spot-left_child.ensures.looks c.child_spot-right_child.ensures.looks (left_is sides) (right_is sides)
-    c.child_spot-left_child.ensures.child c.child_spot-right_child.ensures.child
+    let at = goal.at.put_spot_if-requires-in-Some c in
+    room_first c.visits.invariant.gathers (takes at.After-note) (loads at.After-child_spot-right_child)
 
 pub put_spot_if-requires-in-Some-2 : goal.put_spot_if-requires-in-Some-2
 put_spot_if-requires-in-Some-2 c =
-    let noted = (goal.at.put_spot_if-requires-in-Some-2 c).After-note in
-    let sides = (goal.at.put_spot_if-requires-in-Some-2 c).After-sides_within-left in
-    let left = c.put_spot_if-in-Some.ensures.others ∙ ap (with_lists c.child_spot-right_child.new.pass) c.put_spot_if-in-Some.ensures.put in
-    room_last c.args.shared.now c.args.pass.now c.visits.pass c.args.p c.args.r c.visits.invariant.gathers c.in-Some.spot
-    c.take_spot.new.self.lists.search.spots c.in-Some.ensures.taken c.note.new.pass c.take_spot.new.self.lists.search.taken
-    c.note.new.pass.lists.search.found (taken_one noted) (noted_is noted) (near_notes noted) c.child_spot-left_child.new.pass
-    c.child_spot-right_child.new.pass c.child_spot-left_child.result c.child_spot-right_child.result true c.sides_within-left.result.0
-    c.sides_within-left.result.1 c.child_spot-left_child.ensures.looks c.child_spot-right_child.ensures.looks (left_is sides) (right_is sides)
-    c.child_spot-left_child.ensures.child c.child_spot-right_child.ensures.child c.put_spot_if-in-Some.new.self left
+    let at = goal.at.put_spot_if-requires-in-Some-2 c in
+    room_last c.visits.invariant.gathers (takes at.After-note) (loads at.After-child_spot-right_child) (left_is at.After-put_spot_if-in-Some)
 
 pub visits-preserved : goal.visits-preserved
 visits-preserved c =
-    let noted = (goal.at.visits-preserved c).After-note in
-    let sides = (goal.at.visits-preserved c).After-sides_within-left in
-    let left = c.put_spot_if-in-Some.ensures.others ∙ ap (with_lists c.child_spot-right_child.new.pass) c.put_spot_if-in-Some.ensures.put in
-    let right = c.put_spot_if-in-Some-2.ensures.others ∙ ap (with_lists c.put_spot_if-in-Some.new.self) c.put_spot_if-in-Some-2.ensures.put in
+    let at = goal.at.visits-preserved c in
     record {
       most_is = c.visits.invariant.most_is;
-      gathers = IsGatheringPass-both c.args.shared.now c.args.pass.now c.visits.pass c.args.p c.args.r c.visits.invariant.gathers c.in-Some.spot
-          c.take_spot.new.self.lists.search.spots c.in-Some.ensures.taken c.note.new.pass c.take_spot.new.self.lists.search.taken
-          c.note.new.pass.lists.search.found (taken_one noted) (noted_is noted) (near_notes noted) c.child_spot-left_child.new.pass
-          c.child_spot-right_child.new.pass c.child_spot-left_child.result c.child_spot-right_child.result true c.sides_within-left.result.0
-          c.sides_within-left.result.1 c.child_spot-left_child.ensures.looks c.child_spot-right_child.ensures.looks (left_is sides) (right_is sides)
-          c.child_spot-left_child.ensures.child c.child_spot-right_child.ensures.child c.put_spot_if-in-Some.new.self left
-          c.put_spot_if-in-Some-2.new.self right;
+      gathers = IsGatheringPass-both c.visits.invariant.gathers (takes at.After-note) (loads at.After-child_spot-right_child)
+          (left_is at.After-put_spot_if-in-Some) (right_is at.After-put_spot_if-in-Some-2);
     }
 
 pub visits-smaller : goal.visits-smaller
 visits-smaller c =
-    let noted = (goal.at.visits-smaller c).After-note in
-    let sides = (goal.at.visits-smaller c).After-sides_within-left in
-    let left = c.put_spot_if-in-Some.ensures.others ∙ ap (with_lists c.child_spot-right_child.new.pass) c.put_spot_if-in-Some.ensures.put in
-    let right = c.put_spot_if-in-Some-2.ensures.others ∙ ap (with_lists c.put_spot_if-in-Some.new.self) c.put_spot_if-in-Some-2.ensures.put in
-    let fewer = fewer_left c.args.shared.now c.args.pass.now c.visits.pass c.args.p c.args.r c.visits.invariant.gathers c.in-Some.spot
-    c.take_spot.new.self.lists.search.spots c.in-Some.ensures.taken in
-    let visited = taken_both c.args.shared.now c.args.pass.now c.visits.pass c.args.p c.args.r c.visits.invariant.gathers c.in-Some.spot
-    c.take_spot.new.self.lists.search.spots c.in-Some.ensures.taken c.note.new.pass c.take_spot.new.self.lists.search.taken
-    c.note.new.pass.lists.search.found (taken_one noted) (noted_is noted) (near_notes noted) c.child_spot-left_child.new.pass
-    c.child_spot-right_child.new.pass c.child_spot-left_child.result c.child_spot-right_child.result true c.sides_within-left.result.0
-    c.sides_within-left.result.1 c.child_spot-left_child.ensures.looks c.child_spot-right_child.ensures.looks (left_is sides) (right_is sides)
-    c.child_spot-left_child.ensures.child c.child_spot-right_child.ensures.child c.put_spot_if-in-Some.new.self left
-    c.put_spot_if-in-Some-2.new.self right in
+    let at = goal.at.visits-smaller c in
+    let fewer = fewer_left c.visits.invariant.gathers c.in-Some.ensures.taken in
+    let visited = taken_both c.visits.invariant.gathers (takes at.After-note) (loads at.After-child_spot-right_child)
+    (left_is at.After-put_spot_if-in-Some) (right_is at.After-put_spot_if-in-Some-2) in
     omega (arith, fewer, visited)

@@ -8,11 +8,11 @@ use Rattle.step_core.specs.WordNames.Word.{PointOf}
 use Rattle.step_core.specs.declared.measured_nodes.MeasuredNode.{MeasuredNode}
 use Rattle.kd_shared.proofs.Looking.{LoadsPoint-point}
 use Rattle.kd_shared.proofs.NearestPasses.{half_seen, half_seen_stack, here_bounded, here_seen, IsSeekingPass, IsSeekingPass-begins, IsSeekingPass-ends}
-use Rattle.kd_shared.proofs.NearestPasses.{IsSeekingPass-walks, stack_room, visits_low, walked_looks}
+use Rattle.kd_shared.proofs.NearestPasses.{IsSeekingPass-walks, stack_room, visits_low, VisitsHere, walked_looks}
 use Rattle.kd_shared.proofs.NearestSearch.{IsNearer, IsNearer-of}
 use Rattle.kd_shared.proofs.PassLooks.{PassLooks-load}
 use Rattle.kd_shared.proofs.nearest_search.nearest.Goals as goal
-use Rattle.kd_shared.proofs.nearest_search.nearest.Goals.{After-nearer-best}
+use Rattle.kd_shared.proofs.nearest_search.nearest.Goals.{After-stack_far_side}
 
 pub visits-init : goal.visits-init
 visits-init c =
@@ -30,76 +30,61 @@ visits-init c =
     }
 
 pub new-requires-clause-at : goal.new-requires-clause-at
-new-requires-clause-at c =
-    subst IsBounded (sym c.point-in-visits.ensures)
-    (here_bounded c.args.shared.now c.args.pass.now c.visits.pass c.args.p c.visits.best.distance c.visits.best.node c.visits.here c.visits._visit
-    c.visits.invariant.seeks)
+new-requires-clause-at c = subst IsBounded (sym c.point-in-visits.ensures) (here_bounded c.visits.invariant.seeks)
 
 pub stack_far_side-requires-clause-seen : goal.stack_far_side-requires-clause-seen
-stack_far_side-requires-clause-seen c =
-    here_seen c.args.shared.now c.args.pass.now c.visits.pass c.args.p c.visits.best.distance c.visits.best.node c.visits.here c.visits._visit
-    c.visits.invariant.seeks
+stack_far_side-requires-clause-seen c = here_seen c.visits.invariant.seeks
 
 pub stack_far_side-requires-clause-room : goal.stack_far_side-requires-clause-room
-stack_far_side-requires-clause-room c =
-    stack_room c.args.shared.now c.args.pass.now c.visits.pass c.args.p c.visits.best.distance c.visits.best.node c.visits.here c.visits._visit
-    c.visits.invariant.seeks
+stack_far_side-requires-clause-room c = stack_room c.visits.invariant.seeks
 
-nearest : (c : After-nearer-best) → IsNearer c.visits.best.distance c.visits.best.node (squared_distance (point_of_spot c.visits.here) c.args.p) c.visits.here.node
-    c.nearer-best.result.distance c.nearer-best.result.node
-nearest c =
-    subst
-    (λ (m : MeasuredNode). IsNearer c.visits.best.distance c.visits.best.node m.distance m.node c.nearer-best.result.distance c.nearer-best.result.node)
-    (c.new.ensures ∙ ap (λ at. record { node = c.visits.here.node; at = at; distance = squared_distance at c.args.p }) c.point-in-visits.ensures)
-    (IsNearer-of c.visits.best c.new.result c.nearer-best.result c.nearer-best.ensures)
+visits : (c : After-stack_far_side) → VisitsHere c.visits.pass c.stack_far_side.new.pass c.args.p c.visits.best.distance c.visits.best.node
+    c.nearer-best.result.distance c.nearer-best.result.node c.visits.here
+visits c = record {
+  nearest = subst
+      (λ (m : MeasuredNode). IsNearer c.visits.best.distance c.visits.best.node m.distance m.node c.nearer-best.result.distance c.nearer-best.result.node)
+      (c.new.ensures ∙ ap (λ at. record { node = c.visits.here.node; at = at; distance = squared_distance at c.args.p }) c.point-in-visits.ensures)
+      (IsNearer-of c.visits.best c.new.result c.nearer-best.result c.nearer-best.ensures);
+  looks = c.stack_far_side.ensures.looks;
+  is = c.stack_far_side.ensures.others;
+  stacks = c.stack_far_side.ensures.stacks;
+}
 
 pub next_spot-requires-clause-seen : goal.next_spot-requires-clause-seen
 next_spot-requires-clause-seen c =
-    half_seen c.args.shared.now c.args.pass.now c.visits.pass c.args.p c.visits.best.distance c.visits.best.node c.visits.here c.visits._visit
-    c.visits.invariant.seeks c.stack_far_side.new.pass c.nearer-best.result.distance c.nearer-best.result.node
-    (nearest (goal.at.next_spot-requires-clause-seen c).After-nearer-best)
-    c.stack_far_side.ensures.looks c.stack_far_side.ensures.others c.stack_far_side.ensures.stacks
+    let at = goal.at.next_spot-requires-clause-seen c in
+    half_seen c.visits.invariant.seeks (visits at.After-stack_far_side)
 
 pub next_spot-requires-clause-seen_stack : goal.next_spot-requires-clause-seen_stack
 next_spot-requires-clause-seen_stack c =
-    half_seen_stack c.args.shared.now c.args.pass.now c.visits.pass c.args.p c.visits.best.distance c.visits.best.node c.visits.here c.visits._visit
-    c.visits.invariant.seeks c.stack_far_side.new.pass c.nearer-best.result.distance c.nearer-best.result.node
-    (nearest (goal.at.next_spot-requires-clause-seen_stack c).After-nearer-best)
-    c.stack_far_side.ensures.looks c.stack_far_side.ensures.others c.stack_far_side.ensures.stacks
+    let at = goal.at.next_spot-requires-clause-seen_stack c in
+    half_seen_stack c.visits.invariant.seeks (visits at.After-stack_far_side)
 
 -- nothing is left
 pub returns-in_default-clause-looks : goal.returns-in_default-clause-looks
 returns-in_default-clause-looks c =
-    walked_looks c.args.shared.now c.args.pass.now c.visits.pass c.args.p c.visits.best.distance c.visits.best.node c.visits.here c.visits._visit
-    c.visits.invariant.seeks c.stack_far_side.new.pass c.nearer-best.result.distance c.nearer-best.result.node
-    (nearest (goal.at.returns-in_default-clause-looks c).After-nearer-best)
-    c.stack_far_side.ensures.looks c.stack_far_side.ensures.others c.stack_far_side.ensures.stacks c.next_spot.new.pass c.next_spot.ensures.looks
-    c.next_spot.ensures.others
+    let at = goal.at.returns-in_default-clause-looks c in
+    walked_looks c.visits.invariant.seeks (visits at.After-stack_far_side) c.next_spot.new.pass c.next_spot.ensures.looks c.next_spot.ensures.others
 
 pub returns-in_default-clause-nearest : goal.returns-in_default-clause-nearest
 returns-in_default-clause-nearest c =
-    IsSeekingPass-ends c.args.shared.now c.args.pass.now c.visits.pass c.args.p c.visits.best.distance c.visits.best.node c.visits.here c.visits._visit
-    c.visits.invariant.seeks c.stack_far_side.new.pass c.nearer-best.result.distance c.nearer-best.result.node
-    (nearest (goal.at.returns-in_default-clause-nearest c).After-nearer-best)
-    c.stack_far_side.ensures.looks c.stack_far_side.ensures.others c.stack_far_side.ensures.stacks c.next_spot.new.pass c.next_spot.ensures.looks
+    let at = goal.at.returns-in_default-clause-nearest c in
+    IsSeekingPass-ends c.visits.invariant.seeks (visits at.After-stack_far_side) c.next_spot.new.pass c.next_spot.ensures.looks
     c.next_spot.ensures.others c.in_default.ensures.walks
 
 -- another is next
 pub visits-preserved : goal.visits-preserved
-visits-preserved c = record {
-  seeks = subst
-      (IsSeekingPass c.args.shared.now c.args.pass.now c.next_spot.new.pass c.args.p c.nearer-best.result.distance c.nearer-best.result.node c.in-Some.next)
-      (omega arith)
-      (IsSeekingPass-walks c.args.shared.now c.args.pass.now c.visits.pass c.args.p c.visits.best.distance c.visits.best.node c.visits.here
-      c.visits._visit c.visits.invariant.seeks c.stack_far_side.new.pass c.nearer-best.result.distance c.nearer-best.result.node
-      (nearest (goal.at.visits-preserved c).After-nearer-best)
-      c.stack_far_side.ensures.looks c.stack_far_side.ensures.others c.stack_far_side.ensures.stacks c.next_spot.new.pass c.next_spot.ensures.looks
-      c.next_spot.ensures.others c.in-Some.next c.next_spot.ensures.belongs c.in-Some.ensures.walks);
-}
+visits-preserved c =
+    let at = goal.at.visits-preserved c in
+    record {
+      seeks = subst
+          (IsSeekingPass c.args.shared.now c.args.pass.now c.next_spot.new.pass c.args.p c.nearer-best.result.distance c.nearer-best.result.node
+          c.in-Some.next)
+          (omega arith)
+          (IsSeekingPass-walks c.visits.invariant.seeks (visits at.After-stack_far_side) c.next_spot.new.pass c.next_spot.ensures.looks
+          c.next_spot.ensures.others c.in-Some.next c.next_spot.ensures.belongs c.in-Some.ensures.walks);
+    }
 
 -- there are no more visits than there can be nodes
 pub returns-clause-nearest : goal.returns-clause-nearest
-returns-clause-nearest c =
-    let low = visits_low c.args.shared.now c.args.pass.now c.visits.pass c.args.p c.visits.best.distance c.visits.best.node c.visits.here
-    c.visits._visit c.visits.invariant.seeks in
-    absurd (omega (arith, c.visits-test.false, low))
+returns-clause-nearest c = absurd (omega (arith, c.visits-test.false, visits_low c.visits.invariant.seeks))
