@@ -120,8 +120,8 @@ class Judge:
         return numbers if numbers and nodes > 0 and before < numbers[0] and (before >= 0 or numbers[0] == 0) else None
 
     def record_of(self, line, k):
-        """The record of mark k by its line."""
-        skipped, nodes = SKIPPED.fullmatch(line), len(self.marks) + 1
+        """The record of mark k by its line. Only the report of an informed scene has lines of skipped marks."""
+        skipped, nodes = self.scene.informed and SKIPPED.fullmatch(line), len(self.marks) + 1
         match = skipped or MARK.fullmatch(line)
         if not match or match[1] != str(k):
             return None
@@ -264,7 +264,6 @@ class Judge:
 
     def check_skipped(self, g, mark, what):
         """A skipped mark names a goal node that costs no more than the bound of the mark."""
-        need(self.scene.informed, f"{what}: no mark of this scene is skipped")
         need(g in self.tree.points and self.scene.is_goal_point(self.tree.points[g]), f"{what}: node {g} lies in no goal")
         need(self.costs[g] <= self.bound(mark), f"{what}: node {g} costs more than the bound")
 
