@@ -39,3 +39,4 @@ pub mod FirstCosts
 pub mod SeenGoals
 pub mod ClassRadii
 pub mod SheetVerdicts
+pub mod ReportCuts

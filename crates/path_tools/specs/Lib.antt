@@ -16,3 +16,4 @@ pub mod JudgedRuns
 pub mod SeenNodes
 pub mod MarkLaws
 pub mod Judgements
+pub mod ReportCuts

@@ -24,6 +24,7 @@ mod own_nodes;
 mod placed_marks;
 mod presence;
 mod repeats;
+mod report_cuts;
 pub mod report_laws;
 mod rests;
 mod searches;
@@ -36,6 +37,7 @@ mod tallies;
 mod turns;
 mod verdicts;
 
+pub use report_cuts::cut_at_report;
 pub use smoothed_reports::smoothed_report;
 pub use smoothing::smooth;
 pub use verdicts::{Verdict, check};
