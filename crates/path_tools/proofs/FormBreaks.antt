@@ -16,6 +16,7 @@ use Rattle.path_tools.specs.ReportLines.{Tally, ReportLine, Extent, line_text, l
 use Rattle.path_tools.specs.ReportLines.ReportLine.{NoPath, PathOf, PathPoint, Counts, NodeLine, MarkLine}
 use Rattle.path_tools.specs.ReportSheets.{PricedPath, Sheet, path_lines, head_lines, lines_of_knots, lines_of_records}
 use Rattle.path_tools.specs.ReportSheets.{lines_of_sheet, FitsOptionalPath, SpellsSheet, state_of_sheet}
+use Rattle.path_tools.proofs.ListPlaces.{slice_get-right}
 use Rattle.path_tools.proofs.NodeBreaks.{present}
 use Rattle.path_tools.proofs.SheetLines.{lines_few}
 use Rattle.path_tools.proofs.SheetForms.{AreBegun-none, AreBegun-push, AreBegun-nodes, AreBegun-marks, BeginsForm, points_begun, path_begun, head_begun}
@@ -29,11 +30,6 @@ joined text x y lines others is goes =
     is ∙ ap (λ r. lines_text lines ++ r) goes
     ∙ sym (append_assoc (lines_text lines) (lines_text others) y)
     ∙ ap (λ r. r ++ y) (sym (flat_map-append line_text lines others))
-
-slice_get-right : {A : Type 0} → (xs ys : List A) (i : ℕ) → slice_get (xs ++ ys) (length xs + i) ≡ slice_get ys i
-slice_get-right [] ys i = let none : 0 + i ≡ i = omega arith in ap (slice_get ys) none
-slice_get-right (x ∷ xs) ys i =
-    let next : suc (length xs) + i ≡ suc (length xs + i) = omega arith in ap (slice_get (x ∷ (xs ++ ys))) next ∙ slice_get-right xs ys i
 
 -- ---- the path
 
@@ -134,7 +130,8 @@ breaks_counts extent report path rest fits is none = record {
 -- ---- nodes and marks
 
 -- A text that begins with a path and counts, and then with nodes.
-pub record ReadsTree (extent : Extent) (report : List ℕ) (path : Option PricedPath) (tally : Tally) (knots : List (Option Knot)) (count : ℕ) (rest : List ℕ) : Type 0 where
+pub record ReadsTree (extent : Extent) (report : List ℕ) (path : Option PricedPath) (tally : Tally) (knots : List (Option Knot)) (count : ℕ)
+    (rest : List ℕ) : Type 0 where
   pub front : List ℕ
   pub middle : List ℕ
   pub path_fits : FitsOptionalPath path
@@ -144,7 +141,7 @@ pub record ReadsTree (extent : Extent) (report : List ℕ) (path : Option Priced
   pub nodes : ReadsNodes extent.marks tally.nodes middle knots count rest
 
 module _
-    (extent : Extent) (report : List ℕ) (path : Option PricedPath) (tally : Tally) (knots : List (Option Knot)) (count : ℕ) (rest : List ℕ)
+    {extent : Extent} {report : List ℕ} {path : Option PricedPath} {tally : Tally} {knots : List (Option Knot)} {count : ℕ} {rest : List ℕ}
     (read : ReadsTree extent report path tally knots count rest) where
   abbrev lines : List ReportLine
   lines = lines_of_knots knots
@@ -238,7 +235,7 @@ module _
           read.nodes.ended (omega (arith, stands.1, long, place, come)) tally n knot after (subst (MayFollow n) last stands.2) fits e
       by_line (MarkLine k entry) after stands fits e = omega (arith, short (omega (arith, stands.0, come)), stands.1, long, place, come)
 
-  module _ (records : List Record) (tail : List ℕ) (all : count ≡ tally.nodes) (some : 0 < count) (told : ReadsRecords extent rest records tail) where
+  module _ {records : List Record} {tail : List ℕ} (all : count ≡ tally.nodes) (some : 0 < count) (told : ReadsRecords extent rest records tail) where
     abbrev sheet : Sheet
     sheet = record { path = path; tally = tally; knots = knots; records = records }
 

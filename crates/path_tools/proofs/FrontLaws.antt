@@ -6,18 +6,19 @@ use Rattle.std.specs.List.{range_with_len, flat_map}
 use Rattle.std.proofs.lemmas.Bool.{cases_eq, cases_lt}
 use Rattle.std.proofs.lemmas.Grind.{flat_map-append, get_or-set_at}
 use Rattle.std.proofs.lemmas.List.{get_or-replicate, get_or_past, get_or-set_other, get_or_append_left, get_or_at, length-replicate, length-set}
-use Rattle.std.proofs.lemmas.Option.{slice_get_within, get_or_from_slice_get}
+use Rattle.std.proofs.lemmas.Option.{get_or_from_slice_get}
 use Rattle.plan_model.specs.declared.records.Record.{Record}
 use Rattle.plan_model.specs.declared.trees.Knot.{Knot}
 use Rattle.step_core.specs.PackedRuns.{IsKnot}
 use Rattle.step_core.proofs.PackedStates.{IsKnot-at}
 use Rattle.path_tools.specs.FrontLines.{IsNextNode, ReadsNodes}
 use Rattle.path_tools.specs.ReportForms.{MayFollow}
-use Rattle.path_tools.specs.ReportLines.{Tally, ReportLine, Extent, line_text, lines_text, FitsKnot, FitsEntry}
+use Rattle.path_tools.specs.ReportLines.{Tally, ReportLine, line_text, lines_text, FitsKnot}
 use Rattle.path_tools.specs.ReportLines.ReportLine.{Counts, NodeLine, MarkLine}
 use Rattle.path_tools.specs.ReportSheets.{line_of_knot, line_of_record, lines_of_knots, lines_of_records}
 use Rattle.path_tools.proofs.LineWords.{same_first_lines}
-use Rattle.path_tools.proofs.SheetForms.{flat_map-more, slice_get-left, slice_get-seam}
+use Rattle.path_tools.proofs.SheetForms.{flat_map-more}
+use Rattle.path_tools.proofs.ListPlaces.{slice_get-left, slice_get-seam}
 
 -- a text goes on after one line more
 pub one_more : (text rest after : List ℕ) (lines : List ReportLine) (next : ReportLine) → text ≡ lines_text lines ++ rest
@@ -76,19 +77,6 @@ lines_of_records-push records entry =
     (λ j low. ap (line_of_record j) (slice_get-left records (entry ∷ []) j low)) i
     ++ line_of_record n (slice_get-seam records entry [] i))
 
-pub fits_push : (extent : Extent) (records : List Record) (own : Record) → ((k : ℕ) (entry : Record) → slice_get records k ≡ Some entry → FitsEntry extent entry)
-    → FitsEntry extent own → (k : ℕ) (entry : Record) → slice_get (records ++ own ∷ []) k ≡ Some entry → FitsEntry extent entry
-fits_push extent records own fit fits k entry is =
-    elim (cases_lt k (length records)) [
-      | inl low ↦ fit k entry (sym (slice_get-left records (own ∷ []) k low) ∙ is)
-      | inr past ↦ (
-          let within = slice_get_within (records ++ own ∷ []) k entry is in
-          let place : k ≡ length records = omega (arith, within, past, length-append records (own ∷ [])) in
-          let last : Some own ≡ Some entry = sym (slice_get-seam records own []) ∙ ap (slice_get (records ++ own ∷ [])) (sym place) ∙ is in
-          let same : own ≡ entry = cc in
-          subst (FitsEntry extent) same fits)
-    ]
-
 -- ---- nodes
 
 -- the lines end with that of the node before this number, if there is any
@@ -139,7 +127,8 @@ may_come zero lines ends tally n h = subst (λ those. MayFollow n (slice_get (Co
 may_come (suc m) lines (before, knot, ends) tally n h =
     let all : List ReportLine = before ++ NodeLine m knot ∷ [] in
     let long : length all ≡ suc (length before) = omega (arith, length-append before (NodeLine m knot ∷ [])) in
-    let moved : MayFollow n (slice_get (Counts tally ∷ all) (length all)) = subst (λ those. MayFollow n (slice_get (Counts tally ∷ those) (length those))) ends h in
+    let moved : MayFollow n (slice_get (Counts tally ∷ all) (length all)) =
+    subst (λ those. MayFollow n (slice_get (Counts tally ∷ those) (length those))) ends h in
     subst (MayFollow n) (ap (slice_get (Counts tally ∷ all)) long ∙ slice_get-seam before (NodeLine m knot) []) moved
 
 -- what was read is all if no node can stand next
@@ -158,8 +147,9 @@ ReadsNodes-ended marks most text knots count next rest read few ended = record {
 }
 
 -- a line of another node does not stand where one does
-pub other_node : (marks : ℕ) → marks < 2 ^ 64 → (rest after : List ℕ) (n : ℕ) (knot : Knot) → FitsKnot marks n knot → rest ≡ line_text (NodeLine n knot) ++ after
-    → (m : ℕ) (other : Knot) (more : List ℕ) → FitsKnot marks m other → rest ≡ line_text (NodeLine m other) ++ more → n ≡ m
+pub other_node : (marks : ℕ) → marks < 2 ^ 64 → (rest after : List ℕ) (n : ℕ) (knot : Knot) → FitsKnot marks n knot
+    → rest ≡ line_text (NodeLine n knot) ++ after → (m : ℕ) (other : Knot) (more : List ℕ) → FitsKnot marks m other
+    → rest ≡ line_text (NodeLine m other) ++ more → n ≡ m
 other_node marks few rest after n knot fits is m other more also e =
     let same : NodeLine n knot ≡ NodeLine m other =
     (same_first_lines (record { marks = marks; informed = false }) few (NodeLine n knot) (NodeLine m other) after more fits also (sym is ∙ e)).0 in

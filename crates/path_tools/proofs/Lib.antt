@@ -10,6 +10,7 @@ pub mod SheetTexts
 pub mod LawfulSheets
 pub mod ReportsOfRuns
 pub mod LineWords
+pub mod ListPlaces
 pub mod SheetForms
 pub mod FrontLaws
 pub mod FormBreaks

@@ -12,6 +12,7 @@ use Rattle.path_tools.specs.ReportLines.{ReportLine, Extent, extent_of, line_wor
 use Rattle.path_tools.specs.ReportSheets.{Sheet, SpellsSheet, lines_of_sheet}
 use Rattle.path_tools.specs.SheetLaws.{KeepsLawAt}
 use Rattle.path_tools.specs.Verdicts.{IsLawful, BreaksLawFirst, IsBroken}
+use Rattle.path_tools.proofs.ListPlaces.{slice_get-seam}
 use Rattle.path_tools.proofs.LineWords.{same_first_lines}
 use Rattle.path_tools.proofs.SheetForms.{AreBegun-sheet, AreAll-sheet}
 use Rattle.path_tools.proofs.SameSheets.{same_sheets}
@@ -58,10 +59,6 @@ two_beginnings extent few (own ∷ lines) (other ∷ others) x y fits also h =
 
 AllFit-begun : (extent : Extent) (lines : List ReportLine) → AreBegun extent lines → AllFit extent lines
 AllFit-begun extent lines begun = λ i own is. (begun i own is).1
-
-slice_get-seam : {A : Type 0} → (xs : List A) (y : A) (ys : List A) → slice_get (xs ++ y ∷ ys) (length xs) ≡ Some y
-slice_get-seam [] y ys = refl
-slice_get-seam (x ∷ xs) y ys = slice_get-seam xs y ys
 
 -- a line that follows some lines, all of which stand where they may, may stand next after these
 may_stand : (extent : Extent) (lines : List ReportLine) (next : ReportLine) (more : List ReportLine) → AreBegun extent (lines ++ next ∷ more)

@@ -119,7 +119,8 @@ module _ (state : TreeState) (entry : Record) (nodes : List Numbered) (own : Are
         → ¬ Bad (record { point = p; number = n })
     none_bad at good none n p earlier stands within bad =
         let found = earlier_place n p earlier stands in
-        let near : IsWithin center square (numbered_at nodes found.place).point = subst (λ (m : Numbered). IsWithin center square m.point) (sym found.here) within in
+        let near : IsWithin center square (numbered_at nodes found.place).point =
+        subst (λ (m : Numbered). IsWithin center square m.point) (sym found.here) within in
         let also : Bad (numbered_at nodes found.place) = subst Bad (sym found.here) bad in
         elim (cases_lt found.place at) [
           | inl before ↦ good found.place before near also
@@ -192,7 +193,8 @@ module _ (state : TreeState) (entry : Record) (nodes : List Numbered) (own : Are
   -- ---- neighbours
 
   module _ (space : ConfigurationSpace) (p : Point) (radius square : ℕ) (is : square ≡ radius * radius) where
-    near_point : (i : ℕ) (o : Option Point) → point_at state.points i ≡ o → is_within p radius o ≡ true → (q : Point) × (StandsAt state.points i q) × (IsWithin p square q)
+    near_point : (i : ℕ) (o : Option Point) → point_at state.points i ≡ o → is_within p radius o ≡ true
+        → (q : Point) × (StandsAt state.points i q) × (IsWithin p square q)
     near_point i None e h = absurd (cc)
     near_point i (Some q) e h = (q, e, omega (arith, is, leb-true (squared_distance q p) (radius * radius) h))
 

@@ -51,7 +51,8 @@ places_next worker turn (Some other) h = by_test (cases_Bool (is_placed other.ou
   where
     by_test : (is_placed other.outcome ≡ true) ⊎ (is_placed other.outcome ≡ false) → (other.worker ≡ worker) ⊎ (other.worker ≢ worker)
         → (other.turn ≡ turn) ⊎ (other.turn ≢ turn)
-        → (is_placed other.outcome && (eqb other.worker worker && ltb other.turn (suc turn))) ≡ (is_placed other.outcome && (eqb other.worker worker && ltb other.turn turn))
+        → (is_placed other.outcome && (eqb other.worker worker && ltb other.turn (suc turn)))
+        ≡ (is_placed other.outcome && (eqb other.worker worker && ltb other.turn turn))
     by_test (inr unplaced) mine here =
         and_left (is_placed other.outcome) (eqb other.worker worker && ltb other.turn (suc turn)) unplaced
         ∙ sym (and_left (is_placed other.outcome) (eqb other.worker worker && ltb other.turn turn) unplaced)
@@ -108,7 +109,8 @@ module _ (goals : List Goal) (knots : List (Option Knot)) (records : List Record
   AreSeen-none seen none h =
       seen_same (before_next (slice_get records) worker turn (λ k other is own. absurd (none k other is own))) seen h
 
-  module _ (own_turns : HaveOwnTurns records) (mark : ℕ) (entry : Record) (at : slice_get records mark ≡ Some entry) (of_turn : IsTurnOf worker turn entry) where
+  module _ (own_turns : HaveOwnTurns records) (mark : ℕ) (entry : Record) (at : slice_get records mark ≡ Some entry)
+      (of_turn : IsTurnOf worker turn entry) where
     -- the only record of this turn is the mark's
     only : (k : ℕ) (other : Record) → slice_get records k ≡ Some other → IsTurnOf worker turn other → k ≡ mark
     only k other is own = own_turns k mark other entry is at (own.worker ∙ sym of_turn.worker) (own.turn ∙ sym of_turn.turn)
@@ -120,7 +122,8 @@ module _ (goals : List Goal) (knots : List (Option Knot)) (records : List Record
     pub AreSeen-unplaced : (seen : Seen) → is_placed entry.outcome ≡ false → AreSeen goals run worker turn seen → AreSeen goals run worker (suc turn) seen
     AreSeen-unplaced seen unplaced h =
         seen_same
-        (before_next (slice_get records) worker turn (λ k other is own. ap (λ (r : Record). is_placed r.outcome) (same_entry k other is (only k other is own)) ∙ unplaced)) seen h
+        (before_next (slice_get records) worker turn
+        (λ k other is own. ap (λ (r : Record). is_placed r.outcome) (same_entry k other is (only k other is own)) ∙ unplaced)) seen h
 
     -- ---- a node more
 
@@ -203,7 +206,8 @@ module _ (goals : List Goal) (knots : List (Option Knot)) (records : List Record
             ];
       }
 
-      pub least_first : IsGoalNode goals run.points (suc mark) → IsLeastIfAny goals run worker turn None → IsLeastIfAny goals run worker (suc turn) (Some entry.first_cost)
+      pub least_first : IsGoalNode goals run.points (suc mark) → IsLeastIfAny goals run worker turn None
+          → IsLeastIfAny goals run worker (suc turn) (Some entry.first_cost)
       least_first inside h = least_new entry.first_cost refl inside (λ i before goal. absurd (h i before goal))
 
       pub least_lesser : (cost least : ℕ) → least ≡ min cost entry.first_cost → IsGoalNode goals run.points (suc mark)

@@ -51,7 +51,8 @@ module _ (knots : List (Option Knot)) (records : List Record) (worker : ℕ) (so
     least = record { node = 0; before = refl; goal = inside; reached = refl; least = λ i first goal. omega arith };
   }
 
-  none_before : (goals : List Goal) → ¬ IsGoalNode goals run.points 0 → (i : ℕ) → is_before worker 0 (slice_get records) i ≡ true → ¬ IsGoalNode goals run.points i
+  none_before : (goals : List Goal) → ¬ IsGoalNode goals run.points 0 → (i : ℕ) → is_before worker 0 (slice_get records) i ≡ true
+      → ¬ IsGoalNode goals run.points i
   none_before goals outside zero first goal = outside goal
   none_before goals outside (suc k) first goal = true≢false (sym first ∙ never_before worker (slice_get records k))
 

@@ -1,27 +1,13 @@
 -- The marks of a worker by its turns, one mark after another.
-use Rattle.std.proofs.Common.{◌≡◌, ℕ, ◌+◌, ◌<◌, List, [], ◌∷◌, ◌++◌, length, length-append, replicate, set, Option, Some, None, arith, sym, ap, ◌∙◌, subst, inl, inr}
+use Rattle.std.proofs.Common.{◌≡◌, ℕ, ◌+◌, ◌<◌, List, length, replicate, set, Option, Some, None, arith}
+use Rattle.std.proofs.Common.{sym, ap, ◌∙◌, subst, inl, inr}
 use Rattle.std.specs.Prelude.{IfSome, slice_get, slice_index_or}
 use Rattle.std.proofs.lemmas.Bool.{cases_eq, cases_lt}
 use Rattle.std.proofs.lemmas.Grind.{get_or-set_at}
 use Rattle.std.proofs.lemmas.List.{get_or-replicate, get_or-set_other}
 use Rattle.std.proofs.lemmas.Option.{slice_get_within}
 use Rattle.plan_model.specs.declared.records.Record.{Record}
-use Rattle.path_tools.proofs.SheetForms.{slice_get-left, slice_get-seam}
 use Rattle.path_tools.specs.SeenNodes.{IsTurnOf, IsMarkOfTurn}
-
--- what is said of each member of a list and of one more
-pub pushed_each : {A : Type 0} → (P : ℕ → A → Type 0) (xs : List A) (x : A) → ((i : ℕ) (own : A) → slice_get xs i ≡ Some own → P i own)
-    → P (length xs) x → (i : ℕ) (own : A) → slice_get (xs ++ x ∷ []) i ≡ Some own → P i own
-pushed_each P xs x each last i own is =
-    elim (cases_lt i (length xs)) [
-      | inl low ↦ each i own (sym (slice_get-left xs (x ∷ []) i low) ∙ is)
-      | inr past ↦ (
-          let within = slice_get_within (xs ++ x ∷ []) i own is in
-          let place : i ≡ length xs = omega (arith, within, past, length-append xs (x ∷ [])) in
-          let both : Some x ≡ Some own = sym (slice_get-seam xs x []) ∙ ap (slice_get (xs ++ x ∷ [])) (sym place) ∙ is in
-          let same : x ≡ own = cc in
-          subst (P i) same (subst (λ n. P n x) (sym place) last))
-    ]
 
 module _ (records : List Record) (worker : ℕ) where
   -- the mark of a turn among those below a number, or that none of them is of that turn

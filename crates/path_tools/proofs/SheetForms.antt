@@ -26,17 +26,9 @@ use Rattle.path_tools.specs.ReportLines.{Tally, ReportLine, Extent, FitsTally, F
 use Rattle.path_tools.specs.ReportLines.ReportLine.{NoPath, PathOf, PathPoint, Counts, NodeLine, MarkLine}
 use Rattle.path_tools.specs.ReportSheets.{PricedPath, Sheet, path_lines, head_lines, line_of_knot, line_of_record, lines_of_knots, lines_of_records}
 use Rattle.path_tools.specs.ReportSheets.{lines_of_sheet, FitsOptionalPath, HasForm, state_of_sheet}
+use Rattle.path_tools.proofs.ListPlaces.{slice_get-left, slice_get-seam}
 
 -- ---- lists
-
-pub slice_get-left : {A : Type 0} → (xs ys : List A) (i : ℕ) → i < length xs → slice_get (xs ++ ys) i ≡ slice_get xs i
-slice_get-left [] ys i h = absurd (omega (arith, h))
-slice_get-left (x ∷ xs) ys zero h = refl
-slice_get-left (x ∷ xs) ys (suc i) h = slice_get-left xs ys i (omega (arith, h))
-
-pub slice_get-seam : {A : Type 0} → (xs : List A) (y : A) (ys : List A) → slice_get (xs ++ y ∷ ys) (length xs) ≡ Some y
-slice_get-seam [] y ys = refl
-slice_get-seam (x ∷ xs) y ys = slice_get-seam xs y ys
 
 -- a record below the length is there
 record_there : (records : List Record) (k : ℕ) → k < length records → slice_get records k ≡ None → ⊥

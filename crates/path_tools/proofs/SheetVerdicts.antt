@@ -80,9 +80,12 @@ module _ (task : Task) (sheet : Sheet) (form : HasForm (extent_of task) sheet) w
   module _ (two : KeepsLaw task sheet 2) where
     -- ---- turns
 
-    turns_by : (first : Option ℕ) → IsFirstBreak (KeepsTurn sheet.records) (length sheet.records) first → IsFirstBreak (KeepsTurns task sheet) (length sheet.records) first
+    turns_by : (first : Option ℕ) → IsFirstBreak (KeepsTurn sheet.records) (length sheet.records) first
+        → IsFirstBreak (KeepsTurns task sheet) (length sheet.records) first
     turns_by first h =
-        subst (λ m. IsFirstBreak (λ k. (entry : Record) → slice_get sheet.records k ≡ Some entry → HasOwnTurn m (slice_get sheet.records) k entry) (length sheet.records) first)
+        subst
+        (λ m. IsFirstBreak (λ k. (entry : Record) → slice_get sheet.records k ≡ Some entry → HasOwnTurn m (slice_get sheet.records) k entry)
+        (length sheet.records) first)
         form.all_marks h
 
     pub kept_turns : IsFirstBreak (KeepsTurn sheet.records) (length sheet.records) None → KeepsLaw task sheet 3
@@ -167,7 +170,8 @@ record_by task knots nodes records slice first own same same_records is told =
 
 -- ---- the own path
 
-path_by-same : (knots : List (Option Knot)) (records : List Record) (o : Option ℕ) → path_by (state_of_lists knots []) o ≡ path_by (state_of_lists knots records) o
+path_by-same : (knots : List (Option Knot)) (records : List Record) (o : Option ℕ)
+    → path_by (state_of_lists knots []) o ≡ path_by (state_of_lists knots records) o
 path_by-same knots records None = refl
 path_by-same knots records (Some n) = refl
 

@@ -1,5 +1,6 @@
 -- The nodes of a worker, as numbered points: the start, and those that it placed.
-use Rattle.std.specs.Prelude.{◌≡◌, ℕ, zero, suc, ◌<◌, ◌⊎◌, ◌==◌, ◌+◌, ◌≤◌, ◌^◌, ◌&&◌, IsTrue, Bool, true, false, All, Contains, Option, Some, None, List, slice_get}
+use Rattle.std.specs.Prelude.{◌≡◌, ℕ, zero, suc, ◌<◌, ◌⊎◌, ◌==◌, ◌+◌, ◌≤◌, ◌^◌, ◌&&◌, IsTrue, Bool, true, false}
+use Rattle.std.specs.Prelude.{All, Contains, Option, Some, None, List, slice_get}
 use Rattle.plan_model.specs.declared.configuration_spaces.ConfigurationSpace.{ConfigurationSpace}
 use Rattle.plan_model.specs.declared.geometry.Point.{Point}
 use Rattle.plan_model.specs.declared.records.Record.{Record}

@@ -3,7 +3,8 @@
 ghost use Rattle.std.specs.Prelude.{◌≡◌, ◌↔◌, ◌<◌, ◌≤◌, ◌^◌, IsFalse, IsTrue};
 ghost use Rattle.plan_model.specs.Geometry.Bounds.{IsBounded};
 ghost use Rattle.plan_model.specs.Geometry.Radius.{radius_of_class};
-ghost use Rattle.plan_model.specs.Runs.RecordLaw.{HasClass, earlier_count, IsBlockedLawfully, IsChosenLawfully, IsLawfulRecord, IsSkippedLawfully, IsSteeredLawfully};
+ghost use Rattle.plan_model.specs.Runs.RecordLaw.{HasClass, earlier_count, IsBlockedLawfully, IsChosenLawfully};
+ghost use Rattle.plan_model.specs.Runs.RecordLaw.{IsLawfulRecord, IsSkippedLawfully, IsSteeredLawfully};
 ghost use Rattle.plan_model.specs.Runs.Textbook.{Setup, mark_bound, setup_of, skipping_goals};
 ghost use Rattle.plan_model.specs.Spaces.Clearance.{Clear};
 ghost use Rattle.plan_model.specs.Spaces.ConfigurationSpace.{space_of};

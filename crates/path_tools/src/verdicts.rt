@@ -135,7 +135,7 @@ fn turn_verdict(alloc: Global, task: &Task, sheet: &SheetRead) -> Result<Option<
 {
     let first = first_wrong_turn(alloc, &sheet.records)?;
     match first {
-        Some(mark) => Ok(Some(broken(mark_line(sheet, mark), 3))),
+        Some(mark) => Ok(Some(broken_mark(sheet, mark, 3))),
         None => Ok(None),
     }
 }
@@ -150,7 +150,7 @@ fn presence_verdict(task: &Task, sheet: &SheetRead) -> Option<Verdict>
     ensures kept { IfNone result (KeepsLaw task.now (sheet_read sheet.now) 4) }
 {
     match first_unlike(&sheet.knots, &sheet.records) {
-        Some(mark) => Some(broken(mark_line(sheet, mark), 4)),
+        Some(mark) => Some(broken_mark(sheet, mark, 4)),
         None => None,
     }
 }
@@ -173,7 +173,7 @@ fn record_verdict<C: Clearing>(
 {
     let first = first_unlawful(alloc, task, hall, &sheet.knots, &sheet.records)?;
     match first {
-        Some(mark) => Ok(Some(broken(mark_line(sheet, mark), 5))),
+        Some(mark) => Ok(Some(broken_mark(sheet, mark, 5))),
         None => Ok(None),
     }
 }
@@ -215,6 +215,15 @@ fn mark_line(sheet: &SheetRead, mark: usize) -> usize
     ensures { result ≡ number_of_mark_line (sheet_read sheet.now) mark }
 {
     path_line_count(&sheet.path) + 1 + present_count(&sheet.knots) as usize + mark + 1
+}
+
+/// The verdict that a law is broken at the line of a mark.
+fn broken_mark(sheet: &SheetRead, mark: usize, law: u8) -> Verdict
+    requires few { length sheet.now.knots.items ≤ MOST_NODES }
+    requires low { number_of_mark_line (sheet_read sheet.now) mark < 4294967296 }
+    ensures { result ≡ Broken (number_of_mark_line (sheet_read sheet.now) mark) law }
+{
+    broken(mark_line(sheet, mark), law)
 }
 
 /// The verdict that a law is broken at a line.

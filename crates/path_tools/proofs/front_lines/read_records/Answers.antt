@@ -4,7 +4,8 @@ use Rattle.plan_model.specs.declared.records.Record.{Record}
 use Rattle.path_tools.specs.ReportLines.{Extent, ReportLine, line_text, lines_text, FitsEntry}
 use Rattle.path_tools.specs.ReportLines.ReportLine.{MarkLine}
 use Rattle.path_tools.specs.ReportSheets.{lines_of_records}
-use Rattle.path_tools.proofs.FrontLaws.{fits_push, lines_of_records-push, one_more}
+use Rattle.path_tools.proofs.FrontLaws.{lines_of_records-push, one_more}
+use Rattle.path_tools.proofs.ListPlaces.{pushed_each}
 use Rattle.path_tools.proofs.front_lines.read_records.Goals as goal
 
 pub loop-mark-preserved : goal.loop-mark-preserved
@@ -24,7 +25,7 @@ loop-mark-preserved c =
       told = subst (λ (rs : List Record). text ≡ lines_text (lines_of_records rs) ++ after) (sym c.in_ok-push.ensures.items) pushed;
       fit =
           subst (λ (rs : List Record). (k : ℕ) (own : Record) → slice_get rs k ≡ Some own → FitsEntry extent own) (sym c.in_ok-push.ensures.items)
-          (fits_push extent records entry c.loop-mark.invariant.fit c.in-Some.ensures.fits);
+          (pushed_each (λ k. FitsEntry extent) records entry c.loop-mark.invariant.fit c.in-Some.ensures.fits);
     }
 
 pub returns-in_default : goal.returns-in_default

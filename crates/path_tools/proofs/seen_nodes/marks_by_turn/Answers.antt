@@ -25,7 +25,8 @@ loop-mark-preserved c =
         marks = λ turn low.
             subst (IsMarkBelow records c.args.worker turn (mark + 1)) (sym (ap (λ o. o.items) w.order-is))
             (IsMarkBelow-other records c.args.worker mark entry at c.loop-mark.order.items turn
-            (λ of_turn. omega (arith, of_turn.turn, low, long, w.if-turn-len.false, w.len.ensures, c.loop-mark.order.ok)) (c.loop-mark.invariant.marks turn low));
+            (λ of_turn. omega (arith, of_turn.turn, low, long, w.if-turn-len.false, w.len.ensures, c.loop-mark.order.ok))
+            (c.loop-mark.invariant.marks turn low));
       }
       | else-entry-worker w ↦ record {
         long = ap (λ o. length o.items) w.order-is ∙ long;

@@ -3,7 +3,8 @@ use Rattle.std.specs.Prelude.{None, slice_get, slice_index_or}
 use Rattle.std.proofs.lemmas.Option.{slice_get_within}
 use Rattle.step_core.specs.PackedRuns.{state_of_lists}
 use Rattle.path_tools.specs.SeenNodes.{AreSeen, IsMarkOfTurn}
-use Rattle.path_tools.proofs.SeenTurns.{low_mark, pushed_each}
+use Rattle.path_tools.proofs.SeenTurns.{low_mark}
+use Rattle.path_tools.proofs.ListPlaces.{pushed_each}
 use Rattle.path_tools.proofs.SeenStarts.{one_counted}
 use Rattle.path_tools.proofs.seen_nodes.seen_by_turn.Goals as goal
 

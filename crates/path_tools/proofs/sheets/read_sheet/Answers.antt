@@ -19,9 +19,11 @@ returns-in_default-clause-broken c =
     (rw c.in-Ok.is at c.in_ok-read.ensures.text) c.in_default.ensures.none)
 
 -- what was read up to the nodes
-tree : (c : In_ok-knots)
-    → ReadsTree (record { marks = c.args.marks; informed = c.args.informed }) c.args.report.now (path_of_way c.in-Ok.read.0) c.in-Some.tally c.in_ok-knots.knots.items
-    c.in_ok-knots.nodes c.in_ok-knots.rest.now
+abbrev ReadsAll : In_ok-knots → Type 0
+ReadsAll c = ReadsTree (record { marks = c.args.marks; informed = c.args.informed }) c.args.report.now (path_of_way c.in-Ok.read.0)
+    c.in-Some.tally c.in_ok-knots.knots.items c.in_ok-knots.nodes c.in_ok-knots.rest.now
+
+tree : (c : In_ok-knots) → ReadsAll c
 tree c = record {
   front = c.in-Ok.read.1.now;
   middle = c.in-Some.rest.now;
@@ -33,14 +35,7 @@ tree c = record {
 }
 
 few : (c : In_ok-knots) → c.path_line_count-counts_line.result + 1 + c.in_ok-knots.nodes ≤ length c.args.report.now
-few c =
-    let extent : Extent = record { marks = c.args.marks; informed = c.args.informed } in
-    omega (
-      arith,
-      c.path_line_count-counts_line.ensures,
-      tree_lines_few extent c.args.report.now (path_of_way c.in-Ok.read.0) c.in-Some.tally c.in_ok-knots.knots.items c.in_ok-knots.nodes c.in_ok-knots.rest.now
-          (tree c),
-    )
+few c = omega (arith, c.path_line_count-counts_line.ensures, tree_lines_few (tree c))
 
 pub overflow_add-nodes_end : goal.overflow_add-nodes_end
 overflow_add-nodes_end c = omega (arith, few (goal.at.overflow_add-nodes_end c).In_ok-knots, c.requires.short)
@@ -57,26 +52,23 @@ returns-then-nodes-eq0-clause-broken c =
       | inr both ↦ inr both.1
     ] in
     subst (BreaksFormFirst extent c.args.report.now) (ap (λ n. n + 1 + c.in_ok-knots.nodes + 1) (sym c.path_line_count-counts_line.ensures))
-    (breaks_nodes extent c.args.report.now (path_of_way c.in-Ok.read.0) c.in-Some.tally c.in_ok-knots.knots.items c.in_ok-knots.nodes c.in_ok-knots.rest.now
-    (tree (goal.at.returns-then-nodes-eq0-clause-broken c).In_ok-knots) lacking)
+    (breaks_nodes (tree (goal.at.returns-then-nodes-eq0-clause-broken c).In_ok-knots) lacking)
 
 -- all nodes were read
 all : (c : After-len-then-len-marks) → c.in_ok-knots.nodes ≡ c.in-Some.tally.nodes
 all c = omega (arith, c.if-nodes-tally.false, (c.in_ok-knots.ensures).few)
 
 few_all : (c : After-len-then-len-marks)
-    → ReadsTree (record { marks = c.args.marks; informed = c.args.informed }) c.args.report.now (path_of_way c.in-Ok.read.0) c.in-Some.tally c.in_ok-knots.knots.items
-    c.in_ok-knots.nodes c.in_ok-knots.rest.now
+    → ReadsTree (record { marks = c.args.marks; informed = c.args.informed }) c.args.report.now (path_of_way c.in-Ok.read.0)
+    c.in-Some.tally c.in_ok-knots.knots.items c.in_ok-knots.nodes c.in_ok-knots.rest.now
     → c.path_line_count-counts_line.result + 1 + c.in_ok-knots.nodes + c.len-then-len-marks.result ≤ length c.args.report.now
 few_all c read =
-    let extent : Extent = record { marks = c.args.marks; informed = c.args.informed } in
     omega (
       arith,
       c.path_line_count-counts_line.ensures,
       c.len-then-len-marks.ensures,
       c.in_ok-records.records.ok,
-      all_lines_few extent c.args.report.now (path_of_way c.in-Ok.read.0) c.in-Some.tally c.in_ok-knots.knots.items c.in_ok-knots.nodes c.in_ok-knots.rest.now
-          read c.in_ok-records.records.items c.in_ok-records.rest.now (all c) (omega (arith, c.if-nodes-eq0.false)) c.in_ok-records.ensures,
+      all_lines_few read (all c) (omega (arith, c.if-nodes-eq0.false)) c.in_ok-records.ensures,
     )
 
 pub overflow_add-result-then-len-marks : goal.overflow_add-result-then-len-marks
@@ -103,16 +95,12 @@ returns-then-len-marks-clause-broken c =
     ≡ c.path_line_count-counts_line.result + 1 + c.in_ok-knots.nodes + c.len-then-len-marks.result + 1 =
     omega (arith, c.path_line_count-counts_line.ensures, c.len-then-len-marks.ensures, c.in_ok-records.records.ok) in
     subst (BreaksFormFirst extent c.args.report.now) number
-    (breaks_marks extent c.args.report.now (path_of_way c.in-Ok.read.0) c.in-Some.tally c.in_ok-knots.knots.items c.in_ok-knots.nodes c.in_ok-knots.rest.now
-    (tree at.In_ok-knots) c.in_ok-records.records.items c.in_ok-records.rest.now (all at.After-len-then-len-marks) (omega (arith, c.if-nodes-eq0.false)) c.in_ok-records.ensures
-    lacking)
+    (breaks_marks (tree at.In_ok-knots) (all at.After-len-then-len-marks) (omega (arith, c.if-nodes-eq0.false)) c.in_ok-records.ensures lacking)
 
 pub returns-clause-spelled : goal.returns-clause-spelled
 returns-clause-spelled c =
-    let extent : Extent = record { marks = c.args.marks; informed = c.args.informed } in
     let told = c.in_ok-records.ensures in
-    spells_sheet extent c.args.report.now (path_of_way c.in-Ok.read.0) c.in-Some.tally c.in_ok-knots.knots.items c.in_ok-knots.nodes c.in_ok-knots.rest.now
-    (tree (goal.at.returns-clause-spelled c).In_ok-knots) c.in_ok-records.records.items c.in_ok-records.rest.now
+    spells_sheet (tree (goal.at.returns-clause-spelled c).In_ok-knots)
     (omega (arith, c.if-nodes-tally.false, (c.in_ok-knots.ensures).few)) (omega (arith, c.if-nodes-eq0.false)) told
     (omega (arith, c.if-len-marks.false, c.len.ensures, c.in_ok-records.records.ok, told.few))
     (nil_from_length c.in_ok-records.rest.now (eqb-true (length c.in_ok-records.rest.now) 0 (sym c.if-not-is_empty.ensures)))

@@ -1,14 +1,13 @@
-use Rattle.std.proofs.Common.{◌≡◌, ℕ, ◌≤◌, List, Option, Some, None, length, arith, sym, ap, ◌∙◌, subst}
+use Rattle.std.proofs.Common.{◌≡◌, ℕ, ◌≤◌, List, Option, Some, None, length, arith, sym, subst}
 use Rattle.std.specs.Prelude.{slice_get, slice_index_or}
 use Rattle.plan_model.specs.declared.limits.TheConstants.{MOST_MARKS}
 use Rattle.plan_model.specs.declared.records.Record.{Record}
 use Rattle.plan_model.specs.declared.trees.Knot.{Knot}
 use Rattle.step_core.specs.PackedRuns.{state_of_lists}
-use Rattle.path_tools.specs.declared.verdicts.Verdict.TheVariants.{Broken}
 use Rattle.path_tools.specs.ExactEdges.{FitsEdges}
-use Rattle.path_tools.specs.FirstBreaks.{HasFewTurns}
+use Rattle.path_tools.specs.FirstBreaks.{HasFewTurns, IsFirstBreak}
 use Rattle.path_tools.specs.Judgements.{IsVerdict, bytes_of}
-use Rattle.path_tools.specs.JudgedRuns.{HaveLowTurns}
+use Rattle.path_tools.specs.JudgedRuns.{HaveLowTurns, KeepsRecord}
 use Rattle.path_tools.specs.OwnNodes.{ArePresent, FitFirstCosts}
 use Rattle.path_tools.specs.ReportLines.{extent_of}
 use Rattle.path_tools.specs.SeenNodes.{HaveOwnTurns}
@@ -16,7 +15,9 @@ use Rattle.path_tools.specs.SheetsRead.{sheet_read}
 use Rattle.path_tools.proofs.BrokenLines.{KeepsLaw-records}
 use Rattle.path_tools.proofs.SheetFacts.{few_knots, few_records, few_turns, first_costs, knots_fit, low_turns_of_law, own_turns_of_law, present_of_law}
 use Rattle.path_tools.proofs.SheetVerdicts.{broken_record, mark_low, record_by}
+use Rattle.path_tools.proofs.verdicts.record_verdict.Given.{Over}
 use Rattle.path_tools.proofs.verdicts.record_verdict.Goals as goal
+use Rattle.path_tools.proofs.verdicts.record_verdict.Goals.{In_ok-first}
 
 pub first_unlawful-requires-clause-few : goal.first_unlawful-requires-clause-few
 first_unlawful-requires-clause-few g c κs met =
@@ -54,39 +55,34 @@ first_unlawful-requires-clause-low g c κs met =
     subst HaveLowTurns (sym c.deref-2.ensures.value)
     (low_turns_of_law c.args.task.now (sheet_read c.args.sheet.now) c.requires.form c.requires.turns)
 
-pub mark_line-requires-clause-few : goal.mark_line-requires-clause-few
-mark_line-requires-clause-few g c = few_knots c.args.task.now (sheet_read c.args.sheet.now) c.requires.form
-
-pub mark_line-requires-clause-low : goal.mark_line-requires-clause-low
-mark_line-requires-clause-low g c =
+-- the first record that breaks the law
+unlawful : (g : Over) (c : In_ok-first g) (first : Option ℕ) → c.in_ok-first.first ≡ first
+    → IsFirstBreak (KeepsRecord c.args.task.now (sheet_read c.args.sheet.now).knots (sheet_read c.args.sheet.now).records)
+    (length (sheet_read c.args.sheet.now).records) first
+unlawful g c first is =
     let sheet = sheet_read c.args.sheet.now in
-    omega (
-      arith,
-      c.requires.short,
-      mark_low c.args.task.now sheet c.requires.form c.in-Some.mark (record_by c.args.task.now sheet.knots c.deref.result.now sheet.records c.deref-2.result.now c.in_ok-first.first (Some c.in-Some.mark) c.deref.ensures.value
-          c.deref-2.ensures.value c.in-Some.is c.in_ok-first.ensures).0,
-    )
+    record_by c.args.task.now sheet.knots c.deref.result.now sheet.records c.deref-2.result.now c.in_ok-first.first first c.deref.ensures.value
+    c.deref-2.ensures.value is c.in_ok-first.ensures
 
-pub broken-requires : goal.broken-requires
-broken-requires g c =
+pub broken_mark-requires-clause-few : goal.broken_mark-requires-clause-few
+broken_mark-requires-clause-few g c = few_knots c.args.task.now (sheet_read c.args.sheet.now) c.requires.form
+
+pub broken_mark-requires-clause-low : goal.broken_mark-requires-clause-low
+broken_mark-requires-clause-low g c =
     let sheet = sheet_read c.args.sheet.now in
-    omega (
-      arith,
-      c.requires.short,
-      c.mark_line.ensures,
-      mark_low c.args.task.now sheet c.requires.form c.in-Some.mark (record_by c.args.task.now sheet.knots c.deref.result.now sheet.records c.deref-2.result.now c.in_ok-first.first (Some c.in-Some.mark) c.deref.ensures.value
-          c.deref-2.ensures.value c.in-Some.is c.in_ok-first.ensures).0,
-    )
+    let low = mark_low c.args.task.now sheet c.requires.form c.in-Some.mark
+    (unlawful g (goal.at.broken_mark-requires-clause-low g c).In_ok-first (Some c.in-Some.mark) c.in-Some.is).0 in
+    omega (arith, c.requires.short, low)
 
 pub returns-in-Some-clause-broken : goal.returns-in-Some-clause-broken
 returns-in-Some-clause-broken g c =
     let sheet = sheet_read c.args.sheet.now in
-    subst (IsVerdict c.args.task.now (bytes_of sheet)) (sym (c.broken.ensures ∙ ap (λ line. Broken line 5) c.mark_line.ensures))
-    (broken_record c.args.task.now sheet c.requires.form c.requires.nodes c.requires.turns c.requires.presence c.in-Some.mark (record_by c.args.task.now sheet.knots c.deref.result.now sheet.records c.deref-2.result.now c.in_ok-first.first (Some c.in-Some.mark) c.deref.ensures.value
-    c.deref-2.ensures.value c.in-Some.is c.in_ok-first.ensures))
+    subst (IsVerdict c.args.task.now (bytes_of sheet)) (sym c.broken_mark.ensures)
+    (broken_record c.args.task.now sheet c.requires.form c.requires.nodes c.requires.turns c.requires.presence c.in-Some.mark
+    (unlawful g (goal.at.returns-in-Some-clause-broken g c).In_ok-first (Some c.in-Some.mark) c.in-Some.is))
 
 pub returns-in-None-clause-kept : goal.returns-in-None-clause-kept
 returns-in-None-clause-kept g c =
     let sheet = sheet_read c.args.sheet.now in
-    KeepsLaw-records c.args.task.now sheet (record_by c.args.task.now sheet.knots c.deref.result.now sheet.records c.deref-2.result.now c.in_ok-first.first None c.deref.ensures.value
-    c.deref-2.ensures.value c.in-None.is c.in_ok-first.ensures)
+    KeepsLaw-records c.args.task.now sheet
+    (unlawful g (goal.at.returns-in-None-clause-kept g c).In_ok-first None c.in-None.is)
