@@ -3,11 +3,11 @@
 
 Usage: compare.py PROGRAM [FIRST [COUNT]]. For each number from FIRST on (0 and 200 if left out), of each version:
 - `plain`, `plan 1`, `plain full` and `plan 1 full` write what textbook.py writes, and end with its status;
-- `smooth 1` writes what smoothing.py writes;
+- `smooth 1` writes what smoothing.py writes; `smooth 4` shows a clear path into a goal, which no choice of its points makes better;
 - `anytime 1 S`, for a drawn S, writes what anytime.py writes; `anytime 4 S` gives paths that fall to that of its report;
 - `batch 1 S` writes what batch.py writes for this scene and some before it, and for the same with a text with faults among them;
 - `twin 1` writes what twins.py writes; `twin 4` shows a lawful path and counts;
-- `plan W full`, for W of WORKERS, writes a report that judge.py finds lawful;
+- `plan W full`, for W of WORKERS, writes a report that judge.py finds lawful, with no worker from W on;
 - `show` writes the canonical text, `convert` that of the scene in version 2, and both for a text with faults the line and the kind of
   the first;
 - the judge refuses a report in which one number is changed, or the change is counted as one that is lawful too.
@@ -20,6 +20,7 @@ import re
 import subprocess
 import sys
 from collections import Counter
+from dataclasses import replace
 
 from anytime import anytime_answer, fit
 from batch import batch_answer
@@ -28,13 +29,21 @@ from judge import verdict
 from make_scenes import scene_of, with_faults
 from rules import mark_points
 from scene import Fault, read
-from smoothing import smoothed_answer
+from smoothing import smoothed_answer, smoothed_report
 from textbook import answer
 from twins import twin_answer, twin_verdict
 from usage import words_or_usage
 
 # How many workers plan each scene.
 WORKERS = (1, 2, 3, 4, 16, 64)
+
+# No edge is longer than this.
+LONGEST = 2**21
+
+
+def workers_of(report):
+    """The workers that the lines of marks name."""
+    return {int(worker) for worker in re.findall(r"^mark \d+ worker (\d+) ", report, re.MULTILINE)}
 
 
 def is_refused(text):
@@ -74,7 +83,7 @@ class Comparison:
             for planner in ("plain", "plan 1"):
                 words = f"{planner} full" if full else planner
                 self.note(number, f"{words}, by the textbook", self.run(words, text) == wanted)
-        self.note(number, "smooth 1, by all choices", self.run("smooth 1", text) == smoothed_answer(text))
+        self.compare_smoothed(number, scene, text)
         self.compare_slices(number, scene, text)
         self.compare_twins(number, scene, text)
         self.compare_batches(number, version)
@@ -84,8 +93,20 @@ class Comparison:
             if status > 1:
                 self.note(number, f"{words}, refused", (output, status) == answer(text, True))
                 continue
-            self.note(number, words, verdict(scene, output) == "lawful")
+            self.note(number, words, verdict(scene, output) == "lawful" and all(w < workers for w in workers_of(output)))
             self.compare_mutant(number, scene, output)
+
+    def compare_smoothed(self, number, scene, text):
+        """Compares the smoothed path, and what shows of that of several workers."""
+        wanted = smoothed_answer(text)
+        self.note(number, "smooth 1, by all choices", self.run("smooth 1", text) == wanted)
+        output, status = self.run("smooth 4", text)
+        if wanted[1] > 1:
+            self.note(number, "smooth 4, refused", (output, status) == wanted)
+            return
+        lawful = verdict(replace(scene, step=LONGEST), output, False) == "lawful"
+        right = lawful and smoothed_report(output, Space(scene)) == output and status == output.startswith("no path\n")
+        self.note(number, "smooth 4, as far as it shows", right)
 
     def compare_slices(self, number, scene, text):
         """Compares the better paths that come slice by slice."""
