@@ -1,13 +1,18 @@
 -- The nodes and the records of a report, with the nodes of a worker, by which its marks are judged.
-use Rattle.std.specs.Prelude.{◌≡◌, ℕ, suc, ◌<◌, ◌≤◌, List, Option, Some, None, length, slice_get, slice_index_or}
+use Rattle.std.specs.Prelude.{◌≡◌, ℕ, suc, ◌<◌, ◌≤◌, ◌^◌, List, Option, Some, None, length, slice_get, slice_index_or}
+use Rattle.plan_model.specs.declared.configuration_spaces.ConfigurationSpace.{ConfigurationSpace}
+use Rattle.plan_model.specs.declared.geometry.Point.{Point}
 use Rattle.plan_model.specs.declared.limits.TheConstants.{MOST_MARKS}
 use Rattle.plan_model.specs.declared.records.Record.{Record}
+use Rattle.plan_model.specs.declared.scenes.Scene.{Scene}
 use Rattle.plan_model.specs.declared.tasks.Task.{Task}
 use Rattle.plan_model.specs.declared.trees.Knot.{Knot}
+use Rattle.plan_model.specs.Geometry.Bounds.{IsBounded}
 use Rattle.plan_model.specs.Runs.ClosedLaw.{mark_at}
 use Rattle.plan_model.specs.Runs.RecordLaw.{IsLawfulRecord}
 use Rattle.plan_model.specs.Runs.Textbook.{setup_of}
 use Rattle.plan_model.specs.Runs.Turns.{turns_of}
+use Rattle.plan_model.specs.Spaces.ConfigurationSpace.{space_of}
 use Rattle.plan_model.specs.Trees.PointsByNumber.{node_count}
 use Rattle.plan_model.specs.Trees.TreeStates.{TreeState}
 use Rattle.step_core.specs.PackedRuns.{state_of_lists}
@@ -28,6 +33,14 @@ pub record IsJudged (worker : ℕ) (judged : Judged) : Type 0 where
   pub present : ArePresent (run_of judged)
   pub own : AreOwnNodes (run_of judged) worker judged.own.now
   pub count : judged.nodes ≡ node_count (run_of judged).points
+
+-- What each question about the record of a mark and a point asks for: the space is the scene's, the lists are those by which marks of
+-- the record's worker are judged, its first cost has at most 44 bits, and the point is within bounds.
+pub record IsAsked (space : ConfigurationSpace) (scene : Scene) (judged : Judged) (entry : Record) (p : Point) : Type 0 where
+  pub space_is : space ≡ space_of scene
+  pub judges : IsJudged entry.worker judged
+  pub own : entry.first_cost < 2 ^ 44
+  pub bounded : IsBounded p
 
 -- ---- the law of records, mark by mark
 

@@ -1,16 +1,15 @@
 //! Whether the record of a mark keeps the law of records.
 
-ghost use Rattle.std.specs.Prelude.{◌≡◌, ◌↔◌, ◌<◌, ◌≤◌, ◌^◌, IsFalse, IsTrue};
+ghost use Rattle.std.specs.Prelude.{◌≡◌, ◌↔◌, ◌<◌, ◌≤◌, IsFalse, IsTrue};
 ghost use Rattle.plan_model.specs.Geometry.Bounds.{IsBounded};
 ghost use Rattle.plan_model.specs.Geometry.Radius.{radius_of_class};
 ghost use Rattle.plan_model.specs.Runs.RecordLaw.{HasClass, earlier_count, IsBlockedLawfully, IsChosenLawfully};
 ghost use Rattle.plan_model.specs.Runs.RecordLaw.{IsLawfulRecord, IsSkippedLawfully, IsSteeredLawfully};
 ghost use Rattle.plan_model.specs.Runs.Textbook.{Setup, mark_bound, setup_of, skipping_goals};
 ghost use Rattle.plan_model.specs.Spaces.Clearance.{Clear};
-ghost use Rattle.plan_model.specs.Spaces.ConfigurationSpace.{space_of};
 ghost use Rattle.plan_model.specs.Trees.PointsByNumber.{IsPresent, node_count, point_of};
 ghost use Rattle.plan_model.specs.declared.limits.TheConstants.{MOST_MARKS};
-ghost use Rattle.path_tools.specs.JudgedRuns.{IsJudged, run_of};
+ghost use Rattle.path_tools.specs.JudgedRuns.{IsAsked, IsJudged, run_of};
 ghost use Rattle.path_tools.specs.MarkLaws.{AreDearer, EndsLawfully};
 ghost use Rattle.path_tools.specs.SeenNodes.{AreSeen};
 ghost use Rattle.path_tools.specs.declared.judged.Judged.{Judged};
@@ -37,11 +36,8 @@ pub(crate) fn is_lawful<C: Clearing>(
     entry: Record,
     point: Point,
 ) -> bool
-    requires hall { C.space hall.now ≡ space_of scene.now }
-    requires judged { IsJudged entry.worker judged.now }
-    requires own { entry.first_cost < 2 ^ 44 }
+    requires asked { IsAsked (C.space hall.now) scene.now judged.now entry point }
     requires low { mark < MOST_MARKS }
-    requires point { IsBounded point }
     requires seen { AreSeen (skipping_goals scene.now) (run_of judged.now) entry.worker entry.turn seen }
     ensures lawful { IsTrue result → IsLawfulRecord (setup_of scene.now) (run_of judged.now) mark point entry }
     ensures only { IsFalse result → ¬ IsLawfulRecord (setup_of scene.now) (run_of judged.now) mark point entry }
@@ -78,11 +74,8 @@ fn is_steered_lawfully<C: Clearing>(
     entry: Record,
     point: Point,
 ) -> bool
-    requires hall { C.space hall.now ≡ space_of scene.now }
-    requires judged { IsJudged entry.worker judged.now }
-    requires own { entry.first_cost < 2 ^ 44 }
+    requires asked { IsAsked (C.space hall.now) scene.now judged.now entry point }
     requires low { mark < MOST_MARKS }
-    requires point { IsBounded point }
     requires seen { AreSeen (skipping_goals scene.now) (run_of judged.now) entry.worker entry.turn seen }
     ensures lawful { IsTrue result → IsSteeredLawfully (setup_of scene.now) (run_of judged.now) point entry
         (EndsLawfully (setup_of scene.now) (run_of judged.now) mark entry entry.outcome) }
@@ -127,11 +120,8 @@ fn ends_lawfully<C: Clearing>(
     entry: Record,
     p: Point,
 ) -> bool
-    requires hall { C.space hall.now ≡ space_of scene.now }
-    requires judged { IsJudged entry.worker judged.now }
-    requires own { entry.first_cost < 2 ^ 44 }
+    requires asked { IsAsked (C.space hall.now) scene.now judged.now entry p }
     requires low { mark < MOST_MARKS }
-    requires p { IsBounded p }
     requires seen { AreSeen (skipping_goals scene.now) (run_of judged.now) entry.worker entry.turn seen }
     requires nearest { IsPresent (run_of judged.now).points entry.nearest }
     ensures lawful { IsTrue result → EndsLawfully (setup_of scene.now) (run_of judged.now) mark entry entry.outcome p }
@@ -191,10 +181,7 @@ fn is_chosen_lawfully<C: Clearing>(
     entry: Record,
     p: Point,
 ) -> bool
-    requires hall { C.space hall.now ≡ space_of scene.now }
-    requires judged { IsJudged entry.worker judged.now }
-    requires own { entry.first_cost < 2 ^ 44 }
-    requires p { IsBounded p }
+    requires asked { IsAsked (C.space hall.now) scene.now judged.now entry p }
     requires seen { AreSeen (skipping_goals scene.now) (run_of judged.now) entry.worker entry.turn seen }
     requires nearest { IsPresent (run_of judged.now).points entry.nearest }
     ensures lawful { IsTrue result → IsChosenLawfully (setup_of scene.now) (run_of judged.now) entry p (node_count (run_of judged.now).points) }

@@ -1,15 +1,14 @@
 //! Whether what the record of a placed mark says is borne out by the tree.
 
-ghost use Rattle.std.specs.Prelude.{◌≡◌, ◌<◌, ◌^◌, IsFalse, IsTrue, List};
+ghost use Rattle.std.specs.Prelude.{◌<◌, IsFalse, IsTrue, List};
 ghost use Rattle.plan_model.specs.Geometry.Bounds.{IsBounded};
 ghost use Rattle.plan_model.specs.Runs.RecordLaw.{HangsLawfully};
 ghost use Rattle.plan_model.specs.Runs.Textbook.{setup_of};
-ghost use Rattle.plan_model.specs.Spaces.ConfigurationSpace.{space_of};
 ghost use Rattle.plan_model.specs.Trees.PointsByNumber.{IsPresent, StandsAt};
 ghost use Rattle.plan_model.specs.declared.limits.TheConstants.{MOST_MARKS};
 ghost use Rattle.plan_model.specs.declared.records.Record.{Record};
 ghost use Rattle.step_core.specs.PackedRuns.{state_of_lists};
-ghost use Rattle.path_tools.specs.JudgedRuns.{IsJudged, run_of};
+ghost use Rattle.path_tools.specs.JudgedRuns.{IsAsked, IsJudged, run_of};
 ghost use Rattle.path_tools.specs.MarkLaws.{IsWithinFirst};
 
 use crate::best_paths::kept_cost;
@@ -31,11 +30,8 @@ pub(crate) fn hangs_lawfully<C: Clearing>(
     entry: Record,
     p: Point,
 ) -> bool
-    requires hall { C.space hall.now ≡ space_of scene.now }
-    requires judged { IsJudged entry.worker judged.now }
-    requires own { entry.first_cost < 2 ^ 44 }
+    requires asked { IsAsked (C.space hall.now) scene.now judged.now entry p }
     requires low { mark < MOST_MARKS }
-    requires p { IsBounded p }
     requires nearest { IsPresent (run_of judged.now).points entry.nearest }
     ensures lawful { IsTrue result → HangsLawfully (setup_of scene.now) (run_of judged.now) mark entry p }
     ensures only { IsFalse result → ¬ HangsLawfully (setup_of scene.now) (run_of judged.now) mark entry p }

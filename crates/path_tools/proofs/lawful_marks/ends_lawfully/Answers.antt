@@ -17,9 +17,9 @@ returns-in-Same-clause-only g c = λ h bad.
 pub returns-in-Blocked-clause-lawful : goal.returns-in-Blocked-clause-lawful
 returns-in-Blocked-clause-lawful g c = λ h.
     subst (λ o. EndsLawfully (setup_of c.args.scene.now) (run_of c.args.judged.now) c.args.mark c.args.entry o c.args.p) (sym c.in-Blocked.is)
-    (c.is_blocked_lawfully.ensures.lawful h (setup_of c.args.scene.now) (sym c.requires.hall))
+    (c.is_blocked_lawfully.ensures.lawful h (setup_of c.args.scene.now) (sym c.requires.asked.space_is))
 
 pub returns-in-Blocked-clause-only : goal.returns-in-Blocked-clause-only
 returns-in-Blocked-clause-only g c = λ h bad.
-    c.is_blocked_lawfully.ensures.only h (setup_of c.args.scene.now) (sym c.requires.hall)
+    c.is_blocked_lawfully.ensures.only h (setup_of c.args.scene.now) (sym c.requires.asked.space_is)
     (subst (λ o. EndsLawfully (setup_of c.args.scene.now) (run_of c.args.judged.now) c.args.mark c.args.entry o c.args.p) c.in-Blocked.is bad)

@@ -17,7 +17,7 @@ pub returns-then-not-is_clear_from_nearest-clause-only : goal.returns-then-not-i
 returns-then-not-is_clear_from_nearest-clause-only g c = λ h bad.
     true≢false
     (sym (c.is_clear_from_nearest.ensures.1
-    (subst (λ s. Clear s (point_of (run_of c.args.judged.now).points c.args.entry.nearest) c.args.p) (sym c.requires.hall) bad.clear))
+    (subst (λ s. Clear s (point_of (run_of c.args.judged.now).points c.args.entry.nearest) c.args.p) (sym c.requires.asked.space_is) bad.clear))
     ∙ c.if-not-is_clear_from_nearest.true)
 
 pub returns-clause-lawful : goal.returns-clause-lawful
@@ -27,15 +27,15 @@ returns-clause-lawful g c = λ h.
     let kept = c.keeps_near.ensures.kept h in
     record {
       clear =
-          subst (λ s. Clear s (point_of run.points c.args.entry.nearest) p) c.requires.hall
+          subst (λ s. Clear s (point_of run.points c.args.entry.nearest) p) c.requires.asked.space_is
           (c.is_clear_from_nearest.ensures.0 c.if-not-is_clear_from_nearest.false);
       of_class = c.has_class.ensures.class c.if-not-has_class.false;
       chosen = λ i near.
           (kept i near.earlier (subst (λ r. IsTrue (is_within p r (point_at run.points i))) (sym c.radius_of_class-radius.ensures) near.near)
-          (subst (λ s. Clear s (point_of run.points i) p) (sym c.requires.hall) near.clear)).chosen;
+          (subst (λ s. Clear s (point_of run.points i) p) (sym c.requires.asked.space_is) near.clear)).chosen;
       rewired = λ i near.
           (kept i near.earlier (subst (λ r. IsTrue (is_within p r (point_at run.points i))) (sym c.radius_of_class-radius.ensures) near.near)
-          (subst (λ s. Clear s (point_of run.points i) p) (sym c.requires.hall) near.clear)).rewired;
+          (subst (λ s. Clear s (point_of run.points i) p) (sym c.requires.asked.space_is) near.clear)).rewired;
     }
 
 pub returns-clause-only : goal.returns-clause-only
@@ -48,6 +48,6 @@ returns-clause-only g c = λ h bad.
     record {
       earlier = earlier;
       near = subst (λ r. IsTrue (is_within p r (point_at run.points i))) c.radius_of_class-radius.ensures within;
-      clear = subst (λ s. Clear s (point_of run.points i) p) c.requires.hall cleared;
+      clear = subst (λ s. Clear s (point_of run.points i) p) c.requires.asked.space_is cleared;
     } in
     record { chosen = bad.chosen i near; rewired = bad.rewired i near })

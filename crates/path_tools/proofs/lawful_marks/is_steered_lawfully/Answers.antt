@@ -23,12 +23,17 @@ is_nearest-requires-clause-distance g c =
     ∙ ap (λ q. squared_distance q c.args.point)
     (sym (point_of-listed c.args.judged.now.knots.now c.args.judged.now.records.now c.args.entry.nearest c.in-Some.nearest (sym c.in-Some.ensures)))
 
-pub ends_lawfully-requires-clause-p : goal.ends_lawfully-requires-clause-p
-ends_lawfully-requires-clause-p g c = λ κs within.
-    let from = (c.requires.judged.fit c.args.entry.nearest c.in-Some.nearest (sym c.in-Some.ensures)).point in
+pub ends_lawfully-requires-clause-asked : goal.ends_lawfully-requires-clause-asked
+ends_lawfully-requires-clause-asked g c = λ κs within.
+    let from = (c.requires.asked.judges.fit c.args.entry.nearest c.in-Some.nearest (sym c.in-Some.ensures)).point in
     record {
-      right = omega (arith, c.steer-p.ensures.right, from.right, c.requires.point.right);
-      top = omega (arith, c.steer-p.ensures.top, from.top, c.requires.point.top);
+      space_is = c.requires.asked.space_is;
+      judges = c.requires.asked.judges;
+      own = c.requires.asked.own;
+      bounded = record {
+        right = omega (arith, c.steer-p.ensures.right, from.right, c.requires.asked.bounded.right);
+        top = omega (arith, c.steer-p.ensures.top, from.top, c.requires.asked.bounded.top);
+      };
     }
 
 pub ends_lawfully-requires-clause-nearest : goal.ends_lawfully-requires-clause-nearest

@@ -7,16 +7,24 @@ use Rattle.plan_model.specs.Geometry.Bounds.{IsBounded}
 use Rattle.plan_model.specs.Runs.RecordLaw.{IsLawfulRecord}
 use Rattle.plan_model.specs.Runs.Textbook.{setup_of, skipping_goals}
 use Rattle.plan_model.proofs.MarkBounds.{All-task_marks_within}
-use Rattle.path_tools.specs.JudgedRuns.{run_of}
+use Rattle.path_tools.specs.JudgedRuns.{IsJudged, run_of}
 use Rattle.path_tools.specs.SeenNodes.{AreSeen}
 use Rattle.path_tools.proofs.lawful_records.first_unlawful_mark.Goals as goal
 use Rattle.path_tools.proofs.lawful_records.first_unlawful_mark.Goals.{then-entry-worker+else-not-is_lawful, else-entry-worker}
 
-pub is_lawful-requires-clause-point : goal.is_lawful-requires-clause-point
-is_lawful-requires-clause-point g c = λ κs within.
+pub is_lawful-requires-clause-asked : goal.is_lawful-requires-clause-asked
+is_lawful-requires-clause-asked g c = λ κs within.
     let origin : Point = record { x = 0; y = 0 } in
-    subst (λ ps. IsBounded (slice_index_or ps c.loop-mark.mark origin)) (sym c.as_slice-points.ensures)
-    (All-task_marks_within c.args.task.now c.loop-mark.mark origin (omega (arith, c.loop-mark-test.true, c.requires.marks)))
+    let records = c.args.judged.now.records.now in
+    let entry = c.entry-item.result in
+    record {
+      space_is = c.requires.hall;
+      judges = subst (λ w. IsJudged w c.args.judged.now) (sym c.if-entry-worker.true) c.requires.judged;
+      own = c.requires.judged.first c.loop-mark.mark entry
+          (slice_get_read records (length records) c.loop-mark.mark entry refl c.loop-mark-test.true c.entry-item.is);
+      bounded = subst (λ ps. IsBounded (slice_index_or ps c.loop-mark.mark origin)) (sym c.as_slice-points.ensures)
+          (All-task_marks_within c.args.task.now c.loop-mark.mark origin (omega (arith, c.loop-mark-test.true, c.requires.marks)));
+    }
 
 pub is_lawful-requires-clause-seen : goal.is_lawful-requires-clause-seen
 is_lawful-requires-clause-seen g c = λ κs within.

@@ -24,9 +24,9 @@ returns-clause-lawful g c = λ h.
     let entry = c.args.entry in
     let place : Knot = record { point = c.args.p; parent = entry.first_parent; cost = entry.first_cost } in
     let next : suc c.args.mark ≡ c.args.mark + 1 = omega arith in
-    let nodes : c.from-2.result ≡ node_count run.points - 1 = omega (arith, c.from-2.ensures, c.requires.judged.count) in
+    let nodes : c.from-2.result ≡ node_count run.points - 1 = omega (arith, c.from-2.ensures, c.requires.asked.judges.count) in
     let hangs =
-    Hangs-listed knots records setup (g.C.Clearing.space c.args.hall.now) (sym c.requires.hall) (c.from-3.result * c.from-4.result)
+    Hangs-listed knots records setup (g.C.Clearing.space c.args.hall.now) (sym c.requires.asked.space_is) (c.from-3.result * c.from-4.result)
     (λ i. sym c.from-3.ensures i * sym c.from-4.ensures i) (c.args.mark + 1) place (c.may_hang.ensures.hangs h) in
     record {
       stands = subst (λ n. StandsAt run.points n c.args.p) (sym next) (c.stands_at.ensures.stands c.if-not-stands_at.false records);
@@ -52,6 +52,6 @@ returns-clause-only g c = λ h bad.
     let place : Knot = record { point = c.args.p; parent = entry.first_parent; cost = entry.first_cost } in
     let next : suc c.args.mark ≡ c.args.mark + 1 = omega arith in
     c.may_hang.ensures.only h
-    (listed-Hangs c.args.judged.now.knots.now c.args.judged.now.records.now setup (g.C.Clearing.space c.args.hall.now) (sym c.requires.hall)
+    (listed-Hangs c.args.judged.now.knots.now c.args.judged.now.records.now setup (g.C.Clearing.space c.args.hall.now) (sym c.requires.asked.space_is)
     (c.from-3.result * c.from-4.result) (λ i. sym c.from-3.ensures i * sym c.from-4.ensures i) (c.args.mark + 1) place
     (subst (λ n. Hangs setup run n c.args.p entry.first_parent entry.first_cost) next bad.first))
