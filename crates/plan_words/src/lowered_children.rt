@@ -1,6 +1,6 @@
 //! A lowered cost comes to the children of its node.
 
-ghost use Rattle.std.specs.Prelude.{◌≡◌, ◌≢◌, ◌⊎◌, ℕ, suc, ◌+◌, ◌<◌, ◌≤◌, ◌^◌, ◌==◌, if◌then◌else◌, IfErr, IfNone, IfOk, IfSome, IsOk, None, length};
+ghost use Rattle.std.specs.Prelude.{◌≡◌, ◌≢◌, ◌⊎◌, ℕ, suc, ◌+◌, ◌<◌, ◌≤◌, ◌^◌, ◌==◌, if◌then◌else◌, IfErr, IfNone, IfOk, IfSome, IsOk, IsTrue, None, length};
 ghost use Rattle.std.specs.Prelude.{slice_index, slice_set};
 ghost use Rattle.std.specs.Vec.{vec_capacity};
 ghost use Rattle.plan_model.specs.Geometry.Bounds.{IsBounded};
@@ -12,7 +12,7 @@ ghost use Rattle.plan_words.specs.Parents.{FindsLess};
 ghost use Rattle.plan_words.specs.SeenChains.{sibling_chain_in};
 ghost use Rattle.plan_words.specs.States.{BelongsTo, GoesOn, HasFirstPairs, HasWholeShare};
 ghost use Rattle.plan_words.specs.Waiting.{HasSeenParent, IsOn};
-ghost use Rattle.step_core.specs.ChildChains.{IndexesChains, size_of};
+ghost use Rattle.step_core.specs.ChildChains.{IndexesChains};
 ghost use Rattle.step_core.specs.SeenBests.{MayPost, SeesGoal};
 ghost use Rattle.step_core.specs.ViewTrees.{MayLower, SeesNode, SeesPoint};
 ghost use Rattle.step_core.specs.Views.{sees, share};
@@ -259,34 +259,29 @@ pub(crate) fn lower_chain(
     let mut child = children.first_child(above.node);
     'children: while child != 0 {
         let seen = words[child as usize];
+        // Loaded before the exchange, since no later load begins before an exchange has ended.
+        let next = children.next_sibling(child);
+        let has_child = children.first_child(child) != 0;
         let word = match shared.lower_child(seat, above, child, seen) {
             Ok(word) => word,
             Err(found) => return Some((child, found)),
         };
-        write_down(words, children, waiting, child, word);
-        child = children.next_sibling(child);
+        write_down(words, has_child, waiting, child, word);
+        child = next;
     }
     None
 }
 
 /// Writes down the word of a node. If it is another than it was and the node has a child, the node waits then.
-fn write_down(
-    words: &mut Vec<u64>,
-    children: &ChildIndex,
-    waiting: &mut Waiting,
-    node: u32,
-    word: u64,
-)
+fn write_down(words: &mut Vec<u64>, has_child: bool, waiting: &mut Waiting, node: u32, word: u64)
     requires low { node < length words.old.items }
-    requires indexed { node < size_of children.now }
     requires room { node < waiting.old.size }
     ensures words { words.new.items ≡ slice_set words.old.items node word }
     ensures capacity { vec_capacity words.new ≡ vec_capacity words.old }
     ensures kept { waiting.new ≡ record waiting.old { nodes = waiting.new.nodes } }
     ensures keeps { (n : ℕ) → IsOn waiting.old.nodes n → IsOn waiting.new.nodes n }
     ensures only { (n : ℕ) → IsOn waiting.new.nodes n → IsOn waiting.old.nodes n ⊎ (n ≡ node) }
-    ensures parent { (nodes : ℕ) (chain : ℕ → ℕ) (n : ℕ) → IndexesChains nodes chain children.now → chain n ≡ suc node
-        → word ≢ slice_index words.old.items node → IsOn waiting.new.nodes node }
+    ensures parent { IsTrue has_child → word ≢ slice_index words.old.items node → IsOn waiting.new.nodes node }
     ensures same { (waiting.new.nodes ≡ waiting.old.nodes)
         ⊎ ((word ≢ slice_index words.old.items node) × (length waiting.new.nodes ≤ waiting.old.size)) }
 {
@@ -294,7 +289,7 @@ fn write_down(
         return;
     }
     words[node as usize] = word;
-    if children.first_child(node) != 0 {
+    if has_child {
         waiting.push(node);
     }
 }

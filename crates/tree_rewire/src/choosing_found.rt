@@ -66,6 +66,8 @@ pub fn choose_found<C: Clearing>(
 }
 
 /// Loads the costs of a node and of those found, and puts the costs of the edges of these to a point into their records.
+///
+/// The loads come first, in a loop of their own: none of them waits for another then, nor for a square root.
 fn weigh_found(shared: &Shared, pass: &mut Pass, p: Point, nearest: u32)
     requires belongs { BelongsTo pass.old shared.now }
     requires bounded { IsBounded p }
@@ -78,11 +80,37 @@ fn weigh_found(shared: &Shared, pass: &mut Pass, p: Point, nearest: u32)
     ensures loaded { All (IsLoadedSince pass.old.view.steps pass.new.view) (nearest ∷ numbers_of pass.old.lists.search.found) }
     ensures whole { HasWholeShare pass.old.view → SeesAsBefore pass.old.view pass.new.view }
 {
+    load_found(shared, pass, nearest);
+    set_edges(pass, p);
+}
+
+/// Loads the costs of a node and of those found.
+fn load_found(shared: &Shared, pass: &mut Pass, nearest: u32)
+    requires belongs { BelongsTo pass.old shared.now }
+    requires nearest { IsPresent (tree_seen pass.old.view).points nearest }
+    requires stands { All (StandsAsFound pass.old.view) pass.old.lists.search.found }
+    ensures steps { PassSees NamesTree shared.now pass.old pass.new }
+    ensures pairs { All (SeesPair pass.new.view) (nearest ∷ numbers_of pass.old.lists.search.found) }
+    ensures loaded { All (IsLoadedSince pass.old.view.steps pass.new.view) (nearest ∷ numbers_of pass.old.lists.search.found) }
+    ensures whole { HasWholeShare pass.old.view → SeesAsBefore pass.old.view pass.new.view }
+{
     let _pair = shared.tree(pass, nearest);
     let count = pass.found_count();
     'loads: for index in 0..count {
         let found = pass.found(index);
         let _pair = shared.tree(pass, found.node);
+    }
+}
+
+/// Puts the costs of the edges of the nodes found to a point into their records.
+fn set_edges(pass: &mut Pass, p: Point)
+    requires bounded { IsBounded p }
+    requires found { All (λ (f : Found). IsBounded f.point) pass.old.lists.search.found }
+    ensures { pass.new ≡ with_found pass.old pass.old.view (weighed p pass.old.lists.search.found) }
+{
+    let count = pass.found_count();
+    'edges: for index in 0..count {
+        let found = pass.found(index);
         let edge = cost(found.point, p) as u32;
         pass.set_edge(index, edge);
     }

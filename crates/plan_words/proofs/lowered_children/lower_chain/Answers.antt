@@ -1,5 +1,6 @@
-use Rattle.std.proofs.Common.{◌≡◌, ◌≢◌, ◌⊎◌, ◌<◌, ℕ, suc, ap, arith, inl, inr, length, refl, subst, sym, ◌∙◌}
-use Rattle.std.specs.Prelude.{slice_index, slice_set}
+use Rattle.std.proofs.Common.{◌≡◌, ◌≢◌, ◌⊎◌, ◌<◌, ℕ, suc, zero, ap, arith, inl, inr, length, refl, subst, sym, ◌∙◌}
+use Rattle.std.proofs.lemmas.Bool.{ne_eqb}
+use Rattle.std.specs.Prelude.{not, slice_index, slice_set}
 use Rattle.std.proofs.lemmas.List.{get_or_default, length-set}
 use Rattle.plan_words.specs.Parents.{FindsLess}
 use Rattle.plan_words.specs.SeenChains.{sibling_chain_in}
@@ -13,6 +14,8 @@ use Rattle.plan_words.proofs.SeatSteps.{LooksOn-trans}
 use Rattle.plan_words.proofs.SeenChildren.{chain-HasSeenParent}
 use Rattle.plan_words.proofs.lowered_children.lower_chain.Goals as goal
 use Rattle.plan_words.proofs.lowered_children.lower_chain.Goals.{After-lower_child}
+use Rattle.step_core.specs.declared.child_index.ChildIndex.{ChildIndex}
+use Rattle.step_core.specs.ChildChains.{AreMembers, siblings_from}
 use Rattle.step_core.specs.Views.{sees}
 use Rattle.step_core.specs.WordNames.Word.{TreeOf}
 use Rattle.step_core.specs.Words.{best_word, cost_in}
@@ -38,6 +41,28 @@ index-seen-requires c =
     let h = c.children.invariant.lowering in
     let low = child_low _ _ _ _ _ _ _ _ _ _ h c.requires.index (omega (arith, c.children-test.true)) in
     omega (arith, low, h.as_many, c.children.words.ok)
+
+pub next_sibling-next-requires : goal.next_sibling-next-requires
+next_sibling-next-requires c =
+    let words = c.args.words.now.items in
+    let h = c.children.invariant.lowering in
+    let some : 0 < c.children.child = omega (arith, c.children-test.true) in (
+      suc c.args.above.node,
+      omega arith,
+      record {
+        nodes = length words;
+        chain = sibling_chain_in words;
+        chains = c.requires.index;
+        here = child_here _ _ _ _ _ _ _ _ _ _ h c.requires.index some;
+        low = child_low _ _ _ _ _ _ _ _ _ _ h c.requires.index some;
+      },
+    )
+
+pub first_child-has_child-requires : goal.first_child-has_child-requires
+first_child-has_child-requires c =
+    let h = c.children.invariant.lowering in
+    let low = child_low _ _ _ _ _ _ _ _ _ _ h c.requires.index (omega (arith, c.children-test.true)) in
+    omega (arith, low, c.requires.index.firsts)
 
 pub lower_child-requires-clause-above : goal.lower_child-requires-clause-above
 lower_child-requires-clause-above c =
@@ -138,14 +163,6 @@ write_down-requires-clause-low c =
       c.children.invariant.lowering.as_many,
     )
 
-pub write_down-requires-clause-indexed : goal.write_down-requires-clause-indexed
-write_down-requires-clause-indexed c =
-    omega (
-      arith,
-      low (goal.at.write_down-requires-clause-indexed c).After-lower_child,
-      c.requires.index.firsts,
-    )
-
 pub write_down-requires-clause-room : goal.write_down-requires-clause-room
 write_down-requires-clause-room c =
     omega (
@@ -155,20 +172,16 @@ write_down-requires-clause-room c =
       c.requires.size,
     )
 
-pub next_sibling-child-requires : goal.next_sibling-child-requires
-next_sibling-child-requires c =
+-- A node in whose chain another one is has a first child.
+is_some : (index : ChildIndex) (chain : ℕ → ℕ) (l n first : ℕ) → AreMembers chain l (siblings_from index first) → chain n ≡ l → first ≢ 0
+is_some index chain l n zero are own = absurd (omega (arith, are.each n own))
+is_some index chain l n (suc first) are own = omega arith
+
+has_child : (c : After-lower_child) (n : ℕ) → sibling_chain_in c.args.words.now.items n ≡ suc c.children.child → c.first_child-has_child.result ≢ 0
+has_child c n own =
     let words = c.args.words.now.items in
-    let at = (goal.at.next_sibling-child-requires c).After-lower_child in (
-      suc c.args.above.node,
-      omega arith,
-      record {
-        nodes = length words;
-        chain = sibling_chain_in words;
-        chains = c.requires.index;
-        here = here at;
-        low = low at;
-      },
-    )
+    is_some c.args.children.now (sibling_chain_in words) (suc c.children.child) n c.first_child-has_child.result
+    (c.first_child-has_child.ensures (length words) (sibling_chain_in words) c.requires.index) own
 
 pub children-preserved : goal.children-preserved
 children-preserved c =
@@ -200,15 +213,15 @@ children-preserved c =
       capacity = c.write_down.ensures.capacity ∙ c.children.invariant.capacity;
       lowering =
           IsLowering-step c.args.children.now c.args.above.node child c.args.seat.now.me.0 now then _ _ _ _ _ h c.requires.pairs (here at) looks
-          c.lower_child.ensures.others c.lower_child.ensures.points c.next_sibling-child.result c.write_down.new.words.items
-          c.write_down.new.waiting.nodes c.next_sibling-child.ensures
+          c.lower_child.ensures.others c.lower_child.ensures.points c.next_sibling-next.result c.write_down.new.words.items
+          c.write_down.new.waiting.nodes c.next_sibling-next.ensures
           c.in-Ok.ensures.is.0 c.in-Ok.ensures.is.1 falls (subst (HasFirstPairs then) (sym down.words) pairs)
           (subst (λ l. (n : ℕ) → sibling_chain_in l n ≡ sibling_chain_in c.children.words.items n) (sym down.words) chains)
           (ap (λ l. length l) down.words ∙ length-set c.children.words.items child word) down.keeps down.only
           (λ g changed child_of.
-          down.parent (length c.args.words.now.items) (sibling_chain_in c.args.words.now.items) g c.requires.index
-          (sym (h.chains g) ∙ sym (chains g)
-          ∙ chain-HasSeenParent then (slice_set c.children.words.items child word) child g pairs child_of) (changes changed))
+          down.parent
+          (ap not (ne_eqb _ 0 (has_child at g (sym (h.chains g) ∙ sym (chains g)
+          ∙ chain-HasSeenParent then (slice_set c.children.words.items child word) child g pairs child_of)))) (changes changed))
           (elim down.same [
             | inl e ↦ inl e
             | inr more ↦ inr (elim falls [
