@@ -244,6 +244,18 @@ module _
     (entry other : Record) (worker : entry.worker ≡ other.worker) (turn : entry.turn ≡ other.turn)
     (near : entry.nearest < 2 ^ 18) (near_too : other.nearest < 2 ^ 18) (low : (entry.first_parent < 2 ^ 18) × (entry.first_cost < 2 ^ 44))
     (low_too : (other.first_parent < 2 ^ 18) × (other.first_cost < 2 ^ 44)) where
+  same_unplaced : decimal entry.nearest ≡ decimal other.nearest → entry.outcome ≡ other.outcome → AreZeros entry → AreZeros other
+      → HaveSameFields entry other
+  same_unplaced nearest outcome one two = record {
+    worker = worker;
+    turn = turn;
+    nearest = same_number entry.nearest other.nearest (omega (arith, near)) (omega (arith, near_too)) nearest;
+    outcome = outcome;
+    first_parent = one.parent ∙ sym two.parent;
+    first_cost = one.cost ∙ sym two.cost;
+    class = one.class ∙ sym two.class;
+  }
+
   -- records of one worker and turn whose other words are the same
   same_outcomes : (o p : Outcome) → entry.outcome ≡ o → other.outcome ≡ p → last_field o entry.class < 2 ^ 18 → last_field p other.class < 2 ^ 18
       → outcome_words entry o ≡ outcome_words other p → HaveSameFields entry other
@@ -265,43 +277,13 @@ module _
       let nearest : decimal entry.nearest ≡ decimal other.nearest = cc in
       let ended : decimal j ≡ decimal i = cc in
       let node = same_number j i (omega (arith, last)) (omega (arith, last_too)) ended in
-      let one = zeros-same entry j e in
-      let two = zeros-same other i f in
-      record {
-        worker = worker;
-        turn = turn;
-        nearest = same_number entry.nearest other.nearest (omega (arith, near)) (omega (arith, near_too)) nearest;
-        outcome = e ∙ ap Same node ∙ sym f;
-        first_parent = one.parent ∙ sym two.parent;
-        first_cost = one.cost ∙ sym two.cost;
-        class = one.class ∙ sym two.class;
-      }
+      same_unplaced nearest (e ∙ ap Same node ∙ sym f) (zeros-same entry j e) (zeros-same other i f)
   same_outcomes Blocked Blocked e f last last_too h =
       let nearest : decimal entry.nearest ≡ decimal other.nearest = cc in
-      let one = zeros-blocked entry e in
-      let two = zeros-blocked other f in
-      record {
-        worker = worker;
-        turn = turn;
-        nearest = same_number entry.nearest other.nearest (omega (arith, near)) (omega (arith, near_too)) nearest;
-        outcome = e ∙ sym f;
-        first_parent = one.parent ∙ sym two.parent;
-        first_cost = one.cost ∙ sym two.cost;
-        class = one.class ∙ sym two.class;
-      }
+      same_unplaced nearest (e ∙ sym f) (zeros-blocked entry e) (zeros-blocked other f)
   same_outcomes Skipped Skipped e f last last_too h =
       let nearest : decimal entry.nearest ≡ decimal other.nearest = cc in
-      let one = zeros-skipped entry e in
-      let two = zeros-skipped other f in
-      record {
-        worker = worker;
-        turn = turn;
-        nearest = same_number entry.nearest other.nearest (omega (arith, near)) (omega (arith, near_too)) nearest;
-        outcome = e ∙ sym f;
-        first_parent = one.parent ∙ sym two.parent;
-        first_cost = one.cost ∙ sym two.cost;
-        class = one.class ∙ sym two.class;
-      }
+      same_unplaced nearest (e ∙ sym f) (zeros-skipped entry e) (zeros-skipped other f)
   same_outcomes Placed (Same i) e f last last_too h = absurd (cc)
   same_outcomes Placed Blocked e f last last_too h = absurd (cc)
   same_outcomes (Same j) Placed e f last last_too h = absurd (cc)

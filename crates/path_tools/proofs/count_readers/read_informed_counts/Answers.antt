@@ -7,6 +7,7 @@ use Rattle.path_tools.proofs.CountParts.{skipped-informed, parts-informed}
 use Rattle.path_tools.proofs.FieldWords.{none_always}
 use Rattle.path_tools.proofs.LineParts.{field, same_field}
 use Rattle.path_tools.proofs.count_readers.read_informed_counts.Goals as goal
+use Rattle.path_tools.proofs.count_readers.read_informed_counts.Goals.{In_ok-nodes, In_ok-placed, In_ok-same, In_ok-blocked}
 
 -- the line from each of its numbers on
 abbrev from_skipped : (skipped : ℕ) → List ℕ → List ℕ
@@ -28,125 +29,95 @@ from_nodes nodes placed same blocked skipped rest = field (codes "nodes ") nodes
 abbrev HasNoCounts : List ℕ → Type 0
 HasNoCounts text = (tally : Tally) (rest : List ℕ) → FitsTally true tally → text ≡ line_text (Counts tally) ++ rest → ⊥
 
+-- the line by its numbers
+whole : (tally : Tally) (rest : List ℕ) → FitsTally true tally
+    → (count : ℕ) × (line_text (Counts tally) ++ rest ≡ from_nodes tally.nodes tally.placed tally.same tally.blocked count rest) × (count < 2 ^ 64)
+whole tally rest fits =
+    let skipped = skipped-informed tally.skipped fits.skipped in (skipped.0, parts-informed tally skipped.0 rest skipped.1, skipped.2)
+
+-- if such a line stands first, what stands after each of its numbers was read after it
+module _ (tally : Tally) (fits : FitsTally true tally) (count : ℕ) (rest : List ℕ) where
+  after_nodes : (c : In_ok-nodes) → c.args.text.now ≡ from_nodes tally.nodes tally.placed tally.same tally.blocked count rest
+      → c.in_ok-nodes.rest.now ≡ from_placed tally.placed tally.same tally.blocked count rest
+  after_nodes c starts =
+      let read = c.in_ok-nodes.ensures.some in
+      (same_field c.args.text.now (codes "nodes ") c.in_ok-nodes.nodes tally.nodes 32 c.in_ok-nodes.rest.now
+      (from_placed tally.placed tally.same tally.blocked count rest) (omega (arith, read.0)) (omega (arith, fits.nodes)) (omega arith) read.1 starts).1
+
+  after_placed : (c : In_ok-placed) → c.in_ok-nodes.rest.now ≡ from_placed tally.placed tally.same tally.blocked count rest
+      → c.in_ok-placed.rest.now ≡ from_same tally.same tally.blocked count rest
+  after_placed c starts =
+      let read = c.in_ok-placed.ensures.some in
+      (same_field c.in_ok-nodes.rest.now (codes "placed ") c.in_ok-placed.placed tally.placed 32 c.in_ok-placed.rest.now
+      (from_same tally.same tally.blocked count rest) (omega (arith, read.0)) (omega (arith, fits.placed)) (omega arith) read.1 starts).1
+
+  after_same : (c : In_ok-same) → c.in_ok-placed.rest.now ≡ from_same tally.same tally.blocked count rest
+      → c.in_ok-same.rest.now ≡ from_blocked tally.blocked count rest
+  after_same c starts =
+      let read = c.in_ok-same.ensures.some in
+      (same_field c.in_ok-placed.rest.now (codes "same ") c.in_ok-same.same tally.same 32 c.in_ok-same.rest.now
+      (from_blocked tally.blocked count rest) (omega (arith, read.0)) (omega (arith, fits.same)) (omega arith) read.1 starts).1
+
+  after_blocked : (c : In_ok-blocked) → c.in_ok-same.rest.now ≡ from_blocked tally.blocked count rest
+      → c.in_ok-blocked.rest.now ≡ from_skipped count rest
+  after_blocked c starts =
+      let read = c.in_ok-blocked.ensures.some in
+      (same_field c.in_ok-same.rest.now (codes "blocked ") c.in_ok-blocked.blocked tally.blocked 32 c.in_ok-blocked.rest.now
+      (from_skipped count rest) (omega (arith, read.0)) (omega (arith, fits.blocked)) (omega arith) read.1 starts).1
+
 pub returns-in_err-nodes-clause-none : goal.returns-in_err-nodes-clause-none
 returns-in_err-nodes-clause-none c =
     none_always c.from_residual.result (HasNoCounts c.args.text.now)
     (λ tally rest fits e.
-    let skipped = skipped-informed tally.skipped fits.skipped in
-    let count : ℕ = skipped.0 in
-    let low : count < 2 ^ 64 = skipped.2 in
-    let whole : c.args.text.now ≡ from_nodes tally.nodes tally.placed tally.same tally.blocked count rest =
-    e ∙ parts-informed tally count rest skipped.1 in
-    c.in_err-nodes.ensures.none tally.nodes (from_placed tally.placed tally.same tally.blocked count rest)
-    (omega (arith, fits.nodes)) whole)
+    let own = whole tally rest fits in
+    c.in_err-nodes.ensures.none tally.nodes (from_placed tally.placed tally.same tally.blocked own.0 rest) (omega (arith, fits.nodes))
+    (e ∙ own.1))
 
 pub returns-in_err-placed-clause-none : goal.returns-in_err-placed-clause-none
 returns-in_err-placed-clause-none c =
     none_always c.from_residual-in_err-placed.result (HasNoCounts c.args.text.now)
     (λ tally rest fits e.
-    let skipped = skipped-informed tally.skipped fits.skipped in
-    let count : ℕ = skipped.0 in
-    let low : count < 2 ^ 64 = skipped.2 in
-    let whole : c.args.text.now ≡ from_nodes tally.nodes tally.placed tally.same tally.blocked count rest =
-    e ∙ parts-informed tally count rest skipped.1 in
-    let read_nodes = c.in_ok-nodes.ensures.some in
-    let after_nodes =
-    (same_field c.args.text.now (codes "nodes ") c.in_ok-nodes.nodes tally.nodes 32 c.in_ok-nodes.rest.now
-    (from_placed tally.placed tally.same tally.blocked count rest)
-    (omega (arith, read_nodes.0)) (omega (arith, fits.nodes)) (omega arith)
-    read_nodes.1 whole).1 in
-    c.in_err-placed.ensures.none tally.placed (from_same tally.same tally.blocked count rest)
-    (omega (arith, fits.placed)) after_nodes)
+    let at = goal.at.returns-in_err-placed-clause-none c in
+    let own = whole tally rest fits in
+    let nodes = after_nodes tally fits own.0 rest at.In_ok-nodes (e ∙ own.1) in
+    c.in_err-placed.ensures.none tally.placed (from_same tally.same tally.blocked own.0 rest) (omega (arith, fits.placed))
+    nodes)
 
 pub returns-in_err-same-clause-none : goal.returns-in_err-same-clause-none
 returns-in_err-same-clause-none c =
     none_always c.from_residual-in_err-same.result (HasNoCounts c.args.text.now)
     (λ tally rest fits e.
-    let skipped = skipped-informed tally.skipped fits.skipped in
-    let count : ℕ = skipped.0 in
-    let low : count < 2 ^ 64 = skipped.2 in
-    let whole : c.args.text.now ≡ from_nodes tally.nodes tally.placed tally.same tally.blocked count rest =
-    e ∙ parts-informed tally count rest skipped.1 in
-    let read_nodes = c.in_ok-nodes.ensures.some in
-    let after_nodes =
-    (same_field c.args.text.now (codes "nodes ") c.in_ok-nodes.nodes tally.nodes 32 c.in_ok-nodes.rest.now
-    (from_placed tally.placed tally.same tally.blocked count rest)
-    (omega (arith, read_nodes.0)) (omega (arith, fits.nodes)) (omega arith)
-    read_nodes.1 whole).1 in
-    let read_placed = c.in_ok-placed.ensures.some in
-    let after_placed =
-    (same_field c.in_ok-nodes.rest.now (codes "placed ") c.in_ok-placed.placed tally.placed 32 c.in_ok-placed.rest.now
-    (from_same tally.same tally.blocked count rest)
-    (omega (arith, read_placed.0)) (omega (arith, fits.placed)) (omega arith)
-    read_placed.1 after_nodes).1 in
-    c.in_err-same.ensures.none tally.same (from_blocked tally.blocked count rest)
-    (omega (arith, fits.same)) after_placed)
+    let at = goal.at.returns-in_err-same-clause-none c in
+    let own = whole tally rest fits in
+    let nodes = after_nodes tally fits own.0 rest at.In_ok-nodes (e ∙ own.1) in
+    let placed = after_placed tally fits own.0 rest at.In_ok-placed nodes in
+    c.in_err-same.ensures.none tally.same (from_blocked tally.blocked own.0 rest) (omega (arith, fits.same))
+    placed)
 
 pub returns-in_err-blocked-clause-none : goal.returns-in_err-blocked-clause-none
 returns-in_err-blocked-clause-none c =
     none_always c.from_residual-in_err-blocked.result (HasNoCounts c.args.text.now)
     (λ tally rest fits e.
-    let skipped = skipped-informed tally.skipped fits.skipped in
-    let count : ℕ = skipped.0 in
-    let low : count < 2 ^ 64 = skipped.2 in
-    let whole : c.args.text.now ≡ from_nodes tally.nodes tally.placed tally.same tally.blocked count rest =
-    e ∙ parts-informed tally count rest skipped.1 in
-    let read_nodes = c.in_ok-nodes.ensures.some in
-    let after_nodes =
-    (same_field c.args.text.now (codes "nodes ") c.in_ok-nodes.nodes tally.nodes 32 c.in_ok-nodes.rest.now
-    (from_placed tally.placed tally.same tally.blocked count rest)
-    (omega (arith, read_nodes.0)) (omega (arith, fits.nodes)) (omega arith)
-    read_nodes.1 whole).1 in
-    let read_placed = c.in_ok-placed.ensures.some in
-    let after_placed =
-    (same_field c.in_ok-nodes.rest.now (codes "placed ") c.in_ok-placed.placed tally.placed 32 c.in_ok-placed.rest.now
-    (from_same tally.same tally.blocked count rest)
-    (omega (arith, read_placed.0)) (omega (arith, fits.placed)) (omega arith)
-    read_placed.1 after_nodes).1 in
-    let read_same = c.in_ok-same.ensures.some in
-    let after_same =
-    (same_field c.in_ok-placed.rest.now (codes "same ") c.in_ok-same.same tally.same 32 c.in_ok-same.rest.now
-    (from_blocked tally.blocked count rest)
-    (omega (arith, read_same.0)) (omega (arith, fits.same)) (omega arith)
-    read_same.1 after_placed).1 in
-    c.in_err-blocked.ensures.none tally.blocked (from_skipped count rest)
-    (omega (arith, fits.blocked)) after_same)
+    let at = goal.at.returns-in_err-blocked-clause-none c in
+    let own = whole tally rest fits in
+    let nodes = after_nodes tally fits own.0 rest at.In_ok-nodes (e ∙ own.1) in
+    let placed = after_placed tally fits own.0 rest at.In_ok-placed nodes in
+    let same = after_same tally fits own.0 rest at.In_ok-same placed in
+    c.in_err-blocked.ensures.none tally.blocked (from_skipped own.0 rest) (omega (arith, fits.blocked))
+    same)
 
 pub returns-in_err-skipped-clause-none : goal.returns-in_err-skipped-clause-none
 returns-in_err-skipped-clause-none c =
     none_always c.from_residual-in_err-skipped.result (HasNoCounts c.args.text.now)
     (λ tally rest fits e.
-    let skipped = skipped-informed tally.skipped fits.skipped in
-    let count : ℕ = skipped.0 in
-    let low : count < 2 ^ 64 = skipped.2 in
-    let whole : c.args.text.now ≡ from_nodes tally.nodes tally.placed tally.same tally.blocked count rest =
-    e ∙ parts-informed tally count rest skipped.1 in
-    let read_nodes = c.in_ok-nodes.ensures.some in
-    let after_nodes =
-    (same_field c.args.text.now (codes "nodes ") c.in_ok-nodes.nodes tally.nodes 32 c.in_ok-nodes.rest.now
-    (from_placed tally.placed tally.same tally.blocked count rest)
-    (omega (arith, read_nodes.0)) (omega (arith, fits.nodes)) (omega arith)
-    read_nodes.1 whole).1 in
-    let read_placed = c.in_ok-placed.ensures.some in
-    let after_placed =
-    (same_field c.in_ok-nodes.rest.now (codes "placed ") c.in_ok-placed.placed tally.placed 32 c.in_ok-placed.rest.now
-    (from_same tally.same tally.blocked count rest)
-    (omega (arith, read_placed.0)) (omega (arith, fits.placed)) (omega arith)
-    read_placed.1 after_nodes).1 in
-    let read_same = c.in_ok-same.ensures.some in
-    let after_same =
-    (same_field c.in_ok-placed.rest.now (codes "same ") c.in_ok-same.same tally.same 32 c.in_ok-same.rest.now
-    (from_blocked tally.blocked count rest)
-    (omega (arith, read_same.0)) (omega (arith, fits.same)) (omega arith)
-    read_same.1 after_placed).1 in
-    let read_blocked = c.in_ok-blocked.ensures.some in
-    let after_blocked =
-    (same_field c.in_ok-same.rest.now (codes "blocked ") c.in_ok-blocked.blocked tally.blocked 32 c.in_ok-blocked.rest.now
-    (from_skipped count rest)
-    (omega (arith, read_blocked.0)) (omega (arith, fits.blocked)) (omega arith)
-    read_blocked.1 after_same).1 in
-    c.in_err-skipped.ensures.none count rest
-    (omega (arith, low)) after_blocked)
+    let at = goal.at.returns-in_err-skipped-clause-none c in
+    let own = whole tally rest fits in
+    let nodes = after_nodes tally fits own.0 rest at.In_ok-nodes (e ∙ own.1) in
+    let placed = after_placed tally fits own.0 rest at.In_ok-placed nodes in
+    let same = after_same tally fits own.0 rest at.In_ok-same placed in
+    let blocked = after_blocked tally fits own.0 rest at.In_ok-blocked same in
+    c.in_err-skipped.ensures.none own.0 rest (omega (arith, own.2))
+    blocked)
 
 pub returns-clause-fits : goal.returns-clause-fits
 returns-clause-fits c = record {

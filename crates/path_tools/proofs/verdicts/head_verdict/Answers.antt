@@ -1,6 +1,7 @@
 use Rattle.std.proofs.Common.{◌≡◌, suc, ◌+◌, ◌-◌, ◌≤◌, [], List, Option, length, arith, refl, sym, ap, ◌∙◌, subst}
 use Rattle.plan_model.specs.declared.limits.TheConstants.{MOST_NODES}
 use Rattle.plan_model.specs.declared.geometry.Goal.{Goal}
+use Rattle.plan_model.specs.declared.tasks.Task.{Task}
 use Rattle.plan_model.specs.declared.trees.Knot.{Knot}
 use Rattle.plan_model.specs.Trees.BestNode.{best_node}
 use Rattle.step_core.specs.PackedRuns.{state_of_lists}
@@ -9,7 +10,7 @@ use Rattle.path_tools.specs.Judgements.{IsVerdict, bytes_of}
 use Rattle.path_tools.specs.ListedTrees.{IsSettledList}
 use Rattle.path_tools.specs.ReportLines.{extent_of}
 use Rattle.path_tools.specs.SheetLaws.{best_priced_path, path_by, tally_of}
-use Rattle.path_tools.specs.ReportSheets.{state_of_sheet}
+use Rattle.path_tools.specs.ReportSheets.{HasForm, head_lines, Sheet, state_of_sheet}
 use Rattle.path_tools.specs.SheetsRead.{path_of_way, sheet_read}
 use Rattle.path_tools.proofs.SheetFacts.{few_knots, few_records, settled_of_law}
 use Rattle.path_tools.proofs.SheetLines.{head_few}
@@ -36,37 +37,21 @@ pub counted-tally-requires : goal.counted-tally-requires
 counted-tally-requires c =
     omega (arith, ap length c.deref-3.ensures.value, few_records c.args.task.now (sheet_read c.args.sheet.now) c.requires.form)
 
+-- the head has no more lines than the report has bytes
+few_lines : (task : Task) (sheet : Sheet) → HasForm (extent_of task) sheet → length (head_lines sheet.path sheet.tally) ≤ length (bytes_of sheet)
+few_lines task sheet form = head_few (extent_of task) (bytes_of sheet) sheet (record { form = form; text = refl })
+
 pub first_wrong_head_line-requires : goal.first_wrong_head_line-requires
 first_wrong_head_line-requires c =
-    let sheet = sheet_read c.args.sheet.now in
-    record {
-      few =
-          omega (
-            arith,
-            head_few (extent_of c.args.task.now) (bytes_of sheet) sheet (record { form = c.requires.form; text = refl }),
-            c.requires.short,
-          );
-    }
+    record { few = omega (arith, few_lines c.args.task.now (sheet_read c.args.sheet.now) c.requires.form, c.requires.short) }
 
 pub overflow_add-line : goal.overflow_add-line
 overflow_add-line c =
-    let sheet = sheet_read c.args.sheet.now in
-    omega (
-      arith,
-      c.in-Some.ensures.0,
-      head_few (extent_of c.args.task.now) (bytes_of sheet) sheet (record { form = c.requires.form; text = refl }),
-      c.requires.short,
-    )
+    omega (arith, c.in-Some.ensures.0, few_lines c.args.task.now (sheet_read c.args.sheet.now) c.requires.form, c.requires.short)
 
 pub broken-requires : goal.broken-requires
 broken-requires c =
-    let sheet = sheet_read c.args.sheet.now in
-    omega (
-      arith,
-      c.in-Some.ensures.0,
-      head_few (extent_of c.args.task.now) (bytes_of sheet) sheet (record { form = c.requires.form; text = refl }),
-      c.requires.short,
-    )
+    omega (arith, c.in-Some.ensures.0, few_lines c.args.task.now (sheet_read c.args.sheet.now) c.requires.form, c.requires.short)
 
 -- the path and the counts are the run's
 own_path : (c : After-first_wrong_head_line)
