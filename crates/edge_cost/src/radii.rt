@@ -5,7 +5,7 @@ ghost use Rattle.plan_model.specs.Geometry.Radius.{radius_of, radius_of_class};
 ghost use Rattle.edge_cost.specs.declared.radii.TheConstants.{CLASSES};
 
 use crate::classes::class;
-use plan_model::{MOST_GAMMA, MOST_NODES};
+use plan_model::MOST_NODES;
 
 /// How many classes there are, from 0, of no node, to 19, of `MOST_NODES` nodes.
 const CLASSES: usize = 20;
@@ -27,10 +27,9 @@ pub struct Radii {
 }
 
 impl Radii {
-    /// The radii for any step, in lattice steps, and a gamma up to `MOST_GAMMA`. With a gamma or a step of 0 all are 0. O(1),
-    /// a root for each class.
+    /// The radii for any step, in lattice steps, and any gamma. With a gamma or a step of 0 all are 0. O(1), a root for each
+    /// class.
     pub fn new(step: u32, gamma: u32) -> Radii
-        requires { gamma ≤ MOST_GAMMA }
         ensures step { result.step ≡ step }
         ensures gamma { result.gamma ≡ gamma }
     {
@@ -58,13 +57,12 @@ impl Radii {
 /// The radius of a class; 0 of class 0.
 #[tactic(auto, using(crate::proofs::RadiusFromRoot::radius_from_root))]
 fn radius_of_class(step: u32, gamma: u32, class: u32) -> u32
-    requires gamma { gamma ≤ MOST_GAMMA }
-    requires class { class < CLASSES }
+    requires { class < CLASSES }
     ensures { result ≡ radius_of_class step gamma class }
 {
-    let gamma = u64::from(gamma);
-    let square = (gamma * gamma * u64::from(class)) >> class.saturating_sub(1);
-    step.min(square.isqrt() as u32)
+    let gamma = u128::from(gamma);
+    let square = (gamma * gamma * u128::from(class)) >> class.saturating_sub(1);
+    u128::from(step).min(square.isqrt()) as u32
 }
 
 #[cfg(test)]
@@ -72,7 +70,7 @@ mod tests {
     use super::*;
 
     /// A step, gamma, a number of nodes, and the radius.
-    static RADII: [(u32, u32, u64, u32); 20] = [
+    static RADII: [(u32, u32, u64, u32); 22] = [
         (4096, 1000, 1, 1000),
         (4096, 1000, 2, 1000),
         (4096, 1000, 3, 1000),
@@ -90,6 +88,8 @@ mod tests {
         (4096, 0, 1, 0),
         (4096, 0, 262_144, 0),
         (4096, 16_777_215, 262_144, 4096),
+        (4_294_967_295, 4_294_967_295, 1, 4_294_967_295),
+        (4_294_967_295, 4_294_967_295, 4, 3_719_550_785),
         (4, 1, 1, 1),
         (4, 1, 2, 1),
         (4, 1, 4, 0),
@@ -98,7 +98,7 @@ mod tests {
     #[test]
     fn shrink_as_nodes_become_more(rt: HostRuntime) {
         for &(step, gamma, n, want) in &RADII {
-            assert!(rt; gamma <= MOST_GAMMA && 1 <= n && n <= u64::from(MOST_NODES));
+            assert!(rt; 1 <= n && n <= u64::from(MOST_NODES));
             let radii = Radii::new(step, gamma);
             assert_eq!(rt; radii.at(n), want, "step {step}, at {n}");
         }

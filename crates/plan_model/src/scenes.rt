@@ -56,7 +56,7 @@ pub struct Scene {
     pub seed: u64,
     /// Into how many strips the room is cut for drawn marks, 1 to 64.
     pub strips: u32,
-    /// Whether marks are skipped that can lead to no cheaper path; in version 1 none is.
+    /// Whether marks are skipped that no cheaper path can pass through; in version 1 none is.
     pub informed: bool,
     /// The marks, up to 262,143.
     pub plan: Marks,

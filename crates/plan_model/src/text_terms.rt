@@ -27,7 +27,7 @@ pub enum Key {
     Seed,
     /// The number of strips that the room is cut into.
     Strips,
-    /// Whether marks are skipped that can lead to no cheaper path, in version 2.
+    /// Whether marks are skipped that no cheaper path can pass through, in version 2.
     Informed,
     /// The number of marks that are drawn.
     Marks,

@@ -1,9 +1,8 @@
-use Rattle.std.proofs.Common.{◌≡◌, ◌+◌, ◌*◌, ◌<◌, ◌≤◌, arith, ap, ◌∙◌}
+use Rattle.std.proofs.Common.{◌≡◌, arith, ap, ◌∙◌}
 use Rattle.std.specs.Prelude.{min}
 use Rattle.plan_model.specs.declared.geometry.Goal.{Goal}
 use Rattle.plan_model.specs.declared.geometry.Point.{Point}
 use Rattle.plan_model.specs.Geometry.Plane.{squared_distance}
-use Rattle.plan_model.specs.Geometry.Roots.{root_ceiling}
 use Rattle.edge_cost.proofs.LeastEdges.{IsLeastOfFirst-next, bound_of-scanned}
 use Rattle.edge_cost.proofs.bounds.bound.Goals as goal
 
