@@ -1,5 +1,5 @@
 -- What the order law of a closed run says of its parents, its kept costs and its sums.
-use Rattle.std.proofs.Common.{ℕ, zero, suc, ◌+◌, ◌<◌, ◌≤◌, arith}
+use Rattle.std.proofs.Common.{◌≡◌, ℕ, zero, suc, ◌+◌, ◌<◌, ◌≤◌, arith, sym, subst}
 use Rattle.plan_model.specs.declared.tasks.Task.{Task}
 use Rattle.plan_model.specs.Trees.PointsByNumber.{IsPresent}
 use Rattle.plan_model.specs.Runs.Textbook.{setup_of}
@@ -7,8 +7,11 @@ use Rattle.plan_model.specs.Trees.NodeLists.{edge_by}
 use Rattle.plan_model.specs.Trees.TreeStates.{sum_in}
 use Rattle.plan_model.proofs.OrderLaws.{parent-present}
 use Rattle.plan_model.proofs.OrderedTrees.{sum_in-le_cost}
+use Rattle.step_core.specs.declared.grown.Grown.{Grown}
 use Rattle.step_core.specs.WordNames.{Words}
+use Rattle.step_core.specs.GrownRuns.{state_of_grown, words_of_grown}
 use Rattle.step_core.specs.GrownWords.{HoldRun, sizes_of, state_of_words}
+use Rattle.step_core.proofs.HeldNodes.{node-held}
 
 module _ (task : Task) (limit : ℕ) (words : Words) (held : HoldRun task limit words) where
   -- the parent of a node is present
@@ -33,3 +36,14 @@ module _ (task : Task) (limit : ℕ) (words : Words) (held : HoldRun task limit 
       → sum_in (state_of_words (sizes_of task) words) n ≤ (state_of_words (sizes_of task) words).cost n
   sum-held n here =
       sum_in-le_cost (setup_of task.scene) (state_of_words (sizes_of task) words) held.closed.order n here
+
+module _ (grown : Grown) where
+  -- a node's number is within the limit
+  pub number-grown : (n : ℕ) → IsPresent (state_of_grown grown).points n → n ≤ grown.limit
+  number-grown n here = node-held grown.task grown.limit (words_of_grown grown) grown.hold_run n here
+
+  -- what was read as the parent of a node is present
+  pub parent-grown : (n parent : ℕ) → parent ≡ (state_of_grown grown).parent n → IsPresent (state_of_grown grown).points n
+      → IsPresent (state_of_grown grown).points parent
+  parent-grown n parent is here =
+      subst (IsPresent (state_of_grown grown).points) (sym is) (parent-held grown.task grown.limit (words_of_grown grown) grown.hold_run n here)

@@ -1,17 +1,17 @@
--- One pass over the nodes by rising kept cost: before a node is settled its parent is, and costs alone change.
-use Rattle.std.proofs.Common.{◌≡◌, ℕ, zero, suc, ◌+◌, ◌<◌, ◌≤◌, length, List, arith, refl, sym, ap, ◌∙◌, subst, inl, inr}
-use Rattle.std.specs.Prelude.{slice_index_or}
+-- A node is settled through its parent, and marked: costs alone change, and each marked node stays at its sum.
+use Rattle.std.proofs.Common.{◌≡◌, ℕ, zero, suc, ◌<◌, ◌≤◌, Bool, true, false, List, length, replicate, set, arith, refl, sym, ◌∙◌, subst, inl, inr}
+use Rattle.std.specs.Prelude.{IsTrue, slice_index_or}
 use Rattle.std.proofs.lemmas.Bool.{cases_eq, cases_lt}
-use Rattle.std.proofs.lemmas.List.{get_or_default}
+use Rattle.std.proofs.lemmas.Grind.{get_or-set_at}
+use Rattle.std.proofs.lemmas.List.{get_or-replicate, get_or-set_other, get_or_past, length-replicate, length-set}
 use Rattle.plan_model.specs.Trees.PointsByNumber.{IsPresent, StandsAt}
 use Rattle.plan_model.specs.Runs.OrderLaw.{KeepsOrder}
 use Rattle.plan_model.specs.Runs.Textbook.{Setup}
-use Rattle.plan_model.specs.Trees.NodeLists.{edge_by, sum_by}
+use Rattle.plan_model.specs.Trees.NodeLists.{sum_by}
 use Rattle.plan_model.specs.Trees.TreeStates.{TreeState, ChangesCosts, GrowsInto, first_cost_of, recorded_or, sum_in}
-use Rattle.plan_model.proofs.OrderLaws.{KeepsOrder-falls, parent-present}
 use Rattle.plan_model.proofs.OrderedTrees.{sum_in-parent, sum_in-start}
 use Rattle.step_core.specs.GrownRuns.{CostsInstead}
-use Rattle.settle_report.specs.CostOrders.{IsCostOrder}
+use Rattle.settle_report.specs.SettledMarks.{CostsByParent, MarksSettled}
 
 -- ---- costs alone change
 
@@ -19,14 +19,22 @@ use Rattle.settle_report.specs.CostOrders.{IsCostOrder}
 pub sum_in-changed : (before after : TreeState) → ChangesCosts before after → (n : ℕ) → sum_in after n ≡ sum_in before n
 sum_in-changed before after change n = λ t. sum_by (change.points t) (λ m. change.parents m t) n
 
--- one more cost changes
-pub ChangesCosts-more :
-    (before now after : TreeState) (n cost : ℕ) → ChangesCosts before now → CostsInstead now after n cost → ChangesCosts before after
-ChangesCosts-more before now after n cost change instead = record {
-  points = instead.points ∙ change.points;
-  parents = λ i. instead.parents i ∙ change.parents i;
-  written_costs = λ i. instead.written_costs i ∙ change.written_costs i;
-  records = λ k. instead.records k ∙ change.records k;
+-- one cost changes
+pub ChangesCosts-one : (before after : TreeState) (n cost : ℕ) → CostsInstead before after n cost → ChangesCosts before after
+ChangesCosts-one before after n cost instead = record {
+  points = instead.points;
+  parents = instead.parents;
+  written_costs = instead.written_costs;
+  records = instead.records;
+}
+
+-- and then others do
+pub ChangesCosts-trans : (before now after : TreeState) → ChangesCosts before now → ChangesCosts now after → ChangesCosts before after
+ChangesCosts-trans before now after first then = record {
+  points = then.points ∙ first.points;
+  parents = λ n. then.parents n ∙ first.parents n;
+  written_costs = λ n. then.written_costs n ∙ first.written_costs n;
+  records = λ k. then.records k ∙ first.records k;
 }
 
 -- a tree of which costs alone change grows if none rises
@@ -47,103 +55,76 @@ GrowsInto-cheaper before after change none_rises = record {
     first_costs zero = refl
     first_costs (suc k) = λ t. recorded_or (change.written_costs (suc k) t) (change.records k t)
 
--- ---- the pass
+-- ---- one more mark
 
--- The first i pairs have settled nodes: each is now kept at its sum.
-abbrev pub AreSettledBelow : TreeState → TreeState → List (ℕ × ℕ) → ℕ → Type 0
-AreSettledBelow before now pairs i =
-    (k : ℕ) (d : ℕ × ℕ) → k < i → now.cost (slice_index_or pairs k d).1 ≡ sum_in before (slice_index_or pairs k d).1
+-- it is there, and the others stay
+pub marks-set_here : (marks : List Bool) (n : ℕ) → n < length marks → IsTrue (slice_index_or (set marks n true) n false)
+marks-set_here marks n within = get_or-set_at marks n n true false refl within
+
+pub marks-set_kept : (marks : List Bool) (n m : ℕ) → n < length marks → IsTrue (slice_index_or marks m false)
+    → IsTrue (slice_index_or (set marks n true) m false)
+marks-set_kept marks n m within marked =
+    elim (cases_eq m n) [
+      | inl same ↦ get_or-set_at marks n m true false same within
+      | inr apart ↦ get_or-set_other marks n m true false apart ∙ marked
+    ]
+
+-- a node without a mark is not the start
+pub unmarked-other : (state : TreeState) (limit : ℕ) (marks : List Bool) → MarksSettled state limit marks
+    → (n : ℕ) → slice_index_or marks n false ≡ false → 0 < n
+unmarked-other state limit marks settled zero none = let start = settled.start in cc
+unmarked-other state limit marks settled (suc n) none = omega arith
+
+-- a list without a mark has none anywhere
+unmarked : (count n : ℕ) → slice_index_or (replicate count false) n false ≡ false
+unmarked count n =
+    elim (cases_lt n count) [
+      | inl below ↦ get_or-replicate count n false false below
+      | inr past ↦ get_or_past (replicate count false) n false (omega (arith, past, length-replicate count false))
+    ]
+
+-- the start is the first to have one
+pub MarksSettled-start : (setup : Setup) (state : TreeState) → KeepsOrder setup state → (limit : ℕ)
+    → MarksSettled state limit (set (replicate (suc limit) false) 0 true)
+MarksSettled-start setup state law limit =
+    let none : List Bool = replicate (suc limit) false in
+    let count : length (replicate (suc limit) false) ≡ suc limit = length-replicate (suc limit) false in
+    record {
+      each = length-set none 0 true ∙ count;
+      start = marks-set_here none 0 (omega (arith, count));
+      kept = λ n marked.
+          elim (cases_eq n 0) [
+            | inl first ↦ subst (λ i. state.cost i ≡ sum_in state i) (sym first) (law.start_cost ∙ sym (sum_in-start setup state law))
+            | inr other ↦ (
+                let is = sym marked ∙ get_or-set_other none 0 n true false other ∙ unmarked (suc limit) n in
+                cc)
+          ];
+    }
 
 module _
-    (setup : Setup) (before : TreeState) (law : KeepsOrder setup before) (pairs : List (ℕ × ℕ)) (order : IsCostOrder before pairs)
-    (now : TreeState) (start_cost : now.cost 0 ≡ 0) where
-  -- a node is settled if its pair is below i
-  settled-found : (i n : ℕ) → AreSettledBelow before now pairs i → IsPresent before.points (suc n)
-      → ((k : ℕ) → k < length pairs → slice_index_or pairs k (before.cost (suc n), suc n) ≡ (before.cost (suc n), suc n) → k < i)
-      → now.cost (suc n) ≡ sum_in before (suc n)
-  settled-found i n settled here early =
-      let found = order.costs.each n here in
-      subst (λ pair. now.cost pair.1 ≡ sum_in before pair.1) found.2
-      (settled found.0 (before.cost (suc n), suc n) (early found.0 found.1 found.2))
-
-  -- the parent of the next node is settled
-  pub parent-settled :
-      (i : ℕ) (d : ℕ × ℕ) → i < length pairs → AreSettledBelow before now pairs i
-      → now.cost (before.parent (slice_index_or pairs i d).1) ≡ sum_in before (before.parent (slice_index_or pairs i d).1)
-  parent-settled i d below settled = by_parent (before.parent n) refl
-    where
-      n : ℕ
-      n = (slice_index_or pairs i d).1
-
-      present : IsPresent before.points (slice_index_or pairs i d).1
-      present = (order.costs.kept i d below).present
-
-      falls : (m : ℕ) → 0 < m → IsPresent before.points m → before.cost (before.parent m) < before.cost m
-      falls zero other h = absurd (omega (arith, other))
-      falls (suc m) other h = KeepsOrder-falls setup before law m h
-
-      by_parent : (m : ℕ) → before.parent (slice_index_or pairs i d).1 ≡ m → now.cost m ≡ sum_in before m
-      by_parent zero e = start_cost ∙ sym (sum_in-start setup before law)
-      by_parent (suc m) e =
-          let here = subst (IsPresent before.points) e (parent-present setup before law (slice_index_or pairs i d).1 present) in
-          let less = falls (slice_index_or pairs i d).1 (order.costs.kept i d below).other present in
-          settled-found i m settled here (λ k within same.
-          elim (cases_lt k i) [
-            | inl early ↦ early
-            | inr late ↦ absurd (omega (
-              arith,
-              order.rises i k (before.cost (suc m), suc m) late within,
-              ap (λ pair. pair.0) same,
-              ap (λ pair. pair.0) (get_or_default pairs i d (before.cost (suc m), suc m) below),
-              (order.costs.kept i d below).cost,
-              less,
-              ap before.cost e,
-            ))
-          ])
-
-  -- after the pass all nodes are kept at their sums
-  pub all-settled : AreSettledBelow before now pairs (length pairs) → (n : ℕ) → IsPresent before.points n → now.cost n ≡ sum_in before n
-  all-settled settled zero here = start_cost ∙ sym (sum_in-start setup before law)
-  all-settled settled (suc n) here = settled-found (length pairs) n settled here (λ k within same. within)
-
-  -- the next node is settled by what its parent costs and the edge
-  pub AreSettledBelow-more :
-      (after : TreeState) (i cost : ℕ) (d : ℕ × ℕ) → i < length pairs → ChangesCosts before now
-      → CostsInstead now after (slice_index_or pairs i d).1 cost
-      → cost ≡ now.cost (now.parent (slice_index_or pairs i d).1) + edge_by now.points now.parent (slice_index_or pairs i d).1
-      → AreSettledBelow before now pairs i → AreSettledBelow before after pairs (i + 1)
-  AreSettledBelow-more after i cost d below change instead price settled = λ k e l.
-      elim (cases_eq (slice_index_or pairs k e).1 (slice_index_or pairs i d).1) [
-        | inl same ↦ subst (λ m. after.cost m ≡ sum_in before m) (sym same) here
-        | inr apart ↦ (
-            instead.elsewhere (slice_index_or pairs k e).1 apart
-            ∙ settled k e
-            (elim (cases_eq k i) [
-              | inl at ↦ absurd (apart (ap (λ j. (slice_index_or pairs j e).1) at ∙ ap (λ pair. pair.1) (get_or_default pairs i e d below)))
-              | inr other ↦ omega (arith, l, other)
-            ]))
-      ]
-    where
-      m : ℕ
-      m = (slice_index_or pairs i d).1
-
-      tight : (n : ℕ) → 0 < n → IsPresent before.points n → sum_in before n ≡ sum_in before (before.parent n) + edge_by before.points before.parent n
-      tight zero other h = absurd (omega (arith, other))
-      tight (suc n) other h = sum_in-parent setup before law n h
-
-      edge : edge_by now.points now.parent (slice_index_or pairs i d).1 ≡ edge_by before.points before.parent (slice_index_or pairs i d).1
-      edge = λ t. edge_by (change.points t) (λ j. change.parents j t) (slice_index_or pairs i d).1
-
-      here : after.cost (slice_index_or pairs i d).1 ≡ sum_in before (slice_index_or pairs i d).1
-      here =
-          let kept = order.costs.kept i d below in
-          let parent = parent-settled i d below settled in
-          omega (
-            arith,
-            instead.here,
-            price,
-            ap now.cost (change.parents (slice_index_or pairs i d).1),
-            parent,
-            edge,
-            tight (slice_index_or pairs i d).1 kept.other kept.present,
-          )
+    (setup : Setup) (before after : TreeState) (law : KeepsOrder setup before) (limit : ℕ) (marks : List Bool)
+    (settled : MarksSettled before limit marks) where
+  pub MarksSettled-more :
+      (n : ℕ) → IsPresent before.points n → 0 < n → n < length marks → IsTrue (slice_index_or marks (before.parent n) false)
+      → CostsByParent before after n → MarksSettled after limit (set marks n true)
+  MarksSettled-more zero here other within hangs lowered = absurd (omega (arith, other))
+  MarksSettled-more (suc n) here other within hangs lowered =
+      let change = ChangesCosts-one before after (suc n) _ lowered in
+      record {
+        each = length-set marks (suc n) true ∙ settled.each;
+        start = marks-set_kept marks (suc n) 0 within settled.start;
+        kept = λ m marked.
+            elim (cases_eq m (suc n)) [
+              | inl same ↦ subst (λ i. after.cost i ≡ sum_in after i) (sym same) (omega (
+                arith,
+                lowered.here,
+                settled.kept (before.parent (suc n)) hangs,
+                sum_in-parent setup before law n here,
+                sum_in-changed before after change (suc n),
+              ))
+              | inr apart ↦ (
+                  lowered.elsewhere m apart
+                  ∙ settled.kept m (sym (get_or-set_other marks (suc n) m true false apart) ∙ marked)
+                  ∙ sym (sum_in-changed before after change m))
+            ];
+      }

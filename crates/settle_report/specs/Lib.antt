@@ -1,5 +1,5 @@
-pub mod CostOrders
 pub mod Delivery
 pub mod MarkWords
 pub mod NodeLines
+pub mod SettledMarks
 pub mod TightNodes

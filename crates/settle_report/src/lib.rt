@@ -9,8 +9,7 @@
 //! the text, short or full, and [`report_along`] the short one along another path; the calls that begin with `push`
 //! append one line of it, or those of a path's points. [`deliver`] writes a text to a sink.
 //!
-//! Each takes time that is linear in the run and its text, except that the nodes of a run that is not settled are
-//! sorted by cost.
+//! Each takes time that is linear in the run and its text.
 #![tactic(auto)]
 
 mod best_node;

@@ -1,41 +1,17 @@
-use Rattle.std.proofs.Common.{arith, ap, sym, ◌∙◌, subst}
-use Rattle.std.specs.Prelude.{is_some}
-use Rattle.plan_model.specs.Geometry.Cost.{cost_of}
-use Rattle.plan_model.specs.Trees.PointsByNumber.{IsPresent, point_of}
-use Rattle.plan_model.proofs.NewNodes.{point_of-stands}
-use Rattle.step_core.specs.GrownRuns.{state_of_grown, words_of_grown}
-use Rattle.step_core.specs.GrownWords.{sizes_of}
-use Rattle.step_core.proofs.GrownPoints.{IsBounded-stands}
-use Rattle.settle_report.proofs.HeldOrders.{edge-held, parent-held}
+use Rattle.std.proofs.Common.{◌<◌, length, set, true, sym, subst, arith}
+use Rattle.plan_model.specs.Runs.Textbook.{setup_of}
+use Rattle.step_core.specs.GrownRuns.{state_of_grown}
+use Rattle.settle_report.specs.SettledMarks.{MarksSettled}
+use Rattle.settle_report.proofs.HeldOrders.{number-grown}
+use Rattle.settle_report.proofs.SettlingSteps.{MarksSettled-more}
 use Rattle.settle_report.proofs.settling.settle_node.Goals as goal
 
-pub unwrap-above-requires : goal.unwrap-above-requires
-unwrap-above-requires c =
-    let grown = c.args.grown.now in
-    let state = state_of_grown grown in
-    let present = parent-held grown.task grown.limit (words_of_grown grown) grown.hold_run c.args.node c.requires.present in
-    ap is_some c.point.ensures ∙ subst (IsPresent state.points) (sym c.parent-parent.ensures) present
-
-pub cost-requires-2-clause-from : goal.cost-requires-2-clause-from
-cost-requires-2-clause-from c =
-    let grown = c.args.grown.now in
-    IsBounded-stands (sizes_of grown.task) (words_of_grown grown) c.parent-parent.result c.unwrap-above.result
-    (sym c.point.ensures ∙ c.unwrap-above.ensures)
-
-pub cost-requires-2-clause-to : goal.cost-requires-2-clause-to
-cost-requires-2-clause-to c =
-    let grown = c.args.grown.now in
-    IsBounded-stands (sizes_of grown.task) (words_of_grown grown) c.args.node c.unwrap-here.result
-    (sym c.point-2.ensures ∙ c.unwrap-here.ensures)
-
-pub lower-requires-clause-not_above : goal.lower-requires-clause-not_above
-lower-requires-clause-not_above c =
-    let grown = c.args.grown.now in
-    let state = state_of_grown grown in
-    let above = point_of-stands state.points c.parent-parent.result c.unwrap-above.result (sym c.point.ensures ∙ c.unwrap-above.ensures) in
-    let here = point_of-stands state.points c.args.node c.unwrap-here.result (sym c.point-2.ensures ∙ c.unwrap-here.ensures) in
-    let edge = edge-held grown.task grown.limit (words_of_grown grown) grown.hold_run c.args.node c.requires.other c.requires.present in
-    let price =
-    c.cost-2.ensures.value ∙ ap (λ p. cost_of p c.unwrap-here.result) (sym above) ∙ ap (cost_of (point_of state.points c.parent-parent.result)) (sym here)
-    ∙ ap (λ m. cost_of (point_of state.points m) (point_of state.points c.args.node)) c.parent-parent.ensures in
-    omega (arith, edge, price, c.cost.ensures ∙ ap state.cost c.parent-parent.ensures)
+pub returns-clause-marks : goal.returns-clause-marks
+returns-clause-marks c =
+    let old = c.args.grown.now in
+    let new = c.lower_to_parent.new.grown in
+    let within : c.args.node < length c.args.settled.now =
+    omega (arith, c.requires.marks.each, number-grown old c.args.node c.requires.present) in
+    subst (λ limit. MarksSettled (state_of_grown new) limit (set c.args.settled.now c.args.node true)) (sym c.lower_to_parent.ensures.limit)
+    (MarksSettled-more (setup_of old.task.scene) (state_of_grown old) (state_of_grown new) old.hold_run.closed.order old.limit c.args.settled.now
+    c.requires.marks c.args.node c.requires.present c.requires.other within c.requires.hangs c.lower_to_parent.ensures.state)
