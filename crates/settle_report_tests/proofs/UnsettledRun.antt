@@ -1,5 +1,6 @@
--- A run that is closed and not settled: node 3 was rewired to the start and node 2 to node 3, and both are kept at more than their
--- costs-to-come, node 3 alone at more than through its parent. With gamma 0 no node is a neighbour, so no record says that they were lowered.
+-- A run that is closed and not settled: node 4 was rewired to the start, node 3 to node 4 and node 2 to node 3, and all are kept at more
+-- than their costs-to-come, node 4 alone at more than through its parent. With gamma 0 no node is a neighbour, so no record says that they
+-- were lowered.
 use Rattle.std.proofs.Common.{◌≡◌, ℕ, zero, suc, ◌<◌, ◌≤◌, Option, Some, None, List, [], ◌∷◌, arith, refl, sym, ap, ◌∙◌, subst}
 use Rattle.std.specs.Prelude.{◌↔◌, IsSome, unwrap_or}
 use Rattle.plan_model.specs.declared.geometry.Point.{Point}
@@ -14,17 +15,20 @@ use Rattle.plan_model.specs.Geometry.Plane.{squared_distance}
 use Rattle.plan_model.specs.Trees.LeastPairs.{IsNotAbove}
 use Rattle.plan_model.specs.Trees.Nearness.{distance_to}
 use Rattle.plan_model.specs.Runs.OrderLaw.{HangsBelow, IsAllowedEdge, most_cost_of}
-use Rattle.plan_model.specs.Trees.PointsByNumber.{IsPresent, node_count}
+use Rattle.plan_model.specs.Trees.PointsByNumber.{IsFree, IsPresent, node_count}
 use Rattle.plan_model.specs.Runs.RecordLaw.{IsEarlier, IsLawfulRecord, IsNeighbour}
 use Rattle.plan_model.specs.Runs.Textbook.{Setup, placed_record}
+use Rattle.plan_model.specs.Trees.NodeLists.{points_of}
 use Rattle.plan_model.specs.Trees.TreeStates.{TreeState}
 use Rattle.plan_model.specs.Vectors.Runs.{marks_to_rewire, open_setup, rewired_records, rewired_tree}
 use Rattle.plan_model.specs.Vectors.Shapes.{at}
+use Rattle.plan_model.proofs.DistinctPoints.{AreDistinct-placed}
 use Rattle.plan_model.proofs.EmptyRoomClearance.{Clear-empty_room}
 use Rattle.plan_model.proofs.GoalNodes.{no_goal_node}
 use Rattle.plan_model.proofs.LeastPairLaws.{IsNotAbove-lesser, IsNotAbove-refl}
 use Rattle.plan_model.proofs.OpenRoomMarks.{cost_2000, cost_2401, cost_2441, cost_2500}
 use Rattle.plan_model.proofs.RewiredRun.{rewired_run}
+use Rattle.plan_model.proofs.RootLaws.{root_ceiling-from_squares}
 use Rattle.plan_model.proofs.TextbookRuns.{IsClosed-textbook}
 use Rattle.step_core.specs.PackedRuns.{state_of_lists}
 use Rattle.plan_model.specs.Runs.Turns.{RunFromZero}
@@ -38,7 +42,7 @@ abbrev knot : ℕ → ℕ → ℕ → ℕ → Option Knot
 knot x y parent cost = Some (record { point = at x y; parent = parent; cost = cost })
 
 abbrev pub unsettled_knots : List (Option Knot)
-unsettled_knots = knot 0 0 0 0 ∷ knot 0 50 0 12800 ∷ knot 40 79 3 25444 ∷ knot 40 30 0 12900 ∷ []
+unsettled_knots = knot 0 0 0 0 ∷ knot 0 50 0 12800 ∷ knot 40 79 3 25444 ∷ knot 40 30 4 12900 ∷ knot 24 18 0 7780 ∷ []
 
 abbrev first : Record
 first = placed_record 0 0 0 12800 1
@@ -49,8 +53,15 @@ second = placed_record 1 1 1 25449 2
 abbrev third : Record
 third = placed_record 2 1 1 24249 2
 
+abbrev fourth : Record
+fourth = placed_record 3 3 3 29369 3
+
 abbrev pub unsettled_records : List Record
-unsettled_records = first ∷ second ∷ third ∷ []
+unsettled_records = first ∷ second ∷ third ∷ fourth ∷ []
+
+-- the marks, each where its node stands
+abbrev pub unsettled_marks : List Point
+unsettled_marks = at 0 50 ∷ at 40 79 ∷ at 40 30 ∷ at 24 18 ∷ []
 
 abbrev pub unsettled : TreeState
 unsettled = state_of_lists unsettled_knots unsettled_records
@@ -60,8 +71,14 @@ unsettled = state_of_lists unsettled_knots unsettled_records
 from_start : cost_of (at 0 0) (at 0 50) ≡ 12800
 from_start = cost_2500
 
-to_third : cost_of (at 0 0) (at 40 30) ≡ 12800
-to_third = cost_2500
+to_fourth : cost_of (at 0 0) (at 24 18) ≡ 7680
+to_fourth = root_ceiling-from_squares 58982400 7680 (omega arith) (omega arith)
+
+onwards : cost_of (at 24 18) (at 40 30) ≡ 5120
+onwards = root_ceiling-from_squares 26214400 5120 (omega arith) (omega arith)
+
+backwards : cost_of (at 40 30) (at 24 18) ≡ 5120
+backwards = root_ceiling-from_squares 26214400 5120 (omega arith) (omega arith)
 
 to_second : cost_of (at 0 50) (at 40 79) ≡ 12649
 to_second = cost_2441
@@ -82,8 +99,14 @@ allowed a b ax ay bx by_y short = record {
 start_first : IsAllowedEdge rrt_setup (at 0 0) (at 0 50)
 start_first = allowed (at 0 0) (at 0 50) (omega arith) (omega arith) (omega arith) (omega arith) (omega arith)
 
-start_third : IsAllowedEdge rrt_setup (at 0 0) (at 40 30)
-start_third = allowed (at 0 0) (at 40 30) (omega arith) (omega arith) (omega arith) (omega arith) (omega arith)
+start_fourth : IsAllowedEdge rrt_setup (at 0 0) (at 24 18)
+start_fourth = allowed (at 0 0) (at 24 18) (omega arith) (omega arith) (omega arith) (omega arith) (omega arith)
+
+fourth_third : IsAllowedEdge rrt_setup (at 24 18) (at 40 30)
+fourth_third = allowed (at 24 18) (at 40 30) (omega arith) (omega arith) (omega arith) (omega arith) (omega arith)
+
+third_fourth : IsAllowedEdge rrt_setup (at 40 30) (at 24 18)
+third_fourth = allowed (at 40 30) (at 24 18) (omega arith) (omega arith) (omega arith) (omega arith) (omega arith)
 
 first_second : IsAllowedEdge rrt_setup (at 0 50) (at 40 79)
 first_second = allowed (at 0 50) (at 40 79) (omega arith) (omega arith) (omega arith) (omega arith) (omega arith)
@@ -99,63 +122,80 @@ third_second = allowed (at 40 30) (at 40 79) (omega arith) (omega arith) (omega 
 hangs : (n : ℕ) → IsPresent unsettled.points (suc n) → HangsBelow rrt_setup unsettled (suc n)
 hangs zero h = record { present = refl; other = λ e. absurd (omega (arith, e)); edge = start_first; above = omega (arith, from_start) }
 hangs (suc zero) h = record { present = refl; other = λ e. absurd (omega (arith, e)); edge = third_second; above = omega (arith, upwards) }
-hangs (suc (suc zero)) h = record { present = refl; other = λ e. absurd (omega (arith, e)); edge = start_third; above = omega (arith, to_third) }
-hangs (suc (suc (suc n))) h = cc
+hangs (suc (suc zero)) h = record { present = refl; other = λ e. absurd (omega (arith, e)); edge = fourth_third; above = omega (arith, onwards) }
+hangs (suc (suc (suc zero))) h = record { present = refl; other = λ e. absurd (omega (arith, e)); edge = start_fourth; above = omega (arith, to_fourth) }
+hangs (suc (suc (suc (suc n)))) h = cc
 
 bounded : (n : ℕ) → IsPresent unsettled.points n → unsettled.cost n ≤ most_cost_of rrt_setup (node_count unsettled.points)
 bounded zero h = omega arith
 bounded (suc zero) h = omega arith
 bounded (suc (suc zero)) h = omega arith
 bounded (suc (suc (suc zero))) h = omega arith
-bounded (suc (suc (suc (suc n)))) h = cc
+bounded (suc (suc (suc (suc zero)))) h = omega arith
+bounded (suc (suc (suc (suc (suc n))))) h = cc
+
+-- no other node stands at the point of node 4
+free : IsFree (points_of rewired_tree) (at 24 18)
+free zero h = absurd (omega (arith, ap (λ o. (unwrap_or {T = Point} o (at 0 0)).x) h))
+free (suc zero) h = absurd (omega (arith, ap (λ o. (unwrap_or {T = Point} o (at 0 0)).x) h))
+free (suc (suc zero)) h = absurd (omega (arith, ap (λ o. (unwrap_or {T = Point} o (at 0 0)).x) h))
+free (suc (suc (suc zero))) h = absurd (omega (arith, ap (λ o. (unwrap_or {T = Point} o (at 0 0)).x) h))
+free (suc (suc (suc (suc n)))) h = cc
 
 -- ---- records
 
-recorded : (k : ℕ) → k < 3 → IsSome (unsettled.record_of k)
+recorded : (k : ℕ) → k < 4 → IsSome (unsettled.record_of k)
 recorded zero h = refl
 recorded (suc zero) h = refl
 recorded (suc (suc zero)) h = refl
-recorded (suc (suc (suc k))) h = absurd (omega (arith, h))
+recorded (suc (suc (suc zero))) h = refl
+recorded (suc (suc (suc (suc k)))) h = absurd (omega (arith, h))
 
-none_else : (k : ℕ) → 3 ≤ k → unsettled.record_of k ≡ None
+none_else : (k : ℕ) → 4 ≤ k → unsettled.record_of k ≡ None
 none_else zero h = absurd (omega (arith, h))
 none_else (suc zero) h = absurd (omega (arith, h))
 none_else (suc (suc zero)) h = absurd (omega (arith, h))
-none_else (suc (suc (suc k))) h = refl
+none_else (suc (suc (suc zero))) h = absurd (omega (arith, h))
+none_else (suc (suc (suc (suc k)))) h = refl
 
 worker_is : (k : ℕ) (entry : Record) → unsettled.record_of k ≡ Some entry → entry.worker ≡ 0
 worker_is zero entry h = sym (ap (λ o. (unwrap_or {T = Record} o first).worker) h)
 worker_is (suc zero) entry h = sym (ap (λ o. (unwrap_or {T = Record} o first).worker) h)
 worker_is (suc (suc zero)) entry h = sym (ap (λ o. (unwrap_or {T = Record} o first).worker) h)
-worker_is (suc (suc (suc k))) entry h = cc
+worker_is (suc (suc (suc zero))) entry h = sym (ap (λ o. (unwrap_or {T = Record} o first).worker) h)
+worker_is (suc (suc (suc (suc k)))) entry h = cc
 
 turn_is : (k : ℕ) (entry : Record) → unsettled.record_of k ≡ Some entry → entry.turn ≡ k
 turn_is zero entry h = sym (ap (λ o. (unwrap_or {T = Record} o first).turn) h)
 turn_is (suc zero) entry h = sym (ap (λ o. (unwrap_or {T = Record} o first).turn) h)
 turn_is (suc (suc zero)) entry h = sym (ap (λ o. (unwrap_or {T = Record} o first).turn) h)
-turn_is (suc (suc (suc k))) entry h = cc
+turn_is (suc (suc (suc zero))) entry h = sym (ap (λ o. (unwrap_or {T = Record} o first).turn) h)
+turn_is (suc (suc (suc (suc k)))) entry h = cc
 
 no_gap : (k turn : ℕ) (entry : Record) → unsettled.record_of k ≡ Some entry → entry.turn ≡ suc turn
     → (j : ℕ) × (before : Record) × (unsettled.record_of j ≡ Some before) × (before.worker ≡ entry.worker) × (before.turn ≡ turn)
 no_gap zero turn entry h e = absurd (omega (arith, turn_is 0 entry h, e))
 no_gap (suc zero) turn entry h e = (0, first, refl, sym (worker_is 1 entry h), omega (arith, turn_is 1 entry h, e))
 no_gap (suc (suc zero)) turn entry h e = (1, second, refl, sym (worker_is 2 entry h), omega (arith, turn_is 2 entry h, e))
-no_gap (suc (suc (suc k))) turn entry h e = cc
+no_gap (suc (suc (suc zero))) turn entry h e = (2, third, refl, sym (worker_is 3 entry h), omega (arith, turn_is 3 entry h, e))
+no_gap (suc (suc (suc (suc k)))) turn entry h e = cc
 
 run : RunFromZero unsettled.record_of
 run = record { once = λ j k one other p q worker turn. sym (turn_is j one p) ∙ turn ∙ turn_is k other q; no_gap = no_gap }
 
-few_marks : (k : ℕ) (entry : Record) → unsettled.record_of k ≡ Some entry → k < 3
+few_marks : (k : ℕ) (entry : Record) → unsettled.record_of k ≡ Some entry → k < 4
 few_marks zero entry h = omega arith
 few_marks (suc zero) entry h = omega arith
 few_marks (suc (suc zero)) entry h = omega arith
-few_marks (suc (suc (suc k))) entry h = cc
+few_marks (suc (suc (suc zero))) entry h = omega arith
+few_marks (suc (suc (suc (suc k)))) entry h = cc
 
 placed : (k : ℕ) → IsPresent unsettled.points (suc k) ↔ ((entry : Record) × (unsettled.record_of k ≡ Some entry) × (entry.outcome ≡ Placed))
 placed zero = ((λ h. (first, refl, refl)), λ h. refl)
 placed (suc zero) = ((λ h. (second, refl, refl)), λ h. refl)
 placed (suc (suc zero)) = ((λ h. (third, refl, refl)), λ h. refl)
-placed (suc (suc (suc k))) = ((λ h. cc), λ h. (let e = h.1 in cc))
+placed (suc (suc (suc zero))) = ((λ h. (fourth, refl, refl)), λ h. refl)
+placed (suc (suc (suc (suc k)))) = ((λ h. cc), λ h. (let e = h.1 in cc))
 
 -- ---- no node is a neighbour
 
@@ -164,21 +204,32 @@ alone_1 zero h = let e = h.near in cc
 alone_1 (suc zero) h = let e = h.earlier in cc
 alone_1 (suc (suc zero)) h = let e = h.earlier in cc
 alone_1 (suc (suc (suc zero))) h = let e = h.earlier in cc
-alone_1 (suc (suc (suc (suc i)))) h = let e = h.earlier in cc
+alone_1 (suc (suc (suc (suc zero)))) h = let e = h.earlier in cc
+alone_1 (suc (suc (suc (suc (suc i))))) h = let e = h.earlier in cc
 
 alone_2 : (i : ℕ) → ¬ IsNeighbour rrt_setup unsettled second (at 40 79) i
 alone_2 zero h = let e = h.near in cc
 alone_2 (suc zero) h = let e = h.near in cc
 alone_2 (suc (suc zero)) h = let e = h.earlier in cc
 alone_2 (suc (suc (suc zero))) h = let e = h.earlier in cc
-alone_2 (suc (suc (suc (suc i)))) h = let e = h.earlier in cc
+alone_2 (suc (suc (suc (suc zero)))) h = let e = h.earlier in cc
+alone_2 (suc (suc (suc (suc (suc i))))) h = let e = h.earlier in cc
 
 alone_3 : (i : ℕ) → ¬ IsNeighbour rrt_setup unsettled third (at 40 30) i
 alone_3 zero h = let e = h.near in cc
 alone_3 (suc zero) h = let e = h.near in cc
 alone_3 (suc (suc zero)) h = let e = h.near in cc
 alone_3 (suc (suc (suc zero))) h = let e = h.earlier in cc
-alone_3 (suc (suc (suc (suc i)))) h = let e = h.earlier in cc
+alone_3 (suc (suc (suc (suc zero)))) h = let e = h.earlier in cc
+alone_3 (suc (suc (suc (suc (suc i))))) h = let e = h.earlier in cc
+
+alone_4 : (i : ℕ) → ¬ IsNeighbour rrt_setup unsettled fourth (at 24 18) i
+alone_4 zero h = let e = h.near in cc
+alone_4 (suc zero) h = let e = h.near in cc
+alone_4 (suc (suc zero)) h = let e = h.near in cc
+alone_4 (suc (suc (suc zero))) h = let e = h.near in cc
+alone_4 (suc (suc (suc (suc zero)))) h = let e = h.earlier in cc
+alone_4 (suc (suc (suc (suc (suc i))))) h = let e = h.earlier in cc
 
 -- ---- the nearest nodes
 
@@ -187,21 +238,32 @@ nearest_1 zero h = IsNotAbove-refl (distance_to (at 0 50) unsettled.points) 0
 nearest_1 (suc zero) h = cc
 nearest_1 (suc (suc zero)) h = cc
 nearest_1 (suc (suc (suc zero))) h = cc
-nearest_1 (suc (suc (suc (suc i)))) h = cc
+nearest_1 (suc (suc (suc (suc zero)))) h = cc
+nearest_1 (suc (suc (suc (suc (suc i))))) h = cc
 
 nearest_2 : (i : ℕ) → IsEarlier unsettled second i → IsNotAbove (distance_to (at 40 79) unsettled.points) 1 i
 nearest_2 zero h = IsNotAbove-lesser (distance_to (at 40 79) unsettled.points) 1 0 (omega arith)
 nearest_2 (suc zero) h = IsNotAbove-refl (distance_to (at 40 79) unsettled.points) 1
 nearest_2 (suc (suc zero)) h = cc
 nearest_2 (suc (suc (suc zero))) h = cc
-nearest_2 (suc (suc (suc (suc i)))) h = cc
+nearest_2 (suc (suc (suc (suc zero)))) h = cc
+nearest_2 (suc (suc (suc (suc (suc i))))) h = cc
 
 nearest_3 : (i : ℕ) → IsEarlier unsettled third i → IsNotAbove (distance_to (at 40 30) unsettled.points) 1 i
 nearest_3 zero h = IsNotAbove-lesser (distance_to (at 40 30) unsettled.points) 1 0 (omega arith)
 nearest_3 (suc zero) h = IsNotAbove-refl (distance_to (at 40 30) unsettled.points) 1
 nearest_3 (suc (suc zero)) h = IsNotAbove-lesser (distance_to (at 40 30) unsettled.points) 1 2 (omega arith)
 nearest_3 (suc (suc (suc zero))) h = cc
-nearest_3 (suc (suc (suc (suc i)))) h = cc
+nearest_3 (suc (suc (suc (suc zero)))) h = cc
+nearest_3 (suc (suc (suc (suc (suc i))))) h = cc
+
+nearest_4 : (i : ℕ) → IsEarlier unsettled fourth i → IsNotAbove (distance_to (at 24 18) unsettled.points) 3 i
+nearest_4 zero h = IsNotAbove-lesser (distance_to (at 24 18) unsettled.points) 3 0 (omega arith)
+nearest_4 (suc zero) h = IsNotAbove-lesser (distance_to (at 24 18) unsettled.points) 3 1 (omega arith)
+nearest_4 (suc (suc zero)) h = IsNotAbove-lesser (distance_to (at 24 18) unsettled.points) 3 2 (omega arith)
+nearest_4 (suc (suc (suc zero))) h = IsNotAbove-refl (distance_to (at 24 18) unsettled.points) 3
+nearest_4 (suc (suc (suc (suc zero)))) h = cc
+nearest_4 (suc (suc (suc (suc (suc i))))) h = cc
 
 -- ---- the record law
 
@@ -277,21 +339,46 @@ law_3 = record {
   };
 }
 
-lawful : (k : ℕ) (entry : Record) → unsettled.record_of k ≡ Some entry → IsLawfulRecord rrt_setup unsettled k (mark_at marks_to_rewire k) entry
+law_4 : IsLawfulRecord rrt_setup unsettled 3 (at 24 18) fourth
+law_4 = record {
+  cheaper = λ i early goal. absurd (no_goal_node unsettled.points i goal);
+  present = refl;
+  nearest = nearest_4;
+  outcome = record {
+    by_worker = record {
+      clear = third_fourth.clear;
+      of_class = record { low = omega arith; high = omega arith };
+      chosen = λ i h. absurd (alone_4 i h);
+      rewired = λ i h. absurd (alone_4 i h);
+    };
+    by_tree = record {
+      stands = refl;
+      first = record { present = refl; other = λ e. absurd (omega (arith, e)); edge = third_fourth; above = omega (arith, backwards) };
+      nearest_other = λ e. absurd (omega (arith, e));
+      below_first = omega (arith, backwards);
+      below_nearest = omega (arith, backwards);
+      bounded = omega arith;
+      kept = omega arith;
+    };
+  };
+}
+
+lawful : (k : ℕ) (entry : Record) → unsettled.record_of k ≡ Some entry → IsLawfulRecord rrt_setup unsettled k (mark_at unsettled_marks k) entry
 lawful zero entry h = subst (IsLawfulRecord rrt_setup unsettled 0 (at 0 50)) (ap (λ o. unwrap_or {T = Record} o first) h) law_1
 lawful (suc zero) entry h = subst (IsLawfulRecord rrt_setup unsettled 1 (at 40 79)) (ap (λ o. unwrap_or {T = Record} o first) h) law_2
 lawful (suc (suc zero)) entry h = subst (IsLawfulRecord rrt_setup unsettled 2 (at 40 30)) (ap (λ o. unwrap_or {T = Record} o first) h) law_3
-lawful (suc (suc (suc k))) entry h = cc
+lawful (suc (suc (suc zero))) entry h = subst (IsLawfulRecord rrt_setup unsettled 3 (at 24 18)) (ap (λ o. unwrap_or {T = Record} o first) h) law_4
+lawful (suc (suc (suc (suc k)))) entry h = cc
 
 -- ---- the closed law
 
-pub IsClosed-unsettled : ClearAt rrt_setup.space (at 0 0) → IsClosed rrt_setup marks_to_rewire 3 unsettled
+pub IsClosed-unsettled : ClearAt rrt_setup.space (at 0 0) → IsClosed rrt_setup unsettled_marks 4 unsettled
 IsClosed-unsettled clear =
     let textbook = IsClosed-textbook open_setup marks_to_rewire rewired_tree rewired_records clear rewired_run in
     record {
       order =
           record {
-            distinct = textbook.order.distinct;
+            distinct = AreDistinct-placed (points_of rewired_tree) (at 24 18) free textbook.order.distinct;
             start_stands = refl;
             start_clear = clear;
             start_parent = refl;
@@ -302,7 +389,7 @@ IsClosed-unsettled clear =
       within = omega arith;
       records = record { recorded = recorded; none_else = none_else };
       workers = λ k entry h. omega (arith, worker_is k entry h);
-      turns = AreTurns-counted unsettled.record_of run 3 few_marks;
+      turns = AreTurns-counted unsettled.record_of run 4 few_marks;
       lawful = lawful;
       placed = ArePlacedMarks-from unsettled placed;
     }

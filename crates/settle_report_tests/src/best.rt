@@ -1,4 +1,4 @@
-//! The best nodes of a run of three marks, and of the start alone, for a goal here and there, and for several goals.
+//! The best nodes of a run of four marks, and of the start alone, for a goal here and there, and for several goals.
 
 ghost use Rattle.std.specs.Prelude.{◌≡◌, IsTrue};
 ghost use Rattle.plan_model.specs.Scenes.Limits.{are_goals, is_goal};
@@ -33,7 +33,7 @@ fn assert_best<R: Abort>(rt: &R, alloc: Global, grown: Grown, want: Option<u32>)
     drop(grown);
 }
 
-/// Asserts the best node of the run of three marks, for the goal between these two corners.
+/// Asserts the best node of the run of four marks, for the goal between these two corners.
 fn assert_best_of_run<R: Abort>(
     rt: &R,
     alloc: Global,
@@ -78,7 +78,7 @@ fn takes_the_start_alone_if_it_lies_in_the_goal(rt: HostRuntime) {
     assert_best_alone(&rt, rt.alloc(), (1, 1), (9, 9), None);
 }
 
-/// Asserts the best node of the run of three marks, for these goals.
+/// Asserts the best node of the run of four marks, for these goals.
 fn assert_best_of_goals<R: Abort>(rt: &R, alloc: Global, goals: &[Goal], want: Option<u32>)
     requires { IsTrue (are_goals 2 goals.now) }
 {

@@ -1,4 +1,4 @@
-//! Paths from the start to the nodes of a run of three marks.
+//! Paths from the start to the nodes of a run of four marks.
 
 use crate::support::{start_alone, sure, unsettled_run};
 use plan_model::{Goal, Point};
@@ -27,8 +27,9 @@ static START: [Point; 1] = [Point { x: 0, y: 0 }];
 
 static TO_1: [Point; 2] = [Point { x: 0, y: 0 }, Point { x: 0, y: 50 }];
 
-static TO_2: [Point; 3] = [
+static TO_2: [Point; 4] = [
     Point { x: 0, y: 0 },
+    Point { x: 24, y: 18 },
     Point { x: 40, y: 30 },
     Point { x: 40, y: 79 },
 ];

@@ -28,32 +28,34 @@ fn assert_kept<R: Abort>(rt: &R, grown: &Grown, wants: &[Option<(u32, u64)>]) {
     }
 }
 
-/// What the run of three marks keeps before it is settled, and then.
-static UNSETTLED: [Option<(u32, u64)>; 5] = [
+/// What the run of four marks keeps before it is settled, and then.
+static UNSETTLED: [Option<(u32, u64)>; 6] = [
     Some((0, 0)),
     Some((0, 12_800)),
     Some((3, 25_444)),
-    Some((0, 12_900)),
+    Some((4, 12_900)),
+    Some((0, 7_780)),
     None,
 ];
 
-static SETTLED: [Option<(u32, u64)>; 5] = [
+static SETTLED: [Option<(u32, u64)>; 6] = [
     Some((0, 0)),
     Some((0, 12_800)),
     Some((3, 25_344)),
-    Some((0, 12_800)),
+    Some((4, 12_800)),
+    Some((0, 7_680)),
     None,
 ];
 
-/// Asserts what the run of three marks is once it is settled. The run ends here.
+/// Asserts what the run of four marks is once it is settled. The run ends here.
 fn assert_settled<R: Abort>(rt: &R, grown: Grown) {
     assert_kept(rt, &grown, &SETTLED);
-    assert!(rt; grown.limit() == 3 && grown.count() == 4);
+    assert!(rt; grown.limit() == 4 && grown.count() == 5);
     drop(grown);
 }
 
 #[test]
-fn lowers_the_last_node_and_the_one_below_it(rt: HostRuntime) {
+fn lowers_the_last_node_and_those_below_it_from_the_first_of_them(rt: HostRuntime) {
     let mut grown = unsettled_run(&rt, rt.alloc(), &[GOAL]);
     assert_kept(&rt, &grown, &UNSETTLED);
     settle_run(&rt, rt.alloc(), &mut grown);

@@ -1,4 +1,4 @@
-//! A run for tests, in which two nodes are kept at more than their costs-to-come, and the last alone at more than through its
+//! A run for tests, in which three nodes are kept at more than their costs-to-come, and the last alone at more than through its
 //! parent.
 //! Runs and lists end by calls of `drop`: the proof of a call is shared, and that of the end of a scope is each function's own.
 
@@ -152,38 +152,44 @@ fn placed(turn: u32, nearest: u32, first_parent: u32, first_cost: u64, class: u3
     }
 }
 
-/// The nodes of the run of three marks.
-fn unsettled_knots() -> [Option<Knot>; 4]
+/// The nodes of the run of four marks.
+fn unsettled_knots() -> [Option<Knot>; 5]
     ensures { result
         ≡ Some (record { point = at 0 0; parent = 0; cost = 0 })
         ∷ Some (record { point = at 0 50; parent = 0; cost = 12800 })
         ∷ Some (record { point = at 40 79; parent = 3; cost = 25444 })
-        ∷ Some (record { point = at 40 30; parent = 0; cost = 12900 }) ∷ [] }
+        ∷ Some (record { point = at 40 30; parent = 4; cost = 12900 })
+        ∷ Some (record { point = at 24 18; parent = 0; cost = 7780 }) ∷ [] }
 {
     [
         node(0, 0, 0, 0),
         node(0, 50, 0, 12_800),
         node(40, 79, 3, 25_444),
-        node(40, 30, 0, 12_900),
+        node(40, 30, 4, 12_900),
+        node(24, 18, 0, 7_780),
     ]
 }
 
 /// Its records.
-fn unsettled_records() -> [Record; 3]
-    ensures { result ≡ placed_record 0 0 0 12800 1 ∷ placed_record 1 1 1 25449 2 ∷ placed_record 2 1 1 24249 2 ∷ [] }
+fn unsettled_records() -> [Record; 4]
+    ensures { result
+        ≡ placed_record 0 0 0 12800 1 ∷ placed_record 1 1 1 25449 2 ∷ placed_record 2 1 1 24249 2
+        ∷ placed_record 3 3 3 29369 3 ∷ [] }
 {
     [
         placed(0, 0, 0, 12_800, 1),
         placed(1, 1, 1, 25_449, 2),
         placed(2, 1, 1, 24_249, 2),
+        placed(3, 3, 3, 29_369, 3),
     ]
 }
 
-/// A run of three marks. Nodes 1 at (0, 50) and 3 at (40, 30) have the start as their parent, at (0, 0), and node 2 at
-/// (40, 79) has node 3.
+/// A run of four marks. Nodes 1 at (0, 50) and 4 at (24, 18) have the start as their parent, at (0, 0), node 3 at (40, 30) has
+/// node 4, and node 2 at (40, 79) has node 3.
 ///
-/// Node 3 is kept at 12,900, but the start is 12,800 from it. It is 12,544 from node 2, which is kept at no more than through it,
-/// 25,444. So node 3 alone is not tight, the last one, and node 2 costs less too once that is settled.
+/// Node 4 is kept at 7,780, but the start is 7,680 from it. It is 5,120 from node 3 and that 12,544 from node 2, and both are kept
+/// at no more than through their parents, 12,900 and 25,444. So node 4 alone is not tight, the last one, and nodes 3 and 2 cost
+/// less too once that is settled.
 pub(crate) fn unsettled_run<R: Abort>(rt: &R, alloc: Global, goals: &[Goal]) -> Grown
     requires { IsTrue (are_goals 2 goals.now) }
 {
@@ -191,6 +197,7 @@ pub(crate) fn unsettled_run<R: Abort>(rt: &R, alloc: Global, goals: &[Goal]) -> 
         Point { x: 0, y: 50 },
         Point { x: 40, y: 79 },
         Point { x: 40, y: 30 },
+        Point { x: 24, y: 18 },
     ];
     let task = task_of(rt, alloc, goals, &marks);
     packed(rt, alloc, task, &unsettled_knots(), &unsettled_records())
