@@ -2,14 +2,14 @@
 """Runs a built program with a fault in each run, and prints a table of how the runs ended.
 
 Usage: faults.py PROGRAM [WORDS..]. The words are those of a command that reads a scene; without them it is `plan 2`, `plan 2 full`,
-`smooth 1`, `anytime 1 1`, `twin 1`, `batch 1 1` and, for memory and threads alone, `plan 64 full`. Two scenes are read: the one of
-docs/report-format.md that is rewired, and examples/pillars.scene with few marks. One call in a run fails, or that call and all
-later ones of its kind: an allocation, a read, a write, or the making of a thread; each call in turn, until there is none of that
-number. Then reads and writes move one byte each, and each of them fails in turn. At last the streams are broken from the first:
-closed, a folder to read from, a full device, a pipe that nobody reads.
+`smooth 1`, `anytime 1 1`, `twin 1`, `batch 1 1`, `check` and, for memory and threads alone, `plan 64 full`. Two scenes are read: the one
+of docs/report-format.md that is rewired, and examples/pillars.scene with few marks; by `check` each with its report of one worker. One
+call in a run fails, or that call and all later ones of its kind: an allocation, a read, a write, or the making of a thread; each call
+in turn, until there is none of that number. Then reads and writes move one byte each, and each of them fails in turn. At last the
+streams are broken from the first: closed, a folder to read from, a full device, a pipe that nobody reads.
 
 A report is held to judge.py, a short one as far as it shows; of a command without workers, of `smooth 1`,
-`anytime 1 1`, `twin 1` and `batch 1 1`, it is the one without a fault. A run with a fault is right if
+`anytime 1 1`, `twin 1`, `batch 1 1` and `check`, it is the one without a fault. A run with a fault is right if
 
 - a refused allocation gives `no memory` with 7 and nothing before it, or nothing at all with 7 if nothing was read (there was no
   memory for the words of the command line), or a whole report: it did without, as without a thread;
@@ -72,6 +72,7 @@ COMMANDS = [
     (["anytime", "1", "1"], FAULTS),
     (["twin", "1"], FAULTS),
     (["batch", "1", "1"], FAULTS),
+    (["check"], FAULTS),
 ]
 
 
@@ -90,7 +91,8 @@ class Faults:
     """A command on a scene, whose calls are made to fail."""
 
     def __init__(self, library, command, text):
-        self.library, self.command, self.text = library, command, text
+        self.library, self.command = library, command
+        self.text = with_report(command[0], text) if command[1] == "check" else text
         self.scene = read(text)
         whole = self.run(Fault("none"), 0)
         self.report = None if command[1] == "plan" else (whole.status, whole.output)
@@ -194,6 +196,12 @@ def scenes():
         pillars = read(file.read())
     pillars.drawn = FEW_MARKS
     return {"rewired": REWIRED, "pillars": pillars.text().encode()}
+
+
+def with_report(program, text):
+    """The text of a scene with its report of one worker after it."""
+    done = subprocess.run([program, "plan", "1", "full"], input=text, capture_output=True, check=False, timeout=600)
+    return text + b"report\n" + done.stdout
 
 
 def line(name, command, what, counts):

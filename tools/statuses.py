@@ -28,6 +28,10 @@ TWIN = b"path 2 cost 12800\n0 0\n30 40\nstart nodes 2 placed 1 same 0 blocked 0\
 NO_TWIN = b"no path\nstart nodes 1 placed 0 same 0 blocked 0\ngoal nodes 1 placed 0 same 0 blocked 0\n"
 NONE = b"no path\nnodes 1 placed 0 same 0 blocked 0\n"
 FOUND_BETTER = b"better 12800 marks 1\n" + PATH
+REPORTED = (
+    b"report\n" + PATH + b"node 0 at 0 0 parent 0 cost 0\nnode 1 at 30 40 parent 0 cost 12800\n"
+    b"mark 0 worker 0 turn 0 nearest 0 placed class 1 first 0 12800\n"
+)
 # More than the program takes to begin, and less than it and a text of so many bytes take.
 FEW_BYTES = 16 << 20
 SECONDS = 60
@@ -64,6 +68,8 @@ CASES = [
     Case("no better path", ["anytime", "2", "1"], NO_PATH, 1, NONE),
     Case("no path between two trees", ["twin", "2"], NO_PATH, 1, NO_TWIN),
     Case("no path in one of two scenes", ["batch", "2", "1"], NO_PATH + b"next\n" + FOUND, 1, of_each(NONE, FOUND_BETTER)),
+    Case("a lawful report", ["check"], FOUND + REPORTED, 0, b"lawful\n"),
+    Case("a report that is not lawful", ["check"], FOUND + REPORTED.replace(b"12800\nmark", b"12801\nmark"), 1, b"broken line 6 law 2\n"),
     Case("no words", [], FOUND, 2, b"words refused\n"),
     Case("other words", ["plain", "short"], FOUND, 2, b"words refused\n"),
     Case("no worker", ["plan", "0"], FOUND, 2, b"words refused\n"),
@@ -77,11 +83,13 @@ CASES = [
     Case("a scene to convert", ["convert"], NO_PATH, 0, CONVERTED),
     Case("no scene to convert", ["convert"], b"prrt 3\n", 3, b"line 1 kind 1 Version\n"),
     Case("no second scene", ["batch", "1", "1"], FOUND + b"next\n", 3, b"line 8 kind 1 Version\n"),
+    Case("no report after a scene", ["check"], FOUND, 3, b"line 7 kind 9 Missing\n"),
     Case("no scene to show", ["show"], b"prrt 0\n" + FOUND[7:], 3, b"line 1 kind 1 Version\n"),
     Case("a text that is too long", ["plain"], LONG, 3, b"text too long\n"),
     Case("a start that is not clear", ["plain"], BLOCKED, 4, b"start blocked\n"),
     Case("the same by workers", ["plan", "2"], BLOCKED, 4, b"start blocked\n"),
     Case("the same of a second scene", ["batch", "1", "1"], FOUND + b"next\n" + BLOCKED, 4, b"start blocked\n"),
+    Case("the same before a report is looked at", ["check"], BLOCKED + b"report\nno report\n", 4, b"start blocked\n"),
     Case("the same before a path is smoothed", ["smooth", "2"], BLOCKED, 4, b"start blocked\n"),
     Case("the same before a goal is tested", ["twin", "2"], BLOCKED, 4, b"start blocked\n"),
     Case("a goal that is not clear", ["twin", "2"], BLOCKED_GOAL, 8, b"goal blocked\n"),

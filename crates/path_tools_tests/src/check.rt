@@ -1,7 +1,7 @@
 //! Verdicts on the full report of a run in which a node is rewired, and on that report with lines changed.
 
 use crate::support::sure;
-use path_tools::{Verdict, check};
+use path_tools::{Verdict, check, cut_at_report};
 use plan_model::{Goal, Memory, Point, SmallScene, Task};
 use std::alloc::Global;
 use std::process::Abort;
@@ -391,4 +391,15 @@ fn no_line_comes_after_the_last_mark(rt: HostRuntime) {
         "a line too many"
     );
     drop(text);
+}
+
+#[test]
+fn a_report_begins_after_the_first_line_report(rt: HostRuntime) {
+    match cut_at_report(b"prrt 1\n report\nreport\npath\nreport\n") {
+        Some((scene, report)) => {
+            assert!(&rt; scene == "prrt 1\n report\n".as_bytes(), "the scene");
+            assert!(&rt; report == "path\nreport\n".as_bytes(), "the report");
+        }
+        None => panic!(&rt; "there is a line"),
+    }
 }

@@ -6,7 +6,7 @@ use Rattle.std.specs.Io.KnownBytes.{Consumes}
 use Rattle.plan_model.specs.declared.limits.TheConstants.{MOST_TEXT_BYTES}
 use Rattle.plan_model.specs.declared.scenes.Scene.{Scene}
 use Rattle.plan_model.specs.declared.text_terms.Kind.{Kind}
-use Rattle.plan_model.specs.Texts.SceneGrammar.{supported}
+use Rattle.plan_model.specs.Texts.SceneGrammar.{Spells, supported}
 use Rattle.plan_model.specs.Texts.Streams.{SourceState}
 use Rattle.plan_model.proofs.SceneBatchLaws.{SpellsBatch-not_refused, SpellsBatch-one_batch}
 use Rattle.plan_model.proofs.Soundness.{Spells-not_refused}
@@ -17,6 +17,8 @@ use Rattle.plan_model.specs.Spaces.ConfigurationSpace.{space_of}
 use Rattle.twin_trees.specs.TurnedScenes.{goal_middle}
 use Rattle.twin_trees.proofs.TurnedRuns.{ClearAt-middle}
 use Rattle.scene_text.specs.Fetching.{CameTooLong}
+use Rattle.path_tools.specs.declared.verdicts.Verdict.{Verdict}
+use Rattle.path_tools.specs.declared.verdicts.Verdict.TheVariants.{Broken, Lawful}
 use Rattle.planner_main.specs.declared.commands.Command.{Command}
 use Rattle.planner_main.specs.declared.commands.Command.TheVariants as commands
 use Rattle.planner_main.specs.declared.refusals.Refusal.{Refusal}
@@ -26,9 +28,26 @@ use Rattle.planner_main.specs.declared.top_call.Done.{Done}
 use Rattle.planner_main.specs.Commands.{input_of, plans, reads_text, tests_goal, tests_start, greatest_success}
 use Rattle.planner_main.specs.Conclusions.{BlocksGoal, BlocksStart, IsCaused, IsSceneOf, IsSuccess, MayReach, MayStart, OfScene, Succeeds, status_of_report}
 use Rattle.planner_main.specs.Decisions.{IsDecidedBy, IsDecided}
-use Rattle.planner_main.specs.Inputs.{Input, nothing, one_scene, several_scenes, AreGoalsClear, AreStartsClear, RefusesInput, SpellsInput}
+use Rattle.planner_main.specs.Inputs.{Input, nothing, one_scene, several_scenes, scene_and_report, AreGoalsClear, AreStartsClear, RefusesInput, SpellsInput}
+use Rattle.planner_main.specs.Inputs.{IsTextBeforeReport, RefusesFront, RefusesWhole}
 use Rattle.planner_main.specs.Exchanges.{ReadFailed, IsReadWhole, IsUnread}
 use Rattle.planner_main.specs.Refusals.{status_of}
+use Rattle.planner_main.specs.VerdictLines.{status_of_verdict}
+use Rattle.planner_main.proofs.CutTexts.{IsCutAtReport-has_line, IsCutAtReport-one_front}
+
+-- a scene that stands before a line `report` is not refused
+not_faulty_front : (bytes : List ℕ) (scene : Scene) (number : ℕ) (kind : Kind) → IsTextBeforeReport scene bytes →
+    RefusesFront number kind bytes ⊎ RefusesWhole number kind bytes → ⊥
+not_faulty_front bytes scene number kind t (inl f) =
+    let same = IsCutAtReport-one_front bytes t.front t.report f.front f.report t.cut f.cut in
+    Spells-not_refused supported f.front scene number kind (subst (λ text. Spells supported text scene) same t.spelled) f.refused
+not_faulty_front bytes scene number kind t (inr f) = IsCutAtReport-has_line bytes t.front t.report t.cut f.none
+
+-- and it is one
+same_front : (bytes : List ℕ) (a b : Scene) → IsTextBeforeReport a bytes → IsTextBeforeReport b bytes → a ≡ b
+same_front bytes a b s t =
+    let same = IsCutAtReport-one_front bytes t.front t.report s.front s.report t.cut s.cut in
+    Spells-one_scene supported s.front a b s.spelled (subst (λ text. Spells supported text b) same t.spelled)
 
 -- an input that spells scenes is not refused
 not_faulty : (input : Input) (bytes : List ℕ) (scenes : List Scene) (number : ℕ) (kind : Kind) → SpellsInput input bytes scenes →
@@ -38,6 +57,9 @@ not_faulty one_scene bytes [] number kind t f = t
 not_faulty one_scene bytes (scene ∷ []) number kind t f = Spells-not_refused supported bytes scene number kind t.spelled f.refused
 not_faulty one_scene bytes (scene ∷ second ∷ scenes) number kind t f = t
 not_faulty several_scenes bytes scenes number kind t f = SpellsBatch-not_refused supported bytes scenes number kind t.spelled f.refused
+not_faulty scene_and_report bytes [] number kind t f = t
+not_faulty scene_and_report bytes (scene ∷ []) number kind t f = not_faulty_front bytes scene number kind t f.refused
+not_faulty scene_and_report bytes (scene ∷ second ∷ scenes) number kind t f = t
 
 -- and has a permitted length
 short_input : (input : Input) (bytes : List ℕ) (scenes : List Scene) → SpellsInput input bytes scenes → length bytes ≤ MOST_TEXT_BYTES
@@ -46,6 +68,9 @@ short_input one_scene bytes [] t = absurd t
 short_input one_scene bytes (scene ∷ []) t = t.short
 short_input one_scene bytes (scene ∷ second ∷ scenes) t = absurd t
 short_input several_scenes bytes scenes t = t.short
+short_input scene_and_report bytes [] t = absurd t
+short_input scene_and_report bytes (scene ∷ []) t = t.short
+short_input scene_and_report bytes (scene ∷ second ∷ scenes) t = absurd t
 
 -- the middles of their first goals are clear together
 same_goals : (input : Input) (bytes : List ℕ) (scenes others : List Scene) → SpellsInput input bytes scenes → SpellsInput input bytes others →
@@ -59,6 +84,12 @@ same_goals one_scene bytes (a ∷ []) (b ∷ []) s t clear =
     (subst (λ scene. ClearAt (space_of scene) (goal_middle scene)) (Spells-one_scene supported bytes a b s.spelled t.spelled) clear.0, tt)
 same_goals several_scenes bytes scenes others s t clear =
     subst AreGoalsClear (SpellsBatch-one_batch supported bytes scenes others s.spelled t.spelled) clear
+same_goals scene_and_report bytes [] others s t clear = absurd s
+same_goals scene_and_report bytes (a ∷ c ∷ scenes) others s t clear = absurd s
+same_goals scene_and_report bytes (a ∷ []) [] s t clear = absurd t
+same_goals scene_and_report bytes (a ∷ []) (b ∷ d ∷ others) s t clear = absurd t
+same_goals scene_and_report bytes (a ∷ []) (b ∷ []) s t clear =
+    (subst (λ scene. ClearAt (space_of scene) (goal_middle scene)) (same_front bytes a b s t) clear.0, tt)
 
 -- the scenes that it spells are clear at their starts together
 same_starts : (input : Input) (bytes : List ℕ) (scenes others : List Scene) → SpellsInput input bytes scenes → SpellsInput input bytes others →
@@ -71,6 +102,12 @@ same_starts one_scene bytes (a ∷ []) (b ∷ d ∷ others) s t clear = absurd t
 same_starts one_scene bytes (a ∷ []) (b ∷ []) s t clear = (ClearAt-spelled supported bytes a b s.spelled t.spelled clear.0, tt)
 same_starts several_scenes bytes scenes others s t clear =
     subst AreStartsClear (SpellsBatch-one_batch supported bytes scenes others s.spelled t.spelled) clear
+same_starts scene_and_report bytes [] others s t clear = absurd s
+same_starts scene_and_report bytes (a ∷ c ∷ scenes) others s t clear = absurd s
+same_starts scene_and_report bytes (a ∷ []) [] s t clear = absurd t
+same_starts scene_and_report bytes (a ∷ []) (b ∷ d ∷ others) s t clear = absurd t
+same_starts scene_and_report bytes (a ∷ []) (b ∷ []) s t clear =
+    (subst (λ scene. ClearAt (space_of scene) scene.start) (same_front bytes a b s t) clear.0, tt)
 
 module _ (bytes : List ℕ) (command : Command) (status : ℕ) where
   -- the bytes spell scenes at whose starts the command may start, and it succeeds
@@ -125,6 +162,10 @@ low_report : (found : Bool) → status_of_report found ≤ NO_PATH
 low_report true = omega arith
 low_report false = omega arith
 
+low_verdict : (verdict : Verdict) → status_of_verdict verdict ≤ NO_PATH
+low_verdict Lawful = omega arith
+low_verdict (Broken at law) = omega arith
+
 -- a command that succeeds ends with one of its statuses of success
 pub Succeeds-low : (command : Command) (bytes : List ℕ) (done : Done) (text : List ℕ) → Succeeds command bytes done text →
     done.status ≤ greatest_success command
@@ -134,6 +175,7 @@ Succeeds-low (commands.Smooth workers) bytes done text s = rw s.meaning.reported
 Succeeds-low (commands.Anytime workers slice) bytes done text s = rw s.meaning.reported.best (low_report _)
 Succeeds-low (commands.Twin workers) bytes done text s = rw s.meaning.bridge (low_report _)
 Succeeds-low (commands.Batch workers slice) bytes done text s = rw s.meaning.best (low_report _)
+Succeeds-low commands.Check bytes done text s = rw s.meaning.status (low_verdict _)
 Succeeds-low commands.Show bytes done text s = omega (arith, s.meaning.status)
 Succeeds-low commands.Convert bytes done text s = omega (arith, s.meaning.written.status)
 Succeeds-low (commands.Gen number) bytes done text s = omega (arith, s.meaning.status)
@@ -146,6 +188,7 @@ greatest_success-low (commands.Smooth workers) = omega arith
 greatest_success-low (commands.Anytime workers slice) = omega arith
 greatest_success-low (commands.Twin workers) = omega arith
 greatest_success-low (commands.Batch workers slice) = omega arith
+greatest_success-low commands.Check = omega arith
 greatest_success-low commands.Show = omega arith
 greatest_success-low commands.Convert = omega arith
 greatest_success-low (commands.Gen number) = omega arith
@@ -165,6 +208,7 @@ spelled (commands.Smooth workers) bytes scene is reads = is
 spelled (commands.Anytime workers slice) bytes scene is reads = is
 spelled (commands.Twin workers) bytes scene is reads = is
 spelled (commands.Batch workers slice) bytes scene is reads = absurd is
+spelled commands.Check bytes scene is reads = is
 spelled commands.Show bytes scene is reads = is
 spelled commands.Convert bytes scene is reads = is
 spelled (commands.Gen number) bytes scene is reads = absurd (false≢true reads)
@@ -191,6 +235,7 @@ by_meaning bytes command done text s reads = by command s reads (Succeeds-low co
         by_scene bytes (commands.Twin workers) done.status _ s reads (λ tests. (ClearAt-middle s.scene s.meaning.both s.meaning.twin, tt)) low
     by (commands.Batch workers slice) s reads low =
         by_success bytes (commands.Batch workers slice) done.status s.scenes s.spelled (λ tests. s.starts) (λ tests. absurd (false≢true tests)) low
+    by commands.Check s reads low = by_scene bytes commands.Check done.status _ s reads (λ tests. absurd (false≢true tests)) low
     by commands.Show s reads low = by_scene bytes commands.Show done.status _ s reads (λ tests. absurd (false≢true tests)) low
     by commands.Convert s reads low = by_scene bytes commands.Convert done.status _ s reads (λ tests. absurd (false≢true tests)) low
     by (commands.Gen number) s reads low = absurd (false≢true reads)
@@ -242,6 +287,7 @@ tests_goal-reads (commands.Plan workers full) tests = absurd (false≢true tests
 tests_goal-reads (commands.Smooth workers) tests = absurd (false≢true tests)
 tests_goal-reads (commands.Anytime workers slice) tests = absurd (false≢true tests)
 tests_goal-reads (commands.Batch workers slice) tests = absurd (false≢true tests)
+tests_goal-reads commands.Check tests = absurd (false≢true tests)
 tests_goal-reads commands.Show tests = absurd (false≢true tests)
 tests_goal-reads commands.Convert tests = absurd (false≢true tests)
 tests_goal-reads (commands.Gen number) tests = absurd (false≢true tests)

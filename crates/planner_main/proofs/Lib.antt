@@ -1,5 +1,7 @@
 pub mod Causes
+pub mod CutTexts
 pub mod DecidedStatuses
+pub mod GivenChecks
 pub mod Successes
 pub mod GivenAnswers
 pub mod GivenBatches

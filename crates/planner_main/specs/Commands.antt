@@ -7,14 +7,15 @@ use Rattle.planner_main.specs.declared.commands.Command.{Command}
 use Rattle.planner_main.specs.declared.commands.Command.TheVariants as commands
 use Rattle.planner_main.specs.declared.generated_scenes.TheConstants.{MOST_GENERATED}
 use Rattle.planner_main.specs.declared.statuses.TheConstants.{DONE, NO_PATH}
-use Rattle.planner_main.specs.Inputs.{Input, nothing, one_scene, several_scenes, reads_bytes}
+use Rattle.planner_main.specs.Inputs.{Input, nothing, one_scene, scene_and_report, several_scenes, reads_bytes}
 
 -- the command that one word asks for, if it asks for one
 abbrev pub command_of_word : List ℕ → Option Command
 command_of_word word =
     if bytes_eq word (codes "plain") then Some (commands.Plain false)
+    else (if bytes_eq word (codes "check") then Some commands.Check
     else (if bytes_eq word (codes "show") then Some commands.Show
-    else (if bytes_eq word (codes "convert") then Some commands.Convert else None))
+    else (if bytes_eq word (codes "convert") then Some commands.Convert else None)))
 
 -- The number that a word stands for, if it is one from `least` to `most`: spelled as the numbers of a scene text are.
 abbrev pub number_in : ℕ → ℕ → List ℕ → Option ℕ
@@ -86,6 +87,7 @@ IsNumbered (commands.Smooth workers) = (1 ≤ workers) × (workers ≤ MOST_WORK
 IsNumbered (commands.Anytime workers slice) = (1 ≤ workers) × (workers ≤ MOST_WORKERS) × (1 ≤ slice)
 IsNumbered (commands.Twin workers) = (1 ≤ workers) × (workers ≤ MOST_WORKERS)
 IsNumbered (commands.Batch workers slice) = (1 ≤ workers) × (workers ≤ MOST_WORKERS) × (1 ≤ slice)
+IsNumbered commands.Check = Unit {0}
 IsNumbered commands.Show = Unit {0}
 IsNumbered commands.Convert = Unit {0}
 IsNumbered (commands.Gen number) = number ≤ MOST_GENERATED
@@ -99,6 +101,7 @@ input_of (commands.Smooth workers) = one_scene
 input_of (commands.Anytime workers slice) = one_scene
 input_of (commands.Twin workers) = one_scene
 input_of (commands.Batch workers slice) = several_scenes
+input_of commands.Check = scene_and_report
 input_of commands.Show = one_scene
 input_of commands.Convert = one_scene
 input_of (commands.Gen number) = nothing
@@ -108,7 +111,7 @@ input_of (commands.Trial number) = nothing
 abbrev pub reads_text : Command → Bool
 reads_text command = reads_bytes (input_of command)
 
--- whether a command plans its scene, which then has a clear start
+-- whether a command plans its scene, or checks a plan of it, and the scene then has a clear start
 abbrev pub plans : Command → Bool
 plans (commands.Plain full) = true
 plans (commands.Plan workers full) = true
@@ -116,6 +119,7 @@ plans (commands.Smooth workers) = true
 plans (commands.Anytime workers slice) = true
 plans (commands.Twin workers) = true
 plans (commands.Batch workers slice) = true
+plans commands.Check = true
 plans commands.Show = false
 plans commands.Convert = false
 plans (commands.Gen number) = false
@@ -138,6 +142,7 @@ greatest_success (commands.Smooth workers) = NO_PATH
 greatest_success (commands.Anytime workers slice) = NO_PATH
 greatest_success (commands.Twin workers) = NO_PATH
 greatest_success (commands.Batch workers slice) = NO_PATH
+greatest_success commands.Check = NO_PATH
 greatest_success commands.Show = DONE
 greatest_success commands.Convert = DONE
 greatest_success (commands.Gen number) = DONE

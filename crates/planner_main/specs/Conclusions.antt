@@ -4,6 +4,7 @@ use Rattle.std.specs.List.{list_all}
 use Rattle.std.specs.Prelude.{Option, Some, None, is_some, IsSome, IsSomeAnd, Result, IfOk, IfErr}
 use Rattle.plan_model.specs.declared.records.Record.{Record}
 use Rattle.plan_model.specs.declared.scenes.Scene.{Scene}
+use Rattle.plan_model.specs.declared.tasks.Task.{Task}
 use Rattle.plan_model.specs.Spaces.ConfigurationSpace.{space_of}
 use Rattle.plan_model.specs.Spaces.Clearance.{ClearAt}
 use Rattle.plan_model.specs.Scenes.ConvertedScenes.{IsConverted}
@@ -19,7 +20,10 @@ use Rattle.plan_model.specs.Texts.CanonicalText.{canonical_text}
 use Rattle.step_core.specs.declared.grown.Grown.{Grown}
 use Rattle.step_core.specs.GrownRuns.{state_of_grown}
 use Rattle.scene_text.specs.Fetching.{ReadsWithin}
+use Rattle.path_tools.specs.Judgements.{IsVerdict}
+use Rattle.path_tools.specs.ReportCuts.{IsCutAtReport}
 use Rattle.path_tools.specs.SmoothedReports.{IsSmoothedReport}
+use Rattle.path_tools.specs.declared.verdicts.Verdict.{Verdict}
 use Rattle.any_time.specs.BestPaths.{has_path}
 use Rattle.any_time.specs.BetterPaths.{AreBetterPaths}
 use Rattle.any_time.specs.BetterReports.{batch_report, better_report}
@@ -35,7 +39,8 @@ use Rattle.planner_main.specs.declared.refusals.Refusal.TheVariants as refusals
 use Rattle.planner_main.specs.declared.statuses.TheConstants.{DONE, NO_PATH}
 use Rattle.planner_main.specs.declared.top_call.Done.{Done}
 use Rattle.planner_main.specs.Commands.{input_of, plans, reads_text, tests_goal, tests_start}
-use Rattle.planner_main.specs.Inputs.{AreGoalsClear, AreStartsClear, IsBatchOf, IsTextOf, RefusesInput, SpellsInput}
+use Rattle.planner_main.specs.Inputs.{AreGoalsClear, AreStartsClear, IsBatchOf, IsTextBeforeReport, IsTextOf, RefusesInput, SpellsInput}
+use Rattle.planner_main.specs.VerdictLines.{status_of_verdict, verdict_line}
 use Rattle.planner_main.specs.GeneratedScenes.{IsGenerated}
 use Rattle.planner_main.specs.Exchanges.{IsReadWhole, IsUnread, IsReadFault, IsTooLong, NoReadFailed}
 use Rattle.planner_main.specs.Refusals.{status_of, line_of}
@@ -143,6 +148,20 @@ pub record ReportsBatch (workers slice : ℕ) (scenes : List Scene) (done : Done
   pub written : text ≡ batch_report 0 done.better done.batch
   pub alone : HandsOutNothing (record done { batch = []; better = [] })
 
+-- The text is the line of the verdict on what stands after the line `report`, as a report of the scene before it, and the status is that of
+-- the verdict.
+pub record WritesVerdict (bytes : List ℕ) (scene : Scene) (done : Done) (text : List ℕ) : Type 0 where
+  pub front : List ℕ
+  pub report : List ℕ
+  pub cut : IsCutAtReport bytes front report
+  pub task : Task
+  pub of_scene : task.scene ≡ scene
+  pub verdict : Verdict
+  pub judged : IsVerdict task report verdict
+  pub status : done.status ≡ status_of_verdict verdict
+  pub written : text ≡ verdict_line verdict
+  pub nothing : HandsOutNothing done
+
 -- the text is the canonical text of the scene
 pub record WritesScene (scene : Scene) (done : Done) (text : List ℕ) : Type 0 where
   pub written : text ≡ canonical_text scene
@@ -155,7 +174,8 @@ pub record WritesConverted (scene : Scene) (done : Done) (text : List ℕ) : Typ
   pub of_scene : IsConverted scene converted
   pub written : WritesScene converted done text
 
--- the scene of a command: that which the bytes spell, or the generated one of its number; a batch has no such one
+-- the scene of a command: that which the bytes spell, or what stands before their line `report`, or the generated one of its number; a
+-- batch has no such one
 abbrev pub IsSceneOf : Command → List ℕ → Scene → Type 0
 IsSceneOf (commands.Plain full) bytes scene = IsTextOf scene bytes
 IsSceneOf (commands.Plan workers full) bytes scene = IsTextOf scene bytes
@@ -163,6 +183,7 @@ IsSceneOf (commands.Smooth workers) bytes scene = IsTextOf scene bytes
 IsSceneOf (commands.Anytime workers slice) bytes scene = IsTextOf scene bytes
 IsSceneOf (commands.Twin workers) bytes scene = IsTextOf scene bytes
 IsSceneOf (commands.Batch workers slice) bytes scene = ⊥
+IsSceneOf commands.Check bytes scene = IsTextBeforeReport scene bytes
 IsSceneOf commands.Show bytes scene = IsTextOf scene bytes
 IsSceneOf commands.Convert bytes scene = IsTextOf scene bytes
 IsSceneOf (commands.Gen number) bytes scene = IsGenerated number scene
@@ -193,6 +214,7 @@ Succeeds (commands.Anytime workers slice) bytes done text =
     OfScene (commands.Anytime workers slice) bytes (λ scene. ReportsBetterPaths workers slice scene done text)
 Succeeds (commands.Twin workers) bytes done text = OfScene (commands.Twin workers) bytes (λ scene. ReportsTwin scene done text)
 Succeeds (commands.Batch workers slice) bytes done text = OfBatch bytes (λ scenes. ReportsBatch workers slice scenes done text)
+Succeeds commands.Check bytes done text = OfScene commands.Check bytes (λ scene. WritesVerdict bytes scene done text)
 Succeeds commands.Show bytes done text = OfScene commands.Show bytes (λ scene. WritesScene scene done text)
 Succeeds commands.Convert bytes done text = OfScene commands.Convert bytes (λ scene. WritesConverted scene done text)
 Succeeds (commands.Gen number) bytes done text = OfScene (commands.Gen number) bytes (λ scene. WritesScene scene done text)

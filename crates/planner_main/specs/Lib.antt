@@ -1,4 +1,6 @@
 pub mod Refusals
+pub mod VerdictLines
+pub mod CheckedTexts
 pub mod Exchanges
 pub mod Conclusions
 pub mod Decisions

@@ -24,6 +24,7 @@ ghost use Rattle.planner_main.specs.declared.statuses.TheConstants.{DONE};
 ghost use Rattle.step_core.specs.GrownRuns.{state_of_grown};
 
 use crate::batches::plan_batch;
+use crate::checking::check_report;
 use crate::commands::{Command, command_of};
 use crate::generated_scenes::gen_scene;
 use crate::refusals::Refusal;
@@ -94,6 +95,7 @@ fn perform<
         Command::Anytime { workers, slice } => plan_by_slices(rt, alloc, workers, slice, source),
         Command::Twin(workers) => plan_twin(rt, alloc, workers, source, gate),
         Command::Batch { workers, slice } => plan_batch(rt, alloc, workers, slice, source),
+        Command::Check => check_report(alloc, source),
         Command::Show => show(alloc, source),
         Command::Convert => convert(alloc, source),
         Command::Gen(number) => Ok(generate(alloc, number)?),

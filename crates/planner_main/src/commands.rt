@@ -43,6 +43,8 @@ pub enum Command {
         /// How many marks a slice has: 1 to `MOST_MARKS`.
         slice: u32,
     },
+    /// `check`: the verdict on the full report that is read after its scene.
+    Check,
     /// `show`: the canonical text of the scene that is read.
     Show,
     /// `convert`: the canonical text of the scene that is read, in version 2.
@@ -73,6 +75,7 @@ fn command_of_word(word: &str) -> Option<Command>
 {
     match word {
         "plain" => Some(Command::Plain { full: false }),
+        "check" => Some(Command::Check),
         "show" => Some(Command::Show),
         "convert" => Some(Command::Convert),
         _ => None,

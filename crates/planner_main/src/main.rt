@@ -7,7 +7,8 @@
 //! - A success writes the text that the command asks for. A report tells of the textbook run of the scene that the bytes
 //!   spell, of a lawful run that workers have grown for that scene, or of the textbook run of a generated scene, and `run`
 //!   hands out that run with the status, and with `anytime W S` its better paths; with `batch W S` a run and its better
-//!   paths for each scene, and with `twin W` both runs. `show`, `convert` and `gen` write the canonical text of a scene.
+//!   paths for each scene, and with `twin W` both runs. `show`, `convert` and `gen` write the canonical text of a scene,
+//!   and `check` the verdict on a report.
 //! - Each refusal has its cause.
 //! - The bytes decide which status comes, if no read or write fails and memory lasts.
 //!
@@ -16,10 +17,12 @@
 
 mod answers;
 mod batches;
+mod checking;
 mod command_line;
 mod commands;
 mod generated_scenes;
 mod refusals;
+mod short_lines;
 mod standard_streams;
 mod statuses;
 #[cfg(test)]

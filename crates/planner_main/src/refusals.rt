@@ -2,12 +2,12 @@
 
 ghost use Rattle.std.specs.Prelude.{◌≡◌, ◌≤◌, ◌<◌, ◌+◌, ◌++◌, length, decimal};
 ghost use Rattle.planner_main.specs.Refusals.{message_of, line_of, status_of};
+ghost use Rattle.planner_main.specs.declared.short_lines.TheConstants.{LINE_CAPACITY};
 
+use crate::short_lines::{Line, line_from, push, push_number};
 use crate::statuses::{
     GOAL_BLOCKED, NO_MEMORY, READ_FAULT, START_BLOCKED, TEXT_REFUSED, WORDS_REFUSED,
 };
-use arrayvec::ArrayString;
-use itoa::Buffer;
 use plan_model::{Kind, Memory};
 use scene_text::{FetchFault, SceneRefusal};
 use std::error::Error;
@@ -142,27 +142,6 @@ impl From<Memory> for Refusal {
     }
 }
 
-/// Room for the longest line: the number of a line has at most ten digits, the name of a kind at most ten letters.
-const LINE_CAPACITY: usize = 64;
-
-type Line = ArrayString<LINE_CAPACITY>;
-
-fn push(line: &mut Line, piece: &str)
-    requires { length line.old.bytes + length piece.now ≤ LINE_CAPACITY }
-    ensures { line.new.bytes ≡ line.old.bytes ++ piece.now }
-{
-    line.try_push_str(piece).unwrap()
-}
-
-fn push_number(line: &mut Line, number: u32)
-    requires { length line.old.bytes + 10 ≤ LINE_CAPACITY }
-    ensures value { line.new.bytes ≡ line.old.bytes ++ decimal number }
-    ensures short { length line.new.bytes ≤ length line.old.bytes + 10 }
-{
-    let mut buffer = Buffer::new();
-    push(line, buffer.format(number));
-}
-
 /// Of a text that is no scene: the number of the line, and the kind of its fault.
 fn fault_message(number: u32, kind: Kind) -> Line
     ensures text { result.bytes ≡ message_of (Refusal.Text number kind) }
@@ -175,16 +154,6 @@ fn fault_message(number: u32, kind: Kind) -> Line
     push_number(&mut line, kind.number());
     push(&mut line, " ");
     push(&mut line, kind.name());
-    line
-}
-
-fn line_from(text: &str) -> Line
-    requires { length text.now < LINE_CAPACITY }
-    ensures text { result.bytes ≡ text.now }
-    ensures short { length result.bytes < LINE_CAPACITY }
-{
-    let mut line = Line::new();
-    push(&mut line, text);
     line
 }
 

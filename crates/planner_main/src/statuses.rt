@@ -3,11 +3,11 @@
 ghost use Rattle.planner_main.specs.FixedNumbers.{FixedNumbers};
 
 /// The command is done; for `plain` and `plan W`, in short or in full, for `smooth W`, `anytime W S` and `trial`, a path was found, for
-/// `batch W S` one of each scene.
+/// `batch W S` one of each scene; for `check`, the report is lawful.
 pub const DONE: u8 = 0;
 
 /// `plain` and `plan W`, in short or in full, `smooth W`, `anytime W S` and `trial`: no node of the tree lies in a goal. `batch W S`: so of
-/// some tree.
+/// some tree. `check`: the report breaks a law.
 pub const NO_PATH: u8 = 1;
 
 /// The words of the command line ask for no command.

@@ -64,6 +64,8 @@ impl Done {
 /// - `smooth W` does as `plan W` does, and writes the short report along the smoothed path: the cheapest choice of points of the best one.
 /// - `twin W` grows two trees of the scene so, one from each end, and writes the path over the cheapest bridge between them with the
 ///   counts of both.
+/// - `check` reads a scene, a line `report`, and a full report, and writes whether it is the report of a lawful run of the scene, or the
+///   least law that is broken and the first line that breaks it.
 /// - `show` reads a scene and writes its canonical text. `convert` writes that of the scene in version 2.
 /// - `gen N` reads nothing and writes the canonical text of a generated scene.
 /// - `trial N` reads nothing, plans a generated scene as `plain` does, and writes the report without the points of its path.

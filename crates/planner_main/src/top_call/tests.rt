@@ -388,13 +388,14 @@ fn plans_for_a_body(rt: HostRuntime) {
     expect_each(&rt, rt.alloc(), &["plain"], &WITH_BODY);
 }
 
-static READERS: [&[&str]; 8] = [
+static READERS: [&[&str]; 9] = [
     &["plain"],
     &["plan", "2"],
     &["smooth", "2"],
     &["anytime", "2", "3"],
     &["twin", "2"],
     &["batch", "2", "3"],
+    &["check"],
     &["show"],
     &["convert"],
 ];
@@ -612,7 +613,7 @@ fn expect_each_refused<
     }
 }
 
-static NO_COMMANDS: [&[&str]; 50] = [
+static NO_COMMANDS: [&[&str]; 52] = [
     &[],
     &["plain full"],
     &["plain  full"],
@@ -663,6 +664,8 @@ static NO_COMMANDS: [&[&str]; 50] = [
     &["batch", "65", "1"],
     &["batch", "1", "1", "full"],
     &["Batch", "1", "1"],
+    &["check", "full"],
+    &["Check"],
 ];
 
 static OUTSIDE: Case = Case {
@@ -741,6 +744,7 @@ static TRIED: Case = Case {
 mod anytime;
 mod batches;
 mod calls;
+mod checks;
 mod cut_texts;
 mod faults;
 mod full_reports;

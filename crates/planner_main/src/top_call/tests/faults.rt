@@ -58,13 +58,14 @@ pub fn expect_early_faults<
     expect_read_faults(rt, alloc, words, ONE_MARK, 10, &EARLY);
 }
 
-static READING: [&[&str]; 8] = [
+static READING: [&[&str]; 9] = [
     &["plain"],
     &["plain", "full"],
     &["smooth", "1"],
     &["anytime", "1", "1"],
     &["twin", "1"],
     &["batch", "1", "1"],
+    &["check"],
     &["show"],
     &["convert"],
 ];
@@ -140,7 +141,7 @@ fn expect_cut<R: Threads + Sync + Wait + RandomSource + AllocGlobal + Clone + Dr
     drop(called);
 }
 
-static CUTS: [Cut; 16] = [
+static CUTS: [Cut; 17] = [
     Cut {
         words: &["plain", "full"],
         fails: 1,
@@ -199,6 +200,12 @@ static CUTS: [Cut; 16] = [
         words: &["batch", "1", "1"],
         fails: 3,
         taken: "scene 0\nbetter 12800",
+        run: None,
+    },
+    Cut {
+        words: &["check"],
+        fails: 3,
+        taken: "line 7 kind 9 Missin",
         run: None,
     },
     Cut {

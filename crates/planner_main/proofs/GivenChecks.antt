@@ -1,0 +1,107 @@
+-- What is answered to `check`, from the bytes that were read.
+use Rattle.std.proofs.Common.{◌≡◌, ℕ, ◌≤◌, ◌+◌, ◌++◌, List, [], ◌∷◌, length, length-append, Result, Ok, Err, IsErrAnd}
+use Rattle.std.proofs.Common.{Some, refl, sym, ap, subst, inl, inr, arith}
+use Rattle.std.specs.Prelude.{◌⊎◌}
+use Rattle.plan_model.specs.declared.limits.TheConstants.{MOST_TEXT_BYTES}
+use Rattle.plan_model.specs.Texts.Streams.{SourceState}
+use Rattle.path_tools.specs.ReportCuts.{HasNoReportLine, IsCutAtReport, report_line}
+use Rattle.scene_text.specs.Fetching.{ReadsWithin}
+use Rattle.scene_text.specs.Refusals.{IsSceneRefusal}
+use Rattle.scene_text.specs.declared.refusals.SceneRefusal.{SceneRefusal}
+use Rattle.scene_text.specs.declared.refusals.SceneRefusal.TheVariants as reading
+use Rattle.planner_main.specs.CheckedTexts.{RefusesCheck, RefusesSceneText, RefusesWithoutReport}
+use Rattle.planner_main.specs.Conclusions.{Answers, IsCaused, Succeeds}
+use Rattle.planner_main.specs.Exchanges.{IsReadWhole}
+use Rattle.planner_main.specs.Faults.{refusal_of_scene}
+use Rattle.planner_main.specs.declared.answers.Answer.{Answer}
+use Rattle.planner_main.specs.declared.commands.Command.TheVariants as commands
+use Rattle.planner_main.specs.declared.refusals.Refusal.{Refusal}
+use Rattle.planner_main.specs.declared.refusals.Refusal.TheVariants as refusals
+
+-- ---- the parts of a text
+
+-- are no longer than it
+pub IsCutAtReport-short : (text front report : List ℕ) → IsCutAtReport text front report → length front + length report ≤ length text
+IsCutAtReport-short text front report cut = by cut.cut
+  where
+    by : (text ≡ front ++ (report_line ++ 10 ∷ report)) ⊎ ((report ≡ []) × (text ≡ front ++ report_line)) → length front + length report ≤ length text
+    by (inl fed) = omega
+        (arith, ap length fed, length-append front (report_line ++ 10 ∷ report), length-append report_line (10 ∷ report))
+    by (inr last) = omega (arith, ap length last.0, ap length last.1, length-append front report_line)
+
+-- ---- refusals
+
+-- the scene before the line is refused
+pub RefusesCheck-front : (bytes front report : List ℕ) (refusal : Refusal) → length bytes ≤ MOST_TEXT_BYTES → IsCutAtReport bytes front report
+    → RefusesSceneText front refusal → RefusesCheck bytes refusal
+RefusesCheck-front bytes front report (refusals.Text number kind) short cut h =
+    record { short = short; refused = inl (record { front = front; report = report; cut = cut; refused = h }) }
+RefusesCheck-front bytes front report refusals.StartBlocked short cut h = record {
+  scenes = h.scene ∷ [];
+  spelled = record { short = short; front = front; report = report; cut = cut; spelled = h.spelled };
+  blocked = λ clear. h.blocked clear.0;
+}
+RefusesCheck-front bytes front report refusals.Memory short cut h = tt
+RefusesCheck-front bytes front report refusals.Words short cut h = absurd h
+RefusesCheck-front bytes front report refusals.TooLong short cut h = absurd h
+RefusesCheck-front bytes front report refusals.GoalBlocked short cut h = absurd h
+RefusesCheck-front bytes front report refusals.ReadFault short cut h = absurd h
+
+-- a scene that cannot be read is the cause of its refusal
+pub RefusesSceneText-read : (text : List ℕ) (refusal : SceneRefusal) → IsSceneRefusal text refusal → RefusesSceneText text (refusal_of_scene refusal)
+RefusesSceneText-read text (reading.Fault fault) refused = refused
+RefusesSceneText-read text reading.Memory refused = tt
+
+-- also where no line is `report`
+pub RefusesWithoutReport-read : (bytes : List ℕ) (refusal : SceneRefusal) → HasNoReportLine bytes → IsSceneRefusal bytes refusal
+    → RefusesWithoutReport bytes (refusal_of_scene refusal)
+RefusesWithoutReport-read bytes (reading.Fault fault) none refused = record { none = none; refused = inl refused }
+RefusesWithoutReport-read bytes reading.Memory none refused = tt
+
+-- there is no line
+pub RefusesCheck-whole : (bytes : List ℕ) (refusal : Refusal) → length bytes ≤ MOST_TEXT_BYTES → RefusesWithoutReport bytes refusal
+    → RefusesCheck bytes refusal
+RefusesCheck-whole bytes (refusals.Text number kind) short h = record { short = short; refused = inr h }
+RefusesCheck-whole bytes refusals.StartBlocked short h = absurd h
+RefusesCheck-whole bytes refusals.Memory short h = tt
+RefusesCheck-whole bytes refusals.Words short h = absurd h
+RefusesCheck-whole bytes refusals.TooLong short h = absurd h
+RefusesCheck-whole bytes refusals.GoalBlocked short h = absurd h
+RefusesCheck-whole bytes refusals.ReadFault short h = absurd h
+
+-- ---- answers
+
+-- a refusal with its cause
+pub Answers-refused : (before now : SourceState) (result : Result Answer Refusal) (refusal : Refusal) → ReadsWithin before.bytes_left now.bytes_left
+    → IsErrAnd result (λ e. e ≡ refusal) → IsCaused (Some commands.Check) before now refusal → Answers (Some commands.Check) before now result
+Answers-refused before now (Ok answer) refusal within only cause = absurd only
+Answers-refused before now (Err e) refusal within only cause = record {
+  success = tt;
+  refusal = subst (IsCaused (Some commands.Check) before now) (sym only) cause;
+  unread = λ none. absurd (none refl);
+  within = within;
+}
+
+module _ (before now : SourceState) (bytes : List ℕ) (within : ReadsWithin before.bytes_left now.bytes_left) (whole : IsReadWhole before now bytes) where
+  caused : (refusal : Refusal) → RefusesCheck bytes refusal → IsCaused (Some commands.Check) before now refusal
+  caused (refusals.Text number kind) h = (refl, (bytes, whole, h))
+  caused refusals.StartBlocked h = (refl, (bytes, whole, h))
+  caused refusals.Memory h = (refl, whole.no_fault)
+  caused refusals.Words h = absurd h
+  caused refusals.TooLong h = absurd h
+  caused refusals.GoalBlocked h = absurd h
+  caused refusals.ReadFault h = absurd h
+
+  -- once all bytes were read, a refusal by them
+  pub Answers-not_checked : (result : Result Answer Refusal) (refusal : Refusal) → IsErrAnd result (λ e. e ≡ refusal) → RefusesCheck bytes refusal
+      → Answers (Some commands.Check) before now result
+  Answers-not_checked result refusal only h = Answers-refused before now result refusal within only (caused refusal h)
+
+  -- or a success
+  pub Answers-checked : (answer : Answer) → Succeeds commands.Check bytes answer.done answer.text.items → Answers (Some commands.Check) before now (Ok answer)
+  Answers-checked answer meaning = record {
+    success = record { command = commands.Check; known = refl; bytes = bytes; read = whole; meaning = meaning };
+    refusal = tt;
+    unread = λ none. absurd (none refl);
+    within = within;
+  }
