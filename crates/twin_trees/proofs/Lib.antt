@@ -4,3 +4,4 @@ pub mod StraightWays
 pub mod TurnedRanges
 pub mod TurnedRuns
 pub mod NumberedNodes
+pub mod BridgeLaws

@@ -5,6 +5,7 @@
 //! joined once both are settled: by the clear segment of at most a step between a node of each over which the way costs least.
 #![tactic(auto)]
 
+pub mod bridge_laws;
 mod bridges;
 mod bridging;
 mod growing;
