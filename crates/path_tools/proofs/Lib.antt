@@ -41,3 +41,4 @@ pub mod SeenGoals
 pub mod ClassRadii
 pub mod SheetVerdicts
 pub mod ReportCuts
+pub mod ReportCutLaws

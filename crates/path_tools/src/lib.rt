@@ -24,6 +24,7 @@ mod own_nodes;
 mod placed_marks;
 mod presence;
 mod repeats;
+pub mod report_cut_laws;
 mod report_cuts;
 pub mod report_laws;
 mod rests;
