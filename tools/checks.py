@@ -272,6 +272,15 @@ CHANGES = {
 }
 
 
+def changed_again(rng, text, scene):
+    """A changed report with another change; as it is if that finds no line of its form any more."""
+    change = CHANGES[rng.choice(list(CHANGES))]
+    try:
+        return change(rng, lines_of(text), scene)
+    except (IndexError, ValueError, StopIteration):
+        return text
+
+
 class Checks:
     """The program, and what was counted."""
 
@@ -306,8 +315,7 @@ class Checks:
             for what, change in CHANGES.items():
                 changed = change(rng, lines_of(report), scene)
                 if rng.random() < 1 / 3 and changed.endswith("\n") and len(changed) > 1:
-                    other = rng.choice(list(CHANGES))
-                    changed = CHANGES[other](rng, lines_of(changed), scene)
+                    changed = changed_again(rng, changed, scene)
                 if changed != report:
                     self.compare(number, scene, changed, what)
 
