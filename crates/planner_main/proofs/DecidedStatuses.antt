@@ -232,7 +232,7 @@ by_meaning bytes command done text s reads = by command s reads (Succeeds-low co
     by (commands.Smooth workers) s reads low = by_scene bytes (commands.Smooth workers) done.status _ s reads (λ tests. absurd (false≢true tests)) low
     by (commands.Anytime workers slice) s reads low = by_scene bytes (commands.Anytime workers slice) done.status _ s reads (λ tests. absurd (false≢true tests)) low
     by (commands.Twin workers) s reads low =
-        by_scene bytes (commands.Twin workers) done.status _ s reads (λ tests. (ClearAt-middle s.scene s.meaning.both s.meaning.twin, tt)) low
+        by_scene bytes (commands.Twin workers) done.status _ s reads (λ tests. (ClearAt-middle workers s.scene s.meaning.both s.meaning.twin, tt)) low
     by (commands.Batch workers slice) s reads low =
         by_success bytes (commands.Batch workers slice) done.status s.scenes s.spelled (λ tests. s.starts) (λ tests. absurd (false≢true tests)) low
     by commands.Check s reads low = by_scene bytes commands.Check done.status _ s reads (λ tests. absurd (false≢true tests)) low

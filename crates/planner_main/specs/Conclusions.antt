@@ -116,12 +116,12 @@ pub record ReportsBetterPaths (workers slice : ℕ) (scene : Scene) (done : Done
   pub better : AreBetterPaths workers slice grown items
   pub alone : HandsOutNothing (record done { run = None; better = [] })
 
--- Two runs of the scene from both of its ends are handed out, with the bridge between them, and nothing else is. The status says whether
--- there is one, and the text is their report.
-pub record ReportsTwin (scene : Scene) (done : Done) (text : List ℕ) : Type 0 where
+-- Two runs of the scene from both of its ends, by so many workers at most, are handed out, with the bridge between them, and nothing else
+-- is. The status says whether there is one, and the text is their report.
+pub record ReportsTwin (workers : ℕ) (scene : Scene) (done : Done) (text : List ℕ) : Type 0 where
   pub both : Twin
   pub given : done.twin ≡ Some both
-  pub twin : IsTwin scene both
+  pub twin : IsTwin workers scene both
   pub bridge : done.status ≡ status_of_report (is_some both.bridge)
   pub written : text ≡ twin_text both
   pub alone : HandsOutNothing (record done { twin = None })
@@ -212,7 +212,7 @@ Succeeds (commands.Smooth workers) bytes done text =
     OfScene (commands.Smooth workers) bytes (λ scene. ReportsPlan workers IsSmoothedReport scene done text)
 Succeeds (commands.Anytime workers slice) bytes done text =
     OfScene (commands.Anytime workers slice) bytes (λ scene. ReportsBetterPaths workers slice scene done text)
-Succeeds (commands.Twin workers) bytes done text = OfScene (commands.Twin workers) bytes (λ scene. ReportsTwin scene done text)
+Succeeds (commands.Twin workers) bytes done text = OfScene (commands.Twin workers) bytes (λ scene. ReportsTwin workers scene done text)
 Succeeds (commands.Batch workers slice) bytes done text = OfBatch bytes (λ scenes. ReportsBatch workers slice scenes done text)
 Succeeds commands.Check bytes done text = OfScene commands.Check bytes (λ scene. WritesVerdict bytes scene done text)
 Succeeds commands.Show bytes done text = OfScene commands.Show bytes (λ scene. WritesScene scene done text)

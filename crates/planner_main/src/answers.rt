@@ -351,7 +351,7 @@ fn twin_of<R: Threads + Sync, G: Gate>(
     requires few { workers ≤ MOST_WORKERS }
     requires boxes { boxes.now ≡ space_of scene }
     requires start { ClearAt (space_of scene) scene.start }
-    ensures twin { IfOk result (IsTwin scene) }
+    ensures twin { IfOk result (IsTwin workers scene) }
     ensures blocked { result ≡ Err TwinFault.GoalBlocked → ¬ ClearAt (space_of scene) (goal_middle scene) }
 {
     // the start is clear, so there is room to draw marks in
@@ -361,8 +361,9 @@ fn twin_of<R: Threads + Sync, G: Gate>(
 
 /// The report of two runs of a scene.
 fn twin_report_of(alloc: Global, both: Twin) -> Result<Answer, Memory>
-    requires { IsTwin both.from_start.task.scene both }
-    ensures { IfOk result (λ answer. ReportsTwin both.from_start.task.scene answer.done answer.text.items) }
+    requires { (workers : ℕ) × IsTwin workers both.from_start.task.scene both }
+    ensures { (workers : ℕ) → IsTwin workers both.from_start.task.scene both
+        → IfOk result (λ answer. ReportsTwin workers both.from_start.task.scene answer.done answer.text.items) }
 {
     let text = twin_report(alloc, &both)?;
     Ok(twin_answer_of(alloc, both, text))

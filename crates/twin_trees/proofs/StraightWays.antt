@@ -1,5 +1,5 @@
 -- No way from the start of a tree to a node costs less than the straight line between them.
-use Rattle.std.proofs.Common.{◌≡◌, ℕ, zero, suc, ◌+◌, ◌<◌, ◌≤◌, arith, ap, refl, ◌∙◌}
+use Rattle.std.proofs.Common.{◌≡◌, ℕ, zero, suc, ◌≤◌, arith, ap, refl}
 use Rattle.std.specs.Int.{abs_diff}
 use Rattle.plan_model.specs.Geometry.Cost.{cost_of}
 use Rattle.plan_model.specs.Geometry.Plane.{squared_distance}

@@ -1,12 +1,10 @@
 -- A scene may be planned from its other end: the middle of its first goal may be a start, and its start a goal.
-use Rattle.std.proofs.Common.{◌≡◌, ℕ, ◌+◌, ◌/◌, ◌≤◌, Bool, true, false, ◌&&◌, eqb, length, arith, refl, le-leb, leb-true}
-use Rattle.std.specs.Prelude.{IsTrue, nat_le, ◌==◌, if◌then◌else◌, [], ◌∷◌}
+use Rattle.std.proofs.Common.{◌≡◌, ◌≤◌, Bool, true, false, ◌&&◌, length, arith, refl, le-leb, leb-true}
+use Rattle.std.specs.Prelude.{IsTrue, nat_le, ◌==◌, if◌then◌else◌}
 use Rattle.std.specs.List.{list_all}
 use Rattle.std.proofs.lemmas.Bool.{and_from, and_parts}
 use Rattle.plan_model.proofs.SceneBounds.{goals-some}
 use Rattle.plan_model.proofs.Tests.{true_at}
-use Rattle.plan_model.specs.declared.geometry.Goal.{Goal}
-use Rattle.plan_model.specs.declared.geometry.Point.{Point}
 use Rattle.plan_model.specs.declared.limits.TheConstants.{MOST_GOALS}
 use Rattle.plan_model.specs.declared.scenes.Scene.{Scene}
 use Rattle.plan_model.specs.Scenes.Limits.{IsBetween, are_goals, is_goal, most_goals, most_side}

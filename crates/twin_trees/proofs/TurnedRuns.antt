@@ -1,12 +1,14 @@
 -- What a scene and the scene from its other end have in common, and whole runs of either.
-use Rattle.std.proofs.Common.{◌≡◌, List, length, ap, sym, subst, ◌∙◌}
+use Rattle.std.proofs.Common.{◌≡◌, ◌<◌, ℕ, List, Some, length, ap, sym, subst, ◌∙◌}
 use Rattle.plan_model.specs.Runs.ClosedLaw.{IsClosed}
+use Rattle.plan_model.specs.Runs.SameRuns.{IsOfTextbookRun}
 use Rattle.plan_model.specs.Runs.Textbook.{setup_of}
 use Rattle.plan_model.specs.Scenes.MarkPoints.{mark_points}
 use Rattle.plan_model.specs.Spaces.Clearance.{ClearAt}
 use Rattle.plan_model.specs.Spaces.ConfigurationSpace.{space_of}
 use Rattle.plan_model.specs.Trees.TreeStates.{IsSettled}
 use Rattle.plan_model.specs.declared.geometry.Point.{Point}
+use Rattle.plan_model.specs.declared.records.Record.{Record}
 use Rattle.plan_model.specs.declared.scenes.Scene.{Scene}
 use Rattle.plan_model.specs.declared.tasks.Task.{Task}
 use Rattle.step_core.specs.GrownRuns.{state_of_grown}
@@ -29,10 +31,13 @@ module _ (scene turned : Scene) (h : IsTurnedRound scene turned) where
   ClearAt-turned clear =
       subst (λ space. ClearAt space turned.start) (sym space-turned) (subst (ClearAt (space_of scene)) (sym (ap (λ (s : Scene). s.start) h.is)) clear)
 
--- a settled run over all marks of a task is a whole run of its scene
-pub IsWholeRun-settled : (grown : Grown) (task : Task) → grown.task ≡ task → grown.limit ≡ length task.marks → IsSettled (state_of_grown grown)
-    → IsWholeRun task.scene grown
-IsWholeRun-settled grown task same all settled =
+-- a settled run by so many workers over all marks of a task is a whole run of its scene
+pub IsWholeRun-settled : (workers : ℕ) (grown : Grown) (task : Task) → grown.task ≡ task → grown.limit ≡ length task.marks
+    → IsSettled (state_of_grown grown)
+    → ((k : ℕ) (entry : Record) → (state_of_grown grown).record_of k ≡ Some entry → entry.worker < workers)
+    → (workers ≡ 1 → IsOfTextbookRun (setup_of task.scene) (mark_points task.scene) (state_of_grown grown))
+    → IsWholeRun workers task.scene grown
+IsWholeRun-settled workers grown task same all settled by_workers textbook =
     let state = state_of_grown grown in
     let own : IsClosed (setup_of task.scene) task.marks grown.limit state =
     subst (λ (t : Task). IsClosed (setup_of t.scene) t.marks grown.limit state) same grown.hold_run.closed in
@@ -43,11 +48,13 @@ IsWholeRun-settled grown task same all settled =
       all_marks = all ∙ ap length task.of_scene;
       closed = subst (λ (marks : List Point). IsClosed (setup_of task.scene) marks (length marks) state) task.of_scene whole;
       settled = settled;
+      by_workers = by_workers;
+      textbook = textbook;
     }
 
 -- the second run of a twin starts in the middle of the first goal, so that is clear
-pub ClearAt-middle : (scene : Scene) (twin : Twin) → IsTwin scene twin → ClearAt (space_of scene) (goal_middle scene)
-ClearAt-middle scene twin h =
+pub ClearAt-middle : (workers : ℕ) (scene : Scene) (twin : Twin) → IsTwin workers scene twin → ClearAt (space_of scene) (goal_middle scene)
+ClearAt-middle workers scene twin h =
     let clear = h.from_goal.closed.order.start_clear in
     subst (ClearAt (space_of scene)) (ap (λ (s : Scene). s.start) h.turned_round.is)
     (subst (λ space. ClearAt space h.turned.start) (space-turned scene h.turned h.turned_round) clear)

@@ -41,7 +41,7 @@ pub fn twin<R: Threads + Sync, C: Clearing, G: Gate>(
     requires start { ClearAt (space_of task.scene) task.scene.start }
     requires some { 1 ≤ workers }
     requires few { workers ≤ MOST_WORKERS }
-    ensures twin { IfOk result (IsTwin task.scene) }
+    ensures twin { IfOk result (IsTwin workers task.scene) }
     ensures blocked { result ≡ Err TwinFault.GoalBlocked → ¬ ClearAt (space_of task.scene) (goal_middle task.scene) }
     ensures clear { (¬ ClearAt (space_of task.scene) (goal_middle task.scene)) → result ≡ Err TwinFault.GoalBlocked }
 {
@@ -66,7 +66,7 @@ fn twin_from<R: Threads + Sync, C: Clearing, G: Gate>(
     requires middle { ClearAt (space_of task.scene) (goal_middle task.scene) }
     requires some { 1 ≤ workers }
     requires few { workers ≤ MOST_WORKERS }
-    ensures { IfOk result (IsTwin task.scene) }
+    ensures { IfOk result (IsTwin workers task.scene) }
 {
     let turned = turned_task(alloc, &task)?;
     let from_start = whole_run(rt, alloc, task, hall, workers, gate)?;
@@ -92,7 +92,7 @@ fn whole_run<R: Threads + Sync, C: Clearing, G: Gate>(
     requires start { ClearAt (space_of task.scene) task.scene.start }
     requires some { 1 ≤ workers }
     requires few { workers ≤ MOST_WORKERS }
-    ensures { IfOk result (IsWholeRun task.scene) }
+    ensures { IfOk result (IsWholeRun workers task.scene) }
 {
     let limit = task.marks.len() as u32;
     let fresh = Grown::new(alloc, task)?;

@@ -9,7 +9,8 @@ use Rattle.planner_main.proofs.answers.plan_twin.Goals as goal
 pub twin_report_of-requires : goal.twin_report_of-requires
 twin_report_of-requires g c =
     let both = c.in_ok-both.both in
-    subst (λ (s : Scene). IsTwin s both) (sym c.in_ok-both.ensures.twin.from_start.scene_is) c.in_ok-both.ensures.twin
+    let twin = c.in_ok-both.ensures.twin in
+    (c.args.workers, subst (λ (s : Scene). IsTwin c.args.workers s both) (sym twin.from_start.scene_is) twin)
 
 pub returns-in_err-both : goal.returns-in_err-both
 returns-in_err-both g c =
@@ -27,9 +28,12 @@ returns g c =
     let scene = c.in_ok-scene.scene in
     let has = c.in_ok-scene.ensures.scene in
     let both = c.in_ok-both.both in
+    let workers = c.args.workers in
+    let twin = c.in_ok-both.ensures.twin in
+    let own = subst (λ (s : Scene). IsTwin workers s both) (sym twin.from_start.scene_is) twin in
     Answers-success (commands.Twin c.args.workers) _ _ scene refl c.in_ok-scene.ensures.within has _ (record {
       scene = scene;
       of_command = has.spelled;
       start = λ planned. c.in_ok-scene.ensures.start;
-      meaning = ReportsTwin-of_scene _ _ _ _ c.in_ok-both.ensures.twin.from_start.scene_is c.in_ok-twin_report_of.ensures;
+      meaning = ReportsTwin-of_scene workers _ _ _ _ twin.from_start.scene_is (c.in_ok-twin_report_of.ensures workers own);
     })

@@ -1,6 +1,5 @@
-use Rattle.std.proofs.Common.{◌+◌, [], ◌∷◌, ◌++◌, None, ap, sym, subst, ◌∙◌}
+use Rattle.std.proofs.Common.{◌+◌, ap, sym, subst, ◌∙◌}
 use Rattle.std.specs.Prelude.{is_some}
-use Rattle.plan_model.specs.Trees.PointsByNumber.{point_at}
 use Rattle.step_core.specs.GrownRuns.{state_of_grown, words_of_grown}
 use Rattle.step_core.specs.GrownWords.{sizes_of}
 use Rattle.step_core.proofs.GrownPoints.{IsBounded-stands}
