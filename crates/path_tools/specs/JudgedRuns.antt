@@ -15,6 +15,7 @@ use Rattle.plan_model.specs.Runs.Turns.{turns_of}
 use Rattle.plan_model.specs.Spaces.ConfigurationSpace.{space_of}
 use Rattle.plan_model.specs.Trees.PointsByNumber.{node_count}
 use Rattle.plan_model.specs.Trees.TreeStates.{TreeState}
+use Rattle.edge_cost.specs.declared.radii.Radii.{Radii}
 use Rattle.step_core.specs.PackedRuns.{state_of_lists}
 use Rattle.path_tools.specs.declared.judged.Judged.{Judged}
 use Rattle.path_tools.specs.ExactEdges.{FitsEdges}
@@ -34,10 +35,15 @@ pub record IsJudged (worker : ℕ) (judged : Judged) : Type 0 where
   pub own : AreOwnNodes (run_of judged) worker judged.own.now
   pub count : judged.nodes ≡ node_count (run_of judged).points
 
--- What each question about the record of a mark and a point asks for: the space is the scene's, the lists are those by which marks of
--- the record's worker are judged, its first cost has at most 44 bits, and the point is within bounds.
+-- they are the radii of the scene
+abbrev pub AreRadiiOf : Scene → Radii → Type 0
+AreRadiiOf scene radii = (radii.step ≡ scene.step) × (radii.gamma ≡ scene.gamma)
+
+-- What each question about the record of a mark and a point asks for: the space and the radii are the scene's, the lists are those by which
+-- marks of the record's worker are judged, its first cost has at most 44 bits, and the point is within bounds.
 pub record IsAsked (space : ConfigurationSpace) (scene : Scene) (judged : Judged) (entry : Record) (p : Point) : Type 0 where
   pub space_is : space ≡ space_of scene
+  pub radii_are : AreRadiiOf scene judged.radii.now
   pub judges : IsJudged entry.worker judged
   pub own : entry.first_cost < 2 ^ 44
   pub bounded : IsBounded p

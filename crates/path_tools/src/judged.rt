@@ -1,5 +1,6 @@
 //! What the marks of a worker are judged by.
 
+use edge_cost::Radii;
 use plan_model::{Knot, Record};
 use point_strips::Strips;
 
@@ -14,4 +15,6 @@ pub(crate) struct Judged<'a> {
     pub own: &'a Strips,
     /// How many nodes there are.
     pub nodes: u32,
+    /// The rewiring radii of the scene.
+    pub radii: &'a Radii,
 }

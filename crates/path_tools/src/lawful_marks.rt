@@ -20,7 +20,7 @@ use crate::judged::Judged;
 use crate::placed_marks::{hangs_lawfully, stands_at};
 use crate::searches::{is_nearest, is_taken, keeps_near};
 use crate::seen_nodes::Seen;
-use edge_cost::{Radii, bound, class, steer};
+use edge_cost::{bound, class, steer};
 use plan_model::{Outcome, Point, Record, Scene};
 use step_core::lies_in_goals;
 use swept_check::Clearing;
@@ -193,7 +193,7 @@ fn is_chosen_lawfully<C: Clearing>(
     if !is_clear_from_nearest(hall, judged, entry, p) {
         return false;
     }
-    let radius = radius_of_class(scene, entry.class);
+    let radius = radius_of_class(judged, entry.class);
     keeps_near(hall, judged, entry, p, radius)
 }
 
@@ -209,10 +209,10 @@ fn has_class(judged: &Judged<'_>, seen: Seen, entry: Record) -> bool
 }
 
 /// The radius of a class.
-fn radius_of_class(scene: &Scene, class: u32) -> u32
+fn radius_of_class(judged: &Judged<'_>, class: u32) -> u32
     requires low { 1 ≤ class }
     requires high { class ≤ 19 }
-    ensures { result ≡ radius_of_class scene.now.step scene.now.gamma class }
+    ensures { result ≡ radius_of_class judged.now.radii.now.step judged.now.radii.now.gamma class }
 {
-    Radii::new(scene.step, scene.gamma).at(1 << (class - 1))
+    judged.radii.at(1 << (class - 1))
 }

@@ -11,7 +11,7 @@ ghost use Rattle.plan_model.specs.declared.trees.Knot.{Knot};
 ghost use Rattle.step_core.specs.PackedRuns.{state_of_lists};
 ghost use Rattle.path_tools.specs.ExactEdges.{FitsEdges};
 ghost use Rattle.path_tools.specs.FirstBreaks.{HasFewTurns, IsFirstBreak};
-ghost use Rattle.path_tools.specs.JudgedRuns.{HaveLowTurns, IsJudged, KeepsRecord, KeepsRecordOf, run_of};
+ghost use Rattle.path_tools.specs.JudgedRuns.{AreRadiiOf, HaveLowTurns, IsJudged, KeepsRecord, KeepsRecordOf, run_of};
 ghost use Rattle.path_tools.specs.OwnNodes.{ArePresent, FitFirstCosts};
 ghost use Rattle.path_tools.specs.SeenNodes.{AreSeen, HaveOwnTurns};
 ghost use Rattle.path_tools.specs.declared.seen_nodes.Seen.{Seen};
@@ -22,6 +22,7 @@ use crate::lawful_marks::is_lawful;
 use crate::own_nodes::own_nodes;
 use crate::seen_nodes::{Seen, seen_by_turn};
 use crate::turns::{WORKERS, marks_by_worker};
+use edge_cost::Radii;
 use plan_model::{Goal, Knot, Memory, Record, Scene, Task};
 use std::alloc::Global;
 use swept_check::Clearing;
@@ -53,6 +54,7 @@ pub(crate) fn first_unlawful<C: Clearing>(
 {
     let turns = marks_by_worker(records);
     let nodes = present_count(knots);
+    let radii = Radii::new(task.scene.step, task.scene.gamma);
     let mut first = None;
     for worker in 0..WORKERS {
         let broken = first_unlawful_of(
@@ -62,6 +64,7 @@ pub(crate) fn first_unlawful<C: Clearing>(
             knots,
             records,
             nodes,
+            &radii,
             worker as u32,
             turns[worker],
         )?;
@@ -92,6 +95,7 @@ fn first_unlawful_of<C: Clearing>(
     knots: &[Option<Knot>],
     records: &[Record],
     nodes: u32,
+    radii: &Radii,
     worker: u32,
     turns: u32,
 ) -> Result<Option<usize>, Memory>
@@ -105,6 +109,7 @@ fn first_unlawful_of<C: Clearing>(
     requires own { HaveOwnTurns records.now }
     requires low { HaveLowTurns records.now }
     requires count { nodes ≡ node_count (state_of_lists knots.now records.now).points }
+    requires radii { AreRadiiOf task.now.scene radii.now }
     requires turns { turns ≡ turns_of (slice_get records.now) (length records.now) worker }
     ensures { IfOk result (λ first. IsFirstBreak (KeepsRecordOf worker task.now knots.now records.now) (length records.now) first) }
 {
@@ -122,6 +127,7 @@ fn first_unlawful_of<C: Clearing>(
         records,
         own: &own,
         nodes,
+        radii,
     };
     Ok(first_unlawful_mark(task, hall, &judged, worker, &seen))
 }
@@ -148,6 +154,7 @@ fn first_unlawful_mark<C: Clearing>(
     requires hall { C.space hall.now ≡ space_of task.now.scene }
     requires marks { length judged.now.records.now ≡ length task.now.marks }
     requires judged { IsJudged worker judged.now }
+    requires radii { AreRadiiOf task.now.scene judged.now.radii.now }
     requires turns { (k : ℕ) (entry : Record) → slice_get judged.now.records.now k ≡ Some entry → entry.worker ≡ worker → entry.turn < length seen.now }
     requires seen { (turn : ℕ) (own : Seen) → slice_get seen.now turn ≡ Some own
         → AreSeen (skipping_goals task.now.scene) (run_of judged.now) worker turn own }

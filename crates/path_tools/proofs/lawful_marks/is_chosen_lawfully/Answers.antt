@@ -1,12 +1,15 @@
-use Rattle.std.proofs.Common.{sym, ◌∙◌, subst}
+use Rattle.std.proofs.Common.{◌≡◌, ℕ, sym, ◌∙◌, subst}
 use Rattle.std.specs.Prelude.{IsTrue}
 use Rattle.std.proofs.lemmas.Bool.{true≢false}
+use Rattle.edge_cost.specs.declared.radii.Radii.{Radii}
+use Rattle.plan_model.specs.Geometry.Radius.{radius_of_class}
+use Rattle.plan_model.specs.declared.scenes.Scene.{Scene}
 use Rattle.plan_model.specs.Runs.RecordLaw.{IsNeighbour}
 use Rattle.plan_model.specs.Runs.Textbook.{setup_of}
 use Rattle.plan_model.specs.Spaces.Clearance.{Clear}
 use Rattle.plan_model.specs.Trees.Nearness.{is_within}
 use Rattle.plan_model.specs.Trees.PointsByNumber.{point_at, point_of}
-use Rattle.path_tools.specs.JudgedRuns.{run_of}
+use Rattle.path_tools.specs.JudgedRuns.{AreRadiiOf, run_of}
 use Rattle.path_tools.proofs.SeenLaws.{count_before-earlier}
 use Rattle.path_tools.proofs.lawful_marks.is_chosen_lawfully.Goals as goal
 
@@ -20,21 +23,27 @@ returns-then-not-is_clear_from_nearest-clause-only g c = λ h bad.
     (subst (λ s. Clear s (point_of (run_of c.args.judged.now).points c.args.entry.nearest) c.args.p) (sym c.requires.asked.space_is) bad.clear))
     ∙ c.if-not-is_clear_from_nearest.true)
 
+-- a radius of the table is that of the scene
+is_of_scene : (scene : Scene) (radii : Radii) → AreRadiiOf scene radii → (class : ℕ) {radius : ℕ}
+    → radius ≡ radius_of_class radii.step radii.gamma class → radius ≡ radius_of_class scene.step scene.gamma class
+is_of_scene scene radii are class is = is ∙ (λ i. radius_of_class (are.0 i) (are.1 i) class)
+
 pub returns-clause-lawful : goal.returns-clause-lawful
 returns-clause-lawful g c = λ h.
     let run = run_of c.args.judged.now in
     let p = c.args.p in
     let kept = c.keeps_near.ensures.kept h in
+    let radius = is_of_scene c.args.scene.now c.args.judged.now.radii.now c.requires.asked.radii_are c.args.entry.class c.radius_of_class-radius.ensures in
     record {
       clear =
           subst (λ s. Clear s (point_of run.points c.args.entry.nearest) p) c.requires.asked.space_is
           (c.is_clear_from_nearest.ensures.0 c.if-not-is_clear_from_nearest.false);
       of_class = c.has_class.ensures.class c.if-not-has_class.false;
       chosen = λ i near.
-          (kept i near.earlier (subst (λ r. IsTrue (is_within p r (point_at run.points i))) (sym c.radius_of_class-radius.ensures) near.near)
+          (kept i near.earlier (subst (λ r. IsTrue (is_within p r (point_at run.points i))) (sym radius) near.near)
           (subst (λ s. Clear s (point_of run.points i) p) (sym c.requires.asked.space_is) near.clear)).chosen;
       rewired = λ i near.
-          (kept i near.earlier (subst (λ r. IsTrue (is_within p r (point_at run.points i))) (sym c.radius_of_class-radius.ensures) near.near)
+          (kept i near.earlier (subst (λ r. IsTrue (is_within p r (point_at run.points i))) (sym radius) near.near)
           (subst (λ s. Clear s (point_of run.points i) p) (sym c.requires.asked.space_is) near.clear)).rewired;
     }
 
@@ -42,12 +51,13 @@ pub returns-clause-only : goal.returns-clause-only
 returns-clause-only g c = λ h bad.
     let run = run_of c.args.judged.now in
     let p = c.args.p in
+    let radius = is_of_scene c.args.scene.now c.args.judged.now.radii.now c.requires.asked.radii_are c.args.entry.class c.radius_of_class-radius.ensures in
     c.keeps_near.ensures.only h
     (λ i earlier within cleared.
     let near : IsNeighbour (setup_of c.args.scene.now) run c.args.entry p i =
     record {
       earlier = earlier;
-      near = subst (λ r. IsTrue (is_within p r (point_at run.points i))) c.radius_of_class-radius.ensures within;
+      near = subst (λ r. IsTrue (is_within p r (point_at run.points i))) radius within;
       clear = subst (λ s. Clear s (point_of run.points i) p) c.requires.asked.space_is cleared;
     } in
     record { chosen = bad.chosen i near; rewired = bad.rewired i near })

@@ -28,6 +28,7 @@ ends_lawfully-requires-clause-asked g c = λ κs within.
     let from = (c.requires.asked.judges.fit c.args.entry.nearest c.in-Some.nearest (sym c.in-Some.ensures)).point in
     record {
       space_is = c.requires.asked.space_is;
+      radii_are = c.requires.asked.radii_are;
       judges = c.requires.asked.judges;
       own = c.requires.asked.own;
       bounded = record {

@@ -1,4 +1,4 @@
-use Rattle.std.proofs.Common.{◌∙◌}
+use Rattle.std.proofs.Common.{◌∙◌, ap}
 use Rattle.plan_model.specs.Geometry.Radius.{radius_of_class}
 use Rattle.path_tools.proofs.ClassRadii.{shifted-class, shifted-low}
 use Rattle.path_tools.proofs.lawful_marks.radius_of_class.Goals as goal
@@ -8,5 +8,5 @@ at-requires-clause-most c = shifted-low c.args.class c.requires.low c.requires.h
 
 pub returns : goal.returns
 returns c =
-    c.at.ensures
-    ∙ (λ i. radius_of_class (c.new.ensures.step i) (c.new.ensures.gamma i) (shifted-class c.args.class c.requires.low c.requires.high i))
+    let radii = c.args.judged.now.radii.now in
+    c.at.ensures ∙ ap (radius_of_class radii.step radii.gamma) (shifted-class c.args.class c.requires.low c.requires.high)

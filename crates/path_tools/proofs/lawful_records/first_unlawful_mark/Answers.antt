@@ -19,6 +19,7 @@ is_lawful-requires-clause-asked g c = λ κs within.
     let entry = c.entry-item.result in
     record {
       space_is = c.requires.hall;
+      radii_are = c.requires.radii;
       judges = subst (λ w. IsJudged w c.args.judged.now) (sym c.if-entry-worker.true) c.requires.judged;
       own = c.requires.judged.first c.loop-mark.mark entry
           (slice_get_read records (length records) c.loop-mark.mark entry refl c.loop-mark-test.true c.entry-item.is);
