@@ -1,7 +1,6 @@
 use Rattle.plan_model.specs.Spaces.Clearance.{ClearAt}
 use Rattle.plan_model.specs.Spaces.ConfigurationSpace.{space_of}
 use Rattle.planner_main.specs.CheckedTexts.{RefusesSceneText}
-use Rattle.planner_main.specs.declared.refusals.Refusal.TheVariants as refusals
 use Rattle.planner_main.proofs.Causes.{IfErr-only}
 use Rattle.planner_main.proofs.GivenChecks.{RefusesSceneText-read}
 use Rattle.planner_main.proofs.checking.task_of.Goals as goal
