@@ -57,7 +57,7 @@ class Run:
 
 def run(program, words, text):
     """Runs the program with these words on this text."""
-    measure = [sys.executable, "-ISB", os.path.join(os.path.dirname(os.path.abspath(__file__)), "measure.py")]
+    measure = [sys.executable, "-SB", os.path.join(os.path.dirname(os.path.abspath(__file__)), "measure.py")]
     with tempfile.TemporaryFile() as given, tempfile.TemporaryFile() as written:
         given.write(text)
         given.seek(0)
