@@ -29,7 +29,8 @@ returns-clause-steers c =
     let held = ap (λ p. p.view.hand) c.point-from.ensures.view ∙ step.kept.hand ∙ c.requires.holds.held in
     let marks = c.as_slice.ensures ∙ ap (λ t. t.marks) c.task.ensures ∙ sym (ap (λ r. r.marks) c.nearest-closest.ensures.belongs.run) in
     let is =
-    at_hand (λ hand. c.write_point.new.pass ≡ with_view mid (pointed mid.view hand closest p)) mid.view.hand c.requires.holds.hand held c.write_point.ensures.view in
+    at_hand (λ hand. c.write_point.new.pass ≡ with_view mid (pointed mid.view hand closest p)) mid.view.hand c.requires.holds.hand held
+    c.write_point.ensures.view in
     SteersFrom-written found mid.view c.write_point.new.pass.view c.requires.holds.hand closest _ _ c.point-from.result p c.point-from.ensures.goes_on
     c.write_point.ensures.goes_on c.point-from.ensures.seen (ap (λ p. p.view) is) c.nearest-closest.ensures.nearest.nearest.member c.point-from.ensures.found
     (ap (λ l. mark_at l c.args.mark) marks ∙ ap (mark_at found.run.marks) (sym c.requires.holds.mark))
