@@ -293,15 +293,15 @@ class Checks:
         done = subprocess.run([self.program, *words.split()], input=text, capture_output=True, check=False, timeout=600)
         return done.stdout.decode(), done.returncode
 
-    def compare(self, number, scene, report, what):
-        """Compares both verdicts on a report."""
+    def compare(self, name, scene, report, what):
+        """Compares both verdicts on a report, and keeps its name and how it was changed if they differ."""
         wanted = verdict(scene, report).split(":")[0]
         text = scene.text().encode() + b"report\n" + report.encode("latin-1")
         same = self.run("check", text) == (wanted + "\n", 0 if wanted == "lawful" else 1)
         self.counts[what] += 1
         self.laws[wanted.split()[-1]] += 1
         if not same:
-            self.differences.append((number, what))
+            self.differences.append((name, what))
 
     def compare_changes(self, number, version):
         """Compares those on the reports of the scene of a number, as they are and changed."""
@@ -310,14 +310,25 @@ class Checks:
             report, status = self.run(f"plan {workers} full", scene.text().encode())
             if status > 1:
                 return
-            self.compare(number, scene, report, "nothing")
+            self.compare(f"scene {number}", scene, report, "nothing")
             rng = random.Random(f"checks {number} {version} {workers}")
             for what, change in CHANGES.items():
                 changed = change(rng, lines_of(report), scene)
                 if rng.random() < 1 / 3 and changed.endswith("\n") and len(changed) > 1:
                     changed = changed_again(rng, changed, scene)
                 if changed != report:
-                    self.compare(number, scene, changed, what)
+                    self.compare(f"scene {number}", scene, changed, what)
+
+    def ending(self):
+        """Prints what was counted, and gives the exit status."""
+        for what, times in self.counts.items():
+            print(f"{what}: {times}")
+        for law, times in sorted(self.laws.items()):
+            print(f"lawful: {times}" if law == "lawful" else f"law {law}: {times}")
+        for name, what in self.differences:
+            print(f"differs: {name}, {what}")
+        print(f"{self.counts.total()} reports, {len(self.differences)} differences")
+        return 1 if self.differences else 0
 
 
 def main(program, first=0, count=100):
@@ -326,14 +337,7 @@ def main(program, first=0, count=100):
     for number in range(int(first), int(first) + int(count)):
         for version in (1, 2):
             checks.compare_changes(number, version)
-    for what, times in checks.counts.items():
-        print(f"{what}: {times}")
-    for law, times in sorted(checks.laws.items()):
-        print(f"lawful: {times}" if law == "lawful" else f"law {law}: {times}")
-    for number, what in checks.differences:
-        print(f"differs: scene {number}, {what}")
-    print(f"{checks.counts.total()} reports, {len(checks.differences)} differences")
-    return 1 if checks.differences else 0
+    return checks.ending()
 
 
 if __name__ == "__main__":
