@@ -1,5 +1,5 @@
 -- What the sessions of a batch have come to, once it is at its end.
-use Rattle.std.proofs.Common.{◌≡◌, ◌<◌, ◌++◌, ℕ, zero, suc, List, [], ◌∷◌, length, map, get_or, Option, Some, None, false, inl, inr, refl, sym, ap, ◌∙◌}
+use Rattle.std.proofs.Common.{◌≡◌, ◌<◌, ◌++◌, ℕ, zero, suc, List, [], ◌∷◌, length, map, get_or, Some, false, inl, inr, refl, sym, ap, ◌∙◌}
 use Rattle.std.proofs.Common.{arith}
 use Rattle.std.proofs.Math.ListN.{length-map}
 use Rattle.plan_model.specs.declared.tasks.Task.{Task}
@@ -8,7 +8,6 @@ use Rattle.any_time.specs.BatchGathering.{AllEmpty, GathersBatch, HasFinished}
 use Rattle.any_time.specs.BatchItems.{betters_of}
 use Rattle.any_time.specs.Batches.{AllOver, BatchState, IsBatchOver}
 use Rattle.any_time.specs.Gathering.{Gathers}
-use Rattle.any_time.specs.Items.{betters_among}
 use Rattle.any_time.specs.Sessions.{IsFresh, SessionState}
 use Rattle.any_time.specs.declared.betters.Better.{Better}
 use Rattle.any_time.proofs.GatheredItems.{AreBetterPaths-gathered, EndsWith-gathered, HasGiven-gathered}

@@ -12,8 +12,7 @@ use Rattle.any_time.specs.BatchItems.{ArePolled, BatchAnswers, BatchItemsFall, E
 use Rattle.any_time.specs.BatchItems.{betters_of, has_memory}
 use Rattle.any_time.specs.Batches.{AllOver, BatchPolls, BatchState, Gave, Rests, at, first_turn, place_of, turn_after}
 use Rattle.any_time.specs.Items.{Answers, EndsWith, HasGiven, betters_among, last_among}
-use Rattle.any_time.specs.Sessions.{IsFresh, IsOver, Polls, SessionState}
-use Rattle.plan_model.specs.declared.tasks.Task.{Task}
+use Rattle.any_time.specs.Sessions.{IsOver, Polls, SessionState}
 use Rattle.any_time.proofs.FallingItems.{items_fall_on}
 use Rattle.any_time.proofs.TurnLoop.{place_once}
 

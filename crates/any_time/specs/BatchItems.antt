@@ -7,7 +7,7 @@ use Rattle.futures.specs.declared.task.Poll.TheVariants.{Ready, Pending}
 use Rattle.plan_model.specs.declared.errors.Memory.{Memory}
 use Rattle.plan_model.specs.declared.tasks.Task.{Task}
 use Rattle.any_time.specs.declared.betters.Better.{Better}
-use Rattle.any_time.specs.Batches.{AllOver, BatchPolls, BatchState, IsBatchOver, at}
+use Rattle.any_time.specs.Batches.{AllOver, BatchPolls, BatchState, at}
 use Rattle.any_time.specs.Items.{Answers, EndsWith, HasGiven, betters_among, last_among}
 use Rattle.any_time.specs.Sessions.{IsFresh, IsOver, Polls, SessionState}
 

@@ -1,6 +1,6 @@
 //! Sessions: runs that grow by a slice of marks a poll.
 
-ghost use Rattle.std.specs.Prelude.{◌≡◌, ◌≤◌, None, IfOk, IfSome, IfNone, Some, length};
+ghost use Rattle.std.specs.Prelude.{◌≡◌, ◌≤◌, None, IfOk, IfErr, IfSome, IfNone, Some, length};
 ghost use Rattle.any_time.specs.BestPaths.{Shows, best_of, best_sum};
 ghost use Rattle.any_time.specs.Sessions.{IsBetter};
 ghost use Rattle.plan_work.specs.OneWorker.{IsOfTextbook};
@@ -124,16 +124,17 @@ impl<C: Growing + Drop, R: Threads + Sync + Drop> Stream for Session<C, R> {
         let Some(run) = self.run.take() else {
             return Poll::Ready(None);
         };
-        if let Some(node) = better_node(&run, self.last) {
-            let Ok(item) = shown(self.alloc, &run, node) else {
-                return Poll::Ready(Some(Err(Memory)));
-            };
-            self.last = Some(item.last());
-            self.run = Some(run);
-            return Poll::Ready(Some(Ok(item)));
+        match better_path(self.alloc, &run, self.last) {
+            Ok(Some(item)) => {
+                self.last = Some(item.last());
+                put_back(&mut self.run, run);
+                return Poll::Ready(Some(Ok(item)));
+            }
+            Ok(None) => {}
+            Err(Memory) => return Poll::Ready(Some(Err(Memory))),
         }
         if run.limit() == mark_count(&run) {
-            self.run = Some(run);
+            put_back(&mut self.run, run);
             return Poll::Ready(None);
         }
         let Ok(run) = self
@@ -142,15 +143,16 @@ impl<C: Growing + Drop, R: Threads + Sync + Drop> Stream for Session<C, R> {
         else {
             return Poll::Ready(Some(Err(Memory)));
         };
-        if let Some(node) = better_node(&run, self.last) {
-            let Ok(item) = shown(self.alloc, &run, node) else {
-                return Poll::Ready(Some(Err(Memory)));
-            };
-            self.last = Some(item.last());
-            self.run = Some(run);
-            return Poll::Ready(Some(Ok(item)));
+        match better_path(self.alloc, &run, self.last) {
+            Ok(Some(item)) => {
+                self.last = Some(item.last());
+                put_back(&mut self.run, run);
+                return Poll::Ready(Some(Ok(item)));
+            }
+            Ok(None) => {}
+            Err(Memory) => return Poll::Ready(Some(Err(Memory))),
         }
-        self.run = Some(run);
+        put_back(&mut self.run, run);
         cx.yield_now()
     }
 }
@@ -165,6 +167,26 @@ fn fresh_run(alloc: Global, task: Task) -> Result<Grown, Memory>
 {
     let fresh = Grown::new(alloc, task)?;
     Ok(fresh)
+}
+
+/// Puts the run back to its place. A call of it in place of an assignment has what the assignment lets go proved once.
+fn put_back(place: &mut Option<Grown>, run: Grown)
+    ensures { place.new ≡ Some run }
+{
+    *place = Some(run);
+}
+
+/// The path to the best node of a run, if its sum is below that of the last item, or if there is none yet.
+fn better_path(alloc: Global, run: &Grown, last: Option<Last>) -> Result<Option<Better>, Memory>
+    requires { IsSettled (state_of_grown run.now) }
+    ensures some { IfOk result (λ found. IfSome found (λ item. IsBetter (best_sum run.now) last × Shows run.now item)) }
+    ensures none { IfOk result (λ found. IfNone found (¬ IsBetter (best_sum run.now) last)) }
+    ensures memory { IfErr result (λ e. IsBetter (best_sum run.now) last) }
+{
+    match better_node(run, last) {
+        Some(node) => Ok(Some(shown(alloc, run, node)?)),
+        None => Ok(None),
+    }
 }
 
 /// The best node of a run, if its sum is below that of the last item, or if there is none yet.
