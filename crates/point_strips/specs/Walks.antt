@@ -1,8 +1,9 @@
--- A walk over the points within a distance of a center: from each position of a list to the next one whose point is.
+-- A walk over the points within a distance of a center, run by run: none of them is left out between two runs.
 use Rattle.std.specs.Prelude.{ℕ, ◌<◌, ◌≤◌, Option, Some, None, List, length, slice_index_or}
 use Rattle.plan_model.specs.declared.geometry.Point.{Point}
 use Rattle.point_strips.specs.Discs.{IsWithin}
 use Rattle.point_strips.specs.declared.strips.Numbered.{Numbered}
+use Rattle.point_strips.specs.declared.strips.Run.{Run}
 
 -- what stands for the point at a position past the end (definitions ask it of positions below the length alone)
 abbrev pub nowhere : Numbered
@@ -16,14 +17,14 @@ numbered_at points i = slice_index_or points i nowhere
 abbrev pub HasNoneBetween : Point → ℕ → List Numbered → ℕ → ℕ → Type 0
 HasNoneBetween center square points from limit = (j : ℕ) → from ≤ j → j < limit → ¬ IsWithin center square (numbered_at points j).point
 
--- position i is the first one, from another one on, whose point is within the distance
-pub record IsFirstWithin (center : Point) (square : ℕ) (points : List Numbered) (from i : ℕ) : Type 0 where
-  pub later : from ≤ i
-  pub inside : i < length points
-  pub within : IsWithin center square (numbered_at points i).point
-  pub skipped : HasNoneBetween center square points from i
+-- a run begins at a position or after it, has a position, ends in the list, and none before it is within the distance
+pub record IsRunAfter (center : Point) (square : ℕ) (points : List Numbered) (from : ℕ) (run : Run) : Type 0 where
+  pub onward : from ≤ run.start
+  pub some : run.start < run.end
+  pub inside : run.end ≤ length points
+  pub skipped : HasNoneBetween center square points from run.start
 
--- The first position, from another one on, whose point is within the distance, or that there is none.
-abbrev pub IsNextWithin : Point → ℕ → List Numbered → ℕ → Option ℕ → Type 0
-IsNextWithin center square points from None = HasNoneBetween center square points from (length points)
-IsNextWithin center square points from (Some i) = IsFirstWithin center square points from i
+-- The next run from a position on, or that no point from there on is within the distance.
+abbrev pub IsNextRun : Point → ℕ → List Numbered → ℕ → Option Run → Type 0
+IsNextRun center square points from None = HasNoneBetween center square points from (length points)
+IsNextRun center square points from (Some run) = IsRunAfter center square points from run

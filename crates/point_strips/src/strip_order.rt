@@ -1,14 +1,13 @@
 //! The order of points in strips, and how far a walk over the points of a disc may skip in it.
 
-ghost use Rattle.std.specs.Prelude.{◌≡◌, ◌+◌, ◌*◌, ◌^◌, ◌/◌, ◌<◌, ◌≤◌, All, IfSome, ℕ, length};
+ghost use Rattle.std.specs.Prelude.{◌≡◌, ◌+◌, ◌*◌, ◌/◌, ◌^◌, ◌<◌, ◌≤◌, All, ℕ, length};
 ghost use Rattle.std.specs.List.Sorted.{IsNonDecreasingBy};
 ghost use Rattle.plan_model.specs.Geometry.Bounds.{IsBounded};
-ghost use Rattle.point_strips.specs.Discs.{IsWithin};
 ghost use Rattle.point_strips.specs.StripOrder.{strip_key, strip_of};
-ghost use Rattle.point_strips.specs.Walks.{HasNoneBetween, IsNextWithin, numbered_at};
+ghost use Rattle.point_strips.specs.Walks.{HasNoneBetween, IsNextRun, numbered_at};
 
 use crate::discs::Disc;
-use crate::strips::Numbered;
+use crate::strips::{Numbered, Run};
 use plan_model::Point;
 
 /// How many columns there are that a point may stand in.
@@ -44,39 +43,35 @@ pub(crate) fn height_log_for(points: &[Numbered]) -> u32
     (high.saturating_sub(low) / strips).max(1).ilog2()
 }
 
-/// The first position, from `from` on, whose point is in the disc; `None` if there is none.
-pub(crate) fn next_within(
-    points: &[Numbered],
-    height_log: u32,
-    from: usize,
-    disc: Disc,
-) -> Option<usize>
+/// The first run, from `from` on; `None` if no point from there on is in the disc.
+pub(crate) fn next_run(points: &[Numbered], height_log: u32, from: usize, disc: Disc) -> Option<Run>
     requires height { height_log < 32 }
     requires bounded { All (λ n. IsBounded n.point) points.now }
     requires sorted { IsNonDecreasingBy (strip_key height_log) points.now }
-    ensures next { IsNextWithin disc.center disc.square points.now from result }
-    ensures room { IfSome result (λ i. i + 1 < 2 ^ 64) }
+    ensures { IsNextRun disc.center disc.square points.now from result }
 {
     let mut at = from;
     while at < points.len() {
-        if disc.has(points[at].point) {
-            return Some(at);
+        let start = skipped(points, height_log, at, disc);
+        if start == at {
+            let end = end_of_run(points, height_log, start, disc.right());
+            return Some(Run { start, end });
         }
-        at = past(points, height_log, at, disc);
+        at = start;
     }
     None
 }
 
-/// A position past one whose point is not in the disc, with none in the disc between them.
-fn past(points: &[Numbered], height_log: u32, at: usize, disc: Disc) -> usize
+/// A position with none of the disc before it, from `at` on: `at` itself exactly if its point is in a strip that the disc meets, and in a
+/// column between the disc's left and right.
+fn skipped(points: &[Numbered], height_log: u32, at: usize, disc: Disc) -> usize
     requires inside { at < length points.now }
     requires height { height_log < 32 }
     requires bounded { All (λ n. IsBounded n.point) points.now }
     requires sorted { IsNonDecreasingBy (strip_key height_log) points.now }
-    requires missed { ¬ IsWithin disc.center disc.square (numbered_at points.now at).point }
-    ensures later { at < result }
+    ensures later { at ≤ result }
     ensures within { result ≤ length points.now }
-    ensures skipped { HasNoneBetween disc.center disc.square points.now at result }
+    ensures none { HasNoneBetween disc.center disc.square points.now at result }
 {
     let point = points[at].point;
     let here = strip(point.y, height_log);
@@ -93,7 +88,26 @@ fn past(points: &[Numbered], height_log: u32, at: usize, disc: Disc) -> usize
     if point.x > disc.right() {
         return first_from(points, height_log, at + 1, here + 1, disc.left());
     }
-    at + 1
+    at
+}
+
+/// The end of a run: the first position after `start` whose point is in another strip or right of a column.
+fn end_of_run(points: &[Numbered], height_log: u32, start: usize, right: u32) -> usize
+    requires inside { start < length points.now }
+    requires height { height_log < 32 }
+    ensures some { start < result }
+    ensures within { result ≤ length points.now }
+{
+    let here = strip(points[start].point.y, height_log);
+    let mut end = start + 1;
+    while end < points.len() {
+        let point = points[end].point;
+        if point.x > right || strip(point.y, height_log) != here {
+            return end;
+        }
+        end += 1;
+    }
+    end
 }
 
 /// The first position, from `from` on, whose point stands neither below a strip, nor in it and left of a column, by halving; the end if

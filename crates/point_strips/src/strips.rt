@@ -1,12 +1,12 @@
 //! Numbered points in strips.
 
-ghost use Rattle.std.specs.Prelude.{◌≡◌, ◌+◌, ◌<◌, ◌^◌, ◌==◌, All, IfSome, length};
+ghost use Rattle.std.specs.Prelude.{◌≡◌, ◌<◌, ◌==◌, All, length};
 ghost use Rattle.std.specs.List.Sorted.{IsPermutation};
 ghost use Rattle.plan_model.specs.Geometry.Bounds.{IsBounded};
-ghost use Rattle.point_strips.specs.Walks.{IsNextWithin, numbered_at};
+ghost use Rattle.point_strips.specs.Walks.{IsNextRun, numbered_at};
 
 use crate::discs::Disc;
-use crate::strip_order::{height_log_for, key, next_within};
+use crate::strip_order::{height_log_for, key, next_run};
 use plan_model::Point;
 use std::marker::Model;
 
@@ -17,6 +17,16 @@ pub struct Numbered {
     pub point: Point,
     /// Its number.
     pub number: u32,
+}
+
+/// Positions that follow each other in a strip: all of that strip whose points stand in the columns of a disc. Those points may still lie
+/// outside the disc ([`Disc::has`]).
+#[derive(Clone, Copy, Debug, PartialEq, Eq)]
+pub struct Run {
+    /// The first position.
+    pub start: usize,
+    /// The position after the last one; above `start`.
+    pub end: usize,
 }
 
 /// Numbered points, strip by strip from the lowest up, and in each strip by column. Each strip is of the same height, a power of two, at
@@ -79,15 +89,14 @@ impl Strips {
         self.points[position]
     }
 
-    /// The first position, from `from` on, whose point is in the disc; `None` if there is none. From 0, and then each time from the position
-    /// after the one found, that is each point of the disc once, and no other. No memory.
+    /// The first run of the disc from `from` on; `None` if no point from there on is in the disc. From 0, and then each time from the end of
+    /// the run before, the runs have each point of the disc once. No memory.
     ///
-    /// A whole walk takes O(k + s log n) on average for k points in the disc, of n that lie evenly, and s strips that it meets.
-    pub fn next_within(&self, from: usize, disc: Disc) -> Option<usize>
-        ensures next { IsNextWithin disc.center disc.square self.now from result }
-        ensures room { IfSome result (λ i. i + 1 < 2 ^ 64) }
+    /// All runs of a disc take O(k + s log n) on average for k points in the disc, of n that lie evenly, and s strips that it meets.
+    pub fn next_run(&self, from: usize, disc: Disc) -> Option<Run>
+        ensures { IsNextRun disc.center disc.square self.now from result }
     {
-        next_within(&self.points, self.height_log, from, disc)
+        next_run(&self.points, self.height_log, from, disc)
     }
 }
 
@@ -145,13 +154,27 @@ mod tests {
         Ok(Strips::new(points))
     }
 
+    /// The numbers of the points of a run that lie in a disc, one bit each.
+    fn numbers_of(strips: &Strips, disc: Disc, run: Run) -> u32
+        requires { run.end ≤ length strips.now }
+    {
+        let mut numbers = 0;
+        for position in run.start..run.end {
+            let numbered = strips.at(position);
+            if disc.has(numbered.point) {
+                numbers |= 1 << (numbered.number & 31);
+            }
+        }
+        numbers
+    }
+
     /// The numbers of the points of a disc, one bit each.
     fn numbers_in(strips: &Strips, disc: Disc) -> u32 {
         let mut numbers = 0;
         let mut at = 0;
-        'walk: while let Some(found) = strips.next_within(at, disc) {
-            numbers |= 1 << (strips.at(found).number & 31);
-            at = found + 1;
+        'walk: while let Some(run) = strips.next_run(at, disc) {
+            numbers |= numbers_of(strips, disc, run);
+            at = run.end;
         }
         numbers
     }

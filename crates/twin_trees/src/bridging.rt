@@ -4,12 +4,13 @@
 //! far: by the triangle law no way over the node costs less. Of the others, the nodes of the second run within a step are found by strips.
 //! A pair is compared by squares, and its segment is tested only if the way over it is better than the best so far.
 
-ghost use Rattle.std.specs.Prelude.{◌≡◌, ℕ, ◌<◌, ◌≤◌, ◌*◌, ◌^◌, IfOk, IsTrue};
+ghost use Rattle.std.specs.Prelude.{◌≡◌, ℕ, ◌<◌, ◌≤◌, ◌*◌, ◌^◌, IfOk, IsTrue, length};
 ghost use Rattle.plan_model.specs.Runs.Textbook.{setup_of};
 ghost use Rattle.plan_model.specs.Spaces.ConfigurationSpace.{space_of};
 ghost use Rattle.plan_model.specs.Trees.PointsByNumber.{StandsAt};
 ghost use Rattle.plan_model.specs.Trees.TreeStates.{IsSettled};
 ghost use Rattle.point_strips.specs.Discs.{IsWithin};
+ghost use Rattle.point_strips.specs.Walks.{numbered_at};
 ghost use Rattle.step_core.specs.GrownRuns.{state_of_grown};
 ghost use Rattle.twin_trees.specs.BridgeOrder.{IsNoWorse};
 ghost use Rattle.twin_trees.specs.BridgeSearches.{AreNodes, Matches, MayBeBest};
@@ -19,7 +20,7 @@ use crate::bridges::{Bridge, so_far_is_beaten};
 use crate::nodes::strips_of;
 use edge_cost::{cost, costs_less_through};
 use plan_model::Memory;
-use point_strips::{Disc, Numbered, Strips};
+use point_strips::{Disc, Numbered, Run, Strips};
 use std::alloc::Global;
 use step_core::Grown;
 use swept_check::Clearing;
@@ -28,7 +29,7 @@ use swept_check::Clearing;
 /// which the way costs least, of those the one with the least number in the first run, and then in the second. `None` if there is none.
 /// The step is that of the first run, for whose scene the hall stands.
 ///
-/// O(n log n + k) for n nodes and k pairs within a step of each other that are not passed over.
+/// O(n s log n + k) for n nodes, s strips within a step of a node and k pairs within a step of each other that are not passed over.
 ///
 /// # Errors
 ///
@@ -110,9 +111,43 @@ fn best_from<C: Clearing>(
     let disc = Disc::of_radius(end.point, first.task().scene.step);
     let mut best = so_far;
     let mut at = 0;
-    'walk: while let Some(found) = strips.next_within(at, disc) {
-        best = better(hall, first, second, end, strips.at(found), best);
-        at = found + 1;
+    'walk: while let Some(run) = strips.next_run(at, disc) {
+        best = best_in_run(hall, first, second, strips, end, run, best);
+        at = run.end;
+    }
+    best
+}
+
+/// The best of a bridge so far and of all from a node of the first run to nodes of a run of positions, within a step.
+fn best_in_run<C: Clearing>(
+    hall: &C,
+    first: &Grown,
+    second: &Grown,
+    strips: &Strips,
+    end: Numbered,
+    run: Run,
+    so_far: Option<Bridge>,
+) -> Option<Bridge>
+    requires hall { C.space hall.now ≡ space_of first.now.task.scene }
+    requires first { IsSettled (state_of_grown first.now) }
+    requires second { IsSettled (state_of_grown second.now) }
+    requires nodes { AreNodes (state_of_grown second.now) strips.now }
+    requires stands { StandsAt (state_of_grown first.now).points end.number end.point }
+    requires inside { run.end ≤ length strips.now }
+    requires best { MayBeBest (setup_of first.now.task.scene) (state_of_grown first.now) (state_of_grown second.now) so_far }
+    ensures best { MayBeBest (setup_of first.now.task.scene) (state_of_grown first.now) (state_of_grown second.now) result }
+    ensures no_worse { IsNoWorse so_far result }
+    ensures run { (j : ℕ) → run.start ≤ j → j < run.end → IsWithin end.point (first.now.task.scene.step * first.now.task.scene.step) (numbered_at strips.now j).point
+        → Matches (setup_of first.now.task.scene) (state_of_grown first.now) (state_of_grown second.now) result end.number (numbered_at strips.now j).number }
+{
+    let step = first.task().scene.step;
+    let disc = Disc::of_radius(end.point, step);
+    let mut best = so_far;
+    for position in run.start..run.end {
+        let other = strips.at(position);
+        if disc.has(other.point) {
+            best = better(hall, first, second, end, other, best);
+        }
     }
     best
 }

@@ -1,6 +1,5 @@
-use Rattle.std.proofs.Common.{◌+◌, ◌*◌, ◌-◌, ◌/◌, ◌≤◌, arith}
-use Rattle.point_strips.specs.StripOrder.{strip_key}
-use Rattle.point_strips.specs.Walks.{nowhere, numbered_at}
+use Rattle.std.proofs.Common.{◌+◌, ◌-◌, ◌/◌, ◌≤◌, arith}
+use Rattle.point_strips.specs.Walks.{nowhere}
 use Rattle.point_strips.proofs.strip_order.first_from.Goals as goal
 
 pub loop-low-preserved-then-key-target : goal.loop-low-preserved-then-key-target

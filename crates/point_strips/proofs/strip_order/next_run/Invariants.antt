@@ -1,6 +1,6 @@
 use Rattle.std.specs.Prelude.{◌≤◌, ◌-◌, length}
 use Rattle.point_strips.specs.Walks.{HasNoneBetween}
-use Rattle.point_strips.proofs.strip_order.next_within.Given as goal
+use Rattle.point_strips.proofs.strip_order.next_run.Given as goal
 
 abbrev pub invariant-loop-at : goal.invariant-loop-at
 invariant-loop-at l = record {

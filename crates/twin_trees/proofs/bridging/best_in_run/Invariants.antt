@@ -1,0 +1,19 @@
+use Rattle.std.specs.Prelude.{ℕ, ◌*◌, ◌<◌, ◌≤◌}
+use Rattle.plan_model.specs.Runs.Textbook.{setup_of}
+use Rattle.point_strips.specs.Discs.{IsWithin}
+use Rattle.point_strips.specs.Walks.{numbered_at}
+use Rattle.step_core.specs.GrownRuns.{state_of_grown}
+use Rattle.twin_trees.specs.BridgeOrder.{IsNoWorse}
+use Rattle.twin_trees.specs.BridgeSearches.{Matches, MayBeBest}
+use Rattle.twin_trees.proofs.bridging.best_in_run.Given as goal
+
+-- each node of the run so far, within a step, is matched
+abbrev pub invariant-loop-position : goal.invariant-loop-position
+invariant-loop-position g l =
+    record {
+      best : MayBeBest (setup_of l.first.task.scene) (state_of_grown l.first) (state_of_grown l.second) l.best;
+      no_worse : IsNoWorse l.initial.best l.best;
+      looked : (j : ℕ) → l.fn.run.start ≤ j → j < l.position
+          → IsWithin l.end.point (l.first.task.scene.step * l.first.task.scene.step) (numbered_at l.strips j).point
+          → Matches (setup_of l.first.task.scene) (state_of_grown l.first) (state_of_grown l.second) l.best l.end.number (numbered_at l.strips j).number;
+    }
