@@ -42,3 +42,5 @@ pub mod ClassRadii
 pub mod SheetVerdicts
 pub mod ReportCuts
 pub mod ReportCutLaws
+pub mod StandingLaws
+pub mod OwnMarkLaws

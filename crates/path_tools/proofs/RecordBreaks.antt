@@ -1,12 +1,13 @@
 -- The first mark of any worker that breaks the law of records is the first of those of each worker.
-use Rattle.std.proofs.Common.{◌≡◌, ℕ, suc, List, length, Option, Some, None, arith, inl, inr}
+use Rattle.std.proofs.Common.{◌≡◌, ℕ, suc, ◌≤◌, List, length, Option, Some, None, arith, ap, inl, inr}
 use Rattle.std.specs.Prelude.{slice_get}
 use Rattle.std.proofs.lemmas.Bool.{cases_lt}
 use Rattle.plan_model.specs.declared.records.Record.{Record}
 use Rattle.plan_model.specs.declared.tasks.Task.{Task}
 use Rattle.plan_model.specs.declared.trees.Knot.{Knot}
+use Rattle.plan_model.specs.Runs.Turns.{turns_of}
 use Rattle.path_tools.specs.FirstBreaks.{HasFewTurns, IsFirstBreak, earlier_of}
-use Rattle.path_tools.specs.JudgedRuns.{KeepsRecord, KeepsRecordOf, KeepsRecordBelow}
+use Rattle.path_tools.specs.JudgedRuns.{HaveLowTurns, KeepsRecord, KeepsRecordOf, KeepsRecordBelow, KeepsRecordBetween}
 use Rattle.path_tools.proofs.FirstBreakLaws.{IsFirstBreak-earlier, IsFirstBreak-same}
 
 module _ (task : Task) (knots : List (Option Knot)) (records : List Record) where
@@ -39,3 +40,37 @@ module _ (task : Task) (knots : List (Option Knot)) (records : List Record) wher
   IsFirstBreak-workers fit first h =
       IsFirstBreak-same (Below 64) (KeepsRecord task knots records) (length records) (λ k low kept entry is. kept entry is (fit k entry is).worker)
       (λ k low kept entry is less. kept entry is) first h
+
+  -- ---- of one worker, stretch by stretch
+
+  abbrev Between : ℕ → ℕ → ℕ → ℕ → Type 0
+  Between worker from to = KeepsRecordBetween worker from to task knots records
+
+  pub IsFirstBreak-no_turn : (worker : ℕ) → IsFirstBreak (Between worker 0 0) (length records) None
+  IsFirstBreak-no_turn worker = λ k low entry is mine past before. absurd (omega (arith, before))
+
+  -- a stretch more
+  pub IsFirstBreak-stretch : (worker from to : ℕ) (first broken : Option ℕ) → from ≤ to → IsFirstBreak (Between worker 0 from) (length records) first
+      → IsFirstBreak (Between worker from to) (length records) broken → IsFirstBreak (Between worker 0 to) (length records) (earlier_of first broken)
+  IsFirstBreak-stretch worker from to first broken onward h own =
+      IsFirstBreak-same (λ k. Between worker 0 from k × Between worker from to k) (Between worker 0 to) (length records)
+      (λ k low both entry is mine past before.
+      elim (cases_lt entry.turn from) [
+        | inl early ↦ both.0 entry is mine past early
+        | inr late ↦ both.1 entry is mine late before
+      ])
+      (λ k low kept. (
+        λ entry is mine past before. kept entry is mine past (omega (arith, before, onward)),
+        λ entry is mine past before. kept entry is mine (omega arith) before,
+      ))
+      (earlier_of first broken)
+      (IsFirstBreak-earlier (Between worker 0 from) (Between worker from to) (length records) first broken h own)
+
+  -- all turns
+  pub IsFirstBreak-turns : HaveLowTurns records → (worker turns : ℕ) → turns ≡ turns_of (slice_get records) (length records) worker
+      → (first : Option ℕ) → IsFirstBreak (Between worker 0 turns) (length records) first → IsFirstBreak (Of worker) (length records) first
+  IsFirstBreak-turns low_turns worker turns all first h =
+      IsFirstBreak-same (Between worker 0 turns) (Of worker) (length records)
+      (λ k low kept entry is mine.
+      kept entry is mine (omega arith) (omega (arith, low_turns k entry is, all, ap (turns_of (slice_get records) (length records)) mine)))
+      (λ k low kept entry is mine past before. kept entry is mine) first h

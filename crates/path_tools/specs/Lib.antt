@@ -17,3 +17,5 @@ pub mod SeenNodes
 pub mod MarkLaws
 pub mod Judgements
 pub mod ReportCuts
+pub mod Standings
+pub mod OwnMarks

@@ -1,9 +1,11 @@
 -- The nodes of a worker, as numbered points: the start, and those that it placed.
-use Rattle.std.specs.Prelude.{◌≡◌, ℕ, zero, suc, ◌<◌, ◌⊎◌, ◌==◌, ◌+◌, ◌≤◌, ◌^◌, ◌&&◌, IsTrue, Bool, true, false}
+use Rattle.std.specs.Prelude.{◌≡◌, ℕ, suc, ◌<◌, ◌⊎◌, ◌+◌, ◌≤◌, ◌^◌, IsTrue, true, ⊤}
 use Rattle.std.specs.Prelude.{All, Contains, Option, Some, None, List, slice_get}
 use Rattle.plan_model.specs.declared.configuration_spaces.ConfigurationSpace.{ConfigurationSpace}
 use Rattle.plan_model.specs.declared.geometry.Point.{Point}
 use Rattle.plan_model.specs.declared.records.Record.{Record}
+use Rattle.plan_model.specs.declared.trees.Knot.{Knot}
+use Rattle.plan_model.specs.Geometry.Bounds.{IsBounded}
 use Rattle.plan_model.specs.Geometry.Cost.{cost_of}
 use Rattle.plan_model.specs.Geometry.Plane.{squared_distance}
 use Rattle.plan_model.specs.Runs.Outcomes.{is_placed}
@@ -13,41 +15,78 @@ use Rattle.plan_model.specs.Trees.LeastPairs.{IsNotAbove}
 use Rattle.plan_model.specs.Trees.Nearness.{distance_to, is_within}
 use Rattle.plan_model.specs.Trees.PointsByNumber.{StandsAt, IsPresent, point_at, point_of}
 use Rattle.plan_model.specs.Trees.TreeStates.{TreeState, first_cost_of}
-use Rattle.point_strips.specs.Discs.{IsWithin}
 use Rattle.point_strips.specs.Walks.{numbered_at}
 use Rattle.point_strips.specs.declared.strips.Numbered.{Numbered}
+use Rattle.step_core.specs.PackedRuns.{state_of_lists}
+use Rattle.path_tools.specs.SeenNodes.{is_before}
+use Rattle.path_tools.specs.Standings.{place_of, standing_at}
+use Rattle.path_tools.specs.declared.standings.Standing.{Standing}
 
--- the record is that of a mark that this worker placed
-abbrev pub places : ℕ → Option Record → Bool
-places worker None = false
-places worker (Some entry) = is_placed entry.outcome && entry.worker == worker
+-- The numbered point is a node of the worker that stood before a turn, numbered by its place.
+pub record IsNodeBefore (state : TreeState) (worker turn : ℕ) (m : Numbered) : Type 0 where
+  pub node : ℕ
+  pub before : is_before worker turn state.record_of node ≡ true
+  pub place : place_of state.record_of node ≡ m.number
+  pub stands : StandsAt state.points node m.point
 
--- node n is the start, or one that this worker placed
-abbrev pub is_own : ℕ → (ℕ → Option Record) → ℕ → Bool
-is_own worker record_of zero = true
-is_own worker record_of (suc k) = places worker (record_of k)
+-- The list has the nodes of the worker that stood before a turn, each numbered by its place.
+pub record AreNodesBefore (state : TreeState) (worker turn : ℕ) (nodes : List Numbered) : Type 0 where
+  pub stand : All (IsNodeBefore state worker turn) nodes
+  pub each : (n : ℕ) (p : Point) → is_before worker turn state.record_of n ≡ true → StandsAt state.points n p
+      → Contains nodes (record { point = p; number = place_of state.record_of n })
 
--- Of the nodes below a number the list has those of the worker, each with its number.
-pub record AreOwnBelow (state : TreeState) (worker limit : ℕ) (nodes : List Numbered) : Type 0 where
-  pub stand : All (λ m. StandsAt state.points m.number m.point) nodes
-  pub each : (n : ℕ) (p : Point) → n < limit → is_own worker state.record_of n ≡ true → StandsAt state.points n p
-      → Contains nodes (record { point = p; number = n })
+-- mark k was placed, and its node stands at p
+pub record IsPlacedMarkAt (knots : List (Option Knot)) (records : List Record) (k : ℕ) (p : Point) : Type 0 where
+  pub entry : Record
+  pub at : slice_get records k ≡ Some entry
+  pub placed : is_placed entry.outcome ≡ true
+  pub stands : StandsAt (state_of_lists knots records).points (suc k) p
+  pub bounded : IsBounded p
 
--- The list has the nodes of the worker.
-pub record AreOwnNodes (state : TreeState) (worker : ℕ) (nodes : List Numbered) : Type 0 where
-  pub stand : All (λ m. StandsAt state.points m.number m.point) nodes
-  pub each : (n : ℕ) (p : Point) → is_own worker state.record_of n ≡ true → StandsAt state.points n p
-      → Contains nodes (record { point = p; number = n })
+-- where the node of a mark stands, if there is a mark that was placed, and its node is present
+abbrev pub IsPlacedAt : List (Option Knot) → List Record → Option ℕ → Option Point → Type 0
+IsPlacedAt knots records None None = ⊤
+IsPlacedAt knots records None (Some p) = ⊥
+IsPlacedAt knots records (Some k) None = (p : Point) → ¬ IsPlacedMarkAt knots records k p
+IsPlacedAt knots records (Some k) (Some p) = IsPlacedMarkAt knots records k p
 
 -- a node is present for each mark that was placed, and so is the start
 abbrev pub ArePresent : TreeState → Type 0
 ArePresent state = (entry : Record) (n : ℕ) → IsEarlier state entry n → IsPresent state.points n
 
--- ---- walks over them
+-- ---- searches by places
 
--- none of the points of a disc before a place is bad
-abbrev pub AreGoodBefore : (Numbered → Type 0) → Point → ℕ → List Numbered → ℕ → Type 0
-AreGoodBefore Bad center square nodes limit = (j : ℕ) → j < limit → IsWithin center square (numbered_at nodes j).point → ¬ Bad (numbered_at nodes j)
+-- one of the positions from one up to another has such a point
+pub record HasOne (Bad : Numbered → Type 0) (nodes : List Numbered) (from to : ℕ) : Type 0 where
+  pub position : ℕ
+  pub past : from ≤ position
+  pub before : position < to
+  pub bad : Bad (numbered_at nodes position)
+
+-- none has
+abbrev pub HasNo : (Numbered → Type 0) → List Numbered → ℕ → ℕ → Type 0
+HasNo Bad nodes from to = (j : ℕ) → from ≤ j → j < to → ¬ Bad (numbered_at nodes j)
+
+-- The node at this place stood before a turn, and is nearer to a point than at a distance, or as near with a number below this one.
+pub record IsNearerAt (standings : List Standing) (turn : ℕ) (p : Point) (distance number : ℕ) (m : Numbered) : Type 0 where
+  pub earlier : m.number ≤ turn
+  pub nearer : (squared_distance m.point p < distance)
+      ⊎ ((squared_distance m.point p ≡ distance) × ((standing_at standings m.number).node < number))
+
+-- The node at this place stood before a turn, within a distance of p, and by its costs was a cheaper parent of a new node at p that cost
+-- so much at first, or is dearer than by way of that.
+pub record IsCheaperAt (standings : List Standing) (turn first_cost square : ℕ) (p : Point) (m : Numbered) : Type 0 where
+  pub earlier : m.number ≤ turn
+  pub within : squared_distance m.point p ≤ square
+  pub cheaper : ((standing_at standings m.number).first_cost + cost_of m.point p < first_cost)
+      ⊎ (first_cost + cost_of m.point p < (standing_at standings m.number).cost)
+
+-- the same of a node with a clear segment to p
+pub record IsBadAt (space : ConfigurationSpace) (standings : List Standing) (turn first_cost square : ℕ) (p : Point) (m : Numbered) : Type 0 where
+  pub cheaper : IsCheaperAt standings turn first_cost square p m
+  pub clear : Clear space m.point p
+
+-- ---- the same by nodes
 
 -- an earlier node that is nearer to a mark than a node at this distance, or as near with a lesser number
 abbrev pub IsNearer : TreeState → Record → Point → ℕ → Numbered → Type 0

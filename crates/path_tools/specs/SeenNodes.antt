@@ -7,6 +7,7 @@ use Rattle.plan_model.specs.declared.records.Record.{Record}
 use Rattle.plan_model.specs.Runs.Outcomes.{is_placed}
 use Rattle.plan_model.specs.Trees.BestNode.{IsGoalNode}
 use Rattle.plan_model.specs.Trees.TreeStates.{TreeState, first_cost_of}
+use Rattle.path_tools.specs.declared.own_turns.OwnTurns.{OwnTurns}
 use Rattle.path_tools.specs.declared.seen_nodes.Seen.{Seen}
 
 -- ---- turns of a worker
@@ -24,6 +25,10 @@ IsMarkOfTurn records worker turn (Some mark) = (entry : Record) × (slice_get re
 -- the marks of the worker by its turns
 abbrev pub AreMarksByTurn : List Record → ℕ → List (Option ℕ) → Type 0
 AreMarksByTurn records worker order = (turn : ℕ) → turn < length order → IsMarkOfTurn records worker turn (slice_index_or order turn None)
+
+-- the same of what is kept of a worker
+abbrev pub AreTurnsOf : List Record → OwnTurns → Type 0
+AreTurnsOf records turns = AreMarksByTurn records turns.worker turns.marks.items
 
 -- no two marks have the same turn of the same worker
 abbrev pub HaveOwnTurns : List Record → Type 0

@@ -141,6 +141,7 @@ fn ends_lawfully<C: Clearing>(
 /// Whether the segment to `p` is not clear, and no node that stood already stands there.
 fn is_blocked_lawfully<C: Clearing>(hall: &C, judged: &Judged<'_>, entry: Record, p: Point) -> bool
     requires judged { IsJudged entry.worker judged.now }
+    requires turn { entry.turn ≤ judged.now.turns }
     requires p { IsBounded p }
     requires nearest { IsPresent (run_of judged.now).points entry.nearest }
     ensures lawful { IsTrue result → (setup : Setup) → setup.space ≡ C.space hall.now → IsBlockedLawfully setup (run_of judged.now) entry p }

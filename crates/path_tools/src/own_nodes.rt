@@ -1,58 +1,73 @@
 //! The nodes of a worker, sorted by where they stand.
 
-ghost use Rattle.std.specs.Prelude.{◌≡◌, ◌<◌, ◌≤◌, ℕ, IfOk, None, Some, length, slice_get, slice_index_or};
-ghost use Rattle.plan_model.specs.declared.limits.TheConstants.{MOST_NODES};
-ghost use Rattle.plan_model.specs.declared.records.Record.{Record};
+ghost use Rattle.std.specs.Prelude.{◌≡◌, ◌<◌, ◌≤◌, ℕ, suc, IfOk, None, Some, length, slice_index_or};
+ghost use Rattle.plan_model.specs.declared.limits.TheConstants.{MOST_MARKS};
 ghost use Rattle.plan_model.specs.declared.trees.Knot.{Knot};
-ghost use Rattle.plan_model.specs.Trees.TreeStates.{first_cost_of};
 ghost use Rattle.step_core.specs.PackedRuns.{state_of_lists};
 ghost use Rattle.path_tools.specs.ExactEdges.{FitsEdges};
-ghost use Rattle.path_tools.specs.OwnNodes.{AreOwnNodes, is_own};
+ghost use Rattle.path_tools.specs.OwnNodes.{AreNodesBefore, IsPlacedAt};
+ghost use Rattle.path_tools.specs.SeenNodes.{AreTurnsOf, HaveOwnTurns};
 
 use crate::exact_edges::knot_at;
+use crate::own_turns::OwnTurns;
 use crate::presence::is_placed;
-use plan_model::{Knot, Memory, Record};
+use plan_model::{Knot, Memory, Point, Record};
 use point_strips::{Numbered, Strips};
 use std::alloc::Global;
 
-/// The nodes of a worker: the start, and each that it placed. O(n log n) for n nodes.
+/// The nodes of a worker that stood before a turn, each numbered by its place: the start by 0, and the node that was placed in a turn by
+/// the number of turns up to it, that turn included. O(n log n) for n turns.
 ///
 /// # Errors
 ///
 /// `Memory` if out of memory for them.
-pub(crate) fn own_nodes(
+pub(crate) fn nodes_before(
     alloc: Global,
     knots: &[Option<Knot>],
     records: &[Record],
-    worker: u32,
+    turns: &OwnTurns,
+    limit: u32,
 ) -> Result<Strips, Memory>
-    requires few { length knots.now ≤ MOST_NODES }
+    requires few { length records.now ≤ MOST_MARKS }
     requires fit { (n : ℕ) (other : Knot) → slice_index_or knots.now n None ≡ Some other → FitsEdges other }
-    ensures { IfOk result (λ nodes. AreOwnNodes (state_of_lists knots.now records.now) worker nodes) }
+    requires turns { AreTurnsOf records.now turns.now }
+    requires own { HaveOwnTurns records.now }
+    requires limit { limit ≤ length turns.now.marks.items }
+    ensures { IfOk result (λ nodes. AreNodesBefore (state_of_lists knots.now records.now) turns.now.worker limit nodes) }
 {
     let mut nodes = Vec::new(alloc);
-    for node in 0..knots.len() {
-        if let Some(knot) = knot_at(knots, node as u32) {
-            if is_own(records, worker, node) {
-                let point = knot.point;
-                let number = node as u32;
-                nodes.push(Numbered { point, number })?;
-            }
+    if let Some(start) = knot_at(knots, 0) {
+        nodes.push(Numbered {
+            point: start.point,
+            number: 0,
+        })?;
+    }
+    for turn in 0..limit {
+        if let Some(point) = placed_at(knots, records, turns.marks[turn as usize]) {
+            let number = turn + 1;
+            nodes.push(Numbered { point, number })?;
         }
     }
     Ok(Strips::new(nodes))
 }
 
-/// Whether a node is the start, or was placed by a worker.
-fn is_own(records: &[Record], worker: u32, node: usize) -> bool
-    ensures { result ≡ is_own worker (slice_get records.now) node }
+/// Where the node of a mark stands, if there is a mark that was placed.
+fn placed_at(knots: &[Option<Knot>], records: &[Record], mark: Option<u32>) -> Option<Point>
+    requires few { length records.now ≤ MOST_MARKS }
+    requires fit { (n : ℕ) (other : Knot) → slice_index_or knots.now n None ≡ Some other → FitsEdges other }
+    ensures { IsPlacedAt knots.now records.now mark result }
 {
-    if node == 0 {
-        return true;
+    let Some(mark) = mark else {
+        return None;
+    };
+    if mark as usize >= records.len() {
+        return None;
     }
-    let mark = node - 1;
-    if mark >= records.len() {
-        return false;
+    if !is_placed(records[mark as usize].outcome) {
+        return None;
     }
-    is_placed(records[mark].outcome) && records[mark].worker == worker
+    match knot_at(knots, mark + 1) {
+        Some(knot) => Some(knot.point),
+        None => None,
+    }
 }

@@ -1,37 +1,45 @@
 //! Searches among the nodes of a worker for those that stood already when it handled a mark.
 
-ghost use Rattle.std.specs.Prelude.{◌≡◌, ◌<◌, ◌^◌, ℕ, IsFalse, IsTrue, List, Option};
+ghost use Rattle.std.specs.Prelude.{◌≡◌, ◌<◌, ◌≤◌, ℕ, IsFalse, IsTrue, length};
 ghost use Rattle.plan_model.specs.Geometry.Bounds.{IsBounded};
-ghost use Rattle.plan_model.specs.Runs.RecordLaw.{IsEarlier, is_earlier};
+ghost use Rattle.plan_model.specs.Runs.RecordLaw.{IsEarlier};
 ghost use Rattle.plan_model.specs.Trees.Nearness.{distance_to};
 ghost use Rattle.plan_model.specs.Trees.PointsByNumber.{StandsAt};
-ghost use Rattle.plan_model.specs.declared.trees.Knot.{Knot};
-ghost use Rattle.step_core.specs.PackedRuns.{state_of_lists};
 ghost use Rattle.path_tools.specs.JudgedRuns.{IsJudged, run_of};
-ghost use Rattle.path_tools.specs.OwnNodes.{IsBadNear, IsCheaperNear, IsNearer, IsNearestOfEarlier, IsTaken, KeepsNear};
+ghost use Rattle.path_tools.specs.OwnNodes.{HasNo, HasOne, IsBadAt, IsCheaperAt, IsNearerAt};
+ghost use Rattle.path_tools.specs.OwnNodes.{IsNearestOfEarlier, IsTaken, KeepsNear};
 
-use crate::best_paths::kept_cost;
-use crate::hanging::first_cost;
 use crate::judged::Judged;
-use crate::presence::is_placed;
-use edge_cost::cost;
+use edge_cost::costs_less_through;
 use plan_model::{Point, Record};
-use point_strips::{Disc, Numbered};
+use point_strips::{Disc, Numbered, Run};
 use swept_check::Clearing;
 
-/// Whether a node stood already when the worker of a record handled its mark, by its own records. O(1).
-pub(crate) fn is_earlier(records: &[Record], entry: Record, node: u32) -> bool
-    ensures { (knots : List (Option Knot)) → result ≡ is_earlier (state_of_lists knots records.now) entry node }
-{
-    if node == 0 {
-        return true;
-    }
-    let mark = node as usize - 1;
-    if mark >= records.len() {
-        return false;
-    }
-    let other = records[mark];
-    is_placed(other.outcome) && other.worker == entry.worker && other.turn < entry.turn
+/// A search for a node that stood before a turn, and is nearer to a point than at a distance, or as near with a number below a number.
+#[derive(Clone, Copy)]
+struct NearerSearch {
+    /// The point.
+    point: Point,
+    /// The square of the distance.
+    distance: u64,
+    /// The number.
+    number: u32,
+    /// The turn.
+    turn: u32,
+}
+
+/// A search for a node that stood before a turn, within a radius of a new node, that was a cheaper parent of that, or is dearer than by
+/// way of it.
+#[derive(Clone, Copy)]
+struct CheaperSearch {
+    /// Where the new node stands.
+    point: Point,
+    /// The square of the radius.
+    square: u64,
+    /// What the new node cost at first.
+    first_cost: u64,
+    /// The turn.
+    turn: u32,
 }
 
 /// Whether no node that stood already is nearer to a mark than the nearest of its record, or as near with a lesser number; `distance` is
@@ -39,52 +47,35 @@ pub(crate) fn is_earlier(records: &[Record], entry: Record, node: u32) -> bool
 pub(crate) fn is_nearest(judged: &Judged<'_>, entry: Record, mark: Point, distance: u64) -> bool
     requires bounded { IsBounded mark }
     requires judged { IsJudged entry.worker judged.now }
+    requires turn { entry.turn ≤ judged.now.turns }
     requires distance { distance ≡ distance_to mark (run_of judged.now).points entry.nearest }
     ensures nearest { IsTrue result → IsNearestOfEarlier (run_of judged.now) entry mark }
     ensures only { IsFalse result → ¬ IsNearestOfEarlier (run_of judged.now) entry mark }
 {
-    let disc = Disc::of_square(mark, distance);
-    let mut at = 0;
-    'walk: while let Some(found) = judged.own.next_within(at, disc) {
-        let node = judged.own.at(found);
-        if is_nearer(judged, entry, mark, distance, node) {
-            return false;
-        }
-        at = found + 1;
-    }
-    true
-}
-
-/// Whether a node stood already, and is nearer to a mark than at a distance or has a lesser number than the nearest.
-fn is_nearer(judged: &Judged<'_>, entry: Record, mark: Point, distance: u64, node: Numbered) -> bool
-    requires mark { IsBounded mark }
-    requires node { IsBounded node.point }
-    ensures nearer { IsTrue result → IsNearer (run_of judged.now) entry mark distance node }
-    ensures only { IsFalse result → ¬ IsNearer (run_of judged.now) entry mark distance node }
-{
-    if !is_earlier(judged.records, entry, node.number) {
-        return false;
-    }
-    node.number < entry.nearest || node.point.squared_distance(mark) < distance
+    let search = NearerSearch {
+        point: mark,
+        distance,
+        number: entry.nearest,
+        turn: entry.turn,
+    };
+    !has_nearer(judged, search)
 }
 
 /// Whether a node that stood already stands at a point. O(s log n) for n nodes of the worker in s strips.
 pub(crate) fn is_taken(judged: &Judged<'_>, entry: Record, p: Point) -> bool
     requires bounded { IsBounded p }
     requires judged { IsJudged entry.worker judged.now }
+    requires turn { entry.turn ≤ judged.now.turns }
     ensures taken { IsTrue result → IsTaken (run_of judged.now) entry p }
     ensures free { IsFalse result → (i : ℕ) → IsEarlier (run_of judged.now) entry i → ¬ StandsAt (run_of judged.now).points i p }
 {
-    let disc = Disc::of_radius(p, 0);
-    let mut at = 0;
-    'walk: while let Some(found) = judged.own.next_within(at, disc) {
-        let node = judged.own.at(found);
-        if is_earlier(judged.records, entry, node.number) {
-            return true;
-        }
-        at = found + 1;
-    }
-    false
+    let search = NearerSearch {
+        point: p,
+        distance: 0,
+        number: u32::MAX,
+        turn: entry.turn,
+    };
+    has_nearer(judged, search)
 }
 
 /// Whether no node that stood already within a radius of a new node at `p`, with a clear segment to it, was a cheaper parent, and none
@@ -99,53 +90,143 @@ pub(crate) fn keeps_near<C: Clearing>(
 ) -> bool
     requires bounded { IsBounded p }
     requires judged { IsJudged entry.worker judged.now }
-    requires own { entry.first_cost < 2 ^ 44 }
+    requires turn { entry.turn ≤ judged.now.turns }
     ensures kept { IsTrue result → KeepsNear (C.space hall.now) (run_of judged.now) entry p radius }
     ensures only { IsFalse result → ¬ KeepsNear (C.space hall.now) (run_of judged.now) entry p radius }
 {
-    let disc = Disc::of_radius(p, radius);
+    let search = CheaperSearch {
+        point: p,
+        square: u64::from(radius) * u64::from(radius),
+        first_cost: entry.first_cost,
+        turn: entry.turn,
+    };
+    !has_bad(hall, judged, search)
+}
+
+/// Whether there is a node of a search.
+fn has_nearer(judged: &Judged<'_>, search: NearerSearch) -> bool
+    requires bounded { IsBounded search.point }
+    requires turn { search.turn < length judged.now.standings.now }
+    ensures some { IsTrue result → HasOne (IsNearerAt judged.now.standings.now search.turn search.point search.distance search.number)
+        judged.now.own.now 0 (length judged.now.own.now) }
+    ensures none { IsFalse result → HasNo (IsNearerAt judged.now.standings.now search.turn search.point search.distance search.number)
+        judged.now.own.now 0 (length judged.now.own.now) }
+{
+    let disc = Disc::of_square(search.point, search.distance);
     let mut at = 0;
-    'walk: while let Some(found) = judged.own.next_within(at, disc) {
-        let node = judged.own.at(found);
-        if is_bad(hall, judged, entry, p, node) {
-            return false;
+    'walk: while let Some(run) = judged.own.next_run(at, disc) {
+        if has_nearer_in(judged, search, run) {
+            return true;
         }
-        at = found + 1;
+        at = run.end;
     }
-    true
+    false
 }
 
-/// Whether a node stood already, was a cheaper parent of a new node at `p` or is dearer than by way of that, and the segment is clear.
-fn is_bad<C: Clearing>(
-    hall: &C,
-    judged: &Judged<'_>,
-    entry: Record,
-    p: Point,
-    node: Numbered,
-) -> bool
-    requires bounded { IsBounded p }
-    requires node { IsBounded node.point }
-    requires judged { IsJudged entry.worker judged.now }
-    requires own { entry.first_cost < 2 ^ 44 }
-    ensures bad { IsTrue result → IsBadNear (C.space hall.now) (run_of judged.now) entry p node }
-    ensures only { IsFalse result → ¬ IsBadNear (C.space hall.now) (run_of judged.now) entry p node }
+/// Whether there is one in a run.
+fn has_nearer_in(judged: &Judged<'_>, search: NearerSearch, run: Run) -> bool
+    requires bounded { IsBounded search.point }
+    requires turn { search.turn < length judged.now.standings.now }
+    requires inside { run.end ≤ length judged.now.own.now }
+    ensures some { IsTrue result → HasOne (IsNearerAt judged.now.standings.now search.turn search.point search.distance search.number)
+        judged.now.own.now run.start run.end }
+    ensures none { IsFalse result → HasNo (IsNearerAt judged.now.standings.now search.turn search.point search.distance search.number)
+        judged.now.own.now run.start run.end }
 {
-    is_cheaper(judged, entry, p, node) && hall.clear(node.point, p)
+    for position in run.start..run.end {
+        if is_nearer(judged, search, judged.own.at(position)) {
+            return true;
+        }
+    }
+    false
 }
 
-/// Whether a node stood already, and by its costs was a cheaper parent of a new node at `p`, or is dearer than by way of that.
-fn is_cheaper(judged: &Judged<'_>, entry: Record, p: Point, node: Numbered) -> bool
-    requires bounded { IsBounded p }
+/// Whether a node is one of a search.
+fn is_nearer(judged: &Judged<'_>, search: NearerSearch, node: Numbered) -> bool
+    requires bounded { IsBounded search.point }
     requires node { IsBounded node.point }
-    requires judged { IsJudged entry.worker judged.now }
-    requires own { entry.first_cost < 2 ^ 44 }
-    ensures cheaper { IsTrue result → IsCheaperNear (run_of judged.now) entry p node }
-    ensures only { IsFalse result → ¬ IsCheaperNear (run_of judged.now) entry p node }
+    requires turn { search.turn < length judged.now.standings.now }
+    ensures nearer { IsTrue result → IsNearerAt judged.now.standings.now search.turn search.point search.distance search.number node }
+    ensures only { IsFalse result → ¬ IsNearerAt judged.now.standings.now search.turn search.point search.distance search.number node }
 {
-    if !is_earlier(judged.records, entry, node.number) {
+    if node.number > search.turn {
         return false;
     }
-    let edge = cost(node.point, p);
-    first_cost(judged.records, node.number) + edge < entry.first_cost
-        || entry.first_cost + edge < kept_cost(judged.knots, node.number)
+    let distance = node.point.squared_distance(search.point);
+    if distance < search.distance {
+        return true;
+    }
+    distance == search.distance && judged.standings[node.number as usize].node < search.number
+}
+
+/// Whether there is a node of a search with a clear segment to the new node.
+fn has_bad<C: Clearing>(hall: &C, judged: &Judged<'_>, search: CheaperSearch) -> bool
+    requires bounded { IsBounded search.point }
+    requires turn { search.turn < length judged.now.standings.now }
+    ensures some { IsTrue result → HasOne (IsBadAt (C.space hall.now) judged.now.standings.now search.turn search.first_cost search.square search.point)
+        judged.now.own.now 0 (length judged.now.own.now) }
+    ensures none { IsFalse result → HasNo (IsBadAt (C.space hall.now) judged.now.standings.now search.turn search.first_cost search.square search.point)
+        judged.now.own.now 0 (length judged.now.own.now) }
+{
+    let disc = Disc::of_square(search.point, search.square);
+    let mut at = 0;
+    'walk: while let Some(run) = judged.own.next_run(at, disc) {
+        if has_bad_in(hall, judged, search, run) {
+            return true;
+        }
+        at = run.end;
+    }
+    false
+}
+
+/// Whether there is one in a run.
+fn has_bad_in<C: Clearing>(hall: &C, judged: &Judged<'_>, search: CheaperSearch, run: Run) -> bool
+    requires bounded { IsBounded search.point }
+    requires turn { search.turn < length judged.now.standings.now }
+    requires inside { run.end ≤ length judged.now.own.now }
+    ensures some { IsTrue result → HasOne (IsBadAt (C.space hall.now) judged.now.standings.now search.turn search.first_cost search.square search.point)
+        judged.now.own.now run.start run.end }
+    ensures none { IsFalse result → HasNo (IsBadAt (C.space hall.now) judged.now.standings.now search.turn search.first_cost search.square search.point)
+        judged.now.own.now run.start run.end }
+{
+    for position in run.start..run.end {
+        if is_bad(hall, judged, search, judged.own.at(position)) {
+            return true;
+        }
+    }
+    false
+}
+
+/// Whether a node is one of a search, and its segment to the new node is clear.
+fn is_bad<C: Clearing>(hall: &C, judged: &Judged<'_>, search: CheaperSearch, node: Numbered) -> bool
+    requires bounded { IsBounded search.point }
+    requires node { IsBounded node.point }
+    requires turn { search.turn < length judged.now.standings.now }
+    ensures bad { IsTrue result → IsBadAt (C.space hall.now) judged.now.standings.now search.turn search.first_cost search.square search.point node }
+    ensures only { IsFalse result → ¬ IsBadAt (C.space hall.now) judged.now.standings.now search.turn search.first_cost search.square search.point node }
+{
+    is_cheaper(judged, search, node) && hall.clear(node.point, search.point)
+}
+
+/// Whether a node is one of a search, by its costs.
+fn is_cheaper(judged: &Judged<'_>, search: CheaperSearch, node: Numbered) -> bool
+    requires bounded { IsBounded search.point }
+    requires node { IsBounded node.point }
+    requires turn { search.turn < length judged.now.standings.now }
+    ensures cheaper { IsTrue result → IsCheaperAt judged.now.standings.now search.turn search.first_cost search.square search.point node }
+    ensures only { IsFalse result → ¬ IsCheaperAt judged.now.standings.now search.turn search.first_cost search.square search.point node }
+{
+    if node.number > search.turn {
+        return false;
+    }
+    if node.point.squared_distance(search.point) > search.square {
+        return false;
+    }
+    let standing = judged.standings[node.number as usize];
+    costs_less_through(
+        standing.first_cost,
+        node.point,
+        search.point,
+        search.first_cost,
+    ) || costs_less_through(search.first_cost, node.point, search.point, standing.cost)
 }

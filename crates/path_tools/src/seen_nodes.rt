@@ -5,9 +5,10 @@ ghost use Rattle.plan_model.specs.declared.limits.TheConstants.{MOST_MARKS};
 ghost use Rattle.plan_model.specs.declared.records.Record.{Record};
 ghost use Rattle.path_tools.specs.declared.seen_nodes.Seen.{Seen};
 ghost use Rattle.step_core.specs.PackedRuns.{state_of_lists};
-ghost use Rattle.path_tools.specs.SeenNodes.{AreMarksByTurn, AreSeen, HaveOwnTurns, IsMarkOfTurn};
+ghost use Rattle.path_tools.specs.SeenNodes.{AreSeen, AreTurnsOf, HaveOwnTurns, IsMarkOfTurn};
 
 use crate::best_paths::is_goal_node;
+use crate::own_turns::OwnTurns;
 use crate::presence::is_placed;
 use plan_model::{Goal, Knot, Memory, Record};
 use std::alloc::Global;
@@ -85,34 +86,7 @@ fn lesser(cost: Option<u64>, other: u64) -> u64
     }
 }
 
-/// The marks of a worker by its turns, up to a number of turns. O(n) for n marks.
-///
-/// # Errors
-///
-/// `Memory` if out of memory for them.
-fn marks_by_turn(
-    alloc: Global,
-    records: &[Record],
-    worker: u32,
-    turns: u32,
-) -> Result<Vec<Option<u32>>, Memory>
-    requires few { length records.now ≤ MOST_MARKS }
-    ensures marks { IfOk result (λ order. AreMarksByTurn records.now worker order.items) }
-    ensures length { IfOk result (λ order. length order.items ≡ turns) }
-{
-    let mut order = vec![in alloc; None; turns as usize]?;
-    for (mark, entry) in records.iter().enumerate() {
-        let turn = entry.turn as usize;
-        if entry.worker == worker {
-            if turn < order.len() {
-                order[turn] = Some(mark as u32);
-            }
-        }
-    }
-    Ok(order)
-}
-
-/// What a worker has seen before each of its turns, up to a number of turns, in their order. O(n) for n marks.
+/// What a worker has seen before each of its turns, in their order. O(t) for t turns.
 ///
 /// # Errors
 ///
@@ -122,21 +96,20 @@ pub(crate) fn seen_by_turn(
     goals: &[Goal],
     knots: &[Option<Knot>],
     records: &[Record],
-    worker: u32,
-    turns: u32,
+    turns: &OwnTurns,
 ) -> Result<Vec<Seen>, Memory>
     requires few { length records.now ≤ MOST_MARKS }
-    requires turns { turns ≤ MOST_MARKS }
+    requires turns { length turns.now.marks.items ≤ MOST_MARKS }
+    requires marks { AreTurnsOf records.now turns.now }
     requires numbers { length knots.now ≡ suc (length records.now) }
     requires own { HaveOwnTurns records.now }
-    ensures length { IfOk result (λ all. length all.items ≡ turns) }
+    ensures length { IfOk result (λ all. length all.items ≡ length turns.now.marks.items) }
     ensures seen { IfOk result (λ all. (turn : ℕ) (seen : Seen) → slice_get all.items turn ≡ Some seen
-        → AreSeen goals.now (state_of_lists knots.now records.now) worker turn seen) }
+        → AreSeen goals.now (state_of_lists knots.now records.now) turns.now.worker turn seen) }
 {
-    let order = marks_by_turn(alloc, records, worker, turns)?;
-    let mut all = Vec::with_capacity(alloc, order.len())?;
+    let mut all = Vec::with_capacity(alloc, turns.marks.len())?;
     let mut seen = Seen::at_start(goals, knots);
-    for mark in &order {
+    for mark in &turns.marks {
         all.push(seen)?;
         seen = seen.after(goals, knots, records, *mark);
     }

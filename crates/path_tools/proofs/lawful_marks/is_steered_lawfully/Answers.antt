@@ -30,6 +30,7 @@ ends_lawfully-requires-clause-asked g c = λ κs within.
       space_is = c.requires.asked.space_is;
       radii_are = c.requires.asked.radii_are;
       judges = c.requires.asked.judges;
+      turn = c.requires.asked.turn;
       own = c.requires.asked.own;
       bounded = record {
         right = omega (arith, c.steer-p.ensures.right, from.right, c.requires.asked.bounded.right);

@@ -1,25 +1,60 @@
-use Rattle.std.proofs.Common.{length, arith, sym, ap, ◌∙◌, subst}
+use Rattle.std.proofs.Common.{◌≡◌, length, arith, sym, subst}
 use Rattle.std.specs.Prelude.{slice_get}
 use Rattle.std.specs.List.{range_with_len}
 use Rattle.std.proofs.lemmas.List.FromFn.{length-range_with_len}
 use Rattle.std.proofs.lemmas.List.Sums.{count_by-le-length}
 use Rattle.plan_model.specs.Runs.Turns.{is_of_worker}
-use Rattle.step_core.specs.PackedRuns.{state_of_lists}
-use Rattle.path_tools.specs.SeenNodes.{AreSeen}
+use Rattle.path_tools.specs.FirstBreaks.{IsFirstBreak}
+use Rattle.path_tools.specs.JudgedRuns.{KeepsRecordBetween}
+use Rattle.path_tools.proofs.RecordBreaks.{IsFirstBreak-stretch, IsFirstBreak-turns}
 use Rattle.path_tools.proofs.lawful_records.first_unlawful_of.Goals as goal
 
-pub seen_by_turn-requires-clause-turns : goal.seen_by_turn-requires-clause-turns
-seen_by_turn-requires-clause-turns g c =
-    let records = c.args.records.now in
+pub own_run-requires-clause-turns : goal.own_run-requires-clause-turns
+own_run-requires-clause-turns g c =
+    let records = c.args.listed.now.records.now in
     omega (
       arith,
       c.requires.turns,
       count_by-le-length (λ k. is_of_worker c.args.worker (slice_get records k)) (range_with_len 0 (length records)),
       length-range_with_len 0 (length records),
-      c.requires.few,
+      c.requires.listed.few,
     )
 
-pub first_unlawful_mark-requires-clause-seen : goal.first_unlawful_mark-requires-clause-seen
-first_unlawful_mark-requires-clause-seen g c = λ κs within turn own is.
-    subst (λ gs. AreSeen gs (state_of_lists c.args.knots.now c.args.records.now) c.args.worker turn own) c.skipping_goals.ensures
-    (c.in_ok-seen.ensures.seen turn own (ap (λ xs. slice_get xs turn) (sym c.deref.ensures.value) ∙ is))
+pub end_of_stretch-to-requires-clause-few : goal.end_of_stretch-to-requires-clause-few
+end_of_stretch-to-requires-clause-few g c =
+    let records = c.args.listed.now.records.now in
+    omega (
+      arith,
+      c.requires.turns,
+      count_by-le-length (λ k. is_of_worker c.args.worker (slice_get records k)) (range_with_len 0 (length records)),
+      length-range_with_len 0 (length records),
+      c.requires.listed.few,
+    )
+
+pub loop-from-preserved : goal.loop-from-preserved
+loop-from-preserved g c =
+    let task = c.args.task.now in
+    let knots = c.args.listed.now.knots.now in
+    let records = c.args.listed.now.records.now in
+    let from = c.loop-from.from in
+    let to = c.end_of_stretch-to.result in
+    let broken : IsFirstBreak (KeepsRecordBetween c.args.worker from to task knots records) (length records) c.in_ok-found.found =
+    subst (λ w. IsFirstBreak (KeepsRecordBetween w from to task knots records) (length records) c.in_ok-found.found) c.in_ok-own.ensures.worker_is
+    c.in_ok-found.ensures in
+    record {
+      within = c.end_of_stretch-to.ensures.within;
+      first =
+          subst (IsFirstBreak (KeepsRecordBetween c.args.worker 0 to task knots records) (length records)) (sym c.earlier-first.ensures)
+          (IsFirstBreak-stretch task knots records c.args.worker from to c.loop-from.first c.in_ok-found.found
+          (omega (arith, c.end_of_stretch-to.ensures.onward)) c.loop-from.invariant.first broken);
+    }
+
+pub returns : goal.returns
+returns g c =
+    let task = c.args.task.now in
+    let knots = c.args.listed.now.knots.now in
+    let records = c.args.listed.now.records.now in
+    let end : c.loop-from.from ≡ c.args.turns = omega (arith, c.loop-from-test.false, c.loop-from.invariant.within) in
+    IsFirstBreak-turns task knots records c.requires.listed.low c.args.worker c.args.turns c.requires.turns c.loop-from.first
+    (subst (λ t. IsFirstBreak (KeepsRecordBetween c.args.worker 0 t task knots records) (length records) c.loop-from.first) end
+    c.loop-from.invariant.first)

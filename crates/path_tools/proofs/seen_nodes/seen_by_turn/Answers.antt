@@ -10,7 +10,7 @@ use Rattle.path_tools.proofs.seen_nodes.seen_by_turn.Goals as goal
 
 pub loop-mark-init : goal.loop-mark-init
 loop-mark-init c =
-    let first = c.at_start-seen.ensures c.args.records.now c.args.worker in
+    let first = c.at_start-seen.ensures c.args.records.now c.args.turns.now.worker in
     let none = c.in_ok-all.ensures.items in
     record {
       long = ap length none;
@@ -18,7 +18,7 @@ loop-mark-init c =
           omega (
             arith,
             first.counted,
-            one_counted c.args.knots.now c.args.records.now c.args.worker (omega (arith, c.requires.numbers)),
+            one_counted c.args.knots.now c.args.records.now c.args.turns.now.worker (omega (arith, c.requires.numbers)),
           );
       now = first;
       each = λ turn own is.
@@ -29,9 +29,9 @@ loop-mark-init c =
 pub after-seen-requires-clause-low : goal.after-seen-requires-clause-low
 after-seen-requires-clause-low c =
     let index = c.loop-mark.mark-index in
-    low_mark c.args.records.now c.args.worker index (slice_index_or c.deref-mark-items.result.now index None)
-    (subst (λ os. IsMarkOfTurn c.args.records.now c.args.worker index (slice_index_or os index None)) (sym c.deref-mark-items.ensures.value)
-    (c.in_ok-order.ensures.marks index (omega (arith, c.loop-mark-test.true, ap length c.deref-mark-items.ensures.value))))
+    low_mark c.args.records.now c.args.turns.now.worker index (slice_index_or c.deref-mark-items.result.now index None)
+    (subst (λ os. IsMarkOfTurn c.args.records.now c.args.turns.now.worker index (slice_index_or os index None)) (sym c.deref-mark-items.ensures.value)
+    (c.requires.marks index (omega (arith, c.loop-mark-test.true, ap length c.deref-mark-items.ensures.value))))
 
 pub loop-mark-preserved : goal.loop-mark-preserved
 loop-mark-preserved c =
@@ -44,12 +44,12 @@ loop-mark-preserved c =
       long = omega (arith, ap length items, length-append old (c.loop-mark.seen ∷ []), c.loop-mark.invariant.long);
       room = omega (arith, c.after-seen.ensures.more, c.loop-mark.invariant.room);
       now =
-          subst (λ t. AreSeen c.args.goals.now run c.args.worker t c.after-seen.result) next
-          (c.after-seen.ensures.seen c.args.worker index
-          (subst (λ os. IsMarkOfTurn c.args.records.now c.args.worker index (slice_index_or os index None)) (sym c.deref-mark-items.ensures.value)
-          (c.in_ok-order.ensures.marks index (omega (arith, c.loop-mark-test.true, ap length c.deref-mark-items.ensures.value)))) c.loop-mark.invariant.now);
+          subst (λ t. AreSeen c.args.goals.now run c.args.turns.now.worker t c.after-seen.result) next
+          (c.after-seen.ensures.seen c.args.turns.now.worker index
+          (subst (λ os. IsMarkOfTurn c.args.records.now c.args.turns.now.worker index (slice_index_or os index None)) (sym c.deref-mark-items.ensures.value)
+          (c.requires.marks index (omega (arith, c.loop-mark-test.true, ap length c.deref-mark-items.ensures.value)))) c.loop-mark.invariant.now);
       each = λ turn own is.
-          pushed_each (AreSeen c.args.goals.now run c.args.worker) old c.loop-mark.seen c.loop-mark.invariant.each
-          (subst (λ t. AreSeen c.args.goals.now run c.args.worker t c.loop-mark.seen) (sym c.loop-mark.invariant.long) c.loop-mark.invariant.now) turn own
+          pushed_each (AreSeen c.args.goals.now run c.args.turns.now.worker) old c.loop-mark.seen c.loop-mark.invariant.each
+          (subst (λ t. AreSeen c.args.goals.now run c.args.turns.now.worker t c.loop-mark.seen) (sym c.loop-mark.invariant.long) c.loop-mark.invariant.now) turn own
           (ap (λ xs. slice_get xs turn) (sym items) ∙ is);
     }

@@ -10,6 +10,6 @@ abbrev pub invariant-loop-mark : goal.invariant-loop-mark
 invariant-loop-mark l = record {
   long : length l.all.items ≡ l.mark-index;
   room : l.seen.nodes ≤ l.mark-index + 1;
-  now : AreSeen l.goals (state_of_lists l.knots l.records) l.worker l.mark-index l.seen;
-  each : (turn : ℕ) (own : Seen) → slice_get l.all.items turn ≡ Some own → AreSeen l.goals (state_of_lists l.knots l.records) l.worker turn own;
+  now : AreSeen l.goals (state_of_lists l.knots l.records) l.turns.worker l.mark-index l.seen;
+  each : (turn : ℕ) (own : Seen) → slice_get l.all.items turn ≡ Some own → AreSeen l.goals (state_of_lists l.knots l.records) l.turns.worker turn own;
 }

@@ -1,6 +1,6 @@
 use Rattle.std.proofs.Common.{◌≡◌, ℕ, ◌<◌, length}
 use Rattle.path_tools.proofs.SeenTurns.{IsMarkBelow}
-use Rattle.path_tools.proofs.seen_nodes.marks_by_turn.Given as goal
+use Rattle.path_tools.proofs.own_turns.marks_by_turn.Given as goal
 
 -- the marks so far stand at their turns
 abbrev pub invariant-loop-mark : goal.invariant-loop-mark

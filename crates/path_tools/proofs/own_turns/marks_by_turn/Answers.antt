@@ -1,8 +1,8 @@
 use Rattle.std.proofs.Common.{◌+◌, Some, length, length-set, arith, refl, sym, ap, ◌∙◌, subst}
 use Rattle.std.proofs.lemmas.Option.{slice_get_read}
 use Rattle.path_tools.proofs.SeenTurns.{IsMarkBelow, IsMarkBelow-other, IsMarkBelow-set, IsMarkOfTurn-all}
-use Rattle.path_tools.proofs.seen_nodes.marks_by_turn.Goals as goal
-use Rattle.path_tools.proofs.seen_nodes.marks_by_turn.Goals.{then-entry-worker+then-turn-len, then-entry-worker+else-turn-len, else-entry-worker}
+use Rattle.path_tools.proofs.own_turns.marks_by_turn.Goals as goal
+use Rattle.path_tools.proofs.own_turns.marks_by_turn.Goals.{then-entry-worker+then-turn-len, then-entry-worker+else-turn-len, else-entry-worker}
 
 pub loop-mark-preserved : goal.loop-mark-preserved
 loop-mark-preserved c =

@@ -1,0 +1,8 @@
+use Rattle.path_tools.specs.OwnNodes.{HasNo, IsBadAt}
+use Rattle.path_tools.proofs.searches.has_bad_in.Given as goal
+
+-- none of the run so far is one of the search, with a clear segment
+abbrev pub invariant-loop-position : goal.invariant-loop-position
+invariant-loop-position g l =
+    HasNo (IsBadAt (g.C.Clearing.space l.hall) l.judged.standings.now l.search.turn l.search.first_cost l.search.square l.search.point) l.judged.own.now
+    l.fn.run.start l.position
