@@ -1,4 +1,4 @@
-use Rattle.std.proofs.Common.{List, ℕ, ◌≡◌, ◌+◌, IfErr, IfOk, subst, sym, ap, ◌∙◌, rules, arith}
+use Rattle.std.proofs.Common.{ℕ, ◌≡◌, ◌+◌, IfErr, IfOk, subst, sym, ap, ◌∙◌, rules, arith}
 use Rattle.std.proofs.lemmas.Result.{err_from_is_err_and}
 use Rattle.plan_model.specs.Texts.SceneGrammar.{Spells, supported}
 use Rattle.scene_text.specs.Batches.{IsPartRefusal}

@@ -1,4 +1,4 @@
-use Rattle.std.proofs.Common.{refl, ◌∙◌}
+use Rattle.std.proofs.Common.{refl}
 use Rattle.plan_model.specs.Texts.CanonicalText.{canonical_text}
 use Rattle.plan_model.specs.Texts.SceneGrammar.{supported}
 use Rattle.scene_text.proofs.CoveredScenes.{Covers-supported}

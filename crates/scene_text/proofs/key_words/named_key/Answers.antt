@@ -1,0 +1,45 @@
+use Rattle.std.proofs.Common.{rules}
+use Rattle.scene_text.proofs.key_words.named_key.Goals as goal
+
+-- The tests so far decide what the search for the word finds. A plain `search` sees it; what is tried without these lines takes longer.
+pub returns-then-eq : goal.returns-then-eq
+returns-then-eq c = search rules
+
+pub returns-then-eq-2 : goal.returns-then-eq-2
+returns-then-eq-2 c = search rules
+
+pub returns-then-eq-3 : goal.returns-then-eq-3
+returns-then-eq-3 c = search rules
+
+pub returns-then-eq-4 : goal.returns-then-eq-4
+returns-then-eq-4 c = search rules
+
+pub returns-then-eq-5 : goal.returns-then-eq-5
+returns-then-eq-5 c = search rules
+
+pub returns-then-eq-6 : goal.returns-then-eq-6
+returns-then-eq-6 c = search rules
+
+pub returns-then-eq-7 : goal.returns-then-eq-7
+returns-then-eq-7 c = search rules
+
+pub returns-then-eq-8 : goal.returns-then-eq-8
+returns-then-eq-8 c = search rules
+
+pub returns-then-eq-9 : goal.returns-then-eq-9
+returns-then-eq-9 c = search rules
+
+pub returns-then-eq-10 : goal.returns-then-eq-10
+returns-then-eq-10 c = search rules
+
+pub returns-then-eq-11 : goal.returns-then-eq-11
+returns-then-eq-11 c = search rules
+
+pub returns-then-eq-12 : goal.returns-then-eq-12
+returns-then-eq-12 c = search rules
+
+pub returns-then-eq-13 : goal.returns-then-eq-13
+returns-then-eq-13 c = search rules
+
+pub returns-else-eq-13 : goal.returns-else-eq-13
+returns-else-eq-13 c = search rules
