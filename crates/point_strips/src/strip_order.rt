@@ -122,14 +122,14 @@ fn first_from(points: &[Numbered], height_log: u32, from: usize, strip: u32, col
 {
     let target = u64::from(strip) * COLUMNS + u64::from(column);
     let mut low = from;
-    let mut high = points.len();
-    while low < high {
-        let middle = low + (high - low) / 2;
-        if key(points[middle].point, height_log) < target {
-            low = middle + 1;
-        } else {
-            high = middle;
+    let mut count = points.len() - from;
+    while count > 0 {
+        // halved alike whatever the answer, so that no branch is on a value that was just loaded
+        let half = count - count / 2;
+        if key(points[low + half - 1].point, height_log) < target {
+            low += half;
         }
+        count /= 2;
     }
     low
 }

@@ -1,19 +1,26 @@
-use Rattle.std.proofs.Common.{◌+◌, ◌-◌, ◌/◌, ◌≤◌, arith}
+use Rattle.std.proofs.Common.{ℕ, ◌+◌, ◌-◌, ◌/◌, ◌<◌, length, arith}
 use Rattle.point_strips.specs.Walks.{nowhere}
 use Rattle.point_strips.proofs.strip_order.first_from.Goals as goal
+use Rattle.point_strips.proofs.strip_order.first_from.Goals.{then-key-target, else-key-target}
 
-pub loop-low-preserved-then-key-target : goal.loop-low-preserved-then-key-target
-loop-low-preserved-then-key-target c =
-    let so_far = c.loop-low.invariant in
-    let low = c.loop-low.low in
-    let high = c.loop-low.high in
-    let middle = low + (high - low) / 2 in
-    let inner : middle + 1 ≤ high = omega (arith, c.loop-low-test.true) in
-    record {
-      later = omega (arith, so_far.later);
-      ordered = inner;
-      within = so_far.within;
-      before = λ j from below.
-          let rises = c.requires.sorted j middle nowhere (omega (arith, below)) (omega (arith, inner, so_far.within)) in
-          omega (arith, rises, c.key.ensures, c.if-key-target.true);
-    }
+pub loop-count-preserved : goal.loop-count-preserved
+loop-count-preserved c =
+    let so_far = c.loop-count.invariant in
+    let low = c.loop-count.low in
+    let count = c.loop-count.count in
+    let half : ℕ = count - count / 2 in
+    elim c.if-key-target.branch [
+      | then-key-target w ↦ record {
+        later = omega (arith, w.low-is, so_far.later);
+        within = omega (arith, w.low-is, so_far.within);
+        before = λ j from below.
+            let inside : low + half - 1 < length c.args.points.now = omega (arith, so_far.within, c.loop-count-test.true) in
+            let rises = c.requires.sorted j (low + half - 1) nowhere (omega (arith, below, w.low-is)) inside in
+            omega (arith, rises, c.key.ensures, w.if-key-target.true);
+      }
+      | else-key-target w ↦ record {
+        later = omega (arith, w.low-is, so_far.later);
+        within = omega (arith, w.low-is, so_far.within);
+        before = λ j from below. so_far.before j from (omega (arith, below, w.low-is));
+      }
+    ]
