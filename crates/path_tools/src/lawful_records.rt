@@ -103,6 +103,9 @@ fn first_unlawful_of<C: Clearing>(
     requires turns { turns ≡ turns_of (slice_get listed.now.records.now) (length listed.now.records.now) worker }
     ensures { IfOk result (λ first. IsFirstBreak (KeepsRecordOf worker task.now listed.now.knots.now listed.now.records.now) (length listed.now.records.now) first) }
 {
+    if turns == 0 {
+        return Ok(None);
+    }
     let goals = skipping_goals(&task.scene);
     let own = own_run(alloc, goals, listed.knots, listed.records, worker, turns)?;
     let mut first = None;
