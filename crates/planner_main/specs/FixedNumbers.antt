@@ -1,6 +1,7 @@
 -- The statuses, and the number of the last generated scene, as numbers that a caller knows.
 use Rattle.std.specs.Prelude.{◌≡◌}
-use Rattle.planner_main.specs.declared.statuses.TheConstants.{DONE, GOAL_BLOCKED, NO_MEMORY, NO_PATH, READ_FAULT, START_BLOCKED, TEXT_REFUSED, WORDS_REFUSED, WRITE_FAULT}
+use Rattle.planner_main.specs.declared.statuses.TheConstants.{DONE, GOAL_BLOCKED, NO_MEMORY, NO_PATH, READ_FAULT, START_BLOCKED}
+use Rattle.planner_main.specs.declared.statuses.TheConstants.{TEXT_REFUSED, WORDS_REFUSED, WRITE_FAULT}
 use Rattle.planner_main.specs.declared.generated_scenes.TheConstants.{MOST_GENERATED}
 
 -- each constant with its value, so that it cannot change without its value here
