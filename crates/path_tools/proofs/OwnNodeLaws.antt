@@ -29,6 +29,7 @@ use Rattle.point_strips.specs.declared.strips.Numbered.{Numbered}
 use Rattle.point_strips.specs.declared.strips.Run.{Run}
 use Rattle.step_core.specs.PackedRuns.{state_of_lists}
 use Rattle.path_tools.specs.OwnNodes.{AreNodesBefore, ArePresent, HasNo, HasOne, IsBadAt, IsNearerAt, IsNodeBefore, IsPlacedAt, IsPlacedMarkAt}
+use Rattle.path_tools.specs.OwnNodes.{IsUnlawfulAt}
 use Rattle.path_tools.specs.OwnNodes.{IsBadNear, IsNearer, IsNearestOfEarlier, IsTaken, KeepsNear}
 use Rattle.path_tools.specs.SeenNodes.{HaveOwnTurns, IsMarkOfTurn, is_before, places_before}
 use Rattle.path_tools.specs.Standings.{AreStandings, place_of, standing_at, standing_of, turns_to}
@@ -295,6 +296,34 @@ pub bad_within : (space : ConfigurationSpace) (standings : List Standing) (turn 
 bad_within space standings turn first_cost most p center square here is m h =
     let away : squared_distance m.point center ≡ squared_distance m.point p = ap (squared_distance m.point) here in
     omega (arith, away, is, h.cheaper.within)
+
+pub unlawful_within : (space : ConfigurationSpace) (standings : List Standing) (turn first_cost most distance number : ℕ) (p : Point) (center : Point)
+    (square : ℕ) → center ≡ p → square ≡ most → distance ≤ most → (m : Numbered)
+    → IsUnlawfulAt space standings turn first_cost most distance number p m → IsWithin center square m.point
+unlawful_within space standings turn first_cost most distance number p center square here is low m (inr bad) =
+    bad_within space standings turn first_cost most p center square here is m bad
+unlawful_within space standings turn first_cost most distance number p center square here is low m (inl near) =
+    let away : squared_distance m.point center ≡ squared_distance m.point p = ap (squared_distance m.point) here in
+    elim near.nearer [
+      | inl less ↦ omega (arith, away, is, low, less)
+      | inr same ↦ omega (arith, away, is, low, same.0)
+    ]
+
+-- no node is nearer than at no distance
+pub none_nearer : (standings : List Standing) (turn : ℕ) (p : Point) (m : Numbered) → ¬ IsNearerAt standings turn p 0 0 m
+none_nearer standings turn p m near =
+    elim near.nearer [
+      | inl less ↦ omega (arith, less)
+      | inr same ↦ omega (arith, same.1)
+    ]
+
+-- two points with the same coordinates
+pub same_point : (p q : Point) (test : Bool) → test ≡ (eqb p.x q.x && eqb p.y q.y) → test ≡ true → p ≡ q
+same_point p q test is passes =
+    let both = and_parts (eqb p.x q.x) (eqb p.y q.y) (sym is ∙ passes) in
+    let x : p.x ≡ q.x = eqb-true p.x q.x both.0 in
+    let y : p.y ≡ q.y = eqb-true p.y q.y both.1 in
+    λ i. record { x = x i; y = y i }
 
 -- one position more
 pub HasNo-more : (Bad : Numbered → Type 0) (nodes : List Numbered) (from at : ℕ) → HasNo Bad nodes from at → ¬ Bad (numbered_at nodes at)

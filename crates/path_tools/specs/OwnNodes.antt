@@ -86,6 +86,11 @@ pub record IsBadAt (space : ConfigurationSpace) (standings : List Standing) (tur
   pub cheaper : IsCheaperAt standings turn first_cost square p m
   pub clear : Clear space m.point p
 
+-- the node at this place is nearer, or the same of a node with a clear segment
+abbrev pub IsUnlawfulAt : ConfigurationSpace → List Standing → ℕ → ℕ → ℕ → ℕ → ℕ → Point → Numbered → Type 0
+IsUnlawfulAt space standings turn first_cost square distance number p m =
+    IsNearerAt standings turn p distance number m ⊎ IsBadAt space standings turn first_cost square p m
+
 -- ---- the same by nodes
 
 -- an earlier node that is nearer to a mark than a node at this distance, or as near with a lesser number

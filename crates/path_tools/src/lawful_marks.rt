@@ -11,6 +11,7 @@ ghost use Rattle.plan_model.specs.Trees.PointsByNumber.{IsPresent, node_count, p
 ghost use Rattle.plan_model.specs.declared.limits.TheConstants.{MOST_MARKS};
 ghost use Rattle.path_tools.specs.JudgedRuns.{IsAsked, IsJudged, run_of};
 ghost use Rattle.path_tools.specs.MarkLaws.{AreDearer, EndsLawfully};
+ghost use Rattle.path_tools.specs.OwnNodes.{IsNearestOfEarlier};
 ghost use Rattle.path_tools.specs.SeenNodes.{AreSeen};
 ghost use Rattle.path_tools.specs.declared.judged.Judged.{Judged};
 ghost use Rattle.plan_model.specs.declared.records.Record.{Record};
@@ -18,7 +19,7 @@ ghost use Rattle.plan_model.specs.declared.records.Record.{Record};
 use crate::exact_edges::knot_at;
 use crate::judged::Judged;
 use crate::placed_marks::{hangs_lawfully, stands_at};
-use crate::searches::{is_nearest, is_taken, keeps_near};
+use crate::searches::{is_nearest, is_nearest_and_keeps_near, is_taken};
 use crate::seen_nodes::Seen;
 use edge_cost::{bound, class, steer};
 use plan_model::{Outcome, Point, Record, Scene};
@@ -88,11 +89,8 @@ fn is_steered_lawfully<C: Clearing>(
     if !may_be_cheaper(scene, seen, point) {
         return false;
     }
-    if !is_nearest(judged, entry, point, nearest.point.squared_distance(point)) {
-        return false;
-    }
     let p = steer(nearest.point, point, scene.step);
-    ends_lawfully(scene, hall, judged, seen, mark, entry, p)
+    ends_lawfully(scene, hall, judged, seen, mark, entry, point, p)
 }
 
 /// Whether each goal node that stood before a mark was placed at more than the bound of the mark.
@@ -110,7 +108,7 @@ fn may_be_cheaper(scene: &Scene, seen: Seen, point: Point) -> bool
     bound(scene.start, scene.goals.as_slice(), point) < least
 }
 
-/// Whether a mark that was steered to `p` ended as its record says.
+/// Whether a mark that was steered to `p` was steered by the nearest node, and ended as its record says.
 fn ends_lawfully<C: Clearing>(
     scene: &Scene,
     hall: &C,
@@ -118,22 +116,28 @@ fn ends_lawfully<C: Clearing>(
     seen: Seen,
     mark: u32,
     entry: Record,
+    point: Point,
     p: Point,
 ) -> bool
     requires asked { IsAsked (C.space hall.now) scene.now judged.now entry p }
+    requires point { IsBounded point }
     requires low { mark < MOST_MARKS }
     requires seen { AreSeen (skipping_goals scene.now) (run_of judged.now) entry.worker entry.turn seen }
     requires nearest { IsPresent (run_of judged.now).points entry.nearest }
     ensures lawful { IsTrue result → EndsLawfully (setup_of scene.now) (run_of judged.now) mark entry entry.outcome p }
-    ensures only { IsFalse result → ¬ EndsLawfully (setup_of scene.now) (run_of judged.now) mark entry entry.outcome p }
+    ensures nearest { IsTrue result → IsNearestOfEarlier (run_of judged.now) entry point }
+    ensures only { IsFalse result → IsNearestOfEarlier (run_of judged.now) entry point
+        → ¬ EndsLawfully (setup_of scene.now) (run_of judged.now) mark entry entry.outcome p }
 {
     match entry.outcome {
         Outcome::Placed => {
-            is_chosen_lawfully(scene, hall, judged, seen, entry, p)
+            is_chosen_lawfully(scene, hall, judged, seen, entry, point, p)
                 && hangs_lawfully(scene, hall, judged, mark, entry, p)
         }
-        Outcome::Same(node) => stands_at(judged.knots, node, p),
-        Outcome::Blocked => is_blocked_lawfully(hall, judged, entry, p),
+        Outcome::Same(node) => is_nearest(judged, entry, point) && stands_at(judged.knots, node, p),
+        Outcome::Blocked => {
+            is_nearest(judged, entry, point) && is_blocked_lawfully(hall, judged, entry, p)
+        }
         Outcome::Skipped => false,
     }
 }
@@ -172,21 +176,26 @@ fn is_clear_from_nearest<C: Clearing>(
     }
 }
 
-/// Whether what the worker of a placed mark knows allows its record: the segment is clear, the class is that of a number of nodes that it
-/// may have counted, no neighbour was a cheaper parent, and none stays dearer than by way of the new node.
+/// Whether what the worker of a placed mark knows allows its record: the mark was steered by the nearest node, the segment is clear, the
+/// class is that of a number of nodes that it may have counted, no neighbour was a cheaper parent, and none stays dearer than by way of the
+/// new node.
 fn is_chosen_lawfully<C: Clearing>(
     scene: &Scene,
     hall: &C,
     judged: &Judged<'_>,
     seen: Seen,
     entry: Record,
+    point: Point,
     p: Point,
 ) -> bool
     requires asked { IsAsked (C.space hall.now) scene.now judged.now entry p }
+    requires point { IsBounded point }
     requires seen { AreSeen (skipping_goals scene.now) (run_of judged.now) entry.worker entry.turn seen }
     requires nearest { IsPresent (run_of judged.now).points entry.nearest }
     ensures lawful { IsTrue result → IsChosenLawfully (setup_of scene.now) (run_of judged.now) entry p (node_count (run_of judged.now).points) }
-    ensures only { IsFalse result → ¬ IsChosenLawfully (setup_of scene.now) (run_of judged.now) entry p (node_count (run_of judged.now).points) }
+    ensures nearest { IsTrue result → IsNearestOfEarlier (run_of judged.now) entry point }
+    ensures only { IsFalse result → IsNearestOfEarlier (run_of judged.now) entry point
+        → ¬ IsChosenLawfully (setup_of scene.now) (run_of judged.now) entry p (node_count (run_of judged.now).points) }
 {
     if !has_class(judged, seen, entry) {
         return false;
@@ -195,7 +204,7 @@ fn is_chosen_lawfully<C: Clearing>(
         return false;
     }
     let radius = radius_of_class(judged, entry.class);
-    keeps_near(hall, judged, entry, p, radius)
+    is_nearest_and_keeps_near(hall, judged, entry, point, p, radius)
 }
 
 /// Whether the class of a record is that of a number of nodes between those that stood already and all of them.

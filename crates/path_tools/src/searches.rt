@@ -1,14 +1,15 @@
 //! Searches among the nodes of a worker for those that stood already when it handled a mark.
 
-ghost use Rattle.std.specs.Prelude.{◌≡◌, ◌<◌, ◌≤◌, ℕ, IsFalse, IsTrue, length};
+ghost use Rattle.std.specs.Prelude.{◌≡◌, ◌*◌, ◌<◌, ◌≤◌, ℕ, IsFalse, IsTrue, length};
 ghost use Rattle.plan_model.specs.Geometry.Bounds.{IsBounded};
 ghost use Rattle.plan_model.specs.Runs.RecordLaw.{IsEarlier};
 ghost use Rattle.plan_model.specs.Trees.Nearness.{distance_to};
-ghost use Rattle.plan_model.specs.Trees.PointsByNumber.{StandsAt};
+ghost use Rattle.plan_model.specs.Trees.PointsByNumber.{IsPresent, StandsAt};
 ghost use Rattle.path_tools.specs.JudgedRuns.{IsJudged, run_of};
-ghost use Rattle.path_tools.specs.OwnNodes.{HasNo, HasOne, IsBadAt, IsCheaperAt, IsNearerAt};
+ghost use Rattle.path_tools.specs.OwnNodes.{HasNo, HasOne, IsCheaperAt, IsNearerAt, IsUnlawfulAt};
 ghost use Rattle.path_tools.specs.OwnNodes.{IsNearestOfEarlier, IsTaken, KeepsNear};
 
+use crate::exact_edges::knot_at;
 use crate::judged::Judged;
 use edge_cost::costs_less_through;
 use plan_model::{Point, Record};
@@ -29,36 +30,53 @@ struct NearerSearch {
 }
 
 /// A search for a node that stood before a turn, within a radius of a new node, that was a cheaper parent of that, or is dearer than by
-/// way of it.
+/// way of it, with a clear segment; or one that is nearer to it than at a distance, or as near with a number below a number.
 #[derive(Clone, Copy)]
-struct CheaperSearch {
+struct NeighbourSearch {
     /// Where the new node stands.
     point: Point,
     /// The square of the radius.
     square: u64,
     /// What the new node cost at first.
     first_cost: u64,
+    /// The square of the distance, which is not above the radius.
+    distance: u64,
+    /// The number.
+    number: u32,
     /// The turn.
     turn: u32,
 }
 
-/// Whether no node that stood already is nearer to a mark than the nearest of its record, or as near with a lesser number; `distance` is
-/// the square of the distance to the nearest. O(k + s log n) on average for k of the worker's n nodes within it, in s strips.
-pub(crate) fn is_nearest(judged: &Judged<'_>, entry: Record, mark: Point, distance: u64) -> bool
+/// Whether no node that stood already is nearer to a mark than the nearest of its record, or as near with a lesser number. O(k + s log n)
+/// on average for k of the worker's n nodes within the distance to the nearest, in s strips.
+pub(crate) fn is_nearest(judged: &Judged<'_>, entry: Record, mark: Point) -> bool
     requires bounded { IsBounded mark }
     requires judged { IsJudged entry.worker judged.now }
     requires turn { entry.turn ≤ judged.now.turns }
-    requires distance { distance ≡ distance_to mark (run_of judged.now).points entry.nearest }
+    requires nearest { IsPresent (run_of judged.now).points entry.nearest }
     ensures nearest { IsTrue result → IsNearestOfEarlier (run_of judged.now) entry mark }
     ensures only { IsFalse result → ¬ IsNearestOfEarlier (run_of judged.now) entry mark }
 {
     let search = NearerSearch {
         point: mark,
-        distance,
+        distance: nearest_distance(judged, entry, mark),
         number: entry.nearest,
         turn: entry.turn,
     };
     !has_nearer(judged, search)
+}
+
+/// The square of the distance from a mark to the nearest node of its record.
+fn nearest_distance(judged: &Judged<'_>, entry: Record, mark: Point) -> u64
+    requires bounded { IsBounded mark }
+    requires judged { IsJudged entry.worker judged.now }
+    requires nearest { IsPresent (run_of judged.now).points entry.nearest }
+    ensures { result ≡ distance_to mark (run_of judged.now).points entry.nearest }
+{
+    match knot_at(judged.knots, entry.nearest) {
+        Some(nearest) => nearest.point.squared_distance(mark),
+        None => 0,
+    }
 }
 
 /// Whether a node that stood already stands at a point. O(s log n) for n nodes of the worker in s strips.
@@ -78,10 +96,71 @@ pub(crate) fn is_taken(judged: &Judged<'_>, entry: Record, p: Point) -> bool
     has_nearer(judged, search)
 }
 
+/// Whether no node that stood already is nearer to a mark than the nearest of its record, or as near with a lesser number, and none within
+/// a radius of a new node at `p`, with a clear segment to it, was a cheaper parent or is dearer than by way of the new node. If the new node
+/// stands at the mark, and the nearest within the radius, one search answers both. O(k + s log n) on average for k of the worker's n nodes within the distance or the radius, in s strips; a segment is tested only
+/// from a node by whose costs it matters.
+pub(crate) fn is_nearest_and_keeps_near<C: Clearing>(
+    hall: &C,
+    judged: &Judged<'_>,
+    entry: Record,
+    mark: Point,
+    p: Point,
+    radius: u32,
+) -> bool
+    requires mark { IsBounded mark }
+    requires bounded { IsBounded p }
+    requires judged { IsJudged entry.worker judged.now }
+    requires turn { entry.turn ≤ judged.now.turns }
+    requires nearest { IsPresent (run_of judged.now).points entry.nearest }
+    ensures nearest { IsTrue result → IsNearestOfEarlier (run_of judged.now) entry mark }
+    ensures kept { IsTrue result → KeepsNear (C.space hall.now) (run_of judged.now) entry p radius }
+    ensures only { IsFalse result → IsNearestOfEarlier (run_of judged.now) entry mark → ¬ KeepsNear (C.space hall.now) (run_of judged.now) entry p radius }
+{
+    if p == mark {
+        let distance = nearest_distance(judged, entry, mark);
+        if distance <= u64::from(radius) * u64::from(radius) {
+            return is_least_near(hall, judged, entry, mark, distance, radius);
+        }
+    }
+    if !is_nearest(judged, entry, mark) {
+        return false;
+    }
+    keeps_near(hall, judged, entry, p, radius)
+}
+
+/// The same, of a new node at the mark, if the nearest stands within the radius; `distance` is the square of the distance to it.
+fn is_least_near<C: Clearing>(
+    hall: &C,
+    judged: &Judged<'_>,
+    entry: Record,
+    mark: Point,
+    distance: u64,
+    radius: u32,
+) -> bool
+    requires bounded { IsBounded mark }
+    requires judged { IsJudged entry.worker judged.now }
+    requires turn { entry.turn ≤ judged.now.turns }
+    requires distance { distance ≡ distance_to mark (run_of judged.now).points entry.nearest }
+    requires within { distance ≤ radius * radius }
+    ensures nearest { IsTrue result → IsNearestOfEarlier (run_of judged.now) entry mark }
+    ensures kept { IsTrue result → KeepsNear (C.space hall.now) (run_of judged.now) entry mark radius }
+    ensures only { IsFalse result → IsNearestOfEarlier (run_of judged.now) entry mark → ¬ KeepsNear (C.space hall.now) (run_of judged.now) entry mark radius }
+{
+    let search = NeighbourSearch {
+        point: mark,
+        square: u64::from(radius) * u64::from(radius),
+        first_cost: entry.first_cost,
+        distance,
+        number: entry.nearest,
+        turn: entry.turn,
+    };
+    !has_bad(hall, judged, search)
+}
+
 /// Whether no node that stood already within a radius of a new node at `p`, with a clear segment to it, was a cheaper parent, and none
-/// is dearer than by way of the new node. O(k + s log n) on average for k of the worker's n nodes within the radius, in s strips; the
-/// segment is tested only from a node by whose costs it matters.
-pub(crate) fn keeps_near<C: Clearing>(
+/// is dearer than by way of the new node.
+fn keeps_near<C: Clearing>(
     hall: &C,
     judged: &Judged<'_>,
     entry: Record,
@@ -94,10 +173,12 @@ pub(crate) fn keeps_near<C: Clearing>(
     ensures kept { IsTrue result → KeepsNear (C.space hall.now) (run_of judged.now) entry p radius }
     ensures only { IsFalse result → ¬ KeepsNear (C.space hall.now) (run_of judged.now) entry p radius }
 {
-    let search = CheaperSearch {
+    let search = NeighbourSearch {
         point: p,
         square: u64::from(radius) * u64::from(radius),
         first_cost: entry.first_cost,
+        distance: 0,
+        number: 0,
         turn: entry.turn,
     };
     !has_bad(hall, judged, search)
@@ -159,13 +240,14 @@ fn is_nearer(judged: &Judged<'_>, search: NearerSearch, node: Numbered) -> bool
     distance == search.distance && judged.standings[node.number as usize].node < search.number
 }
 
-/// Whether there is a node of a search with a clear segment to the new node.
-fn has_bad<C: Clearing>(hall: &C, judged: &Judged<'_>, search: CheaperSearch) -> bool
+/// Whether there is a node of a search for neighbours.
+fn has_bad<C: Clearing>(hall: &C, judged: &Judged<'_>, search: NeighbourSearch) -> bool
     requires bounded { IsBounded search.point }
     requires turn { search.turn < length judged.now.standings.now }
-    ensures some { IsTrue result → HasOne (IsBadAt (C.space hall.now) judged.now.standings.now search.turn search.first_cost search.square search.point)
+    requires within { search.distance ≤ search.square }
+    ensures some { IsTrue result → HasOne (IsUnlawfulAt (C.space hall.now) judged.now.standings.now search.turn search.first_cost search.square search.distance search.number search.point)
         judged.now.own.now 0 (length judged.now.own.now) }
-    ensures none { IsFalse result → HasNo (IsBadAt (C.space hall.now) judged.now.standings.now search.turn search.first_cost search.square search.point)
+    ensures none { IsFalse result → HasNo (IsUnlawfulAt (C.space hall.now) judged.now.standings.now search.turn search.first_cost search.square search.distance search.number search.point)
         judged.now.own.now 0 (length judged.now.own.now) }
 {
     let disc = Disc::of_square(search.point, search.square);
@@ -180,13 +262,13 @@ fn has_bad<C: Clearing>(hall: &C, judged: &Judged<'_>, search: CheaperSearch) ->
 }
 
 /// Whether there is one in a run.
-fn has_bad_in<C: Clearing>(hall: &C, judged: &Judged<'_>, search: CheaperSearch, run: Run) -> bool
+fn has_bad_in<C: Clearing>(hall: &C, judged: &Judged<'_>, search: NeighbourSearch, run: Run) -> bool
     requires bounded { IsBounded search.point }
     requires turn { search.turn < length judged.now.standings.now }
     requires inside { run.end ≤ length judged.now.own.now }
-    ensures some { IsTrue result → HasOne (IsBadAt (C.space hall.now) judged.now.standings.now search.turn search.first_cost search.square search.point)
+    ensures some { IsTrue result → HasOne (IsUnlawfulAt (C.space hall.now) judged.now.standings.now search.turn search.first_cost search.square search.distance search.number search.point)
         judged.now.own.now run.start run.end }
-    ensures none { IsFalse result → HasNo (IsBadAt (C.space hall.now) judged.now.standings.now search.turn search.first_cost search.square search.point)
+    ensures none { IsFalse result → HasNo (IsUnlawfulAt (C.space hall.now) judged.now.standings.now search.turn search.first_cost search.square search.distance search.number search.point)
         judged.now.own.now run.start run.end }
 {
     for position in run.start..run.end {
@@ -197,19 +279,36 @@ fn has_bad_in<C: Clearing>(hall: &C, judged: &Judged<'_>, search: CheaperSearch,
     false
 }
 
-/// Whether a node is one of a search, and its segment to the new node is clear.
-fn is_bad<C: Clearing>(hall: &C, judged: &Judged<'_>, search: CheaperSearch, node: Numbered) -> bool
+/// Whether a node is one of a search for neighbours.
+fn is_bad<C: Clearing>(
+    hall: &C,
+    judged: &Judged<'_>,
+    search: NeighbourSearch,
+    node: Numbered,
+) -> bool
     requires bounded { IsBounded search.point }
     requires node { IsBounded node.point }
     requires turn { search.turn < length judged.now.standings.now }
-    ensures bad { IsTrue result → IsBadAt (C.space hall.now) judged.now.standings.now search.turn search.first_cost search.square search.point node }
-    ensures only { IsFalse result → ¬ IsBadAt (C.space hall.now) judged.now.standings.now search.turn search.first_cost search.square search.point node }
+    ensures bad { IsTrue result → IsUnlawfulAt (C.space hall.now) judged.now.standings.now search.turn search.first_cost search.square search.distance search.number search.point node }
+    ensures only { IsFalse result → ¬ IsUnlawfulAt (C.space hall.now) judged.now.standings.now search.turn search.first_cost search.square search.distance search.number search.point node }
 {
-    is_cheaper(judged, search, node) && hall.clear(node.point, search.point)
+    let nearer = NearerSearch {
+        point: search.point,
+        distance: search.distance,
+        number: search.number,
+        turn: search.turn,
+    };
+    if is_nearer(judged, nearer, node) {
+        return true;
+    }
+    if !is_cheaper(judged, search, node) {
+        return false;
+    }
+    hall.clear(node.point, search.point)
 }
 
 /// Whether a node is one of a search, by its costs.
-fn is_cheaper(judged: &Judged<'_>, search: CheaperSearch, node: Numbered) -> bool
+fn is_cheaper(judged: &Judged<'_>, search: NeighbourSearch, node: Numbered) -> bool
     requires bounded { IsBounded search.point }
     requires node { IsBounded node.point }
     requires turn { search.turn < length judged.now.standings.now }

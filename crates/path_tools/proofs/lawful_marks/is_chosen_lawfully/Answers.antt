@@ -17,7 +17,7 @@ pub has_class-requires-clause-seen : goal.has_class-requires-clause-seen
 has_class-requires-clause-seen g c = c.requires.seen.counted ∙ sym (count_before-earlier (run_of c.args.judged.now) c.args.entry)
 
 pub returns-then-not-is_clear_from_nearest-clause-only : goal.returns-then-not-is_clear_from_nearest-clause-only
-returns-then-not-is_clear_from_nearest-clause-only g c = λ h bad.
+returns-then-not-is_clear_from_nearest-clause-only g c = λ h all bad.
     true≢false
     (sym (c.is_clear_from_nearest.ensures.1
     (subst (λ s. Clear s (point_of (run_of c.args.judged.now).points c.args.entry.nearest) c.args.p) (sym c.requires.asked.space_is) bad.clear))
@@ -32,7 +32,7 @@ pub returns-clause-lawful : goal.returns-clause-lawful
 returns-clause-lawful g c = λ h.
     let run = run_of c.args.judged.now in
     let p = c.args.p in
-    let kept = c.keeps_near.ensures.kept h in
+    let kept = c.is_nearest_and_keeps_near.ensures.kept h in
     let radius = is_of_scene c.args.scene.now c.args.judged.now.radii.now c.requires.asked.radii_are c.args.entry.class c.radius_of_class-radius.ensures in
     record {
       clear =
@@ -48,11 +48,11 @@ returns-clause-lawful g c = λ h.
     }
 
 pub returns-clause-only : goal.returns-clause-only
-returns-clause-only g c = λ h bad.
+returns-clause-only g c = λ h all bad.
     let run = run_of c.args.judged.now in
     let p = c.args.p in
     let radius = is_of_scene c.args.scene.now c.args.judged.now.radii.now c.requires.asked.radii_are c.args.entry.class c.radius_of_class-radius.ensures in
-    c.keeps_near.ensures.only h
+    c.is_nearest_and_keeps_near.ensures.only h all
     (λ i earlier within cleared.
     let near : IsNeighbour (setup_of c.args.scene.now) run c.args.entry p i =
     record {

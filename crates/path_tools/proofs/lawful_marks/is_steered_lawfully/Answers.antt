@@ -1,6 +1,5 @@
 use Rattle.std.proofs.Common.{◌≡◌, arith, sym, ap, ◌∙◌, subst}
 use Rattle.std.proofs.lemmas.Bool.{true≢false}
-use Rattle.plan_model.specs.Geometry.Plane.{squared_distance}
 use Rattle.plan_model.specs.Geometry.Steering.{steered}
 use Rattle.plan_model.specs.Runs.Textbook.{setup_of}
 use Rattle.plan_model.specs.Trees.PointsByNumber.{point_of}
@@ -16,12 +15,6 @@ returns-in_default-clause-only g c = λ h bad.
 pub returns-then-not-may_be_cheaper-clause-only : goal.returns-then-not-may_be_cheaper-clause-only
 returns-then-not-may_be_cheaper-clause-only g c = λ h bad.
     true≢false (sym ((c.may_be_cheaper.ensures c.args.judged.now c.args.entry c.requires.seen).1 bad.cheaper) ∙ c.if-not-may_be_cheaper.true)
-
-pub is_nearest-requires-clause-distance : goal.is_nearest-requires-clause-distance
-is_nearest-requires-clause-distance g c =
-    c.squared_distance.ensures.value
-    ∙ ap (λ q. squared_distance q c.args.point)
-    (sym (point_of-listed c.args.judged.now.knots.now c.args.judged.now.records.now c.args.entry.nearest c.in-Some.nearest (sym c.in-Some.ensures)))
 
 pub ends_lawfully-requires-clause-asked : goal.ends_lawfully-requires-clause-asked
 ends_lawfully-requires-clause-asked g c = λ κs within.
@@ -52,7 +45,7 @@ returns-clause-lawful g c = λ h.
     record {
       cheaper = (c.may_be_cheaper.ensures c.args.judged.now c.args.entry c.requires.seen).0 c.if-not-may_be_cheaper.false;
       present = present-listed c.args.judged.now.knots.now c.args.judged.now.records.now c.args.entry.nearest c.in-Some.nearest (sym c.in-Some.ensures);
-      nearest = c.is_nearest.ensures.nearest c.if-not-is_nearest.false;
+      nearest = c.ends_lawfully.ensures.nearest h;
       outcome = subst (λ q. EndsLawfully setup run c.args.mark c.args.entry c.args.entry.outcome q) reached (c.ends_lawfully.ensures.lawful h);
     }
 
@@ -63,4 +56,5 @@ returns-clause-only g c = λ h bad.
     let here = point_of-listed c.args.judged.now.knots.now c.args.judged.now.records.now c.args.entry.nearest c.in-Some.nearest (sym c.in-Some.ensures) in
     let reached : c.steer-p.result ≡ steered (point_of run.points c.args.entry.nearest) c.args.point c.args.scene.now.step =
     c.steer-p.ensures.value ∙ ap (λ q. steered q c.args.point c.args.scene.now.step) (sym here) in
-    c.ends_lawfully.ensures.only h (subst (λ q. EndsLawfully setup run c.args.mark c.args.entry c.args.entry.outcome q) (sym reached) bad.outcome)
+    c.ends_lawfully.ensures.only h bad.nearest
+    (subst (λ q. EndsLawfully setup run c.args.mark c.args.entry c.args.entry.outcome q) (sym reached) bad.outcome)

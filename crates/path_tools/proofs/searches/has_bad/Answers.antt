@@ -1,26 +1,29 @@
-use Rattle.path_tools.proofs.OwnNodeLaws.{HasNo-end, HasNo-on, HasOne-on, bad_within}
+use Rattle.path_tools.proofs.OwnNodeLaws.{HasNo-end, HasNo-on, HasOne-on, unlawful_within}
 use Rattle.path_tools.proofs.searches.has_bad.Goals as goal
 
 pub walk-preserved : goal.walk-preserved
 walk-preserved g c =
     let disc = c.of_square-disc in
     HasNo-on _ disc.result.center disc.result.square
-    (bad_within (g.C.Clearing.space c.args.hall.now) c.args.judged.now.standings.now c.args.search.turn c.args.search.first_cost c.args.search.square
-    c.args.search.point disc.result.center disc.result.square disc.ensures.center disc.ensures.square) c.args.judged.now.own.now c.walk.at
+    (unlawful_within (g.C.Clearing.space c.args.hall.now) c.args.judged.now.standings.now c.args.search.turn c.args.search.first_cost c.args.search.square
+    c.args.search.distance c.args.search.number c.args.search.point disc.result.center disc.result.square disc.ensures.center disc.ensures.square
+    c.requires.within) c.args.judged.now.own.now c.walk.at
     c.in-Some.run' c.walk.invariant c.in-Some.ensures (c.has_bad_in.ensures.none c.if-has_bad_in.false)
 
 pub returns-then-has_bad_in-clause-some : goal.returns-then-has_bad_in-clause-some
 returns-then-has_bad_in-clause-some g c = λ h.
     let disc = c.of_square-disc in
     HasOne-on _ disc.result.center disc.result.square
-    (bad_within (g.C.Clearing.space c.args.hall.now) c.args.judged.now.standings.now c.args.search.turn c.args.search.first_cost c.args.search.square
-    c.args.search.point disc.result.center disc.result.square disc.ensures.center disc.ensures.square) c.args.judged.now.own.now c.walk.at
+    (unlawful_within (g.C.Clearing.space c.args.hall.now) c.args.judged.now.standings.now c.args.search.turn c.args.search.first_cost c.args.search.square
+    c.args.search.distance c.args.search.number c.args.search.point disc.result.center disc.result.square disc.ensures.center disc.ensures.square
+    c.requires.within) c.args.judged.now.own.now c.walk.at
     c.in-Some.run' c.in-Some.ensures (c.has_bad_in.ensures.some c.if-has_bad_in.true)
 
 pub returns-clause-none : goal.returns-clause-none
 returns-clause-none g c = λ h.
     let disc = c.of_square-disc in
     HasNo-end _ disc.result.center disc.result.square
-    (bad_within (g.C.Clearing.space c.args.hall.now) c.args.judged.now.standings.now c.args.search.turn c.args.search.first_cost c.args.search.square
-    c.args.search.point disc.result.center disc.result.square disc.ensures.center disc.ensures.square) c.args.judged.now.own.now c.walk.at
+    (unlawful_within (g.C.Clearing.space c.args.hall.now) c.args.judged.now.standings.now c.args.search.turn c.args.search.first_cost c.args.search.square
+    c.args.search.distance c.args.search.number c.args.search.point disc.result.center disc.result.square disc.ensures.center disc.ensures.square
+    c.requires.within) c.args.judged.now.own.now c.walk.at
     c.walk.invariant c.in_default.ensures

@@ -1,11 +1,12 @@
 use Rattle.std.proofs.Common.{◌-◌, length}
-use Rattle.path_tools.specs.OwnNodes.{HasNo, IsBadAt}
+use Rattle.path_tools.specs.OwnNodes.{HasNo, IsUnlawfulAt}
 use Rattle.path_tools.proofs.searches.has_bad.Given as goal
 
--- none so far is one of the search, with a clear segment
+-- none so far is one of the search
 abbrev pub invariant-walk : goal.invariant-walk
 invariant-walk g l =
-    HasNo (IsBadAt (g.C.Clearing.space l.hall) l.judged.standings.now l.search.turn l.search.first_cost l.search.square l.search.point) l.judged.own.now 0
+    HasNo (IsUnlawfulAt (g.C.Clearing.space l.hall) l.judged.standings.now l.search.turn l.search.first_cost l.search.square l.search.distance
+    l.search.number l.search.point) l.judged.own.now 0
     l.at
 
 abbrev pub decreases-walk : goal.decreases-walk

@@ -6,11 +6,11 @@ pub returns-clause-nearest : goal.returns-clause-nearest
 returns-clause-nearest c = λ h.
     let judged = c.args.judged.now in
     is_nearest_of_all (run_of judged) c.args.entry judged.turns c.requires.turn judged.own.now judged.standings.now c.requires.judged.own
-    c.requires.judged.standings c.args.mark c.args.distance c.requires.distance c.requires.judged.present
+    c.requires.judged.standings c.args.mark c.nearest_distance.result c.nearest_distance.ensures c.requires.judged.present
     (c.has_nearer.ensures.none (not_true c.has_nearer.result h))
 
 pub returns-clause-only : goal.returns-clause-only
 returns-clause-only c = λ h.
     let judged = c.args.judged.now in
     is_not_nearest (run_of judged) c.args.entry judged.turns c.requires.turn judged.own.now judged.standings.now c.requires.judged.own
-    c.requires.judged.standings c.args.mark c.args.distance c.requires.distance (c.has_nearer.ensures.some (not_false c.has_nearer.result h))
+    c.requires.judged.standings c.args.mark c.nearest_distance.result c.nearest_distance.ensures (c.has_nearer.ensures.some (not_false c.has_nearer.result h))
