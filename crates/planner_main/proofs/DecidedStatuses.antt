@@ -230,7 +230,8 @@ by_meaning bytes command done text s reads = by command s reads (Succeeds-low co
     by (commands.Plain full) s reads low = by_scene bytes (commands.Plain full) done.status _ s reads (λ tests. absurd (false≢true tests)) low
     by (commands.Plan workers full) s reads low = by_scene bytes (commands.Plan workers full) done.status _ s reads (λ tests. absurd (false≢true tests)) low
     by (commands.Smooth workers) s reads low = by_scene bytes (commands.Smooth workers) done.status _ s reads (λ tests. absurd (false≢true tests)) low
-    by (commands.Anytime workers slice) s reads low = by_scene bytes (commands.Anytime workers slice) done.status _ s reads (λ tests. absurd (false≢true tests)) low
+    by (commands.Anytime workers slice) s reads low =
+        by_scene bytes (commands.Anytime workers slice) done.status _ s reads (λ tests. absurd (false≢true tests)) low
     by (commands.Twin workers) s reads low =
         by_scene bytes (commands.Twin workers) done.status _ s reads (λ tests. (ClearAt-middle workers s.scene s.meaning.both s.meaning.twin, tt)) low
     by (commands.Batch workers slice) s reads low =
