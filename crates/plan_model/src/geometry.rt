@@ -30,7 +30,6 @@ impl Point {
 }
 
 /// The square of the difference of two coordinates.
-#[tactic(auto, using(crate::proofs::Differences::square_of_gap, crate::proofs::Differences::square_of_difference))]
 fn square_of_difference(a: u32, b: u32) -> u64
     requires first { a ≤ MOST_COORDINATE }
     requires second { b ≤ MOST_COORDINATE }

@@ -1,4 +1,4 @@
-use Rattle.std.proofs.Common.{◌≡◌, ◌<◌, [], length, get_or, arith, ◌∙◌}
+use Rattle.std.proofs.Common.{◌≡◌, ◌<◌, ◌≤◌, [], length, get_or, refl, ap, arith, ◌∙◌, take_all}
 use Rattle.std.proofs.lemmas.List.{get_or_default, take_more}
 use Rattle.plan_model.proofs.configuration_spaces.ConfigurationSpace.of.Goals as goal
 
@@ -13,3 +13,10 @@ loop-obstacle-preserved c =
     let is : c.obstacle-item.result ≡ get_or scene.obstacles i [] = rw items at item in
     let copy = c.in_ok-push.ensures.items in
     rw (c.loop-obstacle.invariant, c.in_ok-copied.ensures, is, ← take_more scene.obstacles i [] l) at copy
+
+pub returns : goal.returns
+returns c =
+    let obstacles = c.args.scene.now.obstacles in
+    let all : length obstacles ≤ c.loop-obstacle.obstacle-index = omega (arith, ap length c.as_slice-obstacle-items.ensures, c.loop-obstacle-test.false) in
+    let copies = c.from_vec.ensures ∙ c.loop-obstacle.invariant ∙ take_all c.loop-obstacle.obstacle-index obstacles all in
+    rw (c.in_ok-copied-2.ensures, copies) refl
