@@ -1,6 +1,5 @@
-use Rattle.std.proofs.Common.{arith, ap, ◌∙◌}
+use Rattle.std.proofs.Common.{arith, ap}
 use Rattle.std.specs.Prelude.{unsigned_abs}
-use Rattle.std.proofs.lemmas.Int.{ints}
 use Rattle.plan_model.proofs.Differences.{difference_fits, difference_kept, square_of_difference, square_of_kept-fits, square_kept}
 use Rattle.plan_model.proofs.geometry.square_of_difference.Goals as goal
 
