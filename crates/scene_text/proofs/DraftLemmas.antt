@@ -1,7 +1,9 @@
 -- The checks of a draft are those of the grammar over what the draft gives.
-use Rattle.std.proofs.Common.{◌≡◌, ℕ, not, Bool, true, false, Option, Some, None, List, [], ◌∷◌, ◌++◌, map, Result, Ok, Err, OnOk}
+use Rattle.std.proofs.Common.{◌≡◌, ℕ, ◌||◌, not, Bool, true, false, Option, Some, None, List, [], ◌∷◌, ◌++◌, map, Result, Ok, Err, OnOk}
 use Rattle.std.proofs.Common.{refl, sym, ap, ◌∙◌}
 use mathlib.Core.Path.{fun_ext}
+use Rattle.std.specs.Prelude.{ℤ}
+use Rattle.std.proofs.lemmas.Bool.{true≢false}
 use Rattle.std.proofs.lemmas.List.{map-append}
 use Rattle.plan_model.specs.declared.geometry.Goal.{Goal}
 use Rattle.plan_model.specs.declared.geometry.Point.{Point}
@@ -12,12 +14,12 @@ use Rattle.plan_model.specs.declared.text_terms.Kind.TheVariants as kinds
 use Rattle.plan_model.specs.Texts.TextLines.{is_skipped}
 use Rattle.plan_model.specs.Texts.TextNumbers.{value_of}
 use Rattle.plan_model.specs.Texts.Keys.{name_of}
-use Rattle.plan_model.specs.Texts.LineChecks.{Check, Given, with_statement, version_of, fault_of_statement}
+use Rattle.plan_model.specs.Texts.LineChecks.{Check, Given, with_statement, stands, is_inhabited, is_repeated, version_of, fault_of_statement}
 use Rattle.plan_model.specs.Texts.LineChecks.{first_failing}
 use Rattle.plan_model.specs.Texts.SceneGrammar.{is_supported, supported}
 use Rattle.plan_model.specs.Texts.CanonicalText.{point_numbers, goal_numbers, corner_numbers}
 use Rattle.scene_text.specs.declared.drafts.Draft.{Draft}
-use Rattle.scene_text.specs.Drafts.{given_by_draft, given_after, version_after, TakesLine}
+use Rattle.scene_text.specs.Drafts.{amount_numbers, line_numbers, given_by_draft, given_after, version_after, TakesLine}
 
 -- the checks that pass leave those after them
 formed : (built repeated fits many numbers : Bool) (rest : List Check) → built ≡ true → repeated ≡ false → fits ≡ true → many ≡ false → numbers ≡ true
@@ -88,6 +90,104 @@ given-mark old new words p items value = fun_ext (λ key. same key)
     same keys.Mark =
         ap (map point_numbers) items ∙ map-append point_numbers old.marks.items (p ∷ [])
         ∙ ap (λ zs. map point_numbers old.marks.items ++ zs ∷ []) (sym value)
+    same key = refl
+
+-- ---- a field of one line
+
+-- the line gives the numbers of the field, if none stood before
+once : {A : Type 0} (numbers : A → List ℤ) (before : Option A) (field : A) (zs : List ℤ) (rest : Bool) → (is_inhabited (line_numbers numbers before) || rest) ≡ false
+    → zs ≡ numbers field → line_numbers numbers (Some field) ≡ line_numbers numbers before ++ zs ∷ []
+once numbers None field zs rest fresh value = ap (λ ns. ns ∷ []) (sym value)
+once numbers (Some known) field zs rest fresh value = absurd (true≢false fresh)
+
+pub given-room : (version : ℕ) (old : Draft) (words : List (List ℕ)) (point : Point) → is_repeated version (given_by_draft old) keys.Room ≡ false
+    → map value_of words ≡ point_numbers point
+    → given_by_draft (record old { room = Some point }) ≡ with_statement (given_by_draft old) (name_of keys.Room ∷ words)
+given-room version old words point fresh value = fun_ext (λ key. same key)
+  where
+    same : (key : Key) → given_by_draft (record old { room = Some point }) key ≡ with_statement (given_by_draft old) (name_of keys.Room ∷ words) key
+    same keys.Room = once point_numbers old.room point (map value_of words) false fresh value
+    same key = refl
+
+pub given-body : (version : ℕ) (old : Draft) (words : List (List ℕ)) (corners : List Vertex) → is_repeated version (given_by_draft old) keys.Body ≡ false
+    → map value_of words ≡ corner_numbers corners
+    → given_by_draft (record old { body = Some corners }) ≡ with_statement (given_by_draft old) (name_of keys.Body ∷ words)
+given-body version old words corners fresh value = fun_ext (λ key. same key)
+  where
+    same : (key : Key) → given_by_draft (record old { body = Some corners }) key ≡ with_statement (given_by_draft old) (name_of keys.Body ∷ words) key
+    same keys.Body = once corner_numbers old.body corners (map value_of words) false fresh value
+    same key = refl
+
+pub given-clearance : (version : ℕ) (old : Draft) (words : List (List ℕ)) (amount : ℕ) → is_repeated version (given_by_draft old) keys.Clearance ≡ false
+    → map value_of words ≡ amount_numbers amount
+    → given_by_draft (record old { clearance = Some amount }) ≡ with_statement (given_by_draft old) (name_of keys.Clearance ∷ words)
+given-clearance version old words amount fresh value = fun_ext (λ key. same key)
+  where
+    same : (key : Key) → given_by_draft (record old { clearance = Some amount }) key ≡ with_statement (given_by_draft old) (name_of keys.Clearance ∷ words) key
+    same keys.Clearance = once amount_numbers old.clearance amount (map value_of words) false fresh value
+    same key = refl
+
+pub given-start : (version : ℕ) (old : Draft) (words : List (List ℕ)) (point : Point) → is_repeated version (given_by_draft old) keys.Start ≡ false
+    → map value_of words ≡ point_numbers point
+    → given_by_draft (record old { start = Some point }) ≡ with_statement (given_by_draft old) (name_of keys.Start ∷ words)
+given-start version old words point fresh value = fun_ext (λ key. same key)
+  where
+    same : (key : Key) → given_by_draft (record old { start = Some point }) key ≡ with_statement (given_by_draft old) (name_of keys.Start ∷ words) key
+    same keys.Start = once point_numbers old.start point (map value_of words) false fresh value
+    same key = refl
+
+pub given-step : (version : ℕ) (old : Draft) (words : List (List ℕ)) (amount : ℕ) → is_repeated version (given_by_draft old) keys.Step ≡ false
+    → map value_of words ≡ amount_numbers amount
+    → given_by_draft (record old { step = Some amount }) ≡ with_statement (given_by_draft old) (name_of keys.Step ∷ words)
+given-step version old words amount fresh value = fun_ext (λ key. same key)
+  where
+    same : (key : Key) → given_by_draft (record old { step = Some amount }) key ≡ with_statement (given_by_draft old) (name_of keys.Step ∷ words) key
+    same keys.Step = once amount_numbers old.step amount (map value_of words) false fresh value
+    same key = refl
+
+pub given-gamma : (version : ℕ) (old : Draft) (words : List (List ℕ)) (amount : ℕ) → is_repeated version (given_by_draft old) keys.Gamma ≡ false
+    → map value_of words ≡ amount_numbers amount
+    → given_by_draft (record old { gamma = Some amount }) ≡ with_statement (given_by_draft old) (name_of keys.Gamma ∷ words)
+given-gamma version old words amount fresh value = fun_ext (λ key. same key)
+  where
+    same : (key : Key) → given_by_draft (record old { gamma = Some amount }) key ≡ with_statement (given_by_draft old) (name_of keys.Gamma ∷ words) key
+    same keys.Gamma = once amount_numbers old.gamma amount (map value_of words) false fresh value
+    same key = refl
+
+pub given-seed : (version : ℕ) (old : Draft) (words : List (List ℕ)) (amount : ℕ) → is_repeated version (given_by_draft old) keys.Seed ≡ false
+    → map value_of words ≡ amount_numbers amount
+    → given_by_draft (record old { seed = Some amount }) ≡ with_statement (given_by_draft old) (name_of keys.Seed ∷ words)
+given-seed version old words amount fresh value = fun_ext (λ key. same key)
+  where
+    same : (key : Key) → given_by_draft (record old { seed = Some amount }) key ≡ with_statement (given_by_draft old) (name_of keys.Seed ∷ words) key
+    same keys.Seed = once amount_numbers old.seed amount (map value_of words) false fresh value
+    same key = refl
+
+pub given-strips : (version : ℕ) (old : Draft) (words : List (List ℕ)) (amount : ℕ) → is_repeated version (given_by_draft old) keys.Strips ≡ false
+    → map value_of words ≡ amount_numbers amount
+    → given_by_draft (record old { strips = Some amount }) ≡ with_statement (given_by_draft old) (name_of keys.Strips ∷ words)
+given-strips version old words amount fresh value = fun_ext (λ key. same key)
+  where
+    same : (key : Key) → given_by_draft (record old { strips = Some amount }) key ≡ with_statement (given_by_draft old) (name_of keys.Strips ∷ words) key
+    same keys.Strips = once amount_numbers old.strips amount (map value_of words) false fresh value
+    same key = refl
+
+pub given-informed : (version : ℕ) (old : Draft) (words : List (List ℕ)) (amount : ℕ) → is_repeated version (given_by_draft old) keys.Informed ≡ false
+    → map value_of words ≡ amount_numbers amount
+    → given_by_draft (record old { informed = Some amount }) ≡ with_statement (given_by_draft old) (name_of keys.Informed ∷ words)
+given-informed version old words amount fresh value = fun_ext (λ key. same key)
+  where
+    same : (key : Key) → given_by_draft (record old { informed = Some amount }) key ≡ with_statement (given_by_draft old) (name_of keys.Informed ∷ words) key
+    same keys.Informed = once amount_numbers old.informed amount (map value_of words) false fresh value
+    same key = refl
+
+pub given-drawn : (version : ℕ) (old : Draft) (words : List (List ℕ)) (amount : ℕ) → is_repeated version (given_by_draft old) keys.Marks ≡ false
+    → map value_of words ≡ amount_numbers amount
+    → given_by_draft (record old { drawn = Some amount }) ≡ with_statement (given_by_draft old) (name_of keys.Marks ∷ words)
+given-drawn version old words amount fresh value = fun_ext (λ key. same key)
+  where
+    same : (key : Key) → given_by_draft (record old { drawn = Some amount }) key ≡ with_statement (given_by_draft old) (name_of keys.Marks ∷ words) key
+    same keys.Marks = once amount_numbers old.drawn amount (map value_of words) (stands (given_by_draft old) keys.Mark) fresh value
     same key = refl
 
 -- the version gives nothing but that it was read
