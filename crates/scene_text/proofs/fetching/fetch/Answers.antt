@@ -1,7 +1,8 @@
 use Rattle.std.proofs.Common.{◌≡◌, ◌≤◌, ◌-◌, ◌+◌, ◌++◌, IsTrue, length, length-append, take, ap, sym, subst, rules, ◌∙◌, arith, length-take}
 use Rattle.std.proofs.KnownBytes.{Consumes-trans}
+use Rattle.plan_model.specs.Texts.Streams.{counted_up}
 use Rattle.plan_model.specs.declared.limits.TheConstants.{MOST_TEXT_BYTES}
-use Rattle.scene_text.proofs.FetchLemmas.{ReadsWithin-fetched, Fetches-too_long, Fetches-memory}
+use Rattle.scene_text.proofs.FetchLemmas.{ReadsWithin-fetched, Fetches-failed, Fetches-whole, Fetches-too_long, Fetches-memory, IsErrOf-failed}
 use Rattle.scene_text.proofs.fetching.fetch.Goals as goal
 
 pub returns-then-count-room-clause-came : goal.returns-then-count-room-clause-came
@@ -55,3 +56,34 @@ loop-text-smaller g c =
     let grown : length c.extend_from_slice.new.self.items ≡ length (text.items ++ piece) =
     ap length {y = text.items ++ piece} c.in_ok-extend_from_slice.ensures.items in
     omega (arith, grown, length-append text.items piece, length-take c.in_ok-count.count c.read.new.into, c.in_ok-count.ensures.bound)
+
+pub returns-in_err-count-clause-came : goal.returns-in_err-count-clause-came
+returns-in_err-count-clause-came g c =
+    let kept = c.loop-text.invariant in
+    let text = c.loop-text.text in
+    let fits : length text.items ≤ MOST_TEXT_BYTES = omega (arith, kept.small, text.ok.0) in
+    Fetches-failed _ _ _ text.items c.from_residual.result kept.consumed c.in_err-count.ensures.bytes fits c.from_residual.ensures.1
+
+pub returns-in_err-count-clause-too_long : goal.returns-in_err-count-clause-too_long
+returns-in_err-count-clause-too_long g c = let h = returns-in_err-count-clause-came g c in λ e. (h.came, h.too_long.0 e, h.consumed)
+
+pub returns-in_err-count-clause-within : goal.returns-in_err-count-clause-within
+returns-in_err-count-clause-within g c = ReadsWithin-fetched _ _ _ (returns-in_err-count-clause-came g c)
+
+pub returns-in_err-count-clause-one_fault : goal.returns-in_err-count-clause-one_fault
+returns-in_err-count-clause-one_fault g c =
+    let kept = c.loop-text.invariant in
+    λ alone failed. c.in_err-count.ensures.one_fault (subst (λ b. IsTrue b) (sym kept.counting) alone) ∙ ap counted_up (kept.no_fault alone)
+
+pub returns-in_err-count-clause-no_fault : goal.returns-in_err-count-clause-no_fault
+returns-in_err-count-clause-no_fault g c = λ alone other. absurd (other (IsErrOf-failed c.from_residual.result c.from_residual.ensures.1))
+
+pub returns-then-count-eq0-clause-came : goal.returns-then-count-eq0-clause-came
+returns-then-count-eq0-clause-came g c =
+    let kept = c.loop-text.invariant in
+    let text = c.loop-text.text in
+    let fits : length text.items ≤ MOST_TEXT_BYTES = omega (arith, kept.small, text.ok.0) in
+    Fetches-whole _ _ _ text c.read.new.into c.in_ok-count.count c.if-count-eq0.true kept.consumed c.in_ok-count.ensures.bytes.0 fits
+
+pub returns-then-count-eq0-clause-within : goal.returns-then-count-eq0-clause-within
+returns-then-count-eq0-clause-within g c = ReadsWithin-fetched _ _ _ (returns-then-count-eq0-clause-came g c)
