@@ -17,6 +17,7 @@ ghost use Rattle.step_core.specs.WordPlaces.{word_count};
 
 use crate::openings::Aim;
 use crate::passes::Pass;
+use crate::retired::Retired;
 use crate::shared::Shared;
 use atomic_table::Closed;
 use std::alloc::Global;
@@ -40,6 +41,21 @@ impl Shared {
         // records that the opening run did not have are by workers of this one
         ensures workers { (k : ℕ) (entry : Record) → self.opening ≤ k → (state_of_grown result).record_of k ≡ Some entry → entry.worker < self.workers }
     {
+        self.end_retired(pass.retire())
+    }
+
+    /// The same of what is left of a pass, as [`Shared::end`] gives it of the pass.
+    pub fn end_retired(self, retired: Retired) -> Grown
+        requires belongs { BelongsTo retired self }
+        requires whole { share retired.view ≡ self.workers }
+        requires idle { retired.view.hand ≡ None }
+        requires none_left { HasNoneLeft retired.view }
+        ensures task { result.task ≡ self.task }
+        ensures limit { result.limit ≡ retired.view.most }
+        ensures seen { StandsAsSeen retired.view (state_of_grown result) }
+        ensures same { AreSameRuns (state_of_links (run_sizes retired.view.run) (sees retired.view)) (state_of_grown result) }
+        ensures workers { (k : ℕ) (entry : Record) → self.opening ≤ k → (state_of_grown result).record_of k ≡ Some entry → entry.worker < self.workers }
+    {
         let Shared {
             table,
             task,
@@ -49,14 +65,7 @@ impl Shared {
             alloc: _,
             spare,
         } = self;
-        let Pass {
-            seat,
-            member: _,
-            hand: _,
-            pairs: _,
-            lists: _,
-        } = pass;
-        let closed = table.close_with(seat);
+        let closed = table.close_with(retired.seat);
         let mut words = spare;
         copy_words(&closed, &mut words);
         closed.free();

@@ -84,6 +84,25 @@ fn end_of<R: Abort>(rt: &R, shared: Shared, pass: Pass) -> Grown
     }
 }
 
+/// The run that a tree has come to, from what is left of two passes of which the first finds no mark left.
+fn end_of_left<R: Abort>(rt: &R, shared: Shared, first: Pass, second: Pass) -> Grown
+    requires first { HasShare shared 1 first }
+    requires second { HasShare shared 1 second }
+    requires workers { shared.workers ≡ 2 }
+    requires opening { shared.opening ≡ 0 }
+    requires marks { length shared.task.marks ≡ 5 }
+{
+    let mut first = first;
+    match shared.claim(&mut first, 5) {
+        Some(_) => panic!(rt; "a mark is left"),
+        None => {
+            let mut left = first.retire();
+            shared.join_retired(&mut left, second.retire());
+            shared.end_retired(left)
+        }
+    }
+}
+
 /// Compares the record of a mark that lies on the start.
 fn expect_record<R: Abort>(rt: &R, grown: &Grown, mark: u32, worker: u32, turn: u32) {
     if mark >= grown.limit() {
@@ -110,6 +129,17 @@ fn two_passes_end_as_one_run(rt: HostRuntime) {
     take_turns(&rt, &shared, &mut first, 3);
     take_both(&shared, &mut first, second);
     let grown = end_of(&rt, shared, first);
+    assert_eq!(rt; (grown.limit(), grown.count()), (5, 1));
+    expect_records(&rt, &grown);
+    drop(grown);
+}
+
+#[test]
+fn what_is_left_of_two_passes_ends_as_one_run(rt: HostRuntime) {
+    let (shared, mut first, mut second) = two_sharers(&rt, rt.alloc());
+    take_turns(&rt, &shared, &mut second, 2);
+    take_turns(&rt, &shared, &mut first, 3);
+    let grown = end_of_left(&rt, shared, first, second);
     assert_eq!(rt; (grown.limit(), grown.count()), (5, 1));
     expect_records(&rt, &grown);
     drop(grown);

@@ -1,6 +1,5 @@
 -- What a search gathered are the near nodes, each once.
-use Rattle.std.proofs.Common.{◌≡◌, ℕ, ◌∙◌, List, true, ap, sym}
-use Rattle.std.specs.Prelude.{Contains}
+use Rattle.std.proofs.Common.{ℕ, ◌∙◌, List, ap, sym}
 use Rattle.kd_shared.specs.Searches.{AreGathered}
 use Rattle.kd_shared.proofs.SortedNear.{is_within-near, near-within}
 use Rattle.plan_model.proofs.NearNodes.{Contains-near}

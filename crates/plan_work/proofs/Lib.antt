@@ -10,6 +10,7 @@ pub mod TriedMarks
 pub mod PlacedHands
 pub mod NearestListed
 pub mod RecordedMarks
+pub mod RetiredWorkers
 pub mod PlacedMarks
 pub mod SteeredOutcomes
 pub mod ExtendedMarks

@@ -1,21 +1,17 @@
 -- A node that was placed is posted if it lies in a goal by which marks are skipped: what that leaves of the pass.
-use Rattle.std.proofs.Common.{◌≡◌, ℕ, suc, ◌≤◌, ◌<◌, ◌^◌, ◌⊎◌, Bool, true, false, Some, cond, inl, inr, refl, sym, ap, ◌∙◌, subst, arith}
-use Rattle.std.specs.Prelude.{◌==◌}
+use Rattle.std.proofs.Common.{◌≡◌, ℕ, suc, ◌≤◌, ◌⊎◌, Bool, true, false, Some, cond, inl, inr, refl, sym, ap, ◌∙◌, subst, arith}
 use Rattle.std.proofs.lemmas.Bool.{cases_Bool, eq-eqb}
-use Rattle.kd_shared.specs.Placings.{GoesOnPlacing, IsPlaced, IsPlacing, KeepsShare}
-use Rattle.kd_shared.specs.declared.placing.Placing.{Placing}
-use Rattle.kd_shared.specs.declared.placing.Placing.TheVariants.{Placed, Same}
+use Rattle.kd_shared.specs.Placings.{GoesOnPlacing, IsPlaced, KeepsShare}
 use Rattle.plan_model.specs.Trees.BestNode.{lies_in_goals}
 use Rattle.plan_model.specs.declared.geometry.Point.{Point}
 use Rattle.plan_words.proofs.GoingOn.{GoesOn-trans}
 use Rattle.plan_words.specs.Claims.{SeesAsBefore}
 use Rattle.plan_words.specs.States.{GoesOn, PassState, with_view}
-use Rattle.plan_work.specs.ExtensionSteps.{HasBeenPlaced, HasCome, placed_hand, placed_stage}
+use Rattle.plan_work.specs.ExtensionSteps.{HasBeenPlaced, placed_hand, placed_stage}
 use Rattle.step_core.proofs.PackedWords.{cost_in-tree_word}
-use Rattle.step_core.specs.ViewSteps.{hand_with_post, pair_in_hand, with_best}
+use Rattle.step_core.specs.ViewSteps.{hand_with_post, with_best}
 use Rattle.step_core.specs.ViewTrees.{SeesPoint}
 use Rattle.step_core.specs.Views.{sees}
-use Rattle.step_core.specs.WordNames.{Word}
 use Rattle.step_core.specs.WordNames.Word.{FirstOf, TreeOf}
 use Rattle.step_core.specs.Words.{best_word, cost_in}
 use Rattle.step_core.specs.declared.views.Hand.{Hand}

@@ -1,5 +1,5 @@
 -- A pass that works alone loads the best word: it is the best goal node of the textbook tree that it sees, and by it marks are skipped or not.
-use Rattle.std.proofs.Common.{◌≡◌, ◌≢◌, ◌⊎◌, ℕ, ◌+◌, ◌*◌, ◌/◌, ◌%◌, ◌<◌, ◌≤◌, ◌^◌, None, Some, [], ◌∷◌, ◌++◌, arith, refl, sym, ap, ◌∙◌, subst, inl, inr}
+use Rattle.std.proofs.Common.{◌≢◌, ℕ, ◌<◌, ◌≤◌, ◌^◌, arith, sym, ap, subst}
 use Rattle.std.specs.Prelude.{IsTrue}
 use Rattle.plan_model.specs.Runs.ClosedLaw.{mark_at}
 use Rattle.plan_model.specs.Runs.Textbook.{IsBestGoalNode, MayBeCheaper, Nodes, mark_bound}
@@ -14,13 +14,13 @@ use Rattle.plan_work.specs.OneWorker.{IsNotSkippedIn}
 use Rattle.plan_work.specs.WholeShares.{SeesButCount}
 use Rattle.step_core.specs.LaterViews.{IsLater, IsLawfulView}
 use Rattle.step_core.specs.SeenBests.{SeesGoal}
-use Rattle.step_core.specs.Views.{sees, setup_in, tree_seen}
+use Rattle.step_core.specs.Views.{setup_in, tree_seen}
 use Rattle.step_core.specs.WordNames.Word.{PointOf, TreeOf}
 use Rattle.step_core.specs.Words.{best_cost_in, best_node_in, best_word, cost_in, no_best}
 use Rattle.step_core.specs.declared.views.SharedRun.{SharedRun}
 use Rattle.step_core.specs.declared.views.View.{View}
 use Rattle.tree_rewire.specs.Mirrors.{Mirrors}
-use Rattle.tree_rewire.specs.SeenCosts.{SeesPair, cost_seen}
+use Rattle.tree_rewire.specs.SeenCosts.{cost_seen}
 
 -- while no point, parent or cost is seen anew, a mark is not skipped still
 pub IsNotSkippedIn-kept : (before after : View) (k : ℕ) → IsLater before after → SeesButCount before after → IsNotSkippedIn before k → IsNotSkippedIn after k

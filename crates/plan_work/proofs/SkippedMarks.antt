@@ -1,6 +1,6 @@
 -- A mark that is not skipped stays so while other things are seen anew; the hand whose node is placed has posted it if it lies in a goal.
-use Rattle.std.proofs.Common.{◌≡◌, ◌≢◌, Bool, true, false, List, Some, cond, refl, sym, ap, ◌∙◌, subst}
-use Rattle.std.specs.Prelude.{ℕ, ◌<◌}
+use Rattle.std.proofs.Common.{◌≡◌, Bool, true, false, List, Some, cond, refl, sym, ap, ◌∙◌, subst}
+use Rattle.std.specs.Prelude.{◌<◌}
 use Rattle.std.proofs.lemmas.Option.{same_Some}
 use Rattle.plan_model.specs.Runs.ClosedLaw.{mark_at}
 use Rattle.plan_model.specs.Runs.Textbook.{mark_bound}
@@ -15,7 +15,6 @@ use Rattle.step_core.specs.Views.{setup_in}
 use Rattle.step_core.specs.Words.{best_cost_in}
 use Rattle.step_core.specs.declared.views.Hand.{Hand}
 use Rattle.step_core.specs.declared.views.SharedRun.{SharedRun}
-use Rattle.step_core.specs.declared.views.Stage.{Stage}
 use Rattle.step_core.specs.declared.views.Stage.TheVariants.{Counted, Posted}
 use Rattle.step_core.specs.declared.views.View.{View}
 

@@ -31,7 +31,7 @@ use Rattle.step_core.specs.declared.views.Hand.{Hand}
 use Rattle.step_core.specs.declared.views.View.{View}
 use Rattle.tree_rewire.proofs.ChosenParents.{IsInReach-later}
 use Rattle.tree_rewire.proofs.SeenCosts.{SeesPair-later, stands_later}
-use Rattle.tree_rewire.specs.SeenCosts.{IsInReach, SeesPair, cost_seen}
+use Rattle.tree_rewire.specs.SeenCosts.{IsInReach, cost_seen}
 use Rattle.plan_work.proofs.FilledNear.{looked_still}
 use Rattle.plan_work.proofs.KeptRecords.{KeepsRecords-trans}
 use Rattle.plan_work.proofs.KeptSights.{SweepsWithin-still, distance_still, point_still}

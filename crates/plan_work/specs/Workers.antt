@@ -1,9 +1,10 @@
 -- What a worker leaves.
-use Rattle.std.specs.Prelude.{◌≡◌, ◌≢◌, ◌+◌, ◌≤◌, ◌⊎◌, ℕ, [], ◌∷◌, All, List}
+use Rattle.std.specs.Prelude.{◌≡◌, ◌≢◌, ◌+◌, ◌≤◌, ◌⊎◌, ◌++◌, ℕ, [], ◌∷◌, All, IsSome, List, None, Some, map, option_to_list}
 use Rattle.plan_model.specs.declared.records.Record.{Record}
 use Rattle.plan_words.specs.Claims.{AllFull}
 use Rattle.plan_words.specs.States.{GoesOn, MayClaim, PassState, SharedState, worker_of}
 use Rattle.plan_work.specs.Extensions.{IsExtended}
+use Rattle.plan_work.specs.declared.growing.Worker.{Worker}
 use Rattle.plan_work.specs.OneWorker.{HandlesRest}
 use Rattle.step_core.specs.Views.{sees, share}
 use Rattle.step_core.specs.WordKinds.{AreBehind}
@@ -24,6 +25,37 @@ pub record HasDone (shared : SharedState) (limit : ℕ) (before after : PassStat
   pub worked : HasWorked shared before after limit
   pub none_left : AllFull after.view limit
   pub textbook : shared.workers ≡ 1 → HandlesRest before.view after.view limit
+
+-- ---- workers
+
+-- workers that have these passes
+abbrev pub crew_with : List PassState → List Worker
+crew_with = map (λ pass. record { pass = Some pass; retired = None })
+
+-- a worker has a pass that may claim
+pub record IsReady (shared : SharedState) (worker : Worker) : Type 0 where
+  pub pass : PassState
+  pub has : worker.pass ≡ Some pass
+  pub may_claim : MayClaim shared pass
+
+-- it has what is left of a pass
+abbrev pub HasRetired : Worker → Type 0
+HasRetired worker = IsSome worker.retired
+
+-- that of the pass which it had, once this has worked up to a limit
+pub record HasStopped (shared : SharedState) (limit : ℕ) (before after : Worker) : Type 0 where
+  pub pass : PassState
+  pub left : PassState
+  pub had : before.pass ≡ Some pass
+  pub has : after.retired ≡ Some left
+  pub done : HasDone shared limit pass left
+
+-- what is left of the passes of workers
+abbrev pub left_of : List Worker → List PassState
+left_of [] = []
+left_of (worker ∷ crew) = option_to_list worker.retired ++ left_of crew
+
+-- ---- marks
 
 -- Between two moments of the call mark k was handled, as `extend` promises, and the record stands that was made of it.
 pub record WasExtended (before after : View) (k : ℕ) : Type 0 where

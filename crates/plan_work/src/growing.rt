@@ -5,16 +5,16 @@ ghost use Rattle.plan_model.specs.Spaces.ConfigurationSpace.{space_of};
 ghost use Rattle.plan_model.specs.Trees.TreeStates.{GrowsInto};
 ghost use Rattle.plan_model.specs.declared.limits.TheConstants.{MOST_WORKERS};
 ghost use Rattle.plan_model.specs.declared.records.Record.{Record};
-ghost use Rattle.plan_words.specs.States.{GoesOn, HasWholeShare, MayClaim, PassState};
+ghost use Rattle.plan_words.specs.States.{MayClaim, PassState};
 ghost use Rattle.plan_work.specs.OneWorker.{IsOfTextbook};
-ghost use Rattle.plan_work.specs.Workers.{HasDone, HasTakenOver};
+ghost use Rattle.plan_work.specs.Workers.{HasRetired, HasStopped, HasTakenOver, IsReady, crew_with, left_of};
 ghost use Rattle.step_core.specs.GrownRuns.{state_of_grown};
 
 use crate::gates::Gate;
 use crate::working::work;
 use plan_model::Memory;
-use plan_words::{Pass, Shared};
-use std::alloc::Global;
+use plan_words::{Pass, Retired, Shared};
+use std::alloc::{AllocError, Global};
 use std::thread;
 use std::thread::Threads;
 use step_core::Grown;
@@ -52,10 +52,32 @@ pub fn grow<R: Threads + Sync, C: Clearing, G: Gate>(
     // one worker goes on with a run of the textbook as the textbook does
     ensures textbook { workers ≡ 1 → IsOfTextbook grown → IfOk result (λ after. IsOfTextbook after) }
 {
-    let (shared, mut passes) = Shared::start(alloc, grown, workers)?;
-    work_all(rt, &shared, hall, limit, gate, passes.as_mut_slice());
-    let pass = take_over_all(&shared, passes);
-    Ok(shared.end(pass))
+    let (shared, passes) = Shared::start(alloc, grown, workers)?;
+    let mut crew = crew_of(alloc, passes)?;
+    work_all(rt, &shared, hall, limit, gate, crew.as_mut_slice());
+    let last = take_over_all(&shared, crew);
+    Ok(shared.end_retired(last))
+}
+
+/// A worker: its pass until that has worked, and what is left of it then.
+#[derive(Drop)]
+struct Worker {
+    pass: Option<Pass>,
+    retired: Option<Retired>,
+}
+
+/// Workers that have these passes, in their order. O(w) for w of them.
+fn crew_of(alloc: Global, passes: Vec<Pass>) -> Result<Vec<Worker>, AllocError>
+    ensures { IfOk result (λ crew. crew.items ≡ crew_with passes.items) }
+{
+    let mut crew = Vec::with_capacity(alloc, passes.len())?;
+    for pass in passes {
+        crew.push(Worker {
+            pass: Some(pass),
+            retired: None,
+        })?;
+    }
+    Ok(crew)
 }
 
 /// Each pass works in a thread of its own, until all have stopped. Where no thread can be made they work one after another.
@@ -65,43 +87,81 @@ fn work_all<R: Threads + Sync, C: Clearing, G: Gate>(
     hall: &C,
     limit: u32,
     gate: &G,
-    passes: &mut [Pass],
+    crew: &mut [Worker],
 )
     requires hall { C.space hall.now ≡ space_of shared.now.task.scene }
     requires low { shared.now.opening ≤ limit }
     requires limit { limit ≤ length shared.now.task.marks }
-    requires some { 1 ≤ length passes.old }
-    requires may_claim { All (MayClaim shared.now) passes.old }
-    ensures count { length passes.new ≡ length passes.old }
-    ensures each { (k : ℕ) (d : PassState) → k < length passes.old
-        → HasDone shared.now limit (slice_index_or passes.old k d) (slice_index_or passes.new k d) }
+    requires some { 1 ≤ length crew.old }
+    requires ready { All (IsReady shared.now) crew.old }
+    ensures count { length crew.new ≡ length crew.old }
+    ensures each { (k : ℕ) (d : Worker) → k < length crew.old
+        → HasStopped shared.now limit (slice_index_or crew.old k d) (slice_index_or crew.new k d) }
 {
-    let threads = passes.len();
+    let threads = crew.len();
     thread::for_each_mut(
         rt,
-        passes,
+        crew,
         threads,
-        &|_number: usize, pass: &mut Pass|
-            requires { MayClaim shared.now pass.now × (C.space hall.now ≡ space_of shared.now.task.scene)
+        &|_number: usize, worker: &mut Worker|
+            requires { IsReady shared.now worker.now × (C.space hall.now ≡ space_of shared.now.task.scene)
                 × (shared.now.opening ≤ limit) × (limit ≤ length shared.now.task.marks) }
-            ensures { HasDone shared.entry.now limit pass.entry.now pass.exit.now }
-        { work(shared, pass, hall, limit, gate) },
+            ensures { HasStopped shared.entry.now limit worker.entry.now worker.exit.now }
+        { work_and_retire(shared, worker, hall, limit, gate) },
     );
 }
 
-/// The last pass takes over all others, with all that they have seen.
-fn take_over_all(shared: &Shared, passes: Vec<Pass>) -> Pass
-    requires some { 1 ≤ length passes.items }
-    requires may_claim { All (MayClaim shared.now) passes.items }
-    ensures taken { HasTakenOver shared.now passes.items result }
-    ensures one { (pass : PassState) → passes.items ≡ pass ∷ [] → result ≡ pass }
+/// The pass of a worker works, and gives back its lists in the thread in which it has worked.
+fn work_and_retire<C: Clearing, G: Gate>(
+    shared: &Shared,
+    worker: &mut Worker,
+    hall: &C,
+    limit: u32,
+    gate: &G,
+)
+    requires ready { IsReady shared.now worker.old }
+    requires hall { C.space hall.now ≡ space_of shared.now.task.scene }
+    requires low { shared.now.opening ≤ limit }
+    requires limit { limit ≤ length shared.now.task.marks }
+    ensures { HasStopped shared.now limit worker.old worker.new }
 {
-    let mut others = passes;
-    let Some(mut pass) = others.pop() else {
+    let Some(mut pass) = worker.pass.take() else {
+        unreachable!()
+    };
+    work(shared, &mut pass, hall, limit, gate);
+    worker.retired = Some(pass.retire());
+}
+
+impl Worker {
+    /// What is left of its pass.
+    fn left(self) -> Option<Retired>
+        ensures { result ≡ self.retired }
+    {
+        let Worker { pass: _, retired } = self;
+        retired
+    }
+}
+
+/// What is left of the last worker's pass takes over what is left of all others, with all that they have seen.
+fn take_over_all(shared: &Shared, crew: Vec<Worker>) -> Retired
+    requires some { 1 ≤ length crew.items }
+    requires retired { All HasRetired crew.items }
+    requires may_claim { All (MayClaim shared.now) (left_of crew.items) }
+    ensures taken { HasTakenOver shared.now (left_of crew.items) result }
+    ensures one { (left : PassState) → left_of crew.items ≡ left ∷ [] → result ≡ left }
+{
+    let mut others = crew;
+    let Some(last) = others.pop() else {
+        unreachable!()
+    };
+    let Some(mut taken) = last.left() else {
         unreachable!()
     };
     'others: while let Some(other) = others.pop() {
-        shared.join(&mut pass, other);
+        let Some(retired) = other.left() else {
+            unreachable!()
+        };
+        shared.join_retired(&mut taken, retired);
     }
-    pass
+    taken
 }

@@ -1,4 +1,4 @@
-use Rattle.std.proofs.Common.{◌≡◌, sym, ap}
+use Rattle.std.proofs.Common.{sym, ap}
 use Rattle.plan_model.specs.declared.records.Outcome.TheVariants.{Skipped}
 use Rattle.plan_work.proofs.ExtendedMarks.{HandlesMark-after}
 use Rattle.plan_work.proofs.HeldMarks.{holding, if_held}

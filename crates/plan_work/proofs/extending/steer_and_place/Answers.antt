@@ -2,7 +2,7 @@ use Rattle.std.specs.Prelude.{IfSome}
 use Rattle.std.proofs.Common.{◌≡◌, false, refl, sym, ap, ◌∙◌, subst}
 use Rattle.plan_model.specs.Spaces.Clearance.{Clear}
 use Rattle.plan_model.specs.Trees.PointsByNumber.{point_of}
-use Rattle.plan_words.specs.States.{PassState, with_lists, with_view}
+use Rattle.plan_words.specs.States.{PassState, with_view}
 use Rattle.plan_work.proofs.SkippedMarks.{IsUnskipped-kept}
 use Rattle.step_core.specs.SeenBests.{IsUnskipped}
 use Rattle.step_core.specs.ViewSteps.{pointed}

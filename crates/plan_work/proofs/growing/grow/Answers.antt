@@ -1,131 +1,177 @@
-use Rattle.std.proofs.Common.{◌≡◌, ℕ, ◌<◌, ◌∙◌, length, ap, arith, subst, sym}
+use Rattle.std.proofs.Common.{◌≡◌, ℕ, ◌<◌, ◌∙◌, List, length, ap, arith, subst, sym}
 use Rattle.std.specs.Prelude.{◌++◌, All, slice_index_or}
 use Rattle.std.proofs.Math.Seq.{take-append_seam}
 use lib.ListN.{drop, take}
 use Rattle.plan_words.specs.States.{MayClaim, PassState}
 use Rattle.plan_work.proofs.LoneRuns.{IsOfTextbook-seen}
+use Rattle.plan_work.proofs.RetiredWorkers.{HaveStopped, all_ready, have_stopped}
 use Rattle.plan_work.proofs.SharedRuns.{GrowsInto-all, HasHandled-alone, all_may_claim, limit_reached, none_left, one_of, whole_share}
 use Rattle.plan_work.proofs.growing.grow.Goals as goal
 use Rattle.plan_work.specs.OneWorker.{SeesTextbook}
-use Rattle.plan_work.specs.Workers.{HasDone, HasTakenOver}
+use Rattle.plan_work.specs.Workers.{HasRetired, HasStopped, HasTakenOver, IsReady, crew_with, left_of}
+use Rattle.plan_work.specs.declared.growing.Worker.{Worker}
 use Rattle.step_core.specs.GrownRuns.{state_of_grown}
 use Rattle.step_core.specs.LaterViews.{IsLawfulView}
-use Rattle.step_core.specs.declared.views.SharedRun.{SharedRun}
 
-pub take_over_all-pass-requires-clause-may_claim : goal.take_over_all-pass-requires-clause-may_claim
-take_over_all-pass-requires-clause-may_claim g c =
+pub work_all-requires-clause-ready : goal.work_all-requires-clause-ready
+work_all-requires-clause-ready g c _ _ =
     let shared = c.in_ok-shared.shared in
     let before = c.in_ok-shared.passes.items in
-    let after = c.work_all.new.passes in
-    let same : take c.in_ok-shared.passes.len (after ++ drop (length after) before) ≡ after =
-    ap (λ n. take n (after ++ drop (length after) before)) (sym (c.work_all.ensures.count ∙ c.as_mut_slice.ensures.len))
-    ∙ take-append_seam after (drop (length after) before) in
-    let count : length after ≡ length before = c.work_all.ensures.count ∙ ap (λ l. length l) c.as_mut_slice.ensures.value in
-    let done = subst (λ l. (k : ℕ) (d : PassState) → k < length l → HasDone shared c.args.limit (slice_index_or l k d) (slice_index_or after k d))
-    c.as_mut_slice.ensures.value c.work_all.ensures.each in
-    subst (All (MayClaim shared)) (sym same)
-    (all_may_claim shared c.args.grown before after c.args.limit c.in_ok-shared.ensures.passes count done c.requires.low)
+    let is : c.as_mut_slice.result.now ≡ crew_with before = c.as_mut_slice.ensures.value ∙ c.in_ok-crew.ensures in
+    subst (All (IsReady shared)) (sym is) (all_ready shared before c.in_ok-shared.ensures.may_claim)
 
-pub end-requires-clause-belongs : goal.end-requires-clause-belongs
-end-requires-clause-belongs g c = c.take_over_all-pass.ensures.taken.may_claim.belongs
-
-pub end-requires-clause-idle : goal.end-requires-clause-idle
-end-requires-clause-idle g c = c.take_over_all-pass.ensures.taken.may_claim.idle
-
-pub end-requires-clause-whole : goal.end-requires-clause-whole
-end-requires-clause-whole g c =
+pub take_over_all-last-requires-clause-retired : goal.take_over_all-last-requires-clause-retired
+take_over_all-last-requires-clause-retired g c =
     let shared = c.in_ok-shared.shared in
+    let limit = c.args.limit in
     let before = c.in_ok-shared.passes.items in
-    let after = c.work_all.new.passes in
-    let same : take c.in_ok-shared.passes.len (after ++ drop (length after) before) ≡ after =
-    ap (λ n. take n (after ++ drop (length after) before)) (sym (c.work_all.ensures.count ∙ c.as_mut_slice.ensures.len))
-    ∙ take-append_seam after (drop (length after) before) in
-    let count : length after ≡ length before = c.work_all.ensures.count ∙ ap (λ l. length l) c.as_mut_slice.ensures.value in
-    let done = subst (λ l. (k : ℕ) (d : PassState) → k < length l → HasDone shared c.args.limit (slice_index_or l k d) (slice_index_or after k d))
-    c.as_mut_slice.ensures.value c.work_all.ensures.each in
-    let takes = subst (λ l. HasTakenOver shared l c.take_over_all-pass.result) same c.take_over_all-pass.ensures.taken in
+    let crew = c.in_ok-crew.crew.items in
+    let worked = c.work_all.new.crew in
+    let after = left_of worked in
+    let is : c.as_mut_slice.result.now ≡ crew_with before = c.as_mut_slice.ensures.value ∙ c.in_ok-crew.ensures in
+    let stopped : HaveStopped shared limit before worked =
+    have_stopped shared limit before worked (c.work_all.ensures.count ∙ ap (λ (l : List Worker). length l) is)
+    (subst (λ l. (k : ℕ) (d : Worker) → k < length l → HasStopped shared limit (slice_index_or l k d) (slice_index_or worked k d)) is c.work_all.ensures.each) in
+    let same : take c.in_ok-crew.crew.len (worked ++ drop (length worked) crew) ≡ worked =
+    ap (λ n. take n (worked ++ drop (length worked) crew)) (sym (c.work_all.ensures.count ∙ c.as_mut_slice.ensures.len))
+    ∙ take-append_seam worked (drop (length worked) crew) in
+    subst (All HasRetired) (sym same) stopped.retired
+
+pub take_over_all-last-requires-clause-may_claim : goal.take_over_all-last-requires-clause-may_claim
+take_over_all-last-requires-clause-may_claim g c =
+    let shared = c.in_ok-shared.shared in
+    let limit = c.args.limit in
+    let before = c.in_ok-shared.passes.items in
+    let crew = c.in_ok-crew.crew.items in
+    let worked = c.work_all.new.crew in
+    let after = left_of worked in
+    let is : c.as_mut_slice.result.now ≡ crew_with before = c.as_mut_slice.ensures.value ∙ c.in_ok-crew.ensures in
+    let stopped : HaveStopped shared limit before worked =
+    have_stopped shared limit before worked (c.work_all.ensures.count ∙ ap (λ (l : List Worker). length l) is)
+    (subst (λ l. (k : ℕ) (d : Worker) → k < length l → HasStopped shared limit (slice_index_or l k d) (slice_index_or worked k d)) is c.work_all.ensures.each) in
+    let same : take c.in_ok-crew.crew.len (worked ++ drop (length worked) crew) ≡ worked =
+    ap (λ n. take n (worked ++ drop (length worked) crew)) (sym (c.work_all.ensures.count ∙ c.as_mut_slice.ensures.len))
+    ∙ take-append_seam worked (drop (length worked) crew) in
+    subst (λ l. All (MayClaim shared) (left_of l)) (sym same) (all_may_claim shared c.args.grown before after limit c.in_ok-shared.ensures.passes stopped.count stopped.done c.requires.low)
+
+pub end_retired-requires-clause-belongs : goal.end_retired-requires-clause-belongs
+end_retired-requires-clause-belongs g c = c.take_over_all-last.ensures.taken.may_claim.belongs
+
+pub end_retired-requires-clause-idle : goal.end_retired-requires-clause-idle
+end_retired-requires-clause-idle g c = c.take_over_all-last.ensures.taken.may_claim.idle
+
+pub end_retired-requires-clause-whole : goal.end_retired-requires-clause-whole
+end_retired-requires-clause-whole g c =
+    let shared = c.in_ok-shared.shared in
+    let limit = c.args.limit in
+    let before = c.in_ok-shared.passes.items in
+    let crew = c.in_ok-crew.crew.items in
+    let worked = c.work_all.new.crew in
+    let after = left_of worked in
+    let is : c.as_mut_slice.result.now ≡ crew_with before = c.as_mut_slice.ensures.value ∙ c.in_ok-crew.ensures in
+    let stopped : HaveStopped shared limit before worked =
+    have_stopped shared limit before worked (c.work_all.ensures.count ∙ ap (λ (l : List Worker). length l) is)
+    (subst (λ l. (k : ℕ) (d : Worker) → k < length l → HasStopped shared limit (slice_index_or l k d) (slice_index_or worked k d)) is c.work_all.ensures.each) in
+    let same : take c.in_ok-crew.crew.len (worked ++ drop (length worked) crew) ≡ worked =
+    ap (λ n. take n (worked ++ drop (length worked) crew)) (sym (c.work_all.ensures.count ∙ c.as_mut_slice.ensures.len))
+    ∙ take-append_seam worked (drop (length worked) crew) in
+    let takes = subst (λ l. HasTakenOver shared (left_of l) c.take_over_all-last.result) same c.take_over_all-last.ensures.taken in
     let some_pass : 0 < length before = omega (arith, c.in_ok-shared.ensures.count, c.requires.some) in
-    whole_share shared c.args.grown before after c.args.limit c.in_ok-shared.ensures.passes count done c.requires.low
-    c.take_over_all-pass.result takes some_pass
+    whole_share shared c.args.grown before after limit c.in_ok-shared.ensures.passes stopped.count stopped.done c.requires.low c.take_over_all-last.result takes some_pass
     ∙ c.in_ok-shared.ensures.count ∙ sym c.in_ok-shared.ensures.workers
 
-pub end-requires-clause-none_left : goal.end-requires-clause-none_left
-end-requires-clause-none_left g c =
+pub end_retired-requires-clause-none_left : goal.end_retired-requires-clause-none_left
+end_retired-requires-clause-none_left g c =
     let shared = c.in_ok-shared.shared in
+    let limit = c.args.limit in
     let before = c.in_ok-shared.passes.items in
-    let after = c.work_all.new.passes in
-    let same : take c.in_ok-shared.passes.len (after ++ drop (length after) before) ≡ after =
-    ap (λ n. take n (after ++ drop (length after) before)) (sym (c.work_all.ensures.count ∙ c.as_mut_slice.ensures.len))
-    ∙ take-append_seam after (drop (length after) before) in
-    let count : length after ≡ length before = c.work_all.ensures.count ∙ ap (λ l. length l) c.as_mut_slice.ensures.value in
-    let done = subst (λ l. (k : ℕ) (d : PassState) → k < length l → HasDone shared c.args.limit (slice_index_or l k d) (slice_index_or after k d))
-    c.as_mut_slice.ensures.value c.work_all.ensures.each in
-    let takes = subst (λ l. HasTakenOver shared l c.take_over_all-pass.result) same c.take_over_all-pass.ensures.taken in
+    let crew = c.in_ok-crew.crew.items in
+    let worked = c.work_all.new.crew in
+    let after = left_of worked in
+    let is : c.as_mut_slice.result.now ≡ crew_with before = c.as_mut_slice.ensures.value ∙ c.in_ok-crew.ensures in
+    let stopped : HaveStopped shared limit before worked =
+    have_stopped shared limit before worked (c.work_all.ensures.count ∙ ap (λ (l : List Worker). length l) is)
+    (subst (λ l. (k : ℕ) (d : Worker) → k < length l → HasStopped shared limit (slice_index_or l k d) (slice_index_or worked k d)) is c.work_all.ensures.each) in
+    let same : take c.in_ok-crew.crew.len (worked ++ drop (length worked) crew) ≡ worked =
+    ap (λ n. take n (worked ++ drop (length worked) crew)) (sym (c.work_all.ensures.count ∙ c.as_mut_slice.ensures.len))
+    ∙ take-append_seam worked (drop (length worked) crew) in
+    let takes = subst (λ l. HasTakenOver shared (left_of l) c.take_over_all-last.result) same c.take_over_all-last.ensures.taken in
     let some_pass : 0 < length before = omega (arith, c.in_ok-shared.ensures.count, c.requires.some) in
-    none_left shared c.args.grown before after c.args.limit c.in_ok-shared.ensures.passes count done c.requires.low
-    c.take_over_all-pass.result takes some_pass
+    none_left shared c.args.grown before after limit c.in_ok-shared.ensures.passes stopped.count stopped.done c.requires.low c.take_over_all-last.result takes some_pass
 
 pub returns-clause-limit : goal.returns-clause-limit
 returns-clause-limit g c =
     let shared = c.in_ok-shared.shared in
+    let limit = c.args.limit in
     let before = c.in_ok-shared.passes.items in
-    let after = c.work_all.new.passes in
-    let same : take c.in_ok-shared.passes.len (after ++ drop (length after) before) ≡ after =
-    ap (λ n. take n (after ++ drop (length after) before)) (sym (c.work_all.ensures.count ∙ c.as_mut_slice.ensures.len))
-    ∙ take-append_seam after (drop (length after) before) in
-    let count : length after ≡ length before = c.work_all.ensures.count ∙ ap (λ l. length l) c.as_mut_slice.ensures.value in
-    let done = subst (λ l. (k : ℕ) (d : PassState) → k < length l → HasDone shared c.args.limit (slice_index_or l k d) (slice_index_or after k d))
-    c.as_mut_slice.ensures.value c.work_all.ensures.each in
-    let takes = subst (λ l. HasTakenOver shared l c.take_over_all-pass.result) same c.take_over_all-pass.ensures.taken in
+    let crew = c.in_ok-crew.crew.items in
+    let worked = c.work_all.new.crew in
+    let after = left_of worked in
+    let is : c.as_mut_slice.result.now ≡ crew_with before = c.as_mut_slice.ensures.value ∙ c.in_ok-crew.ensures in
+    let stopped : HaveStopped shared limit before worked =
+    have_stopped shared limit before worked (c.work_all.ensures.count ∙ ap (λ (l : List Worker). length l) is)
+    (subst (λ l. (k : ℕ) (d : Worker) → k < length l → HasStopped shared limit (slice_index_or l k d) (slice_index_or worked k d)) is c.work_all.ensures.each) in
+    let same : take c.in_ok-crew.crew.len (worked ++ drop (length worked) crew) ≡ worked =
+    ap (λ n. take n (worked ++ drop (length worked) crew)) (sym (c.work_all.ensures.count ∙ c.as_mut_slice.ensures.len))
+    ∙ take-append_seam worked (drop (length worked) crew) in
+    let takes = subst (λ l. HasTakenOver shared (left_of l) c.take_over_all-last.result) same c.take_over_all-last.ensures.taken in
     let some_pass : 0 < length before = omega (arith, c.in_ok-shared.ensures.count, c.requires.some) in
-    c.end.ensures.limit ∙ limit_reached shared c.args.grown before after c.args.limit c.in_ok-shared.ensures.passes count done c.requires.low
-    c.take_over_all-pass.result takes some_pass (state_of_grown c.end.result) c.end.ensures.seen
+    c.end_retired.ensures.limit
+    ∙ limit_reached shared c.args.grown before after limit c.in_ok-shared.ensures.passes stopped.count stopped.done c.requires.low c.take_over_all-last.result takes some_pass
+    (state_of_grown c.end_retired.result) c.end_retired.ensures.seen
 
 pub returns-clause-grows : goal.returns-clause-grows
 returns-clause-grows g c =
     let shared = c.in_ok-shared.shared in
+    let limit = c.args.limit in
     let before = c.in_ok-shared.passes.items in
-    let after = c.work_all.new.passes in
-    let same : take c.in_ok-shared.passes.len (after ++ drop (length after) before) ≡ after =
-    ap (λ n. take n (after ++ drop (length after) before)) (sym (c.work_all.ensures.count ∙ c.as_mut_slice.ensures.len))
-    ∙ take-append_seam after (drop (length after) before) in
-    let count : length after ≡ length before = c.work_all.ensures.count ∙ ap (λ l. length l) c.as_mut_slice.ensures.value in
-    let done = subst (λ l. (k : ℕ) (d : PassState) → k < length l → HasDone shared c.args.limit (slice_index_or l k d) (slice_index_or after k d))
-    c.as_mut_slice.ensures.value c.work_all.ensures.each in
-    let takes = subst (λ l. HasTakenOver shared l c.take_over_all-pass.result) same c.take_over_all-pass.ensures.taken in
+    let crew = c.in_ok-crew.crew.items in
+    let worked = c.work_all.new.crew in
+    let after = left_of worked in
+    let is : c.as_mut_slice.result.now ≡ crew_with before = c.as_mut_slice.ensures.value ∙ c.in_ok-crew.ensures in
+    let stopped : HaveStopped shared limit before worked =
+    have_stopped shared limit before worked (c.work_all.ensures.count ∙ ap (λ (l : List Worker). length l) is)
+    (subst (λ l. (k : ℕ) (d : Worker) → k < length l → HasStopped shared limit (slice_index_or l k d) (slice_index_or worked k d)) is c.work_all.ensures.each) in
+    let same : take c.in_ok-crew.crew.len (worked ++ drop (length worked) crew) ≡ worked =
+    ap (λ n. take n (worked ++ drop (length worked) crew)) (sym (c.work_all.ensures.count ∙ c.as_mut_slice.ensures.len))
+    ∙ take-append_seam worked (drop (length worked) crew) in
+    let takes = subst (λ l. HasTakenOver shared (left_of l) c.take_over_all-last.result) same c.take_over_all-last.ensures.taken in
     let some_pass : 0 < length before = omega (arith, c.in_ok-shared.ensures.count, c.requires.some) in
-    GrowsInto-all shared c.args.grown before after c.args.limit c.in_ok-shared.ensures.passes count done c.requires.low
-    c.take_over_all-pass.result takes some_pass (state_of_grown c.end.result) c.end.ensures.seen
-    c.in_ok-shared.ensures.task
+    GrowsInto-all shared c.args.grown before after limit c.in_ok-shared.ensures.passes stopped.count stopped.done c.requires.low c.take_over_all-last.result takes some_pass
+    (state_of_grown c.end_retired.result) c.end_retired.ensures.seen c.in_ok-shared.ensures.task
 
 pub returns-clause-workers : goal.returns-clause-workers
 returns-clause-workers g c k entry is past =
-    omega (arith, c.end.ensures.workers k entry (omega (arith, c.in_ok-shared.ensures.opening, past)) is, c.in_ok-shared.ensures.workers)
+    omega (arith, c.end_retired.ensures.workers k entry (omega (arith, c.in_ok-shared.ensures.opening, past)) is, c.in_ok-shared.ensures.workers)
 
 pub returns-clause-textbook : goal.returns-clause-textbook
 returns-clause-textbook g c = λ one textbook.
     let shared = c.in_ok-shared.shared in
+    let limit = c.args.limit in
     let before = c.in_ok-shared.passes.items in
-    let after = c.work_all.new.passes in
-    let same : take c.in_ok-shared.passes.len (after ++ drop (length after) before) ≡ after =
-    ap (λ n. take n (after ++ drop (length after) before)) (sym (c.work_all.ensures.count ∙ c.as_mut_slice.ensures.len))
-    ∙ take-append_seam after (drop (length after) before) in
-    let count : length after ≡ length before = c.work_all.ensures.count ∙ ap (λ l. length l) c.as_mut_slice.ensures.value in
-    let done = subst (λ l. (k : ℕ) (d : PassState) → k < length l → HasDone shared c.args.limit (slice_index_or l k d) (slice_index_or after k d))
-    c.as_mut_slice.ensures.value c.work_all.ensures.each in
-    let takes = subst (λ l. HasTakenOver shared l c.take_over_all-pass.result) same c.take_over_all-pass.ensures.taken in
+    let crew = c.in_ok-crew.crew.items in
+    let worked = c.work_all.new.crew in
+    let after = left_of worked in
+    let is : c.as_mut_slice.result.now ≡ crew_with before = c.as_mut_slice.ensures.value ∙ c.in_ok-crew.ensures in
+    let stopped : HaveStopped shared limit before worked =
+    have_stopped shared limit before worked (c.work_all.ensures.count ∙ ap (λ (l : List Worker). length l) is)
+    (subst (λ l. (k : ℕ) (d : Worker) → k < length l → HasStopped shared limit (slice_index_or l k d) (slice_index_or worked k d)) is c.work_all.ensures.each) in
+    let same : take c.in_ok-crew.crew.len (worked ++ drop (length worked) crew) ≡ worked =
+    ap (λ n. take n (worked ++ drop (length worked) crew)) (sym (c.work_all.ensures.count ∙ c.as_mut_slice.ensures.len))
+    ∙ take-append_seam worked (drop (length worked) crew) in
+    let takes = subst (λ l. HasTakenOver shared (left_of l) c.take_over_all-last.result) same c.take_over_all-last.ensures.taken in
     let some_pass : 0 < length before = omega (arith, c.in_ok-shared.ensures.count, c.requires.some) in
-    let pass = c.take_over_all-pass.result in
+    let pass = c.take_over_all-last.result in
     let alone : length before ≡ 1 = c.in_ok-shared.ensures.count ∙ one in
     let only : pass ≡ slice_index_or after 0 pass =
-    c.take_over_all-pass.ensures.one (slice_index_or after 0 pass) (same ∙ one_of after pass (count ∙ alone)) in
-    let handled = HasHandled-alone shared c.args.grown before after c.args.limit c.in_ok-shared.ensures.passes count done c.requires.low pass alone
+    c.take_over_all-last.ensures.one (slice_index_or after 0 pass) (ap left_of same ∙ one_of after pass (stopped.count ∙ alone)) in
+    let handled = HasHandled-alone shared c.args.grown before after limit c.in_ok-shared.ensures.passes stopped.count stopped.done c.requires.low pass alone
     (c.in_ok-shared.ensures.workers ∙ one) c.in_ok-shared.ensures.task textbook in
-    let limit : c.end.result.limit ≡ c.args.limit =
-    c.end.ensures.limit ∙ limit_reached shared c.args.grown before after c.args.limit c.in_ok-shared.ensures.passes count done c.requires.low pass takes
-    some_pass (state_of_grown c.end.result) c.end.ensures.seen in
-    let seen : SeesTextbook pass.view c.end.result.limit =
-    subst (SeesTextbook pass.view) (sym limit) (subst (λ (p : PassState). SeesTextbook p.view c.args.limit) (sym only) handled.textbook) in
-    let lawful = subst (λ (p : PassState). IsLawfulView p.view) (sym only) (done 0 pass some_pass).goes_on.lawful in
-    IsOfTextbook-seen shared.task shared.workers shared.opening pass.view c.end.result lawful takes.may_claim.belongs.run c.end.ensures.task seen
-    c.end.ensures.same
+    let reached : c.end_retired.result.limit ≡ limit =
+    c.end_retired.ensures.limit ∙ limit_reached shared c.args.grown before after limit c.in_ok-shared.ensures.passes stopped.count stopped.done c.requires.low pass takes
+    some_pass (state_of_grown c.end_retired.result) c.end_retired.ensures.seen in
+    let seen : SeesTextbook pass.view c.end_retired.result.limit =
+    subst (SeesTextbook pass.view) (sym reached) (subst (λ (p : PassState). SeesTextbook p.view limit) (sym only) handled.textbook) in
+    let lawful = subst (λ (p : PassState). IsLawfulView p.view) (sym only) (stopped.done 0 pass some_pass).goes_on.lawful in
+    IsOfTextbook-seen shared.task shared.workers shared.opening pass.view c.end_retired.result lawful takes.may_claim.belongs.run c.end_retired.ensures.task
+    seen c.end_retired.ensures.same

@@ -1,56 +1,81 @@
 use Rattle.std.proofs.Common.{◌≡◌, sym, ap, ◌∙◌, subst, arith}
-use Rattle.std.specs.Prelude.{◌++◌, [], ◌∷◌, All, option_to_list}
+use Rattle.std.specs.Prelude.{◌++◌, [], ◌∷◌, All, IsSome, option_to_list}
 use Rattle.plan_words.specs.States.{MayClaim, PassState}
+use Rattle.plan_work.proofs.RetiredWorkers.{has_left, left_of-last, retired-front, retired-last}
 use Rattle.plan_work.proofs.TakenOver.{All-front, All-next, HasTakenOver-alone, HasTakenOver-more, not_alone, only, taken_next}
 use Rattle.plan_work.proofs.growing.take_over_all.Goals as goal
+use Rattle.plan_work.specs.Workers.{HasRetired, left_of}
 
 pub others-init : goal.others-init
 others-init c =
     let rest = c.pop.new.self.items in
-    let split : c.args.passes.items ≡ rest ++ c.in-Some.pass ∷ [] = c.pop.ensures.items ∙ ap (λ o. rest ++ option_to_list o) c.in-Some.is in
-    let all = subst (All (MayClaim c.args.shared.now)) split c.requires.may_claim in
+    let left = c.in-Some-left.taken in
+    let split : c.args.crew.items ≡ rest ++ c.in-Some.last ∷ [] = c.pop.ensures.items ∙ ap (λ o. rest ++ option_to_list o) c.in-Some.is in
+    let lefts : left_of c.args.crew.items ≡ left_of rest ++ left ∷ [] =
+    left_of-last c.args.crew.items rest c.in-Some.last left split (sym c.left.ensures ∙ c.in-Some-left.is) in
+    let all = subst (All (MayClaim c.args.shared.now)) lefts c.requires.may_claim in
     record {
-      rest = All-front (MayClaim c.args.shared.now) rest (c.in-Some.pass ∷ []) all;
-      taken = (c.in-Some.pass ∷ [], split, HasTakenOver-alone c.args.shared.now c.in-Some.pass (All-next (MayClaim c.args.shared.now) rest c.in-Some.pass all));
-      one = λ own is. only rest c.in-Some.pass own (sym split ∙ is);
+      retired = retired-front rest c.in-Some.last (subst (All HasRetired) split c.requires.retired);
+      rest = All-front (MayClaim c.args.shared.now) (left_of rest) (left ∷ []) all;
+      taken = (left ∷ [], lefts, HasTakenOver-alone c.args.shared.now left (All-next (MayClaim c.args.shared.now) (left_of rest) left all));
+      one = λ own is. only (left_of rest) left own (sym lefts ∙ is);
     }
 
-pub join-requires-clause-belongs_too : goal.join-requires-clause-belongs_too
-join-requires-clause-belongs_too c =
+pub unreachable-requires-in_default-left-2 : goal.unreachable-requires-in_default-left-2
+unreachable-requires-in_default-left-2 c =
     let rest = c.pop-in-others.new.self.items in
-    let split : c.others.others.items ≡ rest ++ c.in-Some-pop.other ∷ [] =
-    c.pop-in-others.ensures.items ∙ ap (λ o. rest ++ option_to_list o) c.in-Some-pop.is in
-    (All-next (MayClaim c.args.shared.now) rest c.in-Some-pop.other (subst (All (MayClaim c.args.shared.now)) split c.others.invariant.rest)).belongs
+    let other = c.in-Some-pop.other in
+    let split : c.others.others.items ≡ rest ++ other ∷ [] = c.pop-in-others.ensures.items ∙ ap (λ o. rest ++ option_to_list o) c.in-Some-pop.is in
+    let has : IsSome other.retired = retired-last rest other (subst (All HasRetired) split c.others.invariant.retired) in
+    has_left other.retired has (sym c.left-in-Some-pop.ensures ∙ c.in_default-left-2.is)
 
-pub join-requires-clause-idle_too : goal.join-requires-clause-idle_too
-join-requires-clause-idle_too c =
+pub join_retired-requires-clause-belongs_too : goal.join_retired-requires-clause-belongs_too
+join_retired-requires-clause-belongs_too c =
     let rest = c.pop-in-others.new.self.items in
+    let left = c.in-Some-left-2.retired in
     let split : c.others.others.items ≡ rest ++ c.in-Some-pop.other ∷ [] =
     c.pop-in-others.ensures.items ∙ ap (λ o. rest ++ option_to_list o) c.in-Some-pop.is in
-    (All-next (MayClaim c.args.shared.now) rest c.in-Some-pop.other (subst (All (MayClaim c.args.shared.now)) split c.others.invariant.rest)).idle
+    let lefts : left_of c.others.others.items ≡ left_of rest ++ left ∷ [] =
+    left_of-last c.others.others.items rest c.in-Some-pop.other left split (sym c.left-in-Some-pop.ensures ∙ c.in-Some-left-2.is) in
+    (All-next (MayClaim c.args.shared.now) (left_of rest) left (subst (All (MayClaim c.args.shared.now)) lefts c.others.invariant.rest)).belongs
+
+pub join_retired-requires-clause-idle_too : goal.join_retired-requires-clause-idle_too
+join_retired-requires-clause-idle_too c =
+    let rest = c.pop-in-others.new.self.items in
+    let left = c.in-Some-left-2.retired in
+    let split : c.others.others.items ≡ rest ++ c.in-Some-pop.other ∷ [] =
+    c.pop-in-others.ensures.items ∙ ap (λ o. rest ++ option_to_list o) c.in-Some-pop.is in
+    let lefts : left_of c.others.others.items ≡ left_of rest ++ left ∷ [] =
+    left_of-last c.others.others.items rest c.in-Some-pop.other left split (sym c.left-in-Some-pop.ensures ∙ c.in-Some-left-2.is) in
+    (All-next (MayClaim c.args.shared.now) (left_of rest) left (subst (All (MayClaim c.args.shared.now)) lefts c.others.invariant.rest)).idle
 
 pub others-preserved : goal.others-preserved
 others-preserved c =
     let rest = c.pop-in-others.new.self.items in
     let other = c.in-Some-pop.other in
+    let left = c.in-Some-left-2.retired in
+    let shared = c.args.shared.now in
     let split : c.others.others.items ≡ rest ++ other ∷ [] = c.pop-in-others.ensures.items ∙ ap (λ o. rest ++ option_to_list o) c.in-Some-pop.is in
-    let all = subst (All (MayClaim c.args.shared.now)) split c.others.invariant.rest in
+    let lefts : left_of c.others.others.items ≡ left_of rest ++ left ∷ [] =
+    left_of-last c.others.others.items rest other left split (sym c.left-in-Some-pop.ensures ∙ c.in-Some-left-2.is) in
+    let all = subst (All (MayClaim shared)) lefts c.others.invariant.rest in
     let taken = c.others.invariant.taken.0 in
     let takes = c.others.invariant.taken.2 in
-    let may : MayClaim c.args.shared.now c.join.new.pass = record {
-      belongs = c.join.ensures.belongs;
-      part = omega (arith, c.join.ensures.share, takes.may_claim.part);
-      idle = c.join.ensures.idle;
+    let may : MayClaim shared c.join_retired.new.retired = record {
+      belongs = c.join_retired.ensures.belongs;
+      part = omega (arith, c.join_retired.ensures.share, takes.may_claim.part);
+      idle = c.join_retired.ensures.idle;
     } in
     record {
-      rest = All-front (MayClaim c.args.shared.now) rest (other ∷ []) all;
+      retired = retired-front rest other (subst (All HasRetired) split c.others.invariant.retired);
+      rest = All-front (MayClaim shared) (left_of rest) (left ∷ []) all;
       taken = (
-        other ∷ taken,
-        taken_next c.args.passes.items c.others.others.items other rest taken c.others.invariant.taken.1 split,
-        HasTakenOver-more c.args.shared.now taken c.others.pass other c.join.new.pass takes may c.join.ensures.goes_on.later.seen c.join.ensures.others_seen
-            c.join.ensures.share (ap (λ (p : PassState). p.view.most) c.join.ensures.view),
+        left ∷ taken,
+        taken_next (left_of c.args.crew.items) (left_of c.others.others.items) left (left_of rest) taken c.others.invariant.taken.1 lefts,
+        HasTakenOver-more shared taken c.others.taken left c.join_retired.new.retired takes may c.join_retired.ensures.goes_on.later.seen
+            c.join_retired.ensures.others_seen c.join_retired.ensures.share (ap (λ (p : PassState). p.view.most) c.join_retired.ensures.view),
       );
       one = λ own is.
           absurd
-          (not_alone rest taken other own c.args.shared.now c.others.pass takes (sym is ∙ c.others.invariant.taken.1 ∙ ap (λ l. l ++ taken) split));
+          (not_alone (left_of rest) taken left own shared c.others.taken takes (sym is ∙ c.others.invariant.taken.1 ∙ ap (λ l. l ++ taken) lefts));
     }

@@ -1,16 +1,15 @@
-use Rattle.std.proofs.Common.{◌≡◌, suc, length, ap, ◌∙◌, subst, sym, arith}
-use Rattle.std.specs.Prelude.{IfSome, List}
-use Rattle.kd_shared.specs.Placings.{IsPlaced, IsPlacing, SeesPlacing}
+use Rattle.std.proofs.Common.{◌≡◌, suc, length, ap, ◌∙◌, subst, arith}
+use Rattle.std.specs.Prelude.{List}
+use Rattle.kd_shared.specs.Placings.{IsPlacing, SeesPlacing}
 use Rattle.kd_shared.specs.declared.placing.Placing.TheVariants.{Placed, Same}
 use Rattle.plan_words.specs.States.{PassState, with_view}
 use Rattle.plan_work.proofs.ExtendedAlone.{KeepsOthers-placing, KeepsOthers-then}
-use Rattle.plan_work.proofs.HeldMarks.{Holding, holding, if_held, of_held}
+use Rattle.plan_work.proofs.HeldMarks.{holding, if_held, of_held}
 use Rattle.plan_work.proofs.PostedNodes.{GoesOnPlacing-posted, HasBeenPlaced-posted, KeepsShare-posted, KeepsShare-trans, PostsGoalNode}
 use Rattle.plan_work.proofs.PostedNodes.{same_words, view_alone}
 use Rattle.plan_work.proofs.mark_placing.place_and_post.Goals as goal
 use Rattle.plan_work.specs.ExtensionSteps.{HasCome}
 use Rattle.plan_work.specs.WholeShares.{KeepsOthers}
-use Rattle.step_core.specs.declared.views.Hand.{Hand}
 use Rattle.step_core.specs.declared.views.Member.{Member}
 
 pub post_goal_node-requires-clause-part : goal.post_goal_node-requires-clause-part

@@ -1,4 +1,4 @@
-use Rattle.std.proofs.Common.{◌≡◌, ◌+◌, ◌^◌, ◌≤◌, suc, true, false, ap, ◌∙◌, subst, sym, arith, refl}
+use Rattle.std.proofs.Common.{◌≡◌, ◌+◌, ◌^◌, ◌≤◌, suc, ap, ◌∙◌, subst, sym, arith}
 use Rattle.plan_model.specs.Trees.BestNode.{lies_in_goals}
 use Rattle.plan_words.proofs.GoingOn.{BelongsTo-later}
 use Rattle.plan_words.proofs.Posting.{goal-at}

@@ -1,4 +1,4 @@
-use Rattle.std.proofs.Common.{◌≡◌, List, length, sym, ap, ◌∙◌, subst, arith}
+use Rattle.std.proofs.Common.{List, length, sym, ap, ◌∙◌, subst, arith}
 use Rattle.std.specs.Prelude.{All}
 use Rattle.plan_model.specs.Geometry.Bounds.{IsBounded, IsBoundedBox}
 use Rattle.plan_model.specs.Runs.ClosedLaw.{mark_at}

@@ -1,5 +1,4 @@
-use Rattle.std.proofs.Common.{◌≡◌, ◌<◌, ◌≤◌, true, false, Some, None, length, refl, sym, ap, ◌∙◌, subst, arith}
-use Rattle.std.specs.Prelude.{IfSome}
+use Rattle.std.proofs.Common.{length, refl, sym, ap, ◌∙◌, subst, arith}
 use Rattle.plan_model.specs.Geometry.Bounds.{IsBounded}
 use Rattle.plan_model.specs.Runs.ClosedLaw.{mark_at}
 use Rattle.plan_model.specs.declared.tasks.Task.{Task}
@@ -8,7 +7,6 @@ use Rattle.plan_work.proofs.HeldMarks.{mark_low}
 use Rattle.plan_work.proofs.SkippingMarks.{IsUnskipped-above, IsUnskipped-none, IsUnskipped-plain, KeepsRecords-loaded, KeepsRecords-refl}
 use Rattle.plan_work.proofs.SkippingMarks.{FindsGoalNode-found, MayBeSkipped-loaded, MayExtend-loaded, informed_here}
 use Rattle.plan_work.proofs.mark_skipping.skipper.Goals as goal
-use Rattle.plan_work.specs.ExtensionSteps.{HasLoadedBest}
 use Rattle.step_core.specs.declared.views.SharedRun.{SharedRun}
 
 pub best-requires-clause-informed : goal.best-requires-clause-informed

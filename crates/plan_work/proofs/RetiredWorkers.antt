@@ -1,0 +1,135 @@
+-- What is left of the passes of workers, once these have worked.
+use Rattle.std.proofs.Common.{◌≡◌, ℕ, zero, suc, ◌<◌, List, length, ap, ◌∙◌, sym, subst, arith, refl, Option, None, Some}
+use Rattle.std.specs.Prelude.{◌++◌, [], ◌∷◌, All, IsSome, option_to_list, slice_index_or}
+use Rattle.plan_words.specs.Claims.{AllFull}
+use Rattle.plan_words.specs.States.{GoesOn, MayClaim, PassState, SharedState, new_pass}
+use Rattle.plan_work.specs.OneWorker.{HandlesRest}
+use Rattle.plan_work.specs.Workers.{HasDone, HasRetired, HasStopped, HasWorked, IsReady, crew_with, left_of}
+use Rattle.plan_work.specs.declared.growing.Worker.{Worker}
+
+MayClaim-retired : (shared : SharedState) (pass : PassState) → MayClaim shared pass → MayClaim shared (new_pass pass.table pass.view)
+MayClaim-retired shared pass may = record {
+  belongs = record { table = may.belongs.table; run = may.belongs.run; lawful = may.belongs.lawful };
+  part = may.part;
+  idle = may.idle;
+}
+
+-- A pass that has worked has done so when its lists are given back.
+pub HasDone-retired :
+    (shared : SharedState) (limit : ℕ) (before after left : PassState) → GoesOn before.view after.view → HasWorked shared before after limit
+    → AllFull after.view limit → (shared.workers ≡ 1 → HandlesRest before.view after.view limit) → left ≡ new_pass after.table after.view
+    → HasDone shared limit before left
+HasDone-retired shared limit before after left goes_on worked full textbook is =
+    subst (HasDone shared limit before) (sym is)
+    (record {
+      goes_on = goes_on;
+      worked = record {
+        may_claim = MayClaim-retired shared after worked.may_claim;
+        same_share = worked.same_share;
+        worker = worked.worker;
+        most = worked.most;
+      };
+      none_left = full;
+      textbook = textbook;
+    })
+
+-- ---- all of them
+
+-- each worker is ready whose pass may claim
+pub all_ready : (shared : SharedState) (passes : List PassState) → All (MayClaim shared) passes → All (IsReady shared) (crew_with passes)
+all_ready shared [] may k d low = absurd (omega (arith, low))
+all_ready shared (pass ∷ passes) may zero d low = record { pass = pass; has = cc; may_claim = may 0 pass (omega arith) }
+all_ready shared (pass ∷ passes) may (suc k) d low =
+    all_ready shared passes (λ j e below. may (suc j) e (omega (arith, below))) k d (omega (arith, low))
+
+-- What is left of a worker whose pass is known.
+record IsLeftBy (shared : SharedState) (limit : ℕ) (pass : PassState) (after : Worker) : Type 0 where
+  left : PassState
+  has : after.retired ≡ Some left
+  done : HasDone shared limit pass left
+
+IsLeftBy-stopped :
+    (shared : SharedState) (limit : ℕ) (pass : PassState) (after : Worker)
+    → HasStopped shared limit (record { pass = Some pass; retired = None }) after → IsLeftBy shared limit pass after
+IsLeftBy-stopped shared limit pass after stopped = record {
+  left = stopped.left;
+  has = stopped.has;
+  done = subst (λ p. HasDone shared limit p stopped.left) (sym (same_pass pass stopped.pass stopped.had)) stopped.done;
+}
+  where
+    same_pass : (one other : PassState) → Some one ≡ Some other → one ≡ other
+    same_pass one other same = cc
+
+-- Of as many workers as passes, each of which has stopped, as much is left, and that of each has done its part.
+pub record HaveStopped (shared : SharedState) (limit : ℕ) (passes : List PassState) (crew : List Worker) : Type 0 where
+  pub retired : All HasRetired crew
+  pub count : length (left_of crew) ≡ length passes
+  pub done : (k : ℕ) (d : PassState) → k < length passes → HasDone shared limit (slice_index_or passes k d) (slice_index_or (left_of crew) k d)
+
+pub have_stopped :
+    (shared : SharedState) (limit : ℕ) (passes : List PassState) (crew : List Worker) → length crew ≡ length (crew_with passes)
+    → ((k : ℕ) (d : Worker) → k < length (crew_with passes) → HasStopped shared limit (slice_index_or (crew_with passes) k d) (slice_index_or crew k d))
+    → HaveStopped shared limit passes crew
+have_stopped shared limit [] [] same each = record {
+  retired = λ k d low. absurd (omega (arith, low));
+  count = omega arith;
+  done = λ k d low. absurd (omega (arith, low));
+}
+have_stopped shared limit [] (worker ∷ crew) same each = absurd (omega (arith, same))
+have_stopped shared limit (pass ∷ passes) [] same each = absurd (omega (arith, same))
+have_stopped shared limit (pass ∷ passes) (worker ∷ crew) same each =
+    let first = IsLeftBy-stopped shared limit pass worker (each 0 worker (omega arith)) in
+    let rest = have_stopped shared limit passes crew (omega (arith, same)) (λ k d low. each (suc k) d (omega (arith, low))) in
+    let here : option_to_list worker.retired ≡ first.left ∷ [] = ap (λ o. option_to_list o) first.has in
+    let all : left_of (worker ∷ crew) ≡ first.left ∷ left_of crew = ap (λ l. l ++ left_of crew) here in
+    record {
+      retired = all_retired first.left first.has rest.retired;
+      count = omega (arith, ap (λ (l : List PassState). length l) all, rest.count);
+      done = λ k d low. subst (λ l. HasDone shared limit (slice_index_or (pass ∷ passes) k d) (slice_index_or l k d)) (sym all)
+          (each_done first.left first.done rest.done k d low);
+    }
+  where
+    all_retired : (left : PassState) → worker.retired ≡ Some left → All HasRetired crew → All HasRetired (worker ∷ crew)
+    all_retired left has others zero d low = subst (λ o. IsSome o) (sym has) refl
+    all_retired left has others (suc k) d low = others k d (omega (arith, low))
+
+    each_done :
+        (left : PassState) → HasDone shared limit pass left
+        → ((k : ℕ) (d : PassState) → k < length passes → HasDone shared limit (slice_index_or passes k d) (slice_index_or (left_of crew) k d))
+        → (k : ℕ) (d : PassState) → k < suc (length passes)
+        → HasDone shared limit (slice_index_or (pass ∷ passes) k d) (slice_index_or (left ∷ left_of crew) k d)
+    each_done left own others zero d low = own
+    each_done left own others (suc k) d low = others k d (omega (arith, low))
+
+-- ---- one after another
+
+-- what is left of some, and of the one that comes next
+pub left_of-append : (front back : List Worker) → left_of (front ++ back) ≡ left_of front ++ left_of back
+left_of-append [] back = cc
+left_of-append (worker ∷ front) back =
+    ap (λ l. option_to_list worker.retired ++ l) (left_of-append front back) ∙ sym_append (option_to_list worker.retired) (left_of front) (left_of back)
+  where
+    sym_append : (one two three : List PassState) → one ++ (two ++ three) ≡ (one ++ two) ++ three
+    sym_append [] two three = cc
+    sym_append (x ∷ one) two three = ap (λ l. x ∷ l) (sym_append one two three)
+
+pub left_of-last :
+    (all rest : List Worker) (last : Worker) (left : PassState) → all ≡ rest ++ last ∷ [] → last.retired ≡ Some left
+    → left_of all ≡ left_of rest ++ left ∷ []
+left_of-last all rest last left is has =
+    ap left_of is ∙ left_of-append rest (last ∷ []) ∙ ap (λ o. left_of rest ++ (option_to_list o ++ [])) has
+
+-- one that has retired has something left
+pub has_left : (left : Option PassState) → IsSome left → left ≡ None → ⊥
+has_left (Some left) some none = cc
+has_left None some none = cc
+
+-- the last of some that have retired has, and so have those before it
+pub retired-front : (rest : List Worker) (last : Worker) → All HasRetired (rest ++ last ∷ []) → All HasRetired rest
+retired-front [] last all k d low = absurd (omega (arith, low))
+retired-front (x ∷ rest) last all zero d low = all 0 d (omega arith)
+retired-front (x ∷ rest) last all (suc k) d low = retired-front rest last (λ j e below. all (suc j) e (omega (arith, below))) k d (omega (arith, low))
+
+pub retired-last : (rest : List Worker) (last : Worker) → All HasRetired (rest ++ last ∷ []) → HasRetired last
+retired-last [] last all = all 0 last (omega arith)
+retired-last (x ∷ rest) last all = retired-last rest last (λ j e below. all (suc j) e (omega (arith, below)))
