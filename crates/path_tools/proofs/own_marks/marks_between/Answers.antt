@@ -21,6 +21,22 @@ loop-turn-init c = record {
   bounded = subst (All (λ (m : Numbered). IsBounded m.point)) (sym c.new-marks.ensures.items) (λ i d low. absurd (omega (arith, low)));
 }
 
+pub bounds-points-number : goal.bounds-points-number
+bounds-points-number c =
+    let records = c.args.records.now in
+    let worker = c.args.turns.now.worker in
+    let turn = c.loop-turn.turn in
+    let told : IsMarkOfTurn records worker turn c.index.result.now =
+    subst (IsMarkOfTurn records worker turn)
+    (get_or_default c.args.turns.now.marks.items turn None c.index.result.now (omega (arith, c.loop-turn-test.true, c.requires.to)) ∙ sym c.index.ensures)
+    (c.requires.turns turn (omega (arith, c.loop-turn-test.true, c.requires.to))) in
+    let inside : c.in-Some.number < length records =
+    subst (λ o. IfSome o (λ m. m < length records)) c.in-Some.is (low_mark records worker turn c.index.result.now told) in
+    omega (arith, inside, c.requires.marks, ap length c.as_slice-points.ensures)
+
+pub new-requires : goal.new-requires
+new-requires c = c.loop-turn.invariant.bounded
+
 pub loop-turn-preserved : goal.loop-turn-preserved
 loop-turn-preserved c =
     let records = c.args.records.now in

@@ -1,11 +1,29 @@
-use Rattle.std.proofs.Common.{◌≡◌, suc, [], ◌∷◌, ◌++◌, None, length, length-append, arith, ap, ◌∙◌, subst, inl, inr}
-use Rattle.std.specs.Prelude.{slice_index_or}
+use Rattle.std.proofs.Common.{◌≡◌, ℕ, suc, [], ◌∷◌, ◌++◌, ◌<◌, ◌≤◌, Option, Some, None, length, length-append, arith, sym, ap, ◌∙◌, subst, inl, inr}
+use Rattle.std.specs.Prelude.{IfSome, slice_index_or}
 use Rattle.step_core.specs.PackedRuns.{state_of_lists}
 use Rattle.std.proofs.lemmas.Bool.{cases_lt}
 use Rattle.std.proofs.lemmas.List.{get_or_push}
+use Rattle.plan_model.specs.declared.limits.TheConstants.{MOST_MARKS}
+use Rattle.path_tools.specs.SeenNodes.{IsMarkOfTurn}
 use Rattle.path_tools.specs.Standings.{no_standing, standing_at, standing_of}
+use Rattle.path_tools.proofs.SeenTurns.{low_mark}
 use Rattle.path_tools.proofs.StandingLaws.{AreStandings-all, node_of_mark, node_of_some, standing_pushed}
 use Rattle.path_tools.proofs.standings.standings.Goals as goal
+
+low_node : (limit most : ℕ) (o : Option ℕ) → limit ≤ most → IfSome o (λ m. m < limit) → IfSome o (λ m. suc m ≤ most)
+low_node limit most None few h = tt
+low_node limit most (Some mark) few h = omega (arith, few, h)
+
+pub node_of-requires : goal.node_of-requires
+node_of-requires c =
+    let records = c.args.records.now in
+    let worker = c.args.turns.now.worker in
+    let index = c.loop-mark.mark-index in
+    let mark = slice_index_or c.deref-mark-items.result.now index None in
+    let told : IsMarkOfTurn records worker index mark =
+    subst (λ os. IsMarkOfTurn records worker index (slice_index_or os index None)) (sym c.deref-mark-items.ensures.value)
+    (c.requires.turns index (omega (arith, c.loop-mark-test.true, ap length c.deref-mark-items.ensures.value))) in
+    low_node (length records) MOST_MARKS mark c.requires.few (low_mark records worker index mark told)
 
 pub loop-mark-preserved : goal.loop-mark-preserved
 loop-mark-preserved c =
