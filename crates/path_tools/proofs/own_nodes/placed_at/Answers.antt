@@ -1,11 +1,32 @@
 use Rattle.std.proofs.Common.{◌+◌, ◌≡◌, Some, length, suc, arith, refl, sym, ap, ◌∙◌}
 use Rattle.std.specs.Prelude.{None, slice_index_or}
-use Rattle.std.proofs.lemmas.Option.{slice_get_read}
+use Rattle.std.proofs.lemmas.Bool.{true≢false}
+use Rattle.std.proofs.lemmas.Option.{slice_get_read, slice_get_within}
 use Rattle.plan_model.specs.declared.records.Record.{Record}
 use Rattle.plan_model.specs.Runs.Outcomes.{is_placed}
 use Rattle.path_tools.proofs.ListedNodes.{none-stands, stands-listed}
 use Rattle.path_tools.proofs.OwnNodeLaws.{is_placed_at, not_placed}
 use Rattle.path_tools.proofs.own_nodes.placed_at.Goals as goal
+
+pub returns-then-mark-records : goal.returns-then-mark-records
+returns-then-mark-records c =
+    let records = c.args.records.now in
+    let mark = c.in-Some.mark in
+    not_placed c.args.knots.now records c.args.mark mark c.in-Some.is
+    (λ p placed. omega (arith, slice_get_within records mark placed.entry placed.at, c.if-mark-records.true))
+
+pub returns-then-not-is_placed : goal.returns-then-not-is_placed
+returns-then-not-is_placed c =
+    let records = c.args.records.now in
+    let mark = c.in-Some.mark in
+    let entry = c.index-records-mark.result in
+    let at = slice_get_read records (length records) mark entry refl (omega (arith, c.if-mark-records.false)) c.index-records-mark.is in
+    not_placed c.args.knots.now records c.args.mark mark c.in-Some.is
+    (λ p placed.
+    let both : Some placed.entry ≡ Some entry = sym placed.at ∙ at in
+    let same : placed.entry ≡ entry = cc in
+    let own = ap (λ (r : Record). is_placed r.outcome) (same ∙ c.index-records-mark.is) in
+    true≢false (sym placed.placed ∙ own ∙ sym c.is_placed.ensures ∙ c.if-not-is_placed.true))
 
 pub returns-in-Some-knot_at : goal.returns-in-Some-knot_at
 returns-in-Some-knot_at c =

@@ -1,5 +1,6 @@
 use Rattle.std.proofs.Common.{◌≡◌, suc, ◌+◌, ◌-◌, ◌*◌, ◌≤◌, None, arith, sym, ap, ◌∙◌, subst}
 use Rattle.std.specs.Prelude.{slice_index_or}
+use Rattle.std.proofs.lemmas.Bool.{true≢false}
 use Rattle.plan_model.specs.declared.trees.Knot.{Knot}
 use Rattle.plan_model.specs.Runs.OrderLaw.{Hangs}
 use Rattle.plan_model.specs.Runs.Textbook.{setup_of}
@@ -14,6 +15,48 @@ returns-then-not-stands_at-clause-only g c = λ h bad.
     let next : suc c.args.mark ≡ c.args.mark + 1 = omega arith in
     c.stands_at.ensures.only c.if-not-stands_at.true c.args.judged.now.records.now
     (subst (λ n. StandsAt (run_of c.args.judged.now).points n c.args.p) next bad.stands)
+
+pub returns-then-not-stands_at-clause-lawful : goal.returns-then-not-stands_at-clause-lawful
+returns-then-not-stands_at-clause-lawful g c = λ h. absurd (true≢false (sym h))
+
+pub returns-then-kept_cost-entry-clause-lawful : goal.returns-then-kept_cost-entry-clause-lawful
+returns-then-kept_cost-entry-clause-lawful g c = λ h. absurd (true≢false (sym h))
+
+pub returns-then-entry-node-clause-lawful : goal.returns-then-entry-node-clause-lawful
+returns-then-entry-node-clause-lawful g c = λ h. absurd (true≢false (sym h))
+
+pub returns-then-entry-from-clause-lawful : goal.returns-then-entry-from-clause-lawful
+returns-then-entry-from-clause-lawful g c = λ h. absurd (true≢false (sym h))
+
+pub returns-then-not-is_within_first-clause-lawful : goal.returns-then-not-is_within_first-clause-lawful
+returns-then-not-is_within_first-clause-lawful g c = λ h. absurd (true≢false (sym h))
+
+pub returns-then-not-is_within_first-2-clause-lawful : goal.returns-then-not-is_within_first-2-clause-lawful
+returns-then-not-is_within_first-2-clause-lawful g c = λ h. absurd (true≢false (sym h))
+
+pub returns-then-kept_cost-entry-clause-only : goal.returns-then-kept_cost-entry-clause-only
+returns-then-kept_cost-entry-clause-only g c = λ h bad.
+    let next : suc c.args.mark ≡ c.args.mark + 1 = omega arith in
+    omega (
+      arith,
+      bad.kept,
+      c.if-kept_cost-entry.true,
+      c.kept_cost.ensures,
+      ap (λ n. kept_cost_of (slice_index_or c.args.judged.now.knots.now n None)) next,
+    )
+
+pub returns-then-entry-node-clause-only : goal.returns-then-entry-node-clause-only
+returns-then-entry-node-clause-only g c = λ h bad.
+    let next : suc c.args.mark ≡ c.args.mark + 1 = omega arith in
+    bad.nearest_other (c.if-entry-node.true ∙ sym next)
+
+pub returns-then-not-is_within_first-clause-only : goal.returns-then-not-is_within_first-clause-only
+returns-then-not-is_within_first-clause-only g c = λ h bad.
+    c.is_within_first.ensures.only c.if-not-is_within_first.true (record { present = c.requires.nearest; within = bad.below_nearest })
+
+pub returns-then-not-is_within_first-2-clause-only : goal.returns-then-not-is_within_first-2-clause-only
+returns-then-not-is_within_first-2-clause-only g c = λ h bad.
+    c.is_within_first-2.ensures.only c.if-not-is_within_first-2.true (record { present = bad.first.present; within = bad.below_first })
 
 pub returns-clause-lawful : goal.returns-clause-lawful
 returns-clause-lawful g c = λ h.
