@@ -1,6 +1,6 @@
 use Rattle.std.proofs.Common.{◌≡◌, Bool, true, cond, [], Some, None, arith, sym, ap, ◌∙◌}
 use Rattle.std.specs.Prelude.{slice_index_or}
-use Rattle.std.proofs.lemmas.Bool.{leb-true, true≢false}
+use Rattle.std.proofs.lemmas.Bool.{leb-false, leb-true, true≢false}
 use Rattle.plan_model.specs.declared.scenes.Scene.{Scene}
 use Rattle.plan_model.specs.Runs.Textbook.{mark_bound, setup_of, skipping_goals}
 use Rattle.plan_model.specs.Trees.BestNode.{is_goal_point, lies_in_goals}
@@ -49,3 +49,21 @@ returns-else-lies_in_goals-clause-only c = λ h bad.
     ∙ ap (λ gs. is_goal_point gs (point_at run.points c.args.entry.nearest)) (sym goals) ∙ bad.goal in
     true≢false
     (sym inside ∙ ap (λ gs. lies_in_goals gs c.in-Some.goal.point) (sym c.as_slice.ensures) ∙ sym c.lies_in_goals.ensures ∙ c.if-lies_in_goals.false)
+
+pub returns-then-lies_in_goals-clause-only : goal.returns-then-lies_in_goals-clause-only
+returns-then-lies_in_goals-clause-only c = λ h bad.
+    let scene = c.args.scene.now in
+    let goals = informed_goals scene c.if-not-scene.false in
+    let bound : c.bound.result ≡ mark_bound (setup_of scene) c.args.point =
+    c.bound.ensures.value ∙ ap (λ gs. bound_of scene.start gs c.args.point) (c.as_slice-then-lies_in_goals.ensures ∙ sym goals) in
+    let at : slice_index_or c.args.judged.now.knots.now c.args.entry.nearest None ≡ Some c.in-Some.goal = sym c.in-Some.ensures in
+    omega (arith, leb-false c.in-Some.goal.cost c.bound.result h, bound, ap kept_cost_of at, bad.within)
+
+pub returns-else-lies_in_goals-clause-lawful : goal.returns-else-lies_in_goals-clause-lawful
+returns-else-lies_in_goals-clause-lawful c = λ h. absurd (true≢false (sym h ∙ c.if-lies_in_goals.false))
+
+pub returns-in_default-clause-lawful : goal.returns-in_default-clause-lawful
+returns-in_default-clause-lawful c = λ h. absurd (true≢false (sym h))
+
+pub returns-then-not-scene-clause-lawful : goal.returns-then-not-scene-clause-lawful
+returns-then-not-scene-clause-lawful c = λ h. absurd (true≢false (sym h))
