@@ -13,6 +13,48 @@ use Rattle.path_tools.specs.JudgedRuns.{AreRadiiOf, run_of}
 use Rattle.path_tools.proofs.SeenLaws.{count_before-earlier}
 use Rattle.path_tools.proofs.lawful_marks.is_chosen_lawfully.Goals as goal
 
+pub has_class-requires-clause-judged : goal.has_class-requires-clause-judged
+has_class-requires-clause-judged g c = c.requires.asked.judges
+
+pub radius_of_class-radius-requires-clause-low : goal.radius_of_class-radius-requires-clause-low
+radius_of_class-radius-requires-clause-low g c = (c.has_class.ensures.range c.if-not-has_class.false).0
+
+pub radius_of_class-radius-requires-clause-high : goal.radius_of_class-radius-requires-clause-high
+radius_of_class-radius-requires-clause-high g c = (c.has_class.ensures.range c.if-not-has_class.false).1
+
+pub is_nearest_and_keeps_near-requires-clause-mark : goal.is_nearest_and_keeps_near-requires-clause-mark
+is_nearest_and_keeps_near-requires-clause-mark g c κs within = c.requires.point
+
+pub is_nearest_and_keeps_near-requires-clause-bounded : goal.is_nearest_and_keeps_near-requires-clause-bounded
+is_nearest_and_keeps_near-requires-clause-bounded g c κs within = c.requires.asked.bounded
+
+pub is_nearest_and_keeps_near-requires-clause-judged : goal.is_nearest_and_keeps_near-requires-clause-judged
+is_nearest_and_keeps_near-requires-clause-judged g c κs within = c.requires.asked.judges
+
+pub is_nearest_and_keeps_near-requires-clause-turn : goal.is_nearest_and_keeps_near-requires-clause-turn
+is_nearest_and_keeps_near-requires-clause-turn g c κs within = c.requires.asked.turn
+
+pub is_nearest_and_keeps_near-requires-clause-nearest : goal.is_nearest_and_keeps_near-requires-clause-nearest
+is_nearest_and_keeps_near-requires-clause-nearest g c κs within = c.requires.nearest
+
+pub returns-then-not-has_class-clause-lawful : goal.returns-then-not-has_class-clause-lawful
+returns-then-not-has_class-clause-lawful g c = λ h. absurd (true≢false (sym h))
+
+pub returns-then-not-has_class-clause-nearest : goal.returns-then-not-has_class-clause-nearest
+returns-then-not-has_class-clause-nearest g c = λ h. absurd (true≢false (sym h))
+
+pub returns-then-not-has_class-clause-only : goal.returns-then-not-has_class-clause-only
+returns-then-not-has_class-clause-only g c = λ h all bad. c.has_class.ensures.only c.if-not-has_class.true bad.of_class
+
+pub returns-then-not-is_clear_from_nearest-clause-lawful : goal.returns-then-not-is_clear_from_nearest-clause-lawful
+returns-then-not-is_clear_from_nearest-clause-lawful g c = λ h. absurd (true≢false (sym h))
+
+pub returns-then-not-is_clear_from_nearest-clause-nearest : goal.returns-then-not-is_clear_from_nearest-clause-nearest
+returns-then-not-is_clear_from_nearest-clause-nearest g c = λ h. absurd (true≢false (sym h))
+
+pub returns-clause-nearest : goal.returns-clause-nearest
+returns-clause-nearest g c = λ h. c.is_nearest_and_keeps_near.ensures.nearest h
+
 pub has_class-requires-clause-seen : goal.has_class-requires-clause-seen
 has_class-requires-clause-seen g c = c.requires.seen.counted ∙ sym (count_before-earlier (run_of c.args.judged.now) c.args.entry)
 

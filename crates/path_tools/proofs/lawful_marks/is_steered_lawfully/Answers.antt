@@ -8,6 +8,21 @@ use Rattle.path_tools.specs.MarkLaws.{EndsLawfully}
 use Rattle.path_tools.proofs.ListedNodes.{none-present, point_of-listed, present-listed}
 use Rattle.path_tools.proofs.lawful_marks.is_steered_lawfully.Goals as goal
 
+pub ends_lawfully-requires-clause-point : goal.ends_lawfully-requires-clause-point
+ends_lawfully-requires-clause-point g c κs within = c.requires.asked.bounded
+
+pub ends_lawfully-requires-clause-low : goal.ends_lawfully-requires-clause-low
+ends_lawfully-requires-clause-low g c κs within = c.requires.low
+
+pub ends_lawfully-requires-clause-seen : goal.ends_lawfully-requires-clause-seen
+ends_lawfully-requires-clause-seen g c κs within = c.requires.seen
+
+pub returns-in_default-clause-lawful : goal.returns-in_default-clause-lawful
+returns-in_default-clause-lawful g c = λ h. absurd (true≢false (sym h))
+
+pub returns-then-not-may_be_cheaper-clause-lawful : goal.returns-then-not-may_be_cheaper-clause-lawful
+returns-then-not-may_be_cheaper-clause-lawful g c = λ h. absurd (true≢false (sym h))
+
 pub returns-in_default-clause-only : goal.returns-in_default-clause-only
 returns-in_default-clause-only g c = λ h bad.
     none-present c.args.judged.now.knots.now c.args.judged.now.records.now c.args.entry.nearest (sym c.knot_at.ensures ∙ c.in_default.is) bad.present

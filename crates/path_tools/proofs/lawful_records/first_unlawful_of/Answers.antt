@@ -9,6 +9,21 @@ use Rattle.path_tools.specs.JudgedRuns.{KeepsRecordBetween}
 use Rattle.path_tools.proofs.RecordBreaks.{IsFirstBreak-stretch, IsFirstBreak-turns}
 use Rattle.path_tools.proofs.lawful_records.first_unlawful_of.Goals as goal
 
+pub own_run-requires-clause-few : goal.own_run-requires-clause-few
+own_run-requires-clause-few g c = c.requires.listed.few
+
+pub own_run-requires-clause-numbers : goal.own_run-requires-clause-numbers
+own_run-requires-clause-numbers g c = c.requires.listed.numbers
+
+pub own_run-requires-clause-own : goal.own_run-requires-clause-own
+own_run-requires-clause-own g c = c.requires.listed.own
+
+pub first_unlawful_between-requires-clause-hall : goal.first_unlawful_between-requires-clause-hall
+first_unlawful_between-requires-clause-hall g c κs within = c.requires.hall
+
+pub first_unlawful_between-requires-clause-listed : goal.first_unlawful_between-requires-clause-listed
+first_unlawful_between-requires-clause-listed g c κs within = c.requires.listed
+
 pub own_run-requires-clause-turns : goal.own_run-requires-clause-turns
 own_run-requires-clause-turns g c =
     let records = c.args.listed.now.records.now in
