@@ -12,7 +12,7 @@ use plan_model::{Goal, Knot, Memory, Record};
 use std::alloc::Global;
 
 /// The marks of a worker by its turns, what it has seen before each of them, and what its nodes cost.
-#[derive(Debug, Drop)]
+#[derive(Drop)]
 pub(crate) struct OwnRun {
     /// Its marks.
     pub turns: OwnTurns,

@@ -8,7 +8,7 @@ use plan_model::{Memory, Record};
 use std::alloc::Global;
 
 /// Which mark a worker handled in each of its turns.
-#[derive(Debug, Drop)]
+#[derive(Drop)]
 pub(crate) struct OwnTurns {
     /// The worker.
     pub worker: u32,

@@ -9,7 +9,7 @@ use edge_cost::{cost, costs_less_through};
 use plan_model::Point;
 
 /// A way on from a position of a path to its end.
-#[derive(Clone, Copy, Debug)]
+#[derive(Clone, Copy)]
 pub(crate) struct Rest {
     /// What it costs, in 256ths of a lattice step.
     pub cost: u64,

@@ -14,7 +14,7 @@ use plan_model::{Goal, Knot, Memory, Record};
 use std::alloc::Global;
 
 /// What a worker has seen of its own nodes.
-#[derive(Clone, Copy, Debug)]
+#[derive(Clone, Copy)]
 pub(crate) struct Seen {
     /// How many there are, the start included.
     pub nodes: u32,

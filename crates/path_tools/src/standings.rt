@@ -13,7 +13,7 @@ use plan_model::{Knot, Memory, Record};
 use std::alloc::Global;
 
 /// What a node cost when it was placed, and what it costs now, in 256ths of a lattice step.
-#[derive(Clone, Copy, Debug)]
+#[derive(Clone, Copy)]
 pub(crate) struct Standing {
     /// The node.
     pub node: u32,

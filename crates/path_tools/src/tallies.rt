@@ -11,7 +11,7 @@ ghost use Rattle.path_tools.specs.SheetLaws.{skipped_of};
 use plan_model::{Outcome, Record};
 
 /// The counts of a report: of nodes, and of marks by what became of them.
-#[derive(Clone, Copy, Debug, PartialEq, Eq)]
+#[derive(Clone, Copy, PartialEq, Eq)]
 pub(crate) struct Tally {
     /// The nodes.
     pub nodes: u64,
@@ -46,7 +46,7 @@ pub(crate) fn counted(informed: bool, nodes: u32, records: &[Record]) -> Tally
 }
 
 /// How many marks had each outcome.
-#[derive(Clone, Copy, Debug)]
+#[derive(Clone, Copy)]
 struct Counts {
     placed: u64,
     same: u64,

@@ -11,8 +11,8 @@ returns-then-is_bad-clause-some g c = λ h. record {
   before = c.loop-position-test.true;
   bad =
       subst
-      (IsUnlawfulAt (g.C.Clearing.space c.args.hall.now) c.args.judged.now.standings.now c.args.search.turn c.args.search.first_cost c.args.search.square
-      c.args.search.distance c.args.search.number c.args.search.point) c.at.ensures.value (c.is_bad.ensures.bad c.if-is_bad.true);
+      (IsUnlawfulAt (g.C.Clearing.space c.args.hall.now) c.args.judged.now.standings.now c.args.search.turn c.args.search.first_cost
+      c.args.search.square c.args.search.distance c.args.search.number c.args.search.point) c.at.ensures.value (c.is_bad.ensures.bad c.if-is_bad.true);
 }
 
 pub loop-position-preserved : goal.loop-position-preserved
@@ -23,7 +23,7 @@ loop-position-preserved g c = λ j from before bad.
           let here : j ≡ c.loop-position.position = omega (arith, before, past) in
           c.is_bad.ensures.only c.if-is_bad.false
           (subst
-          (IsUnlawfulAt (g.C.Clearing.space c.args.hall.now) c.args.judged.now.standings.now c.args.search.turn c.args.search.first_cost c.args.search.square
-          c.args.search.distance c.args.search.number c.args.search.point)
+          (IsUnlawfulAt (g.C.Clearing.space c.args.hall.now) c.args.judged.now.standings.now c.args.search.turn c.args.search.first_cost
+          c.args.search.square c.args.search.distance c.args.search.number c.args.search.point)
           (ap (numbered_at c.args.judged.now.own.now) here ∙ sym c.at.ensures.value) bad))
     ]

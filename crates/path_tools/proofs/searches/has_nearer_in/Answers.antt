@@ -11,7 +11,8 @@ returns-then-is_nearer-clause-some c = λ h. record {
   before = c.loop-position-test.true;
   bad =
       subst
-      (IsNearerAt c.args.judged.now.standings.now c.args.search.turn c.args.search.point c.args.search.distance c.args.search.number) c.at.ensures.value (c.is_nearer.ensures.nearer c.if-is_nearer.true);
+      (IsNearerAt c.args.judged.now.standings.now c.args.search.turn c.args.search.point c.args.search.distance c.args.search.number) c.at.ensures.value
+      (c.is_nearer.ensures.nearer c.if-is_nearer.true);
 }
 
 pub loop-position-preserved : goal.loop-position-preserved
