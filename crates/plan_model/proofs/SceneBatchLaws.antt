@@ -11,7 +11,7 @@ use Rattle.plan_model.specs.declared.text_terms.Kind.{Kind}
 use Rattle.plan_model.specs.declared.text_terms.Kind.TheVariants as kinds
 use Rattle.plan_model.specs.Texts.TextLines.{lines_of}
 use Rattle.plan_model.specs.Texts.LineChecks.{Format}
-use Rattle.plan_model.specs.Texts.SceneGrammar.{Spells, Refused}
+use Rattle.plan_model.specs.Texts.SceneGrammar.{Spells}
 use Rattle.plan_model.specs.Texts.SceneBatches.{Part, parts_of, part_text, lines_before, SpellsBatch, AreSpelledBelow, IsRefusedPart, FailsAtPart, RefusesBatch}
 use Rattle.plan_model.proofs.Soundness.{Refused-one_line, Refused-one_kind, Spells-not_refused}
 use Rattle.plan_model.proofs.SameScenes.{Spells-one_scene}

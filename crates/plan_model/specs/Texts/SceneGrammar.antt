@@ -1,5 +1,5 @@
 -- The grammar of scene texts: two relations over the list of lines, one for each answer of a reader.
-use Rattle.std.specs.Prelude.{◌≡◌, ℕ, ◌+◌, ◌<◌, ◌==◌, Bool, true, false, ℤ, pos, unsigned_abs, ◌⊎◌, Option, Some, None, List, [], ◌∷◌, length, map, take}
+use Rattle.std.specs.Prelude.{◌≡◌, ℕ, ◌+◌, ◌<◌, ◌==◌, Bool, true, ℤ, pos, unsigned_abs, ◌⊎◌, Option, Some, None, List, [], ◌∷◌, length, map, take}
 use Rattle.std.specs.Prelude.{drop, get_or}
 use Rattle.plan_model.specs.declared.geometry.Point.{Point}
 use Rattle.plan_model.specs.declared.geometry.Vertex.{Vertex}
