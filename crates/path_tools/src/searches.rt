@@ -98,8 +98,8 @@ pub(crate) fn is_taken(judged: &Judged<'_>, entry: Record, p: Point) -> bool
 
 /// Whether no node that stood already is nearer to a mark than the nearest of its record, or as near with a lesser number, and none within
 /// a radius of a new node at `p`, with a clear segment to it, was a cheaper parent or is dearer than by way of the new node. If the new node
-/// stands at the mark, and the nearest within the radius, one search answers both. O(k + s log n) on average for k of the worker's n nodes within the distance or the radius, in s strips; a segment is tested only
-/// from a node by whose costs it matters.
+/// stands at the mark, and the nearest within the radius, one search answers both. O(k + s log n) on average for k of the worker's n nodes
+/// within the distance or the radius, in s strips; a segment is tested only from a node by whose costs it matters.
 pub(crate) fn is_nearest_and_keeps_near<C: Clearing>(
     hall: &C,
     judged: &Judged<'_>,
