@@ -23,7 +23,7 @@ pub record AreMarksBetween (records : List Record) (worker from to : ℕ) (marks
   pub each : (k : ℕ) → IsMarkBetween records worker from to k → HasNumber marks k
   pub only : All (λ m. IsMarkBetween records worker from to m.number) marks
 
--- Of the numbers at the first positions of a list the least that breaks a law; none if each of them keeps it.
+-- A number of a list that breaks a law, while each lesser one at the first positions keeps it; none if each at these positions keeps it.
 abbrev pub IsFirstSeen : (ℕ → Type 0) → List Numbered → ℕ → Option ℕ → Type 0
 IsFirstSeen Keeps marks limit None = (j : ℕ) → j < limit → Keeps (numbered_at marks j).number
 IsFirstSeen Keeps marks limit (Some k) =

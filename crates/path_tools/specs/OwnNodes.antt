@@ -93,7 +93,7 @@ IsUnlawfulAt space standings turn first_cost square distance number p m =
 
 -- ---- the same by nodes
 
--- an earlier node that is nearer to a mark than a node at this distance, or as near with a lesser number
+-- an earlier node that is nearer to a mark than this distance, or has a lesser number (asked of nodes within that distance)
 abbrev pub IsNearer : TreeState → Record → Point → ℕ → Numbered → Type 0
 IsNearer state entry mark distance m =
     IsEarlier state entry m.number × ((squared_distance m.point mark < distance) ⊎ (m.number < entry.nearest))
@@ -118,12 +118,12 @@ pub record IsBadNear (space : ConfigurationSpace) (state : TreeState) (entry : R
   pub cheaper : IsCheaperNear state entry p m
   pub clear : Clear space m.point p
 
--- Of the earlier nodes within a radius of p, with a clear segment to it, none was a cheaper parent of a new node there, and none is dearer
--- than by way of that.
+-- Node i was no cheaper parent of a new node at p, and is no dearer than by way of that.
 pub record IsKeptNear (state : TreeState) (entry : Record) (p : Point) (i : ℕ) : Type 0 where
   pub chosen : entry.first_cost ≤ first_cost_through state p i
   pub rewired : state.cost i ≤ entry.first_cost + cost_of (point_of state.points i) p
 
+-- so is each earlier node within a radius of p, with a clear segment to it
 abbrev pub KeepsNear : ConfigurationSpace → TreeState → Record → Point → ℕ → Type 0
 KeepsNear space state entry p radius = (i : ℕ) → IsEarlier state entry i → IsTrue (is_within p radius (point_at state.points i))
     → Clear space (point_of state.points i) p → IsKeptNear state entry p i

@@ -47,7 +47,7 @@ abbrev pub is_before : ℕ → ℕ → (ℕ → Option Record) → ℕ → Bool
 is_before worker turn record_of zero = true
 is_before worker turn record_of (suc k) = places_before worker turn (record_of k)
 
--- how many nodes stood before this turn of the worker
+-- how many nodes the worker had before this turn, the start among them
 abbrev pub count_before : TreeState → ℕ → ℕ → ℕ
 count_before state worker turn = count_by (is_before worker turn state.record_of) (range_with_len 0 (length state.points))
 
@@ -64,7 +64,7 @@ abbrev pub IsLeastIfAny : List Goal → TreeState → ℕ → ℕ → Option ℕ
 IsLeastIfAny goals state worker turn None = (i : ℕ) → is_before worker turn state.record_of i ≡ true → ¬ IsGoalNode goals state.points i
 IsLeastIfAny goals state worker turn (Some cost) = IsLeastGoalCost goals state worker turn cost
 
--- What stood before this turn of the worker.
+-- What the worker had of its own nodes before this turn.
 pub record AreSeen (goals : List Goal) (state : TreeState) (worker turn : ℕ) (seen : Seen) : Type 0 where
   pub counted : seen.nodes ≡ count_before state worker turn
   pub least : IsLeastIfAny goals state worker turn seen.least

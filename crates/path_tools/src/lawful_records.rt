@@ -33,8 +33,8 @@ use swept_check::Clearing;
 /// How many turns of a worker are judged by the first of its sorted lists of nodes; each further list serves as many turns as all before it.
 const FIRST_TURNS: u32 = 512;
 
-/// The first mark that breaks the law of records; `None` exactly if each keeps it. The other laws of nodes and marks are kept. O(n log n)
-/// for n marks, and for each mark what the nodes near it take.
+/// The first mark that breaks the law of records; `None` exactly if each keeps it. The form and the laws of turns and of presence are kept.
+/// O(n * w + n log n) for n marks of w workers, and for each mark what the nodes near it take.
 ///
 /// # Errors
 ///
@@ -101,7 +101,8 @@ fn first_unlawful_of<C: Clearing>(
     requires hall { C.space hall.now ≡ space_of task.now.scene }
     requires listed { AreListed task.now listed.now }
     requires turns { turns ≡ turns_of (slice_get listed.now.records.now) (length listed.now.records.now) worker }
-    ensures { IfOk result (λ first. IsFirstBreak (KeepsRecordOf worker task.now listed.now.knots.now listed.now.records.now) (length listed.now.records.now) first) }
+    ensures { IfOk result (λ first. IsFirstBreak (KeepsRecordOf worker task.now listed.now.knots.now listed.now.records.now)
+        (length listed.now.records.now) first) }
 {
     if turns == 0 {
         return Ok(None);
@@ -153,7 +154,8 @@ fn first_unlawful_between<C: Clearing>(
 ) -> Result<Option<usize>, Memory>
     requires hall { C.space hall.now ≡ space_of task.now.scene }
     requires listed { AreListed task.now listed.now }
-    requires own { IsOwnRun (skipping_goals task.now.scene) listed.now.knots.now listed.now.records.now own.now.turns.worker (length own.now.turns.marks.items) own.now }
+    requires own { IsOwnRun (skipping_goals task.now.scene) listed.now.knots.now listed.now.records.now own.now.turns.worker
+        (length own.now.turns.marks.items) own.now }
     requires onward { from ≤ to }
     requires to { to ≤ length own.now.turns.marks.items }
     ensures { IfOk result (λ first. IsFirstBreak (KeepsRecordBetween own.now.turns.worker from to task.now listed.now.knots.now listed.now.records.now)

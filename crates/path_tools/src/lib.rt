@@ -1,7 +1,7 @@
 //! What is made of a path or a report once a run is planned.
 //!
 //! [`smooth`] takes a path over those of its points that make it cheapest. [`check`] is the judge of full reports, of whatever planner:
-//! that the bytes are the report of a lawful run, or which law is broken first, and at which line.
+//! that the bytes are the report of a lawful run, or the least law that is broken, and the first line that breaks it.
 #![tactic(auto)]
 
 mod best_paths;

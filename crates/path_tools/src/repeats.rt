@@ -27,7 +27,7 @@ pub(crate) fn first_repeat(alloc: Global, keys: &[u64]) -> Result<Option<usize>,
     Ok(None)
 }
 
-/// Whether no two numbers are known to be equal, by a sorted copy, which takes less time than a set; `false` says nothing.
+/// Whether the numbers are known to be different, by a sorted copy, which takes less time than a set; `false` says nothing.
 fn are_different(alloc: Global, keys: &[u64]) -> Result<bool, Memory>
     ensures { IfOk result (λ different. IsTrue different → (k : ℕ) → k < length keys.now → IsNewKey keys.now k) }
 {

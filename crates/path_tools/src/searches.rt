@@ -245,10 +245,10 @@ fn has_bad<C: Clearing>(hall: &C, judged: &Judged<'_>, search: NeighbourSearch) 
     requires bounded { IsBounded search.point }
     requires turn { search.turn < length judged.now.standings.now }
     requires within { search.distance ≤ search.square }
-    ensures some { IsTrue result → HasOne (IsUnlawfulAt (C.space hall.now) judged.now.standings.now search.turn search.first_cost search.square search.distance search.number search.point)
-        judged.now.own.now 0 (length judged.now.own.now) }
-    ensures none { IsFalse result → HasNo (IsUnlawfulAt (C.space hall.now) judged.now.standings.now search.turn search.first_cost search.square search.distance search.number search.point)
-        judged.now.own.now 0 (length judged.now.own.now) }
+    ensures some { IsTrue result → HasOne (IsUnlawfulAt (C.space hall.now) judged.now.standings.now search.turn search.first_cost
+        search.square search.distance search.number search.point) judged.now.own.now 0 (length judged.now.own.now) }
+    ensures none { IsFalse result → HasNo (IsUnlawfulAt (C.space hall.now) judged.now.standings.now search.turn search.first_cost
+        search.square search.distance search.number search.point) judged.now.own.now 0 (length judged.now.own.now) }
 {
     let disc = Disc::of_square(search.point, search.square);
     let mut at = 0;
@@ -266,10 +266,10 @@ fn has_bad_in<C: Clearing>(hall: &C, judged: &Judged<'_>, search: NeighbourSearc
     requires bounded { IsBounded search.point }
     requires turn { search.turn < length judged.now.standings.now }
     requires inside { run.end ≤ length judged.now.own.now }
-    ensures some { IsTrue result → HasOne (IsUnlawfulAt (C.space hall.now) judged.now.standings.now search.turn search.first_cost search.square search.distance search.number search.point)
-        judged.now.own.now run.start run.end }
-    ensures none { IsFalse result → HasNo (IsUnlawfulAt (C.space hall.now) judged.now.standings.now search.turn search.first_cost search.square search.distance search.number search.point)
-        judged.now.own.now run.start run.end }
+    ensures some { IsTrue result → HasOne (IsUnlawfulAt (C.space hall.now) judged.now.standings.now search.turn search.first_cost
+        search.square search.distance search.number search.point) judged.now.own.now run.start run.end }
+    ensures none { IsFalse result → HasNo (IsUnlawfulAt (C.space hall.now) judged.now.standings.now search.turn search.first_cost
+        search.square search.distance search.number search.point) judged.now.own.now run.start run.end }
 {
     for position in run.start..run.end {
         if is_bad(hall, judged, search, judged.own.at(position)) {
@@ -289,8 +289,10 @@ fn is_bad<C: Clearing>(
     requires bounded { IsBounded search.point }
     requires node { IsBounded node.point }
     requires turn { search.turn < length judged.now.standings.now }
-    ensures bad { IsTrue result → IsUnlawfulAt (C.space hall.now) judged.now.standings.now search.turn search.first_cost search.square search.distance search.number search.point node }
-    ensures only { IsFalse result → ¬ IsUnlawfulAt (C.space hall.now) judged.now.standings.now search.turn search.first_cost search.square search.distance search.number search.point node }
+    ensures bad { IsTrue result → IsUnlawfulAt (C.space hall.now) judged.now.standings.now search.turn search.first_cost search.square
+        search.distance search.number search.point node }
+    ensures only { IsFalse result → ¬ IsUnlawfulAt (C.space hall.now) judged.now.standings.now search.turn search.first_cost search.square
+        search.distance search.number search.point node }
 {
     let nearer = NearerSearch {
         point: search.point,

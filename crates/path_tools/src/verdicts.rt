@@ -43,7 +43,8 @@ pub enum Verdict {
 /// are 1, form, 2, nodes, 3, turns, 4, presence of nodes, 5, records, and 6, head. The start is clear, and the report has fewer bytes than
 /// the greatest `u32`.
 ///
-/// O(n log n) for n bytes and marks, besides a segment for each node, and what a search for near nodes takes for each mark.
+/// O(n * w + n log n) for n bytes and marks of w workers, besides a segment for each node, and what a search for near nodes takes for each
+/// mark.
 ///
 /// # Errors
 ///

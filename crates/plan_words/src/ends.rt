@@ -44,7 +44,7 @@ impl Shared {
         self.end_retired(pass.retire())
     }
 
-    /// The same of what is left of a pass, as [`Shared::end`] gives it of the pass.
+    /// The closed run, as [`Shared::end`] gives it, from what is left of a pass. O(n) for n words.
     pub fn end_retired(self, retired: Retired) -> Grown
         requires belongs { BelongsTo retired self }
         requires whole { share retired.view ≡ self.workers }

@@ -17,9 +17,9 @@
 //! lowers the cost by [`Shared::lower`]. One word holds parent and cost, so no other pass sees one without the other,
 //! and no cost ever rises.
 //!
-//! When one pass has taken over all others and no mark is left, [`Shared::end`] gives the closed run. A pass that works no
-//! more may give back its lists first, by [`Pass::retire`]; [`Shared::join_retired`] and [`Shared::end_retired`] do the
-//! same with what is left of it.
+//! [`Shared::join`] makes one pass of two. When one has taken over all others and no mark is left, [`Shared::end`] gives
+//! the closed run. A pass that works no more may give back its lists first, by [`Pass::retire`];
+//! [`Shared::join_retired`] and [`Shared::end_retired`] are `join` and `end` of what is left of it.
 //!
 //! A pass remembers the tree words that it has seen, with an index from each node to its children by these words. So
 //! [`Shared::lower_children`] brings a lowered cost to the children of its node. Children whose cost fell wait on a

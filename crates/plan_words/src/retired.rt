@@ -1,4 +1,4 @@
-//! What is left of a pass that has stopped, and how it ends a tree.
+//! What is left of a pass that has stopped, and how another takes it over.
 
 ghost use Rattle.std.specs.Prelude.{◌≡◌, ◌≢◌, ℕ, ◌+◌, ◌<◌, ◌≤◌, None, Some};
 ghost use Rattle.plan_model.specs.Trees.TreeStates.{AreSameRuns};
@@ -21,8 +21,8 @@ use atomic_table::Seat;
 use std::marker::Model;
 use step_core::{Grown, View};
 
-/// What is left of a pass that works no more: its share, and what it has seen. It keeps no lists, so that another takes it over, or
-/// the tree ends with it, at the cost of a step. A contract sees it as a pass whose lists are empty.
+/// What is left of a pass that works no more: its share and its view, which contracts alone see. It keeps no lists, so another takes
+/// it over in two steps, and no list is walked. A contract sees it as a pass whose lists are empty.
 #[derive(Drop)]
 pub struct Retired {
     pub(crate) seat: Seat<Aim, View>,
@@ -40,7 +40,8 @@ impl Model for Retired {
 }
 
 impl Pass {
-    /// Gives back the lists of a pass that works no more, with all that it remembers of tree words. O(1).
+    /// Gives back the lists of a pass that works no more, with all that it remembers of tree words. With a mark in hand it can neither
+    /// be taken over nor end a tree. O(1).
     pub fn retire(self) -> Retired
         ensures { result ≡ new_pass self.table self.view }
     {

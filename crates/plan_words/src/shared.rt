@@ -31,8 +31,8 @@ use std::alloc::Global;
 use std::marker::Model;
 use step_core::{Member, RunWords, View, WordPlaces, pack_mark, pair_in, read_tree};
 
-/// The tree that several workers grow, as words of one table. Each pass that a call takes was made or split from this very
-/// tree. A call that is one step is O(1); no call but [`Shared::start`] and [`Shared::split`] can be out of memory, and none
+/// The tree that several workers grow, as words of one table. Each pass that a call takes, and what is left of one, was made or
+/// split from this very tree. A call that is one step is O(1); no call but [`Shared::start`] and [`Shared::split`] can be out of memory, and none
 /// waits.
 #[derive(Drop)]
 pub struct Shared {

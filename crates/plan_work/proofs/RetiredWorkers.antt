@@ -4,7 +4,7 @@ use Rattle.std.specs.Prelude.{◌++◌, [], ◌∷◌, All, IsSome, option_to_li
 use Rattle.plan_words.specs.Claims.{AllFull}
 use Rattle.plan_words.specs.States.{GoesOn, MayClaim, PassState, SharedState, new_pass}
 use Rattle.plan_work.specs.OneWorker.{HandlesRest}
-use Rattle.plan_work.specs.Workers.{HasDone, HasRetired, HasStopped, HasWorked, IsReady, crew_with, left_of}
+use Rattle.plan_work.specs.Workers.{HasDone, HasRetired, HasStopped, HasWorked, IsReady, workers_with, left_of}
 use Rattle.plan_work.specs.declared.growing.Worker.{Worker}
 
 MayClaim-retired : (shared : SharedState) (pass : PassState) → MayClaim shared pass → MayClaim shared (new_pass pass.table pass.view)
@@ -36,7 +36,7 @@ HasDone-retired shared limit before after left goes_on worked full textbook is =
 -- ---- all of them
 
 -- each worker is ready whose pass may claim
-pub all_ready : (shared : SharedState) (passes : List PassState) → All (MayClaim shared) passes → All (IsReady shared) (crew_with passes)
+pub all_ready : (shared : SharedState) (passes : List PassState) → All (MayClaim shared) passes → All (IsReady shared) (workers_with passes)
 all_ready shared [] may k d low = absurd (omega (arith, low))
 all_ready shared (pass ∷ passes) may zero d low = record { pass = pass; has = cc; may_claim = may 0 pass (omega arith) }
 all_ready shared (pass ∷ passes) may (suc k) d low =
@@ -67,8 +67,8 @@ pub record HaveStopped (shared : SharedState) (limit : ℕ) (passes : List PassS
   pub done : (k : ℕ) (d : PassState) → k < length passes → HasDone shared limit (slice_index_or passes k d) (slice_index_or (left_of crew) k d)
 
 pub have_stopped :
-    (shared : SharedState) (limit : ℕ) (passes : List PassState) (crew : List Worker) → length crew ≡ length (crew_with passes)
-    → ((k : ℕ) (d : Worker) → k < length (crew_with passes) → HasStopped shared limit (slice_index_or (crew_with passes) k d) (slice_index_or crew k d))
+    (shared : SharedState) (limit : ℕ) (passes : List PassState) (crew : List Worker) → length crew ≡ length (workers_with passes)
+    → ((k : ℕ) (d : Worker) → k < length (workers_with passes) → HasStopped shared limit (slice_index_or (workers_with passes) k d) (slice_index_or crew k d))
     → HaveStopped shared limit passes crew
 have_stopped shared limit [] [] same each = record {
   retired = λ k d low. absurd (omega (arith, low));

@@ -29,8 +29,8 @@ pub record HasDone (shared : SharedState) (limit : ℕ) (before after : PassStat
 -- ---- workers
 
 -- workers that have these passes
-abbrev pub crew_with : List PassState → List Worker
-crew_with = map (λ pass. record { pass = Some pass; retired = None })
+abbrev pub workers_with : List PassState → List Worker
+workers_with = map (λ pass. record { pass = Some pass; retired = None })
 
 -- a worker has a pass that may claim
 pub record IsReady (shared : SharedState) (worker : Worker) : Type 0 where
@@ -38,11 +38,11 @@ pub record IsReady (shared : SharedState) (worker : Worker) : Type 0 where
   pub has : worker.pass ≡ Some pass
   pub may_claim : MayClaim shared pass
 
--- it has what is left of a pass
+-- what is left of its pass is there
 abbrev pub HasRetired : Worker → Type 0
 HasRetired worker = IsSome worker.retired
 
--- that of the pass which it had, once this has worked up to a limit
+-- a worker had a pass, which has worked up to a limit, and has what is left of it
 pub record HasStopped (shared : SharedState) (limit : ℕ) (before after : Worker) : Type 0 where
   pub pass : PassState
   pub left : PassState

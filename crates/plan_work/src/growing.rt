@@ -7,7 +7,7 @@ ghost use Rattle.plan_model.specs.declared.limits.TheConstants.{MOST_WORKERS};
 ghost use Rattle.plan_model.specs.declared.records.Record.{Record};
 ghost use Rattle.plan_words.specs.States.{MayClaim, PassState};
 ghost use Rattle.plan_work.specs.OneWorker.{IsOfTextbook};
-ghost use Rattle.plan_work.specs.Workers.{HasRetired, HasStopped, HasTakenOver, IsReady, crew_with, left_of};
+ghost use Rattle.plan_work.specs.Workers.{HasRetired, HasStopped, HasTakenOver, IsReady, workers_with, left_of};
 ghost use Rattle.step_core.specs.GrownRuns.{state_of_grown};
 
 use crate::gates::Gate;
@@ -53,9 +53,9 @@ pub fn grow<R: Threads + Sync, C: Clearing, G: Gate>(
     ensures textbook { workers ≡ 1 → IsOfTextbook grown → IfOk result (λ after. IsOfTextbook after) }
 {
     let (shared, passes) = Shared::start(alloc, grown, workers)?;
-    let mut crew = crew_of(alloc, passes)?;
-    work_all(rt, &shared, hall, limit, gate, crew.as_mut_slice());
-    let last = take_over_all(&shared, crew);
+    let mut all = workers_of(alloc, passes)?;
+    work_all(rt, &shared, hall, limit, gate, all.as_mut_slice());
+    let last = take_over_all(&shared, all);
     Ok(shared.end_retired(last))
 }
 
@@ -67,17 +67,17 @@ struct Worker {
 }
 
 /// Workers that have these passes, in their order. O(w) for w of them.
-fn crew_of(alloc: Global, passes: Vec<Pass>) -> Result<Vec<Worker>, AllocError>
-    ensures { IfOk result (λ crew. crew.items ≡ crew_with passes.items) }
+fn workers_of(alloc: Global, passes: Vec<Pass>) -> Result<Vec<Worker>, AllocError>
+    ensures { IfOk result (λ all. all.items ≡ workers_with passes.items) }
 {
-    let mut crew = Vec::with_capacity(alloc, passes.len())?;
+    let mut all = Vec::with_capacity(alloc, passes.len())?;
     for pass in passes {
-        crew.push(Worker {
+        all.push(Worker {
             pass: Some(pass),
             retired: None,
         })?;
     }
-    Ok(crew)
+    Ok(all)
 }
 
 /// Each pass works in a thread of its own, until all have stopped. Where no thread can be made they work one after another.
@@ -87,21 +87,21 @@ fn work_all<R: Threads + Sync, C: Clearing, G: Gate>(
     hall: &C,
     limit: u32,
     gate: &G,
-    crew: &mut [Worker],
+    all: &mut [Worker],
 )
     requires hall { C.space hall.now ≡ space_of shared.now.task.scene }
     requires low { shared.now.opening ≤ limit }
     requires limit { limit ≤ length shared.now.task.marks }
-    requires some { 1 ≤ length crew.old }
-    requires ready { All (IsReady shared.now) crew.old }
-    ensures count { length crew.new ≡ length crew.old }
-    ensures each { (k : ℕ) (d : Worker) → k < length crew.old
-        → HasStopped shared.now limit (slice_index_or crew.old k d) (slice_index_or crew.new k d) }
+    requires some { 1 ≤ length all.old }
+    requires ready { All (IsReady shared.now) all.old }
+    ensures count { length all.new ≡ length all.old }
+    ensures each { (k : ℕ) (d : Worker) → k < length all.old
+        → HasStopped shared.now limit (slice_index_or all.old k d) (slice_index_or all.new k d) }
 {
-    let threads = crew.len();
+    let threads = all.len();
     thread::for_each_mut(
         rt,
-        crew,
+        all,
         threads,
         &|_number: usize, worker: &mut Worker|
             requires { IsReady shared.now worker.now × (C.space hall.now ≡ space_of shared.now.task.scene)
@@ -143,14 +143,14 @@ impl Worker {
 }
 
 /// What is left of the last worker's pass takes over what is left of all others, with all that they have seen.
-fn take_over_all(shared: &Shared, crew: Vec<Worker>) -> Retired
-    requires some { 1 ≤ length crew.items }
-    requires retired { All HasRetired crew.items }
-    requires may_claim { All (MayClaim shared.now) (left_of crew.items) }
-    ensures taken { HasTakenOver shared.now (left_of crew.items) result }
-    ensures one { (left : PassState) → left_of crew.items ≡ left ∷ [] → result ≡ left }
+fn take_over_all(shared: &Shared, all: Vec<Worker>) -> Retired
+    requires some { 1 ≤ length all.items }
+    requires retired { All HasRetired all.items }
+    requires may_claim { All (MayClaim shared.now) (left_of all.items) }
+    ensures taken { HasTakenOver shared.now (left_of all.items) result }
+    ensures one { (left : PassState) → left_of all.items ≡ left ∷ [] → result ≡ left }
 {
-    let mut others = crew;
+    let mut others = all;
     let Some(last) = others.pop() else {
         unreachable!()
     };

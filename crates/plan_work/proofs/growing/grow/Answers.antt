@@ -8,7 +8,7 @@ use Rattle.plan_work.proofs.RetiredWorkers.{HaveStopped, all_ready, have_stopped
 use Rattle.plan_work.proofs.SharedRuns.{GrowsInto-all, HasHandled-alone, all_may_claim, limit_reached, none_left, one_of, whole_share}
 use Rattle.plan_work.proofs.growing.grow.Goals as goal
 use Rattle.plan_work.specs.OneWorker.{SeesTextbook}
-use Rattle.plan_work.specs.Workers.{HasRetired, HasStopped, HasTakenOver, IsReady, crew_with, left_of}
+use Rattle.plan_work.specs.Workers.{HasRetired, HasStopped, HasTakenOver, IsReady, workers_with, left_of}
 use Rattle.plan_work.specs.declared.growing.Worker.{Worker}
 use Rattle.step_core.specs.GrownRuns.{state_of_grown}
 use Rattle.step_core.specs.LaterViews.{IsLawfulView}
@@ -17,7 +17,7 @@ pub work_all-requires-clause-ready : goal.work_all-requires-clause-ready
 work_all-requires-clause-ready g c _ _ =
     let shared = c.in_ok-shared.shared in
     let before = c.in_ok-shared.passes.items in
-    let is : c.as_mut_slice.result.now ≡ crew_with before = c.as_mut_slice.ensures.value ∙ c.in_ok-crew.ensures in
+    let is : c.as_mut_slice.result.now ≡ workers_with before = c.as_mut_slice.ensures.value ∙ c.in_ok-all.ensures in
     subst (All (IsReady shared)) (sym is) (all_ready shared before c.in_ok-shared.ensures.may_claim)
 
 pub take_over_all-last-requires-clause-retired : goal.take_over_all-last-requires-clause-retired
@@ -25,16 +25,16 @@ take_over_all-last-requires-clause-retired g c =
     let shared = c.in_ok-shared.shared in
     let limit = c.args.limit in
     let before = c.in_ok-shared.passes.items in
-    let crew = c.in_ok-crew.crew.items in
-    let worked = c.work_all.new.crew in
+    let made = c.in_ok-all.all.items in
+    let worked = c.work_all.new.all in
     let after = left_of worked in
-    let is : c.as_mut_slice.result.now ≡ crew_with before = c.as_mut_slice.ensures.value ∙ c.in_ok-crew.ensures in
+    let is : c.as_mut_slice.result.now ≡ workers_with before = c.as_mut_slice.ensures.value ∙ c.in_ok-all.ensures in
     let stopped : HaveStopped shared limit before worked =
     have_stopped shared limit before worked (c.work_all.ensures.count ∙ ap (λ (l : List Worker). length l) is)
     (subst (λ l. (k : ℕ) (d : Worker) → k < length l → HasStopped shared limit (slice_index_or l k d) (slice_index_or worked k d)) is c.work_all.ensures.each) in
-    let same : take c.in_ok-crew.crew.len (worked ++ drop (length worked) crew) ≡ worked =
-    ap (λ n. take n (worked ++ drop (length worked) crew)) (sym (c.work_all.ensures.count ∙ c.as_mut_slice.ensures.len))
-    ∙ take-append_seam worked (drop (length worked) crew) in
+    let same : take c.in_ok-all.all.len (worked ++ drop (length worked) made) ≡ worked =
+    ap (λ n. take n (worked ++ drop (length worked) made)) (sym (c.work_all.ensures.count ∙ c.as_mut_slice.ensures.len))
+    ∙ take-append_seam worked (drop (length worked) made) in
     subst (All HasRetired) (sym same) stopped.retired
 
 pub take_over_all-last-requires-clause-may_claim : goal.take_over_all-last-requires-clause-may_claim
@@ -42,16 +42,16 @@ take_over_all-last-requires-clause-may_claim g c =
     let shared = c.in_ok-shared.shared in
     let limit = c.args.limit in
     let before = c.in_ok-shared.passes.items in
-    let crew = c.in_ok-crew.crew.items in
-    let worked = c.work_all.new.crew in
+    let made = c.in_ok-all.all.items in
+    let worked = c.work_all.new.all in
     let after = left_of worked in
-    let is : c.as_mut_slice.result.now ≡ crew_with before = c.as_mut_slice.ensures.value ∙ c.in_ok-crew.ensures in
+    let is : c.as_mut_slice.result.now ≡ workers_with before = c.as_mut_slice.ensures.value ∙ c.in_ok-all.ensures in
     let stopped : HaveStopped shared limit before worked =
     have_stopped shared limit before worked (c.work_all.ensures.count ∙ ap (λ (l : List Worker). length l) is)
     (subst (λ l. (k : ℕ) (d : Worker) → k < length l → HasStopped shared limit (slice_index_or l k d) (slice_index_or worked k d)) is c.work_all.ensures.each) in
-    let same : take c.in_ok-crew.crew.len (worked ++ drop (length worked) crew) ≡ worked =
-    ap (λ n. take n (worked ++ drop (length worked) crew)) (sym (c.work_all.ensures.count ∙ c.as_mut_slice.ensures.len))
-    ∙ take-append_seam worked (drop (length worked) crew) in
+    let same : take c.in_ok-all.all.len (worked ++ drop (length worked) made) ≡ worked =
+    ap (λ n. take n (worked ++ drop (length worked) made)) (sym (c.work_all.ensures.count ∙ c.as_mut_slice.ensures.len))
+    ∙ take-append_seam worked (drop (length worked) made) in
     subst (λ l. All (MayClaim shared) (left_of l)) (sym same) (all_may_claim shared c.args.grown before after limit c.in_ok-shared.ensures.passes stopped.count stopped.done c.requires.low)
 
 pub end_retired-requires-clause-belongs : goal.end_retired-requires-clause-belongs
@@ -65,16 +65,16 @@ end_retired-requires-clause-whole g c =
     let shared = c.in_ok-shared.shared in
     let limit = c.args.limit in
     let before = c.in_ok-shared.passes.items in
-    let crew = c.in_ok-crew.crew.items in
-    let worked = c.work_all.new.crew in
+    let made = c.in_ok-all.all.items in
+    let worked = c.work_all.new.all in
     let after = left_of worked in
-    let is : c.as_mut_slice.result.now ≡ crew_with before = c.as_mut_slice.ensures.value ∙ c.in_ok-crew.ensures in
+    let is : c.as_mut_slice.result.now ≡ workers_with before = c.as_mut_slice.ensures.value ∙ c.in_ok-all.ensures in
     let stopped : HaveStopped shared limit before worked =
     have_stopped shared limit before worked (c.work_all.ensures.count ∙ ap (λ (l : List Worker). length l) is)
     (subst (λ l. (k : ℕ) (d : Worker) → k < length l → HasStopped shared limit (slice_index_or l k d) (slice_index_or worked k d)) is c.work_all.ensures.each) in
-    let same : take c.in_ok-crew.crew.len (worked ++ drop (length worked) crew) ≡ worked =
-    ap (λ n. take n (worked ++ drop (length worked) crew)) (sym (c.work_all.ensures.count ∙ c.as_mut_slice.ensures.len))
-    ∙ take-append_seam worked (drop (length worked) crew) in
+    let same : take c.in_ok-all.all.len (worked ++ drop (length worked) made) ≡ worked =
+    ap (λ n. take n (worked ++ drop (length worked) made)) (sym (c.work_all.ensures.count ∙ c.as_mut_slice.ensures.len))
+    ∙ take-append_seam worked (drop (length worked) made) in
     let takes = subst (λ l. HasTakenOver shared (left_of l) c.take_over_all-last.result) same c.take_over_all-last.ensures.taken in
     let some_pass : 0 < length before = omega (arith, c.in_ok-shared.ensures.count, c.requires.some) in
     whole_share shared c.args.grown before after limit c.in_ok-shared.ensures.passes stopped.count stopped.done c.requires.low c.take_over_all-last.result takes some_pass
@@ -85,16 +85,16 @@ end_retired-requires-clause-none_left g c =
     let shared = c.in_ok-shared.shared in
     let limit = c.args.limit in
     let before = c.in_ok-shared.passes.items in
-    let crew = c.in_ok-crew.crew.items in
-    let worked = c.work_all.new.crew in
+    let made = c.in_ok-all.all.items in
+    let worked = c.work_all.new.all in
     let after = left_of worked in
-    let is : c.as_mut_slice.result.now ≡ crew_with before = c.as_mut_slice.ensures.value ∙ c.in_ok-crew.ensures in
+    let is : c.as_mut_slice.result.now ≡ workers_with before = c.as_mut_slice.ensures.value ∙ c.in_ok-all.ensures in
     let stopped : HaveStopped shared limit before worked =
     have_stopped shared limit before worked (c.work_all.ensures.count ∙ ap (λ (l : List Worker). length l) is)
     (subst (λ l. (k : ℕ) (d : Worker) → k < length l → HasStopped shared limit (slice_index_or l k d) (slice_index_or worked k d)) is c.work_all.ensures.each) in
-    let same : take c.in_ok-crew.crew.len (worked ++ drop (length worked) crew) ≡ worked =
-    ap (λ n. take n (worked ++ drop (length worked) crew)) (sym (c.work_all.ensures.count ∙ c.as_mut_slice.ensures.len))
-    ∙ take-append_seam worked (drop (length worked) crew) in
+    let same : take c.in_ok-all.all.len (worked ++ drop (length worked) made) ≡ worked =
+    ap (λ n. take n (worked ++ drop (length worked) made)) (sym (c.work_all.ensures.count ∙ c.as_mut_slice.ensures.len))
+    ∙ take-append_seam worked (drop (length worked) made) in
     let takes = subst (λ l. HasTakenOver shared (left_of l) c.take_over_all-last.result) same c.take_over_all-last.ensures.taken in
     let some_pass : 0 < length before = omega (arith, c.in_ok-shared.ensures.count, c.requires.some) in
     none_left shared c.args.grown before after limit c.in_ok-shared.ensures.passes stopped.count stopped.done c.requires.low c.take_over_all-last.result takes some_pass
@@ -104,16 +104,16 @@ returns-clause-limit g c =
     let shared = c.in_ok-shared.shared in
     let limit = c.args.limit in
     let before = c.in_ok-shared.passes.items in
-    let crew = c.in_ok-crew.crew.items in
-    let worked = c.work_all.new.crew in
+    let made = c.in_ok-all.all.items in
+    let worked = c.work_all.new.all in
     let after = left_of worked in
-    let is : c.as_mut_slice.result.now ≡ crew_with before = c.as_mut_slice.ensures.value ∙ c.in_ok-crew.ensures in
+    let is : c.as_mut_slice.result.now ≡ workers_with before = c.as_mut_slice.ensures.value ∙ c.in_ok-all.ensures in
     let stopped : HaveStopped shared limit before worked =
     have_stopped shared limit before worked (c.work_all.ensures.count ∙ ap (λ (l : List Worker). length l) is)
     (subst (λ l. (k : ℕ) (d : Worker) → k < length l → HasStopped shared limit (slice_index_or l k d) (slice_index_or worked k d)) is c.work_all.ensures.each) in
-    let same : take c.in_ok-crew.crew.len (worked ++ drop (length worked) crew) ≡ worked =
-    ap (λ n. take n (worked ++ drop (length worked) crew)) (sym (c.work_all.ensures.count ∙ c.as_mut_slice.ensures.len))
-    ∙ take-append_seam worked (drop (length worked) crew) in
+    let same : take c.in_ok-all.all.len (worked ++ drop (length worked) made) ≡ worked =
+    ap (λ n. take n (worked ++ drop (length worked) made)) (sym (c.work_all.ensures.count ∙ c.as_mut_slice.ensures.len))
+    ∙ take-append_seam worked (drop (length worked) made) in
     let takes = subst (λ l. HasTakenOver shared (left_of l) c.take_over_all-last.result) same c.take_over_all-last.ensures.taken in
     let some_pass : 0 < length before = omega (arith, c.in_ok-shared.ensures.count, c.requires.some) in
     c.end_retired.ensures.limit
@@ -125,16 +125,16 @@ returns-clause-grows g c =
     let shared = c.in_ok-shared.shared in
     let limit = c.args.limit in
     let before = c.in_ok-shared.passes.items in
-    let crew = c.in_ok-crew.crew.items in
-    let worked = c.work_all.new.crew in
+    let made = c.in_ok-all.all.items in
+    let worked = c.work_all.new.all in
     let after = left_of worked in
-    let is : c.as_mut_slice.result.now ≡ crew_with before = c.as_mut_slice.ensures.value ∙ c.in_ok-crew.ensures in
+    let is : c.as_mut_slice.result.now ≡ workers_with before = c.as_mut_slice.ensures.value ∙ c.in_ok-all.ensures in
     let stopped : HaveStopped shared limit before worked =
     have_stopped shared limit before worked (c.work_all.ensures.count ∙ ap (λ (l : List Worker). length l) is)
     (subst (λ l. (k : ℕ) (d : Worker) → k < length l → HasStopped shared limit (slice_index_or l k d) (slice_index_or worked k d)) is c.work_all.ensures.each) in
-    let same : take c.in_ok-crew.crew.len (worked ++ drop (length worked) crew) ≡ worked =
-    ap (λ n. take n (worked ++ drop (length worked) crew)) (sym (c.work_all.ensures.count ∙ c.as_mut_slice.ensures.len))
-    ∙ take-append_seam worked (drop (length worked) crew) in
+    let same : take c.in_ok-all.all.len (worked ++ drop (length worked) made) ≡ worked =
+    ap (λ n. take n (worked ++ drop (length worked) made)) (sym (c.work_all.ensures.count ∙ c.as_mut_slice.ensures.len))
+    ∙ take-append_seam worked (drop (length worked) made) in
     let takes = subst (λ l. HasTakenOver shared (left_of l) c.take_over_all-last.result) same c.take_over_all-last.ensures.taken in
     let some_pass : 0 < length before = omega (arith, c.in_ok-shared.ensures.count, c.requires.some) in
     GrowsInto-all shared c.args.grown before after limit c.in_ok-shared.ensures.passes stopped.count stopped.done c.requires.low c.take_over_all-last.result takes some_pass
@@ -149,16 +149,16 @@ returns-clause-textbook g c = λ one textbook.
     let shared = c.in_ok-shared.shared in
     let limit = c.args.limit in
     let before = c.in_ok-shared.passes.items in
-    let crew = c.in_ok-crew.crew.items in
-    let worked = c.work_all.new.crew in
+    let made = c.in_ok-all.all.items in
+    let worked = c.work_all.new.all in
     let after = left_of worked in
-    let is : c.as_mut_slice.result.now ≡ crew_with before = c.as_mut_slice.ensures.value ∙ c.in_ok-crew.ensures in
+    let is : c.as_mut_slice.result.now ≡ workers_with before = c.as_mut_slice.ensures.value ∙ c.in_ok-all.ensures in
     let stopped : HaveStopped shared limit before worked =
     have_stopped shared limit before worked (c.work_all.ensures.count ∙ ap (λ (l : List Worker). length l) is)
     (subst (λ l. (k : ℕ) (d : Worker) → k < length l → HasStopped shared limit (slice_index_or l k d) (slice_index_or worked k d)) is c.work_all.ensures.each) in
-    let same : take c.in_ok-crew.crew.len (worked ++ drop (length worked) crew) ≡ worked =
-    ap (λ n. take n (worked ++ drop (length worked) crew)) (sym (c.work_all.ensures.count ∙ c.as_mut_slice.ensures.len))
-    ∙ take-append_seam worked (drop (length worked) crew) in
+    let same : take c.in_ok-all.all.len (worked ++ drop (length worked) made) ≡ worked =
+    ap (λ n. take n (worked ++ drop (length worked) made)) (sym (c.work_all.ensures.count ∙ c.as_mut_slice.ensures.len))
+    ∙ take-append_seam worked (drop (length worked) made) in
     let takes = subst (λ l. HasTakenOver shared (left_of l) c.take_over_all-last.result) same c.take_over_all-last.ensures.taken in
     let some_pass : 0 < length before = omega (arith, c.in_ok-shared.ensures.count, c.requires.some) in
     let pass = c.take_over_all-last.result in

@@ -10,9 +10,9 @@ pub others-init : goal.others-init
 others-init c =
     let rest = c.pop.new.self.items in
     let left = c.in-Some-left.taken in
-    let split : c.args.crew.items ≡ rest ++ c.in-Some.last ∷ [] = c.pop.ensures.items ∙ ap (λ o. rest ++ option_to_list o) c.in-Some.is in
-    let lefts : left_of c.args.crew.items ≡ left_of rest ++ left ∷ [] =
-    left_of-last c.args.crew.items rest c.in-Some.last left split (sym c.left.ensures ∙ c.in-Some-left.is) in
+    let split : c.args.all.items ≡ rest ++ c.in-Some.last ∷ [] = c.pop.ensures.items ∙ ap (λ o. rest ++ option_to_list o) c.in-Some.is in
+    let lefts : left_of c.args.all.items ≡ left_of rest ++ left ∷ [] =
+    left_of-last c.args.all.items rest c.in-Some.last left split (sym c.left.ensures ∙ c.in-Some-left.is) in
     let all = subst (All (MayClaim c.args.shared.now)) lefts c.requires.may_claim in
     record {
       retired = retired-front rest c.in-Some.last (subst (All HasRetired) split c.requires.retired);
@@ -71,7 +71,7 @@ others-preserved c =
       rest = All-front (MayClaim shared) (left_of rest) (left ∷ []) all;
       taken = (
         left ∷ taken,
-        taken_next (left_of c.args.crew.items) (left_of c.others.others.items) left (left_of rest) taken c.others.invariant.taken.1 lefts,
+        taken_next (left_of c.args.all.items) (left_of c.others.others.items) left (left_of rest) taken c.others.invariant.taken.1 lefts,
         HasTakenOver-more shared taken c.others.taken left c.join_retired.new.retired takes may c.join_retired.ensures.goes_on.later.seen
             c.join_retired.ensures.others_seen c.join_retired.ensures.share (ap (λ (p : PassState). p.view.most) c.join_retired.ensures.view),
       );

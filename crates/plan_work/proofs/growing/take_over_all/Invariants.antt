@@ -7,8 +7,8 @@ abbrev pub invariant-others : goal.invariant-others
 invariant-others l = record {
   retired : All HasRetired l.others.items;
   rest : All (MayClaim l.shared) (left_of l.others.items);
-  taken : (taken : List PassState) × (left_of l.fn.crew.items ≡ left_of l.others.items ++ taken) × HasTakenOver l.shared taken l.taken;
-  one : (own : PassState) → left_of l.fn.crew.items ≡ own ∷ [] → l.taken ≡ own;
+  taken : (taken : List PassState) × (left_of l.fn.all.items ≡ left_of l.others.items ++ taken) × HasTakenOver l.shared taken l.taken;
+  one : (own : PassState) → left_of l.fn.all.items ≡ own ∷ [] → l.taken ≡ own;
 }
 
 abbrev pub decreases-others : goal.decreases-others
