@@ -1,6 +1,8 @@
 -- What is left of the passes of workers, once these have worked.
 use Rattle.std.proofs.Common.{◌≡◌, ℕ, zero, suc, ◌<◌, List, length, ap, ◌∙◌, sym, subst, arith, refl, Option, None, Some}
 use Rattle.std.specs.Prelude.{◌++◌, [], ◌∷◌, All, IsSome, option_to_list, slice_index_or}
+use Rattle.std.proofs.Math.Seq.{take-append_seam}
+use lib.ListN.{drop, take}
 use Rattle.plan_words.specs.Claims.{AllFull}
 use Rattle.plan_words.specs.States.{GoesOn, MayClaim, PassState, SharedState, new_pass}
 use Rattle.plan_work.specs.OneWorker.{HandlesRest}
@@ -100,6 +102,21 @@ have_stopped shared limit (pass ∷ passes) (worker ∷ crew) same each =
         → HasDone shared limit (slice_index_or (pass ∷ passes) k d) (slice_index_or (left ∷ left_of crew) k d)
     each_done left own others zero d low = own
     each_done left own others (suc k) d low = others k d (omega (arith, low))
+
+-- So they have if they were ready with these passes.
+pub have_stopped-ready :
+    (shared : SharedState) (limit : ℕ) (passes : List PassState) (ready worked : List Worker) → ready ≡ workers_with passes
+    → length worked ≡ length ready
+    → ((k : ℕ) (d : Worker) → k < length ready → HasStopped shared limit (slice_index_or ready k d) (slice_index_or worked k d))
+    → HaveStopped shared limit passes worked
+have_stopped-ready shared limit passes ready worked is same each =
+    have_stopped shared limit passes worked (same ∙ ap (λ (l : List Worker). length l) is)
+    (subst (λ l. (k : ℕ) (d : Worker) → k < length l → HasStopped shared limit (slice_index_or l k d) (slice_index_or worked k d)) is each)
+
+-- what is written over a whole list is the list then
+pub whole_list : (size : ℕ) (worked made : List Worker) → length worked ≡ size → take size (worked ++ drop (length worked) made) ≡ worked
+whole_list size worked made same =
+    ap (λ n. take n (worked ++ drop (length worked) made)) (sym same) ∙ take-append_seam worked (drop (length worked) made)
 
 -- ---- one after another
 

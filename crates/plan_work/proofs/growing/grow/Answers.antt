@@ -1,15 +1,12 @@
-use Rattle.std.proofs.Common.{◌≡◌, ℕ, ◌<◌, ◌∙◌, List, length, ap, arith, subst, sym}
-use Rattle.std.specs.Prelude.{◌++◌, All, slice_index_or}
-use Rattle.std.proofs.Math.Seq.{take-append_seam}
-use lib.ListN.{drop, take}
+use Rattle.std.proofs.Common.{◌≡◌, ◌<◌, ◌∙◌, length, ap, arith, subst, sym}
+use Rattle.std.specs.Prelude.{All, slice_index_or}
 use Rattle.plan_words.specs.States.{MayClaim, PassState}
 use Rattle.plan_work.proofs.LoneRuns.{IsOfTextbook-seen}
-use Rattle.plan_work.proofs.RetiredWorkers.{HaveStopped, all_ready, have_stopped}
+use Rattle.plan_work.proofs.RetiredWorkers.{HaveStopped, all_ready, have_stopped-ready, whole_list}
 use Rattle.plan_work.proofs.SharedRuns.{GrowsInto-all, HasHandled-alone, all_may_claim, limit_reached, none_left, one_of, whole_share}
 use Rattle.plan_work.proofs.growing.grow.Goals as goal
 use Rattle.plan_work.specs.OneWorker.{SeesTextbook}
-use Rattle.plan_work.specs.Workers.{HasRetired, HasStopped, HasTakenOver, IsReady, workers_with, left_of}
-use Rattle.plan_work.specs.declared.growing.Worker.{Worker}
+use Rattle.plan_work.specs.Workers.{HasRetired, HasTakenOver, IsReady, left_of}
 use Rattle.step_core.specs.GrownRuns.{state_of_grown}
 use Rattle.step_core.specs.LaterViews.{IsLawfulView}
 
@@ -17,24 +14,20 @@ pub work_all-requires-clause-ready : goal.work_all-requires-clause-ready
 work_all-requires-clause-ready g c _ _ =
     let shared = c.in_ok-shared.shared in
     let before = c.in_ok-shared.passes.items in
-    let is : c.as_mut_slice.result.now ≡ workers_with before = c.as_mut_slice.ensures.value ∙ c.in_ok-all.ensures in
-    subst (All (IsReady shared)) (sym is) (all_ready shared before c.in_ok-shared.ensures.may_claim)
+    subst (All (IsReady shared)) (sym (c.as_mut_slice.ensures.value ∙ c.in_ok-all.ensures))
+    (all_ready shared before c.in_ok-shared.ensures.may_claim)
 
 pub take_over_all-last-requires-clause-retired : goal.take_over_all-last-requires-clause-retired
 take_over_all-last-requires-clause-retired g c =
     let shared = c.in_ok-shared.shared in
     let limit = c.args.limit in
     let before = c.in_ok-shared.passes.items in
-    let made = c.in_ok-all.all.items in
     let worked = c.work_all.new.all in
     let after = left_of worked in
-    let is : c.as_mut_slice.result.now ≡ workers_with before = c.as_mut_slice.ensures.value ∙ c.in_ok-all.ensures in
     let stopped : HaveStopped shared limit before worked =
-    have_stopped shared limit before worked (c.work_all.ensures.count ∙ ap (λ (l : List Worker). length l) is)
-    (subst (λ l. (k : ℕ) (d : Worker) → k < length l → HasStopped shared limit (slice_index_or l k d) (slice_index_or worked k d)) is c.work_all.ensures.each) in
-    let same : take c.in_ok-all.all.len (worked ++ drop (length worked) made) ≡ worked =
-    ap (λ n. take n (worked ++ drop (length worked) made)) (sym (c.work_all.ensures.count ∙ c.as_mut_slice.ensures.len))
-    ∙ take-append_seam worked (drop (length worked) made) in
+    have_stopped-ready shared limit before c.as_mut_slice.result.now worked (c.as_mut_slice.ensures.value ∙ c.in_ok-all.ensures) c.work_all.ensures.count
+    c.work_all.ensures.each in
+    let same = whole_list c.in_ok-all.all.len worked c.in_ok-all.all.items (c.work_all.ensures.count ∙ c.as_mut_slice.ensures.len) in
     subst (All HasRetired) (sym same) stopped.retired
 
 pub take_over_all-last-requires-clause-may_claim : goal.take_over_all-last-requires-clause-may_claim
@@ -42,17 +35,14 @@ take_over_all-last-requires-clause-may_claim g c =
     let shared = c.in_ok-shared.shared in
     let limit = c.args.limit in
     let before = c.in_ok-shared.passes.items in
-    let made = c.in_ok-all.all.items in
     let worked = c.work_all.new.all in
     let after = left_of worked in
-    let is : c.as_mut_slice.result.now ≡ workers_with before = c.as_mut_slice.ensures.value ∙ c.in_ok-all.ensures in
     let stopped : HaveStopped shared limit before worked =
-    have_stopped shared limit before worked (c.work_all.ensures.count ∙ ap (λ (l : List Worker). length l) is)
-    (subst (λ l. (k : ℕ) (d : Worker) → k < length l → HasStopped shared limit (slice_index_or l k d) (slice_index_or worked k d)) is c.work_all.ensures.each) in
-    let same : take c.in_ok-all.all.len (worked ++ drop (length worked) made) ≡ worked =
-    ap (λ n. take n (worked ++ drop (length worked) made)) (sym (c.work_all.ensures.count ∙ c.as_mut_slice.ensures.len))
-    ∙ take-append_seam worked (drop (length worked) made) in
-    subst (λ l. All (MayClaim shared) (left_of l)) (sym same) (all_may_claim shared c.args.grown before after limit c.in_ok-shared.ensures.passes stopped.count stopped.done c.requires.low)
+    have_stopped-ready shared limit before c.as_mut_slice.result.now worked (c.as_mut_slice.ensures.value ∙ c.in_ok-all.ensures) c.work_all.ensures.count
+    c.work_all.ensures.each in
+    let same = whole_list c.in_ok-all.all.len worked c.in_ok-all.all.items (c.work_all.ensures.count ∙ c.as_mut_slice.ensures.len) in
+    subst (λ l. All (MayClaim shared) (left_of l)) (sym same)
+    (all_may_claim shared c.args.grown before after limit c.in_ok-shared.ensures.passes stopped.count stopped.done c.requires.low)
 
 pub end_retired-requires-clause-belongs : goal.end_retired-requires-clause-belongs
 end_retired-requires-clause-belongs g c = c.take_over_all-last.ensures.taken.may_claim.belongs
@@ -65,19 +55,16 @@ end_retired-requires-clause-whole g c =
     let shared = c.in_ok-shared.shared in
     let limit = c.args.limit in
     let before = c.in_ok-shared.passes.items in
-    let made = c.in_ok-all.all.items in
     let worked = c.work_all.new.all in
     let after = left_of worked in
-    let is : c.as_mut_slice.result.now ≡ workers_with before = c.as_mut_slice.ensures.value ∙ c.in_ok-all.ensures in
     let stopped : HaveStopped shared limit before worked =
-    have_stopped shared limit before worked (c.work_all.ensures.count ∙ ap (λ (l : List Worker). length l) is)
-    (subst (λ l. (k : ℕ) (d : Worker) → k < length l → HasStopped shared limit (slice_index_or l k d) (slice_index_or worked k d)) is c.work_all.ensures.each) in
-    let same : take c.in_ok-all.all.len (worked ++ drop (length worked) made) ≡ worked =
-    ap (λ n. take n (worked ++ drop (length worked) made)) (sym (c.work_all.ensures.count ∙ c.as_mut_slice.ensures.len))
-    ∙ take-append_seam worked (drop (length worked) made) in
+    have_stopped-ready shared limit before c.as_mut_slice.result.now worked (c.as_mut_slice.ensures.value ∙ c.in_ok-all.ensures) c.work_all.ensures.count
+    c.work_all.ensures.each in
+    let same = whole_list c.in_ok-all.all.len worked c.in_ok-all.all.items (c.work_all.ensures.count ∙ c.as_mut_slice.ensures.len) in
     let takes = subst (λ l. HasTakenOver shared (left_of l) c.take_over_all-last.result) same c.take_over_all-last.ensures.taken in
     let some_pass : 0 < length before = omega (arith, c.in_ok-shared.ensures.count, c.requires.some) in
-    whole_share shared c.args.grown before after limit c.in_ok-shared.ensures.passes stopped.count stopped.done c.requires.low c.take_over_all-last.result takes some_pass
+    whole_share shared c.args.grown before after limit c.in_ok-shared.ensures.passes stopped.count stopped.done c.requires.low
+    c.take_over_all-last.result takes some_pass
     ∙ c.in_ok-shared.ensures.count ∙ sym c.in_ok-shared.ensures.workers
 
 pub end_retired-requires-clause-none_left : goal.end_retired-requires-clause-none_left
@@ -85,60 +72,49 @@ end_retired-requires-clause-none_left g c =
     let shared = c.in_ok-shared.shared in
     let limit = c.args.limit in
     let before = c.in_ok-shared.passes.items in
-    let made = c.in_ok-all.all.items in
     let worked = c.work_all.new.all in
     let after = left_of worked in
-    let is : c.as_mut_slice.result.now ≡ workers_with before = c.as_mut_slice.ensures.value ∙ c.in_ok-all.ensures in
     let stopped : HaveStopped shared limit before worked =
-    have_stopped shared limit before worked (c.work_all.ensures.count ∙ ap (λ (l : List Worker). length l) is)
-    (subst (λ l. (k : ℕ) (d : Worker) → k < length l → HasStopped shared limit (slice_index_or l k d) (slice_index_or worked k d)) is c.work_all.ensures.each) in
-    let same : take c.in_ok-all.all.len (worked ++ drop (length worked) made) ≡ worked =
-    ap (λ n. take n (worked ++ drop (length worked) made)) (sym (c.work_all.ensures.count ∙ c.as_mut_slice.ensures.len))
-    ∙ take-append_seam worked (drop (length worked) made) in
+    have_stopped-ready shared limit before c.as_mut_slice.result.now worked (c.as_mut_slice.ensures.value ∙ c.in_ok-all.ensures) c.work_all.ensures.count
+    c.work_all.ensures.each in
+    let same = whole_list c.in_ok-all.all.len worked c.in_ok-all.all.items (c.work_all.ensures.count ∙ c.as_mut_slice.ensures.len) in
     let takes = subst (λ l. HasTakenOver shared (left_of l) c.take_over_all-last.result) same c.take_over_all-last.ensures.taken in
     let some_pass : 0 < length before = omega (arith, c.in_ok-shared.ensures.count, c.requires.some) in
-    none_left shared c.args.grown before after limit c.in_ok-shared.ensures.passes stopped.count stopped.done c.requires.low c.take_over_all-last.result takes some_pass
+    none_left shared c.args.grown before after limit c.in_ok-shared.ensures.passes stopped.count stopped.done c.requires.low
+    c.take_over_all-last.result takes some_pass
 
 pub returns-clause-limit : goal.returns-clause-limit
 returns-clause-limit g c =
     let shared = c.in_ok-shared.shared in
     let limit = c.args.limit in
     let before = c.in_ok-shared.passes.items in
-    let made = c.in_ok-all.all.items in
     let worked = c.work_all.new.all in
     let after = left_of worked in
-    let is : c.as_mut_slice.result.now ≡ workers_with before = c.as_mut_slice.ensures.value ∙ c.in_ok-all.ensures in
     let stopped : HaveStopped shared limit before worked =
-    have_stopped shared limit before worked (c.work_all.ensures.count ∙ ap (λ (l : List Worker). length l) is)
-    (subst (λ l. (k : ℕ) (d : Worker) → k < length l → HasStopped shared limit (slice_index_or l k d) (slice_index_or worked k d)) is c.work_all.ensures.each) in
-    let same : take c.in_ok-all.all.len (worked ++ drop (length worked) made) ≡ worked =
-    ap (λ n. take n (worked ++ drop (length worked) made)) (sym (c.work_all.ensures.count ∙ c.as_mut_slice.ensures.len))
-    ∙ take-append_seam worked (drop (length worked) made) in
+    have_stopped-ready shared limit before c.as_mut_slice.result.now worked (c.as_mut_slice.ensures.value ∙ c.in_ok-all.ensures) c.work_all.ensures.count
+    c.work_all.ensures.each in
+    let same = whole_list c.in_ok-all.all.len worked c.in_ok-all.all.items (c.work_all.ensures.count ∙ c.as_mut_slice.ensures.len) in
     let takes = subst (λ l. HasTakenOver shared (left_of l) c.take_over_all-last.result) same c.take_over_all-last.ensures.taken in
     let some_pass : 0 < length before = omega (arith, c.in_ok-shared.ensures.count, c.requires.some) in
     c.end_retired.ensures.limit
-    ∙ limit_reached shared c.args.grown before after limit c.in_ok-shared.ensures.passes stopped.count stopped.done c.requires.low c.take_over_all-last.result takes some_pass
-    (state_of_grown c.end_retired.result) c.end_retired.ensures.seen
+    ∙ limit_reached shared c.args.grown before after limit c.in_ok-shared.ensures.passes stopped.count stopped.done c.requires.low
+    c.take_over_all-last.result takes some_pass (state_of_grown c.end_retired.result) c.end_retired.ensures.seen
 
 pub returns-clause-grows : goal.returns-clause-grows
 returns-clause-grows g c =
     let shared = c.in_ok-shared.shared in
     let limit = c.args.limit in
     let before = c.in_ok-shared.passes.items in
-    let made = c.in_ok-all.all.items in
     let worked = c.work_all.new.all in
     let after = left_of worked in
-    let is : c.as_mut_slice.result.now ≡ workers_with before = c.as_mut_slice.ensures.value ∙ c.in_ok-all.ensures in
     let stopped : HaveStopped shared limit before worked =
-    have_stopped shared limit before worked (c.work_all.ensures.count ∙ ap (λ (l : List Worker). length l) is)
-    (subst (λ l. (k : ℕ) (d : Worker) → k < length l → HasStopped shared limit (slice_index_or l k d) (slice_index_or worked k d)) is c.work_all.ensures.each) in
-    let same : take c.in_ok-all.all.len (worked ++ drop (length worked) made) ≡ worked =
-    ap (λ n. take n (worked ++ drop (length worked) made)) (sym (c.work_all.ensures.count ∙ c.as_mut_slice.ensures.len))
-    ∙ take-append_seam worked (drop (length worked) made) in
+    have_stopped-ready shared limit before c.as_mut_slice.result.now worked (c.as_mut_slice.ensures.value ∙ c.in_ok-all.ensures) c.work_all.ensures.count
+    c.work_all.ensures.each in
+    let same = whole_list c.in_ok-all.all.len worked c.in_ok-all.all.items (c.work_all.ensures.count ∙ c.as_mut_slice.ensures.len) in
     let takes = subst (λ l. HasTakenOver shared (left_of l) c.take_over_all-last.result) same c.take_over_all-last.ensures.taken in
     let some_pass : 0 < length before = omega (arith, c.in_ok-shared.ensures.count, c.requires.some) in
-    GrowsInto-all shared c.args.grown before after limit c.in_ok-shared.ensures.passes stopped.count stopped.done c.requires.low c.take_over_all-last.result takes some_pass
-    (state_of_grown c.end_retired.result) c.end_retired.ensures.seen c.in_ok-shared.ensures.task
+    GrowsInto-all shared c.args.grown before after limit c.in_ok-shared.ensures.passes stopped.count stopped.done c.requires.low
+    c.take_over_all-last.result takes some_pass (state_of_grown c.end_retired.result) c.end_retired.ensures.seen c.in_ok-shared.ensures.task
 
 pub returns-clause-workers : goal.returns-clause-workers
 returns-clause-workers g c k entry is past =
@@ -149,27 +125,24 @@ returns-clause-textbook g c = λ one textbook.
     let shared = c.in_ok-shared.shared in
     let limit = c.args.limit in
     let before = c.in_ok-shared.passes.items in
-    let made = c.in_ok-all.all.items in
     let worked = c.work_all.new.all in
     let after = left_of worked in
-    let is : c.as_mut_slice.result.now ≡ workers_with before = c.as_mut_slice.ensures.value ∙ c.in_ok-all.ensures in
     let stopped : HaveStopped shared limit before worked =
-    have_stopped shared limit before worked (c.work_all.ensures.count ∙ ap (λ (l : List Worker). length l) is)
-    (subst (λ l. (k : ℕ) (d : Worker) → k < length l → HasStopped shared limit (slice_index_or l k d) (slice_index_or worked k d)) is c.work_all.ensures.each) in
-    let same : take c.in_ok-all.all.len (worked ++ drop (length worked) made) ≡ worked =
-    ap (λ n. take n (worked ++ drop (length worked) made)) (sym (c.work_all.ensures.count ∙ c.as_mut_slice.ensures.len))
-    ∙ take-append_seam worked (drop (length worked) made) in
+    have_stopped-ready shared limit before c.as_mut_slice.result.now worked (c.as_mut_slice.ensures.value ∙ c.in_ok-all.ensures) c.work_all.ensures.count
+    c.work_all.ensures.each in
+    let same = whole_list c.in_ok-all.all.len worked c.in_ok-all.all.items (c.work_all.ensures.count ∙ c.as_mut_slice.ensures.len) in
     let takes = subst (λ l. HasTakenOver shared (left_of l) c.take_over_all-last.result) same c.take_over_all-last.ensures.taken in
     let some_pass : 0 < length before = omega (arith, c.in_ok-shared.ensures.count, c.requires.some) in
     let pass = c.take_over_all-last.result in
     let alone : length before ≡ 1 = c.in_ok-shared.ensures.count ∙ one in
     let only : pass ≡ slice_index_or after 0 pass =
     c.take_over_all-last.ensures.one (slice_index_or after 0 pass) (ap left_of same ∙ one_of after pass (stopped.count ∙ alone)) in
-    let handled = HasHandled-alone shared c.args.grown before after limit c.in_ok-shared.ensures.passes stopped.count stopped.done c.requires.low pass alone
-    (c.in_ok-shared.ensures.workers ∙ one) c.in_ok-shared.ensures.task textbook in
+    let handled = HasHandled-alone shared c.args.grown before after limit c.in_ok-shared.ensures.passes stopped.count stopped.done c.requires.low
+    pass alone (c.in_ok-shared.ensures.workers ∙ one) c.in_ok-shared.ensures.task textbook in
     let reached : c.end_retired.result.limit ≡ limit =
-    c.end_retired.ensures.limit ∙ limit_reached shared c.args.grown before after limit c.in_ok-shared.ensures.passes stopped.count stopped.done c.requires.low pass takes
-    some_pass (state_of_grown c.end_retired.result) c.end_retired.ensures.seen in
+    c.end_retired.ensures.limit
+    ∙ limit_reached shared c.args.grown before after limit c.in_ok-shared.ensures.passes stopped.count stopped.done c.requires.low
+    pass takes some_pass (state_of_grown c.end_retired.result) c.end_retired.ensures.seen in
     let seen : SeesTextbook pass.view c.end_retired.result.limit =
     subst (SeesTextbook pass.view) (sym reached) (subst (λ (p : PassState). SeesTextbook p.view limit) (sym only) handled.textbook) in
     let lawful = subst (λ (p : PassState). IsLawfulView p.view) (sym only) (stopped.done 0 pass some_pass).goes_on.lawful in
