@@ -1,5 +1,6 @@
 -- What a read of bytes in memory moves, and what it leaves.
-use Rattle.std.proofs.Common.{◌≡◌, ℕ, ◌≤◌, ◌<◌, min, Bool, false, List, [], ◌∷◌, ◌++◌, length, take, drop, refl, sym, ap, ◌∙◌, append_assoc, take-append-drop, take_all, arith}
+use Rattle.std.proofs.Common.{◌≡◌, ℕ, ◌≤◌, ◌<◌, min, Bool, false, List, [], ◌∷◌, ◌++◌, length, take, drop, refl, sym, ap, ◌∙◌}
+use Rattle.std.proofs.Common.{append_assoc, take-append-drop, take_all, arith}
 use Rattle.std.specs.Prelude.{◌==◌}
 use Rattle.std.specs.List.{list_any}
 use Rattle.std.proofs.lemmas.Bool.{true≢false}
@@ -58,5 +59,6 @@ slice_read state source moved into count most same room works most_is is bytes =
     let within : count ≤ length (take most into) = omega (arith, is) in
     let given : count ≡ given_count state (length into) = omega (arith, is, most_is, all, ap length same) in
     let joined = ap (λ front. front ++ drop most into) bytes ∙ append_assoc (take count source) (drop count (take most into)) (drop most into)
-    ∙ ap (λ rest. take count source ++ rest) (sym (drop-append-le count (take most into) (drop most into) within) ∙ ap (drop count) (take-append-drop most into)) in
+    ∙ ap (λ rest. take count source ++ rest)
+    (sym (drop-append-le count (take most into) (drop most into) within) ∙ ap (drop count) (take-append-drop most into)) in
     rw (not_zero (length into) room, works) (joined ∙ (λ i. take (given i) (same i) ++ drop (given i) into))

@@ -95,8 +95,9 @@ given-mark old new words p items value = fun_ext (λ key. same key)
 -- ---- a field of one line
 
 -- the line gives the numbers of the field, if none stood before
-once : {A : Type 0} (numbers : A → List ℤ) (before : Option A) (field : A) (zs : List ℤ) (rest : Bool) → (is_inhabited (line_numbers numbers before) || rest) ≡ false
-    → zs ≡ numbers field → line_numbers numbers (Some field) ≡ line_numbers numbers before ++ zs ∷ []
+once : {A : Type 0} (numbers : A → List ℤ) (before : Option A) (field : A) (zs : List ℤ) (rest : Bool)
+    → (is_inhabited (line_numbers numbers before) || rest) ≡ false → zs ≡ numbers field
+    → line_numbers numbers (Some field) ≡ line_numbers numbers before ++ zs ∷ []
 once numbers None field zs rest fresh value = ap (λ ns. ns ∷ []) (sym value)
 once numbers (Some known) field zs rest fresh value = absurd (true≢false fresh)
 

@@ -137,7 +137,8 @@ fn best_in_run<C: Clearing>(
     requires best { MayBeBest (setup_of first.now.task.scene) (state_of_grown first.now) (state_of_grown second.now) so_far }
     ensures best { MayBeBest (setup_of first.now.task.scene) (state_of_grown first.now) (state_of_grown second.now) result }
     ensures no_worse { IsNoWorse so_far result }
-    ensures run { (j : ℕ) → run.start ≤ j → j < run.end → IsWithin end.point (first.now.task.scene.step * first.now.task.scene.step) (numbered_at strips.now j).point
+    ensures run { (j : ℕ) → run.start ≤ j → j < run.end
+        → IsWithin end.point (first.now.task.scene.step * first.now.task.scene.step) (numbered_at strips.now j).point
         → Matches (setup_of first.now.task.scene) (state_of_grown first.now) (state_of_grown second.now) result end.number (numbered_at strips.now j).number }
 {
     let step = first.task().scene.step;

@@ -5,7 +5,8 @@ use Rattle.path_tools.specs.JudgedRuns.{KeepsRecord}
 use Rattle.path_tools.specs.OwnMarks.{IsFirstSeen}
 use Rattle.path_tools.proofs.OwnMarkLaws.{IsFirstSeen-broken, IsFirstSeen-kept, IsFirstSeen-past, may_come_first}
 use Rattle.path_tools.proofs.lawful_records.first_unlawful_among.Goals as goal
-use Rattle.path_tools.proofs.lawful_records.first_unlawful_among.Goals.{then-may_be_first+then-not-keeps_law, then-may_be_first+else-not-keeps_law, else-may_be_first}
+use Rattle.path_tools.proofs.lawful_records.first_unlawful_among.Goals.{then-may_be_first+then-not-keeps_law}
+use Rattle.path_tools.proofs.lawful_records.first_unlawful_among.Goals.{then-may_be_first+else-not-keeps_law, else-may_be_first}
 
 pub keeps_law-requires-clause-between : goal.keeps_law-requires-clause-between
 keeps_law-requires-clause-between g c κs within =

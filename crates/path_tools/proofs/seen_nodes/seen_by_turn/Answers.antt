@@ -50,6 +50,7 @@ loop-mark-preserved c =
           (c.requires.marks index (omega (arith, c.loop-mark-test.true, ap length c.deref-mark-items.ensures.value)))) c.loop-mark.invariant.now);
       each = λ turn own is.
           pushed_each (AreSeen c.args.goals.now run c.args.turns.now.worker) old c.loop-mark.seen c.loop-mark.invariant.each
-          (subst (λ t. AreSeen c.args.goals.now run c.args.turns.now.worker t c.loop-mark.seen) (sym c.loop-mark.invariant.long) c.loop-mark.invariant.now) turn own
+          (subst (λ t. AreSeen c.args.goals.now run c.args.turns.now.worker t c.loop-mark.seen) (sym c.loop-mark.invariant.long)
+          c.loop-mark.invariant.now) turn own
           (ap (λ xs. slice_get xs turn) (sym items) ∙ is);
     }

@@ -37,9 +37,10 @@ loop-mark-preserved c =
     let node =
     node_of_some c.node_of.result (slice_index_or c.deref-mark-items.result.now index None) c.node_of.ensures.none c.node_of.ensures.some
     ∙ ap (λ os. node_of_mark (slice_index_or os index None)) whole in
-    let last : standing_at (old ++ own ∷ []) (suc index) ≡ standing_of (state_of_lists knots c.args.records.now) (node_of_mark (slice_index_or order index None)) =
+    let state = state_of_lists knots c.args.records.now in
+    let last : standing_at (old ++ own ∷ []) (suc index) ≡ standing_of state (node_of_mark (slice_index_or order index None)) =
     get_or_push old own no_standing (suc index) (omega (arith, c.loop-mark.invariant.long)) ∙ c.costs_of-in-loop-mark.ensures
-    ∙ ap (standing_of (state_of_lists knots c.args.records.now)) node in
+    ∙ ap (standing_of state) node in
     record {
       long = omega (arith, ap length items, length-append old (own ∷ []), c.loop-mark.invariant.long);
       start =
@@ -54,7 +55,7 @@ loop-mark-preserved c =
                 let e : index ≡ turn = omega (arith, low, past) in
                 ap (λ xs. standing_at xs (suc turn)) items
                 ∙ subst
-                (λ t. standing_at (old ++ own ∷ []) (suc t) ≡ standing_of (state_of_lists knots c.args.records.now) (node_of_mark (slice_index_or order t None)))
+                (λ t. standing_at (old ++ own ∷ []) (suc t) ≡ standing_of state (node_of_mark (slice_index_or order t None)))
                 e last)
           ];
     }

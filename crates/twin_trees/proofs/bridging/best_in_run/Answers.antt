@@ -68,9 +68,9 @@ loop-position-preserved g c =
               | inl before ↦ c.loop-position.invariant.looked j from before within
               | inr past ↦ (
                   let e : position ≡ j = omega (arith, below, past) in
-                  let here : IsWithin c.args.end.point (c.args.first.now.task.scene.step * c.args.first.now.task.scene.step) (numbered_at nodes position).point =
-                  subst
-                  (λ i. IsWithin c.args.end.point (c.args.first.now.task.scene.step * c.args.first.now.task.scene.step) (numbered_at nodes i).point) (sym e)
+                  let step = c.args.first.now.task.scene.step in
+                  let here : IsWithin c.args.end.point (step * step) (numbered_at nodes position).point =
+                  subst (λ i. IsWithin c.args.end.point (step * step) (numbered_at nodes i).point) (sym e)
                   within in
                   absurd (true≢false (sym (c.has.ensures.1 (IsWithin-same (sym c.of_radius-disc.ensures.center) (sym square) c.at-other.result.point
                   (numbered_at nodes position).point (ap (λ (n : Numbered). n.point) c.at-other.ensures.value) here)) ∙ w.if-has.false)))

@@ -25,10 +25,16 @@ loop-corner-preserved c =
     let y : to_z w32 (of_z w32 corner.y) ≡ corner.y = to_z-of_z w32 corner.y (search rules) in
     let within = c.loop-corner-test.true in
     record {
-      left = reach_more (λ v. below_zero v.x) corners i far.left c.below_zero.result c.max.result none within so_far.left (c.below_zero.ensures ∙ ap below_zero x) c.max.ensures;
-      right = reach_more (λ v. above_zero v.x) corners i far.right c.above_zero.result c.max-in-loop-corner.result none within so_far.right (c.above_zero.ensures ∙ ap above_zero x) c.max-in-loop-corner.ensures;
-      down = reach_more (λ v. below_zero v.y) corners i far.down c.below_zero-in-loop-corner.result c.max-in-loop-corner-2.result none within so_far.down (c.below_zero-in-loop-corner.ensures ∙ ap below_zero y) c.max-in-loop-corner-2.ensures;
-      up = reach_more (λ v. above_zero v.y) corners i far.up c.above_zero-in-loop-corner.result c.max-in-loop-corner-3.result none within so_far.up (c.above_zero-in-loop-corner.ensures ∙ ap above_zero y) c.max-in-loop-corner-3.ensures;
+      left = reach_more (λ v. below_zero v.x) corners i far.left c.below_zero.result c.max.result none within
+          so_far.left (c.below_zero.ensures ∙ ap below_zero x) c.max.ensures;
+      right = reach_more (λ v. above_zero v.x) corners i far.right c.above_zero.result c.max-in-loop-corner.result none within
+          so_far.right (c.above_zero.ensures ∙ ap above_zero x) c.max-in-loop-corner.ensures;
+      down = reach_more (λ v. below_zero v.y) corners i far.down c.below_zero-in-loop-corner.result
+          c.max-in-loop-corner-2.result none within
+          so_far.down (c.below_zero-in-loop-corner.ensures ∙ ap below_zero y) c.max-in-loop-corner-2.ensures;
+      up = reach_more (λ v. above_zero v.y) corners i far.up c.above_zero-in-loop-corner.result
+          c.max-in-loop-corner-3.result none within
+          so_far.up (c.above_zero-in-loop-corner.ensures ∙ ap above_zero y) c.max-in-loop-corner-3.ensures;
     }
 
 -- the reach of all corners

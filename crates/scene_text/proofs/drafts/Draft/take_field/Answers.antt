@@ -1,5 +1,6 @@
 use Rattle.plan_model.specs.Texts.TextLines.{words_of}
-use Rattle.scene_text.proofs.DraftLemmas.{given-room, given-body, given-obstacle, given-clearance, given-start, given-goal, given-step, given-gamma, given-seed, given-strips, given-informed, given-drawn, given-mark}
+use Rattle.scene_text.proofs.DraftLemmas.{given-room, given-body, given-obstacle, given-clearance, given-start, given-goal, given-step}
+use Rattle.scene_text.proofs.DraftLemmas.{given-gamma, given-seed, given-strips, given-informed, given-drawn, given-mark}
 use Rattle.scene_text.proofs.drafts.Draft.take_field.Goals as goal
 
 pub returns-in_ok-push-in-Obstacle-clause-given : goal.returns-in_ok-push-in-Obstacle-clause-given

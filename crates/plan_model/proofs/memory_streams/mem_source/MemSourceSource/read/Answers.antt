@@ -24,7 +24,8 @@ returns-then-count-eq0-clause-slice c =
     let view = c.self.view_is in
     let given = c.move_into-count.ensures in
     let next = c.saturating_add-self-inside.ensures ∙ ap (λ seen. min (seen.calls + 1) 18446744073709551615) view in
-    let works = is_failing_at state c.saturating_add-self-inside.result c.deref.result.now next (c.deref.ensures.value ∙ ap (λ seen. seen.fails) view) c.if-is_failing_call.ensures.listed in
+    let fails = c.deref.ensures.value ∙ ap (λ seen. seen.fails) view in
+    let works = is_failing_at state c.saturating_add-self-inside.result c.deref.result.now next fails c.if-is_failing_call.ensures.listed in
     slice_read state c.self.inside.unread c.move_into-count.new.into into c.move_into-count.result c.min-most.result (ap (λ seen. seen.left) view)
     (some_room into c.is_empty.result c.is_empty.ensures c.if-is_empty.false) works
     (c.min-most.ensures ∙ ap (λ seen. min seen.most (length into)) view) given.count given.prefix
@@ -47,7 +48,8 @@ returns-else-count-eq0-clause-slice c =
     let view = c.self.view_is in
     let given = c.move_into-count.ensures in
     let next = c.saturating_add-self-inside.ensures ∙ ap (λ seen. min (seen.calls + 1) 18446744073709551615) view in
-    let works = is_failing_at state c.saturating_add-self-inside.result c.deref.result.now next (c.deref.ensures.value ∙ ap (λ seen. seen.fails) view) c.if-is_failing_call.ensures.listed in
+    let fails = c.deref.ensures.value ∙ ap (λ seen. seen.fails) view in
+    let works = is_failing_at state c.saturating_add-self-inside.result c.deref.result.now next fails c.if-is_failing_call.ensures.listed in
     slice_read state c.self.inside.unread c.move_into-count.new.into into c.move_into-count.result c.min-most.result (ap (λ seen. seen.left) view)
     (some_room into c.is_empty.result c.is_empty.ensures c.if-is_empty.false) works
     (c.min-most.ensures ∙ ap (λ seen. min seen.most (length into)) view) given.count given.prefix
