@@ -12,7 +12,7 @@ use Rattle.plan_model.specs.declared.geometry.Point.{Point}
 use Rattle.plan_model.proofs.BestNodeLaws.{IsPresent-goal}
 use Rattle.plan_model.proofs.NewNodes.{StandsAt-present}
 use Rattle.plan_words.proofs.PlainScenes.{no_goals}
-use Rattle.plan_words.specs.Bests.{HasPostedHand, OnlyPosts}
+use Rattle.plan_words.specs.Bests.{HasPostedHand, LooksAndPosts, OnlyPosts}
 use Rattle.plan_words.specs.LoweredChildren.{LooksOn, SitsAt}
 use Rattle.plan_words.specs.Plays.{Tells}
 use Rattle.plan_words.specs.States.{GoesOn, HasPairs, PassState, SharedState, run_in, with_view}
@@ -21,7 +21,7 @@ use Rattle.step_core.specs.LaterViews.{IsLawfulView}
 use Rattle.step_core.specs.GrownWords.{has_node}
 use Rattle.step_core.specs.SeenBests.{MayPost, SeesGoal, seen_first_cost}
 use Rattle.step_core.specs.Stages.{has_link}
-use Rattle.step_core.specs.ViewSteps.{best_with, hand_with_post, lowered, post_noted, posted, with_best}
+use Rattle.step_core.specs.ViewSteps.{best_with, hand_with_post, loaded, lowered, post_noted, posted, with_best}
 use Rattle.step_core.specs.ViewTrees.{SeesPoint}
 use Rattle.step_core.specs.SeenWords.{seen_tree_of_words}
 use Rattle.step_core.specs.Views.{run_sizes, sees, tree_seen}
@@ -250,6 +250,31 @@ module _ (n : ℕ) (before mid after : PassState) where
     where
       same_hand : mid.view.hand ≡ before.view.hand
       same_hand = ap (λ (p : PassState). p.view.hand) is ∙ hand
+
+-- the point is looked at, and it lies in no goal
+pub LooksAndPosts-looked : (n : ℕ) (before after : PassState)
+    → after ≡ with_view before (loaded before.view (PointOf n) (sees after.view (PointOf n))) → ¬ SeesGoal before.view n
+    → LooksAndPosts n before.view after.view
+LooksAndPosts-looked n before after is off = record {
+  looked = λ _. ap (λ (p : PassState). p.view) is;
+  posted = λ goal. absurd (off goal);
+}
+
+-- or it does, and the node is posted
+pub LooksAndPosts-posted : (n : ℕ) (before mid after : PassState)
+    → mid ≡ with_view before (loaded before.view (PointOf n) (sees mid.view (PointOf n)))
+    → after ≡ with_view mid (with_best mid.view after.view.best (hand_with_post mid.view.hand n)) → SeesGoal before.view n
+    → LooksAndPosts n before.view after.view
+LooksAndPosts-posted n before mid after looks posts goal =
+    let best = after.view.best in
+    let seen : sees mid.view (PointOf n) ≡ sees after.view (PointOf n) = sym (ap (λ (p : PassState). sees p.view (PointOf n)) posts) in
+    record {
+      looked = λ off. absurd (off goal);
+      posted = λ _.
+          ap (λ (p : PassState). p.view) posts
+          ∙ ap (λ (p : PassState). with_best p.view best (hand_with_post p.view.hand n)) looks
+          ∙ ap (λ w. with_best (loaded before.view (PointOf n) w) best (hand_with_post before.view.hand n)) seen;
+    }
 
 pub OnlyPosts-none : (n : ℕ) (before after : PassState) (view : View) → after ≡ with_view before view → view.crew ≡ before.view.crew
     → view.most ≡ before.view.most → view.hand ≡ before.view.hand → OnlyPosts n before after

@@ -3,9 +3,9 @@ use Rattle.std.specs.Prelude.{◌≡◌, ◌⊎◌, ℕ, ◌≤◌, ◌^◌, IsT
 use Rattle.plan_model.specs.Trees.BestNode.{is_goal_point}
 use Rattle.plan_words.specs.States.{PassState, with_view}
 use Rattle.step_core.specs.SeenBests.{SeesGoal}
-use Rattle.step_core.specs.ViewSteps.{hand_with_post}
+use Rattle.step_core.specs.ViewSteps.{hand_with_post, loaded, with_best}
 use Rattle.step_core.specs.Views.{sees}
-use Rattle.step_core.specs.WordNames.Word.{TreeOf}
+use Rattle.step_core.specs.WordNames.Word.{PointOf, TreeOf}
 use Rattle.step_core.specs.Words.{best_word, cost_in}
 use Rattle.step_core.specs.declared.views.Hand.{Hand}
 use Rattle.step_core.specs.declared.views.Stage.TheVariants.{Counted}
@@ -16,6 +16,12 @@ pub record FindsGoalNode (view : View) (best : ℕ × ℕ) : Type 0 where
   pub goal : SeesGoal view best.0
   pub written : 2 ^ 63 ≤ sees view (TreeOf best.0)
   pub paid : cost_in (sees view (TreeOf best.0)) ≤ best.1
+
+-- The point of node n is looked at again, and a goal node is posted then: nothing else is done.
+pub record LooksAndPosts (n : ℕ) (before after : View) : Type 0 where
+  pub looked : ¬ SeesGoal before n → after ≡ loaded before (PointOf n) (sees after (PointOf n))
+  pub posted : SeesGoal before n
+      → after ≡ with_best (loaded before (PointOf n) (sees after (PointOf n))) after.best (hand_with_post before.hand n)
 
 -- Of the pass only its view is another. Share, limit and hand stay, but that the hand may note a post of node n, a goal node.
 pub record OnlyPosts (n : ℕ) (before after : PassState) : Type 0 where

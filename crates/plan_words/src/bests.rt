@@ -1,4 +1,4 @@
-//! The steps on the best word: a pass looks at the least pair of a cost and a goal node that was posted, and posts a goal node.
+//! The steps on the best word: a pass looks at the least pair of a cost and a goal node, and posts a goal node.
 
 ghost use Rattle.std.specs.Prelude.{◌≡◌, ◌≢◌, ℕ, suc, ◌+◌, ◌<◌, ◌≤◌, ◌^◌, ◌==◌, if◌then◌else◌, true, IfNone, IfSome};
 ghost use Rattle.plan_model.specs.Runs.Textbook.{skipping_goals};
@@ -20,8 +20,8 @@ use plan_model::Point;
 use step_core::{Hand, Stage, lies_in_goals, pack_best, pair_in, read_best};
 
 impl Shared {
-    /// The least pair of a cost, in 256ths of a lattice step, and a goal node that any pass has posted: the node and the cost, which it
-    /// does not exceed now. It is no greater than the pair of first cost and number of each goal node that is the start, or that the pass
+    /// The least pair of a cost, in 256ths of a lattice step, and a goal node that the run began with or any pass has posted: the node and
+    /// the cost, which it does not exceed now. It is no greater than the pair of first cost and number of each goal node that is the start, or that the pass
     /// has seen recorded, as all are that its worker has placed. `None` only if the word told of no goal node at this step, and then there
     /// is no such node. The scene is informed. A hand for whose mark nothing is written takes what was found.
     pub fn best(&self, pass: &mut Pass) -> Option<(u32, u64)>
@@ -69,8 +69,8 @@ impl Shared {
 }
 
 impl Shared {
-    /// Whether the point lies in a goal by which marks are skipped.
-    pub(crate) fn skips_by(&self, point: Point) -> bool
+    /// Whether the point lies in a goal by which marks are skipped: in one of the scene's goals, if the scene is informed. O(g) for g goals.
+    pub fn skips_by(&self, point: Point) -> bool
         ensures { result ≡ lies_in_goals (skipping_goals self.now.task.scene) point }
     {
         self.task.scene.informed && lies_in_goals(self.task.scene.goals.as_slice(), point)

@@ -1,9 +1,9 @@
 //! The steps on parents and costs: a pass looks at the tree words of nodes that it has seen, writes the first word and the tree
 //! word of the node in its hand, and lowers the cost of a node below a parent by which it is cheaper.
 
-ghost use Rattle.std.specs.Prelude.{◌≡◌, ◌≢◌, ℕ, ◌<◌, ◌≤◌, ◌^◌, ◌==◌, if◌then◌else◌, false, IfErr, IfOk, IfSome, IsOk, IsSome};
+ghost use Rattle.std.specs.Prelude.{◌≡◌, ◌≢◌, ℕ, ◌<◌, ◌≤◌, ◌^◌, ◌==◌, if◌then◌else◌, false, IfErr, IfOk, IfSome, IsOk, IsSome, true};
 ghost use Rattle.plan_model.specs.Trees.PointsByNumber.{IsPresent};
-ghost use Rattle.plan_words.specs.Bests.{OnlyPosts};
+ghost use Rattle.plan_words.specs.Bests.{LooksAndPosts, OnlyPosts};
 ghost use Rattle.plan_words.specs.Parents.{FindsLess, IsEdgeSeen, IsPairIn};
 ghost use Rattle.plan_words.specs.States.{BelongsTo, GoesOn, HasWholeShare, with_view};
 ghost use Rattle.step_core.specs.SeenBests.{SeesGoal};
@@ -122,6 +122,8 @@ impl Shared {
         requires may { MayLower pass.old.view node parent cost }
         // in a scene that is not informed this is one step
         ensures view { self.now.task.scene.informed ≡ false → IfOk result (λ _. pass.new ≡ with_view pass.old (lowered pass.old.view node parent cost)) }
+        ensures posts { self.now.task.scene.informed ≡ true
+            → IfOk result (λ _. LooksAndPosts node (lowered pass.old.view node parent cost) pass.new.view) }
         ensures kept { IfOk result (λ _. OnlyPosts node pass.old pass.new) }
         ensures goes_on { GoesOn pass.old.view pass.new.view }
         ensures view_found { IfErr result (λ _. pass.new ≡ with_view pass.old (loaded pass.old.view (TreeOf node) (sees pass.new.view (TreeOf node)))) }
@@ -182,6 +184,7 @@ impl Shared {
         requires part { 0 < share pass.old.view }
         requires present { IsPresent (tree_seen pass.old.view).points node }
         requires written { 2 ^ 63 ≤ sees pass.old.view (TreeOf node) }
+        ensures posts { LooksAndPosts node pass.old.view pass.new.view }
         ensures kept { OnlyPosts node pass.old pass.new }
         ensures goes_on { GoesOn pass.old.view pass.new.view }
         ensures seen { sees pass.new.view ≡ sees pass.old.view }

@@ -57,7 +57,7 @@ impl Pass {
         self.lists.search.clear();
     }
 
-    /// Puts a spot at the end of those that wait, if it is wanted; no jump depends on that. Those that wait and those that were taken
+    /// Puts a spot at the end of those that wait, if it is wanted; no branch depends on that. Those that wait and those that were taken
     /// are no more than there are nodes. O(1).
     #[inline]
     pub fn put_spot_if(&mut self, spot: Spot, wanted: bool)
@@ -106,7 +106,7 @@ impl Pass {
         self.lists.search.pop()
     }
 
-    /// Puts the node of a spot at the end of those found, if it is wanted; no jump depends on that. Fewer were found than were taken.
+    /// Puts the node of a spot at the end of those found, if it is wanted; no branch depends on that. Fewer were found than were taken.
     /// O(1).
     #[inline]
     pub fn note_if(&mut self, spot: Spot, wanted: bool)
@@ -151,7 +151,7 @@ impl Pass {
     }
 
     /// Keeps of the nodes found those that cost more, as the pass saw them last, than this and their edges, in rising number. A node's
-    /// number is at most that of marks, and the cost is below 2^63. No jump depends on what is kept. O(n) for n found, and
+    /// number is at most that of marks, and the cost is below 2^63. No branch depends on what is kept. O(n) for n found, and
     /// O(k log k) for k kept.
     pub fn keep_dearer(&mut self, cost: u64)
         requires cost { cost < 2 ^ 63 }
@@ -187,15 +187,6 @@ impl Pass {
         ensures rising { IsNonDecreasing self.new.lists.around }
     {
         fill_sorted(&mut self.lists.around, &self.lists.search);
-    }
-
-    /// Empties the near list.
-    pub fn clear_near(&mut self)
-        ensures others { self.new ≡ with_lists self.old self.new.lists }
-        ensures near { self.new.lists ≡ record self.old.lists { near = [] } }
-        ensures lawful { IsLawfulView self.new.view }
-    {
-        self.lists.near.clear();
     }
 
     /// The near list: the nodes that the last search for near nodes found, in rising number. O(1).

@@ -54,7 +54,7 @@ impl SearchStore {
         self.count = 0;
     }
 
-    /// Puts a spot at the end of those that wait, if it is wanted. It is always written, so that no jump depends on that.
+    /// Puts a spot at the end of those that wait, if it is wanted. It is always written, so that no branch depends on that.
     pub(crate) fn put_if(&mut self, spot: Spot, wanted: bool)
         requires { self.old.lists.taken + length self.old.lists.spots < self.old.room }
         ensures { self.new ≡ record self.old {
@@ -127,7 +127,7 @@ impl SearchStore {
         self.cells[index] = self.cells[index].with_edge(edge);
     }
 
-    /// Keeps those found that were seen to cost more than this and their edges, in rising number. No jump depends on who does, and none
+    /// Keeps those found that were seen to cost more than this and their edges, in rising number. No branch depends on which do, and none
     /// waits then.
     pub(crate) fn keep_dearer(&mut self, pairs: &SeenPairs, cost: u64)
         requires cost { cost < 2 ^ 63 }

@@ -1,7 +1,7 @@
-//! Gates: what is told when a worker comes to a mark.
+//! Gates: observers of the marks that workers handle.
 
-/// What is told of the marks of each worker. It answers nothing, and may wait: no other worker waits for it, and a test orders
-/// the workers by it.
+/// An observer that is told when a worker begins a mark and when it has finished it. It returns nothing. It may block its worker; no other
+/// worker waits for it. Tests use it to order the workers.
 pub trait Gate: Sync {
     /// The worker has taken a mark, and is about to handle it; `turn` is the turn in that mark's record.
     fn before(&self, worker: u32, turn: u32);

@@ -3,7 +3,6 @@
 
 ghost use Rattle.std.specs.Prelude.{◌≡◌, ◌<◌, ◌≤◌, true, false, suc, All, IfSome, IsSome};
 ghost use Rattle.kd_shared.specs.Placings.{GoesOnPlacing, IsPlaced, KeepsShare};
-ghost use Rattle.plan_model.specs.Runs.Textbook.{skipping_goals};
 ghost use Rattle.plan_model.specs.Trees.BestNode.{lies_in_goals};
 ghost use Rattle.plan_model.specs.Spaces.Clearance.{Clear};
 ghost use Rattle.plan_model.specs.Spaces.ConfigurationSpace.{space_of};
@@ -29,7 +28,6 @@ use crate::recording::{record_placed, record_unplaced};
 use kd_shared::{Placing, place};
 use plan_model::{Outcome, Point, Record};
 use plan_words::{Pass, Shared};
-use step_core::lies_in_goals;
 use swept_check::Clearing;
 use tree_rewire::{choose_found, rewire_found};
 
@@ -107,17 +105,9 @@ fn post_goal_node(shared: &Shared, pass: &mut Pass, k: u32, p: Point)
         × (pass.new.view.best ≤ best_word (cost_in (sees pass.old.view (TreeOf (suc k)))) (suc k)) }
     ensures elsewhere { lies_in_goals pass.old.view.run.goals p ≡ false → pass.new ≡ pass.old }
 {
-    if skips_by(shared, p) {
+    if shared.skips_by(p) {
         shared.post(pass, k + 1);
     }
-}
-
-/// Whether the point lies in a goal by which marks are skipped.
-fn skips_by(shared: &Shared, p: Point) -> bool
-    ensures { result ≡ lies_in_goals (skipping_goals shared.now.task.scene) p }
-{
-    let scene = &shared.task().scene;
-    scene.informed && lies_in_goals(scene.goals.as_slice(), p)
 }
 
 /// Hangs the node in hand by the nodes found, which are near its point, and tries to place it.

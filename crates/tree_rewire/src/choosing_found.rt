@@ -30,7 +30,7 @@ use swept_check::Clearing;
 /// edges to the point then.
 ///
 /// The tree word of a parent and the cost through it is the lower number of two if the pair is the lesser. So the least word is found
-/// without a jump on what was loaded, and its edge is tested first; only if that is blocked the next greater word is looked for. The
+/// without a branch on what was loaded, and its edge is tested first; only if that is blocked the next greater word is looked for. The
 /// edge of the nearest node is known to be clear. O(n) for n found nodes, and as much for each blocked edge.
 pub fn choose_found<C: Clearing>(
     shared: &Shared,

@@ -75,8 +75,8 @@ pub fn rewire<C: Clearing>(shared: &Shared, pass: &mut Pass, hall: &C, k: u32)
 /// The same with the nodes that the last search of the pass found, in whatever order, whose records have the costs of their edges to
 /// the new node.
 ///
-/// Seen costs only fall: who is not dearer than through the new one now never is. So those that are dearer are picked first, without a
-/// jump on what was seen, and they alone are sorted, and looked at again when their turn comes. O(n) for n found nodes,
+/// Seen costs only fall: a node that is not dearer than through the new one now never becomes so. So those that are dearer are picked
+/// first, without a branch on what was seen, and they alone are sorted, and looked at again when their turn comes. O(n) for n found nodes,
 /// O(k log k) for k that are dearer, and what the spreads take.
 pub fn rewire_found<C: Clearing>(shared: &Shared, pass: &mut Pass, hall: &C, k: u32)
     requires belongs { BelongsTo pass.old shared.now }

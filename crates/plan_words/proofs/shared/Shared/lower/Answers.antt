@@ -1,11 +1,13 @@
-use Rattle.std.proofs.Common.{◌≤◌, ap, length, refl, subst, ◌∙◌}
+use Rattle.std.proofs.Common.{◌≤◌, ap, length, refl, subst, sym, ◌∙◌}
 use Rattle.std.specs.Prelude.{is_some}
+use Rattle.std.proofs.lemmas.Bool.{true≢false}
 use Rattle.plan_words.proofs.GoingOn.{BelongsTo-later, GoesOn-trans}
 use Rattle.plan_words.proofs.KeptPairs.{fits_word}
 use Rattle.plan_words.proofs.Posting.{OnlyPosts-after, goal-before, goal-later, lowered_here}
 use Rattle.plan_words.proofs.shared.Shared.lower.Goals as goal
 use Rattle.plan_words.proofs.shared.Shared.lower.Goals.{After-lower_pair}
-use Rattle.plan_words.specs.States.{PassState}
+use Rattle.plan_words.specs.Bests.{LooksAndPosts}
+use Rattle.plan_words.specs.States.{PassState, SharedState}
 use Rattle.step_core.specs.ViewSteps.{lowered}
 use Rattle.step_core.specs.WordNames.{Words}
 use Rattle.step_core.specs.WordNames.Word.{TreeOf}
@@ -25,6 +27,15 @@ pub post_lowered-requires-clause-present : goal.post_lowered-requires-clause-pre
 post_lowered-requires-clause-present c =
     let later = c.in_ok-lower_pair.ensures.goes_on.later in
     IsPresent-later c.args.pass.now.view c.lower_pair.new.pass.view later.run later.seen c.args.node (ap is_some c.requires.may.seen.stands)
+
+pub returns-then-self-clause-posts : goal.returns-then-self-clause-posts
+returns-then-self-clause-posts c _ =
+    subst (λ v. LooksAndPosts c.args.node v c.post_lowered.new.pass.view) (ap (λ (p : PassState). p.view) c.in_ok-lower_pair.ensures.view)
+    c.post_lowered.ensures.posts
+
+pub returns-else-self-clause-posts : goal.returns-else-self-clause-posts
+returns-else-self-clause-posts c informed =
+    absurd (true≢false (sym informed ∙ sym (ap (λ (s : SharedState). s.task.scene.informed) c.self.view_is) ∙ c.if-self.false))
 
 pub returns-then-self-clause-kept : goal.returns-then-self-clause-kept
 returns-then-self-clause-kept c =
