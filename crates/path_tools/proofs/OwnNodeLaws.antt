@@ -30,9 +30,11 @@ use Rattle.point_strips.specs.declared.strips.Run.{Run}
 use Rattle.step_core.specs.PackedRuns.{state_of_lists}
 use Rattle.path_tools.specs.OwnNodes.{AreNodesBefore, ArePresent, HasNo, HasOne, IsBadAt, IsNearerAt, IsNodeBefore, IsPlacedAt, IsPlacedMarkAt}
 use Rattle.path_tools.specs.OwnNodes.{IsUnlawfulAt}
-use Rattle.path_tools.specs.OwnNodes.{IsBadNear, IsNearer, IsNearestOfEarlier, IsTaken, KeepsNear}
+use Rattle.path_tools.specs.OwnNodes.{IsNearestOfEarlier, IsTaken, KeepsNear}
 use Rattle.path_tools.specs.SeenNodes.{HaveOwnTurns, IsMarkOfTurn, is_before, places_before}
 use Rattle.path_tools.specs.Standings.{AreStandings, place_of, standing_at, standing_of, turns_to}
+use Rattle.path_tools.specs.declared.searches.NearerSearch.{NearerSearch}
+use Rattle.path_tools.specs.declared.searches.NeighbourSearch.{NeighbourSearch}
 use Rattle.path_tools.specs.declared.standings.Standing.{Standing}
 use Rattle.path_tools.specs.ExactEdges.{FitsEdges}
 use Rattle.path_tools.proofs.ListedNodes.{none-stands, same-listed}
@@ -282,35 +284,31 @@ module _ (Bad : Numbered → Type 0) (center : Point) (square : ℕ) (within : (
   }
 
 -- a node of a search lies in its disc
-pub nearer_within : (standings : List Standing) (turn : ℕ) (p : Point) (distance number : ℕ) (center : Point) (square : ℕ) → center ≡ p
-    → square ≡ distance → (m : Numbered) → IsNearerAt standings turn p distance number m → IsWithin center square m.point
-nearer_within standings turn p distance number center square here is m h =
-    let away : squared_distance m.point center ≡ squared_distance m.point p = ap (squared_distance m.point) here in
+pub nearer_within : (standings : List Standing) (search : NearerSearch) (center : Point) (square : ℕ) → center ≡ search.point
+    → square ≡ search.distance → (m : Numbered) → IsNearerAt standings search m → IsWithin center square m.point
+nearer_within standings search center square here is m h =
+    let away : squared_distance m.point center ≡ squared_distance m.point search.point = ap (squared_distance m.point) here in
     elim h.nearer [
       | inl less ↦ omega (arith, away, is, less)
       | inr same ↦ omega (arith, away, is, same.0)
     ]
 
-pub bad_within : (space : ConfigurationSpace) (standings : List Standing) (turn first_cost most : ℕ) (p : Point) (center : Point) (square : ℕ)
-    → center ≡ p → square ≡ most → (m : Numbered) → IsBadAt space standings turn first_cost most p m → IsWithin center square m.point
-bad_within space standings turn first_cost most p center square here is m h =
-    let away : squared_distance m.point center ≡ squared_distance m.point p = ap (squared_distance m.point) here in
-    omega (arith, away, is, h.cheaper.within)
-
-pub unlawful_within : (space : ConfigurationSpace) (standings : List Standing) (turn first_cost most distance number : ℕ) (p : Point) (center : Point)
-    (square : ℕ) → center ≡ p → square ≡ most → distance ≤ most → (m : Numbered)
-    → IsUnlawfulAt space standings turn first_cost most distance number p m → IsWithin center square m.point
-unlawful_within space standings turn first_cost most distance number p center square here is low m (inr bad) =
-    bad_within space standings turn first_cost most p center square here is m bad
-unlawful_within space standings turn first_cost most distance number p center square here is low m (inl near) =
-    let away : squared_distance m.point center ≡ squared_distance m.point p = ap (squared_distance m.point) here in
+pub unlawful_within : (space : ConfigurationSpace) (standings : List Standing) (search : NeighbourSearch) (center : Point) (square : ℕ)
+    → center ≡ search.nearer.point → square ≡ search.square → search.nearer.distance ≤ search.square → (m : Numbered)
+    → IsUnlawfulAt space standings search m → IsWithin center square m.point
+unlawful_within space standings search center square here is low m (inr bad) =
+    let away : squared_distance m.point center ≡ squared_distance m.point search.nearer.point = ap (squared_distance m.point) here in
+    omega (arith, away, is, bad.cheaper.within)
+unlawful_within space standings search center square here is low m (inl near) =
+    let away : squared_distance m.point center ≡ squared_distance m.point search.nearer.point = ap (squared_distance m.point) here in
     elim near.nearer [
       | inl less ↦ omega (arith, away, is, low, less)
       | inr same ↦ omega (arith, away, is, low, same.0)
     ]
 
 -- no node is nearer than at no distance
-pub none_nearer : (standings : List Standing) (turn : ℕ) (p : Point) (m : Numbered) → ¬ IsNearerAt standings turn p 0 0 m
+pub none_nearer : (standings : List Standing) (turn : ℕ) (p : Point) (m : Numbered)
+    → ¬ IsNearerAt standings (record { point = p; distance = 0; number = 0; turn = turn }) m
 none_nearer standings turn p m near =
     elim near.nearer [
       | inl less ↦ omega (arith, less)
@@ -383,6 +381,21 @@ module _ (state : TreeState) (entry : Record) (turns : ℕ) (low : entry.turn �
         stands = there.stands;
         standing = ap (standing_at standings) (sym there.place) ∙ table.each there.node there.before;
       }
+
+-- an earlier node that is nearer to a mark than this distance, or has a lesser number (asked of nodes within that distance)
+abbrev pub IsNearer : TreeState → Record → Point → ℕ → Numbered → Type 0
+IsNearer state entry mark distance m =
+    IsEarlier state entry m.number × ((squared_distance m.point mark < distance) ⊎ (m.number < entry.nearest))
+
+-- a node that stood already was by its costs a cheaper parent of a new node at p, or is dearer than by way of that
+pub record IsCheaperNear (state : TreeState) (entry : Record) (p : Point) (m : Numbered) : Type 0 where
+  pub earlier : IsEarlier state entry m.number
+  pub cheaper : (first_cost_of state m.number + cost_of m.point p < entry.first_cost) ⊎ (entry.first_cost + cost_of m.point p < state.cost m.number)
+
+-- the same of a node with a clear segment to p
+pub record IsBadNear (space : ConfigurationSpace) (state : TreeState) (entry : Record) (p : Point) (m : Numbered) : Type 0 where
+  pub cheaper : IsCheaperNear state entry p m
+  pub clear : Clear space m.point p
 
 module _ (state : TreeState) (entry : Record) where
   -- ---- the nearest
@@ -503,7 +516,7 @@ not_false false h = absurd (cc)
 module _ (state : TreeState) (entry : Record) (turns : ℕ) (low : entry.turn ≤ turns) (nodes : List Numbered) (standings : List Standing)
     (own : AreNodesBefore state entry.worker turns nodes) (table : AreStandings state entry.worker turns standings) where
   abbrev Nearer : Point → ℕ → ℕ → Numbered → Type 0
-  Nearer p distance number = IsNearerAt standings entry.turn p distance number
+  Nearer p distance number = IsNearerAt standings (record { point = p; distance = distance; number = number; turn = entry.turn })
 
   module _ (mark : Point) (distance : ℕ) (is : distance ≡ distance_to mark state.points entry.nearest) where
     no_nearer : HasNo (Nearer mark distance entry.nearest) nodes 0 (length nodes) → (n : ℕ) (p : Point) → IsEarlier state entry n
@@ -563,9 +576,11 @@ module _ (state : TreeState) (entry : Record) (turns : ℕ) (low : entry.turn �
         ] in
         taken state entry p 0 (record { point = m.point; number = there.node }) refl there.stands within there.earlier
 
-  module _ (space : ConfigurationSpace) (p : Point) (radius square : ℕ) (is : square ≡ radius * radius) where
+  module _ (space : ConfigurationSpace) (p : Point) (radius square distance number : ℕ) (is : square ≡ radius * radius) where
     abbrev Bad : Numbered → Type 0
-    Bad = IsBadAt space standings entry.turn entry.first_cost square p
+    Bad =
+        let nearer : NearerSearch = record { point = p; distance = distance; number = number; turn = entry.turn } in
+        IsBadAt space standings (record { nearer = nearer; square = square; first_cost = entry.first_cost })
 
     pub keeps_all_near : HasNo Bad nodes 0 (length nodes) → KeepsNear space state entry p radius
     keeps_all_near none =

@@ -14,12 +14,14 @@ use Rattle.plan_model.specs.Spaces.Clearance.{Clear}
 use Rattle.plan_model.specs.Trees.LeastPairs.{IsNotAbove}
 use Rattle.plan_model.specs.Trees.Nearness.{distance_to, is_within}
 use Rattle.plan_model.specs.Trees.PointsByNumber.{StandsAt, IsPresent, point_at, point_of}
-use Rattle.plan_model.specs.Trees.TreeStates.{TreeState, first_cost_of}
+use Rattle.plan_model.specs.Trees.TreeStates.{TreeState}
 use Rattle.point_strips.specs.Walks.{numbered_at}
 use Rattle.point_strips.specs.declared.strips.Numbered.{Numbered}
 use Rattle.step_core.specs.PackedRuns.{state_of_lists}
 use Rattle.path_tools.specs.SeenNodes.{is_before}
 use Rattle.path_tools.specs.Standings.{place_of, standing_at}
+use Rattle.path_tools.specs.declared.searches.NearerSearch.{NearerSearch}
+use Rattle.path_tools.specs.declared.searches.NeighbourSearch.{NeighbourSearch}
 use Rattle.path_tools.specs.declared.standings.Standing.{Standing}
 
 -- The numbered point is a node of the worker that stood before a turn, numbered by its place.
@@ -67,36 +69,30 @@ pub record HasOne (Bad : Numbered → Type 0) (nodes : List Numbered) (from to :
 abbrev pub HasNo : (Numbered → Type 0) → List Numbered → ℕ → ℕ → Type 0
 HasNo Bad nodes from to = (j : ℕ) → from ≤ j → j < to → ¬ Bad (numbered_at nodes j)
 
--- The node at this place stood before a turn, and is nearer to a point than at a distance, or as near with a number below this one.
-pub record IsNearerAt (standings : List Standing) (turn : ℕ) (p : Point) (distance number : ℕ) (m : Numbered) : Type 0 where
-  pub earlier : m.number ≤ turn
-  pub nearer : (squared_distance m.point p < distance)
-      ⊎ ((squared_distance m.point p ≡ distance) × ((standing_at standings m.number).node < number))
+-- The node at this place stood before the turn of a search, and is nearer to its point than its distance, or as near with a lesser number.
+pub record IsNearerAt (standings : List Standing) (search : NearerSearch) (m : Numbered) : Type 0 where
+  pub earlier : m.number ≤ search.turn
+  pub nearer : (squared_distance m.point search.point < search.distance)
+      ⊎ ((squared_distance m.point search.point ≡ search.distance) × ((standing_at standings m.number).node < search.number))
 
--- The node at this place stood before a turn, within a distance of p, and by its costs was a cheaper parent of a new node at p that cost
--- so much at first, or is dearer than by way of that.
-pub record IsCheaperAt (standings : List Standing) (turn first_cost square : ℕ) (p : Point) (m : Numbered) : Type 0 where
-  pub earlier : m.number ≤ turn
-  pub within : squared_distance m.point p ≤ square
-  pub cheaper : ((standing_at standings m.number).first_cost + cost_of m.point p < first_cost)
-      ⊎ (first_cost + cost_of m.point p < (standing_at standings m.number).cost)
+-- The node at this place stood before the turn of a search, within its radius, and by its costs was a cheaper parent of the new node, or
+-- is dearer than by way of that.
+pub record IsCheaperAt (standings : List Standing) (search : NeighbourSearch) (m : Numbered) : Type 0 where
+  pub earlier : m.number ≤ search.nearer.turn
+  pub within : squared_distance m.point search.nearer.point ≤ search.square
+  pub cheaper : ((standing_at standings m.number).first_cost + cost_of m.point search.nearer.point < search.first_cost)
+      ⊎ (search.first_cost + cost_of m.point search.nearer.point < (standing_at standings m.number).cost)
 
--- the same of a node with a clear segment to p
-pub record IsBadAt (space : ConfigurationSpace) (standings : List Standing) (turn first_cost square : ℕ) (p : Point) (m : Numbered) : Type 0 where
-  pub cheaper : IsCheaperAt standings turn first_cost square p m
-  pub clear : Clear space m.point p
+-- the same of a node with a clear segment to the new node
+pub record IsBadAt (space : ConfigurationSpace) (standings : List Standing) (search : NeighbourSearch) (m : Numbered) : Type 0 where
+  pub cheaper : IsCheaperAt standings search m
+  pub clear : Clear space m.point search.nearer.point
 
 -- the node at this place is nearer, or the same of a node with a clear segment
-abbrev pub IsUnlawfulAt : ConfigurationSpace → List Standing → ℕ → ℕ → ℕ → ℕ → ℕ → Point → Numbered → Type 0
-IsUnlawfulAt space standings turn first_cost square distance number p m =
-    IsNearerAt standings turn p distance number m ⊎ IsBadAt space standings turn first_cost square p m
+abbrev pub IsUnlawfulAt : ConfigurationSpace → List Standing → NeighbourSearch → Numbered → Type 0
+IsUnlawfulAt space standings search m = IsNearerAt standings search.nearer m ⊎ IsBadAt space standings search m
 
 -- ---- the same by nodes
-
--- an earlier node that is nearer to a mark than this distance, or has a lesser number (asked of nodes within that distance)
-abbrev pub IsNearer : TreeState → Record → Point → ℕ → Numbered → Type 0
-IsNearer state entry mark distance m =
-    IsEarlier state entry m.number × ((squared_distance m.point mark < distance) ⊎ (m.number < entry.nearest))
 
 -- no earlier node is nearer to a mark than the nearest of its record
 abbrev pub IsNearestOfEarlier : TreeState → Record → Point → Type 0
@@ -107,16 +103,6 @@ pub record IsTaken (state : TreeState) (entry : Record) (p : Point) : Type 0 whe
   pub node : ℕ
   pub earlier : IsEarlier state entry node
   pub stands : StandsAt state.points node p
-
--- a node that stood already was by its costs a cheaper parent of a new node at p, or is dearer than by way of that
-pub record IsCheaperNear (state : TreeState) (entry : Record) (p : Point) (m : Numbered) : Type 0 where
-  pub earlier : IsEarlier state entry m.number
-  pub cheaper : (first_cost_of state m.number + cost_of m.point p < entry.first_cost) ⊎ (entry.first_cost + cost_of m.point p < state.cost m.number)
-
--- the same of a node with a clear segment to p
-pub record IsBadNear (space : ConfigurationSpace) (state : TreeState) (entry : Record) (p : Point) (m : Numbered) : Type 0 where
-  pub cheaper : IsCheaperNear state entry p m
-  pub clear : Clear space m.point p
 
 -- Node i was no cheaper parent of a new node at p, and is no dearer than by way of that.
 pub record IsKeptNear (state : TreeState) (entry : Record) (p : Point) (i : ℕ) : Type 0 where

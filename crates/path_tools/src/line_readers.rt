@@ -9,13 +9,13 @@ ghost use Rattle.path_tools.specs.ReportLines.{FitsKnot, line_text};
 ghost use Rattle.path_tools.specs.ReportLines.ReportLine.{NoPath, NodeLine, PathOf, PathPoint};
 
 use crate::fields::{after, read_field};
-use plan_model::{Knot, Point};
+use plan_model::{Knot, MOST_COORDINATE, Point};
 
 /// The greatest coordinate of a report.
-const MOST_ORDINATE: u64 = (1 << 20) - 1;
+const MOST_ORDINATE: u64 = MOST_COORDINATE as u64;
 
 /// The greatest cost of a report.
-const MOST_COST: u64 = (1 << 44) - 1;
+pub(crate) const MOST_COST: u64 = (1 << 44) - 1;
 
 /// What stands after the line of a report without a path; `None` exactly if the text does not begin with that line. O(1).
 pub(crate) fn read_no_path(text: &[u8]) -> Option<&[u8]>

@@ -5,15 +5,13 @@ ghost use Rattle.plan_model.specs.Reports.ReportText.{line};
 ghost use Rattle.plan_model.specs.declared.limits.TheConstants.{MOST_MARKS};
 
 use crate::fields::{after, read_field};
+use crate::line_readers::MOST_COST;
 
 /// The greatest worker that a record's word holds.
 const MOST_WORKER: u64 = (1 << 6) - 1;
 
 /// The greatest turn and the greatest class that a record's word holds.
 const MOST_IN_WORD: u64 = (1 << 18) - 1;
-
-/// The greatest cost of a report.
-const MOST_COST: u64 = (1 << 44) - 1;
 
 /// The mark, the worker and the turn of a line, and what stands after them; `None` exactly if the text does not begin so.
 pub(crate) fn read_turn(text: &[u8], marks: u32) -> Option<(u32, u32, u32, &[u8])>

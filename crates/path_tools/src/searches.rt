@@ -29,22 +29,16 @@ struct NearerSearch {
     turn: u32,
 }
 
-/// A search for a node that stood before a turn, within a radius of a new node, that was a cheaper parent of that, or is dearer than by
-/// way of it, with a clear segment; or one that is nearer to it than at a distance, or as near with a number below a number.
+/// A search for a node that is nearer to a new node than it may be; or that stood before the same turn, within a radius of the new node and
+/// with a clear segment to it, and was a cheaper parent of it, or is dearer than by way of it.
 #[derive(Clone, Copy)]
 struct NeighbourSearch {
-    /// Where the new node stands.
-    point: Point,
+    /// Which nodes are nearer to the new node than they may be: its distance is not above the radius.
+    nearer: NearerSearch,
     /// The square of the radius.
     square: u64,
     /// What the new node cost at first.
     first_cost: u64,
-    /// The square of the distance, which is not above the radius.
-    distance: u64,
-    /// The number.
-    number: u32,
-    /// The turn.
-    turn: u32,
 }
 
 /// Whether no node that stood already is nearer to a mark than the nearest of its record, or as near with a lesser number. O(k + s log n)
@@ -148,14 +142,16 @@ fn is_least_near<C: Clearing>(
     ensures only { IsFalse result → IsNearestOfEarlier (run_of judged.now) entry mark → ¬ KeepsNear (C.space hall.now) (run_of judged.now) entry mark radius }
 {
     let search = NeighbourSearch {
-        point: mark,
+        nearer: NearerSearch {
+            point: mark,
+            distance,
+            number: entry.nearest,
+            turn: entry.turn,
+        },
         square: u64::from(radius) * u64::from(radius),
         first_cost: entry.first_cost,
-        distance,
-        number: entry.nearest,
-        turn: entry.turn,
     };
-    !has_bad(hall, judged, search)
+    !has_unlawful(hall, judged, search)
 }
 
 /// Whether no node that stood already within a radius of a new node at `p`, with a clear segment to it, was a cheaper parent, and none
@@ -174,24 +170,24 @@ fn keeps_near<C: Clearing>(
     ensures only { IsFalse result → ¬ KeepsNear (C.space hall.now) (run_of judged.now) entry p radius }
 {
     let search = NeighbourSearch {
-        point: p,
+        nearer: NearerSearch {
+            point: p,
+            distance: 0,
+            number: 0,
+            turn: entry.turn,
+        },
         square: u64::from(radius) * u64::from(radius),
         first_cost: entry.first_cost,
-        distance: 0,
-        number: 0,
-        turn: entry.turn,
     };
-    !has_bad(hall, judged, search)
+    !has_unlawful(hall, judged, search)
 }
 
 /// Whether there is a node of a search.
 fn has_nearer(judged: &Judged<'_>, search: NearerSearch) -> bool
     requires bounded { IsBounded search.point }
     requires turn { search.turn < length judged.now.standings.now }
-    ensures some { IsTrue result → HasOne (IsNearerAt judged.now.standings.now search.turn search.point search.distance search.number)
-        judged.now.own.now 0 (length judged.now.own.now) }
-    ensures none { IsFalse result → HasNo (IsNearerAt judged.now.standings.now search.turn search.point search.distance search.number)
-        judged.now.own.now 0 (length judged.now.own.now) }
+    ensures some { IsTrue result → HasOne (IsNearerAt judged.now.standings.now search) judged.now.own.now 0 (length judged.now.own.now) }
+    ensures none { IsFalse result → HasNo (IsNearerAt judged.now.standings.now search) judged.now.own.now 0 (length judged.now.own.now) }
 {
     let disc = Disc::of_square(search.point, search.distance);
     let mut at = 0;
@@ -209,10 +205,8 @@ fn has_nearer_in(judged: &Judged<'_>, search: NearerSearch, run: Run) -> bool
     requires bounded { IsBounded search.point }
     requires turn { search.turn < length judged.now.standings.now }
     requires inside { run.end ≤ length judged.now.own.now }
-    ensures some { IsTrue result → HasOne (IsNearerAt judged.now.standings.now search.turn search.point search.distance search.number)
-        judged.now.own.now run.start run.end }
-    ensures none { IsFalse result → HasNo (IsNearerAt judged.now.standings.now search.turn search.point search.distance search.number)
-        judged.now.own.now run.start run.end }
+    ensures some { IsTrue result → HasOne (IsNearerAt judged.now.standings.now search) judged.now.own.now run.start run.end }
+    ensures none { IsFalse result → HasNo (IsNearerAt judged.now.standings.now search) judged.now.own.now run.start run.end }
 {
     for position in run.start..run.end {
         if is_nearer(judged, search, judged.own.at(position)) {
@@ -227,8 +221,8 @@ fn is_nearer(judged: &Judged<'_>, search: NearerSearch, node: Numbered) -> bool
     requires bounded { IsBounded search.point }
     requires node { IsBounded node.point }
     requires turn { search.turn < length judged.now.standings.now }
-    ensures nearer { IsTrue result → IsNearerAt judged.now.standings.now search.turn search.point search.distance search.number node }
-    ensures only { IsFalse result → ¬ IsNearerAt judged.now.standings.now search.turn search.point search.distance search.number node }
+    ensures nearer { IsTrue result → IsNearerAt judged.now.standings.now search node }
+    ensures only { IsFalse result → ¬ IsNearerAt judged.now.standings.now search node }
 {
     if node.number > search.turn {
         return false;
@@ -241,19 +235,17 @@ fn is_nearer(judged: &Judged<'_>, search: NearerSearch, node: Numbered) -> bool
 }
 
 /// Whether there is a node of a search for neighbours.
-fn has_bad<C: Clearing>(hall: &C, judged: &Judged<'_>, search: NeighbourSearch) -> bool
-    requires bounded { IsBounded search.point }
-    requires turn { search.turn < length judged.now.standings.now }
-    requires within { search.distance ≤ search.square }
-    ensures some { IsTrue result → HasOne (IsUnlawfulAt (C.space hall.now) judged.now.standings.now search.turn search.first_cost
-        search.square search.distance search.number search.point) judged.now.own.now 0 (length judged.now.own.now) }
-    ensures none { IsFalse result → HasNo (IsUnlawfulAt (C.space hall.now) judged.now.standings.now search.turn search.first_cost
-        search.square search.distance search.number search.point) judged.now.own.now 0 (length judged.now.own.now) }
+fn has_unlawful<C: Clearing>(hall: &C, judged: &Judged<'_>, search: NeighbourSearch) -> bool
+    requires bounded { IsBounded search.nearer.point }
+    requires turn { search.nearer.turn < length judged.now.standings.now }
+    requires within { search.nearer.distance ≤ search.square }
+    ensures some { IsTrue result → HasOne (IsUnlawfulAt (C.space hall.now) judged.now.standings.now search) judged.now.own.now 0 (length judged.now.own.now) }
+    ensures none { IsFalse result → HasNo (IsUnlawfulAt (C.space hall.now) judged.now.standings.now search) judged.now.own.now 0 (length judged.now.own.now) }
 {
-    let disc = Disc::of_square(search.point, search.square);
+    let disc = Disc::of_square(search.nearer.point, search.square);
     let mut at = 0;
     'walk: while let Some(run) = judged.own.next_run(at, disc) {
-        if has_bad_in(hall, judged, search, run) {
+        if has_unlawful_in(hall, judged, search, run) {
             return true;
         }
         at = run.end;
@@ -262,17 +254,20 @@ fn has_bad<C: Clearing>(hall: &C, judged: &Judged<'_>, search: NeighbourSearch) 
 }
 
 /// Whether there is one in a run.
-fn has_bad_in<C: Clearing>(hall: &C, judged: &Judged<'_>, search: NeighbourSearch, run: Run) -> bool
-    requires bounded { IsBounded search.point }
-    requires turn { search.turn < length judged.now.standings.now }
+fn has_unlawful_in<C: Clearing>(
+    hall: &C,
+    judged: &Judged<'_>,
+    search: NeighbourSearch,
+    run: Run,
+) -> bool
+    requires bounded { IsBounded search.nearer.point }
+    requires turn { search.nearer.turn < length judged.now.standings.now }
     requires inside { run.end ≤ length judged.now.own.now }
-    ensures some { IsTrue result → HasOne (IsUnlawfulAt (C.space hall.now) judged.now.standings.now search.turn search.first_cost
-        search.square search.distance search.number search.point) judged.now.own.now run.start run.end }
-    ensures none { IsFalse result → HasNo (IsUnlawfulAt (C.space hall.now) judged.now.standings.now search.turn search.first_cost
-        search.square search.distance search.number search.point) judged.now.own.now run.start run.end }
+    ensures some { IsTrue result → HasOne (IsUnlawfulAt (C.space hall.now) judged.now.standings.now search) judged.now.own.now run.start run.end }
+    ensures none { IsFalse result → HasNo (IsUnlawfulAt (C.space hall.now) judged.now.standings.now search) judged.now.own.now run.start run.end }
 {
     for position in run.start..run.end {
-        if is_bad(hall, judged, search, judged.own.at(position)) {
+        if is_unlawful(hall, judged, search, judged.own.at(position)) {
             return true;
         }
     }
@@ -280,54 +275,51 @@ fn has_bad_in<C: Clearing>(hall: &C, judged: &Judged<'_>, search: NeighbourSearc
 }
 
 /// Whether a node is one of a search for neighbours.
-fn is_bad<C: Clearing>(
+fn is_unlawful<C: Clearing>(
     hall: &C,
     judged: &Judged<'_>,
     search: NeighbourSearch,
     node: Numbered,
 ) -> bool
-    requires bounded { IsBounded search.point }
+    requires bounded { IsBounded search.nearer.point }
     requires node { IsBounded node.point }
-    requires turn { search.turn < length judged.now.standings.now }
-    ensures bad { IsTrue result → IsUnlawfulAt (C.space hall.now) judged.now.standings.now search.turn search.first_cost search.square
-        search.distance search.number search.point node }
-    ensures only { IsFalse result → ¬ IsUnlawfulAt (C.space hall.now) judged.now.standings.now search.turn search.first_cost search.square
-        search.distance search.number search.point node }
+    requires turn { search.nearer.turn < length judged.now.standings.now }
+    ensures bad { IsTrue result → IsUnlawfulAt (C.space hall.now) judged.now.standings.now search node }
+    ensures only { IsFalse result → ¬ IsUnlawfulAt (C.space hall.now) judged.now.standings.now search node }
 {
-    let nearer = NearerSearch {
-        point: search.point,
-        distance: search.distance,
-        number: search.number,
-        turn: search.turn,
-    };
-    if is_nearer(judged, nearer, node) {
+    if is_nearer(judged, search.nearer, node) {
         return true;
     }
     if !is_cheaper(judged, search, node) {
         return false;
     }
-    hall.clear(node.point, search.point)
+    hall.clear(node.point, search.nearer.point)
 }
 
 /// Whether a node is one of a search, by its costs.
 fn is_cheaper(judged: &Judged<'_>, search: NeighbourSearch, node: Numbered) -> bool
-    requires bounded { IsBounded search.point }
+    requires bounded { IsBounded search.nearer.point }
     requires node { IsBounded node.point }
-    requires turn { search.turn < length judged.now.standings.now }
-    ensures cheaper { IsTrue result → IsCheaperAt judged.now.standings.now search.turn search.first_cost search.square search.point node }
-    ensures only { IsFalse result → ¬ IsCheaperAt judged.now.standings.now search.turn search.first_cost search.square search.point node }
+    requires turn { search.nearer.turn < length judged.now.standings.now }
+    ensures cheaper { IsTrue result → IsCheaperAt judged.now.standings.now search node }
+    ensures only { IsFalse result → ¬ IsCheaperAt judged.now.standings.now search node }
 {
-    if node.number > search.turn {
+    if node.number > search.nearer.turn {
         return false;
     }
-    if node.point.squared_distance(search.point) > search.square {
+    if node.point.squared_distance(search.nearer.point) > search.square {
         return false;
     }
     let standing = judged.standings[node.number as usize];
     costs_less_through(
         standing.first_cost,
         node.point,
-        search.point,
+        search.nearer.point,
         search.first_cost,
-    ) || costs_less_through(search.first_cost, node.point, search.point, standing.cost)
+    ) || costs_less_through(
+        search.first_cost,
+        node.point,
+        search.nearer.point,
+        standing.cost,
+    )
 }

@@ -86,7 +86,7 @@ fn least_rests<C: Clearing>(alloc: Global, hall: &C, path: &[Point]) -> Result<V
 /// The least rest from a position before the last one, by those of the positions after it.
 fn least_rest<C: Clearing>(hall: &C, path: &[Point], rests: &[Rest], position: usize) -> Rest
     requires inner { suc position < length path.now }
-    requires few { length path.now ≤ 4294967295 }
+    requires few { length path.now ≤ u32.MAX }
     requires clear { IsClearPath (C.space hall.now) path.now }
     requires rests { AreRestsFrom (C.space hall.now) path.now (suc position) rests.now }
     ensures { IsRestBelow (C.space hall.now) path.now (length path.now) position result }

@@ -8,11 +8,11 @@ ghost use Rattle.path_tools.specs.FirstBreaks.{HasFewTurns, HasLowTurn, IsFirstB
 
 use crate::first_breaks::earlier;
 use crate::repeats::first_repeat;
-use plan_model::{Memory, Record};
+use plan_model::{MOST_WORKERS, Memory, Record};
 use std::alloc::Global;
 
 /// How many workers a record may name.
-pub(crate) const WORKERS: usize = 64;
+pub(crate) const WORKERS: usize = MOST_WORKERS as usize;
 
 /// The first mark whose turn is that of an earlier mark of its worker, or is not below the number of its worker's marks; `None` exactly
 /// if there is none. O(n log n) for n marks.

@@ -24,6 +24,24 @@ use plan_model::{Memory, Task};
 use std::alloc::Global;
 use swept_check::{Clearing, Hall};
 
+/// The number of the law of the form.
+const FORM: u8 = 1;
+
+/// The number of the law of nodes.
+const NODES: u8 = 2;
+
+/// The number of the law of turns.
+const TURNS: u8 = 3;
+
+/// The number of the law of presence of nodes.
+const PRESENCE: u8 = 4;
+
+/// The number of the law of records.
+const RECORDS: u8 = 5;
+
+/// The number of the law of the head.
+const HEAD: u8 = 6;
+
 /// What is said of the bytes of a full report.
 #[derive(Clone, Copy, Debug, PartialEq, Eq)]
 pub enum Verdict {
@@ -51,7 +69,7 @@ pub enum Verdict {
 /// `Memory` if out of memory for the lists that are read, or for the collision checker.
 pub fn check(alloc: Global, task: &Task, report: &[u8]) -> Result<Verdict, Memory>
     requires start { ClearAt (space_of task.now.scene) task.now.scene.start }
-    requires short { length report.now < 4294967295 }
+    requires short { length report.now < u32.MAX }
     ensures { IfOk result (IsVerdict task.now report.now) }
 {
     let hall = Hall::new(alloc, &task.scene)?;
@@ -68,13 +86,13 @@ fn judge<C: Clearing>(
 ) -> Result<Verdict, Memory>
     requires hall { C.space hall.now ≡ space_of task.now.scene }
     requires start { ClearAt (space_of task.now.scene) task.now.scene.start }
-    requires short { length report.now < 4294967295 }
+    requires short { length report.now < u32.MAX }
     ensures { IfOk result (IsVerdict task.now report.now) }
 {
     let marks = task.marks.len() as u32;
     match read_sheet(alloc, report, marks, task.scene.informed)? {
         Ok(sheet) => judge_sheet(alloc, task, hall, &sheet),
-        Err(line) => Ok(broken(line, 1)),
+        Err(line) => Ok(broken(line, FORM)),
     }
 }
 
@@ -88,7 +106,7 @@ fn judge_sheet<C: Clearing>(
     requires hall { C.space hall.now ≡ space_of task.now.scene }
     requires start { ClearAt (space_of task.now.scene) task.now.scene.start }
     requires form { HasForm (extent_of task.now) (sheet_read sheet.now) }
-    requires short { length (bytes_of (sheet_read sheet.now)) < 4294967295 }
+    requires short { length (bytes_of (sheet_read sheet.now)) < u32.MAX }
     ensures { IfOk result (IsVerdict task.now (bytes_of (sheet_read sheet.now))) }
 {
     if let Some(verdict) = node_verdict(alloc, task, hall, sheet)? {
@@ -115,13 +133,13 @@ fn node_verdict<C: Clearing>(
 ) -> Result<Option<Verdict>, Memory>
     requires hall { C.space hall.now ≡ space_of task.now.scene }
     requires form { HasForm (extent_of task.now) (sheet_read sheet.now) }
-    requires short { length (bytes_of (sheet_read sheet.now)) < 4294967295 }
+    requires short { length (bytes_of (sheet_read sheet.now)) < u32.MAX }
     ensures broken { IfOk result (λ found. IfSome found (IsVerdict task.now (bytes_of (sheet_read sheet.now)))) }
     ensures kept { IfOk result (λ found. IfNone found (KeepsLaw task.now (sheet_read sheet.now) 2)) }
 {
     let first = first_unsound(alloc, &task.scene, hall, &sheet.knots)?;
     match first {
-        Some(node) => Ok(Some(broken(node_line(sheet, node), 2))),
+        Some(node) => Ok(Some(broken(node_line(sheet, node), NODES))),
         None => Ok(None),
     }
 }
@@ -129,14 +147,14 @@ fn node_verdict<C: Clearing>(
 /// The verdict that the law of turns is broken; `None` exactly if it is kept.
 fn turn_verdict(alloc: Global, task: &Task, sheet: &SheetRead) -> Result<Option<Verdict>, Memory>
     requires form { HasForm (extent_of task.now) (sheet_read sheet.now) }
-    requires short { length (bytes_of (sheet_read sheet.now)) < 4294967295 }
+    requires short { length (bytes_of (sheet_read sheet.now)) < u32.MAX }
     requires nodes { KeepsLaw task.now (sheet_read sheet.now) 2 }
     ensures broken { IfOk result (λ found. IfSome found (IsVerdict task.now (bytes_of (sheet_read sheet.now)))) }
     ensures kept { IfOk result (λ found. IfNone found (KeepsLaw task.now (sheet_read sheet.now) 3)) }
 {
     let first = first_wrong_turn(alloc, &sheet.records)?;
     match first {
-        Some(mark) => Ok(Some(broken_mark(sheet, mark, 3))),
+        Some(mark) => Ok(Some(broken_mark(sheet, mark, TURNS))),
         None => Ok(None),
     }
 }
@@ -144,14 +162,14 @@ fn turn_verdict(alloc: Global, task: &Task, sheet: &SheetRead) -> Result<Option<
 /// The verdict that the law of presence is broken; `None` exactly if it is kept.
 fn presence_verdict(task: &Task, sheet: &SheetRead) -> Option<Verdict>
     requires form { HasForm (extent_of task.now) (sheet_read sheet.now) }
-    requires short { length (bytes_of (sheet_read sheet.now)) < 4294967295 }
+    requires short { length (bytes_of (sheet_read sheet.now)) < u32.MAX }
     requires nodes { KeepsLaw task.now (sheet_read sheet.now) 2 }
     requires turns { KeepsLaw task.now (sheet_read sheet.now) 3 }
     ensures broken { IfSome result (IsVerdict task.now (bytes_of (sheet_read sheet.now))) }
     ensures kept { IfNone result (KeepsLaw task.now (sheet_read sheet.now) 4) }
 {
     match first_unlike(&sheet.knots, &sheet.records) {
-        Some(mark) => Some(broken_mark(sheet, mark, 4)),
+        Some(mark) => Some(broken_mark(sheet, mark, PRESENCE)),
         None => None,
     }
 }
@@ -165,7 +183,7 @@ fn record_verdict<C: Clearing>(
 ) -> Result<Option<Verdict>, Memory>
     requires hall { C.space hall.now ≡ space_of task.now.scene }
     requires form { HasForm (extent_of task.now) (sheet_read sheet.now) }
-    requires short { length (bytes_of (sheet_read sheet.now)) < 4294967295 }
+    requires short { length (bytes_of (sheet_read sheet.now)) < u32.MAX }
     requires nodes { KeepsLaw task.now (sheet_read sheet.now) 2 }
     requires turns { KeepsLaw task.now (sheet_read sheet.now) 3 }
     requires presence { KeepsLaw task.now (sheet_read sheet.now) 4 }
@@ -174,7 +192,7 @@ fn record_verdict<C: Clearing>(
 {
     let first = first_unlawful(alloc, task, hall, &sheet.knots, &sheet.records)?;
     match first {
-        Some(mark) => Ok(Some(broken_mark(sheet, mark, 5))),
+        Some(mark) => Ok(Some(broken_mark(sheet, mark, RECORDS))),
         None => Ok(None),
     }
 }
@@ -183,7 +201,7 @@ fn record_verdict<C: Clearing>(
 fn head_verdict(alloc: Global, task: &Task, sheet: &SheetRead) -> Result<Verdict, Memory>
     requires start { ClearAt (space_of task.now.scene) task.now.scene.start }
     requires form { HasForm (extent_of task.now) (sheet_read sheet.now) }
-    requires short { length (bytes_of (sheet_read sheet.now)) < 4294967295 }
+    requires short { length (bytes_of (sheet_read sheet.now)) < u32.MAX }
     requires nodes { KeepsLaw task.now (sheet_read sheet.now) 2 }
     requires turns { KeepsLaw task.now (sheet_read sheet.now) 3 }
     requires presence { KeepsLaw task.now (sheet_read sheet.now) 4 }
@@ -194,7 +212,7 @@ fn head_verdict(alloc: Global, task: &Task, sheet: &SheetRead) -> Result<Verdict
     let nodes = present_count(&sheet.knots);
     let tally = counted(task.scene.informed, nodes, &sheet.records);
     match first_wrong_head_line(&sheet.path, sheet.tally, &way, tally) {
-        Some(line) => Ok(broken(line + 1, 6)),
+        Some(line) => Ok(broken(line + 1, HEAD)),
         None => Ok(Verdict::Lawful),
     }
 }

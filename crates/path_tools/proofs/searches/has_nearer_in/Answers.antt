@@ -11,7 +11,7 @@ returns-then-is_nearer-clause-some c = λ h. record {
   before = c.loop-position-test.true;
   bad =
       subst
-      (IsNearerAt c.args.judged.now.standings.now c.args.search.turn c.args.search.point c.args.search.distance c.args.search.number) c.at.ensures.value
+      (IsNearerAt c.args.judged.now.standings.now c.args.search) c.at.ensures.value
       (c.is_nearer.ensures.nearer c.if-is_nearer.true);
 }
 
@@ -23,6 +23,6 @@ loop-position-preserved c = λ j from before bad.
           let here : j ≡ c.loop-position.position = omega (arith, before, past) in
           c.is_nearer.ensures.only c.if-is_nearer.false
           (subst
-          (IsNearerAt c.args.judged.now.standings.now c.args.search.turn c.args.search.point c.args.search.distance c.args.search.number)
+          (IsNearerAt c.args.judged.now.standings.now c.args.search)
           (ap (numbered_at c.args.judged.now.own.now) here ∙ sym c.at.ensures.value) bad))
     ]

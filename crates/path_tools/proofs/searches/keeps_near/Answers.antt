@@ -6,20 +6,20 @@ use Rattle.path_tools.proofs.searches.keeps_near.Goals as goal
 pub returns-clause-kept : goal.returns-clause-kept
 returns-clause-kept g c = λ h.
     let judged = c.args.judged.now in
-    let none = c.has_bad.ensures.none (not_true c.has_bad.result h) in
+    let none = c.has_unlawful.ensures.none (not_true c.has_unlawful.result h) in
     keeps_all_near (run_of judged) c.args.entry judged.turns c.requires.turn judged.own.now judged.standings.now c.requires.judged.own
-    c.requires.judged.standings (g.C.Clearing.space c.args.hall.now) c.args.p c.args.radius _
+    c.requires.judged.standings (g.C.Clearing.space c.args.hall.now) c.args.p c.args.radius _ 0 0
     (λ i. c.from.ensures i * c.from-2.ensures i) (λ j from to bad. none j from to (inr bad))
 
 pub returns-clause-only : goal.returns-clause-only
 returns-clause-only g c = λ h kept.
     let judged = c.args.judged.now in
-    let one = c.has_bad.ensures.some (not_false c.has_bad.result h) in
+    let one = c.has_unlawful.ensures.some (not_false c.has_unlawful.result h) in
     elim one.bad [
       | inl near ↦ none_nearer judged.standings.now c.args.entry.turn c.args.p _ near
       | inr bad ↦
           keeps_not_near (run_of judged) c.args.entry judged.turns c.requires.turn judged.own.now judged.standings.now c.requires.judged.own
-          c.requires.judged.standings (g.C.Clearing.space c.args.hall.now) c.args.p c.args.radius _
+          c.requires.judged.standings (g.C.Clearing.space c.args.hall.now) c.args.p c.args.radius _ 0 0
           (λ i. c.from.ensures i * c.from-2.ensures i)
           (record { position = one.position; past = one.past; before = one.before; bad = bad }) kept
     ]

@@ -1,12 +1,11 @@
 use Rattle.std.proofs.Common.{◌-◌, length}
 use Rattle.path_tools.specs.OwnNodes.{HasNo, IsUnlawfulAt}
-use Rattle.path_tools.proofs.searches.has_bad.Given as goal
+use Rattle.path_tools.proofs.searches.has_unlawful.Given as goal
 
 -- none so far is one of the search
 abbrev pub invariant-walk : goal.invariant-walk
 invariant-walk g l =
-    HasNo (IsUnlawfulAt (g.C.Clearing.space l.hall) l.judged.standings.now l.search.turn l.search.first_cost l.search.square l.search.distance
-    l.search.number l.search.point) l.judged.own.now 0
+    HasNo (IsUnlawfulAt (g.C.Clearing.space l.hall) l.judged.standings.now l.search) l.judged.own.now 0
     l.at
 
 abbrev pub decreases-walk : goal.decreases-walk

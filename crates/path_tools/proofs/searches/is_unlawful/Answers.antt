@@ -1,6 +1,6 @@
 use Rattle.std.proofs.Common.{sym, ◌∙◌, inl, inr}
 use Rattle.std.proofs.lemmas.Bool.{true≢false}
-use Rattle.path_tools.proofs.searches.is_bad.Goals as goal
+use Rattle.path_tools.proofs.searches.is_unlawful.Goals as goal
 
 pub returns-then-is_nearer-clause-bad : goal.returns-then-is_nearer-clause-bad
 returns-then-is_nearer-clause-bad g c = λ h. inl (c.is_nearer.ensures.nearer c.if-is_nearer.true)

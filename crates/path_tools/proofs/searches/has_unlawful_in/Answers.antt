@@ -2,17 +2,16 @@ use Rattle.std.proofs.Common.{◌≡◌, arith, sym, ap, ◌∙◌, subst, inl, 
 use Rattle.std.proofs.lemmas.Bool.{cases_lt}
 use Rattle.point_strips.specs.Walks.{numbered_at}
 use Rattle.path_tools.specs.OwnNodes.{IsUnlawfulAt}
-use Rattle.path_tools.proofs.searches.has_bad_in.Goals as goal
+use Rattle.path_tools.proofs.searches.has_unlawful_in.Goals as goal
 
-pub returns-then-is_bad-clause-some : goal.returns-then-is_bad-clause-some
-returns-then-is_bad-clause-some g c = λ h. record {
+pub returns-then-is_unlawful-clause-some : goal.returns-then-is_unlawful-clause-some
+returns-then-is_unlawful-clause-some g c = λ h. record {
   position = c.loop-position.position;
   past = c.loop-position.auto.position;
   before = c.loop-position-test.true;
   bad =
       subst
-      (IsUnlawfulAt (g.C.Clearing.space c.args.hall.now) c.args.judged.now.standings.now c.args.search.turn c.args.search.first_cost
-      c.args.search.square c.args.search.distance c.args.search.number c.args.search.point) c.at.ensures.value (c.is_bad.ensures.bad c.if-is_bad.true);
+      (IsUnlawfulAt (g.C.Clearing.space c.args.hall.now) c.args.judged.now.standings.now c.args.search) c.at.ensures.value (c.is_unlawful.ensures.bad c.if-is_unlawful.true);
 }
 
 pub loop-position-preserved : goal.loop-position-preserved
@@ -21,9 +20,8 @@ loop-position-preserved g c = λ j from before bad.
       | inl low ↦ c.loop-position.invariant j from low bad
       | inr past ↦ (
           let here : j ≡ c.loop-position.position = omega (arith, before, past) in
-          c.is_bad.ensures.only c.if-is_bad.false
+          c.is_unlawful.ensures.only c.if-is_unlawful.false
           (subst
-          (IsUnlawfulAt (g.C.Clearing.space c.args.hall.now) c.args.judged.now.standings.now c.args.search.turn c.args.search.first_cost
-          c.args.search.square c.args.search.distance c.args.search.number c.args.search.point)
+          (IsUnlawfulAt (g.C.Clearing.space c.args.hall.now) c.args.judged.now.standings.now c.args.search)
           (ap (numbered_at c.args.judged.now.own.now) here ∙ sym c.at.ensures.value) bad))
     ]
