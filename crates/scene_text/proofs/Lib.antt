@@ -15,3 +15,4 @@ pub mod CanonicalFaults
 pub mod CanonicalFields
 pub mod CanonicalLengths
 pub mod CoveredScenes
+pub mod KeyBytes

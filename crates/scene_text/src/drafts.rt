@@ -48,12 +48,10 @@ pub(crate) struct Draft {
 fn numbered_version(word: &[u8]) -> Option<u8>
     ensures { result ≡ version_among word.now every_version }
 {
-    if word == b"1".as_slice() {
-        Some(1)
-    } else if word == b"2".as_slice() {
-        Some(2)
-    } else {
-        None
+    match word {
+        b"1" => Some(1),
+        b"2" => Some(2),
+        _ => None,
     }
 }
 

@@ -43,38 +43,25 @@ fn is_key(version: u8, key: Key) -> bool
 fn named_key(word: &[u8]) -> Option<Key>
     ensures { result ≡ key_among word.now every_key }
 {
-    if word == b"room".as_slice() {
-        Some(Key::Room)
-    } else if word == b"body".as_slice() {
-        Some(Key::Body)
-    } else if word == b"obstacle".as_slice() {
-        Some(Key::Obstacle)
-    } else if word == b"clearance".as_slice() {
-        Some(Key::Clearance)
-    } else if word == b"start".as_slice() {
-        Some(Key::Start)
-    } else if word == b"goal".as_slice() {
-        Some(Key::Goal)
-    } else if word == b"step".as_slice() {
-        Some(Key::Step)
-    } else if word == b"gamma".as_slice() {
-        Some(Key::Gamma)
-    } else if word == b"seed".as_slice() {
-        Some(Key::Seed)
-    } else if word == b"strips".as_slice() {
-        Some(Key::Strips)
-    } else if word == b"informed".as_slice() {
-        Some(Key::Informed)
-    } else if word == b"marks".as_slice() {
-        Some(Key::Marks)
-    } else if word == b"mark".as_slice() {
-        Some(Key::Mark)
-    } else {
-        None
+    match word {
+        b"room" => Some(Key::Room),
+        b"body" => Some(Key::Body),
+        b"obstacle" => Some(Key::Obstacle),
+        b"clearance" => Some(Key::Clearance),
+        b"start" => Some(Key::Start),
+        b"goal" => Some(Key::Goal),
+        b"step" => Some(Key::Step),
+        b"gamma" => Some(Key::Gamma),
+        b"seed" => Some(Key::Seed),
+        b"strips" => Some(Key::Strips),
+        b"informed" => Some(Key::Informed),
+        b"marks" => Some(Key::Marks),
+        b"mark" => Some(Key::Mark),
+        _ => None,
     }
 }
 
-/// Whether the reader supports the key. It supports each.
+/// Whether the reader supports the key. It supports all of them now; a key of a later version is refused by this until it is read.
 pub(crate) fn is_supported(_key: Key) -> bool
     ensures { result ≡ is_supported _key }
 {
