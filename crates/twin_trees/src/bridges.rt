@@ -19,10 +19,11 @@ pub(crate) struct Bridge {
     pub second: u32,
 }
 
-/// Whether the way over two nodes, whose costs-to-come add up to `come`, is better than a bridge so far, if there is one. Without a root.
+/// Whether the way over two nodes, whose costs-to-come add up to `costs_to_come`, is better than a bridge so far, if there is one. Without a
+/// root.
 pub(crate) fn so_far_is_beaten(
     so_far: Option<Bridge>,
-    come: u64,
+    costs_to_come: u64,
     end: Numbered,
     other: Numbered,
 ) -> bool
@@ -30,34 +31,34 @@ pub(crate) fn so_far_is_beaten(
     requires other { IsBounded other.point }
     requires low { IfSome so_far (λ bridge. bridge.cost < 2 ^ 63) }
     ensures beaten { IsTrue result → IsNoWorse so_far (Some (record {
-      cost = come + cost_of end.point other.point;
+      cost = costs_to_come + cost_of end.point other.point;
       first = end.number;
       second = other.number;
     })) }
-    ensures matched { IsFalse result → IsMatched so_far (come + cost_of end.point other.point) end.number other.number }
+    ensures matched { IsFalse result → IsMatched so_far (costs_to_come + cost_of end.point other.point) end.number other.number }
 {
     match so_far {
-        Some(bridge) => is_beaten(bridge, come, end, other),
+        Some(bridge) => is_beaten(bridge, costs_to_come, end, other),
         None => true,
     }
 }
 
 /// The same of a bridge.
-fn is_beaten(bridge: Bridge, come: u64, end: Numbered, other: Numbered) -> bool
+fn is_beaten(bridge: Bridge, costs_to_come: u64, end: Numbered, other: Numbered) -> bool
     requires end { IsBounded end.point }
     requires other { IsBounded other.point }
     requires low { bridge.cost < 2 ^ 63 }
     ensures beaten { IsTrue result → IsNoWorse (Some bridge) (Some (record {
-      cost = come + cost_of end.point other.point;
+      cost = costs_to_come + cost_of end.point other.point;
       first = end.number;
       second = other.number;
     })) }
-    ensures matched { IsFalse result → IsMatched (Some bridge) (come + cost_of end.point other.point) end.number other.number }
+    ensures matched { IsFalse result → IsMatched (Some bridge) (costs_to_come + cost_of end.point other.point) end.number other.number }
 {
     if is_numbered_before(bridge, end.number, other.number) {
-        costs_less_through(come, end.point, other.point, bridge.cost + 1)
+        costs_less_through(costs_to_come, end.point, other.point, bridge.cost + 1)
     } else {
-        costs_less_through(come, end.point, other.point, bridge.cost)
+        costs_less_through(costs_to_come, end.point, other.point, bridge.cost)
     }
 }
 

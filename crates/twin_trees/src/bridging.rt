@@ -192,12 +192,12 @@ fn better<C: Clearing>(
     ensures no_worse { IsNoWorse so_far result }
     ensures pair { Matches (setup_of first.now.task.scene) (state_of_grown first.now) (state_of_grown second.now) result end.number other.number }
 {
-    let come = first.cost(end.number) + second.cost(other.number);
-    if !so_far_is_beaten(so_far, come, end, other) || !hall.clear(end.point, other.point) {
+    let costs_to_come = first.cost(end.number) + second.cost(other.number);
+    if !so_far_is_beaten(so_far, costs_to_come, end, other) || !hall.clear(end.point, other.point) {
         return so_far;
     }
     Some(Bridge {
-        cost: come + cost(end.point, other.point),
+        cost: costs_to_come + cost(end.point, other.point),
         first: end.number,
         second: other.number,
     })

@@ -2,6 +2,7 @@
 
 use plan_model::Memory;
 use step_core::Grown;
+use thiserror::Error;
 
 /// Two settled runs of a scene over all of its marks, one from each end, and the bridge between them.
 #[derive(Drop)]
@@ -17,11 +18,13 @@ pub struct Twin {
 }
 
 /// Why there are no two trees.
-#[derive(Clone, Copy, Debug, PartialEq, Eq)]
+#[derive(Clone, Copy, Debug, PartialEq, Eq, Error)]
 pub enum TwinFault {
     /// The body is not clear in the middle of the first goal.
+    #[error("the middle of the first goal is not clear")]
     GoalBlocked,
     /// Out of memory.
+    #[error("out of memory")]
     Memory,
 }
 
