@@ -28,12 +28,13 @@ use crate::checking::check_report;
 use crate::commands::{Command, command_of};
 use crate::generated_scenes::gen_scene;
 use crate::refusals::Refusal;
+use crate::scene_tasks::task_with_marks;
 use crate::statuses::{DONE, NO_PATH};
 use crate::top_call::Done;
 use any_time::{FinishedSession, better_report, finish_session};
 use obstacle_boxes::Boxes;
 use path_tools::smoothed_report;
-use plan_model::{Memory, Scene, Sequence, Source, Task};
+use plan_model::{Memory, Scene, Sequence, Source};
 use plan_work::{Gate, grow};
 use scene_text::{as_version_2, fetch, read_scene, write_scene};
 use seq_planner::textbook;
@@ -43,7 +44,6 @@ use std::random::RandomSource;
 use std::sync::Wait;
 use std::thread::Threads;
 use step_core::Grown;
-use strip_sampler::marks;
 use swept_check::Hall;
 use twin_trees::{Twin, TwinFault, twin, twin_report};
 
@@ -253,9 +253,8 @@ fn textbook_run(alloc: Global, scene: Scene, boxes: Boxes) -> Result<Grown, Memo
     ensures run { IfOk result (λ grown. IsOfTextbookRun (setup_of scene) (mark_points scene) (state_of_grown grown)) }
     ensures settled { IfOk result (λ grown. IsSettled (state_of_grown grown)) }
 {
-    // the start is clear, so there is room to draw marks in
-    let marks = marks(alloc, &scene)?;
-    textbook(alloc, Task { scene, marks }, &boxes)
+    let task = task_with_marks(alloc, scene)?;
+    textbook(alloc, task, &boxes)
 }
 
 /// A run of a scene by several workers, over all its marks, settled.
@@ -278,10 +277,9 @@ fn run_by_workers<R: Threads + Sync, G: Gate>(
         → (state_of_grown grown).record_of k ≡ Some entry → entry.worker < workers) }
     ensures textbook { workers ≡ 1 → IfOk result (λ grown. IsOfTextbookRun (setup_of scene) (mark_points scene) (state_of_grown grown)) }
 {
-    // the start is clear, so there is room to draw marks in
-    let marks = marks(alloc, &scene)?;
-    let limit = marks.len() as u32;
-    let fresh = Grown::new(alloc, Task { scene, marks })?;
+    let task = task_with_marks(alloc, scene)?;
+    let limit = task.marks.len() as u32;
+    let fresh = Grown::new(alloc, task)?;
     let mut grown = grow(rt, alloc, fresh, boxes, workers, limit, gate)?;
     settle(alloc, &mut grown)?;
     Ok(grown)
@@ -310,9 +308,8 @@ fn run_by_slices<R: Threads + Sync + Wait + RandomSource + AllocGlobal + Clone +
     ensures textbook { workers ≡ 1 → IfOk result (λ done. IsOfTextbookRun (setup_of scene) (mark_points scene) (state_of_grown done.run)) }
     ensures better { IfOk result (λ done. AreBetterPaths workers slice done.run done.better) }
 {
-    // the start is clear, so there is room to draw marks in
-    let marks = marks(alloc, &scene)?;
-    finish_session(rt, alloc, Task { scene, marks }, boxes, workers, slice)
+    let task = task_with_marks(alloc, scene)?;
+    finish_session(rt, alloc, task, boxes, workers, slice)
 }
 
 /// The better paths of a settled run over all marks of its scene, and its short report.
@@ -354,9 +351,8 @@ fn twin_of<R: Threads + Sync, G: Gate>(
     ensures twin { IfOk result (IsTwin workers scene) }
     ensures blocked { result ≡ Err TwinFault.GoalBlocked → ¬ ClearAt (space_of scene) (goal_middle scene) }
 {
-    // the start is clear, so there is room to draw marks in
-    let marks = marks(alloc, &scene)?;
-    twin(rt, alloc, Task { scene, marks }, boxes, workers, gate)
+    let task = task_with_marks(alloc, scene)?;
+    twin(rt, alloc, task, boxes, workers, gate)
 }
 
 /// The report of two runs of a scene.

@@ -18,17 +18,17 @@ ghost use Rattle.step_core.specs.GrownRuns.{state_of_grown};
 use crate::answers::Answer;
 use crate::commands::Command;
 use crate::refusals::Refusal;
+use crate::scene_tasks::task_with_marks;
 use crate::statuses::{DONE, NO_PATH};
 use crate::top_call::Done;
 use any_time::{BatchReport, FinishedBatch, Session, batch_report, finish_batch};
 use obstacle_boxes::Boxes;
-use plan_model::{Memory, Scene, Source, Task};
+use plan_model::{Memory, Scene, Source};
 use scene_text::{fetch, read_batch};
 use std::alloc::{AllocGlobal, Global};
 use std::random::RandomSource;
 use std::sync::Wait;
 use std::thread::Threads;
-use strip_sampler::marks;
 use swept_check::Hall;
 
 /// Plans the scenes that are read by several workers, so many marks of each at a time, and reports of each the better paths as they
@@ -135,9 +135,7 @@ fn fresh_session<R: Threads + Sync + Clone + Drop>(
     ensures { IfOk result (IsSessionOf workers slice scene) }
 {
     let boxes = Boxes::new(alloc, hall)?;
-    // the start is clear, so there is room to draw marks in
-    let marks = marks(alloc, &scene)?;
-    let task = Task { scene, marks };
+    let task = task_with_marks(alloc, scene)?;
     let session = Session::new(rt.clone()?, alloc, task, boxes, workers, slice)?;
     Ok(session)
 }

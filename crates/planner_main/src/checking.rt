@@ -16,14 +16,14 @@ ghost use Rattle.planner_main.specs.declared.short_lines.TheConstants.{LINE_CAPA
 
 use crate::answers::Answer;
 use crate::refusals::Refusal;
+use crate::scene_tasks::task_with_marks;
 use crate::short_lines::{Line, line_from, push, push_number};
 use crate::statuses::{DONE, NO_PATH};
 use crate::top_call::Done;
 use path_tools::{Verdict, check, cut_at_report};
-use plan_model::{Kind, Memory, Scene, Source, Task, next_line};
+use plan_model::{Kind, Memory, Source, Task, next_line};
 use scene_text::{SceneRefusal, fetch, read_scene};
 use std::alloc::Global;
-use strip_sampler::marks;
 use swept_check::Hall;
 
 /// Judges the report that is read after the text of its scene and a line `report`.
@@ -94,16 +94,6 @@ fn task_of(alloc: Global, text: &[u8]) -> Result<Task, Refusal>
         return Err(Refusal::StartBlocked);
     }
     Ok(task_with_marks(alloc, scene)?)
-}
-
-/// The task of a scene whose start is clear.
-fn task_with_marks(alloc: Global, scene: Scene) -> Result<Task, Memory>
-    requires { ClearAt (space_of scene) scene.start }
-    ensures { IfOk result (λ task. task.scene ≡ scene) }
-{
-    // the start is clear, so there is room to draw marks in
-    let marks = marks(alloc, &scene)?;
-    Ok(Task { scene, marks })
 }
 
 /// The answer that a verdict is.

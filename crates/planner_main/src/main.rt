@@ -22,6 +22,7 @@ mod command_line;
 mod commands;
 mod generated_scenes;
 mod refusals;
+mod scene_tasks;
 mod short_lines;
 mod standard_streams;
 mod statuses;

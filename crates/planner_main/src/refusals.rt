@@ -22,7 +22,8 @@ pub enum Refusal {
     Words,
     /// More bytes came than a text may have.
     TooLong,
-    /// The text is no scene: the number of the line, from 1, and the kind of its fault.
+    /// The text is not what the command reads: a scene, scenes with lines `next` between them, or a scene, a line `report` and a report.
+    /// The number of the line, from 1, and the kind of its fault.
     Text(u32, Kind),
     /// The start of the scene is not clear.
     StartBlocked,
@@ -30,7 +31,7 @@ pub enum Refusal {
     GoalBlocked,
     /// The source could not be read.
     ReadFault,
-    /// The program is out of memory.
+    /// The program is out of memory, or, with `anytime W S` and `batch W S`, the runtime gives no executor.
     Memory,
 }
 

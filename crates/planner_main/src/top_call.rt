@@ -24,8 +24,8 @@ use twin_trees::Twin;
 pub struct Done {
     /// The status that it ends with: one of `statuses`.
     pub status: u8,
-    /// The run that was reported: of the scene that was read or generated, over all its marks. `None` if no run was, or two
-    /// were, so for commands that plan nothing, for `twin W` and for refusals.
+    /// The run that was reported: of the scene that was read or generated, over all its marks. `None` for commands that plan
+    /// nothing, for `twin W` and `batch W S`, which hand out theirs below, and for refusals.
     pub run: Option<Grown>,
     /// The two runs that were reported, with the bridge between them; `None` for all commands but `twin W`, and for refusals.
     pub twin: Option<Twin>,

@@ -1,22 +1,16 @@
 use Rattle.std.proofs.Common.{length, ap, ◌∙◌}
 use Rattle.std.proofs.lemmas.Result.{IfOk-weaker}
-use Rattle.plan_model.proofs.SpanLaws.{BodyFits-from_in_room}
-use Rattle.plan_model.specs.Spaces.ConfigurationSpace.{space_of}
 use Rattle.plan_model.specs.declared.tasks.Task.{Task}
 use Rattle.plan_work.proofs.TextbookEnds.{IsOfTextbookRun-whole}
 use Rattle.planner_main.proofs.answers.run_by_slices.Goals as goal
 
--- the start is in the room of configurations, so the body fits into the room
-pub marks-requires : goal.marks-requires
-marks-requires g c = record { fits = λ n drawn. BodyFits-from_in_room (space_of c.args.scene) c.args.scene.start c.requires.start.in_room }
-
 pub returns-clause-scene : goal.returns-clause-scene
 returns-clause-scene g c =
-    IfOk-weaker c.finish_session.result _ _ (λ done end. ap (λ (t : Task). t.scene) end.of_task) c.finish_session.ensures.ended
+    IfOk-weaker c.finish_session.result _ _ (λ done end. ap (λ (t : Task). t.scene) end.of_task ∙ c.in_ok-task.ensures.scene) c.finish_session.ensures.ended
 
 pub returns-clause-all_marks : goal.returns-clause-all_marks
 returns-clause-all_marks g c =
-    IfOk-weaker c.finish_session.result _ _ (λ done end. end.all_marks ∙ ap length c.in_ok-marks.ensures.value) c.finish_session.ensures.ended
+    IfOk-weaker c.finish_session.result _ _ (λ done end. end.all_marks ∙ ap length c.in_ok-task.ensures.marks) c.finish_session.ensures.ended
 
 pub returns-clause-settled : goal.returns-clause-settled
 returns-clause-settled g c = IfOk-weaker c.finish_session.result _ _ (λ done end. end.settled) c.finish_session.ensures.ended
@@ -28,5 +22,5 @@ returns-clause-workers g c = IfOk-weaker c.finish_session.result _ _ (λ done en
 pub returns-clause-textbook : goal.returns-clause-textbook
 returns-clause-textbook g c = λ one.
     IfOk-weaker c.finish_session.result _ _
-    (λ done end. IsOfTextbookRun-whole c.args.scene done.run (ap (λ (t : Task). t.scene) end.of_task)
-    (end.all_marks ∙ ap length c.in_ok-marks.ensures.value) (end.textbook one)) c.finish_session.ensures.ended
+    (λ done end. IsOfTextbookRun-whole c.args.scene done.run (ap (λ (t : Task). t.scene) end.of_task ∙ c.in_ok-task.ensures.scene)
+    (end.all_marks ∙ ap length c.in_ok-task.ensures.marks) (end.textbook one)) c.finish_session.ensures.ended

@@ -1,7 +1,5 @@
 use Rattle.std.proofs.Common.{length, ap, sym, ◌∙◌, arith}
 use Rattle.plan_model.proofs.MarkBounds.{length-points_of_marks}
-use Rattle.plan_model.proofs.SpanLaws.{BodyFits-from_in_room}
-use Rattle.plan_model.specs.Spaces.ConfigurationSpace.{space_of}
 use Rattle.plan_model.specs.Scenes.MarkPoints.{mark_points}
 use Rattle.plan_model.specs.Runs.Textbook.{setup_of}
 use Rattle.plan_model.specs.declared.tasks.Task.{Task}
@@ -10,14 +8,10 @@ use Rattle.plan_work.proofs.TextbookEnds.{IsOfTextbook-new, IsOfTextbookRun-whol
 use Rattle.planner_main.proofs.answers.run_by_workers.Goals as goal
 use Rattle.step_core.specs.GrownRuns.{state_of_grown}
 
--- the start is in the room of configurations, so the body fits into the room
-pub marks-requires : goal.marks-requires
-marks-requires g c = record { fits = λ n drawn. BodyFits-from_in_room (space_of c.args.scene) c.args.scene.start c.requires.start.in_room }
-
 pub overflow_cast-limit : goal.overflow_cast-limit
 overflow_cast-limit g c =
     let few = length-points_of_marks c.args.scene c.args.scene.plan c.args.scene.plan_within in
-    omega (arith, few, ap length c.in_ok-marks.ensures.value, c.len-limit.ensures)
+    omega (arith, few, ap length c.in_ok-task.ensures.marks, c.len-limit.ensures)
 
 -- settling keeps the records
 pub returns-clause-workers : goal.returns-clause-workers
@@ -28,8 +22,8 @@ returns-clause-workers g c = λ k entry is.
 pub returns-clause-textbook : goal.returns-clause-textbook
 returns-clause-textbook g c = λ one.
     let grown = c.in_ok-grown.grown in
-    let of_scene = ap (λ (t : Task). t.scene) (c.in_ok-grown.ensures.task ∙ c.in_ok-fresh.ensures.task) in
-    let whole = c.in_ok-grown.ensures.limit ∙ c.len-limit.ensures ∙ ap length c.in_ok-marks.ensures.value in
+    let of_scene = ap (λ (t : Task). t.scene) (c.in_ok-grown.ensures.task ∙ c.in_ok-fresh.ensures.task) ∙ c.in_ok-task.ensures.scene in
+    let whole = c.in_ok-grown.ensures.limit ∙ c.len-limit.ensures ∙ ap length c.in_ok-task.ensures.marks in
     let textbook = c.in_ok-grown.ensures.textbook one
     (IsOfTextbook-new _ c.in_ok-fresh.fresh c.in_ok-fresh.ensures.task c.in_ok-fresh.ensures.limit c.in_ok-fresh.ensures.state) in
     IsOfTextbookRun-settled (setup_of c.args.scene) (mark_points c.args.scene) (state_of_grown grown) _ c.requires.start
