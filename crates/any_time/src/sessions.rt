@@ -169,7 +169,7 @@ fn fresh_run(alloc: Global, task: Task) -> Result<Grown, Memory>
     Ok(fresh)
 }
 
-/// Puts the run back to its place. A call of it in place of an assignment has what the assignment lets go proved once.
+/// Puts the run back to its place. It is a function so that what the assignment drops is proved once.
 fn put_back(place: &mut Option<Grown>, run: Grown)
     ensures { place.new ≡ Some run }
 {

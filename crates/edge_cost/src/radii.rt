@@ -27,7 +27,7 @@ pub struct Radii {
 }
 
 impl Radii {
-    /// The radii for any step, in lattice steps, and any gamma. With a gamma or a step of 0 all are 0. O(1), a root for each
+    /// The radii for any step and any gamma, both in lattice steps. With a gamma or a step of 0 all are 0. O(1), a root for each
     /// class.
     pub fn new(step: u32, gamma: u32) -> Radii
         ensures step { result.step ≡ step }

@@ -4,9 +4,11 @@
 //! by row, and equal coordinates go right. It is shared as in PRRT* (Ichnowski and Alterovitz, IROS 2012): links are
 //! only added, each by one exchange of an empty word. So no search waits, and none has to start again.
 //!
-//!     depth 0             (50,40)              x < 50 | 50 ≤ x
-//!     depth 1       (20,70)    (80,40)         y < 70 | 70 ≤ y  ..  y < 40 | 40 ≤ y
-//!     depth 2   (30,10)            (50,90)
+//! ```text
+//! depth 0             (50,40)              x < 50 | 50 ≤ x
+//! depth 1       (20,70)    (80,40)         y < 70 | 70 ≤ y  ..  y < 40 | 40 ≤ y
+//! depth 2   (30,10)            (50,90)
+//! ```
 //!
 //! Other workers add nodes during a call. So each promise speaks of the nodes that the pass has seen with their points,
 //! at entry and at return (`plan_model/specs/Seen/Sights`). A point is swept if a node is seen there, or if the way of

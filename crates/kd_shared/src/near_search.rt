@@ -45,7 +45,7 @@ pub fn around(shared: &Shared, pass: &mut Pass, p: Point, r: u32)
 /// Finds the nodes within a radius of a point: the pass has them in the order in which they were found, until its next search.
 ///
 /// It goes breadth first, so that the loads of one depth need not wait for one another, and leaves out a side of a node only if that is
-/// farther than the radius. Both children are loaded before either waits. No jump depends on what was loaded, as many of them would be
+/// farther than the radius. Both children are loaded before either waits. No branch depends on what was loaded, as many of them would be
 /// guessed wrongly. O(log n + k) on average for k found of n random nodes, O(n) at worst.
 pub fn gather(shared: &Shared, pass: &mut Pass, p: Point, r: u32)
     requires belongs { BelongsTo pass.old shared.now }

@@ -15,7 +15,7 @@ use std::marker::{Brand, Model};
 use std::sync::ledger::{Blank, Ledger};
 use swept_check::{Clearing, Hall, Steps};
 
-/// Of up to so many zones a hall tests all as fast as a tree finds those that are near.
+/// Up to this many zones, a hall tests all of them as fast as a tree finds the near ones.
 const MOST_WITHOUT_TREE: usize = 8;
 
 /// The exact collision checker of a scene, by a tree of boxes over its zones: a bounding volume hierarchy, which is built once.

@@ -1,20 +1,20 @@
 //! Laws of the definitions, each the contract of a function that does nothing.
 
-mod clearance;
-mod closed_runs;
-mod converted_scenes;
-mod costs;
-mod goal_bounds;
-mod marks;
-mod paths;
-mod radii;
-mod reports;
-mod runs;
-mod scene_batches;
-mod scene_texts;
-mod scenes;
-mod seen_trees;
-mod settled_runs;
-mod steered_points;
-mod trees;
-mod ways;
+pub mod clearance;
+pub mod closed_runs;
+pub mod converted_scenes;
+pub mod costs;
+pub mod goal_bounds;
+pub mod marks;
+pub mod paths;
+pub mod radii;
+pub mod reports;
+pub mod runs;
+pub mod scene_batches;
+pub mod scene_texts;
+pub mod scenes;
+pub mod seen_trees;
+pub mod settled_runs;
+pub mod steered_points;
+pub mod trees;
+pub mod ways;

@@ -9,7 +9,7 @@
 mod configuration_spaces;
 mod errors;
 mod geometry;
-mod laws;
+pub mod laws;
 mod limits;
 mod lists;
 mod mark_numbers;

@@ -62,7 +62,7 @@ pub const MOST_GOALS: usize = 16;
 /// The greatest clearance of a scene of version 2, in lattice steps; that of one of version 1 is 0.
 pub const MOST_CLEARANCE: u32 = 4_096;
 
-/// The greatest factor of the rewiring radius.
+/// The greatest factor of the rewiring radius, in lattice steps.
 pub const MOST_GAMMA: u32 = 16_777_215;
 
 /// The greatest seed of drawn marks: a seed has 64 bits.

@@ -54,7 +54,7 @@ pub fn natural(word: &[u8], least: u64, most: u64) -> Option<u64>
 pub struct NumberRange {
     /// The least.
     pub least: i32,
-    /// The greatest, which is none below 0.
+    /// The greatest; never negative.
     pub most: u64,
 }
 

@@ -50,7 +50,8 @@ pub struct Scene {
     pub goals: Goals,
     /// The longest edge of the tree, 4 to 4,096 or 65,536 (the range of RRT*).
     pub step: u32,
-    /// The factor of the rewiring radius, 0 to 16,777,215; with 0 nothing is rewired.
+    /// The factor of the rewiring radius (gamma of RRT*, Karaman and Frazzoli 2011), in lattice steps, 0 to 16,777,215; with 0 nothing
+    /// is rewired.
     pub gamma: u32,
     /// The seed of drawn marks, 0 to 2^64 - 1.
     pub seed: u64,

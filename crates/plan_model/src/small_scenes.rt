@@ -39,9 +39,9 @@ pub struct SmallScene {
     pub start: Point,
     /// The closed box that is to be reached.
     pub goal: Goal,
-    /// The longest edge of the tree.
+    /// The longest edge of the tree, in lattice steps.
     pub step: u32,
-    /// The factor of the rewiring radius.
+    /// The factor of the rewiring radius, in lattice steps.
     pub gamma: u32,
     /// The seed of drawn marks.
     pub seed: u64,

@@ -350,7 +350,7 @@ impl OtherFirst {
 
     /// Waits for a flag, and notes if it did not come in time.
     fn wait_for(&self, flag: &AtomicBool) {
-        for _ in 0..10_000_000u32 {
+        for _ in 0..100_000_000u32 {
             if flag.load(Ordering::SeqCst) {
                 return;
             }

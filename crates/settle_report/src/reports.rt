@@ -33,7 +33,7 @@ pub fn report(alloc: Global, grown: &Grown, full: bool) -> Result<Vec<u8>, Memor
     report_by_best(alloc, grown, best(grown), full)
 }
 
-/// [`report`], for who has found the best node already: `best` is what [`best()`](best) returns. O(n) for n marks.
+/// [`report`], for a caller that has already found the best node: `best` is what [`best()`](best) returns. O(n) for n marks.
 ///
 /// # Errors
 ///
@@ -94,7 +94,7 @@ pub fn summary(alloc: Global, grown: &Grown) -> Result<Vec<u8>, Memory>
     summary_by_best(alloc, grown, best(grown))
 }
 
-/// [`summary`], for who has found the best node already: `best` is what [`best()`](best) returns. O(n) for n marks.
+/// [`summary`], for a caller that has already found the best node: `best` is what [`best()`](best) returns. O(n) for n marks.
 ///
 /// # Errors
 ///

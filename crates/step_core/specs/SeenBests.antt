@@ -1,4 +1,4 @@
--- What a view knows of the best word: the least pair of a cost and a goal node that was posted.
+-- What a view knows of the best word: the least pair of a cost and a goal node that the run began with or a pass has posted.
 use Rattle.std.specs.Prelude.{◌≡◌, ◌≢◌, ℕ, zero, suc, ◌^◌, ◌<◌, ◌≤◌, true, Some, List, []}
 use Rattle.plan_model.specs.Runs.ClosedLaw.{mark_at}
 use Rattle.plan_model.specs.Runs.Textbook.{mark_bound}

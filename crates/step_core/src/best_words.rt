@@ -1,4 +1,4 @@
-//! The best word: the least pair of a cost and a goal node that was posted. The cost is in bits 18 to 61 and the node in bits 0 to 17, so
+//! The best word: the least pair of a cost and a goal node that the run began with or a pass has posted. The cost is in bits 18 to 61 and the node in bits 0 to 17, so
 //! that a lesser pair is a lesser number. Bit 63 is set only while no goal node is known: then all 64 bits are.
 
 ghost use Rattle.std.specs.Prelude.{◌≡◌, ◌^◌, ◌<◌};

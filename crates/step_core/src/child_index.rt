@@ -10,7 +10,7 @@ use std::alloc::{AllocError, Global};
 
 /// The children of each number, as a chain that is linked both ways: per number its first child, and its neighbours among the
 /// children of its parent. 0 is no child, as number 0 is nobody's; so the neighbours of 0 mean nothing, and are written where
-/// a child has none. The index does not have the parents: who moves a number says where it was. A child that comes to a parent
+/// a child has none. The index does not have the parents: the caller that moves a number says where it was. A child that comes to a parent
 /// is its first, so children stand in no order that means anything.
 ///
 /// A chain has the number of its parent and 1; 0 is that of a number that is nobody's child.
@@ -22,7 +22,7 @@ pub struct ChildIndex {
 }
 
 impl ChildIndex {
-    /// Number 0 alone, which has no child, with room for so many numbers. O(1).
+    /// Number 0 alone, which has no child, with room for `room` numbers. O(1).
     ///
     /// # Errors
     ///
@@ -39,7 +39,7 @@ impl ChildIndex {
         })
     }
 
-    /// The same index again, with room for so many numbers. O(n) for n numbers.
+    /// The same index again, with room for `room` numbers. O(n) for n numbers.
     ///
     /// # Errors
     ///

@@ -1,4 +1,4 @@
-//! Kd-trees, as who walks one looks at it.
+//! Kd-trees, as a walk sees them.
 
 ghost use Rattle.std.specs.Prelude.{◌≡◌, IfNone};
 ghost use Rattle.plan_model.specs.Trees.PointsByNumber.{StandsAt};

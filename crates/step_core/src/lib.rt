@@ -1,7 +1,7 @@
 //! The words of a run: how a point, a parent with its cost, and a record are each packed into 64 bits and read again.
 //!
-//! This is the only place where several numbers are packed into one. Every word that is written has bit 63 set, so 0 is
-//! a word that is not written yet. `docs/words.md` has the layout, and `layout` has it as constants. The contracts say
+//! This is the only place where the fields of a word are packed; sort keys elsewhere put two numbers into one for comparison
+//! alone. Every word that is written has bit 63 set, so 0 is a word that is not written yet. `docs/words.md` has the layout, and `layout` has it as constants. The contracts say
 //! what a word is as a number: a sum of products for what is packed, quotients and remainders for what is read.
 //!
 //! [`Grown`] is a closed run: a task, and a table of such words with the count of nodes, a counter for each strip, the
@@ -36,10 +36,10 @@ mod packed_runs;
 mod point_words;
 mod record_words;
 mod run_words;
-mod seen_laws;
+pub mod seen_laws;
 mod tree_words;
 mod views;
-mod word_laws;
+pub mod word_laws;
 mod word_places;
 pub mod world_laws;
 

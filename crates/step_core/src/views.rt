@@ -12,7 +12,7 @@ pub struct SharedRun {
     pub start: Point,
     /// The length of the longest edge, in lattice steps.
     pub step: u32,
-    /// The factor of the radius of near nodes.
+    /// The factor of the radius of near nodes, in lattice steps.
     pub gamma: u32,
     /// The goals by which marks may be skipped, none if the scene is not informed.
     pub goals: Sequence<Goal>,

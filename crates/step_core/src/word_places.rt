@@ -13,7 +13,7 @@ ghost use Rattle.step_core.specs.WordPlaces.{place_of, word_count};
 
 use plan_model::{Task, strip_of_mark};
 
-/// The places of the words of a run with so many strips and marks. Each place is found in O(1), without memory.
+/// The places of the words of a run with this many strips and marks. Each place is found in O(1), without memory.
 #[derive(Clone, Copy)]
 pub struct WordPlaces {
     strips: usize,
@@ -57,7 +57,7 @@ impl WordPlaces {
         0
     }
 
-    /// The best cost of a goal node.
+    /// The best word: the least pair of a cost and a goal node.
     pub fn best(self) -> usize
         ensures { result ≡ place_of (sizes_in self) Best }
     {
