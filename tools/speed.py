@@ -1,10 +1,11 @@
 #!/usr/bin/env python3
 """Measures a built program on generated scenes, and prints a table of times and of ratios in this one run.
 
-Usage: speed.py PROGRAM [ROUNDS [OTHER]]. The commands are run in turns, ROUNDS times (5 if left out), and the least time of
-each counts: wall time, and processor time of all threads. `plain` looks at all nodes for each mark, so on the greatest scene,
-where that takes half a minute, it is run once. With OTHER, a second program that takes the same words, each command is run with
-both in turns, and the ratio of the second to the first is printed. Measure on a machine that does nothing else.
+Usage: speed.py PROGRAM [ROUNDS [OTHER]]. The commands are run in turns, ROUNDS times (5 if left out), and the least
+time of each counts: wall time, and processor time of all threads. `plain` looks at all nodes for each mark, so on the
+greatest scene, where that takes a minute or more, it is run once. With OTHER, a second program that takes the same
+words, each command is run with both in turns, and the ratio of the second to the first is printed. Measure on a machine
+that does nothing else.
 """
 
 import os
