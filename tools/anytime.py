@@ -9,12 +9,11 @@ import re
 import sys
 
 from geometry import Space
+from reports import BETTER
 from rules import mark_points
 from scene import read
 from textbook import answer, best_node, plan
 from usage import words_or_usage
-
-BETTER = re.compile(r"better (0|[1-9][0-9]*) marks (0|[1-9][0-9]*)")
 
 
 def better_paths(scene, slice_size):

@@ -28,25 +28,28 @@ def parts_of(text):
     return parts
 
 
-def fault_of(parts):
-    """The first fault of the parts, in the whole text; None if there is none."""
+def read_batch(text):
+    """The scenes of a text. If it is refused, the first `Fault` of its parts, by the line in the whole text."""
+    parts, scenes = parts_of(text), []
     for before, part in parts[:MOST_SCENES]:
         try:
-            read(part)
+            scenes.append(read(part))
         except Fault as fault:
-            return Fault(before + fault.line, fault.kind)
-    return Fault(parts[MOST_SCENES][0], 8) if len(parts) > MOST_SCENES else None
+            raise Fault(before + fault.line, fault.kind) from None
+    if len(parts) > MOST_SCENES:
+        raise Fault(parts[MOST_SCENES][0], 8)
+    return scenes
 
 
 def batch_answer(text, slice_size):
     """What `batch 1 S` is to write for the bytes of several scenes, and its status."""
     if len(text) > MOST_TEXT_BYTES:
         return "text too long\n", 3
-    parts = parts_of(text)
-    fault = fault_of(parts)
-    if fault:
+    try:
+        read_batch(text)
+    except Fault as fault:
         return f"{fault}\n", 3
-    answers = [anytime_answer(part, slice_size) for _, part in parts]
+    answers = [anytime_answer(part, slice_size) for _, part in parts_of(text)]
     status = max(status for _, status in answers)
     if status == START_BLOCKED:
         return "start blocked\n", status

@@ -12,24 +12,16 @@ the lines of the short report.
 
 import bisect
 import random
-import re
 import sys
 
 from geometry import Space, squared_distance
+from reports import COUNTS, INFORMED_COUNTS, MARK, NODE, PATH, POINT, SKIPPED, fit
 from rules import bound, class_of, cost, mark_points, radius_of_class, steer
 from scene import read
 from textbook import Record, Tree, head_lines
 from usage import words_or_usage
 
 MOST_WORKERS = 64
-N = r"(0|[1-9][0-9]*)"
-PATH = re.compile(f"path {N} cost {N}")
-POINT = re.compile(f"{N} {N}")
-COUNTS = re.compile(f"nodes {N} placed {N} same {N} blocked {N}")
-INFORMED_COUNTS = re.compile(f"nodes {N} placed {N} same {N} blocked {N} skipped {N}")
-NODE = re.compile(f"node {N} at {N} {N} parent {N} cost {N}")
-MARK = re.compile(f"mark {N} worker {N} turn {N} nearest {N} (?:(placed) class {N} first {N} {N}|(same) {N}|(blocked))")
-SKIPPED = re.compile(f"mark {N} worker {N} turn {N} skipped by {N}")
 
 
 class Wrong(Exception):
@@ -47,15 +39,6 @@ def need(holds, reason):
     """Refuses what is looked at unless the condition holds."""
     if not holds:
         raise Wrong(reason)
-
-
-def fit(match, *limits):
-    """The numbers of a line, if it has the form and each is below its limit; None otherwise."""
-    if not match:
-        return None
-    words = [word for word in match.groups() if word is not None and word.isdigit()]
-    fits = len(words) == len(limits) and all(len(word) <= 20 and int(word) < limit for word, limit in zip(words, limits))
-    return [int(word) for word in words] if fits else None
 
 
 class Lines:

@@ -11,22 +11,15 @@ from dataclasses import replace
 
 from geometry import Space, squared_distance
 from judge import Wrong, need, verdict
+from reports import GOAL, START
 from rules import cost, mark_points
 from scene import read
 from textbook import answer, head_lines, plan
 
-START, GOAL = "start ", "goal "
-
-
-def middle(scene):
-    """The middle of the first goal, rounded down."""
-    x0, y0, x1, y1 = scene.goals[0]
-    return (x0 + x1) // 2, (y0 + y1) // 2
-
 
 def turned(scene):
     """The scene from the other end."""
-    return replace(scene, start=middle(scene), goals=[(*scene.start, *scene.start)])
+    return replace(scene, start=scene.goal_middle(), goals=[(*scene.start, *scene.start)])
 
 
 def best_bridge(first, second, scene, space):
@@ -57,7 +50,7 @@ def twin_answer(text):
         return output, status
     scene = read(text)
     space = Space(scene)
-    if not space.is_clear(middle(scene), middle(scene)):
+    if not space.is_clear(scene.goal_middle(), scene.goal_middle()):
         return "goal blocked\n", 8
     marks, counts, trees = mark_points(scene, space), [], []
     for own in (scene, turned(scene)):
@@ -74,7 +67,7 @@ def check_twin(scene, output):
     """Checks what a report of two trees shows: the path leads from the start to the goal's middle, and each tree counts each mark."""
     *head, start_counts, goal_counts = output.split("\n")[:-1]
     need(output.endswith("\n") and start_counts.startswith(START) and goal_counts.startswith(GOAL), "not the lines of two trees")
-    end = middle(scene)
+    end = scene.goal_middle()
     shown = replace(scene, goals=[] if head == ["no path"] else [(*end, *end)])
     for counts in (start_counts[len(START) :], goal_counts[len(GOAL) :]):
         said = verdict(shown, "".join(line + "\n" for line in [*head, counts]), False)
