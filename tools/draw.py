@@ -1,0 +1,80 @@
+#!/usr/bin/env python3
+"""Draws a scene, and its report if there is one, as an SVG picture.
+
+Usage: draw.py SCENE [REPORT] > picture.svg. Both are names of files; `-` is standard input. REPORT is what a word wrote
+for SCENE: `plain` or `plan`, each with `full` or not, `smooth`, `anytime`, `twin`, `batch` or `trial`. SCENE may have
+several scenes, as `batch` reads them; each is drawn.
+
+The picture shows the room, its obstacles with the clearance round them, goals, start, body and path; with `full` the
+tree; with `anytime` and `batch` the cost of the cheapest path against marks. If a text is no scene or no report of it,
+draw.py says why, and ends with 1.
+"""
+
+import sys
+
+from batch import read_batch
+from geometry import is_clear_at
+from pictures import picture
+from reports import GOAL_BLOCKED, START_BLOCKED, NoReport, check_scene, read_reports
+from scene import MOST_TEXT_BYTES, Fault, Scene
+from usage import words_or_usage
+
+# Where the body is not clear, by the refusal that says so.
+PLACES = {START_BLOCKED: lambda scene: scene.start, GOAL_BLOCKED: Scene.goal_middle}
+
+
+def bytes_of(name):
+    """The bytes of a file, or of standard input."""
+    if name == "-":
+        return sys.stdin.buffer.read()
+    with open(name, "rb") as file:
+        return file.read()
+
+
+class NoScene(Exception):
+    """A text is no scene, for this reason."""
+
+
+def scenes_of(text):
+    """The scenes of a text."""
+    if len(text) > MOST_TEXT_BYTES:
+        raise NoScene("text too long")
+    return read_batch(text)
+
+
+def reports_of(text, scenes):
+    """The report of each scene. If a start is blocked, nothing is planned: each has the same."""
+    reports = read_reports(text.decode("latin-1"))
+    refusal = reports[0].refusal
+    if refusal and all(is_clear_at(scene, PLACES[refusal](scene)) for scene in scenes):
+        raise NoReport("the report of another scene: in this one the body is clear there")
+    if refusal == START_BLOCKED:
+        reports *= len(scenes)
+    if len(reports) != len(scenes):
+        raise NoReport(f"the report of {len(reports)} scenes in place of {len(scenes)}")
+    for scene, report in zip(scenes, reports):
+        check_scene(scene, report)
+    return reports
+
+
+def taken(name, take):
+    """What is taken from the bytes of a file. If they are not what they are to be, the program ends with why."""
+    try:
+        return take(bytes_of(name))
+    except OSError as fault:
+        sys.exit(f"draw.py: {name}: {fault.strerror}")
+    except (Fault, NoScene, NoReport) as fault:
+        sys.exit(f"draw.py: {name}: {fault}")
+
+
+def main(words):
+    """Draws what the files have that the words name."""
+    if len(words) > 2:
+        sys.exit(__doc__)
+    scenes = taken(words[0], scenes_of)
+    reports = taken(words[1], lambda text: reports_of(text, scenes)) if words[1:] else [None] * len(scenes)
+    sys.stdout.write(picture(list(zip(scenes, reports))))
+
+
+if __name__ == "__main__":
+    main(words_or_usage(__doc__))
