@@ -2,8 +2,6 @@
 #![tactic(auto)]
 
 #[cfg(test)]
-mod errors;
-#[cfg(test)]
 mod lists;
 #[cfg(test)]
 mod memory_streams;

@@ -1,6 +1,6 @@
 -- What a source that is read to its end gives, and what is left of it: before and now are the bytes that it has left
 -- before the call and after it, if they are known.
-use Rattle.std.specs.Prelude.{◌≡◌, ℕ, ◌+◌, ◌<◌, ◌≤◌, ◌↔◌, Option, Some, List, length, Result, Vec, IfOk, IsErrOf}
+use Rattle.std.specs.Prelude.{◌≡◌, ℕ, ◌+◌, ◌<◌, ◌≤◌, ◌↔◌, ◌++◌, Option, Some, List, length, Result, Vec, IfOk, IsErrOf, codes, decimal}
 use Rattle.std.specs.Io.KnownBytes.{Consumes}
 use Rattle.plan_model.specs.declared.limits.TheConstants.{MOST_TEXT_BYTES}
 use Rattle.scene_text.specs.declared.fetching.FetchFault.{FetchFault}
@@ -25,3 +25,9 @@ pub record Fetches {Z : Type 0} (before now : Option (List ℕ)) (result : Resul
   pub within : length came ≤ MOST_TEXT_BYTES + 1
   pub text : IfOk result (λ text. text.items ≡ came)
   pub too_long : IsErrOf result faults.TooLong ↔ (MOST_TEXT_BYTES < length came)
+
+-- how a fault is shown
+abbrev pub fault_message : FetchFault → List ℕ
+fault_message faults.Read = codes "read failed"
+fault_message faults.TooLong = codes "text longer than " ++ decimal MOST_TEXT_BYTES ++ codes " bytes"
+fault_message faults.Memory = codes "out of memory"

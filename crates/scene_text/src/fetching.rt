@@ -9,24 +9,39 @@ ghost use Rattle.scene_text.specs.declared.fetching.FetchFault.TheVariants as fa
 
 use plan_model::{Failed, MOST_TEXT_BYTES, Source};
 use std::alloc::{AllocError, Global};
-use thiserror::Error;
+use std::error::Error;
+use std::fmt;
 
 /// The most bytes that one read asks for.
 const MOST_IN_PIECE: usize = 8192;
 
 /// Why a source could not be read to its end.
-#[derive(Clone, Copy, Debug, PartialEq, Eq, Error)]
+#[derive(Clone, Copy, Debug, PartialEq, Eq)]
 pub enum FetchFault {
     /// A read failed, and the source's count of faults rose.
-    #[error("read failed")]
     Read,
     /// More than `MOST_TEXT_BYTES` bytes came. One more than these was read.
-    #[error("text longer than {most} bytes", most = MOST_TEXT_BYTES)]
     TooLong,
     /// The program is out of memory for the bytes.
-    #[error("out of memory")]
     Memory,
 }
+
+impl fmt::Display for FetchFault {
+    ghost use Rattle.std.specs.Prelude.{Some};
+    ghost use Rattle.scene_text.specs.Fetching.{fault_message};
+
+    ghost output = { λ fault. Some (fault_message fault) };
+
+    fn fmt<W: fmt::Write>(&self, f: &mut fmt::Formatter<W>) -> fmt::Result {
+        match self {
+            FetchFault::Read => write!(f, "read failed"),
+            FetchFault::TooLong => write!(f, "text longer than {MOST_TEXT_BYTES} bytes"),
+            FetchFault::Memory => write!(f, "out of memory"),
+        }
+    }
+}
+
+impl Error for FetchFault {}
 
 impl From<Failed> for FetchFault {
     ghost from_gives = { λ _ fault. fault ≡ faults.Read };

@@ -2,7 +2,7 @@
 
 ghost use Rattle.std.specs.Prelude.{◌≡◌, false};
 
-use crate::support::{assert_shown, sure};
+use crate::support::sure;
 use plan_model::{MOST_TEXT_BYTES, MemSource, Source, SureSource};
 use scene_text::{FetchFault, fetch};
 use std::alloc::Global;
@@ -113,18 +113,5 @@ fn assert_fetches<R: Abort>(rt: &R, alloc: Global, fetching: &Fetching) {
 fn fetch_stops_at_a_fault(rt: HostRuntime) {
     for fetching in &FETCHES {
         assert_fetches(&rt, rt.alloc(), fetching);
-    }
-}
-
-static FAULTS: [(FetchFault, &str); 3] = [
-    (FetchFault::Read, "read failed"),
-    (FetchFault::TooLong, "text longer than 16777216 bytes"),
-    (FetchFault::Memory, "out of memory"),
-];
-
-#[test]
-fn faults_have_messages(rt: HostRuntime) {
-    for case in &FAULTS {
-        assert_shown(&rt, rt.alloc(), &case.0, case.1);
     }
 }

@@ -1,5 +1,5 @@
 -- Two trees of a scene, from its start and from the middle of its first goal, and the bridge between them.
-use Rattle.std.specs.Prelude.{◌≡◌, ◌<◌, ℕ, Some, length}
+use Rattle.std.specs.Prelude.{◌≡◌, ◌<◌, ℕ, List, Some, codes, length}
 use Rattle.plan_model.specs.declared.records.Record.{Record}
 use Rattle.plan_model.specs.declared.scenes.Scene.{Scene}
 use Rattle.plan_model.specs.Runs.ClosedLaw.{IsClosed}
@@ -12,6 +12,8 @@ use Rattle.step_core.specs.GrownRuns.{state_of_grown}
 use Rattle.twin_trees.specs.Bridges.{IsBridge}
 use Rattle.twin_trees.specs.TurnedScenes.{IsTurnedRound}
 use Rattle.twin_trees.specs.declared.twin_runs.Twin.{Twin}
+use Rattle.twin_trees.specs.declared.twin_runs.TwinFault.{TwinFault}
+use Rattle.twin_trees.specs.declared.twin_runs.TwinFault.TheVariants as faults
 
 -- A run of a scene over all of its marks, each with a record: it keeps the closed law, and each cost is the cost-to-come. Its marks were
 -- handled by so many workers at most, numbered from 0. By one worker it is the textbook run of the scene.
@@ -31,3 +33,8 @@ pub record IsTwin (workers : ℕ) (scene : Scene) (twin : Twin) : Type 0 where
   pub turned_round : IsTurnedRound scene turned
   pub from_goal : IsWholeRun workers turned twin.from_goal
   pub bridge : IsBridge (setup_of scene) (state_of_grown twin.from_start) (state_of_grown twin.from_goal) twin.bridge
+
+-- how a fault is shown
+abbrev pub fault_message : TwinFault → List ℕ
+fault_message faults.GoalBlocked = codes "the middle of the first goal is not clear"
+fault_message faults.Memory = codes "out of memory"

@@ -1,8 +1,9 @@
 //! Two runs of a scene, one from each end.
 
 use plan_model::Memory;
+use std::error::Error;
+use std::fmt;
 use step_core::Grown;
-use thiserror::Error;
 
 /// Two settled runs of a scene over all of its marks, one from each end, and the bridge between them.
 #[derive(Drop)]
@@ -18,15 +19,29 @@ pub struct Twin {
 }
 
 /// Why there are no two trees.
-#[derive(Clone, Copy, Debug, PartialEq, Eq, Error)]
+#[derive(Clone, Copy, Debug, PartialEq, Eq)]
 pub enum TwinFault {
     /// The body is not clear in the middle of the first goal.
-    #[error("the middle of the first goal is not clear")]
     GoalBlocked,
     /// Out of memory.
-    #[error("out of memory")]
     Memory,
 }
+
+impl fmt::Display for TwinFault {
+    ghost use Rattle.std.specs.Prelude.{Some};
+    ghost use Rattle.twin_trees.specs.Twins.{fault_message};
+
+    ghost output = { λ fault. Some (fault_message fault) };
+
+    fn fmt<W: fmt::Write>(&self, f: &mut fmt::Formatter<W>) -> fmt::Result {
+        match self {
+            TwinFault::GoalBlocked => write!(f, "the middle of the first goal is not clear"),
+            TwinFault::Memory => write!(f, "out of memory"),
+        }
+    }
+}
+
+impl Error for TwinFault {}
 
 impl From<Memory> for TwinFault {
     ghost use Rattle.twin_trees.specs.declared.twin_runs.TwinFault.TheVariants as faults;
