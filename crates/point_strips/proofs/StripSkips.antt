@@ -7,7 +7,7 @@ use Rattle.std.proofs.lemmas.Nat.{mul-le}
 use Rattle.std.proofs.Math.Pow.{shr_mono}
 use Rattle.plan_model.specs.Geometry.Bounds.{IsBounded}
 use Rattle.plan_model.specs.declared.geometry.Point.{Point}
-use Rattle.point_strips.specs.Discs.{IsWithin}
+use Rattle.point_strips.specs.Discs.{IsInColumns, IsWithin}
 use Rattle.point_strips.specs.StripOrder.{strip_key, strip_of}
 use Rattle.point_strips.specs.Walks.{HasNoneBetween, nowhere, numbered_at}
 use Rattle.point_strips.specs.declared.strips.Numbered.{Numbered}
@@ -53,6 +53,13 @@ module _ (center : Point) (square reach : ℕ) (low : square < (reach + 1) * (re
         within,
         past_reach_up square reach (abs_diff p.y center.y) (abs_diff p.x center.x * abs_diff p.x center.x) low (omega (arith, above)),
       ))
+
+-- a column at most the reach away from the center's
+pub in_columns : (center : Point) (square reach : ℕ) → reach * reach ≤ square → (p : Point) → center.x - reach ≤ p.x → p.x ≤ center.x + reach
+    → IsInColumns center square p
+in_columns center square reach reached p left right =
+    let gap = abs_diff p.x center.x in
+    omega (arith, mul-le gap gap reach reach (omega (arith, left, right)) (omega (arith, left, right)), reached)
 
 -- one position more at the front of those that have none
 pub HasNoneBetween-after : (center : Point) (square : ℕ) (points : List Numbered) (at limit : ℕ)

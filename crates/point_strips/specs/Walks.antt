@@ -1,7 +1,7 @@
 -- A walk over the points within a distance of a center, run by run: none of them is left out between two runs.
 use Rattle.std.specs.Prelude.{ℕ, ◌<◌, ◌≤◌, Option, Some, None, List, length, slice_index_or}
 use Rattle.plan_model.specs.declared.geometry.Point.{Point}
-use Rattle.point_strips.specs.Discs.{IsWithin}
+use Rattle.point_strips.specs.Discs.{IsInColumns, IsWithin}
 use Rattle.point_strips.specs.declared.strips.Numbered.{Numbered}
 use Rattle.point_strips.specs.declared.strips.Run.{Run}
 
@@ -17,11 +17,13 @@ numbered_at points i = slice_index_or points i nowhere
 abbrev pub HasNoneBetween : Point → ℕ → List Numbered → ℕ → ℕ → Type 0
 HasNoneBetween center square points from limit = (j : ℕ) → from ≤ j → j < limit → ¬ IsWithin center square (numbered_at points j).point
 
--- a run begins at a position or after it, has a position, ends in the list, and none before it is within the distance
+-- A run begins at a position or after it, has a position, ends in the list and stands in the columns of the disc; no point before it is
+-- within the distance.
 pub record IsRunAfter (center : Point) (square : ℕ) (points : List Numbered) (from : ℕ) (run : Run) : Type 0 where
   pub onward : from ≤ run.start
   pub some : run.start < run.end
   pub inside : run.end ≤ length points
+  pub columns : (j : ℕ) → run.start ≤ j → j < run.end → IsInColumns center square (numbered_at points j).point
   pub skipped : HasNoneBetween center square points from run.start
 
 -- The next run from a position on, or that no point from there on is within the distance.

@@ -1,6 +1,6 @@
 //! Closed discs: all points within a distance of a center.
 
-ghost use Rattle.std.specs.Prelude.{◌≡◌, ◌↔◌, ◌+◌, ◌-◌, ◌*◌, ◌<◌, IsTrue, min};
+ghost use Rattle.std.specs.Prelude.{◌≡◌, ◌↔◌, ◌+◌, ◌-◌, ◌*◌, ◌<◌, ◌≤◌, IsTrue, min};
 ghost use Rattle.plan_model.specs.Geometry.Bounds.{IsBounded};
 ghost use Rattle.point_strips.specs.Discs.{IsWithin};
 
@@ -16,6 +16,7 @@ pub struct Disc {
     /// No coordinate of a point of the disc is farther than this from the center's.
     reach: u32,
     ghost center_bounded: { IsBounded center },
+    ghost reached: { reach * reach ≤ square },
     ghost reaches: { square < (reach + 1) * (reach + 1) },
 }
 

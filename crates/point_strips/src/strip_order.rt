@@ -1,9 +1,9 @@
 //! The order of points in strips, and how far a walk over the points of a disc may skip in it.
 
-ghost use Rattle.std.specs.Prelude.{◌≡◌, ◌+◌, ◌*◌, ◌/◌, ◌^◌, ◌<◌, ◌≤◌, All, ℕ, length};
+ghost use Rattle.std.specs.Prelude.{◌≡◌, ◌+◌, ◌-◌, ◌*◌, ◌/◌, ◌^◌, ◌<◌, ◌≤◌, All, ℕ, length};
 ghost use Rattle.std.specs.List.Sorted.{IsNonDecreasingBy};
 ghost use Rattle.plan_model.specs.Geometry.Bounds.{IsBounded};
-ghost use Rattle.point_strips.specs.StripOrder.{strip_key, strip_of};
+ghost use Rattle.point_strips.specs.StripOrder.{StandsBetween, strip_key, strip_of};
 ghost use Rattle.point_strips.specs.Walks.{HasNoneBetween, IsNextRun, numbered_at};
 
 use crate::discs::Disc;
@@ -72,6 +72,7 @@ fn skipped(points: &[Numbered], height_log: u32, at: usize, disc: Disc) -> usize
     ensures later { at ≤ result }
     ensures within { result ≤ length points.now }
     ensures none { HasNoneBetween disc.center disc.square points.now at result }
+    ensures columns { result ≡ at → StandsBetween (disc.center.x - disc.reach) (disc.center.x + disc.reach) points.now at }
 {
     let point = points[at].point;
     let here = strip(point.y, height_log);
@@ -95,8 +96,11 @@ fn skipped(points: &[Numbered], height_log: u32, at: usize, disc: Disc) -> usize
 fn end_of_run(points: &[Numbered], height_log: u32, start: usize, right: u32) -> usize
     requires inside { start < length points.now }
     requires height { height_log < 32 }
+    requires sorted { IsNonDecreasingBy (strip_key height_log) points.now }
+    requires column { (numbered_at points.now start).point.x ≤ right }
     ensures some { start < result }
     ensures within { result ≤ length points.now }
+    ensures columns { (j : ℕ) → start ≤ j → j < result → StandsBetween (numbered_at points.now start).point.x right points.now j }
 {
     let here = strip(points[start].point.y, height_log);
     let mut end = start + 1;

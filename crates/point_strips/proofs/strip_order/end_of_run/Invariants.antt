@@ -1,10 +1,13 @@
-use Rattle.std.specs.Prelude.{◌≤◌, ◌<◌, ◌-◌, length}
+use Rattle.std.specs.Prelude.{ℕ, ◌≤◌, ◌<◌, ◌-◌, length}
+use Rattle.point_strips.specs.StripOrder.{StandsBetween}
+use Rattle.point_strips.specs.Walks.{numbered_at}
 use Rattle.point_strips.proofs.strip_order.end_of_run.Given as goal
 
 abbrev pub invariant-loop-end : goal.invariant-loop-end
 invariant-loop-end l = record {
   some : l.start < l.end;
   within : l.end ≤ length l.points;
+  columns : (j : ℕ) → l.start ≤ j → j < l.end → StandsBetween (numbered_at l.points l.start).point.x l.right l.points j;
 }
 
 abbrev pub decreases-loop-end : goal.decreases-loop-end
