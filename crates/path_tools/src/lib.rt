@@ -45,4 +45,4 @@ mod verdicts;
 pub use report_cuts::cut_at_report;
 pub use smoothed_reports::smoothed_report;
 pub use smoothing::smooth;
-pub use verdicts::{Verdict, check};
+pub use verdicts::{Verdict, check, check_with};

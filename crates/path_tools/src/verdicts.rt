@@ -74,11 +74,15 @@ pub fn check(alloc: Global, task: &Task, report: &[u8]) -> Result<Verdict, Memor
 {
     let hall = Hall::new(alloc, &task.scene)?;
     let boxes = Boxes::new(alloc, hall)?;
-    judge(alloc, task, &boxes, report)
+    check_with(alloc, task, &boxes, report)
 }
 
-/// The same by a collision checker that stands for the scene.
-fn judge<C: Clearing>(
+/// [`check`] over a collision checker that the caller has, which stands for the scene of the task.
+///
+/// # Errors
+///
+/// `Memory` if out of memory for the lists that are read.
+pub fn check_with<C: Clearing>(
     alloc: Global,
     task: &Task,
     hall: &C,

@@ -5,7 +5,7 @@ use Rattle.path_tools.specs.Judgements.{IsVerdict}
 use Rattle.path_tools.specs.ReportForms.{BreaksFormFirst}
 use Rattle.path_tools.specs.ReportLines.{Extent}
 use Rattle.path_tools.proofs.SheetVerdicts.{broken_form, form_low}
-use Rattle.path_tools.proofs.verdicts.judge.Goals as goal
+use Rattle.path_tools.proofs.verdicts.check_with.Goals as goal
 
 pub overflow_cast-marks : goal.overflow_cast-marks
 overflow_cast-marks g c = omega (arith, c.len-marks.ensures, length-marks c.args.task.now)
