@@ -4,7 +4,7 @@ ghost use Rattle.std.specs.Prelude.{◌≡◌, ◌++◌, ◌∷◌, [], ◌<◌,
 ghost use Rattle.plan_model.specs.Reports.ReportText.{line};
 ghost use Rattle.plan_model.specs.declared.limits.TheConstants.{MOST_MARKS};
 
-use crate::fields::{after, read_field};
+use crate::fields::read_field;
 use crate::line_readers::MOST_COST;
 
 /// The greatest worker that a record's word holds.
@@ -30,65 +30,53 @@ pub(crate) fn read_turn(text: &[u8], marks: u32) -> Option<(u32, u32, u32, &[u8]
     Some((number as u32, worker as u32, turn as u32, rest))
 }
 
-/// The nearest node, the class, the first parent and the first cost of a mark that was placed; `None` exactly if the line does not go on so.
-pub(crate) fn read_placed(text: &[u8], marks: u32) -> Option<(u32, u32, u32, u64, &[u8])>
+/// The nearest node of a mark, and what stands after it; `None` exactly if the line does not go on so.
+pub(crate) fn read_nearest(text: &[u8], marks: u32) -> Option<(u32, &[u8])>
     requires few { marks ≤ MOST_MARKS }
-    ensures fits { IfSome result (λ read. (read.0 ≤ marks) × (read.1 < 2 ^ 18) × (read.2 ≤ marks) × (read.3 < 2 ^ 44)) }
-    ensures some { IfSome result (λ read. text.now
-        ≡ line (codes "nearest" ∷ decimal read.0 ∷ codes "placed" ∷ codes "class" ∷ decimal read.1
-        ∷ codes "first" ∷ decimal read.2 ∷ decimal read.3 ∷ []) ++ read.4.now) }
-    ensures none { IfNone result ((nearest class parent cost : ℕ) (rest : List ℕ) → nearest ≤ marks → class < 2 ^ 18 → parent ≤ marks → cost < 2 ^ 44
-        → ¬ (text.now ≡ line (codes "nearest" ∷ decimal nearest ∷ codes "placed" ∷ codes "class" ∷ decimal class
-        ∷ codes "first" ∷ decimal parent ∷ decimal cost ∷ []) ++ rest)) }
+    ensures fits { IfSome result (λ read. read.0 ≤ marks) }
+    ensures some { IfSome result (λ read. text.now ≡ codes "nearest " ++ (decimal read.0 ++ 32 ∷ read.1.now)) }
+    ensures none { IfNone result ((nearest : ℕ) (rest : List ℕ) → nearest ≤ marks → ¬ (text.now ≡ codes "nearest " ++ (decimal nearest ++ 32 ∷ rest))) }
 {
-    let last = u64::from(marks);
-    let (nearest, rest) = read_field(text, b"nearest ", b' ', last)?;
-    let (class, rest) = read_field(rest, b"placed class ", b' ', MOST_IN_WORD)?;
-    let (parent, rest) = read_field(rest, b"first ", b' ', last)?;
-    let (cost, rest) = read_field(rest, b"", b'\n', MOST_COST)?;
-    Some((nearest as u32, class as u32, parent as u32, cost, rest))
+    let (nearest, rest) = read_field(text, b"nearest ", b' ', u64::from(marks))?;
+    Some((nearest as u32, rest))
 }
 
-/// The nearest node, and the node at which a mark ended; `None` exactly if the line does not go on so.
-pub(crate) fn read_same(text: &[u8], marks: u32) -> Option<(u32, u32, &[u8])>
+/// After its nearest node, the class, the first parent and the first cost of a mark that was placed; `None` exactly if the line does not go
+/// on so.
+pub(crate) fn read_placed(text: &[u8], marks: u32) -> Option<(u32, u32, u64, &[u8])>
     requires few { marks ≤ MOST_MARKS }
-    ensures fits { IfSome result (λ read. (read.0 ≤ marks) × (read.1 ≤ marks)) }
+    ensures fits { IfSome result (λ read. (read.0 < 2 ^ 18) × (read.1 ≤ marks) × (read.2 < 2 ^ 44)) }
     ensures some { IfSome result (λ read. text.now
-        ≡ line (codes "nearest" ∷ decimal read.0 ∷ codes "same" ∷ decimal read.1 ∷ []) ++ read.2.now) }
-    ensures none { IfNone result ((nearest node : ℕ) (rest : List ℕ) → nearest ≤ marks → node ≤ marks
-        → ¬ (text.now ≡ line (codes "nearest" ∷ decimal nearest ∷ codes "same" ∷ decimal node ∷ []) ++ rest)) }
+        ≡ line (codes "placed" ∷ codes "class" ∷ decimal read.0 ∷ codes "first" ∷ decimal read.1 ∷ decimal read.2 ∷ []) ++ read.3.now) }
+    ensures none { IfNone result ((class parent cost : ℕ) (rest : List ℕ) → class < 2 ^ 18 → parent ≤ marks → cost < 2 ^ 44
+        → ¬ (text.now ≡ line (codes "placed" ∷ codes "class" ∷ decimal class ∷ codes "first" ∷ decimal parent ∷ decimal cost ∷ []) ++ rest)) }
 {
     let last = u64::from(marks);
-    let (nearest, rest) = read_field(text, b"nearest ", b' ', last)?;
-    let (node, rest) = read_field(rest, b"same ", b'\n', last)?;
-    Some((nearest as u32, node as u32, rest))
+    let (class, rest) = read_field(text, b"placed class ", b' ', MOST_IN_WORD)?;
+    let (parent, rest) = read_field(rest, b"first ", b' ', last)?;
+    let (cost, rest) = read_field(rest, b"", b'\n', MOST_COST)?;
+    Some((class as u32, parent as u32, cost, rest))
+}
+
+/// After its nearest node, the node at which a mark ended; `None` exactly if the line does not go on so.
+pub(crate) fn read_same(text: &[u8], marks: u32) -> Option<(u32, &[u8])>
+    requires few { marks ≤ MOST_MARKS }
+    ensures fits { IfSome result (λ read. read.0 ≤ marks) }
+    ensures some { IfSome result (λ read. text.now ≡ line (codes "same" ∷ decimal read.0 ∷ []) ++ read.1.now) }
+    ensures none { IfNone result ((node : ℕ) (rest : List ℕ) → node ≤ marks → ¬ (text.now ≡ line (codes "same" ∷ decimal node ∷ []) ++ rest)) }
+{
+    let (node, rest) = read_field(text, b"same ", b'\n', u64::from(marks))?;
+    Some((node as u32, rest))
 }
 
 /// The goal node by which a mark was skipped; `None` exactly if the line does not go on so.
 pub(crate) fn read_skipped(text: &[u8], marks: u32) -> Option<(u32, &[u8])>
     requires few { marks ≤ MOST_MARKS }
     ensures fits { IfSome result (λ read. read.0 ≤ marks) }
-    ensures some { IfSome result (λ read. text.now
-        ≡ line (codes "skipped" ∷ codes "by" ∷ decimal read.0 ∷ []) ++ read.1.now) }
+    ensures some { IfSome result (λ read. text.now ≡ line (codes "skipped" ∷ codes "by" ∷ decimal read.0 ∷ []) ++ read.1.now) }
     ensures none { IfNone result ((goal : ℕ) (rest : List ℕ) → goal ≤ marks
         → ¬ (text.now ≡ line (codes "skipped" ∷ codes "by" ∷ decimal goal ∷ []) ++ rest)) }
 {
-    let last = u64::from(marks);
-    let (goal, rest) = read_field(text, b"skipped by ", b'\n', last)?;
+    let (goal, rest) = read_field(text, b"skipped by ", b'\n', u64::from(marks))?;
     Some((goal as u32, rest))
-}
-
-/// The nearest node of a mark that was blocked; `None` exactly if the line does not go on so.
-pub(crate) fn read_blocked(text: &[u8], marks: u32) -> Option<(u32, &[u8])>
-    requires few { marks ≤ MOST_MARKS }
-    ensures fits { IfSome result (λ read. read.0 ≤ marks) }
-    ensures some { IfSome result (λ read. text.now
-        ≡ line (codes "nearest" ∷ decimal read.0 ∷ codes "blocked" ∷ []) ++ read.1.now) }
-    ensures none { IfNone result ((nearest : ℕ) (rest : List ℕ) → nearest ≤ marks
-        → ¬ (text.now ≡ line (codes "nearest" ∷ decimal nearest ∷ codes "blocked" ∷ []) ++ rest)) }
-{
-    let last = u64::from(marks);
-    let (nearest, rest) = read_field(text, b"nearest ", b' ', last)?;
-    let rest = after(rest, b"blocked\n")?;
-    Some((nearest as u32, rest))
 }

@@ -1,13 +1,14 @@
 //! The line of a mark in a report, read with its line feed.
 
-ghost use Rattle.std.specs.Prelude.{◌≡◌, ◌++◌, ◌<◌, ◌≤◌, ◌^◌, ℕ, List, IfNone, IfSome};
+ghost use Rattle.std.specs.Prelude.{◌≡◌, ◌++◌, ◌∷◌, ◌<◌, ◌≤◌, ◌^◌, ℕ, Bool, List, IfNone, IfSome, codes, decimal};
 ghost use Rattle.plan_model.specs.Reports.ReportText.{line, outcome_words};
 ghost use Rattle.plan_model.specs.declared.limits.TheConstants.{MOST_MARKS};
 ghost use Rattle.plan_model.specs.declared.records.Record.{Record};
 ghost use Rattle.path_tools.specs.ReportLines.{FitsEntry, line_text};
 ghost use Rattle.path_tools.specs.ReportLines.ReportLine.{MarkLine};
 
-use crate::mark_fields::{read_blocked, read_placed, read_same, read_skipped, read_turn};
+use crate::fields::after;
+use crate::mark_fields::{read_nearest, read_placed, read_same, read_skipped, read_turn};
 use plan_model::{Outcome, Record};
 
 /// The record of a mark, and what stands after its line; `None` exactly if the text does not begin with a line of this mark in a report
@@ -51,7 +52,37 @@ fn read_outcome(
     ensures none { IfNone result ((entry : Record) (rest : List ℕ) → FitsEntry (record { marks = marks; informed = informed }) entry
         → ¬ (text.now ≡ line (outcome_words entry entry.outcome) ++ rest)) }
 {
-    if let Some((nearest, class, first_parent, first_cost, rest)) = read_placed(text, marks) {
+    if let Some((nearest, rest)) = read_nearest(text, marks) {
+        return read_steered(rest, worker, turn, nearest, marks);
+    }
+    if !informed {
+        return None;
+    }
+    let (goal, rest) = read_skipped(text, marks)?;
+    let entry = Record::unplaced(worker, turn, goal, Outcome::Skipped);
+    Some((entry, rest))
+}
+
+/// The same of a mark that was steered to from a nearest node, from what stands after that.
+fn read_steered(
+    text: &[u8],
+    worker: u32,
+    turn: u32,
+    nearest: u32,
+    marks: u32,
+) -> Option<(Record, &[u8])>
+    requires worker { worker < 64 }
+    requires turn { turn < 2 ^ 18 }
+    requires nearest { nearest ≤ marks }
+    requires few { marks ≤ MOST_MARKS }
+    ensures fits { (informed : Bool) → IfSome result (λ read. FitsEntry (record { marks = marks; informed = informed }) read.0) }
+    ensures own { IfSome result (λ read. (read.0.worker ≡ worker) × (read.0.turn ≡ turn)) }
+    ensures some { IfSome result (λ read. codes "nearest " ++ (decimal nearest ++ 32 ∷ text.now)
+        ≡ line (outcome_words read.0 read.0.outcome) ++ read.1.now) }
+    ensures none { (informed : Bool) → IfNone result ((entry : Record) (rest : List ℕ) → FitsEntry (record { marks = marks; informed = informed }) entry
+        → ¬ (codes "nearest " ++ (decimal nearest ++ 32 ∷ text.now) ≡ line (outcome_words entry entry.outcome) ++ rest)) }
+{
+    if let Some((class, first_parent, first_cost, rest)) = read_placed(text, marks) {
         let entry = Record {
             worker,
             turn,
@@ -63,18 +94,11 @@ fn read_outcome(
         };
         return Some((entry, rest));
     }
-    if let Some((nearest, node, rest)) = read_same(text, marks) {
+    if let Some((node, rest)) = read_same(text, marks) {
         let entry = Record::unplaced(worker, turn, nearest, Outcome::Same(node));
         return Some((entry, rest));
     }
-    if let Some((nearest, rest)) = read_blocked(text, marks) {
-        let entry = Record::unplaced(worker, turn, nearest, Outcome::Blocked);
-        return Some((entry, rest));
-    }
-    if !informed {
-        return None;
-    }
-    let (goal, rest) = read_skipped(text, marks)?;
-    let entry = Record::unplaced(worker, turn, goal, Outcome::Skipped);
+    let rest = after(text, b"blocked\n")?;
+    let entry = Record::unplaced(worker, turn, nearest, Outcome::Blocked);
     Some((entry, rest))
 }
