@@ -28,7 +28,7 @@ use Rattle.point_strips.specs.Walks.{numbered_at, nowhere, HasNoneBetween, IsRun
 use Rattle.point_strips.specs.declared.strips.Numbered.{Numbered}
 use Rattle.point_strips.specs.declared.strips.Run.{Run}
 use Rattle.step_core.specs.PackedRuns.{state_of_lists}
-use Rattle.path_tools.specs.OwnNodes.{AreNodesBefore, ArePresent, HasNo, HasOne, IsBadAt, IsNearerAt, IsNodeBefore, IsPlacedAt, IsPlacedMarkAt}
+use Rattle.path_tools.specs.OwnNodes.{AreNodesBefore, ArePresent, HasNo, HasOne, IsPassedOverAt, IsNearerAt, IsNodeBefore, IsPlacedAt, IsPlacedMarkAt}
 use Rattle.path_tools.specs.OwnNodes.{IsUnlawfulAt}
 use Rattle.path_tools.specs.OwnNodes.{IsNearestOfEarlier, IsTaken, KeepsNear}
 use Rattle.path_tools.specs.SeenNodes.{HaveOwnTurns, IsMarkOfTurn, is_before, places_before}
@@ -253,34 +253,34 @@ AreNodesBefore-sorted state worker turn nodes sorted h same = record {
 
 -- ---- walks by runs
 
-module _ (Bad : Numbered → Type 0) (center : Point) (square : ℕ) (within : (m : Numbered) → Bad m → IsWithin center square m.point)
+module _ (Such : Numbered → Type 0) (center : Point) (square : ℕ) (within : (m : Numbered) → Such m → IsWithin center square m.point)
     (nodes : List Numbered) where
-  pub HasNo-on : (at : ℕ) (run : Run) → HasNo Bad nodes 0 at → IsRunAfter center square nodes at run → HasNo Bad nodes run.start run.end
-      → HasNo Bad nodes 0 run.end
-  HasNo-on at run before next inside = λ j from below bad.
+  pub HasNo-on : (at : ℕ) (run : Run) → HasNo Such nodes 0 at → IsRunAfter center square nodes at run → HasNo Such nodes run.start run.end
+      → HasNo Such nodes 0 run.end
+  HasNo-on at run before next inside = λ j from below such.
       elim (cases_lt j at) [
-        | inl passed ↦ before j from passed bad
+        | inl passed ↦ before j from passed such
         | inr past ↦
             elim (cases_lt j run.start) [
-              | inl skipped ↦ next.skipped j past skipped (within (numbered_at nodes j) bad)
-              | inr reached ↦ inside j reached below bad
+              | inl skipped ↦ next.skipped j past skipped (within (numbered_at nodes j) such)
+              | inr reached ↦ inside j reached below such
             ]
       ]
 
-  pub HasNo-end : (at : ℕ) → HasNo Bad nodes 0 at → HasNoneBetween center square nodes at (length nodes) → HasNo Bad nodes 0 (length nodes)
-  HasNo-end at before none = λ j from below bad.
+  pub HasNo-end : (at : ℕ) → HasNo Such nodes 0 at → HasNoneBetween center square nodes at (length nodes) → HasNo Such nodes 0 (length nodes)
+  HasNo-end at before none = λ j from below such.
       elim (cases_lt j at) [
-        | inl passed ↦ before j from passed bad
-        | inr past ↦ none j past below (within (numbered_at nodes j) bad)
+        | inl passed ↦ before j from passed such
+        | inr past ↦ none j past below (within (numbered_at nodes j) such)
       ]
 
-  pub HasOne-on : (at : ℕ) (run : Run) → IsRunAfter center square nodes at run → HasOne Bad nodes run.start run.end
-      → HasOne Bad nodes 0 (length nodes)
+  pub HasOne-on : (at : ℕ) (run : Run) → IsRunAfter center square nodes at run → HasOne Such nodes run.start run.end
+      → HasOne Such nodes 0 (length nodes)
   HasOne-on at run next one = record {
     position = one.position;
     past = omega arith;
     before = omega (arith, one.before, next.inside);
-    bad = one.bad;
+    such = one.such;
   }
 
 -- a node of a search lies in its disc
@@ -324,11 +324,11 @@ same_point p q test is passes =
     λ i. record { x = x i; y = y i }
 
 -- one position more
-pub HasNo-more : (Bad : Numbered → Type 0) (nodes : List Numbered) (from at : ℕ) → HasNo Bad nodes from at → ¬ Bad (numbered_at nodes at)
-    → HasNo Bad nodes from (at + 1)
-HasNo-more Bad nodes from at before fine = λ j past below bad.
+pub HasNo-more : (Such : Numbered → Type 0) (nodes : List Numbered) (from at : ℕ) → HasNo Such nodes from at → ¬ Such (numbered_at nodes at)
+    → HasNo Such nodes from (at + 1)
+HasNo-more Such nodes from at before fine = λ j past below bad.
     elim (cases_eq j at) [
-      | inl e ↦ fine (subst (λ i. Bad (numbered_at nodes i)) e bad)
+      | inl e ↦ fine (subst (λ i. Such (numbered_at nodes i)) e bad)
       | inr apart ↦ before j past (omega (arith, below, apart)) bad
     ]
 
@@ -365,11 +365,11 @@ module _ (state : TreeState) (entry : Record) (turns : ℕ) (low : entry.turn �
         standing = table.each n before;
       }
 
-  pub none_bad : (Bad : Numbered → Type 0) → HasNo Bad nodes 0 (length nodes) → (n : ℕ) (p : Point) → IsEarlier state entry n
-      → StandsAt state.points n p → ¬ Bad (record { point = p; number = place_of state.record_of n })
-  none_bad Bad none n p earlier stands bad =
+  pub none_such : (Such : Numbered → Type 0) → HasNo Such nodes 0 (length nodes) → (n : ℕ) (p : Point) → IsEarlier state entry n
+      → StandsAt state.points n p → ¬ Such (record { point = p; number = place_of state.record_of n })
+  none_such Such none n p earlier stands bad =
       let there = found n p earlier stands in
-      none there.position (omega arith) there.inside (subst Bad (sym there.here) bad)
+      none there.position (omega arith) there.inside (subst Such (sym there.here) bad)
 
   pub node_at : (position : ℕ) → position < length nodes → (numbered_at nodes position).number ≤ entry.turn
       → IsNode state entry standings (numbered_at nodes position)
@@ -393,7 +393,7 @@ pub record IsCheaperNear (state : TreeState) (entry : Record) (p : Point) (m : N
   pub cheaper : (first_cost_of state m.number + cost_of m.point p < entry.first_cost) ⊎ (entry.first_cost + cost_of m.point p < state.cost m.number)
 
 -- the same of a node with a clear segment to p
-pub record IsBadNear (space : ConfigurationSpace) (state : TreeState) (entry : Record) (p : Point) (m : Numbered) : Type 0 where
+pub record IsPassedOverNear (space : ConfigurationSpace) (state : TreeState) (entry : Record) (p : Point) (m : Numbered) : Type 0 where
   pub cheaper : IsCheaperNear state entry p m
   pub clear : Clear space m.point p
 
@@ -470,7 +470,7 @@ module _ (state : TreeState) (entry : Record) where
     near_point i (Some q) e h = (q, e, omega (arith, is, leb-true (squared_distance q p) (radius * radius) h))
 
     pub keeps_near : ((n : ℕ) (q : Point) → IsEarlier state entry n → StandsAt state.points n q → IsWithin p square q
-        → ¬ IsBadNear space state entry p (record { point = q; number = n })) → KeepsNear space state entry p radius
+        → ¬ IsPassedOverNear space state entry p (record { point = q; number = n })) → KeepsNear space state entry p radius
     keeps_near good = λ i earlier within clear.
         let near = near_point i (point_at state.points i) refl within in
         let q : Point = near.0 in
@@ -490,7 +490,7 @@ module _ (state : TreeState) (entry : Record) where
         ] in
         record { chosen = omega (arith, edge, chosen); rewired = omega (arith, edge, rewired) }
 
-    pub keeps_not : (m : Numbered) → StandsAt state.points m.number m.point → IsWithin p square m.point → IsBadNear space state entry p m
+    pub keeps_not : (m : Numbered) → StandsAt state.points m.number m.point → IsWithin p square m.point → IsPassedOverNear space state entry p m
         → KeepsNear space state entry p radius → ⊥
     keeps_not m stands within bad kept =
         let here : point_of state.points m.number ≡ m.point = point_of-stands state.points m.number m.point stands in
@@ -534,7 +534,7 @@ module _ (state : TreeState) (entry : Record) (turns : ℕ) (low : entry.turn �
                 | inr more ↦ inr (omega (arith, within, more), omega (arith, node, lower))
               ]
         ] in
-        none_bad state entry turns low nodes standings own table (Nearer mark distance entry.nearest) none n p earlier stands
+        none_such state entry turns low nodes standings own table (Nearer mark distance entry.nearest) none n p earlier stands
         (record { earlier = there.early; nearer = nearer })
 
     pub is_nearest_of_all : ArePresent state → HasNo (Nearer mark distance entry.nearest) nodes 0 (length nodes)
@@ -544,11 +544,11 @@ module _ (state : TreeState) (entry : Record) (turns : ℕ) (low : entry.turn �
     pub is_not_nearest : HasOne (Nearer mark distance entry.nearest) nodes 0 (length nodes) → ¬ IsNearestOfEarlier state entry mark
     is_not_nearest one all =
         let m = numbered_at nodes one.position in
-        let there = node_at state entry turns low nodes standings own table one.position one.before one.bad.earlier in
+        let there = node_at state entry turns low nodes standings own table one.position one.before one.such.earlier in
         let node : (standing_at standings m.number).node ≡ there.node = ap (λ (s : Standing). s.node) there.standing in
         let both : (squared_distance m.point mark ≤ distance)
         × ((squared_distance m.point mark < distance) ⊎ (there.node < entry.nearest)) =
-        elim one.bad.nearer [
+        elim one.such.nearer [
           | inl less ↦ (omega (arith, less), inl less)
           | inr same ↦ (omega (arith, same.0), inr (omega (arith, node, same.1)))
         ] in
@@ -562,27 +562,27 @@ module _ (state : TreeState) (entry : Record) (turns : ℕ) (low : entry.turn �
         (λ n q earlier stands within now.
         let there = found state entry turns low nodes standings own table n q earlier stands in
         let node : (standing_at standings (place_of state.record_of n)).node ≡ n = ap (λ (s : Standing). s.node) there.standing in
-        none_bad state entry turns low nodes standings own table (Nearer p 0 number) none n q earlier stands
+        none_such state entry turns low nodes standings own table (Nearer p 0 number) none n q earlier stands
         (record { earlier = there.early; nearer = inr (omega (arith, within), omega (arith, node, above n q stands)) }))
 
     pub is_taken_by : HasOne (Nearer p 0 number) nodes 0 (length nodes) → IsTaken state entry p
     is_taken_by one =
         let m = numbered_at nodes one.position in
-        let there = node_at state entry turns low nodes standings own table one.position one.before one.bad.earlier in
+        let there = node_at state entry turns low nodes standings own table one.position one.before one.such.earlier in
         let within : squared_distance m.point p ≤ 0 =
-        elim one.bad.nearer [
+        elim one.such.nearer [
           | inl less ↦ absurd (omega (arith, less))
           | inr same ↦ omega (arith, same.0)
         ] in
         taken state entry p 0 (record { point = m.point; number = there.node }) refl there.stands within there.earlier
 
   module _ (space : ConfigurationSpace) (p : Point) (radius square distance number : ℕ) (is : square ≡ radius * radius) where
-    abbrev Bad : Numbered → Type 0
-    Bad =
+    abbrev PassedOver : Numbered → Type 0
+    PassedOver =
         let nearer : NearerSearch = record { point = p; distance = distance; number = number; turn = entry.turn } in
-        IsBadAt space standings (record { nearer = nearer; square = square; first_cost = entry.first_cost })
+        IsPassedOverAt space standings (record { nearer = nearer; square = square; first_cost = entry.first_cost })
 
-    pub keeps_all_near : HasNo Bad nodes 0 (length nodes) → KeepsNear space state entry p radius
+    pub keeps_all_near : HasNo PassedOver nodes 0 (length nodes) → KeepsNear space state entry p radius
     keeps_all_near none =
         keeps_near state entry space p radius square is
         (λ n q earlier stands within bad.
@@ -597,24 +597,24 @@ module _ (state : TreeState) (entry : Record) (turns : ℕ) (low : entry.turn �
           | inl less ↦ inl (omega (arith, first, less))
           | inr less ↦ inr (omega (arith, cost, less))
         ] in
-        none_bad state entry turns low nodes standings own table Bad none n q earlier stands
+        none_such state entry turns low nodes standings own table PassedOver none n q earlier stands
         (record { cheaper = record { earlier = there.early; within = within; cheaper = cheaper }; clear = bad.clear }))
 
-    pub keeps_not_near : HasOne Bad nodes 0 (length nodes) → ¬ KeepsNear space state entry p radius
+    pub keeps_not_near : HasOne PassedOver nodes 0 (length nodes) → ¬ KeepsNear space state entry p radius
     keeps_not_near one kept =
         let m = numbered_at nodes one.position in
-        let there = node_at state entry turns low nodes standings own table one.position one.before one.bad.cheaper.earlier in
+        let there = node_at state entry turns low nodes standings own table one.position one.before one.such.cheaper.earlier in
         let first : (standing_at standings m.number).first_cost ≡ first_cost_of state there.node =
         ap (λ (s : Standing). s.first_cost) there.standing in
         let cost : (standing_at standings m.number).cost ≡ state.cost there.node = ap (λ (s : Standing). s.cost) there.standing in
         let cheaper : (first_cost_of state there.node + cost_of m.point p < entry.first_cost)
         ⊎ (entry.first_cost + cost_of m.point p < state.cost there.node) =
-        elim one.bad.cheaper.cheaper [
+        elim one.such.cheaper.cheaper [
           | inl less ↦ inl (omega (arith, first, less))
           | inr less ↦ inr (omega (arith, cost, less))
         ] in
-        keeps_not state entry space p radius square is (record { point = m.point; number = there.node }) there.stands one.bad.cheaper.within
-        (record { cheaper = record { earlier = there.earlier; cheaper = cheaper }; clear = one.bad.clear }) kept
+        keeps_not state entry space p radius square is (record { point = m.point; number = there.node }) there.stands one.such.cheaper.within
+        (record { cheaper = record { earlier = there.earlier; cheaper = cheaper }; clear = one.such.clear }) kept
 
 -- ---- the mark's own node
 

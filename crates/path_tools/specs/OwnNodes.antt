@@ -59,15 +59,15 @@ ArePresent state = (entry : Record) (n : ℕ) → IsEarlier state entry n → Is
 -- ---- searches by places
 
 -- one of the positions from one up to another has such a point
-pub record HasOne (Bad : Numbered → Type 0) (nodes : List Numbered) (from to : ℕ) : Type 0 where
+pub record HasOne (Such : Numbered → Type 0) (nodes : List Numbered) (from to : ℕ) : Type 0 where
   pub position : ℕ
   pub past : from ≤ position
   pub before : position < to
-  pub bad : Bad (numbered_at nodes position)
+  pub such : Such (numbered_at nodes position)
 
 -- none has
 abbrev pub HasNo : (Numbered → Type 0) → List Numbered → ℕ → ℕ → Type 0
-HasNo Bad nodes from to = (j : ℕ) → from ≤ j → j < to → ¬ Bad (numbered_at nodes j)
+HasNo Such nodes from to = (j : ℕ) → from ≤ j → j < to → ¬ Such (numbered_at nodes j)
 
 -- The node at this place stood before the turn of a search, and is nearer to its point than its distance, or as near with a lesser number.
 pub record IsNearerAt (standings : List Standing) (search : NearerSearch) (m : Numbered) : Type 0 where
@@ -83,14 +83,14 @@ pub record IsCheaperAt (standings : List Standing) (search : NeighbourSearch) (m
   pub cheaper : ((standing_at standings m.number).first_cost + cost_of m.point search.nearer.point < search.first_cost)
       ⊎ (search.first_cost + cost_of m.point search.nearer.point < (standing_at standings m.number).cost)
 
--- the same of a node with a clear segment to the new node
-pub record IsBadAt (space : ConfigurationSpace) (standings : List Standing) (search : NeighbourSearch) (m : Numbered) : Type 0 where
+-- The same of a node with a clear segment to the new node: the choice of the parent or the rewiring passed it over.
+pub record IsPassedOverAt (space : ConfigurationSpace) (standings : List Standing) (search : NeighbourSearch) (m : Numbered) : Type 0 where
   pub cheaper : IsCheaperAt standings search m
   pub clear : Clear space m.point search.nearer.point
 
--- the node at this place is nearer, or the same of a node with a clear segment
+-- the node at this place is nearer, or was passed over
 abbrev pub IsUnlawfulAt : ConfigurationSpace → List Standing → NeighbourSearch → Numbered → Type 0
-IsUnlawfulAt space standings search m = IsNearerAt standings search.nearer m ⊎ IsBadAt space standings search m
+IsUnlawfulAt space standings search m = IsNearerAt standings search.nearer m ⊎ IsPassedOverAt space standings search m
 
 -- ---- the same by nodes
 

@@ -134,9 +134,10 @@ fn ends_lawfully<C: Clearing>(
             is_chosen_lawfully(scene, hall, judged, seen, entry, point, p)
                 && hangs_lawfully(scene, hall, judged, mark, entry, p)
         }
-        Outcome::Same(node) => is_nearest(judged, entry, point) && stands_at(judged.knots, node, p),
+        Outcome::Same(node) => is_nearest(hall, judged, entry, point)
+            && stands_at(judged.knots, node, p),
         Outcome::Blocked => {
-            is_nearest(judged, entry, point) && is_blocked_lawfully(hall, judged, entry, p)
+            is_nearest(hall, judged, entry, point) && is_blocked_lawfully(hall, judged, entry, p)
         }
         Outcome::Skipped => false,
     }
@@ -154,7 +155,7 @@ fn is_blocked_lawfully<C: Clearing>(hall: &C, judged: &Judged<'_>, entry: Record
     if is_clear_from_nearest(hall, judged, entry, p) {
         return false;
     }
-    if is_taken(judged, entry, p) {
+    if is_taken(hall, judged, entry, p) {
         return false;
     }
     true

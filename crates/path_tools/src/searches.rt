@@ -5,16 +5,40 @@ ghost use Rattle.plan_model.specs.Geometry.Bounds.{IsBounded};
 ghost use Rattle.plan_model.specs.Runs.RecordLaw.{IsEarlier};
 ghost use Rattle.plan_model.specs.Trees.Nearness.{distance_to};
 ghost use Rattle.plan_model.specs.Trees.PointsByNumber.{IsPresent, StandsAt};
+ghost use Rattle.point_strips.specs.Discs.{IsWithin};
+ghost use Rattle.point_strips.specs.declared.strips.Numbered.{Numbered};
 ghost use Rattle.path_tools.specs.JudgedRuns.{IsJudged, run_of};
-ghost use Rattle.path_tools.specs.OwnNodes.{HasNo, HasOne, IsCheaperAt, IsNearerAt, IsUnlawfulAt};
+ghost use Rattle.path_tools.specs.OwnNodes.{HasNo, HasOne, IsCheaperAt};
 ghost use Rattle.path_tools.specs.OwnNodes.{IsNearestOfEarlier, IsTaken, KeepsNear};
 
 use crate::exact_edges::knot_at;
 use crate::judged::Judged;
+use crate::standings::Standing;
 use edge_cost::costs_less_through;
 use plan_model::{Point, Record};
 use point_strips::{Disc, Numbered, Run};
 use swept_check::Clearing;
+
+/// A search among the nodes of a worker.
+trait Search: Copy {
+    ghost use Rattle.std.specs.Prelude.{List};
+    ghost use Rattle.plan_model.specs.declared.configuration_spaces.ConfigurationSpace.{ConfigurationSpace};
+    ghost use Rattle.path_tools.specs.declared.standings.Standing.{Standing};
+    ghost use Rattle.point_strips.specs.declared.strips.Numbered.{Numbered};
+
+    /// What it asks of the standings of the nodes.
+    ghost may_look: { Self → List Standing → Type 0 };
+
+    /// Which nodes it finds, where segments are clear in a space.
+    ghost finds: { Self → ConfigurationSpace → List Standing → Numbered → Type 0 };
+
+    /// Whether it finds a node. O(1), besides a segment if need be.
+    fn has<C: Clearing>(self, hall: &C, standings: &[Standing], node: Numbered) -> bool
+        requires may { may_look self standings.now }
+        requires bounded { IsBounded node.point }
+        ensures found { IsTrue result → finds self (C.space hall.now) standings.now node }
+        ensures only { IsFalse result → ¬ finds self (C.space hall.now) standings.now node };
+}
 
 /// A search for a node that stood before a turn, and is nearer to a point than at a distance, or as near with a number below a number.
 #[derive(Clone, Copy)]
@@ -43,7 +67,12 @@ struct NeighbourSearch {
 
 /// Whether no node that stood already is nearer to a mark than the nearest of its record, or as near with a lesser number. O(k + s log n)
 /// on average for k of the worker's n nodes within the distance to the nearest, in s strips.
-pub(crate) fn is_nearest(judged: &Judged<'_>, entry: Record, mark: Point) -> bool
+pub(crate) fn is_nearest<C: Clearing>(
+    hall: &C,
+    judged: &Judged<'_>,
+    entry: Record,
+    mark: Point,
+) -> bool
     requires bounded { IsBounded mark }
     requires judged { IsJudged entry.worker judged.now }
     requires turn { entry.turn ≤ judged.now.turns }
@@ -57,7 +86,7 @@ pub(crate) fn is_nearest(judged: &Judged<'_>, entry: Record, mark: Point) -> boo
         number: entry.nearest,
         turn: entry.turn,
     };
-    !has_nearer(judged, search)
+    !has_one(hall, judged, search, Disc::of_square(mark, search.distance))
 }
 
 /// The square of the distance from a mark to the nearest node of its record.
@@ -74,7 +103,7 @@ fn nearest_distance(judged: &Judged<'_>, entry: Record, mark: Point) -> u64
 }
 
 /// Whether a node that stood already stands at a point. O(s log n) for n nodes of the worker in s strips.
-pub(crate) fn is_taken(judged: &Judged<'_>, entry: Record, p: Point) -> bool
+pub(crate) fn is_taken<C: Clearing>(hall: &C, judged: &Judged<'_>, entry: Record, p: Point) -> bool
     requires bounded { IsBounded p }
     requires judged { IsJudged entry.worker judged.now }
     requires turn { entry.turn ≤ judged.now.turns }
@@ -87,7 +116,7 @@ pub(crate) fn is_taken(judged: &Judged<'_>, entry: Record, p: Point) -> bool
         number: u32::MAX,
         turn: entry.turn,
     };
-    has_nearer(judged, search)
+    has_one(hall, judged, search, Disc::of_square(p, 0))
 }
 
 /// Whether no node that stood already is nearer to a mark than the nearest of its record, or as near with a lesser number, and none within
@@ -117,7 +146,7 @@ pub(crate) fn is_nearest_and_keeps_near<C: Clearing>(
             return is_least_near(hall, judged, entry, mark, distance, radius);
         }
     }
-    if !is_nearest(judged, entry, mark) {
+    if !is_nearest(hall, judged, entry, mark) {
         return false;
     }
     keeps_near(hall, judged, entry, p, radius)
@@ -151,7 +180,7 @@ fn is_least_near<C: Clearing>(
         square: u64::from(radius) * u64::from(radius),
         first_cost: entry.first_cost,
     };
-    !has_unlawful(hall, judged, search)
+    !has_one(hall, judged, search, Disc::of_square(mark, search.square))
 }
 
 /// Whether no node that stood already within a radius of a new node at `p`, with a clear segment to it, was a cheaper parent, and none
@@ -179,20 +208,19 @@ fn keeps_near<C: Clearing>(
         square: u64::from(radius) * u64::from(radius),
         first_cost: entry.first_cost,
     };
-    !has_unlawful(hall, judged, search)
+    !has_one(hall, judged, search, Disc::of_square(p, search.square))
 }
 
-/// Whether there is a node of a search.
-fn has_nearer(judged: &Judged<'_>, search: NearerSearch) -> bool
-    requires bounded { IsBounded search.point }
-    requires turn { search.turn < length judged.now.standings.now }
-    ensures some { IsTrue result → HasOne (IsNearerAt judged.now.standings.now search) judged.now.own.now 0 (length judged.now.own.now) }
-    ensures none { IsFalse result → HasNo (IsNearerAt judged.now.standings.now search) judged.now.own.now 0 (length judged.now.own.now) }
+/// Whether a search finds a node of the worker. Each node that it finds lies in the disc.
+fn has_one<C: Clearing, S: Search>(hall: &C, judged: &Judged<'_>, search: S, disc: Disc) -> bool
+    requires may { S.may_look search judged.now.standings.now }
+    requires within { (m : Numbered) → S.finds search (C.space hall.now) judged.now.standings.now m → IsWithin disc.center disc.square m.point }
+    ensures some { IsTrue result → HasOne (S.finds search (C.space hall.now) judged.now.standings.now) judged.now.own.now 0 (length judged.now.own.now) }
+    ensures none { IsFalse result → HasNo (S.finds search (C.space hall.now) judged.now.standings.now) judged.now.own.now 0 (length judged.now.own.now) }
 {
-    let disc = Disc::of_square(search.point, search.distance);
     let mut at = 0;
     'walk: while let Some(run) = judged.own.next_run(at, disc) {
-        if has_nearer_in(judged, search, run) {
+        if has_one_in(hall, judged, search, run) {
             return true;
         }
         at = run.end;
@@ -200,109 +228,69 @@ fn has_nearer(judged: &Judged<'_>, search: NearerSearch) -> bool
     false
 }
 
-/// Whether there is one in a run.
-fn has_nearer_in(judged: &Judged<'_>, search: NearerSearch, run: Run) -> bool
-    requires bounded { IsBounded search.point }
-    requires turn { search.turn < length judged.now.standings.now }
+/// Whether it finds one in a run.
+fn has_one_in<C: Clearing, S: Search>(hall: &C, judged: &Judged<'_>, search: S, run: Run) -> bool
+    requires may { S.may_look search judged.now.standings.now }
     requires inside { run.end ≤ length judged.now.own.now }
-    ensures some { IsTrue result → HasOne (IsNearerAt judged.now.standings.now search) judged.now.own.now run.start run.end }
-    ensures none { IsFalse result → HasNo (IsNearerAt judged.now.standings.now search) judged.now.own.now run.start run.end }
+    ensures some { IsTrue result → HasOne (S.finds search (C.space hall.now) judged.now.standings.now) judged.now.own.now run.start run.end }
+    ensures none { IsFalse result → HasNo (S.finds search (C.space hall.now) judged.now.standings.now) judged.now.own.now run.start run.end }
 {
     for position in run.start..run.end {
-        if is_nearer(judged, search, judged.own.at(position)) {
+        if search.has(hall, judged.standings, judged.own.at(position)) {
             return true;
         }
     }
     false
 }
 
-/// Whether a node is one of a search.
-fn is_nearer(judged: &Judged<'_>, search: NearerSearch, node: Numbered) -> bool
-    requires bounded { IsBounded search.point }
-    requires node { IsBounded node.point }
-    requires turn { search.turn < length judged.now.standings.now }
-    ensures nearer { IsTrue result → IsNearerAt judged.now.standings.now search node }
-    ensures only { IsFalse result → ¬ IsNearerAt judged.now.standings.now search node }
-{
-    if node.number > search.turn {
-        return false;
-    }
-    let distance = node.point.squared_distance(search.point);
-    if distance < search.distance {
-        return true;
-    }
-    distance == search.distance && judged.standings[node.number as usize].node < search.number
-}
+impl Search for NearerSearch {
+    ghost use Rattle.std.specs.Prelude.{◌<◌, length};
+    ghost use Rattle.plan_model.specs.Geometry.Bounds.{IsBounded};
+    ghost use Rattle.path_tools.specs.OwnNodes.{IsNearerAt};
 
-/// Whether there is a node of a search for neighbours.
-fn has_unlawful<C: Clearing>(hall: &C, judged: &Judged<'_>, search: NeighbourSearch) -> bool
-    requires bounded { IsBounded search.nearer.point }
-    requires turn { search.nearer.turn < length judged.now.standings.now }
-    requires within { search.nearer.distance ≤ search.square }
-    ensures some { IsTrue result → HasOne (IsUnlawfulAt (C.space hall.now) judged.now.standings.now search) judged.now.own.now 0 (length judged.now.own.now) }
-    ensures none { IsFalse result → HasNo (IsUnlawfulAt (C.space hall.now) judged.now.standings.now search) judged.now.own.now 0 (length judged.now.own.now) }
-{
-    let disc = Disc::of_square(search.nearer.point, search.square);
-    let mut at = 0;
-    'walk: while let Some(run) = judged.own.next_run(at, disc) {
-        if has_unlawful_in(hall, judged, search, run) {
+    ghost may_look = { λ s standings. IsBounded s.point × (s.turn < length standings) };
+
+    ghost finds = { λ s space standings m. IsNearerAt standings s m };
+
+    fn has<C: Clearing>(self, _hall: &C, standings: &[Standing], node: Numbered) -> bool {
+        if node.number > self.turn {
+            return false;
+        }
+        let distance = node.point.squared_distance(self.point);
+        if distance < self.distance {
             return true;
         }
-        at = run.end;
+        distance == self.distance && standings[node.number as usize].node < self.number
     }
-    false
 }
 
-/// Whether there is one in a run.
-fn has_unlawful_in<C: Clearing>(
-    hall: &C,
-    judged: &Judged<'_>,
-    search: NeighbourSearch,
-    run: Run,
-) -> bool
-    requires bounded { IsBounded search.nearer.point }
-    requires turn { search.nearer.turn < length judged.now.standings.now }
-    requires inside { run.end ≤ length judged.now.own.now }
-    ensures some { IsTrue result → HasOne (IsUnlawfulAt (C.space hall.now) judged.now.standings.now search) judged.now.own.now run.start run.end }
-    ensures none { IsFalse result → HasNo (IsUnlawfulAt (C.space hall.now) judged.now.standings.now search) judged.now.own.now run.start run.end }
-{
-    for position in run.start..run.end {
-        if is_unlawful(hall, judged, search, judged.own.at(position)) {
+impl Search for NeighbourSearch {
+    ghost use Rattle.std.specs.Prelude.{◌<◌, length};
+    ghost use Rattle.plan_model.specs.Geometry.Bounds.{IsBounded};
+    ghost use Rattle.path_tools.specs.OwnNodes.{IsUnlawfulAt};
+
+    ghost may_look = { λ s standings. IsBounded s.nearer.point × (s.nearer.turn < length standings) };
+
+    ghost finds = { λ s space standings m. IsUnlawfulAt space standings s m };
+
+    fn has<C: Clearing>(self, hall: &C, standings: &[Standing], node: Numbered) -> bool {
+        if self.nearer.has(hall, standings, node) {
             return true;
         }
+        if !is_cheaper(self, standings, node) {
+            return false;
+        }
+        hall.clear(node.point, self.nearer.point)
     }
-    false
 }
 
-/// Whether a node is one of a search for neighbours.
-fn is_unlawful<C: Clearing>(
-    hall: &C,
-    judged: &Judged<'_>,
-    search: NeighbourSearch,
-    node: Numbered,
-) -> bool
+/// Whether a node is one of a search for neighbours, by its costs.
+fn is_cheaper(search: NeighbourSearch, standings: &[Standing], node: Numbered) -> bool
     requires bounded { IsBounded search.nearer.point }
     requires node { IsBounded node.point }
-    requires turn { search.nearer.turn < length judged.now.standings.now }
-    ensures bad { IsTrue result → IsUnlawfulAt (C.space hall.now) judged.now.standings.now search node }
-    ensures only { IsFalse result → ¬ IsUnlawfulAt (C.space hall.now) judged.now.standings.now search node }
-{
-    if is_nearer(judged, search.nearer, node) {
-        return true;
-    }
-    if !is_cheaper(judged, search, node) {
-        return false;
-    }
-    hall.clear(node.point, search.nearer.point)
-}
-
-/// Whether a node is one of a search, by its costs.
-fn is_cheaper(judged: &Judged<'_>, search: NeighbourSearch, node: Numbered) -> bool
-    requires bounded { IsBounded search.nearer.point }
-    requires node { IsBounded node.point }
-    requires turn { search.nearer.turn < length judged.now.standings.now }
-    ensures cheaper { IsTrue result → IsCheaperAt judged.now.standings.now search node }
-    ensures only { IsFalse result → ¬ IsCheaperAt judged.now.standings.now search node }
+    requires turn { search.nearer.turn < length standings.now }
+    ensures cheaper { IsTrue result → IsCheaperAt standings.now search node }
+    ensures only { IsFalse result → ¬ IsCheaperAt standings.now search node }
 {
     if node.number > search.nearer.turn {
         return false;
@@ -310,7 +298,7 @@ fn is_cheaper(judged: &Judged<'_>, search: NeighbourSearch, node: Numbered) -> b
     if node.point.squared_distance(search.nearer.point) > search.square {
         return false;
     }
-    let standing = judged.standings[node.number as usize];
+    let standing = standings[node.number as usize];
     costs_less_through(
         standing.first_cost,
         node.point,

@@ -54,28 +54,28 @@ returns-else-is_chosen_lawfully-clause-only g c = λ h all bad.
     c.is_chosen_lawfully.ensures.only h all placed.by_worker
 
 pub is_nearest-requires-clause-bounded : goal.is_nearest-requires-clause-bounded
-is_nearest-requires-clause-bounded g c = c.requires.point
+is_nearest-requires-clause-bounded g c κs within = c.requires.point
 
 pub is_nearest-requires-clause-judged : goal.is_nearest-requires-clause-judged
-is_nearest-requires-clause-judged g c = c.requires.asked.judges
+is_nearest-requires-clause-judged g c κs within = c.requires.asked.judges
 
 pub is_nearest-requires-clause-turn : goal.is_nearest-requires-clause-turn
-is_nearest-requires-clause-turn g c = c.requires.asked.turn
+is_nearest-requires-clause-turn g c κs within = c.requires.asked.turn
 
 pub is_nearest-requires-clause-nearest : goal.is_nearest-requires-clause-nearest
-is_nearest-requires-clause-nearest g c = c.requires.nearest
+is_nearest-requires-clause-nearest g c κs within = c.requires.nearest
 
 pub is_nearest-requires-in-Blocked-clause-bounded : goal.is_nearest-requires-in-Blocked-clause-bounded
-is_nearest-requires-in-Blocked-clause-bounded g c = c.requires.point
+is_nearest-requires-in-Blocked-clause-bounded g c κs within = c.requires.point
 
 pub is_nearest-requires-in-Blocked-clause-judged : goal.is_nearest-requires-in-Blocked-clause-judged
-is_nearest-requires-in-Blocked-clause-judged g c = c.requires.asked.judges
+is_nearest-requires-in-Blocked-clause-judged g c κs within = c.requires.asked.judges
 
 pub is_nearest-requires-in-Blocked-clause-turn : goal.is_nearest-requires-in-Blocked-clause-turn
-is_nearest-requires-in-Blocked-clause-turn g c = c.requires.asked.turn
+is_nearest-requires-in-Blocked-clause-turn g c κs within = c.requires.asked.turn
 
 pub is_nearest-requires-in-Blocked-clause-nearest : goal.is_nearest-requires-in-Blocked-clause-nearest
-is_nearest-requires-in-Blocked-clause-nearest g c = c.requires.nearest
+is_nearest-requires-in-Blocked-clause-nearest g c κs within = c.requires.nearest
 
 pub is_blocked_lawfully-requires-clause-judged : goal.is_blocked_lawfully-requires-clause-judged
 is_blocked_lawfully-requires-clause-judged g c κs within = c.requires.asked.judges

@@ -27,16 +27,16 @@ pub is_least_near-requires-clause-distance : goal.is_least_near-requires-clause-
 is_least_near-requires-clause-distance g c κs within = c.nearest_distance-distance.ensures
 
 pub is_nearest-requires-clause-bounded : goal.is_nearest-requires-clause-bounded
-is_nearest-requires-clause-bounded g c = c.requires.mark
+is_nearest-requires-clause-bounded g c κs within = c.requires.mark
 
 pub is_nearest-requires-clause-judged : goal.is_nearest-requires-clause-judged
-is_nearest-requires-clause-judged g c = c.requires.judged
+is_nearest-requires-clause-judged g c κs within = c.requires.judged
 
 pub is_nearest-requires-clause-turn : goal.is_nearest-requires-clause-turn
-is_nearest-requires-clause-turn g c = c.requires.turn
+is_nearest-requires-clause-turn g c κs within = c.requires.turn
 
 pub is_nearest-requires-clause-nearest : goal.is_nearest-requires-clause-nearest
-is_nearest-requires-clause-nearest g c = c.requires.nearest
+is_nearest-requires-clause-nearest g c κs within = c.requires.nearest
 
 pub keeps_near-requires-clause-bounded : goal.keeps_near-requires-clause-bounded
 keeps_near-requires-clause-bounded g c κs within = c.requires.bounded

@@ -3,17 +3,22 @@ use Rattle.plan_model.specs.Trees.NodeLists.{without_costs}
 use Rattle.plan_model.proofs.NewNodes.{IsPresent-stands, present_below}
 use Rattle.path_tools.specs.JudgedRuns.{run_of}
 use Rattle.path_tools.proofs.LawfulSheets.{length-without_costs}
-use Rattle.path_tools.proofs.OwnNodeLaws.{is_free, is_taken_by}
+use Rattle.path_tools.proofs.OwnNodeLaws.{is_free, is_taken_by, nearer_within}
 use Rattle.path_tools.proofs.searches.is_taken.Goals as goal
 
+pub has_one-requires-clause-within : goal.has_one-requires-clause-within
+has_one-requires-clause-within g c κs within =
+    nearer_within c.args.judged.now.standings.now _ c.of_square.result.center c.of_square.result.square c.of_square.ensures.center
+    c.of_square.ensures.square
+
 pub returns-clause-taken : goal.returns-clause-taken
-returns-clause-taken c = λ h.
+returns-clause-taken g c = λ h.
     let judged = c.args.judged.now in
     is_taken_by (run_of judged) c.args.entry judged.turns c.requires.turn judged.own.now judged.standings.now c.requires.judged.own
-    c.requires.judged.standings c.args.p 4294967295 (c.has_nearer.ensures.some h)
+    c.requires.judged.standings c.args.p 4294967295 (c.has_one.ensures.some h)
 
 pub returns-clause-free : goal.returns-clause-free
-returns-clause-free c = λ h.
+returns-clause-free g c = λ h.
     let judged = c.args.judged.now in
     let knots = judged.knots.now in
     is_free (run_of judged) c.args.entry judged.turns c.requires.turn judged.own.now judged.standings.now c.requires.judged.own
@@ -25,4 +30,4 @@ returns-clause-free c = λ h.
       length-without_costs knots,
       c.requires.judged.numbers,
       c.requires.judged.few,
-    )) (c.has_nearer.ensures.none h)
+    )) (c.has_one.ensures.none h)
