@@ -10,7 +10,8 @@ use Rattle.plan_words.specs.declared.openings.Opening.{Opening}
 use Rattle.plan_model.specs.declared.geometry.Point.{Point}
 use Rattle.plan_words.specs.Plays.{Claims, Counts, FindsAsSeen, Finishes, Links, Loads, LoadsBest, Lowers, Posts, Tells}
 use Rattle.plan_words.specs.Plays.{WritesFirst, WritesPoint, WritesTree}
-use Rattle.plan_words.specs.States.{BelongsTo, GoesOn, HasWholeShare, HoldsWorld, IsTableOf, PassState, SharedState, run_in, run_of_opening, with_view}
+use Rattle.plan_words.specs.States.{BelongsTo, GoesOn, HasWholeShare, HoldsWorld, IsTableOf, PassState, SharedState}
+use Rattle.plan_words.specs.States.{new_pass, run_in, run_of_opening, with_view}
 use Rattle.step_core.specs.LaterViews.{IsLawfulView}
 use Rattle.step_core.specs.SeenBests.{MayPost}
 use Rattle.step_core.specs.SeenRecords.{MayRecord}
@@ -292,3 +293,12 @@ same_table pass shared inner whole pass_is shared_is belongs = ap (λ p. p.table
 pub same_run : (pass : PassState) (shared : SharedState) (inner : PassState) (whole : SharedState) → inner ≡ pass → whole ≡ shared
     → BelongsTo pass shared → inner.view.run ≡ run_in whole
 same_run pass shared inner whole pass_is shared_is belongs = ap (λ p. p.view.run) pass_is ∙ belongs.run ∙ sym (ap run_in shared_is)
+
+-- and what is said of the pass is said of its seat
+pub BelongsTo-seat : (pass : PassState) (shared : SharedState) (inner : PassState) → inner ≡ pass → BelongsTo pass shared
+    → BelongsTo (new_pass inner.table inner.view) shared
+BelongsTo-seat pass shared inner is belongs = record {
+  table = ap (λ p. p.table) is ∙ belongs.table;
+  run = ap (λ p. p.view.run) is ∙ belongs.run;
+  lawful = subst (λ p. IsLawfulView p.view) (sym is) belongs.lawful;
+}

@@ -15,7 +15,6 @@ ghost use Rattle.step_core.specs.WordNames.Word.{Count};
 
 use crate::openings::Aim;
 use crate::passes::Pass;
-use crate::rules::{Load, TakeOver};
 use crate::shared::Shared;
 use atomic_table::Seat;
 use std::marker::Model;
@@ -72,13 +71,6 @@ impl Shared {
         ensures belongs { BelongsTo retired.new self.now }
         ensures idle { retired.new.view.hand ≡ None }
     {
-        let Retired { seat } = other;
-        self.table
-            .shared
-            .join_seat::<TakeOver>(&mut retired.seat, seat);
-        let _count = self
-            .table
-            .shared
-            .load::<Load>(&mut retired.seat, self.places.count());
+        self.take_over(&mut retired.seat, other.seat);
     }
 }

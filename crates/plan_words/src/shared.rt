@@ -1,10 +1,11 @@
 //! The shared words, and the steps that look at a number, record a mark, split a pass and join two.
 
-ghost use Rattle.std.specs.Prelude.{◌≡◌, ◌≢◌, ℕ, ◌+◌, ◌<◌, ◌≤◌, length, slice_index, IfOk, None, OnErr, OnOk, IsSome, IfSome, Some};
+ghost use Rattle.std.specs.Prelude.{◌≡◌, ◌≢◌, ℕ, ◌+◌, ◌<◌, ◌≤◌, [], length, slice_index, IfOk, None, OnErr, OnOk, IsSome, IfSome, Some};
 ghost use Rattle.plan_model.specs.Trees.PointsByNumber.{node_count};
 ghost use Rattle.plan_model.specs.declared.limits.TheConstants.{MOST_MARKS};
 ghost use Rattle.plan_model.specs.declared.records.Record.{Record};
 ghost use Rattle.plan_words.specs.Parents.{HasParentsBelow};
+ghost use Rattle.plan_words.specs.Plays.{Tells};
 ghost use Rattle.plan_words.specs.States.{BelongsTo, GoesOn, HasWholeShare, MayClaim, new_pass, turn_of, turned, with_view, worker_of};
 ghost use Rattle.step_core.specs.HoldRunProps.{Sizes-set};
 ghost use Rattle.step_core.specs.PlacesOfWords.{sizes_in};
@@ -25,7 +26,7 @@ use crate::passes::Pass;
 use crate::rules::{Finish, Load, Look, TakeOver, WorldLaw};
 use crate::scratch::Scratch;
 use crate::seen_pairs::SeenPairs;
-use atomic_table::Table;
+use atomic_table::{Seat, Table};
 use plan_model::{Memory, Record, Task};
 use std::alloc::Global;
 use std::marker::Model;
@@ -178,15 +179,27 @@ impl Shared {
             pairs,
             lists: _,
         } = other;
-        self.table
-            .shared
-            .join_seat::<TakeOver>(&mut pass.seat, seat);
+        self.take_over(&mut pass.seat, seat);
         take_cheaper(&mut pass.pairs, &pairs);
-        let _count = self
-            .table
-            .shared
-            .load::<Load>(&mut pass.seat, self.places.count());
         pass.member = pass.member.or(member);
+    }
+
+    /// Takes over another seat of this table, and loads the count of nodes then.
+    pub(crate) fn take_over(&self, seat: &mut Seat<Aim, View>, other: Seat<Aim, View>)
+        requires belongs { BelongsTo (new_pass seat.old.table_id seat.old.me.0) self.now }
+        requires belongs_too { BelongsTo (new_pass other.table_id other.me.0) self.now }
+        requires idle { seat.old.me.0.hand ≡ None }
+        requires idle_too { other.me.0.hand ≡ None }
+        requires empty { other.me.1 ≡ [] }
+        ensures table { seat.new.table_id ≡ seat.old.table_id }
+        ensures told { Tells (joined seat.old.me.0 other.me.0, seat.old.me.1)
+            (loaded (joined seat.old.me.0 other.me.0) Count (sees seat.new.me.0 Count)) seat.new.me }
+        ensures goes_on { GoesOn seat.old.me.0 seat.new.me.0 }
+        ensures others_seen { AreBehind (sees other.me.0) (sees seat.new.me.0) }
+        ensures belongs { BelongsTo (new_pass seat.new.table_id seat.new.me.0) self.now }
+    {
+        self.table.shared.join_seat::<TakeOver>(seat, other);
+        let _count = self.table.shared.load::<Load>(seat, self.places.count());
     }
 }
 
