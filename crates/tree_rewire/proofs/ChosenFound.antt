@@ -3,34 +3,33 @@ use Rattle.std.proofs.Common.{◌≡◌, ◌≢◌, ◌⊎◌, ℕ, ◌+◌, ◌
 use Rattle.std.proofs.Common.{map, take, Some, arith, inl, inr, refl, sym, ap, ◌∙◌, subst}
 use Rattle.std.specs.Prelude.{All, Contains, slice_get, slice_index_or}
 use Rattle.std.proofs.lemmas.Bool.{cases_eq, cases_lt}
-use Rattle.std.proofs.lemmas.List.{take_more}
 use Rattle.std.proofs.lemmas.List.Elements.{All-contains, All-map, All-push, Contains-append_left, Contains-get_or, Contains-push}
 use Rattle.edge_cost.proofs.CostBounds.{cost_of-low}
 use Rattle.plan_model.specs.Geometry.Bounds.{IsBounded}
 use Rattle.step_core.proofs.LawfulSights.{IsBounded-seen}
-use Rattle.std.proofs.lemmas.Option.{get_or_from_slice_get, slice_get_within}
-use Rattle.plan_model.specs.Spaces.Clearance.{Clear}
 use Rattle.plan_model.specs.declared.configuration_spaces.ConfigurationSpace.{ConfigurationSpace}
 use Rattle.plan_model.specs.declared.geometry.Point.{Point}
 use Rattle.plan_model.specs.Geometry.Cost.{cost_of}
 use Rattle.plan_model.specs.Trees.LeastPairs.{IsFirstLeast, IsNotAbove}
 use Rattle.plan_model.specs.Trees.OpenNodes.{IsOpenTo}
 use Rattle.plan_model.specs.Trees.PointsByNumber.{IsPresent, point_of}
-use Rattle.plan_model.proofs.NewNodes.{IsPresent-stands, StandsAt-present, point_of-stands}
+use Rattle.plan_model.proofs.NewNodes.{StandsAt-present}
 use Rattle.plan_model.proofs.ListMembers.{Contains-after, Contains-first}
 use Rattle.plan_words.specs.SearchLists.{numbers_of, weighed}
 use Rattle.plan_words.specs.declared.spots.Found.{Found}
 use Rattle.plan_words.specs.States.{GoesOn}
-use Rattle.plan_words.proofs.RisingNumbers.{Contains-number}
 use Rattle.step_core.specs.LaterViews.{IsLawfulView}
 use Rattle.step_core.specs.Views.{tree_seen}
 use Rattle.step_core.specs.Words.{cost_in, parent_in, tree_word}
-use Rattle.step_core.specs.WordNames.Word.{TreeOf}
 use Rattle.step_core.specs.declared.views.View.{View}
 use Rattle.step_core.proofs.DistinctNumbers.{Contains-cases}
 use Rattle.step_core.proofs.PackedWords.{cost_in-tree_word, parent_in-tree_word}
-use Rattle.tree_rewire.specs.FoundNodes.{IsBlockedBelow, IsNextOf, IsNextWord, IsOpenWord, IsWeighed, StandsAsFound, word_through}
-use Rattle.tree_rewire.specs.SeenCosts.{NamesNothing, SeesAnew, SeesPair, cost_seen, seen_cost_through}
+use Rattle.tree_rewire.specs.FoundNodes.{IsWeighed, StandsAsFound}
+use Rattle.tree_rewire.specs.NearNodes.{IsBlockedBelow, IsClearTo, IsNextOf, IsNextWord, IsOpenWord, word_through}
+use Rattle.tree_rewire.specs.SeenCosts.{NamesNothing, SeesAnew, SeesPair, seen_cost_through}
+use Rattle.tree_rewire.specs.Spreads.{SeesKnot}
+use Rattle.tree_rewire.proofs.ChosenParents.{take_read}
+use Rattle.tree_rewire.proofs.CostSteps.{seen_cost_through-same}
 use Rattle.tree_rewire.proofs.FoundLists.{Contains-image, Contains-source}
 use Rattle.tree_rewire.proofs.SeenCosts.{pair_low, stands_later}
 
@@ -40,8 +39,15 @@ use Rattle.tree_rewire.proofs.SeenCosts.{pair_low, stands_later}
 pub number_low : (view : View) (n : ℕ) → IsLawfulView view → SeesPair view n → n < 2 ^ 18
 number_low view n lawful pair = omega (arith, pair_low view n lawful pair, lawful.run.marks)
 
-pub through_low : (view : View) (n edge : ℕ) → IsLawfulView view → SeesPair view n → edge < 2 ^ 32 → cost_seen view n + edge < 2 ^ 44
-through_low view n edge lawful pair low = omega (arith, (lawful.pairs n pair).low, low)
+-- the cost of an edge from where a node is seen is below 2^29, and that of a new node through it fits a word
+pub edge_low : (view : View) (p : Point) (n : ℕ) → IsBounded p → IsPresent (tree_seen view).points n
+    → cost_of (point_of (tree_seen view).points n) p < 2 ^ 29
+edge_low view p n bounded stands =
+    let from = point_of (tree_seen view).points n in
+    cost_of-low from p (IsBounded-seen view n from (StandsAt-present (tree_seen view).points n stands)) bounded
+
+pub through_low : (view : View) (p : Point) (n : ℕ) → IsLawfulView view → IsBounded p → SeesKnot view n → seen_cost_through view p n < 2 ^ 44
+through_low view p n lawful bounded knot = omega (arith, (lawful.pairs n knot.written).low, edge_low view p n bounded knot.stands)
 
 -- the pair with the lesser word is not above the other
 pub IsNotAbove-word : (key : ℕ → ℕ) (m i : ℕ) → m < 2 ^ 18 → i < 2 ^ 18 → tree_word m (key m) ≤ tree_word i (key i) → IsNotAbove key m i
@@ -84,92 +90,86 @@ IsNextWord-more words more low last next word then is h (inr kept) = record {
       (λ own. omega (arith, kept.0 own, kept.1)));
 }
 
--- the word of the record that is read is the next one of the list
-pub words_read : (f : Found → ℕ) (found : List Found) (i : ℕ) (x : Found) → slice_get found i ≡ Some x
-    → map f (take (i + 1) found) ≡ map f (take i found) ++ f x ∷ []
-words_read f found i x read =
-    ap (map f)
-    (take_more found i x (slice_get_within found i x read) ∙ ap (λ (g : Found). take i found ++ g ∷ []) (get_or_from_slice_get found i x x read))
-    ∙ map_push (take i found)
+-- the word of the node that is read is the next one of the list
+pub words_read : (f : ℕ → ℕ) (near : List ℕ) (i n : ℕ) → slice_get near i ≡ Some n → map f (take (i + 1) near) ≡ map f (take i near) ++ f n ∷ []
+words_read f near i n read = ap (map f) (take_read near near i n refl read) ∙ map_push (take i near)
   where
-    map_push : (xs : List Found) → map f (xs ++ x ∷ []) ≡ map f xs ++ f x ∷ []
+    map_push : (xs : List ℕ) → map f (xs ++ n ∷ []) ≡ map f xs ++ f n ∷ []
     map_push [] = refl
     map_push (y ∷ xs) = ap (λ ws. f y ∷ ws) (map_push xs)
 
 -- ---- the least open word
 
--- a word is the last one, or that of a found node
-abbrev pub IsWordOf : View → List Found → ℕ → ℕ → Type 0
-IsWordOf view among last word = (word ≡ last) ⊎ ((f : Found) × Contains among f × (word_through view f ≡ word))
+-- a word is the last one, or that of a near node
+abbrev pub IsWordOf : View → Point → List ℕ → ℕ → ℕ → Type 0
+IsWordOf view p near last word = (word ≡ last) ⊎ ((n : ℕ) × Contains near n × (word_through view p n ≡ word))
 
-pub IsWordOf-next : (view : View) (among : List Found) (low last word : ℕ) → IsNextWord (map (word_through view) among) low last word
-    → IsWordOf view among last word
-IsWordOf-next view among low last word h = elim h.one_of [
+pub IsWordOf-next : (view : View) (p : Point) (near : List ℕ) (low last word : ℕ) → IsNextWord (map (word_through view p) near) low last word
+    → IsWordOf view p near last word
+IsWordOf-next view p near low last word h = elim h.one_of [
   | inl same ↦ inl same
-  | inr on ↦ inr (Contains-source (word_through view) among word on)
+  | inr on ↦ inr (Contains-source (word_through view p) near word on)
 ]
 
 -- by views that differ in nothing the words are the same
-pub word_through-same : (before after : View) → SeesAnew NamesNothing before after → (f : Found) → word_through after f ≡ word_through before f
-word_through-same before after same f = ap (λ w. tree_word f.node (cost_in w + f.edge)) (same.others (TreeOf f.node) (λ no. no))
+pub words-same : (before after : View) → SeesAnew NamesNothing before after → (p : Point) (near : List ℕ)
+    → map (word_through after p) near ≡ map (word_through before p) near
+words-same before after same p [] = refl
+words-same before after same p (n ∷ near) =
+    ap (λ w. tree_word n w ∷ map (word_through after p) near) (seen_cost_through-same before after same p n)
+    ∙ ap (λ ws. word_through before p n ∷ ws) (words-same before after same p near)
 
 -- those below the first of the words are none
-pub blocked-first : (space : ConfigurationSpace) (view : View) (p : Point) (among : List Found) (last word : ℕ)
-    → IsNextWord (map (word_through view) among) 0 last word → (f : Found) → Contains among f → IsBlockedBelow space view p word f
-blocked-first space view p among last word h f on less clear =
+pub blocked-first : (space : ConfigurationSpace) (view : View) (p : Point) (near : List ℕ) (last word : ℕ)
+    → IsNextWord (map (word_through view p) near) 0 last word → (n : ℕ) → Contains near n → IsBlockedBelow space view p word n
+blocked-first space view p near last word h n on less clear =
     omega (
       arith,
       less,
-      All-contains (λ w. 0 < w → word ≤ w) (map (word_through view) among) (word_through view f) h.least
-          (Contains-image (word_through view) among f on) (omega arith),
+      All-contains (λ w. 0 < w → word ≤ w) (map (word_through view p) near) (word_through view p n) h.least
+          (Contains-image (word_through view p) near n on) (omega arith),
     )
 
-module _ (space : ConfigurationSpace) (view : View) (p : Point) (among : List Found) (last word : ℕ) (lawful : IsLawfulView view)
-    (weighed : All (IsWeighed view p) among) where
+module _ (space : ConfigurationSpace) (view : View) (p : Point) (near : List ℕ) (last word : ℕ) (lawful : IsLawfulView view)
+    (knots : All (SeesKnot view) near) where
   abbrev points : List (Option Point)
   points = (tree_seen view).points
 
-  is_weighed : (f : Found) → Contains among f → IsWeighed view p f
-  is_weighed f on = All-contains (IsWeighed view p) among f weighed on
+  knot_of : (n : ℕ) → Contains near n → SeesKnot view n
+  knot_of n on = All-contains (SeesKnot view) near n knots on
 
-  number_of : (f : Found) → Contains among f → word_through view f ≡ word → parent_in word ≡ f.node
-  number_of f on same =
-      ap parent_in (sym same) ∙ parent_in-tree_word f.node (cost_seen view f.node + f.edge) (number_low view f.node lawful (is_weighed f on).pair)
+  number_of : (n : ℕ) → Contains near n → word_through view p n ≡ word → parent_in word ≡ n
+  number_of n on same =
+      ap parent_in (sym same) ∙ parent_in-tree_word n (seen_cost_through view p n) (number_low view n lawful (knot_of n on).written)
 
   -- a word that is not the last is of a node that stands
-  pub present_of : IsWordOf view among last word → word ≢ last → IsPresent points (parent_in word)
+  pub present_of : IsWordOf view p near last word → word ≢ last → IsPresent points (parent_in word)
   present_of of other = elim of [
     | inl same ↦ absurd (other same)
-    | inr (f, on, same) ↦
-        subst (IsPresent points) (sym (number_of f on same)) (IsPresent-stands points f.node f.point (is_weighed f on).stands)
+    | inr (n, on, same) ↦ subst (IsPresent points) (sym (number_of n on same)) (knot_of n on).stands
   ]
 
-  at_node : (f : Found) → Contains among f → word_through view f ≡ word → point_of points (parent_in word) ≡ f.point
-  at_node f on same = ap (point_of points) (number_of f on same) ∙ point_of-stands points f.node f.point (is_weighed f on).stands
-
   -- the word is open, if the edge of its node is clear
-  pub open_word : IsWordOf view among last word → Clear space (point_of points (parent_in word)) p → (word ≡ last) ⊎ IsOpenWord space view p among word
+  pub open_word : IsWordOf view p near last word → IsClearTo space view p (parent_in word) → (word ≡ last) ⊎ IsOpenWord space view p near word
   open_word of clear = elim of [
     | inl same ↦ inl same
-    | inr (f, on, same) ↦
-        inr (record { found = f; on = on; is = sym same; clear = subst (λ q. Clear space q p) (at_node f on same) clear })
+    | inr (n, on, same) ↦ inr (record { node = n; on = on; is = sym same; clear = subst (IsClearTo space view p) (number_of n on same) clear })
   ]
 
   -- and if it is not, all below the next are blocked
-  pub blocked-next : (next : ℕ) → ((f : Found) → Contains among f → IsBlockedBelow space view p word f)
-      → ¬ Clear space (point_of points (parent_in word)) p → IsNextWord (map (word_through view) among) word last next
-      → (f : Found) → Contains among f → IsBlockedBelow space view p next f
-  blocked-next next earlier closed h f on less clear =
-      elim (cases_lt (word_through view f) word) [
-        | inl lower ↦ earlier f on lower clear
-        | inr from ↦ elim (cases_eq (word_through view f) word) [
-          | inl same ↦ closed (subst (λ q. Clear space q p) (sym (at_node f on same)) clear)
+  pub blocked-next : (next : ℕ) → ((n : ℕ) → Contains near n → IsBlockedBelow space view p word n) → ¬ IsClearTo space view p (parent_in word)
+      → IsNextWord (map (word_through view p) near) word last next → (n : ℕ) → Contains near n → IsBlockedBelow space view p next n
+  blocked-next next earlier closed h n on less clear =
+      elim (cases_lt (word_through view p n) word) [
+        | inl lower ↦ earlier n on lower clear
+        | inr from ↦ elim (cases_eq (word_through view p n) word) [
+          | inl same ↦ closed (subst (IsClearTo space view p) (sym (number_of n on same)) clear)
           | inr apart ↦
               omega (
                 arith,
                 less,
-                All-contains (λ w. word < w → next ≤ w) (map (word_through view) among) (word_through view f) h.least
-                    (Contains-image (word_through view) among f on) (omega (arith, from, apart)),
+                All-contains (λ w. word < w → next ≤ w) (map (word_through view p) near) (word_through view p n) h.least
+                    (Contains-image (word_through view p) near n on) (omega (arith, from, apart)),
               )
         ]
       ]
@@ -177,52 +177,30 @@ module _ (space : ConfigurationSpace) (view : View) (p : Point) (among : List Fo
   -- ---- the best parent
 
   module _ (nearest : ℕ) (bounded : IsBounded p) (pair : SeesPair view nearest) (stands : IsPresent points nearest)
-      (last_is : last ≡ tree_word nearest (seen_cost_through view p nearest)) (clear : Clear space (point_of points nearest) p)
-      (one_of : (word ≡ last) ⊎ IsOpenWord space view p among word) (most : word ≤ last)
-      (blocked : (f : Found) → Contains among f → IsBlockedBelow space view p word f) where
-    key_of : (f : Found) → Contains among f → word_through view f ≡ tree_word f.node (seen_cost_through view p f.node)
-    key_of f on =
-        let own = is_weighed f on in
-        ap (tree_word f.node) (omega (arith, own.edge, ap (λ q. cost_of q p) (point_of-stands points f.node f.point own.stands)))
-
+      (last_is : last ≡ word_through view p nearest) (clear : IsClearTo space view p nearest)
+      (one_of : (word ≡ last) ⊎ IsOpenWord space view p near word) (most : word ≤ last)
+      (blocked : (n : ℕ) → Contains near n → IsBlockedBelow space view p word n) where
     -- the word is that of a candidate with a clear edge
     pub record IsChosen (m : ℕ) : Type 0 where
-      pub candidate : Contains (nearest ∷ numbers_of among) m
-      pub is : word ≡ tree_word m (seen_cost_through view p m)
-      pub edge : Clear space (point_of points m) p
-      pub written : SeesPair view m
-      pub low : seen_cost_through view p m < 2 ^ 44
-
-    edge_low : (n : ℕ) → IsPresent points n → SeesPair view n → seen_cost_through view p n < 2 ^ 44
-    edge_low n present own =
-        omega (
-          arith,
-          (lawful.pairs n own).low,
-          cost_of-low (point_of points n) p (IsBounded-seen view n (point_of points n) (StandsAt-present points n present)) bounded,
-        )
+      pub candidate : Contains (nearest ∷ near) m
+      pub is : word ≡ word_through view p m
+      pub edge : IsClearTo space view p m
+      pub knot : SeesKnot view m
 
     pub chosen : (m : ℕ) × IsChosen m
     chosen = elim one_of [
       | inl same ↦ (
         nearest,
-        record {
-          candidate = Contains-first nearest (numbers_of among);
-          is = same ∙ last_is;
-          edge = clear;
-          written = pair;
-          low = edge_low nearest stands pair;
-        },
+        record { candidate = Contains-first nearest near; is = same ∙ last_is; edge = clear; knot = record { stands = stands; written = pair } },
       )
       | inr opened ↦ (
-        opened.found.node,
-        (let own = is_weighed opened.found opened.on in
-            record {
-              candidate = Contains-after nearest (numbers_of among) opened.found.node (Contains-image (λ (f : Found). f.node) among opened.found opened.on);
-              is = opened.is ∙ key_of opened.found opened.on;
-              edge = subst (λ q. Clear space q p) (sym (point_of-stands points opened.found.node opened.found.point own.stands)) opened.clear;
-              written = own.pair;
-              low = edge_low opened.found.node (IsPresent-stands points opened.found.node opened.found.point own.stands) own.pair;
-            }),
+        opened.node,
+        record {
+          candidate = Contains-after nearest near opened.node opened.on;
+          is = opened.is;
+          edge = opened.clear;
+          knot = knot_of opened.node opened.on;
+        },
       )
     ]
 
@@ -230,65 +208,51 @@ module _ (space : ConfigurationSpace) (view : View) (p : Point) (among : List Fo
     m = chosen.0
 
     small : m < 2 ^ 18
-    small = number_low view m lawful chosen.1.written
+    small = number_low view m lawful chosen.1.knot.written
 
     pub parent_is : parent_in word ≡ m
     parent_is = ap parent_in chosen.1.is ∙ parent_in-tree_word m (seen_cost_through view p m) small
 
     pub cost_is : cost_in word ≡ seen_cost_through view p (parent_in word)
     cost_is =
-        ap cost_in chosen.1.is ∙ cost_in-tree_word m (seen_cost_through view p m) small chosen.1.low
+        ap cost_in chosen.1.is ∙ cost_in-tree_word m (seen_cost_through view p m) small (through_low view p m lawful bounded chosen.1.knot)
         ∙ sym (ap (seen_cost_through view p) parent_is)
 
-    not_above : (i : ℕ) → IsOpenTo space points p (nearest ∷ numbers_of among) i → IsNotAbove (seen_cost_through view p) m i
-    not_above i own = elim (Contains-cases nearest i (numbers_of among) own.among) [
+    not_above : (i : ℕ) → IsOpenTo space points p (nearest ∷ near) i → IsNotAbove (seen_cost_through view p) m i
+    not_above i own = elim (Contains-cases nearest i near own.among) [
       | inl same ↦
           subst (IsNotAbove (seen_cost_through view p) m) same
           (IsNotAbove-word (seen_cost_through view p) m nearest small (number_low view nearest lawful pair) (omega (arith, most, chosen.1.is, last_is)))
       | inr on ↦
-          let f = Contains-number among i on in
-          let here = is_weighed f.0 f.1 in
-          let edge = subst (λ n. Clear space (point_of points n) p) (sym f.2) own.clear in
-          let opened = subst (λ q. Clear space q p) (point_of-stands points f.0.node f.0.point here.stands) edge in
-          subst (IsNotAbove (seen_cost_through view p) m) f.2
-          (IsNotAbove-word (seen_cost_through view p) m f.0.node small (number_low view f.0.node lawful here.pair)
-          (elim (cases_lt (word_through view f.0) word) [
-            | inl lower ↦ absurd (blocked f.0 f.1 lower opened)
-            | inr from ↦ omega (arith, from, chosen.1.is, key_of f.0 f.1)
-          ]))
+          IsNotAbove-word (seen_cost_through view p) m i small (number_low view i lawful (knot_of i on).written)
+          (elim (cases_lt (word_through view p i) word) [
+            | inl lower ↦ absurd (blocked i on lower own.clear)
+            | inr from ↦ omega (arith, from, chosen.1.is)
+          ])
     ]
 
-    pub IsFirstLeast-word : IsFirstLeast (seen_cost_through view p) (IsOpenTo space points p (nearest ∷ numbers_of among)) (parent_in word)
+    pub IsFirstLeast-word : IsFirstLeast (seen_cost_through view p) (IsOpenTo space points p (nearest ∷ near)) (parent_in word)
     IsFirstLeast-word =
-        subst (IsFirstLeast (seen_cost_through view p) (IsOpenTo space points p (nearest ∷ numbers_of among))) (sym parent_is) (record {
+        subst (IsFirstLeast (seen_cost_through view p) (IsOpenTo space points p (nearest ∷ near))) (sym parent_is) (record {
           member = record { among = chosen.1.candidate; clear = chosen.1.edge };
           not_above = not_above;
         })
 
 -- The word of the best candidate: its node and its cost.
-pub record IsChosenWord (space : ConfigurationSpace) (view : View) (p : Point) (nearest : ℕ) (among : List Found) (word : ℕ) : Type 0 where
-  pub least : IsFirstLeast (seen_cost_through view p) (IsOpenTo space (tree_seen view).points p (nearest ∷ numbers_of among)) (parent_in word)
+pub record IsChosenWord (space : ConfigurationSpace) (view : View) (p : Point) (nearest : ℕ) (near : List ℕ) (word : ℕ) : Type 0 where
+  pub least : IsFirstLeast (seen_cost_through view p) (IsOpenTo space (tree_seen view).points p (nearest ∷ near)) (parent_in word)
   pub cost : cost_in word ≡ seen_cost_through view p (parent_in word)
 
 pub IsChosenWord-least :
-    (space : ConfigurationSpace) (view : View) (p : Point) (among : List Found) (last word : ℕ) → IsLawfulView view → All (IsWeighed view p) among
+    (space : ConfigurationSpace) (view : View) (p : Point) (near : List ℕ) (last word : ℕ) → IsLawfulView view → All (SeesKnot view) near
     → (nearest : ℕ) → IsBounded p → SeesPair view nearest → IsPresent (tree_seen view).points nearest
-    → last ≡ tree_word nearest (seen_cost_through view p nearest) → Clear space (point_of (tree_seen view).points nearest) p
-    → (word ≡ last) ⊎ IsOpenWord space view p among word → word ≤ last → ((f : Found) → Contains among f → IsBlockedBelow space view p word f)
-    → IsChosenWord space view p nearest among word
-IsChosenWord-least space view p among last word lawful weighed nearest bounded pair stands last_is clear one_of most blocked = record {
-  least = IsFirstLeast-word space view p among last word lawful weighed nearest bounded pair stands last_is clear one_of most blocked;
-  cost = cost_is space view p among last word lawful weighed nearest bounded pair stands last_is clear one_of most blocked;
+    → last ≡ word_through view p nearest → IsClearTo space view p nearest
+    → (word ≡ last) ⊎ IsOpenWord space view p near word → word ≤ last → ((n : ℕ) → Contains near n → IsBlockedBelow space view p word n)
+    → IsChosenWord space view p nearest near word
+IsChosenWord-least space view p near last word lawful knots nearest bounded pair stands last_is clear one_of most blocked = record {
+  least = IsFirstLeast-word space view p near last word lawful knots nearest bounded pair stands last_is clear one_of most blocked;
+  cost = cost_is space view p near last word lawful knots nearest bounded pair stands last_is clear one_of most blocked;
 }
-
--- ---- by a later view of the same
-
-pub words-same : (before after : View) → SeesAnew NamesNothing before after → (found : List Found)
-    → map (word_through after) found ≡ map (word_through before) found
-words-same before after same [] = refl
-words-same before after same (f ∷ found) =
-    ap (λ w. w ∷ map (word_through after) found) (word_through-same before after same f)
-    ∙ ap (λ ws. word_through before f ∷ ws) (words-same before after same found)
 
 -- ---- weighed records
 

@@ -1,11 +1,9 @@
 -- The choice of the best parent among nodes whose costs were seen.
-use Rattle.std.proofs.Common.{◌≡◌, ℕ, ◌+◌, ◌≤◌, ◌*◌, List, ◌∷◌, [], ◌++◌, Some, drop, take, inl, inr, arith, refl, sym, ap, ◌∙◌, subst}
+use Rattle.std.proofs.Common.{◌≡◌, ℕ, ◌+◌, ◌≤◌, ◌*◌, List, ◌∷◌, [], ◌++◌, Some, drop, take, arith, refl, sym, ap, ◌∙◌, subst}
 use Rattle.std.specs.Prelude.{All, Contains, slice_get}
 use Rattle.std.proofs.lemmas.List.{drop_more, take_more}
 use Rattle.std.proofs.lemmas.List.Elements.{All-contains, All-push, Contains-get_or}
 use Rattle.std.proofs.lemmas.Option.{get_or_from_slice_get, slice_get_within}
-use Rattle.edge_cost.specs.LeastParents.{IsLeastParent}
-use Rattle.edge_cost.specs.declared.parents.Parent.{Parent}
 use Rattle.plan_model.specs.declared.geometry.Point.{Point}
 use Rattle.plan_model.specs.Spaces.Clearance.{Clear}
 use Rattle.plan_model.specs.declared.configuration_spaces.ConfigurationSpace.{ConfigurationSpace}
@@ -16,13 +14,11 @@ use Rattle.plan_model.specs.Trees.LeastPairs.{IsFirstLeast, IsNotAbove}
 use Rattle.plan_model.specs.Trees.OpenNodes.{IsOpenTo}
 use Rattle.plan_model.specs.Trees.PointsByNumber.{IsPresent, point_of}
 use Rattle.plan_model.proofs.NewNodes.{StandsAt-present}
-use Rattle.plan_model.proofs.ParentChoices.{IsFirstLeast-keeps, IsFirstLeast-takes}
 use Rattle.plan_words.specs.States.{GoesOn, SharedState, run_in}
 use Rattle.step_core.specs.ViewTrees.{IsCostBelow, SeesPoint}
 use Rattle.step_core.specs.Views.{setup_in, tree_seen}
 use Rattle.step_core.specs.declared.views.View.{View}
 use Rattle.step_core.proofs.SeenViews.{IsPresent-later}
-use Rattle.tree_rewire.specs.Choices.{IsBetter}
 use Rattle.tree_rewire.specs.SeenCosts.{IsInReach, NamesNothing, SeesAnew, SeesPair, cost_seen, seen_cost_through}
 use Rattle.tree_rewire.proofs.CostSteps.{seen_cost_through-same, point_of-same}
 use Rattle.tree_rewire.proofs.SeenCosts.{point_later}
@@ -62,12 +58,6 @@ read_through before after p from n cost goes_on present found cost_is =
 -- ---- if no word is seen anew, all is as it was
 
 module _ (space : ConfigurationSpace) (before after : View) (same : SeesAnew NamesNothing before after) (p : Point) where
-  IsNotAbove-before : (m n : ℕ) → IsNotAbove (seen_cost_through after p) m n → IsNotAbove (seen_cost_through before p) m n
-  IsNotAbove-before m n h = record {
-    least = omega (arith, h.least, seen_cost_through-same before after same p m, seen_cost_through-same before after same p n);
-    first = λ e. h.first (omega (arith, e, seen_cost_through-same before after same p m, seen_cost_through-same before after same p n));
-  }
-
   IsNotAbove-after : (m n : ℕ) → IsNotAbove (seen_cost_through before p) m n → IsNotAbove (seen_cost_through after p) m n
   IsNotAbove-after m n h = record {
     least = omega (arith, h.least, seen_cost_through-same before after same p m, seen_cost_through-same before after same p n);
@@ -80,19 +70,6 @@ module _ (space : ConfigurationSpace) (before after : View) (same : SeesAnew Nam
   pub clear_after : (n : ℕ) → Clear space (point_of (tree_seen before).points n) p → Clear space (point_of (tree_seen after).points n) p
   clear_after n = subst (λ q. Clear space q p) (sym (point_of-same before after same n))
 
-  -- the better of two then was so before
-  IsBetter-before : (best : Parent) (n : ℕ) (better : Parent) → IsBetter space after p best n better → IsBetter space before p best n better
-  IsBetter-before best n better (inl wins) = inl (record {
-    node = wins.node;
-    cost = wins.cost ∙ seen_cost_through-same before after same p n;
-    clear = clear_before n wins.clear;
-    not_above = IsNotAbove-before n best.node wins.not_above;
-  })
-  IsBetter-before best n better (inr stays) = inr (record {
-    same = stays.same;
-    not_above = λ clear. IsNotAbove-before best.node n (stays.not_above (clear_after n clear));
-  })
-
   -- the best then is so still
   pub IsFirstLeast-after : (among : List ℕ) (m : ℕ) → IsFirstLeast (seen_cost_through before p) (IsOpenTo space (tree_seen before).points p among) m
       → IsFirstLeast (seen_cost_through after p) (IsOpenTo space (tree_seen after).points p among) m
@@ -100,24 +77,6 @@ module _ (space : ConfigurationSpace) (before after : View) (same : SeesAnew Nam
     member = record { among = h.member.among; clear = clear_after m h.member.clear };
     not_above = λ i own. IsNotAbove-after m i (h.not_above i (record { among = own.among; clear = clear_before i own.clear }));
   }
-
-  -- the better of the best so far and one node more is the best of all these
-  pub IsLeastParent-better : (among more : List ℕ) (n : ℕ) (best better : Parent) → more ≡ among ++ n ∷ []
-      → IsLeastParent (seen_cost_through before p) (IsOpenTo space (tree_seen before).points p among) best → IsBetter space after p best n better
-      → IsLeastParent (seen_cost_through before p) (IsOpenTo space (tree_seen before).points p more) better
-  IsLeastParent-better among more n best better e h one = by_case (IsBetter-before best n better one)
-    where
-      by_case : IsBetter space before p best n better → IsLeastParent (seen_cost_through before p) (IsOpenTo space (tree_seen before).points p more) better
-      by_case (inl wins) = record {
-        least = subst (IsFirstLeast (seen_cost_through before p) (IsOpenTo space (tree_seen before).points p more)) (sym wins.node)
-            (IsFirstLeast-takes space (tree_seen before).points p (seen_cost_through before p) among more n best.node e wins.clear wins.not_above h.least);
-        cost = wins.cost ∙ ap (seen_cost_through before p) (sym wins.node);
-      }
-      by_case (inr stays) = record {
-        least = subst (λ (b : Parent). IsFirstLeast (seen_cost_through before p) (IsOpenTo space (tree_seen before).points p more) b.node) (sym stays.same)
-            (IsFirstLeast-keeps space (tree_seen before).points p (seen_cost_through before p) among more n best.node e stays.not_above h.least);
-        cost = ap (λ (b : Parent). b.cost) stays.same ∙ h.cost ∙ ap (λ (b : Parent). seen_cost_through before p b.node) (sym stays.same);
-      }
 
 -- ---- the new node may hang below the best
 

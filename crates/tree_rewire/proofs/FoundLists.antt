@@ -33,14 +33,14 @@ rest_read f (x ∷ found) zero = refl
 rest_read f (x ∷ found) (suc i) = rest_read f found i
 
 -- what is on a list is mapped on the list of images, and each of these is one
-pub Contains-image : {X : Type 0} (f : Found → X) (found : List Found) (x : Found) → Contains found x → Contains (map f found) (f x)
+pub Contains-image : {Y X : Type 0} (f : Y → X) (found : List Y) (x : Y) → Contains found x → Contains (map f found) (f x)
 Contains-image f [] x on = absurd (Contains-none x on)
 Contains-image f (y ∷ found) x on = elim (Contains-cases y x found on) [
   | inl is ↦ subst (Contains (f y ∷ map f found)) (ap f is) (Contains-first (f y) (map f found))
   | inr more ↦ Contains-after (f y) (map f found) (f x) (Contains-image f found x more)
 ]
 
-pub Contains-source : {X : Type 0} (f : Found → X) (found : List Found) (y : X) → Contains (map f found) y → (x : Found) × Contains found x × (f x ≡ y)
+pub Contains-source : {Y X : Type 0} (f : Y → X) (found : List Y) (y : X) → Contains (map f found) y → (x : Y) × Contains found x × (f x ≡ y)
 Contains-source f [] y on = absurd (Contains-none y on)
 Contains-source f (x ∷ found) y on = elim (Contains-cases (f x) y (map f found) on) [
   | inl is ↦ (x, Contains-first x found, is)

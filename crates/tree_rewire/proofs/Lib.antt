@@ -11,6 +11,7 @@ pub mod TightCosts
 pub mod MirroredTrees
 pub mod FoundLists
 pub mod ChosenFound
+pub mod NearLists
 pub mod SkippedNodes
 pub mod RewiredFound
 pub mod RewiredTrees

@@ -1,6 +1,6 @@
 pub mod SeenCosts
-pub mod Choices
 pub mod Spreads
 pub mod Rewirings
 pub mod Mirrors
 pub mod FoundNodes
+pub mod NearNodes

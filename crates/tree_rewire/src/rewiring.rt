@@ -20,10 +20,12 @@ ghost use Rattle.step_core.specs.WordNames.Word.{TreeOf};
 ghost use Rattle.step_core.specs.Words.{tree_word};
 ghost use Rattle.tree_rewire.specs.FoundNodes.{AreOf, IsWeighed};
 ghost use Rattle.tree_rewire.specs.Mirrors.{Mirrors};
+ghost use Rattle.tree_rewire.specs.NearNodes.{nodes_on};
 ghost use Rattle.tree_rewire.specs.Rewirings.{HasPlaced, HasSpreadFalls};
 ghost use Rattle.tree_rewire.specs.SeenCosts.{IsInReach, NamesTreeOrPoint, NamesTree, PassLowers, PassSees, SeesAnew, SeesPair, cost_seen};
 ghost use Rattle.tree_rewire.specs.Spreads.{OnlyAt};
 
+use crate::near_nodes::NearNodes;
 use crate::seen_costs::seen_cost;
 use crate::spreading::spread;
 use edge_cost::{cost, costs_less_through};
@@ -64,12 +66,7 @@ pub fn rewire<C: Clearing>(shared: &Shared, pass: &mut Pass, hall: &C, k: u32)
     ensures whole { HasWholeShare pass.old.view → (tree : Nodes) → Mirrors pass.old.view tree
         → (after : Nodes) × Rewires (space_of shared.now.task.scene) tree (suc k) pass.old.lists.near after × Mirrors pass.new.view after }
 {
-    let count = pass.near_count();
-    let from = pass.hand_point();
-    'nodes: for index in 0..count {
-        let node = pass.near_node(index);
-        rewire_node(shared, pass, hall, k + 1, from, node);
-    }
+    rewire_each(shared, pass, hall, k, NearNodes::Listed);
 }
 
 /// The same with the nodes that the last search of the pass found, in whatever order, whose records have the costs of their edges to
@@ -106,35 +103,37 @@ pub fn rewire_found<C: Clearing>(shared: &Shared, pass: &mut Pass, hall: &C, k: 
 {
     let cost = seen_cost(pass, k + 1);
     pass.keep_dearer(cost);
-    rewire_few(shared, pass, hall, k);
+    rewire_each(shared, pass, hall, k, NearNodes::Searched);
 }
 
-/// Rewires the nodes found, in their order, as [`rewire`] does those on the near list.
-fn rewire_few<C: Clearing>(shared: &Shared, pass: &mut Pass, hall: &C, k: u32)
+/// Rewires the nodes on a list of the pass, in their order.
+fn rewire_each<C: Clearing>(shared: &Shared, pass: &mut Pass, hall: &C, k: u32, among: NearNodes)
     requires belongs { BelongsTo pass.old shared.now }
     requires part { 0 < share pass.old.view }
     requires posted { HasPostedHand pass.old.view }
     requires hall { C.space hall.now ≡ space_of shared.now.task.scene }
     requires hand { IsSome pass.old.view.hand }
     requires placed { IfSome pass.old.view.hand (λ hand. HasPlaced pass.old.view k hand) }
-    requires near { IfSome pass.old.view.hand (λ hand. All (IsInReach pass.old.view hand.point) (numbers_of pass.old.lists.search.found)) }
+    requires near { IfSome pass.old.view.hand (λ hand. All (IsInReach pass.old.view hand.point) (nodes_on among pass.old.lists)) }
     ensures belongs { BelongsTo pass.new shared.now }
     ensures seen { SeesAnew NamesTreeOrPoint pass.old.view pass.new.view }
-    ensures lists { (pass.new.lists.near ≡ pass.old.lists.near) × (pass.new.lists.around ≡ pass.old.lists.around) }
-    ensures rewired { IfSome pass.old.view.hand (λ hand. (i : ℕ) → Contains (numbers_of pass.old.lists.search.found) i
+    ensures lists { (pass.new.lists.near ≡ pass.old.lists.near) × (pass.new.lists.around ≡ pass.old.lists.around)
+        × (pass.new.lists.search ≡ pass.old.lists.search) }
+    ensures pairs { All (SeesPair pass.new.view) (nodes_on among pass.old.lists) }
+    ensures rewired { IfSome pass.old.view.hand (λ hand. (i : ℕ) → Contains (nodes_on among pass.old.lists) i
         → Clear (space_of shared.now.task.scene) hand.point (point_of (tree_seen pass.old.view).points i)
         → cost_seen pass.new.view i ≤ hand.cost + cost_of hand.point (point_of (tree_seen pass.old.view).points i)) }
-    ensures spread { HasSpreadFalls (space_of shared.now.task.scene) (Contains (numbers_of pass.old.lists.search.found)) (suc k) pass.old.view pass.new.view }
+    ensures spread { HasSpreadFalls (space_of shared.now.task.scene) (Contains (nodes_on among pass.old.lists)) (suc k) pass.old.view pass.new.view }
     ensures goals { HasWholeShare pass.old.view → HasPostedGoals pass.old.view → HasPostedGoals pass.new.view }
     ensures whole { HasWholeShare pass.old.view → (tree : Nodes) → Mirrors pass.old.view tree
-        → (after : Nodes) × Rewires (space_of shared.now.task.scene) tree (suc k) (numbers_of pass.old.lists.search.found) after
+        → (after : Nodes) × Rewires (space_of shared.now.task.scene) tree (suc k) (nodes_on among pass.old.lists) after
         × Mirrors pass.new.view after }
 {
-    let count = pass.found_count();
+    let count = among.count(pass);
     let from = pass.hand_point();
-    'few: for index in 0..count {
-        let found = pass.found(index);
-        rewire_node(shared, pass, hall, k + 1, from, found.node);
+    'nodes: for index in 0..count {
+        let node = among.node(pass, index);
+        rewire_node(shared, pass, hall, k + 1, from, node);
     }
 }
 

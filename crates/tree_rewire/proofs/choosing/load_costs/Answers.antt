@@ -1,17 +1,21 @@
-use Rattle.std.proofs.Common.{arith, ap, subst, take}
-use Rattle.std.specs.Prelude.{All}
+use Rattle.std.proofs.Common.{◌≡◌, Some, take, ap, arith, refl, subst, sym, ◌∙◌}
+use Rattle.std.specs.Prelude.{All, slice_get}
 use Rattle.std.proofs.lemmas.List.{take_all}
 use Rattle.std.proofs.lemmas.List.Elements.{All-cons, All-nil}
 use Rattle.plan_model.specs.Trees.PointsByNumber.{IsPresent}
+use Rattle.plan_words.specs.States.{PassState}
+use Rattle.step_core.specs.ViewTrees.{SeesNode}
 use Rattle.step_core.specs.Views.{tree_seen}
 use Rattle.step_core.specs.WordNames.Word.{TreeOf}
 use Rattle.step_core.proofs.SeenViews.{IsPresent-later}
+use Rattle.tree_rewire.specs.NearNodes.{nodes_on}
 use Rattle.tree_rewire.specs.SeenCosts.{IsLoadedSince, NamesTree, SeesPair}
-use Rattle.tree_rewire.proofs.ChosenParents.{All-more, near_read, take_read}
+use Rattle.tree_rewire.proofs.ChosenParents.{All-more, All-read, take_read}
 use Rattle.tree_rewire.proofs.CostSteps.{IsLoadedSince-tree, PassSees-trans, PassSees-tree}
 use Rattle.tree_rewire.proofs.SeenCosts.{IsLoadedSince-later, SeesNode-present, SeesPair-later}
 use Rattle.tree_rewire.proofs.WholeShares.{HasWholeShare-later, SeesAsBefore-loaded, SeesAsBefore-trans}
 use Rattle.tree_rewire.proofs.choosing.load_costs.Goals as goal
+use Rattle.tree_rewire.proofs.choosing.load_costs.Goals.{After-node-node}
 
 pub loads-init : goal.loads-init
 loads-init c =
@@ -27,55 +31,60 @@ loads-init c =
       whole = λ all. SeesAsBefore-loaded c.args.pass.now.view new.view (TreeOf c.args.nearest) _ load.seen (load.whole all);
     }
 
+-- the node on the list is the one from before
+read : (c : After-node-node) → slice_get (nodes_on c.args.among c.args.pass.now.lists) c.loads.index ≡ Some c.node-node.result
+read c = ap (λ (s : PassState). slice_get (nodes_on c.args.among s.lists) c.loads.index) (sym c.loads.invariant.steps.view_alone) ∙ c.node-node.ensures
+
+node : (c : After-node-node) → SeesNode c.loads.pass.view c.node-node.result
+node c =
+    let goes_on = c.loads.invariant.steps.sees_anew.goes_on in
+    let before = c.args.pass.now in
+    SeesNode-present c.loads.pass.view c.node-node.result goes_on.lawful
+    (IsPresent-later before.view c.loads.pass.view goes_on.later.run goes_on.later.seen c.node-node.result
+    (All-read (IsPresent (tree_seen before.view).points) (nodes_on c.args.among before.lists) c.loads.index c.node-node.result (read c) c.requires.near))
+
 pub tree-pair-requires-in-loads-clause-seen_node : goal.tree-pair-requires-in-loads-clause-seen_node
-tree-pair-requires-in-loads-clause-seen_node c =
-    let steps = c.loads.invariant.steps in
-    let goes_on = steps.sees_anew.goes_on in
-    let n = c.near_node-node.result in
-    let present = near_read (IsPresent (tree_seen c.args.pass.now.view).points) c.args.pass.now.lists.near c.loads.pass.lists.near c.loads.index n
-    (ap (λ p. p.lists.near) steps.view_alone) c.near_node-node.ensures c.requires.near in
-    SeesNode-present c.loads.pass.view n goes_on.lawful
-    (IsPresent-later c.args.pass.now.view c.loads.pass.view goes_on.later.run goes_on.later.seen n present)
+tree-pair-requires-in-loads-clause-seen_node c = node (goal.at.tree-pair-requires-in-loads-clause-seen_node c).After-node-node
 
 pub loads-preserved : goal.loads-preserved
 loads-preserved c =
     let steps = c.loads.invariant.steps in
+    let before = c.args.pass.now in
+    let here = (goal.at.loads-preserved c).After-node-node in
+    let n = c.node-node.result in
     let load = c.tree-pair-in-loads.ensures in
     let then = c.tree-pair-in-loads.new.pass in
-    let n = c.near_node-node.result in
-    let stands = near_read (IsPresent (tree_seen c.args.pass.now.view).points) c.args.pass.now.lists.near c.loads.pass.lists.near c.loads.index n
-    (ap (λ p. p.lists.near) steps.view_alone) c.near_node-node.ensures c.requires.near in
     let later = steps.sees_anew.goes_on.later in
-    let node = SeesNode-present c.loads.pass.view n steps.sees_anew.goes_on.lawful
-    (IsPresent-later c.args.pass.now.view c.loads.pass.view later.run later.seen n stands) in
-    let here = IsLoadedSince-tree c.loads.pass then n _ steps.sees_anew.goes_on.lawful node load.view in
+    let loaded = IsLoadedSince-tree c.loads.pass then n _ steps.sees_anew.goes_on.lawful (node here) load.view in
     let step = PassSees-tree c.args.shared.now c.loads.pass then n _ _ steps.belongs load.view load.goes_on load.seen in
+    let near = nodes_on c.args.among before.lists in
+    let one_more = take_read near near c.loads.index n refl (read here) in
     record {
-      steps = PassSees-trans NamesTree c.args.shared.now c.args.pass.now c.loads.pass then steps step;
+      steps = PassSees-trans NamesTree c.args.shared.now before c.loads.pass then steps step;
       first = SeesPair-later c.loads.pass.view then.view load.goes_on c.args.nearest c.loads.invariant.first;
-      first_loaded = IsLoadedSince-later c.loads.pass.view then.view load.goes_on c.args.pass.now.view.steps c.args.nearest later.steps
+      first_loaded = IsLoadedSince-later c.loads.pass.view then.view load.goes_on before.view.steps c.args.nearest later.steps
           c.loads.invariant.first_loaded;
-      earlier = All-more (SeesPair then.view) (take c.loads.index c.args.pass.now.lists.near) _ n
-          (take_read c.args.pass.now.lists.near c.loads.pass.lists.near c.loads.index n (ap (λ p. p.lists.near) steps.view_alone) c.near_node-node.ensures)
+      earlier = All-more (SeesPair then.view) (take c.loads.index near) _ n one_more
           (λ k d below. SeesPair-later c.loads.pass.view then.view load.goes_on _ (c.loads.invariant.earlier k d below)) load.found.written;
-      earlier_loaded = All-more (IsLoadedSince c.args.pass.now.view.steps then.view) (take c.loads.index c.args.pass.now.lists.near) _ n
-          (take_read c.args.pass.now.lists.near c.loads.pass.lists.near c.loads.index n (ap (λ p. p.lists.near) steps.view_alone) c.near_node-node.ensures)
-          (λ k d below. IsLoadedSince-later c.loads.pass.view then.view load.goes_on c.args.pass.now.view.steps _ later.steps
-          (c.loads.invariant.earlier_loaded k d below)) (omega (arith, here, later.steps));
+      earlier_loaded = All-more (IsLoadedSince before.view.steps then.view) (take c.loads.index near) _ n one_more
+          (λ k d below. IsLoadedSince-later c.loads.pass.view then.view load.goes_on before.view.steps _ later.steps
+          (c.loads.invariant.earlier_loaded k d below)) (omega (arith, loaded, later.steps));
       whole = λ all.
-          SeesAsBefore-trans c.args.pass.now.view c.loads.pass.view then.view (c.loads.invariant.whole all)
+          SeesAsBefore-trans before.view c.loads.pass.view then.view (c.loads.invariant.whole all)
           (SeesAsBefore-loaded c.loads.pass.view then.view (TreeOf n) _ load.seen
-          (load.whole (HasWholeShare-later NamesTree c.args.pass.now.view c.loads.pass.view steps.sees_anew all)));
+          (load.whole (HasWholeShare-later NamesTree before.view c.loads.pass.view steps.sees_anew all)));
     }
 
 pub returns-clause-pairs : goal.returns-clause-pairs
 returns-clause-pairs c =
-    let all = take_all c.loads.index c.args.pass.now.lists.near (omega (arith, c.loads-test.false, c.requires.count)) in
-    All-cons (SeesPair c.loads.pass.view) c.args.nearest c.args.pass.now.lists.near c.loads.invariant.first
+    let near = nodes_on c.args.among c.args.pass.now.lists in
+    let all = take_all c.loads.index near (omega (arith, c.loads-test.false, c.count-count.ensures)) in
+    All-cons (SeesPair c.loads.pass.view) c.args.nearest near c.loads.invariant.first
     (subst (All (SeesPair c.loads.pass.view)) all c.loads.invariant.earlier)
 
 pub returns-clause-loaded : goal.returns-clause-loaded
 returns-clause-loaded c =
-    let all = take_all c.loads.index c.args.pass.now.lists.near (omega (arith, c.loads-test.false, c.requires.count)) in
-    All-cons (IsLoadedSince c.args.pass.now.view.steps c.loads.pass.view) c.args.nearest c.args.pass.now.lists.near c.loads.invariant.first_loaded
-    (subst (All (IsLoadedSince c.args.pass.now.view.steps c.loads.pass.view)) all c.loads.invariant.earlier_loaded)
+    let near = nodes_on c.args.among c.args.pass.now.lists in
+    let since = IsLoadedSince c.args.pass.now.view.steps c.loads.pass.view in
+    let all = take_all c.loads.index near (omega (arith, c.loads-test.false, c.count-count.ensures)) in
+    All-cons since c.args.nearest near c.loads.invariant.first_loaded (subst (All since) all c.loads.invariant.earlier_loaded)

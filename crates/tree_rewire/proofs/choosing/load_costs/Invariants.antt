@@ -1,6 +1,7 @@
 use Rattle.std.proofs.Common.{All, take}
 use Rattle.plan_words.specs.Claims.{SeesAsBefore}
 use Rattle.plan_words.specs.States.{HasWholeShare}
+use Rattle.tree_rewire.specs.NearNodes.{nodes_on}
 use Rattle.tree_rewire.specs.SeenCosts.{IsLoadedSince, NamesTree, PassSees, SeesPair}
 use Rattle.tree_rewire.proofs.choosing.load_costs.Given as goal
 
@@ -9,7 +10,7 @@ invariant-loads l = record {
   steps : PassSees NamesTree l.shared l.fn.pass l.pass;
   first : SeesPair l.pass.view l.nearest;
   first_loaded : IsLoadedSince l.fn.pass.view.steps l.pass.view l.nearest;
-  earlier : All (SeesPair l.pass.view) (take l.index l.fn.pass.lists.near);
-  earlier_loaded : All (IsLoadedSince l.fn.pass.view.steps l.pass.view) (take l.index l.fn.pass.lists.near);
+  earlier : All (SeesPair l.pass.view) (take l.index (nodes_on l.among l.fn.pass.lists));
+  earlier_loaded : All (IsLoadedSince l.fn.pass.view.steps l.pass.view) (take l.index (nodes_on l.among l.fn.pass.lists));
   whole : HasWholeShare l.fn.pass.view → SeesAsBefore l.fn.pass.view l.pass.view;
 }

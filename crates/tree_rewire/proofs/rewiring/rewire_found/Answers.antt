@@ -26,7 +26,7 @@ use Rattle.tree_rewire.proofs.RewiredFound.{Holding, Rewires-few, few_all, few_f
 use Rattle.tree_rewire.proofs.SeenCosts.{SeesPair-later, cost_seen-later, pair_low}
 use Rattle.tree_rewire.proofs.rewiring.rewire_found.Given.{Over}
 use Rattle.tree_rewire.proofs.rewiring.rewire_found.Goals as goal
-use Rattle.tree_rewire.proofs.rewiring.rewire_found.Goals.{After-keep_dearer, After-rewire_few, After-seen_cost-cost}
+use Rattle.tree_rewire.proofs.rewiring.rewire_found.Goals.{After-keep_dearer, After-rewire_each, After-seen_cost-cost}
 
 pub seen_cost-cost-requires-clause-pair : goal.seen_cost-cost-requires-clause-pair
 seen_cost-cost-requires-clause-pair g c =
@@ -91,32 +91,32 @@ few_in g c i on =
     (Contains-image (λ (h : Found). h.node) found f.0
     (few_found c.args.pass.now.view own.hand.point c.seen_cost-cost.result found few own.weighed c.keep_dearer.ensures.same f.0 f.1).0)
 
-pub rewire_few-requires-clause-belongs : goal.rewire_few-requires-clause-belongs
-rewire_few-requires-clause-belongs g c κs within = record {
+pub rewire_each-requires-clause-belongs : goal.rewire_each-requires-clause-belongs
+rewire_each-requires-clause-belongs g c κs within = record {
   table = ap (λ (s : PassState). s.table) c.keep_dearer.ensures.others ∙ c.requires.belongs.table;
   run = ap (λ (s : PassState). s.view.run) c.keep_dearer.ensures.others ∙ c.requires.belongs.run;
   lawful = c.keep_dearer.ensures.lawful;
 }
 
-pub rewire_few-requires-clause-part : goal.rewire_few-requires-clause-part
-rewire_few-requires-clause-part g c κs within = subst (λ v. 0 < share v) (sym (ap (λ (s : PassState). s.view) c.keep_dearer.ensures.others)) c.requires.part
+pub rewire_each-requires-clause-part : goal.rewire_each-requires-clause-part
+rewire_each-requires-clause-part g c κs within = subst (λ v. 0 < share v) (sym (ap (λ (s : PassState). s.view) c.keep_dearer.ensures.others)) c.requires.part
 
-pub rewire_few-requires-clause-posted : goal.rewire_few-requires-clause-posted
-rewire_few-requires-clause-posted g c κs within =
+pub rewire_each-requires-clause-posted : goal.rewire_each-requires-clause-posted
+rewire_each-requires-clause-posted g c κs within =
     subst HasPostedHand (sym (ap (λ (s : PassState). s.view) c.keep_dearer.ensures.others)) c.requires.posted
 
-pub rewire_few-requires-clause-hand : goal.rewire_few-requires-clause-hand
-rewire_few-requires-clause-hand g c κs within =
+pub rewire_each-requires-clause-hand : goal.rewire_each-requires-clause-hand
+rewire_each-requires-clause-hand g c κs within =
     subst (λ (v : View). IsSome v.hand) (sym (ap (λ (s : PassState). s.view) c.keep_dearer.ensures.others)) c.requires.hand
 
-pub rewire_few-requires-clause-placed : goal.rewire_few-requires-clause-placed
-rewire_few-requires-clause-placed g c κs within =
+pub rewire_each-requires-clause-placed : goal.rewire_each-requires-clause-placed
+rewire_each-requires-clause-placed g c κs within =
     subst (λ (v : View). IfSome v.hand (λ hand. HasPlaced v c.args.k hand)) (sym (ap (λ (s : PassState). s.view) c.keep_dearer.ensures.others))
     c.requires.placed
 
-pub rewire_few-requires-clause-near : goal.rewire_few-requires-clause-near
-rewire_few-requires-clause-near g c κs within =
-    let here = (goal.at.rewire_few-requires-clause-near g c).After-keep_dearer in
+pub rewire_each-requires-clause-near : goal.rewire_each-requires-clause-near
+rewire_each-requires-clause-near g c κs within =
+    let here = (goal.at.rewire_each-requires-clause-near g c).After-keep_dearer in
     let own = hand_kept g here in
     let view = c.args.pass.now.view in
     let numbers = numbers_of c.keep_dearer.new.self.lists.search.found in
@@ -130,18 +130,18 @@ rewire_few-requires-clause-near g c κs within =
 
 pub returns-clause-seen : goal.returns-clause-seen
 returns-clause-seen g c =
-    subst (λ v. SeesAnew NamesTreeOrPoint v c.rewire_few.new.pass.view) (ap (λ (s : PassState). s.view) c.keep_dearer.ensures.others)
-    c.rewire_few.ensures.seen
+    subst (λ v. SeesAnew NamesTreeOrPoint v c.rewire_each.new.pass.view) (ap (λ (s : PassState). s.view) c.keep_dearer.ensures.others)
+    c.rewire_each.ensures.seen
 
 pub returns-clause-lists : goal.returns-clause-lists
 returns-clause-lists g c =
     let lists = c.keep_dearer.ensures.search in (
-      c.rewire_few.ensures.lists.0 ∙ ap (λ (l : Lists). l.near) lists,
-      c.rewire_few.ensures.lists.1 ∙ ap (λ (l : Lists). l.around) lists,
+      c.rewire_each.ensures.lists.0 ∙ ap (λ (l : Lists). l.near) lists,
+      c.rewire_each.ensures.lists.1 ∙ ap (λ (l : Lists). l.around) lists,
     )
 
 -- the hand, with what it asks
-hand_last : (g : Over) (c : After-rewire_few g) → Holding c.args.pass.now.view c.args.k c.args.pass.now.lists.search.found
+hand_last : (g : Over) (c : After-rewire_each g) → Holding c.args.pass.now.view c.args.k c.args.pass.now.lists.search.found
 hand_last g c =
     let view = c.args.pass.now.view in
     let held = some_hand view.hand c.requires.hand in
@@ -153,11 +153,11 @@ hand_last g c =
       weighed = at_hand (λ hand. All (IsWeighed view hand.point) c.args.pass.now.lists.search.found) view.hand held.0 held.1 c.requires.weighed;
     }
 
-view_last : (g : Over) (c : After-rewire_few g) → c.keep_dearer.new.self.view ≡ c.args.pass.now.view
+view_last : (g : Over) (c : After-rewire_each g) → c.keep_dearer.new.self.view ≡ c.args.pass.now.view
 view_last g c = ap (λ (s : PassState). s.view) c.keep_dearer.ensures.others
 
 -- the few are among those found
-few_last : (g : Over) (c : After-rewire_few g) (i : ℕ) → Contains (numbers_of c.keep_dearer.new.self.lists.search.found) i
+few_last : (g : Over) (c : After-rewire_each g) (i : ℕ) → Contains (numbers_of c.keep_dearer.new.self.lists.search.found) i
     → Contains (numbers_of c.args.pass.now.lists.search.found) i
 few_last g c i on =
     let own = hand_last g c in
@@ -168,22 +168,22 @@ few_last g c i on =
     (Contains-image (λ (h : Found). h.node) found f.0
     (few_found c.args.pass.now.view own.hand.point c.seen_cost-cost.result found few own.weighed c.keep_dearer.ensures.same f.0 f.1).0)
 
-later : (g : Over) (c : After-rewire_few g) → GoesOn c.args.pass.now.view c.rewire_few.new.pass.view
-later g c = subst (λ v. GoesOn v c.rewire_few.new.pass.view) (view_last g c) c.rewire_few.ensures.seen.goes_on
+later : (g : Over) (c : After-rewire_each g) → GoesOn c.args.pass.now.view c.rewire_each.new.pass.view
+later g c = subst (λ v. GoesOn v c.rewire_each.new.pass.view) (view_last g c) c.rewire_each.ensures.seen.goes_on
 
 pub returns-clause-pairs : goal.returns-clause-pairs
 returns-clause-pairs g c =
-    let here = (goal.at.returns-clause-pairs g c).After-rewire_few in
+    let here = (goal.at.returns-clause-pairs g c).After-rewire_each in
     let own = hand_last g here in
-    All-map (SeesPair c.rewire_few.new.pass.view) (λ (f : Found). f.node) c.args.pass.now.lists.search.found
-    (λ k d below. SeesPair-later c.args.pass.now.view c.rewire_few.new.pass.view (later g here) _ (own.weighed k d below).pair)
+    All-map (SeesPair c.rewire_each.new.pass.view) (λ (f : Found). f.node) c.args.pass.now.lists.search.found
+    (λ k d below. SeesPair-later c.args.pass.now.view c.rewire_each.new.pass.view (later g here) _ (own.weighed k d below).pair)
 
 pub returns-clause-rewired : goal.returns-clause-rewired
 returns-clause-rewired g c =
-    let here = (goal.at.returns-clause-rewired g c).After-rewire_few in
+    let here = (goal.at.returns-clause-rewired g c).After-rewire_each in
     let own = hand_last g here in
     let view = c.args.pass.now.view in
-    let new = c.rewire_few.new.pass.view in
+    let new = c.rewire_each.new.pass.view in
     let points = (tree_seen view).points in
     let space = space_of c.args.shared.now.task.scene in
     let found = c.args.pass.now.lists.search.found in
@@ -195,7 +195,7 @@ returns-clause-rewired g c =
     → cost_seen new i ≤ hand.cost + cost_of hand.point (point_of points i)) view.hand own.hand own.held
     (subst (λ (v : View). IfSome v.hand (λ hand. (i : ℕ) → Contains (numbers_of few) i → Clear space hand.point (point_of (tree_seen v).points i)
     → cost_seen new i ≤ hand.cost + cost_of hand.point (point_of (tree_seen v).points i))) (view_last g here)
-    c.rewire_few.ensures.rewired) in
+    c.rewire_each.ensures.rewired) in
     if_hand
     (λ hand. (i : ℕ) → Contains (numbers_of found) i → Clear space hand.point (point_of points i)
     → cost_seen new i ≤ hand.cost + cost_of hand.point (point_of points i)) view.hand own.hand own.held
@@ -217,11 +217,11 @@ returns-clause-rewired g c =
 
 pub returns-clause-spread : goal.returns-clause-spread
 returns-clause-spread g c =
-    let here = (goal.at.returns-clause-spread g c).After-rewire_few in
+    let here = (goal.at.returns-clause-spread g c).After-rewire_each in
     let space = space_of c.args.shared.now.task.scene in
     let few = numbers_of c.keep_dearer.new.self.lists.search.found in
-    let fallen = subst (λ v. HasSpreadFalls space (Contains few) (suc c.args.k) v c.rewire_few.new.pass.view) (view_last g here)
-    c.rewire_few.ensures.spread in
+    let fallen = subst (λ v. HasSpreadFalls space (Contains few) (suc c.args.k) v c.rewire_each.new.pass.view) (view_last g here)
+    c.rewire_each.ensures.spread in
     λ n falls. elim (fallen n falls) [
       | inl within ↦ inl within
       | inr hangs ↦ inr (record { listed = few_last g here n hangs.listed; shortcut = hangs.shortcut; elsewhere = hangs.elsewhere })
@@ -229,16 +229,16 @@ returns-clause-spread g c =
 
 pub returns-clause-goals : goal.returns-clause-goals
 returns-clause-goals g c =
-    let here = (goal.at.returns-clause-goals g c).After-rewire_few in
-    subst (λ v. HasWholeShare v → HasPostedGoals v → HasPostedGoals c.rewire_few.new.pass.view) (view_last g here) c.rewire_few.ensures.goals
+    let here = (goal.at.returns-clause-goals g c).After-rewire_each in
+    subst (λ v. HasWholeShare v → HasPostedGoals v → HasPostedGoals c.rewire_each.new.pass.view) (view_last g here) c.rewire_each.ensures.goals
 
 pub returns-clause-whole : goal.returns-clause-whole
 returns-clause-whole g c = λ all tree mirrors near rising of.
-    let here = (goal.at.returns-clause-whole g c).After-rewire_few in
+    let here = (goal.at.returns-clause-whole g c).After-rewire_each in
     let own = hand_last g here in
     let view = c.args.pass.now.view in
     let same = sym (view_last g here) in
-    let got = c.rewire_few.ensures.whole (subst HasWholeShare same all) tree (subst (λ v. Mirrors v tree) same mirrors) in
+    let got = c.rewire_each.ensures.whole (subst HasWholeShare same all) tree (subst (λ v. Mirrors v tree) same mirrors) in
     let next : c.args.k + 1 ≡ suc c.args.k = omega arith in (
       got.0,
       Rewires-few view own.hand.point c.seen_cost-cost.result (suc c.args.k) c.args.pass.now.lists.search.found

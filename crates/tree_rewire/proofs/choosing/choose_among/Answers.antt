@@ -1,0 +1,134 @@
+use Rattle.std.proofs.Common.{◌∷◌, List, ℕ, ap, arith, subst, sym, ◌∙◌}
+use Rattle.std.proofs.lemmas.List.Elements.{All-cons, All-tail}
+use Rattle.plan_model.specs.Trees.LeastPairs.{IsFirstLeast}
+use Rattle.plan_model.specs.Trees.OpenNodes.{IsOpenTo}
+use Rattle.plan_model.specs.Spaces.Clearance.{Clear}
+use Rattle.plan_model.specs.Trees.PointsByNumber.{point_of}
+use Rattle.plan_model.specs.declared.configuration_spaces.ConfigurationSpace.{ConfigurationSpace}
+use Rattle.plan_words.proofs.GoingOn.{GoesOn-trans}
+use Rattle.plan_words.specs.States.{PassState, with_lists, with_view}
+use Rattle.step_core.specs.Views.{tree_seen}
+use Rattle.step_core.proofs.SeenViews.{IsPresent-later}
+use Rattle.swept_check.proofs.BoundedSegments.{IsBounded-clear_in_scene}
+use Rattle.tree_rewire.specs.NearNodes.{AreKnown, IsClearTo, StandOn, nodes_on, weighed_on}
+use Rattle.tree_rewire.specs.SeenCosts.{IsInReach, NamesNothing, NamesTree, SeesAnew, SeesPair, seen_cost_through}
+use Rattle.tree_rewire.specs.Spreads.{SeesKnot}
+use Rattle.tree_rewire.proofs.ChosenParents.{All-present, IsCostBelow-best, points_later}
+use Rattle.tree_rewire.proofs.CostSteps.{SeesAnew-more, SeesAnew-trans}
+use Rattle.tree_rewire.proofs.NearLists.{AreKnown-weighed, StandOn-later, nodes_on-then}
+use Rattle.tree_rewire.proofs.SeenCosts.{IsLoadedSince-later, SeesPair-later}
+use Rattle.tree_rewire.proofs.WholeShares.{SeesAsBefore-none, SeesAsBefore-trans}
+use Rattle.tree_rewire.proofs.choosing.choose_among.Given.{Over}
+use Rattle.tree_rewire.proofs.choosing.choose_among.Goals as goal
+use Rattle.tree_rewire.proofs.choosing.choose_among.Goals.{After-best_open}
+
+pub load_costs-requires-clause-near : goal.load_costs-requires-clause-near
+load_costs-requires-clause-near g c = All-present c.args.pass.now.view c.args.p (nodes_on c.args.among c.args.pass.now.lists) c.requires.near
+
+pub weigh-requires-clause-bounded : goal.weigh-requires-clause-bounded
+weigh-requires-clause-bounded g c =
+    (IsBounded-clear_in_scene c.args.shared.now.task.scene (point_of (tree_seen c.args.pass.now.view).points c.args.nearest) c.args.p c.requires.clear).1
+
+pub weigh-requires-clause-stands : goal.weigh-requires-clause-stands
+weigh-requires-clause-stands g c =
+    let steps = c.load_costs.ensures.steps in
+    let mid = c.load_costs.new.pass in
+    subst (λ (s : PassState). StandOn c.args.among mid.view s.lists) (sym steps.view_alone)
+    (StandOn-later c.args.among c.args.pass.now.view mid.view c.args.pass.now.lists steps.sees_anew.goes_on c.requires.stands)
+
+-- ---- once all costs are loaded and the edges weighed
+
+pub best_open-requires-clause-bounded : goal.best_open-requires-clause-bounded
+best_open-requires-clause-bounded g c κs within =
+    (IsBounded-clear_in_scene c.args.shared.now.task.scene (point_of (tree_seen c.args.pass.now.view).points c.args.nearest) c.args.p c.requires.clear).1
+
+pub best_open-requires-clause-nearest : goal.best_open-requires-clause-nearest
+best_open-requires-clause-nearest g c κs within =
+    let goes_on = c.load_costs.ensures.steps.sees_anew.goes_on in
+    subst (λ (s : PassState). SeesKnot s.view c.args.nearest) (sym c.weigh.ensures) (record {
+      stands = IsPresent-later c.args.pass.now.view c.load_costs.new.pass.view goes_on.later.run goes_on.later.seen c.args.nearest c.requires.nearest.present;
+      written = c.load_costs.ensures.pairs 0 0 (omega arith);
+    })
+
+pub best_open-requires-clause-clear : goal.best_open-requires-clause-clear
+best_open-requires-clause-clear g c κs within =
+    let before = c.args.pass.now.view in
+    let goes_on = c.load_costs.ensures.steps.sees_anew.goes_on in
+    let here = subst (λ s. Clear s (point_of (tree_seen before).points c.args.nearest) c.args.p) (sym c.requires.hall) c.requires.clear in
+    subst (λ (s : PassState). IsClearTo (g.C.Clearing.space c.args.hall.now) s.view c.args.p c.args.nearest) (sym c.weigh.ensures)
+    (subst (λ q. Clear (g.C.Clearing.space c.args.hall.now) q c.args.p)
+    (sym (points_later before c.load_costs.new.pass.view c.args.nearest goes_on c.requires.nearest.present)) here)
+
+pub best_open-requires-clause-known : goal.best_open-requires-clause-known
+best_open-requires-clause-known g c κs within =
+    let before = c.args.pass.now in
+    let mid = c.load_costs.new.pass in
+    let steps = c.load_costs.ensures.steps in
+    let near = nodes_on c.args.among before.lists in
+    subst (λ (s : PassState). AreKnown c.args.among s.view c.args.p s.lists) (sym c.weigh.ensures)
+    (subst (λ (s : PassState). AreKnown c.args.among mid.view c.args.p (weighed_on c.args.among c.args.p s.lists)) (sym steps.view_alone)
+    (AreKnown-weighed c.args.among before.view mid.view c.args.p before.lists steps.sees_anew.goes_on c.requires.stands c.requires.near
+    (All-tail (SeesPair mid.view) c.args.nearest near c.load_costs.ensures.pairs)))
+
+-- ---- what is answered
+
+-- nothing is seen anew but what was loaded
+nothing : (g : Over) (c : After-best_open g) → SeesAnew NamesNothing c.load_costs.new.pass.view c.best_open.new.pass.view
+nothing g c =
+    subst (λ (s : PassState). SeesAnew NamesNothing s.view c.best_open.new.pass.view) c.weigh.ensures c.best_open.ensures.steps.sees_anew
+
+pub returns-clause-seen : goal.returns-clause-seen
+returns-clause-seen g c =
+    let mid = c.load_costs.new.pass.view in
+    let after = c.best_open.new.pass.view in
+    SeesAnew-trans NamesTree c.args.pass.now.view mid after c.load_costs.ensures.steps.sees_anew
+    (SeesAnew-more NamesNothing NamesTree mid after (λ name no. absurd no) (nothing g (goal.at.returns-clause-seen g c).After-best_open))
+
+pub returns-clause-alone : goal.returns-clause-alone
+returns-clause-alone g c =
+    let after = c.best_open.new.pass.view in
+    c.best_open.ensures.steps.view_alone ∙ ap (λ s. with_view s after) c.weigh.ensures
+    ∙ ap (λ (s : PassState). with_view (with_lists s (weighed_on c.args.among c.args.p s.lists)) after) c.load_costs.ensures.steps.view_alone
+
+pub returns-clause-pairs : goal.returns-clause-pairs
+returns-clause-pairs g c =
+    let none = nothing g (goal.at.returns-clause-pairs g c).After-best_open in
+    λ k d below. SeesPair-later c.load_costs.new.pass.view c.best_open.new.pass.view none.goes_on _ (c.load_costs.ensures.pairs k d below)
+
+pub returns-clause-loaded : goal.returns-clause-loaded
+returns-clause-loaded g c =
+    let none = nothing g (goal.at.returns-clause-loaded g c).After-best_open in
+    let begun = c.load_costs.ensures.steps.sees_anew.goes_on.later.steps in
+    λ k d below.
+    IsLoadedSince-later c.load_costs.new.pass.view c.best_open.new.pass.view none.goes_on c.args.pass.now.view.steps _ begun
+    (c.load_costs.ensures.loaded k d below)
+
+pub returns-clause-least : goal.returns-clause-least
+returns-clause-least g c =
+    let after = c.best_open.new.pass.view in
+    let near = nodes_on-then c.args.among c.args.p c.args.pass.now c.load_costs.new.pass c.weigh.new.pass c.load_costs.ensures.steps.view_alone
+    c.weigh.ensures in
+    let best = λ (space : ConfigurationSpace) (ns : List ℕ).
+    IsFirstLeast (seen_cost_through after c.args.p) (IsOpenTo space (tree_seen after).points c.args.p (c.args.nearest ∷ ns)) c.best_open.result.0 in
+    subst (λ s. best s (nodes_on c.args.among c.args.pass.now.lists)) c.requires.hall
+    (subst (best (g.C.Clearing.space c.args.hall.now)) near c.best_open.ensures.least)
+
+pub returns-clause-below : goal.returns-clause-below
+returns-clause-below g c =
+    let near = nodes_on c.args.among c.args.pass.now.lists in
+    let mid = c.load_costs.new.pass.view in
+    let after = c.best_open.new.pass.view in
+    let none = nothing g (goal.at.returns-clause-below g c).After-best_open in
+    IsCostBelow-best c.args.shared.now c.args.pass.now.view after c.args.p (c.args.nearest ∷ near) c.best_open.result.0 c.best_open.result.1
+    c.best_open.ensures.steps.belongs.run
+    (GoesOn-trans c.args.pass.now.view mid after c.load_costs.ensures.steps.sees_anew.goes_on none.goes_on)
+    (All-cons (IsInReach c.args.pass.now.view c.args.p) c.args.nearest near c.requires.nearest c.requires.near)
+    (λ k d below. SeesPair-later mid after none.goes_on _ (c.load_costs.ensures.pairs k d below))
+    (returns-clause-least g c).member c.best_open.ensures.cost
+
+pub returns-clause-whole : goal.returns-clause-whole
+returns-clause-whole g c =
+    let none = nothing g (goal.at.returns-clause-whole g c).After-best_open in
+    let mid = c.load_costs.new.pass.view in
+    let after = c.best_open.new.pass.view in
+    λ all. SeesAsBefore-trans c.args.pass.now.view mid after (c.load_costs.ensures.whole all) (SeesAsBefore-none mid after none)

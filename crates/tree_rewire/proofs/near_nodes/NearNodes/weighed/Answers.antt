@@ -1,0 +1,46 @@
+use Rattle.std.proofs.Common.{◌≡◌, Some, ap, subst, sym, ◌∙◌}
+use Rattle.std.specs.Prelude.{slice_get}
+use Rattle.plan_model.specs.Geometry.Cost.{cost_of}
+use Rattle.plan_model.proofs.NewNodes.{point_of-stands}
+use Rattle.step_core.specs.Views.{tree_seen}
+use Rattle.tree_rewire.proofs.ChosenParents.{All-read}
+use Rattle.tree_rewire.proofs.CostSteps.{PassSees-point}
+use Rattle.tree_rewire.proofs.FoundLists.{All-at, number_read}
+use Rattle.tree_rewire.proofs.SeenCosts.{point_later}
+use Rattle.tree_rewire.specs.FoundNodes.{IsWeighed}
+use Rattle.tree_rewire.specs.NearNodes.{AreKnown, nodes_on}
+use Rattle.tree_rewire.specs.Spreads.{SeesKnot}
+use Rattle.tree_rewire.proofs.near_nodes.NearNodes.weighed.Goals as goal
+
+pub returns-in-Listed-clause-steps : goal.returns-in-Listed-clause-steps
+returns-in-Listed-clause-steps c =
+    let pass = c.args.pass.now in
+    let known = subst (λ m. AreKnown m pass.view c.args.p pass.lists) c.in-Listed.is c.requires.known in
+    PassSees-point c.args.shared.now pass c.point-from.new.pass c.near_node-node.result _ _ c.requires.belongs
+    (All-read (SeesKnot pass.view) pass.lists.near c.args.index c.near_node-node.result c.near_node-node.ensures known).stands
+    c.point-from.ensures.view c.point-from.ensures.goes_on c.point-from.ensures.seen
+
+pub returns-in-Listed-clause-edge : goal.returns-in-Listed-clause-edge
+returns-in-Listed-clause-edge c =
+    let pass = c.args.pass.now in
+    let known = subst (λ m. AreKnown m pass.view c.args.p pass.lists) c.in-Listed.is c.requires.known in
+    c.cost.ensures.value
+    ∙ ap (λ q. cost_of q c.args.p)
+    (point_later pass.view c.point-from.new.pass.view c.point-from.ensures.goes_on c.near_node-node.result c.point-from.result
+    (All-read (SeesKnot pass.view) pass.lists.near c.args.index c.near_node-node.result c.near_node-node.ensures known).stands
+    c.point-from.ensures.found)
+
+pub returns-in-Searched-clause-node : goal.returns-in-Searched-clause-node
+returns-in-Searched-clause-node c =
+    let lists = c.args.pass.now.lists in
+    let x = c.found-found.result in
+    subst (λ m. slice_get (nodes_on m lists) c.args.index ≡ Some x.node) (sym c.in-Searched.is)
+    (number_read lists.search.found c.args.index x c.found-found.ensures)
+
+pub returns-in-Searched-clause-edge : goal.returns-in-Searched-clause-edge
+returns-in-Searched-clause-edge c =
+    let pass = c.args.pass.now in
+    let x = c.found-found.result in
+    let known = subst (λ m. AreKnown m pass.view c.args.p pass.lists) c.in-Searched.is c.requires.known in
+    let own = All-at (IsWeighed pass.view c.args.p) pass.lists.search.found c.args.index x c.found-found.ensures known in
+    own.edge ∙ ap (λ q. cost_of q c.args.p) (sym (point_of-stands (tree_seen pass.view).points x.node x.point own.stands))

@@ -1,0 +1,75 @@
+use Rattle.std.proofs.Common.{◌∷◌, List, ℕ, ap, subst, sym, ◌∙◌}
+use Rattle.plan_model.specs.Trees.LeastPairs.{IsFirstLeast}
+use Rattle.plan_model.specs.Trees.OpenNodes.{IsOpenTo}
+use Rattle.plan_words.specs.States.{PassState}
+use Rattle.step_core.proofs.SeenViews.{IsPresent-later}
+use Rattle.step_core.specs.Views.{tree_seen}
+use Rattle.step_core.specs.Words.{parent_in, tree_word}
+use Rattle.tree_rewire.specs.NearNodes.{AreKnown, nodes_on}
+use Rattle.tree_rewire.specs.SeenCosts.{NamesNothing, seen_cost_through}
+use Rattle.tree_rewire.proofs.ChosenFound.{IsChosenWord, IsChosenWord-least}
+use Rattle.tree_rewire.proofs.ChosenParents.{IsFirstLeast-after, clear_after}
+use Rattle.tree_rewire.proofs.CostSteps.{PassSees-trans, seen_cost_through-same}
+use Rattle.tree_rewire.proofs.NearLists.{AllKnots-known, AreKnown-later}
+use Rattle.tree_rewire.proofs.SeenCosts.{SeesPair-later}
+use Rattle.tree_rewire.proofs.open_words.best_open.Given.{Over}
+use Rattle.tree_rewire.proofs.open_words.best_open.Goals as goal
+use Rattle.tree_rewire.proofs.open_words.best_open.Goals.{After-least_open-word}
+
+pub least_open-word-requires-clause-known : goal.least_open-word-requires-clause-known
+least_open-word-requires-clause-known g c κs within =
+    let steps = c.word_of-last.ensures.steps in
+    let then = c.word_of-last.new.pass in
+    let before = c.args.pass.now in
+    subst (λ (s : PassState). AreKnown c.args.among then.view c.args.p s.lists) (sym steps.view_alone)
+    (AreKnown-later c.args.among before.view then.view c.args.p before.lists steps.sees_anew.goes_on c.requires.known)
+
+pub returns-clause-steps : goal.returns-clause-steps
+returns-clause-steps g c =
+    PassSees-trans NamesNothing c.args.shared.now c.args.pass.now c.word_of-last.new.pass c.least_open-word.new.pass c.word_of-last.ensures.steps
+    c.least_open-word.ensures.steps
+
+-- what the word is of
+chosen : (g : Over) (c : After-least_open-word g)
+    → IsChosenWord (g.C.Clearing.space c.args.hall.now) c.word_of-last.new.pass.view c.args.p c.args.nearest
+    (nodes_on c.args.among c.word_of-last.new.pass.lists) c.least_open-word.result
+chosen g c =
+    let before = c.args.pass.now.view in
+    let then = c.word_of-last.new.pass in
+    let space = g.C.Clearing.space c.args.hall.now in
+    let steps = c.word_of-last.ensures.steps in
+    let goes_on = steps.sees_anew.goes_on in
+    let own = c.requires.nearest in
+    IsChosenWord-least space then.view c.args.p (nodes_on c.args.among then.lists) c.word_of-last.result c.least_open-word.result steps.belongs.lawful
+    (AllKnots-known c.args.among then.view c.args.p then.lists
+    (subst (λ (s : PassState). AreKnown c.args.among then.view c.args.p s.lists) (sym steps.view_alone)
+    (AreKnown-later c.args.among before then.view c.args.p c.args.pass.now.lists goes_on c.requires.known)))
+    c.args.nearest c.requires.bounded (SeesPair-later before then.view goes_on c.args.nearest own.written)
+    (IsPresent-later before then.view goes_on.later.run goes_on.later.seen c.args.nearest own.stands)
+    (c.word_of-last.ensures.word ∙ ap (tree_word c.args.nearest) (sym (seen_cost_through-same before then.view steps.sees_anew c.args.p c.args.nearest)))
+    (clear_after space before then.view steps.sees_anew c.args.p c.args.nearest c.requires.clear)
+    c.least_open-word.ensures.one_of c.least_open-word.ensures.most c.least_open-word.ensures.blocked
+
+pub returns-clause-least : goal.returns-clause-least
+returns-clause-least g c =
+    let then = c.word_of-last.new.pass in
+    let after = c.least_open-word.new.pass.view in
+    let space = g.C.Clearing.space c.args.hall.now in
+    let near = nodes_on c.args.among c.args.pass.now.lists in
+    let word = c.least_open-word.result in
+    let own = subst
+    (λ (ns : List ℕ). IsFirstLeast (seen_cost_through then.view c.args.p) (IsOpenTo space (tree_seen then.view).points c.args.p (c.args.nearest ∷ ns))
+    (parent_in word))
+    (ap (λ (s : PassState). nodes_on c.args.among s.lists) c.word_of-last.ensures.steps.view_alone)
+    (chosen g (goal.at.returns-clause-least g c).After-least_open-word).least in
+    subst (IsFirstLeast (seen_cost_through after c.args.p) (IsOpenTo space (tree_seen after).points c.args.p (c.args.nearest ∷ near)))
+    (sym c.pair_in.ensures.parent)
+    (IsFirstLeast-after space then.view after c.least_open-word.ensures.steps.sees_anew c.args.p (c.args.nearest ∷ near) (parent_in word) own)
+
+pub returns-clause-cost : goal.returns-clause-cost
+returns-clause-cost g c =
+    let then = c.word_of-last.new.pass.view in
+    let after = c.least_open-word.new.pass.view in
+    c.pair_in.ensures.cost ∙ (chosen g (goal.at.returns-clause-cost g c).After-least_open-word).cost
+    ∙ sym (seen_cost_through-same then after c.least_open-word.ensures.steps.sees_anew c.args.p (parent_in c.least_open-word.result))
+    ∙ ap (seen_cost_through after c.args.p) (sym c.pair_in.ensures.parent)

@@ -1,0 +1,146 @@
+use Rattle.std.proofs.Common.{◌+◌, ◌≡◌, ℕ, List, [], ap, arith, drop, is_some, refl, subst, suc, sym, take}
+use Rattle.std.specs.Prelude.{All, Contains}
+use Rattle.std.proofs.lemmas.List.{drop_all, take_all}
+use Rattle.std.proofs.lemmas.List.Elements.{All-contains_itself, All-nil}
+use Rattle.plan_model.specs.Spaces.ConfigurationSpace.{space_of}
+use Rattle.plan_model.specs.Runs.Textbook.{Rewires}
+use Rattle.plan_words.proofs.HandSteps.{some_hand}
+use Rattle.tree_rewire.proofs.NearLists.{nodes_on-kept}
+use Rattle.tree_rewire.specs.NearNodes.{nodes_on}
+use Rattle.tree_rewire.specs.Rewirings.{HasSpreadFalls}
+use Rattle.tree_rewire.specs.SeenCosts.{IsInReach, NamesTreeOrPoint, SeesPair, cost_seen}
+use Rattle.tree_rewire.proofs.ChosenParents.{All-more, IsInReach-later, drop_read, near_read, take_read}
+use Rattle.tree_rewire.proofs.CostSteps.{HasPostedHand-later, PassLowers-lists, PassLowers-trans}
+use Rattle.tree_rewire.proofs.RewiredNodes.{IsRewired, IsRewired-later, IsRewired-looked, all_rewired, placed_near, placed_pair, placed_stands}
+use Rattle.tree_rewire.proofs.RewiredTrees.{IsRewiring-more}
+use Rattle.tree_rewire.proofs.SeenCosts.{SeesPair-later, stands_later}
+use Rattle.tree_rewire.proofs.SpreadFalls.{HasSpreadFalls-more, HasSpreadFalls-none}
+use Rattle.tree_rewire.proofs.WholeShares.{HasWholeShare-later}
+use Rattle.tree_rewire.proofs.rewiring.rewire_each.Given.{Over}
+use Rattle.tree_rewire.proofs.rewiring.rewire_each.Goals as goal
+use Rattle.tree_rewire.proofs.rewiring.rewire_each.Goals.{After-node-node}
+
+-- the nodes on the list are those from before
+kept : (g : Over) (c : After-node-node g) → nodes_on c.args.among c.nodes.pass.lists ≡ nodes_on c.args.among c.args.pass.now.lists
+kept g c = nodes_on-kept c.args.among c.args.pass.now.lists c.nodes.pass.lists c.nodes.invariant.steps.near c.nodes.invariant.steps.search
+
+-- the near node is in reach
+reach : (g : Over) (c : After-node-node g) → IsInReach c.args.pass.now.view c.hand_point-from.result c.node-node.result
+reach g c =
+    let near = nodes_on c.args.among c.args.pass.now.lists in
+    let now = nodes_on c.args.among c.nodes.pass.lists in
+    let held = some_hand c.args.pass.now.view.hand c.requires.hand in
+    near_read (IsInReach c.args.pass.now.view c.hand_point-from.result) near now c.nodes.index c.node-node.result
+    (kept g c) c.node-node.ensures
+    (placed_near c.args.pass.now.view c.args.k c.hand_point-from.result held.0 held.1 c.requires.placed c.hand_point-from.ensures near
+    c.requires.near)
+
+pub nodes-init : goal.nodes-init
+nodes-init g c =
+    let pass = c.args.pass.now in
+    record {
+      steps = PassLowers-lists c.args.shared.now pass pass c.requires.belongs refl refl refl refl refl;
+      earlier = All-nil (IsRewired (g.C.Clearing.space c.args.hall.now) pass.view pass.view c.hand_point-from.result (cost_seen pass.view (c.args.k + 1)));
+      spread = HasSpreadFalls-none (g.C.Clearing.space c.args.hall.now) (Contains (nodes_on c.args.among pass.lists)) (c.args.k + 1) pass.view pass.view
+          (λ n pair. refl);
+      goals = λ all posted. posted;
+      whole = λ all tree mirrors. record { now = tree; mirrors = mirrors; leads = λ last r. r };
+    }
+
+pub rewire_node-requires-clause-parent : goal.rewire_node-requires-clause-parent
+rewire_node-requires-clause-parent g c κs within =
+    let held = some_hand c.args.pass.now.view.hand c.requires.hand in
+    stands_later c.args.pass.now.view c.nodes.pass.view c.nodes.invariant.steps.sees_anew.goes_on (c.args.k + 1) c.hand_point-from.result
+    (placed_stands c.args.pass.now.view c.args.k c.hand_point-from.result held.0 held.1 c.requires.placed c.hand_point-from.ensures)
+
+pub rewire_node-requires-clause-parent_pair : goal.rewire_node-requires-clause-parent_pair
+rewire_node-requires-clause-parent_pair g c κs within =
+    let held = some_hand c.args.pass.now.view.hand c.requires.hand in
+    SeesPair-later c.args.pass.now.view c.nodes.pass.view c.nodes.invariant.steps.sees_anew.goes_on (c.args.k + 1)
+    (placed_pair c.args.pass.now.view c.args.k c.hand_point-from.result held.0 held.1 c.requires.placed c.hand_point-from.ensures)
+
+pub rewire_node-requires-clause-posted : goal.rewire_node-requires-clause-posted
+rewire_node-requires-clause-posted g c κs within =
+    HasPostedHand-later NamesTreeOrPoint c.args.pass.now.view c.nodes.pass.view c.nodes.invariant.steps.sees_anew c.requires.posted
+
+pub rewire_node-requires-clause-reach : goal.rewire_node-requires-clause-reach
+rewire_node-requires-clause-reach g c κs within =
+    IsInReach-later c.args.pass.now.view c.nodes.pass.view c.hand_point-from.result c.node-node.result
+    c.nodes.invariant.steps.sees_anew.goes_on (reach g (goal.at.rewire_node-requires-clause-reach g c).After-node-node)
+
+pub nodes-preserved : goal.nodes-preserved
+nodes-preserved g c =
+    let near = nodes_on c.args.among c.args.pass.now.lists in
+    let now = nodes_on c.args.among c.nodes.pass.lists in
+    let h = c.nodes.invariant in
+    let space = g.C.Clearing.space c.args.hall.now in
+    let before = c.args.pass.now.view in
+    let new = c.rewire_node.new.pass in
+    let from = c.hand_point-from.result in
+    let n = c.node-node.result in
+    let done = c.rewire_node.ensures in
+    let held = some_hand before.hand c.requires.hand in
+    let same = kept g (goal.at.nodes-preserved g c).After-node-node in
+    record {
+      steps = PassLowers-trans c.args.shared.now c.args.pass.now c.nodes.pass new h.steps done.steps;
+      earlier = All-more (IsRewired space before new.view from (cost_seen before (c.args.k + 1))) (take c.nodes.index near) _ n
+          (take_read near now c.nodes.index n same c.node-node.ensures)
+          (λ k d below. IsRewired-later space before c.nodes.pass.view new.view from _ _ done.steps.sees_anew.goes_on (h.earlier k d below))
+          (IsRewired-looked space before c.nodes.pass.view new.view from (c.args.k + 1) n h.steps.sees_anew.goes_on
+          (reach g (goal.at.nodes-preserved g c).After-node-node).present
+          (placed_pair before c.args.k from held.0 held.1 c.requires.placed c.hand_point-from.ensures) done.pair done.rewired);
+      spread = HasSpreadFalls-more space (Contains near) (c.args.k + 1) n before c.nodes.pass.view new.view
+          h.steps.sees_anew.goes_on done.steps.sees_anew.goes_on
+          (near_read (Contains near) near now c.nodes.index n
+          same c.node-node.ensures
+          (All-contains_itself near))
+          (reach g (goal.at.nodes-preserved g c).After-node-node).present
+          (ap is_some (placed_stands before c.args.k from held.0 held.1 c.requires.placed c.hand_point-from.ensures))
+          (placed_pair before c.args.k from held.0 held.1 c.requires.placed c.hand_point-from.ensures) h.spread done.spread;
+      goals = λ all posted.
+          done.goals (HasWholeShare-later NamesTreeOrPoint before c.nodes.pass.view h.steps.sees_anew all) (h.goals all posted);
+      whole = λ all tree mirrors.
+          let was = h.whole all tree mirrors in
+          IsRewiring-more space tree (c.args.k + 1) n near (drop c.nodes.index near)
+          (drop (c.nodes.index + 1) near) c.nodes.pass.view new.view
+          (drop_read near now c.nodes.index n same c.node-node.ensures) was
+          (done.whole (HasWholeShare-later NamesTreeOrPoint before c.nodes.pass.view h.steps.sees_anew all) was.now was.mirrors);
+    }
+
+pub returns-clause-pairs : goal.returns-clause-pairs
+returns-clause-pairs g c =
+    let near = nodes_on c.args.among c.args.pass.now.lists in
+    let all = take_all c.nodes.index near (omega (arith, c.nodes-test.false, c.count-count.ensures)) in
+    subst (All (SeesPair c.nodes.pass.view)) all (λ k d below. (c.nodes.invariant.earlier k d below).pair)
+
+pub returns-clause-rewired : goal.returns-clause-rewired
+returns-clause-rewired g c =
+    let near = nodes_on c.args.among c.args.pass.now.lists in
+    let before = c.args.pass.now.view in
+    let from = c.hand_point-from.result in
+    let all = take_all c.nodes.index near (omega (arith, c.nodes-test.false, c.count-count.ensures)) in
+    let held = some_hand before.hand c.requires.hand in
+    let own = subst (λ s. All (IsRewired s before c.nodes.pass.view from (cost_seen before (c.args.k + 1))) (take c.nodes.index near))
+    c.requires.hall c.nodes.invariant.earlier in
+    all_rewired before c.args.k from held.0 held.1 c.requires.placed c.hand_point-from.ensures (space_of c.args.shared.now.task.scene)
+    c.nodes.pass.view near c.requires.belongs.lawful
+    (subst (All (IsRewired (space_of c.args.shared.now.task.scene) before c.nodes.pass.view from (cost_seen before (c.args.k + 1)))) all own)
+
+pub returns-clause-spread : goal.returns-clause-spread
+returns-clause-spread g c =
+    let near = nodes_on c.args.among c.args.pass.now.lists in
+    let next : c.args.k + 1 ≡ suc c.args.k = omega arith in
+    subst (λ s. HasSpreadFalls s (Contains near) (suc c.args.k) c.args.pass.now.view c.nodes.pass.view) c.requires.hall
+    (subst (λ n. HasSpreadFalls (g.C.Clearing.space c.args.hall.now) (Contains near) n c.args.pass.now.view c.nodes.pass.view) next
+    c.nodes.invariant.spread)
+
+pub returns-clause-whole : goal.returns-clause-whole
+returns-clause-whole g c =
+    let near = nodes_on c.args.among c.args.pass.now.lists in
+    let none : drop c.nodes.index near ≡ [] = drop_all c.nodes.index near (omega (arith, c.nodes-test.false, c.count-count.ensures)) in
+    let next : c.args.k + 1 ≡ suc c.args.k = omega arith in
+    λ all tree mirrors.
+    let was = c.nodes.invariant.whole all tree mirrors in
+    let rest = subst (λ (ns : List ℕ). Rewires (g.C.Clearing.space c.args.hall.now) was.now (c.args.k + 1) ns was.now) (sym none) refl in
+    let rewired = subst (λ s. Rewires s tree (c.args.k + 1) near was.now) c.requires.hall (was.leads was.now rest) in
+    (was.now, subst (λ n. Rewires (space_of c.args.shared.now.task.scene) tree n near was.now) next rewired, was.mirrors)

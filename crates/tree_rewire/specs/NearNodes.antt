@@ -1,0 +1,69 @@
+-- The nodes near a new one, on whichever list of a pass they are, by number.
+use Rattle.std.specs.Prelude.{◌≡◌, ◌⊎◌, ℕ, ◌<◌, ◌≤◌, All, Contains, List}
+use Rattle.plan_model.specs.Spaces.Clearance.{Clear}
+use Rattle.plan_model.specs.declared.configuration_spaces.ConfigurationSpace.{ConfigurationSpace}
+use Rattle.plan_model.specs.declared.geometry.Point.{Point}
+use Rattle.plan_model.specs.Trees.PointsByNumber.{point_of}
+use Rattle.plan_words.specs.SearchLists.{numbers_of, weighed}
+use Rattle.plan_words.specs.States.{Lists}
+use Rattle.step_core.specs.Views.{tree_seen}
+use Rattle.step_core.specs.Words.{tree_word}
+use Rattle.step_core.specs.declared.views.View.{View}
+use Rattle.tree_rewire.specs.FoundNodes.{IsWeighed, StandsAsFound}
+use Rattle.tree_rewire.specs.SeenCosts.{seen_cost_through}
+use Rattle.tree_rewire.specs.Spreads.{SeesKnot}
+use Rattle.tree_rewire.specs.declared.near_nodes.NearNodes.{NearNodes}
+use Rattle.tree_rewire.specs.declared.near_nodes.NearNodes.TheVariants.{Listed, Searched}
+
+-- the nodes on the list
+abbrev pub nodes_on : NearNodes → Lists → List ℕ
+nodes_on Listed lists = lists.near
+nodes_on Searched lists = numbers_of lists.search.found
+
+-- the nodes that a search found are seen where their records say
+abbrev pub StandOn : NearNodes → View → Lists → Type 0
+StandOn Listed view lists = Unit {0}
+StandOn Searched view lists = All (StandsAsFound view) lists.search.found
+
+-- the lists, when the records of a search have the costs of their edges to p
+abbrev pub weighed_on : NearNodes → Point → Lists → Lists
+weighed_on Listed p lists = lists
+weighed_on Searched p lists = record lists { search = record lists.search { found = weighed p lists.search.found } }
+
+-- Each is seen with its point, its parent and its cost, and a record of the search has the cost of its edge to p.
+abbrev pub AreKnown : NearNodes → View → Point → Lists → Type 0
+AreKnown Listed view p lists = All (SeesKnot view) lists.near
+AreKnown Searched view p lists = All (IsWeighed view p) lists.search.found
+
+-- the tree word of a new node's pair: node n as its parent, and the cost through that
+abbrev pub word_through : View → Point → ℕ → ℕ
+word_through view p n = tree_word n (seen_cost_through view p n)
+
+-- The least of these words above a lower one, or the last, if none of them is less than that.
+pub record IsNextWord (words : List ℕ) (low last next : ℕ) : Type 0 where
+  pub most : next ≤ last
+  pub above : low < next
+  pub one_of : (next ≡ last) ⊎ Contains words next
+  pub least : All (λ word. low < word → next ≤ word) words
+
+-- the word, if it lies between the two, else the next one
+abbrev pub IsNextOf : ℕ → ℕ → ℕ → ℕ → Type 0
+IsNextOf low word next result =
+    ((low < word) × (word < next) × (result ≡ word)) ⊎ ((low < word → next ≤ word) × (result ≡ next))
+
+-- ---- edges
+
+-- the edge of node n to p is clear
+abbrev pub IsClearTo : ConfigurationSpace → View → Point → ℕ → Type 0
+IsClearTo space view p n = Clear space (point_of (tree_seen view).points n) p
+
+-- the word is that of a near node with a clear edge
+pub record IsOpenWord (space : ConfigurationSpace) (view : View) (p : Point) (near : List ℕ) (word : ℕ) : Type 0 where
+  pub node : ℕ
+  pub on : Contains near node
+  pub is : word ≡ word_through view p node
+  pub clear : IsClearTo space view p node
+
+-- if the word of the node is less, its edge is not clear
+abbrev pub IsBlockedBelow : ConfigurationSpace → View → Point → ℕ → ℕ → Type 0
+IsBlockedBelow space view p word n = word_through view p n < word → ¬ IsClearTo space view p n

@@ -1,0 +1,107 @@
+//! The nodes near a new one, on whichever list of a pass they are.
+
+ghost use Rattle.std.specs.Prelude.{◌≡◌, ◌<◌, All, Some, length, slice_get};
+ghost use Rattle.plan_model.specs.Geometry.Bounds.{IsBounded};
+ghost use Rattle.plan_model.specs.Geometry.Cost.{cost_of};
+ghost use Rattle.plan_model.specs.Trees.PointsByNumber.{point_of};
+ghost use Rattle.plan_words.specs.SearchLists.{weighed};
+ghost use Rattle.plan_words.specs.States.{BelongsTo, with_lists};
+ghost use Rattle.step_core.specs.Views.{tree_seen};
+ghost use Rattle.tree_rewire.specs.FoundNodes.{with_found};
+ghost use Rattle.tree_rewire.specs.NearNodes.{AreKnown, StandOn, nodes_on, weighed_on};
+ghost use Rattle.tree_rewire.specs.SeenCosts.{NamesNothing, PassSees};
+
+use edge_cost::cost;
+use plan_model::Point;
+use plan_words::{Found, Pass, Shared};
+
+/// The list.
+#[derive(Clone, Copy)]
+pub(crate) enum NearNodes {
+    /// The near list.
+    Listed,
+    /// The nodes that the last search found, whose records have the costs of their edges once they are weighed.
+    Searched,
+}
+
+impl NearNodes {
+    /// How many there are.
+    #[inline]
+    pub(crate) fn count(self, pass: &Pass) -> usize
+        ensures { result ≡ length (nodes_on self pass.now.lists) }
+    {
+        match self {
+            NearNodes::Listed => pass.near_count(),
+            NearNodes::Searched => pass.found_count(),
+        }
+    }
+
+    /// The node at this index, which is below their count.
+    #[inline]
+    pub(crate) fn node(self, pass: &Pass, index: usize) -> u32
+        requires { index < length (nodes_on self pass.now.lists) }
+        ensures { slice_get (nodes_on self pass.now.lists) index ≡ Some result }
+    {
+        match self {
+            NearNodes::Listed => pass.near_node(index),
+            NearNodes::Searched => pass.found(index).node,
+        }
+    }
+
+    /// Works out the costs of the edges to a point of nodes that a search found, into their records.
+    #[inline]
+    pub(crate) fn weigh(self, pass: &mut Pass, p: Point)
+        requires bounded { IsBounded p }
+        requires stands { StandOn self pass.old.view pass.old.lists }
+        ensures { pass.new ≡ with_lists pass.old (weighed_on self p pass.old.lists) }
+    {
+        match self {
+            NearNodes::Listed => {}
+            NearNodes::Searched => set_edges(pass, p),
+        }
+    }
+
+    /// The node at this index with the cost of its edge to a point, which is in its record, or is worked out.
+    #[inline]
+    pub(crate) fn weighed(
+        self,
+        shared: &Shared,
+        pass: &mut Pass,
+        p: Point,
+        index: usize,
+    ) -> (u32, u32)
+        requires belongs { BelongsTo pass.old shared.now }
+        requires bounded { IsBounded p }
+        requires known { AreKnown self pass.old.view p pass.old.lists }
+        requires within { index < length (nodes_on self pass.old.lists) }
+        ensures steps { PassSees NamesNothing shared.now pass.old pass.new }
+        ensures node { slice_get (nodes_on self pass.old.lists) index ≡ Some result.0 }
+        ensures edge { result.1 ≡ cost_of (point_of (tree_seen pass.old.view).points result.0) p }
+    {
+        match self {
+            NearNodes::Listed => {
+                let node = pass.near_node(index);
+                let from = shared.point(pass, node);
+                (node, cost(from, p) as u32)
+            }
+            NearNodes::Searched => {
+                let found = pass.found(index);
+                (found.node, found.edge)
+            }
+        }
+    }
+}
+
+/// Puts the costs of the edges of the nodes found to a point into their records.
+fn set_edges(pass: &mut Pass, p: Point)
+    requires bounded { IsBounded p }
+    requires found { All (λ (f : Found). IsBounded f.point) pass.old.lists.search.found }
+    ensures { pass.new ≡ with_found pass.old pass.old.view (weighed p pass.old.lists.search.found) }
+{
+    let count = pass.found_count();
+    'edges: for index in 0..count {
+        let found = pass.found(index);
+        let edge = cost(found.point, p) as u32;
+        pass.set_edge(index, edge);
+    }
+}
