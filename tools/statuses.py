@@ -1,19 +1,24 @@
 #!/usr/bin/env python3
 """Runs a built program over inputs that end with each of its statuses, and compares the status and what is written.
 
-Usage: statuses.py PROGRAM. The inputs are scenes of a few lines, words that ask for no command, a word that is no text, a text that is
-too long, a folder to read from, a full device to write to, and too little memory for the text. `main` has no contract, and the gate
-runs the program once, on a scene that ends with 0; here it is seen that the process ends with what its body answers.
+Usage: statuses.py PROGRAM. The inputs are scenes of a few lines, words that ask for no command, a word that is no text,
+a text that is too long, a folder to read from, a full device to write to, and too little memory for the text. `main`
+has no contract, and the gate runs the program once, on a scene that ends with 0; here it is seen that the process ends
+with what its body answers. Each input is tried again with the launcher `prrt` of this checkout, which is to end with
+the same; `launcher.py` tries it on more words.
 
-It prints a line for each run, and ends with 1 if one was wrong. It needs Linux, for the full device and the limit of memory.
+It prints a line for each input, and ends with 1 if a run was wrong. It needs Linux, for the full device and the limit
+of memory.
 """
 
 import os
 import resource
 import subprocess
 import sys
+import tempfile
 from dataclasses import dataclass
 
+from launcher_tree import Tree
 from scene import MOST_TEXT_BYTES
 from usage import words_or_usage
 
@@ -35,6 +40,7 @@ REPORTED = (
 # More than the program takes to begin, and less than it and a text of so many bytes take.
 FEW_BYTES = 16 << 20
 SECONDS = 60
+LAUNCHER = "the launcher"
 
 
 @dataclass
@@ -101,7 +107,7 @@ CASES = [
 ]
 
 
-def ending(program, case):
+def ending(command, case):
     """The status of a run on the case, and what it has written."""
 
     def limit():
@@ -112,20 +118,34 @@ def ending(program, case):
     given = {"input": case.text} if folder is None else {"stdin": folder}
     device = os.open("/dev/full", os.O_WRONLY) if case.full_device else None
     taken = subprocess.PIPE if device is None else device
-    done = subprocess.run([program, *case.words], stdout=taken, preexec_fn=limit, timeout=SECONDS, check=False, **given)
+    given |= {"stdout": taken, "stderr": subprocess.DEVNULL, "preexec_fn": limit, "timeout": SECONDS}
+    done = subprocess.run([*command, *case.words], check=False, **given)
     for opened in (folder, device):
         if opened is not None:
             os.close(opened)
     return done.returncode, done.stdout or b""
 
 
+def faults(commands, case):
+    """What is wrong with the runs of the case by each of the commands. A shell may need more memory than the program."""
+    for name, command in commands.items():
+        if case.few_bytes and name == LAUNCHER:
+            continue
+        status, written = ending(command, case)
+        if (status, written) != (case.status, case.written):
+            yield f"{name} ended with {status}, wrote {written[:80]!r} in place of {case.written!r}"
+
+
 def main(program):
     wrong = 0
-    for case in CASES:
-        status, written = ending(program, case)
-        right = (status, written) == (case.status, case.written)
-        wrong += not right
-        print(f"{status:3}  {case.name}" + ("" if right else f": wrong, wrote {written[:80]!r} in place of {case.status} with {case.written!r}"))
+    with tempfile.TemporaryDirectory() as folder:
+        tree = Tree(folder, program)
+        tree.place_program()
+        commands = {"the program": [program], LAUNCHER: tree.command()}
+        for case in CASES:
+            found = list(faults(commands, case))
+            wrong += bool(found)
+            print(f"{case.status:3}  {case.name}" + "".join(f"; wrong: {fault}" for fault in found))
     print(f"{wrong} of {len(CASES)} wrong")
     return 1 if wrong else 0
 
