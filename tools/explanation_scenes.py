@@ -250,9 +250,9 @@ SAMPLES = [
     ),
     planned("marks 0", field(b"marks 0"), "`marks` is 0 (line 9)", "the tree stays the start alone"),
     planned(
-        "no gamma", field().replace(b"gamma 70\n", b""), "Gamma is 0 (there is no line `gamma`)", "RRT", "`gamma 70`"
+        "no gamma", field().replace(b"gamma 70\n", b""), "Gamma is 0 (there is no line `gamma`)", "RRT", "`gamma 80`"
     ),
-    planned("gamma 0", field(b"gamma 0", b"room 100 300"), "Gamma is 0 (line 8)", "RRT", "longer side: `gamma 210`"),
+    planned("gamma 0", field(b"gamma 0", b"room 100 300"), "Gamma is 0 (line 8)", "RRT", "area: `gamma 138`"),
     planned(
         "marks that do not reach",
         field(b"marks 3"),

@@ -4,6 +4,7 @@ What is said is so exactly. Whether there is a path is not decided here.
 """
 
 from dataclasses import dataclass, field
+from math import isqrt
 
 from boxes import Box
 from gaps import narrow_gaps
@@ -210,8 +211,8 @@ def sample_faults(site):
     if scene.gamma == 0:
         said.append(
             f"Gamma is 0 ({site.line_of(b'gamma')}), so nothing is rewired: the planner is RRT, fast, but a path stays"
-            " as it was found. To begin with, try seven tenths of the room's longer side:"
-            f" `gamma {max(1, max(scene.room) * 7 // 10)}`."
+            " as it was found. To begin with, try 0.8 times the square root of the room's area:"
+            f" `gamma {max(1, isqrt(scene.room[0] * scene.room[1] * 16 // 25))}`."
         )
     if scene.strips > 1:
         said.append(
