@@ -111,7 +111,7 @@ def numbers_of(scene):
 def answer_for_batch(text):
     """What is said of several scenes: of each part by itself."""
     parts = parts_of(text)
-    fault = fault_of(parts)
+    fault = fault_of(text)
     ends = [f"line {first}, `next`" for first, _ in parts[1:]] + ["the end of the text"]
     own = [Part(lines_of(part), first, end, True) for (first, part), end in zip(parts, ends)]
     answers = [answer_for_part(part) for part in own[:MOST_SCENES]]

@@ -26,7 +26,7 @@ from collections import Counter
 from dataclasses import replace
 from itertools import combinations, product
 
-from batch import fault_of, parts_of
+from batch import fault_of
 from boxes import Box
 from brute_moves import AWAY, WAYS, fewest_steps, has_clear_point, is_narrow_at, lattice_points
 from brute_moves import meet, meet_in_room, moved, wall_ends
@@ -80,7 +80,7 @@ def first_fault(case):
     if len(case.text) > MOST_TEXT_BYTES:
         return "text too long"
     if case.words.startswith("batch"):
-        return str(fault_of(parts_of(case.text)) or "")
+        return str(fault_of(case.text) or "")
     scene = case.text.split(b"\nreport\n")[0] + b"\n" if case.words == "check" else case.text
     return refusal_of(scene)
 
@@ -147,10 +147,10 @@ def run(words, text):
 
 
 def check_rows(checks):
-    """Looks whether each row of the tables of refusals has a case, but for the one that says there is none."""
+    """Looks whether each row of the tables of refusals has a case, but for the one that never comes."""
     with open(FORMAT, encoding="utf-8") as file:
         refusals = file.read().split("\n## Refusals\n")[1].split("\n## ")[0]
-    lines = [line for line in refusals.split("\n") if line.startswith("| ") and "there is none" not in line]
+    lines = [line for line in refusals.split("\n") if line.startswith("| ") and "never comes" not in line]
     rows = {line.strip("| ").split(" | ")[0] for line in lines} - {"check", "the line"}
     cases = {case.row for case in REFUSALS} - {""}
     for row in rows | cases:
