@@ -1,5 +1,5 @@
 -- The items of a session fall, from poll to poll, and stay paths of its run.
-use Rattle.std.proofs.Common.{◌≡◌, ◌<◌, ◌≤◌, ◌*◌, ℕ, List, [], ◌∷◌, Option, Some, None, Ok, Err, IfSome, IsSomeAnd, MatchOption}
+use Rattle.std.proofs.Common.{◌≡◌, ◌<◌, ◌≤◌, ℕ, List, [], ◌∷◌, Option, Some, None, Ok, Err, IfSome, IsSomeAnd}
 use Rattle.std.proofs.Common.{◌⊎◌, inl, inr, refl, sym, ap, subst, ◌∙◌, arith, length, min, ◌+◌}
 use Rattle.std.specs.Prelude.{All, option_map}
 use Rattle.std.proofs.lemmas.Bool.{cases_lt}
@@ -10,15 +10,12 @@ use Rattle.futures.specs.declared.task.Poll.{Poll}
 use Rattle.std.specs.Prelude.{Result}
 use Rattle.plan_model.proofs.GoalNodes.{IsGoalNode-grows}
 use Rattle.plan_model.proofs.TreeStateLaws.{GrowsInto-refl, GrowsInto-trans}
-use Rattle.plan_model.specs.Runs.ClosedLaw.{IsClosed}
-use Rattle.plan_model.specs.Runs.Textbook.{setup_of}
 use Rattle.plan_model.specs.Trees.BestNode.{IsGoalNode, goals_of}
-use Rattle.plan_model.specs.Trees.TreeStates.{GrowsInto, IsSettled, sum_in}
+use Rattle.plan_model.specs.Trees.TreeStates.{GrowsInto, sum_in}
 use Rattle.plan_model.specs.declared.errors.Memory.{Memory}
 use Rattle.plan_model.specs.declared.records.Record.{Record}
 use Rattle.plan_model.specs.declared.scenes.Scene.{Scene}
 use Rattle.plan_model.specs.declared.tasks.Task.{Task}
-use Rattle.plan_work.specs.OneWorker.{IsOfTextbook}
 use Rattle.step_core.specs.GrownRuns.{state_of_grown}
 use Rattle.step_core.specs.declared.grown.Grown.{Grown}
 use Rattle.any_time.proofs.BestNodes.{AreNumberedTo-grown, IsGoalNode-best, IsPresent-best}
@@ -26,8 +23,8 @@ use Rattle.any_time.proofs.FirstPaths.{AreSlices-next, below_next, none_below, s
 use Rattle.any_time.proofs.FoundPaths.{LeadsIntoGoal-grows, LeadsIntoGoal-shown}
 use Rattle.any_time.proofs.SunkSums.{Sinks, Sinks-grows}
 use Rattle.any_time.specs.BestPaths.{Shows, best_sum}
-use Rattle.any_time.specs.Items.{Answers, EndsWith, Fall, IfFirst, IsFound, IsRunOf, ItemsFall, betters_among, last_among, last_of}
-use Rattle.any_time.specs.Paths.{IsFirstPath, LeadsIntoGoal}
+use Rattle.any_time.specs.Items.{Answers, AreSlices, Fall, HaveGoalNode, IfFirst, IsFirstPath, IsFound, IsRunOf, betters_among, last_among, last_of}
+use Rattle.any_time.specs.Paths.{LeadsIntoGoal}
 use Rattle.any_time.specs.Sessions.{Handles, IsBetter, Moves, Polls, SessionState}
 use Rattle.any_time.specs.declared.betters.Better.{Better}
 use Rattle.any_time.specs.declared.betters.Last.{Last}
@@ -35,20 +32,20 @@ use Rattle.any_time.specs.declared.betters.Last.{Last}
 -- ---- the run and the last item
 
 -- the last item's cost is the best sum of the run, which has handled at least its marks
-record IsKept (run : Grown) (last : Last) : Type 0 where
+pub record IsKept (run : Grown) (last : Last) : Type 0 where
   pub cost : best_sum run ≡ Some last.cost
   pub marks : last.marks ≤ run.limit
 
 -- before the first item the run has no path, or has handled nothing
-abbrev IsYet : Grown → Type 0
+abbrev pub IsYet : Grown → Type 0
 IsYet run = (best_sum run ≡ None) ⊎ (run.limit ≡ 0)
 
-abbrev Tied : Task → ℕ → ℕ → Option Grown → Option Last → Type 0
+abbrev pub Tied : Task → ℕ → ℕ → Option Grown → Option Last → Type 0
 Tied task workers slice None last = Unit {0}
 Tied task workers slice (Some run) None = IsRunOf task workers slice run × IsYet run
 Tied task workers slice (Some run) (Some last) = IsRunOf task workers slice run × IsKept run last
 
-run_of : (task : Task) (workers slice : ℕ) (run : Grown) (last : Option Last) → Tied task workers slice (Some run) last → IsRunOf task workers slice run
+pub run_of : (task : Task) (workers slice : ℕ) (run : Grown) (last : Option Last) → Tied task workers slice (Some run) last → IsRunOf task workers slice run
 run_of task workers slice run None h = h.0
 run_of task workers slice run (Some last) h = h.0
 
@@ -87,7 +84,7 @@ same_best (Some x) (Some y) last e s n =
     let c : x ≡ last.cost = cc in
     let d : y ≡ last.cost = omega arith in ap Some d
 
-no_best : (best : Option ℕ) → ¬ IsBetter best None → best ≡ None
+pub no_best : (best : Option ℕ) → ¬ IsBetter best None → best ≡ None
 no_best None h = refl
 no_best (Some cost) h = absurd (h tt)
 
@@ -205,8 +202,8 @@ both (Some last) better limit e c m = (c, omega (arith, e, m))
 earlier : (task : Task) (workers slice : ℕ) (before after last : Grown) (item : Better) → Tied task workers slice (Some before) None
     → (IsBetter (best_sum before) None → after ≡ before) → (¬ IsBetter (best_sum before) None → Handles workers slice before after)
     → Shows after item → Reaches (Some after) (Some last)
-    → (k n : ℕ) → k * slice < item.marks → n ≤ k * slice → ¬ IsGoalNode (goals_of last.task.scene) (state_of_grown last).points n
-earlier task workers slice before after last item tied now later shown reaches k n less low =
+    → (marks : ℕ) → AreSlices slice (length last.task.marks) marks → marks < item.marks → ¬ HaveGoalNode last marks
+earlier task workers slice before after last item tied now later shown reaches marks whole less =
     elim (first_better (best_sum before) None) [
       | inl better ↦ elim tied.1 [
         | inl none ↦ absurd (some_best _ better none)
@@ -214,22 +211,23 @@ earlier task workers slice before after last item tied now later shown reaches k
       ]
       | inr worse ↦
           let handles = later worse in
-          let all = ap (λ (t : Task). length t.marks) tied.0.of_task in
-          let is = subst (λ m. after.limit ≡ min (before.limit + slice) m) all handles.limit in
-          let near = below_next slice (length task.marks) before.limit after.limit tied.0.slices handles.some is k (omega (arith, less, shown.marks)) in
+          let same : last.task ≡ before.task = reaches.0 ∙ handles.task in
+          let at = subst (λ m. AreSlices slice m before.limit) (sym (ap (λ (t : Task). length t.marks) tied.0.of_task)) tied.0.slices in
+          let near = below_next slice (length before.task.marks) before.limit after.limit at handles.some handles.limit marks
+          (subst (λ m. AreSlices slice m marks) (ap (λ (t : Task). length t.marks) same) whole) (omega (arith, less, shown.marks)) in
           let grows = GrowsInto-trans (state_of_grown before) (state_of_grown after) (state_of_grown last) handles.grows reaches.1 in
-          none_below before last grows (reaches.0 ∙ handles.task) (no_best _ worse) n (omega (arith, near, low))
+          none_below before last grows same (no_best _ worse) marks near
     ]
 
 -- What an item is to the last run: it is found, is a path of that run, and if it is the first it came with the first goal node.
-record IsGiven (task : Task) (workers slice : ℕ) (last : Option Last) (end : Option Grown) (item : Better) : Type 0 where
+pub record IsGiven (task : Task) (workers slice : ℕ) (last : Option Last) (end : Option Grown) (item : Better) : Type 0 where
   pub falls : IfSome last (λ l. (item.cost < l.cost) × (l.marks < item.marks))
   pub found : IsFound task workers slice end item
   pub leads : IfSome end (λ run. LeadsIntoGoal run item)
   pub first : last ≡ None → IfSome end (λ run. IsFirstPath slice run item)
 
 found_goal : (after last : Grown) (item : Better) → Shows after item → Reaches (Some after) (Some last)
-    → (n : ℕ) × (n ≤ item.marks) × IsGoalNode (goals_of last.task.scene) (state_of_grown last).points n
+    → HaveGoalNode last item.marks
 found_goal after last item shown reaches =
     let goal = IsGoalNode-best after shown.node shown.best in
     let low = AreNumberedTo-grown after shown.node (IsPresent-best after shown.node shown.best) in
@@ -256,7 +254,7 @@ leads_in : (after : Grown) (item : Better) (end : Option Grown) → Shows after 
 leads_in after item None shown h = tt
 leads_in after item (Some end) shown h = LeadsIntoGoal-grows after end item h.0 h.1 (LeadsIntoGoal-shown after item shown)
 
-gave : (task : Task) (workers slice : ℕ) (s : SessionState) (item : Better) (before after end : Option Grown) (last : Option Last)
+pub gave : (task : Task) (workers slice : ℕ) (s : SessionState) (item : Better) (before after end : Option Grown) (last : Option Last)
     → s.workers ≡ workers → s.slice ≡ slice → last ≡ Some (last_of item) → Tied task workers slice before s.last
     → IsSomeAnd before (λ b. IsSomeAnd after (λ a. Moves s b a × IsBetter (best_sum a) s.last × Shows a item)) → Reaches after end
     → IsGiven task workers slice s.last end item × Tied task workers slice after last
@@ -277,7 +275,7 @@ gave task workers slice s item (Some b) (Some a) end last ew es e tied p reaches
       subst (λ (l : Option Last). Tied task workers slice (Some a) l) (sym e) (m.0, kept),
     )
 
-pending : (task : Task) (workers slice : ℕ) (s : SessionState) (before after : Option Grown) (last : Option Last)
+pub pending : (task : Task) (workers slice : ℕ) (s : SessionState) (before after : Option Grown) (last : Option Last)
     → s.workers ≡ workers → s.slice ≡ slice → last ≡ s.last → Tied task workers slice before s.last
     → IsSomeAnd before (λ b. IsSomeAnd after (λ a. ¬ IsBetter (best_sum b) s.last × Handles s.workers s.slice b a × ¬ IsBetter (best_sum a) s.last))
     → Tied task workers slice after last
@@ -290,7 +288,7 @@ pending task workers slice s (Some b) (Some a) last ew es e tied p =
 -- ---- all items
 
 -- From poll to poll, after an item or before the first. The items so far are none, or `first` is not asked of those that come.
-record GoesOn (task : Task) (workers slice : ℕ) (last : Option Last) (items : List Better) (end : SessionState) : Type 0 where
+pub record GoesOn (task : Task) (workers slice : ℕ) (last : Option Last) (items : List Better) (end : SessionState) : Type 0 where
   pub falls : Fall last items
   pub found : All (IsFound task workers slice end.run) items
   pub lead : IfSome end.run (λ run. All (LeadsIntoGoal run) items)
@@ -311,11 +309,11 @@ one_more : (run : Option Grown) (item : Better) (items : List Better) → IfSome
 one_more None item items h k = tt
 one_more (Some run) item items h k = All-cons (LeadsIntoGoal run) item items h k
 
-GoesOn-last : (task : Task) (workers slice : ℕ) (last other : Option Last) (items : List Better) (end : SessionState) → last ≡ other
+pub GoesOn-last : (task : Task) (workers slice : ℕ) (last other : Option Last) (items : List Better) (end : SessionState) → last ≡ other
     → GoesOn task workers slice last items end → GoesOn task workers slice other items end
 GoesOn-last task workers slice last other items end e h = subst (λ (l : Option Last). GoesOn task workers slice l items end) e h
 
-goes : (task : Task) (workers slice : ℕ) (s t : SessionState) (answers : Answers) → s.workers ≡ workers → s.slice ≡ slice
+pub goes : (task : Task) (workers slice : ℕ) (s t : SessionState) (answers : Answers) → s.workers ≡ workers → s.slice ≡ slice
     → Tied task workers slice s.run s.last → FoldsTo Polls s answers t → GoesOn task workers slice s.last (betters_among answers) t
 goes task workers slice s t [] ew es tied h = record {
   falls = tt;
@@ -351,56 +349,3 @@ goes task workers slice s t (Ready (Some (Err e)) ∷ answers) ew es tied h =
     let next = subst (λ (r : Option Grown). Tied task workers slice r h.0.last) (sym h.1.2) tt in
     GoesOn-last task workers slice h.0.last s.last (betters_among answers) t h.1.1
     (goes task workers slice h.0 t answers (h.1.0.workers ∙ ew) (h.1.0.slice ∙ es) next h.2)
-
--- ---- the end
-
-ends : (task : Task) (workers slice : ℕ) (run : Grown) (last : Option Last) → IsRunOf task workers slice run
-    → run.limit ≡ length run.task.marks → best_sum run ≡ option_map (λ (l : Last). l.cost) last → EndsWith task workers last run
-ends task workers slice run last h whole best =
-    let all = whole ∙ ap (λ (t : Task). length t.marks) h.of_task in
-    let closed = subst (λ n. IsClosed (setup_of run.task.scene) run.task.marks n (state_of_grown run)) all run.hold_run.closed in
-    record {
-      of_task = h.of_task;
-      all_marks = all;
-      closed = subst (λ (t : Task). IsClosed (setup_of t.scene) t.marks (length task.marks) (state_of_grown run)) h.of_task closed;
-      settled = h.settled;
-      by_workers = h.by_workers;
-      textbook = h.textbook;
-      best = best;
-    }
-
-ended : (task : Task) (workers slice : ℕ) (run : Option Grown) (last : Option Last) → Tied task workers slice run last
-    → MatchOption run (Unit {0}) (λ r. (r.limit ≡ length r.task.marks) × ¬ IsBetter (best_sum r) last)
-    → IfSome run (EndsWith task workers last)
-ended task workers slice None last tied over = tt
-ended task workers slice (Some run) None tied over = ends task workers slice run None tied.0 over.0 (no_best _ over.1)
-ended task workers slice (Some run) (Some last) tied over = ends task workers slice run (Some last) tied.0 over.0 tied.1.cost
-
-no_record : (run : Grown) (k : ℕ) (entry : Record) → (state_of_grown run).record_of k ≡ Some entry → run.limit ≡ 0 → ⊥
-no_record run k entry is zero = let none = run.hold_run.closed.records.none_else k (omega (arith, zero)) in cc
-
-fresh : (task : Task) (workers slice : ℕ) (run : Option Grown) (last : Option Last) → last ≡ None
-    → IsSomeAnd run (λ r. (r.task ≡ task) × (r.limit ≡ 0) × IsSettled (state_of_grown r) × IsOfTextbook r)
-    → Tied task workers slice run last
-fresh task workers slice None last e h = tt
-fresh task workers slice (Some run) last e h =
-    subst (λ (l : Option Last). Tied task workers slice (Some run) l) (sym e)
-    (let none : 0 * slice ≡ 0 = omega arith in (
-      record {
-        of_task = h.0;
-        settled = h.2;
-        slices = inl (0, h.1 ∙ sym none);
-        by_workers = λ k entry is. absurd (no_record run k entry is h.1);
-        textbook = λ one. h.3;
-      },
-      inr h.1,
-    ))
-
-pub items_fall_on : ItemsFall
-items_fall_on task workers slice s t answers new polled =
-    let tied = fresh task workers slice s.run s.last new.nothing new.run in
-    let all = GoesOn-last task workers slice s.last None (betters_among answers) t new.nothing
-    (goes task workers slice s t answers new.workers_are new.slice_is tied polled) in (
-      record { falls = all.falls; found = all.found; lead = all.lead; first = all.first refl },
-      λ over. subst (λ (l : Option Last). IfSome t.run (EndsWith task workers l)) all.last_is (ended task workers slice t.run t.last all.tied over),
-    )

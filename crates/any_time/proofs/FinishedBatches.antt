@@ -10,7 +10,7 @@ use Rattle.any_time.specs.Batches.{AllOver, BatchState, IsBatchOver}
 use Rattle.any_time.specs.Gathering.{Gathers}
 use Rattle.any_time.specs.Sessions.{IsFresh, SessionState}
 use Rattle.any_time.specs.declared.betters.Better.{Better}
-use Rattle.any_time.proofs.GatheredItems.{AreBetterPaths-gathered, EndsWith-gathered, HasGiven-gathered}
+use Rattle.any_time.proofs.GatheredItems.{AreBetterPaths-gathered, EndsWith-gathered}
 use Rattle.any_time.proofs.ItemsOfSessions.{items_of_sessions}
 
 -- the runs by number
@@ -50,7 +50,6 @@ module _ (b c : BatchState) (xs ys : List (List Better)) (runs : List Grown) (h 
       let gathers = of_session empty wide fine i s within in
       let there = run_at c.sessions runs i s run same (omega (arith, within, count_of)) in
       record {
-        given = HasGiven-gathered task workers slice _ _ [] _ _ refl fresh gathers there;
         ended = EndsWith-gathered task workers slice _ _ [] _ _ refl fresh gathers there;
         better = AreBetterPaths-gathered task workers slice _ _ [] _ _ refl fresh gathers there;
       }

@@ -6,7 +6,7 @@ use Rattle.std.proofs.lemmas.Bool.{cases_lt}
 use Rattle.plan_model.proofs.BestNodeLaws.{IsPresent-goal}
 use Rattle.plan_model.proofs.PlacedNodes.{present-of_record, record-of_present}
 use Rattle.plan_model.proofs.TreeStateLaws.{point_at-grows}
-use Rattle.plan_model.specs.Trees.BestNode.{IsGoalNode, goals_of, is_goal_point}
+use Rattle.plan_model.specs.Trees.BestNode.{goals_of, is_goal_point}
 use Rattle.plan_model.specs.Trees.PointsByNumber.{IsPresent, point_at}
 use Rattle.plan_model.specs.Trees.TreeStates.{GrowsInto}
 use Rattle.plan_model.specs.declared.records.Record.{Record}
@@ -17,7 +17,7 @@ use Rattle.step_core.specs.GrownRuns.{state_of_grown, words_of_grown}
 use Rattle.step_core.specs.declared.grown.Grown.{Grown}
 use Rattle.any_time.proofs.BestNodes.{none-best}
 use Rattle.any_time.specs.BestPaths.{best_sum}
-use Rattle.any_time.specs.Items.{AreSlices}
+use Rattle.any_time.specs.Items.{AreSlices, HaveGoalNode}
 
 pub some_entry : (o : Option Record) → IsSome o → (entry : Record) × (o ≡ Some entry)
 some_entry None h = cc
@@ -35,10 +35,9 @@ module _ (run later : Grown) (grows : GrowsInto (state_of_grown run) (state_of_g
       present-of_record (state_of_grown run) run.hold_run.closed.placed k old.0 old.1 (ap (λ (e : Record). e.outcome) same ∙ placed.2)
 
   -- so without a best sum none of them lies in a goal
-  pub none_below : later.task ≡ run.task → best_sum run ≡ None → (n : ℕ) → n ≤ run.limit
-      → ¬ IsGoalNode (goals_of later.task.scene) (state_of_grown later).points n
-  none_below task none n low goal =
-      let here = IsPresent-before n low (IsPresent-goal (goals_of later.task.scene) (point_at (state_of_grown later).points n) goal) in
+  pub none_below : later.task ≡ run.task → best_sum run ≡ None → (marks : ℕ) → marks ≤ run.limit → ¬ HaveGoalNode later marks
+  none_below task none marks few (n, low, goal) =
+      let here = IsPresent-before n (omega (arith, low, few)) (IsPresent-goal (goals_of later.task.scene) (point_at (state_of_grown later).points n) goal) in
       let own = subst (λ (s : Scene). IsTrue (is_goal_point (goals_of s) (point_at (state_of_grown later).points n)))
       (ap (λ (t : Task). t.scene) task) goal in
       none-best run none n (subst (λ o. IsTrue (is_goal_point (goals_of run.task.scene) o))
@@ -60,25 +59,31 @@ slices_below slice k j next low less =
       | inr within ↦ mul-le-mul_right slice within
     ]
 
+-- such a number below the next limit is not above this one
 pub below_next : (slice all limit next : ℕ) → AreSlices slice all limit → limit < next → next ≡ min (limit + slice) all
-    → (k : ℕ) → k * slice < next → k * slice ≤ limit
-below_next slice all limit next (inl whole) more is k less =
+    → (marks : ℕ) → AreSlices slice all marks → marks < next → marks ≤ limit
+below_next slice all limit next at more is marks whole less =
+    let within = next_within limit slice all next is in
     let low = next_low limit slice all next is in
-    let at = whole.1 in
-    subst (λ m. k * slice ≤ m) (sym at) (slices_below slice k whole.0 next (subst (λ m. next ≤ m + slice) at low) less)
-below_next slice all limit next (inr every) more is k less =
-    let within = next_within limit slice all next is in absurd (omega (arith, every, more, within))
+    elim at.1 [
+      | inl (j, here) ↦ elim whole.1 [
+        | inl (k, there) ↦
+            let near = slices_below slice k j next (omega (arith, low, here)) (omega (arith, less, there)) in omega (arith, near, here, there)
+        | inr every ↦ absurd (omega (arith, every, less, within))
+      ]
+      | inr every ↦ absurd (omega (arith, every, more, within))
+    ]
 
 -- after the next marks the run has handled a number of whole slices, or all
 pub AreSlices-next : (slice all limit next : ℕ) → AreSlices slice all limit → limit < next → next ≡ min (limit + slice) all → AreSlices slice all next
-AreSlices-next slice all limit next (inl whole) more is =
-    elim (cases_lt all (limit + slice)) [
-      | inl past ↦ (let e : min (limit + slice) all ≡ all = omega (arith, past) in inr (is ∙ e))
-      | inr within ↦ (
-          let e : min (limit + slice) all ≡ limit + slice = omega (arith, within) in
-          let w = whole.1 in
-          let one : suc whole.0 * slice ≡ whole.0 * slice + slice = omega arith in
-          inl (suc whole.0, is ∙ e ∙ ap (λ m. m + slice) w ∙ sym one))
-    ]
-AreSlices-next slice all limit next (inr every) more is =
-    let within = next_within limit slice all next is in absurd (omega (arith, every, more, within))
+AreSlices-next slice all limit next at more is =
+    let within = next_within limit slice all next is in (
+      within,
+      elim at.1 [
+        | inl (k, here) ↦ elim (cases_lt all (limit + slice)) [
+          | inl past ↦ inr (omega (arith, is, past))
+          | inr short ↦ let one : suc k * slice ≡ k * slice + slice = omega arith in inl (suc k, omega (arith, is, short, here, one))
+        ]
+        | inr every ↦ absurd (omega (arith, every, more, within))
+      ],
+    )

@@ -1,19 +1,18 @@
 -- One poll more before a session's items, and what all of them are.
-use Rattle.std.proofs.Common.{◌≡◌, ◌++◌, ℕ, List, [], ◌∷◌, Option, Some, None, Ok, Err, IfSome, MatchOption, ap, refl, sym, subst, ◌∙◌, length}
-use Rattle.std.proofs.Common.{append-nil, append_assoc, get_or}
+use Rattle.std.proofs.Common.{◌≡◌, ◌++◌, ℕ, List, [], ◌∷◌, Option, Some, None, Ok, Err, MatchOption, ap, refl, sym, subst, ◌∙◌, length}
+use Rattle.std.proofs.Common.{append-nil, append_assoc}
 use Rattle.futures.specs.declared.task.Poll.TheVariants.{Ready, Pending}
 use Rattle.plan_model.specs.declared.errors.Memory.{Memory}
 use Rattle.plan_model.specs.declared.tasks.Task.{Task}
 use Rattle.step_core.specs.declared.grown.Grown.{Grown}
-use Rattle.any_time.proofs.FallingItems.{items_fall_on}
-use Rattle.any_time.proofs.KnownOptions.{is_some_of}
-use Rattle.any_time.proofs.TextbookSlices.{gives_textbook_items}
+use Rattle.any_time.proofs.EachSlice.{items_fall_on}
+use Rattle.any_time.proofs.KnownOptions.{held}
+use Rattle.any_time.proofs.TextbookSlices.{AreTextbookItems-given}
 use Rattle.any_time.specs.BestPaths.{best_sum}
 use Rattle.any_time.specs.Gathering.{Gathers}
-use Rattle.any_time.specs.Items.{AreSlices, EndsWith, HasGiven, betters_among, last_among}
+use Rattle.any_time.specs.Items.{EndsWith, HasGiven, MissesNoFall, betters_among}
 use Rattle.any_time.specs.Sessions.{IsBetter, IsFresh, IsOver, Polls, SessionState}
 use Rattle.any_time.specs.BetterPaths.{AreBetterPaths}
-use Rattle.any_time.specs.TextbookItems.{AreTextbookItems}
 use Rattle.any_time.specs.declared.betters.Better.{Better}
 use Rattle.any_time.specs.declared.betters.Last.{Last}
 
@@ -38,39 +37,28 @@ at_memory s t e xs p = (Ready (Some (Err e)) ∷ [], (t, p, refl), gone t.last t
 -- all that a fresh session gives until its end, at which it has its run
 module _ (task : Task) (workers slice : ℕ) (s t : SessionState) (xs ys : List Better) (run : Grown) (none : xs ≡ [])
     (fresh : IsFresh task workers slice s) (gathers : Gathers s xs t ys) (there : t.run ≡ Some run) where
-  given : ys ≡ betters_among gathers.0
-  given = gathers.3 ∙ ap (λ (zs : List Better). zs ++ betters_among gathers.0) none
+  law : HasGiven task workers slice ys (Some run) × (EndsWith task workers run × MissesNoFall task workers slice ys run)
+  law =
+      let all = items_fall_on task workers slice s t gathers.0 fresh gathers.1 in
+      let own = held (λ (r : Grown). EndsWith task workers r × MissesNoFall task workers slice (betters_among gathers.0) r) t.run run there
+      (all.1 gathers.2) in
+      subst (λ (zs : List Better). HasGiven task workers slice zs (Some run) × (EndsWith task workers run × MissesNoFall task workers slice zs run))
+      (sym (gathers.3 ∙ ap (λ (zs : List Better). zs ++ betters_among gathers.0) none))
+      (subst (λ (r : Option Grown). HasGiven task workers slice (betters_among gathers.0) r) there all.0, own)
 
-  pub HasGiven-gathered : HasGiven task workers slice ys (Some run)
-  HasGiven-gathered =
-      subst (λ (zs : List Better). HasGiven task workers slice zs (Some run)) (sym given)
-      (subst (λ (r : Option Grown). HasGiven task workers slice (betters_among gathers.0) r) there
-      (items_fall_on task workers slice s t gathers.0 fresh gathers.1).0)
-
-  pub EndsWith-gathered : EndsWith task workers (last_among None ys) run
-  EndsWith-gathered =
-      subst (λ (zs : List Better). EndsWith task workers (last_among None zs) run) (sym given)
-      (subst (λ (r : Option Grown). IfSome r (EndsWith task workers (last_among None (betters_among gathers.0)))) there
-      ((items_fall_on task workers slice s t gathers.0 fresh gathers.1).1 gathers.2))
-
-  AreTextbookItems-gathered : workers ≡ 1 → AreTextbookItems task slice ys
-  AreTextbookItems-gathered one =
-      subst (AreTextbookItems task slice) (sym given)
-      (gives_textbook_items task slice s t gathers.0 (subst (λ w. IsFresh task w slice s) one fresh) gathers.1 gathers.2 (is_some_of t.run run there))
+  pub EndsWith-gathered : EndsWith task workers run
+  EndsWith-gathered = law.1.0
 
   -- what they are by that run
   pub AreBetterPaths-gathered : AreBetterPaths workers slice run ys
   AreBetterPaths-gathered =
-      let has = HasGiven-gathered in
-      let end = EndsWith-gathered in
+      let of_task = sym law.1.0.of_task in
+      let given = subst (λ (t : Task). HasGiven t workers slice ys (Some run)) of_task law.0 in
+      let all = subst (λ (t : Task). MissesNoFall t workers slice ys run) of_task law.1.1 in
       record {
-        falls = has.falls;
-        slices = λ k d within.
-            let found = has.found k d within in
-            let whole = subst (AreSlices slice (length task.marks)) (sym found.shown.marks) found.run_is.slices in
-            subst (λ (t : Task). AreSlices slice (length t.marks) (get_or ys k d).marks) (sym end.of_task) whole;
-        lead = has.lead;
-        first = has.first;
-        last = end.best;
-        textbook = λ one. subst (λ (t : Task). AreTextbookItems t slice ys) (sym end.of_task) (AreTextbookItems-gathered one);
+        given = given;
+        all = all;
+        textbook = λ one.
+            AreTextbookItems-given run.task slice ys run (subst (λ w. HasGiven run.task w slice ys (Some run)) one given)
+            (subst (λ w. MissesNoFall run.task w slice ys run) one all) (law.1.0.all_marks ∙ ap (λ (t : Task). length t.marks) of_task);
       }

@@ -11,9 +11,9 @@ use Rattle.any_time.specs.declared.betters.Better.{Better}
 use Rattle.any_time.specs.BatchItems.{ArePolled, BatchAnswers, BatchItemsFall, EndsWithSessions, FailsByMemory, ItemsAreOfSessions}
 use Rattle.any_time.specs.BatchItems.{betters_of, has_memory}
 use Rattle.any_time.specs.Batches.{AllOver, BatchPolls, BatchState, Gave, Rests, at, first_turn, place_of, turn_after}
-use Rattle.any_time.specs.Items.{Answers, EndsWith, HasGiven, betters_among, last_among}
+use Rattle.any_time.specs.Items.{Answers, EndsWith, HasGiven, MissesNoFall, betters_among}
 use Rattle.any_time.specs.Sessions.{IsOver, Polls, SessionState}
-use Rattle.any_time.proofs.FallingItems.{items_fall_on}
+use Rattle.any_time.proofs.EachSlice.{items_fall_on}
 use Rattle.any_time.proofs.TurnLoop.{place_once}
 
 joined : (s u t : SessionState) (xs ys : Answers) → FoldsTo Polls s xs u → FoldsTo Polls u ys t → FoldsTo Polls s (xs ++ ys) t
@@ -130,7 +130,7 @@ batch_items_fall b c answers number d task workers slice h w fresh =
     let polled = of_sessions b c answers h number d w in
     let t : SessionState = at c.sessions number d in
     subst (λ (items : List Better). HasGiven task workers slice items t.run
-    × (IsOver t → IfSome t.run (EndsWith task workers (last_among None items)))) polled.2
+    × (IsOver t → IfSome t.run (λ run. EndsWith task workers run × MissesNoFall task workers slice items run))) polled.2
     (items_fall_on task workers slice (at b.sessions number d) t polled.0 fresh polled.1)
 
 failed_once : (b u : BatchState) (answer : Poll (Option (Result (ℕ × Better) Memory))) → BatchPolls b answer u

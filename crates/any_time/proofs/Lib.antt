@@ -3,6 +3,7 @@ pub mod SunkSums
 pub mod FoundPaths
 pub mod FirstPaths
 pub mod FallingItems
+pub mod EachSlice
 pub mod KnownOptions
 pub mod SamePaths
 pub mod TextbookSlices

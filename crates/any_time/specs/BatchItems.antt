@@ -8,7 +8,7 @@ use Rattle.plan_model.specs.declared.errors.Memory.{Memory}
 use Rattle.plan_model.specs.declared.tasks.Task.{Task}
 use Rattle.any_time.specs.declared.betters.Better.{Better}
 use Rattle.any_time.specs.Batches.{AllOver, BatchPolls, BatchState, at}
-use Rattle.any_time.specs.Items.{Answers, EndsWith, HasGiven, betters_among, last_among}
+use Rattle.any_time.specs.Items.{Answers, EndsWith, HasGiven, MissesNoFall, betters_among}
 use Rattle.any_time.specs.Sessions.{IsFresh, IsOver, Polls, SessionState}
 
 -- the answers of polls of a batch
@@ -49,7 +49,8 @@ BatchItemsFall = (b c : BatchState) (answers : BatchAnswers) (number : ℕ) (d :
     → FoldsTo BatchPolls b answers c → number < length b.sessions → IsFresh task workers slice (at b.sessions number d)
     → HasGiven task workers slice (betters_of number answers) (at c.sessions number d).run
     × (IsOver (at c.sessions number d)
-    → IfSome (at c.sessions number d).run (EndsWith task workers (last_among None (betters_of number answers))))
+    → IfSome (at c.sessions number d).run
+    (λ run. EndsWith task workers run × MissesNoFall task workers slice (betters_of number answers) run))
 
 -- a batch has failed exactly if an item `Memory` was given
 abbrev pub FailsByMemory : Type 0

@@ -1,10 +1,11 @@
 -- What the items of a session are, however often it is polled.
-use Rattle.std.specs.Prelude.{◌≡◌, ◌<◌, ◌*◌, ◌⊎◌, ℕ, List, [], ◌∷◌, All, Option, Some, None, Result, Ok, Err, IfSome, length, option_map}
+use Rattle.std.specs.Prelude.{◌≡◌, ◌<◌, ◌≤◌, ◌*◌, ◌⊎◌, ℕ, List, [], ◌∷◌, All, Option, Some, None, Result, Ok, Err, IfSome, filter, length, nat_le, option_map}
 use Rattle.std.specs.List.{FoldsTo}
 use Rattle.futures.specs.declared.task.Poll.{Poll}
 use Rattle.futures.specs.declared.task.Poll.TheVariants.{Ready, Pending}
 use Rattle.plan_model.specs.Runs.ClosedLaw.{IsClosed}
 use Rattle.plan_model.specs.Runs.Textbook.{setup_of}
+use Rattle.plan_model.specs.Trees.BestNode.{IsGoalNode, goals_of}
 use Rattle.plan_model.specs.Trees.TreeStates.{GrowsInto, IsSettled}
 use Rattle.plan_model.specs.declared.errors.Memory.{Memory}
 use Rattle.plan_model.specs.declared.records.Record.{Record}
@@ -13,8 +14,8 @@ use Rattle.plan_work.specs.OneWorker.{IsOfTextbook}
 use Rattle.step_core.specs.GrownRuns.{state_of_grown}
 use Rattle.step_core.specs.declared.grown.Grown.{Grown}
 use Rattle.any_time.specs.BestPaths.{Shows, best_sum}
-use Rattle.any_time.specs.Paths.{IsFirstPath, LeadsIntoGoal}
-use Rattle.any_time.specs.Sessions.{IsFresh, IsOver, Polls, SessionState}
+use Rattle.any_time.specs.Paths.{LeadsIntoGoal}
+use Rattle.any_time.specs.Sessions.{Handles, IsFresh, IsNew, IsOver, Polls, SessionState}
 use Rattle.any_time.specs.declared.betters.Better.{Better}
 use Rattle.any_time.specs.declared.betters.Last.{Last}
 
@@ -43,9 +44,9 @@ abbrev pub last_among : Option Last → List Better → Option Last
 last_among last [] = last
 last_among last (better ∷ rest) = last_among (Some (last_of better)) rest
 
--- so many marks are a number of whole slices, or all
+-- so many of all marks are a number of whole slices, or all
 abbrev pub AreSlices : ℕ → ℕ → ℕ → Type 0
-AreSlices slice all marks = ((k : ℕ) × (marks ≡ k * slice)) ⊎ (marks ≡ all)
+AreSlices slice all marks = (marks ≤ all) × (((k : ℕ) × (marks ≡ k * slice)) ⊎ (marks ≡ all))
 
 -- Each mark of the run was handled by one of so many workers, numbered from 0.
 abbrev pub IsByWorkers : ℕ → Grown → Type 0
@@ -66,6 +67,15 @@ pub record IsFound (task : Task) (workers slice : ℕ) (later : Option Grown) (i
   pub shown : Shows run item
   pub grows : IfSome later (λ last. GrowsInto (state_of_grown run) (state_of_grown last))
 
+-- some node that the first marks of the run have given, so many, lies in a goal
+abbrev pub HaveGoalNode : Grown → ℕ → Type 0
+HaveGoalNode run marks = (n : ℕ) × (n ≤ marks) × IsGoalNode (goals_of run.task.scene) (state_of_grown run).points n
+
+-- The item came with the first path: after the fewest marks, of whole slices or all, that have given a goal node of the run.
+pub record IsFirstPath (slice : ℕ) (run : Grown) (item : Better) : Type 0 where
+  pub found : HaveGoalNode run item.marks
+  pub none_earlier : (marks : ℕ) → AreSlices slice (length run.task.marks) marks → marks < item.marks → ¬ HaveGoalNode run marks
+
 -- the first of the items, if there is one
 abbrev pub IfFirst : List Better → (Better → Type 0) → Type 0
 IfFirst [] P = Unit {0}
@@ -79,20 +89,41 @@ pub record HasGiven (task : Task) (workers slice : ℕ) (items : List Better) (r
   pub lead : IfSome run (λ last. All (LeadsIntoGoal last) items)
   pub first : IfSome run (λ last. IfFirst items (IsFirstPath slice last))
 
--- All marks are recorded, and the run is settled and closed; by one worker it is the textbook's. The last item has the sum of its best
--- node: there is one exactly if the run has a goal node.
-pub record EndsWith (task : Task) (workers : ℕ) (last : Option Last) (run : Grown) : Type 0 where
+-- All marks are recorded, and the run is settled and closed; by one worker it is the textbook's.
+pub record EndsWith (task : Task) (workers : ℕ) (run : Grown) : Type 0 where
   pub of_task : run.task ≡ task
   pub all_marks : run.limit ≡ length task.marks
   pub closed : IsClosed (setup_of task.scene) task.marks (length task.marks) (state_of_grown run)
   pub settled : IsSettled (state_of_grown run)
   pub by_workers : IsByWorkers workers run
   pub textbook : workers ≡ 1 → IsOfTextbook run
-  pub best : best_sum run ≡ option_map (λ (l : Last). l.cost) last
+
+-- each of the runs comes of the one before it by the next slice, from this one on, and the last is the end
+abbrev pub GrowBySlices : ℕ → ℕ → Grown → List Grown → Grown → Type 0
+GrowBySlices workers slice run [] end = run ≡ end
+GrowBySlices workers slice run (next ∷ runs) end = Handles workers slice run next × GrowBySlices workers slice next runs end
+
+-- those of the items that came after so many marks at most
+abbrev pub up_to : ℕ → List Better → List Better
+up_to marks items = filter (λ item. nat_le item.marks marks) items
+
+-- what the last of the items cost, or else the one before them
+abbrev pub last_cost : Option Last → List Better → Option ℕ
+last_cost last items = option_map (λ (l : Last). l.cost) (last_among last items)
+
+-- The run has come of the start alone slice by slice, and after each slice the best path cost what the last item by then does: there was
+-- one exactly if there was an item. So no fall of that cost was left out, and the last item costs what the best path of the run does.
+pub record MissesNoFall (task : Task) (workers slice : ℕ) (items : List Better) (run : Grown) : Type 0 where
+  pub first : Grown
+  pub new : IsNew task first
+  pub runs : List Grown
+  pub grow : GrowBySlices workers slice first runs run
+  pub each : All (λ after. best_sum after ≡ last_cost None (up_to after.limit items)) (first ∷ runs)
+  pub last : best_sum run ≡ last_cost None items
 
 -- however often a session is polled, and if it is at its end and has its run
 abbrev pub ItemsFall : Type 0
 ItemsFall = (task : Task) (workers slice : ℕ) (s t : SessionState) (answers : Answers)
     → IsFresh task workers slice s → FoldsTo Polls s answers t
     → HasGiven task workers slice (betters_among answers) t.run
-    × (IsOver t → IfSome t.run (EndsWith task workers (last_among None (betters_among answers))))
+    × (IsOver t → IfSome t.run (λ run. EndsWith task workers run × MissesNoFall task workers slice (betters_among answers) run))

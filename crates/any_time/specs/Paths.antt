@@ -1,10 +1,10 @@
 -- Paths over the nodes of a run.
-use Rattle.std.specs.Prelude.{◌≡◌, ◌<◌, ◌≤◌, ◌-◌, ◌*◌, ℕ, suc, IsTrue, List, length}
+use Rattle.std.specs.Prelude.{◌≡◌, ◌<◌, ◌≤◌, ◌-◌, ℕ, suc, IsTrue, List, length}
 use Rattle.plan_model.specs.declared.geometry.Point.{Point}
 use Rattle.plan_model.specs.Runs.OrderLaw.{IsAllowedEdge}
 use Rattle.plan_model.specs.Runs.Textbook.{setup_of}
 use Rattle.plan_model.specs.Spaces.ClearPaths.{path_point}
-use Rattle.plan_model.specs.Trees.BestNode.{IsGoalNode, goals_of, lies_in_goals}
+use Rattle.plan_model.specs.Trees.BestNode.{goals_of, lies_in_goals}
 use Rattle.plan_model.specs.Trees.NodeLists.{length_of_path}
 use Rattle.plan_model.specs.Trees.PointsByNumber.{StandsAt}
 use Rattle.step_core.specs.GrownRuns.{state_of_grown}
@@ -30,9 +30,3 @@ pub record LeadsIntoGoal (run : Grown) (item : Better) : Type 0 where
   pub goal : IsTrue (lies_in_goals (goals_of run.task.scene) last)
   pub leads : Leads (IsAllowedEdge (setup_of run.task.scene)) (IsOfFirstNodes run item.marks) run.task.scene.start last item.path
   pub cost : item.cost ≡ length_of_path item.path
-
--- The item came with the first path: the marks handled then have given a goal node of the run, and no lesser number of whole slices has.
-pub record IsFirstPath (slice : ℕ) (run : Grown) (item : Better) : Type 0 where
-  pub found : (n : ℕ) × (n ≤ item.marks) × IsGoalNode (goals_of run.task.scene) (state_of_grown run).points n
-  pub none_earlier : (k n : ℕ) → k * slice < item.marks → n ≤ k * slice
-      → ¬ IsGoalNode (goals_of run.task.scene) (state_of_grown run).points n

@@ -52,12 +52,16 @@ pub record KeepsOrders (s t : SessionState) : Type 0 where
   pub workers : t.workers ≡ s.workers
   pub slice : t.slice ≡ s.slice
 
--- a session of a task that has handled nothing and given nothing: its run is the start alone
+-- a run of the task that has handled nothing: the start alone, settled
+abbrev pub IsNew : Task → Grown → Type 0
+IsNew task run = (run.task ≡ task) × (run.limit ≡ 0) × IsSettled (state_of_grown run) × IsOfTextbook run
+
+-- a session of a task that has handled nothing and given nothing
 pub record IsFresh (task : Task) (workers slice : ℕ) (s : SessionState) : Type 0 where
   pub workers_are : s.workers ≡ workers
   pub slice_is : s.slice ≡ slice
   pub nothing : s.last ≡ None
-  pub run : IsSomeAnd s.run (λ run. (run.task ≡ task) × (run.limit ≡ 0) × IsSettled (state_of_grown run) × IsOfTextbook run)
+  pub run : IsSomeAnd s.run (IsNew task)
 
 -- a poll of s gave this answer and left t
 abbrev pub Polls : SessionState → Poll (Option (Result Better Memory)) → SessionState → Type 0

@@ -1,5 +1,5 @@
 -- The items of a session by one worker: the best paths of the textbook's runs.
-use Rattle.std.specs.Prelude.{◌≡◌, ◌<◌, ◌≤◌, ℕ, List, All, Some, Contains, IsSome, length, take}
+use Rattle.std.specs.Prelude.{◌≡◌, ◌<◌, ℕ, List, All, Some, Contains, IsSome, length, take}
 use Rattle.std.specs.List.{FoldsTo}
 use Rattle.plan_model.specs.Reports.ReportText.{path_to}
 use Rattle.plan_model.specs.Runs.SameRuns.{IsOfTextbookRun}
@@ -23,7 +23,6 @@ pub record IsTextbookPath (task : Task) (item : Better) : Type 0 where
 -- It is so after a number of whole slices or all marks, and cheaper than the best path after any lesser such number.
 pub record IsTextbookItem (task : Task) (slice : ℕ) (item : Better) : Type 0 where
   pub slices : AreSlices slice (length task.marks) item.marks
-  pub within : item.marks ≤ length task.marks
   pub best : IsTextbookPath task item
   pub cheaper :
       (other : Better) → AreSlices slice (length task.marks) other.marks → other.marks < item.marks → IsTextbookPath task other

@@ -1,8 +1,8 @@
 //! Sessions that are taken to their end under an executor.
 
-ghost use Rattle.std.specs.Prelude.{◌≡◌, ◌≤◌, IfOk, None, Some};
+ghost use Rattle.std.specs.Prelude.{◌≡◌, ◌≤◌, IfOk, Some};
 ghost use Rattle.any_time.specs.BetterPaths.{AreBetterPaths};
-ghost use Rattle.any_time.specs.Items.{EndsWith, HasGiven, last_among};
+ghost use Rattle.any_time.specs.Items.{EndsWith};
 ghost use Rattle.plan_model.specs.Spaces.Clearance.{ClearAt};
 ghost use Rattle.plan_model.specs.Spaces.ConfigurationSpace.{space_of};
 ghost use Rattle.plan_model.specs.declared.limits.TheConstants.{MOST_WORKERS};
@@ -115,8 +115,7 @@ pub fn finish_session<
     requires some { 1 ≤ workers }
     requires few { workers ≤ MOST_WORKERS }
     requires slice { 1 ≤ slice }
-    ensures given { IfOk result (λ done. HasGiven task workers slice done.better (Some done.run)) }
-    ensures ended { IfOk result (λ done. EndsWith task workers (last_among None done.better) done.run) }
+    ensures ended { IfOk result (λ done. EndsWith task workers done.run) }
     ensures better { IfOk result (λ done. AreBetterPaths workers slice done.run done.better) }
 {
     let session = Session::new(rt.clone()?, alloc, task, hall, workers, slice)?;

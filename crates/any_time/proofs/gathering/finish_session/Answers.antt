@@ -1,23 +1,13 @@
 use Rattle.std.proofs.Common.{sym, ◌∙◌, subst}
-use Rattle.any_time.proofs.GatheredItems.{AreBetterPaths-gathered, EndsWith-gathered, HasGiven-gathered}
+use Rattle.any_time.proofs.GatheredItems.{AreBetterPaths-gathered, EndsWith-gathered}
 use Rattle.any_time.specs.BetterPaths.{AreBetterPaths}
-use Rattle.any_time.specs.Items.{EndsWith, HasGiven, last_among}
-use Rattle.std.specs.Prelude.{None, Some}
 use Rattle.any_time.proofs.gathering.finish_session.Goals as goal
-
-pub returns-clause-given : goal.returns-clause-given
-returns-clause-given g c =
-    let gathers = rw (c.new-2.ensures, c.in_ok-session-2.was) at c.in-Ok.ensures in
-    subst (λ items. HasGiven c.args.task c.args.workers c.args.slice items (Some c.in-Some.run')) (sym c.from_vec.ensures)
-    (HasGiven-gathered c.args.task c.args.workers c.args.slice _ _ _ _ _ c.new-none.ensures.items c.in_ok-session.ensures gathers
-    (sym c.finish.ensures ∙ c.in-Some.is))
 
 pub returns-clause-ended : goal.returns-clause-ended
 returns-clause-ended g c =
     let gathers = rw (c.new-2.ensures, c.in_ok-session-2.was) at c.in-Ok.ensures in
-    subst (λ items. EndsWith c.args.task c.args.workers (last_among None items) c.in-Some.run') (sym c.from_vec.ensures)
-    (EndsWith-gathered c.args.task c.args.workers c.args.slice _ _ _ _ _ c.new-none.ensures.items c.in_ok-session.ensures gathers
-    (sym c.finish.ensures ∙ c.in-Some.is))
+    EndsWith-gathered c.args.task c.args.workers c.args.slice _ _ _ _ _ c.new-none.ensures.items c.in_ok-session.ensures gathers
+    (sym c.finish.ensures ∙ c.in-Some.is)
 
 pub returns-clause-better : goal.returns-clause-better
 returns-clause-better g c =
