@@ -7,7 +7,6 @@ pub mod EachSlice
 pub mod KnownOptions
 pub mod SamePaths
 pub mod TextbookSlices
-pub mod PolledSessions
 pub mod GatheredItems
 pub mod TurnLoop
 pub mod ItemsOfSessions

@@ -5,7 +5,7 @@ use Rattle.std.proofs.lemmas.Bool.Decides.{nat_tests}
 use Rattle.futures.specs.declared.task.context.Context.{Context}
 use Rattle.futures.specs.declared.task.Poll.TheVariants.{Ready, Pending}
 use Rattle.std.proofs.lemmas.Bool.{true≢false}
-use Rattle.futures.specs.Task.{IsArmed, Keeps, Lasting}
+use Rattle.futures.specs.Task.{Keeps}
 use Rattle.std.proofs.lemmas.List.{get_or_read, set-get_or}
 use Rattle.futures.specs.declared.task.Poll.{Poll}
 use Rattle.plan_model.specs.declared.errors.Memory.{Memory}
@@ -13,8 +13,8 @@ use Rattle.any_time.specs.declared.betters.Better.{Better}
 use Rattle.any_time.specs.Batches.{AllOver, AllRest, Gave, Rests, place_of, at}
 use Rattle.any_time.specs.Sessions.{SessionState, IsOver, Polls}
 
--- The sessions at the places before this one were polled once and gave no item, and the others are as they were. If one of them answered
--- Pending, the task is to be polled again; if not, all of them are at their ends, and nothing has changed.
+-- The sessions at the places before this one were polled once and gave no item, and the others are as they were. If none of them answered
+-- Pending, all of them are at their ends, and nothing has changed.
 pub record IsTurning (from : ℕ) (before now : List SessionState) (place : ℕ) (is_pending : Bool) (first cx : Context) : Type 0 where
   pub count : length now ≡ length before
   pub rested : (i : ℕ) (d : SessionState) → i < length before → place_of (length before) from i < place → Rests (at before i d) (at now i d)
@@ -23,7 +23,6 @@ pub record IsTurning (from : ℕ) (before now : List SessionState) (place : ℕ)
   pub over : is_pending ≡ false → (i : ℕ) (d : SessionState) → i < length before → place_of (length before) from i < place → IsOver (at before i d)
   pub pending : is_pending ≡ true → (i : ℕ) × (i < length before) × (place_of (length before) from i < place)
       × ((d : SessionState) → Polls (at before i d) Pending (at now i d))
-  pub armed : is_pending ≡ true → IsArmed cx
   pub kept : Keeps first cx
 
 -- two numbers have two places
@@ -107,15 +106,14 @@ module _ (from : ℕ) (before now : List SessionState) (place : ℕ) (p : Bool) 
     keeps_on : Keeps first cx'
     keeps_on fact h = on fact (t.kept fact h)
 
-    pub turned_pending : Polls s Pending u → IsArmed cx' → IsTurning from before (set now j u) (place + 1) true first cx'
-    turned_pending h is_armed = record {
+    pub turned_pending : Polls s Pending u → IsTurning from before (set now j u) (place + 1) true first cx'
+    turned_pending h = record {
       count = length-set now j u ∙ t.count;
       rested = rests_on (inl h);
       same = same_on;
       unchanged = λ e. absurd (true≢false e);
       over = λ e. absurd (true≢false e);
       pending = λ e. (j, within, omega (arith, here), polled_as Pending h);
-      armed = λ e. is_armed;
       kept = keeps_on;
     }
 
@@ -130,7 +128,6 @@ module _ (from : ℕ) (before now : List SessionState) (place : ℕ) (p : Bool) 
           let w = t.pending e in
           let ne : place_of (length before) from w.0 ≢ place = omega (arith, w.2) in
           (w.0, w.1, omega (arith, w.2), λ d. rw (other_is w.0 d (apart w.0 ne)) (w.3 d));
-      armed = λ e. on Lasting.armed (t.armed e);
       kept = keeps_on;
     }
 

@@ -47,6 +47,14 @@ pub record Moves (s : SessionState) (before after : Grown) : Type 0 where
   pub now : IsBetter (best_sum before) s.last → after ≡ before
   pub later : ¬ IsBetter (best_sum before) s.last → Handles s.workers s.slice before after
 
+-- A look at the run gave this answer, and left the run and what is kept of the last item.
+abbrev pub Looks : Grown → Option Last → Poll (Option (Result Better Memory)) → Option Grown → Option Last → Type 0
+Looks run last Pending left kept = ¬ IsBetter (best_sum run) last × (left ≡ Some run) × (kept ≡ last)
+Looks run last (Ready None) left kept = ⊥
+Looks run last (Ready (Some (Ok item))) left kept = IsBetter (best_sum run) last × Shows run item
+    × (left ≡ Some run) × (kept ≡ Some (record { cost = item.cost; marks = item.marks }))
+Looks run last (Ready (Some (Err e))) left kept = IsBetter (best_sum run) last × (left ≡ None) × (kept ≡ last)
+
 -- the workers and the slice are as they were
 pub record KeepsOrders (s t : SessionState) : Type 0 where
   pub workers : t.workers ≡ s.workers

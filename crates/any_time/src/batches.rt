@@ -3,8 +3,6 @@
 ghost use Rattle.std.specs.Prelude.{◌≡◌, ◌≤◌, ◌<◌, ◌+◌, All, IfSome, IsSome, Some, [], length, map, vec_capacity};
 ghost use Rattle.any_time.specs.Batches.{place_of, turn_after};
 ghost use Rattle.any_time.specs.declared.batches.TheConstants.{MOST_SESSIONS};
-ghost use Rattle.futures.specs.Poll.{OnPending};
-ghost use Rattle.futures.specs.Task.{IsArmed, Keeps};
 
 use crate::betters::Better;
 use crate::growing::Growing;
@@ -106,6 +104,7 @@ impl<C: Clearing + Drop, R: Drop> Batch<C, R> {
 
 impl<C: Growing + Drop, R: Threads + Sync + Drop> Stream for Batch<C, R> {
     ghost use denote.Param.Send.{IsSync};
+    ghost use Rattle.std.specs.Prelude.{◌≡◌, true};
     ghost use Rattle.any_time.specs.Batches.{BatchPolls};
     ghost use Rattle.futures.specs.Poll.{OnPending};
     ghost use Rattle.futures.specs.Task.{Covers, Keeps};
@@ -123,6 +122,7 @@ impl<C: Growing + Drop, R: Threads + Sync + Drop> Stream for Batch<C, R> {
     fn poll_next(&mut self, cx: &mut Context<'_>) -> Poll<Option<Result<(u32, Better), Memory>>>
         requires { IsSync R.row }
         ensures polls { BatchPolls self.old result self.new }
+        ensures woken { OnPending result (cx.new.is_woken ≡ true) }
         ensures registered { OnPending result (Covers cx.new (λ _. ⊥)) }
         ensures kept { Keeps cx.old cx.new }
     {
@@ -148,7 +148,7 @@ impl<C: Growing + Drop, R: Threads + Sync + Drop> Stream for Batch<C, R> {
             }
         }
         if is_pending {
-            Poll::Pending
+            cx.yield_now()
         } else {
             Poll::Ready(None)
         }

@@ -1,8 +1,10 @@
 //! Sessions: runs that grow by a slice of marks a poll.
 
-ghost use Rattle.std.specs.Prelude.{◌≡◌, ◌≤◌, None, IfOk, IfErr, IfSome, IfNone, Some, length};
+ghost use Rattle.std.specs.Prelude.{◌≡◌, ◌≤◌, None, IfOk, IfErr, IfSome, IfNone, Some, true};
 ghost use Rattle.any_time.specs.BestPaths.{Shows, best_of, best_sum};
-ghost use Rattle.any_time.specs.Sessions.{IsBetter};
+ghost use Rattle.any_time.specs.Sessions.{IsBetter, Looks};
+ghost use Rattle.futures.specs.Poll.{OnPending};
+ghost use Rattle.futures.specs.Task.{Covers, Keeps};
 ghost use Rattle.plan_work.specs.OneWorker.{IsOfTextbook};
 ghost use Rattle.plan_model.specs.Spaces.Clearance.{ClearAt};
 ghost use Rattle.plan_model.specs.Spaces.ConfigurationSpace.{space_of};
@@ -103,6 +105,7 @@ impl<C: Clearing + Drop, R: Drop> Session<C, R> {
 
 impl<C: Growing + Drop, R: Threads + Sync + Drop> Stream for Session<C, R> {
     ghost use denote.Param.Send.{IsSync};
+    ghost use Rattle.std.specs.Prelude.{◌≡◌, true};
     ghost use Rattle.any_time.specs.Sessions.{Polls};
     ghost use Rattle.futures.specs.Poll.{OnPending};
     ghost use Rattle.futures.specs.Task.{Covers, Keeps};
@@ -118,20 +121,15 @@ impl<C: Growing + Drop, R: Threads + Sync + Drop> Stream for Session<C, R> {
     fn poll_next(&mut self, cx: &mut Context<'_>) -> Poll<Option<Result<Better, Memory>>>
         requires { IsSync R.row }
         ensures polls { Polls self.old result self.new }
+        ensures woken { OnPending result (cx.new.is_woken ≡ true) }
         ensures registered { OnPending result (Covers cx.new (λ _. ⊥)) }
         ensures kept { Keeps cx.old cx.new }
     {
         let Some(run) = self.run.take() else {
             return Poll::Ready(None);
         };
-        match better_path(self.alloc, &run, self.last) {
-            Ok(Some(item)) => {
-                self.last = Some(item.last());
-                put_back(&mut self.run, run);
-                return Poll::Ready(Some(Ok(item)));
-            }
-            Ok(None) => {}
-            Err(Memory) => return Poll::Ready(Some(Err(Memory))),
+        if better_node(&run, self.last).is_some() {
+            return look(self.alloc, run, &mut self.run, &mut self.last, cx);
         }
         if run.limit() == mark_count(&run) {
             put_back(&mut self.run, run);
@@ -143,17 +141,7 @@ impl<C: Growing + Drop, R: Threads + Sync + Drop> Stream for Session<C, R> {
         else {
             return Poll::Ready(Some(Err(Memory)));
         };
-        match better_path(self.alloc, &run, self.last) {
-            Ok(Some(item)) => {
-                self.last = Some(item.last());
-                put_back(&mut self.run, run);
-                return Poll::Ready(Some(Ok(item)));
-            }
-            Ok(None) => {}
-            Err(Memory) => return Poll::Ready(Some(Err(Memory))),
-        }
-        put_back(&mut self.run, run);
-        cx.yield_now()
+        look(self.alloc, run, &mut self.run, &mut self.last, cx)
     }
 }
 
@@ -174,6 +162,36 @@ fn put_back(place: &mut Option<Grown>, run: Grown)
     ensures { place.new ≡ Some run }
 {
     *place = Some(run);
+}
+
+/// What a run gives: its better path, if it has one, which is then the last item, and else that the session is to be polled again. The run
+/// goes to its place, but is gone after `Memory`.
+fn look(
+    alloc: Global,
+    run: Grown,
+    place: &mut Option<Grown>,
+    last: &mut Option<Last>,
+    cx: &mut Context<'_>,
+) -> Poll<Option<Result<Better, Memory>>>
+    requires settled { IsSettled (state_of_grown run) }
+    requires place { place.old ≡ None }
+    ensures looks { Looks run last.old result place.new last.new }
+    ensures woken { OnPending result (cx.new.is_woken ≡ true) }
+    ensures registered { OnPending result (Covers cx.new (λ _. ⊥)) }
+    ensures kept { Keeps cx.old cx.new }
+{
+    match better_path(alloc, &run, *last) {
+        Ok(Some(item)) => {
+            *last = Some(item.last());
+            put_back(place, run);
+            Poll::Ready(Some(Ok(item)))
+        }
+        Ok(None) => {
+            put_back(place, run);
+            cx.yield_now()
+        }
+        Err(memory) => Poll::Ready(Some(Err(memory))),
+    }
 }
 
 /// The path to the best node of a run, if its sum is below that of the last item, or if there is none yet.

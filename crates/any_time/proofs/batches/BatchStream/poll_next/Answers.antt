@@ -35,8 +35,7 @@ loop-place-preserved g c =
     elim c.match-poll_next.branch [
       | in-Pending w ↦
           let polls = w.in-Pending.ensures.polls in (
-            rw w.is_pending-is (turned_pending _ _ _ _ _ _ _ kept.0 from _ within place _ _ c.index_mut.ensures.value _ c.poll_next.ensures.kept polls
-                w.in-Pending.ensures.registered.0),
+            rw w.is_pending-is (turned_pending _ _ _ _ _ _ _ kept.0 from _ within place _ _ c.index_mut.ensures.value _ c.poll_next.ensures.kept polls),
             kept.1,
             kept.2,
             kept.3,
@@ -55,7 +54,7 @@ returns-then-is_pending-clause-polls g c =
     let long = c.len-count.ensures ∙ c.self.inside.sessions.ok.0 in
     let from : c.turn_after-from.result ≤ length c.self.inside.sessions.items = omega (arith, c.turn_after-from.ensures.within, long) in
     let rest = all_rest _ _ _ _ _ _ _ c.loop-place.invariant.0 from (omega (arith, c.loop-place-test.false, long)) c.if-is_pending.true in
-    rw (← c.self.view_is) (c.if-self.false, c.loop-place.invariant.2 ∙ c.if-self.false, c.loop-place.invariant.1, rest)
+    rw (← c.self.view_is, c.yield_now.ensures.pending) (c.if-self.false, c.loop-place.invariant.2 ∙ c.if-self.false, c.loop-place.invariant.1, rest)
 
 -- each session has its run still
 pub invariant_of-self-in-Ready-Some-Ok : goal.invariant_of-self-in-Ready-Some-Ok
