@@ -41,20 +41,13 @@ def read_batch(text):
     return scenes
 
 
-def fault_of(text):
-    """The fault for which a text is refused; None if it is not."""
-    try:
-        read_batch(text)
-    except Fault as fault:
-        return fault
-    return None
-
-
 def batch_answer(text, slice_size):
     """What `batch 1 S` is to write for the bytes of several scenes, and its status."""
     if len(text) > MOST_TEXT_BYTES:
         return "text too long\n", 3
-    if fault := fault_of(text):
+    try:
+        read_batch(text)
+    except Fault as fault:
         return f"{fault}\n", 3
     answers = [anytime_answer(part, slice_size) for _, part in parts_of(text)]
     status = max(status for _, status in answers)

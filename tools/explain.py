@@ -15,7 +15,8 @@ from collections import defaultdict
 from dataclasses import dataclass
 from pathlib import Path
 
-from batch import MOST_SCENES, fault_of, parts_of
+from batch import MOST_SCENES, parts_of, read_batch
+from reports import START_BLOCKED
 from scene import MOST_TEXT_BYTES, Fault, lines_of, read, statements
 from scene_faults import findings_of
 from spelling import shown
@@ -24,7 +25,6 @@ from usage import words_or_usage
 from wording import counted
 
 CLEAR, REFUSED, BLOCKED, UNREAD = 0, 3, 4, 5
-START_BLOCKED = "start blocked"
 
 
 @dataclass
@@ -111,7 +111,6 @@ def numbers_of(scene):
 def answer_for_batch(text):
     """What is said of several scenes: of each part by itself."""
     parts = parts_of(text)
-    fault = fault_of(text)
     ends = [f"line {first}, `next`" for first, _ in parts[1:]] + ["the end of the text"]
     own = [Part(lines_of(part), first, end, True) for (first, part), end in zip(parts, ends)]
     answers = [answer_for_part(part) for part in own[:MOST_SCENES]]
@@ -121,13 +120,16 @@ def answer_for_batch(text):
     if len(parts) > MOST_SCENES:
         last = f"Line {parts[MOST_SCENES][0]} is line `next` number {MOST_SCENES}"
         said.append(f"{last}: a batch has {MOST_SCENES} scenes at most.")
-    if fault:
+    try:
+        read_batch(text)
+    except Fault as fault:
         return Answer(str(fault), REFUSED, said)
     is_blocked = any(answer.status == BLOCKED for answer in answers)
     return Answer(START_BLOCKED, BLOCKED, said) if is_blocked else Answer("", CLEAR, said)
 
 
 def main(words):
+    """Writes what is said of the text that the word names, and gives the exit status."""
     if len(words) != 1:
         print(__doc__.strip(), file=sys.stderr)
         return 2

@@ -2,13 +2,13 @@
 
 from dataclasses import dataclass
 
+from reports import START_BLOCKED
 from scene import KINDS, MOST_TEXT_BYTES
 
 SCENE = b"prrt 1\nroom 100 100\nstart 0 0\ngoal 30 40 35 45\nstep 25\ngamma 70\nmarks 100\n"
 SECOND = SCENE.replace(b"prrt 1", b"prrt 2")
 LISTED = SCENE.replace(b"marks 100\n", b"")
 BOM = b"\xef\xbb\xbf"
-START_BLOCKED = "start blocked"
 NUMBER_OF = {name: number for number, name in KINDS.items()}
 
 
@@ -88,7 +88,8 @@ CHARACTERS = [
     encoded("the same, turned", ("\ufeff" + WIDE).encode("utf-16-be"), r"\xfe\xff", "order mark", "-f UTF-16 -t UTF-8"),
     encoded("UTF-16, the lower byte first", WIDE.encode("utf-16-le"), "Line 1", "lower byte first", "-f UTF-16LE -t"),
     encoded("UTF-16, the higher byte first", WIDE.encode("utf-16-be"), "higher byte first", "-f UTF-16BE -t UTF-8"),
-    encoded("the same after a comment", b"#\0\n\0" + WIDE.encode("utf-16-le"), "Line 2", "-f UTF-16LE -t", line=2),
+    encoded("the same after a comment", b"#\0\n\0" + WIDE.encode("utf-16-le"), "is: \\x00p", "-f UTF-16LE", line=2),
+    encoded("and empty lines", b"\n\0\n\0" + WIDE.encode("utf-16-le"), "Line 2 is: \\x00\n", "-f UTF-16LE", line=2),
     encoded("UTF-32", WIDE.encode("utf-32"), "The text is in UTF-32", "iconv -f UTF-32 -t UTF-8"),
     refused("Version", 1, "a byte order mark", BOM + SCENE, "EF BB BF", "tail -c +4", mended=(b"prrt 1",)),
     refused("Version", 1, "the same before a comment", BOM + b"# a\n" + SCENE, "EF BB BF", "    # a", mended=(b"# a",)),
@@ -116,7 +117,7 @@ CHARACTERS = [
 BEGIN = "`prrt 1` or `prrt 2`"
 VERSIONS = [
     changed("Version", "another version", b"prrt 1", b"prrt 3", "no version `3`", BEGIN, row="version"),
-    changed("Version", "a capital", b"prrt 1", b"PRRT 1", "PRRT 1", "in small letters", mended=(b"prrt 1",)),
+    changed("Version", "a capital", b"prrt 1", b"PRRT 1", "PRRT 1", "in lower case", mended=(b"prrt 1",)),
     changed("Version", "a comment", b"prrt 1", b"prrt 1 # a", "Nothing else may stand", mended=(b"prrt 1",)),
     changed("Version", "no number", b"prrt 1", b"prrt", "Line 1 is: prrt\n", "the two words of a version", BEGIN),
     changed("Version", "a point", b"prrt 1", b"prrt 2.0", "no version `2.0`", BEGIN, mended=(b"prrt 2",)),
@@ -130,7 +131,7 @@ VERSIONS = [
 
 KEYS_AND_REPEATS = [
     added("Key", "a misspelt key", b"gaol 1 1 2 2", "`gaol` is no key", "of version 1 are room, body", row="key"),
-    added("Key", "a capital", b"Seed 8", "`seed` in place of `Seed`", "in small letters", mended=(b"seed 8",)),
+    added("Key", "a capital", b"Seed 8", "`seed` in place of `Seed`", "in lower case", mended=(b"seed 8",)),
     added("Key", "a key of version 2", b"clearance 2", "`clearance` is a key of version 2", "begin it with `prrt 2`"),
     added("Key", "the other one", b"informed 1", "`informed` is a key of version 2", "begin it with `prrt 2`"),
     added("Key", "none of version 2", b"gate 1", "`gate` is no key", "mark, clearance and informed", text=SECOND),
@@ -226,6 +227,7 @@ NUMBERS = [
         "`1,000,000` (n) has separators",
         mended=(b"seed 1000000",),
     ),
+    added("Number", "one comma", b"seed 1,000", "`1,000` (n) has separators", mended=(b"seed 1000",)),
     added("Number", "underscores", b"seed 1_000", "`1_000` (n) has separators", mended=(b"seed 1000",)),
     added("Number", "apostrophes", b"seed 1'000", "`1'000` (n) has separators", mended=(b"seed 1000",)),
     added("Number", "a point that may do both", b"seed 1.000", "`1.000` (n) has a point: if it separates thousands"),
@@ -273,6 +275,7 @@ RANGES = [
     changed(
         "Range", "one of version 2", b"room 100 100", b"room 9 1048576", "`1048576` (h)", "larger unit", text=SECOND
     ),
+    changed("Range", "a longer step", b"step 25", b"step 70000", "`70000` (s)", "larger unit"),
     changed("Range", "a short step", b"step 25", b"step 3", "`3` (s)", "4 to 4096 in version 1", "smaller unit"),
     changed(
         "Range", "a long step", b"step 25", b"step 5000", "`5000` (s)", "4 to 65536 in version 2. Begin with `prrt 2`"

@@ -1,6 +1,7 @@
 """Scenes that are not refused, and what is to be said of each: starts and goals that are not clear, marks, gaps."""
 
-from explanation_cases import START_BLOCKED, Case
+from explanation_cases import Case
+from reports import GOAL_BLOCKED, START_BLOCKED
 
 # A square body with its origin in its lower left corner. The zone of the obstacle is x from 36 to 60 and y up to 60.
 FIELD = (
@@ -34,7 +35,7 @@ def planned(name, text, *telling, **more):
     return Case(name, text, "", telling, words="plan 1", **more)
 
 
-TWIN = ("goal blocked", 8)
+TWIN = (GOAL_BLOCKED, 8)
 BAR = b"obstacle 0 40 100 40 100 60 0 60\nobstacle 40 0 60 0 60 100 40 100"
 STARTS = [
     blocked(
@@ -178,7 +179,7 @@ GOALS = [
     ),
     Case(
         "the middle of the first goal",
-        field(b"goal 30 10 50 20"),
+        field(b"goal 31 10 50 20"),
         "",
         (
             "The middle 40 15 of the first goal (line 6) is not clear",
@@ -232,6 +233,12 @@ GOALS = [
         "Whether the goal of line 6 has a clear lattice point was not decided",
     ),
     planned(
+        "below the line between two obstacles",
+        b"prrt 1\nroom 60000 65000\nobstacle 0 0 60000 0 60000 60000\nobstacle 0 1 60000 60001 0 60001\n"
+        b"start 0 65000\ngoal 1000 100 50000 200\nstep 25\ngamma 70\nmarks 5000\n",
+        "the obstacle of line 3 covers all of it. How far the goal has to move was not decided",
+    ),
+    planned(
         "on a line with one clear point in its middle",
         b"prrt 1\nroom 60000 65000\nobstacle 0 0 29999 0 29999 29999\n"
         b"obstacle 29999 0 30001 0 30001 29999 29999 29999\nobstacle 30001 0 60000 0 60000 60000 30001 30001\n"
@@ -283,6 +290,7 @@ SAMPLES = [
     ),
 ]
 
+MANY_GAPS = field(b"\n".join(b"obstacle %d 40 %d 40 %d 60 %d 60" % (x, x + 1, x + 1, x) for x in range(2, 98, 3)))
 WELL, NO_GAP = "Nothing is wrong with this scene", ("too narrow",)
 GAPS = [
     planned(
@@ -363,7 +371,7 @@ GAPS = [
     ),
     planned(
         "many",
-        field(b"\n".join(b"obstacle %d 40 %d 40 %d 60 %d 60" % (x, x + 1, x + 1, x) for x in range(2, 98, 3))),
+        MANY_GAPS,
         "between the obstacle of line 35 and the right wall, about 96 48: 1 lattice step wider along x",
         "between the obstacles of lines 4 and 5, about 2 48: 3 lattice steps wider along x",
         "- and 13 more.",

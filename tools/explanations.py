@@ -5,7 +5,7 @@ Usage: explanations.py [PROGRAM]. Of each case of explanation_cases.py and expla
 - the line and the kind of a refusal are those of scene.py, and the status is that of the program;
 - the explanation has the words and numbers of the case, and that of no other case does;
 - the lines that are proposed in place of a refused one are those of the case, and scene.py takes them;
-- each row of the tables of refusals in docs/scene-format.md has a case;
+- each row of the tables of refusals in docs/scene-format.md has a case, and each key the names of its numbers;
 - a built PROGRAM, if one is given, writes the same line and ends with the same status.
 
 Of random texts it looks at the verdict and the proposed lines, and of random scenes, by brute_moves.py, whether
@@ -25,21 +25,23 @@ import sys
 from collections import Counter
 from dataclasses import replace
 from itertools import combinations, product
+from unittest import mock
 
-from batch import fault_of
+from batch import read_batch
 from boxes import Box
 from brute_moves import AWAY, WAYS, fewest_steps, has_clear_point, is_narrow_at, lattice_points
 from brute_moves import meet, meet_in_room, moved, wall_ends
 from explain import answer_for, line_numbers
-from explanation_cases import REFUSALS, START_BLOCKED
-from explanation_scenes import SCENES
+from explanation_cases import REFUSALS
+from explanation_scenes import MANY_GAPS, SCENES
 from gaps import WALLS, narrow_gaps, part_within
 from geometry import Space, contains, segment_meets
 from make_scenes import scene_of, with_faults
 from moves import least_move, moves_out, nearest_clear_box
-from scene import MOST_TEXT_BYTES, Fault, lines_of, read
+from reports import START_BLOCKED
+from scene import KEYS, MOST_CORNERS, MOST_TEXT_BYTES, Fault, lines_of, read
 from scene_faults import Site, goal_fault
-from text_faults import Part, explain_fault
+from text_faults import FORMS, Part, explain_fault
 
 FOLDER = os.path.dirname(os.path.abspath(__file__))
 FORMAT = os.path.join(FOLDER, "..", "docs", "scene-format.md")
@@ -80,15 +82,15 @@ def first_fault(case):
     if len(case.text) > MOST_TEXT_BYTES:
         return "text too long"
     if case.words.startswith("batch"):
-        return str(fault_of(case.text) or "")
+        return refusal_of(case.text, read_batch)
     scene = case.text.split(b"\nreport\n")[0] + b"\n" if case.words == "check" else case.text
     return refusal_of(scene)
 
 
-def refusal_of(text):
-    """The line with which scene.py refuses a text; none if it does not."""
+def refusal_of(text, reader=read):
+    """The line with which scene.py, or another reader, refuses a text; none if it does not."""
     try:
-        read(text)
+        reader(text)
     except Fault as fault:
         return str(fault)
     return ""
@@ -147,14 +149,16 @@ def run(words, text):
 
 
 def check_rows(checks):
-    """Looks whether each row of the tables of refusals has a case, but for the one that never comes."""
+    """Looks whether each row of the tables of refusals has a case, but for the refusal that never comes."""
     with open(FORMAT, encoding="utf-8") as file:
         refusals = file.read().split("\n## Refusals\n")[1].split("\n## ")[0]
-    lines = [line for line in refusals.split("\n") if line.startswith("| ") and "never comes" not in line]
+    lines = [line for line in refusals.split("\n") if line.startswith("| ") and "`10 Unbuilt`" not in line]
     rows = {line.strip("| ").split(" | ")[0] for line in lines} - {"check", "the line"}
     cases = {case.row for case in REFUSALS} - {""}
     for row in rows | cases:
         checks.note("a row of docs/scene-format.md", row, row in rows and row in cases)
+    for key in KEYS[2]:
+        checks.note("a key with the names of its numbers", key.decode(), (key in FORMS) != (key in MOST_CORNERS))
 
 
 def takes(text, proposed):
@@ -186,7 +190,7 @@ def check_faults(checks, number, version):
 
 
 def random_scene(number, version):
-    """A small random scene with a start and goals anywhere, also outside the room."""
+    """A small random scene with a start and goals anywhere, also outside the room; some bodies are too large for it."""
     rng = random.Random(f"explanations {number} {version}")
     scene = scene_of(number // 7 * 8 + number % 7, version)
     width, height = scene.room
@@ -194,7 +198,9 @@ def random_scene(number, version):
     for _ in range(rng.choice([1, 1, 3]) if version == 2 else 1):
         x, y = rng.randint(0, width + 3), rng.randint(0, height + 3)
         goals.append((x, y, x + rng.randint(0, 3), y + rng.randint(0, 3)))
-    return replace(scene, start=(rng.randint(0, width + 2), rng.randint(0, height + 2)), goals=goals)
+    size = rng.choice([1] * 19 + [15])
+    body = [(size * x, size * y) for x, y in scene.body]
+    return replace(scene, start=(rng.randint(0, width + 2), rng.randint(0, height + 2)), goals=goals, body=body)
 
 
 def site_of(scene):
@@ -318,6 +324,14 @@ def check_large(checks, number, version):
     check_gaps(checks, name, site, space)
 
 
+def check_limit(checks):
+    """Looks whether it is said that not all pairs of obstacles were looked at, and only then."""
+    more = "There may be more: not all pairs of obstacles were looked at"
+    for most, is_said in ((30, True), (31, False)):
+        with mock.patch("gaps.MOST_PAIRS", most):
+            checks.note("a limit of pairs", str(most), (more in answer_for(MANY_GAPS).text()) == is_said)
+
+
 def check_command(checks):
     """Looks how explain.py ends when it is called."""
     program = os.path.join(FOLDER, "explain.py")
@@ -338,6 +352,7 @@ def main(program=""):
     check_cases(checks, [*REFUSALS, *SCENES], program)
     check_rows(checks)
     check_command(checks)
+    check_limit(checks)
     for number, version in product(FAULT_NUMBERS, (1, 2)):
         check_faults(checks, number, version)
     for number, version in product(SCENE_NUMBERS, (1, 2)):

@@ -191,7 +191,7 @@ def goal_fault(site, box, line):
 
 def middle_fault(site):
     """What to say of the middle of the first goal if it is not clear, though some of that goal is."""
-    middle = Box(*site.scene.goals[0]).middle
+    middle = site.scene.goal_middle()
     if site.is_clear(middle):
         return ""
     what = f"The middle {point(middle)} of the first goal (line {site.lines[b'goal'][0]})"
@@ -212,7 +212,7 @@ def sample_faults(site):
         said.append(
             f"Gamma is 0 ({site.line_of(b'gamma')}), so nothing is rewired: the planner is RRT, fast, but a path stays"
             " as it was found. To begin with, try 0.8 times the square root of the room's area:"
-            f" `gamma {max(1, isqrt(scene.room[0] * scene.room[1] * 16 // 25))}`."
+            f" `gamma {max(1, isqrt(64 * scene.room[0] * scene.room[1]) // 10)}`."
         )
     if scene.strips > 1:
         said.append(

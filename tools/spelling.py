@@ -19,7 +19,7 @@ ODD_CHARACTERS = (
         "\r",
         " ",
         "It has a carriage return, as Windows ends lines. Only a line feed ends a line, and a carriage return belongs"
-        " to the word that it touches. Save the text with plain line feeds: `tr -d '\\r'` takes the others out.",
+        " to the word that it touches. Save the text with plain line feeds, or run `tr -d '\\r'` over it.",
     ),
     (
         "\t",
@@ -45,7 +45,8 @@ ODD_CHARACTERS = (
 )
 PLAIN_CHARACTERS = {ord(odd): plain for odds, plain, _ in ODD_CHARACTERS for odd in odds}
 INNER_RETURN = (
-    "It has carriage returns inside, which is how old programs end lines: `tr '\\r' '\\n'` makes line feeds of them."
+    "It has carriage returns inside, as old programs end lines. Only a line feed ends a line: run `tr '\\r' '\\n'` over"
+    " the text."
 )
 
 AMBIGUOUS = re.compile(r"[+-]?[0-9]{1,3}(\.[0-9]{3})+")
@@ -127,7 +128,7 @@ def respelled(word):
 
 
 def in_plain_words(line):
-    """The words of a line as its writer may have meant it: a key in small letters, no comment, numbers as numbers."""
+    """The words of a line as its writer may have meant it: a key in lower case, no comment, numbers as numbers."""
     words = [word for word in characters(in_plain_characters(line)).split(" ") if word]
     comment = next((i for i, word in enumerate(words) if word.startswith("#")), len(words))
     key, values = words[: min(1, comment)], words[1:comment]

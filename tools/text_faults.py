@@ -115,7 +115,7 @@ def version_fault(place):
     if place.key == b"prrt" and len(place.words) > 2:
         said.append("Nothing else may stand in that line.")
     if place.key != b"prrt" and place.key.lower() == b"prrt":
-        said.append("It is written in small letters.")
+        said.append("It is written in lower case.")
     return said
 
 
@@ -126,7 +126,7 @@ def key_fault(place):
         return [f"{quoted(key)} is a key of version 2, and the text begins with `prrt 1`: begin it with `prrt 2`."]
     known = f"The keys of version {place.version} are {listed(map(bytes.decode, keys))}."
     if key.lower() in KEYS[2]:
-        return [f"Keys are in small letters: {quoted(key.lower())} in place of {quoted(key)}.", known]
+        return [f"Keys are in lower case (small letters): {quoted(key.lower())} in place of {quoted(key)}.", known]
     if key == b"prrt":
         return ["A version stands in the first line alone. Between two scenes for `batch` stands a line `next`."]
     if place.words in ([b"next"], [b"report"]):
@@ -137,7 +137,7 @@ def key_fault(place):
         return ["The line begins with a number. All numbers of a key stand in one line, after it."]
     if key[:1] in b"/;%!":
         return [f"{quoted(key)} is no key. A comment begins with `#`.", known]
-    return [f"{quoted(key)} is no key: look for a misspelt one.", known, "They are in small letters; a space follows."]
+    return [f"{quoted(key)} is no key: look for a misspelt one.", known, "They are in lower case; a space follows."]
 
 
 def separator_fault(place):
