@@ -4,13 +4,9 @@ use Rattle.std.specs.Prelude.{codes}
 use Rattle.std.proofs.lemmas.List.{append_cancel_left}
 use Rattle.plan_model.specs.declared.geometry.Point.{Point}
 use Rattle.plan_model.specs.declared.trees.Knot.{Knot}
-use Rattle.path_tools.specs.ReportLines.{line_text}
+use Rattle.path_tools.specs.ReportLines.{field, line_text, point_field}
 use Rattle.path_tools.specs.ReportLines.ReportLine.{NodeLine, PathOf, PathPoint}
 use Rattle.path_tools.proofs.FieldWords.{same_fields}
-
--- a word, a number in decimal, and a byte after it
-abbrev pub field : List ℕ → ℕ → ℕ → List ℕ → List ℕ
-field word n e rest = word ++ (decimal n ++ e ∷ rest)
 
 -- Texts that begin with the same word, a number and the same byte, and are the same, begin with the same number.
 pub same_field : (text word : List ℕ) (n m e : ℕ) (x y : List ℕ) → n < 2 ^ 64 → m < 2 ^ 64 → e < 48 → text ≡ field word n e x → text ≡ field word m e y
@@ -18,12 +14,11 @@ pub same_field : (text word : List ℕ) (n m e : ℕ) (x y : List ℕ) → n < 2
 same_field text word n m e x y few also low one other =
     same_fields n m e x y few also low (append_cancel_left word (decimal n ++ e ∷ x) (decimal m ++ e ∷ y) (sym one ∙ other))
 
-pub parts-point : (p : Point) (rest : List ℕ) → line_text (PathPoint p) ++ rest ≡ field [] p.x 32 (field [] p.y 10 rest)
+pub parts-point : (p : Point) (rest : List ℕ) → line_text (PathPoint p) ++ rest ≡ point_field [] p 10 rest
 parts-point p rest = simp append_assoc
 
 pub parts-node : (n : ℕ) (knot : Knot) (rest : List ℕ) → line_text (NodeLine n knot) ++ rest
-    ≡ field (codes "node ") n 32 (field (codes "at ") knot.point.x 32 (field [] knot.point.y 32
-    (field (codes "parent ") knot.parent 32 (field (codes "cost ") knot.cost 10 rest))))
+    ≡ field (codes "node ") n 32 (point_field (codes "at ") knot.point 32 (field (codes "parent ") knot.parent 32 (field (codes "cost ") knot.cost 10 rest)))
 parts-node n knot rest = simp append_assoc
 
 pub parts-path : (points cost : ℕ) (rest : List ℕ) → line_text (PathOf points cost) ++ rest

@@ -7,30 +7,28 @@ use Rattle.plan_model.specs.declared.records.Outcome.TheVariants.{Placed, Same, 
 use Rattle.plan_model.specs.declared.records.Record.{Record}
 use Rattle.plan_model.specs.Reports.ReportText.{line, outcome_words}
 use Rattle.step_core.specs.Words.{last_field}
-use Rattle.path_tools.specs.ReportLines.{Extent, EndsWithin, FitsEntry, line_text}
+use Rattle.path_tools.specs.ReportLines.{Extent, EndsWithin, FitsEntry, field, line_text, mark_front}
 use Rattle.path_tools.specs.ReportLines.ReportLine.{MarkLine}
-use Rattle.path_tools.proofs.LineParts.{field, same_field}
+use Rattle.path_tools.proofs.LineParts.{same_field}
 
-mark_front : (k w t : ℕ) (first : List ℕ) (more : List (List ℕ)) (rest : List ℕ)
+front : (k w t : ℕ) (first : List ℕ) (more : List (List ℕ)) (rest : List ℕ)
     → line ((codes "mark" ∷ decimal k ∷ codes "worker" ∷ decimal w ∷ codes "turn" ∷ decimal t ∷ []) ++ first ∷ more) ++ rest
-    ≡ field (codes "mark ") k 32 (field (codes "worker ") w 32 (field (codes "turn ") t 32 (line (first ∷ more) ++ rest)))
-mark_front k w t first more rest = simp append_assoc
+    ≡ mark_front k w t (line (first ∷ more) ++ rest)
+front k w t first more rest = simp append_assoc
 
 front_of : (k : ℕ) (entry : Record) (rest : List ℕ) (o : Outcome)
     → line ((codes "mark" ∷ decimal k ∷ codes "worker" ∷ decimal entry.worker ∷ codes "turn" ∷ decimal entry.turn ∷ []) ++ outcome_words entry o) ++ rest
-    ≡ field (codes "mark ") k 32
-    (field (codes "worker ") entry.worker 32 (field (codes "turn ") entry.turn 32 (line (outcome_words entry o) ++ rest)))
+    ≡ mark_front k entry.worker entry.turn (line (outcome_words entry o) ++ rest)
 front_of k entry rest Placed =
-    mark_front k entry.worker entry.turn (codes "nearest")
+    front k entry.worker entry.turn (codes "nearest")
     (decimal entry.nearest ∷ codes "placed" ∷ codes "class" ∷ decimal entry.class ∷ codes "first" ∷ decimal entry.first_parent ∷ decimal entry.first_cost ∷ [])
     rest
-front_of k entry rest (Same j) = mark_front k entry.worker entry.turn (codes "nearest") (decimal entry.nearest ∷ codes "same" ∷ decimal j ∷ []) rest
-front_of k entry rest Blocked = mark_front k entry.worker entry.turn (codes "nearest") (decimal entry.nearest ∷ codes "blocked" ∷ []) rest
-front_of k entry rest Skipped = mark_front k entry.worker entry.turn (codes "skipped") (codes "by" ∷ decimal entry.nearest ∷ []) rest
+front_of k entry rest (Same j) = front k entry.worker entry.turn (codes "nearest") (decimal entry.nearest ∷ codes "same" ∷ decimal j ∷ []) rest
+front_of k entry rest Blocked = front k entry.worker entry.turn (codes "nearest") (decimal entry.nearest ∷ codes "blocked" ∷ []) rest
+front_of k entry rest Skipped = front k entry.worker entry.turn (codes "skipped") (codes "by" ∷ decimal entry.nearest ∷ []) rest
 
 pub parts-mark : (k : ℕ) (entry : Record) (rest : List ℕ) → line_text (MarkLine k entry) ++ rest
-    ≡ field (codes "mark ") k 32
-    (field (codes "worker ") entry.worker 32 (field (codes "turn ") entry.turn 32 (line (outcome_words entry entry.outcome) ++ rest)))
+    ≡ mark_front k entry.worker entry.turn (line (outcome_words entry entry.outcome) ++ rest)
 parts-mark k entry rest = front_of k entry rest entry.outcome
 
 -- a line that goes on with the nearest node of a mark

@@ -23,6 +23,18 @@ pub data ReportLine : Type 0 where
 
 -- ---- texts
 
+-- a word, a number in decimal, and a byte after it
+abbrev pub field : List ℕ → ℕ → ℕ → List ℕ → List ℕ
+field word n e rest = word ++ (decimal n ++ e ∷ rest)
+
+-- the same of a point: its column, a space, and its row
+abbrev pub point_field : List ℕ → Point → ℕ → List ℕ → List ℕ
+point_field word p e rest = field word p.x 32 (field [] p.y e rest)
+
+-- the front of the line of a mark: its number, its worker and its turn
+abbrev pub mark_front : (mark worker turn : ℕ) → List ℕ → List ℕ
+mark_front mark worker turn rest = field (codes "mark ") mark 32 (field (codes "worker ") worker 32 (field (codes "turn ") turn 32 rest))
+
 -- the words of the count of skipped marks, if there is one
 abbrev pub skipped_count : Option ℕ → List (List ℕ)
 skipped_count None = []

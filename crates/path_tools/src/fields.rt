@@ -3,6 +3,7 @@
 ghost use Rattle.std.specs.Prelude.{◌≡◌, ◌++◌, ◌∷◌, ◌<◌, ◌≤◌, ℕ, List, IfNone, IfSome, decimal, length};
 ghost use Rattle.std.specs.List.{prefix_len};
 ghost use Rattle.plan_model.specs.Texts.TextNumbers.{is_digit};
+ghost use Rattle.path_tools.specs.ReportLines.{field};
 
 use crate::number_words::number_up_to;
 
@@ -15,8 +16,10 @@ pub(crate) fn read_field<'a>(
     most: u64,
 ) -> Option<(u64, &'a [u8])>
     requires end { end < 48 }
-    ensures some { IfSome result (λ found. (found.0 ≤ most) × (text.now ≡ word.now ++ (decimal found.0 ++ end ∷ found.1.now))) }
-    ensures none { IfNone result ((n : ℕ) (after : List ℕ) → n ≤ most → ¬ (text.now ≡ word.now ++ (decimal n ++ end ∷ after))) }
+    ensures some { IfSome result (λ found. (found.0 ≤ most) × (text.now ≡ field word.now found.0 end found.1.now)) }
+    ensures only { IfSome result (λ found. (n : ℕ) (after : List ℕ) → n ≤ most → text.now ≡ field word.now n end after
+        → (found.0 ≡ n) × (found.1.now ≡ after)) }
+    ensures none { IfNone result ((n : ℕ) (after : List ℕ) → n ≤ most → ¬ (text.now ≡ field word.now n end after)) }
 {
     let rest = after(text, word)?;
     let (number, rest) = read_number(rest, end, most)?;

@@ -5,7 +5,7 @@ ghost use Rattle.plan_model.specs.Geometry.Bounds.{IsBounded};
 ghost use Rattle.plan_model.specs.declared.geometry.Point.{Point};
 ghost use Rattle.plan_model.specs.declared.limits.TheConstants.{MOST_MARKS};
 ghost use Rattle.plan_model.specs.declared.trees.Knot.{Knot};
-ghost use Rattle.path_tools.specs.ReportLines.{FitsKnot, line_text};
+ghost use Rattle.path_tools.specs.ReportLines.{FitsKnot, line_text, point_field};
 ghost use Rattle.path_tools.specs.ReportLines.ReportLine.{NoPath, NodeLine, PathOf, PathPoint};
 
 use crate::fields::{after, read_field};
@@ -43,9 +43,8 @@ pub(crate) fn read_path_point(text: &[u8]) -> Option<(Point, &[u8])>
     ensures some { IfSome result (λ read. IsBounded read.0 × (text.now ≡ line_text (PathPoint read.0) ++ read.1.now)) }
     ensures none { IfNone result ((p : Point) (rest : List ℕ) → IsBounded p → ¬ (text.now ≡ line_text (PathPoint p) ++ rest)) }
 {
-    let (x, rest) = read_field(text, b"", b' ', MOST_ORDINATE)?;
-    let (y, rest) = read_field(rest, b"", b'\n', MOST_ORDINATE)?;
-    Some((point_of(x, y), rest))
+    let (point, rest) = read_point(text, b"", b'\n')?;
+    Some((point, rest))
 }
 
 /// A node's number and what its line says, and what stands after the line; `None` exactly if the text does not begin with such a line
@@ -58,11 +57,9 @@ pub(crate) fn read_node(text: &[u8], marks: u32) -> Option<(u32, Knot, &[u8])>
 {
     let last = u64::from(marks);
     let (number, rest) = read_field(text, b"node ", b' ', last)?;
-    let (x, rest) = read_field(rest, b"at ", b' ', MOST_ORDINATE)?;
-    let (y, rest) = read_field(rest, b"", b' ', MOST_ORDINATE)?;
+    let (point, rest) = read_point(rest, b"at ", b' ')?;
     let (parent, rest) = read_field(rest, b"parent ", b' ', last)?;
     let (cost, rest) = read_field(rest, b"cost ", b'\n', MOST_COST)?;
-    let point = point_of(x, y);
     let parent = parent as u32;
     Some((
         number as u32,
@@ -75,14 +72,19 @@ pub(crate) fn read_node(text: &[u8], marks: u32) -> Option<(u32, Knot, &[u8])>
     ))
 }
 
-/// The point with these coordinates.
-fn point_of(x: u64, y: u64) -> Point
-    requires right { x < 2 ^ 20 }
-    requires top { y < 2 ^ 20 }
-    ensures { result ≡ record { x = x; y = y } }
+/// A point within bounds, after a known word and before the byte that ends it, and what stands after that byte; `None` exactly if the text
+/// does not begin so. The byte is no digit. O(n) for n bytes up to it.
+fn read_point<'a>(text: &'a [u8], word: &[u8], end: u8) -> Option<(Point, &'a [u8])>
+    requires end { end < 48 }
+    ensures some { IfSome result (λ read. IsBounded read.0 × (text.now ≡ point_field word.now read.0 end read.1.now)) }
+    ensures only { IfSome result (λ read. (p : Point) (rest : List ℕ) → IsBounded p → text.now ≡ point_field word.now p end rest → read.1.now ≡ rest) }
+    ensures none { IfNone result ((p : Point) (rest : List ℕ) → IsBounded p → ¬ (text.now ≡ point_field word.now p end rest)) }
 {
-    Point {
+    let (x, rest) = read_field(text, word, b' ', MOST_ORDINATE)?;
+    let (y, rest) = read_field(rest, b"", end, MOST_ORDINATE)?;
+    let point = Point {
         x: x as u32,
         y: y as u32,
-    }
+    };
+    Some((point, rest))
 }

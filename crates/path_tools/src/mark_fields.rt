@@ -3,6 +3,7 @@
 ghost use Rattle.std.specs.Prelude.{◌≡◌, ◌++◌, ◌∷◌, [], ◌<◌, ◌≤◌, ◌^◌, ℕ, List, IfNone, IfSome, codes, decimal};
 ghost use Rattle.plan_model.specs.Reports.ReportText.{line};
 ghost use Rattle.plan_model.specs.declared.limits.TheConstants.{MOST_MARKS};
+ghost use Rattle.path_tools.specs.ReportLines.{field, mark_front};
 
 use crate::fields::read_field;
 use crate::line_readers::MOST_COST;
@@ -17,11 +18,11 @@ const MOST_IN_WORD: u64 = (1 << 18) - 1;
 pub(crate) fn read_turn(text: &[u8], marks: u32) -> Option<(u32, u32, u32, &[u8])>
     requires few { marks ≤ MOST_MARKS }
     ensures fits { IfSome result (λ read. (read.0 ≤ marks) × (read.1 < 64) × (read.2 < 2 ^ 18)) }
-    ensures some { IfSome result (λ read. text.now
-        ≡ codes "mark " ++ (decimal read.0 ++ 32 ∷ (codes "worker " ++ (decimal read.1 ++ 32 ∷ (codes "turn " ++ (decimal read.2 ++ 32 ∷ read.3.now)))))) }
+    ensures some { IfSome result (λ read. text.now ≡ mark_front read.0 read.1 read.2 read.3.now) }
+    ensures only { IfSome result (λ read. (number worker turn : ℕ) (rest : List ℕ) → number ≤ marks → worker < 64 → turn < 2 ^ 18
+        → text.now ≡ mark_front number worker turn rest → (read.0 ≡ number) × (read.1 ≡ worker) × (read.2 ≡ turn) × (read.3.now ≡ rest)) }
     ensures none { IfNone result ((number worker turn : ℕ) (rest : List ℕ) → number ≤ marks → worker < 64 → turn < 2 ^ 18
-        → ¬ (text.now ≡ codes "mark " ++ (decimal number ++ 32 ∷ (codes "worker " ++ (decimal worker ++ 32 ∷
-        (codes "turn " ++ (decimal turn ++ 32 ∷ rest))))))) }
+        → ¬ (text.now ≡ mark_front number worker turn rest)) }
 {
     let last = u64::from(marks);
     let (number, rest) = read_field(text, b"mark ", b' ', last)?;
@@ -34,8 +35,8 @@ pub(crate) fn read_turn(text: &[u8], marks: u32) -> Option<(u32, u32, u32, &[u8]
 pub(crate) fn read_nearest(text: &[u8], marks: u32) -> Option<(u32, &[u8])>
     requires few { marks ≤ MOST_MARKS }
     ensures fits { IfSome result (λ read. read.0 ≤ marks) }
-    ensures some { IfSome result (λ read. text.now ≡ codes "nearest " ++ (decimal read.0 ++ 32 ∷ read.1.now)) }
-    ensures none { IfNone result ((nearest : ℕ) (rest : List ℕ) → nearest ≤ marks → ¬ (text.now ≡ codes "nearest " ++ (decimal nearest ++ 32 ∷ rest))) }
+    ensures some { IfSome result (λ read. text.now ≡ field (codes "nearest ") read.0 32 read.1.now) }
+    ensures none { IfNone result ((nearest : ℕ) (rest : List ℕ) → nearest ≤ marks → ¬ (text.now ≡ field (codes "nearest ") nearest 32 rest)) }
 {
     let (nearest, rest) = read_field(text, b"nearest ", b' ', u64::from(marks))?;
     Some((nearest as u32, rest))

@@ -1,10 +1,10 @@
 //! The line of a mark in a report, read with its line feed.
 
-ghost use Rattle.std.specs.Prelude.{◌≡◌, ◌++◌, ◌∷◌, ◌<◌, ◌≤◌, ◌^◌, ℕ, Bool, List, IfNone, IfSome, codes, decimal};
+ghost use Rattle.std.specs.Prelude.{◌≡◌, ◌++◌, ◌<◌, ◌≤◌, ◌^◌, ℕ, Bool, List, IfNone, IfSome, codes};
 ghost use Rattle.plan_model.specs.Reports.ReportText.{line, outcome_words};
 ghost use Rattle.plan_model.specs.declared.limits.TheConstants.{MOST_MARKS};
 ghost use Rattle.plan_model.specs.declared.records.Record.{Record};
-ghost use Rattle.path_tools.specs.ReportLines.{FitsEntry, line_text};
+ghost use Rattle.path_tools.specs.ReportLines.{FitsEntry, field, line_text};
 ghost use Rattle.path_tools.specs.ReportLines.ReportLine.{MarkLine};
 
 use crate::fields::after;
@@ -77,10 +77,9 @@ fn read_steered(
     requires few { marks ≤ MOST_MARKS }
     ensures fits { (informed : Bool) → IfSome result (λ read. FitsEntry (record { marks = marks; informed = informed }) read.0) }
     ensures own { IfSome result (λ read. (read.0.worker ≡ worker) × (read.0.turn ≡ turn)) }
-    ensures some { IfSome result (λ read. codes "nearest " ++ (decimal nearest ++ 32 ∷ text.now)
-        ≡ line (outcome_words read.0 read.0.outcome) ++ read.1.now) }
+    ensures some { IfSome result (λ read. field (codes "nearest ") nearest 32 text.now ≡ line (outcome_words read.0 read.0.outcome) ++ read.1.now) }
     ensures none { (informed : Bool) → IfNone result ((entry : Record) (rest : List ℕ) → FitsEntry (record { marks = marks; informed = informed }) entry
-        → ¬ (codes "nearest " ++ (decimal nearest ++ 32 ∷ text.now) ≡ line (outcome_words entry entry.outcome) ++ rest)) }
+        → ¬ (field (codes "nearest ") nearest 32 text.now ≡ line (outcome_words entry entry.outcome) ++ rest)) }
 {
     if let Some((class, first_parent, first_cost, rest)) = read_placed(text, marks) {
         let entry = Record {

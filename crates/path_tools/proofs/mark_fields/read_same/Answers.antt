@@ -1,8 +1,8 @@
 use Rattle.std.proofs.Common.{◌≡◌, ℕ, ◌≤◌, List, [], ◌∷◌, ◌++◌, arith, sym, ◌∙◌, append_assoc, decimal}
 use Rattle.std.specs.Prelude.{codes}
 use Rattle.plan_model.specs.Reports.ReportText.{line}
+use Rattle.path_tools.specs.ReportLines.{field}
 use Rattle.path_tools.proofs.FieldWords.{none_always}
-use Rattle.path_tools.proofs.LineParts.{field}
 use Rattle.path_tools.proofs.mark_fields.read_same.Goals as goal
 
 -- the line

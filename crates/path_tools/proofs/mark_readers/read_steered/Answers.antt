@@ -2,9 +2,8 @@ use Rattle.std.proofs.Common.{◌≡◌, ℕ, List, [], ◌∷◌, ◌++◌, sym
 use Rattle.std.specs.Prelude.{codes}
 use Rattle.plan_model.specs.declared.records.Record.{Record}
 use Rattle.plan_model.specs.Reports.ReportText.{line, outcome_words}
-use Rattle.path_tools.specs.ReportLines.{Extent, FitsEntry}
+use Rattle.path_tools.specs.ReportLines.{Extent, FitsEntry, field}
 use Rattle.path_tools.proofs.FieldWords.{none_always}
-use Rattle.path_tools.proofs.LineParts.{field}
 use Rattle.path_tools.proofs.MarkParts.{nearest_first, no_ending}
 use Rattle.path_tools.proofs.mark_readers.read_steered.Goals as goal
 
