@@ -1,7 +1,8 @@
 -- Why a command that reads a text is refused.
-use Rattle.std.proofs.Common.{◌≡◌, ℕ, ◌<◌, false, Some, IsTrue, [], ◌∷◌, length, Vec, refl, sym, ap, subst, arith}
+use Rattle.std.proofs.Common.{◌≡◌, ℕ, ◌<◌, true, false, Some, IsTrue, [], ◌∷◌, length, Vec, refl, sym, ap, subst, arith}
 use Rattle.std.proofs.lemmas.Bool.{and_from}
-use Rattle.std.proofs.Common.{Result, Ok, Err, IsErrAnd, IsErrOf, IfErr}
+use Rattle.std.proofs.Common.{Option, None, IfSome, IfNone, Result, Ok, Err, IsErrAnd, IsErrOf, IfErr}
+use Rattle.std.specs.Io.KnownBytes.{IsAtEnd}
 use Rattle.plan_model.specs.declared.limits.TheConstants.{MOST_TEXT_BYTES}
 use Rattle.plan_model.specs.declared.scenes.Scene.{Scene}
 use Rattle.plan_model.specs.Spaces.Clearance.{ClearAt}
@@ -9,14 +10,14 @@ use Rattle.plan_model.specs.Spaces.ConfigurationSpace.{space_of}
 use Rattle.plan_model.specs.Texts.Streams.{SourceState, counted_up}
 use Rattle.scene_text.specs.declared.fetching.FetchFault.{FetchFault}
 use Rattle.scene_text.specs.declared.fetching.FetchFault.TheVariants as fetching
-use Rattle.scene_text.specs.Fetching.{Fetches}
+use Rattle.scene_text.specs.Fetching.{Fetches, IsAllOf}
 use Rattle.twin_trees.specs.TurnedScenes.{goal_middle}
 use Rattle.planner_main.specs.declared.commands.Command.{Command}
 use Rattle.planner_main.specs.declared.refusals.Refusal.TheVariants as refusals
 use Rattle.planner_main.specs.Commands.{input_of, plans, reads_text, tests_goal}
 use Rattle.planner_main.specs.Inputs.{Input, one_scene, reads_bytes, SpellsInput}
 use Rattle.planner_main.specs.Conclusions.{IsCaused, HasScene}
-use Rattle.planner_main.specs.Exchanges.{ReadFailed, CameShort}
+use Rattle.planner_main.specs.Exchanges.{ReadFailed, CameShort, IsReadWhole}
 use Rattle.planner_main.specs.Faults.{refusal_of_fetch}
 
 read≢long : fetching.Read ≡ fetching.TooLong → ⊥
@@ -26,6 +27,14 @@ read≢memory : fetching.Read ≡ fetching.Memory → ⊥
 read≢memory is = absurd cc
 
 module _ {Z : Type 0} where
+  -- what a fetch that succeeds says, as one fact
+  pub IsReadWhole-fetched : (before now : SourceState) (text : Vec ℕ Z) → now.has_ended ≡ true → IsAllOf before.bytes_left text.items →
+      IsAtEnd now.bytes_left →
+      (IsTrue before.counts_failures_alone → ¬ IsErrOf {E = FetchFault} (Ok text) fetching.Read → now.fault_count ≡ before.fault_count) →
+      IsReadWhole before now text.items
+  IsReadWhole-fetched before now text end all none_left no_fault =
+      record { end = end; all = all; none_left = none_left; no_fault = λ alone. no_fault alone (λ read. absurd cc) }
+
   different : (result : Result (Vec ℕ Z) FetchFault) (a b : FetchFault) → result ≡ Err a → IsErrOf result b → a ≡ b
   different result a b is other = cc
 
@@ -92,3 +101,11 @@ GoalBlocked-caused command before now scene one tests h start blocked = (
     },
   ),
 )
+
+-- ---- what an answer of a call says, by which one it is
+
+pub given_some : {A : Type 0} (answer : Option A) (x : A) (P : A → Type 0) → answer ≡ Some x → IfSome answer P → P x
+given_some {A} answer x P is h = subst (λ (o : Option A). IfSome o P) is h
+
+pub given_none : {A : Type 0} (answer : Option A) (P : Type 0) → answer ≡ None → IfNone answer P → P
+given_none {A} answer P is h = subst (λ (o : Option A). IfNone o P) is h

@@ -20,12 +20,8 @@ use Rattle.planner_main.proofs.DecidedStatuses.{success_decided, refusal_decided
 -- words that ask for no command are refused for that alone
 status_of-words : (before now : SourceState) (refusal : Refusal) → IsCaused None before now refusal → status_of refusal ≡ WORDS_REFUSED
 status_of-words before now refusals.Words cause = refl
-status_of-words before now refusals.TooLong cause = absurd cause.0
-status_of-words before now (refusals.Text number kind) cause = absurd cause.0
-status_of-words before now refusals.StartBlocked cause = absurd cause.0
-status_of-words before now refusals.GoalBlocked cause = absurd cause.0
-status_of-words before now refusals.ReadFault cause = absurd cause.0
 status_of-words before now refusals.Memory cause = absurd cc
+status_of-words before now refusal cause = absurd cause.0
 
 module _ (asked : Option Command) (before now : SourceState) (answered : Done) (text : List ℕ) where
   status-words : IsAnswer asked before now answered text → asked ≡ None → answered.status ≡ WORDS_REFUSED

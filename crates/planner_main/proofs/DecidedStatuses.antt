@@ -1,8 +1,7 @@
 -- Which status the bytes of the source decide, from the answer and its cause.
 use Rattle.std.proofs.Common.{◌≡◌, ℕ, ◌≤◌, ◌<◌, ◌⊎◌, inl, inr, Bool, true, false, IsTrue, MatchBool, Option, Some, None, IfSome}
-use Rattle.std.proofs.Common.{List, [], ◌∷◌, length, length-append, refl, sym, ap, subst, arith}
+use Rattle.std.proofs.Common.{List, [], ◌∷◌, length, refl, sym, ap, subst, ◌∙◌, arith}
 use Rattle.std.proofs.lemmas.Bool.{and_parts, false≢true}
-use Rattle.std.specs.Io.KnownBytes.{Consumes}
 use Rattle.plan_model.specs.declared.limits.TheConstants.{MOST_TEXT_BYTES}
 use Rattle.plan_model.specs.declared.scenes.Scene.{Scene}
 use Rattle.plan_model.specs.declared.text_terms.Kind.{Kind}
@@ -11,10 +10,6 @@ use Rattle.plan_model.specs.Texts.Streams.{SourceState}
 use Rattle.plan_model.proofs.SceneBatchLaws.{SpellsBatch-not_refused, SpellsBatch-one_batch}
 use Rattle.plan_model.proofs.Soundness.{Spells-not_refused}
 use Rattle.plan_model.proofs.SameScenes.{Spells-one_scene}
-use Rattle.plan_model.proofs.SpelledScenes.{ClearAt-spelled}
-use Rattle.plan_model.specs.Spaces.Clearance.{ClearAt}
-use Rattle.plan_model.specs.Spaces.ConfigurationSpace.{space_of}
-use Rattle.twin_trees.specs.TurnedScenes.{goal_middle}
 use Rattle.twin_trees.proofs.TurnedRuns.{ClearAt-middle}
 use Rattle.scene_text.specs.Fetching.{CameTooLong}
 use Rattle.path_tools.specs.declared.verdicts.Verdict.{Verdict}
@@ -33,6 +28,7 @@ use Rattle.planner_main.specs.Inputs.{IsTextBeforeReport, RefusesFront, RefusesW
 use Rattle.planner_main.specs.Exchanges.{ReadFailed, IsReadWhole, IsUnread}
 use Rattle.planner_main.specs.Refusals.{status_of}
 use Rattle.planner_main.specs.VerdictLines.{status_of_verdict}
+use Rattle.planner_main.proofs.KnownBytes.{came_count}
 use Rattle.planner_main.proofs.CutTexts.{IsCutAtReport-has_line, IsCutAtReport-one_front}
 
 -- a scene that stands before a line `report` is not refused
@@ -72,51 +68,35 @@ short_input scene_and_report bytes [] t = absurd t
 short_input scene_and_report bytes (scene ∷ []) t = t.short
 short_input scene_and_report bytes (scene ∷ second ∷ scenes) t = absurd t
 
--- the middles of their first goals are clear together
-same_goals : (input : Input) (bytes : List ℕ) (scenes others : List Scene) → SpellsInput input bytes scenes → SpellsInput input bytes others →
-    AreGoalsClear scenes → AreGoalsClear others
-same_goals nothing bytes scenes others s t clear = rw t.1 tt
-same_goals one_scene bytes [] others s t clear = absurd s
-same_goals one_scene bytes (a ∷ c ∷ scenes) others s t clear = absurd s
-same_goals one_scene bytes (a ∷ []) [] s t clear = absurd t
-same_goals one_scene bytes (a ∷ []) (b ∷ d ∷ others) s t clear = absurd t
-same_goals one_scene bytes (a ∷ []) (b ∷ []) s t clear =
-    (subst (λ scene. ClearAt (space_of scene) (goal_middle scene)) (Spells-one_scene supported bytes a b s.spelled t.spelled) clear.0, tt)
-same_goals several_scenes bytes scenes others s t clear =
-    subst AreGoalsClear (SpellsBatch-one_batch supported bytes scenes others s.spelled t.spelled) clear
-same_goals scene_and_report bytes [] others s t clear = absurd s
-same_goals scene_and_report bytes (a ∷ c ∷ scenes) others s t clear = absurd s
-same_goals scene_and_report bytes (a ∷ []) [] s t clear = absurd t
-same_goals scene_and_report bytes (a ∷ []) (b ∷ d ∷ others) s t clear = absurd t
-same_goals scene_and_report bytes (a ∷ []) (b ∷ []) s t clear =
-    (subst (λ scene. ClearAt (space_of scene) (goal_middle scene)) (same_front bytes a b s t) clear.0, tt)
-
--- the scenes that it spells are clear at their starts together
-same_starts : (input : Input) (bytes : List ℕ) (scenes others : List Scene) → SpellsInput input bytes scenes → SpellsInput input bytes others →
-    AreStartsClear scenes → AreStartsClear others
-same_starts nothing bytes scenes others s t clear = rw t.1 tt
-same_starts one_scene bytes [] others s t clear = absurd s
-same_starts one_scene bytes (a ∷ c ∷ scenes) others s t clear = absurd s
-same_starts one_scene bytes (a ∷ []) [] s t clear = absurd t
-same_starts one_scene bytes (a ∷ []) (b ∷ d ∷ others) s t clear = absurd t
-same_starts one_scene bytes (a ∷ []) (b ∷ []) s t clear = (ClearAt-spelled supported bytes a b s.spelled t.spelled clear.0, tt)
-same_starts several_scenes bytes scenes others s t clear =
-    subst AreStartsClear (SpellsBatch-one_batch supported bytes scenes others s.spelled t.spelled) clear
-same_starts scene_and_report bytes [] others s t clear = absurd s
-same_starts scene_and_report bytes (a ∷ c ∷ scenes) others s t clear = absurd s
-same_starts scene_and_report bytes (a ∷ []) [] s t clear = absurd t
-same_starts scene_and_report bytes (a ∷ []) (b ∷ d ∷ others) s t clear = absurd t
-same_starts scene_and_report bytes (a ∷ []) (b ∷ []) s t clear =
-    (subst (λ scene. ClearAt (space_of scene) scene.start) (same_front bytes a b s t) clear.0, tt)
+-- in one way
+one_input : (input : Input) (bytes : List ℕ) (scenes others : List Scene) → SpellsInput input bytes scenes → SpellsInput input bytes others →
+    scenes ≡ others
+one_input nothing bytes scenes others s t = s.1 ∙ sym t.1
+one_input one_scene bytes [] others s t = absurd s
+one_input one_scene bytes (a ∷ c ∷ scenes) others s t = absurd s
+one_input one_scene bytes (a ∷ []) [] s t = absurd t
+one_input one_scene bytes (a ∷ []) (b ∷ d ∷ others) s t = absurd t
+one_input one_scene bytes (a ∷ []) (b ∷ []) s t = ap (λ scene. scene ∷ []) (Spells-one_scene supported bytes a b s.spelled t.spelled)
+one_input several_scenes bytes scenes others s t = SpellsBatch-one_batch supported bytes scenes others s.spelled t.spelled
+one_input scene_and_report bytes [] others s t = absurd s
+one_input scene_and_report bytes (a ∷ c ∷ scenes) others s t = absurd s
+one_input scene_and_report bytes (a ∷ []) [] s t = absurd t
+one_input scene_and_report bytes (a ∷ []) (b ∷ d ∷ others) s t = absurd t
+one_input scene_and_report bytes (a ∷ []) (b ∷ []) s t = ap (λ scene. scene ∷ []) (same_front bytes a b s t)
 
 module _ (bytes : List ℕ) (command : Command) (status : ℕ) where
+  -- what holds of the scenes that the bytes spell holds of whatever scenes they spell
+  same_scenes : (P : List Scene → Type 0) (scenes others : List Scene) → SpellsInput (input_of command) bytes scenes →
+      SpellsInput (input_of command) bytes others → P scenes → P others
+  same_scenes P scenes others s t = subst P (one_input (input_of command) bytes scenes others s t)
+
   -- the bytes spell scenes at whose starts the command may start, and it succeeds
   by_success : (scenes : List Scene) → SpellsInput (input_of command) bytes scenes → MayStart command scenes → MayReach command scenes
       → status ≤ greatest_success command → IsDecidedBy bytes command status
   by_success scenes t may reach low = record {
     done = λ others s m r. low;
-    goal_blocked = λ others s tests starts blocked. absurd (blocked (same_goals (input_of command) bytes scenes others t s (reach tests)));
-    blocked = λ others s tests blocked. absurd (blocked (same_starts (input_of command) bytes scenes others t s (may tests)));
+    goal_blocked = λ others s tests starts blocked. absurd (blocked (same_scenes AreGoalsClear scenes others t s (reach tests)));
+    blocked = λ others s tests blocked. absurd (blocked (same_scenes AreStartsClear scenes others t s (may tests)));
     refused = λ number kind f. absurd (not_faulty (input_of command) bytes scenes number kind t f);
     long = λ long. let short = short_input (input_of command) bytes scenes t in absurd (omega arith);
   }
@@ -133,8 +113,8 @@ module _ (bytes : List ℕ) (command : Command) (status : ℕ) where
 
   by_start : BlocksStart command bytes → IsTrue (tests_start command) → status ≡ START_BLOCKED → IsDecidedBy bytes command status
   by_start b tests e = record {
-    done = λ scenes t may reach. absurd (b.blocked (same_starts (input_of command) bytes scenes b.scenes t b.spelled (may tests)));
-    goal_blocked = λ scenes t tests' starts blocked. absurd (b.blocked (same_starts (input_of command) bytes scenes b.scenes t b.spelled starts));
+    done = λ scenes t may reach. absurd (b.blocked (same_scenes AreStartsClear scenes b.scenes t b.spelled (may tests)));
+    goal_blocked = λ scenes t tests' starts blocked. absurd (b.blocked (same_scenes AreStartsClear scenes b.scenes t b.spelled starts));
     blocked = λ scenes t tests' blocked. e;
     refused = λ number kind f. absurd (not_faulty (input_of command) bytes b.scenes number kind b.spelled f);
     long = λ long. let short = short_input (input_of command) bytes b.scenes b.spelled in absurd (omega arith);
@@ -142,8 +122,8 @@ module _ (bytes : List ℕ) (command : Command) (status : ℕ) where
 
   by_goal : BlocksGoal command bytes → IsTrue (tests_goal command) → status ≡ GOAL_BLOCKED → IsDecidedBy bytes command status
   by_goal b tests e = record {
-    done = λ scenes t may reach. absurd (b.blocked (same_goals (input_of command) bytes scenes b.scenes t b.spelled (reach tests)));
-    blocked = λ scenes t tests' blocked. absurd (blocked (same_starts (input_of command) bytes b.scenes scenes b.spelled t b.starts));
+    done = λ scenes t may reach. absurd (b.blocked (same_scenes AreGoalsClear scenes b.scenes t b.spelled (reach tests)));
+    blocked = λ scenes t tests' blocked. absurd (blocked (same_scenes AreStartsClear b.scenes scenes b.spelled t b.starts));
     goal_blocked = λ scenes t tests' starts blocked. e;
     refused = λ number kind f. absurd (not_faulty (input_of command) bytes b.scenes number kind b.spelled f);
     long = λ long. let short = short_input (input_of command) bytes b.scenes b.spelled in absurd (omega arith);
@@ -169,30 +149,17 @@ low_verdict (Broken at law) = omega arith
 -- a command that succeeds ends with one of its statuses of success
 pub Succeeds-low : (command : Command) (bytes : List ℕ) (done : Done) (text : List ℕ) → Succeeds command bytes done text →
     done.status ≤ greatest_success command
-Succeeds-low (commands.Plain full) bytes done text s = rw s.meaning.reported.best (low_report _)
-Succeeds-low (commands.Plan workers full) bytes done text s = rw s.meaning.reported.best (low_report _)
-Succeeds-low (commands.Smooth workers) bytes done text s = rw s.meaning.reported.best (low_report _)
-Succeeds-low (commands.Anytime workers slice) bytes done text s = rw s.meaning.reported.best (low_report _)
 Succeeds-low (commands.Twin workers) bytes done text s = rw s.meaning.bridge (low_report _)
 Succeeds-low (commands.Batch workers slice) bytes done text s = rw s.meaning.best (low_report _)
 Succeeds-low commands.Check bytes done text s = rw s.meaning.status (low_verdict _)
 Succeeds-low commands.Show bytes done text s = omega (arith, s.meaning.status)
 Succeeds-low commands.Convert bytes done text s = omega (arith, s.meaning.written.status)
 Succeeds-low (commands.Gen number) bytes done text s = omega (arith, s.meaning.status)
-Succeeds-low (commands.Trial number) bytes done text s = rw s.meaning.reported.best (low_report _)
+Succeeds-low command bytes done text s = rw s.meaning.reported.best (low_report _)
 
 greatest_success-low : (command : Command) → greatest_success command ≤ NO_PATH
-greatest_success-low (commands.Plain full) = omega arith
-greatest_success-low (commands.Plan workers full) = omega arith
-greatest_success-low (commands.Smooth workers) = omega arith
-greatest_success-low (commands.Anytime workers slice) = omega arith
-greatest_success-low (commands.Twin workers) = omega arith
-greatest_success-low (commands.Batch workers slice) = omega arith
-greatest_success-low commands.Check = omega arith
 greatest_success-low commands.Show = omega arith
-greatest_success-low commands.Convert = omega arith
-greatest_success-low (commands.Gen number) = omega arith
-greatest_success-low (commands.Trial number) = omega arith
+greatest_success-low command = omega arith
 
 pub IsSuccess-low : (asked : Option Command) (before now : SourceState) (done : Done) (text : List ℕ) → IsSuccess asked before now done text →
     done.status ≤ NO_PATH
@@ -202,17 +169,10 @@ IsSuccess-low asked before now done text s =
 -- the scene of a command that reads a text is what its bytes spell
 spelled : (command : Command) (bytes : List ℕ) (scene : Scene) → IsSceneOf command bytes scene → IsTrue (reads_text command) →
     SpellsInput (input_of command) bytes (scene ∷ [])
-spelled (commands.Plain full) bytes scene is reads = is
-spelled (commands.Plan workers full) bytes scene is reads = is
-spelled (commands.Smooth workers) bytes scene is reads = is
-spelled (commands.Anytime workers slice) bytes scene is reads = is
-spelled (commands.Twin workers) bytes scene is reads = is
 spelled (commands.Batch workers slice) bytes scene is reads = absurd is
-spelled commands.Check bytes scene is reads = is
-spelled commands.Show bytes scene is reads = is
-spelled commands.Convert bytes scene is reads = is
 spelled (commands.Gen number) bytes scene is reads = absurd (false≢true reads)
 spelled (commands.Trial number) bytes scene is reads = absurd (false≢true reads)
+spelled command bytes scene is reads = is
 
 -- so one that succeeds with something of its scene does so as the bytes decide
 by_scene : (bytes : List ℕ) (command : Command) (status : ℕ) (P : Scene → Type 0) (s : OfScene command bytes P) → IsTrue (reads_text command) →
@@ -227,29 +187,18 @@ by_meaning bytes command done text s reads = by command s reads (Succeeds-low co
   where
     by : (command : Command) → Succeeds command bytes done text → IsTrue (reads_text command) → done.status ≤ greatest_success command →
         IsDecidedBy bytes command done.status
-    by (commands.Plain full) s reads low = by_scene bytes (commands.Plain full) done.status _ s reads (λ tests. absurd (false≢true tests)) low
-    by (commands.Plan workers full) s reads low = by_scene bytes (commands.Plan workers full) done.status _ s reads (λ tests. absurd (false≢true tests)) low
-    by (commands.Smooth workers) s reads low = by_scene bytes (commands.Smooth workers) done.status _ s reads (λ tests. absurd (false≢true tests)) low
-    by (commands.Anytime workers slice) s reads low =
-        by_scene bytes (commands.Anytime workers slice) done.status _ s reads (λ tests. absurd (false≢true tests)) low
     by (commands.Twin workers) s reads low =
         by_scene bytes (commands.Twin workers) done.status _ s reads (λ tests. (ClearAt-middle workers s.scene s.meaning.both s.meaning.twin, tt)) low
     by (commands.Batch workers slice) s reads low =
         by_success bytes (commands.Batch workers slice) done.status s.scenes s.spelled (λ tests. s.starts) (λ tests. absurd (false≢true tests)) low
-    by commands.Check s reads low = by_scene bytes commands.Check done.status _ s reads (λ tests. absurd (false≢true tests)) low
-    by commands.Show s reads low = by_scene bytes commands.Show done.status _ s reads (λ tests. absurd (false≢true tests)) low
-    by commands.Convert s reads low = by_scene bytes commands.Convert done.status _ s reads (λ tests. absurd (false≢true tests)) low
     by (commands.Gen number) s reads low = absurd (false≢true reads)
     by (commands.Trial number) s reads low = absurd (false≢true reads)
+    by command s reads low = by_scene bytes command done.status _ s reads (λ tests. absurd (false≢true tests)) low
 
 -- known bytes of which more came than a text may have are too many
 long_before : (before now : Option (List ℕ)) (bytes : List ℕ) → CameTooLong before now → before ≡ Some bytes →
     MOST_TEXT_BYTES < length bytes
-long_before before now bytes came is = long_from now (subst (λ (b : Option (List ℕ)). Consumes b now came.0) is came.2)
-  where
-    long_from : (now : Option (List ℕ)) → Consumes (Some bytes) now came.0 → MOST_TEXT_BYTES < length bytes
-    long_from None consumed = absurd consumed
-    long_from (Some rest) consumed = let long = came.1 in omega (arith, ap length consumed, length-append came.0 rest)
+long_before before now bytes came is = let count = came_count before now bytes came.0 is came.2 in omega (arith, came.1)
 
 module _ (before now : SourceState) (command : Command) (status : ℕ) where
   -- what a command has read decides its status as the bytes of the source do
@@ -283,16 +232,7 @@ success_decided asked before now done text s =
 -- a command that tests the goal of a scene reads it
 tests_goal-reads : (command : Command) → IsTrue (tests_goal command) → IsTrue (reads_text command)
 tests_goal-reads (commands.Twin workers) tests = refl
-tests_goal-reads (commands.Plain full) tests = absurd (false≢true tests)
-tests_goal-reads (commands.Plan workers full) tests = absurd (false≢true tests)
-tests_goal-reads (commands.Smooth workers) tests = absurd (false≢true tests)
-tests_goal-reads (commands.Anytime workers slice) tests = absurd (false≢true tests)
-tests_goal-reads (commands.Batch workers slice) tests = absurd (false≢true tests)
-tests_goal-reads commands.Check tests = absurd (false≢true tests)
-tests_goal-reads commands.Show tests = absurd (false≢true tests)
-tests_goal-reads commands.Convert tests = absurd (false≢true tests)
-tests_goal-reads (commands.Gen number) tests = absurd (false≢true tests)
-tests_goal-reads (commands.Trial number) tests = absurd (false≢true tests)
+tests_goal-reads command tests = absurd (false≢true tests)
 
 -- the status of a refusal, if no read failed
 pub refusal_decided : (asked : Option Command) (before now : SourceState) (refusal : Refusal) → IsCaused asked before now refusal →

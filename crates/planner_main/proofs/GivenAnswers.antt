@@ -1,5 +1,5 @@
 -- What is answered to words, from the success or the refusal that it is.
-use Rattle.std.proofs.Common.{◌≡◌, false, IsTrue, [], Some, Result, Ok, Err, IsErrAnd, refl, sym, ap, subst, arith}
+use Rattle.std.proofs.Common.{◌≡◌, ℕ, false, IsTrue, List, [], Some, Result, Ok, Err, IsErrAnd, refl, sym, ap, subst, arith}
 use Rattle.std.proofs.KnownBytes.{Keeps-refl, Consumes-nil}
 use Rattle.plan_model.specs.declared.scenes.Scene.{Scene}
 use Rattle.plan_model.specs.Spaces.Clearance.{ClearAt}
@@ -15,35 +15,46 @@ use Rattle.planner_main.specs.declared.refusals.Refusal.{Refusal}
 use Rattle.planner_main.specs.declared.refusals.Refusal.TheVariants as refusals
 use Rattle.planner_main.specs.Commands.{input_of, reads_text, tests_goal}
 use Rattle.planner_main.specs.Conclusions.{Answers, HasScene, IsCaused, Succeeds}
-use Rattle.planner_main.specs.Exchanges.{IsUnread}
+use Rattle.planner_main.specs.Exchanges.{IsReadWhole, IsUnread}
 use Rattle.planner_main.specs.Faults.{refusal_of_twin}
 use Rattle.planner_main.specs.Inputs.{one_scene, reads_bytes}
 use Rattle.planner_main.proofs.Causes.{GoalBlocked-caused}
 
--- a command that reads one scene, and has it
-module _ (command : Command) (before now : SourceState) (scene : Scene) (one : input_of command ≡ one_scene)
-    (within : ReadsWithin before.bytes_left now.bytes_left) (h : HasScene before now scene) where
-  reads : IsTrue (reads_text command)
-  reads = ap reads_bytes one
-
+-- a command that reads a text, of which so many bytes came
+module _ (command : Command) (before now : SourceState) (reads : IsTrue (reads_text command))
+    (within : ReadsWithin before.bytes_left now.bytes_left) where
   -- succeeds
-  pub Answers-success : (answer : Answer) → Succeeds command h.bytes answer.done answer.text.items → Answers (Some command) before now (Ok answer)
-  Answers-success answer meaning = record {
-    success = record { command = command; known = refl; bytes = h.bytes; read = rw reads h.read; meaning = meaning };
+  pub Answers-given : (bytes : List ℕ) (answer : Answer) → IsReadWhole before now bytes → Succeeds command bytes answer.done answer.text.items
+      → Answers (Some command) before now (Ok answer)
+  Answers-given bytes answer whole meaning = record {
+    success = record { command = command; known = refl; bytes = bytes; read = rw reads whole; meaning = meaning };
     refusal = tt;
     unread = λ none. absurd (none reads);
     within = within;
   }
 
-  -- is out of memory
-  pub Answers-no_memory : (result : Result Answer Refusal) → IsErrAnd result (λ e. e ≡ refusals.Memory) → Answers (Some command) before now result
-  Answers-no_memory (Ok answer) only = absurd only
-  Answers-no_memory (Err e) only = record {
+  -- is refused
+  pub Answers-refused : (result : Result Answer Refusal) (refusal : Refusal) → IsErrAnd result (λ e. e ≡ refusal)
+      → IsCaused (Some command) before now refusal → Answers (Some command) before now result
+  Answers-refused (Ok answer) refusal only cause = absurd only
+  Answers-refused (Err e) refusal only cause = record {
     success = tt;
-    refusal = subst (IsCaused (Some command) before now) (sym only) (refl, h.read.no_fault);
+    refusal = subst (IsCaused (Some command) before now) (sym only) cause;
     unread = λ none. absurd (none reads);
     within = within;
   }
+
+-- a command that reads one scene, and has it
+module _ (command : Command) (before now : SourceState) (scene : Scene) (one : input_of command ≡ one_scene)
+    (within : ReadsWithin before.bytes_left now.bytes_left) (h : HasScene before now scene) where
+  -- succeeds
+  pub Answers-success : (answer : Answer) → Succeeds command h.bytes answer.done answer.text.items → Answers (Some command) before now (Ok answer)
+  Answers-success answer meaning = Answers-given command before now (ap reads_bytes one) within h.bytes answer h.read meaning
+
+  -- is out of memory
+  pub Answers-no_memory : (result : Result Answer Refusal) → IsErrAnd result (λ e. e ≡ refusals.Memory) → Answers (Some command) before now result
+  Answers-no_memory result only =
+      Answers-refused command before now (ap reads_bytes one) within result refusals.Memory only (refl, h.read.no_fault)
 
   -- is refused: its goal is not clear in its middle, or it is out of memory
   pub Answers-twin_fault :
@@ -51,14 +62,9 @@ module _ (command : Command) (before now : SourceState) (scene : Scene) (one : i
       → (fault ≡ faults.GoalBlocked → ¬ ClearAt (space_of scene) (goal_middle scene))
       → IsErrAnd result (λ e. e ≡ refusal_of_twin fault) → Answers (Some command) before now result
   Answers-twin_fault faults.Memory result tests start blocked only = Answers-no_memory result only
-  Answers-twin_fault faults.GoalBlocked (Ok answer) tests start blocked only = absurd only
-  Answers-twin_fault faults.GoalBlocked (Err e) tests start blocked only = record {
-    success = tt;
-    refusal = subst (IsCaused (Some command) before now) (sym only)
-        (GoalBlocked-caused command before now scene one tests h start (blocked refl));
-    unread = λ none. absurd (none reads);
-    within = within;
-  }
+  Answers-twin_fault faults.GoalBlocked result tests start blocked only =
+      Answers-refused command before now (ap reads_bytes one) within result refusals.GoalBlocked only
+      (GoalBlocked-caused command before now scene one tests h start (blocked refl))
 
 -- a command that reads nothing succeeds
 pub Answers-made :

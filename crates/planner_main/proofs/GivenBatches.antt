@@ -28,6 +28,7 @@ use Rattle.any_time.specs.BetterReports.{batch_report}
 use Rattle.any_time.specs.Sessions.{IsFresh, SessionState}
 use Rattle.any_time.specs.declared.betters.Better.{Better}
 use Rattle.planner_main.specs.BatchSessions.{HaveSessions, IsSessionOf}
+use Rattle.planner_main.proofs.GivenAnswers.{Answers-given, Answers-refused}
 use Rattle.planner_main.specs.declared.answers.Answer.{Answer}
 use Rattle.planner_main.specs.declared.commands.Command.{Command}
 use Rattle.planner_main.specs.declared.refusals.Refusal.{Refusal}
@@ -47,32 +48,16 @@ module _ (command : Command) (before now : SourceState) (scenes : List Scene) (s
 
   -- succeeds
   pub Answers-batch : (answer : Answer) → Succeeds command h.bytes answer.done answer.text.items → Answers (Some command) before now (Ok answer)
-  Answers-batch answer meaning = record {
-    success = record { command = command; known = refl; bytes = h.bytes; read = rw reads h.read; meaning = meaning };
-    refusal = tt;
-    unread = λ none. absurd (none reads);
-    within = within;
-  }
-
-  -- is refused
-  refused : (result : Result Answer Refusal) (refusal : Refusal) → IsErrAnd result (λ e. e ≡ refusal) → IsCaused (Some command) before now refusal
-      → Answers (Some command) before now result
-  refused (Ok answer) refusal only cause = absurd only
-  refused (Err e) refusal only cause = record {
-    success = tt;
-    refusal = subst (IsCaused (Some command) before now) (sym only) cause;
-    unread = λ none. absurd (none reads);
-    within = within;
-  }
+  Answers-batch answer meaning = Answers-given command before now reads within h.bytes answer h.read meaning
 
   -- is out of memory
   pub Answers-batch_no_memory : (result : Result Answer Refusal) → IsErrAnd result (λ e. e ≡ refusals.Memory) → Answers (Some command) before now result
-  Answers-batch_no_memory result only = refused result refusals.Memory only (refl, h.read.no_fault)
+  Answers-batch_no_memory result only = Answers-refused command before now reads within result refusals.Memory only (refl, h.read.no_fault)
 
   -- finds a start that is not clear
   pub Answers-batch_blocked : IsTrue (plans command) → ¬ AreStartsClear scenes → Answers (Some command) before now (Err refusals.StartBlocked)
   Answers-batch_blocked planned blocked =
-      refused (Err refusals.StartBlocked) refusals.StartBlocked refl (
+      Answers-refused command before now reads within (Err refusals.StartBlocked) refusals.StartBlocked refl (
         and_from (reads_text command) (plans command) reads planned,
         (
           h.bytes,
@@ -98,14 +83,6 @@ read_batch-caused command before now text (reading.Fault fault) several whole sh
   ),
 )
 read_batch-caused command before now text reading.Memory several whole short refused = (refl, whole.no_fault)
-
--- ---- what an answer of a call says, by which one it is
-
-pub given_some : {A : Type 0} (answer : Option A) (x : A) (P : A → Type 0) → answer ≡ Some x → IfSome answer P → P x
-given_some {A} answer x P is h = subst (λ (o : Option A). IfSome o P) is h
-
-pub given_none : {A : Type 0} (answer : Option A) (P : Type 0) → answer ≡ None → IfNone answer P → P
-given_none {A} answer P is h = subst (λ (o : Option A). IfNone o P) is h
 
 -- ---- the starts, by their numbers
 

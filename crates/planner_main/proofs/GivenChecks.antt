@@ -10,7 +10,8 @@ use Rattle.scene_text.specs.Refusals.{IsSceneRefusal}
 use Rattle.scene_text.specs.declared.refusals.SceneRefusal.{SceneRefusal}
 use Rattle.scene_text.specs.declared.refusals.SceneRefusal.TheVariants as reading
 use Rattle.planner_main.specs.CheckedTexts.{RefusesCheck, RefusesSceneText, RefusesWithoutReport}
-use Rattle.planner_main.specs.Conclusions.{Answers, IsCaused, Succeeds}
+use Rattle.planner_main.proofs.GivenAnswers.{Answers-refused}
+use Rattle.planner_main.specs.Conclusions.{Answers, IsCaused}
 use Rattle.planner_main.specs.Exchanges.{IsReadWhole}
 use Rattle.planner_main.specs.Faults.{refusal_of_scene}
 use Rattle.planner_main.specs.declared.answers.Answer.{Answer}
@@ -42,10 +43,7 @@ RefusesCheck-front bytes front report refusals.StartBlocked short cut h = record
   blocked = λ clear. h.blocked clear.0;
 }
 RefusesCheck-front bytes front report refusals.Memory short cut h = tt
-RefusesCheck-front bytes front report refusals.Words short cut h = absurd h
-RefusesCheck-front bytes front report refusals.TooLong short cut h = absurd h
-RefusesCheck-front bytes front report refusals.GoalBlocked short cut h = absurd h
-RefusesCheck-front bytes front report refusals.ReadFault short cut h = absurd h
+RefusesCheck-front bytes front report refusal short cut h = absurd h
 
 -- a scene that cannot be read is the cause of its refusal
 pub RefusesSceneText-read : (text : List ℕ) (refusal : SceneRefusal) → IsSceneRefusal text refusal → RefusesSceneText text (refusal_of_scene refusal)
@@ -62,46 +60,19 @@ RefusesWithoutReport-read bytes reading.Memory none refused = tt
 pub RefusesCheck-whole : (bytes : List ℕ) (refusal : Refusal) → length bytes ≤ MOST_TEXT_BYTES → RefusesWithoutReport bytes refusal
     → RefusesCheck bytes refusal
 RefusesCheck-whole bytes (refusals.Text number kind) short h = record { short = short; refused = inr h }
-RefusesCheck-whole bytes refusals.StartBlocked short h = absurd h
 RefusesCheck-whole bytes refusals.Memory short h = tt
-RefusesCheck-whole bytes refusals.Words short h = absurd h
-RefusesCheck-whole bytes refusals.TooLong short h = absurd h
-RefusesCheck-whole bytes refusals.GoalBlocked short h = absurd h
-RefusesCheck-whole bytes refusals.ReadFault short h = absurd h
+RefusesCheck-whole bytes refusal short h = absurd h
 
 -- ---- answers
-
--- a refusal with its cause
-pub Answers-refused : (before now : SourceState) (result : Result Answer Refusal) (refusal : Refusal) → ReadsWithin before.bytes_left now.bytes_left
-    → IsErrAnd result (λ e. e ≡ refusal) → IsCaused (Some commands.Check) before now refusal → Answers (Some commands.Check) before now result
-Answers-refused before now (Ok answer) refusal within only cause = absurd only
-Answers-refused before now (Err e) refusal within only cause = record {
-  success = tt;
-  refusal = subst (IsCaused (Some commands.Check) before now) (sym only) cause;
-  unread = λ none. absurd (none refl);
-  within = within;
-}
 
 module _ (before now : SourceState) (bytes : List ℕ) (within : ReadsWithin before.bytes_left now.bytes_left) (whole : IsReadWhole before now bytes) where
   caused : (refusal : Refusal) → RefusesCheck bytes refusal → IsCaused (Some commands.Check) before now refusal
   caused (refusals.Text number kind) h = (refl, (bytes, whole, h))
   caused refusals.StartBlocked h = (refl, (bytes, whole, h))
   caused refusals.Memory h = (refl, whole.no_fault)
-  caused refusals.Words h = absurd h
-  caused refusals.TooLong h = absurd h
-  caused refusals.GoalBlocked h = absurd h
-  caused refusals.ReadFault h = absurd h
+  caused refusal h = absurd h
 
   -- once all bytes were read, a refusal by them
   pub Answers-not_checked : (result : Result Answer Refusal) (refusal : Refusal) → IsErrAnd result (λ e. e ≡ refusal) → RefusesCheck bytes refusal
       → Answers (Some commands.Check) before now result
-  Answers-not_checked result refusal only h = Answers-refused before now result refusal within only (caused refusal h)
-
-  -- or a success
-  pub Answers-checked : (answer : Answer) → Succeeds commands.Check bytes answer.done answer.text.items → Answers (Some commands.Check) before now (Ok answer)
-  Answers-checked answer meaning = record {
-    success = record { command = commands.Check; known = refl; bytes = bytes; read = whole; meaning = meaning };
-    refusal = tt;
-    unread = λ none. absurd (none refl);
-    within = within;
-  }
+  Answers-not_checked result refusal only h = Answers-refused commands.Check before now refl within result refusal only (caused refusal h)

@@ -1,4 +1,5 @@
 pub mod Causes
+pub mod KnownBytes
 pub mod CutTexts
 pub mod DecidedStatuses
 pub mod GivenChecks

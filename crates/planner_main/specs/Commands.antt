@@ -129,6 +129,12 @@ plans (commands.Trial number) = true
 abbrev pub tests_start : Command → Bool
 tests_start command = reads_text command && plans command
 
+-- whether a command is done under an executor, and so may wait
+abbrev pub waits : Command → Bool
+waits (commands.Anytime workers slice) = true
+waits (commands.Batch workers slice) = true
+waits command = false
+
 -- whether a command is refused if the middle of the first goal of a scene that it reads is not clear
 abbrev pub tests_goal : Command → Bool
 tests_goal (commands.Twin workers) = true

@@ -12,3 +12,5 @@ pub mod BatchSessions
 pub mod CommandLines
 pub mod GeneratedScenes
 pub mod FixedNumbers
+pub mod ReadLaws
+pub mod WorkedStatuses

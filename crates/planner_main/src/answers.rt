@@ -1,7 +1,8 @@
 //! What is to be written for the words of the command line. Each command has a function that reads what it needs from
 //! the source and makes the text of the answer.
 
-ghost use Rattle.std.specs.Prelude.{◌≡◌, ◌≤◌, ◌<◌, ℕ, false, length, map, is_some, string_bytes, IfOk, IfErr, IsTrue, Err, None, Some, [], ◌∷◌};
+ghost use Rattle.std.specs.Prelude.{◌≡◌, ◌≤◌, ◌<◌, ◌↔◌, ℕ, false, length, map, is_some, string_bytes};
+ghost use Rattle.std.specs.Prelude.{IfOk, IfErr, IfNone, IfSome, IsNone, IsTrue, Err, None, Some, [], ◌∷◌};
 ghost use Rattle.plan_model.specs.Spaces.ConfigurationSpace.{space_of};
 ghost use Rattle.plan_model.specs.Spaces.Clearance.{ClearAt};
 ghost use Rattle.plan_model.specs.declared.limits.TheConstants.{MOST_WORKERS};
@@ -11,8 +12,8 @@ ghost use Rattle.plan_model.specs.Runs.SameRuns.{IsOfTextbookRun};
 ghost use Rattle.plan_model.specs.Runs.Textbook.{setup_of};
 ghost use Rattle.plan_model.specs.Trees.TreeStates.{IsSettled};
 ghost use Rattle.scene_text.specs.Fetching.{ReadsWithin};
-ghost use Rattle.planner_main.specs.Commands.{command_of, input_of, plans, IsNumbered};
-ghost use Rattle.planner_main.specs.Conclusions.{Answers, HandsOutNothing, HandsOutRunAlone, HasScene, IsBetterReport, IsCaused, IsReport};
+ghost use Rattle.planner_main.specs.Commands.{command_of, input_of, plans, waits, IsNumbered};
+ghost use Rattle.planner_main.specs.Conclusions.{Answers, Asks, HandsOutNothing, HandsOutRunAlone, HasScene, IsBetterReport, IsCaused, IsReport};
 ghost use Rattle.planner_main.specs.Conclusions.{IsSummary, ReportsGrown, ReportsTwin, Succeeds, WritesScene, status_of_report};
 ghost use Rattle.any_time.specs.BetterPaths.{AreBetterPaths};
 ghost use Rattle.twin_trees.specs.TurnedScenes.{goal_middle};
@@ -28,7 +29,7 @@ use crate::checking::check_report;
 use crate::commands::{Command, command_of};
 use crate::generated_scenes::gen_scene;
 use crate::refusals::Refusal;
-use crate::scene_tasks::task_with_marks;
+use crate::scene_tasks::{boxes_if_start_clear, task_with_marks};
 use crate::statuses::{DONE, NO_PATH};
 use crate::top_call::Done;
 use any_time::{FinishedSession, better_report, finish_session};
@@ -57,34 +58,41 @@ pub struct Answer {
 }
 
 /// What is to be written for the words. What their command needs is read from the source, which has not given its end. The gate
-/// is told of the turns of the workers, if workers are to plan.
+/// is told of the turns of the workers, if workers are to plan. `None` if they ask for a command that waits; then nothing is read.
 ///
 /// # Errors
 ///
 /// The refusal with its cause: `Words` exactly if the words ask for no command, and nothing is read then; otherwise that of
 /// the command, and the source may have been read.
-pub fn answer_to<
-    R: Threads + Sync + Wait + RandomSource + AllocGlobal + Clone + Drop,
-    S: Source,
-    G: Gate,
->(rt: &R, alloc: Global, words: &[String], source: &mut S, gate: &G) -> Result<Answer, Refusal>
+pub fn answer_without_waiting<R: Threads + Sync, S: Source, G: Gate>(
+    rt: &R,
+    alloc: Global,
+    words: &[String],
+    source: &mut S,
+    gate: &G,
+) -> Option<Result<Answer, Refusal>>
     requires { (S.state source.old).has_ended ≡ false }
-    ensures { Answers (command_of (map string_bytes words.now)) (S.state source.old) (S.state source.new) result }
+    ensures answer { IfSome result (Answers (command_of (map string_bytes words.now)) (S.state source.old) (S.state source.new)) }
+    ensures none { IsNone result ↔ Asks waits (command_of (map string_bytes words.now)) }
+    ensures untouched { IfNone result (source.new ≡ source.old) }
 {
     match command_of(words) {
-        Some(command) => perform(rt, alloc, command, source, gate),
-        None => Err(Refusal::Words),
+        Some(command) if command.waits() => None,
+        Some(command) => Some(perform(rt, alloc, command, source, gate)),
+        None => Some(Err(Refusal::Words)),
     }
 }
 
-/// Does what the command says. What it calls for a command waits for nothing, and so returns, but for `Anytime` and `Batch`, which are
-/// polled under an executor.
-fn perform<
-    R: Threads + Sync + Wait + RandomSource + AllocGlobal + Clone + Drop,
-    S: Source,
-    G: Gate,
->(rt: &R, alloc: Global, command: Command, source: &mut S, gate: &G) -> Result<Answer, Refusal>
+/// Does what a command says that does not wait.
+fn perform<R: Threads + Sync, S: Source, G: Gate>(
+    rt: &R,
+    alloc: Global,
+    command: Command,
+    source: &mut S,
+    gate: &G,
+) -> Result<Answer, Refusal>
     requires number { IsNumbered command }
+    requires at_once { waits command ≡ false }
     requires unended { (S.state source.old).has_ended ≡ false }
     ensures { Answers (Some command) (S.state source.old) (S.state source.new) result }
 {
@@ -92,14 +100,29 @@ fn perform<
         Command::Plain { full } => plain(alloc, full, source),
         Command::Plan { workers, full } => plan(rt, alloc, workers, full, source, gate),
         Command::Smooth(workers) => plan_smoothed(rt, alloc, workers, source, gate),
-        Command::Anytime { workers, slice } => plan_by_slices(rt, alloc, workers, slice, source),
         Command::Twin(workers) => plan_twin(rt, alloc, workers, source, gate),
-        Command::Batch { workers, slice } => plan_batch(rt, alloc, workers, slice, source),
         Command::Check => check_report(alloc, source),
         Command::Show => show(alloc, source),
         Command::Convert => convert(alloc, source),
         Command::Gen(number) => Ok(generate(alloc, number)?),
         Command::Trial(number) => Ok(trial(alloc, number)?),
+        Command::Anytime { .. } | Command::Batch { .. } => unreachable!(),
+    }
+}
+
+/// What is to be written for words that ask for a command that waits. It is polled under an executor.
+pub fn answer_by_waiting<
+    R: Threads + Sync + Wait + RandomSource + AllocGlobal + Clone + Drop,
+    S: Source,
+>(rt: &R, alloc: Global, words: &[String], source: &mut S) -> Result<Answer, Refusal>
+    requires waits { Asks waits (command_of (map string_bytes words.now)) }
+    requires unended { (S.state source.old).has_ended ≡ false }
+    ensures { Answers (command_of (map string_bytes words.now)) (S.state source.old) (S.state source.new) result }
+{
+    match command_of(words) {
+        Some(Command::Anytime { workers, slice }) => plan_by_slices(rt, alloc, workers, slice, source),
+        Some(Command::Batch { workers, slice }) => plan_batch(rt, alloc, workers, slice, source),
+        _ => unreachable!(),
     }
 }
 
@@ -236,11 +259,9 @@ fn problem_for<S: Source>(
     ensures within { ReadsWithin (S.state source.old).bytes_left (S.state source.new).bytes_left }
 {
     let scene = scene_for(alloc, command, source)?;
-    let hall = Hall::new(alloc, &scene)?;
-    if !hall.clear_at(scene.start) {
+    let Some(boxes) = boxes_if_start_clear(alloc, &scene)? else {
         return Err(Refusal::StartBlocked);
-    }
-    let boxes = Boxes::new(alloc, hall)?;
+    };
     Ok((scene, boxes))
 }
 

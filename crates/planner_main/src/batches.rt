@@ -18,7 +18,7 @@ ghost use Rattle.step_core.specs.GrownRuns.{state_of_grown};
 use crate::answers::Answer;
 use crate::commands::Command;
 use crate::refusals::Refusal;
-use crate::scene_tasks::task_with_marks;
+use crate::scene_tasks::{boxes_if_start_clear, task_with_marks};
 use crate::statuses::{DONE, NO_PATH};
 use crate::top_call::Done;
 use any_time::{BatchReport, FinishedBatch, Session, batch_report, finish_batch};
@@ -29,7 +29,6 @@ use std::alloc::{AllocGlobal, Global};
 use std::random::RandomSource;
 use std::sync::Wait;
 use std::thread::Threads;
-use swept_check::Hall;
 
 /// Plans the scenes that are read by several workers, so many marks of each at a time, and reports of each the better paths as they
 /// came, and its run in short. It waits under an executor.
@@ -110,11 +109,10 @@ fn session_of<R: Threads + Sync + Clone + Drop>(
     ensures blocked { IfOk result (λ session. IfNone session (¬ ClearAt (space_of scene) scene.start)) }
     ensures session { IfOk result (λ made. IfSome made (IsSessionOf workers slice scene)) }
 {
-    let hall = Hall::new(alloc, &scene)?;
-    if !hall.clear_at(scene.start) {
+    let Some(boxes) = boxes_if_start_clear(alloc, &scene)? else {
         return Ok(None);
-    }
-    let session = fresh_session(rt, alloc, workers, slice, scene, hall)?;
+    };
+    let session = fresh_session(rt, alloc, workers, slice, scene, boxes)?;
     Ok(Some(session))
 }
 
@@ -125,16 +123,15 @@ fn fresh_session<R: Threads + Sync + Clone + Drop>(
     workers: u32,
     slice: u32,
     scene: Scene,
-    hall: Hall,
+    boxes: Boxes,
 ) -> Result<Session<Boxes, R>, Memory>
     requires some { 1 ≤ workers }
     requires few { workers ≤ MOST_WORKERS }
     requires slice { 1 ≤ slice }
-    requires hall { hall ≡ space_of scene }
+    requires boxes { boxes ≡ space_of scene }
     requires start { ClearAt (space_of scene) scene.start }
     ensures { IfOk result (IsSessionOf workers slice scene) }
 {
-    let boxes = Boxes::new(alloc, hall)?;
     let task = task_with_marks(alloc, scene)?;
     let session = Session::new(rt.clone()?, alloc, task, boxes, workers, slice)?;
     Ok(session)

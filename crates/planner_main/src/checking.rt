@@ -16,15 +16,15 @@ ghost use Rattle.planner_main.specs.declared.short_lines.TheConstants.{LINE_CAPA
 
 use crate::answers::Answer;
 use crate::refusals::Refusal;
-use crate::scene_tasks::task_with_marks;
+use crate::scene_tasks::{boxes_if_start_clear, task_with_marks};
 use crate::short_lines::{Line, line_from, push, push_number};
 use crate::statuses::{DONE, NO_PATH};
 use crate::top_call::Done;
-use path_tools::{Verdict, check, cut_at_report};
+use obstacle_boxes::Boxes;
+use path_tools::{Verdict, check_with, cut_at_report};
 use plan_model::{Kind, Memory, Source, Task, next_line};
 use scene_text::{SceneRefusal, fetch, read_scene};
 use std::alloc::Global;
-use swept_check::Hall;
 
 /// Judges the report that is read after the text of its scene and a line `report`.
 pub fn check_report<S: Source>(alloc: Global, source: &mut S) -> Result<Answer, Refusal>
@@ -45,8 +45,8 @@ fn verdict_on(alloc: Global, text: &[u8]) -> Result<Verdict, Refusal>
     let Some((front, report)) = cut_at_report(text) else {
         return Err(missing_report(alloc, text)?);
     };
-    let task = task_of(alloc, front)?;
-    let verdict = check(alloc, &task, report)?;
+    let (task, boxes) = problem_in(alloc, front)?;
+    let verdict = check_with(alloc, &task, &boxes, report)?;
     Ok(verdict)
 }
 
@@ -81,19 +81,20 @@ fn line_count(text: &[u8]) -> u32
     count
 }
 
-/// The task of the scene that a text spells, whose start is clear.
-fn task_of(alloc: Global, text: &[u8]) -> Result<Task, Refusal>
+/// The task of the scene that a text spells, whose start is clear, with its collision checker.
+fn problem_in(alloc: Global, text: &[u8]) -> Result<(Task, Boxes), Refusal>
     requires { length text.now ≤ MOST_TEXT_BYTES }
-    ensures scene { IfOk result (λ task. Spells supported text.now task.scene) }
-    ensures start { IfOk result (λ task. ClearAt (space_of task.scene) task.scene.start) }
+    ensures scene { IfOk result (λ problem. Spells supported text.now problem.0.scene) }
+    ensures boxes { IfOk result (λ problem. problem.1 ≡ space_of problem.0.scene) }
+    ensures start { IfOk result (λ problem. ClearAt (space_of problem.0.scene) problem.0.scene.start) }
     ensures refusal { IfErr result (RefusesSceneText text.now) }
 {
     let scene = read_scene(alloc, text)?;
-    let hall = Hall::new(alloc, &scene)?;
-    if !hall.clear_at(scene.start) {
+    let Some(boxes) = boxes_if_start_clear(alloc, &scene)? else {
         return Err(Refusal::StartBlocked);
-    }
-    Ok(task_with_marks(alloc, scene)?)
+    };
+    let task = task_with_marks(alloc, scene)?;
+    Ok((task, boxes))
 }
 
 /// The answer that a verdict is.

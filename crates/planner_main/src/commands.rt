@@ -2,7 +2,7 @@
 
 ghost use Rattle.std.specs.Prelude.{◌≡◌, ◌≤◌, map, string_bytes, IfSome};
 ghost use Rattle.planner_main.specs.Commands.{command_of, command_of_word, command_of_two, command_of_three, command_about};
-ghost use Rattle.planner_main.specs.Commands.{anytime_by, batch_by, plan_by, number_in, IsNumbered};
+ghost use Rattle.planner_main.specs.Commands.{anytime_by, batch_by, plan_by, number_in, waits, IsNumbered};
 
 use crate::generated_scenes::MOST_GENERATED;
 use plan_model::{MOST_MARKS, MOST_WORKERS, is_number, natural};
@@ -53,6 +53,15 @@ pub enum Command {
     Gen(u32),
     /// `trial N`: the summary of the textbook run of the generated scene of this number.
     Trial(u32),
+}
+
+impl Command {
+    /// Whether it is done under an executor, and so may wait: `anytime W S` and `batch W S`.
+    pub fn waits(&self) -> bool
+        ensures { result ≡ waits self.now }
+    {
+        matches!(self, Command::Anytime { .. } | Command::Batch { .. })
+    }
 }
 
 /// The command that the words ask for, without the program's name. `None` if they ask for none.

@@ -21,6 +21,7 @@ mod checking;
 mod command_line;
 mod commands;
 mod generated_scenes;
+mod read_laws;
 mod refusals;
 mod scene_tasks;
 mod short_lines;
@@ -34,7 +35,7 @@ use command_line::exit_code;
 use standard_streams::{StdSink, StdSource};
 use std::env;
 use std::process::ExitCode;
-pub use top_call::{Done, run};
+pub use top_call::{Done, run, run_without_waiting};
 
 fn main(rt: HostRuntime) -> ExitCode {
     exit_code(

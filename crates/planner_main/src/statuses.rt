@@ -1,6 +1,7 @@
 //! The statuses that the program ends with, each said once.
 
 ghost use Rattle.planner_main.specs.FixedNumbers.{FixedNumbers};
+ghost use Rattle.planner_main.specs.WorkedStatuses.{WorkedStatuses};
 
 /// The command is done; for `plain` and `plan W`, in short or in full, for `smooth W`, `anytime W S` and `trial`, a path was found, for
 /// `batch W S` one of each scene, for `twin W` a bridge; for `check`, the report is lawful.
@@ -35,4 +36,9 @@ pub const GOAL_BLOCKED: u8 = 8;
 /// The statuses and the number of the last generated scene have the values that callers know.
 pub fn fixed_numbers()
     ensures { FixedNumbers }
+{}
+
+/// Worked values of the tables of commands, and of a text that is too long by one byte.
+pub fn worked_statuses()
+    ensures { WorkedStatuses }
 {}

@@ -1,12 +1,15 @@
 //! The top call: everything that the program does, over any source and any sink.
 
-ghost use Rattle.std.specs.Prelude.{◌≡◌, ◌≢◌, false, map, string_bytes};
-ghost use Rattle.planner_main.specs.Conclusions.{HandsOutNothing};
-ghost use Rattle.planner_main.specs.Commands.{command_of};
+ghost use Rattle.std.specs.Prelude.{◌≡◌, ◌≢◌, ◌↔◌, false, map, string_bytes, IfNone, IfSome, IsNone, Option};
+ghost use Rattle.plan_model.specs.Texts.Streams.{SourceState};
+ghost use Rattle.planner_main.specs.Conclusions.{Answers, Asks, HandsOutNothing};
+ghost use Rattle.planner_main.specs.Commands.{command_of, waits};
 ghost use Rattle.planner_main.specs.Endings.{HasConcluded};
 ghost use Rattle.planner_main.specs.Exchanges.{IsWrittenWhole, IsCutShort};
+ghost use Rattle.planner_main.specs.declared.commands.Command.{Command};
 
-use crate::answers::{Answer, answer_to};
+use crate::answers::{Answer, answer_by_waiting, answer_without_waiting};
+use crate::refusals::Refusal;
 use crate::statuses::WRITE_FAULT;
 use any_time::{BetterLists, Growns};
 use plan_model::{Sequence, Sink, Source};
@@ -60,7 +63,7 @@ impl Done {
 ///   The gate is told of their turns.
 /// - `anytime W S` does as `plan W` does, but grows the run by `S` marks at a time. It writes a line for each better path, before the
 ///   short report. `batch W S` does so for each of several scenes, between whose texts lines `next` stand, in turn. Both wait under an
-///   executor: for these words alone nothing says that the call returns.
+///   executor, and nothing says that the call returns; for all other words [`run_without_waiting`] does it.
 /// - `smooth W` does as `plan W` does, and writes the short report along the smoothed path: the cheapest choice of points of the best one.
 /// - `twin W` grows two trees of the scene so, one from each end, and writes the path over the cheapest bridge between them with the
 ///   counts of both.
@@ -88,17 +91,50 @@ pub fn run<
     ensures { HasConcluded (command_of (map string_bytes words.now)) (S.state source.old) (S.state source.new)
         (K.state sink.old) (K.state sink.new) result }
 {
-    match answer_to(rt, alloc, words, source, gate) {
-        Ok(Answer { done, text }) => conclude(sink, &text, done),
+    match run_without_waiting(rt, alloc, words, source, sink, gate) {
+        Some(done) => done,
+        None => conclude(alloc, sink, answer_by_waiting(rt, alloc, words, source)),
+    }
+}
+
+/// Does as [`run`] does, but for words that ask for `anytime W S` or `batch W S`: for these it does nothing, and gives `None`.
+///
+/// Its type gives no right to wait. So it returns, if the source, the sink and the gate do.
+pub fn run_without_waiting<R: Threads + Sync, S: Source, K: Sink, G: Gate>(
+    rt: &R,
+    alloc: Global,
+    words: &[String],
+    source: &mut S,
+    sink: &mut K,
+    gate: &G,
+) -> Option<Done>
+    requires { (S.state source.old).has_ended ≡ false }
+    ensures done { IfSome result (HasConcluded (command_of (map string_bytes words.now)) (S.state source.old) (S.state source.new)
+        (K.state sink.old) (K.state sink.new)) }
+    ensures none { IsNone result ↔ Asks waits (command_of (map string_bytes words.now)) }
+    ensures untouched { IfNone result ((source.new ≡ source.old) × (sink.new ≡ sink.old)) }
+{
+    let answer = answer_without_waiting(rt, alloc, words, source, gate)?;
+    Some(conclude(alloc, sink, answer))
+}
+
+/// Writes what is answered: the text of an answer, or the line of a refusal.
+fn conclude<K: Sink>(alloc: Global, sink: &mut K, answer: Result<Answer, Refusal>) -> Done
+    requires { (asked : Option Command) × (before : SourceState) × (now : SourceState) × Answers asked before now answer }
+    ensures { (asked : Option Command) (before now : SourceState) → Answers asked before now answer
+        → HasConcluded asked before now (K.state sink.old) (K.state sink.new) result }
+{
+    match answer {
+        Ok(Answer { done, text }) => write_out(sink, &text, done),
         Err(refusal) => {
             let done = Done::with_status(alloc, refusal.status());
-            conclude(sink, refusal.line().as_bytes(), done)
+            write_out(sink, refusal.line().as_bytes(), done)
         }
     }
 }
 
 /// Writes the text of an answer. Its status becomes `WRITE_FAULT` if the sink fails.
-fn conclude<K: Sink>(sink: &mut K, text: &[u8], done: Done) -> Done
+fn write_out<K: Sink>(sink: &mut K, text: &[u8], done: Done) -> Done
     requires { done.status ≢ WRITE_FAULT }
     ensures done { result.status ≢ WRITE_FAULT → (result ≡ done) × IsWrittenWhole (K.state sink.old) (K.state sink.new) text.now }
     ensures cut { result.status ≡ WRITE_FAULT → (record result { status = done.status } ≡ done)

@@ -1,6 +1,7 @@
 use Rattle.std.proofs.Common.{refl, arith}
 use Rattle.planner_main.specs.declared.commands.Command.TheVariants as commands
-use Rattle.planner_main.proofs.GivenBatches.{Answers-batch, Answers-batch_blocked, Answers-batch_no_memory, ReportsBatch-finished, given_none, given_some}
+use Rattle.planner_main.proofs.Causes.{given_none, given_some}
+use Rattle.planner_main.proofs.GivenBatches.{Answers-batch, Answers-batch_blocked, Answers-batch_no_memory, ReportsBatch-finished}
 use Rattle.planner_main.proofs.GivenBatches.{all_have_runs, settled_runs, starts_of_sessions}
 use Rattle.planner_main.proofs.batches.plan_batch.Goals as goal
 

@@ -1,9 +1,8 @@
 use Rattle.std.proofs.Common.{refl, ap, subst, List, ℕ}
 use Rattle.planner_main.specs.Conclusions.{IsCaused}
-use Rattle.planner_main.specs.Exchanges.{IsReadWhole}
 use Rattle.planner_main.specs.Inputs.{reads_bytes}
 use Rattle.scene_text.specs.Batches.{IsBatchRefusal}
-use Rattle.planner_main.proofs.Causes.{fetch-caused, IfErr-only}
+use Rattle.planner_main.proofs.Causes.{IsReadWhole-fetched, fetch-caused, IfErr-only}
 use Rattle.planner_main.proofs.GivenBatches.{read_batch-caused}
 use Rattle.planner_main.proofs.batches.scenes_for.Goals as goal
 
@@ -22,12 +21,7 @@ returns-in_err-scenes-clause-refusal g c =
     let now = g.S.Source.state c.fetch.new.source in
     let fetched = c.in_ok-text.ensures in
     let refusal = c.in_err-scenes.field-0.0 in
-    let whole : IsReadWhole before now c.in_ok-text.text.items = record {
-      end = fetched.end;
-      all = fetched.bytes;
-      none_left = fetched.none_left;
-      no_fault = λ alone. fetched.no_fault alone (λ read. absurd cc);
-    } in
+    let whole = IsReadWhole-fetched before now c.in_ok-text.text fetched.end fetched.bytes fetched.none_left fetched.no_fault in
     let refused = subst (λ (bytes : List ℕ). IsBatchRefusal bytes refusal) c.deref.ensures.value c.in_err-scenes.ensures.fault in
     IfErr-only c.from_residual-in_err-scenes.result _ (IsCaused _ before now) c.from_residual-in_err-scenes.ensures.1
     (read_batch-caused c.args.command before now c.in_ok-text.text.items refusal c.requires.reads whole fetched.small refused)

@@ -6,7 +6,8 @@ use Rattle.plan_model.specs.declared.scenes.Scene.{Scene}
 use Rattle.plan_model.specs.Spaces.Clearance.{ClearAt}
 use Rattle.plan_model.specs.Spaces.ConfigurationSpace.{space_of}
 use Rattle.planner_main.specs.BatchSessions.{IsSessionOf}
-use Rattle.planner_main.proofs.GivenBatches.{clear_at_number, given_none, given_some, one_session_more}
+use Rattle.planner_main.proofs.Causes.{given_none, given_some}
+use Rattle.planner_main.proofs.GivenBatches.{clear_at_number, one_session_more}
 use Rattle.planner_main.proofs.batches.sessions_of.Goals as goal
 
 pub loop-scene-preserved : goal.loop-scene-preserved

@@ -5,11 +5,11 @@ use Rattle.planner_main.proofs.Causes.{IfErr-only}
 use Rattle.planner_main.proofs.GivenChecks.{IsCutAtReport-short, RefusesCheck-front, RefusesCheck-whole, RefusesWithoutReport-read}
 use Rattle.planner_main.proofs.checking.verdict_on.Goals as goal
 
-pub task_of-requires : goal.task_of-requires
-task_of-requires c = let parts = IsCutAtReport-short _ _ _ c.in-Some.ensures.some in omega (arith, parts, c.requires)
+pub problem_in-requires : goal.problem_in-requires
+problem_in-requires c = let parts = IsCutAtReport-short _ _ _ c.in-Some.ensures.some in omega (arith, parts, c.requires)
 
-pub check-requires-clause-short : goal.check-requires-clause-short
-check-requires-clause-short c = let parts = IsCutAtReport-short _ _ _ c.in-Some.ensures.some in omega (arith, parts, c.requires)
+pub check_with-requires-clause-short : goal.check_with-requires-clause-short
+check_with-requires-clause-short c = let parts = IsCutAtReport-short _ _ _ c.in-Some.ensures.some in omega (arith, parts, c.requires)
 
 -- no line is `report`, and the scene cannot be read
 pub returns-in_err-missing_report-clause-refusal : goal.returns-in_err-missing_report-clause-refusal
