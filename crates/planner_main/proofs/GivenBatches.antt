@@ -1,6 +1,6 @@
 -- What is answered to a command that reads several scenes, and what comes of their sessions.
 use Rattle.std.proofs.Common.{◌≡◌, ℕ, zero, suc, ◌<◌, ◌≤◌, ◌+◌, ◌++◌, IsTrue, List, [], ◌∷◌, length, get_or, below_more}
-use Rattle.std.proofs.Common.{Option, Some, None, IsSome, IsSomeAnd, IfSome, IfNone, Result, Ok, Err, IsErrAnd, refl, sym, ap, subst, ◌∙◌, arith}
+use Rattle.std.proofs.Common.{Option, Some, None, IsSome, IsSomeAnd, Result, Ok, Err, IsErrAnd, refl, sym, ap, subst, ◌∙◌, arith}
 use Rattle.std.proofs.lemmas.Bool.{and_from}
 use Rattle.std.specs.List.{list_all}
 use Rattle.std.proofs.lemmas.List.{get_or_append_left, get_or_push}

@@ -1,6 +1,6 @@
 -- What is answered to `check`, from the bytes that were read.
-use Rattle.std.proofs.Common.{◌≡◌, ℕ, ◌≤◌, ◌+◌, ◌++◌, List, [], ◌∷◌, length, length-append, Result, Ok, Err, IsErrAnd}
-use Rattle.std.proofs.Common.{Some, refl, sym, ap, subst, inl, inr, arith}
+use Rattle.std.proofs.Common.{◌≡◌, ℕ, ◌≤◌, ◌+◌, ◌++◌, List, [], ◌∷◌, length, length-append, Result, IsErrAnd}
+use Rattle.std.proofs.Common.{Some, refl, ap, inl, inr, arith}
 use Rattle.std.specs.Prelude.{◌⊎◌}
 use Rattle.plan_model.specs.declared.limits.TheConstants.{MOST_TEXT_BYTES}
 use Rattle.plan_model.specs.Texts.Streams.{SourceState}

@@ -1,15 +1,15 @@
--- What was read of known bytes, if not all of them.
+-- What is known of a source that was not read to its end, if its bytes are known.
 use Rattle.std.specs.Prelude.{◌≡◌, ℕ, ◌+◌, Some, List, length}
 use Rattle.plan_model.specs.declared.limits.TheConstants.{MOST_TEXT_BYTES}
 use Rattle.plan_model.specs.Texts.Streams.{SourceState}
 use Rattle.scene_text.specs.Fetching.{ReadsWithin}
 use Rattle.planner_main.specs.Exchanges.{IsReadFault, IsTooLong}
 
--- more came than a text may have, or a read failed, and not both
-abbrev pub CausesExclude : Type 0
-CausesExclude = (before now : SourceState) (bytes : List ℕ) → before.bytes_left ≡ Some bytes → IsTooLong before now → ¬ IsReadFault before now
+-- more bytes came than a text may have, or a read failed, and not both
+abbrev pub HasOneCause : Type 0
+HasOneCause = (before now : SourceState) (bytes : List ℕ) → before.bytes_left ≡ Some bytes → IsTooLong before now → ¬ IsReadFault before now
 
--- of a text that is too long, just one byte more is read than a text may have
+-- if more came than a text may have, it is one more
 abbrev pub ReadsOneMore : Type 0
 ReadsOneMore = (before now : SourceState) (bytes rest : List ℕ) → before.bytes_left ≡ Some bytes → now.bytes_left ≡ Some rest
     → IsTooLong before now → ReadsWithin before.bytes_left now.bytes_left → length bytes ≡ length rest + MOST_TEXT_BYTES + 1

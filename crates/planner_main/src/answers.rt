@@ -120,7 +120,9 @@ pub fn answer_by_waiting<
     ensures { Answers (command_of (map string_bytes words.now)) (S.state source.old) (S.state source.new) result }
 {
     match command_of(words) {
-        Some(Command::Anytime { workers, slice }) => plan_by_slices(rt, alloc, workers, slice, source),
+        Some(Command::Anytime { workers, slice }) => plan_by_slices(
+            rt, alloc, workers, slice, source,
+        ),
         Some(Command::Batch { workers, slice }) => plan_batch(rt, alloc, workers, slice, source),
         _ => unreachable!(),
     }

@@ -1,10 +1,10 @@
 //! Laws of what is read.
 
-ghost use Rattle.planner_main.specs.ReadLaws.{CausesExclude, ReadsOneMore};
+ghost use Rattle.planner_main.specs.ReadLaws.{HasOneCause, ReadsOneMore};
 
-/// Over a source whose bytes are known, that more came than a text may have and that a read failed exclude each other; and just one byte
-/// more than a text may have is read of one that is too long.
-pub fn causes_of_what_is_left_exclude_each_other()
-    ensures causes { CausesExclude }
+/// Over a source whose bytes are known: that more came than a text may have and that a read failed exclude each other, and of
+/// a text that is too long just one byte more is read than a text may have.
+pub fn unfinished_reads_have_one_cause()
+    ensures one_cause { HasOneCause }
     ensures one_more { ReadsOneMore }
 {}

@@ -1,9 +1,9 @@
 use Rattle.std.proofs.Common.{ap, arith}
 use Rattle.planner_main.proofs.KnownBytes.{came_count, left_count}
-use Rattle.planner_main.proofs.read_laws.causes_of_what_is_left_exclude_each_other.Goals as goal
+use Rattle.planner_main.proofs.read_laws.unfinished_reads_have_one_cause.Goals as goal
 
-pub returns-clause-causes : goal.returns-clause-causes
-returns-clause-causes c = λ before now bytes is long fault.
+pub returns-clause-one_cause : goal.returns-clause-one_cause
+returns-clause-one_cause c = λ before now bytes is long fault.
     let many = came_count before.bytes_left now.bytes_left bytes long.came.0 is long.came.2 in
     let few = came_count before.bytes_left now.bytes_left bytes fault.came.0 is fault.came.2 in omega arith
 
