@@ -7,4 +7,6 @@ mod batches;
 #[cfg(test)]
 mod finished;
 #[cfg(test)]
+mod held_workers;
+#[cfg(test)]
 mod sessions;

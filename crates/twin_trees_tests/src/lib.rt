@@ -3,3 +3,5 @@
 
 #[cfg(test)]
 mod twins;
+#[cfg(test)]
+mod workers;

@@ -14,7 +14,7 @@ use swept_check::Hall;
 use twin_trees::{twin, twin_report};
 
 /// What was made, for which memory lasts. A test ends here if none is left, so that no value is dropped on the way.
-fn sure<R: Abort, T>(rt: &R, made: Result<T, Memory>) -> T
+pub(crate) fn sure<R: Abort, T>(rt: &R, made: Result<T, Memory>) -> T
     ensures { made ≡ Ok result }
 {
     match made {
