@@ -73,8 +73,10 @@ def answer_for_part(part):
     found = findings_of(scene, line_numbers(part))
     if not found.is_start_clear:
         return Answer(START_BLOCKED, BLOCKED, found.said)
-    said = "Nothing is wrong with this scene" if not found.said else "The start is clear"
-    return Answer("", CLEAR, [f"{said}: {numbers_of(scene)}.", *found.said])
+    if not found.said:
+        said = f"No fault was found in this scene: {numbers_of(scene)}. Whether it has a path is not decided here."
+        return Answer("", CLEAR, [said])
+    return Answer("", CLEAR, [f"The start is clear. This is the scene: {numbers_of(scene)}.", *found.said])
 
 
 def refusal(part, fault):

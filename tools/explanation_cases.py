@@ -503,7 +503,7 @@ SEVERAL = [
         "a comment that says next",
         b"# next\n" + instead(b"marks 100", b"marks 101"),
         "",
-        ("Nothing", "101 drawn marks"),
+        ("No fault", "101 drawn marks"),
     ),
 ]
 
@@ -528,13 +528,13 @@ REPORTED = [
     ),
     reported("Range", 6, "a comment before", b"# report\n" + SHORT_STEP + b"report\nreport\n", "Line 6", "line 9 was"),
     reported("Key", 8, "two lines report", SCENE + b"path 1\nreport\nreport", "`path` begins a line", "line 9 was"),
-    Case("a scene before a report", SCENE + b"report\nno path\n", "", ("Nothing is wrong", AFTER), words="check"),
+    Case("a scene before a report", SCENE + b"report\nno path\n", "", ("No fault was found", AFTER), words="check"),
     Case("a blocked start before it", OUTSIDE + b"report\n", START_BLOCKED, ("The start 101 0", AFTER), words="check"),
     Case(
         "no line report after a scene",
         SCENE,
         "",
-        (f"Nothing is wrong with this scene: version 1, {NUMBERS_OF_SCENE}",),
+        (f"No fault was found in this scene: version 1, {NUMBERS_OF_SCENE}",),
         words="check",
         program=(verdict_of("Missing", 8), 3),
         absent=("Scene 1", "The report"),

@@ -243,7 +243,7 @@ GOALS = [
         b"prrt 1\nroom 60000 65000\nobstacle 0 0 29999 0 29999 29999\n"
         b"obstacle 29999 0 30001 0 30001 29999 29999 29999\nobstacle 30001 0 60000 0 60000 60000 30001 30001\n"
         b"obstacle 0 1 60000 60001 0 60001\nstart 0 65000\ngoal 9000 9000 51000 51000\nstep 25\ngamma 70\nmarks 5000\n",
-        "Nothing is wrong with this scene",
+        "No fault was found in this scene",
         "4 obstacles",
     ),
 ]
@@ -273,7 +273,7 @@ SAMPLES = [
         "3 marks or a step of 38",
     ),
     planned(
-        "marks that just reach", field(b"goal 80 5 80 5", b"marks 3"), "Nothing is wrong", " 3 drawn marks, step 25"
+        "marks that just reach", field(b"goal 80 5 80 5", b"marks 3"), "No fault was found", " 3 drawn marks, step 25"
     ),
     planned(
         "marks that do not reach the nearest of two goals",
@@ -285,13 +285,13 @@ SAMPLES = [
     planned(
         "a scene of version 2",
         with_clearance(3, b"marks 500\ninformed 1"),
-        "Nothing is wrong with this scene: version 2, room 100 by 100, body of 4 corners, 1 obstacle, 1 goal,"
+        "No fault was found in this scene: version 2, room 100 by 100, body of 4 corners, 1 obstacle, 1 goal,"
         " 500 drawn marks, step 25, gamma 70, clearance 3, informed.",
     ),
 ]
 
 MANY_GAPS = field(b"\n".join(b"obstacle %d 40 %d 40 %d 60 %d 60" % (x, x + 1, x + 1, x) for x in range(2, 98, 3)))
-WELL, NO_GAP = "Nothing is wrong with this scene", ("too narrow",)
+WELL, NO_GAP = "No fault was found in this scene", ("too narrow",)
 GAPS = [
     planned(
         "as high as the body",
@@ -301,7 +301,7 @@ GAPS = [
     planned(
         "3 lattice steps lower",
         PASSAGE.replace(b"48", b"51"),
-        "That is a hint, and no verdict on whether there is a path",
+        "This is only a hint: a path may lead another way",
         "between the obstacles of lines 4 and 5, about 48 49: 4 lattice steps wider along y",
     ),
     planned(

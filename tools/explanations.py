@@ -47,7 +47,7 @@ FOLDER = os.path.dirname(os.path.abspath(__file__))
 FORMAT = os.path.join(FOLDER, "..", "docs", "scene-format.md")
 # The statuses of a program that plans, and of explain.py, with what the latter writes.
 PLANNED, UNUSED, REFUSED, BLOCKED, UNREAD = (0, 1), 2, 3, 4, 5
-BEGINS = {0: "The start is clear: ", 2: "Usage: explain.py SCENE", 3: "line 1 kind 1 Version\n"}
+BEGINS = {0: "The start is clear. ", 2: "Usage: explain.py SCENE", 3: "line 1 kind 1 Version\n"}
 BEGINS |= {4: "start blocked\n", 5: "could not be read"}
 ODD_BYTES = (b"", b"\r", b"\t", b"#", b",", b"-", b".", b"0", b"\xff", b" ", b"\n")
 SCENE_NUMBERS = range(300)

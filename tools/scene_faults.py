@@ -14,8 +14,8 @@ from wording import counted, listed
 
 MOST_LISTED = 20
 GAPS = (
-    "These gaps are too narrow for the body. That is a hint, and no verdict on whether there is a path, which may lead"
-    " another way. Of each is said about where the body's origin would be, and how much wider the gap has to be:"
+    "These gaps are too narrow for the body. This is only a hint: a path may lead another way. For each gap: about where"
+    " the body's origin would be, and the extra width that is needed:"
 )
 
 
