@@ -28,7 +28,6 @@ pub mod SteeringLaws
 pub mod SteeredNodes
 pub mod Soundness
 pub mod SameScenes
-pub mod SpelledScenes
 pub mod StatementNumbers
 pub mod SoundStatements
 pub mod ReadVersions
