@@ -4,8 +4,8 @@ use Rattle.std.proofs.lemmas.List.{drop_more}
 use Rattle.std.proofs.lemmas.List.Folds.{list_all_more}
 use Rattle.std.specs.List.{list_all}
 use Rattle.plan_model.specs.Trees.TreeStates.{IsSettled}
-use Rattle.step_core.specs.GrownRuns.{state_of_grown}
-use Rattle.step_core.specs.declared.grown.Grown.{Grown}
+use Rattle.grown_runs.specs.Runs.GrownRuns.{state_of_grown}
+use Rattle.grown_runs.specs.declared.grown.Grown.{Grown}
 use Rattle.any_time.specs.BestPaths.{has_path}
 use Rattle.any_time.specs.BetterReports.{batch_report, scene_report}
 use Rattle.any_time.specs.declared.betters.Better.{Better}

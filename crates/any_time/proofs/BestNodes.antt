@@ -7,8 +7,8 @@ use Rattle.plan_model.specs.Runs.Textbook.{setup_of}
 use Rattle.plan_model.specs.Trees.BestNode.{IsGoalNode, goals_of}
 use Rattle.plan_model.specs.Trees.PointsByNumber.{AreNumberedTo, IsPresent, point_at}
 use Rattle.plan_model.specs.Trees.TreeStates.{sum_in}
-use Rattle.step_core.specs.GrownRuns.{state_of_grown}
-use Rattle.step_core.specs.declared.grown.Grown.{Grown}
+use Rattle.grown_runs.specs.Runs.GrownRuns.{state_of_grown}
+use Rattle.grown_runs.specs.declared.grown.Grown.{Grown}
 use Rattle.any_time.specs.BestPaths.{best_of, best_sum}
 
 -- no node of a run has a number past its limit

@@ -10,8 +10,8 @@ use Rattle.plan_model.specs.Runs.ClosedLaw.{IsClosed}
 use Rattle.plan_model.specs.Runs.Textbook.{setup_of}
 use Rattle.plan_model.specs.declared.records.Record.{Record}
 use Rattle.plan_model.specs.declared.tasks.Task.{Task}
-use Rattle.step_core.specs.GrownRuns.{state_of_grown}
-use Rattle.step_core.specs.declared.grown.Grown.{Grown}
+use Rattle.grown_runs.specs.Runs.GrownRuns.{state_of_grown}
+use Rattle.grown_runs.specs.declared.grown.Grown.{Grown}
 use Rattle.any_time.proofs.FallingItems.{GoesOn-last, Reaches, Tied, first_better, gave, goes, no_best, pending, reaches_on, run_of}
 use Rattle.any_time.proofs.KnownOptions.{between, if_there, some_is, there}
 use Rattle.any_time.specs.BestPaths.{Shows, best_sum}

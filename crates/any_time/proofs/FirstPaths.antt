@@ -12,9 +12,9 @@ use Rattle.plan_model.specs.Trees.TreeStates.{GrowsInto}
 use Rattle.plan_model.specs.declared.records.Record.{Record}
 use Rattle.plan_model.specs.declared.scenes.Scene.{Scene}
 use Rattle.plan_model.specs.declared.tasks.Task.{Task}
-use Rattle.step_core.proofs.HeldNodes.{start_present-held}
-use Rattle.step_core.specs.GrownRuns.{state_of_grown, words_of_grown}
-use Rattle.step_core.specs.declared.grown.Grown.{Grown}
+use Rattle.grown_runs.proofs.Runs.HeldNodes.{start_present-held}
+use Rattle.grown_runs.specs.Runs.GrownRuns.{state_of_grown, words_of_grown}
+use Rattle.grown_runs.specs.declared.grown.Grown.{Grown}
 use Rattle.any_time.proofs.BestNodes.{none-best}
 use Rattle.any_time.specs.BestPaths.{best_sum}
 use Rattle.any_time.specs.Items.{AreSlices, HaveGoalNode}

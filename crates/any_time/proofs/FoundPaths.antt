@@ -22,8 +22,8 @@ use Rattle.plan_model.specs.declared.geometry.Point.{Point}
 use Rattle.plan_model.specs.declared.scenes.Scene.{Scene}
 use Rattle.plan_model.specs.declared.tasks.Task.{Task}
 use Rattle.settle_report.proofs.GrownPaths.{path_to-reverse, points_up}
-use Rattle.step_core.specs.GrownRuns.{state_of_grown}
-use Rattle.step_core.specs.declared.grown.Grown.{Grown}
+use Rattle.grown_runs.specs.Runs.GrownRuns.{state_of_grown}
+use Rattle.grown_runs.specs.declared.grown.Grown.{Grown}
 use Rattle.any_time.proofs.BestNodes.{AreNumberedTo-grown, IsGoalNode-best, IsPresent-best}
 use Rattle.any_time.specs.BestPaths.{Shows}
 use Rattle.any_time.specs.Paths.{IsOfFirstNodes, Leads, LeadsIntoGoal}

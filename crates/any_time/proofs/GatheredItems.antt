@@ -4,7 +4,7 @@ use Rattle.std.proofs.Common.{append-nil, append_assoc}
 use Rattle.futures.specs.declared.task.Poll.TheVariants.{Ready, Pending}
 use Rattle.plan_model.specs.declared.errors.Memory.{Memory}
 use Rattle.plan_model.specs.declared.tasks.Task.{Task}
-use Rattle.step_core.specs.declared.grown.Grown.{Grown}
+use Rattle.grown_runs.specs.declared.grown.Grown.{Grown}
 use Rattle.any_time.proofs.EachSlice.{items_fall_on}
 use Rattle.any_time.proofs.KnownOptions.{held}
 use Rattle.any_time.proofs.TextbookSlices.{AreTextbookItems-given}

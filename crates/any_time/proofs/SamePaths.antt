@@ -12,8 +12,8 @@ use Rattle.plan_model.specs.Trees.PointsByNumber.{IsPresent, point_of}
 use Rattle.plan_model.specs.Trees.TreeStates.{AreSameRuns, TreeState, chain_in, sum_in}
 use Rattle.plan_model.specs.declared.geometry.Point.{Point}
 use Rattle.plan_work.specs.OneWorker.{IsOfTextbook}
-use Rattle.step_core.specs.GrownRuns.{state_of_grown}
-use Rattle.step_core.specs.declared.grown.Grown.{Grown}
+use Rattle.grown_runs.specs.Runs.GrownRuns.{state_of_grown}
+use Rattle.grown_runs.specs.declared.grown.Grown.{Grown}
 use Rattle.any_time.proofs.BestNodes.{IsPresent-best}
 use Rattle.any_time.proofs.KnownOptions.{some_is}
 use Rattle.any_time.specs.BestPaths.{Shows, best_of}

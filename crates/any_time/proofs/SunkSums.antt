@@ -8,8 +8,8 @@ use Rattle.plan_model.specs.Trees.BestNode.{IsBestNode, goals_of}
 use Rattle.plan_model.specs.Trees.TreeStates.{GrowsInto, IsSettled, sum_in}
 use Rattle.plan_model.specs.declared.scenes.Scene.{Scene}
 use Rattle.plan_model.specs.declared.tasks.Task.{Task}
-use Rattle.step_core.specs.GrownRuns.{state_of_grown}
-use Rattle.step_core.specs.declared.grown.Grown.{Grown}
+use Rattle.grown_runs.specs.Runs.GrownRuns.{state_of_grown}
+use Rattle.grown_runs.specs.declared.grown.Grown.{Grown}
 use Rattle.any_time.proofs.BestNodes.{AreNumberedTo-grown, none-best}
 use Rattle.any_time.specs.BestPaths.{best_of, best_sum}
 

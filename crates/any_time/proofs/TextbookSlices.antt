@@ -7,7 +7,7 @@ use Rattle.std.proofs.lemmas.List.Elements.{All-cons, All-contains, All-head, Al
 use Rattle.plan_model.proofs.ListMembers.{Contains-after, Contains-first}
 use Rattle.plan_model.specs.declared.tasks.Task.{Task}
 use Rattle.plan_work.specs.OneWorker.{IsOfTextbook}
-use Rattle.step_core.specs.declared.grown.Grown.{Grown}
+use Rattle.grown_runs.specs.declared.grown.Grown.{Grown}
 use Rattle.any_time.proofs.EachSlice.{items_fall_on, up_to-past, up_to-within}
 use Rattle.any_time.proofs.FallingItems.{best_shown}
 use Rattle.any_time.proofs.FirstPaths.{AreSlices-next, below_next}

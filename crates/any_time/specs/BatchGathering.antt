@@ -2,7 +2,7 @@
 use Rattle.std.specs.Prelude.{◌≡◌, ◌<◌, ◌++◌, ℕ, List, [], length, get_or}
 use Rattle.std.specs.List.{FoldsTo}
 use Rattle.plan_model.specs.declared.tasks.Task.{Task}
-use Rattle.step_core.specs.declared.grown.Grown.{Grown}
+use Rattle.grown_runs.specs.declared.grown.Grown.{Grown}
 use Rattle.any_time.specs.BatchItems.{BatchAnswers, betters_of}
 use Rattle.any_time.specs.Batches.{BatchPolls, BatchState, IsBatchOver}
 use Rattle.any_time.specs.BetterPaths.{AreBetterPaths}

@@ -3,8 +3,8 @@ use Rattle.std.specs.Prelude.{◌≡◌, ℕ, Bool, Option, Some, option_map, is
 use Rattle.plan_model.specs.Reports.ReportText.{path_to}
 use Rattle.plan_model.specs.Trees.BestNode.{best_node, goals_of}
 use Rattle.plan_model.specs.Trees.TreeStates.{sum_in}
-use Rattle.step_core.specs.GrownRuns.{state_of_grown}
-use Rattle.step_core.specs.declared.grown.Grown.{Grown}
+use Rattle.grown_runs.specs.Runs.GrownRuns.{state_of_grown}
+use Rattle.grown_runs.specs.declared.grown.Grown.{Grown}
 use Rattle.any_time.specs.declared.betters.Better.{Better}
 
 -- the best node of a run, if a node lies in a goal

@@ -1,6 +1,6 @@
 -- The better paths of a run, by the run that it has come to.
 use Rattle.std.specs.Prelude.{◌≡◌, ℕ, List, Some}
-use Rattle.step_core.specs.declared.grown.Grown.{Grown}
+use Rattle.grown_runs.specs.declared.grown.Grown.{Grown}
 use Rattle.any_time.specs.Items.{HasGiven, MissesNoFall}
 use Rattle.any_time.specs.TextbookItems.{AreTextbookItems}
 use Rattle.any_time.specs.declared.betters.Better.{Better}

@@ -11,8 +11,8 @@ use Rattle.plan_model.specs.declared.errors.Memory.{Memory}
 use Rattle.plan_model.specs.declared.records.Record.{Record}
 use Rattle.plan_model.specs.declared.tasks.Task.{Task}
 use Rattle.plan_work.specs.OneWorker.{IsOfTextbook}
-use Rattle.step_core.specs.GrownRuns.{state_of_grown}
-use Rattle.step_core.specs.declared.grown.Grown.{Grown}
+use Rattle.grown_runs.specs.Runs.GrownRuns.{state_of_grown}
+use Rattle.grown_runs.specs.declared.grown.Grown.{Grown}
 use Rattle.any_time.specs.BestPaths.{Shows, best_sum}
 use Rattle.any_time.specs.Paths.{LeadsIntoGoal}
 use Rattle.any_time.specs.Sessions.{Handles, IsFresh, IsNew, IsOver, Polls, SessionState}

@@ -7,8 +7,8 @@ use Rattle.plan_model.specs.Spaces.ClearPaths.{path_point}
 use Rattle.plan_model.specs.Trees.BestNode.{goals_of, lies_in_goals}
 use Rattle.plan_model.specs.Trees.NodeLists.{length_of_path}
 use Rattle.plan_model.specs.Trees.PointsByNumber.{StandsAt}
-use Rattle.step_core.specs.GrownRuns.{state_of_grown}
-use Rattle.step_core.specs.declared.grown.Grown.{Grown}
+use Rattle.grown_runs.specs.Runs.GrownRuns.{state_of_grown}
+use Rattle.grown_runs.specs.declared.grown.Grown.{Grown}
 use Rattle.any_time.specs.declared.betters.Better.{Better}
 
 -- The path goes from the first point to the last by edges of a kind, over points of a kind.

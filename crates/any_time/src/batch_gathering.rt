@@ -5,7 +5,7 @@ ghost use Rattle.any_time.specs.BatchGathering.{AllEmpty, HasFinished};
 ghost use Rattle.any_time.specs.Sessions.{IsFresh, SessionState};
 ghost use Rattle.any_time.specs.declared.batches.TheConstants.{MOST_SESSIONS};
 ghost use Rattle.plan_model.specs.declared.tasks.Task.{Task};
-ghost use Rattle.step_core.specs.declared.grown.Grown.{Grown};
+ghost use Rattle.grown_runs.specs.declared.grown.Grown.{Grown};
 
 use crate::batches::Batch;
 use crate::betters::Better;

@@ -37,7 +37,7 @@ impl<C: Clearing, R> Model for Batch<C, R> {
     ghost use Rattle.any_time.specs.Batches.{BatchState};
     ghost use Rattle.any_time.specs.declared.batches.TheConstants.{MOST_SESSIONS};
     ghost use Rattle.std.specs.Coded.{codes};
-    ghost use Rattle.step_core.specs.contracts.grown.Grown as grown;
+    ghost use Rattle.grown_runs.specs.contracts.grown.Grown as grown;
 
     ghost Value = { BatchState };
 

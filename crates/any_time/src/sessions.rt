@@ -10,7 +10,7 @@ ghost use Rattle.plan_model.specs.Spaces.Clearance.{ClearAt};
 ghost use Rattle.plan_model.specs.Spaces.ConfigurationSpace.{space_of};
 ghost use Rattle.plan_model.specs.Trees.TreeStates.{IsSettled};
 ghost use Rattle.plan_model.specs.declared.limits.TheConstants.{MOST_WORKERS};
-ghost use Rattle.step_core.specs.GrownRuns.{state_of_grown};
+ghost use Rattle.grown_runs.specs.Runs.GrownRuns.{state_of_grown};
 
 use crate::betters::{Better, Last};
 use crate::growing::{Growing, mark_count};
@@ -41,11 +41,11 @@ impl<C: Clearing, R> Model for Session<C, R> {
     ghost use Rattle.std.specs.Prelude.{◌≡◌, ◌≤◌, IfSome};
     ghost use Rattle.any_time.specs.Sessions.{SessionState};
     ghost use Rattle.std.specs.Coded.{codes};
-    ghost use Rattle.step_core.specs.contracts.grown.Grown as grown;
+    ghost use Rattle.grown_runs.specs.contracts.grown.Grown as grown;
     ghost use Rattle.plan_model.specs.Spaces.ConfigurationSpace.{space_of};
     ghost use Rattle.plan_model.specs.Trees.TreeStates.{IsSettled};
     ghost use Rattle.plan_model.specs.declared.limits.TheConstants.{MOST_WORKERS};
-    ghost use Rattle.step_core.specs.GrownRuns.{state_of_grown};
+    ghost use Rattle.grown_runs.specs.Runs.GrownRuns.{state_of_grown};
 
     ghost Value = { SessionState };
 

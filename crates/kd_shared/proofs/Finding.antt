@@ -5,16 +5,16 @@ use Rattle.plan_model.specs.declared.geometry.Point.{Point}
 use Rattle.plan_model.specs.Seen.Sights.{EndsSince}
 use Rattle.plan_model.specs.Trees.PointsByNumber.{IsFree}
 use Rattle.plan_model.proofs.SightLaws.{IsFree-ends}
-use Rattle.step_core.specs.KdWalks.{side_of, StopsAt}
+use Rattle.grown_runs.specs.Ways.KdWalks.{side_of, StopsAt}
 use Rattle.step_core.specs.ViewTrees.{LeadsTo, sight_in}
 use Rattle.step_core.specs.Views.{tree_seen}
-use Rattle.step_core.specs.declared.kd_walks.Stop.{Stop}
+use Rattle.grown_runs.specs.declared.kd_walks.Stop.{Stop}
 use Rattle.step_core.specs.declared.views.View.{View}
-use Rattle.step_core.proofs.LawfulSights.{IsLaterMoment-later, KeepsSight-lawful}
-use Rattle.step_core.proofs.WalkStops.{EndsBelow-stop, side_is}
+use Rattle.step_core.proofs.OneView.LawfulSights.{IsLaterMoment-later, KeepsSight-lawful}
+use Rattle.grown_runs.proofs.Ways.WalkStops.{EndsBelow-stop, side_is}
 use Rattle.kd_shared.specs.Loads.{FindsEmpty}
 use Rattle.kd_shared.specs.Looking.{OnlyLooks}
-use Rattle.step_core.proofs.SeenWays.{IsFree-here}
+use Rattle.step_core.proofs.Seen.SeenWays.{IsFree-here}
 
 module _ (entry now : View) (p : Point) (stop : Stop) (looks : OnlyLooks entry now) (stops : StopsAt (tree_seen now) p stop)
     (apart : stop.here ≢ p) where

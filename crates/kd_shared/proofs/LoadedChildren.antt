@@ -11,10 +11,10 @@ use Rattle.plan_model.proofs.SightLaws.{IsLaterMoment-trans}
 use Rattle.kd_shared.specs.Loads.{FindsEmpty, KeepsPoints, LoadsChild, LoadsPoint}
 use Rattle.kd_shared.specs.Spots.{QueuesChild, QueuesWithin}
 use Rattle.plan_words.specs.declared.spots.Spot.{Spot}
-use Rattle.step_core.specs.GrownWords.{child_of_word}
+use Rattle.grown_runs.specs.Runs.GrownWords.{child_of_word}
 use Rattle.step_core.specs.ViewTrees.{SeesNode}
 use Rattle.step_core.specs.Views.{tree_seen}
-use Rattle.step_core.specs.Words.{point_in}
+use Rattle.grown_runs.specs.Table.Words.{point_in}
 use Rattle.step_core.specs.declared.views.View.{View}
 
 -- the child that was loaded is seen, and so is node 0

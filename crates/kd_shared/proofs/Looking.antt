@@ -11,13 +11,13 @@ use Rattle.step_core.specs.LaterViews.{IsLater, IsLawfulView}
 use Rattle.step_core.specs.ViewSteps.{loaded}
 use Rattle.step_core.specs.ViewTrees.{SeesNode, SeesPoint, sight_in}
 use Rattle.step_core.specs.Views.{sees, tree_seen}
-use Rattle.step_core.specs.WordNames.{ChangesOnly, Word, Words, WritesWord}
-use Rattle.step_core.specs.WordNames.Word.{ChildOf, PointOf}
+use Rattle.grown_runs.specs.Table.WordNames.{ChangesOnly, Word, Words, WritesWord}
+use Rattle.grown_runs.specs.Table.WordNames.Word.{ChildOf, PointOf}
 use Rattle.step_core.specs.declared.views.View.{View}
-use Rattle.step_core.proofs.LaterViews.{IsLater-refl}
-use Rattle.step_core.proofs.LawfulSights.{IsLaterMoment-later, KeepsSight-lawful}
-use Rattle.step_core.proofs.Looks.{same_name}
-use Rattle.step_core.proofs.KeptPoints.{point_at-kept}
+use Rattle.step_core.proofs.OneView.LaterViews.{IsLater-refl}
+use Rattle.step_core.proofs.OneView.LawfulSights.{IsLaterMoment-later, KeepsSight-lawful}
+use Rattle.step_core.proofs.Seen.Looks.{same_name}
+use Rattle.step_core.proofs.OneView.KeptPoints.{point_at-kept}
 use Rattle.kd_shared.specs.Loads.{FindsChild, LoadsChild, LoadsPoint}
 use Rattle.kd_shared.specs.Looking.{OnlyLooks}
 

@@ -11,7 +11,7 @@ use Rattle.plan_words.specs.declared.spots.Found.{Found}
 use Rattle.plan_words.specs.declared.spots.Spot.{Spot}
 use Rattle.step_core.specs.LaterViews.{IsLawfulView}
 use Rattle.step_core.specs.ViewTrees.{SeesNode, sight_in}
-use Rattle.step_core.proofs.LawfulSights.{IsBounded-seen, KeepsSight-lawful}
+use Rattle.step_core.proofs.OneView.LawfulSights.{IsBounded-seen, KeepsSight-lawful}
 use Rattle.kd_shared.specs.Loads.{LoadsPoint}
 use Rattle.kd_shared.specs.LookLaws.{OnlyLooks-trans}
 use Rattle.kd_shared.specs.Looking.{KeepsLists, OnlyLooks, PassLooks, searched}

@@ -19,8 +19,8 @@ use Rattle.plan_words.specs.SearchLists.{noted, numbers_of, point_of_spot}
 use Rattle.plan_words.specs.declared.spots.Found.{Found}
 use Rattle.plan_words.specs.declared.spots.Spot.{Spot}
 use Rattle.plan_model.proofs.ListMembers.{Contains-after, Contains-first}
-use Rattle.step_core.proofs.DistinctNumbers.{AreDifferent, AreDifferent-few, AreDifferent-within, Contains-cases, IsDistinct-from_different}
-use Rattle.step_core.proofs.DistinctNumbers.{Contains-none, length-one_more}
+use Rattle.step_core.proofs.Seen.DistinctNumbers.{AreDifferent, AreDifferent-few, AreDifferent-within, Contains-cases, IsDistinct-from_different}
+use Rattle.step_core.proofs.Seen.DistinctNumbers.{Contains-none, length-one_more}
 use Rattle.kd_shared.proofs.Searching.{GoesBelow, GoesTo, IsMet, IsSearch, IsSearch-begins, IsSearch-ends, IsSearch-leaves_first, IsSearch-leaves_last}
 use Rattle.kd_shared.proofs.Searching.{IsSearch-opens_first, IsSearch-opens_last, IsSearch-takes, IsSearch-visits, Nothing}
 use Rattle.kd_shared.proofs.SideDistances.{beyond_radius}

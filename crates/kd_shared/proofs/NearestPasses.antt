@@ -14,7 +14,7 @@ use Rattle.plan_words.specs.declared.spots.Spot.{Spot}
 use Rattle.step_core.specs.LaterViews.{IsLawfulView}
 use Rattle.step_core.specs.ViewTrees.{SeesNode, sight_in}
 use Rattle.step_core.specs.Views.{tree_seen}
-use Rattle.step_core.proofs.LawfulSights.{IsBounded-seen, KeepsSight-lawful}
+use Rattle.step_core.proofs.OneView.LawfulSights.{IsBounded-seen, KeepsSight-lawful}
 use Rattle.kd_shared.specs.FarSides.{StacksFar, WalksOn}
 use Rattle.kd_shared.specs.Loads.{LoadsPoint}
 use Rattle.kd_shared.specs.LookLaws.{OnlyLooks-trans}

@@ -17,11 +17,11 @@ use Rattle.plan_model.proofs.SamePoints.{same_or_other}
 use Rattle.plan_model.proofs.SightLaws.{IsFree-ends, IsLaterMoment-trans}
 use Rattle.plan_words.specs.SearchLists.{point_of_spot}
 use Rattle.plan_words.specs.declared.spots.Spot.{Spot}
-use Rattle.step_core.specs.KdSides.{goes_right_by}
-use Rattle.step_core.specs.MeasuredNodes.{IsNearerOf}
-use Rattle.step_core.specs.declared.measured_nodes.MeasuredNode.{MeasuredNode}
-use Rattle.step_core.proofs.DistinctNumbers.{Contains-cases, Contains-none}
-use Rattle.step_core.proofs.SplitSides.{split_distance-le, two_sides}
+use Rattle.grown_runs.specs.Ways.KdSides.{goes_right_by}
+use Rattle.grown_runs.specs.Ways.MeasuredNodes.{IsNearerOf}
+use Rattle.grown_runs.specs.declared.measured_nodes.MeasuredNode.{MeasuredNode}
+use Rattle.step_core.proofs.Seen.DistinctNumbers.{Contains-cases, Contains-none}
+use Rattle.grown_runs.proofs.Ways.SplitSides.{split_distance-le, two_sides}
 use Rattle.kd_shared.specs.FarSides.{far_side, IsChildSpot, IsFinished, LoadsSpot, near_side, PopsFar, StacksFar, WalksOn}
 use Rattle.kd_shared.specs.Loads.{LoadsPoint}
 use Rattle.kd_shared.specs.Searches.{IsNearestSeen}

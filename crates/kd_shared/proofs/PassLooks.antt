@@ -6,9 +6,9 @@ use Rattle.plan_words.specs.States.{BelongsTo, GoesOn, HasWholeShare, PassState,
 use Rattle.step_core.specs.ViewSteps.{loaded}
 use Rattle.step_core.specs.ViewTrees.{SeesNode}
 use Rattle.step_core.specs.Views.{sees}
-use Rattle.step_core.specs.WordNames.{ChangesOnly, Word, WritesWord}
-use Rattle.step_core.specs.WordNames.Word.{ChildOf}
-use Rattle.step_core.proofs.SeenByViews.{WritesWord-saw}
+use Rattle.grown_runs.specs.Table.WordNames.{ChangesOnly, Word, WritesWord}
+use Rattle.grown_runs.specs.Table.WordNames.Word.{ChildOf}
+use Rattle.step_core.proofs.Seen.SeenByViews.{WritesWord-saw}
 use Rattle.kd_shared.specs.Looking.{PassLooks}
 use Rattle.kd_shared.proofs.Looking.{OnlyLooks-loaded, same_words}
 use Rattle.plan_words.proofs.GoingOn.{BelongsTo-later}

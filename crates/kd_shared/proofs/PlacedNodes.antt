@@ -7,7 +7,7 @@ use Rattle.plan_words.specs.States.{BelongsTo, GoesOn, PassState, SharedState, w
 use Rattle.step_core.specs.ViewSteps.{counted, last_fill, linked}
 use Rattle.step_core.specs.ViewTrees.{LeadsTo, SeesPoint}
 use Rattle.step_core.specs.Views.{sees}
-use Rattle.step_core.specs.WordNames.{ChangesOnly}
+use Rattle.grown_runs.specs.Table.WordNames.{ChangesOnly}
 use Rattle.step_core.specs.declared.views.Hand.{Hand}
 use Rattle.step_core.specs.declared.views.View.{View}
 use Rattle.kd_shared.specs.Looking.{GoesOnLooking, OnlyLooks, PassLooks}

@@ -7,7 +7,7 @@ use Rattle.plan_model.specs.declared.geometry.Point.{Point}
 use Rattle.plan_model.specs.Seen.Sights.{IsLaterMoment, KeepsSight, Sight}
 use Rattle.plan_model.proofs.SightLaws.{IsLaterMoment-refl, IsLaterMoment-trans}
 use Rattle.plan_words.specs.declared.spots.Spot.{Spot}
-use Rattle.step_core.proofs.DistinctNumbers.{Contains-cases, Contains-none}
+use Rattle.step_core.proofs.Seen.DistinctNumbers.{Contains-cases, Contains-none}
 use Rattle.kd_shared.specs.FarSides.{far_side, IsFinished, LoadsFar, PopsFar}
 use Rattle.kd_shared.specs.Loads.{KeepsPoints}
 

@@ -12,15 +12,15 @@ use Rattle.plan_model.specs.Seen.Ways.IsOnWay.{begins, goes_on}
 use Rattle.plan_model.proofs.SamePoints.{same_or_other}
 use Rattle.plan_model.proofs.SeenTreeLaws.{IsSeen-more}
 use Rattle.plan_model.proofs.SightLaws.{EndsSince-later, IsLaterMoment-trans}
-use Rattle.step_core.specs.KdSides.{goes_right_by, is_by_rows}
+use Rattle.grown_runs.specs.Ways.KdSides.{goes_right_by, is_by_rows}
 use Rattle.kd_shared.specs.Loads.{FindsEmpty}
 use Rattle.kd_shared.specs.Spots.{Opens, Puts, side_distance}
 use Rattle.kd_shared.proofs.SideDistances.{side_distance-le}
 use Rattle.plan_words.specs.declared.spots.Spot.{Spot}
 use Rattle.plan_model.proofs.ListMembers.{Contains-after}
-use Rattle.step_core.proofs.DistinctNumbers.{Contains-cases, Contains-none}
-use Rattle.step_core.proofs.SplitSides.{goes_right-by, is_by_rows-next, two_sides}
-use Rattle.step_core.proofs.SeenWays.{IsOnWay-later}
+use Rattle.step_core.proofs.Seen.DistinctNumbers.{Contains-cases, Contains-none}
+use Rattle.grown_runs.proofs.Ways.SplitSides.{goes_right-by, is_by_rows-next, two_sides}
+use Rattle.step_core.proofs.Seen.SeenWays.{IsOnWay-later}
 
 -- ---- where a point is
 

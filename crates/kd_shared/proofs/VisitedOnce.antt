@@ -9,9 +9,9 @@ use Rattle.plan_model.specs.Seen.Sights.{IsLaterMoment, KeepsSight, Sight}
 use Rattle.kd_shared.specs.Spots.{Opens}
 use Rattle.plan_words.specs.declared.spots.Spot.{Spot}
 use Rattle.plan_model.proofs.ListMembers.{Contains-first}
-use Rattle.step_core.proofs.DistinctNumbers.{AreDifferent, AreDifferent-after, AreDifferent-few, AreDifferent-within, Contains-cases}
+use Rattle.step_core.proofs.Seen.DistinctNumbers.{AreDifferent, AreDifferent-after, AreDifferent-few, AreDifferent-within, Contains-cases}
 use Rattle.plan_model.proofs.ListMembers.{Contains-after}
-use Rattle.step_core.proofs.DistinctNumbers.{Contains-none, Contains-within}
+use Rattle.step_core.proofs.Seen.DistinctNumbers.{Contains-none, Contains-within}
 
 -- ---- the nodes that wait
 

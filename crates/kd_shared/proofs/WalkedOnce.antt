@@ -10,7 +10,7 @@ use Rattle.plan_model.specs.Seen.Sights.{IsLaterMoment, KeepsSight, Sight}
 use Rattle.plan_model.proofs.SightLaws.{IsLaterMoment-refl}
 use Rattle.plan_model.proofs.ListMembers.{Contains-after, Contains-first}
 use Rattle.plan_words.specs.declared.spots.Spot.{Spot}
-use Rattle.step_core.proofs.DistinctNumbers.{AreDifferent, AreDifferent-few, AreDifferent-within, Contains-cases, Contains-none}
+use Rattle.step_core.proofs.Seen.DistinctNumbers.{AreDifferent, AreDifferent-few, AreDifferent-within, Contains-cases, Contains-none}
 use Rattle.kd_shared.specs.FarSides.{far_side, near_side}
 use Rattle.kd_shared.specs.Spots.{Puts}
 use Rattle.kd_shared.proofs.VisitedOnce.{AreOnce, AreOnce-few, AreOnce-later, AreOnce-low, AreOnce-opens, nodes_of}

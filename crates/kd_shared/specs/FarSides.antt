@@ -6,7 +6,7 @@ use Rattle.plan_model.specs.Seen.Sights.{IsLaterMoment, KeepsSight, Sight}
 use Rattle.kd_shared.specs.Loads.{FindsEmpty, KeepsOtherPoints, KeepsPoints}
 use Rattle.plan_words.specs.SearchLists.{point_of_spot}
 use Rattle.plan_words.specs.declared.spots.Spot.{Spot}
-use Rattle.step_core.specs.KdSides.{goes_right_by, split_distance}
+use Rattle.grown_runs.specs.Ways.KdSides.{goes_right_by, split_distance}
 
 -- the side of a node on which the target is, and the other one
 abbrev pub near_side : Spot → Point → Bool

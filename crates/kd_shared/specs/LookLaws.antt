@@ -11,8 +11,8 @@ use Rattle.plan_words.proofs.GoingOn.{GoesOn-trans}
 use Rattle.step_core.specs.ViewTrees.{sight_in}
 use Rattle.step_core.specs.Views.{tree_seen}
 use Rattle.step_core.specs.declared.views.View.{View}
-use Rattle.step_core.proofs.LawfulSights.{IsLaterMoment-later, KeepsSight-lawful}
-use Rattle.step_core.proofs.SeenWays.{depth_within}
+use Rattle.step_core.proofs.OneView.LawfulSights.{IsLaterMoment-later, KeepsSight-lawful}
+use Rattle.step_core.proofs.Seen.SeenWays.{depth_within}
 
 pub GoesOnLooking-trans : (before mid after : View) → GoesOnLooking before mid → GoesOnLooking mid after → GoesOnLooking before after
 GoesOnLooking-trans before mid after one other = record {

@@ -5,7 +5,7 @@ use Rattle.plan_words.specs.Nodes.{NamesChildOrPoint}
 use Rattle.plan_words.specs.SearchLists.{SearchLists}
 use Rattle.plan_words.specs.States.{BelongsTo, GoesOn, HasWholeShare, PassState, SharedState, with_view}
 use Rattle.step_core.specs.Views.{sees}
-use Rattle.step_core.specs.WordNames.{ChangesOnly}
+use Rattle.grown_runs.specs.Table.WordNames.{ChangesOnly}
 use Rattle.step_core.specs.declared.views.View.{View}
 
 -- What was seen stays seen, and of all words none is seen anew but children and points.

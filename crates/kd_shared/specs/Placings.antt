@@ -12,9 +12,9 @@ use Rattle.step_core.specs.SharedWords.{state_of_links}
 use Rattle.step_core.specs.ViewSteps.{pair_in_hand}
 use Rattle.step_core.specs.ViewTrees.{LeadsTo, SeesPoint}
 use Rattle.step_core.specs.Views.{run_sizes, sees, tree_seen}
-use Rattle.step_core.specs.WordNames.{ChangesOnly, Word}
-use Rattle.step_core.specs.WordNames.Word.{ChildOf, FirstOf, PointOf, TreeOf}
-use Rattle.step_core.specs.Words.{point_word}
+use Rattle.grown_runs.specs.Table.WordNames.{ChangesOnly, Word}
+use Rattle.grown_runs.specs.Table.WordNames.Word.{ChildOf, FirstOf, PointOf, TreeOf}
+use Rattle.grown_runs.specs.Table.Words.{point_word}
 use Rattle.step_core.specs.declared.views.Hand.{Hand}
 use Rattle.step_core.specs.declared.views.Stage.TheVariants.{Counted}
 use Rattle.step_core.specs.declared.views.View.{View}

@@ -10,7 +10,7 @@ ghost use Rattle.plan_model.specs.declared.geometry.Point.{Point};
 ghost use Rattle.step_core.specs.Histories.{HasCome, WasFree};
 ghost use Rattle.step_core.specs.ViewTrees.{sight_in};
 ghost use Rattle.step_core.specs.Views.{tree_seen};
-ghost use Rattle.step_core.specs.WordNames.{Words};
+ghost use Rattle.grown_runs.specs.Table.WordNames.{Words};
 ghost use Rattle.step_core.specs.Worlds.{IsWorld};
 ghost use Rattle.step_core.specs.declared.views.SharedRun.{SharedRun};
 ghost use Rattle.step_core.specs.declared.views.View.{View};

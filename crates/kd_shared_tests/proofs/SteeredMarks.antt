@@ -18,20 +18,20 @@ use Rattle.plan_words.specs.States.{GoesOn, SharedState, run_in}
 use Rattle.plan_words.proofs.HandSteps.{at_hand}
 use Rattle.plan_words.proofs.KeptPairs.{if_hand}
 use Rattle.plan_words.proofs.NearestParents.{MayHang-nearest}
-use Rattle.step_core.specs.GrownWords.{has_node}
+use Rattle.grown_runs.specs.Runs.GrownWords.{has_node}
 use Rattle.step_core.specs.LaterViews.{IsLater, IsLawfulView}
 use Rattle.step_core.specs.Stages.{has_link, has_point}
 use Rattle.step_core.specs.ViewSteps.{pointed}
 use Rattle.step_core.specs.ViewTrees.{MayHang, SeesCost, SeesNode, SeesPoint, sight_in}
 use Rattle.step_core.specs.Views.{sees, setup_in, tree_seen}
-use Rattle.step_core.specs.WordNames.{WritesWord}
-use Rattle.step_core.specs.WordNames.Word.{PointOf, RecordOf, TreeOf}
+use Rattle.grown_runs.specs.Table.WordNames.{WritesWord}
+use Rattle.grown_runs.specs.Table.WordNames.Word.{PointOf, RecordOf, TreeOf}
 use Rattle.step_core.specs.declared.views.Hand.{Hand}
 use Rattle.step_core.specs.declared.views.Stage.{Stage}
 use Rattle.step_core.specs.declared.views.Stage.TheVariants.{Counted, Pointed, Treed}
 use Rattle.step_core.specs.declared.views.View.{View}
-use Rattle.step_core.proofs.RecordedNodes.{has_node-recorded, present_recorded}
-use Rattle.step_core.proofs.SeenViews.{SeesPoint-later}
+use Rattle.step_core.proofs.OneView.RecordedNodes.{has_node-recorded, present_recorded}
+use Rattle.step_core.proofs.OneView.SeenViews.{SeesPoint-later}
 use Rattle.kd_shared_tests.specs.HeldMarks.{HangsBelowNearest, IsNearestRecorded, SteersFrom}
 
 -- what a search for the nearest node finds

@@ -27,15 +27,15 @@ use Rattle.plan_model.proofs.RadiusLaws.{greatest-passes}
 use Rattle.plan_model.proofs.RecordLaws.{class_of-le}
 use Rattle.plan_words.specs.States.{GoesOn}
 use Rattle.plan_words.proofs.KeptPairs.{if_hand}
-use Rattle.step_core.proofs.LawfulRecords.{is_own_node-earlier}
-use Rattle.step_core.proofs.RecordedNodes.{own_recorded}
-use Rattle.step_core.specs.GrownWords.{has_node}
+use Rattle.step_core.proofs.Parts.LawfulRecords.{is_own_node-earlier}
+use Rattle.step_core.proofs.OneView.RecordedNodes.{own_recorded}
+use Rattle.grown_runs.specs.Runs.GrownWords.{has_node}
 use Rattle.step_core.specs.LaterViews.{IsLawfulView}
 use Rattle.step_core.specs.SeenRecords.{IsOwnNeighbour, MayBePlaced, MayEnd, MayRecord, MaySteer, is_own_node, own_count}
 use Rattle.step_core.specs.Stages.{has_link}
 use Rattle.step_core.specs.ViewTrees.{SeesPoint}
 use Rattle.step_core.specs.Views.{sees, setup_in, tree_seen}
-use Rattle.step_core.specs.WordNames.Word.{Count, RecordOf}
+use Rattle.grown_runs.specs.Table.WordNames.Word.{Count, RecordOf}
 use Rattle.step_core.specs.declared.views.Hand.{Hand}
 use Rattle.step_core.specs.declared.views.SharedRun.{SharedRun}
 use Rattle.step_core.specs.declared.views.View.{View}

@@ -8,8 +8,8 @@ use Rattle.plan_model.specs.declared.trees.Knot.{Knot}
 use Rattle.plan_model.specs.Trees.BestNode.{is_goal_point, lies_in_goals}
 use Rattle.plan_model.specs.Trees.PointsByNumber.{IsPresent, StandsAt, point_at, point_of}
 use Rattle.plan_model.proofs.NewNodes.{IsPresent-stands, point_of-stands}
-use Rattle.step_core.specs.PackedRuns.{state_of_lists}
-use Rattle.step_core.proofs.PackedStates.{point_at-lists}
+use Rattle.grown_runs.specs.Runs.PackedRuns.{state_of_lists}
+use Rattle.grown_runs.proofs.Runs.PackedStates.{point_at-lists}
 
 -- the point of a node of the list
 abbrev point_in : Option Knot → Option Point

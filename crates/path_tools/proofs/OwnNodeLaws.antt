@@ -27,7 +27,7 @@ use Rattle.point_strips.specs.Discs.{IsWithin}
 use Rattle.point_strips.specs.Walks.{numbered_at, nowhere, HasNoneBetween, IsRunAfter}
 use Rattle.point_strips.specs.declared.strips.Numbered.{Numbered}
 use Rattle.point_strips.specs.declared.strips.Run.{Run}
-use Rattle.step_core.specs.PackedRuns.{state_of_lists}
+use Rattle.grown_runs.specs.Runs.PackedRuns.{state_of_lists}
 use Rattle.path_tools.specs.OwnNodes.{AreNodesBefore, ArePresent, HasNo, HasOne, IsPassedOverAt, IsNearerAt, IsNodeBefore, IsPlacedAt, IsPlacedMarkAt}
 use Rattle.path_tools.specs.OwnNodes.{IsUnlawfulAt}
 use Rattle.path_tools.specs.OwnNodes.{IsNearestOfEarlier, IsTaken, KeepsNear}

@@ -10,8 +10,8 @@ use Rattle.plan_model.specs.Trees.TreeStates.{chain_in}
 use Rattle.plan_model.proofs.ChainLaws.{chain-start, chain-parent}
 use Rattle.plan_model.proofs.ClearPathLaws.{IsClearPath-ordered}
 use Rattle.settle_report.proofs.GrownPaths.{FallAlong-grown}
-use Rattle.step_core.specs.declared.grown.Grown.{Grown}
-use Rattle.step_core.specs.GrownRuns.{state_of_grown}
+use Rattle.grown_runs.specs.declared.grown.Grown.{Grown}
+use Rattle.grown_runs.specs.Runs.GrownRuns.{state_of_grown}
 
 module _ (grown : Grown) where
   long_chain : (n : ℕ) → IsPresent (state_of_grown grown).points n → 0 < length (chain_in (state_of_grown grown) n)

@@ -17,7 +17,7 @@ use Rattle.plan_model.specs.Spaces.ConfigurationSpace.{space_of}
 use Rattle.plan_model.specs.Trees.PointsByNumber.{node_count}
 use Rattle.plan_model.specs.Trees.TreeStates.{TreeState}
 use Rattle.edge_cost.specs.declared.radii.Radii.{Radii}
-use Rattle.step_core.specs.PackedRuns.{state_of_lists}
+use Rattle.grown_runs.specs.Runs.PackedRuns.{state_of_lists}
 use Rattle.path_tools.specs.declared.judged.Judged.{Judged}
 use Rattle.path_tools.specs.declared.judged.Listed.{Listed}
 use Rattle.path_tools.specs.declared.own_runs.OwnRun.{OwnRun}

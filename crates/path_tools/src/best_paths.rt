@@ -8,16 +8,16 @@ ghost use Rattle.plan_model.specs.Trees.NodeLists.{FallAlong};
 ghost use Rattle.plan_model.specs.Trees.PointsByNumber.{IsPresent, point_at, point_of};
 ghost use Rattle.plan_model.specs.Trees.TreeStates.{IsSettled, chain_in, sum_in};
 ghost use Rattle.plan_model.specs.declared.limits.TheConstants.{MOST_NODES};
-ghost use Rattle.step_core.specs.PackedRuns.{kept_cost_of, state_of_lists};
+ghost use Rattle.grown_runs.specs.Runs.PackedRuns.{kept_cost_of, state_of_lists};
 ghost use Rattle.path_tools.specs.SheetLaws.{path_by};
 ghost use Rattle.path_tools.specs.SheetsRead.{path_of_way};
 ghost use Rattle.path_tools.specs.ListedTrees.{IsSettledList};
 
 use crate::exact_edges::knot_at;
 use crate::smoothing::Way;
+use grown_runs::lies_in_goals;
 use plan_model::{Goal, Knot, Memory, Point};
 use std::alloc::Global;
-use step_core::lies_in_goals;
 
 /// The path from the start to the node that costs least of those in a goal, of equal costs to the one with the least number, and its cost;
 /// `None` exactly if no node lies in a goal. O(n) for n nodes.

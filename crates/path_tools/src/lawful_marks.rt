@@ -22,8 +22,8 @@ use crate::placed_marks::{hangs_lawfully, stands_at};
 use crate::searches::{is_nearest, is_nearest_and_keeps_near, is_taken};
 use crate::seen_nodes::Seen;
 use edge_cost::{bound, class, steer};
+use grown_runs::lies_in_goals;
 use plan_model::{Outcome, Point, Record, Scene};
-use step_core::lies_in_goals;
 use swept_check::Clearing;
 
 /// Whether the record of a mark keeps the law of records. `seen` is what stood before its turn. O(k + s log n) on average besides segments,

@@ -6,13 +6,13 @@ ghost use Rattle.plan_model.specs.Trees.BestNode.{best_node, goals_of};
 ghost use Rattle.plan_model.specs.Trees.PointsByNumber.{IsPresent};
 ghost use Rattle.plan_model.specs.Trees.TreeStates.{IsSettled};
 ghost use Rattle.path_tools.specs.SmoothedReports.{IsSmoothedReport, ReportsSmoothed};
-ghost use Rattle.step_core.specs.GrownRuns.{state_of_grown};
+ghost use Rattle.grown_runs.specs.Runs.GrownRuns.{state_of_grown};
 
 use crate::smoothing::cheapest_way;
+use grown_runs::Grown;
 use plan_model::Memory;
 use settle_report::{path_to, report_along, report_by_best};
 use std::alloc::Global;
-use step_core::Grown;
 use swept_check::Clearing;
 
 /// The short report of a settled run with its best path [smoothed](crate::smooth), and the cost of that path; without a path it is

@@ -5,7 +5,7 @@ ghost use Rattle.plan_model.specs.Runs.ClosedLaw.{outcome_count};
 ghost use Rattle.plan_model.specs.Runs.Outcomes.{is_blocked, is_placed, is_same, is_skipped};
 ghost use Rattle.plan_model.specs.declared.limits.TheConstants.{MOST_MARKS};
 ghost use Rattle.plan_model.specs.declared.trees.Knot.{Knot};
-ghost use Rattle.step_core.specs.PackedRuns.{state_of_lists};
+ghost use Rattle.grown_runs.specs.Runs.PackedRuns.{state_of_lists};
 ghost use Rattle.path_tools.specs.SheetLaws.{skipped_of};
 
 use plan_model::{Outcome, Record};

@@ -24,32 +24,31 @@ use Rattle.step_core.specs.ViewSteps.{claimed, counted, finished, finished_at, h
 use Rattle.step_core.specs.ViewSteps.{mark_of, pair_in_hand, parted, place_in, pointed, saw_at, stepped as one_step, steps_then, treed, worker_apart}
 use Rattle.step_core.specs.ViewTrees.{IsSteered, LeadsTo, MayHang, MayLoad, MayLower}
 use Rattle.step_core.specs.Views.{run_sizes, sees, share, spent, words_of_run}
-use Rattle.step_core.specs.WordNames.{Word, Words, WritesWord}
-use Rattle.step_core.specs.WordNames.Word.{Best, ChildOf, Count, Counter, FirstOf, PointOf, RecordOf, TreeOf}
-use Rattle.step_core.specs.WordPlaces.{HasWord, place_of}
+use Rattle.grown_runs.specs.Table.WordNames.{Word, Words, WritesWord}
+use Rattle.grown_runs.specs.Table.WordNames.Word.{Best, ChildOf, Count, Counter, FirstOf, PointOf, RecordOf, TreeOf}
+use Rattle.grown_runs.specs.Table.WordPlaces.{HasWord, place_of}
 use Rattle.plan_model.specs.declared.geometry.Point.{Point}
 use Rattle.plan_model.specs.declared.records.Record.{Record}
-use Rattle.step_core.specs.Words.{FitsWord, best_cost_in, best_node_in, best_word, no_best}
-use Rattle.step_core.specs.Words.{cost_in, parent_in, point_word, record_word, tree_word}
+use Rattle.grown_runs.specs.Table.Words.{FitsWord, best_cost_in, best_node_in, best_word, no_best, cost_in, parent_in, point_word, record_word, tree_word}
 use Rattle.step_core.specs.Worlds.{IsWorld}
 use Rattle.step_core.specs.declared.views.Hand.{Hand}
 use Rattle.step_core.specs.declared.views.Member.{Member}
 use Rattle.step_core.specs.declared.views.SharedRun.{SharedRun}
 use Rattle.step_core.specs.declared.views.Stage.TheVariants.{Claimed, Half, Linked, Pointed, Treed}
 use Rattle.step_core.specs.declared.views.View.{View}
-use Rattle.step_core.proofs.FinishedMarks.{IsTurnWord-packed, IsWorld-recorded, in_hand}
-use Rattle.step_core.proofs.LaterViews.{IsLater-claimed, IsLater-finished, IsLater-loaded, IsLawfulView-world}
-use Rattle.step_core.proofs.LawfulRecords.{own_count-most}
-use Rattle.step_core.proofs.ViewLists.{at-set}
-use Rattle.step_core.proofs.WordReads.{WritesWord-set, word-found}
-use Rattle.step_core.proofs.WorldJoins.{IsWorld-joined}
-use Rattle.step_core.proofs.WorldSplits.{IsCut-looker, IsCut-parted, IsWorld-cut}
-use Rattle.step_core.proofs.WorldLinks.{count-most}
-use Rattle.step_core.proofs.WorldLowers.{IsLater-lowered, IsWorld-lowered, lower-found, tree-written}
-use Rattle.step_core.proofs.WorldNodes.{IsLater-link, IsWorld-counted, IsWorld-half, IsWorld-linked, IsWorld-pointed, IsWorld-treed}
-use Rattle.step_core.proofs.LaterSteps.{IsLater-counted, IsLater-half, IsLater-pointed, IsLater-treed}
-use Rattle.step_core.proofs.WorldSteps.{HasWord-load, IsWorld-claimed, IsWorld-loaded, seen_within}
-use Rattle.step_core.proofs.WorldPosts.{IsLater-best, IsWorld-best_loaded, IsWorld-posted}
+use Rattle.step_core.proofs.Steps.FinishedMarks.{IsTurnWord-packed, IsWorld-recorded, in_hand}
+use Rattle.step_core.proofs.OneView.LaterViews.{IsLater-claimed, IsLater-finished, IsLater-loaded, IsLawfulView-world}
+use Rattle.step_core.proofs.Parts.LawfulRecords.{own_count-most}
+use Rattle.step_core.proofs.Parts.ViewLists.{at-set}
+use Rattle.grown_runs.proofs.Table.WordReads.{WritesWord-set, word-found}
+use Rattle.step_core.proofs.Steps.WorldJoins.{IsWorld-joined}
+use Rattle.step_core.proofs.Steps.WorldSplits.{IsCut-looker, IsCut-parted, IsWorld-cut}
+use Rattle.step_core.proofs.Parts.WorldLinks.{count-most}
+use Rattle.step_core.proofs.Steps.WorldLowers.{IsLater-lowered, IsWorld-lowered, lower-found, tree-written}
+use Rattle.step_core.proofs.Steps.WorldNodes.{IsLater-link, IsWorld-counted, IsWorld-half, IsWorld-linked, IsWorld-pointed, IsWorld-treed}
+use Rattle.step_core.proofs.OneView.LaterSteps.{IsLater-counted, IsLater-half, IsLater-pointed, IsLater-treed}
+use Rattle.step_core.proofs.Steps.WorldSteps.{HasWord-load, IsWorld-claimed, IsWorld-loaded, seen_within}
+use Rattle.step_core.proofs.Steps.WorldPosts.{IsLater-best, IsWorld-best_loaded, IsWorld-posted}
 use Rattle.plan_words.proofs.WholeViews.{best-as_seen, best-whole, word_count-whole, words-whole}
 use Rattle.plan_words.proofs.WrittenPoints.{written-seen}
 

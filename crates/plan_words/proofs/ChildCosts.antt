@@ -10,11 +10,11 @@ use Rattle.plan_words.proofs.KeptPairs.{fits_word}
 use Rattle.step_core.specs.LaterViews.{IsLawfulView}
 use Rattle.step_core.specs.ViewTrees.{IsCostBelow, MayLower, SeesPoint}
 use Rattle.step_core.specs.Views.{sees}
-use Rattle.step_core.specs.WordNames.Word.{TreeOf}
-use Rattle.step_core.specs.Words.{cost_in, parent_in, tree_word}
+use Rattle.grown_runs.specs.Table.WordNames.Word.{TreeOf}
+use Rattle.grown_runs.specs.Table.Words.{cost_in, parent_in, tree_word}
 use Rattle.step_core.specs.declared.views.View.{View}
-use Rattle.step_core.proofs.PackedWords.{cost_in-tree_word, parent_in-tree_word}
-use Rattle.step_core.proofs.SeenViews.{SeesPoint-later}
+use Rattle.grown_runs.proofs.Table.PackedWords.{cost_in-tree_word, parent_in-tree_word}
+use Rattle.step_core.proofs.OneView.SeenViews.{SeesPoint-later}
 
 -- a point that is seen stays
 pub stands_on : (before after : View) (n : ℕ) (p : Point) → GoesOn before after → SeesPoint before n p → SeesPoint after n p

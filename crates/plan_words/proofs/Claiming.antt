@@ -12,8 +12,8 @@ use Rattle.plan_words.specs.declared.claims.Next.{Next}
 use Rattle.step_core.specs.LaterViews.{IsLater}
 use Rattle.step_core.specs.ViewSteps.{claimed, loaded, mark_of, new_hand}
 use Rattle.step_core.specs.Views.{last_look, sees}
-use Rattle.step_core.specs.WordNames.{ChangesOnly, IsCounter, Words, WritesWord}
-use Rattle.step_core.specs.WordNames.Word.{Counter}
+use Rattle.grown_runs.specs.Table.WordNames.{ChangesOnly, IsCounter, Words, WritesWord}
+use Rattle.grown_runs.specs.Table.WordNames.Word.{Counter}
 use Rattle.step_core.specs.declared.views.SharedRun.{SharedRun}
 use Rattle.step_core.specs.declared.views.View.{View}
 use Rattle.plan_words.proofs.Scanning.{Scanned, Scanned-all, Scanned-more, left_over, sum_less}

@@ -13,22 +13,22 @@ use Rattle.plan_words.specs.Claims.{HasNoneLeft}
 use Rattle.plan_words.specs.declared.openings.Aim.{Aim}
 use Rattle.plan_words.specs.declared.openings.Opening.{Opening}
 use Rattle.plan_words.specs.States.{HoldsWorld, run_of_opening}
-use Rattle.step_core.specs.GrownWords.{HoldRun, cleared, record_at, run_words, sizes_of, state_of_words}
-use Rattle.step_core.specs.GrownRuns.{state_of_grown, words_of_grown}
+use Rattle.grown_runs.specs.Runs.GrownWords.{HoldRun, cleared, record_at, run_words, sizes_of, state_of_words}
+use Rattle.grown_runs.specs.Runs.GrownRuns.{state_of_grown, words_of_grown}
 use Rattle.step_core.specs.LastViews.{StandsAsSeen}
-use Rattle.step_core.specs.PlacesOfWords.{sizes_in}
-use Rattle.step_core.specs.RunWords.{words_in}
+use Rattle.grown_runs.specs.Table.PlacesOfWords.{sizes_in}
+use Rattle.grown_runs.specs.Table.RunWords.{words_in}
 use Rattle.step_core.specs.SharedWords.{state_of_links}
 use Rattle.step_core.specs.Views.{run_of, run_sizes, sees, share, words_of_run}
-use Rattle.step_core.specs.WordNames.{Words}
-use Rattle.step_core.specs.WordNames.Word.{Counter, FirstOf, RecordOf}
-use Rattle.step_core.specs.WordPlaces.{Sizes, word_at}
-use Rattle.step_core.specs.Words.{record_of_word}
+use Rattle.grown_runs.specs.Table.WordNames.{Words}
+use Rattle.grown_runs.specs.Table.WordNames.Word.{Counter, FirstOf, RecordOf}
+use Rattle.grown_runs.specs.Table.WordPlaces.{Sizes, word_at}
+use Rattle.grown_runs.specs.Table.Words.{record_of_word}
 use Rattle.step_core.specs.Worlds.{IsWorld, state_in}
-use Rattle.step_core.specs.declared.grown.Grown.{Grown}
-use Rattle.step_core.specs.declared.run_words.RunWords.{RunWords}
+use Rattle.grown_runs.specs.declared.grown.Grown.{Grown}
+use Rattle.grown_runs.specs.declared.run_words.RunWords.{RunWords}
 use Rattle.step_core.specs.declared.views.View.{View}
-use Rattle.step_core.proofs.ClosedWorlds.{AreSameRuns-cleared, HoldRun-whole, StandsAsSeen-whole, own_workers-whole}
+use Rattle.step_core.proofs.Whole.ClosedWorlds.{AreSameRuns-cleared, HoldRun-whole, StandsAsSeen-whole, own_workers-whole}
 use Rattle.plan_model.proofs.SameTrees.{AreSameRuns-trans}
 use Rattle.plan_words.proofs.WholeTrees.{AreSameRuns-whole}
 

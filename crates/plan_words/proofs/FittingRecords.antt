@@ -12,8 +12,8 @@ use Rattle.plan_model.proofs.RecordLaws.{class_of-le}
 use Rattle.step_core.specs.LaterViews.{IsLawfulView}
 use Rattle.step_core.specs.SeenRecords.{MayEnd, MayRecord}
 use Rattle.step_core.specs.Views.{sees, tree_seen}
-use Rattle.step_core.specs.WordNames.Word.{Count}
-use Rattle.step_core.specs.Words.{last_field}
+use Rattle.grown_runs.specs.Table.WordNames.Word.{Count}
+use Rattle.grown_runs.specs.Table.Words.{last_field}
 use Rattle.step_core.specs.declared.views.Hand.{Hand}
 use Rattle.step_core.specs.declared.views.View.{View}
 

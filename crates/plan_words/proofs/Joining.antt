@@ -9,15 +9,15 @@ use Rattle.plan_words.specs.States.{GoesOn, HasPairs, first_member}
 use Rattle.step_core.specs.LaterViews.{IsLater, IsLawfulView}
 use Rattle.step_core.specs.ViewSteps.{joined, loaded, place_in}
 use Rattle.step_core.specs.Views.{run_sizes, sees, took_over, words_of_run}
-use Rattle.step_core.specs.WordKinds.{AreBehind, later_word}
-use Rattle.step_core.specs.WordKinds.WordKind.{Falling}
-use Rattle.step_core.specs.WordNames.Word.{Count, TreeOf}
-use Rattle.step_core.specs.Words.{cost_in}
+use Rattle.grown_runs.specs.Table.WordKinds.{AreBehind, later_word}
+use Rattle.grown_runs.specs.Table.WordKinds.WordKind.{Falling}
+use Rattle.grown_runs.specs.Table.WordNames.Word.{Count, TreeOf}
+use Rattle.grown_runs.specs.Table.Words.{cost_in}
 use Rattle.step_core.specs.declared.views.Hand.{Hand}
 use Rattle.step_core.specs.declared.views.Member.{Member}
 use Rattle.step_core.specs.declared.views.View.{View}
-use Rattle.step_core.proofs.LaterViews.{IsLater-joined, IsLater-trans}
-use Rattle.step_core.proofs.LaterWords.{word_at-merged}
+use Rattle.step_core.proofs.OneView.LaterViews.{IsLater-joined, IsLater-trans}
+use Rattle.step_core.proofs.Seen.LaterWords.{word_at-merged}
 use Rattle.plan_words.proofs.KeptPairs.{Keeps, keeps_saw}
 
 -- A seat that took over another, and loaded the count then.

@@ -14,15 +14,15 @@ use Rattle.step_core.specs.LaterViews.{IsLawfulView}
 use Rattle.step_core.specs.ViewSteps.{claimed, finished_at, linked, linked_at, loaded, lowered, one_turn_more, pair_in_hand, place_in, saw, saw_at}
 use Rattle.step_core.specs.ViewTrees.{IsCostBelow}
 use Rattle.step_core.specs.Views.{run_sizes, sees}
-use Rattle.step_core.specs.WordNames.{Word}
-use Rattle.step_core.specs.WordNames.Word.{ChildOf, Counter, RecordOf, TreeOf}
-use Rattle.step_core.specs.WordPlaces.{HasWord}
-use Rattle.step_core.specs.Words.{parent_in, tree_word}
+use Rattle.grown_runs.specs.Table.WordNames.{Word}
+use Rattle.grown_runs.specs.Table.WordNames.Word.{ChildOf, Counter, RecordOf, TreeOf}
+use Rattle.grown_runs.specs.Table.WordPlaces.{HasWord}
+use Rattle.grown_runs.specs.Table.Words.{parent_in, tree_word}
 use Rattle.step_core.specs.declared.views.Hand.{Hand}
 use Rattle.step_core.specs.declared.views.Member.{Member}
 use Rattle.step_core.specs.declared.views.View.{View}
-use Rattle.step_core.proofs.LinkedViews.{sees-linked}
-use Rattle.step_core.proofs.SeenByViews.{WritesWord-saw}
+use Rattle.step_core.proofs.OneView.LinkedViews.{sees-linked}
+use Rattle.step_core.proofs.Seen.SeenByViews.{WritesWord-saw}
 
 -- if no tree word is seen anew, the list stays
 pub HasPairs-kept :

@@ -4,22 +4,22 @@ use Rattle.std.specs.Prelude.{MatchOption, unwrap_or}
 use Rattle.plan_words.specs.Parents.{IsEdgeSeen, IsPairIn}
 use Rattle.plan_words.specs.Plays.{FindsPoint}
 use Rattle.plan_words.specs.States.{GoesOn}
-use Rattle.step_core.specs.GrownWords.{child_of_word}
+use Rattle.grown_runs.specs.Runs.GrownWords.{child_of_word}
 use Rattle.step_core.specs.LaterViews.{IsLawfulView}
-use Rattle.step_core.specs.PlacesOfWords.{sizes_in}
+use Rattle.grown_runs.specs.Table.PlacesOfWords.{sizes_in}
 use Rattle.step_core.specs.ViewSteps.{place_in, saw, saw_at}
 use Rattle.step_core.specs.ViewTrees.{SeesNode, SeesPoint}
 use Rattle.step_core.specs.Views.{last_zero, run_sizes, sees, tree_seen}
-use Rattle.step_core.specs.WordNames.{Word}
-use Rattle.step_core.specs.WordNames.Word.{ChildOf, PointOf, TreeOf}
-use Rattle.step_core.specs.WordPlaces.{place_of}
-use Rattle.step_core.specs.Words.{cost_in, parent_in, point_in, point_of_word}
+use Rattle.grown_runs.specs.Table.WordNames.{Word}
+use Rattle.grown_runs.specs.Table.WordNames.Word.{ChildOf, PointOf, TreeOf}
+use Rattle.grown_runs.specs.Table.WordPlaces.{place_of}
+use Rattle.grown_runs.specs.Table.Words.{cost_in, parent_in, point_in, point_of_word}
 use Rattle.step_core.specs.declared.views.SharedRun.{SharedRun}
 use Rattle.step_core.specs.declared.views.View.{View}
-use Rattle.step_core.specs.declared.word_places.WordPlaces.{WordPlaces}
-use Rattle.step_core.proofs.ReadWords.{if_written-set}
-use Rattle.step_core.proofs.SeenByViews.{WritesWord-saw, WritesWord-zero}
-use Rattle.step_core.proofs.SeenWords.{point_at-seen}
+use Rattle.grown_runs.specs.declared.word_places.WordPlaces.{WordPlaces}
+use Rattle.grown_runs.proofs.Table.ReadWords.{if_written-set}
+use Rattle.step_core.proofs.Seen.SeenByViews.{WritesWord-saw, WritesWord-zero}
+use Rattle.step_core.proofs.Seen.SeenWords.{point_at-seen}
 
 -- the number of a seen node is one of the run's
 pub seen_low : (view : View) (run : SharedRun) (node : ℕ) → IsLawfulView view → view.run ≡ run → SeesNode view node → node ≤ length run.marks

@@ -12,15 +12,15 @@ use Rattle.plan_words.proofs.ChildCosts.{CostsAtMostThrough-kept, HasSeenParent-
 use Rattle.plan_words.proofs.Posting.{goal-goes_on}
 use Rattle.plan_words.proofs.SeatSteps.{LooksOn-refl, LooksOn-trans, whole_later}
 use Rattle.plan_words.proofs.SeenChildren.{HasSeenParent-chain, chain-HasSeenParent, pair-seen}
-use Rattle.step_core.specs.ChildChains.{AreMembers, IndexesChains, siblings_from, times}
+use Rattle.grown_runs.specs.ChildChains.{AreMembers, IndexesChains, siblings_from, times}
 use Rattle.step_core.specs.LaterViews.{IsLawfulView}
 use Rattle.step_core.specs.SeenBests.{SeesGoal}
 use Rattle.step_core.specs.Views.{sees}
-use Rattle.step_core.specs.WordNames.Word.{TreeOf}
-use Rattle.step_core.specs.Words.{best_word, cost_in}
-use Rattle.step_core.specs.declared.child_index.ChildIndex.{ChildIndex}
+use Rattle.grown_runs.specs.Table.WordNames.Word.{TreeOf}
+use Rattle.grown_runs.specs.Table.Words.{best_word, cost_in}
+use Rattle.grown_runs.specs.declared.child_index.ChildIndex.{ChildIndex}
 use Rattle.step_core.specs.declared.views.View.{View}
-use Rattle.step_core.proofs.SiblingWalks.{AreMembers-chain, siblings_from-here, times-else, times-here}
+use Rattle.grown_runs.proofs.Children.SiblingWalks.{AreMembers-chain, siblings_from-here, times-else, times-here}
 
 -- ---- the list of tree words
 

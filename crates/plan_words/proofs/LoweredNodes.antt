@@ -8,11 +8,11 @@ use Rattle.step_core.specs.LaterViews.{IsLawfulView}
 use Rattle.step_core.specs.ViewSteps.{loaded, lowered}
 use Rattle.step_core.specs.ViewTrees.{MayLower, SeesNode}
 use Rattle.step_core.specs.Views.{sees}
-use Rattle.step_core.specs.WordNames.{WritesWord}
-use Rattle.step_core.specs.WordNames.Word.{TreeOf}
-use Rattle.step_core.specs.Words.{cost_in, parent_in, tree_word}
-use Rattle.step_core.proofs.PackedWords.{cost_in-tree_word}
-use Rattle.step_core.proofs.SeenByViews.{WritesWord-saw}
+use Rattle.grown_runs.specs.Table.WordNames.{WritesWord}
+use Rattle.grown_runs.specs.Table.WordNames.Word.{TreeOf}
+use Rattle.grown_runs.specs.Table.Words.{cost_in, parent_in, tree_word}
+use Rattle.grown_runs.proofs.Table.PackedWords.{cost_in-tree_word}
+use Rattle.step_core.proofs.Seen.SeenByViews.{WritesWord-saw}
 use Rattle.plan_words.proofs.KeptPairs.{fits_word}
 
 module _ (old new : PassState) (n parent cost found : ℕ) (lawful : IsLawfulView old.view) (may : MayLower old.view n parent cost)

@@ -15,10 +15,10 @@ use Rattle.step_core.specs.LaterViews.{IsLawfulView}
 use Rattle.step_core.specs.Stages.{has_point}
 use Rattle.step_core.specs.ViewTrees.{MayHang, SeesCost, SeesPoint}
 use Rattle.step_core.specs.Views.{sees, setup_in, tree_seen}
-use Rattle.step_core.specs.WordNames.Word.{TreeOf}
+use Rattle.grown_runs.specs.Table.WordNames.Word.{TreeOf}
 use Rattle.step_core.specs.declared.views.Hand.{Hand}
 use Rattle.step_core.specs.declared.views.View.{View}
-use Rattle.step_core.proofs.LawfulSights.{IsBounded-steered}
+use Rattle.step_core.proofs.OneView.LawfulSights.{IsBounded-steered}
 use Rattle.plan_words.proofs.HandSteps.{at_hand}
 use Rattle.plan_words.proofs.KeptPairs.{if_hand}
 

@@ -20,18 +20,18 @@ use Rattle.step_core.specs.ViewTrees.{IsSteered, LeadsTo, MayHang, MayLoad, MayL
 use Rattle.step_core.specs.declared.views.Stage.TheVariants.{Claimed, Half, Linked, Pointed, Treed}
 use Rattle.step_core.specs.ViewSteps.{claimed, joined, loaded, looker, mark_of, pair_in_hand, parted, place_in, saw_at, stepped as one_step, worker_apart}
 use Rattle.step_core.specs.Views.{last_look, run_sizes, sees, share, spent}
-use Rattle.step_core.specs.WordNames.{Word, WritesWord}
-use Rattle.step_core.specs.WordNames.Word.{Best, ChildOf, Count, Counter, FirstOf, PointOf, RecordOf, TreeOf}
-use Rattle.step_core.specs.WordPlaces.{HasWord, place_of}
+use Rattle.grown_runs.specs.Table.WordNames.{Word, WritesWord}
+use Rattle.grown_runs.specs.Table.WordNames.Word.{Best, ChildOf, Count, Counter, FirstOf, PointOf, RecordOf, TreeOf}
+use Rattle.grown_runs.specs.Table.WordPlaces.{HasWord, place_of}
 use Rattle.plan_model.specs.declared.records.Record.{Record}
-use Rattle.step_core.specs.Words.{FitsWord, best_node_in, best_word, cost_in, parent_in, point_word, record_word, tree_word}
+use Rattle.grown_runs.specs.Table.Words.{FitsWord, best_node_in, best_word, cost_in, parent_in, point_word, record_word, tree_word}
 use Rattle.step_core.specs.declared.views.Hand.{Hand}
 use Rattle.step_core.specs.declared.views.Member.{Member}
 use Rattle.step_core.specs.declared.views.SharedRun.{SharedRun}
 use Rattle.step_core.specs.declared.views.View.{View}
-use Rattle.step_core.specs.declared.word_places.WordPlaces.{WordPlaces}
-use Rattle.step_core.proofs.SeenByViews.{WritesWord-looked, WritesWord-saw}
-use Rattle.step_core.proofs.WordReads.{place_of-within}
+use Rattle.grown_runs.specs.declared.word_places.WordPlaces.{WordPlaces}
+use Rattle.step_core.proofs.Seen.SeenByViews.{WritesWord-looked, WritesWord-saw}
+use Rattle.grown_runs.proofs.Table.WordReads.{place_of-within}
 use Rattle.plan_words.proofs.Allowing.{Holds, may_best, may_claim, may_count, may_finish, may_first, may_hand_on, may_link, may_load, may_look, may_lower}
 use Rattle.plan_words.proofs.Allowing.{may_point, may_post, may_take_over, may_tree}
 

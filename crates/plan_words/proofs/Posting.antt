@@ -18,25 +18,25 @@ use Rattle.plan_words.specs.Plays.{Tells}
 use Rattle.plan_words.specs.States.{GoesOn, HasPairs, PassState, SharedState, run_in, with_view}
 use Rattle.plan_words.specs.declared.openings.Aim.{Aim}
 use Rattle.step_core.specs.LaterViews.{IsLawfulView}
-use Rattle.step_core.specs.GrownWords.{has_node}
+use Rattle.grown_runs.specs.Runs.GrownWords.{has_node}
 use Rattle.step_core.specs.SeenBests.{MayPost, SeesGoal, seen_first_cost}
 use Rattle.step_core.specs.Stages.{has_link}
 use Rattle.step_core.specs.ViewSteps.{best_with, hand_with_post, loaded, lowered, post_noted, posted, with_best}
 use Rattle.step_core.specs.ViewTrees.{SeesPoint}
-use Rattle.step_core.specs.SeenWords.{seen_tree_of_words}
+use Rattle.grown_runs.specs.Table.SeenWords.{seen_tree_of_words}
 use Rattle.step_core.specs.Views.{run_sizes, sees, tree_seen}
-use Rattle.step_core.specs.WordNames.{Word, WritesWord}
-use Rattle.step_core.specs.WordNames.Word.{FirstOf, PointOf, TreeOf}
-use Rattle.step_core.specs.Words.{best_cost_in, best_node_in, best_of_word, best_word, cost_in, no_best, point_of_word, tree_word}
+use Rattle.grown_runs.specs.Table.WordNames.{Word, WritesWord}
+use Rattle.grown_runs.specs.Table.WordNames.Word.{FirstOf, PointOf, TreeOf}
+use Rattle.grown_runs.specs.Table.Words.{best_cost_in, best_node_in, best_of_word, best_word, cost_in, no_best, point_of_word, tree_word}
 use Rattle.step_core.specs.declared.views.Hand.{Hand}
 use Rattle.step_core.specs.declared.views.SharedRun.{SharedRun}
 use Rattle.step_core.specs.declared.views.Stage.{Stage}
 use Rattle.step_core.specs.declared.views.Stage.TheVariants.{Claimed, Counted, Half, Linked, Pointed, Posted, Treed}
 use Rattle.step_core.specs.declared.views.View.{View}
-use Rattle.step_core.proofs.Looks.{same_name}
-use Rattle.step_core.proofs.SeenByViews.{WritesWord-saw}
-use Rattle.step_core.proofs.SeenViews.{SeesPoint-later}
-use Rattle.step_core.proofs.SeenWords.{point_at-seen, seen-within}
+use Rattle.step_core.proofs.Seen.Looks.{same_name}
+use Rattle.step_core.proofs.Seen.SeenByViews.{WritesWord-saw}
+use Rattle.step_core.proofs.OneView.SeenViews.{SeesPoint-later}
+use Rattle.step_core.proofs.Seen.SeenWords.{point_at-seen, seen-within}
 
 -- ---- goals
 

@@ -11,16 +11,16 @@ use Rattle.plan_words.specs.States.{HasWholeShare}
 use Rattle.step_core.specs.SharedWords.{linked_points}
 use Rattle.step_core.specs.ViewTrees.{MayLoad}
 use Rattle.step_core.specs.Views.{run_sizes, sees, share, tree_seen}
-use Rattle.step_core.specs.WordNames.{Word, Words}
-use Rattle.step_core.specs.WordNames.Word.{Best, ChildOf, Count, Counter, FirstOf, PointOf, RecordOf, TreeOf}
-use Rattle.step_core.specs.Words.{best_cost_in, best_node_in, cost_in, no_best}
+use Rattle.grown_runs.specs.Table.WordNames.{Word, Words}
+use Rattle.grown_runs.specs.Table.WordNames.Word.{Best, ChildOf, Count, Counter, FirstOf, PointOf, RecordOf, TreeOf}
+use Rattle.grown_runs.specs.Table.Words.{best_cost_in, best_node_in, cost_in, no_best}
 use Rattle.step_core.specs.Worlds.{IsWorld}
 use Rattle.step_core.specs.declared.views.Hand.{Hand}
 use Rattle.step_core.specs.declared.views.SharedRun.{SharedRun}
 use Rattle.step_core.specs.declared.views.Stage.TheVariants.{Linked}
 use Rattle.step_core.specs.declared.views.View.{View}
-use Rattle.step_core.proofs.LinkedStates.{linked-present}
-use Rattle.step_core.proofs.WholeCopies.{best-whole as best-same, count-whole, nodes-whole, points-whole, sees-whole}
+use Rattle.step_core.proofs.Parts.LinkedStates.{linked-present}
+use Rattle.step_core.proofs.Whole.WholeCopies.{best-whole as best-same, count-whole, nodes-whole, points-whole, sees-whole}
 
 module _ (run : SharedRun) (words : Words) (views : List View) (id : ℕ) (view : View) (world : IsWorld run words views)
     (at : get_elem? views id ≡ some view) (own : view.run ≡ run) (whole : HasWholeShare view) where

@@ -5,8 +5,8 @@ use Rattle.plan_words.specs.States.{PassState, with_view}
 use Rattle.step_core.specs.SeenBests.{SeesGoal}
 use Rattle.step_core.specs.ViewSteps.{hand_with_post, loaded, with_best}
 use Rattle.step_core.specs.Views.{sees}
-use Rattle.step_core.specs.WordNames.Word.{PointOf, TreeOf}
-use Rattle.step_core.specs.Words.{best_word, cost_in}
+use Rattle.grown_runs.specs.Table.WordNames.Word.{PointOf, TreeOf}
+use Rattle.grown_runs.specs.Table.Words.{best_word, cost_in}
 use Rattle.step_core.specs.declared.views.Hand.{Hand}
 use Rattle.step_core.specs.declared.views.Stage.TheVariants.{Counted}
 use Rattle.step_core.specs.declared.views.View.{View}

@@ -6,8 +6,8 @@ use Rattle.plan_words.specs.declared.claims.ClaimOrder.{ClaimOrder}
 use Rattle.plan_words.specs.declared.claims.Next.{Next}
 use Rattle.step_core.specs.ViewSteps.{mark_of, new_hand}
 use Rattle.step_core.specs.Views.{last_look, sees}
-use Rattle.step_core.specs.WordNames.{Word, WritesWord}
-use Rattle.step_core.specs.WordNames.Word.{Counter}
+use Rattle.grown_runs.specs.Table.WordNames.{Word, WritesWord}
+use Rattle.grown_runs.specs.Table.WordNames.Word.{Counter}
 use Rattle.step_core.specs.Worlds.{counters}
 use Rattle.step_core.specs.declared.views.SharedRun.{SharedRun}
 use Rattle.step_core.specs.declared.views.View.{View}

@@ -4,8 +4,8 @@ use Rattle.plan_model.specs.declared.geometry.Point.{Point}
 use Rattle.step_core.specs.ViewSteps.{pair_in_hand}
 use Rattle.step_core.specs.ViewTrees.{IsOnWayOf, LeadsTo, SeesPoint}
 use Rattle.step_core.specs.Views.{sees, tree_seen}
-use Rattle.step_core.specs.WordNames.{Word}
-use Rattle.step_core.specs.WordNames.Word.{ChildOf, FirstOf, PointOf, TreeOf}
+use Rattle.grown_runs.specs.Table.WordNames.{Word}
+use Rattle.grown_runs.specs.Table.WordNames.Word.{ChildOf, FirstOf, PointOf, TreeOf}
 use Rattle.step_core.specs.declared.views.Hand.{Hand}
 use Rattle.step_core.specs.declared.views.Stage.TheVariants.{Counted}
 use Rattle.step_core.specs.declared.views.View.{View}

@@ -4,7 +4,7 @@ use Rattle.plan_model.specs.declared.geometry.Point.{Point}
 use Rattle.plan_model.specs.Runs.OrderLaw.{IsAllowedEdge}
 use Rattle.step_core.specs.ViewTrees.{SeesPoint}
 use Rattle.step_core.specs.Views.{setup_in}
-use Rattle.step_core.specs.Words.{cost_in, parent_in}
+use Rattle.grown_runs.specs.Table.Words.{cost_in, parent_in}
 use Rattle.step_core.specs.declared.views.View.{View}
 
 -- the word is written, with this parent and this cost

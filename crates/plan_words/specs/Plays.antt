@@ -13,9 +13,9 @@ use Rattle.step_core.specs.SeenRecords.{own_count}
 use Rattle.step_core.specs.ViewSteps.{best_loaded, claimed, counted, finished_at, half, last_fill, linked_at, place_in, pointed, posted, saw_at, treed}
 use Rattle.step_core.specs.ViewTrees.{MayLoad, SeesNode}
 use Rattle.step_core.specs.Views.{sees, tree_seen}
-use Rattle.step_core.specs.WordNames.{Word}
-use Rattle.step_core.specs.WordNames.Word.{Count, PointOf, TreeOf}
-use Rattle.step_core.specs.Words.{best_cost_in, best_node_in, cost_in, no_best, parent_in}
+use Rattle.grown_runs.specs.Table.WordNames.{Word}
+use Rattle.grown_runs.specs.Table.WordNames.Word.{Count, PointOf, TreeOf}
+use Rattle.grown_runs.specs.Table.Words.{best_cost_in, best_node_in, cost_in, no_best, parent_in}
 use Rattle.step_core.specs.declared.views.Hand.{Hand}
 use Rattle.step_core.specs.declared.views.Stage.TheVariants.{Linked}
 use Rattle.step_core.specs.declared.views.View.{View}

@@ -2,7 +2,7 @@
 use Rattle.std.specs.Prelude.{ℕ, ◌+◌, ◌≤◌, ◌==◌, if◌then◌else◌, Bool, List, [], drop, length, map, nat_lt, take}
 use Rattle.plan_model.specs.Geometry.Cost.{cost_of}
 use Rattle.plan_model.specs.declared.geometry.Point.{Point}
-use Rattle.step_core.specs.Words.{cost_in, point_in}
+use Rattle.grown_runs.specs.Table.Words.{cost_in, point_in}
 use Rattle.plan_words.specs.declared.spots.Cell.{Cell}
 use Rattle.plan_words.specs.declared.spots.Found.{Found}
 use Rattle.plan_words.specs.declared.spots.Spot.{Spot}

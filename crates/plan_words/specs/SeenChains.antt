@@ -1,8 +1,8 @@
 -- The tree words that a pass saw, and which chain of an index of children a node is in by them.
 use Rattle.std.specs.Prelude.{◌≡◌, ℕ, zero, suc, ◌+◌, ◌-◌, ◌≤◌, ◌^◌, List, ◌++◌, if◌then◌else◌, length, nat_lt, replicate, slice_index}
-use Rattle.step_core.specs.ChildChains.{FitsNumbers, IndexesChains}
-use Rattle.step_core.specs.Words.{parent_in}
-use Rattle.step_core.specs.declared.child_index.ChildIndex.{ChildIndex}
+use Rattle.grown_runs.specs.ChildChains.{FitsNumbers, IndexesChains}
+use Rattle.grown_runs.specs.Table.Words.{parent_in}
+use Rattle.grown_runs.specs.declared.child_index.ChildIndex.{ChildIndex}
 
 -- 1 more than the number of its parent, or 0 if it is nobody's child; node 0 is never one
 abbrev pub chain_of : ℕ → ℕ → ℕ

@@ -5,22 +5,22 @@ use Rattle.plan_model.specs.Runs.Textbook.{skipping_goals}
 use Rattle.plan_model.specs.declared.tasks.Task.{Task}
 use Rattle.plan_words.specs.declared.openings.Opening.{Opening}
 use Rattle.plan_words.specs.SearchLists.{SearchLists, no_search}
-use Rattle.step_core.specs.GrownRuns.{state_of_grown, words_of_grown}
+use Rattle.grown_runs.specs.Runs.GrownRuns.{state_of_grown, words_of_grown}
 use Rattle.step_core.specs.LaterViews.{IsLater, IsLawfulView}
-use Rattle.step_core.specs.PlacesOfWords.{sizes_in}
-use Rattle.step_core.specs.SeenBests.{IsLeastBest}
+use Rattle.grown_runs.specs.Table.PlacesOfWords.{sizes_in}
+use Rattle.grown_runs.specs.Runs.LeastBests.{IsLeastBest}
 use Rattle.step_core.specs.ViewStarts.{member_of, newcomer}
 use Rattle.step_core.specs.Views.{IsSharedRun, run_of, run_sizes, sees, share, words_of_run}
-use Rattle.step_core.specs.WordNames.{Words}
-use Rattle.step_core.specs.WordNames.Word.{Best, TreeOf}
-use Rattle.step_core.specs.WordPlaces.{word_count}
+use Rattle.grown_runs.specs.Table.WordNames.{Words}
+use Rattle.grown_runs.specs.Table.WordNames.Word.{Best, TreeOf}
+use Rattle.grown_runs.specs.Table.WordPlaces.{word_count}
 use Rattle.step_core.specs.Worlds.{IsWorld}
-use Rattle.step_core.specs.declared.grown.Grown.{Grown}
+use Rattle.grown_runs.specs.declared.grown.Grown.{Grown}
 use Rattle.step_core.specs.declared.views.Hand.{Hand}
 use Rattle.step_core.specs.declared.views.Member.{Member}
 use Rattle.step_core.specs.declared.views.SharedRun.{SharedRun}
 use Rattle.step_core.specs.declared.views.View.{View}
-use Rattle.step_core.specs.declared.word_places.WordPlaces.{WordPlaces}
+use Rattle.grown_runs.specs.declared.word_places.WordPlaces.{WordPlaces}
 
 -- ---- a shared tree and its passes
 

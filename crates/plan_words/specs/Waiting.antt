@@ -1,8 +1,8 @@
 -- A list of nodes that wait to be looked at, on which each stands once.
 use Rattle.std.specs.Prelude.{◌≡◌, ℕ, suc, ◌<◌, ◌≤◌, ◌^◌, Bool, true, false, List, [], ◌∷◌, length, SomeIndex, get_or, slice_index}
 use Rattle.step_core.specs.Views.{sees}
-use Rattle.step_core.specs.WordNames.Word.{TreeOf}
-use Rattle.step_core.specs.Words.{parent_in}
+use Rattle.grown_runs.specs.Table.WordNames.Word.{TreeOf}
+use Rattle.grown_runs.specs.Table.Words.{parent_in}
 use Rattle.step_core.specs.declared.views.View.{View}
 
 -- What contracts see of such a list: its nodes, and below which number they are.

@@ -5,12 +5,12 @@ ghost use Rattle.plan_model.specs.Runs.Textbook.{skipping_goals};
 ghost use Rattle.plan_model.specs.Trees.BestNode.{lies_in_goals};
 ghost use Rattle.plan_words.specs.Bests.{FindsGoalNode};
 ghost use Rattle.plan_words.specs.States.{BelongsTo, GoesOn, HasWholeShare, with_view};
-ghost use Rattle.step_core.specs.GrownWords.{has_node};
+ghost use Rattle.grown_runs.specs.Runs.GrownWords.{has_node};
 ghost use Rattle.step_core.specs.SeenBests.{IsInformed, MayPost, SeesGoal, seen_first_cost};
 ghost use Rattle.step_core.specs.ViewSteps.{best_loaded, best_with, hand_with_best, hand_with_post, with_best};
 ghost use Rattle.step_core.specs.Views.{sees};
-ghost use Rattle.step_core.specs.WordNames.Word.{TreeOf};
-ghost use Rattle.step_core.specs.Words.{best_of_word, best_word, cost_in};
+ghost use Rattle.grown_runs.specs.Table.WordNames.Word.{TreeOf};
+ghost use Rattle.grown_runs.specs.Table.Words.{best_of_word, best_word, cost_in};
 
 use crate::nodes::at_stage;
 use crate::passes::Pass;

@@ -4,7 +4,7 @@ ghost use Rattle.std.specs.Prelude.{ℕ, ◌<◌};
 ghost use Rattle.plan_words.specs.Claims.{AllLoaded};
 ghost use Rattle.step_core.specs.LaterViews.{IsLawfulView};
 ghost use Rattle.step_core.specs.Views.{last_look};
-ghost use Rattle.step_core.specs.WordNames.Word.{Counter};
+ghost use Rattle.grown_runs.specs.Table.WordNames.Word.{Counter};
 ghost use Rattle.step_core.specs.declared.views.View.{View};
 
 /// Where all counters were loaded since a moment, each strip's was looked at by a step after it, and so the pass has stepped since.

@@ -6,8 +6,8 @@ ghost use Rattle.plan_words.specs.Claims.{better_of, goes_first};
 ghost use Rattle.plan_words.specs.States.{BelongsTo, GoesOn, HasWholeShare, run_in, with_view, worker_of};
 ghost use Rattle.step_core.specs.ViewSteps.{claimed, loaded, mark_of};
 ghost use Rattle.step_core.specs.Views.{sees, share};
-ghost use Rattle.step_core.specs.WordNames.{ChangesOnly, IsCounter, WritesWord};
-ghost use Rattle.step_core.specs.WordNames.Word.{Counter};
+ghost use Rattle.grown_runs.specs.Table.WordNames.{ChangesOnly, IsCounter, WritesWord};
+ghost use Rattle.grown_runs.specs.Table.WordNames.Word.{Counter};
 
 use crate::openings::Aim;
 use crate::passes::Pass;

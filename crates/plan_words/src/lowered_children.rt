@@ -12,13 +12,13 @@ ghost use Rattle.plan_words.specs.Parents.{FindsLess};
 ghost use Rattle.plan_words.specs.SeenChains.{sibling_chain_in};
 ghost use Rattle.plan_words.specs.States.{BelongsTo, GoesOn, HasFirstPairs, HasWholeShare};
 ghost use Rattle.plan_words.specs.Waiting.{HasSeenParent, IsOn};
-ghost use Rattle.step_core.specs.ChildChains.{IndexesChains};
+ghost use Rattle.grown_runs.specs.ChildChains.{IndexesChains};
 ghost use Rattle.step_core.specs.SeenBests.{MayPost, SeesGoal};
 ghost use Rattle.step_core.specs.ViewTrees.{MayLower, SeesNode, SeesPoint};
 ghost use Rattle.step_core.specs.Views.{sees, share};
-ghost use Rattle.step_core.specs.WordNames.{Word};
-ghost use Rattle.step_core.specs.WordNames.Word.{PointOf, TreeOf};
-ghost use Rattle.step_core.specs.Words.{best_word, cost_in, parent_in, tree_word};
+ghost use Rattle.grown_runs.specs.Table.WordNames.{Word};
+ghost use Rattle.grown_runs.specs.Table.WordNames.Word.{PointOf, TreeOf};
+ghost use Rattle.grown_runs.specs.Table.Words.{best_word, cost_in, parent_in, tree_word};
 
 use crate::openings::Aim;
 use crate::passes::Pass;

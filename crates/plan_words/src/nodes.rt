@@ -6,14 +6,14 @@ ghost use Rattle.std.specs.Prelude.{IfErr, IfOk, IfSome, IsOk, IsSome, MatchOpti
 ghost use Rattle.plan_model.specs.Geometry.Bounds.{IsBounded};
 ghost use Rattle.plan_words.specs.Nodes.{NamesChildOrPoint, IsLinkedAt, NamesNode, LeadsOn};
 ghost use Rattle.plan_words.specs.States.{BelongsTo, GoesOn, HasWholeShare, with_view};
-ghost use Rattle.step_core.specs.GrownWords.{child_of_word};
+ghost use Rattle.grown_runs.specs.Runs.GrownWords.{child_of_word};
 ghost use Rattle.step_core.specs.SeenBests.{IsUnskipped};
 ghost use Rattle.step_core.specs.ViewSteps.{counted, last_fill, linked, loaded, pointed};
 ghost use Rattle.step_core.specs.ViewTrees.{IsSteered, LeadsTo, SeesNode, SeesPoint, sight_in};
 ghost use Rattle.step_core.specs.Views.{sees, tree_seen};
-ghost use Rattle.step_core.specs.WordNames.{ChangesOnly, WritesWord};
-ghost use Rattle.step_core.specs.WordNames.Word.{ChildOf, PointOf};
-ghost use Rattle.step_core.specs.Words.{point_in};
+ghost use Rattle.grown_runs.specs.Table.WordNames.{ChangesOnly, WritesWord};
+ghost use Rattle.grown_runs.specs.Table.WordNames.Word.{ChildOf, PointOf};
+ghost use Rattle.grown_runs.specs.Table.Words.{point_in};
 ghost use Rattle.step_core.specs.declared.views.Stage.TheVariants.{Claimed, Counted, Linked, Treed};
 
 use crate::passes::Pass;

@@ -10,9 +10,9 @@ ghost use Rattle.step_core.specs.SeenBests.{SeesGoal};
 ghost use Rattle.step_core.specs.ViewSteps.{half, loaded, lowered, pair_in_hand, treed};
 ghost use Rattle.step_core.specs.ViewTrees.{MayHang, MayLower, SeesNode};
 ghost use Rattle.step_core.specs.Views.{sees, share, tree_seen};
-ghost use Rattle.step_core.specs.WordNames.{WritesWord};
-ghost use Rattle.step_core.specs.WordNames.Word.{TreeOf};
-ghost use Rattle.step_core.specs.Words.{best_word, cost_in, tree_word};
+ghost use Rattle.grown_runs.specs.Table.WordNames.{WritesWord};
+ghost use Rattle.grown_runs.specs.Table.WordNames.Word.{TreeOf};
+ghost use Rattle.grown_runs.specs.Table.Words.{best_word, cost_in, tree_word};
 ghost use Rattle.step_core.specs.declared.views.Stage.TheVariants.{Half, Pointed};
 
 use crate::nodes::at_stage;

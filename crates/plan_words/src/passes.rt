@@ -4,8 +4,8 @@ ghost use Rattle.std.specs.Prelude.{◌≡◌, ◌<◌, ◌≤◌, ◌^◌, IfNo
 ghost use Rattle.plan_model.specs.declared.limits.TheConstants.{MOST_MARKS, MOST_WORKERS};
 ghost use Rattle.step_core.specs.Stages.{has_point};
 ghost use Rattle.step_core.specs.Views.{sees, share};
-ghost use Rattle.step_core.specs.WordNames.Word.{TreeOf};
-ghost use Rattle.step_core.specs.Words.{tree_of_word};
+ghost use Rattle.grown_runs.specs.Table.WordNames.Word.{TreeOf};
+ghost use Rattle.grown_runs.specs.Table.Words.{tree_of_word};
 ghost use Rattle.plan_words.specs.Parents.{IsPairIn};
 ghost use Rattle.plan_words.specs.States.{turn_of, worker_of};
 

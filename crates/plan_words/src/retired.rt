@@ -5,13 +5,13 @@ ghost use Rattle.plan_model.specs.Trees.TreeStates.{AreSameRuns};
 ghost use Rattle.plan_model.specs.declared.records.Record.{Record};
 ghost use Rattle.plan_words.specs.Claims.{HasNoneLeft};
 ghost use Rattle.plan_words.specs.States.{BelongsTo, GoesOn, new_pass, with_view};
-ghost use Rattle.step_core.specs.GrownRuns.{state_of_grown};
+ghost use Rattle.grown_runs.specs.Runs.GrownRuns.{state_of_grown};
 ghost use Rattle.step_core.specs.LastViews.{StandsAsSeen};
 ghost use Rattle.step_core.specs.SharedWords.{state_of_links};
 ghost use Rattle.step_core.specs.ViewSteps.{joined, loaded};
 ghost use Rattle.step_core.specs.Views.{run_sizes, sees, share};
-ghost use Rattle.step_core.specs.WordKinds.{AreBehind};
-ghost use Rattle.step_core.specs.WordNames.Word.{Count};
+ghost use Rattle.grown_runs.specs.Table.WordKinds.{AreBehind};
+ghost use Rattle.grown_runs.specs.Table.WordNames.Word.{Count};
 
 use crate::openings::Aim;
 use crate::passes::Pass;

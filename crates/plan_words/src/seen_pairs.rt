@@ -10,8 +10,8 @@ ghost use Rattle.plan_words.specs.SeenChains.{MayReach, Reaches, chain_of, sibli
 ghost use Rattle.plan_words.specs.States.{HasPairs, HasWholeShare};
 ghost use Rattle.plan_words.specs.Waiting.{HasSeenParent, IsOn};
 ghost use Rattle.step_core.specs.Views.{sees, share};
-ghost use Rattle.step_core.specs.WordNames.Word.{TreeOf};
-ghost use Rattle.step_core.specs.Words.{cost_in, parent_in};
+ghost use Rattle.grown_runs.specs.Table.WordNames.Word.{TreeOf};
+ghost use Rattle.grown_runs.specs.Table.Words.{cost_in, parent_in};
 
 use crate::lowered_children::{Above, lower_chain};
 use crate::openings::Aim;

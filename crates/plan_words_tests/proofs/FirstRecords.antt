@@ -25,20 +25,20 @@ use Rattle.plan_words.specs.States.{PassState, SharedState, run_in, with_view}
 use Rattle.plan_words.proofs.HandSteps.{at_hand}
 use Rattle.plan_words.proofs.KeptPairs.{if_hand}
 use Rattle.plan_words.proofs.PlainScenes.{no_goals}
-use Rattle.step_core.specs.GrownWords.{record_at}
+use Rattle.grown_runs.specs.Runs.GrownWords.{record_at}
 use Rattle.step_core.specs.LaterViews.{IsLater, IsLawfulView}
 use Rattle.step_core.specs.SeenBests.{IsUnskipped}
 use Rattle.step_core.specs.SeenRecords.{MayBePlaced, MayEnd, MayRecord, is_own_node, own_count, own_first_cost}
 use Rattle.step_core.specs.ViewSteps.{counted, last_fill, linked, loaded}
 use Rattle.step_core.specs.ViewTrees.{SeesPoint}
 use Rattle.step_core.specs.Views.{sees, setup_in, tree_seen}
-use Rattle.step_core.specs.WordNames.Word.{ChildOf, Count, TreeOf}
-use Rattle.step_core.specs.Words.{best_cost_in, best_node_in, best_of_word, cost_in, no_best}
+use Rattle.grown_runs.specs.Table.WordNames.Word.{ChildOf, Count, TreeOf}
+use Rattle.grown_runs.specs.Table.Words.{best_cost_in, best_node_in, best_of_word, cost_in, no_best}
 use Rattle.step_core.specs.declared.views.Hand.{Hand}
 use Rattle.step_core.specs.declared.views.Stage.{Stage}
 use Rattle.step_core.specs.declared.views.Stage.TheVariants.{Counted, Posted, Treed}
 use Rattle.step_core.specs.declared.views.View.{View}
-use Rattle.step_core.proofs.SeenViews.{SeesPoint-later}
+use Rattle.step_core.proofs.OneView.SeenViews.{SeesPoint-later}
 use Rattle.plan_words_tests.specs.HeldMarks.{HangsFromStart, TakesBest}
 
 -- ---- marks that are not skipped

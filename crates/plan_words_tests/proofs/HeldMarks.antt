@@ -5,7 +5,7 @@ use Rattle.plan_words.specs.States.{GoesOn, PassState, SharedState, with_view}
 use Rattle.plan_words.proofs.GoingOn.{BelongsTo-later}
 use Rattle.plan_words.proofs.HandSteps.{at_hand}
 use Rattle.step_core.specs.ViewSteps.{counted, last_fill, linked, loaded}
-use Rattle.step_core.specs.WordNames.Word.{ChildOf}
+use Rattle.grown_runs.specs.Table.WordNames.Word.{ChildOf}
 use Rattle.step_core.specs.declared.views.Stage.{Stage}
 use Rattle.step_core.specs.declared.views.Stage.TheVariants.{Counted, Treed}
 use Rattle.step_core.specs.declared.views.View.{View}

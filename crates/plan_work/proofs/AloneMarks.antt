@@ -15,13 +15,13 @@ use Rattle.plan_work.proofs.TextbookSteps.{IsTextbookRun-push, RecordsNext-run}
 use Rattle.plan_work.specs.ExtensionSteps.{HasRecorded}
 use Rattle.plan_work.specs.OneWorker.{SeesTextbook, WorksAlone}
 use Rattle.plan_work.specs.WholeShares.{SeesButCount}
-use Rattle.step_core.specs.GrownWords.{record_at}
+use Rattle.grown_runs.specs.Runs.GrownWords.{record_at}
 use Rattle.step_core.specs.LaterViews.{IsLater}
 use Rattle.step_core.specs.ViewSteps.{one_turn_more}
 use Rattle.step_core.specs.Views.{sees, setup_in}
-use Rattle.step_core.specs.WordNames.{Word}
-use Rattle.step_core.specs.WordNames.Word.{FirstOf, PointOf, RecordOf, TreeOf}
-use Rattle.step_core.specs.Words.{record_of_word}
+use Rattle.grown_runs.specs.Table.WordNames.{Word}
+use Rattle.grown_runs.specs.Table.WordNames.Word.{FirstOf, PointOf, RecordOf, TreeOf}
+use Rattle.grown_runs.specs.Table.Words.{record_of_word}
 use Rattle.step_core.specs.declared.views.Hand.{Hand}
 use Rattle.step_core.specs.declared.views.Member.{Member}
 use Rattle.step_core.specs.declared.views.SharedRun.{SharedRun}

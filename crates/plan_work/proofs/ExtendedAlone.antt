@@ -25,7 +25,7 @@ use Rattle.plan_work.specs.WholeShares.{IsFilledWhole, IsSteeredWhole, KeepsNode
 use Rattle.step_core.specs.ViewSteps.{pointed}
 use Rattle.step_core.specs.ViewTrees.{SeesPoint}
 use Rattle.step_core.specs.Views.{sees, setup_in, tree_seen}
-use Rattle.step_core.specs.WordNames.Word.{FirstOf, PointOf, TreeOf}
+use Rattle.grown_runs.specs.Table.WordNames.Word.{FirstOf, PointOf, TreeOf}
 use Rattle.step_core.specs.declared.views.Hand.{Hand}
 use Rattle.step_core.specs.declared.views.View.{View}
 

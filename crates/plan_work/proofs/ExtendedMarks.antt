@@ -13,22 +13,22 @@ use Rattle.plan_model.proofs.SightLaws.{EndsSince-later}
 use Rattle.plan_model.specs.Geometry.Bounds.{IsBounded}
 use Rattle.plan_words.specs.States.{BelongsTo, GoesOn, PassState, SharedState, turn_of, with_view, worker_of}
 use Rattle.plan_words.proofs.GoingOn.{BelongsTo-later, GoesOn-trans}
-use Rattle.step_core.proofs.LawfulSights.{IsLaterMoment-later, KeepsSight-lawful}
-use Rattle.step_core.proofs.SeenWords.{point_at-seen, seen-within}
+use Rattle.step_core.proofs.OneView.LawfulSights.{IsLaterMoment-later, KeepsSight-lawful}
+use Rattle.step_core.proofs.Seen.SeenWords.{point_at-seen, seen-within}
 use Rattle.step_core.specs.SeenBests.{IsUnskipped}
 use Rattle.step_core.specs.SeenRecords.{MayBeBlocked, MayRecord}
 use Rattle.step_core.specs.ViewSteps.{one_turn_more, pointed}
 use Rattle.step_core.specs.ViewTrees.{IsSteered, SeesPoint, sight_in}
 use Rattle.step_core.specs.Views.{run_sizes, sees, setup_in, tree_seen}
-use Rattle.step_core.specs.WordNames.Word.{Count, Counter, PointOf, RecordOf}
-use Rattle.step_core.specs.Words.{point_of_word}
+use Rattle.grown_runs.specs.Table.WordNames.Word.{Count, Counter, PointOf, RecordOf}
+use Rattle.grown_runs.specs.Table.Words.{point_of_word}
 use Rattle.step_core.specs.declared.views.Hand.{Hand}
 use Rattle.step_core.specs.declared.views.SharedRun.{SharedRun}
 use Rattle.step_core.specs.declared.views.Stage.TheVariants.{Pointed}
 use Rattle.step_core.specs.declared.views.View.{View}
 use Rattle.tree_rewire.proofs.SeenCosts.{stands_later}
 use Rattle.kd_shared.specs.Looking.{OnlyLooks}
-use Rattle.step_core.proofs.RecordedNodes.{has_node-recorded, present_recorded}
+use Rattle.step_core.proofs.OneView.RecordedNodes.{has_node-recorded, present_recorded}
 use Rattle.plan_work.proofs.HeldMarks.{holding, if_held}
 use Rattle.plan_work.proofs.KeptRecords.{KeepsRecords-looks, KeepsRecords-trans}
 use Rattle.plan_work.proofs.KeptSights.{HasSteered-still}

@@ -27,11 +27,11 @@ use Rattle.step_core.specs.SeenRecords.{is_own_node, own_count}
 use Rattle.step_core.specs.ViewSteps.{loaded}
 use Rattle.step_core.specs.ViewTrees.{sight_in}
 use Rattle.step_core.specs.Views.{last_look, sees, tree_seen}
-use Rattle.step_core.specs.WordNames.{Word}
-use Rattle.step_core.specs.WordNames.Word.{Count, RecordOf}
+use Rattle.grown_runs.specs.Table.WordNames.{Word}
+use Rattle.grown_runs.specs.Table.WordNames.Word.{Count, RecordOf}
 use Rattle.step_core.specs.declared.views.View.{View}
-use Rattle.step_core.proofs.LawfulSights.{IsLaterMoment-later}
-use Rattle.step_core.proofs.SeenByViews.{WritesWord-looked}
+use Rattle.step_core.proofs.OneView.LawfulSights.{IsLaterMoment-later}
+use Rattle.step_core.proofs.Seen.SeenByViews.{WritesWord-looked}
 use Rattle.tree_rewire.proofs.SeenCosts.{stands_later}
 
 -- a worker has the start at least

@@ -17,7 +17,7 @@ use Rattle.plan_work.specs.ExtensionSteps.{IsHung, IsPointed, KeepsRecords}
 use Rattle.step_core.specs.ViewSteps.{half, treed}
 use Rattle.step_core.specs.ViewTrees.{IsCostBelow, MayHang}
 use Rattle.step_core.specs.Views.{sees, setup_in, tree_seen}
-use Rattle.step_core.specs.WordNames.Word.{Counter, RecordOf, TreeOf}
+use Rattle.grown_runs.specs.Table.WordNames.Word.{Counter, RecordOf, TreeOf}
 use Rattle.step_core.specs.declared.views.Hand.{Hand}
 use Rattle.step_core.specs.declared.views.Stage.TheVariants.{Half}
 use Rattle.step_core.specs.declared.views.View.{View}

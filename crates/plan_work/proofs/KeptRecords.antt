@@ -6,8 +6,8 @@ use Rattle.plan_words.proofs.GoingOn.{BelongsTo-later, GoesOn-trans}
 use Rattle.plan_work.specs.ExtensionSteps.{KeepsRecords}
 use Rattle.step_core.specs.ViewSteps.{loaded}
 use Rattle.step_core.specs.Views.{sees}
-use Rattle.step_core.specs.WordNames.{Word, WritesWord}
-use Rattle.step_core.specs.WordNames.Word.{Count, Counter, RecordOf}
+use Rattle.grown_runs.specs.Table.WordNames.{Word, WritesWord}
+use Rattle.grown_runs.specs.Table.WordNames.Word.{Count, Counter, RecordOf}
 use Rattle.tree_rewire.specs.SeenCosts.{SeesAnew}
 
 pub KeepsRecords-trans : (shared : SharedState) (before mid after : PassState) → KeepsRecords shared before mid → KeepsRecords shared mid after

@@ -15,7 +15,7 @@ use Rattle.plan_work.specs.Extensions.{HasSteered}
 use Rattle.step_core.specs.ViewTrees.{SeesPoint, sight_in}
 use Rattle.step_core.specs.Views.{tree_seen}
 use Rattle.step_core.specs.declared.views.View.{View}
-use Rattle.step_core.proofs.LawfulSights.{IsLaterMoment-later, KeepsSight-lawful}
+use Rattle.step_core.proofs.OneView.LawfulSights.{IsLaterMoment-later, KeepsSight-lawful}
 use Rattle.tree_rewire.proofs.SeenCosts.{stands_later}
 
 module _ (mid after : View) (goes_on : GoesOn mid after) where

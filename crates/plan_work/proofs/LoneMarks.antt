@@ -12,14 +12,14 @@ use Rattle.plan_model.proofs.WorkerTurns.{ltb-next}
 use Rattle.plan_words.specs.Claims.{AllFull, IsClaimed, IsLeastOpen, KeepsHand, RaisesCounter, SeesAsBefore}
 use Rattle.plan_words.specs.States.{GoesOn, PassState, SharedState}
 use Rattle.plan_words.proofs.PostedGoals.{HasPostedGoals-step}
-use Rattle.step_core.specs.GrownWords.{record_at}
+use Rattle.grown_runs.specs.Runs.GrownWords.{record_at}
 use Rattle.step_core.specs.LaterViews.{IsLater}
-use Rattle.step_core.specs.SeenWords.{seen_point}
+use Rattle.grown_runs.specs.Table.SeenWords.{seen_point}
 use Rattle.step_core.specs.ViewSteps.{mark_of}
 use Rattle.step_core.specs.Views.{sees, setup_in, tree_seen}
-use Rattle.step_core.specs.WordNames.{ChangesOnly, IsCounter}
-use Rattle.step_core.specs.WordNames.Word.{Counter, FirstOf, PointOf, RecordOf, TreeOf}
-use Rattle.step_core.specs.Words.{cost_in, parent_in, point_of_word, record_of_word}
+use Rattle.grown_runs.specs.Table.WordNames.{ChangesOnly, IsCounter}
+use Rattle.grown_runs.specs.Table.WordNames.Word.{Counter, FirstOf, PointOf, RecordOf, TreeOf}
+use Rattle.grown_runs.specs.Table.Words.{cost_in, parent_in, point_of_word, record_of_word}
 use Rattle.step_core.specs.Worlds.{counters}
 use Rattle.step_core.specs.declared.views.SharedRun.{SharedRun}
 use Rattle.step_core.specs.declared.views.View.{View}

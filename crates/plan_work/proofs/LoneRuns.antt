@@ -19,26 +19,27 @@ use Rattle.plan_model.proofs.SameTrees.{AreSameRuns-trans}
 use Rattle.plan_model.proofs.StripMarks.{is_claimed-below, is_claimed-past}
 use Rattle.plan_words.specs.Bests.{HasPostedGoals}
 use Rattle.plan_words.specs.States.{PassState, SharedState, StartsAs, run_in}
-use Rattle.step_core.specs.GrownRuns.{state_of_grown, words_of_grown}
-use Rattle.step_core.specs.GrownWords.{HoldRun, has_node, is_linked, points_of_words, record_at, sizes_of}
+use Rattle.grown_runs.specs.Runs.GrownRuns.{state_of_grown, words_of_grown}
+use Rattle.grown_runs.specs.Runs.GrownWords.{HoldRun, has_node, is_linked, points_of_words, record_at, sizes_of}
 use Rattle.step_core.specs.LaterViews.{IsLawfulView}
-use Rattle.step_core.specs.SeenWords.{seen_point, seen_tree_of_words}
+use Rattle.grown_runs.specs.Table.SeenWords.{seen_point, seen_tree_of_words}
 use Rattle.step_core.specs.SharedWords.{linked_points, state_of_links}
 use Rattle.step_core.specs.ViewStarts.{member_of}
 use Rattle.step_core.specs.Views.{run_of, run_sizes, sees, setup_in, tree_seen}
-use Rattle.step_core.specs.WordNames.{Words}
-use Rattle.step_core.specs.WordNames.Word.{PointOf, TreeOf}
-use Rattle.step_core.specs.WordPlaces.{Sizes}
-use Rattle.step_core.specs.Words.{best_word, cost_in, parent_in, point_of_word}
+use Rattle.grown_runs.specs.Table.WordNames.{Words}
+use Rattle.grown_runs.specs.Table.WordNames.Word.{PointOf, TreeOf}
+use Rattle.grown_runs.specs.Table.WordPlaces.{Sizes}
+use Rattle.grown_runs.specs.Table.Words.{best_word, cost_in, parent_in, point_of_word}
 use Rattle.step_core.specs.Worlds.{counters}
-use Rattle.step_core.specs.declared.grown.Grown.{Grown}
+use Rattle.grown_runs.specs.declared.grown.Grown.{Grown}
 use Rattle.step_core.specs.declared.views.Member.{Member}
 use Rattle.step_core.specs.declared.views.SharedRun.{SharedRun}
 use Rattle.step_core.specs.declared.views.View.{View}
-use Rattle.step_core.proofs.GrownPoints.{node_point-here, point_at-absent, point_at-past, point_at-words}
-use Rattle.step_core.proofs.LinkedStates.{linked-present, point_at-linked}
-use Rattle.step_core.proofs.SeenWords.{point_at-seen, seen-within}
-use Rattle.step_core.proofs.TrueWords.{is_linked-child, is_linked-start, linked-within}
+use Rattle.grown_runs.proofs.Runs.GrownPoints.{node_point-here, point_at-absent, point_at-past, point_at-words}
+use Rattle.step_core.proofs.Parts.LinkedStates.{linked-present, point_at-linked}
+use Rattle.step_core.proofs.Seen.SeenWords.{point_at-seen, seen-within}
+use Rattle.step_core.proofs.Seen.TrueWords.{linked-within}
+use Rattle.grown_runs.proofs.Runs.LinkedPresence.{is_linked-child, is_linked-start}
 use Rattle.plan_work.proofs.TextbookTurns.{turns-textbook}
 use Rattle.plan_work.specs.OneWorker.{HasHandled, IsOfTextbook, SeesTextbook}
 

@@ -22,11 +22,11 @@ use Rattle.plan_model.proofs.AddedNodes.{AddsNode}
 use Rattle.plan_model.proofs.NewNodes.{point_at-same}
 use Rattle.plan_model.proofs.TextbookStates.{AddsNode-placed, PlacesNode, RecordsNext, sum-placed}
 use Rattle.plan_model.proofs.TreeChanges.{HaveSameNodes-absent, node_at-absent, sum-same}
-use Rattle.step_core.specs.SeenWords.{seen_point}
+use Rattle.grown_runs.specs.Table.SeenWords.{seen_point}
 use Rattle.step_core.specs.ViewTrees.{SeesPoint}
 use Rattle.step_core.specs.Views.{run_sizes, sees, setup_in, tree_seen}
-use Rattle.step_core.specs.WordNames.Word.{PointOf, TreeOf}
-use Rattle.step_core.specs.Words.{cost_in, parent_in, point_of_word}
+use Rattle.grown_runs.specs.Table.WordNames.Word.{PointOf, TreeOf}
+use Rattle.grown_runs.specs.Table.Words.{cost_in, parent_in, point_of_word}
 use Rattle.step_core.specs.declared.views.View.{View}
 use Rattle.tree_rewire.specs.Mirrors.{Mirrors}
 use Rattle.tree_rewire.specs.SeenCosts.{seen_cost_through}

@@ -18,8 +18,8 @@ use Rattle.plan_model.proofs.SteeringLaws.{steered-near}
 use Rattle.plan_words.specs.SearchLists.{numbers_of}
 use Rattle.plan_words.specs.States.{GoesOn}
 use Rattle.plan_words.specs.declared.spots.Found.{Found}
-use Rattle.step_core.specs.MeasuredNodes.{IsNearerOf}
-use Rattle.step_core.specs.declared.measured_nodes.MeasuredNode.{MeasuredNode}
+use Rattle.grown_runs.specs.Ways.MeasuredNodes.{IsNearerOf}
+use Rattle.grown_runs.specs.declared.measured_nodes.MeasuredNode.{MeasuredNode}
 use Rattle.step_core.specs.ViewTrees.{SeesPoint, sight_in}
 use Rattle.step_core.specs.Views.{tree_seen}
 use Rattle.step_core.specs.declared.views.View.{View}

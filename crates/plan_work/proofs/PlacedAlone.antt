@@ -25,7 +25,7 @@ use Rattle.plan_model.proofs.TextbookStates.{PlacesNode}
 use Rattle.plan_model.proofs.ListMembers.{Contains-after, Contains-first}
 use Rattle.plan_model.specs.declared.configuration_spaces.ConfigurationSpace.{ConfigurationSpace}
 use Rattle.plan_words.specs.SearchLists.{numbers_of}
-use Rattle.step_core.proofs.DistinctNumbers.{Contains-cases}
+use Rattle.step_core.proofs.Seen.DistinctNumbers.{Contains-cases}
 use Rattle.plan_words.proofs.PostedGoals.{HasPostedGoals-more, HasPostedGoals-step}
 use Rattle.plan_words.proofs.Posting.{lies-at}
 use Rattle.plan_words.specs.Bests.{HasPostedGoals}
@@ -41,15 +41,15 @@ use Rattle.plan_work.proofs.SkippedMarks.{has_first-placed}
 use Rattle.plan_work.specs.OneWorker.{IsNotSkippedIn, SeesTextbook, WorksAlone}
 use Rattle.plan_work.specs.WholeShares.{IsFilledWhole, IsSteeredWhole, IsTriedWhole}
 use Rattle.plan_work.specs.declared.mark_placing.Hanging.{Hanging}
-use Rattle.step_core.proofs.PackedWords.{cost_in-tree_word, parent_in-tree_word}
-use Rattle.step_core.proofs.SeenWords.{point_at-seen}
-use Rattle.step_core.specs.SeenWords.{seen_point}
+use Rattle.grown_runs.proofs.Table.PackedWords.{cost_in-tree_word, parent_in-tree_word}
+use Rattle.step_core.proofs.Seen.SeenWords.{point_at-seen}
+use Rattle.grown_runs.specs.Table.SeenWords.{seen_point}
 use Rattle.step_core.specs.Stages.{has_link}
 use Rattle.step_core.specs.ViewTrees.{SeesPoint}
 use Rattle.step_core.specs.Views.{run_sizes, sees, setup_in, tree_seen}
-use Rattle.step_core.specs.WordNames.Word.{FirstOf, PointOf, RecordOf, TreeOf}
+use Rattle.grown_runs.specs.Table.WordNames.Word.{FirstOf, PointOf, RecordOf, TreeOf}
 use Rattle.step_core.specs.SeenBests.{SeesGoal}
-use Rattle.step_core.specs.Words.{best_word, cost_in, parent_in, point_of_word, tree_word}
+use Rattle.grown_runs.specs.Table.Words.{best_word, cost_in, parent_in, point_of_word, tree_word}
 use Rattle.step_core.specs.declared.views.Hand.{Hand}
 use Rattle.step_core.specs.declared.views.SharedRun.{SharedRun}
 use Rattle.step_core.specs.declared.views.View.{View}

@@ -8,7 +8,7 @@ use Rattle.plan_work.specs.ExtensionSteps.{HasBeenPlaced, placed_hand}
 use Rattle.step_core.specs.ViewSteps.{pair_in_hand}
 use Rattle.step_core.specs.ViewTrees.{SeesPoint}
 use Rattle.step_core.specs.Views.{sees}
-use Rattle.step_core.specs.WordNames.Word.{FirstOf}
+use Rattle.grown_runs.specs.Table.WordNames.Word.{FirstOf}
 use Rattle.step_core.specs.declared.views.Hand.{Hand}
 use Rattle.step_core.specs.declared.views.Stage.TheVariants.{Counted}
 use Rattle.step_core.specs.declared.views.View.{View}

@@ -26,9 +26,9 @@ use Rattle.step_core.specs.SeenRecords.{IsOwnNeighbour, MayBePlaced, MayRecord, 
 use Rattle.kd_shared.specs.Searches.{SweepsWithin}
 use Rattle.step_core.specs.ViewTrees.{SeesPoint, sight_in}
 use Rattle.step_core.specs.Views.{sees, setup_in, tree_seen}
-use Rattle.step_core.specs.WordNames.{Word}
-use Rattle.step_core.specs.WordNames.Word.{Count, FirstOf, RecordOf, TreeOf}
-use Rattle.step_core.specs.Words.{cost_in, tree_word}
+use Rattle.grown_runs.specs.Table.WordNames.{Word}
+use Rattle.grown_runs.specs.Table.WordNames.Word.{Count, FirstOf, RecordOf, TreeOf}
+use Rattle.grown_runs.specs.Table.Words.{cost_in, tree_word}
 use Rattle.step_core.specs.declared.views.Hand.{Hand}
 use Rattle.step_core.specs.declared.views.SharedRun.{SharedRun}
 use Rattle.step_core.specs.declared.views.View.{View}
@@ -36,7 +36,7 @@ use Rattle.tree_rewire.proofs.SeenCosts.{SeesPair-later, cost_seen-later, stands
 use Rattle.tree_rewire.proofs.SpreadFalls.{HasSpreadFalls-still}
 use Rattle.tree_rewire.specs.Rewirings.{HasSpreadFalls}
 use Rattle.tree_rewire.specs.SeenCosts.{IsLoadedSince, NamesTreeOrPoint, SeesAnew, SeesPair, cost_seen}
-use Rattle.step_core.proofs.RecordedNodes.{has_node-recorded, own_recorded, present_recorded}
+use Rattle.step_core.proofs.OneView.RecordedNodes.{has_node-recorded, own_recorded, present_recorded}
 use Rattle.plan_work.proofs.FilledNear.{looked_still}
 use Rattle.plan_work.proofs.KeptSights.{SweepsWithin-still}
 use Rattle.plan_work.proofs.HeldMarks.{if_held, of_held}

@@ -8,12 +8,12 @@ use Rattle.plan_words.proofs.GoingOn.{GoesOn-trans}
 use Rattle.plan_words.specs.Claims.{SeesAsBefore}
 use Rattle.plan_words.specs.States.{GoesOn, PassState, with_view}
 use Rattle.plan_work.specs.ExtensionSteps.{HasBeenPlaced, placed_hand, placed_stage}
-use Rattle.step_core.proofs.PackedWords.{cost_in-tree_word}
+use Rattle.grown_runs.proofs.Table.PackedWords.{cost_in-tree_word}
 use Rattle.step_core.specs.ViewSteps.{hand_with_post, with_best}
 use Rattle.step_core.specs.ViewTrees.{SeesPoint}
 use Rattle.step_core.specs.Views.{sees}
-use Rattle.step_core.specs.WordNames.Word.{FirstOf, TreeOf}
-use Rattle.step_core.specs.Words.{best_word, cost_in}
+use Rattle.grown_runs.specs.Table.WordNames.Word.{FirstOf, TreeOf}
+use Rattle.grown_runs.specs.Table.Words.{best_word, cost_in}
 use Rattle.step_core.specs.declared.views.Hand.{Hand}
 use Rattle.step_core.specs.declared.views.SharedRun.{SharedRun}
 use Rattle.step_core.specs.declared.views.Stage.TheVariants.{Counted, Posted}

@@ -17,20 +17,20 @@ use Rattle.plan_model.proofs.NewNodes.{IsPresent-stands, point_of-stands}
 use Rattle.plan_words.specs.States.{GoesOn, MayClaim, PassState, SharedState, turn_of, with_view, worker_of}
 use Rattle.plan_words.proofs.GoingOn.{GoesOn-trans}
 use Rattle.plan_words.proofs.Tying.{entry_fits}
-use Rattle.step_core.proofs.LawfulRecords.{is_own_node-earlier}
-use Rattle.step_core.proofs.PackedRecords.{record_of_word-packed}
-use Rattle.step_core.proofs.RecordedNodes.{has_node-recorded, own_recorded, present_recorded}
-use Rattle.step_core.proofs.SeenByViews.{WritesWord-saw}
-use Rattle.step_core.specs.GrownWords.{has_node, record_at}
+use Rattle.step_core.proofs.Parts.LawfulRecords.{is_own_node-earlier}
+use Rattle.grown_runs.proofs.Table.PackedRecords.{record_of_word-packed}
+use Rattle.step_core.proofs.OneView.RecordedNodes.{has_node-recorded, own_recorded, present_recorded}
+use Rattle.step_core.proofs.Seen.SeenByViews.{WritesWord-saw}
+use Rattle.grown_runs.specs.Runs.GrownWords.{has_node, record_at}
 use Rattle.step_core.specs.LaterViews.{IsLawfulView}
 use Rattle.step_core.specs.SeenBests.{IsUnskipped}
 use Rattle.step_core.specs.SeenRecords.{MayBePlaced, MayEnd, MayRecord, MaySteer, is_own_node, own_count}
 use Rattle.step_core.specs.Stages.{has_count, has_first}
 use Rattle.step_core.specs.ViewSteps.{finished, one_turn_more, pair_in_hand}
 use Rattle.step_core.specs.Views.{sees, tree_seen}
-use Rattle.step_core.specs.WordNames.{Word, WritesWord}
-use Rattle.step_core.specs.WordNames.Word.{Counter, FirstOf, RecordOf}
-use Rattle.step_core.specs.Words.{IsFirstWord, record_of_word, record_word}
+use Rattle.grown_runs.specs.Table.WordNames.{Word, WritesWord}
+use Rattle.grown_runs.specs.Table.WordNames.Word.{Counter, FirstOf, RecordOf}
+use Rattle.grown_runs.specs.Table.Words.{IsFirstWord, record_of_word, record_word}
 use Rattle.step_core.specs.declared.views.Hand.{Hand}
 use Rattle.step_core.specs.declared.views.SharedRun.{SharedRun}
 use Rattle.step_core.specs.declared.views.Stage.{Stage}

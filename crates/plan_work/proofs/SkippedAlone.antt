@@ -15,8 +15,8 @@ use Rattle.plan_work.specs.WholeShares.{SeesButCount}
 use Rattle.step_core.specs.LaterViews.{IsLater, IsLawfulView}
 use Rattle.step_core.specs.SeenBests.{SeesGoal}
 use Rattle.step_core.specs.Views.{setup_in, tree_seen}
-use Rattle.step_core.specs.WordNames.Word.{PointOf, TreeOf}
-use Rattle.step_core.specs.Words.{best_cost_in, best_node_in, best_word, cost_in, no_best}
+use Rattle.grown_runs.specs.Table.WordNames.Word.{PointOf, TreeOf}
+use Rattle.grown_runs.specs.Table.Words.{best_cost_in, best_node_in, best_word, cost_in, no_best}
 use Rattle.step_core.specs.declared.views.SharedRun.{SharedRun}
 use Rattle.step_core.specs.declared.views.View.{View}
 use Rattle.tree_rewire.specs.Mirrors.{Mirrors}

@@ -12,7 +12,7 @@ use Rattle.plan_work.specs.ExtensionSteps.{placed_hand, placed_stage}
 use Rattle.step_core.specs.SeenBests.{IsInformed, IsUnskipped}
 use Rattle.step_core.specs.Stages.{has_count, has_first}
 use Rattle.step_core.specs.Views.{setup_in}
-use Rattle.step_core.specs.Words.{best_cost_in}
+use Rattle.grown_runs.specs.Table.Words.{best_cost_in}
 use Rattle.step_core.specs.declared.views.Hand.{Hand}
 use Rattle.step_core.specs.declared.views.SharedRun.{SharedRun}
 use Rattle.step_core.specs.declared.views.Stage.TheVariants.{Counted, Posted}

@@ -30,14 +30,14 @@ use Rattle.plan_work.specs.Extensions.{EndsAsSeen, EndsAsSteered, HandlesMark, I
 use Rattle.plan_work.specs.Extensions.{WasNotSkipped, WasSkipped, WasSteered, steered_point}
 use Rattle.plan_work.specs.ExtensionSteps.{HasLoadedBest, HasRecorded, KeepsRecords, own_unplaced}
 use Rattle.plan_work.specs.OneWorker.{IsNotSkippedIn, SeesTextbook, WorksAlone}
-use Rattle.step_core.specs.GrownWords.{record_at}
+use Rattle.grown_runs.specs.Runs.GrownWords.{record_at}
 use Rattle.step_core.specs.LaterViews.{IsLawfulView}
 use Rattle.step_core.specs.SeenBests.{IsInformed, IsUnskipped, MayBeSkipped, SeesGoal}
 use Rattle.step_core.specs.ViewSteps.{best_loaded, best_taken, finished, hand_with_best}
 use Rattle.step_core.specs.ViewTrees.{SeesPoint, sight_in}
 use Rattle.step_core.specs.Views.{sees, setup_in, tree_seen}
-use Rattle.step_core.specs.WordNames.Word.{Counter, RecordOf, TreeOf}
-use Rattle.step_core.specs.Words.{best_cost_in, best_node_in, best_of_word, cost_in, no_best, record_word}
+use Rattle.grown_runs.specs.Table.WordNames.Word.{Counter, RecordOf, TreeOf}
+use Rattle.grown_runs.specs.Table.Words.{best_cost_in, best_node_in, best_of_word, cost_in, no_best, record_word}
 use Rattle.step_core.specs.declared.views.Hand.{Hand}
 use Rattle.step_core.specs.declared.views.SharedRun.{SharedRun}
 use Rattle.step_core.specs.declared.views.Stage.{Stage}

@@ -8,8 +8,8 @@ use Rattle.plan_model.specs.Trees.TreeStates.{AreSameRuns, state_of}
 use Rattle.plan_model.specs.declared.scenes.Scene.{Scene}
 use Rattle.plan_model.specs.declared.tasks.Task.{Task}
 use Rattle.plan_work.specs.OneWorker.{IsOfTextbook}
-use Rattle.step_core.specs.GrownRuns.{state_of_grown}
-use Rattle.step_core.specs.declared.grown.Grown.{Grown}
+use Rattle.grown_runs.specs.Runs.GrownRuns.{state_of_grown}
+use Rattle.grown_runs.specs.declared.grown.Grown.{Grown}
 
 -- the start alone is the run over no marks
 pub IsOfTextbook-new :

@@ -26,7 +26,7 @@ use Rattle.plan_words.specs.SearchLists.{numbers_of, weighed}
 use Rattle.plan_words.specs.States.{BelongsTo, GoesOn, PassState, SharedState}
 use Rattle.plan_words.specs.declared.spots.Found.{Found}
 use Rattle.step_core.specs.Views.{sees, tree_seen}
-use Rattle.step_core.specs.WordNames.Word.{Count, Counter, RecordOf}
+use Rattle.grown_runs.specs.Table.WordNames.Word.{Count, Counter, RecordOf}
 use Rattle.step_core.specs.declared.views.Hand.{Hand}
 use Rattle.step_core.specs.declared.views.View.{View}
 use Rattle.tree_rewire.proofs.ChosenParents.{IsInReach-later}

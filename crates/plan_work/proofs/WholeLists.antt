@@ -21,8 +21,8 @@ use Rattle.plan_work.specs.Extensions.{HasSteered}
 use Rattle.plan_work.specs.ExtensionSteps.{KeepsRecords}
 use Rattle.plan_work.specs.WholeShares.{HasCounted, IsBestHanging, IsFilledWhole, IsSteeredWhole, SeesButCount}
 use Rattle.step_core.specs.Views.{sees, setup_in, tree_seen}
-use Rattle.step_core.specs.WordNames.Word.{PointOf, TreeOf}
-use Rattle.step_core.specs.Words.{cost_in}
+use Rattle.grown_runs.specs.Table.WordNames.Word.{PointOf, TreeOf}
+use Rattle.grown_runs.specs.Table.Words.{cost_in}
 use Rattle.step_core.specs.declared.views.Hand.{Hand}
 use Rattle.step_core.specs.declared.views.SharedRun.{SharedRun}
 use Rattle.step_core.specs.declared.views.Stage.TheVariants.{Claimed}

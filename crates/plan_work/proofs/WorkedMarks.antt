@@ -8,8 +8,8 @@ use Rattle.plan_words.specs.Claims.{AllLoaded, IsClaimed}
 use Rattle.plan_words.specs.States.{GoesOn, PassState, SharedState, turn_of, worker_of}
 use Rattle.step_core.specs.ViewSteps.{new_hand, one_turn_more}
 use Rattle.step_core.specs.Views.{sees}
-use Rattle.step_core.specs.WordNames.{ChangesOnly, IsCounter}
-use Rattle.step_core.specs.WordNames.Word.{RecordOf}
+use Rattle.grown_runs.specs.Table.WordNames.{ChangesOnly, IsCounter}
+use Rattle.grown_runs.specs.Table.WordNames.Word.{RecordOf}
 use Rattle.step_core.specs.declared.views.Member.{Member}
 use Rattle.step_core.specs.declared.views.View.{View}
 use Rattle.plan_words.proofs.GoingOn.{GoesOn-more, GoesOn-trans, HasGoneOn}

@@ -28,12 +28,12 @@ use Rattle.plan_words.specs.declared.spots.Found.{Found}
 use Rattle.plan_words.specs.States.{BelongsTo, GoesOn, MayClaim, PassState, SharedState, turn_of, with_view, worker_of}
 use Rattle.step_core.specs.SeenBests.{IsUnskipped}
 use Rattle.step_core.specs.SeenRecords.{own_count}
-use Rattle.step_core.specs.GrownWords.{has_node, record_at}
+use Rattle.grown_runs.specs.Runs.GrownWords.{has_node, record_at}
 use Rattle.step_core.specs.ViewSteps.{best_loaded, finished, pair_in_hand}
 use Rattle.step_core.specs.ViewTrees.{SeesPoint, sight_in}
 use Rattle.step_core.specs.Views.{last_look, sees, setup_in, tree_seen}
-use Rattle.step_core.specs.WordNames.Word.{Count, Counter, FirstOf, RecordOf, TreeOf}
-use Rattle.step_core.specs.Words.{best_word, record_word}
+use Rattle.grown_runs.specs.Table.WordNames.Word.{Count, Counter, FirstOf, RecordOf, TreeOf}
+use Rattle.grown_runs.specs.Table.Words.{best_word, record_word}
 use Rattle.step_core.specs.declared.views.Hand.{Hand}
 use Rattle.step_core.specs.declared.views.Stage.{Stage}
 use Rattle.step_core.specs.declared.views.Stage.TheVariants.{Counted, Pointed, Posted, Treed}

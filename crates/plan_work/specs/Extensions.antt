@@ -17,13 +17,13 @@ use Rattle.plan_model.specs.declared.records.Outcome.{Outcome}
 use Rattle.plan_model.specs.declared.records.Outcome.TheVariants.{Blocked, Placed, Same, Skipped}
 use Rattle.plan_model.specs.declared.records.Record.{Record}
 use Rattle.plan_words.specs.States.{BelongsTo, GoesOn, MayClaim, PassState, SharedState, turn_of, worker_of}
-use Rattle.step_core.specs.GrownWords.{record_at}
+use Rattle.grown_runs.specs.Runs.GrownWords.{record_at}
 use Rattle.step_core.specs.SeenBests.{IsInformed}
 use Rattle.step_core.specs.ViewSteps.{best_loaded, finished, one_turn_more}
 use Rattle.step_core.specs.ViewTrees.{SeesPoint, sight_in}
 use Rattle.step_core.specs.Views.{last_look, sees, setup_in, tree_seen}
-use Rattle.step_core.specs.WordNames.Word.{Count, Counter, RecordOf, TreeOf}
-use Rattle.step_core.specs.Words.{best_cost_in, best_node_in, no_best, record_word, tree_word}
+use Rattle.grown_runs.specs.Table.WordNames.Word.{Count, Counter, RecordOf, TreeOf}
+use Rattle.grown_runs.specs.Table.Words.{best_cost_in, best_node_in, no_best, record_word, tree_word}
 use Rattle.step_core.specs.declared.views.Stage.TheVariants.{Claimed}
 use Rattle.step_core.specs.declared.views.View.{View}
 use Rattle.tree_rewire.specs.Rewirings.{HasSpreadFalls}

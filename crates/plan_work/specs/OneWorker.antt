@@ -7,11 +7,11 @@ use Rattle.plan_model.specs.Runs.SameRuns.{IsOfTextbookRun}
 use Rattle.plan_model.specs.Runs.Textbook.{IsTextbookRun, MayBeCheaper, Nodes, setup_of}
 use Rattle.plan_words.specs.Bests.{HasPostedGoals}
 use Rattle.plan_words.specs.States.{HasWholeShare}
-use Rattle.step_core.specs.GrownRuns.{state_of_grown}
-use Rattle.step_core.specs.GrownWords.{record_at}
+use Rattle.grown_runs.specs.Runs.GrownRuns.{state_of_grown}
+use Rattle.grown_runs.specs.Runs.GrownWords.{record_at}
 use Rattle.step_core.specs.Views.{sees, setup_in, tree_seen}
 use Rattle.step_core.specs.Worlds.{counters}
-use Rattle.step_core.specs.declared.grown.Grown.{Grown}
+use Rattle.grown_runs.specs.declared.grown.Grown.{Grown}
 use Rattle.step_core.specs.declared.views.View.{View}
 use Rattle.tree_rewire.specs.Mirrors.{Mirrors}
 use Rattle.tree_rewire.specs.SeenCosts.{cost_seen}

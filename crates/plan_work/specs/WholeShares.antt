@@ -12,8 +12,8 @@ use Rattle.plan_model.specs.Runs.Textbook.{SteersTo, near_new}
 use Rattle.plan_model.specs.declared.geometry.Point.{Point}
 use Rattle.plan_work.specs.declared.mark_placing.Hanging.{Hanging}
 use Rattle.step_core.specs.Views.{sees, setup_in, tree_seen}
-use Rattle.step_core.specs.WordNames.{Word}
-use Rattle.step_core.specs.WordNames.Word.{Count, FirstOf, PointOf, TreeOf}
+use Rattle.grown_runs.specs.Table.WordNames.{Word}
+use Rattle.grown_runs.specs.Table.WordNames.Word.{Count, FirstOf, PointOf, TreeOf}
 use Rattle.step_core.specs.declared.views.Hand.{Hand}
 use Rattle.step_core.specs.declared.views.Stage.TheVariants.{Linked}
 use Rattle.step_core.specs.declared.views.View.{View}

@@ -7,8 +7,8 @@ use Rattle.plan_work.specs.Extensions.{IsExtended}
 use Rattle.plan_work.specs.declared.growing.Worker.{Worker}
 use Rattle.plan_work.specs.OneWorker.{HandlesRest}
 use Rattle.step_core.specs.Views.{sees, share}
-use Rattle.step_core.specs.WordKinds.{AreBehind}
-use Rattle.step_core.specs.WordNames.Word.{RecordOf}
+use Rattle.grown_runs.specs.Table.WordKinds.{AreBehind}
+use Rattle.grown_runs.specs.Table.WordNames.Word.{RecordOf}
 use Rattle.step_core.specs.declared.views.View.{View}
 
 -- What a pass keeps that has worked up to a limit: it may claim, has its share, and works as the same worker. The greatest limit that it

@@ -8,7 +8,7 @@ ghost use Rattle.plan_model.specs.declared.records.Record.{Record};
 ghost use Rattle.plan_words.specs.States.{MayClaim, PassState};
 ghost use Rattle.plan_work.specs.OneWorker.{IsOfTextbook};
 ghost use Rattle.plan_work.specs.Workers.{HasRetired, HasStopped, HasTakenOver, IsReady, workers_with, left_of};
-ghost use Rattle.step_core.specs.GrownRuns.{state_of_grown};
+ghost use Rattle.grown_runs.specs.Runs.GrownRuns.{state_of_grown};
 
 use crate::gates::Gate;
 use crate::working::work;

@@ -15,8 +15,8 @@ ghost use Rattle.plan_work.specs.OneWorker.{IsNotSkippedIn, SeesTextbook, WorksA
 ghost use Rattle.plan_work.specs.WholeShares.{IsBestHanging, IsFilledWhole, IsSteeredWhole, IsTriedWhole, KeepsOthers};
 ghost use Rattle.step_core.specs.ViewSteps.{hand_with_post, with_best};
 ghost use Rattle.step_core.specs.Views.{sees, share, tree_seen};
-ghost use Rattle.step_core.specs.WordNames.Word.{Count, TreeOf};
-ghost use Rattle.step_core.specs.Words.{best_word, cost_in};
+ghost use Rattle.grown_runs.specs.Table.WordNames.Word.{Count, TreeOf};
+ghost use Rattle.grown_runs.specs.Table.Words.{best_word, cost_in};
 ghost use Rattle.step_core.specs.declared.views.Hand.{Hand};
 ghost use Rattle.step_core.specs.declared.views.Stage.TheVariants.{Treed};
 ghost use Rattle.tree_rewire.specs.FoundNodes.{StandsAsFound};

@@ -9,7 +9,7 @@ ghost use Rattle.plan_words.specs.States.{HasWholeShare};
 ghost use Rattle.plan_work.specs.Extensions.{MayExtend};
 ghost use Rattle.plan_work.specs.ExtensionSteps.{HasLoadedBest};
 ghost use Rattle.step_core.specs.SeenBests.{IsUnskipped, MayBeSkipped};
-ghost use Rattle.step_core.specs.Words.{best_cost_in};
+ghost use Rattle.grown_runs.specs.Table.Words.{best_cost_in};
 
 use edge_cost::bound;
 use plan_words::{Pass, Shared};

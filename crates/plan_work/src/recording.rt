@@ -8,7 +8,7 @@ ghost use Rattle.step_core.specs.SeenRecords.{MayRecord};
 ghost use Rattle.step_core.specs.Stages.{MayBeRecorded, has_count};
 ghost use Rattle.step_core.specs.ViewSteps.{pair_in_hand};
 ghost use Rattle.step_core.specs.Views.{sees, share};
-ghost use Rattle.step_core.specs.WordNames.Word.{FirstOf};
+ghost use Rattle.grown_runs.specs.Table.WordNames.Word.{FirstOf};
 
 use crate::mark_placing::Hanging;
 use plan_model::{Outcome, Record};

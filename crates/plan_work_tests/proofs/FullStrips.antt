@@ -3,7 +3,7 @@ use Rattle.std.proofs.Common.{ℕ, ◌<◌, ap, subst, arith}
 use Rattle.plan_words.specs.Claims.{AllFull}
 use Rattle.plan_words.specs.States.{GoesOn}
 use Rattle.plan_model.specs.Scenes.MarkPoints.{quota_of}
-use Rattle.step_core.specs.WordNames.Word.{Counter}
+use Rattle.grown_runs.specs.Table.WordNames.Word.{Counter}
 use Rattle.step_core.specs.declared.views.View.{View}
 
 -- none is left later, as counters only rise

@@ -6,7 +6,7 @@ use Rattle.plan_words.specs.States.{BelongsTo, PassState, SharedState}
 use Rattle.plan_work.specs.Extensions.{HandlesMark}
 use Rattle.plan_work.proofs.WorkedMarks.{share-turned}
 use Rattle.plan_work_tests.specs.Sharers.{HasClaimed, HasShare}
-use Rattle.step_core.specs.WordNames.{Word}
+use Rattle.grown_runs.specs.Table.WordNames.{Word}
 use Rattle.tree_rewire.specs.SeenCosts.{PassSees}
 
 -- steps that leave the hand of a pass of the tree leave it, and the pass may claim as before

@@ -20,8 +20,8 @@ use Rattle.scene_text.specs.Batches.{IsBatchRefusal}
 use Rattle.scene_text.specs.Fetching.{ReadsWithin}
 use Rattle.scene_text.specs.declared.refusals.SceneRefusal.{SceneRefusal}
 use Rattle.scene_text.specs.declared.refusals.SceneRefusal.TheVariants as reading
-use Rattle.step_core.specs.GrownRuns.{state_of_grown}
-use Rattle.step_core.specs.declared.grown.Grown.{Grown}
+use Rattle.grown_runs.specs.Runs.GrownRuns.{state_of_grown}
+use Rattle.grown_runs.specs.declared.grown.Grown.{Grown}
 use Rattle.any_time.specs.BatchGathering.{HasFinished}
 use Rattle.any_time.specs.BestPaths.{has_path}
 use Rattle.any_time.specs.BetterReports.{batch_report}

@@ -10,8 +10,8 @@ use Rattle.plan_model.specs.Runs.SameRuns.{IsOfTextbookRun}
 use Rattle.plan_model.specs.Runs.Textbook.{Setup, setup_of}
 use Rattle.plan_model.specs.Trees.PointsByNumber.{IsPresent}
 use Rattle.plan_model.specs.Trees.TreeStates.{IsSettled, TreeState}
-use Rattle.step_core.specs.declared.grown.Grown.{Grown}
-use Rattle.step_core.specs.GrownRuns.{state_of_grown}
+use Rattle.grown_runs.specs.declared.grown.Grown.{Grown}
+use Rattle.grown_runs.specs.Runs.GrownRuns.{state_of_grown}
 use Rattle.twin_trees.specs.Bridges.{IsBridge}
 use Rattle.planner_main.specs.declared.top_call.Done.{Done}
 use Rattle.planner_main.specs.Conclusions.{HandsOutRunAlone, Report, ReportsGrown, ReportsScene, ReportsTwin, status_of_report}

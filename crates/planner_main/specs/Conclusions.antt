@@ -17,8 +17,8 @@ use Rattle.plan_model.specs.Trees.TreeStates.{TreeState, IsSettled}
 use Rattle.plan_model.specs.Trees.BestNode.{best_node, goals_of}
 use Rattle.plan_model.specs.Reports.ReportText.{report_text, summary}
 use Rattle.plan_model.specs.Texts.CanonicalText.{canonical_text}
-use Rattle.step_core.specs.declared.grown.Grown.{Grown}
-use Rattle.step_core.specs.GrownRuns.{state_of_grown}
+use Rattle.grown_runs.specs.declared.grown.Grown.{Grown}
+use Rattle.grown_runs.specs.Runs.GrownRuns.{state_of_grown}
 use Rattle.scene_text.specs.Fetching.{ReadsWithin}
 use Rattle.path_tools.specs.Judgements.{IsVerdict}
 use Rattle.path_tools.specs.ReportCuts.{IsCutAtReport}

@@ -22,7 +22,7 @@ ghost use Rattle.path_tools.specs.SmoothedReports.{IsSmoothedReport};
 ghost use Rattle.planner_main.specs.Inputs.{one_scene};
 ghost use Rattle.planner_main.specs.declared.generated_scenes.TheConstants.{MOST_GENERATED};
 ghost use Rattle.planner_main.specs.declared.statuses.TheConstants.{DONE};
-ghost use Rattle.step_core.specs.GrownRuns.{state_of_grown};
+ghost use Rattle.grown_runs.specs.Runs.GrownRuns.{state_of_grown};
 
 use crate::batches::plan_batch;
 use crate::checking::check_report;

@@ -13,7 +13,7 @@ ghost use Rattle.planner_main.specs.Commands.{input_of};
 ghost use Rattle.planner_main.specs.Conclusions.{Answers, HandsOutNothing, HasBatch, IsCaused, status_of_report};
 ghost use Rattle.planner_main.specs.Inputs.{AreStartsClear, several_scenes};
 ghost use Rattle.scene_text.specs.Fetching.{ReadsWithin};
-ghost use Rattle.step_core.specs.GrownRuns.{state_of_grown};
+ghost use Rattle.grown_runs.specs.Runs.GrownRuns.{state_of_grown};
 
 use crate::answers::Answer;
 use crate::commands::Command;

@@ -9,9 +9,9 @@ use Rattle.plan_model.specs.declared.trees.Twig.{Twig}
 use Rattle.plan_model.specs.Trees.NodeLists.{node_at}
 use Rattle.plan_model.proofs.TreeChanges.{node_at-push_new, node_at-past, node_at-absent}
 use Rattle.plan_model.proofs.NewNodes.{Adds-push}
-use Rattle.step_core.specs.ChildChains.{AreMembers, HasInChain, HasOneMore, IndexesChains, MovesNode, times}
-use Rattle.step_core.specs.declared.child_index.ChildIndex.{ChildIndex}
-use Rattle.step_core.proofs.MovedChildren.{IsIndex-same}
+use Rattle.grown_runs.specs.ChildChains.{AreMembers, HasInChain, HasOneMore, IndexesChains, MovesNode, times}
+use Rattle.grown_runs.specs.declared.child_index.ChildIndex.{ChildIndex}
+use Rattle.grown_runs.proofs.Children.MovedChildren.{IsIndex-same}
 use Rattle.seq_planner.specs.LinkedTrees.{AreLinked, chain_in, chain_of, hangs_below, is_parent_number, parent_if_child}
 
 -- ---- by nodes

@@ -12,7 +12,7 @@ use Rattle.plan_model.specs.Trees.TreeStates.{TreeState, AreSameRuns, state_of}
 use Rattle.plan_model.proofs.RunLaws.{HandlesAll-length}
 use Rattle.plan_model.proofs.SameTrees.{AreSameRuns-trans, IsClosed-same_run}
 use Rattle.plan_model.proofs.TextbookRuns.{IsClosed-textbook}
-use Rattle.step_core.specs.PackedRuns.{kept_cost_of, state_of_lists}
+use Rattle.grown_runs.specs.Runs.PackedRuns.{kept_cost_of, state_of_lists}
 use Rattle.seq_planner.specs.declared.placed_points.PlacedPoints.{PlacedPoints}
 use Rattle.seq_planner.specs.SearchTrees.{IsSound, with_costs}
 use Rattle.seq_planner.proofs.SoundTrees.{kept_sum}

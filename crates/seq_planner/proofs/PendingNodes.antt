@@ -8,7 +8,7 @@ use Rattle.plan_model.specs.declared.trees.Twig.{Twig}
 use Rattle.plan_model.specs.Trees.PointsByNumber.{IsPresent}
 use Rattle.plan_model.specs.Trees.NodeLists.{points_of}
 use Rattle.plan_model.proofs.NewNodes.{present_below}
-use Rattle.step_core.specs.ChildChains.{times}
+use Rattle.grown_runs.specs.ChildChains.{times}
 use Rattle.seq_planner.specs.LinkedTrees.{hangs_below}
 use Rattle.seq_planner.proofs.LoweredBranches.{one_if, equal_one, IsUnderway}
 use Rattle.seq_planner.proofs.LoweringTurns.{IsTurn}

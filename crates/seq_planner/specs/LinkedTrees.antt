@@ -4,8 +4,8 @@ use Rattle.plan_model.specs.declared.trees.Twig.{Twig}
 use Rattle.plan_model.specs.Trees.PointsByNumber.{IsPresent}
 use Rattle.plan_model.specs.Trees.NodeLists.{node_at, points_of}
 use Rattle.plan_model.specs.declared.limits.TheConstants.{MOST_NODES}
-use Rattle.step_core.specs.ChildChains.{IndexesChains}
-use Rattle.step_core.specs.declared.child_index.ChildIndex.{ChildIndex}
+use Rattle.grown_runs.specs.ChildChains.{IndexesChains}
+use Rattle.grown_runs.specs.declared.child_index.ChildIndex.{ChildIndex}
 
 -- the parent of a node that is a child; the start is nobody's, and neither is an absent node
 abbrev pub parent_if_child : List (Option Twig) → ℕ → Option ℕ

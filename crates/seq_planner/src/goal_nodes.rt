@@ -11,9 +11,9 @@ ghost use Rattle.seq_planner.specs.SearchTrees.{IsSkippedBy, IsSoundTree};
 
 use crate::search_tree::SearchTree;
 use edge_cost::bound;
+use grown_runs::lies_in_goals;
 use plan_model::{Memory, Point, Scene};
 use std::alloc::Global;
-use step_core::lies_in_goals;
 
 /// The numbers of the nodes that lie in a goal by which marks are skipped: none in a scene that is not informed.
 #[derive(Drop)]

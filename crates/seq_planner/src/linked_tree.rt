@@ -6,13 +6,13 @@ ghost use Rattle.plan_model.specs.Runs.Textbook.{start_alone, with_parent};
 ghost use Rattle.plan_model.specs.Trees.NodeLists.{points_of};
 ghost use Rattle.plan_model.specs.declared.limits.TheConstants.{MOST_MARKS};
 ghost use Rattle.plan_model.specs.declared.trees.Twig.{Twig};
-ghost use Rattle.step_core.specs.ChildChains.{times};
+ghost use Rattle.grown_runs.specs.ChildChains.{times};
 ghost use Rattle.seq_planner.specs.LinkedTrees.{AreLinked, hangs_below, MayJoin};
 
+use grown_runs::ChildIndex;
 use plan_model::{Memory, Point, Twig};
 use std::alloc::Global;
 use std::marker::Model;
-use step_core::ChildIndex;
 
 /// The nodes of a tree by number, each absent or a point with a parent, with an index of the children of each.
 #[derive(Drop)]

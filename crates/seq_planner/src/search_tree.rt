@@ -12,15 +12,15 @@ ghost use Rattle.plan_model.specs.declared.geometry.Point.{Point};
 ghost use Rattle.plan_model.specs.declared.limits.TheConstants.{MOST_MARKS};
 ghost use Rattle.plan_model.specs.declared.scenes.Scene.{Scene};
 ghost use Rattle.seq_planner.specs.SearchTrees.{Fits, GrowsByMark, IsExtensionOf, IsSkippedBy, IsSoundTree, with_cost, with_costs};
-ghost use Rattle.step_core.specs.GrownRuns.{state_of_grown};
+ghost use Rattle.grown_runs.specs.Runs.GrownRuns.{state_of_grown};
 
 use crate::extensions::Extension;
 use crate::linked_tree::LinkedTree;
 use crate::placed_points::PlacedPoints;
 use edge_cost::{Radii, class, steer};
+use grown_runs::Grown;
 use plan_model::{Knot, Memory, Point, Record, Scene, Sequence, Task, Twig};
 use std::alloc::Global;
-use step_core::Grown;
 use swept_check::Clearing;
 
 /// The tree that RRT* grows, with a number for each mark and the records so far.

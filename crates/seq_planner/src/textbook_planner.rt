@@ -11,14 +11,14 @@ ghost use Rattle.plan_model.specs.Trees.TreeStates.{IsSettled};
 ghost use Rattle.plan_model.specs.declared.limits.TheConstants.{MOST_MARKS};
 ghost use Rattle.seq_planner.specs.GoalLists.{AreGoalNodesBelow};
 ghost use Rattle.seq_planner.specs.SearchTrees.{GrowsByMark, IsSoundTree};
-ghost use Rattle.step_core.specs.GrownRuns.{state_of_grown};
+ghost use Rattle.grown_runs.specs.Runs.GrownRuns.{state_of_grown};
 
 use crate::goal_nodes::GoalNodes;
 use crate::search_tree::{Lists, SearchTree};
 use edge_cost::Radii;
+use grown_runs::Grown;
 use plan_model::{Memory, Point, Scene, Task};
 use std::alloc::Global;
-use step_core::Grown;
 use swept_check::Clearing;
 
 /// RRT* over the marks (the samples) of a task in rising number, from its start, which is clear. Without a mark the run is

@@ -4,11 +4,11 @@ ghost use Rattle.std.specs.Prelude.{◌≤◌, IsTrue};
 ghost use Rattle.plan_model.specs.declared.limits.TheConstants.{MOST_GAMMA};
 ghost use Rattle.plan_model.specs.Scenes.Limits.{is_plan};
 
+use grown_runs::Grown;
 use plan_model::{Goal, Marks, Memory, Outcome, Point, SmallScene};
 use seq_planner::textbook;
 use std::alloc::Global;
 use std::process::Abort;
-use step_core::Grown;
 use swept_check::Hall;
 
 /// Where a node stands, its parent and its kept cost.

@@ -9,9 +9,9 @@ use Rattle.plan_model.specs.Trees.NodeLists.{FallAlong}
 use Rattle.plan_model.specs.Trees.TreeStates.{TreeState, chain_in}
 use Rattle.plan_model.proofs.ChainLaws.{chain-start, chain-parent}
 use Rattle.plan_model.proofs.OrderLaws.{KeepsOrder-falls}
-use Rattle.step_core.specs.declared.grown.Grown.{Grown}
-use Rattle.step_core.specs.GrownRuns.{state_of_grown, words_of_grown}
-use Rattle.step_core.proofs.HeldNodes.{start_present-held}
+use Rattle.grown_runs.specs.declared.grown.Grown.{Grown}
+use Rattle.grown_runs.specs.Runs.GrownRuns.{state_of_grown, words_of_grown}
+use Rattle.grown_runs.proofs.Runs.HeldNodes.{start_present-held}
 use Rattle.settle_report.proofs.HeldOrders.{parent-held}
 
 -- kept costs fall along the parents of a closed run

@@ -7,11 +7,11 @@ use Rattle.plan_model.specs.Trees.NodeLists.{edge_by}
 use Rattle.plan_model.specs.Trees.TreeStates.{sum_in}
 use Rattle.plan_model.proofs.OrderLaws.{parent-present}
 use Rattle.plan_model.proofs.OrderedTrees.{sum_in-le_cost}
-use Rattle.step_core.specs.declared.grown.Grown.{Grown}
-use Rattle.step_core.specs.WordNames.{Words}
-use Rattle.step_core.specs.GrownRuns.{state_of_grown, words_of_grown}
-use Rattle.step_core.specs.GrownWords.{HoldRun, sizes_of, state_of_words}
-use Rattle.step_core.proofs.HeldNodes.{node-held}
+use Rattle.grown_runs.specs.declared.grown.Grown.{Grown}
+use Rattle.grown_runs.specs.Table.WordNames.{Words}
+use Rattle.grown_runs.specs.Runs.GrownRuns.{state_of_grown, words_of_grown}
+use Rattle.grown_runs.specs.Runs.GrownWords.{HoldRun, sizes_of, state_of_words}
+use Rattle.grown_runs.proofs.Runs.HeldNodes.{node-held}
 
 module _ (task : Task) (limit : ℕ) (words : Words) (held : HoldRun task limit words) where
   -- the parent of a node is present

@@ -4,8 +4,8 @@ use Rattle.std.specs.Prelude.{IsTrue, slice_index_or}
 use Rattle.std.proofs.lemmas.Bool.{cases_eq}
 use Rattle.plan_model.specs.Trees.PointsByNumber.{IsPresent}
 use Rattle.plan_model.specs.Trees.TreeStates.{ChangesCosts, IsSettled}
-use Rattle.step_core.specs.declared.grown.Grown.{Grown}
-use Rattle.step_core.specs.GrownRuns.{children_of_grown, state_of_grown}
+use Rattle.grown_runs.specs.declared.grown.Grown.{Grown}
+use Rattle.grown_runs.specs.Runs.GrownRuns.{children_of_grown, state_of_grown}
 use Rattle.settle_report.specs.SettledMarks.{MarksSettled}
 use Rattle.settle_report.proofs.HeldOrders.{number-grown}
 use Rattle.settle_report.proofs.SettlingSteps.{ChangesCosts-trans}

@@ -10,7 +10,7 @@ use Rattle.plan_model.specs.Runs.Textbook.{Setup}
 use Rattle.plan_model.specs.Trees.NodeLists.{sum_by}
 use Rattle.plan_model.specs.Trees.TreeStates.{TreeState, ChangesCosts, GrowsInto, first_cost_of, recorded_or, sum_in}
 use Rattle.plan_model.proofs.OrderedTrees.{sum_in-parent, sum_in-start}
-use Rattle.step_core.specs.GrownRuns.{CostsInstead}
+use Rattle.grown_runs.specs.Runs.GrownRuns.{CostsInstead}
 use Rattle.settle_report.specs.SettledMarks.{CostsByParent, MarksSettled}
 
 -- ---- costs alone change

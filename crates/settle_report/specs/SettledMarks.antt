@@ -3,7 +3,7 @@ use Rattle.std.specs.Prelude.{◌≡◌, ℕ, zero, suc, ◌+◌, ◌<◌, Bool,
 use Rattle.plan_model.specs.Trees.PointsByNumber.{IsPresent}
 use Rattle.plan_model.specs.Trees.NodeLists.{edge_by}
 use Rattle.plan_model.specs.Trees.TreeStates.{TreeState, sum_in}
-use Rattle.step_core.specs.GrownRuns.{CostsInstead}
+use Rattle.grown_runs.specs.Runs.GrownRuns.{CostsInstead}
 
 -- Each node up to the limit may have a mark; the start has one, and each that has one is kept at its sum.
 pub record MarksSettled (state : TreeState) (limit : ℕ) (marks : List Bool) : Type 0 where

@@ -5,10 +5,10 @@ ghost use Rattle.plan_model.specs.Trees.BestNode.{best_node, goals_of, is_goal_p
 ghost use Rattle.plan_model.specs.Trees.LeastPairs.{lesser};
 ghost use Rattle.plan_model.specs.Trees.PointsByNumber.{IsPresent, point_at};
 ghost use Rattle.plan_model.specs.Trees.TreeStates.{IsSettled, sum_in};
-ghost use Rattle.step_core.specs.GrownRuns.{state_of_grown};
+ghost use Rattle.grown_runs.specs.Runs.GrownRuns.{state_of_grown};
 
+use grown_runs::{Grown, lies_in_goals};
 use plan_model::Goal;
-use step_core::{Grown, lies_in_goals};
 
 /// The number of the goal node (a node whose point lies in one of the closed goal boxes) with the least cost-to-come, and of those with
 /// the same cost the least number; `None` exactly if no node lies in a goal. O(n) for n marks below the limit.

@@ -2,12 +2,12 @@
 
 ghost use Rattle.std.specs.Prelude.{◌≡◌, ◌++◌, OnOk, string_bytes};
 ghost use Rattle.plan_model.specs.Reports.ReportText.{line, mark_line, mark_lines, outcome_words};
-ghost use Rattle.step_core.specs.GrownRuns.{state_of_grown};
+ghost use Rattle.grown_runs.specs.Runs.GrownRuns.{state_of_grown};
 ghost use Rattle.settle_report.specs.MarkWords.{words_before_outcome};
 
+use grown_runs::Grown;
 use plan_model::{Outcome, Record};
 use std::alloc::AllocError;
-use step_core::Grown;
 
 /// A line for each mark that was handled, in rising number: its worker and turn, and what became of it. O(n) for n marks.
 ///

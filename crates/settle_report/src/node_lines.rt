@@ -4,12 +4,12 @@ ghost use Rattle.std.specs.Prelude.{◌≡◌, ◌++◌, OnOk, string_bytes};
 ghost use Rattle.plan_model.specs.Trees.PointsByNumber.{point_at};
 ghost use Rattle.plan_model.specs.Reports.ReportText.{node_line_if_present, node_lines};
 ghost use Rattle.plan_model.specs.Trees.TreeStates.{IsSettled};
-ghost use Rattle.step_core.specs.GrownRuns.{state_of_grown};
+ghost use Rattle.grown_runs.specs.Runs.GrownRuns.{state_of_grown};
 ghost use Rattle.settle_report.specs.NodeLines.{knot_line};
 
+use grown_runs::Grown;
 use plan_model::Knot;
 use std::alloc::AllocError;
-use step_core::Grown;
 
 /// A line for each node that is present, in rising number: where it stands, its parent and its cost-to-come. O(n) for n marks
 /// below the limit.

@@ -4,11 +4,11 @@ ghost use Rattle.std.specs.Prelude.{◌≡◌, IfOk, map};
 ghost use Rattle.plan_model.specs.Trees.PointsByNumber.{IsPresent, point_of};
 ghost use Rattle.plan_model.specs.Reports.ReportText.{path_to};
 ghost use Rattle.plan_model.specs.Trees.TreeStates.{chain_in};
-ghost use Rattle.step_core.specs.GrownRuns.{state_of_grown};
+ghost use Rattle.grown_runs.specs.Runs.GrownRuns.{state_of_grown};
 
+use grown_runs::Grown;
 use plan_model::{Memory, Point};
 use std::alloc::Global;
-use step_core::Grown;
 
 /// The points of the path from the start to a node that is present, by the node's parents: the start first, the node last,
 /// one point of the lattice for each node on the way, so d + 1 of them for a node at depth d. That of node 0 is the start

@@ -9,15 +9,15 @@ ghost use Rattle.plan_model.specs.Trees.PointsByNumber.{IsPresent};
 ghost use Rattle.plan_model.specs.Reports.ReportText as spec;
 ghost use Rattle.plan_model.specs.Reports.ReportText.{line, report_text, summary};
 ghost use Rattle.plan_model.specs.Trees.TreeStates.{IsSettled};
-ghost use Rattle.step_core.specs.GrownRuns.{state_of_grown};
+ghost use Rattle.grown_runs.specs.Runs.GrownRuns.{state_of_grown};
 
 use crate::best_node::best;
 use crate::mark_lines::push_mark_lines;
 use crate::node_lines::push_node_lines;
 use crate::paths::path_to;
+use grown_runs::Grown;
 use plan_model::{Memory, Outcome, Point};
 use std::alloc::{AllocError, Global};
-use step_core::Grown;
 
 /// The report of a settled run. The short one is the cheapest path from the start into a goal, or that there is none, and
 /// how many nodes and marks of each outcome there are; the full one has a line for each node and for each mark besides. Costs

@@ -26,12 +26,12 @@ ghost use Rattle.plan_model.specs.Trees.PointsByNumber.{IsPresent};
 ghost use Rattle.plan_model.specs.Trees.TreeStates.{ChangesCosts, GrowsInto, IsSettled};
 ghost use Rattle.settle_report.specs.SettledMarks.{CostsByParent, LeadsDown, MarksSettled};
 ghost use Rattle.settle_report.specs.TightNodes.{IsTight};
-ghost use Rattle.step_core.specs.GrownRuns.{children_of_grown, state_of_grown};
+ghost use Rattle.grown_runs.specs.Runs.GrownRuns.{children_of_grown, state_of_grown};
 
 use edge_cost::{cost, costs_less_through};
+use grown_runs::Grown;
 use plan_model::Memory;
 use std::alloc::Global;
-use step_core::Grown;
 
 /// Makes each kept cost the node's cost-to-come, in 256ths of a lattice step: the costs of the edges from the start to it. All
 /// else stays (nodes, parents, records and the kd-tree), and no cost rises.

@@ -30,7 +30,7 @@ use Rattle.plan_model.proofs.OpenRoomMarks.{cost_2000, cost_2401, cost_2441, cos
 use Rattle.plan_model.proofs.RewiredRun.{rewired_run}
 use Rattle.plan_model.proofs.RootLaws.{root_ceiling-from_squares}
 use Rattle.plan_model.proofs.TextbookRuns.{IsClosed-textbook}
-use Rattle.step_core.specs.PackedRuns.{state_of_lists}
+use Rattle.grown_runs.specs.Runs.PackedRuns.{state_of_lists}
 use Rattle.plan_model.specs.Runs.Turns.{RunFromZero}
 use Rattle.plan_model.proofs.PlacedNodes.{ArePlacedMarks-from}
 use Rattle.plan_model.proofs.TurnsFromZero.{AreTurns-counted}

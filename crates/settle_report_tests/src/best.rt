@@ -5,11 +5,11 @@ ghost use Rattle.plan_model.specs.Scenes.Limits.{are_goals, is_goal};
 ghost use Rattle.plan_model.specs.Vectors.Reports.{box};
 
 use crate::support::{settle_run, start_alone, unsettled_run};
+use grown_runs::Grown;
 use plan_model::{Goal, Point};
 use settle_report::best;
 use std::alloc::Global;
 use std::process::Abort;
-use step_core::Grown;
 
 /// The goal between these two corners.
 fn goal(low: (u32, u32), high: (u32, u32)) -> Goal

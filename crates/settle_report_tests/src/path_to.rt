@@ -1,11 +1,11 @@
 //! Paths from the start to the nodes of a run of four marks.
 
 use crate::support::{start_alone, sure, unsettled_run};
+use grown_runs::Grown;
 use plan_model::{Goal, Point};
 use settle_report::path_to;
 use std::alloc::Global;
 use std::process::Abort;
-use step_core::Grown;
 
 const GOAL: Goal = Goal {
     low: Point { x: 90, y: 90 },

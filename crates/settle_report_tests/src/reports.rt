@@ -4,11 +4,11 @@ ghost use Rattle.std.specs.Prelude.{◌≤◌, IsTrue};
 ghost use Rattle.plan_model.specs.Scenes.Limits.{is_goal};
 
 use crate::support::{settle_run, start_alone, sure, unsettled_run};
+use grown_runs::Grown;
 use plan_model::{Goal, Point};
 use settle_report::{report, report_along, summary};
 use std::alloc::Global;
 use std::process::Abort;
-use step_core::Grown;
 
 /// The goal that is this point alone.
 fn goal_at(x: u32, y: u32) -> Goal

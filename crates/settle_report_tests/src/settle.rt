@@ -1,9 +1,9 @@
 //! Parents and kept costs before a run is settled, and then.
 
 use crate::support::{settle_again, settle_run, start_alone, unsettled_run};
+use grown_runs::Grown;
 use plan_model::{Goal, Point};
 use std::process::Abort;
-use step_core::Grown;
 
 const GOAL: Goal = Goal {
     low: Point { x: 90, y: 90 },

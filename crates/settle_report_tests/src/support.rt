@@ -12,9 +12,10 @@ ghost use Rattle.plan_model.specs.Runs.Textbook.{placed_record, setup_of};
 ghost use Rattle.plan_model.specs.Trees.TreeStates.{IsSettled};
 ghost use Rattle.plan_model.specs.Vectors.Shapes.{at};
 ghost use Rattle.plan_model.specs.declared.scenes.Marks.TheVariants.{Listed};
-ghost use Rattle.step_core.specs.GrownRuns.{state_of_grown};
-ghost use Rattle.step_core.specs.PackedRuns.{state_of_lists};
+ghost use Rattle.grown_runs.specs.Runs.GrownRuns.{state_of_grown};
+ghost use Rattle.grown_runs.specs.Runs.PackedRuns.{state_of_lists};
 
+use grown_runs::Grown;
 use plan_model::{
     Goal, Knot, Knots, Marks, Memory, Outcome, Point, Record, Records, Scene, Sequence, Task,
     Vertex,
@@ -22,7 +23,6 @@ use plan_model::{
 use settle_report::settle;
 use std::alloc::Global;
 use std::process::Abort;
-use step_core::Grown;
 
 /// What was made, for which memory lasts. A test ends here if none is left, so that no value is dropped on the way.
 pub(crate) fn sure<R: Abort, T>(rt: &R, made: Result<T, Memory>) -> T

@@ -7,9 +7,9 @@ use Rattle.plan_model.specs.declared.geometry.Point.{Point}
 use Rattle.step_core.specs.LaterViews.{IsLater}
 use Rattle.step_core.specs.SharedWords.{linked_points}
 use Rattle.step_core.specs.Views.{last_zero, run_sizes}
-use Rattle.step_core.specs.WordKinds.{AreBehind}
-use Rattle.step_core.specs.WordNames.{Words}
-use Rattle.step_core.specs.WordNames.Word.{ChildOf}
+use Rattle.grown_runs.specs.Table.WordKinds.{AreBehind}
+use Rattle.grown_runs.specs.Table.WordNames.{Words}
+use Rattle.grown_runs.specs.Table.WordNames.Word.{ChildOf}
 use Rattle.step_core.specs.Worlds.{IsWorld}
 use Rattle.step_core.specs.declared.views.SharedRun.{SharedRun}
 use Rattle.step_core.specs.declared.views.View.{View}

@@ -6,16 +6,16 @@ use Rattle.plan_model.specs.Runs.OrderLaw.{KeepsOrder}
 use Rattle.plan_model.specs.Trees.PointsByNumber.{AreDistinct}
 use Rattle.plan_model.specs.Seen.SeenTrees.{FollowSeenWays}
 use Rattle.plan_model.specs.Runs.Turns.{turns_of}
-use Rattle.step_core.specs.GrownWords.{record_at}
+use Rattle.grown_runs.specs.Runs.GrownWords.{record_at}
 use Rattle.step_core.specs.SeenBests.{IsAtMostPlaced}
 use Rattle.step_core.specs.SharedWords.{state_of_links}
 use Rattle.step_core.specs.Stages.{has_first, has_link}
 use Rattle.step_core.specs.ViewTrees.{IsSeenPair, SeesNode, SeesPoint, SeesTree}
 use Rattle.step_core.specs.Views.{IsSharedRun, IsViewOf, last_look, last_zero, run_sizes, sees, setup_in, share, took_over, tree_seen}
-use Rattle.step_core.specs.WordKinds.{AreBehind, kind_of}
-use Rattle.step_core.specs.WordKinds.WordKind.{Apart}
-use Rattle.step_core.specs.WordNames.{Word}
-use Rattle.step_core.specs.WordNames.Word.{Count, Counter, TreeOf}
+use Rattle.grown_runs.specs.Table.WordKinds.{AreBehind, kind_of}
+use Rattle.grown_runs.specs.Table.WordKinds.WordKind.{Apart}
+use Rattle.grown_runs.specs.Table.WordNames.{Word}
+use Rattle.grown_runs.specs.Table.WordNames.Word.{Count, Counter, TreeOf}
 use Rattle.step_core.specs.declared.views.Hand.{Hand}
 use Rattle.step_core.specs.declared.views.Member.{Member}
 use Rattle.step_core.specs.declared.views.View.{View}

@@ -1,14 +1,12 @@
 -- What a view knows of the best word: the least pair of a cost and a goal node that the run began with or a pass has posted.
-use Rattle.std.specs.Prelude.{◌≡◌, ◌≢◌, ℕ, zero, suc, ◌^◌, ◌<◌, ◌≤◌, true, Some, List, []}
+use Rattle.std.specs.Prelude.{◌≡◌, ◌≢◌, ℕ, zero, suc, ◌^◌, ◌<◌, ◌≤◌, true, Some, []}
 use Rattle.plan_model.specs.Runs.ClosedLaw.{mark_at}
 use Rattle.plan_model.specs.Runs.Textbook.{mark_bound}
 use Rattle.plan_model.specs.Trees.BestNode.{IsGoalNode}
-use Rattle.plan_model.specs.Trees.TreeStates.{TreeState}
-use Rattle.plan_model.specs.declared.geometry.Goal.{Goal}
-use Rattle.step_core.specs.GrownWords.{has_node}
+use Rattle.grown_runs.specs.Runs.GrownWords.{has_node}
 use Rattle.step_core.specs.Views.{sees, setup_in, share, tree_seen}
-use Rattle.step_core.specs.WordNames.Word.{FirstOf, TreeOf}
-use Rattle.step_core.specs.Words.{best_cost_in, best_node_in, best_word, cost_in, no_best}
+use Rattle.grown_runs.specs.Table.WordNames.Word.{FirstOf, TreeOf}
+use Rattle.grown_runs.specs.Table.Words.{best_cost_in, best_node_in, best_word, cost_in, no_best}
 use Rattle.step_core.specs.declared.views.Hand.{Hand}
 use Rattle.step_core.specs.declared.views.SharedRun.{SharedRun}
 use Rattle.step_core.specs.declared.views.Stage.TheVariants.{Claimed}
@@ -46,11 +44,6 @@ pub record MayBeSkipped (view : View) (hand : Hand) (g : ℕ) : Type 0 where
   pub some_node : word ≢ no_best
   pub node : g ≡ best_node_in word
   pub within : best_cost_in word ≤ mark_bound (setup_in view.run) (mark_at view.run.marks hand.mark)
-
--- The word is the least pair of kept cost and number of the goal nodes of a tree, or says that there is none.
-pub record IsLeastBest (goals : List Goal) (state : TreeState) (word : ℕ) : Type 0 where
-  pub pair : word ≢ no_best → IsGoalNode goals state.points (best_node_in word) × (state.cost (best_node_in word) ≡ best_cost_in word)
-  pub least : (n : ℕ) → IsGoalNode goals state.points n → word ≤ best_word (state.cost n) n
 
 -- A view may post a goal node whose cost it has seen, if it has a share.
 pub record MayPost (view : View) (n : ℕ) : Type 0 where

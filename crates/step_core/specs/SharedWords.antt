@@ -3,10 +3,10 @@ use Rattle.std.specs.Prelude.{ℕ, Option, List}
 use Rattle.plan_model.specs.declared.geometry.Point.{Point}
 use Rattle.plan_model.specs.Seen.SeenTrees.{SharedTree}
 use Rattle.plan_model.specs.Trees.TreeStates.{TreeState}
-use Rattle.step_core.specs.GrownWords.{is_linked, node_point_by, points_by, state_by, children_of_words}
-use Rattle.step_core.specs.WordNames.{Words}
-use Rattle.step_core.specs.WordNames.Word.{Count, Counter}
-use Rattle.step_core.specs.WordPlaces.{Sizes}
+use Rattle.grown_runs.specs.Runs.GrownWords.{is_linked, node_point_by, points_by, state_by, children_of_words}
+use Rattle.grown_runs.specs.Table.WordNames.{Words}
+use Rattle.grown_runs.specs.Table.WordNames.Word.{Count, Counter}
+use Rattle.grown_runs.specs.Table.WordPlaces.{Sizes}
 
 -- where node n stands, if it is linked
 abbrev pub linked_point : Sizes → Words → ℕ → Option Point

@@ -12,9 +12,9 @@ use Rattle.step_core.specs.ViewSteps.{best_loaded, best_with, claimed, counted, 
 use Rattle.step_core.specs.ViewSteps.{pair_in_hand, parted, pointed, posted, stepped, steps_then, treed, worker_apart}
 use Rattle.step_core.specs.ViewTrees.{IsSteered, LeadsTo, MayHang, MayLoad, MayLower}
 use Rattle.step_core.specs.Views.{sees, share, spent}
-use Rattle.step_core.specs.WordNames.{Word, Words, WritesWord}
-use Rattle.step_core.specs.WordNames.Word.{Best, ChildOf, Count, Counter, FirstOf, PointOf, RecordOf, TreeOf}
-use Rattle.step_core.specs.Words.{FitsWord, point_word, record_word, tree_word}
+use Rattle.grown_runs.specs.Table.WordNames.{Word, Words, WritesWord}
+use Rattle.grown_runs.specs.Table.WordNames.Word.{Best, ChildOf, Count, Counter, FirstOf, PointOf, RecordOf, TreeOf}
+use Rattle.grown_runs.specs.Table.Words.{FitsWord, point_word, record_word, tree_word}
 use Rattle.step_core.specs.Worlds.{IsWorld}
 use Rattle.step_core.specs.declared.views.Hand.{Hand}
 use Rattle.step_core.specs.declared.views.Member.{Member}

@@ -2,10 +2,10 @@
 use Rattle.std.specs.Prelude.{ℕ, None, List, [], length, map, replicate}
 use Rattle.std.specs.List.{range_with_len}
 use Rattle.plan_model.specs.Runs.Turns.{turns_of}
-use Rattle.step_core.specs.GrownWords.{record_at}
+use Rattle.grown_runs.specs.Runs.GrownWords.{record_at}
 use Rattle.step_core.specs.Views.{words_of_run}
-use Rattle.step_core.specs.WordNames.{Words}
-use Rattle.step_core.specs.WordNames.Word.{Best}
+use Rattle.grown_runs.specs.Table.WordNames.{Words}
+use Rattle.grown_runs.specs.Table.WordNames.Word.{Best}
 use Rattle.step_core.specs.declared.views.Member.{Member}
 use Rattle.step_core.specs.declared.views.SharedRun.{SharedRun}
 use Rattle.step_core.specs.declared.views.View.{View}

@@ -1,15 +1,15 @@
--- What each kind of step makes of the view that makes it, as a function of the view before. The words are those of specs/WordNames.
+-- What each kind of step makes of the view that makes it, as a function of the view before. The words are those of WordNames.
 use Rattle.std.specs.Prelude.{ℕ, suc, Bool, ◌+◌, ◌==◌, max, min, Option, Some, None, List, [], ◌∷◌, ◌++◌, length, map, replicate, slice_index}
 use Rattle.std.specs.Prelude.{slice_set, if◌then◌else◌}
 use Rattle.std.specs.List.{range_with_len}
 use Rattle.plan_model.specs.Scenes.MarkPoints.{mark_of as mark_by_strips}
 use Rattle.plan_model.specs.declared.geometry.Point.{Point}
 use Rattle.step_core.specs.Views.{run_sizes, sees}
-use Rattle.step_core.specs.WordKinds.{kind_at, later_word}
-use Rattle.step_core.specs.WordNames.{Word}
-use Rattle.step_core.specs.WordNames.Word.{ChildOf, Counter, FirstOf, PointOf, RecordOf, TreeOf}
-use Rattle.step_core.specs.WordPlaces.{Sizes, place_of, word_count}
-use Rattle.step_core.specs.Words.{best_word, cost_in, point_word, tree_word}
+use Rattle.grown_runs.specs.Table.WordKinds.{kind_at, later_word}
+use Rattle.grown_runs.specs.Table.WordNames.{Word}
+use Rattle.grown_runs.specs.Table.WordNames.Word.{ChildOf, Counter, FirstOf, PointOf, RecordOf, TreeOf}
+use Rattle.grown_runs.specs.Table.WordPlaces.{Sizes, place_of, word_count}
+use Rattle.grown_runs.specs.Table.Words.{best_word, cost_in, point_word, tree_word}
 use Rattle.step_core.specs.declared.views.Fill.{Fill}
 use Rattle.step_core.specs.declared.views.Hand.{Hand}
 use Rattle.step_core.specs.declared.views.Member.{Member}

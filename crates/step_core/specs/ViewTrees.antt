@@ -9,13 +9,13 @@ use Rattle.plan_model.specs.Seen.SeenTrees.{IsRooted, IsSeen}
 use Rattle.plan_model.specs.Seen.Sights.{Sight}
 use Rattle.plan_model.specs.Geometry.Steering.{steered}
 use Rattle.plan_model.specs.Seen.Ways.{IsOnWay, goes_right}
-use Rattle.step_core.specs.GrownWords.{has_node}
-use Rattle.step_core.specs.SeenWords.{sight_of_words}
+use Rattle.grown_runs.specs.Runs.GrownWords.{has_node}
+use Rattle.grown_runs.specs.Table.SeenWords.{sight_of_words}
 use Rattle.step_core.specs.Stages.{has_link, has_point}
 use Rattle.step_core.specs.Views.{run_sizes, seen_words, sees, setup_in, tree_seen}
-use Rattle.step_core.specs.WordNames.{Word}
-use Rattle.step_core.specs.WordNames.Word.{Count, Best, Counter, PointOf, ChildOf, TreeOf, FirstOf, RecordOf}
-use Rattle.step_core.specs.Words.{cost_in, parent_in}
+use Rattle.grown_runs.specs.Table.WordNames.{Word}
+use Rattle.grown_runs.specs.Table.WordNames.Word.{Count, Best, Counter, PointOf, ChildOf, TreeOf, FirstOf, RecordOf}
+use Rattle.grown_runs.specs.Table.Words.{cost_in, parent_in}
 use Rattle.step_core.specs.declared.views.Hand.{Hand}
 use Rattle.step_core.specs.declared.views.View.{View}
 

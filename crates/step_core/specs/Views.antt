@@ -7,10 +7,10 @@ use Rattle.plan_model.specs.Seen.SeenTrees.{SeenTree}
 use Rattle.plan_model.specs.Runs.Textbook.{Setup, skipping_goals}
 use Rattle.plan_model.specs.declared.limits.TheConstants.{MOST_MARKS, MOST_STEERING_STEP, MOST_STRIPS, MOST_WORKERS}
 use Rattle.plan_model.specs.declared.tasks.Task.{Task}
-use Rattle.step_core.specs.SeenWords.{SeenWords, seen_tree_of_words}
-use Rattle.step_core.specs.WordNames.{Word, Words}
-use Rattle.step_core.specs.WordPlaces.{Sizes, word_at, word_count}
-use Rattle.step_core.specs.Words.{no_best}
+use Rattle.grown_runs.specs.Table.SeenWords.{SeenWords, seen_tree_of_words}
+use Rattle.grown_runs.specs.Table.WordNames.{Word, Words}
+use Rattle.grown_runs.specs.Table.WordPlaces.{Sizes, word_at, word_count}
+use Rattle.grown_runs.specs.Table.Words.{no_best}
 use Rattle.step_core.specs.declared.views.Hand.{Hand}
 use Rattle.step_core.specs.declared.views.Member.{Member}
 use Rattle.step_core.specs.declared.views.SharedRun.{SharedRun}

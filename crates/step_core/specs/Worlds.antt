@@ -17,18 +17,18 @@ use Rattle.plan_model.specs.Runs.RecordLaw.{IsLawfulRecord, first_cost_through}
 use Rattle.plan_model.specs.Seen.SeenParents.{AreSeenLawfully}
 use Rattle.plan_model.specs.Trees.TreeStates.{TreeState}
 use Rattle.plan_model.specs.Seen.Ways.{FollowWays}
-use Rattle.step_core.specs.GrownWords.{IsWritten, children_of_words, has_node, is_linked, record_at}
+use Rattle.grown_runs.specs.Runs.GrownWords.{IsWritten, children_of_words, has_node, is_linked, record_at}
 use Rattle.step_core.specs.SeenBests.{IsAtMostPlaced}
 use Rattle.step_core.specs.SharedWords.{linked_points, state_of_links}
 use Rattle.step_core.specs.Stages.{has_count, has_first, has_link, has_point, has_tree, holds_at}
 use Rattle.step_core.specs.ViewSteps.{pair_in_hand}
 use Rattle.step_core.specs.ViewTrees.{SeesTree}
 use Rattle.step_core.specs.Views.{IsSharedRun, IsViewOf, holds, last_zero, run_sizes, sees, setup_in, share, spent, times, took_over, tree_seen}
-use Rattle.step_core.specs.WordKinds.{AreBehind, HaveWholePairs}
-use Rattle.step_core.specs.WordNames.{Word, Words}
-use Rattle.step_core.specs.WordPlaces.{place_of}
-use Rattle.step_core.specs.Words.{FitsWord, best_cost_in, best_node_in, best_word, cost_in, no_best, point_word, record_word, tree_word}
-use Rattle.step_core.specs.WordNames.Word.{Best, ChildOf, Count, Counter, FirstOf, PointOf, RecordOf, TreeOf}
+use Rattle.grown_runs.specs.Table.WordKinds.{AreBehind, HaveWholePairs}
+use Rattle.grown_runs.specs.Table.WordNames.{Word, Words}
+use Rattle.grown_runs.specs.Table.WordPlaces.{place_of}
+use Rattle.grown_runs.specs.Table.Words.{FitsWord, best_cost_in, best_node_in, best_word, cost_in, no_best, point_word, record_word, tree_word}
+use Rattle.grown_runs.specs.Table.WordNames.Word.{Best, ChildOf, Count, Counter, FirstOf, PointOf, RecordOf, TreeOf}
 use Rattle.step_core.specs.declared.views.Fill.{Fill}
 use Rattle.step_core.specs.declared.views.Hand.{Hand}
 use Rattle.step_core.specs.declared.views.Member.{Member}

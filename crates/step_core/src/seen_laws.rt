@@ -3,12 +3,12 @@
 ghost use Rattle.plan_model.specs.Seen.SeenTrees.{HasSeenAtLeast, IsRooted, IsTrueOf};
 ghost use Rattle.plan_model.specs.Seen.Sights.{IsLaterMoment};
 ghost use Rattle.plan_model.specs.Seen.Ways.{FollowWays};
-ghost use Rattle.step_core.specs.GrownWords.{children_of_words};
-ghost use Rattle.step_core.specs.SeenWords.{LooksAt, MayLookAt, SeenWords, seen_tree_of_words, sight_of_words};
+ghost use Rattle.grown_runs.specs.Runs.GrownWords.{children_of_words};
+ghost use Rattle.grown_runs.specs.Table.SeenWords.{LooksAt, MayLookAt, SeenWords, seen_tree_of_words, sight_of_words};
 ghost use Rattle.step_core.specs.SharedWords.{linked_points, shared_tree_of_words};
-ghost use Rattle.step_core.specs.WordKinds.{AreBehind};
-ghost use Rattle.step_core.specs.WordNames.{Word, Words};
-ghost use Rattle.step_core.specs.WordPlaces.{Sizes};
+ghost use Rattle.grown_runs.specs.Table.WordKinds.{AreBehind};
+ghost use Rattle.grown_runs.specs.Table.WordNames.{Word, Words};
+ghost use Rattle.grown_runs.specs.Table.WordPlaces.{Sizes};
 
 /// If each seen word is 0 or may become the word now, no more was seen than the words say now. If it was seen from node 0
 /// on besides, and each node is linked where its way leads, it is true of the tree in the words.

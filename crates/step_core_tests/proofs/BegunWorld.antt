@@ -25,34 +25,34 @@ use Rattle.plan_model.proofs.NewNodes.{IsPresent-stands}
 use Rattle.plan_model.proofs.SegmentLaws.{Clear-first}
 use Rattle.plan_model.proofs.StripMarks.{is_claimed-past}
 use Rattle.plan_model.proofs.WayLinks.{FollowWays-start}
-use Rattle.step_core.specs.GrownWords.{IsWritten, child_of_word, children_of_words, has_placed, is_linked, record_at}
-use Rattle.step_core.specs.SeenWords.{seen_tree_of_words}
+use Rattle.grown_runs.specs.Runs.GrownWords.{IsWritten, child_of_word, children_of_words, has_placed, is_linked, record_at}
+use Rattle.grown_runs.specs.Table.SeenWords.{seen_tree_of_words}
 use Rattle.step_core.specs.SharedWords.{linked_points}
 use Rattle.step_core.specs.ViewTrees.{SeesNode, SeesTree}
 use Rattle.step_core.specs.Views.{IsViewOf, run_sizes, sees, setup_in, share, spent, times, took_over, tree_seen}
-use Rattle.step_core.specs.WordKinds.{AreBehind, HaveWholePairs}
-use Rattle.step_core.specs.WordNames.{Word, Words}
-use Rattle.step_core.specs.WordNames.Word.{Best, ChildOf, Count, Counter, FirstOf, PointOf, RecordOf, TreeOf}
-use Rattle.step_core.specs.WordPlaces.{HasWord, Sizes, word_at}
-use Rattle.step_core.specs.Words.{no_best, point_of_word, tree_of_word}
+use Rattle.grown_runs.specs.Table.WordKinds.{AreBehind, HaveWholePairs}
+use Rattle.grown_runs.specs.Table.WordNames.{Word, Words}
+use Rattle.grown_runs.specs.Table.WordNames.Word.{Best, ChildOf, Count, Counter, FirstOf, PointOf, RecordOf, TreeOf}
+use Rattle.grown_runs.specs.Table.WordPlaces.{HasWord, Sizes, word_at}
+use Rattle.grown_runs.specs.Table.Words.{no_best, point_of_word, tree_of_word}
 use Rattle.step_core.specs.Worlds.{Agree, EachView, IsMember, IsWorld, SeesBest, Trees, counters, state_in}
 use Rattle.step_core.specs.declared.views.Hand.{Hand}
 use Rattle.step_core.specs.declared.views.Member.{Member}
 use Rattle.step_core.specs.declared.views.SharedRun.{SharedRun}
 use Rattle.step_core.specs.declared.views.View.{View}
-use Rattle.step_core.proofs.GrownPoints.{record_at-unwritten}
-use Rattle.step_core.proofs.LawfulSights.{IsPresent-seen}
-use Rattle.step_core.proofs.LinkedPresence.{in_child}
-use Rattle.step_core.proofs.LinkedStates.{linked-present}
-use Rattle.step_core.proofs.SeenWords.{point_at-seen, seen-within}
-use Rattle.step_core.proofs.StartWords.{IsStartWord}
-use Rattle.step_core.proofs.WordKinds.{AreBehind-refl}
-use Rattle.step_core.proofs.WordReads.{word_at-none}
-use Rattle.step_core.proofs.WorldEmpties.{zero-read}
-use Rattle.step_core.proofs.WorldHands.{IsWrittenFor}
-use Rattle.step_core.proofs.WorldJoins.{AreBehind-nothing}
-use Rattle.step_core.proofs.WorldPairs.{HasFirst, HasTree}
-use Rattle.step_core.proofs.WorldSeenPairs.{AreSeenLawfully-all}
+use Rattle.grown_runs.proofs.Runs.GrownPoints.{record_at-unwritten}
+use Rattle.step_core.proofs.OneView.LawfulSights.{IsPresent-seen}
+use Rattle.grown_runs.proofs.Runs.LinkedPresence.{in_child}
+use Rattle.step_core.proofs.Parts.LinkedStates.{linked-present}
+use Rattle.step_core.proofs.Seen.SeenWords.{point_at-seen, seen-within}
+use Rattle.grown_runs.proofs.Runs.StartWords.{IsStartWord}
+use Rattle.grown_runs.proofs.Table.WordKinds.{AreBehind-refl}
+use Rattle.grown_runs.proofs.Table.WordReads.{word_at-none}
+use Rattle.step_core.proofs.Parts.WorldEmpties.{zero-read}
+use Rattle.step_core.proofs.Parts.WorldHands.{IsWrittenFor}
+use Rattle.step_core.proofs.Steps.WorldJoins.{AreBehind-nothing}
+use Rattle.step_core.proofs.Parts.WorldPairs.{HasFirst, HasTree}
+use Rattle.step_core.proofs.Parts.WorldSeenPairs.{AreSeenLawfully-all}
 use Rattle.step_core_tests.specs.SmallWorlds.{idle, never, small_run, start_table, view_with, worker_at}
 
 abbrev sizes : Sizes

@@ -9,7 +9,7 @@ use Rattle.plan_model.specs.Spaces.EmptyRooms.{empty_room}
 use Rattle.plan_model.specs.Trees.TreeStates.{TreeState}
 use Rattle.plan_model.specs.Vectors.Overlaps.{placed_by}
 use Rattle.plan_model.specs.Vectors.Shapes.{at}
-use Rattle.step_core.specs.GrownRuns.{CostsInstead}
+use Rattle.grown_runs.specs.Runs.GrownRuns.{CostsInstead}
 use Rattle.step_core.specs.Histories.{WasFree}
 use Rattle.step_core.specs.SeenRecords.{MayRecord}
 use Rattle.step_core.specs.ViewSteps.{new_hand}

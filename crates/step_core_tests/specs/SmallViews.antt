@@ -13,8 +13,8 @@ use Rattle.step_core.specs.ViewSteps.{best_loaded, claimed, joined, loaded, look
 use Rattle.step_core.specs.ViewStarts.{newcomer}
 use Rattle.step_core.specs.ViewTrees.{IsSteered, LeadsTo, MayHang, MayLoad, MayLower}
 use Rattle.step_core.specs.Views.{run_sizes, words_of_run}
-use Rattle.step_core.specs.WordNames.Word.{ChildOf, Count, Counter, PointOf, TreeOf}
-use Rattle.step_core.specs.Words.{best_word, no_best, point_word, record_word, tree_word}
+use Rattle.grown_runs.specs.Table.WordNames.Word.{ChildOf, Count, Counter, PointOf, TreeOf}
+use Rattle.grown_runs.specs.Table.Words.{best_word, no_best, point_word, record_word, tree_word}
 use Rattle.step_core.specs.declared.views.Stage.TheVariants.{Claimed, Counted, Half, Linked, Pointed, Posted, Treed}
 use Rattle.step_core.specs.declared.views.View.{View}
 use Rattle.step_core_tests.specs.SmallWorlds.{claimed_table, found_right, hand_at, handling, idle, linked_table, mark_node, never, no_node, node_by}

@@ -5,7 +5,7 @@ use Rattle.plan_model.specs.Vectors.Overlaps.{placed_by}
 use Rattle.plan_model.specs.Vectors.Shapes.{at}
 use Rattle.step_core.specs.Views.{words_of_run}
 use Rattle.step_core.specs.ViewSteps.{new_hand}
-use Rattle.step_core.specs.Words.{best_word, no_best, point_word, record_word, tree_word}
+use Rattle.grown_runs.specs.Table.Words.{best_word, no_best, point_word, record_word, tree_word}
 use Rattle.step_core.specs.Worlds.{IsWorld}
 use Rattle.step_core.specs.declared.views.Fill.{Fill}
 use Rattle.step_core.specs.declared.views.Hand.{Hand}

@@ -11,7 +11,7 @@ ghost use Rattle.plan_model.specs.Vectors.Runs.{rewired_records};
 ghost use Rattle.plan_model.specs.Vectors.Shapes.{at};
 ghost use Rattle.plan_model.specs.declared.limits.TheConstants.{MOST_MARKS};
 ghost use Rattle.plan_model.specs.declared.scenes.Marks.TheVariants.{Listed};
-ghost use Rattle.step_core.specs.PackedRuns.{state_of_lists};
+ghost use Rattle.grown_runs.specs.Runs.PackedRuns.{state_of_lists};
 
 use plan_model::{
     Goal, Knot, Knots, MOST_MARKS, Memory, Outcome, Point, Record, Records, Sequence, SmallScene,

@@ -1,4 +1,4 @@
-//! Tests of the public calls of `step_core`, in a crate of their own, so that the library is proved once.
+//! Tests of the public calls of `grown_runs` and `step_core`, in a crate of their own, so that the libraries are proved once.
 #![tactic(auto)]
 
 #[cfg(test)]

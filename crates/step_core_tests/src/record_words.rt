@@ -1,6 +1,6 @@
 //! Records that are packed and read.
 
-ghost use Rattle.step_core.specs.Words.{FitsWord};
+ghost use Rattle.grown_runs.specs.Table.Words.{FitsWord};
 
 use plan_model::{Outcome, Record};
 use std::process::Abort;

@@ -6,7 +6,7 @@ use Rattle.std.proofs.lemmas.Bool.{cases_eq, cases_lt}
 use Rattle.std.proofs.lemmas.List.Elements.{All-contains, All-map, All-push, Contains-append_left, Contains-get_or, Contains-push}
 use Rattle.edge_cost.proofs.CostBounds.{cost_of-low}
 use Rattle.plan_model.specs.Geometry.Bounds.{IsBounded}
-use Rattle.step_core.proofs.LawfulSights.{IsBounded-seen}
+use Rattle.step_core.proofs.OneView.LawfulSights.{IsBounded-seen}
 use Rattle.plan_model.specs.declared.configuration_spaces.ConfigurationSpace.{ConfigurationSpace}
 use Rattle.plan_model.specs.declared.geometry.Point.{Point}
 use Rattle.plan_model.specs.Geometry.Cost.{cost_of}
@@ -20,10 +20,10 @@ use Rattle.plan_words.specs.declared.spots.Found.{Found}
 use Rattle.plan_words.specs.States.{GoesOn}
 use Rattle.step_core.specs.LaterViews.{IsLawfulView}
 use Rattle.step_core.specs.Views.{tree_seen}
-use Rattle.step_core.specs.Words.{cost_in, parent_in, tree_word}
+use Rattle.grown_runs.specs.Table.Words.{cost_in, parent_in, tree_word}
 use Rattle.step_core.specs.declared.views.View.{View}
-use Rattle.step_core.proofs.DistinctNumbers.{Contains-cases}
-use Rattle.step_core.proofs.PackedWords.{cost_in-tree_word, parent_in-tree_word}
+use Rattle.step_core.proofs.Seen.DistinctNumbers.{Contains-cases}
+use Rattle.grown_runs.proofs.Table.PackedWords.{cost_in-tree_word, parent_in-tree_word}
 use Rattle.tree_rewire.specs.FoundNodes.{IsWeighed, StandsAsFound}
 use Rattle.tree_rewire.specs.NearNodes.{IsBlockedBelow, IsClearTo, IsNextOf, IsNextWord, IsOpenWord, word_through}
 use Rattle.tree_rewire.specs.SeenCosts.{NamesNothing, SeesAnew, SeesPair, seen_cost_through}

@@ -18,7 +18,7 @@ use Rattle.plan_words.specs.States.{GoesOn, SharedState, run_in}
 use Rattle.step_core.specs.ViewTrees.{IsCostBelow, SeesPoint}
 use Rattle.step_core.specs.Views.{setup_in, tree_seen}
 use Rattle.step_core.specs.declared.views.View.{View}
-use Rattle.step_core.proofs.SeenViews.{IsPresent-later}
+use Rattle.step_core.proofs.OneView.SeenViews.{IsPresent-later}
 use Rattle.tree_rewire.specs.SeenCosts.{IsInReach, NamesNothing, SeesAnew, SeesPair, cost_seen, seen_cost_through}
 use Rattle.tree_rewire.proofs.CostSteps.{seen_cost_through-same, point_of-same}
 use Rattle.tree_rewire.proofs.SeenCosts.{point_later}

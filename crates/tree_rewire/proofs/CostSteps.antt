@@ -12,14 +12,14 @@ use Rattle.plan_words.proofs.PostedGoals.{HasPostedHand-kept}
 use Rattle.plan_words.proofs.Posting.{hand-posted}
 use Rattle.step_core.specs.LaterViews.{IsLawfulView}
 use Rattle.step_core.specs.ViewSteps.{loaded, saw}
-use Rattle.step_core.proofs.SeenByViews.{WritesWord-looked}
+use Rattle.step_core.proofs.Seen.SeenByViews.{WritesWord-looked}
 use Rattle.step_core.specs.ViewTrees.{SeesNode}
 use Rattle.step_core.specs.Views.{sees, tree_seen}
-use Rattle.step_core.specs.WordNames.{Word, WritesWord}
-use Rattle.step_core.specs.WordNames.Word.{Best, ChildOf, Count, Counter, FirstOf, PointOf, RecordOf, TreeOf}
-use Rattle.step_core.specs.Words.{cost_in}
+use Rattle.grown_runs.specs.Table.WordNames.{Word, WritesWord}
+use Rattle.grown_runs.specs.Table.WordNames.Word.{Best, ChildOf, Count, Counter, FirstOf, PointOf, RecordOf, TreeOf}
+use Rattle.grown_runs.specs.Table.Words.{cost_in}
 use Rattle.step_core.specs.declared.views.View.{View}
-use Rattle.step_core.proofs.KeptPoints.{point_at-kept}
+use Rattle.step_core.proofs.OneView.KeptPoints.{point_at-kept}
 use Rattle.tree_rewire.specs.SeenCosts.{IsLoadedSince, NamesNothing, NamesPoint, NamesTreeOrPoint, NamesTree, PassLowers, PassSees, SeesAnew, seen_cost_through}
 use Rattle.tree_rewire.proofs.SeenCosts.{load_shows_none}
 

@@ -9,7 +9,7 @@ use Rattle.plan_words.specs.SearchLists.{numbers_of, weighed}
 use Rattle.plan_words.specs.declared.spots.Found.{Found}
 use Rattle.std.specs.List.{IsDistinct}
 use Rattle.tree_rewire.specs.FoundNodes.{AreOf}
-use Rattle.step_core.proofs.DistinctNumbers.{Contains-cases, Contains-none}
+use Rattle.step_core.proofs.Seen.DistinctNumbers.{Contains-cases, Contains-none}
 
 -- what holds of all records holds of the one that is read
 pub All-at : (P : Found → Type 0) (found : List Found) (i : ℕ) (f : Found) → slice_get found i ≡ Some f → All P found → P f

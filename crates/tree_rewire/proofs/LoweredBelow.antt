@@ -8,8 +8,8 @@ use Rattle.plan_words.specs.Waiting.{HasSeenParent, IsOn}
 use Rattle.plan_words.proofs.GoingOn.{GoesOn-refl, GoesOn-trans}
 use Rattle.step_core.specs.LaterViews.{IsLawfulView}
 use Rattle.step_core.specs.Views.{sees}
-use Rattle.step_core.specs.WordNames.Word.{TreeOf}
-use Rattle.step_core.specs.Words.{cost_in}
+use Rattle.grown_runs.specs.Table.WordNames.Word.{TreeOf}
+use Rattle.grown_runs.specs.Table.Words.{cost_in}
 use Rattle.step_core.specs.declared.views.View.{View}
 use Rattle.tree_rewire.specs.SeenCosts.{NamesTreeOrPoint, PassLowers, SeesPair, cost_seen}
 use Rattle.tree_rewire.specs.Spreads.{IsSpreading, IsWithinParent, IsWithinSeenParent, NoneRises, OnlyAt, QueuesFallen, SpreadsFrom}

@@ -7,7 +7,7 @@ use Rattle.plan_model.specs.declared.geometry.Point.{Point}
 use Rattle.plan_words.specs.SearchLists.{SearchLists, numbers_of}
 use Rattle.plan_words.specs.States.{GoesOn, Lists, PassState, with_lists, with_view}
 use Rattle.plan_words.specs.declared.spots.Found.{Found}
-use Rattle.step_core.proofs.SeenViews.{IsPresent-later}
+use Rattle.step_core.proofs.OneView.SeenViews.{IsPresent-later}
 use Rattle.step_core.specs.Views.{tree_seen}
 use Rattle.step_core.specs.declared.views.View.{View}
 use Rattle.tree_rewire.proofs.ChosenFound.{AllWeighed-seen}

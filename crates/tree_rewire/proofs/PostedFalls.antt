@@ -6,11 +6,11 @@ use Rattle.plan_words.specs.States.{GoesOn}
 use Rattle.plan_words.proofs.PostedGoals.{HasPostedGoals-more, SeesGoal-kept}
 use Rattle.step_core.specs.SeenBests.{SeesGoal}
 use Rattle.step_core.specs.Views.{sees}
-use Rattle.step_core.specs.WordNames.{WritesWord}
-use Rattle.step_core.specs.WordNames.Word.{PointOf, TreeOf}
-use Rattle.step_core.specs.Words.{best_word, cost_in, tree_word}
+use Rattle.grown_runs.specs.Table.WordNames.{WritesWord}
+use Rattle.grown_runs.specs.Table.WordNames.Word.{PointOf, TreeOf}
+use Rattle.grown_runs.specs.Table.Words.{best_word, cost_in, tree_word}
 use Rattle.step_core.specs.declared.views.View.{View}
-use Rattle.step_core.proofs.PackedWords.{cost_in-tree_word}
+use Rattle.grown_runs.proofs.Table.PackedWords.{cost_in-tree_word}
 
 -- a node is lowered, and posted if it is a goal node
 pub HasPostedGoals-lower : (before after : View) (n parent cost value : ℕ) (result : Result Unit (ℕ × ℕ)) → parent < 2 ^ 18 → cost < 2 ^ 44

@@ -14,13 +14,13 @@ use Rattle.step_core.specs.LaterViews.{IsLawfulView}
 use Rattle.step_core.specs.Stages.{has_count, has_first}
 use Rattle.step_core.specs.ViewTrees.{SeesPoint}
 use Rattle.step_core.specs.Views.{sees, tree_seen}
-use Rattle.step_core.specs.WordNames.Word.{FirstOf}
-use Rattle.step_core.specs.Words.{cost_in}
+use Rattle.grown_runs.specs.Table.WordNames.Word.{FirstOf}
+use Rattle.grown_runs.specs.Table.Words.{cost_in}
 use Rattle.step_core.specs.declared.views.Hand.{Hand}
 use Rattle.step_core.specs.declared.views.Stage.{Stage}
 use Rattle.step_core.specs.declared.views.Stage.TheVariants.{Claimed, Counted, Half, Linked, Pointed, Posted, Treed}
 use Rattle.step_core.specs.declared.views.View.{View}
-use Rattle.step_core.proofs.PackedWords.{cost_in-tree_word}
+use Rattle.grown_runs.proofs.Table.PackedWords.{cost_in-tree_word}
 use Rattle.tree_rewire.specs.Rewirings.{HasPlaced}
 use Rattle.tree_rewire.specs.SeenCosts.{IsInReach, SeesPair, cost_seen}
 use Rattle.tree_rewire.proofs.ChosenParents.{points_later}

@@ -15,12 +15,12 @@ use Rattle.plan_words.specs.States.{GoesOn, HasWholeShare}
 use Rattle.step_core.specs.LaterViews.{IsLater, IsLawfulView}
 use Rattle.step_core.specs.ViewTrees.{SeesPoint}
 use Rattle.step_core.specs.Views.{sees, tree_seen}
-use Rattle.step_core.specs.WordNames.{WritesWord}
-use Rattle.step_core.specs.WordNames.Word.{PointOf, TreeOf}
-use Rattle.step_core.specs.Words.{cost_in, parent_in, tree_word}
+use Rattle.grown_runs.specs.Table.WordNames.{WritesWord}
+use Rattle.grown_runs.specs.Table.WordNames.Word.{PointOf, TreeOf}
+use Rattle.grown_runs.specs.Table.Words.{cost_in, parent_in, tree_word}
 use Rattle.step_core.specs.declared.views.View.{View}
-use Rattle.step_core.proofs.PackedWords.{cost_in-tree_word, parent_in-tree_word}
-use Rattle.step_core.proofs.KeptPoints.{point_at-kept}
+use Rattle.grown_runs.proofs.Table.PackedWords.{cost_in-tree_word, parent_in-tree_word}
+use Rattle.step_core.proofs.OneView.KeptPoints.{point_at-kept}
 use Rattle.tree_rewire.specs.Mirrors.{Mirrors}
 use Rattle.tree_rewire.specs.SeenCosts.{SeesPair, cost_seen, seen_cost_through, parent_seen}
 use Rattle.tree_rewire.specs.Spreads.{AllTight, AllTightBut, IsTight, KeepsParents, SeesKnot}

@@ -7,14 +7,14 @@ use Rattle.plan_words.specs.States.{GoesOn}
 use Rattle.step_core.specs.LaterViews.{IsLawfulView}
 use Rattle.step_core.specs.ViewTrees.{SeesNode, SeesPoint}
 use Rattle.step_core.specs.Views.{run_sizes, sees, tree_seen}
-use Rattle.step_core.specs.WordNames.{Word, WritesWord}
-use Rattle.step_core.specs.WordNames.Word.{PointOf, TreeOf}
-use Rattle.step_core.specs.Words.{cost_in, point_of_word}
+use Rattle.grown_runs.specs.Table.WordNames.{Word, WritesWord}
+use Rattle.grown_runs.specs.Table.WordNames.Word.{PointOf, TreeOf}
+use Rattle.grown_runs.specs.Table.Words.{cost_in, point_of_word}
 use Rattle.step_core.specs.declared.views.View.{View}
-use Rattle.step_core.proofs.Looks.{same_name}
-use Rattle.step_core.proofs.ReadWords.{if_written-set}
-use Rattle.step_core.proofs.SeenViews.{SeesPoint-later}
-use Rattle.step_core.proofs.SeenWords.{point_at-seen, seen-within}
+use Rattle.step_core.proofs.Seen.Looks.{same_name}
+use Rattle.grown_runs.proofs.Table.ReadWords.{if_written-set}
+use Rattle.step_core.proofs.OneView.SeenViews.{SeesPoint-later}
+use Rattle.step_core.proofs.Seen.SeenWords.{point_at-seen, seen-within}
 use Rattle.tree_rewire.specs.SeenCosts.{IsLoadedSince, SeesPair, cost_seen, parent_seen}
 
 -- ---- nodes

@@ -8,11 +8,11 @@ use Rattle.plan_model.specs.Trees.PointsByNumber.{IsPresent, point_at, point_of}
 use Rattle.step_core.specs.LaterViews.{IsLater, IsLawfulView}
 use Rattle.step_core.specs.SharedWords.{linked_points, state_of_links}
 use Rattle.step_core.specs.Views.{run_sizes, sees, setup_in, tree_seen}
-use Rattle.step_core.specs.WordNames.Word.{PointOf}
-use Rattle.step_core.specs.WordPlaces.{Sizes}
+use Rattle.grown_runs.specs.Table.WordNames.Word.{PointOf}
+use Rattle.grown_runs.specs.Table.WordPlaces.{Sizes}
 use Rattle.step_core.specs.declared.views.View.{View}
-use Rattle.step_core.proofs.KeptPoints.{point_at-kept}
-use Rattle.step_core.proofs.SeenStates.{linked_points-seen}
+use Rattle.step_core.proofs.OneView.KeptPoints.{point_at-kept}
+use Rattle.step_core.proofs.OneView.SeenStates.{linked_points-seen}
 use Rattle.tree_rewire.specs.SeenCosts.{cost_seen, seen_cost_through, parent_seen}
 use Rattle.tree_rewire.specs.Spreads.{AllTight, AllTightBut, HasSpread, IsSource, KeepsParents, SeesKnot}
 

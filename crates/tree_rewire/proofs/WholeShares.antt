@@ -6,12 +6,12 @@ use Rattle.plan_words.specs.Claims.{SeesAsBefore}
 use Rattle.plan_words.specs.LoweredChildren.{IsLoweredChild, LooksOn, LowersChildren, SeesSamePoints}
 use Rattle.plan_words.specs.States.{HasWholeShare}
 use Rattle.step_core.specs.Views.{sees}
-use Rattle.step_core.specs.WordNames.{Word, WritesWord}
-use Rattle.step_core.specs.WordNames.Word.{Best, ChildOf, Count, Counter, FirstOf, PointOf, RecordOf, TreeOf}
-use Rattle.step_core.specs.Words.{cost_in, parent_in}
+use Rattle.grown_runs.specs.Table.WordNames.{Word, WritesWord}
+use Rattle.grown_runs.specs.Table.WordNames.Word.{Best, ChildOf, Count, Counter, FirstOf, PointOf, RecordOf, TreeOf}
+use Rattle.grown_runs.specs.Table.Words.{cost_in, parent_in}
 use Rattle.step_core.specs.declared.views.SharedRun.{SharedRun}
 use Rattle.step_core.specs.declared.views.View.{View}
-use Rattle.step_core.proofs.Looks.{same_name}
+use Rattle.step_core.proofs.Seen.Looks.{same_name}
 use Rattle.tree_rewire.specs.SeenCosts.{NamesNothing, NamesTree, SeesAnew, SeesPair, cost_seen, parent_seen}
 use Rattle.tree_rewire.specs.Spreads.{KeepsParents}
 

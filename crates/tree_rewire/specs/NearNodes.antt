@@ -7,7 +7,7 @@ use Rattle.plan_model.specs.Trees.PointsByNumber.{point_of}
 use Rattle.plan_words.specs.SearchLists.{numbers_of, weighed}
 use Rattle.plan_words.specs.States.{Lists}
 use Rattle.step_core.specs.Views.{tree_seen}
-use Rattle.step_core.specs.Words.{tree_word}
+use Rattle.grown_runs.specs.Table.Words.{tree_word}
 use Rattle.step_core.specs.declared.views.View.{View}
 use Rattle.tree_rewire.specs.FoundNodes.{IsWeighed, StandsAsFound}
 use Rattle.tree_rewire.specs.SeenCosts.{seen_cost_through}

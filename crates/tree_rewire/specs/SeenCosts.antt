@@ -7,9 +7,9 @@ use Rattle.plan_model.specs.Trees.PointsByNumber.{IsPresent, point_of}
 use Rattle.plan_words.specs.Claims.{KeepsHand}
 use Rattle.plan_words.specs.States.{BelongsTo, GoesOn, PassState, SharedState, with_view}
 use Rattle.step_core.specs.Views.{last_look, sees, tree_seen}
-use Rattle.step_core.specs.WordNames.{ChangesOnly, Word}
-use Rattle.step_core.specs.WordNames.Word.{PointOf, TreeOf}
-use Rattle.step_core.specs.Words.{cost_in, parent_in}
+use Rattle.grown_runs.specs.Table.WordNames.{ChangesOnly, Word}
+use Rattle.grown_runs.specs.Table.WordNames.Word.{PointOf, TreeOf}
+use Rattle.grown_runs.specs.Table.Words.{cost_in, parent_in}
 use Rattle.step_core.specs.declared.views.View.{View}
 
 -- ---- costs

@@ -5,8 +5,8 @@ use Rattle.plan_words.specs.LoweredChildren.{HasQueued}
 use Rattle.plan_words.specs.States.{GoesOn, PassState}
 use Rattle.plan_words.specs.Waiting.{IsOn}
 use Rattle.step_core.specs.Views.{sees, tree_seen}
-use Rattle.step_core.specs.WordNames.{ChangesOnly}
-use Rattle.step_core.specs.WordNames.Word.{TreeOf}
+use Rattle.grown_runs.specs.Table.WordNames.{ChangesOnly}
+use Rattle.grown_runs.specs.Table.WordNames.Word.{TreeOf}
 use Rattle.step_core.specs.declared.views.View.{View}
 use Rattle.tree_rewire.specs.SeenCosts.{NamesTree, SeesPair, cost_seen, seen_cost_through, parent_seen}
 

@@ -7,7 +7,7 @@ ghost use Rattle.plan_model.specs.Trees.OpenNodes.{IsOpenTo};
 ghost use Rattle.plan_model.specs.Trees.PointsByNumber.{IsPresent};
 ghost use Rattle.plan_words.specs.States.{BelongsTo};
 ghost use Rattle.step_core.specs.Views.{tree_seen};
-ghost use Rattle.step_core.specs.Words.{parent_in};
+ghost use Rattle.grown_runs.specs.Table.Words.{parent_in};
 ghost use Rattle.tree_rewire.specs.NearNodes.{AreKnown, IsBlockedBelow, IsClearTo, IsNextOf, IsNextWord, IsOpenWord, nodes_on, word_through};
 ghost use Rattle.tree_rewire.specs.SeenCosts.{NamesNothing, PassSees, seen_cost_through};
 ghost use Rattle.tree_rewire.specs.Spreads.{SeesKnot};

@@ -11,8 +11,8 @@ use Rattle.plan_model.specs.declared.geometry.Point.{Point}
 use Rattle.plan_model.specs.declared.records.Record.{Record}
 use Rattle.plan_model.specs.declared.scenes.Scene.{Scene}
 use Rattle.plan_model.specs.declared.tasks.Task.{Task}
-use Rattle.step_core.specs.GrownRuns.{state_of_grown}
-use Rattle.step_core.specs.declared.grown.Grown.{Grown}
+use Rattle.grown_runs.specs.Runs.GrownRuns.{state_of_grown}
+use Rattle.grown_runs.specs.declared.grown.Grown.{Grown}
 use Rattle.twin_trees.specs.TurnedScenes.{IsTurnedRound, goal_middle}
 use Rattle.twin_trees.specs.Twins.{IsTwin, IsWholeRun}
 use Rattle.twin_trees.specs.declared.twin_runs.Twin.{Twin}

@@ -4,8 +4,8 @@ use Rattle.plan_model.specs.declared.geometry.Point.{Point}
 use Rattle.plan_model.specs.Reports.ReportText.{counts_line, no_path_line, path_line, path_to, point_lines}
 use Rattle.plan_model.specs.Trees.PointsByNumber.{point_of}
 use Rattle.plan_model.specs.Trees.TreeStates.{TreeState, chain_in}
-use Rattle.step_core.specs.GrownRuns.{state_of_grown}
-use Rattle.step_core.specs.declared.grown.Grown.{Grown}
+use Rattle.grown_runs.specs.Runs.GrownRuns.{state_of_grown}
+use Rattle.grown_runs.specs.declared.grown.Grown.{Grown}
 use Rattle.twin_trees.specs.Bridges.{cost_over}
 use Rattle.twin_trees.specs.declared.twin_runs.Twin.{Twin}
 

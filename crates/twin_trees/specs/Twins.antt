@@ -7,8 +7,8 @@ use Rattle.plan_model.specs.Runs.SameRuns.{IsOfTextbookRun}
 use Rattle.plan_model.specs.Runs.Textbook.{setup_of}
 use Rattle.plan_model.specs.Scenes.MarkPoints.{mark_points}
 use Rattle.plan_model.specs.Trees.TreeStates.{IsSettled}
-use Rattle.step_core.specs.declared.grown.Grown.{Grown}
-use Rattle.step_core.specs.GrownRuns.{state_of_grown}
+use Rattle.grown_runs.specs.declared.grown.Grown.{Grown}
+use Rattle.grown_runs.specs.Runs.GrownRuns.{state_of_grown}
 use Rattle.twin_trees.specs.Bridges.{IsBridge}
 use Rattle.twin_trees.specs.TurnedScenes.{IsTurnedRound}
 use Rattle.twin_trees.specs.declared.twin_runs.Twin.{Twin}

@@ -11,7 +11,7 @@ ghost use Rattle.plan_model.specs.Trees.PointsByNumber.{StandsAt};
 ghost use Rattle.plan_model.specs.Trees.TreeStates.{IsSettled};
 ghost use Rattle.point_strips.specs.Discs.{IsWithin};
 ghost use Rattle.point_strips.specs.Walks.{numbered_at};
-ghost use Rattle.step_core.specs.GrownRuns.{state_of_grown};
+ghost use Rattle.grown_runs.specs.Runs.GrownRuns.{state_of_grown};
 ghost use Rattle.twin_trees.specs.BridgeOrder.{IsNoWorse};
 ghost use Rattle.twin_trees.specs.BridgeSearches.{AreNodes, Matches, MayBeBest};
 ghost use Rattle.twin_trees.specs.Bridges.{IsBridge};

@@ -3,7 +3,7 @@
 ghost use Rattle.std.specs.Prelude.{◌≡◌, ◌++◌, IfOk, IfSome, OnOk, string_bytes};
 ghost use Rattle.plan_model.specs.Trees.PointsByNumber.{IsPresent};
 ghost use Rattle.plan_model.specs.Trees.TreeStates.{IsSettled};
-ghost use Rattle.step_core.specs.GrownRuns.{state_of_grown};
+ghost use Rattle.grown_runs.specs.Runs.GrownRuns.{state_of_grown};
 ghost use Rattle.twin_trees.specs.Bridges.{cost_over};
 ghost use Rattle.twin_trees.specs.TwinReports.{bridge_lines, joined_path, twin_text, way_after};
 

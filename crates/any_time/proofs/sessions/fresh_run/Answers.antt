@@ -2,7 +2,7 @@ use Rattle.std.proofs.Common.{take}
 use Rattle.plan_model.proofs.SameTrees.{IsSettled-of_textbook}
 use Rattle.plan_model.specs.Runs.Textbook.{setup_of}
 use Rattle.plan_work.proofs.TextbookEnds.{IsOfTextbook-new}
-use Rattle.step_core.specs.GrownRuns.{state_of_grown}
+use Rattle.grown_runs.specs.Runs.GrownRuns.{state_of_grown}
 use Rattle.any_time.proofs.sessions.fresh_run.Goals as goal
 
 pub returns-clause-textbook : goal.returns-clause-textbook

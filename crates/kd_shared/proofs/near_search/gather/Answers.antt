@@ -5,7 +5,7 @@ use Rattle.plan_words.specs.States.{PassState, with_lists}
 use Rattle.plan_words.specs.declared.spots.Spot.{Spot}
 use Rattle.plan_model.specs.Geometry.Bounds.{IsBounded}
 use Rattle.plan_model.specs.Geometry.Plane.{squared_distance}
-use Rattle.step_core.specs.WordNames.Word.{PointOf}
+use Rattle.grown_runs.specs.Table.WordNames.Word.{PointOf}
 use Rattle.kd_shared.specs.Looking.{searched}
 use Rattle.kd_shared.specs.Spots.{Notes, side_distance}
 use Rattle.kd_shared.proofs.Looking.{LoadsPoint-point, SeesNode-later}

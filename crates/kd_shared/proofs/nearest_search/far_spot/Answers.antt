@@ -5,7 +5,7 @@ use Rattle.plan_model.specs.Seen.Sights.{Sight}
 use Rattle.plan_model.proofs.SightLaws.{IsLaterMoment-refl}
 use Rattle.plan_words.specs.declared.spots.Spot.{Spot}
 use Rattle.step_core.specs.ViewTrees.{sight_in}
-use Rattle.step_core.proofs.LawfulSights.{KeepsSight-lawful}
+use Rattle.step_core.proofs.OneView.LawfulSights.{KeepsSight-lawful}
 use Rattle.kd_shared.specs.FarSides.{far_side, line_square, LoadsFar, LoadsSpot}
 use Rattle.kd_shared.proofs.nearest_search.far_spot.Goals as goal
 

@@ -4,8 +4,8 @@ use Rattle.plan_model.specs.Geometry.Plane.{squared_distance}
 use Rattle.plan_words.specs.SearchLists.{point_of_spot}
 use Rattle.plan_words.specs.States.{with_lists}
 use Rattle.plan_words.specs.declared.spots.Spot.{Spot}
-use Rattle.step_core.specs.WordNames.Word.{PointOf}
-use Rattle.step_core.specs.declared.measured_nodes.MeasuredNode.{MeasuredNode}
+use Rattle.grown_runs.specs.Table.WordNames.Word.{PointOf}
+use Rattle.grown_runs.specs.declared.measured_nodes.MeasuredNode.{MeasuredNode}
 use Rattle.kd_shared.proofs.Looking.{LoadsPoint-point}
 use Rattle.kd_shared.proofs.NearestPasses.{half_seen, half_seen_stack, here_bounded, here_seen, IsSeekingPass, IsSeekingPass-begins, IsSeekingPass-ends}
 use Rattle.kd_shared.proofs.NearestPasses.{IsSeekingPass-walks, stack_room, visits_low, VisitsHere, walked_looks}

@@ -4,9 +4,9 @@ use Rattle.plan_model.specs.declared.geometry.Point.{Point}
 use Rattle.plan_model.specs.Seen.Sights.{Sight}
 use Rattle.plan_words.specs.States.{PassState}
 use Rattle.plan_words.specs.declared.spots.Spot.{Spot}
-use Rattle.step_core.specs.GrownWords.{child_of_word}
+use Rattle.grown_runs.specs.Runs.GrownWords.{child_of_word}
 use Rattle.step_core.specs.ViewTrees.{sight_in}
-use Rattle.step_core.specs.WordNames.Word.{ChildOf}
+use Rattle.grown_runs.specs.Table.WordNames.Word.{ChildOf}
 use Rattle.kd_shared.specs.FarSides.{far_side, line_square, StacksFar}
 use Rattle.kd_shared.specs.Loads.{LoadsChild}
 use Rattle.kd_shared.specs.Looking.{OnlyLooks, PassLooks}

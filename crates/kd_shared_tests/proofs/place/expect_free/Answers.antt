@@ -1,4 +1,4 @@
-use Rattle.step_core.specs.WordNames.Word.{RecordOf}
+use Rattle.grown_runs.specs.Table.WordNames.Word.{RecordOf}
 use Rattle.kd_shared_tests.proofs.SteeredMarks.{SteersFrom-kept}
 use Rattle.kd_shared_tests.proofs.place.expect_free.Goals as goal
 

@@ -7,9 +7,9 @@ use Rattle.plan_words.proofs.NearestParents.{IsBounded-hand}
 use Rattle.step_core.specs.Stages.{has_link, has_point}
 use Rattle.step_core.specs.ViewSteps.{half, treed}
 use Rattle.step_core.specs.Views.{sees}
-use Rattle.step_core.specs.WordNames.Word.{RecordOf}
+use Rattle.grown_runs.specs.Table.WordNames.Word.{RecordOf}
 use Rattle.step_core.specs.declared.views.Stage.TheVariants.{Half}
-use Rattle.step_core.proofs.SeenViews.{SeesPoint-later}
+use Rattle.step_core.proofs.OneView.SeenViews.{SeesPoint-later}
 use Rattle.kd_shared_tests.proofs.SteeredMarks.{HangsBelowNearest-hung, MayHang-steered, SteersFrom-looked, sees_nearest}
 use Rattle.kd_shared_tests.proofs.support.hang_from_nearest.Goals as goal
 

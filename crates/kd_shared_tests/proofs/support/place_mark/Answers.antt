@@ -1,5 +1,5 @@
 use Rattle.kd_shared_tests.proofs.SteeredMarks.{HangsBelowNearest-placing}
-use Rattle.step_core.specs.WordNames.Word.{RecordOf}
+use Rattle.grown_runs.specs.Table.WordNames.Word.{RecordOf}
 use Rattle.kd_shared_tests.proofs.support.place_mark.Goals as goal
 
 pub returns-clause-hangs : goal.returns-clause-hangs

@@ -1,7 +1,7 @@
 use Rattle.std.proofs.Common.{◌≡◌, ◌-◌, [], length}
 use Rattle.std.specs.Prelude.{IfSome}
 use Rattle.plan_model.specs.Trees.PointsByNumber.{IsPresent}
-use Rattle.step_core.specs.PackedRuns.{state_of_lists}
+use Rattle.grown_runs.specs.Runs.PackedRuns.{state_of_lists}
 use Rattle.settle_report.proofs.GoalNodes.{best_of}
 use Rattle.path_tools.proofs.best_paths.best.Given as goal
 

@@ -1,6 +1,6 @@
 use Rattle.std.proofs.Common.{◌≡◌, [], ◌++◌}
 use Rattle.plan_model.specs.Trees.PointsByNumber.{IsPresent}
-use Rattle.step_core.specs.PackedRuns.{state_of_lists}
+use Rattle.grown_runs.specs.Runs.PackedRuns.{state_of_lists}
 use Rattle.settle_report.proofs.GrownPaths.{points_up}
 use Rattle.path_tools.proofs.best_paths.path_back.Given as goal
 

@@ -1,5 +1,5 @@
 use Rattle.std.proofs.Common.{[], reverse, sym, ap, ◌∙◌}
-use Rattle.step_core.specs.PackedRuns.{state_of_lists}
+use Rattle.grown_runs.specs.Runs.PackedRuns.{state_of_lists}
 use Rattle.settle_report.proofs.GrownPaths.{path_to-reverse}
 use Rattle.path_tools.proofs.best_paths.path_to.Goals as goal
 

@@ -2,7 +2,7 @@ use Rattle.std.proofs.Common.{◌≡◌, Some, length, arith, ap, sym, ◌∙◌
 use Rattle.std.proofs.lemmas.Option.{slice_get_within}
 use Rattle.plan_model.specs.declared.records.Record.{Record}
 use Rattle.path_tools.specs.JudgedRuns.{KeepsRecord, KeepsRecordBetween}
-use Rattle.step_core.specs.PackedRuns.{state_of_lists}
+use Rattle.grown_runs.specs.Runs.PackedRuns.{state_of_lists}
 use Rattle.path_tools.specs.Standings.{AreStandings}
 use Rattle.path_tools.proofs.OwnMarkLaws.{IsFirstBreak-seen, mark_among, mark_of}
 use Rattle.path_tools.proofs.OwnNodeLaws.{AreStandings-earlier}

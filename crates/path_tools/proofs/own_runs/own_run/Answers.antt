@@ -1,5 +1,5 @@
 use Rattle.std.proofs.Common.{arith, ◌∙◌, subst}
-use Rattle.step_core.specs.PackedRuns.{state_of_lists}
+use Rattle.grown_runs.specs.Runs.PackedRuns.{state_of_lists}
 use Rattle.path_tools.specs.SeenNodes.{AreSeen}
 use Rattle.path_tools.specs.Standings.{AreStandings}
 use Rattle.path_tools.proofs.own_runs.own_run.Goals as goal

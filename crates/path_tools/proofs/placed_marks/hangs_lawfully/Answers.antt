@@ -5,7 +5,7 @@ use Rattle.plan_model.specs.declared.trees.Knot.{Knot}
 use Rattle.plan_model.specs.Runs.OrderLaw.{Hangs}
 use Rattle.plan_model.specs.Runs.Textbook.{setup_of}
 use Rattle.plan_model.specs.Trees.PointsByNumber.{StandsAt, node_count}
-use Rattle.step_core.specs.PackedRuns.{kept_cost_of}
+use Rattle.grown_runs.specs.Runs.PackedRuns.{kept_cost_of}
 use Rattle.path_tools.specs.JudgedRuns.{run_of}
 use Rattle.path_tools.proofs.HangingNodes.{Hangs-listed, listed-Hangs}
 use Rattle.path_tools.proofs.placed_marks.hangs_lawfully.Goals as goal

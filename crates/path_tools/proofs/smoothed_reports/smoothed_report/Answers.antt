@@ -1,7 +1,7 @@
 use Rattle.std.proofs.Common.{Some, sym, ◌∙◌}
 use Rattle.plan_model.specs.Trees.BestNode.{goals_of}
 use Rattle.settle_report.proofs.GoalNodes.{IsPresent-best}
-use Rattle.step_core.specs.GrownRuns.{state_of_grown}
+use Rattle.grown_runs.specs.Runs.GrownRuns.{state_of_grown}
 use Rattle.path_tools.proofs.smoothed_reports.smoothed_report.Goals as goal
 
 pub report_along_smoothed-requires-clause-present : goal.report_along_smoothed-requires-clause-present

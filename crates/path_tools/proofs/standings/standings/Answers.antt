@@ -1,6 +1,6 @@
 use Rattle.std.proofs.Common.{◌≡◌, ℕ, suc, [], ◌∷◌, ◌++◌, ◌<◌, ◌≤◌, Option, Some, None, length, length-append, arith, sym, ap, ◌∙◌, subst, inl, inr}
 use Rattle.std.specs.Prelude.{IfSome, slice_index_or}
-use Rattle.step_core.specs.PackedRuns.{state_of_lists}
+use Rattle.grown_runs.specs.Runs.PackedRuns.{state_of_lists}
 use Rattle.std.proofs.lemmas.Bool.{cases_lt}
 use Rattle.std.proofs.lemmas.List.{get_or_push}
 use Rattle.plan_model.specs.declared.limits.TheConstants.{MOST_MARKS}

@@ -1,7 +1,7 @@
 use Rattle.std.proofs.Common.{List, [], take, Option, arith, ◌∙◌, ap}
 use Rattle.std.specs.Prelude.{count_by, is_some}
 use Rattle.plan_model.specs.declared.trees.Knot.{Knot}
-use Rattle.step_core.proofs.PackedLists.{node_count-lists}
+use Rattle.grown_runs.proofs.Runs.PackedLists.{node_count-lists}
 use Rattle.path_tools.specs.SheetsRead.{sheet_read}
 use Rattle.path_tools.proofs.SheetForms.{length-head_lines}
 use Rattle.path_tools.proofs.verdicts.node_line.Goals as goal

@@ -1,7 +1,7 @@
 use Rattle.std.proofs.Common.{◌≢◌, ℕ, ◌<◌}
 use Rattle.plan_words.proofs.ends.first_unrecorded.Given as goal
-use Rattle.step_core.specs.RunWords.{words_in}
-use Rattle.step_core.specs.WordNames.Word.{RecordOf}
+use Rattle.grown_runs.specs.Table.RunWords.{words_in}
+use Rattle.grown_runs.specs.Table.WordNames.Word.{RecordOf}
 
 -- the marks so far have records
 abbrev pub invariant-loop-mark : goal.invariant-loop-mark

@@ -12,7 +12,7 @@ use Rattle.plan_words_tests.specs.HeldMarks.{HoldsMark}
 use Rattle.step_core.specs.SeenBests.{MayPost}
 use Rattle.step_core.specs.ViewTrees.{SeesNode}
 use Rattle.step_core.specs.Views.{sees, tree_seen}
-use Rattle.step_core.specs.WordNames.Word.{TreeOf}
+use Rattle.grown_runs.specs.Table.WordNames.Word.{TreeOf}
 use Rattle.step_core.specs.declared.views.Stage.TheVariants.{Counted}
 
 pub tree-at-requires-clause-seen_node : goal.tree-at-requires-clause-seen_node

@@ -5,7 +5,7 @@ use Rattle.plan_words.specs.Claims.{AllFull, KeepsHand}
 use Rattle.plan_words.specs.States.{PassState}
 use Rattle.plan_words_tests.proofs.end.end_of_left.Goals as goal
 use Rattle.step_core.specs.Views.{sees}
-use Rattle.step_core.specs.WordNames.Word.{Counter}
+use Rattle.grown_runs.specs.Table.WordNames.Word.{Counter}
 
 pub end_retired-requires-clause-none_left : goal.end_retired-requires-clause-none_left
 end_retired-requires-clause-none_left g c =

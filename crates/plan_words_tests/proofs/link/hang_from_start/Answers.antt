@@ -5,7 +5,7 @@ use Rattle.plan_words.proofs.HandSteps.{at_hand}
 use Rattle.plan_words.proofs.NearestParents.{IsBounded-hand, MayHang-start}
 use Rattle.step_core.specs.SeenBests.{IsUnskipped}
 use Rattle.step_core.specs.Stages.{has_point}
-use Rattle.step_core.proofs.SeenViews.{SeesPoint-later}
+use Rattle.step_core.proofs.OneView.SeenViews.{SeesPoint-later}
 use Rattle.plan_words.specs.States.{with_view}
 use Rattle.step_core.specs.ViewSteps.{half, treed}
 use Rattle.step_core.specs.declared.views.Stage.TheVariants.{Half}

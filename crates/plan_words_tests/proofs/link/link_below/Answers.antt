@@ -5,7 +5,7 @@ use Rattle.plan_words_tests.proofs.FirstRecords.{HangsFromStart-kept, HangsFromS
 use Rattle.plan_words_tests.proofs.HeldMarks.{HoldsMark-kept, HoldsMark-linked}
 use Rattle.plan_words_tests.proofs.LinkedPlaces.{LeadsTo-below, of_hand}
 use Rattle.plan_words_tests.proofs.link.link_below.Goals as goal
-use Rattle.step_core.proofs.SeenViews.{HasSeenAtLeast-later}
+use Rattle.step_core.proofs.OneView.SeenViews.{HasSeenAtLeast-later}
 use Rattle.step_core.specs.ViewTrees.{LeadsTo}
 use Rattle.step_core.specs.declared.views.Stage.TheVariants.{Treed}
 

@@ -1,6 +1,6 @@
 use Rattle.std.proofs.Common.{arith, subst}
 use Rattle.plan_work.specs.Extensions.{EndsAsSeen}
-use Rattle.step_core.specs.WordNames.Word.{TreeOf}
+use Rattle.grown_runs.specs.Table.WordNames.Word.{TreeOf}
 use Rattle.tree_rewire.proofs.SeenCosts.{cost_seen-later}
 use Rattle.plan_words.proofs.GoingOn.{GoesOn-trans}
 use Rattle.plan_work.proofs.FilledNear.{looked_since}

@@ -7,7 +7,7 @@ use Rattle.plan_work.proofs.SharedRuns.{GrowsInto-all, HasHandled-alone, all_may
 use Rattle.plan_work.proofs.growing.grow.Goals as goal
 use Rattle.plan_work.specs.OneWorker.{SeesTextbook}
 use Rattle.plan_work.specs.Workers.{HasRetired, HasTakenOver, IsReady, left_of}
-use Rattle.step_core.specs.GrownRuns.{state_of_grown}
+use Rattle.grown_runs.specs.Runs.GrownRuns.{state_of_grown}
 use Rattle.step_core.specs.LaterViews.{IsLawfulView}
 
 pub work_all-requires-clause-ready : goal.work_all-requires-clause-ready

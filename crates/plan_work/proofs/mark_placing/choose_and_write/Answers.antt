@@ -13,7 +13,7 @@ use Rattle.plan_work.proofs.mark_placing.choose_and_write.Goals as goal
 use Rattle.plan_work.specs.ExtensionSteps.{IsHung, IsPointed}
 use Rattle.step_core.specs.ViewTrees.{MayHang}
 use Rattle.step_core.specs.Views.{setup_in}
-use Rattle.step_core.specs.WordNames.Word.{Count}
+use Rattle.grown_runs.specs.Table.WordNames.Word.{Count}
 use Rattle.step_core.specs.declared.views.SharedRun.{SharedRun}
 use Rattle.tree_rewire.specs.SeenCosts.{NamesTree}
 

@@ -15,7 +15,7 @@ use Rattle.step_core.specs.Stages.{has_count}
 use Rattle.step_core.specs.ViewSteps.{pair_in_hand}
 use Rattle.step_core.specs.ViewTrees.{SeesPoint}
 use Rattle.step_core.specs.Views.{sees}
-use Rattle.step_core.specs.WordNames.Word.{FirstOf}
+use Rattle.grown_runs.specs.Table.WordNames.Word.{FirstOf}
 use Rattle.tree_rewire.proofs.ChosenParents.{IsInReach-later}
 use Rattle.plan_work.proofs.PlacedHands.{HasPlaced-come}
 use Rattle.plan_work.proofs.SkippedMarks.{HasPostedHand-placed, has_count-placed}

@@ -8,8 +8,8 @@ use Rattle.step_core.specs.SeenBests.{MayPost}
 use Rattle.step_core.specs.ViewSteps.{hand_with_post, with_best}
 use Rattle.step_core.specs.ViewTrees.{SeesPoint}
 use Rattle.step_core.specs.Views.{sees}
-use Rattle.step_core.specs.WordNames.Word.{TreeOf}
-use Rattle.step_core.specs.Words.{best_word, cost_in}
+use Rattle.grown_runs.specs.Table.WordNames.Word.{TreeOf}
+use Rattle.grown_runs.specs.Table.Words.{best_word, cost_in}
 use Rattle.step_core.specs.declared.views.SharedRun.{SharedRun}
 
 pub post-requires-clause-may : goal.post-requires-clause-may

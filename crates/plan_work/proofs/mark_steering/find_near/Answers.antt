@@ -13,10 +13,9 @@ use Rattle.plan_work.proofs.MirroredTrees.{points_still}
 use Rattle.plan_work.proofs.WholeLists.{HasWholeShare-kept, IsFilledWhole-found, SeesButCount-all, SeesButCount-trans}
 use Rattle.plan_work.specs.WholeShares.{SeesButCount}
 use Rattle.step_core.specs.Views.{tree_seen}
-use Rattle.step_core.specs.WordNames.Word.{PointOf}
+use Rattle.grown_runs.specs.Table.WordNames.Word.{PointOf, Count}
 use Rattle.plan_work.proofs.mark_steering.find_near.Goals as goal
 use Rattle.step_core.specs.ViewTrees.{sight_in}
-use Rattle.step_core.specs.WordNames.Word.{Count}
 use Rattle.step_core.specs.declared.views.SharedRun.{SharedRun}
 
 pub at-requires-clause-some : goal.at-requires-clause-some

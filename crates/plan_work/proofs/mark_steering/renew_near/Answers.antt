@@ -8,7 +8,7 @@ use Rattle.plan_work.proofs.KeptRecords.{KeepsRecords-number, KeepsRecords-trans
 use Rattle.plan_work.proofs.TriedMarks.{HasFilledNear-recounted}
 use Rattle.plan_work.proofs.WholeLists.{HasCounted-kept, HasWholeShare-kept, IsFilledWhole-still, SeesButCount-trans}
 use Rattle.plan_work.specs.WholeShares.{IsFilledWhole, SeesButCount}
-use Rattle.step_core.specs.WordNames.Word.{PointOf}
+use Rattle.grown_runs.specs.Table.WordNames.Word.{PointOf}
 use Rattle.plan_work.proofs.mark_steering.renew_near.Goals as goal
 use Rattle.plan_work.specs.ExtensionSteps.{HasFilledNear}
 

@@ -12,7 +12,7 @@ use Rattle.plan_work.proofs.HeldMarks.{mark_low, mark_shown}
 use Rattle.plan_work.proofs.KeptSights.{HasSteered-found}
 use Rattle.tree_rewire.proofs.CostSteps.{PassSees-point}
 use Rattle.plan_work.proofs.mark_steering.steer_from_nearest.Goals as goal
-use Rattle.step_core.specs.WordNames.Word.{PointOf}
+use Rattle.grown_runs.specs.Table.WordNames.Word.{PointOf}
 
 pub bounds-as_slice-k : goal.bounds-as_slice-k
 bounds-as_slice-k c =

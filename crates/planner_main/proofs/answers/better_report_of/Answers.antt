@@ -3,7 +3,7 @@ use Rattle.std.specs.Prelude.{is_some}
 use Rattle.any_time.specs.BetterReports.{better_report}
 use Rattle.planner_main.specs.Conclusions.{IsBetterReport, status_of_report}
 use Rattle.planner_main.proofs.Successes.{ReportsGrown-answer}
-use Rattle.step_core.specs.GrownRuns.{state_of_grown}
+use Rattle.grown_runs.specs.Runs.GrownRuns.{state_of_grown}
 use Rattle.planner_main.proofs.answers.better_report_of.Goals as goal
 
 pub returns-clause-reported : goal.returns-clause-reported

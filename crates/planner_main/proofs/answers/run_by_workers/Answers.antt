@@ -6,7 +6,7 @@ use Rattle.plan_model.specs.declared.tasks.Task.{Task}
 use Rattle.plan_model.proofs.SettledRuns.{IsOfTextbookRun-settled}
 use Rattle.plan_work.proofs.TextbookEnds.{IsOfTextbook-new, IsOfTextbookRun-whole}
 use Rattle.planner_main.proofs.answers.run_by_workers.Goals as goal
-use Rattle.step_core.specs.GrownRuns.{state_of_grown}
+use Rattle.grown_runs.specs.Runs.GrownRuns.{state_of_grown}
 
 pub overflow_cast-limit : goal.overflow_cast-limit
 overflow_cast-limit g c =

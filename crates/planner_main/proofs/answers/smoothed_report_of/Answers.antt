@@ -4,7 +4,7 @@ use Rattle.path_tools.specs.SmoothedReports.{IsSmoothedReport}
 use Rattle.planner_main.specs.Conclusions.{status_of_report}
 use Rattle.planner_main.proofs.Successes.{ReportsGrown-answer}
 use Rattle.planner_main.proofs.answers.smoothed_report_of.Goals as goal
-use Rattle.step_core.specs.GrownRuns.{state_of_grown}
+use Rattle.grown_runs.specs.Runs.GrownRuns.{state_of_grown}
 
 pub returns-clause-reported : goal.returns-clause-reported
 returns-clause-reported c =

@@ -3,7 +3,7 @@ use Rattle.plan_model.specs.Trees.BestNode.{goals_of}
 use Rattle.plan_model.specs.Trees.LeastPairs.{lesser}
 use Rattle.plan_model.specs.Trees.TreeStates.{sum_in}
 use Rattle.plan_model.proofs.MarkBounds.{length-marks}
-use Rattle.step_core.specs.GrownRuns.{state_of_grown}
+use Rattle.grown_runs.specs.Runs.GrownRuns.{state_of_grown}
 use Rattle.settle_report.proofs.GoalNodes.{best_of, best_of-goal_node, best_of-other, best_of-all}
 use Rattle.settle_report.proofs.best_node.best.Goals as goal
 

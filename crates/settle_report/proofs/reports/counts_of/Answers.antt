@@ -1,7 +1,7 @@
 use Rattle.std.proofs.Common.{refl, arith, ap, ◌∙◌}
 use Rattle.plan_model.specs.declared.records.Outcome.TheVariants.{Placed, Same, Blocked, Skipped}
 use Rattle.plan_model.specs.Runs.Outcomes.{is_placed, is_same, is_blocked, is_skipped}
-use Rattle.step_core.specs.GrownRuns.{state_of_grown}
+use Rattle.grown_runs.specs.Runs.GrownRuns.{state_of_grown}
 use Rattle.settle_report.proofs.CountedMarks.{counted-here, counted-elsewhere}
 use Rattle.settle_report.proofs.reports.counts_of.Goals as goal
 use Rattle.settle_report.proofs.reports.counts_of.Goals.{in-Placed, in-Same, in-Blocked, in-Skipped}

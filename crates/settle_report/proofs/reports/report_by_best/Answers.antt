@@ -1,5 +1,5 @@
 use Rattle.plan_model.specs.Trees.BestNode.{goals_of}
-use Rattle.step_core.specs.GrownRuns.{state_of_grown}
+use Rattle.grown_runs.specs.Runs.GrownRuns.{state_of_grown}
 use Rattle.settle_report.proofs.GoalNodes.{IsPresent-best}
 use Rattle.settle_report.proofs.reports.report_by_best.Goals as goal
 

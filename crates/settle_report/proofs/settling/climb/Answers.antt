@@ -1,5 +1,5 @@
 use Rattle.std.proofs.Common.{◌<◌, length, arith, sym}
-use Rattle.step_core.specs.GrownRuns.{state_of_grown}
+use Rattle.grown_runs.specs.Runs.GrownRuns.{state_of_grown}
 use Rattle.settle_report.specs.SettledMarks.{IsChildOf}
 use Rattle.settle_report.proofs.GrownPaths.{FallAlong-grown}
 use Rattle.settle_report.proofs.HeldOrders.{number-grown, parent-grown}

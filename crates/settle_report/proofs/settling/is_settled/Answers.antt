@@ -1,6 +1,6 @@
 use Rattle.std.proofs.Common.{rules, arith, inl, inr, subst, sym}
 use Rattle.std.proofs.lemmas.Bool.{cases_eq}
-use Rattle.step_core.specs.GrownRuns.{state_of_grown}
+use Rattle.grown_runs.specs.Runs.GrownRuns.{state_of_grown}
 use Rattle.settle_report.specs.TightNodes.{IsTight}
 use Rattle.settle_report.proofs.TightNodes.{IsSettled-tight, IsTight-settled}
 use Rattle.settle_report.proofs.settling.is_settled.Goals as goal

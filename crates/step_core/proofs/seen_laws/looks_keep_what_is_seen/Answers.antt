@@ -1,4 +1,4 @@
-use Rattle.step_core.proofs.Looks.{AreBehind-looks, IsLaterMoment-looks, IsRooted-looks}
+use Rattle.step_core.proofs.Seen.Looks.{AreBehind-looks, IsLaterMoment-looks, IsRooted-looks}
 use Rattle.step_core.proofs.seen_laws.looks_keep_what_is_seen.Goals as goal
 
 pub returns-clause-behind : goal.returns-clause-behind

@@ -1,5 +1,5 @@
-use Rattle.step_core.proofs.WorldSteps.{higher-found}
-use Rattle.step_core.proofs.SteppedWorlds.{IsWorld-stepped}
+use Rattle.step_core.proofs.Steps.WorldSteps.{higher-found}
+use Rattle.step_core.proofs.Steps.SteppedWorlds.{IsWorld-stepped}
 use Rattle.step_core.specs.Steps.{Step}
 use Rattle.step_core.proofs.world_laws.claims_keep_the_law.Goals as goal
 

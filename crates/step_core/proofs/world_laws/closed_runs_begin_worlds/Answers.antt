@@ -1,4 +1,4 @@
-use Rattle.step_core.proofs.WorldStarts.{IsWorld-started}
+use Rattle.step_core.proofs.Steps.WorldStarts.{IsWorld-started}
 use Rattle.step_core.proofs.world_laws.closed_runs_begin_worlds.Goals as goal
 
 pub returns : goal.returns

@@ -1,6 +1,6 @@
-use Rattle.step_core.proofs.LawfulRecords.{own_count-most}
-use Rattle.step_core.proofs.WorldLinks.{count-most}
-use Rattle.step_core.proofs.SteppedWorlds.{IsWorld-stepped}
+use Rattle.step_core.proofs.Parts.LawfulRecords.{own_count-most}
+use Rattle.step_core.proofs.Parts.WorldLinks.{count-most}
+use Rattle.step_core.proofs.Steps.SteppedWorlds.{IsWorld-stepped}
 use Rattle.step_core.specs.Steps.{Step}
 use Rattle.step_core.proofs.world_laws.counts_keep_the_law.Goals as goal
 

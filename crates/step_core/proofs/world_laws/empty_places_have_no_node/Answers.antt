@@ -2,8 +2,8 @@ use Rattle.std.proofs.Common.{subst}
 use Rattle.plan_model.specs.Trees.PointsByNumber.{IsFree}
 use Rattle.step_core.specs.SharedWords.{linked_points}
 use Rattle.step_core.specs.Views.{run_sizes}
-use Rattle.step_core.proofs.LawfulSights.{IsFree-leads}
-use Rattle.step_core.proofs.WorldSteps.{follow, tree}
+use Rattle.step_core.proofs.OneView.LawfulSights.{IsFree-leads}
+use Rattle.step_core.proofs.Steps.WorldSteps.{follow, tree}
 use Rattle.step_core.proofs.world_laws.empty_places_have_no_node.Goals as goal
 
 pub returns : goal.returns

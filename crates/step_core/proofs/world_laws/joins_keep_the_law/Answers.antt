@@ -1,6 +1,6 @@
 use Rattle.std.proofs.Common.{refl}
-use Rattle.step_core.proofs.WorldJoins.{AreBehind-joined, AreBehind-other}
-use Rattle.step_core.proofs.SteppedWorlds.{IsWorld-stepped}
+use Rattle.step_core.proofs.Steps.WorldJoins.{AreBehind-joined, AreBehind-other}
+use Rattle.step_core.proofs.Steps.SteppedWorlds.{IsWorld-stepped}
 use Rattle.step_core.specs.Steps.{Step}
 use Rattle.step_core.proofs.world_laws.joins_keep_the_law.Goals as goal
 

@@ -1,4 +1,4 @@
-use Rattle.step_core.proofs.LawfulSights.{IsLaterMoment-later, KeepsSight-lawful}
+use Rattle.step_core.proofs.OneView.LawfulSights.{IsLaterMoment-later, KeepsSight-lawful}
 use Rattle.step_core.proofs.world_laws.lawful_views_are_sights.Goals as goal
 
 pub returns-clause-keeps : goal.returns-clause-keeps

@@ -1,8 +1,8 @@
 use Rattle.std.proofs.Common.{refl}
-use Rattle.step_core.proofs.LinkedWays.{IsSome-seen_point}
-use Rattle.step_core.proofs.WorldLowers.{IsSome-seen_tree}
-use Rattle.step_core.proofs.WorldSteps.{AreBehind-loaded, follow, tree}
-use Rattle.step_core.proofs.SteppedWorlds.{IsWorld-stepped}
+use Rattle.step_core.proofs.Parts.LinkedWays.{IsSome-seen_point}
+use Rattle.step_core.proofs.Steps.WorldLowers.{IsSome-seen_tree}
+use Rattle.step_core.proofs.Steps.WorldSteps.{AreBehind-loaded, follow, tree}
+use Rattle.step_core.proofs.Steps.SteppedWorlds.{IsWorld-stepped}
 use Rattle.step_core.specs.Steps.{Step}
 use Rattle.step_core.proofs.world_laws.loads_keep_the_law.Goals as goal
 

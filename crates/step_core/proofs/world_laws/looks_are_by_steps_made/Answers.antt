@@ -1,5 +1,5 @@
 use Rattle.std.proofs.Common.{arith}
-use Rattle.step_core.proofs.WorldSteps.{live}
+use Rattle.step_core.proofs.Steps.WorldSteps.{live}
 use Rattle.step_core.proofs.world_laws.looks_are_by_steps_made.Goals as goal
 
 pub returns-clause-looked : goal.returns-clause-looked

@@ -1,4 +1,4 @@
-use Rattle.step_core.proofs.SteppedWorlds.{IsWorld-stepped}
+use Rattle.step_core.proofs.Steps.SteppedWorlds.{IsWorld-stepped}
 use Rattle.step_core.specs.Steps.{Step}
 use Rattle.step_core.proofs.world_laws.records_keep_the_law.Goals as goal
 

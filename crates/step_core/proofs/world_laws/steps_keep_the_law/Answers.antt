@@ -1,4 +1,4 @@
-use Rattle.step_core.proofs.SteppedWorlds.{AreBehind-stepped, IsLater-step, IsWorld-stepped, best-stepped}
+use Rattle.step_core.proofs.Steps.SteppedWorlds.{AreBehind-stepped, IsLater-step, IsWorld-stepped, best-stepped}
 use Rattle.step_core.proofs.world_laws.steps_keep_the_law.Goals as goal
 
 pub returns-clause-law : goal.returns-clause-law

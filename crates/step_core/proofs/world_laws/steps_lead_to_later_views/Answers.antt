@@ -1,4 +1,4 @@
-use Rattle.step_core.proofs.LaterViews.{IsLater-refl, IsLater-trans}
+use Rattle.step_core.proofs.OneView.LaterViews.{IsLater-refl, IsLater-trans}
 use Rattle.step_core.proofs.world_laws.steps_lead_to_later_views.Goals as goal
 
 pub returns-clause-stay : goal.returns-clause-stay

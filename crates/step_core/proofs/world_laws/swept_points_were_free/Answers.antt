@@ -1,4 +1,4 @@
-use Rattle.step_core.proofs.Histories.{HasCome-linked, HasCome-other, WasFree-swept}
+use Rattle.step_core.proofs.Whole.Histories.{HasCome-linked, HasCome-other, WasFree-swept}
 use Rattle.step_core.proofs.world_laws.swept_points_were_free.Goals as goal
 
 pub returns-clause-swept : goal.returns-clause-swept

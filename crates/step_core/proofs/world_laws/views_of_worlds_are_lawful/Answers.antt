@@ -1,4 +1,4 @@
-use Rattle.step_core.proofs.LaterViews.{IsLawfulView-world}
+use Rattle.step_core.proofs.OneView.LaterViews.{IsLawfulView-world}
 use Rattle.step_core.proofs.world_laws.views_of_worlds_are_lawful.Goals as goal
 
 pub returns : goal.returns

@@ -1,4 +1,4 @@
-use Rattle.step_core.proofs.ClosedWorlds.{HoldRun-whole, StandsAsSeen-whole, own_workers-whole}
+use Rattle.step_core.proofs.Whole.ClosedWorlds.{HoldRun-whole, StandsAsSeen-whole, own_workers-whole}
 use Rattle.step_core.proofs.world_laws.whole_shares_close_runs.Goals as goal
 
 pub returns-clause-run : goal.returns-clause-run

@@ -1,4 +1,4 @@
-use Rattle.step_core.proofs.WholeCopies.{children-whole, count-whole, nodes-whole, points-whole, trees-whole}
+use Rattle.step_core.proofs.Whole.WholeCopies.{children-whole, count-whole, nodes-whole, points-whole, trees-whole}
 use Rattle.step_core.proofs.world_laws.whole_shares_see_all_nodes.Goals as goal
 
 pub returns-clause-nodes : goal.returns-clause-nodes

@@ -1,4 +1,4 @@
-use Rattle.step_core.proofs.WholeCopies.{best-whole, records-whole, sees-whole}
+use Rattle.step_core.proofs.Whole.WholeCopies.{best-whole, records-whole, sees-whole}
 use Rattle.step_core.proofs.world_laws.whole_shares_see_all_words.Goals as goal
 
 pub returns-clause-words : goal.returns-clause-words

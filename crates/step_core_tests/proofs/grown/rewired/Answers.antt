@@ -13,8 +13,8 @@ use Rattle.plan_model.specs.Vectors.Shapes.{at}
 use Rattle.plan_model.proofs.OpenRoomMarks.{cost_2500}
 use Rattle.plan_model.proofs.RewiredRun.{rewired_run, rewired_sum}
 use Rattle.plan_model.proofs.SameTrees.{IsClosed-of_textbook}
-use Rattle.step_core.specs.PackedRuns.{kept_cost_of, state_of_lists}
-use Rattle.step_core.proofs.ListedRuns.{IsClosed-same_lists}
+use Rattle.grown_runs.specs.Runs.PackedRuns.{kept_cost_of, state_of_lists}
+use Rattle.grown_runs.proofs.Runs.ListedRuns.{IsClosed-same_lists}
 use Rattle.step_core_tests.proofs.grown.rewired.Goals as goal
 
 abbrev knot : ℕ → ℕ → ℕ → ℕ → Option Knot

@@ -19,8 +19,8 @@ use Rattle.plan_model.proofs.GoalNodes.{no_goal_node}
 use Rattle.plan_model.proofs.LeastPairLaws.{IsNotAbove-refl}
 use Rattle.plan_model.proofs.OpenRoomMarks.{same_y}
 use Rattle.plan_model.proofs.SameTrees.{IsClosed-of_textbook}
-use Rattle.step_core.specs.PackedRuns.{state_of_lists}
-use Rattle.step_core.proofs.ListedRuns.{IsClosed-same_lists}
+use Rattle.grown_runs.specs.Runs.PackedRuns.{state_of_lists}
+use Rattle.grown_runs.proofs.Runs.ListedRuns.{IsClosed-same_lists}
 use Rattle.step_core_tests.proofs.grown.stopped.Goals as goal
 
 abbrev low_setup : Setup

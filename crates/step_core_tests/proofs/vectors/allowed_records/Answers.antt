@@ -18,18 +18,18 @@ use Rattle.plan_model.proofs.EmptyRoomClearance.{AreInRoom-from_clear, Clear-emp
 use Rattle.plan_model.proofs.LeastPairLaws.{IsNotAbove-refl}
 use Rattle.plan_model.proofs.OpenRoomMarks.{same_x}
 use Rattle.plan_model.proofs.RootLaws.{root_ceiling-from_squares}
-use Rattle.step_core.specs.GrownWords.{record_at}
+use Rattle.grown_runs.specs.Runs.GrownWords.{record_at}
 use Rattle.step_core.specs.SeenRecords.{IsOwnNeighbour, is_own_node, own_first_cost}
 use Rattle.step_core.specs.ViewSteps.{new_hand}
 use Rattle.step_core.specs.ViewTrees.{SeesPoint}
 use Rattle.step_core.specs.Views.{run_sizes, sees, setup_in, tree_seen}
-use Rattle.step_core.specs.WordNames.Word.{TreeOf}
-use Rattle.step_core.specs.WordPlaces.{word_at}
-use Rattle.step_core.specs.Words.{cost_in}
+use Rattle.grown_runs.specs.Table.WordNames.Word.{TreeOf}
+use Rattle.grown_runs.specs.Table.WordPlaces.{word_at}
+use Rattle.grown_runs.specs.Table.Words.{cost_in}
 use Rattle.step_core.specs.declared.views.Hand.{Hand}
 use Rattle.step_core.specs.declared.views.Stage.TheVariants.{Counted}
 use Rattle.step_core.specs.declared.views.View.{View}
-use Rattle.step_core.proofs.GrownPoints.{record_at-past}
+use Rattle.grown_runs.proofs.Runs.GrownPoints.{record_at-past}
 use Rattle.step_core_tests.specs.SmallRecords.{claimer_at_start, claimer_in, counter_of}
 use Rattle.step_core_tests.specs.SmallWorlds.{hand_at, small_run}
 use Rattle.step_core_tests.proofs.vectors.allowed_records.Goals as goal

@@ -10,8 +10,8 @@ use Rattle.plan_model.specs.declared.geometry.Point.{Point}
 use Rattle.plan_model.proofs.EmptyRoomClearance.{Clear-empty_room}
 use Rattle.plan_model.proofs.RootLaws.{root_ceiling-from_squares, root_ceiling-zero}
 use Rattle.step_core.specs.Views.{setup_in}
-use Rattle.step_core.specs.WordPlaces.{word_at}
-use Rattle.step_core.specs.Words.{best_word, no_best}
+use Rattle.grown_runs.specs.Table.WordPlaces.{word_at}
+use Rattle.grown_runs.specs.Table.Words.{best_word, no_best}
 use Rattle.step_core_tests.specs.SmallWorlds.{goal_run, small_run}
 use Rattle.step_core_tests.proofs.vectors.allowed_steps.Goals as goal
 

@@ -2,16 +2,16 @@ use Rattle.std.proofs.Common.{◌≡◌, ℕ, ◌≤◌, true, List, None, arith
 use Rattle.std.specs.Prelude.{◌⊎◌, if◌then◌else◌}
 use Rattle.plan_model.specs.Trees.PointsByNumber.{StandsAt}
 use Rattle.plan_model.specs.Vectors.Shapes.{at}
-use Rattle.step_core.specs.GrownWords.{child_of_word}
+use Rattle.grown_runs.specs.Runs.GrownWords.{child_of_word}
 use Rattle.step_core.specs.SharedWords.{linked_points}
 use Rattle.step_core.specs.Views.{run_sizes}
-use Rattle.step_core.specs.WordNames.{Words}
-use Rattle.step_core.specs.WordNames.Word.{ChildOf, Count, PointOf}
-use Rattle.step_core.specs.WordPlaces.{Sizes, word_at}
-use Rattle.step_core.specs.Words.{point_of_word, point_word}
+use Rattle.grown_runs.specs.Table.WordNames.{Words}
+use Rattle.grown_runs.specs.Table.WordNames.Word.{ChildOf, Count, PointOf}
+use Rattle.grown_runs.specs.Table.WordPlaces.{Sizes, word_at}
+use Rattle.grown_runs.specs.Table.Words.{point_of_word, point_word}
 use Rattle.step_core.specs.Worlds.{IsWorld}
 use Rattle.step_core.specs.declared.views.View.{View}
-use Rattle.step_core.proofs.LinkedStates.{linked-present, point_at-linked}
+use Rattle.step_core.proofs.Parts.LinkedStates.{linked-present, point_at-linked}
 use Rattle.step_core_tests.specs.SmallWorlds.{small_run}
 use Rattle.step_core_tests.proofs.vectors.free_points.Goals as goal
 

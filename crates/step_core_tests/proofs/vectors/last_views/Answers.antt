@@ -3,7 +3,7 @@ use Rattle.std.specs.Prelude.{◌⊎◌}
 use Rattle.plan_model.specs.Vectors.Overlaps.{placed_by}
 use Rattle.plan_model.specs.Vectors.Shapes.{at}
 use Rattle.plan_model.proofs.OpenRoomMarks.{same_x}
-use Rattle.step_core.specs.WordPlaces.{word_at}
+use Rattle.grown_runs.specs.Table.WordPlaces.{word_at}
 use Rattle.step_core_tests.proofs.vectors.last_views.Goals as goal
 
 -- neither the same at this cost and parent, nor at a lower cost

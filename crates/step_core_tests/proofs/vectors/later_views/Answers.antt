@@ -1,14 +1,14 @@
 use Rattle.std.proofs.Common.{◌≡◌, ℕ, zero, suc, ◌<◌, ◌≤◌, true, false, arith, refl, ap, inl, inr}
 use Rattle.std.specs.Prelude.{◌≢◌, ◌⊎◌}
 use Rattle.step_core.specs.Views.{last_look, last_zero, run_sizes, sees}
-use Rattle.step_core.specs.WordKinds.{kind_of}
-use Rattle.step_core.specs.WordKinds.WordKind.{Apart}
-use Rattle.step_core.specs.WordNames.{Word, WritesWord}
-use Rattle.step_core.specs.WordNames.Word.{Best, ChildOf, Count, Counter, FirstOf, PointOf, RecordOf, TreeOf}
-use Rattle.step_core.specs.WordPlaces.{word_at}
+use Rattle.grown_runs.specs.Table.WordKinds.{kind_of}
+use Rattle.grown_runs.specs.Table.WordKinds.WordKind.{Apart}
+use Rattle.grown_runs.specs.Table.WordNames.{Word, WritesWord}
+use Rattle.grown_runs.specs.Table.WordNames.Word.{Best, ChildOf, Count, Counter, FirstOf, PointOf, RecordOf, TreeOf}
+use Rattle.grown_runs.specs.Table.WordPlaces.{word_at}
 use Rattle.step_core.specs.declared.views.SharedRun.{SharedRun}
-use Rattle.step_core.proofs.WordKinds.{AreBehind-refl}
-use Rattle.step_core.proofs.WordReads.{WritesWord-set}
+use Rattle.grown_runs.proofs.Table.WordKinds.{AreBehind-refl}
+use Rattle.grown_runs.proofs.Table.WordReads.{WritesWord-set}
 use Rattle.step_core_tests.specs.SmallViews.{waited}
 use Rattle.step_core_tests.specs.SmallWorlds.{claimed_table, idle, never, small_run}
 use Rattle.step_core_tests.proofs.vectors.later_views.Goals as goal

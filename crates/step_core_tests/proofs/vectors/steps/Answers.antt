@@ -1,5 +1,5 @@
 use Rattle.std.proofs.Common.{refl}
-use Rattle.step_core.specs.WordPlaces.{word_at}
+use Rattle.grown_runs.specs.Table.WordPlaces.{word_at}
 use Rattle.step_core_tests.proofs.vectors.steps.Goals as goal
 
 pub returns : goal.returns

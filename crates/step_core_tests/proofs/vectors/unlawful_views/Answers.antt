@@ -8,9 +8,9 @@ use Rattle.plan_model.specs.declared.geometry.Point.{Point}
 use Rattle.plan_model.proofs.OpenRoomMarks.{same_x}
 use Rattle.plan_model.proofs.RootLaws.{root_ceiling-from_squares}
 use Rattle.step_core.specs.ViewSteps.{new_hand}
-use Rattle.step_core.specs.WordNames.Word.{ChildOf}
-use Rattle.step_core.specs.WordPlaces.{word_at}
-use Rattle.step_core.specs.Words.{best_word}
+use Rattle.grown_runs.specs.Table.WordNames.Word.{ChildOf}
+use Rattle.grown_runs.specs.Table.WordPlaces.{word_at}
+use Rattle.grown_runs.specs.Table.Words.{best_word}
 use Rattle.step_core.specs.declared.views.Stage.TheVariants.{Half, Linked, Pointed, Treed}
 use Rattle.step_core_tests.specs.SmallWorlds.{hand_at, took_best}
 use Rattle.step_core_tests.proofs.vectors.unlawful_views.Goals as goal

@@ -8,10 +8,10 @@ use Rattle.plan_model.specs.Vectors.Shapes.{at}
 use Rattle.plan_model.proofs.RootLaws.{root_ceiling-from_squares}
 use Rattle.step_core.specs.ViewSteps.{new_hand}
 use Rattle.step_core.specs.Views.{IsViewOf, sees, share, spent}
-use Rattle.step_core.specs.WordNames.{Word, Words}
-use Rattle.step_core.specs.WordNames.Word.{ChildOf, Count, Counter}
-use Rattle.step_core.specs.WordPlaces.{word_at}
-use Rattle.step_core.specs.Words.{best_word, no_best, point_word, tree_word}
+use Rattle.grown_runs.specs.Table.WordNames.{Word, Words}
+use Rattle.grown_runs.specs.Table.WordNames.Word.{ChildOf, Count, Counter}
+use Rattle.grown_runs.specs.Table.WordPlaces.{word_at}
+use Rattle.grown_runs.specs.Table.Words.{best_word, no_best, point_word, tree_word}
 use Rattle.step_core.specs.Worlds.{HasMade, IsRecordWord, SomeSharer}
 use Rattle.step_core.specs.declared.views.SharedRun.{SharedRun}
 use Rattle.step_core.specs.declared.views.Stage.TheVariants.{Half, Linked, Pointed, Posted, Treed}

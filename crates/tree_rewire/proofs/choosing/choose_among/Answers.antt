@@ -8,7 +8,7 @@ use Rattle.plan_model.specs.declared.configuration_spaces.ConfigurationSpace.{Co
 use Rattle.plan_words.proofs.GoingOn.{GoesOn-trans}
 use Rattle.plan_words.specs.States.{PassState, with_lists, with_view}
 use Rattle.step_core.specs.Views.{tree_seen}
-use Rattle.step_core.proofs.SeenViews.{IsPresent-later}
+use Rattle.step_core.proofs.OneView.SeenViews.{IsPresent-later}
 use Rattle.swept_check.proofs.BoundedSegments.{IsBounded-clear_in_scene}
 use Rattle.tree_rewire.specs.NearNodes.{AreKnown, IsClearTo, StandOn, nodes_on, weighed_on}
 use Rattle.tree_rewire.specs.SeenCosts.{IsInReach, NamesNothing, NamesTree, SeesAnew, SeesPair, seen_cost_through}

@@ -6,8 +6,8 @@ use Rattle.plan_model.specs.Trees.PointsByNumber.{IsPresent}
 use Rattle.plan_words.specs.States.{PassState}
 use Rattle.step_core.specs.ViewTrees.{SeesNode}
 use Rattle.step_core.specs.Views.{tree_seen}
-use Rattle.step_core.specs.WordNames.Word.{TreeOf}
-use Rattle.step_core.proofs.SeenViews.{IsPresent-later}
+use Rattle.grown_runs.specs.Table.WordNames.Word.{TreeOf}
+use Rattle.step_core.proofs.OneView.SeenViews.{IsPresent-later}
 use Rattle.tree_rewire.specs.NearNodes.{nodes_on}
 use Rattle.tree_rewire.specs.SeenCosts.{IsLoadedSince, NamesTree, SeesPair}
 use Rattle.tree_rewire.proofs.ChosenParents.{All-more, All-read, take_read}

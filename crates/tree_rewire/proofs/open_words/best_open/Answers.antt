@@ -2,9 +2,9 @@ use Rattle.std.proofs.Common.{◌∷◌, List, ℕ, ap, subst, sym, ◌∙◌}
 use Rattle.plan_model.specs.Trees.LeastPairs.{IsFirstLeast}
 use Rattle.plan_model.specs.Trees.OpenNodes.{IsOpenTo}
 use Rattle.plan_words.specs.States.{PassState}
-use Rattle.step_core.proofs.SeenViews.{IsPresent-later}
+use Rattle.step_core.proofs.OneView.SeenViews.{IsPresent-later}
 use Rattle.step_core.specs.Views.{tree_seen}
-use Rattle.step_core.specs.Words.{parent_in, tree_word}
+use Rattle.grown_runs.specs.Table.Words.{parent_in, tree_word}
 use Rattle.tree_rewire.specs.NearNodes.{AreKnown, nodes_on}
 use Rattle.tree_rewire.specs.SeenCosts.{NamesNothing, seen_cost_through}
 use Rattle.tree_rewire.proofs.ChosenFound.{IsChosenWord, IsChosenWord-least}

@@ -1,8 +1,8 @@
 use Rattle.std.proofs.Common.{ap, arith, inl, inr, map, subst, sym, ◌∙◌}
 use Rattle.std.specs.Prelude.{◌≢◌, IsTrue}
 use Rattle.plan_words.specs.States.{PassState}
-use Rattle.step_core.proofs.SeenViews.{IsPresent-later}
-use Rattle.step_core.specs.Words.{parent_in}
+use Rattle.step_core.proofs.OneView.SeenViews.{IsPresent-later}
+use Rattle.grown_runs.specs.Table.Words.{parent_in}
 use Rattle.tree_rewire.proofs.ChosenFound.{IsWordOf-next, blocked-first, blocked-next, open_word, present_of, words-same}
 use Rattle.tree_rewire.proofs.ChosenParents.{clear_after, clear_before}
 use Rattle.tree_rewire.proofs.CostSteps.{PassSees-trans}

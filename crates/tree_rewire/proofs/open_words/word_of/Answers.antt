@@ -3,7 +3,7 @@ use Rattle.tree_rewire.proofs.ChosenFound.{number_low}
 use Rattle.tree_rewire.proofs.ChosenParents.{read_through}
 use Rattle.tree_rewire.proofs.CostSteps.{PassSees-point}
 use Rattle.tree_rewire.proofs.SeenCosts.{SeesNode-pair}
-use Rattle.step_core.specs.Words.{tree_word}
+use Rattle.grown_runs.specs.Table.Words.{tree_word}
 use Rattle.tree_rewire.proofs.open_words.word_of.Goals as goal
 
 pub point-from-requires-clause-seen_node : goal.point-from-requires-clause-seen_node

@@ -4,9 +4,9 @@ use Rattle.plan_words.specs.Bests.{HasPostedGoals}
 use Rattle.plan_words.specs.Claims.{SeesAsBefore}
 use Rattle.plan_words.specs.States.{HasWholeShare}
 use Rattle.step_core.specs.Views.{sees}
-use Rattle.step_core.specs.WordNames.{WritesWord}
-use Rattle.step_core.specs.WordNames.Word.{TreeOf}
-use Rattle.step_core.specs.Words.{tree_word}
+use Rattle.grown_runs.specs.Table.WordNames.{WritesWord}
+use Rattle.grown_runs.specs.Table.WordNames.Word.{TreeOf}
+use Rattle.grown_runs.specs.Table.Words.{tree_word}
 use Rattle.tree_rewire.specs.SeenCosts.{NamesTree, PassSees, SeesPair, cost_seen}
 use Rattle.tree_rewire.specs.Spreads.{OnlyAt}
 use Rattle.tree_rewire.proofs.rewiring.improve.Given as goal

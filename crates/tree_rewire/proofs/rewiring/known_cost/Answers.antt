@@ -1,4 +1,4 @@
-use Rattle.step_core.specs.WordNames.Word.{TreeOf}
+use Rattle.grown_runs.specs.Table.WordNames.Word.{TreeOf}
 use Rattle.tree_rewire.proofs.SeenCosts.{SeesNode-present}
 use Rattle.tree_rewire.proofs.WholeShares.{SeesAsBefore-loaded}
 use Rattle.tree_rewire.proofs.rewiring.known_cost.Goals as goal

@@ -12,10 +12,10 @@ use Rattle.plan_words.specs.States.{HasWholeShare}
 use Rattle.plan_words.proofs.GoingOn.{GoesOn-trans}
 use Rattle.plan_words.proofs.PostedGoals.{HasPostedGoals-same}
 use Rattle.step_core.specs.Views.{sees, setup_in, tree_seen}
-use Rattle.step_core.specs.WordNames.Word.{TreeOf}
-use Rattle.step_core.specs.Words.{cost_in}
-use Rattle.step_core.proofs.LawfulSights.{IsBounded-seen}
-use Rattle.step_core.proofs.SeenViews.{IsPresent-later}
+use Rattle.grown_runs.specs.Table.WordNames.Word.{TreeOf}
+use Rattle.grown_runs.specs.Table.Words.{cost_in}
+use Rattle.step_core.proofs.OneView.LawfulSights.{IsBounded-seen}
+use Rattle.step_core.proofs.OneView.SeenViews.{IsPresent-later}
 use Rattle.tree_rewire.specs.SeenCosts.{NamesNothing, NamesTreeOrPoint, NamesTree, PassLowers, PassSees, SeesPair, cost_seen}
 use Rattle.tree_rewire.proofs.CostSteps.{HasPostedHand-later, PassLowers-sees, PassLowers-trans}
 use Rattle.tree_rewire.proofs.CostSteps.{PassSees-more, PassSees-point, PassSees-trans, TreeOrPoint-tree}

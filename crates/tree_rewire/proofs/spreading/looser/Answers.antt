@@ -6,8 +6,8 @@ use Rattle.plan_words.specs.Claims.{SeesAsBefore}
 use Rattle.plan_words.specs.Parents.{IsPairIn}
 use Rattle.plan_words.specs.States.{HasWholeShare}
 use Rattle.step_core.specs.Views.{sees}
-use Rattle.step_core.specs.WordNames.Word.{PointOf, TreeOf}
-use Rattle.step_core.specs.Words.{parent_in}
+use Rattle.grown_runs.specs.Table.WordNames.Word.{PointOf, TreeOf}
+use Rattle.grown_runs.specs.Table.Words.{parent_in}
 use Rattle.tree_rewire.specs.SeenCosts.{NamesPoint, PassSees}
 use Rattle.tree_rewire.proofs.CostSteps.{PassSees-any_point, PassSees-trans}
 use Rattle.tree_rewire.proofs.LoweredCosts.{IsWithinSeenParent-parent, MayLower-parent}

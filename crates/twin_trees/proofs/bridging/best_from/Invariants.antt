@@ -2,7 +2,7 @@ use Rattle.std.specs.Prelude.{ℕ, ◌-◌, ◌*◌, ◌<◌, length}
 use Rattle.plan_model.specs.Runs.Textbook.{setup_of}
 use Rattle.point_strips.specs.Discs.{IsWithin}
 use Rattle.point_strips.specs.Walks.{numbered_at}
-use Rattle.step_core.specs.GrownRuns.{state_of_grown}
+use Rattle.grown_runs.specs.Runs.GrownRuns.{state_of_grown}
 use Rattle.twin_trees.specs.BridgeOrder.{IsNoWorse}
 use Rattle.twin_trees.specs.BridgeSearches.{Matches, MayBeBest}
 use Rattle.twin_trees.proofs.bridging.best_from.Given as goal

@@ -6,9 +6,9 @@ use Rattle.plan_model.specs.declared.tasks.Task.{Task}
 use Rattle.point_strips.specs.Discs.{IsWithin}
 use Rattle.point_strips.specs.Walks.{nowhere, numbered_at}
 use Rattle.point_strips.specs.declared.strips.Numbered.{Numbered}
-use Rattle.step_core.specs.GrownRuns.{state_of_grown, words_of_grown}
-use Rattle.step_core.specs.GrownWords.{sizes_of}
-use Rattle.step_core.proofs.GrownPoints.{IsBounded-stands}
+use Rattle.grown_runs.specs.Runs.GrownRuns.{state_of_grown, words_of_grown}
+use Rattle.grown_runs.specs.Runs.GrownWords.{sizes_of}
+use Rattle.grown_runs.proofs.Runs.GrownPoints.{IsBounded-stands}
 use Rattle.twin_trees.specs.BridgeOrder.{IsMatched}
 use Rattle.twin_trees.specs.BridgeSearches.{Matches, MayBeBest}
 use Rattle.twin_trees.proofs.SearchedPairs.{IsWithin-same}

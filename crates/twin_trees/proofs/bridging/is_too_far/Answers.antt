@@ -6,9 +6,9 @@ use Rattle.plan_model.specs.Runs.Textbook.{setup_of}
 use Rattle.plan_model.specs.Trees.PointsByNumber.{point_of}
 use Rattle.plan_model.specs.Trees.TreeStates.{sum_in}
 use Rattle.plan_model.specs.declared.tasks.Task.{Task}
-use Rattle.step_core.specs.GrownRuns.{state_of_grown, words_of_grown}
-use Rattle.step_core.specs.GrownWords.{sizes_of}
-use Rattle.step_core.proofs.GrownPoints.{IsBounded-stands}
+use Rattle.grown_runs.specs.Runs.GrownRuns.{state_of_grown, words_of_grown}
+use Rattle.grown_runs.specs.Runs.GrownWords.{sizes_of}
+use Rattle.grown_runs.proofs.Runs.GrownPoints.{IsBounded-stands}
 use Rattle.twin_trees.specs.BridgeSearches.{Matches}
 use Rattle.twin_trees.proofs.SearchedPairs.{Matches-far}
 use Rattle.twin_trees.proofs.TripleOrder.{false_of_not}

@@ -2,7 +2,7 @@ use Rattle.std.proofs.Common.{ap, sym, subst, ◌∙◌}
 use Rattle.plan_model.specs.Runs.Textbook.{setup_of}
 use Rattle.plan_model.specs.Spaces.ConfigurationSpace.{space_of}
 use Rattle.plan_model.specs.declared.scenes.Scene.{Scene}
-use Rattle.step_core.specs.GrownRuns.{state_of_grown}
+use Rattle.grown_runs.specs.Runs.GrownRuns.{state_of_grown}
 use Rattle.twin_trees.specs.Bridges.{IsBridge}
 use Rattle.twin_trees.proofs.TurnedRuns.{ClearAt-turned, space-turned}
 use Rattle.twin_trees.proofs.growing.twin_from.Goals as goal

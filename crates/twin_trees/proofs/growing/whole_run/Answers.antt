@@ -5,7 +5,7 @@ use Rattle.plan_model.specs.Runs.Textbook.{setup_of}
 use Rattle.plan_model.specs.Scenes.MarkPoints.{mark_points}
 use Rattle.plan_model.specs.declared.tasks.Task.{Task}
 use Rattle.plan_work.proofs.TextbookEnds.{IsOfTextbook-new, IsOfTextbookRun-whole}
-use Rattle.step_core.specs.GrownRuns.{state_of_grown}
+use Rattle.grown_runs.specs.Runs.GrownRuns.{state_of_grown}
 use Rattle.twin_trees.proofs.TurnedRuns.{IsWholeRun-settled}
 use Rattle.twin_trees.proofs.growing.whole_run.Goals as goal
 

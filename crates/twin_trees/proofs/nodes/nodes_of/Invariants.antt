@@ -1,4 +1,4 @@
-use Rattle.step_core.specs.GrownRuns.{state_of_grown}
+use Rattle.grown_runs.specs.Runs.GrownRuns.{state_of_grown}
 use Rattle.twin_trees.proofs.NumberedNodes.{AreNodesBelow}
 use Rattle.twin_trees.proofs.nodes.nodes_of.Given as goal
 

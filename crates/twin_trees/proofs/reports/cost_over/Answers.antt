@@ -1,7 +1,7 @@
 use Rattle.std.proofs.Common.{sym, ◌∙◌}
-use Rattle.step_core.specs.GrownRuns.{words_of_grown}
-use Rattle.step_core.specs.GrownWords.{sizes_of}
-use Rattle.step_core.proofs.GrownPoints.{IsBounded-stands}
+use Rattle.grown_runs.specs.Runs.GrownRuns.{words_of_grown}
+use Rattle.grown_runs.specs.Runs.GrownWords.{sizes_of}
+use Rattle.grown_runs.proofs.Runs.GrownPoints.{IsBounded-stands}
 use Rattle.twin_trees.proofs.reports.cost_over.Goals as goal
 
 pub cost-requires-2-clause-from : goal.cost-requires-2-clause-from

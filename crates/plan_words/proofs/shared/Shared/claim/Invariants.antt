@@ -6,8 +6,8 @@ use Rattle.plan_words.proofs.Scanning.{left_over}
 use Rattle.plan_words.proofs.shared.Shared.claim.Given as goal
 use Rattle.step_core.specs.LaterViews.{IsLater}
 use Rattle.step_core.specs.Views.{sees}
-use Rattle.step_core.specs.WordNames.{ChangesOnly, IsCounter}
-use Rattle.step_core.specs.WordNames.Word.{Counter}
+use Rattle.grown_runs.specs.Table.WordNames.{ChangesOnly, IsCounter}
+use Rattle.grown_runs.specs.Table.WordNames.Word.{Counter}
 
 abbrev pub invariant-tries : goal.invariant-tries
 invariant-tries l = record {

@@ -3,7 +3,7 @@ use Rattle.plan_model.specs.Runs.Turns.{turns_of}
 use Rattle.plan_words.proofs.Dealing.{sees-started}
 use Rattle.plan_words.proofs.shared.Shared.deal.Goals as goal
 use Rattle.plan_words.specs.Dealt.{IsPassOf}
-use Rattle.step_core.specs.GrownWords.{record_at}
+use Rattle.grown_runs.specs.Runs.GrownWords.{record_at}
 use Rattle.step_core.specs.Views.{sees}
 
 pub open-requires : goal.open-requires

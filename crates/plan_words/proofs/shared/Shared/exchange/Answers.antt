@@ -8,8 +8,8 @@ use Rattle.plan_words.specs.States.{run_in}
 use Rattle.plan_model.specs.Scenes.MarkPoints.{mark_of as mark_by_strips}
 use Rattle.step_core.specs.ViewSteps.{claimed, loaded, mark_of, new_hand, place_in, saw_at}
 use Rattle.step_core.specs.Views.{sees, share}
-use Rattle.step_core.specs.WordNames.{WritesWord}
-use Rattle.step_core.specs.WordNames.Word.{Counter}
+use Rattle.grown_runs.specs.Table.WordNames.{WritesWord}
+use Rattle.grown_runs.specs.Table.WordNames.Word.{Counter}
 use Rattle.step_core.specs.declared.views.View.{View}
 
 -- the view after an exchange was tried, by what the counter was

@@ -8,11 +8,11 @@ use Rattle.plan_words.proofs.SeatSteps.{LooksOn-trans}
 use Rattle.plan_words.proofs.shared.Shared.exchange_at.Goals as goal
 use Rattle.plan_words.proofs.shared.Shared.exchange_at.Goals.{After-skips_by}
 use Rattle.step_core.specs.Views.{sees}
-use Rattle.step_core.specs.WordNames.Word.{TreeOf}
-use Rattle.step_core.specs.Words.{cost_in, tree_word}
+use Rattle.grown_runs.specs.Table.WordNames.Word.{TreeOf}
+use Rattle.grown_runs.specs.Table.Words.{cost_in, tree_word}
 use Rattle.step_core.specs.declared.views.SharedRun.{SharedRun}
-use Rattle.step_core.proofs.PackedWords.{cost_in-tree_word}
-use Rattle.step_core.proofs.SeenViews.{SeesPoint-later}
+use Rattle.grown_runs.proofs.Table.PackedWords.{cost_in-tree_word}
+use Rattle.step_core.proofs.OneView.SeenViews.{SeesPoint-later}
 
 pub post_at-requires-clause-may : goal.post_at-requires-clause-may
 post_at-requires-clause-may c =

@@ -10,8 +10,8 @@ use Rattle.plan_words.specs.States.{HasWholeShare}
 use Rattle.step_core.specs.ViewSteps.{loaded, lowered, saw_at}
 use Rattle.step_core.specs.ViewTrees.{MayLower}
 use Rattle.step_core.specs.Views.{sees, share}
-use Rattle.step_core.specs.WordNames.Word.{TreeOf}
-use Rattle.step_core.specs.WordPlaces.{place_of}
+use Rattle.grown_runs.specs.Table.WordNames.Word.{TreeOf}
+use Rattle.grown_runs.specs.Table.WordPlaces.{place_of}
 
 pub word-seen-requires : goal.word-seen-requires
 word-seen-requires c =

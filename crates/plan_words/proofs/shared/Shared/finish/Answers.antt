@@ -11,9 +11,9 @@ use Rattle.std.specs.Prelude.{IfSome}
 use Rattle.step_core.specs.ViewSteps.{finished, finished_at}
 use Rattle.step_core.specs.SeenRecords.{MayRecord}
 use Rattle.step_core.specs.Stages.{MayBeRecorded}
-use Rattle.step_core.specs.WordNames.Word.{RecordOf}
-use Rattle.step_core.specs.WordPlaces.{place_of}
-use Rattle.step_core.specs.Words.{record_word}
+use Rattle.grown_runs.specs.Table.WordNames.Word.{RecordOf}
+use Rattle.grown_runs.specs.Table.WordPlaces.{place_of}
+use Rattle.grown_runs.specs.Table.Words.{record_word}
 
 pub unreachable-requires : goal.unreachable-requires
 unreachable-requires c = none_held _ _ _ c.pass.view_is c.pass.invariant.1.hand_is c.in_default.is c.requires.hand

@@ -8,7 +8,7 @@ use Rattle.plan_words.proofs.shared.Shared.first_open.Goals as goal
 use Rattle.plan_words.specs.Claims.{is_own}
 use Rattle.plan_words.specs.States.{worker_of}
 use Rattle.step_core.specs.declared.views.SharedRun.{SharedRun}
-use Rattle.step_core.proofs.LaterViews.{IsLater-refl, IsLater-trans}
+use Rattle.step_core.proofs.OneView.LaterViews.{IsLater-refl, IsLater-trans}
 
 -- the strips are dealt out in turns
 next_owner : (strip workers owner : ℕ) → owner ≡ strip % workers → (owner + 1) % workers ≡ (strip + 1) % workers

@@ -5,8 +5,8 @@ use Rattle.plan_words.proofs.Scanning.{Scanned}
 use Rattle.plan_words.proofs.shared.Shared.first_open.Given as goal
 use Rattle.step_core.specs.LaterViews.{IsLater}
 use Rattle.step_core.specs.Views.{last_look, sees}
-use Rattle.step_core.specs.WordNames.{ChangesOnly, IsCounter}
-use Rattle.step_core.specs.WordNames.Word.{Counter}
+use Rattle.grown_runs.specs.Table.WordNames.{ChangesOnly, IsCounter}
+use Rattle.grown_runs.specs.Table.WordNames.Word.{Counter}
 
 abbrev pub invariant-loop-strip : goal.invariant-loop-strip
 invariant-loop-strip l = record {

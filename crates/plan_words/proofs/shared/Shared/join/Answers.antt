@@ -8,8 +8,8 @@ use Rattle.plan_words.specs.Parents.{HasParentsBelow}
 use Rattle.plan_words.specs.States.{GoesOn, PassState, first_member}
 use Rattle.step_core.specs.ViewSteps.{joined, loaded}
 use Rattle.step_core.specs.Views.{sees}
-use Rattle.step_core.specs.WordKinds.{AreBehind}
-use Rattle.step_core.specs.WordNames.Word.{Count}
+use Rattle.grown_runs.specs.Table.WordKinds.{AreBehind}
+use Rattle.grown_runs.specs.Table.WordNames.Word.{Count}
 
 pub take_over-requires-clause-belongs : goal.take_over-requires-clause-belongs
 take_over-requires-clause-belongs c = BelongsTo-seat _ _ _ c.pass.view_is c.requires.belongs

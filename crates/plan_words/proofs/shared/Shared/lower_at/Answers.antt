@@ -10,9 +10,9 @@ use Rattle.plan_words.specs.States.{run_in}
 use Rattle.step_core.specs.ViewSteps.{place_in}
 use Rattle.step_core.specs.ViewTrees.{SeesNode}
 use Rattle.step_core.specs.Views.{sees}
-use Rattle.step_core.specs.WordNames.{WritesWord}
-use Rattle.step_core.specs.WordNames.Word.{PointOf, TreeOf}
-use Rattle.step_core.specs.WordPlaces.{place_of}
+use Rattle.grown_runs.specs.Table.WordNames.{WritesWord}
+use Rattle.grown_runs.specs.Table.WordNames.Word.{PointOf, TreeOf}
+use Rattle.grown_runs.specs.Table.WordPlaces.{place_of}
 
 pub tree-place-requires : goal.tree-place-requires
 tree-place-requires c =

@@ -8,8 +8,8 @@ use Rattle.plan_words.proofs.SeatSteps.{LooksOn-trans}
 use Rattle.plan_words.proofs.shared.Shared.lower_child.Goals as goal
 use Rattle.plan_words.proofs.shared.Shared.lower_child.Goals.{After-cost}
 use Rattle.step_core.specs.Views.{sees}
-use Rattle.step_core.specs.WordNames.Word.{PointOf, TreeOf}
-use Rattle.step_core.specs.Words.{cost_in, tree_word}
+use Rattle.grown_runs.specs.Table.WordNames.Word.{PointOf, TreeOf}
+use Rattle.grown_runs.specs.Table.Words.{cost_in, tree_word}
 
 pub returns-then-not-costs_less_through-clause-is : goal.returns-then-not-costs_less_through-clause-is
 returns-then-not-costs_less_through-clause-is c =

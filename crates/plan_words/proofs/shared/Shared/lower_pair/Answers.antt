@@ -6,7 +6,7 @@ use Rattle.plan_words.proofs.shared.Shared.lower_pair.Goals as goal
 use Rattle.step_core.specs.LaterViews.{IsLawfulView}
 use Rattle.step_core.specs.ViewTrees.{MayLower}
 use Rattle.step_core.specs.Views.{sees}
-use Rattle.step_core.specs.WordNames.Word.{TreeOf}
+use Rattle.grown_runs.specs.Table.WordNames.Word.{TreeOf}
 
 pub word-seen-requires : goal.word-seen-requires
 word-seen-requires c =

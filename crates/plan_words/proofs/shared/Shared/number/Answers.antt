@@ -7,7 +7,7 @@ use Rattle.plan_model.specs.Trees.PointsByNumber.{node_count}
 use Rattle.plan_words.specs.States.{HasWholeShare}
 use Rattle.step_core.specs.SeenRecords.{own_count}
 use Rattle.step_core.specs.Views.{tree_seen}
-use Rattle.step_core.specs.WordNames.Word.{Count}
+use Rattle.grown_runs.specs.Table.WordNames.Word.{Count}
 use Rattle.step_core.specs.declared.views.Hand.{Hand}
 use Rattle.step_core.specs.declared.views.Stage.TheVariants.{Linked}
 

@@ -1,6 +1,6 @@
 use Rattle.std.proofs.Common.{sym, subst}
 use Rattle.plan_words.proofs.shared.Shared.point.Goals as goal
-use Rattle.step_core.proofs.LawfulSights.{IsBounded-seen}
+use Rattle.step_core.proofs.OneView.LawfulSights.{IsBounded-seen}
 use Rattle.step_core.specs.ViewTrees.{SeesPoint}
 
 pub returns-clause-found : goal.returns-clause-found

@@ -6,9 +6,9 @@ use Rattle.plan_words.proofs.shared.Shared.point_word.Goals as goal
 use Rattle.step_core.specs.ViewSteps.{loaded, saw_at}
 use Rattle.step_core.specs.ViewTrees.{SeesNode}
 use Rattle.step_core.specs.Views.{sees}
-use Rattle.step_core.specs.WordNames.{WritesWord}
-use Rattle.step_core.specs.WordNames.Word.{PointOf}
-use Rattle.step_core.specs.WordPlaces.{place_of}
+use Rattle.grown_runs.specs.Table.WordNames.{WritesWord}
+use Rattle.grown_runs.specs.Table.WordNames.Word.{PointOf}
+use Rattle.grown_runs.specs.Table.WordPlaces.{place_of}
 
 pub point-place-requires : goal.point-place-requires
 point-place-requires c =

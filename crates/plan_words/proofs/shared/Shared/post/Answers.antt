@@ -7,8 +7,8 @@ use Rattle.plan_words.specs.States.{HasWholeShare}
 use Rattle.step_core.specs.SeenBests.{MayPost}
 use Rattle.step_core.specs.ViewSteps.{best_with, hand_with_post, posted, with_best}
 use Rattle.step_core.specs.Views.{sees}
-use Rattle.step_core.specs.WordNames.Word.{TreeOf}
-use Rattle.step_core.specs.Words.{best_node_in, best_word, cost_in}
+use Rattle.grown_runs.specs.Table.WordNames.Word.{TreeOf}
+use Rattle.grown_runs.specs.Table.Words.{best_node_in, best_word, cost_in}
 
 pub word-requires : goal.word-requires
 word-requires c =

@@ -5,7 +5,7 @@ use Rattle.plan_words.proofs.shared.Shared.post_at.Goals as goal
 use Rattle.plan_words.specs.Plays.{Tells}
 use Rattle.plan_words.specs.States.{run_in}
 use Rattle.step_core.specs.ViewSteps.{posted}
-use Rattle.step_core.specs.Words.{best_word}
+use Rattle.grown_runs.specs.Table.Words.{best_word}
 
 pub pack_best-requires-clause-node : goal.pack_best-requires-clause-node
 pack_best-requires-clause-node c =

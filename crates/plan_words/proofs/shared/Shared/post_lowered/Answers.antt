@@ -9,7 +9,7 @@ use Rattle.plan_words.specs.States.{PassState}
 use Rattle.step_core.specs.SeenBests.{SeesGoal}
 use Rattle.step_core.specs.ViewSteps.{loaded}
 use Rattle.step_core.specs.Views.{sees}
-use Rattle.step_core.specs.WordNames.Word.{PointOf}
+use Rattle.grown_runs.specs.Table.WordNames.Word.{PointOf}
 use Rattle.step_core.specs.declared.views.SharedRun.{SharedRun}
 
 -- nothing is seen anew by the look at the point

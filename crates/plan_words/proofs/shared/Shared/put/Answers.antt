@@ -13,8 +13,8 @@ use Rattle.plan_words.specs.Plays.{Tells}
 use Rattle.step_core.specs.Stages.{has_first}
 use Rattle.step_core.specs.ViewSteps.{last_fill, linked_at, saw_at}
 use Rattle.step_core.specs.ViewTrees.{LeadsTo}
-use Rattle.step_core.specs.WordNames.Word.{ChildOf}
-use Rattle.step_core.specs.WordPlaces.{place_of}
+use Rattle.grown_runs.specs.Table.WordNames.Word.{ChildOf}
+use Rattle.grown_runs.specs.Table.WordPlaces.{place_of}
 use Rattle.step_core.specs.declared.views.Stage.TheVariants.{Linked, Treed}
 
 pub unreachable-requires : goal.unreachable-requires

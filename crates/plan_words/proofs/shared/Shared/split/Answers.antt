@@ -6,7 +6,7 @@ use Rattle.plan_words.proofs.Tying.{GoesOn-stepped, HasRoom-kept, HasRoom-new, I
 use Rattle.plan_words.proofs.shared.Shared.split.Goals as goal
 use Rattle.plan_words.specs.States.{HasPairs, IsTied}
 use Rattle.step_core.specs.Views.{sees}
-use Rattle.step_core.specs.WordNames.Word.{TreeOf}
+use Rattle.grown_runs.specs.Table.WordNames.Word.{TreeOf}
 
 pub split_seat-seat-requires : goal.split_seat-seat-requires
 split_seat-seat-requires c =

@@ -7,12 +7,12 @@ use Rattle.plan_words.proofs.shared.Shared.start.Goals as goal
 use Rattle.plan_words.specs.States.{first_view, new_pass, without_best}
 use Rattle.plan_words.specs.declared.openings.Opening.{Opening}
 use Rattle.plan_model.specs.Runs.Textbook.{skipping_goals}
-use Rattle.step_core.specs.GrownRuns.{state_of_grown, words_of_grown}
-use Rattle.step_core.specs.SeenBests.{IsLeastBest}
-use Rattle.step_core.specs.WordNames.Word.{Best}
-use Rattle.step_core.specs.GrownWords.{record_at}
-use Rattle.step_core.specs.PlacesOfWords.{sizes_in}
-use Rattle.step_core.specs.RunWords.{words_in}
+use Rattle.grown_runs.specs.Runs.GrownRuns.{state_of_grown, words_of_grown}
+use Rattle.grown_runs.specs.Runs.LeastBests.{IsLeastBest}
+use Rattle.grown_runs.specs.Table.WordNames.Word.{Best}
+use Rattle.grown_runs.specs.Runs.GrownWords.{record_at}
+use Rattle.grown_runs.specs.Table.PlacesOfWords.{sizes_in}
+use Rattle.grown_runs.specs.Table.RunWords.{words_in}
 
 pub deal-requires-clause-turns : goal.deal-requires-clause-turns
 deal-requires-clause-turns c w low =

@@ -7,7 +7,7 @@ use Rattle.plan_words.specs.Plays.{Tells}
 use Rattle.plan_words.specs.declared.openings.Aim.{Aim}
 use Rattle.step_core.specs.ViewSteps.{loaded, saw_at}
 use Rattle.step_core.specs.Views.{sees}
-use Rattle.step_core.specs.WordNames.Word.{Count}
+use Rattle.grown_runs.specs.Table.WordNames.Word.{Count}
 use Rattle.step_core.specs.declared.views.View.{View}
 
 pub join_seat-requires : goal.join_seat-requires

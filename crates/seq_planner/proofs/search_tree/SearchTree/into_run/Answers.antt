@@ -8,8 +8,8 @@ use Rattle.plan_model.specs.Trees.TreeStates.{TreeState, AreSameRuns}
 use Rattle.plan_model.proofs.RunLaws.{HandlesAll-length}
 use Rattle.plan_model.proofs.SameTrees.{IsSettled-of_textbook}
 use Rattle.seq_planner.specs.SearchTrees.{with_costs}
-use Rattle.step_core.specs.GrownRuns.{state_of_grown}
-use Rattle.step_core.specs.PackedRuns.{state_of_lists}
+use Rattle.grown_runs.specs.Runs.GrownRuns.{state_of_grown}
+use Rattle.grown_runs.specs.Runs.PackedRuns.{state_of_lists}
 use Rattle.seq_planner.proofs.KeptNodes.{IsClosed-with_costs, IsOfTextbookRun-with_costs}
 use Rattle.seq_planner.proofs.search_tree.SearchTree.into_run.Goals as goal
 

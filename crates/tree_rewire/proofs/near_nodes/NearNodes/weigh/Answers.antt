@@ -1,5 +1,5 @@
 use Rattle.std.proofs.Common.{subst}
-use Rattle.step_core.proofs.LawfulSights.{IsBounded-seen}
+use Rattle.step_core.proofs.OneView.LawfulSights.{IsBounded-seen}
 use Rattle.tree_rewire.specs.NearNodes.{StandOn}
 use Rattle.tree_rewire.proofs.near_nodes.NearNodes.weigh.Goals as goal
 

@@ -1,0 +1,4 @@
+pub mod Table
+pub mod Runs
+pub mod Ways
+pub mod Children

@@ -1,0 +1,79 @@
+-- The least pair of the goal nodes of a run, found among its nodes one after another.
+use Rattle.std.proofs.Common.{◌≡◌, ℕ, ◌+◌, ◌<◌, ◌≤◌, ◌^◌, Bool, true, false, List, []}
+use Rattle.std.proofs.Common.{refl, sym, ap, ◌∙◌, subst, inl, inr, arith, min}
+use Rattle.std.specs.Prelude.{◌≢◌, cond}
+use Rattle.std.proofs.lemmas.Bool.{cases_eq, cases_lt}
+use Rattle.std.proofs.lemmas.Nat.{div-mul-add, mod-mul-add}
+use Rattle.plan_model.specs.Trees.BestNode.{IsGoalNode, is_goal_point}
+use Rattle.plan_model.specs.Trees.PointsByNumber.{AreNumberedTo, point_at}
+use Rattle.plan_model.specs.Trees.TreeStates.{TreeState}
+use Rattle.plan_model.specs.declared.geometry.Goal.{Goal}
+use Rattle.plan_model.proofs.BestNodeLaws.{IsPresent-goal}
+use Rattle.plan_model.proofs.GoalNodes.{no_goal_node}
+use Rattle.grown_runs.specs.Runs.LeastBests.{IsLeastBest}
+use Rattle.grown_runs.specs.Table.Words.{best_cost_in, best_node_in, best_word, no_best}
+
+-- what holds of two numbers holds of the lesser
+pub min-either : (P : ℕ → Type 0) (a b : ℕ) → P a → P b → P (min a b)
+min-either P a b of_a of_b =
+    elim (cases_lt a b) [
+      | inl less ↦ subst P (omega (arith, less)) of_a
+      | inr enough ↦ subst P (omega (arith, enough)) of_b
+    ]
+
+-- a word that is a pair is that of a goal node, and has its cost
+abbrev IsPairOf : List Goal → TreeState → ℕ → Type 0
+IsPairOf goals state word = word ≢ no_best → IsGoalNode goals state.points (best_node_in word) × (state.cost (best_node_in word) ≡ best_cost_in word)
+
+-- the least pair of the goal nodes with a number below m
+pub record IsLeastBelow (goals : List Goal) (state : TreeState) (m word : ℕ) : Type 0 where
+  pub pair : IsPairOf goals state word
+  pub least : (n : ℕ) → n < m → IsGoalNode goals state.points n → word ≤ best_word (state.cost n) n
+
+pub IsLeastBelow-none : (goals : List Goal) (state : TreeState) → IsLeastBelow goals state 0 no_best
+IsLeastBelow-none goals state = record { pair = λ some_pair. absurd (some_pair refl); least = λ n low goal. absurd (omega (arith, low)) }
+
+-- one node more
+pub IsLeastBelow-more :
+    (goals : List Goal) (state : TreeState) (m word next : ℕ) → m < 2 ^ 18 → IsLeastBelow goals state m word
+    → next ≡ cond (is_goal_point goals (point_at state.points m)) (best_word (state.cost m) m) no_best → IsLeastBelow goals state (m + 1) (min word next)
+IsLeastBelow-more goals state m word next small so_far is = by_test (is_goal_point goals (point_at state.points m)) refl is
+  where
+    own_pair : IsGoalNode goals state.points m → IsPairOf goals state (best_word (state.cost m) m)
+    own_pair goal some_pair =
+        let node : best_node_in (best_word (state.cost m) m) ≡ m = mod-mul-add (state.cost m) (2 ^ 18) m small in
+        let paid : best_cost_in (best_word (state.cost m) m) ≡ state.cost m = div-mul-add (state.cost m) (2 ^ 18) m small in
+        (subst (IsGoalNode goals state.points) (sym node) goal, ap state.cost node ∙ sym paid)
+
+    by_test :
+        (b : Bool) → is_goal_point goals (point_at state.points m) ≡ b → next ≡ cond b (best_word (state.cost m) m) no_best
+        → IsLeastBelow goals state (m + 1) (min word next)
+    by_test true goal e = record {
+      pair = min-either (IsPairOf goals state) word next so_far.pair (subst (IsPairOf goals state) (sym e) (own_pair goal));
+      least = λ n low own.
+          elim (cases_eq n m) [
+            | inl same ↦ omega (arith, e, ap (λ i. best_word (state.cost i) i) same)
+            | inr apart ↦ omega (arith, so_far.least n (omega (arith, low, apart)) own)
+          ];
+    }
+    by_test false none e = record {
+      pair = min-either (IsPairOf goals state) word next so_far.pair (λ some_pair. absurd (some_pair e));
+      least = λ n low own.
+          elim (cases_eq n m) [
+            | inl same ↦ (let no = sym (ap (λ i. is_goal_point goals (point_at state.points i)) same ∙ none) ∙ own in cc)
+            | inr apart ↦ omega (arith, so_far.least n (omega (arith, low, apart)) own)
+          ];
+    }
+
+-- at last those of all nodes
+pub IsLeastBest-all :
+    (goals : List Goal) (state : TreeState) (limit m word : ℕ) → AreNumberedTo limit state.points → limit < m → IsLeastBelow goals state m word
+    → IsLeastBest goals state word
+IsLeastBest-all goals state limit m word numbered all found = record {
+  pair = found.pair;
+  least = λ n goal. found.least n (omega (arith, numbered n (IsPresent-goal goals (point_at state.points n) goal), all)) goal;
+}
+
+-- without goals there is none
+pub IsLeastBest-none : (state : TreeState) → IsLeastBest [] state no_best
+IsLeastBest-none state = record { pair = λ some_pair. absurd (some_pair refl); least = λ n goal. absurd (no_goal_node state.points n goal) }

@@ -1,0 +1,12 @@
+use Rattle.std.proofs.Common.{◌≡◌}
+use Rattle.grown_runs.specs.Runs.PackedRuns.{CountsMarks}
+use Rattle.grown_runs.specs.Table.PlacesOfWords.{sizes_in}
+use Rattle.grown_runs.specs.Table.RunWords.{words_in}
+use Rattle.grown_runs.proofs.packed_runs.count_marks.Given as goal
+
+-- the marks so far are counted
+abbrev pub invariant-loop-mark : goal.invariant-loop-mark
+invariant-loop-mark l = record {
+  places : l.words.places ≡ l.fn.words.places;
+  counted : CountsMarks (sizes_in l.fn.words.places) l.mark (words_in l.fn.words) (words_in l.words);
+}

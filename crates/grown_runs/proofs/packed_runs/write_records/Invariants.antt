@@ -1,0 +1,11 @@
+use Rattle.std.proofs.Common.{◌≡◌}
+use Rattle.grown_runs.specs.Runs.PackedRuns.{WritesRecords}
+use Rattle.grown_runs.specs.Table.RunWords.{words_in}
+use Rattle.grown_runs.proofs.packed_runs.write_records.Given as goal
+
+-- the records so far are written
+abbrev pub invariant-loop-mark : goal.invariant-loop-mark
+invariant-loop-mark l = record {
+  places : l.words.places ≡ l.fn.words.places;
+  records : WritesRecords l.records l.mark (words_in l.fn.words) (words_in l.words);
+}

@@ -1,0 +1,19 @@
+-- The parts of the law of worlds, each after any step that leaves what it speaks of.
+pub mod ViewLists
+pub mod WorldParts
+pub mod MarksInHand
+pub mod HandsAt
+pub mod WorldLinks
+pub mod LinkedCounts
+pub mod LinkedStates
+pub mod LinkedWays
+pub mod WorldCopies
+pub mod WorldEmpties
+pub mod WorldBests
+pub mod WorldHands
+pub mod WorldTrees
+pub mod WorldPairs
+pub mod HungNodes
+pub mod WorldSeenPairs
+pub mod WorldRecords
+pub mod LawfulRecords

@@ -1,0 +1,489 @@
+-- From what a pass has seen to the record law: a record that the view allows is lawful in the tree now.
+use Rattle.std.proofs.Common.{◌≡◌, ◌≢◌, ℕ, zero, suc, ◌+◌, ◌*◌, ◌/◌, ◌%◌, ◌<◌, ◌≤◌, ◌^◌, Bool, true, false, Option, Some}
+use Rattle.std.proofs.Common.{None, List, ◌∷◌, length, refl, sym, ap, ◌∙◌, subst, inl, inr, arith}
+use Rattle.std.specs.Prelude.{◌==◌, ◌&&◌, IsTrue, cond, is_some, nat_lt, unwrap_or}
+use Rattle.std.specs.List.{count_by, range_with_len, sum_by}
+use mathlib.Core.Option.{some}
+use lib.ListN.{get_elem?}
+use Rattle.std.proofs.lemmas.Nat.{div-add-mod', mod_below}
+use Rattle.std.proofs.lemmas.List.FromFn.{length-map-range_with_len}
+use Rattle.std.proofs.lemmas.List.Sums.{length-filter}
+use Rattle.plan_model.specs.Spaces.Clearance.{Clear}
+use Rattle.plan_model.specs.Runs.ClosedLaw.{mark_at}
+use Rattle.plan_model.specs.Geometry.Cost.{cost_of}
+use Rattle.plan_model.specs.Geometry.Plane.{squared_distance}
+use Rattle.plan_model.specs.Trees.BestNode.{IsGoalNode, is_goal_point}
+use Rattle.plan_model.specs.Trees.Nearness.{is_within}
+use Rattle.plan_model.specs.Runs.OrderLaw.{Hangs}
+use Rattle.plan_model.specs.Runs.Outcomes.{is_placed}
+use Rattle.plan_model.specs.Trees.PointsByNumber.{IsPresent, StandsAt, node_count, point_at, point_of}
+use Rattle.plan_model.specs.Geometry.Radius.{class_of, radius_of_class}
+use Rattle.plan_model.specs.Runs.RecordLaw.{HangsLawfully, HasLawfulOutcome, IsBlockedLawfully, IsChosenLawfully, IsEarlier, IsLawfulRecord, IsNeighbour}
+use Rattle.plan_model.specs.Runs.RecordLaw.{IsPlacedLawfully, IsSkippedLawfully, IsSteeredLawfully, earlier_count, first_cost_through, is_earlier}
+use Rattle.plan_model.specs.Runs.RecordLaw.{is_earlier_record}
+use Rattle.plan_model.specs.Geometry.Steering.{steered}
+use Rattle.plan_model.specs.Runs.Textbook.{Setup, mark_bound}
+use Rattle.plan_model.specs.Trees.TreeStates.{TreeState, first_cost_of}
+use Rattle.plan_model.specs.Runs.Turns.{is_of_worker, once_if}
+use Rattle.plan_model.specs.declared.geometry.Point.{Point}
+use Rattle.plan_model.specs.declared.records.Outcome.{Outcome}
+use Rattle.plan_model.specs.declared.records.Outcome.TheVariants.{Blocked, Placed, Same, Skipped}
+use Rattle.plan_model.specs.declared.records.Record.{Record}
+use Rattle.plan_model.proofs.CountsBelow.{count-first, count-same}
+use Rattle.plan_model.proofs.SumsBelow.{sum-le}
+use Rattle.plan_model.proofs.GoalNodes.{no_goal_node}
+use Rattle.plan_model.proofs.NewNodes.{IsPresent-stands, StandsAt-present}
+use Rattle.plan_model.proofs.RecordLaws.{class_of-le}
+use Rattle.grown_runs.specs.Runs.GrownWords.{has_node, has_placed, record_at}
+use Rattle.step_core.specs.SeenBests.{IsInformed, MayBeSkipped}
+use Rattle.step_core.specs.SeenRecords.{IsOwnNeighbour, MayBeBlocked, MayBePlaced, MayEnd, MayRecord, MaySteer, is_own_node, own_count, own_first_cost}
+use Rattle.step_core.specs.SharedWords.{linked_point}
+use Rattle.step_core.specs.Stages.{MayBeRecorded, has_count, has_first, has_link, has_point}
+use Rattle.step_core.specs.ViewTrees.{SeesHand, SeesPoint, SeesTree}
+use Rattle.step_core.specs.Views.{run_sizes, sees, setup_in, tree_seen}
+use Rattle.grown_runs.specs.Table.WordKinds.{AreBehind}
+use Rattle.grown_runs.specs.Table.WordNames.{Words}
+use Rattle.grown_runs.specs.Table.WordNames.Word.{Count, FirstOf, RecordOf, TreeOf}
+use Rattle.grown_runs.specs.Table.Words.{IsFirstWord, best_cost_in, best_word, cost_in, no_best, outcome_in, record_in, record_of_word, tree_word}
+use Rattle.step_core.specs.Worlds.{IsFirstOf, IsWorld, counted_once, state_in}
+use Rattle.step_core.specs.declared.views.Hand.{Hand}
+use Rattle.step_core.specs.declared.views.Member.{Member}
+use Rattle.step_core.specs.declared.views.SharedRun.{SharedRun}
+use Rattle.step_core.specs.declared.views.Stage.{Stage}
+use Rattle.step_core.specs.declared.views.Stage.TheVariants.{Claimed, Counted, Half, Linked, Pointed, Posted, Treed}
+use Rattle.step_core.specs.declared.views.View.{View}
+use Rattle.step_core.proofs.OneView.LawfulSights.{IsTrueOf-seen}
+use Rattle.step_core.proofs.Parts.LinkedCounts.{count-most}
+use Rattle.step_core.proofs.Parts.LinkedStates.{first_cost-linked, linked-present, placed-linked}
+use Rattle.grown_runs.proofs.Table.PackedRecords.{unplaced_at, zeros}
+use Rattle.grown_runs.proofs.Table.PackedWords.{cost_in-tree_word}
+use Rattle.step_core.proofs.Seen.PlacedWords.{has_node-same}
+use Rattle.step_core.proofs.Seen.SeenWords.{seen-within}
+use Rattle.step_core.proofs.Parts.WorldRecords.{earlier-placed}
+
+-- ---- pairs
+
+-- what is at most a pair has a cost that is no greater
+best_cost-below : (word cost n : ℕ) → n < 2 ^ 18 → word ≤ best_word cost n → best_cost_in word ≤ cost
+best_cost-below word cost n small low =
+    let rest : word / 2 ^ 18 * 2 ^ 18 + word % 2 ^ 18 ≡ word = div-add-mod' word (2 ^ 18) in
+    omega (arith, rest, small, low)
+
+-- and is one
+best_word-some : (word cost n : ℕ) → n < 2 ^ 18 → cost < 2 ^ 44 → word ≤ best_word cost n → word ≢ no_best
+best_word-some word cost n small few low none = omega (arith, none, small, few, low)
+
+-- ---- records
+
+-- whether a record is an earlier one is in its own word
+earlier_same : (entry : Record) (number word first other : ℕ)
+    → is_earlier_record entry (Some (record_in number word first)) ≡ is_earlier_record entry (Some (record_in number word other))
+earlier_same entry zero word first other = refl
+earlier_same entry (suc zero) word first other = refl
+earlier_same entry (suc (suc zero)) word first other = refl
+earlier_same entry (suc (suc (suc n))) word first other = refl
+
+earlier-own : (entry : Record) (word first other : ℕ)
+    → is_earlier_record entry (record_of_word word first) ≡ is_earlier_record entry (record_of_word word other)
+earlier-own entry word first other = by_test (nat_lt word (2 ^ 63))
+  where
+    by_test :
+        (b : Bool) → is_earlier_record entry (cond b None (Some (record_in (outcome_in word) word first)))
+        ≡ is_earlier_record entry (cond b None (Some (record_in (outcome_in word) word other)))
+    by_test true = refl
+    by_test false = earlier_same entry (outcome_in word) word first other
+
+-- an earlier record is of the same worker
+earlier-worker : (entry : Record) (o : Option Record) → is_earlier_record entry o ≡ true → is_of_worker entry.worker o ≡ true
+earlier-worker entry None h = cc
+earlier-worker entry (Some other) h = by_test (is_placed other.outcome) (other.worker == entry.worker) h
+  where
+    by_test : (a b : Bool) → (a && (b && nat_lt other.turn entry.turn)) ≡ true → b ≡ true
+    by_test true true h = refl
+    by_test true false h = h
+    by_test false b h = cc
+
+-- The worker's own nodes by what the view has seen are those that stood earlier, if it has seen all records of the worker.
+module _ (view : View) (words : Words) (entry : Record) (behind : AreBehind (sees view) words)
+    (own : (k : ℕ) → is_of_worker entry.worker (record_at words k) ≡ true → sees view (RecordOf k) ≡ words (RecordOf k)) where
+  earlier_seen : (k : ℕ) → is_earlier_record entry (record_at words k) ≡ is_earlier_record entry (record_at (sees view) k)
+  earlier_seen k =
+      elim (behind (RecordOf k)) [
+        | inr same ↦
+            ap (λ w. is_earlier_record entry (record_of_word w (words (FirstOf (suc k))))) (sym same)
+            ∙ earlier-own entry (sees view (RecordOf k)) (words (FirstOf (suc k))) (sees view (FirstOf (suc k)))
+        | inl unseen ↦ by_test (is_earlier_record entry (record_at words k)) refl unseen
+      ]
+    where
+      by_test : (b : Bool) → is_earlier_record entry (record_at words k) ≡ b → sees view (RecordOf k) ≡ 0
+          → is_earlier_record entry (record_at words k) ≡ is_earlier_record entry (record_at (sees view) k)
+      by_test false e unseen = e ∙ sym (ap (λ w. is_earlier_record entry (record_of_word w (sees view (FirstOf (suc k))))) unseen)
+      by_test true e unseen =
+          let seen = own k (earlier-worker entry (record_at words k) e) in
+          ap (λ w. is_earlier_record entry (record_of_word w (words (FirstOf (suc k))))) (sym seen)
+          ∙ earlier-own entry (sees view (RecordOf k)) (words (FirstOf (suc k))) (sees view (FirstOf (suc k)))
+
+  pub is_own_node-earlier : (n : ℕ) → is_own_node view entry n ≡ is_earlier (state_in view.run words) entry n
+  is_own_node-earlier zero = refl
+  is_own_node-earlier (suc k) = sym (earlier_seen k)
+
+-- ---- as many nodes
+
+-- There are no fewer nodes than those that a worker has placed, by the records that a view has seen.
+pub own_count-most :
+    (run : SharedRun) (words : Words) (views : List View) (id : ℕ) (view : View) → IsWorld run words views → get_elem? views id ≡ some view
+    → view.run ≡ run → (entry : Record) → own_count view entry ≤ words Count
+own_count-most run words views id view world at own entry =
+    let marks : length view.run.marks ≡ length run.marks = ap (λ r. length r.marks) own in
+    let next : length view.run.marks + 1 ≡ suc (length view.run.marks) = omega arith in
+    let all =
+    length-filter (is_own_node view entry) (range_with_len 0 (length view.run.marks + 1))
+    ∙ ap (λ n. count_by (is_own_node view entry) (range_with_len 0 n)) next ∙ count-first (is_own_node view entry) (length view.run.marks) in
+    let few =
+    sum-le (λ k. once_if (is_own_node view entry (suc k))) (counted_once words views) (length view.run.marks) (λ k low. at_most k) in
+    let same = ap (λ n. sum_by (counted_once words views) (range_with_len 0 n)) marks in
+    omega (arith, all, few, same, world.links.count)
+  where
+    by_test : (a b : Bool) → (a ≡ true → b ≡ true) → once_if a ≤ once_if b
+    by_test false b h = omega arith
+    by_test true b h = omega (arith, ap once_if (h refl))
+
+    node_now : (k : ℕ) → has_node (sees view) (suc k) ≡ true → has_node words (suc k) ≡ true
+    node_now k placed =
+        elim (world.seen.behind id view at (RecordOf k)) [
+          | inr same ↦ has_node-same (sees view) words k (sym same) ∙ placed
+          | inl unseen ↦ (let no = ap (λ w. has_placed (record_of_word w (sees view (FirstOf (suc k))))) (sym unseen) ∙ placed in cc)
+        ]
+
+    at_most : (k : ℕ) → once_if (is_own_node view entry (suc k)) ≤ counted_once words views k
+    at_most k =
+        omega (
+          arith,
+          by_test (is_own_node view entry (suc k)) (has_node words (suc k)) (λ h. node_now k (earlier-placed entry (record_at (sees view) k) h)),
+        )
+
+-- ---- stages
+
+-- what a hand that has counted its node has done before
+pub record HasCome (stage : Stage) : Type 0 where
+  pub point : has_point stage ≡ true
+  pub first : has_first stage ≡ true
+  pub link : has_link stage ≡ true
+
+pub has_come : (stage : Stage) → has_count stage ≡ true → HasCome stage
+has_come Claimed e = cc
+has_come Pointed e = cc
+has_come Half e = cc
+has_come Treed e = cc
+has_come Linked e = cc
+has_come Counted e = record { point = refl; first = refl; link = refl }
+has_come Posted e = record { point = refl; first = refl; link = refl }
+
+-- ---- what is seen against what is so
+
+module _ (words : Words) (views : List View) (id : ℕ) (view : View) (world : IsWorld view.run words views) (at : get_elem? views id ≡ some view)
+    (hand : Hand) (held : view.hand ≡ Some hand) (member : Member) (crew : List Member) (crew_is : view.crew ≡ member ∷ crew) (entry : Record)
+    (worker : entry.worker ≡ member.worker) where
+  abbrev own_run : SharedRun
+  own_run = view.run
+
+  abbrev setup : Setup
+  setup = setup_in own_run
+
+  abbrev state : TreeState
+  state = state_in own_run words
+
+  abbrev seen_points : List (Option Point)
+  seen_points = (tree_seen view).points
+
+  behind : AreBehind (sees view) words
+  behind = world.seen.behind id view at
+
+  tree : SeesTree view
+  tree = world.sights id view at refl
+
+  stands_now : (n : ℕ) (p : Point) → SeesPoint view n p → StandsAt state.points n p
+  stands_now = (IsTrueOf-seen view words behind tree world.links.ways).places.nodes
+
+  -- a node seen with its point is where it was seen
+  same_at : (n : ℕ) → IsPresent seen_points n → point_at state.points n ≡ point_at seen_points n
+  same_at n h =
+      let stands = StandsAt-present seen_points n h in
+      stands_now n (point_of seen_points n) stands ∙ sym stands
+
+  same_point : (n : ℕ) → IsPresent seen_points n → point_of state.points n ≡ point_of seen_points n
+  same_point n h = ap (λ o. unwrap_or o (record { x = 0; y = 0 })) (same_at n h)
+
+  -- the view has seen all records of the worker
+  own_records : (k : ℕ) → is_of_worker entry.worker (record_at words k) ≡ true → sees view (RecordOf k) ≡ words (RecordOf k)
+  own_records k of =
+      (world.turns.members id view at 0 member (ap (λ l. get_elem? l 0) crew_is)).own k
+      (subst (λ w. is_of_worker w (record_at words k) ≡ true) worker of)
+
+  same_own : (n : ℕ) → is_own_node view entry n ≡ is_earlier state entry n
+  same_own = is_own_node-earlier view words entry behind own_records
+
+  own_of : (n : ℕ) → IsEarlier state entry n → IsTrue (is_own_node view entry n)
+  own_of n early = same_own n ∙ early
+
+  -- it sees its worker's own nodes, with what they were placed at
+  own_seen : (n : ℕ) → IsTrue (is_own_node view entry n) → IsPresent seen_points n
+  own_seen zero h = tree.rooted.start
+  own_seen (suc k) h = tree.placed k (earlier-placed entry (record_at (sees view) k) h)
+
+  own_cost : (n : ℕ) → IsTrue (is_own_node view entry n) → own_first_cost view n ≡ first_cost_of state n
+  own_cost zero h = refl
+  own_cost (suc k) h =
+      let placed = earlier-placed entry (record_at (sees view) k) h in
+      let written = tree.placed_first k placed in
+      let linked =
+      placed-linked own_run words views world.numbers world.links k (earlier-placed entry (record_at words k) (sym (same_own (suc k)) ∙ h)) in
+      let now : sees view (FirstOf (suc k)) ≡ words (FirstOf (suc k)) =
+      elim (behind (FirstOf (suc k))) [ inl unseen ↦ absurd (omega (arith, unseen, written)) | inr same ↦ same ] in
+      ap cost_in now ∙ sym (first_cost-linked own_run words views world.numbers world.links world.trees.start_first (suc k) linked)
+
+  -- what a node was seen to cost is no less than what it costs
+  cost_falls : (n : ℕ) → 2 ^ 63 ≤ sees view (TreeOf n) → state.cost n ≤ cost_in (sees view (TreeOf n))
+  cost_falls n written =
+      elim (behind (TreeOf n)) [
+        | inl unseen ↦ absurd (omega (arith, unseen, written))
+        | inr falls ↦ elim falls [
+          | inl same ↦ omega (arith, ap cost_in same)
+          | inr fell ↦ omega (arith, fell.1)
+        ]
+      ]
+
+  -- ---- placed marks
+
+  own_neighbour : (p : Point) (i : ℕ) → IsNeighbour setup state entry p i → IsOwnNeighbour view entry p i
+  own_neighbour p i h =
+      let own = own_of i h.earlier in
+      let here = own_seen i own in
+      record {
+        own = own;
+        near = subst (λ o. IsTrue (is_within p (radius_of_class own_run.step own_run.gamma entry.class) o)) (same_at i here) h.near;
+        clear = subst (λ a. Clear setup.space a p) (same_point i here) h.clear;
+      }
+
+  as_many : earlier_count state entry ≡ own_count view entry
+  as_many =
+      let all : length state.points ≡ length own_run.marks + 1 = length-map-range_with_len (linked_point (run_sizes own_run) words) 0
+      (length own_run.marks + 1) in
+      length-filter (is_earlier state entry) (range_with_len 0 (length state.points))
+      ∙ ap (λ n. count_by (is_earlier state entry) (range_with_len 0 n)) all
+      ∙ count-same (is_earlier state entry) (is_own_node view entry) (length own_run.marks + 1) (λ n low. sym (same_own n))
+      ∙ sym (length-filter (is_own_node view entry) (range_with_len 0 (length own_run.marks + 1)))
+
+  module _ (present : IsPresent seen_points entry.nearest) where
+    -- what the worker knows
+    IsChosenLawfully-seen : (p : Point) → p ≡ hand.point → MayBePlaced view hand entry → IsChosenLawfully setup state entry p (node_count state.points)
+    IsChosenLawfully-seen p is may =
+        subst (λ q. IsChosenLawfully setup state entry q (node_count state.points)) (sym is) record {
+          clear = subst (λ a. Clear setup.space a hand.point) (sym (same_point entry.nearest present)) may.clear;
+          of_class = record {
+            low = omega (arith, ap class_of as_many, may.low);
+            high =
+                omega (
+                  arith,
+                  may.high,
+                  class_of-le (sees view Count) (node_count state.points)
+                      (omega (arith, behind Count, count-most own_run words views world.links world.trees)),
+                );
+          };
+          chosen = λ i h.
+              let own = own_neighbour hand.point i h in
+              omega (
+                arith,
+                may.cost_is,
+                may.chosen i own,
+                own_cost i own.own,
+                ap (λ a. cost_of a hand.point) (same_point i (own_seen i own.own)),
+              );
+          rewired = λ i h.
+              let own = own_neighbour hand.point i h in
+              let seen = may.rewired i own in
+              omega (
+                arith,
+                may.cost_is,
+                cost_falls i seen.0,
+                seen.1,
+                ap (λ a. cost_of a hand.point) (same_point i (own_seen i own.own)),
+              );
+        }
+
+    module _ (count : has_count hand.stage ≡ true) where
+      come : HasCome hand.stage
+      come = has_come hand.stage count
+
+      holds : SeesHand view hand
+      holds = tree.holds hand held
+
+      first : IsFirstOf own_run words hand
+      first = world.pairs.first id view at hand held come.first
+
+      stands : StandsAt state.points (suc hand.mark) hand.point
+      stands = stands_now (suc hand.mark) hand.point (holds.shown come.link)
+
+      -- the nearest node steered to the point in hand
+      hand_point : entry.nearest ≡ hand.nearest → steered (point_of seen_points entry.nearest) (mark_at own_run.marks hand.mark) own_run.step ≡ hand.point
+      hand_point same =
+          let step = holds.steered_from come.point in
+          let from = ap (point_of seen_points) same ∙ ap (λ o. unwrap_or o (record { x = 0; y = 0 })) step.seen in
+          ap (λ a. steered a (mark_at own_run.marks hand.mark) own_run.step) from ∙ sym step.reached
+
+      placed_cost : first_cost_of state (suc hand.mark) ≡ hand.cost
+      placed_cost =
+          let linked = linked-present (run_sizes own_run) words (suc hand.mark) (IsPresent-stands state.points (suc hand.mark) hand.point stands) in
+          first_cost-linked own_run words views world.numbers world.links world.trees.start_first (suc hand.mark) linked
+          ∙ ap cost_in first.word ∙ cost_in-tree_word hand.parent hand.cost first.fits.0 first.fits.1
+
+      -- what the tree knows
+      HangsLawfully-seen : (p : Point) → p ≡ hand.point → MayBePlaced view hand entry → HangsLawfully setup state hand.mark entry p
+      HangsLawfully-seen p is may =
+          let here = IsPresent-stands state.points (suc hand.mark) hand.point stands in
+          subst (HangsLawfully setup state hand.mark entry) (sym is) record {
+            stands = stands;
+            first =
+                subst (λ f. Hangs setup state (suc hand.mark) hand.point f entry.first_cost) (sym may.parent_is)
+                (subst (Hangs setup state (suc hand.mark) hand.point hand.parent) (sym may.cost_is) first.hangs);
+            nearest_other = λ e. holds.other come.point (sym may.nearest_is ∙ e);
+            below_first = omega (arith, may.cost_is, ap (first_cost_through state hand.point) may.parent_is, first.below_first);
+            below_nearest = omega (arith, may.cost_is, ap (first_cost_through state hand.point) may.nearest_is, first.below_nearest);
+            bounded = omega (arith, may.cost_is, placed_cost, world.trees.first_costs.bounded (suc hand.mark) here);
+            kept = omega (arith, may.cost_is, placed_cost, world.trees.first_costs.kept (suc hand.mark) here);
+          }
+
+    -- ---- the outcome
+
+    placed_now : (p : Point) → p ≡ steered (point_of seen_points entry.nearest) (mark_at own_run.marks hand.mark) own_run.step
+        → has_count hand.stage ≡ true → MayBePlaced view hand entry → IsPlacedLawfully setup state hand.mark entry p
+    placed_now p is count may =
+        let there = is ∙ hand_point count may.nearest_is in
+        record { by_worker = IsChosenLawfully-seen p there may; by_tree = HangsLawfully-seen count p there may }
+
+    blocked_now : (p : Point) → MayBeBlocked view entry p → IsBlockedLawfully setup state entry p
+    blocked_now p may = record {
+      blocked = λ clear. may.blocked (subst (λ a. Clear setup.space a p) (same_point entry.nearest present) clear);
+      free = λ i early stands.
+          let own = own_of i early in
+          may.free i own (sym (same_at i (own_seen i own)) ∙ stands);
+    }
+
+  -- ---- marks that are skipped, and others
+
+  -- if there is a goal node, there are goals
+  informed : (i : ℕ) → IsGoalNode own_run.goals state.points i → IsInformed own_run
+  informed i goal none = no_goal_node state.points i (subst (λ goals. IsGoalNode goals state.points i) none goal)
+
+  -- what is above the bound of a mark in the best that was loaded is below the first cost of each own goal node
+  cheaper_now :
+      (i : ℕ) → IsTrue (is_own_node view entry i) → IsGoalNode own_run.goals state.points i
+      → (word : ℕ) × (hand.best ≡ Some word) × (word ≢ no_best → mark_bound setup (mark_at own_run.marks hand.mark) < best_cost_in word)
+      → mark_bound setup (mark_at own_run.marks hand.mark) < first_cost_of state i
+  cheaper_now i own goal (word, taken, above) =
+      let here = own_seen i own in
+      let seen = subst (λ o. IsTrue (is_goal_point own_run.goals o)) (same_at i here) goal in
+      let within : i < 2 ^ 18 = omega (arith, seen-within (run_sizes own_run) (sees view) i here, world.run_is.marks) in
+      let least = ((world.bests id view at refl).taken hand word held taken).1 i (node_of i own) seen in
+      let low = best_cost-below word (own_first_cost view i) i within least in
+      let some_pair = best_word-some word (own_first_cost view i) i within (first_cost-small i) least in
+      omega (arith, above some_pair, low, own_cost i own)
+    where
+      node_of : (n : ℕ) → IsTrue (is_own_node view entry n) → has_node (sees view) n ≡ true
+      node_of zero h = refl
+      node_of (suc k) h = earlier-placed entry (record_at (sees view) k) h
+
+      first_cost-small : (n : ℕ) → own_first_cost view n < 2 ^ 44
+      first_cost-small zero = omega arith
+      first_cost-small (suc k) = mod_below (sees view (FirstOf (suc k)) / 2 ^ 18) (2 ^ 44) (omega arith)
+
+  -- a mark that may be skipped is skipped lawfully
+  skipped_now : MayBeSkipped view hand entry.nearest → IsSkippedLawfully setup state (mark_at own_run.marks hand.mark) entry
+  skipped_now may =
+      let pair = (world.bests id view at refl).taken_pair hand may.word held may.taken may.some_node in
+      record {
+        goal = subst (IsGoalNode own_run.goals state.points) (sym may.node) pair.0;
+        within = omega (arith, ap state.cost may.node, pair.1, may.within);
+      }
+
+  -- A nearest node that was seen is lawful, and steers to the same point.
+  IsSteeredLawfully-own :
+      (MayEndAt EndsAt : Point → Type 0)
+      → (IsPresent seen_points entry.nearest → (p : Point)
+      → p ≡ steered (point_of seen_points entry.nearest) (mark_at own_run.marks hand.mark) own_run.step → MayEndAt p → EndsAt p)
+      → MaySteer view hand entry MayEndAt → IsSteeredLawfully setup state (mark_at own_run.marks hand.mark) entry EndsAt
+  IsSteeredLawfully-own MayEndAt EndsAt now may =
+      let mark : Point = mark_at own_run.marks hand.mark in
+      record {
+        cheaper = λ i early goal. cheaper_now i (own_of i early) goal (may.unskipped (informed i goal));
+        present = ap is_some (same_at entry.nearest may.present) ∙ may.present;
+        nearest = λ i early.
+            let own = own_of i early in
+            let h = may.nearest i own in
+            let near = ap (λ a. squared_distance a mark) (same_point entry.nearest may.present) in
+            let other = ap (λ a. squared_distance a mark) (same_point i (own_seen i own)) in
+            record { least = omega (arith, near, other, h.least); first = λ e. h.first (omega (arith, near, other, e)) };
+        outcome =
+            subst (λ a. EndsAt (steered a mark own_run.step)) (sym (same_point entry.nearest may.present))
+            (now may.present (steered (point_of seen_points entry.nearest) mark own_run.step) refl may.outcome);
+      }
+
+  -- What the view allows to be recorded is lawful.
+  IsLawfulRecord-own : MayRecord view hand entry → MayBeRecorded hand.stage entry.outcome
+      → IsLawfulRecord setup state hand.mark (mark_at own_run.marks hand.mark) entry
+  IsLawfulRecord-own may stage = by_outcome entry.outcome refl may
+    where
+      by_outcome : (outcome : Outcome) → entry.outcome ≡ outcome → MayEnd view hand entry outcome
+          → HasLawfulOutcome setup state hand.mark (mark_at own_run.marks hand.mark) entry outcome
+      by_outcome Placed e placed =
+          IsSteeredLawfully-own (λ p. MayBePlaced view hand entry) (IsPlacedLawfully setup state hand.mark entry)
+          (λ present p is ended. placed_now present p is (sym stage.counted ∙ ap is_placed e) ended) placed
+      by_outcome (Same j) e same =
+          IsSteeredLawfully-own (SeesPoint view j) (StandsAt state.points j) (λ present p is ended. stands_now j p ended) same
+      by_outcome Blocked e blocked =
+          IsSteeredLawfully-own (MayBeBlocked view entry) (IsBlockedLawfully setup state entry) (λ present p is ended. blocked_now present p ended) blocked
+      by_outcome Skipped e skipped = skipped_now skipped
+
+  -- Its first word has its first parent and its first cost, if it was placed.
+  IsFirstWord-own : MayRecord view hand entry → MayBeRecorded hand.stage entry.outcome → IsFirstWord entry (words (FirstOf (suc hand.mark)))
+  IsFirstWord-own may stage = by_outcome entry.outcome refl may
+    where
+      unplaced : (outcome : Outcome) → entry.outcome ≡ outcome → outcome ≢ Placed
+          → IsTrue (entry.first_parent == 0 && (entry.first_cost == 0 && entry.class == 0)) → IsFirstWord entry (words (FirstOf (suc hand.mark)))
+      unplaced outcome e other zero_fields =
+          let fields = zeros entry.first_parent entry.first_cost entry.class zero_fields in
+          record {
+            word = λ placed. absurd (other (sym e ∙ placed));
+            parent = omega (arith, fields.parent_is);
+            cost = omega (arith, fields.cost_is);
+          }
+
+      by_outcome : (outcome : Outcome) → entry.outcome ≡ outcome → MayEnd view hand entry outcome → IsFirstWord entry (words (FirstOf (suc hand.mark)))
+      by_outcome Placed e ended =
+          let placed = ended.outcome in
+          let first = world.pairs.first id view at hand held (has_come hand.stage (sym stage.counted ∙ ap is_placed e)).first in
+          record {
+            word = λ is. first.word ∙ ap (λ f. tree_word f hand.cost) (sym placed.parent_is) ∙ ap (tree_word entry.first_parent) (sym placed.cost_is);
+            parent = omega (arith, placed.parent_is, first.fits.0);
+            cost = omega (arith, placed.cost_is, first.fits.1);
+          }
+      by_outcome (Same j) e same = unplaced (Same j) e (λ no. cc) (unplaced_at entry (Same j) e)
+      by_outcome Blocked e blocked = unplaced Blocked e (λ no. cc) (unplaced_at entry Blocked e)
+      by_outcome Skipped e skipped = unplaced Skipped e (λ no. cc) (unplaced_at entry Skipped e)
+
+-- the same of a view of the run
+pub IsLawfulRecord-seen :
+    (run : SharedRun) (words : Words) (views : List View) (id : ℕ) (view : View) → IsWorld run words views → get_elem? views id ≡ some view
+    → view.run ≡ run → (hand : Hand) → view.hand ≡ Some hand → (member : Member) (crew : List Member) → view.crew ≡ member ∷ crew → (entry : Record)
+    → entry.worker ≡ member.worker → MayRecord view hand entry → MayBeRecorded hand.stage entry.outcome
+    → IsLawfulRecord (setup_in run) (state_in run words) hand.mark (mark_at run.marks hand.mark) entry
+IsLawfulRecord-seen run words views id view world at own hand held member crew crew_is entry worker may stage =
+    subst (λ r. IsWorld r words views → IsLawfulRecord (setup_in r) (state_in r words) hand.mark (mark_at r.marks hand.mark) entry) own
+    (λ here. IsLawfulRecord-own words views id view here at hand held member crew crew_is entry worker may stage) world
+
+pub IsFirstWord-seen :
+    (run : SharedRun) (words : Words) (views : List View) (id : ℕ) (view : View) → IsWorld run words views → get_elem? views id ≡ some view
+    → view.run ≡ run → (hand : Hand) → view.hand ≡ Some hand → (member : Member) (crew : List Member) → view.crew ≡ member ∷ crew → (entry : Record)
+    → entry.worker ≡ member.worker → MayRecord view hand entry → MayBeRecorded hand.stage entry.outcome → IsFirstWord entry (words (FirstOf (suc hand.mark)))
+IsFirstWord-seen run words views id view world at own hand held member crew crew_is entry worker may stage =
+    IsFirstWord-own words views id view (subst (λ r. IsWorld r words views) (sym own) world) at hand held member crew crew_is entry worker may stage

@@ -1,0 +1,10 @@
+-- Words that were seen, the tree that they say, and one look more.
+pub mod DistinctNumbers
+pub mod SeenWays
+pub mod SeenWords
+pub mod TrueWords
+pub mod Looks
+pub mod LaterWords
+pub mod PlacedWords
+pub mod SawWords
+pub mod SeenByViews

@@ -1,0 +1,55 @@
+-- What a step on one word leaves of what a view has seen of the run, where the word is as the step left it.
+use Rattle.std.proofs.Common.{◌≡◌, ℕ, ◌^◌, ◌≤◌, sym, ap, ◌∙◌, subst, inl, inr}
+use Rattle.std.specs.Prelude.{◌⊎◌}
+use Rattle.grown_runs.specs.Table.WordKinds.{AreBehind, HaveWholePairs, MayBecome, kind_of}
+use Rattle.grown_runs.specs.Table.WordNames.{Word, Words, WritesWord}
+use Rattle.grown_runs.specs.Table.WordNames.Word.{TreeOf}
+use Rattle.step_core.proofs.Seen.Looks.{same_name}
+use Rattle.grown_runs.proofs.Table.WordKinds.{MayBecome-refl}
+use Rattle.step_core.proofs.Parts.WorldParts.{IsFair}
+
+-- words of which one is written go on, if that may be
+pub AreBehind-write : (name : Word) (x : ℕ) (before after : Words) → WritesWord name x before after → MayBecome (kind_of name) (before name) x
+    → AreBehind before after
+AreBehind-write name x before after writes may other =
+    elim (same_name other name) [
+      | inl e ↦
+          subst (λ n. MayBecome (kind_of n) (before n) (after n)) (sym e) (subst (MayBecome (kind_of name) (before name)) (sym writes.here) may)
+      | inr apart ↦ subst (MayBecome (kind_of other) (before other)) (sym (writes.others other apart)) (MayBecome-refl (kind_of other) (before other))
+    ]
+
+module _ (name : Word) (x : ℕ) (seen saw now : Words) (writes : WritesWord name x seen saw) (is : now name ≡ x) (behind : AreBehind seen now) where
+  -- what is seen may become what is so now,
+  pub AreBehind-saw : AreBehind saw now
+  AreBehind-saw other =
+      elim (same_name other name) [
+        | inl e ↦
+            subst (λ w. MayBecome (kind_of other) w (now other)) (ap now e ∙ is ∙ sym (ap saw e ∙ writes.here)) (MayBecome-refl (kind_of other) (now other))
+        | inr apart ↦ subst (λ w. MayBecome (kind_of other) w (now other)) (sym (writes.others other apart)) (behind other)
+      ]
+
+  -- and what was seen may become what is seen.
+  pub AreBehind-seen : AreBehind seen saw
+  AreBehind-seen = AreBehind-write name x seen saw writes (subst (MayBecome (kind_of name) (seen name)) is (behind name))
+
+  pub HaveWholePairs-saw : HaveWholePairs seen → HaveWholePairs now → HaveWholePairs saw
+  HaveWholePairs-saw whole pairs n =
+      elim (same_name (TreeOf n) name) [
+        | inl e ↦ subst (λ w. (w ≡ 0) ⊎ (2 ^ 63 ≤ w)) (ap now e ∙ is ∙ sym (ap saw e ∙ writes.here)) (pairs n)
+        | inr apart ↦ subst (λ w. (w ≡ 0) ⊎ (2 ^ 63 ≤ w)) (sym (writes.others (TreeOf n) apart)) (whole n)
+      ]
+
+  pub IsFair-saw : IsFair seen now saw
+  IsFair-saw n =
+      elim (same_name (TreeOf n) name) [
+        | inl e ↦ inr (ap saw e ∙ writes.here ∙ sym (ap now e ∙ is))
+        | inr apart ↦ inl (writes.others (TreeOf n) apart)
+      ]
+
+  -- what was seen as it is now is seen so still
+  pub same-saw : (other : Word) → seen other ≡ now other → saw other ≡ now other
+  same-saw other same =
+      elim (same_name other name) [
+        | inl e ↦ ap saw e ∙ writes.here ∙ sym (ap now e ∙ is)
+        | inr apart ↦ writes.others other apart ∙ same
+      ]

@@ -1,0 +1,387 @@
+-- The record of the mark in hand keeps the law of worlds.
+use Rattle.std.proofs.Common.{◌≡◌, ℕ, ◌*◌, zero, suc, ◌+◌, ◌/◌, ◌%◌, ◌<◌, ◌≤◌, ◌^◌, ◌≢◌, Bool, true, List, ◌∷◌, length, set, Some, refl, sym}
+use Rattle.std.proofs.Common.{ap, ◌∙◌, subst, inl, inr, arith, le_refl}
+use Rattle.std.specs.Prelude.{◌⊎◌, ◌==◌, IsTrue, nat_lt, is_some}
+use mathlib.Core.Option.{some}
+use lib.ListN.{get_elem?}
+use Rattle.std.proofs.lemmas.Bool.{cases_eq, eq-eqb, ne_eqb}
+use Rattle.std.proofs.lemmas.Nat.{div-mul-add, mod-mul-add}
+use Rattle.plan_model.specs.Scenes.MarkPoints.{is_claimed}
+use Rattle.plan_model.specs.Trees.BestNode.{IsGoalNode, is_goal_point}
+use Rattle.plan_model.specs.Trees.PointsByNumber.{StandsAt, point_at}
+use Rattle.plan_model.specs.Trees.TreeStates.{GrowsInto}
+use Rattle.plan_model.specs.Runs.Turns.{once_if, turns_of}
+use Rattle.plan_model.specs.declared.records.Outcome.{Outcome}
+use Rattle.plan_model.specs.declared.records.Outcome.TheVariants.{Blocked, Placed, Same, Skipped}
+use Rattle.plan_model.specs.declared.records.Record.{Record}
+use Rattle.plan_model.specs.Runs.Outcomes.{is_placed}
+use Rattle.grown_runs.specs.Runs.GrownWords.{has_node, has_placed, record_at}
+use Rattle.step_core.specs.SeenBests.{IsAtMostPlaced, SeesGoal, seen_first_cost}
+use Rattle.step_core.specs.SeenRecords.{MayEnd, MayRecord}
+use Rattle.step_core.specs.SharedWords.{linked_points}
+use Rattle.step_core.specs.Stages.{MayBeRecorded, has_count, has_link}
+use Rattle.step_core.specs.ViewTrees.{SeesPoint, SeesTree}
+use Rattle.step_core.specs.ViewSteps.{finished, one_turn_more, saw}
+use Rattle.step_core.specs.Views.{IsViewOf, holds, run_sizes, sees, share, tree_seen}
+use Rattle.grown_runs.specs.Table.WordKinds.{AreBehind}
+use Rattle.grown_runs.specs.Table.WordNames.{Words, WritesWord}
+use Rattle.grown_runs.specs.Table.WordNames.Word.{Best, ChildOf, Counter, FirstOf, PointOf, RecordOf, TreeOf}
+use Rattle.grown_runs.specs.Table.WordPlaces.{HasWord}
+use Rattle.grown_runs.specs.Table.Words.{FitsWord, IsFirstWord, IsTurnWord, best_word, cost_in, last_field, number_of_outcome, record_of_word, record_word}
+use Rattle.grown_runs.specs.Table.Words.{turn_in, worker_in}
+use Rattle.step_core.specs.Worlds.{BestWord, IsBestWord, IsRecordWord, IsWorld, Records, SeesBest, counters, is_recorded, limit_of, state_in}
+use Rattle.step_core.specs.declared.views.Hand.{Hand}
+use Rattle.step_core.specs.declared.views.Member.{Member}
+use Rattle.step_core.specs.declared.views.SharedRun.{SharedRun}
+use Rattle.step_core.specs.declared.views.Stage.TheVariants.{Posted}
+use Rattle.step_core.specs.declared.views.View.{View}
+use Rattle.step_core.proofs.Steps.FinishedTurns.{Turns-finished, change}
+use Rattle.step_core.proofs.Parts.LinkedStates.{GrowsInto-behind}
+use Rattle.step_core.proofs.Parts.LawfulRecords.{HasCome, IsFirstWord-seen, IsLawfulRecord-seen, has_come}
+use Rattle.step_core.proofs.OneView.LawfulSights.{IsTrueOf-seen}
+use Rattle.step_core.proofs.Parts.MarksInHand.{IsInHand, IsInHand-held, claimed-below, greatest_limit-most, once_if-true}
+use Rattle.grown_runs.proofs.Table.PackedRecords.{record_of_word-packed}
+use Rattle.grown_runs.proofs.Table.PackedWords.{cost_in-tree_word}
+use Rattle.step_core.proofs.Seen.PlacedWords.{has_node-same, has_placed-record_word}
+use Rattle.step_core.proofs.Seen.SawWords.{AreBehind-saw, AreBehind-seen, AreBehind-write, HaveWholePairs-saw, IsFair-saw}
+use Rattle.step_core.proofs.Seen.SeenByViews.{IsViewOf-saw, WritesWord-saw}
+use Rattle.step_core.proofs.OneView.SeenTreesOfViews.{SeesTree-finished}
+use Rattle.step_core.proofs.OneView.SeenViews.{SeesPoint-later}
+use Rattle.step_core.proofs.Parts.ViewLists.{maximum-set}
+use Rattle.grown_runs.proofs.Table.WordKinds.{AreBehind-trans}
+use Rattle.step_core.proofs.Parts.WorldBests.{BestWord-step, IsBestWord-grows, SeenBests-set, SeesBest-goes_on, goal-seen_before, same_first_cost}
+use Rattle.step_core.proofs.Parts.WorldEmpties.{Empties-kept, last_zero-saw}
+use Rattle.step_core.proofs.Parts.WorldHands.{Hands-recorded}
+use Rattle.step_core.proofs.Parts.WorldCopies.{BestCopy-step, Copies-seen}
+use Rattle.step_core.proofs.Parts.WorldLinks.{KeepsLinks, LinkedTree-recorded}
+use Rattle.step_core.proofs.Parts.WorldPairs.{Pairs-recorded}
+use Rattle.step_core.proofs.Parts.WorldParts.{ClaimedMarks-step, record_word-none, SeenBehind-step, Shares-step, limit_of-up, of_run-step, quotas-kept}
+use Rattle.step_core.proofs.Parts.WorldSeenPairs.{AreSeenLawfully-own, SeenPairs-set}
+use Rattle.step_core.proofs.Steps.WorldSteps.{TreesSeen-set, follow, live, tree}
+use Rattle.step_core.proofs.Whole.WholeShares.{worker-below}
+use Rattle.step_core.proofs.Parts.WorldRecords.{Records-recorded}
+use Rattle.step_core.proofs.Parts.WorldTrees.{Trees-kept}
+
+-- a mark in hand has no record, and is one of the marks
+pub in_hand :
+    (run : SharedRun) (words : Words) (views : List View) (id : ℕ) (view : View) → (world : IsWorld run words views) → get_elem? views id ≡ some view
+    → (hand : Hand) → view.hand ≡ Some hand → IsInHand run words views world.run_is.strips.0 world.numbers hand.mark
+in_hand run words views id view world at hand held =
+    IsInHand-held run words views world.run_is.strips.0 world.numbers id view hand.mark at
+    (ap (holds hand.mark) held ∙ eq-eqb hand.mark hand.mark refl)
+
+module _ (run : SharedRun) (words after : Words) (views : List View) (id : ℕ) (view : View) (world : IsWorld run words views)
+    (at : get_elem? views id ≡ some view) (own : view.run ≡ run) (hand : Hand) (held : view.hand ≡ Some hand) (member : Member)
+    (crew : List Member) (crew_is : view.crew ≡ member ∷ crew) (x : ℕ) (written : 2 ^ 63 ≤ x) (worker : worker_in x ≡ member.worker)
+    (turn : turn_in x ≡ member.turn) (is_packed : IsRecordWord x) (writes : WritesWord (RecordOf hand.mark) x words after) (placed : Bool)
+    (reads : (first : ℕ) → has_placed (record_of_word x first) ≡ placed) (linked : placed ≡ has_link hand.stage) (counted : placed ≡ has_count hand.stage)
+    (tree_then : SeesTree (finished view hand.mark x)) (records_then : GrowsInto (state_in run words) (state_in run after) → Records run after)
+    (least : placed ≡ true → IsTrue (is_goal_point run.goals (Some hand.point)) → view.best ≤ best_word hand.cost (suc hand.mark)) where
+  abbrev k : ℕ
+  k = hand.mark
+
+  abbrev then : View
+  then = finished view k x
+
+  holds_it : (j : ℕ) → holds j view.hand ≡ (k == j)
+  holds_it j = ap (holds j) held
+
+  mark : IsInHand run words views world.run_is.strips.0 world.numbers k
+  mark = in_hand run words views id view world at hand held
+
+  go : AreBehind words after
+  go = AreBehind-write (RecordOf k) x words after writes (inl (record_word-none (words (RecordOf k)) (words (FirstOf (suc k)))
+      (world.numbers.packed k) mark.absent))
+
+  same_share : share then ≡ share view
+  same_share = ap (λ l. length (one_turn_more l)) crew_is ∙ sym (ap (λ l. length l) crew_is)
+
+  balance :
+      (j : ℕ) → once_if (is_recorded after j) + once_if (holds j then.hand) + once_if (is_claimed run.strips (counters words) j)
+      ≡ once_if (is_recorded words j) + once_if (holds j view.hand) + once_if (is_claimed run.strips (counters after) j)
+  balance j =
+      let in_hand : once_if (holds j view.hand) ≡ once_if (k == j) = ap once_if (holds_it j) in
+      let claims : once_if (is_claimed run.strips (counters after) j) ≡ once_if (is_claimed run.strips (counters words) j) =
+      ap (λ n. once_if (nat_lt (j / run.strips) n)) (writes.others (Counter (j % run.strips)) (λ e. cc)) in
+      let new = change run words after views id view member crew k x world.turns at crew_is mark.low mark.absent writes written worker turn in
+      elim (cases_eq k j) [
+        | inl e ↦ (
+            let was : once_if (is_recorded words j) ≡ 0 = ap (λ o. once_if (is_some o)) (ap (record_at words) (sym e) ∙ mark.absent) in
+            let now : once_if (is_recorded after j) ≡ 1 = ap (λ o. once_if (is_some o)) (ap (record_at after) (sym e) ∙ new.recorded) in
+            let here : once_if (k == j) ≡ 1 = ap once_if (eq-eqb k j e) in
+            omega (arith, in_hand, claims, was, now, here))
+        | inr apart ↦ (
+            let same = ap (λ o. once_if (is_some o)) (new.others j (λ e. apart (sym e))) in
+            let here : once_if (k == j) ≡ 0 = ap once_if (ne_eqb k j apart) in
+            omega (arith, in_hand, claims, same, here))
+      ]
+
+  packed : (j : ℕ) → IsRecordWord (after (RecordOf j))
+  packed j =
+      elim (cases_eq j k) [
+        | inl e ↦ subst IsRecordWord (sym (ap (λ i. after (RecordOf i)) e ∙ writes.here)) is_packed
+        | inr apart ↦ subst IsRecordWord (sym (writes.others (RecordOf j) (λ e. apart cc))) (world.numbers.packed j)
+      ]
+
+  pairs : (n : ℕ) → (after (TreeOf n) ≡ 0) ⊎ (2 ^ 63 ≤ after (TreeOf n))
+  pairs n = subst (λ w. (w ≡ 0) ⊎ (2 ^ 63 ≤ w)) (sym (writes.others (TreeOf n) (λ e. cc))) (world.seen.pairs n)
+
+  by_fields : IsViewOf run (saw view (RecordOf k) x x) → IsViewOf run then
+  by_fields v = record { run_is = v.run_is; seen = v.seen; looked = v.looked; found_zero = v.found_zero; looks = v.looks; zero_looks = v.zero_looks }
+
+  pub IsWorld-finished : IsWorld run after (set views id then)
+  IsWorld-finished =
+      let of_run = live run words views id view world at own in
+      let here : HasWord (run_sizes run) (RecordOf k) = mark.low in
+      let saw_it = WritesWord-saw run view of_run (RecordOf k) here x x in
+      let behind = AreBehind-trans (sees view) words after (world.seen.behind id view at) go in
+      let seen = AreBehind-seen (RecordOf k) x (sees view) (sees then) after saw_it writes.here behind in
+      let numbers = ClaimedMarks-step run words after views id view then at world.numbers
+      (quotas-kept run words after views (set views id then) world.numbers (λ g within. writes.others (Counter g) (λ e. cc))
+      (maximum-set limit_of views id view then at (limit_of-up view then same_share (le_refl view.most))))
+      balance (world.numbers.limits id view at) packed in
+      let links = LinkedTree-recorded run words after views id view then at world.numbers world.links hand held x placed reads linked counted writes refl in
+      let grows = GrowsInto-behind run words after views (set views id then) world.numbers world.links numbers links world.trees go in
+      let trees = Trees-kept run words after views (set views id then) world.numbers world.links numbers links world.trees go record {
+        links = record { children = λ n side. writes.others (ChildOf n side) (λ e. cc); points = λ n h. writes.others (PointOf n) (λ e. cc) };
+        trees = λ n h. writes.others (TreeOf n) (λ e. cc);
+        firsts = λ n h. writes.others (FirstOf n) (λ e. cc);
+      } in
+      record {
+        run_is = world.run_is;
+        of_run = of_run-step run views id then world.of_run (by_fields (IsViewOf-saw run view of_run (RecordOf k) here x x));
+        numbers = numbers;
+        turns = Turns-finished run words after views id view member crew k x world.turns at crew_is mark.low mark.absent writes written worker turn saw_it;
+        shares = Shares-step run words after views id view then at world.shares same_share (λ none. refl);
+        seen = SeenBehind-step words after views id view then at world.seen go
+            (AreBehind-saw (RecordOf k) x (sees view) (sees then) after saw_it writes.here behind)
+            (AreBehind-trans _ (sees view) (sees then) (world.seen.took id view at) seen) pairs
+            (HaveWholePairs-saw (RecordOf k) x (sees view) (sees then) after saw_it writes.here behind (world.seen.pairs_seen id view at) pairs)
+            (IsFair-saw (RecordOf k) x (sees view) (sees then) after saw_it writes.here behind);
+        links = links;
+        trees = trees;
+        hands = Hands-recorded words after views id view then at world.hands hand held refl (λ n. writes.others (PointOf n) (λ e. cc)) recorded others;
+        pairs = Pairs-recorded run words after views id view then at world.numbers world.links world.pairs grows (λ n. writes.others (FirstOf n) (λ e. cc))
+            (λ n h. writes.others (TreeOf n) (λ e. cc)) hand held refl recorded others;
+        seen_pairs = SeenPairs-set run words after views id then grows world.seen_pairs
+            (λ of. AreSeenLawfully-own run words after view then trees links.ways of grows own (world.seen_pairs id view at own)
+            (AreBehind-saw (RecordOf k) x (sees view) (sees then) after saw_it writes.here behind) tree_then
+            (IsFair-saw (RecordOf k) x (sees view) (sees then) after saw_it writes.here behind));
+        records = records_then grows;
+        sights = TreesSeen-set run words views id view world at own then (λ of. tree_then);
+        copies = Copies-seen run words after views id view then at own world.copies seen
+            (AreBehind-saw (RecordOf k) x (sees view) (sees then) after saw_it writes.here behind) (λ part. omega (arith, part, same_share))
+            (RecordOf k) x writes
+            keeps_links some_share saw_it.here;
+        best_copy = BestCopy-step run words after views id view then at own world.best_copy (λ part. omega (arith, part, same_share)) same_best
+            (λ saw. saw ∙ sym same_best);
+        empties = Empties-kept run words after views id view then at world.empties refl (omega arith) refl keeps_links.children
+            (λ n side. last_zero-saw run view of_run (RecordOf k) here x x (ChildOf n side) (λ e. cc));
+        best = best_then grows;
+        bests = SeenBests-set run words after grows views id then (omega (arith, same_best)) world.bests (λ of. knows_best grows seen saw_it);
+      }
+    where
+      same_best : after Best ≡ words Best
+      same_best = writes.others Best (λ e. cc)
+
+      knew : SeesBest run words view
+      knew = world.bests id view at own
+
+      sees_tree : SeesTree view
+      sees_tree = tree run words views id view world at own
+
+      -- A node that is recorded as placed is that of the hand.
+      come : placed ≡ true → HasCome hand.stage
+      come is = has_come hand.stage (sym counted ∙ is)
+
+      shown : placed ≡ true → SeesPoint view (suc k) hand.point
+      shown is = (sees_tree.holds hand held).shown (come is).link
+
+      stands_now : placed ≡ true → StandsAt (linked_points (run_sizes run) words) (suc k) hand.point
+      stands_now is =
+          subst (λ r. StandsAt (linked_points (run_sizes r) words) (suc k) hand.point) own
+          ((IsTrueOf-seen view words (world.seen.behind id view at) sees_tree (follow run words views id view world at own)).places.nodes (suc k) hand.point
+          (shown is))
+
+      first_word : placed ≡ true → cost_in (words (FirstOf (suc k))) ≡ hand.cost
+      first_word is =
+          let first = world.pairs.first id view at hand held (come is).first in
+          ap cost_in first.word ∙ cost_in-tree_word hand.parent hand.cost first.fits.0 first.fits.1
+
+      placed_by : (first : ℕ) (word : ℕ) → word ≡ x → has_placed (record_of_word word first) ≡ true → placed ≡ true
+      placed_by first word is h = sym (reads first) ∙ ap (λ w. has_placed (record_of_word w first)) (sym is) ∙ h
+
+      best_then : GrowsInto (state_in run words) (state_in run after) → BestWord run after
+      best_then grows =
+          BestWord-step run words after views world.numbers world.links world.trees grows go world.best
+          (subst (IsBestWord run after) (sym same_best) (IsBestWord-grows run words after grows (words Best) world.best.pair)) (omega (arith, same_best)) nodes
+        where
+          nodes : (n : ℕ) → has_node after n ≡ true → IsGoalNode run.goals (linked_points (run_sizes run) after) n
+              → (has_node words n ≡ true) ⊎ (after Best ≤ best_word (cost_in (after (FirstOf n))) n)
+          nodes zero h goal = inl refl
+          nodes (suc j) h goal =
+              elim (cases_eq j k) [
+                | inr apart ↦ inl (sym (has_node-same words after j (writes.others (RecordOf j) (λ e. apart cc))) ∙ h)
+                | inl e ↦ (
+                    let is = placed_by (after (FirstOf (suc j))) (after (RecordOf j)) (ap (λ i. after (RecordOf i)) e ∙ writes.here) h in
+                    let at_point = ap (point_at (linked_points (run_sizes run) after)) (ap suc e) ∙ grows.nodes (suc k) hand.point (stands_now is) in
+                    let low = least is (subst (λ o. IsTrue (is_goal_point run.goals o)) at_point goal) in
+                    let first = ap (λ i. cost_in (after (FirstOf (suc i)))) e ∙ ap cost_in (writes.others (FirstOf (suc k)) (λ f. cc)) ∙ first_word is in
+                    inr (omega (arith, same_best, knew.falls, low, first, e)))
+              ]
+
+      knows_best : GrowsInto (state_in run words) (state_in run after) → AreBehind (sees view) (sees then)
+          → WritesWord (RecordOf k) x (sees view) (sees then) → SeesBest run after then
+      knows_best grows seen saw_it =
+          let saw = SeesBest-goes_on run words after grows (omega (arith, same_best)) view knew in
+          record {
+            pair = saw.pair;
+            falls = saw.falls;
+            placed = least_then;
+            taken_pair = λ other word gone has. cc;
+            taken = λ other word gone has. cc;
+            posted = λ other gone far. cc;
+          }
+        where
+          was_so : (n : ℕ) → has_node (sees view) n ≡ true → SeesGoal then n → view.best ≤ best_word (seen_first_cost then n) n
+          was_so n h goal =
+              subst (λ c. view.best ≤ best_word c n) (sym (same_first_cost view then refl seen sees_tree n h))
+              (knew.placed n h (goal-seen_before view then refl seen sees_tree n h goal))
+
+          least_then : IsAtMostPlaced then view.best
+          least_then zero h goal = was_so zero refl goal
+          least_then (suc j) h goal =
+              elim (cases_eq j k) [
+                | inr apart ↦ was_so (suc j) (sym (has_node-same (sees view) (sees then) j (saw_it.others (RecordOf j) (λ e. apart cc))) ∙ h) goal
+                | inl e ↦ (
+                    let is = placed_by (sees then (FirstOf (suc j))) (sees then (RecordOf j)) (ap (λ i. sees then (RecordOf i)) e ∙ saw_it.here) h in
+                    let at_point = ap (point_at (tree_seen then).points) (ap suc e) ∙ SeesPoint-later view then refl seen (suc k) hand.point (shown is) in
+                    let low = least is (subst (λ r. IsTrue (is_goal_point r.goals (Some hand.point))) own
+                    (subst (λ o. IsTrue (is_goal_point view.run.goals o)) at_point goal)) in
+                    let written = (sees_tree.holds hand held).first_shown (come is).link in
+                    let now : sees view (FirstOf (suc k)) ≡ words (FirstOf (suc k)) =
+                    elim (world.seen.behind id view at (FirstOf (suc k))) [ inl unseen ↦ absurd (omega (arith, unseen, written)) | inr same ↦ same ] in
+                    let first = ap (λ i. cost_in (sees then (FirstOf (suc i)))) e ∙ ap cost_in (saw_it.others (FirstOf (suc k)) (λ f. cc) ∙ now)
+                    ∙ first_word is in
+                    omega (arith, low, first, e))
+              ]
+
+      keeps_links : KeepsLinks (run_sizes run) words after
+      keeps_links = record { children = λ n side. writes.others (ChildOf n side) (λ e. cc); points = λ n h. writes.others (PointOf n) (λ e. cc) }
+
+      some_share : 0 < share then
+      some_share = omega (arith, same_share, ap (λ l. length l) crew_is)
+
+      recorded : is_recorded after k ≡ true
+      recorded =
+          ap is_some
+          (change run words after views id view member crew k x world.turns at crew_is mark.low mark.absent writes written worker turn).recorded
+
+      others : (j : ℕ) → j ≢ k → is_recorded after j ≡ is_recorded words j
+      others j apart =
+          ap is_some
+          ((change run words after views id view member crew k x world.turns at crew_is mark.low mark.absent writes written worker turn).others j apart)
+
+-- a mark with a record is one of the marks
+pub recorded-below : (run : SharedRun) (words : Words) (views : List View) → IsWorld run words views → (j : ℕ) (own : Record) → record_at words j ≡ Some own
+    → j < length run.marks
+recorded-below run words views world j own e =
+    let one : once_if (is_recorded words j) ≡ 1 = ap (λ o. once_if (is_some o)) e in
+    let claimed = once_if-true (is_claimed run.strips (counters words) j) (omega (arith, one, world.numbers.each_once j)) in
+    omega (
+      arith,
+      claimed-below run words views world.run_is.strips.0 world.numbers j claimed,
+      greatest_limit-most run words views world.run_is.strips.0 world.numbers,
+    )
+
+-- and no record of it was seen
+pub none_seen :
+    (run : SharedRun) (words : Words) (views : List View) (id : ℕ) (view : View) → IsWorld run words views → get_elem? views id ≡ some view
+    → (hand : Hand) → view.hand ≡ Some hand → sees view (RecordOf hand.mark) ≡ 0
+none_seen run words views id view world at hand held =
+    let mark = in_hand run words views id view world at hand held in
+    let none = record_word-none (words (RecordOf hand.mark)) (words (FirstOf (suc hand.mark))) (world.numbers.packed hand.mark) mark.absent in
+    elim (world.seen.behind id view at (RecordOf hand.mark)) [
+      | inl unseen ↦ unseen
+      | inr same ↦ same ∙ none
+    ]
+
+-- the words go on by a record
+pub AreBehind-finished :
+    (run : SharedRun) (words after : Words) (views : List View) (id : ℕ) (view : View) → IsWorld run words views → get_elem? views id ≡ some view
+    → (hand : Hand) → view.hand ≡ Some hand → (x : ℕ) → WritesWord (RecordOf hand.mark) x words after → AreBehind words after
+AreBehind-finished run words after views id view world at hand held x writes =
+    let mark = in_hand run words views id view world at hand held in
+    AreBehind-write (RecordOf hand.mark) x words after writes
+    (inl (record_word-none (words (RecordOf hand.mark)) (words (FirstOf (suc hand.mark))) (world.numbers.packed hand.mark) mark.absent))
+
+-- ---- the word of a record
+
+-- A packed word says whose record it is, and of which turn.
+pub IsTurnWord-packed : (entry : Record) → FitsWord entry → IsTurnWord entry.worker entry.turn (record_word entry)
+IsTurnWord-packed entry fits =
+    let last : ℕ = last_field entry.outcome entry.class in
+    let number : ℕ = number_of_outcome entry.outcome in
+    let upper : ℕ = 2 ^ 39 + last * 2 ^ 20 + number * 2 ^ 18 + entry.nearest in
+    let whole : record_word entry ≡ (upper * 2 ^ 18 + entry.turn) * 2 ^ 6 + entry.worker = omega arith in
+    record {
+      written = omega arith;
+      worker_is = ap worker_in whole ∙ mod-mul-add (upper * 2 ^ 18 + entry.turn) (2 ^ 6) entry.worker fits.worker;
+      turn_is =
+          ap turn_in whole ∙ ap (λ n. n % 2 ^ 18) (div-mul-add (upper * 2 ^ 18 + entry.turn) (2 ^ 6) entry.worker fits.worker)
+          ∙ mod-mul-add upper (2 ^ 18) entry.turn fits.turn;
+    }
+
+-- the records with it
+Records-finished :
+    (run : SharedRun) (words after : Words) (views : List View) (id : ℕ) (view : View) → IsWorld run words views → get_elem? views id ≡ some view
+    → view.run ≡ run → (hand : Hand) → view.hand ≡ Some hand → (member : Member) (crew : List Member) → view.crew ≡ member ∷ crew → (entry : Record)
+    → FitsWord entry → entry.worker ≡ member.worker → entry.turn ≡ member.turn → MayBeRecorded hand.stage entry.outcome → MayRecord view hand entry
+    → WritesWord (RecordOf hand.mark) (record_word entry) words after → GrowsInto (state_in run words) (state_in run after) → Records run after
+Records-finished run words after views id view world at own hand held member crew crew_is entry fits worker turn stage may writes grows =
+    let says = IsTurnWord-packed entry fits in
+    let mark = in_hand run words views id view world at hand held in
+    let stored = change run words after views id view member crew hand.mark (record_word entry) world.turns at crew_is mark.low mark.absent writes
+    says.written (says.worker_is ∙ worker) (says.turn_is ∙ turn) in
+    let same_first : after (FirstOf (suc hand.mark)) ≡ words (FirstOf (suc hand.mark)) = writes.others (FirstOf (suc hand.mark)) (λ e. cc) in
+    let first = subst (IsFirstWord entry) (sym same_first)
+    (IsFirstWord-seen run words views id view world at own hand held member crew crew_is entry worker may stage) in
+    let mate : get_elem? view.crew 0 ≡ some member = ap (λ l. get_elem? l 0) crew_is in
+    let is_member = world.turns.members id view at 0 member mate in
+    Records-recorded run words after views world.numbers world.links world.trees grows world.records hand.mark entry
+    record {
+      absent = mark.absent;
+      recorded = ap (λ w. record_of_word w (after (FirstOf (suc hand.mark)))) writes.here
+          ∙ record_of_word-packed entry (after (FirstOf (suc hand.mark))) fits first;
+      others = stored.others;
+    }
+    world.run_is.workers.1 (recorded-below run words views world) world.turns.workers
+    (omega (arith, worker, worker-below run words views id view world at 0 member mate))
+    (turn ∙ is_member.turn ∙ ap (turns_of (record_at words) (length run.marks)) (sym worker))
+    (IsLawfulRecord-seen run words views id view world at own hand held member crew crew_is entry worker may stage)
+
+-- the record of the mark in hand, by the first of the crew in its next turn, keeps the law
+pub IsWorld-recorded :
+    (run : SharedRun) (words after : Words) (views : List View) (id : ℕ) (view : View) → IsWorld run words views → get_elem? views id ≡ some view
+    → view.run ≡ run → (hand : Hand) → view.hand ≡ Some hand → (member : Member) (crew : List Member) → view.crew ≡ member ∷ crew → (entry : Record)
+    → FitsWord entry → entry.worker ≡ member.worker → entry.turn ≡ member.turn → MayBeRecorded hand.stage entry.outcome → MayRecord view hand entry
+    → WritesWord (RecordOf hand.mark) (record_word entry) words after → IsWorld run after (set views id (finished view hand.mark (record_word entry)))
+IsWorld-recorded run words after views id view world at own hand held member crew crew_is entry fits worker turn stage may writes =
+    let says = IsTurnWord-packed entry fits in
+    let mark = in_hand run words views id view world at hand held in
+    IsWorld-finished run words after views id view world at own hand held member crew crew_is (record_word entry) says.written (says.worker_is ∙ worker)
+    (says.turn_is ∙ turn) (inr (entry, fits, refl)) writes (is_placed entry.outcome)
+    (λ first. has_placed-record_word entry first fits) stage.linked stage.counted
+    (SeesTree-finished run view (live run words views id view world at own) (tree run words views id view world at own) hand held mark.low
+    (none_seen run words views id view world at hand held) entry fits stage)
+    (Records-finished run words after views id view world at own hand held member crew crew_is entry fits worker turn stage may writes)
+    (λ placed goal. (world.bests id view at own).posted hand held
+    (by_outcome entry.outcome may placed (subst (λ r. IsTrue (is_goal_point r.goals (Some hand.point))) (sym own) goal)))
+  where
+    -- a goal node was posted
+    by_outcome : (outcome : Outcome) → MayEnd view hand entry outcome → is_placed outcome ≡ true
+        → IsTrue (is_goal_point view.run.goals (Some hand.point)) → hand.stage ≡ Posted
+    by_outcome Placed ended is goal = ended.outcome.posted goal
+    by_outcome (Same j) ended is goal = cc
+    by_outcome Blocked ended is goal = cc
+    by_outcome Skipped ended is goal = cc

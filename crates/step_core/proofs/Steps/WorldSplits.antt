@@ -1,0 +1,388 @@
+-- A split keeps the law of worlds: no worker is lost, and the hand stays with the pass that is split.
+use Rattle.std.proofs.Common.{◌≡◌, ℕ, zero, suc, ◌+◌, ◌≤◌, Bool, true, false, List, [], ◌∷◌}
+use Rattle.std.proofs.Common.{◌++◌, length, map, set, None, refl, sym, ap, ◌∙◌, subst, inl, inr, arith, le_trans}
+use Rattle.std.specs.Prelude.{◌⊎◌, ◌==◌, ◌<◌, cond}
+use Rattle.std.proofs.lemmas.Bool.{eqb-true}
+use Rattle.std.proofs.lemmas.List.{length-replicate}
+use Rattle.std.proofs.lemmas.List.Sums.{sum_by_push}
+use mathlib.Core.Option.{some, some-ne-none}
+use lib.ListN.{get_elem?}
+use Rattle.plan_model.specs.Runs.Turns.{once_if}
+use Rattle.plan_model.specs.Seen.SeenParents.{AreSeenLawfully}
+use Rattle.step_core.specs.Stages.{has_count, has_first, has_link, has_point, has_tree, holds_at}
+use Rattle.step_core.specs.ViewSteps.{found_none, looker, parted, second_alone, stepped, without_second, worker_apart}
+use Rattle.step_core.specs.ViewTrees.{SeesTree}
+use Rattle.step_core.specs.Views.{IsViewOf, holds, last_zero, run_sizes, sees, setup_in, share, spent, times, took_over, tree_seen, words_of_run}
+use Rattle.grown_runs.specs.Table.WordKinds.{AreBehind, HaveWholePairs}
+use Rattle.grown_runs.specs.Table.WordNames.{Word, Words}
+use Rattle.grown_runs.specs.Table.WordNames.Word.{ChildOf, RecordOf, TreeOf}
+use Rattle.grown_runs.specs.Table.Words.{tree_of_word}
+use Rattle.step_core.specs.Worlds.{Agree, EachView, IsMember, IsWorld, SeesBest, maximum, hands_at, limit_of, noted_by, noted_in, state_in}
+use Rattle.step_core.specs.declared.views.Member.{Member}
+use Rattle.step_core.specs.declared.views.SharedRun.{SharedRun}
+use Rattle.step_core.specs.declared.views.Stage.{Stage}
+use Rattle.step_core.specs.declared.views.View.{View}
+use Rattle.step_core.proofs.Steps.FinishedTurns.{times-cons}
+use Rattle.step_core.proofs.OneView.SeenTreesOfViews.{SeesTree-apart, SeesTree-looker, SeesTree-parted, SeesTree-stepped}
+use Rattle.step_core.proofs.Parts.ViewLists.{at-set, each-push, each-set, maximum-one, maximum-push, maximum-set, sum-set}
+use Rattle.grown_runs.proofs.Table.WordKinds.{AreBehind-refl}
+use Rattle.step_core.proofs.Parts.WorldBests.{FollowsHand, FollowsHand-none, FollowsHand-refl, SeesBest-kept}
+use Rattle.step_core.proofs.Parts.WorldCopies.{BestCopy-push, BestCopy-step, Copies-push, Copies-step}
+use Rattle.step_core.proofs.Parts.WorldEmpties.{Empties-push, Empties-step, zero-read}
+use Rattle.step_core.proofs.Parts.WorldHands.{Hands-views, IsWrittenFor}
+use Rattle.step_core.proofs.Parts.WorldLinks.{LinkedTree-views}
+use Rattle.step_core.proofs.Parts.WorldPairs.{HasFirst, HasFirst-none, HasTree, HasTree-none, Pairs-views}
+use Rattle.step_core.proofs.Parts.WorldParts.{Agree-sym, agree-set, quotas-kept}
+use Rattle.step_core.proofs.Parts.WorldSeenPairs.{AreSeenLawfully-same}
+use Rattle.step_core.proofs.Steps.WorldSteps.{live, tree}
+
+-- The one view has looked at the same words as the other, and has found no word 0 since. It notes the same fills.
+pub record SeesAsMuch (view then : View) : Type 0 where
+  pub run : then.run ≡ view.run
+  pub seen : then.seen ≡ view.seen
+  pub best : then.best ≡ view.best
+  pub took : then.took ≡ view.took
+  pub looked : then.looked ≡ view.looked
+  pub found_zero : length then.found_zero ≡ length view.found_zero
+  pub zero_looks : (name : Word) → last_zero then name ≤ last_zero view name
+  pub steps : view.steps ≤ then.steps
+  pub fills : then.fills ≡ view.fills
+
+-- A view is cut into two: no member is lost, and the hand stays on the left. The right has found no word 0 itself.
+pub record IsCut (view left right : View) : Type 0 where
+  pub crews : (w : ℕ) → times w left.crew + times w right.crew ≡ times w view.crew
+  pub on_left : (i : ℕ) (member : Member) → get_elem? left.crew i ≡ some member → (j : ℕ) × (get_elem? view.crew j ≡ some member)
+  pub on_right : (i : ℕ) (member : Member) → get_elem? right.crew i ≡ some member → (j : ℕ) × (get_elem? view.crew j ≡ some member)
+  pub shares : share left + share right ≡ share view
+  pub stays : share left ≡ 0 → share view ≡ 0
+  pub hand : left.hand ≡ view.hand
+  pub no_hand : right.hand ≡ None
+  pub limits : (left.most ≡ view.most) × (right.most ≡ view.most)
+  pub tables_left : SeesAsMuch view left
+  pub tables_right : SeesAsMuch view right
+  pub tree_left : SeesTree view → SeesTree left
+  pub tree_right : SeesTree view → SeesTree right
+  pub none_right : (name : Word) → last_zero right name ≡ 0
+
+-- ---- what is seen as much
+
+sees-same : (view then : View) → SeesAsMuch view then → sees then ≡ sees view
+sees-same view then same = ap (λ r. words_of_run r then.seen) same.run ∙ ap (words_of_run view.run) same.seen
+
+took_over-same : (view then : View) → SeesAsMuch view then → took_over then ≡ took_over view
+took_over-same view then same = ap (λ r. words_of_run r then.took) same.run ∙ ap (words_of_run view.run) same.took
+
+IsViewOf-same : (run : SharedRun) (view then : View) → SeesAsMuch view then → IsViewOf run view → IsViewOf run then
+IsViewOf-same run view then same of_run = record {
+  run_is = same.run ∙ of_run.run_is;
+  seen = ap (λ l. length l) same.seen ∙ of_run.seen;
+  looked = ap (λ l. length l) same.looked ∙ of_run.looked;
+  found_zero = same.found_zero ∙ of_run.found_zero;
+  looks = λ name.
+      let is = ap (λ r. words_of_run r then.looked name) same.run ∙ ap (λ l. words_of_run view.run l name) same.looked in
+      omega (arith, is, of_run.looks name, same.steps);
+  zero_looks = λ name. omega (arith, same.zero_looks name, of_run.zero_looks name, same.steps);
+}
+
+IsMember-same : (run : SharedRun) (words : Words) (view then : View) (member : Member) → SeesAsMuch view then → IsMember run words view member
+    → IsMember run words then member
+IsMember-same run words view then member same own = record {
+  turn = own.turn;
+  own = λ k of. ap (λ s. s (RecordOf k)) (sees-same view then same) ∙ own.own k of;
+}
+
+limit_of-stays : (view left right : View) → IsCut view left right → limit_of view ≤ limit_of left
+limit_of-stays view left right cut = by_test (share left == 0) refl (share view == 0) refl
+  where
+    by_test : (b : Bool) → (share left == 0) ≡ b → (d : Bool) → (share view == 0) ≡ d → cond d 0 view.most ≤ cond b 0 left.most
+    by_test b e true f = omega arith
+    by_test true e false f = (let no = sym (ap (λ n. n == 0) (cut.stays (eqb-true (share left) 0 e))) ∙ f in cc)
+    by_test false e false f = omega (arith, cut.limits.0)
+
+-- ---- a split of any kind
+
+module _ (run : SharedRun) (words : Words) (views : List View) (id : ℕ) (view left right : View) (world : IsWorld run words views)
+    (at : get_elem? views id ≡ some view) (own : view.run ≡ run) (cut : IsCut view left right) where
+  abbrev rest : List View
+  rest = set views id left
+
+  agree_all : (then : View) → SeesAsMuch view then → (i : ℕ) (other : View) → get_elem? views i ≡ some other → Agree (sees then) (sees other)
+  agree_all then same i other e = subst (λ s. Agree s (sees other)) (sym (sees-same view then same)) (world.seen.agree id view at i other e)
+
+  with_left : EachView rest (λ one. EachView rest (λ other. Agree (sees one) (sees other)))
+  with_left = agree-set views id left world.seen.agree (λ i other apart e. agree_all left cut.tables_left i other e)
+
+  right_with : EachView rest (λ other. Agree (sees right) (sees other))
+  right_with =
+      each-set views id left (λ other. Agree (sees right) (sees other)) (λ i other apart e. agree_all right cut.tables_right i other e)
+      (subst (λ s. Agree (sees right) s) (sym (sees-same view left cut.tables_left)) (agree_all right cut.tables_right id view at))
+
+  pub IsWorld-cut : IsWorld run words (rest ++ right ∷ [])
+  IsWorld-cut =
+      let of_run = live run words views id view world at own in
+      record {
+        run_is = world.run_is;
+        of_run = each-push rest right (λ u. (u ≡ spent) ⊎ IsViewOf run u)
+            (each-set views id left (λ u. (u ≡ spent)
+            ⊎ IsViewOf run u) (λ i u apart e. world.of_run i u e) (inr (IsViewOf-same run view left cut.tables_left of_run)))
+            (inr (IsViewOf-same run view right cut.tables_right of_run));
+        numbers = record {
+          quotas = quotas-kept run words words views (rest ++ right ∷ []) world.numbers (λ g within. refl)
+              (le_trans (maximum-set limit_of views id view left at (limit_of-stays view left right cut)) (maximum-push limit_of rest right));
+          each_once = λ k. omega (
+            arith,
+            world.numbers.each_once k,
+            sum-set (λ u. once_if (holds k u.hand)) views id view left at,
+            sum_by_push (λ u. once_if (holds k u.hand)) rest right,
+            ap (λ h. once_if (holds k h)) cut.hand,
+            ap (λ h. once_if (holds k h)) cut.no_hand,
+          );
+          limits = each-push rest right (λ u. u.most ≤ length run.marks)
+              (each-set views id left (λ u. u.most ≤ length run.marks) (λ i u apart e. world.numbers.limits i u e) (omega (
+                arith,
+                cut.limits.0,
+                world.numbers.limits id view at,
+              )))
+              (omega (arith, cut.limits.1, world.numbers.limits id view at));
+          packed = world.numbers.packed;
+        };
+        turns = record {
+          workers = world.turns.workers;
+          members = each-push rest right (λ u. (i : ℕ) (member : Member) → get_elem? u.crew i ≡ some member → IsMember run words u member)
+              (each-set views id left (λ u. (i : ℕ) (member : Member) → get_elem? u.crew i ≡ some member → IsMember run words u member)
+              (λ j u apart e. world.turns.members j u e)
+              (λ i member there. let from = cut.on_left i member there in IsMember-same run words view left member cut.tables_left
+              (world.turns.members id view at from.0 member from.1)))
+              (λ i member there. let from = cut.on_right i member there in IsMember-same run words view right member cut.tables_right
+              (world.turns.members id view at from.0 member from.1));
+          in_one_crew = λ w. omega (
+            arith,
+            world.turns.in_one_crew w,
+            sum-set (λ u. times w u.crew) views id view left at,
+            sum_by_push (λ u. times w u.crew) rest right,
+            cut.crews w,
+          );
+        };
+        shares = record {
+          add_up = omega (arith, world.shares.add_up, sum-set share views id view left at, sum_by_push share rest right, cut.shares);
+          idle = each-push rest right (λ u. share u ≡ 0 → u.hand ≡ None)
+              (each-set views id left (λ u. share u ≡ 0 → u.hand ≡ None) (λ i u apart e. world.shares.idle i u e) (λ none. cut.hand
+              ∙ world.shares.idle id view at (cut.stays none)))
+              (λ none. cut.no_hand);
+        };
+        seen = record {
+          behind = each-push rest right (λ u. AreBehind (sees u) words)
+              (each-set views id left (λ u. AreBehind (sees u) words) (λ i u apart e. world.seen.behind i u e)
+              (subst (λ s. AreBehind s words) (sym (sees-same view left cut.tables_left)) (world.seen.behind id view at)))
+              (subst (λ s. AreBehind s words) (sym (sees-same view right cut.tables_right)) (world.seen.behind id view at));
+          took = each-push rest right (λ u. AreBehind (took_over u) (sees u))
+              (each-set views id left (λ u. AreBehind (took_over u) (sees u)) (λ i u apart e. world.seen.took i u e) (took_as_much left cut.tables_left))
+              (took_as_much right cut.tables_right);
+          pairs = world.seen.pairs;
+          pairs_seen = each-push rest right (λ u. HaveWholePairs (sees u))
+              (each-set views id left (λ u. HaveWholePairs (sees u)) (λ i u apart e. world.seen.pairs_seen i u e)
+              (subst HaveWholePairs (sym (sees-same view left cut.tables_left)) (world.seen.pairs_seen id view at)))
+              (subst HaveWholePairs (sym (sees-same view right cut.tables_right)) (world.seen.pairs_seen id view at));
+          agree = each-push rest right (λ one. EachView (rest ++ right ∷ []) (λ other. Agree (sees one) (sees other)))
+              (λ i one e. each-push rest right (λ other. Agree (sees one) (sees other)) (with_left i one e)
+              (Agree-sym (sees right) (sees one) (right_with i one e)))
+              (each-push rest right (λ other. Agree (sees right) (sees other)) right_with (λ n written also same. refl));
+        };
+        links = LinkedTree-views run words views (rest ++ right ∷ []) world.links (hands_cut has_link) (hands_cut has_count);
+        hands = Hands-views words views (rest ++ right ∷ []) world.hands
+            (each-push rest right (IsWrittenFor words)
+            (each-set views id left (IsWrittenFor words) (λ i u apart e. world.hands.written i u e)
+            (λ hand held. world.hands.written id view at hand (sym cut.hand ∙ held)))
+            (λ hand held. let none = sym cut.no_hand ∙ held in cc))
+            (hands_cut has_point);
+        trees = world.trees;
+        pairs = Pairs-views run words views (rest ++ right ∷ []) world.pairs
+            (each-push rest right (HasFirst run words)
+            (each-set views id left (HasFirst run words) (λ i u apart e. world.pairs.first i u e)
+            (λ hand held. world.pairs.first id view at hand (sym cut.hand ∙ held)))
+            (HasFirst-none run words right cut.no_hand))
+            (each-push rest right (HasTree words)
+            (each-set views id left (HasTree words) (λ i u apart e. world.pairs.tree i u e)
+            (λ hand held. world.pairs.tree id view at hand (sym cut.hand ∙ held)))
+            (HasTree-none words right cut.no_hand))
+            (hands_cut has_first) (hands_cut has_tree);
+        seen_pairs = each-push rest right (λ u. u.run ≡ run → AreSeenLawfully (setup_in run) (tree_seen u) (state_in run words))
+            (each-set views id left (λ u. u.run ≡ run → AreSeenLawfully (setup_in run) (tree_seen u) (state_in run words))
+            (λ i u apart e. world.seen_pairs i u e) (λ of. pairs_same left cut.tables_left))
+            (λ of. pairs_same right cut.tables_right);
+        records = world.records;
+        sights = each-push rest right (λ u. u.run ≡ run → SeesTree u)
+            (each-set views id left (λ u. u.run ≡ run → SeesTree u) (λ i u apart e. world.sights i u e)
+            (λ of. cut.tree_left (tree run words views id view world at own)))
+            (λ of. cut.tree_right (tree run words views id view world at own));
+        copies = Copies-push run words rest right
+            (Copies-step run words words views id view left at (cut.tables_left.run ∙ own) world.copies
+            (subst (AreBehind (sees view)) (sym (sees-same view left cut.tables_left)) (AreBehind-refl (sees view)))
+            (subst (λ s. AreBehind s words) (sym (sees-same view left cut.tables_left)) (world.seen.behind id view at)) stays
+            (λ name told. inl (refl, told)));
+        best_copy = BestCopy-push run words rest right
+            (BestCopy-step run words words views id view left at (cut.tables_left.run ∙ own) world.best_copy stays refl (λ saw. cut.tables_left.best ∙ saw));
+        empties = Empties-push run words rest right
+            (Empties-step run words words views id view left at world.empties cut.tables_left.run cut.tables_left.steps cut.tables_left.fills
+            (λ n side some_child. (some_child, cut.tables_left.zero_looks (ChildOf n side))))
+            (λ place i. omega (
+              arith,
+              ap (λ l. maximum (map (noted_in place i) l)) (cut.tables_right.fills ∙ sym cut.tables_left.fills),
+              maximum-one (noted_by place i) rest id left (at-set views id view left at),
+            ))
+            cut.none_right;
+        best = world.best;
+        bests = each-push rest right (λ u. u.run ≡ run → SeesBest run words u)
+            (each-set views id left (λ u. u.run ≡ run → SeesBest run words u) (λ i u apart e. world.bests i u e)
+            (λ of. best_same left cut.tables_left (subst (FollowsHand view.hand) (sym cut.hand) (FollowsHand-refl view.hand))))
+            (λ of. best_same right cut.tables_right (subst (FollowsHand view.hand) (sym cut.no_hand) (FollowsHand-none view.hand)));
+      }
+    where
+      -- both know as much of the best word
+      best_same : (then : View) → SeesAsMuch view then → FollowsHand view.hand then.hand → SeesBest run words then
+      best_same then same follows =
+          SeesBest-kept view then same.run (subst (AreBehind (sees view)) (sym (sees-same view then same)) (AreBehind-refl (sees view)))
+          (tree run words views id view world at own) run words same.best follows (λ k. ap (λ s. s (RecordOf k)) (sees-same view then same))
+          (world.bests id view at own)
+
+      stays : 0 < share view → 0 < share left
+      stays part = by_share (share left) refl
+        where
+          by_share : (n : ℕ) → share left ≡ n → 0 < n
+          by_share zero none = absurd (omega (arith, cut.stays none, part))
+          by_share (suc n) some_members = omega arith
+
+      hands_cut : (test : Stage → Bool) (k : ℕ) → hands_at test k (rest ++ right ∷ []) ≡ hands_at test k views
+      hands_cut test k =
+          omega (
+            arith,
+            sum-set (λ u. once_if (holds_at test k u.hand)) views id view left at,
+            sum_by_push (λ u. once_if (holds_at test k u.hand)) rest right,
+            ap (λ h. once_if (holds_at test k h)) cut.hand,
+            ap (λ h. once_if (holds_at test k h)) cut.no_hand,
+          )
+
+      pairs_same : (then : View) → SeesAsMuch view then → AreSeenLawfully (setup_in run) (tree_seen then) (state_in run words)
+      pairs_same then same =
+          AreSeenLawfully-same (setup_in run) (tree_seen view) (tree_seen then) (state_in run words)
+          (λ n. ap (λ w. tree_of_word (w (TreeOf n))) (sees-same view then same)) (world.seen_pairs id view at own)
+
+      took_as_much : (then : View) → SeesAsMuch view then → AreBehind (took_over then) (sees then)
+      took_as_much then same =
+          subst (λ t. AreBehind t (sees then)) (sym (took_over-same view then same))
+          (subst (AreBehind (took_over view)) (sym (sees-same view then same)) (world.seen.took id view at))
+
+-- ---- the two kinds
+
+crews_parted : (w : ℕ) (crew : List Member) → times w (without_second crew) + times w (second_alone crew) ≡ times w crew
+crews_parted w [] = refl
+crews_parted w (member ∷ []) = omega arith
+crews_parted w (member ∷ second ∷ crew) =
+    omega (arith, times-cons member crew w, times-cons member (second ∷ crew) w, times-cons second crew w, times-cons second [] w)
+
+pub stays_at : (crew : List Member) (i : ℕ) (member : Member) → get_elem? (without_second crew) i ≡ some member → (j : ℕ) × (get_elem? crew j ≡ some member)
+stays_at [] i member e = (i, e)
+stays_at (first ∷ []) i member e = (i, e)
+stays_at (first ∷ second ∷ crew) zero member e = (0, e)
+stays_at (first ∷ second ∷ crew) (suc i) member e = (suc (suc i), e)
+
+pub goes_at : (crew : List Member) (i : ℕ) (member : Member) → get_elem? (second_alone crew) i ≡ some member → (j : ℕ) × (get_elem? crew j ≡ some member)
+goes_at [] i member e = (i, e)
+goes_at (first ∷ []) i member e = absurd (some-ne-none member (sym e))
+goes_at (first ∷ second ∷ crew) zero member e = (1, e)
+goes_at (first ∷ second ∷ crew) (suc i) member e = absurd (some-ne-none member (sym e))
+
+shares_parted : (crew : List Member) → length (without_second crew) + length (second_alone crew) ≡ length crew
+shares_parted [] = refl
+shares_parted (first ∷ []) = omega arith
+shares_parted (first ∷ second ∷ crew) = omega arith
+
+stays_parted : (crew : List Member) → length (without_second crew) ≡ 0 → length crew ≡ 0
+stays_parted [] e = refl
+stays_parted (first ∷ []) e = e
+stays_parted (first ∷ second ∷ crew) e = absurd (omega (arith, e))
+
+-- a new view has found no word 0
+none_found : (view : View) (name : Word) → words_of_run view.run (found_none view) name ≡ 0
+none_found view name = zero-read (run_sizes view.run) (length view.found_zero) name
+
+-- and has seen as much, whatever its crew
+sees_as_much : (view : View) → SeesAsMuch view (looker view)
+sees_as_much view = record {
+  run = refl;
+  seen = refl;
+  best = refl;
+  took = refl;
+  looked = refl;
+  found_zero = length-replicate (length view.found_zero) 0;
+  zero_looks = λ name. omega (arith, none_found view name);
+  steps = omega arith;
+  fills = refl;
+}
+
+pub IsCut-parted : (view : View) → IsCut view (parted view) (worker_apart view)
+IsCut-parted view = record {
+  crews = λ w. crews_parted w view.crew;
+  on_left = stays_at view.crew;
+  on_right = goes_at view.crew;
+  shares = shares_parted view.crew;
+  stays = stays_parted view.crew;
+  hand = refl;
+  no_hand = refl;
+  limits = (refl, refl);
+  tables_left =
+      record {
+        run = refl;
+        seen = refl;
+        best = refl;
+        took = refl;
+        looked = refl;
+        found_zero = refl;
+        zero_looks = λ name. omega arith;
+        steps = omega arith;
+        fills = refl;
+      };
+  tables_right =
+      (let same = sees_as_much view in record {
+        run = refl;
+        seen = refl;
+        best = refl;
+        took = refl;
+        looked = refl;
+        found_zero = same.found_zero;
+        zero_looks = same.zero_looks;
+        steps = same.steps;
+        fills = refl;
+      });
+  tree_left = SeesTree-parted view;
+  tree_right = SeesTree-apart view;
+  none_right = none_found view;
+}
+
+pub IsCut-looker : (view : View) → IsCut view (stepped view) (looker view)
+IsCut-looker view = record {
+  crews = λ w. omega arith;
+  on_left = λ i member e. (i, e);
+  on_right = λ i member e. absurd (some-ne-none member (sym e));
+  shares = omega arith;
+  stays = λ e. e;
+  hand = refl;
+  no_hand = refl;
+  limits = (refl, refl);
+  tables_left =
+      record {
+        run = refl;
+        seen = refl;
+        best = refl;
+        took = refl;
+        looked = refl;
+        found_zero = refl;
+        zero_looks = λ name. omega arith;
+        steps = omega arith;
+        fills = refl;
+      };
+  tables_right = sees_as_much view;
+  tree_left = SeesTree-stepped view;
+  tree_right = SeesTree-looker view;
+  none_right = none_found view;
+}

@@ -1,0 +1,337 @@
+-- A shared run that goes on from a closed run begins with a lawful world: one view, which has the whole share and has seen all words.
+use Rattle.std.proofs.Common.{◌≡◌, ℕ, zero, suc, ◌+◌, ◌<◌, ◌≤◌, Bool, true, false, List, [], ◌∷◌, ◌/◌, ◌^◌}
+use Rattle.std.proofs.Common.{length, map, Option, Some, None, refl, sym, ap, ◌∙◌, subst, inl, inr, arith, le_refl}
+use Rattle.std.specs.Prelude.{◌⊎◌, ◌==◌, nat_lt, cond, is_some, max}
+use Rattle.std.specs.List.{count_by, range_with_len}
+use mathlib.Core.Option.{some, some-ne-none, some-injective}
+use lib.ListN.{get_elem?}
+use Rattle.std.proofs.lemmas.Bool.{cases_Bool, cases_lt, eq-eqb, eqb-true, le-ltb, lt-ltb, ne_eqb}
+use Rattle.std.proofs.lemmas.List.{length-map, length-replicate}
+use Rattle.std.proofs.lemmas.List.FromFn.{length-range_with_len}
+use Rattle.std.proofs.lemmas.Nat.{mod_below}
+use Rattle.std.proofs.lemmas.Option.{same_Some}
+use Rattle.std.proofs.lemmas.List.Sums.{sum_by-cons}
+use Rattle.plan_model.specs.Scenes.MarkPoints.{is_claimed}
+use Rattle.plan_model.specs.Runs.OrderLaw.{KeepsFirstCosts, KeepsOrder}
+use Rattle.plan_model.specs.Seen.SeenParents.{AreSeenLawfully}
+use Rattle.plan_model.specs.Runs.Textbook.{skipping_goals, setup_of}
+use Rattle.plan_model.specs.Trees.PointsByNumber.{point_at}
+use Rattle.plan_model.specs.Trees.TreeStates.{first_cost_of, recorded_or}
+use Rattle.plan_model.proofs.BestNodeLaws.{IsPresent-goal}
+use Rattle.plan_model.specs.Runs.Turns.{once_if, turns_of}
+use Rattle.plan_model.specs.declared.records.Record.{Record}
+use Rattle.plan_model.specs.declared.tasks.Task.{Task}
+use Rattle.plan_model.specs.declared.limits.TheConstants.{MOST_WORKERS}
+use Rattle.plan_model.proofs.ClosedLaws.{KeepsFirstCosts-closed}
+use Rattle.plan_model.proofs.CountsBelow.{count-none, count-single}
+use Rattle.plan_model.proofs.MarkBounds.{length-marks}
+use Rattle.plan_model.proofs.SceneBounds.{step-steers}
+use Rattle.plan_model.proofs.StripMarks.{is_claimed-below, is_claimed-past}
+use Rattle.plan_model.proofs.WorkerTurns.{AreTurns-longer}
+use Rattle.grown_runs.specs.Runs.LeastBests.{IsLeastBest}
+use Rattle.step_core.specs.SharedWords.{linked_points}
+use Rattle.grown_runs.specs.Runs.GrownWords.{HoldRun, has_node, has_placed, record_at, run_words, sizes_of, state_of_words}
+use Rattle.step_core.specs.ViewStarts.{crew_from, member_of, newcomer}
+use Rattle.step_core.specs.ViewTrees.{SeesTree}
+use Rattle.step_core.specs.Views.{IsViewOf, last_zero, run_of, run_sizes, sees, setup_in, share, spent, times, took_over, tree_seen}
+use Rattle.grown_runs.specs.Table.WordKinds.{AreBehind, HaveWholePairs}
+use Rattle.grown_runs.specs.Table.WordNames.{Words}
+use Rattle.grown_runs.specs.Table.WordNames.Word.{Best, ChildOf, FirstOf, RecordOf}
+use Rattle.grown_runs.specs.Table.WordPlaces.{word_count}
+use Rattle.grown_runs.specs.Table.Words.{FitsWord, cost_in, outcome_in, record_in, record_of_word}
+use Rattle.step_core.specs.Worlds.{Agree, BestWord, EachView, IsMember, IsRecordWord, IsWorld, SeesBest, counted_once, Trees, counters}
+use Rattle.step_core.specs.Worlds.{greatest_limit, is_recorded, state_in}
+use Rattle.step_core.specs.declared.views.Member.{Member}
+use Rattle.step_core.specs.declared.views.SharedRun.{SharedRun}
+use Rattle.step_core.specs.declared.views.View.{View}
+use Rattle.step_core.proofs.Steps.FinishedTurns.{times-cons}
+use Rattle.step_core.proofs.Parts.LinkedStates.{placed-first}
+use Rattle.step_core.proofs.OneView.SeenGoals.{least-now}
+use Rattle.grown_runs.proofs.Runs.LinkedPresence.{is_linked-closed, node_present, state_by-closed}
+use Rattle.step_core.proofs.OneView.LawfulSights.{IsPresent-seen}
+use Rattle.step_core.proofs.Parts.MarksInHand.{once_if-false}
+use Rattle.step_core.proofs.OneView.SeenTreesAtStart.{SeesTree-started}
+use Rattle.step_core.proofs.Steps.StartLinks.{FollowWays-held, IsBounded-mark, IsBounded-start, blank-held, count-held, start-held}
+use Rattle.plan_model.proofs.SumsBelow.{sum-same}
+use Rattle.grown_runs.proofs.Table.WordKinds.{AreBehind-refl}
+use Rattle.step_core.proofs.Parts.WorldEmpties.{zero-read}
+use Rattle.step_core.proofs.Parts.WorldHands.{IsWrittenFor}
+use Rattle.step_core.proofs.Parts.WorldLinks.{has_node-recorded}
+use Rattle.step_core.proofs.Parts.WorldPairs.{HasFirst, HasTree}
+use Rattle.step_core.proofs.Parts.WorldRecords.{Records-held}
+use Rattle.step_core.proofs.Parts.WorldSeenPairs.{AreSeenLawfully-all}
+use Rattle.step_core.proofs.Steps.WorldJoins.{AreBehind-nothing}
+use Rattle.step_core.proofs.Parts.WorldParts.{quota-up}
+
+-- ---- crews
+
+-- how often a worker is among so many from w on
+times-from : (run : SharedRun) (words : Words) (worker : ℕ) (numbers : List ℕ)
+    → times worker (map (member_of run words) numbers) ≡ count_by (λ w. w == worker) numbers
+times-from run words worker [] = refl
+times-from run words worker (w ∷ numbers) =
+    omega (
+      arith,
+      times-cons (member_of run words w) (map (member_of run words) numbers) worker,
+      sum_by-cons (λ n. cond (n == worker) 1 0) w numbers,
+      times-from run words worker numbers,
+    )
+
+-- each worker of the run is among all once, and no other is
+times-all : (run : SharedRun) (words : Words) (worker : ℕ) → times worker (crew_from run words 0 run.workers) ≡ once_if (nat_lt worker run.workers)
+times-all run words worker =
+    times-from run words worker (range_with_len 0 run.workers)
+    ∙ elim (cases_lt worker run.workers) [
+      | inl low ↦
+          count-single (λ w. w == worker) run.workers worker low (eq-eqb worker worker refl) (λ w apart. ne_eqb w worker apart)
+          ∙ sym (ap once_if (lt-ltb worker run.workers low))
+      | inr past ↦
+          count-none (λ w. w == worker) run.workers (λ w low. ne_eqb w worker (λ e. omega (arith, low, past, e)))
+          ∙ sym (ap once_if (le-ltb worker run.workers past))
+    ]
+
+length-crew : (run : SharedRun) (words : Words) → length (crew_from run words 0 run.workers) ≡ run.workers
+length-crew run words = length-map (range_with_len 0 run.workers) (member_of run words) ∙ length-range_with_len 0 run.workers
+
+-- the member at a place
+crew-at : (run : SharedRun) (words : Words) (numbers : List ℕ) (i : ℕ) (member : Member) → get_elem? (map (member_of run words) numbers) i ≡ some member
+    → (w : ℕ) × (member ≡ member_of run words w)
+crew-at run words [] i member e = absurd (some-ne-none member (sym e))
+crew-at run words (w ∷ numbers) zero member e = (w, sym (some-injective (member_of run words w) member e))
+crew-at run words (w ∷ numbers) (suc i) member e = crew-at run words numbers i member e
+
+-- ---- the words of a closed run
+
+-- what is read of a word fits one
+FitsWord-read : (number word first : ℕ) → FitsWord (record_in number word first)
+FitsWord-read zero word first = record {
+  worker = mod_below word (2 ^ 6) (omega arith);
+  turn = mod_below (word / 2 ^ 6) (2 ^ 18) (omega arith);
+  nearest = mod_below (word / 2 ^ 24) (2 ^ 18) (omega arith);
+  last = mod_below (word / 2 ^ 44) (2 ^ 18) (omega arith);
+}
+FitsWord-read (suc zero) word first = record {
+  worker = mod_below word (2 ^ 6) (omega arith);
+  turn = mod_below (word / 2 ^ 6) (2 ^ 18) (omega arith);
+  nearest = mod_below (word / 2 ^ 24) (2 ^ 18) (omega arith);
+  last = mod_below (word / 2 ^ 44) (2 ^ 18) (omega arith);
+}
+FitsWord-read (suc (suc n)) word first = blocked_fits n
+  where
+    blocked_fits : (n : ℕ) → FitsWord (record_in (suc (suc n)) word first)
+    blocked_fits zero = record {
+      worker = mod_below word (2 ^ 6) (omega arith);
+      turn = mod_below (word / 2 ^ 6) (2 ^ 18) (omega arith);
+      nearest = mod_below (word / 2 ^ 24) (2 ^ 18) (omega arith);
+      last = omega arith;
+    }
+    blocked_fits (suc m) = record {
+      worker = mod_below word (2 ^ 6) (omega arith);
+      turn = mod_below (word / 2 ^ 6) (2 ^ 18) (omega arith);
+      nearest = mod_below (word / 2 ^ 24) (2 ^ 18) (omega arith);
+      last = omega arith;
+    }
+
+-- the record that a word holds is the one that is read
+record_in_word : (word first : ℕ) (entry : Record) → record_of_word word first ≡ Some entry → entry ≡ record_in (outcome_in word) word first
+record_in_word word first entry e = by_test (nat_lt word (2 ^ 63)) e
+  where
+    by_test : (b : Bool) → cond b None (Some (record_in (outcome_in word) word first)) ≡ Some entry → entry ≡ record_in (outcome_in word) word first
+    by_test true h = cc
+    by_test false h = sym (same_Some (record_in (outcome_in word) word first) entry h)
+
+module _ (task : Task) (limit : ℕ) (words : Words) (held : HoldRun task limit words) where
+  pub HaveWholePairs-held : HaveWholePairs words
+  HaveWholePairs-held n =
+      elim (cases_Bool (has_node words n)) [
+        | inl here ↦ inr (omega (arith, (held.written n (node_present task limit words held n here)).tree))
+        | inr gone ↦ inl (held.blank n gone).tree
+      ]
+
+  within : (k : ℕ) (entry : Record) → record_at words k ≡ Some entry → k < limit
+  within k entry e =
+      elim (cases_lt k limit) [
+        | inl low ↦ low
+        | inr past ↦ (let none = sym (held.closed.records.none_else k past) ∙ e in cc)
+      ]
+
+  recorded_once : (k : ℕ) → once_if (is_recorded words k) ≡ once_if (is_claimed task.scene.strips (counters words) k)
+  recorded_once k =
+      let some_strip : 0 < task.scene.strips = omega (arith, task.scene.strips_low) in
+      elim (cases_lt k limit) [
+        | inl low ↦ ap once_if (held.closed.records.recorded k low
+            ∙ sym (is_claimed-below task.scene.strips some_strip (counters words) limit held.claimed k low))
+        | inr past ↦
+            ap (λ o. once_if (is_some o)) (held.closed.records.none_else k past)
+            ∙ sym (ap once_if (is_claimed-past task.scene.strips some_strip (counters words) limit held.claimed k past))
+      ]
+
+  packed_record : (k : ℕ) → IsRecordWord (words (RecordOf k))
+  packed_record k = by_record (record_at words k) refl
+    where
+      by_record : (o : Option Record) → record_at words k ≡ o → IsRecordWord (words (RecordOf k))
+      by_record (Some entry) e =
+          inr (
+            entry,
+            subst FitsWord (sym (record_in_word (words (RecordOf k)) (words (FirstOf (suc k))) entry e))
+                (FitsWord-read (outcome_in (words (RecordOf k))) (words (RecordOf k)) (words (FirstOf (suc k)))),
+            held.recorded k entry e,
+          )
+      by_record None e =
+          elim (cases_lt k limit) [
+            | inl low ↦ (let gone = sym (ap is_some e) ∙ held.closed.records.recorded k low in cc)
+            | inr past ↦ inl (held.unrecorded k past)
+          ]
+
+  -- the linked nodes keep the order law, as the closed law says
+  Trees-held : (workers : ℕ) → Trees (run_of task workers limit) words
+  Trees-held workers = record {
+    order = subst (KeepsOrder (setup_of task.scene)) (sym (state_by-closed task limit words held)) held.closed.order;
+    first_costs = subst (KeepsFirstCosts (setup_of task.scene)) (sym (state_by-closed task limit words held))
+        (KeepsFirstCosts-closed (setup_of task.scene) task.marks limit (state_of_words (sizes_of task) words) held.closed);
+    written = λ n linked. held.written n (node_present task limit words held n (sym (is_linked-closed task limit words held n) ∙ linked));
+    start_first = held.start_first;
+  }
+
+-- ---- the first world
+
+-- of a single view
+only : (view : View) (has : View → Type 0) → has view → EachView (view ∷ []) has
+only view has own zero u e = subst has (some-injective view u e) own
+only view has own (suc i) u e = absurd (some-ne-none u (sym e))
+
+pub IsWorld-started :
+    (task : Task) (limit workers : ℕ) (items : List ℕ) → length items ≡ word_count (sizes_of task) → HoldRun task limit (run_words task items)
+    → IsLeastBest (skipping_goals task.scene) (state_of_words (sizes_of task) (run_words task items)) (run_words task items Best)
+    → 1 ≤ workers → workers ≤ MOST_WORKERS → IsWorld (run_of task workers limit) (run_words task items) (newcomer (run_of task workers limit) items ∷ [])
+IsWorld-started task limit workers items sized held least some_worker few =
+    let run : SharedRun = run_of task workers limit in
+    let words : Words = run_words task items in
+    let first : View = newcomer run items in
+    let all : share first ≡ workers = length-crew run words in
+    let trees : Trees run words = Trees-held task limit words held workers in
+    let sees_tree : SeesTree first = SeesTree-started task limit workers items held in
+    record {
+      run_is = record {
+        strips = (omega (arith, task.scene.strips_low), task.scene.strips_high);
+        marks = length-marks task;
+        points = IsBounded-mark task;
+        start = IsBounded-start task limit words held;
+        step = step-steers task.scene;
+        workers = (some_worker, few);
+        opening = held.closed.within;
+      };
+      of_run = only first (λ u. (u ≡ spent) ⊎ IsViewOf run u) (inr (record {
+        run_is = refl;
+        seen = sized;
+        looked = length-replicate (length items) 0 ∙ sized;
+        found_zero = length-replicate (length items) 0 ∙ sized;
+        looks = λ name. omega (arith, zero-read (run_sizes run) (length items) name);
+        zero_looks = λ name. omega (arith, zero-read (run_sizes run) (length items) name);
+      }));
+      numbers = record {
+        quotas = λ g strip. omega (arith, held.claimed g strip, quota-up run.strips g limit (greatest_limit (first ∷ [])) strip (binds all));
+        each_once = λ k. omega (arith, recorded_once task limit words held k);
+        limits = only first (λ u. u.most ≤ length task.marks) held.closed.within;
+        packed = packed_record task limit words held;
+      };
+      turns = record {
+        workers = AreTurns-longer (record_at words) limit (length task.marks) held.closed.within (within task limit words held) held.closed.turns;
+        members = only first (λ u. (i : ℕ) (member : Member) → get_elem? u.crew i ≡ some member → IsMember run words u member)
+            (λ i member e. (let found = crew-at run words (range_with_len 0 workers) i member e in record {
+              turn = ap (λ m. m.turn) found.1 ∙ sym (ap (λ m. turns_of (record_at words) (length task.marks) m.worker) found.1);
+              own = λ k of. refl;
+            }));
+        in_one_crew = λ w. omega (arith, times-all run words w);
+      };
+      shares = record {
+        add_up = omega (arith, all);
+        idle = only first (λ u. share u ≡ 0 → u.hand ≡ None) (λ none. refl);
+      };
+      seen = record {
+        behind = only first (λ u. AreBehind (sees u) words) (AreBehind-refl words);
+        took = only first (λ u. AreBehind (took_over u) (sees u)) (AreBehind-nothing (run_sizes run) words);
+        pairs = HaveWholePairs-held task limit words held;
+        pairs_seen = only first (λ u. HaveWholePairs (sees u)) (HaveWholePairs-held task limit words held);
+        agree = only first (λ one. EachView (first ∷ []) (λ other. Agree (sees one) (sees other)))
+            (only first (λ other. Agree (sees first) (sees other)) (λ n written also same. refl));
+      };
+      links = record {
+        start = start-held task limit words held;
+        ways = FollowWays-held task limit words held;
+        linked = λ k. omega (arith, ap once_if (is_linked-closed task limit words held (suc k)));
+        count = count-held task limit words held
+            ∙ ap (λ n. 1 + n) (sum-same (λ k. once_if (has_node words (suc k))) (counted_once words (first ∷ [])) (length task.marks) (λ k low. omega arith));
+      };
+      trees = trees;
+      pairs = record {
+        first = only first (HasFirst run words) (λ hand held. cc);
+        tree = only first (HasTree words) (λ hand held. cc);
+        no_first = λ k none no_hand. (held.blank (suc k) (unplaced k none)).first;
+        no_tree = λ k none no_hand. (held.blank (suc k) (unplaced k none)).tree;
+      };
+      seen_pairs = only first (λ u. u.run ≡ run → AreSeenLawfully (setup_in run) (tree_seen u) (state_in run words))
+          (λ of. AreSeenLawfully-all run words trees first (λ n. refl) sees_tree
+          (IsPresent-seen first words (AreBehind-refl words) sees_tree (FollowWays-held task limit words held)));
+      hands = record {
+        written = only first (IsWrittenFor words) (λ hand held. cc);
+        blank = λ k none no_hand. blank-held task limit words held k none;
+      };
+      records = Records-held task limit workers words held;
+      sights = only first (λ u. u.run ≡ run → SeesTree u) (λ of. sees_tree);
+      copies = λ name told. record { id = 0; view = first; at = refl; run_is = refl; part = omega (arith, all, some_worker); same = refl };
+      best_copy = record { id = 0; view = first; at = refl; run_is = refl; part = omega (arith, all, some_worker); same = refl };
+      empties = record {
+        made = λ place i. inl refl;
+        filled = λ n side some_child i u e. (
+            let none : last_zero u (ChildOf n side) ≡ 0 =
+            only first (λ v. last_zero v (ChildOf n side) ≡ 0) (zero-read (run_sizes run) (length items) (ChildOf n side)) i u e in
+            omega (arith, none));
+      };
+      best = best trees sees_tree;
+      bests = only first (λ u. u.run ≡ run → SeesBest run words u) (λ of. record {
+        pair = (best trees sees_tree).pair;
+        falls = le_refl (words Best);
+        placed = least-now words first (AreBehind-refl words) sees_tree (FollowWays-held task limit words held) held.start_first (best trees sees_tree);
+        taken_pair = λ hand word gone has. cc;
+        taken = λ hand word gone has. cc;
+        posted = λ hand gone far. cc;
+      });
+    }
+  where
+    -- the goal nodes are those of the run at rest, and none costs more than it was placed at
+    best : Trees (run_of task workers limit) (run_words task items) → SeesTree (newcomer (run_of task workers limit) items)
+        → BestWord (run_of task workers limit) (run_words task items)
+    best trees sees_tree =
+        let words : Words = run_words task items in
+        let same = state_by-closed task limit words held in
+        let linked_least = subst (λ state. IsLeastBest (skipping_goals task.scene) state (words Best)) (sym same) least in
+        record {
+          pair = λ some_pair. let is = linked_least.pair some_pair in (is.0, omega (arith, is.1));
+          placed = λ n node goal.
+              let low = linked_least.least n goal in
+              let kept = trees.first_costs.kept n (IsPresent-goal (skipping_goals task.scene) (point_at (linked_points (sizes_of task) words) n) goal) in
+              omega (arith, low, kept, first_cost n node);
+        }
+      where
+        first_cost : (n : ℕ) → has_node (run_words task items) n ≡ true
+            → first_cost_of (state_in (run_of task workers limit) (run_words task items)) n ≡ cost_in (run_words task items (FirstOf n))
+        first_cost zero node = sym (ap cost_in held.start_first)
+        first_cost (suc k) node = by_record (record_at (run_words task items) k) refl
+          where
+            by_record : (o : Option Record) → record_at (run_words task items) k ≡ o
+                → recorded_or (cost_in (run_words task items (FirstOf (suc k)))) o ≡ cost_in (run_words task items (FirstOf (suc k)))
+            by_record None e = refl
+            by_record (Some entry) e =
+                placed-first (run_words task items (RecordOf k)) (run_words task items (FirstOf (suc k))) entry e (ap has_placed (sym e) ∙ node)
+
+    unplaced : (k : ℕ) → is_recorded (run_words task items) k ≡ false → has_node (run_words task items) (suc k) ≡ false
+    unplaced k none =
+        once_if-false (has_node (run_words task items) (suc k)) (omega (arith, has_node-recorded (run_words task items) k, ap once_if none))
+
+    binds : share (newcomer (run_of task workers limit) items) ≡ workers → limit ≤ greatest_limit (newcomer (run_of task workers limit) items ∷ [])
+    binds all = subst (λ n. limit ≤ max (cond (n == 0) 0 limit) 0) (sym all) (by_test (workers == 0) refl)
+      where
+        by_test : (b : Bool) → (workers == 0) ≡ b → limit ≤ max (cond b 0 limit) 0
+        by_test true e = absurd (omega (arith, eqb-true workers 0 e, some_worker))
+        by_test false e = omega arith

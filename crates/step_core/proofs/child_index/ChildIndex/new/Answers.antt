@@ -1,5 +1,0 @@
-use Rattle.step_core.proofs.MovedChildren.{IsIndex-alone}
-use Rattle.step_core.proofs.child_index.ChildIndex.new.Goals as goal
-
-pub returns-clause-chains : goal.returns-clause-chains
-returns-clause-chains c = rw (c.in_ok-one_number.ensures.items, c.in_ok-one_number-2.ensures.items, c.in_ok-one_number-3.ensures.items) IsIndex-alone

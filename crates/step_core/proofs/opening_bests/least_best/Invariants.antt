@@ -1,7 +1,0 @@
-use Rattle.step_core.specs.GrownRuns.{state_of_grown}
-use Rattle.step_core.proofs.OpeningBests.{IsLeastBelow}
-use Rattle.step_core.proofs.opening_bests.least_best.Given as goal
-
--- the least pair of the nodes so far
-abbrev pub invariant-loop-node : goal.invariant-loop-node
-invariant-loop-node l = IsLeastBelow l.fn.grown.task.scene.goals (state_of_grown l.fn.grown) l.node l.best

@@ -1,7 +1,0 @@
-use Rattle.std.proofs.Common.{◌+◌, ◌^◌, ◌∙◌, arith}
-use Rattle.step_core.proofs.PackedFields.{or-two}
-use Rattle.step_core.proofs.point_words.pack_point.Goals as goal
-
-pub returns : goal.returns
-returns c =
-    or-two 20 c.from.result c.from-2.result (2 ^ 43 + c.from.result) (omega arith) (omega arith) (omega arith) ∙ omega arith

@@ -1,9 +1,0 @@
-use Rattle.std.proofs.Common.{arith, sym}
-use Rattle.step_core.specs.PlacesOfWords.{sizes_in}
-use Rattle.step_core.proofs.GrownPoints.{record_at-past}
-use Rattle.step_core.proofs.run_words.RunWords.record_at.Goals as goal
-
-pub returns-then-mark-marks : goal.returns-then-mark-marks
-returns-then-mark-marks c =
-    let words = c.args.self.now in
-    sym (record_at-past (sizes_in words.places) words.list.items c.args.mark (omega (arith, c.marks.ensures, c.if-mark-marks.true)))

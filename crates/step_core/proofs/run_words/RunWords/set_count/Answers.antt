@@ -1,5 +1,0 @@
-use Rattle.step_core.specs.WordNames.Word.{Count}
-use Rattle.step_core.proofs.run_words.RunWords.set_count.Goals as goal
-
-pub returns-clause-word : goal.returns-clause-word
-returns-clause-word c = c.set.ensures.word Count tt c.count.ensures

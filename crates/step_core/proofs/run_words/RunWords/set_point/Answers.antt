@@ -1,5 +1,0 @@
-use Rattle.step_core.specs.WordNames.Word.{PointOf}
-use Rattle.step_core.proofs.run_words.RunWords.set_point.Goals as goal
-
-pub returns-clause-word : goal.returns-clause-word
-returns-clause-word c = c.set.ensures.word (PointOf c.args.node) c.requires c.point.ensures
