@@ -6,7 +6,7 @@
 
 ghost use Rattle.std.specs.Prelude.{◌≡◌, ◌<◌};
 ghost use Rattle.grown_runs.specs.Table.Words.{FitsWord, last_field, number_of_outcome, record_of_word, record_word};
-ghost use Rattle.grown_runs.specs.Table.Words.{blocked_in, last_in, nearest_in, placed_in, same_in, skipped_in, turn_in, worker_in};
+ghost use Rattle.grown_runs.specs.Table.Words.{last_in, nearest_in, placed_in, turn_in, unplaced_in, worker_in};
 
 use crate::layout::{
     BLOCKED, LAST_SHIFT, NEAREST_SHIFT, NUMBER_MASK, OUTCOME_MASK, OUTCOME_SHIFT, PLACED, SAME,
@@ -42,9 +42,9 @@ pub fn read_mark(word: u64, first: u64) -> Option<Record>
     }
     Some(match word >> OUTCOME_SHIFT & OUTCOME_MASK {
         PLACED => placed_in(word, first),
-        SAME => same_in(word),
-        BLOCKED => blocked_in(word),
-        _ => skipped_in(word),
+        SAME => unplaced_in(word, Outcome::Same(last_in(word))),
+        BLOCKED => unplaced_in(word, Outcome::Blocked),
+        _ => unplaced_in(word, Outcome::Skipped),
     })
 }
 
@@ -63,49 +63,11 @@ fn placed_in(word: u64, first: u64) -> Record
     }
 }
 
-/// The record of a mark that ended at a node.
-fn same_in(word: u64) -> Record
-    ensures { result ≡ same_in word }
+/// The record of a mark of which no node was placed, with this outcome.
+fn unplaced_in(word: u64, outcome: Outcome) -> Record
+    ensures { result ≡ unplaced_in word outcome }
 {
-    Record {
-        worker: worker_in(word),
-        turn: turn_in(word),
-        nearest: nearest_in(word),
-        outcome: Outcome::Same(last_in(word)),
-        first_parent: 0,
-        first_cost: 0,
-        class: 0,
-    }
-}
-
-/// The record of a blocked mark.
-fn blocked_in(word: u64) -> Record
-    ensures { result ≡ blocked_in word }
-{
-    Record {
-        worker: worker_in(word),
-        turn: turn_in(word),
-        nearest: nearest_in(word),
-        outcome: Outcome::Blocked,
-        first_parent: 0,
-        first_cost: 0,
-        class: 0,
-    }
-}
-
-/// The record of a skipped mark.
-fn skipped_in(word: u64) -> Record
-    ensures { result ≡ skipped_in word }
-{
-    Record {
-        worker: worker_in(word),
-        turn: turn_in(word),
-        nearest: nearest_in(word),
-        outcome: Outcome::Skipped,
-        first_parent: 0,
-        first_cost: 0,
-        class: 0,
-    }
+    Record::unplaced(worker_in(word), turn_in(word), nearest_in(word), outcome)
 }
 
 /// The worker in a record's word.

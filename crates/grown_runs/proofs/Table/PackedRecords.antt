@@ -9,7 +9,7 @@ use Rattle.plan_model.specs.declared.records.Record.{Record}
 use Rattle.plan_model.specs.Runs.Outcomes.{is_zero_unless_placed}
 use Rattle.plan_model.proofs.UniqueRuns.{Record-from_fields}
 use Rattle.grown_runs.specs.Table.Words.{number_of_outcome, parent_in, cost_in, last_field, record_word, FitsWord, IsFirstWord, worker_in, turn_in}
-use Rattle.grown_runs.specs.Table.Words.{nearest_in, outcome_in, last_in, placed_in, same_in, blocked_in, skipped_in, record_in, record_of_word}
+use Rattle.grown_runs.specs.Table.Words.{nearest_in, outcome_in, last_in, placed_in, unplaced_in, record_in, record_of_word}
 use Rattle.grown_runs.proofs.Table.ReadWords.{if_written-set}
 use Rattle.grown_runs.proofs.Table.PackedWords.{parent_in-tree_word, cost_in-tree_word}
 
@@ -71,6 +71,21 @@ pub unplaced_at : (entry : Record) (outcome : Outcome) → entry.outcome ≡ out
 unplaced_at entry outcome e =
     subst (λ o. IsTrue (is_zero_unless_placed o entry.first_parent entry.first_cost entry.class)) e entry.unplaced
 
+-- a packed record of an unplaced mark reads as itself
+unplaced_in-packed : (entry : Record) (outcome : Outcome) → outcome ≡ entry.outcome → FitsWord entry
+    → AreZero entry.first_parent entry.first_cost entry.class → unplaced_in (record_word entry) outcome ≡ entry
+unplaced_in-packed entry outcome is h zero_fields =
+    let fields = record_word-fields entry h in
+    Record-from_fields (unplaced_in (record_word entry) outcome) entry (record {
+      worker = fields.worker_is;
+      turn = fields.turn_is;
+      nearest = fields.nearest_is;
+      outcome = is;
+      first_parent = sym zero_fields.parent_is;
+      first_cost = sym zero_fields.cost_is;
+      class = sym zero_fields.class_is;
+    })
+
 -- a packed record reads as itself, by its outcome
 record_in-packed : (entry : Record) (first : ℕ) (outcome : Outcome) → entry.outcome ≡ outcome → FitsWord entry → IsFirstWord entry first
     → record_in (outcome_in (record_word entry)) (record_word entry) first ≡ entry
@@ -88,47 +103,17 @@ record_in-packed entry first Placed e h f =
       class = fields.last_is ∙ ap (λ o. last_field o entry.class) e;
     })
 record_in-packed entry first (Same j) e h f =
-    let word = record_word entry in
     let fields = record_word-fields entry h in
-    let zero_fields = zeros entry.first_parent entry.first_cost entry.class (unplaced_at entry (Same j) e) in
-    ap (λ n. record_in n word first) (fields.number_is ∙ ap number_of_outcome e)
-    ∙ Record-from_fields (same_in word) entry (record {
-      worker = fields.worker_is;
-      turn = fields.turn_is;
-      nearest = fields.nearest_is;
-      outcome = ap Same (fields.last_is ∙ ap (λ o. last_field o entry.class) e) ∙ sym e;
-      first_parent = sym zero_fields.parent_is;
-      first_cost = sym zero_fields.cost_is;
-      class = sym zero_fields.class_is;
-    })
+    let node = fields.last_is ∙ ap (λ o. last_field o entry.class) e in
+    ap (λ n. record_in n (record_word entry) first) (fields.number_is ∙ ap number_of_outcome e)
+    ∙ unplaced_in-packed entry (Same (last_in (record_word entry))) (ap Same node ∙ sym e) h
+    (zeros entry.first_parent entry.first_cost entry.class (unplaced_at entry (Same j) e))
 record_in-packed entry first Blocked e h f =
-    let word = record_word entry in
-    let fields = record_word-fields entry h in
-    let zero_fields = zeros entry.first_parent entry.first_cost entry.class (unplaced_at entry Blocked e) in
-    ap (λ n. record_in n word first) (fields.number_is ∙ ap number_of_outcome e)
-    ∙ Record-from_fields (blocked_in word) entry (record {
-      worker = fields.worker_is;
-      turn = fields.turn_is;
-      nearest = fields.nearest_is;
-      outcome = sym e;
-      first_parent = sym zero_fields.parent_is;
-      first_cost = sym zero_fields.cost_is;
-      class = sym zero_fields.class_is;
-    })
+    ap (λ n. record_in n (record_word entry) first) (outcome_in-record_word entry h ∙ ap number_of_outcome e)
+    ∙ unplaced_in-packed entry Blocked (sym e) h (zeros entry.first_parent entry.first_cost entry.class (unplaced_at entry Blocked e))
 record_in-packed entry first Skipped e h f =
-    let word = record_word entry in
-    let fields = record_word-fields entry h in
-    let zero_fields = zeros entry.first_parent entry.first_cost entry.class (unplaced_at entry Skipped e) in
-    ap (λ n. record_in n word first) (fields.number_is ∙ ap number_of_outcome e)
-    ∙ Record-from_fields (skipped_in word) entry (record {
-      worker = fields.worker_is;
-      turn = fields.turn_is;
-      nearest = fields.nearest_is;
-      outcome = sym e;
-      first_parent = sym zero_fields.parent_is;
-      first_cost = sym zero_fields.cost_is;
-      class = sym zero_fields.class_is;
-    })
+    ap (λ n. record_in n (record_word entry) first) (outcome_in-record_word entry h ∙ ap number_of_outcome e)
+    ∙ unplaced_in-packed entry Skipped (sym e) h (zeros entry.first_parent entry.first_cost entry.class (unplaced_at entry Skipped e))
 
 -- a packed record is read again
 pub record_of_word-packed : (entry : Record) (first : ℕ) → FitsWord entry → IsFirstWord entry first

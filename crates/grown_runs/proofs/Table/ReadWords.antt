@@ -3,8 +3,9 @@ use Rattle.std.proofs.Common.{◌≡◌, ℕ, zero, suc, ◌<◌, ◌≤◌, ◌
 use Rattle.std.proofs.Common.{if◌then◌else◌, Some, None}
 use Rattle.std.proofs.lemmas.Bool.Decides.{nat_tests}
 use Rattle.std.proofs.lemmas.Nat.{and_mask}
+use Rattle.plan_model.specs.declared.records.Outcome.TheVariants.{Skipped}
 use Rattle.plan_model.specs.declared.records.Record.{Record}
-use Rattle.grown_runs.specs.Table.Words.{if_written, outcome_in, skipped_in, record_in, record_of_word}
+use Rattle.grown_runs.specs.Table.Words.{if_written, outcome_in, record_in, record_of_word, unplaced_in}
 
 -- a written word holds its value
 pub if_written-set : {A : Type 0} → (word : ℕ) (value : A) → 2 ^ 63 ≤ word → if_written word value ≡ Some value
@@ -13,7 +14,7 @@ if_written-set word value set =
     ap (λ unset. if unset then None else Some value) test
 
 -- a record with the last number of an outcome is that of a skipped mark
-pub record_in-skipped : (number word first : ℕ) → 2 < number → record_in number word first ≡ skipped_in word
+pub record_in-skipped : (number word first : ℕ) → 2 < number → record_in number word first ≡ unplaced_in word Skipped
 record_in-skipped zero word first more = absurd (omega (arith, more))
 record_in-skipped (suc zero) word first more = absurd (omega (arith, more))
 record_in-skipped (suc (suc zero)) word first more = absurd (omega (arith, more))

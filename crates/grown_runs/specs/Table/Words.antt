@@ -6,6 +6,7 @@ use Rattle.plan_model.specs.declared.geometry.Point.{Point}
 use Rattle.plan_model.specs.declared.records.Outcome.{Outcome}
 use Rattle.plan_model.specs.declared.records.Outcome.TheVariants.{Placed, Same, Blocked, Skipped}
 use Rattle.plan_model.specs.declared.records.Record.{Record}
+use Rattle.plan_model.specs.Runs.Textbook.{unplaced_record}
 
 -- a word holds its value once bit 63 is set, and nothing before
 abbrev pub if_written : {A : Type 0} → ℕ → A → Option A
@@ -135,54 +136,16 @@ placed_in word first =
       unplaced = refl;
     }
 
--- the record in a word of a mark that ended at a node
-abbrev pub same_in : ℕ → Record
-same_in word =
-    record {
-      worker = worker_in word;
-      turn = turn_in word;
-      nearest = nearest_in word;
-      outcome = Same (last_in word);
-      first_parent = 0;
-      first_cost = 0;
-      class = 0;
-      unplaced = refl;
-    }
-
--- the record of a blocked mark in a word
-abbrev pub blocked_in : ℕ → Record
-blocked_in word =
-    record {
-      worker = worker_in word;
-      turn = turn_in word;
-      nearest = nearest_in word;
-      outcome = Blocked;
-      first_parent = 0;
-      first_cost = 0;
-      class = 0;
-      unplaced = refl;
-    }
-
--- the record of a skipped mark in a word
-abbrev pub skipped_in : ℕ → Record
-skipped_in word =
-    record {
-      worker = worker_in word;
-      turn = turn_in word;
-      nearest = nearest_in word;
-      outcome = Skipped;
-      first_parent = 0;
-      first_cost = 0;
-      class = 0;
-      unplaced = refl;
-    }
+-- the record in a word of a mark of which no node was placed, with this outcome
+abbrev pub unplaced_in : ℕ → Outcome → Record
+unplaced_in word outcome = unplaced_record (worker_in word) (turn_in word) (nearest_in word) outcome
 
 -- the record in a word, by the number of its outcome: 0 placed, 1 the same point, 2 blocked, 3 skipped
 abbrev pub record_in : ℕ → ℕ → ℕ → Record
 record_in zero word first = placed_in word first
-record_in (suc zero) word first = same_in word
-record_in (suc (suc zero)) word first = blocked_in word
-record_in (suc (suc (suc n))) word first = skipped_in word
+record_in (suc zero) word first = unplaced_in word (Same (last_in word))
+record_in (suc (suc zero)) word first = unplaced_in word Blocked
+record_in (suc (suc (suc n))) word first = unplaced_in word Skipped
 
 -- the record that a word holds, with the first word of its node
 abbrev pub record_of_word : ℕ → ℕ → Option Record
