@@ -12,8 +12,8 @@ use Rattle.plan_model.proofs.Soundness.{Spells-not_refused}
 use Rattle.plan_model.proofs.SameScenes.{Spells-one_scene}
 use Rattle.twin_trees.proofs.TurnedRuns.{ClearAt-middle}
 use Rattle.scene_text.specs.Fetching.{CameTooLong}
-use Rattle.path_tools.specs.declared.verdicts.Verdict.{Verdict}
-use Rattle.path_tools.specs.declared.verdicts.Verdict.TheVariants.{Broken, Lawful}
+use Rattle.report_judge.specs.declared.verdicts.Verdict.{Verdict}
+use Rattle.report_judge.specs.declared.verdicts.Verdict.TheVariants.{Broken, Lawful}
 use Rattle.planner_main.specs.declared.commands.Command.{Command}
 use Rattle.planner_main.specs.declared.commands.Command.TheVariants as commands
 use Rattle.planner_main.specs.declared.refusals.Refusal.{Refusal}

@@ -5,9 +5,9 @@ use Rattle.plan_model.specs.Spaces.Clearance.{ClearAt}
 use Rattle.plan_model.specs.Spaces.ConfigurationSpace.{space_of}
 use Rattle.plan_model.specs.declared.scenes.Scene.{Scene}
 use Rattle.plan_model.specs.declared.tasks.Task.{Task}
-use Rattle.path_tools.specs.Judgements.{IsVerdict}
-use Rattle.path_tools.specs.ReportCuts.{IsCutAtReport}
-use Rattle.path_tools.specs.declared.verdicts.Verdict.{Verdict}
+use Rattle.report_judge.specs.Laws.Judgements.{IsVerdict}
+use Rattle.report_judge.specs.Texts.ReportCuts.{IsCutAtReport}
+use Rattle.report_judge.specs.declared.verdicts.Verdict.{Verdict}
 use Rattle.planner_main.specs.Conclusions.{BlocksStart}
 use Rattle.planner_main.specs.Inputs.{RefusesWhole, RefusesInput, scene_and_report}
 use Rattle.planner_main.specs.declared.commands.Command.TheVariants as commands

@@ -20,10 +20,10 @@ use Rattle.plan_model.specs.Texts.CanonicalText.{canonical_text}
 use Rattle.grown_runs.specs.declared.grown.Grown.{Grown}
 use Rattle.grown_runs.specs.Runs.GrownRuns.{state_of_grown}
 use Rattle.scene_text.specs.Fetching.{ReadsWithin}
-use Rattle.path_tools.specs.Judgements.{IsVerdict}
-use Rattle.path_tools.specs.ReportCuts.{IsCutAtReport}
+use Rattle.report_judge.specs.Laws.Judgements.{IsVerdict}
+use Rattle.report_judge.specs.Texts.ReportCuts.{IsCutAtReport}
 use Rattle.path_tools.specs.SmoothedReports.{IsSmoothedReport}
-use Rattle.path_tools.specs.declared.verdicts.Verdict.{Verdict}
+use Rattle.report_judge.specs.declared.verdicts.Verdict.{Verdict}
 use Rattle.any_time.specs.BestPaths.{has_path}
 use Rattle.any_time.specs.BetterPaths.{AreBetterPaths}
 use Rattle.any_time.specs.BetterReports.{batch_report, better_report}

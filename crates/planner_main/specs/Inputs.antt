@@ -9,7 +9,7 @@ use Rattle.plan_model.specs.Spaces.Clearance.{ClearAt}
 use Rattle.plan_model.specs.Texts.SceneBatches.{RefusesBatch, SpellsBatch}
 use Rattle.plan_model.specs.Texts.SceneGrammar.{Spells, Refused, supported}
 use Rattle.plan_model.specs.Texts.TextLines.{lines_of}
-use Rattle.path_tools.specs.ReportCuts.{HasNoReportLine, IsCutAtReport}
+use Rattle.report_judge.specs.Texts.ReportCuts.{HasNoReportLine, IsCutAtReport}
 use Rattle.twin_trees.specs.TurnedScenes.{goal_middle}
 
 -- a kind of input: nothing at all, the text of one scene, those of several scenes with a line `next` between two of them, or the text of

@@ -2,8 +2,8 @@
 use Rattle.std.specs.Prelude.{ℕ, List, [], ◌∷◌, codes, decimal}
 use Rattle.std.specs.List.{join_with_byte}
 use Rattle.plan_model.specs.Reports.ReportText.{line}
-use Rattle.path_tools.specs.declared.verdicts.Verdict.{Verdict}
-use Rattle.path_tools.specs.declared.verdicts.Verdict.TheVariants.{Broken, Lawful}
+use Rattle.report_judge.specs.declared.verdicts.Verdict.{Verdict}
+use Rattle.report_judge.specs.declared.verdicts.Verdict.TheVariants.{Broken, Lawful}
 use Rattle.planner_main.specs.declared.statuses.TheConstants.{DONE, NO_PATH}
 
 -- a verdict in words: `lawful`, or `broken line L law N`

@@ -1,7 +1,6 @@
 //! What is to be written of a report that is read after its scene.
 
 ghost use Rattle.std.specs.Prelude.{◌≡◌, ◌≤◌, ◌<◌, ℕ, false, length, IfErr, IfOk, Some};
-ghost use Rattle.path_tools.specs.ReportCuts.{HasNoReportLine};
 ghost use Rattle.plan_model.specs.Spaces.Clearance.{ClearAt};
 ghost use Rattle.plan_model.specs.Spaces.ConfigurationSpace.{space_of};
 ghost use Rattle.plan_model.specs.Texts.SceneGrammar.{Spells, supported};
@@ -13,6 +12,7 @@ ghost use Rattle.planner_main.specs.VerdictLines.{status_of_verdict, verdict_lin
 ghost use Rattle.planner_main.specs.declared.commands.Command.{Command};
 ghost use Rattle.scene_text.specs.Refusals.{IsSceneRefusal};
 ghost use Rattle.planner_main.specs.declared.short_lines.TheConstants.{LINE_CAPACITY};
+ghost use Rattle.report_judge.specs.Texts.ReportCuts.{HasNoReportLine};
 
 use crate::answers::Answer;
 use crate::refusals::Refusal;
@@ -21,8 +21,8 @@ use crate::short_lines::{Line, line_from, push, push_number};
 use crate::statuses::{DONE, NO_PATH};
 use crate::top_call::Done;
 use obstacle_boxes::Boxes;
-use path_tools::{Verdict, check_with, cut_at_report};
 use plan_model::{Kind, Memory, Source, Task, next_line};
+use report_judge::{Verdict, check_with, cut_at_report};
 use scene_text::{SceneRefusal, fetch, read_scene};
 use std::alloc::Global;
 

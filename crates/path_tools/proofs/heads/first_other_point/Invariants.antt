@@ -1,7 +1,0 @@
-use Rattle.std.proofs.Common.{ℕ, ◌<◌}
-use Rattle.path_tools.specs.FirstBreaks.{KeepsPoint}
-use Rattle.path_tools.proofs.heads.first_other_point.Given as goal
-
--- each point so far is the own one
-abbrev pub invariant-loop-place : goal.invariant-loop-place
-invariant-loop-place l = (k : ℕ) → k < l.place → KeepsPoint l.points l.own k

@@ -1,8 +1,0 @@
-use Rattle.std.specs.Prelude.{length}
-use Rattle.path_tools.specs.FirstBreaks.{IsFirstBreak}
-use Rattle.path_tools.specs.JudgedRuns.{KeepsRecordBelow}
-use Rattle.path_tools.proofs.lawful_records.first_unlawful.Given as goal
-
--- the first mark of the workers so far
-abbrev pub invariant-loop-worker : goal.invariant-loop-worker
-invariant-loop-worker g l = IsFirstBreak (KeepsRecordBelow l.worker l.task l.knots l.records) (length l.records) l.first

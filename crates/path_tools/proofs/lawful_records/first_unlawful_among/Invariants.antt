@@ -1,7 +1,0 @@
-use Rattle.path_tools.specs.JudgedRuns.{KeepsRecord}
-use Rattle.path_tools.specs.OwnMarks.{IsFirstSeen}
-use Rattle.path_tools.proofs.lawful_records.first_unlawful_among.Given as goal
-
--- the first so far that breaks the law
-abbrev pub invariant-loop-position : goal.invariant-loop-position
-invariant-loop-position g l = IsFirstSeen (KeepsRecord l.task l.judged.knots.now l.judged.records.now) l.marks l.position l.first

@@ -1,7 +1,0 @@
-use Rattle.std.proofs.Common.{◌≡◌, take}
-use Rattle.std.specs.Prelude.{count_by, is_some}
-use Rattle.path_tools.proofs.lawful_records.present_count.Given as goal
-
--- the nodes so far are counted
-abbrev pub invariant-loop-knot : goal.invariant-loop-knot
-invariant-loop-knot l = l.count ≡ count_by is_some (take l.knot-index l.knots)

@@ -1,7 +1,0 @@
-use Rattle.path_tools.specs.OwnNodes.{HasNo}
-use Rattle.path_tools.proofs.searches.has_one_in.Given as goal
-
--- none of the run so far is one of the search
-abbrev pub invariant-loop-position : goal.invariant-loop-position
-invariant-loop-position g l =
-    HasNo (g.S.Search.finds l.search (g.C.Clearing.space l.hall) l.judged.standings.now) l.judged.own.now l.fn.run.start l.position

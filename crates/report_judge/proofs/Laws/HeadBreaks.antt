@@ -1,0 +1,153 @@
+-- Two heads differ first at the first line if one alone has a path, or the paths differ in length or cost; or else at a point or the counts.
+use Rattle.std.proofs.Common.{◌≡◌, ℕ, zero, suc, ◌<◌, ◌≤◌, List, [], ◌∷◌, ◌++◌, length, map, get_or, Option, Some, None}
+use Rattle.std.proofs.Common.{arith, refl, sym, ap, ◌∙◌, subst, inl, inr, length-append}
+use Rattle.std.specs.Prelude.{◌⊎◌, IfNone, IfSome, slice_get}
+use Rattle.std.proofs.lemmas.Bool.{cases_lt}
+use Rattle.std.proofs.lemmas.List.{length-map}
+use Rattle.std.proofs.lemmas.Option.{slice_get-get_or, slice_get_within}
+use Rattle.plan_model.specs.declared.geometry.Point.{Point}
+use Rattle.report_judge.specs.Laws.FirstBreaks.{IsFirstBreak, KeepsHead, KeepsPoint}
+use Rattle.report_judge.specs.Texts.ReportLines.{Tally, ReportLine}
+use Rattle.report_judge.specs.Texts.ReportLines.ReportLine.{NoPath, PathOf, PathPoint, Counts}
+use Rattle.report_judge.specs.Texts.ReportSheets.{PricedPath, head_lines}
+
+-- the lines after that of the path
+abbrev later : List Point → Tally → List ReportLine
+later points tally = map PathPoint points ++ Counts tally ∷ []
+
+point_line : (points : List Point) (tally : Tally) (i : ℕ) (p : Point) → slice_get points i ≡ Some p → slice_get (later points tally) i ≡ Some (PathPoint p)
+point_line [] tally i p is = absurd (omega (arith, slice_get_within [] i p is))
+point_line (q ∷ points) tally zero p is = let same : q ≡ p = cc in ap (λ (r : Point). Some (PathPoint r)) same
+point_line (q ∷ points) tally (suc i) p is = point_line points tally i p is
+
+counts_line : (points : List Point) (tally : Tally) → slice_get (later points tally) (length points) ≡ Some (Counts tally)
+counts_line [] tally = refl
+counts_line (q ∷ points) tally = counts_line points tally
+
+length-later : (points : List Point) (tally : Tally) → length (later points tally) ≡ suc (length points)
+length-later points tally = omega (arith, length-append (map PathPoint points) (Counts tally ∷ []), length-map points PathPoint)
+
+abbrev nowhere : Point
+nowhere = record { x = 0; y = 0 }
+
+module _ (points own : List Point) (tally counts : Tally) (long : length own ≡ length points) where
+  there : (i : ℕ) → i < length points → slice_get points i ≡ Some (get_or points i nowhere)
+  there i low = slice_get-get_or points i nowhere low
+
+  own_there : (i : ℕ) → i < length points → slice_get own i ≡ Some (get_or own i nowhere)
+  own_there i low = slice_get-get_or own i nowhere (omega (arith, low, long))
+
+  alike : (i : ℕ) → i < length points → KeepsPoint points own i → slice_get (later points tally) i ≡ slice_get (later own counts) i
+  alike i low same =
+      let p : Point = get_or points i nowhere in
+      point_line points tally i p (there i low) ∙ sym (point_line own counts i p (sym same ∙ there i low))
+
+  unlike : (i : ℕ) → i < length points → slice_get (later points tally) i ≡ slice_get (later own counts) i → KeepsPoint points own i
+  unlike i low same =
+      let p : Point = get_or points i nowhere in
+      let q : Point = get_or own i nowhere in
+      let both : Some (PathPoint p) ≡ Some (PathPoint q) =
+      sym (point_line points tally i p (there i low)) ∙ same ∙ point_line own counts i q (own_there i low) in
+      let e : p ≡ q = cc in
+      there i low ∙ ap (λ (r : Point). Some r) e ∙ sym (own_there i low)
+
+  counts_alike : tally ≡ counts → slice_get (later points tally) (length points) ≡ slice_get (later own counts) (length points)
+  counts_alike same =
+      counts_line points tally ∙ ap (λ (t : Tally). Some (Counts t)) same ∙ sym (counts_line own counts) ∙ ap (slice_get (later own counts)) long
+
+  counts_unlike : slice_get (later points tally) (length points) ≡ slice_get (later own counts) (length points) → tally ≡ counts
+  counts_unlike same =
+      let both : Some (Counts tally) ≡ Some (Counts counts) =
+      sym (counts_line points tally) ∙ same ∙ ap (slice_get (later own counts)) (sym long) ∙ counts_line own counts in
+      cc
+
+-- ---- heads without a path
+
+pub tallies_alike : (tally counts : Tally) → tally ≡ counts → IsFirstBreak (KeepsHead None tally None counts) (length (head_lines None tally)) None
+tallies_alike tally counts same = λ k low. ap (λ (t : Tally). slice_get (head_lines None t) k) same
+
+pub tallies_unlike : (tally counts : Tally) → ¬ (tally ≡ counts)
+    → IsFirstBreak (KeepsHead None tally None counts) (length (head_lines None tally)) (Some 1)
+tallies_unlike tally counts other = (omega arith, λ k low. first k low, λ (e : Some (Counts tally) ≡ Some (Counts counts)). other (cc))
+  where
+    first : (k : ℕ) → k < 1 → KeepsHead None tally None counts k
+    first zero low = refl
+    first (suc k) low = absurd (omega (arith, low))
+
+-- what a test of the counts finds
+pub tallies_found : (tally counts : Tally) (found : Option ℕ) → IfNone found (tally ≡ counts) → IfSome found (λ n. (n ≡ 1) × ¬ (tally ≡ counts))
+    → IsFirstBreak (KeepsHead None tally None counts) (length (head_lines None tally)) found
+tallies_found tally counts None same other = tallies_alike tally counts same
+tallies_found tally counts (Some n) same other =
+    subst (λ m. IsFirstBreak (KeepsHead None tally None counts) (length (head_lines None tally)) (Some m)) (sym other.0) (tallies_unlike tally counts other.1)
+
+pub path_missing : (own : PricedPath) (tally counts : Tally)
+    → IsFirstBreak (KeepsHead None tally (Some own) counts) (length (head_lines None tally)) (Some 0)
+path_missing own tally counts =
+    (omega arith, λ k low. absurd (omega (arith, low)), λ (e : Some NoPath ≡ Some (PathOf (length own.points) own.cost)). cc)
+
+pub path_needless : (path : PricedPath) (tally counts : Tally)
+    → IsFirstBreak (KeepsHead (Some path) tally None counts) (length (head_lines (Some path) tally)) (Some 0)
+path_needless path tally counts =
+    (omega arith, λ k low. absurd (omega (arith, low)), λ (e : Some (PathOf (length path.points) path.cost) ≡ Some NoPath). cc)
+
+-- ---- two paths
+
+module _ (path own : PricedPath) (tally counts : Tally) where
+  abbrev Keeps : ℕ → Type 0
+  Keeps = KeepsHead (Some path) tally (Some own) counts
+
+  abbrev limit : ℕ
+  limit = length (head_lines (Some path) tally)
+
+  -- paths of other lengths or costs differ at once
+  pub paths_unlike : ((length own.points ≡ length path.points) → (own.cost ≡ path.cost) → ⊥) → IsFirstBreak Keeps limit (Some 0)
+  paths_unlike other = (omega arith, λ k low. absurd (omega (arith, low)), by_line)
+    where
+      by_line : Keeps 0 → ⊥
+      by_line e =
+          let both : Some (PathOf (length path.points) path.cost) ≡ Some (PathOf (length own.points) own.cost) = e in
+          let points : length path.points ≡ length own.points = cc in
+          let cost : path.cost ≡ own.cost = cc in
+          other (sym points) (sym cost)
+
+  module _ (long : length own.points ≡ length path.points) (dear : own.cost ≡ path.cost) where
+    first_line : Keeps 0
+    first_line = λ t. Some (PathOf (sym long t) (sym dear t))
+
+    points_alike : (j : ℕ) → j ≤ length path.points → ((i : ℕ) → i < j → KeepsPoint path.points own.points i) → (k : ℕ) → k < suc j → Keeps k
+    points_alike j few same zero low = first_line
+    points_alike j few same (suc k) low =
+        alike path.points own.points tally counts long k (omega (arith, low, few)) (same k (omega (arith, low)))
+
+    -- the first point that differs
+    pub points_unlike : (j : ℕ) → IsFirstBreak (KeepsPoint path.points own.points) (length path.points) (Some j) → IsFirstBreak Keeps limit (Some (suc j))
+    points_unlike j first = (
+      omega (arith, length-later path.points tally, first.0),
+      λ k low. points_alike j (omega (arith, first.0)) first.1 k low,
+      λ e. first.2 (unlike path.points own.points tally counts long j first.0 e),
+    )
+
+    module _ (same : (i : ℕ) → i < length path.points → KeepsPoint path.points own.points i) where
+      -- the counts differ
+      pub counts_differ : ¬ (tally ≡ counts) → IsFirstBreak Keeps limit (Some (suc (length path.points)))
+      counts_differ other = (
+        omega (arith, length-later path.points tally),
+        λ k low. points_alike (length path.points) (omega arith) same k low,
+        λ e. other (counts_unlike path.points own.points tally counts long e),
+      )
+
+      -- or nothing does
+      pub heads_alike : tally ≡ counts → IsFirstBreak Keeps limit None
+      heads_alike equal = λ k low. by_line k low (cases_lt k (suc (length path.points)))
+        where
+          by_line : (k : ℕ) → k < limit → (k < suc (length path.points)) ⊎ (suc (length path.points) ≤ k) → Keeps k
+          by_line k low (inl within) = points_alike (length path.points) (omega arith) same k within
+          by_line k low (inr past) =
+              let last : suc (length path.points) ≡ k = omega (arith, low, past, length-later path.points tally) in
+              subst Keeps last (counts_alike path.points own.points tally counts long equal)
+
+      pub counts_found : (line : ℕ) → line ≡ suc (length path.points) → (found : Option ℕ) → IfNone found (tally ≡ counts)
+          → IfSome found (λ n. (n ≡ line) × ¬ (tally ≡ counts)) → IsFirstBreak Keeps limit found
+      counts_found line is None equal other = heads_alike equal
+      counts_found line is (Some n) equal other = subst (λ m. IsFirstBreak Keeps limit (Some m)) (sym (other.0 ∙ is)) (counts_differ other.1)

@@ -1,0 +1,192 @@
+-- A node but the start keeps its law if its point is new and it hangs exactly below its parent.
+use Rattle.std.proofs.Common.{◌≡◌, ℕ, zero, suc, ◌+◌, ◌*◌, ◌<◌, ◌≤◌, List, length, Option, Some, None, arith, sym, ap, ◌∙◌, subst}
+use Rattle.std.specs.Prelude.{is_some, option_map, slice_index_or}
+use Rattle.plan_model.specs.declared.configuration_spaces.ConfigurationSpace.{ConfigurationSpace}
+use Rattle.plan_model.specs.declared.geometry.Point.{Point}
+use Rattle.plan_model.specs.declared.records.Record.{Record}
+use Rattle.plan_model.specs.declared.trees.Knot.{Knot}
+use Rattle.plan_model.specs.Geometry.Cost.{cost_of}
+use Rattle.plan_model.specs.Geometry.Plane.{squared_distance}
+use Rattle.plan_model.specs.Runs.Textbook.{Setup}
+use Rattle.plan_model.specs.Spaces.Clearance.{Clear}
+use Rattle.plan_model.specs.Trees.PointsByNumber.{IsPresent, StandsAt, point_of}
+use Rattle.plan_model.specs.Trees.TreeStates.{TreeState}
+use Rattle.plan_model.proofs.NewNodes.{IsPresent-stands, point_of-stands}
+use Rattle.step_core.specs.PackedRuns.{kept_cost_of, state_of_lists}
+use Rattle.step_core.proofs.PackedStates.{point_at-lists, parent_of-lists}
+use Rattle.report_judge.specs.Laws.ExactEdges.{FitsEdges, KeepsEdges}
+use Rattle.report_judge.specs.Laws.FirstBreaks.{IsFirstBreak, IsNewKey, KeepsNode, point_key}
+use Rattle.report_judge.specs.Laws.SheetLaws.{IsSoundNode}
+use Rattle.report_judge.proofs.Laws.FirstBreakLaws.{IsFirstBreak-same}
+
+-- the point of a node of the list
+abbrev point_in : Option Knot → Option Point
+point_in o = option_map (λ (knot : Knot). knot.point) o
+
+-- a present node is one of the list
+pub record IsListed (knots : List (Option Knot)) (n : ℕ) : Type 0 where
+  pub knot : Knot
+  pub at : slice_index_or knots n None ≡ Some knot
+
+module _ (knots : List (Option Knot)) (records : List Record) where
+  abbrev run : TreeState
+  run = state_of_lists knots records
+
+  stands : (n : ℕ) (knot : Knot) → slice_index_or knots n None ≡ Some knot → StandsAt run.points n knot.point
+  stands n knot e = point_at-lists knots n ∙ ap point_in e
+
+  pub present : (n : ℕ) (knot : Knot) → slice_index_or knots n None ≡ Some knot → IsPresent run.points n
+  present n knot e = IsPresent-stands run.points n knot.point (stands n knot e)
+
+  pub own_point : (n : ℕ) (knot : Knot) → slice_index_or knots n None ≡ Some knot → point_of run.points n ≡ knot.point
+  own_point n knot e = point_of-stands run.points n knot.point (stands n knot e)
+
+  pub listed : (n : ℕ) → IsPresent run.points n → IsListed knots n
+  listed n h = by_knot (slice_index_or knots n None) refl_of
+    where
+      refl_of : slice_index_or knots n None ≡ slice_index_or knots n None
+      refl_of = λ i. slice_index_or knots n None
+
+      by_knot : (o : Option Knot) → slice_index_or knots n None ≡ o → IsListed knots n
+      by_knot None e = let gone = sym h ∙ ap is_some (point_at-lists knots n ∙ ap point_in e) in absurd (cc)
+      by_knot (Some knot) e = record { knot = knot; at = e }
+
+  -- ---- the start
+
+  -- node 0 keeps the law if it is the start, its own parent, and costs nothing,
+  pub KeepsNode-start : (setup : Setup) (knot : Knot) → slice_index_or knots 0 None ≡ Some knot
+      → knot ≡ record { point = setup.start; parent = 0; cost = 0 } → KeepsNode setup knots records 0
+  KeepsNode-start setup knot e same = λ here. record {
+    stands = stands 0 knot e ∙ ap (λ (k : Knot). Some k.point) same;
+    parent = parent_of-lists knots 0 knot e ∙ ap (λ (k : Knot). k.parent) same;
+    cost = ap kept_cost_of e ∙ ap (λ (k : Knot). k.cost) same;
+  }
+
+  -- and only then
+  pub start-KeepsNode : (setup : Setup) (knot : Knot) → slice_index_or knots 0 None ≡ Some knot → KeepsNode setup knots records 0
+      → knot ≡ record { point = setup.start; parent = 0; cost = 0 }
+  start-KeepsNode setup knot e kept =
+      let start = kept (present 0 knot e) in
+      let both : Some knot.point ≡ Some setup.start = sym (stands 0 knot e) ∙ start.stands in
+      let point : knot.point ≡ setup.start = cc in
+      let parent : knot.parent ≡ 0 = sym (parent_of-lists knots 0 knot e) ∙ start.parent in
+      let cost : knot.cost ≡ 0 = sym (ap kept_cost_of e) ∙ start.cost in
+      λ i. record { point = point i; parent = parent i; cost = cost i }
+
+  -- ---- other nodes
+
+  module _
+      (setup : Setup) (space : ConfigurationSpace) (same_space : setup.space ≡ space) (squared_step : ℕ)
+      (same_step : setup.step * setup.step ≡ squared_step) (keys : List ℕ)
+      (told : (n : ℕ) → n < length knots → slice_index_or keys n 0 ≡ point_key n (slice_index_or knots n None))
+      (fit : (n : ℕ) (knot : Knot) → slice_index_or knots n None ≡ Some knot → FitsEdges knot) where
+    -- a node with an exact edge and a new point is sound
+    sound : (n : ℕ) → suc n < length knots → IsNewKey keys (suc n) → KeepsEdges space squared_step knots (suc n) → (knot : Knot)
+        → slice_index_or knots (suc n) None ≡ Some knot → IsSoundNode setup run (suc n)
+    sound n low new edges knot e =
+        let h = edges (omega arith) knot e in
+        let parent : run.parent (suc n) ≡ knot.parent = parent_of-lists knots (suc n) knot e in
+        let below : point_of run.points (suc n) ≡ knot.point = own_point (suc n) knot e in
+        let above : point_of run.points (run.parent (suc n)) ≡ h.up.point = ap (point_of run.points) parent ∙ own_point knot.parent h.up h.there in
+        let length : squared_distance h.up.point knot.point ≡ squared_distance (point_of run.points (run.parent (suc n))) (point_of run.points (suc n)) =
+        λ i. squared_distance (sym above i) (sym below i) in
+        let cost : run.cost (run.parent (suc n)) ≡ h.up.cost = ap (λ p. kept_cost_of (slice_index_or knots p None)) parent ∙ ap kept_cost_of h.there in
+        let edge : cost_of h.up.point knot.point ≡ cost_of (point_of run.points (run.parent (suc n))) (point_of run.points (suc n)) =
+        λ i. cost_of (sym above i) (sym below i) in
+        record {
+          alone = λ m before there. alone m before there;
+          present = subst (IsPresent run.points) (sym parent) (present knot.parent h.up h.there);
+          other = λ q. h.other (sym parent ∙ q);
+          edge = record {
+            clear = subst (λ (s : ConfigurationSpace). Clear s (point_of run.points (run.parent (suc n))) (point_of run.points (suc n))) (sym same_space)
+                (subst (λ p. Clear space p (point_of run.points (suc n))) (sym above) (subst (Clear space h.up.point) (sym below) h.edge.clear));
+            short = subst (λ q. q ≤ setup.step * setup.step) length (subst (λ q. squared_distance h.up.point knot.point ≤ q) (sym same_step) h.edge.short);
+          };
+          exact = ap kept_cost_of e ∙ h.edge.exact ∙ (λ i. sym cost i + edge i);
+        }
+      where
+        alone : (m : ℕ) → m < suc n → StandsAt run.points m (point_of run.points (suc n)) → ⊥
+        alone m before there =
+            let other = listed m (IsPresent-stands run.points m (point_of run.points (suc n)) there) in
+            let both : Some other.knot.point ≡ Some knot.point = sym (stands m other.knot other.at) ∙ there ∙ ap Some (own_point (suc n) knot e) in
+            let point : other.knot.point ≡ knot.point = cc in
+            new m before
+            (told m (omega (arith, before, low))
+            ∙ ap (point_key m) other.at
+            ∙ (λ i. (point i).x * 1048576 + (point i).y)
+            ∙ sym (told (suc n) low ∙ ap (point_key (suc n)) e))
+
+    KeepsNode-next : (n : ℕ) → suc n < length knots → IsNewKey keys (suc n) × KeepsEdges space squared_step knots (suc n)
+        → KeepsNode setup knots records (suc n)
+    KeepsNode-next n low both = λ here. let own = listed (suc n) here in sound n low both.0 both.1 own.knot own.at
+
+    -- a sound node has an exact edge
+    edges-sound : (n : ℕ) (knot : Knot) → slice_index_or knots (suc n) None ≡ Some knot → IsSoundNode setup run (suc n)
+        → KeepsEdges space squared_step knots (suc n)
+    edges-sound n own_knot own_at sound_node = λ some knot e.
+        let parent : run.parent (suc n) ≡ knot.parent = parent_of-lists knots (suc n) knot e in
+        let up = listed knot.parent (subst (IsPresent run.points) parent sound_node.present) in
+        let below : point_of run.points (suc n) ≡ knot.point = own_point (suc n) knot e in
+        let above : point_of run.points (run.parent (suc n)) ≡ up.knot.point = ap (point_of run.points) parent ∙ own_point knot.parent up.knot up.at in
+        let length : squared_distance (point_of run.points (run.parent (suc n))) (point_of run.points (suc n)) ≡ squared_distance up.knot.point knot.point =
+        λ i. squared_distance (above i) (below i) in
+        let cost : run.cost (run.parent (suc n)) ≡ up.knot.cost = ap (λ p. kept_cost_of (slice_index_or knots p None)) parent ∙ ap kept_cost_of up.at in
+        let edge : cost_of (point_of run.points (run.parent (suc n))) (point_of run.points (suc n)) ≡ cost_of up.knot.point knot.point =
+        λ i. cost_of (above i) (below i) in
+        record {
+          up = up.knot;
+          there = up.at;
+          other = λ q. sound_node.other (parent ∙ q);
+          edge = record {
+            clear = subst (Clear space up.knot.point) below
+                (subst (λ p. Clear space p (point_of run.points (suc n))) above
+                (subst (λ (s : ConfigurationSpace). Clear s (point_of run.points (run.parent (suc n))) (point_of run.points (suc n))) same_space
+                sound_node.edge.clear));
+            short = subst (λ q. squared_distance up.knot.point knot.point ≤ q) same_step
+                (subst (λ q. q ≤ setup.step * setup.step) length sound_node.edge.short);
+            exact = sym (ap kept_cost_of e) ∙ sound_node.exact ∙ (λ i. cost i + edge i);
+          };
+        }
+
+    -- numbers of points that are the same are those of one point, or of one number
+    apart_keys : (m n : ℕ) (o p : Option Knot) → slice_index_or knots m None ≡ o → slice_index_or knots n None ≡ p → m < n
+        → ((knot other : Knot) → slice_index_or knots m None ≡ Some other → slice_index_or knots n None ≡ Some knot → other.point ≡ knot.point → ⊥)
+        → point_key m o ≡ point_key n p → ⊥
+    apart_keys m n None None e f before apart same = omega (arith, same, before)
+    apart_keys m n None (Some knot) e f before apart same = omega (arith, same, (fit n knot f).point.right, (fit n knot f).point.top)
+    apart_keys m n (Some other) None e f before apart same = omega (arith, same, (fit m other e).point.right, (fit m other e).point.top)
+    apart_keys m n (Some other) (Some knot) e f before apart same =
+        let one = (fit m other e).point in
+        let two = (fit n knot f).point in
+        let x : other.point.x ≡ knot.point.x = omega (arith, same, one.top, two.top) in
+        let y : other.point.y ≡ knot.point.y = omega (arith, same, one.top, two.top) in
+        apart knot other e f (λ i. record { x = x i; y = y i })
+
+    next-KeepsNode : (n : ℕ) → suc n < length knots → KeepsNode setup knots records (suc n)
+        → IsNewKey keys (suc n) × KeepsEdges space squared_step knots (suc n)
+    next-KeepsNode n low kept = (
+      λ m before e.
+          apart_keys m (suc n) (slice_index_or knots m None) (slice_index_or knots (suc n) None) (λ i. slice_index_or knots m None)
+          (λ i. slice_index_or knots (suc n) None) before
+          (λ knot other at here point. (kept (present (suc n) knot here)).alone m before (
+          stands m other at ∙ ap Some (point ∙ sym (own_point (suc n) knot here))))
+          (sym (told m (omega (arith, before, low))) ∙ e ∙ told (suc n) low),
+      λ some knot here. edges-sound n knot here (kept (present (suc n) knot here)) some knot here,
+    )
+
+    on : KeepsNode setup knots records 0 → (k : ℕ) → k < length knots → IsNewKey keys k × KeepsEdges space squared_step knots k
+        → KeepsNode setup knots records k
+    on start zero low both = start
+    on start (suc n) low both = KeepsNode-next n low both
+
+    back : (k : ℕ) → k < length knots → KeepsNode setup knots records k → IsNewKey keys k × KeepsEdges space squared_step knots k
+    back zero low kept = (λ j before e. omega (arith, before), λ some knot here. absurd (omega (arith, some)))
+    back (suc n) low kept = next-KeepsNode n low kept
+
+    -- So if the start keeps the law, the first node that breaks it is the first that breaks one of the two.
+    pub IsFirstBreak-nodes : KeepsNode setup knots records 0 → (first : Option ℕ)
+        → IsFirstBreak (λ k. IsNewKey keys k × KeepsEdges space squared_step knots k) (length knots) first
+        → IsFirstBreak (KeepsNode setup knots records) (length knots) first
+    IsFirstBreak-nodes start first h =
+        IsFirstBreak-same (λ k. IsNewKey keys k × KeepsEdges space squared_step knots k) (KeepsNode setup knots records) (length knots) (on start) back
+        first h

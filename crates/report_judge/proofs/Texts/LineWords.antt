@@ -1,0 +1,418 @@
+-- What a line says is known by its words, and these by its bytes.
+use Rattle.std.proofs.Common.{◌≡◌, ℕ, ◌+◌, ◌%◌, ◌/◌, ◌<◌, ◌≤◌, ◌^◌, Bool, true, false, not, ◌&&◌, eqb, List, [], ◌∷◌, ◌++◌, length, get_or}
+use Rattle.std.proofs.Common.{arith, refl, sym, ap, ◌∙◌, subst, append_assoc, decimal}
+use Rattle.std.specs.Prelude.{IsTrue, Option, Some, None, codes}
+use Rattle.std.specs.List.{list_all, join_with_byte}
+use Rattle.std.proofs.lemmas.Bool.{and_parts, eqb-true, true≢false}
+use Rattle.std.proofs.lemmas.Bool.Decides.{nat_tests}
+use Rattle.std.proofs.lemmas.Fmt.{decimal_by_steps, decimal_injective}
+use Rattle.std.proofs.lemmas.List.{append_cancel_left}
+use Rattle.std.proofs.lemmas.List.Folds.{list_all-append}
+use Rattle.plan_model.specs.declared.records.Outcome.{Outcome}
+use Rattle.plan_model.specs.declared.records.Outcome.TheVariants.{Placed, Same, Blocked, Skipped}
+use Rattle.plan_model.specs.declared.records.Record.{Record}
+use Rattle.plan_model.specs.Reports.ReportText.{line, outcome_words}
+use Rattle.plan_model.specs.Runs.Outcomes.{is_zero_unless_placed}
+use Rattle.plan_model.specs.Runs.SameRuns.{HaveSameFields}
+use Rattle.plan_model.specs.Texts.TextLines.{lines_of, pieces_of}
+use Rattle.plan_model.specs.Texts.TextNumbers.{is_digit}
+use Rattle.plan_model.proofs.UniqueRuns.{Record-from_fields}
+use Rattle.step_core.specs.Words.{last_field}
+use Rattle.report_judge.specs.Texts.ReportLines.{ReportLine, Extent, line_words, line_text, skipped_count, FitsLine, FitsSkipped}
+use Rattle.report_judge.specs.Texts.ReportLines.ReportLine.{NoPath, PathOf, PathPoint, Counts, NodeLine, MarkLine}
+
+-- ---- bytes of words
+
+-- the byte is neither a space nor a line feed
+abbrev pub is_inner : ℕ → Bool
+is_inner b = not (eqb b 32) && not (eqb b 10)
+
+-- no byte of a word is a space or a line feed
+abbrev pub is_uncut : List ℕ → Bool
+is_uncut bytes = list_all is_inner bytes
+
+abbrev pub AreUncut : List (List ℕ) → Type 0
+AreUncut words = list_all is_uncut words ≡ true
+
+not-true : (p : Bool) → not p ≡ true → p ≡ false
+not-true true h = absurd (cc)
+not-true false h = refl
+
+inner-small : (n : ℕ) → n < 10 → is_inner (48 + n) ≡ true
+inner-small n h = grind (arith, nat_tests)
+
+digit-small : (n : ℕ) → n < 10 → is_digit (48 + n) ≡ true
+digit-small n h = grind (arith, nat_tests)
+
+abbrev IsUncut : ℕ → List ℕ → Type 0
+IsUncut n bytes = is_uncut bytes ≡ true
+
+uncut-one : (n : ℕ) → n < 10 → IsUncut n ((48 + n) ∷ [])
+uncut-one n h = rw (inner-small n h) refl
+
+uncut-more : (n : ℕ) (digits : List ℕ) → 10 ≤ n → IsUncut (n / 10) digits → IsUncut n (digits ++ (48 + n % 10) ∷ [])
+uncut-more n digits h before =
+    let last : is_inner (48 + n % 10) ≡ true = inner-small (n % 10) (omega arith) in
+    list_all-append is_inner digits ((48 + n % 10) ∷ []) ∙ rw (before, last) refl
+
+-- a number in decimal has neither
+pub uncut-decimal : (n : ℕ) → n < 2 ^ 64 → is_uncut (decimal n) ≡ true
+uncut-decimal n h = decimal_by_steps IsUncut uncut-one uncut-more n h
+
+abbrev AreDigits : ℕ → List ℕ → Type 0
+AreDigits n bytes = list_all is_digit bytes ≡ true
+
+digits-one : (n : ℕ) → n < 10 → AreDigits n ((48 + n) ∷ [])
+digits-one n h = rw (digit-small n h) refl
+
+digits-more : (n : ℕ) (digits : List ℕ) → 10 ≤ n → AreDigits (n / 10) digits → AreDigits n (digits ++ (48 + n % 10) ∷ [])
+digits-more n digits h before =
+    let last : is_digit (48 + n % 10) ≡ true = digit-small (n % 10) (omega arith) in
+    list_all-append is_digit digits ((48 + n % 10) ∷ []) ∙ rw (before, last) refl
+
+-- it is made of digits
+pub digits-decimal : (n : ℕ) → n < 2 ^ 64 → list_all is_digit (decimal n) ≡ true
+digits-decimal n h = decimal_by_steps AreDigits digits-one digits-more n h
+
+-- ---- lines are cut at line feeds, and words at spaces
+
+lines_of-line : (bytes rest : List ℕ) → list_all (λ b. not (eqb b 10)) bytes ≡ true → lines_of (bytes ++ 10 ∷ rest) ≡ bytes ∷ lines_of rest
+lines_of-line [] rest h = refl
+lines_of-line (b ∷ bytes) rest h =
+    let parts = and_parts (not (eqb b 10)) (list_all (λ x. not (eqb x 10)) bytes) h in
+    let inner : eqb b 10 ≡ false = not-true (eqb b 10) parts.0 in
+    rw (inner, lines_of-line bytes rest parts.1) refl
+
+pieces_of-word : (bytes rest : List ℕ) → is_uncut bytes ≡ true → pieces_of (bytes ++ 32 ∷ rest) ≡ bytes ∷ pieces_of rest
+pieces_of-word [] rest h = refl
+pieces_of-word (b ∷ bytes) rest h =
+    let parts = and_parts (is_inner b) (list_all is_inner bytes) h in
+    let inner : eqb b 32 ≡ false = not-true (eqb b 32) (and_parts (not (eqb b 32)) (not (eqb b 10)) parts.0).0 in
+    rw (inner, pieces_of-word bytes rest parts.1) refl
+
+pieces_of-last : (bytes : List ℕ) → is_uncut bytes ≡ true → pieces_of bytes ≡ bytes ∷ []
+pieces_of-last [] h = refl
+pieces_of-last (b ∷ bytes) h =
+    let parts = and_parts (is_inner b) (list_all is_inner bytes) h in
+    let inner : eqb b 32 ≡ false = not-true (eqb b 32) (and_parts (not (eqb b 32)) (not (eqb b 10)) parts.0).0 in
+    rw (inner, pieces_of-last bytes parts.1) refl
+
+-- the pieces of words that are joined are the words
+pub pieces_of-join : (word : List ℕ) (words : List (List ℕ)) → AreUncut (word ∷ words) → pieces_of (join_with_byte 32 (word ∷ words)) ≡ word ∷ words
+pieces_of-join word [] h = pieces_of-last word (and_parts (is_uncut word) true h).0
+pieces_of-join word (next ∷ words) h =
+    let parts = and_parts (is_uncut word) (list_all is_uncut (next ∷ words)) h in
+    pieces_of-word word (join_with_byte 32 (next ∷ words)) parts.0
+    ∙ ap (λ pieces. word ∷ pieces) (pieces_of-join next words parts.1)
+
+inner-word : (bytes : List ℕ) → is_uncut bytes ≡ true → list_all (λ b. not (eqb b 10)) bytes ≡ true
+inner-word [] h = refl
+inner-word (b ∷ bytes) h =
+    let parts = and_parts (is_inner b) (list_all is_inner bytes) h in
+    let inner = (and_parts (not (eqb b 32)) (not (eqb b 10)) parts.0).1 in
+    rw (inner, inner-word bytes parts.1) refl
+
+inner-line : (words : List (List ℕ)) → AreUncut words → list_all (λ b. not (eqb b 10)) (join_with_byte 32 words) ≡ true
+inner-line [] h = refl
+inner-line (word ∷ []) h = inner-word word (and_parts (is_uncut word) true h).0
+inner-line (word ∷ next ∷ words) h =
+    let parts = and_parts (is_uncut word) (list_all is_uncut (next ∷ words)) h in
+    let here = inner-word word parts.0 in
+    list_all-append (λ b. not (eqb b 10)) word (32 ∷ join_with_byte 32 (next ∷ words)) ∙ rw (here, inner-line (next ∷ words) parts.1) refl
+
+-- what a text that begins with a line is cut into
+lines_of-words : (words : List (List ℕ)) (rest : List ℕ) → AreUncut words → lines_of (line words ++ rest) ≡ join_with_byte 32 words ∷ lines_of rest
+lines_of-words words rest h =
+    ap lines_of (append_assoc (join_with_byte 32 words) (10 ∷ []) rest) ∙ lines_of-line (join_with_byte 32 words) rest (inner-line words h)
+
+same_pieces : (words others : List (List ℕ)) → 0 < length words → 0 < length others → AreUncut words → AreUncut others
+    → join_with_byte 32 words ≡ join_with_byte 32 others → words ≡ others
+same_pieces [] others some also uncut too h = absurd (omega (arith, some))
+same_pieces (word ∷ words) [] some also uncut too h = absurd (omega (arith, also))
+same_pieces (word ∷ words) (other ∷ others) some also uncut too h =
+    sym (pieces_of-join word words uncut) ∙ ap pieces_of h ∙ pieces_of-join other others too
+
+-- Texts that begin with lines of words, and are the same, begin with the same words, and go on alike.
+pub same_words : (words others : List (List ℕ)) (x y : List ℕ) → 0 < length words → 0 < length others → AreUncut words → AreUncut others
+    → line words ++ x ≡ line others ++ y → (words ≡ others) × (x ≡ y)
+same_words words others x y some also uncut too h =
+    let first : join_with_byte 32 words ≡ join_with_byte 32 others = same_first in (
+      same_pieces words others some also uncut too first,
+      append_cancel_left (line words) x y (h ∙ ap (λ bytes. (bytes ++ 10 ∷ []) ++ y) (sym first)),
+    )
+  where
+    same_first : join_with_byte 32 words ≡ join_with_byte 32 others
+    same_first =
+        let both : join_with_byte 32 words ∷ lines_of x ≡ join_with_byte 32 others ∷ lines_of y =
+        sym (lines_of-words words x uncut) ∙ ap lines_of h ∙ lines_of-words others y too in
+        cc
+
+-- ---- the words of lines
+
+uncut-outcome : (entry : Record) (o : Outcome) → entry.nearest < 2 ^ 18 → last_field o entry.class < 2 ^ 18 → entry.first_parent < 2 ^ 18
+    → entry.first_cost < 2 ^ 44
+    → AreUncut (outcome_words entry o)
+uncut-outcome entry Placed nearest last parent cost =
+    rw (
+      uncut-decimal entry.nearest (omega (arith, nearest)),
+      uncut-decimal entry.class (omega (arith, last)),
+      uncut-decimal entry.first_parent (omega (arith, parent)),
+      uncut-decimal entry.first_cost (omega (arith, cost)),
+    ) refl
+uncut-outcome entry (Same j) nearest last parent cost =
+    rw (uncut-decimal entry.nearest (omega (arith, nearest)), uncut-decimal j (omega (arith, last))) refl
+uncut-outcome entry Blocked nearest last parent cost = rw (uncut-decimal entry.nearest (omega (arith, nearest))) refl
+uncut-outcome entry Skipped nearest last parent cost = rw (uncut-decimal entry.nearest (omega (arith, nearest))) refl
+
+uncut-skipped : (informed : Bool) (count : Option ℕ) → FitsSkipped informed count → AreUncut (skipped_count count)
+uncut-skipped false None fits = refl
+uncut-skipped true None fits = absurd fits
+uncut-skipped false (Some count) fits = absurd fits
+uncut-skipped true (Some count) fits = rw (uncut-decimal count fits) refl
+
+-- the words of a line whose numbers are in their ranges have neither spaces nor line feeds
+pub uncut-line : (extent : Extent) → extent.marks < 2 ^ 64 → (said : ReportLine) → FitsLine extent said → AreUncut (line_words said)
+uncut-line extent few NoPath fits = refl
+uncut-line extent few (PathOf points cost) fits = rw (uncut-decimal points fits.0, uncut-decimal cost (omega (arith, fits.1))) refl
+uncut-line extent few (PathPoint p) fits = rw (uncut-decimal p.x (omega (arith, fits.right)), uncut-decimal p.y (omega (arith, fits.top))) refl
+uncut-line extent few (Counts tally) fits =
+    rw (
+      uncut-decimal tally.nodes fits.nodes,
+      uncut-decimal tally.placed fits.placed,
+      uncut-decimal tally.same fits.same,
+      uncut-decimal tally.blocked fits.blocked,
+      uncut-skipped extent.informed tally.skipped fits.skipped,
+    ) refl
+uncut-line extent few (NodeLine n knot) fits =
+    rw (
+      uncut-decimal n (omega (arith, few, fits.number)),
+      uncut-decimal knot.point.x (omega (arith, fits.point.right)),
+      uncut-decimal knot.point.y (omega (arith, fits.point.top)),
+      uncut-decimal knot.parent (omega (arith, few, fits.parent)),
+      uncut-decimal knot.cost (omega (arith, fits.cost)),
+    ) refl
+uncut-line extent few (MarkLine k entry) fits =
+    let own = fits.1 in
+    let outcome = uncut-outcome entry entry.outcome own.words.word.nearest own.words.word.last own.words.parent own.words.cost in
+    rw (
+      uncut-decimal k (omega (arith, few, fits.0)),
+      uncut-decimal entry.worker (omega (arith, own.words.word.worker)),
+      uncut-decimal entry.turn (omega (arith, own.words.word.turn)),
+      outcome,
+    ) refl
+
+pub some_words : (said : ReportLine) → 0 < length (line_words said)
+some_words NoPath = omega arith
+some_words (PathOf points cost) = omega arith
+some_words (PathPoint p) = omega arith
+some_words (Counts tally) = omega arith
+some_words (NodeLine n knot) = omega arith
+some_words (MarkLine k entry) = omega arith
+
+-- ---- what words say
+
+-- numbers with the same digits are the same
+same_number : (m n : ℕ) → m < 2 ^ 64 → n < 2 ^ 64 → decimal m ≡ decimal n → m ≡ n
+same_number m n one other h = decimal_injective m n one other h
+
+-- records of marks that were not placed have three zeros
+record AreZeros (entry : Record) : Type 0 where
+  parent : entry.first_parent ≡ 0
+  cost : entry.first_cost ≡ 0
+  class : entry.class ≡ 0
+
+zeros_by : (entry : Record) → (eqb entry.first_parent 0 && (eqb entry.first_cost 0 && eqb entry.class 0)) ≡ true → AreZeros entry
+zeros_by entry h =
+    let parts = and_parts (eqb entry.first_parent 0) (eqb entry.first_cost 0 && eqb entry.class 0) h in
+    let rest = and_parts (eqb entry.first_cost 0) (eqb entry.class 0) parts.1 in
+    record { parent = eqb-true entry.first_parent 0 parts.0; cost = eqb-true entry.first_cost 0 rest.0; class = eqb-true entry.class 0 rest.1 }
+
+zeros-same : (entry : Record) (j : ℕ) → entry.outcome ≡ Same j → AreZeros entry
+zeros-same entry j e = zeros_by entry (subst (λ o. IsTrue (is_zero_unless_placed o entry.first_parent entry.first_cost entry.class)) e entry.unplaced)
+
+zeros-skipped : (entry : Record) → entry.outcome ≡ Skipped → AreZeros entry
+zeros-skipped entry e = zeros_by entry (subst (λ o. IsTrue (is_zero_unless_placed o entry.first_parent entry.first_cost entry.class)) e entry.unplaced)
+
+zeros-blocked : (entry : Record) → entry.outcome ≡ Blocked → AreZeros entry
+zeros-blocked entry e = zeros_by entry (subst (λ o. IsTrue (is_zero_unless_placed o entry.first_parent entry.first_cost entry.class)) e entry.unplaced)
+
+-- words that are the same begin with the same byte
+first_byte : (words others : List (List ℕ)) → words ≡ others → get_or (get_or words 0 []) 0 0 ≡ get_or (get_or others 0 []) 0 0
+first_byte words others h = ap (λ (ws : List (List ℕ)). get_or (get_or ws 0 []) 0 0) h
+
+module _
+    (entry other : Record) (worker : entry.worker ≡ other.worker) (turn : entry.turn ≡ other.turn)
+    (near : entry.nearest < 2 ^ 18) (near_too : other.nearest < 2 ^ 18) (low : (entry.first_parent < 2 ^ 18) × (entry.first_cost < 2 ^ 44))
+    (low_too : (other.first_parent < 2 ^ 18) × (other.first_cost < 2 ^ 44)) where
+  same_unplaced : decimal entry.nearest ≡ decimal other.nearest → entry.outcome ≡ other.outcome → AreZeros entry → AreZeros other
+      → HaveSameFields entry other
+  same_unplaced nearest outcome one two = record {
+    worker = worker;
+    turn = turn;
+    nearest = same_number entry.nearest other.nearest (omega (arith, near)) (omega (arith, near_too)) nearest;
+    outcome = outcome;
+    first_parent = one.parent ∙ sym two.parent;
+    first_cost = one.cost ∙ sym two.cost;
+    class = one.class ∙ sym two.class;
+  }
+
+  -- records of one worker and turn whose other words are the same
+  same_outcomes : (o p : Outcome) → entry.outcome ≡ o → other.outcome ≡ p → last_field o entry.class < 2 ^ 18 → last_field p other.class < 2 ^ 18
+      → outcome_words entry o ≡ outcome_words other p → HaveSameFields entry other
+  same_outcomes Placed Placed e f last last_too h =
+      let nearest : decimal entry.nearest ≡ decimal other.nearest = cc in
+      let class : decimal entry.class ≡ decimal other.class = cc in
+      let parent : decimal entry.first_parent ≡ decimal other.first_parent = cc in
+      let cost : decimal entry.first_cost ≡ decimal other.first_cost = cc in
+      record {
+        worker = worker;
+        turn = turn;
+        nearest = same_number entry.nearest other.nearest (omega (arith, near)) (omega (arith, near_too)) nearest;
+        outcome = e ∙ sym f;
+        first_parent = same_number entry.first_parent other.first_parent (omega (arith, low.0)) (omega (arith, low_too.0)) parent;
+        first_cost = same_number entry.first_cost other.first_cost (omega (arith, low.1)) (omega (arith, low_too.1)) cost;
+        class = same_number entry.class other.class (omega (arith, last)) (omega (arith, last_too)) class;
+      }
+  same_outcomes (Same j) (Same i) e f last last_too h =
+      let nearest : decimal entry.nearest ≡ decimal other.nearest = cc in
+      let ended : decimal j ≡ decimal i = cc in
+      let node = same_number j i (omega (arith, last)) (omega (arith, last_too)) ended in
+      same_unplaced nearest (e ∙ ap Same node ∙ sym f) (zeros-same entry j e) (zeros-same other i f)
+  same_outcomes Blocked Blocked e f last last_too h =
+      let nearest : decimal entry.nearest ≡ decimal other.nearest = cc in
+      same_unplaced nearest (e ∙ sym f) (zeros-blocked entry e) (zeros-blocked other f)
+  same_outcomes Skipped Skipped e f last last_too h =
+      let nearest : decimal entry.nearest ≡ decimal other.nearest = cc in
+      same_unplaced nearest (e ∙ sym f) (zeros-skipped entry e) (zeros-skipped other f)
+  same_outcomes Placed (Same i) e f last last_too h = absurd (cc)
+  same_outcomes Placed Blocked e f last last_too h = absurd (cc)
+  same_outcomes (Same j) Placed e f last last_too h = absurd (cc)
+  same_outcomes (Same j) Blocked e f last last_too h = absurd (cc)
+  same_outcomes Blocked Placed e f last last_too h = absurd (cc)
+  same_outcomes Blocked (Same i) e f last last_too h = absurd (cc)
+  same_outcomes Placed Skipped e f last last_too h =
+      absurd (omega (arith, first_byte (outcome_words entry Placed) (outcome_words other Skipped) h))
+  same_outcomes (Same j) Skipped e f last last_too h =
+      absurd (omega (arith, first_byte (outcome_words entry (Same j)) (outcome_words other Skipped) h))
+  same_outcomes Blocked Skipped e f last last_too h =
+      absurd (omega (arith, first_byte (outcome_words entry Blocked) (outcome_words other Skipped) h))
+  same_outcomes Skipped Placed e f last last_too h =
+      absurd (omega (arith, first_byte (outcome_words entry Skipped) (outcome_words other Placed) h))
+  same_outcomes Skipped (Same i) e f last last_too h =
+      absurd (omega (arith, first_byte (outcome_words entry Skipped) (outcome_words other (Same i)) h))
+  same_outcomes Skipped Blocked e f last last_too h =
+      absurd (omega (arith, first_byte (outcome_words entry Skipped) (outcome_words other Blocked) h))
+
+-- counts of skipped marks with the same words are the same
+same_skipped : (informed : Bool) (one other : Option ℕ) → FitsSkipped informed one → FitsSkipped informed other
+    → skipped_count one ≡ skipped_count other → one ≡ other
+same_skipped informed None None fits also h = refl
+same_skipped informed None (Some other) fits also h = absurd (cc)
+same_skipped informed (Some one) None fits also h = absurd (cc)
+same_skipped false (Some one) (Some other) fits also h = absurd fits
+same_skipped true (Some one) (Some other) fits also h =
+    let digits : decimal one ≡ decimal other = cc in
+    ap Some (same_number one other fits also digits)
+
+-- Lines with numbers in their ranges that have the same words say the same.
+pub same_said : (extent : Extent) → extent.marks < 2 ^ 64 → (one other : ReportLine) → FitsLine extent one → FitsLine extent other
+    → line_words one ≡ line_words other → one ≡ other
+same_said extent few NoPath NoPath fits also h = refl
+same_said extent few (PathOf points cost) (PathOf others price) fits also h =
+    let a : decimal points ≡ decimal others = cc in
+    let b : decimal cost ≡ decimal price = cc in
+    let same = same_number points others fits.0 also.0 a in
+    let costs = same_number cost price (omega (arith, fits.1)) (omega (arith, also.1)) b in
+    λ i. PathOf (same i) (costs i)
+same_said extent few (PathPoint p) (PathPoint q) fits also h =
+    let a : decimal p.x ≡ decimal q.x = cc in
+    let b : decimal p.y ≡ decimal q.y = cc in
+    let right = same_number p.x q.x (omega (arith, fits.right)) (omega (arith, also.right)) a in
+    let top = same_number p.y q.y (omega (arith, fits.top)) (omega (arith, also.top)) b in
+    λ i. PathPoint (record { x = right i; y = top i })
+same_said extent few (Counts tally) (Counts counts) fits also h =
+    let a : decimal tally.nodes ≡ decimal counts.nodes = cc in
+    let b : decimal tally.placed ≡ decimal counts.placed = cc in
+    let c : decimal tally.same ≡ decimal counts.same = cc in
+    let d : decimal tally.blocked ≡ decimal counts.blocked = cc in
+    let e : skipped_count tally.skipped ≡ skipped_count counts.skipped = cc in
+    let nodes = same_number tally.nodes counts.nodes fits.nodes also.nodes a in
+    let placed = same_number tally.placed counts.placed fits.placed also.placed b in
+    let same = same_number tally.same counts.same fits.same also.same c in
+    let blocked = same_number tally.blocked counts.blocked fits.blocked also.blocked d in
+    let skipped = same_skipped extent.informed tally.skipped counts.skipped fits.skipped also.skipped e in
+    λ i. Counts (record { nodes = nodes i; placed = placed i; same = same i; blocked = blocked i; skipped = skipped i })
+same_said extent few (NodeLine n knot) (NodeLine m node) fits also h =
+    let a : decimal n ≡ decimal m = cc in
+    let b : decimal knot.point.x ≡ decimal node.point.x = cc in
+    let c : decimal knot.point.y ≡ decimal node.point.y = cc in
+    let d : decimal knot.parent ≡ decimal node.parent = cc in
+    let e : decimal knot.cost ≡ decimal node.cost = cc in
+    let number = same_number n m (omega (arith, few, fits.number)) (omega (arith, few, also.number)) a in
+    let right = same_number knot.point.x node.point.x (omega (arith, fits.point.right)) (omega (arith, also.point.right)) b in
+    let top = same_number knot.point.y node.point.y (omega (arith, fits.point.top)) (omega (arith, also.point.top)) c in
+    let parent = same_number knot.parent node.parent (omega (arith, few, fits.parent)) (omega (arith, few, also.parent)) d in
+    let cost = same_number knot.cost node.cost (omega (arith, fits.cost)) (omega (arith, also.cost)) e in
+    λ i. NodeLine (number i) (record { point = record { x = right i; y = top i }; parent = parent i; cost = cost i })
+same_said extent few (MarkLine k entry) (MarkLine j other) fits also h =
+    let own = fits.1 in
+    let too = also.1 in
+    let a : decimal k ≡ decimal j = cc in
+    let b : decimal entry.worker ≡ decimal other.worker = cc in
+    let c : decimal entry.turn ≡ decimal other.turn = cc in
+    let d : outcome_words entry entry.outcome ≡ outcome_words other other.outcome = cc in
+    let number = same_number k j (omega (arith, few, fits.0)) (omega (arith, few, also.0)) a in
+    let worker = same_number entry.worker other.worker (omega (arith, own.words.word.worker)) (omega (arith, too.words.word.worker)) b in
+    let turn = same_number entry.turn other.turn (omega (arith, own.words.word.turn)) (omega (arith, too.words.word.turn)) c in
+    let fields =
+    same_outcomes entry other worker turn own.words.word.nearest too.words.word.nearest (own.words.parent, own.words.cost) (too.words.parent, too.words.cost)
+    entry.outcome other.outcome refl refl own.words.word.last too.words.word.last d in
+    let same = Record-from_fields entry other fields in
+    λ i. MarkLine (number i) (same i)
+same_said extent few NoPath (PathOf others price) fits also h = absurd (cc)
+same_said extent few NoPath (PathPoint q) fits also h =
+    let first : decimal q.x ≡ codes "no" = cc in
+    absurd (true≢false (sym (digits-decimal q.x (omega (arith, also.right))) ∙ ap (list_all is_digit) first))
+same_said extent few NoPath (Counts counts) fits also h = absurd (cc)
+same_said extent few NoPath (NodeLine m node) fits also h = absurd (cc)
+same_said extent few NoPath (MarkLine j other) fits also h = absurd (cc)
+same_said extent few (PathOf points cost) NoPath fits also h = absurd (cc)
+same_said extent few (PathOf points cost) (PathPoint q) fits also h = absurd (cc)
+same_said extent few (PathOf points cost) (Counts counts) fits also h = absurd (cc)
+same_said extent few (PathOf points cost) (NodeLine m node) fits also h = absurd (cc)
+same_said extent few (PathOf points cost) (MarkLine j other) fits also h = absurd (cc)
+same_said extent few (PathPoint p) NoPath fits also h =
+    let first : decimal p.x ≡ codes "no" = cc in
+    absurd (true≢false (sym (digits-decimal p.x (omega (arith, fits.right))) ∙ ap (list_all is_digit) first))
+same_said extent few (PathPoint p) (PathOf others price) fits also h = absurd (cc)
+same_said extent few (PathPoint p) (Counts counts) fits also h = absurd (cc)
+same_said extent few (PathPoint p) (NodeLine m node) fits also h = absurd (cc)
+same_said extent few (PathPoint p) (MarkLine j other) fits also h = absurd (cc)
+same_said extent few (Counts tally) NoPath fits also h = absurd (cc)
+same_said extent few (Counts tally) (PathOf others price) fits also h = absurd (cc)
+same_said extent few (Counts tally) (PathPoint q) fits also h = absurd (cc)
+same_said extent few (Counts tally) (NodeLine m node) fits also h = absurd (cc)
+same_said extent few (Counts tally) (MarkLine j other) fits also h =
+    absurd (omega (arith, first_byte (line_words (Counts tally)) (line_words (MarkLine j other)) h))
+same_said extent few (NodeLine n knot) NoPath fits also h = absurd (cc)
+same_said extent few (NodeLine n knot) (PathOf others price) fits also h = absurd (cc)
+same_said extent few (NodeLine n knot) (PathPoint q) fits also h = absurd (cc)
+same_said extent few (NodeLine n knot) (Counts counts) fits also h = absurd (cc)
+same_said extent few (NodeLine n knot) (MarkLine j other) fits also h =
+    absurd (omega (arith, first_byte (line_words (NodeLine n knot)) (line_words (MarkLine j other)) h))
+same_said extent few (MarkLine k entry) NoPath fits also h = absurd (cc)
+same_said extent few (MarkLine k entry) (PathOf others price) fits also h = absurd (cc)
+same_said extent few (MarkLine k entry) (PathPoint q) fits also h = absurd (cc)
+same_said extent few (MarkLine k entry) (Counts counts) fits also h =
+    absurd (omega (arith, first_byte (line_words (MarkLine k entry)) (line_words (Counts counts)) h))
+same_said extent few (MarkLine k entry) (NodeLine m node) fits also h =
+    absurd (omega (arith, first_byte (line_words (MarkLine k entry)) (line_words (NodeLine m node)) h))
+
+-- Texts that begin with lines whose numbers are in their ranges, and are the same, begin with the same line, and go on alike.
+pub same_first_lines : (extent : Extent) → extent.marks < 2 ^ 64 → (one other : ReportLine) (x y : List ℕ) → FitsLine extent one → FitsLine extent other
+    → line_text one ++ x ≡ line_text other ++ y → (one ≡ other) × (x ≡ y)
+same_first_lines extent few one other x y fits also h =
+    let both =
+    same_words (line_words one) (line_words other) x y (some_words one) (some_words other) (uncut-line extent few one fits)
+    (uncut-line extent few other also) h in
+    (same_said extent few one other fits also both.0, both.1)

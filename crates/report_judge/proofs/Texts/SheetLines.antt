@@ -1,0 +1,76 @@
+-- The number of each line of a sheet is at most that of the bytes.
+use Rattle.std.proofs.Common.{◌≡◌, ℕ, suc, ◌+◌, ◌<◌, ◌≤◌, true, cond, List, [], ◌∷◌, ◌++◌, length, take, Option, Some, None}
+use Rattle.std.proofs.Common.{arith, sym, ap, ◌∙◌, append_assoc, length-append}
+use Rattle.std.specs.Prelude.{is_some, count_by, slice_index_or}
+use Rattle.std.specs.List.{join_with_byte}
+use Rattle.std.proofs.lemmas.List.{take_more}
+use Rattle.std.proofs.lemmas.List.Sums.{sum_by_push, sum_by-take-le}
+use Rattle.plan_model.specs.declared.trees.Knot.{Knot}
+use Rattle.report_judge.specs.Texts.ReportForms.{counts_place, nodes_to_come}
+use Rattle.report_judge.specs.Texts.ReportLines.{ReportLine, Extent, line_words, line_text, lines_text}
+use Rattle.report_judge.specs.Texts.ReportSheets.{Sheet, path_lines, head_lines, lines_of_knots, lines_of_records, lines_of_sheet}
+use Rattle.report_judge.specs.Texts.ReportSheets.{SpellsSheet, number_of_node_line, number_of_mark_line}
+use Rattle.report_judge.proofs.Texts.SheetForms.{AreAll-sheet, counts_place-head, nodes_to_come-head, length-head_lines, length-lines_of_knots, length-nodes}
+
+-- each line has a byte
+pub lines_few : (lines : List ReportLine) → length lines ≤ length (lines_text lines)
+lines_few [] = omega arith
+lines_few (next ∷ lines) =
+    omega (
+      arith,
+      length-append (line_text next) (lines_text lines),
+      length-append (join_with_byte 32 (line_words next)) (10 ∷ []),
+      lines_few lines,
+    )
+
+module _ (extent : Extent) (report : List ℕ) (sheet : Sheet) (spelled : SpellsSheet extent report sheet) where
+  abbrev nodes : List ReportLine
+  nodes = lines_of_knots sheet.knots
+
+  abbrev marks : List ReportLine
+  marks = lines_of_records sheet.records
+
+  abbrev lines : List ReportLine
+  lines = lines_of_sheet sheet
+
+  place : counts_place lines ≡ length (path_lines sheet.path)
+  place = ap counts_place (append_assoc (head_lines sheet.path sheet.tally) nodes marks) ∙ counts_place-head sheet.path sheet.tally (nodes ++ marks)
+
+  come : nodes_to_come lines ≡ sheet.tally.nodes
+  come = ap nodes_to_come (append_assoc (head_lines sheet.path sheet.tally) nodes marks) ∙ nodes_to_come-head sheet.path sheet.tally (nodes ++ marks)
+
+  count : count_by is_some sheet.knots ≡ sheet.tally.nodes
+  count = sym (length-lines_of_knots sheet.knots) ∙ length-nodes extent sheet spelled.form
+
+  total : length lines ≡ length (head_lines sheet.path sheet.tally) + count_by is_some sheet.knots + length sheet.records
+  total =
+      omega (arith, (AreAll-sheet extent sheet spelled.form).long, place, come, count, length-head_lines sheet.path sheet.tally, spelled.form.all_marks)
+
+  few : length lines ≤ length report
+  few = omega (arith, ap length spelled.text, lines_few lines)
+
+  pub mark_line_low : (k : ℕ) → k < length sheet.records → number_of_mark_line sheet k ≤ length report
+  mark_line_low k low = omega (arith, low, total, few)
+
+  pub head_line_low : (i : ℕ) → i < length (head_lines sheet.path sheet.tally) → suc i ≤ length report
+  head_line_low i low = omega (arith, low, total, few)
+
+  pub head_few : length (head_lines sheet.path sheet.tally) ≤ length report
+  head_few = omega (arith, total, few)
+
+  -- a present node is counted beside those below it
+  one_more : (n : ℕ) → n < length sheet.knots → is_some (slice_index_or sheet.knots n None) ≡ true
+      → count_by is_some (take n sheet.knots) + 1 ≤ count_by is_some sheet.knots
+  one_more n low some =
+      let one : Option Knot → ℕ = λ o. cond {A = ℕ} (is_some o) 1 0 in
+      omega (
+        arith,
+        ap (count_by is_some) (take_more sheet.knots n None low),
+        sum_by_push one (take n sheet.knots) (slice_index_or sheet.knots n None),
+        ap (λ b. cond {A = ℕ} b 1 0) some,
+        sum_by-take-le one sheet.knots (n + 1),
+      )
+
+  pub node_line_low : (n : ℕ) (knot : Knot) → n < length sheet.knots → slice_index_or sheet.knots n None ≡ Some knot
+      → number_of_node_line sheet n ≤ length report
+  node_line_low n knot low is = omega (arith, total, few, one_more n low (ap is_some is))

@@ -1,0 +1,17 @@
+-- A node was placed at a cost of 44 bits.
+use Rattle.std.proofs.Common.{◌≡◌, ℕ, zero, suc, ◌<◌, ◌^◌, List, Option, Some, None, arith, refl}
+use Rattle.std.specs.Prelude.{slice_get}
+use Rattle.plan_model.specs.declared.records.Record.{Record}
+use Rattle.plan_model.specs.declared.trees.Knot.{Knot}
+use Rattle.plan_model.specs.Trees.TreeStates.{first_cost_of, recorded_or}
+use Rattle.step_core.specs.PackedRuns.{state_of_lists}
+use Rattle.report_judge.specs.Workers.OwnNodes.{FitFirstCosts}
+
+pub first_cost_low : (knots : List (Option Knot)) (records : List Record) → FitFirstCosts records → (n : ℕ)
+    → first_cost_of (state_of_lists knots records) n < 2 ^ 44
+first_cost_low knots records fit zero = omega arith
+first_cost_low knots records fit (suc k) = by_record (slice_get records k) refl
+  where
+    by_record : (o : Option Record) → slice_get records k ≡ o → recorded_or 0 o < 2 ^ 44
+    by_record None e = omega arith
+    by_record (Some entry) e = fit k entry e

@@ -1,0 +1,60 @@
+-- Before the first turn of a worker stood the start alone.
+use Rattle.std.proofs.Common.{◌≡◌, ℕ, zero, suc, ◌-◌, ◌<◌, Bool, true, false, eqb, ltb, List, length, Option, Some, None}
+use Rattle.std.proofs.Common.{arith, refl, sym, ap, ◌∙◌}
+use Rattle.std.specs.Prelude.{◌&&◌, count_by, option_map, slice_get}
+use Rattle.std.specs.List.{range_with_len}
+use Rattle.std.proofs.lemmas.Bool.{and_right, le-ltb, true≢false}
+use Rattle.std.proofs.lemmas.List.{length-map}
+use Rattle.plan_model.specs.declared.geometry.Goal.{Goal}
+use Rattle.plan_model.specs.declared.records.Record.{Record}
+use Rattle.plan_model.specs.declared.trees.Knot.{Knot}
+use Rattle.plan_model.specs.declared.trees.Twig.{Twig}
+use Rattle.plan_model.specs.Runs.Outcomes.{is_placed}
+use Rattle.plan_model.specs.Trees.BestNode.{IsGoalNode}
+use Rattle.plan_model.specs.Trees.NodeLists.{points_of, without_costs}
+use Rattle.plan_model.specs.Trees.TreeStates.{TreeState}
+use Rattle.plan_model.proofs.CountsBelow.{count-first, count-none}
+use Rattle.step_core.specs.PackedRuns.{state_of_lists}
+use Rattle.report_judge.specs.Workers.SeenNodes.{places_before, is_before, count_before, AreSeen}
+use Rattle.report_judge.proofs.Laws.LawfulSheets.{length-without_costs}
+
+-- nothing was placed before the first turn
+never_before : (worker : ℕ) (o : Option Record) → places_before worker 0 o ≡ false
+never_before worker None = refl
+never_before worker (Some other) =
+    and_right (is_placed other.outcome) (eqb other.worker worker && ltb other.turn 0)
+    (and_right (eqb other.worker worker) (ltb other.turn 0) (le-ltb other.turn 0 (omega arith)))
+
+pub length-points : (knots : List (Option Knot)) → length (points_of (without_costs knots)) ≡ length knots
+length-points knots = length-map (without_costs knots) (option_map (λ (node : Twig). node.point)) ∙ length-without_costs knots
+
+module _ (knots : List (Option Knot)) (records : List Record) (worker : ℕ) (some : 0 < length knots) where
+  abbrev run : TreeState
+  run = state_of_lists knots records
+
+  abbrev before : ℕ → Bool
+  before n = is_before worker 0 (slice_get records) n
+
+  pub one_counted : count_before run worker 0 ≡ 1
+  one_counted =
+      let long : length (points_of (without_costs knots)) ≡ suc (length knots - 1) = omega (arith, length-points knots, some) in
+      omega (
+        arith,
+        ap (λ m. count_by before (range_with_len 0 m)) long,
+        count-first before (length knots - 1),
+        count-none (λ k. before (suc k)) (length knots - 1) (λ i low. never_before worker (slice_get records i)),
+      )
+
+  pub AreSeen-in_goal : (goals : List Goal) → IsGoalNode goals run.points 0 → AreSeen goals run worker 0 (record { nodes = 1; least = Some 0 })
+  AreSeen-in_goal goals inside = record {
+    counted = sym one_counted;
+    least = record { node = 0; before = refl; goal = inside; reached = refl; least = λ i first goal. omega arith };
+  }
+
+  none_before : (goals : List Goal) → ¬ IsGoalNode goals run.points 0 → (i : ℕ) → is_before worker 0 (slice_get records) i ≡ true
+      → ¬ IsGoalNode goals run.points i
+  none_before goals outside zero first goal = outside goal
+  none_before goals outside (suc k) first goal = true≢false (sym first ∙ never_before worker (slice_get records k))
+
+  pub AreSeen-no_goal : (goals : List Goal) → ¬ IsGoalNode goals run.points 0 → AreSeen goals run worker 0 (record { nodes = 1; least = None })
+  AreSeen-no_goal goals outside = record { counted = sym one_counted; least = none_before goals outside }

@@ -1,0 +1,144 @@
+use Rattle.std.proofs.Common.{sym, ◌∙◌, subst}
+use Rattle.std.proofs.lemmas.Bool.{true≢false}
+use Rattle.plan_model.specs.Runs.RecordLaw.{IsPlacedLawfully}
+use Rattle.plan_model.specs.Runs.Textbook.{setup_of}
+use Rattle.report_judge.specs.Workers.JudgedRuns.{run_of}
+use Rattle.report_judge.specs.Workers.MarkLaws.{EndsLawfully}
+use Rattle.report_judge.proofs.marks.lawful_marks.ends_lawfully.Goals as goal
+
+pub is_chosen_lawfully-requires-clause-asked : goal.is_chosen_lawfully-requires-clause-asked
+is_chosen_lawfully-requires-clause-asked g c κs within = c.requires.asked
+
+pub is_chosen_lawfully-requires-clause-point : goal.is_chosen_lawfully-requires-clause-point
+is_chosen_lawfully-requires-clause-point g c κs within = c.requires.point
+
+pub is_chosen_lawfully-requires-clause-seen : goal.is_chosen_lawfully-requires-clause-seen
+is_chosen_lawfully-requires-clause-seen g c κs within = c.requires.seen
+
+pub is_chosen_lawfully-requires-clause-nearest : goal.is_chosen_lawfully-requires-clause-nearest
+is_chosen_lawfully-requires-clause-nearest g c κs within = c.requires.nearest
+
+pub hangs_lawfully-requires-clause-asked : goal.hangs_lawfully-requires-clause-asked
+hangs_lawfully-requires-clause-asked g c κs within = c.requires.asked
+
+pub hangs_lawfully-requires-clause-low : goal.hangs_lawfully-requires-clause-low
+hangs_lawfully-requires-clause-low g c κs within = c.requires.low
+
+pub hangs_lawfully-requires-clause-nearest : goal.hangs_lawfully-requires-clause-nearest
+hangs_lawfully-requires-clause-nearest g c κs within = c.requires.nearest
+
+pub returns-then-is_chosen_lawfully-clause-lawful : goal.returns-then-is_chosen_lawfully-clause-lawful
+returns-then-is_chosen_lawfully-clause-lawful g c = λ h.
+    subst (λ o. EndsLawfully (setup_of c.args.scene.now) (run_of c.args.judged.now) c.args.mark c.args.entry o c.args.p) (sym c.in-Placed.is)
+    (record { by_worker = c.is_chosen_lawfully.ensures.lawful c.if-is_chosen_lawfully.true; by_tree = c.hangs_lawfully.ensures.lawful h })
+
+pub returns-then-is_chosen_lawfully-clause-nearest : goal.returns-then-is_chosen_lawfully-clause-nearest
+returns-then-is_chosen_lawfully-clause-nearest g c = λ h. c.is_chosen_lawfully.ensures.nearest c.if-is_chosen_lawfully.true
+
+pub returns-then-is_chosen_lawfully-clause-only : goal.returns-then-is_chosen_lawfully-clause-only
+returns-then-is_chosen_lawfully-clause-only g c = λ h all bad.
+    let placed : IsPlacedLawfully (setup_of c.args.scene.now) (run_of c.args.judged.now) c.args.mark c.args.entry c.args.p =
+    subst (λ o. EndsLawfully (setup_of c.args.scene.now) (run_of c.args.judged.now) c.args.mark c.args.entry o c.args.p) c.in-Placed.is bad in
+    c.hangs_lawfully.ensures.only h placed.by_tree
+
+pub returns-else-is_chosen_lawfully-clause-lawful : goal.returns-else-is_chosen_lawfully-clause-lawful
+returns-else-is_chosen_lawfully-clause-lawful g c = λ h. absurd (true≢false (sym h ∙ c.if-is_chosen_lawfully.false))
+
+pub returns-else-is_chosen_lawfully-clause-nearest : goal.returns-else-is_chosen_lawfully-clause-nearest
+returns-else-is_chosen_lawfully-clause-nearest g c = λ h. absurd (true≢false (sym h ∙ c.if-is_chosen_lawfully.false))
+
+pub returns-else-is_chosen_lawfully-clause-only : goal.returns-else-is_chosen_lawfully-clause-only
+returns-else-is_chosen_lawfully-clause-only g c = λ h all bad.
+    let placed : IsPlacedLawfully (setup_of c.args.scene.now) (run_of c.args.judged.now) c.args.mark c.args.entry c.args.p =
+    subst (λ o. EndsLawfully (setup_of c.args.scene.now) (run_of c.args.judged.now) c.args.mark c.args.entry o c.args.p) c.in-Placed.is bad in
+    c.is_chosen_lawfully.ensures.only h all placed.by_worker
+
+pub is_nearest-requires-clause-bounded : goal.is_nearest-requires-clause-bounded
+is_nearest-requires-clause-bounded g c κs within = c.requires.point
+
+pub is_nearest-requires-clause-judged : goal.is_nearest-requires-clause-judged
+is_nearest-requires-clause-judged g c κs within = c.requires.asked.judges
+
+pub is_nearest-requires-clause-turn : goal.is_nearest-requires-clause-turn
+is_nearest-requires-clause-turn g c κs within = c.requires.asked.turn
+
+pub is_nearest-requires-clause-nearest : goal.is_nearest-requires-clause-nearest
+is_nearest-requires-clause-nearest g c κs within = c.requires.nearest
+
+pub is_nearest-requires-in-Blocked-clause-bounded : goal.is_nearest-requires-in-Blocked-clause-bounded
+is_nearest-requires-in-Blocked-clause-bounded g c κs within = c.requires.point
+
+pub is_nearest-requires-in-Blocked-clause-judged : goal.is_nearest-requires-in-Blocked-clause-judged
+is_nearest-requires-in-Blocked-clause-judged g c κs within = c.requires.asked.judges
+
+pub is_nearest-requires-in-Blocked-clause-turn : goal.is_nearest-requires-in-Blocked-clause-turn
+is_nearest-requires-in-Blocked-clause-turn g c κs within = c.requires.asked.turn
+
+pub is_nearest-requires-in-Blocked-clause-nearest : goal.is_nearest-requires-in-Blocked-clause-nearest
+is_nearest-requires-in-Blocked-clause-nearest g c κs within = c.requires.nearest
+
+pub is_blocked_lawfully-requires-clause-judged : goal.is_blocked_lawfully-requires-clause-judged
+is_blocked_lawfully-requires-clause-judged g c κs within = c.requires.asked.judges
+
+pub is_blocked_lawfully-requires-clause-turn : goal.is_blocked_lawfully-requires-clause-turn
+is_blocked_lawfully-requires-clause-turn g c κs within = c.requires.asked.turn
+
+pub is_blocked_lawfully-requires-clause-p : goal.is_blocked_lawfully-requires-clause-p
+is_blocked_lawfully-requires-clause-p g c κs within = c.requires.asked.bounded
+
+pub is_blocked_lawfully-requires-clause-nearest : goal.is_blocked_lawfully-requires-clause-nearest
+is_blocked_lawfully-requires-clause-nearest g c κs within = c.requires.nearest
+
+pub returns-else-is_nearest-clause-lawful : goal.returns-else-is_nearest-clause-lawful
+returns-else-is_nearest-clause-lawful g c = λ h. absurd (true≢false (sym h ∙ c.if-is_nearest.false))
+
+pub returns-else-is_nearest-clause-nearest : goal.returns-else-is_nearest-clause-nearest
+returns-else-is_nearest-clause-nearest g c = λ h. absurd (true≢false (sym h ∙ c.if-is_nearest.false))
+
+pub returns-else-is_nearest-clause-only : goal.returns-else-is_nearest-clause-only
+returns-else-is_nearest-clause-only g c = λ h all bad. c.is_nearest.ensures.only h all
+
+pub returns-else-is_nearest-2-clause-lawful : goal.returns-else-is_nearest-2-clause-lawful
+returns-else-is_nearest-2-clause-lawful g c = λ h. absurd (true≢false (sym h ∙ c.if-is_nearest-2.false))
+
+pub returns-else-is_nearest-2-clause-nearest : goal.returns-else-is_nearest-2-clause-nearest
+returns-else-is_nearest-2-clause-nearest g c = λ h. absurd (true≢false (sym h ∙ c.if-is_nearest-2.false))
+
+pub returns-else-is_nearest-2-clause-only : goal.returns-else-is_nearest-2-clause-only
+returns-else-is_nearest-2-clause-only g c = λ h all bad. c.is_nearest-in-Blocked.ensures.only h all
+
+pub returns-in-Skipped-clause-lawful : goal.returns-in-Skipped-clause-lawful
+returns-in-Skipped-clause-lawful g c = λ h. absurd (true≢false (sym h))
+
+pub returns-in-Skipped-clause-nearest : goal.returns-in-Skipped-clause-nearest
+returns-in-Skipped-clause-nearest g c = λ h. absurd (true≢false (sym h))
+
+pub returns-in-Skipped-clause-only : goal.returns-in-Skipped-clause-only
+returns-in-Skipped-clause-only g c = λ h all bad.
+    subst (λ o. EndsLawfully (setup_of c.args.scene.now) (run_of c.args.judged.now) c.args.mark c.args.entry o c.args.p) c.in-Skipped.is bad
+
+pub returns-then-is_nearest-clause-lawful : goal.returns-then-is_nearest-clause-lawful
+returns-then-is_nearest-clause-lawful g c = λ h.
+    subst (λ o. EndsLawfully (setup_of c.args.scene.now) (run_of c.args.judged.now) c.args.mark c.args.entry o c.args.p) (sym c.in-Same.is)
+    (c.stands_at.ensures.stands h c.args.judged.now.records.now)
+
+pub returns-then-is_nearest-clause-nearest : goal.returns-then-is_nearest-clause-nearest
+returns-then-is_nearest-clause-nearest g c = λ h. c.is_nearest.ensures.nearest c.if-is_nearest.true
+
+pub returns-then-is_nearest-clause-only : goal.returns-then-is_nearest-clause-only
+returns-then-is_nearest-clause-only g c = λ h all bad.
+    c.stands_at.ensures.only h c.args.judged.now.records.now
+    (subst (λ o. EndsLawfully (setup_of c.args.scene.now) (run_of c.args.judged.now) c.args.mark c.args.entry o c.args.p) c.in-Same.is bad)
+
+pub returns-then-is_nearest-2-clause-lawful : goal.returns-then-is_nearest-2-clause-lawful
+returns-then-is_nearest-2-clause-lawful g c = λ h.
+    subst (λ o. EndsLawfully (setup_of c.args.scene.now) (run_of c.args.judged.now) c.args.mark c.args.entry o c.args.p) (sym c.in-Blocked.is)
+    (c.is_blocked_lawfully.ensures.lawful h (setup_of c.args.scene.now) (sym c.requires.asked.space_is))
+
+pub returns-then-is_nearest-2-clause-nearest : goal.returns-then-is_nearest-2-clause-nearest
+returns-then-is_nearest-2-clause-nearest g c = λ h. c.is_nearest-in-Blocked.ensures.nearest c.if-is_nearest-2.true
+
+pub returns-then-is_nearest-2-clause-only : goal.returns-then-is_nearest-2-clause-only
+returns-then-is_nearest-2-clause-only g c = λ h all bad.
+    c.is_blocked_lawfully.ensures.only h (setup_of c.args.scene.now) (sym c.requires.asked.space_is)
+    (subst (λ o. EndsLawfully (setup_of c.args.scene.now) (run_of c.args.judged.now) c.args.mark c.args.entry o c.args.p) c.in-Blocked.is bad)

@@ -1,0 +1,26 @@
+use Rattle.std.proofs.Common.{sym, ◌∙◌, subst}
+use Rattle.std.proofs.lemmas.Bool.{true≢false}
+use Rattle.plan_model.specs.Spaces.Clearance.{Clear}
+use Rattle.plan_model.specs.Trees.PointsByNumber.{point_of}
+use Rattle.report_judge.specs.Workers.JudgedRuns.{run_of}
+use Rattle.report_judge.proofs.marks.lawful_marks.is_blocked_lawfully.Goals as goal
+
+pub returns-then-is_clear_from_nearest-clause-only : goal.returns-then-is_clear_from_nearest-clause-only
+returns-then-is_clear_from_nearest-clause-only g c = λ h setup same bad.
+    bad.blocked
+    (subst (λ s. Clear s (point_of (run_of c.args.judged.now).points c.args.entry.nearest) c.args.p) (sym same)
+    (c.is_clear_from_nearest.ensures.0 c.if-is_clear_from_nearest.true))
+
+pub returns-then-is_taken-clause-only : goal.returns-then-is_taken-clause-only
+returns-then-is_taken-clause-only g c = λ h setup same bad.
+    let found = c.is_taken.ensures.taken c.if-is_taken.true in
+    bad.free found.node found.earlier found.stands
+
+pub returns-clause-lawful : goal.returns-clause-lawful
+returns-clause-lawful g c = λ h setup same. record {
+  blocked = λ cleared.
+      true≢false
+      (sym (c.is_clear_from_nearest.ensures.1
+      (subst (λ s. Clear s (point_of (run_of c.args.judged.now).points c.args.entry.nearest) c.args.p) same cleared)) ∙ c.if-is_clear_from_nearest.false);
+  free = c.is_taken.ensures.free c.if-is_taken.false;
+}

@@ -1,0 +1,75 @@
+use Rattle.std.proofs.Common.{◌≡◌, arith, sym, ap, ◌∙◌, subst}
+use Rattle.std.proofs.lemmas.Bool.{true≢false}
+use Rattle.plan_model.specs.Geometry.Steering.{steered}
+use Rattle.plan_model.specs.Runs.Textbook.{setup_of}
+use Rattle.plan_model.specs.Trees.PointsByNumber.{point_of}
+use Rattle.report_judge.specs.Workers.JudgedRuns.{run_of}
+use Rattle.report_judge.specs.Workers.MarkLaws.{EndsLawfully}
+use Rattle.report_judge.proofs.Laws.ListedNodes.{none-present, point_of-listed, present-listed}
+use Rattle.report_judge.proofs.marks.lawful_marks.is_steered_lawfully.Goals as goal
+
+pub ends_lawfully-requires-clause-point : goal.ends_lawfully-requires-clause-point
+ends_lawfully-requires-clause-point g c κs within = c.requires.asked.bounded
+
+pub ends_lawfully-requires-clause-low : goal.ends_lawfully-requires-clause-low
+ends_lawfully-requires-clause-low g c κs within = c.requires.low
+
+pub ends_lawfully-requires-clause-seen : goal.ends_lawfully-requires-clause-seen
+ends_lawfully-requires-clause-seen g c κs within = c.requires.seen
+
+pub returns-in_default-clause-lawful : goal.returns-in_default-clause-lawful
+returns-in_default-clause-lawful g c = λ h. absurd (true≢false (sym h))
+
+pub returns-then-not-may_be_cheaper-clause-lawful : goal.returns-then-not-may_be_cheaper-clause-lawful
+returns-then-not-may_be_cheaper-clause-lawful g c = λ h. absurd (true≢false (sym h))
+
+pub returns-in_default-clause-only : goal.returns-in_default-clause-only
+returns-in_default-clause-only g c = λ h bad.
+    none-present c.args.judged.now.knots.now c.args.judged.now.records.now c.args.entry.nearest (sym c.knot_at.ensures ∙ c.in_default.is) bad.present
+
+pub returns-then-not-may_be_cheaper-clause-only : goal.returns-then-not-may_be_cheaper-clause-only
+returns-then-not-may_be_cheaper-clause-only g c = λ h bad.
+    true≢false (sym ((c.may_be_cheaper.ensures c.args.judged.now c.args.entry c.requires.seen).1 bad.cheaper) ∙ c.if-not-may_be_cheaper.true)
+
+pub ends_lawfully-requires-clause-asked : goal.ends_lawfully-requires-clause-asked
+ends_lawfully-requires-clause-asked g c = λ κs within.
+    let from = (c.requires.asked.judges.fit c.args.entry.nearest c.in-Some.nearest (sym c.in-Some.ensures)).point in
+    record {
+      space_is = c.requires.asked.space_is;
+      radii_are = c.requires.asked.radii_are;
+      judges = c.requires.asked.judges;
+      turn = c.requires.asked.turn;
+      own = c.requires.asked.own;
+      bounded = record {
+        right = omega (arith, c.steer-p.ensures.right, from.right, c.requires.asked.bounded.right);
+        top = omega (arith, c.steer-p.ensures.top, from.top, c.requires.asked.bounded.top);
+      };
+    }
+
+pub ends_lawfully-requires-clause-nearest : goal.ends_lawfully-requires-clause-nearest
+ends_lawfully-requires-clause-nearest g c = λ κs within.
+    present-listed c.args.judged.now.knots.now c.args.judged.now.records.now c.args.entry.nearest c.in-Some.nearest (sym c.in-Some.ensures)
+
+pub returns-clause-lawful : goal.returns-clause-lawful
+returns-clause-lawful g c = λ h.
+    let run = run_of c.args.judged.now in
+    let setup = setup_of c.args.scene.now in
+    let here = point_of-listed c.args.judged.now.knots.now c.args.judged.now.records.now c.args.entry.nearest c.in-Some.nearest (sym c.in-Some.ensures) in
+    let reached : c.steer-p.result ≡ steered (point_of run.points c.args.entry.nearest) c.args.point c.args.scene.now.step =
+    c.steer-p.ensures.value ∙ ap (λ q. steered q c.args.point c.args.scene.now.step) (sym here) in
+    record {
+      cheaper = (c.may_be_cheaper.ensures c.args.judged.now c.args.entry c.requires.seen).0 c.if-not-may_be_cheaper.false;
+      present = present-listed c.args.judged.now.knots.now c.args.judged.now.records.now c.args.entry.nearest c.in-Some.nearest (sym c.in-Some.ensures);
+      nearest = c.ends_lawfully.ensures.nearest h;
+      outcome = subst (λ q. EndsLawfully setup run c.args.mark c.args.entry c.args.entry.outcome q) reached (c.ends_lawfully.ensures.lawful h);
+    }
+
+pub returns-clause-only : goal.returns-clause-only
+returns-clause-only g c = λ h bad.
+    let run = run_of c.args.judged.now in
+    let setup = setup_of c.args.scene.now in
+    let here = point_of-listed c.args.judged.now.knots.now c.args.judged.now.records.now c.args.entry.nearest c.in-Some.nearest (sym c.in-Some.ensures) in
+    let reached : c.steer-p.result ≡ steered (point_of run.points c.args.entry.nearest) c.args.point c.args.scene.now.step =
+    c.steer-p.ensures.value ∙ ap (λ q. steered q c.args.point c.args.scene.now.step) (sym here) in
+    c.ends_lawfully.ensures.only h bad.nearest
+    (subst (λ q. EndsLawfully setup run c.args.mark c.args.entry c.args.entry.outcome q) (sym reached) bad.outcome)

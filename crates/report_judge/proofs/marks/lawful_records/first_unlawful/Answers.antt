@@ -1,0 +1,24 @@
+use Rattle.std.proofs.Common.{◌≡◌, suc, ◌+◌, arith, sym, subst, length}
+use Rattle.report_judge.specs.Laws.FirstBreaks.{IsFirstBreak}
+use Rattle.report_judge.specs.Workers.JudgedRuns.{KeepsRecordBelow}
+use Rattle.report_judge.proofs.Laws.RecordBreaks.{IsFirstBreak-no_worker, IsFirstBreak-worker, IsFirstBreak-workers}
+use Rattle.report_judge.proofs.marks.lawful_records.first_unlawful.Goals as goal
+
+pub loop-worker-init : goal.loop-worker-init
+loop-worker-init g c = IsFirstBreak-no_worker c.args.task.now c.args.knots.now c.args.records.now
+
+pub loop-worker-preserved : goal.loop-worker-preserved
+loop-worker-preserved g c =
+    let next : suc c.loop-worker.worker ≡ c.loop-worker.worker + 1 = omega arith in
+    subst
+    (λ w. IsFirstBreak (KeepsRecordBelow w c.args.task.now c.args.knots.now c.args.records.now) (length c.args.records.now) c.earlier-first.result) next
+    (subst (IsFirstBreak (KeepsRecordBelow (suc c.loop-worker.worker) c.args.task.now c.args.knots.now c.args.records.now) (length c.args.records.now))
+    (sym c.earlier-first.ensures)
+    (IsFirstBreak-worker c.args.task.now c.args.knots.now c.args.records.now c.loop-worker.worker c.loop-worker.first c.in_ok-broken.broken
+    c.loop-worker.invariant c.in_ok-broken.ensures))
+
+pub returns : goal.returns
+returns g c =
+    IsFirstBreak-workers c.args.task.now c.args.knots.now c.args.records.now c.requires.turns_fit c.loop-worker.first
+    (subst (λ w. IsFirstBreak (KeepsRecordBelow w c.args.task.now c.args.knots.now c.args.records.now) (length c.args.records.now) c.loop-worker.first)
+    (omega (arith, c.loop-worker.auto.worker-end, c.loop-worker-test.false)) c.loop-worker.invariant)

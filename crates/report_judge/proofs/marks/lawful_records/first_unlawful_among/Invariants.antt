@@ -1,0 +1,7 @@
+use Rattle.report_judge.specs.Workers.JudgedRuns.{KeepsRecord}
+use Rattle.report_judge.specs.Workers.OwnMarks.{IsFirstSeen}
+use Rattle.report_judge.proofs.marks.lawful_records.first_unlawful_among.Given as goal
+
+-- the first so far that breaks the law
+abbrev pub invariant-loop-position : goal.invariant-loop-position
+invariant-loop-position g l = IsFirstSeen (KeepsRecord l.task l.judged.knots.now l.judged.records.now) l.marks l.position l.first

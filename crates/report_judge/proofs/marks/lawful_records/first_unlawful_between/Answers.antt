@@ -1,0 +1,104 @@
+use Rattle.std.proofs.Common.{◌≡◌, Some, length, arith, ap, sym, ◌∙◌, subst}
+use Rattle.std.proofs.lemmas.Option.{slice_get_within}
+use Rattle.plan_model.specs.declared.records.Record.{Record}
+use Rattle.report_judge.specs.Workers.JudgedRuns.{KeepsRecord, KeepsRecordBetween}
+use Rattle.step_core.specs.PackedRuns.{state_of_lists}
+use Rattle.report_judge.specs.Workers.Standings.{AreStandings}
+use Rattle.report_judge.proofs.Workers.OwnMarkLaws.{IsFirstBreak-seen, mark_among, mark_of}
+use Rattle.report_judge.proofs.Workers.OwnNodeLaws.{AreStandings-earlier}
+use Rattle.report_judge.proofs.marks.lawful_records.first_unlawful_between.Goals as goal
+
+pub nodes_before-requires-clause-few : goal.nodes_before-requires-clause-few
+nodes_before-requires-clause-few g c = c.requires.listed.few
+
+pub nodes_before-requires-clause-fit : goal.nodes_before-requires-clause-fit
+nodes_before-requires-clause-fit g c = c.requires.listed.fit
+
+pub nodes_before-requires-clause-turns : goal.nodes_before-requires-clause-turns
+nodes_before-requires-clause-turns g c = c.requires.own.marks
+
+pub nodes_before-requires-clause-own : goal.nodes_before-requires-clause-own
+nodes_before-requires-clause-own g c = c.requires.listed.own
+
+pub nodes_before-requires-clause-limit : goal.nodes_before-requires-clause-limit
+nodes_before-requires-clause-limit g c = c.requires.to
+
+pub marks_between-requires-clause-few : goal.marks_between-requires-clause-few
+marks_between-requires-clause-few g c = c.requires.listed.few
+
+pub marks_between-requires-clause-marks : goal.marks_between-requires-clause-marks
+marks_between-requires-clause-marks g c = c.requires.listed.marks
+
+pub marks_between-requires-clause-turns : goal.marks_between-requires-clause-turns
+marks_between-requires-clause-turns g c = c.requires.own.marks
+
+pub marks_between-requires-clause-own : goal.marks_between-requires-clause-own
+marks_between-requires-clause-own g c = c.requires.listed.own
+
+pub marks_between-requires-clause-onward : goal.marks_between-requires-clause-onward
+marks_between-requires-clause-onward g c = c.requires.onward
+
+pub marks_between-requires-clause-to : goal.marks_between-requires-clause-to
+marks_between-requires-clause-to g c = c.requires.to
+
+pub first_unlawful_among-requires-clause-hall : goal.first_unlawful_among-requires-clause-hall
+first_unlawful_among-requires-clause-hall g c κs within = c.requires.hall
+
+pub first_unlawful_among-requires-clause-few : goal.first_unlawful_among-requires-clause-few
+first_unlawful_among-requires-clause-few g c κs within = c.requires.listed.few
+
+pub first_unlawful_among-requires-clause-marks : goal.first_unlawful_among-requires-clause-marks
+first_unlawful_among-requires-clause-marks g c κs within = c.requires.listed.marks
+
+pub first_unlawful_among-requires-clause-radii : goal.first_unlawful_among-requires-clause-radii
+first_unlawful_among-requires-clause-radii g c κs within = c.requires.listed.radii
+
+pub first_unlawful_among-requires-clause-own : goal.first_unlawful_among-requires-clause-own
+first_unlawful_among-requires-clause-own g c κs within = c.requires.own
+
+pub first_unlawful_among-requires-clause-turns : goal.first_unlawful_among-requires-clause-turns
+first_unlawful_among-requires-clause-turns g c κs within = c.requires.to
+
+pub first_unlawful_among-requires-clause-judged : goal.first_unlawful_among-requires-clause-judged
+first_unlawful_among-requires-clause-judged g c κs within =
+    let listed = c.args.listed.now in
+    let own = c.args.own.now in
+    let run = state_of_lists listed.knots.now listed.records.now in
+    record {
+      numbers = c.requires.listed.numbers;
+      few = c.requires.listed.few;
+      fit = c.requires.listed.fit;
+      first = c.requires.listed.first;
+      present = c.requires.listed.present;
+      own = c.in_ok-nodes.ensures;
+      standings =
+          subst (AreStandings run own.turns.worker c.args.to) (sym c.deref.ensures.value)
+          (AreStandings-earlier run own.turns.worker c.args.to (length own.turns.marks.items) own.standings.items c.requires.to c.requires.own.standings);
+      count = c.requires.listed.count;
+    }
+
+pub first_unlawful_among-requires-clause-among : goal.first_unlawful_among-requires-clause-among
+first_unlawful_among-requires-clause-among g c κs within k there =
+    mark_among c.args.listed.now.records.now c.args.own.now.turns.worker c.args.from c.args.to c.in_ok-marks.marks c.in_ok-marks.ensures k there
+
+pub returns : goal.returns
+returns g c =
+    let task = c.args.task.now in
+    let knots = c.args.listed.now.knots.now in
+    let records = c.args.listed.now.records.now in
+    let worker = c.args.own.now.turns.worker in
+    let marks = c.in_ok-marks.marks in
+    IsFirstBreak-seen (KeepsRecord task knots records) marks (KeepsRecordBetween worker c.args.from c.args.to task knots records) (length records)
+    c.first_unlawful_among.result
+    (λ k there.
+    let between = mark_of records worker c.args.from c.args.to marks c.in_ok-marks.ensures k there in
+    slice_get_within records k between.entry between.at)
+    (λ k kept entry is mine past before.
+    kept (c.in_ok-marks.ensures.each k (record { entry = entry; at = is; worker = mine; past = past; before = before })) entry is)
+    (λ k there kept entry is.
+    let between = mark_of records worker c.args.from c.args.to marks c.in_ok-marks.ensures k there in
+    let both : Some between.entry ≡ Some entry = sym between.at ∙ is in
+    let same : between.entry ≡ entry = cc in
+    kept entry is (ap (λ (r : Record). r.worker) (sym same) ∙ between.worker) (omega (arith, between.past, ap (λ (r : Record). r.turn) same))
+    (omega (arith, between.before, ap (λ (r : Record). r.turn) same)))
+    c.first_unlawful_among.ensures

@@ -1,0 +1,75 @@
+use Rattle.std.proofs.Common.{◌≡◌, length, arith, sym, subst}
+use Rattle.std.specs.Prelude.{slice_get}
+use Rattle.std.specs.List.{range_with_len}
+use Rattle.std.proofs.lemmas.List.FromFn.{length-range_with_len}
+use Rattle.std.proofs.lemmas.List.Sums.{count_by-le-length}
+use Rattle.plan_model.specs.Runs.Turns.{is_of_worker}
+use Rattle.report_judge.specs.Laws.FirstBreaks.{IsFirstBreak}
+use Rattle.report_judge.specs.Workers.JudgedRuns.{KeepsRecordBetween}
+use Rattle.report_judge.proofs.Laws.RecordBreaks.{IsFirstBreak-stretch, IsFirstBreak-turns}
+use Rattle.report_judge.proofs.marks.lawful_records.first_unlawful_of.Goals as goal
+
+pub own_run-requires-clause-few : goal.own_run-requires-clause-few
+own_run-requires-clause-few g c = c.requires.listed.few
+
+pub own_run-requires-clause-numbers : goal.own_run-requires-clause-numbers
+own_run-requires-clause-numbers g c = c.requires.listed.numbers
+
+pub own_run-requires-clause-own : goal.own_run-requires-clause-own
+own_run-requires-clause-own g c = c.requires.listed.own
+
+pub first_unlawful_between-requires-clause-hall : goal.first_unlawful_between-requires-clause-hall
+first_unlawful_between-requires-clause-hall g c κs within = c.requires.hall
+
+pub first_unlawful_between-requires-clause-listed : goal.first_unlawful_between-requires-clause-listed
+first_unlawful_between-requires-clause-listed g c κs within = c.requires.listed
+
+pub own_run-requires-clause-turns : goal.own_run-requires-clause-turns
+own_run-requires-clause-turns g c =
+    let records = c.args.listed.now.records.now in
+    omega (
+      arith,
+      c.requires.turns,
+      count_by-le-length (λ k. is_of_worker c.args.worker (slice_get records k)) (range_with_len 0 (length records)),
+      length-range_with_len 0 (length records),
+      c.requires.listed.few,
+    )
+
+pub end_of_stretch-to-requires-clause-few : goal.end_of_stretch-to-requires-clause-few
+end_of_stretch-to-requires-clause-few g c =
+    let records = c.args.listed.now.records.now in
+    omega (
+      arith,
+      c.requires.turns,
+      count_by-le-length (λ k. is_of_worker c.args.worker (slice_get records k)) (range_with_len 0 (length records)),
+      length-range_with_len 0 (length records),
+      c.requires.listed.few,
+    )
+
+pub loop-from-preserved : goal.loop-from-preserved
+loop-from-preserved g c =
+    let task = c.args.task.now in
+    let knots = c.args.listed.now.knots.now in
+    let records = c.args.listed.now.records.now in
+    let from = c.loop-from.from in
+    let to = c.end_of_stretch-to.result in
+    let broken : IsFirstBreak (KeepsRecordBetween c.args.worker from to task knots records) (length records) c.in_ok-found.found =
+    subst (λ w. IsFirstBreak (KeepsRecordBetween w from to task knots records) (length records) c.in_ok-found.found) c.in_ok-own.ensures.worker_is
+    c.in_ok-found.ensures in
+    record {
+      within = c.end_of_stretch-to.ensures.within;
+      first =
+          subst (IsFirstBreak (KeepsRecordBetween c.args.worker 0 to task knots records) (length records)) (sym c.earlier-first.ensures)
+          (IsFirstBreak-stretch task knots records c.args.worker from to c.loop-from.first c.in_ok-found.found
+          (omega (arith, c.end_of_stretch-to.ensures.onward)) c.loop-from.invariant.first broken);
+    }
+
+pub returns : goal.returns
+returns g c =
+    let task = c.args.task.now in
+    let knots = c.args.listed.now.knots.now in
+    let records = c.args.listed.now.records.now in
+    let end : c.loop-from.from ≡ c.args.turns = omega (arith, c.loop-from-test.false, c.loop-from.invariant.within) in
+    IsFirstBreak-turns task knots records c.requires.listed.low c.args.worker c.args.turns c.requires.turns c.loop-from.first
+    (subst (λ t. IsFirstBreak (KeepsRecordBetween c.args.worker 0 t task knots records) (length records) c.loop-from.first) end
+    c.loop-from.invariant.first)

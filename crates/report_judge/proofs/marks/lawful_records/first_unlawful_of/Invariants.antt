@@ -1,0 +1,14 @@
+use Rattle.std.proofs.Common.{◌≤◌, ◌-◌, length}
+use Rattle.report_judge.specs.Laws.FirstBreaks.{IsFirstBreak}
+use Rattle.report_judge.specs.Workers.JudgedRuns.{KeepsRecordBetween}
+use Rattle.report_judge.proofs.marks.lawful_records.first_unlawful_of.Given as goal
+
+-- the first mark of the turns so far
+abbrev pub invariant-loop-from : goal.invariant-loop-from
+invariant-loop-from g l = record {
+  within : l.from ≤ l.turns;
+  first : IsFirstBreak (KeepsRecordBetween l.worker 0 l.from l.task l.listed.knots.now l.listed.records.now) (length l.listed.records.now) l.first;
+}
+
+abbrev pub decreases-loop-from : goal.decreases-loop-from
+decreases-loop-from g l = l.turns - l.from

@@ -1,0 +1,100 @@
+use Rattle.std.proofs.Common.{◌≡◌, suc, ◌+◌, ◌-◌, ◌*◌, ◌≤◌, None, arith, sym, ap, ◌∙◌, subst}
+use Rattle.std.specs.Prelude.{slice_index_or}
+use Rattle.std.proofs.lemmas.Bool.{true≢false}
+use Rattle.plan_model.specs.declared.trees.Knot.{Knot}
+use Rattle.plan_model.specs.Runs.OrderLaw.{Hangs}
+use Rattle.plan_model.specs.Runs.Textbook.{setup_of}
+use Rattle.plan_model.specs.Trees.PointsByNumber.{StandsAt, node_count}
+use Rattle.step_core.specs.PackedRuns.{kept_cost_of}
+use Rattle.report_judge.specs.Workers.JudgedRuns.{run_of}
+use Rattle.report_judge.proofs.Laws.HangingNodes.{Hangs-listed, listed-Hangs}
+use Rattle.report_judge.proofs.marks.placed_marks.hangs_lawfully.Goals as goal
+
+pub returns-then-not-stands_at-clause-only : goal.returns-then-not-stands_at-clause-only
+returns-then-not-stands_at-clause-only g c = λ h bad.
+    let next : suc c.args.mark ≡ c.args.mark + 1 = omega arith in
+    c.stands_at.ensures.only c.if-not-stands_at.true c.args.judged.now.records.now
+    (subst (λ n. StandsAt (run_of c.args.judged.now).points n c.args.p) next bad.stands)
+
+pub returns-then-not-stands_at-clause-lawful : goal.returns-then-not-stands_at-clause-lawful
+returns-then-not-stands_at-clause-lawful g c = λ h. absurd (true≢false (sym h))
+
+pub returns-then-kept_cost-entry-clause-lawful : goal.returns-then-kept_cost-entry-clause-lawful
+returns-then-kept_cost-entry-clause-lawful g c = λ h. absurd (true≢false (sym h))
+
+pub returns-then-entry-node-clause-lawful : goal.returns-then-entry-node-clause-lawful
+returns-then-entry-node-clause-lawful g c = λ h. absurd (true≢false (sym h))
+
+pub returns-then-entry-from-clause-lawful : goal.returns-then-entry-from-clause-lawful
+returns-then-entry-from-clause-lawful g c = λ h. absurd (true≢false (sym h))
+
+pub returns-then-not-is_within_first-clause-lawful : goal.returns-then-not-is_within_first-clause-lawful
+returns-then-not-is_within_first-clause-lawful g c = λ h. absurd (true≢false (sym h))
+
+pub returns-then-not-is_within_first-2-clause-lawful : goal.returns-then-not-is_within_first-2-clause-lawful
+returns-then-not-is_within_first-2-clause-lawful g c = λ h. absurd (true≢false (sym h))
+
+pub returns-then-kept_cost-entry-clause-only : goal.returns-then-kept_cost-entry-clause-only
+returns-then-kept_cost-entry-clause-only g c = λ h bad.
+    let next : suc c.args.mark ≡ c.args.mark + 1 = omega arith in
+    omega (
+      arith,
+      bad.kept,
+      c.if-kept_cost-entry.true,
+      c.kept_cost.ensures,
+      ap (λ n. kept_cost_of (slice_index_or c.args.judged.now.knots.now n None)) next,
+    )
+
+pub returns-then-entry-node-clause-only : goal.returns-then-entry-node-clause-only
+returns-then-entry-node-clause-only g c = λ h bad.
+    let next : suc c.args.mark ≡ c.args.mark + 1 = omega arith in
+    bad.nearest_other (c.if-entry-node.true ∙ sym next)
+
+pub returns-then-not-is_within_first-clause-only : goal.returns-then-not-is_within_first-clause-only
+returns-then-not-is_within_first-clause-only g c = λ h bad.
+    c.is_within_first.ensures.only c.if-not-is_within_first.true (record { present = c.requires.nearest; within = bad.below_nearest })
+
+pub returns-then-not-is_within_first-2-clause-only : goal.returns-then-not-is_within_first-2-clause-only
+returns-then-not-is_within_first-2-clause-only g c = λ h bad.
+    c.is_within_first-2.ensures.only c.if-not-is_within_first-2.true (record { present = bad.first.present; within = bad.below_first })
+
+pub returns-clause-lawful : goal.returns-clause-lawful
+returns-clause-lawful g c = λ h.
+    let run = run_of c.args.judged.now in
+    let knots = c.args.judged.now.knots.now in
+    let records = c.args.judged.now.records.now in
+    let setup = setup_of c.args.scene.now in
+    let entry = c.args.entry in
+    let place : Knot = record { point = c.args.p; parent = entry.first_parent; cost = entry.first_cost } in
+    let next : suc c.args.mark ≡ c.args.mark + 1 = omega arith in
+    let nodes : c.from-2.result ≡ node_count run.points - 1 = omega (arith, c.from-2.ensures, c.requires.asked.judges.count) in
+    let hangs =
+    Hangs-listed knots records setup (g.C.Clearing.space c.args.hall.now) (sym c.requires.asked.space_is) (c.from-3.result * c.from-4.result)
+    (λ i. sym c.from-3.ensures i * sym c.from-4.ensures i) (c.args.mark + 1) place (c.may_hang.ensures.hangs h) in
+    record {
+      stands = subst (λ n. StandsAt run.points n c.args.p) (sym next) (c.stands_at.ensures.stands c.if-not-stands_at.false records);
+      first = subst (λ n. Hangs setup run n c.args.p entry.first_parent entry.first_cost) (sym next) hangs;
+      nearest_other = λ e. c.if-entry-node.false (e ∙ next);
+      below_first = (c.is_within_first-2.ensures.within c.if-not-is_within_first-2.false).within;
+      below_nearest = (c.is_within_first.ensures.within c.if-not-is_within_first.false).within;
+      bounded = subst (λ most. entry.first_cost ≤ most) (λ i. 256 * c.from.ensures i * nodes i) c.if-entry-from.false;
+      kept =
+          omega (
+            arith,
+            c.if-kept_cost-entry.false,
+            c.kept_cost.ensures,
+            ap (λ n. kept_cost_of (slice_index_or knots n None)) next,
+          );
+    }
+
+pub returns-clause-only : goal.returns-clause-only
+returns-clause-only g c = λ h bad.
+    let run = run_of c.args.judged.now in
+    let setup = setup_of c.args.scene.now in
+    let entry = c.args.entry in
+    let place : Knot = record { point = c.args.p; parent = entry.first_parent; cost = entry.first_cost } in
+    let next : suc c.args.mark ≡ c.args.mark + 1 = omega arith in
+    c.may_hang.ensures.only h
+    (listed-Hangs c.args.judged.now.knots.now c.args.judged.now.records.now setup (g.C.Clearing.space c.args.hall.now) (sym c.requires.asked.space_is)
+    (c.from-3.result * c.from-4.result) (λ i. sym c.from-3.ensures i * sym c.from-4.ensures i) (c.args.mark + 1) place
+    (subst (λ n. Hangs setup run n c.args.p entry.first_parent entry.first_cost) next bad.first))

@@ -1,0 +1,7 @@
+use Rattle.std.proofs.Common.{ℕ, ◌<◌}
+use Rattle.report_judge.specs.Laws.FirstBreaks.{HasLowTurn}
+use Rattle.report_judge.proofs.marks.turns.first_high_turn.Given as goal
+
+-- each turn so far is low
+abbrev pub invariant-loop-mark : goal.invariant-loop-mark
+invariant-loop-mark l = (k : ℕ) → k < l.mark → HasLowTurn l.records k

@@ -1,0 +1,16 @@
+use Rattle.std.proofs.Common.{length, sym, subst}
+use Rattle.report_judge.specs.Laws.FirstBreaks.{HasLowTurn, IsFirstBreak, IsNewKey}
+use Rattle.report_judge.proofs.Laws.FirstBreakLaws.{IsFirstBreak-earlier}
+use Rattle.report_judge.proofs.Laws.TurnBreaks.{IsFirstBreak-turns}
+use Rattle.report_judge.proofs.marks.turns.first_wrong_turn.Goals as goal
+
+pub returns : goal.returns
+returns c =
+    let records = c.args.records.now in
+    let keys = c.in_ok-keys.keys.items in
+    let first = c.in_ok-repeat.repeat in
+    let told = subst (λ ks. IsFirstBreak (IsNewKey ks) (length ks) first) c.deref.ensures.value c.in_ok-repeat.ensures in
+    let new = subst (λ n. IsFirstBreak (IsNewKey keys) n first) c.in_ok-keys.ensures.length told in
+    IsFirstBreak-turns records keys c.in_ok-keys.ensures.length c.in_ok-keys.ensures.keys c.requires.fit c.earlier.result
+    (subst (IsFirstBreak (λ k. IsNewKey keys k × HasLowTurn records k) (length records)) (sym c.earlier.ensures)
+    (IsFirstBreak-earlier (IsNewKey keys) (HasLowTurn records) (length records) first c.first_high_turn.result new c.first_high_turn.ensures))

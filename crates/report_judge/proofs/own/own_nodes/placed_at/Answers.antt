@@ -1,0 +1,56 @@
+use Rattle.std.proofs.Common.{◌+◌, ◌≡◌, Some, length, suc, arith, refl, sym, ap, ◌∙◌}
+use Rattle.std.specs.Prelude.{None, slice_index_or}
+use Rattle.std.proofs.lemmas.Bool.{true≢false}
+use Rattle.std.proofs.lemmas.Option.{slice_get_read, slice_get_within}
+use Rattle.plan_model.specs.declared.records.Record.{Record}
+use Rattle.plan_model.specs.Runs.Outcomes.{is_placed}
+use Rattle.report_judge.proofs.Laws.ListedNodes.{none-stands, stands-listed}
+use Rattle.report_judge.proofs.Workers.OwnNodeLaws.{is_placed_at, not_placed}
+use Rattle.report_judge.proofs.own.own_nodes.placed_at.Goals as goal
+
+pub returns-then-mark-records : goal.returns-then-mark-records
+returns-then-mark-records c =
+    let records = c.args.records.now in
+    let mark = c.in-Some.mark in
+    not_placed c.args.knots.now records c.args.mark mark c.in-Some.is
+    (λ p placed. omega (arith, slice_get_within records mark placed.entry placed.at, c.if-mark-records.true))
+
+pub returns-then-not-is_placed : goal.returns-then-not-is_placed
+returns-then-not-is_placed c =
+    let records = c.args.records.now in
+    let mark = c.in-Some.mark in
+    let entry = c.index-records-mark.result in
+    let at = slice_get_read records (length records) mark entry refl (omega (arith, c.if-mark-records.false)) c.index-records-mark.is in
+    not_placed c.args.knots.now records c.args.mark mark c.in-Some.is
+    (λ p placed.
+    let both : Some placed.entry ≡ Some entry = sym placed.at ∙ at in
+    let same : placed.entry ≡ entry = cc in
+    let own = ap (λ (r : Record). is_placed r.outcome) (same ∙ c.index-records-mark.is) in
+    true≢false (sym placed.placed ∙ own ∙ sym c.is_placed.ensures ∙ c.if-not-is_placed.true))
+
+pub returns-in-Some-knot_at : goal.returns-in-Some-knot_at
+returns-in-Some-knot_at c =
+    let knots = c.args.knots.now in
+    let records = c.args.records.now in
+    let mark = c.in-Some.mark in
+    let next : mark + 1 ≡ suc mark = omega arith in
+    let at : slice_index_or knots (suc mark) None ≡ Some c.in-Some-knot_at.knot =
+    ap (λ n. slice_index_or knots n None) (sym next) ∙ sym c.in-Some-knot_at.ensures in
+    is_placed_at knots records c.args.mark mark c.in-Some-knot_at.knot.point c.in-Some.is
+    (record {
+      entry = c.index-records-mark.result;
+      at = slice_get_read records (length records) mark c.index-records-mark.result refl (omega (arith, c.if-mark-records.false)) c.index-records-mark.is;
+      placed = ap (λ (r : Record). is_placed r.outcome) c.index-records-mark.is ∙ sym c.is_placed.ensures ∙ c.if-not-is_placed.false;
+      stands = stands-listed knots records (suc mark) c.in-Some-knot_at.knot at;
+      bounded = (c.requires.fit (suc mark) c.in-Some-knot_at.knot at).point;
+    })
+
+pub returns-in-None : goal.returns-in-None
+returns-in-None c =
+    let knots = c.args.knots.now in
+    let mark = c.in-Some.mark in
+    let next : mark + 1 ≡ suc mark = omega arith in
+    let gone : slice_index_or knots (suc mark) None ≡ None =
+    ap (λ n. slice_index_or knots n None) (sym next) ∙ sym c.knot_at.ensures ∙ c.in-None.is in
+    not_placed knots c.args.records.now c.args.mark mark c.in-Some.is
+    (λ p placed. none-stands knots c.args.records.now (suc mark) p gone placed.stands)

@@ -1,0 +1,33 @@
+use Rattle.std.proofs.Common.{arith}
+use Rattle.plan_model.specs.Trees.NodeLists.{without_costs}
+use Rattle.plan_model.proofs.NewNodes.{IsPresent-stands, present_below}
+use Rattle.report_judge.specs.Workers.JudgedRuns.{run_of}
+use Rattle.report_judge.proofs.Laws.LawfulSheets.{length-without_costs}
+use Rattle.report_judge.proofs.Workers.OwnNodeLaws.{is_free, is_taken_by, nearer_within}
+use Rattle.report_judge.proofs.own.searches.is_taken.Goals as goal
+
+pub has_one-requires-clause-within : goal.has_one-requires-clause-within
+has_one-requires-clause-within g c κs within =
+    nearer_within c.args.judged.now.standings.now _ c.of_square.result.center c.of_square.result.square c.of_square.ensures.center
+    c.of_square.ensures.square
+
+pub returns-clause-taken : goal.returns-clause-taken
+returns-clause-taken g c = λ h.
+    let judged = c.args.judged.now in
+    is_taken_by (run_of judged) c.args.entry judged.turns c.requires.turn judged.own.now judged.standings.now c.requires.judged.own
+    c.requires.judged.standings c.args.p 4294967295 (c.has_one.ensures.some h)
+
+pub returns-clause-free : goal.returns-clause-free
+returns-clause-free g c = λ h.
+    let judged = c.args.judged.now in
+    let knots = judged.knots.now in
+    is_free (run_of judged) c.args.entry judged.turns c.requires.turn judged.own.now judged.standings.now c.requires.judged.own
+    c.requires.judged.standings c.args.p 4294967295
+    (λ n q stands.
+    omega (
+      arith,
+      present_below (without_costs knots) n (IsPresent-stands (run_of judged).points n q stands),
+      length-without_costs knots,
+      c.requires.judged.numbers,
+      c.requires.judged.few,
+    )) (c.has_one.ensures.none h)

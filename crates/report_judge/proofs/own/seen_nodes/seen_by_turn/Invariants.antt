@@ -1,0 +1,15 @@
+use Rattle.std.proofs.Common.{◌≡◌, ◌+◌, ◌≤◌, ℕ, Some, length}
+use Rattle.std.specs.Prelude.{slice_get}
+use Rattle.step_core.specs.PackedRuns.{state_of_lists}
+use Rattle.report_judge.specs.Workers.SeenNodes.{AreSeen}
+use Rattle.report_judge.specs.declared.own.seen_nodes.Seen.{Seen}
+use Rattle.report_judge.proofs.own.seen_nodes.seen_by_turn.Given as goal
+
+-- what stood before each turn so far, and before this one
+abbrev pub invariant-loop-mark : goal.invariant-loop-mark
+invariant-loop-mark l = record {
+  long : length l.all.items ≡ l.mark-index;
+  room : l.seen.nodes ≤ l.mark-index + 1;
+  now : AreSeen l.goals (state_of_lists l.knots l.records) l.turns.worker l.mark-index l.seen;
+  each : (turn : ℕ) (own : Seen) → slice_get l.all.items turn ≡ Some own → AreSeen l.goals (state_of_lists l.knots l.records) l.turns.worker turn own;
+}

@@ -1,0 +1,70 @@
+use Rattle.std.proofs.Common.{◌≡◌, ℕ, suc, [], ◌∷◌, ◌++◌, ◌<◌, ◌≤◌, Option, Some, None, length, length-append, arith, sym, ap, ◌∙◌, subst, inl, inr}
+use Rattle.std.specs.Prelude.{IfSome, slice_index_or}
+use Rattle.grown_runs.specs.Runs.PackedRuns.{state_of_lists}
+use Rattle.std.proofs.lemmas.Bool.{cases_lt}
+use Rattle.std.proofs.lemmas.List.{get_or_push}
+use Rattle.plan_model.specs.declared.limits.TheConstants.{MOST_MARKS}
+use Rattle.report_judge.specs.Workers.SeenNodes.{IsMarkOfTurn}
+use Rattle.report_judge.specs.Workers.Standings.{no_standing, standing_at, standing_of}
+use Rattle.report_judge.proofs.Workers.SeenTurns.{low_mark}
+use Rattle.report_judge.proofs.Workers.StandingLaws.{AreStandings-all, node_of_mark, node_of_some, standing_pushed}
+use Rattle.report_judge.proofs.own.standings.standings.Goals as goal
+
+low_node : (limit most : ℕ) (o : Option ℕ) → limit ≤ most → IfSome o (λ m. m < limit) → IfSome o (λ m. suc m ≤ most)
+low_node limit most None few h = tt
+low_node limit most (Some mark) few h = omega (arith, few, h)
+
+pub node_of-requires : goal.node_of-requires
+node_of-requires c =
+    let records = c.args.records.now in
+    let worker = c.args.turns.now.worker in
+    let index = c.loop-mark.mark-index in
+    let mark = slice_index_or c.deref-mark-items.result.now index None in
+    let told : IsMarkOfTurn records worker index mark =
+    subst (λ os. IsMarkOfTurn records worker index (slice_index_or os index None)) (sym c.deref-mark-items.ensures.value)
+    (c.requires.turns index (omega (arith, c.loop-mark-test.true, ap length c.deref-mark-items.ensures.value))) in
+    low_node (length records) MOST_MARKS mark c.requires.few (low_mark records worker index mark told)
+
+pub loop-mark-preserved : goal.loop-mark-preserved
+loop-mark-preserved c =
+    let knots = c.args.knots.now in
+    let order = c.args.turns.now.marks.items in
+    let index = c.loop-mark.mark-index in
+    let old = c.loop-mark.standings.items in
+    let own = c.costs_of-in-loop-mark.result in
+    let items = c.in_ok-push-2.ensures.items in
+    let whole : c.deref-mark-items.result.now ≡ order = c.deref-mark-items.ensures.value in
+    let node =
+    node_of_some c.node_of.result (slice_index_or c.deref-mark-items.result.now index None) c.node_of.ensures.none c.node_of.ensures.some
+    ∙ ap (λ os. node_of_mark (slice_index_or os index None)) whole in
+    let state = state_of_lists knots c.args.records.now in
+    let last : standing_at (old ++ own ∷ []) (suc index) ≡ standing_of state (node_of_mark (slice_index_or order index None)) =
+    get_or_push old own no_standing (suc index) (omega (arith, c.loop-mark.invariant.long)) ∙ c.costs_of-in-loop-mark.ensures
+    ∙ ap (standing_of state) node in
+    record {
+      long = omega (arith, ap length items, length-append old (own ∷ []), c.loop-mark.invariant.long);
+      start =
+          ap (λ xs. standing_at xs 0) items ∙ standing_pushed old own 0 (omega (arith, c.loop-mark.invariant.long))
+          ∙ c.loop-mark.invariant.start;
+      each = λ turn low.
+          elim (cases_lt turn index) [
+            | inl before ↦
+                ap (λ xs. standing_at xs (suc turn)) items ∙ standing_pushed old own (suc turn) (omega (arith, before, c.loop-mark.invariant.long))
+                ∙ c.loop-mark.invariant.each turn before
+            | inr past ↦ (
+                let e : index ≡ turn = omega (arith, low, past) in
+                ap (λ xs. standing_at xs (suc turn)) items
+                ∙ subst
+                (λ t. standing_at (old ++ own ∷ []) (suc t) ≡ standing_of state (node_of_mark (slice_index_or order t None)))
+                e last)
+          ];
+    }
+
+pub returns : goal.returns
+returns c =
+    let order = c.args.turns.now.marks.items in
+    let index = c.loop-mark.mark-index in
+    let whole : c.deref-mark-items.result.now ≡ order = c.deref-mark-items.ensures.value in
+    let end : index ≡ length order = omega (arith, c.loop-mark-test.false, ap length whole, c.loop-mark.auto.mark-index-end) in
+    AreStandings-all c.args.knots.now c.args.records.now c.args.turns.now.worker order c.loop-mark.standings.items c.requires.own c.requires.turns
+    (omega (arith, c.loop-mark.invariant.long, end)) c.loop-mark.invariant.start (λ turn low. c.loop-mark.invariant.each turn (omega (arith, low, end)))

@@ -1,0 +1,75 @@
+use Rattle.std.proofs.Common.{◌≡◌, ℕ, List, ◌++◌, arith, sym, ap, ◌∙◌}
+use Rattle.std.specs.Prelude.{Bool, codes}
+use Rattle.report_judge.specs.declared.tallies.Tally.{Tally}
+use Rattle.report_judge.specs.Texts.ReportLines.{FitsTally, field, line_text}
+use Rattle.report_judge.specs.Texts.ReportLines.ReportLine.{Counts}
+use Rattle.report_judge.proofs.Texts.CountParts.{last_counts, parts-counts}
+use Rattle.report_judge.proofs.Texts.FieldWords.{none_always}
+use Rattle.report_judge.proofs.reading.count_readers.read_counts.Goals as goal
+
+-- the line from each of its numbers on
+abbrev from_blocked : Tally → List ℕ → List ℕ
+from_blocked tally rest = last_counts tally.blocked tally.skipped rest
+
+abbrev from_same : Tally → List ℕ → List ℕ
+from_same tally rest = field (codes "same ") tally.same 32 (from_blocked tally rest)
+
+abbrev from_placed : Tally → List ℕ → List ℕ
+from_placed tally rest = field (codes "placed ") tally.placed 32 (from_same tally rest)
+
+-- no line of counts stands first
+abbrev HasNoCounts : Bool → List ℕ → Type 0
+HasNoCounts informed text = (tally : Tally) (rest : List ℕ) → FitsTally informed tally → text ≡ line_text (Counts tally) ++ rest → ⊥
+
+pub returns-in_err-nodes-clause-none : goal.returns-in_err-nodes-clause-none
+returns-in_err-nodes-clause-none c =
+    none_always c.from_residual.result (HasNoCounts c.args.informed c.args.text.now)
+    (λ tally rest fits e.
+    c.in_err-nodes.ensures.none tally.nodes (from_placed tally rest) (omega (arith, fits.nodes)) (e ∙ parts-counts tally rest))
+
+pub returns-in_err-placed-clause-none : goal.returns-in_err-placed-clause-none
+returns-in_err-placed-clause-none c =
+    none_always c.from_residual-in_err-placed.result (HasNoCounts c.args.informed c.args.text.now)
+    (λ tally rest fits e.
+    let nodes = c.in_ok-nodes.ensures.only tally.nodes (from_placed tally rest) (omega (arith, fits.nodes)) (e ∙ parts-counts tally rest) in
+    c.in_err-placed.ensures.none tally.placed (from_same tally rest) (omega (arith, fits.placed)) nodes.1)
+
+pub returns-in_err-same-clause-none : goal.returns-in_err-same-clause-none
+returns-in_err-same-clause-none c =
+    none_always c.from_residual-in_err-same.result (HasNoCounts c.args.informed c.args.text.now)
+    (λ tally rest fits e.
+    let nodes = c.in_ok-nodes.ensures.only tally.nodes (from_placed tally rest) (omega (arith, fits.nodes)) (e ∙ parts-counts tally rest) in
+    let placed = c.in_ok-placed.ensures.only tally.placed (from_same tally rest) (omega (arith, fits.placed)) nodes.1 in
+    c.in_err-same.ensures.none tally.same (from_blocked tally rest) (omega (arith, fits.same)) placed.1)
+
+pub returns-in_err-blocked-clause-none : goal.returns-in_err-blocked-clause-none
+returns-in_err-blocked-clause-none c =
+    none_always c.from_residual-in_err-blocked.result (HasNoCounts c.args.informed c.args.text.now)
+    (λ tally rest fits e.
+    let nodes = c.in_ok-nodes.ensures.only tally.nodes (from_placed tally rest) (omega (arith, fits.nodes)) (e ∙ parts-counts tally rest) in
+    let placed = c.in_ok-placed.ensures.only tally.placed (from_same tally rest) (omega (arith, fits.placed)) nodes.1 in
+    let same = c.in_ok-same.ensures.only tally.same (from_blocked tally rest) (omega (arith, fits.same)) placed.1 in
+    c.in_err-blocked.ensures.none tally.blocked tally.skipped rest fits.blocked fits.skipped same.1)
+
+pub returns-clause-fits : goal.returns-clause-fits
+returns-clause-fits c = record {
+  nodes = omega (arith, c.in_ok-nodes.ensures.some.0);
+  placed = omega (arith, c.in_ok-placed.ensures.some.0);
+  same = omega (arith, c.in_ok-same.ensures.some.0);
+  blocked = c.in_ok-blocked.ensures.fits.0;
+  skipped = c.in_ok-blocked.ensures.fits.1;
+}
+
+pub returns-clause-some : goal.returns-clause-some
+returns-clause-some c =
+    let tally : Tally =
+    record {
+      nodes = c.in_ok-nodes.nodes;
+      placed = c.in_ok-placed.placed;
+      same = c.in_ok-same.same;
+      blocked = c.in_ok-blocked.blocked;
+      skipped = c.in_ok-blocked.skipped;
+    } in
+    let from_sames = c.in_ok-same.ensures.some.1 ∙ ap (field (codes "same ") tally.same 32) c.in_ok-blocked.ensures.some in
+    let from_placeds = c.in_ok-placed.ensures.some.1 ∙ ap (field (codes "placed ") tally.placed 32) from_sames in
+    c.in_ok-nodes.ensures.some.1 ∙ ap (field (codes "nodes ") tally.nodes 32) from_placeds ∙ sym (parts-counts tally c.in_ok-blocked.rest.now)

@@ -1,0 +1,14 @@
+use Rattle.std.proofs.Common.{◌≡◌, ℕ, ◌++◌, Some, length}
+use Rattle.std.specs.Prelude.{slice_get}
+use Rattle.plan_model.specs.declared.records.Record.{Record}
+use Rattle.report_judge.specs.Texts.ReportLines.{lines_text, FitsEntry}
+use Rattle.report_judge.specs.Texts.ReportSheets.{lines_of_records}
+use Rattle.report_judge.proofs.reading.front_lines.read_records.Given as goal
+
+-- the records so far are read
+abbrev pub invariant-loop-mark : goal.invariant-loop-mark
+invariant-loop-mark l = record {
+  long : length l.records.items ≡ l.mark;
+  told : l.text ≡ lines_text (lines_of_records l.records.items) ++ l.rest;
+  fit : (k : ℕ) (entry : Record) → slice_get l.records.items k ≡ Some entry → FitsEntry (record { marks = l.marks; informed = l.informed }) entry;
+}

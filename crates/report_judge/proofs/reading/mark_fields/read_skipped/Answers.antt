@@ -1,0 +1,28 @@
+use Rattle.std.proofs.Common.{◌≡◌, ℕ, ◌≤◌, List, [], ◌∷◌, ◌++◌, arith, sym, ◌∙◌, append_assoc, decimal}
+use Rattle.std.specs.Prelude.{codes}
+use Rattle.plan_model.specs.Reports.ReportText.{line}
+use Rattle.report_judge.specs.Texts.ReportLines.{field}
+use Rattle.report_judge.proofs.Texts.FieldWords.{none_always}
+use Rattle.report_judge.proofs.reading.mark_fields.read_skipped.Goals as goal
+
+-- the line
+abbrev spelled : (goal : ℕ) → List ℕ
+spelled goal = line (codes "skipped" ∷ codes "by" ∷ decimal goal ∷ [])
+
+parts : (goal : ℕ) (rest : List ℕ) → spelled goal ++ rest ≡ field (codes "skipped by ") goal 10 rest
+parts goal rest = simp append_assoc
+
+-- no such line stands first
+abbrev HasNone : ℕ → List ℕ → Type 0
+HasNone marks text = (goal : ℕ) (rest : List ℕ) → goal ≤ marks → text ≡ spelled goal ++ rest → ⊥
+
+pub returns-in_err-goal-clause-none : goal.returns-in_err-goal-clause-none
+returns-in_err-goal-clause-none c =
+    none_always c.from_residual.result (HasNone c.args.marks c.args.text.now)
+    (λ goal rest low e. c.in_err-goal.ensures.none goal rest (omega (arith, low, c.from.ensures)) (e ∙ parts goal rest))
+
+pub returns-clause-fits : goal.returns-clause-fits
+returns-clause-fits c = omega (arith, c.in_ok-goal.ensures.some.0, c.from.ensures)
+
+pub returns-clause-some : goal.returns-clause-some
+returns-clause-some c = c.in_ok-goal.ensures.some.1 ∙ sym (parts c.in_ok-goal.goal c.in_ok-goal.rest.now)

@@ -1,0 +1,37 @@
+use Rattle.std.proofs.Common.{◌≡◌, List, ℕ, ◌++◌, sym, subst, ◌∙◌}
+use Rattle.std.specs.Option.{IfNone, IfSome}
+use Rattle.std.proofs.lemmas.Bool.{true≢false}
+use Rattle.plan_model.specs.declared.records.Record.{Record}
+use Rattle.plan_model.specs.Reports.ReportText.{line, outcome_words}
+use Rattle.report_judge.specs.Texts.ReportLines.{Extent, FitsEntry}
+use Rattle.report_judge.proofs.Texts.FieldWords.{none_always}
+use Rattle.report_judge.proofs.Texts.MarkParts.{no_outcome}
+use Rattle.report_judge.proofs.reading.mark_readers.read_outcome.Goals as goal
+
+pub returns-in-Some-clause-fits : goal.returns-in-Some-clause-fits
+returns-in-Some-clause-fits c = c.read_steered.ensures.fits c.args.informed
+
+pub returns-in-Some-clause-some : goal.returns-in-Some-clause-some
+returns-in-Some-clause-some c =
+    subst (λ text. IfSome c.read_steered.result (λ read. text ≡ line (outcome_words read.0 read.0.outcome) ++ read.1.now)) (sym c.in-Some.ensures.some)
+    c.read_steered.ensures.some
+
+pub returns-in-Some-clause-none : goal.returns-in-Some-clause-none
+returns-in-Some-clause-none c =
+    let extent : Extent = record { marks = c.args.marks; informed = c.args.informed } in
+    subst
+    (λ text. IfNone c.read_steered.result ((entry : Record) (rest : List ℕ) → FitsEntry extent entry
+    → text ≡ line (outcome_words entry entry.outcome) ++ rest → ⊥))
+    (sym c.in-Some.ensures.some) (c.read_steered.ensures.none c.args.informed)
+
+pub returns-then-not-informed-clause-none : goal.returns-then-not-informed-clause-none
+returns-then-not-informed-clause-none c =
+    no_outcome (record { marks = c.args.marks; informed = c.args.informed }) c.args.text.now c.in_default.ensures.none
+    (λ informed. absurd (true≢false (sym informed ∙ c.if-not-informed.true)))
+
+pub returns-in_err-goal-clause-none : goal.returns-in_err-goal-clause-none
+returns-in_err-goal-clause-none c =
+    let extent : Extent = record { marks = c.args.marks; informed = c.args.informed } in
+    none_always c.from_residual.result
+    ((entry : Record) (rest : List ℕ) → FitsEntry extent entry → c.args.text.now ≡ line (outcome_words entry entry.outcome) ++ rest → ⊥)
+    (no_outcome extent c.args.text.now c.in_default.ensures.none (λ informed. c.in_err-goal.ensures.none))

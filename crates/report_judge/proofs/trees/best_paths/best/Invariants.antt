@@ -1,0 +1,13 @@
+use Rattle.std.proofs.Common.{◌≡◌, ◌-◌, [], length}
+use Rattle.std.specs.Prelude.{IfSome}
+use Rattle.plan_model.specs.Trees.PointsByNumber.{IsPresent}
+use Rattle.grown_runs.specs.Runs.PackedRuns.{state_of_lists}
+use Rattle.settle_report.proofs.GoalNodes.{best_of}
+use Rattle.report_judge.proofs.trees.best_paths.best.Given as goal
+
+-- the best of the nodes from here on
+abbrev pub invariant-loop-node : goal.invariant-loop-node
+invariant-loop-node l = record {
+  least : l.best ≡ best_of l.goals (state_of_lists l.knots []) l.node (length l.knots - l.node);
+  present : IfSome l.best (IsPresent (state_of_lists l.knots []).points);
+}

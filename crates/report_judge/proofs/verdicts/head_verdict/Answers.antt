@@ -1,0 +1,93 @@
+use Rattle.std.proofs.Common.{◌≡◌, suc, ◌+◌, ◌-◌, ◌≤◌, [], List, Option, length, arith, refl, sym, ap, ◌∙◌, subst}
+use Rattle.plan_model.specs.declared.limits.TheConstants.{MOST_NODES}
+use Rattle.plan_model.specs.declared.geometry.Goal.{Goal}
+use Rattle.plan_model.specs.declared.tasks.Task.{Task}
+use Rattle.plan_model.specs.declared.trees.Knot.{Knot}
+use Rattle.plan_model.specs.Trees.BestNode.{best_node}
+use Rattle.step_core.specs.PackedRuns.{state_of_lists}
+use Rattle.report_judge.specs.declared.verdicts.Verdict.TheVariants.{Broken}
+use Rattle.report_judge.specs.Laws.Judgements.{IsVerdict, bytes_of}
+use Rattle.report_judge.specs.Laws.ListedTrees.{IsSettledList}
+use Rattle.report_judge.specs.Texts.ReportLines.{extent_of}
+use Rattle.report_judge.specs.Laws.SheetLaws.{best_priced_path, path_by, tally_of}
+use Rattle.report_judge.specs.Texts.ReportSheets.{HasForm, head_lines, Sheet, state_of_sheet}
+use Rattle.report_judge.specs.Texts.SheetsRead.{path_of_way, sheet_read}
+use Rattle.report_judge.proofs.Laws.SheetFacts.{few_knots, few_records, settled_of_law}
+use Rattle.report_judge.proofs.Texts.SheetLines.{head_few}
+use Rattle.report_judge.proofs.Laws.SheetVerdicts.{best_path-listed, broken_head, lawful_sheet, tally-listed}
+use Rattle.report_judge.proofs.verdicts.head_verdict.Goals as goal
+use Rattle.report_judge.proofs.verdicts.head_verdict.Goals.{After-first_wrong_head_line}
+
+pub best_way-requires-clause-few : goal.best_way-requires-clause-few
+best_way-requires-clause-few c =
+    subst (λ (ks : List (Option Knot)). length ks ≤ MOST_NODES) (sym c.deref.ensures.value)
+    (few_knots c.args.task.now (sheet_read c.args.sheet.now) c.requires.form)
+
+pub best_way-requires-clause-settled : goal.best_way-requires-clause-settled
+best_way-requires-clause-settled c =
+    subst IsSettledList (sym c.deref.ensures.value)
+    (settled_of_law c.args.task.now (sheet_read c.args.sheet.now) c.requires.form c.requires.start c.requires.nodes)
+
+pub present_count-nodes-requires : goal.present_count-nodes-requires
+present_count-nodes-requires c =
+    subst (λ (ks : List (Option Knot)). length ks ≤ MOST_NODES) (sym c.deref-2.ensures.value)
+    (few_knots c.args.task.now (sheet_read c.args.sheet.now) c.requires.form)
+
+pub counted-tally-requires : goal.counted-tally-requires
+counted-tally-requires c =
+    omega (arith, ap length c.deref-3.ensures.value, few_records c.args.task.now (sheet_read c.args.sheet.now) c.requires.form)
+
+-- the head has no more lines than the report has bytes
+few_lines : (task : Task) (sheet : Sheet) → HasForm (extent_of task) sheet → length (head_lines sheet.path sheet.tally) ≤ length (bytes_of sheet)
+few_lines task sheet form = head_few (extent_of task) (bytes_of sheet) sheet (record { form = form; text = refl })
+
+pub first_wrong_head_line-requires : goal.first_wrong_head_line-requires
+first_wrong_head_line-requires c =
+    record { few = omega (arith, few_lines c.args.task.now (sheet_read c.args.sheet.now) c.requires.form, c.requires.short) }
+
+pub overflow_add-line : goal.overflow_add-line
+overflow_add-line c =
+    omega (arith, c.in-Some.ensures.0, few_lines c.args.task.now (sheet_read c.args.sheet.now) c.requires.form, c.requires.short)
+
+pub broken-requires : goal.broken-requires
+broken-requires c =
+    omega (arith, c.in-Some.ensures.0, few_lines c.args.task.now (sheet_read c.args.sheet.now) c.requires.form, c.requires.short)
+
+-- the path and the counts are the run's
+own_path : (c : After-first_wrong_head_line)
+    → path_of_way c.in_ok-way.way ≡ best_priced_path c.args.task.now.scene (length c.args.task.now.marks) (state_of_sheet (sheet_read c.args.sheet.now))
+own_path c =
+    best_path-listed c.args.task.now (sheet_read c.args.sheet.now) c.requires.form.numbers (path_of_way c.in_ok-way.way)
+    (subst
+    (λ (gs : List Goal). path_of_way c.in_ok-way.way
+    ≡ path_by (state_of_lists c.args.sheet.now.knots.items [])
+    (best_node gs (length c.args.sheet.now.knots.items - 1) (state_of_lists c.args.sheet.now.knots.items []))) c.as_slice.ensures
+    (subst
+    (λ (ks : List (Option Knot)). path_of_way c.in_ok-way.way
+    ≡ path_by (state_of_lists ks []) (best_node c.as_slice.result.now (length ks - 1) (state_of_lists ks []))) c.deref.ensures.value c.in_ok-way.ensures))
+
+own_tally : (c : After-first_wrong_head_line)
+    → c.counted-tally.result ≡ tally_of c.args.task.now.scene (length c.args.task.now.marks) (state_of_sheet (sheet_read c.args.sheet.now))
+own_tally c =
+    let sheet = sheet_read c.args.sheet.now in
+    let told = c.counted-tally.ensures in
+    tally-listed c.args.task.now sheet c.requires.form.all_marks c.counted-tally.result
+    (told.nodes ∙ (rw c.deref-2.ensures.value at c.present_count-nodes.ensures) sheet.records) (rw c.deref-3.ensures.value at told.placed)
+    (rw c.deref-3.ensures.value at told.same) (rw c.deref-3.ensures.value at told.blocked) ((rw c.deref-3.ensures.value at told.skipped) sheet.knots)
+
+pub returns-in-Some : goal.returns-in-Some
+returns-in-Some c =
+    let at = (goal.at.returns-in-Some c).After-first_wrong_head_line in
+    let sheet = sheet_read c.args.sheet.now in
+    let line : suc c.in-Some.line ≡ c.in-Some.line + 1 = omega arith in
+    subst (IsVerdict c.args.task.now (bytes_of sheet)) (sym c.broken.ensures)
+    (subst (λ n. IsVerdict c.args.task.now (bytes_of sheet) (Broken n 6)) line
+    (broken_head c.args.task.now sheet c.requires.form c.requires.nodes c.requires.turns c.requires.presence c.requires.lawful
+    (path_of_way c.in_ok-way.way) c.counted-tally.result (own_path at) (own_tally at) c.in-Some.line c.in-Some.ensures))
+
+pub returns : goal.returns
+returns c =
+    let at = (goal.at.returns c).After-first_wrong_head_line in
+    let sheet = sheet_read c.args.sheet.now in
+    lawful_sheet c.args.task.now sheet c.requires.form c.requires.nodes c.requires.turns c.requires.presence c.requires.lawful
+    (path_of_way c.in_ok-way.way) c.counted-tally.result (own_path at) (own_tally at) c.requires.start c.in-None.ensures

@@ -1,0 +1,18 @@
+use Rattle.std.proofs.Common.{List, [], take, Option, arith, ◌∙◌, ap}
+use Rattle.std.specs.Prelude.{count_by, is_some}
+use Rattle.plan_model.specs.declared.trees.Knot.{Knot}
+use Rattle.step_core.proofs.PackedLists.{node_count-lists}
+use Rattle.report_judge.specs.Texts.SheetsRead.{sheet_read}
+use Rattle.report_judge.proofs.Texts.SheetForms.{length-head_lines}
+use Rattle.report_judge.proofs.verdicts.node_line.Goals as goal
+
+pub returns : goal.returns
+returns c =
+    let sheet = sheet_read c.args.sheet.now in
+    omega (
+      arith,
+      c.path_line_count.ensures,
+      c.present_count.ensures [] ∙ node_count-lists (take c.args.node c.deref.result.now)
+          ∙ ap (λ (ks : List (Option Knot)). count_by is_some (take c.args.node ks)) c.deref.ensures.value,
+      length-head_lines sheet.path sheet.tally,
+    )

@@ -1,0 +1,76 @@
+-- The first number that breaks a law.
+use Rattle.std.specs.Prelude.{◌≡◌, ◌≢◌, ℕ, suc, ◌+◌, ◌*◌, ◌<◌, ◌^◌, min, is_some, Option, Some, None, List, length, slice_get, slice_index_or}
+use Rattle.plan_model.specs.declared.geometry.Point.{Point}
+use Rattle.plan_model.specs.declared.records.Record.{Record}
+use Rattle.plan_model.specs.declared.trees.Knot.{Knot}
+use Rattle.plan_model.specs.Runs.Outcomes.{is_placed}
+use Rattle.plan_model.specs.Runs.Textbook.{Setup}
+use Rattle.plan_model.specs.Runs.Turns.{turns_of}
+use Rattle.plan_model.specs.Trees.PointsByNumber.{IsPresent, point_at}
+use Rattle.step_core.specs.PackedRuns.{state_of_lists}
+use Rattle.report_judge.specs.Texts.ReportLines.{Tally}
+use Rattle.report_judge.specs.Texts.ReportSheets.{PricedPath, head_lines}
+use Rattle.report_judge.specs.Laws.SheetLaws.{HasOwnTurn, KeepsNodeLaw}
+
+-- the first of the numbers below a limit that breaks a law; none if each of them keeps it
+abbrev pub IsFirstBreak : (ℕ → Type 0) → ℕ → Option ℕ → Type 0
+IsFirstBreak Keeps limit None = (k : ℕ) → k < limit → Keeps k
+IsFirstBreak Keeps limit (Some k) = (k < limit) × ((j : ℕ) → j < k → Keeps j) × ¬ Keeps k
+
+-- the lesser of two numbers, if there is any
+abbrev pub earlier_of : Option ℕ → Option ℕ → Option ℕ
+earlier_of None other = other
+earlier_of (Some one) None = Some one
+earlier_of (Some one) (Some other) = Some (min one other)
+
+-- no earlier number of the list is the one at this place
+abbrev pub IsNewKey : List ℕ → ℕ → Type 0
+IsNewKey keys k = (j : ℕ) → j < k → slice_index_or keys j 0 ≢ slice_index_or keys k 0
+
+-- ---- turns
+
+-- the worker and the turn of a record fit into one number
+pub record HasFewTurns (entry : Record) : Type 0 where
+  pub worker : entry.worker < 64
+  pub turn : entry.turn < 2 ^ 18
+
+-- the worker and the turn of a record as one number
+abbrev pub turn_key : Record → ℕ
+turn_key entry = entry.worker * 262144 + entry.turn
+
+-- the turn of mark k is below the number of its worker's marks
+abbrev pub HasLowTurn : List Record → ℕ → Type 0
+HasLowTurn records k = (entry : Record) → slice_get records k ≡ Some entry
+    → entry.turn < turns_of (slice_get records) (length records) entry.worker
+
+-- mark k has a turn of its own
+abbrev pub KeepsTurn : List Record → ℕ → Type 0
+KeepsTurn records k = (entry : Record) → slice_get records k ≡ Some entry → HasOwnTurn (length records) (slice_get records) k entry
+
+-- ---- nodes
+
+-- Where a node stands, as one number; if there is none, a greater one that is its own.
+abbrev pub point_key : ℕ → Option Knot → ℕ
+point_key n None = 2 ^ 40 + n
+point_key n (Some knot) = knot.point.x * 1048576 + knot.point.y
+
+-- node n, if it is present, keeps the law of nodes
+abbrev pub KeepsNode : Setup → List (Option Knot) → List Record → ℕ → Type 0
+KeepsNode setup knots records n = IsPresent (state_of_lists knots records).points n → KeepsNodeLaw setup (state_of_lists knots records) n
+
+-- ---- presence
+
+-- mark k has a node exactly if it was placed
+abbrev pub KeepsPresence : List (Option Knot) → List Record → ℕ → Type 0
+KeepsPresence knots records k = (entry : Record) → slice_get records k ≡ Some entry
+    → is_some (point_at (state_of_lists knots records).points (suc k)) ≡ is_placed entry.outcome
+
+-- ---- the head
+
+-- line i of the head is the one of the own head
+abbrev pub KeepsHead : Option PricedPath → Tally → Option PricedPath → Tally → ℕ → Type 0
+KeepsHead path tally own counts i = slice_get (head_lines path tally) i ≡ slice_get (head_lines own counts) i
+
+-- point i of a path is the one of the own path
+abbrev pub KeepsPoint : List Point → List Point → ℕ → Type 0
+KeepsPoint points own i = slice_get points i ≡ slice_get own i

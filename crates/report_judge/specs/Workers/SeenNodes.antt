@@ -1,0 +1,70 @@
+-- What a worker has seen of its own nodes before each of its turns: how many there are, and what those in a goal cost at first.
+use Rattle.std.specs.Prelude.{◌≡◌, ℕ, zero, suc, ◌<◌, ◌≤◌, ◌==◌, ◌&&◌, nat_lt, Bool, true, false, Option, Some, None}
+use Rattle.std.specs.Prelude.{List, length, count_by, slice_get, slice_index_or}
+use Rattle.std.specs.List.{range_with_len}
+use Rattle.plan_model.specs.declared.geometry.Goal.{Goal}
+use Rattle.plan_model.specs.declared.records.Record.{Record}
+use Rattle.plan_model.specs.Runs.Outcomes.{is_placed}
+use Rattle.plan_model.specs.Trees.BestNode.{IsGoalNode}
+use Rattle.plan_model.specs.Trees.TreeStates.{TreeState, first_cost_of}
+use Rattle.report_judge.specs.declared.own.own_turns.OwnTurns.{OwnTurns}
+use Rattle.report_judge.specs.declared.own.seen_nodes.Seen.{Seen}
+
+-- ---- turns of a worker
+
+-- the record is of turn t of this worker
+pub record IsTurnOf (own t : ℕ) (entry : Record) : Type 0 where
+  pub worker : entry.worker ≡ own
+  pub turn : entry.turn ≡ t
+
+-- the mark that the worker handled in this turn, or that there is none
+abbrev pub IsMarkOfTurn : List Record → ℕ → ℕ → Option ℕ → Type 0
+IsMarkOfTurn records worker turn None = (k : ℕ) (entry : Record) → slice_get records k ≡ Some entry → ¬ IsTurnOf worker turn entry
+IsMarkOfTurn records worker turn (Some mark) = (entry : Record) × (slice_get records mark ≡ Some entry) × IsTurnOf worker turn entry
+
+-- the marks of the worker by its turns
+abbrev pub AreMarksByTurn : List Record → ℕ → List (Option ℕ) → Type 0
+AreMarksByTurn records worker order = (turn : ℕ) → turn < length order → IsMarkOfTurn records worker turn (slice_index_or order turn None)
+
+-- the same of what is kept of a worker
+abbrev pub AreTurnsOf : List Record → OwnTurns → Type 0
+AreTurnsOf records turns = AreMarksByTurn records turns.worker turns.marks.items
+
+-- no two marks have the same turn of the same worker
+abbrev pub HaveOwnTurns : List Record → Type 0
+HaveOwnTurns records = (j k : ℕ) (one other : Record) → slice_get records j ≡ Some one → slice_get records k ≡ Some other
+    → one.worker ≡ other.worker → one.turn ≡ other.turn → j ≡ k
+
+-- ---- nodes before a turn
+
+-- the record is of a mark that the worker placed before this turn
+abbrev pub places_before : ℕ → ℕ → Option Record → Bool
+places_before worker turn None = false
+places_before worker turn (Some other) = is_placed other.outcome && (other.worker == worker && nat_lt other.turn turn)
+
+-- node n is the start, or one that the worker placed before this turn
+abbrev pub is_before : ℕ → ℕ → (ℕ → Option Record) → ℕ → Bool
+is_before worker turn record_of zero = true
+is_before worker turn record_of (suc k) = places_before worker turn (record_of k)
+
+-- how many nodes the worker had before this turn, the start among them
+abbrev pub count_before : TreeState → ℕ → ℕ → ℕ
+count_before state worker turn = count_by (is_before worker turn state.record_of) (range_with_len 0 (length state.points))
+
+-- the least first cost of the goal nodes before this turn
+pub record IsLeastGoalCost (goals : List Goal) (state : TreeState) (worker turn cost : ℕ) : Type 0 where
+  pub node : ℕ
+  pub before : is_before worker turn state.record_of node ≡ true
+  pub goal : IsGoalNode goals state.points node
+  pub reached : first_cost_of state node ≡ cost
+  pub least : (i : ℕ) → is_before worker turn state.record_of i ≡ true → IsGoalNode goals state.points i → cost ≤ first_cost_of state i
+
+-- the same, if there is such a node
+abbrev pub IsLeastIfAny : List Goal → TreeState → ℕ → ℕ → Option ℕ → Type 0
+IsLeastIfAny goals state worker turn None = (i : ℕ) → is_before worker turn state.record_of i ≡ true → ¬ IsGoalNode goals state.points i
+IsLeastIfAny goals state worker turn (Some cost) = IsLeastGoalCost goals state worker turn cost
+
+-- What the worker had of its own nodes before this turn.
+pub record AreSeen (goals : List Goal) (state : TreeState) (worker turn : ℕ) (seen : Seen) : Type 0 where
+  pub counted : seen.nodes ≡ count_before state worker turn
+  pub least : IsLeastIfAny goals state worker turn seen.least

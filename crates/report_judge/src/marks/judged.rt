@@ -1,0 +1,38 @@
+//! What marks are judged by.
+
+use crate::own::standings::Standing;
+use edge_cost::Radii;
+use plan_model::{Knot, Record};
+use point_strips::Strips;
+
+/// The nodes and the records of a report.
+#[derive(Clone, Copy)]
+pub(crate) struct Listed<'a> {
+    /// The nodes by number.
+    pub knots: &'a [Option<Knot>],
+    /// The records by mark.
+    pub records: &'a [Record],
+    /// How many nodes there are.
+    pub nodes: u32,
+    /// The rewiring radii of the scene.
+    pub radii: &'a Radii,
+}
+
+/// The nodes and the records of a report, with the nodes of a worker that stood before a turn.
+#[derive(Clone, Copy)]
+pub(crate) struct Judged<'a> {
+    /// The nodes by number.
+    pub knots: &'a [Option<Knot>],
+    /// The records by mark.
+    pub records: &'a [Record],
+    /// The turn.
+    pub turns: u32,
+    /// The nodes of the worker before it, each by its place; the start is among them.
+    pub own: &'a Strips,
+    /// The standings of the worker's nodes, by place.
+    pub standings: &'a [Standing],
+    /// How many nodes there are.
+    pub nodes: u32,
+    /// The rewiring radii of the scene.
+    pub radii: &'a Radii,
+}

@@ -1,0 +1,229 @@
+//! Whether the record of a mark keeps the law of records.
+
+ghost use Rattle.std.specs.Prelude.{◌≡◌, ◌↔◌, ◌<◌, ◌≤◌, IsFalse, IsTrue};
+ghost use Rattle.plan_model.specs.Geometry.Bounds.{IsBounded};
+ghost use Rattle.plan_model.specs.Geometry.Radius.{radius_of_class};
+ghost use Rattle.plan_model.specs.Runs.RecordLaw.{HasClass, earlier_count, IsBlockedLawfully, IsChosenLawfully};
+ghost use Rattle.plan_model.specs.Runs.RecordLaw.{IsLawfulRecord, IsSkippedLawfully, IsSteeredLawfully};
+ghost use Rattle.plan_model.specs.Runs.Textbook.{Setup, mark_bound, setup_of, skipping_goals};
+ghost use Rattle.plan_model.specs.Spaces.Clearance.{Clear};
+ghost use Rattle.plan_model.specs.Trees.PointsByNumber.{IsPresent, node_count, point_of};
+ghost use Rattle.plan_model.specs.declared.limits.TheConstants.{MOST_MARKS};
+ghost use Rattle.report_judge.specs.Workers.JudgedRuns.{IsAsked, IsJudged, run_of};
+ghost use Rattle.report_judge.specs.Workers.MarkLaws.{AreDearer, EndsLawfully};
+ghost use Rattle.report_judge.specs.Workers.OwnNodes.{IsNearestOfEarlier};
+ghost use Rattle.report_judge.specs.Workers.SeenNodes.{AreSeen};
+ghost use Rattle.report_judge.specs.declared.marks.judged.Judged.{Judged};
+ghost use Rattle.plan_model.specs.declared.records.Record.{Record};
+
+use crate::marks::judged::Judged;
+use crate::marks::placed_marks::{hangs_lawfully, stands_at};
+use crate::own::searches::{is_nearest, is_nearest_and_keeps_near, is_taken};
+use crate::own::seen_nodes::Seen;
+use crate::trees::exact_edges::knot_at;
+use edge_cost::{bound, class, steer};
+use grown_runs::lies_in_goals;
+use plan_model::{Outcome, Point, Record, Scene};
+use swept_check::Clearing;
+
+/// Whether the record of a mark keeps the law of records. `seen` is what stood before its turn. O(k + s log n) on average besides segments,
+/// for k nodes near the mark or near its node, of n nodes of its worker in s strips.
+pub(crate) fn is_lawful<C: Clearing>(
+    scene: &Scene,
+    hall: &C,
+    judged: &Judged<'_>,
+    seen: Seen,
+    mark: u32,
+    entry: Record,
+    point: Point,
+) -> bool
+    requires asked { IsAsked (C.space hall.now) scene.now judged.now entry point }
+    requires low { mark < MOST_MARKS }
+    requires seen { AreSeen (skipping_goals scene.now) (run_of judged.now) entry.worker entry.turn seen }
+    ensures lawful { IsTrue result → IsLawfulRecord (setup_of scene.now) (run_of judged.now) mark point entry }
+    ensures only { IsFalse result → ¬ IsLawfulRecord (setup_of scene.now) (run_of judged.now) mark point entry }
+{
+    match entry.outcome {
+        Outcome::Skipped => is_skipped_lawfully(scene, judged, entry, point),
+        _ => is_steered_lawfully(scene, hall, judged, seen, mark, entry, point),
+    }
+}
+
+/// Whether a mark was skipped by a goal node that costs no more than the bound of the mark.
+fn is_skipped_lawfully(scene: &Scene, judged: &Judged<'_>, entry: Record, point: Point) -> bool
+    requires point { IsBounded point }
+    ensures lawful { IsTrue result → IsSkippedLawfully (setup_of scene.now) (run_of judged.now) point entry }
+    ensures only { IsFalse result → ¬ IsSkippedLawfully (setup_of scene.now) (run_of judged.now) point entry }
+{
+    if !scene.informed {
+        return false;
+    }
+    let Some(goal) = knot_at(judged.knots, entry.nearest) else {
+        return false;
+    };
+    lies_in_goals(scene.goals.as_slice(), goal.point)
+        && goal.cost <= bound(scene.start, scene.goals.as_slice(), point)
+}
+
+/// Whether a mark may lead to a cheaper path, was steered to by the nearest node, and ended as its record says.
+fn is_steered_lawfully<C: Clearing>(
+    scene: &Scene,
+    hall: &C,
+    judged: &Judged<'_>,
+    seen: Seen,
+    mark: u32,
+    entry: Record,
+    point: Point,
+) -> bool
+    requires asked { IsAsked (C.space hall.now) scene.now judged.now entry point }
+    requires low { mark < MOST_MARKS }
+    requires seen { AreSeen (skipping_goals scene.now) (run_of judged.now) entry.worker entry.turn seen }
+    ensures lawful { IsTrue result → IsSteeredLawfully (setup_of scene.now) (run_of judged.now) point entry
+        (EndsLawfully (setup_of scene.now) (run_of judged.now) mark entry entry.outcome) }
+    ensures only { IsFalse result → ¬ IsSteeredLawfully (setup_of scene.now) (run_of judged.now) point entry
+        (EndsLawfully (setup_of scene.now) (run_of judged.now) mark entry entry.outcome) }
+{
+    let Some(nearest) = knot_at(judged.knots, entry.nearest) else {
+        return false;
+    };
+    if !may_be_cheaper(scene, seen, point) {
+        return false;
+    }
+    let p = steer(nearest.point, point, scene.step);
+    ends_lawfully(scene, hall, judged, seen, mark, entry, point, p)
+}
+
+/// Whether each goal node that stood before a mark was placed at more than the bound of the mark.
+fn may_be_cheaper(scene: &Scene, seen: Seen, point: Point) -> bool
+    requires point { IsBounded point }
+    ensures { (judged : Judged) (entry : Record) → AreSeen (skipping_goals scene.now) (run_of judged) entry.worker entry.turn seen
+        → (IsTrue result ↔ AreDearer (setup_of scene.now) (run_of judged) entry (mark_bound (setup_of scene.now) point)) }
+{
+    let Some(least) = seen.least else {
+        return true;
+    };
+    if !scene.informed {
+        return true;
+    }
+    bound(scene.start, scene.goals.as_slice(), point) < least
+}
+
+/// Whether a mark that was steered to `p` was steered by the nearest node, and ended as its record says.
+fn ends_lawfully<C: Clearing>(
+    scene: &Scene,
+    hall: &C,
+    judged: &Judged<'_>,
+    seen: Seen,
+    mark: u32,
+    entry: Record,
+    point: Point,
+    p: Point,
+) -> bool
+    requires asked { IsAsked (C.space hall.now) scene.now judged.now entry p }
+    requires point { IsBounded point }
+    requires low { mark < MOST_MARKS }
+    requires seen { AreSeen (skipping_goals scene.now) (run_of judged.now) entry.worker entry.turn seen }
+    requires nearest { IsPresent (run_of judged.now).points entry.nearest }
+    ensures lawful { IsTrue result → EndsLawfully (setup_of scene.now) (run_of judged.now) mark entry entry.outcome p }
+    ensures nearest { IsTrue result → IsNearestOfEarlier (run_of judged.now) entry point }
+    ensures only { IsFalse result → IsNearestOfEarlier (run_of judged.now) entry point
+        → ¬ EndsLawfully (setup_of scene.now) (run_of judged.now) mark entry entry.outcome p }
+{
+    match entry.outcome {
+        Outcome::Placed => {
+            is_chosen_lawfully(scene, hall, judged, seen, entry, point, p)
+                && hangs_lawfully(scene, hall, judged, mark, entry, p)
+        }
+        Outcome::Same(node) => is_nearest(hall, judged, entry, point)
+            && stands_at(judged.knots, node, p),
+        Outcome::Blocked => {
+            is_nearest(hall, judged, entry, point) && is_blocked_lawfully(hall, judged, entry, p)
+        }
+        Outcome::Skipped => false,
+    }
+}
+
+/// Whether the segment to `p` is not clear, and no node that stood already stands there.
+fn is_blocked_lawfully<C: Clearing>(hall: &C, judged: &Judged<'_>, entry: Record, p: Point) -> bool
+    requires judged { IsJudged entry.worker judged.now }
+    requires turn { entry.turn ≤ judged.now.turns }
+    requires p { IsBounded p }
+    requires nearest { IsPresent (run_of judged.now).points entry.nearest }
+    ensures lawful { IsTrue result → (setup : Setup) → setup.space ≡ C.space hall.now → IsBlockedLawfully setup (run_of judged.now) entry p }
+    ensures only { IsFalse result → (setup : Setup) → setup.space ≡ C.space hall.now → ¬ IsBlockedLawfully setup (run_of judged.now) entry p }
+{
+    if is_clear_from_nearest(hall, judged, entry, p) {
+        return false;
+    }
+    if is_taken(hall, judged, entry, p) {
+        return false;
+    }
+    true
+}
+
+/// Whether the segment from the nearest node of a record to `p` is clear.
+fn is_clear_from_nearest<C: Clearing>(
+    hall: &C,
+    judged: &Judged<'_>,
+    entry: Record,
+    p: Point,
+) -> bool
+    requires nearest { IsPresent (run_of judged.now).points entry.nearest }
+    ensures { IsTrue result ↔ Clear (C.space hall.now) (point_of (run_of judged.now).points entry.nearest) p }
+{
+    match knot_at(judged.knots, entry.nearest) {
+        Some(nearest) => hall.clear(nearest.point, p),
+        None => false,
+    }
+}
+
+/// Whether what the worker of a placed mark knows allows its record: the mark was steered by the nearest node, the segment is clear, the
+/// class is that of a number of nodes that it may have counted, no neighbour was a cheaper parent, and none stays dearer than by way of the
+/// new node.
+fn is_chosen_lawfully<C: Clearing>(
+    scene: &Scene,
+    hall: &C,
+    judged: &Judged<'_>,
+    seen: Seen,
+    entry: Record,
+    point: Point,
+    p: Point,
+) -> bool
+    requires asked { IsAsked (C.space hall.now) scene.now judged.now entry p }
+    requires point { IsBounded point }
+    requires seen { AreSeen (skipping_goals scene.now) (run_of judged.now) entry.worker entry.turn seen }
+    requires nearest { IsPresent (run_of judged.now).points entry.nearest }
+    ensures lawful { IsTrue result → IsChosenLawfully (setup_of scene.now) (run_of judged.now) entry p (node_count (run_of judged.now).points) }
+    ensures nearest { IsTrue result → IsNearestOfEarlier (run_of judged.now) entry point }
+    ensures only { IsFalse result → IsNearestOfEarlier (run_of judged.now) entry point
+        → ¬ IsChosenLawfully (setup_of scene.now) (run_of judged.now) entry p (node_count (run_of judged.now).points) }
+{
+    if !has_class(judged, seen, entry) {
+        return false;
+    }
+    if !is_clear_from_nearest(hall, judged, entry, p) {
+        return false;
+    }
+    let radius = radius_of_class(judged, entry.class);
+    is_nearest_and_keeps_near(hall, judged, entry, point, p, radius)
+}
+
+/// Whether the class of a record is that of a number of nodes between those that stood already and all of them.
+fn has_class(judged: &Judged<'_>, seen: Seen, entry: Record) -> bool
+    requires judged { IsJudged entry.worker judged.now }
+    requires seen { seen.nodes ≡ earlier_count (run_of judged.now) entry }
+    ensures class { IsTrue result → HasClass (run_of judged.now) entry (node_count (run_of judged.now).points) }
+    ensures only { IsFalse result → ¬ HasClass (run_of judged.now) entry (node_count (run_of judged.now).points) }
+    ensures range { IsTrue result → (1 ≤ entry.class) × (entry.class ≤ 19) }
+{
+    class(u64::from(seen.nodes)) <= entry.class && entry.class <= class(u64::from(judged.nodes))
+}
+
+/// The radius of a class.
+fn radius_of_class(judged: &Judged<'_>, class: u32) -> u32
+    requires low { 1 ≤ class }
+    requires high { class ≤ 19 }
+    ensures { result ≡ radius_of_class judged.now.radii.now.step judged.now.radii.now.gamma class }
+{
+    judged.radii.at(1 << (class - 1))
+}

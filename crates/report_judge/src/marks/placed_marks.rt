@@ -1,0 +1,89 @@
+//! Whether what the record of a placed mark says is borne out by the tree.
+
+ghost use Rattle.std.specs.Prelude.{◌<◌, IsFalse, IsTrue, List};
+ghost use Rattle.plan_model.specs.Geometry.Bounds.{IsBounded};
+ghost use Rattle.plan_model.specs.Runs.RecordLaw.{HangsLawfully};
+ghost use Rattle.plan_model.specs.Runs.Textbook.{setup_of};
+ghost use Rattle.plan_model.specs.Trees.PointsByNumber.{IsPresent, StandsAt};
+ghost use Rattle.plan_model.specs.declared.limits.TheConstants.{MOST_MARKS};
+ghost use Rattle.plan_model.specs.declared.records.Record.{Record};
+ghost use Rattle.step_core.specs.PackedRuns.{state_of_lists};
+ghost use Rattle.report_judge.specs.Workers.JudgedRuns.{IsAsked, IsJudged, run_of};
+ghost use Rattle.report_judge.specs.Workers.MarkLaws.{IsWithinFirst};
+
+use crate::marks::judged::Judged;
+use crate::trees::best_paths::kept_cost;
+use crate::trees::exact_edges::knot_at;
+use crate::trees::hanging::{first_cost, may_hang};
+use edge_cost::cost;
+use plan_model::{Knot, Point, Record, Scene};
+use swept_check::Clearing;
+
+/// Whether the node of a mark hangs as the record says: it stands at `p`, may hang below its first parent at its first cost, which is at
+/// most that by way of this parent or of the nearest node as they were placed, and at most a longest edge for each other node; and it costs
+/// no more now. O(1) besides a segment.
+pub(crate) fn hangs_lawfully<C: Clearing>(
+    scene: &Scene,
+    hall: &C,
+    judged: &Judged<'_>,
+    mark: u32,
+    entry: Record,
+    p: Point,
+) -> bool
+    requires asked { IsAsked (C.space hall.now) scene.now judged.now entry p }
+    requires low { mark < MOST_MARKS }
+    requires nearest { IsPresent (run_of judged.now).points entry.nearest }
+    ensures lawful { IsTrue result → HangsLawfully (setup_of scene.now) (run_of judged.now) mark entry p }
+    ensures only { IsFalse result → ¬ HangsLawfully (setup_of scene.now) (run_of judged.now) mark entry p }
+{
+    let node = mark + 1;
+    if !stands_at(judged.knots, node, p) {
+        return false;
+    }
+    if kept_cost(judged.knots, node) > entry.first_cost {
+        return false;
+    }
+    if entry.nearest == node {
+        return false;
+    }
+    if entry.first_cost > 256 * u64::from(scene.step) * u64::from(judged.nodes - 1) {
+        return false;
+    }
+    if !is_within_first(judged, entry, entry.nearest, p) {
+        return false;
+    }
+    if !is_within_first(judged, entry, entry.first_parent, p) {
+        return false;
+    }
+    let place = Knot {
+        point: p,
+        parent: entry.first_parent,
+        cost: entry.first_cost,
+    };
+    let squared_step = u64::from(scene.step) * u64::from(scene.step);
+    may_hang(hall, squared_step, judged.knots, node, place)
+}
+
+/// Whether a node is present and stands at a point.
+pub(crate) fn stands_at(knots: &[Option<Knot>], node: u32, p: Point) -> bool
+    ensures stands { IsTrue result → (records : List Record) → StandsAt (state_of_lists knots.now records).points node p }
+    ensures only { IsFalse result → (records : List Record) → ¬ StandsAt (state_of_lists knots.now records).points node p }
+{
+    match knot_at(knots, node) {
+        Some(knot) => knot.point == p,
+        None => false,
+    }
+}
+
+/// Whether a node is present, and the way by it to `p`, as it was placed, costs at least the first cost of a record.
+fn is_within_first(judged: &Judged<'_>, entry: Record, node: u32, p: Point) -> bool
+    requires judged { IsJudged entry.worker judged.now }
+    requires p { IsBounded p }
+    ensures within { IsTrue result → IsWithinFirst (run_of judged.now) entry.first_cost node p }
+    ensures only { IsFalse result → ¬ IsWithinFirst (run_of judged.now) entry.first_cost node p }
+{
+    match knot_at(judged.knots, node) {
+        Some(knot) => entry.first_cost <= first_cost(judged.records, node) + cost(knot.point, p),
+        None => false,
+    }
+}
