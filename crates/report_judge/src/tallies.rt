@@ -2,13 +2,15 @@
 
 ghost use Rattle.std.specs.Prelude.{◌≡◌, ◌≤◌, ℕ, List, Option, length, slice_get};
 ghost use Rattle.plan_model.specs.Runs.ClosedLaw.{outcome_count};
-ghost use Rattle.plan_model.specs.Runs.Outcomes.{is_blocked, is_placed, is_same, is_skipped};
+ghost use Rattle.plan_model.specs.Runs.Outcomes.{is_blocked, is_placed, is_same};
 ghost use Rattle.plan_model.specs.declared.limits.TheConstants.{MOST_MARKS};
 ghost use Rattle.plan_model.specs.declared.trees.Knot.{Knot};
+ghost use Rattle.settle_report.specs.OutcomeCounts.{AreCounts};
 ghost use Rattle.step_core.specs.PackedRuns.{state_of_lists};
 ghost use Rattle.report_judge.specs.Laws.SheetLaws.{skipped_of};
 
-use plan_model::{Outcome, Record};
+use plan_model::Record;
+use settle_report::OutcomeCounts;
 
 /// The counts of a report: of nodes, and of marks by what became of them.
 #[derive(Clone, Copy, PartialEq, Eq)]
@@ -45,36 +47,14 @@ pub(crate) fn counted(informed: bool, nodes: u32, records: &[Record]) -> Tally
     }
 }
 
-/// How many marks had each outcome.
-#[derive(Clone, Copy)]
-struct Counts {
-    placed: u64,
-    same: u64,
-    blocked: u64,
-    skipped: u64,
-}
-
 /// The outcomes of marks, counted.
-fn counts_of(records: &[Record]) -> Counts
+fn counts_of(records: &[Record]) -> OutcomeCounts
     requires { length records.now ≤ MOST_MARKS }
-    ensures placed { result.placed ≡ outcome_count (slice_get records.now) (length records.now) is_placed }
-    ensures same { result.same ≡ outcome_count (slice_get records.now) (length records.now) is_same }
-    ensures blocked { result.blocked ≡ outcome_count (slice_get records.now) (length records.now) is_blocked }
-    ensures skipped { result.skipped ≡ outcome_count (slice_get records.now) (length records.now) is_skipped }
+    ensures { AreCounts (slice_get records.now) (length records.now) result }
 {
-    let mut counts = Counts {
-        placed: 0,
-        same: 0,
-        blocked: 0,
-        skipped: 0,
-    };
+    let mut counts = OutcomeCounts::NONE;
     for entry in records {
-        match entry.outcome {
-            Outcome::Placed => counts.placed += 1,
-            Outcome::Same(_) => counts.same += 1,
-            Outcome::Blocked => counts.blocked += 1,
-            Outcome::Skipped => counts.skipped += 1,
-        }
+        counts.count(entry.outcome);
     }
     counts
 }

@@ -1,30 +1,35 @@
 -- The outcomes of the marks below a limit, counted one mark at a time.
-use Rattle.std.proofs.Common.{◌≡◌, ℕ, suc, ◌+◌, Bool, true, false, cond, Option, Some, arith, ap, ◌∙◌}
+use Rattle.std.proofs.Common.{◌≡◌, ℕ, suc, ◌+◌, Bool, cond, Option, Some, arith, refl, ap, ◌∙◌}
 use Rattle.plan_model.specs.declared.records.Outcome.{Outcome}
+use Rattle.plan_model.specs.declared.records.Outcome.TheVariants.{Placed, Same, Blocked, Skipped}
 use Rattle.plan_model.specs.declared.records.Record.{Record}
 use Rattle.plan_model.specs.Runs.ClosedLaw.{has_outcome, outcome_count}
+use Rattle.plan_model.specs.Runs.Outcomes.{is_placed, is_same, is_blocked, is_skipped}
 use Rattle.plan_model.proofs.CountsBelow.{count-more}
+use Rattle.settle_report.specs.OutcomeCounts.{AreCounts, with_outcome}
+use Rattle.settle_report.specs.declared.outcome_counts.OutcomeCounts.{OutcomeCounts}
 
-module _
-    (record_of : ℕ → Option Record) (mark : ℕ) (entry : Record) (outcome : Outcome) (found : record_of mark ≡ Some entry)
-    (came : entry.outcome ≡ outcome) where
-  -- the mark counts if its outcome passes the test
-  outcome_count-next :
-      (test : Outcome → Bool) (counts : Bool) → test outcome ≡ counts
-      → outcome_count record_of (mark + 1) test ≡ outcome_count record_of mark test + cond counts 1 0
-  outcome_count-next test counts tested =
-      let next : mark + 1 ≡ suc mark = omega arith in
-      ap (λ n. outcome_count record_of n test) next
-      ∙ count-more (λ k. has_outcome test (record_of k)) mark
-      ∙ ap (λ b. outcome_count record_of mark test + cond b 1 0)
-      (ap (has_outcome test) found ∙ ap test came ∙ tested)
+-- a mark counts once
+counts_once : (o : Outcome) → ((cond (is_placed o) 1 0 + cond (is_same o) 1 0) + cond (is_blocked o) 1 0) + cond (is_skipped o) 1 0 ≡ 1
+counts_once Placed = refl
+counts_once (Same j) = refl
+counts_once Blocked = refl
+counts_once Skipped = refl
 
-  pub counted-here :
-      (test : Outcome → Bool) (count : ℕ) → test outcome ≡ true → count ≡ outcome_count record_of mark test
-      → count + 1 ≡ outcome_count record_of (mark + 1) test
-  counted-here test count tested before = omega (arith, outcome_count-next test true tested, before)
-
-  pub counted-elsewhere :
-      (test : Outcome → Bool) (count : ℕ) → test outcome ≡ false → count ≡ outcome_count record_of mark test
-      → count ≡ outcome_count record_of (mark + 1) test
-  counted-elsewhere test count tested before = omega (arith, outcome_count-next test false tested, before)
+-- one mark more is counted
+pub AreCounts-next :
+    (record_of : ℕ → Option Record) (k : ℕ) (entry : Record) (counts : OutcomeCounts) → record_of k ≡ Some entry → AreCounts record_of k counts
+    → AreCounts record_of (k + 1) (with_outcome counts entry.outcome)
+AreCounts-next record_of k entry counts found before =
+    let next : (test : Outcome → Bool) → outcome_count record_of (k + 1) test ≡ outcome_count record_of k test + cond (test entry.outcome) 1 0 =
+    λ test.
+    let more : k + 1 ≡ suc k = omega arith in
+    ap (λ n. outcome_count record_of n test) more ∙ count-more (λ n. has_outcome test (record_of n)) k
+    ∙ ap (λ o. outcome_count record_of k test + cond (has_outcome test o) 1 0) found in
+    record {
+      placed = omega (arith, next is_placed, before.placed);
+      same = omega (arith, next is_same, before.same);
+      blocked = omega (arith, next is_blocked, before.blocked);
+      skipped = omega (arith, next is_skipped, before.skipped);
+      all = omega (arith, before.all, counts_once entry.outcome);
+    }

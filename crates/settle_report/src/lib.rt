@@ -16,6 +16,7 @@ mod best_node;
 mod delivery;
 mod mark_lines;
 mod node_lines;
+mod outcome_counts;
 mod paths;
 mod reports;
 mod settling;
@@ -24,6 +25,7 @@ pub use best_node::best;
 pub use delivery::deliver;
 pub use mark_lines::push_mark_line;
 pub use node_lines::push_node_line;
+pub use outcome_counts::OutcomeCounts;
 pub use paths::{path_back, path_to};
 pub use reports::{
     push_counts_line, push_path_line, push_point_lines, report, report_along, report_by_best,

@@ -3,20 +3,19 @@
 
 ghost use Rattle.std.specs.Prelude.{◌≡◌, [], ◌∷◌, ◌++◌, IfOk, IfSome, OnOk, codes, decimal, string_bytes};
 ghost use Rattle.plan_model.specs.Trees.BestNode.{best_node, goals_of};
-ghost use Rattle.plan_model.specs.Runs.ClosedLaw.{outcome_count};
-ghost use Rattle.plan_model.specs.Runs.Outcomes.{is_blocked, is_placed, is_same, is_skipped};
 ghost use Rattle.plan_model.specs.Trees.PointsByNumber.{IsPresent};
 ghost use Rattle.plan_model.specs.Reports.ReportText as spec;
 ghost use Rattle.plan_model.specs.Reports.ReportText.{line, report_text, summary};
 ghost use Rattle.plan_model.specs.Trees.TreeStates.{IsSettled};
-ghost use Rattle.grown_runs.specs.Runs.GrownRuns.{state_of_grown};
+ghost use Rattle.settle_report.specs.OutcomeCounts.{AreCounts};
+ghost use Rattle.step_core.specs.GrownRuns.{state_of_grown};
 
 use crate::best_node::best;
 use crate::mark_lines::push_mark_lines;
 use crate::node_lines::push_node_lines;
+use crate::outcome_counts::OutcomeCounts;
 use crate::paths::path_to;
-use grown_runs::Grown;
-use plan_model::{Memory, Outcome, Point};
+use plan_model::{Memory, Point};
 use std::alloc::{AllocError, Global};
 
 /// The report of a settled run. The short one is the cheapest path from the start into a goal, or that there is none, and
@@ -171,35 +170,13 @@ fn push_point_line(text: &mut String, point: Point) -> Result<(), AllocError>
     write!(text, "{} {}\n", point.x, point.y)
 }
 
-/// How many marks had each outcome.
-#[derive(Clone, Copy, Debug, PartialEq, Eq)]
-struct Counts {
-    placed: usize,
-    same: usize,
-    blocked: usize,
-    skipped: usize,
-}
-
 /// The outcomes of the marks below the limit, counted.
-fn counts_of(grown: &Grown) -> Counts
-    ensures placed { result.placed ≡ outcome_count (state_of_grown grown.now).record_of grown.now.limit is_placed }
-    ensures same { result.same ≡ outcome_count (state_of_grown grown.now).record_of grown.now.limit is_same }
-    ensures blocked { result.blocked ≡ outcome_count (state_of_grown grown.now).record_of grown.now.limit is_blocked }
-    ensures skipped { result.skipped ≡ outcome_count (state_of_grown grown.now).record_of grown.now.limit is_skipped }
+fn counts_of(grown: &Grown) -> OutcomeCounts
+    ensures { AreCounts (state_of_grown grown.now).record_of grown.now.limit result }
 {
-    let mut counts = Counts {
-        placed: 0,
-        same: 0,
-        blocked: 0,
-        skipped: 0,
-    };
+    let mut counts = OutcomeCounts::NONE;
     for mark in 0..grown.limit() {
-        match grown.record_of(mark).outcome {
-            Outcome::Placed => counts.placed += 1,
-            Outcome::Same(_) => counts.same += 1,
-            Outcome::Blocked => counts.blocked += 1,
-            Outcome::Skipped => counts.skipped += 1,
-        }
+        counts.count(grown.record_of(mark).outcome);
     }
     counts
 }
@@ -222,7 +199,11 @@ pub fn push_counts_line(text: &mut String, grown: &Grown) -> Result<(), AllocErr
 }
 
 /// The counts of a scene in which marks may be skipped.
-fn push_counts_with_skipped(text: &mut String, nodes: u32, counts: Counts) -> Result<(), AllocError>
+fn push_counts_with_skipped(
+    text: &mut String,
+    nodes: u32,
+    counts: OutcomeCounts,
+) -> Result<(), AllocError>
     ensures { OnOk result (string_bytes text.new ≡ string_bytes text.old ++ line (
         codes "nodes" ∷ decimal nodes ∷ codes "placed" ∷ decimal counts.placed ∷ codes "same" ∷ decimal counts.same
         ∷ codes "blocked" ∷ decimal counts.blocked ∷ codes "skipped" ∷ decimal counts.skipped ∷ [])) }
@@ -235,7 +216,7 @@ fn push_counts_with_skipped(text: &mut String, nodes: u32, counts: Counts) -> Re
 }
 
 /// The counts of a scene in which no mark is skipped.
-fn push_counts(text: &mut String, nodes: u32, counts: Counts) -> Result<(), AllocError>
+fn push_counts(text: &mut String, nodes: u32, counts: OutcomeCounts) -> Result<(), AllocError>
     ensures { OnOk result (string_bytes text.new ≡ string_bytes text.old ++ line (
         codes "nodes" ∷ decimal nodes ∷ codes "placed" ∷ decimal counts.placed ∷ codes "same" ∷ decimal counts.same
         ∷ codes "blocked" ∷ decimal counts.blocked ∷ [])) }
