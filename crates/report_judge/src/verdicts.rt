@@ -158,7 +158,7 @@ fn turn_verdict(alloc: Global, task: &Task, sheet: &SheetRead) -> Result<Option<
 {
     let first = first_wrong_turn(alloc, &sheet.records)?;
     match first {
-        Some(mark) => Ok(Some(broken_mark(sheet, mark, TURNS))),
+        Some(k) => Ok(Some(broken_mark(sheet, k, TURNS))),
         None => Ok(None),
     }
 }
@@ -173,7 +173,7 @@ fn presence_verdict(task: &Task, sheet: &SheetRead) -> Option<Verdict>
     ensures kept { IfNone result (KeepsLaw task.now (sheet_read sheet.now) 4) }
 {
     match first_unlike(&sheet.knots, &sheet.records) {
-        Some(mark) => Some(broken_mark(sheet, mark, PRESENCE)),
+        Some(k) => Some(broken_mark(sheet, k, PRESENCE)),
         None => None,
     }
 }
@@ -196,7 +196,7 @@ fn record_verdict<C: Clearing>(
 {
     let first = first_unlawful(alloc, task, hall, &sheet.knots, &sheet.records)?;
     match first {
-        Some(mark) => Ok(Some(broken_mark(sheet, mark, RECORDS))),
+        Some(k) => Ok(Some(broken_mark(sheet, k, RECORDS))),
         None => Ok(None),
     }
 }
@@ -232,21 +232,21 @@ fn node_line(sheet: &SheetRead, node: usize) -> usize
 }
 
 /// The line of a mark, counted from 1.
-fn mark_line(sheet: &SheetRead, mark: usize) -> usize
+fn mark_line(sheet: &SheetRead, k: usize) -> usize
     requires few { length sheet.now.knots.items ≤ MOST_NODES }
-    requires low { number_of_mark_line (sheet_read sheet.now) mark < 4294967296 }
-    ensures { result ≡ number_of_mark_line (sheet_read sheet.now) mark }
+    requires low { number_of_mark_line (sheet_read sheet.now) k < 4294967296 }
+    ensures { result ≡ number_of_mark_line (sheet_read sheet.now) k }
 {
-    path_line_count(&sheet.path) + 1 + present_count(&sheet.knots) as usize + mark + 1
+    path_line_count(&sheet.path) + 1 + present_count(&sheet.knots) as usize + k + 1
 }
 
 /// The verdict that a law is broken at the line of a mark.
-fn broken_mark(sheet: &SheetRead, mark: usize, law: u8) -> Verdict
+fn broken_mark(sheet: &SheetRead, k: usize, law: u8) -> Verdict
     requires few { length sheet.now.knots.items ≤ MOST_NODES }
-    requires low { number_of_mark_line (sheet_read sheet.now) mark < 4294967296 }
-    ensures { result ≡ Broken (number_of_mark_line (sheet_read sheet.now) mark) law }
+    requires low { number_of_mark_line (sheet_read sheet.now) k < 4294967296 }
+    ensures { result ≡ Broken (number_of_mark_line (sheet_read sheet.now) k) law }
 {
-    broken(mark_line(sheet, mark), law)
+    broken(mark_line(sheet, k), law)
 }
 
 /// The verdict that a law is broken at a line.

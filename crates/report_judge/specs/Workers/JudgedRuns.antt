@@ -11,7 +11,7 @@ use Rattle.plan_model.specs.declared.trees.Knot.{Knot}
 use Rattle.plan_model.specs.Geometry.Bounds.{IsBounded}
 use Rattle.plan_model.specs.Runs.ClosedLaw.{mark_at}
 use Rattle.plan_model.specs.Runs.RecordLaw.{IsLawfulRecord}
-use Rattle.plan_model.specs.Runs.Textbook.{setup_of}
+use Rattle.plan_model.specs.Runs.Textbook.{Setup, setup_of}
 use Rattle.plan_model.specs.Runs.Turns.{turns_of}
 use Rattle.plan_model.specs.Spaces.ConfigurationSpace.{space_of}
 use Rattle.plan_model.specs.Trees.PointsByNumber.{node_count}
@@ -31,6 +31,10 @@ use Rattle.report_judge.specs.Workers.Standings.{AreStandings}
 abbrev pub run_of : Judged → TreeState
 run_of judged = state_of_lists judged.knots.now judged.records.now
 
+-- the planning problem of the task
+abbrev pub setup_by : Judged → Setup
+setup_by judged = setup_of judged.task.now.scene
+
 -- The form and the presence of nodes are kept, and the nodes of this worker that stood before a turn are told apart.
 pub record IsJudged (worker : ℕ) (judged : Judged) : Type 0 where
   pub numbers : length judged.knots.now ≡ suc (length judged.records.now)
@@ -49,9 +53,9 @@ AreRadiiOf scene radii = (radii.step ≡ scene.step) × (radii.gamma ≡ scene.g
 -- What each question about the record of a mark and a point asks for: the space and the radii are the scene's, the lists are those by which
 -- marks of the record's worker are judged, whose nodes are those before a turn after the record's or that one; its first cost has at most 44
 -- bits, and the point is within bounds.
-pub record IsAsked (space : ConfigurationSpace) (scene : Scene) (judged : Judged) (entry : Record) (p : Point) : Type 0 where
-  pub space_is : space ≡ space_of scene
-  pub radii_are : AreRadiiOf scene judged.radii.now
+pub record IsAsked (space : ConfigurationSpace) (judged : Judged) (entry : Record) (p : Point) : Type 0 where
+  pub space_is : space ≡ space_of judged.task.now.scene
+  pub radii_are : AreRadiiOf judged.task.now.scene judged.radii.now
   pub judges : IsJudged entry.worker judged
   pub turn : entry.turn ≤ judged.turns
   pub own : entry.first_cost < 2 ^ 44
@@ -72,17 +76,17 @@ HaveLowTurns records = (k : ℕ) (entry : Record) → slice_get records k ≡ So
     → entry.turn < turns_of (slice_get records) (length records) entry.worker
 
 -- The nodes and the records keep the form and the laws of turns and of presence; they are counted, and the radii are the scene's.
-pub record AreListed (task : Task) (listed : Listed) : Type 0 where
+pub record AreListed (listed : Listed) : Type 0 where
   pub numbers : length listed.knots.now ≡ suc (length listed.records.now)
   pub few : length listed.records.now ≤ MOST_MARKS
-  pub marks : length listed.records.now ≡ length task.marks
+  pub marks : length listed.records.now ≡ length listed.task.now.marks
   pub fit : (n : ℕ) (other : Knot) → slice_index_or listed.knots.now n None ≡ Some other → FitsEdges other
   pub first : FitFirstCosts listed.records.now
   pub present : ArePresent (state_of_lists listed.knots.now listed.records.now)
   pub own : HaveOwnTurns listed.records.now
   pub low : HaveLowTurns listed.records.now
   pub count : listed.nodes ≡ node_count (state_of_lists listed.knots.now listed.records.now).points
-  pub radii : AreRadiiOf task.scene listed.radii.now
+  pub radii : AreRadiiOf listed.task.now.scene listed.radii.now
 
 -- ---- the law of records, mark by mark
 

@@ -2,12 +2,14 @@
 
 use crate::own::standings::Standing;
 use edge_cost::Radii;
-use plan_model::{Knot, Record};
+use plan_model::{Knot, Point, Record, Task};
 use point_strips::Strips;
 
-/// The nodes and the records of a report.
+/// The nodes and the records of a report of a task.
 #[derive(Clone, Copy)]
 pub(crate) struct Listed<'a> {
+    /// The task.
+    pub task: &'a Task,
     /// The nodes by number.
     pub knots: &'a [Option<Knot>],
     /// The records by mark.
@@ -18,9 +20,11 @@ pub(crate) struct Listed<'a> {
     pub radii: &'a Radii,
 }
 
-/// The nodes and the records of a report, with the nodes of a worker that stood before a turn.
+/// The nodes and the records of a report of a task, with the nodes of a worker that stood before a turn.
 #[derive(Clone, Copy)]
 pub(crate) struct Judged<'a> {
+    /// The task.
+    pub task: &'a Task,
     /// The nodes by number.
     pub knots: &'a [Option<Knot>],
     /// The records by mark.
@@ -35,4 +39,15 @@ pub(crate) struct Judged<'a> {
     pub nodes: u32,
     /// The rewiring radii of the scene.
     pub radii: &'a Radii,
+}
+
+/// A mark with its record.
+#[derive(Clone, Copy)]
+pub(crate) struct Marked {
+    /// Its number.
+    pub k: u32,
+    /// The mark.
+    pub mark: Point,
+    /// Its record.
+    pub entry: Record,
 }

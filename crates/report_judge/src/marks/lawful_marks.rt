@@ -9,14 +9,14 @@ ghost use Rattle.plan_model.specs.Runs.Textbook.{Setup, mark_bound, setup_of, sk
 ghost use Rattle.plan_model.specs.Spaces.Clearance.{Clear};
 ghost use Rattle.plan_model.specs.Trees.PointsByNumber.{IsPresent, node_count, point_of};
 ghost use Rattle.plan_model.specs.declared.limits.TheConstants.{MOST_MARKS};
-ghost use Rattle.report_judge.specs.Workers.JudgedRuns.{IsAsked, IsJudged, run_of};
+ghost use Rattle.report_judge.specs.Workers.JudgedRuns.{IsAsked, IsJudged, run_of, setup_by};
 ghost use Rattle.report_judge.specs.Workers.MarkLaws.{AreDearer, EndsLawfully};
 ghost use Rattle.report_judge.specs.Workers.OwnNodes.{IsNearestOfEarlier};
 ghost use Rattle.report_judge.specs.Workers.SeenNodes.{AreSeen};
 ghost use Rattle.report_judge.specs.declared.marks.judged.Judged.{Judged};
 ghost use Rattle.plan_model.specs.declared.records.Record.{Record};
 
-use crate::marks::judged::Judged;
+use crate::marks::judged::{Judged, Marked};
 use crate::marks::placed_marks::{hangs_lawfully, stands_at};
 use crate::own::searches::{is_nearest, is_nearest_and_keeps_near, is_taken};
 use crate::own::seen_nodes::Seen;
@@ -29,23 +29,22 @@ use swept_check::Clearing;
 /// Whether the record of a mark keeps the law of records. `seen` is what stood before its turn. O(k + s log n) on average besides segments,
 /// for k nodes near the mark or near its node, of n nodes of its worker in s strips.
 pub(crate) fn is_lawful<C: Clearing>(
-    scene: &Scene,
     hall: &C,
     judged: &Judged<'_>,
     seen: Seen,
-    mark: u32,
-    entry: Record,
-    point: Point,
+    marked: Marked,
 ) -> bool
-    requires asked { IsAsked (C.space hall.now) scene.now judged.now entry point }
-    requires low { mark < MOST_MARKS }
-    requires seen { AreSeen (skipping_goals scene.now) (run_of judged.now) entry.worker entry.turn seen }
-    ensures lawful { IsTrue result → IsLawfulRecord (setup_of scene.now) (run_of judged.now) mark point entry }
-    ensures only { IsFalse result → ¬ IsLawfulRecord (setup_of scene.now) (run_of judged.now) mark point entry }
+    requires asked { IsAsked (C.space hall.now) judged.now marked.entry marked.mark }
+    requires low { marked.k < MOST_MARKS }
+    requires seen { AreSeen (skipping_goals judged.now.task.now.scene) (run_of judged.now) marked.entry.worker marked.entry.turn seen }
+    ensures lawful { IsTrue result → IsLawfulRecord (setup_by judged.now) (run_of judged.now) marked.k marked.mark marked.entry }
+    ensures only { IsFalse result → ¬ IsLawfulRecord (setup_by judged.now) (run_of judged.now) marked.k marked.mark marked.entry }
 {
-    match entry.outcome {
-        Outcome::Skipped => is_skipped_lawfully(scene, judged, entry, point),
-        _ => is_steered_lawfully(scene, hall, judged, seen, mark, entry, point),
+    match marked.entry.outcome {
+        Outcome::Skipped => {
+            is_skipped_lawfully(&judged.task.scene, judged, marked.entry, marked.mark)
+        }
+        _ => is_steered_lawfully(hall, judged, seen, marked),
     }
 }
 
@@ -67,30 +66,27 @@ fn is_skipped_lawfully(scene: &Scene, judged: &Judged<'_>, entry: Record, point:
 
 /// Whether a mark may lead to a cheaper path, was steered to by the nearest node, and ended as its record says.
 fn is_steered_lawfully<C: Clearing>(
-    scene: &Scene,
     hall: &C,
     judged: &Judged<'_>,
     seen: Seen,
-    mark: u32,
-    entry: Record,
-    point: Point,
+    marked: Marked,
 ) -> bool
-    requires asked { IsAsked (C.space hall.now) scene.now judged.now entry point }
-    requires low { mark < MOST_MARKS }
-    requires seen { AreSeen (skipping_goals scene.now) (run_of judged.now) entry.worker entry.turn seen }
-    ensures lawful { IsTrue result → IsSteeredLawfully (setup_of scene.now) (run_of judged.now) point entry
-        (EndsLawfully (setup_of scene.now) (run_of judged.now) mark entry entry.outcome) }
-    ensures only { IsFalse result → ¬ IsSteeredLawfully (setup_of scene.now) (run_of judged.now) point entry
-        (EndsLawfully (setup_of scene.now) (run_of judged.now) mark entry entry.outcome) }
+    requires asked { IsAsked (C.space hall.now) judged.now marked.entry marked.mark }
+    requires low { marked.k < MOST_MARKS }
+    requires seen { AreSeen (skipping_goals judged.now.task.now.scene) (run_of judged.now) marked.entry.worker marked.entry.turn seen }
+    ensures lawful { IsTrue result → IsSteeredLawfully (setup_by judged.now) (run_of judged.now) marked.mark marked.entry
+        (EndsLawfully (setup_by judged.now) (run_of judged.now) marked.k marked.entry marked.entry.outcome) }
+    ensures only { IsFalse result → ¬ IsSteeredLawfully (setup_by judged.now) (run_of judged.now) marked.mark marked.entry
+        (EndsLawfully (setup_by judged.now) (run_of judged.now) marked.k marked.entry marked.entry.outcome) }
 {
-    let Some(nearest) = knot_at(judged.knots, entry.nearest) else {
+    let Some(nearest) = knot_at(judged.knots, marked.entry.nearest) else {
         return false;
     };
-    if !may_be_cheaper(scene, seen, point) {
+    if !may_be_cheaper(&judged.task.scene, seen, marked.mark) {
         return false;
     }
-    let p = steer(nearest.point, point, scene.step);
-    ends_lawfully(scene, hall, judged, seen, mark, entry, point, p)
+    let p = steer(nearest.point, marked.mark, judged.task.scene.step);
+    ends_lawfully(hall, judged, seen, marked, p)
 }
 
 /// Whether each goal node that stood before a mark was placed at more than the bound of the mark.
@@ -110,34 +106,33 @@ fn may_be_cheaper(scene: &Scene, seen: Seen, point: Point) -> bool
 
 /// Whether a mark that was steered to `p` was steered by the nearest node, and ended as its record says.
 fn ends_lawfully<C: Clearing>(
-    scene: &Scene,
     hall: &C,
     judged: &Judged<'_>,
     seen: Seen,
-    mark: u32,
-    entry: Record,
-    point: Point,
+    marked: Marked,
     p: Point,
 ) -> bool
-    requires asked { IsAsked (C.space hall.now) scene.now judged.now entry p }
-    requires point { IsBounded point }
-    requires low { mark < MOST_MARKS }
-    requires seen { AreSeen (skipping_goals scene.now) (run_of judged.now) entry.worker entry.turn seen }
-    requires nearest { IsPresent (run_of judged.now).points entry.nearest }
-    ensures lawful { IsTrue result → EndsLawfully (setup_of scene.now) (run_of judged.now) mark entry entry.outcome p }
-    ensures nearest { IsTrue result → IsNearestOfEarlier (run_of judged.now) entry point }
-    ensures only { IsFalse result → IsNearestOfEarlier (run_of judged.now) entry point
-        → ¬ EndsLawfully (setup_of scene.now) (run_of judged.now) mark entry entry.outcome p }
+    requires asked { IsAsked (C.space hall.now) judged.now marked.entry p }
+    requires point { IsBounded marked.mark }
+    requires low { marked.k < MOST_MARKS }
+    requires seen { AreSeen (skipping_goals judged.now.task.now.scene) (run_of judged.now) marked.entry.worker marked.entry.turn seen }
+    requires nearest { IsPresent (run_of judged.now).points marked.entry.nearest }
+    ensures lawful { IsTrue result → EndsLawfully (setup_by judged.now) (run_of judged.now) marked.k marked.entry marked.entry.outcome p }
+    ensures nearest { IsTrue result → IsNearestOfEarlier (run_of judged.now) marked.entry marked.mark }
+    ensures only { IsFalse result → IsNearestOfEarlier (run_of judged.now) marked.entry marked.mark
+        → ¬ EndsLawfully (setup_by judged.now) (run_of judged.now) marked.k marked.entry marked.entry.outcome p }
 {
+    let entry = marked.entry;
     match entry.outcome {
         Outcome::Placed => {
-            is_chosen_lawfully(scene, hall, judged, seen, entry, point, p)
-                && hangs_lawfully(scene, hall, judged, mark, entry, p)
+            is_chosen_lawfully(hall, judged, seen, marked, p)
+                && hangs_lawfully(hall, judged, marked, p)
         }
-        Outcome::Same(node) => is_nearest(hall, judged, entry, point)
+        Outcome::Same(node) => is_nearest(hall, judged, entry, marked.mark)
             && stands_at(judged.knots, node, p),
         Outcome::Blocked => {
-            is_nearest(hall, judged, entry, point) && is_blocked_lawfully(hall, judged, entry, p)
+            is_nearest(hall, judged, entry, marked.mark)
+                && is_blocked_lawfully(hall, judged, entry, p)
         }
         Outcome::Skipped => false,
     }
@@ -181,31 +176,29 @@ fn is_clear_from_nearest<C: Clearing>(
 /// class is that of a number of nodes that it may have counted, no neighbour was a cheaper parent, and none stays dearer than by way of the
 /// new node.
 fn is_chosen_lawfully<C: Clearing>(
-    scene: &Scene,
     hall: &C,
     judged: &Judged<'_>,
     seen: Seen,
-    entry: Record,
-    point: Point,
+    marked: Marked,
     p: Point,
 ) -> bool
-    requires asked { IsAsked (C.space hall.now) scene.now judged.now entry p }
-    requires point { IsBounded point }
-    requires seen { AreSeen (skipping_goals scene.now) (run_of judged.now) entry.worker entry.turn seen }
-    requires nearest { IsPresent (run_of judged.now).points entry.nearest }
-    ensures lawful { IsTrue result → IsChosenLawfully (setup_of scene.now) (run_of judged.now) entry p (node_count (run_of judged.now).points) }
-    ensures nearest { IsTrue result → IsNearestOfEarlier (run_of judged.now) entry point }
-    ensures only { IsFalse result → IsNearestOfEarlier (run_of judged.now) entry point
-        → ¬ IsChosenLawfully (setup_of scene.now) (run_of judged.now) entry p (node_count (run_of judged.now).points) }
+    requires asked { IsAsked (C.space hall.now) judged.now marked.entry p }
+    requires point { IsBounded marked.mark }
+    requires seen { AreSeen (skipping_goals judged.now.task.now.scene) (run_of judged.now) marked.entry.worker marked.entry.turn seen }
+    requires nearest { IsPresent (run_of judged.now).points marked.entry.nearest }
+    ensures lawful { IsTrue result → IsChosenLawfully (setup_by judged.now) (run_of judged.now) marked.entry p (node_count (run_of judged.now).points) }
+    ensures nearest { IsTrue result → IsNearestOfEarlier (run_of judged.now) marked.entry marked.mark }
+    ensures only { IsFalse result → IsNearestOfEarlier (run_of judged.now) marked.entry marked.mark
+        → ¬ IsChosenLawfully (setup_by judged.now) (run_of judged.now) marked.entry p (node_count (run_of judged.now).points) }
 {
-    if !has_class(judged, seen, entry) {
+    if !has_class(judged, seen, marked.entry) {
         return false;
     }
-    if !is_clear_from_nearest(hall, judged, entry, p) {
+    if !is_clear_from_nearest(hall, judged, marked.entry, p) {
         return false;
     }
-    let radius = radius_of_class(judged, entry.class);
-    is_nearest_and_keeps_near(hall, judged, entry, point, p, radius)
+    let radius = radius_of_class(judged, marked.entry.class);
+    is_nearest_and_keeps_near(hall, judged, marked.entry, marked.mark, p, radius)
 }
 
 /// Whether the class of a record is that of a number of nodes between those that stood already and all of them.

@@ -18,7 +18,7 @@ ghost use Rattle.report_judge.specs.Workers.OwnNodes.{ArePresent, FitFirstCosts}
 ghost use Rattle.report_judge.specs.Workers.SeenNodes.{HaveOwnTurns};
 
 use crate::first_breaks::earlier;
-use crate::marks::judged::{Judged, Listed};
+use crate::marks::judged::{Judged, Listed, Marked};
 use crate::marks::lawful_marks::is_lawful;
 use crate::marks::turns::{WORKERS, marks_by_worker};
 use crate::own::own_marks::marks_between;
@@ -61,6 +61,7 @@ pub(crate) fn first_unlawful<C: Clearing>(
     let turns = marks_by_worker(records);
     let radii = Radii::new(task.scene.step, task.scene.gamma);
     let listed = Listed {
+        task,
         knots,
         records,
         nodes: present_count(knots),
@@ -68,7 +69,7 @@ pub(crate) fn first_unlawful<C: Clearing>(
     };
     let mut first = None;
     for worker in 0..WORKERS {
-        let broken = first_unlawful_of(alloc, task, hall, &listed, worker as u32, turns[worker])?;
+        let broken = first_unlawful_of(alloc, hall, &listed, worker as u32, turns[worker])?;
         first = earlier(first, broken);
     }
     Ok(first)
@@ -92,28 +93,27 @@ pub(crate) fn present_count(knots: &[Option<Knot>]) -> u32
 /// stretches of turns, each over the nodes that stood by its end, so that few nodes of later turns lie in the way.
 fn first_unlawful_of<C: Clearing>(
     alloc: Global,
-    task: &Task,
     hall: &C,
     listed: &Listed<'_>,
     worker: u32,
     turns: u32,
 ) -> Result<Option<usize>, Memory>
-    requires hall { C.space hall.now ≡ space_of task.now.scene }
-    requires listed { AreListed task.now listed.now }
+    requires hall { C.space hall.now ≡ space_of listed.now.task.now.scene }
+    requires listed { AreListed listed.now }
     requires turns { turns ≡ turns_of (slice_get listed.now.records.now) (length listed.now.records.now) worker }
-    ensures { IfOk result (λ first. IsFirstBreak (KeepsRecordOf worker task.now listed.now.knots.now listed.now.records.now)
+    ensures { IfOk result (λ first. IsFirstBreak (KeepsRecordOf worker listed.now.task.now listed.now.knots.now listed.now.records.now)
         (length listed.now.records.now) first) }
 {
     if turns == 0 {
         return Ok(None);
     }
-    let goals = skipping_goals(&task.scene);
+    let goals = skipping_goals(&listed.task.scene);
     let own = own_run(alloc, goals, listed.knots, listed.records, worker, turns)?;
     let mut first = None;
     let mut from = 0;
     while from < turns {
         let to = end_of_stretch(from, turns);
-        let found = first_unlawful_between(alloc, task, hall, listed, &own, from, to)?;
+        let found = first_unlawful_between(alloc, hall, listed, &own, from, to)?;
         first = earlier(first, found);
         from = to;
     }
@@ -145,25 +145,26 @@ fn end_of_stretch(from: u32, turns: u32) -> u32
 /// exactly if each of them keeps it.
 fn first_unlawful_between<C: Clearing>(
     alloc: Global,
-    task: &Task,
     hall: &C,
     listed: &Listed<'_>,
     own: &OwnRun,
     from: u32,
     to: u32,
 ) -> Result<Option<usize>, Memory>
-    requires hall { C.space hall.now ≡ space_of task.now.scene }
-    requires listed { AreListed task.now listed.now }
-    requires own { IsOwnRun (skipping_goals task.now.scene) listed.now.knots.now listed.now.records.now own.now.turns.worker
+    requires hall { C.space hall.now ≡ space_of listed.now.task.now.scene }
+    requires listed { AreListed listed.now }
+    requires own { IsOwnRun (skipping_goals listed.now.task.now.scene) listed.now.knots.now listed.now.records.now own.now.turns.worker
         (length own.now.turns.marks.items) own.now }
     requires onward { from ≤ to }
     requires to { to ≤ length own.now.turns.marks.items }
-    ensures { IfOk result (λ first. IsFirstBreak (KeepsRecordBetween own.now.turns.worker from to task.now listed.now.knots.now listed.now.records.now)
+    ensures { IfOk result (λ first. IsFirstBreak
+        (KeepsRecordBetween own.now.turns.worker from to listed.now.task.now listed.now.knots.now listed.now.records.now)
         (length listed.now.records.now) first) }
 {
     let nodes = nodes_before(alloc, listed.knots, listed.records, &own.turns, to)?;
-    let marks = marks_between(alloc, task, listed.records, &own.turns, from, to)?;
+    let marks = marks_between(alloc, listed.task, listed.records, &own.turns, from, to)?;
     let judged = Judged {
+        task: listed.task,
         knots: listed.knots,
         records: listed.records,
         nodes: listed.nodes,
@@ -172,35 +173,34 @@ fn first_unlawful_between<C: Clearing>(
         own: &nodes,
         standings: &own.standings,
     };
-    Ok(first_unlawful_among(task, hall, &judged, own, &marks))
+    Ok(first_unlawful_among(hall, &judged, own, &marks))
 }
 
 /// The first of a list of marks that breaks the law of records. They are taken in the order of the list, which has those that lie near each
 /// other together, so that the nodes near them are in the processor's caches.
 fn first_unlawful_among<C: Clearing>(
-    task: &Task,
     hall: &C,
     judged: &Judged<'_>,
     own: &OwnRun,
     marks: &Strips,
 ) -> Option<usize>
-    requires hall { C.space hall.now ≡ space_of task.now.scene }
+    requires hall { C.space hall.now ≡ space_of judged.now.task.now.scene }
     requires few { length judged.now.records.now ≤ MOST_MARKS }
-    requires marks { length judged.now.records.now ≡ length task.now.marks }
+    requires marks { length judged.now.records.now ≡ length judged.now.task.now.marks }
     requires judged { IsJudged own.now.turns.worker judged.now }
-    requires radii { AreRadiiOf task.now.scene judged.now.radii.now }
-    requires own { IsOwnRun (skipping_goals task.now.scene) judged.now.knots.now judged.now.records.now own.now.turns.worker
+    requires radii { AreRadiiOf judged.now.task.now.scene judged.now.radii.now }
+    requires own { IsOwnRun (skipping_goals judged.now.task.now.scene) judged.now.knots.now judged.now.records.now own.now.turns.worker
         (length own.now.turns.marks.items) own.now }
     requires turns { judged.now.turns ≤ length own.now.turns.marks.items }
     requires among { (k : ℕ) → HasNumber marks.now k → IsMarkBetween judged.now.records.now own.now.turns.worker 0 judged.now.turns k }
-    ensures { IsFirstSeen (KeepsRecord task.now judged.now.knots.now judged.now.records.now) marks.now (length marks.now) result }
+    ensures { IsFirstSeen (KeepsRecord judged.now.task.now judged.now.knots.now judged.now.records.now) marks.now (length marks.now) result }
 {
     let mut first = None;
     for position in 0..marks.len() {
-        let mark = marks.at(position).number;
-        if may_be_first(first, mark) {
-            if !keeps_law(task, hall, judged, own, mark) {
-                first = Some(mark as usize);
+        let k = marks.at(position).number;
+        if may_be_first(first, k) {
+            if !keeps_law(hall, judged, own, k) {
+                first = Some(k as usize);
             }
         }
     }
@@ -208,38 +208,32 @@ fn first_unlawful_among<C: Clearing>(
 }
 
 /// Whether a mark of the worker keeps the law of records.
-fn keeps_law<C: Clearing>(
-    task: &Task,
-    hall: &C,
-    judged: &Judged<'_>,
-    own: &OwnRun,
-    mark: u32,
-) -> bool
-    requires hall { C.space hall.now ≡ space_of task.now.scene }
+fn keeps_law<C: Clearing>(hall: &C, judged: &Judged<'_>, own: &OwnRun, k: u32) -> bool
+    requires hall { C.space hall.now ≡ space_of judged.now.task.now.scene }
     requires few { length judged.now.records.now ≤ MOST_MARKS }
-    requires marks { length judged.now.records.now ≡ length task.now.marks }
+    requires marks { length judged.now.records.now ≡ length judged.now.task.now.marks }
     requires judged { IsJudged own.now.turns.worker judged.now }
-    requires radii { AreRadiiOf task.now.scene judged.now.radii.now }
-    requires own { IsOwnRun (skipping_goals task.now.scene) judged.now.knots.now judged.now.records.now own.now.turns.worker
+    requires radii { AreRadiiOf judged.now.task.now.scene judged.now.radii.now }
+    requires own { IsOwnRun (skipping_goals judged.now.task.now.scene) judged.now.knots.now judged.now.records.now own.now.turns.worker
         (length own.now.turns.marks.items) own.now }
     requires turns { judged.now.turns ≤ length own.now.turns.marks.items }
-    requires between { IsMarkBetween judged.now.records.now own.now.turns.worker 0 judged.now.turns mark }
-    ensures keeps { IsTrue result → KeepsRecord task.now judged.now.knots.now judged.now.records.now mark }
-    ensures only { IsFalse result → ¬ KeepsRecord task.now judged.now.knots.now judged.now.records.now mark }
+    requires between { IsMarkBetween judged.now.records.now own.now.turns.worker 0 judged.now.turns k }
+    ensures keeps { IsTrue result → KeepsRecord judged.now.task.now judged.now.knots.now judged.now.records.now k }
+    ensures only { IsFalse result → ¬ KeepsRecord judged.now.task.now judged.now.knots.now judged.now.records.now k }
 {
-    let entry = judged.records[mark as usize];
+    let entry = judged.records[k as usize];
     let seen = own.seen[entry.turn as usize];
-    let point = task.marks.as_slice()[mark as usize];
-    is_lawful(&task.scene, hall, judged, seen, mark, entry, point)
+    let mark = judged.task.marks.as_slice()[k as usize];
+    is_lawful(hall, judged, seen, Marked { k, mark, entry })
 }
 
 /// Whether a mark comes before the first one so far, if there is one.
-fn may_be_first(first: Option<usize>, mark: u32) -> bool
+fn may_be_first(first: Option<usize>, k: u32) -> bool
     ensures none { IfNone first (IsTrue result) }
-    ensures some { IfSome first (λ k. IsTrue result ↔ mark < k) }
+    ensures some { IfSome first (λ j. IsTrue result ↔ k < j) }
 {
     match first {
-        Some(first) => (mark as usize) < first,
+        Some(first) => (k as usize) < first,
         None => true,
     }
 }

@@ -3,40 +3,39 @@
 ghost use Rattle.std.specs.Prelude.{◌<◌, IsFalse, IsTrue, List};
 ghost use Rattle.plan_model.specs.Geometry.Bounds.{IsBounded};
 ghost use Rattle.plan_model.specs.Runs.RecordLaw.{HangsLawfully};
-ghost use Rattle.plan_model.specs.Runs.Textbook.{setup_of};
 ghost use Rattle.plan_model.specs.Trees.PointsByNumber.{IsPresent, StandsAt};
 ghost use Rattle.plan_model.specs.declared.limits.TheConstants.{MOST_MARKS};
 ghost use Rattle.plan_model.specs.declared.records.Record.{Record};
 ghost use Rattle.step_core.specs.PackedRuns.{state_of_lists};
-ghost use Rattle.report_judge.specs.Workers.JudgedRuns.{IsAsked, IsJudged, run_of};
+ghost use Rattle.report_judge.specs.Workers.JudgedRuns.{IsAsked, IsJudged, run_of, setup_by};
 ghost use Rattle.report_judge.specs.Workers.MarkLaws.{IsWithinFirst};
 
-use crate::marks::judged::Judged;
+use crate::marks::judged::{Judged, Marked};
 use crate::trees::best_paths::kept_cost;
 use crate::trees::exact_edges::knot_at;
 use crate::trees::hanging::{first_cost, may_hang};
 use edge_cost::cost;
-use plan_model::{Knot, Point, Record, Scene};
+use plan_model::{Knot, Point, Record};
 use swept_check::Clearing;
 
 /// Whether the node of a mark hangs as the record says: it stands at `p`, may hang below its first parent at its first cost, which is at
 /// most that by way of this parent or of the nearest node as they were placed, and at most a longest edge for each other node; and it costs
 /// no more now. O(1) besides a segment.
 pub(crate) fn hangs_lawfully<C: Clearing>(
-    scene: &Scene,
     hall: &C,
     judged: &Judged<'_>,
-    mark: u32,
-    entry: Record,
+    marked: Marked,
     p: Point,
 ) -> bool
-    requires asked { IsAsked (C.space hall.now) scene.now judged.now entry p }
-    requires low { mark < MOST_MARKS }
-    requires nearest { IsPresent (run_of judged.now).points entry.nearest }
-    ensures lawful { IsTrue result → HangsLawfully (setup_of scene.now) (run_of judged.now) mark entry p }
-    ensures only { IsFalse result → ¬ HangsLawfully (setup_of scene.now) (run_of judged.now) mark entry p }
+    requires asked { IsAsked (C.space hall.now) judged.now marked.entry p }
+    requires low { marked.k < MOST_MARKS }
+    requires nearest { IsPresent (run_of judged.now).points marked.entry.nearest }
+    ensures lawful { IsTrue result → HangsLawfully (setup_by judged.now) (run_of judged.now) marked.k marked.entry p }
+    ensures only { IsFalse result → ¬ HangsLawfully (setup_by judged.now) (run_of judged.now) marked.k marked.entry p }
 {
-    let node = mark + 1;
+    let scene = &judged.task.scene;
+    let entry = marked.entry;
+    let node = marked.k + 1;
     if !stands_at(judged.knots, node, p) {
         return false;
     }

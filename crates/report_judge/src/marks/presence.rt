@@ -12,9 +12,9 @@ pub(crate) fn first_unlike(knots: &[Option<Knot>], records: &[Record]) -> Option
     requires { length knots.now ≡ suc (length records.now) }
     ensures { IsFirstBreak (KeepsPresence knots.now records.now) (length records.now) result }
 {
-    for (mark, entry) in records.iter().enumerate() {
-        if knots[mark + 1].is_some() != is_placed(entry.outcome) {
-            return Some(mark);
+    for (k, entry) in records.iter().enumerate() {
+        if knots[k + 1].is_some() != is_placed(entry.outcome) {
+            return Some(k);
         }
     }
     None

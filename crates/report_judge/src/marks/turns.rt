@@ -59,9 +59,9 @@ fn first_high_turn(records: &[Record]) -> Option<usize>
     ensures { IsFirstBreak (HasLowTurn records.now) (length records.now) result }
 {
     let counts = marks_by_worker(records);
-    for (mark, entry) in records.iter().enumerate() {
+    for (k, entry) in records.iter().enumerate() {
         if entry.turn >= counts[entry.worker as usize] {
-            return Some(mark);
+            return Some(k);
         }
     }
     None

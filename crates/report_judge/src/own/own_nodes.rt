@@ -52,21 +52,21 @@ pub(crate) fn nodes_before(
 }
 
 /// Where the node of a mark stands, if there is a mark that was placed.
-fn placed_at(knots: &[Option<Knot>], records: &[Record], mark: Option<u32>) -> Option<Point>
+fn placed_at(knots: &[Option<Knot>], records: &[Record], k: Option<u32>) -> Option<Point>
     requires few { length records.now ≤ MOST_MARKS }
     requires fit { (n : ℕ) (other : Knot) → slice_index_or knots.now n None ≡ Some other → FitsEdges other }
-    ensures { IsPlacedAt knots.now records.now mark result }
+    ensures { IsPlacedAt knots.now records.now k result }
 {
-    let Some(mark) = mark else {
+    let Some(k) = k else {
         return None;
     };
-    if mark as usize >= records.len() {
+    if k as usize >= records.len() {
         return None;
     }
-    if !is_placed(records[mark as usize].outcome) {
+    if !is_placed(records[k as usize].outcome) {
         return None;
     }
-    match knot_at(knots, mark + 1) {
+    match knot_at(knots, k + 1) {
         Some(knot) => Some(knot.point),
         None => None,
     }

@@ -48,11 +48,11 @@ fn marks_by_turn(
     ensures length { IfOk result (λ order. length order.items ≡ turns) }
 {
     let mut order = vec![in alloc; None; turns as usize]?;
-    for (mark, entry) in records.iter().enumerate() {
+    for (k, entry) in records.iter().enumerate() {
         let turn = entry.turn as usize;
         if entry.worker == worker {
             if turn < order.len() {
-                order[turn] = Some(mark as u32);
+                order[turn] = Some(k as u32);
             }
         }
     }
@@ -60,13 +60,13 @@ fn marks_by_turn(
 }
 
 /// The node of a mark; the start's, 0, if there is no mark.
-pub(crate) fn node_of(mark: Option<u32>) -> u32
-    requires { IfSome mark (λ m. suc m ≤ MOST_MARKS) }
-    ensures none { IfNone mark (result ≡ 0) }
-    ensures some { IfSome mark (λ m. result ≡ suc m) }
+pub(crate) fn node_of(k: Option<u32>) -> u32
+    requires { IfSome k (λ m. suc m ≤ MOST_MARKS) }
+    ensures none { IfNone k (result ≡ 0) }
+    ensures some { IfSome k (λ m. result ≡ suc m) }
 {
-    match mark {
-        Some(mark) => mark + 1,
+    match k {
+        Some(k) => k + 1,
         None => 0,
     }
 }

@@ -42,27 +42,27 @@ impl Seen {
         goals: &[Goal],
         knots: &[Option<Knot>],
         records: &[Record],
-        mark: Option<u32>,
+        k: Option<u32>,
     ) -> Seen
         requires few { length records.now ≤ MOST_MARKS }
         requires numbers { length knots.now ≡ suc (length records.now) }
         requires own { HaveOwnTurns records.now }
-        requires low { IfSome mark (λ m. m < length records.now) }
+        requires low { IfSome k (λ m. m < length records.now) }
         requires room { self.nodes ≤ MOST_MARKS }
         ensures more { result.nodes ≤ self.nodes + 1 }
-        ensures seen { (worker turn : ℕ) → IsMarkOfTurn records.now worker turn mark
+        ensures seen { (worker turn : ℕ) → IsMarkOfTurn records.now worker turn k
             → AreSeen goals.now (state_of_lists knots.now records.now) worker turn self
             → AreSeen goals.now (state_of_lists knots.now records.now) worker (suc turn) result }
     {
-        let Some(mark) = mark else {
+        let Some(k) = k else {
             return self;
         };
-        let entry = records[mark as usize];
+        let entry = records[k as usize];
         if !is_placed(entry.outcome) {
             return self;
         }
         let nodes = self.nodes + 1;
-        if !is_goal_node(goals, knots, mark + 1) {
+        if !is_goal_node(goals, knots, k + 1) {
             return Seen {
                 nodes,
                 least: self.least,
@@ -109,9 +109,9 @@ pub(crate) fn seen_by_turn(
 {
     let mut all = Vec::with_capacity(alloc, turns.marks.len())?;
     let mut seen = Seen::at_start(goals, knots);
-    for mark in &turns.marks {
+    for k in &turns.marks {
         all.push(seen)?;
-        seen = seen.after(goals, knots, records, *mark);
+        seen = seen.after(goals, knots, records, *k);
     }
     Ok(all)
 }

@@ -42,8 +42,8 @@ pub(crate) fn standings(
 {
     let mut standings = Vec::with_capacity(alloc, turns.marks.len() + 1)?;
     standings.push(costs_of(knots, records, 0))?;
-    for mark in &turns.marks {
-        standings.push(costs_of(knots, records, node_of(*mark)))?;
+    for k in &turns.marks {
+        standings.push(costs_of(knots, records, node_of(*k)))?;
     }
     Ok(standings)
 }

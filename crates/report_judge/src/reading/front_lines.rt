@@ -93,8 +93,8 @@ pub(crate) fn read_records(
 {
     let mut records = Vec::new(alloc);
     let mut rest = text;
-    for mark in 0..marks {
-        let Some((entry, after)) = read_mark(rest, mark, marks, informed) else {
+    for k in 0..marks {
+        let Some((entry, after)) = read_mark(rest, k, marks, informed) else {
             return Ok((records, rest));
         };
         records.push(entry)?;

@@ -13,21 +13,16 @@ use plan_model::{Outcome, Record};
 
 /// The record of a mark, and what stands after its line; `None` exactly if the text does not begin with a line of this mark in a report
 /// over so many marks, of a scene that is informed or is not. O(n) for n bytes of it.
-pub(crate) fn read_mark(
-    text: &[u8],
-    mark: u32,
-    marks: u32,
-    informed: bool,
-) -> Option<(Record, &[u8])>
-    requires low { mark < marks }
+pub(crate) fn read_mark(text: &[u8], k: u32, marks: u32, informed: bool) -> Option<(Record, &[u8])>
+    requires low { k < marks }
     requires few { marks ≤ MOST_MARKS }
     ensures fits { IfSome result (λ read. FitsEntry (record { marks = marks; informed = informed }) read.0) }
-    ensures some { IfSome result (λ read. text.now ≡ line_text (MarkLine mark read.0) ++ read.1.now) }
+    ensures some { IfSome result (λ read. text.now ≡ line_text (MarkLine k read.0) ++ read.1.now) }
     ensures none { IfNone result ((entry : Record) (rest : List ℕ) → FitsEntry (record { marks = marks; informed = informed }) entry
-        → ¬ (text.now ≡ line_text (MarkLine mark entry) ++ rest)) }
+        → ¬ (text.now ≡ line_text (MarkLine k entry) ++ rest)) }
 {
     let (number, worker, turn, rest) = read_turn(text, marks)?;
-    if number != mark {
+    if number != k {
         return None;
     }
     let (entry, rest) = read_outcome(rest, worker, turn, marks, informed)?;

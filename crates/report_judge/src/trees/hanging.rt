@@ -19,11 +19,11 @@ pub(crate) fn first_cost(records: &[Record], node: u32) -> u64
     if node == 0 {
         return 0;
     }
-    let mark = node as usize - 1;
-    if mark >= records.len() {
+    let k = node as usize - 1;
+    if k >= records.len() {
         return 0;
     }
-    records[mark].first_cost
+    records[k].first_cost
 }
 
 /// Whether a node with this number may hang at a point below a parent at a cost: the parent is another node that is present, the edge is

@@ -70,16 +70,16 @@ broken_mark-requires-clause-few g c = few_knots c.args.task.now (sheet_read c.ar
 pub broken_mark-requires-clause-low : goal.broken_mark-requires-clause-low
 broken_mark-requires-clause-low g c =
     let sheet = sheet_read c.args.sheet.now in
-    let low = mark_low c.args.task.now sheet c.requires.form c.in-Some.mark
-    (unlawful g (goal.at.broken_mark-requires-clause-low g c).In_ok-first (Some c.in-Some.mark) c.in-Some.is).0 in
+    let low = mark_low c.args.task.now sheet c.requires.form c.in-Some.k
+    (unlawful g (goal.at.broken_mark-requires-clause-low g c).In_ok-first (Some c.in-Some.k) c.in-Some.is).0 in
     omega (arith, c.requires.short, low)
 
 pub returns-in-Some-clause-broken : goal.returns-in-Some-clause-broken
 returns-in-Some-clause-broken g c =
     let sheet = sheet_read c.args.sheet.now in
     subst (IsVerdict c.args.task.now (bytes_of sheet)) (sym c.broken_mark.ensures)
-    (broken_record c.args.task.now sheet c.requires.form c.requires.nodes c.requires.turns c.requires.presence c.in-Some.mark
-    (unlawful g (goal.at.returns-in-Some-clause-broken g c).In_ok-first (Some c.in-Some.mark) c.in-Some.is))
+    (broken_record c.args.task.now sheet c.requires.form c.requires.nodes c.requires.turns c.requires.presence c.in-Some.k
+    (unlawful g (goal.at.returns-in-Some-clause-broken g c).In_ok-first (Some c.in-Some.k) c.in-Some.is))
 
 pub returns-in-None-clause-kept : goal.returns-in-None-clause-kept
 returns-in-None-clause-kept g c =

@@ -33,16 +33,16 @@ broken_mark-requires-clause-few c = few_knots c.args.task.now (sheet_read c.args
 pub broken_mark-requires-clause-low : goal.broken_mark-requires-clause-low
 broken_mark-requires-clause-low c =
     let sheet = sheet_read c.args.sheet.now in
-    let low = mark_low c.args.task.now sheet c.requires.form c.in-Some.mark
-    (wrong (goal.at.broken_mark-requires-clause-low c).In_ok-first (Some c.in-Some.mark) c.in-Some.is).0 in
+    let low = mark_low c.args.task.now sheet c.requires.form c.in-Some.k
+    (wrong (goal.at.broken_mark-requires-clause-low c).In_ok-first (Some c.in-Some.k) c.in-Some.is).0 in
     omega (arith, c.requires.short, low)
 
 pub returns-in-Some-clause-broken : goal.returns-in-Some-clause-broken
 returns-in-Some-clause-broken c =
     let sheet = sheet_read c.args.sheet.now in
     subst (IsVerdict c.args.task.now (bytes_of sheet)) (sym c.broken_mark.ensures)
-    (broken_turn c.args.task.now sheet c.requires.form c.requires.nodes c.in-Some.mark
-    (wrong (goal.at.returns-in-Some-clause-broken c).In_ok-first (Some c.in-Some.mark) c.in-Some.is))
+    (broken_turn c.args.task.now sheet c.requires.form c.requires.nodes c.in-Some.k
+    (wrong (goal.at.returns-in-Some-clause-broken c).In_ok-first (Some c.in-Some.k) c.in-Some.is))
 
 pub returns-in-None-clause-kept : goal.returns-in-None-clause-kept
 returns-in-None-clause-kept c =

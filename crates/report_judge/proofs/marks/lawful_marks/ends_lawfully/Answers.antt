@@ -1,8 +1,7 @@
 use Rattle.std.proofs.Common.{sym, ◌∙◌, subst}
 use Rattle.std.proofs.lemmas.Bool.{true≢false}
 use Rattle.plan_model.specs.Runs.RecordLaw.{IsPlacedLawfully}
-use Rattle.plan_model.specs.Runs.Textbook.{setup_of}
-use Rattle.report_judge.specs.Workers.JudgedRuns.{run_of}
+use Rattle.report_judge.specs.Workers.JudgedRuns.{run_of, setup_by}
 use Rattle.report_judge.specs.Workers.MarkLaws.{EndsLawfully}
 use Rattle.report_judge.proofs.marks.lawful_marks.ends_lawfully.Goals as goal
 
@@ -29,7 +28,7 @@ hangs_lawfully-requires-clause-nearest g c κs within = c.requires.nearest
 
 pub returns-then-is_chosen_lawfully-clause-lawful : goal.returns-then-is_chosen_lawfully-clause-lawful
 returns-then-is_chosen_lawfully-clause-lawful g c = λ h.
-    subst (λ o. EndsLawfully (setup_of c.args.scene.now) (run_of c.args.judged.now) c.args.mark c.args.entry o c.args.p) (sym c.in-Placed.is)
+    subst (λ o. EndsLawfully (setup_by c.args.judged.now) (run_of c.args.judged.now) c.args.marked.k c.args.marked.entry o c.args.p) (sym c.in-Placed.is)
     (record { by_worker = c.is_chosen_lawfully.ensures.lawful c.if-is_chosen_lawfully.true; by_tree = c.hangs_lawfully.ensures.lawful h })
 
 pub returns-then-is_chosen_lawfully-clause-nearest : goal.returns-then-is_chosen_lawfully-clause-nearest
@@ -37,8 +36,8 @@ returns-then-is_chosen_lawfully-clause-nearest g c = λ h. c.is_chosen_lawfully.
 
 pub returns-then-is_chosen_lawfully-clause-only : goal.returns-then-is_chosen_lawfully-clause-only
 returns-then-is_chosen_lawfully-clause-only g c = λ h all bad.
-    let placed : IsPlacedLawfully (setup_of c.args.scene.now) (run_of c.args.judged.now) c.args.mark c.args.entry c.args.p =
-    subst (λ o. EndsLawfully (setup_of c.args.scene.now) (run_of c.args.judged.now) c.args.mark c.args.entry o c.args.p) c.in-Placed.is bad in
+    let placed : IsPlacedLawfully (setup_by c.args.judged.now) (run_of c.args.judged.now) c.args.marked.k c.args.marked.entry c.args.p =
+    subst (λ o. EndsLawfully (setup_by c.args.judged.now) (run_of c.args.judged.now) c.args.marked.k c.args.marked.entry o c.args.p) c.in-Placed.is bad in
     c.hangs_lawfully.ensures.only h placed.by_tree
 
 pub returns-else-is_chosen_lawfully-clause-lawful : goal.returns-else-is_chosen_lawfully-clause-lawful
@@ -49,8 +48,8 @@ returns-else-is_chosen_lawfully-clause-nearest g c = λ h. absurd (true≢false 
 
 pub returns-else-is_chosen_lawfully-clause-only : goal.returns-else-is_chosen_lawfully-clause-only
 returns-else-is_chosen_lawfully-clause-only g c = λ h all bad.
-    let placed : IsPlacedLawfully (setup_of c.args.scene.now) (run_of c.args.judged.now) c.args.mark c.args.entry c.args.p =
-    subst (λ o. EndsLawfully (setup_of c.args.scene.now) (run_of c.args.judged.now) c.args.mark c.args.entry o c.args.p) c.in-Placed.is bad in
+    let placed : IsPlacedLawfully (setup_by c.args.judged.now) (run_of c.args.judged.now) c.args.marked.k c.args.marked.entry c.args.p =
+    subst (λ o. EndsLawfully (setup_by c.args.judged.now) (run_of c.args.judged.now) c.args.marked.k c.args.marked.entry o c.args.p) c.in-Placed.is bad in
     c.is_chosen_lawfully.ensures.only h all placed.by_worker
 
 pub is_nearest-requires-clause-bounded : goal.is_nearest-requires-clause-bounded
@@ -115,11 +114,11 @@ returns-in-Skipped-clause-nearest g c = λ h. absurd (true≢false (sym h))
 
 pub returns-in-Skipped-clause-only : goal.returns-in-Skipped-clause-only
 returns-in-Skipped-clause-only g c = λ h all bad.
-    subst (λ o. EndsLawfully (setup_of c.args.scene.now) (run_of c.args.judged.now) c.args.mark c.args.entry o c.args.p) c.in-Skipped.is bad
+    subst (λ o. EndsLawfully (setup_by c.args.judged.now) (run_of c.args.judged.now) c.args.marked.k c.args.marked.entry o c.args.p) c.in-Skipped.is bad
 
 pub returns-then-is_nearest-clause-lawful : goal.returns-then-is_nearest-clause-lawful
 returns-then-is_nearest-clause-lawful g c = λ h.
-    subst (λ o. EndsLawfully (setup_of c.args.scene.now) (run_of c.args.judged.now) c.args.mark c.args.entry o c.args.p) (sym c.in-Same.is)
+    subst (λ o. EndsLawfully (setup_by c.args.judged.now) (run_of c.args.judged.now) c.args.marked.k c.args.marked.entry o c.args.p) (sym c.in-Same.is)
     (c.stands_at.ensures.stands h c.args.judged.now.records.now)
 
 pub returns-then-is_nearest-clause-nearest : goal.returns-then-is_nearest-clause-nearest
@@ -128,17 +127,17 @@ returns-then-is_nearest-clause-nearest g c = λ h. c.is_nearest.ensures.nearest 
 pub returns-then-is_nearest-clause-only : goal.returns-then-is_nearest-clause-only
 returns-then-is_nearest-clause-only g c = λ h all bad.
     c.stands_at.ensures.only h c.args.judged.now.records.now
-    (subst (λ o. EndsLawfully (setup_of c.args.scene.now) (run_of c.args.judged.now) c.args.mark c.args.entry o c.args.p) c.in-Same.is bad)
+    (subst (λ o. EndsLawfully (setup_by c.args.judged.now) (run_of c.args.judged.now) c.args.marked.k c.args.marked.entry o c.args.p) c.in-Same.is bad)
 
 pub returns-then-is_nearest-2-clause-lawful : goal.returns-then-is_nearest-2-clause-lawful
 returns-then-is_nearest-2-clause-lawful g c = λ h.
-    subst (λ o. EndsLawfully (setup_of c.args.scene.now) (run_of c.args.judged.now) c.args.mark c.args.entry o c.args.p) (sym c.in-Blocked.is)
-    (c.is_blocked_lawfully.ensures.lawful h (setup_of c.args.scene.now) (sym c.requires.asked.space_is))
+    subst (λ o. EndsLawfully (setup_by c.args.judged.now) (run_of c.args.judged.now) c.args.marked.k c.args.marked.entry o c.args.p) (sym c.in-Blocked.is)
+    (c.is_blocked_lawfully.ensures.lawful h (setup_by c.args.judged.now) (sym c.requires.asked.space_is))
 
 pub returns-then-is_nearest-2-clause-nearest : goal.returns-then-is_nearest-2-clause-nearest
 returns-then-is_nearest-2-clause-nearest g c = λ h. c.is_nearest-in-Blocked.ensures.nearest c.if-is_nearest-2.true
 
 pub returns-then-is_nearest-2-clause-only : goal.returns-then-is_nearest-2-clause-only
 returns-then-is_nearest-2-clause-only g c = λ h all bad.
-    c.is_blocked_lawfully.ensures.only h (setup_of c.args.scene.now) (sym c.requires.asked.space_is)
-    (subst (λ o. EndsLawfully (setup_of c.args.scene.now) (run_of c.args.judged.now) c.args.mark c.args.entry o c.args.p) c.in-Blocked.is bad)
+    c.is_blocked_lawfully.ensures.only h (setup_by c.args.judged.now) (sym c.requires.asked.space_is)
+    (subst (λ o. EndsLawfully (setup_by c.args.judged.now) (run_of c.args.judged.now) c.args.marked.k c.args.marked.entry o c.args.p) c.in-Blocked.is bad)

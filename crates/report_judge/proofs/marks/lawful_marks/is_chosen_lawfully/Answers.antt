@@ -5,11 +5,10 @@ use Rattle.edge_cost.specs.declared.radii.Radii.{Radii}
 use Rattle.plan_model.specs.Geometry.Radius.{radius_of_class}
 use Rattle.plan_model.specs.declared.scenes.Scene.{Scene}
 use Rattle.plan_model.specs.Runs.RecordLaw.{IsNeighbour}
-use Rattle.plan_model.specs.Runs.Textbook.{setup_of}
 use Rattle.plan_model.specs.Spaces.Clearance.{Clear}
 use Rattle.plan_model.specs.Trees.Nearness.{is_within}
 use Rattle.plan_model.specs.Trees.PointsByNumber.{point_at, point_of}
-use Rattle.report_judge.specs.Workers.JudgedRuns.{AreRadiiOf, run_of}
+use Rattle.report_judge.specs.Workers.JudgedRuns.{AreRadiiOf, run_of, setup_by}
 use Rattle.report_judge.proofs.Workers.SeenLaws.{count_before-earlier}
 use Rattle.report_judge.proofs.marks.lawful_marks.is_chosen_lawfully.Goals as goal
 
@@ -56,13 +55,13 @@ pub returns-clause-nearest : goal.returns-clause-nearest
 returns-clause-nearest g c = λ h. c.is_nearest_and_keeps_near.ensures.nearest h
 
 pub has_class-requires-clause-seen : goal.has_class-requires-clause-seen
-has_class-requires-clause-seen g c = c.requires.seen.counted ∙ sym (count_before-earlier (run_of c.args.judged.now) c.args.entry)
+has_class-requires-clause-seen g c = c.requires.seen.counted ∙ sym (count_before-earlier (run_of c.args.judged.now) c.args.marked.entry)
 
 pub returns-then-not-is_clear_from_nearest-clause-only : goal.returns-then-not-is_clear_from_nearest-clause-only
 returns-then-not-is_clear_from_nearest-clause-only g c = λ h all bad.
     true≢false
     (sym (c.is_clear_from_nearest.ensures.1
-    (subst (λ s. Clear s (point_of (run_of c.args.judged.now).points c.args.entry.nearest) c.args.p) (sym c.requires.asked.space_is) bad.clear))
+    (subst (λ s. Clear s (point_of (run_of c.args.judged.now).points c.args.marked.entry.nearest) c.args.p) (sym c.requires.asked.space_is) bad.clear))
     ∙ c.if-not-is_clear_from_nearest.true)
 
 -- a radius of the table is that of the scene
@@ -75,10 +74,11 @@ returns-clause-lawful g c = λ h.
     let run = run_of c.args.judged.now in
     let p = c.args.p in
     let kept = c.is_nearest_and_keeps_near.ensures.kept h in
-    let radius = is_of_scene c.args.scene.now c.args.judged.now.radii.now c.requires.asked.radii_are c.args.entry.class c.radius_of_class-radius.ensures in
+    let judged = c.args.judged.now in
+    let radius = is_of_scene judged.task.now.scene judged.radii.now c.requires.asked.radii_are c.args.marked.entry.class c.radius_of_class-radius.ensures in
     record {
       clear =
-          subst (λ s. Clear s (point_of run.points c.args.entry.nearest) p) c.requires.asked.space_is
+          subst (λ s. Clear s (point_of run.points c.args.marked.entry.nearest) p) c.requires.asked.space_is
           (c.is_clear_from_nearest.ensures.0 c.if-not-is_clear_from_nearest.false);
       of_class = c.has_class.ensures.class c.if-not-has_class.false;
       chosen = λ i near.
@@ -93,10 +93,11 @@ pub returns-clause-only : goal.returns-clause-only
 returns-clause-only g c = λ h all bad.
     let run = run_of c.args.judged.now in
     let p = c.args.p in
-    let radius = is_of_scene c.args.scene.now c.args.judged.now.radii.now c.requires.asked.radii_are c.args.entry.class c.radius_of_class-radius.ensures in
+    let judged = c.args.judged.now in
+    let radius = is_of_scene judged.task.now.scene judged.radii.now c.requires.asked.radii_are c.args.marked.entry.class c.radius_of_class-radius.ensures in
     c.is_nearest_and_keeps_near.ensures.only h all
     (λ i earlier within cleared.
-    let near : IsNeighbour (setup_of c.args.scene.now) run c.args.entry p i =
+    let near : IsNeighbour (setup_by c.args.judged.now) run c.args.marked.entry p i =
     record {
       earlier = earlier;
       near = subst (λ r. IsTrue (is_within p r (point_at run.points i))) radius within;

@@ -1,9 +1,8 @@
 use Rattle.std.proofs.Common.{◌≡◌, arith, sym, ap, ◌∙◌, subst}
 use Rattle.std.proofs.lemmas.Bool.{true≢false}
 use Rattle.plan_model.specs.Geometry.Steering.{steered}
-use Rattle.plan_model.specs.Runs.Textbook.{setup_of}
 use Rattle.plan_model.specs.Trees.PointsByNumber.{point_of}
-use Rattle.report_judge.specs.Workers.JudgedRuns.{run_of}
+use Rattle.report_judge.specs.Workers.JudgedRuns.{run_of, setup_by}
 use Rattle.report_judge.specs.Workers.MarkLaws.{EndsLawfully}
 use Rattle.report_judge.proofs.Laws.ListedNodes.{none-present, point_of-listed, present-listed}
 use Rattle.report_judge.proofs.marks.lawful_marks.is_steered_lawfully.Goals as goal
@@ -25,15 +24,15 @@ returns-then-not-may_be_cheaper-clause-lawful g c = λ h. absurd (true≢false (
 
 pub returns-in_default-clause-only : goal.returns-in_default-clause-only
 returns-in_default-clause-only g c = λ h bad.
-    none-present c.args.judged.now.knots.now c.args.judged.now.records.now c.args.entry.nearest (sym c.knot_at.ensures ∙ c.in_default.is) bad.present
+    none-present c.args.judged.now.knots.now c.args.judged.now.records.now c.args.marked.entry.nearest (sym c.knot_at.ensures ∙ c.in_default.is) bad.present
 
 pub returns-then-not-may_be_cheaper-clause-only : goal.returns-then-not-may_be_cheaper-clause-only
 returns-then-not-may_be_cheaper-clause-only g c = λ h bad.
-    true≢false (sym ((c.may_be_cheaper.ensures c.args.judged.now c.args.entry c.requires.seen).1 bad.cheaper) ∙ c.if-not-may_be_cheaper.true)
+    true≢false (sym ((c.may_be_cheaper.ensures c.args.judged.now c.args.marked.entry c.requires.seen).1 bad.cheaper) ∙ c.if-not-may_be_cheaper.true)
 
 pub ends_lawfully-requires-clause-asked : goal.ends_lawfully-requires-clause-asked
 ends_lawfully-requires-clause-asked g c = λ κs within.
-    let from = (c.requires.asked.judges.fit c.args.entry.nearest c.in-Some.nearest (sym c.in-Some.ensures)).point in
+    let from = (c.requires.asked.judges.fit c.args.marked.entry.nearest c.in-Some.nearest (sym c.in-Some.ensures)).point in
     record {
       space_is = c.requires.asked.space_is;
       radii_are = c.requires.asked.radii_are;
@@ -48,28 +47,30 @@ ends_lawfully-requires-clause-asked g c = λ κs within.
 
 pub ends_lawfully-requires-clause-nearest : goal.ends_lawfully-requires-clause-nearest
 ends_lawfully-requires-clause-nearest g c = λ κs within.
-    present-listed c.args.judged.now.knots.now c.args.judged.now.records.now c.args.entry.nearest c.in-Some.nearest (sym c.in-Some.ensures)
+    present-listed c.args.judged.now.knots.now c.args.judged.now.records.now c.args.marked.entry.nearest c.in-Some.nearest (sym c.in-Some.ensures)
 
 pub returns-clause-lawful : goal.returns-clause-lawful
 returns-clause-lawful g c = λ h.
     let run = run_of c.args.judged.now in
-    let setup = setup_of c.args.scene.now in
-    let here = point_of-listed c.args.judged.now.knots.now c.args.judged.now.records.now c.args.entry.nearest c.in-Some.nearest (sym c.in-Some.ensures) in
-    let reached : c.steer-p.result ≡ steered (point_of run.points c.args.entry.nearest) c.args.point c.args.scene.now.step =
-    c.steer-p.ensures.value ∙ ap (λ q. steered q c.args.point c.args.scene.now.step) (sym here) in
+    let setup = setup_by c.args.judged.now in
+    let entry = c.args.marked.entry in
+    let here = point_of-listed c.args.judged.now.knots.now c.args.judged.now.records.now entry.nearest c.in-Some.nearest (sym c.in-Some.ensures) in
+    let reached : c.steer-p.result ≡ steered (point_of run.points c.args.marked.entry.nearest) c.args.marked.mark c.args.judged.now.task.now.scene.step =
+    c.steer-p.ensures.value ∙ ap (λ q. steered q c.args.marked.mark c.args.judged.now.task.now.scene.step) (sym here) in
     record {
-      cheaper = (c.may_be_cheaper.ensures c.args.judged.now c.args.entry c.requires.seen).0 c.if-not-may_be_cheaper.false;
-      present = present-listed c.args.judged.now.knots.now c.args.judged.now.records.now c.args.entry.nearest c.in-Some.nearest (sym c.in-Some.ensures);
+      cheaper = (c.may_be_cheaper.ensures c.args.judged.now c.args.marked.entry c.requires.seen).0 c.if-not-may_be_cheaper.false;
+      present = present-listed c.args.judged.now.knots.now c.args.judged.now.records.now c.args.marked.entry.nearest c.in-Some.nearest (sym c.in-Some.ensures);
       nearest = c.ends_lawfully.ensures.nearest h;
-      outcome = subst (λ q. EndsLawfully setup run c.args.mark c.args.entry c.args.entry.outcome q) reached (c.ends_lawfully.ensures.lawful h);
+      outcome = subst (λ q. EndsLawfully setup run c.args.marked.k entry entry.outcome q) reached (c.ends_lawfully.ensures.lawful h);
     }
 
 pub returns-clause-only : goal.returns-clause-only
 returns-clause-only g c = λ h bad.
     let run = run_of c.args.judged.now in
-    let setup = setup_of c.args.scene.now in
-    let here = point_of-listed c.args.judged.now.knots.now c.args.judged.now.records.now c.args.entry.nearest c.in-Some.nearest (sym c.in-Some.ensures) in
-    let reached : c.steer-p.result ≡ steered (point_of run.points c.args.entry.nearest) c.args.point c.args.scene.now.step =
-    c.steer-p.ensures.value ∙ ap (λ q. steered q c.args.point c.args.scene.now.step) (sym here) in
+    let setup = setup_by c.args.judged.now in
+    let entry = c.args.marked.entry in
+    let here = point_of-listed c.args.judged.now.knots.now c.args.judged.now.records.now entry.nearest c.in-Some.nearest (sym c.in-Some.ensures) in
+    let reached : c.steer-p.result ≡ steered (point_of run.points c.args.marked.entry.nearest) c.args.marked.mark c.args.judged.now.task.now.scene.step =
+    c.steer-p.ensures.value ∙ ap (λ q. steered q c.args.marked.mark c.args.judged.now.task.now.scene.step) (sym here) in
     c.ends_lawfully.ensures.only h bad.nearest
-    (subst (λ q. EndsLawfully setup run c.args.mark c.args.entry c.args.entry.outcome q) (sym reached) bad.outcome)
+    (subst (λ q. EndsLawfully setup run c.args.marked.k entry entry.outcome q) (sym reached) bad.outcome)

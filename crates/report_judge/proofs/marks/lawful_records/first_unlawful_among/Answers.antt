@@ -10,20 +10,20 @@ use Rattle.report_judge.proofs.marks.lawful_records.first_unlawful_among.Goals.{
 
 pub keeps_law-requires-clause-between : goal.keeps_law-requires-clause-between
 keeps_law-requires-clause-between g c κs within =
-    c.requires.among c.at-mark.result.number
+    c.requires.among c.at-k.result.number
     (record {
       position = c.loop-position.position;
       inside = omega (arith, c.loop-position-test.true, c.len-position-end.ensures);
-      number = ap (λ (m : Numbered). m.number) (sym c.at-mark.ensures.value);
+      number = ap (λ (m : Numbered). m.number) (sym c.at-k.ensures.value);
     })
 
 pub loop-position-preserved : goal.loop-position-preserved
 loop-position-preserved g c =
-    let Keeps = KeepsRecord c.args.task.now c.args.judged.now.knots.now c.args.judged.now.records.now in
+    let Keeps = KeepsRecord c.args.judged.now.task.now c.args.judged.now.knots.now c.args.judged.now.records.now in
     let marks = c.args.marks.now in
     let position = c.loop-position.position in
-    let mark = c.at-mark.result.number in
-    let is : mark ≡ (numbered_at marks position).number = ap (λ (m : Numbered). m.number) c.at-mark.ensures.value in
+    let mark = c.at-k.result.number in
+    let is : mark ≡ (numbered_at marks position).number = ap (λ (m : Numbered). m.number) c.at-k.ensures.value in
     elim c.if-may_be_first.branch [
       | then-may_be_first+then-not-keeps_law w ↦
           subst (IsFirstSeen Keeps marks (position + 1)) (sym w.first-is)
@@ -44,7 +44,7 @@ loop-position-preserved g c =
 
 pub returns : goal.returns
 returns g c =
-    let Keeps = KeepsRecord c.args.task.now c.args.judged.now.knots.now c.args.judged.now.records.now in
+    let Keeps = KeepsRecord c.args.judged.now.task.now c.args.judged.now.knots.now c.args.judged.now.records.now in
     let end : c.loop-position.position ≡ length c.args.marks.now =
     omega (arith, c.loop-position-test.false, c.loop-position.auto.position-end, c.len-position-end.ensures) in
     subst (λ n. IsFirstSeen Keeps c.args.marks.now n c.loop-position.first) end c.loop-position.invariant

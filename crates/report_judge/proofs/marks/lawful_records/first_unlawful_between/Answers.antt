@@ -83,7 +83,7 @@ first_unlawful_among-requires-clause-among g c κs within k there =
 
 pub returns : goal.returns
 returns g c =
-    let task = c.args.task.now in
+    let task = c.args.listed.now.task.now in
     let knots = c.args.listed.now.knots.now in
     let records = c.args.listed.now.records.now in
     let worker = c.args.own.now.turns.worker in

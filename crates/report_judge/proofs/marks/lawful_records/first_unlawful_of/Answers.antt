@@ -48,7 +48,7 @@ end_of_stretch-to-requires-clause-few g c =
 
 pub loop-from-preserved : goal.loop-from-preserved
 loop-from-preserved g c =
-    let task = c.args.task.now in
+    let task = c.args.listed.now.task.now in
     let knots = c.args.listed.now.knots.now in
     let records = c.args.listed.now.records.now in
     let from = c.loop-from.from in
@@ -66,7 +66,7 @@ loop-from-preserved g c =
 
 pub returns : goal.returns
 returns g c =
-    let task = c.args.task.now in
+    let task = c.args.listed.now.task.now in
     let knots = c.args.listed.now.knots.now in
     let records = c.args.listed.now.records.now in
     let end : c.loop-from.from ≡ c.args.turns = omega (arith, c.loop-from-test.false, c.loop-from.invariant.within) in

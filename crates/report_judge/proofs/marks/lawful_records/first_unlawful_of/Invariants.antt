@@ -7,7 +7,7 @@ use Rattle.report_judge.proofs.marks.lawful_records.first_unlawful_of.Given as g
 abbrev pub invariant-loop-from : goal.invariant-loop-from
 invariant-loop-from g l = record {
   within : l.from ≤ l.turns;
-  first : IsFirstBreak (KeepsRecordBetween l.worker 0 l.from l.task l.listed.knots.now l.listed.records.now) (length l.listed.records.now) l.first;
+  first : IsFirstBreak (KeepsRecordBetween l.worker 0 l.from l.listed.task.now l.listed.knots.now l.listed.records.now) (length l.listed.records.now) l.first;
 }
 
 abbrev pub decreases-loop-from : goal.decreases-loop-from

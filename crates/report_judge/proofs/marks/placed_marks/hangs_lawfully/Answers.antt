@@ -3,16 +3,15 @@ use Rattle.std.specs.Prelude.{slice_index_or}
 use Rattle.std.proofs.lemmas.Bool.{true≢false}
 use Rattle.plan_model.specs.declared.trees.Knot.{Knot}
 use Rattle.plan_model.specs.Runs.OrderLaw.{Hangs}
-use Rattle.plan_model.specs.Runs.Textbook.{setup_of}
 use Rattle.plan_model.specs.Trees.PointsByNumber.{StandsAt, node_count}
 use Rattle.step_core.specs.PackedRuns.{kept_cost_of}
-use Rattle.report_judge.specs.Workers.JudgedRuns.{run_of}
+use Rattle.report_judge.specs.Workers.JudgedRuns.{run_of, setup_by}
 use Rattle.report_judge.proofs.Laws.HangingNodes.{Hangs-listed, listed-Hangs}
 use Rattle.report_judge.proofs.marks.placed_marks.hangs_lawfully.Goals as goal
 
 pub returns-then-not-stands_at-clause-only : goal.returns-then-not-stands_at-clause-only
 returns-then-not-stands_at-clause-only g c = λ h bad.
-    let next : suc c.args.mark ≡ c.args.mark + 1 = omega arith in
+    let next : suc c.args.marked.k ≡ c.args.marked.k + 1 = omega arith in
     c.stands_at.ensures.only c.if-not-stands_at.true c.args.judged.now.records.now
     (subst (λ n. StandsAt (run_of c.args.judged.now).points n c.args.p) next bad.stands)
 
@@ -36,7 +35,7 @@ returns-then-not-is_within_first-2-clause-lawful g c = λ h. absurd (true≢fals
 
 pub returns-then-kept_cost-entry-clause-only : goal.returns-then-kept_cost-entry-clause-only
 returns-then-kept_cost-entry-clause-only g c = λ h bad.
-    let next : suc c.args.mark ≡ c.args.mark + 1 = omega arith in
+    let next : suc c.args.marked.k ≡ c.args.marked.k + 1 = omega arith in
     omega (
       arith,
       bad.kept,
@@ -47,7 +46,7 @@ returns-then-kept_cost-entry-clause-only g c = λ h bad.
 
 pub returns-then-entry-node-clause-only : goal.returns-then-entry-node-clause-only
 returns-then-entry-node-clause-only g c = λ h bad.
-    let next : suc c.args.mark ≡ c.args.mark + 1 = omega arith in
+    let next : suc c.args.marked.k ≡ c.args.marked.k + 1 = omega arith in
     bad.nearest_other (c.if-entry-node.true ∙ sym next)
 
 pub returns-then-not-is_within_first-clause-only : goal.returns-then-not-is_within_first-clause-only
@@ -63,14 +62,14 @@ returns-clause-lawful g c = λ h.
     let run = run_of c.args.judged.now in
     let knots = c.args.judged.now.knots.now in
     let records = c.args.judged.now.records.now in
-    let setup = setup_of c.args.scene.now in
-    let entry = c.args.entry in
+    let setup = setup_by c.args.judged.now in
+    let entry = c.args.marked.entry in
     let place : Knot = record { point = c.args.p; parent = entry.first_parent; cost = entry.first_cost } in
-    let next : suc c.args.mark ≡ c.args.mark + 1 = omega arith in
+    let next : suc c.args.marked.k ≡ c.args.marked.k + 1 = omega arith in
     let nodes : c.from-2.result ≡ node_count run.points - 1 = omega (arith, c.from-2.ensures, c.requires.asked.judges.count) in
     let hangs =
     Hangs-listed knots records setup (g.C.Clearing.space c.args.hall.now) (sym c.requires.asked.space_is) (c.from-3.result * c.from-4.result)
-    (λ i. sym c.from-3.ensures i * sym c.from-4.ensures i) (c.args.mark + 1) place (c.may_hang.ensures.hangs h) in
+    (λ i. sym c.from-3.ensures i * sym c.from-4.ensures i) (c.args.marked.k + 1) place (c.may_hang.ensures.hangs h) in
     record {
       stands = subst (λ n. StandsAt run.points n c.args.p) (sym next) (c.stands_at.ensures.stands c.if-not-stands_at.false records);
       first = subst (λ n. Hangs setup run n c.args.p entry.first_parent entry.first_cost) (sym next) hangs;
@@ -90,11 +89,11 @@ returns-clause-lawful g c = λ h.
 pub returns-clause-only : goal.returns-clause-only
 returns-clause-only g c = λ h bad.
     let run = run_of c.args.judged.now in
-    let setup = setup_of c.args.scene.now in
-    let entry = c.args.entry in
+    let setup = setup_by c.args.judged.now in
+    let entry = c.args.marked.entry in
     let place : Knot = record { point = c.args.p; parent = entry.first_parent; cost = entry.first_cost } in
-    let next : suc c.args.mark ≡ c.args.mark + 1 = omega arith in
+    let next : suc c.args.marked.k ≡ c.args.marked.k + 1 = omega arith in
     c.may_hang.ensures.only h
     (listed-Hangs c.args.judged.now.knots.now c.args.judged.now.records.now setup (g.C.Clearing.space c.args.hall.now) (sym c.requires.asked.space_is)
-    (c.from-3.result * c.from-4.result) (λ i. sym c.from-3.ensures i * sym c.from-4.ensures i) (c.args.mark + 1) place
+    (c.from-3.result * c.from-4.result) (λ i. sym c.from-3.ensures i * sym c.from-4.ensures i) (c.args.marked.k + 1) place
     (subst (λ n. Hangs setup run n c.args.p entry.first_parent entry.first_cost) next bad.first))

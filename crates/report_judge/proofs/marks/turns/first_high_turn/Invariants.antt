@@ -3,5 +3,5 @@ use Rattle.report_judge.specs.Laws.FirstBreaks.{HasLowTurn}
 use Rattle.report_judge.proofs.marks.turns.first_high_turn.Given as goal
 
 -- each turn so far is low
-abbrev pub invariant-loop-mark : goal.invariant-loop-mark
-invariant-loop-mark l = (k : ℕ) → k < l.mark → HasLowTurn l.records k
+abbrev pub invariant-loop-k : goal.invariant-loop-k
+invariant-loop-k l = (k : ℕ) → k < l.k → HasLowTurn l.records k

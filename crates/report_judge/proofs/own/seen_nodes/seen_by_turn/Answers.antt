@@ -8,8 +8,8 @@ use Rattle.report_judge.proofs.Texts.ListPlaces.{pushed_each}
 use Rattle.report_judge.proofs.Workers.SeenStarts.{one_counted}
 use Rattle.report_judge.proofs.own.seen_nodes.seen_by_turn.Goals as goal
 
-pub loop-mark-init : goal.loop-mark-init
-loop-mark-init c =
+pub loop-k-init : goal.loop-k-init
+loop-k-init c =
     let first = c.at_start-seen.ensures c.args.records.now c.args.turns.now.worker in
     let none = c.in_ok-all.ensures.items in
     record {
@@ -28,29 +28,29 @@ loop-mark-init c =
 
 pub after-seen-requires-clause-low : goal.after-seen-requires-clause-low
 after-seen-requires-clause-low c =
-    let index = c.loop-mark.mark-index in
-    low_mark c.args.records.now c.args.turns.now.worker index (slice_index_or c.deref-mark-items.result.now index None)
-    (subst (λ os. IsMarkOfTurn c.args.records.now c.args.turns.now.worker index (slice_index_or os index None)) (sym c.deref-mark-items.ensures.value)
-    (c.requires.marks index (omega (arith, c.loop-mark-test.true, ap length c.deref-mark-items.ensures.value))))
+    let index = c.loop-k.k-index in
+    low_mark c.args.records.now c.args.turns.now.worker index (slice_index_or c.deref-k-items.result.now index None)
+    (subst (λ os. IsMarkOfTurn c.args.records.now c.args.turns.now.worker index (slice_index_or os index None)) (sym c.deref-k-items.ensures.value)
+    (c.requires.marks index (omega (arith, c.loop-k-test.true, ap length c.deref-k-items.ensures.value))))
 
-pub loop-mark-preserved : goal.loop-mark-preserved
-loop-mark-preserved c =
+pub loop-k-preserved : goal.loop-k-preserved
+loop-k-preserved c =
     let run = state_of_lists c.args.knots.now c.args.records.now in
-    let old = c.loop-mark.all.items in
-    let index = c.loop-mark.mark-index in
+    let old = c.loop-k.all.items in
+    let index = c.loop-k.k-index in
     let next : suc index ≡ index + 1 = omega arith in
     let items = c.in_ok-push.ensures.items in
     record {
-      long = omega (arith, ap length items, length-append old (c.loop-mark.seen ∷ []), c.loop-mark.invariant.long);
-      room = omega (arith, c.after-seen.ensures.more, c.loop-mark.invariant.room);
+      long = omega (arith, ap length items, length-append old (c.loop-k.seen ∷ []), c.loop-k.invariant.long);
+      room = omega (arith, c.after-seen.ensures.more, c.loop-k.invariant.room);
       now =
           subst (λ t. AreSeen c.args.goals.now run c.args.turns.now.worker t c.after-seen.result) next
           (c.after-seen.ensures.seen c.args.turns.now.worker index
-          (subst (λ os. IsMarkOfTurn c.args.records.now c.args.turns.now.worker index (slice_index_or os index None)) (sym c.deref-mark-items.ensures.value)
-          (c.requires.marks index (omega (arith, c.loop-mark-test.true, ap length c.deref-mark-items.ensures.value)))) c.loop-mark.invariant.now);
+          (subst (λ os. IsMarkOfTurn c.args.records.now c.args.turns.now.worker index (slice_index_or os index None)) (sym c.deref-k-items.ensures.value)
+          (c.requires.marks index (omega (arith, c.loop-k-test.true, ap length c.deref-k-items.ensures.value)))) c.loop-k.invariant.now);
       each = λ turn own is.
-          pushed_each (AreSeen c.args.goals.now run c.args.turns.now.worker) old c.loop-mark.seen c.loop-mark.invariant.each
-          (subst (λ t. AreSeen c.args.goals.now run c.args.turns.now.worker t c.loop-mark.seen) (sym c.loop-mark.invariant.long)
-          c.loop-mark.invariant.now) turn own
+          pushed_each (AreSeen c.args.goals.now run c.args.turns.now.worker) old c.loop-k.seen c.loop-k.invariant.each
+          (subst (λ t. AreSeen c.args.goals.now run c.args.turns.now.worker t c.loop-k.seen) (sym c.loop-k.invariant.long)
+          c.loop-k.invariant.now) turn own
           (ap (λ xs. slice_get xs turn) (sym items) ∙ is);
     }

@@ -6,10 +6,10 @@ use Rattle.report_judge.specs.declared.own.seen_nodes.Seen.{Seen}
 use Rattle.report_judge.proofs.own.seen_nodes.seen_by_turn.Given as goal
 
 -- what stood before each turn so far, and before this one
-abbrev pub invariant-loop-mark : goal.invariant-loop-mark
-invariant-loop-mark l = record {
-  long : length l.all.items ≡ l.mark-index;
-  room : l.seen.nodes ≤ l.mark-index + 1;
-  now : AreSeen l.goals (state_of_lists l.knots l.records) l.turns.worker l.mark-index l.seen;
+abbrev pub invariant-loop-k : goal.invariant-loop-k
+invariant-loop-k l = record {
+  long : length l.all.items ≡ l.k-index;
+  room : l.seen.nodes ≤ l.k-index + 1;
+  now : AreSeen l.goals (state_of_lists l.knots l.records) l.turns.worker l.k-index l.seen;
   each : (turn : ℕ) (own : Seen) → slice_get l.all.items turn ≡ Some own → AreSeen l.goals (state_of_lists l.knots l.records) l.turns.worker turn own;
 }

@@ -6,9 +6,9 @@ use Rattle.report_judge.specs.Texts.ReportSheets.{lines_of_records}
 use Rattle.report_judge.proofs.reading.front_lines.read_records.Given as goal
 
 -- the records so far are read
-abbrev pub invariant-loop-mark : goal.invariant-loop-mark
-invariant-loop-mark l = record {
-  long : length l.records.items ≡ l.mark;
+abbrev pub invariant-loop-k : goal.invariant-loop-k
+invariant-loop-k l = record {
+  long : length l.records.items ≡ l.k;
   told : l.text ≡ lines_text (lines_of_records l.records.items) ++ l.rest;
   fit : (k : ℕ) (entry : Record) → slice_get l.records.items k ≡ Some entry → FitsEntry (record { marks = l.marks; informed = l.informed }) entry;
 }
