@@ -8,13 +8,14 @@ ghost use Rattle.plan_model.specs.Reports.ReportText as spec;
 ghost use Rattle.plan_model.specs.Reports.ReportText.{line, report_text, summary};
 ghost use Rattle.plan_model.specs.Trees.TreeStates.{IsSettled};
 ghost use Rattle.settle_report.specs.OutcomeCounts.{AreCounts};
-ghost use Rattle.step_core.specs.GrownRuns.{state_of_grown};
+ghost use Rattle.grown_runs.specs.Runs.GrownRuns.{state_of_grown};
 
 use crate::best_node::best;
 use crate::mark_lines::push_mark_lines;
 use crate::node_lines::push_node_lines;
 use crate::outcome_counts::OutcomeCounts;
 use crate::paths::path_to;
+use grown_runs::Grown;
 use plan_model::{Memory, Point};
 use std::alloc::{AllocError, Global};
 

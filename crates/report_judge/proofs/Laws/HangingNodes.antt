@@ -11,7 +11,7 @@ use Rattle.plan_model.specs.Runs.Textbook.{Setup}
 use Rattle.plan_model.specs.Spaces.Clearance.{Clear}
 use Rattle.plan_model.specs.Trees.PointsByNumber.{point_of}
 use Rattle.plan_model.specs.Trees.TreeStates.{TreeState, first_cost_of, recorded_or}
-use Rattle.step_core.specs.PackedRuns.{kept_cost_of, state_of_lists}
+use Rattle.grown_runs.specs.Runs.PackedRuns.{kept_cost_of, state_of_lists}
 use Rattle.report_judge.specs.Laws.ExactEdges.{MayHang}
 use Rattle.report_judge.proofs.Laws.NodeBreaks.{listed, own_point, present}
 

@@ -12,8 +12,8 @@ use Rattle.plan_model.specs.Spaces.Clearance.{Clear}
 use Rattle.plan_model.specs.Trees.PointsByNumber.{IsPresent, StandsAt, point_of}
 use Rattle.plan_model.specs.Trees.TreeStates.{TreeState}
 use Rattle.plan_model.proofs.NewNodes.{IsPresent-stands, point_of-stands}
-use Rattle.step_core.specs.PackedRuns.{kept_cost_of, state_of_lists}
-use Rattle.step_core.proofs.PackedStates.{point_at-lists, parent_of-lists}
+use Rattle.grown_runs.specs.Runs.PackedRuns.{kept_cost_of, state_of_lists}
+use Rattle.grown_runs.proofs.Runs.PackedStates.{point_at-lists, parent_of-lists}
 use Rattle.report_judge.specs.Laws.ExactEdges.{FitsEdges, KeepsEdges}
 use Rattle.report_judge.specs.Laws.FirstBreaks.{IsFirstBreak, IsNewKey, KeepsNode, point_key}
 use Rattle.report_judge.specs.Laws.SheetLaws.{IsSoundNode}

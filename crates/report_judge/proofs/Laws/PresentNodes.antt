@@ -6,8 +6,8 @@ use Rattle.plan_model.specs.declared.records.Record.{Record}
 use Rattle.plan_model.specs.declared.trees.Knot.{Knot}
 use Rattle.plan_model.specs.Runs.Outcomes.{is_placed}
 use Rattle.plan_model.specs.Trees.PointsByNumber.{point_at}
-use Rattle.step_core.specs.PackedRuns.{state_of_lists}
-use Rattle.step_core.proofs.PackedStates.{point_at-lists}
+use Rattle.grown_runs.specs.Runs.PackedRuns.{state_of_lists}
+use Rattle.grown_runs.proofs.Runs.PackedStates.{point_at-lists}
 use Rattle.report_judge.specs.Laws.FirstBreaks.{KeepsPresence}
 
 is_some-map : (o : Option Knot) → is_some (option_map (λ (knot : Knot). knot.point) o) ≡ is_some o

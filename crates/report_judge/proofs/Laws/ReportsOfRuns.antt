@@ -37,9 +37,9 @@ use Rattle.plan_model.proofs.OrderLaws.{start-present, parent-present}
 use Rattle.plan_model.proofs.SameReports.{report_text-same}
 use Rattle.plan_model.proofs.SameTrees.{IsClosed-same_run, IsSettled-same}
 use Rattle.plan_model.proofs.WorkerTurns.{times-once, turn-below}
-use Rattle.step_core.specs.PackedRuns.{IsKnot, kept_cost_of, state_of_lists}
-use Rattle.step_core.proofs.FittingStates.{FitsRecord-closed, IsBounded-closed, kept-low, present-closed}
-use Rattle.step_core.proofs.PackedStates.{point_at-lists, parent_of-lists}
+use Rattle.grown_runs.specs.Runs.PackedRuns.{IsKnot, kept_cost_of, state_of_lists}
+use Rattle.grown_runs.proofs.Runs.FittingStates.{FitsRecord-closed, IsBounded-closed, kept-low, present-closed}
+use Rattle.grown_runs.proofs.Runs.PackedStates.{point_at-lists, parent_of-lists}
 use Rattle.report_judge.specs.Texts.ReportLines.{FitsKnot, FitsEntry, FitsTally, FitsSkipped, EndsWithin, extent_of}
 use Rattle.report_judge.specs.Texts.ReportSheets.{Sheet, FitsOptionalPath, HasForm}
 use Rattle.report_judge.specs.Laws.SheetLaws.{HasOwnTurn, KeepsNodeLaw, KeepsLaw, best_priced_path, path_by, skipped_of, tally_of}

@@ -15,8 +15,8 @@ use Rattle.plan_model.specs.Trees.PointsByNumber.{IsPresent}
 use Rattle.plan_model.specs.Trees.TreeStates.{TreeState}
 use Rattle.plan_model.proofs.MarkBounds.{length-marks}
 use Rattle.plan_model.proofs.OrderLaws.{KeepsOrder-falls, parent-present}
-use Rattle.step_core.specs.PackedRuns.{state_of_lists}
-use Rattle.step_core.proofs.PackedStates.{IsKnot-at}
+use Rattle.grown_runs.specs.Runs.PackedRuns.{state_of_lists}
+use Rattle.grown_runs.proofs.Runs.PackedStates.{IsKnot-at}
 use Rattle.report_judge.specs.Laws.ExactEdges.{FitsEdges}
 use Rattle.report_judge.specs.Laws.FirstBreaks.{HasFewTurns, KeepsPresence, KeepsTurn}
 use Rattle.report_judge.specs.Workers.JudgedRuns.{HaveLowTurns}

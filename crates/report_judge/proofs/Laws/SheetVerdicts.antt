@@ -14,7 +14,7 @@ use Rattle.plan_model.specs.Trees.BestNode.{best_node, goals_of}
 use Rattle.plan_model.specs.Trees.NodeLists.{without_costs}
 use Rattle.plan_model.specs.Trees.PointsByNumber.{IsPresent, node_count, point_at}
 use Rattle.plan_model.proofs.NewNodes.{present_below}
-use Rattle.step_core.specs.PackedRuns.{state_of_lists}
+use Rattle.grown_runs.specs.Runs.PackedRuns.{state_of_lists}
 use Rattle.report_judge.specs.declared.verdicts.Verdict.TheVariants.{Lawful, Broken}
 use Rattle.report_judge.specs.declared.verdicts.Verdict.{Verdict}
 use Rattle.report_judge.specs.Laws.FirstBreaks.{IsFirstBreak, KeepsHead, KeepsNode, KeepsPresence, KeepsTurn}

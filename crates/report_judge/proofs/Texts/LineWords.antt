@@ -17,7 +17,7 @@ use Rattle.plan_model.specs.Runs.SameRuns.{HaveSameFields}
 use Rattle.plan_model.specs.Texts.TextLines.{lines_of, pieces_of}
 use Rattle.plan_model.specs.Texts.TextNumbers.{is_digit}
 use Rattle.plan_model.proofs.UniqueRuns.{Record-from_fields}
-use Rattle.step_core.specs.Words.{last_field}
+use Rattle.grown_runs.specs.Table.Words.{last_field}
 use Rattle.report_judge.specs.Texts.ReportLines.{ReportLine, Extent, line_words, line_text, skipped_count, FitsLine, FitsSkipped}
 use Rattle.report_judge.specs.Texts.ReportLines.ReportLine.{NoPath, PathOf, PathPoint, Counts, NodeLine, MarkLine}
 

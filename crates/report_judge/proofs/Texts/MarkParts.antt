@@ -6,7 +6,7 @@ use Rattle.plan_model.specs.declared.records.Outcome.{Outcome}
 use Rattle.plan_model.specs.declared.records.Outcome.TheVariants.{Placed, Same, Blocked, Skipped}
 use Rattle.plan_model.specs.declared.records.Record.{Record}
 use Rattle.plan_model.specs.Reports.ReportText.{line, outcome_words}
-use Rattle.step_core.specs.Words.{last_field}
+use Rattle.grown_runs.specs.Table.Words.{last_field}
 use Rattle.report_judge.specs.Texts.ReportLines.{Extent, EndsWithin, FitsEntry, field, line_text, mark_front}
 use Rattle.report_judge.specs.Texts.ReportLines.ReportLine.{MarkLine}
 use Rattle.report_judge.proofs.Texts.LineParts.{same_field}

@@ -18,10 +18,10 @@ use Rattle.plan_model.specs.Runs.Textbook.{unplaced_record}
 use Rattle.plan_model.specs.Trees.PointsByNumber.{IsPresent, point_at}
 use Rattle.plan_model.proofs.CountsBelow.{range-more}
 use Rattle.plan_model.proofs.NewNodes.{node_count-some}
-use Rattle.step_core.proofs.PackedLists.{node_count-lists}
-use Rattle.step_core.proofs.PackedStates.{IsKnot-at, point_at-lists}
+use Rattle.grown_runs.proofs.Runs.PackedLists.{node_count-lists}
+use Rattle.grown_runs.proofs.Runs.PackedStates.{IsKnot-at, point_at-lists}
 use Rattle.report_judge.specs.Texts.ReportForms.{nodes_said, counts_place, nodes_to_come, MayFollow, MayStandNext, AreBegun, AreAll}
-use Rattle.step_core.specs.PackedRuns.{IsKnot}
+use Rattle.grown_runs.specs.Runs.PackedRuns.{IsKnot}
 use Rattle.report_judge.specs.Texts.ReportLines.{Tally, ReportLine, Extent, FitsTally, FitsKnot, FitsEntry, FitsLine}
 use Rattle.report_judge.specs.Texts.ReportLines.ReportLine.{NoPath, PathOf, PathPoint, Counts, NodeLine, MarkLine}
 use Rattle.report_judge.specs.Texts.ReportSheets.{PricedPath, Sheet, path_lines, head_lines, line_of_knot, line_of_record, lines_of_knots, lines_of_records}

@@ -14,8 +14,8 @@ use Rattle.plan_model.specs.Reports.ReportText.{node_line_if_present, node_lines
 use Rattle.plan_model.specs.Trees.BestNode.{best_node, goals_of}
 use Rattle.plan_model.specs.Trees.PointsByNumber.{point_at}
 use Rattle.plan_model.specs.Trees.TreeStates.{TreeState, IsSettled, sum_in}
-use Rattle.step_core.specs.PackedRuns.{kept_cost_of, state_of_lists}
-use Rattle.step_core.proofs.PackedStates.{point_at-lists, parent_of-lists}
+use Rattle.grown_runs.specs.Runs.PackedRuns.{kept_cost_of, state_of_lists}
+use Rattle.grown_runs.proofs.Runs.PackedStates.{point_at-lists, parent_of-lists}
 use Rattle.report_judge.specs.Texts.ReportLines.{ReportLine, line_text, lines_text, skipped_count}
 use Rattle.report_judge.specs.Texts.ReportLines.ReportLine.{PathPoint, Counts, NodeLine, MarkLine}
 use Rattle.report_judge.specs.Texts.ReportSheets.{Sheet, head_lines, line_of_knot, line_of_record, lines_of_knots, lines_of_records}

@@ -4,7 +4,7 @@ use Rattle.std.specs.Prelude.{slice_get}
 use Rattle.plan_model.specs.declared.records.Record.{Record}
 use Rattle.plan_model.specs.declared.trees.Knot.{Knot}
 use Rattle.plan_model.specs.Trees.TreeStates.{first_cost_of, recorded_or}
-use Rattle.step_core.specs.PackedRuns.{state_of_lists}
+use Rattle.grown_runs.specs.Runs.PackedRuns.{state_of_lists}
 use Rattle.report_judge.specs.Workers.OwnNodes.{FitFirstCosts}
 
 pub first_cost_low : (knots : List (Option Knot)) (records : List Record) → FitFirstCosts records → (n : ℕ)

@@ -27,7 +27,7 @@ use Rattle.point_strips.specs.Discs.{IsWithin}
 use Rattle.point_strips.specs.Walks.{numbered_at, nowhere, HasNoneBetween, IsRunAfter}
 use Rattle.point_strips.specs.declared.strips.Numbered.{Numbered}
 use Rattle.point_strips.specs.declared.strips.Run.{Run}
-use Rattle.step_core.specs.PackedRuns.{state_of_lists}
+use Rattle.grown_runs.specs.Runs.PackedRuns.{state_of_lists}
 use Rattle.report_judge.specs.Workers.OwnNodes.{AreNodesBefore, ArePresent, HasNo, HasOne, IsPassedOverAt, IsNearerAt, IsNodeBefore, IsPlacedAt, IsPlacedMarkAt}
 use Rattle.report_judge.specs.Workers.OwnNodes.{IsUnlawfulAt}
 use Rattle.report_judge.specs.Workers.OwnNodes.{IsNearestOfEarlier, IsTaken, KeepsNear}

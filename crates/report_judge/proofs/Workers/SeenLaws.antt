@@ -13,7 +13,7 @@ use Rattle.plan_model.specs.Runs.RecordLaw.{is_earlier, is_earlier_record, earli
 use Rattle.plan_model.specs.Trees.BestNode.{IsGoalNode}
 use Rattle.plan_model.specs.Trees.TreeStates.{TreeState, first_cost_of, recorded_or}
 use Rattle.plan_model.proofs.CountsBelow.{count-one_more, count-same}
-use Rattle.step_core.specs.PackedRuns.{state_of_lists}
+use Rattle.grown_runs.specs.Runs.PackedRuns.{state_of_lists}
 use Rattle.report_judge.specs.Workers.SeenNodes.{IsTurnOf, IsMarkOfTurn, HaveOwnTurns, places_before, is_before, count_before, IsLeastGoalCost, IsLeastIfAny}
 use Rattle.report_judge.specs.Workers.SeenNodes.{AreSeen}
 use Rattle.report_judge.specs.declared.own.seen_nodes.Seen.{Seen}

@@ -14,7 +14,7 @@ use Rattle.plan_model.specs.Trees.BestNode.{IsGoalNode}
 use Rattle.plan_model.specs.Trees.NodeLists.{points_of, without_costs}
 use Rattle.plan_model.specs.Trees.TreeStates.{TreeState}
 use Rattle.plan_model.proofs.CountsBelow.{count-first, count-none}
-use Rattle.step_core.specs.PackedRuns.{state_of_lists}
+use Rattle.grown_runs.specs.Runs.PackedRuns.{state_of_lists}
 use Rattle.report_judge.specs.Workers.SeenNodes.{places_before, is_before, count_before, AreSeen}
 use Rattle.report_judge.proofs.Laws.LawfulSheets.{length-without_costs}
 

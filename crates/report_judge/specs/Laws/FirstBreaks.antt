@@ -7,7 +7,7 @@ use Rattle.plan_model.specs.Runs.Outcomes.{is_placed}
 use Rattle.plan_model.specs.Runs.Textbook.{Setup}
 use Rattle.plan_model.specs.Runs.Turns.{turns_of}
 use Rattle.plan_model.specs.Trees.PointsByNumber.{IsPresent, point_at}
-use Rattle.step_core.specs.PackedRuns.{state_of_lists}
+use Rattle.grown_runs.specs.Runs.PackedRuns.{state_of_lists}
 use Rattle.report_judge.specs.Texts.ReportLines.{Tally}
 use Rattle.report_judge.specs.Texts.ReportSheets.{PricedPath, head_lines}
 use Rattle.report_judge.specs.Laws.SheetLaws.{HasOwnTurn, KeepsNodeLaw}

@@ -4,7 +4,7 @@ use Rattle.plan_model.specs.declared.geometry.Point.{Point}
 use Rattle.plan_model.specs.declared.records.Record.{Record}
 use Rattle.plan_model.specs.declared.trees.Knot.{Knot}
 use Rattle.plan_model.specs.Geometry.Bounds.{IsBounded}
-use Rattle.step_core.specs.PackedRuns.{IsKnot}
+use Rattle.grown_runs.specs.Runs.PackedRuns.{IsKnot}
 use Rattle.report_judge.specs.Texts.ReportForms.{MayFollow}
 use Rattle.report_judge.specs.Texts.ReportLines.{Tally, Extent, line_text, lines_text, FitsKnot, FitsEntry}
 use Rattle.report_judge.specs.Texts.ReportLines.ReportLine.{PathPoint, Counts, NodeLine, MarkLine}

@@ -8,7 +8,7 @@ use Rattle.plan_model.specs.declared.tasks.Task.{Task}
 use Rattle.plan_model.specs.declared.trees.Knot.{Knot}
 use Rattle.plan_model.specs.Geometry.Bounds.{IsBounded}
 use Rattle.plan_model.specs.Reports.ReportText.{line, outcome_words}
-use Rattle.step_core.specs.PackedRuns.{FitsRecord}
+use Rattle.grown_runs.specs.Runs.PackedRuns.{FitsRecord}
 pub use Rattle.report_judge.specs.declared.tallies.Tally.{Tally}
 
 -- What a line says: that there is no path, or how many points the path has and what it costs; one of these points; the counts;

@@ -8,7 +8,7 @@ use Rattle.plan_model.specs.declared.trees.Knot.{Knot}
 use Rattle.plan_model.specs.Geometry.Bounds.{IsBounded}
 use Rattle.plan_model.specs.Trees.PointsByNumber.{IsPresent, node_count}
 use Rattle.plan_model.specs.Trees.TreeStates.{TreeState}
-use Rattle.step_core.specs.PackedRuns.{IsKnot, state_of_lists}
+use Rattle.grown_runs.specs.Runs.PackedRuns.{IsKnot, state_of_lists}
 use Rattle.report_judge.specs.Texts.ReportLines.{Tally, ReportLine, Extent, lines_text, FitsTally, FitsKnot, FitsEntry}
 use Rattle.report_judge.specs.Texts.ReportLines.ReportLine.{NoPath, PathOf, PathPoint, Counts, NodeLine, MarkLine}
 

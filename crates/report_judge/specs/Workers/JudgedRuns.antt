@@ -17,7 +17,7 @@ use Rattle.plan_model.specs.Spaces.ConfigurationSpace.{space_of}
 use Rattle.plan_model.specs.Trees.PointsByNumber.{node_count}
 use Rattle.plan_model.specs.Trees.TreeStates.{TreeState}
 use Rattle.edge_cost.specs.declared.radii.Radii.{Radii}
-use Rattle.step_core.specs.PackedRuns.{state_of_lists}
+use Rattle.grown_runs.specs.Runs.PackedRuns.{state_of_lists}
 use Rattle.report_judge.specs.declared.marks.judged.Judged.{Judged}
 use Rattle.report_judge.specs.declared.marks.judged.Listed.{Listed}
 use Rattle.report_judge.specs.declared.own.own_runs.OwnRun.{OwnRun}

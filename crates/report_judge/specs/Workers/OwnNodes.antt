@@ -17,7 +17,7 @@ use Rattle.plan_model.specs.Trees.PointsByNumber.{StandsAt, IsPresent, point_at,
 use Rattle.plan_model.specs.Trees.TreeStates.{TreeState}
 use Rattle.point_strips.specs.Walks.{numbered_at}
 use Rattle.point_strips.specs.declared.strips.Numbered.{Numbered}
-use Rattle.step_core.specs.PackedRuns.{state_of_lists}
+use Rattle.grown_runs.specs.Runs.PackedRuns.{state_of_lists}
 use Rattle.report_judge.specs.Workers.SeenNodes.{is_before}
 use Rattle.report_judge.specs.Workers.Standings.{place_of, standing_at}
 use Rattle.report_judge.specs.declared.own.searches.NearerSearch.{NearerSearch}

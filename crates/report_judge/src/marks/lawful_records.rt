@@ -8,7 +8,7 @@ ghost use Rattle.plan_model.specs.Trees.PointsByNumber.{node_count};
 ghost use Rattle.plan_model.specs.declared.limits.TheConstants.{MOST_MARKS, MOST_NODES};
 ghost use Rattle.plan_model.specs.declared.records.Record.{Record};
 ghost use Rattle.plan_model.specs.declared.trees.Knot.{Knot};
-ghost use Rattle.step_core.specs.PackedRuns.{state_of_lists};
+ghost use Rattle.grown_runs.specs.Runs.PackedRuns.{state_of_lists};
 ghost use Rattle.report_judge.specs.Laws.ExactEdges.{FitsEdges};
 ghost use Rattle.report_judge.specs.Laws.FirstBreaks.{HasFewTurns, IsFirstBreak};
 ghost use Rattle.report_judge.specs.Workers.JudgedRuns.{AreListed, AreRadiiOf, HaveLowTurns, IsJudged, IsOwnRun};

@@ -4,7 +4,7 @@ ghost use Rattle.std.specs.Prelude.{◌≡◌, ◌+◌, ◌<◌, ◌≤◌, ℕ,
 ghost use Rattle.plan_model.specs.declared.limits.TheConstants.{MOST_MARKS};
 ghost use Rattle.plan_model.specs.declared.records.Record.{Record};
 ghost use Rattle.report_judge.specs.declared.own.seen_nodes.Seen.{Seen};
-ghost use Rattle.step_core.specs.PackedRuns.{state_of_lists};
+ghost use Rattle.grown_runs.specs.Runs.PackedRuns.{state_of_lists};
 ghost use Rattle.report_judge.specs.Workers.SeenNodes.{AreSeen, AreTurnsOf, HaveOwnTurns, IsMarkOfTurn};
 
 use crate::marks::presence::is_placed;

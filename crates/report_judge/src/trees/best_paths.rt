@@ -8,13 +8,14 @@ ghost use Rattle.plan_model.specs.Trees.NodeLists.{FallAlong};
 ghost use Rattle.plan_model.specs.Trees.PointsByNumber.{IsPresent, point_at, point_of};
 ghost use Rattle.plan_model.specs.Trees.TreeStates.{IsSettled, chain_in, sum_in};
 ghost use Rattle.plan_model.specs.declared.limits.TheConstants.{MOST_NODES};
-ghost use Rattle.step_core.specs.PackedRuns.{kept_cost_of, state_of_lists};
+ghost use Rattle.grown_runs.specs.Runs.PackedRuns.{kept_cost_of, state_of_lists};
 ghost use Rattle.report_judge.specs.Laws.SheetLaws.{path_by};
 ghost use Rattle.report_judge.specs.Texts.SheetsRead.{path_of_way};
 ghost use Rattle.report_judge.specs.Laws.ListedTrees.{IsSettledList};
 
 use crate::trees::exact_edges::knot_at;
 use crate::ways::Way;
+use grown_runs::lies_in_goals;
 use plan_model::{Goal, Knot, Memory, Point};
 use std::alloc::Global;
 

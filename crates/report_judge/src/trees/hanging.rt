@@ -4,7 +4,7 @@ ghost use Rattle.std.specs.Prelude.{◌≡◌, ◌^◌, ◌<◌, ℕ, IsFalse, I
 ghost use Rattle.plan_model.specs.Geometry.Bounds.{IsBounded};
 ghost use Rattle.plan_model.specs.Trees.TreeStates.{first_cost_of};
 ghost use Rattle.plan_model.specs.declared.trees.Knot.{Knot};
-ghost use Rattle.step_core.specs.PackedRuns.{state_of_lists};
+ghost use Rattle.grown_runs.specs.Runs.PackedRuns.{state_of_lists};
 ghost use Rattle.report_judge.specs.Laws.ExactEdges.{FitsEdges, IsHighEdge, MayHang};
 
 use crate::trees::exact_edges::knot_at;

@@ -4,7 +4,7 @@ use Rattle.plan_model.specs.declared.geometry.Goal.{Goal}
 use Rattle.plan_model.specs.declared.tasks.Task.{Task}
 use Rattle.plan_model.specs.declared.trees.Knot.{Knot}
 use Rattle.plan_model.specs.Trees.BestNode.{best_node}
-use Rattle.step_core.specs.PackedRuns.{state_of_lists}
+use Rattle.grown_runs.specs.Runs.PackedRuns.{state_of_lists}
 use Rattle.report_judge.specs.declared.verdicts.Verdict.TheVariants.{Broken}
 use Rattle.report_judge.specs.Laws.Judgements.{IsVerdict, bytes_of}
 use Rattle.report_judge.specs.Laws.ListedTrees.{IsSettledList}

@@ -3,7 +3,7 @@ use Rattle.std.specs.Prelude.{slice_get, slice_index_or}
 use Rattle.plan_model.specs.declared.limits.TheConstants.{MOST_MARKS}
 use Rattle.plan_model.specs.declared.records.Record.{Record}
 use Rattle.plan_model.specs.declared.trees.Knot.{Knot}
-use Rattle.step_core.specs.PackedRuns.{state_of_lists}
+use Rattle.grown_runs.specs.Runs.PackedRuns.{state_of_lists}
 use Rattle.report_judge.specs.Laws.ExactEdges.{FitsEdges}
 use Rattle.report_judge.specs.Laws.FirstBreaks.{HasFewTurns, IsFirstBreak}
 use Rattle.report_judge.specs.Laws.Judgements.{IsVerdict, bytes_of}

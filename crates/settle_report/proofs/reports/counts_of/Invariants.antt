@@ -1,4 +1,4 @@
-use Rattle.step_core.specs.GrownRuns.{state_of_grown}
+use Rattle.grown_runs.specs.Runs.GrownRuns.{state_of_grown}
 use Rattle.settle_report.specs.OutcomeCounts.{AreCounts}
 use Rattle.settle_report.proofs.reports.counts_of.Given as goal
 

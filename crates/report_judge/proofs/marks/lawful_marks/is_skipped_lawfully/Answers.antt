@@ -6,7 +6,7 @@ use Rattle.plan_model.specs.Runs.Textbook.{mark_bound, setup_of, skipping_goals}
 use Rattle.plan_model.specs.Trees.BestNode.{is_goal_point, lies_in_goals}
 use Rattle.plan_model.specs.Trees.GoalBounds.{bound_of}
 use Rattle.plan_model.specs.Trees.PointsByNumber.{point_at}
-use Rattle.step_core.specs.PackedRuns.{kept_cost_of}
+use Rattle.grown_runs.specs.Runs.PackedRuns.{kept_cost_of}
 use Rattle.report_judge.specs.Workers.JudgedRuns.{run_of}
 use Rattle.report_judge.proofs.Laws.ListedNodes.{goal-listed, goal-none}
 use Rattle.report_judge.proofs.marks.lawful_marks.is_skipped_lawfully.Goals as goal

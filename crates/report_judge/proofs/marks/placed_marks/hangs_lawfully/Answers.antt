@@ -4,7 +4,7 @@ use Rattle.std.proofs.lemmas.Bool.{true≢false}
 use Rattle.plan_model.specs.declared.trees.Knot.{Knot}
 use Rattle.plan_model.specs.Runs.OrderLaw.{Hangs}
 use Rattle.plan_model.specs.Trees.PointsByNumber.{StandsAt, node_count}
-use Rattle.step_core.specs.PackedRuns.{kept_cost_of}
+use Rattle.grown_runs.specs.Runs.PackedRuns.{kept_cost_of}
 use Rattle.report_judge.specs.Workers.JudgedRuns.{run_of, setup_by}
 use Rattle.report_judge.proofs.Laws.HangingNodes.{Hangs-listed, listed-Hangs}
 use Rattle.report_judge.proofs.marks.placed_marks.hangs_lawfully.Goals as goal

@@ -4,7 +4,7 @@ use Rattle.std.proofs.lemmas.List.{get_or_default}
 use Rattle.std.proofs.lemmas.List.Elements.{All-push}
 use Rattle.plan_model.specs.Geometry.Bounds.{IsBounded}
 use Rattle.point_strips.specs.declared.strips.Numbered.{Numbered}
-use Rattle.step_core.specs.PackedRuns.{state_of_lists}
+use Rattle.grown_runs.specs.Runs.PackedRuns.{state_of_lists}
 use Rattle.report_judge.specs.Workers.OwnNodes.{AreNodesBefore, IsPlacedAt}
 use Rattle.report_judge.specs.Workers.SeenNodes.{IsMarkOfTurn}
 use Rattle.report_judge.proofs.Laws.ListedNodes.{none-stands, stands-listed}

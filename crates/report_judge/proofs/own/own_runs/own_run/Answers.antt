@@ -1,5 +1,5 @@
 use Rattle.std.proofs.Common.{arith, ◌∙◌, subst}
-use Rattle.step_core.specs.PackedRuns.{state_of_lists}
+use Rattle.grown_runs.specs.Runs.PackedRuns.{state_of_lists}
 use Rattle.report_judge.specs.Workers.SeenNodes.{AreSeen}
 use Rattle.report_judge.specs.Workers.Standings.{AreStandings}
 use Rattle.report_judge.proofs.own.own_runs.own_run.Goals as goal

@@ -1,6 +1,6 @@
 use Rattle.std.proofs.Common.{◌≡◌, ◌+◌, ◌≤◌, ℕ, Some, length}
 use Rattle.std.specs.Prelude.{slice_get}
-use Rattle.step_core.specs.PackedRuns.{state_of_lists}
+use Rattle.grown_runs.specs.Runs.PackedRuns.{state_of_lists}
 use Rattle.report_judge.specs.Workers.SeenNodes.{AreSeen}
 use Rattle.report_judge.specs.declared.own.seen_nodes.Seen.{Seen}
 use Rattle.report_judge.proofs.own.seen_nodes.seen_by_turn.Given as goal
