@@ -1,41 +1,10 @@
-//! Kimorefo: plans a scene by RRT* (Karaman and Frazzoli, Sampling-based Algorithms for Optimal Motion Planning, IJRR
-//! 2011). The program reads a scene from standard input, does what the words of the command line ask for, and writes the
-//! text of its answer to standard output.
-//!
-//! Everything is done by `run`, over any source and any sink. Its contract says what each status means:
-//!
-//! - A success writes the text that the command asks for. A report tells of the textbook run of the scene that the bytes
-//!   spell, of a lawful run that workers have grown for that scene, or of the textbook run of a generated scene, and `run`
-//!   hands out that run with the status, and with `anytime W S` its better paths; with `batch W S` a run and its better
-//!   paths for each scene, and with `twin W` both runs. `show`, `convert` and `gen` write the canonical text of a scene,
-//!   and `check` the verdict on a report.
-//! - Each refusal has its cause.
-//! - The bytes decide which status comes, if no read or write fails and memory lasts.
-//!
-//! The exit code is that of `exit_code`.
+//! The program: it does what the words of its command line ask for, from standard input to standard output, as
+//! `exit_code` of `planner` says.
 #![tactic(auto)]
 
-mod answers;
-mod batches;
-mod checking;
-mod command_line;
-mod commands;
-mod generated_scenes;
-mod read_laws;
-mod refusals;
-mod scene_tasks;
-mod short_lines;
-mod standard_streams;
-mod statuses;
-#[cfg(test)]
-mod test_calls;
-mod top_call;
-
-use command_line::exit_code;
-use standard_streams::{StdSink, StdSource};
+use planner::{StdSink, StdSource, exit_code};
 use std::env;
 use std::process::ExitCode;
-pub use top_call::{Done, run, run_without_waiting};
 
 fn main(rt: HostRuntime) -> ExitCode {
     exit_code(

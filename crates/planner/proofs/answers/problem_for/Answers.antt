@@ -1,0 +1,15 @@
+use Rattle.std.proofs.Common.{refl}
+use Rattle.planner.specs.Conclusions.{IsCaused}
+use Rattle.planner.specs.declared.refusals.Refusal.TheVariants as refusals
+use Rattle.planner.proofs.Causes.{StartBlocked-caused, IfErr-only, given_none}
+use Rattle.planner.proofs.answers.problem_for.Goals as goal
+
+pub returns-in_default-clause-refusal : goal.returns-in_default-clause-refusal
+returns-in_default-clause-refusal g c =
+    StartBlocked-caused c.args.command _ _ _ c.requires.reads c.requires.plans c.in_ok-scene.ensures.scene
+    (given_none _ _ c.in_default.is c.in_ok-boxes.ensures.blocked)
+
+pub returns-in_err-boxes-clause-refusal : goal.returns-in_err-boxes-clause-refusal
+returns-in_err-boxes-clause-refusal g c =
+    IfErr-only c.from_residual-in_err-boxes.result refusals.Memory (IsCaused _ _ _) c.from_residual-in_err-boxes.ensures.1
+    (refl, c.in_ok-scene.ensures.scene.read.no_fault)

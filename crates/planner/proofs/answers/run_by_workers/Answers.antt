@@ -1,0 +1,30 @@
+use Rattle.std.proofs.Common.{length, ap, sym, ◌∙◌, arith}
+use Rattle.plan_model.proofs.MarkBounds.{length-points_of_marks}
+use Rattle.plan_model.specs.Scenes.MarkPoints.{mark_points}
+use Rattle.plan_model.specs.Runs.Textbook.{setup_of}
+use Rattle.plan_model.specs.declared.tasks.Task.{Task}
+use Rattle.plan_model.proofs.SettledRuns.{IsOfTextbookRun-settled}
+use Rattle.plan_work.proofs.TextbookEnds.{IsOfTextbook-new, IsOfTextbookRun-whole}
+use Rattle.planner.proofs.answers.run_by_workers.Goals as goal
+use Rattle.grown_runs.specs.Runs.GrownRuns.{state_of_grown}
+
+pub overflow_cast-limit : goal.overflow_cast-limit
+overflow_cast-limit g c =
+    let few = length-points_of_marks c.args.scene c.args.scene.plan c.args.scene.plan_within in
+    omega (arith, few, ap length c.in_ok-task.ensures.marks, c.len-limit.ensures)
+
+-- settling keeps the records
+pub returns-clause-workers : goal.returns-clause-workers
+returns-clause-workers g c = λ k entry is.
+    c.in_ok-grown.ensures.workers k entry (sym (c.in_ok-settle.ensures.costs_alone.records k) ∙ is) (omega (arith, c.in_ok-fresh.ensures.limit))
+
+-- and is no change to a run of the textbook
+pub returns-clause-textbook : goal.returns-clause-textbook
+returns-clause-textbook g c = λ one.
+    let grown = c.in_ok-grown.grown in
+    let of_scene = ap (λ (t : Task). t.scene) (c.in_ok-grown.ensures.task ∙ c.in_ok-fresh.ensures.task) ∙ c.in_ok-task.ensures.scene in
+    let whole = c.in_ok-grown.ensures.limit ∙ c.len-limit.ensures ∙ ap length c.in_ok-task.ensures.marks in
+    let textbook = c.in_ok-grown.ensures.textbook one
+    (IsOfTextbook-new _ c.in_ok-fresh.fresh c.in_ok-fresh.ensures.task c.in_ok-fresh.ensures.limit c.in_ok-fresh.ensures.state) in
+    IsOfTextbookRun-settled (setup_of c.args.scene) (mark_points c.args.scene) (state_of_grown grown) _ c.requires.start
+    (IsOfTextbookRun-whole c.args.scene grown of_scene whole textbook) c.in_ok-settle.ensures.costs_alone c.in_ok-settle.ensures.settled

@@ -1,0 +1,12 @@
+use Rattle.std.proofs.Common.{refl}
+use Rattle.std.proofs.lemmas.Bool.{false≢true}
+use Rattle.planner.specs.declared.commands.Command.TheVariants as commands
+use Rattle.planner.proofs.GivenAnswers.{Answers-success}
+use Rattle.planner.proofs.answers.show.Goals as goal
+
+pub returns : goal.returns
+returns g c =
+    let scene = c.in_ok-scene.scene in
+    let has = c.in_ok-scene.ensures.scene in
+    Answers-success commands.Show _ _ scene refl c.in_ok-scene.ensures.within has _
+    (record { scene = scene; of_command = has.spelled; start = λ planned. absurd (false≢true planned); meaning = c.in_ok-text_of.ensures })

@@ -1,0 +1,61 @@
+-- What a refusal to check a report says of the bytes that were read.
+use Rattle.std.specs.Prelude.{ℕ, List}
+use Rattle.plan_model.specs.Texts.SceneGrammar.{Refused, Spells, supported}
+use Rattle.plan_model.specs.Spaces.Clearance.{ClearAt}
+use Rattle.plan_model.specs.Spaces.ConfigurationSpace.{space_of}
+use Rattle.plan_model.specs.declared.scenes.Scene.{Scene}
+use Rattle.plan_model.specs.declared.tasks.Task.{Task}
+use Rattle.report_judge.specs.Laws.Judgements.{IsVerdict}
+use Rattle.report_judge.specs.Texts.ReportCuts.{IsCutAtReport}
+use Rattle.report_judge.specs.declared.verdicts.Verdict.{Verdict}
+use Rattle.planner.specs.Conclusions.{BlocksStart}
+use Rattle.planner.specs.Inputs.{RefusesWhole, RefusesInput, scene_and_report}
+use Rattle.planner.specs.declared.commands.Command.TheVariants as commands
+use Rattle.planner.specs.declared.refusals.Refusal.{Refusal}
+use Rattle.planner.specs.declared.refusals.Refusal.TheVariants as refusals
+
+-- the text spells a scene whose start is not clear
+pub record SpellsBlocked (text : List ℕ) : Type 0 where
+  pub scene : Scene
+  pub spelled : Spells supported text scene
+  pub blocked : ¬ ClearAt (space_of scene) scene.start
+
+-- of the text before a line `report`
+abbrev pub RefusesSceneText : List ℕ → Refusal → Type 0
+RefusesSceneText text (refusals.Text number kind) = Refused supported text number kind
+RefusesSceneText text refusals.StartBlocked = SpellsBlocked text
+RefusesSceneText text refusals.Memory = Unit {0}
+RefusesSceneText text refusals.Words = ⊥
+RefusesSceneText text refusals.TooLong = ⊥
+RefusesSceneText text refusals.GoalBlocked = ⊥
+RefusesSceneText text refusals.ReadFault = ⊥
+
+-- of bytes without a line `report`
+abbrev pub RefusesWithoutReport : List ℕ → Refusal → Type 0
+RefusesWithoutReport bytes (refusals.Text number kind) = RefusesWhole number kind bytes
+RefusesWithoutReport bytes refusals.StartBlocked = ⊥
+RefusesWithoutReport bytes refusals.Memory = Unit {0}
+RefusesWithoutReport bytes refusals.Words = ⊥
+RefusesWithoutReport bytes refusals.TooLong = ⊥
+RefusesWithoutReport bytes refusals.GoalBlocked = ⊥
+RefusesWithoutReport bytes refusals.ReadFault = ⊥
+
+-- of all bytes
+abbrev pub RefusesCheck : List ℕ → Refusal → Type 0
+RefusesCheck bytes (refusals.Text number kind) = RefusesInput scene_and_report number kind bytes
+RefusesCheck bytes refusals.StartBlocked = BlocksStart commands.Check bytes
+RefusesCheck bytes refusals.Memory = Unit {0}
+RefusesCheck bytes refusals.Words = ⊥
+RefusesCheck bytes refusals.TooLong = ⊥
+RefusesCheck bytes refusals.GoalBlocked = ⊥
+RefusesCheck bytes refusals.ReadFault = ⊥
+
+-- the verdict is that on what stands after the line `report`, as a report of the scene before it, whose start is clear
+pub record Judges (bytes : List ℕ) (verdict : Verdict) : Type 0 where
+  pub front : List ℕ
+  pub report : List ℕ
+  pub cut : IsCutAtReport bytes front report
+  pub task : Task
+  pub spelled : Spells supported front task.scene
+  pub start : ClearAt (space_of task.scene) task.scene.start
+  pub judged : IsVerdict task report verdict

@@ -1,7 +1,0 @@
-use Rattle.std.proofs.Common.{◌≡◌, length}
-use Rattle.planner_main.specs.BatchSessions.{HaveSessions}
-use Rattle.planner_main.proofs.batches.sessions_of.Given as goal
-
-abbrev pub invariant-loop-scene : goal.invariant-loop-scene
-invariant-loop-scene g l =
-    (length l.sessions.items ≡ length l.yielded) × HaveSessions l.workers l.slice l.fn.scenes.items l.sessions.items (length l.yielded)

@@ -1,7 +1,0 @@
-use Rattle.std.proofs.Common.{◌≡◌, map}
-use Rattle.std.specs.List.{range_with_len}
-use Rattle.planner_main.specs.GeneratedScenes.{generated_obstacle}
-use Rattle.planner_main.proofs.generated_scenes.obstacles.Given as goal
-
-abbrev pub invariant-loop-cell : goal.invariant-loop-cell
-invariant-loop-cell l = l.obstacles.items ≡ map (generated_obstacle l.number) (range_with_len 0 l.cell)
