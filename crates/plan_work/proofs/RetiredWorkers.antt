@@ -6,27 +6,28 @@ use lib.ListN.{drop, take}
 use Rattle.plan_words.specs.Claims.{AllFull}
 use Rattle.plan_words.specs.States.{GoesOn, MayClaim, PassState, SharedState, new_pass}
 use Rattle.plan_work.specs.OneWorker.{HandlesRest}
-use Rattle.plan_work.specs.Workers.{HasDone, HasRetired, HasStopped, HasWorked, IsReady, workers_with, left_of}
+use Rattle.plan_work.specs.Workers.{HasDone, HasLeft, HasStopped, HasWorked, IsReady, left_by, left_of, workers_with}
 use Rattle.plan_work.specs.declared.growing.Worker.{Worker}
+use Rattle.plan_work.specs.declared.growing.Worker.TheVariants.{Away, Stopped, Working}
 
-MayClaim-retired : (shared : SharedState) (pass : PassState) → MayClaim shared pass → MayClaim shared (new_pass pass.table pass.view)
-MayClaim-retired shared pass may = record {
+MayClaim-left : (shared : SharedState) (pass : PassState) → MayClaim shared pass → MayClaim shared (new_pass pass.table pass.view)
+MayClaim-left shared pass may = record {
   belongs = record { table = may.belongs.table; run = may.belongs.run; lawful = may.belongs.lawful };
   part = may.part;
   idle = may.idle;
 }
 
 -- A pass that has worked has done so when its lists are given back.
-pub HasDone-retired :
+pub HasDone-left :
     (shared : SharedState) (limit : ℕ) (before after left : PassState) → GoesOn before.view after.view → HasWorked shared before after limit
     → AllFull after.view limit → (shared.workers ≡ 1 → HandlesRest before.view after.view limit) → left ≡ new_pass after.table after.view
     → HasDone shared limit before left
-HasDone-retired shared limit before after left goes_on worked full textbook is =
+HasDone-left shared limit before after left goes_on worked full textbook is =
     subst (HasDone shared limit before) (sym is)
     (record {
       goes_on = goes_on;
       worked = record {
-        may_claim = MayClaim-retired shared after worked.may_claim;
+        may_claim = MayClaim-left shared after worked.may_claim;
         same_share = worked.same_share;
         worker = worked.worker;
         most = worked.most;
@@ -47,24 +48,24 @@ all_ready shared (pass ∷ passes) may (suc k) d low =
 -- What is left of a worker whose pass is known.
 record IsLeftBy (shared : SharedState) (limit : ℕ) (pass : PassState) (after : Worker) : Type 0 where
   left : PassState
-  has : after.retired ≡ Some left
+  has : left_by after ≡ Some left
   done : HasDone shared limit pass left
 
 IsLeftBy-stopped :
     (shared : SharedState) (limit : ℕ) (pass : PassState) (after : Worker)
-    → HasStopped shared limit (record { pass = Some pass; retired = None }) after → IsLeftBy shared limit pass after
+    → HasStopped shared limit (Working pass) after → IsLeftBy shared limit pass after
 IsLeftBy-stopped shared limit pass after stopped = record {
   left = stopped.left;
-  has = stopped.has;
+  has = ap left_by stopped.has;
   done = subst (λ p. HasDone shared limit p stopped.left) (sym (same_pass pass stopped.pass stopped.had)) stopped.done;
 }
   where
-    same_pass : (one other : PassState) → Some one ≡ Some other → one ≡ other
+    same_pass : (one other : PassState) → Working one ≡ Working other → one ≡ other
     same_pass one other same = cc
 
 -- Of as many workers as passes, each of which has stopped, as much is left, and that of each has done its part.
 pub record HaveStopped (shared : SharedState) (limit : ℕ) (passes : List PassState) (crew : List Worker) : Type 0 where
-  pub retired : All HasRetired crew
+  pub stopped : All HasLeft crew
   pub count : length (left_of crew) ≡ length passes
   pub done : (k : ℕ) (d : PassState) → k < length passes → HasDone shared limit (slice_index_or passes k d) (slice_index_or (left_of crew) k d)
 
@@ -73,7 +74,7 @@ pub have_stopped :
     → ((k : ℕ) (d : Worker) → k < length (workers_with passes) → HasStopped shared limit (slice_index_or (workers_with passes) k d) (slice_index_or crew k d))
     → HaveStopped shared limit passes crew
 have_stopped shared limit [] [] same each = record {
-  retired = λ k d low. absurd (omega (arith, low));
+  stopped = λ k d low. absurd (omega (arith, low));
   count = omega arith;
   done = λ k d low. absurd (omega (arith, low));
 }
@@ -82,18 +83,18 @@ have_stopped shared limit (pass ∷ passes) [] same each = absurd (omega (arith,
 have_stopped shared limit (pass ∷ passes) (worker ∷ crew) same each =
     let first = IsLeftBy-stopped shared limit pass worker (each 0 worker (omega arith)) in
     let rest = have_stopped shared limit passes crew (omega (arith, same)) (λ k d low. each (suc k) d (omega (arith, low))) in
-    let here : option_to_list worker.retired ≡ first.left ∷ [] = ap (λ o. option_to_list o) first.has in
+    let here : option_to_list (left_by worker) ≡ first.left ∷ [] = ap (λ o. option_to_list o) first.has in
     let all : left_of (worker ∷ crew) ≡ first.left ∷ left_of crew = ap (λ l. l ++ left_of crew) here in
     record {
-      retired = all_retired first.left first.has rest.retired;
+      stopped = all_left first.left first.has rest.stopped;
       count = omega (arith, ap (λ (l : List PassState). length l) all, rest.count);
       done = λ k d low. subst (λ l. HasDone shared limit (slice_index_or (pass ∷ passes) k d) (slice_index_or l k d)) (sym all)
           (each_done first.left first.done rest.done k d low);
     }
   where
-    all_retired : (left : PassState) → worker.retired ≡ Some left → All HasRetired crew → All HasRetired (worker ∷ crew)
-    all_retired left has others zero d low = subst (λ o. IsSome o) (sym has) refl
-    all_retired left has others (suc k) d low = others k d (omega (arith, low))
+    all_left : (left : PassState) → left_by worker ≡ Some left → All HasLeft crew → All HasLeft (worker ∷ crew)
+    all_left left has others zero d low = subst (λ o. IsSome o) (sym has) refl
+    all_left left has others (suc k) d low = others k d (omega (arith, low))
 
     each_done :
         (left : PassState) → HasDone shared limit pass left
@@ -124,29 +125,30 @@ whole_list size worked made same =
 pub left_of-append : (front back : List Worker) → left_of (front ++ back) ≡ left_of front ++ left_of back
 left_of-append [] back = cc
 left_of-append (worker ∷ front) back =
-    ap (λ l. option_to_list worker.retired ++ l) (left_of-append front back) ∙ sym_append (option_to_list worker.retired) (left_of front) (left_of back)
+    ap (λ l. option_to_list (left_by worker) ++ l) (left_of-append front back) ∙ sym_append (option_to_list (left_by worker)) (left_of front) (left_of back)
   where
     sym_append : (one two three : List PassState) → one ++ (two ++ three) ≡ (one ++ two) ++ three
     sym_append [] two three = cc
     sym_append (x ∷ one) two three = ap (λ l. x ∷ l) (sym_append one two three)
 
 pub left_of-last :
-    (all rest : List Worker) (last : Worker) (left : PassState) → all ≡ rest ++ last ∷ [] → last.retired ≡ Some left
+    (all rest : List Worker) (last : Worker) (left : PassState) → all ≡ rest ++ last ∷ [] → left_by last ≡ Some left
     → left_of all ≡ left_of rest ++ left ∷ []
 left_of-last all rest last left is has =
     ap left_of is ∙ left_of-append rest (last ∷ []) ∙ ap (λ o. left_of rest ++ (option_to_list o ++ [])) has
 
--- one that has retired has something left
-pub has_left : (left : Option PassState) → IsSome left → left ≡ None → ⊥
-has_left (Some left) some none = cc
-has_left None some none = cc
+-- a worker with something left has stopped
+pub has_left : (worker : Worker) → HasLeft worker → ((left : PassState) → worker ≡ Stopped left → ⊥) → ⊥
+has_left (Working pass) has not = cc
+has_left (Stopped left) has not = not left refl
+has_left Away has not = cc
 
--- the last of some that have retired has, and so have those before it
-pub retired-front : (rest : List Worker) (last : Worker) → All HasRetired (rest ++ last ∷ []) → All HasRetired rest
-retired-front [] last all k d low = absurd (omega (arith, low))
-retired-front (x ∷ rest) last all zero d low = all 0 d (omega arith)
-retired-front (x ∷ rest) last all (suc k) d low = retired-front rest last (λ j e below. all (suc j) e (omega (arith, below))) k d (omega (arith, low))
+-- the last of some that have stopped has, and so have those before it
+pub stopped-front : (rest : List Worker) (last : Worker) → All HasLeft (rest ++ last ∷ []) → All HasLeft rest
+stopped-front [] last all k d low = absurd (omega (arith, low))
+stopped-front (x ∷ rest) last all zero d low = all 0 d (omega arith)
+stopped-front (x ∷ rest) last all (suc k) d low = stopped-front rest last (λ j e below. all (suc j) e (omega (arith, below))) k d (omega (arith, low))
 
-pub retired-last : (rest : List Worker) (last : Worker) → All HasRetired (rest ++ last ∷ []) → HasRetired last
-retired-last [] last all = all 0 last (omega arith)
-retired-last (x ∷ rest) last all = retired-last rest last (λ j e below. all (suc j) e (omega (arith, below)))
+pub stopped-last : (rest : List Worker) (last : Worker) → All HasLeft (rest ++ last ∷ []) → HasLeft last
+stopped-last [] last all = all 0 last (omega arith)
+stopped-last (x ∷ rest) last all = stopped-last rest last (λ j e below. all (suc j) e (omega (arith, below)))

@@ -1,10 +1,11 @@
 -- What a worker leaves.
-use Rattle.std.specs.Prelude.{◌≡◌, ◌≢◌, ◌+◌, ◌≤◌, ◌⊎◌, ◌++◌, ℕ, [], ◌∷◌, All, IsSome, List, None, Some, map, option_to_list}
+use Rattle.std.specs.Prelude.{◌≡◌, ◌≢◌, ◌+◌, ◌≤◌, ◌⊎◌, ◌++◌, ℕ, [], ◌∷◌, All, IsSome, List, None, Option, Some, map, option_to_list}
 use Rattle.plan_model.specs.declared.records.Record.{Record}
 use Rattle.plan_words.specs.Claims.{AllFull}
 use Rattle.plan_words.specs.States.{GoesOn, MayClaim, PassState, SharedState, worker_of}
 use Rattle.plan_work.specs.Extensions.{IsExtended}
 use Rattle.plan_work.specs.declared.growing.Worker.{Worker}
+use Rattle.plan_work.specs.declared.growing.Worker.TheVariants.{Away, Stopped, Working}
 use Rattle.plan_work.specs.OneWorker.{HandlesRest}
 use Rattle.step_core.specs.Views.{sees, share}
 use Rattle.grown_runs.specs.Table.WordKinds.{AreBehind}
@@ -30,30 +31,36 @@ pub record HasDone (shared : SharedState) (limit : ℕ) (before after : PassStat
 
 -- workers that have these passes
 abbrev pub workers_with : List PassState → List Worker
-workers_with = map (λ pass. record { pass = Some pass; retired = None })
+workers_with = map Working
 
 -- a worker has a pass that may claim
 pub record IsReady (shared : SharedState) (worker : Worker) : Type 0 where
   pub pass : PassState
-  pub has : worker.pass ≡ Some pass
+  pub has : worker ≡ Working pass
   pub may_claim : MayClaim shared pass
 
--- what is left of its pass is there
-abbrev pub HasRetired : Worker → Type 0
-HasRetired worker = IsSome worker.retired
+-- what is left of the pass of a worker that has stopped
+abbrev pub left_by : Worker → Option PassState
+left_by (Working pass) = None
+left_by (Stopped left) = Some left
+left_by Away = None
+
+-- it is there
+abbrev pub HasLeft : Worker → Type 0
+HasLeft worker = IsSome (left_by worker)
 
 -- a worker had a pass, which has worked up to a limit, and has what is left of it
 pub record HasStopped (shared : SharedState) (limit : ℕ) (before after : Worker) : Type 0 where
   pub pass : PassState
   pub left : PassState
-  pub had : before.pass ≡ Some pass
-  pub has : after.retired ≡ Some left
+  pub had : before ≡ Working pass
+  pub has : after ≡ Stopped left
   pub done : HasDone shared limit pass left
 
 -- what is left of the passes of workers
 abbrev pub left_of : List Worker → List PassState
 left_of [] = []
-left_of (worker ∷ crew) = option_to_list worker.retired ++ left_of crew
+left_of (worker ∷ crew) = option_to_list (left_by worker) ++ left_of crew
 
 -- ---- marks
 

@@ -7,7 +7,7 @@ ghost use Rattle.plan_model.specs.declared.limits.TheConstants.{MOST_WORKERS};
 ghost use Rattle.plan_model.specs.declared.records.Record.{Record};
 ghost use Rattle.plan_words.specs.States.{MayClaim, PassState};
 ghost use Rattle.plan_work.specs.OneWorker.{IsOfTextbook};
-ghost use Rattle.plan_work.specs.Workers.{HasRetired, HasStopped, HasTakenOver, IsReady, workers_with, left_of};
+ghost use Rattle.plan_work.specs.Workers.{HasLeft, HasStopped, HasTakenOver, IsReady, workers_with, left_of};
 ghost use Rattle.grown_runs.specs.Runs.GrownRuns.{state_of_grown};
 
 use crate::gates::Gate;
@@ -15,6 +15,7 @@ use crate::working::work;
 use plan_model::Memory;
 use plan_words::{Pass, Retired, Shared};
 use std::alloc::{AllocError, Global};
+use std::mem::replace;
 use std::thread;
 use std::thread::Threads;
 use step_core::Grown;
@@ -61,9 +62,11 @@ pub fn grow<R: Threads + Sync, C: Clearing, G: Gate>(
 
 /// A worker: its pass until that has worked, and what is left of it then.
 #[derive(Drop)]
-struct Worker {
-    pass: Option<Pass>,
-    retired: Option<Retired>,
+enum Worker {
+    Working(Pass),
+    Stopped(Retired),
+    /// Neither, while the pass works.
+    Away,
 }
 
 /// Workers that have these passes, in their order. O(w) for w of them.
@@ -72,10 +75,7 @@ fn workers_of(alloc: Global, passes: Vec<Pass>) -> Result<Vec<Worker>, AllocErro
 {
     let mut all = Vec::with_capacity(alloc, passes.len())?;
     for pass in passes {
-        all.push(Worker {
-            pass: Some(pass),
-            retired: None,
-        })?;
+        all.push(Worker::Working(pass))?;
     }
     Ok(all)
 }
@@ -125,40 +125,28 @@ fn work_and_retire<C: Clearing, G: Gate>(
     requires limit { limit ≤ length shared.now.task.marks }
     ensures { HasStopped shared.now limit worker.old worker.new }
 {
-    let Some(mut pass) = worker.pass.take() else {
+    let Worker::Working(mut pass) = replace(worker, Worker::Away) else {
         unreachable!()
     };
     work(shared, &mut pass, hall, limit, gate);
-    worker.retired = Some(pass.retire());
-}
-
-impl Worker {
-    /// What is left of its pass.
-    fn left(self) -> Option<Retired>
-        ensures { result ≡ self.retired }
-    {
-        let Worker { pass: _, retired } = self;
-        retired
-    }
+    *worker = Worker::Stopped(pass.retire());
 }
 
 /// What is left of the last worker's pass takes over what is left of all others, with all that they have seen.
 fn take_over_all(shared: &Shared, all: Vec<Worker>) -> Retired
     requires some { 1 ≤ length all.items }
-    requires retired { All HasRetired all.items }
+    requires stopped { All HasLeft all.items }
     requires may_claim { All (MayClaim shared.now) (left_of all.items) }
     ensures taken { HasTakenOver shared.now (left_of all.items) result }
     ensures one { (left : PassState) → left_of all.items ≡ left ∷ [] → result ≡ left }
 {
     let mut others = all;
-    let Some(last) = others.pop() else {
+    let Some(Worker::Stopped(last)) = others.pop() else {
         unreachable!()
     };
-    let Some(mut taken) = last.left() else {
-        unreachable!()
-    };
+    let mut taken = last;
     'others: while let Some(other) = others.pop() {
-        let Some(retired) = other.left() else {
+        let Worker::Stopped(retired) = other else {
             unreachable!()
         };
         shared.join_retired(&mut taken, retired);

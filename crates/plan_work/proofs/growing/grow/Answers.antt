@@ -6,7 +6,7 @@ use Rattle.plan_work.proofs.RetiredWorkers.{HaveStopped, all_ready, have_stopped
 use Rattle.plan_work.proofs.SharedRuns.{GrowsInto-all, HasHandled-alone, all_may_claim, limit_reached, none_left, one_of, whole_share}
 use Rattle.plan_work.proofs.growing.grow.Goals as goal
 use Rattle.plan_work.specs.OneWorker.{SeesTextbook}
-use Rattle.plan_work.specs.Workers.{HasRetired, HasTakenOver, IsReady, left_of}
+use Rattle.plan_work.specs.Workers.{HasLeft, HasTakenOver, IsReady, left_of}
 use Rattle.grown_runs.specs.Runs.GrownRuns.{state_of_grown}
 use Rattle.step_core.specs.LaterViews.{IsLawfulView}
 
@@ -17,8 +17,8 @@ work_all-requires-clause-ready g c _ _ =
     subst (All (IsReady shared)) (sym (c.as_mut_slice.ensures.value ∙ c.in_ok-all.ensures))
     (all_ready shared before c.in_ok-shared.ensures.may_claim)
 
-pub take_over_all-last-requires-clause-retired : goal.take_over_all-last-requires-clause-retired
-take_over_all-last-requires-clause-retired g c =
+pub take_over_all-last-requires-clause-stopped : goal.take_over_all-last-requires-clause-stopped
+take_over_all-last-requires-clause-stopped g c =
     let shared = c.in_ok-shared.shared in
     let limit = c.args.limit in
     let before = c.in_ok-shared.passes.items in
@@ -28,7 +28,7 @@ take_over_all-last-requires-clause-retired g c =
     have_stopped-ready shared limit before c.as_mut_slice.result.now worked (c.as_mut_slice.ensures.value ∙ c.in_ok-all.ensures) c.work_all.ensures.count
     c.work_all.ensures.each in
     let same = whole_list c.in_ok-all.all.len worked c.in_ok-all.all.items (c.work_all.ensures.count ∙ c.as_mut_slice.ensures.len) in
-    subst (All HasRetired) (sym same) stopped.retired
+    subst (All HasLeft) (sym same) stopped.stopped
 
 pub take_over_all-last-requires-clause-may_claim : goal.take_over_all-last-requires-clause-may_claim
 take_over_all-last-requires-clause-may_claim g c =

@@ -1,63 +1,63 @@
-use Rattle.std.proofs.Common.{◌≡◌, sym, ap, ◌∙◌, subst, arith}
+use Rattle.std.proofs.Common.{◌≡◌, refl, sym, ap, ◌∙◌, subst, arith}
 use Rattle.std.specs.Prelude.{◌++◌, [], ◌∷◌, All, IsSome, option_to_list}
 use Rattle.plan_words.specs.States.{MayClaim, PassState}
-use Rattle.plan_work.proofs.RetiredWorkers.{has_left, left_of-last, retired-front, retired-last}
+use Rattle.plan_work.proofs.RetiredWorkers.{has_left, left_of-last, stopped-front, stopped-last}
 use Rattle.plan_work.proofs.TakenOver.{All-front, All-next, HasTakenOver-alone, HasTakenOver-more, not_alone, only, taken_next}
 use Rattle.plan_work.proofs.growing.take_over_all.Goals as goal
-use Rattle.plan_work.specs.Workers.{HasRetired, left_of}
+use Rattle.plan_work.specs.Workers.{HasLeft, left_by, left_of}
+use Rattle.plan_work.specs.declared.growing.Worker.TheVariants.{Stopped}
 
 pub others-init : goal.others-init
 others-init c =
     let rest = c.pop.new.self.items in
-    let left = c.in-Some-left.taken in
-    let split : c.args.all.items ≡ rest ++ c.in-Some.last ∷ [] = c.pop.ensures.items ∙ ap (λ o. rest ++ option_to_list o) c.in-Some.is in
-    let lefts : left_of c.args.all.items ≡ left_of rest ++ left ∷ [] =
-    left_of-last c.args.all.items rest c.in-Some.last left split (sym c.left.ensures ∙ c.in-Some-left.is) in
+    let left = c.in-Some-Stopped.last in
+    let split : c.args.all.items ≡ rest ++ Stopped left ∷ [] =
+    c.pop.ensures.items ∙ ap (λ o. rest ++ option_to_list o) c.in-Some-Stopped.is ∙ ap (λ w. rest ++ w ∷ []) c.in-Some-Stopped.field-0-is in
+    let lefts : left_of c.args.all.items ≡ left_of rest ++ left ∷ [] = left_of-last c.args.all.items rest (Stopped left) left split refl in
     let all = subst (All (MayClaim c.args.shared.now)) lefts c.requires.may_claim in
     record {
-      retired = retired-front rest c.in-Some.last (subst (All HasRetired) split c.requires.retired);
+      stopped = stopped-front rest (Stopped left) (subst (All HasLeft) split c.requires.stopped);
       rest = All-front (MayClaim c.args.shared.now) (left_of rest) (left ∷ []) all;
       taken = (left ∷ [], lefts, HasTakenOver-alone c.args.shared.now left (All-next (MayClaim c.args.shared.now) (left_of rest) left all));
       one = λ own is. only (left_of rest) left own (sym lefts ∙ is);
     }
 
-pub unreachable-requires-in_default-left-2 : goal.unreachable-requires-in_default-left-2
-unreachable-requires-in_default-left-2 c =
+pub unreachable-requires-in_default-other : goal.unreachable-requires-in_default-other
+unreachable-requires-in_default-other c =
     let rest = c.pop-in-others.new.self.items in
-    let other = c.in-Some-pop.other in
-    let split : c.others.others.items ≡ rest ++ other ∷ [] = c.pop-in-others.ensures.items ∙ ap (λ o. rest ++ option_to_list o) c.in-Some-pop.is in
-    let has : IsSome other.retired = retired-last rest other (subst (All HasRetired) split c.others.invariant.retired) in
-    has_left other.retired has (sym c.left-in-Some-pop.ensures ∙ c.in_default-left-2.is)
+    let other = c.in-Some.other in
+    let split : c.others.others.items ≡ rest ++ other ∷ [] = c.pop-in-others.ensures.items ∙ ap (λ o. rest ++ option_to_list o) c.in-Some.is in
+    has_left other (stopped-last rest other (subst (All HasLeft) split c.others.invariant.stopped)) c.in_default-other.not-Stopped
 
 pub join_retired-requires-clause-belongs_too : goal.join_retired-requires-clause-belongs_too
 join_retired-requires-clause-belongs_too c =
     let rest = c.pop-in-others.new.self.items in
-    let left = c.in-Some-left-2.retired in
-    let split : c.others.others.items ≡ rest ++ c.in-Some-pop.other ∷ [] =
-    c.pop-in-others.ensures.items ∙ ap (λ o. rest ++ option_to_list o) c.in-Some-pop.is in
+    let left = c.in-Stopped.retired in
+    let split : c.others.others.items ≡ rest ++ c.in-Some.other ∷ [] =
+    c.pop-in-others.ensures.items ∙ ap (λ o. rest ++ option_to_list o) c.in-Some.is in
     let lefts : left_of c.others.others.items ≡ left_of rest ++ left ∷ [] =
-    left_of-last c.others.others.items rest c.in-Some-pop.other left split (sym c.left-in-Some-pop.ensures ∙ c.in-Some-left-2.is) in
+    left_of-last c.others.others.items rest c.in-Some.other left split (ap left_by c.in-Stopped.is) in
     (All-next (MayClaim c.args.shared.now) (left_of rest) left (subst (All (MayClaim c.args.shared.now)) lefts c.others.invariant.rest)).belongs
 
 pub join_retired-requires-clause-idle_too : goal.join_retired-requires-clause-idle_too
 join_retired-requires-clause-idle_too c =
     let rest = c.pop-in-others.new.self.items in
-    let left = c.in-Some-left-2.retired in
-    let split : c.others.others.items ≡ rest ++ c.in-Some-pop.other ∷ [] =
-    c.pop-in-others.ensures.items ∙ ap (λ o. rest ++ option_to_list o) c.in-Some-pop.is in
+    let left = c.in-Stopped.retired in
+    let split : c.others.others.items ≡ rest ++ c.in-Some.other ∷ [] =
+    c.pop-in-others.ensures.items ∙ ap (λ o. rest ++ option_to_list o) c.in-Some.is in
     let lefts : left_of c.others.others.items ≡ left_of rest ++ left ∷ [] =
-    left_of-last c.others.others.items rest c.in-Some-pop.other left split (sym c.left-in-Some-pop.ensures ∙ c.in-Some-left-2.is) in
+    left_of-last c.others.others.items rest c.in-Some.other left split (ap left_by c.in-Stopped.is) in
     (All-next (MayClaim c.args.shared.now) (left_of rest) left (subst (All (MayClaim c.args.shared.now)) lefts c.others.invariant.rest)).idle
 
 pub others-preserved : goal.others-preserved
 others-preserved c =
     let rest = c.pop-in-others.new.self.items in
-    let other = c.in-Some-pop.other in
-    let left = c.in-Some-left-2.retired in
+    let other = c.in-Some.other in
+    let left = c.in-Stopped.retired in
     let shared = c.args.shared.now in
-    let split : c.others.others.items ≡ rest ++ other ∷ [] = c.pop-in-others.ensures.items ∙ ap (λ o. rest ++ option_to_list o) c.in-Some-pop.is in
+    let split : c.others.others.items ≡ rest ++ other ∷ [] = c.pop-in-others.ensures.items ∙ ap (λ o. rest ++ option_to_list o) c.in-Some.is in
     let lefts : left_of c.others.others.items ≡ left_of rest ++ left ∷ [] =
-    left_of-last c.others.others.items rest other left split (sym c.left-in-Some-pop.ensures ∙ c.in-Some-left-2.is) in
+    left_of-last c.others.others.items rest other left split (ap left_by c.in-Stopped.is) in
     let all = subst (All (MayClaim shared)) lefts c.others.invariant.rest in
     let taken = c.others.invariant.taken.0 in
     let takes = c.others.invariant.taken.2 in
@@ -67,7 +67,7 @@ others-preserved c =
       idle = c.join_retired.ensures.idle;
     } in
     record {
-      retired = retired-front rest other (subst (All HasRetired) split c.others.invariant.retired);
+      stopped = stopped-front rest other (subst (All HasLeft) split c.others.invariant.stopped);
       rest = All-front (MayClaim shared) (left_of rest) (left ∷ []) all;
       taken = (
         left ∷ taken,

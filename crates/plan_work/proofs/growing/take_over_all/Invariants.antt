@@ -1,11 +1,11 @@
 use Rattle.std.specs.Prelude.{◌≡◌, ◌++◌, [], ◌∷◌, All, List, length}
 use Rattle.plan_words.specs.States.{MayClaim, PassState}
 use Rattle.plan_work.proofs.growing.take_over_all.Given as goal
-use Rattle.plan_work.specs.Workers.{HasRetired, HasTakenOver, left_of}
+use Rattle.plan_work.specs.Workers.{HasLeft, HasTakenOver, left_of}
 
 abbrev pub invariant-others : goal.invariant-others
 invariant-others l = record {
-  retired : All HasRetired l.others.items;
+  stopped : All HasLeft l.others.items;
   rest : All (MayClaim l.shared) (left_of l.others.items);
   taken : (taken : List PassState) × (left_of l.fn.all.items ≡ left_of l.others.items ++ taken) × HasTakenOver l.shared taken l.taken;
   one : (own : PassState) → left_of l.fn.all.items ≡ own ∷ [] → l.taken ≡ own;
