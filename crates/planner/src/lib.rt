@@ -30,5 +30,6 @@ mod statuses;
 mod top_call;
 
 pub use command_line::exit_code;
+pub use refusals::Refusal;
 pub use standard_streams::{StdSink, StdSource};
 pub use top_call::{Done, run, run_without_waiting};

@@ -10,9 +10,12 @@ use crate::statuses::{
 };
 use plan_model::{Kind, Memory};
 use scene_text::{FetchFault, SceneRefusal};
+use std::error::Error;
+use std::fmt;
+use std::fmt::{Display, Formatter};
 use twin_trees::TwinFault;
 
-/// Why the program writes no report.
+/// Why the program writes no report. It is displayed as its line, without the line feed.
 #[derive(Clone, Copy, Debug, PartialEq, Eq)]
 pub enum Refusal {
     /// The words of the command line ask for no command.
@@ -72,6 +75,19 @@ impl Refusal {
         }
     }
 }
+
+impl Display for Refusal {
+    ghost use Rattle.std.specs.Prelude.{Some};
+    ghost use Rattle.planner.specs.Refusals.{message_of};
+
+    ghost output = { λ refusal. Some (message_of refusal) };
+
+    fn fmt<W: fmt::Write>(&self, f: &mut Formatter<W>) -> fmt::Result {
+        f.write_str(self.message().as_str())
+    }
+}
+
+impl Error for Refusal {}
 
 impl From<FetchFault> for Refusal {
     ghost use Rattle.planner.specs.Faults.{refusal_of_fetch};

@@ -4,6 +4,8 @@
 #[cfg(test)]
 mod command_line;
 #[cfg(test)]
+mod refusals;
+#[cfg(test)]
 mod standard_streams;
 #[cfg(test)]
 mod support;

@@ -3,7 +3,7 @@
 use crate::support::{
     copied, expect_number, expect_text, expect_that, given_words, push_text, sure, text_in,
 };
-use any_time::{BetterLists, Growns};
+use any_time::BetterLists;
 use calls::*;
 use plan_model::{MemSink, MemSource, Memory, Outcome, Record, Sink, Source};
 use plan_work::{Gate, NoGate};
