@@ -1,13 +1,8 @@
 -- The best node of a run is present and lies in a goal; without one, no node does.
 use Rattle.std.proofs.Common.{◌≡◌, ℕ, Option, Some, None, refl}
 use Rattle.std.specs.Prelude.{option_map}
-use Rattle.plan_model.proofs.BestNodeLaws.{IsPresent-goal, best_node-none, best_node-some}
-use Rattle.plan_model.proofs.CountLaws.{numbers-closed}
-use Rattle.plan_model.specs.Runs.Textbook.{setup_of}
-use Rattle.plan_model.specs.Trees.BestNode.{IsGoalNode, goals_of}
-use Rattle.plan_model.specs.Trees.PointsByNumber.{AreNumberedTo, IsPresent, point_at}
-use Rattle.plan_model.specs.Trees.TreeStates.{sum_in}
-use Rattle.grown_runs.specs.Runs.GrownRuns.{state_of_grown}
+use Rattle.grown_runs.proofs.Common.{IsPresent-goal, best_node-none, best_node-some, numbers-closed, setup_of, IsGoalNode, goals_of, AreNumberedTo, IsPresent}
+use Rattle.grown_runs.proofs.Common.{point_at, sum_in, state_of_grown}
 use Rattle.grown_runs.specs.declared.grown.Grown.{Grown}
 use Rattle.any_time.specs.BestPaths.{best_of, best_sum}
 

@@ -6,11 +6,7 @@ use Rattle.std.proofs.lemmas.Bool.Decides.{nat_tests}
 use Rattle.std.proofs.lemmas.List.Elements.{All-cons, All-head, All-nil, All-tail, All-weaker}
 use Rattle.std.specs.List.{FoldsTo}
 use Rattle.futures.specs.declared.task.Poll.TheVariants.{Ready, Pending}
-use Rattle.plan_model.specs.Runs.ClosedLaw.{IsClosed}
-use Rattle.plan_model.specs.Runs.Textbook.{setup_of}
-use Rattle.plan_model.specs.declared.records.Record.{Record}
-use Rattle.plan_model.specs.declared.tasks.Task.{Task}
-use Rattle.grown_runs.specs.Runs.GrownRuns.{state_of_grown}
+use Rattle.grown_runs.proofs.Common.{IsClosed, setup_of, Record, Task, state_of_grown}
 use Rattle.grown_runs.specs.declared.grown.Grown.{Grown}
 use Rattle.any_time.proofs.FallingItems.{GoesOn-last, Reaches, Tied, first_better, gave, goes, no_best, pending, reaches_on, run_of}
 use Rattle.any_time.proofs.KnownOptions.{between, if_there, some_is, there}

@@ -8,15 +8,8 @@ use Rattle.std.specs.List.{FoldsTo}
 use Rattle.futures.specs.declared.task.Poll.TheVariants.{Ready, Pending}
 use Rattle.futures.specs.declared.task.Poll.{Poll}
 use Rattle.std.specs.Prelude.{Result}
-use Rattle.plan_model.proofs.GoalNodes.{IsGoalNode-grows}
-use Rattle.plan_model.proofs.TreeStateLaws.{GrowsInto-refl, GrowsInto-trans}
-use Rattle.plan_model.specs.Trees.BestNode.{IsGoalNode, goals_of}
-use Rattle.plan_model.specs.Trees.TreeStates.{GrowsInto, sum_in}
-use Rattle.plan_model.specs.declared.errors.Memory.{Memory}
-use Rattle.plan_model.specs.declared.records.Record.{Record}
-use Rattle.plan_model.specs.declared.scenes.Scene.{Scene}
-use Rattle.plan_model.specs.declared.tasks.Task.{Task}
-use Rattle.grown_runs.specs.Runs.GrownRuns.{state_of_grown}
+use Rattle.grown_runs.proofs.Common.{IsGoalNode-grows, GrowsInto-refl, GrowsInto-trans, IsGoalNode, goals_of, GrowsInto, sum_in, Memory, Record, Scene, Task}
+use Rattle.grown_runs.proofs.Common.{state_of_grown}
 use Rattle.grown_runs.specs.declared.grown.Grown.{Grown}
 use Rattle.any_time.proofs.BestNodes.{AreNumberedTo-grown, IsGoalNode-best, IsPresent-best}
 use Rattle.any_time.proofs.FirstPaths.{AreSlices-next, below_next, none_below, some_entry}

@@ -3,17 +3,8 @@ use Rattle.std.proofs.Common.{◌≡◌, ◌<◌, ◌≤◌, ◌+◌, ◌*◌, �
 use Rattle.std.specs.Prelude.{IsSome, IsTrue}
 use Rattle.std.proofs.Math.Nat.{mul-le-mul_right, min-le_left, min-le_right}
 use Rattle.std.proofs.lemmas.Bool.{cases_lt}
-use Rattle.plan_model.proofs.BestNodeLaws.{IsPresent-goal}
-use Rattle.plan_model.proofs.PlacedNodes.{present-of_record, record-of_present}
-use Rattle.plan_model.proofs.TreeStateLaws.{point_at-grows}
-use Rattle.plan_model.specs.Trees.BestNode.{goals_of, is_goal_point}
-use Rattle.plan_model.specs.Trees.PointsByNumber.{IsPresent, point_at}
-use Rattle.plan_model.specs.Trees.TreeStates.{GrowsInto}
-use Rattle.plan_model.specs.declared.records.Record.{Record}
-use Rattle.plan_model.specs.declared.scenes.Scene.{Scene}
-use Rattle.plan_model.specs.declared.tasks.Task.{Task}
-use Rattle.grown_runs.proofs.Runs.HeldNodes.{start_present-held}
-use Rattle.grown_runs.specs.Runs.GrownRuns.{state_of_grown, words_of_grown}
+use Rattle.grown_runs.proofs.Common.{IsPresent-goal, present-of_record, record-of_present, point_at-grows, goals_of, is_goal_point, IsPresent, point_at}
+use Rattle.grown_runs.proofs.Common.{GrowsInto, Record, Scene, Task, start_present-held, state_of_grown, words_of_grown}
 use Rattle.grown_runs.specs.declared.grown.Grown.{Grown}
 use Rattle.any_time.proofs.BestNodes.{none-best}
 use Rattle.any_time.specs.BestPaths.{best_sum}

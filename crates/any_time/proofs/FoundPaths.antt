@@ -4,25 +4,10 @@ use Rattle.std.proofs.Common.{length-append}
 use Rattle.std.proofs.lemmas.Bool.{cases_lt}
 use Rattle.std.proofs.lemmas.List.{map-append, get_or_append_left, get_or-append_right, reverse-append}
 use Rattle.std.specs.Prelude.{IsTrue, Option, Some}
-use Rattle.plan_model.proofs.ChainLaws.{chain-start, chain-parent}
-use Rattle.plan_model.proofs.NewNodes.{StandsAt-present}
-use Rattle.plan_model.proofs.OrderLaws.{KeepsOrder-falls}
-use Rattle.plan_model.proofs.OrderedTrees.{FallAlong-ordered}
-use Rattle.plan_model.proofs.PathLengths.{length_of_path-reverse}
-use Rattle.plan_model.specs.Reports.ReportText.{path_to}
-use Rattle.plan_model.specs.Runs.OrderLaw.{IsAllowedEdge, KeepsOrder}
-use Rattle.plan_model.specs.Runs.Textbook.{Setup, setup_of}
-use Rattle.plan_model.specs.Spaces.ClearPaths.{path_point}
-use Rattle.plan_model.specs.Trees.BestNode.{goals_of, is_goal_point, lies_in_goals}
-use Rattle.plan_model.specs.Trees.NodeLists.{length_of_path}
-use Rattle.plan_model.specs.Trees.PointsByNumber.{AreNumberedTo, IsPresent, StandsAt, point_of}
-use Rattle.plan_model.specs.Trees.TreeStates.{GrowsInto, TreeState, chain_in}
-use Rattle.plan_model.specs.declared.geometry.Goal.{Goal}
-use Rattle.plan_model.specs.declared.geometry.Point.{Point}
-use Rattle.plan_model.specs.declared.scenes.Scene.{Scene}
-use Rattle.plan_model.specs.declared.tasks.Task.{Task}
+use Rattle.grown_runs.proofs.Common.{chain-start, chain-parent, StandsAt-present, KeepsOrder-falls, FallAlong-ordered, length_of_path-reverse, path_to}
+use Rattle.grown_runs.proofs.Common.{IsAllowedEdge, KeepsOrder, Setup, setup_of, path_point, goals_of, is_goal_point, lies_in_goals, length_of_path}
+use Rattle.grown_runs.proofs.Common.{AreNumberedTo, IsPresent, StandsAt, point_of, GrowsInto, TreeState, chain_in, Goal, Point, Scene, Task, state_of_grown}
 use Rattle.settle_report.proofs.GrownPaths.{path_to-reverse, points_up}
-use Rattle.grown_runs.specs.Runs.GrownRuns.{state_of_grown}
 use Rattle.grown_runs.specs.declared.grown.Grown.{Grown}
 use Rattle.any_time.proofs.BestNodes.{AreNumberedTo-grown, IsGoalNode-best, IsPresent-best}
 use Rattle.any_time.specs.BestPaths.{Shows}

@@ -2,8 +2,7 @@
 use Rattle.std.proofs.Common.{◌≡◌, ◌++◌, ℕ, List, [], ◌∷◌, Option, Some, None, Ok, Err, MatchOption, ap, refl, sym, subst, ◌∙◌, length}
 use Rattle.std.proofs.Common.{append-nil, append_assoc}
 use Rattle.futures.specs.declared.task.Poll.TheVariants.{Ready, Pending}
-use Rattle.plan_model.specs.declared.errors.Memory.{Memory}
-use Rattle.plan_model.specs.declared.tasks.Task.{Task}
+use Rattle.grown_runs.proofs.Common.{Memory, Task}
 use Rattle.grown_runs.specs.declared.grown.Grown.{Grown}
 use Rattle.any_time.proofs.EachSlice.{items_fall_on}
 use Rattle.any_time.proofs.KnownOptions.{held}

@@ -1,18 +1,9 @@
 -- The best path of a textbook run is the one item that shows it.
 use Rattle.std.proofs.Common.{◌≡◌, ℕ, Some, sym, ap, subst, ◌∙◌}
 use Rattle.std.specs.Prelude.{map, reverse, take, unwrap_or}
-use Rattle.plan_model.proofs.SameReports.{AreSameRuns-textbook, best_node-same}
-use Rattle.plan_model.proofs.SameTrees.{chain_in-same, sum_in-same}
-use Rattle.plan_model.specs.Reports.ReportText.{path_to}
-use Rattle.plan_model.specs.Runs.OrderLaw.{KeepsOrder}
-use Rattle.plan_model.specs.Runs.SameRuns.{IsOfTextbookRun}
-use Rattle.plan_model.specs.Runs.Textbook.{Setup, setup_of}
-use Rattle.plan_model.specs.Trees.BestNode.{best_node, goals_of}
-use Rattle.plan_model.specs.Trees.PointsByNumber.{IsPresent, point_of}
-use Rattle.plan_model.specs.Trees.TreeStates.{AreSameRuns, TreeState, chain_in, sum_in}
-use Rattle.plan_model.specs.declared.geometry.Point.{Point}
+use Rattle.grown_runs.proofs.Common.{AreSameRuns-textbook, best_node-same, chain_in-same, sum_in-same, path_to, KeepsOrder, IsOfTextbookRun, Setup, setup_of}
+use Rattle.grown_runs.proofs.Common.{best_node, goals_of, IsPresent, point_of, AreSameRuns, TreeState, chain_in, sum_in, Point, state_of_grown}
 use Rattle.plan_work.specs.OneWorker.{IsOfTextbook}
-use Rattle.grown_runs.specs.Runs.GrownRuns.{state_of_grown}
 use Rattle.grown_runs.specs.declared.grown.Grown.{Grown}
 use Rattle.any_time.proofs.BestNodes.{IsPresent-best}
 use Rattle.any_time.proofs.KnownOptions.{some_is}

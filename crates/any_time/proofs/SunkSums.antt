@@ -1,14 +1,8 @@
 -- The best sum of a settled run that grows into another stays or falls.
 use Rattle.std.proofs.Common.{◌≡◌, ◌≤◌, ℕ, Option, Some, None, IfSome, IsSomeAnd, refl, sym, ap, subst}
 use Rattle.std.specs.Prelude.{option_map}
-use Rattle.plan_model.proofs.BestNodeLaws.{best_node-some}
-use Rattle.plan_model.proofs.GoalNodes.{IsGoalNode-grows}
-use Rattle.plan_model.proofs.SettledRuns.{best_sum-grows}
-use Rattle.plan_model.specs.Trees.BestNode.{IsBestNode, goals_of}
-use Rattle.plan_model.specs.Trees.TreeStates.{GrowsInto, IsSettled, sum_in}
-use Rattle.plan_model.specs.declared.scenes.Scene.{Scene}
-use Rattle.plan_model.specs.declared.tasks.Task.{Task}
-use Rattle.grown_runs.specs.Runs.GrownRuns.{state_of_grown}
+use Rattle.grown_runs.proofs.Common.{best_node-some, IsGoalNode-grows, best_sum-grows, IsBestNode, goals_of, GrowsInto, IsSettled, sum_in, Scene, Task}
+use Rattle.grown_runs.proofs.Common.{state_of_grown}
 use Rattle.grown_runs.specs.declared.grown.Grown.{Grown}
 use Rattle.any_time.proofs.BestNodes.{AreNumberedTo-grown, none-best}
 use Rattle.any_time.specs.BestPaths.{best_of, best_sum}

@@ -4,8 +4,7 @@ use Rattle.std.proofs.Common.{◌⊎◌, inl, inr, refl, sym, ap, subst, ◌∙�
 use Rattle.std.specs.Prelude.{All, Contains}
 use Rattle.std.proofs.lemmas.Bool.{cases_lt}
 use Rattle.std.proofs.lemmas.List.Elements.{All-cons, All-contains, All-head, All-nil, All-tail, All-weaker, Contains-get_or}
-use Rattle.plan_model.proofs.ListMembers.{Contains-after, Contains-first}
-use Rattle.plan_model.specs.declared.tasks.Task.{Task}
+use Rattle.grown_runs.proofs.Common.{Contains-after, Contains-first, Task}
 use Rattle.plan_work.specs.OneWorker.{IsOfTextbook}
 use Rattle.grown_runs.specs.declared.grown.Grown.{Grown}
 use Rattle.any_time.proofs.EachSlice.{items_fall_on, up_to-past, up_to-within}

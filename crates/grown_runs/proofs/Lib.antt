@@ -2,3 +2,4 @@ pub mod Table
 pub mod Runs
 pub mod Ways
 pub mod Children
+pub mod Common

@@ -1,20 +1,12 @@
 -- A walk of a pass that has only looked has stopped at a node of the way of a point: the way ends there, or leads on.
 use Rattle.std.proofs.Common.{◌≡◌, ◌<◌, None, sym, subst}
 use Rattle.std.specs.Prelude.{◌≢◌}
-use Rattle.plan_model.specs.declared.geometry.Point.{Point}
-use Rattle.plan_model.specs.Seen.Sights.{EndsSince}
-use Rattle.plan_model.specs.Trees.PointsByNumber.{IsFree}
-use Rattle.plan_model.proofs.SightLaws.{IsFree-ends}
-use Rattle.grown_runs.specs.Ways.KdWalks.{side_of, StopsAt}
-use Rattle.step_core.specs.ViewTrees.{LeadsTo, sight_in}
-use Rattle.step_core.specs.Views.{tree_seen}
+use Rattle.grown_runs.proofs.Common.{Point, EndsSince, IsFree, IsFree-ends, side_of, StopsAt, EndsBelow-stop, side_is}
+use Rattle.step_core.proofs.Common.{LeadsTo, sight_in, tree_seen, IsLaterMoment-later, KeepsSight-lawful, IsFree-here}
 use Rattle.grown_runs.specs.declared.kd_walks.Stop.{Stop}
 use Rattle.step_core.specs.declared.views.View.{View}
-use Rattle.step_core.proofs.OneView.LawfulSights.{IsLaterMoment-later, KeepsSight-lawful}
-use Rattle.grown_runs.proofs.Ways.WalkStops.{EndsBelow-stop, side_is}
 use Rattle.kd_shared.specs.Loads.{FindsEmpty}
 use Rattle.kd_shared.specs.Looking.{OnlyLooks}
-use Rattle.step_core.proofs.Seen.SeenWays.{IsFree-here}
 
 module _ (entry now : View) (p : Point) (stop : Stop) (looks : OnlyLooks entry now) (stops : StopsAt (tree_seen now) p stop)
     (apart : stop.here ≢ p) where

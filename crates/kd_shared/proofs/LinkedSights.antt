@@ -2,32 +2,16 @@
 use Rattle.std.proofs.Common.{◌≡◌, ℕ, suc, ◌^◌, ◌<◌, ◌≤◌, Bool, true, false, List, length, Option, Some, None, refl, sym, ap, ◌∙◌, subst, inl, inr}
 use Rattle.std.specs.Prelude.{IfSome}
 use Rattle.std.proofs.lemmas.Bool.{cases_eq}
-use Rattle.plan_model.specs.declared.geometry.Point.{Point}
-use Rattle.plan_model.specs.Trees.PointsByNumber.{IsFree, IsPresent, point_at}
-use Rattle.plan_model.specs.Seen.Ways.{IsOnWay}
-use Rattle.plan_words.specs.States.{GoesOn, HasWholeShare, PassState, with_view}
-use Rattle.grown_runs.specs.Runs.GrownWords.{child_of_word, has_node, record_at}
-use Rattle.step_core.specs.LaterViews.{IsLater, IsLawfulView}
-use Rattle.grown_runs.specs.Table.SeenWords.{seen_tree_of_words}
-use Rattle.step_core.specs.Stages.{has_first, has_link}
-use Rattle.step_core.specs.ViewSteps.{counted, last_fill, linked}
-use Rattle.step_core.specs.ViewTrees.{LeadsTo, SeesNode, SeesPoint}
-use Rattle.step_core.specs.Views.{run_sizes, sees, tree_seen}
-use Rattle.grown_runs.specs.Table.WordNames.{ChangesOnly, Word}
-use Rattle.grown_runs.specs.Table.WordNames.Word.{ChildOf, FirstOf, PointOf, RecordOf, TreeOf}
-use Rattle.grown_runs.specs.Table.Words.{cost_in, parent_in, record_of_word}
+use Rattle.grown_runs.proofs.Common.{Point, IsFree, IsPresent, point_at, IsOnWay, child_of_word, has_node, record_at, seen_tree_of_words, ChangesOnly, Word}
+use Rattle.grown_runs.proofs.Common.{ChildOf, FirstOf, PointOf, RecordOf, TreeOf, cost_in, parent_in, record_of_word, cost_in-tree_word, parent_in-tree_word}
+use Rattle.plan_words.proofs.Common.{GoesOn, HasWholeShare, PassState, with_view, IsLinkedAt-counted, leads_seen}
+use Rattle.step_core.proofs.Common.{IsLater, IsLawfulView, has_first, has_link, counted, last_fill, linked, LeadsTo, SeesNode, SeesPoint, run_sizes, sees}
+use Rattle.step_core.proofs.Common.{tree_seen, IsLater-trans, record-unplaced, ShowsNode, sees-linked, point_at-kept, linked_points-seen}
 use Rattle.step_core.specs.declared.views.Hand.{Hand}
 use Rattle.step_core.specs.declared.views.Stage.TheVariants.{Treed}
 use Rattle.step_core.specs.declared.views.View.{View}
-use Rattle.step_core.proofs.OneView.LaterViews.{IsLater-trans}
-use Rattle.step_core.proofs.Parts.LinkedStates.{record-unplaced}
-use Rattle.step_core.proofs.OneView.LinkedViews.{ShowsNode, sees-linked}
-use Rattle.grown_runs.proofs.Table.PackedWords.{cost_in-tree_word, parent_in-tree_word}
-use Rattle.plan_words.proofs.HandSteps.{IsLinkedAt-counted, leads_seen}
 use Rattle.kd_shared.specs.Looking.{OnlyLooks}
 use Rattle.kd_shared.specs.Placings.{AddsHand, IsWordOfLink, SeesLinked, state_seen}
-use Rattle.step_core.proofs.OneView.KeptPoints.{point_at-kept}
-use Rattle.step_core.proofs.OneView.SeenStates.{linked_points-seen}
 
 -- what holds of any hand holds of the one that there is
 pub IfSome-all : {Holds : Hand → Type 0} (held : Option Hand) → ((hand : Hand) → Holds hand) → IfSome held Holds

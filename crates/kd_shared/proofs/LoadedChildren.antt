@@ -3,18 +3,12 @@ use Rattle.std.proofs.Common.{◌≡◌, ℕ, zero, suc, ◌≤◌, Bool, true, 
 use Rattle.std.proofs.Common.{sym, ap, ◌∙◌, subst, inl, inr}
 use Rattle.std.specs.Prelude.{◌==◌, if◌then◌else◌, MatchOption}
 use Rattle.std.proofs.lemmas.Bool.{cases_eq, ne_eqb}
-use Rattle.plan_model.specs.declared.geometry.Point.{Point}
-use Rattle.plan_model.specs.Seen.Sights.{IsLaterMoment, KeepsSight, Sight}
-use Rattle.plan_model.specs.Trees.PointsByNumber.{point_at, point_of}
-use Rattle.plan_model.proofs.NewNodes.{StandsAt-present}
-use Rattle.plan_model.proofs.SightLaws.{IsLaterMoment-trans}
+use Rattle.grown_runs.proofs.Common.{Point, IsLaterMoment, KeepsSight, Sight, point_at, point_of, StandsAt-present, IsLaterMoment-trans, child_of_word}
+use Rattle.grown_runs.proofs.Common.{point_in}
 use Rattle.kd_shared.specs.Loads.{FindsEmpty, KeepsPoints, LoadsChild, LoadsPoint}
 use Rattle.kd_shared.specs.Spots.{QueuesChild, QueuesWithin}
 use Rattle.plan_words.specs.declared.spots.Spot.{Spot}
-use Rattle.grown_runs.specs.Runs.GrownWords.{child_of_word}
-use Rattle.step_core.specs.ViewTrees.{SeesNode}
-use Rattle.step_core.specs.Views.{tree_seen}
-use Rattle.grown_runs.specs.Table.Words.{point_in}
+use Rattle.step_core.proofs.Common.{SeesNode, tree_seen}
 use Rattle.step_core.specs.declared.views.View.{View}
 
 -- the child that was loaded is seen, and so is node 0

@@ -1,23 +1,11 @@
 -- What calls that look at nodes leave of a pass, one after another, and what they show of it.
 use Rattle.std.proofs.Common.{◌≡◌, ℕ, ◌<◌, ◌≤◌, Bool, Option, Some, None, length, refl, sym, ap, ◌∙◌, subst, inl, inr}
 use Rattle.std.specs.Prelude.{◌≢◌, MatchOption}
-use Rattle.plan_model.specs.declared.geometry.Point.{Point}
-use Rattle.plan_model.specs.Seen.Sights.{IsLaterMoment, KeepsSight}
-use Rattle.plan_model.proofs.SeenTreeLaws.{IsSeen-more}
-use Rattle.plan_words.specs.Claims.{SeesAsBefore}
-use Rattle.plan_words.specs.Nodes.{NamesChildOrPoint}
-use Rattle.plan_words.specs.States.{GoesOn, HasWholeShare}
-use Rattle.step_core.specs.LaterViews.{IsLater, IsLawfulView}
-use Rattle.step_core.specs.ViewSteps.{loaded}
-use Rattle.step_core.specs.ViewTrees.{SeesNode, SeesPoint, sight_in}
-use Rattle.step_core.specs.Views.{sees, tree_seen}
-use Rattle.grown_runs.specs.Table.WordNames.{ChangesOnly, Word, Words, WritesWord}
-use Rattle.grown_runs.specs.Table.WordNames.Word.{ChildOf, PointOf}
+use Rattle.grown_runs.proofs.Common.{Point, IsLaterMoment, KeepsSight, IsSeen-more, ChangesOnly, Word, Words, WritesWord, ChildOf, PointOf}
+use Rattle.plan_words.proofs.Common.{SeesAsBefore, NamesChildOrPoint, GoesOn, HasWholeShare}
+use Rattle.step_core.proofs.Common.{IsLater, IsLawfulView, loaded, SeesNode, SeesPoint, sight_in, sees, tree_seen, IsLater-refl, IsLaterMoment-later}
+use Rattle.step_core.proofs.Common.{KeepsSight-lawful, same_name, point_at-kept}
 use Rattle.step_core.specs.declared.views.View.{View}
-use Rattle.step_core.proofs.OneView.LaterViews.{IsLater-refl}
-use Rattle.step_core.proofs.OneView.LawfulSights.{IsLaterMoment-later, KeepsSight-lawful}
-use Rattle.step_core.proofs.Seen.Looks.{same_name}
-use Rattle.step_core.proofs.OneView.KeptPoints.{point_at-kept}
 use Rattle.kd_shared.specs.Loads.{FindsChild, LoadsChild, LoadsPoint}
 use Rattle.kd_shared.specs.Looking.{OnlyLooks}
 

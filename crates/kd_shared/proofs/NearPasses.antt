@@ -1,17 +1,11 @@
 -- The search of a pass for all near nodes: what waits and what is found at each stage.
 use Rattle.std.proofs.Common.{◌≡◌, ℕ, suc, ◌+◌, ◌*◌, ◌<◌, ◌≤◌, Bool, false, true, not, List, [], ◌∷◌, ◌++◌, length, arith, refl, sym, ap, ◌∙◌, subst}
 use Rattle.std.specs.Prelude.{◌==◌, IsFalse, if◌then◌else◌}
-use Rattle.plan_model.specs.declared.geometry.Point.{Point}
-use Rattle.plan_model.specs.Geometry.Bounds.{IsBounded}
-use Rattle.plan_model.specs.Geometry.Plane.{squared_distance}
-use Rattle.plan_model.specs.Seen.Sights.{KeepsSight}
-use Rattle.plan_words.specs.SearchLists.{SearchLists, point_of_spot}
-use Rattle.plan_words.specs.States.{BelongsTo, PassState, SharedState, with_lists, with_view}
+use Rattle.grown_runs.proofs.Common.{Point, IsBounded, squared_distance, KeepsSight}
+use Rattle.plan_words.proofs.Common.{SearchLists, point_of_spot, BelongsTo, PassState, SharedState, with_lists, with_view}
 use Rattle.plan_words.specs.declared.spots.Found.{Found}
 use Rattle.plan_words.specs.declared.spots.Spot.{Spot}
-use Rattle.step_core.specs.LaterViews.{IsLawfulView}
-use Rattle.step_core.specs.ViewTrees.{SeesNode, sight_in}
-use Rattle.step_core.proofs.OneView.LawfulSights.{IsBounded-seen, KeepsSight-lawful}
+use Rattle.step_core.proofs.Common.{IsLawfulView, SeesNode, sight_in, IsBounded-seen, KeepsSight-lawful}
 use Rattle.kd_shared.specs.Loads.{LoadsPoint}
 use Rattle.kd_shared.specs.LookLaws.{OnlyLooks-trans}
 use Rattle.kd_shared.specs.Looking.{KeepsLists, OnlyLooks, PassLooks, searched}

@@ -5,20 +5,14 @@ use Rattle.std.specs.Prelude.{Contains, IsFalse}
 use Rattle.std.proofs.lemmas.Bool.{cases_eq}
 use Rattle.std.proofs.lemmas.List.{append-nil, length-map, map-append}
 use Rattle.std.proofs.lemmas.List.Elements.{Contains-append_left, Contains-push, Contains-push_cases}
-use Rattle.plan_model.specs.declared.geometry.Point.{Point}
-use Rattle.plan_model.specs.Geometry.Plane.{squared_distance}
-use Rattle.plan_model.specs.Trees.PointsByNumber.{point_at, AreDistinct, StandsAt}
-use Rattle.plan_model.specs.Seen.SeenTrees.{IsSeen}
-use Rattle.plan_model.specs.Seen.Sights.{IsLaterMoment, KeepsSight, Sight}
-use Rattle.plan_model.proofs.NewNodes.{StandsAt-unique}
-use Rattle.plan_model.proofs.SightLaws.{IsFree-ends, IsLaterMoment-trans}
+use Rattle.grown_runs.proofs.Common.{Point, squared_distance, point_at, AreDistinct, StandsAt, IsSeen, IsLaterMoment, KeepsSight, Sight, StandsAt-unique}
+use Rattle.grown_runs.proofs.Common.{IsFree-ends, IsLaterMoment-trans, Contains-after, Contains-first}
 use Rattle.kd_shared.specs.Loads.{KeepsPoints, LoadsPoint}
 use Rattle.kd_shared.specs.Searches.{AreGathered}
 use Rattle.kd_shared.specs.Spots.{LeavesChild, Notes, Opens, QueuesChild, QueuesWithin, side_distance}
 use Rattle.plan_words.specs.SearchLists.{noted, numbers_of, point_of_spot}
 use Rattle.plan_words.specs.declared.spots.Found.{Found}
 use Rattle.plan_words.specs.declared.spots.Spot.{Spot}
-use Rattle.plan_model.proofs.ListMembers.{Contains-after, Contains-first}
 use Rattle.step_core.proofs.Seen.DistinctNumbers.{AreDifferent, AreDifferent-few, AreDifferent-within, Contains-cases, IsDistinct-from_different}
 use Rattle.step_core.proofs.Seen.DistinctNumbers.{Contains-none, length-one_more}
 use Rattle.kd_shared.proofs.Searching.{GoesBelow, GoesTo, IsMet, IsSearch, IsSearch-begins, IsSearch-ends, IsSearch-leaves_first, IsSearch-leaves_last}

@@ -1,20 +1,10 @@
 -- The walk of a pass to the nearest node: what its stack holds at each stage.
 use Rattle.std.proofs.Common.{◌≡◌, ℕ, suc, ◌+◌, ◌<◌, ◌≤◌, false, [], length, Some, None, arith, refl, sym, ap, ◌∙◌, subst}
 use Rattle.std.specs.Prelude.{Contains}
-use Rattle.plan_model.specs.declared.geometry.Point.{Point}
-use Rattle.plan_model.specs.declared.limits.TheConstants.{MOST_NODES}
-use Rattle.plan_model.specs.Geometry.Bounds.{IsBounded}
-use Rattle.plan_model.specs.Geometry.Plane.{squared_distance}
-use Rattle.plan_model.specs.Seen.Sights.{KeepsSight}
-use Rattle.plan_model.proofs.ListMembers.{Contains-first}
-use Rattle.plan_model.proofs.NewNodes.{IsPresent-stands}
-use Rattle.plan_words.specs.SearchLists.{no_search, point_of_spot}
-use Rattle.plan_words.specs.States.{BelongsTo, PassState, SharedState}
+use Rattle.grown_runs.proofs.Common.{Point, MOST_NODES, IsBounded, squared_distance, KeepsSight, Contains-first, IsPresent-stands}
+use Rattle.plan_words.proofs.Common.{no_search, point_of_spot, BelongsTo, PassState, SharedState}
 use Rattle.plan_words.specs.declared.spots.Spot.{Spot}
-use Rattle.step_core.specs.LaterViews.{IsLawfulView}
-use Rattle.step_core.specs.ViewTrees.{SeesNode, sight_in}
-use Rattle.step_core.specs.Views.{tree_seen}
-use Rattle.step_core.proofs.OneView.LawfulSights.{IsBounded-seen, KeepsSight-lawful}
+use Rattle.step_core.proofs.Common.{IsLawfulView, SeesNode, sight_in, tree_seen, IsBounded-seen, KeepsSight-lawful}
 use Rattle.kd_shared.specs.FarSides.{StacksFar, WalksOn}
 use Rattle.kd_shared.specs.Loads.{LoadsPoint}
 use Rattle.kd_shared.specs.LookLaws.{OnlyLooks-trans}

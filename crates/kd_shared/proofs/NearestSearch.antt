@@ -4,24 +4,13 @@ use Rattle.std.proofs.Common.{◌++◌, arith, refl, sym, ap, ◌∙◌, subst, 
 use Rattle.std.specs.Prelude.{Contains}
 use Rattle.std.proofs.lemmas.Bool.{cases_eq, cases_lt}
 use Rattle.std.proofs.lemmas.List.Elements.{Contains-append_cases, Contains-append_left, Contains-append_right, Contains-push, Contains-push_cases}
-use Rattle.plan_model.specs.declared.geometry.Point.{Point}
-use Rattle.plan_model.specs.Geometry.Plane.{squared_distance}
-use Rattle.plan_model.specs.Trees.LeastPairs.{IsNotAbove, IsPairNotAbove}
-use Rattle.plan_model.specs.Trees.Nearness.{distance_to}
-use Rattle.plan_model.specs.Trees.PointsByNumber.{point_of, AreDistinct, StandsAt}
-use Rattle.plan_model.specs.Seen.SeenTrees.{IsSeen}
-use Rattle.plan_model.specs.Seen.Sights.{IsLaterMoment, KeepsSight, Sight}
-use Rattle.plan_model.proofs.ListMembers.{Contains-first}
-use Rattle.plan_model.proofs.NewNodes.{IsPresent-stands, point_of-stands, StandsAt-present, StandsAt-unique}
-use Rattle.plan_model.proofs.SamePoints.{same_or_other}
-use Rattle.plan_model.proofs.SightLaws.{IsFree-ends, IsLaterMoment-trans}
+use Rattle.grown_runs.proofs.Common.{Point, squared_distance, IsNotAbove, IsPairNotAbove, distance_to, point_of, AreDistinct, StandsAt, IsSeen, IsLaterMoment}
+use Rattle.grown_runs.proofs.Common.{KeepsSight, Sight, Contains-first, IsPresent-stands, point_of-stands, StandsAt-present, StandsAt-unique, same_or_other}
+use Rattle.grown_runs.proofs.Common.{IsFree-ends, IsLaterMoment-trans, goes_right_by, IsNearerOf, split_distance-le, two_sides}
 use Rattle.plan_words.specs.SearchLists.{point_of_spot}
 use Rattle.plan_words.specs.declared.spots.Spot.{Spot}
-use Rattle.grown_runs.specs.Ways.KdSides.{goes_right_by}
-use Rattle.grown_runs.specs.Ways.MeasuredNodes.{IsNearerOf}
 use Rattle.grown_runs.specs.declared.measured_nodes.MeasuredNode.{MeasuredNode}
 use Rattle.step_core.proofs.Seen.DistinctNumbers.{Contains-cases, Contains-none}
-use Rattle.grown_runs.proofs.Ways.SplitSides.{split_distance-le, two_sides}
 use Rattle.kd_shared.specs.FarSides.{far_side, IsChildSpot, IsFinished, LoadsSpot, near_side, PopsFar, StacksFar, WalksOn}
 use Rattle.kd_shared.specs.Loads.{LoadsPoint}
 use Rattle.kd_shared.specs.Searches.{IsNearestSeen}

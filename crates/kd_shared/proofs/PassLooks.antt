@@ -1,17 +1,10 @@
 -- What loads leave of a pass: all but what it sees of the loaded words.
 use Rattle.std.proofs.Common.{◌≡◌, ℕ, Bool, sym, ap, ◌∙◌, subst}
-use Rattle.plan_words.specs.Claims.{SeesAsBefore}
-use Rattle.plan_words.specs.Nodes.{NamesChildOrPoint}
-use Rattle.plan_words.specs.States.{BelongsTo, GoesOn, HasWholeShare, PassState, SharedState, with_view}
-use Rattle.step_core.specs.ViewSteps.{loaded}
-use Rattle.step_core.specs.ViewTrees.{SeesNode}
-use Rattle.step_core.specs.Views.{sees}
-use Rattle.grown_runs.specs.Table.WordNames.{ChangesOnly, Word, WritesWord}
-use Rattle.grown_runs.specs.Table.WordNames.Word.{ChildOf}
-use Rattle.step_core.proofs.Seen.SeenByViews.{WritesWord-saw}
+use Rattle.plan_words.proofs.Common.{SeesAsBefore, NamesChildOrPoint, BelongsTo, GoesOn, HasWholeShare, PassState, SharedState, with_view, BelongsTo-later}
+use Rattle.step_core.proofs.Common.{loaded, SeesNode, sees, WritesWord-saw}
+use Rattle.grown_runs.proofs.Common.{ChangesOnly, Word, WritesWord, ChildOf}
 use Rattle.kd_shared.specs.Looking.{PassLooks}
 use Rattle.kd_shared.proofs.Looking.{OnlyLooks-loaded, same_words}
-use Rattle.plan_words.proofs.GoingOn.{BelongsTo-later}
 
 -- one step that shows no word but that of a child or of a point
 pub PassLooks-step : (shared : SharedState) (before after : PassState) (name : Word) (word : ℕ) → BelongsTo before shared

@@ -1,19 +1,14 @@
 -- The node in hand is linked where the walk along the way of its point has come to, or it stays in hand.
 use Rattle.std.proofs.Common.{◌≡◌, ℕ, suc, Bool, Option, Some, None, sym, ap, ◌∙◌, subst}
 use Rattle.std.specs.Prelude.{IfSome, IsSome}
-use Rattle.plan_model.specs.declared.geometry.Point.{Point}
-use Rattle.plan_words.specs.Nodes.{IsLinkedAt, LeadsOn, NamesNode}
-use Rattle.plan_words.specs.States.{BelongsTo, GoesOn, PassState, SharedState, with_view}
-use Rattle.step_core.specs.ViewSteps.{counted, last_fill, linked}
-use Rattle.step_core.specs.ViewTrees.{LeadsTo, SeesPoint}
-use Rattle.step_core.specs.Views.{sees}
-use Rattle.grown_runs.specs.Table.WordNames.{ChangesOnly}
+use Rattle.grown_runs.proofs.Common.{Point, ChangesOnly}
+use Rattle.plan_words.proofs.Common.{IsLinkedAt, LeadsOn, NamesNode, BelongsTo, GoesOn, PassState, SharedState, with_view, BelongsTo-later, GoesOn-trans}
+use Rattle.plan_words.proofs.Common.{NamesNode-child}
+use Rattle.step_core.proofs.Common.{counted, last_fill, linked, LeadsTo, SeesPoint, sees}
 use Rattle.step_core.specs.declared.views.Hand.{Hand}
 use Rattle.step_core.specs.declared.views.View.{View}
 use Rattle.kd_shared.specs.Looking.{GoesOnLooking, OnlyLooks, PassLooks}
 use Rattle.kd_shared.specs.Placings.{GoesOnPlacing, IsPlaced, IsSame, KeepsShare}
-use Rattle.plan_words.proofs.GoingOn.{BelongsTo-later, GoesOn-trans}
-use Rattle.plan_words.proofs.HandSteps.{NamesNode-child}
 
 -- the hand of a pass that only looked
 pub IfSome-kept : (before after : View) (Holds : Hand → Type 0) → OnlyLooks before after → IfSome before.hand Holds → IfSome after.hand Holds

@@ -1,13 +1,8 @@
 -- What a search has found at a later moment, and for a call that began before the search did.
 use Rattle.std.proofs.Common.{ℕ, ◌*◌, ◌≤◌, List, arith, sym, ap, ◌∙◌, subst}
 use Rattle.std.specs.Prelude.{Contains}
-use Rattle.plan_model.specs.declared.geometry.Point.{Point}
-use Rattle.plan_model.specs.Geometry.Plane.{squared_distance}
-use Rattle.plan_model.specs.Trees.Nearness.{is_within}
-use Rattle.plan_model.specs.Trees.PointsByNumber.{point_at, StandsAt}
-use Rattle.plan_model.specs.Seen.Sights.{EndsSince, IsLaterMoment, KeepsSight, Sight}
-use Rattle.plan_model.proofs.NearNodes.{Contains-near}
-use Rattle.plan_model.proofs.SightLaws.{IsSwept-later}
+use Rattle.grown_runs.proofs.Common.{Point, squared_distance, is_within, point_at, StandsAt, EndsSince, IsLaterMoment, KeepsSight, Sight, Contains-near}
+use Rattle.grown_runs.proofs.Common.{IsSwept-later}
 use Rattle.kd_shared.specs.Searches.{AreNearSeen, SweepsWithin}
 use Rattle.kd_shared.proofs.SortedNear.{is_within-close, is_within-near, near-within}
 

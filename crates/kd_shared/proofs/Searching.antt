@@ -2,25 +2,14 @@
 use Rattle.std.proofs.Common.{◌≡◌, ◌⊎◌, ℕ, suc, ◌*◌, ◌<◌, ◌≤◌, Bool, false, not, List, [], ◌∷◌, Some, arith, refl, sym, ap, ◌∙◌, subst, inl, inr}
 use Rattle.std.specs.Prelude.{◌≢◌, Contains}
 use Rattle.std.proofs.lemmas.List.Elements.{Contains-append_left, Contains-push, Contains-push_cases}
-use Rattle.plan_model.specs.declared.geometry.Point.{Point}
-use Rattle.plan_model.specs.Geometry.Plane.{squared_distance}
-use Rattle.plan_model.specs.Trees.PointsByNumber.{StandsAt}
-use Rattle.plan_model.specs.Seen.SeenTrees.{IsSeen}
-use Rattle.plan_model.specs.Seen.Sights.{EndsSince, IsLaterMoment, KeepsSight, Sight}
-use Rattle.plan_model.specs.Seen.Ways.{goes_right, IsOnWay}
-use Rattle.plan_model.specs.Seen.Ways.IsOnWay.{begins, goes_on}
-use Rattle.plan_model.proofs.SamePoints.{same_or_other}
-use Rattle.plan_model.proofs.SeenTreeLaws.{IsSeen-more}
-use Rattle.plan_model.proofs.SightLaws.{EndsSince-later, IsLaterMoment-trans}
-use Rattle.grown_runs.specs.Ways.KdSides.{goes_right_by, is_by_rows}
+use Rattle.grown_runs.proofs.Common.{Point, squared_distance, StandsAt, IsSeen, EndsSince, IsLaterMoment, KeepsSight, Sight, goes_right, IsOnWay, begins}
+use Rattle.grown_runs.proofs.Common.{goes_on, same_or_other, IsSeen-more, EndsSince-later, IsLaterMoment-trans, goes_right_by, is_by_rows, Contains-after}
+use Rattle.grown_runs.proofs.Common.{goes_right-by, is_by_rows-next, two_sides}
 use Rattle.kd_shared.specs.Loads.{FindsEmpty}
 use Rattle.kd_shared.specs.Spots.{Opens, Puts, side_distance}
 use Rattle.kd_shared.proofs.SideDistances.{side_distance-le}
 use Rattle.plan_words.specs.declared.spots.Spot.{Spot}
-use Rattle.plan_model.proofs.ListMembers.{Contains-after}
-use Rattle.step_core.proofs.Seen.DistinctNumbers.{Contains-cases, Contains-none}
-use Rattle.grown_runs.proofs.Ways.SplitSides.{goes_right-by, is_by_rows-next, two_sides}
-use Rattle.step_core.proofs.Seen.SeenWays.{IsOnWay-later}
+use Rattle.step_core.proofs.Common.{Contains-cases, Contains-none, IsOnWay-later}
 
 -- ---- where a point is
 

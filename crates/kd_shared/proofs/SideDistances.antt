@@ -4,9 +4,7 @@ use Rattle.std.specs.Prelude.{IsFalse, nat_lt}
 use Rattle.std.specs.Int.{abs_diff}
 use Rattle.std.proofs.lemmas.Bool.{ltb-true, ltb-false}
 use Rattle.std.proofs.lemmas.Nat.{mul-le}
-use Rattle.plan_model.specs.declared.geometry.Point.{Point}
-use Rattle.plan_model.specs.Geometry.Plane.{squared_distance}
-use Rattle.grown_runs.specs.Ways.KdSides.{goes_right_by}
+use Rattle.grown_runs.proofs.Common.{Point, squared_distance, goes_right_by}
 use Rattle.kd_shared.specs.Spots.{past_line, side_distance}
 
 -- a coordinate on one side of a line is at least as far as the line

@@ -12,16 +12,10 @@ use Rattle.std.proofs.lemmas.List.Kept.{IsStrictlyIncreasing-filter}
 use Rattle.std.proofs.lemmas.List.Sorted.{Contains-permutation, IsPermutation-sym}
 use Rattle.std.proofs.lemmas.Map.Keys.{IsDistinct-IsPermutation, IsStrictlyIncreasing-from_distinct, sorted_from_strictly_increasing}
 use Rattle.std.specs.List.Sorted.{IsStrictlySortedBy}
-use Rattle.plan_model.specs.declared.geometry.Point.{Point}
-use Rattle.plan_model.specs.Geometry.Plane.{squared_distance}
-use Rattle.plan_model.specs.Trees.Nearness.{is_within, near}
-use Rattle.plan_model.specs.Trees.PointsByNumber.{point_at}
-use Rattle.plan_model.specs.Seen.Sights.{Sight}
-use Rattle.plan_words.proofs.RisingNumbers.{Contains-number, eqb-swap, same_numbers}
-use Rattle.plan_words.specs.SearchLists.{numbers_of}
+use Rattle.grown_runs.proofs.Common.{Point, squared_distance, is_within, near, point_at, Sight, Contains-near}
+use Rattle.plan_words.proofs.Common.{Contains-number, eqb-swap, same_numbers, numbers_of}
 use Rattle.plan_words.specs.declared.spots.Found.{Found}
 use Rattle.kd_shared.specs.Searches.{AreGathered, AreNearSeen}
-use Rattle.plan_model.proofs.NearNodes.{Contains-near}
 
 -- ---- near nodes
 

@@ -4,14 +4,10 @@ use Rattle.std.proofs.Common.{subst, inl, inr}
 use Rattle.std.specs.Prelude.{Contains, map}
 use Rattle.std.proofs.lemmas.List.{length-map}
 use Rattle.std.proofs.lemmas.List.Elements.{Contains-append_right}
-use Rattle.plan_model.specs.Seen.SeenTrees.{IsSeen}
-use Rattle.plan_model.specs.Seen.Sights.{IsLaterMoment, KeepsSight, Sight}
+use Rattle.grown_runs.proofs.Common.{IsSeen, IsLaterMoment, KeepsSight, Sight, Contains-first, Contains-after}
 use Rattle.kd_shared.specs.Spots.{Opens}
 use Rattle.plan_words.specs.declared.spots.Spot.{Spot}
-use Rattle.plan_model.proofs.ListMembers.{Contains-first}
-use Rattle.step_core.proofs.Seen.DistinctNumbers.{AreDifferent, AreDifferent-after, AreDifferent-few, AreDifferent-within, Contains-cases}
-use Rattle.plan_model.proofs.ListMembers.{Contains-after}
-use Rattle.step_core.proofs.Seen.DistinctNumbers.{Contains-none, Contains-within}
+use Rattle.step_core.proofs.Common.{AreDifferent, AreDifferent-after, AreDifferent-few, AreDifferent-within, Contains-cases, Contains-none, Contains-within}
 
 -- ---- the nodes that wait
 

@@ -4,11 +4,7 @@ use Rattle.std.proofs.Common.{subst, inl, inr}
 use Rattle.std.specs.Prelude.{Contains}
 use Rattle.std.proofs.lemmas.List.{append-nil, length-map, map-append}
 use Rattle.std.proofs.lemmas.List.Elements.{Contains-append_left, Contains-append_right, Contains-push_cases}
-use Rattle.plan_model.specs.declared.geometry.Point.{Point}
-use Rattle.plan_model.specs.Seen.SeenTrees.{IsSeen}
-use Rattle.plan_model.specs.Seen.Sights.{IsLaterMoment, KeepsSight, Sight}
-use Rattle.plan_model.proofs.SightLaws.{IsLaterMoment-refl}
-use Rattle.plan_model.proofs.ListMembers.{Contains-after, Contains-first}
+use Rattle.grown_runs.proofs.Common.{Point, IsSeen, IsLaterMoment, KeepsSight, Sight, IsLaterMoment-refl, Contains-after, Contains-first}
 use Rattle.plan_words.specs.declared.spots.Spot.{Spot}
 use Rattle.step_core.proofs.Seen.DistinctNumbers.{AreDifferent, AreDifferent-few, AreDifferent-within, Contains-cases, Contains-none}
 use Rattle.kd_shared.specs.FarSides.{far_side, near_side}

@@ -4,10 +4,7 @@ use Rattle.std.specs.Prelude.{◌&&◌, nat_le}
 use Rattle.std.specs.List.{list_all}
 use Rattle.std.proofs.lemmas.Bool.{le-leb}
 use Rattle.std.proofs.lemmas.List.Folds.{list_all-append}
-use Rattle.plan_model.specs.Scenes.Limits.{is_mark, is_plan}
-use Rattle.plan_model.specs.declared.geometry.Point.{Point}
-use Rattle.plan_model.specs.declared.limits.TheConstants.{MOST_MARKS, MOST_SIDE}
-use Rattle.plan_model.specs.declared.scenes.Marks.TheVariants.{Listed}
+use Rattle.grown_runs.proofs.Common.{is_mark, is_plan, Point, MOST_MARKS, MOST_SIDE, Listed}
 
 -- so many points, each one that a mark may have
 pub record AreMarks (points : List Point) (n : ℕ) : Type 0 where

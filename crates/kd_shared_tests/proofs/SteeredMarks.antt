@@ -1,37 +1,19 @@
 -- What a pass knows of the mark in its hand: the node that it was steered from is the nearest of those whose records are seen, as later views say too.
 use Rattle.std.proofs.Common.{◌≡◌, ◌≤◌, ◌+◌, ℕ, suc, Bool, true, false, Some, refl, sym, ap, ◌∙◌, subst}
 use Rattle.std.specs.Prelude.{IfSome}
-use Rattle.plan_model.specs.Spaces.Clearance.{Clear}
-use Rattle.plan_model.specs.Runs.ClosedLaw.{mark_at}
-use Rattle.plan_model.specs.Spaces.ConfigurationSpace.{space_of}
-use Rattle.plan_model.specs.Geometry.Cost.{cost_of}
-use Rattle.plan_model.specs.Geometry.Plane.{squared_distance}
-use Rattle.plan_model.specs.Trees.Nearness.{distance_to}
-use Rattle.plan_model.specs.Trees.PointsByNumber.{IsPresent, point_of}
-use Rattle.plan_model.specs.declared.geometry.Point.{Point}
-use Rattle.plan_model.proofs.NewNodes.{IsPresent-stands, StandsAt-present, point_of-stands}
+use Rattle.grown_runs.proofs.Common.{Clear, mark_at, space_of, cost_of, squared_distance, distance_to, IsPresent, point_of, Point, IsPresent-stands}
+use Rattle.grown_runs.proofs.Common.{StandsAt-present, point_of-stands, has_node, WritesWord, PointOf, RecordOf, TreeOf}
 use Rattle.kd_shared.specs.Searches.{IsNearestSeen}
 use Rattle.kd_shared.specs.Placings.{IsPlaced, IsPlacing, IsSame}
 use Rattle.kd_shared.specs.declared.placing.Placing.{Placing}
 use Rattle.kd_shared.specs.declared.placing.Placing.TheVariants.{Placed, Same}
-use Rattle.plan_words.specs.States.{GoesOn, SharedState, run_in}
-use Rattle.plan_words.proofs.HandSteps.{at_hand}
-use Rattle.plan_words.proofs.KeptPairs.{if_hand}
-use Rattle.plan_words.proofs.NearestParents.{MayHang-nearest}
-use Rattle.grown_runs.specs.Runs.GrownWords.{has_node}
-use Rattle.step_core.specs.LaterViews.{IsLater, IsLawfulView}
-use Rattle.step_core.specs.Stages.{has_link, has_point}
-use Rattle.step_core.specs.ViewSteps.{pointed}
-use Rattle.step_core.specs.ViewTrees.{MayHang, SeesCost, SeesNode, SeesPoint, sight_in}
-use Rattle.step_core.specs.Views.{sees, setup_in, tree_seen}
-use Rattle.grown_runs.specs.Table.WordNames.{WritesWord}
-use Rattle.grown_runs.specs.Table.WordNames.Word.{PointOf, RecordOf, TreeOf}
+use Rattle.plan_words.proofs.Common.{GoesOn, SharedState, run_in, at_hand, if_hand, MayHang-nearest}
+use Rattle.step_core.proofs.Common.{IsLater, IsLawfulView, has_link, has_point, pointed, MayHang, SeesCost, SeesNode, SeesPoint, sight_in, sees, setup_in}
+use Rattle.step_core.proofs.Common.{tree_seen, has_node-recorded, present_recorded, SeesPoint-later}
 use Rattle.step_core.specs.declared.views.Hand.{Hand}
 use Rattle.step_core.specs.declared.views.Stage.{Stage}
 use Rattle.step_core.specs.declared.views.Stage.TheVariants.{Counted, Pointed, Treed}
 use Rattle.step_core.specs.declared.views.View.{View}
-use Rattle.step_core.proofs.OneView.RecordedNodes.{has_node-recorded, present_recorded}
-use Rattle.step_core.proofs.OneView.SeenViews.{SeesPoint-later}
 use Rattle.kd_shared_tests.specs.HeldMarks.{HangsBelowNearest, IsNearestRecorded, SteersFrom}
 
 -- what a search for the nearest node finds

@@ -9,33 +9,12 @@ use Rattle.std.proofs.lemmas.Bool.{cases_lt, le-leb, leb-true}
 use Rattle.std.proofs.lemmas.Int.Digits.{length-digits_of-le}
 use Rattle.std.proofs.lemmas.List.Elements.{filter_agree}
 use Rattle.std.proofs.lemmas.Nat.{pow_pos}
-use Rattle.plan_model.specs.Spaces.Clearance.{Clear}
-use Rattle.plan_model.specs.Runs.ClosedLaw.{mark_at}
-use Rattle.plan_model.specs.Trees.BestNode.{is_goal_point}
-use Rattle.plan_model.specs.Trees.LeastPairs.{IsNotAbove}
-use Rattle.plan_model.specs.Trees.Nearness.{distance_to, is_within}
-use Rattle.plan_model.specs.Trees.PointsByNumber.{IsPresent, point_at, point_of}
-use Rattle.plan_model.specs.Geometry.Radius.{class_of, radius_of_class}
-use Rattle.plan_model.specs.Geometry.Steering.{steered}
-use Rattle.plan_model.specs.declared.geometry.Point.{Point}
-use Rattle.plan_model.specs.declared.records.Outcome.{Outcome}
-use Rattle.plan_model.specs.declared.records.Outcome.TheVariants.{Placed, Same}
-use Rattle.plan_model.specs.declared.records.Record.{Record}
-use Rattle.plan_model.proofs.FreePoints.{same-from_distance}
-use Rattle.plan_model.proofs.NewNodes.{point_of-stands}
-use Rattle.plan_model.proofs.RadiusLaws.{greatest-passes}
-use Rattle.plan_model.proofs.RecordLaws.{class_of-le}
-use Rattle.plan_words.specs.States.{GoesOn}
-use Rattle.plan_words.proofs.KeptPairs.{if_hand}
-use Rattle.step_core.proofs.Parts.LawfulRecords.{is_own_node-earlier}
-use Rattle.step_core.proofs.OneView.RecordedNodes.{own_recorded}
-use Rattle.grown_runs.specs.Runs.GrownWords.{has_node}
-use Rattle.step_core.specs.LaterViews.{IsLawfulView}
-use Rattle.step_core.specs.SeenRecords.{IsOwnNeighbour, MayBePlaced, MayEnd, MayRecord, MaySteer, is_own_node, own_count}
-use Rattle.step_core.specs.Stages.{has_link}
-use Rattle.step_core.specs.ViewTrees.{SeesPoint}
-use Rattle.step_core.specs.Views.{sees, setup_in, tree_seen}
-use Rattle.grown_runs.specs.Table.WordNames.Word.{Count, RecordOf}
+use Rattle.grown_runs.proofs.Common.{Clear, mark_at, is_goal_point, IsNotAbove, distance_to, is_within, IsPresent, point_at, point_of, class_of}
+use Rattle.grown_runs.proofs.Common.{radius_of_class, steered, Point, Outcome, Placed, Same, Record, same-from_distance, point_of-stands, greatest-passes}
+use Rattle.grown_runs.proofs.Common.{class_of-le, has_node, Count, RecordOf}
+use Rattle.plan_words.proofs.Common.{GoesOn, if_hand}
+use Rattle.step_core.proofs.Common.{is_own_node-earlier, own_recorded, IsLawfulView, IsOwnNeighbour, MayBePlaced, MayEnd, MayRecord, MaySteer, is_own_node}
+use Rattle.step_core.proofs.Common.{own_count, has_link, SeesPoint, sees, setup_in, tree_seen}
 use Rattle.step_core.specs.declared.views.Hand.{Hand}
 use Rattle.step_core.specs.declared.views.SharedRun.{SharedRun}
 use Rattle.step_core.specs.declared.views.View.{View}

@@ -1,11 +1,6 @@
 -- Clear choices of positions, as clear rests of the first one, and points of clear paths.
 use Rattle.std.proofs.Common.{◌≡◌, ℕ, zero, suc, ◌<◌, List, [], ◌∷◌, length, arith, refl, sym, subst}
-use Rattle.plan_model.specs.declared.geometry.Point.{Point}
-use Rattle.plan_model.specs.declared.configuration_spaces.ConfigurationSpace.{ConfigurationSpace}
-use Rattle.plan_model.specs.Geometry.Bounds.{IsBounded}
-use Rattle.plan_model.specs.Spaces.Clearance.{Clear}
-use Rattle.plan_model.specs.Spaces.ClearPaths.{path_point, IsClearPath}
-use Rattle.plan_model.specs.Spaces.PathChoices.{RiseToLast, kept_points}
+use Rattle.grown_runs.proofs.Common.{Point, ConfigurationSpace, IsBounded, Clear, path_point, IsClearPath, RiseToLast, kept_points}
 use Rattle.swept_check.proofs.BoundedSegments.{IsBounded-clear}
 use Rattle.path_tools.specs.SmoothPaths.{IsClearChoice, IsLeastChoice, IsChoiceNotAbove}
 use Rattle.path_tools.specs.Rests.{IsClearRest, IsLeastRest}

@@ -2,12 +2,7 @@
 use Rattle.std.proofs.Common.{◌≡◌, ℕ, suc, ◌+◌, ◌-◌, ◌<◌, ◌≤◌, ◌⊎◌, inl, inr, List, [], ◌∷◌, length, replicate, arith, refl, sym, ap, ◌∙◌, subst}
 use Rattle.std.proofs.lemmas.Bool.{cases_lt}
 use Rattle.std.proofs.lemmas.List.{get_or-replicate, length-replicate}
-use Rattle.plan_model.specs.declared.geometry.Point.{Point}
-use Rattle.plan_model.specs.declared.configuration_spaces.ConfigurationSpace.{ConfigurationSpace}
-use Rattle.plan_model.specs.Geometry.Cost.{cost_of}
-use Rattle.plan_model.specs.Spaces.Clearance.{Clear}
-use Rattle.plan_model.specs.Spaces.ClearPaths.{path_point, IsClearPath}
-use Rattle.plan_model.specs.Spaces.PathChoices.{cost_of_choice}
+use Rattle.grown_runs.proofs.Common.{Point, ConfigurationSpace, cost_of, Clear, path_point, IsClearPath, cost_of_choice}
 use Rattle.path_tools.specs.declared.rests.Rest.{Rest}
 use Rattle.path_tools.specs.Rests.{HasRoom, IsLeastRest, IsRestBelow, rest_at, AreRestsFrom}
 use Rattle.path_tools.proofs.RestLaws.{IsClearRest-inside, IsLeastRest-last, IsLeastRest-straight, IsLeastRest-first, IsLeastRest-takes}

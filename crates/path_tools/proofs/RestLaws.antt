@@ -1,13 +1,7 @@
 -- The order of choices, and the least rests of positions.
 use Rattle.std.proofs.Common.{◌≡◌, ℕ, suc, ◌<◌, ◌≤◌, ◌⊎◌, inl, inr, List, [], ◌∷◌, length, arith, refl, sym, ap, ◌∙◌, subst}
 use Rattle.std.proofs.lemmas.Bool.{cases_lt}
-use Rattle.plan_model.specs.declared.geometry.Point.{Point}
-use Rattle.plan_model.specs.declared.configuration_spaces.ConfigurationSpace.{ConfigurationSpace}
-use Rattle.plan_model.specs.Geometry.Cost.{cost_of}
-use Rattle.plan_model.specs.Spaces.Clearance.{Clear}
-use Rattle.plan_model.specs.Spaces.ClearPaths.{path_point}
-use Rattle.plan_model.specs.Spaces.PathChoices.{cost_of_choice}
-use Rattle.plan_model.proofs.TriangleLaw.{cost_of-triangle}
+use Rattle.grown_runs.proofs.Common.{Point, ConfigurationSpace, cost_of, Clear, path_point, cost_of_choice, cost_of-triangle}
 use Rattle.path_tools.specs.SmoothPaths.{IsNotAfter, IsChoiceNotAbove}
 use Rattle.path_tools.specs.Rests.{IsClearRest, BeginsBelow, IsLeastRest}
 

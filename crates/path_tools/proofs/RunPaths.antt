@@ -1,17 +1,10 @@
 -- The path to a node of a run has a point, and is clear.
 use Rattle.std.proofs.Common.{ℕ, zero, suc, ◌<◌, length, reverse, arith, ap}
 use Rattle.std.proofs.lemmas.List.{length-map, length-reverse}
-use Rattle.plan_model.specs.Reports.ReportText.{path_to}
-use Rattle.plan_model.specs.Runs.Textbook.{setup_of}
-use Rattle.plan_model.specs.Spaces.ClearPaths.{IsClearPath}
-use Rattle.plan_model.specs.Spaces.ConfigurationSpace.{space_of}
-use Rattle.plan_model.specs.Trees.PointsByNumber.{IsPresent, point_of}
-use Rattle.plan_model.specs.Trees.TreeStates.{chain_in}
-use Rattle.plan_model.proofs.ChainLaws.{chain-start, chain-parent}
-use Rattle.plan_model.proofs.ClearPathLaws.{IsClearPath-ordered}
+use Rattle.grown_runs.proofs.Common.{path_to, setup_of, IsClearPath, space_of, IsPresent, point_of, chain_in, chain-start, chain-parent, IsClearPath-ordered}
+use Rattle.grown_runs.proofs.Common.{state_of_grown}
 use Rattle.settle_report.proofs.GrownPaths.{FallAlong-grown}
 use Rattle.grown_runs.specs.declared.grown.Grown.{Grown}
-use Rattle.grown_runs.specs.Runs.GrownRuns.{state_of_grown}
 
 module _ (grown : Grown) where
   long_chain : (n : ℕ) → IsPresent (state_of_grown grown).points n → 0 < length (chain_in (state_of_grown grown) n)

@@ -1,9 +1,6 @@
 -- The smoothed path is one, and it is clear.
 use Rattle.std.proofs.Common.{◌≡◌, List, sym, ap, ◌∙◌, subst}
-use Rattle.plan_model.specs.declared.geometry.Point.{Point}
-use Rattle.plan_model.specs.declared.configuration_spaces.ConfigurationSpace.{ConfigurationSpace}
-use Rattle.plan_model.specs.Spaces.ClearPaths.{IsClearPath}
-use Rattle.plan_model.specs.Spaces.PathChoices.{kept_points}
+use Rattle.grown_runs.proofs.Common.{Point, ConfigurationSpace, IsClearPath, kept_points}
 use Rattle.path_tools.specs.SmoothPaths.{IsSmoothed}
 use Rattle.path_tools.proofs.RestLaws.{IsChoiceNotAbove-same}
 

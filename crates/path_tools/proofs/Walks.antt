@@ -1,11 +1,7 @@
 -- From the first position of a path along the least rests to its end.
 use Rattle.std.proofs.Common.{◌≡◌, ℕ, suc, ◌-◌, ◌<◌, List, [], ◌∷◌, ◌++◌, length, get_or, arith, refl, sym, ap, ◌∙◌, subst, append_assoc}
 use Rattle.std.proofs.lemmas.List.{map-append, append-nil, get_or_read}
-use Rattle.plan_model.specs.declared.geometry.Point.{Point}
-use Rattle.plan_model.specs.declared.configuration_spaces.ConfigurationSpace.{ConfigurationSpace}
-use Rattle.plan_model.specs.Spaces.ClearPaths.{path_point}
-use Rattle.plan_model.specs.Spaces.PathChoices.{kept_points, cost_of_choice}
-use Rattle.plan_model.specs.Trees.NodeLists.{length_of_path}
+use Rattle.grown_runs.proofs.Common.{Point, ConfigurationSpace, path_point, kept_points, cost_of_choice, length_of_path}
 use Rattle.path_tools.specs.declared.rests.Rest.{Rest}
 use Rattle.path_tools.specs.SmoothPaths.{IsLeastChoice, IsSmoothed}
 use Rattle.path_tools.specs.Rests.{BeginsWith, IsLeastRest, IsRestBelow, AreRestsFrom}

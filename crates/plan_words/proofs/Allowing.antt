@@ -15,40 +15,23 @@ use Rattle.plan_words.specs.Bests.{FindsGoalNode}
 use Rattle.plan_words.specs.Plays.{Claims, Counts, FindsAsSeen, FindsCount, FindsPoint, FindsTree, FindsWholeCount, Finishes, Links, Loads, LoadsBest}
 use Rattle.plan_words.specs.Plays.{Lowers, Posts, TellsHand, WritesFirst, WritesPoint, WritesTree}
 use Rattle.plan_words.specs.States.{GoesOn, HasWholeShare, HoldsWorld}
-use Rattle.step_core.specs.LaterViews.{IsLater}
-use Rattle.step_core.specs.SeenBests.{MayPost}
-use Rattle.step_core.specs.SeenRecords.{MayRecord}
-use Rattle.step_core.specs.Stages.{MayBeRecorded}
-use Rattle.step_core.specs.ViewSteps.{best_loaded, best_with, hand_with_best, hand_with_post, posted}
-use Rattle.step_core.specs.ViewSteps.{claimed, counted, finished, finished_at, half, joined, last_fill, linked, linked_at, loaded, looker, lowered}
-use Rattle.step_core.specs.ViewSteps.{mark_of, pair_in_hand, parted, place_in, pointed, saw_at, stepped as one_step, steps_then, treed, worker_apart}
-use Rattle.step_core.specs.ViewTrees.{IsSteered, LeadsTo, MayHang, MayLoad, MayLower}
-use Rattle.step_core.specs.Views.{run_sizes, sees, share, spent, words_of_run}
-use Rattle.grown_runs.specs.Table.WordNames.{Word, Words, WritesWord}
-use Rattle.grown_runs.specs.Table.WordNames.Word.{Best, ChildOf, Count, Counter, FirstOf, PointOf, RecordOf, TreeOf}
-use Rattle.grown_runs.specs.Table.WordPlaces.{HasWord, place_of}
-use Rattle.plan_model.specs.declared.geometry.Point.{Point}
-use Rattle.plan_model.specs.declared.records.Record.{Record}
-use Rattle.grown_runs.specs.Table.Words.{FitsWord, best_cost_in, best_node_in, best_word, no_best, cost_in, parent_in, point_word, record_word, tree_word}
-use Rattle.step_core.specs.Worlds.{IsWorld}
+use Rattle.step_core.proofs.Common.{IsLater, MayPost, MayRecord, MayBeRecorded, best_loaded, best_with, hand_with_best, hand_with_post, posted, claimed}
+use Rattle.step_core.proofs.Common.{counted, finished, finished_at, half, joined, last_fill, linked, linked_at, loaded, looker, lowered, mark_of, pair_in_hand}
+use Rattle.step_core.proofs.Common.{parted, place_in, pointed, saw_at, steps_then, treed, worker_apart, IsSteered, LeadsTo, MayHang, MayLoad, MayLower}
+use Rattle.step_core.proofs.Common.{run_sizes, sees, share, spent, words_of_run, IsWorld, IsTurnWord-packed, IsWorld-recorded, in_hand, IsLater-claimed}
+use Rattle.step_core.proofs.Common.{IsLater-finished, IsLater-loaded, IsLawfulView-world, own_count-most, at-set, IsWorld-joined, IsCut-looker, IsCut-parted}
+use Rattle.step_core.proofs.Common.{IsWorld-cut, count-most, IsLater-lowered, IsWorld-lowered, lower-found, tree-written, IsLater-link, IsWorld-counted}
+use Rattle.step_core.proofs.Common.{IsWorld-half, IsWorld-linked, IsWorld-pointed, IsWorld-treed, IsLater-counted, IsLater-half, IsLater-pointed, IsLater-treed}
+use Rattle.step_core.proofs.Common.{HasWord-load, IsWorld-claimed, IsWorld-loaded, seen_within, IsLater-best, IsWorld-best_loaded, IsWorld-posted}
+use Rattle.step_core.specs.ViewSteps.{stepped as one_step}
+use Rattle.grown_runs.proofs.Common.{Word, Words, WritesWord, Best, ChildOf, Count, Counter, FirstOf, PointOf, RecordOf, TreeOf, HasWord, place_of, Point}
+use Rattle.grown_runs.proofs.Common.{Record, FitsWord, best_cost_in, best_node_in, best_word, no_best, cost_in, parent_in, point_word, record_word, tree_word}
+use Rattle.grown_runs.proofs.Common.{WritesWord-set, word-found}
 use Rattle.step_core.specs.declared.views.Hand.{Hand}
 use Rattle.step_core.specs.declared.views.Member.{Member}
 use Rattle.step_core.specs.declared.views.SharedRun.{SharedRun}
 use Rattle.step_core.specs.declared.views.Stage.TheVariants.{Claimed, Half, Linked, Pointed, Treed}
 use Rattle.step_core.specs.declared.views.View.{View}
-use Rattle.step_core.proofs.Steps.FinishedMarks.{IsTurnWord-packed, IsWorld-recorded, in_hand}
-use Rattle.step_core.proofs.OneView.LaterViews.{IsLater-claimed, IsLater-finished, IsLater-loaded, IsLawfulView-world}
-use Rattle.step_core.proofs.Parts.LawfulRecords.{own_count-most}
-use Rattle.step_core.proofs.Parts.ViewLists.{at-set}
-use Rattle.grown_runs.proofs.Table.WordReads.{WritesWord-set, word-found}
-use Rattle.step_core.proofs.Steps.WorldJoins.{IsWorld-joined}
-use Rattle.step_core.proofs.Steps.WorldSplits.{IsCut-looker, IsCut-parted, IsWorld-cut}
-use Rattle.step_core.proofs.Parts.WorldLinks.{count-most}
-use Rattle.step_core.proofs.Steps.WorldLowers.{IsLater-lowered, IsWorld-lowered, lower-found, tree-written}
-use Rattle.step_core.proofs.Steps.WorldNodes.{IsLater-link, IsWorld-counted, IsWorld-half, IsWorld-linked, IsWorld-pointed, IsWorld-treed}
-use Rattle.step_core.proofs.OneView.LaterSteps.{IsLater-counted, IsLater-half, IsLater-pointed, IsLater-treed}
-use Rattle.step_core.proofs.Steps.WorldSteps.{HasWord-load, IsWorld-claimed, IsWorld-loaded, seen_within}
-use Rattle.step_core.proofs.Steps.WorldPosts.{IsLater-best, IsWorld-best_loaded, IsWorld-posted}
 use Rattle.plan_words.proofs.WholeViews.{best-as_seen, best-whole, word_count-whole, words-whole}
 use Rattle.plan_words.proofs.WrittenPoints.{written-seen}
 

@@ -1,20 +1,13 @@
 -- A child costs at most what it costs through its parent, or it may be lowered to that.
 use Rattle.std.proofs.Common.{◌≡◌, ◌≢◌, ℕ, ◌+◌, ◌<◌, ◌≤◌, ◌^◌, refl, sym, ap, ◌∙◌, subst, arith}
-use Rattle.plan_model.specs.declared.geometry.Point.{Point}
-use Rattle.plan_model.specs.Geometry.Cost.{cost_of}
+use Rattle.grown_runs.proofs.Common.{Point, cost_of, TreeOf, cost_in, parent_in, tree_word, cost_in-tree_word, parent_in-tree_word}
 use Rattle.plan_words.specs.LoweredChildren.{CostsAtMostThrough, IsSeenAbove, LooksOn}
 use Rattle.plan_words.specs.States.{GoesOn}
 use Rattle.plan_words.specs.Waiting.{HasSeenParent}
 use Rattle.plan_words.specs.declared.lowered_children.Above.{Above}
 use Rattle.plan_words.proofs.KeptPairs.{fits_word}
-use Rattle.step_core.specs.LaterViews.{IsLawfulView}
-use Rattle.step_core.specs.ViewTrees.{IsCostBelow, MayLower, SeesPoint}
-use Rattle.step_core.specs.Views.{sees}
-use Rattle.grown_runs.specs.Table.WordNames.Word.{TreeOf}
-use Rattle.grown_runs.specs.Table.Words.{cost_in, parent_in, tree_word}
+use Rattle.step_core.proofs.Common.{IsLawfulView, IsCostBelow, MayLower, SeesPoint, sees, SeesPoint-later}
 use Rattle.step_core.specs.declared.views.View.{View}
-use Rattle.grown_runs.proofs.Table.PackedWords.{cost_in-tree_word, parent_in-tree_word}
-use Rattle.step_core.proofs.OneView.SeenViews.{SeesPoint-later}
 
 -- a point that is seen stays
 pub stands_on : (before after : View) (n : ℕ) (p : Point) → GoesOn before after → SeesPoint before n p → SeesPoint after n p

@@ -4,16 +4,12 @@ use Rattle.std.proofs.Common.{Option, Some, None, refl, sym, ap, ◌∙◌, subs
 use Rattle.std.specs.Prelude.{◌==◌, cond, MatchOption, IfNone, IfSome}
 use Rattle.std.proofs.lemmas.Bool.{cases_eq, eq-eqb, ne_eqb}
 use Rattle.std.proofs.lemmas.Nat.{mod-mul-add, mul-le}
-use Rattle.plan_model.proofs.SumsBelow.{sum-le}
+use Rattle.grown_runs.proofs.Common.{sum-le, ChangesOnly, IsCounter, Words, WritesWord, Counter}
 use Rattle.plan_words.specs.Claims.{AllFull, AllLoaded, GoesBefore, IsClaimed, IsFirst, IsOpen, KeepsHand, better_of, is_own, next_mark}
 use Rattle.plan_words.specs.States.{BelongsTo, PassState, SharedState, with_view, worker_of}
 use Rattle.plan_words.specs.declared.claims.ClaimOrder.{ClaimOrder}
 use Rattle.plan_words.specs.declared.claims.Next.{Next}
-use Rattle.step_core.specs.LaterViews.{IsLater}
-use Rattle.step_core.specs.ViewSteps.{claimed, loaded, mark_of, new_hand}
-use Rattle.step_core.specs.Views.{last_look, sees}
-use Rattle.grown_runs.specs.Table.WordNames.{ChangesOnly, IsCounter, Words, WritesWord}
-use Rattle.grown_runs.specs.Table.WordNames.Word.{Counter}
+use Rattle.step_core.proofs.Common.{IsLater, claimed, loaded, mark_of, new_hand, last_look, sees}
 use Rattle.step_core.specs.declared.views.SharedRun.{SharedRun}
 use Rattle.step_core.specs.declared.views.View.{View}
 use Rattle.plan_words.proofs.Scanning.{Scanned, Scanned-all, Scanned-more, left_over, sum_less}

@@ -6,9 +6,7 @@ use Rattle.std.proofs.lemmas.Bool.{cases_eq, eq-eqb, ne_eqb}
 use Rattle.std.proofs.lemmas.List.{get_or-replicate, get_or-set_other, get_or-set_same}
 use Rattle.std.proofs.lemmas.List.FromFn.{length-range_with_len}
 use Rattle.std.proofs.lemmas.List.Sums.{count_by-le-length}
-use Rattle.plan_model.specs.Runs.Turns.{is_of_worker, turns_of}
-use Rattle.plan_model.specs.declared.records.Record.{Record}
-use Rattle.plan_model.proofs.CountsBelow.{count-more}
+use Rattle.grown_runs.proofs.Common.{is_of_worker, turns_of, Record, count-more}
 
 -- a list says of each worker how many of the marks below the limit it has handled
 abbrev pub AreCounted : (ℕ → Option Record) → ℕ → ℕ → List ℕ → Type 0

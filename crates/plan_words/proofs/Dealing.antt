@@ -5,30 +5,20 @@ use Rattle.std.proofs.lemmas.List.Elements.{All-cons, All-nil}
 use lib.ListN.{get_elem?}
 use mathlib.Core.Option.{some, some-injective, some-ne-none}
 use Rattle.atomic_table.specs.Seated.{TableId}
-use Rattle.plan_model.specs.Runs.Textbook.{skipping_goals}
-use Rattle.plan_model.specs.Runs.Turns.{turns_of}
+use Rattle.grown_runs.proofs.Common.{skipping_goals, turns_of, state_of_grown, words_of_grown, HoldRun, record_at, sizes_of, state_of_words, sizes_in}
+use Rattle.grown_runs.proofs.Common.{IsLeastBest, Word, Words, WritesWord, Best, ChildOf, Count, Counter, FirstOf, PointOf, RecordOf, TreeOf, word_count}
+use Rattle.grown_runs.proofs.Common.{state-best}
 use Rattle.plan_words.specs.Parents.{HasParentsWithin}
 use Rattle.plan_words.specs.Dealt.{IsPassOf, StandsFor, each_after}
 use Rattle.plan_words.specs.States.{BelongsTo, HoldsWorld, IsTableOf, IsTied, MayClaim, PassState, SharedState}
 use Rattle.plan_words.specs.States.{StartsAs, first_member, first_view, new_pass, run_in, run_of_opening, with_view, without_best}
 use Rattle.plan_words.specs.declared.openings.Opening.{Opening}
-use Rattle.grown_runs.specs.Runs.GrownRuns.{state_of_grown, words_of_grown}
-use Rattle.grown_runs.specs.Runs.GrownWords.{HoldRun, record_at, sizes_of, state_of_words}
-use Rattle.grown_runs.specs.Table.PlacesOfWords.{sizes_in}
-use Rattle.grown_runs.specs.Runs.LeastBests.{IsLeastBest}
-use Rattle.step_core.specs.ViewStarts.{crew_from, member_of}
-use Rattle.step_core.specs.ViewSteps.{parted, second_alone, without_second, worker_apart}
-use Rattle.step_core.specs.Views.{sees}
-use Rattle.step_core.specs.LaterViews.{IsLawfulView}
-use Rattle.grown_runs.specs.Table.WordNames.{Word, Words, WritesWord}
-use Rattle.grown_runs.specs.Table.WordNames.Word.{Best, ChildOf, Count, Counter, FirstOf, PointOf, RecordOf, TreeOf}
-use Rattle.grown_runs.specs.Table.WordPlaces.{word_at, word_count}
+use Rattle.step_core.proofs.Common.{crew_from, member_of, parted, second_alone, without_second, worker_apart, sees, IsLawfulView, IsLawfulView-world}
+use Rattle.step_core.proofs.Common.{IsWorld-started}
+use Rattle.grown_runs.specs.Table.WordPlaces.{word_at}
 use Rattle.grown_runs.specs.declared.grown.Grown.{Grown}
 use Rattle.step_core.specs.declared.views.SharedRun.{SharedRun}
 use Rattle.grown_runs.specs.declared.word_places.WordPlaces.{WordPlaces}
-use Rattle.step_core.proofs.OneView.LaterViews.{IsLawfulView-world}
-use Rattle.grown_runs.proofs.Runs.HeldBests.{state-best}
-use Rattle.step_core.proofs.Steps.WorldStarts.{IsWorld-started}
 
 -- the workers from w on are w and those past it
 crew-more : (run : SharedRun) (words : Words) (w n : ℕ) → w < n

@@ -5,31 +5,18 @@ use Rattle.std.proofs.lemmas.Bool.{cases_eq, cases_lt}
 use mathlib.Core.Option.{some, some-injective, some-ne-none}
 use lib.ListN.{get_elem?}
 use Rattle.atomic_table.specs.Table.{Final, Seen, State}
-use Rattle.plan_model.specs.Scenes.MarkPoints.{quota_of}
-use Rattle.plan_model.specs.Trees.TreeStates.{AreSameRuns}
-use Rattle.plan_model.specs.declared.records.Record.{Record}
-use Rattle.plan_model.specs.declared.tasks.Task.{Task}
+use Rattle.grown_runs.proofs.Common.{quota_of, AreSameRuns, Record, Task, HoldRun, cleared, record_at, run_words, sizes_of, state_of_words, state_of_grown}
+use Rattle.grown_runs.proofs.Common.{words_of_grown, sizes_in, words_in, Words, Counter, FirstOf, RecordOf, Sizes, record_of_word, AreSameRuns-trans}
 use Rattle.plan_words.specs.Claims.{HasNoneLeft}
 use Rattle.plan_words.specs.declared.openings.Aim.{Aim}
 use Rattle.plan_words.specs.declared.openings.Opening.{Opening}
 use Rattle.plan_words.specs.States.{HoldsWorld, run_of_opening}
-use Rattle.grown_runs.specs.Runs.GrownWords.{HoldRun, cleared, record_at, run_words, sizes_of, state_of_words}
-use Rattle.grown_runs.specs.Runs.GrownRuns.{state_of_grown, words_of_grown}
-use Rattle.step_core.specs.LastViews.{StandsAsSeen}
-use Rattle.grown_runs.specs.Table.PlacesOfWords.{sizes_in}
-use Rattle.grown_runs.specs.Table.RunWords.{words_in}
-use Rattle.step_core.specs.SharedWords.{state_of_links}
-use Rattle.step_core.specs.Views.{run_of, run_sizes, sees, share, words_of_run}
-use Rattle.grown_runs.specs.Table.WordNames.{Words}
-use Rattle.grown_runs.specs.Table.WordNames.Word.{Counter, FirstOf, RecordOf}
-use Rattle.grown_runs.specs.Table.WordPlaces.{Sizes, word_at}
-use Rattle.grown_runs.specs.Table.Words.{record_of_word}
-use Rattle.step_core.specs.Worlds.{IsWorld, state_in}
+use Rattle.step_core.proofs.Common.{StandsAsSeen, state_of_links, run_of, run_sizes, sees, share, words_of_run, IsWorld, state_in, AreSameRuns-cleared}
+use Rattle.step_core.proofs.Common.{HoldRun-whole, StandsAsSeen-whole, own_workers-whole}
+use Rattle.grown_runs.specs.Table.WordPlaces.{word_at}
 use Rattle.grown_runs.specs.declared.grown.Grown.{Grown}
 use Rattle.grown_runs.specs.declared.run_words.RunWords.{RunWords}
 use Rattle.step_core.specs.declared.views.View.{View}
-use Rattle.step_core.proofs.Whole.ClosedWorlds.{AreSameRuns-cleared, HoldRun-whole, StandsAsSeen-whole, own_workers-whole}
-use Rattle.plan_model.proofs.SameTrees.{AreSameRuns-trans}
 use Rattle.plan_words.proofs.WholeTrees.{AreSameRuns-whole}
 
 -- an element that is there is read

@@ -2,18 +2,8 @@
 use Rattle.std.proofs.Common.{ℕ, ◌*◌, ◌<◌, ◌≤◌, ◌^◌, ap, arith, subst, sym}
 use Rattle.std.proofs.lemmas.Nat.{mod_below}
 use Rattle.std.specs.Prelude.{is_some}
-use Rattle.plan_model.specs.Trees.PointsByNumber.{IsPresent}
-use Rattle.plan_model.specs.Geometry.Radius.{class_of}
-use Rattle.plan_model.specs.declared.records.Outcome.{Outcome}
-use Rattle.plan_model.specs.declared.records.Outcome.TheVariants.{Blocked, Placed, Same, Skipped}
-use Rattle.plan_model.specs.declared.records.Record.{Record}
-use Rattle.plan_model.proofs.ClassLaws.{class_from_powers}
-use Rattle.plan_model.proofs.RecordLaws.{class_of-le}
-use Rattle.step_core.specs.LaterViews.{IsLawfulView}
-use Rattle.step_core.specs.SeenRecords.{MayEnd, MayRecord}
-use Rattle.step_core.specs.Views.{sees, tree_seen}
-use Rattle.grown_runs.specs.Table.WordNames.Word.{Count}
-use Rattle.grown_runs.specs.Table.Words.{last_field}
+use Rattle.grown_runs.proofs.Common.{IsPresent, class_of, Outcome, Blocked, Placed, Same, Skipped, Record, class_from_powers, class_of-le, Count, last_field}
+use Rattle.step_core.proofs.Common.{IsLawfulView, MayEnd, MayRecord, sees, tree_seen}
 use Rattle.step_core.specs.declared.views.Hand.{Hand}
 use Rattle.step_core.specs.declared.views.View.{View}
 

@@ -1,8 +1,7 @@
 -- Steps of a pass, one after another.
 use Rattle.std.proofs.Common.{◌≡◌, ◌⊎◌, ◌∙◌, inl, inr, subst}
 use Rattle.plan_words.specs.States.{BelongsTo, GoesOn, PassState, SharedState}
-use Rattle.step_core.proofs.OneView.LaterViews.{IsLater-refl, IsLater-trans}
-use Rattle.step_core.specs.LaterViews.{IsLawfulView}
+use Rattle.step_core.proofs.Common.{IsLater-refl, IsLater-trans, IsLawfulView}
 use Rattle.step_core.specs.declared.views.View.{View}
 
 pub GoesOn-refl : (view : View) → IsLawfulView view → GoesOn view view

@@ -2,26 +2,15 @@
 use Rattle.std.proofs.Common.{◌≡◌, ◌≢◌, ℕ, zero, suc, ◌<◌, ◌≤◌, ◌^◌, Bool, true, false, List, length, Option, Some, None, inr, refl, sym, ap, ◌∙◌, subst, arith}
 use Rattle.std.specs.Prelude.{◌==◌, cond, IfSome, IsSome, is_some}
 use Rattle.std.proofs.lemmas.Bool.{eqb-true, ne_eqb}
-use Rattle.plan_model.specs.Geometry.Bounds.{IsBounded}
+use Rattle.grown_runs.proofs.Common.{IsBounded, child_of_word, ChangesOnly, Word, Best, ChildOf, Count, Counter, FirstOf, PointOf, RecordOf, TreeOf}
+use Rattle.grown_runs.proofs.Common.{point_of_word, point_of_word-packed}
 use Rattle.plan_words.specs.Nodes.{NamesChildOrPoint, IsLinkedAt, NamesNode}
 use Rattle.plan_words.specs.States.{PassState, with_view}
-use Rattle.grown_runs.specs.Runs.GrownWords.{child_of_word}
-use Rattle.step_core.specs.LaterViews.{IsLawfulView}
-use Rattle.step_core.specs.Stages.{has_point}
-use Rattle.step_core.specs.ViewSteps.{counted, last_fill, linked, linked_at, loaded, place_in, saw_at}
-use Rattle.step_core.specs.ViewTrees.{LeadsTo, SeesNode}
-use Rattle.step_core.specs.Views.{run_sizes, sees, tree_seen}
-use Rattle.grown_runs.specs.Table.WordNames.{ChangesOnly, Word}
-use Rattle.grown_runs.specs.Table.WordNames.Word.{Best, ChildOf, Count, Counter, FirstOf, PointOf, RecordOf, TreeOf}
-use Rattle.grown_runs.specs.Table.Words.{point_of_word}
+use Rattle.step_core.proofs.Common.{IsLawfulView, has_point, counted, last_fill, linked, linked_at, loaded, place_in, saw_at, LeadsTo, SeesNode, run_sizes}
+use Rattle.step_core.proofs.Common.{sees, tree_seen, IsBounded-steered, sees-linked, WritesWord-saw, point_at-seen}
 use Rattle.step_core.specs.declared.views.Hand.{Hand}
 use Rattle.step_core.specs.declared.views.Stage.TheVariants.{Treed}
 use Rattle.step_core.specs.declared.views.View.{View}
-use Rattle.step_core.proofs.OneView.LawfulSights.{IsBounded-steered}
-use Rattle.step_core.proofs.OneView.LinkedViews.{sees-linked}
-use Rattle.grown_runs.proofs.Table.PackedWords.{point_of_word-packed}
-use Rattle.step_core.proofs.Seen.SeenByViews.{WritesWord-saw}
-use Rattle.step_core.proofs.Seen.SeenWords.{point_at-seen}
 use Rattle.plan_words.proofs.LookedNodes.{child_fits, child_seen}
 
 -- children and points are words of nodes

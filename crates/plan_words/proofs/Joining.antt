@@ -6,18 +6,12 @@ use Rattle.atomic_table.specs.Table.{Me}
 use Rattle.plan_words.specs.declared.openings.Aim.{Aim}
 use Rattle.plan_words.specs.Plays.{Tells}
 use Rattle.plan_words.specs.States.{GoesOn, HasPairs, first_member}
-use Rattle.step_core.specs.LaterViews.{IsLater, IsLawfulView}
-use Rattle.step_core.specs.ViewSteps.{joined, loaded, place_in}
-use Rattle.step_core.specs.Views.{run_sizes, sees, took_over, words_of_run}
-use Rattle.grown_runs.specs.Table.WordKinds.{AreBehind, later_word}
-use Rattle.grown_runs.specs.Table.WordKinds.WordKind.{Falling}
-use Rattle.grown_runs.specs.Table.WordNames.Word.{Count, TreeOf}
-use Rattle.grown_runs.specs.Table.Words.{cost_in}
+use Rattle.step_core.proofs.Common.{IsLater, IsLawfulView, joined, loaded, place_in, run_sizes, sees, took_over, words_of_run, IsLater-joined, IsLater-trans}
+use Rattle.step_core.proofs.Common.{word_at-merged}
+use Rattle.grown_runs.proofs.Common.{AreBehind, later_word, Falling, Count, TreeOf, cost_in}
 use Rattle.step_core.specs.declared.views.Hand.{Hand}
 use Rattle.step_core.specs.declared.views.Member.{Member}
 use Rattle.step_core.specs.declared.views.View.{View}
-use Rattle.step_core.proofs.OneView.LaterViews.{IsLater-joined, IsLater-trans}
-use Rattle.step_core.proofs.Seen.LaterWords.{word_at-merged}
 use Rattle.plan_words.proofs.KeptPairs.{Keeps, keeps_saw}
 
 -- A seat that took over another, and loaded the count then.

@@ -5,24 +5,15 @@ use Rattle.std.specs.Prelude.{◌==◌, IfSome, cond, is_some, slice_index, slic
 use Rattle.std.proofs.lemmas.Bool.{cases_eq, eqb-true}
 use Rattle.std.proofs.lemmas.List.{get_or-set_other, get_or-set_same, length-set}
 use Rattle.atomic_table.specs.Table.{Me}
-use Rattle.plan_model.specs.declared.geometry.Point.{Point}
-use Rattle.plan_model.proofs.OrderLaws.{cost_of-short}
+use Rattle.grown_runs.proofs.Common.{Point, cost_of-short, Word, ChildOf, Counter, RecordOf, TreeOf, HasWord, parent_in, tree_word}
 use Rattle.plan_words.specs.Plays.{Tells}
 use Rattle.plan_words.specs.States.{HasPairs, HasRoom, IsTied, first_member, turned}
 use Rattle.plan_words.specs.declared.openings.Aim.{Aim}
-use Rattle.step_core.specs.LaterViews.{IsLawfulView}
-use Rattle.step_core.specs.ViewSteps.{claimed, finished_at, linked, linked_at, loaded, lowered, one_turn_more, pair_in_hand, place_in, saw, saw_at}
-use Rattle.step_core.specs.ViewTrees.{IsCostBelow}
-use Rattle.step_core.specs.Views.{run_sizes, sees}
-use Rattle.grown_runs.specs.Table.WordNames.{Word}
-use Rattle.grown_runs.specs.Table.WordNames.Word.{ChildOf, Counter, RecordOf, TreeOf}
-use Rattle.grown_runs.specs.Table.WordPlaces.{HasWord}
-use Rattle.grown_runs.specs.Table.Words.{parent_in, tree_word}
+use Rattle.step_core.proofs.Common.{IsLawfulView, claimed, finished_at, linked, linked_at, loaded, lowered, one_turn_more, pair_in_hand, place_in, saw, saw_at}
+use Rattle.step_core.proofs.Common.{IsCostBelow, run_sizes, sees, sees-linked, WritesWord-saw}
 use Rattle.step_core.specs.declared.views.Hand.{Hand}
 use Rattle.step_core.specs.declared.views.Member.{Member}
 use Rattle.step_core.specs.declared.views.View.{View}
-use Rattle.step_core.proofs.OneView.LinkedViews.{sees-linked}
-use Rattle.step_core.proofs.Seen.SeenByViews.{WritesWord-saw}
 
 -- if no tree word is seen anew, the list stays
 pub HasPairs-kept :

@@ -31,3 +31,4 @@ mod LoweredChains
 pub mod KeptFound
 pub mod RisingNumbers
 pub mod PlainScenes
+pub mod Common

@@ -4,22 +4,13 @@ use Rattle.std.specs.Prelude.{MatchOption, unwrap_or}
 use Rattle.plan_words.specs.Parents.{IsEdgeSeen, IsPairIn}
 use Rattle.plan_words.specs.Plays.{FindsPoint}
 use Rattle.plan_words.specs.States.{GoesOn}
-use Rattle.grown_runs.specs.Runs.GrownWords.{child_of_word}
-use Rattle.step_core.specs.LaterViews.{IsLawfulView}
-use Rattle.grown_runs.specs.Table.PlacesOfWords.{sizes_in}
-use Rattle.step_core.specs.ViewSteps.{place_in, saw, saw_at}
-use Rattle.step_core.specs.ViewTrees.{SeesNode, SeesPoint}
-use Rattle.step_core.specs.Views.{last_zero, run_sizes, sees, tree_seen}
-use Rattle.grown_runs.specs.Table.WordNames.{Word}
-use Rattle.grown_runs.specs.Table.WordNames.Word.{ChildOf, PointOf, TreeOf}
-use Rattle.grown_runs.specs.Table.WordPlaces.{place_of}
-use Rattle.grown_runs.specs.Table.Words.{cost_in, parent_in, point_in, point_of_word}
+use Rattle.grown_runs.proofs.Common.{child_of_word, sizes_in, Word, ChildOf, PointOf, TreeOf, place_of, cost_in, parent_in, point_in, point_of_word}
+use Rattle.grown_runs.proofs.Common.{if_written-set}
+use Rattle.step_core.proofs.Common.{IsLawfulView, place_in, saw, saw_at, SeesNode, SeesPoint, last_zero, run_sizes, sees, tree_seen, WritesWord-saw}
+use Rattle.step_core.proofs.Common.{WritesWord-zero, point_at-seen}
 use Rattle.step_core.specs.declared.views.SharedRun.{SharedRun}
 use Rattle.step_core.specs.declared.views.View.{View}
 use Rattle.grown_runs.specs.declared.word_places.WordPlaces.{WordPlaces}
-use Rattle.grown_runs.proofs.Table.ReadWords.{if_written-set}
-use Rattle.step_core.proofs.Seen.SeenByViews.{WritesWord-saw, WritesWord-zero}
-use Rattle.step_core.proofs.Seen.SeenWords.{point_at-seen}
 
 -- the number of a seen node is one of the run's
 pub seen_low : (view : View) (run : SharedRun) (node : ℕ) → IsLawfulView view → view.run ≡ run → SeesNode view node → node ≤ length run.marks

@@ -12,15 +12,12 @@ use Rattle.plan_words.proofs.ChildCosts.{CostsAtMostThrough-kept, HasSeenParent-
 use Rattle.plan_words.proofs.Posting.{goal-goes_on}
 use Rattle.plan_words.proofs.SeatSteps.{LooksOn-refl, LooksOn-trans, whole_later}
 use Rattle.plan_words.proofs.SeenChildren.{HasSeenParent-chain, chain-HasSeenParent, pair-seen}
-use Rattle.grown_runs.specs.ChildChains.{AreMembers, IndexesChains, siblings_from, times}
-use Rattle.step_core.specs.LaterViews.{IsLawfulView}
-use Rattle.step_core.specs.SeenBests.{SeesGoal}
-use Rattle.step_core.specs.Views.{sees}
-use Rattle.grown_runs.specs.Table.WordNames.Word.{TreeOf}
-use Rattle.grown_runs.specs.Table.Words.{best_word, cost_in}
+use Rattle.grown_runs.proofs.Common.{AreMembers, IndexesChains, siblings_from, TreeOf, best_word, cost_in, AreMembers-chain, siblings_from-here, times-else}
+use Rattle.grown_runs.proofs.Common.{times-here}
+use Rattle.grown_runs.specs.ChildChains.{times}
+use Rattle.step_core.proofs.Common.{IsLawfulView, SeesGoal, sees}
 use Rattle.grown_runs.specs.declared.child_index.ChildIndex.{ChildIndex}
 use Rattle.step_core.specs.declared.views.View.{View}
-use Rattle.grown_runs.proofs.Children.SiblingWalks.{AreMembers-chain, siblings_from-here, times-else, times-here}
 
 -- ---- the list of tree words
 

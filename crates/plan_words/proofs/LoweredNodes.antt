@@ -4,15 +4,8 @@ use Rattle.std.specs.Prelude.{◌==◌, cond, is_some}
 use Rattle.std.proofs.lemmas.Bool.{eq-eqb, ne_eqb}
 use Rattle.plan_words.specs.Parents.{FindsLess, IsPairIn}
 use Rattle.plan_words.specs.States.{PassState, with_view}
-use Rattle.step_core.specs.LaterViews.{IsLawfulView}
-use Rattle.step_core.specs.ViewSteps.{loaded, lowered}
-use Rattle.step_core.specs.ViewTrees.{MayLower, SeesNode}
-use Rattle.step_core.specs.Views.{sees}
-use Rattle.grown_runs.specs.Table.WordNames.{WritesWord}
-use Rattle.grown_runs.specs.Table.WordNames.Word.{TreeOf}
-use Rattle.grown_runs.specs.Table.Words.{cost_in, parent_in, tree_word}
-use Rattle.grown_runs.proofs.Table.PackedWords.{cost_in-tree_word}
-use Rattle.step_core.proofs.Seen.SeenByViews.{WritesWord-saw}
+use Rattle.step_core.proofs.Common.{IsLawfulView, loaded, lowered, MayLower, SeesNode, sees, WritesWord-saw}
+use Rattle.grown_runs.proofs.Common.{WritesWord, TreeOf, cost_in, parent_in, tree_word, cost_in-tree_word}
 use Rattle.plan_words.proofs.KeptPairs.{fits_word}
 
 module _ (old new : PassState) (n parent cost found : ℕ) (lawful : IsLawfulView old.view) (may : MayLower old.view n parent cost)

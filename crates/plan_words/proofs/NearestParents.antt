@@ -1,24 +1,11 @@
 -- A node in hand may hang below the node that it was steered from, if the segment between them is clear.
 use Rattle.std.proofs.Common.{◌≡◌, ℕ, ◌+◌, ◌≤◌, ◌^◌, true, Some, refl, sym, ap, subst, arith}
 use Rattle.std.specs.Prelude.{IfSome}
-use Rattle.plan_model.specs.Geometry.Bounds.{IsBounded}
-use Rattle.plan_model.specs.Spaces.Clearance.{Clear}
-use Rattle.plan_model.specs.Runs.ClosedLaw.{mark_at}
-use Rattle.plan_model.specs.Spaces.ConfigurationSpace.{space_of}
-use Rattle.plan_model.specs.Geometry.Cost.{cost_of}
-use Rattle.plan_model.specs.Geometry.Plane.{squared_distance}
-use Rattle.plan_model.specs.declared.geometry.Point.{Point}
-use Rattle.plan_model.proofs.NewNodes.{StandsAt-unique}
-use Rattle.plan_model.proofs.SteeringLaws.{IsStep-steered}
+use Rattle.grown_runs.proofs.Common.{IsBounded, Clear, mark_at, space_of, cost_of, squared_distance, Point, StandsAt-unique, IsStep-steered, TreeOf}
 use Rattle.plan_words.specs.States.{SharedState, run_in}
-use Rattle.step_core.specs.LaterViews.{IsLawfulView}
-use Rattle.step_core.specs.Stages.{has_point}
-use Rattle.step_core.specs.ViewTrees.{MayHang, SeesCost, SeesPoint}
-use Rattle.step_core.specs.Views.{sees, setup_in, tree_seen}
-use Rattle.grown_runs.specs.Table.WordNames.Word.{TreeOf}
+use Rattle.step_core.proofs.Common.{IsLawfulView, has_point, MayHang, SeesCost, SeesPoint, sees, setup_in, tree_seen, IsBounded-steered}
 use Rattle.step_core.specs.declared.views.Hand.{Hand}
 use Rattle.step_core.specs.declared.views.View.{View}
-use Rattle.step_core.proofs.OneView.LawfulSights.{IsBounded-steered}
 use Rattle.plan_words.proofs.HandSteps.{at_hand}
 use Rattle.plan_words.proofs.KeptPairs.{if_hand}
 

@@ -7,31 +7,22 @@ use Rattle.atomic_table.specs.Seated.{TableId}
 use Rattle.atomic_table.specs.Table.{Allows, Joins, Me, Splits, State, step}
 use Rattle.plan_words.specs.declared.openings.Aim.{Aim}
 use Rattle.plan_words.specs.declared.openings.Opening.{Opening}
-use Rattle.plan_model.specs.declared.geometry.Point.{Point}
+use Rattle.grown_runs.proofs.Common.{Point, Word, WritesWord, Best, ChildOf, Count, Counter, FirstOf, PointOf, RecordOf, TreeOf, HasWord, place_of, Record}
+use Rattle.grown_runs.proofs.Common.{FitsWord, best_node_in, best_word, cost_in, parent_in, point_word, record_word, tree_word, place_of-within}
 use Rattle.plan_words.specs.Plays.{Claims, Counts, FindsAsSeen, Finishes, Links, Loads, LoadsBest, Lowers, Posts, Tells}
 use Rattle.plan_words.specs.Plays.{WritesFirst, WritesPoint, WritesTree}
 use Rattle.plan_words.specs.States.{BelongsTo, GoesOn, HasWholeShare, HoldsWorld, IsTableOf, PassState, SharedState}
 use Rattle.plan_words.specs.States.{new_pass, run_in, run_of_opening, with_view}
-use Rattle.step_core.specs.LaterViews.{IsLawfulView}
-use Rattle.step_core.specs.SeenBests.{MayPost}
-use Rattle.step_core.specs.SeenRecords.{MayRecord}
-use Rattle.step_core.specs.Stages.{MayBeRecorded}
-use Rattle.step_core.specs.ViewTrees.{IsSteered, LeadsTo, MayHang, MayLoad, MayLower}
+use Rattle.step_core.proofs.Common.{IsLawfulView, MayPost, MayRecord, MayBeRecorded, IsSteered, LeadsTo, MayHang, MayLoad, MayLower, claimed, joined, loaded}
+use Rattle.step_core.proofs.Common.{looker, mark_of, pair_in_hand, parted, place_in, saw_at, worker_apart, last_look, run_sizes, sees, share, spent}
+use Rattle.step_core.proofs.Common.{WritesWord-looked, WritesWord-saw}
 use Rattle.step_core.specs.declared.views.Stage.TheVariants.{Claimed, Half, Linked, Pointed, Treed}
-use Rattle.step_core.specs.ViewSteps.{claimed, joined, loaded, looker, mark_of, pair_in_hand, parted, place_in, saw_at, stepped as one_step, worker_apart}
-use Rattle.step_core.specs.Views.{last_look, run_sizes, sees, share, spent}
-use Rattle.grown_runs.specs.Table.WordNames.{Word, WritesWord}
-use Rattle.grown_runs.specs.Table.WordNames.Word.{Best, ChildOf, Count, Counter, FirstOf, PointOf, RecordOf, TreeOf}
-use Rattle.grown_runs.specs.Table.WordPlaces.{HasWord, place_of}
-use Rattle.plan_model.specs.declared.records.Record.{Record}
-use Rattle.grown_runs.specs.Table.Words.{FitsWord, best_node_in, best_word, cost_in, parent_in, point_word, record_word, tree_word}
+use Rattle.step_core.specs.ViewSteps.{stepped as one_step}
 use Rattle.step_core.specs.declared.views.Hand.{Hand}
 use Rattle.step_core.specs.declared.views.Member.{Member}
 use Rattle.step_core.specs.declared.views.SharedRun.{SharedRun}
 use Rattle.step_core.specs.declared.views.View.{View}
 use Rattle.grown_runs.specs.declared.word_places.WordPlaces.{WordPlaces}
-use Rattle.step_core.proofs.Seen.SeenByViews.{WritesWord-looked, WritesWord-saw}
-use Rattle.grown_runs.proofs.Table.WordReads.{place_of-within}
 use Rattle.plan_words.proofs.Allowing.{Holds, may_best, may_claim, may_count, may_finish, may_first, may_hand_on, may_link, may_load, may_look, may_lower}
 use Rattle.plan_words.proofs.Allowing.{may_point, may_post, may_take_over, may_tree}
 

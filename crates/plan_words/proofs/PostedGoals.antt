@@ -2,22 +2,14 @@
 use Rattle.std.proofs.Common.{◌≡◌, ◌≢◌, ℕ, ◌≤◌, Option, Some, None, List, [], arith, inl, inr, sym, ap, subst, ◌∙◌}
 use Rattle.std.specs.Prelude.{IsTrue}
 use Rattle.std.proofs.lemmas.Bool.{cases_eq}
-use Rattle.plan_model.specs.Trees.BestNode.{is_goal_point}
-use Rattle.plan_model.specs.Trees.PointsByNumber.{point_at}
-use Rattle.plan_model.specs.declared.geometry.Goal.{Goal}
-use Rattle.plan_model.specs.declared.geometry.Point.{Point}
+use Rattle.grown_runs.proofs.Common.{is_goal_point, point_at, Goal, Point, PointOf, TreeOf, best_word, cost_in}
 use Rattle.plan_words.specs.Bests.{HasPostedGoals, HasPostedHand}
 use Rattle.plan_words.specs.Claims.{SeesAsBefore}
 use Rattle.plan_words.specs.LoweredChildren.{PostsChanged, SeesSamePoints}
 use Rattle.plan_words.specs.States.{GoesOn}
-use Rattle.step_core.specs.LaterViews.{IsLater}
-use Rattle.step_core.specs.SeenBests.{SeesGoal}
-use Rattle.step_core.specs.Views.{sees, tree_seen}
-use Rattle.grown_runs.specs.Table.WordNames.Word.{PointOf, TreeOf}
-use Rattle.grown_runs.specs.Table.Words.{best_word, cost_in}
+use Rattle.step_core.proofs.Common.{IsLater, SeesGoal, sees, tree_seen, point_at-kept}
 use Rattle.step_core.specs.declared.views.SharedRun.{SharedRun}
 use Rattle.step_core.specs.declared.views.View.{View}
-use Rattle.step_core.proofs.OneView.KeptPoints.{point_at-kept}
 
 -- ---- goals
 

@@ -6,37 +6,22 @@ use Rattle.std.proofs.lemmas.Nat.{mod-mul-add, mod_below}
 use Rattle.std.proofs.lemmas.Bool.{eqb-true}
 use Rattle.atomic_table.specs.Seated.{TableId}
 use Rattle.atomic_table.specs.Table.{Me}
-use Rattle.plan_model.specs.Trees.BestNode.{is_goal_point, lies_in_goals}
-use Rattle.plan_model.specs.Trees.PointsByNumber.{IsPresent, point_at, point_of}
-use Rattle.plan_model.specs.declared.geometry.Point.{Point}
-use Rattle.plan_model.proofs.BestNodeLaws.{IsPresent-goal}
-use Rattle.plan_model.proofs.NewNodes.{StandsAt-present}
+use Rattle.grown_runs.proofs.Common.{is_goal_point, lies_in_goals, IsPresent, point_at, point_of, Point, IsPresent-goal, StandsAt-present, has_node}
+use Rattle.grown_runs.proofs.Common.{seen_tree_of_words, Word, WritesWord, FirstOf, PointOf, TreeOf, best_cost_in, best_node_in, best_of_word, best_word}
+use Rattle.grown_runs.proofs.Common.{cost_in, no_best, point_of_word, tree_word}
 use Rattle.plan_words.proofs.PlainScenes.{no_goals}
 use Rattle.plan_words.specs.Bests.{HasPostedHand, LooksAndPosts, OnlyPosts}
 use Rattle.plan_words.specs.LoweredChildren.{LooksOn, SitsAt}
 use Rattle.plan_words.specs.Plays.{Tells}
 use Rattle.plan_words.specs.States.{GoesOn, HasPairs, PassState, SharedState, run_in, with_view}
 use Rattle.plan_words.specs.declared.openings.Aim.{Aim}
-use Rattle.step_core.specs.LaterViews.{IsLawfulView}
-use Rattle.grown_runs.specs.Runs.GrownWords.{has_node}
-use Rattle.step_core.specs.SeenBests.{MayPost, SeesGoal, seen_first_cost}
-use Rattle.step_core.specs.Stages.{has_link}
-use Rattle.step_core.specs.ViewSteps.{best_with, hand_with_post, loaded, lowered, post_noted, posted, with_best}
-use Rattle.step_core.specs.ViewTrees.{SeesPoint}
-use Rattle.grown_runs.specs.Table.SeenWords.{seen_tree_of_words}
-use Rattle.step_core.specs.Views.{run_sizes, sees, tree_seen}
-use Rattle.grown_runs.specs.Table.WordNames.{Word, WritesWord}
-use Rattle.grown_runs.specs.Table.WordNames.Word.{FirstOf, PointOf, TreeOf}
-use Rattle.grown_runs.specs.Table.Words.{best_cost_in, best_node_in, best_of_word, best_word, cost_in, no_best, point_of_word, tree_word}
+use Rattle.step_core.proofs.Common.{IsLawfulView, MayPost, SeesGoal, seen_first_cost, has_link, best_with, hand_with_post, loaded, lowered, post_noted, posted}
+use Rattle.step_core.proofs.Common.{with_best, SeesPoint, run_sizes, sees, tree_seen, same_name, WritesWord-saw, SeesPoint-later, point_at-seen, seen-within}
 use Rattle.step_core.specs.declared.views.Hand.{Hand}
 use Rattle.step_core.specs.declared.views.SharedRun.{SharedRun}
 use Rattle.step_core.specs.declared.views.Stage.{Stage}
 use Rattle.step_core.specs.declared.views.Stage.TheVariants.{Claimed, Counted, Half, Linked, Pointed, Posted, Treed}
 use Rattle.step_core.specs.declared.views.View.{View}
-use Rattle.step_core.proofs.Seen.Looks.{same_name}
-use Rattle.step_core.proofs.Seen.SeenByViews.{WritesWord-saw}
-use Rattle.step_core.proofs.OneView.SeenViews.{SeesPoint-later}
-use Rattle.step_core.proofs.Seen.SeenWords.{point_at-seen, seen-within}
 
 -- ---- goals
 

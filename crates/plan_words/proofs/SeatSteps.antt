@@ -9,17 +9,12 @@ use Rattle.plan_words.specs.declared.openings.Aim.{Aim}
 use Rattle.plan_words.proofs.GoingOn.{GoesOn-refl, GoesOn-trans}
 use Rattle.plan_words.proofs.Claiming.{KeepsHand-trans}
 use Rattle.plan_words.proofs.KeptPairs.{Keeps}
-use Rattle.step_core.specs.LaterViews.{IsLawfulView}
-use Rattle.step_core.specs.ViewSteps.{loaded, place_in, saw, saw_at}
-use Rattle.step_core.specs.Views.{run_sizes, sees}
-use Rattle.grown_runs.specs.Table.WordNames.{Word, WritesWord}
-use Rattle.grown_runs.specs.Table.WordNames.Word.{PointOf}
-use Rattle.grown_runs.specs.Table.WordPlaces.{HasWord}
+use Rattle.step_core.proofs.Common.{IsLawfulView, loaded, place_in, saw, saw_at, run_sizes, sees, WritesWord-saw}
+use Rattle.grown_runs.proofs.Common.{Word, WritesWord, PointOf, HasWord}
 use Rattle.step_core.specs.declared.views.Hand.{Hand}
 use Rattle.step_core.specs.declared.views.Member.{Member}
 use Rattle.step_core.specs.declared.views.SharedRun.{SharedRun}
 use Rattle.step_core.specs.declared.views.View.{View}
-use Rattle.step_core.proofs.Seen.SeenByViews.{WritesWord-saw}
 
 -- ---- one step on a word
 

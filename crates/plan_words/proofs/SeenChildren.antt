@@ -6,12 +6,9 @@ use Rattle.plan_words.specs.Parents.{HasParentsBelow}
 use Rattle.plan_words.specs.SeenChains.{sibling_chain_in, chain_of}
 use Rattle.plan_words.specs.States.{HasFirstPairs, HasPairs}
 use Rattle.plan_words.specs.Waiting.{HasSeenParent}
-use Rattle.step_core.specs.LaterViews.{IsLawfulView}
-use Rattle.step_core.specs.Views.{run_sizes, sees}
-use Rattle.grown_runs.specs.Table.WordNames.Word.{TreeOf}
-use Rattle.grown_runs.specs.Table.Words.{parent_in}
+use Rattle.step_core.proofs.Common.{IsLawfulView, run_sizes, sees}
+use Rattle.grown_runs.proofs.Common.{TreeOf, parent_in, word_at-none}
 use Rattle.step_core.specs.declared.views.View.{View}
-use Rattle.grown_runs.proofs.Table.WordReads.{word_at-none}
 
 -- a word past the end of a list is 0
 index-past : (items : List ℕ) (i : ℕ) → length items ≤ i → slice_index items i ≡ 0

@@ -5,10 +5,8 @@ use Rattle.std.specs.Prelude.{cond, max, nat_lt, slice_index, slice_set}
 use Rattle.std.proofs.lemmas.Bool.{ltb-false}
 use Rattle.std.proofs.lemmas.List.{append_assoc, get_or-set_other, get_or-set_same, length-append, length-replicate, length-set, set-append_left}
 use Rattle.plan_words.specs.SeenChains.{AreSeenFirst, Reaches, chain_of, seen_words, sibling_chain_in}
-use Rattle.grown_runs.specs.ChildChains.{FitsNumbers, FitsOneMore, HasOneMore, IndexesChains, KeepsRoom, MovesNode}
-use Rattle.grown_runs.specs.Table.Words.{parent_in}
+use Rattle.grown_runs.proofs.Common.{FitsNumbers, FitsOneMore, HasOneMore, IndexesChains, KeepsRoom, MovesNode, parent_in, IsIndex-same}
 use Rattle.grown_runs.specs.declared.child_index.ChildIndex.{ChildIndex}
-use Rattle.grown_runs.proofs.Children.MovedChildren.{IsIndex-same}
 
 -- ---- the words of all nodes
 

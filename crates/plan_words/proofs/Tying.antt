@@ -6,26 +6,16 @@ use mathlib.Core.Option.{some, some-ne-none}
 use lib.ListN.{get_elem?}
 use Rattle.std.proofs.lemmas.List.{length-replicate}
 use Rattle.std.proofs.lemmas.Option.{same_Some}
-use Rattle.plan_model.specs.declared.limits.TheConstants.{MOST_MARKS, MOST_WORKERS}
-use Rattle.plan_model.specs.declared.records.Record.{Record}
+use Rattle.grown_runs.proofs.Common.{MOST_MARKS, MOST_WORKERS, Record, sizes_in, Word, FitsWord}
 use Rattle.plan_words.specs.States.{BelongsTo, GoesOn, HasRoom, IsTied, MayClaim, PassState, SharedState, first_member, turn_of, worker_of}
-use Rattle.step_core.specs.LaterViews.{IsLawfulView}
-use Rattle.step_core.specs.ViewSteps.{finished_at, looker, one_turn_more, parted, second_alone, stepped, without_second, worker_apart}
-use Rattle.grown_runs.specs.Table.PlacesOfWords.{sizes_in}
-use Rattle.step_core.specs.SeenRecords.{MayRecord}
-use Rattle.step_core.specs.ViewTrees.{IsSeenPair}
-use Rattle.step_core.specs.Views.{IsViewOf, last_zero, run_sizes, spent, words_of_run}
-use Rattle.grown_runs.specs.Table.WordNames.{Word}
-use Rattle.grown_runs.specs.Table.Words.{FitsWord}
+use Rattle.step_core.proofs.Common.{IsLawfulView, finished_at, looker, one_turn_more, parted, second_alone, stepped, without_second, worker_apart, MayRecord}
+use Rattle.step_core.proofs.Common.{IsSeenPair, IsViewOf, last_zero, run_sizes, spent, words_of_run, IsLater-stepped, SeesTree-apart, SeesTree-looker}
+use Rattle.step_core.proofs.Common.{SeesTree-parted, SeesTree-stepped, zero-read, goes_at, stays_at}
 use Rattle.step_core.specs.declared.views.Hand.{Hand}
 use Rattle.step_core.specs.declared.views.Member.{Member}
 use Rattle.step_core.specs.declared.views.SharedRun.{SharedRun}
 use Rattle.step_core.specs.declared.views.View.{View}
 use Rattle.grown_runs.specs.declared.word_places.WordPlaces.{WordPlaces}
-use Rattle.step_core.proofs.OneView.LaterViews.{IsLater-stepped}
-use Rattle.step_core.proofs.OneView.SeenTreesOfViews.{SeesTree-apart, SeesTree-looker, SeesTree-parted, SeesTree-stepped}
-use Rattle.step_core.proofs.Parts.WorldEmpties.{zero-read}
-use Rattle.step_core.proofs.Steps.WorldSplits.{goes_at, stays_at}
 use Rattle.plan_words.proofs.GoingOn.{BelongsTo-later}
 use Rattle.plan_words.proofs.FittingRecords.{last_fits, nearest_fits}
 

@@ -5,20 +5,11 @@ use Rattle.std.specs.List.{list_any, range_with_len}
 use mathlib.Core.Option.{some}
 use lib.ListN.{get_elem?}
 use Rattle.std.proofs.lemmas.Bool.{cases_Bool}
-use Rattle.plan_model.specs.Trees.PointsByNumber.{IsPresent, point_at}
-use Rattle.plan_model.specs.Trees.TreeStates.{AreSameRuns}
-use Rattle.grown_runs.specs.Runs.GrownWords.{is_linked}
-use Rattle.step_core.specs.SharedWords.{linked_point, linked_points, state_of_links}
-use Rattle.step_core.specs.Views.{run_sizes, sees, share}
-use Rattle.grown_runs.specs.Table.WordNames.{Words}
-use Rattle.grown_runs.specs.Table.WordNames.Word.{ChildOf, PointOf, TreeOf}
-use Rattle.grown_runs.specs.Table.WordPlaces.{Sizes}
-use Rattle.grown_runs.specs.Table.Words.{cost_in, parent_in, point_of_word}
-use Rattle.step_core.specs.Worlds.{IsWorld, state_in}
+use Rattle.grown_runs.proofs.Common.{IsPresent, point_at, AreSameRuns, is_linked, Words, ChildOf, PointOf, TreeOf, Sizes, cost_in, parent_in, point_of_word}
+use Rattle.step_core.proofs.Common.{linked_point, linked_points, state_of_links, run_sizes, sees, share, IsWorld, state_in, linked-present, children-whole}
+use Rattle.step_core.proofs.Common.{records-whole, sees-whole}
 use Rattle.step_core.specs.declared.views.SharedRun.{SharedRun}
 use Rattle.step_core.specs.declared.views.View.{View}
-use Rattle.step_core.proofs.Parts.LinkedStates.{linked-present}
-use Rattle.step_core.proofs.Whole.WholeCopies.{children-whole, records-whole, sees-whole}
 use Rattle.plan_words.proofs.LookedNodes.{unwrap_or-child}
 
 module _ (run : SharedRun) (words : Words) (views : List View) (id : ℕ) (view : View) (world : IsWorld run words views)

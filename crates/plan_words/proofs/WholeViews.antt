@@ -3,24 +3,17 @@ use Rattle.std.proofs.Common.{◌≡◌, ◌≢◌, ℕ, ◌<◌, List, Some, ar
 use mathlib.Core.Option.{some}
 use lib.ListN.{get_elem?}
 use Rattle.std.specs.Prelude.{IsTrue}
-use Rattle.plan_model.specs.Trees.BestNode.{IsGoalNode, is_goal_point}
-use Rattle.plan_model.specs.Trees.PointsByNumber.{node_count, point_at}
-use Rattle.plan_model.proofs.BestNodeLaws.{IsPresent-goal}
+use Rattle.grown_runs.proofs.Common.{IsGoalNode, is_goal_point, node_count, point_at, IsPresent-goal, Word, Words, Best, ChildOf, Count, Counter, FirstOf}
+use Rattle.grown_runs.proofs.Common.{PointOf, RecordOf, TreeOf, best_cost_in, best_node_in, cost_in, no_best}
 use Rattle.plan_words.specs.Bests.{FindsGoalNode}
 use Rattle.plan_words.specs.States.{HasWholeShare}
-use Rattle.step_core.specs.SharedWords.{linked_points}
-use Rattle.step_core.specs.ViewTrees.{MayLoad}
-use Rattle.step_core.specs.Views.{run_sizes, sees, share, tree_seen}
-use Rattle.grown_runs.specs.Table.WordNames.{Word, Words}
-use Rattle.grown_runs.specs.Table.WordNames.Word.{Best, ChildOf, Count, Counter, FirstOf, PointOf, RecordOf, TreeOf}
-use Rattle.grown_runs.specs.Table.Words.{best_cost_in, best_node_in, cost_in, no_best}
-use Rattle.step_core.specs.Worlds.{IsWorld}
+use Rattle.step_core.proofs.Common.{linked_points, MayLoad, run_sizes, sees, share, tree_seen, IsWorld, linked-present, count-whole, nodes-whole, points-whole}
+use Rattle.step_core.proofs.Common.{sees-whole}
 use Rattle.step_core.specs.declared.views.Hand.{Hand}
 use Rattle.step_core.specs.declared.views.SharedRun.{SharedRun}
 use Rattle.step_core.specs.declared.views.Stage.TheVariants.{Linked}
 use Rattle.step_core.specs.declared.views.View.{View}
-use Rattle.step_core.proofs.Parts.LinkedStates.{linked-present}
-use Rattle.step_core.proofs.Whole.WholeCopies.{best-whole as best-same, count-whole, nodes-whole, points-whole, sees-whole}
+use Rattle.step_core.proofs.Whole.WholeCopies.{best-whole as best-same}
 
 module _ (run : SharedRun) (words : Words) (views : List View) (id : ℕ) (view : View) (world : IsWorld run words views)
     (at : get_elem? views id ≡ some view) (own : view.run ≡ run) (whole : HasWholeShare view) where

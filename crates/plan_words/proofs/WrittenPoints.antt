@@ -5,20 +5,10 @@ use Rattle.std.proofs.lemmas.Bool.{cases_lt, lt-ltb}
 use Rattle.std.proofs.lemmas.List.FromFn.{get_or-map-range_with_len}
 use mathlib.Core.Option.{some}
 use lib.ListN.{get_elem?}
-use Rattle.plan_model.specs.Trees.PointsByNumber.{IsPresent, point_at}
-use Rattle.grown_runs.specs.Runs.GrownWords.{is_linked}
-use Rattle.step_core.specs.SharedWords.{linked_point, linked_points}
-use Rattle.step_core.specs.ViewTrees.{SeesNode}
-use Rattle.step_core.specs.Views.{run_sizes}
-use Rattle.grown_runs.specs.Table.WordNames.{Words}
-use Rattle.grown_runs.specs.Table.WordNames.Word.{PointOf}
-use Rattle.grown_runs.specs.Table.WordPlaces.{Sizes}
-use Rattle.grown_runs.specs.Table.Words.{point_in, point_of_word}
-use Rattle.step_core.specs.Worlds.{IsWorld}
+use Rattle.grown_runs.proofs.Common.{IsPresent, point_at, is_linked, Words, PointOf, Sizes, point_in, point_of_word}
+use Rattle.step_core.proofs.Common.{linked_point, linked_points, SeesNode, run_sizes, IsWorld, IsPresent-seen, follow, seen_within, tree}
 use Rattle.step_core.specs.declared.views.SharedRun.{SharedRun}
 use Rattle.step_core.specs.declared.views.View.{View}
-use Rattle.step_core.proofs.OneView.LawfulSights.{IsPresent-seen}
-use Rattle.step_core.proofs.Steps.WorldSteps.{follow, seen_within, tree}
 
 -- a word that holds a point is written
 written-some : (word : ℕ) (b : Bool) → is_some (cond b (point_of_word word) None) ≡ true → 2 ^ 63 ≤ word

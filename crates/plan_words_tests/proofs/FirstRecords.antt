@@ -4,41 +4,16 @@ use Rattle.std.proofs.Common.{inl, inr, refl, sym, ap, ◌∙◌, subst, arith}
 use Rattle.std.specs.Prelude.{◌==◌, ◌&&◌, IfErr, IfOk, IfSome, IsTrue, Result, Ok, Err, nat_lt}
 use Rattle.std.proofs.lemmas.Bool.{and_parts, cases_Bool, cases_lt, eqb-true, le-ltb}
 use Rattle.std.proofs.lemmas.List.Sums.{length-filter}
-use Rattle.plan_model.specs.Spaces.Clearance.{Clear}
-use Rattle.plan_model.specs.Runs.ClosedLaw.{mark_at}
-use Rattle.plan_model.specs.Spaces.ConfigurationSpace.{space_of}
-use Rattle.plan_model.specs.Geometry.Cost.{cost_of}
-use Rattle.plan_model.specs.Trees.BestNode.{is_goal_point}
-use Rattle.plan_model.specs.Trees.LeastPairs.{IsNotAbove}
-use Rattle.plan_model.specs.Trees.Nearness.{distance_to}
-use Rattle.plan_model.specs.Runs.Outcomes.{is_placed}
-use Rattle.plan_model.specs.Trees.PointsByNumber.{IsPresent, point_of}
-use Rattle.plan_model.specs.Geometry.Radius.{class_of}
-use Rattle.plan_model.specs.Runs.RecordLaw.{is_earlier_record}
-use Rattle.plan_model.specs.declared.geometry.Point.{Point}
-use Rattle.plan_model.specs.declared.records.Outcome.TheVariants.{Placed}
-use Rattle.plan_model.specs.declared.records.Record.{Record}
-use Rattle.plan_model.proofs.ClassLaws.{below_digits, class_from_powers}
-use Rattle.plan_model.proofs.CountsBelow.{count-single}
-use Rattle.plan_model.proofs.NewNodes.{IsPresent-stands, point_of-stands}
-use Rattle.plan_words.specs.States.{PassState, SharedState, run_in, with_view}
-use Rattle.plan_words.proofs.HandSteps.{at_hand}
-use Rattle.plan_words.proofs.KeptPairs.{if_hand}
-use Rattle.plan_words.proofs.PlainScenes.{no_goals}
-use Rattle.grown_runs.specs.Runs.GrownWords.{record_at}
-use Rattle.step_core.specs.LaterViews.{IsLater, IsLawfulView}
-use Rattle.step_core.specs.SeenBests.{IsUnskipped}
-use Rattle.step_core.specs.SeenRecords.{MayBePlaced, MayEnd, MayRecord, is_own_node, own_count, own_first_cost}
-use Rattle.step_core.specs.ViewSteps.{counted, last_fill, linked, loaded}
-use Rattle.step_core.specs.ViewTrees.{SeesPoint}
-use Rattle.step_core.specs.Views.{sees, setup_in, tree_seen}
-use Rattle.grown_runs.specs.Table.WordNames.Word.{ChildOf, Count, TreeOf}
-use Rattle.grown_runs.specs.Table.Words.{best_cost_in, best_node_in, best_of_word, cost_in, no_best}
+use Rattle.grown_runs.proofs.Common.{Clear, mark_at, space_of, cost_of, is_goal_point, IsNotAbove, distance_to, is_placed, IsPresent, point_of, class_of}
+use Rattle.grown_runs.proofs.Common.{is_earlier_record, Point, Placed, Record, below_digits, class_from_powers, count-single, IsPresent-stands, point_of-stands}
+use Rattle.grown_runs.proofs.Common.{record_at, ChildOf, Count, TreeOf, best_cost_in, best_node_in, best_of_word, cost_in, no_best}
+use Rattle.plan_words.proofs.Common.{PassState, SharedState, run_in, with_view, at_hand, if_hand, no_goals}
+use Rattle.step_core.proofs.Common.{IsLater, IsLawfulView, IsUnskipped, MayBePlaced, MayEnd, MayRecord, is_own_node, own_count, own_first_cost, counted}
+use Rattle.step_core.proofs.Common.{last_fill, linked, loaded, SeesPoint, sees, setup_in, tree_seen, SeesPoint-later}
 use Rattle.step_core.specs.declared.views.Hand.{Hand}
 use Rattle.step_core.specs.declared.views.Stage.{Stage}
 use Rattle.step_core.specs.declared.views.Stage.TheVariants.{Counted, Posted, Treed}
 use Rattle.step_core.specs.declared.views.View.{View}
-use Rattle.step_core.proofs.OneView.SeenViews.{SeesPoint-later}
 use Rattle.plan_words_tests.specs.HeldMarks.{HangsFromStart, TakesBest}
 
 -- ---- marks that are not skipped

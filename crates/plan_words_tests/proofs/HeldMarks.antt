@@ -1,9 +1,7 @@
 -- A mark stays in hand while its pass looks, and when its node is linked.
 use Rattle.std.proofs.Common.{◌≡◌, ℕ, Bool, refl, ap, ◌∙◌}
 use Rattle.std.specs.Prelude.{Err, IfErr, IfOk, IfSome, Ok, Result}
-use Rattle.plan_words.specs.States.{GoesOn, PassState, SharedState, with_view}
-use Rattle.plan_words.proofs.GoingOn.{BelongsTo-later}
-use Rattle.plan_words.proofs.HandSteps.{at_hand}
+use Rattle.plan_words.proofs.Common.{GoesOn, PassState, SharedState, with_view, BelongsTo-later, at_hand}
 use Rattle.step_core.specs.ViewSteps.{counted, last_fill, linked, loaded}
 use Rattle.grown_runs.specs.Table.WordNames.Word.{ChildOf}
 use Rattle.step_core.specs.declared.views.Stage.{Stage}

@@ -3,19 +3,10 @@ use Rattle.std.proofs.Common.{◌≡◌, ◌≢◌, ℕ, suc, ◌+◌, ◌<◌, 
 use Rattle.std.proofs.Common.{inl, inr, refl, sym, ap, ◌∙◌, subst, arith}
 use Rattle.std.specs.Prelude.{◌==◌, IfSome, IsTrue}
 use Rattle.std.proofs.lemmas.Bool.{cases_lt, eq-eqb, eqb-true}
-use Rattle.plan_model.specs.Trees.BestNode.{is_goal_point, lies_in_goals}
-use Rattle.plan_model.proofs.SceneBounds.{goals-some}
-use Rattle.plan_words.specs.States.{BelongsTo, GoesOn, PassState, SharedState, run_in, with_view}
-use Rattle.plan_words.proofs.GoingOn.{BelongsTo-later}
-use Rattle.plan_words.proofs.Posting.{goal-at}
-use Rattle.step_core.specs.LaterViews.{IsLawfulView}
-use Rattle.step_core.specs.SeenBests.{IsInformed, MayPost}
-use Rattle.step_core.specs.Stages.{has_link}
-use Rattle.step_core.specs.ViewSteps.{best_loaded, best_taken, hand_with_best, hand_with_post, post_noted, with_best}
-use Rattle.step_core.specs.ViewTrees.{SeesPoint}
-use Rattle.step_core.specs.Views.{sees, setup_in, share}
-use Rattle.grown_runs.specs.Table.WordNames.Word.{TreeOf}
-use Rattle.grown_runs.specs.Table.Words.{best_cost_in, best_node_in, best_of_word, no_best}
+use Rattle.grown_runs.proofs.Common.{is_goal_point, lies_in_goals, goals-some, TreeOf, best_cost_in, best_node_in, best_of_word, no_best}
+use Rattle.plan_words.proofs.Common.{BelongsTo, GoesOn, PassState, SharedState, run_in, with_view, BelongsTo-later, goal-at}
+use Rattle.step_core.proofs.Common.{IsLawfulView, IsInformed, MayPost, has_link, best_loaded, best_taken, hand_with_best, hand_with_post, post_noted, with_best}
+use Rattle.step_core.proofs.Common.{SeesPoint, sees, setup_in, share}
 use Rattle.step_core.specs.declared.views.Hand.{Hand}
 use Rattle.step_core.specs.declared.views.Stage.{Stage}
 use Rattle.step_core.specs.declared.views.Stage.TheVariants.{Claimed, Counted, Posted}

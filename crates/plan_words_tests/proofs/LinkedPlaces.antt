@@ -2,11 +2,8 @@
 use Rattle.std.proofs.Common.{◌≡◌, ◌≢◌, ℕ, ◌<◌, ◌≤◌, true, false, Option, Some, None, sym, ap, ◌∙◌, subst, arith}
 use Rattle.std.specs.Prelude.{IfSome, not}
 use Rattle.std.proofs.lemmas.Bool.{le-ltb, lt-ltb}
-use Rattle.plan_model.specs.Seen.Ways.{goes_right}
-use Rattle.plan_model.specs.Seen.Ways.IsOnWay.{begins, goes_on}
-use Rattle.plan_model.specs.declared.geometry.Point.{Point}
-use Rattle.step_core.specs.ViewTrees.{LeadsTo, SeesPoint}
-use Rattle.step_core.specs.Views.{tree_seen}
+use Rattle.grown_runs.proofs.Common.{goes_right, begins, goes_on, Point}
+use Rattle.step_core.proofs.Common.{LeadsTo, SeesPoint, tree_seen}
 use Rattle.step_core.specs.declared.views.Hand.{Hand}
 use Rattle.step_core.specs.declared.views.View.{View}
 

@@ -2,20 +2,10 @@
 use Rattle.std.proofs.Common.{◌≡◌, ℕ, ◌*◌, [], Some, sym, ap, ◌∙◌, subst, arith}
 use Rattle.std.specs.Int.{abs_diff}
 use Rattle.std.specs.Prelude.{IfSome}
-use Rattle.plan_model.specs.Runs.ClosedLaw.{mark_at}
-use Rattle.plan_model.specs.Geometry.Plane.{squared_distance}
-use Rattle.plan_model.specs.Trees.Nearness.{distance_to}
-use Rattle.plan_model.specs.Trees.PointsByNumber.{IsPresent, point_of}
-use Rattle.plan_model.specs.Geometry.Steering.{steered}
-use Rattle.plan_model.specs.declared.geometry.Point.{Point}
-use Rattle.plan_model.specs.declared.records.Outcome.TheVariants.{Same}
-use Rattle.plan_model.specs.declared.records.Record.{Record}
-use Rattle.plan_model.proofs.NewNodes.{IsPresent-stands, point_of-stands}
-use Rattle.plan_model.proofs.SteeringLaws.{steered-near}
+use Rattle.grown_runs.proofs.Common.{mark_at, squared_distance, distance_to, IsPresent, point_of, steered, Point, Same, Record, IsPresent-stands}
+use Rattle.grown_runs.proofs.Common.{point_of-stands, steered-near}
 use Rattle.plan_words.proofs.KeptPairs.{if_hand}
-use Rattle.step_core.specs.SeenRecords.{MayEnd, MayRecord}
-use Rattle.step_core.specs.ViewTrees.{SeesPoint}
-use Rattle.step_core.specs.Views.{tree_seen}
+use Rattle.step_core.proofs.Common.{MayEnd, MayRecord, SeesPoint, tree_seen}
 use Rattle.step_core.specs.declared.views.Hand.{Hand}
 use Rattle.step_core.specs.declared.views.View.{View}
 

@@ -2,26 +2,16 @@
 use Rattle.std.proofs.Common.{◌≡◌, ◌≢◌, ℕ, suc, ◌+◌, ◌<◌, Some, List, [], ◌∷◌, ◌++◌, length, take, arith, refl, sym, ap, ◌∙◌, subst, inl, inr}
 use Rattle.std.specs.Prelude.{slice_get}
 use Rattle.std.proofs.lemmas.Bool.{cases_eq}
-use Rattle.plan_model.specs.Runs.ClosedLaw.{mark_at}
-use Rattle.plan_model.specs.Runs.Textbook.{Handles, IsTextbookRun, Nodes}
-use Rattle.plan_model.specs.declared.records.Record.{Record}
-use Rattle.plan_model.proofs.TextbookStates.{RecordsMark-push}
-use Rattle.plan_words.specs.Bests.{HasPostedGoals}
-use Rattle.plan_words.specs.States.{PassState, SharedState}
-use Rattle.plan_words.proofs.PostedGoals.{HasPostedGoals-step}
+use Rattle.grown_runs.proofs.Common.{mark_at, Handles, IsTextbookRun, Nodes, Record, RecordsMark-push, record_at, Word, FirstOf, PointOf, RecordOf, TreeOf}
+use Rattle.grown_runs.proofs.Common.{record_of_word}
+use Rattle.plan_words.proofs.Common.{HasPostedGoals, PassState, SharedState, HasPostedGoals-step}
 use Rattle.plan_work.proofs.MirroredTrees.{Mirrors-still}
 use Rattle.plan_work.proofs.RecordedMarks.{others_still}
 use Rattle.plan_work.proofs.TextbookSteps.{IsTextbookRun-push, RecordsNext-run}
 use Rattle.plan_work.specs.ExtensionSteps.{HasRecorded}
 use Rattle.plan_work.specs.OneWorker.{SeesTextbook, WorksAlone}
 use Rattle.plan_work.specs.WholeShares.{SeesButCount}
-use Rattle.grown_runs.specs.Runs.GrownWords.{record_at}
-use Rattle.step_core.specs.LaterViews.{IsLater}
-use Rattle.step_core.specs.ViewSteps.{one_turn_more}
-use Rattle.step_core.specs.Views.{sees, setup_in}
-use Rattle.grown_runs.specs.Table.WordNames.{Word}
-use Rattle.grown_runs.specs.Table.WordNames.Word.{FirstOf, PointOf, RecordOf, TreeOf}
-use Rattle.grown_runs.specs.Table.Words.{record_of_word}
+use Rattle.step_core.proofs.Common.{IsLater, one_turn_more, sees, setup_in}
 use Rattle.step_core.specs.declared.views.Hand.{Hand}
 use Rattle.step_core.specs.declared.views.Member.{Member}
 use Rattle.step_core.specs.declared.views.SharedRun.{SharedRun}

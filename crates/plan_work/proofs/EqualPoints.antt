@@ -4,13 +4,7 @@ use Rattle.std.specs.Prelude.{filter}
 use Rattle.std.specs.List.{range_with_len}
 use Rattle.std.proofs.lemmas.List.{append-nil, get_or_past}
 use Rattle.std.proofs.lemmas.List.Elements.{filter-append, filter_agree}
-use Rattle.plan_model.specs.Trees.Nearness.{is_within, near}
-use Rattle.plan_model.specs.Trees.PointsByNumber.{node_count, point_at}
-use Rattle.plan_model.specs.Geometry.Radius.{radius_of}
-use Rattle.plan_model.specs.Runs.Textbook.{Setup, near_new}
-use Rattle.plan_model.specs.declared.geometry.Point.{Point}
-use Rattle.plan_model.proofs.CountsBelow.{range-more}
-use Rattle.plan_model.proofs.NodeCounts.{node_count-same}
+use Rattle.grown_runs.proofs.Common.{is_within, near, node_count, point_at, radius_of, Setup, near_new, Point, range-more, node_count-same}
 
 -- numbers past all that pass add none
 filter-longer : (test : ℕ → Bool) (n d : ℕ) → ((i : ℕ) → n ≤ i → test i ≡ false)

@@ -3,16 +3,10 @@ use Rattle.std.proofs.Common.{◌≡◌, ℕ, suc, Some, None, [], ◌∷◌, �
 use Rattle.kd_shared.specs.Placings.{SeesPlacing}
 use Rattle.kd_shared.specs.declared.placing.Placing.{Placing}
 use Rattle.kd_shared.specs.declared.placing.Placing.TheVariants.{Placed, Same}
-use Rattle.plan_model.specs.Spaces.Clearance.{Clear}
-use Rattle.plan_model.specs.Runs.ClosedLaw.{mark_at}
-use Rattle.plan_model.specs.Trees.PointsByNumber.{IsFree, point_of}
-use Rattle.plan_model.specs.Runs.Textbook.{Handles, MayBeCheaper, SteersTo, unplaced_record}
-use Rattle.plan_model.specs.Trees.NodeLists.{points_of, sum_of}
-use Rattle.plan_model.specs.declared.geometry.Point.{Point}
-use Rattle.plan_model.specs.declared.records.Outcome.TheVariants.{Blocked, Same as SameNode}
-use Rattle.plan_model.specs.declared.records.Record.{Record}
-use Rattle.plan_words.specs.Claims.{SeesAsBefore}
-use Rattle.plan_words.specs.States.{GoesOn, PassState, SharedState, turn_of, with_view, worker_of}
+use Rattle.grown_runs.proofs.Common.{Clear, mark_at, IsFree, point_of, Handles, MayBeCheaper, SteersTo, unplaced_record, points_of, sum_of, Point, Blocked}
+use Rattle.grown_runs.proofs.Common.{Record, FirstOf, PointOf, TreeOf}
+use Rattle.plan_model.specs.declared.records.Outcome.TheVariants.{Same as SameNode}
+use Rattle.plan_words.proofs.Common.{SeesAsBefore, GoesOn, PassState, SharedState, turn_of, with_view, worker_of}
 use Rattle.plan_work.proofs.AloneMarks.{KeepsRun-refl, SeesTextbook-recorded, SeesTextbook-still, WorksAlone-recorded, WorksAlone-still}
 use Rattle.plan_work.proofs.MirroredTrees.{Mirrors-absent, SteersTo-mirrored, point_of-mirrored}
 use Rattle.plan_work.proofs.SkippedAlone.{IsNotSkippedIn-kept, MayBeCheaper-mirrored}
@@ -22,10 +16,7 @@ use Rattle.plan_work.specs.Extensions.{HasSteered}
 use Rattle.plan_work.specs.ExtensionSteps.{HasRecorded, KeepsRecords, own_unplaced}
 use Rattle.plan_work.specs.OneWorker.{IsNotSkippedIn, SeesTextbook, WorksAlone}
 use Rattle.plan_work.specs.WholeShares.{IsFilledWhole, IsSteeredWhole, KeepsNode, KeepsOthers, SeesButCount}
-use Rattle.step_core.specs.ViewSteps.{pointed}
-use Rattle.step_core.specs.ViewTrees.{SeesPoint}
-use Rattle.step_core.specs.Views.{sees, setup_in, tree_seen}
-use Rattle.grown_runs.specs.Table.WordNames.Word.{FirstOf, PointOf, TreeOf}
+use Rattle.step_core.proofs.Common.{pointed, SeesPoint, sees, setup_in, tree_seen}
 use Rattle.step_core.specs.declared.views.Hand.{Hand}
 use Rattle.step_core.specs.declared.views.View.{View}
 

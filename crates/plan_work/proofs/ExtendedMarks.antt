@@ -1,34 +1,17 @@
 -- A mark is handled in steps: what the first of them leave, and what all of them leave together.
 use Rattle.std.proofs.Common.{◌≡◌, ℕ, ◌≤◌, Some, refl, sym, ap, ◌∙◌, subst, arith}
 use Rattle.std.specs.Prelude.{IfSome, IsSome, is_some}
-use Rattle.plan_model.specs.Spaces.Clearance.{Clear}
-use Rattle.plan_model.specs.Spaces.ConfigurationSpace.{space_of}
-use Rattle.plan_model.specs.Trees.PointsByNumber.{IsFree, point_of}
-use Rattle.plan_model.specs.Seen.Sights.{EndsSince, IsSwept}
-use Rattle.plan_model.specs.declared.geometry.Point.{Point}
-use Rattle.plan_model.specs.declared.records.Outcome.TheVariants.{Blocked, Same}
-use Rattle.plan_model.specs.declared.records.Record.{Record}
-use Rattle.plan_model.proofs.NewNodes.{point_of-stands}
-use Rattle.plan_model.proofs.SightLaws.{EndsSince-later}
-use Rattle.plan_model.specs.Geometry.Bounds.{IsBounded}
-use Rattle.plan_words.specs.States.{BelongsTo, GoesOn, PassState, SharedState, turn_of, with_view, worker_of}
-use Rattle.plan_words.proofs.GoingOn.{BelongsTo-later, GoesOn-trans}
-use Rattle.step_core.proofs.OneView.LawfulSights.{IsLaterMoment-later, KeepsSight-lawful}
-use Rattle.step_core.proofs.Seen.SeenWords.{point_at-seen, seen-within}
-use Rattle.step_core.specs.SeenBests.{IsUnskipped}
-use Rattle.step_core.specs.SeenRecords.{MayBeBlocked, MayRecord}
-use Rattle.step_core.specs.ViewSteps.{one_turn_more, pointed}
-use Rattle.step_core.specs.ViewTrees.{IsSteered, SeesPoint, sight_in}
-use Rattle.step_core.specs.Views.{run_sizes, sees, setup_in, tree_seen}
-use Rattle.grown_runs.specs.Table.WordNames.Word.{Count, Counter, PointOf, RecordOf}
-use Rattle.grown_runs.specs.Table.Words.{point_of_word}
+use Rattle.grown_runs.proofs.Common.{Clear, space_of, IsFree, point_of, EndsSince, IsSwept, Point, Blocked, Same, Record, point_of-stands, EndsSince-later}
+use Rattle.grown_runs.proofs.Common.{IsBounded, Count, Counter, PointOf, RecordOf, point_of_word, Outcome}
+use Rattle.plan_words.proofs.Common.{BelongsTo, GoesOn, PassState, SharedState, turn_of, with_view, worker_of, BelongsTo-later, GoesOn-trans}
+use Rattle.step_core.proofs.Common.{IsLaterMoment-later, KeepsSight-lawful, point_at-seen, seen-within, IsUnskipped, MayBeBlocked, MayRecord, one_turn_more}
+use Rattle.step_core.proofs.Common.{pointed, IsSteered, SeesPoint, sight_in, run_sizes, sees, setup_in, tree_seen, has_node-recorded, present_recorded}
 use Rattle.step_core.specs.declared.views.Hand.{Hand}
 use Rattle.step_core.specs.declared.views.SharedRun.{SharedRun}
 use Rattle.step_core.specs.declared.views.Stage.TheVariants.{Pointed}
 use Rattle.step_core.specs.declared.views.View.{View}
 use Rattle.tree_rewire.proofs.SeenCosts.{stands_later}
 use Rattle.kd_shared.specs.Looking.{OnlyLooks}
-use Rattle.step_core.proofs.OneView.RecordedNodes.{has_node-recorded, present_recorded}
 use Rattle.plan_work.proofs.HeldMarks.{holding, if_held}
 use Rattle.plan_work.proofs.KeptRecords.{KeepsRecords-looks, KeepsRecords-trans}
 use Rattle.plan_work.proofs.KeptSights.{HasSteered-still}
@@ -39,7 +22,6 @@ use Rattle.plan_work.proofs.TriedMarks.{HasFilledNear-still}
 use Rattle.plan_work.specs.Extensions.{EndsAsSteered, HandlesMark, HasSteered, IsBlockedAt, WasSteered}
 use Rattle.plan_work.specs.ExtensionSteps.{EndsWritten, HasFilledNear, HasRecorded, IsFilledSince, IsSteeredAndHandled, IsSteeredTo, KeepsRecords, MayPlace}
 use Rattle.plan_work.specs.ExtensionSteps.{own_unplaced}
-use Rattle.plan_model.specs.declared.records.Outcome.{Outcome}
 
 -- ---- one after another
 

@@ -8,30 +8,16 @@ use Rattle.std.proofs.lemmas.List.Sums.{length-filter}
 use Rattle.kd_shared.specs.Searches.{AreGathered}
 use Rattle.kd_shared.proofs.SearchResults.{SweepsWithin-begun}
 use Rattle.kd_shared.proofs.SortedNear.{is_within-near}
-use Rattle.plan_model.specs.Geometry.Plane.{squared_distance}
-use Rattle.plan_model.specs.Geometry.Radius.{class_of, radius_of_class}
-use Rattle.plan_model.specs.declared.geometry.Point.{Point}
-use Rattle.plan_model.specs.declared.records.Record.{Record}
-use Rattle.plan_model.proofs.RadiusLaws.{greatest-le}
-use Rattle.plan_model.proofs.CountsBelow.{count-some}
-use Rattle.plan_model.proofs.NewNodes.{IsPresent-stands, point_of-stands}
-use Rattle.plan_model.specs.Trees.Nearness.{distance_to, is_within}
-use Rattle.plan_words.proofs.RisingNumbers.{Contains-number}
+use Rattle.grown_runs.proofs.Common.{squared_distance, class_of, radius_of_class, Point, Record, greatest-le, count-some, IsPresent-stands, point_of-stands}
+use Rattle.grown_runs.proofs.Common.{distance_to, is_within, Word, Count, RecordOf}
+use Rattle.plan_words.proofs.Common.{Contains-number, GoesOn, PassState, with_view}
 use Rattle.plan_words.specs.declared.spots.Found.{Found}
-use Rattle.plan_words.specs.States.{GoesOn, PassState, with_view}
 use Rattle.tree_rewire.specs.SeenCosts.{IsInReach}
 use Rattle.plan_work.proofs.RecordedMarks.{own_count-same}
 use Rattle.plan_work.specs.Extensions.{radius_in}
 use Rattle.plan_work.specs.ExtensionSteps.{HasFilledNear}
-use Rattle.step_core.specs.SeenRecords.{is_own_node, own_count}
-use Rattle.step_core.specs.ViewSteps.{loaded}
-use Rattle.step_core.specs.ViewTrees.{sight_in}
-use Rattle.step_core.specs.Views.{last_look, sees, tree_seen}
-use Rattle.grown_runs.specs.Table.WordNames.{Word}
-use Rattle.grown_runs.specs.Table.WordNames.Word.{Count, RecordOf}
+use Rattle.step_core.proofs.Common.{is_own_node, own_count, loaded, sight_in, last_look, sees, tree_seen, IsLaterMoment-later, WritesWord-looked}
 use Rattle.step_core.specs.declared.views.View.{View}
-use Rattle.step_core.proofs.OneView.LawfulSights.{IsLaterMoment-later}
-use Rattle.step_core.proofs.Seen.SeenByViews.{WritesWord-looked}
 use Rattle.tree_rewire.proofs.SeenCosts.{stands_later}
 
 -- a worker has the start at least

@@ -2,11 +2,7 @@
 use Rattle.std.proofs.Common.{ℕ, ◌∙◌, List, ap, sym}
 use Rattle.kd_shared.specs.Searches.{AreGathered}
 use Rattle.kd_shared.proofs.SortedNear.{is_within-near, near-within}
-use Rattle.plan_model.proofs.NearNodes.{Contains-near}
-use Rattle.plan_model.specs.Seen.Sights.{Sight}
-use Rattle.plan_model.specs.Trees.Nearness.{is_within, near}
-use Rattle.plan_model.specs.Trees.PointsByNumber.{point_at}
-use Rattle.plan_model.specs.declared.geometry.Point.{Point}
+use Rattle.grown_runs.proofs.Common.{Contains-near, Sight, is_within, near, point_at, Point}
 use Rattle.plan_words.proofs.RisingNumbers.{Contains-number}
 use Rattle.plan_words.specs.declared.spots.Found.{Found}
 use Rattle.tree_rewire.specs.FoundNodes.{AreOf}

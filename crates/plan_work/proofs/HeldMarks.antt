@@ -1,8 +1,7 @@
 -- A mark in hand, by the view of its pass.
 use Rattle.std.proofs.Common.{◌≡◌, ℕ, ◌<◌, Option, Some, None, List, length, refl, sym, ap, ◌∙◌, subst, arith}
 use Rattle.std.specs.Prelude.{IfSome, IsSome, slice_index_or}
-use Rattle.plan_model.specs.Runs.ClosedLaw.{mark_at}
-use Rattle.plan_model.specs.declared.geometry.Point.{Point}
+use Rattle.grown_runs.proofs.Common.{mark_at, Point}
 use Rattle.plan_words.specs.States.{BelongsTo, PassState, SharedState}
 use Rattle.step_core.specs.LaterViews.{IsLawfulView}
 use Rattle.step_core.specs.declared.views.Hand.{Hand}

@@ -2,22 +2,11 @@
 use Rattle.std.proofs.Common.{◌≡◌, ℕ, ◌≤◌, ◌∷◌, List, refl, sym, ap, ◌∙◌, subst, arith}
 use Rattle.std.specs.Prelude.{All, Contains, slice_index_or}
 use Rattle.std.proofs.lemmas.List.Elements.{All-contains, Contains-get_or}
-use Rattle.plan_model.specs.Spaces.Clearance.{Clear}
-use Rattle.plan_model.specs.declared.configuration_spaces.ConfigurationSpace.{ConfigurationSpace}
-use Rattle.plan_model.specs.Geometry.Cost.{cost_of}
-use Rattle.plan_model.specs.Trees.LeastPairs.{IsFirstLeast}
-use Rattle.plan_model.specs.Trees.OpenNodes.{IsOpenTo}
-use Rattle.plan_model.specs.Trees.PointsByNumber.{IsPresent, point_at, point_of}
-use Rattle.plan_model.specs.declared.geometry.Point.{Point}
-use Rattle.plan_model.proofs.ListMembers.{Contains-after, Contains-first}
-use Rattle.plan_model.proofs.NewNodes.{StandsAt-present}
-use Rattle.plan_words.specs.States.{BelongsTo, GoesOn, PassState, SharedState, with_view}
-use Rattle.plan_words.proofs.GoingOn.{BelongsTo-later}
+use Rattle.grown_runs.proofs.Common.{Clear, ConfigurationSpace, cost_of, IsFirstLeast, IsOpenTo, IsPresent, point_at, point_of, Point, Contains-after}
+use Rattle.grown_runs.proofs.Common.{Contains-first, StandsAt-present, Counter, RecordOf, TreeOf}
+use Rattle.plan_words.proofs.Common.{BelongsTo, GoesOn, PassState, SharedState, with_view, BelongsTo-later}
 use Rattle.plan_work.specs.ExtensionSteps.{IsHung, IsPointed, KeepsRecords}
-use Rattle.step_core.specs.ViewSteps.{half, treed}
-use Rattle.step_core.specs.ViewTrees.{IsCostBelow, MayHang}
-use Rattle.step_core.specs.Views.{sees, setup_in, tree_seen}
-use Rattle.grown_runs.specs.Table.WordNames.Word.{Counter, RecordOf, TreeOf}
+use Rattle.step_core.proofs.Common.{half, treed, IsCostBelow, MayHang, sees, setup_in, tree_seen}
 use Rattle.step_core.specs.declared.views.Hand.{Hand}
 use Rattle.step_core.specs.declared.views.Stage.TheVariants.{Half}
 use Rattle.step_core.specs.declared.views.View.{View}

@@ -1,13 +1,10 @@
 -- Calls that see no record anew, one after another.
 use Rattle.std.proofs.Common.{◌≡◌, ℕ, ap, ◌∙◌}
 use Rattle.kd_shared.specs.Looking.{OnlyLooks}
-use Rattle.plan_words.specs.States.{BelongsTo, GoesOn, PassState, SharedState}
-use Rattle.plan_words.proofs.GoingOn.{BelongsTo-later, GoesOn-trans}
+use Rattle.plan_words.proofs.Common.{BelongsTo, GoesOn, PassState, SharedState, BelongsTo-later, GoesOn-trans}
 use Rattle.plan_work.specs.ExtensionSteps.{KeepsRecords}
-use Rattle.step_core.specs.ViewSteps.{loaded}
-use Rattle.step_core.specs.Views.{sees}
-use Rattle.grown_runs.specs.Table.WordNames.{Word, WritesWord}
-use Rattle.grown_runs.specs.Table.WordNames.Word.{Count, Counter, RecordOf}
+use Rattle.step_core.proofs.Common.{loaded, sees}
+use Rattle.grown_runs.proofs.Common.{Word, WritesWord, Count, Counter, RecordOf}
 use Rattle.tree_rewire.specs.SeenCosts.{SeesAnew}
 
 pub KeepsRecords-trans : (shared : SharedState) (before mid after : PassState) → KeepsRecords shared before mid → KeepsRecords shared mid after

@@ -2,20 +2,12 @@
 use Rattle.std.proofs.Common.{◌≡◌, ℕ, sym, ap, ◌∙◌, subst, arith}
 use Rattle.kd_shared.specs.Searches.{IsNearestSeen, SweepsWithin}
 use Rattle.kd_shared.proofs.SearchResults.{SweepsWithin-begun, SweepsWithin-later}
-use Rattle.plan_model.specs.Runs.ClosedLaw.{mark_at}
-use Rattle.plan_model.specs.Geometry.Plane.{squared_distance}
-use Rattle.plan_model.specs.Trees.LeastPairs.{IsNotAbove}
-use Rattle.plan_model.specs.Trees.Nearness.{distance_to}
-use Rattle.plan_model.specs.Trees.PointsByNumber.{IsPresent, point_of}
-use Rattle.plan_model.specs.Geometry.Steering.{steered}
-use Rattle.plan_model.specs.declared.geometry.Point.{Point}
-use Rattle.plan_model.proofs.NewNodes.{IsPresent-stands, StandsAt-present, point_of-stands}
+use Rattle.grown_runs.proofs.Common.{mark_at, squared_distance, IsNotAbove, distance_to, IsPresent, point_of, steered, Point, IsPresent-stands}
+use Rattle.grown_runs.proofs.Common.{StandsAt-present, point_of-stands}
 use Rattle.plan_words.specs.States.{GoesOn}
 use Rattle.plan_work.specs.Extensions.{HasSteered}
-use Rattle.step_core.specs.ViewTrees.{SeesPoint, sight_in}
-use Rattle.step_core.specs.Views.{tree_seen}
+use Rattle.step_core.proofs.Common.{SeesPoint, sight_in, tree_seen, IsLaterMoment-later, KeepsSight-lawful}
 use Rattle.step_core.specs.declared.views.View.{View}
-use Rattle.step_core.proofs.OneView.LawfulSights.{IsLaterMoment-later, KeepsSight-lawful}
 use Rattle.tree_rewire.proofs.SeenCosts.{stands_later}
 
 module _ (mid after : View) (goes_on : GoesOn mid after) where

@@ -3,24 +3,12 @@ use Rattle.std.proofs.Common.{◌≡◌, ℕ, suc, ◌+◌, ◌*◌, ◌/◌, �
 use Rattle.std.specs.Prelude.{◌≢◌, map}
 use Rattle.std.specs.List.{range_with_len}
 use Rattle.std.proofs.lemmas.Bool.{cases_eq, cases_lt, le-ltb, lt-ltb}
-use Rattle.plan_model.specs.Scenes.MarkPoints.{is_claimed, strip_of_mark}
-use Rattle.plan_model.specs.Trees.PointsByNumber.{point_at}
-use Rattle.plan_model.specs.Runs.Textbook.{IsTextbookRun}
-use Rattle.plan_model.specs.declared.records.Record.{Record}
-use Rattle.plan_model.proofs.StripMarks.{IsMarkOf-own, is_claimed-now, is_claimed-other}
-use Rattle.plan_model.proofs.WorkerTurns.{ltb-next}
-use Rattle.plan_words.specs.Claims.{AllFull, IsClaimed, IsLeastOpen, KeepsHand, RaisesCounter, SeesAsBefore}
-use Rattle.plan_words.specs.States.{GoesOn, PassState, SharedState}
-use Rattle.plan_words.proofs.PostedGoals.{HasPostedGoals-step}
-use Rattle.grown_runs.specs.Runs.GrownWords.{record_at}
-use Rattle.step_core.specs.LaterViews.{IsLater}
-use Rattle.grown_runs.specs.Table.SeenWords.{seen_point}
-use Rattle.step_core.specs.ViewSteps.{mark_of}
-use Rattle.step_core.specs.Views.{sees, setup_in, tree_seen}
-use Rattle.grown_runs.specs.Table.WordNames.{ChangesOnly, IsCounter}
-use Rattle.grown_runs.specs.Table.WordNames.Word.{Counter, FirstOf, PointOf, RecordOf, TreeOf}
-use Rattle.grown_runs.specs.Table.Words.{cost_in, parent_in, point_of_word, record_of_word}
-use Rattle.step_core.specs.Worlds.{counters}
+use Rattle.grown_runs.proofs.Common.{is_claimed, strip_of_mark, point_at, IsTextbookRun, Record, IsMarkOf-own, is_claimed-now, is_claimed-other, ltb-next}
+use Rattle.grown_runs.proofs.Common.{record_at, seen_point, ChangesOnly, IsCounter, Counter, FirstOf, PointOf, RecordOf, TreeOf, cost_in, parent_in}
+use Rattle.grown_runs.proofs.Common.{point_of_word, record_of_word}
+use Rattle.plan_words.proofs.Common.{AllFull, IsClaimed, IsLeastOpen, KeepsHand, RaisesCounter, SeesAsBefore, GoesOn, PassState, SharedState}
+use Rattle.plan_words.proofs.Common.{HasPostedGoals-step}
+use Rattle.step_core.proofs.Common.{IsLater, mark_of, sees, setup_in, tree_seen, counters}
 use Rattle.step_core.specs.declared.views.SharedRun.{SharedRun}
 use Rattle.step_core.specs.declared.views.View.{View}
 use Rattle.plan_work.specs.Extensions.{HandlesMark}

@@ -6,40 +6,19 @@ use Rattle.std.proofs.lemmas.Bool.{cases_Bool, cases_lt, le-ltb, lt-ltb}
 use Rattle.std.proofs.lemmas.List.{get_or_past}
 use Rattle.std.proofs.lemmas.List.FromFn.{length-map-range_with_len}
 use lib.Seq.{length-take-le}
-use Rattle.plan_model.specs.Scenes.MarkPoints.{is_claimed}
-use Rattle.plan_model.specs.Trees.BestNode.{IsGoalNode, is_goal_point}
-use Rattle.plan_model.specs.Trees.PointsByNumber.{IsPresent, point_at}
-use Rattle.plan_model.specs.Seen.SeenTrees.{IsSeen}
-use Rattle.plan_model.specs.Runs.Textbook.{IsTextbookRun, setup_of, skipping_goals, start_alone}
-use Rattle.plan_model.specs.Trees.TreeStates.{AreSameRuns, state_of}
-use Rattle.plan_model.specs.Trees.NodeLists.{points_of}
-use Rattle.plan_model.specs.declared.geometry.Point.{Point}
-use Rattle.plan_model.specs.declared.tasks.Task.{Task}
-use Rattle.plan_model.proofs.SameTrees.{AreSameRuns-trans}
-use Rattle.plan_model.proofs.StripMarks.{is_claimed-below, is_claimed-past}
-use Rattle.plan_words.specs.Bests.{HasPostedGoals}
-use Rattle.plan_words.specs.States.{PassState, SharedState, StartsAs, run_in}
-use Rattle.grown_runs.specs.Runs.GrownRuns.{state_of_grown, words_of_grown}
-use Rattle.grown_runs.specs.Runs.GrownWords.{HoldRun, has_node, is_linked, points_of_words, record_at, sizes_of}
-use Rattle.step_core.specs.LaterViews.{IsLawfulView}
-use Rattle.grown_runs.specs.Table.SeenWords.{seen_point, seen_tree_of_words}
-use Rattle.step_core.specs.SharedWords.{linked_points, state_of_links}
-use Rattle.step_core.specs.ViewStarts.{member_of}
-use Rattle.step_core.specs.Views.{run_of, run_sizes, sees, setup_in, tree_seen}
-use Rattle.grown_runs.specs.Table.WordNames.{Words}
-use Rattle.grown_runs.specs.Table.WordNames.Word.{PointOf, TreeOf}
-use Rattle.grown_runs.specs.Table.WordPlaces.{Sizes}
-use Rattle.grown_runs.specs.Table.Words.{best_word, cost_in, parent_in, point_of_word}
-use Rattle.step_core.specs.Worlds.{counters}
+use Rattle.grown_runs.proofs.Common.{is_claimed, IsGoalNode, is_goal_point, IsPresent, point_at, IsSeen, IsTextbookRun, setup_of, skipping_goals, start_alone}
+use Rattle.grown_runs.proofs.Common.{AreSameRuns, state_of, points_of, Point, Task, AreSameRuns-trans, is_claimed-below, is_claimed-past, state_of_grown}
+use Rattle.grown_runs.proofs.Common.{words_of_grown, HoldRun, has_node, is_linked, points_of_words, record_at, sizes_of, seen_point, seen_tree_of_words, Words}
+use Rattle.grown_runs.proofs.Common.{PointOf, TreeOf, Sizes, best_word, cost_in, parent_in, point_of_word, node_point-here, point_at-past, point_at-words}
+use Rattle.grown_runs.proofs.Common.{is_linked-child, is_linked-start}
+use Rattle.plan_words.proofs.Common.{HasPostedGoals, PassState, SharedState, StartsAs, run_in}
+use Rattle.step_core.proofs.Common.{IsLawfulView, linked_points, state_of_links, member_of, run_of, run_sizes, sees, setup_in, tree_seen, counters}
+use Rattle.step_core.proofs.Common.{linked-present, point_at-linked, point_at-seen, seen-within, linked-within}
 use Rattle.grown_runs.specs.declared.grown.Grown.{Grown}
 use Rattle.step_core.specs.declared.views.Member.{Member}
 use Rattle.step_core.specs.declared.views.SharedRun.{SharedRun}
 use Rattle.step_core.specs.declared.views.View.{View}
-use Rattle.grown_runs.proofs.Runs.GrownPoints.{node_point-here, point_at-absent, point_at-past, point_at-words}
-use Rattle.step_core.proofs.Parts.LinkedStates.{linked-present, point_at-linked}
-use Rattle.step_core.proofs.Seen.SeenWords.{point_at-seen, seen-within}
-use Rattle.step_core.proofs.Seen.TrueWords.{linked-within}
-use Rattle.grown_runs.proofs.Runs.LinkedPresence.{is_linked-child, is_linked-start}
+use Rattle.grown_runs.proofs.Runs.GrownPoints.{point_at-absent}
 use Rattle.plan_work.proofs.TextbookTurns.{turns-textbook}
 use Rattle.plan_work.specs.OneWorker.{HasHandled, IsOfTextbook, SeesTextbook}
 

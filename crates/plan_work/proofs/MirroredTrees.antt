@@ -4,29 +4,12 @@ use Rattle.std.specs.Prelude.{All, Contains, is_some, unwrap_or}
 use Rattle.std.specs.List.{range_with_len}
 use Rattle.std.proofs.lemmas.Bool.{cases_eq}
 use Rattle.std.proofs.lemmas.List.Elements.{All-contains}
-use Rattle.plan_model.specs.Spaces.Clearance.{Clear}
-use Rattle.plan_model.specs.Geometry.Cost.{cost_of}
-use Rattle.plan_model.specs.Geometry.Plane.{squared_distance}
-use Rattle.plan_model.specs.Trees.LeastPairs.{IsFirstLeast, IsNotAbove}
-use Rattle.plan_model.specs.Trees.Nearness.{distance_to}
-use Rattle.plan_model.specs.Trees.OpenNodes.{IsOpenTo}
-use Rattle.plan_model.specs.Runs.OrderLaw.{KeepsOrder}
-use Rattle.plan_model.specs.Trees.PointsByNumber.{IsPresent, point_at, point_of}
-use Rattle.plan_model.specs.Geometry.Steering.{steered}
-use Rattle.plan_model.specs.Runs.Textbook.{IsBestParent, Nodes, Setup, SteersTo, near_new, cost_through}
-use Rattle.plan_model.specs.Trees.NodeLists.{parent_of, parent_or_zero, points_of, sum_of}
-use Rattle.plan_model.specs.Trees.TreeStates.{state_of}
-use Rattle.plan_model.specs.declared.geometry.Point.{Point}
-use Rattle.plan_model.specs.declared.records.Record.{Record}
-use Rattle.plan_model.proofs.AddedNodes.{AddsNode}
-use Rattle.plan_model.proofs.NewNodes.{point_at-same}
-use Rattle.plan_model.proofs.TextbookStates.{AddsNode-placed, PlacesNode, RecordsNext, sum-placed}
-use Rattle.plan_model.proofs.TreeChanges.{HaveSameNodes-absent, node_at-absent, sum-same}
-use Rattle.grown_runs.specs.Table.SeenWords.{seen_point}
-use Rattle.step_core.specs.ViewTrees.{SeesPoint}
-use Rattle.step_core.specs.Views.{run_sizes, sees, setup_in, tree_seen}
-use Rattle.grown_runs.specs.Table.WordNames.Word.{PointOf, TreeOf}
-use Rattle.grown_runs.specs.Table.Words.{cost_in, parent_in, point_of_word}
+use Rattle.grown_runs.proofs.Common.{Clear, cost_of, squared_distance, IsFirstLeast, IsNotAbove, distance_to, IsOpenTo, KeepsOrder, IsPresent, point_at}
+use Rattle.grown_runs.proofs.Common.{point_of, steered, IsBestParent, Nodes, Setup, SteersTo, near_new, cost_through, parent_of, parent_or_zero, points_of}
+use Rattle.grown_runs.proofs.Common.{sum_of, state_of, Point, Record, AddsNode, point_at-same, AddsNode-placed, PlacesNode, RecordsNext, sum-placed}
+use Rattle.grown_runs.proofs.Common.{HaveSameNodes-absent, node_at-absent, seen_point, PointOf, TreeOf, cost_in, parent_in, point_of_word}
+use Rattle.plan_model.proofs.TreeChanges.{sum-same}
+use Rattle.step_core.proofs.Common.{SeesPoint, run_sizes, sees, setup_in, tree_seen}
 use Rattle.step_core.specs.declared.views.View.{View}
 use Rattle.tree_rewire.specs.Mirrors.{Mirrors}
 use Rattle.tree_rewire.specs.SeenCosts.{seen_cost_through}

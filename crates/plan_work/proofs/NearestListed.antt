@@ -5,23 +5,12 @@ use Rattle.std.proofs.lemmas.Bool.{cases_lt}
 use Rattle.std.proofs.lemmas.List.Elements.{All-contains, All-nil}
 use Rattle.kd_shared.specs.Searches.{SweepsWithin}
 use Rattle.kd_shared.proofs.SearchResults.{SweepsWithin-less}
-use Rattle.plan_model.specs.Runs.ClosedLaw.{mark_at}
-use Rattle.plan_model.specs.Geometry.Plane.{squared_distance}
-use Rattle.plan_model.specs.Trees.LeastPairs.{IsNotAbove, IsPairNotAbove}
-use Rattle.plan_model.specs.Trees.Nearness.{distance_to}
-use Rattle.plan_model.specs.Trees.PointsByNumber.{IsPresent, point_of}
-use Rattle.plan_model.specs.Geometry.Steering.{steered}
-use Rattle.plan_model.specs.declared.geometry.Point.{Point}
-use Rattle.plan_model.proofs.LeastPairLaws.{IsNotAbove-lesser, IsNotAbove-refl, IsNotAbove-trans}
-use Rattle.plan_model.proofs.NewNodes.{StandsAt-present, point_of-stands}
-use Rattle.plan_model.proofs.SteeringLaws.{steered-near}
-use Rattle.plan_words.specs.SearchLists.{numbers_of}
-use Rattle.plan_words.specs.States.{GoesOn}
+use Rattle.grown_runs.proofs.Common.{mark_at, squared_distance, IsNotAbove, IsPairNotAbove, distance_to, IsPresent, point_of, steered, Point, IsNotAbove-lesser}
+use Rattle.grown_runs.proofs.Common.{IsNotAbove-refl, IsNotAbove-trans, StandsAt-present, point_of-stands, steered-near, IsNearerOf}
+use Rattle.plan_words.proofs.Common.{numbers_of, GoesOn}
 use Rattle.plan_words.specs.declared.spots.Found.{Found}
-use Rattle.grown_runs.specs.Ways.MeasuredNodes.{IsNearerOf}
 use Rattle.grown_runs.specs.declared.measured_nodes.MeasuredNode.{MeasuredNode}
-use Rattle.step_core.specs.ViewTrees.{SeesPoint, sight_in}
-use Rattle.step_core.specs.Views.{tree_seen}
+use Rattle.step_core.proofs.Common.{SeesPoint, sight_in, tree_seen}
 use Rattle.step_core.specs.declared.views.View.{View}
 use Rattle.tree_rewire.proofs.ChosenParents.{All-more}
 use Rattle.tree_rewire.proofs.SeenCosts.{stands_later}

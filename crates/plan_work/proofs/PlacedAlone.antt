@@ -6,30 +6,14 @@ use Rattle.std.proofs.lemmas.List.{get_or_past}
 use Rattle.std.proofs.lemmas.List.Elements.{All-cons, All-contains, Contains-get_or}
 use Rattle.std.proofs.lemmas.List.FromFn.{length-map-range_with_len}
 use Rattle.kd_shared.specs.declared.placing.Placing.TheVariants.{Placed, Same}
-use Rattle.plan_model.specs.Spaces.Clearance.{Clear, ClearAt}
-use Rattle.plan_model.specs.Runs.ClosedLaw.{mark_at}
-use Rattle.plan_model.specs.Spaces.ConfigurationSpace.{space_of}
-use Rattle.plan_model.specs.Trees.LeastPairs.{IsFirstLeast}
-use Rattle.plan_model.specs.Trees.OpenNodes.{IsOpenTo}
-use Rattle.plan_model.specs.Trees.PointsByNumber.{IsFree, IsPresent, node_count, point_at, point_of}
-use Rattle.plan_model.specs.Geometry.Radius.{class_of}
-use Rattle.plan_model.specs.Runs.Textbook.{Handles, IsBestParent, Nodes, Rewires, Setup, SteersTo, near_new, cost_through}
-use Rattle.plan_model.specs.Runs.Textbook.{placed_record, unplaced_record}
-use Rattle.plan_model.specs.Trees.NodeLists.{points_of}
-use Rattle.plan_model.specs.declared.geometry.Point.{Point}
+use Rattle.grown_runs.proofs.Common.{Clear, ClearAt, mark_at, space_of, IsFirstLeast, IsOpenTo, IsFree, IsPresent, node_count, point_at, point_of, class_of}
+use Rattle.grown_runs.proofs.Common.{Handles, IsBestParent, Nodes, Rewires, Setup, SteersTo, near_new, cost_through, placed_record, unplaced_record, points_of}
+use Rattle.grown_runs.proofs.Common.{Point, Record, candidate-reachable, IsPresent-stands, PlacesNode, Contains-after, Contains-first, ConfigurationSpace}
+use Rattle.grown_runs.proofs.Common.{cost_in-tree_word, parent_in-tree_word, seen_point, FirstOf, PointOf, RecordOf, TreeOf, best_word, cost_in, parent_in}
+use Rattle.grown_runs.proofs.Common.{point_of_word, tree_word}
 use Rattle.plan_model.specs.declared.records.Outcome.TheVariants.{Placed as PlacedMark, Same as SameNode}
-use Rattle.plan_model.specs.declared.records.Record.{Record}
-use Rattle.plan_model.proofs.NearNodes.{candidate-reachable}
-use Rattle.plan_model.proofs.NewNodes.{IsPresent-stands}
-use Rattle.plan_model.proofs.TextbookStates.{PlacesNode}
-use Rattle.plan_model.proofs.ListMembers.{Contains-after, Contains-first}
-use Rattle.plan_model.specs.declared.configuration_spaces.ConfigurationSpace.{ConfigurationSpace}
-use Rattle.plan_words.specs.SearchLists.{numbers_of}
-use Rattle.step_core.proofs.Seen.DistinctNumbers.{Contains-cases}
-use Rattle.plan_words.proofs.PostedGoals.{HasPostedGoals-more, HasPostedGoals-step}
-use Rattle.plan_words.proofs.Posting.{lies-at}
-use Rattle.plan_words.specs.Bests.{HasPostedGoals}
-use Rattle.plan_words.specs.States.{PassState, SharedState, turn_of, worker_of}
+use Rattle.plan_words.proofs.Common.{numbers_of, HasPostedGoals-more, HasPostedGoals-step, lies-at, HasPostedGoals, PassState, SharedState, turn_of, worker_of}
+use Rattle.step_core.proofs.Common.{Contains-cases, point_at-seen, has_link, SeesPoint, run_sizes, sees, setup_in, tree_seen, SeesGoal}
 use Rattle.plan_work.proofs.AloneMarks.{KeepsRun, SeesTextbook-recorded, WorksAlone-recorded}
 use Rattle.plan_work.proofs.EqualPoints.{count-same, near_new-same}
 use Rattle.plan_work.proofs.MirroredTrees.{IsBestParent-mirrored, Mirrors-absent, Mirrors-placed, Mirrors-still, SeesNewNode, SteersTo-mirrored}
@@ -41,15 +25,6 @@ use Rattle.plan_work.proofs.SkippedMarks.{has_first-placed}
 use Rattle.plan_work.specs.OneWorker.{IsNotSkippedIn, SeesTextbook, WorksAlone}
 use Rattle.plan_work.specs.WholeShares.{IsFilledWhole, IsSteeredWhole, IsTriedWhole}
 use Rattle.plan_work.specs.declared.mark_placing.Hanging.{Hanging}
-use Rattle.grown_runs.proofs.Table.PackedWords.{cost_in-tree_word, parent_in-tree_word}
-use Rattle.step_core.proofs.Seen.SeenWords.{point_at-seen}
-use Rattle.grown_runs.specs.Table.SeenWords.{seen_point}
-use Rattle.step_core.specs.Stages.{has_link}
-use Rattle.step_core.specs.ViewTrees.{SeesPoint}
-use Rattle.step_core.specs.Views.{run_sizes, sees, setup_in, tree_seen}
-use Rattle.grown_runs.specs.Table.WordNames.Word.{FirstOf, PointOf, RecordOf, TreeOf}
-use Rattle.step_core.specs.SeenBests.{SeesGoal}
-use Rattle.grown_runs.specs.Table.Words.{best_word, cost_in, parent_in, point_of_word, tree_word}
 use Rattle.step_core.specs.declared.views.Hand.{Hand}
 use Rattle.step_core.specs.declared.views.SharedRun.{SharedRun}
 use Rattle.step_core.specs.declared.views.View.{View}

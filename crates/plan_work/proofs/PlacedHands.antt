@@ -5,9 +5,7 @@ use Rattle.kd_shared.specs.Placings.{IsPlaced}
 use Rattle.plan_words.proofs.KeptPairs.{if_hand}
 use Rattle.plan_work.proofs.SkippedMarks.{has_count-placed}
 use Rattle.plan_work.specs.ExtensionSteps.{HasBeenPlaced, placed_hand}
-use Rattle.step_core.specs.ViewSteps.{pair_in_hand}
-use Rattle.step_core.specs.ViewTrees.{SeesPoint}
-use Rattle.step_core.specs.Views.{sees}
+use Rattle.step_core.proofs.Common.{pair_in_hand, SeesPoint, sees}
 use Rattle.grown_runs.specs.Table.WordNames.Word.{FirstOf}
 use Rattle.step_core.specs.declared.views.Hand.{Hand}
 use Rattle.step_core.specs.declared.views.Stage.TheVariants.{Counted}

@@ -4,31 +4,14 @@ use Rattle.std.specs.Prelude.{All, Contains, IfSome, IsTrue}
 use Rattle.std.proofs.lemmas.Bool.{leb-true}
 use Rattle.std.proofs.lemmas.List.Elements.{All-contains}
 use Rattle.kd_shared.specs.declared.placing.Placing.TheVariants.{Placed, Same}
+use Rattle.grown_runs.proofs.Common.{Clear, space_of, cost_of, squared_distance, lies_in_goals, distance_to, is_within, point_at, point_of, class_of}
+use Rattle.grown_runs.proofs.Common.{radius_of_class, Point, Record, cost_of-swap, IsPresent-stands, StandsAt-present, point_of-stands, class_of-le, Clear-back}
+use Rattle.grown_runs.proofs.Common.{Word, Count, FirstOf, RecordOf, TreeOf, cost_in, tree_word}
 use Rattle.plan_model.specs.declared.records.Outcome.TheVariants.{Same as SameNode}
-use Rattle.plan_model.specs.Spaces.Clearance.{Clear}
-use Rattle.plan_model.specs.Spaces.ConfigurationSpace.{space_of}
-use Rattle.plan_model.specs.Geometry.Cost.{cost_of}
-use Rattle.plan_model.specs.Geometry.Plane.{squared_distance}
-use Rattle.plan_model.specs.Trees.BestNode.{lies_in_goals}
-use Rattle.plan_model.specs.Trees.Nearness.{distance_to, is_within}
-use Rattle.plan_model.specs.Trees.PointsByNumber.{point_at, point_of}
-use Rattle.plan_model.specs.Geometry.Radius.{class_of, radius_of_class}
-use Rattle.plan_model.specs.declared.geometry.Point.{Point}
-use Rattle.plan_model.specs.declared.records.Record.{Record}
-use Rattle.plan_model.proofs.CostLaws.{cost_of-swap}
-use Rattle.plan_model.proofs.NewNodes.{IsPresent-stands, StandsAt-present, point_of-stands}
-use Rattle.plan_model.proofs.RecordLaws.{class_of-le}
-use Rattle.plan_model.proofs.SegmentLaws.{Clear-back}
-use Rattle.plan_words.specs.SearchLists.{numbers_of}
-use Rattle.plan_words.specs.States.{GoesOn, PassState, SharedState}
-use Rattle.plan_words.proofs.GoingOn.{GoesOn-trans}
-use Rattle.step_core.specs.SeenRecords.{IsOwnNeighbour, MayBePlaced, MayRecord, is_own_node, own_count, own_first_cost}
+use Rattle.plan_words.proofs.Common.{numbers_of, GoesOn, PassState, SharedState, GoesOn-trans}
+use Rattle.step_core.proofs.Common.{IsOwnNeighbour, MayBePlaced, MayRecord, is_own_node, own_count, own_first_cost, SeesPoint, sight_in, sees, setup_in}
+use Rattle.step_core.proofs.Common.{tree_seen, has_node-recorded, own_recorded, present_recorded}
 use Rattle.kd_shared.specs.Searches.{SweepsWithin}
-use Rattle.step_core.specs.ViewTrees.{SeesPoint, sight_in}
-use Rattle.step_core.specs.Views.{sees, setup_in, tree_seen}
-use Rattle.grown_runs.specs.Table.WordNames.{Word}
-use Rattle.grown_runs.specs.Table.WordNames.Word.{Count, FirstOf, RecordOf, TreeOf}
-use Rattle.grown_runs.specs.Table.Words.{cost_in, tree_word}
 use Rattle.step_core.specs.declared.views.Hand.{Hand}
 use Rattle.step_core.specs.declared.views.SharedRun.{SharedRun}
 use Rattle.step_core.specs.declared.views.View.{View}
@@ -36,7 +19,6 @@ use Rattle.tree_rewire.proofs.SeenCosts.{SeesPair-later, cost_seen-later, stands
 use Rattle.tree_rewire.proofs.SpreadFalls.{HasSpreadFalls-still}
 use Rattle.tree_rewire.specs.Rewirings.{HasSpreadFalls}
 use Rattle.tree_rewire.specs.SeenCosts.{IsLoadedSince, NamesTreeOrPoint, SeesAnew, SeesPair, cost_seen}
-use Rattle.step_core.proofs.OneView.RecordedNodes.{has_node-recorded, own_recorded, present_recorded}
 use Rattle.plan_work.proofs.FilledNear.{looked_still}
 use Rattle.plan_work.proofs.KeptSights.{SweepsWithin-still}
 use Rattle.plan_work.proofs.HeldMarks.{if_held, of_held}

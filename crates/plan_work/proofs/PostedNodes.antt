@@ -2,18 +2,10 @@
 use Rattle.std.proofs.Common.{◌≡◌, ℕ, suc, ◌≤◌, ◌⊎◌, Bool, true, false, Some, cond, inl, inr, refl, sym, ap, ◌∙◌, subst, arith}
 use Rattle.std.proofs.lemmas.Bool.{cases_Bool, eq-eqb}
 use Rattle.kd_shared.specs.Placings.{GoesOnPlacing, IsPlaced, KeepsShare}
-use Rattle.plan_model.specs.Trees.BestNode.{lies_in_goals}
-use Rattle.plan_model.specs.declared.geometry.Point.{Point}
-use Rattle.plan_words.proofs.GoingOn.{GoesOn-trans}
-use Rattle.plan_words.specs.Claims.{SeesAsBefore}
-use Rattle.plan_words.specs.States.{GoesOn, PassState, with_view}
+use Rattle.grown_runs.proofs.Common.{lies_in_goals, Point, cost_in-tree_word, FirstOf, TreeOf, best_word, cost_in}
+use Rattle.plan_words.proofs.Common.{GoesOn-trans, SeesAsBefore, GoesOn, PassState, with_view}
 use Rattle.plan_work.specs.ExtensionSteps.{HasBeenPlaced, placed_hand, placed_stage}
-use Rattle.grown_runs.proofs.Table.PackedWords.{cost_in-tree_word}
-use Rattle.step_core.specs.ViewSteps.{hand_with_post, with_best}
-use Rattle.step_core.specs.ViewTrees.{SeesPoint}
-use Rattle.step_core.specs.Views.{sees}
-use Rattle.grown_runs.specs.Table.WordNames.Word.{FirstOf, TreeOf}
-use Rattle.grown_runs.specs.Table.Words.{best_word, cost_in}
+use Rattle.step_core.proofs.Common.{hand_with_post, with_best, SeesPoint, sees}
 use Rattle.step_core.specs.declared.views.Hand.{Hand}
 use Rattle.step_core.specs.declared.views.SharedRun.{SharedRun}
 use Rattle.step_core.specs.declared.views.Stage.TheVariants.{Counted, Posted}

@@ -3,34 +3,13 @@ use Rattle.std.proofs.Common.{◌≡◌, ◌≢◌, ℕ, zero, suc, ◌+◌, tru
 use Rattle.std.specs.Prelude.{false, IfSome}
 use Rattle.std.proofs.lemmas.List.Elements.{filter_agree}
 use Rattle.std.specs.List.{filter, range_with_len}
-use Rattle.plan_model.specs.Runs.ClosedLaw.{mark_at}
-use Rattle.plan_model.specs.Trees.LeastPairs.{IsNotAbove}
-use Rattle.plan_model.specs.Trees.Nearness.{distance_to}
-use Rattle.plan_model.specs.Runs.Outcomes.{is_placed}
-use Rattle.plan_model.specs.Trees.PointsByNumber.{IsPresent, point_of}
-use Rattle.plan_model.specs.Geometry.Steering.{steered}
-use Rattle.plan_model.specs.declared.geometry.Point.{Point}
-use Rattle.plan_model.specs.declared.records.Outcome.{Outcome}
-use Rattle.plan_model.specs.declared.records.Outcome.TheVariants.{Placed}
-use Rattle.plan_model.specs.declared.records.Record.{Record}
-use Rattle.plan_model.proofs.NewNodes.{IsPresent-stands, point_of-stands}
-use Rattle.plan_words.specs.States.{GoesOn, MayClaim, PassState, SharedState, turn_of, with_view, worker_of}
-use Rattle.plan_words.proofs.GoingOn.{GoesOn-trans}
-use Rattle.plan_words.proofs.Tying.{entry_fits}
-use Rattle.step_core.proofs.Parts.LawfulRecords.{is_own_node-earlier}
-use Rattle.grown_runs.proofs.Table.PackedRecords.{record_of_word-packed}
-use Rattle.step_core.proofs.OneView.RecordedNodes.{has_node-recorded, own_recorded, present_recorded}
-use Rattle.step_core.proofs.Seen.SeenByViews.{WritesWord-saw}
-use Rattle.grown_runs.specs.Runs.GrownWords.{has_node, record_at}
-use Rattle.step_core.specs.LaterViews.{IsLawfulView}
-use Rattle.step_core.specs.SeenBests.{IsUnskipped}
-use Rattle.step_core.specs.SeenRecords.{MayBePlaced, MayEnd, MayRecord, MaySteer, is_own_node, own_count}
-use Rattle.step_core.specs.Stages.{has_count, has_first}
-use Rattle.step_core.specs.ViewSteps.{finished, one_turn_more, pair_in_hand}
-use Rattle.step_core.specs.Views.{sees, tree_seen}
-use Rattle.grown_runs.specs.Table.WordNames.{Word, WritesWord}
-use Rattle.grown_runs.specs.Table.WordNames.Word.{Counter, FirstOf, RecordOf}
-use Rattle.grown_runs.specs.Table.Words.{IsFirstWord, record_of_word, record_word}
+use Rattle.grown_runs.proofs.Common.{mark_at, IsNotAbove, distance_to, is_placed, IsPresent, point_of, steered, Point, Outcome, Placed, Record}
+use Rattle.grown_runs.proofs.Common.{IsPresent-stands, point_of-stands, record_of_word-packed, has_node, record_at, Word, WritesWord, Counter, FirstOf}
+use Rattle.grown_runs.proofs.Common.{RecordOf, IsFirstWord, record_of_word, record_word}
+use Rattle.plan_words.proofs.Common.{GoesOn, MayClaim, PassState, SharedState, turn_of, with_view, worker_of, GoesOn-trans, entry_fits}
+use Rattle.step_core.proofs.Common.{is_own_node-earlier, has_node-recorded, own_recorded, present_recorded, WritesWord-saw, IsLawfulView, IsUnskipped}
+use Rattle.step_core.proofs.Common.{MayBePlaced, MayEnd, MayRecord, MaySteer, is_own_node, own_count, has_count, has_first, finished, one_turn_more}
+use Rattle.step_core.proofs.Common.{pair_in_hand, sees, tree_seen}
 use Rattle.step_core.specs.declared.views.Hand.{Hand}
 use Rattle.step_core.specs.declared.views.SharedRun.{SharedRun}
 use Rattle.step_core.specs.declared.views.Stage.{Stage}

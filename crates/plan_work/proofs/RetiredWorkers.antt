@@ -3,8 +3,7 @@ use Rattle.std.proofs.Common.{◌≡◌, ℕ, zero, suc, ◌<◌, List, length, 
 use Rattle.std.specs.Prelude.{◌++◌, [], ◌∷◌, All, IsSome, option_to_list, slice_index_or}
 use Rattle.std.proofs.Math.Seq.{take-append_seam}
 use lib.ListN.{drop, take}
-use Rattle.plan_words.specs.Claims.{AllFull}
-use Rattle.plan_words.specs.States.{GoesOn, MayClaim, PassState, SharedState, new_pass}
+use Rattle.plan_words.proofs.Common.{AllFull, GoesOn, MayClaim, PassState, SharedState, new_pass}
 use Rattle.plan_work.specs.OneWorker.{HandlesRest}
 use Rattle.plan_work.specs.Workers.{HasDone, HasLeft, HasStopped, HasWorked, IsReady, left_by, left_of, workers_with}
 use Rattle.plan_work.specs.declared.growing.Worker.{Worker}

@@ -3,21 +3,11 @@ use Rattle.std.proofs.Common.{◌≡◌, ℕ, zero, suc, ◌<◌, ◌≤◌, Lis
 use Rattle.std.specs.Prelude.{◌⊎◌, [], ◌∷◌, All, slice_index_or}
 use lib.ListN.{get_elem?}
 use mathlib.Core.Option.{some}
-use Rattle.plan_model.specs.Scenes.MarkPoints.{quota_of}
-use Rattle.plan_model.proofs.StripMarks.{quotas-add_up}
-use Rattle.plan_words.specs.Claims.{AllFull, HasNoneLeft}
-use Rattle.plan_words.specs.States.{MayClaim, PassState, SharedState, StartsAs, without_best}
-use Rattle.grown_runs.proofs.Table.WordKinds.{AreBehind-trans}
-use Rattle.step_core.specs.Views.{run_of, sees, share}
-use Rattle.plan_model.proofs.SumsBelow.{sum-le}
-use Rattle.grown_runs.specs.Table.WordKinds.{AreBehind, MayBecome, kind_of}
-use Rattle.grown_runs.specs.Table.WordNames.{Words}
-use Rattle.grown_runs.specs.Table.WordNames.Word.{Best, ChildOf, Count, Counter, FirstOf, PointOf, RecordOf, TreeOf}
-use Rattle.grown_runs.specs.Runs.GrownRuns.{state_of_grown, words_of_grown}
-use Rattle.step_core.specs.LastViews.{StandsAsSeen}
+use Rattle.grown_runs.proofs.Common.{quota_of, quotas-add_up, AreBehind-trans, sum-le, AreBehind, MayBecome, kind_of, Words, Best, ChildOf, Count, Counter}
+use Rattle.grown_runs.proofs.Common.{FirstOf, PointOf, RecordOf, TreeOf, state_of_grown, words_of_grown, GrowsInto, TreeState}
+use Rattle.plan_words.proofs.Common.{AllFull, HasNoneLeft, MayClaim, PassState, SharedState, StartsAs, without_best}
+use Rattle.step_core.proofs.Common.{run_of, sees, share, StandsAsSeen, GrowsInto-seen}
 use Rattle.grown_runs.specs.declared.grown.Grown.{Grown}
-use Rattle.step_core.proofs.Whole.GrownFromWords.{GrowsInto-seen}
-use Rattle.plan_model.specs.Trees.TreeStates.{GrowsInto, TreeState}
 use Rattle.plan_work.proofs.LoneRuns.{HasHandled-started}
 use Rattle.plan_work.specs.OneWorker.{HasHandled, IsOfTextbook}
 use Rattle.plan_work.specs.Workers.{HasDone, HasTakenOver, shares_of}

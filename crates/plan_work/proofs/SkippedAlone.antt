@@ -1,22 +1,12 @@
 -- A pass that works alone loads the best word: it is the best goal node of the textbook tree that it sees, and by it marks are skipped or not.
 use Rattle.std.proofs.Common.{◌≢◌, ℕ, ◌<◌, ◌≤◌, ◌^◌, arith, sym, ap, subst}
 use Rattle.std.specs.Prelude.{IsTrue}
-use Rattle.plan_model.specs.Runs.ClosedLaw.{mark_at}
-use Rattle.plan_model.specs.Runs.Textbook.{IsBestGoalNode, MayBeCheaper, Nodes, mark_bound}
-use Rattle.plan_model.specs.Trees.BestNode.{IsGoalNode, is_goal_point}
-use Rattle.plan_model.specs.Trees.LeastPairs.{IsNotAbove}
-use Rattle.plan_model.specs.Trees.NodeLists.{points_of, sum_of}
-use Rattle.plan_model.specs.Trees.PointsByNumber.{IsPresent, point_at}
-use Rattle.plan_model.proofs.BestNodeLaws.{IsPresent-goal}
-use Rattle.plan_words.proofs.PostedGoals.{SeesGoal-kept}
-use Rattle.plan_words.specs.Bests.{FindsGoalNode, HasPostedGoals}
+use Rattle.grown_runs.proofs.Common.{mark_at, IsBestGoalNode, MayBeCheaper, Nodes, mark_bound, IsGoalNode, is_goal_point, IsNotAbove, points_of, sum_of}
+use Rattle.grown_runs.proofs.Common.{IsPresent, point_at, IsPresent-goal, PointOf, TreeOf, best_cost_in, best_node_in, best_word, cost_in, no_best}
+use Rattle.plan_words.proofs.Common.{SeesGoal-kept, FindsGoalNode, HasPostedGoals}
 use Rattle.plan_work.specs.OneWorker.{IsNotSkippedIn}
 use Rattle.plan_work.specs.WholeShares.{SeesButCount}
-use Rattle.step_core.specs.LaterViews.{IsLater, IsLawfulView}
-use Rattle.step_core.specs.SeenBests.{SeesGoal}
-use Rattle.step_core.specs.Views.{setup_in, tree_seen}
-use Rattle.grown_runs.specs.Table.WordNames.Word.{PointOf, TreeOf}
-use Rattle.grown_runs.specs.Table.Words.{best_cost_in, best_node_in, best_word, cost_in, no_best}
+use Rattle.step_core.proofs.Common.{IsLater, IsLawfulView, SeesGoal, setup_in, tree_seen}
 use Rattle.step_core.specs.declared.views.SharedRun.{SharedRun}
 use Rattle.step_core.specs.declared.views.View.{View}
 use Rattle.tree_rewire.specs.Mirrors.{Mirrors}

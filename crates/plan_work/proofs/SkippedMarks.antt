@@ -2,17 +2,10 @@
 use Rattle.std.proofs.Common.{◌≡◌, Bool, true, false, List, Some, cond, refl, sym, ap, ◌∙◌, subst}
 use Rattle.std.specs.Prelude.{◌<◌}
 use Rattle.std.proofs.lemmas.Option.{same_Some}
-use Rattle.plan_model.specs.Runs.ClosedLaw.{mark_at}
-use Rattle.plan_model.specs.Runs.Textbook.{mark_bound}
-use Rattle.plan_model.specs.Trees.BestNode.{lies_in_goals}
-use Rattle.plan_model.specs.declared.geometry.Goal.{Goal}
-use Rattle.plan_model.specs.declared.geometry.Point.{Point}
+use Rattle.grown_runs.proofs.Common.{mark_at, mark_bound, lies_in_goals, Goal, Point, best_cost_in}
 use Rattle.plan_words.specs.Bests.{HasPostedHand}
 use Rattle.plan_work.specs.ExtensionSteps.{placed_hand, placed_stage}
-use Rattle.step_core.specs.SeenBests.{IsInformed, IsUnskipped}
-use Rattle.step_core.specs.Stages.{has_count, has_first}
-use Rattle.step_core.specs.Views.{setup_in}
-use Rattle.grown_runs.specs.Table.Words.{best_cost_in}
+use Rattle.step_core.proofs.Common.{IsInformed, IsUnskipped, has_count, has_first, setup_in}
 use Rattle.step_core.specs.declared.views.Hand.{Hand}
 use Rattle.step_core.specs.declared.views.SharedRun.{SharedRun}
 use Rattle.step_core.specs.declared.views.Stage.TheVariants.{Counted, Posted}

@@ -4,22 +4,12 @@ use Rattle.std.proofs.Common.{refl, sym, ap, ◌∙◌, subst, arith}
 use Rattle.std.specs.Prelude.{◌==◌, IfSome, IsSome, Option}
 use Rattle.std.proofs.lemmas.Bool.{cases_Bool, eq-eqb, eqb-true}
 use Rattle.std.proofs.lemmas.Option.{same_Some}
-use Rattle.plan_model.specs.Runs.ClosedLaw.{mark_at}
-use Rattle.plan_model.specs.Runs.Textbook.{Handles, IsBestGoalNode, mark_bound, skipped_record, unplaced_record}
-use Rattle.plan_model.specs.Seen.Sights.{IsSwept}
+use Rattle.grown_runs.proofs.Common.{mark_at, Handles, IsBestGoalNode, mark_bound, skipped_record, unplaced_record, IsSwept, sum_of, Point, Outcome, Blocked}
+use Rattle.grown_runs.proofs.Common.{Placed, Same, Skipped, Record, MayBeCheaper-not_skipping, goals-some, record_at, Counter, RecordOf, TreeOf, best_cost_in}
+use Rattle.grown_runs.proofs.Common.{best_node_in, best_of_word, cost_in, no_best, record_word}
 use Rattle.plan_model.specs.Trees.GoalBounds.{bound_of}
-use Rattle.plan_model.specs.Trees.NodeLists.{sum_of}
-use Rattle.plan_model.specs.declared.geometry.Point.{Point}
-use Rattle.plan_model.specs.declared.records.Outcome.{Outcome}
-use Rattle.plan_model.specs.declared.records.Outcome.TheVariants.{Blocked, Placed, Same, Skipped}
-use Rattle.plan_model.specs.declared.records.Record.{Record}
-use Rattle.plan_model.proofs.GoalNodes.{MayBeCheaper-not_skipping}
-use Rattle.plan_model.proofs.SceneBounds.{goals-some}
-use Rattle.plan_words.specs.Bests.{FindsGoalNode}
-use Rattle.plan_words.specs.Claims.{SeesAsBefore}
-use Rattle.plan_words.proofs.GoingOn.{BelongsTo-later, GoesOn-trans}
-use Rattle.plan_words.proofs.PlainScenes.{no_goals}
-use Rattle.plan_words.specs.States.{BelongsTo, GoesOn, PassState, SharedState, run_in, turn_of, with_view, worker_of}
+use Rattle.plan_words.proofs.Common.{FindsGoalNode, SeesAsBefore, BelongsTo-later, GoesOn-trans, no_goals, BelongsTo, GoesOn, PassState, SharedState, run_in}
+use Rattle.plan_words.proofs.Common.{turn_of, with_view, worker_of}
 use Rattle.plan_work.proofs.AloneMarks.{KeepsRun-refl, SeesTextbook-recorded, SeesTextbook-still, WorksAlone-recorded, WorksAlone-still}
 use Rattle.plan_work.proofs.HeldMarks.{Holding, holding, if_held, of_held}
 use Rattle.plan_work.proofs.MirroredTrees.{Mirrors-absent}
@@ -30,14 +20,8 @@ use Rattle.plan_work.specs.Extensions.{EndsAsSeen, EndsAsSteered, HandlesMark, I
 use Rattle.plan_work.specs.Extensions.{WasNotSkipped, WasSkipped, WasSteered, steered_point}
 use Rattle.plan_work.specs.ExtensionSteps.{HasLoadedBest, HasRecorded, KeepsRecords, own_unplaced}
 use Rattle.plan_work.specs.OneWorker.{IsNotSkippedIn, SeesTextbook, WorksAlone}
-use Rattle.grown_runs.specs.Runs.GrownWords.{record_at}
-use Rattle.step_core.specs.LaterViews.{IsLawfulView}
-use Rattle.step_core.specs.SeenBests.{IsInformed, IsUnskipped, MayBeSkipped, SeesGoal}
-use Rattle.step_core.specs.ViewSteps.{best_loaded, best_taken, finished, hand_with_best}
-use Rattle.step_core.specs.ViewTrees.{SeesPoint, sight_in}
-use Rattle.step_core.specs.Views.{sees, setup_in, tree_seen}
-use Rattle.grown_runs.specs.Table.WordNames.Word.{Counter, RecordOf, TreeOf}
-use Rattle.grown_runs.specs.Table.Words.{best_cost_in, best_node_in, best_of_word, cost_in, no_best, record_word}
+use Rattle.step_core.proofs.Common.{IsLawfulView, IsInformed, IsUnskipped, MayBeSkipped, SeesGoal, best_loaded, best_taken, finished, hand_with_best, SeesPoint}
+use Rattle.step_core.proofs.Common.{sight_in, sees, setup_in, tree_seen}
 use Rattle.step_core.specs.declared.views.Hand.{Hand}
 use Rattle.step_core.specs.declared.views.SharedRun.{SharedRun}
 use Rattle.step_core.specs.declared.views.Stage.{Stage}

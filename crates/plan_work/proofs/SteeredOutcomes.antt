@@ -1,18 +1,10 @@
 -- What each outcome of a mark that is not skipped says of the nearest node, and of the point to which it steered.
 use Rattle.std.proofs.Common.{◌≡◌, ◌≢◌, ℕ, suc, refl, sym, ap, ◌∙◌, subst}
-use Rattle.plan_model.specs.Runs.ClosedLaw.{mark_at}
-use Rattle.plan_model.specs.Trees.PointsByNumber.{IsFree}
-use Rattle.plan_model.specs.Geometry.Steering.{steered}
-use Rattle.plan_model.specs.declared.geometry.Point.{Point}
-use Rattle.plan_model.specs.declared.records.Outcome.{Outcome}
-use Rattle.plan_model.specs.declared.records.Outcome.TheVariants.{Blocked, Placed, Same, Skipped}
-use Rattle.plan_model.specs.declared.records.Record.{Record}
-use Rattle.plan_model.proofs.NewNodes.{point_of-stands}
-use Rattle.step_core.specs.Views.{tree_seen}
+use Rattle.grown_runs.proofs.Common.{mark_at, IsFree, steered, Point, Outcome, Blocked, Placed, Same, Skipped, Record, point_of-stands}
+use Rattle.step_core.proofs.Common.{tree_seen, SeesPoint}
 use Rattle.step_core.specs.declared.views.View.{View}
 use Rattle.plan_work.specs.Extensions.{EndsAsSeen, EndsAsSteered, HasSteered, IsPlacedAt, WasNotSkipped, WasSteered, steered_point}
 use Rattle.plan_work.specs.ExtensionSteps.{EndsWritten}
-use Rattle.step_core.specs.ViewTrees.{SeesPoint}
 
 module _ (before after : View) (k : ℕ) (entry : Record) where
   -- a mark that was steered to p, and ended there

@@ -4,9 +4,8 @@ use Rattle.std.specs.Prelude.{◌++◌, ◌⊎◌, [], ◌∷◌, All, max, slic
 use Rattle.std.proofs.lemmas.Bool.{cases_lt}
 use Rattle.std.proofs.lemmas.List.{append_assoc}
 use Rattle.plan_words.specs.States.{MayClaim, PassState, SharedState}
-use Rattle.grown_runs.proofs.Table.WordKinds.{AreBehind-refl, AreBehind-trans}
+use Rattle.grown_runs.proofs.Common.{AreBehind-refl, AreBehind-trans, AreBehind}
 use Rattle.step_core.specs.Views.{sees, share}
-use Rattle.grown_runs.specs.Table.WordKinds.{AreBehind}
 use Rattle.plan_work.specs.Workers.{HasTakenOver}
 
 -- what holds of all of two lists holds of the first, and of the one that comes next

@@ -1,14 +1,8 @@
 -- Textbook runs at their two ends: the start alone, and all marks of a scene.
 use Rattle.std.proofs.Common.{◌≡◌, [], length, take, sym, ap, ◌∙◌, subst, arith}
 use Rattle.std.proofs.lemmas.List.{take_all}
-use Rattle.plan_model.specs.Scenes.MarkPoints.{mark_points}
-use Rattle.plan_model.specs.Runs.SameRuns.{IsOfTextbookRun}
-use Rattle.plan_model.specs.Runs.Textbook.{IsTextbookRun, setup_of, start_alone}
-use Rattle.plan_model.specs.Trees.TreeStates.{AreSameRuns, state_of}
-use Rattle.plan_model.specs.declared.scenes.Scene.{Scene}
-use Rattle.plan_model.specs.declared.tasks.Task.{Task}
+use Rattle.grown_runs.proofs.Common.{mark_points, IsOfTextbookRun, IsTextbookRun, setup_of, start_alone, AreSameRuns, state_of, Scene, Task, state_of_grown}
 use Rattle.plan_work.specs.OneWorker.{IsOfTextbook}
-use Rattle.grown_runs.specs.Runs.GrownRuns.{state_of_grown}
 use Rattle.grown_runs.specs.declared.grown.Grown.{Grown}
 
 -- the start alone is the run over no marks

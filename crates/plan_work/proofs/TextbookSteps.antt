@@ -2,23 +2,10 @@
 use Rattle.std.proofs.Common.{◌≡◌, ℕ, suc, ◌+◌, ◌<◌, ◌≤◌, Some, None, List, [], ◌∷◌, ◌++◌, length, take, arith, refl, sym, ap, ◌∙◌, subst, inl, inr}
 use Rattle.std.proofs.lemmas.List.{length-set, length-take-le}
 use Rattle.std.proofs.Math.Seq.{take-suc}
-use Rattle.plan_model.specs.Spaces.Clearance.{Clear, ClearAt}
-use Rattle.plan_model.specs.Runs.ClosedLaw.{mark_at}
-use Rattle.plan_model.specs.declared.configuration_spaces.ConfigurationSpace.{ConfigurationSpace}
-use Rattle.plan_model.specs.Runs.OrderLaw.{KeepsOrder}
-use Rattle.plan_model.specs.Trees.PointsByNumber.{IsFree, StandsAt, node_count, point_of}
-use Rattle.plan_model.specs.Geometry.Radius.{class_of}
-use Rattle.plan_model.specs.Runs.Textbook.{Ends, Handles, HandlesAll, IsBestParent, IsTextbookRun, MayBeCheaper, Nodes, Rewires, RewiresOne, Setup, SteersTo}
-use Rattle.plan_model.specs.Runs.Textbook.{blocked_record, cost_through, near_new, placed_record, same_record, start_alone}
-use Rattle.plan_model.specs.Trees.NodeLists.{points_of, sum_of}
-use Rattle.plan_model.specs.Trees.TreeStates.{state_of}
-use Rattle.plan_model.specs.declared.geometry.Point.{Point}
-use Rattle.plan_model.specs.declared.records.Outcome.{Outcome}
-use Rattle.plan_model.specs.declared.records.Outcome.TheVariants.{Blocked, Placed, Same, Skipped}
-use Rattle.plan_model.specs.declared.records.Record.{Record}
-use Rattle.plan_model.proofs.RunLaws.{HandlesAll-length, HandlesAll-push}
-use Rattle.plan_model.proofs.TextbookRuns.{IsClosed-textbook}
-use Rattle.plan_model.proofs.TextbookStates.{RecordsNext}
+use Rattle.grown_runs.proofs.Common.{Clear, ClearAt, mark_at, ConfigurationSpace, KeepsOrder, IsFree, StandsAt, node_count, point_of, class_of, Ends, Handles}
+use Rattle.grown_runs.proofs.Common.{HandlesAll, IsBestParent, IsTextbookRun, MayBeCheaper, Nodes, Rewires, RewiresOne, Setup, SteersTo, blocked_record}
+use Rattle.grown_runs.proofs.Common.{cost_through, near_new, placed_record, same_record, start_alone, points_of, sum_of, state_of, Point, Outcome, Blocked}
+use Rattle.grown_runs.proofs.Common.{Placed, Same, Skipped, Record, HandlesAll-length, HandlesAll-push, IsClosed-textbook, RecordsNext}
 use Rattle.std.proofs.Common.{length-append}
 
 -- ---- the length of a tree

@@ -3,14 +3,8 @@ use Rattle.std.proofs.Common.{◌≡◌, ℕ, zero, suc, ◌+◌, ◌<◌, ◌�
 use Rattle.std.specs.Prelude.{slice_get}
 use Rattle.std.proofs.lemmas.Bool.{cases_lt, eq-eqb}
 use Rattle.std.proofs.lemmas.Option.{slice_get_past}
-use Rattle.plan_model.specs.Runs.Textbook.{Ends, HandlesAll, Nodes, Setup}
-use Rattle.plan_model.specs.Runs.Turns.{is_of_worker, turns_of}
-use Rattle.plan_model.specs.declared.geometry.Point.{Point}
-use Rattle.plan_model.specs.declared.records.Outcome.{Outcome}
-use Rattle.plan_model.specs.declared.records.Outcome.TheVariants.{Blocked, Placed, Same, Skipped}
-use Rattle.plan_model.specs.declared.records.Record.{Record}
-use Rattle.plan_model.proofs.CountsBelow.{count-all, count-longer, count-same}
-use Rattle.plan_model.proofs.RunLaws.{HandlesAll-length}
+use Rattle.grown_runs.proofs.Common.{Ends, HandlesAll, Nodes, Setup, is_of_worker, turns_of, Point, Outcome, Blocked, Placed, Same, Skipped, Record, count-all}
+use Rattle.grown_runs.proofs.Common.{count-longer, count-same, HandlesAll-length}
 
 worker-ends : (setup : Setup) (tree : Nodes) (k : ℕ) (mark : Point) (outcome : Outcome) (entry : Record) (after : Nodes)
     → Ends setup tree k mark outcome entry after → entry.worker ≡ 0

@@ -2,31 +2,18 @@
 use Rattle.std.proofs.Common.{◌≡◌, ℕ, ◌+◌, ◌*◌, ◌≤◌, List, arith, sym, ap, ◌∙◌, subst}
 use Rattle.std.specs.Prelude.{All, Contains, IfSome}
 use Rattle.std.proofs.lemmas.List.Elements.{All-contains}
-use Rattle.plan_model.specs.Geometry.Cost.{cost_of}
-use Rattle.plan_model.specs.Spaces.ConfigurationSpace.{space_of}
+use Rattle.grown_runs.proofs.Common.{cost_of, space_of, Clear, ConfigurationSpace, mark_at, squared_distance, distance_to, point_of, class_of, radius_of_class}
+use Rattle.grown_runs.proofs.Common.{Point, IsPresent-stands, point_of-stands, IsStep-steered, Count, Counter, RecordOf}
 use Rattle.tree_rewire.proofs.FoundLists.{numbers-weighed}
 use Rattle.tree_rewire.proofs.ChosenFound.{AllWeighed-seen}
 use Rattle.tree_rewire.specs.FoundNodes.{IsWeighed, StandsAsFound}
 use Rattle.kd_shared.specs.Placings.{GoesOnPlacing, KeepsShare}
 use Rattle.kd_shared.specs.declared.placing.Placing.{Placing}
-use Rattle.plan_model.specs.Spaces.Clearance.{Clear}
-use Rattle.plan_model.specs.declared.configuration_spaces.ConfigurationSpace.{ConfigurationSpace}
-use Rattle.plan_model.specs.Runs.ClosedLaw.{mark_at}
-use Rattle.plan_model.specs.Geometry.Plane.{squared_distance}
-use Rattle.plan_model.specs.Trees.Nearness.{distance_to}
-use Rattle.plan_model.specs.Trees.PointsByNumber.{point_of}
-use Rattle.plan_model.specs.Geometry.Radius.{class_of, radius_of_class}
 use Rattle.kd_shared.specs.Searches.{SweepsWithin}
-use Rattle.step_core.specs.ViewTrees.{sight_in}
+use Rattle.step_core.proofs.Common.{sight_in, sees, tree_seen}
 use Rattle.step_core.specs.declared.views.SharedRun.{SharedRun}
-use Rattle.plan_model.specs.declared.geometry.Point.{Point}
-use Rattle.plan_model.proofs.NewNodes.{IsPresent-stands, point_of-stands}
-use Rattle.plan_model.proofs.SteeringLaws.{IsStep-steered}
-use Rattle.plan_words.specs.SearchLists.{numbers_of, weighed}
-use Rattle.plan_words.specs.States.{BelongsTo, GoesOn, PassState, SharedState}
+use Rattle.plan_words.proofs.Common.{numbers_of, weighed, BelongsTo, GoesOn, PassState, SharedState}
 use Rattle.plan_words.specs.declared.spots.Found.{Found}
-use Rattle.step_core.specs.Views.{sees, tree_seen}
-use Rattle.grown_runs.specs.Table.WordNames.Word.{Count, Counter, RecordOf}
 use Rattle.step_core.specs.declared.views.Hand.{Hand}
 use Rattle.step_core.specs.declared.views.View.{View}
 use Rattle.tree_rewire.proofs.ChosenParents.{IsInReach-later}

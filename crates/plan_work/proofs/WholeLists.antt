@@ -1,28 +1,15 @@
 -- Near lists and nearest nodes of a pass with the share of all workers, while it is shown nothing new but the count.
 use Rattle.std.proofs.Common.{◌≡◌, ℕ, ◌+◌, Some, List, ◌∷◌, length, sym, ap, ◌∙◌, subst}
-use Rattle.plan_model.specs.Runs.ClosedLaw.{mark_at}
-use Rattle.plan_model.specs.declared.configuration_spaces.ConfigurationSpace.{ConfigurationSpace}
-use Rattle.plan_model.specs.Geometry.Cost.{cost_of}
-use Rattle.plan_model.specs.Trees.LeastPairs.{IsFirstLeast}
-use Rattle.plan_model.specs.Trees.Nearness.{near}
-use Rattle.plan_model.specs.Trees.OpenNodes.{IsOpenTo}
-use Rattle.plan_model.specs.Trees.PointsByNumber.{IsPresent, node_count, point_of}
-use Rattle.plan_model.specs.Geometry.Radius.{class_of, radius_of, radius_of_class}
-use Rattle.plan_model.specs.Geometry.Steering.{steered}
-use Rattle.plan_model.specs.Runs.Textbook.{SteersTo, near_new}
-use Rattle.plan_model.specs.declared.geometry.Point.{Point}
-use Rattle.plan_model.proofs.NewNodes.{IsPresent-stands, point_of-stands}
-use Rattle.plan_words.specs.Claims.{SeesAsBefore}
+use Rattle.grown_runs.proofs.Common.{mark_at, ConfigurationSpace, cost_of, IsFirstLeast, near, IsOpenTo, IsPresent, node_count, point_of, class_of, radius_of}
+use Rattle.grown_runs.proofs.Common.{radius_of_class, steered, SteersTo, near_new, Point, IsPresent-stands, point_of-stands, PointOf, TreeOf, cost_in}
+use Rattle.plan_words.proofs.Common.{SeesAsBefore, HasWholeShare, PassState, SharedState}
 use Rattle.plan_words.specs.declared.spots.Found.{Found}
 use Rattle.tree_rewire.specs.FoundNodes.{AreOf}
-use Rattle.plan_words.specs.States.{HasWholeShare, PassState, SharedState}
 use Rattle.plan_work.proofs.MirroredTrees.{points_still}
 use Rattle.plan_work.specs.Extensions.{HasSteered}
 use Rattle.plan_work.specs.ExtensionSteps.{KeepsRecords}
 use Rattle.plan_work.specs.WholeShares.{HasCounted, IsBestHanging, IsFilledWhole, IsSteeredWhole, SeesButCount}
 use Rattle.step_core.specs.Views.{sees, setup_in, tree_seen}
-use Rattle.grown_runs.specs.Table.WordNames.Word.{PointOf, TreeOf}
-use Rattle.grown_runs.specs.Table.Words.{cost_in}
 use Rattle.step_core.specs.declared.views.Hand.{Hand}
 use Rattle.step_core.specs.declared.views.SharedRun.{SharedRun}
 use Rattle.step_core.specs.declared.views.Stage.TheVariants.{Claimed}

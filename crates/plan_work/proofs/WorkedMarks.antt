@@ -3,17 +3,12 @@ use Rattle.std.proofs.Common.{◌≡◌, ◌≢◌, ℕ, ◌+◌, ◌-◌, ◌<�
 use Rattle.std.specs.Prelude.{◌⊎◌, [], ◌∷◌, max}
 use Rattle.std.proofs.lemmas.Bool.{cases_eq, cases_lt}
 use lib.ListN.{get_elem?}
-use Rattle.plan_model.specs.declared.records.Record.{Record}
-use Rattle.plan_words.specs.Claims.{AllLoaded, IsClaimed}
-use Rattle.plan_words.specs.States.{GoesOn, PassState, SharedState, turn_of, worker_of}
-use Rattle.step_core.specs.ViewSteps.{new_hand, one_turn_more}
-use Rattle.step_core.specs.Views.{sees}
-use Rattle.grown_runs.specs.Table.WordNames.{ChangesOnly, IsCounter}
-use Rattle.grown_runs.specs.Table.WordNames.Word.{RecordOf}
+use Rattle.grown_runs.proofs.Common.{Record, ChangesOnly, IsCounter, RecordOf}
+use Rattle.plan_words.proofs.Common.{AllLoaded, IsClaimed, GoesOn, PassState, SharedState, turn_of, worker_of, GoesOn-more, GoesOn-trans, HasGoneOn}
+use Rattle.plan_words.proofs.Common.{HasMember-held}
+use Rattle.step_core.proofs.Common.{new_hand, one_turn_more, sees}
 use Rattle.step_core.specs.declared.views.Member.{Member}
 use Rattle.step_core.specs.declared.views.View.{View}
-use Rattle.plan_words.proofs.GoingOn.{GoesOn-more, GoesOn-trans, HasGoneOn}
-use Rattle.plan_words.proofs.Tying.{HasMember-held}
 use Rattle.plan_work.specs.Extensions.{HandlesMark, IsExtended}
 use Rattle.plan_work.specs.Workers.{AllExtended, HasWorked}
 

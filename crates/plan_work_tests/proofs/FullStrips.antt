@@ -1,9 +1,7 @@
 -- Strips of which no mark is left, as a pass has seen it.
 use Rattle.std.proofs.Common.{ℕ, ◌<◌, ap, subst, arith}
-use Rattle.plan_words.specs.Claims.{AllFull}
-use Rattle.plan_words.specs.States.{GoesOn}
-use Rattle.plan_model.specs.Scenes.MarkPoints.{quota_of}
-use Rattle.grown_runs.specs.Table.WordNames.Word.{Counter}
+use Rattle.plan_words.proofs.Common.{AllFull, GoesOn}
+use Rattle.grown_runs.proofs.Common.{quota_of, Counter}
 use Rattle.step_core.specs.declared.views.View.{View}
 
 -- none is left later, as counters only rise

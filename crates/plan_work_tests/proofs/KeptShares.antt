@@ -1,12 +1,10 @@
 -- What steps and whole marks leave of the share of a pass.
 use Rattle.std.proofs.Common.{ℕ, ◌<◌, length, sym, ap, ◌∙◌, subst}
-use Rattle.plan_model.specs.declared.records.Record.{Record}
-use Rattle.plan_words.specs.Claims.{KeepsHand}
-use Rattle.plan_words.specs.States.{BelongsTo, PassState, SharedState}
+use Rattle.grown_runs.proofs.Common.{Record, Word}
+use Rattle.plan_words.proofs.Common.{KeepsHand, BelongsTo, PassState, SharedState}
 use Rattle.plan_work.specs.Extensions.{HandlesMark}
 use Rattle.plan_work.proofs.WorkedMarks.{share-turned}
 use Rattle.plan_work_tests.specs.Sharers.{HasClaimed, HasShare}
-use Rattle.grown_runs.specs.Table.WordNames.{Word}
 use Rattle.tree_rewire.specs.SeenCosts.{PassSees}
 
 -- steps that leave the hand of a pass of the tree leave it, and the pass may claim as before

@@ -6,14 +6,8 @@ use Rattle.std.proofs.lemmas.Int.{ints}
 use Rattle.std.proofs.lemmas.Nat.{mul-le}
 use Rattle.std.proofs.lemmas.List.Sums.{sum_by-cons}
 use Rattle.std.proofs.lemmas.List.Elements.{All-from_recursion, All-head, All-tail, All-map}
-use Rattle.plan_model.specs.declared.geometry.Point.{Point}
-use Rattle.plan_model.specs.declared.geometry.Vertex.{Vertex}
-use Rattle.plan_model.specs.Spaces.Meeting.{Meets, weighted}
-use Rattle.plan_model.specs.Spaces.RoomOfConfigurations.{at_lattice, moved_by, IsBetweenWalls, InRoom}
-use Rattle.plan_model.specs.declared.configuration_spaces.ConfigurationSpace.{ConfigurationSpace}
-use Rattle.plan_model.specs.Spaces.ConfigurationSpace.{space_among}
-use Rattle.plan_model.specs.Spaces.Clearance.{ClearAt}
-use Rattle.plan_model.proofs.MeetingLaws.{SharesPoint-meets}
+use Rattle.grown_runs.proofs.Common.{Point, Vertex, Meets, weighted, at_lattice, moved_by, IsBetweenWalls, InRoom, ConfigurationSpace, space_among, ClearAt}
+use Rattle.grown_runs.proofs.Common.{SharesPoint-meets}
 use Rattle.planner.specs.GeneratedScenes.{lattice_corner, square_at, triangle_at, place_in_cell}
 use Rattle.planner.specs.GeneratedScenes.{side_by, obstacle_by, generated_obstacle, generated_obstacles}
 

@@ -2,14 +2,8 @@
 use Rattle.std.proofs.Common.{◌≡◌, ℕ, ◌≤◌, ◌<◌, ◌⊎◌, inl, inr, Bool, true, false, IsTrue, MatchBool, Option, Some, None, IfSome}
 use Rattle.std.proofs.Common.{List, [], ◌∷◌, length, refl, sym, ap, subst, ◌∙◌, arith}
 use Rattle.std.proofs.lemmas.Bool.{and_parts, false≢true}
-use Rattle.plan_model.specs.declared.limits.TheConstants.{MOST_TEXT_BYTES}
-use Rattle.plan_model.specs.declared.scenes.Scene.{Scene}
-use Rattle.plan_model.specs.declared.text_terms.Kind.{Kind}
-use Rattle.plan_model.specs.Texts.SceneGrammar.{Spells, supported}
-use Rattle.plan_model.specs.Texts.Streams.{SourceState}
-use Rattle.plan_model.proofs.SceneBatchLaws.{SpellsBatch-not_refused, SpellsBatch-one_batch}
-use Rattle.plan_model.proofs.Soundness.{Spells-not_refused}
-use Rattle.plan_model.proofs.SameScenes.{Spells-one_scene}
+use Rattle.grown_runs.proofs.Common.{MOST_TEXT_BYTES, Scene, Kind, Spells, supported, SourceState, SpellsBatch-not_refused, SpellsBatch-one_batch}
+use Rattle.grown_runs.proofs.Common.{Spells-not_refused, Spells-one_scene}
 use Rattle.twin_trees.proofs.TurnedRuns.{ClearAt-middle}
 use Rattle.scene_text.specs.Fetching.{CameTooLong}
 use Rattle.report_judge.specs.declared.verdicts.Verdict.{Verdict}

@@ -8,14 +8,9 @@ use Rattle.std.proofs.lemmas.Nat.{mod_below, div-add-mod'}
 use Rattle.std.proofs.Math.Nat.{mul-pos}
 use Rattle.std.proofs.lemmas.Int.{ints}
 use Rattle.std.proofs.lemmas.Bool.{and_from}
-use Rattle.plan_model.specs.declared.geometry.Point.{Point}
-use Rattle.plan_model.specs.declared.geometry.Vertex.{Vertex}
-use Rattle.plan_model.specs.Geometry.Plane.{orientation}
-use Rattle.plan_model.specs.Geometry.Convexity.{is_strictly_convex}
-use Rattle.plan_model.specs.Scenes.Limits.{is_corner_between, is_obstacle, are_obstacles}
-use Rattle.plan_model.specs.declared.limits.TheConstants.{LEAST_OBSTACLE_COORDINATE, MOST_OBSTACLE_COORDINATE, MOST_OBSTACLES}
-use Rattle.plan_model.proofs.Tests.{true_of_below}
-use Rattle.plan_model.proofs.Ring.{Read, var, minus, times}
+use Rattle.grown_runs.proofs.Common.{Point, Vertex, orientation, is_strictly_convex, is_corner_between, is_obstacle, are_obstacles, LEAST_OBSTACLE_COORDINATE}
+use Rattle.grown_runs.proofs.Common.{MOST_OBSTACLE_COORDINATE, MOST_OBSTACLES, true_of_below, Read, var, minus}
+use Rattle.plan_model.proofs.Ring.{times}
 use Rattle.planner.specs.GeneratedScenes.{lattice_corner, square_at, triangle_at, place_in_cell}
 use Rattle.planner.specs.GeneratedScenes.{side_by, obstacle_by, generated_obstacle, generated_obstacles}
 

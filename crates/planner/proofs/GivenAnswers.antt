@@ -1,10 +1,7 @@
 -- What is answered to words, from the success or the refusal that it is.
 use Rattle.std.proofs.Common.{◌≡◌, ℕ, false, IsTrue, List, [], Some, Result, Ok, Err, IsErrAnd, refl, sym, ap, subst, arith}
 use Rattle.std.proofs.KnownBytes.{Keeps-refl, Consumes-nil}
-use Rattle.plan_model.specs.declared.scenes.Scene.{Scene}
-use Rattle.plan_model.specs.Spaces.Clearance.{ClearAt}
-use Rattle.plan_model.specs.Spaces.ConfigurationSpace.{space_of}
-use Rattle.plan_model.specs.Texts.Streams.{SourceState}
+use Rattle.grown_runs.proofs.Common.{Scene, ClearAt, space_of, SourceState}
 use Rattle.scene_text.specs.Fetching.{ReadsWithin}
 use Rattle.twin_trees.specs.TurnedScenes.{goal_middle}
 use Rattle.twin_trees.specs.declared.twin_runs.TwinFault.{TwinFault}

@@ -4,23 +4,13 @@ use Rattle.std.proofs.Common.{Option, Some, None, IsSome, IsSomeAnd, Result, Ok,
 use Rattle.std.proofs.lemmas.Bool.{and_from}
 use Rattle.std.specs.List.{list_all}
 use Rattle.std.proofs.lemmas.List.{get_or_append_left, get_or_push}
-use Rattle.plan_model.specs.declared.geometry.Point.{Point}
-use Rattle.plan_model.specs.declared.scenes.Scene.{Scene}
-use Rattle.plan_model.specs.declared.tasks.Task.{Task}
-use Rattle.plan_model.specs.Runs.ClosedLaw.{IsClosed}
-use Rattle.plan_model.specs.Runs.Textbook.{setup_of}
-use Rattle.plan_model.specs.Scenes.MarkPoints.{mark_points}
-use Rattle.plan_model.specs.Spaces.Clearance.{ClearAt}
-use Rattle.plan_model.specs.Spaces.ConfigurationSpace.{space_of}
-use Rattle.plan_model.specs.Texts.Streams.{SourceState}
-use Rattle.plan_model.specs.Trees.TreeStates.{IsSettled}
+use Rattle.grown_runs.proofs.Common.{Point, Scene, Task, IsClosed, setup_of, mark_points, ClearAt, space_of, SourceState, IsSettled, MOST_TEXT_BYTES}
+use Rattle.grown_runs.proofs.Common.{state_of_grown}
 use Rattle.plan_work.proofs.TextbookEnds.{IsOfTextbookRun-whole}
-use Rattle.plan_model.specs.declared.limits.TheConstants.{MOST_TEXT_BYTES}
 use Rattle.scene_text.specs.Batches.{IsBatchRefusal}
 use Rattle.scene_text.specs.Fetching.{ReadsWithin}
 use Rattle.scene_text.specs.declared.refusals.SceneRefusal.{SceneRefusal}
 use Rattle.scene_text.specs.declared.refusals.SceneRefusal.TheVariants as reading
-use Rattle.grown_runs.specs.Runs.GrownRuns.{state_of_grown}
 use Rattle.grown_runs.specs.declared.grown.Grown.{Grown}
 use Rattle.any_time.specs.BatchGathering.{HasFinished}
 use Rattle.any_time.specs.BestPaths.{has_path}

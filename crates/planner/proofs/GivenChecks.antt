@@ -2,8 +2,7 @@
 use Rattle.std.proofs.Common.{◌≡◌, ℕ, ◌≤◌, ◌+◌, ◌++◌, List, [], ◌∷◌, length, length-append, Result, IsErrAnd}
 use Rattle.std.proofs.Common.{Some, refl, ap, inl, inr, arith}
 use Rattle.std.specs.Prelude.{◌⊎◌}
-use Rattle.plan_model.specs.declared.limits.TheConstants.{MOST_TEXT_BYTES}
-use Rattle.plan_model.specs.Texts.Streams.{SourceState}
+use Rattle.grown_runs.proofs.Common.{MOST_TEXT_BYTES, SourceState}
 use Rattle.report_judge.specs.Texts.ReportCuts.{HasNoReportLine, IsCutAtReport, report_line}
 use Rattle.scene_text.specs.Fetching.{ReadsWithin}
 use Rattle.scene_text.specs.Refusals.{IsSceneRefusal}

@@ -1,17 +1,9 @@
 -- What is reported of a run, and of the scene that it is of.
 use Rattle.std.proofs.Common.{◌≡◌, ℕ, Option, List, length, None, Some, IfSome, refl, subst}
 use Rattle.std.specs.Prelude.{is_some}
-use Rattle.plan_model.specs.declared.geometry.Point.{Point}
-use Rattle.plan_model.specs.declared.scenes.Scene.{Scene}
-use Rattle.plan_model.specs.Trees.BestNode.{best_node, goals_of}
-use Rattle.plan_model.specs.Runs.ClosedLaw.{IsClosed}
-use Rattle.plan_model.specs.Scenes.MarkPoints.{mark_points}
-use Rattle.plan_model.specs.Runs.SameRuns.{IsOfTextbookRun}
-use Rattle.plan_model.specs.Runs.Textbook.{Setup, setup_of}
-use Rattle.plan_model.specs.Trees.PointsByNumber.{IsPresent}
-use Rattle.plan_model.specs.Trees.TreeStates.{IsSettled, TreeState}
+use Rattle.grown_runs.proofs.Common.{Point, Scene, best_node, goals_of, IsClosed, mark_points, IsOfTextbookRun, Setup, setup_of, IsPresent, IsSettled}
+use Rattle.grown_runs.proofs.Common.{TreeState, state_of_grown}
 use Rattle.grown_runs.specs.declared.grown.Grown.{Grown}
-use Rattle.grown_runs.specs.Runs.GrownRuns.{state_of_grown}
 use Rattle.twin_trees.specs.Bridges.{IsBridge}
 use Rattle.planner.specs.declared.top_call.Done.{Done}
 use Rattle.planner.specs.Conclusions.{HandsOutRunAlone, Report, ReportsGrown, ReportsScene, ReportsTwin, status_of_report}

@@ -4,14 +4,10 @@ use Rattle.std.proofs.Common.{refl, sym, ap, ◌∙◌, subst, arith, inl, inr}
 use Rattle.std.specs.Prelude.{option_map}
 use Rattle.std.proofs.lemmas.Bool.{cases_eq, eq-eqb, ne_eqb}
 use Rattle.std.proofs.lemmas.List.{get_or-set_same, get_or-set_other, length-append, length-set}
-use Rattle.plan_model.specs.declared.limits.TheConstants.{MOST_NODES}
-use Rattle.plan_model.specs.declared.trees.Twig.{Twig}
-use Rattle.plan_model.specs.Trees.NodeLists.{node_at}
-use Rattle.plan_model.proofs.TreeChanges.{node_at-push_new, node_at-past, node_at-absent}
-use Rattle.plan_model.proofs.NewNodes.{Adds-push}
-use Rattle.grown_runs.specs.ChildChains.{AreMembers, HasInChain, HasOneMore, IndexesChains, MovesNode, times}
+use Rattle.grown_runs.proofs.Common.{MOST_NODES, Twig, node_at, node_at-push_new, node_at-past, node_at-absent, Adds-push, AreMembers, HasInChain, HasOneMore}
+use Rattle.grown_runs.proofs.Common.{IndexesChains, MovesNode, IsIndex-same}
+use Rattle.grown_runs.specs.ChildChains.{times}
 use Rattle.grown_runs.specs.declared.child_index.ChildIndex.{ChildIndex}
-use Rattle.grown_runs.proofs.Children.MovedChildren.{IsIndex-same}
 use Rattle.seq_planner.specs.LinkedTrees.{AreLinked, chain_in, chain_of, hangs_below, is_parent_number, parent_if_child}
 
 -- ---- by nodes

@@ -2,10 +2,7 @@
 use Rattle.std.proofs.Common.{◌≡◌, ℕ, zero, suc, ◌<◌, true, List, Option, Some, None, arith, refl, sym, ap, ◌∙◌}
 use Rattle.std.specs.Prelude.{is_some, option_map}
 use Rattle.std.proofs.lemmas.Bool.{eq-eqb, eqb-true}
-use Rattle.plan_model.specs.declared.trees.Twig.{Twig}
-use Rattle.plan_model.specs.Trees.PointsByNumber.{IsPresent}
-use Rattle.plan_model.specs.Trees.NodeLists.{node_at, points_of, parent_or_zero, parent_of, CostsFall}
-use Rattle.plan_model.proofs.TreeChanges.{point_at-points_of}
+use Rattle.grown_runs.proofs.Common.{Twig, IsPresent, node_at, points_of, parent_or_zero, parent_of, CostsFall, point_at-points_of}
 use Rattle.seq_planner.specs.LinkedTrees.{is_parent_number, hangs_below}
 
 -- Node c is present and not the start, and has node f as its parent.

@@ -5,24 +5,12 @@ use Rattle.std.specs.Prelude.{All, Contains, IsTrue, cond, option_map}
 use Rattle.std.proofs.lemmas.Bool.{cases_eq}
 use Rattle.std.proofs.lemmas.List.{get_or_append_left, get_or_default, length-map}
 use Rattle.std.proofs.lemmas.List.Elements.{All-contains, All-nil, All-push, All-weaker, Contains-append_left, Contains-push}
-use Rattle.plan_model.specs.declared.geometry.Goal.{Goal}
-use Rattle.plan_model.specs.declared.geometry.Point.{Point}
-use Rattle.plan_model.specs.declared.records.Outcome.{Outcome}
-use Rattle.plan_model.specs.declared.records.Outcome.TheVariants.{Placed, Same, Blocked, Skipped}
-use Rattle.plan_model.specs.declared.records.Record.{Record}
-use Rattle.plan_model.specs.declared.scenes.Scene.{Scene}
-use Rattle.plan_model.specs.declared.trees.Twig.{Twig}
-use Rattle.plan_model.specs.Runs.Textbook.{Ends, MayBeCheaper, Nodes, Setup, mark_bound, near_new, setup_of, skipping_goals}
-use Rattle.plan_model.specs.Trees.BestNode.{IsGoalNode, is_goal_point, lies_in_goals}
+use Rattle.grown_runs.proofs.Common.{Goal, Point, Outcome, Placed, Same, Blocked, Skipped, Record, Scene, Twig, Ends, MayBeCheaper, Nodes, Setup, mark_bound}
+use Rattle.grown_runs.proofs.Common.{near_new, setup_of, skipping_goals, IsGoalNode, is_goal_point, lies_in_goals, IsFirstLeast, IsNotAbove, node_at, points_of}
+use Rattle.grown_runs.proofs.Common.{sum_of, IsPresent, point_at, IsPresent-goal, near-present_beside, points_of-rewires, no_goal_node, StandsAt-node}
+use Rattle.grown_runs.proofs.Common.{present_below, points_of-push}
 use Rattle.plan_model.specs.Trees.GoalBounds.{bound_of}
-use Rattle.plan_model.specs.Trees.LeastPairs.{IsFirstLeast, IsNotAbove}
-use Rattle.plan_model.specs.Trees.NodeLists.{node_at, points_of, sum_of}
-use Rattle.plan_model.specs.Trees.PointsByNumber.{IsPresent, point_at}
-use Rattle.plan_model.proofs.BestNodeLaws.{IsPresent-goal}
-use Rattle.plan_model.proofs.DistinctPoints.{near-present_beside, points_of-rewires}
-use Rattle.plan_model.proofs.GoalNodes.{no_goal_node}
-use Rattle.plan_model.proofs.NewNodes.{StandsAt-node, point_at-absent, present_below}
-use Rattle.plan_model.proofs.TreeChanges.{points_of-push}
+use Rattle.plan_model.proofs.NewNodes.{point_at-absent}
 use Rattle.seq_planner.specs.GoalLists.{AreGoalNodesBelow, IsGoalNodeBelow}
 use Rattle.seq_planner.specs.declared.search_tree.SearchTree.{SearchTree}
 use Rattle.seq_planner.specs.SearchTrees.{GrowsByMark, IsSkippedBy, IsSoundTree}

@@ -1,18 +1,8 @@
 -- The nodes of a sound tree with their kept costs: they are the same run as the nodes alone, each at its sum.
 use Rattle.std.proofs.Common.{◌≡◌, ℕ, zero, suc, List, [], ◌∷◌, length, get_or, Some, None, arith, refl, sym, ap, ◌∙◌, subst}
-use Rattle.plan_model.specs.declared.geometry.Point.{Point}
-use Rattle.plan_model.specs.declared.records.Record.{Record}
-use Rattle.plan_model.specs.Spaces.Clearance.{ClearAt}
-use Rattle.plan_model.specs.Runs.ClosedLaw.{IsClosed}
-use Rattle.plan_model.specs.Trees.PointsByNumber.{IsPresent, point_at}
-use Rattle.plan_model.specs.Runs.SameRuns.{IsOfTextbookRun}
-use Rattle.plan_model.specs.Runs.Textbook.{Nodes, Setup, IsTextbookRun}
-use Rattle.plan_model.specs.Trees.NodeLists.{points_of, parent_of, without_costs}
-use Rattle.plan_model.specs.Trees.TreeStates.{TreeState, AreSameRuns, state_of}
-use Rattle.plan_model.proofs.RunLaws.{HandlesAll-length}
-use Rattle.plan_model.proofs.SameTrees.{AreSameRuns-trans, IsClosed-same_run}
-use Rattle.plan_model.proofs.TextbookRuns.{IsClosed-textbook}
-use Rattle.grown_runs.specs.Runs.PackedRuns.{kept_cost_of, state_of_lists}
+use Rattle.grown_runs.proofs.Common.{Point, Record, ClearAt, IsClosed, IsPresent, point_at, IsOfTextbookRun, Nodes, Setup, IsTextbookRun, points_of, parent_of}
+use Rattle.grown_runs.proofs.Common.{without_costs, TreeState, AreSameRuns, state_of, HandlesAll-length, AreSameRuns-trans, IsClosed-same_run}
+use Rattle.grown_runs.proofs.Common.{IsClosed-textbook, kept_cost_of, state_of_lists}
 use Rattle.seq_planner.specs.declared.placed_points.PlacedPoints.{PlacedPoints}
 use Rattle.seq_planner.specs.SearchTrees.{IsSound, with_costs}
 use Rattle.seq_planner.proofs.SoundTrees.{kept_sum}

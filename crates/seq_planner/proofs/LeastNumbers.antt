@@ -3,8 +3,7 @@ use Rattle.std.proofs.Common.{◌≡◌, ℕ, ◌+◌, ◌<◌, List, get_or, le
 use Rattle.std.specs.Prelude.{All, Contains}
 use Rattle.std.proofs.lemmas.List.{take_all}
 use Rattle.std.proofs.lemmas.List.Elements.{All-contains, All-more, All-nil, All-weaker, Contains-get_or}
-use Rattle.plan_model.specs.Trees.LeastPairs.{IsFirstLeast, IsNotAbove}
-use Rattle.plan_model.proofs.LeastPairLaws.{IsNotAbove-refl, IsNotAbove-trans}
+use Rattle.grown_runs.proofs.Common.{IsFirstLeast, IsNotAbove, IsNotAbove-refl, IsNotAbove-trans}
 
 -- it is in the list, and its pair is not above that of any of the first so many
 pub record IsLeastOf (key : ℕ → ℕ) (numbers : List ℕ) (count best : ℕ) : Type 0 where

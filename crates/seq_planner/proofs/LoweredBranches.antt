@@ -2,10 +2,7 @@
 use Rattle.std.proofs.Common.{◌≡◌, ℕ, suc, ◌+◌, ◌<◌, ◌≤◌, Bool, cond, List, Option, arith, refl, sym, ap, subst, ◌⊎◌, inl, inr}
 use Rattle.std.specs.Prelude.{◌≢◌, ◌==◌}
 use Rattle.std.proofs.lemmas.Bool.{cases_eq, false_from_ne_true, eq-eqb, eqb-true}
-use Rattle.plan_model.specs.declared.trees.Twig.{Twig}
-use Rattle.plan_model.specs.Trees.Branches.{IsBranchLowered}
-use Rattle.plan_model.specs.Trees.PointsByNumber.{IsPresent}
-use Rattle.plan_model.specs.Trees.NodeLists.{points_of, parent_of}
+use Rattle.grown_runs.proofs.Common.{Twig, IsBranchLowered, IsPresent, points_of, parent_of}
 
 -- how often a number is counted that is there once or not at all
 abbrev pub one_if : Bool → ℕ

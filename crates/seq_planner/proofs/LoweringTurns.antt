@@ -2,9 +2,7 @@
 use Rattle.std.proofs.Common.{◌≡◌, ℕ, suc, ◌+◌, ◌<◌, ◌≤◌, List, Option, arith, sym, ap, ◌∙◌, subst, ◌⊎◌, inl, inr}
 use Rattle.std.specs.Prelude.{◌≢◌, ◌==◌}
 use Rattle.std.proofs.lemmas.Bool.{cases_Bool, cases_eq, cases_lt}
-use Rattle.plan_model.specs.declared.trees.Twig.{Twig}
-use Rattle.plan_model.specs.Trees.PointsByNumber.{IsPresent}
-use Rattle.plan_model.specs.Trees.NodeLists.{points_of, parent_of, CostsFall}
+use Rattle.grown_runs.proofs.Common.{Twig, IsPresent, points_of, parent_of, CostsFall}
 use Rattle.seq_planner.specs.LinkedTrees.{hangs_below}
 use Rattle.seq_planner.proofs.Children.{IsChild, IsChild-hangs_below, hangs_below-present, IsChild-costs}
 use Rattle.seq_planner.proofs.LoweredBranches.{one_if, equal_one, other_none, HasFallen, IsDue, IsUnderway}

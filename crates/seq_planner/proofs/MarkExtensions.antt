@@ -2,29 +2,10 @@
 use Rattle.std.proofs.Common.{◌≡◌, ℕ, suc, ◌+◌, ◌*◌, ◌^◌, ◌≤◌, List, [], ◌∷◌, ◌++◌, length, Option, Some, None, arith, refl, sym, ap, ◌∙◌, subst}
 use Rattle.std.specs.Prelude.{All, ◌≢◌}
 use Rattle.std.proofs.lemmas.List.Elements.{All-cons, All-contains, All-nil}
-use Rattle.plan_model.specs.declared.geometry.Point.{Point}
-use Rattle.plan_model.specs.declared.trees.Twig.{Twig}
-use Rattle.plan_model.specs.declared.scenes.Scene.{Scene}
-use Rattle.plan_model.specs.declared.records.Record.{Record}
-use Rattle.plan_model.specs.Spaces.ConfigurationSpace.{space_of}
-use Rattle.plan_model.specs.Spaces.Clearance.{Clear}
-use Rattle.plan_model.specs.Spaces.EmptyRooms.{IsInRoom}
-use Rattle.plan_model.specs.Trees.LeastPairs.{IsFirstLeast}
-use Rattle.plan_model.specs.Geometry.Radius.{class_of, radius_of}
-use Rattle.plan_model.specs.Geometry.Steering.{steered}
-use Rattle.plan_model.specs.Trees.Nearness.{IsNearest}
-use Rattle.plan_model.specs.Trees.OpenNodes.{IsOpenTo}
-use Rattle.plan_model.specs.Trees.PointsByNumber.{StandsAt, IsPresent, IsFree, point_of, node_count}
-use Rattle.plan_model.specs.Trees.NodeLists.{points_of, sum_of}
-use Rattle.plan_model.specs.Runs.Textbook.{Nodes, setup_of, near_new, SteersTo, Rewires, EndsPlaced, Handles, IsCandidate, IsBestParent, cost_through}
-use Rattle.plan_model.specs.Runs.Textbook.{MayBeCheaper, same_record, skipped_record}
-use Rattle.plan_model.specs.Runs.Textbook.{blocked_record, placed_record}
-use Rattle.plan_model.proofs.LeastPairLaws.{IsFirstLeast-among}
-use Rattle.plan_model.proofs.EmptyRoomClearance.{AreInRoom-from_clear}
-use Rattle.plan_model.proofs.SteeredNodes.{IsFree-steered}
-use Rattle.plan_model.proofs.DistinctPoints.{near-present}
-use Rattle.plan_model.proofs.NewNodes.{StandsAt-present}
-use Rattle.plan_model.proofs.SceneBounds.{IsBounded-in_room}
+use Rattle.grown_runs.proofs.Common.{Point, Twig, Scene, Record, space_of, Clear, IsInRoom, IsFirstLeast, class_of, radius_of, steered, IsNearest, IsOpenTo}
+use Rattle.grown_runs.proofs.Common.{StandsAt, IsPresent, IsFree, point_of, node_count, points_of, sum_of, Nodes, setup_of, near_new, SteersTo, Rewires}
+use Rattle.grown_runs.proofs.Common.{EndsPlaced, Handles, IsCandidate, IsBestParent, cost_through, MayBeCheaper, same_record, skipped_record, blocked_record}
+use Rattle.grown_runs.proofs.Common.{placed_record, IsFirstLeast-among, AreInRoom-from_clear, IsFree-steered, near-present, StandsAt-present, IsBounded-in_room}
 use Rattle.seq_planner.specs.declared.extensions.Extension.{Extension}
 use Rattle.edge_cost.specs.LeastParents.{IsLeastParent}
 use Rattle.edge_cost.specs.declared.parents.Parent.{Parent}

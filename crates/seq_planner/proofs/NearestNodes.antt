@@ -6,18 +6,9 @@ use Rattle.std.specs.List.Sorted.{IsStrictlyIncreasing}
 use Rattle.std.proofs.lemmas.Bool.{cases_lt, le-leb, leb-true}
 use Rattle.std.proofs.lemmas.List.Elements.{All-contains, All-get_or, filter_passes}
 use Rattle.std.proofs.lemmas.List.Kept.{IsStrictlyIncreasing-filter}
-use Rattle.plan_model.specs.Geometry.Plane.{squared_distance}
-use Rattle.plan_model.specs.Geometry.Steering.{steered}
-use Rattle.plan_model.specs.Runs.Textbook.{Setup, near_new}
-use Rattle.plan_model.specs.Trees.LeastPairs.{IsFirstLeast}
-use Rattle.plan_model.specs.Trees.Nearness.{distance_to, IsNearest, is_within, near}
-use Rattle.plan_model.specs.Trees.PointsByNumber.{point_at, StandsAt, IsPresent, point_of}
-use Rattle.plan_model.specs.declared.geometry.Point.{Point}
-use Rattle.plan_model.proofs.DistinctPoints.{near-present}
-use Rattle.plan_model.proofs.LeastPairLaws.{IsNotAbove-lesser}
-use Rattle.plan_model.proofs.NearNodes.{Contains-near, IsReachable, near_new-reachable}
-use Rattle.plan_model.proofs.NewNodes.{point_of-stands, StandsAt-present}
-use Rattle.plan_model.proofs.SteeringLaws.{steered-near}
+use Rattle.grown_runs.proofs.Common.{squared_distance, steered, Setup, near_new, IsFirstLeast, distance_to, IsNearest, is_within, near, point_at, StandsAt}
+use Rattle.grown_runs.proofs.Common.{IsPresent, point_of, Point, near-present, IsNotAbove-lesser, Contains-near, IsReachable, near_new-reachable}
+use Rattle.grown_runs.proofs.Common.{point_of-stands, StandsAt-present, steered-near}
 use Rattle.seq_planner.proofs.PresentNumbers.{IsStrictlyIncreasing-range_with_len}
 
 -- near nodes are in rising number

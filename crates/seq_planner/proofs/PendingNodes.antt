@@ -4,10 +4,7 @@ use Rattle.std.specs.Prelude.{◌==◌}
 use Rattle.std.specs.List.{sum}
 use Rattle.std.proofs.lemmas.List.{get_or-set_same, get_or-set_other}
 use Rattle.std.proofs.lemmas.List.Sums.{count_by-le-length, sum_by_push, sum_by-set}
-use Rattle.plan_model.specs.declared.trees.Twig.{Twig}
-use Rattle.plan_model.specs.Trees.PointsByNumber.{IsPresent}
-use Rattle.plan_model.specs.Trees.NodeLists.{points_of}
-use Rattle.plan_model.proofs.NewNodes.{present_below}
+use Rattle.grown_runs.proofs.Common.{Twig, IsPresent, points_of, present_below}
 use Rattle.grown_runs.specs.ChildChains.{times}
 use Rattle.seq_planner.specs.LinkedTrees.{hangs_below}
 use Rattle.seq_planner.proofs.LoweredBranches.{one_if, equal_one, IsUnderway}

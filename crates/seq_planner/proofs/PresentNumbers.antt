@@ -9,12 +9,8 @@ use Rattle.std.proofs.lemmas.List.Elements.{All-same, All-head, All-tail, All-we
 use Rattle.std.proofs.lemmas.List.FromFn.{fill_by_all, length-range_with_len, get_or-range_with_len}
 use Rattle.std.proofs.lemmas.List.Kept.{IsStrictlyIncreasing-filter}
 use Rattle.std.proofs.lemmas.List.Sums.{length-filter}
-use Rattle.plan_model.specs.Geometry.Bounds.{IsBounded}
-use Rattle.plan_model.specs.Trees.PointsByNumber.{point_at, StandsAt, IsPresent, point_of, node_count}
-use Rattle.plan_model.specs.declared.geometry.Point.{Point}
-use Rattle.plan_model.proofs.CountsBelow.{range-more}
-use Rattle.plan_model.proofs.DistinctPoints.{IsPresent-below}
-use Rattle.plan_model.proofs.NewNodes.{StandsAt-present, node_count-some}
+use Rattle.grown_runs.proofs.Common.{IsBounded, point_at, StandsAt, IsPresent, point_of, node_count, Point, range-more, IsPresent-below, StandsAt-present}
+use Rattle.grown_runs.proofs.Common.{node_count-some}
 use Rattle.seq_planner.specs.PlacedLists.{present_numbers, ArePlaced}
 use Rattle.seq_planner.specs.declared.placed_points.PlacedPoints.{PlacedPoints}
 

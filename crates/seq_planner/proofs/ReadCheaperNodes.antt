@@ -1,10 +1,6 @@
 -- What was read of a near node says that it is cheaper through a new one.
 use Rattle.std.proofs.Common.{◌≡◌, ℕ, List, get_or, arith, ap, ◌∙◌}
-use Rattle.plan_model.specs.declared.geometry.Point.{Point}
-use Rattle.plan_model.specs.declared.configuration_spaces.ConfigurationSpace.{ConfigurationSpace}
-use Rattle.plan_model.specs.Trees.PointsByNumber.{IsPresent, point_of}
-use Rattle.plan_model.specs.Trees.NodeLists.{points_of}
-use Rattle.plan_model.specs.Runs.Textbook.{Nodes, cost_through, IsCheaperThrough}
+use Rattle.grown_runs.proofs.Common.{Point, ConfigurationSpace, IsPresent, point_of, points_of, Nodes, cost_through, IsCheaperThrough}
 use Rattle.seq_planner.specs.declared.placed_points.PlacedPoints.{PlacedPoints}
 use Rattle.seq_planner.specs.SearchTrees.{IsSound}
 use Rattle.seq_planner.proofs.ReadCosts.{sum-read}

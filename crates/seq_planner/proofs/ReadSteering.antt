@@ -1,15 +1,8 @@
 -- What was read of the nearest node says that it steers towards the next mark, that the point is bounded, and which nodes are near it.
 use Rattle.std.proofs.Common.{◌≡◌, ℕ, ◌+◌, ◌<◌, ◌≤◌, List, length, max, arith, sym, ap, ◌∙◌, subst}
 use Rattle.std.specs.Prelude.{◌≢◌}
-use Rattle.plan_model.specs.declared.geometry.Point.{Point}
-use Rattle.plan_model.specs.declared.scenes.Scene.{Scene}
-use Rattle.plan_model.specs.Geometry.Bounds.{IsBounded}
-use Rattle.plan_model.specs.Geometry.Radius.{radius_of}
-use Rattle.plan_model.specs.Runs.Textbook.{MayBeCheaper, setup_of, near_new}
-use Rattle.plan_model.specs.Trees.Nearness.{IsNearest, near}
-use Rattle.plan_model.specs.Trees.PointsByNumber.{point_of, node_count}
-use Rattle.plan_model.specs.Geometry.Steering.{steered}
-use Rattle.plan_model.specs.Trees.NodeLists.{points_of, sum_of}
+use Rattle.grown_runs.proofs.Common.{Point, Scene, IsBounded, radius_of, MayBeCheaper, setup_of, near_new, IsNearest, near, point_of, node_count, steered}
+use Rattle.grown_runs.proofs.Common.{points_of, sum_of}
 use Rattle.seq_planner.specs.declared.search_tree.SearchTree.{SearchTree}
 use Rattle.seq_planner.specs.PlacedLists.{listed_near}
 use Rattle.seq_planner.specs.SearchTrees.{IsSoundTree}

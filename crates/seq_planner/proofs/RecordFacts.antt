@@ -2,11 +2,7 @@
 use Rattle.std.proofs.Common.{◌≡◌, ℕ, ap, refl}
 use Rattle.std.specs.Prelude.{Bool, IsTrue}
 use Rattle.std.proofs.Props.{props}
-use Rattle.plan_model.specs.declared.records.Outcome.{Outcome}
-use Rattle.plan_model.specs.declared.records.Outcome.TheVariants.{Placed}
-use Rattle.plan_model.specs.declared.records.Record.{Record}
-use Rattle.plan_model.specs.Runs.Outcomes.{is_zero_unless_placed}
-use Rattle.plan_model.specs.Runs.Textbook.{placed_record}
+use Rattle.grown_runs.proofs.Common.{Outcome, Placed, Record, is_zero_unless_placed, placed_record}
 
 one_proof : (b : Bool) → IsProp (IsTrue b)
 one_proof b = hlevel props

@@ -2,9 +2,7 @@
 use Rattle.std.proofs.Common.{◌≡◌, ℕ, ◌+◌, ◌<◌, List, [], ◌∷◌, ◌++◌, length}
 use Rattle.std.proofs.Common.{get_or, take, refl, sym, ap, ◌∙◌, subst}
 use Rattle.std.proofs.lemmas.List.{take_more}
-use Rattle.plan_model.specs.declared.configuration_spaces.ConfigurationSpace.{ConfigurationSpace}
-use Rattle.plan_model.specs.Trees.NodeLists.{points_of}
-use Rattle.plan_model.specs.Runs.Textbook.{Nodes, RewiresOne, Rewires}
+use Rattle.grown_runs.proofs.Common.{ConfigurationSpace, points_of, Nodes, RewiresOne, Rewires}
 use Rattle.seq_planner.specs.declared.search_tree.SearchTree.{SearchTree}
 use Rattle.seq_planner.specs.SearchTrees.{IsSoundTree}
 

@@ -2,15 +2,9 @@
 use Rattle.std.proofs.Common.{◌≡◌, ℕ, ◌+◌, ◌-◌, ◌<◌, List, length, get_or, Result, Ok, Err, OnOk, arith, sym, ap, ◌∙◌, subst, inl, inr}
 use Rattle.std.proofs.lemmas.List.{length-set}
 use Rattle.std.proofs.lemmas.Bool.{cases_eq}
-use Rattle.plan_model.specs.declared.geometry.Point.{Point}
-use Rattle.plan_model.specs.Trees.Branches.{IsBranchLowered}
-use Rattle.plan_model.specs.Spaces.Clearance.{Clear}
-use Rattle.plan_model.specs.declared.configuration_spaces.ConfigurationSpace.{ConfigurationSpace}
-use Rattle.plan_model.specs.Geometry.Cost.{cost_of}
-use Rattle.plan_model.specs.Trees.PointsByNumber.{IsPresent, point_of, AreDistinct}
-use Rattle.plan_model.specs.Trees.NodeLists.{points_of, parent_of, sum_of}
-use Rattle.plan_model.specs.Runs.Textbook.{Nodes, with_parent, cost_through, IsCheaperThrough}
-use Rattle.plan_model.proofs.ParentChanges.{HasCheaperParent, points_of-cheaper_parent, AreTight-cheaper_parent, CostsFall-lowered}
+use Rattle.grown_runs.proofs.Common.{Point, IsBranchLowered, Clear, ConfigurationSpace, cost_of, IsPresent, point_of, AreDistinct, points_of, parent_of, sum_of}
+use Rattle.grown_runs.proofs.Common.{Nodes, with_parent, cost_through, IsCheaperThrough, HasCheaperParent, points_of-cheaper_parent, AreTight-cheaper_parent}
+use Rattle.grown_runs.proofs.Common.{CostsFall-lowered}
 use Rattle.seq_planner.specs.declared.placed_points.PlacedPoints.{PlacedPoints}
 use Rattle.seq_planner.specs.PlacedLists.{ArePlaced}
 use Rattle.seq_planner.specs.SearchTrees.{AreBounded, IsSound, most_cost}

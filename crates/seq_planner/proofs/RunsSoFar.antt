@@ -1,11 +1,7 @@
 -- A textbook run that has come as far as some of the marks.
 use Rattle.std.proofs.Common.{◌≡◌, ℕ, ◌+◌, ◌<◌, List, [], ◌∷◌, ◌++◌, length, get_or, take, arith, sym, ap, ◌∙◌, subst, length-append}
 use Rattle.std.proofs.lemmas.List.{take_more}
-use Rattle.plan_model.specs.declared.geometry.Point.{Point}
-use Rattle.plan_model.specs.declared.scenes.Scene.{Scene}
-use Rattle.plan_model.specs.declared.records.Record.{Record}
-use Rattle.plan_model.specs.Runs.Textbook.{setup_of, start_alone, Handles, HandlesAll}
-use Rattle.plan_model.proofs.RunLaws.{HandlesAll-push}
+use Rattle.grown_runs.proofs.Common.{Point, Scene, Record, setup_of, start_alone, Handles, HandlesAll, HandlesAll-push}
 use Rattle.seq_planner.specs.declared.search_tree.SearchTree.{SearchTree}
 use Rattle.seq_planner.specs.SearchTrees.{IsSoundTree, GrowsByMark}
 

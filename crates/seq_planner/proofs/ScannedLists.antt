@@ -8,16 +8,9 @@ use Rattle.std.proofs.lemmas.Bool.{le-leb, lt-leb}
 use Rattle.std.proofs.lemmas.List.{append-nil, get_or-map, get_or_read, take_all}
 use Rattle.std.proofs.lemmas.List.Elements.{All-contains, All-nil, All-get_or, filter_more}
 use Rattle.std.proofs.lemmas.List.FromFn.{length-range_with_len, get_or-range_with_len}
-use Rattle.plan_model.specs.Geometry.Plane.{squared_distance}
-use Rattle.plan_model.specs.Trees.LeastPairs.{IsFirstLeast}
-use Rattle.plan_model.specs.Trees.Nearness.{distance_to, IsNearest, is_within, near}
-use Rattle.plan_model.specs.Trees.PointsByNumber.{point_at, StandsAt, IsPresent, point_of, IsFree}
-use Rattle.plan_model.specs.declared.geometry.Point.{Point}
-use Rattle.plan_model.proofs.DistinctPoints.{IsPresent-below, near-present, within_present}
-use Rattle.plan_model.proofs.FreePoints.{is_near_free, filter-none}
-use Rattle.plan_model.proofs.LeastPairLaws.{IsFirstLeast-among}
-use Rattle.plan_model.proofs.NearNodes.{Contains-filter}
-use Rattle.plan_model.proofs.NewNodes.{point_of-stands, StandsAt-present}
+use Rattle.grown_runs.proofs.Common.{squared_distance, IsFirstLeast, distance_to, IsNearest, is_within, near, point_at, StandsAt, IsPresent, point_of, IsFree}
+use Rattle.grown_runs.proofs.Common.{Point, IsPresent-below, near-present, within_present, is_near_free, filter-none, IsFirstLeast-among, Contains-filter}
+use Rattle.grown_runs.proofs.Common.{point_of-stands, StandsAt-present}
 use Rattle.seq_planner.specs.PlacedLists.{present_numbers, ArePlaced, listed_near}
 use Rattle.seq_planner.specs.declared.placed_points.PlacedPoints.{PlacedPoints}
 use Rattle.seq_planner.proofs.LeastIndices.{IsLeastIndex, IsFirstLeast-index, IsFirstLeast-listed}

@@ -6,18 +6,10 @@ use Rattle.std.specs.Prelude.{is_some, option_map}
 use Rattle.std.proofs.lemmas.List.{get_or_append_left, get_or_past, length-map}
 use Rattle.std.proofs.lemmas.List.Sums.{count_by-le-length}
 use Rattle.std.proofs.lemmas.Bool.{cases_order}
-use Rattle.plan_model.specs.declared.geometry.Point.{Point}
-use Rattle.plan_model.specs.declared.trees.Twig.{Twig}
-use Rattle.plan_model.specs.Geometry.Bounds.{IsBounded}
-use Rattle.plan_model.specs.Trees.PointsByNumber.{StandsAt, IsPresent, point_of, node_count}
-use Rattle.plan_model.specs.Trees.NodeLists.{points_of, parent_of, sum_of}
-use Rattle.plan_model.specs.Runs.Textbook.{Nodes}
-use Rattle.plan_model.proofs.TreeChanges.{points_of-push, node_count-push, node_at-absent}
-use Rattle.plan_model.proofs.NewNodes.{Adds, Adds-push, AreDistinct-adds, StandsAt-present}
-use Rattle.plan_model.proofs.NewNodes.{node_count-some, new_or_kept, point_at-same, present_below}
-use Rattle.plan_model.proofs.KeptCosts.{CostsFall-same, AreTight-same, CostsFall-adds}
-use Rattle.plan_model.proofs.KeptCosts.{AreTight-adds, KeepsCosts, IsPriced, AddsPriced}
-use Rattle.plan_model.proofs.ChainLaws.{sums-tight}
+use Rattle.grown_runs.proofs.Common.{Point, Twig, IsBounded, StandsAt, IsPresent, point_of, node_count, points_of, parent_of, sum_of, Nodes, points_of-push}
+use Rattle.grown_runs.proofs.Common.{node_count-push, node_at-absent, Adds, Adds-push, AreDistinct-adds, StandsAt-present, node_count-some, new_or_kept}
+use Rattle.grown_runs.proofs.Common.{point_at-same, present_below, CostsFall-same, AreTight-same, CostsFall-adds, AreTight-adds, KeepsCosts, IsPriced}
+use Rattle.grown_runs.proofs.Common.{AddsPriced, sums-tight}
 use Rattle.seq_planner.specs.declared.placed_points.PlacedPoints.{PlacedPoints}
 use Rattle.seq_planner.specs.PlacedLists.{ArePlaced}
 use Rattle.seq_planner.specs.SearchTrees.{AreBounded, IsSound, Fits, most_cost}

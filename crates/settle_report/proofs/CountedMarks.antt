@@ -1,11 +1,7 @@
 -- The outcomes of the marks below a limit, counted one mark at a time.
 use Rattle.std.proofs.Common.{◌≡◌, ℕ, suc, ◌+◌, Bool, cond, Option, Some, arith, refl, ap, ◌∙◌}
-use Rattle.plan_model.specs.declared.records.Outcome.{Outcome}
-use Rattle.plan_model.specs.declared.records.Outcome.TheVariants.{Placed, Same, Blocked, Skipped}
-use Rattle.plan_model.specs.declared.records.Record.{Record}
-use Rattle.plan_model.specs.Runs.ClosedLaw.{has_outcome, outcome_count}
-use Rattle.plan_model.specs.Runs.Outcomes.{is_placed, is_same, is_blocked, is_skipped}
-use Rattle.plan_model.proofs.CountsBelow.{count-more}
+use Rattle.grown_runs.proofs.Common.{Outcome, Placed, Same, Blocked, Skipped, Record, has_outcome, outcome_count, is_placed, is_same, is_blocked, is_skipped}
+use Rattle.grown_runs.proofs.Common.{count-more}
 use Rattle.settle_report.specs.OutcomeCounts.{AreCounts, with_outcome}
 use Rattle.settle_report.specs.declared.outcome_counts.OutcomeCounts.{OutcomeCounts}
 

@@ -1,13 +1,8 @@
 -- The best of the nodes from some number on, one number after another; and that the best node is present.
 use Rattle.std.proofs.Common.{◌≡◌, ℕ, suc, ◌+◌, true, false, List, filter, Option, Some, None, IfSome, refl, sym}
 use Rattle.std.specs.List.{range_with_len}
-use Rattle.plan_model.specs.declared.geometry.Goal.{Goal}
-use Rattle.plan_model.specs.Trees.BestNode.{best_node, is_goal_point}
-use Rattle.plan_model.specs.Trees.LeastPairs.{first_least, lesser}
-use Rattle.plan_model.specs.Trees.PointsByNumber.{IsPresent, point_at}
-use Rattle.plan_model.specs.Trees.TreeStates.{TreeState, sum_in}
-use Rattle.plan_model.proofs.BestNodeLaws.{IsPresent-goal}
-use Rattle.plan_model.proofs.LeastPairLaws.{first_least-some}
+use Rattle.grown_runs.proofs.Common.{Goal, best_node, is_goal_point, first_least, lesser, IsPresent, point_at, TreeState, sum_in, IsPresent-goal}
+use Rattle.grown_runs.proofs.Common.{first_least-some}
 
 module _ (goals : List Goal) (state : TreeState) where
   -- the best of so many nodes from number k on

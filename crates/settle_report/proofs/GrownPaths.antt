@@ -1,17 +1,9 @@
 -- Steps up a path of a closed run, from a node to its parent, until the start: kept costs fall, so the walk ends.
 use Rattle.std.proofs.Common.{◌≡◌, ◌≢◌, ℕ, zero, suc, ◌<◌, List, [], ◌∷◌, map, reverse, refl, sym, ap, ◌∙◌, subst}
 use mathlib.Core.List.{reverse_aux}
-use Rattle.plan_model.specs.declared.geometry.Point.{Point}
-use Rattle.plan_model.specs.Trees.PointsByNumber.{point_of, IsPresent, StandsAt}
-use Rattle.plan_model.specs.Reports.ReportText.{path_to}
-use Rattle.plan_model.specs.Runs.Textbook.{setup_of}
-use Rattle.plan_model.specs.Trees.NodeLists.{FallAlong}
-use Rattle.plan_model.specs.Trees.TreeStates.{TreeState, chain_in}
-use Rattle.plan_model.proofs.ChainLaws.{chain-start, chain-parent}
-use Rattle.plan_model.proofs.OrderLaws.{KeepsOrder-falls}
+use Rattle.grown_runs.proofs.Common.{Point, point_of, IsPresent, StandsAt, path_to, setup_of, FallAlong, TreeState, chain_in, chain-start, chain-parent}
+use Rattle.grown_runs.proofs.Common.{KeepsOrder-falls, state_of_grown, words_of_grown, start_present-held}
 use Rattle.grown_runs.specs.declared.grown.Grown.{Grown}
-use Rattle.grown_runs.specs.Runs.GrownRuns.{state_of_grown, words_of_grown}
-use Rattle.grown_runs.proofs.Runs.HeldNodes.{start_present-held}
 use Rattle.settle_report.proofs.HeldOrders.{parent-held}
 
 -- kept costs fall along the parents of a closed run

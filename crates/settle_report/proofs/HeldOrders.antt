@@ -1,17 +1,8 @@
 -- What the order law of a closed run says of its parents, its kept costs and its sums.
 use Rattle.std.proofs.Common.{◌≡◌, ℕ, zero, suc, ◌+◌, ◌<◌, ◌≤◌, arith, sym, subst}
-use Rattle.plan_model.specs.declared.tasks.Task.{Task}
-use Rattle.plan_model.specs.Trees.PointsByNumber.{IsPresent}
-use Rattle.plan_model.specs.Runs.Textbook.{setup_of}
-use Rattle.plan_model.specs.Trees.NodeLists.{edge_by}
-use Rattle.plan_model.specs.Trees.TreeStates.{sum_in}
-use Rattle.plan_model.proofs.OrderLaws.{parent-present}
-use Rattle.plan_model.proofs.OrderedTrees.{sum_in-le_cost}
+use Rattle.grown_runs.proofs.Common.{Task, IsPresent, setup_of, edge_by, sum_in, parent-present, sum_in-le_cost, Words, state_of_grown, words_of_grown, HoldRun}
+use Rattle.grown_runs.proofs.Common.{sizes_of, state_of_words, node-held}
 use Rattle.grown_runs.specs.declared.grown.Grown.{Grown}
-use Rattle.grown_runs.specs.Table.WordNames.{Words}
-use Rattle.grown_runs.specs.Runs.GrownRuns.{state_of_grown, words_of_grown}
-use Rattle.grown_runs.specs.Runs.GrownWords.{HoldRun, sizes_of, state_of_words}
-use Rattle.grown_runs.proofs.Runs.HeldNodes.{node-held}
 
 module _ (task : Task) (limit : ℕ) (words : Words) (held : HoldRun task limit words) where
   -- the parent of a node is present

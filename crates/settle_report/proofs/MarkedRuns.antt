@@ -2,10 +2,8 @@
 use Rattle.std.proofs.Common.{◌≡◌, ℕ, suc, ◌+◌, ◌<◌, Bool, false, List, arith, sym, ◌∙◌, subst, inl, inr}
 use Rattle.std.specs.Prelude.{IsTrue, slice_index_or}
 use Rattle.std.proofs.lemmas.Bool.{cases_eq}
-use Rattle.plan_model.specs.Trees.PointsByNumber.{IsPresent}
-use Rattle.plan_model.specs.Trees.TreeStates.{ChangesCosts, IsSettled}
+use Rattle.grown_runs.proofs.Common.{IsPresent, ChangesCosts, IsSettled, children_of_grown, state_of_grown}
 use Rattle.grown_runs.specs.declared.grown.Grown.{Grown}
-use Rattle.grown_runs.specs.Runs.GrownRuns.{children_of_grown, state_of_grown}
 use Rattle.settle_report.specs.SettledMarks.{MarksSettled}
 use Rattle.settle_report.proofs.HeldOrders.{number-grown}
 use Rattle.settle_report.proofs.SettlingSteps.{ChangesCosts-trans}

@@ -4,13 +4,8 @@ use Rattle.std.specs.Prelude.{IsTrue, slice_index_or}
 use Rattle.std.proofs.lemmas.Bool.{cases_eq, cases_lt}
 use Rattle.std.proofs.lemmas.Grind.{get_or-set_at}
 use Rattle.std.proofs.lemmas.List.{get_or-replicate, get_or-set_other, get_or_past, length-replicate, length-set}
-use Rattle.plan_model.specs.Trees.PointsByNumber.{IsPresent, StandsAt}
-use Rattle.plan_model.specs.Runs.OrderLaw.{KeepsOrder}
-use Rattle.plan_model.specs.Runs.Textbook.{Setup}
-use Rattle.plan_model.specs.Trees.NodeLists.{sum_by}
-use Rattle.plan_model.specs.Trees.TreeStates.{TreeState, ChangesCosts, GrowsInto, first_cost_of, recorded_or, sum_in}
-use Rattle.plan_model.proofs.OrderedTrees.{sum_in-parent, sum_in-start}
-use Rattle.grown_runs.specs.Runs.GrownRuns.{CostsInstead}
+use Rattle.grown_runs.proofs.Common.{IsPresent, StandsAt, KeepsOrder, Setup, sum_by, TreeState, ChangesCosts, GrowsInto, first_cost_of, recorded_or, sum_in}
+use Rattle.grown_runs.proofs.Common.{sum_in-parent, sum_in-start, CostsInstead}
 use Rattle.settle_report.specs.SettledMarks.{CostsByParent, MarksSettled}
 
 -- ---- costs alone change

@@ -1,12 +1,7 @@
 -- A run is settled exactly if all its nodes but the start are tight.
 use Rattle.std.proofs.Common.{ℕ, zero, suc, ◌<◌, ◌≤◌, arith, sym}
-use Rattle.plan_model.specs.Runs.Textbook.{setup_of}
-use Rattle.plan_model.specs.Trees.TreeStates.{IsSettled}
-use Rattle.plan_model.proofs.ChainLaws.{sums-tight}
-use Rattle.plan_model.proofs.OrderedTrees.{sum_in-parent}
+use Rattle.grown_runs.proofs.Common.{setup_of, IsSettled, sums-tight, sum_in-parent, state_of_grown, words_of_grown, node-held}
 use Rattle.grown_runs.specs.declared.grown.Grown.{Grown}
-use Rattle.grown_runs.specs.Runs.GrownRuns.{state_of_grown, words_of_grown}
-use Rattle.grown_runs.proofs.Runs.HeldNodes.{node-held}
 use Rattle.settle_report.specs.TightNodes.{IsTight}
 use Rattle.settle_report.proofs.GrownPaths.{FallAlong-grown}
 use Rattle.settle_report.proofs.HeldOrders.{parent-held}

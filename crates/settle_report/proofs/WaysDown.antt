@@ -3,8 +3,7 @@ use Rattle.std.proofs.Common.{◌≡◌, ◌≢◌, ℕ, zero, suc, ◌<◌, ◌
 use Rattle.std.specs.Prelude.{slice_index}
 use Rattle.std.proofs.lemmas.Grind.{get_or-set_at}
 use Rattle.std.proofs.lemmas.List.{get_or-set_other}
-use Rattle.plan_model.specs.Trees.NodeLists.{FallAlong}
-use Rattle.plan_model.specs.Trees.TreeStates.{TreeState}
+use Rattle.grown_runs.proofs.Common.{FallAlong, TreeState}
 use Rattle.settle_report.specs.SettledMarks.{IsChildOf, LeadsDown, LeadsDownBy}
 
 module _ (state : TreeState) (fall : FallAlong state.cost state.points state.parent) where

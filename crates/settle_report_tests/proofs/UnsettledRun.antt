@@ -3,37 +3,12 @@
 -- were lowered.
 use Rattle.std.proofs.Common.{◌≡◌, ℕ, zero, suc, ◌<◌, ◌≤◌, Option, Some, None, List, [], ◌∷◌, arith, refl, sym, ap, ◌∙◌, subst}
 use Rattle.std.specs.Prelude.{◌↔◌, IsSome, unwrap_or}
-use Rattle.plan_model.specs.declared.geometry.Point.{Point}
-use Rattle.plan_model.specs.declared.records.Outcome.TheVariants.{Placed}
-use Rattle.plan_model.specs.declared.records.Record.{Record}
-use Rattle.plan_model.specs.declared.trees.Knot.{Knot}
-use Rattle.plan_model.specs.Spaces.Clearance.{ClearAt}
-use Rattle.plan_model.specs.Runs.ClosedLaw.{IsClosed, mark_at}
-use Rattle.plan_model.specs.Geometry.Cost.{cost_of}
-use Rattle.plan_model.specs.Spaces.EmptyRooms.{empty_room}
-use Rattle.plan_model.specs.Geometry.Plane.{squared_distance}
-use Rattle.plan_model.specs.Trees.LeastPairs.{IsNotAbove}
-use Rattle.plan_model.specs.Trees.Nearness.{distance_to}
-use Rattle.plan_model.specs.Runs.OrderLaw.{HangsBelow, IsAllowedEdge, most_cost_of}
-use Rattle.plan_model.specs.Trees.PointsByNumber.{IsFree, IsPresent, node_count}
-use Rattle.plan_model.specs.Runs.RecordLaw.{IsEarlier, IsLawfulRecord, IsNeighbour}
-use Rattle.plan_model.specs.Runs.Textbook.{Setup, placed_record}
-use Rattle.plan_model.specs.Trees.NodeLists.{points_of}
-use Rattle.plan_model.specs.Trees.TreeStates.{TreeState}
-use Rattle.plan_model.specs.Vectors.Runs.{marks_to_rewire, open_setup, rewired_records, rewired_tree}
-use Rattle.plan_model.specs.Vectors.Shapes.{at}
-use Rattle.plan_model.proofs.DistinctPoints.{AreDistinct-placed}
-use Rattle.plan_model.proofs.EmptyRoomClearance.{Clear-empty_room}
-use Rattle.plan_model.proofs.GoalNodes.{no_goal_node}
-use Rattle.plan_model.proofs.LeastPairLaws.{IsNotAbove-lesser, IsNotAbove-refl}
-use Rattle.plan_model.proofs.OpenRoomMarks.{cost_2000, cost_2401, cost_2441, cost_2500}
-use Rattle.plan_model.proofs.RewiredRun.{rewired_run}
-use Rattle.plan_model.proofs.RootLaws.{root_ceiling-from_squares}
-use Rattle.plan_model.proofs.TextbookRuns.{IsClosed-textbook}
-use Rattle.grown_runs.specs.Runs.PackedRuns.{state_of_lists}
-use Rattle.plan_model.specs.Runs.Turns.{RunFromZero}
-use Rattle.plan_model.proofs.PlacedNodes.{ArePlacedMarks-from}
-use Rattle.plan_model.proofs.TurnsFromZero.{AreTurns-counted}
+use Rattle.grown_runs.proofs.Common.{Point, Placed, Record, Knot, ClearAt, IsClosed, mark_at, cost_of, empty_room, squared_distance, IsNotAbove, distance_to}
+use Rattle.grown_runs.proofs.Common.{HangsBelow, IsAllowedEdge, most_cost_of, IsFree, IsPresent, node_count, IsEarlier, IsLawfulRecord, IsNeighbour, Setup}
+use Rattle.grown_runs.proofs.Common.{placed_record, points_of, TreeState, marks_to_rewire, open_setup, rewired_records, rewired_tree, at, AreDistinct-placed}
+use Rattle.grown_runs.proofs.Common.{Clear-empty_room, no_goal_node, IsNotAbove-lesser, IsNotAbove-refl, cost_2000, cost_2401, cost_2441, cost_2500}
+use Rattle.grown_runs.proofs.Common.{rewired_run, root_ceiling-from_squares, IsClosed-textbook, state_of_lists, RunFromZero, ArePlacedMarks-from}
+use Rattle.grown_runs.proofs.Common.{AreTurns-counted}
 
 abbrev pub rrt_setup : Setup
 rrt_setup = record { space = empty_room (at 100 100); start = at 0 0; step = 50; gamma = 0; goals = [] }

@@ -3,3 +3,4 @@ pub mod OneView
 pub mod Parts
 pub mod Steps
 pub mod Whole
+pub mod Common

@@ -5,54 +5,20 @@ use Rattle.std.specs.List.{sum_by}
 use mathlib.Core.Option.{some, some-injective, some-ne-none}
 use lib.ListN.{get_elem?}
 use Rattle.std.proofs.lemmas.Bool.{cases_Bool, le-ltb, ne_eqb}
-use Rattle.plan_model.specs.declared.geometry.Point.{Point}
-use Rattle.plan_model.specs.Geometry.Bounds.{IsBounded}
-use Rattle.plan_model.specs.Runs.ClosedLaw.{mark_at}
-use Rattle.plan_model.specs.Runs.OrderLaw.{most_cost_of}
-use Rattle.plan_model.specs.Scenes.MarkPoints.{is_claimed}
-use Rattle.plan_model.specs.Spaces.Clearance.{ClearAt}
-use Rattle.plan_model.specs.Runs.Turns.{once_if, times_of, turns_of}
-use Rattle.plan_model.specs.Seen.SeenParents.{AreSeenLawfully}
-use Rattle.plan_model.specs.Seen.SeenTrees.{IsRooted, IsSeen}
-use Rattle.plan_model.specs.Seen.Ways.{FollowWays}
-use Rattle.plan_model.specs.Trees.BestNode.{IsGoalNode}
-use Rattle.plan_model.specs.Trees.PointsByNumber.{IsPresent, StandsAt, node_count}
-use Rattle.plan_model.specs.Trees.TreeStates.{first_cost_of}
-use Rattle.plan_model.specs.Vectors.Shapes.{at}
-use Rattle.plan_model.proofs.EmptyRoomClearance.{Clear-empty_room}
-use Rattle.plan_model.proofs.GoalNodes.{no_goal_node}
-use Rattle.plan_model.proofs.NewNodes.{IsPresent-stands}
-use Rattle.plan_model.proofs.SegmentLaws.{Clear-first}
-use Rattle.plan_model.proofs.StripMarks.{is_claimed-past}
-use Rattle.plan_model.proofs.WayLinks.{FollowWays-start}
-use Rattle.grown_runs.specs.Runs.GrownWords.{IsWritten, child_of_word, children_of_words, has_placed, is_linked, record_at}
-use Rattle.grown_runs.specs.Table.SeenWords.{seen_tree_of_words}
-use Rattle.step_core.specs.SharedWords.{linked_points}
-use Rattle.step_core.specs.ViewTrees.{SeesNode, SeesTree}
-use Rattle.step_core.specs.Views.{IsViewOf, run_sizes, sees, setup_in, share, spent, times, took_over, tree_seen}
-use Rattle.grown_runs.specs.Table.WordKinds.{AreBehind, HaveWholePairs}
-use Rattle.grown_runs.specs.Table.WordNames.{Word, Words}
-use Rattle.grown_runs.specs.Table.WordNames.Word.{Best, ChildOf, Count, Counter, FirstOf, PointOf, RecordOf, TreeOf}
-use Rattle.grown_runs.specs.Table.WordPlaces.{HasWord, Sizes, word_at}
-use Rattle.grown_runs.specs.Table.Words.{no_best, point_of_word, tree_of_word}
-use Rattle.step_core.specs.Worlds.{Agree, EachView, IsMember, IsWorld, SeesBest, Trees, counters, state_in}
+use Rattle.grown_runs.proofs.Common.{Point, IsBounded, mark_at, most_cost_of, is_claimed, ClearAt, once_if, times_of, turns_of, AreSeenLawfully, IsRooted}
+use Rattle.grown_runs.proofs.Common.{IsSeen, FollowWays, IsGoalNode, IsPresent, StandsAt, node_count, first_cost_of, at, Clear-empty_room, no_goal_node}
+use Rattle.grown_runs.proofs.Common.{IsPresent-stands, Clear-first, is_claimed-past, FollowWays-start, IsWritten, child_of_word, children_of_words, has_placed}
+use Rattle.grown_runs.proofs.Common.{is_linked, record_at, seen_tree_of_words, AreBehind, HaveWholePairs, Word, Words, Best, ChildOf, Count, Counter, FirstOf}
+use Rattle.grown_runs.proofs.Common.{PointOf, RecordOf, TreeOf, HasWord, Sizes, no_best, point_of_word, tree_of_word, record_at-unwritten, in_child}
+use Rattle.grown_runs.proofs.Common.{IsStartWord, AreBehind-refl, word_at-none}
+use Rattle.step_core.proofs.Common.{linked_points, SeesNode, SeesTree, IsViewOf, run_sizes, sees, setup_in, share, spent, times, took_over, tree_seen, Agree}
+use Rattle.step_core.proofs.Common.{EachView, IsMember, IsWorld, SeesBest, Trees, counters, state_in, IsPresent-seen, linked-present, point_at-seen}
+use Rattle.step_core.proofs.Common.{seen-within, zero-read, IsWrittenFor, AreBehind-nothing, HasFirst, HasTree, AreSeenLawfully-all}
+use Rattle.grown_runs.specs.Table.WordPlaces.{word_at}
 use Rattle.step_core.specs.declared.views.Hand.{Hand}
 use Rattle.step_core.specs.declared.views.Member.{Member}
 use Rattle.step_core.specs.declared.views.SharedRun.{SharedRun}
 use Rattle.step_core.specs.declared.views.View.{View}
-use Rattle.grown_runs.proofs.Runs.GrownPoints.{record_at-unwritten}
-use Rattle.step_core.proofs.OneView.LawfulSights.{IsPresent-seen}
-use Rattle.grown_runs.proofs.Runs.LinkedPresence.{in_child}
-use Rattle.step_core.proofs.Parts.LinkedStates.{linked-present}
-use Rattle.step_core.proofs.Seen.SeenWords.{point_at-seen, seen-within}
-use Rattle.grown_runs.proofs.Runs.StartWords.{IsStartWord}
-use Rattle.grown_runs.proofs.Table.WordKinds.{AreBehind-refl}
-use Rattle.grown_runs.proofs.Table.WordReads.{word_at-none}
-use Rattle.step_core.proofs.Parts.WorldEmpties.{zero-read}
-use Rattle.step_core.proofs.Parts.WorldHands.{IsWrittenFor}
-use Rattle.step_core.proofs.Steps.WorldJoins.{AreBehind-nothing}
-use Rattle.step_core.proofs.Parts.WorldPairs.{HasFirst, HasTree}
-use Rattle.step_core.proofs.Parts.WorldSeenPairs.{AreSeenLawfully-all}
 use Rattle.step_core_tests.specs.SmallWorlds.{idle, never, small_run, start_table, view_with, worker_at}
 
 abbrev sizes : Sizes

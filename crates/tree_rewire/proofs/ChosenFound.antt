@@ -5,25 +5,12 @@ use Rattle.std.specs.Prelude.{All, Contains, slice_get, slice_index_or}
 use Rattle.std.proofs.lemmas.Bool.{cases_eq, cases_lt}
 use Rattle.std.proofs.lemmas.List.Elements.{All-contains, All-map, All-push, Contains-append_left, Contains-get_or, Contains-push}
 use Rattle.edge_cost.proofs.CostBounds.{cost_of-low}
-use Rattle.plan_model.specs.Geometry.Bounds.{IsBounded}
-use Rattle.step_core.proofs.OneView.LawfulSights.{IsBounded-seen}
-use Rattle.plan_model.specs.declared.configuration_spaces.ConfigurationSpace.{ConfigurationSpace}
-use Rattle.plan_model.specs.declared.geometry.Point.{Point}
-use Rattle.plan_model.specs.Geometry.Cost.{cost_of}
-use Rattle.plan_model.specs.Trees.LeastPairs.{IsFirstLeast, IsNotAbove}
-use Rattle.plan_model.specs.Trees.OpenNodes.{IsOpenTo}
-use Rattle.plan_model.specs.Trees.PointsByNumber.{IsPresent, point_of}
-use Rattle.plan_model.proofs.NewNodes.{StandsAt-present}
-use Rattle.plan_model.proofs.ListMembers.{Contains-after, Contains-first}
-use Rattle.plan_words.specs.SearchLists.{numbers_of, weighed}
+use Rattle.grown_runs.proofs.Common.{IsBounded, ConfigurationSpace, Point, cost_of, IsFirstLeast, IsNotAbove, IsOpenTo, IsPresent, point_of, StandsAt-present}
+use Rattle.grown_runs.proofs.Common.{Contains-after, Contains-first, cost_in, parent_in, tree_word, cost_in-tree_word, parent_in-tree_word}
+use Rattle.step_core.proofs.Common.{IsBounded-seen, IsLawfulView, tree_seen, Contains-cases}
+use Rattle.plan_words.proofs.Common.{numbers_of, weighed, GoesOn}
 use Rattle.plan_words.specs.declared.spots.Found.{Found}
-use Rattle.plan_words.specs.States.{GoesOn}
-use Rattle.step_core.specs.LaterViews.{IsLawfulView}
-use Rattle.step_core.specs.Views.{tree_seen}
-use Rattle.grown_runs.specs.Table.Words.{cost_in, parent_in, tree_word}
 use Rattle.step_core.specs.declared.views.View.{View}
-use Rattle.step_core.proofs.Seen.DistinctNumbers.{Contains-cases}
-use Rattle.grown_runs.proofs.Table.PackedWords.{cost_in-tree_word, parent_in-tree_word}
 use Rattle.tree_rewire.specs.FoundNodes.{IsWeighed, StandsAsFound}
 use Rattle.tree_rewire.specs.NearNodes.{IsBlockedBelow, IsClearTo, IsNextOf, IsNextWord, IsOpenWord, word_through}
 use Rattle.tree_rewire.specs.SeenCosts.{NamesNothing, SeesAnew, SeesPair, seen_cost_through}

@@ -4,21 +4,11 @@ use Rattle.std.specs.Prelude.{All, Contains, slice_get}
 use Rattle.std.proofs.lemmas.List.{drop_more, take_more}
 use Rattle.std.proofs.lemmas.List.Elements.{All-contains, All-push, Contains-get_or}
 use Rattle.std.proofs.lemmas.Option.{get_or_from_slice_get, slice_get_within}
-use Rattle.plan_model.specs.declared.geometry.Point.{Point}
-use Rattle.plan_model.specs.Spaces.Clearance.{Clear}
-use Rattle.plan_model.specs.declared.configuration_spaces.ConfigurationSpace.{ConfigurationSpace}
-use Rattle.plan_model.specs.Spaces.ConfigurationSpace.{space_of}
-use Rattle.plan_model.specs.Geometry.Cost.{cost_of}
-use Rattle.plan_model.specs.Geometry.Plane.{squared_distance}
-use Rattle.plan_model.specs.Trees.LeastPairs.{IsFirstLeast, IsNotAbove}
-use Rattle.plan_model.specs.Trees.OpenNodes.{IsOpenTo}
-use Rattle.plan_model.specs.Trees.PointsByNumber.{IsPresent, point_of}
-use Rattle.plan_model.proofs.NewNodes.{StandsAt-present}
+use Rattle.grown_runs.proofs.Common.{Point, Clear, ConfigurationSpace, space_of, cost_of, squared_distance, IsFirstLeast, IsNotAbove, IsOpenTo, IsPresent}
+use Rattle.grown_runs.proofs.Common.{point_of, StandsAt-present}
 use Rattle.plan_words.specs.States.{GoesOn, SharedState, run_in}
-use Rattle.step_core.specs.ViewTrees.{IsCostBelow, SeesPoint}
-use Rattle.step_core.specs.Views.{setup_in, tree_seen}
+use Rattle.step_core.proofs.Common.{IsCostBelow, SeesPoint, setup_in, tree_seen, IsPresent-later}
 use Rattle.step_core.specs.declared.views.View.{View}
-use Rattle.step_core.proofs.OneView.SeenViews.{IsPresent-later}
 use Rattle.tree_rewire.specs.SeenCosts.{IsInReach, NamesNothing, SeesAnew, SeesPair, cost_seen, seen_cost_through}
 use Rattle.tree_rewire.proofs.CostSteps.{seen_cost_through-same, point_of-same}
 use Rattle.tree_rewire.proofs.SeenCosts.{point_later}

@@ -1,25 +1,12 @@
 -- What steps leave of a pass that show some words anew, one after another.
 use Rattle.std.proofs.Common.{◌≡◌, ℕ, refl, sym, ap, ◌∙◌, subst, arith, inl, inr}
 use Rattle.std.specs.Prelude.{Err, IfErr, IfOk, Ok, Result, unwrap_or}
-use Rattle.plan_model.specs.declared.geometry.Point.{Point}
-use Rattle.plan_model.specs.Geometry.Cost.{cost_of}
-use Rattle.plan_model.specs.Trees.PointsByNumber.{IsPresent, point_of}
-use Rattle.plan_words.specs.Bests.{HasPostedHand, OnlyPosts}
-use Rattle.plan_words.specs.States.{BelongsTo, GoesOn, PassState, SharedState, with_view}
-use Rattle.plan_words.proofs.Claiming.{KeepsHand-trans}
-use Rattle.plan_words.proofs.GoingOn.{BelongsTo-later, GoesOn-refl, GoesOn-trans}
-use Rattle.plan_words.proofs.PostedGoals.{HasPostedHand-kept}
-use Rattle.plan_words.proofs.Posting.{hand-posted}
-use Rattle.step_core.specs.LaterViews.{IsLawfulView}
-use Rattle.step_core.specs.ViewSteps.{loaded, saw}
-use Rattle.step_core.proofs.Seen.SeenByViews.{WritesWord-looked}
-use Rattle.step_core.specs.ViewTrees.{SeesNode}
-use Rattle.step_core.specs.Views.{sees, tree_seen}
-use Rattle.grown_runs.specs.Table.WordNames.{Word, WritesWord}
-use Rattle.grown_runs.specs.Table.WordNames.Word.{Best, ChildOf, Count, Counter, FirstOf, PointOf, RecordOf, TreeOf}
-use Rattle.grown_runs.specs.Table.Words.{cost_in}
+use Rattle.grown_runs.proofs.Common.{Point, cost_of, IsPresent, point_of, Word, WritesWord, Best, ChildOf, Count, Counter, FirstOf, PointOf, RecordOf, TreeOf}
+use Rattle.grown_runs.proofs.Common.{cost_in}
+use Rattle.plan_words.proofs.Common.{HasPostedHand, OnlyPosts, BelongsTo, GoesOn, PassState, SharedState, with_view, KeepsHand-trans, BelongsTo-later}
+use Rattle.plan_words.proofs.Common.{GoesOn-refl, GoesOn-trans, HasPostedHand-kept, hand-posted}
+use Rattle.step_core.proofs.Common.{IsLawfulView, loaded, saw, WritesWord-looked, SeesNode, sees, tree_seen, point_at-kept}
 use Rattle.step_core.specs.declared.views.View.{View}
-use Rattle.step_core.proofs.OneView.KeptPoints.{point_at-kept}
 use Rattle.tree_rewire.specs.SeenCosts.{IsLoadedSince, NamesNothing, NamesPoint, NamesTreeOrPoint, NamesTree, PassLowers, PassSees, SeesAnew, seen_cost_through}
 use Rattle.tree_rewire.proofs.SeenCosts.{load_shows_none}
 

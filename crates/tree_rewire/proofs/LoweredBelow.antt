@@ -2,14 +2,10 @@
 use Rattle.std.proofs.Common.{◌≡◌, ◌⊎◌, ℕ, suc, ◌+◌, ◌*◌, ◌<◌, ◌≤◌, Option, Some, None, length, arith, inl, inr, refl, sym, ap, subst}
 use Rattle.std.proofs.lemmas.Bool.{cases_eq}
 use Rattle.std.proofs.lemmas.Nat.{mul-le}
-use Rattle.plan_words.specs.LoweredChildren.{CostsAtMostThrough, HasQueued, IsFound, LooksOn, LowersChildren}
-use Rattle.plan_words.specs.States.{BelongsTo, GoesOn, PassState, SharedState}
-use Rattle.plan_words.specs.Waiting.{HasSeenParent, IsOn}
-use Rattle.plan_words.proofs.GoingOn.{GoesOn-refl, GoesOn-trans}
-use Rattle.step_core.specs.LaterViews.{IsLawfulView}
-use Rattle.step_core.specs.Views.{sees}
-use Rattle.grown_runs.specs.Table.WordNames.Word.{TreeOf}
-use Rattle.grown_runs.specs.Table.Words.{cost_in}
+use Rattle.plan_words.proofs.Common.{CostsAtMostThrough, HasQueued, IsFound, LooksOn, LowersChildren, BelongsTo, GoesOn, PassState, SharedState, HasSeenParent}
+use Rattle.plan_words.proofs.Common.{IsOn, GoesOn-refl, GoesOn-trans}
+use Rattle.step_core.proofs.Common.{IsLawfulView, sees}
+use Rattle.grown_runs.proofs.Common.{TreeOf, cost_in}
 use Rattle.step_core.specs.declared.views.View.{View}
 use Rattle.tree_rewire.specs.SeenCosts.{NamesTreeOrPoint, PassLowers, SeesPair, cost_seen}
 use Rattle.tree_rewire.specs.Spreads.{IsSpreading, IsWithinParent, IsWithinSeenParent, NoneRises, OnlyAt, QueuesFallen, SpreadsFrom}

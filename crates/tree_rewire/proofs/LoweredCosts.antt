@@ -1,16 +1,8 @@
 -- When a cost may be lowered, and when it need not.
 use Rattle.std.proofs.Common.{◌≡◌, ℕ, ◌+◌, ◌<◌, ◌≤◌, is_some, arith, refl, sym, ap, ◌∙◌, subst}
-use Rattle.plan_model.specs.declared.geometry.Point.{Point}
-use Rattle.plan_model.specs.Geometry.Cost.{cost_of}
-use Rattle.plan_model.specs.Runs.OrderLaw.{IsAllowedEdge}
-use Rattle.plan_model.specs.Trees.PointsByNumber.{IsPresent, point_of}
-use Rattle.plan_model.proofs.NewNodes.{point_of-stands}
+use Rattle.grown_runs.proofs.Common.{Point, cost_of, IsAllowedEdge, IsPresent, point_of, point_of-stands, TreeOf, cost_in, parent_in}
 use Rattle.plan_words.specs.Parents.{IsPairIn}
-use Rattle.step_core.specs.LaterViews.{IsLawfulView}
-use Rattle.step_core.specs.ViewTrees.{MayLower, SeesPoint}
-use Rattle.step_core.specs.Views.{sees, setup_in, tree_seen}
-use Rattle.grown_runs.specs.Table.WordNames.Word.{TreeOf}
-use Rattle.grown_runs.specs.Table.Words.{cost_in, parent_in}
+use Rattle.step_core.proofs.Common.{IsLawfulView, MayLower, SeesPoint, sees, setup_in, tree_seen}
 use Rattle.step_core.specs.declared.views.View.{View}
 use Rattle.tree_rewire.specs.SeenCosts.{SeesPair, cost_seen, seen_cost_through, parent_seen}
 use Rattle.tree_rewire.specs.Spreads.{IsWithinSeenParent, IsWithinParent}

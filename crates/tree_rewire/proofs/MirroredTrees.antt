@@ -1,23 +1,11 @@
 -- A tree of the textbook that a view with the whole share sees: its costs are exact, and exact costs are sums.
 use Rattle.std.proofs.Common.{◌≡◌, ℕ, zero, suc, ◌+◌, ◌<◌, is_some, arith, refl, sym, ap, ◌∙◌, subst}
 use Rattle.std.specs.Prelude.{unwrap_or}
-use Rattle.plan_model.specs.Geometry.Cost.{cost_of}
-use Rattle.plan_model.specs.Runs.OrderLaw.{KeepsOrder}
-use Rattle.plan_model.specs.Trees.PointsByNumber.{IsPresent, point_at, point_of}
-use Rattle.plan_model.specs.Runs.Textbook.{Nodes}
-use Rattle.plan_model.specs.Trees.NodeLists.{AreTight, CostsFall, edge_of, parent_of, points_of}
-use Rattle.plan_model.specs.Trees.TreeStates.{TreeState}
-use Rattle.plan_model.proofs.ChainLaws.{sum-parent, sums-tight}
-use Rattle.plan_model.proofs.OrderLaws.{KeepsOrder-falls}
-use Rattle.plan_words.specs.Claims.{SeesAsBefore}
-use Rattle.plan_words.specs.States.{HasWholeShare}
-use Rattle.step_core.specs.LaterViews.{IsLater, IsLawfulView}
-use Rattle.step_core.specs.SharedWords.{state_of_links}
-use Rattle.step_core.specs.Views.{run_sizes, sees, setup_in, tree_seen}
-use Rattle.grown_runs.specs.Table.WordNames.Word.{PointOf, TreeOf}
-use Rattle.grown_runs.specs.Table.Words.{cost_in, parent_in}
+use Rattle.grown_runs.proofs.Common.{cost_of, KeepsOrder, IsPresent, point_at, point_of, Nodes, AreTight, CostsFall, edge_of, parent_of, points_of, TreeState}
+use Rattle.grown_runs.proofs.Common.{sum-parent, sums-tight, KeepsOrder-falls, PointOf, TreeOf, cost_in, parent_in}
+use Rattle.plan_words.proofs.Common.{SeesAsBefore, HasWholeShare}
+use Rattle.step_core.proofs.Common.{IsLater, IsLawfulView, state_of_links, run_sizes, sees, setup_in, tree_seen, point_at-kept}
 use Rattle.step_core.specs.declared.views.View.{View}
-use Rattle.step_core.proofs.OneView.KeptPoints.{point_at-kept}
 use Rattle.tree_rewire.specs.Mirrors.{Mirrors}
 use Rattle.tree_rewire.specs.SeenCosts.{SeesPair, cost_seen, seen_cost_through, parent_seen}
 use Rattle.tree_rewire.specs.Spreads.{AllTight}

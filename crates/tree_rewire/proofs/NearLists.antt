@@ -2,13 +2,10 @@
 use Rattle.std.proofs.Common.{◌≡◌, refl, ap, ◌∙◌}
 use Rattle.std.specs.Prelude.{All}
 use Rattle.std.proofs.lemmas.List.Elements.{All-map}
-use Rattle.plan_model.proofs.NewNodes.{IsPresent-stands}
-use Rattle.plan_model.specs.declared.geometry.Point.{Point}
-use Rattle.plan_words.specs.SearchLists.{SearchLists, numbers_of}
-use Rattle.plan_words.specs.States.{GoesOn, Lists, PassState, with_lists, with_view}
+use Rattle.grown_runs.proofs.Common.{IsPresent-stands, Point}
+use Rattle.plan_words.proofs.Common.{SearchLists, numbers_of, GoesOn, Lists, PassState, with_lists, with_view}
 use Rattle.plan_words.specs.declared.spots.Found.{Found}
-use Rattle.step_core.proofs.OneView.SeenViews.{IsPresent-later}
-use Rattle.step_core.specs.Views.{tree_seen}
+use Rattle.step_core.proofs.Common.{IsPresent-later, tree_seen}
 use Rattle.step_core.specs.declared.views.View.{View}
 use Rattle.tree_rewire.proofs.ChosenFound.{AllWeighed-seen}
 use Rattle.tree_rewire.proofs.FoundLists.{numbers-weighed}

@@ -9,25 +9,14 @@ use Rattle.std.proofs.lemmas.List.Elements.{All-contains, All-contains_itself, A
 use Rattle.std.proofs.lemmas.List.Kept.{IsStrictlySortedBy-filter}
 use Rattle.std.proofs.lemmas.List.Sorted.{Contains-permutation, IsPermutation-map, IsPermutation-sym}
 use Rattle.std.proofs.lemmas.Map.Keys.{IsDistinct-IsPermutation, IsStrictlyIncreasing-from_distinct, sorted_from_strictly_increasing}
-use Rattle.plan_model.specs.declared.geometry.Point.{Point}
-use Rattle.plan_model.specs.Geometry.Cost.{cost_of}
-use Rattle.plan_model.specs.Runs.Textbook.{Nodes, Rewires}
-use Rattle.plan_model.specs.declared.configuration_spaces.ConfigurationSpace.{ConfigurationSpace}
-use Rattle.plan_model.specs.Trees.NodeLists.{CostsFall, parent_of, points_of, sum_of}
-use Rattle.plan_model.specs.Trees.PointsByNumber.{AreDistinct, IsPresent, point_of}
-use Rattle.plan_model.proofs.CostLaws.{cost_of-swap}
-use Rattle.plan_model.proofs.NearNodes.{Contains-filter}
-use Rattle.plan_model.proofs.NewNodes.{point_of-stands}
-use Rattle.plan_words.specs.SearchLists.{is_dearer, numbers_of}
-use Rattle.plan_words.specs.States.{HasWholeShare, tree_words}
+use Rattle.grown_runs.proofs.Common.{Point, cost_of, Nodes, Rewires, ConfigurationSpace, CostsFall, parent_of, points_of, sum_of, AreDistinct, IsPresent}
+use Rattle.grown_runs.proofs.Common.{point_of, cost_of-swap, Contains-filter, point_of-stands}
+use Rattle.plan_words.proofs.Common.{is_dearer, numbers_of, HasWholeShare, tree_words, Contains-number, distinct_numbers, eqb-swap, same_numbers, if_hand}
 use Rattle.plan_words.specs.declared.spots.Found.{Found}
-use Rattle.plan_words.proofs.RisingNumbers.{Contains-number, distinct_numbers, eqb-swap, same_numbers}
-use Rattle.step_core.specs.LaterViews.{IsLawfulView}
-use Rattle.step_core.specs.Views.{tree_seen}
+use Rattle.step_core.proofs.Common.{IsLawfulView, tree_seen, SeesPoint}
 use Rattle.step_core.specs.declared.views.View.{View}
 use Rattle.tree_rewire.specs.FoundNodes.{AreOf, IsWeighed}
 use Rattle.tree_rewire.specs.Mirrors.{Mirrors}
-use Rattle.plan_words.proofs.KeptPairs.{if_hand}
 use Rattle.step_core.specs.declared.views.Hand.{Hand}
 use Rattle.tree_rewire.proofs.RewiredNodes.{placed_cost}
 use Rattle.tree_rewire.specs.Rewirings.{HasPlaced}
@@ -35,7 +24,6 @@ use Rattle.tree_rewire.specs.SeenCosts.{IsInReach, cost_seen}
 use Rattle.tree_rewire.proofs.FoundLists.{Contains-image, Contains-kept, kept_passes}
 use Rattle.tree_rewire.proofs.MirroredTrees.{CostsFall-seen}
 use Rattle.tree_rewire.proofs.SkippedNodes.{IsNoDearer, Rewires-some}
-use Rattle.step_core.specs.ViewTrees.{SeesPoint}
 
 -- what a list has only where a test passes
 filtered : (p : ℕ → Bool) (ns : List ℕ) (n : ℕ) → Contains (filter p ns) n → p n ≡ true

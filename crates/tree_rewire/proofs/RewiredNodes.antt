@@ -2,25 +2,13 @@
 use Rattle.std.proofs.Common.{◌≡◌, ℕ, suc, ◌+◌, ◌≤◌, true, List, Some, arith, refl, sym, ap, ◌∙◌, subst}
 use Rattle.std.specs.Prelude.{All, Contains, IfSome}
 use Rattle.std.proofs.lemmas.List.Elements.{All-contains}
-use Rattle.plan_model.specs.declared.geometry.Point.{Point}
-use Rattle.plan_model.specs.Spaces.Clearance.{Clear}
-use Rattle.plan_model.specs.declared.configuration_spaces.ConfigurationSpace.{ConfigurationSpace}
-use Rattle.plan_model.specs.Geometry.Cost.{cost_of}
-use Rattle.plan_model.specs.Trees.PointsByNumber.{IsPresent, point_of}
-use Rattle.plan_words.specs.States.{GoesOn}
-use Rattle.plan_words.proofs.HandSteps.{at_hand}
-use Rattle.plan_words.proofs.KeptPairs.{if_hand}
-use Rattle.step_core.specs.LaterViews.{IsLawfulView}
-use Rattle.step_core.specs.Stages.{has_count, has_first}
-use Rattle.step_core.specs.ViewTrees.{SeesPoint}
-use Rattle.step_core.specs.Views.{sees, tree_seen}
-use Rattle.grown_runs.specs.Table.WordNames.Word.{FirstOf}
-use Rattle.grown_runs.specs.Table.Words.{cost_in}
+use Rattle.grown_runs.proofs.Common.{Point, Clear, ConfigurationSpace, cost_of, IsPresent, point_of, FirstOf, cost_in, cost_in-tree_word}
+use Rattle.plan_words.proofs.Common.{GoesOn, at_hand, if_hand}
+use Rattle.step_core.proofs.Common.{IsLawfulView, has_count, has_first, SeesPoint, sees, tree_seen}
 use Rattle.step_core.specs.declared.views.Hand.{Hand}
 use Rattle.step_core.specs.declared.views.Stage.{Stage}
 use Rattle.step_core.specs.declared.views.Stage.TheVariants.{Claimed, Counted, Half, Linked, Pointed, Posted, Treed}
 use Rattle.step_core.specs.declared.views.View.{View}
-use Rattle.grown_runs.proofs.Table.PackedWords.{cost_in-tree_word}
 use Rattle.tree_rewire.specs.Rewirings.{HasPlaced}
 use Rattle.tree_rewire.specs.SeenCosts.{IsInReach, SeesPair, cost_seen}
 use Rattle.tree_rewire.proofs.ChosenParents.{points_later}

@@ -2,25 +2,12 @@
 use Rattle.std.proofs.Common.{◌≡◌, ◌≢◌, ℕ, ◌+◌, ◌-◌, ◌<◌, ◌^◌, List, ◌∷◌, is_some, arith, inl, inr, refl, sym, ap, ◌∙◌, subst}
 use Rattle.std.specs.Prelude.{unwrap_or}
 use Rattle.std.proofs.lemmas.Bool.{cases_eq}
-use Rattle.plan_model.specs.declared.geometry.Point.{Point}
-use Rattle.plan_model.specs.Spaces.Clearance.{Clear}
-use Rattle.plan_model.specs.declared.configuration_spaces.ConfigurationSpace.{ConfigurationSpace}
-use Rattle.plan_model.specs.Geometry.Cost.{cost_of}
-use Rattle.plan_model.specs.Trees.PointsByNumber.{IsPresent, point_at, point_of}
-use Rattle.plan_model.specs.Runs.Textbook.{IsCheaperThrough, Nodes, RewiresOne, Rewires, with_parent}
-use Rattle.plan_model.specs.Trees.NodeLists.{parent_of, points_of}
-use Rattle.plan_model.proofs.NewNodes.{point_of-stands}
-use Rattle.plan_model.proofs.ParentChanges.{HasCheaperParent, parent_kept, parent_new, points_of-cheaper_parent}
+use Rattle.grown_runs.proofs.Common.{Point, Clear, ConfigurationSpace, cost_of, IsPresent, point_at, point_of, IsCheaperThrough, Nodes, RewiresOne, Rewires}
+use Rattle.grown_runs.proofs.Common.{with_parent, parent_of, points_of, point_of-stands, HasCheaperParent, parent_kept, parent_new, points_of-cheaper_parent}
+use Rattle.grown_runs.proofs.Common.{WritesWord, PointOf, TreeOf, cost_in, parent_in, tree_word, cost_in-tree_word, parent_in-tree_word}
 use Rattle.plan_words.specs.States.{GoesOn, HasWholeShare}
-use Rattle.step_core.specs.LaterViews.{IsLater, IsLawfulView}
-use Rattle.step_core.specs.ViewTrees.{SeesPoint}
-use Rattle.step_core.specs.Views.{sees, tree_seen}
-use Rattle.grown_runs.specs.Table.WordNames.{WritesWord}
-use Rattle.grown_runs.specs.Table.WordNames.Word.{PointOf, TreeOf}
-use Rattle.grown_runs.specs.Table.Words.{cost_in, parent_in, tree_word}
+use Rattle.step_core.proofs.Common.{IsLater, IsLawfulView, SeesPoint, sees, tree_seen, point_at-kept}
 use Rattle.step_core.specs.declared.views.View.{View}
-use Rattle.grown_runs.proofs.Table.PackedWords.{cost_in-tree_word, parent_in-tree_word}
-use Rattle.step_core.proofs.OneView.KeptPoints.{point_at-kept}
 use Rattle.tree_rewire.specs.Mirrors.{Mirrors}
 use Rattle.tree_rewire.specs.SeenCosts.{SeesPair, cost_seen, seen_cost_through, parent_seen}
 use Rattle.tree_rewire.specs.Spreads.{AllTight, AllTightBut, IsTight, KeepsParents, SeesKnot}

@@ -1,20 +1,10 @@
 -- What a lawful view has seen of nodes, and what stays of it.
 use Rattle.std.proofs.Common.{◌≡◌, ℕ, ◌≤◌, is_some, length, arith, sym, ap, ◌∙◌, inl, inr}
-use Rattle.plan_model.specs.declared.geometry.Point.{Point}
-use Rattle.plan_model.specs.Trees.PointsByNumber.{IsPresent, point_of}
-use Rattle.plan_model.proofs.NewNodes.{StandsAt-present, StandsAt-unique}
+use Rattle.grown_runs.proofs.Common.{Point, IsPresent, point_of, StandsAt-present, StandsAt-unique, Word, WritesWord, PointOf, TreeOf, cost_in, point_of_word}
+use Rattle.grown_runs.proofs.Common.{if_written-set}
 use Rattle.plan_words.specs.States.{GoesOn}
-use Rattle.step_core.specs.LaterViews.{IsLawfulView}
-use Rattle.step_core.specs.ViewTrees.{SeesNode, SeesPoint}
-use Rattle.step_core.specs.Views.{run_sizes, sees, tree_seen}
-use Rattle.grown_runs.specs.Table.WordNames.{Word, WritesWord}
-use Rattle.grown_runs.specs.Table.WordNames.Word.{PointOf, TreeOf}
-use Rattle.grown_runs.specs.Table.Words.{cost_in, point_of_word}
+use Rattle.step_core.proofs.Common.{IsLawfulView, SeesNode, SeesPoint, run_sizes, sees, tree_seen, same_name, SeesPoint-later, point_at-seen, seen-within}
 use Rattle.step_core.specs.declared.views.View.{View}
-use Rattle.step_core.proofs.Seen.Looks.{same_name}
-use Rattle.grown_runs.proofs.Table.ReadWords.{if_written-set}
-use Rattle.step_core.proofs.OneView.SeenViews.{SeesPoint-later}
-use Rattle.step_core.proofs.Seen.SeenWords.{point_at-seen, seen-within}
 use Rattle.tree_rewire.specs.SeenCosts.{IsLoadedSince, SeesPair, cost_seen, parent_seen}
 
 -- ---- nodes

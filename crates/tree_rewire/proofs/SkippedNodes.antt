@@ -3,15 +3,9 @@ use Rattle.std.proofs.Common.{◌≡◌, ◌≢◌, ℕ, zero, suc, ◌+◌, ◌
 use Rattle.std.specs.Prelude.{All, Contains, filter}
 use Rattle.std.proofs.lemmas.Bool.{cases_eq}
 use Rattle.std.proofs.lemmas.List.Elements.{All-contains, All-head, All-tail}
-use Rattle.plan_model.specs.declared.configuration_spaces.ConfigurationSpace.{ConfigurationSpace}
-use Rattle.plan_model.specs.Geometry.Cost.{cost_of}
-use Rattle.plan_model.specs.Runs.Textbook.{Nodes, Rewires, RewiresOne, cost_through}
-use Rattle.plan_model.specs.Trees.NodeLists.{AreTight, CostsFall, edge_of, parent_of, points_of, sum_of}
-use Rattle.plan_model.specs.Trees.PointsByNumber.{AreDistinct, IsPresent, point_of}
-use Rattle.plan_model.proofs.ChainLaws.{AreTight-sums}
-use Rattle.plan_model.proofs.ListMembers.{Contains-after, Contains-first}
-use Rattle.plan_model.proofs.ParentChanges.{CostsFall-cheaper_parent, CostsFall-tight, HasCheaperParent, IsPresent-cheaper_parent, edge_from, parent_kept}
-use Rattle.plan_model.proofs.ParentChanges.{parent_new, points_of-cheaper_parent}
+use Rattle.grown_runs.proofs.Common.{ConfigurationSpace, cost_of, Nodes, Rewires, RewiresOne, cost_through, AreTight, CostsFall, edge_of, parent_of, points_of}
+use Rattle.grown_runs.proofs.Common.{sum_of, AreDistinct, IsPresent, point_of, AreTight-sums, Contains-after, Contains-first, CostsFall-cheaper_parent}
+use Rattle.grown_runs.proofs.Common.{CostsFall-tight, HasCheaperParent, IsPresent-cheaper_parent, edge_from, parent_kept, parent_new, points_of-cheaper_parent}
 
 -- ---- one node is rewired
 

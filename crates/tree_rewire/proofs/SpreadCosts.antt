@@ -1,18 +1,10 @@
 -- Costs that fall come to the nodes below.
 use Rattle.std.proofs.Common.{◌≡◌, ◌≢◌, ◌⊎◌, ℕ, zero, suc, ◌+◌, ◌<◌, ◌≤◌, ◌^◌, List, [], length, is_some, arith, inl, inr, refl, sym, ap, ◌∙◌, subst}
 use Rattle.std.proofs.lemmas.Bool.{cases_eq}
-use Rattle.plan_model.specs.Geometry.Cost.{cost_of}
-use Rattle.plan_model.specs.Trees.PointsByNumber.{IsPresent, point_of}
-use Rattle.plan_words.specs.LoweredChildren.{LowersChildren}
-use Rattle.plan_words.specs.States.{GoesOn}
-use Rattle.plan_words.specs.Waiting.{HasSeenParent, IsOn}
-use Rattle.plan_words.proofs.GoingOn.{GoesOn-refl, GoesOn-trans}
-use Rattle.step_core.specs.LaterViews.{IsLawfulView}
-use Rattle.step_core.specs.Views.{sees, tree_seen}
-use Rattle.grown_runs.specs.Table.WordNames.Word.{TreeOf}
-use Rattle.grown_runs.specs.Table.Words.{cost_in, parent_in}
+use Rattle.grown_runs.proofs.Common.{cost_of, IsPresent, point_of, TreeOf, cost_in, parent_in}
+use Rattle.plan_words.proofs.Common.{LowersChildren, GoesOn, HasSeenParent, IsOn, GoesOn-refl, GoesOn-trans}
+use Rattle.step_core.proofs.Common.{IsLawfulView, sees, tree_seen, IsPresent-later}
 use Rattle.step_core.specs.declared.views.View.{View}
-use Rattle.step_core.proofs.OneView.SeenViews.{IsPresent-later}
 use Rattle.tree_rewire.specs.SeenCosts.{SeesPair, cost_seen, seen_cost_through, parent_seen}
 use Rattle.tree_rewire.specs.Spreads.{HasSettledChanges, HasSpread, IsLooked, IsSource, IsSpreading, IsWithinParent, IsWithinSeenParent, NoneRises}
 use Rattle.tree_rewire.proofs.ChosenParents.{points_later}

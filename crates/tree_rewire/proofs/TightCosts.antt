@@ -2,17 +2,10 @@
 use Rattle.std.proofs.Common.{◌≡◌, ◌≢◌, ℕ, zero, suc, ◌<◌, ◌≤◌, is_some, arith, inl, inr, sym, ap, ◌∙◌, subst}
 use Rattle.std.specs.Prelude.{unwrap_or}
 use Rattle.std.proofs.lemmas.Bool.{cases_eq, cases_lt}
-use Rattle.plan_model.specs.Geometry.Cost.{cost_of}
-use Rattle.plan_model.specs.Runs.OrderLaw.{KeepsOrder}
-use Rattle.plan_model.specs.Trees.PointsByNumber.{IsPresent, point_at, point_of}
-use Rattle.step_core.specs.LaterViews.{IsLater, IsLawfulView}
-use Rattle.step_core.specs.SharedWords.{linked_points, state_of_links}
-use Rattle.step_core.specs.Views.{run_sizes, sees, setup_in, tree_seen}
-use Rattle.grown_runs.specs.Table.WordNames.Word.{PointOf}
-use Rattle.grown_runs.specs.Table.WordPlaces.{Sizes}
+use Rattle.grown_runs.proofs.Common.{cost_of, KeepsOrder, IsPresent, point_at, point_of, PointOf, Sizes}
+use Rattle.step_core.proofs.Common.{IsLater, IsLawfulView, linked_points, state_of_links, run_sizes, sees, setup_in, tree_seen, point_at-kept}
+use Rattle.step_core.proofs.Common.{linked_points-seen}
 use Rattle.step_core.specs.declared.views.View.{View}
-use Rattle.step_core.proofs.OneView.KeptPoints.{point_at-kept}
-use Rattle.step_core.proofs.OneView.SeenStates.{linked_points-seen}
 use Rattle.tree_rewire.specs.SeenCosts.{cost_seen, seen_cost_through, parent_seen}
 use Rattle.tree_rewire.specs.Spreads.{AllTight, AllTightBut, HasSpread, IsSource, KeepsParents, SeesKnot}
 

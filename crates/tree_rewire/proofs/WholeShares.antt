@@ -2,16 +2,11 @@
 use Rattle.std.proofs.Common.{◌≡◌, ℕ, ◌≤◌, ◌⊎◌, Result, Ok, Err, length, arith, inl, inr, sym, ap, ◌∙◌}
 use Rattle.std.specs.Prelude.{IfOk, IsOk}
 use Rattle.std.proofs.lemmas.Bool.{cases_eq}
-use Rattle.plan_words.specs.Claims.{SeesAsBefore}
-use Rattle.plan_words.specs.LoweredChildren.{IsLoweredChild, LooksOn, LowersChildren, SeesSamePoints}
-use Rattle.plan_words.specs.States.{HasWholeShare}
-use Rattle.step_core.specs.Views.{sees}
-use Rattle.grown_runs.specs.Table.WordNames.{Word, WritesWord}
-use Rattle.grown_runs.specs.Table.WordNames.Word.{Best, ChildOf, Count, Counter, FirstOf, PointOf, RecordOf, TreeOf}
-use Rattle.grown_runs.specs.Table.Words.{cost_in, parent_in}
+use Rattle.plan_words.proofs.Common.{SeesAsBefore, IsLoweredChild, LooksOn, LowersChildren, SeesSamePoints, HasWholeShare}
+use Rattle.step_core.proofs.Common.{sees, same_name}
+use Rattle.grown_runs.proofs.Common.{Word, WritesWord, Best, ChildOf, Count, Counter, FirstOf, PointOf, RecordOf, TreeOf, cost_in, parent_in}
 use Rattle.step_core.specs.declared.views.SharedRun.{SharedRun}
 use Rattle.step_core.specs.declared.views.View.{View}
-use Rattle.step_core.proofs.Seen.Looks.{same_name}
 use Rattle.tree_rewire.specs.SeenCosts.{NamesNothing, NamesTree, SeesAnew, SeesPair, cost_seen, parent_seen}
 use Rattle.tree_rewire.specs.Spreads.{KeepsParents}
 

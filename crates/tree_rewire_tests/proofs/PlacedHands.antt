@@ -4,10 +4,7 @@ use Rattle.std.specs.Prelude.{All, IfSome}
 use Rattle.kd_shared.specs.Placings.{IsPlacing}
 use Rattle.kd_shared.specs.declared.placing.Placing.{Placing}
 use Rattle.kd_shared.specs.declared.placing.Placing.TheVariants.{Placed, Same}
-use Rattle.plan_words.specs.Bests.{HasPostedHand}
-use Rattle.plan_words.specs.States.{BelongsTo, GoesOn, PassState, SharedState}
-use Rattle.plan_words.proofs.HandSteps.{at_hand}
-use Rattle.plan_words.proofs.KeptPairs.{if_hand}
+use Rattle.plan_words.proofs.Common.{HasPostedHand, BelongsTo, GoesOn, PassState, SharedState, at_hand, if_hand}
 use Rattle.step_core.specs.Views.{share}
 use Rattle.step_core.specs.declared.views.Hand.{Hand}
 use Rattle.step_core.specs.declared.views.Stage.TheVariants.{Counted}

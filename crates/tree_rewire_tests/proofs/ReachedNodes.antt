@@ -3,25 +3,12 @@ use Rattle.std.proofs.Common.{◌≡◌, ℕ, ◌*◌, ◌≤◌, true, Some, Li
 use Rattle.std.specs.Prelude.{All, Contains}
 use Rattle.std.proofs.lemmas.List.Elements.{Contains-get_or}
 use Rattle.std.proofs.lemmas.Nat.{mul-le}
-use Rattle.plan_model.specs.declared.geometry.Point.{Point}
-use Rattle.plan_model.specs.Spaces.Clearance.{Clear}
-use Rattle.plan_model.specs.Runs.ClosedLaw.{mark_at}
-use Rattle.plan_model.specs.declared.configuration_spaces.ConfigurationSpace.{ConfigurationSpace}
-use Rattle.plan_model.specs.Geometry.Cost.{cost_of}
-use Rattle.plan_model.specs.Geometry.Plane.{squared_distance}
-use Rattle.plan_model.specs.Trees.LeastPairs.{IsFirstLeast}
-use Rattle.plan_model.specs.Trees.OpenNodes.{IsOpenTo}
-use Rattle.plan_model.specs.Trees.PointsByNumber.{IsPresent, point_of}
-use Rattle.plan_model.specs.Seen.Sights.{Sight}
-use Rattle.plan_model.proofs.NewNodes.{StandsAt-present, point_of-stands}
-use Rattle.plan_model.proofs.SteeringLaws.{IsStep-steered}
+use Rattle.grown_runs.proofs.Common.{Point, Clear, mark_at, ConfigurationSpace, cost_of, squared_distance, IsFirstLeast, IsOpenTo, IsPresent, point_of, Sight}
+use Rattle.grown_runs.proofs.Common.{StandsAt-present, point_of-stands, IsStep-steered}
 use Rattle.kd_shared.specs.Searches.{AreNearSeen}
 use Rattle.kd_shared.proofs.SearchResults.{AreNearSeen-only}
 use Rattle.plan_words.specs.States.{GoesOn}
-use Rattle.step_core.specs.LaterViews.{IsLawfulView}
-use Rattle.step_core.specs.Stages.{has_point}
-use Rattle.step_core.specs.ViewTrees.{IsCostBelow, MayHang, SeesCost, SeesPoint, sight_in}
-use Rattle.step_core.specs.Views.{tree_seen}
+use Rattle.step_core.proofs.Common.{IsLawfulView, has_point, IsCostBelow, MayHang, SeesCost, SeesPoint, sight_in, tree_seen}
 use Rattle.step_core.specs.declared.views.Hand.{Hand}
 use Rattle.step_core.specs.declared.views.View.{View}
 use Rattle.tree_rewire.specs.SeenCosts.{IsInReach, SeesPair, cost_seen, seen_cost_through}

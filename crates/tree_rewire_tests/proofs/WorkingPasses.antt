@@ -2,13 +2,9 @@
 use Rattle.std.proofs.Common.{◌≡◌, ℕ, true, Option, Some, None, [], cond, length, arith, refl, sym, ap, ◌∙◌, subst}
 use Rattle.std.proofs.lemmas.Option.{same_Some}
 use Rattle.plan_model.proofs.SceneBounds.{goals-some}
-use Rattle.plan_words.specs.Bests.{HasPostedHand}
-use Rattle.plan_words.specs.Claims.{KeepsHand}
-use Rattle.plan_words.specs.States.{BelongsTo, GoesOn, MayClaim, PassState, SharedState, run_in, with_view}
-use Rattle.plan_words.proofs.GoingOn.{BelongsTo-later}
-use Rattle.plan_words.proofs.PostedGoals.{HasPostedHand-idle, HasPostedHand-kept}
-use Rattle.step_core.specs.SeenBests.{IsInformed}
-use Rattle.step_core.specs.ViewSteps.{best_loaded, best_taken, hand_with_best}
+use Rattle.plan_words.proofs.Common.{HasPostedHand, KeepsHand, BelongsTo, GoesOn, MayClaim, PassState, SharedState, run_in, with_view, BelongsTo-later}
+use Rattle.plan_words.proofs.Common.{HasPostedHand-idle, HasPostedHand-kept}
+use Rattle.step_core.proofs.Common.{IsInformed, best_loaded, best_taken, hand_with_best}
 use Rattle.step_core.specs.declared.views.Hand.{Hand}
 use Rattle.step_core.specs.declared.views.Stage.{Stage}
 use Rattle.step_core.specs.declared.views.Stage.TheVariants.{Claimed, Counted, Half, Linked, Pointed, Posted, Treed}

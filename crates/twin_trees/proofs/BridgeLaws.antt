@@ -1,7 +1,6 @@
 -- There is one bridge between two trees, or none.
 use Rattle.std.proofs.Common.{◌≡◌, ℕ, Option, Some, None, arith, refl, sym}
-use Rattle.plan_model.specs.Runs.Textbook.{Setup}
-use Rattle.plan_model.specs.Trees.TreeStates.{TreeState}
+use Rattle.grown_runs.proofs.Common.{Setup, TreeState}
 use Rattle.twin_trees.specs.Bridges.{IsBridge, IsTripleNotAbove}
 
 -- two triples of which neither is above the other have the same numbers

@@ -2,11 +2,7 @@
 use Rattle.std.proofs.Common.{◌≡◌, ℕ, ◌+◌, ◌<◌, List, [], ◌∷◌, ◌++◌, All, Contains, arith, ap, sym, subst, ◌∙◌, inl, inr}
 use Rattle.std.proofs.lemmas.Bool.{cases_eq}
 use Rattle.std.proofs.lemmas.List.Elements.{All-push, Contains-append_left, Contains-push}
-use Rattle.plan_model.specs.Geometry.Bounds.{IsBounded}
-use Rattle.plan_model.specs.Trees.PointsByNumber.{IsPresent, StandsAt, point_of}
-use Rattle.plan_model.specs.Trees.TreeStates.{TreeState}
-use Rattle.plan_model.specs.declared.geometry.Point.{Point}
-use Rattle.plan_model.proofs.NewNodes.{point_of-stands}
+use Rattle.grown_runs.proofs.Common.{IsBounded, IsPresent, StandsAt, point_of, TreeState, Point, point_of-stands}
 use Rattle.point_strips.specs.declared.strips.Numbered.{Numbered}
 use Rattle.twin_trees.specs.BridgeSearches.{AreNodes}
 

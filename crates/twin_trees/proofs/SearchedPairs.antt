@@ -4,17 +4,8 @@ use Rattle.std.specs.List.Sorted.{IsPermutation}
 use Rattle.std.proofs.lemmas.Bool.{cases_lt}
 use Rattle.std.proofs.lemmas.List.{get_or_read}
 use Rattle.std.proofs.lemmas.List.Sorted.{All-permutation, Contains-permutation}
-use Rattle.plan_model.specs.Geometry.Cost.{cost_of}
-use Rattle.plan_model.specs.Geometry.Plane.{squared_distance}
-use Rattle.plan_model.specs.Runs.OrderLaw.{IsAllowedEdge, KeepsOrder}
-use Rattle.plan_model.specs.Runs.Textbook.{Setup}
-use Rattle.plan_model.specs.Spaces.Clearance.{Clear}
-use Rattle.plan_model.specs.Trees.PointsByNumber.{StandsAt, point_of}
-use Rattle.plan_model.specs.Trees.TreeStates.{TreeState, sum_in}
-use Rattle.plan_model.specs.declared.geometry.Point.{Point}
-use Rattle.plan_model.proofs.NearNodes.{squared_distance-swap}
-use Rattle.plan_model.proofs.NewNodes.{IsPresent-stands, point_of-stands}
-use Rattle.plan_model.proofs.TriangleLaw.{cost_of-triangle}
+use Rattle.grown_runs.proofs.Common.{cost_of, squared_distance, IsAllowedEdge, KeepsOrder, Setup, Clear, StandsAt, point_of, TreeState, sum_in, Point}
+use Rattle.grown_runs.proofs.Common.{squared_distance-swap, IsPresent-stands, point_of-stands, cost_of-triangle}
 use Rattle.point_strips.specs.Discs.{IsWithin}
 use Rattle.point_strips.specs.Walks.{HasNoneBetween, nowhere, numbered_at}
 use Rattle.point_strips.specs.declared.strips.Numbered.{Numbered}

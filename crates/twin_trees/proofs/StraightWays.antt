@@ -1,18 +1,8 @@
 -- No way from the start of a tree to a node costs less than the straight line between them.
 use Rattle.std.proofs.Common.{◌≡◌, ℕ, zero, suc, ◌≤◌, arith, ap, refl}
 use Rattle.std.specs.Int.{abs_diff}
-use Rattle.plan_model.specs.Geometry.Cost.{cost_of}
-use Rattle.plan_model.specs.Geometry.Plane.{squared_distance}
-use Rattle.plan_model.specs.declared.geometry.Point.{Point}
-use Rattle.plan_model.specs.Runs.OrderLaw.{KeepsOrder}
-use Rattle.plan_model.specs.Runs.Textbook.{Setup}
-use Rattle.plan_model.specs.Trees.PointsByNumber.{IsPresent, point_of}
-use Rattle.plan_model.specs.Trees.TreeStates.{TreeState, sum_in}
-use Rattle.plan_model.proofs.CostLaws.{cost_of-swap}
-use Rattle.plan_model.proofs.NewNodes.{point_of-stands}
-use Rattle.plan_model.proofs.OrderLaws.{KeepsOrder-falls, cost_of-short}
-use Rattle.plan_model.proofs.OrderedTrees.{sum_in-parent}
-use Rattle.plan_model.proofs.TriangleLaw.{cost_of-triangle}
+use Rattle.grown_runs.proofs.Common.{cost_of, squared_distance, Point, KeepsOrder, Setup, IsPresent, point_of, TreeState, sum_in, cost_of-swap, point_of-stands}
+use Rattle.grown_runs.proofs.Common.{KeepsOrder-falls, cost_of-short, sum_in-parent, cost_of-triangle}
 
 -- an edge without length costs nothing
 no_cost : (p : Point) → cost_of p p ≤ 0

@@ -3,11 +3,7 @@ use Rattle.std.proofs.Common.{◌≡◌, ◌≤◌, Bool, true, false, ◌&&◌,
 use Rattle.std.specs.Prelude.{IsTrue, nat_le, ◌==◌, if◌then◌else◌}
 use Rattle.std.specs.List.{list_all}
 use Rattle.std.proofs.lemmas.Bool.{and_from, and_parts}
-use Rattle.plan_model.proofs.SceneBounds.{goals-some}
-use Rattle.plan_model.proofs.Tests.{true_at}
-use Rattle.plan_model.specs.declared.limits.TheConstants.{MOST_GOALS}
-use Rattle.plan_model.specs.declared.scenes.Scene.{Scene}
-use Rattle.plan_model.specs.Scenes.Limits.{IsBetween, are_goals, is_goal, most_goals, most_side}
+use Rattle.grown_runs.proofs.Common.{goals-some, true_at, MOST_GOALS, Scene, IsBetween, are_goals, is_goal, most_goals, most_side}
 use Rattle.twin_trees.specs.TurnedScenes.{box_of, first_goal, goal_middle, start_boxes}
 
 -- the first goal of a scene is one

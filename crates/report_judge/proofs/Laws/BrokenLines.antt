@@ -4,13 +4,7 @@ use Rattle.std.specs.Prelude.{is_some, count_by, slice_get}
 use Rattle.std.proofs.lemmas.Bool.{cases_lt}
 use Rattle.std.proofs.lemmas.List.Sums.{sum_by-cons}
 use Rattle.std.proofs.lemmas.Option.{slice_get_within}
-use Rattle.plan_model.specs.declared.records.Record.{Record}
-use Rattle.plan_model.specs.declared.tasks.Task.{Task}
-use Rattle.plan_model.specs.declared.trees.Knot.{Knot}
-use Rattle.plan_model.specs.Runs.ClosedLaw.{mark_at}
-use Rattle.plan_model.specs.Runs.RecordLaw.{IsLawfulRecord}
-use Rattle.plan_model.specs.Runs.Textbook.{setup_of}
-use Rattle.plan_model.specs.Trees.PointsByNumber.{IsPresent}
+use Rattle.grown_runs.proofs.Common.{Record, Task, Knot, mark_at, IsLawfulRecord, setup_of, IsPresent}
 use Rattle.report_judge.specs.Laws.FirstBreaks.{IsFirstBreak, KeepsHead, KeepsPresence}
 use Rattle.report_judge.specs.Texts.ReportLines.{extent_of}
 use Rattle.report_judge.specs.Texts.ReportSheets.{Sheet, SpellsSheet, head_lines, state_of_sheet, number_of_node_line, number_of_mark_line}

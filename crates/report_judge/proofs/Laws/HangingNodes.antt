@@ -1,17 +1,8 @@
 -- A node may hang by the list as it may hang in the tree of the list; and first costs by the records.
 use Rattle.std.proofs.Common.{◌≡◌, ℕ, zero, suc, ◌-◌, ◌*◌, ◌<◌, ◌≤◌, List, Option, arith, sym, ap, subst}
 use Rattle.std.specs.Prelude.{slice_get}
-use Rattle.plan_model.specs.declared.configuration_spaces.ConfigurationSpace.{ConfigurationSpace}
-use Rattle.plan_model.specs.declared.records.Record.{Record}
-use Rattle.plan_model.specs.declared.trees.Knot.{Knot}
-use Rattle.plan_model.specs.Geometry.Cost.{cost_of}
-use Rattle.plan_model.specs.Geometry.Plane.{squared_distance}
-use Rattle.plan_model.specs.Runs.OrderLaw.{Hangs}
-use Rattle.plan_model.specs.Runs.Textbook.{Setup}
-use Rattle.plan_model.specs.Spaces.Clearance.{Clear}
-use Rattle.plan_model.specs.Trees.PointsByNumber.{point_of}
-use Rattle.plan_model.specs.Trees.TreeStates.{TreeState, first_cost_of, recorded_or}
-use Rattle.grown_runs.specs.Runs.PackedRuns.{kept_cost_of, state_of_lists}
+use Rattle.grown_runs.proofs.Common.{ConfigurationSpace, Record, Knot, cost_of, squared_distance, Hangs, Setup, Clear, point_of, TreeState, first_cost_of}
+use Rattle.grown_runs.proofs.Common.{recorded_or, kept_cost_of, state_of_lists}
 use Rattle.report_judge.specs.Laws.ExactEdges.{MayHang}
 use Rattle.report_judge.proofs.Laws.NodeBreaks.{listed, own_point, present}
 

@@ -5,21 +5,8 @@ use Rattle.std.specs.Prelude.{is_some, option_map, slice_get}
 use Rattle.std.proofs.lemmas.Bool.{false_from_ne_true}
 use Rattle.std.proofs.lemmas.List.{length-map, ext_get_or}
 use Rattle.std.proofs.lemmas.Option.{slice_get-get_or, slice_get_past}
-use Rattle.plan_model.specs.declared.records.Outcome.TheVariants.{Blocked}
-use Rattle.plan_model.specs.declared.records.Record.{Record}
-use Rattle.plan_model.specs.declared.tasks.Task.{Task}
-use Rattle.plan_model.specs.declared.trees.Knot.{Knot}
-use Rattle.plan_model.specs.declared.trees.Twig.{Twig}
-use Rattle.plan_model.specs.Runs.ClosedLaw.{IsClosed, has_outcome}
-use Rattle.plan_model.specs.Runs.OrderLaw.{KeepsOrder}
-use Rattle.plan_model.specs.Runs.Outcomes.{is_placed}
-use Rattle.plan_model.specs.Runs.Textbook.{Setup, setup_of, unplaced_record}
-use Rattle.plan_model.specs.Spaces.Clearance.{ClearAt}
-use Rattle.plan_model.specs.Spaces.ConfigurationSpace.{space_of}
-use Rattle.plan_model.specs.Trees.NodeLists.{without_costs}
-use Rattle.plan_model.specs.Trees.PointsByNumber.{IsPresent, point_at}
-use Rattle.plan_model.specs.Trees.TreeStates.{TreeState, IsSettled}
-use Rattle.plan_model.proofs.NewNodes.{present_below}
+use Rattle.grown_runs.proofs.Common.{Blocked, Record, Task, Knot, Twig, IsClosed, has_outcome, KeepsOrder, is_placed, Setup, setup_of, unplaced_record, ClearAt}
+use Rattle.grown_runs.proofs.Common.{space_of, without_costs, IsPresent, point_at, TreeState, IsSettled, present_below}
 use Rattle.report_judge.specs.Texts.ReportLines.{Tally, ReportLine, extent_of, lines_text}
 use Rattle.report_judge.specs.Texts.ReportLines.ReportLine.{NoPath, PathOf, PathPoint, Counts}
 use Rattle.report_judge.specs.Texts.ReportSheets.{PricedPath, Sheet, head_lines, lines_of_sheet, state_of_sheet, HasForm}

@@ -1,15 +1,8 @@
 -- Where a node of a list stands in the tree of the list.
 use Rattle.std.proofs.Common.{◌≡◌, ℕ, List, Option, Some, None, sym, ap, ◌∙◌}
 use Rattle.std.specs.Prelude.{is_some, option_map, slice_index_or}
-use Rattle.plan_model.specs.declared.geometry.Goal.{Goal}
-use Rattle.plan_model.specs.declared.geometry.Point.{Point}
-use Rattle.plan_model.specs.declared.records.Record.{Record}
-use Rattle.plan_model.specs.declared.trees.Knot.{Knot}
-use Rattle.plan_model.specs.Trees.BestNode.{is_goal_point, lies_in_goals}
-use Rattle.plan_model.specs.Trees.PointsByNumber.{IsPresent, StandsAt, point_at, point_of}
-use Rattle.plan_model.proofs.NewNodes.{IsPresent-stands, point_of-stands}
-use Rattle.grown_runs.specs.Runs.PackedRuns.{state_of_lists}
-use Rattle.grown_runs.proofs.Runs.PackedStates.{point_at-lists}
+use Rattle.grown_runs.proofs.Common.{Goal, Point, Record, Knot, is_goal_point, lies_in_goals, IsPresent, StandsAt, point_at, point_of, IsPresent-stands}
+use Rattle.grown_runs.proofs.Common.{point_of-stands, state_of_lists, point_at-lists}
 
 -- the point of a node of the list
 abbrev point_in : Option Knot → Option Point

@@ -1,19 +1,8 @@
 -- A node but the start keeps its law if its point is new and it hangs exactly below its parent.
 use Rattle.std.proofs.Common.{◌≡◌, ℕ, zero, suc, ◌+◌, ◌*◌, ◌<◌, ◌≤◌, List, length, Option, Some, None, arith, sym, ap, ◌∙◌, subst}
 use Rattle.std.specs.Prelude.{is_some, option_map, slice_index_or}
-use Rattle.plan_model.specs.declared.configuration_spaces.ConfigurationSpace.{ConfigurationSpace}
-use Rattle.plan_model.specs.declared.geometry.Point.{Point}
-use Rattle.plan_model.specs.declared.records.Record.{Record}
-use Rattle.plan_model.specs.declared.trees.Knot.{Knot}
-use Rattle.plan_model.specs.Geometry.Cost.{cost_of}
-use Rattle.plan_model.specs.Geometry.Plane.{squared_distance}
-use Rattle.plan_model.specs.Runs.Textbook.{Setup}
-use Rattle.plan_model.specs.Spaces.Clearance.{Clear}
-use Rattle.plan_model.specs.Trees.PointsByNumber.{IsPresent, StandsAt, point_of}
-use Rattle.plan_model.specs.Trees.TreeStates.{TreeState}
-use Rattle.plan_model.proofs.NewNodes.{IsPresent-stands, point_of-stands}
-use Rattle.grown_runs.specs.Runs.PackedRuns.{kept_cost_of, state_of_lists}
-use Rattle.grown_runs.proofs.Runs.PackedStates.{point_at-lists, parent_of-lists}
+use Rattle.grown_runs.proofs.Common.{ConfigurationSpace, Point, Record, Knot, cost_of, squared_distance, Setup, Clear, IsPresent, StandsAt, point_of, TreeState}
+use Rattle.grown_runs.proofs.Common.{IsPresent-stands, point_of-stands, kept_cost_of, state_of_lists, point_at-lists, parent_of-lists}
 use Rattle.report_judge.specs.Laws.ExactEdges.{FitsEdges, KeepsEdges}
 use Rattle.report_judge.specs.Laws.FirstBreaks.{IsFirstBreak, IsNewKey, KeepsNode, point_key}
 use Rattle.report_judge.specs.Laws.SheetLaws.{IsSoundNode}

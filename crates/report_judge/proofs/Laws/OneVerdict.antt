@@ -5,8 +5,7 @@ use Rattle.std.specs.Prelude.{◌⊎◌, slice_get}
 use Rattle.std.specs.List.{join_with_byte}
 use Rattle.std.proofs.lemmas.Bool.{cases_order}
 use Rattle.std.proofs.Math.Seq.{take-append_seam}
-use Rattle.plan_model.specs.declared.tasks.Task.{Task}
-use Rattle.plan_model.proofs.MarkBounds.{length-marks}
+use Rattle.grown_runs.proofs.Common.{Task, length-marks}
 use Rattle.report_judge.specs.Texts.ReportForms.{MayStandNext, AreBegun, AreAll, BreaksFormFirst}
 use Rattle.report_judge.specs.Texts.ReportLines.{ReportLine, Extent, extent_of, line_words, line_text, lines_text, FitsLine}
 use Rattle.report_judge.specs.Texts.ReportSheets.{Sheet, SpellsSheet, lines_of_sheet}

@@ -4,10 +4,8 @@ use Rattle.std.proofs.Common.{arith, refl, sym, ap, ◌∙◌, inl, inr}
 use Rattle.std.specs.Prelude.{◌&&◌, count_by}
 use Rattle.std.specs.List.{range_with_len}
 use Rattle.std.proofs.lemmas.Bool.{cases_eq, cases_lt, cases_order, cases_Bool, and_from, and_left, and_right, eq-eqb, ne_eqb, lt-ltb, le-ltb}
-use Rattle.plan_model.specs.declared.records.Record.{Record}
-use Rattle.plan_model.specs.Runs.Turns.{is_of_worker, turns_of, is_of_turn, times_of, AreTurns}
-use Rattle.plan_model.proofs.CountsBelow.{count-more, count-same, count-none, count-single, count-found}
-use Rattle.plan_model.proofs.WorkerTurns.{turn_of_record, ltb-next, once_if-below, once_if-past}
+use Rattle.grown_runs.proofs.Common.{Record, is_of_worker, turns_of, is_of_turn, times_of, AreTurns, count-more, count-same, count-none, count-single}
+use Rattle.grown_runs.proofs.Common.{count-found, turn_of_record, ltb-next, once_if-below, once_if-past}
 use Rattle.report_judge.specs.Laws.SheetLaws.{HasOwnTurn}
 
 -- ---- counts

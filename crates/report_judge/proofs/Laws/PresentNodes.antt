@@ -2,12 +2,7 @@
 use Rattle.std.proofs.Common.{◌≡◌, ℕ, suc, Bool, true, false, not, List, Option, Some, None, refl, sym, ap, ◌∙◌}
 use Rattle.std.proofs.Math.Bool.{beq}
 use Rattle.std.specs.Prelude.{is_some, option_map, slice_get, slice_index_or}
-use Rattle.plan_model.specs.declared.records.Record.{Record}
-use Rattle.plan_model.specs.declared.trees.Knot.{Knot}
-use Rattle.plan_model.specs.Runs.Outcomes.{is_placed}
-use Rattle.plan_model.specs.Trees.PointsByNumber.{point_at}
-use Rattle.grown_runs.specs.Runs.PackedRuns.{state_of_lists}
-use Rattle.grown_runs.proofs.Runs.PackedStates.{point_at-lists}
+use Rattle.grown_runs.proofs.Common.{Record, Knot, is_placed, point_at, state_of_lists, point_at-lists}
 use Rattle.report_judge.specs.Laws.FirstBreaks.{KeepsPresence}
 
 is_some-map : (o : Option Knot) → is_some (option_map (λ (knot : Knot). knot.point) o) ≡ is_some o

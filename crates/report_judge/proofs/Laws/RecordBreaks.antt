@@ -2,10 +2,7 @@
 use Rattle.std.proofs.Common.{◌≡◌, ℕ, suc, ◌≤◌, List, length, Option, Some, None, arith, ap, inl, inr}
 use Rattle.std.specs.Prelude.{slice_get}
 use Rattle.std.proofs.lemmas.Bool.{cases_lt}
-use Rattle.plan_model.specs.declared.records.Record.{Record}
-use Rattle.plan_model.specs.declared.tasks.Task.{Task}
-use Rattle.plan_model.specs.declared.trees.Knot.{Knot}
-use Rattle.plan_model.specs.Runs.Turns.{turns_of}
+use Rattle.grown_runs.proofs.Common.{Record, Task, Knot, turns_of}
 use Rattle.report_judge.specs.Laws.FirstBreaks.{HasFewTurns, IsFirstBreak, earlier_of}
 use Rattle.report_judge.specs.Workers.JudgedRuns.{HaveLowTurns, KeepsRecord, KeepsRecordOf, KeepsRecordBelow, KeepsRecordBetween}
 use Rattle.report_judge.proofs.Laws.FirstBreakLaws.{IsFirstBreak-earlier, IsFirstBreak-same}

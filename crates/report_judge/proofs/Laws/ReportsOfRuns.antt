@@ -9,37 +9,13 @@ use Rattle.std.proofs.lemmas.List.Elements.{All-map}
 use Rattle.std.proofs.lemmas.List.FromFn.{get_or-map-range_with_len, length-map-range_with_len, length-range_with_len}
 use Rattle.std.proofs.lemmas.List.Sums.{count_by-le-length}
 use Rattle.std.proofs.lemmas.Option.{slice_get-get_or, slice_get_past, slice_get_within, get_or_from_slice_get}
-use Rattle.plan_model.specs.declared.geometry.Goal.{Goal}
-use Rattle.plan_model.specs.declared.geometry.Point.{Point}
-use Rattle.plan_model.specs.declared.records.Outcome.{Outcome}
-use Rattle.plan_model.specs.declared.records.Outcome.TheVariants.{Placed, Same, Blocked, Skipped}
-use Rattle.plan_model.specs.declared.records.Record.{Record}
-use Rattle.plan_model.specs.declared.tasks.Task.{Task}
-use Rattle.plan_model.specs.declared.trees.Knot.{Knot}
-use Rattle.plan_model.specs.declared.trees.Twig.{Twig}
-use Rattle.plan_model.specs.Geometry.Bounds.{IsBounded}
-use Rattle.plan_model.specs.Reports.ReportText.{full_report, path_to}
-use Rattle.plan_model.specs.Runs.ClosedLaw.{IsClosed, has_outcome, mark_at}
-use Rattle.plan_model.specs.Runs.Outcomes.{is_placed, is_same, is_blocked, is_skipped, is_zero_unless_placed}
-use Rattle.plan_model.specs.Runs.RecordLaw.{HasLawfulOutcome}
-use Rattle.plan_model.specs.Runs.Textbook.{Setup, setup_of, unplaced_record}
-use Rattle.plan_model.specs.Trees.BestNode.{best_node, goals_of, is_goal_point}
-use Rattle.plan_model.specs.Trees.NodeLists.{chain_within, without_costs}
-use Rattle.plan_model.specs.Trees.PointsByNumber.{IsPresent, node_count, point_at, point_of}
-use Rattle.plan_model.specs.Trees.TreeStates.{TreeState, AreSameRuns, IsSettled, chain_in}
-use Rattle.plan_model.proofs.BestNodeLaws.{IsPresent-goal, best_node-some}
-use Rattle.plan_model.proofs.CountLaws.{numbers-closed}
-use Rattle.plan_model.proofs.MarkBounds.{length-marks}
-use Rattle.plan_model.proofs.NewNodes.{IsPresent-stands, StandsAt-present, point_of-stands}
-use Rattle.plan_model.proofs.NodeCounts.{node_count-length}
-use Rattle.plan_model.proofs.OrderedTrees.{sum_in-parent}
-use Rattle.plan_model.proofs.OrderLaws.{start-present, parent-present}
-use Rattle.plan_model.proofs.SameReports.{report_text-same}
-use Rattle.plan_model.proofs.SameTrees.{IsClosed-same_run, IsSettled-same}
-use Rattle.plan_model.proofs.WorkerTurns.{times-once, turn-below}
-use Rattle.grown_runs.specs.Runs.PackedRuns.{IsKnot, kept_cost_of, state_of_lists}
-use Rattle.grown_runs.proofs.Runs.FittingStates.{FitsRecord-closed, IsBounded-closed, kept-low, present-closed}
-use Rattle.grown_runs.proofs.Runs.PackedStates.{point_at-lists, parent_of-lists}
+use Rattle.grown_runs.proofs.Common.{Goal, Point, Outcome, Placed, Same, Blocked, Skipped, Record, Task, Knot, Twig, IsBounded, full_report, path_to, IsClosed}
+use Rattle.grown_runs.proofs.Common.{has_outcome, mark_at, is_placed, is_same, is_blocked, is_skipped, is_zero_unless_placed, HasLawfulOutcome, Setup, setup_of}
+use Rattle.grown_runs.proofs.Common.{unplaced_record, best_node, goals_of, is_goal_point, chain_within, without_costs, IsPresent, node_count, point_at}
+use Rattle.grown_runs.proofs.Common.{point_of, TreeState, AreSameRuns, IsSettled, chain_in, IsPresent-goal, best_node-some, numbers-closed, length-marks}
+use Rattle.grown_runs.proofs.Common.{IsPresent-stands, StandsAt-present, point_of-stands, node_count-length, sum_in-parent, start-present, parent-present}
+use Rattle.grown_runs.proofs.Common.{report_text-same, IsClosed-same_run, IsSettled-same, times-once, turn-below, IsKnot, kept_cost_of, state_of_lists}
+use Rattle.grown_runs.proofs.Common.{FitsRecord-closed, IsBounded-closed, kept-low, present-closed, point_at-lists, parent_of-lists}
 use Rattle.report_judge.specs.Texts.ReportLines.{FitsKnot, FitsEntry, FitsTally, FitsSkipped, EndsWithin, extent_of}
 use Rattle.report_judge.specs.Texts.ReportSheets.{Sheet, FitsOptionalPath, HasForm}
 use Rattle.report_judge.specs.Laws.SheetLaws.{HasOwnTurn, KeepsNodeLaw, KeepsLaw, best_priced_path, path_by, skipped_of, tally_of}

@@ -3,20 +3,8 @@ use Rattle.std.proofs.Common.{◌≡◌, ℕ, zero, suc, ◌<◌, true, eqb, ltb
 use Rattle.std.specs.Prelude.{◌&&◌, IsSome, is_some, slice_get, slice_index_or}
 use Rattle.std.proofs.lemmas.Bool.{and_parts, cases_order}
 use Rattle.std.proofs.lemmas.Option.{slice_get_within}
-use Rattle.plan_model.specs.declared.limits.TheConstants.{MOST_MARKS, MOST_NODES}
-use Rattle.plan_model.specs.declared.records.Record.{Record}
-use Rattle.plan_model.specs.declared.tasks.Task.{Task}
-use Rattle.plan_model.specs.declared.trees.Knot.{Knot}
-use Rattle.plan_model.specs.Runs.Outcomes.{is_placed}
-use Rattle.plan_model.specs.Runs.RecordLaw.{is_earlier_record}
-use Rattle.plan_model.specs.Runs.Textbook.{Setup, setup_of}
-use Rattle.plan_model.specs.Spaces.Clearance.{ClearAt}
-use Rattle.plan_model.specs.Trees.PointsByNumber.{IsPresent}
-use Rattle.plan_model.specs.Trees.TreeStates.{TreeState}
-use Rattle.plan_model.proofs.MarkBounds.{length-marks}
-use Rattle.plan_model.proofs.OrderLaws.{KeepsOrder-falls, parent-present}
-use Rattle.grown_runs.specs.Runs.PackedRuns.{state_of_lists}
-use Rattle.grown_runs.proofs.Runs.PackedStates.{IsKnot-at}
+use Rattle.grown_runs.proofs.Common.{MOST_MARKS, MOST_NODES, Record, Task, Knot, is_placed, is_earlier_record, Setup, setup_of, ClearAt, IsPresent, TreeState}
+use Rattle.grown_runs.proofs.Common.{length-marks, KeepsOrder-falls, parent-present, state_of_lists, IsKnot-at}
 use Rattle.report_judge.specs.Laws.ExactEdges.{FitsEdges}
 use Rattle.report_judge.specs.Laws.FirstBreaks.{HasFewTurns, KeepsPresence, KeepsTurn}
 use Rattle.report_judge.specs.Workers.JudgedRuns.{HaveLowTurns}

@@ -1,17 +1,9 @@
 -- Nodes that keep their law, each at its line, make a settled tree that keeps the order law.
 use Rattle.std.proofs.Common.{◌≡◌, ℕ, zero, suc, ◌+◌, ◌-◌, ◌*◌, ◌<◌, ◌≤◌, List, ◌∷◌, Option, Some, map, arith, refl, sym, ap, ◌∙◌, inl, inr}
 use Rattle.std.proofs.lemmas.Bool.{cases_order}
-use Rattle.plan_model.specs.declared.geometry.Point.{Point}
-use Rattle.plan_model.specs.Geometry.Cost.{cost_of}
-use Rattle.plan_model.specs.Runs.OrderLaw.{HangsBelow, KeepsOrder, most_cost_of}
-use Rattle.plan_model.specs.Runs.Textbook.{Setup}
-use Rattle.plan_model.specs.Spaces.Clearance.{ClearAt}
-use Rattle.plan_model.specs.Trees.NodeLists.{chain_within, length_of_path, AreTightAlong, FallAlong}
-use Rattle.plan_model.specs.Trees.PointsByNumber.{AreDistinct, IsPresent, StandsAt, node_count, point_of}
-use Rattle.plan_model.specs.Trees.TreeStates.{TreeState, IsSettled}
-use Rattle.plan_model.proofs.ChainLaws.{sums-tight}
-use Rattle.plan_model.proofs.NewNodes.{IsPresent-stands, point_of-stands, node_count-some}
-use Rattle.plan_model.proofs.OrderLaws.{HangsBelow-falls, cost_of-short}
+use Rattle.grown_runs.proofs.Common.{Point, cost_of, HangsBelow, KeepsOrder, most_cost_of, Setup, ClearAt, chain_within, length_of_path, AreTightAlong}
+use Rattle.grown_runs.proofs.Common.{FallAlong, AreDistinct, IsPresent, StandsAt, node_count, point_of, TreeState, IsSettled, sums-tight, IsPresent-stands}
+use Rattle.grown_runs.proofs.Common.{point_of-stands, node_count-some, HangsBelow-falls, cost_of-short}
 use Rattle.report_judge.specs.Laws.SheetLaws.{IsStartNode, IsSoundNode, KeepsNodeLaw}
 
 -- a path from p over a chain of some members is an edge longer than the chain's

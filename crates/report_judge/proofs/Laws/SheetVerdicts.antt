@@ -2,19 +2,8 @@
 use Rattle.std.proofs.Common.{◌≡◌, ℕ, suc, ◌-◌, ◌<◌, ◌≤◌, List, [], length, Option, Some, None, arith, refl, sym, ap, length-append, ◌∙◌, subst, inl, inr}
 use Rattle.std.specs.Prelude.{is_some, slice_get}
 use Rattle.std.proofs.lemmas.Bool.{both_ways, cases_Bool}
-use Rattle.plan_model.specs.declared.records.Record.{Record}
-use Rattle.plan_model.specs.declared.tasks.Task.{Task}
-use Rattle.plan_model.specs.declared.trees.Knot.{Knot}
-use Rattle.plan_model.specs.Runs.ClosedLaw.{outcome_count}
-use Rattle.plan_model.specs.Runs.Outcomes.{is_placed, is_same, is_blocked}
-use Rattle.plan_model.specs.Runs.Textbook.{Setup, setup_of}
-use Rattle.plan_model.specs.Spaces.Clearance.{ClearAt}
-use Rattle.plan_model.specs.Spaces.ConfigurationSpace.{space_of}
-use Rattle.plan_model.specs.Trees.BestNode.{best_node, goals_of}
-use Rattle.plan_model.specs.Trees.NodeLists.{without_costs}
-use Rattle.plan_model.specs.Trees.PointsByNumber.{IsPresent, node_count, point_at}
-use Rattle.plan_model.proofs.NewNodes.{present_below}
-use Rattle.grown_runs.specs.Runs.PackedRuns.{state_of_lists}
+use Rattle.grown_runs.proofs.Common.{Record, Task, Knot, outcome_count, is_placed, is_same, is_blocked, Setup, setup_of, ClearAt, space_of, best_node, goals_of}
+use Rattle.grown_runs.proofs.Common.{without_costs, IsPresent, node_count, point_at, present_below, state_of_lists}
 use Rattle.report_judge.specs.declared.verdicts.Verdict.TheVariants.{Lawful, Broken}
 use Rattle.report_judge.specs.declared.verdicts.Verdict.{Verdict}
 use Rattle.report_judge.specs.Laws.FirstBreaks.{IsFirstBreak, KeepsHead, KeepsNode, KeepsPresence, KeepsTurn}

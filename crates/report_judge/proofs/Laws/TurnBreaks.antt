@@ -2,9 +2,7 @@
 use Rattle.std.proofs.Common.{◌≡◌, ℕ, ◌+◌, ◌*◌, ◌<◌, List, length, get_or, Option, Some, arith, sym, ◌∙◌}
 use Rattle.std.specs.Prelude.{slice_get, slice_index_or}
 use Rattle.std.proofs.lemmas.Option.{slice_get-get_or}
-use Rattle.plan_model.specs.declared.records.Outcome.TheVariants.{Blocked}
-use Rattle.plan_model.specs.declared.records.Record.{Record}
-use Rattle.plan_model.specs.Runs.Textbook.{unplaced_record}
+use Rattle.grown_runs.proofs.Common.{Blocked, Record, unplaced_record}
 use Rattle.report_judge.specs.Laws.FirstBreaks.{HasFewTurns, HasLowTurn, IsFirstBreak, IsNewKey, KeepsTurn, turn_key}
 use Rattle.report_judge.proofs.Laws.FirstBreakLaws.{IsFirstBreak-same}
 

@@ -5,11 +5,7 @@ use Rattle.std.specs.Prelude.{◌≢◌, ◌⊎◌, IsSome, is_some, count_by, s
 use Rattle.std.proofs.lemmas.Grind.{flat_map-append}
 use Rattle.std.proofs.lemmas.List.{length-map}
 use Rattle.std.proofs.lemmas.Option.{slice_get_past, slice_get_within}
-use Rattle.plan_model.specs.declared.geometry.Point.{Point}
-use Rattle.plan_model.specs.declared.records.Record.{Record}
-use Rattle.plan_model.specs.declared.trees.Knot.{Knot}
-use Rattle.plan_model.specs.Trees.PointsByNumber.{IsPresent}
-use Rattle.grown_runs.proofs.Runs.PackedLists.{node_count-lists}
+use Rattle.grown_runs.proofs.Common.{Point, Record, Knot, IsPresent, node_count-lists}
 use Rattle.report_judge.specs.Texts.FrontLines.{ReadsPoints, ReadsNodes, ReadsRecords}
 use Rattle.report_judge.specs.Texts.ReportForms.{nodes_said, counts_place, nodes_to_come, MayFollow, MayStandNext, AreBegun, BreaksFormFirst}
 use Rattle.report_judge.specs.Texts.ReportLines.{Tally, ReportLine, Extent, line_text, lines_text, FitsTally, FitsEntry, FitsLine}

@@ -7,10 +7,7 @@ use Rattle.std.proofs.lemmas.Bool.{cases_eq, cases_lt}
 use Rattle.std.proofs.lemmas.Grind.{flat_map-append, get_or-set_at}
 use Rattle.std.proofs.lemmas.List.{get_or-replicate, get_or_past, get_or-set_other, get_or_append_left, get_or_at, length-replicate, length-set}
 use Rattle.std.proofs.lemmas.Option.{get_or_from_slice_get}
-use Rattle.plan_model.specs.declared.records.Record.{Record}
-use Rattle.plan_model.specs.declared.trees.Knot.{Knot}
-use Rattle.grown_runs.specs.Runs.PackedRuns.{IsKnot}
-use Rattle.grown_runs.proofs.Runs.PackedStates.{IsKnot-at}
+use Rattle.grown_runs.proofs.Common.{Record, Knot, IsKnot, IsKnot-at}
 use Rattle.report_judge.specs.Texts.FrontLines.{IsNextNode, ReadsNodes}
 use Rattle.report_judge.specs.Texts.ReportForms.{MayFollow}
 use Rattle.report_judge.specs.Texts.ReportLines.{Tally, ReportLine, line_text, lines_text, FitsKnot}

@@ -2,8 +2,7 @@
 use Rattle.std.proofs.Common.{◌≡◌, ℕ, ◌<◌, ◌^◌, List, [], ◌∷◌, ◌++◌, sym, ◌∙◌, append_assoc, decimal}
 use Rattle.std.specs.Prelude.{codes}
 use Rattle.std.proofs.lemmas.List.{append_cancel_left}
-use Rattle.plan_model.specs.declared.geometry.Point.{Point}
-use Rattle.plan_model.specs.declared.trees.Knot.{Knot}
+use Rattle.grown_runs.proofs.Common.{Point, Knot}
 use Rattle.report_judge.specs.Texts.ReportLines.{field, line_text, point_field}
 use Rattle.report_judge.specs.Texts.ReportLines.ReportLine.{NodeLine, PathOf, PathPoint}
 use Rattle.report_judge.proofs.Texts.FieldWords.{same_fields}

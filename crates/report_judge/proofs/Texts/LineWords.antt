@@ -8,16 +8,8 @@ use Rattle.std.proofs.lemmas.Bool.Decides.{nat_tests}
 use Rattle.std.proofs.lemmas.Fmt.{decimal_by_steps, decimal_injective}
 use Rattle.std.proofs.lemmas.List.{append_cancel_left}
 use Rattle.std.proofs.lemmas.List.Folds.{list_all-append}
-use Rattle.plan_model.specs.declared.records.Outcome.{Outcome}
-use Rattle.plan_model.specs.declared.records.Outcome.TheVariants.{Placed, Same, Blocked, Skipped}
-use Rattle.plan_model.specs.declared.records.Record.{Record}
-use Rattle.plan_model.specs.Reports.ReportText.{line, outcome_words}
-use Rattle.plan_model.specs.Runs.Outcomes.{is_zero_unless_placed}
-use Rattle.plan_model.specs.Runs.SameRuns.{HaveSameFields}
-use Rattle.plan_model.specs.Texts.TextLines.{lines_of, pieces_of}
-use Rattle.plan_model.specs.Texts.TextNumbers.{is_digit}
-use Rattle.plan_model.proofs.UniqueRuns.{Record-from_fields}
-use Rattle.grown_runs.specs.Table.Words.{last_field}
+use Rattle.grown_runs.proofs.Common.{Outcome, Placed, Same, Blocked, Skipped, Record, line, outcome_words, is_zero_unless_placed, HaveSameFields, lines_of}
+use Rattle.grown_runs.proofs.Common.{pieces_of, is_digit, Record-from_fields, last_field}
 use Rattle.report_judge.specs.Texts.ReportLines.{ReportLine, Extent, line_words, line_text, skipped_count, FitsLine, FitsSkipped}
 use Rattle.report_judge.specs.Texts.ReportLines.ReportLine.{NoPath, PathOf, PathPoint, Counts, NodeLine, MarkLine}
 

@@ -1,12 +1,7 @@
 -- The text of a mark's line as its front and what its outcome has after it; and records that fit, by their outcomes.
 use Rattle.std.proofs.Common.{◌≡◌, ℕ, ◌<◌, ◌≤◌, ◌^◌, true, List, [], ◌∷◌, ◌++◌, ap, arith, get_or, refl, ◌∙◌, append_assoc, decimal}
 use Rattle.std.specs.Prelude.{codes}
-use Rattle.plan_model.specs.declared.limits.TheConstants.{MOST_MARKS}
-use Rattle.plan_model.specs.declared.records.Outcome.{Outcome}
-use Rattle.plan_model.specs.declared.records.Outcome.TheVariants.{Placed, Same, Blocked, Skipped}
-use Rattle.plan_model.specs.declared.records.Record.{Record}
-use Rattle.plan_model.specs.Reports.ReportText.{line, outcome_words}
-use Rattle.grown_runs.specs.Table.Words.{last_field}
+use Rattle.grown_runs.proofs.Common.{MOST_MARKS, Outcome, Placed, Same, Blocked, Skipped, Record, line, outcome_words, last_field}
 use Rattle.report_judge.specs.Texts.ReportLines.{Extent, EndsWithin, FitsEntry, field, line_text, mark_front}
 use Rattle.report_judge.specs.Texts.ReportLines.ReportLine.{MarkLine}
 use Rattle.report_judge.proofs.Texts.LineParts.{same_field}

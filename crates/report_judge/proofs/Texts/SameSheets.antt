@@ -6,11 +6,7 @@ use Rattle.std.specs.List.{range_with_len, flat_map}
 use Rattle.std.proofs.lemmas.Bool.{cases_lt, eq-eqb, ne_eqb}
 use Rattle.std.proofs.lemmas.List.{ext_get_or}
 use Rattle.std.proofs.lemmas.Option.{slice_get-get_or}
-use Rattle.plan_model.specs.declared.geometry.Point.{Point}
-use Rattle.plan_model.specs.declared.records.Outcome.TheVariants.{Blocked}
-use Rattle.plan_model.specs.declared.records.Record.{Record}
-use Rattle.plan_model.specs.declared.trees.Knot.{Knot}
-use Rattle.plan_model.specs.Runs.Textbook.{unplaced_record}
+use Rattle.grown_runs.proofs.Common.{Point, Blocked, Record, Knot, unplaced_record}
 use Rattle.report_judge.specs.Texts.ReportForms.{counts_place}
 use Rattle.report_judge.specs.Texts.ReportLines.{Tally, ReportLine, Extent}
 use Rattle.report_judge.specs.Texts.ReportLines.ReportLine.{NoPath, PathOf, PathPoint, Counts, NodeLine, MarkLine}

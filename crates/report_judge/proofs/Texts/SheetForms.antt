@@ -9,19 +9,9 @@ use Rattle.std.proofs.lemmas.List.{length-map, map-append, take-append-le, take_
 use Rattle.std.proofs.lemmas.List.Sums.{sum_by_push, sum_by-take-le}
 use Rattle.std.proofs.lemmas.Option.{slice_get_within, slice_get-get_or}
 use Rattle.std.proofs.Math.Seq.{take-append_seam}
-use Rattle.plan_model.specs.declared.geometry.Point.{Point}
-use Rattle.plan_model.specs.declared.records.Outcome.TheVariants.{Blocked}
-use Rattle.plan_model.specs.declared.records.Record.{Record}
-use Rattle.plan_model.specs.declared.trees.Knot.{Knot}
-use Rattle.plan_model.specs.Geometry.Bounds.{IsBounded}
-use Rattle.plan_model.specs.Runs.Textbook.{unplaced_record}
-use Rattle.plan_model.specs.Trees.PointsByNumber.{IsPresent, point_at}
-use Rattle.plan_model.proofs.CountsBelow.{range-more}
-use Rattle.plan_model.proofs.NewNodes.{node_count-some}
-use Rattle.grown_runs.proofs.Runs.PackedLists.{node_count-lists}
-use Rattle.grown_runs.proofs.Runs.PackedStates.{IsKnot-at, point_at-lists}
+use Rattle.grown_runs.proofs.Common.{Point, Blocked, Record, Knot, IsBounded, unplaced_record, IsPresent, point_at, range-more, node_count-some}
+use Rattle.grown_runs.proofs.Common.{node_count-lists, IsKnot-at, point_at-lists, IsKnot}
 use Rattle.report_judge.specs.Texts.ReportForms.{nodes_said, counts_place, nodes_to_come, MayFollow, MayStandNext, AreBegun, AreAll}
-use Rattle.grown_runs.specs.Runs.PackedRuns.{IsKnot}
 use Rattle.report_judge.specs.Texts.ReportLines.{Tally, ReportLine, Extent, FitsTally, FitsKnot, FitsEntry, FitsLine}
 use Rattle.report_judge.specs.Texts.ReportLines.ReportLine.{NoPath, PathOf, PathPoint, Counts, NodeLine, MarkLine}
 use Rattle.report_judge.specs.Texts.ReportSheets.{PricedPath, Sheet, path_lines, head_lines, line_of_knot, line_of_record, lines_of_knots, lines_of_records}

@@ -5,17 +5,9 @@ use Rattle.std.specs.Prelude.{is_some, option_map, slice_get, slice_index_or}
 use Rattle.std.specs.List.{range_with_len, flat_map}
 use Rattle.std.proofs.lemmas.Grind.{flat_map-append}
 use Rattle.std.proofs.lemmas.List.Folds.{flat_map-map}
-use Rattle.plan_model.specs.declared.geometry.Point.{Point}
-use Rattle.plan_model.specs.declared.records.Record.{Record}
-use Rattle.plan_model.specs.declared.scenes.Scene.{Scene}
-use Rattle.plan_model.specs.declared.trees.Knot.{Knot}
-use Rattle.plan_model.specs.Reports.ReportText.{head_line, best_path, counts_line, no_path_line, point_lines, short_report, skipped_words, full_report}
-use Rattle.plan_model.specs.Reports.ReportText.{node_line_if_present, node_lines, mark_line_if_recorded, mark_lines}
-use Rattle.plan_model.specs.Trees.BestNode.{best_node, goals_of}
-use Rattle.plan_model.specs.Trees.PointsByNumber.{point_at}
-use Rattle.plan_model.specs.Trees.TreeStates.{TreeState, IsSettled, sum_in}
-use Rattle.grown_runs.specs.Runs.PackedRuns.{kept_cost_of, state_of_lists}
-use Rattle.grown_runs.proofs.Runs.PackedStates.{point_at-lists, parent_of-lists}
+use Rattle.grown_runs.proofs.Common.{Point, Record, Scene, Knot, head_line, best_path, counts_line, no_path_line, point_lines, short_report, skipped_words}
+use Rattle.grown_runs.proofs.Common.{full_report, node_line_if_present, node_lines, mark_line_if_recorded, mark_lines, best_node, goals_of, point_at, TreeState}
+use Rattle.grown_runs.proofs.Common.{IsSettled, sum_in, kept_cost_of, state_of_lists, point_at-lists, parent_of-lists}
 use Rattle.report_judge.specs.Texts.ReportLines.{ReportLine, line_text, lines_text, skipped_count}
 use Rattle.report_judge.specs.Texts.ReportLines.ReportLine.{PathPoint, Counts, NodeLine, MarkLine}
 use Rattle.report_judge.specs.Texts.ReportSheets.{Sheet, head_lines, line_of_knot, line_of_record, lines_of_knots, lines_of_records}

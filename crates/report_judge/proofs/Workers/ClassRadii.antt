@@ -3,12 +3,7 @@ use Rattle.std.proofs.Common.{◌≡◌, ℕ, zero, suc, ◌+◌, ◌-◌, ◌*�
 use Rattle.std.proofs.Math.Nat.{pow-le-pow_right, pow-suc}
 use Rattle.std.specs.List.{range_with_len}
 use Rattle.std.proofs.lemmas.List.Sums.{length-filter}
-use Rattle.plan_model.specs.declared.records.Record.{Record}
-use Rattle.plan_model.specs.Geometry.Radius.{class_of}
-use Rattle.plan_model.specs.Runs.RecordLaw.{is_earlier, earlier_count}
-use Rattle.plan_model.specs.Trees.TreeStates.{TreeState}
-use Rattle.plan_model.proofs.ClassLaws.{class_from_powers}
-use Rattle.plan_model.proofs.CountsBelow.{count-some}
+use Rattle.grown_runs.proofs.Common.{Record, class_of, is_earlier, earlier_count, TreeState, class_from_powers, count-some}
 
 some_power : (k : ℕ) → 0 < 2 ^ k
 some_power zero = omega arith

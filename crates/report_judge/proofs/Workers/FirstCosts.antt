@@ -1,10 +1,7 @@
 -- A node was placed at a cost of 44 bits.
 use Rattle.std.proofs.Common.{◌≡◌, ℕ, zero, suc, ◌<◌, ◌^◌, List, Option, Some, None, arith, refl}
 use Rattle.std.specs.Prelude.{slice_get}
-use Rattle.plan_model.specs.declared.records.Record.{Record}
-use Rattle.plan_model.specs.declared.trees.Knot.{Knot}
-use Rattle.plan_model.specs.Trees.TreeStates.{first_cost_of, recorded_or}
-use Rattle.grown_runs.specs.Runs.PackedRuns.{state_of_lists}
+use Rattle.grown_runs.proofs.Common.{Record, Knot, first_cost_of, recorded_or, state_of_lists}
 use Rattle.report_judge.specs.Workers.OwnNodes.{FitFirstCosts}
 
 pub first_cost_low : (knots : List (Option Knot)) (records : List Record) → FitFirstCosts records → (n : ℕ)

@@ -7,8 +7,7 @@ use Rattle.std.proofs.lemmas.Bool.{cases_lt, true≢false}
 use Rattle.std.proofs.lemmas.List.{get_or_append_left, get_or_default, get_or_push}
 use Rattle.std.proofs.lemmas.List.Elements.{All-push}
 use Rattle.std.proofs.lemmas.List.Sorted.{All-permutation, Contains-permutation}
-use Rattle.plan_model.specs.declared.geometry.Point.{Point}
-use Rattle.plan_model.specs.declared.records.Record.{Record}
+use Rattle.grown_runs.proofs.Common.{Point, Record}
 use Rattle.point_strips.specs.Walks.{nowhere, numbered_at}
 use Rattle.point_strips.specs.declared.strips.Numbered.{Numbered}
 use Rattle.report_judge.specs.Laws.FirstBreaks.{IsFirstBreak}

@@ -8,26 +8,13 @@ use Rattle.std.proofs.lemmas.Bool.{and_parts, and_from, cases_eq, cases_lt, eq-e
 use Rattle.std.proofs.lemmas.List.{get_or_default}
 use Rattle.std.proofs.lemmas.List.Elements.{All-push, Contains-append_left, Contains-push}
 use Rattle.std.proofs.lemmas.List.Sorted.{All-permutation, Contains-permutation}
-use Rattle.plan_model.specs.declared.configuration_spaces.ConfigurationSpace.{ConfigurationSpace}
-use Rattle.plan_model.specs.declared.geometry.Point.{Point}
-use Rattle.plan_model.specs.declared.records.Record.{Record}
-use Rattle.plan_model.specs.declared.trees.Knot.{Knot}
-use Rattle.plan_model.specs.Geometry.Bounds.{IsBounded}
-use Rattle.plan_model.specs.Geometry.Cost.{cost_of}
-use Rattle.plan_model.specs.Geometry.Plane.{squared_distance}
-use Rattle.plan_model.specs.Runs.Outcomes.{is_placed}
-use Rattle.plan_model.specs.Runs.RecordLaw.{IsEarlier}
-use Rattle.plan_model.specs.Spaces.Clearance.{Clear}
-use Rattle.plan_model.specs.Trees.Nearness.{distance_to, is_within}
-use Rattle.plan_model.specs.Trees.PointsByNumber.{StandsAt, point_at, point_of}
-use Rattle.plan_model.specs.Trees.TreeStates.{TreeState, first_cost_of}
-use Rattle.plan_model.proofs.FreePoints.{same-from_distance}
-use Rattle.plan_model.proofs.NewNodes.{StandsAt-present, point_of-stands}
+use Rattle.grown_runs.proofs.Common.{ConfigurationSpace, Point, Record, Knot, IsBounded, cost_of, squared_distance, is_placed, IsEarlier, Clear, distance_to}
+use Rattle.grown_runs.proofs.Common.{is_within, StandsAt, point_at, point_of, TreeState, first_cost_of, same-from_distance, StandsAt-present, point_of-stands}
+use Rattle.grown_runs.proofs.Common.{state_of_lists}
 use Rattle.point_strips.specs.Discs.{IsWithin}
 use Rattle.point_strips.specs.Walks.{numbered_at, nowhere, HasNoneBetween, IsRunAfter}
 use Rattle.point_strips.specs.declared.strips.Numbered.{Numbered}
 use Rattle.point_strips.specs.declared.strips.Run.{Run}
-use Rattle.grown_runs.specs.Runs.PackedRuns.{state_of_lists}
 use Rattle.report_judge.specs.Workers.OwnNodes.{AreNodesBefore, ArePresent, HasNo, HasOne, IsPassedOverAt, IsNearerAt, IsNodeBefore, IsPlacedAt, IsPlacedMarkAt}
 use Rattle.report_judge.specs.Workers.OwnNodes.{IsUnlawfulAt}
 use Rattle.report_judge.specs.Workers.OwnNodes.{IsNearestOfEarlier, IsTaken, KeepsNear}

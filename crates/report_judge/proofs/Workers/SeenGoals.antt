@@ -1,11 +1,6 @@
 -- Each goal node that stood already was placed at more than a bound, if the least of them was.
 use Rattle.std.proofs.Common.{◌≡◌, ℕ, ◌<◌, true, [], Option, Some, None, arith, sym, ap, ◌∙◌}
-use Rattle.plan_model.specs.declared.geometry.Point.{Point}
-use Rattle.plan_model.specs.declared.records.Record.{Record}
-use Rattle.plan_model.specs.Runs.Textbook.{Setup}
-use Rattle.plan_model.specs.Trees.BestNode.{is_goal_point}
-use Rattle.plan_model.specs.Trees.PointsByNumber.{point_at}
-use Rattle.plan_model.specs.Trees.TreeStates.{TreeState}
+use Rattle.grown_runs.proofs.Common.{Point, Record, Setup, is_goal_point, point_at, TreeState}
 use Rattle.report_judge.specs.Workers.MarkLaws.{AreDearer}
 use Rattle.report_judge.specs.Workers.SeenNodes.{IsLeastGoalCost, IsLeastIfAny}
 use Rattle.report_judge.proofs.Workers.SeenLaws.{is_before-earlier}

@@ -5,15 +5,8 @@ use Rattle.std.specs.Prelude.{◌≢◌, ◌⊎◌, ◌&&◌, IfNone, IfSome, mi
 use Rattle.std.specs.List.{range_with_len}
 use Rattle.std.proofs.lemmas.Bool.{and_from, and_left, and_right, cases_Bool, cases_eq, cases_lt, eq-eqb, le-ltb, lt-ltb, ne_eqb, true≢false}
 use Rattle.std.proofs.lemmas.List.Sums.{length-filter}
-use Rattle.plan_model.specs.declared.geometry.Goal.{Goal}
-use Rattle.plan_model.specs.declared.records.Record.{Record}
-use Rattle.plan_model.specs.declared.trees.Knot.{Knot}
-use Rattle.plan_model.specs.Runs.Outcomes.{is_placed}
-use Rattle.plan_model.specs.Runs.RecordLaw.{is_earlier, is_earlier_record, earlier_count}
-use Rattle.plan_model.specs.Trees.BestNode.{IsGoalNode}
-use Rattle.plan_model.specs.Trees.TreeStates.{TreeState, first_cost_of, recorded_or}
-use Rattle.plan_model.proofs.CountsBelow.{count-one_more, count-same}
-use Rattle.grown_runs.specs.Runs.PackedRuns.{state_of_lists}
+use Rattle.grown_runs.proofs.Common.{Goal, Record, Knot, is_placed, is_earlier, is_earlier_record, earlier_count, IsGoalNode, TreeState, first_cost_of}
+use Rattle.grown_runs.proofs.Common.{recorded_or, count-one_more, count-same, state_of_lists}
 use Rattle.report_judge.specs.Workers.SeenNodes.{IsTurnOf, IsMarkOfTurn, HaveOwnTurns, places_before, is_before, count_before, IsLeastGoalCost, IsLeastIfAny}
 use Rattle.report_judge.specs.Workers.SeenNodes.{AreSeen}
 use Rattle.report_judge.specs.declared.own.seen_nodes.Seen.{Seen}

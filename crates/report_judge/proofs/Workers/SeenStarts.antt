@@ -5,16 +5,8 @@ use Rattle.std.specs.Prelude.{◌&&◌, count_by, option_map, slice_get}
 use Rattle.std.specs.List.{range_with_len}
 use Rattle.std.proofs.lemmas.Bool.{and_right, le-ltb, true≢false}
 use Rattle.std.proofs.lemmas.List.{length-map}
-use Rattle.plan_model.specs.declared.geometry.Goal.{Goal}
-use Rattle.plan_model.specs.declared.records.Record.{Record}
-use Rattle.plan_model.specs.declared.trees.Knot.{Knot}
-use Rattle.plan_model.specs.declared.trees.Twig.{Twig}
-use Rattle.plan_model.specs.Runs.Outcomes.{is_placed}
-use Rattle.plan_model.specs.Trees.BestNode.{IsGoalNode}
-use Rattle.plan_model.specs.Trees.NodeLists.{points_of, without_costs}
-use Rattle.plan_model.specs.Trees.TreeStates.{TreeState}
-use Rattle.plan_model.proofs.CountsBelow.{count-first, count-none}
-use Rattle.grown_runs.specs.Runs.PackedRuns.{state_of_lists}
+use Rattle.grown_runs.proofs.Common.{Goal, Record, Knot, Twig, is_placed, IsGoalNode, points_of, without_costs, TreeState, count-first, count-none}
+use Rattle.grown_runs.proofs.Common.{state_of_lists}
 use Rattle.report_judge.specs.Workers.SeenNodes.{places_before, is_before, count_before, AreSeen}
 use Rattle.report_judge.proofs.Laws.LawfulSheets.{length-without_costs}
 

@@ -2,9 +2,7 @@
 use Rattle.std.proofs.Common.{◌≡◌, ℕ, zero, suc, ◌+◌, ◌<◌, true, List, [], ◌∷◌, ◌++◌, length, Option, Some, None, arith, refl, sym, ap, ◌∙◌}
 use Rattle.std.specs.Prelude.{IfNone, IfSome, slice_get, slice_index_or}
 use Rattle.std.proofs.lemmas.List.{get_or_append_left}
-use Rattle.plan_model.specs.declared.records.Record.{Record}
-use Rattle.plan_model.specs.declared.trees.Knot.{Knot}
-use Rattle.grown_runs.specs.Runs.PackedRuns.{state_of_lists}
+use Rattle.grown_runs.proofs.Common.{Record, Knot, state_of_lists}
 use Rattle.report_judge.specs.Workers.SeenNodes.{AreMarksByTurn, HaveOwnTurns, IsMarkOfTurn, is_before}
 use Rattle.report_judge.specs.Workers.Standings.{AreStandings, no_standing, place_of, standing_at, standing_of, turns_to}
 use Rattle.report_judge.specs.declared.own.standings.Standing.{Standing}

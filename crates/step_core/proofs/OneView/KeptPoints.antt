@@ -1,15 +1,9 @@
 -- Points whose words are seen alike are seen alike.
 use Rattle.std.proofs.Common.{◌≡◌, ℕ, ◌<◌, Option, Some, None, is_some, arith, refl, sym, ap, ◌∙◌, inl, inr}
 use Rattle.std.proofs.lemmas.Bool.{cases_lt}
-use Rattle.plan_model.specs.declared.geometry.Point.{Point}
-use Rattle.plan_model.specs.Trees.PointsByNumber.{point_at}
+use Rattle.grown_runs.proofs.Common.{Point, point_at, seen_tree_of_words, Words, PointOf, Sizes, point_of_word}
 use Rattle.step_core.specs.LaterViews.{IsLater}
-use Rattle.grown_runs.specs.Table.SeenWords.{seen_tree_of_words}
 use Rattle.step_core.specs.Views.{run_sizes, sees, tree_seen}
-use Rattle.grown_runs.specs.Table.WordNames.{Words}
-use Rattle.grown_runs.specs.Table.WordNames.Word.{PointOf}
-use Rattle.grown_runs.specs.Table.WordPlaces.{Sizes}
-use Rattle.grown_runs.specs.Table.Words.{point_of_word}
 use Rattle.step_core.specs.declared.views.View.{View}
 use Rattle.step_core.proofs.Seen.SeenWords.{point_at-seen, seen-within}
 

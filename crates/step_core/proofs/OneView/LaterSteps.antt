@@ -1,16 +1,14 @@
 -- A view is a later one after the words of its node are written, after the node is linked, and after it is counted.
 use Rattle.std.proofs.Common.{ℕ, ◌<◌, ◌≤◌, Bool, List, length, refl, ap, ◌∙◌, inl, inr, arith}
-use Rattle.plan_model.specs.declared.geometry.Point.{Point}
+use Rattle.grown_runs.proofs.Common.{Point, ChildOf, AreBehind-refl}
 use Rattle.step_core.specs.LaterViews.{IsLater}
 use Rattle.step_core.specs.ViewSteps.{counted, half, linked, pointed, treed}
 use Rattle.step_core.specs.Views.{IsViewOf, last_look, last_zero, sees}
-use Rattle.grown_runs.specs.Table.WordNames.Word.{ChildOf}
 use Rattle.step_core.specs.declared.views.Hand.{Hand}
 use Rattle.step_core.specs.declared.views.SharedRun.{SharedRun}
 use Rattle.step_core.specs.declared.views.View.{View}
 use Rattle.step_core.proofs.OneView.LinkedViews.{AreBehind-shown, MayShow, WritesWord-look_linked, WritesWord-zero_linked}
 use Rattle.step_core.proofs.Seen.Looks.{same_name}
-use Rattle.grown_runs.proofs.Table.WordKinds.{AreBehind-refl}
 
 pub IsLater-pointed : (view : View) (hand : Hand) (m : ℕ) (p : Point) → IsLater view (pointed view hand m p)
 IsLater-pointed view hand m p = record {

@@ -4,22 +4,14 @@ use Rattle.std.specs.Prelude.{◌≢◌, ◌⊎◌}
 use lib.ListN.{get_elem?}
 use mathlib.Core.Option.{some}
 use Rattle.std.proofs.lemmas.Bool.{cases_Bool, cases_eq}
-use Rattle.plan_model.specs.Runs.Turns.{is_of_worker, turns_of}
-use Rattle.plan_model.proofs.CountsBelow.{count-same}
-use Rattle.plan_model.specs.Geometry.Bounds.{IsBounded}
-use Rattle.plan_model.specs.Seen.Ways.{FollowWays}
-use Rattle.grown_runs.specs.Runs.GrownWords.{children_of_words, is_linked, record_at}
+use Rattle.grown_runs.proofs.Common.{is_of_worker, turns_of, count-same, IsBounded, FollowWays, children_of_words, is_linked, record_at, point_word}
+use Rattle.grown_runs.proofs.Common.{record_of_word, AreBehind, MayBecome, WordKind, kind_of, Rising, Once, Falling, Apart, Word, Words, WritesWord, Best}
+use Rattle.grown_runs.proofs.Common.{ChildOf, Count, Counter, FirstOf, PointOf, RecordOf, TreeOf, HasWord, AreBehind-refl, AreBehind-trans}
 use Rattle.step_core.specs.SharedWords.{linked_points}
 use Rattle.step_core.specs.ViewTrees.{MayLoad, SeesTree}
-use Rattle.grown_runs.specs.Table.Words.{point_word, record_of_word}
 use Rattle.step_core.specs.LaterViews.{IsLater, IsLawfulView}
 use Rattle.step_core.specs.ViewSteps.{claimed, finished, joined, loaded, parted, saw, stepped}
 use Rattle.step_core.specs.Views.{IsSharedRun, IsViewOf, last_look, last_zero, run_sizes, sees, share}
-use Rattle.grown_runs.specs.Table.WordKinds.{AreBehind, MayBecome, WordKind, kind_of}
-use Rattle.grown_runs.specs.Table.WordKinds.WordKind.{Rising, Once, Falling, Apart}
-use Rattle.grown_runs.specs.Table.WordNames.{Word, Words, WritesWord}
-use Rattle.grown_runs.specs.Table.WordNames.Word.{Best, ChildOf, Count, Counter, FirstOf, PointOf, RecordOf, TreeOf}
-use Rattle.grown_runs.specs.Table.WordPlaces.{HasWord}
 use Rattle.step_core.specs.Worlds.{IsWorld, greatest_limit}
 use Rattle.step_core.specs.declared.views.Hand.{Hand}
 use Rattle.step_core.specs.declared.views.Member.{Member}
@@ -36,7 +28,6 @@ use Rattle.step_core.proofs.Seen.SeenByViews.{WritesWord-looked, WritesWord-saw,
 use Rattle.step_core.proofs.Parts.ViewLists.{sum-one}
 use Rattle.step_core.proofs.Whole.WholeShares.{turn-below, worker-below}
 use Rattle.step_core.proofs.Whole.WholeTrees.{KeepsOrder-whole}
-use Rattle.grown_runs.proofs.Table.WordKinds.{AreBehind-refl, AreBehind-trans}
 use Rattle.step_core.proofs.Parts.WorldParts.{quota-most, record_word-none, worker-own}
 use Rattle.step_core.proofs.Steps.WorldJoins.{AreBehind-joined}
 use Rattle.step_core.proofs.Parts.WorldLinks.{count-most, unlinked-held}

@@ -3,26 +3,12 @@ use Rattle.std.proofs.Common.{◌≡◌, ◌≢◌, ℕ, zero, suc, ◌<◌, ◌
 use Rattle.std.specs.Int.{abs_diff}
 use Rattle.std.specs.Prelude.{◌*◌, cond}
 use Rattle.std.proofs.lemmas.Bool.{le-ltb}
-use Rattle.plan_model.specs.declared.geometry.Point.{Point}
-use Rattle.plan_model.specs.declared.limits.TheConstants.{MOST_NODES}
-use Rattle.plan_model.specs.Spaces.Clearance.{ClearAt}
-use Rattle.plan_model.specs.Runs.OrderLaw.{Hangs, IsAllowedEdge}
-use Rattle.plan_model.specs.Trees.PointsByNumber.{IsPresent, StandsAt, node_count, point_of}
-use Rattle.plan_model.specs.Seen.SeenParents.{AreSeenLawfully}
-use Rattle.plan_model.specs.Runs.Textbook.{Setup}
-use Rattle.plan_model.specs.Trees.TreeStates.{first_cost_of}
-use Rattle.plan_model.specs.Seen.Ways.{FollowWays}
-use Rattle.plan_model.proofs.NewNodes.{point_of-stands}
-use Rattle.plan_model.proofs.OrderLaws.{most_cost_of-within}
-use Rattle.plan_model.proofs.SegmentLaws.{Clear-alone}
-use Rattle.grown_runs.specs.Runs.GrownWords.{children_of_words, is_linked}
+use Rattle.grown_runs.proofs.Common.{Point, MOST_NODES, ClearAt, Hangs, IsAllowedEdge, IsPresent, StandsAt, node_count, point_of, AreSeenLawfully, Setup}
+use Rattle.grown_runs.proofs.Common.{first_cost_of, FollowWays, point_of-stands, most_cost_of-within, Clear-alone, children_of_words, is_linked, AreBehind}
+use Rattle.grown_runs.proofs.Common.{Words, FirstOf, TreeOf, cost_in, parent_in, tree_of_word}
 use Rattle.step_core.specs.SharedWords.{linked_points}
 use Rattle.step_core.specs.ViewTrees.{IsSeenPair, SeesPoint, SeesTree}
 use Rattle.step_core.specs.Views.{IsSharedRun, run_sizes, sees, setup_in, tree_seen}
-use Rattle.grown_runs.specs.Table.WordKinds.{AreBehind}
-use Rattle.grown_runs.specs.Table.WordNames.{Words}
-use Rattle.grown_runs.specs.Table.WordNames.Word.{FirstOf, TreeOf}
-use Rattle.grown_runs.specs.Table.Words.{cost_in, parent_in, tree_of_word}
 use Rattle.step_core.specs.Worlds.{Trees, state_in}
 use Rattle.step_core.specs.declared.views.View.{View}
 use Rattle.step_core.proofs.OneView.LawfulSights.{IsTrueOf-seen}

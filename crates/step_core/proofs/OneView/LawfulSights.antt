@@ -2,36 +2,19 @@
 -- through the tree.
 use Rattle.std.proofs.Common.{◌≡◌, ℕ, ◌≤◌, Bool, true, length, sym, ap, ◌∙◌, subst, inl, inr, arith}
 use Rattle.std.specs.Prelude.{is_some}
-use Rattle.plan_model.specs.declared.geometry.Point.{Point}
-use Rattle.plan_model.specs.Geometry.Bounds.{IsBounded}
-use Rattle.plan_model.specs.Runs.ClosedLaw.{mark_at}
-use Rattle.plan_model.specs.Geometry.Plane.{IsInBoxOf}
-use Rattle.plan_model.specs.Trees.PointsByNumber.{AreDistinct, IsFree, IsPresent, point_of}
-use Rattle.plan_model.specs.Seen.SeenTrees.{FollowSeenWays, IsTrueOf, SharedTree}
-use Rattle.plan_model.specs.Seen.Sights.{IsLaterMoment, KeepsSight}
-use Rattle.plan_model.specs.Geometry.Steering.{steered}
-use Rattle.plan_model.specs.Seen.Ways.{EndsBelow, FollowWays}
-use Rattle.plan_model.proofs.NewNodes.{StandsAt-present}
-use Rattle.plan_model.proofs.SteeringLaws.{IsStep-steered}
-use Rattle.plan_model.proofs.TrueSights.{AreDistinct-true, FollowSeenWays-true, IsOnWay-true, IsPresent-true}
-use Rattle.plan_model.proofs.WayLaws.{EndsBelow-free}
-use Rattle.grown_runs.specs.Runs.GrownWords.{child_of_word, children_of_words, is_linked}
+use Rattle.grown_runs.proofs.Common.{Point, IsBounded, mark_at, IsInBoxOf, AreDistinct, IsFree, IsPresent, point_of, FollowSeenWays, IsTrueOf, SharedTree}
+use Rattle.grown_runs.proofs.Common.{IsLaterMoment, KeepsSight, steered, EndsBelow, FollowWays, StandsAt-present, IsStep-steered, AreDistinct-true}
+use Rattle.grown_runs.proofs.Common.{FollowSeenWays-true, IsOnWay-true, IsPresent-true, EndsBelow-free, child_of_word, children_of_words, is_linked, AreBehind}
+use Rattle.grown_runs.proofs.Common.{Words, ChildOf, PointOf, Sizes, point_of_word, point_word, IsBounded-word, point_of_word-packed, is_linked-child}
+use Rattle.grown_runs.proofs.Common.{is_linked-start}
 use Rattle.step_core.specs.LaterViews.{IsLater, IsLawfulView}
 use Rattle.step_core.specs.SharedWords.{linked_points, shared_tree_of_words}
 use Rattle.step_core.specs.ViewTrees.{IsSteered, LeadsTo, SeesNode, SeesPoint, SeesTree, sight_in}
 use Rattle.step_core.specs.Views.{run_sizes, sees, tree_seen}
-use Rattle.grown_runs.specs.Table.WordKinds.{AreBehind}
-use Rattle.grown_runs.specs.Table.WordNames.{Words}
-use Rattle.grown_runs.specs.Table.WordNames.Word.{ChildOf, PointOf}
-use Rattle.grown_runs.specs.Table.WordPlaces.{Sizes}
-use Rattle.grown_runs.specs.Table.Words.{point_of_word, point_word}
 use Rattle.step_core.specs.declared.views.View.{View}
-use Rattle.grown_runs.proofs.Runs.GrownPoints.{IsBounded-word}
-use Rattle.grown_runs.proofs.Table.PackedWords.{point_of_word-packed}
 use Rattle.step_core.proofs.OneView.SeenViews.{HasSeenAtLeast-later}
 use Rattle.step_core.proofs.Seen.SeenWords.{child_says, point_at-seen, point_says, seen-within}
 use Rattle.step_core.proofs.Seen.TrueWords.{IsTrueOf-words, linked-within}
-use Rattle.grown_runs.proofs.Runs.LinkedPresence.{is_linked-child, is_linked-start}
 
 -- ---- points within bounds
 

@@ -3,19 +3,14 @@ use Rattle.std.proofs.Common.{◌≡◌, ◌≢◌, ℕ, suc, ◌+◌, ◌<◌, 
 use Rattle.std.specs.Prelude.{◌⊎◌}
 use Rattle.step_core.specs.ViewSteps.{linked, pair_in_hand, saw}
 use Rattle.step_core.specs.Views.{IsViewOf, last_look, last_zero, run_sizes, sees}
-use Rattle.grown_runs.specs.Table.WordKinds.{AreBehind, HaveWholePairs, MayBecome}
-use Rattle.grown_runs.specs.Table.WordKinds.WordKind.{Falling, Once}
-use Rattle.grown_runs.specs.Table.WordNames.{Word, Words, WritesWord}
-use Rattle.grown_runs.specs.Table.WordNames.Word.{ChildOf, FirstOf, PointOf, TreeOf}
-use Rattle.grown_runs.specs.Table.WordPlaces.{HasWord}
-use Rattle.grown_runs.specs.Table.Words.{point_word}
+use Rattle.grown_runs.proofs.Common.{AreBehind, HaveWholePairs, MayBecome, Falling, Once, Word, Words, WritesWord, ChildOf, FirstOf, PointOf, TreeOf, HasWord}
+use Rattle.grown_runs.proofs.Common.{point_word, AreBehind-trans}
 use Rattle.step_core.specs.declared.views.Hand.{Hand}
 use Rattle.step_core.specs.declared.views.SharedRun.{SharedRun}
 use Rattle.step_core.specs.declared.views.View.{View}
 use Rattle.step_core.proofs.Seen.Looks.{same_name}
 use Rattle.step_core.proofs.Seen.SawWords.{AreBehind-saw, AreBehind-write}
 use Rattle.step_core.proofs.Seen.SeenByViews.{IsViewOf-saw, WritesWord-looked, WritesWord-saw, WritesWord-zero}
-use Rattle.grown_runs.proofs.Table.WordKinds.{AreBehind-trans}
 use Rattle.step_core.proofs.Parts.WorldParts.{IsFair}
 
 -- The node in hand is seen as the child of node n on this side, with its point, its tree word and its first word, and all else as before.

@@ -2,16 +2,11 @@
 use Rattle.std.proofs.Common.{◌≡◌, ℕ, zero, suc, true, Option, Some, None, refl}
 use Rattle.std.specs.Prelude.{◌==◌, ◌&&◌, IsTrue, nat_lt}
 use Rattle.std.proofs.lemmas.Bool.{and_parts}
-use Rattle.plan_model.specs.Runs.Outcomes.{is_placed}
-use Rattle.plan_model.specs.Runs.RecordLaw.{is_earlier_record}
-use Rattle.plan_model.specs.Trees.PointsByNumber.{IsPresent}
-use Rattle.plan_model.specs.declared.records.Record.{Record}
+use Rattle.grown_runs.proofs.Common.{is_placed, is_earlier_record, IsPresent, Record, has_node, has_placed, record_at, RecordOf}
 use Rattle.step_core.proofs.Seen.PlacedWords.{has_node-same}
-use Rattle.grown_runs.specs.Runs.GrownWords.{has_node, has_placed, record_at}
 use Rattle.step_core.specs.LaterViews.{IsLawfulView}
 use Rattle.step_core.specs.SeenRecords.{is_own_node}
 use Rattle.step_core.specs.Views.{sees, tree_seen}
-use Rattle.grown_runs.specs.Table.WordNames.Word.{RecordOf}
 use Rattle.step_core.specs.declared.views.View.{View}
 
 -- each is seen with its point

@@ -1,20 +1,12 @@
 -- Goal nodes that a view has seen are so, and so is what they were placed at.
 use Rattle.std.proofs.Common.{◌≡◌, ℕ, zero, suc, ◌≤◌, ◌^◌, true, refl, sym, ap, ◌∙◌, subst, inl, inr, arith}
 use Rattle.std.specs.Prelude.{IsTrue}
-use Rattle.plan_model.specs.Seen.Ways.{FollowWays}
-use Rattle.plan_model.specs.Trees.BestNode.{IsGoalNode, is_goal_point}
-use Rattle.plan_model.specs.Trees.PointsByNumber.{point_at, point_of}
-use Rattle.plan_model.proofs.BestNodeLaws.{IsPresent-goal}
-use Rattle.plan_model.proofs.NewNodes.{StandsAt-present}
-use Rattle.grown_runs.specs.Runs.GrownWords.{children_of_words, has_node, has_placed}
+use Rattle.grown_runs.proofs.Common.{FollowWays, IsGoalNode, is_goal_point, point_at, point_of, IsPresent-goal, StandsAt-present, children_of_words, has_node}
+use Rattle.grown_runs.proofs.Common.{has_placed, AreBehind, Words, Best, FirstOf, RecordOf, best_word, cost_in, record_of_word, tree_word}
 use Rattle.step_core.specs.SeenBests.{IsAtMostPlaced, SeesGoal, seen_first_cost}
 use Rattle.step_core.specs.SharedWords.{linked_points}
 use Rattle.step_core.specs.ViewTrees.{SeesTree}
 use Rattle.step_core.specs.Views.{run_sizes, sees, tree_seen}
-use Rattle.grown_runs.specs.Table.WordKinds.{AreBehind}
-use Rattle.grown_runs.specs.Table.WordNames.{Words}
-use Rattle.grown_runs.specs.Table.WordNames.Word.{Best, FirstOf, RecordOf}
-use Rattle.grown_runs.specs.Table.Words.{best_word, cost_in, record_of_word, tree_word}
 use Rattle.step_core.specs.Worlds.{BestWord}
 use Rattle.step_core.specs.declared.views.View.{View}
 use Rattle.step_core.proofs.OneView.LawfulSights.{IsTrueOf-seen}

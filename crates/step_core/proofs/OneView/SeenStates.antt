@@ -3,20 +3,13 @@ use Rattle.std.proofs.Common.{◌≡◌, ℕ, zero, suc, ◌+◌, ◌≤◌, Boo
 use Rattle.std.specs.Prelude.{is_some, if◌then◌else◌}
 use Rattle.std.specs.List.{range_with_len}
 use Rattle.std.proofs.lemmas.Bool.{cases_Bool, cases_lt}
-use Rattle.grown_runs.specs.Runs.GrownWords.{child_of_word, is_linked}
+use Rattle.grown_runs.proofs.Common.{child_of_word, is_linked, seen_point, PointOf, Sizes, point_of_word, none_some, in_child, is_linked-child, word_at-none}
 use Rattle.step_core.specs.LaterViews.{IsLawfulView}
-use Rattle.grown_runs.specs.Table.SeenWords.{seen_point}
 use Rattle.step_core.specs.SharedWords.{linked_point, linked_points}
 use Rattle.step_core.specs.ViewTrees.{SeesNode}
 use Rattle.step_core.specs.Views.{run_sizes, sees, tree_seen}
-use Rattle.grown_runs.specs.Table.WordNames.Word.{PointOf}
-use Rattle.grown_runs.specs.Table.WordPlaces.{Sizes}
-use Rattle.grown_runs.specs.Table.Words.{point_of_word}
 use Rattle.step_core.specs.declared.views.View.{View}
-use Rattle.grown_runs.proofs.Runs.GrownPoints.{none_some}
-use Rattle.grown_runs.proofs.Runs.LinkedPresence.{in_child, is_linked-child}
 use Rattle.step_core.proofs.Seen.SeenWords.{point_at-seen}
-use Rattle.grown_runs.proofs.Table.WordReads.{word_at-none}
 
 module _ (view : View) (lawful : IsLawfulView view) where
   abbrev sizes : Sizes

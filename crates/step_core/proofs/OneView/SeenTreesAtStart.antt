@@ -2,24 +2,12 @@
 use Rattle.std.proofs.Common.{◌≡◌, ℕ, zero, suc, ◌≤◌, ◌^◌, Bool, true, List, Some, refl, sym, ap, ◌∙◌, inl, inr, arith}
 use Rattle.std.specs.Prelude.{IsSome, is_some}
 use Rattle.std.proofs.lemmas.Bool.{cases_Bool}
-use Rattle.plan_model.specs.declared.geometry.Point.{Point}
-use Rattle.plan_model.specs.declared.tasks.Task.{Task}
-use Rattle.plan_model.specs.Trees.PointsByNumber.{IsPresent, point_of}
-use Rattle.plan_model.specs.Seen.SeenTrees.{IsRooted, IsSeen, SeenTree}
-use Rattle.plan_model.specs.Seen.Ways.{IsOnWay, goes_right}
-use Rattle.plan_model.proofs.NewNodes.{StandsAt-present}
-use Rattle.plan_model.proofs.WayLaws.{last_step, not_empty, way_start}
-use Rattle.grown_runs.specs.Runs.GrownWords.{HoldRun, children_of_words, has_node, points_of_words, run_words, sizes_of}
-use Rattle.grown_runs.specs.Table.SeenWords.{seen_tree_of_words}
+use Rattle.grown_runs.proofs.Common.{Point, Task, IsPresent, point_of, IsRooted, IsSeen, SeenTree, IsOnWay, goes_right, StandsAt-present, last_step, not_empty}
+use Rattle.grown_runs.proofs.Common.{way_start, HoldRun, children_of_words, has_node, points_of_words, run_words, sizes_of, seen_tree_of_words, Words, FirstOf}
+use Rattle.grown_runs.proofs.Common.{Sizes, point_of_word, tree_of_word, has_node-present, point_of_word-stands, present-within, node_present}
 use Rattle.step_core.specs.ViewStarts.{newcomer}
 use Rattle.step_core.specs.ViewTrees.{SeesTree}
 use Rattle.step_core.specs.Views.{run_of}
-use Rattle.grown_runs.specs.Table.WordNames.{Words}
-use Rattle.grown_runs.specs.Table.WordNames.Word.{FirstOf}
-use Rattle.grown_runs.specs.Table.WordPlaces.{Sizes}
-use Rattle.grown_runs.specs.Table.Words.{point_of_word, tree_of_word}
-use Rattle.grown_runs.proofs.Runs.GrownPoints.{has_node-present, point_of_word-stands, present-within}
-use Rattle.grown_runs.proofs.Runs.LinkedPresence.{node_present}
 use Rattle.step_core.proofs.Seen.SeenWords.{point_at-seen, seen-within}
 
 module _ (task : Task) (limit : ℕ) (words : Words) (held : HoldRun task limit words) where

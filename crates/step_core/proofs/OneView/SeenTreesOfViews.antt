@@ -2,25 +2,14 @@
 use Rattle.std.proofs.Common.{◌≡◌, ◌≢◌, ℕ, suc, ◌+◌, ◌<◌, ◌≤◌, ◌^◌, Bool, true, List, length, Some, refl, sym, ap, ◌∙◌, subst, inl, inr, arith}
 use Rattle.std.specs.Prelude.{is_some}
 use Rattle.std.proofs.lemmas.Option.{same_Some}
-use Rattle.plan_model.specs.Geometry.Bounds.{IsBounded}
-use Rattle.plan_model.specs.Runs.Outcomes.{is_placed}
-use Rattle.plan_model.specs.Trees.PointsByNumber.{IsPresent}
-use Rattle.plan_model.specs.Seen.SeenTrees.{IsRooted}
-use Rattle.plan_model.specs.declared.geometry.Point.{Point}
-use Rattle.plan_model.specs.declared.records.Record.{Record}
-use Rattle.grown_runs.specs.Runs.GrownWords.{child_of_word, has_node, has_placed}
-use Rattle.grown_runs.specs.Table.SeenWords.{MayLookAt}
+use Rattle.grown_runs.proofs.Common.{IsBounded, is_placed, IsPresent, IsRooted, Point, Record, child_of_word, has_node, has_placed, MayLookAt, AreBehind}
+use Rattle.grown_runs.proofs.Common.{MayBecome, Falling, Word, Words, WritesWord, Count, Best, Counter, PointOf, ChildOf, TreeOf, FirstOf, RecordOf, HasWord}
+use Rattle.grown_runs.proofs.Common.{FitsWord, point_of_word, point_word, record_of_word, record_word, tree_word, point_of_word-packed, AreBehind-refl}
 use Rattle.step_core.specs.Stages.{MayBeRecorded, has_link, has_point}
 use Rattle.step_core.specs.ViewSteps.{claimed, counted, finished, half, linked, loaded, looker, lowered, mark_of, new_hand}
 use Rattle.step_core.specs.ViewSteps.{pair_in_hand, parted, pointed, stepped, treed, worker_apart}
 use Rattle.step_core.specs.ViewTrees.{SeesHand, IsSteered, LeadsTo, MayLoad, SeesNode, SeesPoint, SeesTree}
 use Rattle.step_core.specs.Views.{IsViewOf, run_sizes, sees, tree_seen}
-use Rattle.grown_runs.specs.Table.WordKinds.{AreBehind, MayBecome}
-use Rattle.grown_runs.specs.Table.WordKinds.WordKind.{Falling}
-use Rattle.grown_runs.specs.Table.WordNames.{Word, Words, WritesWord}
-use Rattle.grown_runs.specs.Table.WordNames.Word.{Count, Best, Counter, PointOf, ChildOf, TreeOf, FirstOf, RecordOf}
-use Rattle.grown_runs.specs.Table.WordPlaces.{HasWord}
-use Rattle.grown_runs.specs.Table.Words.{FitsWord, point_of_word, point_word, record_of_word, record_word, tree_word}
 use Rattle.step_core.specs.declared.views.Hand.{Hand}
 use Rattle.step_core.specs.declared.views.SharedRun.{SharedRun}
 use Rattle.step_core.specs.declared.views.Stage.TheVariants.{Counted, Half, Linked, Pointed, Treed}
@@ -29,13 +18,11 @@ use Rattle.step_core.proofs.OneView.LinkedViews.{AreBehind-child, AreBehind-firs
 use Rattle.step_core.proofs.OneView.LinkedViews.{WritesWord-child, WritesWord-first, WritesWord-point, WritesWord-tree}
 use Rattle.step_core.proofs.OneView.LinkedViews.{child_shown, pair_shown, point_shown, sees-linked}
 use Rattle.step_core.proofs.Seen.Looks.{same_name}
-use Rattle.grown_runs.proofs.Table.PackedWords.{point_of_word-packed}
 use Rattle.step_core.proofs.Seen.PlacedWords.{has_node-same, has_placed-record_word}
 use Rattle.step_core.proofs.Seen.SawWords.{AreBehind-write}
 use Rattle.step_core.proofs.Seen.SeenByViews.{WritesWord-saw}
 use Rattle.step_core.proofs.OneView.SeenViews.{SeesHand-later, IsPresent-later, IsRooted-write, SeesPoint-later, first-later}
 use Rattle.step_core.proofs.Seen.SeenWords.{point_at-seen}
-use Rattle.grown_runs.proofs.Table.WordKinds.{AreBehind-refl}
 
 -- ---- a step on one word
 

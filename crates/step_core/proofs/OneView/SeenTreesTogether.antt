@@ -2,21 +2,12 @@
 use Rattle.std.proofs.Common.{◌≡◌, ℕ, suc, Bool, true, false, Some, None, refl, sym, ap, ◌∙◌, subst, inl, inr, arith}
 use Rattle.std.specs.Prelude.{◌⊎◌, ◌==◌, ◌&&◌, cond, is_some, nat_le, nat_lt, ◌^◌}
 use Rattle.std.proofs.lemmas.Bool.{cases_lt}
-use Rattle.plan_model.specs.Trees.PointsByNumber.{IsPresent, point_of}
-use Rattle.plan_model.specs.Seen.SeenTrees.{IsRooted, IsSeen, SeenTree}
-use Rattle.plan_model.proofs.NewNodes.{IsPresent-stands, StandsAt-present}
-use Rattle.plan_model.proofs.SeenTreeLaws.{IsSeen-more}
-use Rattle.grown_runs.specs.Runs.GrownWords.{child_of_word}
-use Rattle.grown_runs.specs.Table.SeenWords.{seen_tree_of_words}
+use Rattle.grown_runs.proofs.Common.{IsPresent, point_of, IsRooted, IsSeen, SeenTree, IsPresent-stands, StandsAt-present, IsSeen-more, child_of_word}
+use Rattle.grown_runs.proofs.Common.{seen_tree_of_words, AreBehind, WordKind, kind_of, later_word, Rising, Once, Falling, Apart, Word, Words, ChildOf, PointOf}
+use Rattle.grown_runs.proofs.Common.{RecordOf, TreeOf, Sizes, cost_in, point_of_word, tree_of_word}
 use Rattle.step_core.specs.ViewSteps.{joined}
 use Rattle.step_core.specs.ViewTrees.{SeesTree}
 use Rattle.step_core.specs.Views.{run_sizes, sees, words_of_run}
-use Rattle.grown_runs.specs.Table.WordKinds.{AreBehind, WordKind, kind_of, later_word}
-use Rattle.grown_runs.specs.Table.WordKinds.WordKind.{Rising, Once, Falling, Apart}
-use Rattle.grown_runs.specs.Table.WordNames.{Word, Words}
-use Rattle.grown_runs.specs.Table.WordNames.Word.{ChildOf, PointOf, RecordOf, TreeOf}
-use Rattle.grown_runs.specs.Table.WordPlaces.{Sizes}
-use Rattle.grown_runs.specs.Table.Words.{cost_in, point_of_word, tree_of_word}
 use Rattle.step_core.specs.declared.views.View.{View}
 use Rattle.step_core.proofs.Seen.LaterWords.{word_at-merged}
 use Rattle.step_core.proofs.Seen.PlacedWords.{has_node-same}

@@ -1,18 +1,9 @@
 -- What a view has seen of the tree, a later view of the same run has seen too.
 use Rattle.std.proofs.Common.{◌≡◌, ℕ, suc, ◌≤◌, ◌^◌, refl, sym, ap, ◌∙◌, subst, inl, inr, arith}
-use Rattle.plan_model.specs.Runs.ClosedLaw.{mark_at}
-use Rattle.plan_model.specs.declared.geometry.Point.{Point}
-use Rattle.plan_model.specs.Trees.PointsByNumber.{IsPresent, point_of}
-use Rattle.plan_model.specs.Seen.SeenTrees.{HasSeenAtLeast, IsRooted}
-use Rattle.plan_model.specs.Geometry.Steering.{steered}
-use Rattle.plan_model.proofs.NewNodes.{IsPresent-stands, StandsAt-present}
-use Rattle.grown_runs.specs.Table.SeenWords.{LooksAt, MayLookAt, SeenWords, seen_tree_of_words}
+use Rattle.grown_runs.proofs.Common.{mark_at, Point, IsPresent, point_of, HasSeenAtLeast, IsRooted, steered, IsPresent-stands, StandsAt-present, LooksAt}
+use Rattle.grown_runs.proofs.Common.{MayLookAt, SeenWords, seen_tree_of_words, AreBehind, Word, Words, WritesWord, FirstOf, Sizes}
 use Rattle.step_core.specs.ViewTrees.{SeesHand, IsSteered, SeesPoint}
 use Rattle.step_core.specs.Views.{run_sizes, sees, tree_seen}
-use Rattle.grown_runs.specs.Table.WordKinds.{AreBehind}
-use Rattle.grown_runs.specs.Table.WordNames.{Word, Words, WritesWord}
-use Rattle.grown_runs.specs.Table.WordNames.Word.{FirstOf}
-use Rattle.grown_runs.specs.Table.WordPlaces.{Sizes}
 use Rattle.step_core.specs.declared.views.Hand.{Hand}
 use Rattle.step_core.specs.declared.views.View.{View}
 use Rattle.step_core.proofs.Seen.Looks.{IsRooted-looks}

@@ -5,12 +5,10 @@ use Rattle.std.proofs.lemmas.Bool.{eq-eqb, ne_eqb}
 use Rattle.std.proofs.lemmas.List.Sums.{sum_by-cons}
 use mathlib.Core.Option.{some}
 use lib.ListN.{get_elem?}
-use Rattle.plan_model.specs.Scenes.MarkPoints.{is_claimed}
-use Rattle.plan_model.specs.Runs.Turns.{once_if}
+use Rattle.grown_runs.proofs.Common.{is_claimed, once_if, Words}
 use Rattle.step_core.specs.Stages.{holds_at}
 use Rattle.step_core.specs.ViewSteps.{new_hand}
 use Rattle.step_core.specs.Views.{holds}
-use Rattle.grown_runs.specs.Table.WordNames.{Words}
 use Rattle.step_core.specs.Worlds.{ClaimedMarks, counters, hands_at, holders, is_recorded}
 use Rattle.step_core.specs.declared.views.Hand.{Hand}
 use Rattle.step_core.specs.declared.views.SharedRun.{SharedRun}

@@ -1,25 +1,13 @@
 -- From what a view has seen of parents and costs to the tree now: a node may hang where it was seen that it may, since no cost rises.
 use Rattle.std.proofs.Common.{◌≡◌, ◌≢◌, ℕ, suc, ◌<◌, ◌≤◌, ◌^◌, true, sym, ap, ◌∙◌, subst, inl, inr, arith}
 use Rattle.std.specs.Prelude.{is_some}
-use Rattle.plan_model.specs.Geometry.Cost.{cost_of}
-use Rattle.plan_model.specs.Runs.OrderLaw.{Hangs, IsAllowedEdge, most_cost_of}
-use Rattle.plan_model.specs.Trees.PointsByNumber.{IsPresent, StandsAt, node_count, point_of}
-use Rattle.plan_model.specs.Seen.SeenParents.{AreSeenLawfully}
-use Rattle.plan_model.specs.Trees.TreeStates.{GrowsInto, TreeState, first_cost_of}
-use Rattle.plan_model.specs.Seen.Ways.{FollowWays}
-use Rattle.plan_model.specs.declared.geometry.Point.{Point}
-use Rattle.plan_model.specs.declared.limits.TheConstants.{MOST_NODES}
-use Rattle.plan_model.proofs.NewNodes.{IsPresent-stands, node_count-some, point_of-stands}
-use Rattle.plan_model.proofs.OrderLaws.{Hangs-grows, cost_of-short, most_cost_of-le, most_cost_of-more, most_cost_of-within}
-use Rattle.plan_model.proofs.TreeStateLaws.{IsPresent-grows, node_count-grows, point_of-grows}
-use Rattle.grown_runs.specs.Runs.GrownWords.{children_of_words, is_linked}
+use Rattle.grown_runs.proofs.Common.{cost_of, Hangs, IsAllowedEdge, most_cost_of, IsPresent, StandsAt, node_count, point_of, AreSeenLawfully, GrowsInto}
+use Rattle.grown_runs.proofs.Common.{TreeState, first_cost_of, FollowWays, Point, MOST_NODES, IsPresent-stands, node_count-some, point_of-stands, Hangs-grows}
+use Rattle.grown_runs.proofs.Common.{cost_of-short, most_cost_of-le, most_cost_of-more, most_cost_of-within, IsPresent-grows, node_count-grows, point_of-grows}
+use Rattle.grown_runs.proofs.Common.{children_of_words, is_linked, AreBehind, Words, FirstOf, TreeOf, cost_in, parent_in, tree_word}
 use Rattle.step_core.specs.SharedWords.{linked_points}
 use Rattle.step_core.specs.ViewTrees.{IsCostBelow, MayHang, MayLower, SeesCost, SeesTree}
 use Rattle.step_core.specs.Views.{IsSharedRun, run_sizes, sees, setup_in, tree_seen}
-use Rattle.grown_runs.specs.Table.WordKinds.{AreBehind}
-use Rattle.grown_runs.specs.Table.WordNames.{Words}
-use Rattle.grown_runs.specs.Table.WordNames.Word.{FirstOf, TreeOf}
-use Rattle.grown_runs.specs.Table.Words.{cost_in, parent_in, tree_word}
 use Rattle.step_core.specs.Worlds.{IsFirstOf, Trees, state_in}
 use Rattle.step_core.specs.declared.views.Hand.{Hand}
 use Rattle.step_core.specs.declared.views.Stage.TheVariants.{Half}

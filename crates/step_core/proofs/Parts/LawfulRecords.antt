@@ -8,43 +8,20 @@ use lib.ListN.{get_elem?}
 use Rattle.std.proofs.lemmas.Nat.{div-add-mod', mod_below}
 use Rattle.std.proofs.lemmas.List.FromFn.{length-map-range_with_len}
 use Rattle.std.proofs.lemmas.List.Sums.{length-filter}
-use Rattle.plan_model.specs.Spaces.Clearance.{Clear}
-use Rattle.plan_model.specs.Runs.ClosedLaw.{mark_at}
-use Rattle.plan_model.specs.Geometry.Cost.{cost_of}
-use Rattle.plan_model.specs.Geometry.Plane.{squared_distance}
-use Rattle.plan_model.specs.Trees.BestNode.{IsGoalNode, is_goal_point}
-use Rattle.plan_model.specs.Trees.Nearness.{is_within}
-use Rattle.plan_model.specs.Runs.OrderLaw.{Hangs}
-use Rattle.plan_model.specs.Runs.Outcomes.{is_placed}
-use Rattle.plan_model.specs.Trees.PointsByNumber.{IsPresent, StandsAt, node_count, point_at, point_of}
-use Rattle.plan_model.specs.Geometry.Radius.{class_of, radius_of_class}
-use Rattle.plan_model.specs.Runs.RecordLaw.{HangsLawfully, HasLawfulOutcome, IsBlockedLawfully, IsChosenLawfully, IsEarlier, IsLawfulRecord, IsNeighbour}
-use Rattle.plan_model.specs.Runs.RecordLaw.{IsPlacedLawfully, IsSkippedLawfully, IsSteeredLawfully, earlier_count, first_cost_through, is_earlier}
-use Rattle.plan_model.specs.Runs.RecordLaw.{is_earlier_record}
-use Rattle.plan_model.specs.Geometry.Steering.{steered}
-use Rattle.plan_model.specs.Runs.Textbook.{Setup, mark_bound}
-use Rattle.plan_model.specs.Trees.TreeStates.{TreeState, first_cost_of}
-use Rattle.plan_model.specs.Runs.Turns.{is_of_worker, once_if}
-use Rattle.plan_model.specs.declared.geometry.Point.{Point}
-use Rattle.plan_model.specs.declared.records.Outcome.{Outcome}
-use Rattle.plan_model.specs.declared.records.Outcome.TheVariants.{Blocked, Placed, Same, Skipped}
-use Rattle.plan_model.specs.declared.records.Record.{Record}
-use Rattle.plan_model.proofs.CountsBelow.{count-first, count-same}
-use Rattle.plan_model.proofs.SumsBelow.{sum-le}
-use Rattle.plan_model.proofs.GoalNodes.{no_goal_node}
-use Rattle.plan_model.proofs.NewNodes.{IsPresent-stands, StandsAt-present}
-use Rattle.plan_model.proofs.RecordLaws.{class_of-le}
-use Rattle.grown_runs.specs.Runs.GrownWords.{has_node, has_placed, record_at}
+use Rattle.grown_runs.proofs.Common.{Clear, mark_at, cost_of, squared_distance, IsGoalNode, is_goal_point, is_within, Hangs, is_placed, IsPresent, StandsAt}
+use Rattle.grown_runs.proofs.Common.{node_count, point_at, point_of, class_of, radius_of_class, HangsLawfully, HasLawfulOutcome, IsBlockedLawfully}
+use Rattle.grown_runs.proofs.Common.{IsChosenLawfully, IsEarlier, IsLawfulRecord, IsNeighbour, IsPlacedLawfully, IsSkippedLawfully, IsSteeredLawfully}
+use Rattle.grown_runs.proofs.Common.{earlier_count, first_cost_through, is_earlier, is_earlier_record, steered, Setup, mark_bound, TreeState, first_cost_of}
+use Rattle.grown_runs.proofs.Common.{is_of_worker, once_if, Point, Outcome, Blocked, Placed, Same, Skipped, Record, count-first, count-same, sum-le}
+use Rattle.grown_runs.proofs.Common.{no_goal_node, IsPresent-stands, StandsAt-present, class_of-le, has_node, has_placed, record_at, AreBehind, Words, Count}
+use Rattle.grown_runs.proofs.Common.{FirstOf, RecordOf, TreeOf, IsFirstWord, best_cost_in, best_word, cost_in, no_best, outcome_in, record_in, record_of_word}
+use Rattle.grown_runs.proofs.Common.{tree_word, unplaced_at, zeros, cost_in-tree_word}
 use Rattle.step_core.specs.SeenBests.{IsInformed, MayBeSkipped}
 use Rattle.step_core.specs.SeenRecords.{IsOwnNeighbour, MayBeBlocked, MayBePlaced, MayEnd, MayRecord, MaySteer, is_own_node, own_count, own_first_cost}
 use Rattle.step_core.specs.SharedWords.{linked_point}
 use Rattle.step_core.specs.Stages.{MayBeRecorded, has_count, has_first, has_link, has_point}
 use Rattle.step_core.specs.ViewTrees.{SeesHand, SeesPoint, SeesTree}
 use Rattle.step_core.specs.Views.{run_sizes, sees, setup_in, tree_seen}
-use Rattle.grown_runs.specs.Table.WordKinds.{AreBehind}
-use Rattle.grown_runs.specs.Table.WordNames.{Words}
-use Rattle.grown_runs.specs.Table.WordNames.Word.{Count, FirstOf, RecordOf, TreeOf}
-use Rattle.grown_runs.specs.Table.Words.{IsFirstWord, best_cost_in, best_word, cost_in, no_best, outcome_in, record_in, record_of_word, tree_word}
 use Rattle.step_core.specs.Worlds.{IsFirstOf, IsWorld, counted_once, state_in}
 use Rattle.step_core.specs.declared.views.Hand.{Hand}
 use Rattle.step_core.specs.declared.views.Member.{Member}
@@ -55,8 +32,6 @@ use Rattle.step_core.specs.declared.views.View.{View}
 use Rattle.step_core.proofs.OneView.LawfulSights.{IsTrueOf-seen}
 use Rattle.step_core.proofs.Parts.LinkedCounts.{count-most}
 use Rattle.step_core.proofs.Parts.LinkedStates.{first_cost-linked, linked-present, placed-linked}
-use Rattle.grown_runs.proofs.Table.PackedRecords.{unplaced_at, zeros}
-use Rattle.grown_runs.proofs.Table.PackedWords.{cost_in-tree_word}
 use Rattle.step_core.proofs.Seen.PlacedWords.{has_node-same}
 use Rattle.step_core.proofs.Seen.SeenWords.{seen-within}
 use Rattle.step_core.proofs.Parts.WorldRecords.{earlier-placed}

@@ -6,24 +6,17 @@ use Rattle.std.specs.List.{range_with_len, sum_by}
 use Rattle.std.proofs.lemmas.Bool.{cases_Bool}
 use Rattle.std.proofs.lemmas.List.FromFn.{length-map-range_with_len}
 use Rattle.std.proofs.lemmas.List.Sums.{sum_by-cons}
-use Rattle.plan_model.specs.Trees.PointsByNumber.{IsPresent, node_count, point_at}
-use Rattle.plan_model.specs.Runs.Turns.{once_if}
-use Rattle.plan_model.proofs.NewNodes.{IsPresent-stands}
-use Rattle.plan_model.proofs.NodeCounts.{count-next}
-use Rattle.plan_model.proofs.SumsBelow.{sum-le}
-use Rattle.grown_runs.specs.Runs.GrownWords.{child_of_word, is_linked}
+use Rattle.grown_runs.proofs.Common.{IsPresent, node_count, point_at, once_if, IsPresent-stands, count-next, sum-le, child_of_word, is_linked, Words, Count}
+use Rattle.grown_runs.proofs.Common.{in_child}
 use Rattle.step_core.specs.SharedWords.{linked_point, linked_points}
 use Rattle.step_core.specs.Stages.{has_count, has_link, holds_at}
 use Rattle.step_core.specs.Views.{run_sizes}
-use Rattle.grown_runs.specs.Table.WordNames.{Words}
-use Rattle.grown_runs.specs.Table.WordNames.Word.{Count}
 use Rattle.step_core.specs.Worlds.{LinkedTree, Trees, counted_once, hands_at}
 use Rattle.step_core.specs.declared.views.Hand.{Hand}
 use Rattle.step_core.specs.declared.views.SharedRun.{SharedRun}
 use Rattle.step_core.specs.declared.views.Stage.{Stage}
 use Rattle.step_core.specs.declared.views.Stage.TheVariants.{Claimed, Counted, Half, Linked, Pointed, Posted, Treed}
 use Rattle.step_core.specs.declared.views.View.{View}
-use Rattle.grown_runs.proofs.Runs.LinkedPresence.{in_child}
 use Rattle.step_core.proofs.Parts.LinkedStates.{linked-present}
 
 -- ---- hands

@@ -4,27 +4,17 @@ use Rattle.std.proofs.Common.{refl, sym, ap, ◌∙◌, inl, inr, arith}
 use Rattle.std.specs.Prelude.{cond, is_some, nat_lt}
 use Rattle.std.proofs.lemmas.List.FromFn.{get_or-map-range_with_len, length-map-range_with_len}
 use Rattle.std.proofs.lemmas.Option.{same_Some}
-use Rattle.plan_model.specs.declared.geometry.Point.{Point}
-use Rattle.plan_model.specs.declared.records.Record.{Record}
-use Rattle.plan_model.specs.Trees.PointsByNumber.{IsPresent, StandsAt, node_count, point_at}
-use Rattle.plan_model.specs.declared.limits.TheConstants.{MOST_NODES}
-use Rattle.plan_model.proofs.NodeCounts.{node_count-length}
-use Rattle.plan_model.specs.Trees.TreeStates.{GrowsInto, first_cost_of, recorded_or}
-use Rattle.plan_model.specs.Runs.Turns.{once_if}
-use Rattle.grown_runs.specs.Runs.GrownWords.{child_of_word, has_node, has_placed, is_linked, record_at}
+use Rattle.grown_runs.proofs.Common.{Point, Record, IsPresent, StandsAt, node_count, point_at, MOST_NODES, node_count-length, GrowsInto, first_cost_of}
+use Rattle.grown_runs.proofs.Common.{recorded_or, once_if, child_of_word, has_node, has_placed, is_linked, record_at, AreBehind, Words, ChildOf, FirstOf}
+use Rattle.grown_runs.proofs.Common.{PointOf, RecordOf, TreeOf, Sizes, cost_in, outcome_in, parent_in, point_of_word, record_in, record_of_word, tree_word}
+use Rattle.grown_runs.proofs.Common.{in_child, is_linked-child}
 use Rattle.step_core.specs.SharedWords.{linked_point, linked_points}
 use Rattle.step_core.specs.Stages.{has_link}
 use Rattle.step_core.specs.Views.{IsSharedRun, run_sizes}
-use Rattle.grown_runs.specs.Table.WordKinds.{AreBehind}
-use Rattle.grown_runs.specs.Table.WordNames.{Words}
-use Rattle.grown_runs.specs.Table.WordNames.Word.{ChildOf, FirstOf, PointOf, RecordOf, TreeOf}
-use Rattle.grown_runs.specs.Table.WordPlaces.{Sizes}
-use Rattle.grown_runs.specs.Table.Words.{cost_in, outcome_in, parent_in, point_of_word, record_in, record_of_word, tree_word}
 use Rattle.step_core.specs.Worlds.{LinkedTree, ClaimedMarks, Trees, is_recorded, state_in}
 use Rattle.step_core.specs.declared.views.SharedRun.{SharedRun}
 use Rattle.step_core.specs.declared.views.View.{View}
 use Rattle.step_core.proofs.Parts.HandsAt.{hands_at-most, holders-most}
-use Rattle.grown_runs.proofs.Runs.LinkedPresence.{in_child, is_linked-child}
 use Rattle.step_core.proofs.Parts.MarksInHand.{once_if-true}
 use Rattle.step_core.proofs.Seen.TrueWords.{linked-within}
 use Rattle.step_core.proofs.Parts.WorldLinks.{parent_within}

@@ -2,27 +2,15 @@
 use Rattle.std.proofs.Common.{◌≡◌, ◌≢◌, ℕ, zero, suc, ◌+◌, ◌≤◌, Bool, true, Some, None, refl, sym, ap, ◌∙◌, subst, arith}
 use Rattle.std.specs.Prelude.{IsSome, is_some, if◌then◌else◌}
 use Rattle.std.proofs.lemmas.List.FromFn.{get_or-map-range_with_len}
-use Rattle.plan_model.specs.Trees.PointsByNumber.{point_of}
-use Rattle.plan_model.specs.Seen.SeenTrees.{HasSeenAtLeast}
-use Rattle.plan_model.specs.Seen.Ways.{FollowWays, IsOnWay}
-use Rattle.plan_model.specs.Seen.Ways.IsOnWay.{begins, goes_on}
-use Rattle.plan_model.specs.declared.geometry.Point.{Point}
-use Rattle.plan_model.proofs.NewNodes.{StandsAt-present}
-use Rattle.plan_model.proofs.WayLinks.{IsOnWay-fills}
-use Rattle.grown_runs.specs.Runs.GrownWords.{IsLinked, child_of_word, children_of_words, is_linked}
-use Rattle.grown_runs.specs.Runs.GrownWords.IsLinked.{start, below}
+use Rattle.grown_runs.proofs.Common.{point_of, HasSeenAtLeast, FollowWays, IsOnWay, begins, goes_on, Point, StandsAt-present, IsOnWay-fills, IsLinked}
+use Rattle.grown_runs.proofs.Common.{child_of_word, children_of_words, is_linked, start, below, AreBehind, Words, ChildOf, PointOf, Sizes, point_of_word}
+use Rattle.grown_runs.proofs.Common.{in_child, is_linked-linked}
 use Rattle.step_core.specs.LaterViews.{IsLater}
 use Rattle.step_core.specs.SharedWords.{linked_point, linked_points}
 use Rattle.step_core.specs.ViewTrees.{IsOnWayOf, LeadsTo, SeesNode, SeesTree}
 use Rattle.step_core.specs.Views.{run_sizes, sees, tree_seen}
-use Rattle.grown_runs.specs.Table.WordKinds.{AreBehind}
-use Rattle.grown_runs.specs.Table.WordNames.{Words}
-use Rattle.grown_runs.specs.Table.WordNames.Word.{ChildOf, PointOf}
-use Rattle.grown_runs.specs.Table.WordPlaces.{Sizes}
-use Rattle.grown_runs.specs.Table.Words.{point_of_word}
 use Rattle.step_core.specs.declared.views.View.{View}
 use Rattle.step_core.proofs.OneView.LawfulSights.{IsPresent-seen, SeesNode-within, is_linked-seen}
-use Rattle.grown_runs.proofs.Runs.LinkedPresence.{in_child, is_linked-linked}
 use Rattle.step_core.proofs.OneView.SeenViews.{HasSeenAtLeast-later}
 use Rattle.step_core.proofs.Parts.WorldLinks.{parent_within}
 

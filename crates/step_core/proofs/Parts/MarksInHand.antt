@@ -6,15 +6,8 @@ use mathlib.Core.Option.{some}
 use lib.ListN.{get_elem?}
 use Rattle.std.proofs.lemmas.Bool.{cases_eq, eq-eqb, ne_eqb, ltb-true}
 use Rattle.std.proofs.lemmas.Nat.{div-add-mod', mod_below}
-use Rattle.plan_model.specs.Scenes.MarkPoints.{is_claimed}
-use Rattle.plan_model.specs.Runs.Turns.{once_if}
-use Rattle.plan_model.specs.declared.records.Record.{Record}
-use Rattle.plan_model.proofs.QuotaLaws.{IsCutAt-quota}
-use Rattle.plan_model.proofs.StripMarks.{is_claimed-now, is_claimed-other, not_claimed-yet}
-use Rattle.grown_runs.specs.Runs.GrownWords.{record_at}
+use Rattle.grown_runs.proofs.Common.{is_claimed, once_if, Record, IsCutAt-quota, is_claimed-now, is_claimed-other, not_claimed-yet, record_at, Words, Counter}
 use Rattle.step_core.specs.Views.{holds, share}
-use Rattle.grown_runs.specs.Table.WordNames.{Words}
-use Rattle.grown_runs.specs.Table.WordNames.Word.{Counter}
 use Rattle.step_core.specs.Worlds.{ClaimedMarks, counters, greatest_limit, holders, is_recorded, limit_of}
 use Rattle.step_core.specs.declared.views.SharedRun.{SharedRun}
 use Rattle.step_core.specs.declared.views.View.{View}

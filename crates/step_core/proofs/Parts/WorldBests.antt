@@ -5,24 +5,14 @@ use Rattle.std.specs.Prelude.{◌⊎◌, ◌≢◌, IsTrue}
 use Rattle.std.proofs.lemmas.Option.{same_Some}
 use mathlib.Core.Option.{some}
 use lib.ListN.{get_elem?}
-use Rattle.plan_model.specs.Trees.BestNode.{IsGoalNode, is_goal_point}
-use Rattle.plan_model.specs.Trees.PointsByNumber.{IsPresent, point_at, point_of}
-use Rattle.plan_model.specs.Trees.TreeStates.{GrowsInto}
-use Rattle.plan_model.specs.declared.geometry.Point.{Point}
-use Rattle.plan_model.proofs.BestNodeLaws.{IsPresent-goal}
-use Rattle.plan_model.proofs.NewNodes.{StandsAt-present}
-use Rattle.plan_model.proofs.GoalNodes.{IsGoalNode-before, IsGoalNode-grows}
-use Rattle.plan_model.proofs.TreeStateLaws.{cost-grows}
-use Rattle.grown_runs.specs.Runs.GrownWords.{has_node, is_linked}
+use Rattle.grown_runs.proofs.Common.{IsGoalNode, is_goal_point, IsPresent, point_at, point_of, GrowsInto, Point, IsPresent-goal, StandsAt-present}
+use Rattle.grown_runs.proofs.Common.{IsGoalNode-before, IsGoalNode-grows, cost-grows, has_node, is_linked, AreBehind, Words, Best, FirstOf, RecordOf}
+use Rattle.grown_runs.proofs.Common.{best_cost_in, best_node_in, best_word, cost_in}
 use Rattle.step_core.specs.SeenBests.{IsAtMostPlaced, SeesGoal, seen_first_cost}
 use Rattle.step_core.specs.SharedWords.{linked_points}
 use Rattle.step_core.specs.ViewSteps.{new_hand}
 use Rattle.step_core.specs.ViewTrees.{SeesTree}
 use Rattle.step_core.specs.Views.{run_sizes, sees, tree_seen}
-use Rattle.grown_runs.specs.Table.WordKinds.{AreBehind}
-use Rattle.grown_runs.specs.Table.WordNames.{Words}
-use Rattle.grown_runs.specs.Table.WordNames.Word.{Best, FirstOf, RecordOf}
-use Rattle.grown_runs.specs.Table.Words.{best_cost_in, best_node_in, best_word, cost_in}
 use Rattle.step_core.specs.Worlds.{BestWord, ClaimedMarks, IsBestWord, LinkedTree, SeenBests, SeesBest, Trees, state_in}
 use Rattle.step_core.specs.declared.views.Hand.{Hand}
 use Rattle.step_core.specs.declared.views.SharedRun.{SharedRun}

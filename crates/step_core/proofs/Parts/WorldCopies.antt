@@ -5,12 +5,9 @@ use Rattle.std.specs.Prelude.{◌⊎◌}
 use mathlib.Core.Option.{some, some-injective}
 use lib.ListN.{get_elem?}
 use Rattle.std.proofs.lemmas.Bool.{cases_eq}
-use Rattle.grown_runs.specs.Runs.GrownWords.{is_linked}
+use Rattle.grown_runs.proofs.Common.{is_linked, AreBehind, MayBecome, kind_of, Apart, Word, Words, WritesWord, Best, ChildOf, Count, Counter, FirstOf, PointOf}
+use Rattle.grown_runs.proofs.Common.{RecordOf, TreeOf, MayBecome-both}
 use Rattle.step_core.specs.Views.{run_sizes, sees, share}
-use Rattle.grown_runs.specs.Table.WordKinds.{AreBehind, MayBecome, kind_of}
-use Rattle.grown_runs.specs.Table.WordKinds.WordKind.{Apart}
-use Rattle.grown_runs.specs.Table.WordNames.{Word, Words, WritesWord}
-use Rattle.grown_runs.specs.Table.WordNames.Word.{Best, ChildOf, Count, Counter, FirstOf, PointOf, RecordOf, TreeOf}
 use Rattle.step_core.specs.Worlds.{BestCopy, Copies, HasCopy, IsTold}
 use Rattle.step_core.specs.declared.views.Hand.{Hand}
 use Rattle.step_core.specs.declared.views.SharedRun.{SharedRun}
@@ -18,7 +15,6 @@ use Rattle.step_core.specs.declared.views.View.{View}
 use Rattle.step_core.proofs.OneView.LinkedViews.{AreInHand, ShowsNode}
 use Rattle.step_core.proofs.Seen.Looks.{same_name}
 use Rattle.step_core.proofs.Parts.ViewLists.{at-push, at-set, at-set_other}
-use Rattle.grown_runs.proofs.Table.WordKinds.{MayBecome-both}
 use Rattle.step_core.proofs.Parts.WorldLinks.{KeepsLinks, is_linked-kept}
 
 -- what was seen as it is, is seen so later, if it stays

@@ -7,9 +7,8 @@ use mathlib.Core.Option.{some, some-ne-none, some-injective}
 use lib.ListN.{get_elem?}
 use Rattle.step_core.specs.ViewSteps.{saw, stepped, steps_made, steps_then}
 use Rattle.step_core.specs.Views.{IsViewOf, last_zero, no_run, run_sizes, spent}
-use Rattle.grown_runs.specs.Table.WordNames.{Word, Words, WritesWord}
-use Rattle.grown_runs.specs.Table.WordNames.Word.{ChildOf}
-use Rattle.grown_runs.specs.Table.WordPlaces.{HasWord, Sizes, has_word, place_of, word_at}
+use Rattle.grown_runs.proofs.Common.{Word, Words, WritesWord, ChildOf, HasWord, Sizes, has_word, place_of}
+use Rattle.grown_runs.specs.Table.WordPlaces.{word_at}
 use Rattle.step_core.specs.Worlds.{EachView, Empties, HasMade, maximum, noted, noted_by, noted_in}
 use Rattle.step_core.specs.declared.views.Fill.{Fill}
 use Rattle.step_core.specs.declared.views.SharedRun.{SharedRun}

@@ -4,12 +4,9 @@ use Rattle.std.proofs.lemmas.Bool.{cases_eq, eq-eqb}
 use Rattle.std.proofs.lemmas.Option.{same_Some}
 use mathlib.Core.Option.{some}
 use lib.ListN.{get_elem?}
-use Rattle.plan_model.specs.Runs.Turns.{once_if}
+use Rattle.grown_runs.proofs.Common.{once_if, Words, WritesWord, PointOf, point_word}
 use Rattle.step_core.specs.Stages.{has_point, holds_at}
 use Rattle.step_core.specs.Views.{holds}
-use Rattle.grown_runs.specs.Table.WordNames.{Words, WritesWord}
-use Rattle.grown_runs.specs.Table.WordNames.Word.{PointOf}
-use Rattle.grown_runs.specs.Table.Words.{point_word}
 use Rattle.step_core.specs.Worlds.{EachView, Hands, ClaimedMarks, hands_at, is_recorded}
 use Rattle.step_core.specs.declared.views.Hand.{Hand}
 use Rattle.step_core.specs.declared.views.SharedRun.{SharedRun}

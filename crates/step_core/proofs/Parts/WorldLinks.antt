@@ -8,32 +8,23 @@ use Rattle.std.proofs.lemmas.List.{get_or_past}
 use Rattle.std.proofs.lemmas.List.FromFn.{get_or-map-range_with_len, length-map-range_with_len}
 use mathlib.Core.Option.{some}
 use lib.ListN.{get_elem?}
-use Rattle.plan_model.specs.Runs.Outcomes.{is_placed}
-use Rattle.plan_model.specs.Trees.PointsByNumber.{IsPresent, StandsAt, point_at}
-use Rattle.plan_model.specs.Runs.Turns.{once_if}
-use Rattle.plan_model.specs.Seen.Ways.{EndsBelow, FollowWays, goes_right}
-use Rattle.plan_model.specs.declared.geometry.Point.{Point}
-use Rattle.plan_model.specs.declared.records.Record.{Record}
-use Rattle.plan_model.proofs.WayLinks.{AddsPoint-stands, FollowWays-links}
-use Rattle.grown_runs.specs.Runs.GrownWords.{child_of_word, children_of_words, has_node, has_placed, is_linked, record_at}
+use Rattle.grown_runs.proofs.Common.{is_placed, IsPresent, StandsAt, point_at, once_if, EndsBelow, FollowWays, goes_right, Point, Record, AddsPoint-stands}
+use Rattle.grown_runs.proofs.Common.{FollowWays-links, child_of_word, children_of_words, has_node, has_placed, is_linked, record_at, Words, WritesWord, ChildOf}
+use Rattle.grown_runs.proofs.Common.{Count, FirstOf, PointOf, RecordOf, Sizes, point_of_word, record_of_word, in_child, is_linked-child, is_linked-start}
+use Rattle.grown_runs.proofs.Common.{sum-most, sum-up}
 use Rattle.step_core.specs.SharedWords.{linked_point, linked_points}
 use Rattle.step_core.specs.Stages.{has_count, has_link, holds_at}
 use Rattle.step_core.specs.Views.{holds, run_sizes}
-use Rattle.grown_runs.specs.Table.WordNames.{Words, WritesWord}
-use Rattle.grown_runs.specs.Table.WordNames.Word.{ChildOf, Count, FirstOf, PointOf, RecordOf}
-use Rattle.grown_runs.specs.Table.WordPlaces.{Sizes}
-use Rattle.grown_runs.specs.Table.Words.{point_of_word, record_of_word}
 use Rattle.step_core.specs.Worlds.{LinkedTree, ClaimedMarks, counted_once, hands_at, holders, is_recorded}
 use Rattle.step_core.specs.declared.views.Hand.{Hand}
 use Rattle.step_core.specs.declared.views.SharedRun.{SharedRun}
 use Rattle.step_core.specs.declared.views.Stage.{Stage}
 use Rattle.step_core.specs.declared.views.View.{View}
 use Rattle.step_core.proofs.Parts.HandsAt.{hands_at-held, hands_at-most, holders-most, holds_at-other, holds_at-own}
-use Rattle.grown_runs.proofs.Runs.LinkedPresence.{in_child, is_linked-child, is_linked-start}
 use Rattle.step_core.proofs.Seen.Looks.{same_name}
 use Rattle.step_core.proofs.Parts.MarksInHand.{once_if-false}
 use Rattle.step_core.proofs.Seen.PlacedWords.{has_node-same}
-use Rattle.plan_model.proofs.SumsBelow.{sum-most, sum-same, sum-up}
+use Rattle.plan_model.proofs.SumsBelow.{sum-same}
 use Rattle.step_core.proofs.Seen.TrueWords.{linked-within}
 use Rattle.step_core.proofs.Parts.ViewLists.{sum-one, sum-set}
 use Rattle.step_core.proofs.Parts.WorldParts.{KeepsRecords}

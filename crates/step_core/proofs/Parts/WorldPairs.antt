@@ -6,18 +6,11 @@ use Rattle.std.proofs.lemmas.List.Sums.{sum_by-cons}
 use Rattle.std.proofs.lemmas.Option.{same_Some}
 use mathlib.Core.Option.{some}
 use lib.ListN.{get_elem?}
-use Rattle.plan_model.specs.Geometry.Cost.{cost_of}
-use Rattle.plan_model.specs.Trees.PointsByNumber.{node_count}
-use Rattle.plan_model.specs.Trees.TreeStates.{GrowsInto, TreeState}
-use Rattle.plan_model.specs.Runs.Turns.{once_if}
-use Rattle.plan_model.proofs.OrderLaws.{Hangs-grows, most_cost_of-le}
-use Rattle.plan_model.proofs.TreeStateLaws.{IsPresent-grows, node_count-grows, point_of-grows}
-use Rattle.grown_runs.specs.Runs.GrownWords.{is_linked}
+use Rattle.grown_runs.proofs.Common.{cost_of, node_count, GrowsInto, TreeState, once_if, Hangs-grows, most_cost_of-le, IsPresent-grows, node_count-grows}
+use Rattle.grown_runs.proofs.Common.{point_of-grows, is_linked, Words, FirstOf, TreeOf}
 use Rattle.step_core.specs.Stages.{has_first, has_link, has_tree, holds_at}
 use Rattle.step_core.specs.ViewSteps.{pair_in_hand}
 use Rattle.step_core.specs.Views.{holds, run_sizes, setup_in}
-use Rattle.grown_runs.specs.Table.WordNames.{Words}
-use Rattle.grown_runs.specs.Table.WordNames.Word.{FirstOf, TreeOf}
 use Rattle.step_core.specs.Worlds.{EachView, IsFirstOf, LinkedTree, ClaimedMarks, Pairs, hands_at, is_recorded, state_in}
 use Rattle.step_core.specs.declared.views.Hand.{Hand}
 use Rattle.step_core.specs.declared.views.SharedRun.{SharedRun}

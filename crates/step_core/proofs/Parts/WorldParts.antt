@@ -5,23 +5,16 @@ use Rattle.std.specs.Prelude.{◌⊎◌, ◌==◌, nat_lt, cond, is_some}
 use mathlib.Core.Option.{some}
 use lib.ListN.{get_elem?}
 use Rattle.std.proofs.lemmas.Bool.{cases_lt, le-ltb}
-use Rattle.plan_model.specs.Scenes.MarkPoints.{is_claimed, quota_of}
-use Rattle.plan_model.specs.Runs.Turns.{AreTurns, is_of_turn, is_of_worker, once_if, turns_of}
-use Rattle.plan_model.proofs.CountsBelow.{count-all, count-same, count-wider}
-use Rattle.plan_model.proofs.QuotaLaws.{IsCutAt-quota}
-use Rattle.grown_runs.specs.Runs.GrownWords.{record_at}
+use Rattle.grown_runs.proofs.Common.{is_claimed, quota_of, AreTurns, is_of_turn, is_of_worker, once_if, turns_of, count-all, count-same, count-wider}
+use Rattle.grown_runs.proofs.Common.{IsCutAt-quota, record_at, AreBehind, HaveWholePairs, Words, Counter, FirstOf, RecordOf, TreeOf, cost_in, outcome_in}
+use Rattle.grown_runs.proofs.Common.{record_in, record_of_word, AreBehind-trans}
 use Rattle.step_core.specs.Views.{IsViewOf, holds, sees, share, spent, times, took_over}
-use Rattle.grown_runs.specs.Table.WordKinds.{AreBehind, HaveWholePairs}
-use Rattle.grown_runs.specs.Table.WordNames.{Words}
-use Rattle.grown_runs.specs.Table.WordNames.Word.{Counter, FirstOf, RecordOf, TreeOf}
-use Rattle.grown_runs.specs.Table.Words.{cost_in, outcome_in, record_in, record_of_word}
 use Rattle.step_core.specs.Worlds.{Agree, EachView, IsMember, IsRecordWord, ClaimedMarks, SeenBehind, Shares, Turns, counters, greatest_limit, is_recorded}
 use Rattle.step_core.specs.Worlds.{limit_of}
 use Rattle.step_core.specs.declared.views.Member.{Member}
 use Rattle.step_core.specs.declared.views.SharedRun.{SharedRun}
 use Rattle.step_core.specs.declared.views.View.{View}
 use Rattle.step_core.proofs.Parts.ViewLists.{each-set, sum-set}
-use Rattle.grown_runs.proofs.Table.WordKinds.{AreBehind-trans}
 
 -- ---- records by their own words
 

@@ -3,27 +3,14 @@ use Rattle.std.proofs.Common.{◌≡◌, ◌≢◌, ℕ, zero, suc, ◌<◌, ◌
 use Rattle.std.proofs.Common.{Some, None, refl, sym, ap, ◌∙◌, subst, inl, inr, arith, le_refl}
 use Rattle.std.specs.Prelude.{◌⊎◌, ◌==◌, ◌&&◌, is_some, nat_lt}
 use Rattle.std.proofs.lemmas.Bool.{cases_eq}
-use Rattle.plan_model.specs.Runs.ClosedLaw.{mark_at}
-use Rattle.plan_model.specs.Runs.Outcomes.{is_placed}
-use Rattle.plan_model.specs.Trees.PointsByNumber.{IsPresent}
-use Rattle.plan_model.specs.Runs.RecordLaw.{IsEarlier, IsLawfulRecord, is_earlier_record}
-use Rattle.plan_model.specs.Trees.TreeStates.{GrowsInto, TreeState}
-use Rattle.plan_model.specs.Runs.Turns.{AreTurns, turns_of}
-use Rattle.plan_model.specs.declared.limits.TheConstants.{MOST_WORKERS}
-use Rattle.plan_model.specs.declared.records.Record.{Record}
-use Rattle.plan_model.specs.declared.tasks.Task.{Task}
-use Rattle.plan_model.proofs.EarlierNodes.{HaveSameEarlier, is_earlier-same, is_earlier-same_records}
-use Rattle.plan_model.proofs.NextRecords.{RecordsMark, new_or_recorded}
-use Rattle.plan_model.proofs.RecordLaws.{IsLawfulRecord-grows}
-use Rattle.plan_model.proofs.WorkerTurns.{turn-below}
-use Rattle.grown_runs.specs.Runs.GrownWords.{HoldRun, has_placed, record_at}
+use Rattle.grown_runs.proofs.Common.{mark_at, is_placed, IsPresent, IsEarlier, IsLawfulRecord, is_earlier_record, GrowsInto, TreeState, AreTurns, turns_of}
+use Rattle.grown_runs.proofs.Common.{MOST_WORKERS, Record, Task, HaveSameEarlier, is_earlier-same, is_earlier-same_records, RecordsMark, new_or_recorded}
+use Rattle.grown_runs.proofs.Common.{IsLawfulRecord-grows, turn-below, HoldRun, has_placed, record_at, Words, state_by-closed}
 use Rattle.step_core.specs.Views.{run_of, setup_in}
-use Rattle.grown_runs.specs.Table.WordNames.{Words}
 use Rattle.step_core.specs.Worlds.{LinkedTree, ClaimedMarks, Records, Trees, state_in}
 use Rattle.step_core.specs.declared.views.SharedRun.{SharedRun}
 use Rattle.step_core.specs.declared.views.View.{View}
 use Rattle.step_core.proofs.Parts.LinkedCounts.{present-linked}
-use Rattle.grown_runs.proofs.Runs.LinkedPresence.{state_by-closed}
 use Rattle.step_core.proofs.Parts.LinkedStates.{placed-linked}
 use Rattle.step_core.proofs.Parts.WorldParts.{KeepsRecords, is_recorded-kept}
 

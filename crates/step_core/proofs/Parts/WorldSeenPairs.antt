@@ -1,22 +1,12 @@
 -- The part of the law of worlds on the parents and the costs that views have seen, after each kind of step.
 use Rattle.std.proofs.Common.{◌≡◌, ℕ, ◌^◌, Bool, true, false, List, set, Some, None, refl, sym, ap, ◌∙◌, subst, inl, inr}
 use Rattle.std.specs.Prelude.{cond, is_some, nat_lt, option_map, Option}
-use Rattle.plan_model.specs.Trees.PointsByNumber.{IsPresent, point_at}
-use Rattle.plan_model.specs.Seen.SeenParents.{AreSeenLawfully}
-use Rattle.plan_model.specs.Seen.SeenTrees.{SeenTree, seen_whole}
-use Rattle.plan_model.specs.Runs.Textbook.{Setup}
-use Rattle.plan_model.specs.Trees.TreeStates.{GrowsInto, TreeState}
-use Rattle.plan_model.specs.Seen.Ways.{FollowWays}
-use Rattle.plan_model.specs.declared.geometry.Point.{Point}
-use Rattle.plan_model.proofs.SeenParentLaws.{AreSeenLawfully-either, AreSeenLawfully-grows, AreSeenLawfully-whole}
-use Rattle.grown_runs.specs.Runs.GrownWords.{children_of_words}
+use Rattle.grown_runs.proofs.Common.{IsPresent, point_at, AreSeenLawfully, SeenTree, seen_whole, Setup, GrowsInto, TreeState, FollowWays, Point}
+use Rattle.grown_runs.proofs.Common.{AreSeenLawfully-either, AreSeenLawfully-grows, AreSeenLawfully-whole, children_of_words, AreBehind, Words, TreeOf, cost_in}
+use Rattle.grown_runs.proofs.Common.{parent_in, tree_of_word}
 use Rattle.step_core.specs.SharedWords.{linked_points, shared_tree_of_words}
 use Rattle.step_core.specs.ViewTrees.{SeesNode, SeesTree}
 use Rattle.step_core.specs.Views.{run_sizes, sees, setup_in, tree_seen}
-use Rattle.grown_runs.specs.Table.WordKinds.{AreBehind}
-use Rattle.grown_runs.specs.Table.WordNames.{Words}
-use Rattle.grown_runs.specs.Table.WordNames.Word.{TreeOf}
-use Rattle.grown_runs.specs.Table.Words.{cost_in, parent_in, tree_of_word}
 use Rattle.step_core.specs.Worlds.{SeenPairs, Trees, state_in}
 use Rattle.step_core.specs.declared.views.SharedRun.{SharedRun}
 use Rattle.step_core.specs.declared.views.View.{View}

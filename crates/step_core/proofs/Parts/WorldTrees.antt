@@ -1,30 +1,18 @@
 -- The part of the law of worlds on the order law of the linked nodes, after each kind of step.
 use Rattle.std.proofs.Common.{◌≡◌, ◌≢◌, ℕ, suc, ◌<◌, ◌≤◌, ◌^◌, true, false, List, Some, refl, sym, ap, ◌∙◌, subst, inl, inr, arith}
 use Rattle.std.proofs.lemmas.Bool.{cases_eq}
-use Rattle.plan_model.specs.Geometry.Bounds.{IsBounded}
-use Rattle.plan_model.specs.Runs.OrderLaw.{Hangs, most_cost_of}
-use Rattle.plan_model.specs.Trees.PointsByNumber.{IsPresent, StandsAt, node_count, point_at, point_of}
-use Rattle.plan_model.specs.Trees.TreeStates.{GrowsInto, TreeState, first_cost_of}
-use Rattle.plan_model.specs.Seen.Ways.{EndsBelow, goes_right}
-use Rattle.plan_model.specs.declared.geometry.Point.{Point}
-use Rattle.plan_model.proofs.AddedNodes.{AddsNode, KeepsFirstCosts-adds, KeepsOrder-adds}
-use Rattle.plan_model.proofs.LoweredCosts.{KeepsFirstCosts-lowered, KeepsOrder-lowered, LowersCosts, LowersCosts-rewires, StandsStill}
-use Rattle.plan_model.proofs.WayLaws.{EndsBelow-free}
-use Rattle.grown_runs.specs.Runs.GrownWords.{IsPointWord, IsTreeWord, IsWritten, children_of_words, is_linked}
+use Rattle.grown_runs.proofs.Common.{IsBounded, Hangs, most_cost_of, IsPresent, StandsAt, node_count, point_at, point_of, GrowsInto, TreeState, first_cost_of}
+use Rattle.grown_runs.proofs.Common.{EndsBelow, goes_right, Point, AddsNode, KeepsFirstCosts-adds, KeepsOrder-adds, KeepsFirstCosts-lowered, KeepsOrder-lowered}
+use Rattle.grown_runs.proofs.Common.{LowersCosts, LowersCosts-rewires, StandsStill, EndsBelow-free, IsPointWord, IsTreeWord, IsWritten, children_of_words}
+use Rattle.grown_runs.proofs.Common.{is_linked, AreBehind, Words, WritesWord, ChildOf, FirstOf, PointOf, TreeOf, Sizes, cost_in, parent_in, point_of_word}
+use Rattle.grown_runs.proofs.Common.{point_word, tree_word, IsTreeWord-packed, IsPointWord-packed, cost_in-tree_word, parent_in-tree_word}
 use Rattle.step_core.specs.SharedWords.{linked_points}
 use Rattle.step_core.specs.Views.{run_sizes, setup_in}
-use Rattle.grown_runs.specs.Table.WordKinds.{AreBehind}
-use Rattle.grown_runs.specs.Table.WordNames.{Words, WritesWord}
-use Rattle.grown_runs.specs.Table.WordNames.Word.{ChildOf, FirstOf, PointOf, TreeOf}
-use Rattle.grown_runs.specs.Table.WordPlaces.{Sizes}
-use Rattle.grown_runs.specs.Table.Words.{cost_in, parent_in, point_of_word, point_word, tree_word}
 use Rattle.step_core.specs.Worlds.{LinkedTree, ClaimedMarks, Trees, state_in}
 use Rattle.step_core.specs.declared.views.SharedRun.{SharedRun}
 use Rattle.step_core.specs.declared.views.View.{View}
 use Rattle.step_core.proofs.Parts.LinkedStates.{GrowsInto-behind, first_cost-linked, linked-present}
 use Rattle.step_core.proofs.Seen.Looks.{same_name}
-use Rattle.grown_runs.proofs.Runs.LoweredWords.{IsTreeWord-packed}
-use Rattle.grown_runs.proofs.Table.PackedWords.{IsPointWord-packed, cost_in-tree_word, parent_in-tree_word}
 use Rattle.step_core.proofs.Parts.WorldLinks.{KeepsLinks, absent-new, is_linked-kept, is_linked-new, is_linked-others}
 use Rattle.step_core.proofs.Parts.WorldLinks.{linked_points-kept, point_at-others, stands-new}
 

@@ -5,13 +5,10 @@ use Rattle.std.proofs.lemmas.Bool.{cases_Bool, cases_lt, eqb-true, eqb-false, lt
 use Rattle.std.proofs.lemmas.List.FromFn.{get_or-map-range_with_len, length-map-range_with_len}
 use Rattle.std.proofs.lemmas.Nat.{mod-mul-add}
 use Rattle.step_core.specs.ViewSteps.{merged}
-use Rattle.grown_runs.specs.Table.WordKinds.{WordKind, kind_of, kind_at, later_word, MayBecome}
-use Rattle.grown_runs.specs.Table.WordKinds.WordKind.{Rising, Once, Falling, Apart}
-use Rattle.grown_runs.specs.Table.WordNames.{Word}
-use Rattle.grown_runs.specs.Table.WordNames.Word.{Count, Best, Counter, PointOf, ChildOf, TreeOf, FirstOf, RecordOf}
-use Rattle.grown_runs.specs.Table.WordPlaces.{Sizes, HasWord, has_word, node_place, place_of, word_at, word_count}
-use Rattle.grown_runs.specs.Table.Words.{cost_in}
-use Rattle.grown_runs.proofs.Table.WordReads.{HasWord-true, place_of-within, word_at-false, word_at-has}
+use Rattle.grown_runs.proofs.Common.{WordKind, kind_of, kind_at, later_word, MayBecome, Rising, Once, Falling, Apart, Word, Count, Best, Counter, PointOf}
+use Rattle.grown_runs.proofs.Common.{ChildOf, TreeOf, FirstOf, RecordOf, Sizes, HasWord, has_word, node_place, place_of, word_count, cost_in, HasWord-true}
+use Rattle.grown_runs.proofs.Common.{place_of-within, word_at-false, word_at-has}
+use Rattle.grown_runs.specs.Table.WordPlaces.{word_at}
 
 -- ---- kinds by place
 

@@ -2,21 +2,11 @@
 use Rattle.std.proofs.Common.{◌≡◌, ℕ, ◌+◌, ◌<◌, Bool, true, false, Some, None, refl, arith, sym, ap, ◌∙◌, subst, inl, inr}
 use Rattle.std.specs.Prelude.{◌≢◌, ◌⊎◌, is_some, IsSome}
 use Rattle.std.proofs.lemmas.Bool.{cases_eq}
-use Rattle.plan_model.specs.Trees.PointsByNumber.{point_of, IsPresent}
-use Rattle.plan_model.specs.Seen.SeenTrees.{SeenTree, IsSeen, IsRooted, HasSeenAtLeast}
-use Rattle.plan_model.specs.Seen.Sights.{IsLaterMoment}
-use Rattle.plan_model.proofs.NewNodes.{IsPresent-stands, StandsAt-present}
-use Rattle.plan_model.proofs.SeenTreeLaws.{IsSeen-more}
-use Rattle.grown_runs.specs.Runs.GrownWords.{child_of_word}
-use Rattle.grown_runs.specs.Table.SeenWords.{SeenWords, MayLookAt, LooksAt, seen_tree_of_words, sight_of_words}
-use Rattle.grown_runs.specs.Table.WordKinds.{kind_of, MayBecome, AreBehind}
-use Rattle.grown_runs.specs.Table.WordKinds.WordKind.{Once}
-use Rattle.grown_runs.specs.Table.WordNames.{Word, Words}
-use Rattle.grown_runs.specs.Table.WordNames.Word.{Count, Best, Counter, PointOf, ChildOf, TreeOf, FirstOf, RecordOf}
-use Rattle.grown_runs.specs.Table.WordPlaces.{Sizes}
-use Rattle.grown_runs.specs.Table.Words.{point_of_word, tree_of_word}
+use Rattle.grown_runs.proofs.Common.{point_of, IsPresent, SeenTree, IsSeen, IsRooted, HasSeenAtLeast, IsLaterMoment, IsPresent-stands, StandsAt-present}
+use Rattle.grown_runs.proofs.Common.{IsSeen-more, child_of_word, SeenWords, MayLookAt, LooksAt, seen_tree_of_words, sight_of_words, kind_of, MayBecome}
+use Rattle.grown_runs.proofs.Common.{AreBehind, Once, Word, Words, Count, Best, Counter, PointOf, ChildOf, TreeOf, FirstOf, RecordOf, Sizes, point_of_word}
+use Rattle.grown_runs.proofs.Common.{tree_of_word, MayBecome-refl}
 use Rattle.step_core.proofs.Seen.SeenWords.{HasSeenAtLeast-words, point_at-seen, seen-within}
-use Rattle.grown_runs.proofs.Table.WordKinds.{MayBecome-refl}
 
 -- ---- names
 

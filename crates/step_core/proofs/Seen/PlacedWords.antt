@@ -1,16 +1,8 @@
 -- Whether a mark was placed is said by its record's own word.
 use Rattle.std.proofs.Common.{◌≡◌, ℕ, zero, suc, ◌≤◌, ◌^◌, Bool, true, false, Some, None, refl, ap, ◌∙◌, arith}
 use Rattle.std.specs.Prelude.{cond, nat_lt}
-use Rattle.plan_model.specs.Runs.Outcomes.{is_placed}
-use Rattle.plan_model.specs.declared.records.Outcome.{Outcome}
-use Rattle.plan_model.specs.declared.records.Outcome.TheVariants.{Placed, Same, Blocked, Skipped}
-use Rattle.plan_model.specs.declared.records.Record.{Record}
-use Rattle.grown_runs.specs.Runs.GrownWords.{has_node, has_placed}
-use Rattle.grown_runs.specs.Table.WordNames.{Words}
-use Rattle.grown_runs.specs.Table.WordNames.Word.{FirstOf, RecordOf}
-use Rattle.grown_runs.specs.Table.Words.{FitsWord, number_of_outcome, outcome_in, record_in, record_of_word, record_word}
-use Rattle.grown_runs.proofs.Table.PackedRecords.{outcome_in-record_word}
-use Rattle.grown_runs.proofs.Table.ReadWords.{if_written-set}
+use Rattle.grown_runs.proofs.Common.{is_placed, Outcome, Placed, Same, Blocked, Skipped, Record, has_node, has_placed, Words, FirstOf, RecordOf, FitsWord}
+use Rattle.grown_runs.proofs.Common.{number_of_outcome, outcome_in, record_in, record_of_word, record_word, outcome_in-record_word, if_written-set}
 
 -- the first word of its node says nothing of that
 has_placed-own : (word first other : ℕ) → has_placed (record_of_word word first) ≡ has_placed (record_of_word word other)

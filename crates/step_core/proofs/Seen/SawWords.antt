@@ -1,11 +1,8 @@
 -- What a step on one word leaves of what a view has seen of the run, where the word is as the step left it.
 use Rattle.std.proofs.Common.{◌≡◌, ℕ, ◌^◌, ◌≤◌, sym, ap, ◌∙◌, subst, inl, inr}
 use Rattle.std.specs.Prelude.{◌⊎◌}
-use Rattle.grown_runs.specs.Table.WordKinds.{AreBehind, HaveWholePairs, MayBecome, kind_of}
-use Rattle.grown_runs.specs.Table.WordNames.{Word, Words, WritesWord}
-use Rattle.grown_runs.specs.Table.WordNames.Word.{TreeOf}
+use Rattle.grown_runs.proofs.Common.{AreBehind, HaveWholePairs, MayBecome, kind_of, Word, Words, WritesWord, TreeOf, MayBecome-refl}
 use Rattle.step_core.proofs.Seen.Looks.{same_name}
-use Rattle.grown_runs.proofs.Table.WordKinds.{MayBecome-refl}
 use Rattle.step_core.proofs.Parts.WorldParts.{IsFair}
 
 -- words of which one is written go on, if that may be

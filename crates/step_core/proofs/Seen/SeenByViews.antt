@@ -5,12 +5,10 @@ use Rattle.std.proofs.lemmas.Bool.{eqb-false, eqb-true, ne_eqb}
 use Rattle.std.proofs.lemmas.List.{length-set}
 use Rattle.step_core.specs.ViewSteps.{place_in, saw}
 use Rattle.step_core.specs.Views.{IsViewOf, last_look, last_zero, run_sizes, sees, words_of_run}
-use Rattle.grown_runs.specs.Table.WordNames.{Word, Words, WritesWord}
-use Rattle.grown_runs.specs.Table.WordPlaces.{HasWord, word_count}
+use Rattle.grown_runs.proofs.Common.{Word, Words, WritesWord, HasWord, word_count, WritesWord-set}
 use Rattle.step_core.specs.declared.views.SharedRun.{SharedRun}
 use Rattle.step_core.specs.declared.views.View.{View}
 use Rattle.step_core.proofs.Seen.Looks.{same_name}
-use Rattle.grown_runs.proofs.Table.WordReads.{WritesWord-set}
 
 -- a table of the view with one word set
 abbrev table_set : View → List ℕ → Word → ℕ → Words

@@ -1,16 +1,8 @@
 -- Ways over what is seen: they go on as more is seen, none is longer than nodes are seen, and one that ends at no child has no node at its end.
 use Rattle.std.proofs.Common.{◌≡◌, ℕ, zero, suc, ◌<◌, ◌≤◌, List, [], ◌∷◌, length, Option, Some, None, arith, refl, sym, ap, ◌∙◌, subst, inl, inr}
 use Rattle.std.specs.Prelude.{◌⊎◌, Contains}
-use Rattle.plan_model.specs.declared.geometry.Point.{Point}
-use Rattle.plan_model.specs.Trees.PointsByNumber.{IsFree}
-use Rattle.plan_model.specs.Seen.SeenTrees.{FollowSeenWays, IsSeen}
-use Rattle.plan_model.specs.Seen.Sights.{IsLaterMoment, KeepsSight, Sight}
-use Rattle.plan_model.specs.Seen.Ways.{EndsBelow, goes_right, IsOnWay}
-use Rattle.plan_model.specs.Seen.Ways.IsOnWay.{begins}
-use Rattle.plan_model.proofs.SeenTreeLaws.{HasSeenAtLeast-refl}
-use Rattle.plan_model.proofs.SightLaws.{IsFree-ends}
-use Rattle.plan_model.proofs.WayLaws.{last_step, way_start}
-use Rattle.plan_model.proofs.WayLinks.{IsOnWay-fills}
+use Rattle.grown_runs.proofs.Common.{Point, IsFree, FollowSeenWays, IsSeen, IsLaterMoment, KeepsSight, Sight, EndsBelow, goes_right, IsOnWay, begins}
+use Rattle.grown_runs.proofs.Common.{HasSeenAtLeast-refl, IsFree-ends, last_step, way_start, IsOnWay-fills}
 use Rattle.step_core.proofs.Seen.DistinctNumbers.{AreDifferent, AreDifferent-few, Contains-cases}
 
 -- ---- ways at later moments

@@ -4,19 +4,10 @@ use Rattle.std.specs.Prelude.{◌⊎◌, ◌&&◌, is_some, nat_lt, unwrap_or, c
 use Rattle.std.proofs.lemmas.Bool.{cases_lt, cases_Bool, le-ltb, lt-ltb}
 use Rattle.std.proofs.lemmas.List.{get_or_past}
 use Rattle.std.proofs.lemmas.List.FromFn.{get_or-map-range_with_len, length-map-range_with_len}
-use Rattle.plan_model.specs.declared.geometry.Point.{Point}
-use Rattle.plan_model.specs.declared.records.Record.{Record}
-use Rattle.plan_model.specs.Runs.Outcomes.{is_placed}
-use Rattle.plan_model.specs.Trees.PointsByNumber.{point_at, StandsAt, IsPresent}
-use Rattle.plan_model.specs.Seen.SeenTrees.{HasSeenAtLeast, KeepsOrLowers}
-use Rattle.grown_runs.specs.Runs.GrownWords.{has_placed, child_of_word, children_of_words}
-use Rattle.grown_runs.specs.Table.SeenWords.{seen_point, whole_record, seen_tree_of_words}
-use Rattle.grown_runs.specs.Table.WordKinds.{MayBecome, AreBehind}
-use Rattle.grown_runs.specs.Table.WordKinds.WordKind.{Once, Falling}
-use Rattle.grown_runs.specs.Table.WordNames.{Words}
-use Rattle.grown_runs.specs.Table.WordNames.Word.{Count, Counter, PointOf, ChildOf, TreeOf, FirstOf, RecordOf}
-use Rattle.grown_runs.specs.Table.WordPlaces.{Sizes}
-use Rattle.grown_runs.specs.Table.Words.{point_of_word, parent_in, cost_in, tree_of_word, outcome_in, record_in, record_of_word}
+use Rattle.grown_runs.proofs.Common.{Point, Record, is_placed, point_at, StandsAt, IsPresent, HasSeenAtLeast, KeepsOrLowers, has_placed, child_of_word}
+use Rattle.grown_runs.proofs.Common.{children_of_words, seen_point, whole_record, seen_tree_of_words, MayBecome, AreBehind, Once, Falling, Words, Count}
+use Rattle.grown_runs.proofs.Common.{Counter, PointOf, ChildOf, TreeOf, FirstOf, RecordOf, Sizes, point_of_word, parent_in, cost_in, tree_of_word, outcome_in}
+use Rattle.grown_runs.proofs.Common.{record_in, record_of_word}
 
 -- ---- one word
 

@@ -4,22 +4,11 @@ use Rattle.std.specs.Prelude.{is_some, nat_lt, cond, if◌then◌else◌}
 use Rattle.std.proofs.lemmas.Bool.{cases_lt}
 use Rattle.std.proofs.lemmas.List.{get_or_past}
 use Rattle.std.proofs.lemmas.List.FromFn.{get_or-map-range_with_len, length-map-range_with_len}
-use Rattle.plan_model.specs.declared.geometry.Point.{Point}
-use Rattle.plan_model.specs.Trees.PointsByNumber.{point_of, StandsAt, IsPresent}
-use Rattle.plan_model.specs.Seen.SeenTrees.{IsSeen, IsRooted, KeepsOrLowers, seen_whole, IsTrueOf}
-use Rattle.plan_model.specs.Seen.Ways.{FollowWays}
-use Rattle.plan_model.proofs.NewNodes.{IsPresent-stands, StandsAt-present}
-use Rattle.plan_model.proofs.TrueSights.{whole_pair}
-use Rattle.plan_model.proofs.WayLaws.{not_empty}
-use Rattle.grown_runs.specs.Runs.GrownWords.{children_of_words, is_linked}
-use Rattle.grown_runs.specs.Table.SeenWords.{seen_tree_of_words}
+use Rattle.grown_runs.proofs.Common.{Point, point_of, StandsAt, IsPresent, IsSeen, IsRooted, KeepsOrLowers, seen_whole, IsTrueOf, FollowWays, IsPresent-stands}
+use Rattle.grown_runs.proofs.Common.{StandsAt-present, whole_pair, not_empty, children_of_words, is_linked, seen_tree_of_words, AreBehind, Words, Count}
+use Rattle.grown_runs.proofs.Common.{Counter, PointOf, TreeOf, Sizes, point_of_word, parent_in, cost_in, tree_of_word, record_of_word, is_linked-child}
+use Rattle.grown_runs.proofs.Common.{is_linked-start}
 use Rattle.step_core.specs.SharedWords.{linked_point, linked_points, shared_tree_of_words}
-use Rattle.grown_runs.specs.Table.WordKinds.{AreBehind}
-use Rattle.grown_runs.specs.Table.WordNames.{Words}
-use Rattle.grown_runs.specs.Table.WordNames.Word.{Count, Counter, PointOf, TreeOf}
-use Rattle.grown_runs.specs.Table.WordPlaces.{Sizes}
-use Rattle.grown_runs.specs.Table.Words.{point_of_word, parent_in, cost_in, tree_of_word, record_of_word}
-use Rattle.grown_runs.proofs.Runs.LinkedPresence.{is_linked-child, is_linked-start}
 use Rattle.step_core.proofs.Seen.SeenWords.{seen-within, child_says, point_says, pair_says, record_stays, record_says}
 
 -- ---- links

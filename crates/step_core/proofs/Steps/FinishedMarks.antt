@@ -6,16 +6,10 @@ use mathlib.Core.Option.{some}
 use lib.ListN.{get_elem?}
 use Rattle.std.proofs.lemmas.Bool.{cases_eq, eq-eqb, ne_eqb}
 use Rattle.std.proofs.lemmas.Nat.{div-mul-add, mod-mul-add}
-use Rattle.plan_model.specs.Scenes.MarkPoints.{is_claimed}
-use Rattle.plan_model.specs.Trees.BestNode.{IsGoalNode, is_goal_point}
-use Rattle.plan_model.specs.Trees.PointsByNumber.{StandsAt, point_at}
-use Rattle.plan_model.specs.Trees.TreeStates.{GrowsInto}
-use Rattle.plan_model.specs.Runs.Turns.{once_if, turns_of}
-use Rattle.plan_model.specs.declared.records.Outcome.{Outcome}
-use Rattle.plan_model.specs.declared.records.Outcome.TheVariants.{Blocked, Placed, Same, Skipped}
-use Rattle.plan_model.specs.declared.records.Record.{Record}
-use Rattle.plan_model.specs.Runs.Outcomes.{is_placed}
-use Rattle.grown_runs.specs.Runs.GrownWords.{has_node, has_placed, record_at}
+use Rattle.grown_runs.proofs.Common.{is_claimed, IsGoalNode, is_goal_point, StandsAt, point_at, GrowsInto, once_if, turns_of, Outcome, Blocked, Placed, Same}
+use Rattle.grown_runs.proofs.Common.{Skipped, Record, is_placed, has_node, has_placed, record_at, AreBehind, Words, WritesWord, Best, ChildOf, Counter, FirstOf}
+use Rattle.grown_runs.proofs.Common.{PointOf, RecordOf, TreeOf, HasWord, FitsWord, IsFirstWord, IsTurnWord, best_word, cost_in, last_field, number_of_outcome}
+use Rattle.grown_runs.proofs.Common.{record_of_word, record_word, turn_in, worker_in, record_of_word-packed, cost_in-tree_word, AreBehind-trans}
 use Rattle.step_core.specs.SeenBests.{IsAtMostPlaced, SeesGoal, seen_first_cost}
 use Rattle.step_core.specs.SeenRecords.{MayEnd, MayRecord}
 use Rattle.step_core.specs.SharedWords.{linked_points}
@@ -23,12 +17,6 @@ use Rattle.step_core.specs.Stages.{MayBeRecorded, has_count, has_link}
 use Rattle.step_core.specs.ViewTrees.{SeesPoint, SeesTree}
 use Rattle.step_core.specs.ViewSteps.{finished, one_turn_more, saw}
 use Rattle.step_core.specs.Views.{IsViewOf, holds, run_sizes, sees, share, tree_seen}
-use Rattle.grown_runs.specs.Table.WordKinds.{AreBehind}
-use Rattle.grown_runs.specs.Table.WordNames.{Words, WritesWord}
-use Rattle.grown_runs.specs.Table.WordNames.Word.{Best, ChildOf, Counter, FirstOf, PointOf, RecordOf, TreeOf}
-use Rattle.grown_runs.specs.Table.WordPlaces.{HasWord}
-use Rattle.grown_runs.specs.Table.Words.{FitsWord, IsFirstWord, IsTurnWord, best_word, cost_in, last_field, number_of_outcome, record_of_word, record_word}
-use Rattle.grown_runs.specs.Table.Words.{turn_in, worker_in}
 use Rattle.step_core.specs.Worlds.{BestWord, IsBestWord, IsRecordWord, IsWorld, Records, SeesBest, counters, is_recorded, limit_of, state_in}
 use Rattle.step_core.specs.declared.views.Hand.{Hand}
 use Rattle.step_core.specs.declared.views.Member.{Member}
@@ -40,15 +28,12 @@ use Rattle.step_core.proofs.Parts.LinkedStates.{GrowsInto-behind}
 use Rattle.step_core.proofs.Parts.LawfulRecords.{HasCome, IsFirstWord-seen, IsLawfulRecord-seen, has_come}
 use Rattle.step_core.proofs.OneView.LawfulSights.{IsTrueOf-seen}
 use Rattle.step_core.proofs.Parts.MarksInHand.{IsInHand, IsInHand-held, claimed-below, greatest_limit-most, once_if-true}
-use Rattle.grown_runs.proofs.Table.PackedRecords.{record_of_word-packed}
-use Rattle.grown_runs.proofs.Table.PackedWords.{cost_in-tree_word}
 use Rattle.step_core.proofs.Seen.PlacedWords.{has_node-same, has_placed-record_word}
 use Rattle.step_core.proofs.Seen.SawWords.{AreBehind-saw, AreBehind-seen, AreBehind-write, HaveWholePairs-saw, IsFair-saw}
 use Rattle.step_core.proofs.Seen.SeenByViews.{IsViewOf-saw, WritesWord-saw}
 use Rattle.step_core.proofs.OneView.SeenTreesOfViews.{SeesTree-finished}
 use Rattle.step_core.proofs.OneView.SeenViews.{SeesPoint-later}
 use Rattle.step_core.proofs.Parts.ViewLists.{maximum-set}
-use Rattle.grown_runs.proofs.Table.WordKinds.{AreBehind-trans}
 use Rattle.step_core.proofs.Parts.WorldBests.{BestWord-step, IsBestWord-grows, SeenBests-set, SeesBest-goes_on, goal-seen_before, same_first_cost}
 use Rattle.step_core.proofs.Parts.WorldEmpties.{Empties-kept, last_zero-saw}
 use Rattle.step_core.proofs.Parts.WorldHands.{Hands-recorded}

@@ -6,16 +6,10 @@ use mathlib.Core.Option.{some, some-injective}
 use lib.ListN.{get_elem?}
 use Rattle.std.proofs.lemmas.Bool.{cases_eq, eq-eqb, eqb-true, le-ltb}
 use Rattle.std.proofs.lemmas.List.Sums.{sum_by-cons}
-use Rattle.plan_model.specs.Runs.Turns.{is_of_worker, once_if, turns_of}
-use Rattle.plan_model.specs.declared.records.Record.{Record}
-use Rattle.plan_model.proofs.NextRecords.{RecordsMark}
-use Rattle.plan_model.proofs.WorkerTurns.{AreTurns-recorded, turns_of-recorded, turns_of-recorded_by_other}
-use Rattle.grown_runs.specs.Runs.GrownWords.{record_at}
+use Rattle.grown_runs.proofs.Common.{is_of_worker, once_if, turns_of, Record, RecordsMark, AreTurns-recorded, turns_of-recorded, turns_of-recorded_by_other}
+use Rattle.grown_runs.proofs.Common.{record_at, Words, WritesWord, FirstOf, RecordOf, outcome_in, record_in, record_of_word, turn_in, worker_in}
 use Rattle.step_core.specs.ViewSteps.{finished, one_turn_more}
 use Rattle.step_core.specs.Views.{sees, times}
-use Rattle.grown_runs.specs.Table.WordNames.{Words, WritesWord}
-use Rattle.grown_runs.specs.Table.WordNames.Word.{FirstOf, RecordOf}
-use Rattle.grown_runs.specs.Table.Words.{outcome_in, record_in, record_of_word, turn_in, worker_in}
 use Rattle.step_core.specs.Worlds.{IsMember, Turns}
 use Rattle.step_core.specs.declared.views.Member.{Member}
 use Rattle.step_core.specs.declared.views.SharedRun.{SharedRun}

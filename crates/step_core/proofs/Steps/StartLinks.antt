@@ -8,27 +8,13 @@ use Rattle.std.proofs.lemmas.List.{get_or_past}
 use Rattle.std.proofs.lemmas.List.Elements.{All-get_or}
 use Rattle.std.proofs.lemmas.List.FromFn.{map-range_with_len_more}
 use Rattle.std.proofs.lemmas.List.Sums.{sum_by_push}
-use Rattle.plan_model.specs.Geometry.Bounds.{IsBounded}
-use Rattle.plan_model.specs.Runs.ClosedLaw.{has_outcome, mark_at}
-use Rattle.plan_model.specs.Runs.Outcomes.{is_placed}
-use Rattle.plan_model.specs.Runs.Turns.{once_if}
-use Rattle.plan_model.specs.Seen.Ways.{FollowWays}
-use Rattle.plan_model.specs.declared.geometry.Point.{Point}
-use Rattle.plan_model.specs.declared.records.Record.{Record}
-use Rattle.plan_model.specs.declared.tasks.Task.{Task}
-use Rattle.plan_model.proofs.MarkBounds.{All-task_marks_within}
-use Rattle.grown_runs.specs.Runs.GrownWords.{HoldRun, children_of_words, has_node, has_placed, node_point, points_of_words, record_at, sizes_of}
+use Rattle.grown_runs.proofs.Common.{IsBounded, has_outcome, mark_at, is_placed, once_if, FollowWays, Point, Record, Task, All-task_marks_within, HoldRun}
+use Rattle.grown_runs.proofs.Common.{children_of_words, has_node, has_placed, node_point, points_of_words, record_at, sizes_of, Words, Count, PointOf, Sizes}
+use Rattle.grown_runs.proofs.Common.{point_word, IsBounded-stands, point_at-words, start_present-held, start_stands-held, point_in-stands, state_by-closed}
+use Rattle.grown_runs.proofs.Common.{sum-more}
 use Rattle.step_core.specs.SharedWords.{linked_points}
-use Rattle.grown_runs.specs.Table.WordNames.{Words}
-use Rattle.grown_runs.specs.Table.WordNames.Word.{Count, PointOf}
-use Rattle.grown_runs.specs.Table.WordPlaces.{Sizes}
-use Rattle.grown_runs.specs.Table.Words.{point_word}
 use Rattle.step_core.specs.Worlds.{is_recorded}
-use Rattle.grown_runs.proofs.Runs.GrownPoints.{IsBounded-stands, point_at-words}
-use Rattle.grown_runs.proofs.Runs.HeldNodes.{start_present-held, start_stands-held}
-use Rattle.grown_runs.proofs.Ways.NodesBelow.{point_in-stands}
-use Rattle.grown_runs.proofs.Runs.LinkedPresence.{state_by-closed}
-use Rattle.plan_model.proofs.SumsBelow.{sum-more, sum-same}
+use Rattle.plan_model.proofs.SumsBelow.{sum-same}
 
 -- ---- marks
 

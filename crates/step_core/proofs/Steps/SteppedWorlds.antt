@@ -3,16 +3,13 @@ use Rattle.std.proofs.Common.{refl, sym, ap, subst, ◌∙◌, ◌≤◌, inl, a
 use Rattle.step_core.specs.LaterViews.{IsLater}
 use Rattle.step_core.specs.Steps.{IsMoment, Moment, Step, Steps, view_after, views_after}
 use Rattle.step_core.specs.ViewSteps.{best_with, hand_with_best, hand_with_post, joined, looker, parted, stepped, steps_then, worker_apart}
-use Rattle.grown_runs.specs.Table.WordKinds.{AreBehind}
-use Rattle.grown_runs.specs.Table.WordNames.{Words}
-use Rattle.grown_runs.specs.Table.WordNames.Word.{Best}
+use Rattle.grown_runs.proofs.Common.{AreBehind, Words, Best, AreBehind-refl}
 use Rattle.step_core.specs.Worlds.{IsWorld}
 use Rattle.step_core.proofs.Steps.FinishedMarks.{AreBehind-finished, IsTurnWord-packed, IsWorld-recorded}
 use Rattle.step_core.proofs.OneView.LaterSteps.{IsLater-counted, IsLater-half, IsLater-pointed, IsLater-treed}
 use Rattle.step_core.proofs.OneView.LaterViews.{IsLater-claimed, IsLater-finished, IsLater-joined, IsLater-loaded, IsLater-parted, IsLater-stepped}
 use Rattle.step_core.proofs.Parts.ViewLists.{at-set_other}
 use Rattle.step_core.proofs.Seen.SawWords.{AreBehind-write}
-use Rattle.grown_runs.proofs.Table.WordKinds.{AreBehind-refl}
 use Rattle.step_core.proofs.Steps.WorldJoins.{IsWorld-joined}
 use Rattle.step_core.proofs.Steps.WorldLowers.{AreBehind-lowered, IsLater-lowered, IsWorld-lowered}
 use Rattle.step_core.proofs.Steps.WorldNodes.{AreBehind-half, AreBehind-pointed, AreBehind-treed, IsLater-link, IsWorld-counted, IsWorld-half, IsWorld-linked}

@@ -6,21 +6,15 @@ use Rattle.std.proofs.lemmas.Bool.{cases_eq, eqb-true, eqb-false, ne_eqb}
 use Rattle.std.proofs.lemmas.List.Sums.{sum_by-append}
 use mathlib.Core.Option.{some, some-ne-none, some-injective}
 use lib.ListN.{get_elem?}
-use Rattle.plan_model.specs.Runs.Turns.{once_if}
-use Rattle.plan_model.specs.Seen.SeenParents.{AreSeenLawfully}
-use Rattle.plan_model.proofs.SeenParentLaws.{AreSeenLawfully-either}
+use Rattle.grown_runs.proofs.Common.{once_if, AreSeenLawfully, AreSeenLawfully-either, has_node, AreBehind, HaveWholePairs, MayBecome, WordKind, kind_of}
+use Rattle.grown_runs.proofs.Common.{later_word, Rising, Once, Falling, Apart, Word, Words, Count, Best, Counter, PointOf, ChildOf, TreeOf, FirstOf, RecordOf}
+use Rattle.grown_runs.proofs.Common.{Sizes, word_count, cost_in, tree_of_word, min-either}
 use Rattle.step_core.specs.Stages.{has_count, has_first, has_link, has_point, has_tree, holds_at}
 use Rattle.step_core.specs.ViewSteps.{joined}
-use Rattle.grown_runs.specs.Runs.GrownWords.{has_node}
 use Rattle.step_core.specs.SeenBests.{IsAtMostPlaced}
 use Rattle.step_core.specs.ViewTrees.{SeesTree}
 use Rattle.step_core.specs.Views.{IsViewOf, holds, no_run, run_sizes, sees, setup_in, share, spent, times, took_over, tree_seen, words_of_run}
-use Rattle.grown_runs.specs.Table.WordKinds.{AreBehind, HaveWholePairs, MayBecome, WordKind, kind_of, later_word}
-use Rattle.grown_runs.specs.Table.WordKinds.WordKind.{Rising, Once, Falling, Apart}
-use Rattle.grown_runs.specs.Table.WordNames.{Word, Words}
-use Rattle.grown_runs.specs.Table.WordNames.Word.{Count, Best, Counter, PointOf, ChildOf, TreeOf, FirstOf, RecordOf}
-use Rattle.grown_runs.specs.Table.WordPlaces.{Sizes, word_at, word_count}
-use Rattle.grown_runs.specs.Table.Words.{cost_in, tree_of_word}
+use Rattle.grown_runs.specs.Table.WordPlaces.{word_at}
 use Rattle.step_core.specs.Worlds.{Agree, BestCopy, EachView, HasCopy, IsBestWord, IsMember, IsWorld, SeesBest, greatest_limit, hands_at, limit_of, state_in}
 use Rattle.step_core.specs.declared.views.Member.{Member}
 use Rattle.step_core.specs.declared.views.SharedRun.{SharedRun}
@@ -31,7 +25,6 @@ use Rattle.step_core.proofs.Parts.ViewLists.{at-set, at-set_other, each-set, max
 use Rattle.step_core.proofs.OneView.SeenTreesTogether.{SeesTree-joined}
 use Rattle.step_core.proofs.Seen.PlacedWords.{has_node-same}
 use Rattle.step_core.proofs.Parts.WorldBests.{goal-seen_before, same_first_cost}
-use Rattle.grown_runs.proofs.Runs.OpeningBests.{min-either}
 use Rattle.step_core.proofs.Parts.WorldCopies.{same-later, told-kind}
 use Rattle.step_core.proofs.Parts.WorldEmpties.{Empties-joined, zero-read}
 use Rattle.step_core.proofs.Parts.WorldHands.{Hands-views, IsWrittenFor}

@@ -3,20 +3,14 @@ use Rattle.std.proofs.Common.{◌≡◌, ◌≢◌, ℕ, ◌<◌, ◌≤◌, ◌
 use Rattle.std.specs.Prelude.{◌⊎◌, IsSome, is_some}
 use mathlib.Core.Option.{some}
 use lib.ListN.{get_elem?}
-use Rattle.plan_model.specs.Runs.OrderLaw.{Hangs}
-use Rattle.plan_model.specs.Trees.PointsByNumber.{IsPresent, point_of}
-use Rattle.grown_runs.specs.Runs.GrownWords.{is_linked}
+use Rattle.grown_runs.proofs.Common.{Hangs, IsPresent, point_of, is_linked, AreBehind, HaveWholePairs, MayBecome, Falling, Words, WritesWord, Best, ChildOf}
+use Rattle.grown_runs.proofs.Common.{Count, Counter, FirstOf, PointOf, RecordOf, TreeOf, HasWord, cost_in, tree_of_word, tree_word, cost_in-tree_word}
+use Rattle.grown_runs.proofs.Common.{AreBehind-trans}
 use Rattle.step_core.specs.LaterViews.{IsLater}
 use Rattle.step_core.specs.SharedWords.{linked_points}
 use Rattle.step_core.specs.ViewSteps.{lowered}
 use Rattle.step_core.specs.ViewTrees.{MayLower, SeesNode}
 use Rattle.step_core.specs.Views.{run_sizes, sees, setup_in, share}
-use Rattle.grown_runs.specs.Table.WordKinds.{AreBehind, HaveWholePairs, MayBecome}
-use Rattle.grown_runs.specs.Table.WordKinds.WordKind.{Falling}
-use Rattle.grown_runs.specs.Table.WordNames.{Words, WritesWord}
-use Rattle.grown_runs.specs.Table.WordNames.Word.{Best, ChildOf, Count, Counter, FirstOf, PointOf, RecordOf, TreeOf}
-use Rattle.grown_runs.specs.Table.WordPlaces.{HasWord}
-use Rattle.grown_runs.specs.Table.Words.{cost_in, tree_of_word, tree_word}
 use Rattle.step_core.specs.Worlds.{IsWorld, state_in}
 use Rattle.step_core.specs.declared.views.SharedRun.{SharedRun}
 use Rattle.step_core.specs.declared.views.View.{View}
@@ -26,11 +20,9 @@ use Rattle.step_core.proofs.OneView.LawfulPairs.{tree_of_word-written}
 use Rattle.step_core.proofs.OneView.LawfulSights.{is_linked-seen}
 use Rattle.step_core.proofs.Parts.LinkedStates.{few_nodes}
 use Rattle.step_core.proofs.Seen.Looks.{same_name}
-use Rattle.grown_runs.proofs.Table.PackedWords.{cost_in-tree_word}
 use Rattle.step_core.proofs.Seen.SawWords.{AreBehind-saw, AreBehind-seen, AreBehind-write, HaveWholePairs-saw, IsFair-saw}
 use Rattle.step_core.proofs.Seen.SeenByViews.{IsViewOf-saw, WritesWord-saw}
 use Rattle.step_core.proofs.OneView.SeenTreesOfViews.{SeesTree-lowered}
-use Rattle.grown_runs.proofs.Table.WordKinds.{AreBehind-trans}
 use Rattle.step_core.proofs.Parts.WorldBests.{FollowsHand-refl}
 use Rattle.step_core.proofs.Parts.WorldCopies.{Copies-seen}
 use Rattle.step_core.proofs.Parts.WorldEmpties.{Empties-kept, last_zero-saw}

@@ -6,26 +6,15 @@ use Rattle.std.specs.Prelude.{◌⊎◌, ◌==◌, is_some, nat_lt}
 use Rattle.std.proofs.lemmas.Option.{same_Some}
 use mathlib.Core.Option.{some}
 use lib.ListN.{get_elem?}
-use Rattle.plan_model.specs.Geometry.Bounds.{IsBounded}
-use Rattle.plan_model.specs.Runs.ClosedLaw.{mark_at}
-use Rattle.plan_model.specs.Scenes.MarkPoints.{is_claimed}
-use Rattle.plan_model.specs.Trees.TreeStates.{GrowsInto}
-use Rattle.plan_model.specs.Runs.Turns.{once_if}
-use Rattle.plan_model.specs.Seen.Ways.{EndsBelow, goes_right}
-use Rattle.plan_model.specs.declared.geometry.Point.{Point}
-use Rattle.plan_model.proofs.TreeStateLaws.{GrowsInto-refl}
-use Rattle.grown_runs.specs.Runs.GrownWords.{children_of_words, is_linked}
+use Rattle.grown_runs.proofs.Common.{IsBounded, mark_at, is_claimed, GrowsInto, once_if, EndsBelow, goes_right, Point, GrowsInto-refl, children_of_words}
+use Rattle.grown_runs.proofs.Common.{is_linked, AreBehind, HaveWholePairs, Words, WritesWord, Best, ChildOf, Count, Counter, FirstOf, PointOf, RecordOf, TreeOf}
+use Rattle.grown_runs.proofs.Common.{place_of, point_of_word, point_word, tree_word, point_of_word-packed, AreBehind-refl, AreBehind-trans}
 use Rattle.step_core.specs.LaterViews.{IsLater}
 use Rattle.step_core.specs.SharedWords.{linked_points}
 use Rattle.step_core.specs.Stages.{has_count, has_first, has_link, has_point, has_tree}
 use Rattle.step_core.specs.ViewSteps.{counted, half, linked, pair_in_hand, pointed, stepped, steps_then, treed}
 use Rattle.step_core.specs.ViewTrees.{IsSteered, LeadsTo, MayHang, SeesPoint, SeesTree}
 use Rattle.step_core.specs.Views.{IsViewOf, holds, run_sizes, sees, share, took_over}
-use Rattle.grown_runs.specs.Table.WordKinds.{AreBehind, HaveWholePairs}
-use Rattle.grown_runs.specs.Table.WordNames.{Words, WritesWord}
-use Rattle.grown_runs.specs.Table.WordNames.Word.{Best, ChildOf, Count, Counter, FirstOf, PointOf, RecordOf, TreeOf}
-use Rattle.grown_runs.specs.Table.WordPlaces.{place_of}
-use Rattle.grown_runs.specs.Table.Words.{point_of_word, point_word, tree_word}
 use Rattle.step_core.specs.Worlds.{BestCopy, BestWord, ClaimedMarks, Copies, Empties, Hands, IsFirstOf, IsWorld, LinkedTree, Pairs, SeenBests, Trees, counters}
 use Rattle.step_core.specs.Worlds.{limit_of, state_in}
 use Rattle.step_core.specs.declared.views.Hand.{Hand}
@@ -41,11 +30,9 @@ use Rattle.step_core.proofs.Parts.LinkedStates.{GrowsInto-behind, few_nodes, unl
 use Rattle.step_core.proofs.OneView.LinkedViews.{AreBehind-linked, AreBehind-shown, AreInHand, HaveWholePairs-linked, IsFair-linked, IsViewOf-linked, MayShow}
 use Rattle.step_core.proofs.OneView.LinkedViews.{MayShow-behind, WritesWord-zero_linked, sees-linked}
 use Rattle.step_core.proofs.Seen.Looks.{same_name}
-use Rattle.grown_runs.proofs.Table.PackedWords.{point_of_word-packed}
 use Rattle.step_core.proofs.Seen.SawWords.{AreBehind-write}
 use Rattle.step_core.proofs.OneView.SeenTreesOfViews.{SeesTree-counted, SeesTree-half, SeesTree-linked, SeesTree-pointed, SeesTree-treed}
 use Rattle.step_core.proofs.Parts.ViewLists.{maximum-set}
-use Rattle.grown_runs.proofs.Table.WordKinds.{AreBehind-refl, AreBehind-trans}
 use Rattle.step_core.proofs.Parts.WorldBests.{BestWord-kept, FollowsHand, FollowsHand-stage, KeepsBest, SeenBests-kept}
 use Rattle.step_core.proofs.Parts.WorldCopies.{BestCopy-step, Copies-linked, Copies-untold}
 use Rattle.step_core.proofs.Parts.WorldEmpties.{Empties-kept, Empties-linked}

@@ -7,16 +7,10 @@ use Rattle.std.proofs.lemmas.Nat.{div-mul-add, mod-mul-add}
 use Rattle.std.proofs.lemmas.Option.{same_Some}
 use mathlib.Core.Option.{some}
 use lib.ListN.{get_elem?}
-use Rattle.plan_model.specs.Geometry.Steering.{steered}
-use Rattle.plan_model.specs.Runs.ClosedLaw.{mark_at}
-use Rattle.plan_model.specs.Trees.BestNode.{IsGoalNode, is_goal_point}
-use Rattle.plan_model.specs.Trees.PointsByNumber.{IsPresent, StandsAt, point_at, point_of}
-use Rattle.plan_model.specs.Runs.OrderLaw.{Hangs}
-use Rattle.plan_model.specs.Runs.RecordLaw.{first_cost_through}
-use Rattle.plan_model.specs.Trees.TreeStates.{GrowsInto}
-use Rattle.plan_model.proofs.BestNodeLaws.{IsPresent-goal}
-use Rattle.plan_model.proofs.TreeStateLaws.{GrowsInto-refl}
-use Rattle.grown_runs.specs.Runs.GrownWords.{has_node}
+use Rattle.grown_runs.proofs.Common.{steered, mark_at, IsGoalNode, is_goal_point, IsPresent, StandsAt, point_at, point_of, Hangs, first_cost_through, GrowsInto}
+use Rattle.grown_runs.proofs.Common.{IsPresent-goal, GrowsInto-refl, has_node, AreBehind, Words, WritesWord, Best, ChildOf, Count, Counter, FirstOf, PointOf}
+use Rattle.grown_runs.proofs.Common.{RecordOf, TreeOf, best_cost_in, best_node_in, best_word, cost_in, point_word, record_of_word, tree_word, cost_in-tree_word}
+use Rattle.grown_runs.proofs.Common.{AreBehind-refl, AreBehind-trans, min-either}
 use Rattle.step_core.specs.LaterViews.{IsLater}
 use Rattle.step_core.specs.SeenBests.{IsAtMostPlaced, MayPost, SeesGoal}
 use Rattle.step_core.specs.SharedWords.{linked_points}
@@ -24,10 +18,6 @@ use Rattle.step_core.specs.Stages.{has_count, has_first, has_link, has_point, ha
 use Rattle.step_core.specs.ViewSteps.{best_loaded, best_taken, best_with, hand_with_best, hand_with_post, pair_in_hand, post_noted, posted, with_best}
 use Rattle.step_core.specs.ViewTrees.{SeesHand, SeesTree}
 use Rattle.step_core.specs.Views.{holds, run_sizes, sees, setup_in, tree_seen}
-use Rattle.grown_runs.specs.Table.WordKinds.{AreBehind}
-use Rattle.grown_runs.specs.Table.WordNames.{Words, WritesWord}
-use Rattle.grown_runs.specs.Table.WordNames.Word.{Best, ChildOf, Count, Counter, FirstOf, PointOf, RecordOf, TreeOf}
-use Rattle.grown_runs.specs.Table.Words.{best_cost_in, best_node_in, best_word, cost_in, point_word, record_of_word, tree_word}
 use Rattle.step_core.specs.Worlds.{BestCopy, BestWord, IsBestWord, IsFirstOf, IsWorld, LinkedTree, SeenBests, SeesBest, state_in}
 use Rattle.step_core.specs.declared.views.Hand.{Hand}
 use Rattle.step_core.specs.declared.views.SharedRun.{SharedRun}
@@ -36,15 +26,12 @@ use Rattle.step_core.specs.declared.views.Stage.TheVariants.{Claimed, Counted, H
 use Rattle.step_core.specs.declared.views.View.{View}
 use Rattle.step_core.proofs.OneView.LawfulPairs.{IsSeenPair-lawful}
 use Rattle.step_core.proofs.Parts.LinkedStates.{few_nodes, first_cost-linked, linked-present}
-use Rattle.grown_runs.proofs.Table.PackedWords.{cost_in-tree_word}
 use Rattle.step_core.proofs.Seen.PlacedWords.{has_node-same}
 use Rattle.step_core.proofs.Seen.SawWords.{AreBehind-write}
 use Rattle.step_core.proofs.OneView.SeenGoals.{goal-now, least-now}
 use Rattle.step_core.proofs.OneView.SeenViews.{SeesHand-later}
-use Rattle.grown_runs.proofs.Table.WordKinds.{AreBehind-refl, AreBehind-trans}
 use Rattle.step_core.proofs.Seen.TrueWords.{linked-within}
 use Rattle.step_core.proofs.Parts.WorldBests.{BestWord-step, IsBestWord-grows, SeenBests-set, SeesBest-goes_on}
-use Rattle.grown_runs.proofs.Runs.OpeningBests.{min-either}
 use Rattle.step_core.proofs.Parts.ViewLists.{at-set}
 use Rattle.step_core.proofs.Parts.WorldCopies.{BestCopy-step, Copies-untold}
 use Rattle.step_core.proofs.Parts.WorldEmpties.{Empties-kept}

@@ -7,16 +7,11 @@ use Rattle.std.proofs.lemmas.List.{length-replicate}
 use Rattle.std.proofs.lemmas.List.Sums.{sum_by_push}
 use mathlib.Core.Option.{some, some-ne-none}
 use lib.ListN.{get_elem?}
-use Rattle.plan_model.specs.Runs.Turns.{once_if}
-use Rattle.plan_model.specs.Seen.SeenParents.{AreSeenLawfully}
+use Rattle.grown_runs.proofs.Common.{once_if, AreSeenLawfully, AreBehind, HaveWholePairs, Word, Words, ChildOf, RecordOf, TreeOf, tree_of_word, AreBehind-refl}
 use Rattle.step_core.specs.Stages.{has_count, has_first, has_link, has_point, has_tree, holds_at}
 use Rattle.step_core.specs.ViewSteps.{found_none, looker, parted, second_alone, stepped, without_second, worker_apart}
 use Rattle.step_core.specs.ViewTrees.{SeesTree}
 use Rattle.step_core.specs.Views.{IsViewOf, holds, last_zero, run_sizes, sees, setup_in, share, spent, times, took_over, tree_seen, words_of_run}
-use Rattle.grown_runs.specs.Table.WordKinds.{AreBehind, HaveWholePairs}
-use Rattle.grown_runs.specs.Table.WordNames.{Word, Words}
-use Rattle.grown_runs.specs.Table.WordNames.Word.{ChildOf, RecordOf, TreeOf}
-use Rattle.grown_runs.specs.Table.Words.{tree_of_word}
 use Rattle.step_core.specs.Worlds.{Agree, EachView, IsMember, IsWorld, SeesBest, maximum, hands_at, limit_of, noted_by, noted_in, state_in}
 use Rattle.step_core.specs.declared.views.Member.{Member}
 use Rattle.step_core.specs.declared.views.SharedRun.{SharedRun}
@@ -25,7 +20,6 @@ use Rattle.step_core.specs.declared.views.View.{View}
 use Rattle.step_core.proofs.Steps.FinishedTurns.{times-cons}
 use Rattle.step_core.proofs.OneView.SeenTreesOfViews.{SeesTree-apart, SeesTree-looker, SeesTree-parted, SeesTree-stepped}
 use Rattle.step_core.proofs.Parts.ViewLists.{at-set, each-push, each-set, maximum-one, maximum-push, maximum-set, sum-set}
-use Rattle.grown_runs.proofs.Table.WordKinds.{AreBehind-refl}
 use Rattle.step_core.proofs.Parts.WorldBests.{FollowsHand, FollowsHand-none, FollowsHand-refl, SeesBest-kept}
 use Rattle.step_core.proofs.Parts.WorldCopies.{BestCopy-push, BestCopy-step, Copies-push, Copies-step}
 use Rattle.step_core.proofs.Parts.WorldEmpties.{Empties-push, Empties-step, zero-read}

@@ -11,34 +11,16 @@ use Rattle.std.proofs.lemmas.List.FromFn.{length-range_with_len}
 use Rattle.std.proofs.lemmas.Nat.{mod_below}
 use Rattle.std.proofs.lemmas.Option.{same_Some}
 use Rattle.std.proofs.lemmas.List.Sums.{sum_by-cons}
-use Rattle.plan_model.specs.Scenes.MarkPoints.{is_claimed}
-use Rattle.plan_model.specs.Runs.OrderLaw.{KeepsFirstCosts, KeepsOrder}
-use Rattle.plan_model.specs.Seen.SeenParents.{AreSeenLawfully}
-use Rattle.plan_model.specs.Runs.Textbook.{skipping_goals, setup_of}
-use Rattle.plan_model.specs.Trees.PointsByNumber.{point_at}
-use Rattle.plan_model.specs.Trees.TreeStates.{first_cost_of, recorded_or}
-use Rattle.plan_model.proofs.BestNodeLaws.{IsPresent-goal}
-use Rattle.plan_model.specs.Runs.Turns.{once_if, turns_of}
-use Rattle.plan_model.specs.declared.records.Record.{Record}
-use Rattle.plan_model.specs.declared.tasks.Task.{Task}
-use Rattle.plan_model.specs.declared.limits.TheConstants.{MOST_WORKERS}
-use Rattle.plan_model.proofs.ClosedLaws.{KeepsFirstCosts-closed}
-use Rattle.plan_model.proofs.CountsBelow.{count-none, count-single}
-use Rattle.plan_model.proofs.MarkBounds.{length-marks}
-use Rattle.plan_model.proofs.SceneBounds.{step-steers}
-use Rattle.plan_model.proofs.StripMarks.{is_claimed-below, is_claimed-past}
-use Rattle.plan_model.proofs.WorkerTurns.{AreTurns-longer}
-use Rattle.grown_runs.specs.Runs.LeastBests.{IsLeastBest}
+use Rattle.grown_runs.proofs.Common.{is_claimed, KeepsFirstCosts, KeepsOrder, AreSeenLawfully, skipping_goals, setup_of, point_at, first_cost_of, recorded_or}
+use Rattle.grown_runs.proofs.Common.{IsPresent-goal, once_if, turns_of, Record, Task, MOST_WORKERS, KeepsFirstCosts-closed, count-none, count-single}
+use Rattle.grown_runs.proofs.Common.{length-marks, step-steers, is_claimed-below, is_claimed-past, AreTurns-longer, IsLeastBest, HoldRun, has_node, has_placed}
+use Rattle.grown_runs.proofs.Common.{record_at, run_words, sizes_of, state_of_words, AreBehind, HaveWholePairs, Words, Best, ChildOf, FirstOf, RecordOf}
+use Rattle.grown_runs.proofs.Common.{word_count, FitsWord, cost_in, outcome_in, record_in, record_of_word, is_linked-closed, node_present, state_by-closed}
+use Rattle.grown_runs.proofs.Common.{AreBehind-refl}
 use Rattle.step_core.specs.SharedWords.{linked_points}
-use Rattle.grown_runs.specs.Runs.GrownWords.{HoldRun, has_node, has_placed, record_at, run_words, sizes_of, state_of_words}
 use Rattle.step_core.specs.ViewStarts.{crew_from, member_of, newcomer}
 use Rattle.step_core.specs.ViewTrees.{SeesTree}
 use Rattle.step_core.specs.Views.{IsViewOf, last_zero, run_of, run_sizes, sees, setup_in, share, spent, times, took_over, tree_seen}
-use Rattle.grown_runs.specs.Table.WordKinds.{AreBehind, HaveWholePairs}
-use Rattle.grown_runs.specs.Table.WordNames.{Words}
-use Rattle.grown_runs.specs.Table.WordNames.Word.{Best, ChildOf, FirstOf, RecordOf}
-use Rattle.grown_runs.specs.Table.WordPlaces.{word_count}
-use Rattle.grown_runs.specs.Table.Words.{FitsWord, cost_in, outcome_in, record_in, record_of_word}
 use Rattle.step_core.specs.Worlds.{Agree, BestWord, EachView, IsMember, IsRecordWord, IsWorld, SeesBest, counted_once, Trees, counters}
 use Rattle.step_core.specs.Worlds.{greatest_limit, is_recorded, state_in}
 use Rattle.step_core.specs.declared.views.Member.{Member}
@@ -47,13 +29,11 @@ use Rattle.step_core.specs.declared.views.View.{View}
 use Rattle.step_core.proofs.Steps.FinishedTurns.{times-cons}
 use Rattle.step_core.proofs.Parts.LinkedStates.{placed-first}
 use Rattle.step_core.proofs.OneView.SeenGoals.{least-now}
-use Rattle.grown_runs.proofs.Runs.LinkedPresence.{is_linked-closed, node_present, state_by-closed}
 use Rattle.step_core.proofs.OneView.LawfulSights.{IsPresent-seen}
 use Rattle.step_core.proofs.Parts.MarksInHand.{once_if-false}
 use Rattle.step_core.proofs.OneView.SeenTreesAtStart.{SeesTree-started}
 use Rattle.step_core.proofs.Steps.StartLinks.{FollowWays-held, IsBounded-mark, IsBounded-start, blank-held, count-held, start-held}
 use Rattle.plan_model.proofs.SumsBelow.{sum-same}
-use Rattle.grown_runs.proofs.Table.WordKinds.{AreBehind-refl}
 use Rattle.step_core.proofs.Parts.WorldEmpties.{zero-read}
 use Rattle.step_core.proofs.Parts.WorldHands.{IsWrittenFor}
 use Rattle.step_core.proofs.Parts.WorldLinks.{has_node-recorded}

@@ -5,22 +5,14 @@ use Rattle.std.specs.Prelude.{◌≢◌, ◌⊎◌, ◌==◌, cond}
 use mathlib.Core.Option.{some}
 use lib.ListN.{get_elem?}
 use Rattle.std.proofs.lemmas.Bool.{cases_eq, eqb-true}
-use Rattle.plan_model.specs.Scenes.MarkPoints.{is_claimed, quota_of}
-use Rattle.plan_model.specs.Runs.Turns.{once_if}
-use Rattle.plan_model.proofs.QuotaLaws.{IsCutAt-quota}
-use Rattle.plan_model.proofs.TreeStateLaws.{GrowsInto-refl}
+use Rattle.grown_runs.proofs.Common.{is_claimed, quota_of, once_if, IsCutAt-quota, GrowsInto-refl, FollowWays, children_of_words, AreBehind, Word, Words}
+use Rattle.grown_runs.proofs.Common.{WritesWord, Best, ChildOf, Count, Counter, FirstOf, PointOf, RecordOf, TreeOf, HasWord, AreBehind-refl, AreBehind-trans}
 use Rattle.std.proofs.lemmas.Option.{same_Some}
-use Rattle.plan_model.specs.Seen.Ways.{FollowWays}
-use Rattle.grown_runs.specs.Runs.GrownWords.{children_of_words}
 use Rattle.step_core.specs.SharedWords.{linked_points}
 use Rattle.step_core.specs.Stages.{has_count, has_first, has_link, has_point, has_tree, holds_at}
 use Rattle.step_core.specs.ViewSteps.{claimed, loaded, mark_of, new_hand, saw}
 use Rattle.step_core.specs.ViewTrees.{MayLoad, SeesNode, SeesTree}
 use Rattle.step_core.specs.Views.{IsSharedRun, IsViewOf, holds, run_sizes, sees, share, spent}
-use Rattle.grown_runs.specs.Table.WordKinds.{AreBehind}
-use Rattle.grown_runs.specs.Table.WordNames.{Word, Words, WritesWord}
-use Rattle.grown_runs.specs.Table.WordNames.Word.{Best, ChildOf, Count, Counter, FirstOf, PointOf, RecordOf, TreeOf}
-use Rattle.grown_runs.specs.Table.WordPlaces.{HasWord}
 use Rattle.step_core.specs.Worlds.{IsWorld, TreesSeen, counters, greatest_limit, is_recorded, limit_of, state_in}
 use Rattle.step_core.specs.declared.views.SharedRun.{SharedRun}
 use Rattle.step_core.specs.declared.views.Stage.{Stage}
@@ -34,7 +26,6 @@ use Rattle.step_core.proofs.Seen.SawWords.{AreBehind-saw, AreBehind-seen, AreBeh
 use Rattle.step_core.proofs.Seen.SeenByViews.{IsViewOf-saw, WritesWord-saw}
 use Rattle.step_core.proofs.OneView.SeenTreesOfViews.{SeesTree-claimed, SeesTree-loaded}
 use Rattle.step_core.proofs.Parts.ViewLists.{at-set, each-set, maximum-one, maximum-set}
-use Rattle.grown_runs.proofs.Table.WordKinds.{AreBehind-refl, AreBehind-trans}
 use Rattle.step_core.proofs.Parts.WorldBests.{BestWord-kept, FollowsHand-new, FollowsHand-refl, SeenBests-kept}
 use Rattle.step_core.proofs.Parts.WorldCopies.{BestCopy-step, Copies-seen, Copies-step}
 use Rattle.step_core.proofs.Parts.WorldEmpties.{Empties-kept, Empties-step, last_zero-saw}

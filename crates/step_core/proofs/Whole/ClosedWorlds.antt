@@ -7,31 +7,16 @@ use mathlib.Core.Option.{some, some-injective}
 use lib.ListN.{get_elem?}
 use Rattle.std.proofs.lemmas.Bool.{cases_Bool, cases_eq, cases_lt, eqb-true, le-ltb, lt-ltb, ltb-true}
 use Rattle.std.proofs.lemmas.Nat.{div-add-mod', mod_below}
-use Rattle.plan_model.specs.Runs.ClosedLaw.{IsClosed, has_outcome}
-use Rattle.plan_model.specs.Scenes.MarkPoints.{is_claimed, quota_of}
-use Rattle.plan_model.specs.Runs.Outcomes.{is_placed}
-use Rattle.plan_model.specs.Trees.PointsByNumber.{IsPresent, StandsAt, node_count, point_at}
-use Rattle.plan_model.specs.Runs.Textbook.{setup_of}
-use Rattle.plan_model.specs.Trees.TreeStates.{AreSameRuns}
-use Rattle.plan_model.specs.Runs.Turns.{AreTurns, is_of_turn, is_of_worker, once_if}
-use Rattle.plan_model.specs.Seen.Ways.{FollowWays}
-use Rattle.plan_model.specs.declared.records.Record.{Record}
-use Rattle.plan_model.specs.declared.tasks.Task.{Task}
-use Rattle.plan_model.proofs.CountsBelow.{count-longer}
-use Rattle.plan_model.proofs.QuotaLaws.{IsCutAt-quota}
-use Rattle.plan_model.proofs.SameTrees.{IsClosed-same_run}
-use Rattle.grown_runs.specs.Runs.GrownWords.{HoldRun, IsBlank, IsPointWord, IsTreeWord, children_of_words, cleared, has_node, has_placed, is_linked}
-use Rattle.grown_runs.specs.Runs.GrownWords.{node_point_by, points_of_words, record_at, sizes_of, state_of_words}
+use Rattle.grown_runs.proofs.Common.{IsClosed, has_outcome, is_claimed, quota_of, is_placed, IsPresent, StandsAt, node_count, point_at, setup_of, AreSameRuns}
+use Rattle.grown_runs.proofs.Common.{AreTurns, is_of_turn, is_of_worker, once_if, FollowWays, Record, Task, count-longer, IsCutAt-quota, IsClosed-same_run}
+use Rattle.grown_runs.proofs.Common.{HoldRun, IsBlank, IsPointWord, IsTreeWord, children_of_words, cleared, has_node, has_placed, is_linked, node_point_by}
+use Rattle.grown_runs.proofs.Common.{points_of_words, record_at, sizes_of, state_of_words, AreBehind, Words, Counter, FirstOf, PointOf, RecordOf, TreeOf, Sizes}
+use Rattle.grown_runs.proofs.Common.{cost_in, parent_in, point_of_word, record_of_word, record_word, tree_of_word, record_word-again, if_written-set}
 use Rattle.step_core.specs.LastViews.{StandsAsSeen}
 use Rattle.step_core.specs.SharedWords.{linked_point, linked_points}
 use Rattle.step_core.specs.Stages.{has_count, has_link, holds_at}
 use Rattle.step_core.specs.ViewTrees.{SeesNode, SeesTree}
 use Rattle.step_core.specs.Views.{run_of, run_sizes, sees, share}
-use Rattle.grown_runs.specs.Table.WordKinds.{AreBehind}
-use Rattle.grown_runs.specs.Table.WordNames.{Words}
-use Rattle.grown_runs.specs.Table.WordNames.Word.{Counter, FirstOf, PointOf, RecordOf, TreeOf}
-use Rattle.grown_runs.specs.Table.WordPlaces.{Sizes}
-use Rattle.grown_runs.specs.Table.Words.{cost_in, parent_in, point_of_word, record_of_word, record_word, tree_of_word}
 use Rattle.step_core.specs.Worlds.{IsRecordWord, IsWorld, counted_once, counters, greatest_limit, hands_at, is_recorded, limit_of, state_in}
 use Rattle.step_core.specs.declared.views.SharedRun.{SharedRun}
 use Rattle.step_core.specs.declared.views.Stage.{Stage}
@@ -39,8 +24,6 @@ use Rattle.step_core.specs.declared.views.View.{View}
 use Rattle.step_core.proofs.OneView.LawfulSights.{IsTrueOf-seen, is_linked-seen}
 use Rattle.step_core.proofs.Parts.LinkedCounts.{node_count-linked, present-linked}
 use Rattle.step_core.proofs.Parts.LinkedStates.{linked-present, record-unplaced, record-written}
-use Rattle.grown_runs.proofs.Table.PackedRecords.{record_word-again}
-use Rattle.grown_runs.proofs.Table.ReadWords.{if_written-set}
 use Rattle.plan_model.proofs.SumsBelow.{sum-same}
 use Rattle.step_core.proofs.Parts.ViewLists.{maximum-one, maximum-most, sum-zero}
 use Rattle.step_core.proofs.Whole.WholeShares.{is_recorded-whole, others_idle, others_shareless}

@@ -6,32 +6,20 @@ use Rattle.std.specs.Prelude.{◌⊎◌}
 use Rattle.std.proofs.lemmas.Bool.{cases_Bool, cases_eq, cases_order}
 use mathlib.Core.Option.{some, some-injective}
 use lib.ListN.{get_elem?}
-use Rattle.plan_model.specs.Trees.PointsByNumber.{IsFree, StandsAt, point_at}
-use Rattle.plan_model.specs.Seen.Sights.{EndsSince}
-use Rattle.plan_model.specs.Seen.Ways.{Children, FillsPlaces, FollowWays, IsOnWay, goes_right}
-use Rattle.plan_model.specs.declared.geometry.Point.{Point}
-use Rattle.plan_model.proofs.NewNodes.{StandsAt-unique}
-use Rattle.plan_model.proofs.TrueSights.{IsOnWay-true}
-use Rattle.plan_model.proofs.WayLaws.{IsOnWay-unique, earlier_step, not_empty, way_stops}
-use Rattle.plan_model.proofs.WayLinks.{IsOnWay-fills}
-use Rattle.grown_runs.specs.Runs.GrownWords.{child_of_word, children_of_words, is_linked}
+use Rattle.grown_runs.proofs.Common.{IsFree, StandsAt, point_at, EndsSince, Children, FillsPlaces, FollowWays, IsOnWay, goes_right, Point, StandsAt-unique}
+use Rattle.grown_runs.proofs.Common.{IsOnWay-true, IsOnWay-unique, earlier_step, not_empty, way_stops, IsOnWay-fills, child_of_word, children_of_words}
+use Rattle.grown_runs.proofs.Common.{is_linked, AreBehind, MayBecome, kind_of, Word, Words, ChildOf, TreeOf, place_of, cost_in, MayBecome-trans}
 use Rattle.step_core.specs.LaterViews.{IsLater}
 use Rattle.step_core.specs.SharedWords.{linked_points, shared_tree_of_words}
 use Rattle.step_core.specs.ViewSteps.{loaded}
 use Rattle.step_core.specs.ViewTrees.{LeadsTo, sight_in}
 use Rattle.step_core.specs.Views.{last_zero, run_sizes, sees, tree_seen}
-use Rattle.grown_runs.specs.Table.WordKinds.{AreBehind, MayBecome, kind_of}
-use Rattle.grown_runs.specs.Table.WordNames.{Word, Words}
-use Rattle.grown_runs.specs.Table.WordNames.Word.{ChildOf, TreeOf}
-use Rattle.grown_runs.specs.Table.WordPlaces.{place_of}
-use Rattle.grown_runs.specs.Table.Words.{cost_in}
 use Rattle.step_core.specs.Worlds.{IsTold, IsWorld, maximum, noted, noted_by, noted_in}
 use Rattle.step_core.specs.declared.views.SharedRun.{SharedRun}
 use Rattle.step_core.specs.declared.views.View.{View}
 use Rattle.step_core.proofs.OneView.LawfulSights.{IsTrueOf-seen}
 use Rattle.step_core.proofs.Parts.LinkedStates.{GrowsInto-behind, unlinked-childless}
 use Rattle.step_core.proofs.Parts.ViewLists.{at-set, at-set_other, each-set, maximum-most, maximum-one}
-use Rattle.grown_runs.proofs.Table.WordKinds.{MayBecome-trans}
 use Rattle.step_core.proofs.Seen.SeenByViews.{WritesWord-zero}
 use Rattle.step_core.proofs.Steps.WorldSteps.{follow, live, tree}
 

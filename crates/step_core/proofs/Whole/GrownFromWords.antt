@@ -2,26 +2,15 @@
 use Rattle.std.proofs.Common.{◌≡◌, ℕ, zero, suc, ◌<◌, ◌≤◌, ◌^◌, Bool, true, false, List, length, Option, Some, None}
 use Rattle.std.proofs.Common.{refl, sym, ap, ◌∙◌, subst, inl, inr, arith}
 use Rattle.std.specs.Prelude.{is_some}
-use Rattle.plan_model.specs.Runs.ClosedLaw.{has_outcome}
-use Rattle.plan_model.specs.Runs.Outcomes.{is_placed}
-use Rattle.plan_model.specs.Trees.PointsByNumber.{IsPresent, StandsAt}
-use Rattle.plan_model.specs.Trees.TreeStates.{GrowsInto, TreeState, first_cost_of, recorded_or}
-use Rattle.plan_model.specs.declared.geometry.Point.{Point}
-use Rattle.plan_model.specs.declared.records.Record.{Record}
-use Rattle.plan_model.specs.declared.tasks.Task.{Task}
-use Rattle.grown_runs.specs.Runs.GrownRuns.{state_of_grown, words_of_grown}
-use Rattle.grown_runs.specs.Runs.GrownWords.{HoldRun, has_node, has_placed, points_of_words, record_at, sizes_of, state_of_words}
+use Rattle.grown_runs.proofs.Common.{has_outcome, is_placed, IsPresent, StandsAt, GrowsInto, TreeState, first_cost_of, recorded_or, Point, Record, Task}
+use Rattle.grown_runs.proofs.Common.{state_of_grown, words_of_grown, HoldRun, has_node, has_placed, points_of_words, record_at, sizes_of, state_of_words}
+use Rattle.grown_runs.proofs.Common.{AreBehind, Falls, MayBecome, Falling, Once, Words, FirstOf, PointOf, RecordOf, TreeOf, point_of_word, record_of_word}
+use Rattle.grown_runs.proofs.Common.{has_node-present, point_of_word-stands, present-within}
 use Rattle.step_core.specs.LastViews.{HasOrFell, StandsAsSeen}
 use Rattle.step_core.specs.ViewTrees.{SeesPoint}
 use Rattle.step_core.specs.Views.{run_of, run_sizes, sees}
-use Rattle.grown_runs.specs.Table.WordKinds.{AreBehind, Falls, MayBecome}
-use Rattle.grown_runs.specs.Table.WordKinds.WordKind.{Falling, Once}
-use Rattle.grown_runs.specs.Table.WordNames.{Words}
-use Rattle.grown_runs.specs.Table.WordNames.Word.{FirstOf, PointOf, RecordOf, TreeOf}
-use Rattle.grown_runs.specs.Table.Words.{point_of_word, record_of_word}
 use Rattle.grown_runs.specs.declared.grown.Grown.{Grown}
 use Rattle.step_core.specs.declared.views.View.{View}
-use Rattle.grown_runs.proofs.Runs.GrownPoints.{has_node-present, point_of_word-stands, present-within}
 use Rattle.step_core.proofs.Parts.LinkedStates.{record-unplaced, record-written}
 use Rattle.step_core.proofs.Seen.SeenWords.{point_at-seen}
 

@@ -4,16 +4,12 @@ use Rattle.std.specs.Prelude.{is_some}
 use Rattle.std.proofs.lemmas.Bool.{cases_eq}
 use mathlib.Core.Option.{some, some-injective}
 use lib.ListN.{get_elem?}
-use Rattle.plan_model.specs.Seen.Sights.{EndsSince}
-use Rattle.plan_model.specs.declared.geometry.Point.{Point}
+use Rattle.grown_runs.proofs.Common.{EndsSince, Point, AreBehind, Words, WritesWord, ChildOf, AreBehind-refl, AreBehind-trans}
 use Rattle.step_core.specs.Histories.{HasCome, WasEmpty, WasFree}
 use Rattle.step_core.specs.Histories.HasCome.{begins, goes_on, steps}
 use Rattle.step_core.specs.ViewSteps.{linked, steps_then}
 use Rattle.step_core.specs.ViewTrees.{LeadsTo, sight_in}
 use Rattle.step_core.specs.Views.{last_zero}
-use Rattle.grown_runs.specs.Table.WordKinds.{AreBehind}
-use Rattle.grown_runs.specs.Table.WordNames.{Words, WritesWord}
-use Rattle.grown_runs.specs.Table.WordNames.Word.{ChildOf}
 use Rattle.step_core.specs.Worlds.{IsWorld}
 use Rattle.step_core.specs.declared.views.Hand.{Hand}
 use Rattle.step_core.specs.declared.views.SharedRun.{SharedRun}
@@ -24,7 +20,6 @@ use Rattle.step_core.proofs.Steps.FinishedMarks.{in_hand}
 use Rattle.step_core.proofs.OneView.LinkedViews.{WritesWord-zero_linked}
 use Rattle.step_core.proofs.Seen.SawWords.{AreBehind-write}
 use Rattle.step_core.proofs.Parts.ViewLists.{at-set, at-set_other}
-use Rattle.grown_runs.proofs.Table.WordKinds.{AreBehind-refl, AreBehind-trans}
 use Rattle.step_core.proofs.Parts.WorldEmpties.{last_zero-spent}
 use Rattle.step_core.proofs.Steps.WorldNodes.{IsWorld-linked}
 use Rattle.step_core.proofs.Steps.WorldSteps.{live, seen_within, tree}

@@ -6,21 +6,13 @@ use Rattle.std.specs.List.{range_with_len}
 use mathlib.Core.Option.{some, some-injective}
 use lib.ListN.{get_elem?}
 use Rattle.std.proofs.lemmas.Bool.{cases_Bool, cases_eq, cases_lt}
-use Rattle.plan_model.specs.Trees.PointsByNumber.{node_count}
-use Rattle.plan_model.specs.Runs.Turns.{once_if}
-use Rattle.plan_model.specs.Seen.Ways.{FollowWays}
-use Rattle.plan_model.specs.declared.records.Record.{Record}
-use Rattle.grown_runs.specs.Runs.GrownWords.{child_of_word, children_of_words, has_node, is_linked, record_at}
-use Rattle.grown_runs.specs.Table.SeenWords.{seen_point}
+use Rattle.grown_runs.proofs.Common.{node_count, once_if, FollowWays, Record, child_of_word, children_of_words, has_node, is_linked, record_at, seen_point}
+use Rattle.grown_runs.proofs.Common.{AreBehind, Word, Words, Best, ChildOf, Count, FirstOf, PointOf, RecordOf, TreeOf, Sizes, cost_in, parent_in, point_of_word}
+use Rattle.grown_runs.proofs.Common.{record_of_word, tree_of_word, none_some, in_child, word_at-none}
 use Rattle.step_core.specs.SharedWords.{linked_point, linked_points}
 use Rattle.step_core.specs.Stages.{has_count, has_link, holds_at}
 use Rattle.step_core.specs.ViewTrees.{SeesNode, SeesTree}
 use Rattle.step_core.specs.Views.{run_sizes, sees, share, tree_seen}
-use Rattle.grown_runs.specs.Table.WordKinds.{AreBehind}
-use Rattle.grown_runs.specs.Table.WordNames.{Word, Words}
-use Rattle.grown_runs.specs.Table.WordNames.Word.{Best, ChildOf, Count, FirstOf, PointOf, RecordOf, TreeOf}
-use Rattle.grown_runs.specs.Table.WordPlaces.{Sizes}
-use Rattle.grown_runs.specs.Table.Words.{cost_in, parent_in, point_of_word, record_of_word, tree_of_word}
 use Rattle.step_core.specs.Worlds.{IsTold, IsWorld, counted_once, hands_at}
 use Rattle.step_core.specs.declared.views.Hand.{Hand}
 use Rattle.step_core.specs.declared.views.SharedRun.{SharedRun}
@@ -28,18 +20,15 @@ use Rattle.step_core.specs.declared.views.Stage.{Stage}
 use Rattle.step_core.specs.declared.views.Stage.TheVariants.{Claimed, Counted, Half, Linked, Pointed, Posted, Treed}
 use Rattle.step_core.specs.declared.views.View.{View}
 use Rattle.step_core.proofs.Steps.FinishedMarks.{recorded-below}
-use Rattle.grown_runs.proofs.Runs.GrownPoints.{none_some}
 use Rattle.step_core.proofs.OneView.LawfulPairs.{tree_of_word-written}
 use Rattle.step_core.proofs.OneView.LawfulSights.{is_linked-seen}
 use Rattle.step_core.proofs.Parts.LinkedCounts.{node_count-linked}
-use Rattle.grown_runs.proofs.Runs.LinkedPresence.{in_child}
 use Rattle.step_core.proofs.Parts.LinkedStates.{record-unplaced, unlinked-childless}
 use Rattle.step_core.proofs.Parts.MarksInHand.{once_if-true}
 use Rattle.step_core.proofs.Seen.SeenWords.{point_at-seen}
 use Rattle.plan_model.proofs.SumsBelow.{sum-same}
 use Rattle.step_core.proofs.Parts.ViewLists.{sum-each}
 use Rattle.step_core.proofs.Whole.WholeShares.{others_idle, others_shareless}
-use Rattle.grown_runs.proofs.Table.WordReads.{word_at-none}
 use Rattle.step_core.proofs.Parts.WorldParts.{record_word-none}
 
 -- a hand that is not at the stage linked has counted its node if it has linked it

@@ -5,12 +5,8 @@ use Rattle.std.specs.List.{count_by, range_with_len}
 use mathlib.Core.Option.{some, some-injective}
 use lib.ListN.{get_elem?}
 use Rattle.std.proofs.lemmas.Bool.{cases_eq, eq-eqb, ltb-true, ne_eqb}
-use Rattle.plan_model.specs.Scenes.MarkPoints.{is_claimed}
-use Rattle.plan_model.specs.Runs.Turns.{is_of_worker, once_if, turns_of}
-use Rattle.plan_model.proofs.CountsBelow.{count-all, count-one_more, count-wider}
-use Rattle.grown_runs.specs.Runs.GrownWords.{record_at}
+use Rattle.grown_runs.proofs.Common.{is_claimed, is_of_worker, once_if, turns_of, count-all, count-one_more, count-wider, record_at, Words}
 use Rattle.step_core.specs.Views.{holds, share, times}
-use Rattle.grown_runs.specs.Table.WordNames.{Words}
 use Rattle.step_core.specs.Worlds.{IsWorld, counters, is_recorded}
 use Rattle.step_core.specs.declared.views.Hand.{Hand}
 use Rattle.step_core.specs.declared.views.Member.{Member}

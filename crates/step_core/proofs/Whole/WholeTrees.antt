@@ -6,17 +6,10 @@ use Rattle.std.specs.List.{range_with_len, list_any}
 use lib.ListN.{get_elem?}
 use mathlib.Core.Option.{some}
 use Rattle.std.proofs.lemmas.Bool.{cases_Bool}
-use Rattle.plan_model.specs.Runs.OrderLaw.{KeepsOrder}
-use Rattle.plan_model.specs.Trees.PointsByNumber.{IsPresent, point_at}
-use Rattle.plan_model.specs.Trees.TreeStates.{first_cost_of, recorded_or}
-use Rattle.plan_model.proofs.LoweredCosts.{HaveSameTree, KeepsOrder-lowered, LowersCosts-same}
-use Rattle.grown_runs.specs.Runs.GrownWords.{is_linked, record_at}
+use Rattle.grown_runs.proofs.Common.{KeepsOrder, IsPresent, point_at, first_cost_of, recorded_or, HaveSameTree, KeepsOrder-lowered, LowersCosts-same, is_linked}
+use Rattle.grown_runs.proofs.Common.{record_at, Words, ChildOf, FirstOf, PointOf, TreeOf, Sizes, cost_in, parent_in, point_of_word}
 use Rattle.step_core.specs.SharedWords.{linked_point, linked_points, state_of_links}
 use Rattle.step_core.specs.Views.{run_sizes, sees, setup_in, share}
-use Rattle.grown_runs.specs.Table.WordNames.{Words}
-use Rattle.grown_runs.specs.Table.WordNames.Word.{ChildOf, FirstOf, PointOf, TreeOf}
-use Rattle.grown_runs.specs.Table.WordPlaces.{Sizes}
-use Rattle.grown_runs.specs.Table.Words.{cost_in, parent_in, point_of_word}
 use Rattle.step_core.specs.Worlds.{IsWorld, state_in}
 use Rattle.step_core.specs.declared.views.SharedRun.{SharedRun}
 use Rattle.step_core.specs.declared.views.View.{View}

@@ -1,9 +1,6 @@
 use Rattle.std.proofs.Common.{◌<◌, ◌∙◌, sym, subst, take}
-use Rattle.plan_model.proofs.SameTrees.{IsSettled-of_textbook}
-use Rattle.plan_model.proofs.TreeStateLaws.{GrowsInto-trans}
-use Rattle.plan_model.specs.Runs.Textbook.{setup_of}
+use Rattle.grown_runs.proofs.Common.{IsSettled-of_textbook, GrowsInto-trans, setup_of, state_of_grown}
 use Rattle.plan_work.specs.OneWorker.{IsOfTextbook}
-use Rattle.grown_runs.specs.Runs.GrownRuns.{state_of_grown}
 use Rattle.any_time.proofs.growing.grow_slice.Goals as goal
 
 -- a textbook run is settled already, so it stays as it is

@@ -1,8 +1,6 @@
 use Rattle.std.proofs.Common.{take}
-use Rattle.plan_model.proofs.SameTrees.{IsSettled-of_textbook}
-use Rattle.plan_model.specs.Runs.Textbook.{setup_of}
+use Rattle.grown_runs.proofs.Common.{IsSettled-of_textbook, setup_of, state_of_grown}
 use Rattle.plan_work.proofs.TextbookEnds.{IsOfTextbook-new}
-use Rattle.grown_runs.specs.Runs.GrownRuns.{state_of_grown}
 use Rattle.any_time.proofs.sessions.fresh_run.Goals as goal
 
 pub returns-clause-textbook : goal.returns-clause-textbook

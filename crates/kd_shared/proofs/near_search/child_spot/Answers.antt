@@ -1,8 +1,5 @@
-use Rattle.grown_runs.specs.Runs.GrownWords.{child_of_word}
-use Rattle.step_core.specs.ViewTrees.{sight_in}
-use Rattle.grown_runs.specs.Table.WordNames.Word.{ChildOf, PointOf}
-use Rattle.grown_runs.specs.Table.Words.{point_in}
-use Rattle.step_core.proofs.OneView.LawfulSights.{KeepsSight-lawful}
+use Rattle.grown_runs.proofs.Common.{child_of_word, ChildOf, PointOf, point_in}
+use Rattle.step_core.proofs.Common.{sight_in, KeepsSight-lawful}
 use Rattle.kd_shared.specs.LookLaws.{PassLooks-trans}
 use Rattle.kd_shared.proofs.LoadedChildren.{QueuesWithin-loaded}
 use Rattle.kd_shared.proofs.Looking.{LoadsChild-child, LoadsPoint-point}

@@ -1,11 +1,8 @@
 use Rattle.std.proofs.Common.{◌≡◌, ◌<◌, ◌+◌, ◌*◌, List, [], ◌∷◌, ◌++◌, length, false, true, arith, refl, sym, ap, ◌∙◌, subst}
 use Rattle.std.specs.Prelude.{IsFalse, option_to_list}
-use Rattle.plan_words.specs.SearchLists.{point_of_spot}
-use Rattle.plan_words.specs.States.{PassState, with_lists}
+use Rattle.plan_words.proofs.Common.{point_of_spot, PassState, with_lists}
 use Rattle.plan_words.specs.declared.spots.Spot.{Spot}
-use Rattle.plan_model.specs.Geometry.Bounds.{IsBounded}
-use Rattle.plan_model.specs.Geometry.Plane.{squared_distance}
-use Rattle.grown_runs.specs.Table.WordNames.Word.{PointOf}
+use Rattle.grown_runs.proofs.Common.{IsBounded, squared_distance, PointOf}
 use Rattle.kd_shared.specs.Looking.{searched}
 use Rattle.kd_shared.specs.Spots.{Notes, side_distance}
 use Rattle.kd_shared.proofs.Looking.{LoadsPoint-point, SeesNode-later}

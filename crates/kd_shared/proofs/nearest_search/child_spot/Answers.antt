@@ -1,8 +1,6 @@
 use Rattle.std.proofs.Common.{Some, None, refl, ◌∙◌}
-use Rattle.plan_model.proofs.SightLaws.{IsLaterMoment-trans}
+use Rattle.grown_runs.proofs.Common.{IsLaterMoment-trans, ChildOf, PointOf, point_in}
 use Rattle.step_core.specs.ViewTrees.{sight_in}
-use Rattle.grown_runs.specs.Table.WordNames.Word.{ChildOf, PointOf}
-use Rattle.grown_runs.specs.Table.Words.{point_in}
 use Rattle.kd_shared.specs.LookLaws.{PassLooks-trans}
 use Rattle.kd_shared.proofs.Looking.{LoadsChild-child, LoadsPoint-point}
 use Rattle.kd_shared.proofs.PassLooks.{PassLooks-load}

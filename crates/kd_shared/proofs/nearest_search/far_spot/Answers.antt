@@ -1,11 +1,8 @@
 use Rattle.std.proofs.Common.{ℕ, not, Option, Some, None, inl, inr, refl, sym, ◌∙◌, subst, arith}
 use Rattle.std.proofs.lemmas.Bool.{leb-false}
-use Rattle.plan_model.specs.declared.geometry.Point.{Point}
-use Rattle.plan_model.specs.Seen.Sights.{Sight}
-use Rattle.plan_model.proofs.SightLaws.{IsLaterMoment-refl}
+use Rattle.grown_runs.proofs.Common.{Point, Sight, IsLaterMoment-refl}
 use Rattle.plan_words.specs.declared.spots.Spot.{Spot}
-use Rattle.step_core.specs.ViewTrees.{sight_in}
-use Rattle.step_core.proofs.OneView.LawfulSights.{KeepsSight-lawful}
+use Rattle.step_core.proofs.Common.{sight_in, KeepsSight-lawful}
 use Rattle.kd_shared.specs.FarSides.{far_side, line_square, LoadsFar, LoadsSpot}
 use Rattle.kd_shared.proofs.nearest_search.far_spot.Goals as goal
 

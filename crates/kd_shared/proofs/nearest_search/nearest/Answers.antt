@@ -1,10 +1,7 @@
 use Rattle.std.proofs.Common.{false, arith, refl, sym, ap, ◌∙◌, subst}
-use Rattle.plan_model.specs.Geometry.Bounds.{IsBounded}
-use Rattle.plan_model.specs.Geometry.Plane.{squared_distance}
-use Rattle.plan_words.specs.SearchLists.{point_of_spot}
-use Rattle.plan_words.specs.States.{with_lists}
+use Rattle.grown_runs.proofs.Common.{IsBounded, squared_distance, PointOf}
+use Rattle.plan_words.proofs.Common.{point_of_spot, with_lists}
 use Rattle.plan_words.specs.declared.spots.Spot.{Spot}
-use Rattle.grown_runs.specs.Table.WordNames.Word.{PointOf}
 use Rattle.grown_runs.specs.declared.measured_nodes.MeasuredNode.{MeasuredNode}
 use Rattle.kd_shared.proofs.Looking.{LoadsPoint-point}
 use Rattle.kd_shared.proofs.NearestPasses.{half_seen, half_seen_stack, here_bounded, here_seen, IsSeekingPass, IsSeekingPass-begins, IsSeekingPass-ends}

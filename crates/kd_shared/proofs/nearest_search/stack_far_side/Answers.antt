@@ -1,12 +1,9 @@
 use Rattle.std.proofs.Common.{◌≡◌, ◌⊎◌, ℕ, ◌<◌, not, Bool, true, false, List, [], ◌∷◌, ◌++◌, inl, inr, refl, sym, ap, ◌∙◌, subst}
 use Rattle.std.specs.Prelude.{if◌then◌else◌, IsFalse}
-use Rattle.plan_model.specs.declared.geometry.Point.{Point}
-use Rattle.plan_model.specs.Seen.Sights.{Sight}
+use Rattle.grown_runs.proofs.Common.{Point, Sight, child_of_word, ChildOf}
 use Rattle.plan_words.specs.States.{PassState}
 use Rattle.plan_words.specs.declared.spots.Spot.{Spot}
-use Rattle.grown_runs.specs.Runs.GrownWords.{child_of_word}
 use Rattle.step_core.specs.ViewTrees.{sight_in}
-use Rattle.grown_runs.specs.Table.WordNames.Word.{ChildOf}
 use Rattle.kd_shared.specs.FarSides.{far_side, line_square, StacksFar}
 use Rattle.kd_shared.specs.Loads.{LoadsChild}
 use Rattle.kd_shared.specs.Looking.{OnlyLooks, PassLooks}

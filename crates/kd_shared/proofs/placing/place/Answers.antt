@@ -1,12 +1,9 @@
 use Rattle.std.proofs.Common.{◌≡◌, refl, sym, ap, subst, ◌∙◌, arith}
 use Rattle.std.specs.Prelude.{IsSome}
-use Rattle.plan_model.proofs.SamePoints.{same_point-false, same_point-true}
-use Rattle.step_core.specs.ViewTrees.{LeadsTo, SeesPoint}
-use Rattle.step_core.specs.Views.{tree_seen}
-use Rattle.grown_runs.specs.Table.WordNames.Word.{PointOf}
+use Rattle.grown_runs.proofs.Common.{same_point-false, same_point-true, PointOf, StopsAt-below}
+use Rattle.step_core.proofs.Common.{LeadsTo, SeesPoint, tree_seen}
 use Rattle.grown_runs.specs.declared.kd_walks.Stop.{Stop}
 use Rattle.step_core.specs.declared.views.Stage.TheVariants.{Treed}
-use Rattle.grown_runs.proofs.Ways.WalkStops.{StopsAt-below}
 use Rattle.kd_shared.specs.LookLaws.{PassLooks-fills, PassLooks-short, PassLooks-trans}
 use Rattle.kd_shared.proofs.Finding.{LeadsTo-stop}
 use Rattle.kd_shared.proofs.PassLooks.{PassLooks-load, PassLooks-met}

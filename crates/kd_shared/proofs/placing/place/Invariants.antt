@@ -1,6 +1,5 @@
 use Rattle.std.proofs.Common.{◌-◌}
-use Rattle.plan_model.specs.declared.limits.TheConstants.{MOST_NODES}
-use Rattle.grown_runs.specs.Ways.KdWalks.{StopsAt}
+use Rattle.grown_runs.proofs.Common.{MOST_NODES, StopsAt}
 use Rattle.step_core.specs.Views.{tree_seen}
 use Rattle.kd_shared.specs.Looking.{PassLooks}
 use Rattle.kd_shared.proofs.placing.place.Given as goal

@@ -1,8 +1,7 @@
 use Rattle.std.proofs.Common.{◌≡◌, ◌∙◌, ap, arith, refl, sym, true}
-use Rattle.plan_model.specs.Geometry.Radius.{class_of}
+use Rattle.grown_runs.proofs.Common.{class_of, RecordOf}
 use Rattle.plan_words.proofs.PlainScenes.{no_goals}
 use Rattle.step_core.specs.Stages.{has_link}
-use Rattle.grown_runs.specs.Table.WordNames.Word.{RecordOf}
 use Rattle.kd_shared_tests.proofs.SteeredMarks.{HangsBelowNearest-kept}
 use Rattle.kd_shared_tests.proofs.SteeredRecords.{may_finish-placed, own_count-same}
 use Rattle.kd_shared_tests.proofs.support.finish_placed.Goals as goal

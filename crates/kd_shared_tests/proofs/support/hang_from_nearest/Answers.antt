@@ -1,15 +1,8 @@
 use Rattle.std.proofs.Common.{◌≡◌, ◌+◌, ap, false, sym, subst, ◌∙◌}
-use Rattle.plan_model.specs.Geometry.Bounds.{IsBounded}
-use Rattle.plan_model.specs.Spaces.Clearance.{Clear}
-use Rattle.plan_words.specs.States.{with_view}
-use Rattle.plan_words.proofs.HandSteps.{at_hand}
-use Rattle.plan_words.proofs.NearestParents.{IsBounded-hand}
-use Rattle.step_core.specs.Stages.{has_link, has_point}
-use Rattle.step_core.specs.ViewSteps.{half, treed}
-use Rattle.step_core.specs.Views.{sees}
-use Rattle.grown_runs.specs.Table.WordNames.Word.{RecordOf}
+use Rattle.grown_runs.proofs.Common.{IsBounded, Clear, RecordOf}
+use Rattle.plan_words.proofs.Common.{with_view, at_hand, IsBounded-hand}
+use Rattle.step_core.proofs.Common.{has_link, has_point, half, treed, sees, SeesPoint-later}
 use Rattle.step_core.specs.declared.views.Stage.TheVariants.{Half}
-use Rattle.step_core.proofs.OneView.SeenViews.{SeesPoint-later}
 use Rattle.kd_shared_tests.proofs.SteeredMarks.{HangsBelowNearest-hung, MayHang-steered, SteersFrom-looked, sees_nearest}
 use Rattle.kd_shared_tests.proofs.support.hang_from_nearest.Goals as goal
 

@@ -1,12 +1,7 @@
 use Rattle.std.proofs.Common.{◌≡◌, ◌∙◌, ap, refl, sym}
 use Rattle.plan_model.specs.Runs.ClosedLaw.{mark_at}
-use Rattle.plan_words.specs.States.{PassState, with_view}
-use Rattle.plan_words.proofs.GoingOn.{BelongsTo-later}
-use Rattle.plan_words.proofs.HandSteps.{at_hand}
-use Rattle.plan_words.proofs.KeptPairs.{if_hand}
-use Rattle.plan_words.proofs.PlainScenes.{no_goals}
-use Rattle.step_core.specs.SeenBests.{IsUnskipped}
-use Rattle.step_core.specs.ViewSteps.{pointed}
+use Rattle.plan_words.proofs.Common.{PassState, with_view, BelongsTo-later, at_hand, if_hand, no_goals}
+use Rattle.step_core.proofs.Common.{IsUnskipped, pointed}
 use Rattle.step_core.specs.declared.views.Stage.TheVariants.{Pointed}
 use Rattle.kd_shared_tests.proofs.SteeredMarks.{IsNearestRecorded-found, SteersFrom-written}
 use Rattle.kd_shared_tests.proofs.support.write_from_nearest.Goals as goal

@@ -1,7 +1,5 @@
 use Rattle.std.proofs.Common.{◌<◌, length, sym, ◌∙◌, subst}
-use Rattle.plan_model.specs.Reports.ReportText.{path_to}
-use Rattle.plan_model.specs.Spaces.ClearPaths.{IsClearPath}
-use Rattle.grown_runs.specs.Runs.GrownRuns.{state_of_grown}
+use Rattle.grown_runs.proofs.Common.{path_to, IsClearPath, state_of_grown}
 use Rattle.path_tools.proofs.RunPaths.{long_path, clear_path}
 use Rattle.path_tools.proofs.smoothed_reports.report_along_smoothed.Goals as goal
 

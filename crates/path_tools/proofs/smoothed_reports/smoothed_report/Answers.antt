@@ -1,7 +1,6 @@
 use Rattle.std.proofs.Common.{Some, sym, ◌∙◌}
-use Rattle.plan_model.specs.Trees.BestNode.{goals_of}
+use Rattle.grown_runs.proofs.Common.{goals_of, state_of_grown}
 use Rattle.settle_report.proofs.GoalNodes.{IsPresent-best}
-use Rattle.grown_runs.specs.Runs.GrownRuns.{state_of_grown}
 use Rattle.path_tools.proofs.smoothed_reports.smoothed_report.Goals as goal
 
 pub report_along_smoothed-requires-clause-present : goal.report_along_smoothed-requires-clause-present

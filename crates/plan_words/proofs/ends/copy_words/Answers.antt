@@ -3,8 +3,7 @@ use Rattle.std.proofs.lemmas.List.{take_more, take_more_set}
 use Rattle.std.specs.Mem.Slots.{slots_counts, slots_items}
 use Rattle.plan_words.proofs.Ending.{read-there}
 use Rattle.plan_words.proofs.ends.copy_words.Goals as goal
-use Rattle.grown_runs.specs.Table.PlacesOfWords.{sizes_in}
-use Rattle.grown_runs.specs.Table.WordPlaces.{word_count}
+use Rattle.grown_runs.proofs.Common.{sizes_in, word_count}
 
 pub loop-place-preserved : goal.loop-place-preserved
 loop-place-preserved c =

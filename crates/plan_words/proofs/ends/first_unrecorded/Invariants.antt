@@ -1,7 +1,6 @@
 use Rattle.std.proofs.Common.{◌≢◌, ℕ, ◌<◌}
 use Rattle.plan_words.proofs.ends.first_unrecorded.Given as goal
-use Rattle.grown_runs.specs.Table.RunWords.{words_in}
-use Rattle.grown_runs.specs.Table.WordNames.Word.{RecordOf}
+use Rattle.grown_runs.proofs.Common.{words_in, RecordOf}
 
 -- the marks so far have records
 abbrev pub invariant-loop-mark : goal.invariant-loop-mark

@@ -14,11 +14,9 @@ use Rattle.plan_words.proofs.SeatSteps.{LooksOn-trans}
 use Rattle.plan_words.proofs.SeenChildren.{chain-HasSeenParent}
 use Rattle.plan_words.proofs.lowered_children.lower_chain.Goals as goal
 use Rattle.plan_words.proofs.lowered_children.lower_chain.Goals.{After-lower_child}
+use Rattle.grown_runs.proofs.Common.{AreMembers, siblings_from, TreeOf, best_word, cost_in}
 use Rattle.grown_runs.specs.declared.child_index.ChildIndex.{ChildIndex}
-use Rattle.grown_runs.specs.ChildChains.{AreMembers, siblings_from}
 use Rattle.step_core.specs.Views.{sees}
-use Rattle.grown_runs.specs.Table.WordNames.Word.{TreeOf}
-use Rattle.grown_runs.specs.Table.Words.{best_word, cost_in}
 
 pub first_child-child-requires : goal.first_child-child-requires
 first_child-child-requires c = omega (arith, c.requires.index.firsts, c.requires.low)

@@ -3,8 +3,7 @@ use Rattle.std.proofs.lemmas.List.{get_or_default, length-replicate, length-set}
 use Rattle.plan_words.proofs.CountedTurns.{AreCounted, AreCounted-blank, AreCounted-none, AreCounted-one, AreCounted-past, turns_of-few}
 use Rattle.plan_words.proofs.starts.count_turns.Goals as goal
 use Rattle.plan_words.proofs.starts.count_turns.Goals.{in-Some+then-entry-workers, in-Some+else-entry-workers, in_default}
-use Rattle.grown_runs.specs.Runs.GrownWords.{record_at}
-use Rattle.grown_runs.specs.Table.RunWords.{words_in}
+use Rattle.grown_runs.proofs.Common.{record_at, words_in}
 
 pub loop-mark-init : goal.loop-mark-init
 loop-mark-init c =

@@ -4,11 +4,7 @@ use Rattle.std.proofs.lemmas.Bool.{cases_eq}
 use Rattle.std.proofs.lemmas.List.{get_or-set_other, get_or-set_same, length-replicate, length-set}
 use Rattle.plan_words.proofs.Dealing.{HasParentsWithin-started}
 use Rattle.plan_words.proofs.starts.tree_words.Goals as goal
-use Rattle.grown_runs.specs.Runs.GrownRuns.{words_of_grown}
-use Rattle.grown_runs.specs.Table.PlacesOfWords.{sizes_in}
-use Rattle.grown_runs.specs.Table.RunWords.{words_in}
-use Rattle.grown_runs.specs.Table.WordNames.Word.{TreeOf}
-use Rattle.grown_runs.specs.Table.Words.{parent_in}
+use Rattle.grown_runs.proofs.Common.{words_of_grown, sizes_in, words_in, TreeOf, parent_in}
 
 pub set-requires-clause-parent : goal.set-requires-clause-parent
 set-requires-clause-parent c written =

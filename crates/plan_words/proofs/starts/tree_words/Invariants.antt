@@ -1,8 +1,7 @@
 use Rattle.std.proofs.Common.{◌≡◌, ℕ, ◌+◌, ◌<◌, List, length}
 use Rattle.std.specs.Prelude.{slice_index}
 use Rattle.plan_words.proofs.starts.tree_words.Given as goal
-use Rattle.grown_runs.specs.Runs.GrownRuns.{words_of_grown}
-use Rattle.grown_runs.specs.Table.WordNames.Word.{TreeOf}
+use Rattle.grown_runs.proofs.Common.{words_of_grown, TreeOf}
 
 -- the words of the numbers so far
 pub record AreRead (words : ℕ → ℕ) (nodes : ℕ) (node : ℕ) (pairs : List ℕ) : Type 0 where

@@ -1,6 +1,5 @@
 use Rattle.std.proofs.Common.{◌≡◌, ◌+◌, ◌≤◌, ◌^◌, suc, ap, arith, refl, subst, sym, true, ◌∙◌}
-use Rattle.plan_model.specs.Trees.BestNode.{lies_in_goals}
-use Rattle.plan_model.proofs.NewNodes.{IsPresent-stands}
+use Rattle.grown_runs.proofs.Common.{lies_in_goals, IsPresent-stands, TreeOf}
 use Rattle.plan_words.proofs.HandSteps.{at_hand}
 use Rattle.plan_words_tests.proofs.FirstRecords.{HangsFromStart-kept}
 use Rattle.plan_words_tests.proofs.HeldMarks.{HoldsMark-kept}
@@ -9,10 +8,7 @@ use Rattle.plan_words_tests.proofs.bests.post_own.Given.{Over}
 use Rattle.plan_words_tests.proofs.bests.post_own.Goals as goal
 use Rattle.plan_words_tests.proofs.bests.post_own.Goals.{After-tree-at}
 use Rattle.plan_words_tests.specs.HeldMarks.{HoldsMark}
-use Rattle.step_core.specs.SeenBests.{MayPost}
-use Rattle.step_core.specs.ViewTrees.{SeesNode}
-use Rattle.step_core.specs.Views.{sees, tree_seen}
-use Rattle.grown_runs.specs.Table.WordNames.Word.{TreeOf}
+use Rattle.step_core.proofs.Common.{MayPost, SeesNode, sees, tree_seen}
 use Rattle.step_core.specs.declared.views.Stage.TheVariants.{Counted}
 
 pub tree-at-requires-clause-seen_node : goal.tree-at-requires-clause-seen_node

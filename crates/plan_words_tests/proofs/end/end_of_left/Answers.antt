@@ -1,11 +1,9 @@
 use Rattle.std.proofs.Common.{◌<◌, ◌∙◌, length, ap, subst, sym, arith}
 use Rattle.std.specs.Prelude.{IfNone}
-use Rattle.plan_model.specs.Scenes.MarkPoints.{quota_of}
-use Rattle.plan_words.specs.Claims.{AllFull, KeepsHand}
-use Rattle.plan_words.specs.States.{PassState}
+use Rattle.grown_runs.proofs.Common.{quota_of, Counter}
+use Rattle.plan_words.proofs.Common.{AllFull, KeepsHand, PassState}
 use Rattle.plan_words_tests.proofs.end.end_of_left.Goals as goal
 use Rattle.step_core.specs.Views.{sees}
-use Rattle.grown_runs.specs.Table.WordNames.Word.{Counter}
 
 pub end_retired-requires-clause-none_left : goal.end_retired-requires-clause-none_left
 end_retired-requires-clause-none_left g c =

@@ -1,13 +1,7 @@
 use Rattle.std.proofs.Common.{◌≡◌, ap, sym, subst, ◌∙◌}
-use Rattle.plan_model.specs.Geometry.Bounds.{IsBounded}
-use Rattle.plan_model.specs.Spaces.Clearance.{Clear}
-use Rattle.plan_words.proofs.HandSteps.{at_hand}
-use Rattle.plan_words.proofs.NearestParents.{IsBounded-hand, MayHang-start}
-use Rattle.step_core.specs.SeenBests.{IsUnskipped}
-use Rattle.step_core.specs.Stages.{has_point}
-use Rattle.step_core.proofs.OneView.SeenViews.{SeesPoint-later}
-use Rattle.plan_words.specs.States.{with_view}
-use Rattle.step_core.specs.ViewSteps.{half, treed}
+use Rattle.grown_runs.proofs.Common.{IsBounded, Clear}
+use Rattle.plan_words.proofs.Common.{at_hand, IsBounded-hand, MayHang-start, with_view}
+use Rattle.step_core.proofs.Common.{IsUnskipped, has_point, SeesPoint-later, half, treed}
 use Rattle.step_core.specs.declared.views.Stage.TheVariants.{Half}
 use Rattle.plan_words_tests.proofs.FirstRecords.{HangsFromStart-hung, unskipped_later}
 use Rattle.plan_words_tests.proofs.link.hang_from_start.Goals as goal

@@ -1,12 +1,10 @@
 use Rattle.std.proofs.Common.{ap, false, refl, true}
-use Rattle.plan_words.proofs.GoingOn.{BelongsTo-later}
-use Rattle.plan_words.specs.States.{PassState}
+use Rattle.plan_words.proofs.Common.{BelongsTo-later, PassState}
 use Rattle.plan_words_tests.proofs.FirstRecords.{HangsFromStart-kept, HangsFromStart-linked}
 use Rattle.plan_words_tests.proofs.HeldMarks.{HoldsMark-kept, HoldsMark-linked}
 use Rattle.plan_words_tests.proofs.LinkedPlaces.{LeadsTo-below, of_hand}
 use Rattle.plan_words_tests.proofs.link.link_below.Goals as goal
-use Rattle.step_core.proofs.OneView.SeenViews.{HasSeenAtLeast-later}
-use Rattle.step_core.specs.ViewTrees.{LeadsTo}
+use Rattle.step_core.proofs.Common.{HasSeenAtLeast-later, LeadsTo}
 use Rattle.step_core.specs.declared.views.Stage.TheVariants.{Treed}
 
 pub link-requires-clause-belongs : goal.link-requires-clause-belongs

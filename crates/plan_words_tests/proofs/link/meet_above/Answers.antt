@@ -2,8 +2,7 @@ use Rattle.std.proofs.Common.{◌∙◌, ap, refl, true}
 use Rattle.plan_words_tests.proofs.FirstRecords.{HangsFromStart-kept}
 use Rattle.plan_words_tests.proofs.HeldMarks.{HoldsMark-kept}
 use Rattle.plan_words_tests.proofs.link.meet_above.Goals as goal
-use Rattle.step_core.proofs.OneView.LaterViews.{IsLater-trans}
-use Rattle.step_core.proofs.OneView.SeenViews.{HasSeenAtLeast-later}
+use Rattle.step_core.proofs.Common.{IsLater-trans, HasSeenAtLeast-later}
 use Rattle.step_core.specs.declared.views.Stage.TheVariants.{Treed}
 
 pub returns-clause-holds : goal.returns-clause-holds

@@ -1,10 +1,6 @@
 use Rattle.std.proofs.Common.{◌≡◌, ap, refl, ◌∙◌}
-use Rattle.plan_words.specs.States.{PassState, with_view}
-use Rattle.plan_words.proofs.GoingOn.{BelongsTo-later}
-use Rattle.plan_words.proofs.HandSteps.{at_hand}
-use Rattle.plan_words.proofs.KeptPairs.{if_hand}
-use Rattle.step_core.specs.SeenBests.{IsUnskipped}
-use Rattle.step_core.specs.ViewSteps.{pointed}
+use Rattle.plan_words.proofs.Common.{PassState, with_view, BelongsTo-later, at_hand, if_hand}
+use Rattle.step_core.proofs.Common.{IsUnskipped, pointed}
 use Rattle.step_core.specs.declared.views.Stage.TheVariants.{Pointed}
 use Rattle.plan_words_tests.proofs.FirstRecords.{unskipped_later}
 use Rattle.plan_words_tests.proofs.link.write_from_start.Given.{Over}

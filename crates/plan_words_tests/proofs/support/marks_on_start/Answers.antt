@@ -4,11 +4,7 @@ use Rattle.std.specs.Prelude.{IsTrue, replicate}
 use Rattle.std.specs.List.{list_all}
 use Rattle.std.proofs.lemmas.Bool.{and_from, le-leb}
 use Rattle.std.proofs.lemmas.List.{length-replicate}
-use Rattle.plan_model.specs.declared.geometry.Point.{Point}
-use Rattle.plan_model.specs.declared.limits.TheConstants.{MOST_MARKS}
-use Rattle.plan_model.specs.declared.scenes.Marks.TheVariants.{Listed}
-use Rattle.plan_model.specs.Scenes.Limits.{is_mark, is_plan}
-use Rattle.plan_model.specs.Vectors.Shapes.{at}
+use Rattle.grown_runs.proofs.Common.{Point, MOST_MARKS, Listed, is_mark, is_plan, at}
 use Rattle.plan_words_tests.proofs.support.marks_on_start.Goals as goal
 
 list_all-replicate : (n : ℕ) → list_all (is_mark 1) (replicate n (at 0 0)) ≡ true

@@ -1,6 +1,5 @@
 use Rattle.std.proofs.Common.{◌∙◌, ap, subst, sym}
-use Rattle.plan_model.specs.Runs.ClosedLaw.{mark_at}
-use Rattle.plan_model.specs.declared.records.Record.{Record}
+use Rattle.grown_runs.proofs.Common.{mark_at, Record}
 use Rattle.plan_words.proofs.PlainScenes.{no_goals}
 use Rattle.step_core.specs.ViewTrees.{SeesPoint}
 use Rattle.plan_words_tests.proofs.StartMarks.{may_finish-start}

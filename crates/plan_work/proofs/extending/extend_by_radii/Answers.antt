@@ -6,8 +6,7 @@ use Rattle.plan_work.proofs.SkippingMarks.{AloneNext-skipped, EndsAsSteered-load
 use Rattle.plan_work.proofs.SkippingMarks.{SeesTextbook-loaded, WasNotSkipped-loaded, WorksAlone-loaded}
 use Rattle.plan_work.proofs.SteeredOutcomes.{EndsAsSeen-steered}
 use Rattle.plan_work.proofs.extending.extend_by_radii.Goals as goal
-use Rattle.step_core.specs.SeenBests.{MayBeSkipped}
-use Rattle.step_core.specs.Stages.{MayBeRecorded, has_count, has_link}
+use Rattle.step_core.proofs.Common.{MayBeSkipped, MayBeRecorded, has_count, has_link}
 
 pub record_unplaced-requires-clause-stage : goal.record_unplaced-requires-clause-stage
 record_unplaced-requires-clause-stage g c =

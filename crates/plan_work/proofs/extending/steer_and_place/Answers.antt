@@ -1,28 +1,18 @@
 use Rattle.std.specs.Prelude.{IfSome}
 use Rattle.std.proofs.Common.{◌≡◌, false, refl, sym, ap, ◌∙◌, subst}
-use Rattle.plan_model.specs.Spaces.Clearance.{Clear}
-use Rattle.plan_model.specs.Trees.PointsByNumber.{point_of}
-use Rattle.plan_words.specs.States.{PassState, with_view}
+use Rattle.grown_runs.proofs.Common.{Clear, point_of, same_point-true, is_placed, Outcome, Blocked, Same}
+use Rattle.plan_words.proofs.Common.{PassState, with_view, HasWholeShare}
 use Rattle.plan_work.proofs.SkippedMarks.{IsUnskipped-kept}
-use Rattle.step_core.specs.SeenBests.{IsUnskipped}
-use Rattle.step_core.specs.ViewSteps.{pointed}
-use Rattle.step_core.specs.ViewTrees.{SeesPoint}
-use Rattle.step_core.specs.Views.{sees, setup_in, tree_seen}
+use Rattle.step_core.proofs.Common.{IsUnskipped, pointed, SeesPoint, sees, setup_in, tree_seen, MayBeRecorded, has_count, has_link}
 use Rattle.step_core.specs.declared.views.View.{View}
 use Rattle.kd_shared.proofs.Looking.{OnlyLooks-refl}
-use Rattle.plan_model.proofs.SamePoints.{same_point-true}
 use Rattle.plan_work.specs.ExtensionSteps.{IsFilledSince, KeepsRecords}
 use Rattle.plan_work.proofs.ExtendedMarks.{HandlesMark-after, HasLooked, HasLooked-looks, IsExtended-blocked, IsExtended-found, IsExtended-written}
 use Rattle.plan_work.proofs.ExtendedMarks.{IsFilledSince-written, IsSteered-found, KeepsRecords-written, MayPlace-written, MayRecord-blocked}
 use Rattle.plan_work.proofs.ExtendedMarks.{MayRecord-found, blocked_here}
-use Rattle.plan_model.specs.Runs.Outcomes.{is_placed}
-use Rattle.plan_model.specs.declared.records.Outcome.{Outcome}
-use Rattle.plan_model.specs.declared.records.Outcome.TheVariants.{Blocked, Same}
-use Rattle.step_core.specs.Stages.{MayBeRecorded, has_count, has_link}
 use Rattle.plan_work.proofs.HeldMarks.{if_held, of_held}
 use Rattle.plan_work.proofs.RecordedMarks.{HandlesMark-recorded}
 use Rattle.plan_work.proofs.extending.steer_and_place.Given.{Over}
-use Rattle.plan_words.specs.States.{HasWholeShare}
 use Rattle.plan_work.proofs.ExtendedAlone.{AloneNext-blocked, AloneNext-found, IsFilledWhole-written, IsSteeredWhole-written}
 use Rattle.plan_work.proofs.ExtendedAlone.{IsNotSkippedIn-written, SeesTextbook-written, WorksAlone-written}
 use Rattle.plan_work.proofs.WholeLists.{HasCounted-claimed, HasCounted-kept, HasWholeShare-kept, SeesButCount-all, SeesButCount-trans}

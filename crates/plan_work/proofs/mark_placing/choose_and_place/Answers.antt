@@ -1,6 +1,5 @@
 use Rattle.std.proofs.Common.{ap, subst, sym, ◌∙◌}
-use Rattle.plan_words.specs.SearchLists.{numbers_of, weighed}
-use Rattle.plan_words.specs.States.{PassState}
+use Rattle.plan_words.proofs.Common.{numbers_of, weighed, PassState}
 use Rattle.plan_work.proofs.HeldMarks.{if_held, of_held}
 use Rattle.plan_work.proofs.KeptRecords.{KeepsRecords-trans}
 use Rattle.plan_work.proofs.TriedMarks.{IsTried-placing, KeepsRecords-placing, reach_of-steered}

@@ -1,19 +1,14 @@
 use Rattle.std.proofs.Common.{sym, ap, ◌∙◌, subst, arith}
-use Rattle.plan_model.specs.Spaces.Clearance.{Clear}
-use Rattle.plan_model.specs.Spaces.ConfigurationSpace.{space_of}
-use Rattle.plan_words.specs.SearchLists.{numbers_of}
-use Rattle.plan_words.specs.States.{PassState}
+use Rattle.grown_runs.proofs.Common.{Clear, space_of, Count}
+use Rattle.plan_words.proofs.Common.{numbers_of, PassState}
 use Rattle.plan_work.proofs.HeldMarks.{holding, if_held, of_held}
 use Rattle.plan_work.proofs.HungMarks.{IsHung-written, KeepsRecords-written, MayHang-chosen, chosen_near}
 use Rattle.plan_work.proofs.KeptRecords.{KeepsRecords-anew, KeepsRecords-trans}
 use Rattle.plan_work.proofs.KeptSights.{point_still, present_still}
 use Rattle.plan_work.proofs.WholeLists.{IsBestHanging-before}
-use Rattle.step_core.specs.Views.{sees}
+use Rattle.step_core.proofs.Common.{sees, MayHang, setup_in}
 use Rattle.plan_work.proofs.mark_placing.choose_and_write.Goals as goal
 use Rattle.plan_work.specs.ExtensionSteps.{IsHung, IsPointed}
-use Rattle.step_core.specs.ViewTrees.{MayHang}
-use Rattle.step_core.specs.Views.{setup_in}
-use Rattle.grown_runs.specs.Table.WordNames.Word.{Count}
 use Rattle.step_core.specs.declared.views.SharedRun.{SharedRun}
 use Rattle.tree_rewire.specs.SeenCosts.{NamesTree}
 

@@ -1,30 +1,23 @@
 use Rattle.std.proofs.Common.{◌≡◌, suc, true, sym, ap, ◌∙◌, subst}
 use Rattle.std.specs.Prelude.{All, Contains}
-use Rattle.plan_model.specs.declared.records.Record.{Record}
+use Rattle.grown_runs.proofs.Common.{Record, space_of, FirstOf, near_new}
 use Rattle.plan_work.proofs.HeldMarks.{if_held, of_held}
 use Rattle.plan_work.proofs.KeptRecords.{KeepsRecords-anew, KeepsRecords-trans}
 use Rattle.plan_work.proofs.PlacedMarks.{IsPlacedAt-recorded, MayRecord-placed, MayRecord-same, Rewired-hand}
 use Rattle.plan_work.proofs.RecordedMarks.{HandlesMark-recorded}
-use Rattle.plan_model.specs.Spaces.ConfigurationSpace.{space_of}
 use Rattle.plan_work.proofs.PlacedAlone.{HasPostedGoals-tried, AloneNext-placed, AloneNext-same, Mirrors-tried}
 use Rattle.plan_work.proofs.WholeLists.{HasWholeShare-kept}
 use Rattle.plan_work.specs.WholeShares.{IsFilledWhole, IsTriedWhole}
 use Rattle.plan_work.proofs.mark_placing.place_rewire_and_record.Goals as goal
 use Rattle.plan_work.specs.ExtensionSteps.{EndsWritten, IsFilledSince, IsTried, hung_by, placed_hand}
-use Rattle.step_core.specs.Stages.{has_count}
-use Rattle.step_core.specs.ViewSteps.{pair_in_hand}
-use Rattle.step_core.specs.ViewTrees.{SeesPoint}
-use Rattle.step_core.specs.Views.{sees}
-use Rattle.grown_runs.specs.Table.WordNames.Word.{FirstOf}
+use Rattle.step_core.proofs.Common.{has_count, pair_in_hand, SeesPoint, sees, setup_in, tree_seen}
 use Rattle.tree_rewire.proofs.ChosenParents.{IsInReach-later}
 use Rattle.plan_work.proofs.PlacedHands.{HasPlaced-come}
 use Rattle.plan_work.proofs.SkippedMarks.{HasPostedHand-placed, has_count-placed}
 use Rattle.tree_rewire.proofs.SeenCosts.{stands_later}
 use Rattle.kd_shared.proofs.SortedNear.{near-increases}
 use Rattle.kd_shared.specs.declared.placing.Placing.TheVariants.{Placed}
-use Rattle.plan_model.specs.Runs.Textbook.{near_new}
 use Rattle.plan_words.specs.SearchLists.{numbers_of}
-use Rattle.step_core.specs.Views.{setup_in, tree_seen}
 use Rattle.tree_rewire.specs.FoundNodes.{AreOf, IsWeighed}
 use Rattle.tree_rewire.specs.Rewirings.{HasSpreadFalls}
 use Rattle.tree_rewire.proofs.FoundLists.{AreOf-weighed}

@@ -1,15 +1,8 @@
 use Rattle.std.proofs.Common.{◌≡◌, ◌+◌, ◌^◌, ◌≤◌, suc, ap, ◌∙◌, subst, sym, arith}
-use Rattle.plan_model.specs.Trees.BestNode.{lies_in_goals}
-use Rattle.plan_words.proofs.GoingOn.{BelongsTo-later}
-use Rattle.plan_words.proofs.Posting.{goal-at}
-use Rattle.plan_words.specs.States.{PassState, with_view}
+use Rattle.grown_runs.proofs.Common.{lies_in_goals, TreeOf, best_word, cost_in}
+use Rattle.plan_words.proofs.Common.{BelongsTo-later, goal-at, PassState, with_view}
 use Rattle.plan_work.proofs.mark_placing.post_goal_node.Goals as goal
-use Rattle.step_core.specs.SeenBests.{MayPost}
-use Rattle.step_core.specs.ViewSteps.{hand_with_post, with_best}
-use Rattle.step_core.specs.ViewTrees.{SeesPoint}
-use Rattle.step_core.specs.Views.{sees}
-use Rattle.grown_runs.specs.Table.WordNames.Word.{TreeOf}
-use Rattle.grown_runs.specs.Table.Words.{best_word, cost_in}
+use Rattle.step_core.proofs.Common.{MayPost, hand_with_post, with_best, SeesPoint, sees}
 use Rattle.step_core.specs.declared.views.SharedRun.{SharedRun}
 
 pub post-requires-clause-may : goal.post-requires-clause-may

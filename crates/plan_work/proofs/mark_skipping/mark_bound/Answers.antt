@@ -1,12 +1,7 @@
 use Rattle.std.proofs.Common.{List, length, sym, ap, ◌∙◌, subst, arith}
 use Rattle.std.specs.Prelude.{All}
-use Rattle.plan_model.specs.Geometry.Bounds.{IsBounded, IsBoundedBox}
-use Rattle.plan_model.specs.Runs.ClosedLaw.{mark_at}
+use Rattle.grown_runs.proofs.Common.{IsBounded, IsBoundedBox, mark_at, Goal, Point, Task, All-goals_bounded, IsBounded-scene_start, goals-some}
 use Rattle.plan_model.specs.Trees.GoalBounds.{bound_of}
-use Rattle.plan_model.specs.declared.geometry.Goal.{Goal}
-use Rattle.plan_model.specs.declared.geometry.Point.{Point}
-use Rattle.plan_model.specs.declared.tasks.Task.{Task}
-use Rattle.plan_model.proofs.SceneBounds.{All-goals_bounded, IsBounded-scene_start, goals-some}
 use Rattle.plan_work.proofs.mark_skipping.mark_bound.Goals as goal
 
 pub bounds-as_slice-k : goal.bounds-as_slice-k

@@ -1,7 +1,5 @@
 use Rattle.std.proofs.Common.{length, refl, sym, ap, ◌∙◌, subst, arith}
-use Rattle.plan_model.specs.Geometry.Bounds.{IsBounded}
-use Rattle.plan_model.specs.Runs.ClosedLaw.{mark_at}
-use Rattle.plan_model.specs.declared.tasks.Task.{Task}
+use Rattle.grown_runs.proofs.Common.{IsBounded, mark_at, Task}
 use Rattle.plan_words.proofs.GoingOn.{GoesOn-refl}
 use Rattle.plan_work.proofs.HeldMarks.{mark_low}
 use Rattle.plan_work.proofs.SkippingMarks.{IsUnskipped-above, IsUnskipped-none, IsUnskipped-plain, KeepsRecords-loaded, KeepsRecords-refl}

@@ -2,12 +2,10 @@ use Rattle.std.proofs.Common.{◌+◌, ap, arith, refl, subst, sym, take, ◌∙
 use Rattle.std.specs.Prelude.{Contains}
 use Rattle.std.proofs.lemmas.List.{length-map, take_all}
 use Rattle.std.proofs.lemmas.List.Elements.{All-contains_itself}
-use Rattle.plan_model.proofs.NewNodes.{IsPresent-stands, point_of-stands}
-use Rattle.plan_model.specs.Geometry.Plane.{squared_distance}
+use Rattle.grown_runs.proofs.Common.{IsPresent-stands, point_of-stands, squared_distance}
 use Rattle.plan_words.specs.SearchLists.{numbers_of}
 use Rattle.plan_words.specs.declared.spots.Found.{Found}
-use Rattle.step_core.proofs.OneView.LawfulSights.{IsBounded-seen}
-use Rattle.step_core.specs.Views.{tree_seen}
+use Rattle.step_core.proofs.Common.{IsBounded-seen, tree_seen}
 use Rattle.grown_runs.specs.declared.measured_nodes.MeasuredNode.{MeasuredNode}
 use Rattle.tree_rewire.proofs.ChosenParents.{near_read, take_read}
 use Rattle.tree_rewire.proofs.FoundLists.{All-at, number_read}

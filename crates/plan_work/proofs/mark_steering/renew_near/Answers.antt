@@ -1,14 +1,11 @@
 use Rattle.std.proofs.Common.{◌≡◌, sym, ap, ◌∙◌, subst, arith}
-use Rattle.plan_model.specs.Geometry.Radius.{class_of}
-use Rattle.plan_model.specs.Runs.Textbook.{unplaced_record}
-use Rattle.plan_model.specs.declared.records.Outcome.TheVariants.{Blocked}
+use Rattle.grown_runs.proofs.Common.{class_of, unplaced_record, Blocked, PointOf}
 use Rattle.plan_words.specs.States.{PassState}
 use Rattle.plan_work.proofs.FilledNear.{HasFilledNear-begun, own_count-some}
 use Rattle.plan_work.proofs.KeptRecords.{KeepsRecords-number, KeepsRecords-trans}
 use Rattle.plan_work.proofs.TriedMarks.{HasFilledNear-recounted}
 use Rattle.plan_work.proofs.WholeLists.{HasCounted-kept, HasWholeShare-kept, IsFilledWhole-still, SeesButCount-trans}
 use Rattle.plan_work.specs.WholeShares.{IsFilledWhole, SeesButCount}
-use Rattle.grown_runs.specs.Table.WordNames.Word.{PointOf}
 use Rattle.plan_work.proofs.mark_steering.renew_near.Goals as goal
 use Rattle.plan_work.specs.ExtensionSteps.{HasFilledNear}
 

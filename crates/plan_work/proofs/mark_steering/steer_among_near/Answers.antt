@@ -1,8 +1,6 @@
 use Rattle.std.proofs.Common.{◌≡◌, length, sym, ap, ◌∙◌, subst, arith}
 use Rattle.std.specs.Prelude.{IfSome, IsSome}
-use Rattle.plan_model.specs.Geometry.Bounds.{IsBounded}
-use Rattle.plan_model.specs.Runs.ClosedLaw.{mark_at}
-use Rattle.plan_model.specs.declared.tasks.Task.{Task}
+use Rattle.grown_runs.proofs.Common.{IsBounded, mark_at, Task}
 use Rattle.step_core.specs.declared.views.SharedRun.{SharedRun}
 use Rattle.plan_work.proofs.FilledNear.{HasFilledNear-begun}
 use Rattle.plan_work.proofs.HeldMarks.{mark_low, mark_shown}

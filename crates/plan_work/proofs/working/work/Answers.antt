@@ -1,8 +1,6 @@
 use Rattle.std.proofs.Common.{suc, inr, length, ap, ◌∙◌, subst, arith}
 use Rattle.std.specs.Prelude.{◌-◌, ◌<◌}
-use Rattle.plan_words.proofs.GoingOn.{GoesOn-more}
-use Rattle.plan_words.proofs.WholeClaims.{OwnsAllStrips-alone}
-use Rattle.plan_words.specs.States.{turn_of}
+use Rattle.plan_words.proofs.Common.{GoesOn-more, OwnsAllStrips-alone, turn_of}
 use Rattle.plan_work.proofs.LoneMarks.{HasHandled-all, HasHandled-mark}
 use Rattle.plan_work.proofs.WorkedMarks.{AllExtended-last, AllExtendedSo-mark, AllLoaded-earlier, HasWorked-mark, fewer_turns}
 use Rattle.plan_work.proofs.working.work.Goals as goal

@@ -1,6 +1,5 @@
 use Rattle.std.specs.Prelude.{◌≡◌, ℕ, ◌-◌, ◌≤◌, length}
-use Rattle.plan_words.specs.States.{turn_of}
-use Rattle.plan_words.proofs.GoingOn.{HasGoneOn}
+use Rattle.plan_words.proofs.Common.{turn_of, HasGoneOn}
 use Rattle.plan_work.proofs.working.work.Given as goal
 use Rattle.plan_work.proofs.WorkedMarks.{AllExtendedSo}
 use Rattle.plan_work.specs.OneWorker.{HasHandled}

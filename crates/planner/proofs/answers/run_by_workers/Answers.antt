@@ -1,12 +1,7 @@
 use Rattle.std.proofs.Common.{length, ap, sym, ◌∙◌, arith}
-use Rattle.plan_model.proofs.MarkBounds.{length-points_of_marks}
-use Rattle.plan_model.specs.Scenes.MarkPoints.{mark_points}
-use Rattle.plan_model.specs.Runs.Textbook.{setup_of}
-use Rattle.plan_model.specs.declared.tasks.Task.{Task}
-use Rattle.plan_model.proofs.SettledRuns.{IsOfTextbookRun-settled}
+use Rattle.grown_runs.proofs.Common.{length-points_of_marks, mark_points, setup_of, Task, IsOfTextbookRun-settled, state_of_grown}
 use Rattle.plan_work.proofs.TextbookEnds.{IsOfTextbook-new, IsOfTextbookRun-whole}
 use Rattle.planner.proofs.answers.run_by_workers.Goals as goal
-use Rattle.grown_runs.specs.Runs.GrownRuns.{state_of_grown}
 
 pub overflow_cast-limit : goal.overflow_cast-limit
 overflow_cast-limit g c =

@@ -2,9 +2,7 @@ use Rattle.std.proofs.Common.{◌≡◌, ◌+◌, ◌++◌, ◌∷◌, [], lengt
 use Rattle.std.proofs.lemmas.Iterator.Adapters.{YieldsList-from_vec}
 use Rattle.std.proofs.lemmas.Iterator.Consumers.{YieldsList-end, YieldsList-turn}
 use Rattle.std.proofs.lemmas.List.{length_push, get_or_default}
-use Rattle.plan_model.specs.declared.scenes.Scene.{Scene}
-use Rattle.plan_model.specs.Spaces.Clearance.{ClearAt}
-use Rattle.plan_model.specs.Spaces.ConfigurationSpace.{space_of}
+use Rattle.grown_runs.proofs.Common.{Scene, ClearAt, space_of}
 use Rattle.planner.specs.BatchSessions.{IsSessionOf}
 use Rattle.planner.proofs.Causes.{given_none, given_some}
 use Rattle.planner.proofs.GivenBatches.{clear_at_number, one_session_more}

@@ -1,5 +1,4 @@
-use Rattle.plan_model.proofs.SpanLaws.{BodyFits-from_in_room}
-use Rattle.plan_model.specs.Spaces.ConfigurationSpace.{space_of}
+use Rattle.grown_runs.proofs.Common.{BodyFits-from_in_room, space_of}
 use Rattle.planner.proofs.scene_tasks.task_with_marks.Goals as goal
 
 -- the start is in the room of configurations, so the body fits into the room

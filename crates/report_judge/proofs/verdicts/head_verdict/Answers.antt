@@ -1,10 +1,5 @@
 use Rattle.std.proofs.Common.{◌≡◌, suc, ◌+◌, ◌-◌, ◌≤◌, [], List, Option, length, arith, refl, sym, ap, ◌∙◌, subst}
-use Rattle.plan_model.specs.declared.limits.TheConstants.{MOST_NODES}
-use Rattle.plan_model.specs.declared.geometry.Goal.{Goal}
-use Rattle.plan_model.specs.declared.tasks.Task.{Task}
-use Rattle.plan_model.specs.declared.trees.Knot.{Knot}
-use Rattle.plan_model.specs.Trees.BestNode.{best_node}
-use Rattle.grown_runs.specs.Runs.PackedRuns.{state_of_lists}
+use Rattle.grown_runs.proofs.Common.{MOST_NODES, Goal, Task, Knot, best_node, state_of_lists}
 use Rattle.report_judge.specs.declared.verdicts.Verdict.TheVariants.{Broken}
 use Rattle.report_judge.specs.Laws.Judgements.{IsVerdict, bytes_of}
 use Rattle.report_judge.specs.Laws.ListedTrees.{IsSettledList}

@@ -1,8 +1,6 @@
 use Rattle.std.proofs.Common.{◌≡◌, ℕ, ◌<◌, ◌≤◌, List, Option, Some, None, length, arith, sym, ap, ◌∙◌, subst}
 use Rattle.std.specs.Prelude.{slice_index_or}
-use Rattle.plan_model.specs.declared.limits.TheConstants.{MOST_NODES}
-use Rattle.plan_model.specs.declared.trees.Knot.{Knot}
-use Rattle.plan_model.specs.Runs.Textbook.{setup_of}
+use Rattle.grown_runs.proofs.Common.{MOST_NODES, Knot, setup_of}
 use Rattle.report_judge.specs.declared.verdicts.Verdict.TheVariants.{Broken}
 use Rattle.report_judge.specs.Laws.ExactEdges.{FitsEdges}
 use Rattle.report_judge.specs.Laws.FirstBreaks.{IsFirstBreak, KeepsNode}

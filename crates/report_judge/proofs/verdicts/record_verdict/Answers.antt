@@ -1,9 +1,6 @@
 use Rattle.std.proofs.Common.{◌≡◌, ℕ, ◌≤◌, List, Option, Some, None, length, arith, sym, subst}
 use Rattle.std.specs.Prelude.{slice_get, slice_index_or}
-use Rattle.plan_model.specs.declared.limits.TheConstants.{MOST_MARKS}
-use Rattle.plan_model.specs.declared.records.Record.{Record}
-use Rattle.plan_model.specs.declared.trees.Knot.{Knot}
-use Rattle.grown_runs.specs.Runs.PackedRuns.{state_of_lists}
+use Rattle.grown_runs.proofs.Common.{MOST_MARKS, Record, Knot, state_of_lists}
 use Rattle.report_judge.specs.Laws.ExactEdges.{FitsEdges}
 use Rattle.report_judge.specs.Laws.FirstBreaks.{HasFewTurns, IsFirstBreak}
 use Rattle.report_judge.specs.Laws.Judgements.{IsVerdict, bytes_of}

@@ -1,7 +1,6 @@
 use Rattle.std.proofs.Common.{◌≡◌, ℕ, ◌≤◌, List, Option, Some, None, length, arith, sym, subst}
 use Rattle.std.specs.Prelude.{slice_get}
-use Rattle.plan_model.specs.declared.limits.TheConstants.{MOST_MARKS}
-use Rattle.plan_model.specs.declared.records.Record.{Record}
+use Rattle.grown_runs.proofs.Common.{MOST_MARKS, Record}
 use Rattle.report_judge.specs.Laws.FirstBreaks.{HasFewTurns, IsFirstBreak, KeepsTurn}
 use Rattle.report_judge.specs.Laws.Judgements.{IsVerdict, bytes_of}
 use Rattle.report_judge.specs.Texts.ReportLines.{extent_of}

@@ -1,9 +1,6 @@
 use Rattle.std.proofs.Common.{◌≡◌, ap, arith, length, subst}
 use Rattle.std.proofs.lemmas.List.{length-take, get_or_default}
-use Rattle.plan_model.specs.declared.geometry.Point.{Point}
-use Rattle.plan_model.specs.Runs.Textbook.{skipping_goals}
-use Rattle.plan_model.specs.Trees.NodeLists.{points_of}
-use Rattle.plan_model.proofs.MarkBounds.{length-marks, All-task_marks_within}
+use Rattle.grown_runs.proofs.Common.{Point, skipping_goals, points_of, length-marks, All-task_marks_within}
 use Rattle.seq_planner.specs.GoalLists.{AreGoalNodesBelow}
 use Rattle.seq_planner.proofs.GoalNodeLists.{AreGoalNodesBelow-grown}
 use Rattle.seq_planner.proofs.RunsSoFar.{IsRunSoFar-more}

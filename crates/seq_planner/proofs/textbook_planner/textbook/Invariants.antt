@@ -1,6 +1,5 @@
 use Rattle.std.proofs.Common.{length, take}
-use Rattle.plan_model.specs.Runs.Textbook.{skipping_goals}
-use Rattle.plan_model.specs.Trees.NodeLists.{points_of}
+use Rattle.grown_runs.proofs.Common.{skipping_goals, points_of}
 use Rattle.seq_planner.specs.GoalLists.{AreGoalNodesBelow}
 use Rattle.seq_planner.proofs.RunsSoFar.{IsRunSoFar}
 use Rattle.seq_planner.proofs.textbook_planner.textbook.Given as goal

@@ -1,9 +1,5 @@
 use Rattle.std.proofs.Common.{◌≡◌, ℕ, ◌+◌, ◌-◌, Some, arith, sym, ap, ◌∙◌}
-use Rattle.plan_model.specs.Trees.BestNode.{goals_of}
-use Rattle.plan_model.specs.Trees.LeastPairs.{lesser}
-use Rattle.plan_model.specs.Trees.TreeStates.{sum_in}
-use Rattle.plan_model.proofs.MarkBounds.{length-marks}
-use Rattle.grown_runs.specs.Runs.GrownRuns.{state_of_grown}
+use Rattle.grown_runs.proofs.Common.{goals_of, lesser, sum_in, length-marks, state_of_grown}
 use Rattle.settle_report.proofs.GoalNodes.{best_of, best_of-goal_node, best_of-other, best_of-all}
 use Rattle.settle_report.proofs.best_node.best.Goals as goal
 

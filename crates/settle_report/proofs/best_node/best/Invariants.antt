@@ -1,8 +1,6 @@
 use Rattle.std.proofs.Common.{◌≡◌, ◌+◌, ◌-◌}
 use Rattle.std.specs.Prelude.{IfSome}
-use Rattle.plan_model.specs.Trees.BestNode.{goals_of}
-use Rattle.plan_model.specs.Trees.PointsByNumber.{IsPresent}
-use Rattle.grown_runs.specs.Runs.GrownRuns.{state_of_grown}
+use Rattle.grown_runs.proofs.Common.{goals_of, IsPresent, state_of_grown}
 use Rattle.settle_report.proofs.GoalNodes.{best_of}
 use Rattle.settle_report.proofs.best_node.best.Given as goal
 

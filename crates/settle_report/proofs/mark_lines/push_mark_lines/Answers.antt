@@ -1,6 +1,5 @@
 use Rattle.std.proofs.Common.{◌++◌, string_bytes, sym, ap, ◌∙◌}
-use Rattle.plan_model.specs.Reports.ReportText.{mark_line_if_recorded}
-use Rattle.grown_runs.specs.Runs.GrownRuns.{state_of_grown}
+use Rattle.grown_runs.proofs.Common.{mark_line_if_recorded, state_of_grown}
 use Rattle.settle_report.proofs.NumberedLines.{lines-pushed}
 use Rattle.settle_report.proofs.mark_lines.push_mark_lines.Goals as goal
 

@@ -1,6 +1,5 @@
 use Rattle.std.proofs.Common.{◌≡◌, ◌++◌, string_bytes}
-use Rattle.plan_model.specs.Reports.ReportText.{mark_lines}
-use Rattle.grown_runs.specs.Runs.GrownRuns.{state_of_grown}
+use Rattle.grown_runs.proofs.Common.{mark_lines, state_of_grown}
 use Rattle.settle_report.proofs.mark_lines.push_mark_lines.Given as goal
 
 -- the lines of the marks so far

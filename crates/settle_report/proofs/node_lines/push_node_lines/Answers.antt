@@ -1,9 +1,6 @@
 use Rattle.std.proofs.Common.{◌≡◌, suc, ◌++◌, string_bytes, arith, ap, ◌∙◌}
 use Rattle.std.specs.List.{range_with_len, flat_map}
-use Rattle.plan_model.specs.Trees.PointsByNumber.{point_at}
-use Rattle.plan_model.specs.Reports.ReportText.{node_line_if_present}
-use Rattle.plan_model.proofs.MarkBounds.{length-marks}
-use Rattle.grown_runs.specs.Runs.GrownRuns.{state_of_grown}
+use Rattle.grown_runs.proofs.Common.{point_at, node_line_if_present, length-marks, state_of_grown}
 use Rattle.settle_report.proofs.NumberedLines.{lines-pushed}
 use Rattle.settle_report.proofs.node_lines.push_node_lines.Goals as goal
 

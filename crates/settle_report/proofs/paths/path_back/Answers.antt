@@ -1,6 +1,5 @@
 use Rattle.std.proofs.Common.{◌++◌, arith, sym, ap, ◌∙◌, append_assoc}
-use Rattle.plan_model.specs.Trees.PointsByNumber.{StandsAt}
-use Rattle.grown_runs.specs.Runs.GrownRuns.{state_of_grown}
+use Rattle.grown_runs.proofs.Common.{StandsAt, state_of_grown}
 use Rattle.settle_report.proofs.GrownPaths.{FallAlong-grown, steps_up, points_up-start}
 use Rattle.settle_report.proofs.paths.path_back.Goals as goal
 

@@ -1,6 +1,5 @@
 use Rattle.std.proofs.Common.{◌≡◌, ◌++◌}
-use Rattle.plan_model.specs.Trees.PointsByNumber.{IsPresent}
-use Rattle.grown_runs.specs.Runs.GrownRuns.{state_of_grown}
+use Rattle.grown_runs.proofs.Common.{IsPresent, state_of_grown}
 use Rattle.settle_report.proofs.GrownPaths.{points_up}
 use Rattle.settle_report.proofs.paths.path_back.Given as goal
 

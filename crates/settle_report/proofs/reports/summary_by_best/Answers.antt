@@ -1,5 +1,4 @@
-use Rattle.plan_model.specs.Trees.BestNode.{goals_of}
-use Rattle.grown_runs.specs.Runs.GrownRuns.{state_of_grown}
+use Rattle.grown_runs.proofs.Common.{goals_of, state_of_grown}
 use Rattle.settle_report.proofs.GoalNodes.{IsPresent-best}
 use Rattle.settle_report.proofs.reports.summary_by_best.Goals as goal
 

@@ -1,7 +1,5 @@
 use Rattle.std.proofs.Common.{sym, ◌∙◌}
-use Rattle.grown_runs.specs.Runs.GrownRuns.{words_of_grown}
-use Rattle.grown_runs.specs.Runs.GrownWords.{sizes_of}
-use Rattle.grown_runs.proofs.Runs.GrownPoints.{IsBounded-stands}
+use Rattle.grown_runs.proofs.Common.{words_of_grown, sizes_of, IsBounded-stands}
 use Rattle.settle_report.proofs.settling.is_tight.Goals as goal
 
 pub costs_less_through-requires-clause-from : goal.costs_less_through-requires-clause-from

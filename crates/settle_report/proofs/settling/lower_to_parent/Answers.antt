@@ -1,11 +1,6 @@
 use Rattle.std.proofs.Common.{arith, ap, sym, ◌∙◌, subst}
 use Rattle.std.specs.Prelude.{is_some}
-use Rattle.plan_model.specs.Geometry.Cost.{cost_of}
-use Rattle.plan_model.specs.Trees.PointsByNumber.{IsPresent, point_of}
-use Rattle.plan_model.proofs.NewNodes.{point_of-stands}
-use Rattle.grown_runs.specs.Runs.GrownRuns.{state_of_grown, words_of_grown}
-use Rattle.grown_runs.specs.Runs.GrownWords.{sizes_of}
-use Rattle.grown_runs.proofs.Runs.GrownPoints.{IsBounded-stands}
+use Rattle.grown_runs.proofs.Common.{cost_of, IsPresent, point_of, point_of-stands, state_of_grown, words_of_grown, sizes_of, IsBounded-stands}
 use Rattle.settle_report.proofs.HeldOrders.{edge-held, parent-held}
 use Rattle.settle_report.proofs.settling.lower_to_parent.Goals as goal
 

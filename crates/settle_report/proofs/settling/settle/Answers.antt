@@ -1,7 +1,5 @@
 use Rattle.std.proofs.Common.{◌≡◌, suc, ◌+◌, true, false, replicate, set, arith, sym, ap, ◌∙◌, subst}
-use Rattle.plan_model.specs.Trees.PointsByNumber.{IsPresent}
-use Rattle.plan_model.specs.Runs.Textbook.{setup_of}
-use Rattle.grown_runs.specs.Runs.GrownRuns.{state_of_grown, words_of_grown}
+use Rattle.grown_runs.proofs.Common.{IsPresent, setup_of, state_of_grown, words_of_grown}
 use Rattle.settle_report.specs.SettledMarks.{MarksSettled}
 use Rattle.settle_report.proofs.HeldOrders.{sum-held}
 use Rattle.settle_report.proofs.SettlingSteps.{GrowsInto-cheaper, MarksSettled-start, sum_in-changed}

@@ -1,6 +1,5 @@
 use Rattle.std.proofs.Common.{◌<◌, length, set, true, sym, subst, arith}
-use Rattle.plan_model.specs.Runs.Textbook.{setup_of}
-use Rattle.grown_runs.specs.Runs.GrownRuns.{state_of_grown}
+use Rattle.grown_runs.proofs.Common.{setup_of, state_of_grown}
 use Rattle.settle_report.specs.SettledMarks.{MarksSettled}
 use Rattle.settle_report.proofs.HeldOrders.{number-grown}
 use Rattle.settle_report.proofs.SettlingSteps.{MarksSettled-more}

@@ -1,8 +1,6 @@
 -- The run is closed.
 use Rattle.std.proofs.Common.{subst}
-use Rattle.plan_model.specs.Spaces.Clearance.{ClearAt}
-use Rattle.plan_model.specs.Runs.Textbook.{setup_of}
-use Rattle.grown_runs.proofs.Runs.ListedRuns.{IsClosed-same_lists}
+use Rattle.grown_runs.proofs.Common.{ClearAt, setup_of, IsClosed-same_lists}
 use Rattle.settle_report_tests.proofs.UnsettledRun.{IsClosed-unsettled, rrt_setup, unsettled_knots, unsettled_marks, unsettled_records}
 use Rattle.settle_report_tests.proofs.support.unsettled_run.Goals as goal
 

@@ -1,7 +1,6 @@
 use Rattle.std.proofs.Common.{ap, ◌∙◌, arith}
 use Rattle.step_core.specs.Stages.{has_first}
-use Rattle.grown_runs.specs.Table.Words.{cost_in}
-use Rattle.grown_runs.proofs.Table.PackedWords.{cost_in-tree_word}
+use Rattle.grown_runs.proofs.Common.{cost_in, cost_in-tree_word}
 use Rattle.step_core.proofs.world_laws.best_words_are_least.Goals as goal
 
 pub returns-clause-placed : goal.returns-clause-placed

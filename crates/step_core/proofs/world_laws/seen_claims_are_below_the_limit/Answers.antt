@@ -1,9 +1,8 @@
 use Rattle.std.proofs.Common.{◌/◌, ◌%◌, ◌<◌, arith}
 use Rattle.std.proofs.lemmas.Bool.{ltb-true}
 use Rattle.std.proofs.lemmas.Nat.{div-add-mod'}
-use Rattle.plan_model.proofs.QuotaLaws.{IsCutAt-quota}
+use Rattle.grown_runs.proofs.Common.{IsCutAt-quota, Counter}
 use Rattle.step_core.specs.Views.{sees}
-use Rattle.grown_runs.specs.Table.WordNames.Word.{Counter}
 use Rattle.step_core.proofs.world_laws.seen_claims_are_below_the_limit.Goals as goal
 
 pub returns : goal.returns

@@ -1,8 +1,6 @@
 -- The words of a closed run are the cleared ones.
 use Rattle.std.proofs.Common.{sym, subst}
-use Rattle.grown_runs.specs.Runs.GrownWords.{HoldRun}
-use Rattle.grown_runs.specs.Table.RunWords.{words_in}
-use Rattle.grown_runs.proofs.Table.ClearedWords.{cleared-blank}
+use Rattle.grown_runs.proofs.Common.{HoldRun, words_in, cleared-blank}
 use Rattle.step_core_tests.proofs.grown.gives_its_words_and_takes_them_back.Goals as goal
 
 pub from_words-grown-requires-clause-run : goal.from_words-grown-requires-clause-run

@@ -1,20 +1,9 @@
 -- The run is the textbook run in which node 2 gets a cheaper way through node 3.
 use Rattle.std.proofs.Common.{◌≡◌, ℕ, zero, suc, Option, Some, None, List, [], ◌∷◌, refl, sym, subst}
 use Rattle.std.specs.Prelude.{slice_index_or}
-use Rattle.plan_model.specs.declared.trees.Knot.{Knot}
-use Rattle.plan_model.specs.Spaces.Clearance.{ClearAt}
-use Rattle.plan_model.specs.Runs.ClosedLaw.{IsClosed}
-use Rattle.plan_model.specs.Trees.PointsByNumber.{IsPresent}
-use Rattle.plan_model.specs.Runs.Textbook.{setup_of}
-use Rattle.plan_model.specs.Trees.NodeLists.{points_of, sum_of}
-use Rattle.plan_model.specs.Trees.TreeStates.{AreSameRuns, state_of}
-use Rattle.plan_model.specs.Vectors.Runs.{marks_to_rewire, open_setup, rewired_records, rewired_tree}
-use Rattle.plan_model.specs.Vectors.Shapes.{at}
-use Rattle.plan_model.proofs.OpenRoomMarks.{cost_2500}
-use Rattle.plan_model.proofs.RewiredRun.{rewired_run, rewired_sum}
-use Rattle.plan_model.proofs.SameTrees.{IsClosed-of_textbook}
-use Rattle.grown_runs.specs.Runs.PackedRuns.{kept_cost_of, state_of_lists}
-use Rattle.grown_runs.proofs.Runs.ListedRuns.{IsClosed-same_lists}
+use Rattle.grown_runs.proofs.Common.{Knot, ClearAt, IsClosed, IsPresent, setup_of, points_of, sum_of, AreSameRuns, state_of, marks_to_rewire, open_setup}
+use Rattle.grown_runs.proofs.Common.{rewired_records, rewired_tree, at, cost_2500, rewired_run, rewired_sum, IsClosed-of_textbook, kept_cost_of, state_of_lists}
+use Rattle.grown_runs.proofs.Common.{IsClosed-same_lists}
 use Rattle.step_core_tests.proofs.grown.rewired.Goals as goal
 
 abbrev knot : ℕ → ℕ → ℕ → ℕ → Option Knot

@@ -1,26 +1,8 @@
 -- The run is the textbook run of two marks of which none is placed.
 use Rattle.std.proofs.Common.{◌≡◌, ℕ, zero, suc, Option, Some, None, List, [], ◌∷◌, arith, refl, subst}
-use Rattle.plan_model.specs.declared.geometry.Point.{Point}
-use Rattle.plan_model.specs.declared.records.Record.{Record}
-use Rattle.plan_model.specs.declared.trees.Knot.{Knot}
-use Rattle.plan_model.specs.Spaces.Clearance.{Clear, ClearAt}
-use Rattle.plan_model.specs.Runs.ClosedLaw.{IsClosed}
-use Rattle.plan_model.specs.Spaces.EmptyRooms.{empty_room}
-use Rattle.plan_model.specs.Trees.LeastPairs.{IsNotAbove}
-use Rattle.plan_model.specs.Trees.Nearness.{distance_to, IsNearest}
-use Rattle.plan_model.specs.Trees.PointsByNumber.{IsFree, IsPresent}
-use Rattle.plan_model.specs.Runs.Textbook.{Nodes, Setup, IsTextbookRun, blocked_record, same_record, setup_of}
-use Rattle.plan_model.specs.Trees.NodeLists.{points_of}
-use Rattle.plan_model.specs.Trees.TreeStates.{AreSameRuns, state_of}
-use Rattle.plan_model.specs.Vectors.Runs.{node}
-use Rattle.plan_model.specs.Vectors.Shapes.{at}
-use Rattle.plan_model.proofs.EmptyRoomClearance.{AreInRoom-from_clear}
-use Rattle.plan_model.proofs.GoalNodes.{no_goal_node}
-use Rattle.plan_model.proofs.LeastPairLaws.{IsNotAbove-refl}
-use Rattle.plan_model.proofs.OpenRoomMarks.{same_y}
-use Rattle.plan_model.proofs.SameTrees.{IsClosed-of_textbook}
-use Rattle.grown_runs.specs.Runs.PackedRuns.{state_of_lists}
-use Rattle.grown_runs.proofs.Runs.ListedRuns.{IsClosed-same_lists}
+use Rattle.grown_runs.proofs.Common.{Point, Record, Knot, Clear, ClearAt, IsClosed, empty_room, IsNotAbove, distance_to, IsNearest, IsFree, IsPresent, Nodes}
+use Rattle.grown_runs.proofs.Common.{Setup, IsTextbookRun, blocked_record, same_record, setup_of, points_of, AreSameRuns, state_of, node, at}
+use Rattle.grown_runs.proofs.Common.{AreInRoom-from_clear, no_goal_node, IsNotAbove-refl, same_y, IsClosed-of_textbook, state_of_lists, IsClosed-same_lists}
 use Rattle.step_core_tests.proofs.grown.stopped.Goals as goal
 
 abbrev low_setup : Setup

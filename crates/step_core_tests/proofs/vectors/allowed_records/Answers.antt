@@ -1,35 +1,14 @@
 use Rattle.std.proofs.Common.{◌≡◌, ℕ, zero, suc, ◌+◌, ◌≤◌, ◌^◌, true, false, None, length, arith, refl, sym, ap, ◌∙◌}
 use Rattle.std.specs.Prelude.{IsTrue}
-use Rattle.plan_model.specs.Geometry.Cost.{cost_of}
+use Rattle.grown_runs.proofs.Common.{cost_of, mark_at, is_earlier_record, unplaced_record, Clear, empty_room, IsNotAbove, distance_to, point_of, placed_by, at}
+use Rattle.grown_runs.proofs.Common.{Blocked, Same, Record, AreInRoom-from_clear, Clear-empty_room, IsNotAbove-refl, same_x, root_ceiling-from_squares}
+use Rattle.grown_runs.proofs.Common.{record_at, TreeOf, cost_in, record_at-past}
 use Rattle.plan_model.specs.Geometry.Roots.{root_ceiling}
-use Rattle.plan_model.specs.Runs.ClosedLaw.{mark_at}
-use Rattle.plan_model.specs.Runs.RecordLaw.{is_earlier_record}
-use Rattle.plan_model.specs.Runs.Textbook.{unplaced_record}
-use Rattle.plan_model.specs.Spaces.Clearance.{Clear}
-use Rattle.plan_model.specs.Spaces.EmptyRooms.{empty_room}
-use Rattle.plan_model.specs.Trees.LeastPairs.{IsNotAbove}
-use Rattle.plan_model.specs.Trees.Nearness.{distance_to}
-use Rattle.plan_model.specs.Trees.PointsByNumber.{point_of}
-use Rattle.plan_model.specs.Vectors.Overlaps.{placed_by}
-use Rattle.plan_model.specs.Vectors.Shapes.{at}
-use Rattle.plan_model.specs.declared.records.Outcome.TheVariants.{Blocked, Same}
-use Rattle.plan_model.specs.declared.records.Record.{Record}
-use Rattle.plan_model.proofs.EmptyRoomClearance.{AreInRoom-from_clear, Clear-empty_room}
-use Rattle.plan_model.proofs.LeastPairLaws.{IsNotAbove-refl}
-use Rattle.plan_model.proofs.OpenRoomMarks.{same_x}
-use Rattle.plan_model.proofs.RootLaws.{root_ceiling-from_squares}
-use Rattle.grown_runs.specs.Runs.GrownWords.{record_at}
-use Rattle.step_core.specs.SeenRecords.{IsOwnNeighbour, is_own_node, own_first_cost}
-use Rattle.step_core.specs.ViewSteps.{new_hand}
-use Rattle.step_core.specs.ViewTrees.{SeesPoint}
-use Rattle.step_core.specs.Views.{run_sizes, sees, setup_in, tree_seen}
-use Rattle.grown_runs.specs.Table.WordNames.Word.{TreeOf}
+use Rattle.step_core.proofs.Common.{IsOwnNeighbour, is_own_node, own_first_cost, new_hand, SeesPoint, run_sizes, sees, setup_in, tree_seen}
 use Rattle.grown_runs.specs.Table.WordPlaces.{word_at}
-use Rattle.grown_runs.specs.Table.Words.{cost_in}
 use Rattle.step_core.specs.declared.views.Hand.{Hand}
 use Rattle.step_core.specs.declared.views.Stage.TheVariants.{Counted}
 use Rattle.step_core.specs.declared.views.View.{View}
-use Rattle.grown_runs.proofs.Runs.GrownPoints.{record_at-past}
 use Rattle.step_core_tests.specs.SmallRecords.{claimer_at_start, claimer_in, counter_of}
 use Rattle.step_core_tests.specs.SmallWorlds.{hand_at, small_run}
 use Rattle.step_core_tests.proofs.vectors.allowed_records.Goals as goal

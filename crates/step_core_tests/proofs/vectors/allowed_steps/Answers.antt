@@ -1,17 +1,11 @@
 use Rattle.std.proofs.Common.{◌≡◌, true, arith, refl, ap, inr}
 use Rattle.std.specs.Prelude.{◌≢◌}
+use Rattle.grown_runs.proofs.Common.{IsAllowedEdge, mark_bound, begins, goes_on, at, Point, Clear-empty_room, root_ceiling-from_squares, root_ceiling-zero}
+use Rattle.grown_runs.proofs.Common.{best_word, no_best}
 use Rattle.plan_model.specs.Geometry.Roots.{root_ceiling}
-use Rattle.plan_model.specs.Runs.OrderLaw.{IsAllowedEdge}
-use Rattle.plan_model.specs.Runs.Textbook.{mark_bound}
-use Rattle.plan_model.specs.Seen.Ways.IsOnWay.{begins, goes_on}
 use Rattle.plan_model.specs.Trees.GoalBounds.{bound_of}
-use Rattle.plan_model.specs.Vectors.Shapes.{at}
-use Rattle.plan_model.specs.declared.geometry.Point.{Point}
-use Rattle.plan_model.proofs.EmptyRoomClearance.{Clear-empty_room}
-use Rattle.plan_model.proofs.RootLaws.{root_ceiling-from_squares, root_ceiling-zero}
 use Rattle.step_core.specs.Views.{setup_in}
 use Rattle.grown_runs.specs.Table.WordPlaces.{word_at}
-use Rattle.grown_runs.specs.Table.Words.{best_word, no_best}
 use Rattle.step_core_tests.specs.SmallWorlds.{goal_run, small_run}
 use Rattle.step_core_tests.proofs.vectors.allowed_steps.Goals as goal
 

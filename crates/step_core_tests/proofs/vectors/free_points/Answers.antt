@@ -1,17 +1,9 @@
 use Rattle.std.proofs.Common.{◌≡◌, ℕ, ◌≤◌, true, List, None, arith, sym, ap, ◌∙◌, inl, inr}
 use Rattle.std.specs.Prelude.{◌⊎◌, if◌then◌else◌}
-use Rattle.plan_model.specs.Trees.PointsByNumber.{StandsAt}
-use Rattle.plan_model.specs.Vectors.Shapes.{at}
-use Rattle.grown_runs.specs.Runs.GrownWords.{child_of_word}
-use Rattle.step_core.specs.SharedWords.{linked_points}
-use Rattle.step_core.specs.Views.{run_sizes}
-use Rattle.grown_runs.specs.Table.WordNames.{Words}
-use Rattle.grown_runs.specs.Table.WordNames.Word.{ChildOf, Count, PointOf}
-use Rattle.grown_runs.specs.Table.WordPlaces.{Sizes, word_at}
-use Rattle.grown_runs.specs.Table.Words.{point_of_word, point_word}
-use Rattle.step_core.specs.Worlds.{IsWorld}
+use Rattle.grown_runs.proofs.Common.{StandsAt, at, child_of_word, Words, ChildOf, Count, PointOf, Sizes, point_of_word, point_word}
+use Rattle.step_core.proofs.Common.{linked_points, run_sizes, IsWorld, linked-present, point_at-linked}
+use Rattle.grown_runs.specs.Table.WordPlaces.{word_at}
 use Rattle.step_core.specs.declared.views.View.{View}
-use Rattle.step_core.proofs.Parts.LinkedStates.{linked-present, point_at-linked}
 use Rattle.step_core_tests.specs.SmallWorlds.{small_run}
 use Rattle.step_core_tests.proofs.vectors.free_points.Goals as goal
 

@@ -1,8 +1,6 @@
 use Rattle.std.proofs.Common.{◌≡◌, ℕ, ◌<◌, ◌≤◌, true, false, Some, None, arith, refl, inl, inr}
 use Rattle.std.specs.Prelude.{◌⊎◌}
-use Rattle.plan_model.specs.Vectors.Overlaps.{placed_by}
-use Rattle.plan_model.specs.Vectors.Shapes.{at}
-use Rattle.plan_model.proofs.OpenRoomMarks.{same_x}
+use Rattle.grown_runs.proofs.Common.{placed_by, at, same_x}
 use Rattle.grown_runs.specs.Table.WordPlaces.{word_at}
 use Rattle.step_core_tests.proofs.vectors.last_views.Goals as goal
 

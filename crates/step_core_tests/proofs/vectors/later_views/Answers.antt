@@ -1,14 +1,10 @@
 use Rattle.std.proofs.Common.{◌≡◌, ℕ, zero, suc, ◌<◌, ◌≤◌, true, false, arith, refl, ap, inl, inr}
 use Rattle.std.specs.Prelude.{◌≢◌, ◌⊎◌}
 use Rattle.step_core.specs.Views.{last_look, last_zero, run_sizes, sees}
-use Rattle.grown_runs.specs.Table.WordKinds.{kind_of}
-use Rattle.grown_runs.specs.Table.WordKinds.WordKind.{Apart}
-use Rattle.grown_runs.specs.Table.WordNames.{Word, WritesWord}
-use Rattle.grown_runs.specs.Table.WordNames.Word.{Best, ChildOf, Count, Counter, FirstOf, PointOf, RecordOf, TreeOf}
+use Rattle.grown_runs.proofs.Common.{kind_of, Apart, Word, WritesWord, Best, ChildOf, Count, Counter, FirstOf, PointOf, RecordOf, TreeOf, AreBehind-refl}
+use Rattle.grown_runs.proofs.Common.{WritesWord-set}
 use Rattle.grown_runs.specs.Table.WordPlaces.{word_at}
 use Rattle.step_core.specs.declared.views.SharedRun.{SharedRun}
-use Rattle.grown_runs.proofs.Table.WordKinds.{AreBehind-refl}
-use Rattle.grown_runs.proofs.Table.WordReads.{WritesWord-set}
 use Rattle.step_core_tests.specs.SmallViews.{waited}
 use Rattle.step_core_tests.specs.SmallWorlds.{claimed_table, idle, never, small_run}
 use Rattle.step_core_tests.proofs.vectors.later_views.Goals as goal

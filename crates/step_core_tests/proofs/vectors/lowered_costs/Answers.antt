@@ -1,7 +1,6 @@
 use Rattle.std.proofs.Common.{◌≡◌, ℕ, zero, suc, true, false, Some, None, [], ◌∷◌, arith, refl, ap}
 use Rattle.std.specs.Prelude.{◌≢◌, is_some}
-use Rattle.plan_model.specs.Trees.PointsByNumber.{point_at}
-use Rattle.plan_model.specs.Vectors.Overlaps.{placed_by}
+use Rattle.grown_runs.proofs.Common.{point_at, placed_by}
 use Rattle.step_core_tests.specs.SmallRecords.{dearer, entries, tree_by, two_nodes}
 use Rattle.step_core_tests.proofs.vectors.lowered_costs.Goals as goal
 

@@ -1,16 +1,10 @@
 use Rattle.std.proofs.Common.{◌≡◌, ℕ, ◌+◌, ◌<◌, ◌≤◌, ◌^◌, true, false, Some, None, arith, refl, sym, ap, subst, inl, inr}
 use Rattle.std.specs.Prelude.{◌⊎◌}
 use Rattle.std.proofs.lemmas.Option.{same_Some}
+use Rattle.grown_runs.proofs.Common.{steered, at, Point, same_x, root_ceiling-from_squares, ChildOf, best_word}
 use Rattle.plan_model.specs.Geometry.Roots.{root_ceiling}
-use Rattle.plan_model.specs.Geometry.Steering.{steered}
-use Rattle.plan_model.specs.Vectors.Shapes.{at}
-use Rattle.plan_model.specs.declared.geometry.Point.{Point}
-use Rattle.plan_model.proofs.OpenRoomMarks.{same_x}
-use Rattle.plan_model.proofs.RootLaws.{root_ceiling-from_squares}
 use Rattle.step_core.specs.ViewSteps.{new_hand}
-use Rattle.grown_runs.specs.Table.WordNames.Word.{ChildOf}
 use Rattle.grown_runs.specs.Table.WordPlaces.{word_at}
-use Rattle.grown_runs.specs.Table.Words.{best_word}
 use Rattle.step_core.specs.declared.views.Stage.TheVariants.{Half, Linked, Pointed, Treed}
 use Rattle.step_core_tests.specs.SmallWorlds.{hand_at, took_best}
 use Rattle.step_core_tests.proofs.vectors.unlawful_views.Goals as goal

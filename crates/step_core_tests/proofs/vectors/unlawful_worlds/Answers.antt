@@ -2,17 +2,10 @@ use Rattle.std.proofs.Common.{◌≡◌, ℕ, zero, suc, ◌+◌, ◌<◌, ◌�
 use Rattle.std.specs.Prelude.{◌⊎◌}
 use mathlib.Core.Option.{some, some-injective, some-ne-none}
 use lib.ListN.{get_elem?}
+use Rattle.grown_runs.proofs.Common.{placed_by, at, root_ceiling-from_squares, Word, Words, ChildOf, Count, Counter, best_word, no_best, point_word, tree_word}
 use Rattle.plan_model.specs.Geometry.Roots.{root_ceiling}
-use Rattle.plan_model.specs.Vectors.Overlaps.{placed_by}
-use Rattle.plan_model.specs.Vectors.Shapes.{at}
-use Rattle.plan_model.proofs.RootLaws.{root_ceiling-from_squares}
-use Rattle.step_core.specs.ViewSteps.{new_hand}
-use Rattle.step_core.specs.Views.{IsViewOf, sees, share, spent}
-use Rattle.grown_runs.specs.Table.WordNames.{Word, Words}
-use Rattle.grown_runs.specs.Table.WordNames.Word.{ChildOf, Count, Counter}
+use Rattle.step_core.proofs.Common.{new_hand, IsViewOf, sees, share, spent, HasMade, IsRecordWord, SomeSharer}
 use Rattle.grown_runs.specs.Table.WordPlaces.{word_at}
-use Rattle.grown_runs.specs.Table.Words.{best_word, no_best, point_word, tree_word}
-use Rattle.step_core.specs.Worlds.{HasMade, IsRecordWord, SomeSharer}
 use Rattle.step_core.specs.declared.views.SharedRun.{SharedRun}
 use Rattle.step_core.specs.declared.views.Stage.TheVariants.{Half, Linked, Pointed, Posted, Treed}
 use Rattle.step_core.specs.declared.views.View.{View}

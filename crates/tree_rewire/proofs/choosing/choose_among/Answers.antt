@@ -1,14 +1,8 @@
 use Rattle.std.proofs.Common.{◌∷◌, List, ℕ, ap, arith, subst, sym, ◌∙◌}
 use Rattle.std.proofs.lemmas.List.Elements.{All-cons, All-tail}
-use Rattle.plan_model.specs.Trees.LeastPairs.{IsFirstLeast}
-use Rattle.plan_model.specs.Trees.OpenNodes.{IsOpenTo}
-use Rattle.plan_model.specs.Spaces.Clearance.{Clear}
-use Rattle.plan_model.specs.Trees.PointsByNumber.{point_of}
-use Rattle.plan_model.specs.declared.configuration_spaces.ConfigurationSpace.{ConfigurationSpace}
-use Rattle.plan_words.proofs.GoingOn.{GoesOn-trans}
-use Rattle.plan_words.specs.States.{PassState, with_lists, with_view}
-use Rattle.step_core.specs.Views.{tree_seen}
-use Rattle.step_core.proofs.OneView.SeenViews.{IsPresent-later}
+use Rattle.grown_runs.proofs.Common.{IsFirstLeast, IsOpenTo, Clear, point_of, ConfigurationSpace}
+use Rattle.plan_words.proofs.Common.{GoesOn-trans, PassState, with_lists, with_view}
+use Rattle.step_core.proofs.Common.{tree_seen, IsPresent-later}
 use Rattle.swept_check.proofs.BoundedSegments.{IsBounded-clear_in_scene}
 use Rattle.tree_rewire.specs.NearNodes.{AreKnown, IsClearTo, StandOn, nodes_on, weighed_on}
 use Rattle.tree_rewire.specs.SeenCosts.{IsInReach, NamesNothing, NamesTree, SeesAnew, SeesPair, seen_cost_through}

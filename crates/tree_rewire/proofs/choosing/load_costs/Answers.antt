@@ -2,12 +2,9 @@ use Rattle.std.proofs.Common.{◌≡◌, Some, take, ap, arith, refl, subst, sym
 use Rattle.std.specs.Prelude.{All, slice_get}
 use Rattle.std.proofs.lemmas.List.{take_all}
 use Rattle.std.proofs.lemmas.List.Elements.{All-cons, All-nil}
-use Rattle.plan_model.specs.Trees.PointsByNumber.{IsPresent}
+use Rattle.grown_runs.proofs.Common.{IsPresent, TreeOf}
 use Rattle.plan_words.specs.States.{PassState}
-use Rattle.step_core.specs.ViewTrees.{SeesNode}
-use Rattle.step_core.specs.Views.{tree_seen}
-use Rattle.grown_runs.specs.Table.WordNames.Word.{TreeOf}
-use Rattle.step_core.proofs.OneView.SeenViews.{IsPresent-later}
+use Rattle.step_core.proofs.Common.{SeesNode, tree_seen, IsPresent-later}
 use Rattle.tree_rewire.specs.NearNodes.{nodes_on}
 use Rattle.tree_rewire.specs.SeenCosts.{IsLoadedSince, NamesTree, SeesPair}
 use Rattle.tree_rewire.proofs.ChosenParents.{All-more, All-read, take_read}

@@ -1,6 +1,5 @@
 use Rattle.std.proofs.Common.{All, take}
-use Rattle.plan_words.specs.Claims.{SeesAsBefore}
-use Rattle.plan_words.specs.States.{HasWholeShare}
+use Rattle.plan_words.proofs.Common.{SeesAsBefore, HasWholeShare}
 use Rattle.tree_rewire.specs.NearNodes.{nodes_on}
 use Rattle.tree_rewire.specs.SeenCosts.{IsLoadedSince, NamesTree, PassSees, SeesPair}
 use Rattle.tree_rewire.proofs.choosing.load_costs.Given as goal

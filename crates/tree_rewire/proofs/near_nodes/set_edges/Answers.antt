@@ -3,10 +3,8 @@ use Rattle.std.specs.Prelude.{IfSome, slice_get}
 use Rattle.std.proofs.lemmas.List.{append-nil, drop_all, take_all}
 use Rattle.std.proofs.lemmas.List.Edits.{map_over_more}
 use Rattle.std.proofs.lemmas.Option.{get_or_from_slice_get, slice_get_within}
-use Rattle.plan_model.specs.Geometry.Bounds.{IsBounded}
-use Rattle.plan_model.specs.Geometry.Cost.{cost_of}
-use Rattle.plan_words.specs.SearchLists.{weighed}
-use Rattle.plan_words.specs.States.{PassState, with_lists}
+use Rattle.grown_runs.proofs.Common.{IsBounded, cost_of}
+use Rattle.plan_words.proofs.Common.{weighed, PassState, with_lists}
 use Rattle.plan_words.specs.declared.spots.Found.{Found}
 use Rattle.tree_rewire.proofs.FoundLists.{All-at, rest_read}
 use Rattle.tree_rewire.specs.FoundNodes.{with_found}

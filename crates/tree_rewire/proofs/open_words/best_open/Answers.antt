@@ -1,10 +1,7 @@
 use Rattle.std.proofs.Common.{◌∷◌, List, ℕ, ap, subst, sym, ◌∙◌}
-use Rattle.plan_model.specs.Trees.LeastPairs.{IsFirstLeast}
-use Rattle.plan_model.specs.Trees.OpenNodes.{IsOpenTo}
+use Rattle.grown_runs.proofs.Common.{IsFirstLeast, IsOpenTo, parent_in, tree_word}
 use Rattle.plan_words.specs.States.{PassState}
-use Rattle.step_core.proofs.OneView.SeenViews.{IsPresent-later}
-use Rattle.step_core.specs.Views.{tree_seen}
-use Rattle.grown_runs.specs.Table.Words.{parent_in, tree_word}
+use Rattle.step_core.proofs.Common.{IsPresent-later, tree_seen}
 use Rattle.tree_rewire.specs.NearNodes.{AreKnown, nodes_on}
 use Rattle.tree_rewire.specs.SeenCosts.{NamesNothing, seen_cost_through}
 use Rattle.tree_rewire.proofs.ChosenFound.{IsChosenWord, IsChosenWord-least}

@@ -1,8 +1,6 @@
 use Rattle.std.proofs.Common.{◌≡◌, ◌∙◌, Bool, IsFalse, IsTrue, ap, arith, false, not, refl, true, inr, subst, sym}
-use Rattle.plan_model.specs.Spaces.Clearance.{Clear}
-use Rattle.plan_model.specs.Trees.PointsByNumber.{IsPresent, point_of}
+use Rattle.grown_runs.proofs.Common.{Clear, IsPresent, point_of, parent_in}
 use Rattle.step_core.specs.Views.{tree_seen}
-use Rattle.grown_runs.specs.Table.Words.{parent_in}
 use Rattle.tree_rewire.proofs.CostSteps.{PassSees-point, PassSees-refl}
 use Rattle.tree_rewire.proofs.SeenCosts.{SeesNode-present, point_later}
 use Rattle.tree_rewire.specs.SeenCosts.{NamesNothing}

@@ -2,8 +2,7 @@ use Rattle.std.proofs.Common.{◌≡◌, ◌+◌, List, ℕ, Some, map, take, ap
 use Rattle.std.specs.Prelude.{slice_get}
 use Rattle.std.proofs.lemmas.List.{take_all}
 use Rattle.plan_words.specs.States.{PassState}
-use Rattle.grown_runs.specs.Table.WordNames.Word.{TreeOf}
-use Rattle.grown_runs.specs.Table.Words.{cost_in, tree_word}
+use Rattle.grown_runs.proofs.Common.{TreeOf, cost_in, tree_word}
 use Rattle.tree_rewire.proofs.ChosenFound.{IsNextWord-more, IsNextWord-none, edge_low, number_low, words_read}
 use Rattle.tree_rewire.proofs.ChosenParents.{All-read}
 use Rattle.tree_rewire.proofs.CostSteps.{PassSees-refl, PassSees-trans, seen_cost_through-same}

@@ -1,9 +1,6 @@
 use Rattle.std.proofs.Common.{◌≡◌, ◌+◌, ◌<◌, ◌≤◌, ◌^◌, ℕ, ap, arith, inl, inr, refl, subst, sym, ◌∙◌}
-use Rattle.plan_model.specs.Geometry.Cost.{cost_of}
-use Rattle.plan_model.specs.Runs.OrderLaw.{IsAllowedEdge}
+use Rattle.grown_runs.proofs.Common.{cost_of, IsAllowedEdge, TreeOf, cost_in, tree_word}
 use Rattle.step_core.specs.Views.{sees, setup_in}
-use Rattle.grown_runs.specs.Table.WordNames.Word.{TreeOf}
-use Rattle.grown_runs.specs.Table.Words.{cost_in, tree_word}
 use Rattle.tree_rewire.specs.SeenCosts.{NamesTree, cost_seen}
 use Rattle.tree_rewire.proofs.CostSteps.{HasPostedHand-later, PassSees-lower, PassSees-refl, PassSees-trans}
 use Rattle.tree_rewire.proofs.LoweredCosts.{MayLower-less}

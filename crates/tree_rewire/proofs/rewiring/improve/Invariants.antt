@@ -1,12 +1,7 @@
 use Rattle.std.proofs.Common.{◌⊎◌, ◌+◌}
-use Rattle.plan_model.specs.Geometry.Cost.{cost_of}
-use Rattle.plan_words.specs.Bests.{HasPostedGoals}
-use Rattle.plan_words.specs.Claims.{SeesAsBefore}
-use Rattle.plan_words.specs.States.{HasWholeShare}
+use Rattle.grown_runs.proofs.Common.{cost_of, WritesWord, TreeOf, tree_word}
+use Rattle.plan_words.proofs.Common.{HasPostedGoals, SeesAsBefore, HasWholeShare}
 use Rattle.step_core.specs.Views.{sees}
-use Rattle.grown_runs.specs.Table.WordNames.{WritesWord}
-use Rattle.grown_runs.specs.Table.WordNames.Word.{TreeOf}
-use Rattle.grown_runs.specs.Table.Words.{tree_word}
 use Rattle.tree_rewire.specs.SeenCosts.{NamesTree, PassSees, SeesPair, cost_seen}
 use Rattle.tree_rewire.specs.Spreads.{OnlyAt}
 use Rattle.tree_rewire.proofs.rewiring.improve.Given as goal

@@ -2,8 +2,7 @@ use Rattle.std.proofs.Common.{◌+◌, ◌≡◌, ℕ, List, [], ap, arith, drop
 use Rattle.std.specs.Prelude.{All, Contains}
 use Rattle.std.proofs.lemmas.List.{drop_all, take_all}
 use Rattle.std.proofs.lemmas.List.Elements.{All-contains_itself, All-nil}
-use Rattle.plan_model.specs.Spaces.ConfigurationSpace.{space_of}
-use Rattle.plan_model.specs.Runs.Textbook.{Rewires}
+use Rattle.grown_runs.proofs.Common.{space_of, Rewires}
 use Rattle.plan_words.proofs.HandSteps.{some_hand}
 use Rattle.tree_rewire.proofs.NearLists.{nodes_on-kept}
 use Rattle.tree_rewire.specs.NearNodes.{nodes_on}

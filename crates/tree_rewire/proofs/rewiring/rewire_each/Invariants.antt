@@ -1,8 +1,7 @@
 use Rattle.std.proofs.Common.{◌+◌, All, drop, take}
 use Rattle.std.specs.Prelude.{Contains}
 use Rattle.plan_model.specs.Runs.Textbook.{Nodes}
-use Rattle.plan_words.specs.Bests.{HasPostedGoals}
-use Rattle.plan_words.specs.States.{HasWholeShare}
+use Rattle.plan_words.proofs.Common.{HasPostedGoals, HasWholeShare}
 use Rattle.tree_rewire.specs.Mirrors.{Mirrors}
 use Rattle.tree_rewire.specs.NearNodes.{nodes_on}
 use Rattle.tree_rewire.specs.Rewirings.{HasSpreadFalls}

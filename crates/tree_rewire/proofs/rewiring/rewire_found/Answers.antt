@@ -2,23 +2,14 @@ use Rattle.std.proofs.Common.{◌+◌, ◌≡◌, ◌<◌, ◌≤◌, ℕ, ap, a
 use Rattle.std.specs.Prelude.{All, Contains, IfSome, IsSome}
 use Rattle.std.proofs.lemmas.Bool.{cases_Bool, ltb-false}
 use Rattle.std.proofs.lemmas.List.Elements.{All-contains, All-map, Contains-get_or}
-use Rattle.plan_model.specs.Geometry.Cost.{cost_of}
-use Rattle.plan_model.specs.Spaces.Clearance.{Clear}
-use Rattle.plan_model.specs.Spaces.ConfigurationSpace.{space_of}
-use Rattle.plan_model.specs.Trees.PointsByNumber.{point_of}
-use Rattle.plan_model.proofs.CostLaws.{cost_of-swap}
-use Rattle.plan_words.proofs.HandSteps.{at_hand, some_hand}
-use Rattle.plan_words.proofs.KeptPairs.{if_hand}
-use Rattle.plan_words.proofs.RisingNumbers.{Contains-number}
-use Rattle.plan_words.specs.Bests.{HasPostedGoals, HasPostedHand}
-use Rattle.plan_words.specs.SearchLists.{numbers_of}
-use Rattle.plan_words.specs.States.{GoesOn, HasWholeShare, Lists, PassState}
-use Rattle.step_core.specs.Views.{share}
+use Rattle.grown_runs.proofs.Common.{cost_of, Clear, space_of, point_of, cost_of-swap}
+use Rattle.plan_words.proofs.Common.{at_hand, some_hand, if_hand, Contains-number, HasPostedGoals, HasPostedHand, numbers_of, GoesOn, HasWholeShare, Lists}
+use Rattle.plan_words.proofs.Common.{PassState}
+use Rattle.step_core.proofs.Common.{share, tree_seen}
 use Rattle.step_core.specs.declared.views.View.{View}
 use Rattle.tree_rewire.specs.Mirrors.{Mirrors}
 use Rattle.tree_rewire.specs.Rewirings.{HasPlaced, HasSpreadFalls}
 use Rattle.plan_words.specs.declared.spots.Found.{Found}
-use Rattle.step_core.specs.Views.{tree_seen}
 use Rattle.tree_rewire.specs.FoundNodes.{IsWeighed}
 use Rattle.tree_rewire.specs.SeenCosts.{IsInReach, NamesTreeOrPoint, SeesAnew, SeesPair, cost_seen}
 use Rattle.tree_rewire.proofs.FoundLists.{Contains-image}

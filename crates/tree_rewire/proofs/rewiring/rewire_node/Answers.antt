@@ -1,21 +1,8 @@
 use Rattle.std.proofs.Common.{◌≡◌, ◌≢◌, ℕ, ◌∙◌, ◌+◌, ◌*◌, ◌<◌, ◌≤◌, ap, arith, inl, inr, refl, subst, sym}
 use Rattle.std.proofs.lemmas.Bool.{cases_lt}
-use Rattle.plan_model.specs.Spaces.Clearance.{Clear}
-use Rattle.plan_model.specs.Geometry.Cost.{cost_of}
-use Rattle.plan_model.specs.Geometry.Plane.{squared_distance}
-use Rattle.plan_model.specs.Trees.PointsByNumber.{point_of}
-use Rattle.plan_model.specs.Runs.Textbook.{IsCheaperThrough, with_parent}
-use Rattle.plan_model.proofs.NearNodes.{squared_distance-swap}
-use Rattle.plan_words.specs.Bests.{HasPostedGoals}
-use Rattle.plan_words.specs.Claims.{SeesAsBefore}
-use Rattle.plan_words.specs.States.{HasWholeShare}
-use Rattle.plan_words.proofs.GoingOn.{GoesOn-trans}
-use Rattle.plan_words.proofs.PostedGoals.{HasPostedGoals-same}
-use Rattle.step_core.specs.Views.{sees, setup_in, tree_seen}
-use Rattle.grown_runs.specs.Table.WordNames.Word.{TreeOf}
-use Rattle.grown_runs.specs.Table.Words.{cost_in}
-use Rattle.step_core.proofs.OneView.LawfulSights.{IsBounded-seen}
-use Rattle.step_core.proofs.OneView.SeenViews.{IsPresent-later}
+use Rattle.grown_runs.proofs.Common.{Clear, cost_of, squared_distance, point_of, IsCheaperThrough, with_parent, squared_distance-swap, TreeOf, cost_in}
+use Rattle.plan_words.proofs.Common.{HasPostedGoals, SeesAsBefore, HasWholeShare, GoesOn-trans, HasPostedGoals-same}
+use Rattle.step_core.proofs.Common.{sees, setup_in, tree_seen, IsBounded-seen, IsPresent-later}
 use Rattle.tree_rewire.specs.SeenCosts.{NamesNothing, NamesTreeOrPoint, NamesTree, PassLowers, PassSees, SeesPair, cost_seen}
 use Rattle.tree_rewire.proofs.CostSteps.{HasPostedHand-later, PassLowers-sees, PassLowers-trans}
 use Rattle.tree_rewire.proofs.CostSteps.{PassSees-more, PassSees-point, PassSees-trans, TreeOrPoint-tree}

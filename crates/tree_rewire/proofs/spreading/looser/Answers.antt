@@ -1,13 +1,9 @@
 use Rattle.std.proofs.Common.{◌+◌, ◌∙◌, ap, arith, inl, inr, subst, sym}
 use Rattle.std.specs.Prelude.{IfSome}
 use Rattle.std.proofs.lemmas.Bool.{cases_lt}
-use Rattle.plan_model.specs.Geometry.Cost.{cost_of}
-use Rattle.plan_words.specs.Claims.{SeesAsBefore}
-use Rattle.plan_words.specs.Parents.{IsPairIn}
-use Rattle.plan_words.specs.States.{HasWholeShare}
+use Rattle.grown_runs.proofs.Common.{cost_of, PointOf, TreeOf, parent_in}
+use Rattle.plan_words.proofs.Common.{SeesAsBefore, IsPairIn, HasWholeShare}
 use Rattle.step_core.specs.Views.{sees}
-use Rattle.grown_runs.specs.Table.WordNames.Word.{PointOf, TreeOf}
-use Rattle.grown_runs.specs.Table.Words.{parent_in}
 use Rattle.tree_rewire.specs.SeenCosts.{NamesPoint, PassSees}
 use Rattle.tree_rewire.proofs.CostSteps.{PassSees-any_point, PassSees-trans}
 use Rattle.tree_rewire.proofs.LoweredCosts.{IsWithinSeenParent-parent, MayLower-parent}

@@ -1,7 +1,5 @@
 use Rattle.std.proofs.Common.{◌≡◌, ◌⊎◌, ◌+◌, ◌<◌, ◌≤◌, Some, None, ap, arith, inl, inr, length, refl, subst, sym, ◌∙◌}
-use Rattle.plan_words.specs.States.{HasWholeShare, with_lists}
-use Rattle.plan_words.specs.Waiting.{IsOn}
-use Rattle.plan_words.proofs.PostedGoals.{HasPostedGoals-children}
+use Rattle.plan_words.proofs.Common.{HasWholeShare, with_lists, IsOn, HasPostedGoals-children}
 use Rattle.step_core.specs.declared.views.SharedRun.{SharedRun}
 use Rattle.tree_rewire.specs.SeenCosts.{NamesTreeOrPoint, PassLowers, cost_seen}
 use Rattle.tree_rewire.specs.Spreads.{IsSpreading, NoneRises, QueuesFallen}

@@ -1,7 +1,5 @@
 use Rattle.std.proofs.Common.{◌≡◌, ◌⊎◌, ◌+◌, ℕ, length}
-use Rattle.plan_words.specs.Bests.{HasPostedGoals}
-use Rattle.plan_words.specs.States.{HasWholeShare}
-use Rattle.plan_words.specs.Waiting.{IsOn}
+use Rattle.plan_words.proofs.Common.{HasPostedGoals, HasWholeShare, IsOn}
 use Rattle.step_core.specs.declared.views.View.{View}
 use Rattle.tree_rewire.specs.SeenCosts.{PassLowers}
 use Rattle.tree_rewire.specs.Spreads.{IsSpreading, KeepsParents, NoneRises, QueuesFallen}

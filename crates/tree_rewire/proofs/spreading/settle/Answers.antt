@@ -1,6 +1,5 @@
 use Rattle.std.proofs.Common.{◌<◌, ap, arith, ◌∙◌}
-use Rattle.grown_runs.specs.Table.WordNames.Word.{TreeOf}
-use Rattle.grown_runs.specs.Table.Words.{cost_in}
+use Rattle.grown_runs.proofs.Common.{TreeOf, cost_in}
 use Rattle.tree_rewire.specs.SeenCosts.{NamesPoint, NamesTreeOrPoint, NamesTree, PassSees, cost_seen}
 use Rattle.tree_rewire.specs.Spreads.{OnlyAt}
 use Rattle.tree_rewire.proofs.CostSteps.{HasPostedHand-later, PassSees-lower, PassSees-more, PassSees-trans, TreeOrPoint-point, TreeOrPoint-tree}

@@ -1,7 +1,5 @@
 use Rattle.std.proofs.Common.{◌≡◌, ◌⊎◌, ◌≤◌, ◌+◌, [], ap, arith, inl, inr, length, refl, subst, sym, ◌∙◌}
-use Rattle.plan_words.specs.Bests.{HasPostedGoals, HasPostedHand}
-use Rattle.plan_words.specs.States.{HasWholeShare, with_lists}
-use Rattle.plan_words.specs.Waiting.{HasSeenParent, IsOn}
+use Rattle.plan_words.proofs.Common.{HasPostedGoals, HasPostedHand, HasWholeShare, with_lists, HasSeenParent, IsOn}
 use Rattle.step_core.specs.declared.views.SharedRun.{SharedRun}
 use Rattle.step_core.specs.declared.views.View.{View}
 use Rattle.tree_rewire.specs.SeenCosts.{NamesTreeOrPoint, PassLowers, SeesPair}

@@ -1,11 +1,8 @@
 use Rattle.std.proofs.Common.{◌≡◌, ap, arith, subst, sym, ◌∙◌}
 use Rattle.std.specs.Prelude.{All}
 use Rattle.plan_model.specs.Geometry.Bounds.{IsBounded}
-use Rattle.plan_words.proofs.HandSteps.{at_hand}
-use Rattle.plan_words.proofs.KeptPairs.{if_hand}
-use Rattle.plan_words.proofs.NearestParents.{IsBounded-hand}
-use Rattle.step_core.specs.Stages.{has_point}
-use Rattle.step_core.specs.ViewTrees.{sight_in}
+use Rattle.plan_words.proofs.Common.{at_hand, if_hand, IsBounded-hand}
+use Rattle.step_core.proofs.Common.{has_point, sight_in}
 use Rattle.tree_rewire.specs.SeenCosts.{IsInReach}
 use Rattle.tree_rewire_tests.proofs.ReachedNodes.{All-in_reach}
 use Rattle.tree_rewire_tests.proofs.rewire.fill_near.Goals as goal

@@ -1,17 +1,9 @@
 use Rattle.std.proofs.Common.{◌≡◌, ℕ, ap, arith, length, refl, subst, sym, ◌∙◌}
 use Rattle.std.specs.Prelude.{All, IfSome}
 use Rattle.std.proofs.lemmas.List.Elements.{All-head}
-use Rattle.plan_model.specs.declared.geometry.Point.{Point}
-use Rattle.plan_model.specs.Spaces.Clearance.{Clear}
-use Rattle.plan_model.specs.Spaces.ConfigurationSpace.{space_of}
-use Rattle.plan_model.proofs.NewNodes.{point_of-stands}
-use Rattle.plan_words.specs.States.{PassState, SharedState, with_view}
-use Rattle.plan_words.proofs.HandSteps.{at_hand}
-use Rattle.plan_words.proofs.KeptPairs.{if_hand}
-use Rattle.step_core.specs.Stages.{has_point}
-use Rattle.step_core.specs.ViewSteps.{half, treed}
-use Rattle.step_core.specs.ViewTrees.{MayHang}
-use Rattle.step_core.specs.Views.{tree_seen}
+use Rattle.grown_runs.proofs.Common.{Point, Clear, space_of, point_of-stands}
+use Rattle.plan_words.proofs.Common.{PassState, SharedState, with_view, at_hand, if_hand}
+use Rattle.step_core.proofs.Common.{has_point, half, treed, MayHang, tree_seen}
 use Rattle.step_core.specs.declared.views.Hand.{Hand}
 use Rattle.step_core.specs.declared.views.Stage.TheVariants.{Half, Pointed, Treed}
 use Rattle.tree_rewire.specs.SeenCosts.{IsInReach, SeesPair}

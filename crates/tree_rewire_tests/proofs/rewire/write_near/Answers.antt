@@ -1,10 +1,6 @@
 use Rattle.std.proofs.Common.{◌≡◌, ap, arith, length, refl, ◌∙◌}
-use Rattle.plan_words.specs.States.{PassState, with_view}
-use Rattle.plan_words.proofs.HandSteps.{at_hand}
-use Rattle.plan_words.proofs.KeptPairs.{if_hand}
-use Rattle.plan_words.proofs.PlainScenes.{no_goals}
-use Rattle.step_core.specs.SeenBests.{IsUnskipped}
-use Rattle.step_core.specs.ViewSteps.{pointed}
+use Rattle.plan_words.proofs.Common.{PassState, with_view, at_hand, if_hand, no_goals}
+use Rattle.step_core.proofs.Common.{IsUnskipped, pointed}
 use Rattle.step_core.specs.declared.views.Stage.TheVariants.{Pointed}
 use Rattle.tree_rewire_tests.proofs.rewire.write_near.Goals as goal
 

@@ -1,7 +1,6 @@
 use Rattle.std.proofs.Common.{◌*◌, ap, arith, subst}
 use Rattle.std.proofs.lemmas.Bool.{leb-true}
-use Rattle.plan_model.specs.Spaces.Clearance.{Clear}
-use Rattle.plan_model.specs.declared.tasks.Task.{Task}
+use Rattle.grown_runs.proofs.Common.{Clear, Task}
 use Rattle.tree_rewire_tests.proofs.support.is_allowed.Goals as goal
 
 pub returns-then-clear : goal.returns-then-clear

@@ -1,9 +1,7 @@
 use Rattle.std.proofs.Common.{◌≡◌, ◌+◌, ap, arith, subst, sym, ◌∙◌}
-use Rattle.plan_model.specs.Runs.OrderLaw.{IsAllowedEdge}
+use Rattle.grown_runs.proofs.Common.{IsAllowedEdge, TreeOf, cost_in}
 use Rattle.plan_words.proofs.GoingOn.{GoesOn-trans}
 use Rattle.step_core.specs.Views.{setup_in}
-use Rattle.grown_runs.specs.Table.WordNames.Word.{TreeOf}
-use Rattle.grown_runs.specs.Table.Words.{cost_in}
 use Rattle.tree_rewire.proofs.CostSteps.{PassSees-lower}
 use Rattle.tree_rewire.proofs.LoweredCosts.{MayLower-less}
 use Rattle.tree_rewire.proofs.SeenCosts.{SeesPair-later, stands_later}

@@ -1,10 +1,6 @@
 use Rattle.std.proofs.Common.{◌*◌, ap, ◌∙◌, inl, inr}
 use Rattle.std.proofs.lemmas.Bool.{cases_lt}
-use Rattle.plan_model.specs.Runs.Textbook.{setup_of}
-use Rattle.plan_model.specs.declared.tasks.Task.{Task}
-use Rattle.grown_runs.specs.Runs.GrownRuns.{state_of_grown, words_of_grown}
-use Rattle.grown_runs.specs.Runs.GrownWords.{sizes_of}
-use Rattle.grown_runs.proofs.Runs.GrownPoints.{IsBounded-stands}
+use Rattle.grown_runs.proofs.Common.{setup_of, Task, state_of_grown, words_of_grown, sizes_of, IsBounded-stands}
 use Rattle.twin_trees.proofs.SearchedPairs.{HasNoneBetween-same, Matches-walked}
 use Rattle.twin_trees.proofs.bridging.best_from.Goals as goal
 

@@ -1,8 +1,7 @@
 use Rattle.std.specs.Prelude.{ℕ, ◌-◌, ◌*◌, ◌<◌, length}
-use Rattle.plan_model.specs.Runs.Textbook.{setup_of}
+use Rattle.grown_runs.proofs.Common.{setup_of, state_of_grown}
 use Rattle.point_strips.specs.Discs.{IsWithin}
 use Rattle.point_strips.specs.Walks.{numbered_at}
-use Rattle.grown_runs.specs.Runs.GrownRuns.{state_of_grown}
 use Rattle.twin_trees.specs.BridgeOrder.{IsNoWorse}
 use Rattle.twin_trees.specs.BridgeSearches.{Matches, MayBeBest}
 use Rattle.twin_trees.proofs.bridging.best_from.Given as goal

@@ -1,14 +1,9 @@
 use Rattle.std.proofs.Common.{◌≡◌, ◌*◌, arith, refl, ap, sym, subst, ◌∙◌, inl, inr}
 use Rattle.std.proofs.lemmas.Bool.{cases_lt, true≢false}
-use Rattle.plan_model.specs.Runs.Textbook.{setup_of}
-use Rattle.plan_model.specs.Trees.PointsByNumber.{StandsAt}
-use Rattle.plan_model.specs.declared.tasks.Task.{Task}
+use Rattle.grown_runs.proofs.Common.{setup_of, StandsAt, Task, state_of_grown, words_of_grown, sizes_of, IsBounded-stands}
 use Rattle.point_strips.specs.Discs.{IsWithin}
 use Rattle.point_strips.specs.Walks.{nowhere, numbered_at}
 use Rattle.point_strips.specs.declared.strips.Numbered.{Numbered}
-use Rattle.grown_runs.specs.Runs.GrownRuns.{state_of_grown, words_of_grown}
-use Rattle.grown_runs.specs.Runs.GrownWords.{sizes_of}
-use Rattle.grown_runs.proofs.Runs.GrownPoints.{IsBounded-stands}
 use Rattle.twin_trees.specs.BridgeOrder.{IsMatched}
 use Rattle.twin_trees.specs.BridgeSearches.{Matches, MayBeBest}
 use Rattle.twin_trees.proofs.SearchedPairs.{IsWithin-same}

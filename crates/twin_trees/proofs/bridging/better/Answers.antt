@@ -1,12 +1,5 @@
 use Rattle.std.proofs.Common.{◌≡◌, ◌+◌, arith, sym, subst}
-use Rattle.plan_model.proofs.NewNodes.{IsPresent-stands}
-use Rattle.plan_model.specs.Geometry.Cost.{cost_of}
-use Rattle.plan_model.specs.Runs.Textbook.{setup_of}
-use Rattle.plan_model.specs.Spaces.Clearance.{Clear}
-use Rattle.grown_runs.specs.Runs.GrownRuns.{state_of_grown, words_of_grown}
-use Rattle.grown_runs.specs.Runs.GrownWords.{sizes_of}
-use Rattle.grown_runs.proofs.Runs.FittingStates.{kept-low}
-use Rattle.grown_runs.proofs.Runs.GrownPoints.{IsBounded-stands}
+use Rattle.grown_runs.proofs.Common.{IsPresent-stands, cost_of, setup_of, Clear, state_of_grown, words_of_grown, sizes_of, kept-low, IsBounded-stands}
 use Rattle.twin_trees.specs.BridgeOrder.{IsMatched}
 use Rattle.twin_trees.specs.Bridges.{cost_over}
 use Rattle.twin_trees.proofs.SearchedPairs.{Clear-candidate, IsCandidate-clear, cost_over-stands}

@@ -1,14 +1,7 @@
 use Rattle.std.proofs.Common.{◌+◌, ◌<◌, arith, ap, sym, subst, inl, inr}
 use Rattle.std.proofs.lemmas.Bool.{cases_lt}
-use Rattle.plan_model.proofs.NewNodes.{IsPresent-stands, point_of-stands}
-use Rattle.plan_model.specs.Geometry.Cost.{cost_of}
-use Rattle.plan_model.specs.Runs.Textbook.{setup_of}
-use Rattle.plan_model.specs.Trees.PointsByNumber.{point_of}
-use Rattle.plan_model.specs.Trees.TreeStates.{sum_in}
-use Rattle.plan_model.specs.declared.tasks.Task.{Task}
-use Rattle.grown_runs.specs.Runs.GrownRuns.{state_of_grown, words_of_grown}
-use Rattle.grown_runs.specs.Runs.GrownWords.{sizes_of}
-use Rattle.grown_runs.proofs.Runs.GrownPoints.{IsBounded-stands}
+use Rattle.grown_runs.proofs.Common.{IsPresent-stands, point_of-stands, cost_of, setup_of, point_of, sum_in, Task, state_of_grown, words_of_grown, sizes_of}
+use Rattle.grown_runs.proofs.Common.{IsBounded-stands}
 use Rattle.twin_trees.specs.BridgeSearches.{Matches}
 use Rattle.twin_trees.proofs.SearchedPairs.{Matches-far}
 use Rattle.twin_trees.proofs.TripleOrder.{false_of_not}

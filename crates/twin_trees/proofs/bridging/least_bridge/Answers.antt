@@ -1,9 +1,7 @@
 use Rattle.std.proofs.Common.{◌<◌, arith, sym, subst, inl, inr}
 use Rattle.std.specs.Prelude.{IfSome}
 use Rattle.std.proofs.lemmas.Bool.{cases_eq}
-use Rattle.plan_model.specs.Runs.Textbook.{setup_of}
-use Rattle.grown_runs.specs.Runs.GrownRuns.{state_of_grown, words_of_grown}
-use Rattle.grown_runs.proofs.Runs.HeldNodes.{node-held}
+use Rattle.grown_runs.proofs.Common.{setup_of, state_of_grown, words_of_grown, node-held}
 use Rattle.twin_trees.specs.BridgeOrder.{IsMatched}
 use Rattle.twin_trees.specs.BridgeSearches.{IsMember, Matches}
 use Rattle.twin_trees.specs.Bridges.{IsTripleNotAbove, cost_over}

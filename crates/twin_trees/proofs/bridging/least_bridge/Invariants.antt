@@ -1,6 +1,5 @@
 use Rattle.std.specs.Prelude.{ℕ, ◌<◌}
-use Rattle.plan_model.specs.Runs.Textbook.{setup_of}
-use Rattle.grown_runs.specs.Runs.GrownRuns.{state_of_grown}
+use Rattle.grown_runs.proofs.Common.{setup_of, state_of_grown}
 use Rattle.twin_trees.specs.BridgeSearches.{Matches, MayBeBest}
 use Rattle.twin_trees.proofs.bridging.least_bridge.Given as goal
 

@@ -1,7 +1,5 @@
 use Rattle.std.proofs.Common.{sym, subst}
-use Rattle.plan_model.proofs.SegmentLaws.{Clear-alone, Clear-first}
-use Rattle.plan_model.specs.Spaces.Clearance.{Clear, ClearAt}
-use Rattle.plan_model.specs.Spaces.ConfigurationSpace.{space_of}
+use Rattle.grown_runs.proofs.Common.{Clear-alone, Clear-first, Clear, ClearAt, space_of}
 use Rattle.twin_trees.specs.TurnedScenes.{goal_middle}
 use Rattle.twin_trees.proofs.growing.twin.Goals as goal
 

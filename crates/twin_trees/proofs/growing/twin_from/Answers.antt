@@ -1,8 +1,5 @@
 use Rattle.std.proofs.Common.{ap, sym, subst, ◌∙◌}
-use Rattle.plan_model.specs.Runs.Textbook.{setup_of}
-use Rattle.plan_model.specs.Spaces.ConfigurationSpace.{space_of}
-use Rattle.plan_model.specs.declared.scenes.Scene.{Scene}
-use Rattle.grown_runs.specs.Runs.GrownRuns.{state_of_grown}
+use Rattle.grown_runs.proofs.Common.{setup_of, space_of, Scene, state_of_grown}
 use Rattle.twin_trees.specs.Bridges.{IsBridge}
 use Rattle.twin_trees.proofs.TurnedRuns.{ClearAt-turned, space-turned}
 use Rattle.twin_trees.proofs.growing.twin_from.Goals as goal

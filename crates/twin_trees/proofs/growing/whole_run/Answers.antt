@@ -1,11 +1,6 @@
 use Rattle.std.proofs.Common.{length, ap, arith, sym, ◌∙◌}
-use Rattle.plan_model.proofs.MarkBounds.{length-marks}
-use Rattle.plan_model.proofs.SettledRuns.{IsOfTextbookRun-settled}
-use Rattle.plan_model.specs.Runs.Textbook.{setup_of}
-use Rattle.plan_model.specs.Scenes.MarkPoints.{mark_points}
-use Rattle.plan_model.specs.declared.tasks.Task.{Task}
+use Rattle.grown_runs.proofs.Common.{length-marks, IsOfTextbookRun-settled, setup_of, mark_points, Task, state_of_grown}
 use Rattle.plan_work.proofs.TextbookEnds.{IsOfTextbook-new, IsOfTextbookRun-whole}
-use Rattle.grown_runs.specs.Runs.GrownRuns.{state_of_grown}
 use Rattle.twin_trees.proofs.TurnedRuns.{IsWholeRun-settled}
 use Rattle.twin_trees.proofs.growing.whole_run.Goals as goal
 

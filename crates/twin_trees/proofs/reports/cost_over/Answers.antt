@@ -1,7 +1,5 @@
 use Rattle.std.proofs.Common.{sym, ◌∙◌}
-use Rattle.grown_runs.specs.Runs.GrownRuns.{words_of_grown}
-use Rattle.grown_runs.specs.Runs.GrownWords.{sizes_of}
-use Rattle.grown_runs.proofs.Runs.GrownPoints.{IsBounded-stands}
+use Rattle.grown_runs.proofs.Common.{words_of_grown, sizes_of, IsBounded-stands}
 use Rattle.twin_trees.proofs.reports.cost_over.Goals as goal
 
 pub cost-requires-2-clause-from : goal.cost-requires-2-clause-from

@@ -1,8 +1,5 @@
 use Rattle.std.proofs.Common.{[], ◌∷◌, refl, ap, ◌∙◌}
-use Rattle.plan_model.proofs.SameScenes.{same_parts}
-use Rattle.plan_model.specs.Scenes.SceneEnds.{with_ends}
-use Rattle.plan_model.specs.declared.geometry.Goal.{Goal}
-use Rattle.plan_model.specs.declared.configuration_spaces.ConfigurationSpace.{ConfigurationSpace}
+use Rattle.grown_runs.proofs.Common.{same_parts, with_ends, Goal, ConfigurationSpace}
 use Rattle.twin_trees.specs.TurnedScenes.{goal_middle, start_boxes}
 use Rattle.twin_trees.proofs.TurnedRanges.{IsBetween-middle, are_goals-start}
 use Rattle.twin_trees.proofs.turned_scenes.turned_scene.Goals as goal

@@ -7,8 +7,7 @@ use Rattle.plan_words.proofs.seen_pairs.SeenPairs.lower_children.Goals as goal
 use Rattle.plan_words.proofs.seen_pairs.SeenPairs.lower_children.Goals.{After-lower_chain}
 use Rattle.plan_words.specs.SeenChains.{seen_words, sibling_chain_in}
 use Rattle.plan_words.specs.States.{HasPairs}
-use Rattle.grown_runs.specs.ChildChains.{IndexesChains}
-use Rattle.grown_runs.proofs.Children.MovedChildren.{IsIndex-same}
+use Rattle.grown_runs.proofs.Common.{IndexesChains, IsIndex-same}
 
 pub lower_chain-requires-clause-index : goal.lower_chain-requires-clause-index
 lower_chain-requires-clause-index c =

@@ -4,11 +4,8 @@ use Rattle.plan_words.proofs.KeptPairs.{HasPairs-kept, keeps_view}
 use Rattle.plan_words.proofs.Owning.{may_best_here, same_run, same_table}
 use Rattle.plan_words.proofs.Posting.{none_posted, read_none}
 use Rattle.plan_words.proofs.shared.Shared.best.Goals as goal
-use Rattle.grown_runs.specs.Runs.GrownWords.{has_node}
-use Rattle.step_core.specs.SeenBests.{SeesGoal}
-use Rattle.step_core.specs.ViewSteps.{best_loaded, hand_with_best}
-use Rattle.step_core.specs.Views.{sees}
-use Rattle.grown_runs.specs.Table.Words.{no_best}
+use Rattle.grown_runs.proofs.Common.{has_node, no_best}
+use Rattle.step_core.proofs.Common.{SeesGoal, best_loaded, hand_with_best, sees}
 
 pub load-word-requires : goal.load-word-requires
 load-word-requires c =

@@ -4,11 +4,8 @@ use Rattle.std.specs.Prelude.{MatchOption}
 use Rattle.plan_words.proofs.LookedNodes.{child_fits, child_found, place_here, seen_low}
 use Rattle.plan_words.proofs.Owning.{found_whole, may_load_here, same_run, same_table, sees_told}
 use Rattle.plan_words.proofs.shared.Shared.child_or_start.Goals as goal
-use Rattle.grown_runs.specs.Runs.GrownWords.{child_of_word}
-use Rattle.step_core.specs.ViewTrees.{SeesNode}
-use Rattle.step_core.specs.Views.{last_zero, tree_seen}
-use Rattle.grown_runs.specs.Table.WordNames.Word.{ChildOf}
-use Rattle.grown_runs.specs.Table.WordPlaces.{place_of}
+use Rattle.grown_runs.proofs.Common.{child_of_word, ChildOf, place_of}
+use Rattle.step_core.proofs.Common.{SeesNode, last_zero, tree_seen}
 
 pub child-place-requires : goal.child-place-requires
 child-place-requires c =

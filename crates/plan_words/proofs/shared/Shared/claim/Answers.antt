@@ -6,8 +6,7 @@ use Rattle.plan_words.proofs.WholeClaims.{HasWholeShare-kept, IsLeastOpen-first,
 use Rattle.plan_words.proofs.shared.Shared.claim.Goals as goal
 use Rattle.plan_words.specs.Claims.{AllFull, IsClaimed, IsLeastOpen, IsOpen, KeepsHand, RaisesCounter, SeesAsBefore}
 use Rattle.plan_words.specs.States.{run_in, worker_of}
-use Rattle.step_core.specs.ViewSteps.{mark_of}
-use Rattle.step_core.proofs.OneView.LaterViews.{IsLater-refl, IsLater-trans}
+use Rattle.step_core.proofs.Common.{mark_of, IsLater-refl, IsLater-trans}
 
 pub tries-init : goal.tries-init
 tries-init c = record {

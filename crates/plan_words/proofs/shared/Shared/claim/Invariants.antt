@@ -4,10 +4,8 @@ use Rattle.plan_words.specs.States.{BelongsTo, HasWholeShare, with_view}
 use Rattle.plan_words.proofs.GoingOn.{HasGoneOn}
 use Rattle.plan_words.proofs.Scanning.{left_over}
 use Rattle.plan_words.proofs.shared.Shared.claim.Given as goal
-use Rattle.step_core.specs.LaterViews.{IsLater}
-use Rattle.step_core.specs.Views.{sees}
-use Rattle.grown_runs.specs.Table.WordNames.{ChangesOnly, IsCounter}
-use Rattle.grown_runs.specs.Table.WordNames.Word.{Counter}
+use Rattle.step_core.proofs.Common.{IsLater, sees}
+use Rattle.grown_runs.proofs.Common.{ChangesOnly, IsCounter, Counter}
 
 abbrev pub invariant-tries : goal.invariant-tries
 invariant-tries l = record {

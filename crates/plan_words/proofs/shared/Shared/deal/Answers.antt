@@ -1,9 +1,8 @@
 use Rattle.std.proofs.Common.{◌∙◌, ◌<◌, ap, length, subst, sym, arith}
-use Rattle.plan_model.specs.Runs.Turns.{turns_of}
+use Rattle.grown_runs.proofs.Common.{turns_of, record_at}
 use Rattle.plan_words.proofs.Dealing.{sees-started}
 use Rattle.plan_words.proofs.shared.Shared.deal.Goals as goal
 use Rattle.plan_words.specs.Dealt.{IsPassOf}
-use Rattle.grown_runs.specs.Runs.GrownWords.{record_at}
 use Rattle.step_core.specs.Views.{sees}
 
 pub open-requires : goal.open-requires

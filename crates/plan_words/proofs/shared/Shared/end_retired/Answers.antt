@@ -5,11 +5,8 @@ use Rattle.plan_words.proofs.Ending.{same_in_run, stands_in_run, words-copied}
 use Rattle.plan_words.proofs.Owning.{same_run}
 use Rattle.plan_words.proofs.shared.Shared.end_retired.Goals as goal
 use Rattle.plan_words.specs.Claims.{HasNoneLeft}
-use Rattle.grown_runs.specs.Runs.GrownWords.{HoldRun, cleared, record_at, run_words}
-use Rattle.grown_runs.specs.Table.PlacesOfWords.{sizes_in}
-use Rattle.grown_runs.specs.Table.RunWords.{words_in}
+use Rattle.grown_runs.proofs.Common.{HoldRun, cleared, record_at, run_words, sizes_in, words_in, word_count}
 use Rattle.step_core.specs.Views.{share}
-use Rattle.grown_runs.specs.Table.WordPlaces.{word_count}
 
 pub copy_words-requires-clause-as_many : goal.copy_words-requires-clause-as_many
 copy_words-requires-clause-as_many c =

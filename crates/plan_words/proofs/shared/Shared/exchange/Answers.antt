@@ -5,11 +5,9 @@ use Rattle.plan_words.proofs.Owning.{found_whole, may_claim_here, same_run, same
 use Rattle.plan_words.proofs.shared.Shared.exchange.Goals as goal
 use Rattle.plan_words.specs.Plays.{Tells}
 use Rattle.plan_words.specs.States.{run_in}
+use Rattle.grown_runs.proofs.Common.{WritesWord, Counter}
 use Rattle.plan_model.specs.Scenes.MarkPoints.{mark_of as mark_by_strips}
-use Rattle.step_core.specs.ViewSteps.{claimed, loaded, mark_of, new_hand, place_in, saw_at}
-use Rattle.step_core.specs.Views.{sees, share}
-use Rattle.grown_runs.specs.Table.WordNames.{WritesWord}
-use Rattle.grown_runs.specs.Table.WordNames.Word.{Counter}
+use Rattle.step_core.proofs.Common.{claimed, loaded, mark_of, new_hand, place_in, saw_at, sees, share}
 use Rattle.step_core.specs.declared.views.View.{View}
 
 -- the view after an exchange was tried, by what the counter was

@@ -1,18 +1,14 @@
 use Rattle.std.proofs.Common.{◌≡◌, ◌<◌, ap, arith, length, subst, sym, ◌∙◌}
 use Rattle.std.specs.Prelude.{cond}
 use Rattle.std.proofs.lemmas.Bool.{eq-eqb}
-use Rattle.plan_model.specs.Trees.BestNode.{lies_in_goals}
+use Rattle.grown_runs.proofs.Common.{lies_in_goals, TreeOf, cost_in, tree_word, cost_in-tree_word}
 use Rattle.plan_words.proofs.KeptPairs.{fits_word}
 use Rattle.plan_words.proofs.Posting.{goal-at}
 use Rattle.plan_words.proofs.SeatSteps.{LooksOn-trans}
 use Rattle.plan_words.proofs.shared.Shared.exchange_at.Goals as goal
 use Rattle.plan_words.proofs.shared.Shared.exchange_at.Goals.{After-skips_by}
-use Rattle.step_core.specs.Views.{sees}
-use Rattle.grown_runs.specs.Table.WordNames.Word.{TreeOf}
-use Rattle.grown_runs.specs.Table.Words.{cost_in, tree_word}
+use Rattle.step_core.proofs.Common.{sees, SeesPoint-later}
 use Rattle.step_core.specs.declared.views.SharedRun.{SharedRun}
-use Rattle.grown_runs.proofs.Table.PackedWords.{cost_in-tree_word}
-use Rattle.step_core.proofs.OneView.SeenViews.{SeesPoint-later}
 
 pub post_at-requires-clause-may : goal.post_at-requires-clause-may
 post_at-requires-clause-may c =

@@ -7,11 +7,8 @@ use Rattle.plan_words.proofs.shared.Shared.exchange_tree.Goals as goal
 use Rattle.plan_words.specs.Parents.{FindsLess}
 use Rattle.plan_words.specs.Plays.{Tells}
 use Rattle.plan_words.specs.States.{HasWholeShare}
-use Rattle.step_core.specs.ViewSteps.{loaded, lowered, saw_at}
-use Rattle.step_core.specs.ViewTrees.{MayLower}
-use Rattle.step_core.specs.Views.{sees, share}
-use Rattle.grown_runs.specs.Table.WordNames.Word.{TreeOf}
-use Rattle.grown_runs.specs.Table.WordPlaces.{place_of}
+use Rattle.step_core.proofs.Common.{loaded, lowered, saw_at, MayLower, sees, share}
+use Rattle.grown_runs.proofs.Common.{TreeOf, place_of}
 
 pub word-seen-requires : goal.word-seen-requires
 word-seen-requires c =

@@ -8,12 +8,8 @@ use Rattle.plan_words.proofs.ToldHands.{none_held, with_view_told_hand}
 use Rattle.plan_words.proofs.shared.Shared.finish.Goals as goal
 use Rattle.plan_words.specs.States.{turn_of, turned, worker_of}
 use Rattle.std.specs.Prelude.{IfSome}
-use Rattle.step_core.specs.ViewSteps.{finished, finished_at}
-use Rattle.step_core.specs.SeenRecords.{MayRecord}
-use Rattle.step_core.specs.Stages.{MayBeRecorded}
-use Rattle.grown_runs.specs.Table.WordNames.Word.{RecordOf}
-use Rattle.grown_runs.specs.Table.WordPlaces.{place_of}
-use Rattle.grown_runs.specs.Table.Words.{record_word}
+use Rattle.step_core.proofs.Common.{finished, finished_at, MayRecord, MayBeRecorded}
+use Rattle.grown_runs.proofs.Common.{RecordOf, place_of, record_word}
 
 pub unreachable-requires : goal.unreachable-requires
 unreachable-requires c = none_held _ _ _ c.pass.view_is c.pass.invariant.1.hand_is c.in_default.is c.requires.hand

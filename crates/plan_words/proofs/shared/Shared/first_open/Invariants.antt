@@ -3,10 +3,8 @@ use Rattle.plan_words.specs.Claims.{KeepsHand, SeesAsBefore}
 use Rattle.plan_words.specs.States.{BelongsTo, GoesOn, HasWholeShare, with_view, worker_of}
 use Rattle.plan_words.proofs.Scanning.{Scanned}
 use Rattle.plan_words.proofs.shared.Shared.first_open.Given as goal
-use Rattle.step_core.specs.LaterViews.{IsLater}
-use Rattle.step_core.specs.Views.{last_look, sees}
-use Rattle.grown_runs.specs.Table.WordNames.{ChangesOnly, IsCounter}
-use Rattle.grown_runs.specs.Table.WordNames.Word.{Counter}
+use Rattle.step_core.proofs.Common.{IsLater, last_look, sees}
+use Rattle.grown_runs.proofs.Common.{ChangesOnly, IsCounter, Counter}
 
 abbrev pub invariant-loop-strip : goal.invariant-loop-strip
 invariant-loop-strip l = record {

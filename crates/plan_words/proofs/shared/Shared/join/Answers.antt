@@ -6,10 +6,8 @@ use Rattle.plan_words.proofs.SeenChildren.{HasParentsBelow-seen}
 use Rattle.plan_words.proofs.shared.Shared.join.Goals as goal
 use Rattle.plan_words.specs.Parents.{HasParentsBelow}
 use Rattle.plan_words.specs.States.{GoesOn, PassState, first_member}
-use Rattle.step_core.specs.ViewSteps.{joined, loaded}
-use Rattle.step_core.specs.Views.{sees}
-use Rattle.grown_runs.specs.Table.WordKinds.{AreBehind}
-use Rattle.grown_runs.specs.Table.WordNames.Word.{Count}
+use Rattle.step_core.proofs.Common.{joined, loaded, sees}
+use Rattle.grown_runs.proofs.Common.{AreBehind, Count}
 
 pub take_over-requires-clause-belongs : goal.take_over-requires-clause-belongs
 take_over-requires-clause-belongs c = BelongsTo-seat _ _ _ c.pass.view_is c.requires.belongs

@@ -2,8 +2,7 @@ use Rattle.std.proofs.Common.{ap, ◌∙◌}
 use Rattle.plan_words.proofs.Owning.{with_view_told}
 use Rattle.plan_words.proofs.shared.Shared.join_retired.Goals as goal
 use Rattle.plan_words.specs.States.{PassState}
-use Rattle.step_core.specs.ViewSteps.{joined, loaded}
-use Rattle.step_core.specs.Views.{sees}
+use Rattle.step_core.proofs.Common.{joined, loaded, sees}
 use Rattle.grown_runs.specs.Table.WordNames.Word.{Count}
 
 pub returns-clause-view : goal.returns-clause-view

@@ -6,11 +6,9 @@ use Rattle.plan_words.proofs.HandSteps.{child_met, leads_seen, linked_view, met_
 use Rattle.plan_words.proofs.shared.Shared.link.Goals as goal
 use Rattle.plan_words.specs.Nodes.{IsLinkedAt, LeadsOn}
 use Rattle.plan_words.specs.States.{with_view}
-use Rattle.step_core.specs.ViewSteps.{counted, last_fill, linked, loaded}
-use Rattle.step_core.specs.ViewTrees.{LeadsTo}
+use Rattle.step_core.proofs.Common.{counted, last_fill, linked, loaded, LeadsTo, IsOnWayOf-found}
 use Rattle.grown_runs.specs.Table.WordNames.Word.{ChildOf}
 use Rattle.step_core.specs.declared.views.Stage.TheVariants.{Treed}
-use Rattle.step_core.proofs.Parts.LinkedWays.{IsOnWayOf-found}
 
 pub returns-then-child-ne0-clause-found : goal.returns-then-child-ne0-clause-found
 returns-then-child-ne0-clause-found c =

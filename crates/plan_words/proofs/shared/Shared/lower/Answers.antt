@@ -8,12 +8,8 @@ use Rattle.plan_words.proofs.shared.Shared.lower.Goals as goal
 use Rattle.plan_words.proofs.shared.Shared.lower.Goals.{After-lower_pair}
 use Rattle.plan_words.specs.Bests.{LooksAndPosts}
 use Rattle.plan_words.specs.States.{PassState, SharedState}
-use Rattle.step_core.specs.ViewSteps.{lowered}
-use Rattle.grown_runs.specs.Table.WordNames.{Words}
-use Rattle.grown_runs.specs.Table.WordNames.Word.{TreeOf}
-use Rattle.grown_runs.specs.Table.Words.{best_word, cost_in}
-use Rattle.grown_runs.proofs.Table.PackedWords.{cost_in-tree_word}
-use Rattle.step_core.proofs.OneView.SeenViews.{IsPresent-later}
+use Rattle.step_core.proofs.Common.{lowered, IsPresent-later}
+use Rattle.grown_runs.proofs.Common.{Words, TreeOf, best_word, cost_in, cost_in-tree_word}
 
 pub returns-in_err-lower_pair-clause-whole : goal.returns-in_err-lower_pair-clause-whole
 returns-in_err-lower_pair-clause-whole c all = let no = c.in_err-lower_pair.ensures.whole all in cc

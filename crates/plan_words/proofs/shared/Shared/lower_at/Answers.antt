@@ -7,12 +7,8 @@ use Rattle.plan_words.proofs.SeatSteps.{LooksOn-told, SitsAt-told, writes_told}
 use Rattle.plan_words.proofs.shared.Shared.lower_at.Goals as goal
 use Rattle.plan_words.proofs.shared.Shared.lower_at.Goals.{After-compare_exchange}
 use Rattle.plan_words.specs.States.{run_in}
-use Rattle.step_core.specs.ViewSteps.{place_in}
-use Rattle.step_core.specs.ViewTrees.{SeesNode}
-use Rattle.step_core.specs.Views.{sees}
-use Rattle.grown_runs.specs.Table.WordNames.{WritesWord}
-use Rattle.grown_runs.specs.Table.WordNames.Word.{PointOf, TreeOf}
-use Rattle.grown_runs.specs.Table.WordPlaces.{place_of}
+use Rattle.step_core.proofs.Common.{place_in, SeesNode, sees}
+use Rattle.grown_runs.proofs.Common.{WritesWord, PointOf, TreeOf, place_of}
 
 pub tree-place-requires : goal.tree-place-requires
 tree-place-requires c =

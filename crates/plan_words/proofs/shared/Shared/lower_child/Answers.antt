@@ -1,15 +1,13 @@
 use Rattle.std.proofs.Common.{◌≡◌, ◌+◌, ◌<◌, ap, arith, inl, inr, ◌∙◌}
 use Rattle.std.specs.Prelude.{cond}
 use Rattle.std.proofs.lemmas.Bool.{cases_lt, eq-eqb}
-use Rattle.plan_model.specs.Geometry.Cost.{cost_of}
+use Rattle.grown_runs.proofs.Common.{cost_of, PointOf, TreeOf, cost_in, tree_word}
 use Rattle.plan_words.proofs.ChildCosts.{CostsAtMostThrough-looked, CostsAtMostThrough-lowered, HasSeenParent-lowered, MayLower-child, cost-lowered, own_mid}
 use Rattle.plan_words.proofs.Posting.{goal-goes_on}
 use Rattle.plan_words.proofs.SeatSteps.{LooksOn-trans}
 use Rattle.plan_words.proofs.shared.Shared.lower_child.Goals as goal
 use Rattle.plan_words.proofs.shared.Shared.lower_child.Goals.{After-cost}
 use Rattle.step_core.specs.Views.{sees}
-use Rattle.grown_runs.specs.Table.WordNames.Word.{PointOf, TreeOf}
-use Rattle.grown_runs.specs.Table.Words.{cost_in, tree_word}
 
 pub returns-then-not-costs_less_through-clause-is : goal.returns-then-not-costs_less_through-clause-is
 returns-then-not-costs_less_through-clause-is c =

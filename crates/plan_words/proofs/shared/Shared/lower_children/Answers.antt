@@ -9,11 +9,8 @@ use Rattle.plan_words.proofs.SeatSteps.{Keeps-looked, LooksOn-loaded, LooksOn-tr
 use Rattle.plan_words.proofs.SeenChildren.{HasFirstPairs-all, pair-seen, within-written}
 use Rattle.plan_words.proofs.shared.Shared.lower_children.Goals as goal
 use Rattle.plan_words.proofs.shared.Shared.lower_children.Goals.{After-lower_children}
-use Rattle.step_core.proofs.Seen.Looks.{same_name}
-use Rattle.step_core.specs.ViewTrees.{SeesPoint}
-use Rattle.step_core.specs.Views.{sees}
-use Rattle.grown_runs.specs.Table.WordNames.Word.{PointOf, TreeOf}
-use Rattle.grown_runs.specs.Table.Words.{cost_in}
+use Rattle.step_core.proofs.Common.{same_name, SeesPoint, sees}
+use Rattle.grown_runs.proofs.Common.{PointOf, TreeOf, cost_in}
 
 -- the point was loaded
 same_at : (c : After-lower_children) → (n : ℕ) → sees c.pass.inside.seat.me.0 (TreeOf n) ≡ sees c.args.pass.now.view (TreeOf n)

@@ -3,9 +3,7 @@ use Rattle.std.specs.Prelude.{is_some}
 use Rattle.plan_words.proofs.LookedNodes.{IsEdgeSeen-pair}
 use Rattle.plan_words.proofs.LoweredNodes.{found_less, found_pair, found_pass, found_writes, lowered_less, lowered_pass, lowered_writes}
 use Rattle.plan_words.proofs.shared.Shared.lower_pair.Goals as goal
-use Rattle.step_core.specs.LaterViews.{IsLawfulView}
-use Rattle.step_core.specs.ViewTrees.{MayLower}
-use Rattle.step_core.specs.Views.{sees}
+use Rattle.step_core.proofs.Common.{IsLawfulView, MayLower, sees}
 use Rattle.grown_runs.specs.Table.WordNames.Word.{TreeOf}
 
 pub word-seen-requires : goal.word-seen-requires

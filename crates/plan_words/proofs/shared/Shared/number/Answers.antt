@@ -3,11 +3,9 @@ use Rattle.std.proofs.Common.{◌≡◌, ◌≢◌, ◌≤◌, Some, ap, arith, 
 use Rattle.plan_words.proofs.LookedNodes.{place_here}
 use Rattle.plan_words.proofs.Owning.{count_fits, may_load_here, sees_told, same_run, same_table}
 use Rattle.plan_words.proofs.shared.Shared.number.Goals as goal
-use Rattle.plan_model.specs.Trees.PointsByNumber.{node_count}
+use Rattle.grown_runs.proofs.Common.{node_count, Count}
 use Rattle.plan_words.specs.States.{HasWholeShare}
-use Rattle.step_core.specs.SeenRecords.{own_count}
-use Rattle.step_core.specs.Views.{tree_seen}
-use Rattle.grown_runs.specs.Table.WordNames.Word.{Count}
+use Rattle.step_core.proofs.Common.{own_count, tree_seen}
 use Rattle.step_core.specs.declared.views.Hand.{Hand}
 use Rattle.step_core.specs.declared.views.Stage.TheVariants.{Linked}
 

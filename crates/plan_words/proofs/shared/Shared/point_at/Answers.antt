@@ -5,13 +5,8 @@ use Rattle.plan_words.proofs.SeatSteps.{LooksOn-told, SitsAt-told, writes_told}
 use Rattle.plan_words.proofs.shared.Shared.point_at.Goals as goal
 use Rattle.plan_words.proofs.shared.Shared.point_at.Goals.{After-load}
 use Rattle.plan_words.specs.States.{run_in}
-use Rattle.step_core.proofs.Seen.Looks.{same_name}
-use Rattle.step_core.specs.Views.{sees}
-use Rattle.step_core.proofs.OneView.LawfulSights.{IsBounded-seen}
-use Rattle.step_core.specs.ViewSteps.{place_in}
-use Rattle.step_core.specs.ViewTrees.{SeesPoint}
-use Rattle.grown_runs.specs.Table.WordNames.Word.{PointOf, TreeOf}
-use Rattle.grown_runs.specs.Table.WordPlaces.{place_of}
+use Rattle.step_core.proofs.Common.{same_name, sees, IsBounded-seen, place_in, SeesPoint}
+use Rattle.grown_runs.proofs.Common.{PointOf, TreeOf, place_of}
 
 pub point-place-requires : goal.point-place-requires
 point-place-requires c =

@@ -3,12 +3,8 @@ use Rattle.std.proofs.Common.{◌≤◌, ap, sym, subst, ◌∙◌}
 use Rattle.plan_words.proofs.LookedNodes.{place_here, point_found, point_word_seen, seen_low}
 use Rattle.plan_words.proofs.Owning.{found_whole, may_load_here, same_run, same_table, sees_told, with_view_told}
 use Rattle.plan_words.proofs.shared.Shared.point_word.Goals as goal
-use Rattle.step_core.specs.ViewSteps.{loaded, saw_at}
-use Rattle.step_core.specs.ViewTrees.{SeesNode}
-use Rattle.step_core.specs.Views.{sees}
-use Rattle.grown_runs.specs.Table.WordNames.{WritesWord}
-use Rattle.grown_runs.specs.Table.WordNames.Word.{PointOf}
-use Rattle.grown_runs.specs.Table.WordPlaces.{place_of}
+use Rattle.step_core.proofs.Common.{loaded, saw_at, SeesNode, sees}
+use Rattle.grown_runs.proofs.Common.{WritesWord, PointOf, place_of}
 
 pub point-place-requires : goal.point-place-requires
 point-place-requires c =

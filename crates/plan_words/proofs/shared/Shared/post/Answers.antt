@@ -4,11 +4,8 @@ use Rattle.plan_words.proofs.Owning.{may_post_here, same_run, same_table, with_v
 use Rattle.plan_words.proofs.Posting.{mark_fits, post_node, post_pair, post_within, posted_low, posted_view, posted_whole}
 use Rattle.plan_words.proofs.shared.Shared.post.Goals as goal
 use Rattle.plan_words.specs.States.{HasWholeShare}
-use Rattle.step_core.specs.SeenBests.{MayPost}
-use Rattle.step_core.specs.ViewSteps.{best_with, hand_with_post, posted, with_best}
-use Rattle.step_core.specs.Views.{sees}
-use Rattle.grown_runs.specs.Table.WordNames.Word.{TreeOf}
-use Rattle.grown_runs.specs.Table.Words.{best_node_in, best_word, cost_in}
+use Rattle.step_core.proofs.Common.{MayPost, best_with, hand_with_post, posted, with_best, sees}
+use Rattle.grown_runs.proofs.Common.{TreeOf, best_node_in, best_word, cost_in}
 
 pub word-requires : goal.word-requires
 word-requires c =

@@ -1,15 +1,12 @@
 use Rattle.std.proofs.Common.{◌≡◌, false, true, ap, refl, sym, ◌∙◌}
-use Rattle.plan_model.specs.Trees.BestNode.{lies_in_goals}
+use Rattle.grown_runs.proofs.Common.{lies_in_goals, PointOf}
 use Rattle.plan_words.proofs.GoingOn.{GoesOn-trans}
 use Rattle.plan_words.proofs.Posting.{LooksAndPosts-looked, LooksAndPosts-posted, OnlyPosts-after, OnlyPosts-posted, goal-again, goal-at, lies-at}
 use Rattle.plan_words.proofs.Posting.{sees-point_again}
 use Rattle.plan_words.proofs.shared.Shared.post_lowered.Goals as goal
 use Rattle.plan_words.proofs.shared.Shared.post_lowered.Goals.{After-skips_by}
 use Rattle.plan_words.specs.States.{PassState}
-use Rattle.step_core.specs.SeenBests.{SeesGoal}
-use Rattle.step_core.specs.ViewSteps.{loaded}
-use Rattle.step_core.specs.Views.{sees}
-use Rattle.grown_runs.specs.Table.WordNames.Word.{PointOf}
+use Rattle.step_core.proofs.Common.{SeesGoal, loaded, sees}
 use Rattle.step_core.specs.declared.views.SharedRun.{SharedRun}
 
 -- nothing is seen anew by the look at the point

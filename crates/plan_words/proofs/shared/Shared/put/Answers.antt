@@ -10,11 +10,8 @@ use Rattle.plan_words.proofs.shared.Shared.put.Goals as goal
 use Rattle.plan_words.proofs.shared.Shared.put.Goals.{else-found-eq0, then-found-eq0}
 use Rattle.plan_words.specs.States.{GoesOn}
 use Rattle.plan_words.specs.Plays.{Tells}
-use Rattle.step_core.specs.Stages.{has_first}
-use Rattle.step_core.specs.ViewSteps.{last_fill, linked_at, saw_at}
-use Rattle.step_core.specs.ViewTrees.{LeadsTo}
-use Rattle.grown_runs.specs.Table.WordNames.Word.{ChildOf}
-use Rattle.grown_runs.specs.Table.WordPlaces.{place_of}
+use Rattle.step_core.proofs.Common.{has_first, last_fill, linked_at, saw_at, LeadsTo}
+use Rattle.grown_runs.proofs.Common.{ChildOf, place_of}
 use Rattle.step_core.specs.declared.views.Stage.TheVariants.{Linked, Treed}
 
 pub unreachable-requires : goal.unreachable-requires

@@ -1,18 +1,11 @@
 use Rattle.std.proofs.Common.{◌∙◌, ap, subst, sym}
 use Rattle.std.specs.Prelude.{slice_index}
 use Rattle.std.proofs.lemmas.Result.{IfOk-weaker}
-use Rattle.plan_model.specs.Runs.Turns.{turns_of}
+use Rattle.grown_runs.proofs.Common.{turns_of, skipping_goals, state_of_grown, words_of_grown, IsLeastBest, Best, record_at, sizes_in, words_in}
 use Rattle.plan_words.proofs.Dealing.{IsLeastBest-written, MayClaim-starts, StartsAs-pass, sees-started, without_best-written}
 use Rattle.plan_words.proofs.shared.Shared.start.Goals as goal
 use Rattle.plan_words.specs.States.{first_view, new_pass, without_best}
 use Rattle.plan_words.specs.declared.openings.Opening.{Opening}
-use Rattle.plan_model.specs.Runs.Textbook.{skipping_goals}
-use Rattle.grown_runs.specs.Runs.GrownRuns.{state_of_grown, words_of_grown}
-use Rattle.grown_runs.specs.Runs.LeastBests.{IsLeastBest}
-use Rattle.grown_runs.specs.Table.WordNames.Word.{Best}
-use Rattle.grown_runs.specs.Runs.GrownWords.{record_at}
-use Rattle.grown_runs.specs.Table.PlacesOfWords.{sizes_in}
-use Rattle.grown_runs.specs.Table.RunWords.{words_in}
 
 pub deal-requires-clause-turns : goal.deal-requires-clause-turns
 deal-requires-clause-turns c w low =

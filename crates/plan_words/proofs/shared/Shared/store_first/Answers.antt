@@ -6,13 +6,8 @@ use Rattle.plan_words.proofs.Owning.{goes_on_told, may_first_here, same_run, sam
 use Rattle.plan_words.proofs.ToldHands.{none_held}
 use Rattle.plan_words.proofs.shared.Shared.store_first.Goals as goal
 use Rattle.plan_words.specs.Plays.{Tells}
-use Rattle.grown_runs.proofs.Table.PackedWords.{cost_in-tree_word, parent_in-tree_word}
-use Rattle.grown_runs.specs.Table.PlacesOfWords.{sizes_in}
-use Rattle.step_core.specs.ViewSteps.{half}
-use Rattle.step_core.specs.ViewTrees.{MayHang}
-use Rattle.grown_runs.specs.Table.WordNames.Word.{FirstOf}
-use Rattle.grown_runs.specs.Table.WordPlaces.{place_of}
-use Rattle.grown_runs.specs.Table.Words.{cost_in, parent_in}
+use Rattle.grown_runs.proofs.Common.{cost_in-tree_word, parent_in-tree_word, sizes_in, FirstOf, place_of, cost_in, parent_in}
+use Rattle.step_core.proofs.Common.{half, MayHang}
 use Rattle.step_core.specs.declared.views.Stage.TheVariants.{Pointed}
 
 pub unreachable-requires : goal.unreachable-requires

@@ -6,13 +6,8 @@ use Rattle.plan_words.proofs.Owning.{goes_on_told, may_point_here, same_run, sam
 use Rattle.plan_words.proofs.ToldHands.{none_held}
 use Rattle.plan_words.proofs.shared.Shared.store_point.Goals as goal
 use Rattle.plan_words.specs.Plays.{Tells}
-use Rattle.step_core.proofs.OneView.LawfulSights.{IsBounded-steered}
-use Rattle.grown_runs.specs.Table.PlacesOfWords.{sizes_in}
-use Rattle.step_core.specs.ViewSteps.{pointed}
-use Rattle.step_core.specs.ViewTrees.{IsSteered}
-use Rattle.grown_runs.specs.Table.WordNames.Word.{PointOf}
-use Rattle.grown_runs.specs.Table.WordPlaces.{place_of}
-use Rattle.grown_runs.specs.Table.Words.{point_word}
+use Rattle.step_core.proofs.Common.{IsBounded-steered, pointed, IsSteered}
+use Rattle.grown_runs.proofs.Common.{sizes_in, PointOf, place_of, point_word}
 use Rattle.step_core.specs.declared.views.Stage.TheVariants.{Claimed}
 
 pub unreachable-requires : goal.unreachable-requires

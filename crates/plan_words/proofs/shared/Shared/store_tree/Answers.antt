@@ -5,11 +5,8 @@ use Rattle.plan_words.proofs.KeptPairs.{keeps_hand}
 use Rattle.plan_words.proofs.Owning.{may_tree_here, same_run, same_table}
 use Rattle.plan_words.proofs.ToldHands.{none_held}
 use Rattle.plan_words.proofs.shared.Shared.store_tree.Goals as goal
-use Rattle.grown_runs.specs.Table.PlacesOfWords.{sizes_in}
-use Rattle.step_core.specs.Stages.{has_first}
-use Rattle.step_core.specs.ViewSteps.{treed}
-use Rattle.grown_runs.specs.Table.WordNames.Word.{TreeOf}
-use Rattle.grown_runs.specs.Table.WordPlaces.{place_of}
+use Rattle.grown_runs.proofs.Common.{sizes_in, TreeOf, place_of}
+use Rattle.step_core.proofs.Common.{has_first, treed}
 use Rattle.step_core.specs.declared.views.Stage.TheVariants.{Half}
 
 pub unreachable-requires : goal.unreachable-requires

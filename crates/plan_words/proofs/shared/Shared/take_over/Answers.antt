@@ -5,8 +5,7 @@ use Rattle.plan_words.proofs.Owning.{may_load_here, may_take_over_here, same_run
 use Rattle.plan_words.proofs.shared.Shared.take_over.Goals as goal
 use Rattle.plan_words.specs.Plays.{Tells}
 use Rattle.plan_words.specs.declared.openings.Aim.{Aim}
-use Rattle.step_core.specs.ViewSteps.{loaded, saw_at}
-use Rattle.step_core.specs.Views.{sees}
+use Rattle.step_core.proofs.Common.{loaded, saw_at, sees}
 use Rattle.grown_runs.specs.Table.WordNames.Word.{Count}
 use Rattle.step_core.specs.declared.views.View.{View}
 

@@ -1,7 +1,6 @@
 use Rattle.std.proofs.Common.{arith, refl}
 use Rattle.std.proofs.lemmas.Bool.{leb-true}
-use Rattle.plan_model.proofs.NewNodes.{node_count-some}
-use Rattle.plan_model.proofs.NodeCounts.{node_count-length}
+use Rattle.grown_runs.proofs.Common.{node_count-some, node_count-length}
 use Rattle.edge_cost.proofs.RadiusFromRoot.{class_below}
 use Rattle.report_judge.specs.Workers.JudgedRuns.{run_of}
 use Rattle.report_judge.proofs.Workers.ClassRadii.{some_class, some_earlier}

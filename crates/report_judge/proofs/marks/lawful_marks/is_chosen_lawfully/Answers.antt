@@ -2,12 +2,7 @@ use Rattle.std.proofs.Common.{◌≡◌, ℕ, sym, ◌∙◌, subst}
 use Rattle.std.specs.Prelude.{IsTrue}
 use Rattle.std.proofs.lemmas.Bool.{true≢false}
 use Rattle.edge_cost.specs.declared.radii.Radii.{Radii}
-use Rattle.plan_model.specs.Geometry.Radius.{radius_of_class}
-use Rattle.plan_model.specs.declared.scenes.Scene.{Scene}
-use Rattle.plan_model.specs.Runs.RecordLaw.{IsNeighbour}
-use Rattle.plan_model.specs.Spaces.Clearance.{Clear}
-use Rattle.plan_model.specs.Trees.Nearness.{is_within}
-use Rattle.plan_model.specs.Trees.PointsByNumber.{point_at, point_of}
+use Rattle.grown_runs.proofs.Common.{radius_of_class, Scene, IsNeighbour, Clear, is_within, point_at, point_of}
 use Rattle.report_judge.specs.Workers.JudgedRuns.{AreRadiiOf, run_of, setup_by}
 use Rattle.report_judge.proofs.Workers.SeenLaws.{count_before-earlier}
 use Rattle.report_judge.proofs.marks.lawful_marks.is_chosen_lawfully.Goals as goal

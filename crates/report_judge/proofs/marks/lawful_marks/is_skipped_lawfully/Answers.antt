@@ -1,12 +1,8 @@
 use Rattle.std.proofs.Common.{◌≡◌, Bool, true, cond, [], Some, None, arith, sym, ap, ◌∙◌}
 use Rattle.std.specs.Prelude.{slice_index_or}
 use Rattle.std.proofs.lemmas.Bool.{leb-false, leb-true, true≢false}
-use Rattle.plan_model.specs.declared.scenes.Scene.{Scene}
-use Rattle.plan_model.specs.Runs.Textbook.{mark_bound, setup_of, skipping_goals}
-use Rattle.plan_model.specs.Trees.BestNode.{is_goal_point, lies_in_goals}
+use Rattle.grown_runs.proofs.Common.{Scene, mark_bound, setup_of, skipping_goals, is_goal_point, lies_in_goals, point_at, kept_cost_of}
 use Rattle.plan_model.specs.Trees.GoalBounds.{bound_of}
-use Rattle.plan_model.specs.Trees.PointsByNumber.{point_at}
-use Rattle.grown_runs.specs.Runs.PackedRuns.{kept_cost_of}
 use Rattle.report_judge.specs.Workers.JudgedRuns.{run_of}
 use Rattle.report_judge.proofs.Laws.ListedNodes.{goal-listed, goal-none}
 use Rattle.report_judge.proofs.marks.lawful_marks.is_skipped_lawfully.Goals as goal

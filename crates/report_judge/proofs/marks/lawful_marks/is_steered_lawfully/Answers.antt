@@ -1,7 +1,6 @@
 use Rattle.std.proofs.Common.{◌≡◌, arith, sym, ap, ◌∙◌, subst}
 use Rattle.std.proofs.lemmas.Bool.{true≢false}
-use Rattle.plan_model.specs.Geometry.Steering.{steered}
-use Rattle.plan_model.specs.Trees.PointsByNumber.{point_of}
+use Rattle.grown_runs.proofs.Common.{steered, point_of}
 use Rattle.report_judge.specs.Workers.JudgedRuns.{run_of, setup_by}
 use Rattle.report_judge.specs.Workers.MarkLaws.{EndsLawfully}
 use Rattle.report_judge.proofs.Laws.ListedNodes.{none-present, point_of-listed, present-listed}

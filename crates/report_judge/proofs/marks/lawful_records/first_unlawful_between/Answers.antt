@@ -1,8 +1,7 @@
 use Rattle.std.proofs.Common.{◌≡◌, Some, length, arith, ap, sym, ◌∙◌, subst}
 use Rattle.std.proofs.lemmas.Option.{slice_get_within}
-use Rattle.plan_model.specs.declared.records.Record.{Record}
+use Rattle.grown_runs.proofs.Common.{Record, state_of_lists}
 use Rattle.report_judge.specs.Workers.JudgedRuns.{KeepsRecord, KeepsRecordBetween}
-use Rattle.grown_runs.specs.Runs.PackedRuns.{state_of_lists}
 use Rattle.report_judge.specs.Workers.Standings.{AreStandings}
 use Rattle.report_judge.proofs.Workers.OwnMarkLaws.{IsFirstBreak-seen, mark_among, mark_of}
 use Rattle.report_judge.proofs.Workers.OwnNodeLaws.{AreStandings-earlier}

@@ -2,12 +2,7 @@ use Rattle.std.proofs.Common.{◌≡◌, ℕ, ◌<◌, List, Some, None, length,
 use Rattle.std.specs.Prelude.{slice_get, slice_index_or}
 use Rattle.std.proofs.lemmas.List.{get_or_default}
 use Rattle.std.proofs.lemmas.Option.{get_or_from_slice_get, slice_get-get_or, slice_get_within}
-use Rattle.plan_model.specs.declared.geometry.Point.{Point}
-use Rattle.plan_model.specs.declared.records.Record.{Record}
-use Rattle.plan_model.specs.Geometry.Bounds.{IsBounded}
-use Rattle.plan_model.specs.Runs.RecordLaw.{IsLawfulRecord}
-use Rattle.plan_model.specs.Runs.Textbook.{setup_of, skipping_goals}
-use Rattle.plan_model.proofs.MarkBounds.{All-task_marks_within}
+use Rattle.grown_runs.proofs.Common.{Point, Record, IsBounded, IsLawfulRecord, setup_of, skipping_goals, All-task_marks_within}
 use Rattle.report_judge.specs.Workers.JudgedRuns.{IsAsked, IsJudged, run_of}
 use Rattle.report_judge.specs.Workers.SeenNodes.{AreSeen}
 use Rattle.report_judge.specs.declared.own.seen_nodes.Seen.{Seen}

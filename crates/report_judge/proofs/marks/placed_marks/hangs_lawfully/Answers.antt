@@ -1,10 +1,7 @@
 use Rattle.std.proofs.Common.{◌≡◌, suc, ◌+◌, ◌-◌, ◌*◌, ◌≤◌, None, arith, sym, ap, ◌∙◌, subst}
 use Rattle.std.specs.Prelude.{slice_index_or}
 use Rattle.std.proofs.lemmas.Bool.{true≢false}
-use Rattle.plan_model.specs.declared.trees.Knot.{Knot}
-use Rattle.plan_model.specs.Runs.OrderLaw.{Hangs}
-use Rattle.plan_model.specs.Trees.PointsByNumber.{StandsAt, node_count}
-use Rattle.grown_runs.specs.Runs.PackedRuns.{kept_cost_of}
+use Rattle.grown_runs.proofs.Common.{Knot, Hangs, StandsAt, node_count, kept_cost_of}
 use Rattle.report_judge.specs.Workers.JudgedRuns.{run_of, setup_by}
 use Rattle.report_judge.proofs.Laws.HangingNodes.{Hangs-listed, listed-Hangs}
 use Rattle.report_judge.proofs.marks.placed_marks.hangs_lawfully.Goals as goal

@@ -1,7 +1,6 @@
 use Rattle.std.proofs.Common.{◌≡◌, ◌+◌, arith, sym, ap}
 use Rattle.std.proofs.lemmas.Bool.{leb-false, leb-true}
-use Rattle.plan_model.specs.Geometry.Cost.{cost_of}
-use Rattle.plan_model.specs.Trees.PointsByNumber.{point_of}
+use Rattle.grown_runs.proofs.Common.{cost_of, point_of}
 use Rattle.report_judge.specs.Workers.JudgedRuns.{run_of}
 use Rattle.report_judge.proofs.Workers.FirstCosts.{first_cost_low}
 use Rattle.report_judge.proofs.Laws.ListedNodes.{none-present, point_of-listed, present-listed}

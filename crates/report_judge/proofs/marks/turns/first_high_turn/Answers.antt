@@ -1,8 +1,7 @@
 use Rattle.std.proofs.Common.{◌≡◌, ◌<◌, Some, length, arith, refl, sym, ◌∙◌, subst, below_more}
 use Rattle.std.specs.Prelude.{slice_get}
 use Rattle.std.proofs.lemmas.Option.{slice_get_read}
-use Rattle.plan_model.specs.declared.records.Record.{Record}
-use Rattle.plan_model.specs.Runs.Turns.{turns_of}
+use Rattle.grown_runs.proofs.Common.{Record, turns_of}
 use Rattle.report_judge.specs.Laws.FirstBreaks.{HasLowTurn}
 use Rattle.report_judge.proofs.marks.turns.first_high_turn.Goals as goal
 

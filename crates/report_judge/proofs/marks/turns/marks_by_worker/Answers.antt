@@ -7,9 +7,7 @@ use Rattle.std.proofs.lemmas.List.{get_or-replicate, get_or-set_other, length-se
 use Rattle.std.proofs.lemmas.List.FromFn.{length-range_with_len}
 use Rattle.std.proofs.lemmas.List.Sums.{count_by-le-length}
 use Rattle.std.proofs.lemmas.Option.{slice_get_read}
-use Rattle.plan_model.specs.declared.records.Record.{Record}
-use Rattle.plan_model.specs.Runs.Turns.{is_of_worker, turns_of}
-use Rattle.plan_model.proofs.CountsBelow.{count-more}
+use Rattle.grown_runs.proofs.Common.{Record, is_of_worker, turns_of, count-more}
 use Rattle.report_judge.proofs.marks.turns.marks_by_worker.Goals as goal
 
 -- a worker has handled at most as many marks as there are

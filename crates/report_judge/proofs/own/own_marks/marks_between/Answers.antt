@@ -2,9 +2,7 @@ use Rattle.std.proofs.Common.{◌≡◌, suc, ◌+◌, ◌<◌, [], ◌∷◌, �
 use Rattle.std.specs.Prelude.{All, IfSome, None, slice_index_or}
 use Rattle.std.proofs.lemmas.List.{get_or_default}
 use Rattle.std.proofs.lemmas.List.Elements.{All-push}
-use Rattle.plan_model.specs.declared.geometry.Point.{Point}
-use Rattle.plan_model.specs.Geometry.Bounds.{IsBounded}
-use Rattle.plan_model.proofs.MarkBounds.{All-task_marks_within}
+use Rattle.grown_runs.proofs.Common.{Point, IsBounded, All-task_marks_within}
 use Rattle.point_strips.specs.declared.strips.Numbered.{Numbered}
 use Rattle.report_judge.specs.Workers.OwnMarks.{AreMarksBetween}
 use Rattle.report_judge.specs.Workers.SeenNodes.{IsMarkOfTurn}

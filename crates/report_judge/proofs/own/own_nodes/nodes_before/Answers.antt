@@ -2,9 +2,8 @@ use Rattle.std.proofs.Common.{◌≡◌, suc, ◌+◌, [], ◌∷◌, ◌++◌, 
 use Rattle.std.specs.Prelude.{All, slice_index_or}
 use Rattle.std.proofs.lemmas.List.{get_or_default}
 use Rattle.std.proofs.lemmas.List.Elements.{All-push}
-use Rattle.plan_model.specs.Geometry.Bounds.{IsBounded}
+use Rattle.grown_runs.proofs.Common.{IsBounded, state_of_lists}
 use Rattle.point_strips.specs.declared.strips.Numbered.{Numbered}
-use Rattle.grown_runs.specs.Runs.PackedRuns.{state_of_lists}
 use Rattle.report_judge.specs.Workers.OwnNodes.{AreNodesBefore, IsPlacedAt}
 use Rattle.report_judge.specs.Workers.SeenNodes.{IsMarkOfTurn}
 use Rattle.report_judge.proofs.Laws.ListedNodes.{none-stands, stands-listed}

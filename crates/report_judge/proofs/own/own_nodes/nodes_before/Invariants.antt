@@ -1,6 +1,5 @@
 use Rattle.std.specs.Prelude.{All}
-use Rattle.plan_model.specs.Geometry.Bounds.{IsBounded}
-use Rattle.grown_runs.specs.Runs.PackedRuns.{state_of_lists}
+use Rattle.grown_runs.proofs.Common.{IsBounded, state_of_lists}
 use Rattle.report_judge.specs.Workers.OwnNodes.{AreNodesBefore}
 use Rattle.report_judge.proofs.own.own_nodes.nodes_before.Given as goal
 

@@ -1,6 +1,5 @@
 use Rattle.std.proofs.Common.{arith}
-use Rattle.plan_model.specs.Trees.NodeLists.{without_costs}
-use Rattle.plan_model.proofs.NewNodes.{IsPresent-stands, present_below}
+use Rattle.grown_runs.proofs.Common.{without_costs, IsPresent-stands, present_below}
 use Rattle.report_judge.specs.Workers.JudgedRuns.{run_of}
 use Rattle.report_judge.proofs.Laws.LawfulSheets.{length-without_costs}
 use Rattle.report_judge.proofs.Workers.OwnNodeLaws.{is_free, is_taken_by, nearer_within}

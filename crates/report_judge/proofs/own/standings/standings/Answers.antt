@@ -1,9 +1,8 @@
 use Rattle.std.proofs.Common.{◌≡◌, ℕ, suc, [], ◌∷◌, ◌++◌, ◌<◌, ◌≤◌, Option, Some, None, length, length-append, arith, sym, ap, ◌∙◌, subst, inl, inr}
 use Rattle.std.specs.Prelude.{IfSome, slice_index_or}
-use Rattle.grown_runs.specs.Runs.PackedRuns.{state_of_lists}
+use Rattle.grown_runs.proofs.Common.{state_of_lists, MOST_MARKS}
 use Rattle.std.proofs.lemmas.Bool.{cases_lt}
 use Rattle.std.proofs.lemmas.List.{get_or_push}
-use Rattle.plan_model.specs.declared.limits.TheConstants.{MOST_MARKS}
 use Rattle.report_judge.specs.Workers.SeenNodes.{IsMarkOfTurn}
 use Rattle.report_judge.specs.Workers.Standings.{no_standing, standing_at, standing_of}
 use Rattle.report_judge.proofs.Workers.SeenTurns.{low_mark}

@@ -1,8 +1,7 @@
 use Rattle.std.proofs.Common.{◌≡◌, List, [], ◌∷◌, ◌++◌, map, length-append, arith, sym, ap, subst}
 use Rattle.std.specs.Prelude.{All, length}
 use Rattle.std.proofs.lemmas.List.{map-append}
-use Rattle.plan_model.specs.declared.geometry.Point.{Point}
-use Rattle.plan_model.specs.Geometry.Bounds.{IsBounded}
+use Rattle.grown_runs.proofs.Common.{Point, IsBounded}
 use Rattle.report_judge.specs.Texts.ReportLines.{lines_text}
 use Rattle.report_judge.specs.Texts.ReportLines.ReportLine.{PathPoint}
 use Rattle.report_judge.proofs.Texts.FrontLaws.{All-push, one_more}

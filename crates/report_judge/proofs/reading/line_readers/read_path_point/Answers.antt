@@ -1,6 +1,5 @@
 use Rattle.std.proofs.Common.{◌≡◌, ℕ, List, ◌++◌, sym, ◌∙◌}
-use Rattle.plan_model.specs.declared.geometry.Point.{Point}
-use Rattle.plan_model.specs.Geometry.Bounds.{IsBounded}
+use Rattle.grown_runs.proofs.Common.{Point, IsBounded}
 use Rattle.report_judge.specs.Texts.ReportLines.{line_text}
 use Rattle.report_judge.specs.Texts.ReportLines.ReportLine.{PathPoint}
 use Rattle.report_judge.proofs.Texts.FieldWords.{none_always}

@@ -1,6 +1,5 @@
 use Rattle.std.proofs.Common.{◌≡◌, ℕ, List, [], arith, ap, ◌∙◌}
-use Rattle.plan_model.specs.declared.geometry.Point.{Point}
-use Rattle.plan_model.specs.Geometry.Bounds.{IsBounded}
+use Rattle.grown_runs.proofs.Common.{Point, IsBounded}
 use Rattle.report_judge.specs.Texts.ReportLines.{field, point_field}
 use Rattle.report_judge.proofs.Texts.FieldWords.{none_always}
 use Rattle.report_judge.proofs.reading.line_readers.read_point.Goals as goal

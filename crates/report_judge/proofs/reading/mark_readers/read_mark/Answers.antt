@@ -1,6 +1,5 @@
 use Rattle.std.proofs.Common.{◌≡◌, List, ℕ, ◌++◌, arith, ◌∙◌}
-use Rattle.plan_model.specs.declared.records.Record.{Record}
-use Rattle.plan_model.specs.Reports.ReportText.{line, outcome_words}
+use Rattle.grown_runs.proofs.Common.{Record, line, outcome_words}
 use Rattle.report_judge.specs.Texts.ReportLines.{FitsEntry, line_text}
 use Rattle.report_judge.specs.Texts.ReportLines.ReportLine.{MarkLine}
 use Rattle.report_judge.proofs.Texts.FieldWords.{none_always}

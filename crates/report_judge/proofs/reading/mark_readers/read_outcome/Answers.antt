@@ -1,8 +1,7 @@
 use Rattle.std.proofs.Common.{◌≡◌, List, ℕ, ◌++◌, sym, subst, ◌∙◌}
 use Rattle.std.specs.Option.{IfNone, IfSome}
 use Rattle.std.proofs.lemmas.Bool.{true≢false}
-use Rattle.plan_model.specs.declared.records.Record.{Record}
-use Rattle.plan_model.specs.Reports.ReportText.{line, outcome_words}
+use Rattle.grown_runs.proofs.Common.{Record, line, outcome_words}
 use Rattle.report_judge.specs.Texts.ReportLines.{Extent, FitsEntry}
 use Rattle.report_judge.proofs.Texts.FieldWords.{none_always}
 use Rattle.report_judge.proofs.Texts.MarkParts.{no_outcome}

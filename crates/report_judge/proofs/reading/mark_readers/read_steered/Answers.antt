@@ -1,7 +1,6 @@
 use Rattle.std.proofs.Common.{◌≡◌, ℕ, List, [], ◌∷◌, ◌++◌, sym, ap, ◌∙◌, decimal}
 use Rattle.std.specs.Prelude.{codes}
-use Rattle.plan_model.specs.declared.records.Record.{Record}
-use Rattle.plan_model.specs.Reports.ReportText.{line, outcome_words}
+use Rattle.grown_runs.proofs.Common.{Record, line, outcome_words}
 use Rattle.report_judge.specs.Texts.ReportLines.{Extent, FitsEntry, field}
 use Rattle.report_judge.proofs.Texts.FieldWords.{none_always}
 use Rattle.report_judge.proofs.Texts.MarkParts.{nearest_first, no_ending}

@@ -1,7 +1,5 @@
 use Rattle.std.proofs.Common.{◌≡◌, ℕ, ◌-◌, [], length, Some, arith, sym, ap, ◌∙◌}
-use Rattle.plan_model.specs.Trees.LeastPairs.{lesser}
-use Rattle.plan_model.specs.Trees.TreeStates.{sum_in}
-use Rattle.grown_runs.specs.Runs.PackedRuns.{state_of_lists}
+use Rattle.grown_runs.proofs.Common.{lesser, sum_in, state_of_lists}
 use Rattle.settle_report.proofs.GoalNodes.{best_of, best_of-goal_node, best_of-other, best_of-all}
 use Rattle.report_judge.proofs.trees.best_paths.best.Goals as goal
 

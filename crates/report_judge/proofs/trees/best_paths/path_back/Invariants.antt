@@ -1,6 +1,5 @@
 use Rattle.std.proofs.Common.{◌≡◌, [], ◌++◌}
-use Rattle.plan_model.specs.Trees.PointsByNumber.{IsPresent}
-use Rattle.grown_runs.specs.Runs.PackedRuns.{state_of_lists}
+use Rattle.grown_runs.proofs.Common.{IsPresent, state_of_lists}
 use Rattle.settle_report.proofs.GrownPaths.{points_up}
 use Rattle.report_judge.proofs.trees.best_paths.path_back.Given as goal
 

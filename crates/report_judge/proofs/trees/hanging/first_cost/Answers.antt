@@ -1,8 +1,6 @@
 use Rattle.std.proofs.Common.{◌-◌, length, refl, sym, ap, ◌∙◌, arith}
 use Rattle.std.proofs.lemmas.Option.{slice_get_past, slice_get_read}
-use Rattle.plan_model.specs.declared.records.Record.{Record}
-use Rattle.plan_model.specs.Trees.TreeStates.{first_cost_of, recorded_or}
-use Rattle.grown_runs.specs.Runs.PackedRuns.{state_of_lists}
+use Rattle.grown_runs.proofs.Common.{Record, first_cost_of, recorded_or, state_of_lists}
 use Rattle.report_judge.proofs.Laws.HangingNodes.{first_cost-recorded}
 use Rattle.report_judge.proofs.trees.hanging.first_cost.Goals as goal
 

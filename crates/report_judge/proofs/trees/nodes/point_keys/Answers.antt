@@ -2,8 +2,7 @@ use Rattle.std.proofs.Common.{◌≡◌, ℕ, ◌+◌, ◌<◌, List, [], ◌∷
 use Rattle.std.specs.Prelude.{IfSome, slice_index_or}
 use Rattle.std.proofs.lemmas.Bool.{cases_lt}
 use Rattle.std.proofs.lemmas.List.{get_or_append_left, get_or_push}
-use Rattle.plan_model.specs.declared.trees.Knot.{Knot}
-use Rattle.plan_model.specs.Geometry.Bounds.{IsBounded}
+use Rattle.grown_runs.proofs.Common.{Knot, IsBounded}
 use Rattle.report_judge.specs.Laws.ExactEdges.{FitsEdges}
 use Rattle.report_judge.specs.Laws.FirstBreaks.{point_key}
 use Rattle.report_judge.proofs.trees.nodes.point_keys.Goals as goal

@@ -1,8 +1,5 @@
 use Rattle.std.proofs.Common.{◌≡◌, ℕ, ◌+◌, ◌-◌, false, true, List, [], ◌∷◌, ◌++◌, Some, None, get_or, length, ap, ◌∙◌, refl, subst, sym, arith}
-use Rattle.plan_model.specs.Runs.Textbook.{skipping_goals}
-use Rattle.plan_model.specs.Trees.BestNode.{lies_in_goals}
-use Rattle.plan_model.specs.Trees.NodeLists.{node_at, points_of}
-use Rattle.plan_model.specs.declared.geometry.Goal.{Goal}
+use Rattle.grown_runs.proofs.Common.{skipping_goals, lies_in_goals, node_at, points_of, Goal}
 use Rattle.seq_planner.specs.GoalLists.{AreGoalNodesBelow}
 use Rattle.seq_planner.proofs.GoalNodeLists.{AreGoalNodesBelow-absent, AreGoalNodesBelow-beside, AreGoalNodesBelow-in_goal, skipping_goals-by}
 use Rattle.seq_planner.proofs.goal_nodes.GoalNodes.look_at_last.Goals as goal

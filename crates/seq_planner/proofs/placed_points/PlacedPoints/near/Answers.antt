@@ -1,6 +1,5 @@
 use Rattle.std.proofs.Common.{◌≡◌, ◌*◌, ◌<◌, [], ◌∷◌, ◌++◌, length, get_or, ap, sym, ◌∙◌, arith}
-use Rattle.plan_model.specs.Geometry.Plane.{squared_distance}
-use Rattle.plan_model.specs.declared.geometry.Point.{Point}
+use Rattle.grown_runs.proofs.Common.{squared_distance, Point}
 use Rattle.seq_planner.proofs.ScannedLists.{near_more_inside, near_more_outside, near-all, listed_near-zero, listed_near-above}
 use Rattle.seq_planner.proofs.placed_points.PlacedPoints.near.Goals as goal
 use Rattle.seq_planner.proofs.placed_points.PlacedPoints.near.Goals.{then-squared_distance-most+in_ok-push, else-squared_distance-most}

@@ -1,8 +1,6 @@
 use Rattle.std.proofs.Common.{◌≡◌, List, Option, take}
 use Rattle.std.specs.Prelude.{filter}
-use Rattle.plan_model.specs.declared.geometry.Point.{Point}
-use Rattle.plan_model.specs.Trees.Nearness.{is_within}
-use Rattle.plan_model.specs.Trees.PointsByNumber.{point_at}
+use Rattle.grown_runs.proofs.Common.{Point, is_within, point_at}
 use Rattle.seq_planner.specs.PlacedLists.{ArePlaced}
 use Rattle.seq_planner.proofs.placed_points.PlacedPoints.near.Given as goal
 

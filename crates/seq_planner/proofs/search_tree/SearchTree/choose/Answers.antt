@@ -1,8 +1,6 @@
 use Rattle.std.proofs.Common.{◌≡◌, ◌+◌, ◌∷◌, ◌++◌, [], get_or, take, arith, ap, ◌∙◌, sym}
 use Rattle.std.proofs.lemmas.List.{take_more}
-use Rattle.plan_model.specs.Runs.Textbook.{cost_through}
-use Rattle.plan_model.specs.Trees.NodeLists.{points_of}
-use Rattle.plan_model.proofs.ParentChoices.{IsFirstLeast-alone, IsFirstLeast-takes, IsFirstLeast-keeps}
+use Rattle.grown_runs.proofs.Common.{cost_through, points_of, IsFirstLeast-alone, IsFirstLeast-takes, IsFirstLeast-keeps}
 use Rattle.seq_planner.proofs.search_tree.SearchTree.choose.Goals as goal
 use Rattle.seq_planner.proofs.search_tree.SearchTree.choose.Goals.{then-wins, else-wins}
 

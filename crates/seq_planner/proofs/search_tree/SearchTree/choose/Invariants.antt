@@ -1,8 +1,6 @@
 use Rattle.std.proofs.Common.{◌∷◌, take}
 use Rattle.edge_cost.specs.LeastParents.{IsLeastParent}
-use Rattle.plan_model.specs.Trees.OpenNodes.{IsOpenTo}
-use Rattle.plan_model.specs.Runs.Textbook.{cost_through}
-use Rattle.plan_model.specs.Trees.NodeLists.{points_of}
+use Rattle.grown_runs.proofs.Common.{IsOpenTo, cost_through, points_of}
 use Rattle.seq_planner.proofs.search_tree.SearchTree.choose.Given as goal
 
 -- the best so far is that of the nearest node and the earlier near ones

@@ -1,16 +1,8 @@
 use Rattle.std.proofs.Common.{◌≡◌, ◌<◌, ℕ, List, ◌∷◌, length, true, arith, rules, sym, ap, ◌∙◌, subst}
 use Rattle.std.specs.Prelude.{All}
-use Rattle.plan_model.specs.declared.geometry.Point.{Point}
-use Rattle.plan_model.specs.declared.configuration_spaces.ConfigurationSpace.{ConfigurationSpace}
-use Rattle.plan_model.specs.Spaces.ConfigurationSpace.{space_of}
-use Rattle.plan_model.specs.Spaces.Clearance.{Clear}
+use Rattle.grown_runs.proofs.Common.{Point, ConfigurationSpace, space_of, Clear, IsOpenTo, IsPresent, node_count, class_of, radius_of, setup_of, near_new}
+use Rattle.grown_runs.proofs.Common.{cost_through, points_of, same_point-true, same_point-false}
 use Rattle.edge_cost.specs.LeastParents.{IsLeastParent}
-use Rattle.plan_model.specs.Trees.OpenNodes.{IsOpenTo}
-use Rattle.plan_model.specs.Trees.PointsByNumber.{IsPresent, node_count}
-use Rattle.plan_model.specs.Geometry.Radius.{class_of, radius_of}
-use Rattle.plan_model.specs.Runs.Textbook.{setup_of, near_new, cost_through}
-use Rattle.plan_model.specs.Trees.NodeLists.{points_of}
-use Rattle.plan_model.proofs.SamePoints.{same_point-true, same_point-false}
 use Rattle.seq_planner.proofs.PresentNumbers.{ArePlaced-bounded, ArePlaced-numbered}
 use Rattle.seq_planner.proofs.ReadCosts.{through-bound}
 use Rattle.seq_planner.proofs.SoundTrees.{IsBounded-present, few_present, some_present}

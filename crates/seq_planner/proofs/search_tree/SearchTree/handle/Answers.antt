@@ -1,10 +1,6 @@
 use Rattle.std.proofs.Common.{ℕ, List, [], ◌∷◌, ◌++◌, length, length-append, arith, sym, ap, ◌∙◌, subst}
 use Rattle.std.specs.Prelude.{All}
-use Rattle.plan_model.specs.declared.configuration_spaces.ConfigurationSpace.{ConfigurationSpace}
-use Rattle.plan_model.specs.Spaces.ConfigurationSpace.{space_of}
-use Rattle.plan_model.specs.Trees.PointsByNumber.{IsPresent}
-use Rattle.plan_model.specs.Trees.NodeLists.{points_of}
-use Rattle.plan_model.specs.Runs.Textbook.{Nodes, Rewires}
+use Rattle.grown_runs.proofs.Common.{ConfigurationSpace, space_of, IsPresent, points_of, Nodes, Rewires}
 use Rattle.seq_planner.proofs.PutNodes.{present-put, AddsRewired-some, AddsRewired-none, GrowsByMark-put}
 use Rattle.seq_planner.proofs.search_tree.SearchTree.handle.Goals as goal
 

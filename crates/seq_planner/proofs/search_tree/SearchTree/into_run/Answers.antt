@@ -1,15 +1,8 @@
 use Rattle.std.proofs.Common.{List, Option, length, sym, ap, ◌∙◌, subst}
 use Rattle.std.proofs.lemmas.Result.{IfOk-weaker}
-use Rattle.plan_model.specs.declared.records.Record.{Record}
-use Rattle.plan_model.specs.declared.trees.Knot.{Knot}
-use Rattle.plan_model.specs.Runs.ClosedLaw.{IsClosed}
-use Rattle.plan_model.specs.Runs.Textbook.{setup_of, start_alone}
-use Rattle.plan_model.specs.Trees.TreeStates.{TreeState, AreSameRuns}
-use Rattle.plan_model.proofs.RunLaws.{HandlesAll-length}
-use Rattle.plan_model.proofs.SameTrees.{IsSettled-of_textbook}
+use Rattle.grown_runs.proofs.Common.{Record, Knot, IsClosed, setup_of, start_alone, TreeState, AreSameRuns, HandlesAll-length, IsSettled-of_textbook}
+use Rattle.grown_runs.proofs.Common.{state_of_grown, state_of_lists}
 use Rattle.seq_planner.specs.SearchTrees.{with_costs}
-use Rattle.grown_runs.specs.Runs.GrownRuns.{state_of_grown}
-use Rattle.grown_runs.specs.Runs.PackedRuns.{state_of_lists}
 use Rattle.seq_planner.proofs.KeptNodes.{IsClosed-with_costs, IsOfTextbookRun-with_costs}
 use Rattle.seq_planner.proofs.search_tree.SearchTree.into_run.Goals as goal
 

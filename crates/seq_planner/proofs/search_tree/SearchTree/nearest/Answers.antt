@@ -1,11 +1,7 @@
 use Rattle.std.proofs.Common.{◌<◌, List, ℕ, length, arith, rules, sym, subst}
 use Rattle.std.specs.Prelude.{All, Contains}
 use Rattle.std.specs.List.Sorted.{IsStrictlyIncreasing}
-use Rattle.plan_model.specs.Trees.LeastPairs.{IsFirstLeast}
-use Rattle.plan_model.specs.Trees.Nearness.{distance_to}
-use Rattle.plan_model.specs.Trees.NodeLists.{points_of}
-use Rattle.plan_model.specs.Trees.PointsByNumber.{IsPresent}
-use Rattle.plan_model.proofs.DistinctPoints.{near-present}
+use Rattle.grown_runs.proofs.Common.{IsFirstLeast, distance_to, points_of, IsPresent, near-present}
 use Rattle.seq_planner.proofs.NearestNodes.{near-rising, IsNearest-near}
 use Rattle.seq_planner.proofs.ScannedLists.{near-listed}
 use Rattle.seq_planner.proofs.PresentNumbers.{ArePlaced-bounded, ArePlaced-count, ArePlaced-numbered}

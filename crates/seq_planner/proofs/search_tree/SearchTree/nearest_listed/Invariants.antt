@@ -1,6 +1,5 @@
 use Rattle.std.proofs.Common.{length, get_or}
-use Rattle.plan_model.specs.Trees.Nearness.{distance_to}
-use Rattle.plan_model.specs.Trees.NodeLists.{points_of}
+use Rattle.grown_runs.proofs.Common.{distance_to, points_of}
 use Rattle.seq_planner.proofs.LeastIndices.{IsLeastIndex}
 use Rattle.seq_planner.proofs.search_tree.SearchTree.nearest_listed.Given as goal
 

@@ -1,10 +1,7 @@
 use Rattle.std.proofs.Common.{◌≡◌, List, [], ◌∷◌, ◌++◌, Option, Some, length, arith, sym, subst}
 use Rattle.std.specs.Prelude.{option_map}
 use Rattle.std.proofs.lemmas.List.{length-map}
-use Rattle.plan_model.specs.declared.geometry.Point.{Point}
-use Rattle.plan_model.specs.declared.trees.Twig.{Twig}
-use Rattle.plan_model.specs.Trees.NodeLists.{points_of}
-use Rattle.plan_model.proofs.TreeChanges.{points_of-push}
+use Rattle.grown_runs.proofs.Common.{Point, Twig, points_of, points_of-push}
 use Rattle.seq_planner.specs.PlacedLists.{ArePlaced}
 use Rattle.seq_planner.proofs.PresentNumbers.{ArePlaced-absent}
 use Rattle.seq_planner.proofs.SoundTrees.{IsSound-put, IsSound-same}

@@ -1,8 +1,5 @@
 use Rattle.std.proofs.Common.{◌≡◌, ◌+◌, sym, subst}
-use Rattle.plan_model.specs.declared.geometry.Point.{Point}
-use Rattle.plan_model.specs.Spaces.Clearance.{Clear}
-use Rattle.plan_model.specs.Geometry.Cost.{cost_of}
-use Rattle.plan_model.specs.Runs.Textbook.{cost_through}
+use Rattle.grown_runs.proofs.Common.{Point, Clear, cost_of, cost_through}
 use Rattle.seq_planner.proofs.ReadCosts.{through-read}
 use Rattle.seq_planner.proofs.search_tree.SearchTree.wins.Given.{Over}
 use Rattle.seq_planner.proofs.search_tree.SearchTree.wins.Goals as goal

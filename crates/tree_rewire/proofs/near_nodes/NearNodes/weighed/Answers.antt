@@ -1,7 +1,6 @@
 use Rattle.std.proofs.Common.{◌≡◌, Some, ap, subst, sym, ◌∙◌}
 use Rattle.std.specs.Prelude.{slice_get}
-use Rattle.plan_model.specs.Geometry.Cost.{cost_of}
-use Rattle.plan_model.proofs.NewNodes.{point_of-stands}
+use Rattle.grown_runs.proofs.Common.{cost_of, point_of-stands}
 use Rattle.step_core.specs.Views.{tree_seen}
 use Rattle.tree_rewire.proofs.ChosenParents.{All-read}
 use Rattle.tree_rewire.proofs.CostSteps.{PassSees-point}

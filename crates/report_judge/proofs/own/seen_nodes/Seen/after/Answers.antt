@@ -2,9 +2,7 @@ use Rattle.std.proofs.Common.{◌≡◌, suc, ◌+◌, ◌<◌, Some, length, ar
 use Rattle.std.specs.Prelude.{IfSome}
 use Rattle.std.proofs.lemmas.Bool.{true≢false}
 use Rattle.std.proofs.lemmas.Option.{slice_get_read}
-use Rattle.plan_model.specs.Trees.BestNode.{is_goal_point}
-use Rattle.plan_model.specs.Trees.PointsByNumber.{point_at}
-use Rattle.grown_runs.specs.Runs.PackedRuns.{state_of_lists}
+use Rattle.grown_runs.proofs.Common.{is_goal_point, point_at, state_of_lists}
 use Rattle.report_judge.specs.Workers.SeenNodes.{IsMarkOfTurn}
 use Rattle.report_judge.proofs.Workers.SeenLaws.{AreSeen-inside, AreSeen-none, AreSeen-outside, AreSeen-unplaced, least_by, turn_of}
 use Rattle.report_judge.proofs.Workers.SeenStarts.{length-points}

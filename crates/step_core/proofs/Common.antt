@@ -1,0 +1,55 @@
+-- The names that proofs of the crates above cite, passed on from one place. Declares nothing.
+pub use Rattle.step_core.proofs.OneView.KeptPoints.{point_at-kept}
+pub use Rattle.step_core.proofs.OneView.LaterSteps.{IsLater-counted, IsLater-half, IsLater-pointed, IsLater-treed}
+pub use Rattle.step_core.proofs.OneView.LaterViews.{IsLater-claimed, IsLater-finished, IsLater-joined, IsLater-loaded, IsLater-refl, IsLater-stepped}
+pub use Rattle.step_core.proofs.OneView.LaterViews.{IsLater-trans, IsLawfulView-world}
+pub use Rattle.step_core.proofs.OneView.LawfulSights.{IsBounded-seen, IsBounded-steered, IsLaterMoment-later, IsPresent-seen, KeepsSight-lawful}
+pub use Rattle.step_core.proofs.OneView.LinkedViews.{ShowsNode, sees-linked}
+pub use Rattle.step_core.proofs.OneView.RecordedNodes.{has_node-recorded, own_recorded, present_recorded}
+pub use Rattle.step_core.proofs.OneView.SeenStates.{linked_points-seen}
+pub use Rattle.step_core.proofs.OneView.SeenTreesOfViews.{SeesTree-apart, SeesTree-looker, SeesTree-parted, SeesTree-stepped}
+pub use Rattle.step_core.proofs.OneView.SeenViews.{HasSeenAtLeast-later, IsPresent-later, SeesPoint-later}
+pub use Rattle.step_core.proofs.Parts.LawfulRecords.{is_own_node-earlier, own_count-most}
+pub use Rattle.step_core.proofs.Parts.LinkedStates.{linked-present, point_at-linked, record-unplaced}
+pub use Rattle.step_core.proofs.Parts.LinkedWays.{IsOnWayOf-found}
+pub use Rattle.step_core.proofs.Parts.ViewLists.{at-set}
+pub use Rattle.step_core.proofs.Parts.WorldEmpties.{zero-read}
+pub use Rattle.step_core.proofs.Parts.WorldHands.{IsWrittenFor}
+pub use Rattle.step_core.proofs.Parts.WorldLinks.{count-most}
+pub use Rattle.step_core.proofs.Parts.WorldPairs.{HasFirst, HasTree}
+pub use Rattle.step_core.proofs.Parts.WorldSeenPairs.{AreSeenLawfully-all}
+pub use Rattle.step_core.proofs.Seen.DistinctNumbers.{AreDifferent, AreDifferent-after, AreDifferent-few, AreDifferent-within, Contains-cases, Contains-none}
+pub use Rattle.step_core.proofs.Seen.DistinctNumbers.{Contains-within}
+pub use Rattle.step_core.proofs.Seen.LaterWords.{word_at-merged}
+pub use Rattle.step_core.proofs.Seen.Looks.{same_name}
+pub use Rattle.step_core.proofs.Seen.SeenByViews.{WritesWord-looked, WritesWord-saw, WritesWord-zero}
+pub use Rattle.step_core.proofs.Seen.SeenWays.{IsFree-here, IsOnWay-later}
+pub use Rattle.step_core.proofs.Seen.SeenWords.{point_at-seen, seen-within}
+pub use Rattle.step_core.proofs.Seen.TrueWords.{linked-within}
+pub use Rattle.step_core.proofs.Steps.FinishedMarks.{IsTurnWord-packed, IsWorld-recorded, in_hand}
+pub use Rattle.step_core.proofs.Steps.WorldJoins.{AreBehind-nothing, IsWorld-joined}
+pub use Rattle.step_core.proofs.Steps.WorldLowers.{IsLater-lowered, IsWorld-lowered, lower-found, tree-written}
+pub use Rattle.step_core.proofs.Steps.WorldNodes.{IsLater-link, IsWorld-counted, IsWorld-half, IsWorld-linked, IsWorld-pointed, IsWorld-treed}
+pub use Rattle.step_core.proofs.Steps.WorldPosts.{IsLater-best, IsWorld-best_loaded, IsWorld-posted}
+pub use Rattle.step_core.proofs.Steps.WorldSplits.{IsCut-looker, IsCut-parted, IsWorld-cut, goes_at, stays_at}
+pub use Rattle.step_core.proofs.Steps.WorldStarts.{IsWorld-started}
+pub use Rattle.step_core.proofs.Steps.WorldSteps.{HasWord-load, IsWorld-claimed, IsWorld-loaded, follow, seen_within, tree}
+pub use Rattle.step_core.proofs.Whole.ClosedWorlds.{AreSameRuns-cleared, HoldRun-whole, StandsAsSeen-whole, own_workers-whole}
+pub use Rattle.step_core.proofs.Whole.GrownFromWords.{GrowsInto-seen}
+pub use Rattle.step_core.proofs.Whole.WholeCopies.{children-whole, count-whole, nodes-whole, points-whole, records-whole, sees-whole}
+pub use Rattle.step_core.specs.LastViews.{StandsAsSeen}
+pub use Rattle.step_core.specs.LaterViews.{IsLater, IsLawfulView}
+pub use Rattle.step_core.specs.SeenBests.{IsInformed, IsUnskipped, MayBeSkipped, MayPost, SeesGoal, seen_first_cost}
+pub use Rattle.step_core.specs.SeenRecords.{IsOwnNeighbour, MayBeBlocked, MayBePlaced, MayEnd, MayRecord, MaySteer, is_own_node, own_count, own_first_cost}
+pub use Rattle.step_core.specs.SharedWords.{linked_point, linked_points, state_of_links}
+pub use Rattle.step_core.specs.Stages.{MayBeRecorded, has_count, has_first, has_link, has_point}
+pub use Rattle.step_core.specs.ViewStarts.{crew_from, member_of}
+pub use Rattle.step_core.specs.ViewSteps.{best_loaded, best_taken, best_with, claimed, counted, finished, finished_at, half, hand_with_best, hand_with_post}
+pub use Rattle.step_core.specs.ViewSteps.{joined, last_fill, linked, linked_at, loaded, looker, lowered, mark_of, new_hand, one_turn_more, pair_in_hand, parted}
+pub use Rattle.step_core.specs.ViewSteps.{place_in, pointed, post_noted, posted, saw, saw_at, second_alone, stepped, steps_then, treed, with_best}
+pub use Rattle.step_core.specs.ViewSteps.{without_second, worker_apart}
+pub use Rattle.step_core.specs.ViewTrees.{IsCostBelow, IsSeenPair, IsSteered, LeadsTo, MayHang, MayLoad, MayLower, SeesCost, SeesNode, SeesPoint, SeesTree}
+pub use Rattle.step_core.specs.ViewTrees.{sight_in}
+pub use Rattle.step_core.specs.Views.{IsViewOf, last_look, last_zero, run_of, run_sizes, sees, setup_in, share, spent, times, took_over, tree_seen}
+pub use Rattle.step_core.specs.Views.{words_of_run}
+pub use Rattle.step_core.specs.Worlds.{Agree, EachView, HasMade, IsMember, IsRecordWord, IsWorld, SeesBest, SomeSharer, Trees, counters, state_in}
