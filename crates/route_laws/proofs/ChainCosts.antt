@@ -1,0 +1,121 @@
+-- In a closed run no node of a chain in order was placed at more than the chain costs up to it, nor is the last one kept at more.
+use Rattle.std.proofs.Common.{◌≡◌, ℕ, suc, ◌+◌, ◌≤◌, List, [], ◌∷◌, Option, Some, None, arith, refl, sym, ap, subst, inl, inr}
+use Rattle.std.specs.Prelude.{◌⊎◌}
+use Rattle.plan_model.specs.declared.geometry.Goal.{Goal}
+use Rattle.plan_model.specs.declared.geometry.Point.{Point}
+use Rattle.plan_model.specs.declared.records.Outcome.{Outcome}
+use Rattle.plan_model.specs.declared.records.Outcome.TheVariants.{Placed}
+use Rattle.plan_model.specs.declared.records.Record.{Record}
+use Rattle.plan_model.specs.Geometry.Cost.{cost_of}
+use Rattle.plan_model.specs.Geometry.Steering.{steered}
+use Rattle.plan_model.specs.Runs.ClosedLaw.{IsClosed, mark_at}
+use Rattle.plan_model.specs.Runs.RecordLaw.{HasLawfulOutcome, IsPlacedLawfully}
+use Rattle.plan_model.specs.Runs.Textbook.{Setup}
+use Rattle.plan_model.specs.Trees.BestNode.{IsGoalNode, best_node}
+use Rattle.plan_model.specs.Trees.PointsByNumber.{IsPresent, point_of}
+use Rattle.plan_model.specs.Trees.TreeStates.{TreeState, first_cost_of, recorded_or, sum_in}
+use Rattle.plan_model.proofs.BestNodeLaws.{best_node-none, best_node-some}
+use Rattle.plan_model.proofs.ClosedLaws.{KeepsFirstCosts-closed}
+use Rattle.plan_model.proofs.CostLaws.{cost_of-swap}
+use Rattle.plan_model.proofs.CountLaws.{numbers-closed}
+use Rattle.plan_model.proofs.EarlierNodes.{earlier-present}
+use Rattle.plan_model.proofs.NewNodes.{point_of-stands}
+use Rattle.plan_model.proofs.OrderLaws.{start-present}
+use Rattle.plan_model.proofs.OrderedTrees.{sum_in-le_cost}
+use Rattle.plan_model.proofs.PlacedNodes.{present-of_record}
+use Rattle.route_laws.specs.Chains.{IsChain, IsChainInOrder, IsLinkInOrder, cost_of_chain}
+
+module _ (setup : Setup) (marks : List Point) (limit : ℕ) (state : TreeState) (closed : IsClosed setup marks limit state) where
+  abbrev point : ℕ → Point
+  point n = point_of state.points n
+
+  -- ---- one link
+
+  -- the law of a mark that was placed
+  placed_of : (k : ℕ) (entry : Record) (outcome : Outcome) → outcome ≡ Placed → HasLawfulOutcome setup state k (mark_at marks k) entry outcome
+      → IsPlacedLawfully setup state k entry (steered (point entry.nearest) (mark_at marks k) setup.step)
+  placed_of k entry outcome e h =
+      let own = subst (λ o. HasLawfulOutcome setup state k (mark_at marks k) entry o) e h in
+      own.outcome
+
+  -- said of the point at which its node stands
+  placed_at : (k : ℕ) (entry : Record) → state.record_of k ≡ Some entry → entry.outcome ≡ Placed
+      → IsPlacedLawfully setup state k entry (point (suc k))
+  placed_at k entry h placed =
+      let p : Point = steered (point entry.nearest) (mark_at marks k) setup.step in
+      let own : IsPlacedLawfully setup state k entry p = placed_of k entry entry.outcome placed (closed.lawful k entry h) in
+      subst (IsPlacedLawfully setup state k entry) (sym (point_of-stands state.points (suc k) p own.by_tree.stands)) own
+
+  first_cost_is : (k : ℕ) (entry : Record) → state.record_of k ≡ Some entry → first_cost_of state (suc k) ≡ entry.first_cost
+  first_cost_is k entry h = ap (recorded_or (state.written_cost (suc k))) h
+
+  module _ (i n : ℕ) (link : IsLinkInOrder setup state i n) where
+    own_law : IsPlacedLawfully setup state link.mark link.entry (point n)
+    own_law =
+        subst (λ m. IsPlacedLawfully setup state link.mark link.entry (point m)) (sym link.number)
+        (placed_at link.mark link.entry link.recorded link.placed)
+
+    own_first_cost : first_cost_of state n ≡ link.entry.first_cost
+    own_first_cost =
+        subst (λ m. first_cost_of state m ≡ link.entry.first_cost) (sym link.number) (first_cost_is link.mark link.entry link.recorded)
+
+    -- the later node is present
+    later-present : IsPresent state.points n
+    later-present =
+        subst (IsPresent state.points) (sym link.number) (present-of_record state closed.placed link.mark link.entry link.recorded link.placed)
+
+    -- and so is the earlier one
+    first-present : IsPresent state.points i
+    first-present = earlier-present state link.entry (start-present setup state closed.order) closed.placed i link.neighbour.earlier
+
+    -- the later node was placed at no more than by way of the earlier one
+    first_cost-link : first_cost_of state n ≤ first_cost_of state i + cost_of (point i) (point n)
+    first_cost-link = omega (arith, own_law.by_worker.chosen i link.neighbour, own_first_cost)
+
+    -- and the earlier one is kept at no more than by way of the later one
+    cost-link_back : state.cost i ≤ first_cost_of state n + cost_of (point i) (point n)
+    cost-link_back = omega (arith, own_law.by_worker.rewired i link.neighbour, own_first_cost)
+
+  -- ---- chains
+
+  -- no node of a chain in order was placed at more than the chain costs up to it
+  first_cost-chain : (n : ℕ) (earlier : List ℕ) → IsChainInOrder setup state (n ∷ earlier) → first_cost_of state n ≤ cost_of_chain state (n ∷ earlier)
+  first_cost-chain n [] h = omega (arith, ap (first_cost_of state) h)
+  first_cost-chain n (i ∷ earlier) (link, rest) = omega (arith, first_cost-link i n link, first_cost-chain i earlier rest)
+
+  chain-present : (n : ℕ) (earlier : List ℕ) → IsChain setup state n earlier → IsPresent state.points n
+  chain-present n [] h = subst (IsPresent state.points) (sym h) (start-present setup state closed.order)
+  chain-present n (i ∷ earlier) (inl link, rest) = later-present i n link
+  chain-present n (i ∷ earlier) (inr link, rest) = first-present n i link
+
+  -- the last node of a chain is kept at no more than the chain costs
+  pub cost-chain : (n : ℕ) (earlier : List ℕ) → IsChain setup state n earlier → state.cost n ≤ cost_of_chain state (n ∷ earlier)
+  cost-chain n [] h = omega (arith, ap state.cost h, closed.order.start_cost)
+  cost-chain n (i ∷ earlier) (inl link, rest) =
+      omega (
+        arith,
+        (KeepsFirstCosts-closed setup marks limit state closed).kept n (later-present i n link),
+        first_cost-link i n link,
+        first_cost-chain i earlier rest,
+      )
+  cost-chain n (i ∷ earlier) (inr link, rest) =
+      omega (arith, cost-link_back n i link, cost_of-swap (point n) (point i), first_cost-chain i earlier rest)
+
+  -- so does its sum
+  pub sum_in-chain : (n : ℕ) (earlier : List ℕ) → IsChain setup state n earlier → sum_in state n ≤ cost_of_chain state (n ∷ earlier)
+  sum_in-chain n earlier chain =
+      omega (arith, sum_in-le_cost setup state closed.order n (chain-present n earlier chain), cost-chain n earlier chain)
+
+  some_or_none : (o : Option ℕ) → (o ≡ None) ⊎ ((n : ℕ) × (o ≡ Some n))
+  some_or_none None = inl refl
+  some_or_none (Some n) = inr (n, refl)
+
+  -- and that of the best node, if this one lies in a goal
+  pub best_node-chain : (n : ℕ) (earlier : List ℕ) → IsChain setup state n earlier → (goals : List Goal) → IsGoalNode goals state.points n
+      → (best : ℕ) × (best_node goals limit state ≡ Some best) × (sum_in state best ≤ cost_of_chain state (n ∷ earlier))
+  best_node-chain n earlier chain goals in_goal =
+      let numbered = numbers-closed setup marks limit state closed in
+      elim (some_or_none (best_node goals limit state)) [
+        | inl none ↦ absurd (best_node-none goals limit state numbered none n in_goal)
+        | inr (best, e) ↦ (best, e, omega (arith, ((best_node-some goals limit state best numbered e).not_above n in_goal).least, sum_in-chain n earlier chain))
+      ]

@@ -1,0 +1,4 @@
+pub mod ChainMarks
+pub mod ChainRun
+pub mod ChainLinks
+pub mod ChainExamples

@@ -1,0 +1,16 @@
+use Rattle.plan_model.specs.Vectors.Overlaps.{overlapped}
+use Rattle.plan_model.specs.Vectors.Runs.{open_setup}
+use Rattle.route_laws_tests.proofs.ChainExamples as shown
+use Rattle.route_laws_tests.proofs.ChainLinks.{none_to_start}
+use Rattle.route_laws_tests.proofs.chains.links.Goals as goal
+
+pub returns : goal.returns
+returns c = record {
+  of_one_worker = shown.of_one_worker;
+  back = shown.back;
+  of_two_workers = shown.of_two_workers;
+  from_start = shown.from_start;
+  to_start = none_to_start open_setup overlapped 1;
+  not_clear = shown.not_clear;
+  not_placed = shown.not_placed;
+}

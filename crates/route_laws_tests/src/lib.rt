@@ -1,0 +1,5 @@
+//! Worked examples of the definitions of `route_laws`, each the contract of a function that does nothing.
+#![tactic(auto)]
+
+#[cfg(test)]
+mod chains;
