@@ -2,3 +2,6 @@
 #![tactic(auto)]
 
 pub mod chains;
+pub mod clear_discs;
+pub mod followed_routes;
+pub mod workers_routes;

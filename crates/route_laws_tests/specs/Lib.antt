@@ -1,1 +1,5 @@
 pub mod ChainRuns
+pub mod Links
+pub mod FollowedRuns
+pub mod NearRoutes
+pub mod WorkersTurns

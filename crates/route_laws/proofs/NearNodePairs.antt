@@ -1,0 +1,154 @@
+-- Two nodes of a textbook run at the ends of a near link: the one costs no more than the other was placed at and the edge, whichever of
+-- them was placed first.
+use Rattle.std.proofs.Common.{◌≡◌, inl, inr, ℕ, zero, suc, ◌+◌, ◌*◌, ◌<◌, ◌≤◌, List, ◌∷◌, length, Some, arith, sym, ap, ◌∙◌, subst}
+use Rattle.std.specs.Prelude.{IsTrue, slice_get}
+use Rattle.std.proofs.lemmas.Bool.{cases_order, le-leb}
+use Rattle.std.specs.List.{range_with_len}
+use Rattle.std.proofs.lemmas.List.{length-append}
+use Rattle.std.proofs.lemmas.List.FromFn.{length-range_with_len}
+use Rattle.std.proofs.lemmas.List.Sums.{count_by-le-length}
+use Rattle.std.proofs.lemmas.Nat.{mul-le}
+use Rattle.plan_model.specs.declared.geometry.Point.{Point}
+use Rattle.plan_model.specs.declared.records.Outcome.{Outcome}
+use Rattle.plan_model.specs.declared.records.Outcome.TheVariants.{Placed}
+use Rattle.plan_model.specs.declared.records.Record.{Record}
+use Rattle.plan_model.specs.Geometry.Cost.{cost_of}
+use Rattle.plan_model.specs.Geometry.Plane.{squared_distance}
+use Rattle.plan_model.specs.Geometry.Radius.{class_of, radius_of, radius_of_class}
+use Rattle.plan_model.specs.Geometry.Steering.{steered}
+use Rattle.plan_model.specs.Runs.ClosedLaw.{IsClosed, has_outcome, mark_at}
+use Rattle.plan_model.specs.Runs.Outcomes.{is_placed}
+use Rattle.plan_model.specs.Runs.RecordLaw.{HasLawfulOutcome, IsNeighbour, IsPlacedLawfully}
+use Rattle.plan_model.specs.Runs.SameRuns.{IsOfTextbookRun}
+use Rattle.plan_model.specs.Runs.Textbook.{Ends, EndsPlaced, Nodes, Setup, start_alone}
+use Rattle.plan_model.specs.Spaces.Clearance.{Clear, ClearAt}
+use Rattle.plan_model.specs.Trees.Nearness.{is_within}
+use Rattle.plan_model.specs.Trees.NodeLists.{points_of}
+use Rattle.plan_model.specs.Trees.PointsByNumber.{StandsAt, node_count, point_of}
+use Rattle.plan_model.specs.Trees.TreeStates.{TreeState, first_cost_of, recorded_or, state_of}
+use Rattle.plan_model.proofs.ClosedLaws.{KeepsFirstCosts-closed}
+use Rattle.plan_model.proofs.CountLaws.{node_count-closed}
+use Rattle.plan_model.proofs.CostLaws.{cost_of-swap}
+use Rattle.plan_model.proofs.NearNodes.{squared_distance-swap}
+use Rattle.plan_model.proofs.NewNodes.{IsPresent-stands, StandsAt-unique, node_count-some, point_of-stands}
+use Rattle.plan_model.proofs.PlacedNodes.{record-of_present}
+use Rattle.plan_model.proofs.SegmentLaws.{Clear-back}
+use Rattle.plan_model.proofs.TextbookRuns.{IsClosed-textbook}
+use Rattle.route_laws.specs.RouteCosts.{least_radius}
+use Rattle.route_laws.proofs.FallingRadii.{radius_of-falls}
+use Rattle.route_laws.proofs.FollowedRoutes.{IsEarlier-below, closed}
+use Rattle.route_laws.proofs.PartsOfRuns.{ComesTo, ComesTo-each}
+
+-- a point within a shorter radius is within a longer one
+pub within_more : (p q : Point) (r s : ℕ) → squared_distance q p ≤ r * r → r ≤ s → IsTrue (is_within p s (Some q))
+within_more p q r s near h = le-leb (squared_distance q p) (s * s) (omega (arith, near, mul-le r r s s h h))
+
+-- the class of a placed mark, by how the textbook handles it
+class_of_ends :
+    (setup : Setup) (tree : Nodes) (k : ℕ) (mark : Point) (outcome : Outcome) (entry : Record) (after : Nodes) → outcome ≡ Placed
+    → Ends setup tree k mark outcome entry after → entry.class ≡ class_of (node_count (points_of tree))
+class_of_ends setup tree k mark outcome entry after e ends =
+    let placed : EndsPlaced setup tree k mark entry after = subst (λ o. Ends setup tree k mark o entry after) e ends in
+    ap (λ r. r.class) placed.recorded
+
+-- what is lawful of a mark with this outcome
+placed_lawfully : (setup : Setup) (state : TreeState) (k : ℕ) (mark : Point) (entry : Record) (outcome : Outcome) → outcome ≡ Placed
+    → HasLawfulOutcome setup state k mark entry outcome → IsPlacedLawfully setup state k entry (steered (point_of state.points entry.nearest) mark setup.step)
+placed_lawfully setup state k mark entry outcome e h =
+    let own = subst (λ o. HasLawfulOutcome setup state k mark entry o) e h in
+    own.outcome
+
+module _
+    (setup : Setup) (marks : List Point) (state : TreeState) (clear : ClearAt setup.space setup.start) (of_run : IsOfTextbookRun setup marks state)
+    (least : ℕ) (lowest : least ≤ least_radius setup marks) where
+  is_closed : IsClosed setup marks (length marks) state
+  is_closed = closed setup marks state clear of_run
+
+  -- the run comes to each mark with a record
+  pub part_of_run : (k : ℕ) (entry : Record) → state.record_of k ≡ Some entry
+      → ComesTo setup 0 (start_alone setup.start) marks of_run.records of_run.nodes k entry
+  part_of_run k entry h =
+      ComesTo-each setup 0 (start_alone setup.start) marks of_run.records of_run.nodes of_run.run k entry (sym (of_run.same.records k) ∙ h)
+
+  -- there the radius is no less
+  pub radius_in_part :
+      (k : ℕ) (entry : Record) (part : ComesTo setup 0 (start_alone setup.start) marks of_run.records of_run.nodes k entry)
+      → least ≤ radius_of setup.step setup.gamma (node_count (points_of part.tree))
+  radius_in_part k entry part =
+      let so_far = IsClosed-textbook setup part.done part.tree part.records clear part.run in
+      let some = node_count-some (points_of part.tree) 0 (IsPresent-stands (points_of part.tree) 0 setup.start so_far.order.start_stands) in
+      let nodes = node_count-closed setup part.done (length part.done) (state_of part.tree part.records) so_far in
+      let placed = count_by-le-length (λ j. has_outcome is_placed (slice_get part.records j)) (range_with_len 0 (length part.done)) in
+      let so_many = length-range_with_len 0 (length part.done) in
+      let fewer = ap length part.marks_are ∙ length-append part.done (part.mark ∷ part.rest) in
+      let many : node_count (points_of part.tree) ≤ suc (length marks) = omega (arith, nodes, placed, so_many, fewer) in
+      omega (arith, lowest, radius_of-falls setup.step setup.gamma (node_count (points_of part.tree)) (suc (length marks)) some many)
+
+  -- so is that of the class of a placed mark
+  radius_of_mark : (k : ℕ) (entry : Record) → state.record_of k ≡ Some entry → entry.outcome ≡ Placed
+      → least ≤ radius_of_class setup.step setup.gamma entry.class
+  radius_of_mark k entry h placed =
+      let part = part_of_run k entry h in
+      let class = class_of_ends setup part.tree (0 + k) part.mark entry.outcome entry part.after placed part.handled in
+      subst (λ c. least ≤ radius_of_class setup.step setup.gamma c) (sym class) (radius_in_part k entry part)
+
+  -- the record of the mark that gave a node
+  record PlacesAt (j : ℕ) (p : Point) : Type 0 where
+    entry : Record
+    recorded : state.record_of j ≡ Some entry
+    placed : entry.outcome ≡ Placed
+    lawful : IsPlacedLawfully setup state j entry p
+
+  PlacesAt-stands : (j : ℕ) (p : Point) → StandsAt state.points (suc j) p → PlacesAt j p
+  PlacesAt-stands j p stands =
+      let own = record-of_present state is_closed.placed j (IsPresent-stands state.points (suc j) p stands) in
+      let lawful = placed_lawfully setup state j (mark_at marks j) own.0 own.0.outcome own.2 (is_closed.lawful j own.0 own.1) in
+      let here = StandsAt-unique state.points (suc j) _ p lawful.by_tree.stands stands in
+      record { entry = own.0; recorded = own.1; placed = own.2; lawful = subst (IsPlacedLawfully setup state j own.0) here lawful }
+
+  -- an earlier node that is near is a neighbour
+  IsNeighbour-near :
+      (j i : ℕ) (p q : Point) (places : PlacesAt j p) → StandsAt state.points i q → i ≤ j → squared_distance q p ≤ least * least → Clear setup.space q p
+      → IsNeighbour setup state places.entry p i
+  IsNeighbour-near j i p q places stands low near open_way = record {
+    earlier = IsEarlier-below setup marks state clear of_run i j places.entry (IsPresent-stands state.points i q stands) places.recorded low;
+    near =
+        subst (λ o. IsTrue (is_within p (radius_of_class setup.step setup.gamma places.entry.class) o)) (sym stands)
+        (within_more p q least (radius_of_class setup.step setup.gamma places.entry.class) near
+        (radius_of_mark j places.entry places.recorded places.placed));
+    clear = subst (λ a. Clear setup.space a p) (sym (point_of-stands state.points i q stands)) open_way;
+  }
+
+  -- Node n costs no more than node m was placed at and the edge.
+  pub cost-near :
+      (m n : ℕ) (z a : Point) → StandsAt state.points m z → StandsAt state.points n a → squared_distance z a ≤ least * least → Clear setup.space z a
+      → state.cost n ≤ first_cost_of state m + cost_of z a
+  cost-near m n z a at_m at_n near open_way =
+      elim (cases_order m n) [
+        | inl e ↦ (
+            let kept = (KeepsFirstCosts-closed setup marks (length marks) state is_closed).kept n (IsPresent-stands state.points n a at_n) in
+            omega (arith, kept, ap (first_cost_of state) e))
+        | inr (inl less) ↦ later m n z a at_m at_n near open_way less
+        | inr (inr more) ↦ sooner m n z a at_m at_n near open_way more
+      ]
+    where
+      later : (m n : ℕ) (z a : Point) → StandsAt state.points m z → StandsAt state.points n a → squared_distance z a ≤ least * least → Clear setup.space z a
+          → m < n → state.cost n ≤ first_cost_of state m + cost_of z a
+      later m zero z a at_m at_n near open_way less = absurd (omega (arith, less))
+      later m (suc j) z a at_m at_n near open_way less =
+          let places = PlacesAt-stands j a at_n in
+          let chosen = places.lawful.by_worker.chosen m (IsNeighbour-near j m a z places at_m (omega (arith, less)) near open_way) in
+          let here = ap (λ p. cost_of p a) (point_of-stands state.points m z at_m) in
+          omega (arith, chosen, here, places.lawful.by_tree.kept)
+
+      sooner : (m n : ℕ) (z a : Point) → StandsAt state.points m z → StandsAt state.points n a → squared_distance z a ≤ least * least → Clear setup.space z a
+          → n < m → state.cost n ≤ first_cost_of state m + cost_of z a
+      sooner zero n z a at_m at_n near open_way less = absurd (omega (arith, less))
+      sooner (suc j) n z a at_m at_n near open_way less =
+          let places = PlacesAt-stands j z at_m in
+          let short : squared_distance a z ≤ least * least = omega (arith, near, squared_distance-swap a z) in
+          let rewired =
+          places.lawful.by_worker.rewired n (IsNeighbour-near j n z a places at_n (omega (arith, less)) short (Clear-back setup.space z a open_way)) in
+          let here = ap (λ p. cost_of p z) (point_of-stands state.points n a at_n) ∙ cost_of-swap a z in
+          let first = ap (recorded_or (state.written_cost (suc j))) places.recorded in
+          omega (arith, rewired, here, first)
