@@ -14,13 +14,13 @@ they are run once, and instructions, which valgrind counts, stand in place of ti
 
 import heapq
 import math
-import re
 import subprocess
 import sys
 from bisect import bisect_left
 from dataclasses import dataclass, replace
 from statistics import median
 
+from counts import counts_of
 from geometry import Space, is_beside, orientation, sides
 from scene import Scene, read
 from speed import measure
@@ -42,7 +42,6 @@ ROUNDS = 5
 NO_PATH = 1
 # A segment of which a lesser share lies inside a zone is taken to touch it.
 TOUCHING = 1e-9
-INSTRUCTIONS = re.compile(rb"I +refs: +([\d,]+)")
 
 
 def passes_through(zone, a, b):
@@ -143,13 +142,7 @@ class Seeded:
 
     def instructions(self, runs):
         """The instructions of each run."""
-        return [self.counted(*self.run_of(*run)) for run in runs]
-
-    def counted(self, words, text):
-        """The instructions of the program with these words on this text."""
-        valgrind = ["valgrind", "--tool=cachegrind", "--cache-sim=no", "--cachegrind-out-file=/dev/null"]
-        done = subprocess.run([*valgrind, self.program, *words.split()], input=text, capture_output=True, check=False)
-        return int(INSTRUCTIONS.search(done.stderr)[1].replace(b",", b""))
+        return [counts_of(self.program, *self.run_of(*run), guesses=False)[0] for run in runs]
 
 
 def seeded(program, count):
