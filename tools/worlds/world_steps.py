@@ -1,7 +1,7 @@
 """The kinds of step on a world, each with what it asks of the view that makes it. See docs/worlds.md.
 
 A step loads, stores or exchanges one word. The view after it is a function of the view before. `Steps` makes lawful steps
-alone; a bug is a class that asks for less, or does something else.
+alone; `stale` makes loads that tell once more what their view had seen.
 """
 
 from dataclasses import replace
@@ -68,6 +68,14 @@ def start_words(run):
     return words
 
 
+def cleared(run, words):
+    """The words, with those of numbers without a node taken as 0."""
+    tree, words = Tree(run, words, "placed"), list(words)
+    for n in set(range(run.nodes)) - tree.nodes:
+        words[run.point(n)] = words[run.tree(n)] = words[run.first(n)] = 0
+    return words
+
+
 def later_word(kind, one, other):
     """Of two words that may both become one word, the later."""
     if kind == "apart":
@@ -80,9 +88,7 @@ def later_word(kind, one, other):
 
 
 class Steps:
-    """The steps of the views of one world. `i` is the number of the view that steps. What calls leave out, a bug says."""
-
-    leaves_out = ()
+    """The steps of the views of one world. `i` is the number of the view that steps."""
 
     def __init__(self, world):
         self.world, self.run = world, world.run
@@ -142,28 +148,20 @@ class Steps:
         """A view with a share and nothing in hand, and a mark below a limit that is at most the number of marks."""
         view = self.view(i)
         mark = view.seen[self.run.counter(strip)] * self.run.strips + strip
-        return self.may_write(i) and view.hand is None and self.is_below(mark, limit) and limit <= len(self.run.marks)
-
-    def is_below(self, mark, limit):
-        """Whether a mark may be claimed below a limit."""
-        return mark < limit
+        return bool(view.crew) and view.hand is None and mark < limit <= len(self.run.marks)
 
     def claim(self, i, strip, limit):
         """An exchange of a counter that is as it was seen last. Whether it was."""
         need(self.may_claim(i, strip, limit), "claim")
         place = self.run.counter(strip)
         found, expected = self.world.words[place], self.view(i).seen[place]
-        if not self.matches("claim", found, expected):
+        if found != expected:
             self.saw(i, place, found, found)
             return False
         self.saw(i, place, expected, expected + 1)
         hand = Hand(expected * self.run.strips + strip)
         self.set_view(i, hand=hand, most=max(self.view(i).most, limit))
         return True
-
-    def matches(self, kind, found, expected):
-        """Whether an exchange of a step of this kind finds what it expects."""
-        return found == expected
 
     def finish(self, i, entry):
         """A store of the record of the mark in hand."""
@@ -172,29 +170,17 @@ class Steps:
         need(self.may_end(view.hand, entry), "stage")
         need(self.may_record(i, view.hand, entry), "record")
         word = record_word(entry)
-        self.saw(i, self.recorded_at(view.hand.mark), word, word)
-        self.set_view(i, hand=None, crew=self.turned(view.crew))
-
-    def turned(self, crew):
-        """A crew after a turn of its first."""
-        (worker, turn), *others = crew
-        return ((worker, turn + 1), *others)
-
-    def recorded_at(self, mark):
-        """The place of a mark's record."""
-        return self.run.record(mark)
+        self.saw(i, self.run.record(view.hand.mark), word, word)
+        (worker, turn), *others = view.crew
+        self.set_view(i, hand=None, crew=((worker, turn + 1), *others))
 
     def may_end(self, hand, entry):
         """A mark is recorded as placed once its node is counted, and posted if it lies in a goal, as skipped if nothing is written, and as
         anything else only if it is not linked."""
         placed = entry.outcome == "placed"
-        if placed and self.is_goal(hand.point) and hand.stage != "posted" or entry.outcome == "skipped" and hand.stage != "claimed":
+        if placed and self.run.lies_in_goal(hand.point) and hand.stage != "posted" or entry.outcome == "skipped" and hand.stage != "claimed":
             return False
         return placed == hand.has("linked") and placed == hand.has("counted")
-
-    def is_goal(self, p):
-        """Whether a point lies in a goal by which marks are skipped."""
-        return self.run.lies_in_goal(p)
 
     def may_record(self, i, hand, entry):
         """Whether what the view has seen bears out the record."""
@@ -211,7 +197,7 @@ class Steps:
         if entry.outcome == "same":
             return tree.point(entry.other) == p
         if entry.outcome == "blocked":
-            return self.is_blocked(start, p) and all(tree.points[n] != p for n in own)
+            return not run.is_clear(start, p) and all(tree.points[n] != p for n in own)
         return run.is_clear(start, p) and self.may_place(tree, hand, entry, own)
 
     def is_skipped(self, hand):
@@ -221,10 +207,6 @@ class Steps:
     def is_unskipped(self, hand):
         """Whether no marks are skipped, or the best that was loaded for this one costs more than its bound."""
         return not self.run.goals or hand.best is not None and not self.is_skipped(hand)
-
-    def is_blocked(self, a, b):
-        """Whether the segment is not clear."""
-        return not self.run.is_clear(a, b)
 
     def may_place(self, tree, hand, entry, own):
         """Whether the record of a placed mark is borne out by what was seen."""
@@ -244,30 +226,19 @@ class Steps:
     def write_point(self, i, nearest, p):
         """A store of the point of the node in hand, a step from a seen node towards the mark."""
         hand = self.hand(i, "claimed")
-        need(self.is_steered(self.tree(i).point(nearest), self.run.marks[hand.mark], p), "steered")
+        start = self.tree(i).point(nearest)
+        need(start is not None and steer(start, self.run.marks[hand.mark], self.run.step) == p, "steered")
         need(self.is_unskipped(hand), "unskipped")
         self.world.words[self.run.point(hand.node)] = point_word(p)
         self.stepped(i, hand=replace(hand, stage="pointed", nearest=nearest, point=p))
-
-    def is_steered(self, start, mark, p):
-        """Whether a step from a node that was seen leads to p."""
-        return start is not None and steer(start, mark, self.run.step) == p
-
-    def steered_to(self, mark, p):
-        """The point that is written for a mark, where p is the one that its nearest node steers to."""
-        return p
 
     def cost_below(self, i, p, parent):
         """What a node at p may cost below a parent, by what was seen of that; None if it may not hang there."""
         tree = self.tree(i)
         above, pair = tree.point(parent), tree.pair(parent)
-        if above is None or pair is None or not self.is_allowed(above, p):
+        if above is None or pair is None or not self.run.is_allowed(above, p):
             return None
         return pair[1] + cost(above, p)
-
-    def is_allowed(self, a, b):
-        """Whether a tree may have this edge."""
-        return self.run.is_allowed(a, b)
 
     def write_first(self, i, parent, kept):
         """A store of the first word of the node in hand: it may hang so by what was seen, and at no more than below the nearest."""
@@ -292,28 +263,20 @@ class Steps:
         at = tree.point(node)
         return depth is not None and at is not None and at != p and goes_right(depth, at, p) == side
 
-    def is_taken(self, here, p):
-        """Whether a node stands at the very point in hand."""
-        return here == p
-
     def link(self, i, node, side):
         """An exchange of an empty child word for the node in hand. What the word was."""
         hand = self.hand(i, "treed")
         need(self.leads_to(i, hand.point, node, side), "leads")
         place, run = self.run.child(node, side), self.run
         found = self.world.words[place]
-        if not self.matches("link", found, 0):
+        if found:
             return self.saw(i, place, found, found)
         self.saw(i, place, 0, hand.node)
         seen = put(self.view(i).seen, run.point(hand.node), point_word(hand.point))
         seen = put(put(seen, run.tree(hand.node), hand.pair), run.first(hand.node), hand.pair)
-        fills = self.noted(i, place, self.view(i).fills)
+        fills = ((place, tuple(view.steps for view in self.world.views)), *self.view(i).fills)
         self.set_view(i, seen=seen, hand=replace(hand, stage="linked"), fills=fills)
         return 0
-
-    def noted(self, i, place, fills):
-        """The fills of a view that has just filled a place: it notes the steps that the views have made by then."""
-        return ((place, tuple(view.steps for view in self.world.views)), *fills)
 
     def count(self, i):
         """An addition to the count."""
@@ -327,24 +290,16 @@ class Steps:
         """Whether a node may get this parent and this cost: it was seen dearer."""
         tree = self.tree(i)
         at, pair = tree.point(node), tree.pair(node)
-        if not self.may_write(i) or at is None or pair is None or not self.is_cheaper(kept, pair[1]):
+        if not self.view(i).crew or at is None or pair is None or kept >= pair[1]:
             return False
         return self.cost_below(i, at, parent) == kept
-
-    def may_write(self, i):
-        """Whether a view may change a word: it has a share."""
-        return bool(self.view(i).crew)
-
-    def is_cheaper(self, kept, before):
-        """Whether a cost is strictly less than the one that was seen."""
-        return kept < before
 
     def lower(self, i, node, parent, kept):
         """An exchange of the tree word that was seen last. Whether it was there."""
         need(self.may_lower(i, node, parent, kept), "lower")
         place = self.run.tree(node)
         found, expected = self.world.words[place], self.view(i).seen[place]
-        if not self.matches("lower", found, expected):
+        if found != expected:
             self.saw(i, place, found, found)
             return False
         self.saw(i, place, expected, tree_word(parent, kept))
@@ -356,35 +311,23 @@ class Steps:
         """A load of the best word, which a hand takes for whose mark nothing is written."""
         need(self.run.goals, "informed")
         word, hand = self.world.words[self.run.best], self.view(i).hand
-        takes = hand and hand.stage in self.takes_best
+        takes = hand and hand.stage == "claimed"
         self.stepped(i, best=word, hand=replace(hand, best=word) if takes else hand)
         return word
-
-    takes_best = ("claimed",)
 
     def may_post(self, i, node):
         """Whether a node may be posted: it was seen with its point and its cost, and lies in a goal."""
         tree = self.tree(i)
-        return self.may_write(i) and tree.pair(node) is not None and self.is_goal(tree.point(node))
+        return bool(self.view(i).crew) and tree.pair(node) is not None and self.run.lies_in_goal(tree.point(node))
 
     def post(self, i, node):
         """The best word becomes the lesser of what it was and the pair of a goal node, by what that was seen to cost."""
         need(self.may_post(i, node), "post")
-        word = self.lesser(self.world.words[self.run.best], best_word(self.posted_cost(i, node), node))
+        word = min(self.world.words[self.run.best], best_word(self.tree(i).cost(node), node))
         self.world.words[self.run.best] = word
         hand = self.view(i).hand
-        own = hand and hand.stage in self.posts_from and hand.node == node
+        own = hand and hand.stage == "counted" and hand.node == node
         self.stepped(i, best=word, hand=replace(hand, stage="posted") if own else hand)
-
-    posts_from = ("counted",)
-
-    def lesser(self, one, other):
-        """The lesser of two best words."""
-        return min(one, other)
-
-    def posted_cost(self, i, node):
-        """The cost that is posted of a node: the one that was seen last."""
-        return self.tree(i).cost(node)
 
     # ---- splits and joins
 
@@ -393,40 +336,41 @@ class Steps:
         view = self.view(i)
         need(not hand_on or len(view.crew) > 1, "crew")
         given = view.crew[1:2] if hand_on else ()
-        self.world.views.append(replace(view, crew=given, hand=None, found_zero=self.found_by_new(view)))
-        self.stepped(i, crew=self.kept_crew(view.crew, given))
+        self.world.views.append(replace(view, crew=given, hand=None, found_zero=(0,) * self.run.size))
+        self.stepped(i, crew=tuple(member for member in view.crew if member not in given))
         return len(self.world.views) - 1
 
-    def found_by_new(self, view):
-        """What a new view has found 0 itself: no word."""
-        return (0,) * len(view.found_zero)
-
-    def kept_crew(self, crew, given):
-        """The crew without whom it gave away."""
-        return tuple(member for member in crew if member not in given)
-
     def join(self, i, j):
-        """A view takes over another."""
+        """A view takes over another: the later of what both saw of each word, both crews, the lesser best, and the fills of both."""
         view, other = self.view(i), self.view(j)
         need(i != j and other != SPENT and not view.hand and not other.hand, "hand")
-        seen = self.merged(view.seen, other.seen)
-        crew, fills = self.both_crews(view.crew, other.crew), self.both_fills(view.fills, other.fills)
-        best = self.both_bests(view.best, other.best)
-        self.stepped(i, crew=crew, most=max(view.most, other.most), seen=seen, best=best, took=other.seen, fills=fills)
+        seen = tuple(map(later_word, self.run.kinds, view.seen, other.seen))
+        best, most = min(view.best, other.best), max(view.most, other.most)
+        crew, fills = view.crew + other.crew, view.fills + other.fills
+        self.stepped(i, crew=crew, most=most, seen=seen, best=best, took=other.seen, fills=fills)
         self.world.views[j] = SPENT
 
-    def merged(self, one, other):
-        """The later of what two tables say of each word."""
-        return tuple(map(later_word, self.run.kinds, one, other))
 
-    def both_bests(self, best, other):
-        """The lesser of both best words."""
-        return min(best, other)
+def stale(kind):
+    """Steps whose loads of words of a kind tell once more what their view had seen there, and of a child that it is none."""
 
-    def both_fills(self, fills, other):
-        """The fills of both."""
-        return fills + other
+    class Stale(Steps):
+        def load(self, i, place):
+            view = self.view(i)
+            word = view.seen[place]
+            if self.run.names[place][0] != kind or not word and kind != "child":
+                return super().load(i, place)
+            steps = view.steps + 1
+            found_zero = view.found_zero if word else put(view.found_zero, place, steps)
+            self.set_view(i, steps=steps, looked=put(view.looked, place, steps), found_zero=found_zero)
+            return word
 
-    def both_crews(self, crew, other):
-        """Two crews, one after the other."""
-        return crew + other
+        def load_best(self, i):
+            word = self.world.words[self.run.best]
+            if kind == "best":
+                self.world.words[self.run.best] = self.view(i).best
+            told = super().load_best(i)
+            self.world.words[self.run.best] = word
+            return told
+
+    return Stale

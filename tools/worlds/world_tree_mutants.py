@@ -4,7 +4,7 @@ from dataclasses import replace
 
 from rules import class_of, cost, steer
 from world_law import hangs, is_earlier
-from world_mutants import MUTANTS, change_view, changed_record, everywhere, linked, must, mutant, pick, see
+from world_mutants import MUTANTS, changed_record, everywhere, linked, must, mutant, pick, see
 from world_words import OUTCOMES, WRITTEN, Tree, cost_in, parent_in, point_word, tree_word
 
 # Those of both files: a mutant of this one is kept with the others.
