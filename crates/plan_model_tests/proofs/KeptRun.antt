@@ -1,12 +1,9 @@
 -- The run in which node 2 keeps its parent, since the way through node 3 costs the same.
 use Rattle.std.proofs.Common.{◌≡◌, [], ◌∷◌, refl, arith, inr}
-use Rattle.plan_model.specs.Spaces.EmptyRooms.{empty_room}
-use Rattle.plan_model.specs.Trees.NodeLists.{sum_of}
-use Rattle.plan_model.specs.Runs.Textbook.{cost_through, Rewires, IsTextbookRun}
-use Rattle.plan_model.specs.Vectors.Shapes.{at}
-use Rattle.plan_model.specs.Vectors.Runs.{open_setup, marks_to_keep, kept_tree, kept_records}
-use Rattle.plan_model.proofs.OpenRoomMarks.{cost_2500, two_nodes}
-use Rattle.plan_model.proofs.ThreeMarks.{StandsAbove, AreOpen-not_skipping, three_nodes, four_nodes, IsTextbookRun-three}
+use Rattle.plan_model_tests.proofs.Common.{empty_room, sum_of, cost_through, Rewires, IsTextbookRun, at, open_setup, marks_to_keep, kept_tree, kept_records}
+use Rattle.plan_model_tests.proofs.Common.{cost_2500, StandsAbove, AreOpen-not_skipping, IsTextbookRun-three}
+use Rattle.plan_model.proofs.OpenRoomMarks.{two_nodes}
+use Rattle.plan_model.proofs.ThreeMarks.{three_nodes, four_nodes}
 
 second_mark : StandsAbove (at 40 80) 25600
 unfolding two_nodes three_nodes

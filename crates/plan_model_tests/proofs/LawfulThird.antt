@@ -1,24 +1,10 @@
 -- Records of the third mark that are lawful. Of the nodes the start and node 1 alone are earlier.
 use Rattle.std.proofs.Common.{◌≡◌, ℕ, zero, suc, ◌+◌, ◌≤◌, false, arith, refl, sym, subst}
-use Rattle.plan_model.specs.declared.geometry.Point.{Point}
-use Rattle.plan_model.specs.declared.records.Record.{Record}
-use Rattle.plan_model.specs.Spaces.Clearance.{Clear}
-use Rattle.plan_model.specs.Geometry.Cost.{cost_of}
-use Rattle.plan_model.specs.Spaces.EmptyRooms.{empty_room}
-use Rattle.plan_model.specs.Geometry.Plane.{squared_distance}
-use Rattle.plan_model.specs.Trees.LeastPairs.{IsNotAbove}
-use Rattle.plan_model.specs.Trees.Nearness.{distance_to, is_within}
-use Rattle.plan_model.specs.Runs.OrderLaw.{IsAllowedEdge}
-use Rattle.plan_model.specs.Trees.PointsByNumber.{IsPresent, point_at, point_of}
-use Rattle.plan_model.specs.Runs.RecordLaw.{HangsLawfully, HasClass, IsEarlier, IsLawfulRecord, IsNeighbour, IsPlacedLawfully, first_cost_through}
+use Rattle.plan_model_tests.proofs.Common.{Point, Record, Clear, cost_of, empty_room, squared_distance, IsNotAbove, distance_to, is_within, IsAllowedEdge}
+use Rattle.plan_model_tests.proofs.Common.{IsPresent, point_at, point_of, HangsLawfully, HasClass, IsEarlier, IsLawfulRecord, IsNeighbour, IsPlacedLawfully}
+use Rattle.plan_model_tests.proofs.Common.{first_cost_through, TreeState, at, AreInRoom-from_clear, Clear-empty_room, no_goal_node, cost_2000, cost_2500}
+use Rattle.plan_model_tests.proofs.Common.{root_ceiling-from_squares, steered-near}
 use Rattle.plan_model.specs.Geometry.Roots.{root_ceiling}
-use Rattle.plan_model.specs.Trees.TreeStates.{TreeState}
-use Rattle.plan_model.specs.Vectors.Shapes.{at}
-use Rattle.plan_model.proofs.EmptyRoomClearance.{AreInRoom-from_clear, Clear-empty_room}
-use Rattle.plan_model.proofs.GoalNodes.{no_goal_node}
-use Rattle.plan_model.proofs.OpenRoomMarks.{cost_2000, cost_2500}
-use Rattle.plan_model.proofs.RootLaws.{root_ceiling-from_squares}
-use Rattle.plan_model.proofs.SteeringLaws.{steered-near}
 use Rattle.plan_model_tests.specs.UnlawfulRecords.{IsThird, entry_by, room_by, third, third_with}
 
 -- from node 2 to node 3

@@ -15,3 +15,4 @@ pub mod WorkedBounds
 pub mod SkippedRecords
 pub mod SkippedRun
 pub mod OpenedRuns
+pub mod Common

@@ -5,23 +5,10 @@ use Rattle.std.specs.Int.{abs_diff}
 use Rattle.std.specs.List.{range_with_len}
 use Rattle.std.proofs.lemmas.Bool.{le-leb}
 use Rattle.std.proofs.lemmas.List.Elements.{All-contains}
-use Rattle.plan_model.specs.declared.geometry.Point.{Point}
-use Rattle.plan_model.specs.Spaces.EmptyRooms.{empty_room, IsInRoom}
-use Rattle.plan_model.specs.Geometry.Plane.{squared_distance}
-use Rattle.plan_model.specs.Geometry.Steering.{steered}
-use Rattle.plan_model.specs.Geometry.Radius.{class_of}
-use Rattle.plan_model.specs.Trees.PointsByNumber.{point_at, point_of, IsFree, IsPresent, node_count}
-use Rattle.plan_model.specs.Trees.LeastPairs.{IsNotAbove, first_least}
-use Rattle.plan_model.specs.Trees.Nearness.{distance_to, is_within, near, IsNearest}
-use Rattle.plan_model.specs.Trees.NodeLists.{points_of, sum_of}
-use Rattle.plan_model.specs.Runs.Textbook.{Nodes, near_new, cost_through, Rewires, EndsPlaced, placed_record}
-use Rattle.plan_model.specs.Vectors.Shapes.{at}
-use Rattle.plan_model.specs.Vectors.Runs.{node}
-use Rattle.plan_model.proofs.DistinctPoints.{IsPresent-below}
-use Rattle.plan_model.proofs.EmptyRoomClearance.{Clear-empty_room}
-use Rattle.plan_model.proofs.GoalNodes.{MayBeCheaper-not_skipping}
-use Rattle.plan_model.proofs.LeastPairLaws.{IsFirstLeast-among, IsBelowPassing, first_least-some}
-use Rattle.plan_model.proofs.NearNodes.{Contains-near}
+use Rattle.plan_model_tests.proofs.Common.{Point, empty_room, IsInRoom, squared_distance, steered, class_of, point_at, point_of, IsFree, IsPresent, node_count}
+use Rattle.plan_model_tests.proofs.Common.{IsNotAbove, first_least, distance_to, is_within, near, IsNearest, points_of, sum_of, Nodes, near_new, cost_through}
+use Rattle.plan_model_tests.proofs.Common.{Rewires, EndsPlaced, placed_record, at, node, IsPresent-below, Clear-empty_room, MayBeCheaper-not_skipping}
+use Rattle.plan_model_tests.proofs.Common.{IsFirstLeast-among, IsBelowPassing, first_least-some, Contains-near}
 use Rattle.plan_model_tests.specs.NarrowRuns.{narrow_setup}
 
 -- the present nodes by number

@@ -1,28 +1,10 @@
 -- A run of one mark that ended at the start is closed; each other state breaks the clause that its name says.
 use Rattle.std.proofs.Common.{◌≡◌, ℕ, zero, suc, ◌<◌, ◌≤◌, Some, None, ◌∷◌, [], ap, arith, refl, subst}
 use Rattle.std.specs.Prelude.{◌↔◌, IsSome, unwrap_or}
-use Rattle.plan_model.specs.declared.records.Outcome.TheVariants.{Placed}
-use Rattle.plan_model.specs.declared.records.Record.{Record}
-use Rattle.plan_model.specs.Runs.ClosedLaw.{IsClosed, mark_at}
-use Rattle.plan_model.specs.Spaces.EmptyRooms.{empty_room}
-use Rattle.plan_model.specs.Trees.LeastPairs.{IsNotAbove}
-use Rattle.plan_model.specs.Trees.Nearness.{distance_to}
-use Rattle.plan_model.specs.Runs.OrderLaw.{HangsBelow, KeepsOrder, most_cost_of}
-use Rattle.plan_model.specs.Trees.PointsByNumber.{IsPresent, node_count}
-use Rattle.plan_model.specs.Runs.RecordLaw.{IsEarlier, IsLawfulRecord}
-use Rattle.plan_model.specs.Runs.Textbook.{same_record}
-use Rattle.plan_model.specs.Runs.Turns.{RunFromZero}
-use Rattle.plan_model.specs.Vectors.Overlaps.{placed_by}
-use Rattle.plan_model.specs.Vectors.Overlaps.{early_record, overlapped}
-use Rattle.plan_model.specs.Vectors.Runs.{open_setup, marks_to_rewire}
-use Rattle.plan_model.specs.Vectors.Shapes.{at}
-use Rattle.plan_model.proofs.DistinctPoints.{AreDistinct-placed}
-use Rattle.plan_model.proofs.EmptyRoomClearance.{Clear-empty_room}
-use Rattle.plan_model.proofs.GoalNodes.{no_goal_node}
-use Rattle.plan_model.proofs.LeastPairLaws.{IsNotAbove-refl}
-use Rattle.plan_model.proofs.PlacedNodes.{ArePlacedMarks-from}
-use Rattle.plan_model.proofs.SegmentLaws.{Clear-first}
-use Rattle.plan_model.proofs.TurnsFromZero.{AreTurns-counted}
+use Rattle.plan_model_tests.proofs.Common.{Placed, Record, IsClosed, mark_at, empty_room, IsNotAbove, distance_to, HangsBelow, KeepsOrder, most_cost_of}
+use Rattle.plan_model_tests.proofs.Common.{IsPresent, node_count, IsEarlier, IsLawfulRecord, same_record, RunFromZero, placed_by, early_record, overlapped}
+use Rattle.plan_model_tests.proofs.Common.{open_setup, marks_to_rewire, at, AreDistinct-placed, Clear-empty_room, no_goal_node, IsNotAbove-refl}
+use Rattle.plan_model_tests.proofs.Common.{ArePlacedMarks-from, Clear-first, AreTurns-counted}
 use Rattle.plan_model_tests.specs.UnclosedRuns.{ended_at_start, one_node_more, overlapped_with, start_below_a_node}
 use Rattle.plan_model_tests.proofs.NarrowMarks.{IsFree-computed}
 use Rattle.plan_model_tests.proofs.UnlawfulOrders.{none_distinct}

@@ -1,31 +1,12 @@
 -- The run of two workers whose first marks overlap is closed.
 use Rattle.std.proofs.Common.{◌≡◌, ℕ, zero, suc, ◌+◌, ◌*◌, ◌<◌, ◌≤◌, Some, None, arith, refl, sym, ap, ◌∙◌, subst}
 use Rattle.std.specs.Prelude.{◌↔◌, IsSome, ◌/◌, unwrap_or}
-use Rattle.plan_model.specs.declared.geometry.Point.{Point}
-use Rattle.plan_model.specs.declared.records.Outcome.TheVariants.{Placed}
-use Rattle.plan_model.specs.declared.records.Record.{Record}
-use Rattle.plan_model.specs.Runs.ClosedLaw.{IsClosed, mark_at}
-use Rattle.plan_model.specs.Geometry.Cost.{cost_of}
-use Rattle.plan_model.specs.Geometry.Plane.{squared_distance}
-use Rattle.plan_model.specs.Trees.LeastPairs.{IsNotAbove}
-use Rattle.plan_model.specs.Trees.Nearness.{distance_to}
-use Rattle.plan_model.specs.Runs.OrderLaw.{HangsBelow, IsAllowedEdge, most_cost_of}
-use Rattle.plan_model.specs.Trees.PointsByNumber.{StandsAt, IsPresent, point_of, node_count}
-use Rattle.plan_model.specs.Runs.RecordLaw.{IsEarlier, IsLawfulRecord, IsPlacedLawfully, first_cost_through}
+use Rattle.plan_model_tests.proofs.Common.{Point, Placed, Record, IsClosed, mark_at, cost_of, squared_distance, IsNotAbove, distance_to, HangsBelow}
+use Rattle.plan_model_tests.proofs.Common.{IsAllowedEdge, most_cost_of, StandsAt, IsPresent, point_of, node_count, IsEarlier, IsLawfulRecord, IsPlacedLawfully}
+use Rattle.plan_model_tests.proofs.Common.{first_cost_through, advanced, steered, early_record, overlapped, placed_by, open_setup, marks_to_rewire, at}
+use Rattle.plan_model_tests.proofs.Common.{Clear-empty_room, no_goal_node, IsNotAbove-lesser, IsNotAbove-refl, cost_2500, root_ceiling-from_squares}
+use Rattle.plan_model_tests.proofs.Common.{Clear-first, RunFromZero, ArePlacedMarks-from, AreTurns-counted}
 use Rattle.plan_model.specs.Geometry.Roots.{root_ceiling}
-use Rattle.plan_model.specs.Geometry.Steering.{advanced, steered}
-use Rattle.plan_model.specs.Vectors.Overlaps.{early_record, overlapped, placed_by}
-use Rattle.plan_model.specs.Vectors.Runs.{open_setup, marks_to_rewire}
-use Rattle.plan_model.specs.Vectors.Shapes.{at}
-use Rattle.plan_model.proofs.EmptyRoomClearance.{Clear-empty_room}
-use Rattle.plan_model.proofs.GoalNodes.{no_goal_node}
-use Rattle.plan_model.proofs.LeastPairLaws.{IsNotAbove-lesser, IsNotAbove-refl}
-use Rattle.plan_model.proofs.OpenRoomMarks.{cost_2500}
-use Rattle.plan_model.proofs.RootLaws.{root_ceiling-from_squares}
-use Rattle.plan_model.proofs.SegmentLaws.{Clear-first}
-use Rattle.plan_model.specs.Runs.Turns.{RunFromZero}
-use Rattle.plan_model.proofs.PlacedNodes.{ArePlacedMarks-from}
-use Rattle.plan_model.proofs.TurnsFromZero.{AreTurns-counted}
 
 abbrev second : Record
 second = placed_by 1 0 0 0 12594 1

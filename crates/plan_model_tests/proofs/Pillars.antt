@@ -3,9 +3,7 @@ use Rattle.std.proofs.Common.{◌≡◌, ℕ, ◌+◌, ◌*◌, ◌<◌, [], ◌
 use Rattle.std.specs.Prelude.{pos, ◌-ℤ◌, ◌*ℤ◌, sum}
 use Rattle.std.proofs.lemmas.Int.{ints}
 use Rattle.std.proofs.lemmas.Nat.{mul-le}
-use Rattle.plan_model.specs.Spaces.RoomOfConfigurations.{Rational}
-use Rattle.plan_model.specs.Spaces.Meeting.{weighted, IsWithin, Meets}
-use Rattle.plan_model.specs.Vectors.Meetings.{point_body, pillar}
+use Rattle.plan_model_tests.proofs.Common.{Rational, weighted, IsWithin, Meets, point_body, pillar}
 use Rattle.plan_model_tests.proofs.ShortLists.{one, four}
 
 -- the point (x / n, y / n)

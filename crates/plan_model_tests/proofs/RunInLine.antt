@@ -2,16 +2,9 @@
 use Rattle.std.proofs.Common.{◌≡◌, ℕ, [], ◌∷◌, refl, arith, inl, inr}
 use Rattle.std.specs.Prelude.{All}
 use Rattle.std.proofs.lemmas.List.Elements.{All-cons, All-nil}
-use Rattle.plan_model.specs.Spaces.EmptyRooms.{empty_room}
-use Rattle.plan_model.specs.Trees.LeastPairs.{IsNotAbove}
+use Rattle.plan_model_tests.proofs.Common.{empty_room, IsNotAbove, Nodes, cost_through, IsCheaperThrough, Rewires, EndsPlaced, placed_record, IsTextbookRun}
+use Rattle.plan_model_tests.proofs.Common.{sum_of, node, at, Clear-empty_room, IsNotAbove-refl, IsNotAbove-lesser, root_ceiling-from_squares}
 use Rattle.plan_model.specs.Geometry.Roots.{root_ceiling}
-use Rattle.plan_model.specs.Runs.Textbook.{Nodes, cost_through, IsCheaperThrough, Rewires, EndsPlaced, placed_record, IsTextbookRun}
-use Rattle.plan_model.specs.Trees.NodeLists.{sum_of}
-use Rattle.plan_model.specs.Vectors.Runs.{node}
-use Rattle.plan_model.specs.Vectors.Shapes.{at}
-use Rattle.plan_model.proofs.EmptyRoomClearance.{Clear-empty_room}
-use Rattle.plan_model.proofs.LeastPairLaws.{IsNotAbove-refl, IsNotAbove-lesser}
-use Rattle.plan_model.proofs.RootLaws.{root_ceiling-from_squares}
 use Rattle.plan_model_tests.specs.NarrowRuns.{narrow_setup, marks_in_line, tree_in_line, records_in_line}
 use Rattle.plan_model_tests.proofs.NarrowMarks.{EndsPlaced-placeable}
 

@@ -1,19 +1,10 @@
 -- What a worker has seen of a kd-tree of five nodes, and which points a call has swept.
 use Rattle.std.proofs.Common.{◌≡◌, ℕ, zero, suc, ◌<◌, ◌≤◌, Bool, true, false, Some, arith, refl, sym, ap, ◌∙◌, subst, inl, inr}
 use Rattle.std.specs.Prelude.{◌≢◌, ◌/◌, ◌%◌, ◌==◌, IsSome, unwrap_or}
-use Rattle.plan_model.specs.declared.geometry.Point.{Point}
-use Rattle.plan_model.specs.Trees.PointsByNumber.{point_at, StandsAt, IsPresent, IsFree}
-use Rattle.plan_model.specs.Seen.Ways.{goes_right, IsOnWay}
-use Rattle.plan_model.specs.Seen.Ways.IsOnWay.{begins, goes_on}
-use Rattle.plan_model.specs.Seen.SeenTrees.{IsSeen, HasSeenWay, KeepsOrLowers}
-use Rattle.plan_model.specs.Seen.Sights.{KeepsSight, KeepsOrFindsEmpty, IsLaterMoment, IsSwept}
-use Rattle.plan_model.specs.Vectors.Shapes.{at}
-use Rattle.plan_model.specs.Vectors.SeenTrees.{at_entry, at_return, four_children, found_at_return}
-use Rattle.plan_model.specs.Vectors.Ways.{three_points, three_children}
-use Rattle.plan_model.proofs.NewNodes.{StandsAt-unique}
-use Rattle.plan_model.proofs.OpenRoomMarks.{same_x, same_y}
-use Rattle.plan_model.proofs.SeenTreeLaws.{over_seen_points}
-use Rattle.plan_model.proofs.WayLaws.{way_start, way_ends}
+use Rattle.plan_model_tests.proofs.Common.{Point, point_at, StandsAt, IsPresent, IsFree, goes_right, IsOnWay, begins, goes_on, IsSeen, HasSeenWay}
+use Rattle.plan_model_tests.proofs.Common.{KeepsOrLowers, KeepsSight, KeepsOrFindsEmpty, IsLaterMoment, IsSwept, at, at_entry, at_return, four_children}
+use Rattle.plan_model_tests.proofs.Common.{found_at_return, three_points, three_children, StandsAt-unique, same_x, same_y, over_seen_points, way_start}
+use Rattle.plan_model_tests.proofs.Common.{way_ends}
 
 -- ---- ways
 

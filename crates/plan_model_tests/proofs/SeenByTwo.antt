@@ -2,14 +2,9 @@
 use Rattle.std.proofs.Common.{◌≡◌, ℕ, zero, suc, Bool, true, false, Some, arith, refl, ap, inl, inr}
 use Rattle.std.specs.Prelude.{unwrap_or}
 use Rattle.std.specs.Option.{option_or}
-use Rattle.plan_model.specs.declared.geometry.Point.{Point}
-use Rattle.plan_model.specs.Trees.PointsByNumber.{point_at, StandsAt}
-use Rattle.plan_model.specs.Seen.SeenTrees.{KeepsOrLowers, HasSeenAtLeast, IsTrueOf, seen_whole}
-use Rattle.plan_model.specs.Seen.Sights.{IsLaterMoment, TakesOver, cheaper_of}
-use Rattle.plan_model.specs.Vectors.SeenTrees.{at_entry, at_return, of_other, of_both, tree_now, tree_before}
-use Rattle.plan_model.specs.Vectors.SeenTrees.{four_children, five_children, others_children, five_points, others_points}
-use Rattle.plan_model.specs.Vectors.Ways.{three_children, three_points}
-use Rattle.plan_model.proofs.SightsTogether.{IsLaterMoment-takes}
+use Rattle.plan_model_tests.proofs.Common.{Point, point_at, StandsAt, KeepsOrLowers, HasSeenAtLeast, IsTrueOf, seen_whole, IsLaterMoment, TakesOver, cheaper_of}
+use Rattle.plan_model_tests.proofs.Common.{at_entry, at_return, of_other, of_both, tree_now, tree_before, four_children, five_children, others_children}
+use Rattle.plan_model_tests.proofs.Common.{five_points, others_points, three_children, three_points, IsLaterMoment-takes}
 
 -- ---- true of the tree
 

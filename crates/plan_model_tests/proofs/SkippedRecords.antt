@@ -1,17 +1,7 @@
 -- Records of skipped marks, and of marks that are not skipped beside a goal node.
 use Rattle.std.proofs.Common.{◌≡◌, ℕ, zero, suc, ◌<◌, ◌≤◌, List, [], ◌∷◌, arith, refl}
-use Rattle.plan_model.specs.declared.geometry.Goal.{Goal}
-use Rattle.plan_model.specs.declared.records.Record.{Record}
-use Rattle.plan_model.specs.Runs.RecordLaw.{IsEarlier}
-use Rattle.plan_model.specs.Runs.Textbook.{mark_bound}
-use Rattle.plan_model.specs.Trees.BestNode.{IsGoalNode}
-use Rattle.plan_model.specs.Trees.LeastPairs.{IsNotAbove}
-use Rattle.plan_model.specs.Trees.Nearness.{distance_to}
-use Rattle.plan_model.specs.Trees.TreeStates.{TreeState, first_cost_of}
-use Rattle.plan_model.specs.Vectors.Reports.{box}
-use Rattle.plan_model.specs.Vectors.Runs.{open_setup_to}
-use Rattle.plan_model.specs.Vectors.Shapes.{at}
-use Rattle.plan_model.proofs.GoalNodes.{no_goal_node}
+use Rattle.plan_model_tests.proofs.Common.{Goal, Record, IsEarlier, mark_bound, IsGoalNode, IsNotAbove, distance_to, TreeState, first_cost_of, box}
+use Rattle.plan_model_tests.proofs.Common.{open_setup_to, at, no_goal_node}
 use Rattle.plan_model_tests.specs.SkippedMarks.{IsFourth, at_node_3, goal_of_2, goal_reached, skipped_by}
 use Rattle.plan_model_tests.proofs.WorkedBounds.{nearer_by_the_second, to_a_point}
 

@@ -1,15 +1,9 @@
 -- The run whose last mark is skipped by node 2, which lies in the goal and costs as much as the bound of the mark.
 use Rattle.std.proofs.Common.{◌≡◌, ℕ, zero, suc, ◌<◌, ◌≤◌, [], ◌∷◌, ◌++◌, None, arith, refl}
-use Rattle.plan_model.specs.Runs.Textbook.{EndsSkipped, IsBestGoalNode, IsTextbookRun, MayBeCheaper, skipped_record}
-use Rattle.plan_model.specs.Trees.BestNode.{IsGoalNode}
-use Rattle.plan_model.specs.Trees.LeastPairs.{IsNotAbove}
-use Rattle.plan_model.specs.Trees.NodeLists.{points_of, sum_of}
-use Rattle.plan_model.specs.Vectors.Runs.{open_setup_to, rewired_tree}
-use Rattle.plan_model.specs.Vectors.Shapes.{at}
-use Rattle.plan_model.proofs.LeastPairLaws.{IsNotAbove-refl}
-use Rattle.plan_model.proofs.OpenRoomMarks.{cost_2441, cost_2500, one_node, two_nodes}
-use Rattle.plan_model.proofs.RewiredRun.{rewired_run_with_more, rewired_sum}
-use Rattle.plan_model.proofs.ThreeMarks.{AreOpen, three_nodes}
+use Rattle.plan_model_tests.proofs.Common.{EndsSkipped, IsBestGoalNode, IsTextbookRun, MayBeCheaper, skipped_record, IsGoalNode, IsNotAbove, points_of, sum_of}
+use Rattle.plan_model_tests.proofs.Common.{open_setup_to, rewired_tree, at, IsNotAbove-refl, cost_2441, cost_2500, rewired_run_with_more, rewired_sum, AreOpen}
+use Rattle.plan_model.proofs.OpenRoomMarks.{one_node, two_nodes}
+use Rattle.plan_model.proofs.ThreeMarks.{three_nodes}
 use Rattle.plan_model_tests.specs.SkippedMarks.{goal_of_2, marks_to_skip, skipped_records, skipped_tree}
 use Rattle.plan_model_tests.proofs.WorkedBounds.{to_a_point}
 

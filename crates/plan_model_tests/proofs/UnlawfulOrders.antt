@@ -1,17 +1,9 @@
 -- The start and two nodes keep the order law, and so does a start alone; each other tree breaks the clause that its name says.
 use Rattle.std.proofs.Common.{◌≡◌, ℕ, zero, suc, ◌≤◌, Option, Some, List, [], ◌∷◌, arith, refl}
-use Rattle.plan_model.specs.declared.geometry.Point.{Point}
-use Rattle.plan_model.specs.Spaces.EmptyRooms.{empty_room}
-use Rattle.plan_model.specs.Geometry.Plane.{squared_distance}
-use Rattle.plan_model.specs.Runs.OrderLaw.{HangsBelow, IsAllowedEdge, KeepsOrder, most_cost_of}
-use Rattle.plan_model.specs.Trees.PointsByNumber.{AreDistinct, IsPresent, node_count}
+use Rattle.plan_model_tests.proofs.Common.{Point, empty_room, squared_distance, HangsBelow, IsAllowedEdge, KeepsOrder, most_cost_of, AreDistinct, IsPresent}
+use Rattle.plan_model_tests.proofs.Common.{node_count, at, AreDistinct-placed, AreInRoom-from_clear, Clear-empty_room, IsInRoom-from_clear_at, cost_2500}
+use Rattle.plan_model_tests.proofs.Common.{same_x, root_ceiling-from_squares, Clear-first}
 use Rattle.plan_model.specs.Geometry.Roots.{root_ceiling}
-use Rattle.plan_model.specs.Vectors.Shapes.{at}
-use Rattle.plan_model.proofs.DistinctPoints.{AreDistinct-placed}
-use Rattle.plan_model.proofs.EmptyRoomClearance.{AreInRoom-from_clear, Clear-empty_room, IsInRoom-from_clear_at}
-use Rattle.plan_model.proofs.OpenRoomMarks.{cost_2500, same_x}
-use Rattle.plan_model.proofs.RootLaws.{root_ceiling-from_squares}
-use Rattle.plan_model.proofs.SegmentLaws.{Clear-first}
 use Rattle.plan_model_tests.specs.UnlawfulTrees.{room_to, tree_of, three_points, start_for_all}
 use Rattle.plan_model_tests.proofs.NarrowMarks.{IsFree-computed}
 

@@ -1,10 +1,6 @@
 -- Records of the third mark each of which breaks the clause that its name says.
 use Rattle.std.proofs.Common.{arith, refl}
-use Rattle.plan_model.specs.Spaces.EmptyRooms.{empty_room}
-use Rattle.plan_model.specs.Runs.RecordLaw.{IsLawfulRecord}
-use Rattle.plan_model.specs.Vectors.Shapes.{at}
-use Rattle.plan_model.proofs.EmptyRoomClearance.{AreInRoom-from_clear}
-use Rattle.plan_model.proofs.OpenRoomMarks.{cost_2000, cost_2500, same_x}
+use Rattle.plan_model_tests.proofs.Common.{empty_room, IsLawfulRecord, at, AreInRoom-from_clear, cost_2000, cost_2500, same_x}
 use Rattle.plan_model_tests.specs.UnlawfulRecords.{IsThird, entry_by, room_by, third, third_with}
 use Rattle.plan_model_tests.proofs.LawfulThird.{clear_in, cost_520}
 

@@ -1,22 +1,9 @@
 -- Records of marks without a node: some are lawful, and each of the others breaks the clause that its name says.
 use Rattle.std.proofs.Common.{◌≡◌, ℕ, zero, suc, ◌≤◌, ap, arith, refl, subst, sym}
-use Rattle.plan_model.specs.declared.geometry.Point.{Point}
-use Rattle.plan_model.specs.declared.records.Outcome.TheVariants.{Same, Blocked}
-use Rattle.plan_model.specs.declared.records.Record.{Record}
-use Rattle.plan_model.specs.Spaces.EmptyRooms.{empty_room}
-use Rattle.plan_model.specs.Trees.LeastPairs.{IsNotAbove}
-use Rattle.plan_model.specs.Trees.Nearness.{distance_to}
-use Rattle.plan_model.specs.Trees.PointsByNumber.{StandsAt}
-use Rattle.plan_model.specs.Runs.RecordLaw.{IsBlockedLawfully, IsEarlier, IsLawfulRecord}
+use Rattle.plan_model_tests.proofs.Common.{Point, Same, Blocked, Record, empty_room, IsNotAbove, distance_to, StandsAt, IsBlockedLawfully, IsEarlier}
+use Rattle.plan_model_tests.proofs.Common.{IsLawfulRecord, advanced, steered, unplaced_record, at, AreInRoom-from_clear, Clear-empty_room, no_goal_node}
+use Rattle.plan_model_tests.proofs.Common.{IsNotAbove-lesser, IsNotAbove-refl, same_x, same_y, root_ceiling-from_squares}
 use Rattle.plan_model.specs.Geometry.Roots.{root_ceiling}
-use Rattle.plan_model.specs.Geometry.Steering.{advanced, steered}
-use Rattle.plan_model.specs.Runs.Textbook.{unplaced_record}
-use Rattle.plan_model.specs.Vectors.Shapes.{at}
-use Rattle.plan_model.proofs.EmptyRoomClearance.{AreInRoom-from_clear, Clear-empty_room}
-use Rattle.plan_model.proofs.GoalNodes.{no_goal_node}
-use Rattle.plan_model.proofs.LeastPairLaws.{IsNotAbove-lesser, IsNotAbove-refl}
-use Rattle.plan_model.proofs.OpenRoomMarks.{same_x, same_y}
-use Rattle.plan_model.proofs.RootLaws.{root_ceiling-from_squares}
 use Rattle.plan_model_tests.specs.UnlawfulRecords.{ended, halfway, room_by, start_at}
 
 -- ---- at a node

@@ -2,18 +2,10 @@
 use Rattle.std.proofs.Common.{◌≡◌, ℕ, ◌≤◌, List, [], ◌∷◌, arith, refl, ap, ◌∙◌, inl, inr}
 use Rattle.std.specs.Prelude.{IsTrue}
 use Rattle.std.specs.Int.{abs_diff}
-use Rattle.plan_model.specs.declared.geometry.Goal.{Goal}
-use Rattle.plan_model.specs.declared.geometry.Point.{Point}
-use Rattle.plan_model.specs.Geometry.Cost.{cost_of}
+use Rattle.plan_model_tests.proofs.Common.{Goal, Point, cost_of, is_in_goal, lies_in_goals, box, at, bound_of-is, cost_of-le, squared_distance-le, IsInside}
+use Rattle.plan_model_tests.proofs.Common.{in_goal_parts, or_cases, cost_2500, cost_2401, root_ceiling-from_squares, root_ceiling-zero}
 use Rattle.plan_model.specs.Geometry.Roots.{root_ceiling}
-use Rattle.plan_model.specs.Trees.BestNode.{is_in_goal, lies_in_goals}
 use Rattle.plan_model.specs.Trees.GoalBounds.{bound_of}
-use Rattle.plan_model.specs.Vectors.Reports.{box}
-use Rattle.plan_model.specs.Vectors.Shapes.{at}
-use Rattle.plan_model.proofs.GoalBoundLaws.{bound_of-is, cost_of-le, squared_distance-le}
-use Rattle.plan_model.proofs.GoalPoints.{IsInside, in_goal_parts, or_cases}
-use Rattle.plan_model.proofs.OpenRoomMarks.{cost_2500, cost_2401}
-use Rattle.plan_model.proofs.RootLaws.{root_ceiling-from_squares, root_ceiling-zero}
 use Rattle.plan_model_tests.specs.SkippedMarks.{goal_of_2}
 
 edge_of_5 : root_ceiling 1638400 ≡ 1280

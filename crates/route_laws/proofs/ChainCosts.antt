@@ -1,28 +1,10 @@
 -- In a closed run no node of a chain in order was placed at more than the chain costs up to it, nor is the last one kept at more.
 use Rattle.std.proofs.Common.{◌≡◌, ℕ, suc, ◌+◌, ◌≤◌, List, [], ◌∷◌, Option, Some, None, arith, refl, sym, ap, subst, inl, inr}
 use Rattle.std.specs.Prelude.{◌⊎◌}
-use Rattle.plan_model.specs.declared.geometry.Goal.{Goal}
-use Rattle.plan_model.specs.declared.geometry.Point.{Point}
-use Rattle.plan_model.specs.declared.records.Outcome.{Outcome}
-use Rattle.plan_model.specs.declared.records.Outcome.TheVariants.{Placed}
-use Rattle.plan_model.specs.declared.records.Record.{Record}
-use Rattle.plan_model.specs.Geometry.Cost.{cost_of}
-use Rattle.plan_model.specs.Geometry.Steering.{steered}
-use Rattle.plan_model.specs.Runs.ClosedLaw.{IsClosed, mark_at}
-use Rattle.plan_model.specs.Runs.RecordLaw.{HasLawfulOutcome, IsPlacedLawfully}
-use Rattle.plan_model.specs.Runs.Textbook.{Setup}
-use Rattle.plan_model.specs.Trees.BestNode.{IsGoalNode, best_node}
-use Rattle.plan_model.specs.Trees.PointsByNumber.{IsPresent, point_of}
-use Rattle.plan_model.specs.Trees.TreeStates.{TreeState, first_cost_of, recorded_or, sum_in}
-use Rattle.plan_model.proofs.BestNodeLaws.{best_node-none, best_node-some}
-use Rattle.plan_model.proofs.ClosedLaws.{KeepsFirstCosts-closed}
-use Rattle.plan_model.proofs.CostLaws.{cost_of-swap}
-use Rattle.plan_model.proofs.CountLaws.{numbers-closed}
-use Rattle.plan_model.proofs.EarlierNodes.{earlier-present}
-use Rattle.plan_model.proofs.NewNodes.{point_of-stands}
-use Rattle.plan_model.proofs.OrderLaws.{start-present}
-use Rattle.plan_model.proofs.OrderedTrees.{sum_in-le_cost}
-use Rattle.plan_model.proofs.PlacedNodes.{present-of_record}
+use Rattle.route_laws.proofs.Common.{Goal, Point, Outcome, Placed, Record, cost_of, steered, IsClosed, mark_at, HasLawfulOutcome, IsPlacedLawfully, Setup}
+use Rattle.route_laws.proofs.Common.{IsGoalNode, best_node, IsPresent, point_of, TreeState, first_cost_of, recorded_or, sum_in, best_node-none, best_node-some}
+use Rattle.route_laws.proofs.Common.{KeepsFirstCosts-closed, cost_of-swap, numbers-closed, earlier-present, point_of-stands, start-present, sum_in-le_cost}
+use Rattle.route_laws.proofs.Common.{present-of_record}
 use Rattle.route_laws.specs.Chains.{IsChain, IsChainInOrder, IsLinkInOrder, cost_of_chain}
 
 module _ (setup : Setup) (marks : List Point) (limit : ℕ) (state : TreeState) (closed : IsClosed setup marks limit state) where

@@ -2,27 +2,11 @@
 -- where a mark is skipped.
 use Rattle.std.proofs.Common.{◌≡◌, inl, inr, ℕ, ◌≤◌, Bool, true, false, cond, List, [], length, map, Option, Some, None, arith, refl, sym, subst}
 use Rattle.std.specs.Prelude.{IsTrue}
-use Rattle.plan_model.specs.declared.geometry.Goal.{Goal}
-use Rattle.plan_model.specs.declared.geometry.Point.{Point}
-use Rattle.plan_model.specs.declared.scenes.Scene.{Scene}
-use Rattle.plan_model.specs.declared.records.Outcome.{Outcome}
-use Rattle.plan_model.specs.declared.records.Outcome.TheVariants.{Skipped}
-use Rattle.plan_model.specs.declared.records.Record.{Record}
-use Rattle.plan_model.specs.Runs.ClosedLaw.{IsClosed, mark_at}
-use Rattle.plan_model.specs.Runs.RecordLaw.{HasLawfulOutcome, IsSkippedLawfully}
-use Rattle.plan_model.specs.Runs.SameRuns.{IsOfTextbookRun}
-use Rattle.plan_model.specs.Runs.Textbook.{Setup, setup_of}
-use Rattle.plan_model.specs.Scenes.MarkPoints.{mark_points}
-use Rattle.plan_model.specs.Spaces.Clearance.{ClearAt}
-use Rattle.plan_model.specs.Spaces.ConfigurationSpace.{space_of}
-use Rattle.plan_model.specs.Trees.BestNode.{IsGoalNode, best_node, goals_of, is_goal_point, lies_in_goals}
+use Rattle.route_laws.proofs.Common.{Goal, Point, Scene, Outcome, Skipped, Record, IsClosed, mark_at, HasLawfulOutcome, IsSkippedLawfully, IsOfTextbookRun}
+use Rattle.route_laws.proofs.Common.{Setup, setup_of, mark_points, ClearAt, space_of, IsGoalNode, best_node, goals_of, is_goal_point, lies_in_goals}
+use Rattle.route_laws.proofs.Common.{AreNumberedTo, point_at, IsSettled, TreeState, sum_in, IsPresent-goal, best_node-none, best_node-some, numbers-closed}
+use Rattle.route_laws.proofs.Common.{no_goal_node, IsClosed-of_textbook, IsSettled-of_textbook}
 use Rattle.plan_model.specs.Trees.GoalBounds.{bound_of}
-use Rattle.plan_model.specs.Trees.PointsByNumber.{AreNumberedTo, point_at}
-use Rattle.plan_model.specs.Trees.TreeStates.{IsSettled, TreeState, sum_in}
-use Rattle.plan_model.proofs.BestNodeLaws.{IsPresent-goal, best_node-none, best_node-some}
-use Rattle.plan_model.proofs.CountLaws.{numbers-closed}
-use Rattle.plan_model.proofs.GoalNodes.{no_goal_node}
-use Rattle.plan_model.proofs.SameTrees.{IsClosed-of_textbook, IsSettled-of_textbook}
 use Rattle.route_laws.specs.RouteCosts.{EndApart, IsNearLink, cost_of_route, end_of}
 use Rattle.route_laws.specs.Routes.{IsRoute}
 use Rattle.route_laws.proofs.FollowedPaths.{IsGoalNode-skipping}

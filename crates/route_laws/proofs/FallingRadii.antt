@@ -2,9 +2,7 @@
 use Rattle.std.proofs.Common.{◌≡◌, inl, inr, ℕ, zero, suc, ◌-◌, ◌*◌, ◌^◌, ◌<◌, ◌≤◌, Bool, leb, arith, sym, ap, ◌∙◌, subst}
 use Rattle.std.proofs.lemmas.Bool.{cases_lt, le-leb, leb-true}
 use Rattle.std.proofs.Math.Nat.{pow-le-pow_right}
-use Rattle.plan_model.specs.Geometry.Radius.{class_of, radius_of, radius_of_class}
-use Rattle.plan_model.proofs.ClassLaws.{below_digits, from_digits}
-use Rattle.plan_model.proofs.RadiusLaws.{greatest-le, greatest-most, greatest-passes}
+use Rattle.route_laws.proofs.Common.{class_of, radius_of, radius_of_class, below_digits, from_digits, greatest-le, greatest-most, greatest-passes}
 
 fits : ℕ → ℕ → ℕ → Bool
 fits gamma b r = leb (r * r * 2 ^ (b - 1)) (gamma * gamma * b)

@@ -6,16 +6,8 @@ use Rattle.std.proofs.Math.Nat.{le_of_mul-le-mul_left}
 use Rattle.std.proofs.lemmas.Int.{ints, unsigned_abs-mul}
 use Rattle.std.proofs.lemmas.List.Elements.{All-weaker}
 use Rattle.std.proofs.lemmas.Nat.{mul-le}
-use Rattle.plan_model.specs.declared.geometry.Point.{Point}
-use Rattle.plan_model.specs.declared.geometry.Vertex.{Vertex}
-use Rattle.plan_model.specs.Geometry.Plane.{squared_distance}
-use Rattle.plan_model.specs.Runs.Textbook.{Setup}
-use Rattle.plan_model.specs.Spaces.Clearance.{IsClear}
-use Rattle.plan_model.specs.Spaces.Meeting.{Meets}
-use Rattle.plan_model.specs.Spaces.RoomOfConfigurations.{IsBetweenWalls, IsSamePoint, Rational, moved_by}
-use Rattle.plan_model.proofs.MeetingLaws.{SharesPoint-meets}
-use Rattle.plan_model.proofs.Ring.{minus, same, times, var}
-use Rattle.plan_model.proofs.RootLaws.{lt-from_squares}
+use Rattle.route_laws.proofs.Common.{Point, Vertex, squared_distance, Setup, IsClear, Meets, IsBetweenWalls, IsSamePoint, Rational, moved_by, SharesPoint-meets}
+use Rattle.route_laws.proofs.Common.{minus, same, times, var, lt-from_squares}
 use Rattle.route_laws.specs.Discs.{HasClearDisc, IsFartherFrom, IsInDisc, KeepsBodyFar, KeepsFromWalls, gap_from, obstacle_less_body}
 
 -- ---- one point, written with two denominators

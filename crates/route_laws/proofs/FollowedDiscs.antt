@@ -5,12 +5,7 @@ use Rattle.std.specs.Int.{abs_diff}
 use Rattle.std.proofs.lemmas.Bool.{cases_lt}
 use Rattle.std.proofs.lemmas.Int.{ints}
 use Rattle.std.proofs.lemmas.Nat.{mul-le}
-use Rattle.plan_model.specs.declared.geometry.Point.{Point}
-use Rattle.plan_model.specs.Geometry.Plane.{squared_distance}
-use Rattle.plan_model.specs.Runs.ClosedLaw.{mark_at}
-use Rattle.plan_model.specs.Runs.Textbook.{Setup}
-use Rattle.plan_model.specs.Spaces.Clearance.{on_the_way}
-use Rattle.plan_model.proofs.SegmentLaws.{way_is}
+use Rattle.route_laws.proofs.Common.{Point, squared_distance, mark_at, Setup, on_the_way, way_is}
 use Rattle.route_laws.specs.Discs.{HasClearDisc, IsInDisc, gap_from}
 use Rattle.route_laws.specs.Routes.{AreLinks, IsOpenLink, IsRoute}
 

@@ -1,20 +1,8 @@
 -- One open link in a closed run: if an earlier node stands where it begins, the mark where it ends is placed there or ends at a node there,
 -- unless it is skipped.
 use Rattle.std.proofs.Common.{◌≡◌, ◌⊎◌, inl, inr, ℕ, zero, suc, ◌≤◌, List, arith, refl, sym, subst}
-use Rattle.plan_model.specs.declared.geometry.Point.{Point}
-use Rattle.plan_model.specs.declared.records.Outcome.{Outcome}
-use Rattle.plan_model.specs.declared.records.Outcome.TheVariants.{Placed, Same, Blocked, Skipped}
-use Rattle.plan_model.specs.declared.records.Record.{Record}
-use Rattle.plan_model.specs.Geometry.Plane.{squared_distance}
-use Rattle.plan_model.specs.Runs.ClosedLaw.{IsClosed}
-use Rattle.plan_model.specs.Runs.RecordLaw.{HasLawfulOutcome, IsEarlier, IsSteeredLawfully}
-use Rattle.plan_model.specs.Runs.Textbook.{Setup}
-use Rattle.plan_model.specs.Spaces.Clearance.{ClearAt}
-use Rattle.plan_model.specs.Trees.PointsByNumber.{IsPresent, StandsAt, point_of}
-use Rattle.plan_model.specs.Trees.TreeStates.{TreeState}
-use Rattle.plan_model.proofs.NewNodes.{point_of-stands}
-use Rattle.plan_model.proofs.SegmentLaws.{Clear-last}
-use Rattle.plan_model.proofs.SteeringLaws.{steered-near}
+use Rattle.route_laws.proofs.Common.{Point, Outcome, Placed, Same, Blocked, Skipped, Record, squared_distance, IsClosed, HasLawfulOutcome, IsEarlier}
+use Rattle.route_laws.proofs.Common.{IsSteeredLawfully, Setup, ClearAt, IsPresent, StandsAt, point_of, TreeState, point_of-stands, Clear-last, steered-near}
 use Rattle.route_laws.specs.Routes.{HasGoalNode, IsOpenLink}
 
 module _ (setup : Setup) (marks : List Point) (limit : ℕ) (state : TreeState) (closed : IsClosed setup marks limit state) where

@@ -2,9 +2,9 @@
 use Rattle.std.proofs.Common.{◌≡◌, inl, inr, ℕ, Bool, true, false, cond, List, [], ◌++◌, length, Option, Some, None, refl, sym, ap, ◌∙◌, subst, append_assoc}
 use Rattle.std.specs.Prelude.{Contains, IsTrue}
 use Rattle.std.proofs.lemmas.List.Elements.{All-contains}
-use Rattle.plan_model.specs.declared.geometry.Goal.{Goal}
-use Rattle.plan_model.specs.declared.geometry.Point.{Point}
-use Rattle.plan_model.specs.declared.scenes.Scene.{Scene}
+use Rattle.route_laws.proofs.Common.{Goal, Point, Scene, mark_at, IsOfTextbookRun, setup_of, mark_points, ClearAt, space_of, IsGoalNode, best_node, goals_of}
+use Rattle.route_laws.proofs.Common.{is_goal_point, lies_in_goals, AreNumberedTo, TreeState, sum_in, best_node-none, best_node-some, no_goal_node}
+use Rattle.route_laws.proofs.Common.{numbers-closed, IsClosed-of_textbook}
 use Rattle.plan_model.specs.Reports.ReportText.{
   best_path,
   counts_line,
@@ -17,19 +17,6 @@ use Rattle.plan_model.specs.Reports.ReportText.{
   report_text,
   short_report,
 }
-use Rattle.plan_model.specs.Runs.ClosedLaw.{mark_at}
-use Rattle.plan_model.specs.Runs.SameRuns.{IsOfTextbookRun}
-use Rattle.plan_model.specs.Runs.Textbook.{setup_of}
-use Rattle.plan_model.specs.Scenes.MarkPoints.{mark_points}
-use Rattle.plan_model.specs.Spaces.Clearance.{ClearAt}
-use Rattle.plan_model.specs.Spaces.ConfigurationSpace.{space_of}
-use Rattle.plan_model.specs.Trees.BestNode.{IsGoalNode, best_node, goals_of, is_goal_point, lies_in_goals}
-use Rattle.plan_model.specs.Trees.PointsByNumber.{AreNumberedTo}
-use Rattle.plan_model.specs.Trees.TreeStates.{TreeState, sum_in}
-use Rattle.plan_model.proofs.BestNodeLaws.{best_node-none, best_node-some}
-use Rattle.plan_model.proofs.GoalNodes.{no_goal_node}
-use Rattle.plan_model.proofs.CountLaws.{numbers-closed}
-use Rattle.plan_model.proofs.SameTrees.{IsClosed-of_textbook}
 use Rattle.route_laws.specs.BestPaths.{ShowsPath}
 use Rattle.route_laws.specs.Routes.{HasGoalNode, IsOpenLink, IsReached, IsRoute}
 use Rattle.route_laws.proofs.FollowedRoutes.{IsReached-open_route}

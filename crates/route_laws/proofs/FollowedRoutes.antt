@@ -5,21 +5,8 @@ use Rattle.std.specs.Prelude.{◌&&◌, All, IsSome}
 use Rattle.std.proofs.Common.{eqb, ltb}
 use Rattle.std.proofs.lemmas.Bool.{and_from, eq-eqb, lt-ltb}
 use Rattle.std.proofs.lemmas.List.Elements.{All-cons, All-nil}
-use Rattle.plan_model.specs.declared.geometry.Point.{Point}
-use Rattle.plan_model.specs.declared.records.Outcome.TheVariants.{Placed, Same}
-use Rattle.plan_model.specs.declared.records.Record.{Record}
-use Rattle.plan_model.specs.Runs.ClosedLaw.{IsClosed, mark_at}
-use Rattle.plan_model.specs.Runs.Outcomes.{is_placed}
-use Rattle.plan_model.specs.Runs.RecordLaw.{IsEarlier, is_earlier_record}
-use Rattle.plan_model.specs.Runs.SameRuns.{IsOfTextbookRun}
-use Rattle.plan_model.specs.Runs.Textbook.{Setup}
-use Rattle.plan_model.specs.Spaces.Clearance.{ClearAt}
-use Rattle.plan_model.specs.Trees.PointsByNumber.{IsPresent, StandsAt}
-use Rattle.plan_model.specs.Trees.TreeStates.{TreeState}
-use Rattle.plan_model.proofs.GoalNodes.{no_goal_node}
-use Rattle.plan_model.proofs.NewNodes.{IsPresent-stands}
-use Rattle.plan_model.proofs.PlacedNodes.{record-of_present}
-use Rattle.plan_model.proofs.SameTrees.{IsClosed-of_textbook}
+use Rattle.route_laws.proofs.Common.{Point, Placed, Same, Record, IsClosed, mark_at, is_placed, IsEarlier, is_earlier_record, IsOfTextbookRun, Setup, ClearAt}
+use Rattle.route_laws.proofs.Common.{IsPresent, StandsAt, TreeState, no_goal_node, IsPresent-stands, record-of_present, IsClosed-of_textbook}
 use Rattle.route_laws.specs.Routes.{AreLinks, HasGoalNode, IsOpenLink, IsReached, IsRoute, Rise}
 use Rattle.route_laws.proofs.FollowedLinks.{EndsThere-lawful}
 use Rattle.route_laws.proofs.TextbookRecords.{IsInTurn, IsInTurn-textbook}

@@ -12,3 +12,4 @@ pub mod RouteNodes
 pub mod RouteCosts
 pub mod CheapestPaths
 pub mod WorkersRoutes
+pub mod Common

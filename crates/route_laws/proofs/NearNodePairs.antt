@@ -8,32 +8,11 @@ use Rattle.std.proofs.lemmas.List.{length-append}
 use Rattle.std.proofs.lemmas.List.FromFn.{length-range_with_len}
 use Rattle.std.proofs.lemmas.List.Sums.{count_by-le-length}
 use Rattle.std.proofs.lemmas.Nat.{mul-le}
-use Rattle.plan_model.specs.declared.geometry.Point.{Point}
-use Rattle.plan_model.specs.declared.records.Outcome.{Outcome}
-use Rattle.plan_model.specs.declared.records.Outcome.TheVariants.{Placed}
-use Rattle.plan_model.specs.declared.records.Record.{Record}
-use Rattle.plan_model.specs.Geometry.Cost.{cost_of}
-use Rattle.plan_model.specs.Geometry.Plane.{squared_distance}
-use Rattle.plan_model.specs.Geometry.Radius.{class_of, radius_of, radius_of_class}
-use Rattle.plan_model.specs.Geometry.Steering.{steered}
-use Rattle.plan_model.specs.Runs.ClosedLaw.{IsClosed, has_outcome, mark_at}
-use Rattle.plan_model.specs.Runs.Outcomes.{is_placed}
-use Rattle.plan_model.specs.Runs.RecordLaw.{HasLawfulOutcome, IsNeighbour, IsPlacedLawfully}
-use Rattle.plan_model.specs.Runs.SameRuns.{IsOfTextbookRun}
-use Rattle.plan_model.specs.Runs.Textbook.{Ends, EndsPlaced, Nodes, Setup, start_alone}
-use Rattle.plan_model.specs.Spaces.Clearance.{Clear, ClearAt}
-use Rattle.plan_model.specs.Trees.Nearness.{is_within}
-use Rattle.plan_model.specs.Trees.NodeLists.{points_of}
-use Rattle.plan_model.specs.Trees.PointsByNumber.{StandsAt, node_count, point_of}
-use Rattle.plan_model.specs.Trees.TreeStates.{TreeState, first_cost_of, recorded_or, state_of}
-use Rattle.plan_model.proofs.ClosedLaws.{KeepsFirstCosts-closed}
-use Rattle.plan_model.proofs.CountLaws.{node_count-closed}
-use Rattle.plan_model.proofs.CostLaws.{cost_of-swap}
-use Rattle.plan_model.proofs.NearNodes.{squared_distance-swap}
-use Rattle.plan_model.proofs.NewNodes.{IsPresent-stands, StandsAt-unique, node_count-some, point_of-stands}
-use Rattle.plan_model.proofs.PlacedNodes.{record-of_present}
-use Rattle.plan_model.proofs.SegmentLaws.{Clear-back}
-use Rattle.plan_model.proofs.TextbookRuns.{IsClosed-textbook}
+use Rattle.route_laws.proofs.Common.{Point, Outcome, Placed, Record, cost_of, squared_distance, class_of, radius_of, radius_of_class, steered, IsClosed}
+use Rattle.route_laws.proofs.Common.{has_outcome, mark_at, is_placed, HasLawfulOutcome, IsNeighbour, IsPlacedLawfully, IsOfTextbookRun, Ends, EndsPlaced, Nodes}
+use Rattle.route_laws.proofs.Common.{Setup, start_alone, Clear, ClearAt, is_within, points_of, StandsAt, node_count, point_of, TreeState, first_cost_of}
+use Rattle.route_laws.proofs.Common.{recorded_or, state_of, KeepsFirstCosts-closed, node_count-closed, cost_of-swap, squared_distance-swap, IsPresent-stands}
+use Rattle.route_laws.proofs.Common.{StandsAt-unique, node_count-some, point_of-stands, record-of_present, Clear-back, IsClosed-textbook}
 use Rattle.route_laws.specs.RouteCosts.{least_radius}
 use Rattle.route_laws.proofs.FallingRadii.{radius_of-falls}
 use Rattle.route_laws.proofs.FollowedRoutes.{IsEarlier-below, closed}

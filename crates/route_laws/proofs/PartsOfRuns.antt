@@ -2,15 +2,8 @@
 use Rattle.std.proofs.Common.{◌≡◌, ℕ, zero, suc, ◌+◌, List, [], ◌∷◌, ◌++◌, length, Option, Some, None, arith, refl, sym, ap, ◌∙◌, subst, append_assoc}
 use Rattle.std.specs.Prelude.{slice_get}
 use Rattle.std.proofs.lemmas.List.{append-nil}
-use Rattle.plan_model.specs.declared.geometry.Point.{Point}
-use Rattle.plan_model.specs.declared.records.Outcome.{Outcome}
-use Rattle.plan_model.specs.declared.records.Outcome.TheVariants.{Placed, Same, Blocked, Skipped}
-use Rattle.plan_model.specs.declared.records.Record.{Record}
-use Rattle.plan_model.specs.declared.trees.Twig.{Twig}
-use Rattle.plan_model.specs.Runs.Textbook.{Ends, Handles, HandlesAll, Nodes, Setup, near_new}
-use Rattle.plan_model.specs.Trees.NodeLists.{points_of}
-use Rattle.plan_model.proofs.DistinctPoints.{near-present_beside, points_of-rewires}
-use Rattle.plan_model.proofs.TreeChanges.{points_of-push}
+use Rattle.route_laws.proofs.Common.{Point, Outcome, Placed, Same, Blocked, Skipped, Record, Twig, Ends, Handles, HandlesAll, Nodes, Setup, near_new, points_of}
+use Rattle.route_laws.proofs.Common.{near-present_beside, points_of-rewires, points_of-push}
 
 -- no node moves, and numbers are added at the end
 abbrev AddsPoints : Nodes → Nodes → Type 0

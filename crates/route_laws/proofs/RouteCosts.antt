@@ -30,28 +30,11 @@ use Rattle.std.specs.Prelude.{◌&&◌, IsTrue}
 use Rattle.std.specs.Int.{abs_diff}
 use Rattle.std.proofs.Math.Nat.{le_refl}
 use Rattle.std.proofs.lemmas.Bool.{true≢false}
-use Rattle.plan_model.specs.declared.geometry.Point.{Point}
-use Rattle.plan_model.specs.declared.records.Outcome.{Outcome}
-use Rattle.plan_model.specs.declared.records.Outcome.TheVariants.{Placed, Same, Blocked, Skipped}
-use Rattle.plan_model.specs.declared.records.Record.{Record}
-use Rattle.plan_model.specs.Geometry.Cost.{cost_of}
-use Rattle.plan_model.specs.Geometry.Plane.{squared_distance}
+use Rattle.route_laws.proofs.Common.{Point, Outcome, Placed, Same, Blocked, Skipped, Record, cost_of, squared_distance, IsClosed, has_outcome, mark_at, is_same}
+use Rattle.route_laws.proofs.Common.{HasLawfulOutcome, IsEarlier, IsOfTextbookRun, Ends, EndsPlaced, Setup, mark_bound, Clear, ClearAt, IsGoalNode}
+use Rattle.route_laws.proofs.Common.{lies_in_goals, length_of_path, StandsAt, point_of, TreeState, recorded_or, cost_of-swap, bound_of-least, IsPresent-stands}
+use Rattle.route_laws.proofs.Common.{point_of-stands, root_ceiling-zero, cost_of-triangle}
 use Rattle.plan_model.specs.Geometry.Roots.{root_ceiling}
-use Rattle.plan_model.specs.Runs.ClosedLaw.{IsClosed, has_outcome, mark_at}
-use Rattle.plan_model.specs.Runs.Outcomes.{is_same}
-use Rattle.plan_model.specs.Runs.RecordLaw.{HasLawfulOutcome, IsEarlier}
-use Rattle.plan_model.specs.Runs.SameRuns.{IsOfTextbookRun}
-use Rattle.plan_model.specs.Runs.Textbook.{Ends, EndsPlaced, Setup, mark_bound}
-use Rattle.plan_model.specs.Spaces.Clearance.{Clear, ClearAt}
-use Rattle.plan_model.specs.Trees.BestNode.{IsGoalNode, lies_in_goals}
-use Rattle.plan_model.specs.Trees.NodeLists.{length_of_path}
-use Rattle.plan_model.specs.Trees.PointsByNumber.{StandsAt, point_of}
-use Rattle.plan_model.specs.Trees.TreeStates.{TreeState, recorded_or}
-use Rattle.plan_model.proofs.CostLaws.{cost_of-swap}
-use Rattle.plan_model.proofs.GoalBoundLaws.{bound_of-least}
-use Rattle.plan_model.proofs.NewNodes.{IsPresent-stands, point_of-stands}
-use Rattle.plan_model.proofs.RootLaws.{root_ceiling-zero}
-use Rattle.plan_model.proofs.TriangleLaw.{cost_of-triangle}
 use Rattle.route_laws.specs.RouteCosts.{EndApart, IsNearLink, cost_of_route, end_of, ends_same, least_radius}
 use Rattle.route_laws.specs.Routes.{AreLinks, IsRoute, Rise}
 use Rattle.route_laws.proofs.FollowedLinks.{ClearAt-node, ends_at, near}

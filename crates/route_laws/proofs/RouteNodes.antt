@@ -30,27 +30,10 @@ use Rattle.std.proofs.Common.{
 use Rattle.std.specs.Prelude.{IsTrue, option_map}
 use Rattle.std.proofs.Math.Seq.{get_or-append_seam}
 use Rattle.std.proofs.lemmas.List.{get_or_append_left, length-append, length-map}
-use Rattle.plan_model.specs.declared.geometry.Point.{Point}
-use Rattle.plan_model.specs.declared.records.Record.{Record}
-use Rattle.plan_model.specs.declared.trees.Twig.{Twig}
-use Rattle.plan_model.specs.Geometry.Cost.{cost_of}
-use Rattle.plan_model.specs.Geometry.Plane.{squared_distance}
-use Rattle.plan_model.specs.Geometry.Radius.{radius_of}
-use Rattle.plan_model.specs.Runs.ClosedLaw.{mark_at}
-use Rattle.plan_model.specs.Runs.SameRuns.{IsOfTextbookRun}
-use Rattle.plan_model.specs.Runs.Textbook.{EndsPlaced, IsCandidate, Setup, near_new, start_alone}
-use Rattle.plan_model.specs.Spaces.Clearance.{Clear, ClearAt}
-use Rattle.plan_model.specs.Trees.Nearness.{is_within}
-use Rattle.plan_model.specs.Trees.NodeLists.{points_of, sum_of}
-use Rattle.plan_model.specs.Trees.PointsByNumber.{StandsAt, node_count, point_at, point_of}
-use Rattle.plan_model.specs.Trees.TreeStates.{TreeState, first_cost_of, recorded_or, state_of}
-use Rattle.plan_model.proofs.ClosedLaws.{KeepsFirstCosts-closed}
-use Rattle.plan_model.proofs.ListMembers.{Contains-after}
-use Rattle.plan_model.proofs.NearNodes.{Contains-near}
-use Rattle.plan_model.proofs.NewNodes.{IsPresent-stands, point_of-stands}
-use Rattle.plan_model.proofs.PlacedNodes.{record-of_present}
-use Rattle.plan_model.proofs.SteeringLaws.{steered-near}
-use Rattle.plan_model.proofs.TextbookRuns.{IsClosed-textbook}
+use Rattle.route_laws.proofs.Common.{Point, Record, Twig, cost_of, squared_distance, radius_of, mark_at, IsOfTextbookRun, EndsPlaced, IsCandidate, Setup}
+use Rattle.route_laws.proofs.Common.{near_new, start_alone, Clear, ClearAt, is_within, points_of, sum_of, StandsAt, node_count, point_at, point_of, TreeState}
+use Rattle.route_laws.proofs.Common.{first_cost_of, recorded_or, state_of, KeepsFirstCosts-closed, Contains-after, Contains-near, IsPresent-stands}
+use Rattle.route_laws.proofs.Common.{point_of-stands, record-of_present, steered-near, IsClosed-textbook}
 use Rattle.route_laws.specs.RouteCosts.{least_radius}
 use Rattle.route_laws.proofs.FallingRadii.{radius_of-falls}
 use Rattle.route_laws.proofs.FollowedRoutes.{closed}

@@ -3,15 +3,8 @@
 use Rattle.std.proofs.Common.{◌≡◌, ℕ, zero, suc, ◌+◌, ◌≤◌, List, [], ◌∷◌, ◌++◌, length, Option, Some, None, arith, refl, sym, ap, ◌∙◌, subst}
 use Rattle.std.specs.Prelude.{slice_get}
 use Rattle.std.proofs.lemmas.List.{length-append, length-map}
-use Rattle.plan_model.specs.declared.geometry.Point.{Point}
-use Rattle.plan_model.specs.declared.records.Outcome.{Outcome}
-use Rattle.plan_model.specs.declared.records.Outcome.TheVariants.{Placed, Same, Blocked, Skipped}
-use Rattle.plan_model.specs.declared.records.Record.{Record}
-use Rattle.plan_model.specs.declared.trees.Twig.{Twig}
-use Rattle.plan_model.specs.Runs.Textbook.{Ends, HandlesAll, IsTextbookRun, Nodes, Setup, near_new, start_alone}
-use Rattle.plan_model.specs.Trees.NodeLists.{points_of}
-use Rattle.plan_model.proofs.DistinctPoints.{near-present_beside, points_of-rewires}
-use Rattle.plan_model.proofs.NewNodes.{IsPresent-stands, present_below}
+use Rattle.route_laws.proofs.Common.{Point, Outcome, Placed, Same, Blocked, Skipped, Record, Twig, Ends, HandlesAll, IsTextbookRun, Nodes, Setup, near_new}
+use Rattle.route_laws.proofs.Common.{start_alone, points_of, near-present_beside, points_of-rewires, IsPresent-stands, present_below}
 
 -- The record is of worker 0 in turn k, and names no node that mark k or a later one gives.
 pub record IsInTurn (k : ℕ) (entry : Record) : Type 0 where

@@ -2,14 +2,7 @@
 use Rattle.std.proofs.Common.{◌≡◌, ◌⊎◌, inl, inr, ℕ, suc, List, [], ◌∷◌, map, Some, refl, sym, ◌∙◌, subst}
 use Rattle.std.specs.Prelude.{All}
 use Rattle.std.proofs.lemmas.List.Elements.{All-cons, All-nil}
-use Rattle.plan_model.specs.declared.geometry.Point.{Point}
-use Rattle.plan_model.specs.declared.records.Outcome.{Outcome}
-use Rattle.plan_model.specs.declared.records.Outcome.TheVariants.{Placed, Same}
-use Rattle.plan_model.specs.declared.records.Record.{Record}
-use Rattle.plan_model.specs.Runs.ClosedLaw.{IsClosed, mark_at}
-use Rattle.plan_model.specs.Runs.Textbook.{Setup}
-use Rattle.plan_model.specs.Trees.PointsByNumber.{StandsAt}
-use Rattle.plan_model.specs.Trees.TreeStates.{TreeState}
+use Rattle.route_laws.proofs.Common.{Point, Outcome, Placed, Same, Record, IsClosed, mark_at, Setup, StandsAt, TreeState}
 use Rattle.route_laws.specs.Routes.{AreLinks, HasGoalNode, IsOpenLink}
 use Rattle.route_laws.specs.WorkersRoutes.{AreHandledInTurn, EndsAtNode, HasNodeAt, IsHandledAfter}
 use Rattle.route_laws.proofs.FollowedLinks.{EndsThere-lawful}

@@ -1,12 +1,7 @@
 -- Chains and links of the two runs, in order or not.
 use Rattle.std.proofs.Common.{◌≡◌, [], ◌∷◌, arith, refl, inl, inr}
-use Rattle.plan_model.specs.declared.records.Record.{Record}
-use Rattle.plan_model.specs.Runs.Textbook.{placed_record, same_record}
-use Rattle.plan_model.specs.Spaces.EmptyRooms.{empty_room}
-use Rattle.plan_model.specs.Vectors.Overlaps.{early_record, overlapped, placed_by}
-use Rattle.plan_model.specs.Vectors.Runs.{open_setup}
-use Rattle.plan_model.specs.Vectors.Shapes.{at}
-use Rattle.plan_model.proofs.EmptyRoomClearance.{AreInRoom-from_clear, Clear-empty_room}
+use Rattle.route_laws.proofs.Common.{Record, placed_record, same_record, empty_room, early_record, overlapped, placed_by, open_setup, at, AreInRoom-from_clear}
+use Rattle.route_laws.proofs.Common.{Clear-empty_room}
 use Rattle.route_laws.specs.Chains.{IsChain, IsChainInOrder, IsLinkInOrder, cost_of_chain}
 use Rattle.route_laws_tests.specs.ChainRuns.{late, low_setup, small_setup}
 use Rattle.route_laws_tests.proofs.ChainLinks.{IsLinkInOrder-neighbour, entry_is, neighbour-link, none_to_start}

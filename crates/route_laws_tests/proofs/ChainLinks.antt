@@ -1,12 +1,7 @@
 -- Links of placed nodes, by what computes of their records.
 use Rattle.std.proofs.Common.{◌≡◌, ℕ, suc, Some, arith, refl, sym, ap, ◌∙◌, subst}
 use Rattle.std.specs.Prelude.{unwrap_or}
-use Rattle.plan_model.specs.declared.records.Outcome.TheVariants.{Placed}
-use Rattle.plan_model.specs.declared.records.Record.{Record}
-use Rattle.plan_model.specs.Runs.RecordLaw.{IsNeighbour}
-use Rattle.plan_model.specs.Runs.Textbook.{Setup}
-use Rattle.plan_model.specs.Trees.PointsByNumber.{point_of}
-use Rattle.plan_model.specs.Trees.TreeStates.{TreeState}
+use Rattle.route_laws.proofs.Common.{Placed, Record, IsNeighbour, Setup, point_of, TreeState}
 use Rattle.route_laws.specs.Chains.{IsLinkInOrder}
 
 module _ (setup : Setup) (state : TreeState) (i k : ℕ) (entry : Record) (recorded : state.record_of k ≡ Some entry) where

@@ -2,18 +2,10 @@
 use Rattle.std.proofs.Common.{◌≡◌, ℕ, [], ◌∷◌, None, refl, sym, ap, arith, inl, inr}
 use Rattle.std.specs.Prelude.{All}
 use Rattle.std.proofs.lemmas.List.Elements.{All-cons, All-nil}
-use Rattle.plan_model.specs.Spaces.EmptyRooms.{empty_room}
+use Rattle.route_laws.proofs.Common.{empty_room, advanced, steered, IsNotAbove, sum_of, Nodes, cost_through, EndsPlaced, EndsSame, HandlesAll, IsCheaperThrough}
+use Rattle.route_laws.proofs.Common.{IsTextbookRun, Rewires, placed_record, same_record, node, at, Clear-empty_room, IsNotAbove-refl, IsNotAbove-lesser}
+use Rattle.route_laws.proofs.Common.{root_ceiling-from_squares}
 use Rattle.plan_model.specs.Geometry.Roots.{root_ceiling}
-use Rattle.plan_model.specs.Geometry.Steering.{advanced, steered}
-use Rattle.plan_model.specs.Trees.LeastPairs.{IsNotAbove}
-use Rattle.plan_model.specs.Trees.NodeLists.{sum_of}
-use Rattle.plan_model.specs.Runs.Textbook.{Nodes, cost_through, EndsPlaced, EndsSame, HandlesAll, IsCheaperThrough, IsTextbookRun, Rewires}
-use Rattle.plan_model.specs.Runs.Textbook.{placed_record, same_record}
-use Rattle.plan_model.specs.Vectors.Runs.{node}
-use Rattle.plan_model.specs.Vectors.Shapes.{at}
-use Rattle.plan_model.proofs.EmptyRoomClearance.{Clear-empty_room}
-use Rattle.plan_model.proofs.LeastPairLaws.{IsNotAbove-refl, IsNotAbove-lesser}
-use Rattle.plan_model.proofs.RootLaws.{root_ceiling-from_squares}
 use Rattle.route_laws_tests.specs.ChainRuns.{late_marks, late_records, late_tree, small_setup}
 use Rattle.route_laws_tests.proofs.ChainMarks.{EndsPlaced-placeable, EndsSame-computed}
 

@@ -2,15 +2,7 @@
 use Rattle.std.proofs.Common.{◌≡◌, ℕ, ◌≤◌, List, [], ◌∷◌, length, arith, refl}
 use Rattle.std.proofs.lemmas.Int.{ints}
 use Rattle.std.proofs.lemmas.List.Elements.{All-cons, All-nil}
-use Rattle.plan_model.specs.declared.geometry.Point.{Point}
-use Rattle.plan_model.specs.declared.geometry.Vertex.{Vertex}
-use Rattle.plan_model.specs.Spaces.Clearance.{ClearAt}
-use Rattle.plan_model.specs.Spaces.ConfigurationSpace.{space_among}
-use Rattle.plan_model.specs.Spaces.Meeting.{Meets}
-use Rattle.plan_model.specs.Spaces.RoomOfConfigurations.{IsBetweenWalls, at_lattice, moved_by}
-use Rattle.plan_model.specs.Vectors.Meetings.{point_body}
-use Rattle.plan_model.specs.Vectors.Shapes.{corner}
-use Rattle.plan_model.proofs.EmptyRoomClearance.{corner_in_box}
+use Rattle.route_laws.proofs.Common.{Point, Vertex, ClearAt, space_among, Meets, IsBetweenWalls, at_lattice, moved_by, point_body, corner, corner_in_box}
 
 pub record One (ws : List ℕ) : Type 0 where
   pub only : ℕ

@@ -5,20 +5,14 @@ use Rattle.std.specs.Int.{abs_diff}
 use Rattle.std.proofs.lemmas.Bool.{cases_lt}
 use Rattle.std.proofs.lemmas.Int.{ints}
 use Rattle.std.proofs.lemmas.Nat.{mul-le}
-use Rattle.plan_model.specs.declared.geometry.Point.{Point}
-use Rattle.plan_model.specs.Geometry.Plane.{squared_distance}
-use Rattle.plan_model.specs.Spaces.Clearance.{Clear, ClearAt, on_the_way}
-use Rattle.plan_model.specs.Spaces.Meeting.{Meets}
-use Rattle.plan_model.specs.Spaces.RoomOfConfigurations.{Rational, at_lattice}
-use Rattle.plan_model.specs.Vectors.Meetings.{point_body}
-use Rattle.plan_model.specs.Vectors.Shapes.{at, two_is_positive}
-use Rattle.plan_model.proofs.MeetingLaws.{Meets-shares_point, SharesPoint-meets}
+use Rattle.route_laws.proofs.Common.{Point, squared_distance, Clear, ClearAt, on_the_way, Meets, Rational, at_lattice, point_body, at, two_is_positive}
+use Rattle.route_laws.proofs.Common.{Meets-shares_point, SharesPoint-meets}
 use Rattle.route_laws_tests.specs.Links.{thin_space, thin_triangle}
 use Rattle.route_laws_tests.proofs.ShortWeights.{ClearAt-apart, one, three}
 
 -- ---- lattice points
 
--- points of the triangle with such an x lie strictly between the rows 4 and 5
+-- points of the triangle with such an x lie strictly between y = 4 and y = 5
 between_rows : (t x y a b c : ℕ) → 0 < t → 3 ≤ x → x ≤ 7 → a + b + c ≡ t → 11 * b + 10 * c ≡ t * x → 4 * a + 5 * b + 5 * c ≡ t * y → ⊥
 between_rows t x y a b c some left right total across up =
     let low = mul-le t 3 t x (omega arith) left in

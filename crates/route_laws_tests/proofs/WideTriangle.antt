@@ -5,11 +5,7 @@ use Rattle.std.specs.Int.{abs_diff}
 use Rattle.std.proofs.lemmas.Int.{ints}
 use Rattle.std.proofs.lemmas.List.Elements.{All-cons, All-nil}
 use Rattle.std.proofs.lemmas.Nat.{mul-le}
-use Rattle.plan_model.specs.declared.geometry.Point.{Point}
-use Rattle.plan_model.specs.Geometry.Plane.{squared_distance}
-use Rattle.plan_model.specs.Spaces.Meeting.{weighted}
-use Rattle.plan_model.specs.Vectors.Meetings.{great_triangle, point_body}
-use Rattle.plan_model.specs.Vectors.Shapes.{at, corner}
+use Rattle.route_laws.proofs.Common.{Point, squared_distance, weighted, great_triangle, point_body, at, corner}
 use Rattle.route_laws.specs.Discs.{IsFartherFrom, KeepsBodyFar, KeepsFromWalls, gap_from}
 use Rattle.route_laws.proofs.FollowedDiscs.{difference}
 use Rattle.route_laws_tests.specs.Links.{wide_setup}
@@ -38,7 +34,7 @@ IsFartherFrom-wide a b left short total on_obstacle on_body positive corners cor
     farther total (squared_distance a b) (gap_from total y b.y) o.first o.second o.third w.only b.x positive left short
     (omega (arith, rw o.are at obstacle_total)) (rw (o.are, w.are) at h)
 
--- a link of at most three lattice steps in row 15, whose end keeps as far from the walls
+-- a link of at most three lattice steps at y = 15, whose end keeps as far from the walls
 pub KeepsBodyFar-wide :
     (from to : ℕ) → squared_distance (at from 15) (at to 15) ≤ 9 → 3 ≤ to → to ≤ 6 → KeepsBodyFar (wide_setup point_body 0) (at from 15) (at to 15)
 KeepsBodyFar-wide from to short low high =

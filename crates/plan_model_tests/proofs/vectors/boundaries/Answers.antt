@@ -1,6 +1,5 @@
 use Rattle.std.proofs.Common.{arith, subst}
-use Rattle.plan_model.specs.Geometry.Roots.{IsRootCeiling}
-use Rattle.plan_model.proofs.RootLaws.{root_ceiling-from_squares, root_ceiling-is}
+use Rattle.plan_model_tests.proofs.Common.{IsRootCeiling, root_ceiling-from_squares, root_ceiling-is}
 use Rattle.plan_model_tests.proofs.vectors.boundaries.Goals as goal
 
 pub returns : goal.returns

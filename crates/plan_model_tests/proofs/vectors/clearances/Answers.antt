@@ -3,19 +3,9 @@ use Rattle.std.specs.Prelude.{pos, ◌-ℤ◌, ◌*ℤ◌, sum}
 use Rattle.std.proofs.lemmas.Int.{ints}
 use Rattle.std.proofs.lemmas.Nat.{mul-le}
 use Rattle.std.proofs.lemmas.List.Elements.{All-cons, All-nil}
-use Rattle.plan_model.specs.declared.geometry.Vertex.{Vertex}
-use Rattle.plan_model.specs.declared.geometry.Point.{Point}
-use Rattle.plan_model.specs.declared.configuration_spaces.ConfigurationSpace.{ConfigurationSpace}
-use Rattle.plan_model.specs.Spaces.RoomOfConfigurations.{Rational, IsSamePoint, at_lattice, moved_by, IsBetweenWalls}
-use Rattle.plan_model.specs.Spaces.Meeting.{weighted, Meets}
-use Rattle.plan_model.specs.Spaces.Clearance.{IsClear, on_the_way, Clear}
-use Rattle.plan_model.specs.Vectors.Shapes.{at, corner, two_is_positive}
-use Rattle.plan_model.specs.Vectors.Meetings.{point_body, pillar}
-use Rattle.plan_model.specs.Vectors.Clearances.{square, beside_square, apart_from_pillar}
-use Rattle.plan_model.proofs.EmptyRoomClearance.{corner_in_box}
-use Rattle.plan_model.proofs.SegmentLaws.{part_and_rest, way_is}
-use Rattle.plan_model.proofs.RationalPoints.{IsClear-same}
-use Rattle.plan_model.proofs.MeetingLaws.{SharesPoint-meets, Meets-shares_point}
+use Rattle.plan_model_tests.proofs.Common.{Vertex, Point, ConfigurationSpace, Rational, IsSamePoint, at_lattice, moved_by, IsBetweenWalls, weighted, Meets}
+use Rattle.plan_model_tests.proofs.Common.{IsClear, on_the_way, Clear, at, corner, two_is_positive, point_body, pillar, square, beside_square}
+use Rattle.plan_model_tests.proofs.Common.{apart_from_pillar, corner_in_box, part_and_rest, way_is, IsClear-same, SharesPoint-meets, Meets-shares_point}
 use Rattle.plan_model_tests.proofs.ShortLists.{one, four}
 use Rattle.plan_model_tests.proofs.Pillars.{fraction, apart_above}
 use Rattle.plan_model_tests.proofs.vectors.clearances.Goals as goal

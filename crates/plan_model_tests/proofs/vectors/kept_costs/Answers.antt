@@ -1,9 +1,6 @@
 use Rattle.std.proofs.Common.{◌≡◌, ℕ, zero, suc, ◌+◌, ◌≤◌, ◌<◌, [], ◌∷◌, arith, refl}
 use Rattle.std.specs.Prelude.{◌≢◌}
-use Rattle.plan_model.specs.Trees.PointsByNumber.{IsPresent}
-use Rattle.plan_model.specs.Trees.NodeLists.{edge_by, parent_of, points_of}
-use Rattle.plan_model.specs.Vectors.Trees.{gapped}
-use Rattle.plan_model.proofs.OpenRoomMarks.{cost_2500}
+use Rattle.plan_model_tests.proofs.Common.{IsPresent, edge_by, parent_of, points_of, gapped, cost_2500}
 use Rattle.plan_model_tests.specs.GrownTrees.{costs_of}
 use Rattle.plan_model_tests.specs.UnlawfulTrees.{three_points}
 use Rattle.plan_model_tests.proofs.vectors.kept_costs.Goals as goal

@@ -1,10 +1,6 @@
 use Rattle.std.proofs.Common.{◌≡◌, ℕ, zero, suc, Bool, true, false, arith, refl, inl, inr}
 use Rattle.std.specs.Prelude.{◌⊎◌}
-use Rattle.plan_model.specs.declared.geometry.Point.{Point}
-use Rattle.plan_model.specs.Trees.PointsByNumber.{StandsAt}
-use Rattle.plan_model.specs.Vectors.Shapes.{at}
-use Rattle.plan_model.specs.Vectors.Ways.{three_points, three_children}
-use Rattle.plan_model.proofs.OpenRoomMarks.{same_y}
+use Rattle.plan_model_tests.proofs.Common.{Point, StandsAt, at, three_points, three_children, same_y}
 use Rattle.plan_model_tests.specs.LinkedNodes.{two_points, two_children}
 use Rattle.plan_model_tests.proofs.vectors.links.Goals as goal
 

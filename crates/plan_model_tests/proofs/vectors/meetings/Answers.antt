@@ -1,11 +1,8 @@
 use Rattle.std.proofs.Common.{◌≡◌, ℕ, ◌<◌, [], ◌∷◌, arith, refl}
 use Rattle.std.specs.Prelude.{pos, ◌-ℤ◌, ◌*ℤ◌, sum}
 use Rattle.std.proofs.lemmas.Int.{ints}
-use Rattle.plan_model.specs.Spaces.RoomOfConfigurations.{at_lattice}
-use Rattle.plan_model.specs.Spaces.Meeting.{weighted}
-use Rattle.plan_model.specs.Vectors.Shapes.{at, halves}
-use Rattle.plan_model.specs.Vectors.Meetings.{small_triangle, great_triangle, small_square, great_square, far_square, point_body, pillar}
-use Rattle.plan_model.proofs.MeetingLaws.{SharesPoint-meets, Meets-shares_point}
+use Rattle.plan_model_tests.proofs.Common.{at_lattice, weighted, at, halves, small_triangle, great_triangle, small_square, great_square, far_square, point_body}
+use Rattle.plan_model_tests.proofs.Common.{pillar, SharesPoint-meets, Meets-shares_point}
 use Rattle.plan_model_tests.proofs.ShortLists.{three, four}
 use Rattle.plan_model_tests.proofs.Pillars.{apart_left, apart_above}
 use Rattle.plan_model_tests.proofs.vectors.meetings.Goals as goal

@@ -1,9 +1,6 @@
 use Rattle.std.proofs.Common.{ℕ, zero, suc, ◌<◌, [], ◌∷◌, arith, refl}
 use Rattle.std.specs.Prelude.{Contains}
-use Rattle.plan_model.specs.Spaces.Clearance.{Clear}
-use Rattle.plan_model.specs.Spaces.ClearPaths.{path_point}
-use Rattle.plan_model.specs.Vectors.Shapes.{at}
-use Rattle.plan_model.proofs.EmptyRoomClearance.{AreInRoom-from_clear, Clear-empty_room}
+use Rattle.plan_model_tests.proofs.Common.{Clear, path_point, at, AreInRoom-from_clear, Clear-empty_room}
 use Rattle.plan_model_tests.specs.OpenPaths.{low_room}
 use Rattle.plan_model_tests.proofs.vectors.open_paths.Goals as goal
 

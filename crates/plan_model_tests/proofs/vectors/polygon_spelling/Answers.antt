@@ -1,11 +1,6 @@
 use Rattle.std.proofs.Common.{false, [], ◌∷◌, arith, refl}
-use Rattle.plan_model.specs.declared.scenes.Scene.{Scene}
-use Rattle.plan_model.specs.declared.scenes.Marks.TheVariants.{Listed}
-use Rattle.plan_model.specs.Texts.TextLines.{lines_of}
-use Rattle.plan_model.specs.Texts.SceneGrammar.{supported}
-use Rattle.plan_model.specs.Vectors.Shapes.{at, corner, corner_below}
-use Rattle.plan_model.specs.Vectors.Texts.{text_with_polygons}
-use Rattle.plan_model.proofs.Soundness.{are_sound, IsSoundBelow-from_test}
+use Rattle.plan_model_tests.proofs.Common.{Scene, Listed, lines_of, supported, at, corner, corner_below, text_with_polygons, IsSoundBelow-from_test}
+use Rattle.plan_model.proofs.Soundness.{are_sound}
 use Rattle.plan_model_tests.proofs.vectors.polygon_spelling.Goals as goal
 
 the_scene : Scene

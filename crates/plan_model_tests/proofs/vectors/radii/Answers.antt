@@ -2,8 +2,7 @@
 use Rattle.std.proofs.Common.{◌≡◌, ℕ, suc, ◌-◌, ◌*◌, ◌^◌, ◌≤◌, ◌∷◌, List, leb, leb-true, leb-false, le-leb, true, false, refl, sym, arith, inl, inr}
 use Rattle.std.proofs.lemmas.Bool.{cases_order}
 use Rattle.std.proofs.lemmas.Nat.{mul-le}
-use Rattle.plan_model.specs.Geometry.Radius.{greatest, radius_of_class}
-use Rattle.plan_model.proofs.RadiusLaws.{greatest-unique}
+use Rattle.plan_model_tests.proofs.Common.{greatest, radius_of_class, greatest-unique}
 use Rattle.plan_model_tests.proofs.vectors.radii.Goals as goal
 
 -- the product grows with the number

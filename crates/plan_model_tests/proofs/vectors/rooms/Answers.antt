@@ -3,10 +3,7 @@ use Rattle.std.specs.Prelude.{pos}
 use Rattle.std.proofs.Math.Bridge.{le_prop}
 use Rattle.std.proofs.lemmas.Int.{ints}
 use Rattle.std.proofs.lemmas.List.Elements.{All-cons, All-nil}
-use Rattle.plan_model.specs.declared.geometry.Vertex.{Vertex}
-use Rattle.plan_model.specs.Spaces.RoomOfConfigurations.{Rational, at_lattice, moved_by, IsBetweenWalls, InRoom}
-use Rattle.plan_model.specs.Vectors.Rooms.{triangle, ten_by_ten}
-use Rattle.plan_model.specs.Vectors.Shapes.{at, corner, halves}
+use Rattle.plan_model_tests.proofs.Common.{Vertex, Rational, at_lattice, moved_by, IsBetweenWalls, InRoom, triangle, ten_by_ten, at, corner, halves}
 use Rattle.plan_model_tests.proofs.vectors.rooms.Goals as goal
 
 -- the triangle is in the room if its corners are

@@ -2,14 +2,9 @@
 use Rattle.std.proofs.Common.{◌≡◌, ℕ, false, List, [], ◌∷◌, ◌++◌, Option, Some, refl, ap, ◌∙◌}
 use Rattle.std.specs.Prelude.{codes}
 use Rattle.std.specs.Fmt.{digits}
-use Rattle.plan_model.specs.declared.scenes.Scene.{Scene}
-use Rattle.plan_model.specs.Trees.TreeStates.{TreeState, state_of}
-use Rattle.plan_model.specs.Trees.BestNode.{best_node, goals_of}
-use Rattle.plan_model.specs.Reports.ReportText.{head_line, best_path, point_lines, counts_line, node_lines, mark_lines}
-use Rattle.plan_model.specs.Vectors.Reports.{box}
-use Rattle.plan_model.specs.Vectors.Runs.{rewired_tree, rewired_records, rewired_text, kept_tree, kept_records, kept_text}
-use Rattle.plan_model.proofs.OpenRoomMarks.{cost_2500, cost_2401}
-use Rattle.plan_model.proofs.RewiredRun.{rewired_run, rewired_sum}
+use Rattle.plan_model_tests.proofs.Common.{Scene, TreeState, state_of, best_node, goals_of, head_line, best_path, point_lines, counts_line, node_lines}
+use Rattle.plan_model_tests.proofs.Common.{mark_lines, box, rewired_tree, rewired_records, rewired_text, kept_tree, kept_records, kept_text, cost_2500}
+use Rattle.plan_model_tests.proofs.Common.{cost_2401, rewired_run, rewired_sum}
 use Rattle.plan_model_tests.proofs.KeptRun.{kept_run, kept_sum}
 use Rattle.plan_model_tests.proofs.vectors.runs.Goals as goal
 

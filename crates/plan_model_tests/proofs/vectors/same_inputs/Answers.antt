@@ -1,10 +1,5 @@
 use Rattle.std.proofs.Common.{◌≡◌, ℕ, List, [], cond, refl, sym, ap, ◌∙◌}
-use Rattle.plan_model.specs.declared.geometry.Point.{Point}
-use Rattle.plan_model.specs.declared.geometry.Vertex.{Vertex}
-use Rattle.plan_model.specs.declared.configuration_spaces.ConfigurationSpace.{ConfigurationSpace}
-use Rattle.plan_model.specs.Scenes.MarkPoints.{points_of_marks}
-use Rattle.plan_model.proofs.RewiredRun.{rewired_run}
-use Rattle.plan_model.specs.Vectors.Runs.{rewired_records, rewired_tree}
+use Rattle.plan_model_tests.proofs.Common.{Point, Vertex, ConfigurationSpace, points_of_marks, rewired_run, rewired_records, rewired_tree}
 use Rattle.plan_model_tests.proofs.vectors.same_inputs.Goals as goal
 
 abbrev space_with : Point → List Vertex → List (List Vertex) → ℕ → ConfigurationSpace

@@ -1,10 +1,8 @@
 use Rattle.std.proofs.Common.{arith, refl, inr}
 use Rattle.std.specs.Prelude.{codes}
-use Rattle.plan_model.specs.Texts.TextLines.{lines_of}
-use Rattle.plan_model.specs.Texts.SceneGrammar.{supported, whole_format}
+use Rattle.plan_model_tests.proofs.Common.{lines_of, supported, whole_format, goals_and, IsSoundBelow-from_test, refused_at_line}
 use Rattle.plan_model.specs.declared.text_terms.Kind.TheVariants as kinds
-use Rattle.plan_model.specs.Vectors.SecondVersion.{goals_and}
-use Rattle.plan_model.proofs.Soundness.{are_sound, IsSoundBelow-from_test, refused_at_line}
+use Rattle.plan_model.proofs.Soundness.{are_sound}
 use Rattle.plan_model_tests.proofs.vectors.second_version.Goals as goal
 
 pub returns : goal.returns

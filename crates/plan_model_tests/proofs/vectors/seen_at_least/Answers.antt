@@ -1,12 +1,7 @@
 use Rattle.std.proofs.Common.{◌≡◌, ℕ, zero, suc, ◌+◌, ◌<◌, ◌≤◌, false, Some, arith, refl, ap, inl, inr}
 use Rattle.std.specs.Prelude.{unwrap_or}
-use Rattle.plan_model.specs.Trees.PointsByNumber.{IsPresent}
-use Rattle.plan_model.specs.Seen.SeenTrees.{KeepsOrLowers}
-use Rattle.plan_model.specs.Trees.TreeStates.{first_cost_of, KeepsOrFalls}
-use Rattle.plan_model.specs.Vectors.Overlaps.{placed_by}
-use Rattle.plan_model.specs.Vectors.SeenTrees.{at_entry, at_return, five_points, tree_before, tree_now}
-use Rattle.plan_model.specs.Vectors.Shapes.{at}
-use Rattle.plan_model.specs.Vectors.Ways.{three_children, three_points}
+use Rattle.plan_model_tests.proofs.Common.{IsPresent, KeepsOrLowers, first_cost_of, KeepsOrFalls, placed_by, at_entry, at_return, five_points, tree_before}
+use Rattle.plan_model_tests.proofs.Common.{tree_now, at, three_children, three_points}
 use Rattle.plan_model_tests.specs.LesserSights.{known, one_record, seen_by, trees_with}
 use Rattle.plan_model_tests.proofs.vectors.seen_at_least.Goals as goal
 

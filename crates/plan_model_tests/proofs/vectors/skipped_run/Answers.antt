@@ -2,11 +2,8 @@
 use Rattle.std.proofs.Common.{◌≡◌, true, List, ℕ, ◌++◌, Some, refl, ap, ◌∙◌}
 use Rattle.std.specs.Prelude.{codes}
 use Rattle.std.specs.Fmt.{digits}
-use Rattle.plan_model.specs.declared.scenes.Scene.{Scene}
-use Rattle.plan_model.specs.Reports.ReportText.{best_path, counts_line, head_line, mark_lines, node_lines, point_lines}
-use Rattle.plan_model.specs.Trees.BestNode.{best_node, goals_of}
-use Rattle.plan_model.specs.Trees.TreeStates.{TreeState, state_of}
-use Rattle.plan_model.proofs.OpenRoomMarks.{cost_2401, cost_2500}
+use Rattle.plan_model_tests.proofs.Common.{Scene, best_path, counts_line, head_line, mark_lines, node_lines, point_lines, best_node, goals_of, TreeState}
+use Rattle.plan_model_tests.proofs.Common.{state_of, cost_2401, cost_2500}
 use Rattle.plan_model_tests.specs.SkippedMarks.{goal_of_2, skipped_records, skipped_text, skipped_tree}
 use Rattle.plan_model_tests.proofs.SkippedRun.{skipped_run}
 use Rattle.plan_model_tests.proofs.vectors.skipped_run.Goals as goal

@@ -1,12 +1,7 @@
 use Rattle.std.proofs.Common.{false, [], ◌∷◌, arith, refl}
 use Rattle.std.specs.Fmt.{digits}
-use Rattle.plan_model.specs.declared.scenes.Scene.{Scene}
-use Rattle.plan_model.specs.declared.scenes.Marks.TheVariants.{Listed}
-use Rattle.plan_model.specs.Texts.TextLines.{lines_of}
-use Rattle.plan_model.specs.Texts.SceneGrammar.{supported}
-use Rattle.plan_model.specs.Vectors.Shapes.{at, corner}
-use Rattle.plan_model.specs.Vectors.Texts.{sound_text}
-use Rattle.plan_model.proofs.Soundness.{are_sound, IsSoundBelow-from_test}
+use Rattle.plan_model_tests.proofs.Common.{Scene, Listed, lines_of, supported, at, corner, sound_text, IsSoundBelow-from_test}
+use Rattle.plan_model.proofs.Soundness.{are_sound}
 use Rattle.plan_model_tests.proofs.vectors.spelling.Goals as goal
 
 the_scene : Scene

@@ -1,8 +1,6 @@
 use Rattle.std.proofs.Common.{◌≡◌, ap, arith, refl}
+use Rattle.plan_model_tests.proofs.Common.{advanced, at, root_ceiling-from_squares}
 use Rattle.plan_model.specs.Geometry.Roots.{root_ceiling}
-use Rattle.plan_model.specs.Geometry.Steering.{advanced}
-use Rattle.plan_model.specs.Vectors.Shapes.{at}
-use Rattle.plan_model.proofs.RootLaws.{root_ceiling-from_squares}
 use Rattle.plan_model_tests.proofs.vectors.steps.Goals as goal
 
 halfway : root_ceiling 10000 ≡ 100

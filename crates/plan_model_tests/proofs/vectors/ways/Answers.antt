@@ -1,11 +1,6 @@
 use Rattle.std.proofs.Common.{◌≡◌, Some, arith, refl, ap}
 use Rattle.std.specs.Prelude.{◌≢◌}
-use Rattle.plan_model.specs.declared.geometry.Point.{Point}
-use Rattle.plan_model.specs.Seen.Ways.{goes_right, IsOnWay}
-use Rattle.plan_model.specs.Seen.Ways.IsOnWay.{begins, goes_on}
-use Rattle.plan_model.specs.Vectors.Shapes.{at}
-use Rattle.plan_model.specs.Vectors.Ways.{three_points, three_children}
-use Rattle.plan_model.proofs.WayLaws.{way_stops}
+use Rattle.plan_model_tests.proofs.Common.{Point, goes_right, IsOnWay, begins, goes_on, at, three_points, three_children, way_stops}
 use Rattle.plan_model_tests.proofs.vectors.ways.Goals as goal
 
 other_row : (p q : Point) → p.y ≢ q.y → p ≢ q

@@ -1,12 +1,7 @@
 use Rattle.std.proofs.Common.{true, [], ◌∷◌, arith, refl}
 use Rattle.std.specs.Fmt.{digits}
-use Rattle.plan_model.specs.declared.scenes.Scene.{Scene}
-use Rattle.plan_model.specs.declared.scenes.Marks.TheVariants.{Drawn}
-use Rattle.plan_model.specs.Texts.TextLines.{lines_of}
-use Rattle.plan_model.specs.Texts.SceneGrammar.{whole_format}
-use Rattle.plan_model.specs.Vectors.Shapes.{at, corner}
-use Rattle.plan_model.specs.Vectors.SecondVersion.{wide_text}
-use Rattle.plan_model.proofs.Soundness.{are_sound, IsSoundBelow-from_test}
+use Rattle.plan_model_tests.proofs.Common.{Scene, Drawn, lines_of, whole_format, at, corner, wide_text, IsSoundBelow-from_test}
+use Rattle.plan_model.proofs.Soundness.{are_sound}
 use Rattle.plan_model_tests.proofs.vectors.wide_spelling.Goals as goal
 
 the_scene : Scene

@@ -1,5 +1,4 @@
-use Rattle.plan_model.specs.Vectors.Overlaps.{overlapped}
-use Rattle.plan_model.specs.Vectors.Runs.{open_setup}
+use Rattle.route_laws.proofs.Common.{overlapped, open_setup}
 use Rattle.route_laws_tests.proofs.ChainExamples as shown
 use Rattle.route_laws_tests.proofs.ChainLinks.{none_to_start}
 use Rattle.route_laws_tests.proofs.chains.links.Goals as goal

@@ -2,12 +2,7 @@ use Rattle.std.proofs.Common.{[], ◌∷◌, arith, refl}
 use Rattle.std.specs.Prelude.{pos, negsuc}
 use Rattle.std.proofs.Math.Nat.{le_refl}
 use Rattle.std.proofs.lemmas.Int.{ints}
-use Rattle.plan_model.specs.declared.geometry.Point.{Point}
-use Rattle.plan_model.specs.Runs.Textbook.{Setup}
-use Rattle.plan_model.specs.Spaces.Meeting.{Meets}
-use Rattle.plan_model.specs.Spaces.RoomOfConfigurations.{Rational, at_lattice}
-use Rattle.plan_model.specs.Vectors.Meetings.{great_triangle, point_body, small_square}
-use Rattle.plan_model.specs.Vectors.Shapes.{at, two_is_positive}
+use Rattle.route_laws.proofs.Common.{Point, Setup, Meets, Rational, at_lattice, great_triangle, point_body, small_square, at, two_is_positive}
 use Rattle.route_laws.specs.Discs.{HasClearDisc}
 use Rattle.route_laws.proofs.FollowedBodies.{HasClearDisc-far}
 use Rattle.route_laws_tests.specs.Links.{IsNeither, wide_setup}

@@ -1,9 +1,5 @@
 use Rattle.std.proofs.Common.{◌≡◌, ◌*◌, ◌≤◌, [], arith, refl, sym, subst}
-use Rattle.plan_model.specs.Geometry.Plane.{squared_distance}
-use Rattle.plan_model.specs.Vectors.Runs.{marks_to_rewire, open_setup}
-use Rattle.plan_model.specs.Vectors.Shapes.{at}
-use Rattle.plan_model.proofs.EmptyRoomClearance.{Clear-empty_room, IsInRoom-from_clear_at}
-use Rattle.plan_model.proofs.OpenRoomMarks.{cost_2441, cost_2500}
+use Rattle.route_laws.proofs.Common.{squared_distance, marks_to_rewire, open_setup, at, Clear-empty_room, IsInRoom-from_clear_at, cost_2441, cost_2500}
 use Rattle.route_laws.specs.RouteCosts.{IsNearLink, least_radius}
 use Rattle.route_laws_tests.specs.NearRoutes.{narrow_setup, three_marks, two_marks}
 use Rattle.route_laws_tests.proofs.OpenRoomLinks.{IsOpenLink-short}

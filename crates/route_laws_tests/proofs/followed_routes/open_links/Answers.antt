@@ -2,9 +2,7 @@ use Rattle.std.proofs.Common.{[], arith, refl}
 use Rattle.std.specs.Prelude.{pos, negsuc}
 use Rattle.std.proofs.Math.Nat.{le_refl}
 use Rattle.std.proofs.lemmas.Int.{ints}
-use Rattle.plan_model.specs.Spaces.Clearance.{on_the_way}
-use Rattle.plan_model.specs.Spaces.RoomOfConfigurations.{Rational}
-use Rattle.plan_model.specs.Vectors.Shapes.{at}
+use Rattle.route_laws.proofs.Common.{on_the_way, Rational, at}
 use Rattle.route_laws_tests.specs.Links.{thin_triangle}
 use Rattle.route_laws_tests.proofs.OpenRoomLinks.{IsOpenLink-short}
 use Rattle.route_laws_tests.proofs.ThinTriangle.{ClearAt-near, blocked_from_below, blocked_from_beside, four_is_positive, meets_middle}

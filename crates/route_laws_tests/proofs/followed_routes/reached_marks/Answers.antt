@@ -1,10 +1,6 @@
 use Rattle.std.proofs.Common.{ℕ, zero, suc, ◌≤◌, [], ◌∷◌, arith, refl}
 use Rattle.std.proofs.lemmas.List.Elements.{All-cons, All-nil}
-use Rattle.plan_model.specs.Trees.NodeLists.{points_of}
-use Rattle.plan_model.specs.Trees.PointsByNumber.{StandsAt}
-use Rattle.plan_model.specs.Vectors.Runs.{marks_to_rewire, rewired_tree}
-use Rattle.plan_model.specs.Vectors.Shapes.{at}
-use Rattle.plan_model.proofs.OpenRoomMarks.{same_y}
+use Rattle.route_laws.proofs.Common.{points_of, StandsAt, marks_to_rewire, rewired_tree, at, same_y}
 use Rattle.route_laws.specs.Routes.{IsReached}
 use Rattle.route_laws_tests.specs.FollowedRuns.{late_points}
 use Rattle.route_laws_tests.proofs.followed_routes.reached_marks.Goals as goal

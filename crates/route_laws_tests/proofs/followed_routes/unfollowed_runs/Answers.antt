@@ -1,7 +1,7 @@
 use Rattle.std.proofs.Common.{◌≡◌, ℕ, zero, suc, ◌≤◌, [], arith, refl, sym, ◌∙◌}
-use Rattle.plan_model.specs.declared.geometry.Point.{Point}
+use Rattle.route_laws.proofs.Common.{Point, steered, IsGoalNode, IsNotAbove, IsNearest, distance_to, points_of, sum_of, IsFree, IsPresent, StandsAt, open_setup}
+use Rattle.route_laws.proofs.Common.{open_setup_to, at, MayBeCheaper-not_skipping, IsNotAbove-refl, first_mark, same_y, root_ceiling-from_squares}
 use Rattle.plan_model.specs.Geometry.Roots.{root_ceiling}
-use Rattle.plan_model.specs.Geometry.Steering.{steered}
 use Rattle.plan_model.specs.Runs.Textbook.{
   EndsBlocked,
   EndsPlaced,
@@ -12,17 +12,7 @@ use Rattle.plan_model.specs.Runs.Textbook.{
   skipped_record,
   start_alone,
 }
-use Rattle.plan_model.specs.Trees.BestNode.{IsGoalNode}
-use Rattle.plan_model.specs.Trees.LeastPairs.{IsNotAbove}
-use Rattle.plan_model.specs.Trees.Nearness.{IsNearest, distance_to}
-use Rattle.plan_model.specs.Trees.NodeLists.{points_of, sum_of}
-use Rattle.plan_model.specs.Trees.PointsByNumber.{IsFree, IsPresent, StandsAt}
-use Rattle.plan_model.specs.Vectors.Runs.{open_setup, open_setup_to}
-use Rattle.plan_model.specs.Vectors.Shapes.{at}
-use Rattle.plan_model.proofs.GoalNodes.{MayBeCheaper-not_skipping}
-use Rattle.plan_model.proofs.LeastPairLaws.{IsNotAbove-refl}
-use Rattle.plan_model.proofs.OpenRoomMarks.{first_mark, one_node, same_y, two_nodes}
-use Rattle.plan_model.proofs.RootLaws.{root_ceiling-from_squares}
+use Rattle.plan_model.proofs.OpenRoomMarks.{one_node, two_nodes}
 use Rattle.route_laws_tests.specs.FollowedRuns.{goal_at_start, no_node, short_of_mark}
 use Rattle.route_laws_tests.specs.Links.{thin_setup}
 use Rattle.route_laws_tests.proofs.OpenRoomLinks.{IsOpenLink-short}

@@ -1,8 +1,5 @@
 use Rattle.std.proofs.Common.{◌≡◌, ◌⊎◌, inl, inr, ℕ, suc, Some, refl, sym, ap, ◌∙◌, subst}
-use Rattle.plan_model.specs.declared.records.Outcome.TheVariants.{Placed, Same}
-use Rattle.plan_model.specs.declared.records.Record.{Record}
-use Rattle.plan_model.specs.Runs.RecordLaw.{IsEarlier}
-use Rattle.plan_model.specs.Vectors.Overlaps.{placed_by}
+use Rattle.route_laws.proofs.Common.{Placed, Same, Record, IsEarlier, placed_by}
 use Rattle.route_laws.specs.WorkersRoutes.{EndsAtNode, IsHandledAfter}
 use Rattle.route_laws_tests.specs.WorkersTurns.{two_workers}
 use Rattle.route_laws_tests.proofs.followed_routes.workers_turns.Goals as goal
