@@ -8,10 +8,10 @@ path is a better one if it costs less than all before it. Usage: anytime.py S < 
 import re
 import sys
 
-from geometry import Space
-from reports import BETTER
+from kimorefo.geometry import Space
+from kimorefo.reports import BETTER
+from kimorefo.scene_text import read
 from rules import mark_points
-from scene import read
 from textbook import answer, best_node, plan
 from usage import words_or_usage
 

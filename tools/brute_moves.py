@@ -6,7 +6,7 @@ It shares with explain.py what a zone is (geometry.py), and takes no least move 
 from fractions import Fraction
 from itertools import combinations, product
 
-from geometry import contains, segment_meets, sides
+from kimorefo.geometry import contains, segment_meets, sides
 
 WAYS = {"left": (-1, 0), "right": (1, 0), "down": (0, -1), "up": (0, 1)}
 AWAY = {"left": (1, 0), "right": (-1, 0), "lower": (0, 1), "upper": (0, -1)}

@@ -24,11 +24,11 @@ from dataclasses import replace
 
 from anytime import anytime_answer, fit
 from batch import batch_answer
-from geometry import Space
 from judge import verdict
+from kimorefo.geometry import Space
+from kimorefo.scene_text import Fault, read
 from make_scenes import scene_of, with_faults
 from rules import mark_points
-from scene import Fault, read
 from smoothing import smoothed_answer, smoothed_report
 from textbook import answer
 from twins import twin_answer, twin_verdict

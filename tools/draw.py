@@ -12,15 +12,15 @@ draw.py says why, and ends with 1.
 
 import sys
 
-from batch import read_batch
-from geometry import is_clear_at
-from pictures import picture
-from reports import GOAL_BLOCKED, START_BLOCKED, NoReport, check_scene, read_reports
-from scene import MOST_TEXT_BYTES, Fault, Scene
+from kimorefo.batches import read_batch
+from kimorefo.drawing.pictures import picture
+from kimorefo.geometry import is_clear_at
+from kimorefo.reports import GOAL_BLOCKED, START_BLOCKED, NoReport, check_scene, read_reports
+from kimorefo.scene_text import MOST_TEXT_BYTES, Fault, SceneText
 from usage import words_or_usage
 
 # Where the body is not clear, by the refusal that says so.
-PLACES = {START_BLOCKED: lambda scene: scene.start, GOAL_BLOCKED: Scene.goal_middle}
+PLACES = {START_BLOCKED: lambda scene: scene.start, GOAL_BLOCKED: SceneText.goal_middle}
 
 
 def bytes_of(name):

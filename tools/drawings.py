@@ -24,11 +24,11 @@ import sys
 import tempfile
 from pathlib import Path
 
-from batch import parts_of
 from draw import reports_of, scenes_of
+from kimorefo.batches import parts_of
+from kimorefo.reports import NoReport
+from kimorefo.scene_text import read
 from picture_checks import wrong_picture
-from reports import NoReport
-from scene import read
 from usage import words_or_usage
 
 TOP = Path(__file__).resolve().parent.parent

@@ -2,8 +2,8 @@
 
 from dataclasses import dataclass
 
-from reports import START_BLOCKED
-from scene import KINDS, MOST_TEXT_BYTES
+from kimorefo.reports import START_BLOCKED
+from kimorefo.scene_text import KINDS, MOST_TEXT_BYTES
 
 SCENE = b"prrt 1\nroom 100 100\nstart 0 0\ngoal 30 40 35 45\nstep 25\ngamma 70\nmarks 100\n"
 SECOND = SCENE.replace(b"prrt 1", b"prrt 2")

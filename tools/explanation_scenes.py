@@ -1,7 +1,7 @@
 """Scenes that are not refused, and what is to be said of each: starts and goals that are not clear, marks, gaps."""
 
 from explanation_cases import Case
-from reports import GOAL_BLOCKED, START_BLOCKED
+from kimorefo.reports import GOAL_BLOCKED, START_BLOCKED
 
 # A square body with its origin in its lower left corner. The zone of the obstacle is x from 36 to 60 and y up to 60.
 FIELD = (

@@ -2,9 +2,9 @@
 """Checks what explain.py says: of all refusals that docs/scene-format.md shows, of scenes, and of random ones.
 
 Usage: explanations.py [PROGRAM]. Of each case of explanation_cases.py and explanation_scenes.py it looks whether
-- the line and the kind of a refusal are those of scene.py, and the status is that of the program;
+- the line and the kind of a refusal are those of scene_text.py, and the status is that of the program;
 - the explanation has the words and numbers of the case, and that of no other case does;
-- the lines that are proposed in place of a refused one are those of the case, and scene.py takes them;
+- the lines that are proposed in place of a refused one are those of the case, and scene_text.py takes them;
 - each row of the tables of refusals in docs/scene-format.md has a case, and each key the names of its numbers;
 - a built PROGRAM, if one is given, writes the same line and ends with the same status.
 
@@ -27,21 +27,21 @@ from dataclasses import replace
 from itertools import combinations, product
 from unittest import mock
 
-from batch import read_batch
-from boxes import Box
 from brute_moves import AWAY, WAYS, fewest_steps, has_clear_point, is_narrow_at, lattice_points
 from brute_moves import meet, meet_in_room, moved, wall_ends
-from explain import answer_for, line_numbers
 from explanation_cases import REFUSALS
 from explanation_scenes import MANY_GAPS, SCENES
-from gaps import WALLS, narrow_gaps, part_within
-from geometry import Space, contains, segment_meets
+from kimorefo.batches import read_batch
+from kimorefo.explaining.answers import answer_for, line_numbers
+from kimorefo.explaining.boxes import Box
+from kimorefo.explaining.gaps import WALLS, narrow_gaps, part_within
+from kimorefo.explaining.moves import least_move, moves_out, nearest_clear_box
+from kimorefo.explaining.scene_faults import Site, goal_fault
+from kimorefo.explaining.text_faults import FORMS, Part, explain_fault
+from kimorefo.geometry import Space, contains, segment_meets
+from kimorefo.reports import START_BLOCKED
+from kimorefo.scene_text import KEYS, MOST_CORNERS, MOST_TEXT_BYTES, Fault, lines_of, read
 from make_scenes import scene_of, with_faults
-from moves import least_move, moves_out, nearest_clear_box
-from reports import START_BLOCKED
-from scene import KEYS, MOST_CORNERS, MOST_TEXT_BYTES, Fault, lines_of, read
-from scene_faults import Site, goal_fault
-from text_faults import FORMS, Part, explain_fault
 
 FOLDER = os.path.dirname(os.path.abspath(__file__))
 FORMAT = os.path.join(FOLDER, "..", "docs", "scene-format.md")
@@ -78,7 +78,7 @@ class Checks:
 
 
 def first_fault(case):
-    """The line with which scene.py refuses the text of a case, read as its words read it; none if it does not."""
+    """The line with which scene_text.py refuses the text of a case, read as its words read it; none if it does not."""
     if len(case.text) > MOST_TEXT_BYTES:
         return "text too long"
     if case.words.startswith("batch"):
@@ -88,7 +88,7 @@ def first_fault(case):
 
 
 def refusal_of(text, reader=read):
-    """The line with which scene.py, or another reader, refuses a text; none if it does not."""
+    """The line with which scene_text.py, or another reader, refuses a text; none if it does not."""
     try:
         reader(text)
     except Fault as fault:
@@ -162,7 +162,7 @@ def check_rows(checks):
 
 
 def takes(text, proposed):
-    """Whether scene.py takes the proposed lines in place of the line of a text that it refuses."""
+    """Whether scene_text.py takes the proposed lines in place of the line of a text that it refuses."""
     lines = lines_of(text)
     number = int(refusal_of(text).split()[1])
     lines[number - 1 : number] = proposed
@@ -328,7 +328,7 @@ def check_limit(checks):
     """Looks whether it is said that not all pairs of obstacles were looked at, and only then."""
     more = "There may be more: not all pairs of obstacles were looked at"
     for most, is_said in ((30, True), (31, False)):
-        with mock.patch("gaps.MOST_PAIRS", most):
+        with mock.patch("kimorefo.explaining.gaps.MOST_PAIRS", most):
             checks.note("a limit of pairs", str(most), (more in answer_for(MANY_GAPS).text()) == is_said)
 
 

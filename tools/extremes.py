@@ -22,7 +22,7 @@ from dataclasses import dataclass
 from math import atan2, gcd
 
 from judge import verdict
-from scene import KEYS, KINDS, MOST_CORNERS, MOST_TEXT_BYTES, Scene
+from kimorefo.scene_text import KEYS, KINDS, MOST_CORNERS, MOST_TEXT_BYTES, SceneText
 from usage import words_or_usage
 
 MOST_MARKS = KEYS[2][b"mark"][2]
@@ -190,7 +190,7 @@ def refusals(size=MOST_TEXT_BYTES):
 
 def accepted(size=MOST_TEXT_BYTES):
     """Texts of this size that are scenes: what they are, the text, and its canonical one."""
-    small = Scene(room=(9, 9), start=(0, 0), goals=[(1, 1, 2, 2)], step=4)
+    small = SceneText(room=(9, 9), start=(0, 0), goals=[(1, 1, 2, 2)], step=4)
     yield "a scene, empty lines", filled(FIRST + NEEDED, b"\n", size)[0], small.text().encode()
     yield "a scene, comments of null bytes", filled(FIRST + NEEDED, b"#\0\n", size)[0], small.text().encode()
     yield "a scene, spaces between its words", filled(FIRST + NEEDED + b"seed", b" ", size, b"0")[0], small.text().encode()
@@ -229,7 +229,7 @@ def greatest(version):
     places = [(side * (n % rows) + 900 * scale, side * (n // rows) + 400 * scale) for n in range(MOST_OBSTACLES)]
     obstacles = [polygon(64, 16 * scale, *place) for place in places]
     rng.shuffle(obstacles)
-    scene = Scene(
+    scene = SceneText(
         room=(room, room),
         start=(100, 100),
         goals=[(64_000 * scale, 64_000 * scale, 65_400 * scale, 65_400 * scale)],

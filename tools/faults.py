@@ -28,7 +28,7 @@ import sys
 import tempfile
 
 from judge import verdict
-from scene import read
+from kimorefo.scene_text import read
 from usage import words_or_usage
 
 HERE = os.path.dirname(os.path.abspath(__file__))

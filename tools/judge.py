@@ -14,10 +14,10 @@ import bisect
 import random
 import sys
 
-from geometry import Space, squared_distance
-from reports import COUNTS, INFORMED_COUNTS, MARK, NODE, PATH, POINT, SKIPPED, fit
+from kimorefo.geometry import Space, squared_distance
+from kimorefo.reports import COUNTS, INFORMED_COUNTS, MARK, NODE, PATH, POINT, SKIPPED, fit
+from kimorefo.scene_text import read
 from rules import bound, class_of, cost, mark_points, radius_of_class, steer
-from scene import read
 from textbook import Record, Tree, head_lines
 from usage import words_or_usage
 

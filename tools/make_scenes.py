@@ -8,8 +8,8 @@ scene. A scene of version 2 is that of version 1 with more goals and a clearance
 import random
 import sys
 
-from geometry import hull
-from scene import KEYS, Scene
+from kimorefo.geometry import hull
+from kimorefo.scene_text import KEYS, SceneText
 from usage import words_or_usage
 
 MOST_BODY = 4_096
@@ -55,7 +55,7 @@ def small_scene(rng):
     reach = max(1, min(width, height) // 6)
     box = (-2, width + 2), (-2, height + 2)
     low = (rng.randint(0, width), rng.randint(0, height))
-    scene = Scene(
+    scene = SceneText(
         room=(width, height),
         start=(rng.randint(0, width), rng.randint(0, height)),
         goals=[(*low, low[0] + rng.randint(0, 6), low[1] + rng.randint(0, 6))],

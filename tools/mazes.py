@@ -14,7 +14,7 @@ Usage: mazes.py NAME writes the text of the scene of that name; the same name gi
 import random
 import sys
 
-from scene import Scene
+from kimorefo.scene_text import SceneText
 
 SIDE = 9_999
 BODY = 20
@@ -128,7 +128,7 @@ SCENES = {maker.__name__: maker for maker in (maze_serpent, maze_grid, narrow, b
 def scene_of(name):
     """The scene of a name. Its body is a square of 20, and step and gamma are those of a generated scene."""
     obstacles, start, goal = SCENES[name]()
-    return Scene(
+    return SceneText(
         room=(SIDE, SIDE),
         start=start,
         goals=[goal],

@@ -9,7 +9,7 @@ from dataclasses import dataclass
 from math import dist
 from xml.etree import ElementTree
 
-from geometry import contains, hull, sides
+from kimorefo.geometry import contains, hull, sides
 
 SVG = "{http://www.w3.org/2000/svg}"
 # What is measured, and what it is measured by, are rounded to hundredths of a pixel.

@@ -21,8 +21,8 @@ from dataclasses import dataclass, replace
 from statistics import median
 
 from counts import counts_of
-from geometry import Space, is_beside, orientation, sides
-from scene import Scene, read
+from kimorefo.geometry import Space, is_beside, orientation, sides
+from kimorefo.scene_text import SceneText, read
 from speed import measure
 from usage import words_or_usage
 
@@ -100,7 +100,7 @@ class Seeded:
     """A scene of one seed, the program that plans it, and what the shortest path costs."""
 
     program: str
-    scene: Scene
+    scene: SceneText
     shortest: float
 
     def run_of(self, command, marks):

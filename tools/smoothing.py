@@ -8,9 +8,9 @@ front, by whole lists of positions and with no bound. Usage: smoothing.py < SCEN
 import itertools
 import sys
 
-from geometry import Space
+from kimorefo.geometry import Space
+from kimorefo.scene_text import read
 from rules import cost
-from scene import read
 from textbook import answer
 
 # Of a path of so many points all choices are tried.

@@ -16,7 +16,7 @@ import subprocess
 import time
 from dataclasses import replace
 
-from scene import read
+from kimorefo.scene_text import read
 from usage import words_or_usage
 
 COMMANDS = ["plain", "plan 1", "plan 2", "plan 4", "plan 64"]

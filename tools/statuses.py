@@ -18,8 +18,8 @@ import sys
 import tempfile
 from dataclasses import dataclass
 
+from kimorefo.scene_text import MOST_TEXT_BYTES
 from launcher_tree import Tree
-from scene import MOST_TEXT_BYTES
 from usage import words_or_usage
 
 FOUND = b"prrt 1\nroom 100 100\nstart 0 0\ngoal 30 40 30 40\nstep 100\nmark 30 40\n"

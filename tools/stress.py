@@ -19,7 +19,7 @@ from collections import Counter
 from concurrent.futures import ProcessPoolExecutor
 
 from judge import verdict
-from scene import Scene
+from kimorefo.scene_text import SceneText
 from usage import words_or_usage
 
 MARK = re.compile(r"^mark (\d+) worker (\d+) turn \d+ nearest (\d+) (?:same (\d+)|placed class \d+ first (\d+) )?", re.MULTILINE)
@@ -36,7 +36,7 @@ def scene_in(rng, width, height, **fields):
         "seed": rng.getrandbits(64),
         "strips": rng.choice([1, 2, 7, 64]),
     }
-    return Scene(room=(width, height), **drawn | fields)
+    return SceneText(room=(width, height), **drawn | fields)
 
 
 def column(rng):

@@ -14,8 +14,8 @@ from collections import defaultdict
 from dataclasses import replace
 from statistics import median
 
+from kimorefo.scene_text import read
 from mazes import scene_of
-from scene import read
 from usage import words_or_usage
 
 EXAMPLES = os.path.join(os.path.dirname(os.path.abspath(__file__)), "..", "examples")

@@ -9,9 +9,9 @@ statuses of the planner: 0, 1, 3 and 4.
 import sys
 from dataclasses import dataclass
 
-from geometry import Space, squared_distance
+from kimorefo.geometry import Space, squared_distance
+from kimorefo.scene_text import MOST_TEXT_BYTES, Fault, read
 from rules import bound, class_of, cost, mark_points, radius_of_class, steer
-from scene import MOST_TEXT_BYTES, Fault, read
 from usage import words_or_usage
 
 

@@ -9,11 +9,11 @@ statuses of the planner: 0, 1, 3, 4 and 8.
 import sys
 from dataclasses import replace
 
-from geometry import Space, squared_distance
 from judge import Wrong, need, verdict
-from reports import GOAL, START
+from kimorefo.geometry import Space, squared_distance
+from kimorefo.reports import GOAL, START
+from kimorefo.scene_text import read
 from rules import cost, mark_points
-from scene import read
 from textbook import answer, head_lines, plan
 
 

@@ -4,7 +4,7 @@ Each call is a generator: it yields a step, as the name of a method of `Steps` a
 returned. It yields None where nothing is under way, so that the pass may make other steps in between.
 """
 
-from geometry import squared_distance
+from kimorefo.geometry import squared_distance
 from rules import class_of, cost, radius_of_class, steer
 from textbook import Record
 from world_words import best_in, goes_right

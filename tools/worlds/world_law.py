@@ -5,7 +5,7 @@ Each part is a generator of the clauses that do not hold. The names are those of
 
 from itertools import chain
 
-from geometry import squared_distance
+from kimorefo.geometry import squared_distance
 from rules import class_of, cost, radius_of_class, steer
 from world_words import (
     NO_BEST,

@@ -6,7 +6,7 @@ alone; `stale` makes loads that tell once more what their view had seen.
 
 from dataclasses import replace
 
-from geometry import squared_distance
+from kimorefo.geometry import squared_distance
 from rules import class_of, cost, radius_of_class, steer
 from world_law import is_earlier, is_not_above, turns_by_worker
 from world_words import (

@@ -2,7 +2,7 @@
 
 from dataclasses import dataclass
 
-from geometry import Space, squared_distance
+from kimorefo.geometry import Space, squared_distance
 from rules import bound, mark_points
 from textbook import Record
 

@@ -19,8 +19,8 @@ from pathlib import Path
 # what plays worlds shares exact geometry, rules and scenes with the scripts of the folder above
 sys.path.append(str(Path(__file__).resolve().parent.parent))
 
+from kimorefo.scene_text import SceneText
 from make_scenes import polygon
-from scene import Scene
 from usage import words_or_usage
 from world_best_mutants import MUTANTS
 from world_calls import Pass
@@ -60,7 +60,7 @@ def tiny_scene(rng):
         step, is_ring = rng.choice([4, 4, 4, 5, 6, 12]), rng.random() < 0.5
         width = rng.choice([step, width]) if is_ring else width
         place = lambda: (rng.randint(0, width), rng.randint(0, height))
-        scene = Scene(room=(width, height), start=(0, 0) if is_ring else place(), goals=[(0, 0, 0, 0)], step=step)
+        scene = SceneText(room=(width, height), start=(0, 0) if is_ring else place(), goals=[(0, 0, 0, 0)], step=step)
         scene.gamma = rng.choice([0, 4, 10, 100, 100])
         scene.strips = rng.choice([1, 1, 2, 3, 4])
         for _ in range(rng.choice([0, 0, 1, 2])):

@@ -8,7 +8,7 @@ report is lawful.
 import re
 from dataclasses import dataclass, field
 
-from geometry import is_clear_at
+from .geometry import is_clear_at
 
 N = r"(0|[1-9][0-9]*)"
 PATH = re.compile(f"path {N} cost {N}")
@@ -45,7 +45,7 @@ class NoReport(Exception):
     """A text is no report, or not that of its scene, for this reason."""
 
 
-@dataclass
+@dataclass(frozen=True)
 class Counts:
     """The counts of one tree; `skipped` is None if the scene is not informed."""
 

@@ -7,12 +7,12 @@ again to say more, and only lines are proposed that `scene.read` takes.
 from collections import defaultdict
 from dataclasses import dataclass, field
 
-from corner_faults import convex_polygons, corner_faults
-from geometry import hull
-from scene import KEYS, KINDS, MOST_CORNERS, NEEDED, NUMBER, RIVALS, Fault
-from scene import bounded, flat, pairs, read, statements, version_in
-from spelling import in_plain_characters, in_plain_words, oddities, shown, why_no_number, wide_encoding
-from wording import counted, listed
+from ..geometry import hull
+from ..scene_text import KEYS, KINDS, MOST_CORNERS, NEEDED, NUMBER, RIVALS, Fault
+from ..scene_text import bounded, flat, pairs, read, statements, version_in
+from .corner_faults import convex_polygons, corner_faults
+from .spelling import in_plain_characters, in_plain_words, oddities, shown, why_no_number, wide_encoding
+from .wording import counted, listed
 
 FORMS = {
     b"room": "w h",

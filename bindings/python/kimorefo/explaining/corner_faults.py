@@ -1,6 +1,6 @@
 """Why corners are no strictly convex polygon in counterclockwise order, and polygons that are, in their place."""
 
-from geometry import hull, is_strictly_convex, orientation, segments_meet
+from ..geometry import hull, is_strictly_convex, orientation, segments_meet
 
 
 def named(i, corners):

@@ -9,8 +9,8 @@ from dataclasses import dataclass, field
 from fractions import Fraction
 from itertools import islice, takewhile
 
-from geometry import sides
-from moves import are_apart, moves_out
+from ..geometry import sides
+from .moves import are_apart, moves_out
 
 # So many pairs of zones whose bounding boxes meet are looked at, and the others left out.
 MOST_PAIRS = 20_000

@@ -3,10 +3,10 @@
 from dataclasses import dataclass
 from math import ceil, sqrt
 
-from captions import description, notes, result, tree_sentences
-from charts import chart_margins, cost_panel
-from layers import EDGE, STYLES, ground_layers, run_layers
-from svg import (
+from .captions import description, notes, result, tree_sentences
+from .charts import chart_margins, cost_panel
+from .layers import EDGE, STYLES, ground_layers, run_layers
+from .svg import (
     BELOW,
     LETTER_WIDTH,
     Axes,

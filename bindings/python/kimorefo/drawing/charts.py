@@ -3,7 +3,7 @@
 from decimal import Decimal
 from math import ceil, floor
 
-from svg import (
+from .svg import (
     BELOW,
     LETTER_WIDTH,
     RED,

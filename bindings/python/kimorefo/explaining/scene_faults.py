@@ -6,11 +6,11 @@ What is said is so exactly. Whether there is a path is not decided here.
 from dataclasses import dataclass, field
 from math import isqrt
 
-from boxes import Box
-from gaps import narrow_gaps
-from geometry import Space, bounds, root_up, squared_distance, zone_of
-from moves import Undecided, Zone, least_move, moves_out, nearest_clear_box
-from wording import counted, listed
+from ..geometry import Space, bounds, root_up, squared_distance, zone_of
+from .boxes import Box
+from .gaps import narrow_gaps
+from .moves import Undecided, Zone, least_move, moves_out, nearest_clear_box
+from .wording import counted, listed
 
 MOST_LISTED = 20
 GAPS = (

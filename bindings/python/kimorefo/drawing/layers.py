@@ -5,8 +5,8 @@ What lies outside the room is cut off first, since renderers do not take numbers
 
 from math import dist
 
-from geometry import bounds, sides, zone_of
-from svg import BLUE, GREEN, RED, ROUND, dots, element, line_through, outline
+from ..geometry import bounds, clipped, zone_of
+from .svg import BLUE, GREEN, RED, ROUND, dots, element, line_through, outline
 
 # Round the frame, for what stands at the walls.
 EDGE = 12
@@ -70,26 +70,6 @@ def areas(kind, polygons, axes, style=None):
     parts = [part for polygon in polygons if (part := clipped(polygon, low, high))]
     data = "".join(outline(list(map(at, part))) for part in parts)
     return element("path", class_=kind, d=data, **(style or STYLES[kind])) if data else ""
-
-
-def clipped(polygon, low, high):
-    """The corners of what of a convex polygon lies in a box, by cutting it at each side (Sutherland and Hodgman)."""
-    for i in (0, 1):
-        polygon = cut(polygon, [p[i] - low[i] for p in polygon])
-        polygon = cut(polygon, [high[i] - p[i] for p in polygon])
-    return polygon
-
-
-def cut(polygon, depths):
-    """The corners of what of a convex polygon has no negative depth, by the depths of its corners."""
-    kept = []
-    for (a, b), (inner, outer) in zip(sides(polygon), sides(depths)):
-        if inner >= 0:
-            kept.append(a)
-        if (inner < 0) != (outer < 0):
-            share = inner / (inner - outer)
-            kept.append((a[0] + (b[0] - a[0]) * share, a[1] + (b[1] - a[1]) * share))
-    return kept
 
 
 def tree(report, axes):

@@ -4,8 +4,8 @@ import itertools
 from dataclasses import dataclass
 from heapq import heapify, heappop, heappush
 
-from boxes import Box
-from geometry import bounds, sides
+from ..geometry import bounds, sides
+from .boxes import Box
 
 DIRECTIONS = {"left": (-1, 0), "right": (1, 0), "down": (0, -1), "up": (0, 1)}
 MOST_BOXES = 50_000

@@ -2,8 +2,8 @@
 
 from math import isclose
 
-from geometry import is_clear_at
-from reports import GOAL_BLOCKED
+from ..geometry import is_clear_at
+from ..reports import GOAL_BLOCKED
 
 
 def counted(number, thing):

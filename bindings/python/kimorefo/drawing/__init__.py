@@ -1,0 +1,1 @@
+"""Pictures of scenes and reports: SVG, and a page on which the tree grows."""
