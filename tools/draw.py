@@ -1,18 +1,23 @@
 #!/usr/bin/env python3
-"""Draws a scene, and its report if there is one, as an SVG picture.
+"""Draws a scene, and its report if there is one, as an SVG picture or an HTML page.
 
-Usage: draw.py SCENE [REPORT] > picture.svg. Both are names of files; `-` is standard input. REPORT is what a word wrote
-for SCENE: `plain` or `plan`, each with `full` or not, `smooth`, `anytime`, `twin`, `batch` or `trial`. SCENE may have
-several scenes, as `batch` reads them; each is drawn.
+Usage: draw.py SCENE [REPORT] > picture.svg
+       draw.py --page SCENE REPORT > page.html
+
+Both are names of files; `-` is standard input. REPORT is what a word wrote for SCENE: `plain` or `plan`, each with
+`full` or not, `smooth`, `anytime`, `twin`, `batch` or `trial`. SCENE may have several scenes, as `batch` reads them;
+each is drawn.
 
 The picture shows the room, its obstacles with the clearance round them, goals, start, body and path; with `full` the
-tree; with `anytime` and `batch` the cost of the cheapest path against marks. If a text is no scene or no report of it,
+tree; with `anytime` and `batch` the cost of the cheapest path against marks. The page, of one scene, needs nothing but
+a browser: with `full` the tree grows there mark by mark under a slider. If a text is no scene or no report of it,
 draw.py says why, and ends with 1.
 """
 
 import sys
 
 from kimorefo.batches import read_batch
+from kimorefo.drawing.page import page
 from kimorefo.drawing.pictures import picture
 from kimorefo.geometry import is_clear_at
 from kimorefo.reports import GOAL_BLOCKED, START_BLOCKED, NoReport, check_scene, read_reports
@@ -67,13 +72,30 @@ def taken(name, take):
         sys.exit(f"draw.py: {name}: {fault}")
 
 
-def main(words):
-    """Draws what the files have that the words name."""
-    if len(words) > 2:
-        sys.exit(__doc__)
+def drawn(words):
+    """The picture of what the files have that the words name."""
     scenes = taken(words[0], scenes_of)
     reports = taken(words[1], lambda text: reports_of(text, scenes)) if words[1:] else [None] * len(scenes)
-    sys.stdout.write(picture(list(zip(scenes, reports))))
+    return picture(list(zip(scenes, reports)))
+
+
+def page_of(text, scenes):
+    """The page of one scene and the bytes of its report."""
+    if len(scenes) != 1:
+        raise NoReport("a page shows one scene")
+    reports_of(text, scenes)
+    return page(scenes[0], text.decode("latin-1"))
+
+
+def main(words):
+    """Writes the picture or the page of what the files have that the words name."""
+    if words[0] == "--page" and len(words) == 3:
+        scenes = taken(words[1], scenes_of)
+        sys.stdout.write(taken(words[2], lambda text: page_of(text, scenes)))
+    elif words[0] != "--page" and len(words) <= 2:
+        sys.stdout.write(drawn(words))
+    else:
+        sys.exit(__doc__)
 
 
 if __name__ == "__main__":

@@ -18,7 +18,7 @@ APART, MOST_DOTS = 0.5, 200
 MOST_INK, THINNEST = 0.35, 0.2
 
 # From the ground up.
-STYLES = {
+STYLES: dict[str, dict] = {
     "clearance": {"fill": "#ebebeb", "stroke": "#777777", "stroke_dasharray": "4 3"},
     "obstacle": {"fill": "#b0b0b0", "stroke": "#555555"},
     "goal": {"fill": GREEN, "fill_opacity": 0.3, "stroke": GREEN, "stroke_width": 1.5},
