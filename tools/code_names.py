@@ -10,7 +10,7 @@ from collections import defaultdict
 from dataclasses import dataclass, field
 
 TOP = os.path.dirname(os.path.dirname(os.path.abspath(__file__)))
-FOLDERS = (".ci", "crates", "docs", "examples", "tools")
+FOLDERS = (".ci", "bindings", "crates", "docs", "examples", "tools")
 SKIPPED = {"out", "__pycache__"}
 NAME = r"[^\W\d][\w'-]*"
 
@@ -84,13 +84,21 @@ class Code:
             RustFile(self, path, lines).read()
         elif path.endswith(".antt"):
             DefinitionFile(self, path, lines).read()
-        elif path.endswith(".py") or path == "prrt":
-            for name in re.findall(r"^\s*(?:def |class )?(\w+)(?:\(| = |:$)", "\n".join(lines), re.M):
-                self.places[name].add(path)
-            if path == "prrt":
-                self.words.update(re.findall(r"[\w-]+", "\n".join(lines)))
+        elif path.endswith(".py"):
+            self.read_python(path, "\n".join(lines))
+        elif path == "prrt":
+            self.words.update(re.findall(r"[\w-]+", "\n".join(lines)))
         elif parts[0] == "examples" or path in ("crates.txt", "HANDLES") or parts[-1] in ("stdin", "stdout"):
             self.words.update(re.findall(r"[\w-]+", "\n".join(lines)))
+
+    def read_python(self, path, text):
+        """Names that a Python file defines or imports, texts in capitals that name a setting, and the methods of its classes."""
+        for name in re.findall(r"^\s*(?:def |class )?(\w+)(?:\(| = |:$)", text, re.M):
+            self.places[name].add(path)
+        self.used.update(name for names in re.findall(r"^from \w+ import (.*)", text, re.M) for name in names.split(", "))
+        self.words.update(re.findall(r'"([A-Z][A-Z_]+)"', text))
+        for owner, body in re.findall(r"^class (\w+)[^\n]*:\n((?:(?: .*)?\n)*)", text, re.M):
+            self.members[owner].update(re.findall(r"^    def (\w+)", body, re.M))
 
     def is_known(self, name):
         return name in self.places or name in self.used or name in self.words

@@ -11,8 +11,8 @@ import subprocess
 import sys
 from dataclasses import replace
 
+from kimorefo.scene_text import read
 from mazes import SCENES, scene_of
-from scene import read
 from usage import words_or_usage
 
 MOST_MARKS = 262_143

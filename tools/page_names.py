@@ -14,7 +14,8 @@ SPAN = re.compile(r"`([^`]+)`")
 QUALIFIED = re.compile(rf"({NAME}(?:(?:::|\.){NAME})+)(?:\(.*\))?")
 PLAIN = re.compile(rf"({NAME})(?:\(.*\))?")
 MEMBER = re.compile(rf"\.({NAME})")
-FILE = re.compile(r"[\w*./-]*\.(?:rt|antt|md|py|c|scene|svg|edit|sh|txt)")
+FILE = re.compile(r"[\w*./-]*\.(?:rt|antt|md|py|c|so|scene|svg|edit|sh|txt)")
+BUILT = {"libkimorefo.so"}
 EXAMPLE = re.compile(r"[a-z-]+\.(?:anytime|batch|check|report|smooth|twin|verdict)")
 FOLDER = re.compile(r"[\w*.-]+(?:/[\w*.-]*)+")
 CODE_LIKE = re.compile(r"\b(?:[a-z]\w*_\w+|[A-Z][a-z]+[A-Z]\w*|\w+::\w+)\b")
@@ -155,7 +156,7 @@ class Page:
         wanted = re.escape(re.sub(r"^\.+/", "", name).rstrip("/")).replace(r"\*", r"[\w-]*")
         wanted = re.sub(r"(?<![a-z_])(?:NAME|BUG|FILE|CRATE)(?![a-z])", r"[\\w-]+", wanted)
         tail = r"(/.*|\.\w+)?" if "." not in name.rsplit("/", 1)[-1] else ""
-        if "out" in name.split("/"):
+        if "out" in name.split("/") or name in BUILT:
             return
         if not any(re.search(rf"(^|/){wanted}{tail}$", path) for path in self.code.files):
             self.complain(f"no file `{name}`")

@@ -3,7 +3,7 @@
 from functools import cache
 from math import inf
 
-from geometry import contains, orientation, sides, squared_distance
+from kimorefo.geometry import contains, orientation, sides, squared_distance
 
 
 @cache

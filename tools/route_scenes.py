@@ -8,11 +8,11 @@ so many marks that several workers have some of them.
 import random
 import sys
 
-from geometry import Space, squared_distance
+from kimorefo.geometry import Space, squared_distance
+from kimorefo.scene_text import SceneText
 from make_scenes import body, small_obstacle
 from route_links import Links
 from rules import class_of, radius_of_class
-from scene import Scene
 from usage import words_or_usage
 
 MOST_OTHERS = 18
@@ -36,7 +36,7 @@ def empty_scene(rng):
     width, height = rng.randint(6, 28), rng.randint(6, 28)
     sharp = rng.random() < 0.4
     obstacles = [small_obstacle(rng, (-2, width), (-2, height)) for _ in range(rng.choice([0, 1, 2, 3, 4]))]
-    return Scene(
+    return SceneText(
         version=2,
         room=(width, height),
         start=(rng.randint(0, width), rng.randint(0, height)),
@@ -117,7 +117,7 @@ def line_of(rng):
     """A scene with marks in a line, each a step from the one before: with several workers a mark may come too early."""
     step, count = rng.choice([4, 5]), LINE
     marks = [(step * n, 0) for n in range(1, count + 1)]
-    return Scene(version=2, room=(step * count, 2), start=(0, 0), goals=[(*marks[-1], *marks[-1])], step=step, gamma=step, marks=marks)
+    return SceneText(version=2, room=(step * count, 2), start=(0, 0), goals=[(*marks[-1], *marks[-1])], step=step, gamma=step, marks=marks)
 
 
 def crowd_of(rng):

@@ -33,9 +33,9 @@ from functools import partial
 from itertools import islice
 from math import inf
 
-from geometry import Space, squared_distance
 from judge import Judge
-from reports import PATH
+from kimorefo.geometry import Space, squared_distance
+from kimorefo.reports import PATH
 from route_links import Links, around
 from route_scenes import crowded_scene_of, least_radius, scene_of
 from rules import bound, cost, radius_of_class
