@@ -71,7 +71,7 @@ def print_files(code, crates):
     for path in code.files:
         parts = path.split("/")
         if path.endswith(".antt") and parts[1] in crates and not path.endswith("Lib.antt"):
-            if parts[2] == "specs" or parts[2] == "proofs" and len(parts) == 4:
+            if parts[2] == "specs" or parts[2] == "proofs" and parts[-2][0].isupper() or len(parts) == 4:
                 print(f"{path}: {read_lines(f'{TOP}/{path}')[0].lstrip('- ')}")
 
 
