@@ -2,7 +2,7 @@
 """The clauses of public functions, as the sources have them, and whether the pages cite only names that exist.
 
 Usage: clauses.py CRATE.., or clauses.py all, prints a table: crate, function, clause, and the comment beside the clause, or
-       else that of the definition which it cites, or else the clause itself.
+       else the clause itself.
        clauses.py NAME.. prints a function with its clauses, or a definition with its fields, by its name.
        clauses.py --files CRATE.. prints each file of definitions and of lemmas with its first line.
        clauses.py --pages holds all pages against the code, and ends with 1 if one names what is gone: a file, a crate,
@@ -24,16 +24,9 @@ def pages(code):
     return {path: "\n".join(read_lines(f"{TOP}/{path}")) for path in code.files if path.endswith(".md")}
 
 
-def comment_of(code, clause):
-    """The comment beside a clause, or that of the proposition or the value that it ends in, or else the clause itself."""
-    if clause.comment:
-        return clause.comment
-    cited = re.findall(NAME, clause.text.rsplit("→", 1)[-1])
-    for name in sorted(cited, key=lambda name: name[0].islower()):
-        for definition in code.definitions.get(name, []):
-            if "/specs/" in definition.file and definition.comment:
-                return definition.comment
-    return f"`{clause.text.rstrip(' };').strip()}`"
+def comment_of(clause):
+    """The comment beside a clause, or else the clause itself."""
+    return clause.comment or f"`{clause.text.rstrip(' };').strip()}`"
 
 
 def print_table(code, crates):
@@ -43,7 +36,7 @@ def print_table(code, crates):
         print(f"| `{function.crate}` | `{function.title()}` | | {first_sentence(function.comment)} |")
         for clause in function.clauses:
             if clause.kind == "ensures":
-                print(f"| | | `{clause.name or '-'}` | {comment_of(code, clause)} |")
+                print(f"| | | `{clause.name or '-'}` | {comment_of(clause)} |")
 
 
 def first_sentence(comment):
@@ -57,7 +50,7 @@ def print_name(code, name):
     for function in functions:
         print(f"{function.title()}, {function.file}:{function.line}\n    {function.comment}")
         for clause in function.clauses:
-            print(f"  {clause.kind} {clause.name or '-'}: {comment_of(code, clause)}")
+            print(f"  {clause.kind} {clause.name or '-'}: {comment_of(clause)}")
     known = code.definitions.get(name, [])
     definitions = [d for d in known if "/specs/" in d.file] or ([] if functions else known)
     for definition in definitions:
