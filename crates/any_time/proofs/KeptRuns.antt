@@ -2,7 +2,7 @@
 use Rattle.std.proofs.Common.{◌≡◌, ◌<◌, ◌≤◌, inl, inr, ℕ, List, length, Option, Some, None, Ok, IsSome, IsSomeAnd, All, refl, sym, subst, arith}
 use Rattle.std.proofs.Math.Decide.{dec_lt}
 use Rattle.futures.specs.declared.task.Poll.TheVariants.{Ready}
-use Rattle.any_time.specs.Batches.{AllRest, Gave, Rests, at, place_of}
+use Rattle.any_time.specs.Batches.{Gave, Rests, at, place_of}
 use Rattle.any_time.specs.Sessions.{SessionState}
 use Rattle.any_time.specs.declared.betters.Better.{Better}
 use Rattle.any_time.proofs.TurnLoop.{place_once}
@@ -35,8 +35,3 @@ runs_of_gave from xs ys number better f gave all = λ k d within.
             subst (λ (m : ℕ). IsSome (at ys m d).run) (sym same) (through _ _ _ (gave.polled d).2)
       ]
     ]
-
-pub runs_of_rest : (xs ys : List SessionState) → AllRest xs ys → All (λ s. IsSome s.run) xs → All (λ s. IsSome s.run) ys
-runs_of_rest xs ys rest all = λ k d within.
-    let w : k < length xs = omega (arith, rest.count) in
-    rests (at xs k d) (at ys k d) (all k d w) (rest.rested k d w)

@@ -10,7 +10,7 @@ use Rattle.std.proofs.lemmas.List.{get_or_read, set-get_or}
 use Rattle.futures.specs.declared.task.Poll.{Poll}
 use Rattle.plan_model.specs.declared.errors.Memory.{Memory}
 use Rattle.any_time.specs.declared.betters.Better.{Better}
-use Rattle.any_time.specs.Batches.{AllOver, AllRest, Gave, Rests, place_of, at}
+use Rattle.any_time.specs.Batches.{AllRest, Gave, Rests, place_of, at}
 use Rattle.any_time.specs.Sessions.{SessionState, IsOver, Polls}
 
 -- The sessions at the places before this one were polled once and gave no item, and the others are as they were. If none of them answered
@@ -142,6 +142,3 @@ module _ (from : ℕ) (before now : List SessionState) (place : ℕ) (p : Bool) 
     rested = λ i d a. t.rested i d a (reached i a);
     pending = let w = t.pending e in (w.0, w.1, w.3);
   }
-
-  pub all_over : p ≡ false → AllOver before × (now ≡ before)
-  all_over e = (λ i d a. t.over e i d a (reached i a), t.unchanged e)

@@ -2,19 +2,15 @@
 use Rattle.std.proofs.Common.{◌≡◌, ◌≢◌, ℕ, zero, suc, ◌*◌, ◌<◌, ◌≤◌, true, refl, arith}
 use Rattle.std.specs.Prelude.{ℤ, pos, neg_ℤ, ◌+ℤ◌, ◌-ℤ◌, ◌*ℤ◌, ◌<ℤ◌, ◌≤ℤ◌}
 use Rattle.std.proofs.lemmas.Int.{ints, by_lt_z}
-use Rattle.plan_model.specs.declared.limits.TheConstants.{LEAST_CORNER_COORDINATE, MOST_CLEARANCE, MOST_CORNER_COORDINATE}
 use Rattle.plan_model.specs.declared.geometry.Vertex.{Vertex}
 use Rattle.plan_model.specs.Geometry.Convexity.{corner_at, next_corner, is_strictly_convex}
 use Rattle.plan_model.specs.Geometry.Plane.{orientation}
-use Rattle.plan_model.specs.Scenes.Limits.{is_corner_between}
 use Rattle.plan_model.specs.Spaces.Meeting as meeting
 use Rattle.plan_model.proofs.Ring.{var, plus, minus, times, opposite, same}
-use Rattle.plan_model.proofs.Tests.{true_of_all}
-use Rattle.convex_sets.specs.Bounds.{AreBoundedCorners}
 use Rattle.convex_sets.specs.Edges.{cross, from_to}
 use Rattle.convex_sets.specs.Widening.{corner, square}
 use Rattle.convex_sets.proofs.ConvexPolygons.{test-from_IsConvex}
-use Rattle.convex_sets.proofs.Corners.{IsWithin, bounded_of}
+use Rattle.convex_sets.proofs.Corners.{IsWithin}
 use Rattle.convex_sets.proofs.Signs.{mul-positive, mul-not_negative, mul-up_down, mul-down_up, mul-both_negative, mul-both_not_positive}
 
 -- a corner to the left of an edge along an axis
@@ -82,21 +78,6 @@ square_within clearance (suc (suc zero)) h =
 square_within clearance (suc (suc (suc zero))) h =
     record { left = omega (arith, ints); right = omega (arith, ints); bottom = omega (arith, ints); top = omega (arith, ints) }
 square_within clearance (suc (suc (suc (suc i)))) h = absurd (omega arith)
-
-pub square_bounded : (clearance : ℕ) → clearance ≤ MOST_CLEARANCE → AreBoundedCorners (square clearance)
-square_bounded clearance few =
-    true_of_all (is_corner_between LEAST_CORNER_COORDINATE MOST_CORNER_COORDINATE) (square clearance) (corner (pos 0) (pos 0)) (λ i l.
-    let w = square_within clearance i l in
-    let a = w.left in
-    let b = w.right in
-    let c = w.bottom in
-    let d = w.top in
-    bounded_of (corner_at (square clearance) i) (record {
-      left = omega (arith, ints);
-      right = omega (arith, ints);
-      bottom = omega (arith, ints);
-      top = omega (arith, ints);
-    }))
 
 -- A vector lies to the left of an edge, if a corner lies to its left, and the vector further left than that.
 past : (e a s : Vertex) (n : ℕ) (t u : ℤ) → pos 0 ≤ℤ cross e (from_to a s) → pos 0 ≤ℤ (e.x *ℤ (u -ℤ (pos n *ℤ s.y)))

@@ -4,7 +4,7 @@ use Rattle.std.specs.Prelude.{All, IsTrue, min, max}
 use Rattle.std.specs.Int.{abs_diff}
 use Rattle.std.proofs.lemmas.Bool.{cases_lt}
 use Rattle.std.proofs.lemmas.List.{take_all}
-use Rattle.std.proofs.lemmas.List.Elements.{All-more, All-nil, All-weaker}
+use Rattle.std.proofs.lemmas.List.Elements.{All-more, All-weaker}
 use Rattle.std.proofs.lemmas.List.Folds.{Any-from_list_any, list_any_at}
 use Rattle.plan_model.specs.declared.geometry.Goal.{Goal}
 use Rattle.plan_model.specs.declared.geometry.Point.{Point}
@@ -15,7 +15,7 @@ use Rattle.plan_model.specs.Geometry.Roots.{root_ceiling}
 use Rattle.plan_model.specs.Trees.BestNode.{is_in_goal, lies_in_goals}
 use Rattle.plan_model.specs.Trees.GoalBounds.{bound_of}
 use Rattle.plan_model.proofs.GoalBoundLaws.{bound_of-is, cost_of-le, squared_distance-le}
-use Rattle.plan_model.proofs.GoalPoints.{is_in_goal-true, in_goal_parts}
+use Rattle.plan_model.proofs.GoalPoints.{in_goal_parts}
 
 -- ---- one goal
 
@@ -29,12 +29,6 @@ moved-nearest low high n m range l h = omega arith
 -- the point of a box with both coordinates moved into their ranges
 abbrev pub moved_into : Goal → Point → Point
 moved_into goal p = record { x = moved goal.low.x goal.high.x p.x; y = moved goal.low.y goal.high.y p.y }
-
-pub moved_into-inside : (goal : Goal) (p : Point) → IsBoundedBox goal → IsTrue (is_in_goal goal (moved_into goal p))
-moved_into-inside goal p box =
-    let across = box.across in
-    let up = box.up in
-    is_in_goal-true goal (moved_into goal p) (record { left = omega arith; right = omega arith; bottom = omega arith; top = omega arith })
 
 pub moved_into-nearest :
     (goal : Goal) (p : Point) → IsBoundedBox goal → (z : Point) → IsTrue (is_in_goal goal z)
@@ -56,17 +50,6 @@ pub record IsLeastOfFirst (goals : List Goal) (p : Point) (count least : ℕ) : 
   pub inside : IsTrue (lies_in_goals goals at)
   pub reached : least ≡ squared_distance p at
   pub below : All (IsNoFarther p least) (take count goals)
-
--- before the first goal, by any point of one
-pub IsLeastOfFirst-none :
-    (goals : List Goal) (p at : Point) (k : ℕ) (none : Goal) (least : ℕ) → k < length goals → IsTrue (is_in_goal (get_or goals k none) at)
-    → least ≡ squared_distance p at → IsLeastOfFirst goals p 0 least
-IsLeastOfFirst-none goals p at k none least below inside is = record {
-  at = at;
-  inside = list_any_at (λ goal. is_in_goal goal at) goals k none below inside;
-  reached = is;
-  below = All-nil (IsNoFarther p least);
-}
 
 -- one goal more, with its nearest point
 pub IsLeastOfFirst-next :

@@ -1,23 +1,13 @@
 -- A loaded child is queued with its point.
 use Rattle.std.proofs.Common.{◌≡◌, ℕ, zero, suc, ◌≤◌, Bool, true, false, not, List, [], ◌∷◌, ◌++◌, Some, arith, refl}
 use Rattle.std.proofs.Common.{sym, ap, ◌∙◌, subst, inl, inr}
-use Rattle.std.specs.Prelude.{◌==◌, if◌then◌else◌, MatchOption}
+use Rattle.std.specs.Prelude.{◌==◌, if◌then◌else◌}
 use Rattle.std.proofs.lemmas.Bool.{cases_eq, ne_eqb}
 use Rattle.grown_runs.proofs.Common.{Point, IsLaterMoment, KeepsSight, Sight, point_at, point_of, StandsAt-present, IsLaterMoment-trans, child_of_word}
 use Rattle.grown_runs.proofs.Common.{point_in}
 use Rattle.kd_shared.specs.Loads.{FindsEmpty, KeepsPoints, LoadsChild, LoadsPoint}
 use Rattle.kd_shared.specs.Spots.{QueuesChild, QueuesWithin}
 use Rattle.plan_words.specs.declared.spots.Spot.{Spot}
-use Rattle.step_core.proofs.Common.{SeesNode, tree_seen}
-use Rattle.step_core.specs.declared.views.View.{View}
-
--- the child that was loaded is seen, and so is node 0
-pub SeesNode-within : (view : View) (n child chosen : ℕ) (side within : Bool) (Empty : Type 0)
-    → MatchOption (child_of_word child) Empty (λ c. ((tree_seen view).child n side ≡ Some c) × SeesNode view c)
-    → chosen ≡ (if within then child else 0) → SeesNode view chosen
-SeesNode-within view n child chosen side false Empty found is = inl is
-SeesNode-within view n zero chosen side true Empty found is = inl is
-SeesNode-within view n (suc c) chosen side true Empty found is = subst (SeesNode view) (sym is) found.1
 
 module _ (before mid after : Sight) (keeps : KeepsSight before) where
   -- what was found empty is so since

@@ -1,5 +1,5 @@
 -- What calls that look at nodes leave of a pass, one after another, and what they show of it.
-use Rattle.std.proofs.Common.{◌≡◌, ℕ, ◌<◌, ◌≤◌, Bool, Option, Some, None, length, refl, sym, ap, ◌∙◌, subst, inl, inr}
+use Rattle.std.proofs.Common.{◌≡◌, ℕ, ◌<◌, ◌≤◌, Bool, Option, Some, None, refl, sym, ap, ◌∙◌, inl, inr}
 use Rattle.std.specs.Prelude.{◌≢◌, MatchOption}
 use Rattle.grown_runs.proofs.Common.{Point, IsLaterMoment, KeepsSight, IsSeen-more, ChangesOnly, Word, Words, WritesWord, ChildOf, PointOf}
 use Rattle.plan_words.proofs.Common.{SeesAsBefore, NamesChildOrPoint, GoesOn, HasWholeShare}
@@ -87,10 +87,6 @@ module _ (before after : View) (n : ℕ) (goes_on : GoesOn before after) where
 
       is_no_point : {m : ℕ} → PointOf m ≢ ChildOf n side
       is_no_point same = cc
-
--- no number of a seen node is above that of the last mark
-pub within_marks : (before after : View) → GoesOn before after → (n : ℕ) → SeesNode after n → n ≤ length before.run.marks
-within_marks before after goes_on n seen = subst (λ run. n ≤ length run.marks) goes_on.later.run (goes_on.lawful.within n seen)
 
 -- a seen node stays seen
 pub SeesNode-later : (before after : View) (n : ℕ) → IsLater before after → SeesNode before n → SeesNode after n

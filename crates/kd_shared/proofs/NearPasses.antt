@@ -90,15 +90,6 @@ module _ {shared : SharedState} {entry now : PassState} {p : Point} {r : ℕ} (h
 
   -- none is taken
   module _ {same : PassState} (is : same ≡ now) (none : now.lists.search.spots ≡ []) where
-    pub ended_belongs : BelongsTo same shared
-    ended_belongs = subst (λ (s : PassState). BelongsTo s shared) (sym is) h.belongs
-
-    pub ended_looks : OnlyLooks entry.view same.view
-    ended_looks = subst (λ (s : PassState). OnlyLooks entry.view s.view) (sym is) h.looks
-
-    pub ended_lists : KeepsLists entry same
-    ended_lists = subst (KeepsLists entry) (sym is) h.lists
-
     pub ended_gathered : AreGathered (sight_in entry.view) (sight_in same.view) p r same.lists.search.found
     ended_gathered =
         subst (λ (s : PassState). AreGathered (sight_in entry.view) (sight_in s.view) p r s.lists.search.found) (sym is)

@@ -21,7 +21,7 @@ use Rattle.kd_shared.proofs.SideDistances.{beyond_radius}
 use Rattle.kd_shared.proofs.SortedNear.{is_within-close}
 use Rattle.kd_shared.proofs.VisitedOnce.{AreOnce, AreOnce-few, AreOnce-leaves_first, AreOnce-leaves_last, AreOnce-low, AreOnce-opens_first}
 use Rattle.kd_shared.proofs.VisitedOnce.{AreOnce-opens_last, AreOnce-takes}
-use Rattle.kd_shared.proofs.VisitedOnce.{IsDone, IsDoneOrAt, is_not_done, IsVisiting, IsVisiting-begins, IsVisiting-few}
+use Rattle.kd_shared.proofs.VisitedOnce.{IsDone, IsDoneOrAt, is_not_done, IsVisiting, IsVisiting-begins}
 
 -- ---- the points of what waits, and of what is found
 
@@ -365,10 +365,6 @@ module _ {before now : Sight} {target : Point} {r : ℕ} {queue : List Spot} {fo
                   (beyond_radius (side_distance spot.by_rows (point_of_spot spot) target right) r last_within last_is out) leaves
               | inr queues ↦ visited-queues queues
             ]
-
-  -- No more are visited and wait than there are nodes.
-  pub IsGathering-few : (marks : ℕ) → ((n : ℕ) → IsSeen now.seen n → n ≤ marks) → length queue + visits ≤ suc marks
-  IsGathering-few marks within = IsVisiting-few now marks within queue visits h.visiting
 
   -- Nor are more found.
   pub IsGathering-few_found : (marks : ℕ) → ((n : ℕ) → IsSeen now.seen n → n ≤ marks) → length found ≤ suc marks

@@ -1,11 +1,11 @@
 -- Nodes are popped off the stack of a walk until one has a child on its far side.
-use Rattle.std.proofs.Common.{◌≡◌, ℕ, ◌≤◌, List, [], ◌∷◌, ◌++◌, Some, None, inl, inr, arith, refl, sym, ap, ◌∙◌, subst}
+use Rattle.std.proofs.Common.{◌≡◌, ℕ, ◌≤◌, List, [], ◌∷◌, ◌++◌, Some, None, inl, inr, arith, sym, ap, ◌∙◌, subst}
 use Rattle.std.specs.Prelude.{Contains}
-use Rattle.std.proofs.lemmas.List.{append_assoc, append-nil}
+use Rattle.std.proofs.lemmas.List.{append_assoc}
 use Rattle.std.proofs.lemmas.List.Elements.{Contains-append_left, Contains-push}
-use Rattle.grown_runs.proofs.Common.{Point, IsLaterMoment, KeepsSight, Sight, IsLaterMoment-refl, IsLaterMoment-trans}
+use Rattle.grown_runs.proofs.Common.{Point, IsLaterMoment, KeepsSight, Sight, IsLaterMoment-trans}
 use Rattle.plan_words.specs.declared.spots.Spot.{Spot}
-use Rattle.step_core.proofs.Seen.DistinctNumbers.{Contains-cases, Contains-none}
+use Rattle.step_core.proofs.Seen.DistinctNumbers.{Contains-cases}
 use Rattle.kd_shared.specs.FarSides.{far_side, IsFinished, LoadsFar, PopsFar}
 use Rattle.kd_shared.specs.Loads.{KeepsPoints}
 
@@ -33,27 +33,7 @@ pub IsFinished-begun : (before mid after : Sight) (target : Point) (bound : ℕ)
 IsFinished-begun before mid after target bound spot past (inr too_far) = inr too_far
 IsFinished-begun before mid after target bound spot past (inl empty) = inl (omega (arith, past, empty))
 
-pub IsPopping-begins : (sight : Sight) (target : Point) (bound : ℕ) (stack : List Spot) → KeepsSight sight → IsPopping sight sight target bound stack stack
-IsPopping-begins sight target bound stack keeps = record {
-  later = IsLaterMoment-refl sight;
-  keeps = keeps;
-  points = λ n. refl;
-  popped = [];
-  split = sym (append-nil stack);
-  finished = λ spot k. absurd (Contains-none spot k);
-}
-
 module _ (before now : Sight) (target : Point) (bound : ℕ) (stack all : List Spot) (h : IsPopping before now target bound stack all) where
-  -- none is left
-  pub IsPopping-ends : (rest : List Spot) → all ≡ [] → rest ≡ all → PopsFar before now target bound stack rest None
-  IsPopping-ends rest none is = record {
-    later = h.later;
-    keeps = h.keeps;
-    popped = h.popped;
-    finished = h.finished;
-    found = (is ∙ none, h.split ∙ ap (λ xs. xs ++ h.popped) none, h.points);
-  }
-
   module _ (above : Spot) (rest : List Spot) (last : all ≡ rest ++ above ∷ []) (after : Sight) where
     split_there : stack ≡ rest ++ above ∷ h.popped
     split_there = h.split ∙ ap (λ xs. xs ++ h.popped) last ∙ append_assoc rest (above ∷ []) h.popped

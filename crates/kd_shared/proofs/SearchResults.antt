@@ -1,10 +1,10 @@
 -- What a search has found at a later moment, and for a call that began before the search did.
-use Rattle.std.proofs.Common.{ℕ, ◌*◌, ◌≤◌, List, arith, sym, ap, ◌∙◌, subst}
+use Rattle.std.proofs.Common.{ℕ, ◌*◌, ◌≤◌, List, arith, ◌∙◌, subst}
 use Rattle.std.specs.Prelude.{Contains}
-use Rattle.grown_runs.proofs.Common.{Point, squared_distance, is_within, point_at, StandsAt, EndsSince, IsLaterMoment, KeepsSight, Sight, Contains-near}
+use Rattle.grown_runs.proofs.Common.{Point, squared_distance, point_at, StandsAt, EndsSince, IsLaterMoment, KeepsSight, Sight}
 use Rattle.grown_runs.proofs.Common.{IsSwept-later}
 use Rattle.kd_shared.specs.Searches.{AreNearSeen, SweepsWithin}
-use Rattle.kd_shared.proofs.SortedNear.{is_within-close, is_within-near, near-within}
+use Rattle.kd_shared.proofs.SortedNear.{is_within-close, near-within}
 
 -- ---- swept points
 
@@ -40,11 +40,3 @@ module _ (before after : Sight) (p : Point) (r : ℕ) (found : List ℕ) (h : Ar
   pub AreNearSeen-only : (n : ℕ) → Contains found n → (q : Point) × StandsAt after.seen.points n q × (squared_distance q p ≤ r * r)
   AreNearSeen-only n k =
       is_within-close p r (point_at after.seen.points n) (near-within after.seen.points p r n (subst (λ ns. Contains ns n) h.all k))
-
-  -- each near node that was seen before is one of them
-  pub AreNearSeen-all : IsLaterMoment before after → (n : ℕ) (q : Point) → StandsAt before.seen.points n q → squared_distance q p ≤ r * r
-      → Contains found n
-  AreNearSeen-all later n q stands close =
-      subst (λ ns. Contains ns n) (sym h.all)
-      (Contains-near after.seen.points p r n
-      (ap (is_within p r) (later.seen.places.nodes n q stands) ∙ is_within-near p r q close))

@@ -80,15 +80,6 @@ module _ (now after : Sight) (later : IsLaterMoment now after) (done : List ℕ)
 -- ---- taken to be visited
 
 module _ (now : Sight) (spot : Spot) (spots rest : List Spot) (done : List ℕ) (h : AreOnce now spots done (IsDone done)) where
-  -- the last of a stack
-  pub AreOnce-pops : spots ≡ rest ++ spot ∷ [] → AreOnce now rest (spot.node ∷ done) (IsDone done)
-  AreOnce-pops is =
-      let same : nodes_of spots ++ done ≡ nodes_of rest ++ spot.node ∷ done = ap (λ xs. nodes_of xs ++ done) is ∙ nodes_of-push rest spot done in
-      record {
-        different = subst AreDifferent same h.different;
-        known = λ n k. h.known n (subst (λ ns. Contains ns n) (sym same) k);
-      }
-
   -- the first of a queue
   pub AreOnce-takes : spots ≡ spot ∷ rest → AreOnce now rest (spot.node ∷ done) (IsDone done)
   AreOnce-takes is =
@@ -195,8 +186,3 @@ module _ (now : Sight) (marks : ℕ) (within : (n : ℕ) → IsSeen now.seen n �
         length-append (nodes_of spots) done,
         length-nodes_of spots,
       )
-
-pub IsVisiting-few : (now : Sight) (marks : ℕ) → ((n : ℕ) → IsSeen now.seen n → n ≤ marks) → (spots : List Spot) (visits : ℕ)
-    → IsVisiting now spots visits → length spots + visits ≤ suc marks
-IsVisiting-few now marks within spots visits h =
-    omega (arith, AreOnce-few now marks within spots h.done (IsDone h.done) h.once, h.count)

@@ -6,7 +6,6 @@ use Rattle.std.specs.Prelude.{◌⊎◌, IfSome, IsTrue, nat_le}
 use Rattle.std.specs.List.{filter, range_with_len}
 use Rattle.std.proofs.Math.Nat.{mul-pos}
 use Rattle.std.proofs.lemmas.Bool.{cases_lt, le-leb, leb-true}
-use Rattle.std.proofs.lemmas.Int.Digits.{length-digits_of-le}
 use Rattle.std.proofs.lemmas.List.Elements.{filter_agree}
 use Rattle.std.proofs.lemmas.Nat.{pow_pos}
 use Rattle.grown_runs.proofs.Common.{Clear, mark_at, is_goal_point, IsNotAbove, distance_to, is_within, IsPresent, point_at, point_of, class_of}
@@ -22,9 +21,6 @@ use Rattle.kd_shared_tests.specs.HeldMarks.{HangsBelowNearest, SeesHandPoint, St
 use Rattle.kd_shared_tests.proofs.SteeredMarks.{present_nearest}
 
 -- ---- classes and radii
-
-pub class_of-below : (n k : ℕ) → n < 2 ^ k → class_of n ≤ k
-class_of-below n k fits = length-digits_of-le 2 k n (omega arith) fits
 
 radius-zero : (step gamma class : ℕ) → gamma ≡ 0 → radius_of_class step gamma class ≡ 0
 radius-zero step gamma class none = ap (λ g. radius_of_class step g class) none ∙ by_test (cases_lt 0 (radius_of_class step 0 class))

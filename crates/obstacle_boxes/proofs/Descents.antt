@@ -2,8 +2,8 @@
 use Rattle.std.proofs.Common.{◌≡◌, ℕ, ◌+◌, ◌<◌, ◌≤◌, true, false, List, [], ◌∷◌, ◌++◌, length, length-append}
 use Rattle.std.proofs.Common.{get_or, take, drop, take-take, refl, subst, arith, ◌∙◌}
 use Rattle.std.specs.Prelude.{All}
-use Rattle.std.proofs.lemmas.List.{drop_more, drop_all, drop-append-le, take-append-drop, drop_at, length-take-le, get_or_append_left}
-use Rattle.std.proofs.lemmas.List.Elements.{All-nil, All-cons, All-append, All-drop, All-head, All-weaker}
+use Rattle.std.proofs.lemmas.List.{drop_more, drop-append-le, take-append-drop, drop_at, length-take-le, get_or_append_left}
+use Rattle.std.proofs.lemmas.List.Elements.{All-cons, All-append, All-drop, All-head, All-weaker}
 use Rattle.plan_model.specs.declared.geometry.Point.{Point}
 use Rattle.plan_model.specs.declared.geometry.Vertex.{Vertex}
 use Rattle.swept_check.specs.Crossings.{Crosses}
@@ -48,11 +48,6 @@ leaves_from-one : (nodes : List Node) (n : ℕ) (leaf : Leaf) (d : Node) → n <
     → leaves_in (drop n nodes) ≡ leaf ∷ leaves_in (drop (n + 1) nodes)
 leaves_from-one nodes n leaf d l is =
     rw (drop_more nodes n d l) (leaves_in-append (get_or nodes n d ∷ []) (drop (n + 1) nodes) ∙ (rw is refl))
-
-pub HasSearched-none : (nodes : List Node) (zones : List (List Vertex)) (a b : Point) (before : ℕ) → HasSearched nodes zones a b before before (length nodes)
-HasSearched-none nodes zones a b before =
-    let none = drop_all (length nodes) nodes (omega arith) in
-    record { within = omega arith; missed = rw none (All-nil (IsMissed zones a b)); tested = rw none (omega arith) }
 
 -- a segment whose box is apart from that of a leaf misses its zone
 missed-apart : (zones : List (List Vertex)) (a b : Point) (leaf : Leaf) → IsLeafAmong zones leaf

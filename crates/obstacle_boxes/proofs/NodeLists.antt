@@ -1,5 +1,5 @@
 -- Lists of nodes that grow at their end.
-use Rattle.std.proofs.Common.{◌≡◌, inl, inr, ℕ, ◌+◌, ◌≤◌, List, [], ◌∷◌, ◌++◌, length, length-append, take, drop, refl, sym, arith, append_assoc, ◌∙◌}
+use Rattle.std.proofs.Common.{◌≡◌, inl, inr, ℕ, ◌+◌, ◌≤◌, List, [], ◌∷◌, ◌++◌, length, length-append, take, drop, refl, arith, append_assoc, ◌∙◌}
 use Rattle.std.proofs.lemmas.List.{append-nil, drop_at, take-append-le, take_all, get_or_append_left, get_or_push}
 use Rattle.std.proofs.lemmas.List.Elements.{filter_map-append}
 use Rattle.std.proofs.lemmas.Bool.{cases_lt}
@@ -44,9 +44,6 @@ IsTree-push nodes node above tree n first middle lower upper d l e =
           let here = above first middle lower upper (rw is at e) in
           rw (← at) (IsAbove-longer nodes node lower upper first middle (length nodes) (omega arith) here))
     ]
-
-pub Adds-none : (nodes : List Node) → Adds [] nodes nodes
-Adds-none nodes = record { added = []; is = sym (append-nil nodes); leaves_are = refl; tree = λ t. t }
 
 -- a leaf more
 pub Adds-leaf : (leaves : List Leaf) (leaf : Leaf) (before now after : List Node) → Adds leaves before now

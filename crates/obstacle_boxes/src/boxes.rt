@@ -6,7 +6,7 @@ ghost use Rattle.plan_model.specs.Spaces.RoomOfConfigurations.{InRoom, at_lattic
 ghost use Rattle.convex_sets.specs.declared.bounding_boxes.BoundingBox.{BoundingBox};
 
 use crate::box_nodes::{Node, push_tree};
-use crate::descent::crosses_no_leaf;
+use crate::descent::is_clear_of_leaves;
 use crate::leaves::{leaves_of, order};
 use convex_sets::Zone;
 use plan_model::{Memory, Point};
@@ -75,7 +75,7 @@ impl Boxes {
         if !self.hall.is_in_room(a) || !self.hall.is_in_room(b) {
             return false;
         }
-        crosses_no_leaf(self.nodes.as_slice(), self.hall.zones(), a, b, steps)
+        is_clear_of_leaves(self.nodes.as_slice(), self.hall.zones(), a, b, steps)
     }
 
     /// The same, for a counter that is made here.

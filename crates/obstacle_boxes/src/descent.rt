@@ -16,7 +16,7 @@ use swept_check::{Steps, crosses};
 /// Whether the segment from `a` to `b` crosses none of the zones at the leaves of a tree. It goes through the nodes from the
 /// last one on, passes over each half whose box is apart from the segment's, and ends at the first zone that is crossed, or
 /// when only halves that are apart are left. It takes no memory.
-pub(crate) fn crosses_no_leaf<L: Ledger>(
+pub(crate) fn is_clear_of_leaves<L: Ledger>(
     nodes: &[Node],
     zones: &[Zone],
     a: Point,

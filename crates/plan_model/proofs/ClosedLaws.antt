@@ -57,10 +57,6 @@ module _
         placed = λ k. ap is_some (lowers.still.points (suc k)) ∙ closed.placed k ∙ sym (ap (has_outcome is_placed) (same k));
       }
 
-  -- so is one whose costs are settled
-  pub IsClosed-settled : SettlesCosts before after → IsClosed setup marks limit after
-  IsClosed-settled settles = IsClosed-lowered (LowersCosts-settles setup before after closed.order settles)
-
   -- and one with the same tree
   pub IsClosed-same : HaveSameTree before after → IsClosed setup marks limit after
   IsClosed-same same_tree = IsClosed-lowered (LowersCosts-same setup before after closed.order same_tree)

@@ -15,13 +15,11 @@ use Rattle.plan_model.specs.Runs.ClosedLaw.{has_outcome, mark_at, outcome_count,
 use Rattle.plan_model.specs.Runs.RecordLaw.{HasLawfulOutcome}
 use Rattle.plan_model.specs.Trees.BestNode.{IsGoalNode}
 use Rattle.plan_model.specs.Runs.Textbook.{Setup}
-use Rattle.plan_model.proofs.CountsBelow.{count-more, count-longer, count-none, count-one_more}
+use Rattle.plan_model.proofs.CountsBelow.{count-more, count-longer, count-none}
 use Rattle.plan_model.proofs.GoalNodes.{no_goal_node}
 use Rattle.plan_model.proofs.NodeCounts.{count-next}
-use Rattle.plan_model.proofs.NextRecords.{RecordsMark}
 use Rattle.plan_model.proofs.OrderLaws.{start-present}
 use Rattle.plan_model.proofs.PlacedNodes.{record-of_present}
-use Rattle.plan_model.proofs.WorkerTurns.{count_still}
 
 one_outcome : (outcome : Outcome)
     → ((cond (is_placed outcome) 1 0 + cond (is_same outcome) 1 0) + cond (is_blocked outcome) 1 0) + cond (is_skipped outcome) 1 0 ≡ 1
@@ -88,19 +86,6 @@ none_skipped-closed setup marks limit state closed none =
     of_record : (k : ℕ) (o : Option Record) → state.record_of k ≡ o → has_outcome is_skipped o ≡ false
     of_record k None h = refl
     of_record k (Some entry) h = not_skipped setup state k (mark_at marks k) entry entry.outcome none (closed.lawful k entry h)
-
--- ---- any mark is recorded
-
-module _ (before after : ℕ → Option Record) (k : ℕ) (entry : Record) (change : RecordsMark before after k entry) (limit : ℕ) (below : k < limit) where
-  -- A new record of an outcome that passes the test counts as one more,
-  pub outcome_count-recorded : (test : Outcome → Bool) → test entry.outcome ≡ true → outcome_count after limit test ≡ suc (outcome_count before limit test)
-  outcome_count-recorded test passes =
-      count-one_more (λ j. has_outcome test (before j)) (λ j. has_outcome test (after j)) limit k below
-      (ap (has_outcome test) change.absent) (ap (has_outcome test) change.recorded ∙ passes) (λ j apart. ap (has_outcome test) (change.others j apart))
-
-  -- and one that does not adds nothing.
-  pub outcome_count-unchanged : (test : Outcome → Bool) → test entry.outcome ≡ false → outcome_count after limit test ≡ outcome_count before limit test
-  outcome_count-unchanged test fails = count_still before after k entry change limit below (has_outcome test) refl fails
 
 -- ---- nodes
 

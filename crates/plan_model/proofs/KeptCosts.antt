@@ -1,5 +1,5 @@
 -- Kept costs of a tree with one more node, or with one more absent number: they stay tight, and fall along parents.
-use Rattle.std.proofs.Common.{◌≡◌, ℕ, suc, ◌+◌, ◌*◌, ◌<◌, ◌≤◌, List, Option, arith, refl, sym, ap, ◌∙◌, subst, inl, inr}
+use Rattle.std.proofs.Common.{◌≡◌, ℕ, suc, ◌+◌, ◌*◌, ◌<◌, ◌≤◌, List, Option, arith, sym, ap, ◌∙◌, subst, inl, inr}
 use Rattle.std.specs.Prelude.{◌≢◌, is_some, unwrap_or}
 use Rattle.std.proofs.lemmas.Bool.{cases_lt}
 use Rattle.std.proofs.lemmas.Nat.{mul-le}
@@ -11,9 +11,7 @@ use Rattle.plan_model.specs.Trees.PointsByNumber.{point_at, IsPresent, point_of}
 use Rattle.plan_model.specs.Trees.NodeLists.{node_at, points_of, parent_or_zero, parent_of, edge_of, CostsFall, AreTight}
 use Rattle.plan_model.proofs.RootLaws.{root_ceiling-is}
 use Rattle.plan_model.proofs.FreePoints.{same-from_distance}
-use Rattle.plan_model.specs.Runs.Textbook.{start_alone}
-use Rattle.plan_model.proofs.TreeChanges.{node_at-past}
-use Rattle.plan_model.proofs.NewNodes.{Adds, not_present, point_at-same, IsPresent-kept, point_of-kept, parent_of-kept}
+use Rattle.plan_model.proofs.NewNodes.{Adds, point_at-same, IsPresent-kept, point_of-kept, parent_of-kept}
 use Rattle.plan_model.proofs.NewNodes.{IsPresent-stands, point_of-stands, StandsAt-present, StandsAt-new, parent_of-new, new_or_kept}
 
 -- an edge between two points costs at least a lattice step
@@ -29,18 +27,6 @@ cost_of-apart a b apart =
     ]
 
 -- ---- the start alone
-
-pub CostsFall-start : (costs : ℕ → ℕ) (start : Point) → CostsFall costs (start_alone start)
-CostsFall-start costs start = record { start = refl; parent = λ n h. absurd (none n h); falls = λ n h. absurd (none n h) }
-  where
-    none : (n : ℕ) → IsPresent (points_of (start_alone start)) (suc n) → ⊥
-    none n h = not_present (start_alone start) (suc n) (node_at-past (start_alone start) (suc n) (omega arith)) h
-
-pub AreTight-start : (costs : ℕ → ℕ) (start : Point) → costs 0 ≡ 0 → AreTight costs (start_alone start)
-AreTight-start costs start free = record { start = free; edges = λ n h. absurd (none n h) }
-  where
-    none : (n : ℕ) → IsPresent (points_of (start_alone start)) (suc n) → ⊥
-    none n h = not_present (start_alone start) (suc n) (node_at-past (start_alone start) (suc n) (omega arith)) h
 
 -- ---- the same nodes
 

@@ -13,14 +13,6 @@ module _ (key : ℕ → ℕ) (among : ℕ → Type 0) where
   pub IsFirstLeastBelow-first : among 0 → IsFirstLeastBelow key among 0 0
   IsFirstLeastBelow-first h = record { member = h; not_above = λ i l own. absurd (omega arith); below = omega arith }
 
-  -- one more number, which is no member
-  pub IsFirstLeastBelow-skips : (limit m : ℕ) → IsFirstLeastBelow key among limit m → ¬ among limit → IsFirstLeastBelow key among (limit + 1) m
-  IsFirstLeastBelow-skips limit m h none = record {
-    member = h.member;
-    not_above = below_more (λ i. among i → IsNotAbove key m i) limit h.not_above (λ own. absurd (none own));
-    below = omega (arith, h.below);
-  }
-
   -- one more member, whose key is not less
   pub IsFirstLeastBelow-keeps : (limit m : ℕ) → IsFirstLeastBelow key among limit m → key m ≤ key limit → IsFirstLeastBelow key among (limit + 1) m
   IsFirstLeastBelow-keeps limit m h least = record {

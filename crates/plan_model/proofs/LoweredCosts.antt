@@ -263,27 +263,6 @@ pub record RewiresBranch (setup : Setup) (before after : TreeState) (i n fall : 
       → after.cost (suc j) + before.cost (before.parent (suc j)) ≡ before.cost (suc j) + after.cost (before.parent (suc j))
   pub none_rises : (j : ℕ) → IsPresent before.points j → after.cost j ≤ before.cost j
 
--- Rewiring a branch lowers costs.
-pub LowersCosts-branch :
-    (setup : Setup) (before after : TreeState) (i n fall : ℕ) → KeepsOrder setup before
-    → RewiresBranch setup before after i n fall → LowersCosts setup before after
-LowersCosts-branch setup before after i n fall order change = record {
-  still = change.still;
-  start = change.parents 0 (λ e. omega (arith, ap before.cost e, order.start_cost, change.top, change.some)) (start-present setup before order);
-  none_rises = change.none_rises;
-  nodes = λ j h.
-      elim (cases_eq (suc j) i) [
-        | inl e ↦ inr (subst (HangsCheaper setup before after) (sym e) rewired)
-        | inr apart ↦ inl (record { parent = change.parents (suc j) apart h; falls = omega (arith, change.with_parent j h apart) })
-      ];
-}
-  where
-    rewired : HangsCheaper setup before after i
-    rewired = record {
-      hangs = HangsBelow-still setup before after change.still change.none_rises i n change.present change.exchanged change.hangs;
-      cheaper = omega (arith, change.top, change.some);
-    }
-
 -- ---- a record more
 
 -- The record of mark k is added, with the first cost that was written if its node is present; nothing else changes of present nodes.

@@ -58,19 +58,6 @@ Hangs-grows setup before after grows n p parent cost h =
     let stands = grows.nodes parent (point_of before.points parent) (StandsAt-present before.points parent h.present) in
     Hangs-later setup before after n p parent cost cost stands (omega (arith, cost-grows before after grows parent h.present, h.above)) h
 
--- where the cost is less than what node n costs, the parent is another node
-pub Hangs-cheaper :
-    (setup : Setup) (state : TreeState) (n parent cost : ℕ) → IsPresent state.points parent
-    → IsAllowedEdge setup (point_of state.points parent) (point_of state.points n)
-    → state.cost parent + cost_of (point_of state.points parent) (point_of state.points n) ≤ cost → cost < state.cost n
-    → Hangs setup state n (point_of state.points n) parent cost
-Hangs-cheaper setup state n parent cost present edge above cheaper = record {
-  present = present;
-  other = λ e. omega (arith, ap state.cost e, above, cheaper);
-  edge = edge;
-  above = above;
-}
-
 -- a node at p that has this parent, and costs so much, hangs below it
 pub HangsBelow-at :
     (setup : Setup) (state : TreeState) (n : ℕ) (p : Point) (parent : ℕ) → StandsAt state.points n p → state.parent n ≡ parent

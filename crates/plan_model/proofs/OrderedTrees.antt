@@ -6,7 +6,6 @@ use Rattle.plan_model.specs.Trees.TreeStates.{TreeState, sum_in}
 use Rattle.plan_model.specs.Runs.OrderLaw.{KeepsOrder}
 use Rattle.plan_model.specs.Runs.Textbook.{Setup}
 use Rattle.plan_model.proofs.ChainLaws.{sum-start, sum-parent}
-use Rattle.plan_model.proofs.LoweredCosts.{StandsStill, SettlesCosts}
 use Rattle.plan_model.proofs.OrderLaws.{start-present, KeepsOrder-falls}
 
 module _ (setup : Setup) (state : TreeState) (order : KeepsOrder setup state) where
@@ -37,14 +36,3 @@ module _ (setup : Setup) (state : TreeState) (order : KeepsOrder setup state) wh
   -- no node is kept at less than its sum
   pub sum_in-le_cost : (n : ℕ) → IsPresent state.points n → sum_in state n ≤ state.cost n
   sum_in-le_cost n h = sum_below (state.cost n) n h (omega arith)
-
-  -- A state with these nodes and parents, whose kept costs are the sums, is this one settled.
-  pub SettlesCosts-sums :
-      (after : TreeState) → StandsStill state after → ((n : ℕ) → IsPresent state.points n → after.parent n ≡ state.parent n)
-      → ((n : ℕ) → IsPresent state.points n → after.cost n ≡ sum_in state n) → SettlesCosts state after
-  SettlesCosts-sums after still parents sums = record {
-    still = still;
-    parents = parents;
-    start = sums 0 (start-present setup state order) ∙ sum_in-start;
-    edges = λ n h. omega (arith, sums (suc n) h, sums (state.parent (suc n)) (order.hangs n h).present, sum_in-parent n h);
-  }

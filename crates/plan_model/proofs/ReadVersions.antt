@@ -1,11 +1,9 @@
 -- The version that statements give is one of the format, and one that is read.
 use Rattle.std.proofs.Common.{◌≡◌, ℕ, ◌≤◌, Bool, true, false, cond, Option, Some, None, List, [], ◌∷◌, refl, subst, arith}
 use Rattle.std.specs.Prelude.{bytes_eq}
-use Rattle.plan_model.specs.declared.scenes.Scene.{Scene}
-use Rattle.plan_model.specs.Texts.TextLines.{lines_of, statements_of}
 use Rattle.plan_model.specs.Texts.Keys.{format_name, version_word, every_version, version_among}
-use Rattle.plan_model.specs.Texts.LineChecks.{Format, Given, fault_at_end, version_of, version_within}
-use Rattle.plan_model.specs.Texts.SceneGrammar.{version_given, Spells}
+use Rattle.plan_model.specs.Texts.LineChecks.{Given, fault_at_end, version_of, version_within}
+use Rattle.plan_model.specs.Texts.SceneGrammar.{version_given}
 
 -- a version of the format that is read
 pub record IsReadVersion (reads : ℕ → Bool) (version : ℕ) : Type 0 where
@@ -57,11 +55,6 @@ pub IsReadVersion-given : (reads : ℕ → Bool) (statements : List (List (List 
     → IsReadVersion reads version
 IsReadVersion-given reads [] version e = absurd (cc)
 IsReadVersion-given reads (first ∷ statements) version e = IsReadVersion-of reads first version e
-
--- a scene that a text spells has a version that is read
-pub IsReadVersion-spelled : (format : Format) (text : List ℕ) (scene : Scene) → Spells format text scene → IsReadVersion format.reads scene.version
-IsReadVersion-spelled format text scene h =
-    IsReadVersion-given format.reads (statements_of (lines_of text)) scene.version h.fields.version
 
 -- if nothing is missing, there is a version
 pub version-end : (read : Option ℕ) (given : Given) → fault_at_end read given ≡ None → (version : ℕ) × (read ≡ Some version)

@@ -1,10 +1,10 @@
 -- Runs that are the same have the same chains and sums, and one is settled or closed if the other is, and has grown into it.
-use Rattle.std.proofs.Common.{length, ◌≡◌, ℕ, zero, suc, List, [], ◌∷◌, map, refl, sym, ap, ◌∙◌, inl}
+use Rattle.std.proofs.Common.{length, ◌≡◌, ℕ, zero, suc, List, [], ◌∷◌, map, refl, sym, ap, ◌∙◌}
 use Rattle.std.specs.Prelude.{is_some, unwrap_or}
 use Rattle.plan_model.specs.declared.geometry.Point.{Point}
 use Rattle.plan_model.specs.Trees.PointsByNumber.{IsPresent, point_of, node_count}
 use Rattle.plan_model.specs.Trees.NodeLists.{chain_within, length_of_path}
-use Rattle.plan_model.specs.Trees.TreeStates.{TreeState, recorded_or, first_cost_of, chain_in, sum_in, IsSettled, AreSameRuns, GrowsInto, state_of}
+use Rattle.plan_model.specs.Trees.TreeStates.{TreeState, recorded_or, first_cost_of, chain_in, sum_in, IsSettled, AreSameRuns, state_of}
 use Rattle.plan_model.specs.Spaces.Clearance.{ClearAt}
 use Rattle.plan_model.specs.Runs.ClosedLaw.{IsClosed}
 use Rattle.plan_model.specs.Runs.SameRuns.{IsOfTextbookRun}
@@ -89,19 +89,6 @@ pub IsClosed-same_run :
     → AreSameRuns one other → IsClosed setup marks limit other
 IsClosed-same_run setup marks limit one other closed same =
     IsClosed-same setup marks limit one other same.records closed (HaveSameTree-runs setup marks limit one other closed same)
-
--- and it has grown into it
-pub GrowsInto-same_run :
-    (setup : Setup) (marks : List Point) (limit : ℕ) (one other : TreeState) → IsClosed setup marks limit one
-    → AreSameRuns one other → GrowsInto one other
-GrowsInto-same_run setup marks limit one other closed same =
-    let tree = HaveSameTree-runs setup marks limit one other closed same in
-    record {
-      nodes = λ n p h. same.points n ∙ h;
-      first_costs = tree.still.first_costs;
-      trees = λ n h. inl (same.costs n h, same.parents n h);
-      records = tree.still.records;
-    }
 
 -- ---- the textbook run
 

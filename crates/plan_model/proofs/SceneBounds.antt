@@ -1,6 +1,6 @@
 -- What a scene of either version may have is within what is counted on: distances of its points can be taken, points are steered by its
 -- step, and its obstacles go into Minkowski sums.
-use Rattle.std.proofs.Common.{◌≡◌, ◌<◌, ◌≤◌, ◌&&◌, Bool, ℕ, true, false, eqb, cond, length, List, [], ◌∷◌, refl, subst, sym, arith}
+use Rattle.std.proofs.Common.{◌≡◌, ◌<◌, ◌≤◌, ◌&&◌, Bool, ℕ, true, false, eqb, cond, length, List, [], ◌∷◌, refl, sym, arith}
 use Rattle.std.specs.Prelude.{All, ℤ, ◌≤ℤ◌, int_le, nat_le}
 use Rattle.std.specs.List.{list_all}
 use Rattle.std.proofs.lemmas.Bool.{and_parts, and_from, leb-true}
@@ -19,7 +19,7 @@ use Rattle.plan_model.specs.Geometry.Bounds.{IsBounded, IsBoundedBox}
 use Rattle.plan_model.specs.Geometry.Convexity.{is_strictly_convex}
 use Rattle.plan_model.specs.Spaces.EmptyRooms.{IsInRoom}
 use Rattle.plan_model.specs.Scenes.Limits.{is_corner_between, is_goal, is_mark, is_obstacle, least_obstacle_coordinate, most_obstacle_coordinate, most_side}
-use Rattle.plan_model.specs.Scenes.Limits.{most_clearance, most_goals, most_step}
+use Rattle.plan_model.specs.Scenes.Limits.{most_goals, most_step}
 
 -- ---- the limits of either version
 
@@ -116,11 +116,6 @@ step-steers scene = omega (arith, scene.step_high, most_step-counted scene.versi
 
 pub clearance-counted : (scene : Scene) → scene.clearance ≤ MOST_CLEARANCE
 clearance-counted scene = omega (arith, scene.clearance_high, clearance_by (eqb scene.version 1))
-
--- a scene of version 1 has no clearance
-pub clearance-first : (scene : Scene) → scene.version ≡ 1 → scene.clearance ≡ 0
-clearance-first scene is =
-    let most : scene.clearance ≤ most_clearance 1 = subst (λ version. scene.clearance ≤ most_clearance version) is scene.clearance_high in omega arith
 
 -- ---- obstacles
 

@@ -1,12 +1,10 @@
 -- Marks by their strips: each mark below a limit is the c-th of one strip, once, and the quotas of all strips add up to the limit.
 use Rattle.std.proofs.Common.{◌≡◌, ℕ, zero, suc, ◌+◌, ◌*◌, ◌/◌, ◌%◌, ◌<◌, ◌≤◌, true, false}
-use Rattle.std.proofs.Common.{cond, eqb, ltb, Option, Some, None, arith, refl, sym, ap, ◌∙◌, inl, inr}
-use Rattle.std.specs.Prelude.{◌≢◌, count_by, is_some}
+use Rattle.std.proofs.Common.{cond, eqb, ltb, arith, refl, sym, ap, ◌∙◌, inl, inr}
+use Rattle.std.specs.Prelude.{◌≢◌, count_by}
 use Rattle.std.specs.List.{range_with_len, sum_by}
 use Rattle.std.proofs.lemmas.Bool.{cases_eq, cases_lt, eq-eqb, ne_eqb, lt-ltb, le-ltb}
 use Rattle.std.proofs.lemmas.Nat.{div-add-mod', div-mul-add, mod-mul-add}
-use Rattle.plan_model.specs.declared.records.Record.{Record}
-use Rattle.plan_model.specs.Runs.ClosedLaw.{AreRecordedBelow}
 use Rattle.plan_model.specs.Scenes.MarkPoints.{quota_of, IsMarkOf, is_claimed}
 use Rattle.plan_model.proofs.CountsBelow.{count-more, count-single}
 use Rattle.plan_model.proofs.QuotaLaws.{IsCutAt-quota}
@@ -88,18 +86,6 @@ module _ (strips : ℕ) (some : 0 < strips) where
               absurd (omega (arith, below, past, div-add-mod' k strips)))
           | inr fits ↦ le-ltb (k / strips) (counters (k % strips)) fits
         ]
-
-    -- So if each claimed mark has a record, and no other has one, those below the limit have one, and no others.
-    pub AreRecordedBelow-claimed :
-        (record_of : ℕ → Option Record) → ((k : ℕ) → is_some (record_of k) ≡ is_claimed strips counters k) → AreRecordedBelow limit record_of
-    AreRecordedBelow-claimed record_of each = record {
-      recorded = λ k low. each k ∙ is_claimed-below k low;
-      none_else = λ k past. without (record_of k) (each k ∙ is_claimed-past k past);
-    }
-      where
-        without : (o : Option Record) → is_some o ≡ false → o ≡ None
-        without None h = refl
-        without (Some entry) h = cc
 
   -- The counter of strip g goes up by one: its next mark is claimed, and all others are as they were.
   module _

@@ -3,7 +3,7 @@ use Rattle.std.proofs.Common.{◌≡◌, ℕ, zero, suc, ◌<◌, ◌≤◌, Opt
 use Rattle.std.specs.Prelude.{◌≢◌, ◌⊎◌, option_map}
 use Rattle.plan_model.specs.declared.geometry.Point.{Point}
 use Rattle.plan_model.specs.Trees.PointsByNumber.{point_at, point_of, StandsAt, IsPresent, AreDistinct}
-use Rattle.plan_model.specs.Trees.TreeStates.{TreeState, KeepsOrFalls}
+use Rattle.plan_model.specs.Trees.TreeStates.{KeepsOrFalls}
 use Rattle.plan_model.specs.Seen.Ways.{goes_right, IsOnWay, FollowWays}
 use Rattle.plan_model.specs.Seen.SeenTrees.{SeenTree, IsSeen, IsRooted, IsOnSeenWay, HasSeenWay, FollowSeenWays, KeepsOrLowers, HasSeenAtLeast}
 use Rattle.plan_model.specs.Seen.SeenTrees.{SharedTree, TreeGrows, seen_whole, IsTrueOf}
@@ -15,10 +15,6 @@ use Rattle.plan_model.proofs.WayLaws.{way_start, last_step, AreDistinct-ways}
 use Rattle.plan_model.proofs.WayLinks.{IsOnWay-fills}
 
 -- ---- the whole of a tree
-
--- the parent and the cost of a node, as one has them who sees the whole
-abbrev pair_of : TreeState → ℕ → Option (ℕ × ℕ)
-pair_of state n = option_map (λ p. (state.parent n, state.cost n)) (point_at state.points n)
 
 -- those of a present node
 pub whole_pair : (tree : SharedTree) (n : ℕ) → IsPresent tree.state.points n

@@ -175,11 +175,6 @@ module _ (before after : ℕ → Option Record) (k : ℕ) (entry : Record) (chan
   turns_of-recorded_by_other worker apart = count_still (is_of_worker worker) refl (ne_eqb entry.worker worker apart)
 
   module _ (turns : AreTurns limit before) (turn : entry.turn ≡ turns_of before limit entry.worker) where
-    -- no other record of the worker has the turn
-    pub turn-new : (j : ℕ) (own : Record) → j < limit → before j ≡ Some own → own.worker ≡ entry.worker → own.turn < entry.turn
-    turn-new j own low h worker =
-        omega (arith, turn, turn-below before limit turns j own low h, ap (turns_of before limit) worker)
-
     -- its turn is counted once more, which is once
     times_new : times_of after limit entry.worker entry.turn ≡ 1
     times_new =
@@ -226,13 +221,6 @@ module _
   -- the same at the next limit
   turns_of-no_more : (worker : ℕ) → turns_of before (suc k) worker ≡ turns_of before k worker
   turns_of-no_more = turns_of-longer before k (suc k) (omega arith) within
-
-  pub turns_of-next : turns_of after (suc k) entry.worker ≡ suc (turns_of before k entry.worker)
-  turns_of-next = turns_of-recorded before after k entry change (suc k) (omega arith) ∙ ap suc (turns_of-no_more entry.worker)
-
-  pub turns_of-next_by_other : (worker : ℕ) → entry.worker ≢ worker → turns_of after (suc k) worker ≡ turns_of before k worker
-  turns_of-next_by_other worker apart =
-      turns_of-recorded_by_other before after k entry change (suc k) (omega arith) worker apart ∙ turns_of-no_more worker
 
   pub AreTurns-next : AreTurns k before → entry.turn ≡ turns_of before k entry.worker → AreTurns (suc k) after
   AreTurns-next turns turn =

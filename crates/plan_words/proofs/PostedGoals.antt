@@ -1,8 +1,8 @@
 -- Goal nodes of which the best word is at most the pair: what steps of a pass leave of that.
-use Rattle.std.proofs.Common.{◌≡◌, ◌≢◌, ℕ, ◌≤◌, Option, Some, None, List, [], arith, inl, inr, sym, ap, subst, ◌∙◌}
+use Rattle.std.proofs.Common.{◌≡◌, ◌≢◌, ℕ, ◌≤◌, Some, None, [], arith, inl, inr, sym, ap, subst, ◌∙◌}
 use Rattle.std.specs.Prelude.{IsTrue}
 use Rattle.std.proofs.lemmas.Bool.{cases_eq}
-use Rattle.grown_runs.proofs.Common.{is_goal_point, point_at, Goal, Point, PointOf, TreeOf, best_word, cost_in}
+use Rattle.grown_runs.proofs.Common.{is_goal_point, point_at, Goal, PointOf, TreeOf, best_word, cost_in}
 use Rattle.plan_words.specs.Bests.{HasPostedGoals, HasPostedHand}
 use Rattle.plan_words.specs.Claims.{SeesAsBefore}
 use Rattle.plan_words.specs.LoweredChildren.{PostsChanged, SeesSamePoints}
@@ -19,16 +19,6 @@ pub SeesGoal-kept : (before after : View) (n : ℕ) → IsLater before after →
 SeesGoal-kept before after n later same goal =
     subst (λ (r : SharedRun). IsTrue (is_goal_point r.goals (point_at (tree_seen before).points n))) later.run
     (subst (λ o. IsTrue (is_goal_point after.run.goals o)) (point_at-kept before after n later same) goal)
-
--- where marks are not skipped there is no goal node
-pub HasPostedGoals-calm : (view : View) → view.run.goals ≡ [] → HasPostedGoals view
-HasPostedGoals-calm view none n goal written = absurd (of_point (point_at (tree_seen view).points n) goal)
-  where
-    of_point : (o : Option Point) → ¬ IsTrue (is_goal_point view.run.goals o)
-    of_point None lies = cc
-    of_point (Some p) lies =
-        let gone = subst (λ (goals : List Goal). IsTrue (is_goal_point goals (Some p))) none lies in
-        cc
 
 -- ---- steps
 

@@ -39,12 +39,6 @@ HasPostedHand-calm shared view own calm hand held stage lies =
     let gone = subst (λ l. lies_in_goals l hand.point ≡ true) none lies in
     cc
 
--- it depends on the hand alone
-pub HasPostedHand-looks : (before after : View) → LooksOn before after → HasPostedHand before → HasPostedHand after
-HasPostedHand-looks before after looks posted hand held stage lies =
-    posted hand (sym looks.kept.hand ∙ held) stage
-    (subst (λ r. IsTrue (is_goal_point r.goals (Some hand.point))) looks.goes_on.later.run lies)
-
 -- ---- hands
 
 -- a post of a goal node leaves a hand that has posted its node
@@ -157,10 +151,6 @@ goal-goes_on before after n goes_on goal =
     let points = (tree_seen before).points in
     goal-later before after n (point_of points n) goes_on (StandsAt-present points n (IsPresent-goal before.run.goals (point_at points n) goal)) goal
 
--- one that lies in no goal is none
-pub no_goal-at : (view : View) (n : ℕ) (p : Point) → SeesPoint view n p → lies_in_goals view.run.goals p ≡ false → ¬ SeesGoal view n
-no_goal-at view n p stands off goal = let no = sym off ∙ lies-at view n p stands goal in cc
-
 -- ---- what was loaded
 
 -- a word that tells of no goal node is read as none
@@ -260,15 +250,6 @@ LooksAndPosts-posted n before mid after looks posts goal =
           ∙ ap (λ (p : PassState). with_best p.view best (hand_with_post p.view.hand n)) looks
           ∙ ap (λ w. with_best (loaded before.view (PointOf n) w) best (hand_with_post before.view.hand n)) seen;
     }
-
-pub OnlyPosts-none : (n : ℕ) (before after : PassState) (view : View) → after ≡ with_view before view → view.crew ≡ before.view.crew
-    → view.most ≡ before.view.most → view.hand ≡ before.view.hand → OnlyPosts n before after
-OnlyPosts-none n before after view is crew most hand = record {
-  pass = is ∙ ap (with_view before) (sym (ap (λ (p : PassState). p.view) is));
-  crew = ap (λ (p : PassState). p.view.crew) is ∙ crew;
-  most = ap (λ (p : PassState). p.view.most) is ∙ most;
-  hand = inl (ap (λ (p : PassState). p.view.hand) is ∙ hand);
-}
 
 pub OnlyPosts-posted : (n : ℕ) (before after : PassState) (best : ℕ) → after ≡ with_view before (with_best before.view best (hand_with_post before.view.hand n))
     → SeesGoal before.view n → OnlyPosts n before after

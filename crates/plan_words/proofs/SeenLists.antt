@@ -5,7 +5,7 @@ use Rattle.std.specs.Prelude.{cond, max, nat_lt, slice_index, slice_set}
 use Rattle.std.proofs.lemmas.Bool.{ltb-false}
 use Rattle.std.proofs.lemmas.List.{append_assoc, get_or-set_other, get_or-set_same, length-append, length-replicate, length-set, set-append_left}
 use Rattle.plan_words.specs.SeenChains.{AreSeenFirst, Reaches, chain_of, seen_words, sibling_chain_in}
-use Rattle.grown_runs.proofs.Common.{FitsNumbers, FitsOneMore, HasOneMore, IndexesChains, KeepsRoom, MovesNode, parent_in, IsIndex-same}
+use Rattle.grown_runs.proofs.Common.{FitsNumbers, HasOneMore, IndexesChains, KeepsRoom, MovesNode, parent_in, IsIndex-same}
 use Rattle.grown_runs.specs.declared.child_index.ChildIndex.{ChildIndex}
 
 -- ---- the words of all nodes
@@ -85,21 +85,6 @@ StandFor-longer nodes seen words capacity children more low one_more keeps stand
       };
       same = same ∙ stand.same;
     }
-
--- one more fits
-pub FitsOneMore-seen :
-    (nodes : ℕ) (words : List ℕ) (capacity : ℕ) (children : ChildIndex) → length words < nodes → AreSeenFirst nodes words capacity children
-    → FitsOneMore children
-FitsOneMore-seen nodes words capacity children low are = record {
-  nodes = length words;
-  chain = sibling_chain_in (seen_words nodes words);
-  chains = are.index;
-  fits = record {
-    first = omega (arith, are.children_room.first, low);
-    next = omega (arith, are.children_room.next, low);
-    previous = omega (arith, are.children_room.previous, low);
-  };
-}
 
 -- ---- a word is set
 

@@ -70,7 +70,7 @@ impl Shared {
 
 impl Shared {
     /// Whether the point lies in a goal by which marks are skipped: in one of the scene's goals, if the scene is informed. O(g) for g goals.
-    pub fn skips_by(&self, point: Point) -> bool
+    pub fn has_goal_at(&self, point: Point) -> bool
         ensures { result ≡ lies_in_goals (skipping_goals self.now.task.scene) point }
     {
         self.task.scene.informed && lies_in_goals(self.task.scene.goals.as_slice(), point)

@@ -164,7 +164,7 @@ impl Shared {
         ensures whole { HasWholeShare seat.old.me.0 → result ≡ seen }
     {
         let found = self.lower_at(seat, node, seen, parent, cost);
-        if found == seen && self.skips_by(point) {
+        if found == seen && self.has_goal_at(point) {
             self.post_at(seat, node, cost);
         }
         found

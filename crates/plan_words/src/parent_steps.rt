@@ -191,7 +191,7 @@ impl Shared {
         ensures posted { SeesGoal pass.old.view node → pass.new.view.best ≤ best_word (cost_in (sees pass.old.view (TreeOf node))) node }
     {
         let point = self.point(pass, node);
-        if self.skips_by(point) {
+        if self.has_goal_at(point) {
             self.post(pass, node);
         }
     }

@@ -1,12 +1,12 @@
 -- What a worker may record in its first turn, when the start alone is its own node: that a node was placed below it.
-use Rattle.std.proofs.Common.{◌≡◌, ◌≢◌, ℕ, zero, suc, ◌+◌, ◌≤◌, ◌^◌, Bool, true, false, [], Option, Some, None, cond, length}
+use Rattle.std.proofs.Common.{◌≡◌, ◌≢◌, ℕ, zero, suc, ◌+◌, ◌≤◌, ◌^◌, Bool, true, false, [], Option, Some, None, length}
 use Rattle.std.proofs.Common.{inl, inr, refl, sym, ap, ◌∙◌, subst, arith}
 use Rattle.std.specs.Prelude.{◌==◌, ◌&&◌, IfErr, IfOk, IfSome, IsTrue, Result, Ok, Err, nat_lt}
-use Rattle.std.proofs.lemmas.Bool.{and_parts, cases_Bool, cases_lt, eqb-true, le-ltb}
+use Rattle.std.proofs.lemmas.Bool.{and_parts, cases_Bool, cases_lt, le-ltb}
 use Rattle.std.proofs.lemmas.List.Sums.{length-filter}
 use Rattle.grown_runs.proofs.Common.{Clear, mark_at, space_of, cost_of, is_goal_point, IsNotAbove, distance_to, is_placed, IsPresent, point_of, class_of}
 use Rattle.grown_runs.proofs.Common.{is_earlier_record, Point, Placed, Record, below_digits, class_from_powers, count-single, IsPresent-stands, point_of-stands}
-use Rattle.grown_runs.proofs.Common.{record_at, ChildOf, Count, TreeOf, best_cost_in, best_node_in, best_of_word, cost_in, no_best}
+use Rattle.grown_runs.proofs.Common.{record_at, ChildOf, Count, TreeOf, cost_in}
 use Rattle.plan_words.proofs.Common.{PassState, SharedState, run_in, with_view, at_hand, if_hand, no_goals}
 use Rattle.step_core.proofs.Common.{IsLater, IsLawfulView, IsUnskipped, MayBePlaced, MayEnd, MayRecord, is_own_node, own_count, own_first_cost, counted}
 use Rattle.step_core.proofs.Common.{last_fill, linked, loaded, SeesPoint, sees, setup_in, tree_seen, SeesPoint-later}
@@ -14,7 +14,7 @@ use Rattle.step_core.specs.declared.views.Hand.{Hand}
 use Rattle.step_core.specs.declared.views.Stage.{Stage}
 use Rattle.step_core.specs.declared.views.Stage.TheVariants.{Counted, Posted, Treed}
 use Rattle.step_core.specs.declared.views.View.{View}
-use Rattle.plan_words_tests.specs.HeldMarks.{HangsFromStart, TakesBest}
+use Rattle.plan_words_tests.specs.HeldMarks.{HangsFromStart}
 
 -- ---- marks that are not skipped
 
@@ -23,23 +23,6 @@ pub unskipped_plain : (shared : SharedState) (view : View) (hand : Hand) → vie
     → shared.task.scene.informed ≡ false → IfSome view.hand (IsUnskipped view)
 unskipped_plain shared view hand held run plain =
     if_hand (IsUnskipped view) view.hand hand held (λ informed. absurd (informed (no_goals shared view run plain)))
-
--- nor is one for which the best told of no goal node
-pub unskipped_none : (view : View) → TakesBest None view → IfSome view.hand (IsUnskipped view)
-unskipped_none view takes =
-    if_hand (IsUnskipped view) view.hand takes.hand takes.held
-    (λ informed. (takes.word, takes.taken, λ some_node. absurd (some_node (none_told takes.word takes.tells))))
-  where
-    none_told : (word : ℕ) → best_of_word word ≡ None → word ≡ no_best
-    none_told word tells = by_test (word == no_best) refl
-      where
-        by_test : (b : Bool) → (word == no_best) ≡ b → word ≡ no_best
-        by_test true e = eqb-true word no_best e
-        by_test false e =
-            let told : best_of_word word ≡ Some (best_node_in word, best_cost_in word) =
-            ap (λ b. cond {A = Option (ℕ × ℕ)} b None (Some (best_node_in word, best_cost_in word))) e in
-            let gone = sym tells ∙ told in
-            cc
 
 -- no point lies in none of the goals
 pub posted_plain :

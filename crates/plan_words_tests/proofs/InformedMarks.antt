@@ -1,14 +1,13 @@
 -- Marks in an informed scene: the best is taken for the mark in hand, and its node is posted.
-use Rattle.std.proofs.Common.{◌≡◌, ◌≢◌, ℕ, suc, ◌+◌, ◌<◌, ◌≤◌, ◌^◌, Bool, true, false, [], Option, Some, None, cond, length}
-use Rattle.std.proofs.Common.{inl, inr, refl, sym, ap, ◌∙◌, subst, arith}
-use Rattle.std.specs.Prelude.{◌==◌, IfSome, IsTrue}
-use Rattle.std.proofs.lemmas.Bool.{cases_lt, eq-eqb, eqb-true}
-use Rattle.grown_runs.proofs.Common.{is_goal_point, lies_in_goals, goals-some, TreeOf, best_cost_in, best_node_in, best_of_word, no_best}
-use Rattle.plan_words.proofs.Common.{BelongsTo, GoesOn, PassState, SharedState, run_in, with_view, BelongsTo-later, goal-at}
+use Rattle.std.proofs.Common.{◌≡◌, ◌≢◌, ℕ, suc, ◌+◌, ◌<◌, ◌≤◌, ◌^◌, true, [], Option, Some, cond, length}
+use Rattle.std.proofs.Common.{inl, inr, refl, sym, ap, ◌∙◌, arith}
+use Rattle.std.specs.Prelude.{◌==◌}
+use Rattle.std.proofs.lemmas.Bool.{cases_lt, eq-eqb}
+use Rattle.grown_runs.proofs.Common.{lies_in_goals, goals-some, TreeOf, best_of_word}
+use Rattle.plan_words.proofs.Common.{GoesOn, PassState, SharedState, run_in, with_view, BelongsTo-later, goal-at}
 use Rattle.step_core.proofs.Common.{IsLawfulView, IsInformed, MayPost, has_link, best_loaded, best_taken, hand_with_best, hand_with_post, post_noted, with_best}
-use Rattle.step_core.proofs.Common.{SeesPoint, sees, setup_in, share}
+use Rattle.step_core.proofs.Common.{SeesPoint, sees, share}
 use Rattle.step_core.specs.declared.views.Hand.{Hand}
-use Rattle.step_core.specs.declared.views.Stage.{Stage}
 use Rattle.step_core.specs.declared.views.Stage.TheVariants.{Claimed, Counted, Posted}
 use Rattle.step_core.specs.declared.views.View.{View}
 use Rattle.plan_words_tests.specs.HeldMarks.{HangsFromStart, HoldsMark, TakesBest}
@@ -85,16 +84,6 @@ module _ (shared : SharedState) (k n : ℕ) (before after : PassState) (holds : 
       ap (λ (p : PassState). p.view.hand) is ∙ ap (λ o. hand_with_post o n) holds.held
       ∙ ap (λ stage. Some (post_noted stage holds.hand n)) holds.stage_is
       ∙ ap (λ b. Some (cond b (record holds.hand { stage = Posted }) holds.hand)) (eq-eqb (suc holds.hand.mark) n (sym own))
-
-  pub HoldsMark-posted : HoldsMark shared k Posted after
-  HoldsMark-posted = record {
-    belongs = BelongsTo-later shared before after (ap (λ (p : PassState). p.table) is) goes_on holds.belongs;
-    hand = record holds.hand { stage = Posted };
-    held = noted;
-    mark = holds.mark;
-    stage_is = refl;
-    from_start = holds.from_start;
-  }
 
   pub HangsFromStart-posted : (cost : ℕ) → HangsFromStart cost before.view → HangsFromStart cost after.view
   HangsFromStart-posted cost hung =

@@ -20,10 +20,9 @@ use Rattle.tree_rewire.proofs.ChosenParents.{IsInReach-later}
 use Rattle.tree_rewire.proofs.SeenCosts.{SeesPair-later, stands_later}
 use Rattle.tree_rewire.specs.SeenCosts.{IsInReach, cost_seen}
 use Rattle.plan_work.proofs.FilledNear.{looked_still}
-use Rattle.plan_work.proofs.KeptRecords.{KeepsRecords-trans}
 use Rattle.plan_work.proofs.KeptSights.{SweepsWithin-still, distance_still, point_still}
 use Rattle.plan_work.specs.Extensions.{radius_in}
-use Rattle.plan_work.specs.ExtensionSteps.{HasCome, HasFilledNear, IsFilledSince, IsHung, IsSteeredTo, IsTried, KeepsRecords, MayPlace, hung_by}
+use Rattle.plan_work.specs.ExtensionSteps.{HasCome, HasFilledNear, IsHung, IsSteeredTo, IsTried, KeepsRecords, MayPlace, hung_by}
 use Rattle.plan_work.specs.declared.mark_placing.Hanging.{Hanging}
 
 -- a node that steers to p is at most a step from it
@@ -91,16 +90,6 @@ pub HasFilledNear-still :
     → HasFilledNear before mid p class found → HasFilledNear before after p class found
 HasFilledNear-still before mid after p class found goes_on count filled =
     HasFilledNear-recounted before mid after p class found goes_on (filled.class_is ∙ ap class_of (sym count)) filled
-
--- the near list of a pass stays filled while other words are seen anew than records and the count
-pub IsFilledSince-still : (shared : SharedState) (first mid after : PassState) (p : Point) (class : ℕ) → KeepsRecords shared mid after
-    → sees after.view Count ≡ sees mid.view Count → after.lists.search.found ≡ mid.lists.search.found → IsFilledSince shared first mid p class
-    → IsFilledSince shared first after p class
-IsFilledSince-still shared first mid after p class keeps count near since = record {
-  keeps = KeepsRecords-trans shared first mid after since.keeps keeps;
-  filled = subst (HasFilledNear first.view after.view p class) (sym near)
-      (HasFilledNear-still first.view mid.view after.view p class mid.lists.search.found keeps.goes_on count since.filled);
-}
 
 -- the node in hand was hung by the nodes found, and tried to be placed
 pub IsTried-placing :

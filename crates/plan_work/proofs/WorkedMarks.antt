@@ -78,9 +78,6 @@ pub record WasExtendedSo (before now : View) (k : ℕ) : Type 0 where
 abbrev pub AllExtendedSo : View → View → Type 0
 AllExtendedSo before now = (k : ℕ) → sees before (RecordOf k) ≡ 0 → sees now (RecordOf k) ≢ 0 → WasExtendedSo before now k
 
-pub AllExtendedSo-none : (view : View) → AllExtendedSo view view
-AllExtendedSo-none view k none some = absurd (some none)
-
 -- One more was claimed and handled.
 pub AllExtendedSo-mark :
     (shared : SharedState) (before now claimed after : PassState) (k : ℕ) (entry : Record) → HasGoneOn before.view now.view

@@ -105,7 +105,7 @@ fn post_goal_node(shared: &Shared, pass: &mut Pass, k: u32, p: Point)
         × (pass.new.view.best ≤ best_word (cost_in (sees pass.old.view (TreeOf (suc k)))) (suc k)) }
     ensures elsewhere { lies_in_goals pass.old.view.run.goals p ≡ false → pass.new ≡ pass.old }
 {
-    if shared.skips_by(p) {
+    if shared.has_goal_at(p) {
         shared.post(pass, k + 1);
     }
 }

@@ -4,7 +4,6 @@ pub mod SeenTurns
 pub mod OwnNodeLaws
 pub mod SeenStarts
 pub mod FirstCosts
-pub mod SeenGoals
 pub mod ClassRadii
 pub mod StandingLaws
 pub mod OwnMarkLaws

@@ -40,9 +40,6 @@ pub record HasRead (text : List ℕ) (scenes : List Scene) (next : ℕ) (rest : 
   pub short : next + length rest ≤ length text + 1
   pub each : AreSpelled (parts_of (lines_of text)) scenes
 
-pub ReadsParts-none : (text : List ℕ) → ReadsParts text [] 0 text
-ReadsParts-none text = record { left = refl; few = omega arith; lines = refl; short = omega arith; each = λ k d l. absurd (omega arith) }
-
 longer : (parts : List Part) (k : ℕ) → 0 < length (drop k parts) → k < length parts
 longer parts k some = omega (arith, some, length-drop k parts)
 

@@ -6,7 +6,7 @@ use Rattle.plan_model.specs.Texts.SceneBatches.{Part, part_text, parts_of, separ
 use Rattle.plan_model.specs.Texts.LineChecks.{fault_of_words}
 use Rattle.plan_model.specs.Texts.SceneGrammar.{supported}
 use Rattle.plan_model.specs.Texts.TextLines.{lines_of, words_of}
-use Rattle.plan_model.proofs.BatchParts.{first_part, first_part-line, later_parts, later_parts-line, lines_of-first, parts_of-first}
+use Rattle.plan_model.proofs.BatchParts.{first_part, first_part-line, later_parts, later_parts-line, lines_of-first}
 use Rattle.scene_text.specs.Batches.{IsPartRefusal}
 use Rattle.scene_text.specs.Drafts.{TakesLine, given_by_draft}
 use Rattle.scene_text.specs.Refusals.{IsLineRefusal, IsSceneRefusal, refusal_at}
@@ -76,6 +76,3 @@ module _ (text : List ℕ) (lines : ℕ) (rest : List ℕ) (draft : Draft) (h : 
       let over : length (drop lines (lines_of (head_text text))) ≡ 0 = ap length all.left in
       let long : length (lines_of (head_text text)) ≡ length (first_part (lines_of text)) = ap length (lines_of-first text) in
       omega (arith, length-drop lines (lines_of (head_text text)))
-
-  pub parts_split : parts_of (lines_of text) ≡ first_part (lines_of text) ∷ later_parts (lines_of rest)
-  parts_split = parts_of-first (lines_of text) ∙ ap (λ (parts : List Part). first_part (lines_of text) ∷ parts) h.later

@@ -72,18 +72,6 @@ AreLinked-push tree node children more after number at some room one_more moves 
 
 -- ---- another parent
 
--- a node that is present and not the start is in the chain of its parent in the index
-pub HasInChain-present :
-    (tree : List (Option Twig)) (children : ChildIndex) (number : ℕ) (node : Twig) → 0 < number → number < length tree → node_at tree number ≡ Some node
-    → AreLinked tree children → HasInChain children number (node.parent + 1)
-HasInChain-present tree children number node some low here linked = record {
-  nodes = length tree;
-  chain = chain_in tree;
-  chains = linked.chains;
-  here = omega (arith, chain_in-node tree number node some here);
-  low = low;
-}
-
 pub AreLinked-replace :
     (tree : List (Option Twig)) (was now : Twig) (children after : ChildIndex) (number : ℕ) → 0 < number → number < length tree
     → node_at tree number ≡ Some was → MovesNode number (was.parent + 1) (now.parent + 1) children after → AreLinked tree children

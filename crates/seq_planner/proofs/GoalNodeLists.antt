@@ -1,13 +1,13 @@
 -- The list of the nodes that lie in a goal, as a tree grows by one number after another.
 use Rattle.std.proofs.Common.{◌≡◌, ℕ, suc, ◌+◌, ◌<◌, ◌≤◌, Bool, true, false, List, [], ◌∷◌, ◌++◌, length, get_or, Option, Some, None, refl, sym}
 use Rattle.std.proofs.Common.{ap, ◌∙◌, subst, arith, inl, inr}
-use Rattle.std.specs.Prelude.{All, Contains, IsTrue, cond, option_map}
+use Rattle.std.specs.Prelude.{Contains, IsTrue, cond, option_map}
 use Rattle.std.proofs.lemmas.Bool.{cases_eq}
 use Rattle.std.proofs.lemmas.List.{get_or_append_left, get_or_default, length-map}
-use Rattle.std.proofs.lemmas.List.Elements.{All-contains, All-nil, All-push, All-weaker, Contains-append_left, Contains-push}
+use Rattle.std.proofs.lemmas.List.Elements.{All-contains, All-push, All-weaker, Contains-append_left, Contains-push}
 use Rattle.grown_runs.proofs.Common.{Goal, Point, Outcome, Placed, Same, Blocked, Skipped, Record, Scene, Twig, Ends, MayBeCheaper, Nodes, Setup, mark_bound}
 use Rattle.grown_runs.proofs.Common.{near_new, setup_of, skipping_goals, IsGoalNode, is_goal_point, lies_in_goals, IsFirstLeast, IsNotAbove, node_at, points_of}
-use Rattle.grown_runs.proofs.Common.{sum_of, IsPresent, point_at, IsPresent-goal, near-present_beside, points_of-rewires, no_goal_node, StandsAt-node}
+use Rattle.grown_runs.proofs.Common.{sum_of, point_at, IsPresent-goal, near-present_beside, points_of-rewires, no_goal_node, StandsAt-node}
 use Rattle.grown_runs.proofs.Common.{present_below, points_of-push}
 use Rattle.plan_model.specs.Trees.GoalBounds.{bound_of}
 use Rattle.plan_model.proofs.NewNodes.{point_at-absent}
@@ -128,13 +128,6 @@ module _
 pub skipping_goals-by : (scene : Scene) (informed : Bool) → scene.informed ≡ informed → skipping_goals scene ≡ cond informed scene.goals []
 skipping_goals-by scene informed is = ap (λ b. cond b scene.goals []) is
 
--- before the first number none is listed
-pub AreGoalNodesBelow-none : (goals : List Goal) (points : List (Option Point)) → AreGoalNodesBelow goals points 0 []
-AreGoalNodesBelow-none goals points = record {
-  listed = λ n own. absurd (omega (arith, own.below));
-  goal_nodes = All-nil (IsGoalNodeBelow goals points 0);
-}
-
 -- ---- skipping
 
 -- in a scene with a goal by which marks are skipped these are its goals
@@ -154,10 +147,6 @@ module _
   listed_all n goal =
       let here = IsPresent-goal (skipping_goals scene) (point_at (points_of tree.nodes) n) goal in
       listed.listed n (record { below = present_below tree.nodes n here; goal = goal })
-
-  -- if none is listed, there is none that costs too little
-  pub MayBeCheaper-none : length numbers ≡ 0 → MayBeCheaper (setup_of scene) (sum_of tree.nodes) (points_of tree.nodes) mark
-  MayBeCheaper-none none i goal = let at = listed_all i goal in absurd (omega (arith, at.1, none))
 
   module _ (best : ℕ) (least : IsFirstLeast (λ n. get_or tree.costs.items n 0) (Contains numbers) best) where
     goal_of : (n : ℕ) → Contains numbers n → IsGoalNode (skipping_goals scene) (points_of tree.nodes) n

@@ -2,7 +2,7 @@
 use Rattle.std.proofs.Common.{◌≡◌, ℕ, ◌+◌, ◌<◌, List, get_or, length, take, ap, ◌∙◌, subst, sym, arith}
 use Rattle.std.specs.Prelude.{All, Contains}
 use Rattle.std.proofs.lemmas.List.{take_all}
-use Rattle.std.proofs.lemmas.List.Elements.{All-contains, All-more, All-nil, All-weaker, Contains-get_or}
+use Rattle.std.proofs.lemmas.List.Elements.{All-contains, All-more, All-weaker, Contains-get_or}
 use Rattle.grown_runs.proofs.Common.{IsFirstLeast, IsNotAbove, IsNotAbove-refl, IsNotAbove-trans}
 
 -- it is in the list, and its pair is not above that of any of the first so many
@@ -11,13 +11,6 @@ pub record IsLeastOf (key : ℕ → ℕ) (numbers : List ℕ) (count best : ℕ)
   pub not_above : All (IsNotAbove key best) (take count numbers)
 
 module _ (key : ℕ → ℕ) (numbers : List ℕ) where
-  -- any number of the list, by none
-  pub IsLeastOf-none : (i best : ℕ) → i < length numbers → best ≡ get_or numbers i 0 → IsLeastOf key numbers 0 best
-  IsLeastOf-none i best below is = record {
-    member = subst (Contains numbers) (sym is) (Contains-get_or numbers i 0 below);
-    not_above = All-nil (IsNotAbove key best);
-  }
-
   module _ (count best n : ℕ) (h : IsLeastOf key numbers count best) (below : count < length numbers) (is : n ≡ get_or numbers count 0) where
     -- one more that is not above it
     pub IsLeastOf-takes : IsNotAbove key n best → IsLeastOf key numbers (count + 1) n

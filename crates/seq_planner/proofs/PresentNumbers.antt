@@ -10,7 +10,6 @@ use Rattle.std.proofs.lemmas.List.FromFn.{fill_by_all, length-range_with_len, ge
 use Rattle.std.proofs.lemmas.List.Kept.{IsStrictlyIncreasing-filter}
 use Rattle.std.proofs.lemmas.List.Sums.{length-filter}
 use Rattle.grown_runs.proofs.Common.{IsBounded, point_at, StandsAt, IsPresent, point_of, node_count, Point, range-more, IsPresent-below, StandsAt-present}
-use Rattle.grown_runs.proofs.Common.{node_count-some}
 use Rattle.seq_planner.specs.PlacedLists.{present_numbers, ArePlaced}
 use Rattle.seq_planner.specs.declared.placed_points.PlacedPoints.{PlacedPoints}
 
@@ -139,11 +138,6 @@ ArePlaced-numbered points placed h =
 pub ArePlaced-count :
     (points : List (Option Point)) (placed : PlacedPoints) → ArePlaced points placed → length placed.points.items ≡ node_count points
 ArePlaced-count points placed h = ap length h.points ∙ length-map (present_numbers points) (point_of points) ∙ length-present_numbers points
-
--- there is one at least if a node is present
-pub ArePlaced-some :
-    (points : List (Option Point)) (placed : PlacedPoints) (n : ℕ) → ArePlaced points placed → IsPresent points n → 0 < length placed.points.items
-ArePlaced-some points placed n h present = omega (arith, ArePlaced-count points placed h, node_count-some points n present)
 
 -- points in bounds are so in the list
 pub ArePlaced-bounded :

@@ -23,13 +23,6 @@ pub through-read :
 through-read nodes costs placed n kept from p h own e at =
     omega (arith, sum-read nodes costs placed n kept h own e, ap (λ a. cost_of a p) at)
 
--- a kept cost and one edge more are within the bound of one node more
-pub kept-bound :
-    (nodes : Nodes) (costs : List ℕ) (placed : PlacedPoints) (n kept : ℕ) → IsSound nodes costs placed → IsPresent (points_of nodes) n
-    → kept ≡ get_or costs n kept → kept + 2 ^ 29 ≤ node_count (points_of nodes) * 2 ^ 29
-kept-bound nodes costs placed n kept h own e =
-    omega (arith, e ∙ get_or_default costs n kept 0 (omega (arith, present_below nodes n own, h.cost_count)), h.cost_bound n, some_present nodes costs placed h)
-
 -- so is the cost through the node
 pub through-bound :
     (nodes : Nodes) (costs : List ℕ) (placed : PlacedPoints) (n : ℕ) (p : Point) → IsSound nodes costs placed → IsPresent (points_of nodes) n

@@ -50,7 +50,3 @@ module _ (state : TreeState) (fall : FallAlong state.cost state.points state.par
           → IsChildOf state from (slice_index child_of from) × LeadsDown state child_of (slice_index child_of from) to
       by_steps zero at_end = absurd (apart at_end)
       by_steps (suc steps) down = (down.0, (steps, down.1))
-
--- no step leads nowhere
-pub LeadsDown-none : (state : TreeState) (child_of : List ℕ) (n : ℕ) → LeadsDown state child_of n n
-LeadsDown-none state child_of n = (0, refl)

@@ -4,7 +4,6 @@ use Rattle.std.proofs.lemmas.Bool.{cases_eq}
 use Rattle.std.proofs.lemmas.List.Elements.{All-push, Contains-append_left, Contains-push}
 use Rattle.grown_runs.proofs.Common.{IsBounded, IsPresent, StandsAt, point_of, TreeState, Point, point_of-stands}
 use Rattle.point_strips.specs.declared.strips.Numbered.{Numbered}
-use Rattle.twin_trees.specs.BridgeSearches.{AreNodes}
 
 -- the numbered points are the nodes below a number
 pub record AreNodesBelow (state : TreeState) (nodes : List Numbered) (number : ℕ) : Type 0 where
@@ -44,7 +43,3 @@ module _ (state : TreeState) (nodes : List Numbered) (number : ℕ) (below : Are
           | inr other ↦ below.each n (omega (arith, l, other)) here
         ];
   }
-
-  -- the nodes below a number that is above all of them
-  pub AreNodes-below : ((n : ℕ) → IsPresent state.points n → n < number) → AreNodes state nodes
-  AreNodes-below all = record { stand = below.stand; each = λ n here. below.each n (all n here) here }

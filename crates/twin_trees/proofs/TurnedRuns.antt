@@ -11,10 +11,6 @@ module _ (scene turned : Scene) (h : IsTurnedRound scene turned) where
   pub space-turned : space_of turned ≡ space_of scene
   space-turned = ap space_of h.is
 
-  -- so do the marks
-  pub marks-turned : mark_points turned ≡ mark_points scene
-  marks-turned = ap mark_points h.is
-
   -- the second start is clear if the middle of the first goal is
   pub ClearAt-turned : ClearAt (space_of scene) (goal_middle scene) → ClearAt (space_of turned) turned.start
   ClearAt-turned clear =

@@ -19,7 +19,7 @@ use Rattle.grown_runs.specs.Table.WordNames.Word.{ChildOf}
 use Rattle.grown_runs.specs.Table.WordPlaces.{Sizes}
 use Rattle.grown_runs.specs.Runs.GrownWords.{has_placed, has_node, is_child_of, is_linked, IsLinked, record_at, state_by}
 use Rattle.grown_runs.specs.Runs.GrownWords.{child_of_word, children_of_words, points_of_words, state_of_words, sizes_of, HoldRun}
-use Rattle.grown_runs.specs.Runs.GrownWords.IsLinked.{start, below}
+use Rattle.grown_runs.specs.Runs.GrownWords.IsLinked.{below}
 use Rattle.grown_runs.proofs.Runs.GrownPoints.{has_node-present, present-within}
 
 -- ---- children
@@ -93,13 +93,6 @@ module _ (sizes : Sizes) (words : Words) where
   is_linked-linked few zero linked = is_linked-start sizes words
   is_linked-linked few (suc k) (below m j side linked e) =
       is_linked-child sizes words m (suc k) side (few m side (λ none. omega (arith, none, e))) (ap child_of_word e)
-
-  -- A node that is present by its link is linked, if none but linked ones has a child.
-  pub IsLinked-link : ((m : ℕ) (side : Bool) → words (ChildOf m side) ≢ 0 → IsLinked words m) → (n : ℕ) → is_linked sizes words n ≡ true → IsLinked words n
-  IsLinked-link above zero h = start
-  IsLinked-link above (suc k) h =
-      let own = in_child sizes words k h in
-      below own.node k own.side (above own.node own.side (λ none. let e = own.holds in omega (arith, none, e))) own.holds
 
 -- ---- in a closed run
 

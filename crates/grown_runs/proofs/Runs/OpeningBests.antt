@@ -5,12 +5,9 @@ use Rattle.std.specs.Prelude.{◌≢◌, cond}
 use Rattle.std.proofs.lemmas.Bool.{cases_eq, cases_lt}
 use Rattle.std.proofs.lemmas.Nat.{div-mul-add, mod-mul-add}
 use Rattle.plan_model.specs.Trees.BestNode.{IsGoalNode, is_goal_point}
-use Rattle.plan_model.specs.Trees.PointsByNumber.{AreNumberedTo, point_at}
+use Rattle.plan_model.specs.Trees.PointsByNumber.{point_at}
 use Rattle.plan_model.specs.Trees.TreeStates.{TreeState}
 use Rattle.plan_model.specs.declared.geometry.Goal.{Goal}
-use Rattle.plan_model.proofs.BestNodeLaws.{IsPresent-goal}
-use Rattle.plan_model.proofs.GoalNodes.{no_goal_node}
-use Rattle.grown_runs.specs.Runs.LeastBests.{IsLeastBest}
 use Rattle.grown_runs.specs.Table.Words.{best_cost_in, best_node_in, best_word, no_best}
 
 -- what holds of two numbers holds of the lesser
@@ -29,9 +26,6 @@ IsPairOf goals state word = word ≢ no_best → IsGoalNode goals state.points (
 pub record IsLeastBelow (goals : List Goal) (state : TreeState) (m word : ℕ) : Type 0 where
   pub pair : IsPairOf goals state word
   pub least : (n : ℕ) → n < m → IsGoalNode goals state.points n → word ≤ best_word (state.cost n) n
-
-pub IsLeastBelow-none : (goals : List Goal) (state : TreeState) → IsLeastBelow goals state 0 no_best
-IsLeastBelow-none goals state = record { pair = λ some_pair. absurd (some_pair refl); least = λ n low goal. absurd (omega (arith, low)) }
 
 -- one node more
 pub IsLeastBelow-more :
@@ -64,16 +58,3 @@ IsLeastBelow-more goals state m word next small so_far is = by_test (is_goal_poi
             | inr apart ↦ omega (arith, so_far.least n (omega (arith, low, apart)) own)
           ];
     }
-
--- at last those of all nodes
-pub IsLeastBest-all :
-    (goals : List Goal) (state : TreeState) (limit m word : ℕ) → AreNumberedTo limit state.points → limit < m → IsLeastBelow goals state m word
-    → IsLeastBest goals state word
-IsLeastBest-all goals state limit m word numbered all found = record {
-  pair = found.pair;
-  least = λ n goal. found.least n (omega (arith, numbered n (IsPresent-goal goals (point_at state.points n) goal), all)) goal;
-}
-
--- without goals there is none
-pub IsLeastBest-none : (state : TreeState) → IsLeastBest [] state no_best
-IsLeastBest-none state = record { pair = λ some_pair. absurd (some_pair refl); least = λ n goal. absurd (no_goal_node state.points n goal) }

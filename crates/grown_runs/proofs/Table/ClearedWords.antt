@@ -1,12 +1,11 @@
 -- Words of numbers without a node are cleared, one number after another: at last they are the words as they are cleared at once.
-use Rattle.std.proofs.Common.{◌≡◌, ℕ, zero, suc, ◌+◌, ◌<◌, Bool, true, false, List, arith, refl, sym, ap, ◌∙◌, subst, inl, inr}
+use Rattle.std.proofs.Common.{◌≡◌, ℕ, ◌+◌, ◌<◌, Bool, true, false, List, arith, refl, sym, ◌∙◌, subst, inl, inr}
 use Rattle.std.specs.Prelude.{if◌then◌else◌}
-use Rattle.std.proofs.lemmas.Bool.{cases_eq, cases_lt}
+use Rattle.std.proofs.lemmas.Bool.{cases_lt}
 use Rattle.grown_runs.specs.Table.WordNames.{Word, Words, WritesWord}
 use Rattle.grown_runs.specs.Table.WordNames.Word.{Count, Best, Counter, PointOf, ChildOf, TreeOf, FirstOf, RecordOf}
 use Rattle.grown_runs.specs.Table.WordPlaces.{Sizes, HasWord, word_at}
-use Rattle.grown_runs.specs.Table.Words.{record_of_word}
-use Rattle.grown_runs.specs.Runs.GrownWords.{has_placed, has_node, IsBlank, cleared}
+use Rattle.grown_runs.specs.Runs.GrownWords.{has_node, IsBlank, cleared}
 use Rattle.grown_runs.specs.Table.ClearedWords.{IsNodeWord, ClearsNode, ClearsNodes}
 use Rattle.grown_runs.proofs.Table.WordReads.{word_at-none}
 
@@ -25,73 +24,6 @@ module _ (n : ℕ) (before one two after : Words) (point : WritesWord (PointOf n
         ∙ tree.others name (λ e. other (subst (IsNodeWord (λ node. node ≡ n)) (sym e) refl))
         ∙ point.others name (λ e. other (subst (IsNodeWord (λ node. node ≡ n)) (sym e) refl));
   }
-
--- no number was looked at yet
-pub ClearsNodes-none : (words : Words) → ClearsNodes 1 words words
-ClearsNodes-none words = record { blank = blank; others = λ name other. refl }
-  where
-    blank : (n : ℕ) → n < 1 → has_node words n ≡ false → IsBlank words n
-    blank zero less none = cc
-    blank (suc k) less none = absurd (omega (arith, less))
-
-module _ (m : ℕ) (before mid : Words) (so_far : ClearsNodes m before mid) where
-  -- the words of the numbers from m on are as they were
-  pub point-later : mid (PointOf m) ≡ before (PointOf m)
-  point-later = so_far.others (PointOf m) (λ is. omega (arith, is.0))
-
-  pub first-later : mid (FirstOf m) ≡ before (FirstOf m)
-  first-later = so_far.others (FirstOf m) (λ is. omega (arith, is.0))
-
-  -- so it has a node if it had one
-  pub has_node-later : has_node mid m ≡ has_node before m
-  has_node-later = by_number m first-later
-    where
-      by_number : (n : ℕ) → mid (FirstOf n) ≡ before (FirstOf n) → has_node mid n ≡ has_node before n
-      by_number zero same = refl
-      by_number (suc k) same =
-          let own = so_far.others (RecordOf k) (λ h. h) in
-          ap has_placed (λ t. record_of_word (own t) (same t))
-
-  more_words : (name : Word) → IsNodeWord (λ node. (node < m) × (has_node before node ≡ false)) name
-      → IsNodeWord (λ node. (node < m + 1) × (has_node before node ≡ false)) name
-  more_words (PointOf n) is = (omega (arith, is.0), is.1)
-  more_words (TreeOf n) is = (omega (arith, is.0), is.1)
-  more_words (FirstOf n) is = (omega (arith, is.0), is.1)
-  more_words _ h = absurd h
-
-  -- a number with a node keeps its words
-  pub ClearsNodes-kept : has_node before m ≡ true → ClearsNodes (m + 1) before mid
-  ClearsNodes-kept here = record {
-    blank = λ n less none.
-        elim (cases_eq n m) [
-          | inl e ↦ (let gone = sym none ∙ ap (has_node before) e ∙ here in cc)
-          | inr apart ↦ so_far.blank n (omega (arith, less, apart)) none
-        ];
-    others = λ name other. so_far.others name (λ is. other (more_words name is));
-  }
-
-  -- one without is cleared
-  pub ClearsNodes-more : (after : Words) → has_node before m ≡ false → ClearsNode m mid after → ClearsNodes (m + 1) before after
-  ClearsNodes-more after absent clears = record {
-    blank = λ n less none.
-        elim (cases_eq n m) [
-          | inl e ↦ subst (IsBlank after) (sym e) clears.blank
-          | inr apart ↦ (
-              let was = so_far.blank n (omega (arith, less, apart)) none in
-              record {
-                point = clears.others (PointOf n) apart ∙ was.point;
-                tree = clears.others (TreeOf n) apart ∙ was.tree;
-                first = clears.others (FirstOf n) apart ∙ was.first;
-              })
-        ];
-    others = λ name other. clears.others name (λ is. other (own_word name is)) ∙ so_far.others name (λ is. other (more_words name is));
-  }
-    where
-      own_word : (name : Word) → IsNodeWord (λ node. node ≡ m) name → IsNodeWord (λ node. (node < m + 1) × (has_node before node ≡ false)) name
-      own_word (PointOf n) e = (omega (arith, e), ap (has_node before) e ∙ absent)
-      own_word (TreeOf n) e = (omega (arith, e), ap (has_node before) e ∙ absent)
-      own_word (FirstOf n) e = (omega (arith, e), ap (has_node before) e ∙ absent)
-      own_word _ h = absurd h
 
 -- a word that is kept if there is a node
 kept_if : (here : Bool) (word now : ℕ) → (here ≡ true → now ≡ word) → (here ≡ false → now ≡ 0) → now ≡ (if here then word else 0)

@@ -8,7 +8,7 @@ use Rattle.std.proofs.lemmas.Option.{slice_get-get_or, slice_get_within}
 use Rattle.plan_model.specs.declared.geometry.Point.{Point}
 use Rattle.report_judge.specs.Laws.FirstBreaks.{IsFirstBreak, KeepsHead, KeepsPoint}
 use Rattle.report_judge.specs.Texts.ReportLines.{Tally, ReportLine}
-use Rattle.report_judge.specs.Texts.ReportLines.ReportLine.{NoPath, PathOf, PathPoint, Counts}
+use Rattle.report_judge.specs.Texts.ReportLines.ReportLine.{PathOf, PathPoint, Counts}
 use Rattle.report_judge.specs.Texts.ReportSheets.{PricedPath, head_lines}
 
 -- the lines after that of the path
@@ -63,34 +63,6 @@ module _ (points own : List Point) (tally counts : Tally) (long : length own ≡
 
 -- ---- heads without a path
 
-pub tallies_alike : (tally counts : Tally) → tally ≡ counts → IsFirstBreak (KeepsHead None tally None counts) (length (head_lines None tally)) None
-tallies_alike tally counts same = λ k low. ap (λ (t : Tally). slice_get (head_lines None t) k) same
-
-pub tallies_unlike : (tally counts : Tally) → ¬ (tally ≡ counts)
-    → IsFirstBreak (KeepsHead None tally None counts) (length (head_lines None tally)) (Some 1)
-tallies_unlike tally counts other = (omega arith, λ k low. first k low, λ (e : Some (Counts tally) ≡ Some (Counts counts)). other (cc))
-  where
-    first : (k : ℕ) → k < 1 → KeepsHead None tally None counts k
-    first zero low = refl
-    first (suc k) low = absurd (omega (arith, low))
-
--- what a test of the counts finds
-pub tallies_found : (tally counts : Tally) (found : Option ℕ) → IfNone found (tally ≡ counts) → IfSome found (λ n. (n ≡ 1) × ¬ (tally ≡ counts))
-    → IsFirstBreak (KeepsHead None tally None counts) (length (head_lines None tally)) found
-tallies_found tally counts None same other = tallies_alike tally counts same
-tallies_found tally counts (Some n) same other =
-    subst (λ m. IsFirstBreak (KeepsHead None tally None counts) (length (head_lines None tally)) (Some m)) (sym other.0) (tallies_unlike tally counts other.1)
-
-pub path_missing : (own : PricedPath) (tally counts : Tally)
-    → IsFirstBreak (KeepsHead None tally (Some own) counts) (length (head_lines None tally)) (Some 0)
-path_missing own tally counts =
-    (omega arith, λ k low. absurd (omega (arith, low)), λ (e : Some NoPath ≡ Some (PathOf (length own.points) own.cost)). cc)
-
-pub path_needless : (path : PricedPath) (tally counts : Tally)
-    → IsFirstBreak (KeepsHead (Some path) tally None counts) (length (head_lines (Some path) tally)) (Some 0)
-path_needless path tally counts =
-    (omega arith, λ k low. absurd (omega (arith, low)), λ (e : Some (PathOf (length path.points) path.cost) ≡ Some NoPath). cc)
-
 -- ---- two paths
 
 module _ (path own : PricedPath) (tally counts : Tally) where
@@ -99,17 +71,6 @@ module _ (path own : PricedPath) (tally counts : Tally) where
 
   abbrev limit : ℕ
   limit = length (head_lines (Some path) tally)
-
-  -- paths of other lengths or costs differ at once
-  pub paths_unlike : ((length own.points ≡ length path.points) → (own.cost ≡ path.cost) → ⊥) → IsFirstBreak Keeps limit (Some 0)
-  paths_unlike other = (omega arith, λ k low. absurd (omega (arith, low)), by_line)
-    where
-      by_line : Keeps 0 → ⊥
-      by_line e =
-          let both : Some (PathOf (length path.points) path.cost) ≡ Some (PathOf (length own.points) own.cost) = e in
-          let points : length path.points ≡ length own.points = cc in
-          let cost : path.cost ≡ own.cost = cc in
-          other (sym points) (sym cost)
 
   module _ (long : length own.points ≡ length path.points) (dear : own.cost ≡ path.cost) where
     first_line : Keeps 0

@@ -51,17 +51,6 @@ module _ (knots : List (Option Knot)) (records : List Record) where
     cost = ap kept_cost_of e ∙ ap (λ (k : Knot). k.cost) same;
   }
 
-  -- and only then
-  pub start-KeepsNode : (setup : Setup) (knot : Knot) → slice_index_or knots 0 None ≡ Some knot → KeepsNode setup knots records 0
-      → knot ≡ record { point = setup.start; parent = 0; cost = 0 }
-  start-KeepsNode setup knot e kept =
-      let start = kept (present 0 knot e) in
-      let both : Some knot.point ≡ Some setup.start = sym (stands 0 knot e) ∙ start.stands in
-      let point : knot.point ≡ setup.start = cc in
-      let parent : knot.parent ≡ 0 = sym (parent_of-lists knots 0 knot e) ∙ start.parent in
-      let cost : knot.cost ≡ 0 = sym (ap kept_cost_of e) ∙ start.cost in
-      λ i. record { point = point i; parent = parent i; cost = cost i }
-
   -- ---- other nodes
 
   module _

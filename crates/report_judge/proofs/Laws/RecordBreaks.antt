@@ -43,9 +43,6 @@ module _ (task : Task) (knots : List (Option Knot)) (records : List Record) wher
   abbrev Between : ℕ → ℕ → ℕ → ℕ → Type 0
   Between worker from to = KeepsRecordBetween worker from to task knots records
 
-  pub IsFirstBreak-no_turn : (worker : ℕ) → IsFirstBreak (Between worker 0 0) (length records) None
-  IsFirstBreak-no_turn worker = λ k low entry is mine past before. absurd (omega (arith, before))
-
   -- a stretch more
   pub IsFirstBreak-stretch : (worker from to : ℕ) (first broken : Option ℕ) → from ≤ to → IsFirstBreak (Between worker 0 from) (length records) first
       → IsFirstBreak (Between worker from to) (length records) broken → IsFirstBreak (Between worker 0 to) (length records) (earlier_of first broken)

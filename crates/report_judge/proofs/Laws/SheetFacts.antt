@@ -1,6 +1,6 @@
 -- What the form of a sheet and the laws that it keeps say of its lists.
-use Rattle.std.proofs.Common.{◌≡◌, ℕ, zero, suc, ◌<◌, true, eqb, ltb, arith, List, [], length, Option, Some, None, refl, sym, ap, ◌∙◌, inl, inr, ◌≤◌, subst}
-use Rattle.std.specs.Prelude.{◌&&◌, IsSome, is_some, slice_get, slice_index_or}
+use Rattle.std.proofs.Common.{◌≡◌, ℕ, zero, suc, ◌<◌, true, eqb, ltb, arith, List, [], length, Option, Some, None, refl, sym, ◌∙◌, inl, inr, ◌≤◌, subst}
+use Rattle.std.specs.Prelude.{◌&&◌, slice_get, slice_index_or}
 use Rattle.std.proofs.lemmas.Bool.{and_parts, cases_order}
 use Rattle.std.proofs.lemmas.Option.{slice_get_within}
 use Rattle.grown_runs.proofs.Common.{MOST_MARKS, MOST_NODES, Record, Task, Knot, is_placed, is_earlier_record, Setup, setup_of, ClearAt, IsPresent, TreeState}
@@ -14,7 +14,6 @@ use Rattle.report_judge.specs.Texts.ReportLines.{Extent, extent_of}
 use Rattle.report_judge.specs.Texts.ReportSheets.{Sheet, HasForm, number_of_mark_line, number_of_node_line, state_of_sheet}
 use Rattle.report_judge.specs.Workers.SeenNodes.{HaveOwnTurns}
 use Rattle.report_judge.specs.Laws.SheetLaws.{HasOwnTurn, KeepsLaw, KeepsNodeLaw}
-use Rattle.report_judge.proofs.Laws.NodeBreaks.{listed}
 use Rattle.report_judge.proofs.Laws.SheetTrees.{IsSettled-sound, KeepsOrder-sound}
 
 -- ---- form
@@ -32,9 +31,6 @@ module _ (extent : Extent) (sheet : Sheet) (form : HasForm extent sheet) where
 
   pub first_costs : FitFirstCosts sheet.records
   first_costs = λ k entry is. (form.records_fit k entry is).words.cost
-
-  pub start_there : IsSome (slice_index_or sheet.knots 0 None)
-  start_there = let own = listed sheet.knots sheet.records 0 form.start in ap is_some own.at
 
 -- ---- nodes
 

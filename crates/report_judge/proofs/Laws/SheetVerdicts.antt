@@ -1,11 +1,10 @@
 -- The verdict on a sheet in form, by the first node, mark or line of the head that breaks a law.
-use Rattle.std.proofs.Common.{◌≡◌, ℕ, suc, ◌-◌, ◌<◌, ◌≤◌, List, [], length, Option, Some, None, arith, refl, sym, ap, length-append, ◌∙◌, subst, inl, inr}
+use Rattle.std.proofs.Common.{◌≡◌, ℕ, suc, ◌-◌, ◌<◌, ◌≤◌, List, [], length, Option, Some, None, arith, refl, ap, length-append, ◌∙◌, subst, inl, inr}
 use Rattle.std.specs.Prelude.{is_some, slice_get}
 use Rattle.std.proofs.lemmas.Bool.{both_ways, cases_Bool}
 use Rattle.grown_runs.proofs.Common.{Record, Task, Knot, outcome_count, is_placed, is_same, is_blocked, Setup, setup_of, ClearAt, space_of, best_node, goals_of}
 use Rattle.grown_runs.proofs.Common.{without_costs, IsPresent, node_count, point_at, present_below, state_of_lists}
 use Rattle.report_judge.specs.declared.verdicts.Verdict.TheVariants.{Lawful, Broken}
-use Rattle.report_judge.specs.declared.verdicts.Verdict.{Verdict}
 use Rattle.report_judge.specs.Laws.FirstBreaks.{IsFirstBreak, KeepsHead, KeepsNode, KeepsPresence, KeepsTurn}
 use Rattle.report_judge.specs.Laws.Judgements.{IsVerdict}
 use Rattle.report_judge.specs.Workers.JudgedRuns.{KeepsRecord}
@@ -184,11 +183,6 @@ pub tally-listed : (task : Task) (sheet : Sheet) → length sheet.records ≡ le
 tally-listed task sheet long tally nodes placed same blocked skipped =
     subst (λ m. tally ≡ tally_of task.scene m (state_of_sheet sheet)) long
     (λ i. record { nodes = nodes i; placed = placed i; same = same i; blocked = blocked i; skipped = skipped i })
-
--- a verdict on the bytes of a sheet is one on the bytes that it spells
-pub verdict_spelled : (task : Task) (report : List ℕ) (sheet : Sheet) (verdict : Verdict) → SpellsSheet (extent_of task) report sheet
-    → IsVerdict task (lines_text (lines_of_sheet sheet)) verdict → IsVerdict task report verdict
-verdict_spelled task report sheet verdict spelled h = subst (λ text. IsVerdict task text verdict) (sym spelled.text) h
 
 -- bytes that break the form
 pub broken_form : (task : Task) (report : List ℕ) (line : ℕ) → BreaksFormFirst (extent_of task) report line → IsVerdict task report (Broken line 1)

@@ -157,11 +157,6 @@ word_is-decimal (b ∷ bytes) n h unsigned value low =
           sym (decimal-positive (b ∷ bytes) positive few) ∙ ap decimal same)
     ]
 
--- a number has a byte
-pub is_number-some : (word : List ℕ) → is_number word ≡ true → 0 < length word
-is_number-some [] h = absurd (cc)
-is_number-some (b ∷ bytes) h = omega arith
-
 -- ---- numbers below a bound
 
 leb-from : (a b : ℕ) → a ≤ b → leb a b ≡ true

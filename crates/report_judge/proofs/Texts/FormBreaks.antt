@@ -84,14 +84,6 @@ module _ (extent : Extent) (report text : List ℕ) (count cost : ℕ) (is : rep
       by_line (NodeLine n knot) after stands fits e = omega (arith, stands.0, long, low)
       by_line (MarkLine k entry) after stands fits e = omega (arith, stands.0, come)
 
-  -- the lines of a path with all of its points
-  pub path_text : (points : List Point) (rest : List ℕ) → ReadsPoints count text points rest → length points ≡ count
-      → report ≡ lines_text (path_lines (Some (record { points = points; cost = cost }))) ++ rest
-  path_text points rest read all =
-      is ∙ ap (λ r. line_text (PathOf count cost) ++ r) read.text
-      ∙ sym (append_assoc (line_text (PathOf count cost)) (lines_text (map PathPoint points)) rest)
-      ∙ ap (λ n. (line_text (PathOf n cost) ++ lines_text (map PathPoint points)) ++ rest) (sym all)
-
 -- ---- the counts
 
 -- a text without counts breaks the form after its path

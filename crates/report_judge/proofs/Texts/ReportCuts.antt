@@ -5,10 +5,10 @@ use Rattle.std.specs.Prelude.{All}
 use Rattle.std.specs.List.{position_or_len}
 use Rattle.std.proofs.lemmas.Bool.{eqb-true, not-false}
 use Rattle.std.proofs.lemmas.List.Sums.{prefix_len_stops}
-use Rattle.std.proofs.lemmas.List.Elements.{All-nil, All-push}
+use Rattle.std.proofs.lemmas.List.Elements.{All-push}
 use Rattle.std.proofs.Math.Seq.{take-append_seam}
 use Rattle.plan_model.specs.Texts.SceneBatches.{text_of}
-use Rattle.report_judge.specs.Texts.ReportCuts.{HasNoReportLine, IsCutAtReport, IsOtherLine, has_no_feed, report_line}
+use Rattle.report_judge.specs.Texts.ReportCuts.{IsCutAtReport, IsOtherLine, has_no_feed, report_line}
 
 -- ---- the first line
 
@@ -39,9 +39,6 @@ pub record IsWalked (text rest : List ℕ) : Type 0 where
   pub split : text ≡ text_of lines ++ rest
   pub others : All IsOtherLine lines
 
-pub IsWalked-none : (text : List ℕ) → IsWalked text text
-IsWalked-none text = record { lines = []; split = refl; others = All-nil IsOtherLine }
-
 text_of-push : (lines : List (List ℕ)) (line : List ℕ) → text_of (lines ++ line ∷ []) ≡ text_of lines ++ (line ++ 10 ∷ [])
 text_of-push [] line = refl
 text_of-push (first ∷ lines) line =
@@ -57,9 +54,6 @@ IsWalked-more text rest line after walked split other = record {
 }
 
 module _ (text rest : List ℕ) (walked : IsWalked text rest) where
-  pub rest_short : length rest ≤ length text
-  rest_short = omega (arith, ap length walked.split, length-append (text_of walked.lines) rest)
-
   front : take (length text - length rest) text ≡ text_of walked.lines
   front =
       let long : length text - length rest ≡ length (text_of walked.lines) =
@@ -86,13 +80,4 @@ module _ (text rest : List ℕ) (walked : IsWalked text rest) where
     others = walked.others;
     cut = inr
         (refl, walked.split ∙ ap (λ more. text_of walked.lines ++ more) same ∙ ap (λ scene. scene ++ report_line) (sym front));
-  }
-
-  pub HasNoReportLine-end : IsOtherLine rest → HasNoReportLine text
-  HasNoReportLine-end other = record {
-    lines = walked.lines;
-    last = rest;
-    split = walked.split;
-    others = walked.others;
-    end = other;
   }

@@ -1,5 +1,5 @@
 -- The number of each line of a sheet is at most that of the bytes.
-use Rattle.std.proofs.Common.{◌≡◌, ℕ, suc, ◌+◌, ◌<◌, ◌≤◌, true, cond, List, [], ◌∷◌, ◌++◌, length, take, Option, Some, None}
+use Rattle.std.proofs.Common.{◌≡◌, ℕ, ◌+◌, ◌<◌, ◌≤◌, true, cond, List, [], ◌∷◌, ◌++◌, length, take, Option, Some, None}
 use Rattle.std.proofs.Common.{arith, sym, ap, ◌∙◌, append_assoc, length-append}
 use Rattle.std.specs.Prelude.{is_some, count_by, slice_index_or}
 use Rattle.std.specs.List.{join_with_byte}
@@ -51,9 +51,6 @@ module _ (extent : Extent) (report : List ℕ) (sheet : Sheet) (spelled : Spells
 
   pub mark_line_low : (k : ℕ) → k < length sheet.records → number_of_mark_line sheet k ≤ length report
   mark_line_low k low = omega (arith, low, total, few)
-
-  pub head_line_low : (i : ℕ) → i < length (head_lines sheet.path sheet.tally) → suc i ≤ length report
-  head_line_low i low = omega (arith, low, total, few)
 
   pub head_few : length (head_lines sheet.path sheet.tally) ≤ length report
   head_few = omega (arith, total, few)

@@ -1,10 +1,10 @@
 -- The marks of a worker by its turns, one mark after another.
-use Rattle.std.proofs.Common.{◌≡◌, ℕ, ◌+◌, ◌<◌, List, length, replicate, set, Option, Some, None, arith}
+use Rattle.std.proofs.Common.{◌≡◌, ℕ, ◌+◌, ◌<◌, List, length, set, Option, Some, None, arith}
 use Rattle.std.proofs.Common.{sym, ap, ◌∙◌, subst, inl, inr}
 use Rattle.std.specs.Prelude.{IfSome, slice_get, slice_index_or}
 use Rattle.std.proofs.lemmas.Bool.{cases_eq, cases_lt}
 use Rattle.std.proofs.lemmas.Grind.{get_or-set_at}
-use Rattle.std.proofs.lemmas.List.{get_or-replicate, get_or-set_other}
+use Rattle.std.proofs.lemmas.List.{get_or-set_other}
 use Rattle.std.proofs.lemmas.Option.{slice_get_within}
 use Rattle.plan_model.specs.declared.records.Record.{Record}
 use Rattle.report_judge.specs.Workers.SeenNodes.{IsTurnOf, IsMarkOfTurn}
@@ -18,13 +18,6 @@ module _ (records : List Record) (worker : ℕ) where
   -- the same of a list by turns
   abbrev pub IsMarkBelow : ℕ → ℕ → List (Option ℕ) → Type 0
   IsMarkBelow turn limit order = IsMarkAmong turn limit (slice_index_or order turn None)
-
-  abbrev no_mark : Option ℕ
-  no_mark = None
-
-  pub IsMarkBelow-none : (turns turn : ℕ) → turn < turns → IsMarkBelow turn 0 (replicate turns None)
-  IsMarkBelow-none turns turn low =
-      subst (IsMarkAmong turn 0) (sym (get_or-replicate turns turn no_mark None low)) (λ k entry less is of_turn. omega (arith, less))
 
   module _ (limit : ℕ) (own : Record) (at : slice_get records limit ≡ Some own) where
     -- a mark that is not of the turn leaves what was found

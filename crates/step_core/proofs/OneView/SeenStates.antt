@@ -1,9 +1,9 @@
 -- The tree in the words that a lawful view sees: its nodes are the linked ones, at the points at which they are seen.
-use Rattle.std.proofs.Common.{◌≡◌, ℕ, zero, suc, ◌+◌, ◌≤◌, Bool, true, false, map, length, None, refl, sym, ap, ◌∙◌, inl, inr, arith}
+use Rattle.std.proofs.Common.{◌≡◌, ℕ, ◌+◌, ◌≤◌, Bool, true, false, map, length, None, refl, sym, ap, ◌∙◌, inl, inr, arith}
 use Rattle.std.specs.Prelude.{is_some, if◌then◌else◌}
 use Rattle.std.specs.List.{range_with_len}
 use Rattle.std.proofs.lemmas.Bool.{cases_Bool, cases_lt}
-use Rattle.grown_runs.proofs.Common.{child_of_word, is_linked, seen_point, PointOf, Sizes, point_of_word, none_some, in_child, is_linked-child, word_at-none}
+use Rattle.grown_runs.proofs.Common.{is_linked, seen_point, PointOf, Sizes, point_of_word, none_some, is_linked-child, word_at-none}
 use Rattle.step_core.specs.LaterViews.{IsLawfulView}
 use Rattle.step_core.specs.SharedWords.{linked_point, linked_points}
 use Rattle.step_core.specs.ViewTrees.{SeesNode}
@@ -14,13 +14,6 @@ use Rattle.step_core.proofs.Seen.SeenWords.{point_at-seen}
 module _ (view : View) (lawful : IsLawfulView view) where
   abbrev sizes : Sizes
   sizes = run_sizes view.run
-
-  -- a linked node is seen
-  pub seen_linked : (n : ℕ) → is_linked sizes (sees view) n ≡ true → SeesNode view n
-  seen_linked zero linked = inl refl
-  seen_linked (suc k) linked =
-      let place = in_child sizes (sees view) k linked in
-      inr (place.node, place.side, ap child_of_word place.holds)
 
   -- and a seen one linked
   pub linked_seen : (n : ℕ) → SeesNode view n → is_linked sizes (sees view) n ≡ true

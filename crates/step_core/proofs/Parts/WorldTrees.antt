@@ -1,7 +1,7 @@
 -- The part of the law of worlds on the order law of the linked nodes, after each kind of step.
 use Rattle.std.proofs.Common.{◌≡◌, ◌≢◌, ℕ, suc, ◌<◌, ◌≤◌, ◌^◌, true, false, List, Some, refl, sym, ap, ◌∙◌, subst, inl, inr, arith}
 use Rattle.std.proofs.lemmas.Bool.{cases_eq}
-use Rattle.grown_runs.proofs.Common.{IsBounded, Hangs, most_cost_of, IsPresent, StandsAt, node_count, point_at, point_of, GrowsInto, TreeState, first_cost_of}
+use Rattle.grown_runs.proofs.Common.{IsBounded, Hangs, most_cost_of, IsPresent, node_count, point_at, point_of, GrowsInto, TreeState, first_cost_of}
 use Rattle.grown_runs.proofs.Common.{EndsBelow, goes_right, Point, AddsNode, KeepsFirstCosts-adds, KeepsOrder-adds, KeepsFirstCosts-lowered, KeepsOrder-lowered}
 use Rattle.grown_runs.proofs.Common.{LowersCosts, LowersCosts-rewires, StandsStill, EndsBelow-free, IsPointWord, IsTreeWord, IsWritten, children_of_words}
 use Rattle.grown_runs.proofs.Common.{is_linked, AreBehind, Words, WritesWord, ChildOf, FirstOf, PointOf, TreeOf, Sizes, cost_in, parent_in, point_of_word}
@@ -173,9 +173,6 @@ module _ (run : SharedRun) (before after : Words) (views later : List View) (num
       within = omega (arith, tree_then, within);
       first_cost = first_cost-new ∙ sym tree_then;
     }
-
-    pub stands-then : StandsAt now.points (suc k) p
-    stands-then = adds.stands
 
     pub Trees-linked : Trees run after
     Trees-linked = record {

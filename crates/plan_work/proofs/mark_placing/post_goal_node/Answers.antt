@@ -13,7 +13,7 @@ post-requires-clause-may c =
     let mark = c.requires.placed.2 in
     let at = c.requires.placed.3 in
     let node = ap suc mark in
-    let lies = ap (λ (r : SharedRun). lies_in_goals r.goals c.args.p) c.requires.belongs.run ∙ sym c.skips_by.ensures ∙ c.if-skips_by.true in
+    let lies = ap (λ (r : SharedRun). lies_in_goals r.goals c.args.p) c.requires.belongs.run ∙ sym c.has_goal_at.ensures ∙ c.if-has_goal_at.true in
     let one : suc c.args.k ≡ c.args.k + 1 = omega arith in
     subst (MayPost before) one
     record {
@@ -23,13 +23,13 @@ post-requires-clause-may c =
       written = subst (λ n. 2 ^ 63 ≤ sees before (TreeOf n)) node (omega (arith, placed.pair));
     }
 
-pub returns-then-skips_by-clause-belongs : goal.returns-then-skips_by-clause-belongs
-returns-then-skips_by-clause-belongs c =
+pub returns-then-has_goal_at-clause-belongs : goal.returns-then-has_goal_at-clause-belongs
+returns-then-has_goal_at-clause-belongs c =
     BelongsTo-later c.args.shared.now c.args.pass.now c.post.new.pass (ap (λ (q : PassState). q.table) c.post.ensures.view) c.post.ensures.goes_on
     c.requires.belongs
 
-pub returns-then-skips_by-clause-in_goal : goal.returns-then-skips_by-clause-in_goal
-returns-then-skips_by-clause-in_goal c = λ lies.
+pub returns-then-has_goal_at-clause-in_goal : goal.returns-then-has_goal_at-clause-in_goal
+returns-then-has_goal_at-clause-in_goal c = λ lies.
     let before = c.args.pass.now in
     let after = c.post.new.pass in
     let one : c.args.k + 1 ≡ suc c.args.k = omega arith in
@@ -38,12 +38,12 @@ returns-then-skips_by-clause-in_goal c = λ lies.
     × (after.view.best ≤ best_word (cost_in (sees before.view (TreeOf n))) n))
     one (c.post.ensures.view, c.post.ensures.posted)
 
-pub returns-then-skips_by-clause-elsewhere : goal.returns-then-skips_by-clause-elsewhere
-returns-then-skips_by-clause-elsewhere c = λ no.
-    let lies = ap (λ (r : SharedRun). lies_in_goals r.goals c.args.p) c.requires.belongs.run ∙ sym c.skips_by.ensures ∙ c.if-skips_by.true in
+pub returns-then-has_goal_at-clause-elsewhere : goal.returns-then-has_goal_at-clause-elsewhere
+returns-then-has_goal_at-clause-elsewhere c = λ no.
+    let lies = ap (λ (r : SharedRun). lies_in_goals r.goals c.args.p) c.requires.belongs.run ∙ sym c.has_goal_at.ensures ∙ c.if-has_goal_at.true in
     absurd (let clash = sym no ∙ lies in cc)
 
-pub returns-else-skips_by-clause-in_goal : goal.returns-else-skips_by-clause-in_goal
-returns-else-skips_by-clause-in_goal c = λ lies.
-    let no = ap (λ (r : SharedRun). lies_in_goals r.goals c.args.p) c.requires.belongs.run ∙ sym c.skips_by.ensures ∙ c.if-skips_by.false in
+pub returns-else-has_goal_at-clause-in_goal : goal.returns-else-has_goal_at-clause-in_goal
+returns-else-has_goal_at-clause-in_goal c = λ lies.
+    let no = ap (λ (r : SharedRun). lies_in_goals r.goals c.args.p) c.requires.belongs.run ∙ sym c.has_goal_at.ensures ∙ c.if-has_goal_at.false in
     absurd (let clash = sym lies ∙ no in cc)

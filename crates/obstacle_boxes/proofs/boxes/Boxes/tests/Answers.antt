@@ -20,8 +20,8 @@ returns-then-not-is_in_room-clause-clear g c = (
       ],
 )
 
-pub crosses_no_leaf-requires-clause-leaves : goal.crosses_no_leaf-requires-clause-leaves
-crosses_no_leaf-requires-clause-leaves g c =
+pub is_clear_of_leaves-requires-clause-leaves : goal.is_clear_of_leaves-requires-clause-leaves
+is_clear_of_leaves-requires-clause-leaves g c =
     rw c.as_slice.ensures.value (leaves-among c.self.inside.hall c.self.inside.nodes.items c.zones.result.now c.self.invariant c.zones.ensures)
 
 pub returns-clause-clear : goal.returns-clause-clear
@@ -35,22 +35,22 @@ returns-clause-clear g c =
     rw (← c.self.view_is) (
       λ t. clear_of space zones a b c.zones.ensures first last
           (CrossesNone-leaves space c.self.inside.nodes.items zones a b c.self.invariant c.zones.ensures
-          (rw c.as_slice.ensures.value at (c.crosses_no_leaf.ensures.missed t))),
-      λ clear. true_unless c.crosses_no_leaf.result
-          (λ no. not_none zones a b (c.crosses_no_leaf.ensures.crossed no) (CrossesNone-clear space zones a b c.zones.ensures clear)),
+          (rw c.as_slice.ensures.value at (c.is_clear_of_leaves.ensures.missed t))),
+      λ clear. true_unless c.is_clear_of_leaves.result
+          (λ no. not_none zones a b (c.is_clear_of_leaves.ensures.crossed no) (CrossesNone-clear space zones a b c.zones.ensures clear)),
     )
 
 pub returns-clause-few : goal.returns-clause-few
 returns-clause-few g c =
     rw (← c.self.view_is) (λ boxes are.
     rw (leaves_met-near c.self.inside.hall c.self.inside.nodes.items boxes c.args.a c.args.b c.self.invariant are) at
-    (rw c.as_slice.ensures.value at c.crosses_no_leaf.ensures.few))
+    (rw c.as_slice.ensures.value at c.is_clear_of_leaves.ensures.few))
 
 pub returns-clause-all : goal.returns-clause-all
 returns-clause-all g c =
     rw (← c.self.view_is) (λ t boxes are.
     rw (leaves_met-near c.self.inside.hall c.self.inside.nodes.items boxes c.args.a c.args.b c.self.invariant are) at
-    (rw c.as_slice.ensures.value at (c.crosses_no_leaf.ensures.all t)))
+    (rw c.as_slice.ensures.value at (c.is_clear_of_leaves.ensures.all t)))
 
-pub crosses_no_leaf-requires-clause-tree : goal.crosses_no_leaf-requires-clause-tree
-crosses_no_leaf-requires-clause-tree g c = rw c.as_slice.ensures.value c.self.invariant.tree
+pub is_clear_of_leaves-requires-clause-tree : goal.is_clear_of_leaves-requires-clause-tree
+is_clear_of_leaves-requires-clause-tree g c = rw c.as_slice.ensures.value c.self.invariant.tree

@@ -6,7 +6,7 @@ use Rattle.plan_words.proofs.KeptPairs.{fits_word}
 use Rattle.plan_words.proofs.Posting.{goal-at}
 use Rattle.plan_words.proofs.SeatSteps.{LooksOn-trans}
 use Rattle.plan_words.proofs.shared.Shared.exchange_at.Goals as goal
-use Rattle.plan_words.proofs.shared.Shared.exchange_at.Goals.{After-skips_by}
+use Rattle.plan_words.proofs.shared.Shared.exchange_at.Goals.{After-has_goal_at}
 use Rattle.step_core.proofs.Common.{sees, SeesPoint-later}
 use Rattle.step_core.specs.declared.views.SharedRun.{SharedRun}
 
@@ -23,7 +23,7 @@ post_at-requires-clause-may c =
       goal =
           goal-at mid c.args.node c.args.point
           (SeesPoint-later before mid done.looks.goes_on.later.run done.looks.goes_on.later.seen c.args.node c.args.point c.requires.stands)
-          (ap (λ (r : SharedRun). lies_in_goals r.goals c.args.point) done.sits.run ∙ sym c.skips_by.ensures ∙ c.if-skips_by.true);
+          (ap (λ (r : SharedRun). lies_in_goals r.goals c.args.point) done.sits.run ∙ sym c.has_goal_at.ensures ∙ c.if-has_goal_at.true);
       written = omega (arith, here);
     }
 
@@ -38,6 +38,6 @@ post_at-requires-clause-cost c =
     ∙ ap (λ b. cond b (tree_word c.args.parent c.args.cost) c.lower_at-found.result) (eq-eqb c.lower_at-found.result c.args.seen c.if-found-seen.true) in
     sym (ap cost_in here ∙ cost_in-tree_word c.args.parent c.args.cost fits.0 fits.1)
 
-pub returns-then-skips_by-clause-looks : goal.returns-then-skips_by-clause-looks
-returns-then-skips_by-clause-looks c =
+pub returns-then-has_goal_at-clause-looks : goal.returns-then-has_goal_at-clause-looks
+returns-then-has_goal_at-clause-looks c =
     LooksOn-trans c.args.seat.now.me.0 c.lower_at-found.new.seat.me.0 c.post_at.new.seat.me.0 c.lower_at-found.ensures.looks c.post_at.ensures.looks

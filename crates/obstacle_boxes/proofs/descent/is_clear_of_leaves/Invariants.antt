@@ -1,5 +1,5 @@
 use Rattle.obstacle_boxes.specs.Searches.{AreApartBelow, HasSearched}
-use Rattle.obstacle_boxes.proofs.descent.crosses_no_leaf.Given as goal
+use Rattle.obstacle_boxes.proofs.descent.is_clear_of_leaves.Given as goal
 
 abbrev pub invariant-loop-low : goal.invariant-loop-low
 invariant-loop-low g l =

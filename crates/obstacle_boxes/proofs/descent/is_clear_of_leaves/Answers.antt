@@ -4,9 +4,9 @@ use Rattle.swept_check.specs.Crossings.{Crosses}
 use Rattle.obstacle_boxes.specs.Searches.{HasSearched}
 use Rattle.obstacle_boxes.proofs.Descents.{AreApartBelow-over, HasSearched-all, HasSearched-into, HasSearched-over, HasSearched-past, HasSearched-tested}
 use Rattle.obstacle_boxes.proofs.Descents.{leaf-among, tested-within}
-use Rattle.obstacle_boxes.proofs.descent.crosses_no_leaf.Goals as goal
-use Rattle.obstacle_boxes.proofs.descent.crosses_no_leaf.Goals.{then-first-low+then-not-meets, else-first-low}
-use Rattle.obstacle_boxes.proofs.descent.crosses_no_leaf.Goals.{else-meets-2-via-then-meets-2+else-crosses, else-meets-2-via-else-meets-2}
+use Rattle.obstacle_boxes.proofs.descent.is_clear_of_leaves.Goals as goal
+use Rattle.obstacle_boxes.proofs.descent.is_clear_of_leaves.Goals.{then-first-low+then-not-meets, else-first-low}
+use Rattle.obstacle_boxes.proofs.descent.is_clear_of_leaves.Goals.{else-meets-2-via-then-meets-2+else-crosses, else-meets-2-via-else-meets-2}
 
 pub loop-low-preserved-then-meets : goal.loop-low-preserved-then-meets
 loop-low-preserved-then-meets g c =
