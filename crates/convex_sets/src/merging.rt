@@ -24,13 +24,13 @@ pub(crate) fn merged(alloc: Global, a: &[Vertex], b: &[Vertex]) -> Result<Vec<Ve
             x: a[reached.0].x + b[reached.1].x,
             y: a[reached.0].y + b[reached.1].y,
         })?;
-        reached = step(a, b, reached.0, reached.1);
+        reached = merge_step(a, b, reached.0, reached.1);
     }
     Ok(corners)
 }
 
 /// The corners after the edge that comes next in order of angle. Two parallel edges are one edge of the sum.
-fn step(a: &[Vertex], b: &[Vertex], i: usize, j: usize) -> (usize, usize)
+fn merge_step(a: &[Vertex], b: &[Vertex], i: usize, j: usize) -> (usize, usize)
     requires first { i < length a.now }
     requires second { j < length b.now }
     requires more { (i + 1 < length a.now) ⊎ (j + 1 < length b.now) }

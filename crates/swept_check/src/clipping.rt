@@ -32,14 +32,14 @@ impl Part {
             (true, true) => Some(self),
             (false, false) => None,
             (false, true) => {
-                let entry = Fraction::share(from.unsigned_abs(), to.unsigned_abs());
+                let entry = Fraction::of_parts(from.unsigned_abs(), to.unsigned_abs());
                 Some(Part {
                     entry: self.entry.max(entry),
                     exit: self.exit,
                 })
             }
             (true, false) => {
-                let exit = Fraction::share(from.unsigned_abs(), to.unsigned_abs());
+                let exit = Fraction::of_parts(from.unsigned_abs(), to.unsigned_abs());
                 Some(Part {
                     entry: self.entry,
                     exit: self.exit.min(exit),

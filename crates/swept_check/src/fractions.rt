@@ -37,7 +37,7 @@ impl Fraction {
     }
 
     /// The fraction `part / (part + rest)`.
-    pub(crate) fn share(part: u64, rest: u64) -> Fraction
+    pub(crate) fn of_parts(part: u64, rest: u64) -> Fraction
         requires some { 0 < part + rest }
         requires few { part + rest < 2 ^ 64 }
         ensures numerator { result.numerator ≡ part }

@@ -29,8 +29,8 @@ overflow_add-a-in-loop-reached c =
     let g = bounded_corner (corner_at b c.loop-reached.reached.1) (bounded_at b c.loop-reached.reached.1 c.requires.second_bounded at.within_b) in
     omega (arith, ints)
 
-pub step-reached-requires-clause-more : goal.step-reached-requires-clause-more
-step-reached-requires-clause-more c =
+pub merge_step-reached-requires-clause-more : goal.merge_step-reached-requires-clause-more
+merge_step-reached-requires-clause-more c =
     elim c.if-reached-a.branch [ then-reached-a w ↦ inl w.if-reached-a.true | else-reached-a+then-reached-b w ↦ inr w.if-reached-b.true ]
 
 pub loop-reached-preserved : goal.loop-reached-preserved
@@ -43,8 +43,8 @@ loop-reached-preserved c =
     let items = c.in_ok-push.ensures.items in
     let i = c.loop-reached.reached.0 in
     let j = c.loop-reached.reached.1 in
-    IsMergedTo-step a b c.loop-reached.corners.items c.push.new.self.items i j c.step-reached.result.0 c.step-reached.result.1 c.loop-reached.invariant
-    c.requires.first c.requires.second c.step-reached.ensures
+    IsMergedTo-step a b c.loop-reached.corners.items c.push.new.self.items i j c.merge_step-reached.result.0
+    c.merge_step-reached.result.1 c.loop-reached.invariant c.requires.first c.requires.second c.merge_step-reached.ensures
     (pushed_is c.loop-reached.corners.items c.push.new.self.items _ _ items (omega (arith, ints)) (omega (arith, ints)))
 
 pub returns : goal.returns
@@ -59,5 +59,5 @@ returns c =
 pub loop-reached-smaller : goal.loop-reached-smaller
 loop-reached-smaller c =
     let at = c.loop-reached.invariant.at in
-    IsMergeStep-goes_on c.args.a.now c.args.b.now c.loop-reached.reached.0 c.loop-reached.reached.1 c.step-reached.result.0 c.step-reached.result.1
-    c.step-reached.ensures at.within_a at.within_b
+    IsMergeStep-goes_on c.args.a.now c.args.b.now c.loop-reached.reached.0 c.loop-reached.reached.1 c.merge_step-reached.result.0 c.merge_step-reached.result.1
+    c.merge_step-reached.ensures at.within_a at.within_b

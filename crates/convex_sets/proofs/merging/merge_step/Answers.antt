@@ -6,7 +6,7 @@ use Rattle.plan_model.specs.Geometry.Convexity.{corner_at}
 use Rattle.convex_sets.specs.Edges.{cross, from_to}
 use Rattle.convex_sets.specs.Outlines.{edge_at}
 use Rattle.convex_sets.proofs.Crosses.{cross_opposite}
-use Rattle.convex_sets.proofs.merging.step.Goals as goal
+use Rattle.convex_sets.proofs.merging.merge_step.Goals as goal
 
 edge_is : (a : List Vertex) (i : ℕ) (p : Vertex) → p ≡ from_to (corner_at a i) (corner_at a (i + 1)) → p ≡ edge_at a i
 edge_is a i p e = let n : i + 1 ≡ suc i = omega arith in rw n at e
