@@ -8,7 +8,7 @@ ghost use Rattle.plan_model.specs.Trees.TreeStates.{IsSettled};
 ghost use Rattle.path_tools.specs.SmoothedReports.{IsSmoothedReport, ReportsSmoothed};
 ghost use Rattle.grown_runs.specs.Runs.GrownRuns.{state_of_grown};
 
-use crate::smoothing::cheapest_way;
+use crate::smoothing::cheapest_path;
 use grown_runs::Grown;
 use plan_model::Memory;
 use settle_report::{path_to, report_along, report_by_best};
@@ -51,6 +51,6 @@ fn report_along_smoothed<C: Clearing>(
     ensures { IfOk result (λ text. ReportsSmoothed grown.now.task.scene grown.now.limit (state_of_grown grown.now) node text.items) }
 {
     let path = path_to(alloc, grown, node)?;
-    let way = cheapest_way(alloc, hall, &path)?;
-    report_along(alloc, grown, &way.points, way.cost)
+    let cheapest = cheapest_path(alloc, hall, &path)?;
+    report_along(alloc, grown, &cheapest.points, cheapest.cost)
 }

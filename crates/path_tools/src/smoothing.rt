@@ -30,13 +30,13 @@ pub fn smooth<C: Clearing>(alloc: Global, hall: &C, path: &Points) -> Result<Poi
     requires clear { IsClearPath (C.space hall.now) path.now }
     ensures { IfOk result (IsSmoothed (C.space hall.now) path.now) }
 {
-    let way = cheapest_way(alloc, hall, path.as_slice())?;
-    Ok(Points::from_vec(way.points))
+    let cheapest = cheapest_path(alloc, hall, path.as_slice())?;
+    Ok(Points::from_vec(cheapest.points))
 }
 
 /// A path with its cost.
 #[derive(Drop)]
-pub(crate) struct Way {
+pub(crate) struct CostedPath {
     /// Its points, in order.
     pub points: Vec<Point>,
     /// What it costs, in 256ths of a lattice step.
@@ -44,15 +44,15 @@ pub(crate) struct Way {
 }
 
 /// The smoothed path, with its cost.
-pub(crate) fn cheapest_way<C: Clearing>(
+pub(crate) fn cheapest_path<C: Clearing>(
     alloc: Global,
     hall: &C,
     path: &[Point],
-) -> Result<Way, Memory>
+) -> Result<CostedPath, Memory>
     requires some { 0 < length path.now }
     requires clear { IsClearPath (C.space hall.now) path.now }
-    ensures smoothed { IfOk result (λ way. IsSmoothed (C.space hall.now) path.now way.points.items) }
-    ensures cost { IfOk result (λ way. way.cost ≡ length_of_path way.points.items) }
+    ensures smoothed { IfOk result (λ kept. IsSmoothed (C.space hall.now) path.now kept.points.items) }
+    ensures cost { IfOk result (λ kept. kept.cost ≡ length_of_path kept.points.items) }
 {
     let rests = least_rests(alloc, hall, path)?;
     let last = path.len() - 1;
@@ -63,7 +63,7 @@ pub(crate) fn cheapest_way<C: Clearing>(
         points.push(path[at])?;
     }
     let cost = rests[0].cost;
-    Ok(Way { points, cost })
+    Ok(CostedPath { points, cost })
 }
 
 /// The least rest from each position of a path, from its end to its front.

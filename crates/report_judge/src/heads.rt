@@ -3,23 +3,23 @@
 ghost use Rattle.std.specs.Prelude.{◌≡◌, ◌<◌, ◌^◌, IfNone, IfSome, Some, length};
 ghost use Rattle.report_judge.specs.Laws.FirstBreaks.{IsFirstBreak, KeepsHead, KeepsPoint};
 ghost use Rattle.report_judge.specs.Texts.ReportSheets.{head_lines};
-ghost use Rattle.report_judge.specs.Texts.SheetsRead.{path_of_way};
+ghost use Rattle.report_judge.specs.Texts.SheetsRead.{priced_path};
 
+use crate::costed_paths::CostedPath;
 use crate::tallies::Tally;
-use crate::ways::Way;
 use plan_model::Point;
 
 /// The first line of the path and the counts that is not that of the own path and the own counts at its place, from 0; `None` exactly if
 /// there is none. O(n) for n points.
 pub(crate) fn first_wrong_head_line(
-    path: &Option<Way>,
+    path: &Option<CostedPath>,
     tally: Tally,
-    own_path: &Option<Way>,
+    own_path: &Option<CostedPath>,
     own_tally: Tally,
 ) -> Option<usize>
-    requires few { length (head_lines (path_of_way path.now) tally) < 2 ^ 32 }
-    ensures { IsFirstBreak (KeepsHead (path_of_way path.now) tally (path_of_way own_path.now) own_tally)
-        (length (head_lines (path_of_way path.now) tally)) result }
+    requires few { length (head_lines (priced_path path.now) tally) < 2 ^ 32 }
+    ensures { IsFirstBreak (KeepsHead (priced_path path.now) tally (priced_path own_path.now) own_tally)
+        (length (head_lines (priced_path path.now) tally)) result }
 {
     match (path, own_path) {
         (Some(path), Some(own)) => first_wrong_line(path, tally, own, own_tally),
@@ -29,10 +29,15 @@ pub(crate) fn first_wrong_head_line(
 }
 
 /// The same of two paths.
-fn first_wrong_line(path: &Way, tally: Tally, own: &Way, own_tally: Tally) -> Option<usize>
+fn first_wrong_line(
+    path: &CostedPath,
+    tally: Tally,
+    own: &CostedPath,
+    own_tally: Tally,
+) -> Option<usize>
     requires few { length path.now.points.items < 2 ^ 32 }
-    ensures { IsFirstBreak (KeepsHead (path_of_way (Some path.now)) tally (path_of_way (Some own.now)) own_tally)
-        (length (head_lines (path_of_way (Some path.now)) tally)) result }
+    ensures { IsFirstBreak (KeepsHead (priced_path (Some path.now)) tally (priced_path (Some own.now)) own_tally)
+        (length (head_lines (priced_path (Some path.now)) tally)) result }
 {
     if path.points.len() != own.points.len() || path.cost != own.cost {
         return Some(0);

@@ -3,6 +3,7 @@
 //! [`check`] says whether bytes are the report of a lawful run, or else the least law that is broken, and the first line that breaks it.
 #![tactic(auto)]
 
+mod costed_paths;
 mod first_breaks;
 mod heads;
 mod marks;
@@ -15,7 +16,6 @@ pub mod report_laws;
 mod tallies;
 mod trees;
 mod verdicts;
-mod ways;
 
 pub use report_cuts::cut_at_report;
 pub use verdicts::{Verdict, check, check_with};

@@ -17,7 +17,7 @@ use crate::marks::presence::first_unlike;
 use crate::marks::turns::first_wrong_turn;
 use crate::reading::sheets::{SheetRead, path_line_count, read_sheet};
 use crate::tallies::counted;
-use crate::trees::best_paths::best_way;
+use crate::trees::best_paths::best_path;
 use crate::trees::nodes::first_unsound;
 use obstacle_boxes::Boxes;
 use plan_model::{Memory, Task};
@@ -212,10 +212,10 @@ fn head_verdict(alloc: Global, task: &Task, sheet: &SheetRead) -> Result<Verdict
     requires lawful { KeepsLaw task.now (sheet_read sheet.now) 5 }
     ensures { IfOk result (IsVerdict task.now (bytes_of (sheet_read sheet.now))) }
 {
-    let way = best_way(alloc, task.scene.goals.as_slice(), &sheet.knots)?;
+    let path = best_path(alloc, task.scene.goals.as_slice(), &sheet.knots)?;
     let nodes = present_count(&sheet.knots);
     let tally = counted(task.scene.informed, nodes, &sheet.records);
-    match first_wrong_head_line(&sheet.path, sheet.tally, &way, tally) {
+    match first_wrong_head_line(&sheet.path, sheet.tally, &path, tally) {
         Some(line) => Ok(broken(line + 1, HEAD)),
         None => Ok(Verdict::Lawful),
     }

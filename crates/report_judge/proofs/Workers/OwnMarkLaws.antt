@@ -8,8 +8,8 @@ use Rattle.std.proofs.lemmas.List.{get_or_append_left, get_or_default, get_or_pu
 use Rattle.std.proofs.lemmas.List.Elements.{All-push}
 use Rattle.std.proofs.lemmas.List.Sorted.{All-permutation, Contains-permutation}
 use Rattle.grown_runs.proofs.Common.{Point, Record}
-use Rattle.point_strips.specs.Walks.{nowhere, numbered_at}
-use Rattle.point_strips.specs.declared.strips.Numbered.{Numbered}
+use Rattle.point_bands.specs.Walks.{nowhere, numbered_at}
+use Rattle.point_bands.specs.declared.bands.Numbered.{Numbered}
 use Rattle.report_judge.specs.Laws.FirstBreaks.{IsFirstBreak}
 use Rattle.report_judge.specs.Workers.OwnMarks.{AreMarksBetween, HasNumber, IsFirstSeen, IsMarkBetween}
 use Rattle.report_judge.specs.Workers.SeenNodes.{HaveOwnTurns, IsMarkOfTurn}

@@ -11,10 +11,10 @@ use Rattle.std.proofs.lemmas.List.Sorted.{All-permutation, Contains-permutation}
 use Rattle.grown_runs.proofs.Common.{ConfigurationSpace, Point, Record, Knot, IsBounded, cost_of, squared_distance, is_placed, IsEarlier, Clear, distance_to}
 use Rattle.grown_runs.proofs.Common.{is_within, StandsAt, point_at, point_of, TreeState, first_cost_of, same-from_distance, StandsAt-present, point_of-stands}
 use Rattle.grown_runs.proofs.Common.{state_of_lists}
-use Rattle.point_strips.specs.Discs.{IsWithin}
-use Rattle.point_strips.specs.Walks.{numbered_at, nowhere, HasNoneBetween, IsRunAfter}
-use Rattle.point_strips.specs.declared.strips.Numbered.{Numbered}
-use Rattle.point_strips.specs.declared.strips.Run.{Run}
+use Rattle.point_bands.specs.Discs.{IsWithin}
+use Rattle.point_bands.specs.Walks.{numbered_at, nowhere, HasNoneBetween, IsStretchAfter}
+use Rattle.point_bands.specs.declared.bands.Numbered.{Numbered}
+use Rattle.point_bands.specs.declared.bands.Stretch.{Stretch}
 use Rattle.report_judge.specs.Workers.OwnNodes.{AreNodesBefore, ArePresent, HasNo, HasOne, IsPassedOverAt, IsNearerAt, IsNodeBefore, IsPlacedAt, IsPlacedMarkAt}
 use Rattle.report_judge.specs.Workers.OwnNodes.{IsUnlawfulAt}
 use Rattle.report_judge.specs.Workers.OwnNodes.{IsNearestOfEarlier, IsTaken, KeepsNear}
@@ -238,17 +238,17 @@ AreNodesBefore-sorted state worker turn nodes sorted h same = record {
       Contains-permutation nodes sorted (record { point = p; number = place_of state.record_of n }) same (h.each n p before here);
 }
 
--- ---- walks by runs
+-- ---- walks by stretches
 
 module _ (Such : Numbered → Type 0) (center : Point) (square : ℕ) (within : (m : Numbered) → Such m → IsWithin center square m.point)
     (nodes : List Numbered) where
-  pub HasNo-on : (at : ℕ) (run : Run) → HasNo Such nodes 0 at → IsRunAfter center square nodes at run → HasNo Such nodes run.start run.end
-      → HasNo Such nodes 0 run.end
-  HasNo-on at run before next inside = λ j from below such.
+  pub HasNo-on : (at : ℕ) (stretch : Stretch) → HasNo Such nodes 0 at → IsStretchAfter center square nodes at stretch
+      → HasNo Such nodes stretch.start stretch.end → HasNo Such nodes 0 stretch.end
+  HasNo-on at stretch before next inside = λ j from below such.
       elim (cases_lt j at) [
         | inl passed ↦ before j from passed such
         | inr past ↦
-            elim (cases_lt j run.start) [
+            elim (cases_lt j stretch.start) [
               | inl skipped ↦ next.skipped j past skipped (within (numbered_at nodes j) such)
               | inr reached ↦ inside j reached below such
             ]
@@ -261,9 +261,9 @@ module _ (Such : Numbered → Type 0) (center : Point) (square : ℕ) (within : 
         | inr past ↦ none j past below (within (numbered_at nodes j) such)
       ]
 
-  pub HasOne-on : (at : ℕ) (run : Run) → IsRunAfter center square nodes at run → HasOne Such nodes run.start run.end
+  pub HasOne-on : (at : ℕ) (stretch : Stretch) → IsStretchAfter center square nodes at stretch → HasOne Such nodes stretch.start stretch.end
       → HasOne Such nodes 0 (length nodes)
-  HasOne-on at run next one = record {
+  HasOne-on at stretch next one = record {
     position = one.position;
     past = omega arith;
     before = omega (arith, one.before, next.inside);

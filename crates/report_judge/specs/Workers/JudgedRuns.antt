@@ -20,7 +20,7 @@ use Rattle.edge_cost.specs.declared.radii.Radii.{Radii}
 use Rattle.grown_runs.specs.Runs.PackedRuns.{state_of_lists}
 use Rattle.report_judge.specs.declared.marks.judged.Judged.{Judged}
 use Rattle.report_judge.specs.declared.marks.judged.Listed.{Listed}
-use Rattle.report_judge.specs.declared.own.own_runs.OwnRun.{OwnRun}
+use Rattle.report_judge.specs.declared.own.own_histories.OwnHistory.{OwnHistory}
 use Rattle.report_judge.specs.declared.own.seen_nodes.Seen.{Seen}
 use Rattle.report_judge.specs.Workers.SeenNodes.{AreSeen, AreTurnsOf, HaveOwnTurns}
 use Rattle.report_judge.specs.Laws.ExactEdges.{FitsEdges}
@@ -62,7 +62,7 @@ pub record IsAsked (space : ConfigurationSpace) (judged : Judged) (entry : Recor
   pub bounded : IsBounded p
 
 -- What is kept of a worker with so many turns: its marks by turn, what it has seen before each turn, and the standings of its nodes.
-pub record IsOwnRun (goals : List Goal) (knots : List (Option Knot)) (records : List Record) (worker turns : ℕ) (own : OwnRun) : Type 0 where
+pub record IsOwnHistory (goals : List Goal) (knots : List (Option Knot)) (records : List Record) (worker turns : ℕ) (own : OwnHistory) : Type 0 where
   pub worker_is : own.turns.worker ≡ worker
   pub long : length own.turns.marks.items ≡ turns
   pub marks : AreTurnsOf records own.turns

@@ -1,8 +1,8 @@
 -- The marks of a worker between two of its turns, and the first of them that breaks a law.
 use Rattle.std.specs.Prelude.{◌≡◌, ℕ, ◌<◌, ◌≤◌, All, Option, Some, None, List, length, slice_get}
 use Rattle.plan_model.specs.declared.records.Record.{Record}
-use Rattle.point_strips.specs.Walks.{numbered_at}
-use Rattle.point_strips.specs.declared.strips.Numbered.{Numbered}
+use Rattle.point_bands.specs.Walks.{numbered_at}
+use Rattle.point_bands.specs.declared.bands.Numbered.{Numbered}
 
 -- mark k was handled by the worker in a turn from one up to another, and without that
 pub record IsMarkBetween (records : List Record) (own from to k : ℕ) : Type 0 where

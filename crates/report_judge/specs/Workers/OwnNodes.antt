@@ -15,8 +15,8 @@ use Rattle.plan_model.specs.Trees.LeastPairs.{IsNotAbove}
 use Rattle.plan_model.specs.Trees.Nearness.{distance_to, is_within}
 use Rattle.plan_model.specs.Trees.PointsByNumber.{StandsAt, IsPresent, point_at, point_of}
 use Rattle.plan_model.specs.Trees.TreeStates.{TreeState}
-use Rattle.point_strips.specs.Walks.{numbered_at}
-use Rattle.point_strips.specs.declared.strips.Numbered.{Numbered}
+use Rattle.point_bands.specs.Walks.{numbered_at}
+use Rattle.point_bands.specs.declared.bands.Numbered.{Numbered}
 use Rattle.grown_runs.specs.Runs.PackedRuns.{state_of_lists}
 use Rattle.report_judge.specs.Workers.SeenNodes.{is_before}
 use Rattle.report_judge.specs.Workers.Standings.{place_of, standing_at}

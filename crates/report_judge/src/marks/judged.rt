@@ -3,7 +3,7 @@
 use crate::own::standings::Standing;
 use edge_cost::Radii;
 use plan_model::{Knot, Point, Record, Task};
-use point_strips::Strips;
+use point_bands::Bands;
 
 /// The nodes and the records of a report of a task.
 #[derive(Clone, Copy)]
@@ -32,7 +32,7 @@ pub(crate) struct Judged<'a> {
     /// The turn.
     pub turns: u32,
     /// The nodes of the worker before it, each by its place; the start is among them.
-    pub own: &'a Strips,
+    pub own: &'a Bands,
     /// The standings of the worker's nodes, by place.
     pub standings: &'a [Standing],
     /// How many nodes there are.

@@ -27,7 +27,7 @@ use plan_model::{Outcome, Point, Record, Scene};
 use swept_check::Clearing;
 
 /// Whether the record of a mark keeps the law of records. `seen` is what stood before its turn. O(k + s log n) on average besides segments,
-/// for k nodes near the mark or near its node, of n nodes of its worker in s strips.
+/// for k nodes near the mark or near its node, of n nodes of its worker in s bands.
 pub(crate) fn is_lawful<C: Clearing>(
     hall: &C,
     judged: &Judged<'_>,

@@ -11,7 +11,7 @@ ghost use Rattle.plan_model.specs.declared.trees.Knot.{Knot};
 ghost use Rattle.grown_runs.specs.Runs.PackedRuns.{state_of_lists};
 ghost use Rattle.report_judge.specs.Laws.ExactEdges.{FitsEdges};
 ghost use Rattle.report_judge.specs.Laws.FirstBreaks.{HasFewTurns, IsFirstBreak};
-ghost use Rattle.report_judge.specs.Workers.JudgedRuns.{AreListed, AreRadiiOf, HaveLowTurns, IsJudged, IsOwnRun};
+ghost use Rattle.report_judge.specs.Workers.JudgedRuns.{AreListed, AreRadiiOf, HaveLowTurns, IsJudged, IsOwnHistory};
 ghost use Rattle.report_judge.specs.Workers.JudgedRuns.{KeepsRecord, KeepsRecordBetween, KeepsRecordOf};
 ghost use Rattle.report_judge.specs.Workers.OwnMarks.{HasNumber, IsFirstSeen, IsMarkBetween};
 ghost use Rattle.report_judge.specs.Workers.OwnNodes.{ArePresent, FitFirstCosts};
@@ -21,12 +21,12 @@ use crate::first_breaks::earlier;
 use crate::marks::judged::{Judged, Listed, Marked};
 use crate::marks::lawful_marks::is_lawful;
 use crate::marks::turns::{WORKERS, marks_by_worker};
+use crate::own::own_histories::{OwnHistory, own_history};
 use crate::own::own_marks::marks_between;
 use crate::own::own_nodes::nodes_before;
-use crate::own::own_runs::{OwnRun, own_run};
 use edge_cost::Radii;
 use plan_model::{Goal, Knot, Memory, Record, Scene, Task};
-use point_strips::Strips;
+use point_bands::Bands;
 use std::alloc::Global;
 use swept_check::Clearing;
 
@@ -108,7 +108,7 @@ fn first_unlawful_of<C: Clearing>(
         return Ok(None);
     }
     let goals = skipping_goals(&listed.task.scene);
-    let own = own_run(alloc, goals, listed.knots, listed.records, worker, turns)?;
+    let own = own_history(alloc, goals, listed.knots, listed.records, worker, turns)?;
     let mut first = None;
     let mut from = 0;
     while from < turns {
@@ -147,13 +147,13 @@ fn first_unlawful_between<C: Clearing>(
     alloc: Global,
     hall: &C,
     listed: &Listed<'_>,
-    own: &OwnRun,
+    own: &OwnHistory,
     from: u32,
     to: u32,
 ) -> Result<Option<usize>, Memory>
     requires hall { C.space hall.now ≡ space_of listed.now.task.now.scene }
     requires listed { AreListed listed.now }
-    requires own { IsOwnRun (skipping_goals listed.now.task.now.scene) listed.now.knots.now listed.now.records.now own.now.turns.worker
+    requires own { IsOwnHistory (skipping_goals listed.now.task.now.scene) listed.now.knots.now listed.now.records.now own.now.turns.worker
         (length own.now.turns.marks.items) own.now }
     requires onward { from ≤ to }
     requires to { to ≤ length own.now.turns.marks.items }
@@ -181,15 +181,15 @@ fn first_unlawful_between<C: Clearing>(
 fn first_unlawful_among<C: Clearing>(
     hall: &C,
     judged: &Judged<'_>,
-    own: &OwnRun,
-    marks: &Strips,
+    own: &OwnHistory,
+    marks: &Bands,
 ) -> Option<usize>
     requires hall { C.space hall.now ≡ space_of judged.now.task.now.scene }
     requires few { length judged.now.records.now ≤ MOST_MARKS }
     requires marks { length judged.now.records.now ≡ length judged.now.task.now.marks }
     requires judged { IsJudged own.now.turns.worker judged.now }
     requires radii { AreRadiiOf judged.now.task.now.scene judged.now.radii.now }
-    requires own { IsOwnRun (skipping_goals judged.now.task.now.scene) judged.now.knots.now judged.now.records.now own.now.turns.worker
+    requires own { IsOwnHistory (skipping_goals judged.now.task.now.scene) judged.now.knots.now judged.now.records.now own.now.turns.worker
         (length own.now.turns.marks.items) own.now }
     requires turns { judged.now.turns ≤ length own.now.turns.marks.items }
     requires among { (k : ℕ) → HasNumber marks.now k → IsMarkBetween judged.now.records.now own.now.turns.worker 0 judged.now.turns k }
@@ -208,13 +208,13 @@ fn first_unlawful_among<C: Clearing>(
 }
 
 /// Whether a mark of the worker keeps the law of records.
-fn keeps_law<C: Clearing>(hall: &C, judged: &Judged<'_>, own: &OwnRun, k: u32) -> bool
+fn keeps_law<C: Clearing>(hall: &C, judged: &Judged<'_>, own: &OwnHistory, k: u32) -> bool
     requires hall { C.space hall.now ≡ space_of judged.now.task.now.scene }
     requires few { length judged.now.records.now ≤ MOST_MARKS }
     requires marks { length judged.now.records.now ≡ length judged.now.task.now.marks }
     requires judged { IsJudged own.now.turns.worker judged.now }
     requires radii { AreRadiiOf judged.now.task.now.scene judged.now.radii.now }
-    requires own { IsOwnRun (skipping_goals judged.now.task.now.scene) judged.now.knots.now judged.now.records.now own.now.turns.worker
+    requires own { IsOwnHistory (skipping_goals judged.now.task.now.scene) judged.now.knots.now judged.now.records.now own.now.turns.worker
         (length own.now.turns.marks.items) own.now }
     requires turns { judged.now.turns ≤ length own.now.turns.marks.items }
     requires between { IsMarkBetween judged.now.records.now own.now.turns.worker 0 judged.now.turns k }

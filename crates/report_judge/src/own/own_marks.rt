@@ -7,7 +7,7 @@ ghost use Rattle.report_judge.specs.Workers.SeenNodes.{AreTurnsOf, HaveOwnTurns}
 
 use crate::own::own_turns::OwnTurns;
 use plan_model::{Memory, Record, Task};
-use point_strips::{Numbered, Strips};
+use point_bands::{Bands, Numbered};
 use std::alloc::Global;
 
 /// The marks that a worker handled in its turns from one up to another, and without that, each by its number. O(n log n) for n turns.
@@ -22,7 +22,7 @@ pub(crate) fn marks_between(
     turns: &OwnTurns,
     from: u32,
     to: u32,
-) -> Result<Strips, Memory>
+) -> Result<Bands, Memory>
     requires few { length records.now ≤ MOST_MARKS }
     requires marks { length records.now ≡ length task.now.marks }
     requires turns { AreTurnsOf records.now turns.now }
@@ -39,5 +39,5 @@ pub(crate) fn marks_between(
             marks.push(Numbered { point, number })?;
         }
     }
-    Ok(Strips::new(marks))
+    Ok(Bands::new(marks))
 }

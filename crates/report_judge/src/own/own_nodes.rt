@@ -12,7 +12,7 @@ use crate::marks::presence::is_placed;
 use crate::own::own_turns::OwnTurns;
 use crate::trees::exact_edges::knot_at;
 use plan_model::{Knot, Memory, Point, Record};
-use point_strips::{Numbered, Strips};
+use point_bands::{Bands, Numbered};
 use std::alloc::Global;
 
 /// The nodes of a worker that stood before a turn, each numbered by its place: the start by 0, and the node that was placed in a turn by
@@ -27,7 +27,7 @@ pub(crate) fn nodes_before(
     records: &[Record],
     turns: &OwnTurns,
     limit: u32,
-) -> Result<Strips, Memory>
+) -> Result<Bands, Memory>
     requires few { length records.now ≤ MOST_MARKS }
     requires fit { (n : ℕ) (other : Knot) → slice_index_or knots.now n None ≡ Some other → FitsEdges other }
     requires turns { AreTurnsOf records.now turns.now }
@@ -48,7 +48,7 @@ pub(crate) fn nodes_before(
             nodes.push(Numbered { point, number })?;
         }
     }
-    Ok(Strips::new(nodes))
+    Ok(Bands::new(nodes))
 }
 
 /// Where the node of a mark stands, if there is a mark that was placed.

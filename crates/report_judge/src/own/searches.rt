@@ -5,8 +5,8 @@ ghost use Rattle.plan_model.specs.Geometry.Bounds.{IsBounded};
 ghost use Rattle.plan_model.specs.Runs.RecordLaw.{IsEarlier};
 ghost use Rattle.plan_model.specs.Trees.Nearness.{distance_to};
 ghost use Rattle.plan_model.specs.Trees.PointsByNumber.{IsPresent, StandsAt};
-ghost use Rattle.point_strips.specs.Discs.{IsWithin};
-ghost use Rattle.point_strips.specs.declared.strips.Numbered.{Numbered};
+ghost use Rattle.point_bands.specs.Discs.{IsWithin};
+ghost use Rattle.point_bands.specs.declared.bands.Numbered.{Numbered};
 ghost use Rattle.report_judge.specs.Workers.JudgedRuns.{IsJudged, run_of};
 ghost use Rattle.report_judge.specs.Workers.OwnNodes.{HasNo, HasOne, IsCheaperAt};
 ghost use Rattle.report_judge.specs.Workers.OwnNodes.{IsNearestOfEarlier, IsTaken, KeepsNear};
@@ -16,7 +16,7 @@ use crate::own::standings::Standing;
 use crate::trees::exact_edges::knot_at;
 use edge_cost::costs_less_through;
 use plan_model::{Point, Record};
-use point_strips::{Disc, Numbered, Run};
+use point_bands::{Disc, Numbered, Stretch};
 use swept_check::Clearing;
 
 /// A search among the nodes of a worker.
@@ -24,7 +24,7 @@ trait Search: Copy {
     ghost use Rattle.std.specs.Prelude.{List};
     ghost use Rattle.plan_model.specs.declared.configuration_spaces.ConfigurationSpace.{ConfigurationSpace};
     ghost use Rattle.report_judge.specs.declared.own.standings.Standing.{Standing};
-    ghost use Rattle.point_strips.specs.declared.strips.Numbered.{Numbered};
+    ghost use Rattle.point_bands.specs.declared.bands.Numbered.{Numbered};
 
     /// What it asks of the standings of the nodes.
     ghost may_look: { Self → List Standing → Type 0 };
@@ -66,7 +66,7 @@ struct NeighbourSearch {
 }
 
 /// Whether no node that stood already is nearer to a mark than the nearest of its record, or as near with a lesser number. O(k + s log n)
-/// on average for k of the worker's n nodes within the distance to the nearest, in s strips.
+/// on average for k of the worker's n nodes within the distance to the nearest, in s bands.
 pub(crate) fn is_nearest<C: Clearing>(
     hall: &C,
     judged: &Judged<'_>,
@@ -102,7 +102,7 @@ fn nearest_distance(judged: &Judged<'_>, entry: Record, mark: Point) -> u64
     }
 }
 
-/// Whether a node that stood already stands at a point. O(s log n) for n nodes of the worker in s strips.
+/// Whether a node that stood already stands at a point. O(s log n) for n nodes of the worker in s bands.
 pub(crate) fn is_taken<C: Clearing>(hall: &C, judged: &Judged<'_>, entry: Record, p: Point) -> bool
     requires bounded { IsBounded p }
     requires judged { IsJudged entry.worker judged.now }
@@ -122,7 +122,7 @@ pub(crate) fn is_taken<C: Clearing>(hall: &C, judged: &Judged<'_>, entry: Record
 /// Whether no node that stood already is nearer to a mark than the nearest of its record, or as near with a lesser number, and none within
 /// a radius of a new node at `p`, with a clear segment to it, was a cheaper parent or is dearer than by way of the new node. If the new node
 /// stands at the mark, and the nearest within the radius, one search answers both. O(k + s log n) on average for k of the worker's n nodes
-/// within the distance or the radius, in s strips; a segment is tested only from a node by whose costs it matters.
+/// within the distance or the radius, in s bands; a segment is tested only from a node by whose costs it matters.
 pub(crate) fn is_nearest_and_keeps_near<C: Clearing>(
     hall: &C,
     judged: &Judged<'_>,
@@ -219,23 +219,28 @@ fn has_one<C: Clearing, S: Search>(hall: &C, judged: &Judged<'_>, search: S, dis
     ensures none { IsFalse result → HasNo (S.finds search (C.space hall.now) judged.now.standings.now) judged.now.own.now 0 (length judged.now.own.now) }
 {
     let mut at = 0;
-    'walk: while let Some(run) = judged.own.next_run(at, disc) {
-        if has_one_in(hall, judged, search, run) {
+    'walk: while let Some(stretch) = judged.own.next_stretch(at, disc) {
+        if has_one_in(hall, judged, search, stretch) {
             return true;
         }
-        at = run.end;
+        at = stretch.end;
     }
     false
 }
 
-/// Whether it finds one in a run.
-fn has_one_in<C: Clearing, S: Search>(hall: &C, judged: &Judged<'_>, search: S, run: Run) -> bool
+/// Whether it finds one in a stretch.
+fn has_one_in<C: Clearing, S: Search>(
+    hall: &C,
+    judged: &Judged<'_>,
+    search: S,
+    stretch: Stretch,
+) -> bool
     requires may { S.may_look search judged.now.standings.now }
-    requires inside { run.end ≤ length judged.now.own.now }
-    ensures some { IsTrue result → HasOne (S.finds search (C.space hall.now) judged.now.standings.now) judged.now.own.now run.start run.end }
-    ensures none { IsFalse result → HasNo (S.finds search (C.space hall.now) judged.now.standings.now) judged.now.own.now run.start run.end }
+    requires inside { stretch.end ≤ length judged.now.own.now }
+    ensures some { IsTrue result → HasOne (S.finds search (C.space hall.now) judged.now.standings.now) judged.now.own.now stretch.start stretch.end }
+    ensures none { IsFalse result → HasNo (S.finds search (C.space hall.now) judged.now.standings.now) judged.now.own.now stretch.start stretch.end }
 {
-    for position in run.start..run.end {
+    for position in stretch.start..stretch.end {
         if search.has(hall, judged.standings, judged.own.at(position)) {
             return true;
         }

@@ -5,13 +5,13 @@ ghost use Rattle.plan_model.specs.declared.limits.TheConstants.{MOST_MARKS};
 ghost use Rattle.report_judge.specs.Texts.ReportForms.{BreaksFormFirst};
 ghost use Rattle.report_judge.specs.Texts.ReportLines.{Extent, lines_text};
 ghost use Rattle.report_judge.specs.Texts.ReportSheets.{FitsOptionalPath, SpellsSheet, path_lines};
-ghost use Rattle.report_judge.specs.Texts.SheetsRead.{path_of_way, sheet_read};
+ghost use Rattle.report_judge.specs.Texts.SheetsRead.{priced_path, sheet_read};
 
+use crate::costed_paths::CostedPath;
 use crate::reading::count_readers::read_counts;
 use crate::reading::front_lines::{read_nodes, read_points, read_records};
 use crate::reading::line_readers::{read_no_path, read_path};
 use crate::tallies::Tally;
-use crate::ways::Way;
 use plan_model::{Knot, Memory, Record};
 use std::alloc::Global;
 
@@ -19,7 +19,7 @@ use std::alloc::Global;
 #[derive(Drop)]
 pub(crate) struct SheetRead {
     /// The path with its cost, if there is one.
-    pub path: Option<Way>,
+    pub path: Option<CostedPath>,
     /// The counts.
     pub tally: Tally,
     /// The nodes by number.
@@ -75,10 +75,10 @@ pub(crate) fn read_sheet(
 fn read_path_lines(
     alloc: Global,
     report: &[u8],
-) -> Result<Result<(Option<Way>, &[u8]), usize>, Memory>
+) -> Result<Result<(Option<CostedPath>, &[u8]), usize>, Memory>
     requires short { length report.now < 2 ^ 32 }
-    ensures fits { IfOk result (λ form. IfOk form (λ read. FitsOptionalPath (path_of_way read.0))) }
-    ensures text { IfOk result (λ form. IfOk form (λ read. report.now ≡ lines_text (path_lines (path_of_way read.0)) ++ read.1.now)) }
+    ensures fits { IfOk result (λ form. IfOk form (λ read. FitsOptionalPath (priced_path read.0))) }
+    ensures text { IfOk result (λ form. IfOk form (λ read. report.now ≡ lines_text (path_lines (priced_path read.0)) ++ read.1.now)) }
     ensures broken { IfOk result (λ form. IfErr form (λ line. (extent : Extent) → BreaksFormFirst extent report.now line)) }
 {
     if let Some(rest) = read_no_path(report) {
@@ -91,15 +91,15 @@ fn read_path_lines(
     if (points.len() as u64) < count {
         return Ok(Err(points.len() + 2));
     }
-    Ok(Ok((Some(Way { points, cost }), rest)))
+    Ok(Ok((Some(CostedPath { points, cost }), rest)))
 }
 
 /// How many lines a report has of its path. O(1).
-pub(crate) fn path_line_count(path: &Option<Way>) -> usize
-    ensures { result ≡ length (path_lines (path_of_way path.now)) }
+pub(crate) fn path_line_count(path: &Option<CostedPath>) -> usize
+    ensures { result ≡ length (path_lines (priced_path path.now)) }
 {
     match path {
-        Some(way) => way.points.len() + 1,
+        Some(path) => path.points.len() + 1,
         None => 1,
     }
 }

@@ -10,11 +10,11 @@ ghost use Rattle.plan_model.specs.Trees.TreeStates.{IsSettled, chain_in, sum_in}
 ghost use Rattle.plan_model.specs.declared.limits.TheConstants.{MOST_NODES};
 ghost use Rattle.grown_runs.specs.Runs.PackedRuns.{kept_cost_of, state_of_lists};
 ghost use Rattle.report_judge.specs.Laws.SheetLaws.{path_by};
-ghost use Rattle.report_judge.specs.Texts.SheetsRead.{path_of_way};
+ghost use Rattle.report_judge.specs.Texts.SheetsRead.{priced_path};
 ghost use Rattle.report_judge.specs.Laws.ListedTrees.{IsSettledList};
 
+use crate::costed_paths::CostedPath;
 use crate::trees::exact_edges::knot_at;
-use crate::ways::Way;
 use grown_runs::lies_in_goals;
 use plan_model::{Goal, Knot, Memory, Point};
 use std::alloc::Global;
@@ -25,22 +25,22 @@ use std::alloc::Global;
 /// # Errors
 ///
 /// `Memory` if out of memory for the points.
-pub(crate) fn best_way(
+pub(crate) fn best_path(
     alloc: Global,
     goals: &[Goal],
     knots: &[Option<Knot>],
-) -> Result<Option<Way>, Memory>
+) -> Result<Option<CostedPath>, Memory>
     requires some { 0 < length knots.now }
     requires few { length knots.now ≤ MOST_NODES }
     requires settled { IsSettledList knots.now }
-    ensures { IfOk result (λ way. path_of_way way
+    ensures { IfOk result (λ path. priced_path path
         ≡ path_by (state_of_lists knots.now []) (best_node goals.now (length knots.now - 1) (state_of_lists knots.now []))) }
 {
     match best(goals, knots) {
         Some(node) => {
             let points = path_to(alloc, knots, node)?;
             let cost = kept_cost(knots, node);
-            Ok(Some(Way { points, cost }))
+            Ok(Some(CostedPath { points, cost }))
         }
         None => Ok(None),
     }

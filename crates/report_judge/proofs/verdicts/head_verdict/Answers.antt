@@ -6,20 +6,20 @@ use Rattle.report_judge.specs.Laws.ListedTrees.{IsSettledList}
 use Rattle.report_judge.specs.Texts.ReportLines.{extent_of}
 use Rattle.report_judge.specs.Laws.SheetLaws.{best_priced_path, path_by, tally_of}
 use Rattle.report_judge.specs.Texts.ReportSheets.{HasForm, head_lines, Sheet, state_of_sheet}
-use Rattle.report_judge.specs.Texts.SheetsRead.{path_of_way, sheet_read}
+use Rattle.report_judge.specs.Texts.SheetsRead.{priced_path, sheet_read}
 use Rattle.report_judge.proofs.Laws.SheetFacts.{few_knots, few_records, settled_of_law}
 use Rattle.report_judge.proofs.Texts.SheetLines.{head_few}
 use Rattle.report_judge.proofs.Laws.SheetVerdicts.{best_path-listed, broken_head, lawful_sheet, tally-listed}
 use Rattle.report_judge.proofs.verdicts.head_verdict.Goals as goal
 use Rattle.report_judge.proofs.verdicts.head_verdict.Goals.{After-first_wrong_head_line}
 
-pub best_way-requires-clause-few : goal.best_way-requires-clause-few
-best_way-requires-clause-few c =
+pub best_path-requires-clause-few : goal.best_path-requires-clause-few
+best_path-requires-clause-few c =
     subst (λ (ks : List (Option Knot)). length ks ≤ MOST_NODES) (sym c.deref.ensures.value)
     (few_knots c.args.task.now (sheet_read c.args.sheet.now) c.requires.form)
 
-pub best_way-requires-clause-settled : goal.best_way-requires-clause-settled
-best_way-requires-clause-settled c =
+pub best_path-requires-clause-settled : goal.best_path-requires-clause-settled
+best_path-requires-clause-settled c =
     subst IsSettledList (sym c.deref.ensures.value)
     (settled_of_law c.args.task.now (sheet_read c.args.sheet.now) c.requires.form c.requires.start c.requires.nodes)
 
@@ -50,16 +50,16 @@ broken-requires c =
 
 -- the path and the counts are the run's
 own_path : (c : After-first_wrong_head_line)
-    → path_of_way c.in_ok-way.way ≡ best_priced_path c.args.task.now.scene (length c.args.task.now.marks) (state_of_sheet (sheet_read c.args.sheet.now))
+    → priced_path c.in_ok-path.path ≡ best_priced_path c.args.task.now.scene (length c.args.task.now.marks) (state_of_sheet (sheet_read c.args.sheet.now))
 own_path c =
-    best_path-listed c.args.task.now (sheet_read c.args.sheet.now) c.requires.form.numbers (path_of_way c.in_ok-way.way)
+    best_path-listed c.args.task.now (sheet_read c.args.sheet.now) c.requires.form.numbers (priced_path c.in_ok-path.path)
     (subst
-    (λ (gs : List Goal). path_of_way c.in_ok-way.way
+    (λ (gs : List Goal). priced_path c.in_ok-path.path
     ≡ path_by (state_of_lists c.args.sheet.now.knots.items [])
     (best_node gs (length c.args.sheet.now.knots.items - 1) (state_of_lists c.args.sheet.now.knots.items []))) c.as_slice.ensures
     (subst
-    (λ (ks : List (Option Knot)). path_of_way c.in_ok-way.way
-    ≡ path_by (state_of_lists ks []) (best_node c.as_slice.result.now (length ks - 1) (state_of_lists ks []))) c.deref.ensures.value c.in_ok-way.ensures))
+    (λ (ks : List (Option Knot)). priced_path c.in_ok-path.path
+    ≡ path_by (state_of_lists ks []) (best_node c.as_slice.result.now (length ks - 1) (state_of_lists ks []))) c.deref.ensures.value c.in_ok-path.ensures))
 
 own_tally : (c : After-first_wrong_head_line)
     → c.counted-tally.result ≡ tally_of c.args.task.now.scene (length c.args.task.now.marks) (state_of_sheet (sheet_read c.args.sheet.now))
@@ -78,11 +78,11 @@ returns-in-Some c =
     subst (IsVerdict c.args.task.now (bytes_of sheet)) (sym c.broken.ensures)
     (subst (λ n. IsVerdict c.args.task.now (bytes_of sheet) (Broken n 6)) line
     (broken_head c.args.task.now sheet c.requires.form c.requires.nodes c.requires.turns c.requires.presence c.requires.lawful
-    (path_of_way c.in_ok-way.way) c.counted-tally.result (own_path at) (own_tally at) c.in-Some.line c.in-Some.ensures))
+    (priced_path c.in_ok-path.path) c.counted-tally.result (own_path at) (own_tally at) c.in-Some.line c.in-Some.ensures))
 
 pub returns : goal.returns
 returns c =
     let at = (goal.at.returns c).After-first_wrong_head_line in
     let sheet = sheet_read c.args.sheet.now in
     lawful_sheet c.args.task.now sheet c.requires.form c.requires.nodes c.requires.turns c.requires.presence c.requires.lawful
-    (path_of_way c.in_ok-way.way) c.counted-tally.result (own_path at) (own_tally at) c.requires.start c.in-None.ensures
+    (priced_path c.in_ok-path.path) c.counted-tally.result (own_path at) (own_tally at) c.requires.start c.in-None.ensures

@@ -1,6 +1,6 @@
 use Rattle.std.proofs.Common.{◌≡◌, ◌+◌, Some, length, arith, ap, sym, subst}
-use Rattle.point_strips.specs.Walks.{numbered_at}
-use Rattle.point_strips.specs.declared.strips.Numbered.{Numbered}
+use Rattle.point_bands.specs.Walks.{numbered_at}
+use Rattle.point_bands.specs.declared.bands.Numbered.{Numbered}
 use Rattle.report_judge.specs.Workers.JudgedRuns.{KeepsRecord}
 use Rattle.report_judge.specs.Workers.OwnMarks.{IsFirstSeen}
 use Rattle.report_judge.proofs.Workers.OwnMarkLaws.{IsFirstSeen-broken, IsFirstSeen-kept, IsFirstSeen-past, may_come_first}

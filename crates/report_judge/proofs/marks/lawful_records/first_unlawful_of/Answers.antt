@@ -9,14 +9,14 @@ use Rattle.report_judge.specs.Workers.JudgedRuns.{KeepsRecordBetween}
 use Rattle.report_judge.proofs.Laws.RecordBreaks.{IsFirstBreak-stretch, IsFirstBreak-turns}
 use Rattle.report_judge.proofs.marks.lawful_records.first_unlawful_of.Goals as goal
 
-pub own_run-requires-clause-few : goal.own_run-requires-clause-few
-own_run-requires-clause-few g c = c.requires.listed.few
+pub own_history-requires-clause-few : goal.own_history-requires-clause-few
+own_history-requires-clause-few g c = c.requires.listed.few
 
-pub own_run-requires-clause-numbers : goal.own_run-requires-clause-numbers
-own_run-requires-clause-numbers g c = c.requires.listed.numbers
+pub own_history-requires-clause-numbers : goal.own_history-requires-clause-numbers
+own_history-requires-clause-numbers g c = c.requires.listed.numbers
 
-pub own_run-requires-clause-own : goal.own_run-requires-clause-own
-own_run-requires-clause-own g c = c.requires.listed.own
+pub own_history-requires-clause-own : goal.own_history-requires-clause-own
+own_history-requires-clause-own g c = c.requires.listed.own
 
 pub first_unlawful_between-requires-clause-hall : goal.first_unlawful_between-requires-clause-hall
 first_unlawful_between-requires-clause-hall g c κs within = c.requires.hall
@@ -24,8 +24,8 @@ first_unlawful_between-requires-clause-hall g c κs within = c.requires.hall
 pub first_unlawful_between-requires-clause-listed : goal.first_unlawful_between-requires-clause-listed
 first_unlawful_between-requires-clause-listed g c κs within = c.requires.listed
 
-pub own_run-requires-clause-turns : goal.own_run-requires-clause-turns
-own_run-requires-clause-turns g c =
+pub own_history-requires-clause-turns : goal.own_history-requires-clause-turns
+own_history-requires-clause-turns g c =
     let records = c.args.listed.now.records.now in
     omega (
       arith,

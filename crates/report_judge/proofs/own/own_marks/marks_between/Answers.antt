@@ -3,7 +3,7 @@ use Rattle.std.specs.Prelude.{All, IfSome, None, slice_index_or}
 use Rattle.std.proofs.lemmas.List.{get_or_default}
 use Rattle.std.proofs.lemmas.List.Elements.{All-push}
 use Rattle.grown_runs.proofs.Common.{Point, IsBounded, All-task_marks_within}
-use Rattle.point_strips.specs.declared.strips.Numbered.{Numbered}
+use Rattle.point_bands.specs.declared.bands.Numbered.{Numbered}
 use Rattle.report_judge.specs.Workers.OwnMarks.{AreMarksBetween}
 use Rattle.report_judge.specs.Workers.SeenNodes.{IsMarkOfTurn}
 use Rattle.report_judge.proofs.Workers.SeenTurns.{low_mark}

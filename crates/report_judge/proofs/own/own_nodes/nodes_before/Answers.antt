@@ -3,7 +3,7 @@ use Rattle.std.specs.Prelude.{All, slice_index_or}
 use Rattle.std.proofs.lemmas.List.{get_or_default}
 use Rattle.std.proofs.lemmas.List.Elements.{All-push}
 use Rattle.grown_runs.proofs.Common.{IsBounded, state_of_lists}
-use Rattle.point_strips.specs.declared.strips.Numbered.{Numbered}
+use Rattle.point_bands.specs.declared.bands.Numbered.{Numbered}
 use Rattle.report_judge.specs.Workers.OwnNodes.{AreNodesBefore, IsPlacedAt}
 use Rattle.report_judge.specs.Workers.SeenNodes.{IsMarkOfTurn}
 use Rattle.report_judge.proofs.Laws.ListedNodes.{none-stands, stands-listed}

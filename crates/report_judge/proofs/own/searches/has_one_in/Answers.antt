@@ -15,5 +15,5 @@ returns-then-has-clause-some g c = λ h. record {
 pub loop-position-preserved : goal.loop-position-preserved
 loop-position-preserved g c =
     let finds = g.S.Search.finds c.args.search (g.C.Clearing.space c.args.hall.now) c.args.judged.now.standings.now in
-    HasNo-more finds c.args.judged.now.own.now c.args.run.start c.loop-position.position c.loop-position.invariant
+    HasNo-more finds c.args.judged.now.own.now c.args.stretch.start c.loop-position.position c.loop-position.invariant
     (λ found. c.has.ensures.only c.if-has.false (subst finds (sym c.at.ensures.value) found))

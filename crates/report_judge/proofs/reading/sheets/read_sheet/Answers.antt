@@ -5,7 +5,7 @@ use Rattle.std.proofs.lemmas.List.{nil_from_length}
 use Rattle.report_judge.specs.Texts.ReportForms.{BreaksFormFirst}
 use Rattle.report_judge.specs.Texts.ReportLines.{Extent}
 use Rattle.report_judge.specs.Texts.ReportSheets.{path_lines}
-use Rattle.report_judge.specs.Texts.SheetsRead.{path_of_way}
+use Rattle.report_judge.specs.Texts.SheetsRead.{priced_path}
 use Rattle.report_judge.proofs.Texts.FormBreaks.{ReadsTree, all_lines_few, breaks_counts, breaks_marks, breaks_nodes, spells_sheet, tree_lines_few}
 use Rattle.report_judge.proofs.reading.sheets.read_sheet.Goals as goal
 use Rattle.report_judge.proofs.reading.sheets.read_sheet.Goals.{After-len-then-len-marks, In_ok-knots}
@@ -15,12 +15,12 @@ pub returns-in_default-clause-broken : goal.returns-in_default-clause-broken
 returns-in_default-clause-broken c =
     let extent : Extent = record { marks = c.args.marks; informed = c.args.informed } in
     subst (BreaksFormFirst extent c.args.report.now) (ap (λ n. n + 1) (sym c.path_line_count-counts_line.ensures))
-    (breaks_counts extent c.args.report.now (path_of_way c.in-Ok.read.0) c.in-Ok.read.1.now (rw c.in-Ok.is at c.in_ok-read.ensures.fits)
+    (breaks_counts extent c.args.report.now (priced_path c.in-Ok.read.0) c.in-Ok.read.1.now (rw c.in-Ok.is at c.in_ok-read.ensures.fits)
     (rw c.in-Ok.is at c.in_ok-read.ensures.text) c.in_default.ensures.none)
 
 -- what was read up to the nodes
 abbrev ReadsAll : In_ok-knots → Type 0
-ReadsAll c = ReadsTree (record { marks = c.args.marks; informed = c.args.informed }) c.args.report.now (path_of_way c.in-Ok.read.0)
+ReadsAll c = ReadsTree (record { marks = c.args.marks; informed = c.args.informed }) c.args.report.now (priced_path c.in-Ok.read.0)
     c.in-Some.tally c.in_ok-knots.knots.items c.in_ok-knots.nodes c.in_ok-knots.rest.now
 
 tree : (c : In_ok-knots) → ReadsAll c
@@ -59,7 +59,7 @@ all : (c : After-len-then-len-marks) → c.in_ok-knots.nodes ≡ c.in-Some.tally
 all c = omega (arith, c.if-nodes-tally.false, (c.in_ok-knots.ensures).few)
 
 few_all : (c : After-len-then-len-marks)
-    → ReadsTree (record { marks = c.args.marks; informed = c.args.informed }) c.args.report.now (path_of_way c.in-Ok.read.0)
+    → ReadsTree (record { marks = c.args.marks; informed = c.args.informed }) c.args.report.now (priced_path c.in-Ok.read.0)
     c.in-Some.tally c.in_ok-knots.knots.items c.in_ok-knots.nodes c.in_ok-knots.rest.now
     → c.path_line_count-counts_line.result + 1 + c.in_ok-knots.nodes + c.len-then-len-marks.result ≤ length c.args.report.now
 few_all c read =
@@ -91,7 +91,7 @@ returns-then-len-marks-clause-broken c =
           let zero : (length c.in_ok-records.rest.now == 0) ≡ true = ap (λ (r : List ℕ). length r == 0) none in
           false≢true (w.if-not-is_empty.ensures ∙ zero))
     ] in
-    let number : length (path_lines (path_of_way c.in-Ok.read.0)) + 1 + c.in_ok-knots.nodes + length c.in_ok-records.records.items + 1
+    let number : length (path_lines (priced_path c.in-Ok.read.0)) + 1 + c.in_ok-knots.nodes + length c.in_ok-records.records.items + 1
     ≡ c.path_line_count-counts_line.result + 1 + c.in_ok-knots.nodes + c.len-then-len-marks.result + 1 =
     omega (arith, c.path_line_count-counts_line.ensures, c.len-then-len-marks.ensures, c.in_ok-records.records.ok) in
     subst (BreaksFormFirst extent c.args.report.now) number

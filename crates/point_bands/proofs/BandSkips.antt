@@ -1,0 +1,133 @@
+-- What a walk over a disc may skip: points in bands below or above it, and in a band those left or right of it.
+use Rattle.std.proofs.Common.{ℕ, ◌+◌, ◌-◌, ◌*◌, ◌<◌, ◌≤◌, List, length, All, arith, inl, inr, subst, sym, min}
+use Rattle.std.specs.Int.{abs_diff}
+use Rattle.std.specs.List.Sorted.{IsNonDecreasingBy}
+use Rattle.std.proofs.lemmas.Bool.{cases_eq, cases_lt}
+use Rattle.std.proofs.lemmas.Nat.{mul-le}
+use Rattle.std.proofs.Math.Pow.{shr_mono}
+use Rattle.plan_model.specs.Geometry.Bounds.{IsBounded}
+use Rattle.plan_model.specs.declared.geometry.Point.{Point}
+use Rattle.point_bands.specs.Discs.{IsInColumns, IsWithin}
+use Rattle.point_bands.specs.BandOrder.{band_key, band_of}
+use Rattle.point_bands.specs.Walks.{HasNoneBetween, nowhere, numbered_at}
+use Rattle.point_bands.specs.declared.bands.Numbered.{Numbered}
+
+-- a difference above the reach has a square above that of the disc
+past_reach : (square reach gap rest : ℕ) → square < (reach + 1) * (reach + 1) → reach < gap → square < gap * gap + rest
+past_reach square reach gap rest low far =
+    let wide = mul-le (reach + 1) (reach + 1) gap gap (omega (arith, far)) (omega (arith, far)) in
+    omega (arith, wide, low)
+
+past_reach_up : (square reach gap rest : ℕ) → square < (reach + 1) * (reach + 1) → reach < gap → square < rest + gap * gap
+past_reach_up square reach gap rest low far = omega (arith, past_reach square reach gap rest low far)
+
+module _ (center : Point) (square reach : ℕ) (low : square < (reach + 1) * (reach + 1)) (p : Point) where
+  out_left : p.x < center.x - reach → ¬ IsWithin center square p
+  out_left left within =
+      absurd (omega (
+        arith,
+        within,
+        past_reach square reach (abs_diff p.x center.x) (abs_diff p.y center.y * abs_diff p.y center.y) low (omega (arith, left)),
+      ))
+
+  out_right : center.x + reach < p.x → ¬ IsWithin center square p
+  out_right right within =
+      absurd (omega (
+        arith,
+        within,
+        past_reach square reach (abs_diff p.x center.x) (abs_diff p.y center.y * abs_diff p.y center.y) low (omega (arith, right)),
+      ))
+
+  out_below : p.y < center.y - reach → ¬ IsWithin center square p
+  out_below below within =
+      absurd (omega (
+        arith,
+        within,
+        past_reach_up square reach (abs_diff p.y center.y) (abs_diff p.x center.x * abs_diff p.x center.x) low (omega (arith, below)),
+      ))
+
+  out_above : center.y + reach < p.y → ¬ IsWithin center square p
+  out_above above within =
+      absurd (omega (
+        arith,
+        within,
+        past_reach_up square reach (abs_diff p.y center.y) (abs_diff p.x center.x * abs_diff p.x center.x) low (omega (arith, above)),
+      ))
+
+-- a column at most the reach away from the center's
+pub in_columns : (center : Point) (square reach : ℕ) → reach * reach ≤ square → (p : Point) → center.x - reach ≤ p.x → p.x ≤ center.x + reach
+    → IsInColumns center square p
+in_columns center square reach reached p left right =
+    let gap = abs_diff p.x center.x in
+    omega (arith, mul-le gap gap reach reach (omega (arith, left, right)) (omega (arith, left, right)), reached)
+
+-- one position more at the front of those that have none
+pub HasNoneBetween-after : (center : Point) (square : ℕ) (points : List Numbered) (at limit : ℕ)
+    → ¬ IsWithin center square (numbered_at points at).point
+    → ((j : ℕ) → at + 1 ≤ j → j < limit → ¬ IsWithin center square (numbered_at points j).point)
+    → HasNoneBetween center square points at limit
+HasNoneBetween-after center square points at limit here later j from to =
+    elim (cases_eq j at) [
+      | inl same ↦ subst (λ i. ¬ IsWithin center square (numbered_at points i).point) (sym same) here
+      | inr other ↦ later j (omega (arith, from, other)) to
+    ]
+
+-- ---- in the order of bands
+
+module _ (center : Point) (square reach height_log : ℕ) (points : List Numbered) (at : ℕ)
+    (low : square < (reach + 1) * (reach + 1)) (bounded : All (λ n. IsBounded n.point) points)
+    (sorted : IsNonDecreasingBy (band_key height_log) points) (central : IsBounded center) where
+  -- a position with the band and the column of its point
+  no_less : (j : ℕ) → at ≤ j → j < length points → band_key height_log (numbered_at points at) ≤ band_key height_log (numbered_at points j)
+  no_less j later inside = sorted at j nowhere later inside
+
+  -- what is below the lowest band, or in it and left of the disc
+  pub none_below : (j : ℕ) → j < length points
+      → band_key height_log (numbered_at points j) < band_of height_log (center.y - reach) * 1048576 + (center.x - reach)
+      → ¬ IsWithin center square (numbered_at points j).point
+  none_below j inside before =
+      let n = numbered_at points j in
+      elim (cases_lt n.point.y (center.y - reach)) [
+        | inl below ↦ out_below center square reach low n.point below
+        | inr up ↦ (
+            let bands = shr_mono {a = center.y - reach} {b = n.point.y} height_log up in
+            out_left center square reach low n.point (omega (arith, bands, before)))
+      ]
+
+  -- what is in the band of a position, from there on, and left of the disc
+  pub none_left : (j : ℕ) → at ≤ j → j < length points
+      → band_key height_log (numbered_at points j) < band_of height_log (numbered_at points at).point.y * 1048576 + (center.x - reach)
+      → ¬ IsWithin center square (numbered_at points j).point
+  none_left j later inside before =
+      out_left center square reach low (numbered_at points j).point
+      (omega (arith, no_less j later inside, before, (bounded j nowhere inside).right, central.right))
+
+  -- what is in the band of a position right of the disc, from there on, or in the next band and left of the disc
+  pub none_right : (j : ℕ) → at ≤ j → j < length points → center.x + reach < (numbered_at points at).point.x
+      → band_key height_log (numbered_at points j) < (band_of height_log (numbered_at points at).point.y + 1) * 1048576 + (center.x - reach)
+      → ¬ IsWithin center square (numbered_at points j).point
+  none_right j later inside right before =
+      let n = numbered_at points j in
+      let here = band_of height_log (numbered_at points at).point.y in
+      let up = no_less j later inside in
+      let column = (bounded j nowhere inside).right in
+      elim (cases_lt here (band_of height_log n.point.y)) [
+        | inl above ↦ out_left center square reach low n.point (omega (arith, above, before, column, central.right))
+        | inr same ↦ out_right center square reach low n.point (omega (arith, same, up, column, right))
+      ]
+
+  -- what is from a position on that is in a band above the disc
+  pub none_above : (j : ℕ) → at ≤ j → j < length points
+      → band_of height_log (min (center.y + reach) 4294967295) < band_of height_log (numbered_at points at).point.y
+      → ¬ IsWithin center square (numbered_at points j).point
+  none_above j later inside above =
+      let n = numbered_at points j in
+      let up = no_less j later inside in
+      let column = (bounded j nowhere inside).right in
+      let row = (bounded j nowhere inside).top in
+      elim (cases_lt (min (center.y + reach) 4294967295) n.point.y) [
+        | inl over ↦ out_above center square reach low n.point (omega (arith, over, row))
+        | inr under ↦ (
+            let bands = shr_mono {a = n.point.y} {b = min (center.y + reach) 4294967295} height_log under in
+            absurd (omega (arith, bands, above, up, column)))
+      ]

@@ -1,0 +1,22 @@
+use Rattle.std.proofs.Common.{arith, inl, inr, subst, sym}
+use Rattle.std.proofs.lemmas.Bool.{cases_eq}
+use Rattle.point_bands.specs.BandOrder.{StandsBetween}
+use Rattle.point_bands.specs.Walks.{nowhere, numbered_at}
+use Rattle.point_bands.proofs.band_order.end_of_stretch.Goals as goal
+
+pub loop-end-preserved : goal.loop-end-preserved
+loop-end-preserved c =
+    let so_far = c.loop-end.invariant in
+    let left = (numbered_at c.args.points.now c.args.start).point.x in
+    let rises = c.requires.sorted c.args.start c.loop-end.end nowhere (omega (arith, so_far.some)) c.loop-end-test.true in
+    record {
+      some = omega (arith, so_far.some);
+      within = omega (arith, c.loop-end-test.true);
+      columns = λ j later below.
+          elim (cases_eq j c.loop-end.end) [
+            | inl same ↦
+                subst (StandsBetween left c.args.right c.args.points.now) (sym same)
+                (omega (arith, rises, c.if-band-here.false, c.band.ensures, c.band-here.ensures), c.if-point-right.false)
+            | inr other ↦ so_far.columns j later (omega (arith, below, other))
+          ];
+    }

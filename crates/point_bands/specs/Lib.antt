@@ -1,0 +1,3 @@
+pub mod Discs
+pub mod Walks
+pub mod BandOrder

@@ -1,5 +1,0 @@
-use Rattle.std.specs.Prelude.{◌-◌, length}
-use Rattle.point_strips.proofs.strips.tests.numbers_in.Given as goal
-
-abbrev pub decreases-walk : goal.decreases-walk
-decreases-walk l = length l.strips - l.at

@@ -1,6 +1,0 @@
-use Rattle.std.specs.Prelude.{All}
-use Rattle.plan_model.specs.Geometry.Bounds.{IsBounded}
-use Rattle.point_strips.proofs.strips.tests.sorted.Given as goal
-
-abbrev pub invariant-loop-number : goal.invariant-loop-number
-invariant-loop-number l = All (λ n. IsBounded n.point) l.points.items

@@ -1,3 +1,0 @@
-pub mod Discs
-pub mod Walks
-pub mod StripOrder
