@@ -5,9 +5,7 @@ use Rattle.std.proofs.lemmas.List.Folds.{list_all_more}
 use Rattle.std.specs.List.{list_all}
 use Rattle.grown_runs.proofs.Common.{IsSettled, state_of_grown}
 use Rattle.grown_runs.specs.declared.grown.Grown.{Grown}
-use Rattle.any_time.specs.BestPaths.{has_path}
-use Rattle.any_time.specs.BetterReports.{batch_report, scene_report}
-use Rattle.any_time.specs.declared.betters.Better.{Better}
+use Rattle.any_time.proofs.Words.{has_path, batch_report, scene_report, Better}
 
 module _ (runs : List Grown) (i : ℕ) (run : Grown) (within : i < length runs) (run_is : run ≡ get_or runs i run) where
   pub settled_at : All (λ r. IsSettled (state_of_grown r)) runs → IsSettled (state_of_grown run)

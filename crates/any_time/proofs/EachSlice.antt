@@ -10,11 +10,8 @@ use Rattle.grown_runs.proofs.Common.{IsClosed, setup_of, Record, Task, state_of_
 use Rattle.grown_runs.specs.declared.grown.Grown.{Grown}
 use Rattle.any_time.proofs.FallingItems.{GoesOn-last, Reaches, Tied, first_better, gave, goes, no_best, pending, reaches_on, run_of}
 use Rattle.any_time.proofs.KnownOptions.{between, if_there, some_is, there}
-use Rattle.any_time.specs.BestPaths.{Shows, best_sum}
-use Rattle.any_time.specs.Items.{Answers, EndsWith, GrowBySlices, IsRunOf, ItemsFall, MissesNoFall, betters_among, last_cost, last_of, up_to}
-use Rattle.any_time.specs.Sessions.{Handles, IsBetter, IsNew, Moves, Polls, SessionState}
-use Rattle.any_time.specs.declared.betters.Better.{Better}
-use Rattle.any_time.specs.declared.betters.Last.{Last}
+use Rattle.any_time.proofs.Words.{Shows, best_sum, Answers, EndsWith, GrowBySlices, IsRunOf, ItemsFall, MissesNoFall, betters_among, last_cost, last_of, up_to}
+use Rattle.any_time.proofs.Words.{Handles, IsBetter, IsNew, Moves, Polls, SessionState, Better, Last}
 
 -- ---- the items up to so many marks
 

@@ -15,12 +15,8 @@ use Rattle.any_time.proofs.BestNodes.{AreNumberedTo-grown, IsGoalNode-best, IsPr
 use Rattle.any_time.proofs.FirstPaths.{AreSlices-next, below_next, none_below, some_entry}
 use Rattle.any_time.proofs.FoundPaths.{LeadsIntoGoal-grows, LeadsIntoGoal-shown}
 use Rattle.any_time.proofs.SunkSums.{Sinks, Sinks-grows}
-use Rattle.any_time.specs.BestPaths.{Shows, best_sum}
-use Rattle.any_time.specs.Items.{Answers, AreSlices, Fall, HaveGoalNode, IfFirst, IsFirstPath, IsFound, IsRunOf, betters_among, last_among, last_of}
-use Rattle.any_time.specs.Paths.{LeadsIntoGoal}
-use Rattle.any_time.specs.Sessions.{Handles, IsBetter, Moves, Polls, SessionState}
-use Rattle.any_time.specs.declared.betters.Better.{Better}
-use Rattle.any_time.specs.declared.betters.Last.{Last}
+use Rattle.any_time.proofs.Words.{Shows, best_sum, Answers, AreSlices, Fall, HaveGoalNode, IfFirst, IsFirstPath, IsFound, IsRunOf, betters_among, last_among}
+use Rattle.any_time.proofs.Words.{last_of, LeadsIntoGoal, Handles, IsBetter, Moves, Polls, SessionState, Better, Last}
 
 -- ---- the run and the last item
 

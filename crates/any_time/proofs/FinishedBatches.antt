@@ -4,12 +4,7 @@ use Rattle.std.proofs.Common.{arith}
 use Rattle.std.proofs.Math.ListN.{length-map}
 use Rattle.plan_model.specs.declared.tasks.Task.{Task}
 use Rattle.grown_runs.specs.declared.grown.Grown.{Grown}
-use Rattle.any_time.specs.BatchGathering.{AllEmpty, GathersBatch, HasFinished}
-use Rattle.any_time.specs.BatchItems.{betters_of}
-use Rattle.any_time.specs.Batches.{AllOver, BatchState, IsBatchOver}
-use Rattle.any_time.specs.Gathering.{Gathers}
-use Rattle.any_time.specs.Sessions.{IsFresh, SessionState}
-use Rattle.any_time.specs.declared.betters.Better.{Better}
+use Rattle.any_time.proofs.Words.{AllEmpty, GathersBatch, HasFinished, betters_of, AllOver, BatchState, IsBatchOver, Gathers, IsFresh, SessionState, Better}
 use Rattle.any_time.proofs.GatheredItems.{AreBetterPaths-gathered, EndsWith-gathered}
 use Rattle.any_time.proofs.ItemsOfSessions.{items_of_sessions}
 

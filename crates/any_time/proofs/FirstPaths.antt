@@ -7,8 +7,7 @@ use Rattle.grown_runs.proofs.Common.{IsPresent-goal, present-of_record, record-o
 use Rattle.grown_runs.proofs.Common.{GrowsInto, Record, Scene, Task, start_present-held, state_of_grown, words_of_grown}
 use Rattle.grown_runs.specs.declared.grown.Grown.{Grown}
 use Rattle.any_time.proofs.BestNodes.{none-best}
-use Rattle.any_time.specs.BestPaths.{best_sum}
-use Rattle.any_time.specs.Items.{AreSlices, HaveGoalNode}
+use Rattle.any_time.proofs.Words.{best_sum, AreSlices, HaveGoalNode}
 
 pub some_entry : (o : Option Record) → IsSome o → (entry : Record) × (o ≡ Some entry)
 some_entry None h = cc

@@ -10,9 +10,7 @@ use Rattle.grown_runs.proofs.Common.{AreNumberedTo, IsPresent, StandsAt, point_o
 use Rattle.settle_report.proofs.GrownPaths.{path_to-reverse, points_up}
 use Rattle.grown_runs.specs.declared.grown.Grown.{Grown}
 use Rattle.any_time.proofs.BestNodes.{AreNumberedTo-grown, IsGoalNode-best, IsPresent-best}
-use Rattle.any_time.specs.BestPaths.{Shows}
-use Rattle.any_time.specs.Paths.{IsOfFirstNodes, Leads, LeadsIntoGoal}
-use Rattle.any_time.specs.declared.betters.Better.{Better}
+use Rattle.any_time.proofs.Words.{Shows, IsOfFirstNodes, Leads, LeadsIntoGoal, Better}
 
 module _ (Edge : Point → Point → Type 0) (Node : Point → Type 0) (first : Point) where
   -- one point

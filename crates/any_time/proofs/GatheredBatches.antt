@@ -4,9 +4,7 @@ use Rattle.std.proofs.Common.{Some, None, Ok, Err, inl, nat_eq, if◌then◌else
 use Rattle.std.proofs.lemmas.Bool.Decides.{nat_tests}
 use Rattle.futures.specs.declared.task.Poll.TheVariants.{Ready, Pending}
 use Rattle.plan_model.specs.declared.errors.Memory.{Memory}
-use Rattle.any_time.specs.BatchGathering.{GathersBatch}
-use Rattle.any_time.specs.Batches.{BatchPolls, BatchState, IsBatchOver}
-use Rattle.any_time.specs.declared.betters.Better.{Better}
+use Rattle.any_time.proofs.Words.{GathersBatch, BatchPolls, BatchState, IsBatchOver, Better}
 
 pub after_pending : (b u c : BatchState) (xs ys : List (List Better)) → BatchPolls b Pending u → GathersBatch u xs c ys → GathersBatch b xs c ys
 after_pending b u c xs ys p h =

@@ -7,13 +7,8 @@ use Rattle.grown_runs.specs.declared.grown.Grown.{Grown}
 use Rattle.any_time.proofs.EachSlice.{items_fall_on}
 use Rattle.any_time.proofs.KnownOptions.{held}
 use Rattle.any_time.proofs.TextbookSlices.{AreTextbookItems-given}
-use Rattle.any_time.specs.BestPaths.{best_sum}
-use Rattle.any_time.specs.Gathering.{Gathers}
-use Rattle.any_time.specs.Items.{EndsWith, HasGiven, MissesNoFall, betters_among}
-use Rattle.any_time.specs.Sessions.{IsBetter, IsFresh, IsOver, Polls, SessionState}
-use Rattle.any_time.specs.BetterPaths.{AreBetterPaths}
-use Rattle.any_time.specs.declared.betters.Better.{Better}
-use Rattle.any_time.specs.declared.betters.Last.{Last}
+use Rattle.any_time.proofs.Words.{best_sum, Gathers, EndsWith, HasGiven, MissesNoFall, betters_among, IsBetter, IsFresh, IsOver, Polls, SessionState}
+use Rattle.any_time.proofs.Words.{AreBetterPaths, Better, Last}
 
 pub after_pending : (s u t : SessionState) (xs ys : List Better) → Polls s Pending u → Gathers u xs t ys → Gathers s xs t ys
 after_pending s u t xs ys p h = (Pending ∷ h.0, (u, p, h.1), h.2, h.3)

@@ -7,12 +7,9 @@ use Rattle.std.proofs.Math.Decide.{dec_lt}
 use Rattle.futures.specs.declared.task.Poll.{Poll}
 use Rattle.futures.specs.declared.task.Poll.TheVariants.{Ready, Pending}
 use Rattle.plan_model.specs.declared.errors.Memory.{Memory}
-use Rattle.any_time.specs.declared.betters.Better.{Better}
-use Rattle.any_time.specs.BatchItems.{ArePolled, BatchAnswers, BatchItemsFall, EndsWithSessions, FailsByMemory, ItemsAreOfSessions}
-use Rattle.any_time.specs.BatchItems.{betters_of, has_memory}
-use Rattle.any_time.specs.Batches.{AllOver, BatchPolls, BatchState, Gave, Rests, at, first_turn, place_of, turn_after}
-use Rattle.any_time.specs.Items.{Answers, EndsWith, HasGiven, MissesNoFall, betters_among}
-use Rattle.any_time.specs.Sessions.{IsOver, Polls, SessionState}
+use Rattle.any_time.proofs.Words.{Better, ArePolled, BatchAnswers, BatchItemsFall, EndsWithSessions, FailsByMemory, ItemsAreOfSessions, betters_of, has_memory}
+use Rattle.any_time.proofs.Words.{AllOver, BatchPolls, BatchState, Gave, Rests, at, first_turn, place_of, turn_after, Answers, EndsWith, HasGiven, MissesNoFall}
+use Rattle.any_time.proofs.Words.{betters_among, IsOver, Polls, SessionState}
 use Rattle.any_time.proofs.EachSlice.{items_fall_on}
 use Rattle.any_time.proofs.TurnLoop.{place_once}
 

@@ -2,9 +2,7 @@
 use Rattle.std.proofs.Common.{◌≡◌, ◌<◌, ◌≤◌, inl, inr, ℕ, List, length, Option, Some, None, Ok, IsSome, IsSomeAnd, All, refl, sym, subst, arith}
 use Rattle.std.proofs.Math.Decide.{dec_lt}
 use Rattle.futures.specs.declared.task.Poll.TheVariants.{Ready}
-use Rattle.any_time.specs.Batches.{Gave, Rests, at, place_of}
-use Rattle.any_time.specs.Sessions.{SessionState}
-use Rattle.any_time.specs.declared.betters.Better.{Better}
+use Rattle.any_time.proofs.Words.{Gave, Rests, at, place_of, SessionState, Better}
 use Rattle.any_time.proofs.TurnLoop.{place_once}
 
 has : {A : Type 0} (o : Option A) (P : A → Type 0) → IsSomeAnd o P → IsSome o

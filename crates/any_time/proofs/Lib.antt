@@ -14,3 +14,4 @@ pub mod KeptRuns
 pub mod GatheredBatches
 pub mod FinishedBatches
 pub mod BatchReports
+mod Words

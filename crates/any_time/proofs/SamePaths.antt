@@ -7,9 +7,7 @@ use Rattle.plan_work.specs.OneWorker.{IsOfTextbook}
 use Rattle.grown_runs.specs.declared.grown.Grown.{Grown}
 use Rattle.any_time.proofs.BestNodes.{IsPresent-best}
 use Rattle.any_time.proofs.KnownOptions.{some_is}
-use Rattle.any_time.specs.BestPaths.{Shows, best_of}
-use Rattle.any_time.specs.TextbookItems.{IsTextbookPath}
-use Rattle.any_time.specs.declared.betters.Better.{Better}
+use Rattle.any_time.proofs.Words.{Shows, best_of, IsTextbookPath, Better}
 
 module _ (setup : Setup) (one other : TreeState) (order : KeepsOrder setup one) (same : AreSameRuns one other) where
   points_alike : point_of other.points ≡ point_of one.points

@@ -12,11 +12,8 @@ use Rattle.any_time.proofs.FallingItems.{best_shown}
 use Rattle.any_time.proofs.FirstPaths.{AreSlices-next, below_next}
 use Rattle.any_time.proofs.KnownOptions.{held, none_is, some_is, there_some}
 use Rattle.any_time.proofs.SamePaths.{IsTextbookPath-shown, Shows-alone, Shows-textbook}
-use Rattle.any_time.specs.BestPaths.{Shows, best_sum}
-use Rattle.any_time.specs.Items.{AreSlices, EndsWith, Fall, GrowBySlices, HasGiven, IsFound, MissesNoFall, betters_among, last_cost, last_of, up_to}
-use Rattle.any_time.specs.TextbookItems.{AreTextbookItems, GivesTextbookItems, IsTextbookItem, IsTextbookPath}
-use Rattle.any_time.specs.declared.betters.Better.{Better}
-use Rattle.any_time.specs.declared.betters.Last.{Last}
+use Rattle.any_time.proofs.Words.{Shows, best_sum, AreSlices, EndsWith, Fall, GrowBySlices, HasGiven, IsFound, MissesNoFall, betters_among, last_cost, last_of}
+use Rattle.any_time.proofs.Words.{up_to, AreTextbookItems, GivesTextbookItems, IsTextbookItem, IsTextbookPath, Better, Last}
 
 -- ---- items that fall
 

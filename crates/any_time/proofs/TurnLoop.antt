@@ -9,9 +9,7 @@ use Rattle.futures.specs.Task.{Keeps}
 use Rattle.std.proofs.lemmas.List.{get_or_read, set-get_or}
 use Rattle.futures.specs.declared.task.Poll.{Poll}
 use Rattle.plan_model.specs.declared.errors.Memory.{Memory}
-use Rattle.any_time.specs.declared.betters.Better.{Better}
-use Rattle.any_time.specs.Batches.{AllRest, Gave, Rests, place_of, at}
-use Rattle.any_time.specs.Sessions.{SessionState, IsOver, Polls}
+use Rattle.any_time.proofs.Words.{Better, AllRest, Gave, Rests, place_of, at, SessionState, IsOver, Polls}
 
 -- The sessions at the places before this one were polled once and gave no item, and the others are as they were. If none of them answered
 -- Pending, all of them are at their ends, and nothing has changed.

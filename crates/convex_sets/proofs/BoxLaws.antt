@@ -9,8 +9,7 @@ use Rattle.plan_model.specs.declared.geometry.Vertex.{Vertex}
 use Rattle.plan_model.specs.Geometry.Convexity.{corner_at}
 use Rattle.plan_model.specs.Spaces.HalfPlanes.{IsInside}
 use Rattle.plan_model.specs.Spaces.RoomOfConfigurations.{Rational, at_lattice}
-use Rattle.convex_sets.specs.declared.bounding_boxes.BoundingBox.{BoundingBox}
-use Rattle.convex_sets.specs.Boxes.{IsBoundingBox, IsBoxed, IsInBox}
+use Rattle.convex_sets.proofs.Words.{BoundingBox, IsBoundingBox, IsBoxed, IsInBox}
 use Rattle.convex_sets.proofs.Corners.{IsWithin, bounded_corner, bounded_at}
 use Rattle.plan_model.specs.declared.geometry.Point.{Point}
 use Rattle.plan_model.proofs.Ring.{var, plus, minus, times, same}

@@ -5,8 +5,7 @@ use Rattle.std.proofs.lemmas.Int.{ints, by_lt_z}
 use Rattle.std.proofs.lemmas.Bool.{cases_lt}
 use Rattle.plan_model.specs.declared.geometry.Vertex.{Vertex}
 use Rattle.plan_model.specs.Geometry.Convexity.{corner_at, next_corner}
-use Rattle.convex_sets.specs.Edges.{cross, from_to}
-use Rattle.convex_sets.specs.Outlines.{both, edge_at, start, rise, IsOutline, IsMerged}
+use Rattle.convex_sets.proofs.Words.{cross, from_to, both, edge_at, start, rise, IsOutline, IsMerged}
 use Rattle.convex_sets.proofs.Crosses.{cross-by_way}
 use Rattle.convex_sets.proofs.MergeSteps.{zero_vector}
 use Rattle.convex_sets.proofs.MergedPaths.{IsPath, IsMergedTo, cross-sums, at_front, at_end, pushed}

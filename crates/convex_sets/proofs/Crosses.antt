@@ -4,8 +4,7 @@ use Rattle.std.specs.Prelude.{pos, ◌+ℤ◌, ◌-ℤ◌, ◌*ℤ◌, ◌<ℤ�
 use Rattle.std.proofs.lemmas.Int.{ints}
 use Rattle.plan_model.specs.declared.geometry.Vertex.{Vertex}
 use Rattle.plan_model.specs.Geometry.Convexity.{}
-use Rattle.convex_sets.specs.Edges.{cross, from_to}
-use Rattle.convex_sets.specs.Outlines.{both}
+use Rattle.convex_sets.proofs.Words.{cross, from_to, both}
 use Rattle.plan_model.proofs.Ring.{Read, var, plus, minus, times, same}
 use Rattle.convex_sets.proofs.Signs.{mul-not_negative, not_negative_factor}
 

@@ -6,8 +6,7 @@ use Rattle.plan_model.specs.declared.geometry.Vertex.{Vertex}
 use Rattle.plan_model.specs.Geometry.Convexity.{corner_at, next_corner}
 use Rattle.plan_model.specs.Spaces.HalfPlanes.{IsInside, side_of}
 use Rattle.plan_model.specs.Spaces.RoomOfConfigurations.{Rational}
-use Rattle.convex_sets.specs.Boxes.{at_corner}
-use Rattle.convex_sets.specs.Edges.{cross, from_to}
+use Rattle.convex_sets.proofs.Words.{at_corner, cross, from_to}
 use Rattle.plan_model.proofs.Ring.{Read, var, plus, minus, times, same}
 use Rattle.convex_sets.proofs.Crosses.{exchange_x, exchange_y, cross_opposite}
 use Rattle.convex_sets.proofs.Signs.{mul-positive}

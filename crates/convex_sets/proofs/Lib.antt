@@ -16,3 +16,4 @@ pub mod ZoneLaws
 pub mod Squares
 pub mod WidenedBodies
 pub mod Made
+mod Words

@@ -5,9 +5,7 @@ use Rattle.std.proofs.lemmas.Int.{ints}
 use borrow.Author.Count.{below_more}
 use Rattle.plan_model.specs.declared.geometry.Vertex.{Vertex}
 use Rattle.plan_model.specs.Geometry.Convexity.{corner_at}
-use Rattle.convex_sets.specs.Bounds.{IsBoundedCorner}
-use Rattle.convex_sets.specs.Edges.{from_to}
-use Rattle.convex_sets.specs.Outlines.{rise, start}
+use Rattle.convex_sets.proofs.Words.{IsBoundedCorner, from_to, rise, start}
 use Rattle.convex_sets.proofs.Corners.{bounded_corner}
 use Rattle.convex_sets.proofs.Crosses.{cross-by_way}
 use Rattle.convex_sets.proofs.MergeSteps.{zero_vector}

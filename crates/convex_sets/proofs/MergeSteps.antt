@@ -4,8 +4,7 @@ use Rattle.std.specs.Prelude.{pos, negsuc, ◌*ℤ◌, ◌<ℤ◌, ◌≤ℤ◌}
 use Rattle.std.proofs.lemmas.Int.{ints, by_lt_z}
 use Rattle.plan_model.specs.declared.geometry.Vertex.{Vertex}
 use Rattle.plan_model.specs.Geometry.Convexity.{corner_at}
-use Rattle.convex_sets.specs.Edges.{cross, from_to}
-use Rattle.convex_sets.specs.Outlines.{both, edge_at, start, rise, IsOutline}
+use Rattle.convex_sets.proofs.Words.{cross, from_to, both, edge_at, start, rise, IsOutline}
 use Rattle.std.proofs.lemmas.Bool.{cases_lt}
 use Rattle.plan_model.proofs.Ring.{var, minus, times, same}
 use Rattle.convex_sets.proofs.Signs.{mul-positive, mul-not_negative, mul-down_up, not_negative_factor, positive_factor}

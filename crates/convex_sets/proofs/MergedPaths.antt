@@ -7,8 +7,7 @@ use Rattle.std.proofs.Math.ListN.{length-append, get_or-append}
 use Rattle.std.proofs.Math.Seq.{get_or-append_seam}
 use Rattle.plan_model.specs.declared.geometry.Vertex.{Vertex}
 use Rattle.plan_model.specs.Geometry.Convexity.{corner_at}
-use Rattle.convex_sets.specs.Edges.{cross, from_to}
-use Rattle.convex_sets.specs.Outlines.{both, edge_at, start, rise, IsOutline, IsSum, IsMergeStep}
+use Rattle.convex_sets.proofs.Words.{cross, from_to, both, edge_at, start, rise, IsOutline, IsSum, IsMergeStep}
 use Rattle.convex_sets.proofs.Corners.{same_vector}
 use Rattle.plan_model.proofs.Ring.{var, plus, minus, times, same}
 use Rattle.convex_sets.proofs.MergeSteps.{IsAhead, IsAt, IsNext, Step, take_first, take_second, take_both}

@@ -4,8 +4,7 @@ use Rattle.std.specs.Prelude.{pos, ◌≤ℤ◌}
 use Rattle.std.proofs.lemmas.Int.{ints}
 use Rattle.plan_model.specs.declared.geometry.Vertex.{Vertex}
 use Rattle.plan_model.specs.Geometry.Convexity.{corner_at, next_corner}
-use Rattle.convex_sets.specs.Edges.{cross, from_to}
-use Rattle.convex_sets.specs.Outlines.{both, IsMerged, IsOutlineOf}
+use Rattle.convex_sets.proofs.Words.{cross, from_to, both, IsMerged, IsOutlineOf}
 use Rattle.convex_sets.proofs.MergeSteps.{zero_vector}
 use Rattle.convex_sets.proofs.MergedPaths.{cross-sums}
 

@@ -7,8 +7,7 @@ use Rattle.plan_model.specs.Geometry.Convexity.{corner_at, next_corner, is_stric
 use Rattle.plan_model.specs.Geometry.Plane.{orientation}
 use Rattle.plan_model.specs.Spaces.Meeting as meeting
 use Rattle.plan_model.proofs.Ring.{var, plus, minus, times, opposite, same}
-use Rattle.convex_sets.specs.Edges.{cross, from_to}
-use Rattle.convex_sets.specs.Widening.{corner, square}
+use Rattle.convex_sets.proofs.Words.{cross, from_to, corner, square}
 use Rattle.convex_sets.proofs.ConvexPolygons.{test-from_IsConvex}
 use Rattle.convex_sets.proofs.Corners.{IsWithin}
 use Rattle.convex_sets.proofs.Signs.{mul-positive, mul-not_negative, mul-up_down, mul-down_up, mul-both_negative, mul-both_not_positive}

@@ -8,9 +8,7 @@ use Rattle.plan_model.specs.declared.limits.TheConstants.{LEAST_CORNER_COORDINAT
 use Rattle.plan_model.specs.declared.geometry.Vertex.{Vertex}
 use Rattle.plan_model.specs.Geometry.Convexity.{corner_at, next_corner, is_strictly_convex}
 use Rattle.plan_model.specs.Geometry.Plane.{orientation}
-use Rattle.convex_sets.specs.Bounds.{AreBoundedCorners, IsBoundedCorner}
-use Rattle.convex_sets.specs.Edges.{cross, from_to}
-use Rattle.convex_sets.specs.Outlines.{edge_at, start, rise, IsOutline, IsOutlineOf, IsTurned, places_after}
+use Rattle.convex_sets.proofs.Words.{AreBoundedCorners, IsBoundedCorner, cross, from_to, edge_at, start, rise, IsOutline, IsOutlineOf, IsTurned, places_after}
 use Rattle.convex_sets.proofs.Corners.{same_vector, bounded_corner, bounded_at}
 use Rattle.convex_sets.proofs.Crosses.{between, cross_opposite, cross_self, cross-by_way}
 use Rattle.convex_sets.proofs.MergeSteps.{zero_vector, from_end}

@@ -16,9 +16,7 @@ use Rattle.plan_model.specs.Spaces.Zones.{IsZoneOf}
 use Rattle.plan_model.proofs.MeetingLaws.{SharesPoint-meets, Meets-shares_point}
 use Rattle.plan_model.proofs.Ring.{var, plus, minus, times, same}
 use Rattle.plan_model.proofs.Tests.{true_at, true_of_all}
-use Rattle.convex_sets.specs.Edges.{cross, from_to}
-use Rattle.convex_sets.specs.Outlines.{both, IsMerged, IsOutlineOf, IsSum}
-use Rattle.convex_sets.specs.Widening.{IsWidenedBy, square}
+use Rattle.convex_sets.proofs.Words.{cross, from_to, both, IsMerged, IsOutlineOf, IsSum, IsWidenedBy, square}
 use Rattle.convex_sets.proofs.ConvexPolygons.{IsConvex-from_test}
 use Rattle.convex_sets.proofs.Corners.{within_of, of_within}
 use Rattle.convex_sets.proofs.Fans.{fan, out_to}

@@ -14,9 +14,7 @@ use Rattle.plan_model.specs.Scenes.Limits.{is_corner_between}
 use Rattle.plan_model.specs.Spaces.Meeting.{Meets}
 use Rattle.plan_model.specs.Spaces.RoomOfConfigurations.{Rational}
 use Rattle.plan_model.specs.Spaces.Zones.{IsZoneOf, IsLowerOrLeft}
-use Rattle.convex_sets.specs.Bounds.{AreBoundedCorners}
-use Rattle.convex_sets.specs.Edges.{cross, from_to}
-use Rattle.convex_sets.specs.Outlines.{reflection, IsMerged, IsOutlineOf, IsSum}
+use Rattle.convex_sets.proofs.Words.{AreBoundedCorners, cross, from_to, reflection, IsMerged, IsOutlineOf, IsSum}
 use Rattle.plan_model.proofs.Ring.{var, minus, times, opposite, same}
 use Rattle.plan_model.proofs.Tests.{true_at, true_of_all}
 use Rattle.convex_sets.proofs.Corners.{within_of, of_within, bounded_of, bounded_corner, bounded_at}

@@ -3,3 +3,4 @@ pub mod Runs
 pub mod Ways
 pub mod Children
 pub mod Common
+mod Words

@@ -2,13 +2,8 @@
 use Rattle.std.proofs.Common.{◌≡◌, ℕ, suc, ◌+◌, ◌≤◌, Some, arith, sym, ap, ◌∙◌, subst, inl, inr}
 use Rattle.std.specs.Prelude.{◌≢◌, ◌⊎◌, is_some}
 use Rattle.std.proofs.lemmas.Bool.{cases_eq}
-use Rattle.plan_model.specs.declared.geometry.Point.{Point}
-use Rattle.plan_model.specs.declared.records.Record.{Record}
-use Rattle.plan_model.specs.Geometry.Cost.{cost_of}
-use Rattle.plan_model.specs.Trees.PointsByNumber.{point_at, StandsAt, IsPresent, point_of, IsFree, AreDistinct, node_count}
-use Rattle.plan_model.specs.Trees.TreeStates.{TreeState, first_cost_of, GrowsInto}
-use Rattle.plan_model.specs.Runs.OrderLaw.{Hangs, HangsBelow, most_cost_of, KeepsOrder, KeepsFirstCosts}
-use Rattle.plan_model.specs.Runs.Textbook.{Setup}
+use Rattle.plan_model.proofs.Words.{Point, Record, cost_of, point_at, StandsAt, IsPresent, point_of, IsFree, AreDistinct, node_count, TreeState, first_cost_of}
+use Rattle.plan_model.proofs.Words.{GrowsInto, Hangs, HangsBelow, most_cost_of, KeepsOrder, KeepsFirstCosts, Setup}
 use Rattle.plan_model.proofs.NewNodes.{IsPresent-stands, StandsAt-present, StandsAt-unique}
 use Rattle.plan_model.proofs.NodeCounts.{node_count-one_more}
 use Rattle.plan_model.proofs.OrderLaws.{most_cost_of-le, Hangs-later, Hangs-grows, HangsBelow-at, start-present}

@@ -2,8 +2,7 @@
 use Rattle.std.proofs.Common.{◌≡◌, ℕ, zero, suc, ◌+◌, ◌<◌, ◌==◌, ◌&&◌, Bool, true, false, not, cond, List, [], ◌∷◌, ◌++◌, length, get_or, drop}
 use Rattle.std.proofs.Common.{refl, sym, ap, subst, ◌∙◌, arith, add-one}
 use Rattle.std.specs.Prelude.{bytes_eq}
-use Rattle.plan_model.specs.Texts.TextLines.{lines_of, onto_first}
-use Rattle.plan_model.specs.Texts.SceneBatches.{Part, separator, onto_first_part, parts_of, text_of, lines_before}
+use Rattle.plan_model.proofs.Words.{lines_of, onto_first, Part, separator, onto_first_part, parts_of, text_of, lines_before}
 
 -- ---- lines have no line feed
 

@@ -5,10 +5,8 @@ use Rattle.std.specs.Prelude.{IsSome, is_some, ◌&&◌, nat_le}
 use Rattle.std.proofs.lemmas.Bool.Decides.{nat_tests}
 use Rattle.std.proofs.lemmas.List.Sums.{sum_by-cons}
 use Rattle.std.proofs.lemmas.Grind.{common_steps}
-use Rattle.plan_model.specs.declared.geometry.Point.{Point}
-use Rattle.plan_model.specs.Geometry.Cost.{cost_of}
-use Rattle.plan_model.specs.Trees.PointsByNumber.{point_at, point_of, IsPresent, node_count}
-use Rattle.plan_model.specs.Trees.NodeLists.{chain_within, chain_by, length_of_path, sum_by, edge_by, FallAlong, AreTightAlong}
+use Rattle.plan_model.proofs.Words.{Point, cost_of, point_at, point_of, IsPresent, node_count, chain_within, chain_by, length_of_path, sum_by, edge_by}
+use Rattle.plan_model.proofs.Words.{FallAlong, AreTightAlong}
 
 -- ---- how many present nodes cost at most so much
 

@@ -4,17 +4,8 @@ use Rattle.std.proofs.Common.{◌∷◌, ◌++◌, length, map, reverse, arith, 
 use Rattle.std.proofs.Common.{length-append}
 use Rattle.std.proofs.lemmas.Bool.{cases_lt}
 use Rattle.std.proofs.lemmas.List.{map-append, get_or_append_left, get_or-append_right, reverse-append}
-use Rattle.plan_model.specs.declared.geometry.Point.{Point}
-use Rattle.plan_model.specs.declared.geometry.Goal.{Goal}
-use Rattle.plan_model.specs.Trees.BestNode.{best_node}
-use Rattle.plan_model.specs.Spaces.Clearance.{Clear}
-use Rattle.plan_model.specs.Spaces.ClearPaths.{path_point, IsClearPath}
-use Rattle.plan_model.specs.declared.configuration_spaces.ConfigurationSpace.{ConfigurationSpace}
-use Rattle.plan_model.specs.Runs.OrderLaw.{KeepsOrder}
-use Rattle.plan_model.specs.Trees.PointsByNumber.{AreNumberedTo, IsPresent, point_at, point_of}
-use Rattle.plan_model.specs.Reports.ReportText.{best_path, path_to}
-use Rattle.plan_model.specs.Runs.Textbook.{Setup}
-use Rattle.plan_model.specs.Trees.TreeStates.{TreeState, chain_in}
+use Rattle.plan_model.proofs.Words.{Point, Goal, best_node, Clear, path_point, IsClearPath, ConfigurationSpace, KeepsOrder, AreNumberedTo, IsPresent, point_at}
+use Rattle.plan_model.proofs.Words.{point_of, best_path, path_to, Setup, TreeState, chain_in}
 use Rattle.plan_model.proofs.BestNodeLaws.{IsPresent-goal, best_node-some}
 use Rattle.plan_model.proofs.ChainLaws.{chain-start, chain-parent}
 use Rattle.plan_model.proofs.OrderedTrees.{FallAlong-ordered}

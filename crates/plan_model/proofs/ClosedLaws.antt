@@ -1,18 +1,8 @@
 -- A closed run stays closed when costs are lowered, as in settling; and in it no node costs more than it was placed at.
 use Rattle.std.proofs.Common.{◌≡◌, ℕ, zero, suc, ◌≤◌, List, Some, arith, sym, ap, ◌∙◌, subst}
 use Rattle.std.specs.Prelude.{is_some}
-use Rattle.plan_model.specs.declared.geometry.Point.{Point}
-use Rattle.plan_model.specs.declared.records.Outcome.{Outcome}
-use Rattle.plan_model.specs.declared.records.Outcome.TheVariants.{Placed}
-use Rattle.plan_model.specs.declared.records.Record.{Record}
-use Rattle.plan_model.specs.Trees.PointsByNumber.{IsPresent, point_of, node_count}
-use Rattle.plan_model.specs.Geometry.Steering.{steered}
-use Rattle.plan_model.specs.Trees.TreeStates.{TreeState, recorded_or, first_cost_of}
-use Rattle.plan_model.specs.Runs.OrderLaw.{most_cost_of, KeepsFirstCosts}
-use Rattle.plan_model.specs.Runs.RecordLaw.{HasLawfulOutcome, HangsLawfully}
-use Rattle.plan_model.specs.Runs.ClosedLaw.{mark_at, has_outcome, IsClosed}
-use Rattle.plan_model.specs.Runs.Outcomes.{is_placed}
-use Rattle.plan_model.specs.Runs.Textbook.{Setup}
+use Rattle.plan_model.proofs.Words.{Point, Outcome, Placed, Record, IsPresent, point_of, node_count, steered, TreeState, recorded_or, first_cost_of}
+use Rattle.plan_model.proofs.Words.{most_cost_of, KeepsFirstCosts, HasLawfulOutcome, HangsLawfully, mark_at, has_outcome, IsClosed, is_placed, Setup}
 use Rattle.plan_model.proofs.OrderLaws.{start-present}
 use Rattle.plan_model.proofs.LoweredCosts.{
   LowersCosts,

@@ -1,19 +1,9 @@
 -- Each fact of the closed law has one proof at most, so a value may keep it as it is.
 use Rattle.std.specs.Prelude.{ℕ, List, Option}
 use Rattle.std.proofs.Props.{props}
-use Rattle.plan_model.specs.declared.geometry.Point.{Point}
-use Rattle.plan_model.specs.declared.records.Outcome.{Outcome}
-use Rattle.plan_model.specs.declared.records.Outcome.TheVariants.{Placed, Same, Blocked, Skipped}
-use Rattle.plan_model.specs.declared.records.Record.{Record}
-use Rattle.plan_model.specs.Spaces.Clearance.{IsClear}
-use Rattle.plan_model.specs.declared.configuration_spaces.ConfigurationSpace.{ConfigurationSpace}
-use Rattle.plan_model.specs.Trees.PointsByNumber.{StandsAt}
-use Rattle.plan_model.specs.Spaces.RoomOfConfigurations.{Rational}
-use Rattle.plan_model.specs.Trees.TreeStates.{TreeState}
-use Rattle.plan_model.specs.Runs.OrderLaw.{KeepsOrder}
-use Rattle.plan_model.specs.Runs.RecordLaw.{IsPlacedLawfully, IsBlockedLawfully, IsSkippedLawfully, IsSteeredLawfully, HasLawfulOutcome, IsLawfulRecord}
-use Rattle.plan_model.specs.Runs.ClosedLaw.{IsClosed}
-use Rattle.plan_model.specs.Runs.Textbook.{Setup}
+use Rattle.plan_model.proofs.Words.{Point, Outcome, Placed, Same, Blocked, Skipped, Record, IsClear, ConfigurationSpace, StandsAt, Rational, TreeState}
+use Rattle.plan_model.proofs.Words.{KeepsOrder, IsPlacedLawfully, IsBlockedLawfully, IsSkippedLawfully, IsSteeredLawfully, HasLawfulOutcome, IsLawfulRecord}
+use Rattle.plan_model.proofs.Words.{IsClosed, Setup}
 
 IsClear-prop : (space : ConfigurationSpace) (q : Rational) → IsProp (IsClear space q)
 IsClear-prop space q = hlevel props

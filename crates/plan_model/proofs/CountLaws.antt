@@ -4,17 +4,9 @@ use Rattle.std.proofs.Common.{◌≡◌, ℕ, zero, suc, ◌+◌, ◌<◌, Bool,
 use Rattle.std.proofs.Common.{arith, refl, sym, ap, ◌∙◌, inl, inr}
 use Rattle.std.specs.Prelude.{IsSome}
 use Rattle.std.proofs.lemmas.Bool.{cases_lt, true≢false}
-use Rattle.plan_model.specs.declared.geometry.Point.{Point}
-use Rattle.plan_model.specs.declared.records.Outcome.{Outcome}
-use Rattle.plan_model.specs.declared.records.Outcome.TheVariants.{Placed, Same, Blocked, Skipped}
-use Rattle.plan_model.specs.declared.records.Record.{Record}
-use Rattle.plan_model.specs.Runs.Outcomes.{is_placed, is_same, is_blocked, is_skipped}
-use Rattle.plan_model.specs.Trees.PointsByNumber.{AreNumberedTo, node_count}
-use Rattle.plan_model.specs.Trees.TreeStates.{TreeState}
-use Rattle.plan_model.specs.Runs.ClosedLaw.{has_outcome, mark_at, outcome_count, IsClosed}
-use Rattle.plan_model.specs.Runs.RecordLaw.{HasLawfulOutcome}
-use Rattle.plan_model.specs.Trees.BestNode.{IsGoalNode}
-use Rattle.plan_model.specs.Runs.Textbook.{Setup}
+use Rattle.plan_model.proofs.Words.{Point, Outcome, Placed, Same, Blocked, Skipped, Record, is_placed, is_same, is_blocked, AreNumberedTo, node_count}
+use Rattle.plan_model.proofs.Words.{TreeState, has_outcome, mark_at, outcome_count, IsClosed, HasLawfulOutcome, IsGoalNode, Setup}
+use Rattle.plan_model.specs.Runs.Outcomes.{is_skipped}
 use Rattle.plan_model.proofs.CountsBelow.{count-more, count-longer, count-none}
 use Rattle.plan_model.proofs.GoalNodes.{no_goal_node}
 use Rattle.plan_model.proofs.NodeCounts.{count-next}

@@ -31,16 +31,9 @@ use Rattle.std.proofs.lemmas.Bool.{cases_order, cases_lt}
 use Rattle.std.proofs.lemmas.List.{get_or_append_left, get_or_past, length-append, map-set, set-get_or}
 use Rattle.std.proofs.lemmas.List.Elements.{All-head, All-tail, All-weaker, filter_passes}
 use Rattle.std.proofs.Math.Seq.{get_or-append_seam}
-use Rattle.plan_model.specs.declared.geometry.Point.{Point}
-use Rattle.plan_model.specs.declared.trees.Twig.{Twig}
-use Rattle.plan_model.specs.declared.records.Outcome.{Outcome}
-use Rattle.plan_model.specs.declared.records.Outcome.TheVariants.{Placed, Same, Blocked, Skipped}
-use Rattle.plan_model.specs.declared.records.Record.{Record}
-use Rattle.plan_model.specs.declared.configuration_spaces.ConfigurationSpace.{ConfigurationSpace}
-use Rattle.plan_model.specs.Trees.PointsByNumber.{point_at, StandsAt, IsPresent, point_of, IsFree, AreDistinct}
-use Rattle.plan_model.specs.Trees.Nearness.{is_within, near}
-use Rattle.plan_model.specs.Trees.NodeLists.{points_of}
-use Rattle.plan_model.specs.Runs.Textbook.{Nodes, Setup, start_alone, near_new, with_parent, RewiresOne, Rewires, Ends, HandlesAll, IsTextbookRun}
+use Rattle.plan_model.proofs.Words.{Point, Twig, Outcome, Placed, Same, Blocked, Skipped, Record, ConfigurationSpace, point_at, StandsAt, IsPresent, point_of}
+use Rattle.plan_model.proofs.Words.{IsFree, AreDistinct, is_within, near, points_of, Nodes, Setup, start_alone, near_new, with_parent, RewiresOne, Rewires}
+use Rattle.plan_model.proofs.Words.{Ends, HandlesAll, IsTextbookRun}
 use Rattle.plan_model.proofs.TreeChanges.{points_of-push}
 use Rattle.plan_model.proofs.NewNodes.{StandsAt-present}
 

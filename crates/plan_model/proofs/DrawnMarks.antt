@@ -3,12 +3,8 @@ use Rattle.std.proofs.Common.{ℕ, ◌+◌, ◌*◌, ◌/◌, ◌%◌, ◌^◌, 
 use Rattle.std.specs.Prelude.{bit_xor}
 use Rattle.std.proofs.Math.Nat.{div-le_self}
 use Rattle.std.proofs.lemmas.Nat.{mul-le, xor_lt, mod_below, div_below, pow_pos}
-use Rattle.plan_model.specs.declared.scenes.Scene.{Scene}
-use Rattle.plan_model.specs.Spaces.ConfigurationSpace.{space_of}
-use Rattle.plan_model.specs.Spaces.RoomOfConfigurations.{at_lattice, InRoom}
-use Rattle.plan_model.specs.Scenes.MarkPoints.{IsInSpan, strip, picked, mixed, word_of_state, first_word}
-use Rattle.plan_model.specs.Scenes.MarkPoints.{second_word, next_state, strip_of_mark, drawn_mark, columns, rows, BodyFits}
-use Rattle.plan_model.specs.declared.spans.Span.{Span}
+use Rattle.plan_model.proofs.Words.{Scene, space_of, at_lattice, InRoom, IsInSpan, strip, picked, mixed, word_of_state, first_word, second_word, next_state}
+use Rattle.plan_model.proofs.Words.{strip_of_mark, drawn_mark, columns, rows, BodyFits, Span}
 use Rattle.plan_model.proofs.SpanLaws.{InRoom-from_spans}
 use Rattle.plan_model.proofs.StripLaws.{strip-some, strip-within}
 

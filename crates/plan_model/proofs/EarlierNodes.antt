@@ -4,13 +4,8 @@ use Rattle.std.specs.Prelude.{◌≢◌, ◌⊎◌, ◌&&◌, IsTrue}
 use Rattle.std.specs.List.{range_with_len}
 use Rattle.std.proofs.lemmas.Bool.{cases_eq, and_parts, and_left, and_right, ne_eqb, le-ltb}
 use Rattle.std.proofs.lemmas.List.Sums.{length-filter}
-use Rattle.plan_model.specs.declared.records.Outcome.TheVariants.{Placed}
-use Rattle.plan_model.specs.declared.records.Record.{Record}
-use Rattle.plan_model.specs.Trees.PointsByNumber.{IsPresent}
-use Rattle.plan_model.specs.Trees.TreeStates.{TreeState, GrowsInto}
-use Rattle.plan_model.specs.Runs.Outcomes.{is_placed}
-use Rattle.plan_model.specs.Runs.RecordLaw.{is_earlier_record, is_earlier, IsEarlier, earlier_count}
-use Rattle.plan_model.specs.Runs.ClosedLaw.{ArePlacedMarks}
+use Rattle.plan_model.proofs.Words.{Placed, Record, IsPresent, TreeState, GrowsInto, is_placed, is_earlier_record, is_earlier, IsEarlier, earlier_count}
+use Rattle.plan_model.proofs.Words.{ArePlacedMarks}
 use Rattle.plan_model.proofs.CountsBelow.{count-same, count-limits}
 use Rattle.plan_model.proofs.DistinctPoints.{IsPresent-below}
 use Rattle.plan_model.proofs.NextRecords.{RecordsMark}

@@ -5,13 +5,8 @@ use Rattle.std.proofs.Math.Nat.{le_refl}
 use Rattle.std.proofs.lemmas.Int.{ints}
 use Rattle.std.proofs.lemmas.Nat.{mul-le}
 use Rattle.std.proofs.lemmas.List.Elements.{All-cons, All-nil}
-use Rattle.plan_model.specs.declared.geometry.Vertex.{Vertex}
-use Rattle.plan_model.specs.declared.geometry.Point.{Point}
-use Rattle.plan_model.specs.declared.configuration_spaces.ConfigurationSpace.{ConfigurationSpace}
-use Rattle.plan_model.specs.Spaces.RoomOfConfigurations.{Rational, moved_by, IsBetweenWalls}
-use Rattle.plan_model.specs.Spaces.Meeting.{Meets}
-use Rattle.plan_model.specs.Spaces.Clearance.{IsClear, ClearAt, on_the_way, Clear}
-use Rattle.plan_model.specs.Spaces.EmptyRooms.{empty_room, IsInRoom}
+use Rattle.plan_model.proofs.Words.{Vertex, Point, ConfigurationSpace, Rational, moved_by, IsBetweenWalls, Meets, IsClear, ClearAt, on_the_way, Clear}
+use Rattle.plan_model.proofs.Words.{empty_room, IsInRoom}
 use Rattle.plan_model.proofs.SegmentLaws.{part_and_rest, way_is}
 
 -- a coordinate on the way lies between 0 and the side

@@ -4,10 +4,7 @@ use Rattle.std.specs.Prelude.{filter}
 use Rattle.std.proofs.Math.Nat.{mul-pos}
 use Rattle.std.proofs.lemmas.Bool.{lt-leb, cases_lt, cases_order}
 use Rattle.std.specs.Int.{abs_diff}
-use Rattle.plan_model.specs.declared.geometry.Point.{Point}
-use Rattle.plan_model.specs.Geometry.Plane.{squared_distance}
-use Rattle.plan_model.specs.Trees.PointsByNumber.{point_at, IsFree}
-use Rattle.plan_model.specs.Trees.Nearness.{is_within}
+use Rattle.plan_model.proofs.Words.{Point, squared_distance, point_at, IsFree, is_within}
 use Rattle.plan_model.proofs.SamePoints.{point_is}
 
 -- points with no distance are the same

@@ -4,11 +4,7 @@ use Rattle.std.specs.List.{range_with_len}
 use Rattle.std.proofs.Math.Nat.{mul-pos}
 use Rattle.std.proofs.lemmas.Nat.{pow_pos}
 use Rattle.std.proofs.lemmas.Bool.Decides.{nat_tests}
-use Rattle.plan_model.specs.declared.geometry.Point.{Point}
-use Rattle.plan_model.specs.Geometry.Radius.{class_of, greatest, radius_of}
-use Rattle.plan_model.specs.Trees.PointsByNumber.{point_at, IsFree, node_count}
-use Rattle.plan_model.specs.Trees.Nearness.{is_within, near}
-use Rattle.plan_model.specs.Runs.Textbook.{Setup, near_new}
+use Rattle.plan_model.proofs.Words.{Point, class_of, greatest, radius_of, point_at, IsFree, node_count, is_within, near, Setup, near_new}
 use Rattle.plan_model.proofs.FreePoints.{is_near_free, filter-none}
 
 greatest-none : (test : ℕ → Bool) (n : ℕ) → ((r : ℕ) → test (suc r) ≡ false) → greatest test n ≡ 0

@@ -6,16 +6,12 @@ use Rattle.std.proofs.lemmas.Bool.{and_from, and_parts, le-leb}
 use Rattle.std.proofs.lemmas.List.{length-map}
 use Rattle.std.proofs.lemmas.List.Elements.{All-head}
 use borrow.Author.Count.{below_more}
-use Rattle.plan_model.specs.declared.scenes.Scene.{Scene}
+use Rattle.plan_model.proofs.Words.{Scene, Kind, by_version, is_obstacle, are_obstacles, may_be_informed, most_clearance, MOST_GAMMA, MOST_OBSTACLES, MOST_SEED}
+use Rattle.plan_model.proofs.Words.{MOST_STRIPS, lines_of, statements_of, Format, Given, is_inhabited, stands, corners_from, fault_at_end, MayStand}
+use Rattle.plan_model.proofs.Words.{AllMayStand, first_of, point_from, goal_from, number_or, body_from, plan_from, version_given, given_after_version}
+use Rattle.plan_model.proofs.Words.{fault_of_line, fault_of_end, IsSoundBelow, HasFields, Spells, Refused}
 use Rattle.plan_model.specs.declared.text_terms.Key.TheVariants as keys
-use Rattle.plan_model.specs.declared.text_terms.Kind.{Kind}
 use Rattle.plan_model.specs.declared.text_terms.Kind.TheVariants as kinds
-use Rattle.plan_model.specs.Scenes.Limits.{by_version, is_obstacle, are_obstacles, may_be_informed, most_clearance}
-use Rattle.plan_model.specs.declared.limits.TheConstants.{MOST_GAMMA, MOST_OBSTACLES, MOST_SEED, MOST_STRIPS}
-use Rattle.plan_model.specs.Texts.TextLines.{lines_of, statements_of}
-use Rattle.plan_model.specs.Texts.LineChecks.{Format, Given, is_inhabited, stands, corners_from, fault_at_end, MayStand, AllMayStand}
-use Rattle.plan_model.specs.Texts.SceneGrammar.{first_of, point_from, goal_from, number_or, body_from, plan_from, version_given, given_after_version}
-use Rattle.plan_model.specs.Texts.SceneGrammar.{fault_of_line, fault_of_end, IsSoundBelow, HasFields, Spells, Refused}
 use Rattle.plan_model.proofs.SoundStatements.{IsSoundGiven-text}
 use Rattle.plan_model.proofs.ReadVersions.{IsReadVersion-given, version-end}
 use Rattle.plan_model.proofs.SceneParts.{IsWithin, room-within, start-within, goals-within, step-within, clearance-within, gamma-within, seed-within}

@@ -7,15 +7,9 @@ use Rattle.std.specs.List.{flat_map}
 use Rattle.std.specs.Int.{abs_diff}
 use Rattle.std.proofs.lemmas.Bool.{cases_lt}
 use Rattle.std.proofs.lemmas.Nat.{mul-le}
-use Rattle.plan_model.specs.declared.geometry.Goal.{Goal}
-use Rattle.plan_model.specs.declared.geometry.Point.{Point}
-use Rattle.plan_model.specs.Geometry.Cost.{cost_of}
-use Rattle.plan_model.specs.Geometry.Plane.{squared_distance}
+use Rattle.plan_model.proofs.Words.{Goal, Point, cost_of, squared_distance, path_point, lies_in_goals, least_of, points_of_goal, length_of_path}
 use Rattle.plan_model.specs.Geometry.Roots.{root_ceiling}
-use Rattle.plan_model.specs.Spaces.ClearPaths.{path_point}
-use Rattle.plan_model.specs.Trees.BestNode.{lies_in_goals}
-use Rattle.plan_model.specs.Trees.GoalBounds.{bound_of, least_of, points_of_goal}
-use Rattle.plan_model.specs.Trees.NodeLists.{length_of_path}
+use Rattle.plan_model.specs.Trees.GoalBounds.{bound_of}
 use Rattle.plan_model.proofs.CostLaws.{cost_of-swap}
 use Rattle.plan_model.proofs.GoalPoints.{Contains-in_goals, in_goals-Contains, Contains-map, from_map}
 use Rattle.plan_model.proofs.ListMembers.{Contains-first, Contains-after}

@@ -2,12 +2,7 @@
 -- if it did.
 use Rattle.std.proofs.Common.{◌≡◌, ℕ, List, [], Option, Some, None, sym, subst}
 use Rattle.std.specs.Prelude.{IsTrue}
-use Rattle.plan_model.specs.declared.geometry.Goal.{Goal}
-use Rattle.plan_model.specs.declared.geometry.Point.{Point}
-use Rattle.plan_model.specs.Trees.BestNode.{IsGoalNode, is_goal_point}
-use Rattle.plan_model.specs.Runs.Textbook.{MayBeCheaper, Setup}
-use Rattle.plan_model.specs.Trees.PointsByNumber.{IsPresent, point_at}
-use Rattle.plan_model.specs.Trees.TreeStates.{GrowsInto, TreeState}
+use Rattle.plan_model.proofs.Words.{Goal, Point, IsGoalNode, is_goal_point, MayBeCheaper, Setup, IsPresent, point_at, GrowsInto, TreeState}
 use Rattle.plan_model.proofs.BestNodeLaws.{IsPresent-goal}
 use Rattle.plan_model.proofs.TreeStateLaws.{point_at-grows}
 

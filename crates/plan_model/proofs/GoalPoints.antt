@@ -5,10 +5,7 @@ use Rattle.std.specs.List.{flat_map}
 use Rattle.std.proofs.lemmas.Bool.{and_parts, le-leb, leb-true}
 use Rattle.std.proofs.lemmas.List.Elements.{Contains-append_left, Contains-append_right, Contains-append_cases}
 use Rattle.std.proofs.lemmas.List.FromFn.{length-range_with_len, get_or-range_with_len}
-use Rattle.plan_model.specs.declared.geometry.Goal.{Goal}
-use Rattle.plan_model.specs.declared.geometry.Point.{Point}
-use Rattle.plan_model.specs.Trees.BestNode.{is_in_goal, lies_in_goals}
-use Rattle.plan_model.specs.Trees.GoalBounds.{numbers_between, points_of_goal}
+use Rattle.plan_model.proofs.Words.{Goal, Point, is_in_goal, lies_in_goals, numbers_between, points_of_goal}
 use Rattle.plan_model.proofs.ListMembers.{Contains-first, Contains-after}
 
 -- ---- lists made of lists

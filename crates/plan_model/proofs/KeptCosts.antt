@@ -3,12 +3,8 @@ use Rattle.std.proofs.Common.{◌≡◌, ℕ, suc, ◌+◌, ◌*◌, ◌<◌, �
 use Rattle.std.specs.Prelude.{◌≢◌, is_some, unwrap_or}
 use Rattle.std.proofs.lemmas.Bool.{cases_lt}
 use Rattle.std.proofs.lemmas.Nat.{mul-le}
-use Rattle.plan_model.specs.declared.geometry.Point.{Point}
-use Rattle.plan_model.specs.declared.trees.Twig.{Twig}
-use Rattle.plan_model.specs.Geometry.Plane.{squared_distance}
-use Rattle.plan_model.specs.Geometry.Cost.{cost_of}
-use Rattle.plan_model.specs.Trees.PointsByNumber.{point_at, IsPresent, point_of}
-use Rattle.plan_model.specs.Trees.NodeLists.{node_at, points_of, parent_or_zero, parent_of, edge_of, CostsFall, AreTight}
+use Rattle.plan_model.proofs.Words.{Point, Twig, squared_distance, cost_of, point_at, IsPresent, point_of, node_at, points_of, parent_or_zero, parent_of}
+use Rattle.plan_model.proofs.Words.{edge_of, CostsFall, AreTight}
 use Rattle.plan_model.proofs.RootLaws.{root_ceiling-is}
 use Rattle.plan_model.proofs.FreePoints.{same-from_distance}
 use Rattle.plan_model.proofs.NewNodes.{Adds, point_at-same, IsPresent-kept, point_of-kept, parent_of-kept}

@@ -94,3 +94,4 @@ pub mod FirstLines
 pub mod FirstWords
 pub mod DigitNumbers
 pub mod ReadBytes
+mod Words

@@ -2,13 +2,8 @@
 use Rattle.std.proofs.Common.{◌≡◌, ℕ, zero, suc, ◌+◌, ◌<◌, ◌≤◌, Some, None, arith, refl, sym, ap, ◌∙◌, subst, inl, inr}
 use Rattle.std.specs.Prelude.{◌≢◌, ◌⊎◌, is_some}
 use Rattle.std.proofs.lemmas.Bool.{cases_eq, cases_lt}
-use Rattle.plan_model.specs.declared.geometry.Point.{Point}
-use Rattle.plan_model.specs.declared.records.Record.{Record}
-use Rattle.plan_model.specs.Geometry.Cost.{cost_of}
-use Rattle.plan_model.specs.Trees.PointsByNumber.{point_at, StandsAt, IsPresent, point_of, node_count}
-use Rattle.plan_model.specs.Trees.TreeStates.{TreeState, recorded_or, first_cost_of, KeepsOrFalls, GrowsInto}
-use Rattle.plan_model.specs.Runs.OrderLaw.{Hangs, HangsBelow, most_cost_of, KeepsOrder, KeepsFirstCosts}
-use Rattle.plan_model.specs.Runs.Textbook.{Setup}
+use Rattle.plan_model.proofs.Words.{Point, Record, cost_of, point_at, StandsAt, IsPresent, point_of, node_count, TreeState, recorded_or, first_cost_of}
+use Rattle.plan_model.proofs.Words.{KeepsOrFalls, GrowsInto, Hangs, HangsBelow, most_cost_of, KeepsOrder, KeepsFirstCosts, Setup}
 use Rattle.plan_model.proofs.NewNodes.{StandsAt-present}
 use Rattle.plan_model.proofs.NodeCounts.{node_count-same}
 use Rattle.plan_model.proofs.OrderLaws.{Hangs-later, HangsBelow-at, start-present, KeepsOrder-falls}

@@ -8,17 +8,9 @@ use Rattle.std.proofs.lemmas.List.FromFn.{length-range_with_len}
 use Rattle.std.proofs.lemmas.List.Sums.{AllPass-from_list_all}
 use Rattle.std.proofs.lemmas.List.Elements.{All-map, All-weaker, All-same}
 use Rattle.std.proofs.lemmas.Bool.{and_parts, leb-true, cases_lt, lt-ltb}
-use Rattle.plan_model.specs.declared.geometry.Vertex.{Vertex}
-use Rattle.plan_model.specs.declared.scenes.Scene.{Scene}
-use Rattle.plan_model.specs.declared.scenes.Marks.{Marks}
-use Rattle.plan_model.specs.declared.scenes.Marks.TheVariants.{Drawn, Listed}
-use Rattle.plan_model.specs.declared.spans.Span.{Span}
-use Rattle.plan_model.specs.declared.tasks.Task.{Task}
-use Rattle.plan_model.specs.declared.limits.TheConstants.{LEAST_BODY_COORDINATE, MOST_BODY_COORDINATE, MOST_COORDINATE, MOST_MARKS}
-use Rattle.plan_model.specs.Geometry.Bounds.{IsBounded}
-use Rattle.plan_model.specs.Scenes.Limits.{is_corner_between, is_mark, is_plan}
-use Rattle.plan_model.specs.Scenes.MarkPoints.{mark_points, points_of_marks, drawn_mark, strip_of_mark, first_word, second_word, next_state}
-use Rattle.plan_model.specs.Scenes.MarkPoints.{below_zero, above_zero, reach, span_within, columns, rows, strip, picked}
+use Rattle.plan_model.proofs.Words.{Vertex, Scene, Marks, Drawn, Listed, Span, Task, LEAST_BODY_COORDINATE, MOST_BODY_COORDINATE, MOST_COORDINATE, MOST_MARKS}
+use Rattle.plan_model.proofs.Words.{IsBounded, is_corner_between, is_mark, is_plan, mark_points, points_of_marks, drawn_mark, strip_of_mark, first_word}
+use Rattle.plan_model.proofs.Words.{second_word, next_state, below_zero, above_zero, reach, span_within, columns, rows, strip, picked}
 use Rattle.plan_model.proofs.SceneBounds.{IsBounded-listed, IsBounded-room}
 use Rattle.plan_model.proofs.SpanLaws.{reach-bounded}
 use Rattle.plan_model.proofs.StripLaws.{strip-some, strip-within}

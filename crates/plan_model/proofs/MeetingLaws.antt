@@ -4,11 +4,7 @@ use Rattle.std.specs.Prelude.{ℤ}
 use Rattle.std.proofs.lemmas.Int.{ints}
 use Rattle.std.proofs.lemmas.Nat.{mul-le}
 use Rattle.std.proofs.lemmas.List.Elements.{All-weaker}
-use Rattle.plan_model.specs.declared.geometry.Vertex.{Vertex}
-use Rattle.plan_model.specs.declared.configuration_spaces.ConfigurationSpace.{ConfigurationSpace}
-use Rattle.plan_model.specs.Spaces.RoomOfConfigurations.{Rational}
-use Rattle.plan_model.specs.Spaces.Meeting.{IsWithin, Meets, SharesPoint}
-use Rattle.plan_model.specs.Spaces.Clearance.{IsClear}
+use Rattle.plan_model.proofs.Words.{Vertex, ConfigurationSpace, Rational, IsWithin, Meets, SharesPoint, IsClear}
 
 -- numbers no distance apart are equal
 equal-within : (m n : ℕ) (a b : ℤ) → IsWithin (0 * m * n) a b → a ≡ b

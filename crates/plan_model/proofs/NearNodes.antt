@@ -8,12 +8,8 @@ use Rattle.std.proofs.lemmas.Bool.{leb-true}
 use Rattle.std.proofs.lemmas.Nat.{mul-le}
 use Rattle.std.proofs.lemmas.List.Elements.{All-weaker, All-cons, All-contains, filter_passes}
 use Rattle.std.proofs.lemmas.List.FromFn.{length-range_with_len, get_or-range_with_len}
-use Rattle.plan_model.specs.declared.geometry.Point.{Point}
-use Rattle.plan_model.specs.Geometry.Plane.{squared_distance}
-use Rattle.plan_model.specs.Trees.Nearness.{is_within, near}
-use Rattle.plan_model.specs.Trees.PointsByNumber.{point_at, IsPresent, point_of, node_count}
-use Rattle.plan_model.specs.Geometry.Radius.{class_of, radius_of}
-use Rattle.plan_model.specs.Runs.Textbook.{Setup, near_new, IsCandidate, SteersTo}
+use Rattle.plan_model.proofs.Words.{Point, squared_distance, is_within, near, point_at, IsPresent, point_of, node_count, class_of, radius_of, Setup, near_new}
+use Rattle.plan_model.proofs.Words.{IsCandidate, SteersTo}
 use Rattle.plan_model.proofs.DistinctPoints.{within_present, IsPresent-below}
 use Rattle.plan_model.proofs.NewNodes.{IsPresent-stands, point_of-stands}
 use Rattle.plan_model.proofs.RadiusLaws.{greatest-le}

@@ -4,22 +4,10 @@ use Rattle.std.specs.Prelude.{◌≢◌, ◌↔◌, ◌⊎◌, is_some}
 use Rattle.std.specs.List.{range_with_len}
 use Rattle.std.proofs.lemmas.Bool.{cases_eq, cases_lt, true≢false}
 use Rattle.std.proofs.lemmas.List.Sums.{length-filter}
-use Rattle.plan_model.specs.declared.geometry.Point.{Point}
-use Rattle.plan_model.specs.declared.limits.TheConstants.{MOST_WORKERS}
-use Rattle.plan_model.specs.declared.records.Outcome.{Outcome}
-use Rattle.plan_model.specs.declared.records.Outcome.TheVariants.{Placed, Same, Blocked, Skipped}
-use Rattle.plan_model.specs.declared.records.Record.{Record}
-use Rattle.plan_model.specs.Spaces.Clearance.{Clear}
-use Rattle.plan_model.specs.Trees.PointsByNumber.{IsFree, IsPresent, StandsAt, point_of, node_count}
-use Rattle.plan_model.specs.Geometry.Steering.{steered}
-use Rattle.plan_model.specs.Trees.TreeStates.{TreeState, GrowsInto}
-use Rattle.plan_model.specs.Runs.OrderLaw.{KeepsOrder}
-use Rattle.plan_model.specs.Runs.Outcomes.{is_placed}
-use Rattle.plan_model.specs.Runs.RecordLaw.{is_earlier, IsEarlier, earlier_count, IsBlockedLawfully, IsSkippedLawfully}
-use Rattle.plan_model.specs.Runs.RecordLaw.{IsSteeredLawfully, HasLawfulOutcome, IsLawfulRecord}
-use Rattle.plan_model.specs.Runs.ClosedLaw.{mark_at, IsClosed}
-use Rattle.plan_model.specs.Runs.Textbook.{Setup, MayBeCheaper, SteersTo}
-use Rattle.plan_model.specs.Runs.Turns.{turns_of}
+use Rattle.plan_model.proofs.Words.{Point, MOST_WORKERS, Outcome, Placed, Same, Blocked, Skipped, Record, Clear, IsFree, IsPresent, StandsAt, point_of}
+use Rattle.plan_model.proofs.Words.{node_count, steered, TreeState, GrowsInto, KeepsOrder, is_placed, is_earlier, IsEarlier, earlier_count, IsBlockedLawfully}
+use Rattle.plan_model.proofs.Words.{IsSkippedLawfully, IsSteeredLawfully, HasLawfulOutcome, IsLawfulRecord, mark_at, IsClosed, Setup, MayBeCheaper, SteersTo}
+use Rattle.plan_model.proofs.Words.{turns_of}
 use Rattle.plan_model.proofs.ClosedLaws.{KeepsFirstCosts-closed}
 use Rattle.plan_model.proofs.GoalNodes.{IsGoalNode-before}
 use Rattle.plan_model.proofs.NodeCounts.{count-le_node_count}

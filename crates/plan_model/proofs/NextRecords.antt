@@ -3,8 +3,7 @@ use Rattle.std.proofs.Common.{◌≡◌, ℕ, suc, Option, Some, None, arith, sy
 use Rattle.std.specs.Prelude.{◌≢◌, ◌⊎◌, is_some}
 use Rattle.std.proofs.lemmas.Bool.{cases_eq}
 use Rattle.std.proofs.lemmas.Option.{same_Some}
-use Rattle.plan_model.specs.declared.records.Record.{Record}
-use Rattle.plan_model.specs.Runs.ClosedLaw.{AreRecordedBelow}
+use Rattle.plan_model.proofs.Words.{Record, AreRecordedBelow}
 
 -- Mark k had no record, and has this one. The other marks have the records that they had.
 pub record RecordsMark (before after : ℕ → Option Record) (k : ℕ) (entry : Record) : Type 0 where

@@ -4,8 +4,7 @@ use Rattle.std.specs.Prelude.{◌≢◌, is_some, count_by}
 use Rattle.std.specs.List.{range_with_len}
 use Rattle.std.proofs.lemmas.Bool.{false_from_ne_true}
 use Rattle.std.proofs.lemmas.List.Sums.{sum_by-cons, count_by-le-length}
-use Rattle.plan_model.specs.declared.geometry.Point.{Point}
-use Rattle.plan_model.specs.Trees.PointsByNumber.{point_at, IsPresent, node_count}
+use Rattle.plan_model.proofs.Words.{Point, point_at, IsPresent, node_count}
 use Rattle.plan_model.proofs.ChainLaws.{node_count-cons}
 use Rattle.plan_model.proofs.CountsBelow.{one_or_none}
 

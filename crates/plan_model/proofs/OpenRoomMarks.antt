@@ -2,19 +2,10 @@
 use Rattle.std.proofs.Common.{◌≡◌, ℕ, zero, suc, List, [], ◌∷◌, ◌++◌, Option, Some, refl, sym, ap, ◌∙◌, subst, arith, inr}
 use Rattle.std.specs.Prelude.{All, Contains, unwrap_or}
 use Rattle.std.proofs.lemmas.List.Elements.{All-cons, All-nil, All-contains}
-use Rattle.plan_model.specs.declared.geometry.Goal.{Goal}
-use Rattle.plan_model.specs.declared.geometry.Point.{Point}
-use Rattle.plan_model.specs.Spaces.EmptyRooms.{empty_room, IsInRoom}
+use Rattle.plan_model.proofs.Words.{Goal, Point, empty_room, IsInRoom, steered, class_of, point_of, IsFree, IsPresent, node_count, IsNotAbove, distance_to}
+use Rattle.plan_model.proofs.Words.{IsNearest, points_of, sum_of, Nodes, MayBeCheaper, near_new, cost_through, Rewires, EndsPlaced, placed_record, at}
+use Rattle.plan_model.proofs.Words.{open_setup, open_setup_to, node}
 use Rattle.plan_model.specs.Geometry.Roots.{root_ceiling}
-use Rattle.plan_model.specs.Geometry.Steering.{steered}
-use Rattle.plan_model.specs.Geometry.Radius.{class_of}
-use Rattle.plan_model.specs.Trees.PointsByNumber.{point_of, IsFree, IsPresent, node_count}
-use Rattle.plan_model.specs.Trees.LeastPairs.{IsNotAbove}
-use Rattle.plan_model.specs.Trees.Nearness.{distance_to, IsNearest}
-use Rattle.plan_model.specs.Trees.NodeLists.{points_of, sum_of}
-use Rattle.plan_model.specs.Runs.Textbook.{Nodes, MayBeCheaper, near_new, cost_through, Rewires, EndsPlaced, placed_record}
-use Rattle.plan_model.specs.Vectors.Shapes.{at}
-use Rattle.plan_model.specs.Vectors.Runs.{open_setup, open_setup_to, node}
 use Rattle.plan_model.proofs.LeastPairLaws.{IsNotAbove-refl}
 use Rattle.plan_model.proofs.RootLaws.{root_ceiling-from_squares}
 use Rattle.plan_model.proofs.EmptyRoomClearance.{Clear-empty_room}

@@ -2,14 +2,8 @@
 use Rattle.std.proofs.Common.{◌≡◌, ℕ, zero, suc, ◌+◌, ◌-◌, ◌*◌, ◌^◌, ◌<◌, ◌≤◌, Some, arith, sym, ap, ◌∙◌, subst}
 use Rattle.std.specs.Prelude.{◌≢◌}
 use Rattle.std.proofs.lemmas.Nat.{mul-le}
-use Rattle.plan_model.specs.declared.geometry.Point.{Point}
-use Rattle.plan_model.specs.declared.limits.TheConstants.{MOST_NODES, MOST_STEERING_STEP}
-use Rattle.plan_model.specs.Geometry.Plane.{squared_distance}
-use Rattle.plan_model.specs.Geometry.Cost.{cost_of}
-use Rattle.plan_model.specs.Trees.PointsByNumber.{StandsAt, IsPresent, point_of, AreDistinct, node_count}
-use Rattle.plan_model.specs.Trees.TreeStates.{TreeState, GrowsInto}
-use Rattle.plan_model.specs.Runs.OrderLaw.{IsAllowedEdge, Hangs, HangsBelow, most_cost_of, KeepsOrder}
-use Rattle.plan_model.specs.Runs.Textbook.{Setup}
+use Rattle.plan_model.proofs.Words.{Point, MOST_NODES, MOST_STEERING_STEP, squared_distance, cost_of, StandsAt, IsPresent, point_of, AreDistinct, node_count}
+use Rattle.plan_model.proofs.Words.{TreeState, GrowsInto, IsAllowedEdge, Hangs, HangsBelow, most_cost_of, KeepsOrder, Setup}
 use Rattle.plan_model.proofs.RootLaws.{root_ceiling-is}
 use Rattle.plan_model.proofs.KeptCosts.{cost_of-apart}
 use Rattle.plan_model.proofs.NewNodes.{IsPresent-stands, point_of-stands, StandsAt-present, node_count-some}

@@ -1,10 +1,6 @@
 -- A state that keeps the order law: kept costs fall along its parents, are at least its sums, and its sums if they are settled.
 use Rattle.std.proofs.Common.{◌≡◌, ℕ, zero, suc, ◌+◌, ◌≤◌, arith, ◌∙◌}
-use Rattle.plan_model.specs.Trees.PointsByNumber.{IsPresent}
-use Rattle.plan_model.specs.Trees.NodeLists.{edge_by, FallAlong}
-use Rattle.plan_model.specs.Trees.TreeStates.{TreeState, sum_in}
-use Rattle.plan_model.specs.Runs.OrderLaw.{KeepsOrder}
-use Rattle.plan_model.specs.Runs.Textbook.{Setup}
+use Rattle.plan_model.proofs.Words.{IsPresent, edge_by, FallAlong, TreeState, sum_in, KeepsOrder, Setup}
 use Rattle.plan_model.proofs.ChainLaws.{sum-start, sum-parent}
 use Rattle.plan_model.proofs.OrderLaws.{start-present, KeepsOrder-falls}
 

@@ -3,12 +3,8 @@ use Rattle.std.proofs.Common.{◌≡◌, ℕ, zero, suc, ◌+◌, ◌<◌, List,
 use Rattle.std.specs.Prelude.{◌≢◌}
 use Rattle.std.proofs.lemmas.Bool.{cases_eq}
 use Rattle.std.proofs.lemmas.List.{get_or-set_same, get_or-set_other}
-use Rattle.plan_model.specs.declared.trees.Twig.{Twig}
-use Rattle.plan_model.specs.Trees.Branches.{IsBranchLowered}
-use Rattle.plan_model.specs.Geometry.Cost.{cost_of}
-use Rattle.plan_model.specs.Trees.PointsByNumber.{IsPresent, point_of, AreDistinct}
-use Rattle.plan_model.specs.Runs.Textbook.{with_parent}
-use Rattle.plan_model.specs.Trees.NodeLists.{points_of, parent_or_zero, parent_of, edge_of, CostsFall, AreTight}
+use Rattle.plan_model.proofs.Words.{Twig, IsBranchLowered, cost_of, IsPresent, point_of, AreDistinct, with_parent, points_of, parent_or_zero, parent_of}
+use Rattle.plan_model.proofs.Words.{edge_of, CostsFall, AreTight}
 use Rattle.plan_model.proofs.DistinctPoints.{points_of-with_parent}
 use Rattle.plan_model.proofs.KeptCosts.{cost_of-apart}
 use Rattle.plan_model.proofs.NewNodes.{StandsAt-present, present_below}

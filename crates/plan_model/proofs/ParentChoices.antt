@@ -3,12 +3,7 @@ use Rattle.std.proofs.Common.{◌≡◌, ℕ, List, [], ◌∷◌, ◌++◌, Opt
 use Rattle.std.proofs.Common.{arith, refl, sym, subst, inl, inr, ◌⊎◌}
 use Rattle.std.specs.Prelude.{Contains}
 use Rattle.std.proofs.lemmas.List.Elements.{Contains-append_left, Contains-push, Contains-push_cases}
-use Rattle.plan_model.specs.declared.geometry.Point.{Point}
-use Rattle.plan_model.specs.Spaces.Clearance.{Clear}
-use Rattle.plan_model.specs.declared.configuration_spaces.ConfigurationSpace.{ConfigurationSpace}
-use Rattle.plan_model.specs.Trees.LeastPairs.{IsNotAbove, IsFirstLeast}
-use Rattle.plan_model.specs.Trees.OpenNodes.{IsOpenTo}
-use Rattle.plan_model.specs.Trees.PointsByNumber.{point_of}
+use Rattle.plan_model.proofs.Words.{Point, Clear, ConfigurationSpace, IsNotAbove, IsFirstLeast, IsOpenTo, point_of}
 use Rattle.plan_model.proofs.LeastPairLaws.{IsNotAbove-refl, IsNotAbove-trans}
 
 module _ (space : ConfigurationSpace) (points : List (Option Point)) (p : Point) where

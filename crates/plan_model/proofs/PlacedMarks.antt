@@ -1,22 +1,10 @@
 -- A mark that is placed by all that a closed run holds, and its record, which is lawful in the tree with the new node.
 use Rattle.std.proofs.Common.{◌≡◌, ℕ, suc, ◌+◌, ◌≤◌, List, Option, arith, refl, sym, ap, ◌∙◌, subst}
 use Rattle.std.specs.Prelude.{◌≢◌, Contains, IsTrue, is_some}
-use Rattle.plan_model.specs.declared.geometry.Point.{Point}
-use Rattle.plan_model.specs.declared.records.Outcome.TheVariants.{Placed}
-use Rattle.plan_model.specs.declared.records.Record.{Record}
-use Rattle.plan_model.specs.Spaces.Clearance.{Clear}
-use Rattle.plan_model.specs.Geometry.Cost.{cost_of}
-use Rattle.plan_model.specs.Trees.LeastPairs.{IsFirstLeast}
-use Rattle.plan_model.specs.Trees.Nearness.{is_within}
-use Rattle.plan_model.specs.Trees.NodeLists.{cost_through_by}
-use Rattle.plan_model.specs.Trees.PointsByNumber.{point_at, StandsAt, IsPresent, point_of, node_count}
-use Rattle.plan_model.specs.Geometry.Radius.{class_of, radius_of, radius_of_class}
-use Rattle.plan_model.specs.Trees.TreeStates.{TreeState, recorded_or, first_cost_of, GrowsInto}
-use Rattle.plan_model.specs.Runs.OrderLaw.{IsAllowedEdge, Hangs, KeepsOrder, KeepsFirstCosts}
-use Rattle.plan_model.specs.Runs.RecordLaw.{earlier_count, IsNeighbour, first_cost_through, IsChosenLawfully, HangsLawfully}
-use Rattle.plan_model.specs.Runs.RecordLaw.{IsPlacedLawfully, IsSteeredLawfully, HasLawfulOutcome}
-use Rattle.plan_model.specs.Runs.ClosedLaw.{IsClosed}
-use Rattle.plan_model.specs.Runs.Textbook.{Setup, MayBeCheaper, near_new, IsCandidate, SteersTo}
+use Rattle.plan_model.proofs.Words.{Point, Placed, Record, Clear, cost_of, IsFirstLeast, is_within, cost_through_by, point_at, StandsAt, IsPresent, point_of}
+use Rattle.plan_model.proofs.Words.{node_count, class_of, radius_of, radius_of_class, TreeState, recorded_or, first_cost_of, GrowsInto, IsAllowedEdge, Hangs}
+use Rattle.plan_model.proofs.Words.{KeepsOrder, KeepsFirstCosts, earlier_count, IsNeighbour, first_cost_through, IsChosenLawfully, HangsLawfully}
+use Rattle.plan_model.proofs.Words.{IsPlacedLawfully, IsSteeredLawfully, HasLawfulOutcome, IsClosed, Setup, MayBeCheaper, near_new, IsCandidate, SteersTo}
 use Rattle.plan_model.proofs.NewNodes.{IsPresent-stands}
 use Rattle.plan_model.proofs.OrderLaws.{Hangs-grows}
 use Rattle.plan_model.proofs.TreeStateLaws.{point_at-grows, point_of-grows, node_count-grows}

@@ -2,13 +2,7 @@
 use Rattle.std.proofs.Common.{◌≡◌, ℕ, suc, Bool, true, false, Option, Some, None, refl, sym, ap, ◌∙◌}
 use Rattle.std.specs.Prelude.{◌↔◌, is_some}
 use Rattle.std.proofs.lemmas.Bool.{false_from_ne_true, true≢false}
-use Rattle.plan_model.specs.declared.records.Outcome.{Outcome}
-use Rattle.plan_model.specs.declared.records.Outcome.TheVariants.{Placed, Same, Blocked, Skipped}
-use Rattle.plan_model.specs.declared.records.Record.{Record}
-use Rattle.plan_model.specs.Runs.Outcomes.{is_placed}
-use Rattle.plan_model.specs.Trees.PointsByNumber.{IsPresent, point_at}
-use Rattle.plan_model.specs.Trees.TreeStates.{TreeState}
-use Rattle.plan_model.specs.Runs.ClosedLaw.{ArePlacedMarks, has_outcome}
+use Rattle.plan_model.proofs.Words.{Outcome, Placed, Same, Blocked, Skipped, Record, is_placed, IsPresent, point_at, TreeState, ArePlacedMarks, has_outcome}
 
 -- an outcome that counts as placed is
 pub is_placed-true : (outcome : Outcome) → is_placed outcome ≡ true → outcome ≡ Placed

@@ -6,12 +6,8 @@ use Rattle.std.proofs.lemmas.Int.{ints}
 use Rattle.std.proofs.lemmas.Nat.{mul-le}
 use Rattle.std.proofs.lemmas.List.Elements.{All-weaker}
 use borrow.Author.Differences.{up, down, sum_is_lem, product_is}
-use Rattle.plan_model.specs.declared.geometry.Vertex.{Vertex}
-use Rattle.plan_model.specs.declared.geometry.Point.{Point}
-use Rattle.plan_model.specs.declared.configuration_spaces.ConfigurationSpace.{ConfigurationSpace}
-use Rattle.plan_model.specs.Spaces.RoomOfConfigurations.{Rational, IsSamePoint, scaled, moved_by, IsBetweenWalls, InRoom}
-use Rattle.plan_model.specs.Spaces.Meeting.{weighted, IsWithin, Meets}
-use Rattle.plan_model.specs.Spaces.Clearance.{IsClear}
+use Rattle.plan_model.proofs.Words.{Vertex, Point, ConfigurationSpace, Rational, IsSamePoint, scaled, moved_by, IsBetweenWalls, InRoom, weighted, IsWithin}
+use Rattle.plan_model.proofs.Words.{Meets, IsClear}
 
 -- ---- numbers
 -- x / m and z / n are one number

@@ -2,23 +2,10 @@
 use Rattle.std.proofs.Common.{◌≡◌, ℕ, suc, ◌≤◌, arith, sym, ap, ◌∙◌, subst}
 use Rattle.std.specs.Prelude.{IsTrue}
 use Rattle.std.proofs.lemmas.Int.Digits.{length-digits_of-le}
-use Rattle.plan_model.specs.declared.geometry.Point.{Point}
-use Rattle.plan_model.specs.declared.records.Outcome.{Outcome}
-use Rattle.plan_model.specs.declared.records.Outcome.TheVariants.{Placed, Same, Blocked, Skipped}
-use Rattle.plan_model.specs.declared.records.Record.{Record}
-use Rattle.plan_model.specs.Spaces.Clearance.{Clear}
-use Rattle.plan_model.specs.Geometry.Cost.{cost_of}
-use Rattle.plan_model.specs.Geometry.Plane.{squared_distance}
-use Rattle.plan_model.specs.Trees.LeastPairs.{IsNotAbove}
-use Rattle.plan_model.specs.Trees.Nearness.{distance_to, is_within}
-use Rattle.plan_model.specs.Trees.PointsByNumber.{IsPresent, StandsAt, point_at, point_of, node_count}
-use Rattle.plan_model.specs.Geometry.Radius.{class_of, radius_of_class}
-use Rattle.plan_model.specs.Geometry.Steering.{steered}
-use Rattle.plan_model.specs.Trees.TreeStates.{TreeState, GrowsInto}
-use Rattle.plan_model.specs.Runs.OrderLaw.{most_cost_of}
-use Rattle.plan_model.specs.Runs.RecordLaw.{IsEarlier, IsNeighbour, first_cost_through, IsChosenLawfully, HangsLawfully, IsBlockedLawfully}
-use Rattle.plan_model.specs.Runs.RecordLaw.{IsPlacedLawfully, IsSkippedLawfully, IsSteeredLawfully, HasLawfulOutcome, IsLawfulRecord}
-use Rattle.plan_model.specs.Runs.Textbook.{Setup}
+use Rattle.plan_model.proofs.Words.{Point, Outcome, Placed, Same, Blocked, Skipped, Record, Clear, cost_of, squared_distance, IsNotAbove, distance_to}
+use Rattle.plan_model.proofs.Words.{is_within, IsPresent, StandsAt, point_at, point_of, node_count, class_of, radius_of_class, steered, TreeState, GrowsInto}
+use Rattle.plan_model.proofs.Words.{most_cost_of, IsEarlier, IsNeighbour, first_cost_through, IsChosenLawfully, HangsLawfully, IsBlockedLawfully}
+use Rattle.plan_model.proofs.Words.{IsPlacedLawfully, IsSkippedLawfully, IsSteeredLawfully, HasLawfulOutcome, IsLawfulRecord, Setup}
 use Rattle.plan_model.proofs.BestNodeLaws.{IsPresent-goal}
 use Rattle.plan_model.proofs.ClassLaws.{below_digits}
 use Rattle.plan_model.proofs.EarlierNodes.{HaveSameEarlier, earlier_count-same}

@@ -1,13 +1,7 @@
 -- The run in which node 2 gets a cheaper way through node 3.
 use Rattle.std.proofs.Common.{◌≡◌, List, [], ◌∷◌, refl, arith, inl}
-use Rattle.plan_model.specs.declared.geometry.Goal.{Goal}
-use Rattle.plan_model.specs.declared.geometry.Point.{Point}
-use Rattle.plan_model.specs.declared.records.Record.{Record}
-use Rattle.plan_model.specs.Spaces.EmptyRooms.{empty_room}
-use Rattle.plan_model.specs.Trees.NodeLists.{sum_of}
-use Rattle.plan_model.specs.Runs.Textbook.{Nodes, HandlesAll, placed_record, cost_through, IsCheaperThrough, Rewires, IsTextbookRun}
-use Rattle.plan_model.specs.Vectors.Shapes.{at}
-use Rattle.plan_model.specs.Vectors.Runs.{open_setup, open_setup_to, marks_to_rewire, rewired_tree, rewired_records}
+use Rattle.plan_model.proofs.Words.{Goal, Point, Record, empty_room, sum_of, Nodes, HandlesAll, placed_record, cost_through, IsCheaperThrough, Rewires}
+use Rattle.plan_model.proofs.Words.{IsTextbookRun, at, open_setup, open_setup_to, marks_to_rewire, rewired_tree, rewired_records}
 use Rattle.plan_model.proofs.EmptyRoomClearance.{Clear-empty_room}
 use Rattle.plan_model.proofs.OpenRoomMarks.{cost_2500, cost_2441, cost_2401, two_nodes}
 use Rattle.plan_model.proofs.ThreeMarks.{StandsAbove, AreOpen, AreOpen-not_skipping, three_nodes, four_nodes, IsTextbookRun-more, IsTextbookRun-three}

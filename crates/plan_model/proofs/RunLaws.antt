@@ -1,8 +1,6 @@
 -- A textbook run has a record for each mark, and goes on by one mark at its end.
 use Rattle.std.proofs.Common.{◌≡◌, ℕ, suc, ◌+◌, List, [], ◌∷◌, ◌++◌, length, arith, refl, ap, subst}
-use Rattle.plan_model.specs.declared.geometry.Point.{Point}
-use Rattle.plan_model.specs.declared.records.Record.{Record}
-use Rattle.plan_model.specs.Runs.Textbook.{Nodes, Setup, Handles, HandlesAll}
+use Rattle.plan_model.proofs.Words.{Point, Record, Nodes, Setup, Handles, HandlesAll}
 
 -- there are as many records as marks
 pub HandlesAll-length :

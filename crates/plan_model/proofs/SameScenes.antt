@@ -3,13 +3,8 @@
 use Rattle.std.proofs.Common.{◌≡◌, Bool, ℕ, List, Option, Some, ◌≤◌, IsTrue, sym, ◌∙◌}
 use Rattle.std.proofs.Props.{props}
 use mathlib.Core.HLevel.{is_prop→PathP}
-use Rattle.plan_model.specs.declared.geometry.Point.{Point}
-use Rattle.plan_model.specs.declared.scenes.Scene.{Scene}
-use Rattle.plan_model.specs.Scenes.Limits.{IsBetween, are_goals, are_obstacles, is_body, is_plan, may_be_informed, most_clearance, most_side, most_step}
-use Rattle.plan_model.specs.declared.limits.TheConstants.{LEAST_SIDE, LEAST_STEP, MOST_GAMMA, MOST_SEED, MOST_STRIPS}
-use Rattle.plan_model.specs.Scenes.ConvertedScenes.{IsConverted}
-use Rattle.plan_model.specs.Texts.LineChecks.{Format, Given}
-use Rattle.plan_model.specs.Texts.SceneGrammar.{HasFields, Spells}
+use Rattle.plan_model.proofs.Words.{Point, Scene, IsBetween, are_goals, are_obstacles, is_body, is_plan, may_be_informed, most_clearance, most_side, most_step}
+use Rattle.plan_model.proofs.Words.{LEAST_SIDE, LEAST_STEP, MOST_GAMMA, MOST_SEED, MOST_STRIPS, IsConverted, Format, Given, HasFields, Spells}
 
 IsBetween-prop : (low high : ℕ) (p : Point) → IsProp (IsBetween low high p)
 IsBetween-prop low high p = hlevel props

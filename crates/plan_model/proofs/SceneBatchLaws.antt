@@ -5,14 +5,9 @@ use Rattle.std.proofs.lemmas.Bool.{cases_order, cases_lt}
 use Rattle.std.proofs.lemmas.List.{ext_get_or, get_or_append_left, length-append}
 use Rattle.std.proofs.Math.Seq.{get_or-append_seam}
 use borrow.Author.Count.{below_more}
-use Rattle.plan_model.specs.declared.limits.TheConstants.{MOST_SCENES}
-use Rattle.plan_model.specs.declared.scenes.Scene.{Scene}
-use Rattle.plan_model.specs.declared.text_terms.Kind.{Kind}
+use Rattle.plan_model.proofs.Words.{MOST_SCENES, Scene, Kind, lines_of, Format, Spells, Part, parts_of, part_text, lines_before, SpellsBatch, AreSpelledBelow}
+use Rattle.plan_model.proofs.Words.{IsRefusedPart, FailsAtPart, RefusesBatch}
 use Rattle.plan_model.specs.declared.text_terms.Kind.TheVariants as kinds
-use Rattle.plan_model.specs.Texts.TextLines.{lines_of}
-use Rattle.plan_model.specs.Texts.LineChecks.{Format}
-use Rattle.plan_model.specs.Texts.SceneGrammar.{Spells}
-use Rattle.plan_model.specs.Texts.SceneBatches.{Part, parts_of, part_text, lines_before, SpellsBatch, AreSpelledBelow, IsRefusedPart, FailsAtPart, RefusesBatch}
 use Rattle.plan_model.proofs.Soundness.{Refused-one_line, Refused-one_kind, Spells-not_refused}
 use Rattle.plan_model.proofs.SameScenes.{Spells-one_scene}
 use Rattle.plan_model.proofs.GivenScenes.{decided}

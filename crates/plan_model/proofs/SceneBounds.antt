@@ -7,19 +7,11 @@ use Rattle.std.proofs.lemmas.Bool.{and_parts, and_from, leb-true}
 use Rattle.std.proofs.lemmas.Int.{ints}
 use Rattle.std.proofs.lemmas.List.Elements.{All-weaker}
 use Rattle.std.proofs.lemmas.List.Sums.{AllPass-from_list_all}
-use Rattle.plan_model.specs.declared.geometry.Goal.{Goal}
-use Rattle.plan_model.specs.declared.geometry.Point.{Point}
-use Rattle.plan_model.specs.declared.geometry.Vertex.{Vertex}
-use Rattle.plan_model.specs.declared.scenes.Scene.{Scene}
-use Rattle.plan_model.specs.declared.limits.TheConstants.{LEAST_OBSTACLE_COORDINATE, LEAST_OBSTACLE_COORDINATE_OF_VERSION_2, LEAST_SUMMAND_COORDINATE}
-use Rattle.plan_model.specs.declared.limits.TheConstants.{MOST_CLEARANCE, MOST_COORDINATE, MOST_OBSTACLE_COORDINATE, MOST_OBSTACLE_COORDINATE_OF_VERSION_2}
-use Rattle.plan_model.specs.declared.limits.TheConstants.{MOST_OBSTACLE_CORNERS, MOST_SIDE, MOST_SIDE_OF_VERSION_2, MOST_STEERING_STEP, MOST_STEP}
-use Rattle.plan_model.specs.declared.limits.TheConstants.{MOST_STEP_OF_VERSION_2, MOST_SUMMAND_COORDINATE}
-use Rattle.plan_model.specs.Geometry.Bounds.{IsBounded, IsBoundedBox}
-use Rattle.plan_model.specs.Geometry.Convexity.{is_strictly_convex}
-use Rattle.plan_model.specs.Spaces.EmptyRooms.{IsInRoom}
-use Rattle.plan_model.specs.Scenes.Limits.{is_corner_between, is_goal, is_mark, is_obstacle, least_obstacle_coordinate, most_obstacle_coordinate, most_side}
-use Rattle.plan_model.specs.Scenes.Limits.{most_goals, most_step}
+use Rattle.plan_model.proofs.Words.{Goal, Point, Vertex, Scene, LEAST_OBSTACLE_COORDINATE, LEAST_OBSTACLE_COORDINATE_OF_VERSION_2, LEAST_SUMMAND_COORDINATE}
+use Rattle.plan_model.proofs.Words.{MOST_CLEARANCE, MOST_COORDINATE, MOST_OBSTACLE_COORDINATE, MOST_OBSTACLE_COORDINATE_OF_VERSION_2, MOST_OBSTACLE_CORNERS}
+use Rattle.plan_model.proofs.Words.{MOST_SIDE, MOST_SIDE_OF_VERSION_2, MOST_STEERING_STEP, MOST_STEP, MOST_STEP_OF_VERSION_2, MOST_SUMMAND_COORDINATE}
+use Rattle.plan_model.proofs.Words.{IsBounded, IsBoundedBox, is_strictly_convex, IsInRoom, is_corner_between, is_goal, is_mark, is_obstacle}
+use Rattle.plan_model.proofs.Words.{least_obstacle_coordinate, most_obstacle_coordinate, most_side, most_goals, most_step}
 
 -- ---- the limits of either version
 

@@ -7,14 +7,11 @@ use Rattle.std.proofs.lemmas.Bool.{and_parts, and_from, or_cases, or_left, or_ri
 use Rattle.std.proofs.lemmas.List.{length-map}
 use Rattle.std.proofs.lemmas.List.Elements.{All-head, All-tail}
 use Rattle.plan_model.specs.declared.text_terms.Key.TheVariants as keys
-use Rattle.plan_model.specs.Geometry.Convexity.{is_strictly_convex}
-use Rattle.plan_model.specs.Scenes.Limits.{IsBetween, by_version, is_corner_between, are_goals, is_body, is_goal, is_obstacle, is_mark, is_plan}
-use Rattle.plan_model.specs.Scenes.Limits.{may_be_informed}
-use Rattle.plan_model.specs.Scenes.Limits.{least_obstacle_coordinate, most_clearance, most_goals, most_obstacle_coordinate, most_side, most_step}
-use Rattle.plan_model.specs.declared.limits.TheConstants.{LEAST_BODY_COORDINATE, LEAST_SIDE, LEAST_STEP, MOST_BODY_COORDINATE, MOST_BODY_CORNERS}
-use Rattle.plan_model.specs.declared.limits.TheConstants.{MOST_GAMMA, MOST_MARKS, MOST_OBSTACLE_CORNERS, MOST_SEED, MOST_STRIPS}
-use Rattle.plan_model.specs.Texts.LineChecks.{are_between, corners_from, is_ordered, MayStand}
-use Rattle.plan_model.specs.Texts.SceneGrammar.{point_from, goal_from, number_or, body_from, plan_from}
+use Rattle.plan_model.proofs.Words.{is_strictly_convex, IsBetween, by_version, is_corner_between, are_goals, is_body, is_goal, is_obstacle, is_mark, is_plan}
+use Rattle.plan_model.proofs.Words.{may_be_informed, least_obstacle_coordinate, most_clearance, most_goals, most_obstacle_coordinate, most_side, most_step}
+use Rattle.plan_model.proofs.Words.{LEAST_BODY_COORDINATE, LEAST_SIDE, LEAST_STEP, MOST_BODY_COORDINATE, MOST_BODY_CORNERS, MOST_GAMMA, MOST_MARKS}
+use Rattle.plan_model.proofs.Words.{MOST_OBSTACLE_CORNERS, MOST_SEED, MOST_STRIPS, are_between, corners_from, is_ordered, MayStand, point_from, goal_from}
+use Rattle.plan_model.proofs.Words.{number_or, body_from, plan_from}
 
 -- ---- one number
 

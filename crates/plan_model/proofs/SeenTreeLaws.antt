@@ -2,10 +2,7 @@
 use Rattle.std.proofs.Common.{◌≡◌, ℕ, zero, suc, ◌<◌, Bool, Some, arith, refl, sym, ap, ◌∙◌, subst, inl, inr}
 use Rattle.std.specs.Prelude.{◌≢◌, ◌⊎◌}
 use Rattle.std.proofs.lemmas.Bool.{cases_order}
-use Rattle.plan_model.specs.declared.geometry.Point.{Point}
-use Rattle.plan_model.specs.Trees.PointsByNumber.{point_at, StandsAt}
-use Rattle.plan_model.specs.Seen.Ways.{goes_right, IsOnWay}
-use Rattle.plan_model.specs.Seen.SeenTrees.{SeenTree, IsSeen, IsOnSeenWay, HasSeenAtLeast}
+use Rattle.plan_model.proofs.Words.{Point, point_at, StandsAt, goes_right, IsOnWay, SeenTree, IsSeen, IsOnSeenWay, HasSeenAtLeast}
 use Rattle.plan_model.specs.Seen.SeenTrees.IsOnSeenWay.{begins, goes_on}
 use Rattle.plan_model.proofs.NewNodes.{StandsAt-unique}
 use Rattle.plan_model.proofs.WayLaws.{way_start, last_step, same_child, earlier_step}

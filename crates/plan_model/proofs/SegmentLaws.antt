@@ -3,10 +3,7 @@ use Rattle.std.proofs.Common.{◌≡◌, ℕ, suc, ◌+◌, ◌-◌, ◌*◌, �
 use Rattle.std.specs.Prelude.{ℤ, pos, negsuc, ◌+ℤ◌, ◌-ℤ◌, ◌*ℤ◌}
 use Rattle.std.proofs.Math.Nat.{le_refl}
 use Rattle.std.proofs.lemmas.Int.{ints}
-use Rattle.plan_model.specs.declared.geometry.Point.{Point}
-use Rattle.plan_model.specs.declared.configuration_spaces.ConfigurationSpace.{ConfigurationSpace}
-use Rattle.plan_model.specs.Spaces.RoomOfConfigurations.{at_lattice, IsSamePoint}
-use Rattle.plan_model.specs.Spaces.Clearance.{ClearAt, on_the_way, Clear}
+use Rattle.plan_model.proofs.Words.{Point, ConfigurationSpace, at_lattice, IsSamePoint, ClearAt, on_the_way, Clear}
 use Rattle.plan_model.proofs.RationalPoints.{IsSamePoint-sym, IsClear-same}
 
 -- s of d parts and the rest of them are the whole

@@ -1,14 +1,7 @@
 -- Settled runs: what stays while one grows into another, and that a textbook run is settled already.
 use Rattle.std.proofs.Common.{◌≡◌, ℕ, ◌≤◌, List, arith, sym, ap, ◌∙◌, subst}
-use Rattle.plan_model.specs.declared.geometry.Point.{Point}
-use Rattle.plan_model.specs.declared.geometry.Goal.{Goal}
-use Rattle.plan_model.specs.Trees.BestNode.{IsBestNode}
-use Rattle.plan_model.specs.Spaces.Clearance.{ClearAt}
-use Rattle.plan_model.specs.Trees.PointsByNumber.{IsPresent, point_at}
-use Rattle.plan_model.specs.Runs.SameRuns.{IsOfTextbookRun}
-use Rattle.plan_model.specs.Runs.Textbook.{Setup}
-use Rattle.plan_model.specs.Trees.TreeStates.{AreSameRuns, ChangesCosts, GrowsInto, IsSettled, TreeState, state_of, sum_in}
-use Rattle.plan_model.specs.Trees.NodeLists.{sum_by}
+use Rattle.plan_model.proofs.Words.{Point, Goal, IsBestNode, ClearAt, IsPresent, point_at, IsOfTextbookRun, Setup, AreSameRuns, ChangesCosts, GrowsInto}
+use Rattle.plan_model.proofs.Words.{IsSettled, TreeState, state_of, sum_in, sum_by}
 use Rattle.plan_model.proofs.BestNodeLaws.{IsPresent-goal}
 use Rattle.plan_model.proofs.GoalNodes.{IsGoalNode-grows}
 use Rattle.plan_model.proofs.SameTrees.{AreSameRuns-trans, IsSettled-of_textbook}

@@ -3,11 +3,8 @@ use Rattle.std.proofs.Common.{◌≡◌, ℕ, ◌<◌, Bool, true, false, Option
 use Rattle.std.specs.Prelude.{◌⊎◌, nat_lt, cond, is_some, IsSome}
 use Rattle.std.specs.Option.{option_or}
 use Rattle.std.proofs.lemmas.Bool.{cases_lt, ltb-true, ltb-false}
-use Rattle.plan_model.specs.declared.geometry.Point.{Point}
-use Rattle.plan_model.specs.Trees.PointsByNumber.{point_at, point_of, StandsAt}
-use Rattle.plan_model.specs.Seen.Ways.{FollowWays}
-use Rattle.plan_model.specs.Seen.SeenTrees.{SeenTree, IsSeen, IsRooted, HasSeenAtLeast, SharedTree, IsTrueOf}
-use Rattle.plan_model.specs.Seen.Sights.{Sight, KeepsSight, IsLaterMoment, cheaper_of, HaveSeenTogether, TakesOver, AgreeOnParents}
+use Rattle.plan_model.proofs.Words.{Point, point_at, point_of, StandsAt, FollowWays, SeenTree, IsSeen, IsRooted, HasSeenAtLeast, SharedTree, IsTrueOf, Sight}
+use Rattle.plan_model.proofs.Words.{KeepsSight, IsLaterMoment, cheaper_of, HaveSeenTogether, TakesOver, AgreeOnParents}
 use Rattle.plan_model.proofs.NewNodes.{IsPresent-stands, StandsAt-present, StandsAt-unique}
 use Rattle.plan_model.proofs.SeenTreeLaws.{IsSeen-more}
 use Rattle.plan_model.proofs.TrueSights.{FollowSeenWays-true}

@@ -6,15 +6,12 @@ use Rattle.std.specs.List.{list_all}
 use Rattle.std.proofs.lemmas.Bool.{cond_both, or_parts, leb-false}
 use Rattle.std.proofs.lemmas.List.{append-nil, length-map, length_push, take_all}
 use Rattle.std.proofs.lemmas.List.Elements.{All-nil, All-push}
-use Rattle.plan_model.specs.declared.text_terms.Key.{Key}
-use Rattle.plan_model.specs.declared.text_terms.Kind.{Kind}
+use Rattle.plan_model.proofs.Words.{Key, Kind, lines_of, words_of, statements_of, is_number, value_of, key_of, fits_words, most_corners, most_lines, Format}
+use Rattle.plan_model.proofs.Words.{Given, begins_with, given_by, with_statement, is_repeated, is_too_many, is_in_range, has_corners, fault_at_key}
+use Rattle.plan_model.proofs.Words.{fault_of_statement, fault_after, first_failing, checks_of, MayStand, AllMayStand, version_given, given_after_version}
+use Rattle.plan_model.proofs.Words.{IsSoundBelow}
 use Rattle.plan_model.specs.declared.text_terms.Kind.TheVariants as kinds
-use Rattle.plan_model.specs.Texts.TextLines.{lines_of, words_of, is_skipped, statements_of}
-use Rattle.plan_model.specs.Texts.TextNumbers.{is_number, value_of}
-use Rattle.plan_model.specs.Texts.Keys.{key_of, fits_words, most_corners, most_lines}
-use Rattle.plan_model.specs.Texts.LineChecks.{Format, Given, begins_with, given_by, with_statement, is_repeated, is_too_many, is_in_range, has_corners}
-use Rattle.plan_model.specs.Texts.LineChecks.{fault_at_key, fault_of_statement, fault_after, first_failing, checks_of, MayStand, AllMayStand}
-use Rattle.plan_model.specs.Texts.SceneGrammar.{version_given, given_after_version, IsSoundBelow}
+use Rattle.plan_model.specs.Texts.TextLines.{is_skipped}
 use Rattle.plan_model.proofs.StatementNumbers.{key-begun, given_by-push, statements_of-push}
 
 -- ---- the numbers of one statement

@@ -2,11 +2,7 @@
 use Rattle.std.proofs.Common.{◌≡◌, ℕ, zero, suc, ◌+◌, ◌<◌, ◌≤◌, Bool, true, List, length, Option, Some, None, inl, inr, ◌∙◌, ap, refl, arith}
 use Rattle.std.specs.Prelude.{◌&&◌, is_none}
 use Rattle.std.proofs.lemmas.Bool.{cases_order}
-use Rattle.plan_model.specs.declared.scenes.Scene.{Scene}
-use Rattle.plan_model.specs.declared.text_terms.Kind.{Kind}
-use Rattle.plan_model.specs.Texts.TextLines.{lines_of}
-use Rattle.plan_model.specs.Texts.LineChecks.{Format}
-use Rattle.plan_model.specs.Texts.SceneGrammar.{fault_of_line, IsSoundBelow, FailsAt, Refused, Spells}
+use Rattle.plan_model.proofs.Words.{Scene, Kind, lines_of, Format, fault_of_line, IsSoundBelow, FailsAt, Refused, Spells}
 
 -- no line below line n has a fault
 unfoldable pub are_sound : Format → List (List ℕ) → ℕ → Bool

@@ -3,12 +3,8 @@ use Rattle.std.proofs.Common.{ℕ, ◌+◌, ◌-◌, ◌*◌, ◌≤◌, List, [
 use Rattle.std.specs.Prelude.{ℤ, pos, negsuc, ◌+ℤ◌, ◌*ℤ◌, ◌≤ℤ◌, All, fold, max}
 use Rattle.std.proofs.lemmas.Int.{ints}
 use Rattle.std.proofs.lemmas.List.Elements.{All-cons, All-nil, All-head, All-tail}
-use Rattle.plan_model.specs.declared.geometry.Vertex.{Vertex}
-use Rattle.plan_model.specs.declared.geometry.Point.{Point}
-use Rattle.plan_model.specs.declared.configuration_spaces.ConfigurationSpace.{ConfigurationSpace}
-use Rattle.plan_model.specs.Spaces.RoomOfConfigurations.{at_lattice, InRoom}
-use Rattle.plan_model.specs.Scenes.MarkPoints.{below_zero, above_zero, reach, IsInSpan, span_within, columns, rows, BodyFits}
-use Rattle.plan_model.specs.declared.spans.Span.{Span}
+use Rattle.plan_model.proofs.Words.{Vertex, Point, ConfigurationSpace, at_lattice, InRoom, below_zero, above_zero, reach, IsInSpan, span_within, columns, rows}
+use Rattle.plan_model.proofs.Words.{BodyFits, Span}
 
 -- ---- how far a body reaches, seen from a bound of it
 pub record IsReachBounded (extent : Vertex → ℕ) (far : ℕ) (body : List Vertex) (n : ℕ) : Type 0 where

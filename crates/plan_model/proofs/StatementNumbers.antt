@@ -5,11 +5,10 @@ use Rattle.std.specs.Prelude.{bytes_eq}
 use Rattle.std.proofs.lemmas.List.{map-append, append-nil}
 use Rattle.std.proofs.lemmas.List.Elements.{filter-append}
 use Rattle.std.proofs.lemmas.Slice.Eq.{bytes_eq-Decides}
-use Rattle.plan_model.specs.declared.text_terms.Key.{Key}
+use Rattle.plan_model.proofs.Words.{Key, words_of, statements_of, name_of, every_key, key_among, is_key, key_within, key_of, begins_with, numbers_in, given_by}
+use Rattle.plan_model.proofs.Words.{with_statement}
 use Rattle.plan_model.specs.declared.text_terms.Key.TheVariants as keys
-use Rattle.plan_model.specs.Texts.TextLines.{words_of, is_skipped, statements_of}
-use Rattle.plan_model.specs.Texts.Keys.{name_of, every_key, key_among, is_key, key_within, key_of}
-use Rattle.plan_model.specs.Texts.LineChecks.{begins_with, numbers_in, given_by, with_statement}
+use Rattle.plan_model.specs.Texts.TextLines.{is_skipped}
 
 -- ---- keys
 

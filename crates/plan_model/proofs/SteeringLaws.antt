@@ -7,10 +7,8 @@ use Rattle.std.proofs.Math.Nat.{div-le_of_le-mul, div-mul-le_self, le_of_mul-le-
 use Rattle.std.proofs.lemmas.Bool.{cases_lt, le-leb, lt-leb, leb-true, leb-false}
 use Rattle.std.proofs.lemmas.Int.{ints}
 use Rattle.std.proofs.lemmas.Nat.{mul-le, mod_below, div-add-mod'}
-use Rattle.plan_model.specs.declared.geometry.Point.{Point}
-use Rattle.plan_model.specs.Geometry.Plane.{squared_distance, IsInBoxOf}
-use Rattle.plan_model.specs.Geometry.Roots.{IsRootCeiling, root_ceiling}
-use Rattle.plan_model.specs.Geometry.Steering.{IsStep, advanced, steered}
+use Rattle.plan_model.proofs.Words.{Point, squared_distance, IsInBoxOf, IsRootCeiling, IsStep, advanced, steered}
+use Rattle.plan_model.specs.Geometry.Roots.{root_ceiling}
 use Rattle.plan_model.proofs.RootLaws.{root_ceiling-is, lt-from_squares}
 use Rattle.plan_model.proofs.SamePoints.{point_is}
 

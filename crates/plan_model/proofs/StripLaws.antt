@@ -3,8 +3,7 @@ use Rattle.std.proofs.Common.{◌≡◌, ℕ, ◌+◌, ◌-◌, ◌*◌, ◌/◌
 use Rattle.std.proofs.Math.Nat.{div-le_of_le-mul, div-mul-le_self, mul-div_cancel_left}
 use Rattle.std.proofs.lemmas.Bool.{cases_lt, le-ltb, ltb-false}
 use Rattle.std.proofs.lemmas.Nat.{mul-le, le-div}
-use Rattle.plan_model.specs.Scenes.MarkPoints.{IsInSpan, strip}
-use Rattle.plan_model.specs.declared.spans.Span.{Span}
+use Rattle.plan_model.proofs.Words.{IsInSpan, strip, Span}
 
 div-le-div : (m n k : ℕ) → 0 < k → m ≤ n → m / k ≤ n / k
 div-le-div m n k some h =

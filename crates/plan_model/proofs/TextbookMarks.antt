@@ -6,22 +6,9 @@ use Rattle.std.proofs.lemmas.Bool.{eq-eqb}
 use Rattle.std.proofs.lemmas.List.{length-map}
 use Rattle.std.proofs.lemmas.List.Elements.{All-weaker, All-contains}
 use Rattle.std.proofs.lemmas.Option.{slice_get-get_or}
-use Rattle.plan_model.specs.declared.geometry.Point.{Point}
-use Rattle.plan_model.specs.declared.limits.TheConstants.{MOST_WORKERS}
-use Rattle.plan_model.specs.declared.records.Outcome.{Outcome}
-use Rattle.plan_model.specs.declared.records.Outcome.TheVariants.{Placed, Same, Blocked, Skipped}
-use Rattle.plan_model.specs.declared.records.Record.{Record}
-use Rattle.plan_model.specs.declared.trees.Twig.{Twig}
-use Rattle.plan_model.specs.Spaces.Clearance.{Clear}
-use Rattle.plan_model.specs.Geometry.Cost.{cost_of}
-use Rattle.plan_model.specs.Geometry.Plane.{squared_distance}
-use Rattle.plan_model.specs.Trees.PointsByNumber.{point_at, point_of}
-use Rattle.plan_model.specs.Trees.NodeLists.{points_of, sum_of}
-use Rattle.plan_model.specs.Trees.TreeStates.{TreeState, GrowsInto, state_of}
-use Rattle.plan_model.specs.Runs.OrderLaw.{KeepsOrder}
-use Rattle.plan_model.specs.Runs.Outcomes.{is_placed}
-use Rattle.plan_model.specs.Runs.ClosedLaw.{mark_at, IsClosed}
-use Rattle.plan_model.specs.Runs.Textbook.{Nodes, Setup, MayBeCheaper, near_new, SteersTo, EndsPlaced, EndsSkipped, Ends}
+use Rattle.plan_model.proofs.Words.{Point, MOST_WORKERS, Outcome, Placed, Same, Blocked, Skipped, Record, Twig, Clear, cost_of, squared_distance, point_at}
+use Rattle.plan_model.proofs.Words.{point_of, points_of, sum_of, TreeState, GrowsInto, state_of, KeepsOrder, is_placed, mark_at, IsClosed, Nodes, Setup}
+use Rattle.plan_model.proofs.Words.{MayBeCheaper, near_new, SteersTo, EndsPlaced, EndsSkipped, Ends, is_of_worker, turns_of}
 use Rattle.plan_model.proofs.CostLaws.{cost_of-swap}
 use Rattle.plan_model.proofs.SegmentLaws.{Clear-back}
 use Rattle.plan_model.proofs.CountsBelow.{count-all}
@@ -35,7 +22,6 @@ use Rattle.plan_model.proofs.NextMarks.{EndsLawfully, EndsUnplaced, IsClosed-nex
 use Rattle.plan_model.proofs.PlacedMarks.{ChoosesParent, LeavesPlaced, parent-reachable, parent-allowed, EndsLawfully-placed}
 use Rattle.plan_model.proofs.TextbookStates.{RecordsNext, RecordsMark-push, AddsRecord-unplaced, PlacesNode, sum-placed, AddsNode-placed}
 use Rattle.plan_model.proofs.TextbookRewiring.{MayRewire, IsReached, Relaxes, Relaxes-all, AreReached-all}
-use Rattle.plan_model.specs.Runs.Turns.{is_of_worker, turns_of}
 
 -- ---- runs so far
 

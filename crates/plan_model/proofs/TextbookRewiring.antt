@@ -3,16 +3,9 @@ use Rattle.std.proofs.Common.{◌≡◌, ℕ, zero, suc, ◌+◌, ◌-◌, ◌*�
 use Rattle.std.specs.Prelude.{◌≢◌, All}
 use Rattle.std.proofs.lemmas.Bool.{cases_eq, cases_lt}
 use Rattle.std.proofs.lemmas.List.Elements.{All-head, All-tail, All-cons, All-nil, All-weaker}
-use Rattle.plan_model.specs.declared.geometry.Point.{Point}
-use Rattle.plan_model.specs.declared.records.Record.{Record}
-use Rattle.plan_model.specs.Spaces.Clearance.{Clear}
-use Rattle.plan_model.specs.Geometry.Cost.{cost_of}
-use Rattle.plan_model.specs.Geometry.Plane.{squared_distance}
-use Rattle.plan_model.specs.Trees.PointsByNumber.{point_at, StandsAt, IsPresent, point_of}
-use Rattle.plan_model.specs.Trees.NodeLists.{points_of, parent_of, sum_of, edge_of, CostsFall, AreTight}
-use Rattle.plan_model.specs.Trees.TreeStates.{first_cost_of, GrowsInto, state_of}
-use Rattle.plan_model.specs.Runs.OrderLaw.{IsAllowedEdge, Hangs, KeepsOrder, KeepsFirstCosts}
-use Rattle.plan_model.specs.Runs.Textbook.{Nodes, Setup, cost_through, IsCheaperThrough, with_parent, RewiresOne, Rewires}
+use Rattle.plan_model.proofs.Words.{Point, Record, Clear, cost_of, squared_distance, point_at, StandsAt, IsPresent, point_of, points_of, parent_of, sum_of}
+use Rattle.plan_model.proofs.Words.{edge_of, CostsFall, AreTight, first_cost_of, GrowsInto, state_of, IsAllowedEdge, Hangs, KeepsOrder, KeepsFirstCosts, Nodes}
+use Rattle.plan_model.proofs.Words.{Setup, cost_through, IsCheaperThrough, with_parent, RewiresOne, Rewires}
 use Rattle.plan_model.proofs.ChainLaws.{AreTight-sums}
 use Rattle.plan_model.proofs.NewNodes.{StandsAt-present}
 use Rattle.plan_model.proofs.ParentChanges.{HasCheaperParent, points_of-cheaper_parent, IsPresent-cheaper_parent, parent_new, parent_kept, edge_from}

@@ -2,12 +2,7 @@
 use Rattle.std.proofs.Common.{◌≡◌, ℕ, suc, ◌+◌, ◌<◌, List, [], ◌∷◌, ◌++◌, length, arith, refl, sym, ap, ◌∙◌, subst, length-append, append_assoc}
 use Rattle.std.proofs.lemmas.List.{append-nil}
 use Rattle.std.proofs.Math.Seq.{get_or-append_seam}
-use Rattle.plan_model.specs.declared.geometry.Point.{Point}
-use Rattle.plan_model.specs.declared.records.Record.{Record}
-use Rattle.plan_model.specs.Spaces.Clearance.{ClearAt}
-use Rattle.plan_model.specs.Trees.TreeStates.{state_of}
-use Rattle.plan_model.specs.Runs.ClosedLaw.{mark_at, IsClosed}
-use Rattle.plan_model.specs.Runs.Textbook.{Nodes, Setup, start_alone, HandlesAll, IsTextbookRun}
+use Rattle.plan_model.proofs.Words.{Point, Record, ClearAt, state_of, mark_at, IsClosed, Nodes, Setup, start_alone, HandlesAll, IsTextbookRun}
 use Rattle.plan_model.proofs.TextbookStates.{IsClosed-start}
 use Rattle.plan_model.proofs.TextbookMarks.{IsTextbookSoFar, IsTextbookSoFar-ends}
 

@@ -3,16 +3,9 @@ use Rattle.std.proofs.Common.{◌≡◌, ℕ, zero, suc, ◌≤◌, eqb, cond, L
 use Rattle.std.specs.Prelude.{◌≢◌, slice_get}
 use Rattle.std.proofs.lemmas.Bool.{cond-true, cond-false, eq-eqb, ne_eqb, le-ltb}
 use Rattle.std.proofs.lemmas.Option.{slice_get_past}
-use Rattle.plan_model.specs.declared.geometry.Point.{Point}
-use Rattle.plan_model.specs.declared.records.Record.{Record}
-use Rattle.plan_model.specs.declared.trees.Twig.{Twig}
-use Rattle.plan_model.specs.Spaces.Clearance.{ClearAt}
-use Rattle.plan_model.specs.Trees.PointsByNumber.{StandsAt, IsPresent, point_of, IsFree, node_count}
-use Rattle.plan_model.specs.Trees.NodeLists.{parent_of, points_of, parent_or_zero, sum_of, CostsFall, AreTight}
-use Rattle.plan_model.specs.Trees.TreeStates.{recorded_or, first_cost_of, state_of}
-use Rattle.plan_model.specs.Runs.OrderLaw.{IsAllowedEdge, most_cost_of, KeepsOrder}
-use Rattle.plan_model.specs.Runs.ClosedLaw.{IsClosed}
-use Rattle.plan_model.specs.Runs.Textbook.{Nodes, Setup, start_alone, cost_through}
+use Rattle.plan_model.proofs.Words.{Point, Record, Twig, ClearAt, StandsAt, IsPresent, point_of, IsFree, node_count, parent_of, points_of, parent_or_zero}
+use Rattle.plan_model.proofs.Words.{sum_of, CostsFall, AreTight, recorded_or, first_cost_of, state_of, IsAllowedEdge, most_cost_of, KeepsOrder, IsClosed, Nodes}
+use Rattle.plan_model.proofs.Words.{Setup, start_alone, cost_through, once_if}
 use Rattle.plan_model.proofs.ChainLaws.{sums-tight, AreTight-sums}
 use Rattle.plan_model.proofs.DistinctPoints.{AreDistinct-start}
 use Rattle.plan_model.proofs.KeptCosts.{AddsPriced, CostsFall-adds, AreTight-adds}
@@ -35,7 +28,6 @@ use Rattle.plan_model.proofs.LoweredCosts.{AddsRecord}
 use Rattle.plan_model.proofs.OrderedTrees.{FallAlong-ordered}
 use Rattle.plan_model.proofs.AddedNodes.{AddsNode}
 use Rattle.plan_model.proofs.NextRecords.{RecordsMark, still_recorded}
-use Rattle.plan_model.specs.Runs.Turns.{once_if}
 use Rattle.plan_model.proofs.PlacedNodes.{ArePlacedMarks-from}
 
 -- ---- the start alone

@@ -2,19 +2,9 @@
 use Rattle.std.proofs.Common.{◌≡◌, ℕ, zero, suc, ◌<◌, List, [], ◌∷◌, refl, arith, inr}
 use Rattle.std.specs.Prelude.{All}
 use Rattle.std.proofs.lemmas.List.Elements.{All-cons, All-nil}
-use Rattle.plan_model.specs.declared.geometry.Goal.{Goal}
-use Rattle.plan_model.specs.declared.geometry.Point.{Point}
-use Rattle.plan_model.specs.declared.records.Record.{Record}
-use Rattle.plan_model.specs.Spaces.EmptyRooms.{empty_room, IsInRoom}
-use Rattle.plan_model.specs.Geometry.Plane.{squared_distance}
-use Rattle.plan_model.specs.Trees.PointsByNumber.{IsFree, IsPresent}
-use Rattle.plan_model.specs.Trees.LeastPairs.{IsNotAbove}
-use Rattle.plan_model.specs.Trees.Nearness.{distance_to}
-use Rattle.plan_model.specs.Geometry.Steering.{steered}
-use Rattle.plan_model.specs.Trees.NodeLists.{points_of, sum_of}
-use Rattle.plan_model.specs.Runs.Textbook.{Nodes, MayBeCheaper, near_new, cost_through, Rewires, EndsPlaced, HandlesAll, placed_record, IsTextbookRun}
-use Rattle.plan_model.specs.Vectors.Shapes.{at}
-use Rattle.plan_model.specs.Vectors.Runs.{open_setup, open_setup_to, node}
+use Rattle.plan_model.proofs.Words.{Goal, Point, Record, empty_room, IsInRoom, squared_distance, IsFree, IsPresent, IsNotAbove, distance_to, steered, points_of}
+use Rattle.plan_model.proofs.Words.{sum_of, Nodes, MayBeCheaper, near_new, cost_through, Rewires, EndsPlaced, HandlesAll, placed_record, IsTextbookRun, at}
+use Rattle.plan_model.proofs.Words.{open_setup, open_setup_to, node}
 use Rattle.plan_model.proofs.GoalNodes.{no_goal_node}
 use Rattle.plan_model.proofs.LeastPairLaws.{IsNotAbove-refl, IsNotAbove-lesser}
 use Rattle.plan_model.proofs.OpenRoomMarks.{EndsPlaced-placeable, same_x, same_y, cost_2500, cost_2000, one_node, two_nodes, first_mark}

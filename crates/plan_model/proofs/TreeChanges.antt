@@ -33,10 +33,8 @@ use Rattle.std.proofs.lemmas.Bool.{cases_order}
 use Rattle.std.proofs.Math.Seq.{get_or-append_seam}
 use Rattle.std.proofs.Math.ListN.{get_or-map}
 use Rattle.std.proofs.lemmas.List.{map-append}
-use Rattle.plan_model.specs.declared.geometry.Point.{Point}
-use Rattle.plan_model.specs.declared.trees.Twig.{Twig}
-use Rattle.plan_model.specs.Trees.PointsByNumber.{point_at, point_of, node_count}
-use Rattle.plan_model.specs.Trees.NodeLists.{node_at, points_of, parent_or_zero, parent_of, chain_within, chain, length_of_path, sum_of}
+use Rattle.plan_model.proofs.Words.{Point, Twig, point_at, point_of, node_count, node_at, points_of, parent_or_zero, parent_of, chain_within, chain}
+use Rattle.plan_model.proofs.Words.{length_of_path, sum_of}
 
 -- where node n stands, by the node itself
 pub point_at-points_of : (tree : List (Option Twig)) (n : ℕ) → point_at (points_of tree) n ≡ option_map (λ node. node.point) (node_at tree n)

@@ -3,9 +3,7 @@ use Rattle.std.proofs.Common.{◌≡◌, ℕ, ◌+◌, ◌-◌, ◌*◌, ◌<◌
 use Rattle.std.proofs.lemmas.Bool.{cases_lt}
 use Rattle.std.proofs.lemmas.Nat.{mul-le}
 use Rattle.std.specs.Int.{abs_diff}
-use Rattle.plan_model.specs.declared.geometry.Point.{Point}
-use Rattle.plan_model.specs.Geometry.Cost.{cost_of}
-use Rattle.plan_model.specs.Geometry.Plane.{squared_distance}
+use Rattle.plan_model.proofs.Words.{Point, cost_of, squared_distance}
 use Rattle.plan_model.proofs.RootLaws.{root_ceiling-is, lt-from_squares}
 
 ordered_product : (u d : ℕ) → 2 * (u * (u + d)) ≤ u * u + (u + d) * (u + d)

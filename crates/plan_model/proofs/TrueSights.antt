@@ -1,12 +1,9 @@
 -- What was seen is true of a tree: it stays true while the tree grows, and has ways because the tree has them.
 use Rattle.std.proofs.Common.{◌≡◌, ℕ, zero, suc, ◌<◌, ◌≤◌, Option, Some, None, arith, refl, sym, ap, ◌∙◌, subst, inl, inr}
 use Rattle.std.specs.Prelude.{◌≢◌, ◌⊎◌, option_map}
-use Rattle.plan_model.specs.declared.geometry.Point.{Point}
-use Rattle.plan_model.specs.Trees.PointsByNumber.{point_at, point_of, StandsAt, IsPresent, AreDistinct}
-use Rattle.plan_model.specs.Trees.TreeStates.{KeepsOrFalls}
-use Rattle.plan_model.specs.Seen.Ways.{goes_right, IsOnWay, FollowWays}
-use Rattle.plan_model.specs.Seen.SeenTrees.{SeenTree, IsSeen, IsRooted, IsOnSeenWay, HasSeenWay, FollowSeenWays, KeepsOrLowers, HasSeenAtLeast}
-use Rattle.plan_model.specs.Seen.SeenTrees.{SharedTree, TreeGrows, seen_whole, IsTrueOf}
+use Rattle.plan_model.proofs.Words.{Point, point_at, point_of, StandsAt, IsPresent, AreDistinct, KeepsOrFalls, goes_right, IsOnWay, FollowWays, SeenTree}
+use Rattle.plan_model.proofs.Words.{IsSeen, IsRooted, IsOnSeenWay, HasSeenWay, FollowSeenWays, KeepsOrLowers, HasSeenAtLeast, SharedTree, TreeGrows, seen_whole}
+use Rattle.plan_model.proofs.Words.{IsTrueOf}
 use Rattle.plan_model.specs.Seen.SeenTrees.IsOnSeenWay.{begins, goes_on}
 use Rattle.plan_model.proofs.NewNodes.{IsPresent-stands, StandsAt-present, StandsAt-unique}
 use Rattle.plan_model.proofs.SeenTreeLaws.{HasSeenAtLeast-trans}

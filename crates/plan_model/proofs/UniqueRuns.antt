@@ -3,22 +3,9 @@ use Rattle.std.proofs.Common.{◌≡◌, ℕ, suc, ◌+◌, ◌<◌, ◌≤◌, 
 use Rattle.std.specs.Prelude.{Bool, IsTrue}
 use Rattle.std.proofs.Props.{props}
 use mathlib.Core.HLevel.{is_prop→PathP}
-use Rattle.plan_model.specs.declared.geometry.Point.{Point}
-use Rattle.plan_model.specs.declared.scenes.Scene.{Scene}
-use Rattle.plan_model.specs.declared.records.Outcome.{Outcome}
-use Rattle.plan_model.specs.declared.records.Outcome.TheVariants.{Placed, Same, Blocked, Skipped}
-use Rattle.plan_model.specs.declared.records.Record.{Record}
-use Rattle.plan_model.specs.declared.configuration_spaces.ConfigurationSpace.{ConfigurationSpace}
-use Rattle.plan_model.specs.Spaces.Clearance.{Clear}
-use Rattle.plan_model.specs.Geometry.Steering.{steered}
-use Rattle.plan_model.specs.Geometry.Radius.{class_of}
-use Rattle.plan_model.specs.Runs.Outcomes.{is_zero_unless_placed}
-use Rattle.plan_model.specs.Trees.PointsByNumber.{StandsAt, IsPresent, point_of, AreDistinct, node_count}
-use Rattle.plan_model.specs.Trees.Nearness.{distance_to, IsNearest}
-use Rattle.plan_model.specs.Scenes.MarkPoints.{mark_points}
-use Rattle.plan_model.specs.Trees.NodeLists.{points_of, sum_of}
-use Rattle.plan_model.specs.Trees.BestNode.{IsGoalNode}
-use Rattle.plan_model.specs.Runs.SameRuns.{HaveSameFields, HaveSameInputs}
+use Rattle.plan_model.proofs.Words.{Point, Scene, Outcome, Placed, Same, Blocked, Skipped, Record, ConfigurationSpace, Clear, steered, class_of}
+use Rattle.plan_model.proofs.Words.{is_zero_unless_placed, StandsAt, IsPresent, point_of, AreDistinct, node_count, distance_to, IsNearest, mark_points}
+use Rattle.plan_model.proofs.Words.{points_of, sum_of, IsGoalNode, HaveSameFields, HaveSameInputs}
 use Rattle.plan_model.specs.Runs.Textbook.{
   Nodes,
   Setup,

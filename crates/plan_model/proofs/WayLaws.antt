@@ -2,9 +2,7 @@
 use Rattle.std.proofs.Common.{◌≡◌, ℕ, zero, suc, ◌<◌, Bool, List, Option, Some, None, arith, refl, sym, ap, ◌∙◌, subst, inl, inr}
 use Rattle.std.specs.Prelude.{◌≢◌, ◌⊎◌, unwrap_or}
 use Rattle.std.proofs.lemmas.Bool.{cases_order, cases_eq}
-use Rattle.plan_model.specs.declared.geometry.Point.{Point}
-use Rattle.plan_model.specs.Trees.PointsByNumber.{point_at, StandsAt, IsPresent, IsFree, AreDistinct}
-use Rattle.plan_model.specs.Seen.Ways.{goes_right, Children, IsOnWay, EndsBelow, FollowWays}
+use Rattle.plan_model.proofs.Words.{Point, point_at, StandsAt, IsPresent, IsFree, AreDistinct, goes_right, Children, IsOnWay, EndsBelow, FollowWays}
 use Rattle.plan_model.specs.Seen.Ways.IsOnWay.{begins, goes_on}
 use Rattle.plan_model.proofs.NewNodes.{IsPresent-stands, StandsAt-unique}
 

@@ -5,9 +5,7 @@ use Rattle.std.proofs.Props.{props}
 use Rattle.std.proofs.lemmas.Bool.{cases_eq, cases_lt}
 use Rattle.std.proofs.lemmas.Option.{same_Some}
 use mathlib.Core.HLevel.{is_prop→PathP}
-use Rattle.plan_model.specs.declared.geometry.Point.{Point}
-use Rattle.plan_model.specs.Trees.PointsByNumber.{point_at, StandsAt, IsPresent}
-use Rattle.plan_model.specs.Seen.Ways.{Children, goes_right, IsOnWay, FollowWays}
+use Rattle.plan_model.proofs.Words.{Point, point_at, StandsAt, IsPresent, Children, goes_right, IsOnWay, FollowWays}
 use Rattle.plan_model.specs.Seen.Ways.IsOnWay.{begins, goes_on}
 use Rattle.plan_model.proofs.WayLaws.{IsOnWay-unique, way_stops}
 

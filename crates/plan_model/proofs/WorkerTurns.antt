@@ -6,8 +6,7 @@ use Rattle.std.specs.List.{range_with_len}
 use Rattle.std.proofs.lemmas.Bool.{cases_eq, cases_lt, and_parts, and_from, and_left, and_right, eq-eqb, eqb-true, ne_eqb, lt-ltb, le-ltb}
 use Rattle.std.proofs.lemmas.List.FromFn.{length-range_with_len}
 use Rattle.std.proofs.lemmas.List.Sums.{count_by-le-length}
-use Rattle.plan_model.specs.declared.records.Record.{Record}
-use Rattle.plan_model.specs.Runs.Turns.{is_of_worker, turns_of, is_of_turn, times_of, once_if, AreTurns}
+use Rattle.plan_model.proofs.Words.{Record, is_of_worker, turns_of, is_of_turn, times_of, once_if, AreTurns}
 use Rattle.plan_model.proofs.CountsBelow.{count-same, count-longer, count-one_more, count-some, count-found, count-unique}
 use Rattle.plan_model.proofs.NextRecords.{RecordsMark}
 

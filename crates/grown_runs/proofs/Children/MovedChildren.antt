@@ -4,8 +4,7 @@ use Rattle.std.proofs.Common.{◌==◌, Bool, cond, eq-eqb}
 use Rattle.std.specs.Prelude.{slice_index, slice_set}
 use Rattle.std.proofs.lemmas.Bool.{cases_eq, ne_eqb}
 use Rattle.std.proofs.lemmas.List.{get_or-set_other, get_or-set_same, length-set}
-use Rattle.grown_runs.specs.ChildChains.{AreChained, HasInChain, IsIndex, MovesNode, OnlyMoves, front_in}
-use Rattle.grown_runs.specs.declared.child_index.ChildIndex.{ChildIndex}
+use Rattle.grown_runs.proofs.Words.{AreChained, HasInChain, IsIndex, MovesNode, OnlyMoves, front_in, ChildIndex}
 
 -- the node c has gone out of its chain
 pub record IsTakenOut (chain front next previous new_chain new_front new_next new_previous : ℕ → ℕ) (c : ℕ) : Type 0 where

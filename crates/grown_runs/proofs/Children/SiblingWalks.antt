@@ -6,8 +6,7 @@ use Rattle.std.specs.List.{AllByRecursion, IsDistinct, list_any}
 use Rattle.std.proofs.lemmas.Bool.{cases_eq, cases_lt, eq-eqb, ne_eqb}
 use Rattle.std.proofs.lemmas.List.Sums.{sum_by-cons}
 use Rattle.std.proofs.lemmas.Map.Steps.{length-le_from_distinct_below}
-use Rattle.grown_runs.specs.ChildChains.{AreMembers, HasInChain, IndexesChains, IsIndex, front_in, siblings_from, times, walk_from}
-use Rattle.grown_runs.specs.declared.child_index.ChildIndex.{ChildIndex}
+use Rattle.grown_runs.proofs.Words.{AreMembers, HasInChain, IndexesChains, IsIndex, front_in, siblings_from, times, walk_from, ChildIndex}
 
 -- ---- how often a number stands in a list
 

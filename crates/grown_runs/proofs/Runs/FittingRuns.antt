@@ -13,8 +13,7 @@ use Rattle.plan_model.specs.Trees.NodeLists.{points_of, parent_of, without_costs
 use Rattle.plan_model.specs.Trees.TreeStates.{TreeState}
 use Rattle.plan_model.proofs.NewNodes.{IsPresent-stands, point_of-stands}
 use Rattle.plan_model.proofs.OrderLaws.{parent-present}
-use Rattle.grown_runs.specs.Runs.GrownWords.{sizes_of}
-use Rattle.grown_runs.specs.Runs.PackedRuns.{kept_cost_of, state_of_lists, IsKnot, FitsNode, FitWords}
+use Rattle.grown_runs.proofs.Words.{sizes_of, kept_cost_of, state_of_lists, IsKnot, FitsNode, FitWords}
 use Rattle.grown_runs.proofs.Runs.FittingStates.{present-closed, small_number, kept-low, IsBounded-closed, FitsRecord-closed}
 use Rattle.grown_runs.proofs.Runs.PackedStates.{point_at-lists, parent_of-lists}
 

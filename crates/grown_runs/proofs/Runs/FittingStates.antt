@@ -32,8 +32,7 @@ use Rattle.plan_model.proofs.RecordLaws.{class_of-le}
 use Rattle.plan_model.proofs.SceneBounds.{IsBounded-in_room, step-steers}
 use Rattle.plan_model.proofs.SegmentLaws.{Clear-last}
 use Rattle.plan_model.proofs.WorkerTurns.{turn-below_limit}
-use Rattle.grown_runs.specs.Table.Words.{last_field}
-use Rattle.grown_runs.specs.Runs.PackedRuns.{FitsRecord}
+use Rattle.grown_runs.proofs.Words.{last_field, FitsRecord}
 use Rattle.plan_model.proofs.PlacedNodes.{record-of_present}
 
 zero_unless_placed :

@@ -9,11 +9,9 @@ use Rattle.plan_model.specs.declared.geometry.Point.{Point}
 use Rattle.plan_model.specs.Geometry.Bounds.{IsBounded}
 use Rattle.plan_model.specs.Trees.PointsByNumber.{point_at, StandsAt, IsPresent, node_count}
 use Rattle.plan_model.proofs.NewNodes.{IsPresent-stands}
-use Rattle.grown_runs.specs.Table.WordNames.{Words}
-use Rattle.grown_runs.specs.Table.WordNames.Word.{PointOf, FirstOf, RecordOf}
-use Rattle.grown_runs.specs.Table.WordPlaces.{Sizes, word_at}
-use Rattle.grown_runs.specs.Table.Words.{record_of_word, point_in, point_of_word}
-use Rattle.grown_runs.specs.Runs.GrownWords.{record_at, has_placed, has_node, node_point, points_of_words}
+use Rattle.grown_runs.proofs.Words.{Words, PointOf, FirstOf, RecordOf, Sizes, record_of_word, point_in, point_of_word, record_at, has_placed, has_node}
+use Rattle.grown_runs.proofs.Words.{node_point, points_of_words}
+use Rattle.grown_runs.specs.Table.WordPlaces.{word_at}
 use Rattle.grown_runs.proofs.Table.WordReads.{word_at-none}
 
 -- an absent point is none

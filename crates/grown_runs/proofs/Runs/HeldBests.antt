@@ -5,12 +5,9 @@ use Rattle.plan_model.specs.Runs.Textbook.{setup_of}
 use Rattle.plan_model.specs.Seen.Ways.{FollowWays}
 use Rattle.plan_model.specs.Trees.PointsByNumber.{node_count}
 use Rattle.plan_model.specs.declared.tasks.Task.{Task}
-use Rattle.grown_runs.specs.Runs.GrownWords.{HoldRun, IsBlank, IsPointWord, IsTreeWord, child_of_word, children_of_words, has_node, points_of_words}
-use Rattle.grown_runs.specs.Runs.GrownWords.{sizes_of, state_of_words}
-use Rattle.grown_runs.specs.Table.WordNames.{Words, WritesWord}
-use Rattle.grown_runs.specs.Table.WordNames.Word.{Best, ChildOf, Count, Counter, FirstOf, PointOf, RecordOf, TreeOf}
-use Rattle.grown_runs.specs.Table.WordPlaces.{Sizes}
-use Rattle.grown_runs.specs.Table.Words.{cost_in, parent_in}
+use Rattle.grown_runs.proofs.Words.{HoldRun, IsBlank, IsPointWord, IsTreeWord, child_of_word, children_of_words, has_node, points_of_words, sizes_of}
+use Rattle.grown_runs.proofs.Words.{state_of_words, Words, WritesWord, Best, ChildOf, Count, Counter, FirstOf, PointOf, RecordOf, TreeOf, Sizes, cost_in}
+use Rattle.grown_runs.proofs.Words.{parent_in}
 use Rattle.grown_runs.proofs.Table.KeptWords.{KeepsNodes, has_node-kept, points-kept, present-kept, record_at-kept}
 
 module _ (before after : Words) (x : ℕ) (writes : WritesWord Best x before after) where

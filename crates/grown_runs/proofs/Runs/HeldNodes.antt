@@ -4,8 +4,7 @@ use Rattle.std.proofs.lemmas.Bool.{cases_lt}
 use Rattle.plan_model.specs.declared.tasks.Task.{Task}
 use Rattle.plan_model.specs.Trees.PointsByNumber.{StandsAt, IsPresent}
 use Rattle.plan_model.proofs.NewNodes.{IsPresent-stands}
-use Rattle.grown_runs.specs.Table.WordNames.{Words}
-use Rattle.grown_runs.specs.Runs.GrownWords.{HoldRun, points_of_words, sizes_of}
+use Rattle.grown_runs.proofs.Words.{Words, HoldRun, points_of_words, sizes_of}
 use Rattle.grown_runs.proofs.Runs.GrownPoints.{has_node-present}
 use Rattle.grown_runs.proofs.Runs.HeldRuns.{none_past-held}
 

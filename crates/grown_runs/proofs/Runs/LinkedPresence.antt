@@ -14,12 +14,8 @@ use Rattle.plan_model.specs.Seen.Ways.{IsOnWay}
 use Rattle.plan_model.specs.Seen.Ways.IsOnWay.{goes_on}
 use Rattle.plan_model.proofs.PlacedNodes.{is_placed-true, present-of_record}
 use Rattle.plan_model.proofs.NewNodes.{StandsAt-present}
-use Rattle.grown_runs.specs.Table.WordNames.{Words}
-use Rattle.grown_runs.specs.Table.WordNames.Word.{ChildOf}
-use Rattle.grown_runs.specs.Table.WordPlaces.{Sizes}
-use Rattle.grown_runs.specs.Runs.GrownWords.{has_placed, has_node, is_child_of, is_linked, IsLinked, record_at, state_by}
-use Rattle.grown_runs.specs.Runs.GrownWords.{child_of_word, children_of_words, points_of_words, state_of_words, sizes_of, HoldRun}
-use Rattle.grown_runs.specs.Runs.GrownWords.IsLinked.{below}
+use Rattle.grown_runs.proofs.Words.{Words, ChildOf, Sizes, has_placed, has_node, is_child_of, is_linked, IsLinked, record_at, state_by, child_of_word}
+use Rattle.grown_runs.proofs.Words.{children_of_words, points_of_words, state_of_words, sizes_of, HoldRun, below}
 use Rattle.grown_runs.proofs.Runs.GrownPoints.{has_node-present, present-within}
 
 -- ---- children

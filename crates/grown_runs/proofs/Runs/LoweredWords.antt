@@ -9,13 +9,9 @@ use Rattle.plan_model.specs.Trees.TreeStates.{recorded_or, first_cost_of}
 use Rattle.plan_model.proofs.ClosedLaws.{IsClosed-lowered}
 use Rattle.plan_model.proofs.LoweredCosts.{StandsStill, LowersNode, LowersCosts-lowers}
 use Rattle.plan_model.proofs.WayLinks.{FollowWays-same}
-use Rattle.grown_runs.specs.Table.WordNames.{Word, Words, WritesWord}
-use Rattle.grown_runs.specs.Table.WordNames.Word.{Count, Counter, PointOf, ChildOf, TreeOf, FirstOf, RecordOf}
-use Rattle.grown_runs.specs.Table.WordPlaces.{Sizes}
-use Rattle.grown_runs.specs.Table.Words.{parent_in, cost_in, tree_word}
-use Rattle.grown_runs.specs.Runs.GrownWords.{has_node, points_of_words, state_of_words, child_of_word, children_of_words}
-use Rattle.grown_runs.specs.Runs.GrownWords.{IsPointWord, IsTreeWord, IsWritten, sizes_of, HoldRun}
-use Rattle.grown_runs.specs.Runs.GrownRuns.{MayCost, CostsInstead}
+use Rattle.grown_runs.proofs.Words.{Word, Words, WritesWord, Count, Counter, PointOf, ChildOf, TreeOf, FirstOf, RecordOf, Sizes, parent_in, cost_in, tree_word}
+use Rattle.grown_runs.proofs.Words.{has_node, points_of_words, state_of_words, child_of_word, children_of_words, IsPointWord, IsTreeWord, IsWritten, sizes_of}
+use Rattle.grown_runs.proofs.Words.{HoldRun, MayCost, CostsInstead}
 use Rattle.grown_runs.proofs.Table.KeptWords.{KeepsNodes, has_node-kept, record_at-kept, points-kept, point_at-kept, present-kept}
 use Rattle.grown_runs.proofs.Table.PackedWords.{parent_in-tree_word, cost_in-tree_word}
 

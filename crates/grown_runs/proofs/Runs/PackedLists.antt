@@ -12,14 +12,10 @@ use Rattle.plan_model.specs.Runs.Textbook.{setup_of}
 use Rattle.plan_model.specs.Trees.NodeLists.{points_of, without_costs}
 use Rattle.plan_model.proofs.ChainLaws.{node_count-cons}
 use Rattle.plan_model.specs.Seen.Ways.{FollowWays}
-use Rattle.grown_runs.specs.Table.WordNames.{Word, Words, WritesWord}
-use Rattle.grown_runs.specs.Table.WordNames.Word.{Count, Counter, PointOf, ChildOf, TreeOf, FirstOf, RecordOf}
-use Rattle.grown_runs.specs.Table.WordPlaces.{Sizes}
-use Rattle.grown_runs.specs.Table.Words.{tree_word}
-use Rattle.grown_runs.specs.Runs.GrownWords.{sizes_of, points_of_words, state_of_words, child_of_word, children_of_words, HoldRun}
-use Rattle.grown_runs.specs.Ways.KdLinks.{AreUnlinked, ChangesChildren}
+use Rattle.grown_runs.proofs.Words.{Word, Words, WritesWord, Count, Counter, PointOf, ChildOf, TreeOf, FirstOf, RecordOf, Sizes, tree_word, sizes_of}
+use Rattle.grown_runs.proofs.Words.{points_of_words, state_of_words, child_of_word, children_of_words, HoldRun, AreUnlinked, ChangesChildren, state_of_lists}
+use Rattle.grown_runs.proofs.Words.{FitWords, HoldsNode, HoldsRecord, WritesNodes, WritesRecords, CountsMarks, HoldLists}
 use Rattle.plan_model.specs.Trees.TreeStates.{AreSameRuns}
-use Rattle.grown_runs.specs.Runs.PackedRuns.{state_of_lists, FitWords, HoldsNode, HoldsRecord, WritesNodes, WritesRecords, CountsMarks, HoldLists}
 use Rattle.grown_runs.proofs.Runs.PackedStates.{point_at-lists, points-packed, AreSameRuns-packed, HoldRun-packed}
 
 -- as many nodes are present as the list has

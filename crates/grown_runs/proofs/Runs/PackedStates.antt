@@ -22,13 +22,10 @@ use Rattle.plan_model.proofs.NewNodes.{IsPresent-stands}
 use Rattle.plan_model.proofs.NodeCounts.{node_count-same}
 use Rattle.plan_model.proofs.SameTrees.{IsClosed-same_run}
 use Rattle.plan_model.proofs.TreeChanges.{point_at-points_of}
-use Rattle.grown_runs.specs.Table.WordNames.{Words}
-use Rattle.grown_runs.specs.Table.WordNames.Word.{TreeOf, FirstOf}
-use Rattle.grown_runs.specs.Table.WordPlaces.{Sizes}
-use Rattle.grown_runs.specs.Table.Words.{parent_in, cost_in, point_of_word, record_of_word}
-use Rattle.grown_runs.specs.Runs.GrownWords.{record_at, has_placed, has_node, points_of_words, state_of_words}
-use Rattle.grown_runs.specs.Runs.GrownWords.{children_of_words, IsPointWord, IsTreeWord, IsWritten, IsBlank, sizes_of, HoldRun}
-use Rattle.grown_runs.specs.Runs.PackedRuns.{kept_cost_of, state_of_lists, IsKnot, HasKnot as HasNode, FitWords, HoldLists}
+use Rattle.grown_runs.proofs.Words.{Words, TreeOf, FirstOf, Sizes, parent_in, cost_in, point_of_word, record_of_word, record_at, has_placed, has_node}
+use Rattle.grown_runs.proofs.Words.{points_of_words, state_of_words, children_of_words, IsPointWord, IsTreeWord, IsWritten, IsBlank, sizes_of, HoldRun}
+use Rattle.grown_runs.proofs.Words.{kept_cost_of, state_of_lists, IsKnot, FitWords, HoldLists}
+use Rattle.grown_runs.specs.Runs.PackedRuns.{HasKnot as HasNode}
 use Rattle.grown_runs.proofs.Runs.GrownPoints.{none_some, record_at-unwritten, node_point-here, point_at-words, point_at-absent}
 use Rattle.grown_runs.proofs.Table.PackedRecords.{record_of_word-packed}
 use Rattle.grown_runs.proofs.Table.PackedWords.{parent_in-tree_word, cost_in-tree_word, point_of_word-packed, IsPointWord-packed}

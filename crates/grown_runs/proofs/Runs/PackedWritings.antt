@@ -12,12 +12,9 @@ use Rattle.plan_model.specs.declared.records.Record.{Record}
 use Rattle.plan_model.specs.declared.trees.Knot.{Knot}
 use Rattle.plan_model.specs.Scenes.MarkPoints.{quota_of}
 use Rattle.plan_model.proofs.CountsBelow.{count-more}
-use Rattle.grown_runs.specs.Table.WordNames.{Word, Words, WritesWord, IsCounter, IsKnotWord}
-use Rattle.grown_runs.specs.Table.WordNames.Word.{Counter, PointOf, TreeOf, FirstOf, RecordOf}
-use Rattle.grown_runs.specs.Table.WordPlaces.{Sizes}
-use Rattle.grown_runs.specs.Table.Words.{point_word, tree_word, record_word}
-use Rattle.grown_runs.specs.Runs.PackedRuns.{IsKnot, HoldsNode, HoldsRecord, HasKnot, IsWholeRecord, IsWordOfRecords}
-use Rattle.grown_runs.specs.Runs.PackedRuns.{ChangesNode, ChangesRecord, WritesNodes, WritesRecords, CountsMarks}
+use Rattle.grown_runs.proofs.Words.{Word, Words, WritesWord, IsCounter, IsKnotWord, Counter, PointOf, TreeOf, FirstOf, RecordOf, Sizes, point_word, tree_word}
+use Rattle.grown_runs.proofs.Words.{record_word, IsKnot, HoldsNode, HoldsRecord, HasKnot, IsWholeRecord, IsWordOfRecords, ChangesNode, ChangesRecord}
+use Rattle.grown_runs.proofs.Words.{WritesNodes, WritesRecords, CountsMarks}
 
 -- ---- one node or one record
 

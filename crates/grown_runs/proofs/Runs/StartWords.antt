@@ -20,12 +20,10 @@ use Rattle.plan_model.proofs.SceneBounds.{IsBounded-scene_start}
 use Rattle.plan_model.proofs.TextbookStates.{IsClosed-start}
 use Rattle.plan_model.proofs.TreeChanges.{node_at-past}
 use Rattle.plan_model.proofs.WayLinks.{FollowWays-start}
-use Rattle.grown_runs.specs.Table.WordNames.{Word, Words, WritesWord}
-use Rattle.grown_runs.specs.Table.WordNames.Word.{Count, Counter, PointOf, ChildOf, TreeOf, FirstOf, RecordOf}
-use Rattle.grown_runs.specs.Table.WordPlaces.{Sizes, place_of, has_word, word_at}
-use Rattle.grown_runs.specs.Table.Words.{parent_in, cost_in, tree_word, point_word, point_of_word}
-use Rattle.grown_runs.specs.Runs.GrownWords.{record_at, has_placed, has_node, points_of_words, state_of_words}
-use Rattle.grown_runs.specs.Runs.GrownWords.{child_of_word, children_of_words, IsPointWord, IsTreeWord, IsWritten, IsBlank, sizes_of, HoldRun}
+use Rattle.grown_runs.proofs.Words.{Word, Words, WritesWord, Count, Counter, PointOf, ChildOf, TreeOf, FirstOf, RecordOf, Sizes, place_of, has_word, parent_in}
+use Rattle.grown_runs.proofs.Words.{cost_in, tree_word, point_word, point_of_word, record_at, has_placed, has_node, points_of_words, state_of_words}
+use Rattle.grown_runs.proofs.Words.{child_of_word, children_of_words, IsPointWord, IsTreeWord, IsWritten, IsBlank, sizes_of, HoldRun}
+use Rattle.grown_runs.specs.Table.WordPlaces.{word_at}
 use Rattle.grown_runs.proofs.Runs.GrownPoints.{record_at-unwritten, point_at-absent, point_at-words}
 use Rattle.grown_runs.proofs.Table.PackedWords.{parent_in-tree_word, cost_in-tree_word, point_of_word-packed, IsPointWord-packed}
 use Rattle.grown_runs.proofs.Table.WordReads.{HasWord-true, word_at-has, word_at-false}

@@ -2,11 +2,9 @@
 use Rattle.std.proofs.Common.{◌≡◌, ℕ, ◌+◌, ◌<◌, Bool, true, false, List, arith, refl, sym, ◌∙◌, subst, inl, inr}
 use Rattle.std.specs.Prelude.{if◌then◌else◌}
 use Rattle.std.proofs.lemmas.Bool.{cases_lt}
-use Rattle.grown_runs.specs.Table.WordNames.{Word, Words, WritesWord}
-use Rattle.grown_runs.specs.Table.WordNames.Word.{Count, Best, Counter, PointOf, ChildOf, TreeOf, FirstOf, RecordOf}
-use Rattle.grown_runs.specs.Table.WordPlaces.{Sizes, HasWord, word_at}
-use Rattle.grown_runs.specs.Runs.GrownWords.{has_node, IsBlank, cleared}
-use Rattle.grown_runs.specs.Table.ClearedWords.{IsNodeWord, ClearsNode, ClearsNodes}
+use Rattle.grown_runs.proofs.Words.{Word, Words, WritesWord, Count, Best, Counter, PointOf, ChildOf, TreeOf, FirstOf, RecordOf, Sizes, HasWord, has_node}
+use Rattle.grown_runs.proofs.Words.{IsBlank, cleared, IsNodeWord, ClearsNode, ClearsNodes}
+use Rattle.grown_runs.specs.Table.WordPlaces.{word_at}
 use Rattle.grown_runs.proofs.Table.WordReads.{word_at-none}
 
 module _ (n : ℕ) (before one two after : Words) (point : WritesWord (PointOf n) 0 before one) (tree : WritesWord (TreeOf n) 0 one two)

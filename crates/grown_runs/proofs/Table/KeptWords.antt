@@ -3,11 +3,8 @@ use Rattle.std.proofs.Common.{◌≡◌, ℕ, zero, suc, ◌+◌, None, map, ref
 use Rattle.std.specs.Prelude.{if◌then◌else◌}
 use Rattle.std.specs.List.{range_with_len}
 use Rattle.plan_model.specs.Trees.PointsByNumber.{point_at, IsPresent}
-use Rattle.grown_runs.specs.Table.WordNames.{Words, ChangesOnly, IsChildWord}
-use Rattle.grown_runs.specs.Table.WordNames.Word.{PointOf, FirstOf, RecordOf}
-use Rattle.grown_runs.specs.Table.WordPlaces.{Sizes}
-use Rattle.grown_runs.specs.Table.Words.{point_of_word, record_of_word}
-use Rattle.grown_runs.specs.Runs.GrownWords.{record_at, has_placed, has_node, node_point, points_of_words}
+use Rattle.grown_runs.proofs.Words.{Words, ChangesOnly, IsChildWord, PointOf, FirstOf, RecordOf, Sizes, point_of_word, record_of_word, record_at, has_placed}
+use Rattle.grown_runs.proofs.Words.{has_node, node_point, points_of_words}
 
 -- each point, each first word and each record is as it was
 pub record KeepsNodes (before after : Words) : Type 0 where

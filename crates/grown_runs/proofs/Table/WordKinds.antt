@@ -1,10 +1,7 @@
 -- A word may stay as it is, what may become of it in two steps may become of it in one, and nothing comes back that has changed.
 use Rattle.std.proofs.Common.{◌≡◌, ℕ, ◌<◌, ◌≤◌, ◌^◌, arith, refl, sym, ◌∙◌, subst, inl, inr}
 use Rattle.std.specs.Prelude.{◌≢◌}
-use Rattle.grown_runs.specs.Table.Words.{cost_in}
-use Rattle.grown_runs.specs.Table.WordNames.{Words}
-use Rattle.grown_runs.specs.Table.WordKinds.{WordKind, kind_of, MayBecome, AreBehind}
-use Rattle.grown_runs.specs.Table.WordKinds.WordKind.{Rising, Once, Falling, Apart}
+use Rattle.grown_runs.proofs.Words.{cost_in, Words, WordKind, kind_of, MayBecome, AreBehind, Rising, Once, Falling, Apart}
 
 pub MayBecome-refl : (kind : WordKind) (word : ℕ) → MayBecome kind word word
 MayBecome-refl Rising word = omega arith

@@ -7,10 +7,8 @@ use Rattle.plan_model.specs.Trees.PointsByNumber.{point_at, StandsAt}
 use Rattle.plan_model.specs.Seen.Ways.{FollowWays}
 use Rattle.plan_model.proofs.NewNodes.{IsPresent-stands}
 use Rattle.plan_model.proofs.WayLinks.{FollowWays-same, FollowWays-start}
-use Rattle.grown_runs.specs.Table.WordPlaces.{Sizes}
-use Rattle.grown_runs.specs.Table.WordNames.{Words}
-use Rattle.grown_runs.specs.Runs.GrownWords.{points_of_words, children_of_words}
-use Rattle.grown_runs.specs.Ways.KdLinks.{points_below, AreLinkedBelow, AreUnlinked, ChangesChildren, LinksRise, MayLink}
+use Rattle.grown_runs.proofs.Words.{Sizes, Words, points_of_words, children_of_words, points_below, AreLinkedBelow, AreUnlinked, ChangesChildren, LinksRise}
+use Rattle.grown_runs.proofs.Words.{MayLink}
 use Rattle.grown_runs.proofs.Runs.GrownPoints.{none_some}
 use Rattle.grown_runs.proofs.Ways.NodesBelow.{point_at-lesser, point_at-greater, present-lesser}
 use Rattle.grown_runs.proofs.Table.KeptWords.{KeepsNodes-children, point_at-kept}

@@ -7,12 +7,8 @@ use Rattle.plan_model.specs.Trees.PointsByNumber.{IsFree, point_at, StandsAt, po
 use Rattle.plan_model.specs.Seen.Ways.{goes_right, AddsPoint, EndsBelow, LinksAt}
 use Rattle.plan_model.proofs.NewNodes.{IsPresent-stands, StandsAt-present}
 use Rattle.plan_model.proofs.WayLinks.{AddsPoint-stands, FollowWays-links, new_or_old_child}
-use Rattle.grown_runs.specs.Table.WordNames.{Words, WritesWord, IsChildWord}
-use Rattle.grown_runs.specs.Table.WordNames.Word.{PointOf, ChildOf}
-use Rattle.grown_runs.specs.Table.WordPlaces.{Sizes}
-use Rattle.grown_runs.specs.Table.Words.{point_in}
-use Rattle.grown_runs.specs.Runs.GrownWords.{points_of_words, child_of_word, children_of_words}
-use Rattle.grown_runs.specs.Ways.KdLinks.{points_below, AreLinkedBelow, LinksRise, MayLink, ChangesChildren}
+use Rattle.grown_runs.proofs.Words.{Words, WritesWord, IsChildWord, PointOf, ChildOf, Sizes, point_in, points_of_words, child_of_word, children_of_words}
+use Rattle.grown_runs.proofs.Words.{points_below, AreLinkedBelow, LinksRise, MayLink, ChangesChildren}
 use Rattle.grown_runs.proofs.Ways.NodesBelow.{child_of_word-some, point_in-stands, point_at-lesser, point_at-greater, present-lesser, stands-lesser}
 use Rattle.grown_runs.proofs.Table.KeptWords.{KeepsNodes, KeepsNodes-children, point_at-kept}
 

@@ -10,12 +10,8 @@ use Rattle.plan_model.specs.declared.geometry.Point.{Point}
 use Rattle.plan_model.specs.Trees.PointsByNumber.{point_at, StandsAt, IsPresent, point_of}
 use Rattle.plan_model.specs.Seen.SeenTrees.{IsSeen}
 use Rattle.plan_model.proofs.NewNodes.{IsPresent-stands, StandsAt-present}
-use Rattle.grown_runs.specs.Table.WordNames.{Words}
-use Rattle.grown_runs.specs.Table.WordNames.Word.{PointOf, ChildOf}
-use Rattle.grown_runs.specs.Table.WordPlaces.{Sizes}
-use Rattle.grown_runs.specs.Table.Words.{if_written, point_in}
-use Rattle.grown_runs.specs.Runs.GrownWords.{node_point, points_of_words, child_of_word}
-use Rattle.grown_runs.specs.Ways.KdLinks.{AreLinkedBelow, points_below, tree_below}
+use Rattle.grown_runs.proofs.Words.{Words, PointOf, ChildOf, Sizes, if_written, point_in, node_point, points_of_words, child_of_word, AreLinkedBelow}
+use Rattle.grown_runs.proofs.Words.{points_below, tree_below}
 use Rattle.grown_runs.proofs.Runs.GrownPoints.{point_at-words, point_at-past, point_of_word-stands, present-within}
 
 -- ---- words

@@ -7,9 +7,7 @@ use Rattle.plan_model.specs.Seen.SeenTrees.{IsSeen, SeenTree}
 use Rattle.plan_model.specs.Seen.Ways.{EndsBelow, FillsPlaces, goes_right, IsOnWay}
 use Rattle.plan_model.specs.Seen.Ways.IsOnWay.{begins, goes_on}
 use Rattle.plan_model.proofs.WayLinks.{FillsPlaces-trans, IsOnWay-fills}
-use Rattle.grown_runs.specs.Ways.KdSides.{is_by_rows}
-use Rattle.grown_runs.specs.Ways.KdWalks.{side_of, StopsAt}
-use Rattle.grown_runs.specs.declared.kd_walks.Stop.{Stop}
+use Rattle.grown_runs.proofs.Words.{is_by_rows, side_of, StopsAt, Stop}
 use Rattle.grown_runs.proofs.Ways.SplitSides.{goes_right-by, is_by_rows-next}
 
 -- every way begins at the root

@@ -5,11 +5,8 @@ use Rattle.std.proofs.lemmas.Bool.{cases_lt}
 use Rattle.std.proofs.lemmas.List.Sums.{sum_by-cons}
 use Rattle.std.proofs.lemmas.Option.{slice_get_within}
 use Rattle.grown_runs.proofs.Common.{Record, Task, Knot, mark_at, IsLawfulRecord, setup_of, IsPresent}
-use Rattle.report_judge.specs.Laws.FirstBreaks.{IsFirstBreak, KeepsHead, KeepsPresence}
-use Rattle.report_judge.specs.Texts.ReportLines.{extent_of}
-use Rattle.report_judge.specs.Texts.ReportSheets.{Sheet, SpellsSheet, head_lines, state_of_sheet, number_of_node_line, number_of_mark_line}
-use Rattle.report_judge.specs.Laws.SheetLaws.{KeepsNodeLaw, HasOwnTurn, KeepsLawAt, KeepsLaw, best_priced_path, tally_of}
-use Rattle.report_judge.specs.Laws.Verdicts.{BreaksLawFirst, IsLawful}
+use Rattle.report_judge.proofs.Words.{IsFirstBreak, KeepsHead, KeepsPresence, extent_of, Sheet, SpellsSheet, head_lines, state_of_sheet, number_of_node_line}
+use Rattle.report_judge.proofs.Words.{number_of_mark_line, KeepsNodeLaw, HasOwnTurn, KeepsLawAt, KeepsLaw, best_priced_path, tally_of, BreaksLawFirst, IsLawful}
 
 -- among more first nodes no fewer are present
 count-take-le : (knots : List (Option Knot)) (m n : ℕ) → m ≤ n → count_by is_some (take m knots) ≤ count_by is_some (take n knots)

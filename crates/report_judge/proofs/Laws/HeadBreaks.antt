@@ -6,10 +6,8 @@ use Rattle.std.proofs.lemmas.Bool.{cases_lt}
 use Rattle.std.proofs.lemmas.List.{length-map}
 use Rattle.std.proofs.lemmas.Option.{slice_get-get_or, slice_get_within}
 use Rattle.plan_model.specs.declared.geometry.Point.{Point}
-use Rattle.report_judge.specs.Laws.FirstBreaks.{IsFirstBreak, KeepsHead, KeepsPoint}
-use Rattle.report_judge.specs.Texts.ReportLines.{Tally, ReportLine}
-use Rattle.report_judge.specs.Texts.ReportLines.ReportLine.{PathOf, PathPoint, Counts}
-use Rattle.report_judge.specs.Texts.ReportSheets.{PricedPath, head_lines}
+use Rattle.report_judge.proofs.Words.{IsFirstBreak, KeepsHead, KeepsPoint, ReportLine, PathOf, PathPoint, Counts, PricedPath, head_lines}
+use Rattle.report_judge.specs.Texts.ReportLines.{Tally}
 
 -- the lines after that of the path
 abbrev later : List Point → Tally → List ReportLine

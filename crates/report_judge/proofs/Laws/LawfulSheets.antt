@@ -7,12 +7,10 @@ use Rattle.std.proofs.lemmas.List.{length-map, ext_get_or}
 use Rattle.std.proofs.lemmas.Option.{slice_get-get_or, slice_get_past}
 use Rattle.grown_runs.proofs.Common.{Blocked, Record, Task, Knot, Twig, IsClosed, has_outcome, KeepsOrder, is_placed, Setup, setup_of, unplaced_record, ClearAt}
 use Rattle.grown_runs.proofs.Common.{space_of, without_costs, IsPresent, point_at, TreeState, IsSettled, present_below}
-use Rattle.report_judge.specs.Texts.ReportLines.{Tally, ReportLine, extent_of, lines_text}
-use Rattle.report_judge.specs.Texts.ReportLines.ReportLine.{NoPath, PathOf, PathPoint, Counts}
-use Rattle.report_judge.specs.Texts.ReportSheets.{PricedPath, Sheet, head_lines, lines_of_sheet, state_of_sheet, HasForm}
-use Rattle.report_judge.specs.Texts.ReportSheets.{number_of_node_line, number_of_mark_line}
-use Rattle.report_judge.specs.Laws.SheetLaws.{KeepsNodeLaw, KeepsLaw, best_priced_path, tally_of}
-use Rattle.report_judge.specs.Laws.Verdicts.{IsReportOfRun, IsLawful}
+use Rattle.report_judge.proofs.Words.{ReportLine, extent_of, lines_text, NoPath, PathOf, PathPoint, Counts, PricedPath, Sheet, head_lines, lines_of_sheet}
+use Rattle.report_judge.proofs.Words.{state_of_sheet, HasForm, number_of_node_line, number_of_mark_line, KeepsNodeLaw, KeepsLaw, best_priced_path, tally_of}
+use Rattle.report_judge.proofs.Words.{IsReportOfRun, IsLawful}
+use Rattle.report_judge.specs.Texts.ReportLines.{Tally}
 use Rattle.report_judge.proofs.Laws.OwnTurns.{AreTurns-own}
 use Rattle.report_judge.proofs.Texts.SheetTexts.{lines_text-sheet}
 use Rattle.report_judge.proofs.Laws.SheetTrees.{IsSettled-sound, KeepsOrder-sound}

@@ -3,9 +3,7 @@ use Rattle.std.proofs.Common.{◌≡◌, ℕ, zero, suc, ◌+◌, ◌*◌, ◌<�
 use Rattle.std.specs.Prelude.{is_some, option_map, slice_index_or}
 use Rattle.grown_runs.proofs.Common.{ConfigurationSpace, Point, Record, Knot, cost_of, squared_distance, Setup, Clear, IsPresent, StandsAt, point_of, TreeState}
 use Rattle.grown_runs.proofs.Common.{IsPresent-stands, point_of-stands, kept_cost_of, state_of_lists, point_at-lists, parent_of-lists}
-use Rattle.report_judge.specs.Laws.ExactEdges.{FitsEdges, KeepsEdges}
-use Rattle.report_judge.specs.Laws.FirstBreaks.{IsFirstBreak, IsNewKey, KeepsNode, point_key}
-use Rattle.report_judge.specs.Laws.SheetLaws.{IsSoundNode}
+use Rattle.report_judge.proofs.Words.{FitsEdges, KeepsEdges, IsFirstBreak, IsNewKey, KeepsNode, point_key, IsSoundNode}
 use Rattle.report_judge.proofs.Laws.FirstBreakLaws.{IsFirstBreak-same}
 
 -- the point of a node of the list

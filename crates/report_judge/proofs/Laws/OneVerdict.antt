@@ -6,11 +6,8 @@ use Rattle.std.specs.List.{join_with_byte}
 use Rattle.std.proofs.lemmas.Bool.{cases_order}
 use Rattle.std.proofs.Math.Seq.{take-append_seam}
 use Rattle.grown_runs.proofs.Common.{Task, length-marks}
-use Rattle.report_judge.specs.Texts.ReportForms.{MayStandNext, AreBegun, AreAll, BreaksFormFirst}
-use Rattle.report_judge.specs.Texts.ReportLines.{ReportLine, Extent, extent_of, line_words, line_text, lines_text, FitsLine}
-use Rattle.report_judge.specs.Texts.ReportSheets.{Sheet, SpellsSheet, lines_of_sheet}
-use Rattle.report_judge.specs.Laws.SheetLaws.{KeepsLawAt}
-use Rattle.report_judge.specs.Laws.Verdicts.{IsLawful, BreaksLawFirst, IsBroken}
+use Rattle.report_judge.proofs.Words.{MayStandNext, AreBegun, AreAll, BreaksFormFirst, ReportLine, Extent, extent_of, line_words, line_text, lines_text}
+use Rattle.report_judge.proofs.Words.{FitsLine, Sheet, SpellsSheet, lines_of_sheet, KeepsLawAt, IsLawful, BreaksLawFirst, IsBroken}
 use Rattle.report_judge.proofs.Texts.ListPlaces.{slice_get-seam}
 use Rattle.report_judge.proofs.Texts.LineWords.{same_first_lines}
 use Rattle.report_judge.proofs.Texts.SheetForms.{AreBegun-sheet, AreAll-sheet}

@@ -3,8 +3,7 @@ use Rattle.std.proofs.Common.{◌≡◌, ℕ, suc, ◌≤◌, List, length, Opti
 use Rattle.std.specs.Prelude.{slice_get}
 use Rattle.std.proofs.lemmas.Bool.{cases_lt}
 use Rattle.grown_runs.proofs.Common.{Record, Task, Knot, turns_of}
-use Rattle.report_judge.specs.Laws.FirstBreaks.{HasFewTurns, IsFirstBreak, earlier_of}
-use Rattle.report_judge.specs.Workers.JudgedRuns.{HaveLowTurns, KeepsRecord, KeepsRecordOf, KeepsRecordBelow, KeepsRecordBetween}
+use Rattle.report_judge.proofs.Words.{HasFewTurns, IsFirstBreak, earlier_of, HaveLowTurns, KeepsRecord, KeepsRecordOf, KeepsRecordBelow, KeepsRecordBetween}
 use Rattle.report_judge.proofs.Laws.FirstBreakLaws.{IsFirstBreak-earlier, IsFirstBreak-same}
 
 module _ (task : Task) (knots : List (Option Knot)) (records : List Record) where

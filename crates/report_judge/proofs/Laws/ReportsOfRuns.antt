@@ -16,10 +16,8 @@ use Rattle.grown_runs.proofs.Common.{point_of, TreeState, AreSameRuns, IsSettled
 use Rattle.grown_runs.proofs.Common.{IsPresent-stands, StandsAt-present, point_of-stands, node_count-length, sum_in-parent, start-present, parent-present}
 use Rattle.grown_runs.proofs.Common.{report_text-same, IsClosed-same_run, IsSettled-same, times-once, turn-below, IsKnot, kept_cost_of, state_of_lists}
 use Rattle.grown_runs.proofs.Common.{FitsRecord-closed, IsBounded-closed, kept-low, present-closed, point_at-lists, parent_of-lists}
-use Rattle.report_judge.specs.Texts.ReportLines.{FitsKnot, FitsEntry, FitsTally, FitsSkipped, EndsWithin, extent_of}
-use Rattle.report_judge.specs.Texts.ReportSheets.{Sheet, FitsOptionalPath, HasForm}
-use Rattle.report_judge.specs.Laws.SheetLaws.{HasOwnTurn, KeepsNodeLaw, KeepsLaw, best_priced_path, path_by, skipped_of, tally_of}
-use Rattle.report_judge.specs.Laws.Verdicts.{IsReportOfRun, IsLawful}
+use Rattle.report_judge.proofs.Words.{FitsKnot, FitsEntry, FitsTally, FitsSkipped, EndsWithin, extent_of, Sheet, FitsOptionalPath, HasForm, HasOwnTurn}
+use Rattle.report_judge.proofs.Words.{KeepsNodeLaw, KeepsLaw, best_priced_path, path_by, skipped_of, tally_of, IsReportOfRun, IsLawful}
 use Rattle.report_judge.proofs.Laws.LawfulSheets.{length-without_costs}
 use Rattle.report_judge.proofs.Texts.SheetTexts.{lines_text-sheet}
 

@@ -5,15 +5,9 @@ use Rattle.std.proofs.lemmas.Bool.{and_parts, cases_order}
 use Rattle.std.proofs.lemmas.Option.{slice_get_within}
 use Rattle.grown_runs.proofs.Common.{MOST_MARKS, MOST_NODES, Record, Task, Knot, is_placed, is_earlier_record, Setup, setup_of, ClearAt, IsPresent, TreeState}
 use Rattle.grown_runs.proofs.Common.{length-marks, KeepsOrder-falls, parent-present, state_of_lists, IsKnot-at}
-use Rattle.report_judge.specs.Laws.ExactEdges.{FitsEdges}
-use Rattle.report_judge.specs.Laws.FirstBreaks.{HasFewTurns, KeepsPresence, KeepsTurn}
-use Rattle.report_judge.specs.Workers.JudgedRuns.{HaveLowTurns}
-use Rattle.report_judge.specs.Laws.ListedTrees.{IsSettledList}
-use Rattle.report_judge.specs.Workers.OwnNodes.{ArePresent, FitFirstCosts}
-use Rattle.report_judge.specs.Texts.ReportLines.{Extent, extent_of}
-use Rattle.report_judge.specs.Texts.ReportSheets.{Sheet, HasForm, number_of_mark_line, number_of_node_line, state_of_sheet}
-use Rattle.report_judge.specs.Workers.SeenNodes.{HaveOwnTurns}
-use Rattle.report_judge.specs.Laws.SheetLaws.{HasOwnTurn, KeepsLaw, KeepsNodeLaw}
+use Rattle.report_judge.proofs.Words.{FitsEdges, HasFewTurns, KeepsPresence, KeepsTurn, HaveLowTurns, IsSettledList, ArePresent, FitFirstCosts, Extent}
+use Rattle.report_judge.proofs.Words.{extent_of, Sheet, HasForm, number_of_mark_line, number_of_node_line, state_of_sheet, HaveOwnTurns, HasOwnTurn, KeepsLaw}
+use Rattle.report_judge.proofs.Words.{KeepsNodeLaw}
 use Rattle.report_judge.proofs.Laws.SheetTrees.{IsSettled-sound, KeepsOrder-sound}
 
 -- ---- form

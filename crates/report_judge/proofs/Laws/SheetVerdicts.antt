@@ -4,16 +4,10 @@ use Rattle.std.specs.Prelude.{is_some, slice_get}
 use Rattle.std.proofs.lemmas.Bool.{both_ways, cases_Bool}
 use Rattle.grown_runs.proofs.Common.{Record, Task, Knot, outcome_count, is_placed, is_same, is_blocked, Setup, setup_of, ClearAt, space_of, best_node, goals_of}
 use Rattle.grown_runs.proofs.Common.{without_costs, IsPresent, node_count, point_at, present_below, state_of_lists}
-use Rattle.report_judge.specs.declared.verdicts.Verdict.TheVariants.{Lawful, Broken}
-use Rattle.report_judge.specs.Laws.FirstBreaks.{IsFirstBreak, KeepsHead, KeepsNode, KeepsPresence, KeepsTurn}
-use Rattle.report_judge.specs.Laws.Judgements.{IsVerdict}
-use Rattle.report_judge.specs.Workers.JudgedRuns.{KeepsRecord}
-use Rattle.report_judge.specs.Texts.ReportLines.{Extent, Tally, lines_text, extent_of}
-use Rattle.report_judge.specs.Texts.ReportSheets.{PricedPath, Sheet, HasForm, SpellsSheet, head_lines, lines_of_sheet, state_of_sheet}
-use Rattle.report_judge.specs.Texts.ReportSheets.{number_of_mark_line, number_of_node_line}
-use Rattle.report_judge.specs.Laws.SheetLaws.{HasOwnTurn, KeepsLaw, best_priced_path, path_by, skipped_of, tally_of}
-use Rattle.report_judge.specs.Laws.Verdicts.{IsBroken}
-use Rattle.report_judge.specs.Texts.ReportForms.{BreaksFormFirst}
+use Rattle.report_judge.proofs.Words.{Lawful, Broken, IsFirstBreak, KeepsHead, KeepsNode, KeepsPresence, KeepsTurn, IsVerdict, KeepsRecord, Extent, lines_text}
+use Rattle.report_judge.proofs.Words.{extent_of, PricedPath, Sheet, HasForm, SpellsSheet, head_lines, lines_of_sheet, state_of_sheet, number_of_mark_line}
+use Rattle.report_judge.proofs.Words.{number_of_node_line, HasOwnTurn, KeepsLaw, best_priced_path, path_by, skipped_of, tally_of, IsBroken, BreaksFormFirst}
+use Rattle.report_judge.specs.Texts.ReportLines.{Tally}
 use Rattle.report_judge.proofs.Laws.BrokenLines.{BreaksLawFirst-heads, BreaksLawFirst-nodes, BreaksLawFirst-presence, BreaksLawFirst-records}
 use Rattle.report_judge.proofs.Laws.BrokenLines.{BreaksLawFirst-turns, IsLawful-six, KeepsLaw-heads, KeepsLaw-nodes}
 use Rattle.report_judge.proofs.Laws.BrokenLines.{KeepsLaw-turns, KeepsTurns}

@@ -2,9 +2,8 @@
 use Rattle.std.proofs.Common.{◌≡◌, ℕ, List, ◌∷◌, ◌++◌, Option, Some, append_assoc, decimal}
 use Rattle.std.specs.Prelude.{codes}
 use Rattle.plan_model.specs.Reports.ReportText.{line}
+use Rattle.report_judge.proofs.Words.{field, line_text, skipped_count, Counts}
 use Rattle.report_judge.specs.declared.tallies.Tally.{Tally}
-use Rattle.report_judge.specs.Texts.ReportLines.{field, line_text, skipped_count}
-use Rattle.report_judge.specs.Texts.ReportLines.ReportLine.{Counts}
 
 -- the line from the count of blocked marks on
 abbrev pub last_counts : ℕ → Option ℕ → List ℕ → List ℕ

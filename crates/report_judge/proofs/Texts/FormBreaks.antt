@@ -6,12 +6,11 @@ use Rattle.std.proofs.lemmas.Grind.{flat_map-append}
 use Rattle.std.proofs.lemmas.List.{length-map}
 use Rattle.std.proofs.lemmas.Option.{slice_get_past, slice_get_within}
 use Rattle.grown_runs.proofs.Common.{Point, Record, Knot, IsPresent, node_count-lists}
-use Rattle.report_judge.specs.Texts.FrontLines.{ReadsPoints, ReadsNodes, ReadsRecords}
-use Rattle.report_judge.specs.Texts.ReportForms.{nodes_said, counts_place, nodes_to_come, MayFollow, MayStandNext, AreBegun, BreaksFormFirst}
-use Rattle.report_judge.specs.Texts.ReportLines.{Tally, ReportLine, Extent, line_text, lines_text, FitsTally, FitsEntry, FitsLine}
-use Rattle.report_judge.specs.Texts.ReportLines.ReportLine.{NoPath, PathOf, PathPoint, Counts, NodeLine, MarkLine}
-use Rattle.report_judge.specs.Texts.ReportSheets.{PricedPath, Sheet, path_lines, head_lines, lines_of_knots, lines_of_records}
-use Rattle.report_judge.specs.Texts.ReportSheets.{lines_of_sheet, FitsOptionalPath, SpellsSheet, state_of_sheet}
+use Rattle.report_judge.proofs.Words.{ReadsPoints, ReadsNodes, ReadsRecords, nodes_said, counts_place, nodes_to_come, MayFollow, MayStandNext, AreBegun}
+use Rattle.report_judge.proofs.Words.{BreaksFormFirst, ReportLine, Extent, line_text, lines_text, FitsTally, FitsEntry, FitsLine, NoPath, PathOf, PathPoint}
+use Rattle.report_judge.proofs.Words.{Counts, NodeLine, MarkLine, PricedPath, Sheet, path_lines, head_lines, lines_of_knots, lines_of_records, lines_of_sheet}
+use Rattle.report_judge.proofs.Words.{FitsOptionalPath, SpellsSheet, state_of_sheet}
+use Rattle.report_judge.specs.Texts.ReportLines.{Tally}
 use Rattle.report_judge.proofs.Texts.ListPlaces.{slice_get-right}
 use Rattle.report_judge.proofs.Laws.NodeBreaks.{present}
 use Rattle.report_judge.proofs.Texts.SheetLines.{lines_few}

@@ -8,11 +8,9 @@ use Rattle.std.proofs.lemmas.Grind.{flat_map-append, get_or-set_at}
 use Rattle.std.proofs.lemmas.List.{get_or-replicate, get_or_past, get_or-set_other, get_or_append_left, get_or_at, length-replicate, length-set}
 use Rattle.std.proofs.lemmas.Option.{get_or_from_slice_get}
 use Rattle.grown_runs.proofs.Common.{Record, Knot, IsKnot, IsKnot-at}
-use Rattle.report_judge.specs.Texts.FrontLines.{IsNextNode, ReadsNodes}
-use Rattle.report_judge.specs.Texts.ReportForms.{MayFollow}
-use Rattle.report_judge.specs.Texts.ReportLines.{Tally, ReportLine, line_text, lines_text, FitsKnot}
-use Rattle.report_judge.specs.Texts.ReportLines.ReportLine.{Counts, NodeLine, MarkLine}
-use Rattle.report_judge.specs.Texts.ReportSheets.{line_of_knot, line_of_record, lines_of_knots, lines_of_records}
+use Rattle.report_judge.proofs.Words.{IsNextNode, ReadsNodes, MayFollow, ReportLine, line_text, lines_text, FitsKnot, Counts, NodeLine, MarkLine, line_of_knot}
+use Rattle.report_judge.proofs.Words.{line_of_record, lines_of_knots, lines_of_records}
+use Rattle.report_judge.specs.Texts.ReportLines.{Tally}
 use Rattle.report_judge.proofs.Texts.LineWords.{same_first_lines}
 use Rattle.report_judge.proofs.Texts.SheetForms.{flat_map-more}
 use Rattle.report_judge.proofs.Texts.ListPlaces.{slice_get-left, slice_get-seam}

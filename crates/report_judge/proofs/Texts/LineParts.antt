@@ -3,8 +3,7 @@ use Rattle.std.proofs.Common.{◌≡◌, ℕ, ◌<◌, ◌^◌, List, [], ◌∷
 use Rattle.std.specs.Prelude.{codes}
 use Rattle.std.proofs.lemmas.List.{append_cancel_left}
 use Rattle.grown_runs.proofs.Common.{Point, Knot}
-use Rattle.report_judge.specs.Texts.ReportLines.{field, line_text, point_field}
-use Rattle.report_judge.specs.Texts.ReportLines.ReportLine.{NodeLine, PathOf, PathPoint}
+use Rattle.report_judge.proofs.Words.{field, line_text, point_field, NodeLine, PathOf, PathPoint}
 use Rattle.report_judge.proofs.Texts.FieldWords.{same_fields}
 
 -- Texts that begin with the same word, a number and the same byte, and are the same, begin with the same number.

@@ -2,8 +2,7 @@
 use Rattle.std.proofs.Common.{◌≡◌, ℕ, ◌<◌, ◌≤◌, ◌^◌, true, List, [], ◌∷◌, ◌++◌, ap, arith, get_or, refl, ◌∙◌, append_assoc, decimal}
 use Rattle.std.specs.Prelude.{codes}
 use Rattle.grown_runs.proofs.Common.{MOST_MARKS, Outcome, Placed, Same, Blocked, Skipped, Record, line, outcome_words, last_field}
-use Rattle.report_judge.specs.Texts.ReportLines.{Extent, EndsWithin, FitsEntry, field, line_text, mark_front}
-use Rattle.report_judge.specs.Texts.ReportLines.ReportLine.{MarkLine}
+use Rattle.report_judge.proofs.Words.{Extent, EndsWithin, FitsEntry, field, line_text, mark_front, MarkLine}
 use Rattle.report_judge.proofs.Texts.LineParts.{same_field}
 
 front : (k w t : ℕ) (first : List ℕ) (more : List (List ℕ)) (rest : List ℕ)

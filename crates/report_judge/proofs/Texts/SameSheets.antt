@@ -7,12 +7,9 @@ use Rattle.std.proofs.lemmas.Bool.{cases_lt, eq-eqb, ne_eqb}
 use Rattle.std.proofs.lemmas.List.{ext_get_or}
 use Rattle.std.proofs.lemmas.Option.{slice_get-get_or}
 use Rattle.grown_runs.proofs.Common.{Point, Blocked, Record, Knot, unplaced_record}
-use Rattle.report_judge.specs.Texts.ReportForms.{counts_place}
-use Rattle.report_judge.specs.Texts.ReportLines.{Tally, ReportLine, Extent}
-use Rattle.report_judge.specs.Texts.ReportLines.ReportLine.{NoPath, PathOf, PathPoint, Counts, NodeLine, MarkLine}
-use Rattle.report_judge.specs.Texts.ReportSheets.{PricedPath, Sheet, HasForm, path_lines, head_lines, line_of_knot, line_of_record, lines_of_knots}
-use Rattle.report_judge.specs.Texts.ReportSheets.{lines_of_records}
-use Rattle.report_judge.specs.Texts.ReportSheets.{lines_of_sheet}
+use Rattle.report_judge.proofs.Words.{counts_place, ReportLine, Extent, NoPath, PathOf, PathPoint, Counts, NodeLine, MarkLine, PricedPath, Sheet, HasForm}
+use Rattle.report_judge.proofs.Words.{path_lines, head_lines, line_of_knot, line_of_record, lines_of_knots, lines_of_records, lines_of_sheet}
+use Rattle.report_judge.specs.Texts.ReportLines.{Tally}
 use Rattle.report_judge.proofs.Texts.SheetForms.{counts_place-head, flat_map-more, length-nodes}
 
 -- ---- lists

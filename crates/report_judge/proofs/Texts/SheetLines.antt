@@ -6,10 +6,8 @@ use Rattle.std.specs.List.{join_with_byte}
 use Rattle.std.proofs.lemmas.List.{take_more}
 use Rattle.std.proofs.lemmas.List.Sums.{sum_by_push, sum_by-take-le}
 use Rattle.plan_model.specs.declared.trees.Knot.{Knot}
-use Rattle.report_judge.specs.Texts.ReportForms.{counts_place, nodes_to_come}
-use Rattle.report_judge.specs.Texts.ReportLines.{ReportLine, Extent, line_words, line_text, lines_text}
-use Rattle.report_judge.specs.Texts.ReportSheets.{Sheet, path_lines, head_lines, lines_of_knots, lines_of_records, lines_of_sheet}
-use Rattle.report_judge.specs.Texts.ReportSheets.{SpellsSheet, number_of_node_line, number_of_mark_line}
+use Rattle.report_judge.proofs.Words.{counts_place, nodes_to_come, ReportLine, Extent, line_words, line_text, lines_text, Sheet, path_lines, head_lines}
+use Rattle.report_judge.proofs.Words.{lines_of_knots, lines_of_records, lines_of_sheet, SpellsSheet, number_of_node_line, number_of_mark_line}
 use Rattle.report_judge.proofs.Texts.SheetForms.{AreAll-sheet, counts_place-head, nodes_to_come-head, length-head_lines, length-lines_of_knots, length-nodes}
 
 -- each line has a byte

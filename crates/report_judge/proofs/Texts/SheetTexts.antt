@@ -8,11 +8,9 @@ use Rattle.std.proofs.lemmas.List.Folds.{flat_map-map}
 use Rattle.grown_runs.proofs.Common.{Point, Record, Scene, Knot, head_line, best_path, counts_line, no_path_line, point_lines, short_report, skipped_words}
 use Rattle.grown_runs.proofs.Common.{full_report, node_line_if_present, node_lines, mark_line_if_recorded, mark_lines, best_node, goals_of, point_at, TreeState}
 use Rattle.grown_runs.proofs.Common.{IsSettled, sum_in, kept_cost_of, state_of_lists, point_at-lists, parent_of-lists}
-use Rattle.report_judge.specs.Texts.ReportLines.{ReportLine, line_text, lines_text, skipped_count}
-use Rattle.report_judge.specs.Texts.ReportLines.ReportLine.{PathPoint, Counts, NodeLine, MarkLine}
-use Rattle.report_judge.specs.Texts.ReportSheets.{Sheet, head_lines, line_of_knot, line_of_record, lines_of_knots, lines_of_records}
-use Rattle.report_judge.specs.Texts.ReportSheets.{lines_of_sheet, state_of_sheet}
-use Rattle.report_judge.specs.Laws.SheetLaws.{path_by, best_priced_path, skipped_of, tally_of}
+use Rattle.report_judge.proofs.Words.{ReportLine, line_text, lines_text, skipped_count, PathPoint, Counts, NodeLine, MarkLine, Sheet, head_lines, line_of_knot}
+use Rattle.report_judge.proofs.Words.{line_of_record, lines_of_knots, lines_of_records, lines_of_sheet, state_of_sheet, path_by, best_priced_path, skipped_of}
+use Rattle.report_judge.proofs.Words.{tally_of}
 
 -- a list of lists that is mapped twice
 flat_map-flat_map : {X A B : Type 0} → (f : A → List B) (g : X → List A) (xs : List X) → flat_map f (flat_map g xs) ≡ flat_map (λ x. flat_map f (g x)) xs

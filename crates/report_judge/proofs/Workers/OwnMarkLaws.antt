@@ -10,9 +10,7 @@ use Rattle.std.proofs.lemmas.List.Sorted.{All-permutation, Contains-permutation}
 use Rattle.grown_runs.proofs.Common.{Point, Record}
 use Rattle.point_bands.specs.Walks.{nowhere, numbered_at}
 use Rattle.point_bands.specs.declared.bands.Numbered.{Numbered}
-use Rattle.report_judge.specs.Laws.FirstBreaks.{IsFirstBreak}
-use Rattle.report_judge.specs.Workers.OwnMarks.{AreMarksBetween, HasNumber, IsFirstSeen, IsMarkBetween}
-use Rattle.report_judge.specs.Workers.SeenNodes.{HaveOwnTurns, IsMarkOfTurn}
+use Rattle.report_judge.proofs.Words.{IsFirstBreak, AreMarksBetween, HasNumber, IsFirstSeen, IsMarkBetween, HaveOwnTurns, IsMarkOfTurn}
 
 -- ---- the list, turn by turn
 

@@ -15,15 +15,9 @@ use Rattle.point_bands.specs.Discs.{IsWithin}
 use Rattle.point_bands.specs.Walks.{numbered_at, nowhere, HasNoneBetween, IsStretchAfter}
 use Rattle.point_bands.specs.declared.bands.Numbered.{Numbered}
 use Rattle.point_bands.specs.declared.bands.Stretch.{Stretch}
-use Rattle.report_judge.specs.Workers.OwnNodes.{AreNodesBefore, ArePresent, HasNo, HasOne, IsPassedOverAt, IsNearerAt, IsNodeBefore, IsPlacedAt, IsPlacedMarkAt}
-use Rattle.report_judge.specs.Workers.OwnNodes.{IsUnlawfulAt}
-use Rattle.report_judge.specs.Workers.OwnNodes.{IsNearestOfEarlier, IsTaken, KeepsNear}
-use Rattle.report_judge.specs.Workers.SeenNodes.{HaveOwnTurns, IsMarkOfTurn, is_before, places_before}
-use Rattle.report_judge.specs.Workers.Standings.{AreStandings, place_of, standing_at, standing_of, turns_to}
-use Rattle.report_judge.specs.declared.own.searches.NearerSearch.{NearerSearch}
-use Rattle.report_judge.specs.declared.own.searches.NeighbourSearch.{NeighbourSearch}
-use Rattle.report_judge.specs.declared.own.standings.Standing.{Standing}
-use Rattle.report_judge.specs.Laws.ExactEdges.{FitsEdges}
+use Rattle.report_judge.proofs.Words.{AreNodesBefore, ArePresent, HasNo, HasOne, IsPassedOverAt, IsNearerAt, IsNodeBefore, IsPlacedAt, IsPlacedMarkAt}
+use Rattle.report_judge.proofs.Words.{IsUnlawfulAt, IsNearestOfEarlier, IsTaken, KeepsNear, HaveOwnTurns, IsMarkOfTurn, is_before, places_before, AreStandings}
+use Rattle.report_judge.proofs.Words.{place_of, standing_at, standing_of, turns_to, NearerSearch, NeighbourSearch, Standing, FitsEdges}
 use Rattle.report_judge.proofs.Laws.ListedNodes.{none-stands, same-listed}
 use Rattle.report_judge.proofs.Workers.SeenLaws.{is_before-earlier}
 

@@ -7,9 +7,8 @@ use Rattle.std.proofs.lemmas.Bool.{and_from, and_left, and_right, cases_Bool, ca
 use Rattle.std.proofs.lemmas.List.Sums.{length-filter}
 use Rattle.grown_runs.proofs.Common.{Goal, Record, Knot, is_placed, is_earlier, is_earlier_record, earlier_count, IsGoalNode, TreeState, first_cost_of}
 use Rattle.grown_runs.proofs.Common.{recorded_or, count-one_more, count-same, state_of_lists}
-use Rattle.report_judge.specs.Workers.SeenNodes.{IsTurnOf, IsMarkOfTurn, HaveOwnTurns, places_before, is_before, count_before, IsLeastGoalCost, IsLeastIfAny}
-use Rattle.report_judge.specs.Workers.SeenNodes.{AreSeen}
-use Rattle.report_judge.specs.declared.own.seen_nodes.Seen.{Seen}
+use Rattle.report_judge.proofs.Words.{IsTurnOf, IsMarkOfTurn, HaveOwnTurns, places_before, is_before, count_before, IsLeastGoalCost, IsLeastIfAny, AreSeen}
+use Rattle.report_judge.proofs.Words.{Seen}
 
 -- ---- earlier nodes are those before a turn
 

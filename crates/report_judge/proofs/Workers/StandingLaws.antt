@@ -3,9 +3,8 @@ use Rattle.std.proofs.Common.{◌≡◌, ℕ, zero, suc, ◌+◌, ◌<◌, true,
 use Rattle.std.specs.Prelude.{IfNone, IfSome, slice_get, slice_index_or}
 use Rattle.std.proofs.lemmas.List.{get_or_append_left}
 use Rattle.grown_runs.proofs.Common.{Record, Knot, state_of_lists}
-use Rattle.report_judge.specs.Workers.SeenNodes.{AreMarksByTurn, HaveOwnTurns, IsMarkOfTurn, is_before}
-use Rattle.report_judge.specs.Workers.Standings.{AreStandings, no_standing, place_of, standing_at, standing_of, turns_to}
-use Rattle.report_judge.specs.declared.own.standings.Standing.{Standing}
+use Rattle.report_judge.proofs.Words.{AreMarksByTurn, HaveOwnTurns, IsMarkOfTurn, is_before, AreStandings, no_standing, place_of, standing_at, standing_of}
+use Rattle.report_judge.proofs.Words.{turns_to, Standing}
 use Rattle.report_judge.proofs.Workers.OwnNodeLaws.{placed_before}
 
 -- the node of a mark; the start's number where there is none

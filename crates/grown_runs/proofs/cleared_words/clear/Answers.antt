@@ -1,8 +1,5 @@
 use Rattle.std.proofs.Common.{◌≡◌, arith, sym, ap, subst}
-use Rattle.grown_runs.specs.Table.ClearedWords.{ClearsNodes}
-use Rattle.grown_runs.specs.Runs.GrownWords.{cleared}
-use Rattle.grown_runs.specs.Table.PlacesOfWords.{sizes_in}
-use Rattle.grown_runs.specs.Table.RunWords.{words_in}
+use Rattle.grown_runs.proofs.Words.{ClearsNodes, cleared, sizes_in, words_in}
 use Rattle.grown_runs.specs.Table.WordPlaces.{word_at}
 use Rattle.grown_runs.proofs.Table.ClearedWords.{cleared-all}
 use Rattle.grown_runs.proofs.cleared_words.clear.Goals as goal

@@ -1,6 +1,5 @@
 use Rattle.std.proofs.Common.{◌≡◌}
-use Rattle.grown_runs.specs.Table.ClearedWords.{ClearsNodes}
-use Rattle.grown_runs.specs.Table.RunWords.{words_in}
+use Rattle.grown_runs.proofs.Words.{ClearsNodes, words_in}
 use Rattle.grown_runs.proofs.cleared_words.clear.Given as goal
 
 -- the numbers so far are cleared

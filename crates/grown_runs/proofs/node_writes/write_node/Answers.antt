@@ -1,7 +1,5 @@
 use Rattle.std.proofs.Common.{◌∙◌, subst}
-use Rattle.grown_runs.specs.Table.RunWords.{words_in}
-use Rattle.grown_runs.specs.Table.WordNames.{WritesWord}
-use Rattle.grown_runs.specs.Table.WordNames.Word.{PointOf, TreeOf}
+use Rattle.grown_runs.proofs.Words.{words_in, WritesWord, PointOf, TreeOf}
 use Rattle.grown_runs.proofs.Runs.PackedWritings.{HoldsNode-written, ChangesNode-written}
 use Rattle.grown_runs.proofs.node_writes.write_node.Goals as goal
 

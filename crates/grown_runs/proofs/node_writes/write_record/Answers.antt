@@ -1,8 +1,5 @@
 use Rattle.std.proofs.Common.{◌≡◌, ◌+◌, suc, arith, ◌∙◌, subst}
-use Rattle.grown_runs.specs.Table.RunWords.{words_in}
-use Rattle.grown_runs.specs.Table.WordNames.{WritesWord}
-use Rattle.grown_runs.specs.Table.WordNames.Word.{FirstOf, RecordOf}
-use Rattle.grown_runs.specs.Table.Words.{tree_word}
+use Rattle.grown_runs.proofs.Words.{words_in, WritesWord, FirstOf, RecordOf, tree_word}
 use Rattle.grown_runs.proofs.Runs.PackedWritings.{HoldsRecord-unplaced, HoldsRecord-placed, ChangesRecord-unplaced, ChangesRecord-placed}
 use Rattle.grown_runs.proofs.node_writes.write_record.Goals as goal
 

@@ -1,8 +1,5 @@
 use Rattle.std.proofs.Common.{◌+◌, ◌<◌, ◌%◌, ◌^◌, arith, sym, ◌∙◌, subst}
-use Rattle.grown_runs.specs.Table.PlacesOfWords.{sizes_in}
-use Rattle.grown_runs.specs.Table.RunWords.{words_in}
-use Rattle.grown_runs.specs.Table.WordNames.{WritesWord}
-use Rattle.grown_runs.specs.Table.WordNames.Word.{Counter}
+use Rattle.grown_runs.proofs.Words.{sizes_in, words_in, WritesWord, Counter}
 use Rattle.grown_runs.proofs.Runs.PackedWritings.{CountsMarks-more, quota_of-le}
 use Rattle.grown_runs.proofs.packed_runs.count_marks.Goals as goal
 

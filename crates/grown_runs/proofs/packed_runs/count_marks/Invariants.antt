@@ -1,7 +1,5 @@
 use Rattle.std.proofs.Common.{◌≡◌}
-use Rattle.grown_runs.specs.Runs.PackedRuns.{CountsMarks}
-use Rattle.grown_runs.specs.Table.PlacesOfWords.{sizes_in}
-use Rattle.grown_runs.specs.Table.RunWords.{words_in}
+use Rattle.grown_runs.proofs.Words.{CountsMarks, sizes_in, words_in}
 use Rattle.grown_runs.proofs.packed_runs.count_marks.Given as goal
 
 -- the marks so far are counted

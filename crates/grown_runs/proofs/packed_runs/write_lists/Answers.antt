@@ -1,8 +1,5 @@
 use Rattle.std.proofs.Common.{subst}
-use Rattle.grown_runs.specs.Table.PlacesOfWords.{sizes_in}
-use Rattle.grown_runs.specs.Table.RunWords.{words_in}
-use Rattle.grown_runs.specs.Table.WordNames.{WritesWord}
-use Rattle.grown_runs.specs.Table.WordNames.Word.{Count, FirstOf}
+use Rattle.grown_runs.proofs.Words.{sizes_in, words_in, WritesWord, Count, FirstOf}
 use Rattle.grown_runs.proofs.Runs.PackedLists.{HoldLists-written, child-written}
 use Rattle.grown_runs.proofs.packed_runs.write_lists.Goals as goal
 

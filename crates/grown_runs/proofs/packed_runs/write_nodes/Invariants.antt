@@ -1,6 +1,5 @@
 use Rattle.std.proofs.Common.{◌≡◌}
-use Rattle.grown_runs.specs.Runs.PackedRuns.{WritesNodes}
-use Rattle.grown_runs.specs.Table.RunWords.{words_in}
+use Rattle.grown_runs.proofs.Words.{WritesNodes, words_in}
 use Rattle.grown_runs.proofs.packed_runs.write_nodes.Given as goal
 
 -- the nodes so far are written

@@ -1,7 +1,6 @@
 use Rattle.std.proofs.Common.{◌≡◌, length, refl, arith, ◌∙◌, subst}
 use Rattle.std.proofs.lemmas.Option.{slice_get_read}
-use Rattle.grown_runs.specs.Runs.PackedRuns.{WritesRecords}
-use Rattle.grown_runs.specs.Table.RunWords.{words_in}
+use Rattle.grown_runs.proofs.Words.{WritesRecords, words_in}
 use Rattle.grown_runs.proofs.Runs.PackedWritings.{WritesRecords-more}
 use Rattle.grown_runs.proofs.packed_runs.write_records.Goals as goal
 

@@ -1,6 +1,5 @@
 use Rattle.std.proofs.Common.{◌≡◌}
-use Rattle.grown_runs.specs.Runs.PackedRuns.{WritesRecords}
-use Rattle.grown_runs.specs.Table.RunWords.{words_in}
+use Rattle.grown_runs.proofs.Words.{WritesRecords, words_in}
 use Rattle.grown_runs.proofs.packed_runs.write_records.Given as goal
 
 -- the records so far are written

@@ -1,7 +1,6 @@
 use Rattle.std.proofs.Common.{subst}
 use Rattle.std.specs.Prelude.{IfNone}
-use Rattle.report_judge.specs.Laws.SheetLaws.{KeepsLaw}
-use Rattle.report_judge.specs.Texts.SheetsRead.{sheet_read}
+use Rattle.report_judge.proofs.Words.{KeepsLaw, sheet_read}
 use Rattle.report_judge.proofs.verdicts.judge_sheet.Goals as goal
 
 pub node_verdict-requires-clause-hall : goal.node_verdict-requires-clause-hall

@@ -1,6 +1,5 @@
 use Rattle.std.proofs.Common.{Some, None, arith, sym, subst}
-use Rattle.report_judge.specs.Laws.Judgements.{IsVerdict, bytes_of}
-use Rattle.report_judge.specs.Texts.SheetsRead.{sheet_read}
+use Rattle.report_judge.proofs.Words.{IsVerdict, bytes_of, sheet_read}
 use Rattle.report_judge.proofs.Laws.BrokenLines.{KeepsLaw-presence}
 use Rattle.report_judge.proofs.Laws.SheetFacts.{few_knots}
 use Rattle.report_judge.proofs.Laws.SheetVerdicts.{broken_presence, mark_low, presence_by}

@@ -1,7 +1,6 @@
 use Rattle.std.proofs.Common.{arith, ◌∙◌}
 use Rattle.plan_model.proofs.MarkBounds.{length-marks}
-use Rattle.grown_runs.specs.Runs.GrownRuns.{words_of_grown}
-use Rattle.grown_runs.specs.Runs.GrownWords.{sizes_of}
+use Rattle.grown_runs.proofs.Words.{words_of_grown, sizes_of}
 use Rattle.grown_runs.proofs.Runs.GrownPoints.{node_count-words}
 use Rattle.grown_runs.proofs.grown.Grown.count.Goals as goal
 

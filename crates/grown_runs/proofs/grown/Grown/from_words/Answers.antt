@@ -1,6 +1,5 @@
 use Rattle.std.proofs.Common.{sym, ap, ◌∙◌, subst}
-use Rattle.grown_runs.specs.Runs.GrownWords.{HoldRun}
-use Rattle.grown_runs.specs.Table.PlacesOfWords.{sizes_in}
+use Rattle.grown_runs.proofs.Words.{HoldRun, sizes_in}
 use Rattle.grown_runs.proofs.grown.Grown.from_words.Goals as goal
 
 pub invariant_of-result : goal.invariant_of-result

@@ -1,12 +1,5 @@
 use Rattle.std.proofs.Common.{arith, ap, ◌∙◌, subst}
-use Rattle.grown_runs.specs.Runs.GrownRuns.{words_of_grown}
-use Rattle.grown_runs.specs.Runs.GrownWords.{sizes_of}
-use Rattle.grown_runs.specs.Table.PlacesOfWords.{sizes_in}
-use Rattle.grown_runs.specs.Table.RunWords.{words_in}
-use Rattle.grown_runs.specs.Table.WordNames.{WritesWord}
-use Rattle.grown_runs.specs.Table.WordNames.Word.{TreeOf}
-use Rattle.grown_runs.specs.Table.WordPlaces.{Sizes}
-use Rattle.grown_runs.specs.Table.Words.{tree_word}
+use Rattle.grown_runs.proofs.Words.{words_of_grown, sizes_of, sizes_in, words_in, WritesWord, TreeOf, Sizes, tree_word}
 use Rattle.grown_runs.proofs.Runs.GrownPoints.{has_node-present, present-within}
 use Rattle.grown_runs.proofs.Runs.LoweredWords.{CostsInstead-exchanged, HoldRun-lowered, children-kept}
 use Rattle.grown_runs.proofs.grown.Grown.lower.Goals as goal

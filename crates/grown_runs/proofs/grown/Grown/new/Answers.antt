@@ -1,9 +1,5 @@
 use Rattle.std.proofs.Common.{ap, ◌∙◌, subst}
-use Rattle.grown_runs.specs.Runs.GrownWords.{sizes_of}
-use Rattle.grown_runs.specs.Table.PlacesOfWords.{sizes_in}
-use Rattle.grown_runs.specs.Table.RunWords.{words_in}
-use Rattle.grown_runs.specs.Table.WordNames.{WritesWord}
-use Rattle.grown_runs.specs.Table.WordNames.Word.{PointOf, TreeOf, FirstOf}
+use Rattle.grown_runs.proofs.Words.{sizes_of, sizes_in, words_in, WritesWord, PointOf, TreeOf, FirstOf}
 use Rattle.grown_runs.proofs.Runs.StartWords.{AreSameRuns-start, HoldRun-start, HoldStart-written, IsBounded-start}
 use Rattle.grown_runs.proofs.grown.Grown.new.Goals as goal
 

@@ -1,9 +1,5 @@
 use Rattle.std.proofs.Common.{◌≡◌, List, [], refl, sym, ap, ◌∙◌}
-use Rattle.plan_model.specs.declared.geometry.Point.{Point}
-use Rattle.plan_model.specs.declared.scenes.Scene.{Scene}
-use Rattle.plan_model.specs.declared.scenes.Marks.TheVariants.{Listed}
-use Rattle.plan_model.specs.Scenes.MarkPoints.{mark_points, points_of_marks}
-use Rattle.plan_model.specs.Spaces.ConfigurationSpace.{space_among}
+use Rattle.plan_model.proofs.Words.{Point, Scene, Listed, mark_points, points_of_marks, space_among}
 use Rattle.plan_model.proofs.small_scenes.SmallScene.task.Goals as goal
 
 -- the marks of a plan that lists them

@@ -2,8 +2,7 @@ use Rattle.std.proofs.Common.{◌≡◌, ℕ, ◌+◌, ◌<◌, ◌≤◌, max, 
 use Rattle.std.specs.Prelude.{pos}
 use Rattle.std.proofs.lemmas.Int.{to_z-of_z}
 use Rattle.std.proofs.lemmas.List.Sums.{fold_more}
-use Rattle.plan_model.specs.declared.geometry.Vertex.{Vertex}
-use Rattle.plan_model.specs.Scenes.MarkPoints.{above_zero, below_zero, reach}
+use Rattle.plan_model.proofs.Words.{Vertex, above_zero, below_zero, reach}
 use Rattle.plan_model.proofs.spans.Reach.of.Goals as goal
 
 -- the reach of the corners so far and of the next one

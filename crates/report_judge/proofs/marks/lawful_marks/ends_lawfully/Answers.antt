@@ -1,8 +1,7 @@
 use Rattle.std.proofs.Common.{sym, ◌∙◌, subst}
 use Rattle.std.proofs.lemmas.Bool.{true≢false}
 use Rattle.plan_model.specs.Runs.RecordLaw.{IsPlacedLawfully}
-use Rattle.report_judge.specs.Workers.JudgedRuns.{run_of, setup_by}
-use Rattle.report_judge.specs.Workers.MarkLaws.{EndsLawfully}
+use Rattle.report_judge.proofs.Words.{run_of, setup_by, EndsLawfully}
 use Rattle.report_judge.proofs.marks.lawful_marks.ends_lawfully.Goals as goal
 
 pub is_chosen_lawfully-requires-clause-asked : goal.is_chosen_lawfully-requires-clause-asked

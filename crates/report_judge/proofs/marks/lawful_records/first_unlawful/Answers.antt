@@ -1,6 +1,5 @@
 use Rattle.std.proofs.Common.{◌≡◌, suc, ◌+◌, arith, sym, subst, length}
-use Rattle.report_judge.specs.Laws.FirstBreaks.{IsFirstBreak}
-use Rattle.report_judge.specs.Workers.JudgedRuns.{KeepsRecordBelow}
+use Rattle.report_judge.proofs.Words.{IsFirstBreak, KeepsRecordBelow}
 use Rattle.report_judge.proofs.Laws.RecordBreaks.{IsFirstBreak-no_worker, IsFirstBreak-worker, IsFirstBreak-workers}
 use Rattle.report_judge.proofs.marks.lawful_records.first_unlawful.Goals as goal
 

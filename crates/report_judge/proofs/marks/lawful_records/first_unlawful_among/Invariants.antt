@@ -1,5 +1,4 @@
-use Rattle.report_judge.specs.Workers.JudgedRuns.{KeepsRecord}
-use Rattle.report_judge.specs.Workers.OwnMarks.{IsFirstSeen}
+use Rattle.report_judge.proofs.Words.{KeepsRecord, IsFirstSeen}
 use Rattle.report_judge.proofs.marks.lawful_records.first_unlawful_among.Given as goal
 
 -- the first so far that breaks the law

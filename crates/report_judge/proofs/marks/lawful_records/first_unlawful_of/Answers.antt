@@ -4,8 +4,7 @@ use Rattle.std.specs.List.{range_with_len}
 use Rattle.std.proofs.lemmas.List.FromFn.{length-range_with_len}
 use Rattle.std.proofs.lemmas.List.Sums.{count_by-le-length}
 use Rattle.plan_model.specs.Runs.Turns.{is_of_worker}
-use Rattle.report_judge.specs.Laws.FirstBreaks.{IsFirstBreak}
-use Rattle.report_judge.specs.Workers.JudgedRuns.{KeepsRecordBetween}
+use Rattle.report_judge.proofs.Words.{IsFirstBreak, KeepsRecordBetween}
 use Rattle.report_judge.proofs.Laws.RecordBreaks.{IsFirstBreak-stretch, IsFirstBreak-turns}
 use Rattle.report_judge.proofs.marks.lawful_records.first_unlawful_of.Goals as goal
 

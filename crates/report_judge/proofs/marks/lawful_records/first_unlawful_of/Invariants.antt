@@ -1,6 +1,5 @@
 use Rattle.std.proofs.Common.{◌≤◌, ◌-◌, length}
-use Rattle.report_judge.specs.Laws.FirstBreaks.{IsFirstBreak}
-use Rattle.report_judge.specs.Workers.JudgedRuns.{KeepsRecordBetween}
+use Rattle.report_judge.proofs.Words.{IsFirstBreak, KeepsRecordBetween}
 use Rattle.report_judge.proofs.marks.lawful_records.first_unlawful_of.Given as goal
 
 -- the first mark of the turns so far

@@ -4,8 +4,7 @@ use Rattle.std.proofs.lemmas.List.{get_or_default}
 use Rattle.std.proofs.lemmas.List.Elements.{All-push}
 use Rattle.grown_runs.proofs.Common.{Point, IsBounded, All-task_marks_within}
 use Rattle.point_bands.specs.declared.bands.Numbered.{Numbered}
-use Rattle.report_judge.specs.Workers.OwnMarks.{AreMarksBetween}
-use Rattle.report_judge.specs.Workers.SeenNodes.{IsMarkOfTurn}
+use Rattle.report_judge.proofs.Words.{AreMarksBetween, IsMarkOfTurn}
 use Rattle.report_judge.proofs.Workers.SeenTurns.{low_mark}
 use Rattle.report_judge.proofs.Workers.OwnMarkLaws.{AreMarksBetween-more, AreMarksBetween-none, AreMarksBetween-same, AreMarksBetween-sorted}
 use Rattle.report_judge.proofs.own.own_marks.marks_between.Goals as goal

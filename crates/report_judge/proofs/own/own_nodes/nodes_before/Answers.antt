@@ -4,8 +4,7 @@ use Rattle.std.proofs.lemmas.List.{get_or_default}
 use Rattle.std.proofs.lemmas.List.Elements.{All-push}
 use Rattle.grown_runs.proofs.Common.{IsBounded, state_of_lists}
 use Rattle.point_bands.specs.declared.bands.Numbered.{Numbered}
-use Rattle.report_judge.specs.Workers.OwnNodes.{AreNodesBefore, IsPlacedAt}
-use Rattle.report_judge.specs.Workers.SeenNodes.{IsMarkOfTurn}
+use Rattle.report_judge.proofs.Words.{AreNodesBefore, IsPlacedAt, IsMarkOfTurn}
 use Rattle.report_judge.proofs.Laws.ListedNodes.{none-stands, stands-listed}
 use Rattle.report_judge.proofs.Workers.OwnNodeLaws.{AreNodesBefore-none, AreNodesBefore-placed, AreNodesBefore-sorted, AreNodesBefore-start}
 use Rattle.report_judge.proofs.Workers.OwnNodeLaws.{AreNodesBefore-unplaced}

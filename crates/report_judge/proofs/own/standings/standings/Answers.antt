@@ -3,8 +3,7 @@ use Rattle.std.specs.Prelude.{IfSome, slice_index_or}
 use Rattle.grown_runs.proofs.Common.{state_of_lists, MOST_MARKS}
 use Rattle.std.proofs.lemmas.Bool.{cases_lt}
 use Rattle.std.proofs.lemmas.List.{get_or_push}
-use Rattle.report_judge.specs.Workers.SeenNodes.{IsMarkOfTurn}
-use Rattle.report_judge.specs.Workers.Standings.{no_standing, standing_at, standing_of}
+use Rattle.report_judge.proofs.Words.{IsMarkOfTurn, no_standing, standing_at, standing_of}
 use Rattle.report_judge.proofs.Workers.SeenTurns.{low_mark}
 use Rattle.report_judge.proofs.Workers.StandingLaws.{AreStandings-all, node_of_mark, node_of_some, standing_pushed}
 use Rattle.report_judge.proofs.own.standings.standings.Goals as goal

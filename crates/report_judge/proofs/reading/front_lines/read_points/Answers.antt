@@ -2,8 +2,7 @@ use Rattle.std.proofs.Common.{◌≡◌, List, [], ◌∷◌, ◌++◌, map, len
 use Rattle.std.specs.Prelude.{All, length}
 use Rattle.std.proofs.lemmas.List.{map-append}
 use Rattle.grown_runs.proofs.Common.{Point, IsBounded}
-use Rattle.report_judge.specs.Texts.ReportLines.{lines_text}
-use Rattle.report_judge.specs.Texts.ReportLines.ReportLine.{PathPoint}
+use Rattle.report_judge.proofs.Words.{lines_text, PathPoint}
 use Rattle.report_judge.proofs.Texts.FrontLaws.{All-push, one_more}
 use Rattle.report_judge.proofs.reading.front_lines.read_points.Goals as goal
 

@@ -1,8 +1,7 @@
 use Rattle.std.proofs.Common.{◌≡◌, ◌++◌, length, map}
 use Rattle.std.specs.Prelude.{All}
 use Rattle.plan_model.specs.Geometry.Bounds.{IsBounded}
-use Rattle.report_judge.specs.Texts.ReportLines.{lines_text}
-use Rattle.report_judge.specs.Texts.ReportLines.ReportLine.{PathPoint}
+use Rattle.report_judge.proofs.Words.{lines_text, PathPoint}
 use Rattle.report_judge.proofs.reading.front_lines.read_points.Given as goal
 
 -- the points so far are read

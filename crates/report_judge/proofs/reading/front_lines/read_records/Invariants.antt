@@ -1,8 +1,7 @@
 use Rattle.std.proofs.Common.{◌≡◌, ℕ, ◌++◌, Some, length}
 use Rattle.std.specs.Prelude.{slice_get}
 use Rattle.plan_model.specs.declared.records.Record.{Record}
-use Rattle.report_judge.specs.Texts.ReportLines.{lines_text, FitsEntry}
-use Rattle.report_judge.specs.Texts.ReportSheets.{lines_of_records}
+use Rattle.report_judge.proofs.Words.{lines_text, FitsEntry, lines_of_records}
 use Rattle.report_judge.proofs.reading.front_lines.read_records.Given as goal
 
 -- the records so far are read

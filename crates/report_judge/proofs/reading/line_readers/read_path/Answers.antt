@@ -1,7 +1,6 @@
 use Rattle.std.proofs.Common.{◌≡◌, ℕ, ◌<◌, ◌^◌, List, ◌++◌, arith, ◌∙◌}
 use Rattle.std.specs.Prelude.{codes}
-use Rattle.report_judge.specs.Texts.ReportLines.{field, line_text}
-use Rattle.report_judge.specs.Texts.ReportLines.ReportLine.{PathOf}
+use Rattle.report_judge.proofs.Words.{field, line_text, PathOf}
 use Rattle.report_judge.proofs.Texts.FieldWords.{none_always}
 use Rattle.report_judge.proofs.Texts.LineParts.{parts-path}
 use Rattle.report_judge.proofs.reading.line_readers.read_path.Goals as goal

@@ -2,10 +2,7 @@ use Rattle.std.proofs.Common.{◌≡◌, ℕ, ◌+◌, ◌<◌, ◌≤◌, List,
 use Rattle.std.specs.Prelude.{◌⊎◌, ◌≢◌, ◌==◌}
 use Rattle.std.proofs.lemmas.Bool.{eqb-true, false≢true}
 use Rattle.std.proofs.lemmas.List.{nil_from_length}
-use Rattle.report_judge.specs.Texts.ReportForms.{BreaksFormFirst}
-use Rattle.report_judge.specs.Texts.ReportLines.{Extent}
-use Rattle.report_judge.specs.Texts.ReportSheets.{path_lines}
-use Rattle.report_judge.specs.Texts.SheetsRead.{priced_path}
+use Rattle.report_judge.proofs.Words.{BreaksFormFirst, Extent, path_lines, priced_path}
 use Rattle.report_judge.proofs.Texts.FormBreaks.{ReadsTree, all_lines_few, breaks_counts, breaks_marks, breaks_nodes, spells_sheet, tree_lines_few}
 use Rattle.report_judge.proofs.reading.sheets.read_sheet.Goals as goal
 use Rattle.report_judge.proofs.reading.sheets.read_sheet.Goals.{After-len-then-len-marks, In_ok-knots}

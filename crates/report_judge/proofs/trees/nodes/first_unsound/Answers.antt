@@ -1,7 +1,6 @@
 use Rattle.std.proofs.Common.{◌*◌, length, refl, sym, subst}
 use Rattle.plan_model.specs.Runs.Textbook.{setup_of}
-use Rattle.report_judge.specs.Laws.ExactEdges.{KeepsEdges}
-use Rattle.report_judge.specs.Laws.FirstBreaks.{IsFirstBreak, IsNewKey}
+use Rattle.report_judge.proofs.Words.{KeepsEdges, IsFirstBreak, IsNewKey}
 use Rattle.report_judge.proofs.Laws.FirstBreakLaws.{IsFirstBreak-earlier}
 use Rattle.report_judge.proofs.Laws.NodeBreaks.{IsFirstBreak-nodes, KeepsNode-start}
 use Rattle.report_judge.proofs.trees.nodes.first_unsound.Goals as goal
