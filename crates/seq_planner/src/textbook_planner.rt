@@ -21,6 +21,15 @@ use plan_model::{Memory, Point, Scene, Task};
 use std::alloc::Global;
 use swept_check::Clearing;
 
+/// What each mark is handled in: a scene, with its radii.
+#[derive(Clone, Copy)]
+struct Setting<'a> {
+    scene: &'a Scene,
+    radii: Radii,
+    ghost step: { radii.step ≡ scene.now.step },
+    ghost gamma: { radii.gamma ≡ scene.now.gamma },
+}
+
 /// RRT* over the marks (the samples) of a task in rising number, from its start, which is clear. Without a mark the run is
 /// the start alone.
 ///
@@ -44,21 +53,16 @@ pub fn textbook<C: Clearing>(alloc: Global, task: Task, hall: &C) -> Result<Grow
 {
     let scene = &task.scene;
     let marks = task.marks.as_slice();
-    let radii = Radii::new(scene.step, scene.gamma);
+    let setting = Setting {
+        scene,
+        radii: Radii::new(scene.step, scene.gamma),
+    };
     let mut lists = Lists::new(alloc);
     let mut tree = SearchTree::new(alloc, scene.start)?;
     let mut goal_nodes = GoalNodes::new(alloc);
     goal_nodes.look_at_last(scene, &tree)?;
     for &mark in marks {
-        handle_or_skip(
-            &mut tree,
-            &goal_nodes,
-            scene,
-            &radii,
-            hall,
-            mark,
-            &mut lists,
-        )?;
+        handle_or_skip(&mut tree, &goal_nodes, &setting, hall, mark, &mut lists)?;
         goal_nodes.look_at_last(scene, &tree)?;
     }
     tree.into_run(alloc, task)
@@ -68,25 +72,22 @@ pub fn textbook<C: Clearing>(alloc: Global, task: Task, hall: &C) -> Result<Grow
 fn handle_or_skip<C: Clearing>(
     tree: &mut SearchTree,
     goal_nodes: &GoalNodes,
-    scene: &Scene,
-    radii: &Radii,
+    setting: &Setting<'_>,
     hall: &C,
     mark: Point,
     lists: &mut Lists,
 ) -> Result<(), Memory>
-    requires listed { AreGoalNodesBelow (skipping_goals scene.now) (points_of tree.old.nodes) (length tree.old.nodes) goal_nodes.now.numbers.items }
-    requires step { radii.now.step ≡ scene.now.step }
-    requires gamma { radii.now.gamma ≡ scene.now.gamma }
-    requires hall { C.space hall.now ≡ space_of scene.now }
+    requires listed { AreGoalNodesBelow (skipping_goals setting.now.scene.now) (points_of tree.old.nodes) (length tree.old.nodes) goal_nodes.now.numbers.items }
+    requires hall { C.space hall.now ≡ space_of setting.now.scene.now }
     requires sound { IsSoundTree tree.old }
     requires few { length tree.old.nodes ≤ MOST_MARKS }
     requires turn { length tree.old.records.items + 1 ≡ length tree.old.nodes }
     requires bounded { IsBounded mark }
-    ensures handles { OnOk result (GrowsByMark scene.now tree.old mark tree.new) }
+    ensures handles { OnOk result (GrowsByMark setting.now.scene.now tree.old mark tree.new) }
     ensures sound { OnOk result (IsSoundTree tree.new) }
 {
-    match goal_nodes.skipper(scene, tree, mark) {
+    match goal_nodes.skipper(setting.scene, tree, mark) {
         Some(goal_node) => tree.skip(goal_node),
-        None => tree.handle(scene, radii, hall, mark, lists),
+        None => tree.handle(setting.scene, &setting.radii, hall, mark, lists),
     }
 }

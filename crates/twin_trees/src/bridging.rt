@@ -13,7 +13,7 @@ ghost use Rattle.point_strips.specs.Discs.{IsWithin};
 ghost use Rattle.point_strips.specs.Walks.{numbered_at};
 ghost use Rattle.grown_runs.specs.Runs.GrownRuns.{state_of_grown};
 ghost use Rattle.twin_trees.specs.BridgeOrder.{IsNoWorse};
-ghost use Rattle.twin_trees.specs.BridgeSearches.{AreNodes, Matches, MayBeBest};
+ghost use Rattle.twin_trees.specs.BridgeSearches.{AreNodes, MatchesIn, MayBeBestIn};
 ghost use Rattle.twin_trees.specs.Bridges.{IsBridge};
 
 use crate::bridges::{Bridge, so_far_is_beaten};
@@ -24,6 +24,15 @@ use point_strips::{Disc, Numbered, Run, Strips};
 use std::alloc::Global;
 use step_core::Grown;
 use swept_check::Clearing;
+
+/// Two runs, between which a bridge is looked for.
+#[derive(Clone, Copy)]
+pub(crate) struct TwoRuns<'a> {
+    /// The run from whose nodes bridges begin.
+    pub first: &'a Grown,
+    /// The run at whose nodes they end.
+    pub second: &'a Grown,
+}
 
 /// The bridge between two settled runs: of all pairs of a node of each with a clear segment of at most a step between them, the one over
 /// which the way costs least, of those the one with the least number in the first run, and then in the second. `None` if there is none.
@@ -45,10 +54,11 @@ pub(crate) fn least_bridge<C: Clearing>(
     requires second { IsSettled (state_of_grown second.now) }
     ensures { IfOk result (IsBridge (setup_of first.now.task.scene) (state_of_grown first.now) (state_of_grown second.now)) }
 {
+    let runs = TwoRuns { first, second };
     let strips = strips_of(alloc, second)?;
     let mut best: Option<Bridge> = None;
     for node in 0..first.limit() + 1 {
-        best = best_over(hall, first, second, &strips, node, best);
+        best = best_over(hall, &runs, &strips, node, best);
     }
     match best {
         Some(bridge) => Ok(Some((bridge.first, bridge.second))),
@@ -59,28 +69,27 @@ pub(crate) fn least_bridge<C: Clearing>(
 /// The best of a bridge so far and of all from a node of the first run, if there is one with this number.
 fn best_over<C: Clearing>(
     hall: &C,
-    first: &Grown,
-    second: &Grown,
+    runs: &TwoRuns<'_>,
     strips: &Strips,
     node: u32,
     so_far: Option<Bridge>,
 ) -> Option<Bridge>
-    requires hall { C.space hall.now ≡ space_of first.now.task.scene }
-    requires first { IsSettled (state_of_grown first.now) }
-    requires second { IsSettled (state_of_grown second.now) }
-    requires nodes { AreNodes (state_of_grown second.now) strips.now }
-    requires best { MayBeBest (setup_of first.now.task.scene) (state_of_grown first.now) (state_of_grown second.now) so_far }
-    ensures best { MayBeBest (setup_of first.now.task.scene) (state_of_grown first.now) (state_of_grown second.now) result }
+    requires hall { C.space hall.now ≡ space_of runs.now.first.now.task.scene }
+    requires first { IsSettled (state_of_grown runs.now.first.now) }
+    requires second { IsSettled (state_of_grown runs.now.second.now) }
+    requires nodes { AreNodes (state_of_grown runs.now.second.now) strips.now }
+    requires best { MayBeBestIn runs.now so_far }
+    ensures best { MayBeBestIn runs.now result }
     ensures no_worse { IsNoWorse so_far result }
-    ensures from { (d : ℕ) → Matches (setup_of first.now.task.scene) (state_of_grown first.now) (state_of_grown second.now) result node d }
+    ensures from { (d : ℕ) → MatchesIn runs.now result node d }
 {
-    match first.point(node) {
+    match runs.first.point(node) {
         Some(point) => {
             let end = Numbered {
                 point,
                 number: node,
             };
-            best_from(hall, first, second, strips, end, so_far)
+            best_from(hall, runs, strips, end, so_far)
         }
         None => so_far,
     }
@@ -89,30 +98,29 @@ fn best_over<C: Clearing>(
 /// The best of a bridge so far and of all from a node of the first run.
 fn best_from<C: Clearing>(
     hall: &C,
-    first: &Grown,
-    second: &Grown,
+    runs: &TwoRuns<'_>,
     strips: &Strips,
     end: Numbered,
     so_far: Option<Bridge>,
 ) -> Option<Bridge>
-    requires hall { C.space hall.now ≡ space_of first.now.task.scene }
-    requires first { IsSettled (state_of_grown first.now) }
-    requires second { IsSettled (state_of_grown second.now) }
-    requires nodes { AreNodes (state_of_grown second.now) strips.now }
-    requires stands { StandsAt (state_of_grown first.now).points end.number end.point }
-    requires best { MayBeBest (setup_of first.now.task.scene) (state_of_grown first.now) (state_of_grown second.now) so_far }
-    ensures best { MayBeBest (setup_of first.now.task.scene) (state_of_grown first.now) (state_of_grown second.now) result }
+    requires hall { C.space hall.now ≡ space_of runs.now.first.now.task.scene }
+    requires first { IsSettled (state_of_grown runs.now.first.now) }
+    requires second { IsSettled (state_of_grown runs.now.second.now) }
+    requires nodes { AreNodes (state_of_grown runs.now.second.now) strips.now }
+    requires stands { StandsAt (state_of_grown runs.now.first.now).points end.number end.point }
+    requires best { MayBeBestIn runs.now so_far }
+    ensures best { MayBeBestIn runs.now result }
     ensures no_worse { IsNoWorse so_far result }
-    ensures from { (d : ℕ) → Matches (setup_of first.now.task.scene) (state_of_grown first.now) (state_of_grown second.now) result end.number d }
+    ensures from { (d : ℕ) → MatchesIn runs.now result end.number d }
 {
-    if is_too_far(first, second, end, so_far) {
+    if is_too_far(runs, end, so_far) {
         return so_far;
     }
-    let disc = Disc::of_radius(end.point, first.task().scene.step);
+    let disc = Disc::of_radius(end.point, runs.first.task().scene.step);
     let mut best = so_far;
     let mut at = 0;
     'walk: while let Some(run) = strips.next_run(at, disc) {
-        best = best_in_run(hall, first, second, strips, end, run, best);
+        best = best_in_run(hall, runs, strips, end, run, best);
         at = run.end;
     }
     best
@@ -121,33 +129,32 @@ fn best_from<C: Clearing>(
 /// The best of a bridge so far and of all from a node of the first run to nodes of a run of positions, within a step.
 fn best_in_run<C: Clearing>(
     hall: &C,
-    first: &Grown,
-    second: &Grown,
+    runs: &TwoRuns<'_>,
     strips: &Strips,
     end: Numbered,
     run: Run,
     so_far: Option<Bridge>,
 ) -> Option<Bridge>
-    requires hall { C.space hall.now ≡ space_of first.now.task.scene }
-    requires first { IsSettled (state_of_grown first.now) }
-    requires second { IsSettled (state_of_grown second.now) }
-    requires nodes { AreNodes (state_of_grown second.now) strips.now }
-    requires stands { StandsAt (state_of_grown first.now).points end.number end.point }
+    requires hall { C.space hall.now ≡ space_of runs.now.first.now.task.scene }
+    requires first { IsSettled (state_of_grown runs.now.first.now) }
+    requires second { IsSettled (state_of_grown runs.now.second.now) }
+    requires nodes { AreNodes (state_of_grown runs.now.second.now) strips.now }
+    requires stands { StandsAt (state_of_grown runs.now.first.now).points end.number end.point }
     requires inside { run.end ≤ length strips.now }
-    requires best { MayBeBest (setup_of first.now.task.scene) (state_of_grown first.now) (state_of_grown second.now) so_far }
-    ensures best { MayBeBest (setup_of first.now.task.scene) (state_of_grown first.now) (state_of_grown second.now) result }
+    requires best { MayBeBestIn runs.now so_far }
+    ensures best { MayBeBestIn runs.now result }
     ensures no_worse { IsNoWorse so_far result }
     ensures run { (j : ℕ) → run.start ≤ j → j < run.end
-        → IsWithin end.point (first.now.task.scene.step * first.now.task.scene.step) (numbered_at strips.now j).point
-        → Matches (setup_of first.now.task.scene) (state_of_grown first.now) (state_of_grown second.now) result end.number (numbered_at strips.now j).number }
+        → IsWithin end.point (runs.now.first.now.task.scene.step * runs.now.first.now.task.scene.step) (numbered_at strips.now j).point
+        → MatchesIn runs.now result end.number (numbered_at strips.now j).number }
 {
-    let step = first.task().scene.step;
+    let step = runs.first.task().scene.step;
     let disc = Disc::of_radius(end.point, step);
     let mut best = so_far;
     for position in run.start..run.end {
         let other = strips.at(position);
         if disc.has(other.point) {
-            best = better(hall, first, second, end, other, best);
+            best = better(hall, runs, end, other, best);
         }
     }
     best
@@ -155,18 +162,23 @@ fn best_in_run<C: Clearing>(
 
 /// Whether each way over a node of the first run costs more than a bridge so far: its cost-to-come and the straight line to the root of
 /// the second run do.
-fn is_too_far(first: &Grown, second: &Grown, end: Numbered, so_far: Option<Bridge>) -> bool
-    requires first { IsSettled (state_of_grown first.now) }
-    requires second { IsSettled (state_of_grown second.now) }
-    requires stands { StandsAt (state_of_grown first.now).points end.number end.point }
-    requires best { MayBeBest (setup_of first.now.task.scene) (state_of_grown first.now) (state_of_grown second.now) so_far }
+fn is_too_far(runs: &TwoRuns<'_>, end: Numbered, so_far: Option<Bridge>) -> bool
+    requires first { IsSettled (state_of_grown runs.now.first.now) }
+    requires second { IsSettled (state_of_grown runs.now.second.now) }
+    requires stands { StandsAt (state_of_grown runs.now.first.now).points end.number end.point }
+    requires best { MayBeBestIn runs.now so_far }
     ensures { IsTrue result → (d : ℕ)
-        → Matches (setup_of first.now.task.scene) (state_of_grown first.now) (state_of_grown second.now) so_far end.number d }
+        → MatchesIn runs.now so_far end.number d }
 {
     match so_far {
         Some(bridge) => {
-            let root = second.task().scene.start;
-            !costs_less_through(first.cost(end.number), end.point, root, bridge.cost + 1)
+            let root = runs.second.task().scene.start;
+            !costs_less_through(
+                runs.first.cost(end.number),
+                end.point,
+                root,
+                bridge.cost + 1,
+            )
         }
         None => false,
     }
@@ -175,24 +187,23 @@ fn is_too_far(first: &Grown, second: &Grown, end: Numbered, so_far: Option<Bridg
 /// The better one of a bridge so far and that of two nodes within a step of each other, if that is one. The segment is tested last.
 fn better<C: Clearing>(
     hall: &C,
-    first: &Grown,
-    second: &Grown,
+    runs: &TwoRuns<'_>,
     end: Numbered,
     other: Numbered,
     so_far: Option<Bridge>,
 ) -> Option<Bridge>
-    requires hall { C.space hall.now ≡ space_of first.now.task.scene }
-    requires first { IsSettled (state_of_grown first.now) }
-    requires second { IsSettled (state_of_grown second.now) }
-    requires end { StandsAt (state_of_grown first.now).points end.number end.point }
-    requires other { StandsAt (state_of_grown second.now).points other.number other.point }
-    requires within { IsWithin end.point (first.now.task.scene.step * first.now.task.scene.step) other.point }
-    requires best { MayBeBest (setup_of first.now.task.scene) (state_of_grown first.now) (state_of_grown second.now) so_far }
-    ensures best { MayBeBest (setup_of first.now.task.scene) (state_of_grown first.now) (state_of_grown second.now) result }
+    requires hall { C.space hall.now ≡ space_of runs.now.first.now.task.scene }
+    requires first { IsSettled (state_of_grown runs.now.first.now) }
+    requires second { IsSettled (state_of_grown runs.now.second.now) }
+    requires end { StandsAt (state_of_grown runs.now.first.now).points end.number end.point }
+    requires other { StandsAt (state_of_grown runs.now.second.now).points other.number other.point }
+    requires within { IsWithin end.point (runs.now.first.now.task.scene.step * runs.now.first.now.task.scene.step) other.point }
+    requires best { MayBeBestIn runs.now so_far }
+    ensures best { MayBeBestIn runs.now result }
     ensures no_worse { IsNoWorse so_far result }
-    ensures pair { Matches (setup_of first.now.task.scene) (state_of_grown first.now) (state_of_grown second.now) result end.number other.number }
+    ensures pair { MatchesIn runs.now result end.number other.number }
 {
-    let costs_to_come = first.cost(end.number) + second.cost(other.number);
+    let costs_to_come = runs.first.cost(end.number) + runs.second.cost(other.number);
     if !so_far_is_beaten(so_far, costs_to_come, end, other) || !hall.clear(end.point, other.point) {
         return so_far;
     }

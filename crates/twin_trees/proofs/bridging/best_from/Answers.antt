@@ -6,7 +6,7 @@ use Rattle.twin_trees.proofs.bridging.best_from.Goals as goal
 
 pub of_radius-disc-requires : goal.of_radius-disc-requires
 of_radius-disc-requires g c =
-    let first = c.args.first.now in
+    let first = c.args.runs.now.first.now in
     IsBounded-stands (sizes_of first.task) (words_of_grown first) c.args.end.number c.args.end.point c.requires.stands
 
 pub walk-preserved : goal.walk-preserved
@@ -30,9 +30,9 @@ walk-preserved g c =
 
 pub returns-clause-from : goal.returns-clause-from
 returns-clause-from g c =
-    let one = state_of_grown c.args.first.now in
-    let other = state_of_grown c.args.second.now in
-    let setup = setup_of c.args.first.now.task.scene in
+    let one = state_of_grown c.args.runs.now.first.now in
+    let other = state_of_grown c.args.runs.now.second.now in
+    let setup = setup_of c.args.runs.now.first.now.task.scene in
     let nodes = c.args.strips.now in
     let square = c.of_radius-disc.ensures.square ∙ ap (λ (t : Task). t.scene.step * t.scene.step) c.task.ensures in
     Matches-walked setup one other nodes c.requires.nodes c.args.end.number c.args.end.point c.requires.stands c.walk.best c.walk.at

@@ -12,12 +12,12 @@ use Rattle.twin_trees.proofs.bridging.best_in_run.Goals.{then-has, else-has}
 
 pub of_radius-disc-requires : goal.of_radius-disc-requires
 of_radius-disc-requires g c =
-    let first = c.args.first.now in
+    let first = c.args.runs.now.first.now in
     IsBounded-stands (sizes_of first.task) (words_of_grown first) c.args.end.number c.args.end.point c.requires.stands
 
 pub better-best-requires-clause-other : goal.better-best-requires-clause-other
 better-best-requires-clause-other g c κs within =
-    let other = state_of_grown c.args.second.now in
+    let other = state_of_grown c.args.runs.now.second.now in
     subst (λ (n : Numbered). StandsAt other.points n.number n.point) (sym c.at-other.ensures.value)
     (c.requires.nodes.stand c.loop-position.position nowhere (omega (arith, c.loop-position-test.true, c.requires.inside)))
 
@@ -28,9 +28,9 @@ better-best-requires-clause-within g c κs within =
 
 pub loop-position-preserved : goal.loop-position-preserved
 loop-position-preserved g c =
-    let one = state_of_grown c.args.first.now in
-    let other = state_of_grown c.args.second.now in
-    let setup = setup_of c.args.first.now.task.scene in
+    let one = state_of_grown c.args.runs.now.first.now in
+    let other = state_of_grown c.args.runs.now.second.now in
+    let setup = setup_of c.args.runs.now.first.now.task.scene in
     let nodes = c.args.strips.now in
     let position = c.loop-position.position in
     let square = c.of_radius-disc.ensures.square ∙ ap (λ (t : Task). t.scene.step * t.scene.step) c.task.ensures in
@@ -63,7 +63,7 @@ loop-position-preserved g c =
               | inl before ↦ c.loop-position.invariant.looked j from before within
               | inr past ↦ (
                   let e : position ≡ j = omega (arith, below, past) in
-                  let step = c.args.first.now.task.scene.step in
+                  let step = c.args.runs.now.first.now.task.scene.step in
                   let here : IsWithin c.args.end.point (step * step) (numbered_at nodes position).point =
                   subst (λ i. IsWithin c.args.end.point (step * step) (numbered_at nodes i).point) (sym e)
                   within in

@@ -1,18 +1,17 @@
 use Rattle.std.specs.Prelude.{ℕ, ◌*◌, ◌<◌, ◌≤◌}
-use Rattle.grown_runs.proofs.Common.{setup_of, state_of_grown}
 use Rattle.point_strips.specs.Discs.{IsWithin}
 use Rattle.point_strips.specs.Walks.{numbered_at}
 use Rattle.twin_trees.specs.BridgeOrder.{IsNoWorse}
-use Rattle.twin_trees.specs.BridgeSearches.{Matches, MayBeBest}
+use Rattle.twin_trees.specs.BridgeSearches.{MatchesIn, MayBeBestIn}
 use Rattle.twin_trees.proofs.bridging.best_in_run.Given as goal
 
 -- each node of the run so far, within a step, is matched
 abbrev pub invariant-loop-position : goal.invariant-loop-position
 invariant-loop-position g l =
     record {
-      best : MayBeBest (setup_of l.first.task.scene) (state_of_grown l.first) (state_of_grown l.second) l.best;
+      best : MayBeBestIn l.runs l.best;
       no_worse : IsNoWorse l.initial.best l.best;
       looked : (j : ℕ) → l.fn.run.start ≤ j → j < l.position
-          → IsWithin l.end.point (l.first.task.scene.step * l.first.task.scene.step) (numbered_at l.strips j).point
-          → Matches (setup_of l.first.task.scene) (state_of_grown l.first) (state_of_grown l.second) l.best l.end.number (numbered_at l.strips j).number;
+          → IsWithin l.end.point (l.runs.first.now.task.scene.step * l.runs.first.now.task.scene.step) (numbered_at l.strips j).point
+          → MatchesIn l.runs l.best l.end.number (numbered_at l.strips j).number;
     }

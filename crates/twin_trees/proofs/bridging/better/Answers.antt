@@ -9,28 +9,28 @@ use Rattle.twin_trees.proofs.bridging.better.Goals as goal
 
 pub so_far_is_beaten-requires-clause-end : goal.so_far_is_beaten-requires-clause-end
 so_far_is_beaten-requires-clause-end g c =
-    let first = c.args.first.now in
+    let first = c.args.runs.now.first.now in
     IsBounded-stands (sizes_of first.task) (words_of_grown first) c.args.end.number c.args.end.point c.requires.end
 
 pub so_far_is_beaten-requires-clause-other : goal.so_far_is_beaten-requires-clause-other
 so_far_is_beaten-requires-clause-other g c =
-    let second = c.args.second.now in
+    let second = c.args.runs.now.second.now in
     IsBounded-stands (sizes_of second.task) (words_of_grown second) c.args.other.number c.args.other.point c.requires.other
 
 pub cost-requires-3-clause-from : goal.cost-requires-3-clause-from
 cost-requires-3-clause-from g c =
-    let first = c.args.first.now in
+    let first = c.args.runs.now.first.now in
     IsBounded-stands (sizes_of first.task) (words_of_grown first) c.args.end.number c.args.end.point c.requires.end
 
 pub cost-requires-3-clause-to : goal.cost-requires-3-clause-to
 cost-requires-3-clause-to g c =
-    let second = c.args.second.now in
+    let second = c.args.runs.now.second.now in
     IsBounded-stands (sizes_of second.task) (words_of_grown second) c.args.other.number c.args.other.point c.requires.other
 
 pub returns-then-not-so_far_is_beaten-clause-pair : goal.returns-then-not-so_far_is_beaten-clause-pair
 returns-then-not-so_far_is_beaten-clause-pair g c = λ candidate.
-    let first = c.args.first.now in
-    let second = c.args.second.now in
+    let first = c.args.runs.now.first.now in
+    let second = c.args.runs.now.second.now in
     let one = state_of_grown first in
     let other = state_of_grown second in
     let a = c.args.end.number in
@@ -60,8 +60,8 @@ returns-then-not-so_far_is_beaten-clause-pair g c = λ candidate.
 
 pub returns-clause-best : goal.returns-clause-best
 returns-clause-best g c =
-    let first = c.args.first.now in
-    let second = c.args.second.now in
+    let first = c.args.runs.now.first.now in
+    let second = c.args.runs.now.second.now in
     let one = state_of_grown first in
     let other = state_of_grown second in
     let a = c.args.end.number in

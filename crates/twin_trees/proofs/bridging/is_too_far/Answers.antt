@@ -9,13 +9,13 @@ use Rattle.twin_trees.proofs.bridging.is_too_far.Goals as goal
 
 pub costs_less_through-requires-clause-from : goal.costs_less_through-requires-clause-from
 costs_less_through-requires-clause-from c =
-    let first = c.args.first.now in
+    let first = c.args.runs.now.first.now in
     IsBounded-stands (sizes_of first.task) (words_of_grown first) c.args.end.number c.args.end.point c.requires.stands
 
 pub returns-in-Some : goal.returns-in-Some
 returns-in-Some c = λ far d.
-    let first = c.args.first.now in
-    let second = c.args.second.now in
+    let first = c.args.runs.now.first.now in
+    let second = c.args.runs.now.second.now in
     let one = state_of_grown first in
     let other = state_of_grown second in
     let a = c.args.end.number in
