@@ -3,7 +3,7 @@ use Rattle.std.proofs.Common.{◌≡◌, ℕ, ◌+◌, ◌<◌, List, [], ◌∷
 use Rattle.std.proofs.lemmas.Bool.{cases_eq}
 use Rattle.std.proofs.lemmas.List.Elements.{All-push, Contains-append_left, Contains-push}
 use Rattle.grown_runs.proofs.Common.{IsBounded, IsPresent, StandsAt, point_of, TreeState, Point, point_of-stands}
-use Rattle.point_strips.specs.declared.strips.Numbered.{Numbered}
+use Rattle.point_bands.specs.declared.bands.Numbered.{Numbered}
 
 -- the numbered points are the nodes below a number
 pub record AreNodesBelow (state : TreeState) (nodes : List Numbered) (number : ℕ) : Type 0 where

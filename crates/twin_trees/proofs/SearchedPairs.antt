@@ -6,9 +6,9 @@ use Rattle.std.proofs.lemmas.List.{get_or_read}
 use Rattle.std.proofs.lemmas.List.Sorted.{All-permutation, Contains-permutation}
 use Rattle.grown_runs.proofs.Common.{cost_of, squared_distance, IsAllowedEdge, KeepsOrder, Setup, Clear, StandsAt, point_of, TreeState, sum_in, Point}
 use Rattle.grown_runs.proofs.Common.{squared_distance-swap, IsPresent-stands, point_of-stands, cost_of-triangle}
-use Rattle.point_strips.specs.Discs.{IsWithin}
-use Rattle.point_strips.specs.Walks.{HasNoneBetween, nowhere, numbered_at}
-use Rattle.point_strips.specs.declared.strips.Numbered.{Numbered}
+use Rattle.point_bands.specs.Discs.{IsWithin}
+use Rattle.point_bands.specs.Walks.{HasNoneBetween, nowhere, numbered_at}
+use Rattle.point_bands.specs.declared.bands.Numbered.{Numbered}
 use Rattle.twin_trees.specs.BridgeSearches.{AreNodes, Matches}
 use Rattle.twin_trees.specs.Bridges.{IsCandidate, cost_over}
 use Rattle.twin_trees.specs.declared.bridges.Bridge.{Bridge}

@@ -4,7 +4,7 @@ use Rattle.plan_model.specs.Runs.Textbook.{Setup, setup_of}
 use Rattle.plan_model.specs.Trees.PointsByNumber.{IsPresent, StandsAt, point_of}
 use Rattle.plan_model.specs.Trees.TreeStates.{TreeState}
 use Rattle.grown_runs.specs.Runs.GrownRuns.{state_of_grown}
-use Rattle.point_strips.specs.declared.strips.Numbered.{Numbered}
+use Rattle.point_bands.specs.declared.bands.Numbered.{Numbered}
 use Rattle.twin_trees.specs.BridgeOrder.{IsMatched}
 use Rattle.twin_trees.specs.Bridges.{IsCandidate, cost_over}
 use Rattle.twin_trees.specs.declared.bridges.Bridge.{Bridge}

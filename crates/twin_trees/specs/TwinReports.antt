@@ -18,14 +18,14 @@ abbrev pub way_back : TreeState → ℕ → List Point
 way_back state n = map (point_of state.points) (chain_in state n)
 
 -- points that follow a point: without the first one, if it is that point
-abbrev pub way_after : Point → List Point → List Point
-way_after p [] = []
-way_after p (q ∷ way) = if is_same_point p q then way else (q ∷ way)
+abbrev pub path_after : Point → List Point → List Point
+path_after p [] = []
+path_after p (q ∷ way) = if is_same_point p q then way else (q ∷ way)
 
 -- The path over a bridge: from the start of one tree to node a, and from node b of the other back to where that began. A point that both
 -- share is there once.
 abbrev pub joined_path : TreeState → TreeState → ℕ → ℕ → List Point
-joined_path one other a b = path_to one a ++ way_after (point_of one.points a) (way_back other b)
+joined_path one other a b = path_to one a ++ path_after (point_of one.points a) (way_back other b)
 
 -- the lines of the path over the bridge, or that there is none
 abbrev pub bridge_lines : TreeState → TreeState → Option (ℕ × ℕ) → List ℕ

@@ -6,7 +6,7 @@ ghost use Rattle.plan_model.specs.Geometry.Cost.{cost_of};
 ghost use Rattle.twin_trees.specs.BridgeOrder.{IsMatched, IsNoWorse};
 
 use edge_cost::costs_less_through;
-use point_strips::Numbered;
+use point_bands::Numbered;
 
 /// A bridge, with what the way over it costs.
 #[derive(Clone, Copy, Debug)]

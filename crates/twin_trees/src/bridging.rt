@@ -1,7 +1,7 @@
 //! The least bridge between two runs.
 //!
 //! A node of the first run is passed over if its cost-to-come and the straight line to the root of the second are above the least way so
-//! far: by the triangle law no way over the node costs less. Of the others, the nodes of the second run within a step are found by strips.
+//! far: by the triangle law no way over the node costs less. Of the others, the nodes of the second run within a step are found by bands.
 //! A pair is compared by squares, and its segment is tested only if the way over it is better than the best so far.
 
 ghost use Rattle.std.specs.Prelude.{◌≡◌, ℕ, ◌<◌, ◌≤◌, ◌*◌, ◌^◌, IfOk, IsTrue, length};
@@ -9,18 +9,18 @@ ghost use Rattle.plan_model.specs.Runs.Textbook.{setup_of};
 ghost use Rattle.plan_model.specs.Spaces.ConfigurationSpace.{space_of};
 ghost use Rattle.plan_model.specs.Trees.PointsByNumber.{StandsAt};
 ghost use Rattle.plan_model.specs.Trees.TreeStates.{IsSettled};
-ghost use Rattle.point_strips.specs.Discs.{IsWithin};
-ghost use Rattle.point_strips.specs.Walks.{numbered_at};
+ghost use Rattle.point_bands.specs.Discs.{IsWithin};
+ghost use Rattle.point_bands.specs.Walks.{numbered_at};
 ghost use Rattle.grown_runs.specs.Runs.GrownRuns.{state_of_grown};
 ghost use Rattle.twin_trees.specs.BridgeOrder.{IsNoWorse};
 ghost use Rattle.twin_trees.specs.BridgeSearches.{AreNodes, MatchesIn, MayBeBestIn};
 ghost use Rattle.twin_trees.specs.Bridges.{IsBridge};
 
 use crate::bridges::{Bridge, so_far_is_beaten};
-use crate::nodes::strips_of;
+use crate::nodes::bands_of;
 use edge_cost::{cost, costs_less_through};
 use plan_model::Memory;
-use point_strips::{Disc, Numbered, Run, Strips};
+use point_bands::{Bands, Disc, Numbered, Stretch};
 use std::alloc::Global;
 use step_core::Grown;
 use swept_check::Clearing;
@@ -38,11 +38,11 @@ pub(crate) struct TwoRuns<'a> {
 /// which the way costs least, of those the one with the least number in the first run, and then in the second. `None` if there is none.
 /// The step is that of the first run, for whose scene the hall stands.
 ///
-/// O(n s log n + k) for n nodes, s strips within a step of a node and k pairs within a step of each other that are not passed over.
+/// O(n s log n + k) for n nodes, s bands within a step of a node and k pairs within a step of each other that are not passed over.
 ///
 /// # Errors
 ///
-/// `Memory` if out of memory for the strips.
+/// `Memory` if out of memory for the bands.
 pub(crate) fn least_bridge<C: Clearing>(
     alloc: Global,
     hall: &C,
@@ -55,10 +55,10 @@ pub(crate) fn least_bridge<C: Clearing>(
     ensures { IfOk result (IsBridge (setup_of first.now.task.scene) (state_of_grown first.now) (state_of_grown second.now)) }
 {
     let runs = TwoRuns { first, second };
-    let strips = strips_of(alloc, second)?;
+    let bands = bands_of(alloc, second)?;
     let mut best: Option<Bridge> = None;
     for node in 0..first.limit() + 1 {
-        best = best_over(hall, &runs, &strips, node, best);
+        best = best_over(hall, &runs, &bands, node, best);
     }
     match best {
         Some(bridge) => Ok(Some((bridge.first, bridge.second))),
@@ -70,14 +70,14 @@ pub(crate) fn least_bridge<C: Clearing>(
 fn best_over<C: Clearing>(
     hall: &C,
     runs: &TwoRuns<'_>,
-    strips: &Strips,
+    bands: &Bands,
     node: u32,
     so_far: Option<Bridge>,
 ) -> Option<Bridge>
     requires hall { C.space hall.now ≡ space_of runs.now.first.now.task.scene }
     requires first { IsSettled (state_of_grown runs.now.first.now) }
     requires second { IsSettled (state_of_grown runs.now.second.now) }
-    requires nodes { AreNodes (state_of_grown runs.now.second.now) strips.now }
+    requires nodes { AreNodes (state_of_grown runs.now.second.now) bands.now }
     requires best { MayBeBestIn runs.now so_far }
     ensures best { MayBeBestIn runs.now result }
     ensures no_worse { IsNoWorse so_far result }
@@ -89,7 +89,7 @@ fn best_over<C: Clearing>(
                 point,
                 number: node,
             };
-            best_from(hall, runs, strips, end, so_far)
+            best_from(hall, runs, bands, end, so_far)
         }
         None => so_far,
     }
@@ -99,14 +99,14 @@ fn best_over<C: Clearing>(
 fn best_from<C: Clearing>(
     hall: &C,
     runs: &TwoRuns<'_>,
-    strips: &Strips,
+    bands: &Bands,
     end: Numbered,
     so_far: Option<Bridge>,
 ) -> Option<Bridge>
     requires hall { C.space hall.now ≡ space_of runs.now.first.now.task.scene }
     requires first { IsSettled (state_of_grown runs.now.first.now) }
     requires second { IsSettled (state_of_grown runs.now.second.now) }
-    requires nodes { AreNodes (state_of_grown runs.now.second.now) strips.now }
+    requires nodes { AreNodes (state_of_grown runs.now.second.now) bands.now }
     requires stands { StandsAt (state_of_grown runs.now.first.now).points end.number end.point }
     requires best { MayBeBestIn runs.now so_far }
     ensures best { MayBeBestIn runs.now result }
@@ -119,40 +119,40 @@ fn best_from<C: Clearing>(
     let disc = Disc::of_radius(end.point, runs.first.task().scene.step);
     let mut best = so_far;
     let mut at = 0;
-    'walk: while let Some(run) = strips.next_run(at, disc) {
-        best = best_in_run(hall, runs, strips, end, run, best);
-        at = run.end;
+    'walk: while let Some(stretch) = bands.next_stretch(at, disc) {
+        best = best_in_stretch(hall, runs, bands, end, stretch, best);
+        at = stretch.end;
     }
     best
 }
 
-/// The best of a bridge so far and of all from a node of the first run to nodes of a run of positions, within a step.
-fn best_in_run<C: Clearing>(
+/// The best of a bridge so far and of all from a node of the first run to nodes of a stretch of positions, within a step.
+fn best_in_stretch<C: Clearing>(
     hall: &C,
     runs: &TwoRuns<'_>,
-    strips: &Strips,
+    bands: &Bands,
     end: Numbered,
-    run: Run,
+    stretch: Stretch,
     so_far: Option<Bridge>,
 ) -> Option<Bridge>
     requires hall { C.space hall.now ≡ space_of runs.now.first.now.task.scene }
     requires first { IsSettled (state_of_grown runs.now.first.now) }
     requires second { IsSettled (state_of_grown runs.now.second.now) }
-    requires nodes { AreNodes (state_of_grown runs.now.second.now) strips.now }
+    requires nodes { AreNodes (state_of_grown runs.now.second.now) bands.now }
     requires stands { StandsAt (state_of_grown runs.now.first.now).points end.number end.point }
-    requires inside { run.end ≤ length strips.now }
+    requires inside { stretch.end ≤ length bands.now }
     requires best { MayBeBestIn runs.now so_far }
     ensures best { MayBeBestIn runs.now result }
     ensures no_worse { IsNoWorse so_far result }
-    ensures run { (j : ℕ) → run.start ≤ j → j < run.end
-        → IsWithin end.point (runs.now.first.now.task.scene.step * runs.now.first.now.task.scene.step) (numbered_at strips.now j).point
-        → MatchesIn runs.now result end.number (numbered_at strips.now j).number }
+    ensures stretch { (j : ℕ) → stretch.start ≤ j → j < stretch.end
+        → IsWithin end.point (runs.now.first.now.task.scene.step * runs.now.first.now.task.scene.step) (numbered_at bands.now j).point
+        → MatchesIn runs.now result end.number (numbered_at bands.now j).number }
 {
     let step = runs.first.task().scene.step;
     let disc = Disc::of_radius(end.point, step);
     let mut best = so_far;
-    for position in run.start..run.end {
-        let other = strips.at(position);
+    for position in stretch.start..stretch.end {
+        let other = bands.at(position);
         if disc.has(other.point) {
             best = better(hall, runs, end, other, best);
         }

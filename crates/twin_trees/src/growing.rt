@@ -22,7 +22,7 @@ use swept_check::Clearing;
 /// workers and settled, and finds the bridge between them. The first is settled before the second begins. The start is clear, and the
 /// hall stands for the scene; it serves both. The gate is told of the turns of the first run, and then of those of the second.
 ///
-/// It takes what [`grow`] and [`settle`] take for each tree, and O(n s log n + k) for the bridge, for n nodes, s strips and k pairs of nodes within
+/// It takes what [`grow`] and [`settle`] take for each tree, and O(n s log n + k) for the bridge, for n nodes, s bands and k pairs of nodes within
 /// a step of each other that the triangle law does not leave out.
 ///
 /// # Errors

@@ -1,4 +1,4 @@
-//! The nodes of a run as numbered points, in strips.
+//! The nodes of a run as numbered points, in bands.
 
 ghost use Rattle.std.specs.Prelude.{All, IfOk};
 ghost use Rattle.plan_model.specs.Geometry.Bounds.{IsBounded};
@@ -6,16 +6,16 @@ ghost use Rattle.grown_runs.specs.Runs.GrownRuns.{state_of_grown};
 ghost use Rattle.twin_trees.specs.BridgeSearches.{AreNodes};
 
 use plan_model::Memory;
-use point_strips::{Numbered, Strips};
+use point_bands::{Bands, Numbered};
 use std::alloc::Global;
 use step_core::Grown;
 
-/// The nodes that are present, in strips. O(n log n).
-pub(crate) fn strips_of(alloc: Global, grown: &Grown) -> Result<Strips, Memory>
+/// The nodes that are present, in bands. O(n log n).
+pub(crate) fn bands_of(alloc: Global, grown: &Grown) -> Result<Bands, Memory>
     ensures { IfOk result (AreNodes (state_of_grown grown.now)) }
 {
     let nodes = nodes_of(alloc, grown)?;
-    Ok(Strips::new(nodes))
+    Ok(Bands::new(nodes))
 }
 
 /// The nodes that are present, by number. O(n).

@@ -5,7 +5,7 @@ ghost use Rattle.plan_model.specs.Trees.PointsByNumber.{IsPresent};
 ghost use Rattle.plan_model.specs.Trees.TreeStates.{IsSettled};
 ghost use Rattle.grown_runs.specs.Runs.GrownRuns.{state_of_grown};
 ghost use Rattle.twin_trees.specs.Bridges.{cost_over};
-ghost use Rattle.twin_trees.specs.TwinReports.{bridge_lines, joined_path, twin_text, way_after};
+ghost use Rattle.twin_trees.specs.TwinReports.{bridge_lines, joined_path, twin_text, path_after};
 
 use crate::twin_runs::Twin;
 use edge_cost::cost;
@@ -97,13 +97,13 @@ fn joined_path(
     let mut path = path_to(alloc, first, one)?;
     let way = path_back(alloc, second, other)?;
     let end = first.point(one).unwrap();
-    path.extend_from_slice(way_after(end, &way))?;
+    path.extend_from_slice(path_after(end, &way))?;
     Ok(path)
 }
 
 /// The points that follow a point: without the first one, if it is that point.
-fn way_after(point: Point, way: &[Point]) -> &[Point]
-    ensures { result.now ≡ way_after point way.now }
+fn path_after(point: Point, way: &[Point]) -> &[Point]
+    ensures { result.now ≡ path_after point way.now }
 {
     if !way.is_empty() && way[0].x == point.x && way[0].y == point.y {
         &way[1..]

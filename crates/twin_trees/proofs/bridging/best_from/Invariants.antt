@@ -1,6 +1,6 @@
 use Rattle.std.specs.Prelude.{ℕ, ◌-◌, ◌*◌, ◌<◌, length}
-use Rattle.point_strips.specs.Discs.{IsWithin}
-use Rattle.point_strips.specs.Walks.{numbered_at}
+use Rattle.point_bands.specs.Discs.{IsWithin}
+use Rattle.point_bands.specs.Walks.{numbered_at}
 use Rattle.twin_trees.specs.BridgeOrder.{IsNoWorse}
 use Rattle.twin_trees.specs.BridgeSearches.{MatchesIn, MayBeBestIn}
 use Rattle.twin_trees.proofs.bridging.best_from.Given as goal
@@ -11,9 +11,9 @@ invariant-walk g l =
     record {
       best : MayBeBestIn l.runs l.best;
       no_worse : IsNoWorse l.initial.best l.best;
-      looked : (j : ℕ) → j < l.at → IsWithin l.end.point (l.runs.first.now.task.scene.step * l.runs.first.now.task.scene.step) (numbered_at l.strips j).point
-          → MatchesIn l.runs l.best l.end.number (numbered_at l.strips j).number;
+      looked : (j : ℕ) → j < l.at → IsWithin l.end.point (l.runs.first.now.task.scene.step * l.runs.first.now.task.scene.step) (numbered_at l.bands j).point
+          → MatchesIn l.runs l.best l.end.number (numbered_at l.bands j).number;
     }
 
 abbrev pub decreases-walk : goal.decreases-walk
-decreases-walk g l = length l.strips - l.at
+decreases-walk g l = length l.bands - l.at

@@ -1,6 +1,6 @@
 use Rattle.grown_runs.specs.Runs.GrownRuns.{state_of_grown}
 use Rattle.twin_trees.proofs.SearchedPairs.{AreNodes-permutation}
-use Rattle.twin_trees.proofs.nodes.strips_of.Goals as goal
+use Rattle.twin_trees.proofs.nodes.bands_of.Goals as goal
 
 pub returns : goal.returns
 returns c =

@@ -1,14 +1,14 @@
 use Rattle.std.proofs.Common.{◌≡◌, ◌*◌, arith, refl, ap, sym, subst, ◌∙◌, inl, inr}
 use Rattle.std.proofs.lemmas.Bool.{cases_lt, true≢false}
 use Rattle.grown_runs.proofs.Common.{setup_of, StandsAt, Task, state_of_grown, words_of_grown, sizes_of, IsBounded-stands}
-use Rattle.point_strips.specs.Discs.{IsWithin}
-use Rattle.point_strips.specs.Walks.{nowhere, numbered_at}
-use Rattle.point_strips.specs.declared.strips.Numbered.{Numbered}
+use Rattle.point_bands.specs.Discs.{IsWithin}
+use Rattle.point_bands.specs.Walks.{nowhere, numbered_at}
+use Rattle.point_bands.specs.declared.bands.Numbered.{Numbered}
 use Rattle.twin_trees.specs.BridgeOrder.{IsMatched}
 use Rattle.twin_trees.specs.BridgeSearches.{Matches, MayBeBest}
 use Rattle.twin_trees.proofs.SearchedPairs.{IsWithin-same}
-use Rattle.twin_trees.proofs.bridging.best_in_run.Goals as goal
-use Rattle.twin_trees.proofs.bridging.best_in_run.Goals.{then-has, else-has}
+use Rattle.twin_trees.proofs.bridging.best_in_stretch.Goals as goal
+use Rattle.twin_trees.proofs.bridging.best_in_stretch.Goals.{then-has, else-has}
 
 pub of_radius-disc-requires : goal.of_radius-disc-requires
 of_radius-disc-requires g c =
@@ -31,7 +31,7 @@ loop-position-preserved g c =
     let one = state_of_grown c.args.runs.now.first.now in
     let other = state_of_grown c.args.runs.now.second.now in
     let setup = setup_of c.args.runs.now.first.now.task.scene in
-    let nodes = c.args.strips.now in
+    let nodes = c.args.bands.now in
     let position = c.loop-position.position in
     let square = c.of_radius-disc.ensures.square ∙ ap (λ (t : Task). t.scene.step * t.scene.step) c.task.ensures in
     elim c.if-has.branch [
@@ -73,6 +73,6 @@ loop-position-preserved g c =
       }
     ]
 
-pub returns-clause-run : goal.returns-clause-run
-returns-clause-run g c = λ j from below within.
+pub returns-clause-stretch : goal.returns-clause-stretch
+returns-clause-stretch g c = λ j from below within.
     c.loop-position.invariant.looked j from (omega (arith, below, c.loop-position-test.false)) within
