@@ -8,13 +8,9 @@ use Rattle.scene_text.specs.declared.fetching.FetchFault.{FetchFault}
 use Rattle.scene_text.specs.declared.fetching.FetchFault.TheVariants as fetching
 use Rattle.scene_text.specs.Fetching.{Fetches, IsAllOf}
 use Rattle.twin_trees.specs.TurnedScenes.{goal_middle}
-use Rattle.planner.specs.declared.commands.Command.{Command}
+use Rattle.planner.proofs.Words.{Command, input_of, plans, reads_text, tests_goal, Input, one_scene, reads_bytes, SpellsInput, IsCaused, HasScene, ReadFailed}
+use Rattle.planner.proofs.Words.{CameShort, IsReadWhole, refusal_of_fetch}
 use Rattle.planner.specs.declared.refusals.Refusal.TheVariants as refusals
-use Rattle.planner.specs.Commands.{input_of, plans, reads_text, tests_goal}
-use Rattle.planner.specs.Inputs.{Input, one_scene, reads_bytes, SpellsInput}
-use Rattle.planner.specs.Conclusions.{IsCaused, HasScene}
-use Rattle.planner.specs.Exchanges.{ReadFailed, CameShort, IsReadWhole}
-use Rattle.planner.specs.Faults.{refusal_of_fetch}
 
 read≢long : fetching.Read ≡ fetching.TooLong → ⊥
 read≢long is = absurd cc

@@ -8,8 +8,7 @@ use Rattle.std.proofs.lemmas.List.Sums.{sum_by-cons}
 use Rattle.std.proofs.lemmas.List.Elements.{All-from_recursion, All-head, All-tail, All-map}
 use Rattle.grown_runs.proofs.Common.{Point, Vertex, Meets, weighted, at_lattice, moved_by, IsBetweenWalls, InRoom, ConfigurationSpace, space_among, ClearAt}
 use Rattle.grown_runs.proofs.Common.{SharesPoint-meets}
-use Rattle.planner.specs.GeneratedScenes.{lattice_corner, square_at, triangle_at, place_in_cell}
-use Rattle.planner.specs.GeneratedScenes.{side_by, obstacle_by, generated_obstacle, generated_obstacles}
+use Rattle.planner.proofs.Words.{lattice_corner, square_at, triangle_at, place_in_cell, side_by, obstacle_by, generated_obstacle, generated_obstacles}
 
 times_at_least : (w n : ℕ) (z : ℤ) → pos n ≤ℤ z → pos (w * n) ≤ℤ (pos w *ℤ z)
 times_at_least w n (pos m) h = let low = mul-le w n w m (omega arith) (omega (arith, ints)) in omega (arith, ints)

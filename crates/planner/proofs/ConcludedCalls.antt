@@ -4,17 +4,9 @@ use Rattle.std.proofs.Math.Dec.{eqb}
 use Rattle.std.proofs.lemmas.Bool.Decides.{eqb_tells}
 use Rattle.plan_model.specs.Texts.Streams.{SourceState, SinkState}
 use Rattle.scene_text.specs.Fetching.{ReadsWithin}
-use Rattle.planner.specs.declared.commands.Command.{Command}
-use Rattle.planner.specs.declared.refusals.Refusal.{Refusal}
+use Rattle.planner.proofs.Words.{Command, Refusal, WORDS_REFUSED, WRITE_FAULT, NO_MEMORY, Done, reads_text, IsAnswer, IsCaused, Asks, IsDecided, HasConcluded}
+use Rattle.planner.proofs.Words.{ReadFailed, IsUnread, IsWrittenWhole, IsCutShort, status_of}
 use Rattle.planner.specs.declared.refusals.Refusal.TheVariants as refusals
-use Rattle.planner.specs.declared.statuses.TheConstants.{WORDS_REFUSED, WRITE_FAULT, NO_MEMORY}
-use Rattle.planner.specs.declared.top_call.Done.{Done}
-use Rattle.planner.specs.Commands.{reads_text}
-use Rattle.planner.specs.Conclusions.{IsAnswer, IsCaused, Asks}
-use Rattle.planner.specs.Decisions.{IsDecided}
-use Rattle.planner.specs.Endings.{HasConcluded}
-use Rattle.planner.specs.Exchanges.{ReadFailed, IsUnread, IsWrittenWhole, IsCutShort}
-use Rattle.planner.specs.Refusals.{status_of}
 use Rattle.planner.proofs.DecidedStatuses.{success_decided, refusal_decided}
 
 -- words that ask for no command are refused for that alone

@@ -8,20 +8,13 @@ use Rattle.twin_trees.proofs.TurnedRuns.{ClearAt-middle}
 use Rattle.scene_text.specs.Fetching.{CameTooLong}
 use Rattle.report_judge.specs.declared.verdicts.Verdict.{Verdict}
 use Rattle.report_judge.specs.declared.verdicts.Verdict.TheVariants.{Broken, Lawful}
-use Rattle.planner.specs.declared.commands.Command.{Command}
+use Rattle.planner.proofs.Words.{Command, Refusal, NO_PATH, GOAL_BLOCKED, TEXT_REFUSED, START_BLOCKED, NO_MEMORY, Done, input_of, plans, reads_text, tests_goal}
+use Rattle.planner.proofs.Words.{tests_start, greatest_success, BlocksGoal, BlocksStart, IsCaused, IsSceneOf, IsSuccess, MayReach, MayStart, OfScene, Succeeds}
+use Rattle.planner.proofs.Words.{status_of_report, IsDecidedBy, IsDecided, Input, nothing, one_scene, several_scenes, scene_and_report, AreGoalsClear}
+use Rattle.planner.proofs.Words.{AreStartsClear, RefusesInput, SpellsInput, IsTextBeforeReport, RefusesFront, RefusesWhole, ReadFailed, IsReadWhole, IsUnread}
+use Rattle.planner.proofs.Words.{status_of, status_of_verdict}
 use Rattle.planner.specs.declared.commands.Command.TheVariants as commands
-use Rattle.planner.specs.declared.refusals.Refusal.{Refusal}
 use Rattle.planner.specs.declared.refusals.Refusal.TheVariants as refusals
-use Rattle.planner.specs.declared.statuses.TheConstants.{NO_PATH, GOAL_BLOCKED, TEXT_REFUSED, START_BLOCKED, NO_MEMORY}
-use Rattle.planner.specs.declared.top_call.Done.{Done}
-use Rattle.planner.specs.Commands.{input_of, plans, reads_text, tests_goal, tests_start, greatest_success}
-use Rattle.planner.specs.Conclusions.{BlocksGoal, BlocksStart, IsCaused, IsSceneOf, IsSuccess, MayReach, MayStart, OfScene, Succeeds, status_of_report}
-use Rattle.planner.specs.Decisions.{IsDecidedBy, IsDecided}
-use Rattle.planner.specs.Inputs.{Input, nothing, one_scene, several_scenes, scene_and_report, AreGoalsClear, AreStartsClear, RefusesInput, SpellsInput}
-use Rattle.planner.specs.Inputs.{IsTextBeforeReport, RefusesFront, RefusesWhole}
-use Rattle.planner.specs.Exchanges.{ReadFailed, IsReadWhole, IsUnread}
-use Rattle.planner.specs.Refusals.{status_of}
-use Rattle.planner.specs.VerdictLines.{status_of_verdict}
 use Rattle.planner.proofs.KnownBytes.{came_count}
 use Rattle.planner.proofs.CutTexts.{IsCutAtReport-has_line, IsCutAtReport-one_front}
 

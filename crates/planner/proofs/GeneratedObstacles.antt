@@ -11,8 +11,7 @@ use Rattle.std.proofs.lemmas.Bool.{and_from}
 use Rattle.grown_runs.proofs.Common.{Point, Vertex, orientation, is_strictly_convex, is_corner_between, is_obstacle, are_obstacles, LEAST_OBSTACLE_COORDINATE}
 use Rattle.grown_runs.proofs.Common.{MOST_OBSTACLE_COORDINATE, MOST_OBSTACLES, true_of_below, Read, var, minus}
 use Rattle.plan_model.proofs.Ring.{times}
-use Rattle.planner.specs.GeneratedScenes.{lattice_corner, square_at, triangle_at, place_in_cell}
-use Rattle.planner.specs.GeneratedScenes.{side_by, obstacle_by, generated_obstacle, generated_obstacles}
+use Rattle.planner.proofs.Words.{lattice_corner, square_at, triangle_at, place_in_cell, side_by, obstacle_by, generated_obstacle, generated_obstacles}
 
 -- the area that a turn spans, as a difference
 abbrev turn : (a b c : Vertex) → Read (orientation a b c)

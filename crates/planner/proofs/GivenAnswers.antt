@@ -6,15 +6,9 @@ use Rattle.scene_text.specs.Fetching.{ReadsWithin}
 use Rattle.twin_trees.specs.TurnedScenes.{goal_middle}
 use Rattle.twin_trees.specs.declared.twin_runs.TwinFault.{TwinFault}
 use Rattle.twin_trees.specs.declared.twin_runs.TwinFault.TheVariants as faults
-use Rattle.planner.specs.declared.answers.Answer.{Answer}
-use Rattle.planner.specs.declared.commands.Command.{Command}
-use Rattle.planner.specs.declared.refusals.Refusal.{Refusal}
+use Rattle.planner.proofs.Words.{Answer, Command, Refusal, input_of, reads_text, tests_goal, Answers, HasScene, IsCaused, Succeeds, IsReadWhole, IsUnread}
+use Rattle.planner.proofs.Words.{refusal_of_twin, one_scene, reads_bytes}
 use Rattle.planner.specs.declared.refusals.Refusal.TheVariants as refusals
-use Rattle.planner.specs.Commands.{input_of, reads_text, tests_goal}
-use Rattle.planner.specs.Conclusions.{Answers, HasScene, IsCaused, Succeeds}
-use Rattle.planner.specs.Exchanges.{IsReadWhole, IsUnread}
-use Rattle.planner.specs.Faults.{refusal_of_twin}
-use Rattle.planner.specs.Inputs.{one_scene, reads_bytes}
 use Rattle.planner.proofs.Causes.{GoalBlocked-caused}
 
 -- a command that reads a text, of which so many bytes came

@@ -17,18 +17,11 @@ use Rattle.any_time.specs.BestPaths.{has_path}
 use Rattle.any_time.specs.BetterReports.{batch_report}
 use Rattle.any_time.specs.Sessions.{IsFresh, SessionState}
 use Rattle.any_time.specs.declared.betters.Better.{Better}
-use Rattle.planner.specs.BatchSessions.{HaveSessions, IsSessionOf}
+use Rattle.planner.proofs.Words.{HaveSessions, IsSessionOf, Answer, Command, Refusal, input_of, plans, reads_text, Done, Answers, HandsOutNothing, HasBatch}
+use Rattle.planner.proofs.Words.{IsCaused, IsRunBySlices, ReportsBatch, Succeeds, status_of_report, IsReadWhole, refusal_of_scene, AreStartsClear, Input}
+use Rattle.planner.proofs.Words.{RefusesInput, SpellsInput, several_scenes, reads_bytes}
 use Rattle.planner.proofs.GivenAnswers.{Answers-given, Answers-refused}
-use Rattle.planner.specs.declared.answers.Answer.{Answer}
-use Rattle.planner.specs.declared.commands.Command.{Command}
-use Rattle.planner.specs.declared.refusals.Refusal.{Refusal}
 use Rattle.planner.specs.declared.refusals.Refusal.TheVariants as refusals
-use Rattle.planner.specs.Commands.{input_of, plans, reads_text}
-use Rattle.planner.specs.declared.top_call.Done.{Done}
-use Rattle.planner.specs.Conclusions.{Answers, HandsOutNothing, HasBatch, IsCaused, IsRunBySlices, ReportsBatch, Succeeds, status_of_report}
-use Rattle.planner.specs.Exchanges.{IsReadWhole}
-use Rattle.planner.specs.Faults.{refusal_of_scene}
-use Rattle.planner.specs.Inputs.{AreStartsClear, Input, RefusesInput, SpellsInput, several_scenes, reads_bytes}
 
 -- a command that reads several scenes, and has them
 module _ (command : Command) (before now : SourceState) (scenes : List Scene) (several : input_of command ≡ several_scenes)

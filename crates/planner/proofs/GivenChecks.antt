@@ -8,14 +8,9 @@ use Rattle.scene_text.specs.Fetching.{ReadsWithin}
 use Rattle.scene_text.specs.Refusals.{IsSceneRefusal}
 use Rattle.scene_text.specs.declared.refusals.SceneRefusal.{SceneRefusal}
 use Rattle.scene_text.specs.declared.refusals.SceneRefusal.TheVariants as reading
-use Rattle.planner.specs.CheckedTexts.{RefusesCheck, RefusesSceneText, RefusesWithoutReport}
+use Rattle.planner.proofs.Words.{RefusesCheck, RefusesSceneText, RefusesWithoutReport, Answers, IsCaused, IsReadWhole, refusal_of_scene, Answer, Refusal}
 use Rattle.planner.proofs.GivenAnswers.{Answers-refused}
-use Rattle.planner.specs.Conclusions.{Answers, IsCaused}
-use Rattle.planner.specs.Exchanges.{IsReadWhole}
-use Rattle.planner.specs.Faults.{refusal_of_scene}
-use Rattle.planner.specs.declared.answers.Answer.{Answer}
 use Rattle.planner.specs.declared.commands.Command.TheVariants as commands
-use Rattle.planner.specs.declared.refusals.Refusal.{Refusal}
 use Rattle.planner.specs.declared.refusals.Refusal.TheVariants as refusals
 
 -- ---- the parts of a text

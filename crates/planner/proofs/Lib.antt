@@ -10,3 +10,4 @@ pub mod ConcludedCalls
 pub mod GeneratedObstacles
 pub mod ClearStarts
 pub mod CommandWords
+mod Words

@@ -5,8 +5,7 @@ use Rattle.grown_runs.proofs.Common.{Point, Scene, best_node, goals_of, IsClosed
 use Rattle.grown_runs.proofs.Common.{TreeState, state_of_grown}
 use Rattle.grown_runs.specs.declared.grown.Grown.{Grown}
 use Rattle.twin_trees.specs.Bridges.{IsBridge}
-use Rattle.planner.specs.declared.top_call.Done.{Done}
-use Rattle.planner.specs.Conclusions.{HandsOutRunAlone, Report, ReportsGrown, ReportsScene, ReportsTwin, status_of_report}
+use Rattle.planner.proofs.Words.{Done, HandsOutRunAlone, Report, ReportsGrown, ReportsScene, ReportsTwin, status_of_report}
 
 -- a settled run over all marks of its scene is reported by its status and such a text; that it is closed, its type says
 pub ReportsGrown-answer :

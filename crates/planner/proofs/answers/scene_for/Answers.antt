@@ -1,6 +1,5 @@
 use Rattle.std.proofs.Common.{refl, ap}
-use Rattle.planner.specs.Conclusions.{IsCaused}
-use Rattle.planner.specs.Inputs.{reads_bytes}
+use Rattle.planner.proofs.Words.{IsCaused, reads_bytes}
 use Rattle.planner.proofs.Causes.{fetch-caused, IfErr-only}
 use Rattle.planner.proofs.answers.scene_for.Goals as goal
 

@@ -1,6 +1,5 @@
 use Rattle.std.proofs.Common.{refl, ap, subst, List, ℕ}
-use Rattle.planner.specs.Conclusions.{IsCaused}
-use Rattle.planner.specs.Inputs.{reads_bytes}
+use Rattle.planner.proofs.Words.{IsCaused, reads_bytes}
 use Rattle.scene_text.specs.Batches.{IsBatchRefusal}
 use Rattle.planner.proofs.Causes.{IsReadWhole-fetched, fetch-caused, IfErr-only}
 use Rattle.planner.proofs.GivenBatches.{read_batch-caused}

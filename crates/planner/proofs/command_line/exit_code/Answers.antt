@@ -3,8 +3,7 @@ use Rattle.std.specs.Prelude.{String, string_bytes}
 use Rattle.std.specs.Global.{Global}
 use Rattle.std.specs.declared.io.Error.{Error}
 use Rattle.std.specs.declared.vec.IntoIter.{IntoIter}
-use Rattle.planner.specs.CommandLines.{AreNoText, words_after_name}
-use Rattle.planner.specs.Commands.{command_of}
+use Rattle.planner.proofs.Words.{AreNoText, words_after_name, command_of}
 use Rattle.planner.proofs.command_line.exit_code.Goals as goal
 
 -- arguments that are no text ask for no command
