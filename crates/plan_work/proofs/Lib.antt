@@ -20,6 +20,7 @@ pub mod LoneMarks
 pub mod LoneRuns
 pub mod SharedRuns
 pub mod TakenOver
+pub mod WorkedAlone
 pub mod EqualPoints
 pub mod MirroredTrees
 pub mod TextbookSteps

@@ -7,7 +7,7 @@ ghost use Rattle.plan_model.specs.declared.limits.TheConstants.{MOST_WORKERS};
 
 use crate::support::{Entry, TO_REWIRE, assert_node, assert_records, small_task, sure, task_to};
 use plan_model::{Goal, MOST_WORKERS, Outcome, Point, Record, SmallScene, Task};
-use plan_work::{Gate, NoGate, grow};
+use plan_work::{Gate, NoGate, grow, grow_alone};
 use std::alloc::Global;
 use std::process::Abort;
 use std::sync::atomic::{AtomicBool, AtomicU32, Ordering};
@@ -107,6 +107,22 @@ fn one_worker_handles_the_marks_in_turn(rt: HostRuntime) {
     let grown = small_run(&rt, rt.alloc(), 1, 3, &NoGate);
     assert_records(&rt, &grown, &IN_TURN);
     assert_node(&rt, &grown, 2, &Some((40, 79, 3, 25_344)));
+    drop(grown);
+}
+
+/// In the thread of its caller it goes on with a run, and comes to the same.
+#[test]
+fn one_worker_alone_handles_the_marks_in_turn(rt: HostRuntime) {
+    let fresh = sure(
+        &rt,
+        Grown::new(rt.alloc(), small_task(&rt, rt.alloc(), &TO_REWIRE)),
+    );
+    let hall = sure(&rt, Hall::new(rt.alloc(), &fresh.task().scene));
+    let begun = sure(&rt, grow_alone(rt.alloc(), fresh, &hall, 1));
+    let grown = sure(&rt, grow_alone(rt.alloc(), begun, &hall, 3));
+    assert_records(&rt, &grown, &IN_TURN);
+    assert_node(&rt, &grown, 2, &Some((40, 79, 3, 25_344)));
+    drop(hall);
     drop(grown);
 }
 

@@ -1,0 +1,55 @@
+use Rattle.std.proofs.Common.{◌≡◌, ◌∙◌, arith, subst, sym}
+use Rattle.std.specs.Prelude.{All}
+use Rattle.plan_words.specs.States.{MayClaim}
+use Rattle.plan_work.proofs.LoneRuns.{IsOfTextbook-seen}
+use Rattle.plan_work.proofs.WorkedAlone.{HasWorkedAlone-worked}
+use Rattle.plan_work.proofs.growing_alone.grow_alone.Goals as goal
+use Rattle.plan_work.specs.OneWorker.{SeesTextbook}
+use Rattle.grown_runs.specs.Runs.GrownRuns.{state_of_grown}
+
+pub work-requires-clause-may_claim : goal.work-requires-clause-may_claim
+work-requires-clause-may_claim g c _ _ =
+    let shared = c.in_ok-shared.shared in
+    let pass = c.only_pass-pass.result in
+    subst (All (MayClaim shared)) c.only_pass-pass.ensures c.in_ok-shared.ensures.may_claim 0 pass (omega arith)
+
+pub end-requires-clause-none_left : goal.end-requires-clause-none_left
+end-requires-clause-none_left g c =
+    let started = c.in_ok-shared.ensures in
+    let worked = c.work.ensures in
+    let alone = HasWorkedAlone-worked _ c.args.grown _ _ _ c.args.limit started.passes c.only_pass-pass.ensures c.requires.low started.workers
+    started.task worked.goes_on worked.worked worked.none_left worked.textbook in
+    alone.none_left
+
+pub returns-clause-limit : goal.returns-clause-limit
+returns-clause-limit g c =
+    let started = c.in_ok-shared.ensures in
+    let worked = c.work.ensures in
+    let alone = HasWorkedAlone-worked _ c.args.grown _ _ _ c.args.limit started.passes c.only_pass-pass.ensures c.requires.low started.workers
+    started.task worked.goes_on worked.worked worked.none_left worked.textbook in
+    c.end.ensures.limit ∙ alone.reached (state_of_grown c.end.result) c.end.ensures.seen
+
+pub returns-clause-grows : goal.returns-clause-grows
+returns-clause-grows g c =
+    let started = c.in_ok-shared.ensures in
+    let worked = c.work.ensures in
+    let alone = HasWorkedAlone-worked _ c.args.grown _ _ _ c.args.limit started.passes c.only_pass-pass.ensures c.requires.low started.workers
+    started.task worked.goes_on worked.worked worked.none_left worked.textbook in
+    alone.grows (state_of_grown c.end.result) c.end.ensures.seen
+
+pub returns-clause-worker : goal.returns-clause-worker
+returns-clause-worker g c k entry is past =
+    omega (arith, c.end.ensures.workers k entry (omega (arith, c.in_ok-shared.ensures.opening, past)) is, c.in_ok-shared.ensures.workers)
+
+pub returns-clause-textbook : goal.returns-clause-textbook
+returns-clause-textbook g c = λ textbook.
+    let started = c.in_ok-shared.ensures in
+    let worked = c.work.ensures in
+    let shared = c.in_ok-shared.shared in
+    let view = c.work.new.pass.view in
+    let alone = HasWorkedAlone-worked _ c.args.grown _ _ _ c.args.limit started.passes c.only_pass-pass.ensures c.requires.low started.workers
+    started.task worked.goes_on worked.worked worked.none_left worked.textbook in
+    let reached = c.end.ensures.limit ∙ alone.reached (state_of_grown c.end.result) c.end.ensures.seen in
+    let handled = alone.textbook textbook in
+    IsOfTextbook-seen shared.task shared.workers shared.opening view c.end.result worked.goes_on.lawful worked.worked.may_claim.belongs.run
+    c.end.ensures.task (subst (SeesTextbook view) (sym reached) handled.textbook) c.end.ensures.same
