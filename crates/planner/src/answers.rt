@@ -404,7 +404,11 @@ fn twin_answer_of(alloc: Global, both: Twin, text: Vec<u8>) -> Answer
 }
 
 /// The report of a settled run over all marks of its scene, in full or in short.
-fn report_of(alloc: Global, full: bool, grown: Grown) -> Result<Answer, Memory>
+///
+/// # Errors
+///
+/// `Memory` if out of memory for the text.
+pub fn report_of(alloc: Global, full: bool, grown: Grown) -> Result<Answer, Memory>
     requires all_marks { grown.limit ≡ length (mark_points grown.task.scene) }
     requires settled { IsSettled (state_of_grown grown) }
     ensures reported { IfOk result (λ answer. ReportsGrown (IsReport full) grown.task.scene grown answer.done answer.text.items) }
@@ -416,7 +420,11 @@ fn report_of(alloc: Global, full: bool, grown: Grown) -> Result<Answer, Memory>
 }
 
 /// The short report of a settled run over all marks of its scene, with its path smoothed.
-fn smoothed_report_of(alloc: Global, boxes: &Boxes, grown: Grown) -> Result<Answer, Memory>
+///
+/// # Errors
+///
+/// `Memory` if out of memory for the path or the text.
+pub fn smoothed_report_of(alloc: Global, boxes: &Boxes, grown: Grown) -> Result<Answer, Memory>
     requires boxes { boxes.now ≡ space_of grown.task.scene }
     requires all_marks { grown.limit ≡ length (mark_points grown.task.scene) }
     requires settled { IsSettled (state_of_grown grown) }

@@ -82,7 +82,11 @@ fn line_count(text: &[u8]) -> u32
 }
 
 /// The task of the scene that a text spells, whose start is clear, with its collision checker.
-fn problem_in(alloc: Global, text: &[u8]) -> Result<(Task, Boxes), Refusal>
+///
+/// # Errors
+///
+/// The refusal with its cause: `Text`, `StartBlocked` or `Memory`.
+pub fn problem_in(alloc: Global, text: &[u8]) -> Result<(Task, Boxes), Refusal>
     requires { length text.now ≤ MOST_TEXT_BYTES }
     ensures scene { IfOk result (λ problem. Spells supported text.now problem.0.scene) }
     ensures boxes { IfOk result (λ problem. problem.1 ≡ space_of problem.0.scene) }

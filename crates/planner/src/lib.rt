@@ -29,6 +29,8 @@ mod standard_streams;
 mod statuses;
 mod top_call;
 
+pub use answers::{Answer, report_of, smoothed_report_of};
+pub use checking::problem_in;
 pub use command_line::exit_code;
 pub use refusals::Refusal;
 pub use standard_streams::{StdSink, StdSource};
