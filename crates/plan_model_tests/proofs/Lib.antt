@@ -16,3 +16,4 @@ pub mod SkippedRecords
 pub mod SkippedRun
 pub mod OpenedRuns
 pub mod Common
+pub mod RouteExamples

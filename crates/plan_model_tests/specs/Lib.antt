@@ -10,3 +10,4 @@ pub mod GrownTrees
 pub mod LesserSights
 pub mod OpenPaths
 pub mod Coverings
+pub mod RouteExamples

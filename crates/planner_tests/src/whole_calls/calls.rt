@@ -189,22 +189,34 @@ fn call_over<R: Threads + Sync + Wait + RandomSource + AllocGlobal + Clone + Dro
     ended
 }
 
-// What a call has done over this sink, and over a source that gives this text in pieces of at most so many bytes (of one byte
-// at least), and fails at one of its reads (0: at none).
+// A text as a source gives it: in pieces of at most so many bytes (of one byte at least), with a failure at one of its reads (0: at none).
+#[derive(Clone, Copy)]
+pub struct Input<'a> {
+    pub text: &'a str,
+    pub most: usize,
+    pub fails: u32,
+}
+
+// The text in one piece, unless it is very long, with no failure.
+pub fn at_once(text: &str) -> Input<'_> {
+    Input {
+        text,
+        most: 1 << 16,
+        fails: 0,
+    }
+}
+
+// What a call has done over this input and this sink.
 pub fn call_into<
     R: Threads + Sync + Wait + RandomSource + AllocGlobal + Clone + Drop + Abort,
     G: Gate,
->(
-    rt: &R,
-    alloc: Global,
-    words: &[&str],
-    text: &str,
-    most: usize,
-    fails: u32,
-    sink: MemSink,
-    gate: &G,
-) -> Called {
-    let source = MemSource::new(alloc, text.as_bytes(), most.max(1), &[fails]);
+>(rt: &R, alloc: Global, words: &[&str], input: Input<'_>, sink: MemSink, gate: &G) -> Called {
+    let source = MemSource::new(
+        alloc,
+        input.text.as_bytes(),
+        input.most.max(1),
+        &[input.fails],
+    );
     let (mut source, mut sink) = (sure(rt, source), sink);
     let ended = call_over(rt, alloc, words, &mut source, &mut sink, gate);
     let read_faults = source.faults();
@@ -220,9 +232,9 @@ pub fn call_into<
 pub fn call_with_gate<
     R: Threads + Sync + Wait + RandomSource + AllocGlobal + Clone + Drop + Abort,
     G: Gate,
->(rt: &R, alloc: Global, words: &[&str], text: &str, most: usize, fails: u32, gate: &G) -> Called {
+>(rt: &R, alloc: Global, words: &[&str], input: Input<'_>, gate: &G) -> Called {
     let sink = sure(rt, MemSink::new(alloc, 1 << 24, 1 << 24, &[]));
-    call_into(rt, alloc, words, text, most, fails, sink, gate)
+    call_into(rt, alloc, words, input, sink, gate)
 }
 
 // The same through the gate that does nothing.
@@ -234,5 +246,6 @@ pub fn call<R: Threads + Sync + Wait + RandomSource + AllocGlobal + Clone + Drop
     most: usize,
     fails: u32,
 ) -> Called {
-    call_with_gate(rt, alloc, words, text, most, fails, &NoGate)
+    let input = Input { text, most, fails };
+    call_with_gate(rt, alloc, words, input, &NoGate)
 }

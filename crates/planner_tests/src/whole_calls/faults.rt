@@ -128,7 +128,7 @@ fn expect_cut<R: Threads + Sync + Wait + RandomSource + AllocGlobal + Clone + Dr
     cut: &Cut,
 ) {
     let sink = sure(rt, MemSink::new(alloc, room, 10, &[cut.fails]));
-    let called = call_into(rt, alloc, cut.words, ONE_MARK, 1 << 16, 0, sink, &NoGate);
+    let called = call_into(rt, alloc, cut.words, at_once(ONE_MARK), sink, &NoGate);
     let case = Case {
         shows: "a write fails",
         scene: ONE_MARK,

@@ -221,7 +221,7 @@ fn as_many_workers_as_there_may_be_report_as_many_marks(rt: HostRuntime) {
     let words = ["plan", "64", "full"];
     let sink = sure(&rt, MemSink::new(rt.alloc(), 1 << 26, 1 << 24, &[]));
     let scene = MARKS_IN_LARGEST_ROOM;
-    let called = call_into(&rt, rt.alloc(), &words, scene, 1 << 16, 0, sink, &NoGate);
+    let called = call_into(&rt, rt.alloc(), &words, at_once(scene), sink, &NoGate);
     expect_whole(&rt, rt.alloc(), &called, 262_143, true);
     expect_lines(&rt, &called, 262_143);
     drop(called);

@@ -400,7 +400,7 @@ static LINES_BY_TWO: [&str; 3] = [
 #[test]
 fn two_workers_grow_one_tree_at_once(rt: HostRuntime) {
     let gate = OtherFirst::new();
-    let called = call_with_gate(&rt, rt.alloc(), BY_TWO, THREE_MARKS, 1000, 0, &gate);
+    let called = call_with_gate(&rt, rt.alloc(), BY_TWO, at_once(THREE_MARKS), &gate);
     expect_that(&rt, gate.was_in_time(), "in time");
     drop(gate);
     for begin in &LINES_BY_TWO {

@@ -93,7 +93,7 @@ fn smooths_the_path_of_a_run_by_several_workers(rt: HostRuntime) {
 fn two_workers_grow_the_tree_of_a_smoothed_path_at_once(rt: HostRuntime) {
     let gate = OtherFirst::new();
     let words = ["smooth", "2"];
-    let called = call_with_gate(&rt, rt.alloc(), &words, THREE_MARKS, 1000, 0, &gate);
+    let called = call_with_gate(&rt, rt.alloc(), &words, at_once(THREE_MARKS), &gate);
     expect_that(&rt, gate.was_in_time(), "in time");
     drop(gate);
     expect_grown_at_once(&rt, &called.ended.run);

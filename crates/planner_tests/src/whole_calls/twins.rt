@@ -172,7 +172,7 @@ fn hands_out_no_run_if_the_goal_is_blocked(rt: HostRuntime) {
 fn hands_out_both_runs_though_the_sink_fails(rt: HostRuntime) {
     let sink = sure(&rt, MemSink::new(rt.alloc(), 1000, 10, &[3]));
     let words = ["twin", "1"];
-    let called = call_into(&rt, rt.alloc(), &words, HALF_WAY, 1 << 16, 0, sink, &NoGate);
+    let called = call_into(&rt, rt.alloc(), &words, at_once(HALF_WAY), sink, &NoGate);
     expect_number(&rt, called.status(), 6, "a write fails");
     expect_both(&rt, &called, (2, 2), Some((0, 1)));
     drop(called);
@@ -192,7 +192,7 @@ fn expect_first_grown_at_once<R: Abort>(rt: &R, called: &Called) {
 fn two_workers_grow_the_first_of_two_trees_at_once(rt: HostRuntime) {
     let gate = OtherFirst::new();
     let words = ["twin", "2"];
-    let called = call_with_gate(&rt, rt.alloc(), &words, THREE_MARKS, 1000, 0, &gate);
+    let called = call_with_gate(&rt, rt.alloc(), &words, at_once(THREE_MARKS), &gate);
     expect_that(&rt, gate.was_in_time(), "in time");
     drop(gate);
     expect_first_grown_at_once(&rt, &called);
@@ -224,7 +224,7 @@ fn a_gate_is_told_of_the_turns_of_both_trees(rt: HostRuntime) {
         after: AtomicU32::new(0),
     };
     let words = ["twin", "2"];
-    let called = call_with_gate(&rt, rt.alloc(), &words, THREE_MARKS, 1000, 0, &gate);
+    let called = call_with_gate(&rt, rt.alloc(), &words, at_once(THREE_MARKS), &gate);
     drop(called);
     let (before, after) = (
         gate.before.load(Ordering::SeqCst),

@@ -30,20 +30,26 @@ fn copied<R: Abort, T>(rt: &R, made: Result<Vec<T>, AllocError>) -> Vec<T>
     }
 }
 
+/// The words by which marks are drawn begin at this seed, in so many strips.
+#[derive(Clone, Copy)]
+struct Draw {
+    seed: u64,
+    strips: u32,
+}
+
 /// A scene without obstacles.
 fn open_scene<R: Abort>(
     rt: &R,
     alloc: Global,
     room: Point,
     body: &[Vertex],
-    seed: u64,
-    strips: u32,
+    draw: Draw,
     plan: Marks,
 ) -> Scene
     requires room { IsBetween LEAST_SIDE MOST_SIDE room }
     requires body { IsTrue (is_body body.now) }
-    requires strips_low { LEAST_STRIPS ≤ strips }
-    requires strips_high { strips ≤ MOST_STRIPS }
+    requires strips_low { LEAST_STRIPS ≤ draw.strips }
+    requires strips_high { draw.strips ≤ MOST_STRIPS }
     requires plan { IsTrue (is_plan 1 plan) }
     ensures room { result.room ≡ room }
     ensures body { result.body ≡ body.now }
@@ -58,8 +64,8 @@ fn open_scene<R: Abort>(
         },
         step: 4,
         gamma: 0,
-        seed,
-        strips,
+        seed: draw.seed,
+        strips: draw.strips,
     };
     let body = Sequence::from_vec(copied(rt, body.to_vec(alloc)));
     let obstacles = Sequence::from_vec(Vec::new(alloc));
@@ -83,7 +89,14 @@ fn drawn_marks<R: Abort>(
 {
     let room = Point { x: side, y: side };
     let body = [Vertex { x: 0, y: 0 }];
-    let scene = open_scene(rt, alloc, room, &body, seed, strips, Marks::Drawn(count));
+    let scene = open_scene(
+        rt,
+        alloc,
+        room,
+        &body,
+        Draw { seed, strips },
+        Marks::Drawn(count),
+    );
     let drawn = sure(rt, marks(alloc, &scene));
     drop(scene);
     drawn
@@ -107,7 +120,8 @@ fn listed_marks_stay(rt: HostRuntime) {
     let plan = Marks::Listed(Sequence::from_vec(points));
     let room = Point { x: 99, y: 99 };
     let body = [Vertex { x: 0, y: 0 }];
-    let scene = open_scene(&rt, rt.alloc(), room, &body, 7, 3, plan);
+    let draw = Draw { seed: 7, strips: 3 };
+    let scene = open_scene(&rt, rt.alloc(), room, &body, draw, plan);
     let points = sure(&rt, marks(rt.alloc(), &scene));
     assert_points(&rt, points, &listed);
     drop(scene);
@@ -142,7 +156,8 @@ fn marks_keep_the_body_from_the_walls(rt: HostRuntime) {
         Vertex { x: 0, y: 5 },
     ];
     let room = Point { x: 99, y: 99 };
-    let scene = open_scene(&rt, rt.alloc(), room, &body, 5, 3, Marks::Drawn(3));
+    let draw = Draw { seed: 5, strips: 3 };
+    let scene = open_scene(&rt, rt.alloc(), room, &body, draw, Marks::Drawn(3));
     let drawn = sure(&rt, marks(rt.alloc(), &scene));
     drop(scene);
     let want = [

@@ -1,0 +1,2 @@
+pub mod LoweredNodes
+pub mod Shares

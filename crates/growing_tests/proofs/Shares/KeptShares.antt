@@ -1,0 +1,32 @@
+-- What steps and whole marks leave of the share of a pass.
+use Rattle.std.proofs.Common.{ℕ, ◌<◌, length, sym, ap, ◌∙◌, subst}
+use Rattle.grown_runs.proofs.Common.{Record, Word}
+use Rattle.plan_words.proofs.Common.{KeepsHand, BelongsTo, PassState, SharedState}
+use Rattle.plan_work.specs.Extensions.{HandlesMark}
+use Rattle.plan_work.proofs.WorkedMarks.{share-turned}
+use Rattle.growing_tests.specs.Shares.Sharers.{HasClaimed, HasShare}
+use Rattle.tree_rewire.specs.SeenCosts.{PassSees}
+
+-- steps that leave the hand of a pass of the tree leave it, and the pass may claim as before
+pub HasShare-kept : (shared : SharedState) (before after : PassState) (n : ℕ) → BelongsTo after shared → KeepsHand before.view after.view
+    → HasShare shared n before → HasShare shared n after
+HasShare-kept shared before after n belongs kept has = record {
+  may_claim = record {
+    belongs = belongs;
+    part = subst (λ crew. 0 < length crew) (sym kept.crew) has.may_claim.part;
+    idle = kept.hand ∙ has.may_claim.idle;
+  };
+  share_is = ap (λ crew. length crew) kept.crew ∙ has.share_is;
+}
+
+pub HasShare-sees : (which : Word → Type 0) (shared : SharedState) (before after : PassState) (n : ℕ) → PassSees which shared before after
+    → HasShare shared n before → HasShare shared n after
+HasShare-sees which shared before after n sees has = HasShare-kept shared before after n sees.belongs sees.sees_anew.kept has
+
+-- a claimed mark that is handled leaves it too
+pub HasClaimed-handled : (shared : SharedState) (claimed after : PassState) (n k : ℕ) (entry : Record) → HandlesMark shared claimed after k entry
+    → HasClaimed shared n k claimed → HasShare shared n after
+HasClaimed-handled shared claimed after n k entry handles has = record {
+  may_claim = handles.may_claim;
+  share_is = ap (λ crew. length crew) handles.crew ∙ share-turned claimed.view.crew ∙ has.share_is;
+}

@@ -1,0 +1,5 @@
+use Rattle.growing_tests.proofs.LoweredNodes.WorkingPasses.{IsAtWork-claims}
+use Rattle.growing_tests.proofs.rewiring.spread.begun_round.Goals as goal
+
+pub returns-clause-works : goal.returns-clause-works
+returns-clause-works g c = IsAtWork-claims c.begun_after.result.shared c.begun_after.result.pass c.begun_after.ensures.may_claim

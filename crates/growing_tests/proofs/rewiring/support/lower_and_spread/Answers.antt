@@ -1,0 +1,8 @@
+use Rattle.growing_tests.proofs.LoweredNodes.WorkingPasses.{IsAtWork-kept}
+use Rattle.growing_tests.proofs.rewiring.support.lower_and_spread.Goals as goal
+
+pub returns : goal.returns
+returns c =
+    let spread = c.spread.ensures in
+    IsAtWork-kept c.args.shared.now c.lower_below.new.pass c.spread.new.pass spread.belongs spread.seen.goes_on.later.run spread.seen.kept
+    c.lower_below.ensures.works

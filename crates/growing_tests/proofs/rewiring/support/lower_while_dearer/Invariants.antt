@@ -1,0 +1,18 @@
+use Rattle.plan_words.specs.States.{GoesOn}
+use Rattle.tree_rewire.specs.SeenCosts.{SeesPair, cost_seen}
+use Rattle.tree_rewire.specs.Spreads.{OnlyAt}
+use Rattle.growing_tests.specs.LoweredNodes.HeldMarks.{IsAtWork}
+use Rattle.growing_tests.proofs.rewiring.support.lower_while_dearer.Given as goal
+
+-- the pass goes on, and sees no cost anew but that of the node
+abbrev pub invariant-lowers : goal.invariant-lowers
+invariant-lowers l = record {
+  works : IsAtWork l.shared l.pass;
+  goes_on : GoesOn l.fn.pass.view l.pass.view;
+  others : OnlyAt l.node l.fn.pass.view l.pass.view;
+  pair : SeesPair l.pass.view l.node;
+}
+
+-- what the node is seen to cost
+abbrev pub decreases-lowers : goal.decreases-lowers
+decreases-lowers l = cost_seen l.pass.view l.node

@@ -1,0 +1,2 @@
+-- Passes of the tests of tree_rewire.
+pub mod HeldMarks

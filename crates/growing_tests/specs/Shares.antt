@@ -1,0 +1,2 @@
+-- Passes of the tests of plan_work.
+pub mod Sharers

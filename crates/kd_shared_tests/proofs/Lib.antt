@@ -1,3 +1,0 @@
-pub mod RepeatedPoints
-pub mod SteeredMarks
-pub mod SteeredRecords

@@ -1,5 +1,0 @@
-use Rattle.plan_words.specs.States.{MayClaim}
-use Rattle.kd_shared_tests.proofs.place_by_threads.work.Given as goal
-
-abbrev pub invariant-points : goal.invariant-points
-invariant-points l = record { may_claim : MayClaim l.shared l.worker.pass }

@@ -1,5 +1,0 @@
-use Rattle.plan_words.specs.States.{BelongsTo}
-use Rattle.kd_shared_tests.proofs.searches.all_answer_as_scans.Given as goal
-
-abbrev pub invariant-places : goal.invariant-places
-invariant-places l = BelongsTo l.pass l.shared

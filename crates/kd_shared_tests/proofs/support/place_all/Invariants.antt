@@ -1,5 +1,0 @@
-use Rattle.plan_words.specs.States.{MayClaim}
-use Rattle.kd_shared_tests.proofs.support.place_all.Given as goal
-
-abbrev pub invariant-marks : goal.invariant-marks
-invariant-marks l = record { may_claim : MayClaim l.shared l.pass }

@@ -1,4 +1,0 @@
-use Rattle.path_tools_tests.proofs.support.assert_segment.Goals as goal
-
-pub returns : goal.returns
-returns g c = c.clear.ensures.0 c.if-not-clear.false

@@ -1,5 +1,0 @@
-use Rattle.plan_words.specs.States.{MayClaim}
-use Rattle.plan_words_tests.proofs.claim.expect_turns.Given as goal
-
-abbrev pub invariant-turns : goal.invariant-turns
-invariant-turns g l = record { may_claim : MayClaim l.shared l.pass }

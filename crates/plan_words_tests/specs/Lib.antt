@@ -1,2 +1,0 @@
-pub mod HeldMarks
-pub mod Sharers

@@ -1,6 +1,0 @@
-use Rattle.std.proofs.Common.{◌≤◌}
-use Rattle.plan_work_tests.proofs.grow.turns_below.Given as goal
-
--- no more turns than marks so far
-abbrev pub invariant-loop-mark : goal.invariant-loop-mark
-invariant-loop-mark l = l.turns ≤ l.mark

@@ -1,6 +1,0 @@
-use Rattle.plan_work_tests.proofs.KeptShares.{HasClaimed-handled}
-use Rattle.plan_work_tests.proofs.support.extend_claimed.Goals as goal
-
-pub returns : goal.returns
-returns g c =
-    HasClaimed-handled c.args.shared.now c.args.pass.now c.extend.new.pass 1 _ c.extend.result c.extend.ensures.handled c.requires.claimed

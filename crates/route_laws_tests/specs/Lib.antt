@@ -1,5 +1,0 @@
-pub mod ChainRuns
-pub mod Links
-pub mod FollowedRuns
-pub mod NearRoutes
-pub mod WorkersTurns

@@ -1,0 +1,3 @@
+pub mod SmallRuns
+pub mod HeldPasses
+pub mod SteeredPasses

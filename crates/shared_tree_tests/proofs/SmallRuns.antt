@@ -1,0 +1,2 @@
+-- A shared run at its begin.
+pub mod BegunWorld

@@ -1,0 +1,9 @@
+use Rattle.std.specs.Prelude.{All}
+use Rattle.plan_words.specs.States.{MayClaim}
+use Rattle.shared_tree_tests.proofs.kd_tree.place_by_threads.workers_of.Given as goal
+
+abbrev pub invariant-passes : goal.invariant-passes
+invariant-passes l = record {
+  rest : All (MayClaim l.shared) l.passes.items;
+  made : All (λ worker. MayClaim l.shared worker.pass) l.workers.items;
+}

@@ -1,0 +1,9 @@
+use Rattle.std.proofs.lemmas.List.Elements.{All-pop}
+use Rattle.shared_tree_tests.specs.HeldPasses.Sharers.{HasShare}
+use Rattle.shared_tree_tests.proofs.passes.end.last_sharer.Goals as goal
+
+pub returns-clause-rest : goal.returns-clause-rest
+returns-clause-rest c = (All-pop (HasShare c.args.shared.now 1) _ _ _ c.pop.ensures.items c.requires).0
+
+pub returns-clause-last : goal.returns-clause-last
+returns-clause-last c = (All-pop (HasShare c.args.shared.now 1) _ _ _ c.pop.ensures.items c.requires).1

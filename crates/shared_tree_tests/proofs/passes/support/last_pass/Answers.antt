@@ -1,0 +1,9 @@
+use Rattle.std.proofs.lemmas.List.Elements.{All-pop}
+use Rattle.plan_words.specs.States.{MayClaim}
+use Rattle.shared_tree_tests.proofs.passes.support.last_pass.Goals as goal
+
+pub returns-clause-rest : goal.returns-clause-rest
+returns-clause-rest c = (All-pop (MayClaim c.args.shared.now) _ _ _ c.pop.ensures.items c.requires).0
+
+pub returns-clause-last : goal.returns-clause-last
+returns-clause-last c = (All-pop (MayClaim c.args.shared.now) _ _ _ c.pop.ensures.items c.requires).1

@@ -1,0 +1,30 @@
+use Rattle.std.proofs.Common.{◌≡◌, ℕ, ◌≤◌, true, List, None, arith, sym, ap, ◌∙◌, inl, inr}
+use Rattle.std.specs.Prelude.{◌⊎◌, if◌then◌else◌}
+use Rattle.grown_runs.proofs.Common.{StandsAt, at, child_of_word, Words, ChildOf, Count, PointOf, Sizes, point_of_word, point_word}
+use Rattle.step_core.proofs.Common.{linked_points, run_sizes, IsWorld, linked-present, point_at-linked}
+use Rattle.grown_runs.specs.Table.WordPlaces.{word_at}
+use Rattle.step_core.specs.declared.views.View.{View}
+use Rattle.shared_tree_tests.specs.SmallRuns.SmallWorlds.{small_run}
+use Rattle.shared_tree_tests.proofs.worlds.vectors.free_points.Goals as goal
+
+-- a word that is there and stays
+stays : (word later : ℕ) → ¬ (word ≡ 0) → (word ≡ 0) ⊎ (word ≡ later) → later ≡ word
+stays word later some (inl none) = absurd (some none)
+stays word later some (inr same) = sym same
+
+-- node 1 stands at the mark
+stands : (words : Words) (views : List View) → IsWorld small_run words views → words (ChildOf 0 true) ≡ 1 → words (PointOf 1) ≡ point_word (at 8 9)
+    → StandsAt (linked_points (run_sizes small_run) words) 1 (at 8 9)
+stands words views world child point =
+    let sizes : Sizes = run_sizes small_run in
+    let linked = linked-present sizes words 1 (world.links.ways.present 0 1 true (ap child_of_word child)) in
+    point_at-linked sizes words 1 (omega arith) ∙ ap (λ b. if b then point_of_word (words (PointOf 1)) else None) linked ∙ ap point_of_word point
+
+pub returns : goal.returns
+unfolding word_at
+returns c = record {
+  not_free_since = λ h.
+      h.free 1 (stands h.words h.views h.world (stays 1 (h.words (ChildOf 0 true)) (λ e. omega (arith, e)) (h.since (ChildOf 0 true)))
+      (stays (point_word (at 8 9)) (h.words (PointOf 1)) (λ e. omega (arith, e)) (h.since (PointOf 1))));
+  no_world_before = λ h. (let e : h.words Count ≤ 0 = h.until Count in omega (arith, e, h.world.links.count));
+}

@@ -1,0 +1,115 @@
+use Rattle.std.proofs.Common.{◌≡◌, ℕ, zero, suc, ◌+◌, ◌<◌, ◌≤◌, ◌^◌, true, false, Some, None, [], ◌∷◌, arith, refl, sym, ap, subst, inl, inr}
+use Rattle.std.specs.Prelude.{◌⊎◌}
+use mathlib.Core.Option.{some, some-injective, some-ne-none}
+use lib.ListN.{get_elem?}
+use Rattle.grown_runs.proofs.Common.{placed_by, at, root_ceiling-from_squares, Word, Words, ChildOf, Count, Counter, best_word, no_best, point_word, tree_word}
+use Rattle.plan_model.specs.Geometry.Roots.{root_ceiling}
+use Rattle.step_core.proofs.Common.{new_hand, IsViewOf, sees, share, spent, HasMade, IsRecordWord, SomeSharer}
+use Rattle.grown_runs.specs.Table.WordPlaces.{word_at}
+use Rattle.step_core.specs.declared.views.SharedRun.{SharedRun}
+use Rattle.step_core.specs.declared.views.Stage.TheVariants.{Half, Linked, Pointed, Posted, Treed}
+use Rattle.step_core.specs.declared.views.View.{View}
+use Rattle.shared_tree_tests.specs.SmallRuns.SmallWorlds.{filled_at, hand_at, idle, linked_table, never, small_run, took_best, view_with, worker_at}
+use Rattle.shared_tree_tests.proofs.worlds.vectors.unlawful_worlds.Goals as goal
+
+edge : root_ceiling 1638400 ≡ 1280
+edge = root_ceiling-from_squares 1638400 1280 (omega arith) (omega arith)
+
+not_packed : ¬ IsRecordWord 5
+not_packed (inl e) = omega (arith, e)
+not_packed (inr (entry, fits, e)) = omega (arith, e)
+
+neither : (a b : ℕ) → ¬ (a ≡ b) → ¬ ((a ≡ b) ⊎ (a ≡ b))
+neither a b apart (inl e) = apart e
+neither a b apart (inr e) = apart e
+
+-- what a view with a share has seen, one of the two has
+one_of_two : (run : SharedRun) (one other : View) (has : View → Type 0) → SomeSharer run (one ∷ other ∷ []) has → has one ⊎ has other
+one_of_two run one other has copy = by_id copy.id copy.view copy.at copy.same
+  where
+    by_id : (id : ℕ) (view : View) → get_elem? (one ∷ other ∷ []) id ≡ some view → has view → has one ⊎ has other
+    by_id zero view at same = inl (subst has (sym (some-injective one view at)) same)
+    by_id (suc zero) view at same = inr (subst has (sym (some-injective other view at)) same)
+    by_id (suc (suc id)) view at same = absurd (some-ne-none view (sym at))
+
+-- a view with a share is not spent
+of_run : (view : View) → share view ≡ 1 → (view ≡ spent) ⊎ IsViewOf small_run view → IsViewOf small_run view
+of_run view part (inl e) = absurd (omega (arith, part, ap share e))
+of_run view part (inr h) = h
+
+made_four : (one other : View) → other.run ≡ small_run → other.steps ≡ 3 → ¬ HasMade small_run (one ∷ other ∷ []) 1 4
+made_four one other run steps (inl e) = omega (arith, e)
+made_four one other run steps (inr (view, at, made)) =
+    let same : other ≡ view = some-injective other view at in
+    omega (arith, steps, ap (λ (v : View). v.steps) same, made (subst (λ (v : View). v.run ≡ small_run) same run))
+
+pub returns : goal.returns
+unfolding word_at
+returns c = record {
+  counter_above_quota = λ h. (let e : 1 ≤ 0 = h.numbers.quotas 0 (omega arith) in omega (arith, e));
+  in_two_hands = λ h. (let e : 2 ≡ 1 = h.numbers.each_once 0 in omega (arith, e));
+  in_no_hand = λ h. (let e : 0 ≡ 1 = h.numbers.each_once 0 in omega (arith, e));
+  not_claimed = λ h. (let e : 1 ≡ 0 = h.numbers.each_once 0 in omega (arith, e));
+  limit_past_marks = λ h. (let e : 2 ≤ 1 = h.numbers.limits 1 _ refl in omega (arith, e));
+  record_not_packed = λ h. not_packed (h.numbers.packed 0);
+  recorded_in_hand = λ h. (let e : 2 ≡ 1 = h.numbers.each_once 0 in omega (arith, e));
+  start_elsewhere = λ h. (let e : point_word (at 6 5) ≡ point_word (at 5 5) = h.links.start in omega (arith, e));
+  child_of_no_node = λ h. (let e : Some 2 ≡ None = h.links.ways.empty 1 true (λ p. (let none : false ≡ true = p in cc)) in cc);
+  linked_too_early = λ h. (let e : 1 ≡ 0 = h.links.linked 0 in omega (arith, e));
+  not_linked = λ h. (let e : 0 ≡ 1 = h.links.linked 0 in omega (arith, e));
+  counted_too_early = λ h. (let e : 2 ≡ 1 = h.links.count in omega (arith, e));
+  not_counted = λ h. (let e : 1 ≡ 2 = h.links.count in omega (arith, e));
+  point_not_written = λ h. (let e : 0 ≡ point_word (at 8 9) = h.hands.written 0 _ refl (hand_at Pointed 0 0) refl refl in omega (arith, e));
+  point_elsewhere =
+      λ h. (let e : point_word (at 9 8) ≡ point_word (at 8 9) = h.hands.written 0 _ refl (hand_at Pointed 0 0) refl refl in omega (arith, e));
+  point_too_early = λ h. (let e : point_word (at 8 9) ≡ 0 = h.hands.blank 0 refl refl in omega (arith, e));
+  first_not_written =
+      λ h. (let e : 0 ≡ tree_word 0 1280 = (h.pairs.first 0 _ refl (hand_at Half 0 1280) refl refl).word in omega (arith, e));
+  first_too_early = λ h. (let e : tree_word 0 1280 ≡ 0 = h.pairs.no_first 0 refl refl in omega (arith, e));
+  tree_not_written = λ h. (let e : 0 ≡ tree_word 0 1280 = h.pairs.tree 0 _ refl (hand_at Treed 0 1280) refl refl refl in omega (arith, e));
+  tree_too_early = λ h. (let e : tree_word 0 1280 ≡ 0 = h.pairs.no_tree 0 refl refl in omega (arith, e));
+  cost_below_the_edge =
+      λ h. (let e : 0 + root_ceiling 1638400 ≤ 1279 = (h.pairs.first 0 _ refl (hand_at Half 0 1279) refl refl).hangs.above in omega (arith, e, edge));
+  cost_above_the_edge =
+      λ h. (let e : 1281 ≤ 0 + root_ceiling 1638400 = (h.pairs.first 0 _ refl (hand_at Half 0 1281) refl refl).below_first in omega (arith, e, edge));
+  below_itself = λ h. (h.pairs.first 0 _ refl (hand_at Half 1 1280) refl refl).hangs.other refl;
+  start_costs = λ h. (let e : 5 ≡ 0 = h.trees.order.start_cost in omega (arith, e));
+  start_below_another = λ h. (let e : 1 ≡ 0 = h.trees.order.start_parent in omega (arith, e));
+  other_bit_set = λ h. (let e : 2 ^ 63 + 2 ^ 62 ≡ 2 ^ 63 = (h.trees.written 0 refl).tree in omega (arith, e));
+  no_first_word_of_start = λ h. (let e : 0 ≡ tree_word 0 0 = h.trees.start_first in omega (arith, e));
+  costs_less_than_its_edge = λ h. (let e : 0 + root_ceiling 1638400 ≤ 1279 = (h.trees.order.hangs 0 refl).above in omega (arith, e, edge));
+  costs_more_than_at_first = λ h. (let e : 1281 ≤ 1280 = h.trees.first_costs.kept 1 refl in omega (arith, e));
+  turn_ahead = λ h. (let e : 1 ≡ 0 = (h.turns.members 1 _ refl 0 _ refl).turn in omega (arith, e));
+  worker_twice = λ h. (let e : 2 ≡ 1 = h.turns.in_one_crew 0 in omega (arith, e));
+  worker_of_no_run = λ h. (let e : 1 ≡ 0 = h.turns.in_one_crew 2 in omega (arith, e));
+  share_lost = λ h. (let e : 1 ≡ 2 = h.shares.add_up in omega (arith, e));
+  share_too_many = λ h. (let e : 3 ≡ 2 = h.shares.add_up in omega (arith, e));
+  hand_without_share = λ h. (let e : Some (new_hand 0) ≡ None = h.shares.idle 0 _ refl refl in cc);
+  saw_a_greater_count = λ h. (let e : 2 ≤ 1 = h.seen.behind 1 _ refl Count in omega (arith, e));
+  saw_no_such_child = λ h. neither 1 0 (λ e. omega (arith, e)) (h.seen.behind 1 _ refl (ChildOf 0 true));
+  saw_no_start = λ h. (let e : false ≡ true = (h.sights 1 _ refl refl).rooted.start in cc);
+  saw_start_at_a_cost = λ h. (let e : 5 ≡ 0 = ap (λ (p : ℕ × ℕ). p.1) ((h.seen_pairs 1 _ refl refl).start (0, 5) refl) in omega (arith, e));
+  took_more_than_it_sees = λ h. (let e : 2 ≤ 1 = h.seen.took 1 _ refl (Counter 0) in omega (arith, e));
+  counter_seen_by_none = λ h. neither 0 1 (λ e. omega (arith, e)) (one_of_two _ _ _ _ (h.copies (Counter 0) (omega arith)));
+  looked_later = λ h. (let e : 4 ≤ 3 = (of_run _ refl (h.of_run 1 _ refl)).looks Count in omega (arith, e));
+  found_zero_later = λ h. (let e : 4 ≤ 3 = (of_run _ refl (h.of_run 1 _ refl)).zero_looks (ChildOf 0 true) in omega (arith, e));
+  too_few_words = λ h. (let e : 13 ≡ 14 = (of_run _ refl (h.of_run 1 _ refl)).looked in omega (arith, e));
+  found_empty_when_filled = λ h. (let e : 3 ≤ 2 = h.empties.filled 0 true (λ zero. omega (arith, zero)) 1 _ refl in omega (arith, e));
+  noted_too_many_steps =
+      λ h. made_four (view_with (worker_at 0 0) 1 (Some (hand_at Linked 0 1280)) linked_table never (filled_at (3 ∷ 4 ∷ []))) (idle linked_table)
+      refl refl (h.empties.made 5 1);
+  best_of_no_goal_node = λ h. (let e : false ≡ true = (h.best.pair (λ e. omega (arith, e))).0 in cc);
+  best_of_no_node = λ h. (let e : false ≡ true = (h.best.pair (λ e. omega (arith, e))).0 in cc);
+  best_below_the_cost = λ h. (let e : 1280 ≤ 1279 = (h.best.pair (λ e. omega (arith, e))).1 in omega (arith, e));
+  recorded_goal_node_is_no_best = λ h. (let e : no_best ≤ best_word 1280 1 = h.best.placed 1 refl refl in omega (arith, e));
+  best_above_a_recorded_goal_node = λ h. (let e : best_word 1281 1 ≤ best_word 1280 1 = h.best.placed 1 refl refl in omega (arith, e));
+  saw_a_best_that_is_not = λ h. (let e : no_best ≤ best_word 1280 1 = (h.bests 0 _ refl refl).falls in omega (arith, e));
+  saw_no_goal_node_as_best = λ h. (let e : false ≡ true = ((h.bests 0 _ refl refl).pair (λ e. omega (arith, e))).0 in cc);
+  best_seen_by_none = λ h. neither no_best (best_word 1280 1) (λ e. omega (arith, e)) (one_of_two _ _ _ _ h.best_copy);
+  saw_recorded_goal_node_and_no_best = λ h. (let e : no_best ≤ best_word 1280 1 = (h.bests 1 _ refl refl).placed 1 refl refl in omega (arith, e));
+  took_no_goal_node =
+      λ h. (let e : false ≡ true = ((h.bests 0 _ refl refl).taken_pair (took_best (best_word 0 0)) (best_word 0 0) refl refl (λ e. omega (arith, e))).0 in cc);
+  posted_and_saw_no_best =
+      λ h. (let e : no_best ≤ best_word 1280 1 = (h.bests 0 _ refl refl).posted (hand_at Posted 0 1280) refl refl in omega (arith, e));
+  recorded_by_no_worker = λ h. (let e : 2 < 2 = h.records.own_workers 0 (placed_by 2 0 0 0 1280 1) refl (omega arith) in omega (arith, e));
+}

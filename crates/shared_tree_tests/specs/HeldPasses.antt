@@ -1,0 +1,3 @@
+-- Passes of the tests of plan_words.
+pub mod HeldMarks
+pub mod Sharers

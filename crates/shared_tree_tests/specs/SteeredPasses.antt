@@ -1,0 +1,2 @@
+-- Passes of the tests of kd_shared.
+pub mod HeldMarks

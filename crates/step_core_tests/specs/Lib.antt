@@ -1,3 +1,0 @@
-pub mod SmallWorlds
-pub mod SmallViews
-pub mod SmallRecords

@@ -1,3 +1,0 @@
-pub mod ReachedNodes
-pub mod PlacedHands
-mod WorkingPasses

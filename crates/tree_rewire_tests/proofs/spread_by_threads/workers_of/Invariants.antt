@@ -1,9 +1,0 @@
-use Rattle.std.specs.Prelude.{All}
-use Rattle.plan_words.specs.States.{MayClaim}
-use Rattle.tree_rewire_tests.proofs.spread_by_threads.workers_of.Given as goal
-
-abbrev pub invariant-passes : goal.invariant-passes
-invariant-passes l = record {
-  rest : All (MayClaim l.shared) l.passes.items;
-  made : All (λ worker. MayClaim l.shared worker.pass) l.workers.items;
-}

@@ -1,5 +1,0 @@
-use Rattle.tree_rewire_tests.proofs.WorkingPasses.{IsAtWork-claims}
-use Rattle.tree_rewire_tests.proofs.spread_informed.begun_to_goal.Goals as goal
-
-pub returns-clause-works : goal.returns-clause-works
-returns-clause-works g c = IsAtWork-claims c.begun_after.result.shared c.begun_after.result.pass c.begun_after.ensures.may_claim

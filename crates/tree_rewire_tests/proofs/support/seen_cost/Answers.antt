@@ -1,5 +1,0 @@
-use Rattle.tree_rewire.proofs.SeenCosts.{pair_low}
-use Rattle.tree_rewire_tests.proofs.support.seen_cost.Goals as goal
-
-pub pair-requires : goal.pair-requires
-pair-requires c = pair_low c.args.pass.now.view c.args.node c.requires.lawful c.requires.pair

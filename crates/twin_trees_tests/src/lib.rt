@@ -1,7 +1,0 @@
-//! Tests of `twin_trees` by its public calls. They are a crate of their own, so that the library is proved once.
-#![tactic(auto)]
-
-#[cfg(test)]
-mod twins;
-#[cfg(test)]
-mod workers;
