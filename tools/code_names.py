@@ -10,7 +10,7 @@ from collections import defaultdict
 from dataclasses import dataclass, field
 
 TOP = os.path.dirname(os.path.dirname(os.path.abspath(__file__)))
-FOLDERS = (".ci", "bindings", "crates", "docs", "examples", "tools")
+FOLDERS = (".ci", "bindings", "crates", "docs", "examples", "packaging", "tools")
 SKIPPED = {"out", "__pycache__"}
 NAME = r"[^\W\d][\w'-]*"
 

@@ -1,0 +1,90 @@
+#!/usr/bin/env python3
+"""Proves the commit of this checkout several times over, in other folders, and compares what is built byte for byte.
+
+Usage: release_proofs.py FOLDER WAY.. A way is `anew` or `kept`, and a number of processors: `anew4` proves from nothing
+by four, `kept2` takes what this machine kept of earlier proofs, by two. Each way has a clone of its own in FOLDER, the
+path of which has another length, and which is removed once it is proved. FOLDER/WAY keeps the programs and the static library,
+FOLDER/WAY.log what the gate wrote. A way that FOLDER has already is not gone again: they can be gone one at a time.
+
+It prints a line for each way and each file that differs, and ends with 1 if one does, or if a gate failed.
+"""
+
+import os
+import re
+import shutil
+import subprocess
+import sys
+import time
+from pathlib import Path
+
+from release_archive import NoRelease, sum_of
+from release_commit import commit_of, top_of
+from release_compare import compared, show
+from release_proof import LIBRARY, PROGRAMS, built, folder_of, prove
+from static_library import NotBuilt
+from usage import words_or_usage
+
+TOP = top_of(__file__)
+WAY = re.compile(r"(anew|kept)([1-9]\d?)")
+COMMIT, GATE = "commit", "gate.log"
+
+
+def clone_for(folder, kind, processors):
+    """A clone of this checkout, whose path has a length that no other way's has."""
+    clone = folder / f"{kind}-{'x' * (2 * processors + 31 * (kind == 'anew'))}"
+    shutil.rmtree(clone, ignore_errors=True)
+    subprocess.run(["git", "clone", "--quiet", TOP, clone], check=True)
+    subprocess.run(["git", "-C", clone, "checkout", "--quiet", commit_of(TOP)], check=True)
+    return clone
+
+
+def go(folder, way):
+    """Proves a clone in one way, and keeps what it built."""
+    kind, processors = WAY.fullmatch(way).groups()
+    os.environ["RT_JOBS"] = processors
+    clone, begun = clone_for(folder, kind, int(processors)), time.monotonic()
+    proved = prove(clone, ["--anew"] if kind == "anew" else [])
+    made = folder / f"{way}.new"
+    shutil.rmtree(made, ignore_errors=True)
+    made.mkdir()
+    for name in (*PROGRAMS, LIBRARY):
+        shutil.copy2(built(clone, name), made / Path(name).name)
+    shutil.copy2(folder_of(clone) / GATE, folder / f"{way}.log")
+    (made / COMMIT).write_text(f"{proved.commit}\n{proved.toolchain}\n{proved.gate}\n")
+    made.rename(folder / way)
+    shutil.rmtree(clone)
+    print(f"{way}: {proved.gate}, in {round(time.monotonic() - begun)} s, at a path of {len(str(clone))} characters")
+
+
+def main(folder, *ways):
+    folder = Path(folder).resolve()
+    wrong = [it for it in ways if not WAY.fullmatch(it)]
+    if wrong or not ways:
+        print(__doc__.strip(), file=sys.stderr)
+        return 2
+    folder.mkdir(parents=True, exist_ok=True)
+    for way in ways:
+        if not (folder / way).is_dir():
+            go(folder, way)
+        if (folder / way / COMMIT).read_text().splitlines()[0] != commit_of(TOP):
+            raise NoRelease(f"{folder / way} is of another commit: remove it")
+    return show_all(folder, ways)
+
+
+def show_all(folder, ways):
+    """Prints the sums of the first way, and what is not the same in another one."""
+    first, *others = ways
+    for path in sorted((folder / first).iterdir()):
+        print(f"{sum_of(path.read_bytes())}  {path.name}")
+    found = {way: compared(folder / first, folder / way)[0] for way in others}
+    for way, lines in found.items():
+        show([f"{way} differs from {first}:", *lines] if lines else [f"{way}: the same as {first}"])
+    return 1 if any(found.values()) else 0
+
+
+if __name__ == "__main__":
+    try:
+        sys.exit(main(*words_or_usage(__doc__)))
+    except (NoRelease, NotBuilt, OSError, subprocess.CalledProcessError) as fault:
+        print(f"release_proofs: {fault}", file=sys.stderr)
+        sys.exit(1)
