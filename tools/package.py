@@ -345,7 +345,7 @@ def stand_in(folder, program):
 def main(program, *libraries):
     """Looks at everything, and gives the exit status."""
     with tempfile.TemporaryDirectory() as folder:
-        shared = libraries[0] if libraries else stand_in(folder, Path(program).resolve())
+        shared = Path(libraries[0]).resolve() if libraries else stand_in(folder, Path(program).resolve())
         checks = Checks(Path(program).resolve(), shared)
         if shared:
             os.environ["KIMOREFO_LIB"] = str(shared)

@@ -47,7 +47,7 @@ static FILE *file_of(const uint8_t *text, size_t bytes) {
 }
 
 static uint32_t written(struct answer answer, uint8_t *room, size_t room_bytes, size_t *count, uint32_t *line, uint32_t *kind) {
-    *count = 0;
+    *count = *line = *kind = 0;
     if (answer.status == 3) sscanf(answer.bytes, "line %u kind %u", line, kind);
     if (answer.status <= 1) {
         *count = answer.count;
@@ -74,10 +74,11 @@ uint32_t kimorefo_check(const uint8_t *text, size_t text_bytes, const uint8_t *r
     FILE *both = file_of(text, text_bytes);
     if (both) fwrite("report\n", 1, 7, both), fwrite(report, 1, report_bytes, both), fflush(both);
     struct answer answer = run("check", NULL, NULL, both);
+    *line = *kind = *law = 0;
     if (answer.status == 1) sscanf(answer.bytes, "broken line %u law %u", line, law);
     if (answer.status == 3) sscanf(answer.bytes, "line %u kind %u", line, kind);
     free(answer.bytes);
     return answer.status;
 }
 
-uint32_t kimorefo_version(void) { return 900; }
+uint32_t kimorefo_version(void) { return 1000; }
