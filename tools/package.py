@@ -6,6 +6,7 @@ compiled here and runs the program, so that the calls of the package are tried. 
 - whether scenes, plans and errors are values, which are pickled, and whether scenes have the text that `show` writes;
 - whether reports by the program and in process are those of examples/, also with too little room, from several threads
   and after a fork; and whether `check` says what `check` says;
+- the best of several seeds, and limits of time;
 - whether each refusal has the line, the kind and the sentences that `explain.py` has, and each ending its error;
 - whether gamma is above the bound of Karaman and Frazzoli, and no more than a hundredth;
 - shapes of GeoJSON and Shapely, the error of each that does not fit, and grids, whose rectangles cover what they are to;
@@ -75,7 +76,7 @@ class Checks:
         try:
             call()
         except Exception as raised:
-            is_value = not issubclass(error, kimorefo.KimorefoError) or is_same(raised)
+            is_value = not issubclass(error, kimorefo.KimorefoError) or (is_same(raised) and is_kept(raised))
             self.note(what, f"{name}: {raised!r}", type(raised) is error and is_value)
             return raised
         self.note(what, name, False)
@@ -86,6 +87,17 @@ def is_same(value):
     """Whether a value is pickled and hashed as the same."""
     other = pickle.loads(pickle.dumps(value))
     return other == value and hash(other) == hash(value) and type(other) is type(value)
+
+
+def is_kept(value):
+    """Whether a value has a short form, and nothing of it can be set."""
+    for name in ("args", "room", "line"):
+        try:
+            setattr(value, name, ())
+            return False
+        except (FrozenInstanceError, AttributeError):
+            continue
+    return len(repr(value)) < 120 and "\n" not in repr(value)
 
 
 def output_of(checks, words, text):
@@ -101,12 +113,8 @@ def look_at_values(checks):
     real = kimorefo.plan(kimorefo.Scene.scaled("0.1", **REAL), program=checks.program, full=True)
     verdict = kimorefo.check(real.scene, real, program=checks.program)
     for value in (scene, plan, real.scene, real, verdict, plan.counts):
-        checks.note("a value", repr(value), is_same(value) and len(repr(value)) < 120)
-        try:
-            value.room = 1
-            checks.note("a value that stays", repr(value), False)
-        except (FrozenInstanceError, AttributeError):
-            checks.note("a value that stays", repr(value), True)
+        checks.note("a value", repr(value), is_same(value) and is_kept(value))
+    look_elsewhere(checks, [plan, real, kimorefo.Refused(3, 7, ("no",)), kimorefo.OutOfTime(2.5)])
     checks.note("a value", "another one", scene != replace(scene, seed=1) and kimorefo.Scene(**SMALL) == scene)
     checks.note("a plan", "in lattice steps", plan.points == plan.lattice_points and plan.length == plan.cost)
     ends = [(Fraction("0.5"), Fraction("0.5")), real.points[0]]
@@ -114,6 +122,15 @@ def look_at_values(checks):
     checks.note("a plan", "as a shape", real.__geo_interface__ == {"type": "LineString", "coordinates": real.floats})
     unchanged = kimorefo.Scene(**SMALL | {"marks": [(1, 2), (3, 4)], "informed": True, "clearance": 1})
     checks.note("a text", "read again", kimorefo.Scene.read(unchanged.text()) == unchanged)
+
+
+def look_elsewhere(checks, values):
+    """Looks what values tell that are unpickled where there is neither a library nor a program."""
+    told = "[(repr(v), hash(v) != 0, getattr(v, 'floats', 0), getattr(v, 'counts', 0), len(v.svg() if hasattr(v, 'svg') else '')) for v in values]"
+    code = f"import os, pickle, sys; values = pickle.load(sys.stdin.buffer); print({told}, os.environ.get('KIMOREFO_LIB'))"
+    env = {key: value for key, value in os.environ.items() if not key.startswith("KIMOREFO_")} | {"PYTHONPATH": str(PACKAGE)}
+    done = subprocess.run([sys.executable, "-c", code], input=pickle.dumps(values), capture_output=True, check=False, env=env)
+    checks.note("values elsewhere", done.stderr.decode()[-300:], done.stdout.decode() == f"{eval(told, {'values': values})} None\n")
 
 
 def look_at_examples(checks):
@@ -218,6 +235,49 @@ def look_in_process(checks):
     checks.note("a fork", "after use", os.waitpid(child, 0)[1] == 0)
 
 
+def look_at_seeds(checks):
+    """Looks at the best of several seeds, at seeds that lie apart, and at those that share samples."""
+    scene = kimorefo.Scene(**SMALL | {"seed": 2**64 - 1_500_000, "marks": 150})
+    seeds = kimorefo.seeds_apart(scene, 5)
+    checks.note("seeds", seeds, seeds == (2**64 - 1_500_000, 2**64 - 500_000, 500_000, 1_500_000, 2_500_000))
+    for smoothed, call in {False: kimorefo.plan, True: kimorefo.smooth}.items():
+        plans = [call(replace(scene, seed=seed), program=checks.program) for seed in seeds]
+        least = min(plan.cost for plan in plans if plan.found)
+        wanted = next(plan for plan in plans if plan.cost == least)
+        for words in [{"program": checks.program}, {"program": checks.program, "threads": 1, "seconds": 60}] + [{}] * bool(checks.shared):
+            checks.note("the best", f"{smoothed} {words}", kimorefo.best(scene, seeds, smoothed=smoothed, **words) == wanted)
+    walled = replace(scene, goals=((200, 200, 201, 201),))
+    first = kimorefo.plan(walled, program=checks.program)
+    checks.note("the best", "of none", kimorefo.best(walled, seeds, program=checks.program) == first and not first.found)
+    wrong = {"the same": (scene, [7, 7]), "near": (scene, [0, 149]), "near, round": (scene, [2**64 - 100, 0]), "none": (scene, [])}
+    wrong["listed marks"] = (replace(scene, marks=((1, 1),)), [0, 1])
+    for name, (own, given) in wrong.items():
+        checks.raises("wrong seeds", name, ValueError, lambda: kimorefo.best(own, given, program=checks.program))
+    checks.note("seeds", "as near as may be", kimorefo.best(scene, [0, 150], program=checks.program).found)
+    for count in (0, 2**64 // 1_000_000 + 1):
+        checks.raises("wrong seeds", count, ValueError, lambda: kimorefo.seeds_apart(scene, count))
+
+
+def look_at_time(checks):
+    """Looks at limits of time."""
+    scene = kimorefo.Scene(**SMALL | {"marks": 262_143})
+    plan = kimorefo.plan(kimorefo.Scene(**SMALL), program=checks.program, seconds=60)
+    checks.note("a limit of time", "ample", plan == kimorefo.plan(kimorefo.Scene(**SMALL), program=checks.program))
+    calls = {
+        "plan": lambda seconds: kimorefo.plan(scene, program=checks.program, seconds=seconds),
+        "smooth": lambda seconds: kimorefo.smooth(scene, program=checks.program, workers=2, seconds=seconds),
+        "check": lambda seconds: kimorefo.check(plan.scene, "#" * 10**7, program=checks.program, seconds=seconds / 100),
+        "best": lambda seconds: kimorefo.best(scene, [0, 10**6, 10**7], program=checks.program, seconds=seconds),
+    }
+    for name, call in calls.items():
+        raised = checks.raises("a limit of time", name, kimorefo.OutOfTime, lambda: call(0.05))
+        checks.note("a limit of time", f"{name}: {raised!r}", raised is not None and raised.seconds in (0.05, 0.0005))
+    for seconds in (0, -1, math.inf, math.nan):
+        checks.raises("a wrong limit", seconds, ValueError, lambda: calls["plan"](seconds))
+    with mock.patch.dict(os.environ, {"KIMOREFO_PROGRAM": ""}):
+        checks.raises("a limit of time", "no program", kimorefo.NoPlanner, lambda: kimorefo.plan(scene, seconds=1))
+
+
 def look_at_defaults(checks):
     """Looks at step and gamma against the bound: gamma root(ln n / n) above root(3 A / pi), for all numbers of nodes."""
     rng = random.Random("defaults")
@@ -316,7 +376,7 @@ def look_at_page(checks, folder):
     checks.note("the program of the page", done.stderr.decode()[-300:], done.stdout.decode() == printed)
     ElementTree.parse(Path(folder) / "hall.svg")
     forms = {PACKAGE / "pyproject.toml": r'^version = "(.*)"', HERE.parent / "CHANGELOG.md": r"^## (\d\S*)"}
-    versions = {re.search(form, file.read_text(encoding="utf-8"), re.MULTILINE)[1] for file, form in forms.items()}
+    versions = {re.search(form, file.read_text(encoding="utf-8"), re.MULTILINE)[1] for file, form in forms.items()} | {kimorefo.__version__}
     checks.note("the version", versions, len(versions) == 1)
 
 
@@ -326,6 +386,8 @@ LOOKS = (
     look_at_refusals,
     look_at_endings,
     look_in_process,
+    look_at_seeds,
+    look_at_time,
     look_at_defaults,
     look_at_shapes,
     look_at_grids,

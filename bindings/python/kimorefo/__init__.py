@@ -8,8 +8,10 @@ from .errors import (
     KimorefoError,
     NoMemory,
     NoPlanner,
+    NoReport,
     NotAShape,
     NotFinite,
+    OutOfTime,
     PlannerFailed,
     Refused,
     ShapeError,
@@ -23,6 +25,7 @@ from .errors import (
 from .frames import Frame
 from .plans import Plan, Verdict
 from .scenes import Scene
+from .seeds import best, seeds_apart
 
 __all__ = [
     "CrossesItself",
@@ -32,8 +35,10 @@ __all__ = [
     "KimorefoError",
     "NoMemory",
     "NoPlanner",
+    "NoReport",
     "NotAShape",
     "NotFinite",
+    "OutOfTime",
     "Plan",
     "PlannerFailed",
     "Refused",
@@ -46,7 +51,10 @@ __all__ = [
     "UnitTooLarge",
     "UnitTooSmall",
     "Verdict",
+    "best",
     "check",
     "plan",
+    "seeds_apart",
     "smooth",
 ]
+__version__ = "0.10.0"

@@ -17,31 +17,43 @@ from .scenes import Scene, refused
 
 ProgramPath = str | os.PathLike[str] | None
 MOST_WORKERS = 64
+MOST_SECONDS = 10_000_000
 # What a report begins with, by the status.
 BEGINS = {0: b"path ", 1: b"no path\n"}
 
 
-def plan(scene: Scene, *, workers: int = 1, full: bool = False, program: ProgramPath = None) -> Plan:
+def plan(
+    scene: Scene,
+    *,
+    workers: int = 1,
+    full: bool = False,
+    program: ProgramPath = None,
+    seconds: float | None = None,
+) -> Plan:
     """The plan of a scene. A full one has the tree, too.
 
-    One worker plans in this process, if the library is at KIMOREFO_LIB or beside the package, and no path of a program
-    is given. Several do by the program, at that path, at KIMOREFO_PROGRAM, or beside the package. With several
-    workers the tree may differ from call to call.
+    One worker plans in this process, if the library is at KIMOREFO_LIB or beside the package, and neither a path of a
+    program nor `seconds` is given. Else the program plans, at that path, at KIMOREFO_PROGRAM, or beside the package; it
+    is ended after so many seconds (`OutOfTime`). With several workers the tree may differ from call to call.
     """
-    return planned(scene, "plan full" if full else "plan", workers, program)
+    return planned(scene, "plan full" if full else "plan", workers, program, seconds)
 
 
-def smooth(scene: Scene, *, workers: int = 1, program: ProgramPath = None) -> Plan:
+def smooth(
+    scene: Scene, *, workers: int = 1, program: ProgramPath = None, seconds: float | None = None
+) -> Plan:
     """As `plan`, with the path shortened: the cheapest clear path over some of its points."""
-    return planned(scene, "smooth", workers, program)
+    return planned(scene, "smooth", workers, program, seconds)
 
 
-def check(scene: Scene, report: str | bytes | Plan, *, program: ProgramPath = None) -> Verdict:
+def check(
+    scene: Scene, report: str | bytes | Plan, *, program: ProgramPath = None, seconds: float | None = None
+) -> Verdict:
     """Whether a full report is that of a lawful run of a scene, whoever planned it."""
     text, given = scene.text().encode(), report_bytes(report)
     whole = text + b"report\n" + given
     in_process = lambda at: library.checked(at, text, given)
-    ending = ended(1, program, in_process, lambda at: programs.run(at, "check", whole))
+    ending = ended(1, program, seconds, in_process, lambda at: programs.run(at, "check", whole, seconds))
     if ending.status == 0:
         return Verdict(True)
     if ending.status == 1 and ending.law:
@@ -55,7 +67,7 @@ def report_bytes(report: str | bytes | Plan) -> bytes:
     return text.encode("utf-8", "surrogateescape") if isinstance(text, str) else text
 
 
-def planned(scene: Scene, words: str, workers: int, program: ProgramPath) -> Plan:
+def planned(scene: Scene, words: str, workers: int, program: ProgramPath, seconds: float | None) -> Plan:
     """The plan that `plan`, `plan full` or `smooth` writes of a scene."""
     if not 1 <= workers <= MOST_WORKERS:
         raise ValueError(f"there are 1 to {MOST_WORKERS} workers, not {workers}")
@@ -64,17 +76,23 @@ def planned(scene: Scene, words: str, workers: int, program: ProgramPath) -> Pla
     verb, *full = words.split()
     command = " ".join([verb, str(workers), *full])
     in_process = lambda at: library.planned(at, words, text, marks)
-    ending = ended(workers, program, in_process, lambda at: programs.run(at, command, text))
+    ending = ended(workers, program, seconds, in_process, lambda at: programs.run(at, command, text, seconds))
     if ending.status in BEGINS and ending.written.startswith(BEGINS[ending.status]):
         return Plan(scene, ending.written.decode("ascii"))
     raise fault_of(scene, text, ending, len(text))
 
 
 def ended(
-    workers: int, program: ProgramPath, in_process: Callable[[Path], Ending], by_program: Callable[[Path], Ending]
+    workers: int,
+    program: ProgramPath,
+    seconds: float | None,
+    in_process: Callable[[Path], Ending],
+    by_program: Callable[[Path], Ending],
 ) -> Ending:
-    """How a call ends in this process if it can, or else by the program."""
-    shared = library.path() if workers == 1 and program is None else None
+    """How a call ends in this process if it can, or else by the program: alone that can be ended in time."""
+    if seconds is not None and not 0 < seconds < MOST_SECONDS:
+        raise ValueError(f"a call has more than 0 seconds, and less than {MOST_SECONDS:,}, not {seconds}")
+    shared = library.path() if workers == 1 and program is None and seconds is None else None
     if shared:
         try:
             return in_process(shared)
@@ -82,7 +100,8 @@ def ended(
             raise NoPlanner(f"{shared} could not be loaded: {fault}") from None
     at = programs.path(program)
     if at is None:
-        wanted = f"program {programs.NAME}" if workers > 1 else f"library {library.NAME} and no program {programs.NAME}"
+        needs_program = workers > 1 or seconds is not None
+        wanted = f"program {programs.NAME}" if needs_program else f"library {library.NAME} and no program {programs.NAME}"
         raise NoPlanner(f"there is no {wanted} beside the package: set KIMOREFO_LIB, or give `program`")
     return by_program(at)
 

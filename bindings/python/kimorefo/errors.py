@@ -2,6 +2,8 @@
 
 from .scene_text import KINDS
 
+MOST_SHOWN = 80
+
 
 class KimorefoError(Exception):
     """What all errors of the package are."""
@@ -11,6 +13,10 @@ class KimorefoError(Exception):
 
     def __hash__(self) -> int:
         return hash((type(self), self.args))
+
+    def __repr__(self) -> str:
+        head = str(self).partition("\n")[0]
+        return f"<{type(self).__name__}: {head if len(head) <= MOST_SHOWN else head[: MOST_SHOWN - 2] + '..'}>"
 
     def __setattr__(self, name: str, value: object) -> None:
         if not name.startswith("__"):
@@ -69,6 +75,25 @@ class StartBlocked(KimorefoError, ValueError):
 
 class NoMemory(KimorefoError, MemoryError):
     """The planner found too little memory."""
+
+
+class OutOfTime(KimorefoError, TimeoutError):
+    """A call has not ended in the seconds that it was given."""
+
+    def __init__(self, seconds: float):
+        super().__init__(seconds)
+
+    @property
+    def seconds(self) -> float:
+        """The seconds that it was given."""
+        return self.args[0]
+
+    def __str__(self) -> str:
+        return f"the planner has not ended in {self.seconds:g} seconds"
+
+
+class NoReport(KimorefoError, ValueError):
+    """A text is no report, or not that of its scene, for this reason."""
 
 
 class NoPlanner(KimorefoError, RuntimeError):

@@ -7,7 +7,7 @@ import re
 import subprocess
 from pathlib import Path
 
-from .errors import NoPlanner
+from .errors import NoPlanner, OutOfTime
 from .library import BESIDE, Ending
 
 NAME = "planner_main"
@@ -30,10 +30,12 @@ def path(given: str | os.PathLike[str] | None = None) -> Path | None:
     return at if at.exists() else None
 
 
-def run(at: Path, words: str, text: bytes) -> Ending:
-    """How the program ends by some words over a text."""
+def run(at: Path, words: str, text: bytes, seconds: float | None = None) -> Ending:
+    """How the program ends by some words over a text, in so many seconds."""
     try:
-        done = subprocess.run([at.resolve(), *words.split()], input=text, capture_output=True, check=False)
+        done = subprocess.run([at.resolve(), *words.split()], input=text, capture_output=True, check=False, timeout=seconds)
+    except subprocess.TimeoutExpired:
+        raise OutOfTime(seconds or 0) from None
     except OSError as fault:
         raise NoPlanner(f"{at} could not be run: {fault.strerror}") from None
     refused, broken = REFUSED.fullmatch(done.stdout), BROKEN.fullmatch(done.stdout)

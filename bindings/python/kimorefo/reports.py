@@ -8,6 +8,7 @@ report is lawful.
 import re
 from dataclasses import dataclass, field
 
+from .errors import NoReport
 from .geometry import is_clear_at
 
 N = r"(0|[1-9][0-9]*)"
@@ -39,10 +40,6 @@ def fit(match, *limits):
         return None
     numbers = list(map(int, words))
     return numbers if all(number < limit for number, limit in zip(numbers, limits)) else None
-
-
-class NoReport(Exception):
-    """A text is no report, or not that of its scene, for this reason."""
 
 
 @dataclass(frozen=True)
