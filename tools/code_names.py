@@ -16,7 +16,7 @@ NAME = r"[^\W\d][\w'-]*"
 
 RUST = "static match bool char str u8 u16 u32 u64 u128 usize i32 i64 i128 assert assert_eq prove".split()
 
-ITEM = re.compile(r"(pub(?:\(\w+\))? )?(?:const |unsafe )*(fn|struct|enum|trait|type|static|const|mod) (\w+)")
+ITEM = re.compile(r"(pub(?:\(\w+\))? )?(?:const |unsafe |extern \S+ )*(fn|struct|enum|trait|type|static|const|mod) (\w+)")
 IMPL = re.compile(r"impl\b(?:<.*?>)? ?(?:.*? for )?&?(?:mut )?(\w+)")
 CLAUSE = re.compile(r"(ensures|requires)(?: (\w+))? \{(.*)")
 MEMBER = re.compile(r"(?:pub(?:\(\w+\))? )?(?:ghost )?(\w+)\b")
