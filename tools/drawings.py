@@ -181,7 +181,7 @@ class Look:
         scenes, lines = scenes_of(text), report.splitlines(keepends=True)
         for i, line in enumerate(lines):
             others = (b"junk\n", line.replace(b" ", b"  ", 1), b"0" + line, line[:-1] + b" 0\n")
-            said = [refusal(b"".join([*lines[:i], other, *lines[i + 1 :]]), scenes) for other in others]
+            said = [refusal(b"".join([*lines[:i], other, *lines[i + 1 :]]), scenes) for other in others if other != line]
             self.note(name, [f"line {i + 1} is spoiled: {own}" for own in said if f"line {i + 1} " not in own])
             self.refusals += len(others)
 
@@ -200,7 +200,7 @@ def look_at_examples(look):
     for path in sorted(EXAMPLES.glob("*.scene")):
         look.look_at_all(path.stem, path.read_bytes(), WORDS)
         for report in sorted(EXAMPLES.glob(f"{path.stem}.*")):
-            if report.suffix in (".report", ".smooth", ".anytime", ".twin"):
+            if report.suffix in (".report", ".smooth", ".anytime", ".watch", ".twin"):
                 look.look(report.name, path.read_bytes(), report.read_bytes())
     look.look_at_all("starts.batch", example("starts.batch"), ["batch 1 1"])
     look.look("starts.report", example("starts.batch"), example("starts.report"))
@@ -235,6 +235,7 @@ def look_at_refusals(look):
     pairs = {name: (example(f"{name}.scene"), example(f"{name}.report")) for name in ("rewired", "no-path")}
     pairs |= {name: (example(f"{name}.scene"), look.planned("plain full", example(f"{name}.scene"))) for name in FULL}
     pairs["anytime"] = example("rewired.scene"), example("rewired.anytime")
+    pairs["watch"] = example("rewired.scene"), example("rewired.watch")
     pairs["twin"] = example("berth.scene"), example("berth.twin")
     pairs["batch"] = example("starts.batch"), example("starts.report")
     for name, (text, report) in pairs.items():

@@ -1,20 +1,21 @@
 #!/usr/bin/env python3
 """Runs a built program with a fault in each run, and prints a table of how the runs ended.
 
-Usage: faults.py PROGRAM [WORDS..]. The words are those of a command that reads a scene; without them it is `plan 2`, `plan 2 full`,
-`smooth 1`, `anytime 1 1`, `twin 1`, `batch 1 1`, `check` and, for memory and threads alone, `plan 64 full`. Two scenes are read: the one
+Usage: faults.py PROGRAM WATCH [WORDS..]. WATCH is the program of `watch`. The words are those of a command that reads a scene; without
+them it is `plan 2`, `plan 2 full`, `smooth 1`, `anytime 1 1`, `watch 1 1`, `twin 1`, `batch 1 1`, `check` and, for memory and threads
+alone, `plan 64 full`. Two scenes are read: the one
 of docs/report-format.md that is rewired, and examples/pillars.scene with few marks; by `check` each with its report of one worker. One
 call in a run fails, or that call and all later ones of its kind: an allocation, a read, a write, or the making of a thread; each call
 in turn, until there is none of that number. Then reads and writes move one byte each, and each of them fails in turn. At last the
 streams are broken from the first: closed, a folder to read from, a full device, a pipe that nobody reads.
 
 A report is held to judge.py, a short one as far as it shows; of a command without workers, of `smooth 1`,
-`anytime 1 1`, `twin 1`, `batch 1 1` and `check`, it is the one without a fault. A run with a fault is right if
+`anytime 1 1`, `watch 1 1`, `twin 1`, `batch 1 1` and `check`, it is the one without a fault. A run with a fault is right if
 
-- a refused allocation gives `no memory` with 7 and nothing before it, or nothing at all with 7 if nothing was read (there was no
+- a refused allocation gives `no memory` with 7 and nothing before it but whole blocks of `watch`, or nothing at all with 7 if nothing was read (there was no
   memory for the words of the command line), or a whole report: it did without, as without a thread;
 - a failed read gives `read fault` with 5;
-- a failed write gives 6; what was written and what that write was handed are together a whole report;
+- a failed write gives 6; what was written and what that write was handed are together a whole report, or whole blocks of `watch`;
 - a refused thread, and moving one byte at a time, give a whole report.
 
 It ends with 1 if a run was not. It needs `cc`, for `faults.c`, and the GNU C library.
@@ -44,6 +45,7 @@ mark 40 30
 """
 FEW_MARKS = 20
 EVER = (1 << 31) - 1
+NO_MEMORY = b"no memory\n"
 ENDS = ("whole", "no memory", "no words", "read fault", "cut", "wrong")
 
 
@@ -70,6 +72,7 @@ COMMANDS = [
     (["plan", "64", "full"], FAULTS_OF_MANY),
     (["smooth", "1"], FAULTS),
     (["anytime", "1", "1"], FAULTS),
+    (["watch", "1", "1"], FAULTS),
     (["twin", "1"], FAULTS),
     (["batch", "1", "1"], FAULTS),
     (["check"], FAULTS),
@@ -90,12 +93,15 @@ class Ending:
 class Faults:
     """A command on a scene, whose calls are made to fail."""
 
-    def __init__(self, library, command, text):
-        self.library, self.command = library, command
-        self.text = with_report(command[0], text) if command[1] == "check" else text
+    def __init__(self, library, programs, words, text):
+        program, watch = programs
+        self.library, self.words = library, words
+        self.command = [watch, *words[1:]] if words[0] == "watch" else [program, *words]
+        self.text = with_report(program, text) if words[0] == "check" else text
         self.scene = read(text)
         whole = self.run(Fault("none"), 0)
-        self.report = None if command[1] == "plan" else (whole.status, whole.output)
+        self.report = None if words[0] == "plan" else (whole.status, whole.output)
+        self.starts = starts_of(whole.output) if words[0] == "watch" else {b""}
         self.is_sound = self.is_whole(whole.status, whole.output)
 
     def run(self, fault, number):
@@ -126,20 +132,21 @@ class Faults:
             return status in (None, self.report[0]) and output == self.report[1]
         if status not in (None, 1 if output.startswith(b"no path\n") else 0):
             return False
-        return verdict(self.scene, output.decode(errors="replace"), self.command[-1] == "full") == "lawful"
+        return verdict(self.scene, output.decode(errors="replace"), self.words[-1] == "full") == "lawful"
 
     def end_of(self, fault, ending):
         """Which of `ENDS` a run with this fault has come to."""
         status, output = ending.status, ending.output
         if fault.kind == "alloc":
-            if status == 7 and output == b"no memory\n":
+            if status == 7 and output.endswith(NO_MEMORY) and output.removesuffix(NO_MEMORY) in self.starts:
                 return "no memory"
             if status == 7 and not output and ending.bytes_read == 0:
                 return "no words"
         if fault.kind == "read":
             return "read fault" if (status, output) == (5, b"read fault\n") else "wrong"
         if fault.kind == "write":
-            is_cut = status == 6 and ending.handed and self.is_whole(None, output + ending.handed)
+            all_of_it = output + ending.handed
+            is_cut = status == 6 and ending.handed and (all_of_it in self.starts or self.is_whole(None, all_of_it))
             return "cut" if is_cut else "wrong"
         return "whole" if self.is_whole(status, output) else "wrong"
 
@@ -198,6 +205,12 @@ def scenes():
     return {"rewired": REWIRED, "pillars": pillars.text().encode()}
 
 
+def starts_of(output):
+    """What the blocks of an output come to, one after another: none of them, the first, and so on."""
+    blocks = output.split(b"\n\n")[:-1]
+    return {b"".join(block + b"\n\n" for block in blocks[:count]) for count in range(len(blocks) + 1)}
+
+
 def with_report(program, text):
     """The text of a scene with its report of one worker after it."""
     done = subprocess.run([program, "plan", "1", "full"], input=text, capture_output=True, check=False, timeout=600)
@@ -226,7 +239,7 @@ def check(faults, name, words, kinds):
     return wrong
 
 
-def main(program, *words):
+def main(program, watch, *words):
     """Prints a line for each scene, command and fault, and gives the exit status."""
     print(f"{'scene':8} {'command':13} {'fault':22} {'runs':>5} " + " ".join(f"{end:>10}" for end in ENDS))
     wrong = 0
@@ -234,7 +247,7 @@ def main(program, *words):
         library = compiled(folder)
         for name, text in scenes().items():
             for command, kinds in [(list(words), FAULTS)] if words else COMMANDS:
-                wrong += check(Faults(library, [program, *command], text), name, command, kinds)
+                wrong += check(Faults(library, (program, watch), command, text), name, command, kinds)
     print(f"{wrong} wrong")
     return 1 if wrong else 0
 

@@ -1,9 +1,9 @@
 #!/usr/bin/env python3
 """Tries the launcher `prrt` of this checkout: it refuses what a built program refuses, and builds exactly if it has to.
 
-Usage: launcher.py PROGRAM [SHELL..]. SHELL runs the launcher, as `dash` or `bash --posix`; left out, it is the one that
+Usage: launcher.py PROGRAM WATCH [SHELL..]. WATCH is the program of `watch`. SHELL runs the launcher, as `dash` or `bash --posix`; left out, it is the one that
 the launcher names. Nothing is proved: the launcher is copied into small checkouts, in which a stand-in for `rt` makes
-the program by copying PROGRAM.
+a program by copying PROGRAM or WATCH.
 
 - Over words near the edges of the table of commands, and over drawn ones, launcher and program end with the same status
   and write the same. What the program refuses is tried where nothing is built yet, and must not begin a build.
@@ -41,9 +41,15 @@ def shown(words):
     return " ".join(repr(word[:MOST_SHOWN])[1:] for word in words) or "no words"
 
 
-def compared(trees, program, words):
+def command_of(programs, words):
+    """The program that the launcher calls for the words, with those that it gets."""
+    program, watch = programs
+    return [watch, *words[1:]] if words[:1] == (b"watch",) else [program, *words]
+
+
+def compared(trees, programs, words):
     """Whether the program takes the words, and what the launcher did otherwise, if anything."""
-    done = subprocess.run([program, *words], input=NO_PATH, capture_output=True, timeout=SECONDS, check=False)
+    done = subprocess.run(command_of(programs, words), input=NO_PATH, capture_output=True, timeout=SECONDS, check=False)
     is_taken = (done.returncode, done.stdout) != REFUSED
     ending = trees[is_taken].call(*words, text=NO_PATH)
     is_told = not ending.said if is_taken else ending.said.startswith(("prrt: ", "Usage: "))
@@ -53,14 +59,14 @@ def compared(trees, program, words):
     return is_taken, f"{shown(words)}: {told} in place of {done.returncode}, {done.stdout[:MOST_SHOWN]!r}"
 
 
-def check_words(trees, program):
-    """Compares launcher and program on words of each kind, and gives how many were wrong."""
+def check_words(trees, programs):
+    """Compares launcher and programs on words of each kind, and gives how many were wrong."""
     rng = random.Random(SEED)
     drawn = (drawn_words(rng) for _ in range(DRAWN))
     all_faults = []
     for kind, words in {"at the edges": edge_words(), "with each byte": byte_words(), "drawn": drawn}.items():
         with ThreadPoolExecutor(os.cpu_count()) as pool:
-            found = list(pool.map(lambda some: compared(trees, program, some), dict.fromkeys(words)))
+            found = list(pool.map(lambda some: compared(trees, programs, some), dict.fromkeys(words)))
         taken = sum(is_taken for is_taken, _ in found)
         faults = [fault for _, fault in found if fault]
         print(f"words {kind}: {len(found)}, {taken} of them taken, {len(faults)} wrong")
@@ -69,12 +75,12 @@ def check_words(trees, program):
     return len(all_faults)
 
 
-def wrong_words(program, shell):
+def wrong_words(programs, shell):
     """How many words were wrong, one more if a build began."""
     with tempfile.TemporaryDirectory() as bare, tempfile.TemporaryDirectory() as built:
-        trees = {False: Tree(bare, program, shell), True: Tree(built, program, shell)}
+        trees = {False: Tree(bare, programs, shell), True: Tree(built, programs, shell)}
         trees[True].place_program()
-        wrong = check_words(trees, program)
+        wrong = check_words(trees, programs)
         try:
             trees[False].stays_unbuilt()
         except Wrong:
@@ -83,27 +89,28 @@ def wrong_words(program, shell):
         return wrong
 
 
-def fault_of(program, shell, name):
+def fault_of(programs, shell, name):
     """What is wrong with a case, tried in a checkout of its own."""
     with tempfile.TemporaryDirectory() as folder:
         try:
-            CASES[name](Tree(folder, program, shell))
+            CASES[name](Tree(folder, programs, shell))
         except (Wrong, subprocess.TimeoutExpired) as wrong:
             return str(wrong)
     return ""
 
 
-def wrong_cases(program, shell):
+def wrong_cases(programs, shell):
     """How many cases were wrong. Each has its own process: no file that it writes is open in the children of others."""
     with ProcessPoolExecutor() as pool:
-        faults = list(pool.map(fault_of, repeat(program), repeat(shell), CASES))
+        faults = list(pool.map(fault_of, repeat(programs), repeat(shell), CASES))
     for name, fault in zip(CASES, faults):
         print(f"{name}: wrong, not so: {fault}" if fault else f"{name}: right")
     return sum(map(bool, faults))
 
 
-def main(program, *shell):
-    words, cases = wrong_words(program, shell), wrong_cases(program, shell)
+def main(program, watch, *shell):
+    programs = program, watch
+    words, cases = wrong_words(programs, shell), wrong_cases(programs, shell)
     print(f"{words} words and {cases} of {len(CASES)} cases wrong")
     return 1 if words or cases else 0
 

@@ -8,7 +8,7 @@ import subprocess
 import time
 
 from launcher_tree import KIT, SECONDS, expect, path_without, write
-from statuses import FOUND, PATH
+from statuses import FOUND, PATH, WATCHED
 
 SOURCE = "crates/lowest/src/part/more.rt"
 NOTHING_BUILT = 70
@@ -289,6 +289,18 @@ def program_of_gate(tree):
     planned(tree, True)
 
 
+def watch_apart(tree):
+    """`watch` is another program, which is built by itself, and has a record of its own."""
+    planned(tree, True)
+    for builds in (True, False):
+        ending = tree.call("watch", "1", text=FOUND)
+        expect(f"watched: {ending}", (ending.status, ending.written, ending.has_built) == (0, WATCHED, builds))
+    append(tree, "crates/upper/src/lib.rt")
+    planned(tree, False)
+    expect("built again", tree.call("watch", "1", "1", text=FOUND).has_built)
+    planned(tree, False)
+
+
 def called_by_link(tree):
     link = f"{tree.folder}/bin/planner"
     os.symlink(tree.file("prrt"), link)
@@ -325,5 +337,6 @@ CASES = {
     "another toolchain builds nothing": other_toolchain,
     "no toolchain": no_toolchain,
     "a program of the gate": program_of_gate,
+    "`watch` is built by itself": watch_apart,
     "a call by a link": called_by_link,
 }

@@ -6,9 +6,9 @@ import subprocess
 from dataclasses import dataclass
 
 TOP = os.path.dirname(os.path.dirname(os.path.abspath(__file__)))
-# The program is built from all crates but the last.
-CRATES_TEXT = "planner_main: middle arrayvec\nmiddle: lowest\nlowest:\nother: middle\n"
-CRATES = ("planner_main", "middle", "lowest", "other")
+# The program is built from the first three crates, that of `watch` from all but the last.
+CRATES_TEXT = "planner_main: middle arrayvec\nmiddle: lowest\nlowest:\nplan_watch: upper\nupper: middle\nother: middle\n"
+CRATES = ("planner_main", "middle", "lowest", "plan_watch", "upper", "other")
 CHANGES = "# Changes\n\n## Unreleased\n\n## 1.2.3 - 2026-11-30\n\n## 1.2.2\n"
 KIT = "a-kit logic 0123456789abcdef"
 SECONDS = 60
@@ -20,8 +20,11 @@ case $1 in
     run)
         shift 2
         eval "$STEP" || exit
-        mkdir -p out && cp "$PROGRAM" out/planner_main.new && mv out/planner_main.new out/planner_main || exit
-        exec out/planner_main "$@"
+        name=${PWD##*/}
+        made=$PROGRAM
+        [ "$name" = planner_main ] || made=$WATCH
+        mkdir -p out && cp "$made" "out/$name.new" && mv "out/$name.new" "out/$name" || exit
+        exec "out/$name" "$@"
         ;;
 esac
 """
@@ -77,11 +80,12 @@ def path_without(command):
 class Tree:
     """A checkout in a folder. Its path has characters that a shell could take for its own."""
 
-    def __init__(self, folder, program, shell=()):
+    def __init__(self, folder, programs, shell=()):
         self.folder, self.shell = folder, list(shell)
+        program, watch = map(os.path.abspath, programs)
         self.top = f"{folder}/a 'tree' of [its] own*"
         self.calls = f"{folder}/calls"
-        self.env = os.environ | {"PROGRAM": os.path.abspath(program), "CALLS": self.calls}
+        self.env = os.environ | {"PROGRAM": program, "WATCH": watch, "CALLS": self.calls}
         self.env |= {"KIT": KIT, "STEP": ":", "STEP_AFTER_SUM": ":", "PATH": f"{folder}/bin:{path_without('rt')}"}
         write(f"{folder}/bin/rt", RT, 0o755)
         write(f"{folder}/bin/sha256sum", SHA256SUM.format(sha256sum=shutil.which("sha256sum")), 0o755)
@@ -100,10 +104,15 @@ class Tree:
     def program(self):
         return self.file("crates/planner_main/out/planner_main")
 
+    @property
+    def watch(self):
+        return self.file("crates/plan_watch/out/plan_watch")
+
     def place_program(self):
-        """Puts the program where a build would, and no record, as `rt ci` does."""
-        os.makedirs(os.path.dirname(self.program), exist_ok=True)
-        shutil.copy(self.env["PROGRAM"], self.program)
+        """Puts the program where a build would, and that of `watch`, and no record, as `rt ci` does."""
+        for program, name in ((self.program, "PROGRAM"), (self.watch, "WATCH")):
+            os.makedirs(os.path.dirname(program), exist_ok=True)
+            shutil.copy(self.env[name], program)
 
     def command(self, *words):
         """The command that calls the launcher."""

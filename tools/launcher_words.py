@@ -10,6 +10,8 @@ ROWS = (
     ("plan", "W", "full"),
     ("smooth", "W"),
     ("anytime", "W", "S"),
+    ("watch", "W"),
+    ("watch", "W", "S"),
     ("batch", "W", "S"),
     ("twin", "W"),
     ("check",),

@@ -361,6 +361,11 @@ def wrong_legend(root, panels):
     return [] if words == kinds else [f"a legend of {', '.join(sorted(words))}"]
 
 
+def last_path_alone(report):
+    """The report without the paths of earlier blocks of `watch`."""
+    return re.sub(r"^path .*\n(?:\d+ \d+\n)+\n(?=better )", "", report, flags=re.M)
+
+
 def wrong_picture(picture, scenes, reports):
     """What is wrong with the picture of some scenes and what their reports say, each perhaps nothing."""
     root = ElementTree.fromstring(picture)
@@ -368,7 +373,7 @@ def wrong_picture(picture, scenes, reports):
     wrong = unfit_numbers(root) + unfit_texts(root) + outside(root, inner_box(root)) + wrong_legend(root, panels)
     if len(panels) != len(scenes):
         return [*wrong, f"{len(panels)} rooms in place of {len(scenes)}"]
-    for (panel, chart), scene, report in zip(panels, scenes, reports):
+    for (panel, chart), scene, report in zip(panels, scenes, map(last_path_alone, reports)):
         frame = panel.frame("room", (0, 0), scene.room)
         wrong += wrong_ground(panel, scene, frame) + wrong_marks(panel, scene, frame) + wrong_ticks(panel, frame)
         wrong += wrong_size(panel, scene, frame) + wrong_words(panel, report)

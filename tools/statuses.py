@@ -1,9 +1,9 @@
 #!/usr/bin/env python3
 """Runs a built program over inputs that end with each of its statuses, and compares the status and what is written.
 
-Usage: statuses.py PROGRAM. The inputs are scenes of a few lines, words that ask for no command, a word that is no text,
+Usage: statuses.py PROGRAM WATCH. WATCH is the program of `watch`. The inputs are scenes of a few lines, words that ask for no command, a word that is no text,
 a text that is too long, a folder to read from, a full device to write to, and too little memory for the text. `main`
-has no contract, and the gate runs the program once, on a scene that ends with 0; here it is seen that the process ends
+has no contract, and the gate runs each program once, on a scene that ends with 0; here it is seen that the process ends
 with what its body answers. Each input is tried again with the launcher `prrt` of this checkout, which is to end with
 the same; `launcher.py` tries it on more words.
 
@@ -31,6 +31,8 @@ CONVERTED = b"prrt 2\nroom 10 10\nbody 0 0\nclearance 0\nstart 5 5\ngoal 0 0 1 1
 BLOCKED_GOAL = b"prrt 1\nroom 10 10\nobstacle 4 4 6 4 6 6 4 6\nstart 1 1\ngoal 5 5 5 5\nstep 4\n"
 TWIN = b"path 2 cost 12800\n0 0\n30 40\nstart nodes 2 placed 1 same 0 blocked 0\ngoal nodes 1 placed 0 same 1 blocked 0\n"
 NO_TWIN = b"no path\nstart nodes 1 placed 0 same 0 blocked 0\ngoal nodes 1 placed 0 same 0 blocked 0\n"
+BLOCK = b"better 12800 marks 1\npath 2 cost 12800\n0 0\n30 40\n\n"
+WATCHED = BLOCK + b"nodes 2 placed 1 same 0 blocked 0\n"
 NONE = b"no path\nnodes 1 placed 0 same 0 blocked 0\n"
 FOUND_BETTER = b"better 12800 marks 1\n" + PATH
 REPORTED = (
@@ -68,10 +70,13 @@ CASES = [
     Case("a path between two trees", ["twin", "2"], FOUND, 0, TWIN),
     Case("a better path", ["anytime", "2", "1"], FOUND, 0, FOUND_BETTER),
     Case("paths of two scenes", ["batch", "2", "1"], FOUND + b"next\n" + FOUND, 0, of_each(FOUND_BETTER, FOUND_BETTER)),
+    Case("a path that is watched", ["watch", "2", "1"], FOUND, 0, WATCHED),
+    Case("the same by a twentieth of the marks", ["watch", "2"], FOUND, 0, WATCHED),
     Case("no path", ["plain"], NO_PATH, 1, NONE),
     Case("no path by workers", ["plan", "2"], NO_PATH, 1, NONE),
     Case("no path to be smoothed", ["smooth", "2"], NO_PATH, 1, NONE),
     Case("no better path", ["anytime", "2", "1"], NO_PATH, 1, NONE),
+    Case("no path that is watched", ["watch", "2"], NO_PATH, 1, NONE),
     Case("no path between two trees", ["twin", "2"], NO_PATH, 1, NO_TWIN),
     Case("no path in one of two scenes", ["batch", "2", "1"], NO_PATH + b"next\n" + FOUND, 1, of_each(NONE, FOUND_BETTER)),
     Case("a lawful report", ["check"], FOUND + REPORTED, 0, b"lawful\n"),
@@ -82,18 +87,24 @@ CASES = [
     Case("no worker to smooth a path of", ["smooth", "0"], FOUND, 2, b"words refused\n"),
     Case("no worker for two trees", ["twin", "0"], FOUND, 2, b"words refused\n"),
     Case("no mark in a slice", ["anytime", "1", "0"], FOUND, 2, b"words refused\n"),
+    Case("no worker to be watched", ["watch", "0"], FOUND, 2, b"words refused\n"),
+    Case("no mark in a slice that is watched", ["watch", "1", "0"], FOUND, 2, b"words refused\n"),
+    Case("a word too many to watch", ["watch", "1", "1", "1"], FOUND, 2, b"words refused\n"),
+    Case("a word of `watch` that is no text", ["watch", b"\xff"], FOUND, 2, b"words refused\n"),
     Case("no worker for several scenes", ["batch", "0", "1"], FOUND, 2, b"words refused\n"),
     Case("a word that is no text", [b"\xff"], FOUND, 2, b"words refused\n"),
     Case("a word too many that is no text", ["plain", b"\xff"], FOUND, 2, b"words refused\n"),
     Case("no scene", ["plain"], b"prrt 0\n" + FOUND[7:], 3, b"line 1 kind 1 Version\n"),
     Case("a scene to convert", ["convert"], NO_PATH, 0, CONVERTED),
     Case("no scene to convert", ["convert"], b"prrt 3\n", 3, b"line 1 kind 1 Version\n"),
+    Case("no scene to watch", ["watch", "1"], b"prrt 0\n" + FOUND[7:], 3, b"line 1 kind 1 Version\n"),
     Case("no second scene", ["batch", "1", "1"], FOUND + b"next\n", 3, b"line 8 kind 1 Version\n"),
     Case("no report after a scene", ["check"], FOUND, 3, b"line 7 kind 9 Missing\n"),
     Case("no scene to show", ["show"], b"prrt 0\n" + FOUND[7:], 3, b"line 1 kind 1 Version\n"),
     Case("a text that is too long", ["plain"], LONG, 3, b"text too long\n"),
     Case("a start that is not clear", ["plain"], BLOCKED, 4, b"start blocked\n"),
     Case("the same by workers", ["plan", "2"], BLOCKED, 4, b"start blocked\n"),
+    Case("the same, watched", ["watch", "2"], BLOCKED, 4, b"start blocked\n"),
     Case("the same of a second scene", ["batch", "1", "1"], FOUND + b"next\n" + BLOCKED, 4, b"start blocked\n"),
     Case("the same before a report is looked at", ["check"], BLOCKED + b"report\nno report\n", 4, b"start blocked\n"),
     Case("the same before a path is smoothed", ["smooth", "2"], BLOCKED, 4, b"start blocked\n"),
@@ -101,10 +112,21 @@ CASES = [
     Case("a goal that is not clear", ["twin", "2"], BLOCKED_GOAL, 8, b"goal blocked\n"),
     Case("the same where it is not tested", ["plain"], BLOCKED_GOAL, 1, NONE),
     Case("a folder to read from", ["plain"], None, 5, b"read fault\n"),
+    Case("a folder to watch from", ["watch", "1"], None, 5, b"read fault\n"),
+    Case("a full device for a block", ["watch", "1", "1"], FOUND, 6, b"", full_device=True),
     Case("a full device", ["plain"], FOUND, 6, b"", full_device=True),
     Case("a full device for a refusal", [], FOUND, 6, b"", full_device=True),
     Case("too little memory", ["plain"], LONG[:-1], 7, b"no memory\n", few_bytes=FEW_BYTES),
+    Case("too little memory to watch", ["watch", "1"], LONG[:-1], 7, b"no memory\n", few_bytes=FEW_BYTES),
 ]
+
+
+def command_on(name, command, case):
+    """The words that run the case: the launcher takes all, and each of the programs its own."""
+    if name == LAUNCHER:
+        return [*command, *case.words]
+    program, watch = command
+    return [watch, *case.words[1:]] if case.words[:1] == ["watch"] else [program, *case.words]
 
 
 def ending(command, case):
@@ -119,7 +141,7 @@ def ending(command, case):
     device = os.open("/dev/full", os.O_WRONLY) if case.full_device else None
     taken = subprocess.PIPE if device is None else device
     given |= {"stdout": taken, "stderr": subprocess.DEVNULL, "preexec_fn": limit, "timeout": SECONDS}
-    done = subprocess.run([*command, *case.words], check=False, **given)
+    done = subprocess.run(command, check=False, **given)
     for opened in (folder, device):
         if opened is not None:
             os.close(opened)
@@ -131,17 +153,17 @@ def faults(commands, case):
     for name, command in commands.items():
         if case.few_bytes and name == LAUNCHER:
             continue
-        status, written = ending(command, case)
+        status, written = ending(command_on(name, command, case), case)
         if (status, written) != (case.status, case.written):
             yield f"{name} ended with {status}, wrote {written[:80]!r} in place of {case.written!r}"
 
 
-def main(program):
+def main(program, watch):
     wrong = 0
     with tempfile.TemporaryDirectory() as folder:
-        tree = Tree(folder, program)
+        tree = Tree(folder, (program, watch))
         tree.place_program()
-        commands = {"the program": [program], LAUNCHER: tree.command()}
+        commands = {"the program": (program, watch), LAUNCHER: tree.command()}
         for case in CASES:
             found = list(faults(commands, case))
             wrong += bool(found)

@@ -1,6 +1,6 @@
 """Reports of the planner: the forms of their lines, and what the text of each word says. See docs/report-format.md.
 
-`read_reports` takes what `plain`, `plan`, `smooth`, `anytime`, `twin`, `batch` and `trial` write, and the two refusals
+`read_reports` takes what `plain`, `plan`, `smooth`, `anytime`, `watch`, `twin`, `batch` and `trial` write, and the two refusals
 that are about a place in a scene. It looks at forms alone, and at what a picture stands on; judge.py judges whether a
 report is lawful.
 """
@@ -63,7 +63,7 @@ class Report:
 
     `path` has no points if the report lists none (`trial`). `counts` are those of one tree, or of two (`twin`). `nodes`
     has the point and the parent of each node of a full report, by its number. `better` has the cost of each better path
-    and after how many marks it came (`anytime`). With a refusal there is nothing else.
+    and after how many marks it came (`anytime`, `watch`). With a refusal there is nothing else.
     """
 
     length: int = 0
@@ -100,6 +100,12 @@ class Lines:
         self.taken += 1
         return numbers
 
+    def take_empty(self):
+        """Whether the next line is an empty one, which is passed over."""
+        is_empty = self.taken < len(self.lines) and not self.lines[self.taken]
+        self.taken += is_empty
+        return is_empty
+
     def is_left(self):
         """Whether a line is left, perhaps without a line feed."""
         return self.taken < len(self.lines) or self.rest != ""
@@ -133,26 +139,34 @@ def batch_in(lines):
 
 def report_in(lines):
     """The next report: perhaps better paths, the path, the counts, and perhaps nodes and marks."""
-    report = Report(better=better_in(lines))
-    take_path(lines, report)
+    report = Report()
+    take_paths(lines, report)
     report.counts = counts_in(lines)
-    if report.better and report.better[-1][0] != report.cost:
-        raise NoReport("its last better path does not cost what its path does")
     if lines.next().startswith("node "):
         report.nodes = nodes_in(lines, report.counts[0].nodes)
         take_marks(lines, report.counts[0].marks())
     return report
 
 
-def better_in(lines):
-    """The cost and the marks of each better path."""
-    better = []
+def take_paths(lines, report):
+    """Reads the better paths and the path; or the blocks of `watch`, of which the last has the path."""
+    while True:
+        take_better(lines, report.better)
+        report.path = []
+        take_path(lines, report)
+        if report.better and report.better[-1][0] != report.cost:
+            raise NoReport("its last better path does not cost what its path does")
+        if not (report.better and lines.take_empty() and lines.next().startswith("better ")):
+            return
+
+
+def take_better(lines, better):
+    """Adds the cost and the marks of each better path."""
     while lines.next().startswith("better "):
         cost, marks = lines.take("a better path", BETTER, MOST_COST, MOST_MARKS)
         if better and marks <= better[-1][1]:
             raise NoReport(f"line {lines.taken} has no more marks than the one before")
         better.append((cost, marks))
-    return better
 
 
 def take_path(lines, report):

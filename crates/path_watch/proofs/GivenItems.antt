@@ -1,0 +1,65 @@
+-- What a session gives after polls that gave nothing, and what all of its items are then.
+use Rattle.std.proofs.Common.{◌≡◌, ℕ, zero, suc, List, [], ◌∷◌, ◌++◌, append-nil, Option, Some, None, Result, Ok, Err, IsSomeAnd, refl, sym, ap, subst, ◌∙◌}
+use Rattle.std.proofs.lemmas.Fn.{FoldsTo-push}
+use Rattle.std.specs.List.{FoldsTo}
+use Rattle.futures.specs.declared.task.Poll.{Poll}
+use Rattle.futures.specs.declared.task.Poll.TheVariants.{Ready, Pending}
+use Rattle.grown_runs.specs.declared.grown.Grown.{Grown}
+use Rattle.plan_model.specs.declared.errors.Memory.{Memory}
+use Rattle.any_time.specs.BatchItems.{ArePolled}
+use Rattle.any_time.specs.BestPaths.{Shows, best_sum}
+use Rattle.any_time.specs.Items.{Answers, betters_among}
+use Rattle.any_time.specs.Sessions.{IsBetter, Moves, Polls, SessionState}
+use Rattle.any_time.specs.declared.betters.Better.{Better}
+use Rattle.path_watch.specs.Handing.{Comes, pendings}
+
+-- ---- one poll more before an item
+
+pub Comes-given : (s t : SessionState) (item : Option (Result Better Memory)) → Polls s (Ready item) t → Comes s item t
+Comes-given s t item p = record { count = 0; between = s; waits = refl; gives = p }
+
+pub Comes-pending : (s u t : SessionState) (item : Option (Result Better Memory)) → Polls s Pending u → Comes u item t → Comes s item t
+Comes-pending s u t item p h = record { count = suc h.count; between = h.between; waits = (u, p, h.waits); gives = h.gives }
+
+-- the run is that of the item
+shown_at : (before after : Option Grown) (s : SessionState) (item : Better)
+    → IsSomeAnd before (λ b. IsSomeAnd after (λ a. Moves s b a × IsBetter (best_sum a) s.last × Shows a item))
+    → IsSomeAnd after (λ run. run.limit ≡ item.marks)
+shown_at None after s item h = absurd h
+shown_at (Some b) None s item h = absurd h
+shown_at (Some b) (Some a) s item h = sym h.2.marks
+
+pub given_at : (s t : SessionState) (item : Better) → Comes s (Some (Ok item)) t → IsSomeAnd t.run (λ run. run.limit ≡ item.marks)
+given_at s t item h = shown_at h.between.run t.run h.between item h.gives.2
+
+-- ---- all items
+
+pushed : (answers : Answers) (answer : Poll (Option (Result Better Memory)))
+    → betters_among (answers ++ answer ∷ []) ≡ betters_among answers ++ betters_among (answer ∷ [])
+pushed [] answer = refl
+pushed (Pending ∷ answers) answer = pushed answers answer
+pushed (Ready None ∷ answers) answer = pushed answers answer
+pushed (Ready (Some (Ok item)) ∷ answers) answer = ap (λ items. item ∷ items) (pushed answers answer)
+pushed (Ready (Some (Err e)) ∷ answers) answer = pushed answers answer
+
+module _ (s : SessionState) (items : List Better) where
+  one_poll : (t u : SessionState) (answer : Poll (Option (Result Better Memory))) → ArePolled s items t → Polls t answer u
+      → ArePolled s (items ++ betters_among (answer ∷ [])) u
+  one_poll t u answer h p = (
+    h.0 ++ answer ∷ [],
+    FoldsTo-push Polls s h.0 t answer u h.1 p,
+    pushed h.0 answer ∙ ap (λ xs. xs ++ betters_among (answer ∷ [])) h.2,
+  )
+
+  no_more : (t : SessionState) → ArePolled s (items ++ []) t → ArePolled s items t
+  no_more t h = subst (λ (xs : List Better). ArePolled s xs t) (append-nil items) h
+
+  waited : (n : ℕ) (t u : SessionState) → ArePolled s items t → FoldsTo Polls t (pendings n) u → ArePolled s items u
+  waited zero t u h w = subst (ArePolled s items) w h
+  waited (suc n) t u h w = waited n w.0 u (no_more w.0 (one_poll t w.0 Pending h w.1)) w.2
+
+  pub ArePolled-item : (t u : SessionState) (item : Better) → ArePolled s items t → Comes t (Some (Ok item)) u → ArePolled s (items ++ item ∷ []) u
+  ArePolled-item t u item h c = one_poll c.between u (Ready (Some (Ok item))) (waited c.count t c.between h c.waits) c.gives
+
+  pub ArePolled-end : (t u : SessionState) → ArePolled s items t → Comes t None u → ArePolled s items u
+  ArePolled-end t u h c = no_more u (one_poll c.between u (Ready None) (waited c.count t c.between h c.waits) c.gives)

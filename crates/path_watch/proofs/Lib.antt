@@ -1,0 +1,3 @@
+pub mod GivenItems
+pub mod WatchedSessions
+pub mod WatchedScenes

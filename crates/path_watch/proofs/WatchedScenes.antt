@@ -1,0 +1,152 @@
+-- What a whole call has done, from the refusal or from the session that was watched.
+use Rattle.std.proofs.Common.{◌≡◌, ◌≤◌, ◌⊎◌, ℕ, false, List, [], ◌∷◌, length, map, Option, Some, None, IfSome, inl, inr, refl, sym, ap, subst, ◌∙◌, arith}
+use Rattle.std.specs.List.{FoldsTo}
+use Rattle.std.specs.Prelude.{is_some}
+use Rattle.grown_runs.proofs.Common.{MOST_TEXT_BYTES}
+use Rattle.plan_model.specs.Reports.ReportText.{report_text}
+use Rattle.plan_model.specs.declared.scenes.Scene.{Scene}
+use Rattle.any_time.specs.Sessions.{SessionState}
+use Rattle.planner.specs.BatchSessions.{IsSessionOf}
+use Rattle.std.proofs.KnownBytes.{Consumes-nil, Keeps-refl}
+use Rattle.plan_model.specs.Trees.BestNode.{best_node, goals_of}
+use Rattle.plan_model.specs.Texts.Streams.{SinkState, SourceState}
+use Rattle.grown_runs.specs.Runs.GrownRuns.{state_of_grown}
+use Rattle.scene_text.specs.Fetching.{ReadsWithin}
+use Rattle.planner.proofs.DecidedStatuses.{refusal_decided, success_decided}
+use Rattle.planner.specs.CheckedTexts.{RefusesSceneText}
+use Rattle.planner.specs.Conclusions.{IsCaused, status_of_report}
+use Rattle.planner.specs.Decisions.{IsDecided}
+use Rattle.planner.specs.Exchanges.{IsReadWhole, IsUnread, ReadFailed, WriteFailed}
+use Rattle.planner.specs.Refusals.{status_of}
+use Rattle.planner.specs.declared.commands.Command.TheVariants as commands
+use Rattle.planner.specs.declared.refusals.Refusal.{Refusal}
+use Rattle.planner.specs.declared.refusals.Refusal.TheVariants as refusals
+use Rattle.planner.specs.declared.statuses.TheConstants.{NO_MEMORY}
+use Rattle.planner.specs.declared.top_call.Done.{Done}
+use Rattle.path_watch.specs.Handing.{Takes}
+use Rattle.path_watch.specs.WatchWords.{as_plan, orders_of}
+use Rattle.path_watch.specs.WatchedCalls.{HasWatched, IsAskedSession, IsRefused, WatchesScene, status_of_ending}
+use Rattle.path_watch.specs.Watching.{Refuses, Watches}
+use Rattle.path_watch.specs.declared.watch_words.Orders.{Orders}
+use Rattle.path_watch.specs.declared.watching.Ending.{Ending}
+use Rattle.path_watch.specs.declared.watching.Ending.TheVariants as endings
+
+-- there are more than two words
+pub orders_of-many : {X : Type 0} (f : X → List ℕ) (words : List X) → 3 ≤ length words → None ≡ orders_of (map f words)
+orders_of-many f [] h = absurd (omega (arith, h))
+orders_of-many f (a ∷ []) h = absurd (omega (arith, h))
+orders_of-many f (a ∷ b ∷ []) h = absurd (omega (arith, h))
+orders_of-many f (a ∷ b ∷ c ∷ words) h = refl
+
+-- a scene that cannot be read, or whose start is not clear, is the cause of its refusal
+pub IsCaused-text : (orders : Orders) (before now : SourceState) (text : List ℕ) (refusal : Refusal) → IsReadWhole before now text
+    → length text ≤ MOST_TEXT_BYTES → RefusesSceneText text refusal → IsCaused (as_plan (Some orders)) before now refusal
+IsCaused-text orders before now text (refusals.Text number kind) whole short h = (refl, (text, whole, record { short = short; refused = h }))
+IsCaused-text orders before now text refusals.StartBlocked whole short h = (
+  refl,
+  (text, whole, record { scenes = h.scene ∷ []; spelled = record { short = short; spelled = h.spelled }; blocked = λ clear. h.blocked clear.0 }),
+)
+IsCaused-text orders before now text refusals.Memory whole short h = (refl, whole.no_fault)
+IsCaused-text orders before now text refusal whole short h = absurd h
+
+-- a sink that took texts, and then failed, has failed
+later : (texts : List (List ℕ)) (k l : SinkState) → FoldsTo Takes k texts l → k.fault_count ≤ l.fault_count
+later [] k l h = rw h (omega arith)
+later (text ∷ texts) k l h = let rest = later texts h.0 l h.2 in omega (arith, h.1.1, rest)
+
+rose_later : (k then l : SinkState) → k.fault_count ≤ then.fault_count → WriteFailed then l → WriteFailed k l
+rose_later k then l low rose = grind (arith)
+
+no_orders : (asked : Option Orders) (orders : Orders) → asked ≡ None → asked ≡ Some orders → ⊥
+no_orders asked orders none some = absurd cc
+
+module _ (asked : Option Orders) (before now : SourceState) (k l : SinkState) where
+  -- the status is what the bytes decide, or memory was out
+  abbrev Decides : Ending → Type 0
+  Decides ending =
+      (¬ ReadFailed before now) → (¬ WriteFailed k l)
+      → (status_of_ending ending ≡ NO_MEMORY) ⊎ IfSome (as_plan asked) (λ command. IsDecided before.bytes_left command (status_of_ending ending))
+
+  refused_decides : (ending : Ending) → IsRefused asked before now k l ending → Decides ending
+  refused_decides (endings.Ended run has_path) h sure written = absurd h.2
+  refused_decides (endings.Cut run) h sure written = absurd h.2
+  refused_decides (endings.CutRefusal it) h sure written = absurd (written h.2.1.0.rose)
+  refused_decides (endings.Refused it) h sure written =
+      subst (λ (r : Refusal). (status_of r ≡ NO_MEMORY) ⊎ IfSome (as_plan asked) (λ command. IsDecided before.bytes_left command (status_of r)))
+      (sym h.2.0) (refusal_decided (as_plan asked) before now h.0 h.1 sure)
+
+  watched_decides : (ending : Ending) → WatchesScene asked before now k l ending → Decides ending
+  watched_decides (endings.Ended run has_path) h sure written =
+      let by = h.watched.ends.0 in
+      let done : Done = record { status = status_of_report has_path; run = Some run; twin = None; batch = []; better = [] } in
+      inr (success_decided (as_plan asked) before now done (report_text false h.scene run.limit (state_of_grown run)) (record {
+        command = commands.Plan h.orders.workers false;
+        known = ap as_plan h.asks;
+        bytes = h.read.bytes;
+        read = h.read.read;
+        meaning = record {
+          scene = h.scene;
+          of_command = h.read.spelled;
+          start = λ planned. h.start;
+          meaning = record {
+            grown = run;
+            reported = record {
+              given = refl;
+              of_scene = by.of_scene;
+              all_marks = by.all_marks;
+              closed = by.closed;
+              settled = by.settled;
+              best = ap status_of_report h.watched.ends.1
+                  ∙ ap (λ s. status_of_report (is_some (best_node (goals_of s) run.limit (state_of_grown run)))) by.of_scene;
+              written = refl;
+            };
+            by_workers = by.by_workers;
+            textbook = by.textbook;
+            alone = record { no_run = refl; no_twin = refl; no_batch = refl; no_better = refl };
+          };
+        };
+      }))
+  watched_decides (endings.Cut run) h sure written =
+      absurd (written (rose_later k h.watched.then l (later _ k h.watched.then h.watched.blocks) h.watched.ends.2.0.rose))
+  watched_decides (endings.Refused it) h sure written = inl (ap status_of h.watched.ends.1.0)
+  watched_decides (endings.CutRefusal it) h sure written =
+      absurd (written (rose_later k h.watched.then l (later _ k h.watched.then h.watched.blocks) h.watched.ends.1.1.0.rose))
+
+  pub HasWatched-refused : (ending : Ending) → IsRefused asked before now k l ending → (asked ≡ None → IsUnread before now)
+      → ReadsWithin before.bytes_left now.bytes_left → HasWatched asked before now k l ending
+  HasWatched-refused ending h unread within = record {
+    done = inl h;
+    decided = refused_decides ending h;
+    unread = unread;
+    within = within;
+  }
+
+  pub HasWatched-scene : (ending : Ending) → WatchesScene asked before now k l ending → ReadsWithin before.bytes_left now.bytes_left
+      → HasWatched asked before now k l ending
+  HasWatched-scene ending h within = record {
+    done = inr h;
+    decided = watched_decides ending h;
+    unread = λ none. absurd (no_orders asked h.orders none h.asks);
+    within = within;
+  }
+
+  -- a session that was asked for
+  pub HasWatched-asked : (orders : Orders) (ending : Ending) (session : SessionState) → asked ≡ Some orders → IsAskedSession orders before now session
+      → ((workers slice : ℕ) (scene : Scene) → IsSessionOf workers slice scene session → Watches workers slice scene k l ending)
+      → ReadsWithin before.bytes_left now.bytes_left → HasWatched asked before now k l ending
+  HasWatched-asked orders ending session asks h watched within =
+      HasWatched-scene ending (record {
+        orders = orders;
+        asks = asks;
+        scene = h.scene;
+        read = h.read;
+        start = h.fresh.start;
+        watched = watched _ _ h.scene h.fresh;
+      }) within
+
+pub HasWatched-words : (asked : Option Orders) (source : SourceState) (k l : SinkState) (ending : Ending) → asked ≡ None → source.has_ended ≡ false
+    → Refuses k l refusals.Words ending → HasWatched asked source source k l ending
+HasWatched-words asked source k l ending none unended h =
+    let unread : IsUnread source source = record { kept = Keeps-refl source.bytes_left; no_end = unended; no_fault = refl } in
+    HasWatched-refused asked source source k l ending (refusals.Words, (ap as_plan none, unread), h) (λ _. unread)
+    ([], omega arith, Consumes-nil source.bytes_left)

@@ -1,0 +1,5 @@
+pub mod Blocks
+pub mod Handing
+pub mod WatchWords
+pub mod Watching
+pub mod WatchedCalls
