@@ -33,7 +33,7 @@ from usage import words_or_usage
 
 SMALLEST = HERE.parent / "examples" / "first.scene"
 STARTS, TASKS, JOBS = 200, 1_000, 200
-WORKERS, ROUNDS, EACH = 4, 3, 24
+WORKERS, ROUNDS, EACH = 4, 3, 80
 MOST_MARKS = 262_143
 
 

@@ -85,7 +85,7 @@ def look_at_way(checks, way, wanted):
     name = type(way).__name__
     for stop in (way.interrupt, way.cut_off):
         before = way.reports()
-        start(checks, way, len(wanted) // 5)
+        start(checks, way, wanted, 5)
         workers = way.workers()
         status = stop()[0]
         checks.note("an interruption", f"{name}: status {status}", status != 0 and way.done() < len(wanted))
@@ -93,7 +93,7 @@ def look_at_way(checks, way, wanted):
         now = way.reports()
         checks.note("what stays", name, all(now.get(scene) == report for scene, report in before.items()))
         way.spoil()
-    start(checks, way, len(wanted) // 10)
+    start(checks, way, wanted, 10)
     for number in range(2):
         checks.note("a killed worker", f"{name}, {number}", way.kill_worker())
         if not way.goes_on:
@@ -113,8 +113,9 @@ def look_at_way(checks, way, wanted):
     return ended[1]
 
 
-def start(checks, way, more):
-    """Starts a way, and waits until so many scenes more are done."""
+def start(checks, way, wanted, part):
+    """Starts a way, and waits until one in so many of the scenes that are left is done, however fast the machine is."""
+    more = (len(wanted) - way.done()) // part
     least = way.done() + more
     way.start()
     wait_until(lambda: way.done() >= least or way.running.poll() is not None, f"{more} scenes more")

@@ -36,6 +36,10 @@ import kimorefo
 
 MOST_IN_FLIGHT = 2_000
 MOST_BYTES_IN_FLIGHT = 2**28
+# Until it is known how long scenes take, few are in flight, each in a task of its own. Then a task has those of a quarter of a second.
+FIRST_IN_FLIGHT = 16
+TASK_SECONDS = 0.25
+MOST_IN_TASK = 64
 BAR = 40
 BEGIN = b'{"name": '
 FAILED, INTERRUPTED = 1, 130
@@ -134,14 +138,25 @@ def count_of(words: argparse.Namespace) -> int:
 # What a worker does
 
 
-def planned(name: str, key: str, scene: Any, smooth: bool, program: str | None, seconds: float | None) -> dict[str, Any]:
+def planned_each(jobs: list[Job], *how: Any) -> list[dict[str, Any] | Exception]:
+    """The lines of some scenes, or why there is none."""
+    lines: list[dict[str, Any] | Exception] = []
+    for job in jobs:
+        try:
+            lines.append(planned(job, *how))
+        except Exception as error:  # noqa: BLE001 - a scene that fails takes no other with it
+            lines.append(error)
+    return lines
+
+
+def planned(job: Job, smooth: bool, program: str | None, seconds: float | None) -> dict[str, Any]:
     """The line of a scene, or of a refusal."""
     begun = time.perf_counter()
-    line: dict[str, Any] = {"name": name, "key": key, "found": False}
+    line: dict[str, Any] = {"name": job.name, "key": job.key, "found": False}
     try:
-        if isinstance(scene, kimorefo.Refused):
-            raise scene
-        plan = (kimorefo.smooth if smooth else kimorefo.plan)(scene, program=program, seconds=seconds)
+        if isinstance(job.scene, kimorefo.Refused):
+            raise job.scene
+        plan = (kimorefo.smooth if smooth else kimorefo.plan)(job.scene, program=program, seconds=seconds)
     except REFUSALS as error:
         place = {"line": error.line, "kind": error.kind} if isinstance(error, kimorefo.Refused) else {}
         line["refusal"] = {"error": type(error).__name__, **place, "said": str(error).splitlines()}
@@ -209,46 +224,84 @@ class Flight:
     """The scenes that the workers have: a few thousand at most, so that neither they nor this process hold all."""
 
     def __init__(self, client: Client, words: argparse.Namespace):
-        self.client, self.jobs, self.bytes = client, {}, 0
+        self.client, self.tasks, self.scenes, self.bytes = client, {}, 0, 0
+        self.seconds: float | None = None
         self.how = words.smooth, words.program, words.seconds
         self.coming = as_completed(with_results=True, raise_errors=False)
 
     def has_room(self) -> bool:
-        """Whether one more may go."""
-        return len(self.jobs) < MOST_IN_FLIGHT and self.bytes < MOST_BYTES_IN_FLIGHT
+        """Whether one more task may go."""
+        most = MOST_IN_FLIGHT if self.seconds else FIRST_IN_FLIGHT
+        return self.scenes < most and self.bytes < MOST_BYTES_IN_FLIGHT
 
-    def start(self, job: Job) -> None:
-        """Hands a scene to the workers. What they do is the same each time, so a killed one is no loss."""
-        future = self.client.submit(planned, job.name, job.key, job.scene, *self.how, pure=False)
-        self.jobs[future.key] = future, job
-        self.bytes += job.size
+    def task_size(self) -> int:
+        """How many scenes the next task has, by the seconds that the last scenes took."""
+        return max(1, min(MOST_IN_TASK, int(TASK_SECONDS / self.seconds))) if self.seconds else 1
+
+    def start(self, jobs: list[Job]) -> None:
+        """Hands scenes to the workers. What they do is the same each time, so a killed one is no loss."""
+        future = self.client.submit(planned_each, jobs, *self.how, pure=False)
+        self.tasks[future.key] = future, jobs
+        self.scenes += len(jobs)
+        self.bytes += sum(job.size for job in jobs)
         self.coming.add(future)
 
-    def landed(self) -> Iterator[tuple[Job, Future, Any]]:
-        """The next scenes that have come back, one at least."""
+    def landed(self) -> Iterator[tuple[list[Job], Future, Any]]:
+        """The next tasks that have come back, one at least."""
         for future, result in self.coming.next_batch():
-            _, job = self.jobs.pop(future.key)
-            self.bytes -= job.size
-            yield job, future, result
+            _, jobs = self.tasks.pop(future.key)
+            self.scenes -= len(jobs)
+            self.bytes -= sum(job.size for job in jobs)
+            yield jobs, future, result
+
+    def look_at_time(self, seconds: float) -> None:
+        """Keeps a mean of the seconds of the last scenes, above nothing."""
+        self.seconds = max(1e-6, seconds if self.seconds is None else self.seconds + (seconds - self.seconds) / 8)
+
+
+def task_of(first: Job, jobs: Iterator[Job], size: int) -> tuple[list[Job], Job | None]:
+    """The scenes of a task, and the one after them. A text that is refused ends it."""
+    task, job = [first], next(jobs, None)
+    while job and len(task) < size and not isinstance(job.scene, kimorefo.Refused):
+        task.append(job)
+        job = next(jobs, None)
+    return task, job
 
 
 def sweep(job: Job | None, jobs: Iterator[Job], flight: Flight, results: Results) -> None:
     """Plans a scene and all after it."""
-    while job or flight.jobs:
+    while job or flight.tasks:
         if job and flight.has_room():
             if isinstance(job.scene, kimorefo.Refused):
-                results.write(planned(job.name, job.key, job.scene, *flight.how))
+                results.write(planned(job, *flight.how))
+                job = next(jobs, None)
             else:
-                flight.start(job)
-            job = next(jobs, None)
+                task, job = task_of(job, jobs, flight.task_size())
+                flight.start(task)
             continue
-        for landed, future, result in flight.landed():
+        for task, future, result in flight.landed():
             if future.status == "finished":
-                results.write(result)
-            elif future.status == "error" and not isinstance(result[1], kimorefo.NoPlanner):
-                results.fail(landed, result[1])
+                take(task, result, flight, results)
+            elif future.status == "error" and len(task) > 1:
+                # One of them killed its workers: alone it harms no other.
+                for alone in task:
+                    flight.start([alone])
+            elif future.status == "error":
+                results.fail(task[0], result[1])
             else:
-                sys.exit(f"{landed.name}: {result[1] if future.status == 'error' else 'the scheduler has gone'}")
+                sys.exit(f"{task[0].name}: the scheduler has gone")
+
+
+def take(task: list[Job], lines: list[dict[str, Any] | Exception], flight: Flight, results: Results) -> None:
+    """Writes the lines of a task. If there is no planner, that ends the sweep."""
+    for job, line in zip(task, lines, strict=True):
+        if isinstance(line, kimorefo.NoPlanner):
+            sys.exit(f"{job.name}: {line}")
+        if isinstance(line, Exception):
+            results.fail(job, line)
+        else:
+            flight.look_at_time(line["seconds"])
+            results.write(line)
 
 
 def client_of(words: argparse.Namespace) -> Client:
