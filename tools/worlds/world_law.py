@@ -168,7 +168,7 @@ def sights_of(run, view):
 
 
 def hand_sights(run, view, shown):
-    """A node in hand is steered from a seen one, which is another; once it is linked, it is seen."""
+    """A node in hand is steered from a seen one, which is another, and was not skipped; once it is linked, it is seen; it is posted in a goal."""
     hand = view.hand
     if hand.has("pointed"):
         start = shown.point(hand.nearest)
@@ -176,6 +176,10 @@ def hand_sights(run, view, shown):
             yield "steered_from"
         if hand.nearest == hand.node:
             yield "other"
+        if run.goals and (hand.best is None or hand.best != NO_BEST and best_in(hand.best)[0] <= run.bound(hand.mark)):
+            yield "unskipped"
+    if hand.stage == "posted" and not run.lies_in_goal(hand.point):
+        yield "goal"
     if hand.has("linked"):
         if shown.point(hand.node) != hand.point:
             yield "shown"
@@ -204,16 +208,36 @@ def best_copy(run, words, views, tree):
         yield "copy"
 
 
-def empties(run, words, views, tree):
-    """No fill notes more steps of a view than it has made; no view has found a filled place empty by a step after those."""
-    noted = {}
-    for place, steps in {fill for view in views for fill in view.fills}:
-        for i, made in enumerate(steps):
-            noted[place, i] = max(noted.get((place, i), 0), made)
-    if any(made and (i >= len(views) or views[i].run is run and made > views[i].steps) for (_, i), made in noted.items()):
+def goes_to(run, place, word, later):
+    """Whether a word that others load may become the later one; the best word falls."""
+    return later <= word if place == run.best else word == later or may_become(run.kinds[place], word, later)
+
+
+def notes(run, words, views, tree):
+    """What was left in a word may become what it is; who looked at it since has seen that; and what a view sees otherwise was noted."""
+    told = {note for view in views for note in view.notes}
+    if any(made and (i >= len(views) or views[i].run is run and made > views[i].steps) for _, _, by in told for i, made in enumerate(by)):
         yield "made"
+    if any(not goes_to(run, place, word, words[place]) for place, word, _ in told):
+        yield "still"
+    left = {(place, word) for place, word, _ in told}
     for i, view in enumerate(views):
-        if view.run and any(words[place] and view.found_zero[place] > noted.get((place, i), 0) for place in run.child_places):
+        if view.run is not run:
+            continue
+        made = lambda by: by[i] if i < len(by) else 0
+        if any(made(by) < view.looked[place] and not goes_to(run, place, word, view.last_seen(place)) for place, word, by in told):
+            yield "fresh"
+        otherwise = [place for place in run.loaded_places if view.last_seen(place) != words[place] and (place, words[place]) not in left]
+        if any(run.names[place][0] != "tree" or view.seen[place] or words[place] != words[place + 1] for place in otherwise):
+            yield "noted"
+
+
+def empties(run, words, views, tree):
+    """No view has found a filled place empty by a step after those that it had made by then, as a note says."""
+    told = {note for view in views for note in view.notes}
+    for i, view in enumerate(views):
+        found = [place for place in run.child_places if view.run and words[place] and view.found_zero[place]]
+        if any(all(at != place or i >= len(by) or by[i] < view.found_zero[place] for at, _, by in told) for place in found):
             yield "filled"
 
 
@@ -425,7 +449,7 @@ def is_best_pair(run, tree, word):
     if word == NO_BEST:
         return True
     kept, node = best_in(word)
-    return tree.is_goal_node(node) and tree.cost(node) <= kept
+    return tree.is_goal_node(node) and tree.cost(node) <= kept < 1 << 44
 
 
 def least_placed(tree):
@@ -469,7 +493,7 @@ def best_sights(run, view):
 
 PARTS = (
     of_run, claimed_marks, turns, shares, linked_tree, hands, trees, pairs, records, seen_pairs, trees_seen, seen_behind, copies, best_copy,
-    empties, best, bests,
+    notes, empties, best, bests,
 )
 
 

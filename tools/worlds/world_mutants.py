@@ -7,6 +7,7 @@ None if there is nothing to change. `everywhere` changes a word together with wh
 from dataclasses import replace
 
 from world_law import hangs
+from world_lies import lies
 from world_steps import put
 from world_words import SPENT, WRITTEN, Tree, cost_in, linked_nodes, parent_in, quota, record_word, tree_word
 
@@ -85,14 +86,14 @@ def other_step_numbers(rng, world):
 
 @mutant
 def found_empty_after_its_fill(rng, world):
-    """A view has found a place of a child empty by a step that it made after the place was filled, as the fill notes."""
+    """A view has found a place of a child empty by a step that it made after the place was filled, as that is noted."""
     run = world.run
     late = [
         (i, place)
         for i, view in enumerate(world.views)
         if view.run
         for place in run.child_places
-        if world.words[place] and view.steps > max((now[i] for _, at, now in fills_of(world) if at == place and i < len(now)), default=0)
+        if world.words[place] and view.steps > max((by[i] for _, (at, _, by) in notes_of(world) if at == place and i < len(by)), default=0)
     ]
     found = pick(rng, late)
     if found is None:
@@ -102,36 +103,72 @@ def found_empty_after_its_fill(rng, world):
     return ""
 
 
-def fills_of(world):
-    """The fills that views note: whose they are, the place, and the steps of the views by then."""
-    return [(i, place, now) for i, view in enumerate(world.views) for place, now in view.fills]
+def notes_of(world):
+    """The notes of views, each with the number of its view."""
+    return [(i, note) for i, view in enumerate(world.views) for note in view.notes]
+
+
+def change_note(rng, world, test, change):
+    """Changes a note that passes the test, wherever it stands. The note, or None."""
+    found = pick(rng, (note for _, note in notes_of(world) if test(note)))
+    if found is not None:
+        then = change(found)
+        for i, view in enumerate(world.views):
+            world.views[i] = replace(view, notes=tuple(then if note == found else note for note in view.notes))
+    return found
 
 
 @mutant
-def fill_of_steps_to_come(rng, world):
-    """A fill notes more steps of a view than it has made, or steps of a view that is not there."""
-    found = pick(rng, fills_of(world))
-    if found is None:
-        return None
-    i, place, now = found
-    live = [j for j in range(len(now)) if world.views[j].run]
-    j = pick(rng, live)
-    beyond = j is None or len(now) == len(world.views) and rng.random() < 0.3
-    then = (*now, 1) if beyond else put(now, j, world.views[j].steps + 1)
-    fills = tuple((place, then) if fill == (place, now) else fill for fill in world.views[i].fills)
-    world.views[i] = replace(world.views[i], fills=fills)
-    return "" if j is not None else "no view that is there has fewer steps"
+def note_of_steps_to_come(rng, world):
+    """A note tells of more steps of a view than it has made, or of steps of a view that is not there."""
+    views = world.views
+    live = [j for j in range(len(views)) if views[j].run]
+
+    def later(note):
+        place, word, by = note
+        j = pick(rng, (j for j in live if j < len(by)))
+        beyond = j is None or len(by) == len(views) and rng.random() < 0.3
+        return place, word, (*by, *(0,) * (len(views) - len(by)), 1) if beyond else put(by, j, views[j].steps + 1)
+
+    return must(change_note(rng, world, lambda note: True, later))
 
 
 @mutant
-def fill_forgotten(rng, world):
-    """No view notes when a place was filled that some view has found empty."""
-    found = {place for view in world.views if view.run for place in world.run.child_places if world.words[place] and view.found_zero[place]}
-    place = pick(rng, sorted(found))
+def note_of_a_word_to_come(rng, world):
+    """A note tells of a word that is later than the word is now."""
+    run = world.run
+    later = {
+        "count": lambda word: word + 1,
+        "counter": lambda word: word + 1,
+        "child": lambda word: word + 1,
+        "best": lambda word: word - 1,
+        "tree": lambda word: word - (1 << 18),
+    }
+    test = lambda note: world.words[note[0]] and (run.names[note[0]][0] != "tree" or cost_in(world.words[note[0]]))
+    return must(change_note(rng, world, test, lambda note: (note[0], later[run.names[note[0]][0]](world.words[note[0]]), note[2])))
+
+
+@mutant
+def change_not_noted(rng, world):
+    """No view notes what a word is, which some view sees otherwise."""
+    run, words = world.run, world.words
+    placed = lambda view, place: run.names[place][0] == "tree" and not view.seen[place] and words[place] == words[place + 1]
+    otherwise = {p for view in world.views if view.run for p in run.loaded_places if view.last_seen(p) != words[p] and not placed(view, p)}
+    place = pick(rng, sorted(otherwise))
     if place is None:
         return None
     for i, view in enumerate(world.views):
-        world.views[i] = replace(view, fills=tuple(fill for fill in view.fills if fill[0] != place))
+        world.views[i] = replace(view, notes=tuple(note for note in view.notes if note[:2] != (place, words[place])))
+    return ""
+
+
+@mutant
+def lie_of_the_next_step(rng, world):
+    """A view says of its next step what is not so."""
+    told = pick(rng, (lie for i, view in enumerate(world.views) if view.run for lie in lies(world, i)))
+    if told is None:
+        return None
+    world.views[:] = told[1].views
     return ""
 
 

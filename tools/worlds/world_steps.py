@@ -1,7 +1,7 @@
 """The kinds of step on a world, each with what it asks of the view that makes it. See docs/worlds.md.
 
 A step loads, stores or exchanges one word. The view after it is a function of the view before. `Steps` makes lawful steps
-alone; `stale` makes loads that tell once more what their view had seen.
+alone.
 """
 
 from dataclasses import replace
@@ -127,6 +127,17 @@ class Steps:
         """One step more, by which no word is seen."""
         self.set_view(i, steps=self.view(i).steps + 1, **fields)
 
+    def saw_best(self, i, best, hand):
+        """One step more, on the best word, which is left so."""
+        view = self.view(i)
+        self.world.words[self.run.best] = best
+        self.stepped(i, best=best, hand=hand, looked=put(view.looked, self.run.best, view.steps + 1))
+
+    def note(self, i, place):
+        """The step that was made notes what it left in a word, and how many steps each view has made."""
+        made = tuple(view.steps for view in self.world.views)
+        self.set_view(i, notes=((place, self.world.words[place], made), *self.view(i).notes))
+
     # ---- loads
 
     def sees_node(self, i, node):
@@ -161,6 +172,7 @@ class Steps:
         self.saw(i, place, expected, expected + 1)
         hand = Hand(expected * self.run.strips + strip)
         self.set_view(i, hand=hand, most=max(self.view(i).most, limit))
+        self.note(i, place)
         return True
 
     def finish(self, i, entry):
@@ -178,7 +190,7 @@ class Steps:
         """A mark is recorded as placed once its node is counted, and posted if it lies in a goal, as skipped if nothing is written, and as
         anything else only if it is not linked."""
         placed = entry.outcome == "placed"
-        if placed and self.run.lies_in_goal(hand.point) and hand.stage != "posted" or entry.outcome == "skipped" and hand.stage != "claimed":
+        if placed and self.run.lies_in_goal(hand.point) != (hand.stage == "posted") or entry.outcome == "skipped" and hand.stage != "claimed":
             return False
         return placed == hand.has("linked") and placed == hand.has("counted")
 
@@ -187,7 +199,7 @@ class Steps:
         run, tree = self.run, self.tree(i)
         if entry.outcome == "skipped":
             return self.is_skipped(hand) and best_in(hand.best)[1] == entry.nearest
-        if not self.is_unskipped(hand):
+        if entry.outcome != "placed" and not self.is_unskipped(hand):
             return False
         start, mark = tree.point(entry.nearest), run.marks[hand.mark]
         own = [n for n in range(run.nodes) if is_earlier(tree, entry, n)]
@@ -274,8 +286,8 @@ class Steps:
         self.saw(i, place, 0, hand.node)
         seen = put(self.view(i).seen, run.point(hand.node), point_word(hand.point))
         seen = put(put(seen, run.tree(hand.node), hand.pair), run.first(hand.node), hand.pair)
-        fills = ((place, tuple(view.steps for view in self.world.views)), *self.view(i).fills)
-        self.set_view(i, seen=seen, hand=replace(hand, stage="linked"), fills=fills)
+        self.set_view(i, seen=seen, hand=replace(hand, stage="linked"))
+        self.note(i, place)
         return 0
 
     def count(self, i):
@@ -283,6 +295,7 @@ class Steps:
         hand = self.hand(i, "linked")
         self.world.words[self.run.count] += 1
         self.stepped(i, hand=replace(hand, stage="counted"))
+        self.note(i, self.run.count)
 
     # ---- lowers
 
@@ -303,6 +316,7 @@ class Steps:
             self.saw(i, place, found, found)
             return False
         self.saw(i, place, expected, tree_word(parent, kept))
+        self.note(i, place)
         return True
 
     # ---- the best word
@@ -312,7 +326,7 @@ class Steps:
         need(self.run.goals, "informed")
         word, hand = self.world.words[self.run.best], self.view(i).hand
         takes = hand and hand.stage == "claimed"
-        self.stepped(i, best=word, hand=replace(hand, best=word) if takes else hand)
+        self.saw_best(i, word, replace(hand, best=word) if takes else hand)
         return word
 
     def may_post(self, i, node):
@@ -324,10 +338,10 @@ class Steps:
         """The best word becomes the lesser of what it was and the pair of a goal node, by what that was seen to cost."""
         need(self.may_post(i, node), "post")
         word = min(self.world.words[self.run.best], best_word(self.tree(i).cost(node), node))
-        self.world.words[self.run.best] = word
         hand = self.view(i).hand
         own = hand and hand.stage == "counted" and hand.node == node
-        self.stepped(i, best=word, hand=replace(hand, stage="posted") if own else hand)
+        self.saw_best(i, word, replace(hand, stage="posted") if own else hand)
+        self.note(i, self.run.best)
 
     # ---- splits and joins
 
@@ -336,41 +350,17 @@ class Steps:
         view = self.view(i)
         need(not hand_on or len(view.crew) > 1, "crew")
         given = view.crew[1:2] if hand_on else ()
-        self.world.views.append(replace(view, crew=given, hand=None, found_zero=(0,) * self.run.size))
+        none = (0,) * self.run.size
+        self.world.views.append(replace(view, crew=given, hand=None, looked=none, found_zero=none, notes=()))
         self.stepped(i, crew=tuple(member for member in view.crew if member not in given))
         return len(self.world.views) - 1
 
     def join(self, i, j):
-        """A view takes over another: the later of what both saw of each word, both crews, the lesser best, and the fills of both."""
+        """A view takes over another: the later of what both saw of each word, both crews, the lesser best, and the notes of both."""
         view, other = self.view(i), self.view(j)
         need(i != j and other != SPENT and not view.hand and not other.hand, "hand")
         seen = tuple(map(later_word, self.run.kinds, view.seen, other.seen))
         best, most = min(view.best, other.best), max(view.most, other.most)
-        crew, fills = view.crew + other.crew, view.fills + other.fills
-        self.stepped(i, crew=crew, most=most, seen=seen, best=best, took=other.seen, fills=fills)
+        crew, notes = view.crew + other.crew, view.notes + other.notes
+        self.stepped(i, crew=crew, most=most, seen=seen, best=best, took=other.seen, notes=notes)
         self.world.views[j] = SPENT
-
-
-def stale(kind):
-    """Steps whose loads of words of a kind tell once more what their view had seen there, and of a child that it is none."""
-
-    class Stale(Steps):
-        def load(self, i, place):
-            view = self.view(i)
-            word = view.seen[place]
-            if self.run.names[place][0] != kind or not word and kind != "child":
-                return super().load(i, place)
-            steps = view.steps + 1
-            found_zero = view.found_zero if word else put(view.found_zero, place, steps)
-            self.set_view(i, steps=steps, looked=put(view.looked, place, steps), found_zero=found_zero)
-            return word
-
-        def load_best(self, i):
-            word = self.world.words[self.run.best]
-            if kind == "best":
-                self.world.words[self.run.best] = self.view(i).best
-            told = super().load_best(i)
-            self.world.words[self.run.best] = word
-            return told
-
-    return Stale

@@ -95,6 +95,8 @@ class Run:
         self.numbers = [self.count, *(self.counter(g) for g in range(self.strips))]
         self.child_places = [place for place, name in enumerate(self.names) if name[0] == "child"]
         self.tree_places = [place for place, name in enumerate(self.names) if name[0] == "tree"]
+        # the words that passes load while others change them
+        self.loaded_places = [place for place, name in enumerate(self.names) if name[0] in ("count", "best", "counter", "child", "tree")]
         self.tested, self.kept = {}, {}
 
     count, best = 0, 1
@@ -188,8 +190,13 @@ class View:
     steps: int
     looked: tuple
     found_zero: tuple
-    # the places of children that it has filled, or took over, each with the steps that the views had made by then
-    fills: tuple = ()
+    # the changes that it has made of words which others load, or took over: the place, what was left, and the steps of all views by then
+    notes: tuple = ()
+
+
+    def last_seen(self, place):
+        """A word as it last saw it, the best word too."""
+        return self.best if place == self.run.best else self.seen[place]
 
 
 # What is left of a view that was taken over.

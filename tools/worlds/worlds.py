@@ -6,9 +6,8 @@ at a time, for worlds that are lawful.
 
 Usage: worlds.py FIRST [COUNT] plays the runs of so many numbers (50 if left out) from the first on, changes worlds in
 between, and prints which part of the law refused them, and which changes are lawful all the same, with the reason.
-`worlds.py --stale [FIRST [COUNT]]` (0 and 15 if left out) lets loads of one kind of word after another tell once more what
-their view had seen. It ends with 1 if a lawful run was reported, a world was taken for lawful that is none, or the law said
-otherwise of a stale load than docs/worlds.md does.
+`worlds.py --stale [FIRST [COUNT]]` (0 and 15 if left out) lets views say of their next steps what is not so: stale loads, and
+lowers and posts that were not made. It ends with 1 if a lawful run was reported, or a world was taken for lawful that is none.
 """
 
 import random
@@ -25,15 +24,11 @@ from usage import words_or_usage
 from world_best_mutants import MUTANTS
 from world_calls import Pass
 from world_law import broken_parts, is_world
-from world_steps import Refused, Steps, cleared, newcomer, stale, start_words
+from world_lies import lies
+from world_steps import Refused, Steps, cleared, newcomer, start_words
 from world_words import SPENT, Run
 
 MOST_VIEWS = 7
-
-
-# What becomes of loads of a kind that tell once more what their view had seen there. A count that is older than the worker's
-# own nodes is lawful, but no record may be stored by it.
-STALE = {"child": "refused", "point": "lawful", "tree": "lawful", "counter": "lawful", "count": "no later step", "best": "lawful"}
 
 
 class Report(Exception):
@@ -80,9 +75,9 @@ def tiny_scene(rng):
 class Player:
     """A world and the passes that step in it, in turns that are drawn."""
 
-    def __init__(self, rng, world, kind, counts):
+    def __init__(self, rng, world, counts):
         self.rng, self.run, self.counts = rng, world.run, counts
-        self.steps = kind(world)
+        self.steps = Steps(world)
         self.world = self.steps.world
         self.calls = {}
         self.pending = {}
@@ -260,14 +255,14 @@ class Player:
             yield from one.extend()
 
 
-def play_number(number, kind, counts, mutate=lambda rng, world: None):
+def play_number(number, counts, mutate=lambda rng, world: None):
     """Plays the run of a number: from the start alone, and mostly on from where that came to, by another number of workers."""
     rng = random.Random(f"worlds {number}")
     scene = tiny_scene(rng)
     opening, words, workers = 0, None, rng.choice([1, 2, 2, 3, 4])
     for _ in range(rng.randint(1, 3)):
         run = Run(scene, workers, opening)
-        player = Player(rng, newcomer(run, words or start_words(run)), kind, counts)
+        player = Player(rng, newcomer(run, words or start_words(run)), counts)
         player.begin()
         player.play(lambda world: mutate(rng, world))
         opening, words = player.end()
@@ -301,6 +296,23 @@ class Mutants:
             self.lawful[f"{name}: {reason}"] += 1
 
 
+class Lies:
+    """Lies of views at random moments, and those that the law took for lawful."""
+
+    def __init__(self):
+        self.refused, self.missed = Counter(), []
+
+    def tell(self, rng, world):
+        """Now and then lets each view tell each lie of its next step."""
+        if rng.random() > 0.1:
+            return
+        for kind, changed in (lie for i, view in enumerate(world.views) if view.run for lie in lies(world, i)):
+            if is_world(changed) is None:
+                self.missed.append(kind)
+            else:
+                self.refused[kind] += 1
+
+
 def print_counts(title, counts):
     """A table of counts."""
     print(f"{title}:")
@@ -308,47 +320,45 @@ def print_counts(title, counts):
         print(f"  {what}: {times}")
 
 
-def play_all(first, count):
-    """Plays so many runs, and gives the exit status."""
-    counts, mutants, reports = Counter(), Mutants(), []
+def play_runs(first, count, change):
+    """Plays so many runs, with a change now and then. The counts of steps, and the reports."""
+    counts, reports = Counter(), []
     for number in range(first, first + count):
         try:
-            play_number(number, Steps, counts, mutants.mutate)
+            play_number(number, counts, change)
         except (Report, Refused) as found:
             reports.append((number, found))
+    return counts, reports
+
+
+def print_end(reports, missed, what):
+    """What was reported and taken for lawful. The exit status."""
+    for number, found in reports:
+        print(f"reported: run {number}, {type(found).__name__} {found.args}")
+    for name, times in sorted(Counter(missed).items()):
+        print(f"taken for lawful: {name} ({times})")
+    print(f"{len(reports)} reports, {len(missed)} {what} taken for lawful")
+    return 1 if reports or missed else 0
+
+
+def play_all(first, count):
+    """Changes worlds of so many runs, and gives the exit status."""
+    mutants = Mutants()
+    counts, reports = play_runs(first, count, mutants.mutate)
     print_counts("steps", counts)
     print_counts("mutants", mutants.kinds)
     print_counts("refused, by the first part that is broken", mutants.first)
     print_counts("refused, by one part alone", mutants.alone)
     print_counts("lawful all the same", mutants.lawful)
-    for number, found in reports:
-        print(f"reported: run {number}, {type(found).__name__} {found.args}")
-    for name, times in sorted(Counter(mutants.missed).items()):
-        print(f"taken for lawful: {name} ({times})")
-    print(f"{len(reports)} reports, {len(mutants.missed)} mutants taken for lawful")
-    return 1 if reports or mutants.missed else 0
+    return print_end(reports, mutants.missed, "mutants")
 
 
 def play_stale(first, count):
-    """Lets loads of one kind of word after another be stale, and gives the exit status."""
-    wrong = 0
-    for kind, expected in STALE.items():
-        reports = (report_of(number, stale(kind)) for number in range(first, first + count))
-        said, where = next(filter(None, reports), ("lawful", ""))
-        wrong += said != expected
-        print(f"stale loads of a {kind}: {said}{where}")
-    return 1 if wrong else 0
-
-
-def report_of(number, kind):
-    """What is said of the run of a number with such steps, and by what; None if it is lawful."""
-    try:
-        play_number(number, kind, Counter())
-    except Report as found:
-        return "refused", f", run {number}, by " + ", after ".join(found.args)
-    except Refused as found:
-        return "no later step", f", run {number}: {found}"
-    return None
+    """Lets views of so many runs say what is not so, and gives the exit status."""
+    told = Lies()
+    _, reports = play_runs(first, count, told.tell)
+    print_counts("lies refused, beside no note, a false one and a true one", told.refused)
+    return print_end(reports, told.missed, "lies")
 
 
 if __name__ == "__main__":

@@ -5,8 +5,7 @@ use Rattle.grown_runs.proofs.Common.{Point, EndsSince, IsFree, IsFree-ends, side
 use Rattle.step_core.proofs.Common.{LeadsTo, sight_in, tree_seen, IsLaterMoment-later, KeepsSight-lawful, IsFree-here}
 use Rattle.grown_runs.specs.declared.kd_walks.Stop.{Stop}
 use Rattle.step_core.specs.declared.views.View.{View}
-use Rattle.kd_shared.specs.Loads.{FindsEmpty}
-use Rattle.kd_shared.specs.Looking.{OnlyLooks}
+use Rattle.kd_shared.proofs.Words.{FindsEmpty, OnlyLooks}
 
 module _ (entry now : View) (p : Point) (stop : Stop) (looks : OnlyLooks entry now) (stops : StopsAt (tree_seen now) p stop)
     (apart : stop.here ≢ p) where

@@ -15,3 +15,4 @@ pub mod PoppedNodes
 pub mod WalkedOnce
 pub mod NearestSearch
 pub mod NearestPasses
+mod Words

@@ -4,14 +4,13 @@ use Rattle.std.specs.Prelude.{IfSome}
 use Rattle.std.proofs.lemmas.Bool.{cases_eq}
 use Rattle.grown_runs.proofs.Common.{Point, IsFree, IsPresent, point_at, IsOnWay, child_of_word, has_node, record_at, seen_tree_of_words, ChangesOnly, Word}
 use Rattle.grown_runs.proofs.Common.{ChildOf, FirstOf, PointOf, RecordOf, TreeOf, cost_in, parent_in, record_of_word, cost_in-tree_word, parent_in-tree_word}
-use Rattle.plan_words.proofs.Common.{GoesOn, HasWholeShare, PassState, with_view, IsLinkedAt-counted, leads_seen}
-use Rattle.step_core.proofs.Common.{IsLater, IsLawfulView, has_first, has_link, counted, last_fill, linked, LeadsTo, SeesNode, SeesPoint, run_sizes, sees}
+use Rattle.plan_words.proofs.Common.{GoesOn, HasLinked, HasWholeShare, PassState, IsLinkedAt-counted, leads_seen}
+use Rattle.step_core.proofs.Common.{IsLater, IsLawfulView, has_first, has_link, counted, linked, LeadsTo, SeesNode, SeesPoint, run_sizes, sees}
 use Rattle.step_core.proofs.Common.{tree_seen, IsLater-trans, record-unplaced, ShowsNode, sees-linked, point_at-kept, linked_points-seen}
 use Rattle.step_core.specs.declared.views.Hand.{Hand}
 use Rattle.step_core.specs.declared.views.Stage.TheVariants.{Treed}
 use Rattle.step_core.specs.declared.views.View.{View}
-use Rattle.kd_shared.specs.Looking.{OnlyLooks}
-use Rattle.kd_shared.specs.Placings.{AddsHand, IsWordOfLink, SeesLinked, state_seen}
+use Rattle.kd_shared.proofs.Words.{OnlyLooks, AddsHand, IsWordOfLink, SeesLinked, state_seen}
 
 -- what holds of any hand holds of the one that there is
 pub IfSome-all : {Holds : Hand → Type 0} (held : Option Hand) → ((hand : Hand) → Holds hand) → IfSome held Holds
@@ -42,8 +41,9 @@ module _ (entry now : View) (all : HasWholeShare entry) (looks : OnlyLooks entry
 
   -- ---- the node in hand is linked
 
-  module _ (after : View) (hand : Hand) (n : ℕ) (side : Bool) (steps : List ℕ) (later : IsLater now after) (held : now.hand ≡ Some hand)
-      (treed : hand.stage ≡ Treed) (leads : LeadsTo now hand.point n side) (is : after ≡ counted (linked now hand n side steps) hand) where
+  module _ (after : View) (hand : Hand) (n : ℕ) (side : Bool) (steps last : List ℕ) (count : ℕ) (later : IsLater now after)
+      (held : now.hand ≡ Some hand) (treed : hand.stage ≡ Treed) (leads : LeadsTo now hand.point n side)
+      (is : after ≡ counted (linked now hand n side steps) hand count last) where
     lawful : IsLawfulView now
     lawful = looks.looks.goes_on.lawful
 
@@ -106,7 +106,7 @@ module _ (entry now : View) (all : HasWholeShare entry) (looks : OnlyLooks entry
       absent = λ here. unseen (was_lawful.tree.rooted.points (suc hand.mark)
           (subst (λ l. IsPresent l (suc hand.mark)) (linked_points-seen entry was_lawful) here));
       stands = ap (λ l. point_at l (suc hand.mark)) (linked_points-seen after lawful_then)
-          ∙ (IsLinkedAt-counted now after hand n side steps lawful held treed leads is).point;
+          ∙ (IsLinkedAt-counted now after hand n side steps last count lawful held treed leads is).point;
       parent = ap parent_in shows.tree ∙ parent_in-tree_word hand.parent hand.cost fits.0;
       cost = ap cost_in shows.tree ∙ cost_in-tree_word hand.parent hand.cost fits.0 fits.1;
       written_cost = ap cost_in shows.first ∙ cost_in-tree_word hand.parent hand.cost fits.0 fits.1;
@@ -145,11 +145,10 @@ IfSome-free Holds entry now p n (Some hand) all looks is stands = λ free. absur
 pub IfSome-sees_linked : (entry : View) (mid after : PassState) (n : ℕ) (side : Bool) (held : Option Hand) → HasWholeShare entry → OnlyLooks entry mid.view
     → GoesOn mid.view after.view → mid.view.hand ≡ held → IfSome held (λ hand. hand.stage ≡ Treed)
     → IfSome held (λ hand. LeadsTo mid.view hand.point n side)
-    → IfSome mid.view.hand (λ hand. after ≡ with_view mid (counted (linked mid.view hand n side (last_fill after.view)) hand))
+    → IfSome mid.view.hand (HasLinked mid after n side)
     → IfSome held (λ hand. SeesLinked entry after.view hand)
 IfSome-sees_linked entry mid after n side None all looks goes_on kept treed leads is = tt
 IfSome-sees_linked entry mid after n side (Some hand) all looks goes_on kept treed leads is =
-    let made : after ≡ with_view mid (counted (linked mid.view hand n side (last_fill after.view)) hand) =
-    subst (λ o. IfSome o (λ h. after ≡ with_view mid (counted (linked mid.view h n side (last_fill after.view)) h))) kept is in
-    SeesLinked-linked entry mid.view all looks after.view hand n side (last_fill after.view) goes_on.later kept treed leads
+    let made : HasLinked mid after n side hand = subst (λ o. IfSome o (HasLinked mid after n side)) kept is in
+    SeesLinked-linked entry mid.view all looks after.view hand n side _ _ _ goes_on.later kept treed leads
     (ap (λ (p : PassState). p.view) made) goes_on.lawful

@@ -5,8 +5,7 @@ use Rattle.std.specs.Prelude.{◌==◌, if◌then◌else◌}
 use Rattle.std.proofs.lemmas.Bool.{cases_eq, ne_eqb}
 use Rattle.grown_runs.proofs.Common.{Point, IsLaterMoment, KeepsSight, Sight, point_at, point_of, StandsAt-present, IsLaterMoment-trans, child_of_word}
 use Rattle.grown_runs.proofs.Common.{point_in}
-use Rattle.kd_shared.specs.Loads.{FindsEmpty, KeepsPoints, LoadsChild, LoadsPoint}
-use Rattle.kd_shared.specs.Spots.{QueuesChild, QueuesWithin}
+use Rattle.kd_shared.proofs.Words.{FindsEmpty, KeepsPoints, LoadsChild, LoadsPoint, QueuesChild, QueuesWithin}
 use Rattle.plan_words.specs.declared.spots.Spot.{Spot}
 
 module _ (before mid after : Sight) (keeps : KeepsSight before) where

@@ -2,12 +2,11 @@
 use Rattle.std.proofs.Common.{◌≡◌, ℕ, ◌<◌, ◌≤◌, Bool, Option, Some, None, refl, sym, ap, ◌∙◌, inl, inr}
 use Rattle.std.specs.Prelude.{◌≢◌, MatchOption}
 use Rattle.grown_runs.proofs.Common.{Point, IsLaterMoment, KeepsSight, IsSeen-more, ChangesOnly, Word, Words, WritesWord, ChildOf, PointOf}
-use Rattle.plan_words.proofs.Common.{SeesAsBefore, NamesChildOrPoint, GoesOn, HasWholeShare}
-use Rattle.step_core.proofs.Common.{IsLater, IsLawfulView, loaded, SeesNode, SeesPoint, sight_in, sees, tree_seen, IsLater-refl, IsLaterMoment-later}
+use Rattle.plan_words.proofs.Common.{HasLooked-refl, SeesAsBefore, NamesChildOrPoint, GoesOn, HasWholeShare}
+use Rattle.step_core.proofs.Common.{HasLooked, IsLater, IsLawfulView, loaded, SeesNode, SeesPoint, sight_in, sees, tree_seen, IsLater-refl, IsLaterMoment-later}
 use Rattle.step_core.proofs.Common.{KeepsSight-lawful, same_name, point_at-kept}
 use Rattle.step_core.specs.declared.views.View.{View}
-use Rattle.kd_shared.specs.Loads.{FindsChild, LoadsChild, LoadsPoint}
-use Rattle.kd_shared.specs.Looking.{OnlyLooks}
+use Rattle.kd_shared.proofs.Words.{FindsChild, LoadsChild, LoadsPoint, OnlyLooks}
 
 -- ---- one after another
 
@@ -17,6 +16,7 @@ OnlyLooks-refl view lawful = record {
     goes_on = record { was_lawful = lawful; later = IsLater-refl view; lawful = lawful };
     others = λ name k. refl;
   };
+  looked = HasLooked-refl view;
   kept = record { crew = refl; most = refl; hand = refl };
   whole = λ all name. refl;
 }
@@ -34,9 +34,11 @@ same_words before after name value writes same other =
 
 -- a step that shows no word but that of a child or of a point
 pub OnlyLooks-loaded : (before after : View) (name : Word) (word : ℕ) → after ≡ loaded before name word → GoesOn before after
-    → ChangesOnly NamesChildOrPoint (sees before) (sees after) → (HasWholeShare before → SeesAsBefore before after) → OnlyLooks before after
-OnlyLooks-loaded before after name word is goes_on others whole = record {
+    → ChangesOnly NamesChildOrPoint (sees before) (sees after) → HasLooked before after → (HasWholeShare before → SeesAsBefore before after)
+    → OnlyLooks before after
+OnlyLooks-loaded before after name word is goes_on others looked whole = record {
   looks = record { goes_on = goes_on; others = others };
+  looked = looked;
   kept = record {
     crew = ap (λ (v : View). v.crew) is;
     most = ap (λ (v : View). v.most) is;

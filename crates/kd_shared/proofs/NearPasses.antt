@@ -6,11 +6,8 @@ use Rattle.plan_words.proofs.Common.{SearchLists, point_of_spot, BelongsTo, Pass
 use Rattle.plan_words.specs.declared.spots.Found.{Found}
 use Rattle.plan_words.specs.declared.spots.Spot.{Spot}
 use Rattle.step_core.proofs.Common.{IsLawfulView, SeesNode, sight_in, IsBounded-seen, KeepsSight-lawful}
-use Rattle.kd_shared.specs.Loads.{LoadsPoint}
-use Rattle.kd_shared.specs.LookLaws.{OnlyLooks-trans}
-use Rattle.kd_shared.specs.Looking.{KeepsLists, OnlyLooks, PassLooks, searched}
-use Rattle.kd_shared.specs.Searches.{AreGathered}
-use Rattle.kd_shared.specs.Spots.{IsChildWithin, Notes, QueuesWithin, side_distance}
+use Rattle.kd_shared.proofs.Words.{LoadsPoint, OnlyLooks-trans, KeepsLists, OnlyLooks, PassLooks, searched, AreGathered, IsChildWithin, Notes, QueuesWithin}
+use Rattle.kd_shared.proofs.Words.{side_distance}
 use Rattle.kd_shared.proofs.NearSearch.{IsGathering, IsGathering-begins, IsGathering-ends, IsGathering-few_found, IsGathering-room_first}
 use Rattle.kd_shared.proofs.NearSearch.{IsGathering-room_last, IsGathering-seen, IsGathering-stands, IsGathering-visits}
 

@@ -7,9 +7,7 @@ use Rattle.std.proofs.lemmas.List.{append-nil, length-map, map-append}
 use Rattle.std.proofs.lemmas.List.Elements.{Contains-append_left, Contains-push, Contains-push_cases}
 use Rattle.grown_runs.proofs.Common.{Point, squared_distance, point_at, AreDistinct, StandsAt, IsSeen, IsLaterMoment, KeepsSight, Sight, StandsAt-unique}
 use Rattle.grown_runs.proofs.Common.{IsFree-ends, IsLaterMoment-trans, Contains-after, Contains-first}
-use Rattle.kd_shared.specs.Loads.{KeepsPoints, LoadsPoint}
-use Rattle.kd_shared.specs.Searches.{AreGathered}
-use Rattle.kd_shared.specs.Spots.{LeavesChild, Notes, Opens, QueuesChild, QueuesWithin, side_distance}
+use Rattle.kd_shared.proofs.Words.{KeepsPoints, LoadsPoint, AreGathered, LeavesChild, Notes, Opens, QueuesChild, QueuesWithin, side_distance}
 use Rattle.plan_words.specs.SearchLists.{noted, numbers_of, point_of_spot}
 use Rattle.plan_words.specs.declared.spots.Found.{Found}
 use Rattle.plan_words.specs.declared.spots.Spot.{Spot}

@@ -5,11 +5,7 @@ use Rattle.grown_runs.proofs.Common.{Point, MOST_NODES, IsBounded, squared_dista
 use Rattle.plan_words.proofs.Common.{no_search, point_of_spot, BelongsTo, PassState, SharedState}
 use Rattle.plan_words.specs.declared.spots.Spot.{Spot}
 use Rattle.step_core.proofs.Common.{IsLawfulView, SeesNode, sight_in, tree_seen, IsBounded-seen, KeepsSight-lawful}
-use Rattle.kd_shared.specs.FarSides.{StacksFar, WalksOn}
-use Rattle.kd_shared.specs.Loads.{LoadsPoint}
-use Rattle.kd_shared.specs.LookLaws.{OnlyLooks-trans}
-use Rattle.kd_shared.specs.Looking.{KeepsLists, OnlyLooks, PassLooks, searched}
-use Rattle.kd_shared.specs.Searches.{IsNearestSeen}
+use Rattle.kd_shared.proofs.Words.{StacksFar, WalksOn, LoadsPoint, OnlyLooks-trans, KeepsLists, OnlyLooks, PassLooks, searched, IsNearestSeen}
 use Rattle.kd_shared.proofs.Looking.{SeesNode-later}
 use Rattle.kd_shared.proofs.NearPasses.{KeepsLists-looks, KeepsLists-searched}
 use Rattle.kd_shared.proofs.NearestSearch.{HasSought-nearest, HasSought-walks, IsNearer, IsSeeking, IsSeeking-begins, IsSeeking-walks, stands_half}

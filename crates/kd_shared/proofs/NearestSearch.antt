@@ -11,10 +11,7 @@ use Rattle.plan_words.specs.SearchLists.{point_of_spot}
 use Rattle.plan_words.specs.declared.spots.Spot.{Spot}
 use Rattle.grown_runs.specs.declared.measured_nodes.MeasuredNode.{MeasuredNode}
 use Rattle.step_core.proofs.Seen.DistinctNumbers.{Contains-cases, Contains-none}
-use Rattle.kd_shared.specs.FarSides.{far_side, IsChildSpot, IsFinished, LoadsSpot, near_side, PopsFar, StacksFar, WalksOn}
-use Rattle.kd_shared.specs.Loads.{LoadsPoint}
-use Rattle.kd_shared.specs.Searches.{IsNearestSeen}
-use Rattle.kd_shared.specs.Spots.{Puts}
+use Rattle.kd_shared.proofs.Words.{far_side, IsChildSpot, IsFinished, LoadsSpot, near_side, PopsFar, StacksFar, WalksOn, LoadsPoint, IsNearestSeen, Puts}
 use Rattle.kd_shared.proofs.Searching.{ends_here, GoesBelow, GoesBelow-later, GoesTo, IsMet, IsSearch, IsSearch-begins, IsSearch-ends, IsSearch-shifts}
 use Rattle.kd_shared.proofs.Searching.{Nothing, Waits, WaitsAt, waits_at_child}
 use Rattle.kd_shared.proofs.WalkedOnce.{IsWalking, IsWalking-begins, IsWalking-far, IsWalking-near}

@@ -1,14 +1,13 @@
 -- The node in hand is linked where the walk along the way of its point has come to, or it stays in hand.
-use Rattle.std.proofs.Common.{◌≡◌, ℕ, suc, Bool, Option, Some, None, sym, ap, ◌∙◌, subst}
+use Rattle.std.proofs.Common.{◌≡◌, ℕ, suc, ◌+◌, Bool, Option, Some, None, inl, sym, ap, ◌∙◌, subst, arith}
 use Rattle.std.specs.Prelude.{IfSome, IsSome}
-use Rattle.grown_runs.proofs.Common.{Point, ChangesOnly}
+use Rattle.grown_runs.proofs.Common.{Point, ChangesOnly, Best, ChildOf, Count, WritesWord}
 use Rattle.plan_words.proofs.Common.{IsLinkedAt, LeadsOn, NamesNode, BelongsTo, GoesOn, PassState, SharedState, with_view, BelongsTo-later, GoesOn-trans}
-use Rattle.plan_words.proofs.Common.{NamesNode-child}
-use Rattle.step_core.proofs.Common.{counted, last_fill, linked, LeadsTo, SeesPoint, sees}
+use Rattle.plan_words.proofs.Common.{HasLinked, NamesNode-child, SeesBestSince-trans}
+use Rattle.step_core.proofs.Common.{last_look, note_before, place_in, LeadsTo, SeesPoint, sees}
 use Rattle.step_core.specs.declared.views.Hand.{Hand}
 use Rattle.step_core.specs.declared.views.View.{View}
-use Rattle.kd_shared.specs.Looking.{GoesOnLooking, OnlyLooks, PassLooks}
-use Rattle.kd_shared.specs.Placings.{GoesOnPlacing, IsPlaced, IsSame, KeepsShare}
+use Rattle.kd_shared.proofs.Words.{OnlyLooks, PassLooks, GoesOnPlacing, IsPlaced, IsSame, KeepsShare, WasLinkedSince}
 
 -- the hand of a pass that only looked
 pub IfSome-kept : (before after : View) (Holds : Hand → Type 0) → OnlyLooks before after → IfSome before.hand Holds → IfSome after.hand Holds
@@ -44,13 +43,34 @@ IfSome-placed now after p n side (Some hand) kept is links leads_on leads =
       counted = link.counted;
     }
 
+-- by the last two steps
+pub IfSome-since : (before : View) (mid after : PassState) (n : ℕ) (side : Bool) (held : Option Hand) → GoesOn before mid.view → mid.view.hand ≡ held
+    → IfSome mid.view.hand (λ hand. IsLinkedAt after.view n side hand)
+    → WritesWord (ChildOf n side) (mid.view.steps + 1) (last_look mid.view) (last_look after.view)
+    → IfSome mid.view.hand (HasLinked mid after n side)
+    → IfSome held (λ hand. WasLinkedSince before after.view hand)
+IfSome-since before mid after n side None goes_on kept links looked is = tt
+IfSome-since before mid after n side (Some hand) goes_on kept links looked is =
+    let link : IsLinkedAt after.view n side hand = subst (λ o. IfSome o (λ h. IsLinkedAt after.view n side h)) kept links in
+    let made : HasLinked mid after n side hand = subst (λ o. IfSome o (HasLinked mid after n side)) kept is in
+    let steps : after.view.steps ≡ mid.view.steps + 1 + 1 = ap (λ (p : PassState). p.view.steps) made in
+    record {
+      above = n;
+      side = side;
+      child = link.child;
+      looked = omega (arith, looked.here, goes_on.later.steps);
+      last = omega (arith, looked.here, steps);
+      counted = ap (λ (p : PassState). (note_before p.view 0).place) made ∙ sym (ap (λ (p : PassState). place_in p.view Count) made);
+    }
+
 -- ---- what it leaves
 
 -- who has only looked has seen nothing anew but words of nodes
-pub GoesOnPlacing-looks : (before after : View) → GoesOnLooking before after → GoesOnPlacing before after
+pub GoesOnPlacing-looks : (before after : View) → OnlyLooks before after → GoesOnPlacing before after
 GoesOnPlacing-looks before after looks = record {
-  goes_on = looks.goes_on;
-  others = λ name off. looks.others name (λ h. off (NamesNode-child name h));
+  goes_on = looks.looks.goes_on;
+  others = λ name off. looks.looks.others name (λ h. off (NamesNode-child name h));
+  best = looks.looked Best;
 }
 
 -- A pass of this tree has placed its node: share and limit stay, and nothing but its view changes.
@@ -67,25 +87,29 @@ PassPlaces-looks shared before mid after one other = record {
   goes_on = record {
     goes_on = GoesOn-trans before.view mid.view after.view one.looks.looks.goes_on other.goes_on.goes_on;
     others = λ name off. other.goes_on.others name off ∙ one.looks.looks.others name (λ h. off (NamesNode-child name h));
+    best =
+        SeesBestSince-trans before.view mid.view after.view one.looks.looks.goes_on other.goes_on.goes_on (one.looks.looked Best)
+        other.goes_on.best;
   };
   share = record { crew = other.share.crew ∙ one.looks.kept.crew; most = other.share.most ∙ one.looks.kept.most };
   view_alone = other.view_alone ∙ ap (λ p. with_view p after.view) one.view_alone;
 }
 
 pub PassPlaces-links : (shared : SharedState) (before after : PassState) (n : ℕ) (side : Bool) → BelongsTo before shared → IsSome before.view.hand
-    → IfSome before.view.hand (λ hand. after ≡ with_view before (counted (linked before.view hand n side (last_fill after.view)) hand))
+    → IfSome before.view.hand (HasLinked before after n side)
     → GoesOn before.view after.view
     → ChangesOnly NamesNode (sees before.view) (sees after.view) → PassPlaces shared before after
 PassPlaces-links shared before after n side belongs held view goes_on others = by_hand before.view.hand held view
   where
-    by_hand : (o : Option Hand) → IsSome o → IfSome o (λ hand. after ≡ with_view before (counted (linked before.view hand n side (last_fill after.view)) hand))
+    by_hand : (o : Option Hand) → IsSome o → IfSome o (HasLinked before after n side)
         → PassPlaces shared before after
     by_hand None none is = cc
     by_hand (Some hand) some_hand is =
-        let view_is : after.view ≡ counted (linked before.view hand n side (last_fill after.view)) hand = ap (λ (p : PassState). p.view) is in
+        let made : HasLinked before after n side hand = is in
+        let view_is = ap (λ (p : PassState). p.view) made in
         record {
           belongs = BelongsTo-later shared before after (ap (λ (p : PassState). p.table) is) goes_on belongs;
-          goes_on = record { goes_on = goes_on; others = others };
+          goes_on = record { goes_on = goes_on; others = others; best = inl (ap (λ (v : View). v.best) view_is) };
           share = record { crew = ap (λ (v : View). v.crew) view_is; most = ap (λ (v : View). v.most) view_is };
-          view_alone = is ∙ ap (with_view before) (sym view_is);
+          view_alone = made ∙ ap (with_view before) (sym view_is);
         }

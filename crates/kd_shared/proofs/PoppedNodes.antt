@@ -6,8 +6,7 @@ use Rattle.std.proofs.lemmas.List.Elements.{Contains-append_left, Contains-push}
 use Rattle.grown_runs.proofs.Common.{Point, IsLaterMoment, KeepsSight, Sight, IsLaterMoment-trans}
 use Rattle.plan_words.specs.declared.spots.Spot.{Spot}
 use Rattle.step_core.proofs.Seen.DistinctNumbers.{Contains-cases}
-use Rattle.kd_shared.specs.FarSides.{far_side, IsFinished, LoadsFar, PopsFar}
-use Rattle.kd_shared.specs.Loads.{KeepsPoints}
+use Rattle.kd_shared.proofs.Words.{far_side, IsFinished, LoadsFar, PopsFar, KeepsPoints}
 
 -- The far sides of those that were popped so far are finished, and no point was seen anew.
 pub record IsPopping (before now : Sight) (target : Point) (bound : ℕ) (stack rest : List Spot) : Type 0 where

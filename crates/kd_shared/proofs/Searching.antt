@@ -5,8 +5,7 @@ use Rattle.std.proofs.lemmas.List.Elements.{Contains-append_left, Contains-push,
 use Rattle.grown_runs.proofs.Common.{Point, squared_distance, StandsAt, IsSeen, EndsSince, IsLaterMoment, KeepsSight, Sight, goes_right, IsOnWay, begins}
 use Rattle.grown_runs.proofs.Common.{goes_on, same_or_other, IsSeen-more, EndsSince-later, IsLaterMoment-trans, goes_right_by, is_by_rows, Contains-after}
 use Rattle.grown_runs.proofs.Common.{goes_right-by, is_by_rows-next, two_sides}
-use Rattle.kd_shared.specs.Loads.{FindsEmpty}
-use Rattle.kd_shared.specs.Spots.{Opens, Puts, side_distance}
+use Rattle.kd_shared.proofs.Words.{FindsEmpty, Opens, Puts, side_distance}
 use Rattle.kd_shared.proofs.SideDistances.{side_distance-le}
 use Rattle.plan_words.specs.declared.spots.Spot.{Spot}
 use Rattle.step_core.proofs.Common.{Contains-cases, Contains-none, IsOnWay-later}

@@ -7,8 +7,7 @@ use Rattle.std.proofs.lemmas.List.Elements.{Contains-append_left, Contains-appen
 use Rattle.grown_runs.proofs.Common.{Point, IsSeen, IsLaterMoment, KeepsSight, Sight, IsLaterMoment-refl, Contains-after, Contains-first}
 use Rattle.plan_words.specs.declared.spots.Spot.{Spot}
 use Rattle.step_core.proofs.Seen.DistinctNumbers.{AreDifferent, AreDifferent-few, AreDifferent-within, Contains-cases, Contains-none}
-use Rattle.kd_shared.specs.FarSides.{far_side, near_side}
-use Rattle.kd_shared.specs.Spots.{Puts}
+use Rattle.kd_shared.proofs.Words.{far_side, near_side, Puts}
 use Rattle.kd_shared.proofs.VisitedOnce.{AreOnce, AreOnce-few, AreOnce-later, AreOnce-low, AreOnce-opens, nodes_of}
 
 -- ---- lists of different numbers

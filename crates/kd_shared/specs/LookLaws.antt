@@ -11,6 +11,7 @@ use Rattle.plan_words.proofs.GoingOn.{GoesOn-trans}
 use Rattle.step_core.specs.ViewTrees.{sight_in}
 use Rattle.step_core.specs.Views.{tree_seen}
 use Rattle.step_core.specs.declared.views.View.{View}
+use Rattle.step_core.proofs.OneView.LaterViews.{HasLooked-trans}
 use Rattle.step_core.proofs.OneView.LawfulSights.{IsLaterMoment-later, KeepsSight-lawful}
 use Rattle.step_core.proofs.Seen.SeenWays.{depth_within}
 
@@ -28,6 +29,7 @@ HasWholeShare-looks before after looks whole =
 pub OnlyLooks-trans : (before mid after : View) → OnlyLooks before mid → OnlyLooks mid after → OnlyLooks before after
 OnlyLooks-trans before mid after one other = record {
   looks = GoesOnLooking-trans before mid after one.looks other.looks;
+  looked = HasLooked-trans before mid after one.looks.goes_on.later other.looks.goes_on.later one.looked other.looked;
   kept = record {
     crew = other.kept.crew ∙ one.kept.crew;
     most = other.kept.most ∙ one.kept.most;

@@ -4,6 +4,7 @@ use Rattle.plan_words.specs.Claims.{KeepsHand, SeesAsBefore}
 use Rattle.plan_words.specs.Nodes.{NamesChildOrPoint}
 use Rattle.plan_words.specs.SearchLists.{SearchLists}
 use Rattle.plan_words.specs.States.{BelongsTo, GoesOn, HasWholeShare, PassState, SharedState, with_view}
+use Rattle.step_core.specs.LaterViews.{HasLooked}
 use Rattle.step_core.specs.Views.{sees}
 use Rattle.grown_runs.specs.Table.WordNames.{ChangesOnly}
 use Rattle.step_core.specs.declared.views.View.{View}
@@ -13,9 +14,11 @@ pub record GoesOnLooking (before after : View) : Type 0 where
   pub goes_on : GoesOn before after
   pub others : ChangesOnly NamesChildOrPoint (sees before) (sees after)
 
--- It only looks: share, limit and hand stay too. A pass with the share of all workers sees nothing new.
+-- It only looks: what is seen otherwise was looked at by one of its steps, and share, limit and hand stay too. A pass with the share of all workers sees
+-- nothing new.
 pub record OnlyLooks (before after : View) : Type 0 where
   pub looks : GoesOnLooking before after
+  pub looked : HasLooked before after
   pub kept : KeepsHand before after
   pub whole : HasWholeShare before → SeesAsBefore before after
 

@@ -1,28 +1,31 @@
 -- Where the node in hand came to.
-use Rattle.std.specs.Prelude.{◌≡◌, ◌≢◌, ℕ, suc, Bool, Some}
+use Rattle.std.specs.Prelude.{◌≡◌, ◌≢◌, ℕ, suc, ◌+◌, ◌<◌, Bool, Some}
 use Rattle.kd_shared.specs.declared.placing.Placing.{Placing}
 use Rattle.kd_shared.specs.declared.placing.Placing.TheVariants.{Placed, Same}
 use Rattle.plan_model.specs.Trees.PointsByNumber.{IsPresent, StandsAt, point_at}
 use Rattle.plan_model.specs.Trees.TreeStates.{TreeState}
 use Rattle.plan_model.specs.Seen.Ways.{IsOnWay}
+use Rattle.plan_words.specs.Bests.{SeesBestSince}
 use Rattle.plan_words.specs.Claims.{SeesAsBefore}
 use Rattle.plan_words.specs.Nodes.{NamesNode}
 use Rattle.plan_words.specs.States.{GoesOn}
+use Rattle.step_core.specs.LaterViews.{HasLooked}
 use Rattle.step_core.specs.SharedWords.{state_of_links}
-use Rattle.step_core.specs.ViewSteps.{pair_in_hand}
+use Rattle.step_core.specs.ViewSteps.{note_before, pair_in_hand, place_in}
 use Rattle.step_core.specs.ViewTrees.{LeadsTo, SeesPoint}
-use Rattle.step_core.specs.Views.{run_sizes, sees, tree_seen}
+use Rattle.step_core.specs.Views.{last_look, run_sizes, sees, tree_seen}
 use Rattle.grown_runs.specs.Table.WordNames.{ChangesOnly, Word}
-use Rattle.grown_runs.specs.Table.WordNames.Word.{ChildOf, FirstOf, PointOf, TreeOf}
+use Rattle.grown_runs.specs.Table.WordNames.Word.{ChildOf, Count, FirstOf, PointOf, TreeOf}
 use Rattle.grown_runs.specs.Table.Words.{point_word}
 use Rattle.step_core.specs.declared.views.Hand.{Hand}
 use Rattle.step_core.specs.declared.views.Stage.TheVariants.{Counted}
 use Rattle.step_core.specs.declared.views.View.{View}
 
--- What was seen stays seen, and of all words none is seen anew but words of nodes.
+-- What was seen stays seen, and of all words none is seen anew but words of nodes; the best word only by a look.
 pub record GoesOnPlacing (before after : View) : Type 0 where
   pub goes_on : GoesOn before after
   pub others : ChangesOnly NamesNode (sees before) (sees after)
+  pub best : SeesBestSince before after
 
 -- share and limit stay
 pub record KeepsShare (before after : View) : Type 0 where
@@ -48,6 +51,20 @@ pub record IsSame (view : View) (hand : Hand) (j : ℕ) : Type 0 where
 abbrev pub IsPlacing : View → Hand → Placing → Type 0
 IsPlacing view hand Placed = IsPlaced view hand
 IsPlacing view hand (Same j) = IsSame view hand j
+
+-- The node in hand was linked by the last step but one, which looked at the place of the child, and counted by the last one, which is noted last.
+pub record WasLinkedSince (before after : View) (hand : Hand) : Type 0 where
+  pub above : ℕ
+  pub side : Bool
+  pub child : (tree_seen after).child above side ≡ Some (suc hand.mark)
+  pub looked : before.steps < last_look after (ChildOf above side)
+  pub last : last_look after (ChildOf above side) + 1 ≡ after.steps
+  pub counted : (note_before after 0).place ≡ place_in after Count
+
+-- If it was not linked, what is seen otherwise than before was looked at since.
+abbrev pub WasPlacedSince : View → View → Hand → Placing → Type 0
+WasPlacedSince before after hand Placed = WasLinkedSince before after hand
+WasPlacedSince before after hand (Same j) = HasLooked before after
 
 -- ---- what a pass with the share of all workers sees
 

@@ -1,7 +1,7 @@
 //! The place of a new node in the kd-tree.
 
 ghost use Rattle.std.specs.Prelude.{◌≡◌, IfSome, IsSome};
-ghost use Rattle.kd_shared.specs.Placings.{GoesOnPlacing, IsPlacing, KeepsShare, SeesPlacing};
+ghost use Rattle.kd_shared.specs.Placings.{GoesOnPlacing, IsPlacing, KeepsShare, SeesPlacing, WasPlacedSince};
 ghost use Rattle.kd_shared.specs.declared.placing.Placing.TheVariants.{Placed};
 ghost use Rattle.plan_model.specs.Trees.PointsByNumber.{IsFree};
 ghost use Rattle.plan_words.specs.States.{BelongsTo, HasWholeShare, with_view};
@@ -35,6 +35,8 @@ pub fn place(shared: &Shared, pass: &mut Pass, _mark: u32) -> Placing
     ensures share { KeepsShare pass.old.view pass.new.view }
     ensures view_alone { pass.new ≡ with_view pass.old pass.new.view }
     ensures placed { IfSome pass.old.view.hand (λ hand. IsPlacing pass.new.view hand result) }
+    // it was linked and counted by the last two steps of this call; of one that is not linked no word was shown without a look
+    ensures since { IfSome pass.old.view.hand (λ hand. WasPlacedSince pass.old.view pass.new.view hand result) }
     // a pass with the whole share places its node where it has seen none, and sees nothing new but that node
     ensures whole { HasWholeShare pass.old.view
         → IfSome pass.old.view.hand (λ hand. IsFree (tree_seen pass.old.view).points hand.point → result ≡ Placed) }

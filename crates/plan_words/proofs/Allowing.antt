@@ -10,14 +10,13 @@ use prog.Atomic.{either}
 use lib.ListN.{get_elem?}
 use Rattle.atomic_table.specs.Table.{State, Me, Act, step, stepped, Valid, carried_after, Allows, Splits, Joins}
 use Rattle.atomic_table.specs.Table.Act.{keeps}
-use Rattle.plan_words.specs.declared.openings.Aim.{Aim}
-use Rattle.plan_words.specs.Bests.{FindsGoalNode}
-use Rattle.plan_words.specs.Plays.{Claims, Counts, FindsAsSeen, FindsCount, FindsPoint, FindsTree, FindsWholeCount, Finishes, Links, Loads, LoadsBest}
-use Rattle.plan_words.specs.Plays.{Lowers, Posts, TellsHand, WritesFirst, WritesPoint, WritesTree}
-use Rattle.plan_words.specs.States.{GoesOn, HasWholeShare, HoldsWorld}
-use Rattle.step_core.proofs.Common.{IsLater, MayPost, MayRecord, MayBeRecorded, best_loaded, best_with, hand_with_best, hand_with_post, posted, claimed}
-use Rattle.step_core.proofs.Common.{counted, finished, finished_at, half, joined, last_fill, linked, linked_at, loaded, looker, lowered, mark_of, pair_in_hand}
-use Rattle.step_core.proofs.Common.{parted, place_in, pointed, saw_at, steps_then, treed, worker_apart, IsSteered, LeadsTo, MayHang, MayLoad, MayLower}
+use Rattle.plan_words.proofs.Words.{Aim, FindsGoalNode, Claims, Counts, FindsAsSeen, FindsCount, FindsPoint, FindsTree, FindsWholeCount, Finishes, Links, Loads}
+use Rattle.plan_words.proofs.Words.{LoadsBest, Lowers, Posts, TellsHand, WritesFirst, WritesPoint, WritesTree, exchanged_at, GoesOn, HasWholeShare, HoldsWorld}
+use Rattle.step_core.proofs.Common.{IsLater, IsUnskipped, MayPost, MayRecord, MayBeRecorded, best_loaded, best_with, hand_with_best, hand_with_post}
+use Rattle.step_core.proofs.Common.{posted, claimed}
+use Rattle.step_core.proofs.Common.{counted, finished, finished_at, half, joined, last_note, linked, linked_at, loaded, looker, lowered, mark_of, pair_in_hand}
+use Rattle.step_core.proofs.Common.{live, note_before, noting, parted, place_in, pointed, saw_at, steps_then, treed, worker_apart, IsSteered, LeadsTo}
+use Rattle.step_core.proofs.Common.{MayHang, MayLoad, MayLower}
 use Rattle.step_core.proofs.Common.{run_sizes, sees, share, spent, words_of_run, IsWorld, IsTurnWord-packed, IsWorld-recorded, in_hand, IsLater-claimed}
 use Rattle.step_core.proofs.Common.{IsLater-finished, IsLater-loaded, IsLawfulView-world, own_count-most, at-set, IsWorld-joined, IsCut-looker, IsCut-parted}
 use Rattle.step_core.proofs.Common.{IsWorld-cut, count-most, IsLater-lowered, IsWorld-lowered, lower-found, tree-written, IsLater-link, IsWorld-counted}
@@ -178,12 +177,12 @@ module _ (run : SharedRun) where
           → Owes run slots id me s place (either b (c + 1) (slice_index s.words place)) (tells (slice_index s.words place))
       pick true e =
           let found : slice_index s.words place ≡ c = eqb-true (slice_index s.words place) c e in
-          let then : View = claimed me.0 g c limit in
+          let then : View = claimed me.0 g c limit (steps_then s.views id me.0) in
           let after : Words = words_of_run run (slice_set s.words place (c + 1)) in
           let counts : WritesWord (Counter g) (c + 1) words after =
           WritesWord-set (run_sizes run) s.words place (c + 1) (c + 1) (Counter g) holds.sized strip at_place refl in
           let world = IsWorld-claimed run words s.views id me.0 holds.world at own after g c limit part idle strip (sym is ∙ found) low most counts in
-          let later = IsLater-claimed run words s.views id me.0 holds.world at own g c limit strip (sym is ∙ found) in
+          let later = IsLater-claimed run words s.views id me.0 holds.world at own g c limit strip (sym is ∙ found) (steps_then s.views id me.0) in
           let view_is : then ≡ cond (slice_index s.words place == c) then (saw_at me.0 place (slice_index s.words place) (slice_index s.words place)) =
           ap (λ b. cond b then (saw_at me.0 place (slice_index s.words place) (slice_index s.words place))) (sym e) in
           owes slots id place (c + 1) me s then (tells (slice_index s.words place)) holds world
@@ -198,7 +197,8 @@ module _ (run : SharedRun) where
       pick false e =
           let x : ℕ = slice_index s.words place in
           let then : View = saw_at me.0 place x x in
-          let view_is : then ≡ cond (x == c) (claimed me.0 g c limit) then = ap (λ b. cond b (claimed me.0 g c limit) then) (sym e) in
+          let view_is : then ≡ cond (x == c) (claimed me.0 g c limit (last_note then)) then =
+          ap (λ b. cond b (claimed me.0 g c limit (last_note then)) then) (sym e) in
           owes slots id place x me s then (tells x) holds (world_kept slots id place me (Counter g) strip at_place own s holds at may)
           record {
             told = record {
@@ -250,9 +250,9 @@ module _ (run : SharedRun) where
 
   pub may_point :
       (slots id place x : ℕ) (me : Me Aim View) (hand : Hand) (m : ℕ) (p : Point) → place ≡ place_of (run_sizes run) (PointOf (suc hand.mark))
-      → me.0.run ≡ run → me.0.hand ≡ Some hand → hand.stage ≡ Claimed → IsSteered me.0 hand.mark m p → x ≡ point_word p
+      → me.0.run ≡ run → me.0.hand ≡ Some hand → hand.stage ≡ Claimed → IsSteered me.0 hand.mark m p → IsUnskipped me.0 hand → x ≡ point_word p
       → Allows (Holds run) slots id me place (λ y. x) (λ y. WritesPoint m p (step slots place x 0 none) me x)
-  may_point slots id place x me hand m p at_place own held stage steered is s holds homes at low =
+  may_point slots id place x me hand m p at_place own held stage steered unskipped is s holds homes at low =
       let words : Words = words_of_run run s.words in
       let after : Words = words_of_run run (slice_set s.words place x) in
       let mark = in_hand run words s.views id me.0 holds.world at hand held in
@@ -260,7 +260,7 @@ module _ (run : SharedRun) where
       let writes : WritesWord (PointOf (suc hand.mark)) (point_word p) words after =
       WritesWord-set (run_sizes run) s.words place x (point_word p) (PointOf (suc hand.mark)) holds.sized here at_place is in
       let then : View = pointed me.0 hand m p in
-      let world = IsWorld-pointed run words after s.views id me.0 holds.world at own hand held stage p writes m steered in
+      let world = IsWorld-pointed run words after s.views id me.0 holds.world at own hand held stage p writes m steered unskipped in
       owes slots id place x me s then (WritesPoint m p (step slots place x 0 none) me x) holds world
       (of_hand me then (λ h. pointed me.0 h m p) hand held refl
       (goes_on words after s.views id me.0 then holds.world at own world (IsLater-pointed me.0 hand m p)))
@@ -316,8 +316,8 @@ module _ (run : SharedRun) where
       is : slice_index s.words place ≡ words (TreeOf n)
       is = ap (slice_index s.words) at_place ∙ found_is s (TreeOf n) within
 
-      leaves : ℕ → View
-      leaves found = saw_at me.0 place found (cond (found == seen) word found)
+      leaves : ℕ → List ℕ → View
+      leaves found steps = exchanged_at me.0 place seen word found steps
 
       pick :
           (b : Bool) → (slice_index s.words place == seen) ≡ b
@@ -329,13 +329,15 @@ module _ (run : SharedRun) where
           let after : Words = words_of_run run (slice_set s.words place word) in
           let writes : WritesWord (TreeOf n) (tree_word parent cost) words after =
           WritesWord-set (run_sizes run) s.words place word (tree_word parent cost) (TreeOf n) holds.sized within at_place word_is in
-          let then : View = lowered me.0 n parent cost in
+          let steps : List ℕ = steps_then s.views id me.0 in
+          let then : View = lowered me.0 n parent cost steps in
           let world = IsWorld-lowered run words s.views id me.0 holds.world at own n parent cost may as_seen after writes part in
-          let later = IsLater-lowered run words s.views id me.0 holds.world at own n parent cost may as_seen in
-          let view_is : then ≡ leaves x =
-          ap (λ i. saw_at me.0 i (sees me.0 (TreeOf n)) (tree_word parent cost)) (sym own_place)
-          ∙ ap (λ found. saw_at me.0 place found (tree_word parent cost)) (sym (same ∙ seen_is)) ∙ ap (saw_at me.0 place x) (sym word_is)
-          ∙ ap (λ b. saw_at me.0 place x (cond b word x)) (sym e) in
+          let later = IsLater-lowered run words s.views id me.0 holds.world at own n parent cost may as_seen steps in
+          let view_is : then ≡ leaves x steps =
+          ap (λ i. noting (saw_at me.0 i (sees me.0 (TreeOf n)) (tree_word parent cost)) i (tree_word parent cost) steps) (sym own_place)
+          ∙ ap (λ f. noting (saw_at me.0 place f (tree_word parent cost)) place (tree_word parent cost) steps) (sym seen_is)
+          ∙ ap (λ w. noting (saw_at me.0 place seen w) place w steps) (sym word_is)
+          ∙ ap (λ b. cond b (noting (saw_at me.0 place seen word) place word steps) (saw_at me.0 place x x)) (sym e) in
           owes slots id place word me s then (Lowers (step slots place seen word none) me x) holds world
           record {
             told = record {
@@ -350,7 +352,8 @@ module _ (run : SharedRun) where
           let x : ℕ = slice_index s.words place in
           let other : x ≢ seen = eqb-false x seen e in
           let then : View = saw_at me.0 place x x in
-          let view_is : then ≡ leaves x = ap (λ b. saw_at me.0 place x (cond b word x)) (sym e) in
+          let view_is : then ≡ leaves x (last_note then) =
+          ap (λ b. cond b (noting (saw_at me.0 place seen word) place word (last_note then)) then) (sym e) in
           let less = lower-found run words s.views id me.0 holds.world at n (seen_written may) (λ same. other (is ∙ same ∙ sym seen_is)) in
           owes slots id place x me s then (Lowers (step slots place seen word none) me x) holds
           (world_kept slots id place me (TreeOf n) within at_place own s holds at may_load_it)
@@ -415,8 +418,8 @@ module _ (run : SharedRun) where
           owes slots id place x me s then (Links (step slots place 0 (hand.mark + 1) none) me x) holds
           (world_kept slots id place me (ChildOf n side) within at_place own s holds at may)
           record {
-            told = of_hand me then (leaves x (last_fill me.0)) hand held
-                (ap (λ b. cond b (linked_at me.0 hand place (last_fill me.0)) (saw_at me.0 place x x)) (sym e))
+            told = of_hand me then (leaves x (last_note me.0)) hand held
+                (ap (λ b. cond b (linked_at me.0 hand place (last_note me.0)) (saw_at me.0 place x x)) (sym e))
                 (goes_on_loaded slots id place me (ChildOf n side) within at_place own s holds at may);
             whole = finds_as_seen slots id place me (ChildOf n side) within at_place own s holds at may;
           }
@@ -433,11 +436,12 @@ module _ (run : SharedRun) where
       let after : Words = words_of_run run (slice_set s.words place ((x + 1) % 2 ^ 64)) in
       let writes : WritesWord Count (words Count + 1) words after =
       WritesWord-set (run_sizes run) s.words place ((x + 1) % 2 ^ 64) (words Count + 1) Count holds.sized tt at_place (fit ∙ ap (λ n. n + 1) is) in
-      let then : View = counted me.0 hand in
+      let noted : List ℕ = steps_then s.views id me.0 in
+      let then : View = counted me.0 hand (words Count + 1) noted in
       let world = IsWorld-counted run words after s.views id me.0 holds.world at own hand held stage writes in
       owes slots id place ((x + 1) % 2 ^ 64) me s then (Counts (step slots place 1 0 none) me x) holds world
-      (of_hand me then (λ h. counted me.0 h) hand held refl
-      (goes_on words after s.views id me.0 then holds.world at own world (IsLater-counted me.0 hand)))
+      (of_hand me then (λ h. counted me.0 h (words Count + 1) noted) hand held refl
+      (goes_on words after s.views id me.0 then holds.world at own world (IsLater-counted me.0 hand (words Count + 1) noted)))
 
   -- ---- the best word
 
@@ -453,7 +457,8 @@ module _ (run : SharedRun) where
       let world : IsWorld run words (set s.views id then) =
       subst (λ v. IsWorld run words (set s.views id v)) same (IsWorld-best_loaded run words s.views id me.0 holds.world at own) in
       let falls = (holds.world.bests id me.0 at own).falls in
-      let later = IsLater-best me.0 x (hand_with_best me.0.hand x) (omega (arith, is, falls)) in
+      let of_run = live run words s.views id me.0 holds.world at own in
+      let later = IsLater-best run me.0 of_run x (hand_with_best me.0.hand x) me.0.notes (omega (arith, is, falls)) in
       owes slots id place x me s then (LoadsBest (step slots place 0 0 none) me x) holds
       (subst (λ items. IsWorld run (words_of_run run items) (set s.views id then)) (sym (same_list s Best tt place)) world) record {
         told = record { view_is = refl; goes_on = goes_on words words s.views id me.0 then holds.world at own world later; slots = refl };
@@ -475,16 +480,18 @@ module _ (run : SharedRun) where
       let left : min y x ≡ best_with me.0 n (words Best) = ap (λ m. min m x) is ∙ ap (min (words Best)) is_pair in
       let writes : WritesWord Best (best_with me.0 n (words Best)) words after =
       WritesWord-set (run_sizes run) s.words place (min y x) (best_with me.0 n (words Best)) Best holds.sized tt at_place left in
-      let then : View = posted me.0 n y in
-      let same : posted me.0 n (words Best) ≡ then = ap (posted me.0 n) (sym is) in
+      let steps : List ℕ = steps_then s.views id me.0 in
+      let then : View = posted me.0 n y steps in
+      let same : posted me.0 n (words Best) steps ≡ then = ap (λ w. posted me.0 n w steps) (sym is) in
       let world : IsWorld run after (set s.views id then) =
       subst (λ v. IsWorld run after (set s.views id v)) same (IsWorld-posted run words after s.views id me.0 holds.world at own n may writes) in
       let falls = (holds.world.bests id me.0 at own).falls in
-      let later = IsLater-best me.0 (best_with me.0 n y) (hand_with_post me.0.hand n) (omega (arith, is, falls)) in
+      let of_run = live run words s.views id me.0 holds.world at own in
+      let later = IsLater-best run me.0 of_run (best_with me.0 n y) (hand_with_post me.0.hand n) then.notes (omega (arith, is, falls)) in
       owes slots id place (min y x) me s then (Posts (step slots place x 0 none) me y) holds world record {
         told = record {
-          view_is = ap (λ m. posted me.0 m y) (sym node);
-          goes_on = subst (λ m. GoesOn me.0 (posted me.0 m y)) (sym node) (goes_on words after s.views id me.0 then holds.world at own world later);
+          view_is = ap (λ m. posted me.0 m y steps) (sym node);
+          goes_on = subst (λ m. GoesOn me.0 (posted me.0 m y steps)) (sym node) (goes_on words after s.views id me.0 then holds.world at own world later);
           slots = refl;
         };
         same = λ whole. is ∙ best-as_seen run words s.views id me.0 holds.world at own whole;

@@ -1,10 +1,7 @@
 -- A child costs at most what it costs through its parent, or it may be lowered to that.
 use Rattle.std.proofs.Common.{◌≡◌, ◌≢◌, ℕ, ◌+◌, ◌<◌, ◌≤◌, ◌^◌, refl, sym, ap, ◌∙◌, subst, arith}
 use Rattle.grown_runs.proofs.Common.{Point, cost_of, TreeOf, cost_in, parent_in, tree_word, cost_in-tree_word, parent_in-tree_word}
-use Rattle.plan_words.specs.LoweredChildren.{CostsAtMostThrough, IsSeenAbove, LooksOn}
-use Rattle.plan_words.specs.States.{GoesOn}
-use Rattle.plan_words.specs.Waiting.{HasSeenParent}
-use Rattle.plan_words.specs.declared.lowered_children.Above.{Above}
+use Rattle.plan_words.proofs.Words.{CostsAtMostThrough, IsSeenAbove, LooksOn, GoesOn, HasSeenParent, Above}
 use Rattle.plan_words.proofs.KeptPairs.{fits_word}
 use Rattle.step_core.proofs.Common.{IsLawfulView, IsCostBelow, MayLower, SeesPoint, sees, SeesPoint-later}
 use Rattle.step_core.specs.declared.views.View.{View}
@@ -48,68 +45,74 @@ apart_above view m n lawful own e = (lawful.pairs n own.written).other own.child
 
 -- ---- the point of a child was loaded
 
-module _ (before mid : View) (above : Above) (n : ℕ) (at : Point) (looks : LooksOn before mid)
-    (same : (m : ℕ) → sees mid (TreeOf m) ≡ sees before (TreeOf m)) (seen_above : IsSeenAbove before above)
-    (own : HasSeenParent before above.node n) (stands : SeesPoint mid n at) where
+-- The node above and its child n are seen, and the point of the child was loaded; that is where it stands.
+pub record LooksAtChild (before mid : View) (above : Above) (n : ℕ) (at : Point) : Type 0 where
+  pub looks : LooksOn before mid
+  pub same : (m : ℕ) → sees mid (TreeOf m) ≡ sees before (TreeOf m)
+  pub above_seen : IsSeenAbove before above
+  pub own : HasSeenParent before above.node n
+  pub stands : SeesPoint mid n at
+
+module _ (before mid : View) (above : Above) (n : ℕ) (at : Point) (child : LooksAtChild before mid above n at) where
   above_mid : IsSeenAbove mid above
-  above_mid = IsSeenAbove-kept before mid above looks.goes_on (same above.node) seen_above
+  above_mid = IsSeenAbove-kept before mid above child.looks.goes_on (child.same above.node) child.above_seen
 
   pub own_mid : HasSeenParent mid above.node n
-  own_mid = HasSeenParent-kept before mid above.node n (same n) own
+  own_mid = HasSeenParent-kept before mid above.node n (child.same n) child.own
 
   pub CostsAtMostThrough-looked : cost_in (sees before (TreeOf n)) ≤ above.cost + cost_of above.point at → CostsAtMostThrough mid above.node n
   CostsAtMostThrough-looked most = record {
     from = above.point;
     at = at;
     above_stands = above_mid.stands;
-    stands = stands;
-    most = omega (arith, most, ap cost_in (same n), above_mid.cost);
+    stands = child.stands;
+    most = omega (arith, most, ap cost_in (child.same n), above_mid.cost);
   }
 
   -- it may be lowered if it is cheaper so
-  module _ (cost : ℕ) (cost_is : cost ≡ above.cost + cost_of above.point at) (less : cost < cost_in (sees before (TreeOf n))) where
+  module _ (cost : ℕ) (cost_is : cost ≡ above.cost + cost_of above.point at) where
     below_parent : IsCostBelow mid at above.node cost
     below_parent = record {
       from = above.point;
       parent_cost = above.cost;
       seen = record { stands = above_mid.stands; written = above_mid.written; cost_is = above_mid.cost };
-      edge = (looks.goes_on.lawful.pairs n own_mid.written).edge at above.point stands
+      edge = (child.looks.goes_on.lawful.pairs n own_mid.written).edge at above.point child.stands
           (subst (λ m. SeesPoint mid m above.point) (sym own_mid.parent) above_mid.stands);
       cost_is = cost_is;
     }
 
-    pub MayLower-child : MayLower mid n above.node cost
-    MayLower-child = record {
+    pub MayLower-child : cost < cost_in (sees before (TreeOf n)) → MayLower mid n above.node cost
+    MayLower-child less = record {
       at = at;
       old_cost = cost_in (sees mid (TreeOf n));
-      seen = record { stands = stands; written = own_mid.written; cost_is = refl };
+      seen = record { stands = child.stands; written = own_mid.written; cost_is = refl };
       below = below_parent;
-      cheaper = omega (arith, less, ap cost_in (same n));
+      cheaper = omega (arith, less, ap cost_in (child.same n));
     }
+
+    fits : (above.node < 2 ^ 18) × (cost < 2 ^ 44)
+    fits = fits_word mid at above.node cost child.looks.goes_on.lawful below_parent
+
+    pub cost-lowered : cost_in (tree_word above.node cost) ≡ cost
+    cost-lowered = cost_in-tree_word above.node cost fits.0 fits.1
 
     -- and then it is a child still, at that cost
     module _ (after : View) (goes_on : GoesOn mid after) (here : sees after (TreeOf n) ≡ tree_word above.node cost)
         (others : (m : ℕ) → m ≢ n → sees after (TreeOf m) ≡ sees mid (TreeOf m)) where
-      fits : (above.node < 2 ^ 18) × (cost < 2 ^ 44)
-      fits = fits_word mid at above.node cost looks.goes_on.lawful below_parent
-
-      pub cost-lowered : cost_in (tree_word above.node cost) ≡ cost
-      cost-lowered = cost_in-tree_word above.node cost fits.0 fits.1
-
       pub HasSeenParent-lowered : HasSeenParent after above.node n
       HasSeenParent-lowered = record {
-        child = own.child;
+        child = child.own.child;
         written = omega (arith, here);
         parent = ap parent_in here ∙ parent_in-tree_word above.node cost fits.0;
       }
 
       pub CostsAtMostThrough-lowered : CostsAtMostThrough after above.node n
       CostsAtMostThrough-lowered =
-          let level = others above.node (apart_above before above.node n looks.goes_on.was_lawful own) in
+          let level = others above.node (apart_above before above.node n child.looks.goes_on.was_lawful child.own) in
           record {
             from = above.point;
             at = at;
             above_stands = stands_on mid after above.node above.point goes_on above_mid.stands;
-            stands = stands_on mid after n at goes_on stands;
-            most = omega (arith, ap cost_in here, cost_in-tree_word above.node cost fits.0 fits.1, cost_is, above_mid.cost, ap cost_in level);
+            stands = stands_on mid after n at goes_on child.stands;
+            most = omega (arith, ap cost_in here, cost-lowered, cost_is, above_mid.cost, ap cost_in level);
           }

@@ -5,11 +5,9 @@ use Rattle.std.specs.Prelude.{◌==◌, cond, MatchOption, IfNone, IfSome}
 use Rattle.std.proofs.lemmas.Bool.{cases_eq, eq-eqb, ne_eqb}
 use Rattle.std.proofs.lemmas.Nat.{mod-mul-add, mul-le}
 use Rattle.grown_runs.proofs.Common.{sum-le, ChangesOnly, IsCounter, Words, WritesWord, Counter}
-use Rattle.plan_words.specs.Claims.{AllFull, AllLoaded, GoesBefore, IsClaimed, IsFirst, IsOpen, KeepsHand, better_of, is_own, next_mark}
-use Rattle.plan_words.specs.States.{BelongsTo, PassState, SharedState, with_view, worker_of}
-use Rattle.plan_words.specs.declared.claims.ClaimOrder.{ClaimOrder}
-use Rattle.plan_words.specs.declared.claims.Next.{Next}
-use Rattle.step_core.proofs.Common.{IsLater, claimed, loaded, mark_of, new_hand, last_look, sees}
+use Rattle.plan_words.proofs.Words.{AllFull, AllLoaded, GoesBefore, IsClaimed, IsFirst, IsOpen, KeepsHand, better_of, is_own, next_mark, BelongsTo, PassState}
+use Rattle.plan_words.proofs.Words.{SharedState, with_view, worker_of, ClaimOrder, Next}
+use Rattle.step_core.proofs.Common.{IsLater, claimed, last_note, loaded, mark_of, new_hand, last_look, sees}
 use Rattle.step_core.specs.declared.views.SharedRun.{SharedRun}
 use Rattle.step_core.specs.declared.views.View.{View}
 use Rattle.plan_words.proofs.Scanning.{Scanned, Scanned-all, Scanned-more, left_over, sum_less}
@@ -97,14 +95,14 @@ KeepsHand-trans before mid after first then = record { crew = then.crew ∙ firs
 pub IsClaimed-exchanged :
     (shared : SharedState) (strips limit g c x : ℕ) (before : View) (mid after : PassState) → strips ≡ shared.task.scene.strips → BelongsTo mid shared
     → KeepsHand before mid.view → IsLater before mid.view → IsOpen mid.view (worker_of before.crew) limit g c → x ≡ c
-    → after ≡ with_view mid (cond (x == c) (claimed mid.view g c limit) (loaded mid.view (Counter g) x))
+    → after ≡ with_view mid (cond (x == c) (claimed mid.view g c limit (last_note after.view)) (loaded mid.view (Counter g) x))
     → WritesWord (Counter g) (cond (x == c) (c + 1) x) (sees mid.view) (sees after.view) → IsClaimed before after.view limit (c * strips + g)
 IsClaimed-exchanged shared strips limit g c x before mid after strips_are belongs kept later open_g found is seen =
     let run : SharedRun = mid.view.run in
     let own : run.strips ≡ strips = ap (λ r. r.strips) belongs.run ∙ sym strips_are in
     let yes : (x == c) ≡ true = eq-eqb x c found in
-    let now : after.view ≡ claimed mid.view g c limit =
-    ap (λ p. p.view) is ∙ ap (λ b. cond b (claimed mid.view g c limit) (loaded mid.view (Counter g) x)) yes in
+    let now : after.view ≡ claimed mid.view g c limit (last_note after.view) =
+    ap (λ p. p.view) is ∙ ap (λ b. cond b (claimed mid.view g c limit (last_note after.view)) (loaded mid.view (Counter g) x)) yes in
     let run_is : after.view.run ≡ run = ap (λ v. v.run) now in
     let here : sees after.view (Counter g) ≡ c + 1 = seen.here ∙ ap (λ b. cond b (c + 1) x) yes in
     let strip : (c * strips + g) % after.view.run.strips ≡ g =
@@ -125,7 +123,7 @@ IsClaimed-exchanged shared strips limit g c x before mid after strips_are belong
           subst (λ s. sees before (Counter s) < sees after.view (Counter s)) (sym strip) (omega (arith, later.seen (Counter g), open_g.round, here));
     }
   where
-    next_is : after.view ≡ claimed mid.view g c limit → mid.view.run.strips ≡ strips → sees after.view (Counter g) ≡ c + 1
+    next_is : after.view ≡ claimed mid.view g c limit (last_note after.view) → mid.view.run.strips ≡ strips → sees after.view (Counter g) ≡ c + 1
         → next_mark after.view g ≡ c * strips + g + after.view.run.strips
     next_is now own here =
         let same : after.view.run.strips ≡ strips = ap (λ v. v.run.strips) now ∙ own in
@@ -133,7 +131,7 @@ IsClaimed-exchanged shared strips limit g c x before mid after strips_are belong
         ∙ omega (arith, same)
 
     first_stays :
-        (h : ℕ) → h < mid.view.run.strips → h ≢ g → after.view ≡ claimed mid.view g c limit → mark_of mid.view.run g c ≡ c * strips + g
+        (h : ℕ) → h < mid.view.run.strips → h ≢ g → after.view ≡ claimed mid.view g c limit (last_note after.view) → mark_of mid.view.run g c ≡ c * strips + g
         → next_mark after.view h < limit → GoesBefore after.view.run (worker_of before.crew) g (c * strips + g) h (next_mark after.view h)
     first_stays h low apart now number open_h =
         let run_is : after.view.run ≡ mid.view.run = ap (λ v. v.run) now in
@@ -171,10 +169,11 @@ claim_nearer limit g c x first mid after some_strip to_mid to_after open_g other
 
 pub kept_exchanged :
     (old : View) (mid after : PassState) (g c limit x : ℕ) → x ≢ c
-    → after ≡ with_view mid (cond (x == c) (claimed mid.view g c limit) (loaded mid.view (Counter g) x)) → KeepsHand old mid.view → KeepsHand old after.view
+    → after ≡ with_view mid (cond (x == c) (claimed mid.view g c limit (last_note after.view)) (loaded mid.view (Counter g) x))
+    → KeepsHand old mid.view → KeepsHand old after.view
 kept_exchanged old mid after g c limit x other is kept =
     let now : after ≡ with_view mid (loaded mid.view (Counter g) x) =
-    is ∙ ap (λ b. with_view mid (cond b (claimed mid.view g c limit) (loaded mid.view (Counter g) x))) (ne_eqb x c other) in
+    is ∙ ap (λ b. with_view mid (cond b (claimed mid.view g c limit (last_note after.view)) (loaded mid.view (Counter g) x))) (ne_eqb x c other) in
     kept_loaded old mid after g x now kept
 
 pub IfNone-any : {A : Type 0} → (o : Option A) (claim : Type 0) → claim → IfNone o claim

@@ -5,16 +5,17 @@ pub use Rattle.plan_words.proofs.HandSteps.{IsLinkedAt-counted, NamesNode-child,
 pub use Rattle.plan_words.proofs.KeptPairs.{if_hand}
 pub use Rattle.plan_words.proofs.NearestParents.{IsBounded-hand, MayHang-nearest, MayHang-start}
 pub use Rattle.plan_words.proofs.PlainScenes.{no_goals}
-pub use Rattle.plan_words.proofs.PostedGoals.{HasPostedGoals-children, HasPostedGoals-more, HasPostedGoals-same, HasPostedGoals-step, HasPostedHand-idle}
-pub use Rattle.plan_words.proofs.PostedGoals.{HasPostedHand-kept, SeesGoal-kept}
-pub use Rattle.plan_words.proofs.Posting.{goal-at, hand-posted, lies-at}
+pub use Rattle.plan_words.proofs.PostedGoals.{HasPostedGoals-children, HasPostedGoals-more, HasPostedGoals-same, HasPostedGoals-step, SeesGoal-kept}
+pub use Rattle.plan_words.proofs.Posting.{goal-at, lies-at}
 pub use Rattle.plan_words.proofs.RisingNumbers.{Contains-number, distinct_numbers, eqb-swap, same_numbers}
 pub use Rattle.plan_words.proofs.Tying.{HasMember-held, entry_fits}
 pub use Rattle.plan_words.proofs.WholeClaims.{OwnsAllStrips-alone}
-pub use Rattle.plan_words.specs.Bests.{FindsGoalNode, HasPostedGoals, HasPostedHand, OnlyPosts}
+pub use Rattle.plan_words.proofs.SeatSteps.{HasLooked-loaded, HasLooked-one, HasLooked-refl, IsOrPosted-trans, KeepsOrPosts-trans}
+pub use Rattle.plan_words.proofs.SeatSteps.{SeesBestSince-trans}
+pub use Rattle.plan_words.specs.Bests.{FindsGoalNode, HasPostedGoals, IsOrPosted, KeepsOrPosts, OnlyPosts, SeesBestSince}
 pub use Rattle.plan_words.specs.Claims.{AllFull, AllLoaded, HasNoneLeft, IsClaimed, IsLeastOpen, KeepsHand, RaisesCounter, SeesAsBefore}
 pub use Rattle.plan_words.specs.LoweredChildren.{CostsAtMostThrough, HasQueued, IsFound, IsLoweredChild, LooksOn, LowersChildren, SeesSamePoints}
-pub use Rattle.plan_words.specs.Nodes.{IsLinkedAt, LeadsOn, NamesChildOrPoint, NamesNode}
+pub use Rattle.plan_words.specs.Nodes.{HasLinked, IsLinkedAt, LeadsOn, NamesChildOrPoint, NamesNode}
 pub use Rattle.plan_words.specs.Parents.{IsPairIn}
 pub use Rattle.plan_words.specs.SearchLists.{SearchLists, is_dearer, no_search, numbers_of, point_of_spot, weighed}
 pub use Rattle.plan_words.specs.States.{BelongsTo, GoesOn, HasWholeShare, Lists, MayClaim, PassState, SharedState, StartsAs, new_pass, run_in, tree_words}

@@ -8,11 +8,8 @@ use Rattle.atomic_table.specs.Seated.{TableId}
 use Rattle.grown_runs.proofs.Common.{skipping_goals, turns_of, state_of_grown, words_of_grown, HoldRun, record_at, sizes_of, state_of_words, sizes_in}
 use Rattle.grown_runs.proofs.Common.{IsLeastBest, Word, Words, WritesWord, Best, ChildOf, Count, Counter, FirstOf, PointOf, RecordOf, TreeOf, word_count}
 use Rattle.grown_runs.proofs.Common.{state-best}
-use Rattle.plan_words.specs.Parents.{HasParentsWithin}
-use Rattle.plan_words.specs.Dealt.{IsPassOf, StandsFor, each_after}
-use Rattle.plan_words.specs.States.{BelongsTo, HoldsWorld, IsTableOf, IsTied, MayClaim, PassState, SharedState}
-use Rattle.plan_words.specs.States.{StartsAs, first_member, first_view, new_pass, run_in, run_of_opening, with_view, without_best}
-use Rattle.plan_words.specs.declared.openings.Opening.{Opening}
+use Rattle.plan_words.proofs.Words.{HasParentsWithin, IsPassOf, StandsFor, each_after, BelongsTo, HoldsWorld, IsTableOf, IsTied, MayClaim, PassState}
+use Rattle.plan_words.proofs.Words.{SharedState, StartsAs, first_member, first_view, new_pass, run_in, run_of_opening, with_view, without_best, Opening}
 use Rattle.step_core.proofs.Common.{crew_from, member_of, parted, second_alone, without_second, worker_apart, sees, IsLawfulView, IsLawfulView-world}
 use Rattle.step_core.proofs.Common.{IsWorld-started}
 use Rattle.grown_runs.specs.Table.WordPlaces.{word_at}

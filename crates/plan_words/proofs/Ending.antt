@@ -7,10 +7,7 @@ use lib.ListN.{get_elem?}
 use Rattle.atomic_table.specs.Table.{Final, Seen, State}
 use Rattle.grown_runs.proofs.Common.{quota_of, AreSameRuns, Record, Task, HoldRun, cleared, record_at, run_words, sizes_of, state_of_words, state_of_grown}
 use Rattle.grown_runs.proofs.Common.{words_of_grown, sizes_in, words_in, Words, Counter, FirstOf, RecordOf, Sizes, record_of_word, AreSameRuns-trans}
-use Rattle.plan_words.specs.Claims.{HasNoneLeft}
-use Rattle.plan_words.specs.declared.openings.Aim.{Aim}
-use Rattle.plan_words.specs.declared.openings.Opening.{Opening}
-use Rattle.plan_words.specs.States.{HoldsWorld, run_of_opening}
+use Rattle.plan_words.proofs.Words.{HasNoneLeft, Aim, Opening, HoldsWorld, run_of_opening}
 use Rattle.step_core.proofs.Common.{StandsAsSeen, state_of_links, run_of, run_sizes, sees, share, words_of_run, IsWorld, state_in, AreSameRuns-cleared}
 use Rattle.step_core.proofs.Common.{HoldRun-whole, StandsAsSeen-whole, own_workers-whole}
 use Rattle.grown_runs.specs.Table.WordPlaces.{word_at}

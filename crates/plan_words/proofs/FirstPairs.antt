@@ -2,8 +2,7 @@
 use Rattle.std.proofs.Common.{◌≡◌, ℕ, ◌+◌, ◌<◌, ◌≤◌, List, length, sym, ap, ◌∙◌, subst, arith}
 use Rattle.std.specs.Prelude.{slice_set}
 use Rattle.std.proofs.lemmas.List.{length-set}
-use Rattle.plan_words.specs.SeenChains.{chain_of, seen_words, sibling_chain_in}
-use Rattle.plan_words.specs.States.{HasFirstPairs, HasPairs}
+use Rattle.plan_words.proofs.Words.{chain_of, seen_words, sibling_chain_in, HasFirstPairs, HasPairs}
 use Rattle.plan_words.proofs.SeenLists.{index-seen, length-seen, seen-set}
 use Rattle.step_core.specs.declared.views.View.{View}
 

@@ -16,8 +16,8 @@ module _ (view : View) (hand : Hand) (entry : Record) (lawful : IsLawfulView vie
     where
       by_outcome : (o : Outcome) → MayEnd view hand entry o → entry.nearest < 2 ^ 18
       by_outcome Placed h = small_number entry.nearest h.present
-      by_outcome (Same j) h = small_number entry.nearest h.present
-      by_outcome Blocked h = small_number entry.nearest h.present
+      by_outcome (Same j) h = small_number entry.nearest h.1.present
+      by_outcome Blocked h = small_number entry.nearest h.1.present
       by_outcome Skipped h = subst (λ n. n < 2 ^ 18) (sym h.node) (mod_below h.word (2 ^ 18) (omega arith))
 
   -- by a variable, since the class of a numeral computes long
@@ -29,6 +29,6 @@ module _ (view : View) (hand : Hand) (entry : Record) (lawful : IsLawfulView vie
     where
       by_outcome : (o : Outcome) → MayEnd view hand entry o → last_field o entry.class < 2 ^ 18
       by_outcome Placed h = low_class 262144 (omega arith) (omega arith) (omega (arith, lawful.count, lawful.run.marks)) h.outcome.high
-      by_outcome (Same j) h = small_number j (ap is_some h.outcome)
+      by_outcome (Same j) h = small_number j (ap is_some h.1.outcome)
       by_outcome Blocked h = omega arith
       by_outcome Skipped h = omega arith

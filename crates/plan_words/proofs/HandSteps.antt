@@ -1,13 +1,14 @@
 -- What a pass keeps and has seen after a step for the mark in its hand.
-use Rattle.std.proofs.Common.{◌≡◌, ◌≢◌, ℕ, zero, suc, ◌<◌, ◌≤◌, ◌^◌, Bool, true, false, List, length, Option, Some, None, inr, refl, sym, ap, ◌∙◌, subst, arith}
+use Rattle.std.proofs.Common.{◌≡◌, ◌≢◌, ℕ, zero, suc, ◌+◌, ◌<◌, ◌≤◌, ◌^◌, Bool, true, false, List, length, Option, Some, None, inr, refl, sym, ap}
+use Rattle.std.proofs.Common.{◌∙◌, subst, arith}
 use Rattle.std.specs.Prelude.{◌==◌, cond, IfSome, IsSome, is_some}
 use Rattle.std.proofs.lemmas.Bool.{eqb-true, ne_eqb}
-use Rattle.grown_runs.proofs.Common.{IsBounded, child_of_word, ChangesOnly, Word, Best, ChildOf, Count, Counter, FirstOf, PointOf, RecordOf, TreeOf}
+use Rattle.grown_runs.proofs.Common.{IsBounded, child_of_word, ChangesOnly, Word, WritesWord, Best, ChildOf, Count, Counter, FirstOf, PointOf, RecordOf, TreeOf}
 use Rattle.grown_runs.proofs.Common.{point_of_word, point_of_word-packed}
-use Rattle.plan_words.specs.Nodes.{NamesChildOrPoint, IsLinkedAt, NamesNode}
-use Rattle.plan_words.specs.States.{PassState, with_view}
-use Rattle.step_core.proofs.Common.{IsLawfulView, has_point, counted, last_fill, linked, linked_at, loaded, place_in, saw_at, LeadsTo, SeesNode, run_sizes}
-use Rattle.step_core.proofs.Common.{sees, tree_seen, IsBounded-steered, sees-linked, WritesWord-saw, point_at-seen}
+use Rattle.plan_words.proofs.Words.{HasLinked, IsLinkedAt, NamesChildOrPoint, NamesNode, PassState, with_view}
+use Rattle.step_core.proofs.Common.{IsLawfulView, has_point, counted, last_look, last_note, linked, linked_at, loaded, note_before, place_in, saw_at}
+use Rattle.step_core.proofs.Common.{LeadsTo, SeesNode, run_sizes}
+use Rattle.step_core.proofs.Common.{sees, tree_seen, IsBounded-steered, sees-linked, WritesWord-looked, WritesWord-saw, point_at-seen}
 use Rattle.step_core.specs.declared.views.Hand.{Hand}
 use Rattle.step_core.specs.declared.views.Stage.TheVariants.{Treed}
 use Rattle.step_core.specs.declared.views.View.{View}
@@ -59,28 +60,31 @@ leads_seen view hand n side lawful leads = lawful.tree.rooted.points n (ap is_so
 pub linked_view :
     (old mid new : PassState) (n : ℕ) (side : Bool) (found : ℕ) → found ≡ 0
     → IfSome old.view.hand (λ hand.
-    mid ≡ with_view old (cond (found == 0) (linked old.view hand n side (last_fill mid.view)) (loaded old.view (ChildOf n side) found)))
-    → IfSome mid.view.hand (λ hand. new ≡ with_view mid (counted mid.view hand))
-    → IfSome old.view.hand (λ hand. new ≡ with_view old (counted (linked old.view hand n side (last_fill new.view)) hand))
+    mid ≡ with_view old (cond (found == 0) (linked old.view hand n side (last_note mid.view)) (loaded old.view (ChildOf n side) found)))
+    → IfSome mid.view.hand (λ hand. new ≡ with_view mid (counted mid.view hand (note_before new.view 0).word (last_note new.view)))
+    → IfSome old.view.hand (HasLinked old new n side)
 linked_view old mid new n side found none first then = by_hand old.view.hand first
   where
     by_hand :
         (o : Option Hand)
         → IfSome o (λ hand.
-        mid ≡ with_view old (cond (found == 0) (linked old.view hand n side (last_fill mid.view)) (loaded old.view (ChildOf n side) found)))
-        → IfSome o (λ hand. new ≡ with_view old (counted (linked old.view hand n side (last_fill new.view)) hand))
+        mid ≡ with_view old (cond (found == 0) (linked old.view hand n side (last_note mid.view)) (loaded old.view (ChildOf n side) found)))
+        → IfSome o (HasLinked old new n side)
     by_hand None is = tt
     by_hand (Some hand) is =
-        let steps : List ℕ = last_fill mid.view in
+        let steps : List ℕ = last_note mid.view in
+        let last : List ℕ = last_note new.view in
+        let word : ℕ = (note_before new.view 0).word in
         let made : mid ≡ with_view old (linked old.view hand n side steps) =
         is ∙ ap (λ r. with_view old (cond (r == 0) (linked old.view hand n side steps) (loaded old.view (ChildOf n side) r))) none in
-        let count : new ≡ with_view old (counted (linked old.view hand n side steps) hand) =
-        subst (λ m. IfSome m.view.hand (λ h. new ≡ with_view m (counted m.view h))) made then in
-        let same : last_fill new.view ≡ steps = ap (λ p. last_fill p.view) count in
-        count ∙ ap (λ l. with_view old (counted (linked old.view hand n side l) hand)) (sym same)
+        let count : new ≡ with_view old (counted (linked old.view hand n side steps) hand word last) =
+        subst (λ m. IfSome m.view.hand (λ h. new ≡ with_view m (counted m.view h word last))) made then in
+        let same : (note_before new.view 1).steps ≡ steps = ap (λ p. (note_before p.view 1).steps) count in
+        count ∙ ap (λ l. with_view old (counted (linked old.view hand n side l) hand word last)) (sym same)
 
-module _ (view then : View) (hand : Hand) (n : ℕ) (side : Bool) (steps : List ℕ) (lawful : IsLawfulView view) (held : view.hand ≡ Some hand)
-    (stage : hand.stage ≡ Treed) (leads : LeadsTo view hand.point n side) (is : then ≡ counted (linked view hand n side steps) hand) where
+module _ (view then : View) (hand : Hand) (n : ℕ) (side : Bool) (steps last : List ℕ) (count : ℕ) (lawful : IsLawfulView view)
+    (held : view.hand ≡ Some hand) (stage : hand.stage ≡ Treed) (leads : LeadsTo view hand.point n side)
+    (is : then ≡ counted (linked view hand n side steps) hand count last) where
   within : n ≤ length view.run.marks
   within = lawful.within n (leads_seen view hand n side lawful leads)
 
@@ -106,6 +110,12 @@ module _ (view then : View) (hand : Hand) (n : ℕ) (side : Bool) (steps : List 
         counted = refl;
       })
 
+  -- the child was looked at by the first step
+  pub looked-linked : WritesWord (ChildOf n side) (view.steps + 1) (last_look view) (last_look then)
+  looked-linked =
+      subst (λ v. WritesWord (ChildOf n side) (view.steps + 1) (last_look view) (last_look v)) (sym is)
+      (WritesWord-looked view.run view lawful.of_run (ChildOf n side) within 0 (suc hand.mark))
+
   -- and nothing else is seen anew
   pub ChangesOnly-linked : ChangesOnly NamesNode (sees view) (sees then)
   ChangesOnly-linked name other =
@@ -118,11 +128,11 @@ module _ (view then : View) (hand : Hand) (n : ℕ) (side : Bool) (steps : List 
 
 pub met_view :
     (old mid : PassState) (hand : Hand) (n : ℕ) (side : Bool) (found : ℕ) → found ≢ 0
-    → mid ≡ with_view old (cond (found == 0) (linked old.view hand n side (last_fill mid.view)) (loaded old.view (ChildOf n side) found))
+    → mid ≡ with_view old (cond (found == 0) (linked old.view hand n side (last_note mid.view)) (loaded old.view (ChildOf n side) found))
     → mid.view ≡ loaded old.view (ChildOf n side) found
 met_view old mid hand n side found some_child is =
     ap (λ p. p.view) is
-    ∙ ap (λ b. cond b (linked old.view hand n side (last_fill mid.view)) (loaded old.view (ChildOf n side) found)) (ne_eqb found 0 some_child)
+    ∙ ap (λ b. cond b (linked old.view hand n side (last_note mid.view)) (loaded old.view (ChildOf n side) found)) (ne_eqb found 0 some_child)
 
 module _
     (view then : View) (n : ℕ) (side : Bool) (c : ℕ) (lawful : IsLawfulView view) (seen : SeesNode view n) (some_child : c ≢ 0)
@@ -140,6 +150,11 @@ module _
   ChangesOnly-met name other =
       ap (λ v. sees v name) is
       ∙ (WritesWord-saw view.run view lawful.of_run (ChildOf n side) (lawful.within n seen) c c).others name (λ e. other (subst NamesChildOrPoint (sym e) tt))
+
+  pub looked-met : WritesWord (ChildOf n side) (view.steps + 1) (last_look view) (last_look then)
+  looked-met =
+      subst (λ v. WritesWord (ChildOf n side) (view.steps + 1) (last_look view) (last_look v)) (sym is)
+      (WritesWord-looked view.run view lawful.of_run (ChildOf n side) (lawful.within n seen) c c)
 
   pub ChangesOnly-met_node : ChangesOnly NamesNode (sees view) (sees then)
   ChangesOnly-met_node name other = ChangesOnly-met name (λ h. other (NamesNode-child name h))

@@ -3,9 +3,7 @@ use Rattle.std.proofs.Common.{◌≡◌, ℕ, ◌<◌, ◌≤◌, ◌^◌, Bool,
 use Rattle.std.specs.Prelude.{◌==◌, ◌&&◌, cond, nat_le, nat_lt, slice_index}
 use Rattle.std.specs.Option.{option_or}
 use Rattle.atomic_table.specs.Table.{Me}
-use Rattle.plan_words.specs.declared.openings.Aim.{Aim}
-use Rattle.plan_words.specs.Plays.{Tells}
-use Rattle.plan_words.specs.States.{GoesOn, HasPairs, first_member}
+use Rattle.plan_words.proofs.Words.{Aim, Tells, GoesOn, HasPairs, first_member}
 use Rattle.step_core.proofs.Common.{IsLater, IsLawfulView, joined, loaded, place_in, run_sizes, sees, took_over, words_of_run, IsLater-joined, IsLater-trans}
 use Rattle.step_core.proofs.Common.{word_at-merged}
 use Rattle.grown_runs.proofs.Common.{AreBehind, later_word, Falling, Count, TreeOf, cost_in}

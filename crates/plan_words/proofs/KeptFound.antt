@@ -11,9 +11,7 @@ use Rattle.std.proofs.lemmas.List.{drop-set-lt, get_or-drop, get_or-map, get_or-
 use Rattle.std.proofs.lemmas.Option.{slice_get-get_or}
 use Rattle.std.proofs.lemmas.List.Filters.{FiltersInPlace, FiltersInPlace-more_no, FiltersInPlace-more_set}
 use Rattle.std.specs.List.Sorted.{IsNonDecreasing, IsNonDecreasingBy}
-use Rattle.plan_words.specs.SearchLists.{found_in, is_dearer, numbers_of}
-use Rattle.plan_words.specs.declared.spots.Cell.{Cell}
-use Rattle.plan_words.specs.declared.spots.Found.{Found}
+use Rattle.plan_words.proofs.Words.{found_in, is_dearer, numbers_of, Cell, Found}
 
 -- one more is written
 pub FiltersInPlace-put : {X : Type 0} (p : X → Bool) (xs ys : List X) (k next i : ℕ) (x : X) (b : Bool) → FiltersInPlace p xs ys k i → i < length ys

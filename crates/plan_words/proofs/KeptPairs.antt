@@ -5,11 +5,10 @@ use Rattle.std.specs.Prelude.{◌==◌, IfSome, cond, is_some, slice_index, slic
 use Rattle.std.proofs.lemmas.Bool.{cases_eq, eqb-true}
 use Rattle.std.proofs.lemmas.List.{get_or-set_other, get_or-set_same, length-set}
 use Rattle.atomic_table.specs.Table.{Me}
-use Rattle.grown_runs.proofs.Common.{Point, cost_of-short, Word, ChildOf, Counter, RecordOf, TreeOf, HasWord, parent_in, tree_word}
-use Rattle.plan_words.specs.Plays.{Tells}
-use Rattle.plan_words.specs.States.{HasPairs, HasRoom, IsTied, first_member, turned}
-use Rattle.plan_words.specs.declared.openings.Aim.{Aim}
-use Rattle.step_core.proofs.Common.{IsLawfulView, claimed, finished_at, linked, linked_at, loaded, lowered, one_turn_more, pair_in_hand, place_in, saw, saw_at}
+use Rattle.grown_runs.proofs.Common.{Point, cost_of-short, Word, ChildOf, Counter, RecordOf, TreeOf, HasWord, WritesWord, parent_in, tree_word}
+use Rattle.plan_words.proofs.Words.{Tells, exchanged_at, HasPairs, HasRoom, IsTied, first_member, turned, Aim}
+use Rattle.step_core.proofs.Common.{IsLawfulView, claimed, finished_at, linked, linked_at, loaded, lowered, noting, one_turn_more, pair_in_hand}
+use Rattle.step_core.proofs.Common.{place_in, saw, saw_at}
 use Rattle.step_core.proofs.Common.{IsCostBelow, run_sizes, sees, sees-linked, WritesWord-saw}
 use Rattle.step_core.specs.declared.views.Hand.{Hand}
 use Rattle.step_core.specs.declared.views.Member.{Member}
@@ -34,26 +33,30 @@ HasPairs-saw view then pairs name place found x lawful here at_place is other ha
     ap (λ v. sees v (TreeOf n)) (is ∙ ap (λ i. saw_at view i found x) at_place)
     ∙ (WritesWord-saw view.run view lawful.of_run name here found x).others (TreeOf n) (other n)) has
 
+-- of all tree words that of node m alone is seen anew
+pub HasPairs-wrote :
+    (view then : View) (pairs : List ℕ) (m x : ℕ) → then.run ≡ view.run → m ≤ length view.run.marks → WritesWord (TreeOf m) x (sees view) (sees then)
+    → HasPairs view pairs → HasPairs then (slice_set pairs m x)
+HasPairs-wrote view then pairs m x run here writes has = record {
+  for_each = length-set pairs m x ∙ has.for_each ∙ ap (λ r. length r.marks + 1) (sym run);
+  seen = λ n within.
+      let low = subst (λ r. n ≤ length r.marks) run within in
+      elim (cases_eq n m) [
+        | inl e ↦
+            ap (slice_index (slice_set pairs m x)) e ∙ get_or-set_same pairs m x 0 (omega (arith, has.for_each, here))
+            ∙ sym (ap (λ i. sees then (TreeOf i)) e ∙ writes.here)
+        | inr apart ↦ get_or-set_other pairs m n x 0 apart ∙ has.seen n low ∙ sym (writes.others (TreeOf n) (λ e. apart cc))
+      ];
+}
+
 -- a step on the tree word of node m
 pub HasPairs-set :
     (view then : View) (pairs : List ℕ) (m place found x : ℕ) → IsLawfulView view → m ≤ length view.run.marks → place ≡ place_in view (TreeOf m)
     → then ≡ saw_at view place found x → HasPairs view pairs → HasPairs then (slice_set pairs m x)
-HasPairs-set view then pairs m place found x lawful here at_place is has =
-    let writes = WritesWord-saw view.run view lawful.of_run (TreeOf m) here found x in
-    let same : then ≡ saw view (TreeOf m) found x = is ∙ ap (λ i. saw_at view i found x) at_place in
-    record {
-      for_each = length-set pairs m x ∙ has.for_each ∙ ap (λ v. length v.run.marks + 1) (sym is);
-      seen = λ n within.
-          let low = subst (λ v. n ≤ length v.run.marks) is within in
-          elim (cases_eq n m) [
-            | inl e ↦
-                ap (slice_index (slice_set pairs m x)) e ∙ get_or-set_same pairs m x 0 (omega (arith, has.for_each, here))
-                ∙ sym (ap (λ i. sees then (TreeOf i)) e ∙ ap (λ v. sees v (TreeOf m)) same ∙ writes.here)
-            | inr apart ↦
-                get_or-set_other pairs m n x 0 apart ∙ has.seen n low
-                ∙ sym (ap (λ v. sees v (TreeOf n)) same ∙ writes.others (TreeOf n) (λ e. apart cc))
-          ];
-    }
+HasPairs-set view then pairs m place found x lawful here at_place is =
+    HasPairs-wrote view then pairs m x (ap (λ v. v.run) is) here
+    (subst (λ v. WritesWord (TreeOf m) x (sees view) (sees v)) (sym (is ∙ ap (λ i. saw_at view i found x) at_place))
+    (WritesWord-saw view.run view lawful.of_run (TreeOf m) here found x))
 
 -- what a pass keeps
 abbrev pub Keeps : Me Aim View → Option Member → Option Hand → ℕ → ℕ → ℕ → ℕ → List ℕ → Type 0
@@ -142,9 +145,10 @@ turned-first (member ∷ crew) = refl
 
 -- a mark is claimed
 pub HasPairs-claimed :
-    (view : View) (pairs : List ℕ) (g c limit : ℕ) → IsLawfulView view → g < view.run.strips → HasPairs view pairs → HasPairs (claimed view g c limit) pairs
-HasPairs-claimed view pairs g c limit lawful strip has =
-    HasPairs-kept (saw view (Counter g) c (c + 1)) (claimed view g c limit) pairs refl (λ n. refl)
+    (view : View) (pairs : List ℕ) (g c limit : ℕ) (steps : List ℕ) → IsLawfulView view → g < view.run.strips → HasPairs view pairs
+    → HasPairs (claimed view g c limit steps) pairs
+HasPairs-claimed view pairs g c limit steps lawful strip has =
+    HasPairs-kept (saw view (Counter g) c (c + 1)) (claimed view g c limit steps) pairs refl (λ n. refl)
     (HasPairs-saw view (saw view (Counter g) c (c + 1)) pairs (Counter g) (place_in view (Counter g)) c (c + 1) lawful strip refl refl (λ n e. cc) has)
 
 -- a node is linked, and its tree word is seen
@@ -174,19 +178,20 @@ HasPairs-linked view hand n side place steps pairs x lawful held within at_place
 
 -- a cost is lowered, or another word is found
 pub lower_view :
-    (view then : View) (n parent cost place expected word found : ℕ) → place ≡ place_in view (TreeOf n) → expected ≡ sees view (TreeOf n)
-    → word ≡ tree_word parent cost → then ≡ saw_at view place found (cond (found == expected) word found)
-    → then ≡ cond (found == sees view (TreeOf n)) (lowered view n parent cost) (loaded view (TreeOf n) found)
-lower_view view then n parent cost place expected word found at_place expected_is word_is is =
-    is ∙ ap (λ e. saw_at view place found (cond (found == e) word found)) expected_is ∙ by_test (found == sees view (TreeOf n)) refl
+    (view then : View) (n parent cost place expected word found : ℕ) (steps : List ℕ) → place ≡ place_in view (TreeOf n) → expected ≡ sees view (TreeOf n)
+    → word ≡ tree_word parent cost → then ≡ exchanged_at view place expected word found steps
+    → then ≡ cond (found == expected) (lowered view n parent cost steps) (loaded view (TreeOf n) found)
+lower_view view then n parent cost place expected word found steps at_place expected_is word_is is = is ∙ by_test (found == expected)
   where
     by_test :
-        (b : Bool) → (found == sees view (TreeOf n)) ≡ b
-        → saw_at view place found (cond b word found) ≡ cond b (lowered view n parent cost) (loaded view (TreeOf n) found)
-    by_test true e =
-        ap (λ i. saw_at view i found word) at_place ∙ ap (λ f. saw view (TreeOf n) f word) (eqb-true found (sees view (TreeOf n)) e)
-        ∙ ap (saw view (TreeOf n) (sees view (TreeOf n))) word_is
-    by_test false e = ap (λ i. saw_at view i found found) at_place
+        (b : Bool)
+        → cond b (noting (saw_at view place expected word) place word steps) (saw_at view place found found)
+        ≡ cond b (lowered view n parent cost steps) (loaded view (TreeOf n) found)
+    by_test true =
+        ap (λ i. noting (saw_at view i expected word) i word steps) at_place
+        ∙ ap (λ f. noting (saw view (TreeOf n) f word) (place_in view (TreeOf n)) word steps) expected_is
+        ∙ ap (λ w. noting (saw view (TreeOf n) (sees view (TreeOf n)) w) (place_in view (TreeOf n)) w steps) word_is
+    by_test false = ap (λ i. saw_at view i found found) at_place
 
 -- a parent and a cost that may be written fit a word
 pub fits_word :

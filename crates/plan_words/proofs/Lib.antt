@@ -32,3 +32,4 @@ pub mod KeptFound
 pub mod RisingNumbers
 pub mod PlainScenes
 pub mod Common
+mod Words

@@ -1,9 +1,7 @@
 -- What a pass has seen of a node after it has loaded a word of it.
 use Rattle.std.proofs.Common.{◌≡◌, ℕ, zero, suc, ◌<◌, ◌≤◌, ◌^◌, Bool, length, Some, inl, inr, refl, sym, ap, ◌∙◌, subst, arith}
 use Rattle.std.specs.Prelude.{MatchOption, unwrap_or}
-use Rattle.plan_words.specs.Parents.{IsEdgeSeen, IsPairIn}
-use Rattle.plan_words.specs.Plays.{FindsPoint}
-use Rattle.plan_words.specs.States.{GoesOn}
+use Rattle.plan_words.proofs.Words.{IsEdgeSeen, IsPairIn, FindsPoint, GoesOn}
 use Rattle.grown_runs.proofs.Common.{child_of_word, sizes_in, Word, ChildOf, PointOf, TreeOf, place_of, cost_in, parent_in, point_in, point_of_word}
 use Rattle.grown_runs.proofs.Common.{if_written-set}
 use Rattle.step_core.proofs.Common.{IsLawfulView, place_in, saw, saw_at, SeesNode, SeesPoint, last_zero, run_sizes, sees, tree_seen, WritesWord-saw}

@@ -3,11 +3,8 @@ use Rattle.std.proofs.Common.{◌≡◌, ◌≢◌, ◌⊎◌, ℕ, suc, ◌<◌
 use Rattle.std.specs.Prelude.{slice_index, slice_set}
 use Rattle.std.proofs.lemmas.Bool.{cases_eq}
 use Rattle.std.proofs.lemmas.List.{get_or-set_other, get_or-set_same, length-set}
-use Rattle.plan_words.specs.LoweredChildren.{CostsAtMostThrough, HasQueued, IsLoweredChild, LooksOn, LowersChildren, PostsChanged, SeesSamePoints}
-use Rattle.plan_words.specs.Parents.{FindsLess}
-use Rattle.plan_words.specs.SeenChains.{chain_of, sibling_chain_in}
-use Rattle.plan_words.specs.States.{GoesOn, HasFirstPairs, HasWholeShare}
-use Rattle.plan_words.specs.Waiting.{HasSeenParent, IsOn}
+use Rattle.plan_words.proofs.Words.{CostsAtMostThrough, HasQueued, IsLoweredChild, LooksOn, LowersChildren, PostsChanged, SeesSamePoints, FindsLess, chain_of}
+use Rattle.plan_words.proofs.Words.{sibling_chain_in, GoesOn, HasFirstPairs, HasWholeShare, HasSeenParent, IsOn}
 use Rattle.plan_words.proofs.ChildCosts.{CostsAtMostThrough-kept, HasSeenParent-kept, apart_above}
 use Rattle.plan_words.proofs.Posting.{goal-goes_on}
 use Rattle.plan_words.proofs.SeatSteps.{LooksOn-refl, LooksOn-trans, whole_later}

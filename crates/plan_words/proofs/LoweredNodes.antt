@@ -2,23 +2,24 @@
 use Rattle.std.proofs.Common.{◌≡◌, ◌≢◌, ℕ, refl, sym, ap, ◌∙◌, subst, arith}
 use Rattle.std.specs.Prelude.{◌==◌, cond, is_some}
 use Rattle.std.proofs.lemmas.Bool.{eq-eqb, ne_eqb}
-use Rattle.plan_words.specs.Parents.{FindsLess, IsPairIn}
-use Rattle.plan_words.specs.States.{PassState, with_view}
-use Rattle.step_core.proofs.Common.{IsLawfulView, loaded, lowered, MayLower, SeesNode, sees, WritesWord-saw}
+use Rattle.plan_words.proofs.Words.{FindsLess, IsPairIn, PassState, with_view}
+use Rattle.step_core.proofs.Common.{IsLawfulView, last_note, loaded, lowered, MayLower, SeesNode, sees, WritesWord-saw}
 use Rattle.grown_runs.proofs.Common.{WritesWord, TreeOf, cost_in, parent_in, tree_word, cost_in-tree_word}
 use Rattle.plan_words.proofs.KeptPairs.{fits_word}
 
 module _ (old new : PassState) (n parent cost found : ℕ) (lawful : IsLawfulView old.view) (may : MayLower old.view n parent cost)
-    (is : new ≡ with_view old (cond (found == sees old.view (TreeOf n)) (lowered old.view n parent cost) (loaded old.view (TreeOf n) found))) where
+    (is : new ≡ with_view old
+    (cond (found == sees old.view (TreeOf n)) (lowered old.view n parent cost (last_note new.view)) (loaded old.view (TreeOf n) found))) where
   node_seen : SeesNode old.view n
   node_seen = lawful.tree.rooted.points n (ap is_some may.seen.stands)
 
   -- ---- the word was as it was seen
 
   module _ (same : found ≡ sees old.view (TreeOf n)) where
-    pub lowered_pass : new ≡ with_view old (lowered old.view n parent cost)
+    pub lowered_pass : new ≡ with_view old (lowered old.view n parent cost (last_note new.view))
     lowered_pass =
-        is ∙ ap (λ b. with_view old (cond b (lowered old.view n parent cost) (loaded old.view (TreeOf n) found))) (eq-eqb found (sees old.view (TreeOf n)) same)
+        is ∙ ap (λ b. with_view old (cond b (lowered old.view n parent cost (last_note new.view)) (loaded old.view (TreeOf n) found)))
+        (eq-eqb found (sees old.view (TreeOf n)) same)
 
     wrote : WritesWord (TreeOf n) (tree_word parent cost) (sees old.view) (sees new.view)
     wrote =
@@ -42,7 +43,7 @@ module _ (old new : PassState) (n parent cost found : ℕ) (lawful : IsLawfulVie
   module _ (other : found ≢ sees old.view (TreeOf n)) (less : FindsLess (sees old.view (TreeOf n)) found) where
     loaded_pass : new ≡ with_view old (loaded old.view (TreeOf n) found)
     loaded_pass =
-        is ∙ ap (λ b. with_view old (cond b (lowered old.view n parent cost) (loaded old.view (TreeOf n) found)))
+        is ∙ ap (λ b. with_view old (cond b (lowered old.view n parent cost (last_note new.view)) (loaded old.view (TreeOf n) found)))
         (ne_eqb found (sees old.view (TreeOf n)) other)
 
     loads : WritesWord (TreeOf n) found (sees old.view) (sees new.view)

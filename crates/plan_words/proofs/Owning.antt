@@ -5,15 +5,13 @@ use mathlib.Core.Option.{none, some}
 use prog.Atomic.{either}
 use Rattle.atomic_table.specs.Seated.{TableId}
 use Rattle.atomic_table.specs.Table.{Allows, Joins, Me, Splits, State, step}
-use Rattle.plan_words.specs.declared.openings.Aim.{Aim}
-use Rattle.plan_words.specs.declared.openings.Opening.{Opening}
+use Rattle.plan_words.proofs.Words.{Aim, Opening, SitsAt, Claims, Counts, FindsAsSeen, Finishes, Links, Loads, LoadsBest, Lowers, Posts, Tells, WritesFirst}
+use Rattle.plan_words.proofs.Words.{WritesPoint, WritesTree, BelongsTo, GoesOn, HasWholeShare, HoldsWorld, IsTableOf, PassState, SharedState, new_pass, run_in}
+use Rattle.plan_words.proofs.Words.{run_of_opening, with_view}
 use Rattle.grown_runs.proofs.Common.{Point, Word, WritesWord, Best, ChildOf, Count, Counter, FirstOf, PointOf, RecordOf, TreeOf, HasWord, place_of, Record}
 use Rattle.grown_runs.proofs.Common.{FitsWord, best_node_in, best_word, cost_in, parent_in, point_word, record_word, tree_word, place_of-within}
-use Rattle.plan_words.specs.Plays.{Claims, Counts, FindsAsSeen, Finishes, Links, Loads, LoadsBest, Lowers, Posts, Tells}
-use Rattle.plan_words.specs.Plays.{WritesFirst, WritesPoint, WritesTree}
-use Rattle.plan_words.specs.States.{BelongsTo, GoesOn, HasWholeShare, HoldsWorld, IsTableOf, PassState, SharedState}
-use Rattle.plan_words.specs.States.{new_pass, run_in, run_of_opening, with_view}
-use Rattle.step_core.proofs.Common.{IsLawfulView, MayPost, MayRecord, MayBeRecorded, IsSteered, LeadsTo, MayHang, MayLoad, MayLower, claimed, joined, loaded}
+use Rattle.step_core.proofs.Common.{IsLawfulView, IsUnskipped, MayPost, MayRecord, MayBeRecorded, IsSteered, LeadsTo, MayHang, MayLoad, MayLower}
+use Rattle.step_core.proofs.Common.{claimed, joined, loaded}
 use Rattle.step_core.proofs.Common.{looker, mark_of, pair_in_hand, parted, place_in, saw_at, worker_apart, last_look, run_sizes, sees, share, spent}
 use Rattle.step_core.proofs.Common.{WritesWord-looked, WritesWord-saw}
 use Rattle.step_core.specs.declared.views.Stage.TheVariants.{Claimed, Half, Linked, Pointed, Treed}
@@ -79,14 +77,14 @@ module _ (table : TableId) (key : Opening) (run : SharedRun) (places : WordPlace
   pub may_point_here :
       (seat : TableId) (id place x : ℕ) (me : Me Aim View) (hand : Hand) (m : ℕ) (p : Point) → seat ≡ table → me.0.run ≡ run
       → place ≡ place_of (run_sizes run) (PointOf (suc hand.mark)) → hand.mark < length run.marks → me.0.hand ≡ Some hand → hand.stage ≡ Claimed
-      → IsSteered me.0 hand.mark m p → x ≡ point_word p
+      → IsSteered me.0 hand.mark m p → IsUnskipped me.0 hand → x ≡ point_word p
       → (seat ≡ table) × (place < table.words)
       × Allows (Kept key) table.slots id me place (λ y. x) (λ y. WritesPoint m p (step table.slots place x 0 none) me x)
-  may_point_here seat id place x me hand m p same own at_place low held stage steered is = (
+  may_point_here seat id place x me hand m p same own at_place low held stage steered unskipped is = (
     same,
     within (PointOf (suc hand.mark)) place (omega (arith, low)) at_place,
     subst (λ r. Allows (Holds r) table.slots id me place (λ y. x) (λ y. WritesPoint m p (step table.slots place x 0 none) me x)) (sym fits.key_is)
-        (may_point run table.slots id place x me hand m p at_place own held stage steered is),
+        (may_point run table.slots id place x me hand m p at_place own held stage steered unskipped is),
   )
 
   pub may_first_here :
@@ -232,14 +230,14 @@ found_whole outer inner name place x same finds apart may at_place whole =
 
 -- what an exchange leaves of the counter
 pub sees_exchanged :
-    (outer inner then : View) (g c limit place x : ℕ) → inner ≡ outer → IsLawfulView inner → g < inner.run.strips → place ≡ place_in inner (Counter g)
-    → then ≡ cond (x == c) (claimed inner g c limit) (saw_at inner place x x)
+    (outer inner then : View) (g c limit place x : ℕ) (steps : List ℕ) → inner ≡ outer → IsLawfulView inner → g < inner.run.strips
+    → place ≡ place_in inner (Counter g) → then ≡ cond (x == c) (claimed inner g c limit steps) (saw_at inner place x x)
     → WritesWord (Counter g) (cond (x == c) (c + 1) x) (sees outer) (sees then)
-sees_exchanged outer inner then g c limit place x same lawful strip at_place is =
+sees_exchanged outer inner then g c limit place x steps same lawful strip at_place is =
     subst (λ v. WritesWord (Counter g) (cond (x == c) (c + 1) x) (sees v) (sees then)) same
     (subst (λ v. WritesWord (Counter g) (cond (x == c) (c + 1) x) (sees inner) (sees v)) (sym is) (by_test (x == c)))
   where
-    by_test : (b : Bool) → WritesWord (Counter g) (cond b (c + 1) x) (sees inner) (sees (cond b (claimed inner g c limit) (saw_at inner place x x)))
+    by_test : (b : Bool) → WritesWord (Counter g) (cond b (c + 1) x) (sees inner) (sees (cond b (claimed inner g c limit steps) (saw_at inner place x x)))
     by_test true = WritesWord-saw inner.run inner lawful.of_run (Counter g) strip c (c + 1)
     by_test false =
         subst (λ n. WritesWord (Counter g) x (sees inner) (sees (saw_at inner n x x))) (sym at_place)
@@ -284,6 +282,16 @@ same_table pass shared inner whole pass_is shared_is belongs = ap (λ p. p.table
 pub same_run : (pass : PassState) (shared : SharedState) (inner : PassState) (whole : SharedState) → inner ≡ pass → whole ≡ shared
     → BelongsTo pass shared → inner.view.run ≡ run_in whole
 same_run pass shared inner whole pass_is shared_is belongs = ap (λ p. p.view.run) pass_is ∙ belongs.run ∙ sym (ap run_in shared_is)
+
+-- its seat is that of a pass of the tree
+pub SitsAt-pass : (pass : PassState) (shared : SharedState) (inner : PassState) (table : TableId) (me : Me Aim View) → inner ≡ pass
+    → table ≡ inner.table → me.0 ≡ inner.view → me.1 ≡ [] → BelongsTo pass shared → SitsAt shared table me
+SitsAt-pass pass shared inner table me is table_is view_is slots belongs = record {
+  table_is = table_is ∙ ap (λ p. p.table) is ∙ belongs.table;
+  run = ap (λ v. v.run) view_is ∙ ap (λ p. p.view.run) is ∙ belongs.run;
+  lawful = subst IsLawfulView (sym (view_is ∙ ap (λ p. p.view) is)) belongs.lawful;
+  slots = slots;
+}
 
 -- and what is said of the pass is said of its seat
 pub BelongsTo-seat : (pass : PassState) (shared : SharedState) (inner : PassState) → inner ≡ pass → BelongsTo pass shared

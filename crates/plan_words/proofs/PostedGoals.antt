@@ -1,12 +1,9 @@
 -- Goal nodes of which the best word is at most the pair: what steps of a pass leave of that.
-use Rattle.std.proofs.Common.{◌≡◌, ◌≢◌, ℕ, ◌≤◌, Some, None, [], arith, inl, inr, sym, ap, subst, ◌∙◌}
+use Rattle.std.proofs.Common.{◌≡◌, ◌≢◌, ℕ, ◌≤◌, [], arith, inl, inr, sym, ap, subst, ◌∙◌}
 use Rattle.std.specs.Prelude.{IsTrue}
 use Rattle.std.proofs.lemmas.Bool.{cases_eq}
 use Rattle.grown_runs.proofs.Common.{is_goal_point, point_at, Goal, PointOf, TreeOf, best_word, cost_in}
-use Rattle.plan_words.specs.Bests.{HasPostedGoals, HasPostedHand}
-use Rattle.plan_words.specs.Claims.{SeesAsBefore}
-use Rattle.plan_words.specs.LoweredChildren.{PostsChanged, SeesSamePoints}
-use Rattle.plan_words.specs.States.{GoesOn}
+use Rattle.plan_words.proofs.Words.{HasPostedGoals, SeesAsBefore, PostsChanged, SeesSamePoints, GoesOn}
 use Rattle.step_core.proofs.Common.{IsLater, SeesGoal, sees, tree_seen, point_at-kept}
 use Rattle.step_core.specs.declared.views.SharedRun.{SharedRun}
 use Rattle.step_core.specs.declared.views.View.{View}
@@ -62,14 +59,3 @@ pub HasPostedGoals-children : (before after : View) → GoesOn before after → 
     → HasPostedGoals before → HasPostedGoals after
 HasPostedGoals-children before after goes_on points posted =
     HasPostedGoals-step before after goes_on.later points (λ n goal changed. posted n (λ no. no) changed goal)
-
--- ---- hands
-
--- it depends on the hand and the goals alone
-pub HasPostedHand-kept : (before after : View) → after.run ≡ before.run → after.hand ≡ before.hand → HasPostedHand before → HasPostedHand after
-HasPostedHand-kept before after run same posted hand held stage lies =
-    posted hand (sym same ∙ held) stage (subst (λ (r : SharedRun). IsTrue (is_goal_point r.goals (Some hand.point))) run lies)
-
--- without one in hand it holds
-pub HasPostedHand-idle : (view : View) → view.hand ≡ None → HasPostedHand view
-HasPostedHand-idle view idle hand held stage lies = let no = sym idle ∙ held in cc

@@ -1,26 +1,17 @@
 -- What a post leaves of a pass: nothing is seen anew but the best word.
 use Rattle.std.proofs.Common.{◌≡◌, ◌≢◌, ℕ, zero, suc, ◌≤◌, ◌^◌, Bool, true, false, Option, Some, None, List, refl, sym, ap, ◌∙◌, subst, inl}
 use Rattle.std.proofs.Common.{inr, arith}
-use Rattle.std.specs.Prelude.{◌+◌, ◌<◌, ◌==◌, ◌/◌, IfNone, IfSome, IsTrue, cond, length, slice_index}
+use Rattle.std.specs.Prelude.{◌+◌, ◌<◌, ◌==◌, ◌/◌, IfNone, IfSome, IsTrue, cond, length}
 use Rattle.std.proofs.lemmas.Nat.{mod-mul-add, mod_below}
-use Rattle.std.proofs.lemmas.Bool.{eqb-true}
-use Rattle.atomic_table.specs.Seated.{TableId}
-use Rattle.atomic_table.specs.Table.{Me}
+use Rattle.std.proofs.lemmas.Bool.{eqb-false, eqb-true}
 use Rattle.grown_runs.proofs.Common.{is_goal_point, lies_in_goals, IsPresent, point_at, point_of, Point, IsPresent-goal, StandsAt-present, has_node}
 use Rattle.grown_runs.proofs.Common.{seen_tree_of_words, Word, WritesWord, FirstOf, PointOf, TreeOf, best_cost_in, best_node_in, best_of_word, best_word}
 use Rattle.grown_runs.proofs.Common.{cost_in, no_best, point_of_word, tree_word}
-use Rattle.plan_words.proofs.PlainScenes.{no_goals}
-use Rattle.plan_words.specs.Bests.{HasPostedHand, LooksAndPosts, OnlyPosts}
-use Rattle.plan_words.specs.LoweredChildren.{LooksOn, SitsAt}
-use Rattle.plan_words.specs.Plays.{Tells}
-use Rattle.plan_words.specs.States.{GoesOn, HasPairs, PassState, SharedState, run_in, with_view}
-use Rattle.plan_words.specs.declared.openings.Aim.{Aim}
-use Rattle.step_core.proofs.Common.{IsLawfulView, MayPost, SeesGoal, seen_first_cost, has_link, best_with, hand_with_post, loaded, lowered, post_noted, posted}
-use Rattle.step_core.proofs.Common.{with_best, SeesPoint, run_sizes, sees, tree_seen, same_name, WritesWord-saw, SeesPoint-later, point_at-seen, seen-within}
+use Rattle.plan_words.proofs.Words.{LooksAndPosts, OnlyPosts, GoesOn, PassState, with_view}
+use Rattle.step_core.proofs.Common.{IsLawfulView, MayPost, SeesGoal, seen_first_cost, best_with, hand_with_post, last_note, loaded, lowered, posted}
+use Rattle.step_core.proofs.Common.{with_post, SeesPoint, run_sizes, sees, tree_seen, same_name, WritesWord-saw, SeesPoint-later, point_at-seen, seen-within}
 use Rattle.step_core.specs.declared.views.Hand.{Hand}
 use Rattle.step_core.specs.declared.views.SharedRun.{SharedRun}
-use Rattle.step_core.specs.declared.views.Stage.{Stage}
-use Rattle.step_core.specs.declared.views.Stage.TheVariants.{Claimed, Counted, Half, Linked, Pointed, Posted, Treed}
 use Rattle.step_core.specs.declared.views.View.{View}
 
 -- ---- goals
@@ -32,38 +23,7 @@ goal-at view n p stands lies = subst (λ o. IsTrue (is_goal_point view.run.goals
 pub lies-at : (view : View) (n : ℕ) (p : Point) → SeesPoint view n p → SeesGoal view n → lies_in_goals view.run.goals p ≡ true
 lies-at view n p stands goal = subst (λ o. IsTrue (is_goal_point view.run.goals o)) stands goal
 
--- in a scene that is not informed there is no goal by which marks are skipped
-pub HasPostedHand-calm : (shared : SharedState) (view : View) → view.run ≡ run_in shared → shared.task.scene.informed ≡ false → HasPostedHand view
-HasPostedHand-calm shared view own calm hand held stage lies =
-    let none = no_goals shared view own calm in
-    let gone = subst (λ l. lies_in_goals l hand.point ≡ true) none lies in
-    cc
-
 -- ---- hands
-
--- a post of a goal node leaves a hand that has posted its node
-pub hand-posted : (view : View) (n : ℕ) → IsLawfulView view → HasPostedHand view → SeesGoal view n → hand_with_post view.hand n ≡ view.hand
-hand-posted view n lawful posted goal = by_hand view.hand refl
-  where
-    by_hand : (o : Option Hand) → view.hand ≡ o → hand_with_post o n ≡ o
-    by_hand None e = refl
-    by_hand (Some hand) e = ap Some (by_stage hand.stage refl)
-      where
-        by_test : (b : Bool) → (suc hand.mark == n) ≡ b → hand.stage ≡ Counted → cond b (record hand { stage = Posted }) hand ≡ hand
-        by_test false t stage = refl
-        by_test true t stage =
-            let own = eqb-true (suc hand.mark) n t in
-            let shown = (lawful.tree.holds hand e).shown (ap has_link stage) in
-            absurd (posted hand e stage (lies-at view (suc hand.mark) hand.point shown (subst (SeesGoal view) (sym own) goal)))
-
-        by_stage : (stage : Stage) → hand.stage ≡ stage → post_noted stage hand n ≡ hand
-        by_stage Claimed s = refl
-        by_stage Pointed s = refl
-        by_stage Half s = refl
-        by_stage Treed s = refl
-        by_stage Linked s = refl
-        by_stage Posted s = refl
-        by_stage Counted s = by_test (suc hand.mark == n) refl s
 
 -- its mark is one of few
 pub mark_fits : (view : View) (o : Option Hand) → IsLawfulView view → o ≡ view.hand → IfSome o (λ own. own.mark + 1 < 2 ^ 32)
@@ -75,32 +35,27 @@ pub post_within : (view : View) (n : ℕ) → IsLawfulView view → MayPost view
 post_within view n lawful may =
     lawful.within n (lawful.tree.rooted.points n (IsPresent-goal view.run.goals (point_at (tree_seen view).points n) may.goal))
 
--- its pair, by the list of tree words
-pub post_pair : (view : View) (pairs : List ℕ) (n word cost x : ℕ) → IsLawfulView view → MayPost view n → HasPairs view pairs → word ≡ slice_index pairs n
-    → cost ≡ cost_in word → x ≡ best_word cost n → x ≡ best_word (cost_in (sees view (TreeOf n))) n
-post_pair view pairs n word cost x lawful may has word_is cost_is is =
-    is ∙ ap (λ c. best_word c n) (cost_is ∙ ap cost_in (word_is ∙ has.seen n (post_within view n lawful may)))
-
 pub post_node : (view : View) (n cost x : ℕ) → IsLawfulView view → MayPost view n → x ≡ best_word cost n → best_node_in x ≡ n
 post_node view n cost x lawful may is =
     let small : n < 2 ^ 18 = omega (arith, post_within view n lawful may, lawful.run.marks) in
     ap best_node_in is ∙ mod-mul-add cost (2 ^ 18) n small
 
 -- what it leaves, as a contract says it
-pub posted_view : (view then : View) (m n found : ℕ) → m ≡ n → then ≡ posted view m found → then ≡ with_best view then.best (hand_with_post view.hand n)
-posted_view view then m n found same is =
-    is ∙ ap (λ b. with_best view b (hand_with_post view.hand m)) (sym (ap (λ (v : View). v.best) is))
-    ∙ ap (λ i. with_best view then.best (hand_with_post view.hand i)) same
+module _ (view then : View) (m n found : ℕ) (steps : List ℕ) (same : m ≡ n) (is : then ≡ posted view m found steps) where
+  own : then ≡ posted view n found steps
+  own = is ∙ ap (λ i. posted view i found steps) same
 
-pub posted_low : (view then : View) (m n found : ℕ) → m ≡ n → then ≡ posted view m found → then.best ≤ best_word (cost_in (sees view (TreeOf n))) n
-posted_low view then m n found same is =
-    omega (arith, ap (λ (v : View). v.best) is, ap (λ i. best_word (cost_in (sees view (TreeOf i))) i) same)
+  pub posted_view : then ≡ with_post view n then.best (last_note then)
+  posted_view =
+      own ∙ ap (λ b. with_post view n b steps) (sym (ap (λ (v : View). v.best) own))
+      ∙ ap (with_post view n then.best) (sym (ap last_note own))
 
--- with the whole share the word was found as it was seen
-pub posted_whole :
-    (view then : View) (m n found : ℕ) → m ≡ n → then ≡ posted view m found → found ≡ view.best → then.best ≡ best_with view n view.best
-posted_whole view then m n found same is seen =
-    ap (λ (v : View). v.best) is ∙ ap (λ i. best_with view i found) same ∙ ap (best_with view n) seen
+  pub posted_low : then.best ≤ best_word (cost_in (sees view (TreeOf n))) n
+  posted_low = omega (arith, ap (λ (v : View). v.best) own)
+
+  -- with the whole share the word was found as it was seen
+  pub posted_whole : found ≡ view.best → then.best ≡ best_with view n view.best
+  posted_whole seen = ap (λ (v : View). v.best) own ∙ ap (best_with view n) seen
 
 -- ---- points that are looked at again
 
@@ -161,6 +116,15 @@ read_none word P of_none = by_test (word == no_best) refl
     by_test true e = of_none (eqb-true word no_best e)
     by_test false e = tt
 
+-- the node of one that tells of some is one of few
+pub read_within : (word most : ℕ) → (word ≢ no_best → best_node_in word ≤ most) → IfSome (best_of_word word) (λ best. best.0 ≤ most)
+read_within word most within = by_test (word == no_best) refl
+  where
+    by_test : (b : Bool) → (word == no_best) ≡ b
+        → IfSome (cond {A = Option (ℕ × ℕ)} b None (Some (best_node_in word, best_cost_in word))) (λ best. best.0 ≤ most)
+    by_test true e = tt
+    by_test false e = within (eqb-false word no_best e)
+
 -- and then no goal node was seen recorded
 pub none_posted : (view : View) (n : ℕ) → IsLawfulView view → has_node (sees view) n ≡ true → SeesGoal view n → view.best ≢ no_best
 none_posted view n lawful node goal none =
@@ -172,40 +136,12 @@ none_posted view n lawful node goal none =
     small zero = omega arith
     small (suc k) = mod_below (sees view (FirstOf (suc k)) / 2 ^ 18) (2 ^ 44) (omega arith)
 
--- ---- one step by a seat
-
-module _ (me after : Me Aim View) (n found : ℕ) (told : Tells me (posted me.0 n found) after) where
-  pub sees-posted : sees after.0 ≡ sees me.0
-  sees-posted = ap sees told.view_is
-
-  pub goes-posted : GoesOn me.0 after.0
-  goes-posted = subst (GoesOn me.0) (sym told.view_is) told.goes_on
-
-  pub LooksOn-posted : HasPostedHand me.0 → SeesGoal me.0 n → LooksOn me.0 after.0
-  LooksOn-posted posted_hand goal = record {
-    goes_on = goes-posted;
-    others = λ name off. ap (λ w. w name) sees-posted;
-    kept = record {
-      crew = ap (λ v. v.crew) told.view_is;
-      most = ap (λ v. v.most) told.view_is;
-      hand = ap (λ v. v.hand) told.view_is ∙ hand-posted me.0 n told.goes_on.was_lawful posted_hand goal;
-    };
-  }
-
-  pub SitsAt-posted : (shared : SharedState) (table then : TableId) → then ≡ table → SitsAt shared table me → SitsAt shared then after
-  SitsAt-posted shared table then same sits = record {
-    table_is = same ∙ sits.table_is;
-    run = ap (λ v. v.run) told.view_is ∙ sits.run;
-    lawful = goes-posted.lawful;
-    slots = told.slots ∙ sits.slots;
-  }
-
 -- ---- a lower and its post
 
 -- the word of the node that is lowered
-pub lowered_here : (before after : PassState) (n parent cost : ℕ) → IsLawfulView before.view → n ≤ length before.view.run.marks
-    → after ≡ with_view before (lowered before.view n parent cost) → sees after.view (TreeOf n) ≡ tree_word parent cost
-lowered_here before after n parent cost lawful within is =
+pub lowered_here : (before after : PassState) (n parent cost : ℕ) (steps : List ℕ) → IsLawfulView before.view → n ≤ length before.view.run.marks
+    → after ≡ with_view before (lowered before.view n parent cost steps) → sees after.view (TreeOf n) ≡ tree_word parent cost
+lowered_here before after n parent cost steps lawful within is =
     ap (λ (p : PassState). sees p.view (TreeOf n)) is
     ∙ (WritesWord-saw before.view.run before.view lawful.of_run (TreeOf n) within (sees before.view (TreeOf n)) (tree_word parent cost)).here
 
@@ -238,22 +174,22 @@ LooksAndPosts-looked n before after is off = record {
 -- or it does, and the node is posted
 pub LooksAndPosts-posted : (n : ℕ) (before mid after : PassState)
     → mid ≡ with_view before (loaded before.view (PointOf n) (sees mid.view (PointOf n)))
-    → after ≡ with_view mid (with_best mid.view after.view.best (hand_with_post mid.view.hand n)) → SeesGoal before.view n
+    → after ≡ with_view mid (with_post mid.view n after.view.best (last_note after.view)) → SeesGoal before.view n
     → LooksAndPosts n before.view after.view
 LooksAndPosts-posted n before mid after looks posts goal =
-    let best = after.view.best in
+    let best : ℕ = after.view.best in
+    let last : List ℕ = last_note after.view in
     let seen : sees mid.view (PointOf n) ≡ sees after.view (PointOf n) = sym (ap (λ (p : PassState). sees p.view (PointOf n)) posts) in
     record {
       looked = λ off. absurd (off goal);
       posted = λ _.
-          ap (λ (p : PassState). p.view) posts
-          ∙ ap (λ (p : PassState). with_best p.view best (hand_with_post p.view.hand n)) looks
-          ∙ ap (λ w. with_best (loaded before.view (PointOf n) w) best (hand_with_post before.view.hand n)) seen;
+          ap (λ (p : PassState). p.view) posts ∙ ap (λ (p : PassState). with_post p.view n best last) looks
+          ∙ ap (λ w. with_post (loaded before.view (PointOf n) w) n best last) seen;
     }
 
-pub OnlyPosts-posted : (n : ℕ) (before after : PassState) (best : ℕ) → after ≡ with_view before (with_best before.view best (hand_with_post before.view.hand n))
+pub OnlyPosts-posted : (n : ℕ) (before after : PassState) (best : ℕ) (steps : List ℕ) → after ≡ with_view before (with_post before.view n best steps)
     → SeesGoal before.view n → OnlyPosts n before after
-OnlyPosts-posted n before after best is goal = record {
+OnlyPosts-posted n before after best steps is goal = record {
   pass = is ∙ ap (with_view before) (sym (ap (λ (p : PassState). p.view) is));
   crew = ap (λ (p : PassState). p.view.crew) is;
   most = ap (λ (p : PassState). p.view.most) is;

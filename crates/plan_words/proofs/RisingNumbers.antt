@@ -7,8 +7,7 @@ use Rattle.std.specs.Ordering.{nat_cmp}
 use Rattle.std.proofs.lemmas.Bool.{eqb-true}
 use Rattle.std.proofs.lemmas.Map.Keys.{below_from_sorted, sorted_tail}
 use Rattle.plan_model.proofs.ListMembers.{Contains-after, Contains-first}
-use Rattle.plan_words.specs.SearchLists.{numbers_of}
-use Rattle.plan_words.specs.declared.spots.Found.{Found}
+use Rattle.plan_words.proofs.Words.{numbers_of, Found}
 use Rattle.step_core.proofs.Seen.DistinctNumbers.{Contains-cases, Contains-none}
 
 pub eqb-swap : (m n : ℕ) → eqb m n ≡ eqb n m

@@ -5,9 +5,7 @@ use Rattle.std.specs.Prelude.{nat_lt, cond, MatchOption}
 use Rattle.std.specs.List.{range_with_len, sum_by}
 use Rattle.std.proofs.lemmas.Bool.{cases_Bool, cases_eq, cases_lt, le-ltb, lt-ltb, ltb-true}
 use Rattle.grown_runs.proofs.Common.{quota_of, IsCutAt-quota, sum-le, sum-more, Counter}
-use Rattle.plan_words.specs.Claims.{AllFull, GoesBefore, IsOpen, better_of, better_open, goes_first, is_own, mark_in}
-use Rattle.plan_words.specs.declared.claims.ClaimOrder.{ClaimOrder}
-use Rattle.plan_words.specs.declared.claims.Next.{Next}
+use Rattle.plan_words.proofs.Words.{AllFull, GoesBefore, IsOpen, better_of, better_open, goes_first, is_own, mark_in, ClaimOrder, Next}
 use Rattle.step_core.proofs.Common.{mark_of, sees}
 use Rattle.step_core.specs.declared.views.SharedRun.{SharedRun}
 use Rattle.step_core.specs.declared.views.View.{View}

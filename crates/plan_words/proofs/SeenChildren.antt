@@ -2,10 +2,7 @@
 use Rattle.std.proofs.Common.{◌≡◌, ℕ, zero, suc, ◌+◌, ◌<◌, ◌≤◌, ◌^◌, Bool, true, false, List, [], ◌∷◌, length, refl, sym, ap, ◌∙◌, subst, ⊎_elim, arith}
 use Rattle.std.specs.Prelude.{cond, nat_lt, slice_index}
 use Rattle.std.proofs.lemmas.Bool.{cases_lt, le-ltb, ltb-false}
-use Rattle.plan_words.specs.Parents.{HasParentsBelow}
-use Rattle.plan_words.specs.SeenChains.{sibling_chain_in, chain_of}
-use Rattle.plan_words.specs.States.{HasFirstPairs, HasPairs}
-use Rattle.plan_words.specs.Waiting.{HasSeenParent}
+use Rattle.plan_words.proofs.Words.{HasParentsBelow, sibling_chain_in, chain_of, HasFirstPairs, HasPairs, HasSeenParent}
 use Rattle.step_core.proofs.Common.{IsLawfulView, run_sizes, sees}
 use Rattle.grown_runs.proofs.Common.{TreeOf, parent_in, word_at-none}
 use Rattle.step_core.specs.declared.views.View.{View}

@@ -9,7 +9,7 @@ use Rattle.std.proofs.lemmas.Option.{same_Some}
 use Rattle.grown_runs.proofs.Common.{MOST_MARKS, MOST_WORKERS, Record, sizes_in, Word, FitsWord}
 use Rattle.plan_words.specs.States.{BelongsTo, GoesOn, HasRoom, IsTied, MayClaim, PassState, SharedState, first_member, turn_of, worker_of}
 use Rattle.step_core.proofs.Common.{IsLawfulView, finished_at, looker, one_turn_more, parted, second_alone, stepped, without_second, worker_apart, MayRecord}
-use Rattle.step_core.proofs.Common.{IsSeenPair, IsViewOf, last_zero, run_sizes, spent, words_of_run, IsLater-stepped, SeesTree-apart, SeesTree-looker}
+use Rattle.step_core.proofs.Common.{IsSeenPair, IsViewOf, last_look, last_zero, run_sizes, spent, IsLater-stepped, SeesTree-apart, SeesTree-looker}
 use Rattle.step_core.proofs.Common.{SeesTree-parted, SeesTree-stepped, zero-read, goes_at, stays_at}
 use Rattle.step_core.specs.declared.views.Hand.{Hand}
 use Rattle.step_core.specs.declared.views.Member.{Member}
@@ -93,16 +93,15 @@ MayClaim-finished shared pass after place word hand belongs held same goes_on is
 
 -- a view with the same tables, after no fewer steps
 IsViewOf-later :
-    (view then : View) → IsViewOf view.run view → view.steps ≤ then.steps → then.run ≡ view.run → then.seen ≡ view.seen → then.looked ≡ view.looked
+    (view then : View) → IsViewOf view.run view → view.steps ≤ then.steps → then.run ≡ view.run → then.seen ≡ view.seen
+    → length then.looked ≡ length view.looked → ((name : Word) → last_look then name ≤ last_look view name)
     → length then.found_zero ≡ length view.found_zero → ((name : Word) → last_zero then name ≤ last_zero view name) → IsViewOf then.run then
-IsViewOf-later view then of_run order run_is seen looked found_zero zero_looks = subst (λ r. IsViewOf r then) (sym run_is) (record {
+IsViewOf-later view then of_run order run_is seen looked looks found_zero zero_looks = subst (λ r. IsViewOf r then) (sym run_is) (record {
   run_is = run_is;
   seen = ap (λ l. length l) seen ∙ of_run.seen;
-  looked = ap (λ l. length l) looked ∙ of_run.looked;
+  looked = looked ∙ of_run.looked;
   found_zero = found_zero ∙ of_run.found_zero;
-  looks = λ name.
-      let same = ap (λ r. words_of_run r then.looked name) run_is ∙ ap (λ l. words_of_run view.run l name) looked in
-      omega (arith, same, of_run.looks name, order);
+  looks = λ name. omega (arith, looks name, of_run.looks name, order);
   zero_looks = λ name. omega (arith, zero_looks name, of_run.zero_looks name, order);
 })
 
@@ -122,7 +121,7 @@ IsSeenPair-again view then n same pair =
 IsLawfulView-stepped : (view : View) → IsLawfulView view → IsLawfulView (stepped view)
 IsLawfulView-stepped view lawful = record {
   run = lawful.run;
-  of_run = IsViewOf-later view (stepped view) lawful.of_run (omega arith) refl refl refl refl (λ name. omega arith);
+  of_run = IsViewOf-later view (stepped view) lawful.of_run (omega arith) refl refl refl (λ name. omega arith) refl (λ name. omega arith);
   most = lawful.most;
   crew = lawful.crew;
   idle = lawful.idle;
@@ -142,6 +141,7 @@ IsLawfulView-stepped view lawful = record {
   count = lawful.count;
   counter = lawful.counter;
   best = lawful.best;
+  best_node = lawful.best_node;
   taken = lawful.taken;
   order = lawful.order;
 }
@@ -160,7 +160,9 @@ GoesOn-stepped view lawful = record { was_lawful = lawful; later = IsLater-stepp
 IsLawfulView-looker : (view : View) → IsLawfulView view → IsLawfulView (looker view)
 IsLawfulView-looker view lawful = record {
   run = lawful.run;
-  of_run = IsViewOf-later view (looker view) lawful.of_run (omega arith) refl refl refl (length-replicate (length view.found_zero) 0)
+  of_run = IsViewOf-later view (looker view) lawful.of_run (omega arith) refl refl
+      (length-replicate (length view.looked) 0) (λ name. omega (arith, zero-read (run_sizes view.run) (length view.looked) name))
+      (length-replicate (length view.found_zero) 0)
       (λ name. omega (arith, zero-read (run_sizes view.run) (length view.found_zero) name));
   most = lawful.most;
   crew = omega arith;
@@ -181,6 +183,7 @@ IsLawfulView-looker view lawful = record {
   count = lawful.count;
   counter = lawful.counter;
   best = lawful.best;
+  best_node = lawful.best_node;
   taken = λ hand word held has. cc;
   order = λ all. absurd (omega (arith, all, lawful.run.workers.0));
 }
@@ -232,7 +235,7 @@ IsTied-parted view member hand tied =
       hand_is = tied.hand_is;
       lawful = record {
         run = lawful.run;
-        of_run = IsViewOf-later view (parted view) lawful.of_run (omega arith) refl refl refl refl (λ name. omega arith);
+        of_run = IsViewOf-later view (parted view) lawful.of_run (omega arith) refl refl refl (λ name. omega arith) refl (λ name. omega arith);
         most = lawful.most;
         crew = le_trans (fewer_left view.crew) lawful.crew;
         idle = λ none. lawful.idle (none_left view.crew none);
@@ -252,6 +255,7 @@ IsTied-parted view member hand tied =
         count = lawful.count;
         counter = lawful.counter;
         best = lawful.best;
+        best_node = lawful.best_node;
         taken = lawful.taken;
         order = λ all. lawful.order (omega (arith, all, fewer_left view.crew, lawful.crew));
       };
@@ -269,7 +273,9 @@ IsTied-apart view member lawful second = record {
   hand_is = refl;
   lawful = record {
     run = lawful.run;
-    of_run = IsViewOf-later view (worker_apart view) lawful.of_run (omega arith) refl refl refl (length-replicate (length view.found_zero) 0)
+    of_run = IsViewOf-later view (worker_apart view) lawful.of_run (omega arith) refl refl
+        (length-replicate (length view.looked) 0) (λ name. omega (arith, zero-read (run_sizes view.run) (length view.looked) name))
+        (length-replicate (length view.found_zero) 0)
         (λ name. omega (arith, zero-read (run_sizes view.run) (length view.found_zero) name));
     most = lawful.most;
     crew = omega (arith, ap (λ l. length l) second, lawful.run.workers.0);
@@ -290,6 +296,7 @@ IsTied-apart view member lawful second = record {
     count = lawful.count;
     counter = lawful.counter;
     best = lawful.best;
+    best_node = lawful.best_node;
     taken = λ hand word held has. cc;
     order = λ all. absurd (omega (arith, all, ap (λ l. length l) second, two_at_least view.crew member second, lawful.crew));
   };

@@ -5,8 +5,7 @@ use lib.ListN.{get_elem?}
 use Rattle.std.specs.Prelude.{IsTrue}
 use Rattle.grown_runs.proofs.Common.{IsGoalNode, is_goal_point, node_count, point_at, IsPresent-goal, Word, Words, Best, ChildOf, Count, Counter, FirstOf}
 use Rattle.grown_runs.proofs.Common.{PointOf, RecordOf, TreeOf, best_cost_in, best_node_in, cost_in, no_best}
-use Rattle.plan_words.specs.Bests.{FindsGoalNode}
-use Rattle.plan_words.specs.States.{HasWholeShare}
+use Rattle.plan_words.proofs.Words.{FindsGoalNode, HasWholeShare}
 use Rattle.step_core.proofs.Common.{linked_points, MayLoad, run_sizes, sees, share, tree_seen, IsWorld, linked-present, count-whole, nodes-whole, points-whole}
 use Rattle.step_core.proofs.Common.{sees-whole}
 use Rattle.step_core.specs.declared.views.Hand.{Hand}

@@ -5,12 +5,12 @@ use Rattle.atomic_table.specs.Table.{Me}
 use Rattle.plan_model.specs.declared.geometry.Point.{Point}
 use Rattle.plan_model.specs.Geometry.Bounds.{IsBounded}
 use Rattle.plan_model.specs.Geometry.Cost.{cost_of}
-use Rattle.plan_words.specs.Claims.{KeepsHand}
+use Rattle.plan_words.specs.Bests.{KeepsOrPosts}
 use Rattle.plan_words.specs.States.{GoesOn, SharedState, run_in}
 use Rattle.plan_words.specs.Waiting.{HasSeenParent}
 use Rattle.plan_words.specs.declared.lowered_children.Above.{Above}
 use Rattle.plan_words.specs.declared.openings.Aim.{Aim}
-use Rattle.step_core.specs.LaterViews.{IsLawfulView}
+use Rattle.step_core.specs.LaterViews.{HasLooked, IsLawfulView}
 use Rattle.step_core.specs.SeenBests.{SeesGoal}
 use Rattle.step_core.specs.ViewTrees.{SeesPoint}
 use Rattle.step_core.specs.Views.{sees}
@@ -32,11 +32,13 @@ pub record SitsAt (shared : SharedState) (table : TableId) (me : Me Aim View) : 
 abbrev pub IsOtherWord : Word → Type 0
 IsOtherWord name = (n : ℕ) → (name ≢ TreeOf n) × (name ≢ PointOf n)
 
--- Steps on points, parents and costs lead from the one view to the other. Share, limit and hand stay.
+-- Steps on points, parents and costs lead from the one view to the other, with posts of goal nodes that were lowered. What is seen otherwise was looked
+-- at by one of them. Share and limit stay, and so does the hand, but that it may have noted a post of its node.
 pub record LooksOn (before after : View) : Type 0 where
   pub goes_on : GoesOn before after
   pub others : (name : Word) → IsOtherWord name → sees after name ≡ sees before name
-  pub kept : KeepsHand before after
+  pub looked : HasLooked before after
+  pub kept : KeepsOrPosts before after
 
 -- each point is seen as before
 abbrev pub SeesSamePoints : View → View → Type 0

@@ -1,5 +1,6 @@
--- What each kind of step tells the pass that makes it: its view then, and that its steps go on to that.
-use Rattle.std.specs.Prelude.{◌≡◌, ◌≢◌, ℕ, ◌≤◌, ◌==◌, ◌^◌, Some, if◌then◌else◌}
+-- What each kind of step tells the pass that makes it: its view then, and that its steps go on to that. What a step notes of the steps of all passes
+-- no view before tells.
+use Rattle.std.specs.Prelude.{◌≡◌, ◌≢◌, ℕ, ◌≤◌, ◌==◌, ◌^◌, List, Some, if◌then◌else◌}
 use mathlib.Core.Option.{Option, some, none}
 use Rattle.atomic_table.specs.Table.{Me, Step}
 use Rattle.plan_model.specs.Trees.PointsByNumber.{node_count}
@@ -10,7 +11,8 @@ use Rattle.plan_words.specs.Bests.{FindsGoalNode}
 use Rattle.plan_words.specs.Parents.{FindsLess}
 use Rattle.plan_words.specs.States.{GoesOn, HasWholeShare}
 use Rattle.step_core.specs.SeenRecords.{own_count}
-use Rattle.step_core.specs.ViewSteps.{best_loaded, claimed, counted, finished_at, half, last_fill, linked_at, place_in, pointed, posted, saw_at, treed}
+use Rattle.step_core.specs.ViewSteps.{best_loaded, claimed, counted, finished_at, half, last_note, linked_at, note_before, noting, place_in, pointed, posted}
+use Rattle.step_core.specs.ViewSteps.{saw_at, treed}
 use Rattle.step_core.specs.ViewTrees.{MayLoad, SeesNode}
 use Rattle.step_core.specs.Views.{sees, tree_seen}
 use Rattle.grown_runs.specs.Table.WordNames.{Word}
@@ -64,8 +66,8 @@ aim_of none = record { strip = 0; limit = 0 }
 -- the mark is in hand, or a higher counter was found
 pub record Claims (step : Step Aim) (before : Me Aim View) (found : ℕ) (after : Me Aim View) : Type 0 where
   pub told : Tells before
-      (if found == step.first then claimed before.0 (aim_of step.said).strip step.first (aim_of step.said).limit else saw_at before.0 step.word found found)
-      after
+      (if found == step.first then claimed before.0 (aim_of step.said).strip step.first (aim_of step.said).limit (last_note after.0)
+      else saw_at before.0 step.word found found) after
   pub whole : FindsAsSeen before.0 step.word found
 
 -- the view sees the word as it was found
@@ -91,21 +93,26 @@ WritesFirst step before found after = TellsHand before (λ hand. half before.0 h
 abbrev pub WritesTree : Step Aim → Me Aim View → ℕ → Me Aim View → Type 0
 WritesTree step before found after = TellsHand before (λ hand. treed before.0 hand) after
 
--- The node in hand is linked, or a child was found there. Which steps the view notes by a link no view before tells.
+-- The node in hand is linked, or a child was found there.
 pub record Links (step : Step Aim) (before : Me Aim View) (found : ℕ) (after : Me Aim View) : Type 0 where
   pub told : TellsHand before
-      (λ hand. if found == 0 then linked_at before.0 hand step.word (last_fill after.0) else saw_at before.0 step.word found found) after
+      (λ hand. if found == 0 then linked_at before.0 hand step.word (last_note after.0) else saw_at before.0 step.word found found) after
   pub whole : FindsAsSeen before.0 step.word found
 
 -- the node in hand is counted
 abbrev pub Counts : Step Aim → Me Aim View → ℕ → Me Aim View → Type 0
-Counts step before found after = TellsHand before (λ hand. counted before.0 hand) after
+Counts step before found after = TellsHand before (λ hand. counted before.0 hand (note_before after.0 0).word (last_note after.0)) after
 
 -- ---- costs and records
 
+-- the word at this place gave way to another if it was the first, which is noted, or was found otherwise
+abbrev pub exchanged_at : View → ℕ → ℕ → ℕ → ℕ → List ℕ → View
+exchanged_at view place first second found steps =
+    if found == first then noting (saw_at view place first second) place second steps else saw_at view place found found
+
 -- a tree word that was as it was seen last gave way to another, or was found otherwise, of a lower cost
 pub record Lowers (step : Step Aim) (before : Me Aim View) (found : ℕ) (after : Me Aim View) : Type 0 where
-  pub told : Tells before (saw_at before.0 step.word found (if found == step.first then step.second else found)) after
+  pub told : Tells before (exchanged_at before.0 step.word step.first step.second found (last_note after.0)) after
   pub fell : found ≢ step.first → FindsLess step.first found
   pub whole : HasWholeShare before.0 → found ≡ step.first
 
@@ -121,7 +128,7 @@ pub record LoadsBest (step : Step Aim) (before : Me Aim View) (found : ℕ) (aft
 
 -- a node was posted, that of the pair
 pub record Posts (step : Step Aim) (before : Me Aim View) (found : ℕ) (after : Me Aim View) : Type 0 where
-  pub told : Tells before (posted before.0 (best_node_in step.first) found) after
+  pub told : Tells before (posted before.0 (best_node_in step.first) found (last_note after.0)) after
   pub same : FindsBestAsSeen before.0 found
 
 -- the record is stored, and the hand is empty

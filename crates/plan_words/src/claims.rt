@@ -4,7 +4,7 @@ ghost use Rattle.std.specs.Prelude.{◌≡◌, ℕ, ◌+◌, ◌%◌, ◌<◌, �
 ghost use Rattle.plan_words.specs.Claims.{AllFull, AllLoaded, IsClaimed, IsLeastOpen, IsOpen, KeepsHand, OwnsAllStrips, RaisesCounter, SeesAsBefore};
 ghost use Rattle.plan_words.specs.Claims.{better_of, goes_first};
 ghost use Rattle.plan_words.specs.States.{BelongsTo, GoesOn, HasWholeShare, run_in, with_view, worker_of};
-ghost use Rattle.step_core.specs.ViewSteps.{claimed, loaded, mark_of};
+ghost use Rattle.step_core.specs.ViewSteps.{claimed, last_note, loaded, mark_of};
 ghost use Rattle.step_core.specs.Views.{sees, share};
 ghost use Rattle.grown_runs.specs.Table.WordNames.{ChangesOnly, IsCounter, WritesWord};
 ghost use Rattle.grown_runs.specs.Table.WordNames.Word.{Counter};
@@ -107,7 +107,8 @@ impl Shared {
         requires low { mark_of (run_in self.now) next.strip next.round < limit }
         requires limit { limit ≤ length self.now.task.marks }
         ensures view { pass.new ≡ with_view pass.old
-            (if result == next.round then claimed pass.old.view next.strip next.round limit else loaded pass.old.view (Counter next.strip) result) }
+            (if result == next.round then claimed pass.old.view next.strip next.round limit (last_note pass.new.view)
+            else loaded pass.old.view (Counter next.strip) result) }
         ensures goes_on { GoesOn pass.old.view pass.new.view }
         ensures seen { WritesWord (Counter next.strip) (if result == next.round then next.round + 1 else result) (sees pass.old.view) (sees pass.new.view) }
         ensures whole { HasWholeShare pass.old.view → result ≡ sees pass.old.view (Counter next.strip) }

@@ -39,6 +39,7 @@ mod retired;
 mod rules;
 mod scratch;
 mod search_store;
+mod seats;
 mod seen_pairs;
 mod shared;
 mod spots;

@@ -4,7 +4,6 @@ ghost use Rattle.std.specs.Prelude.{◌≡◌, ◌≢◌, ◌⊎◌, ℕ, suc, �
 ghost use Rattle.std.specs.Prelude.{slice_index, slice_set};
 ghost use Rattle.std.specs.Vec.{vec_capacity};
 ghost use Rattle.plan_model.specs.Geometry.Bounds.{IsBounded};
-ghost use Rattle.plan_words.specs.Bests.{HasPostedHand};
 ghost use Rattle.plan_words.specs.Claims.{SeesAsBefore};
 ghost use Rattle.plan_words.specs.LoweredChildren.{CostsAtMostThrough, HasQueued, IsFound, IsFoundPair, IsSeenAbove, LooksOn, LowersChildren};
 ghost use Rattle.plan_words.specs.LoweredChildren.{PostsChanged, SeesSamePoints, SitsAt};
@@ -20,15 +19,15 @@ ghost use Rattle.grown_runs.specs.Table.WordNames.{Word};
 ghost use Rattle.grown_runs.specs.Table.WordNames.Word.{PointOf, TreeOf};
 ghost use Rattle.grown_runs.specs.Table.Words.{best_word, cost_in, parent_in, tree_word};
 
+use crate::bests::note_post;
 use crate::openings::Aim;
 use crate::passes::Pass;
-use crate::rules::{Load, Lower, Post};
 use crate::shared::Shared;
 use crate::waiting::Waiting;
 use atomic_table::Seat;
 use edge_cost::{cost, costs_less_through};
 use plan_model::Point;
-use step_core::{ChildIndex, View, pack_best, pack_tree, pair_in, point_in};
+use step_core::{ChildIndex, Hand, View, pack_tree, pair_in, point_in};
 
 /// A node with its point and its cost, as a pass has seen them last.
 #[derive(Clone, Copy)]
@@ -38,19 +37,25 @@ pub(crate) struct Above {
     pub(crate) cost: u64,
 }
 
+/// What children are lowered below: the node, and the tree in which it stands.
+#[derive(Clone, Copy)]
+pub(crate) struct Lowering<'a> {
+    pub(crate) shared: &'a Shared,
+    pub(crate) above: Above,
+}
+
 impl Shared {
     /// Lowers each child of a node that costs more than through it, both as the pass has seen them last, to what it costs through it.
     /// Those whose cost fell come on the list of the nodes that wait, if they have children themselves. The node is seen with its
     /// parent and its cost, and the pass has a share. O(k) for k children.
     ///
-    /// It loads no costs. Each child that is lowered and lies in a goal by which marks are skipped is posted; the node in hand was posted
-    /// before, if it is counted and lies in one. An exchange that fails shows a child at a lower cost, with whatever parent: that
-    /// child is returned, and the others may not have been looked at. `None` if all were.
+    /// It loads no costs. Each child that is lowered and lies in a goal by which marks are skipped is posted. An exchange that fails
+    /// shows a child at a lower cost, with whatever parent: that child is returned, and the others may not have been looked at. `None`
+    /// if all were.
     pub fn lower_children(&self, pass: &mut Pass, node: u32) -> Option<u32>
         requires belongs { BelongsTo pass.old self.now }
         requires part { 0 < share pass.old.view }
         requires pair { 2 ^ 63 ≤ sees pass.old.view (TreeOf node) }
-        requires posted { HasPostedHand pass.old.view }
         ensures belongs { BelongsTo pass.new self.now }
         ensures looks { LooksOn pass.old.view pass.new.view }
         ensures lists { (pass.new.lists.near ≡ pass.old.lists.near) × (pass.new.lists.around ≡ pass.old.lists.around)
@@ -76,29 +81,38 @@ impl Shared {
     {
         let point = self.point(pass, node);
         let (_, cost) = pair_in(pass.pairs.word(node));
-        let above = Above { node, point, cost };
-        let (child, word) = pass
-            .pairs
-            .lower_children(self, &mut pass.seat, &mut pass.lists.waiting, above)?;
+        let from = Lowering {
+            shared: self,
+            above: Above { node, point, cost },
+        };
+        let (child, word) = pass.pairs.lower_children(
+            from,
+            &mut pass.seat,
+            &mut pass.hand,
+            &mut pass.lists.waiting,
+        )?;
         pass.pairs.set(child, word);
         Some(child)
     }
 
-    /// Lowers a child to what it costs through its parent, if that is less. Its word then, or the one of lower cost that was found.
+    /// Lowers a child to what it costs through its parent, if that is less, and posts it then if it lies in a goal by which marks are
+    /// skipped. Its word then, or the one of lower cost that was found.
     fn lower_child(
         &self,
         seat: &mut Seat<Aim, View>,
+        hand: &mut Option<Hand>,
         above: Above,
         child: u32,
         seen: u64,
     ) -> Result<u64, u64>
         requires sits { SitsAt self.now seat.old.table_id seat.old.me }
+        requires held { hand.old ≡ seat.old.me.0.hand }
         requires part { 0 < share seat.old.me.0 }
         requires above { IsSeenAbove seat.old.me.0 above }
-        requires posted { HasPostedHand seat.old.me.0 }
         requires child { HasSeenParent seat.old.me.0 above.node child }
         requires seen { seen ≡ sees seat.old.me.0 (TreeOf child) }
         ensures sits { SitsAt self.now seat.new.table_id seat.new.me }
+        ensures held { hand.new ≡ seat.new.me.0.hand }
         ensures looks { LooksOn seat.old.me.0 seat.new.me.0 }
         ensures others { (n : ℕ) → n ≢ child → sees seat.new.me.0 (TreeOf n) ≡ sees seat.old.me.0 (TreeOf n) }
         ensures here { IfOk result (λ word. word ≡ sees seat.new.me.0 (TreeOf child)) }
@@ -109,110 +123,46 @@ impl Shared {
         ensures whole { HasWholeShare seat.old.me.0 → IsOk result }
         ensures points { HasWholeShare seat.old.me.0 → SeesSamePoints seat.old.me.0 seat.new.me.0 }
     {
-        let point = self.point_at(seat, child);
+        let word = self.point_at(seat, child);
+        let point = point_in(word);
         if !costs_less_through(above.cost, above.point, point, pair_in(seen).1) {
             return Ok(seen);
         }
         let cost = above.cost + cost(above.point, point);
-        let found = self.exchange_at(seat, child, point, seen, above.node, cost);
+        let found = self.lower_at(seat, child, seen, above.node, cost);
         if found == seen {
+            self.post_child(seat, hand, child, point, cost);
             Ok(pack_tree(above.node, cost))
         } else {
             Err(found)
         }
     }
 
-    /// The point of a seen node.
-    fn point_at(&self, seat: &mut Seat<Aim, View>, node: u32) -> Point
-        requires sits { SitsAt self.now seat.old.table_id seat.old.me }
-        requires seen_node { SeesNode seat.old.me.0 node }
-        ensures sits { SitsAt self.now seat.new.table_id seat.new.me }
-        ensures looks { LooksOn seat.old.me.0 seat.new.me.0 }
-        ensures same { (n : ℕ) → sees seat.new.me.0 (TreeOf n) ≡ sees seat.old.me.0 (TreeOf n) }
-        ensures found { SeesPoint seat.new.me.0 node result }
-        ensures bounded { IsBounded result }
-        ensures whole { HasWholeShare seat.old.me.0 → SeesAsBefore seat.old.me.0 seat.new.me.0 }
-    {
-        let place = self.places.point(node as usize);
-        point_in(self.table.shared.load::<Load>(seat, place))
-    }
-
-    /// Exchanges the tree word of a node, which stands at this point, if it is the one that was seen last, and posts the node then if it
-    /// lies in a goal by which marks are skipped. Returns what the word was.
-    fn exchange_at(
+    /// Posts a node that was lowered to this cost, if the point at which it stands lies in a goal by which marks are skipped.
+    fn post_child(
         &self,
         seat: &mut Seat<Aim, View>,
+        hand: &mut Option<Hand>,
         node: u32,
         point: Point,
-        seen: u64,
-        parent: u32,
         cost: u64,
-    ) -> u64
+    )
         requires sits { SitsAt self.now seat.old.table_id seat.old.me }
+        requires held { hand.old ≡ seat.old.me.0.hand }
         requires part { 0 < share seat.old.me.0 }
-        requires posted { HasPostedHand seat.old.me.0 }
         requires stands { SeesPoint seat.old.me.0 node point }
-        requires may { MayLower seat.old.me.0 node parent cost }
-        requires seen { seen ≡ sees seat.old.me.0 (TreeOf node) }
-        ensures sits { SitsAt self.now seat.new.table_id seat.new.me }
-        ensures looks { LooksOn seat.old.me.0 seat.new.me.0 }
-        ensures here { sees seat.new.me.0 (TreeOf node) ≡ (if result == seen then tree_word parent cost else result) }
-        ensures others { (n : ℕ) → n ≢ node → sees seat.new.me.0 (TreeOf n) ≡ sees seat.old.me.0 (TreeOf n) }
-        ensures points { (n : ℕ) → sees seat.new.me.0 (PointOf n) ≡ sees seat.old.me.0 (PointOf n) }
-        ensures found { result ≢ seen → FindsLess seen result }
-        ensures posted { result ≡ seen → SeesGoal seat.old.me.0 node → seat.new.me.0.best ≤ best_word cost node }
-        ensures whole { HasWholeShare seat.old.me.0 → result ≡ seen }
-    {
-        let found = self.lower_at(seat, node, seen, parent, cost);
-        if found == seen && self.has_goal_at(point) {
-            self.post_at(seat, node, cost);
-        }
-        found
-    }
-
-    /// Posts a goal node, which was seen at this cost. If it is the node in hand and counted, it was posted before.
-    fn post_at(&self, seat: &mut Seat<Aim, View>, node: u32, cost: u64)
-        requires sits { SitsAt self.now seat.old.table_id seat.old.me }
-        requires may { MayPost seat.old.me.0 node }
-        requires posted { HasPostedHand seat.old.me.0 }
+        requires written { 2 ^ 63 ≤ sees seat.old.me.0 (TreeOf node) }
         requires cost { cost ≡ cost_in (sees seat.old.me.0 (TreeOf node)) }
         ensures sits { SitsAt self.now seat.new.table_id seat.new.me }
+        ensures held { hand.new ≡ seat.new.me.0.hand }
         ensures looks { LooksOn seat.old.me.0 seat.new.me.0 }
         ensures seen { sees seat.new.me.0 ≡ sees seat.old.me.0 }
-        ensures posted { seat.new.me.0.best ≤ best_word cost node }
+        ensures posted { SeesGoal seat.old.me.0 node → seat.new.me.0.best ≤ best_word cost node }
     {
-        let place = self.places.best();
-        let _found = self
-            .table
-            .shared
-            .fetch_min::<Post>(seat, place, pack_best(cost, node));
-    }
-
-    /// Exchanges the tree word of a node if it is the one that was seen last, and posts nothing. Returns what it was.
-    fn lower_at(
-        &self,
-        seat: &mut Seat<Aim, View>,
-        node: u32,
-        seen: u64,
-        parent: u32,
-        cost: u64,
-    ) -> u64
-        requires sits { SitsAt self.now seat.old.table_id seat.old.me }
-        requires part { 0 < share seat.old.me.0 }
-        requires may { MayLower seat.old.me.0 node parent cost }
-        requires seen { seen ≡ sees seat.old.me.0 (TreeOf node) }
-        ensures sits { SitsAt self.now seat.new.table_id seat.new.me }
-        ensures looks { LooksOn seat.old.me.0 seat.new.me.0 }
-        ensures here { sees seat.new.me.0 (TreeOf node) ≡ (if result == seen then tree_word parent cost else result) }
-        ensures others { (n : ℕ) → n ≢ node → sees seat.new.me.0 (TreeOf n) ≡ sees seat.old.me.0 (TreeOf n) }
-        ensures points { (n : ℕ) → sees seat.new.me.0 (PointOf n) ≡ sees seat.old.me.0 (PointOf n) }
-        ensures found { result ≢ seen → FindsLess seen result }
-        ensures whole { HasWholeShare seat.old.me.0 → result ≡ seen }
-    {
-        let place = self.places.tree(node as usize);
-        self.table
-            .shared
-            .compare_exchange::<Lower>(seat, place, seen, pack_tree(parent, cost))
+        if self.has_goal_at(point) {
+            self.post_at(seat, node, cost);
+            *hand = note_post(*hand, node);
+        }
     }
 }
 
@@ -221,48 +171,49 @@ impl Shared {
 pub(crate) fn lower_chain(
     words: &mut Vec<u64>,
     children: &ChildIndex,
-    shared: &Shared,
+    from: Lowering<'_>,
     seat: &mut Seat<Aim, View>,
+    hand: &mut Option<Hand>,
     waiting: &mut Waiting,
-    above: Above,
 ) -> Option<(u32, u64)>
     requires index { IndexesChains (length words.old.items) (sibling_chain_in words.old.items) children.now }
-    requires sits { SitsAt shared.now seat.old.table_id seat.old.me }
+    requires sits { SitsAt from.shared.now seat.old.table_id seat.old.me }
+    requires held { hand.old ≡ seat.old.me.0.hand }
     requires part { 0 < share seat.old.me.0 }
-    requires posted { HasPostedHand seat.old.me.0 }
     requires pairs { HasFirstPairs seat.old.me.0 words.old.items }
-    requires low { above.node < length words.old.items }
-    requires above { IsSeenAbove seat.old.me.0 above }
+    requires low { from.above.node < length words.old.items }
+    requires above { IsSeenAbove seat.old.me.0 from.above }
     requires size { length words.old.items ≤ waiting.old.size }
     ensures chains { (n : ℕ) → sibling_chain_in words.new.items n ≡ sibling_chain_in words.old.items n }
     ensures as_many { length words.new.items ≡ length words.old.items }
     ensures capacity { vec_capacity words.new ≡ vec_capacity words.old }
-    ensures sits { SitsAt shared.now seat.new.table_id seat.new.me }
+    ensures sits { SitsAt from.entry.shared.now seat.new.table_id seat.new.me }
+    ensures held { hand.new ≡ seat.new.me.0.hand }
     ensures looks { LooksOn seat.old.me.0 seat.new.me.0 }
     ensures pairs { IfNone result (HasFirstPairs seat.new.me.0 words.new.items) }
     ensures pairs_found { IfSome result (λ found. (found.0 < length words.old.items)
         × HasFirstPairs seat.new.me.0 (slice_set words.new.items found.0 found.1)) }
     ensures size { waiting.new ≡ record waiting.old { nodes = waiting.new.nodes } }
-    ensures lowered { LowersChildren (IsFoundPair result) seat.old.me.0 seat.new.me.0 above.node }
+    ensures lowered { LowersChildren (IsFoundPair result) seat.old.me.0 seat.new.me.0 from.entry.above.node }
     ensures posted { PostsChanged (IsFoundPair result) seat.old.me.0 seat.new.me.0 }
-    ensures all { IfNone result ((n : ℕ) → HasSeenParent seat.new.me.0 above.node n → CostsAtMostThrough seat.new.me.0 above.node n) }
-    ensures found { IfSome result (λ found. HasSeenParent seat.old.me.0 above.node found.0
+    ensures all { IfNone result ((n : ℕ) → HasSeenParent seat.new.me.0 from.entry.above.node n → CostsAtMostThrough seat.new.me.0 from.entry.above.node n) }
+    ensures found { IfSome result (λ found. HasSeenParent seat.old.me.0 from.entry.above.node found.0
         × FindsLess (sees seat.old.me.0 (TreeOf found.0)) (sees seat.new.me.0 (TreeOf found.0))) }
     ensures parents { (n m : ℕ) → ¬ IsFoundPair result n → ¬ IsFoundPair result m
         → cost_in (sees seat.new.me.0 (TreeOf n)) < cost_in (sees seat.old.me.0 (TreeOf n)) → HasSeenParent seat.new.me.0 n m → IsOn waiting.new.nodes n }
     ensures keeps { (n : ℕ) → IsOn waiting.old.nodes n → IsOn waiting.new.nodes n }
-    ensures only { (n : ℕ) → IsOn waiting.new.nodes n → IsOn waiting.old.nodes n ⊎ HasSeenParent seat.old.me.0 above.node n }
+    ensures only { (n : ℕ) → IsOn waiting.new.nodes n → IsOn waiting.old.nodes n ⊎ HasSeenParent seat.old.me.0 from.entry.above.node n }
     ensures same { (waiting.new.nodes ≡ waiting.old.nodes) ⊎ HasQueued seat.old.me.0 seat.new.me.0 waiting.new.nodes waiting.old.size }
     ensures whole { HasWholeShare seat.old.me.0 → result ≡ None }
     ensures points { HasWholeShare seat.old.me.0 → SeesSamePoints seat.old.me.0 seat.new.me.0 }
 {
-    let mut child = children.first_child(above.node);
+    let mut child = children.first_child(from.above.node);
     'children: while child != 0 {
         let seen = words[child as usize];
         // Loaded before the exchange, since no later load begins before an exchange has ended.
         let next = children.next_sibling(child);
         let has_child = children.first_child(child) != 0;
-        let word = match shared.lower_child(seat, above, child, seen) {
+        let word = match from.shared.lower_child(seat, hand, from.above, child, seen) {
             Ok(word) => word,
             Err(found) => return Some((child, found)),
         };

@@ -4,13 +4,13 @@
 ghost use Rattle.std.specs.Prelude.{◌≡◌, ◌≢◌, ℕ, suc, ◌+◌, ◌<◌, ◌≤◌, ◌^◌, ◌==◌, if◌then◌else◌, length, unwrap_or};
 ghost use Rattle.std.specs.Prelude.{IfErr, IfOk, IfSome, IsOk, IsSome, MatchOption, Some};
 ghost use Rattle.plan_model.specs.Geometry.Bounds.{IsBounded};
-ghost use Rattle.plan_words.specs.Nodes.{NamesChildOrPoint, IsLinkedAt, NamesNode, LeadsOn};
+ghost use Rattle.plan_words.specs.Nodes.{HasLinked, IsLinkedAt, LeadsOn, NamesChildOrPoint, NamesNode};
 ghost use Rattle.plan_words.specs.States.{BelongsTo, GoesOn, HasWholeShare, with_view};
 ghost use Rattle.grown_runs.specs.Runs.GrownWords.{child_of_word};
 ghost use Rattle.step_core.specs.SeenBests.{IsUnskipped};
-ghost use Rattle.step_core.specs.ViewSteps.{counted, last_fill, linked, loaded, pointed};
+ghost use Rattle.step_core.specs.ViewSteps.{counted, last_note, linked, loaded, note_before, pointed};
 ghost use Rattle.step_core.specs.ViewTrees.{IsSteered, LeadsTo, SeesNode, SeesPoint, sight_in};
-ghost use Rattle.step_core.specs.Views.{sees, tree_seen};
+ghost use Rattle.step_core.specs.Views.{last_look, sees, tree_seen};
 ghost use Rattle.grown_runs.specs.Table.WordNames.{ChangesOnly, WritesWord};
 ghost use Rattle.grown_runs.specs.Table.WordNames.Word.{ChildOf, PointOf};
 ghost use Rattle.grown_runs.specs.Table.Words.{point_in};
@@ -33,6 +33,7 @@ impl Shared {
         ensures goes_on { GoesOn pass.old.view pass.new.view }
         // this word is seen as it was found, all others as before
         ensures seen { WritesWord (ChildOf node right) (unwrap_or result 0) (sees pass.old.view) (sees pass.new.view) }
+        ensures looked { WritesWord (ChildOf node right) (pass.old.view.steps + 1) (last_look pass.old.view) (last_look pass.new.view) }
         ensures found { MatchOption result (pass.old.view.steps < (sight_in pass.new.view).found_empty node right)
             (λ c. ((tree_seen pass.new.view).child node right ≡ Some c) × SeesNode pass.new.view c) }
         // a pass with the whole share finds nothing new
@@ -50,6 +51,7 @@ impl Shared {
         ensures view { pass.new ≡ with_view pass.old (loaded pass.old.view (ChildOf node right) result) }
         ensures goes_on { GoesOn pass.old.view pass.new.view }
         ensures seen { WritesWord (ChildOf node right) result (sees pass.old.view) (sees pass.new.view) }
+        ensures looked { WritesWord (ChildOf node right) (pass.old.view.steps + 1) (last_look pass.old.view) (last_look pass.new.view) }
         ensures found { MatchOption (child_of_word result) (pass.old.view.steps < (sight_in pass.new.view).found_empty node right)
             (λ c. ((tree_seen pass.new.view).child node right ≡ Some c) × SeesNode pass.new.view c) }
         ensures whole { HasWholeShare pass.old.view → result ≡ sees pass.old.view (ChildOf node right) }
@@ -68,13 +70,12 @@ impl Shared {
         ensures goes_on { GoesOn pass.old.view pass.new.view }
         // all other words are seen as before
         ensures seen { WritesWord (PointOf node) (sees pass.new.view (PointOf node)) (sees pass.old.view) (sees pass.new.view) }
+        ensures looked { WritesWord (PointOf node) (pass.old.view.steps + 1) (last_look pass.old.view) (last_look pass.new.view) }
         ensures found { SeesPoint pass.new.view node (point_in result) }
         // a pass with the whole share finds nothing new
         ensures whole { HasWholeShare pass.old.view → sees pass.new.view (PointOf node) ≡ sees pass.old.view (PointOf node) }
     {
-        let seat = &mut pass.seat;
-        let place = self.places.point(node as usize);
-        self.table.shared.load::<Load>(seat, place)
+        self.point_at(&mut pass.seat, node)
     }
 
     /// The point of a seen node, which is seen there then.
@@ -85,6 +86,7 @@ impl Shared {
         ensures goes_on { GoesOn pass.old.view pass.new.view }
         // all other words are seen as before
         ensures seen { WritesWord (PointOf node) (sees pass.new.view (PointOf node)) (sees pass.old.view) (sees pass.new.view) }
+        ensures looked { WritesWord (PointOf node) (pass.old.view.steps + 1) (last_look pass.old.view) (last_look pass.new.view) }
         ensures found { SeesPoint pass.new.view node result }
         ensures bounded { IsBounded result }
         // a pass with the whole share finds nothing new
@@ -113,6 +115,7 @@ impl Shared {
         requires hand { IsSome pass.old.view.hand }
         requires claimed { IfSome pass.old.view.hand (λ hand. hand.stage ≡ Claimed) }
         requires steered { IfSome pass.old.view.hand (λ hand. IsSteered pass.old.view hand.mark nearest p) }
+        requires unskipped { IfSome pass.old.view.hand (λ hand. IsUnskipped pass.old.view hand) }
         requires told_nearest { S.nearest ≡ nearest }
         requires told_point { S.point ≡ p }
         ensures view { IfSome pass.old.view.hand (λ hand. pass.new ≡ with_view pass.old (pointed pass.old.view hand nearest p)) }
@@ -144,11 +147,12 @@ impl Shared {
         requires hand { IsSome pass.old.view.hand }
         requires treed { IfSome pass.old.view.hand (λ hand. hand.stage ≡ Treed) }
         requires leads { IfSome pass.old.view.hand (λ hand. LeadsTo pass.old.view hand.point node right) }
-        ensures view { IfOk result (λ _. IfSome pass.old.view.hand (λ hand.
-            pass.new ≡ with_view pass.old (counted (linked pass.old.view hand node right (last_fill pass.new.view)) hand))) }
+        ensures view { IfOk result (λ _. IfSome pass.old.view.hand (HasLinked pass.old pass.new node right)) }
         ensures goes_on { GoesOn pass.old.view pass.new.view }
         ensures linked { IfOk result (λ _. IfSome pass.old.view.hand (λ hand. IsLinkedAt pass.new.view node right hand)) }
         ensures view_found { IfErr result (λ c. pass.new ≡ with_view pass.old (loaded pass.old.view (ChildOf node right) c)) }
+        // the exchange, the first step of the two, or the only one, looked at the place
+        ensures looked { WritesWord (ChildOf node right) (pass.old.view.steps + 1) (last_look pass.old.view) (last_look pass.new.view) }
         ensures found { IfErr result (λ c. ((tree_seen pass.new.view).child node right ≡ Some c) × SeesNode pass.new.view c) }
         // the way leads on to the node, or to the child that is there: a try that fails takes it a step deeper
         ensures on_way { IfOk result (λ _. IfSome pass.old.view.hand (λ hand. LeadsOn pass.old.view pass.new.view hand.point node right (suc hand.mark))) }
@@ -175,7 +179,7 @@ impl Shared {
         requires treed { IfSome pass.old.view.hand (λ hand. hand.stage ≡ Treed) }
         requires leads { IfSome pass.old.view.hand (λ hand. LeadsTo pass.old.view hand.point node right) }
         ensures view { IfSome pass.old.view.hand (λ hand. pass.new ≡ with_view pass.old
-            (if result == 0 then linked pass.old.view hand node right (last_fill pass.new.view)
+            (if result == 0 then linked pass.old.view hand node right (last_note pass.new.view)
             else loaded pass.old.view (ChildOf node right) result)) }
         ensures goes_on { GoesOn pass.old.view pass.new.view }
         ensures whole { HasWholeShare pass.old.view → result ≡ sees pass.old.view (ChildOf node right) }
@@ -201,7 +205,8 @@ impl Shared {
         requires belongs { BelongsTo pass.old self.now }
         requires hand { IsSome pass.old.view.hand }
         requires linked { IfSome pass.old.view.hand (λ hand. hand.stage ≡ Linked) }
-        ensures view { IfSome pass.old.view.hand (λ hand. pass.new ≡ with_view pass.old (counted pass.old.view hand)) }
+        ensures view { IfSome pass.old.view.hand (λ hand. pass.new ≡ with_view pass.old
+            (counted pass.old.view hand (note_before pass.new.view 0).word (last_note pass.new.view))) }
         ensures goes_on { GoesOn pass.old.view pass.new.view }
     {
         let Some(hand) = pass.hand else {

@@ -1,15 +1,16 @@
 //! The steps on parents and costs: a pass looks at the tree words of nodes that it has seen, writes the first word and the tree
 //! word of the node in its hand, and lowers the cost of a node below a parent by which it is cheaper.
 
-ghost use Rattle.std.specs.Prelude.{◌≡◌, ◌≢◌, ℕ, ◌<◌, ◌≤◌, ◌^◌, ◌==◌, if◌then◌else◌, false, IfErr, IfOk, IfSome, IsOk, IsSome, true};
+ghost use Rattle.std.specs.Prelude.{◌≡◌, ◌≢◌, ℕ, ◌+◌, ◌<◌, ◌≤◌, ◌^◌, ◌==◌, if◌then◌else◌, false, IfErr, IfOk, IfSome, IsOk, IsSome, List, true};
 ghost use Rattle.plan_model.specs.Trees.PointsByNumber.{IsPresent};
 ghost use Rattle.plan_words.specs.Bests.{LooksAndPosts, OnlyPosts};
 ghost use Rattle.plan_words.specs.Parents.{FindsLess, IsEdgeSeen, IsPairIn};
 ghost use Rattle.plan_words.specs.States.{BelongsTo, GoesOn, HasWholeShare, with_view};
+ghost use Rattle.step_core.specs.LaterViews.{HasLooked};
 ghost use Rattle.step_core.specs.SeenBests.{SeesGoal};
-ghost use Rattle.step_core.specs.ViewSteps.{half, loaded, lowered, pair_in_hand, treed};
+ghost use Rattle.step_core.specs.ViewSteps.{half, last_note, loaded, lowered, pair_in_hand, treed};
 ghost use Rattle.step_core.specs.ViewTrees.{MayHang, MayLower, SeesNode};
-ghost use Rattle.step_core.specs.Views.{sees, share, tree_seen};
+ghost use Rattle.step_core.specs.Views.{last_look, sees, share, tree_seen};
 ghost use Rattle.grown_runs.specs.Table.WordNames.{WritesWord};
 ghost use Rattle.grown_runs.specs.Table.WordNames.Word.{TreeOf};
 ghost use Rattle.grown_runs.specs.Table.Words.{best_word, cost_in, tree_word};
@@ -17,7 +18,7 @@ ghost use Rattle.step_core.specs.declared.views.Stage.TheVariants.{Half, Pointed
 
 use crate::nodes::at_stage;
 use crate::passes::Pass;
-use crate::rules::{Load, Lower, WriteFirst, WriteTree};
+use crate::rules::{Load, WriteFirst, WriteTree};
 use crate::shared::Shared;
 use step_core::{Hand, Stage, pack_tree, pair_in};
 
@@ -31,6 +32,7 @@ impl Shared {
         ensures goes_on { GoesOn pass.old.view pass.new.view }
         // all other words are seen as before
         ensures seen { WritesWord (TreeOf node) (sees pass.new.view (TreeOf node)) (sees pass.old.view) (sees pass.new.view) }
+        ensures looked { WritesWord (TreeOf node) (pass.old.view.steps + 1) (last_look pass.old.view) (last_look pass.new.view) }
         ensures found { IsPairIn (sees pass.new.view (TreeOf node)) result }
         ensures not_above { 2 ^ 63 ≤ sees pass.old.view (TreeOf node) → result.1 ≤ cost_in (sees pass.old.view (TreeOf node)) }
         ensures edge { IsEdgeSeen pass.new.view node result.0 }
@@ -103,8 +105,9 @@ impl Shared {
     }
 
     /// Lowers the cost of a node, which gets another parent or keeps its own. The cost is less than the pass has seen of the node:
-    /// it is what the parent was seen to cost and the edge, which is allowed. The pass has a share. In an informed scene the point of the
-    /// node is looked at then, and if it lies in a goal it is posted.
+    /// it is what the parent was seen to cost and the edge, which is allowed by the points that the pass has seen of both: no step of this
+    /// call looks at the parent. The pass has a share. In an informed scene the point of the node is looked at then, and if it lies in a goal
+    /// it is posted.
     ///
     /// # Errors
     ///
@@ -121,9 +124,10 @@ impl Shared {
         requires part { 0 < share pass.old.view }
         requires may { MayLower pass.old.view node parent cost }
         // in a scene that is not informed this is one step
-        ensures view { self.now.task.scene.informed ≡ false → IfOk result (λ _. pass.new ≡ with_view pass.old (lowered pass.old.view node parent cost)) }
+        ensures view { self.now.task.scene.informed ≡ false
+            → IfOk result (λ _. pass.new ≡ with_view pass.old (lowered pass.old.view node parent cost (last_note pass.new.view))) }
         ensures posts { self.now.task.scene.informed ≡ true
-            → IfOk result (λ _. LooksAndPosts node (lowered pass.old.view node parent cost) pass.new.view) }
+            → IfOk result (λ _. (steps : List ℕ) × LooksAndPosts node (lowered pass.old.view node parent cost steps) pass.new.view) }
         ensures kept { IfOk result (λ _. OnlyPosts node pass.old pass.new) }
         ensures goes_on { GoesOn pass.old.view pass.new.view }
         ensures view_found { IfErr result (λ _. pass.new ≡ with_view pass.old (loaded pass.old.view (TreeOf node) (sees pass.new.view (TreeOf node)))) }
@@ -131,6 +135,10 @@ impl Shared {
         ensures edge_found { IfErr result (λ pair. IsEdgeSeen pass.new.view node pair.0) }
         // all other words are seen as before
         ensures seen { WritesWord (TreeOf node) (sees pass.new.view (TreeOf node)) (sees pass.old.view) (sees pass.new.view) }
+        // the exchange, the first step, looked at the word; so it was left as it is seen then, or it was another one
+        ensures looked { last_look pass.new.view (TreeOf node) ≡ pass.old.view.steps + 1 }
+        // and nothing is seen otherwise than before that no step of this call looked at
+        ensures shown { HasLooked pass.old.view pass.new.view }
         // the node is seen with this parent and at this cost then
         ensures lowered { IfOk result (λ _. sees pass.new.view (TreeOf node) ≡ tree_word parent cost) }
         // the cost that is seen falls, whichever it is
@@ -158,13 +166,15 @@ impl Shared {
         requires belongs { BelongsTo pass.old self.now }
         requires part { 0 < share pass.old.view }
         requires may { MayLower pass.old.view node parent cost }
-        ensures view { IfOk result (λ _. pass.new ≡ with_view pass.old (lowered pass.old.view node parent cost)) }
+        ensures view { IfOk result (λ _. pass.new ≡ with_view pass.old (lowered pass.old.view node parent cost (last_note pass.new.view))) }
         ensures goes_on { GoesOn pass.old.view pass.new.view }
         ensures view_found { IfErr result (λ _. pass.new ≡ with_view pass.old (loaded pass.old.view (TreeOf node) (sees pass.new.view (TreeOf node)))) }
         ensures found { IfErr result (λ pair. IsPairIn (sees pass.new.view (TreeOf node)) pair) }
         ensures edge_found { IfErr result (λ pair. IsEdgeSeen pass.new.view node pair.0) }
         // all other words are seen as before
         ensures seen { WritesWord (TreeOf node) (sees pass.new.view (TreeOf node)) (sees pass.old.view) (sees pass.new.view) }
+        ensures looked { last_look pass.new.view (TreeOf node) ≡ pass.old.view.steps + 1 }
+        ensures shown { HasLooked pass.old.view pass.new.view }
         // the cost that is seen falls, whichever it is
         ensures falls { FindsLess (sees pass.old.view (TreeOf node)) (sees pass.new.view (TreeOf node)) }
         // a pass with the whole share succeeds
@@ -188,6 +198,8 @@ impl Shared {
         ensures kept { OnlyPosts node pass.old pass.new }
         ensures goes_on { GoesOn pass.old.view pass.new.view }
         ensures seen { sees pass.new.view ≡ sees pass.old.view }
+        ensures looked { (n : ℕ) → last_look pass.new.view (TreeOf n) ≡ last_look pass.old.view (TreeOf n) }
+        ensures shown { HasLooked pass.old.view pass.new.view }
         ensures posted { SeesGoal pass.old.view node → pass.new.view.best ≤ best_word (cost_in (sees pass.old.view (TreeOf node))) node }
     {
         let point = self.point(pass, node);
@@ -202,19 +214,18 @@ impl Shared {
         requires part { 0 < share pass.old.view }
         requires may { MayLower pass.old.view node parent cost }
         ensures view { pass.new ≡ with_view pass.old
-            (if result == sees pass.old.view (TreeOf node) then lowered pass.old.view node parent cost else loaded pass.old.view (TreeOf node) result) }
+            (if result == sees pass.old.view (TreeOf node) then lowered pass.old.view node parent cost (last_note pass.new.view)
+            else loaded pass.old.view (TreeOf node) result) }
         ensures goes_on { GoesOn pass.old.view pass.new.view }
+        ensures looked { last_look pass.new.view (TreeOf node) ≡ pass.old.view.steps + 1 }
+        ensures shown { HasLooked pass.old.view pass.new.view }
         ensures found { result ≢ sees pass.old.view (TreeOf node) → FindsLess (sees pass.old.view (TreeOf node)) result }
         ensures whole { HasWholeShare pass.old.view → result ≡ sees pass.old.view (TreeOf node) }
     {
         let seen = pass.pairs.word(node);
-        let place = self.places.tree(node as usize);
-        let word = pack_tree(parent, cost);
-        let found = self
-            .table
-            .shared
-            .compare_exchange::<Lower>(&mut pass.seat, place, seen, word);
-        pass.pairs.set(node, after_exchange(found, seen, word));
+        let found = self.lower_at(&mut pass.seat, node, seen, parent, cost);
+        let word = after_exchange(found, seen, pack_tree(parent, cost));
+        pass.pairs.set(node, word);
         found
     }
 }

@@ -2,7 +2,6 @@
 
 ghost use Rattle.std.specs.Prelude.{◌≡◌, ◌⊎◌, ℕ, suc, ◌<◌, ◌≤◌, ◌^◌, length, slice_index, slice_set, IfNone, IfOk, IfSome, IsTrue, None, replicate};
 ghost use Rattle.std.specs.Vec.{vec_capacity};
-ghost use Rattle.plan_words.specs.Bests.{HasPostedHand};
 ghost use Rattle.plan_words.specs.LoweredChildren.{CostsAtMostThrough, HasQueued, IsFoundPair, IsSeenAbove, LooksOn, LowersChildren, PostsChanged};
 ghost use Rattle.plan_words.specs.LoweredChildren.{SeesSamePoints, SitsAt};
 ghost use Rattle.plan_words.specs.Parents.{FindsLess};
@@ -13,14 +12,13 @@ ghost use Rattle.step_core.specs.Views.{sees, share};
 ghost use Rattle.grown_runs.specs.Table.WordNames.Word.{TreeOf};
 ghost use Rattle.grown_runs.specs.Table.Words.{cost_in, parent_in};
 
-use crate::lowered_children::{Above, lower_chain};
+use crate::lowered_children::{Lowering, lower_chain};
 use crate::openings::Aim;
-use crate::shared::Shared;
 use crate::waiting::Waiting;
 use atomic_table::Seat;
 use std::alloc::{AllocError, Global};
 use std::marker::Model;
-use step_core::{ChildIndex, View, read_tree};
+use step_core::{ChildIndex, Hand, View, read_tree};
 
 /// The tree word of each node as a pass saw it last, 0 if it did not, with an index from each node to those that have it as their
 /// parent by these words. To a contract it is the list of the words.
@@ -127,47 +125,41 @@ impl SeenPairs {
     /// Lowers the children of a node.
     pub(crate) fn lower_children(
         &mut self,
-        shared: &Shared,
+        from: Lowering<'_>,
         seat: &mut Seat<Aim, View>,
+        hand: &mut Option<Hand>,
         waiting: &mut Waiting,
-        above: Above,
     ) -> Option<(u32, u64)>
-        requires sits { SitsAt shared.now seat.old.table_id seat.old.me }
+        requires sits { SitsAt from.shared.now seat.old.table_id seat.old.me }
+        requires held { hand.old ≡ seat.old.me.0.hand }
         requires part { 0 < share seat.old.me.0 }
-        requires posted { HasPostedHand seat.old.me.0 }
         requires pairs { HasPairs seat.old.me.0 self.old }
-        requires above { IsSeenAbove seat.old.me.0 above }
+        requires above { IsSeenAbove seat.old.me.0 from.above }
         requires size { waiting.old.size ≡ length self.old }
         ensures as_many { length self.new ≡ length self.old }
-        ensures sits { SitsAt shared.now seat.new.table_id seat.new.me }
+        ensures sits { SitsAt from.entry.shared.now seat.new.table_id seat.new.me }
+        ensures held { hand.new ≡ seat.new.me.0.hand }
         ensures looks { LooksOn seat.old.me.0 seat.new.me.0 }
         ensures pairs { IfNone result (HasPairs seat.new.me.0 self.new) }
         ensures pairs_found { IfSome result (λ found. HasPairs seat.new.me.0 (slice_set self.new found.0 found.1)) }
         ensures size { waiting.new ≡ record waiting.old { nodes = waiting.new.nodes } }
-        ensures lowered { LowersChildren (IsFoundPair result) seat.old.me.0 seat.new.me.0 above.node }
+        ensures lowered { LowersChildren (IsFoundPair result) seat.old.me.0 seat.new.me.0 from.entry.above.node }
         ensures posted { PostsChanged (IsFoundPair result) seat.old.me.0 seat.new.me.0 }
-        ensures all { IfNone result ((n : ℕ) → HasSeenParent seat.new.me.0 above.node n → CostsAtMostThrough seat.new.me.0 above.node n) }
-        ensures found { IfSome result (λ found. HasSeenParent seat.old.me.0 above.node found.0
+        ensures all { IfNone result ((n : ℕ) → HasSeenParent seat.new.me.0 from.entry.above.node n → CostsAtMostThrough seat.new.me.0 from.entry.above.node n) }
+        ensures found { IfSome result (λ found. HasSeenParent seat.old.me.0 from.entry.above.node found.0
             × FindsLess (sees seat.old.me.0 (TreeOf found.0)) (sees seat.new.me.0 (TreeOf found.0))) }
         ensures parents { (n m : ℕ) → ¬ IsFoundPair result n → ¬ IsFoundPair result m
             → cost_in (sees seat.new.me.0 (TreeOf n)) < cost_in (sees seat.old.me.0 (TreeOf n)) → HasSeenParent seat.new.me.0 n m → IsOn waiting.new.nodes n }
         ensures keeps { (n : ℕ) → IsOn waiting.old.nodes n → IsOn waiting.new.nodes n }
-        ensures only { (n : ℕ) → IsOn waiting.new.nodes n → IsOn waiting.old.nodes n ⊎ HasSeenParent seat.old.me.0 above.node n }
+        ensures only { (n : ℕ) → IsOn waiting.new.nodes n → IsOn waiting.old.nodes n ⊎ HasSeenParent seat.old.me.0 from.entry.above.node n }
         ensures same { (waiting.new.nodes ≡ waiting.old.nodes) ⊎ HasQueued seat.old.me.0 seat.new.me.0 waiting.new.nodes waiting.old.size }
         ensures whole { HasWholeShare seat.old.me.0 → result ≡ None }
         ensures points { HasWholeShare seat.old.me.0 → SeesSamePoints seat.old.me.0 seat.new.me.0 }
     {
-        if above.node as usize >= self.words.len() {
+        if from.above.node as usize >= self.words.len() {
             return None;
         }
-        lower_chain(
-            &mut self.words,
-            &self.children,
-            shared,
-            seat,
-            waiting,
-            above,
-        )
+        lower_chain(&mut self.words, &self.children, from, seat, hand, waiting)
     }
 }
 

@@ -74,6 +74,7 @@ impl Shared {
         ensures goes_on { GoesOn pass.old.view pass.new.view }
         // this word is seen as it was found, all others as before
         ensures seen { WritesWord Count result (sees pass.old.view) (sees pass.new.view) }
+        ensures looked { WritesWord Count (pass.old.view.steps + 1) (last_look pass.old.view) (last_look pass.new.view) }
         // there are no fewer nodes than a worker has placed, by the records that were seen
         ensures own { (entry : Record) → own_count pass.old.view entry ≤ result }
         // a pass with the whole share, which has counted what it has linked, finds as many as it sees

@@ -8,9 +8,7 @@ use Rattle.plan_words.proofs.Common.{HasPostedGoals, PassState, SharedState, Has
 use Rattle.plan_work.proofs.MirroredTrees.{Mirrors-still}
 use Rattle.plan_work.proofs.RecordedMarks.{others_still}
 use Rattle.plan_work.proofs.TextbookSteps.{IsTextbookRun-push, RecordsNext-run}
-use Rattle.plan_work.specs.ExtensionSteps.{HasRecorded}
-use Rattle.plan_work.specs.OneWorker.{SeesTextbook, WorksAlone}
-use Rattle.plan_work.specs.WholeShares.{SeesButCount}
+use Rattle.plan_work.proofs.Words.{HasRecorded, SeesTextbook, WorksAlone, SeesButCount}
 use Rattle.step_core.proofs.Common.{IsLater, one_turn_more, sees, setup_in}
 use Rattle.step_core.specs.declared.views.Hand.{Hand}
 use Rattle.step_core.specs.declared.views.Member.{Member}

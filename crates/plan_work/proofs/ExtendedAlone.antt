@@ -12,10 +12,8 @@ use Rattle.plan_work.proofs.MirroredTrees.{Mirrors-absent, SteersTo-mirrored, po
 use Rattle.plan_work.proofs.SkippedAlone.{IsNotSkippedIn-kept, MayBeCheaper-mirrored}
 use Rattle.plan_work.proofs.TextbookSteps.{Handles-blocked, Handles-same}
 use Rattle.plan_work.proofs.WholeLists.{IsFilledWhole-still, IsSteeredWhole-found, IsSteeredWhole-still}
-use Rattle.plan_work.specs.Extensions.{HasSteered}
-use Rattle.plan_work.specs.ExtensionSteps.{HasRecorded, KeepsRecords, own_unplaced}
-use Rattle.plan_work.specs.OneWorker.{IsNotSkippedIn, SeesTextbook, WorksAlone}
-use Rattle.plan_work.specs.WholeShares.{IsFilledWhole, IsSteeredWhole, KeepsNode, KeepsOthers, SeesButCount}
+use Rattle.plan_work.proofs.Words.{HasSteered, HasRecorded, KeepsRecords, own_unplaced, IsNotSkippedIn, SeesTextbook, WorksAlone, IsFilledWhole, IsSteeredWhole}
+use Rattle.plan_work.proofs.Words.{KeepsNode, KeepsOthers, SeesButCount}
 use Rattle.step_core.proofs.Common.{pointed, SeesPoint, sees, setup_in, tree_seen}
 use Rattle.step_core.specs.declared.views.Hand.{Hand}
 use Rattle.step_core.specs.declared.views.View.{View}

@@ -1,9 +1,10 @@
 -- A mark is handled in steps: what the first of them leave, and what all of them leave together.
-use Rattle.std.proofs.Common.{◌≡◌, ℕ, ◌≤◌, Some, refl, sym, ap, ◌∙◌, subst, arith}
+use Rattle.std.proofs.Common.{◌≡◌, ℕ, ◌≤◌, Some, inl, refl, sym, ap, ◌∙◌, subst, arith}
 use Rattle.std.specs.Prelude.{IfSome, IsSome, is_some}
 use Rattle.grown_runs.proofs.Common.{Clear, space_of, IsFree, point_of, EndsSince, IsSwept, Point, Blocked, Same, Record, point_of-stands, EndsSince-later}
 use Rattle.grown_runs.proofs.Common.{IsBounded, Count, Counter, PointOf, RecordOf, point_of_word, Outcome}
 use Rattle.plan_words.proofs.Common.{BelongsTo, GoesOn, PassState, SharedState, turn_of, with_view, worker_of, BelongsTo-later, GoesOn-trans}
+use Rattle.plan_words.proofs.Common.{SeesBestSince, SeesBestSince-trans}
 use Rattle.step_core.proofs.Common.{IsLaterMoment-later, KeepsSight-lawful, point_at-seen, seen-within, IsUnskipped, MayBeBlocked, MayRecord, one_turn_more}
 use Rattle.step_core.proofs.Common.{pointed, IsSteered, SeesPoint, sight_in, run_sizes, sees, setup_in, tree_seen, has_node-recorded, present_recorded}
 use Rattle.step_core.specs.declared.views.Hand.{Hand}
@@ -19,9 +20,8 @@ use Rattle.plan_work.proofs.RecordedMarks.{HandlesMark-recorded, IsSteeredTo-sti
 use Rattle.plan_work.proofs.SkippedMarks.{IsUnskipped-kept}
 use Rattle.plan_work.proofs.SteeredOutcomes.{EndsAsSteered-written, WasSteered-to}
 use Rattle.plan_work.proofs.TriedMarks.{HasFilledNear-still}
-use Rattle.plan_work.specs.Extensions.{EndsAsSteered, HandlesMark, HasSteered, IsBlockedAt, WasSteered}
-use Rattle.plan_work.specs.ExtensionSteps.{EndsWritten, HasFilledNear, HasRecorded, IsFilledSince, IsSteeredAndHandled, IsSteeredTo, KeepsRecords, MayPlace}
-use Rattle.plan_work.specs.ExtensionSteps.{own_unplaced}
+use Rattle.plan_work.proofs.Words.{EndsAsSteered, HandlesMark, HasSteered, IsBlockedAt, WasSteered, EndsWritten, HasFilledNear, HasRecorded, IsFilledSince}
+use Rattle.plan_work.proofs.Words.{IsSteeredAndHandled, IsSteeredTo, KeepsRecords, MayPlace, own_unplaced}
 
 -- ---- one after another
 
@@ -33,6 +33,7 @@ KeepsRecords-emptied shared before emptied after is keeps = record {
   goes_on = subst (λ v. GoesOn v after.view) is keeps.goes_on;
   records = λ k. keeps.records k ∙ ap (λ v. sees v (RecordOf k)) is;
   counters = λ g. keeps.counters g ∙ ap (λ v. sees v (Counter g)) is;
+  best = subst (λ v. SeesBestSince v after.view) is keeps.best;
   crew = keeps.crew ∙ ap (λ v. v.crew) is;
   most = keeps.most ∙ ap (λ v. v.most) is;
 }
@@ -48,6 +49,7 @@ HandlesMark-after shared before mid after k entry keeps handles = record {
   turn = handles.turn ∙ ap turn_of keeps.crew;
   others = λ j apart. handles.others j apart ∙ keeps.records j;
   counters = λ g. handles.counters g ∙ keeps.counters g;
+  best = SeesBestSince-trans before.view mid.view after.view keeps.goes_on handles.goes_on keeps.best handles.best;
   crew = handles.crew ∙ ap one_turn_more keeps.crew;
   most = handles.most ∙ keeps.most;
 }
@@ -146,19 +148,23 @@ module _
   pub MayRecord-found : IsUnskipped found.view hand → (j : ℕ) → SeesPoint found.view j p
       → IfSome found.view.hand (λ h. MayRecord found.view h (own_unplaced found.view m (Same j)))
   MayRecord-found unskipped j stands =
-      if_held found.view (λ h. MayRecord found.view h (own_unplaced found.view m (Same j))) hand held
-      (MaySteer-steered found.view hand k m p (own_unplaced found.view m (Same j)) (SeesPoint found.view j)
-      unskipped (IsSteeredTo-found shared before found k m from p keeps steers) mark refl stands)
+      if_held found.view (λ h. MayRecord found.view h (own_unplaced found.view m (Same j))) hand held (
+        unskipped,
+        MaySteer-steered found.view hand k m p (own_unplaced found.view m (Same j)) (SeesPoint found.view j)
+            (IsSteeredTo-found shared before found k m from p keeps steers) mark refl stands,
+      )
 
   -- or the segment to it is blocked
   pub MayRecord-blocked : IsUnskipped found.view hand → IsFree (tree_seen found.view).points p
       → ¬ Clear (setup_in found.view.run).space (point_of (tree_seen found.view).points m) p
       → IfSome found.view.hand (λ h. MayRecord found.view h (own_unplaced found.view m Blocked))
   MayRecord-blocked unskipped free blocked =
-      if_held found.view (λ h. MayRecord found.view h (own_unplaced found.view m Blocked)) hand held
-      (MaySteer-steered found.view hand k m p (own_unplaced found.view m Blocked) (MayBeBlocked found.view (own_unplaced found.view m Blocked))
-      unskipped (IsSteeredTo-found shared before found k m from p keeps steers) mark refl
-      record { blocked = blocked; free = λ i own. free i })
+      if_held found.view (λ h. MayRecord found.view h (own_unplaced found.view m Blocked)) hand held (
+        unskipped,
+        MaySteer-steered found.view hand k m p (own_unplaced found.view m Blocked) (MayBeBlocked found.view (own_unplaced found.view m Blocked))
+            (IsSteeredTo-found shared before found k m from p keeps steers) mark refl
+            record { blocked = blocked; free = λ i own. free i },
+      )
 
   module _ (done : PassState) (entry : Record) (recorded : HasRecorded shared found done entry) where
     handles : HandlesMark shared before done k entry
@@ -221,6 +227,7 @@ module _
       goes_on = GoesOn-trans before.view found.view written.view keeps.goes_on goes_on;
       records = λ j. ap (λ v. sees v (RecordOf j)) then ∙ keeps.records j;
       counters = λ g. ap (λ v. sees v (Counter g)) then ∙ keeps.counters g;
+      best = SeesBestSince-trans before.view found.view written.view keeps.goes_on goes_on keeps.best (inl (ap (λ v. v.best) then));
       crew = ap (λ v. v.crew) then ∙ keeps.crew;
       most = ap (λ v. v.most) then ∙ keeps.most;
     }

@@ -14,8 +14,7 @@ use Rattle.plan_words.proofs.Common.{Contains-number, GoesOn, PassState, with_vi
 use Rattle.plan_words.specs.declared.spots.Found.{Found}
 use Rattle.tree_rewire.specs.SeenCosts.{IsInReach}
 use Rattle.plan_work.proofs.RecordedMarks.{own_count-same}
-use Rattle.plan_work.specs.Extensions.{radius_in}
-use Rattle.plan_work.specs.ExtensionSteps.{HasFilledNear}
+use Rattle.plan_work.proofs.Words.{radius_in, HasFilledNear}
 use Rattle.step_core.proofs.Common.{is_own_node, own_count, loaded, sight_in, last_look, sees, tree_seen, IsLaterMoment-later, WritesWord-looked}
 use Rattle.step_core.specs.declared.views.View.{View}
 use Rattle.tree_rewire.proofs.SeenCosts.{stands_later}

@@ -1,5 +1,5 @@
 -- The node in hand gets its parent and its cost.
-use Rattle.std.proofs.Common.{◌≡◌, ℕ, ◌≤◌, ◌∷◌, List, refl, sym, ap, ◌∙◌, subst, arith}
+use Rattle.std.proofs.Common.{◌≡◌, ℕ, ◌≤◌, ◌∷◌, List, inl, refl, sym, ap, ◌∙◌, subst, arith}
 use Rattle.std.specs.Prelude.{All, Contains, slice_index_or}
 use Rattle.std.proofs.lemmas.List.Elements.{All-contains, Contains-get_or}
 use Rattle.grown_runs.proofs.Common.{Clear, ConfigurationSpace, cost_of, IsFirstLeast, IsOpenTo, IsPresent, point_at, point_of, Point, Contains-after}
@@ -76,6 +76,7 @@ KeepsRecords-written shared before after own parent cost belongs is goes_on = re
   goes_on = goes_on;
   records = λ k. ap (λ (p : PassState). sees p.view (RecordOf k)) is;
   counters = λ g. ap (λ (p : PassState). sees p.view (Counter g)) is;
+  best = inl (ap (λ (p : PassState). p.view.best) is);
   crew = ap (λ (p : PassState). p.view.crew) is;
   most = ap (λ (p : PassState). p.view.most) is;
 }

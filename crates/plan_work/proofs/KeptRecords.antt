@@ -1,10 +1,10 @@
 -- Calls that see no record anew, one after another.
-use Rattle.std.proofs.Common.{◌≡◌, ℕ, ap, ◌∙◌}
+use Rattle.std.proofs.Common.{◌≡◌, ℕ, inl, ap, ◌∙◌}
 use Rattle.kd_shared.specs.Looking.{OnlyLooks}
-use Rattle.plan_words.proofs.Common.{BelongsTo, GoesOn, PassState, SharedState, BelongsTo-later, GoesOn-trans}
+use Rattle.plan_words.proofs.Common.{BelongsTo, GoesOn, PassState, SharedState, BelongsTo-later, GoesOn-trans, SeesBestSince-trans}
 use Rattle.plan_work.specs.ExtensionSteps.{KeepsRecords}
 use Rattle.step_core.proofs.Common.{loaded, sees}
-use Rattle.grown_runs.proofs.Common.{Word, WritesWord, Count, Counter, RecordOf}
+use Rattle.grown_runs.proofs.Common.{Word, WritesWord, Best, Count, Counter, RecordOf}
 use Rattle.tree_rewire.specs.SeenCosts.{SeesAnew}
 
 pub KeepsRecords-trans : (shared : SharedState) (before mid after : PassState) → KeepsRecords shared before mid → KeepsRecords shared mid after
@@ -14,6 +14,7 @@ KeepsRecords-trans shared before mid after one other = record {
   goes_on = GoesOn-trans before.view mid.view after.view one.goes_on other.goes_on;
   records = λ k. other.records k ∙ one.records k;
   counters = λ g. other.counters g ∙ one.counters g;
+  best = SeesBestSince-trans before.view mid.view after.view one.goes_on other.goes_on one.best other.best;
   crew = other.crew ∙ one.crew;
   most = other.most ∙ one.most;
 }
@@ -27,6 +28,7 @@ KeepsRecords-number shared before after nodes value belongs is goes_on writes = 
   goes_on = goes_on;
   records = λ k. writes.others (RecordOf k) (λ e. cc);
   counters = λ g. writes.others (Counter g) (λ e. cc);
+  best = inl (ap (λ (p : PassState). p.view.best) is);
   crew = ap (λ (p : PassState). p.view.crew) is;
   most = ap (λ (p : PassState). p.view.most) is;
 }
@@ -39,6 +41,7 @@ KeepsRecords-looks shared before after belongs looks = record {
   goes_on = looks.looks.goes_on;
   records = λ k. looks.looks.others (RecordOf k) (λ no. no);
   counters = λ g. looks.looks.others (Counter g) (λ no. no);
+  best = looks.looked Best;
   crew = looks.kept.crew;
   most = looks.kept.most;
 }
@@ -52,6 +55,7 @@ KeepsRecords-anew which shared before after none uncounted belongs anew = record
   goes_on = anew.goes_on;
   records = λ k. anew.others (RecordOf k) (none k);
   counters = λ g. anew.others (Counter g) (uncounted g);
+  best = anew.looked Best;
   crew = anew.kept.crew;
   most = anew.kept.most;
 }

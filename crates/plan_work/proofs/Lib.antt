@@ -31,3 +31,4 @@ pub mod PlacedAlone
 pub mod ExtendedAlone
 pub mod SkippingMarks
 pub mod TextbookEnds
+mod Words

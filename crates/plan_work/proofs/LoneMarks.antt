@@ -11,8 +11,7 @@ use Rattle.plan_words.proofs.Common.{HasPostedGoals-step}
 use Rattle.step_core.proofs.Common.{IsLater, mark_of, sees, setup_in, tree_seen, counters}
 use Rattle.step_core.specs.declared.views.SharedRun.{SharedRun}
 use Rattle.step_core.specs.declared.views.View.{View}
-use Rattle.plan_work.specs.Extensions.{HandlesMark}
-use Rattle.plan_work.specs.OneWorker.{HasClaimed, HasHandled, SeesTextbook, WorksAlone}
+use Rattle.plan_work.proofs.Words.{HandlesMark, HasClaimed, HasHandled, SeesTextbook, WorksAlone}
 
 -- ---- while only counters are seen anew
 

@@ -15,8 +15,7 @@ use Rattle.step_core.specs.declared.views.View.{View}
 use Rattle.tree_rewire.proofs.ChosenParents.{All-more}
 use Rattle.tree_rewire.proofs.SeenCosts.{stands_later}
 use Rattle.tree_rewire.specs.SeenCosts.{IsInReach}
-use Rattle.plan_work.specs.Extensions.{HasSteered, radius_in}
-use Rattle.plan_work.specs.ExtensionSteps.{HasFilledNear, IsNearestOf}
+use Rattle.plan_work.proofs.Words.{HasSteered, radius_in, HasFilledNear, IsNearestOf}
 
 -- of two nodes the one that is not further has a pair that is not above
 pub IsNotAbove-further : (key : ℕ → ℕ) (m n distance further : ℕ) → distance ≡ key m → further ≡ key n → IsPairNotAbove distance m further n

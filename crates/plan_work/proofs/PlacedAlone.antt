@@ -19,18 +19,16 @@ use Rattle.plan_work.proofs.EqualPoints.{count-same, near_new-same}
 use Rattle.plan_work.proofs.MirroredTrees.{IsBestParent-mirrored, Mirrors-absent, Mirrors-placed, Mirrors-still, SeesNewNode, SteersTo-mirrored}
 use Rattle.plan_work.proofs.MirroredTrees.{seen_cost_through-mirrored, point_of-mirrored}
 use Rattle.plan_work.proofs.TextbookSteps.{Handles-placed, Handles-same, KeepsOrder-run, RecordsNext-run}
-use Rattle.plan_work.specs.ExtensionSteps.{HasRecorded, IsTried, KeepsRecords, MayPlace, hung_by, own_placed, own_unplaced, placed_hand}
+use Rattle.plan_work.proofs.Words.{HasRecorded, IsTried, KeepsRecords, MayPlace, hung_by, own_placed, own_unplaced, placed_hand, IsNotSkippedIn, SeesTextbook}
+use Rattle.plan_work.proofs.Words.{WorksAlone, IsFilledWhole, IsSteeredWhole, IsTriedWhole, Hanging}
 use Rattle.plan_work.proofs.SkippedAlone.{MayBeCheaper-mirrored}
-use Rattle.plan_work.proofs.SkippedMarks.{has_first-placed}
-use Rattle.plan_work.specs.OneWorker.{IsNotSkippedIn, SeesTextbook, WorksAlone}
-use Rattle.plan_work.specs.WholeShares.{IsFilledWhole, IsSteeredWhole, IsTriedWhole}
-use Rattle.plan_work.specs.declared.mark_placing.Hanging.{Hanging}
+use Rattle.plan_work.proofs.SkippedMarks.{has_first-placed, held_on}
 use Rattle.step_core.specs.declared.views.Hand.{Hand}
 use Rattle.step_core.specs.declared.views.SharedRun.{SharedRun}
 use Rattle.step_core.specs.declared.views.View.{View}
 use Rattle.tree_rewire.proofs.SeenCosts.{stands_later}
 use Rattle.tree_rewire.specs.Mirrors.{Mirrors}
-use Rattle.tree_rewire.specs.SeenCosts.{IsInReach, NamesTreeOrPoint, SeesAnew, seen_cost_through}
+use Rattle.tree_rewire.specs.SeenCosts.{IsInReach, NamesLoweredOrPoint, SeesAnew, seen_cost_through}
 
 -- where a node is seen goes by its own word
 point_kept : (before after : View) → after.run ≡ before.run → (n : ℕ) → sees after (PointOf n) ≡ sees before (PointOf n)
@@ -257,7 +255,7 @@ module _
   -- ---- rewired and recorded
 
   module _
-      (after done : PassState) (entry : Record) (seen : SeesAnew NamesTreeOrPoint tried.view after.view) (now : Nodes)
+      (after done : PassState) (entry : Record) (seen : SeesAnew NamesLoweredOrPoint tried.view after.view) (now : Nodes)
       (rewired : Rewires (space_of shared.task.scene) (book.tree ++ Some (record { point = p; parent = hanging.parent }) ∷ []) (suc k)
       (near_new (setup_in before.view.run) (tree_seen before.view).points p) now)
       (mirrors : Mirrors after.view now) (recorded : HasRecorded shared after done entry) (is : entry ≡ own_placed after.view m hanging)
@@ -293,7 +291,7 @@ module _
         rewired))
 
     held : after.view.hand ≡ Some counted_hand
-    held = seen.kept.hand ∙ is_tried.came.counted
+    held = held_on tried.view after.view (hung_by may.hand hanging) is_tried.came.counted seen.kept.hand seen.goes_on
 
     pub AloneNext-placed : WorksAlone done.view (suc k) × SeesTextbook done.view (suc k)
     AloneNext-placed = (

@@ -6,7 +6,7 @@ use Rattle.std.proofs.lemmas.List.Elements.{All-contains}
 use Rattle.kd_shared.specs.declared.placing.Placing.TheVariants.{Placed, Same}
 use Rattle.grown_runs.proofs.Common.{Clear, space_of, cost_of, squared_distance, lies_in_goals, distance_to, is_within, point_at, point_of, class_of}
 use Rattle.grown_runs.proofs.Common.{radius_of_class, Point, Record, cost_of-swap, IsPresent-stands, StandsAt-present, point_of-stands, class_of-le, Clear-back}
-use Rattle.grown_runs.proofs.Common.{Word, Count, FirstOf, RecordOf, TreeOf, cost_in, tree_word}
+use Rattle.grown_runs.proofs.Common.{Word, Count, FirstOf, RecordOf, TreeOf, best_word, cost_in, tree_word}
 use Rattle.plan_model.specs.declared.records.Outcome.TheVariants.{Same as SameNode}
 use Rattle.plan_words.proofs.Common.{numbers_of, GoesOn, PassState, SharedState, GoesOn-trans}
 use Rattle.step_core.proofs.Common.{IsOwnNeighbour, MayBePlaced, MayRecord, is_own_node, own_count, own_first_cost, SeesPoint, sight_in, sees, setup_in}
@@ -18,17 +18,15 @@ use Rattle.step_core.specs.declared.views.View.{View}
 use Rattle.tree_rewire.proofs.SeenCosts.{SeesPair-later, cost_seen-later, stands_later}
 use Rattle.tree_rewire.proofs.SpreadFalls.{HasSpreadFalls-still}
 use Rattle.tree_rewire.specs.Rewirings.{HasSpreadFalls}
-use Rattle.tree_rewire.specs.SeenCosts.{IsLoadedSince, NamesTreeOrPoint, SeesAnew, SeesPair, cost_seen}
+use Rattle.tree_rewire.specs.SeenCosts.{IsLoadedSince, NamesLoweredOrPoint, SeesAnew, SeesPair, cost_seen}
 use Rattle.plan_work.proofs.FilledNear.{looked_still}
 use Rattle.plan_work.proofs.KeptSights.{SweepsWithin-still}
 use Rattle.plan_work.proofs.HeldMarks.{if_held, of_held}
 use Rattle.plan_work.proofs.RecordedMarks.{IsSteeredTo-still, MaySteer-steered, others_still, own_count-same}
-use Rattle.plan_work.proofs.SkippedMarks.{IsUnskipped-kept, placed_stage-goal}
+use Rattle.plan_work.proofs.SkippedMarks.{IsUnskipped-kept, held_on, placed_stage-goal}
 use Rattle.plan_work.proofs.TriedMarks.{HasFilledNear-still, clear_of-may}
-use Rattle.plan_work.specs.Extensions.{IsPlacedAt, IsWithinRadius, WasChosen, WasNeighbour, WasRewired, radius_in}
-use Rattle.plan_work.specs.ExtensionSteps.{HasFilledNear, HasRecorded, IsFilledSince, IsTried, KeepsRecords, MayPlace, hung_by, own_placed, placed_hand}
-use Rattle.plan_work.specs.ExtensionSteps.{own_unplaced}
-use Rattle.plan_work.specs.declared.mark_placing.Hanging.{Hanging}
+use Rattle.plan_work.proofs.Words.{IsPlacedAt, IsWithinRadius, WasChosen, WasNeighbour, WasRewired, radius_in, HasFilledNear, HasRecorded, IsFilledSince}
+use Rattle.plan_work.proofs.Words.{IsTried, KeepsRecords, MayPlace, hung_by, own_placed, placed_hand, own_unplaced, Hanging}
 
 -- The first word of a node stays once it was seen.
 first_kept : (before after : View) → GoesOn before after → (n : ℕ) → 2 ^ 63 ≤ sees before (FirstOf n) → sees after (FirstOf n) ≡ sees before (FirstOf n)
@@ -60,11 +58,12 @@ pub MayRecord-same :
     → KeepsRecords shared before after → IsTried before after may.hand (Same j) hanging
     → IfSome after.view.hand (λ hand. MayRecord after.view hand (own_unplaced after.view m (SameNode j)))
 MayRecord-same shared before after k m p hanging j may keeps tried =
-    if_held after.view (λ hand. MayRecord after.view hand (own_unplaced after.view m (SameNode j))) (hung_by may.hand hanging) tried.came.unchanged
-    (MaySteer-steered after.view (hung_by may.hand hanging) k m p (own_unplaced after.view m (SameNode j)) (SeesPoint after.view j)
-    (IsUnskipped-kept before.view after.view may.hand (hung_by may.hand hanging) keeps.goes_on.later.run refl refl may.unskipped)
-    (IsSteeredTo-still before.view after.view k m p keeps.goes_on keeps.records may.steered) may.mark refl
-    (subst (SeesPoint after.view j) may.pointed.point tried.came.stands))
+    if_held after.view (λ hand. MayRecord after.view hand (own_unplaced after.view m (SameNode j))) (hung_by may.hand hanging) tried.came.unchanged (
+      IsUnskipped-kept before.view after.view may.hand (hung_by may.hand hanging) keeps.goes_on.later.run refl refl may.unskipped,
+      MaySteer-steered after.view (hung_by may.hand hanging) k m p (own_unplaced after.view m (SameNode j)) (SeesPoint after.view j)
+          (IsSteeredTo-still before.view after.view k m p keeps.goes_on keeps.records may.steered) may.mark refl
+          (subst (SeesPoint after.view j) may.pointed.point tried.came.stands),
+    )
 
 -- what a rewiring says of the node in hand, by its point and its cost
 pub Rewired-hand :
@@ -89,7 +88,7 @@ module _
     (shared : SharedState) (first before tried after : PassState) (k m : ℕ) (p : Point) (hanging : Hanging) (may : MayPlace shared before k m p)
     (since : IsFilledSince shared first before p hanging.class) (keeps : KeepsRecords shared before tried)
     (is_tried : IsTried before tried may.hand Placed hanging)
-    (seen : SeesAnew NamesTreeOrPoint tried.view after.view) (pairs : All (SeesPair after.view) (numbers_of before.lists.search.found))
+    (seen : SeesAnew NamesLoweredOrPoint tried.view after.view) (pairs : All (SeesPair after.view) (numbers_of before.lists.search.found))
     (rewired : (i : ℕ) → Contains (numbers_of before.lists.search.found) i → Clear (space_of shared.task.scene) p (point_of (tree_seen tried.view).points i)
     → cost_seen after.view i ≤ hanging.cost + cost_of p (point_of (tree_seen tried.view).points i)) where
   abbrev mid : View
@@ -179,6 +178,9 @@ module _
   abbrev counted_hand : Hand
   counted_hand = placed_hand tried.view (hung_by may.hand hanging)
 
+  held_after : after.view.hand ≡ Some counted_hand
+  held_after = held_on tried.view after.view (hung_by may.hand hanging) is_tried.came.counted seen.kept.hand seen.goes_on
+
   stood_first : (i : ℕ) → IsTrue (is_own_node after.view entry i) → SeesPoint first.view i (point_of (tree_seen first.view).points i)
   stood_first i own =
       StandsAt-present (tree_seen first.view).points i
@@ -215,9 +217,8 @@ module _
 
   pub MayRecord-placed : IfSome after.view.hand (λ hand. MayRecord after.view hand entry)
   MayRecord-placed =
-      if_held after.view (λ hand. MayRecord after.view hand entry) counted_hand (seen.kept.hand ∙ is_tried.came.counted)
+      if_held after.view (λ hand. MayRecord after.view hand entry) counted_hand held_after
       (MaySteer-steered after.view counted_hand k m p entry (λ q. MayBePlaced after.view counted_hand entry)
-      (IsUnskipped-kept before.view after.view may.hand counted_hand whole.later.run refl refl may.unskipped)
       (IsSteeredTo-still before.view after.view k m p whole records may.steered) may.mark refl
       record {
         nearest_is = sym may.pointed.nearest;
@@ -239,9 +240,12 @@ module _
               pair_after i _ close,
               omega (arith, rewired_by i _ close, ap (cost_of (point_of (tree_seen after.view).points i)) may.pointed.point),
             );
-        posted = λ goal.
-            placed_stage-goal tried.view.run.goals may.hand.point
-            (subst (λ (r : SharedRun). lies_in_goals r.goals may.hand.point ≡ true) seen.goes_on.later.run goal);
+        posted = (
+          λ goal.
+              placed_stage-goal tried.view.run.goals may.hand.point
+              (subst (λ (r : SharedRun). lies_in_goals r.goals may.hand.point ≡ true) seen.goes_on.later.run goal),
+          (whole.lawful.tree.holds counted_hand held_after).posted,
+        );
       })
 
   -- ---- after the record
@@ -264,9 +268,6 @@ module _
       clear = subst (λ s. Clear s was.at p)
           (ap (λ (x : SharedRun). (setup_in x).space) (recorded.goes_on.later.run ∙ whole.later.run ∙ may.belongs.run)) was.clear;
     }
-
-    held_after : after.view.hand ≡ Some counted_hand
-    held_after = seen.kept.hand ∙ is_tried.came.counted
 
     -- every other word is seen as before the record was stored
     kept : (name : Word) → name ≢ RecordOf counted_hand.mark → sees done.view name ≡ sees after.view name
@@ -307,6 +308,11 @@ module _
       written =
           ap (λ j. sees tried.view (TreeOf (suc j))) (sym may.mark) ∙ is_tried.came.pair
           ∙ ap (λ (x : Record). tree_word x.first_parent x.first_cost) (sym is);
+      posted = λ lies.
+          let here = subst (λ (r : SharedRun). lies_in_goals r.goals may.hand.point ≡ true) from_tried.later.run
+          (subst (λ q. lies_in_goals done.view.run.goals q ≡ true) (sym may.pointed.point) lies) in
+          subst (λ cost. tried.view.best ≤ best_word cost (suc k)) (ap (λ (x : Record). x.first_cost) (sym is))
+          (subst (λ n. tried.view.best ≤ best_word hanging.cost (suc n)) may.mark (is_tried.came.posted here));
       pairs = λ i was. SeesPair-later after.view done.view recorded.goes_on i (pair_after i was.at (close_neighbour i was));
       most = λ i was.
           let close = close_neighbour i was in

@@ -3,9 +3,9 @@ use Rattle.std.proofs.Common.{◌≡◌, ℕ, suc, ◌≤◌, ◌⊎◌, Bool, t
 use Rattle.std.proofs.lemmas.Bool.{cases_Bool, eq-eqb}
 use Rattle.kd_shared.specs.Placings.{GoesOnPlacing, IsPlaced, KeepsShare}
 use Rattle.grown_runs.proofs.Common.{lies_in_goals, Point, cost_in-tree_word, FirstOf, TreeOf, best_word, cost_in}
-use Rattle.plan_words.proofs.Common.{GoesOn-trans, SeesAsBefore, GoesOn, PassState, with_view}
+use Rattle.plan_words.proofs.Common.{GoesOn-trans, SeesAsBefore, SeesBestSince, SeesBestSince-trans, GoesOn, PassState, with_view}
 use Rattle.plan_work.specs.ExtensionSteps.{HasBeenPlaced, placed_hand, placed_stage}
-use Rattle.step_core.proofs.Common.{hand_with_post, with_best, SeesPoint, sees}
+use Rattle.step_core.proofs.Common.{hand_with_post, last_note, with_post, SeesPoint, sees}
 use Rattle.step_core.specs.declared.views.Hand.{Hand}
 use Rattle.step_core.specs.declared.views.SharedRun.{SharedRun}
 use Rattle.step_core.specs.declared.views.Stage.TheVariants.{Counted, Posted}
@@ -14,8 +14,9 @@ use Rattle.step_core.specs.declared.views.View.{View}
 -- node n at p was posted if it lies in such a goal, and else nothing was done
 pub record PostsGoalNode (mid after : PassState) (p : Point) (n : ℕ) : Type 0 where
   pub goes_on : GoesOn mid.view after.view
+  pub best : SeesBestSince mid.view after.view
   pub in_goal : lies_in_goals mid.view.run.goals p ≡ true
-      → (after ≡ with_view mid (with_best mid.view after.view.best (hand_with_post mid.view.hand n)))
+      → (after ≡ with_view mid (with_post mid.view n after.view.best (last_note after.view)))
       × (after.view.best ≤ best_word (cost_in (sees mid.view (TreeOf n))) n)
   pub elsewhere : lies_in_goals mid.view.run.goals p ≡ false → after ≡ mid
 
@@ -23,7 +24,7 @@ module _ (mid after : PassState) (p : Point) (n : ℕ) (posts : PostsGoalNode mi
   cases : (lies_in_goals mid.view.run.goals p ≡ true) ⊎ (lies_in_goals mid.view.run.goals p ≡ false)
   cases = cases_Bool (lies_in_goals mid.view.run.goals p)
 
-  then : lies_in_goals mid.view.run.goals p ≡ true → after.view ≡ with_best mid.view after.view.best (hand_with_post mid.view.hand n)
+  then : lies_in_goals mid.view.run.goals p ≡ true → after.view ≡ with_post mid.view n after.view.best (last_note after.view)
   then lies = ap (λ (q : PassState). q.view) (posts.in_goal lies).0
 
   still : lies_in_goals mid.view.run.goals p ≡ false → after.view ≡ mid.view
@@ -103,10 +104,12 @@ module _ (mid after : PassState) (p : Point) (n : ℕ) (posts : PostsGoalNode mi
     }
 
 -- after a node was placed
-pub GoesOnPlacing-posted : (before mid after : View) → GoesOnPlacing before mid → GoesOn mid after → SeesAsBefore mid after → GoesOnPlacing before after
-GoesOnPlacing-posted before mid after placing goes_on same = record {
+pub GoesOnPlacing-posted : (before mid after : View) → GoesOnPlacing before mid → GoesOn mid after → SeesBestSince mid after → SeesAsBefore mid after
+    → GoesOnPlacing before after
+GoesOnPlacing-posted before mid after placing goes_on best same = record {
   goes_on = GoesOn-trans before mid after placing.goes_on goes_on;
   others = λ name other. same name ∙ placing.others name other;
+  best = SeesBestSince-trans before mid after placing.goes_on goes_on placing.best best;
 }
 
 pub KeepsShare-trans : (before mid after : View) → KeepsShare before mid → KeepsShare mid after → KeepsShare before after

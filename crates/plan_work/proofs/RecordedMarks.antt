@@ -1,12 +1,12 @@
 -- What a pass may record of a mark that was steered to p from the nearest node, and that it was handled then.
-use Rattle.std.proofs.Common.{◌≡◌, ◌≢◌, ℕ, zero, suc, ◌+◌, true, Some, length, refl, sym, ap, ◌∙◌, subst, arith}
+use Rattle.std.proofs.Common.{◌≡◌, ◌≢◌, ℕ, zero, suc, ◌+◌, true, Some, length, inl, refl, sym, ap, ◌∙◌, subst, arith}
 use Rattle.std.specs.Prelude.{false, IfSome}
 use Rattle.std.proofs.lemmas.List.Elements.{filter_agree}
 use Rattle.std.specs.List.{filter, range_with_len}
 use Rattle.grown_runs.proofs.Common.{mark_at, IsNotAbove, distance_to, is_placed, IsPresent, point_of, steered, Point, Outcome, Placed, Record}
 use Rattle.grown_runs.proofs.Common.{IsPresent-stands, point_of-stands, record_of_word-packed, has_node, record_at, Word, WritesWord, Counter, FirstOf}
 use Rattle.grown_runs.proofs.Common.{RecordOf, IsFirstWord, record_of_word, record_word}
-use Rattle.plan_words.proofs.Common.{GoesOn, MayClaim, PassState, SharedState, turn_of, with_view, worker_of, GoesOn-trans, entry_fits}
+use Rattle.plan_words.proofs.Common.{GoesOn, MayClaim, PassState, SharedState, turn_of, with_view, worker_of, GoesOn-trans, SeesBestSince-trans, entry_fits}
 use Rattle.step_core.proofs.Common.{is_own_node-earlier, has_node-recorded, own_recorded, present_recorded, WritesWord-saw, IsLawfulView, IsUnskipped}
 use Rattle.step_core.proofs.Common.{MayBePlaced, MayEnd, MayRecord, MaySteer, is_own_node, own_count, has_count, has_first, finished, one_turn_more}
 use Rattle.step_core.proofs.Common.{pair_in_hand, sees, tree_seen}
@@ -18,8 +18,7 @@ use Rattle.step_core.specs.declared.views.View.{View}
 use Rattle.tree_rewire.proofs.SeenCosts.{stands_later}
 use Rattle.plan_work.proofs.HeldMarks.{of_held}
 use Rattle.plan_work.proofs.KeptSights.{IsNotAbove-still}
-use Rattle.plan_work.specs.Extensions.{HandlesMark}
-use Rattle.plan_work.specs.ExtensionSteps.{HasRecorded, IsSteeredTo, KeepsRecords, own_unplaced}
+use Rattle.plan_work.proofs.Words.{HandlesMark, HasRecorded, IsSteeredTo, KeepsRecords, own_unplaced}
 
 -- a worker has as many own nodes while no record is seen anew
 pub own_count-same : (before after : View) (entry : Record) → GoesOn before after → ((k : ℕ) → sees after (RecordOf k) ≡ sees before (RecordOf k))
@@ -52,19 +51,18 @@ IsSteeredTo-still before after k m p goes_on records h =
           (h.not_above n was));
     }
 
--- So the mark may be recorded as what it may be at p, if it is not skipped.
+-- So the mark may be recorded as what it may be at p.
 pub MaySteer-steered :
-    (view : View) (hand : Hand) (k m : ℕ) (p : Point) (entry : Record) (MayEndAt : Point → Type 0) → IsUnskipped view hand
+    (view : View) (hand : Hand) (k m : ℕ) (p : Point) (entry : Record) (MayEndAt : Point → Type 0)
     → IsSteeredTo view k m p → hand.mark ≡ k
     → entry.nearest ≡ m → MayEndAt p → MaySteer view hand entry MayEndAt
-MaySteer-steered view hand k m p entry MayEndAt unskipped h mark is ended =
+MaySteer-steered view hand k m p entry MayEndAt h mark is ended =
     let points = (tree_seen view).points in
     let reached : p ≡ steered (point_of points entry.nearest) (mark_at view.run.marks hand.mark) view.run.step =
     h.point_is
     ∙ ap (λ q. steered q (mark_at view.run.marks k) view.run.step) (sym (point_of-stands points m h.from h.stands) ∙ ap (point_of points) (sym is))
     ∙ ap (λ j. steered (point_of points entry.nearest) (mark_at view.run.marks j) view.run.step) (sym mark) in
     record {
-      unskipped = unskipped;
       present = subst (IsPresent points) (sym is) (IsPresent-stands points m h.from h.stands);
       nearest = λ i own.
           subst (λ n. IsNotAbove (distance_to (mark_at view.run.marks hand.mark) points) n i) (sym is)
@@ -167,6 +165,7 @@ HandlesMark-recorded shared before mid after hand k entry keeps recorded held ma
       others = λ j apart.
           ap (λ v. sees v (RecordOf j)) is ∙ writes.others (RecordOf j) (λ e. apart (let same : j ≡ hand.mark = cc in same ∙ mark)) ∙ keeps.records j;
       counters = λ g. ap (λ v. sees v (Counter g)) is ∙ writes.others (Counter g) (λ e. cc) ∙ keeps.counters g;
+      best = SeesBestSince-trans before.view mid.view after.view keeps.goes_on recorded.goes_on keeps.best (inl (ap (λ v. v.best) is));
       crew = ap (λ v. v.crew) is ∙ ap one_turn_more keeps.crew;
       most = ap (λ v. v.most) is ∙ keeps.most;
     }

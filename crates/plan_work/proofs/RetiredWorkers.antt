@@ -4,10 +4,8 @@ use Rattle.std.specs.Prelude.{◌++◌, [], ◌∷◌, All, IsSome, option_to_li
 use Rattle.std.proofs.Math.Seq.{take-append_seam}
 use lib.ListN.{drop, take}
 use Rattle.plan_words.proofs.Common.{AllFull, GoesOn, MayClaim, PassState, SharedState, new_pass}
-use Rattle.plan_work.specs.OneWorker.{HandlesRest}
-use Rattle.plan_work.specs.Workers.{HasDone, HasLeft, HasStopped, HasWorked, IsReady, left_by, left_of, workers_with}
-use Rattle.plan_work.specs.declared.growing.Worker.{Worker}
-use Rattle.plan_work.specs.declared.growing.Worker.TheVariants.{Away, Stopped, Working}
+use Rattle.plan_work.proofs.Words.{HandlesRest, HasDone, HasLeft, HasStopped, HasWorked, IsReady, left_by, left_of, workers_with, Worker, Away, Stopped}
+use Rattle.plan_work.proofs.Words.{Working}
 
 MayClaim-left : (shared : SharedState) (pass : PassState) → MayClaim shared pass → MayClaim shared (new_pass pass.table pass.view)
 MayClaim-left shared pass may = record {

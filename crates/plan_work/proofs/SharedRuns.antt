@@ -9,8 +9,7 @@ use Rattle.plan_words.proofs.Common.{AllFull, HasNoneLeft, MayClaim, PassState, 
 use Rattle.step_core.proofs.Common.{run_of, sees, share, StandsAsSeen, GrowsInto-seen}
 use Rattle.grown_runs.specs.declared.grown.Grown.{Grown}
 use Rattle.plan_work.proofs.LoneRuns.{HasHandled-started}
-use Rattle.plan_work.specs.OneWorker.{HasHandled, IsOfTextbook}
-use Rattle.plan_work.specs.Workers.{HasDone, HasTakenOver, shares_of}
+use Rattle.plan_work.proofs.Words.{HasHandled, IsOfTextbook, HasDone, HasTakenOver, shares_of}
 
 -- passes with a share of 1 each have as many shares as they are
 shares-ones : (passes : List PassState) → All (λ pass. share pass.view ≡ 1) passes → shares_of passes ≡ length passes

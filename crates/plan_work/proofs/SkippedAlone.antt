@@ -4,8 +4,7 @@ use Rattle.std.specs.Prelude.{IsTrue}
 use Rattle.grown_runs.proofs.Common.{mark_at, IsBestGoalNode, MayBeCheaper, Nodes, mark_bound, IsGoalNode, is_goal_point, IsNotAbove, points_of, sum_of}
 use Rattle.grown_runs.proofs.Common.{IsPresent, point_at, IsPresent-goal, PointOf, TreeOf, best_cost_in, best_node_in, best_word, cost_in, no_best}
 use Rattle.plan_words.proofs.Common.{SeesGoal-kept, FindsGoalNode, HasPostedGoals}
-use Rattle.plan_work.specs.OneWorker.{IsNotSkippedIn}
-use Rattle.plan_work.specs.WholeShares.{SeesButCount}
+use Rattle.plan_work.proofs.Words.{IsNotSkippedIn, SeesButCount}
 use Rattle.step_core.proofs.Common.{IsLater, IsLawfulView, SeesGoal, setup_in, tree_seen}
 use Rattle.step_core.specs.declared.views.SharedRun.{SharedRun}
 use Rattle.step_core.specs.declared.views.View.{View}

@@ -1,13 +1,14 @@
 -- A mark that is not skipped stays so while other things are seen anew; the hand whose node is placed has posted it if it lies in a goal.
-use Rattle.std.proofs.Common.{◌≡◌, Bool, true, false, List, Some, cond, refl, sym, ap, ◌∙◌, subst}
-use Rattle.std.specs.Prelude.{◌<◌}
-use Rattle.std.proofs.lemmas.Option.{same_Some}
+use Rattle.std.proofs.Common.{◌≡◌, suc, Bool, true, false, List, Some, cond, inl, inr, refl, sym, ap, ◌∙◌, subst}
+use Rattle.std.specs.Prelude.{◌<◌, ◌==◌}
+use Rattle.std.proofs.lemmas.Bool.{true≢false}
 use Rattle.grown_runs.proofs.Common.{mark_at, mark_bound, lies_in_goals, Goal, Point, best_cost_in}
-use Rattle.plan_words.specs.Bests.{HasPostedHand}
+use Rattle.plan_words.proofs.Common.{GoesOn, IsOrPosted}
 use Rattle.plan_work.specs.ExtensionSteps.{placed_hand, placed_stage}
-use Rattle.step_core.proofs.Common.{IsInformed, IsUnskipped, has_count, has_first, setup_in}
+use Rattle.step_core.proofs.Common.{IsInformed, IsUnskipped, hand_with_post, has_count, has_first, post_noted, setup_in}
 use Rattle.step_core.specs.declared.views.Hand.{Hand}
 use Rattle.step_core.specs.declared.views.SharedRun.{SharedRun}
+use Rattle.step_core.specs.declared.views.Stage.{Stage}
 use Rattle.step_core.specs.declared.views.Stage.TheVariants.{Counted, Posted}
 use Rattle.step_core.specs.declared.views.View.{View}
 
@@ -44,9 +45,26 @@ has_first-placed goals p = by_test (lies_in_goals goals p)
 pub placed_stage-goal : (goals : List Goal) (p : Point) → lies_in_goals goals p ≡ true → placed_stage goals p ≡ Posted
 placed_stage-goal goals p lies = ap (λ b. cond b Posted Counted) lies
 
-pub HasPostedHand-placed : (view : View) (hand : Hand) → view.hand ≡ Some (placed_hand view hand) → HasPostedHand view
-HasPostedHand-placed view hand held now own stage lies =
-    let same : now ≡ placed_hand view hand = same_Some now (placed_hand view hand) (sym own ∙ held) in
-    let here : lies_in_goals view.run.goals hand.point ≡ true = subst (λ (h : Hand). lies_in_goals view.run.goals h.point ≡ true) same lies in
-    let no = sym (placed_stage-goal view.run.goals hand.point here) ∙ sym (ap (λ (h : Hand). h.stage) same) ∙ stage in
-    cc
+-- and so the hand stays while others are lowered and posted: one that is counted lies in no goal
+still : (view after : View) (own : Hand) → view.hand ≡ Some own → own.stage ≡ placed_stage view.run.goals own.point → IsOrPosted view.hand after.hand
+    → GoesOn view after → after.hand ≡ Some own
+still view after own held far (inl same) goes_on = same ∙ held
+still view after own held far (inr (n, posts)) goes_on = by_goal (lies_in_goals view.run.goals own.point) refl
+  where
+    now : (stage : Stage) → own.stage ≡ stage → after.hand ≡ Some (post_noted stage own n)
+    now stage is = posts ∙ ap (λ o. hand_with_post o n) held ∙ ap (λ s. Some (post_noted s own n)) is
+
+    by_number : (b : Bool) → (suc own.mark == n) ≡ b → own.stage ≡ Counted → lies_in_goals view.run.goals own.point ≡ false → after.hand ≡ Some own
+    by_number false e stage off = now Counted stage ∙ ap (λ b. Some (cond b (record own { stage = Posted }) own)) e
+    by_number true e stage off =
+        let is : after.hand ≡ Some (record own { stage = Posted }) = now Counted stage ∙ ap (λ b. Some (cond b (record own { stage = Posted }) own)) e in
+        let lies : lies_in_goals after.run.goals own.point ≡ true = (goes_on.lawful.tree.holds (record own { stage = Posted }) is).posted refl in
+        absurd (true≢false (sym lies ∙ ap (λ (r : SharedRun). lies_in_goals r.goals own.point) goes_on.later.run ∙ off))
+
+    by_goal : (b : Bool) → lies_in_goals view.run.goals own.point ≡ b → after.hand ≡ Some own
+    by_goal true e = now Posted (far ∙ ap (λ b. cond b Posted Counted) e)
+    by_goal false e = by_number (suc own.mark == n) refl (far ∙ ap (λ b. cond b Posted Counted) e) e
+
+pub held_on : (view after : View) (hand : Hand) → view.hand ≡ Some (placed_hand view hand) → IsOrPosted view.hand after.hand → GoesOn view after
+    → after.hand ≡ Some (placed_hand view hand)
+held_on view after hand held posts goes_on = still view after (placed_hand view hand) held refl posts goes_on

@@ -1,27 +1,27 @@
 -- The best word was loaded, or the scene is not informed: what that leaves of a pass, and of what is said of the mark since.
 use Rattle.std.proofs.Common.{◌≡◌, ◌≢◌, ◌⊎◌, ℕ, suc, ◌<◌, ◌≤◌, ◌^◌, Bool, true, false, cond, inl, inr, Some, None, [], ◌∷◌, ◌++◌, length}
-use Rattle.std.proofs.Common.{refl, sym, ap, ◌∙◌, subst, arith}
+use Rattle.std.proofs.Common.{◌+◌, refl, sym, ap, ◌∙◌, subst, arith}
 use Rattle.std.specs.Prelude.{◌==◌, IfSome, IsSome, Option}
 use Rattle.std.proofs.lemmas.Bool.{cases_Bool, eq-eqb, eqb-true}
 use Rattle.std.proofs.lemmas.Option.{same_Some}
 use Rattle.grown_runs.proofs.Common.{mark_at, Handles, IsBestGoalNode, mark_bound, skipped_record, unplaced_record, IsSwept, sum_of, Point, Outcome, Blocked}
 use Rattle.grown_runs.proofs.Common.{Placed, Same, Skipped, Record, MayBeCheaper-not_skipping, goals-some, record_at, Counter, RecordOf, TreeOf, best_cost_in}
+use Rattle.grown_runs.proofs.Common.{WritesWord, Best}
 use Rattle.grown_runs.proofs.Common.{best_node_in, best_of_word, cost_in, no_best, record_word}
 use Rattle.plan_model.specs.Trees.GoalBounds.{bound_of}
 use Rattle.plan_words.proofs.Common.{FindsGoalNode, SeesAsBefore, BelongsTo-later, GoesOn-trans, no_goals, BelongsTo, GoesOn, PassState, SharedState, run_in}
-use Rattle.plan_words.proofs.Common.{turn_of, with_view, worker_of}
+use Rattle.plan_words.proofs.Common.{SeesBestSince, turn_of, with_view, worker_of}
 use Rattle.plan_work.proofs.AloneMarks.{KeepsRun-refl, SeesTextbook-recorded, SeesTextbook-still, WorksAlone-recorded, WorksAlone-still}
 use Rattle.plan_work.proofs.HeldMarks.{Holding, holding, if_held, of_held}
 use Rattle.plan_work.proofs.MirroredTrees.{Mirrors-absent}
 use Rattle.plan_work.proofs.RecordedMarks.{HandlesMark-recorded}
 use Rattle.plan_work.proofs.SkippedAlone.{IsBestGoalNode-found, IsNotSkippedIn-best, within-found}
 use Rattle.plan_work.proofs.WholeLists.{SeesButCount-all}
-use Rattle.plan_work.specs.Extensions.{EndsAsSeen, EndsAsSteered, HandlesMark, IsBlockedAt, IsExtended, IsPlacedAt, MayExtend, WasNeighbour}
-use Rattle.plan_work.specs.Extensions.{WasNotSkipped, WasSkipped, WasSteered, steered_point}
-use Rattle.plan_work.specs.ExtensionSteps.{HasLoadedBest, HasRecorded, KeepsRecords, own_unplaced}
-use Rattle.plan_work.specs.OneWorker.{IsNotSkippedIn, SeesTextbook, WorksAlone}
+use Rattle.plan_work.proofs.Words.{EndsAsSeen, EndsAsSteered, HandlesMark, IsBlockedAt, IsExtended, IsPlacedAt, MayExtend, WasNeighbour, WasNotSkipped}
+use Rattle.plan_work.proofs.Words.{WasSkipped, WasSteered, steered_point, HasLoadedBest, HasRecorded, KeepsRecords, own_unplaced, IsNotSkippedIn, SeesTextbook}
+use Rattle.plan_work.proofs.Words.{WorksAlone}
 use Rattle.step_core.proofs.Common.{IsLawfulView, IsInformed, IsUnskipped, MayBeSkipped, SeesGoal, best_loaded, best_taken, finished, hand_with_best, SeesPoint}
-use Rattle.step_core.proofs.Common.{sight_in, sees, setup_in, tree_seen}
+use Rattle.step_core.proofs.Common.{last_look, sight_in, sees, setup_in, tree_seen}
 use Rattle.step_core.specs.declared.views.Hand.{Hand}
 use Rattle.step_core.specs.declared.views.SharedRun.{SharedRun}
 use Rattle.step_core.specs.declared.views.Stage.{Stage}
@@ -44,12 +44,13 @@ module _
   then : after.view ≡ best_loaded before.view word
   then = ap (λ (p : PassState). p.view) is
 
-  pub KeepsRecords-loaded : KeepsRecords shared before after
-  KeepsRecords-loaded = record {
+  pub KeepsRecords-loaded : WritesWord Best (before.view.steps + 1) (last_look before.view) (last_look after.view) → KeepsRecords shared before after
+  KeepsRecords-loaded looked = record {
     belongs = BelongsTo-later shared before after (ap (λ (p : PassState). p.table) is) goes_on may.belongs;
     goes_on = goes_on;
     records = λ j. ap (λ (v : View). sees v (RecordOf j)) then;
     counters = λ g. ap (λ (v : View). sees v (Counter g)) then;
+    best = inr (omega (arith, looked.here));
     crew = ap (λ (v : View). v.crew) then;
     most = ap (λ (v : View). v.most) then;
   }
@@ -74,6 +75,7 @@ KeepsRecords-refl shared pass belongs goes_on = record {
   goes_on = goes_on;
   records = λ j. refl;
   counters = λ g. refl;
+  best = inl refl;
   crew = refl;
   most = refl;
 }
@@ -231,6 +233,7 @@ module _ (before after : View) (word k : ℕ) (entry : Record) (goes_on : GoesOn
       until = placed.rewired.until;
       stood = placed.rewired.stood;
       written = placed.rewired.written;
+      posted = placed.rewired.posted;
       pairs = λ i was. placed.rewired.pairs i (neighbour p i was);
       most = λ i was. placed.rewired.most i (neighbour p i was);
       spread = placed.rewired.spread;
@@ -316,12 +319,13 @@ module _ (shared : SharedState) (before mid : PassState) (k : ℕ) (may : MayExt
         (subst (λ w. mark_bound (setup_in mid.view.run) (mark_at mid.view.run.marks own.hand.mark) < best_cost_in w) same
         (says.2 (λ none. found (sym same ∙ none))))
 
-    pub WasNotSkipped-loaded : (after : View) → GoesOn mid.view after → WasNotSkipped before.view after k
-    WasNotSkipped-loaded after goes_on informed =
+    pub WasNotSkipped-loaded : (after : View) → GoesOn mid.view after → SeesBestSince mid.view after → WasNotSkipped before.view after k
+    WasNotSkipped-loaded after goes_on best informed =
         let e = informed-run after goes_on informed in
         let here : IsInformed mid.view.run = subst IsInformed goes_on.later.run informed in (
           mid.view.best,
           subst (λ v. GoesOn v after) (then_loaded e) goes_on,
+          subst (λ v. SeesBestSince v after) (then_loaded e) best,
           λ found.
               subst (λ (r : SharedRun). mark_bound (setup_in r) (mark_at r.marks k) < best_cost_in mid.view.best) (sym goes_on.later.run)
               (above here e found),

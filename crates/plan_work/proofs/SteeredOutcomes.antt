@@ -3,8 +3,7 @@ use Rattle.std.proofs.Common.{◌≡◌, ◌≢◌, ℕ, suc, refl, sym, ap, ◌
 use Rattle.grown_runs.proofs.Common.{mark_at, IsFree, steered, Point, Outcome, Blocked, Placed, Same, Skipped, Record, point_of-stands}
 use Rattle.step_core.proofs.Common.{tree_seen, SeesPoint}
 use Rattle.step_core.specs.declared.views.View.{View}
-use Rattle.plan_work.specs.Extensions.{EndsAsSeen, EndsAsSteered, HasSteered, IsPlacedAt, WasNotSkipped, WasSteered, steered_point}
-use Rattle.plan_work.specs.ExtensionSteps.{EndsWritten}
+use Rattle.plan_work.proofs.Words.{EndsAsSeen, EndsAsSteered, HasSteered, IsPlacedAt, WasNotSkipped, WasSteered, steered_point, EndsWritten}
 
 module _ (before after : View) (k : ℕ) (entry : Record) where
   -- a mark that was steered to p, and ended there

@@ -21,9 +21,7 @@ use Rattle.tree_rewire.proofs.SeenCosts.{SeesPair-later, stands_later}
 use Rattle.tree_rewire.specs.SeenCosts.{IsInReach, cost_seen}
 use Rattle.plan_work.proofs.FilledNear.{looked_still}
 use Rattle.plan_work.proofs.KeptSights.{SweepsWithin-still, distance_still, point_still}
-use Rattle.plan_work.specs.Extensions.{radius_in}
-use Rattle.plan_work.specs.ExtensionSteps.{HasCome, HasFilledNear, IsHung, IsSteeredTo, IsTried, KeepsRecords, MayPlace, hung_by}
-use Rattle.plan_work.specs.declared.mark_placing.Hanging.{Hanging}
+use Rattle.plan_work.proofs.Words.{radius_in, HasCome, HasFilledNear, IsHung, IsSteeredTo, IsTried, KeepsRecords, MayPlace, hung_by, Hanging}
 
 -- a node that steers to p is at most a step from it
 pub reach_of-steered : (view : View) (k m : ℕ) (p : Point) → IsSteeredTo view k m p → IsInReach view p m
@@ -57,6 +55,7 @@ KeepsRecords-placing shared before after belongs placing share = record {
   goes_on = placing.goes_on;
   records = λ k. placing.others (RecordOf k) (λ no. no);
   counters = λ g. placing.others (Counter g) (λ no. no);
+  best = placing.best;
   crew = share.crew;
   most = share.most;
 }

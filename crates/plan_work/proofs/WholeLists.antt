@@ -6,9 +6,7 @@ use Rattle.plan_words.proofs.Common.{SeesAsBefore, HasWholeShare, PassState, Sha
 use Rattle.plan_words.specs.declared.spots.Found.{Found}
 use Rattle.tree_rewire.specs.FoundNodes.{AreOf}
 use Rattle.plan_work.proofs.MirroredTrees.{points_still}
-use Rattle.plan_work.specs.Extensions.{HasSteered}
-use Rattle.plan_work.specs.ExtensionSteps.{KeepsRecords}
-use Rattle.plan_work.specs.WholeShares.{HasCounted, IsBestHanging, IsFilledWhole, IsSteeredWhole, SeesButCount}
+use Rattle.plan_work.proofs.Words.{HasSteered, KeepsRecords, HasCounted, IsBestHanging, IsFilledWhole, IsSteeredWhole, SeesButCount}
 use Rattle.step_core.specs.Views.{sees, setup_in, tree_seen}
 use Rattle.step_core.specs.declared.views.Hand.{Hand}
 use Rattle.step_core.specs.declared.views.SharedRun.{SharedRun}

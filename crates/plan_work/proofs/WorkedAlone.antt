@@ -9,8 +9,7 @@ use Rattle.step_core.proofs.Common.{share, StandsAsSeen}
 use Rattle.grown_runs.specs.declared.grown.Grown.{Grown}
 use Rattle.plan_work.proofs.SharedRuns.{GrowsInto-all, HasHandled-alone, limit_reached, none_left, whole_share}
 use Rattle.plan_work.proofs.TakenOver.{HasTakenOver-alone}
-use Rattle.plan_work.specs.OneWorker.{HandlesRest, HasHandled, IsOfTextbook}
-use Rattle.plan_work.specs.Workers.{HasDone, HasTakenOver, HasWorked}
+use Rattle.plan_work.proofs.Words.{HandlesRest, HasHandled, IsOfTextbook, HasDone, HasTakenOver, HasWorked}
 
 -- it has the share of all workers, leaves no mark, and its run has grown from the opening one, as the textbook does
 pub record HasWorkedAlone (shared : SharedState) (grown : Grown) (limit : ℕ) (after : PassState) : Type 0 where

@@ -9,8 +9,7 @@ use Rattle.plan_words.proofs.Common.{HasMember-held}
 use Rattle.step_core.proofs.Common.{new_hand, one_turn_more, sees}
 use Rattle.step_core.specs.declared.views.Member.{Member}
 use Rattle.step_core.specs.declared.views.View.{View}
-use Rattle.plan_work.specs.Extensions.{HandlesMark, IsExtended}
-use Rattle.plan_work.specs.Workers.{AllExtended, HasWorked}
+use Rattle.plan_work.proofs.Words.{HandlesMark, IsExtended, AllExtended, HasWorked}
 
 -- a turn more changes neither the share nor the worker
 pub share-turned : (crew : List Member) → length (one_turn_more crew) ≡ length crew

@@ -23,6 +23,7 @@ use Rattle.plan_model.specs.declared.records.Outcome.TheVariants.{Blocked, Place
 use Rattle.plan_model.specs.declared.records.Record.{Record}
 use Rattle.plan_model.specs.declared.scenes.Scene.{Scene}
 use Rattle.plan_model.specs.Runs.Textbook.{unplaced_record}
+use Rattle.plan_words.specs.Bests.{SeesBestSince}
 use Rattle.plan_words.specs.SearchLists.{numbers_of, weighed}
 use Rattle.plan_words.specs.declared.spots.Found.{Found}
 use Rattle.plan_words.specs.States.{BelongsTo, GoesOn, MayClaim, PassState, SharedState, turn_of, with_view, worker_of}
@@ -49,12 +50,14 @@ pub record AreRadiiOf (scene : Scene) (radii : Radii) : Type 0 where
   pub step : radii.step ≡ scene.step
   pub gamma : radii.gamma ≡ scene.gamma
 
--- What was seen stays seen, and no record and no counter is seen anew. The pass is of the same tree, with the same crew and the same limit.
+-- What was seen stays seen; no record and no counter is seen anew, and the best word only by a look. The pass is of the same tree, with the same
+-- crew and the same limit.
 pub record KeepsRecords (shared : SharedState) (before after : PassState) : Type 0 where
   pub belongs : BelongsTo after shared
   pub goes_on : GoesOn before.view after.view
   pub records : (k : ℕ) → sees after.view (RecordOf k) ≡ sees before.view (RecordOf k)
   pub counters : (g : ℕ) → sees after.view (Counter g) ≡ sees before.view (Counter g)
+  pub best : SeesBestSince before.view after.view
   pub crew : after.view.crew ≡ before.view.crew
   pub most : after.view.most ≡ before.view.most
 

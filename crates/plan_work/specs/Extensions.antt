@@ -1,10 +1,11 @@
 -- What the handling of one mark leaves, by what the pass has seen.
-use Rattle.std.specs.Prelude.{◌≡◌, ◌≢◌, ℕ, suc, ◌+◌, ◌*◌, ◌<◌, ◌≤◌, Some, IsSome, IfSome}
+use Rattle.std.specs.Prelude.{◌≡◌, ◌≢◌, ℕ, suc, ◌+◌, ◌*◌, ◌<◌, ◌≤◌, true, Some, IsSome, IfSome}
 use Rattle.kd_shared.specs.Searches.{SweepsWithin}
 use Rattle.plan_model.specs.Spaces.Clearance.{Clear}
 use Rattle.plan_model.specs.Runs.ClosedLaw.{mark_at}
 use Rattle.plan_model.specs.Geometry.Cost.{cost_of}
 use Rattle.plan_model.specs.Geometry.Plane.{squared_distance}
+use Rattle.plan_model.specs.Trees.BestNode.{lies_in_goals}
 use Rattle.plan_model.specs.Trees.LeastPairs.{IsNotAbove}
 use Rattle.plan_model.specs.Trees.Nearness.{distance_to}
 use Rattle.plan_model.specs.Trees.PointsByNumber.{IsFree, IsPresent, point_of}
@@ -16,6 +17,7 @@ use Rattle.plan_model.specs.declared.geometry.Point.{Point}
 use Rattle.plan_model.specs.declared.records.Outcome.{Outcome}
 use Rattle.plan_model.specs.declared.records.Outcome.TheVariants.{Blocked, Placed, Same, Skipped}
 use Rattle.plan_model.specs.declared.records.Record.{Record}
+use Rattle.plan_words.specs.Bests.{SeesBestSince}
 use Rattle.plan_words.specs.States.{BelongsTo, GoesOn, MayClaim, PassState, SharedState, turn_of, worker_of}
 use Rattle.grown_runs.specs.Runs.GrownWords.{record_at}
 use Rattle.step_core.specs.SeenBests.{IsInformed}
@@ -23,7 +25,7 @@ use Rattle.step_core.specs.ViewSteps.{best_loaded, finished, one_turn_more}
 use Rattle.step_core.specs.ViewTrees.{SeesPoint, sight_in}
 use Rattle.step_core.specs.Views.{last_look, sees, setup_in, tree_seen}
 use Rattle.grown_runs.specs.Table.WordNames.Word.{Count, Counter, RecordOf, TreeOf}
-use Rattle.grown_runs.specs.Table.Words.{best_cost_in, best_node_in, no_best, record_word, tree_word}
+use Rattle.grown_runs.specs.Table.Words.{best_cost_in, best_node_in, best_word, no_best, record_word, tree_word}
 use Rattle.step_core.specs.declared.views.Stage.TheVariants.{Claimed}
 use Rattle.step_core.specs.declared.views.View.{View}
 use Rattle.tree_rewire.specs.Rewirings.{HasSpreadFalls}
@@ -37,8 +39,8 @@ pub record MayExtend (shared : SharedState) (pass : PassState) (k : ℕ) : Type 
   pub mark : IfSome pass.view.hand (λ hand. hand.mark ≡ k)
   pub claimed : IfSome pass.view.hand (λ hand. hand.stage ≡ Claimed)
 
--- The record of mark k stands there, by the worker in its turn; no other and no counter is seen anew, and nothing is in hand. The worker has
--- had one turn more, and the limit stays.
+-- The record of mark k stands there, by the worker in its turn; no other and no counter is seen anew, the best word only by a look, and nothing is
+-- in hand. The worker has had one turn more, and the limit stays.
 pub record HandlesMark (shared : SharedState) (before after : PassState) (k : ℕ) (entry : Record) : Type 0 where
   pub may_claim : MayClaim shared after
   pub goes_on : GoesOn before.view after.view
@@ -47,6 +49,7 @@ pub record HandlesMark (shared : SharedState) (before after : PassState) (k : �
   pub turn : entry.turn ≡ turn_of before.view.crew
   pub others : (j : ℕ) → j ≢ k → sees after.view (RecordOf j) ≡ sees before.view (RecordOf j)
   pub counters : (g : ℕ) → sees after.view (Counter g) ≡ sees before.view (Counter g)
+  pub best : SeesBestSince before.view after.view
   pub crew : after.view.crew ≡ one_turn_more before.view.crew
   pub most : after.view.most ≡ before.view.most
 
@@ -74,13 +77,15 @@ pub record WasChosen (before chosen_at after : View) (entry : Record) (p : Point
 abbrev pub IsWithinRadius : View → Record → Point → ℕ → Type 0
 IsWithinRadius view entry p i = distance_to p (tree_seen view).points i ≤ radius_in view entry.class * radius_in view entry.class
 
--- By this moment the node of mark k was linked, with its first parent and its first cost. At the end no neighbour is seen dearer than through it.
+-- By this moment the node of mark k was linked, with its first parent and its first cost, and posted if it lies in a goal by which marks are skipped; no
+-- other was rewired by then. At the end no neighbour is seen dearer than through it.
 -- Each node whose seen cost fell since, or whose parent's did, is within its parent, but for a node within the radius to which the new one is a
 -- shortcut and which hangs elsewhere.
 pub record WasRewired (before linked_at after : View) (k : ℕ) (entry : Record) (p : Point) : Type 0 where
   pub until : GoesOn linked_at after
   pub stood : SeesPoint linked_at (suc k) p
   pub written : sees linked_at (TreeOf (suc k)) ≡ tree_word entry.first_parent entry.first_cost
+  pub posted : lies_in_goals after.run.goals p ≡ true → linked_at.best ≤ best_word entry.first_cost (suc k)
   pub pairs : (i : ℕ) → WasNeighbour before after entry p i → SeesPair after i
   pub most : (i : ℕ) (was : WasNeighbour before after entry p i) → cost_seen after i ≤ entry.first_cost + cost_of was.at p
   pub spread : HasSpreadFalls (setup_in after.run).space (IsWithinRadius linked_at entry p) (suc k) linked_at after
@@ -132,10 +137,12 @@ EndsAsSteered before after k entry (Same j) = WasSteered before after k entry (S
 EndsAsSteered before after k entry Blocked = WasSteered before after k entry (IsBlockedAt before after entry)
 EndsAsSteered before after k entry Skipped = ⊥
 
--- If marks may be skipped, the best word was loaded first, and the best that it told of, if any, cost more than the bound of mark k.
+-- If marks may be skipped, the view came to be from one that a load of this best word leaves as the first step, and the best that it tells of, if any,
+-- costs more than the bound of mark k. The word is the best one seen at the end, so the one that the first step found; or a later step looked at the
+-- best again, as by a post, and then this leaves open by which of these looks the word was found.
 abbrev pub WasNotSkipped : View → View → ℕ → Type 0
 WasNotSkipped before after k =
-    IsInformed after.run → (word : ℕ) × GoesOn (best_loaded before word) after
+    IsInformed after.run → (word : ℕ) × GoesOn (best_loaded before word) after × SeesBestSince (best_loaded before word) after
     × (word ≢ no_best → mark_bound (setup_in after.run) (mark_at after.run.marks k) < best_cost_in word)
 
 -- Two steps were made: the best word was loaded, and the record stored. The best was the goal node that the record names, at a cost of at most

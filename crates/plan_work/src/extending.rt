@@ -67,14 +67,14 @@ fn steer_and_place<C: Clearing>(
 /// links it, rewires the nodes near it, and stores the record, which it returns. All of it by what the pass has seen. The hall
 /// stands for the scene.
 ///
-/// In an informed scene it loads the best word first, and the outcome is `Skipped`, by the goal node found there, exactly if that was
-/// found to cost no more than the bound of the mark (`edge_cost::bound`): then no path over the mark is cheaper. Nothing else is done
-/// for the mark, two steps in all. A node that is placed in a goal is posted before any other is rewired.
+/// In an informed scene it loads the best word first. If the goal node found there is found to cost no more than the bound of the mark
+/// (`edge_cost::bound`), no path over the mark is cheaper: the outcome is `Skipped`, by that node, and nothing else is done for the mark, two
+/// steps in all. A node that is placed in a goal is posted before any other is rewired.
 ///
 /// Of a mark that is not skipped the outcome is `Same` only with a node that is seen at the steered point, and `Blocked` exactly if
-/// none is seen there at return; then the segment is not clear. Of a node that was placed the parent was chosen by costs that this call loaded, of each
-/// node that was seen with its point, within the radius and with a clear edge. Once it is linked, no such node is seen dearer than
-/// through it, and what fell since is brought to the nodes seen below (`plan_work/specs/Extensions`, `IsPlacedAt`).
+/// none is seen there at return; then the segment is not clear. Of a node that was placed the parent was chosen by costs that this call
+/// loaded, of each node that was seen with its point, within the radius and with a clear edge. Once it is linked, no such node is seen
+/// dearer than through it, and what fell since is brought to the nodes seen below (`plan_work/specs/Extensions`, `IsPlacedAt`).
 ///
 /// It takes at most five searches of the tree, with the walk to the node's place, and tests at most 2 k + 1 segments for k near nodes,
 /// mostly two and those of the nodes that it rewires; it spreads the costs that fell. A skipped mark costs two roots, and O(g) for g

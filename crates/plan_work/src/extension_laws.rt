@@ -1,10 +1,11 @@
 //! What it means that a mark was handled as `extend` promises. Each law is the contract of a function that does nothing.
 
-ghost use Rattle.std.specs.Prelude.{◌≡◌, ◌≢◌, ◌⊎◌, ℕ, suc, ◌+◌, ◌*◌, ◌<◌, ◌≤◌};
+ghost use Rattle.std.specs.Prelude.{◌≡◌, ◌≢◌, ◌⊎◌, ℕ, suc, ◌+◌, ◌*◌, ◌<◌, ◌≤◌, true};
 ghost use Rattle.plan_model.specs.Spaces.Clearance.{Clear};
 ghost use Rattle.plan_model.specs.Runs.ClosedLaw.{mark_at};
 ghost use Rattle.plan_model.specs.Geometry.Cost.{cost_of};
 ghost use Rattle.plan_model.specs.Geometry.Plane.{squared_distance};
+ghost use Rattle.plan_model.specs.Trees.BestNode.{lies_in_goals};
 ghost use Rattle.plan_model.specs.Trees.LeastPairs.{IsNotAbove};
 ghost use Rattle.plan_model.specs.Trees.Nearness.{distance_to};
 ghost use Rattle.plan_model.specs.Trees.PointsByNumber.{IsFree, IsPresent, point_of};
@@ -21,8 +22,8 @@ ghost use Rattle.step_core.specs.SeenBests.{IsInformed};
 ghost use Rattle.step_core.specs.ViewSteps.{best_loaded, finished};
 ghost use Rattle.step_core.specs.ViewTrees.{SeesPoint, sight_in};
 ghost use Rattle.step_core.specs.Views.{last_look, sees, setup_in, tree_seen};
-ghost use Rattle.grown_runs.specs.Table.WordNames.Word.{Count, RecordOf, TreeOf};
-ghost use Rattle.grown_runs.specs.Table.Words.{best_cost_in, best_node_in, no_best, record_word, tree_word};
+ghost use Rattle.grown_runs.specs.Table.WordNames.Word.{Best, Count, RecordOf, TreeOf};
+ghost use Rattle.grown_runs.specs.Table.Words.{best_cost_in, best_node_in, best_word, no_best, record_word, tree_word};
 ghost use Rattle.step_core.specs.declared.views.View.{View};
 ghost use Rattle.tree_rewire.specs.Rewirings.{IsInFall};
 ghost use Rattle.tree_rewire.specs.SeenCosts.{SeesPair, cost_seen, parent_seen};
@@ -49,9 +50,11 @@ pub fn handled_marks_are_steered_to()
         → entry.outcome ≡ Blocked → IsSwept (sight_in after) before.steps (steered_point after k entry) }
 {}
 
-/// A mark is skipped only where marks may be, and exactly if the best that the call loaded is known and costs no more than the bound of the
-/// mark; the record names its goal node then, and the call made two steps: the load and the store of the record. Any other call loaded
-/// the best first too, if marks may be skipped.
+/// A mark is skipped only where marks may be, and only if the best that the call loaded is known and costs no more than the bound of
+/// the mark; the record names its goal node then, and the call made two steps: the load and the store of the record. Any other call
+/// looked at the best too, if marks may be skipped, and goes on from a view that a load of some word leaves as its first step, by whose
+/// node the mark is not skipped. That is the best word seen at the end, or the call looked at the best again, as by a post; then this
+/// does not say which of its looks found the word.
 pub fn marks_are_skipped_by_the_best()
     ensures skipped { (before after : View) (k : ℕ) (entry : Record) → IsExtended before after k entry → entry.outcome ≡ Skipped
         → IsInformed after.run × ((word : ℕ) × (word ≢ no_best) × (entry.nearest ≡ best_node_in word)
@@ -61,6 +64,7 @@ pub fn marks_are_skipped_by_the_best()
         → after.steps ≡ before.steps + 2 }
     ensures unskipped { (before after : View) (k : ℕ) (entry : Record) → IsExtended before after k entry → entry.outcome ≢ Skipped
         → IsInformed after.run → (word : ℕ) × GoesOn (best_loaded before word) after
+        × ((after.best ≡ word) ⊎ (before.steps + 1 < last_look after Best))
         × (word ≢ no_best → mark_bound (setup_in after.run) (mark_at after.run.marks k) < best_cost_in word) }
 {}
 
@@ -89,13 +93,15 @@ pub fn placed_marks_have_the_best_parent()
         → IsSwept (sight_in after) before.steps q }
 {}
 
-/// A mark that was placed: there is a moment at which its node was linked, with its first parent and its first cost. Each node
+/// A mark that was placed: there is a moment at which its node was linked, with its first parent and its first cost, and posted if it lies in a
+/// goal by which marks are skipped; the nodes near it were rewired after that. Each node
 /// that the pass has seen to fall since, outside the radius, costs no more than through its parent, and neither does a child of it
 /// that was seen by then.
 pub fn placed_marks_bring_falls_down()
     ensures linked { (before after : View) (k : ℕ) (entry : Record) → IsExtended before after k entry → entry.outcome ≡ Placed
         → (mid : View) × GoesOn before mid × GoesOn mid after
-        × (sees mid (TreeOf (suc k)) ≡ tree_word entry.first_parent entry.first_cost) }
+        × (sees mid (TreeOf (suc k)) ≡ tree_word entry.first_parent entry.first_cost)
+        × (lies_in_goals after.run.goals (steered_point after k entry) ≡ true → mid.best ≤ best_word entry.first_cost (suc k)) }
     ensures fallen { (before after : View) (k : ℕ) (entry : Record) → IsExtended before after k entry → entry.outcome ≡ Placed
         → (mid : View) × GoesOn before mid × GoesOn mid after × ((n : ℕ) → IsInFall mid after n
         → (¬ IsWithinRadius mid entry (steered_point after k entry) n) ⊎ (parent_seen after n ≡ suc k) → IsWithinParent after n) }

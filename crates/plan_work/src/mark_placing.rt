@@ -6,6 +6,7 @@ ghost use Rattle.kd_shared.specs.Placings.{GoesOnPlacing, IsPlaced, KeepsShare};
 ghost use Rattle.plan_model.specs.Trees.BestNode.{lies_in_goals};
 ghost use Rattle.plan_model.specs.Spaces.Clearance.{Clear};
 ghost use Rattle.plan_model.specs.Spaces.ConfigurationSpace.{space_of};
+ghost use Rattle.plan_words.specs.Bests.{SeesBestSince};
 ghost use Rattle.plan_words.specs.Claims.{SeesAsBefore};
 ghost use Rattle.plan_words.specs.SearchLists.{numbers_of, weighed};
 ghost use Rattle.plan_words.specs.States.{BelongsTo, GoesOn, HasWholeShare, PassState, with_view};
@@ -13,7 +14,7 @@ ghost use Rattle.plan_work.specs.Extensions.{HandlesMark};
 ghost use Rattle.plan_work.specs.ExtensionSteps.{EndsWritten, HasCome, IsFilledSince, IsHung, IsPointed, IsTried, KeepsRecords, MayPlace};
 ghost use Rattle.plan_work.specs.OneWorker.{IsNotSkippedIn, SeesTextbook, WorksAlone};
 ghost use Rattle.plan_work.specs.WholeShares.{IsBestHanging, IsFilledWhole, IsSteeredWhole, IsTriedWhole, KeepsOthers};
-ghost use Rattle.step_core.specs.ViewSteps.{hand_with_post, with_best};
+ghost use Rattle.step_core.specs.ViewSteps.{last_note, with_post};
 ghost use Rattle.step_core.specs.Views.{sees, share, tree_seen};
 ghost use Rattle.grown_runs.specs.Table.WordNames.Word.{Count, TreeOf};
 ghost use Rattle.grown_runs.specs.Table.Words.{best_word, cost_in};
@@ -40,7 +41,8 @@ pub(crate) struct Hanging {
     pub(crate) class: u32,
 }
 
-/// Writes the parent and the cost of the node in hand: of the nearest node and of those found with a clear edge, the one through which it costs the least.
+/// Writes the parent and the cost of the node in hand: of the nearest node and of those found with a clear edge, the one through which
+/// it costs the least.
 fn choose_and_write<C: Clearing>(
     shared: &Shared,
     pass: &mut Pass,
@@ -100,8 +102,9 @@ fn post_goal_node(shared: &Shared, pass: &mut Pass, k: u32, p: Point)
     requires placed { (hand : Hand) × IsPlaced pass.old.view hand × (hand.mark ≡ k) × (hand.point ≡ p) }
     ensures belongs { BelongsTo pass.new shared.now }
     ensures goes_on { GoesOn pass.old.view pass.new.view }
+    ensures best { SeesBestSince pass.old.view pass.new.view }
     ensures in_goal { lies_in_goals pass.old.view.run.goals p ≡ true
-        → (pass.new ≡ with_view pass.old (with_best pass.old.view pass.new.view.best (hand_with_post pass.old.view.hand (suc k))))
+        → (pass.new ≡ with_view pass.old (with_post pass.old.view (suc k) pass.new.view.best (last_note pass.new.view)))
         × (pass.new.view.best ≤ best_word (cost_in (sees pass.old.view (TreeOf (suc k)))) (suc k)) }
     ensures elsewhere { lies_in_goals pass.old.view.run.goals p ≡ false → pass.new ≡ pass.old }
 {

@@ -4,3 +4,4 @@ pub mod Parts
 pub mod Steps
 pub mod Whole
 pub mod Common
+mod Words

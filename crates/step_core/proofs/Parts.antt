@@ -8,7 +8,9 @@ pub mod LinkedCounts
 pub mod LinkedStates
 pub mod LinkedWays
 pub mod WorldCopies
-pub mod WorldEmpties
+pub mod Shifts
+pub mod WorldNotes
+pub mod NotedSteps
 pub mod WorldBests
 pub mod WorldHands
 pub mod WorldTrees

@@ -5,4 +5,5 @@ pub mod WholeTrees
 pub mod ClosedWorlds
 pub mod GrownFromWords
 pub mod FoundEmpty
+pub mod LookedWords
 pub mod Histories

@@ -7,6 +7,7 @@ use Rattle.plan_model.specs.Trees.PointsByNumber.{AreDistinct}
 use Rattle.plan_model.specs.Seen.SeenTrees.{FollowSeenWays}
 use Rattle.plan_model.specs.Runs.Turns.{turns_of}
 use Rattle.grown_runs.specs.Runs.GrownWords.{record_at}
+use Rattle.step_core.specs.Notes.{last_seen}
 use Rattle.step_core.specs.SeenBests.{IsAtMostPlaced}
 use Rattle.step_core.specs.SharedWords.{state_of_links}
 use Rattle.step_core.specs.Stages.{has_first, has_link}
@@ -16,6 +17,7 @@ use Rattle.grown_runs.specs.Table.WordKinds.{AreBehind, kind_of}
 use Rattle.grown_runs.specs.Table.WordKinds.WordKind.{Apart}
 use Rattle.grown_runs.specs.Table.WordNames.{Word}
 use Rattle.grown_runs.specs.Table.WordNames.Word.{Count, Counter, TreeOf}
+use Rattle.grown_runs.specs.Table.Words.{best_node_in, no_best}
 use Rattle.step_core.specs.declared.views.Hand.{Hand}
 use Rattle.step_core.specs.declared.views.Member.{Member}
 use Rattle.step_core.specs.declared.views.View.{View}
@@ -30,6 +32,10 @@ pub record IsLater (before after : View) : Type 0 where
   pub looked : (name : Word) → (last_look after name ≡ last_look before name) ⊎ (before.steps < last_look after name)
   pub zero_found : (name : Word) → kind_of name ≢ Apart
       → (last_zero after name ≡ last_zero before name) ⊎ ((before.steps < last_zero after name) × (sees before name ≡ 0))
+
+-- What it sees otherwise than before, the best word too, it has looked at since.
+abbrev pub HasLooked : View → View → Type 0
+HasLooked before after = (name : Word) → (last_seen after name ≡ last_seen before name) ⊎ (before.steps < last_look after name)
 
 -- What the law says of one view alone.
 pub record IsLawfulView (view : View) : Type 0 where
@@ -75,6 +81,8 @@ pub record IsLawfulView (view : View) : Type 0 where
   pub counter : (g : ℕ) → g < view.run.strips → sees view (Counter g) ≤ length view.run.marks
   -- the best word seen is at most the pair of each goal node that was seen recorded,
   pub best : IsAtMostPlaced view view.best
+  -- its node is none past the number of marks,
+  pub best_node : view.best ≢ no_best → best_node_in view.best ≤ length view.run.marks
   -- and so is the one that the hand has taken, which is no less
   pub taken : (hand : Hand) (word : ℕ) → view.hand ≡ Some hand → hand.best ≡ Some word → (view.best ≤ word) × IsAtMostPlaced view word
   -- with the share of all workers, the tree in the words seen keeps the order law

@@ -21,6 +21,7 @@ pub mod SharedWords
 pub mod SeenBests
 pub mod SeenRecords
 pub mod Views
+pub mod Notes
 pub mod Stages
 pub mod ViewTrees
 pub mod Worlds

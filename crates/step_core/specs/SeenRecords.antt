@@ -1,5 +1,5 @@
 -- What a pass may record of the mark in its hand, by what it has seen: each fact of the record law is one of the view alone.
-use Rattle.std.specs.Prelude.{◌≡◌, ℕ, zero, suc, ◌+◌, ◌^◌, ◌≤◌, Bool, true, IsTrue, Some, length, filter}
+use Rattle.std.specs.Prelude.{◌≡◌, ◌↔◌, ℕ, zero, suc, ◌+◌, ◌^◌, ◌≤◌, Bool, true, IsTrue, Some, length, filter}
 use Rattle.std.specs.List.{range_with_len}
 use Rattle.plan_model.specs.Spaces.Clearance.{Clear}
 use Rattle.plan_model.specs.Runs.ClosedLaw.{mark_at}
@@ -49,8 +49,8 @@ pub record IsOwnNeighbour (view : View) (entry : Record) (p : Point) (i : ℕ) :
 -- ---- outcomes
 
 -- The mark was placed at the point in hand, with the parent and the cost in hand. The segment to it is clear, the class is that of a number
--- of nodes between the own ones and the count seen, no own neighbour was a cheaper parent, and none is seen dearer than by way of the node. A
--- node in a goal by which marks are skipped was posted.
+-- of nodes between the own ones and the count seen, no own neighbour was a cheaper parent, and none is seen dearer than by way of the node. It was
+-- posted if it lies in a goal by which marks are skipped, and only then.
 pub record MayBePlaced (view : View) (hand : Hand) (entry : Record) : Type 0 where
   pub nearest_is : entry.nearest ≡ hand.nearest
   pub parent_is : entry.first_parent ≡ hand.parent
@@ -61,27 +61,25 @@ pub record MayBePlaced (view : View) (hand : Hand) (entry : Record) : Type 0 whe
   pub chosen : (i : ℕ) → IsOwnNeighbour view entry hand.point i → hand.cost ≤ own_first_cost view i + cost_of (point_of (tree_seen view).points i) hand.point
   pub rewired : (i : ℕ) → IsOwnNeighbour view entry hand.point i
       → (2 ^ 63 ≤ sees view (TreeOf i)) × (cost_in (sees view (TreeOf i)) ≤ hand.cost + cost_of (point_of (tree_seen view).points i) hand.point)
-  pub posted : IsTrue (is_goal_point view.run.goals (Some hand.point)) → hand.stage ≡ Posted
+  pub posted : IsTrue (is_goal_point view.run.goals (Some hand.point)) ↔ hand.stage ≡ Posted
 
 -- The segment to p is not clear, and no own node stands at p.
 pub record MayBeBlocked (view : View) (entry : Record) (p : Point) : Type 0 where
   pub blocked : ¬ Clear (setup_in view.run).space (point_of (tree_seen view).points entry.nearest) p
   pub free : (i : ℕ) → IsTrue (is_own_node view entry i) → ¬ SeesPoint view i p
 
--- The mark is not skipped. The nearest node is seen, no own node is nearer to the mark, and the mark may end so at the point to which it
--- steers.
+-- The nearest node is seen, no own node is nearer to the mark, and the mark may end so at the point to which it steers.
 pub record MaySteer (view : View) (hand : Hand) (entry : Record) (MayEndAt : Point → Type 0) : Type 0 where
-  pub unskipped : IsUnskipped view hand
   pub present : IsPresent (tree_seen view).points entry.nearest
   pub nearest : (i : ℕ) → IsTrue (is_own_node view entry i)
       → IsNotAbove (distance_to (mark_at view.run.marks hand.mark) (tree_seen view).points) entry.nearest i
   pub outcome : MayEndAt (steered (point_of (tree_seen view).points entry.nearest) (mark_at view.run.marks hand.mark) view.run.step)
 
--- what the outcome asks
+-- What the outcome asks. A mark whose point is written was not skipped: of another that is steered to its point it is asked here.
 abbrev pub MayEnd : View → Hand → Record → Outcome → Type 0
 MayEnd view hand entry Placed = MaySteer view hand entry (λ p. MayBePlaced view hand entry)
-MayEnd view hand entry (Same j) = MaySteer view hand entry (SeesPoint view j)
-MayEnd view hand entry Blocked = MaySteer view hand entry (MayBeBlocked view entry)
+MayEnd view hand entry (Same j) = IsUnskipped view hand × MaySteer view hand entry (SeesPoint view j)
+MayEnd view hand entry Blocked = IsUnskipped view hand × MaySteer view hand entry (MayBeBlocked view entry)
 MayEnd view hand entry Skipped = MayBeSkipped view hand entry.nearest
 
 -- The mark may end as the record says.

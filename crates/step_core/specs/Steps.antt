@@ -39,6 +39,10 @@ pub record IsMoment (now : Moment) : Type 0 where
   pub at : get_elem? now.views now.id ≡ some now.view
   pub own : now.view.run ≡ now.run
 
+-- how many steps each view has made when this one has stepped
+abbrev pub steps_by : Moment → List ℕ
+steps_by now = steps_then now.views now.id now.view
+
 -- ---- kinds
 
 -- A claim of the next mark of a strip below a limit; a load of a word; for the mark in hand the point of its node, steered from another, its
@@ -151,16 +155,16 @@ Leaves words (Some left) after = WritesWord left.0 left.1 words after
 
 -- the view that stepped
 abbrev pub view_after : Moment → Step → View
-view_after now (Step.Claim strip limit) = claimed now.view strip (now.words (Counter strip)) limit
+view_after now (Step.Claim strip limit) = claimed now.view strip (now.words (Counter strip)) limit (steps_by now)
 view_after now (Step.Load name) = loaded now.view name (now.words name)
 view_after now (Step.WritePoint hand nearest at) = pointed now.view hand nearest at
 view_after now (Step.WriteFirst hand parent cost) = half now.view hand parent cost
 view_after now (Step.WriteTree hand) = treed now.view hand
-view_after now (Step.Link hand node side) = linked now.view hand node side (steps_then now.views now.id now.view)
-view_after now (Step.Add hand) = counted now.view hand
-view_after now (Step.Lower node parent cost) = lowered now.view node parent cost
+view_after now (Step.Link hand node side) = linked now.view hand node side (steps_by now)
+view_after now (Step.Add hand) = counted now.view hand (now.words Count + 1) (steps_by now)
+view_after now (Step.Lower node parent cost) = lowered now.view node parent cost (steps_by now)
 view_after now Step.LoadBest = best_loaded now.view (now.words Best)
-view_after now (Step.Post node) = posted now.view node (now.words Best)
+view_after now (Step.Post node) = posted now.view node (now.words Best) (steps_by now)
 view_after now (Step.Finish hand entry) = finished now.view hand.mark (record_word entry)
 view_after now Step.HandOn = parted now.view
 view_after now Step.Look = stepped now.view

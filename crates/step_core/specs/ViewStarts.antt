@@ -32,5 +32,5 @@ newcomer run items =
       steps = 0;
       looked = replicate (length items) 0;
       found_zero = replicate (length items) 0;
-      fills = [];
+      notes = [];
     }

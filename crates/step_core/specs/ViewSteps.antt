@@ -1,5 +1,5 @@
 -- What each kind of step makes of the view that makes it, as a function of the view before. The words are those of WordNames.
-use Rattle.std.specs.Prelude.{ℕ, suc, Bool, ◌+◌, ◌==◌, max, min, Option, Some, None, List, [], ◌∷◌, ◌++◌, length, map, replicate, slice_index}
+use Rattle.std.specs.Prelude.{ℕ, zero, suc, Bool, ◌+◌, ◌==◌, max, min, Option, Some, None, List, [], ◌∷◌, ◌++◌, length, map, replicate, slice_index}
 use Rattle.std.specs.Prelude.{slice_set, if◌then◌else◌}
 use Rattle.std.specs.List.{range_with_len}
 use Rattle.plan_model.specs.Scenes.MarkPoints.{mark_of as mark_by_strips}
@@ -7,12 +7,12 @@ use Rattle.plan_model.specs.declared.geometry.Point.{Point}
 use Rattle.step_core.specs.Views.{run_sizes, sees}
 use Rattle.grown_runs.specs.Table.WordKinds.{kind_at, later_word}
 use Rattle.grown_runs.specs.Table.WordNames.{Word}
-use Rattle.grown_runs.specs.Table.WordNames.Word.{ChildOf, Counter, FirstOf, PointOf, RecordOf, TreeOf}
+use Rattle.grown_runs.specs.Table.WordNames.Word.{Best, ChildOf, Count, Counter, FirstOf, PointOf, RecordOf, TreeOf}
 use Rattle.grown_runs.specs.Table.WordPlaces.{Sizes, place_of, word_count}
 use Rattle.grown_runs.specs.Table.Words.{best_word, cost_in, point_word, tree_word}
-use Rattle.step_core.specs.declared.views.Fill.{Fill}
 use Rattle.step_core.specs.declared.views.Hand.{Hand}
 use Rattle.step_core.specs.declared.views.Member.{Member}
+use Rattle.step_core.specs.declared.views.Note.{Note}
 use Rattle.step_core.specs.declared.views.SharedRun.{SharedRun}
 use Rattle.step_core.specs.declared.views.Stage.{Stage}
 use Rattle.step_core.specs.declared.views.Stage.TheVariants.{Claimed, Counted, Half, Linked, Pointed, Posted, Treed}
@@ -38,9 +38,44 @@ saw_at view place found left =
 abbrev pub saw : View → Word → ℕ → ℕ → View
 saw view name found left = saw_at view (place_in view name) found left
 
+-- one step more, by which no word is seen
+abbrev pub stepped : View → View
+stepped view = record view { steps = view.steps + 1 }
+
 -- a load
 abbrev pub loaded : View → Word → ℕ → View
 loaded view name word = saw view name word word
+
+-- ---- notes
+
+-- how many steps each view has made
+abbrev pub steps_made : List View → List ℕ
+steps_made views = map (λ view. view.steps) views
+
+-- and how many when the view at this index has made one more
+abbrev pub steps_then : List View → ℕ → View → List ℕ
+steps_then views id view = steps_made (slice_set views id (stepped view))
+
+-- The view notes that this was left in the word at this place, when the views had made so many steps.
+abbrev pub noting : View → ℕ → ℕ → List ℕ → View
+noting view place word steps = record view { notes = record { place = place; word = word; steps = steps } ∷ view.notes }
+
+-- no note of any word
+abbrev pub no_note : Note
+no_note = record { place = 0; word = 0; steps = [] }
+
+-- the note at this index, 0 for the last one
+abbrev pub note_at : List Note → ℕ → Note
+note_at [] i = no_note
+note_at (note ∷ notes) zero = note
+note_at (note ∷ notes) (suc i) = note_at notes i
+
+abbrev pub note_before : View → ℕ → Note
+note_before view i = note_at view.notes i
+
+-- the steps in the last note of a view
+abbrev pub last_note : View → List ℕ
+last_note view = (note_before view 0).steps
 
 -- ---- claims
 
@@ -52,14 +87,13 @@ mark_of run g c = mark_by_strips run.strips g c
 abbrev pub new_hand : ℕ → Hand
 new_hand k = record { mark = k; stage = Claimed; best = None; nearest = 0; point = record { x = 0; y = 0 }; parent = 0; cost = 0 }
 
--- The counter of strip g went from c to c + 1, and the mark is in hand.
-abbrev pub claimed : View → ℕ → ℕ → ℕ → View
-claimed view g c limit =
-    record (saw view (Counter g) c (c + 1)) { hand = Some (new_hand (mark_of view.run g c)); most = max view.most limit }
-
--- one step more, by which no word is seen
-abbrev pub stepped : View → View
-stepped view = record view { steps = view.steps + 1 }
+-- The counter of strip g went from c to c + 1, which is noted, and the mark is in hand.
+abbrev pub claimed : View → ℕ → ℕ → ℕ → List ℕ → View
+claimed view g c limit steps =
+    record (noting (saw view (Counter g) c (c + 1)) (place_in view (Counter g)) (c + 1) steps) {
+      hand = Some (new_hand (mark_of view.run g c));
+      most = max view.most limit;
+    }
 
 -- ---- the best word
 
@@ -72,9 +106,10 @@ abbrev pub hand_with_best : Option Hand → ℕ → Option Hand
 hand_with_best None word = None
 hand_with_best (Some hand) word = Some (best_taken hand.stage hand word)
 
--- a view with one step more, another best word, and this in hand
+-- a view with one step more, by which it looked at the best word and left it so, and this in hand
 abbrev pub with_best : View → ℕ → Option Hand → View
-with_best view best hand = record (stepped view) { best = best; hand = hand }
+with_best view best hand =
+    record (stepped view) { best = best; looked = slice_set view.looked (place_in view Best) (view.steps + 1); hand = hand }
 
 -- The best word was found so.
 abbrev pub best_loaded : View → ℕ → View
@@ -93,9 +128,13 @@ hand_with_post (Some hand) n = Some (post_noted hand.stage hand n)
 abbrev pub best_with : View → ℕ → ℕ → ℕ
 best_with view n word = min word (best_word (cost_in (sees view (TreeOf n))) n)
 
--- Node n was posted, and the best word was found so before: it is the lesser now.
-abbrev pub posted : View → ℕ → ℕ → View
-posted view n word = with_best view (best_with view n word) (hand_with_post view.hand n)
+-- Node n was posted, and the best word was left so, which is noted.
+abbrev pub with_post : View → ℕ → ℕ → List ℕ → View
+with_post view n best steps = noting (with_best view best (hand_with_post view.hand n)) (place_in view Best) best steps
+
+-- The best word was found so before: it is the lesser now.
+abbrev pub posted : View → ℕ → ℕ → List ℕ → View
+posted view n word steps = with_post view n (best_with view n word) steps
 
 -- ---- points, parents, links and counts
 
@@ -123,46 +162,28 @@ with_node_words run hand seen =
     slice_set (slice_set (slice_set seen (at (PointOf node)) (point_word hand.point)) (at (TreeOf node)) (pair_in_hand hand)) (at (FirstOf node))
     (pair_in_hand hand)
 
--- how many steps each view has made
-abbrev pub steps_made : List View → List ℕ
-steps_made views = map (λ view. view.steps) views
-
--- and how many when the view at this index has made one more
-abbrev pub steps_then : List View → ℕ → View → List ℕ
-steps_then views id view = steps_made (slice_set views id (stepped view))
-
--- The node in hand stands in the child word at this place, which was found empty. It is seen there, with its point, its parent and its cost.
--- The view notes the steps that the views have made by then.
+-- The node in hand stands in the child word at this place, which was found empty: this is noted. It is seen there, with its point, its parent
+-- and its cost.
 abbrev pub linked_at : View → Hand → ℕ → List ℕ → View
 linked_at view hand place steps =
-    let shown = saw_at view place 0 (suc hand.mark) in
-    record shown {
-      seen = with_node_words view.run hand shown.seen;
-      hand = Some (record hand { stage = Linked });
-      fills = record { place = place; steps = steps } ∷ view.fills;
-    }
+    let shown = noting (saw_at view place 0 (suc hand.mark)) place (suc hand.mark) steps in
+    record shown { seen = with_node_words view.run hand shown.seen; hand = Some (record hand { stage = Linked }) }
 
 -- it stands in the child word of node n on this side
 abbrev pub linked : View → Hand → ℕ → Bool → List ℕ → View
 linked view hand n side steps = linked_at view hand (place_in view (ChildOf n side)) steps
 
--- what a view noted by its last fill
-abbrev pub steps_at_last : List Fill → List ℕ
-steps_at_last [] = []
-steps_at_last (fill ∷ fills) = fill.steps
-
-abbrev pub last_fill : View → List ℕ
-last_fill view = steps_at_last view.fills
-
--- The node in hand is counted. How many there are, the step does not tell: the class of a mark is that of the count loaded last.
-abbrev pub counted : View → Hand → View
-counted view hand = record (stepped view) { hand = Some (record hand { stage = Counted }) }
+-- The node in hand is counted, and the count that this left is noted. The step does not look at it: the class of a mark is that of the count
+-- loaded last.
+abbrev pub counted : View → Hand → ℕ → List ℕ → View
+counted view hand count steps = record (noting (stepped view) (place_in view Count) count steps) { hand = Some (record hand { stage = Counted }) }
 
 -- ---- costs and records
 
--- The tree word of node n was the one seen last, and has this parent and this cost now.
-abbrev pub lowered : View → ℕ → ℕ → ℕ → View
-lowered view n parent cost = saw view (TreeOf n) (sees view (TreeOf n)) (tree_word parent cost)
+-- The tree word of node n was the one seen last, and has this parent and this cost now, which is noted.
+abbrev pub lowered : View → ℕ → ℕ → ℕ → List ℕ → View
+lowered view n parent cost steps =
+    noting (saw view (TreeOf n) (sees view (TreeOf n)) (tree_word parent cost)) (place_in view (TreeOf n)) (tree_word parent cost) steps
 
 -- the first of a crew has made its turn
 abbrev pub one_turn_more : List Member → List Member
@@ -190,20 +211,21 @@ second_alone [] = []
 second_alone (member ∷ []) = []
 second_alone (member ∷ second ∷ crew) = second ∷ []
 
--- a new pass has found no word 0 itself
-abbrev pub found_none : View → List ℕ
-found_none view = replicate (length view.found_zero) 0
+-- What a new pass has of a view: it has seen as much, has looked at no word itself, and has changed none.
+abbrev pub unlooked : View → View
+unlooked view =
+    record view { looked = replicate (length view.looked) 0; found_zero = replicate (length view.found_zero) 0; notes = [] }
 
 -- The second worker gets a pass of its own, which has seen as much.
 abbrev pub parted : View → View
 parted view = record (stepped view) { crew = without_second view.crew }
 
 abbrev pub worker_apart : View → View
-worker_apart view = record view { crew = second_alone view.crew; hand = None; found_zero = found_none view }
+worker_apart view = record (unlooked view) { crew = second_alone view.crew; hand = None }
 
 -- a pass without a share, which has seen as much
 abbrev pub looker : View → View
-looker view = record view { crew = []; hand = None; found_zero = found_none view }
+looker view = record (unlooked view) { crew = []; hand = None }
 
 -- ---- joins
 
@@ -212,7 +234,7 @@ abbrev pub merged : Sizes → List ℕ → List ℕ → List ℕ
 merged sizes one other =
     map (λ place. later_word (kind_at sizes place) (slice_index one place) (slice_index other place)) (range_with_len 0 (word_count sizes))
 
--- Both shares, the greater limit, what either has seen, the lesser best word, and the fills of both. The steps stay its own.
+-- Both shares, the greater limit, what either has seen, the lesser best word, and the notes of both. The steps stay its own.
 abbrev pub joined : View → View → View
 joined view other =
     record (stepped view) {
@@ -221,5 +243,5 @@ joined view other =
       seen = merged (run_sizes view.run) view.seen other.seen;
       best = min view.best other.best;
       took = other.seen;
-      fills = view.fills ++ other.fills;
+      notes = view.notes ++ other.notes;
     }

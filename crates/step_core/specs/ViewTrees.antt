@@ -1,9 +1,10 @@
 -- What a view has seen of the tree, and which steps on nodes that allows it.
-use Rattle.std.specs.Prelude.{◌≡◌, ◌≢◌, ℕ, suc, ◌+◌, ◌^◌, ◌<◌, ◌≤◌, Bool, true, Some, length}
+use Rattle.std.specs.Prelude.{◌≡◌, ◌≢◌, ℕ, suc, ◌+◌, ◌^◌, ◌<◌, ◌≤◌, Bool, true, IsTrue, Some, length}
 use Rattle.plan_model.specs.declared.geometry.Point.{Point}
 use Rattle.plan_model.specs.Runs.ClosedLaw.{mark_at}
 use Rattle.plan_model.specs.Geometry.Cost.{cost_of}
 use Rattle.plan_model.specs.Runs.OrderLaw.{IsAllowedEdge}
+use Rattle.plan_model.specs.Trees.BestNode.{is_goal_point}
 use Rattle.plan_model.specs.Trees.PointsByNumber.{IsPresent, StandsAt}
 use Rattle.plan_model.specs.Seen.SeenTrees.{IsRooted, IsSeen}
 use Rattle.plan_model.specs.Seen.Sights.{Sight}
@@ -11,12 +12,14 @@ use Rattle.plan_model.specs.Geometry.Steering.{steered}
 use Rattle.plan_model.specs.Seen.Ways.{IsOnWay, goes_right}
 use Rattle.grown_runs.specs.Runs.GrownWords.{has_node}
 use Rattle.grown_runs.specs.Table.SeenWords.{sight_of_words}
+use Rattle.step_core.specs.SeenBests.{IsUnskipped}
 use Rattle.step_core.specs.Stages.{has_link, has_point}
 use Rattle.step_core.specs.Views.{run_sizes, seen_words, sees, setup_in, tree_seen}
 use Rattle.grown_runs.specs.Table.WordNames.{Word}
 use Rattle.grown_runs.specs.Table.WordNames.Word.{Count, Best, Counter, PointOf, ChildOf, TreeOf, FirstOf, RecordOf}
 use Rattle.grown_runs.specs.Table.Words.{cost_in, parent_in}
 use Rattle.step_core.specs.declared.views.Hand.{Hand}
+use Rattle.step_core.specs.declared.views.Stage.TheVariants.{Posted}
 use Rattle.step_core.specs.declared.views.View.{View}
 
 -- what it has seen, and by which of its steps it found places of children empty
@@ -39,13 +42,15 @@ pub record IsSteered (view : View) (k m : ℕ) (p : Point) : Type 0 where
   pub seen : SeesPoint view m from
   pub reached : p ≡ steered from (mark_at view.run.marks k) view.run.step
 
--- Once its point is written, a node in hand is steered from a seen node, which is another. Once it is linked, it is seen at its point, and
--- its first word is seen.
+-- Once its point is written, a node in hand is steered from a seen node, which is another, and its mark is not skipped. Once it is linked, it is
+-- seen at its point, and its first word is seen. It is posted only if it lies in a goal by which marks are skipped.
 pub record SeesHand (view : View) (hand : Hand) : Type 0 where
   pub steered_from : has_point hand.stage ≡ true → IsSteered view hand.mark hand.nearest hand.point
   pub other : has_point hand.stage ≡ true → hand.nearest ≢ suc hand.mark
+  pub unskipped : has_point hand.stage ≡ true → IsUnskipped view hand
   pub shown : has_link hand.stage ≡ true → SeesPoint view (suc hand.mark) hand.point
   pub first_shown : has_link hand.stage ≡ true → 2 ^ 63 ≤ sees view (FirstOf (suc hand.mark))
+  pub posted : hand.stage ≡ Posted → IsTrue (is_goal_point view.run.goals (Some hand.point))
 
 -- ---- all that is seen
 

@@ -126,4 +126,4 @@ no_run =
 
 -- what is left of a view that was taken over
 abbrev pub spent : View
-spent = record { run = no_run; crew = []; most = 0; hand = None; seen = []; best = no_best; took = []; steps = 0; looked = []; found_zero = []; fills = [] }
+spent = record { run = no_run; crew = []; most = 0; hand = None; seen = []; best = no_best; took = []; steps = 0; looked = []; found_zero = []; notes = [] }

@@ -1,7 +1,7 @@
 -- The law of worlds: what holds of the words of a shared run and of the views of its passes between any two steps, whichever passes make
 -- them and in whichever order. Each part speaks of one thing, and has a lemma of its own on a step of one view.
 use Rattle.std.specs.Prelude.{◌≡◌, ◌≢◌, ℕ, suc, ◌+◌, ◌<◌, ◌≤◌, ◌==◌, ◌^◌, ◌⊎◌, nat_lt, max, Bool, true, false, is_some}
-use Rattle.std.specs.Prelude.{Some, None, List, [], ◌∷◌, length, map, slice_index, if◌then◌else◌}
+use Rattle.std.specs.Prelude.{Some, None, List, [], ◌∷◌, length, map, if◌then◌else◌}
 use Rattle.std.specs.List.{range_with_len, sum_by}
 use lib.ListN.{get_elem?}
 use mathlib.Core.Option.{some}
@@ -18,18 +18,17 @@ use Rattle.plan_model.specs.Seen.SeenParents.{AreSeenLawfully}
 use Rattle.plan_model.specs.Trees.TreeStates.{TreeState}
 use Rattle.plan_model.specs.Seen.Ways.{FollowWays}
 use Rattle.grown_runs.specs.Runs.GrownWords.{IsWritten, children_of_words, has_node, is_linked, record_at}
+use Rattle.step_core.specs.Notes.{Empties, Notes}
 use Rattle.step_core.specs.SeenBests.{IsAtMostPlaced}
 use Rattle.step_core.specs.SharedWords.{linked_points, state_of_links}
 use Rattle.step_core.specs.Stages.{has_count, has_first, has_link, has_point, has_tree, holds_at}
 use Rattle.step_core.specs.ViewSteps.{pair_in_hand}
 use Rattle.step_core.specs.ViewTrees.{SeesTree}
-use Rattle.step_core.specs.Views.{IsSharedRun, IsViewOf, holds, last_zero, run_sizes, sees, setup_in, share, spent, times, took_over, tree_seen}
+use Rattle.step_core.specs.Views.{IsSharedRun, IsViewOf, holds, run_sizes, sees, setup_in, share, spent, times, took_over, tree_seen}
 use Rattle.grown_runs.specs.Table.WordKinds.{AreBehind, HaveWholePairs}
 use Rattle.grown_runs.specs.Table.WordNames.{Word, Words}
-use Rattle.grown_runs.specs.Table.WordPlaces.{place_of}
 use Rattle.grown_runs.specs.Table.Words.{FitsWord, best_cost_in, best_node_in, best_word, cost_in, no_best, point_word, record_word, tree_word}
 use Rattle.grown_runs.specs.Table.WordNames.Word.{Best, ChildOf, Count, Counter, FirstOf, PointOf, RecordOf, TreeOf}
-use Rattle.step_core.specs.declared.views.Fill.{Fill}
 use Rattle.step_core.specs.declared.views.Hand.{Hand}
 use Rattle.step_core.specs.declared.views.Member.{Member}
 use Rattle.step_core.specs.declared.views.SharedRun.{SharedRun}
@@ -198,11 +197,12 @@ pub record SeenBehind (words : Words) (views : List View) : Type 0 where
 
 -- ---- the best word
 
--- There is no best, or it is a linked goal node, with a cost that is no less than that which the node has now.
+-- There is no best, or it is a linked goal node, with a cost that fits its bits and is no less than that which the node has now.
 abbrev pub IsBestWord : SharedRun → Words → ℕ → Type 0
 IsBestWord run words word =
     word ≢ no_best
     → IsGoalNode run.goals (linked_points (run_sizes run) words) (best_node_in word) × (cost_in (words (TreeOf (best_node_in word))) ≤ best_cost_in word)
+    × (best_cost_in word < 2 ^ 44)
 
 -- It is so of the best word, which is at most the pair of first cost and number of each goal node that is the start or recorded as placed.
 pub record BestWord (run : SharedRun) (words : Words) : Type 0 where
@@ -258,30 +258,6 @@ Copies run words views = (name : Word) → IsTold run words name → HasCopy run
 abbrev pub BestCopy : SharedRun → Words → List View → Type 0
 BestCopy run words views = SomeSharer run views (λ view. view.best ≡ words Best)
 
--- ---- empty places
-
--- how many steps the view at index i had made by this fill, if that is of the place
-abbrev pub noted_in : ℕ → ℕ → Fill → ℕ
-noted_in place i fill = if fill.place == place then slice_index fill.steps i else 0
-
--- by the fills that one view notes, and by those of all views; 0 if there is none
-abbrev pub noted_by : ℕ → ℕ → View → ℕ
-noted_by place i view = maximum (map (noted_in place i) view.fills)
-
-abbrev pub noted : List View → ℕ → ℕ → ℕ
-noted views place i = maximum (map (noted_by place i) views)
-
--- The view at index i has made so many steps. A spent view says nothing of the steps that it had made.
-abbrev pub HasMade : SharedRun → List View → ℕ → ℕ → Type 0
-HasMade run views i steps = (steps ≡ 0) ⊎ ((view : View) × (get_elem? views i ≡ some view) × (view.run ≡ run → steps ≤ view.steps))
-
--- No fill notes more steps of a view than it has made, and none of a view that is not there. If a place of a child is filled, no view has found
--- it empty by a later step than those that it had made by then, as the fill notes.
-pub record Empties (run : SharedRun) (words : Words) (views : List View) : Type 0 where
-  pub made : (place i : ℕ) → HasMade run views i (noted views place i)
-  pub filled : (n : ℕ) (side : Bool) → words (ChildOf n side) ≢ 0 → (i : ℕ) (view : View) → get_elem? views i ≡ some view
-      → last_zero view (ChildOf n side) ≤ noted views (place_of (run_sizes run) (ChildOf n side)) i
-
 -- ---- the law
 
 -- All parts. A view is spent once its pass was taken over: it has no share, no hand, and has seen nothing.
@@ -301,6 +277,7 @@ pub record IsWorld (run : SharedRun) (words : Words) (views : List View) : Type 
   pub seen : SeenBehind words views
   pub copies : Copies run words views
   pub best_copy : BestCopy run words views
+  pub notes : Notes run words views
   pub empties : Empties run words views
   pub best : BestWord run words
   pub bests : SeenBests run words views

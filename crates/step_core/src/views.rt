@@ -73,11 +73,13 @@ pub struct Hand {
     pub cost: u64,
 }
 
-/// A place of a child that was filled, and how many steps each pass had made by then.
-pub struct Fill {
-    /// The place of the child word.
+/// What a step has left in a word that others load, and how many steps each pass had made by then.
+pub struct Note {
+    /// The place of the word.
     pub place: u64,
-    /// By the number of the pass how many steps it had made, the one that filled the place included.
+    /// The word that was left there.
+    pub word: u64,
+    /// By the number of the pass how many steps it had made, the one that left the word included.
     pub steps: LinkedList<u64>,
 }
 
@@ -103,6 +105,6 @@ pub struct View {
     pub looked: LinkedList<u64>,
     /// For each word the number of its last step that found it 0.
     pub found_zero: LinkedList<u64>,
-    /// The places that it has filled, or that a pass had which it took over.
-    pub fills: LinkedList<Fill>,
+    /// The changes of such words that it has made, or that a pass had which it took over, the last first.
+    pub notes: LinkedList<Note>,
 }

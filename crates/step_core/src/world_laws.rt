@@ -17,14 +17,15 @@ ghost use Rattle.plan_model.specs.declared.records.Record.{Record};
 ghost use Rattle.plan_model.specs.declared.tasks.Task.{Task};
 ghost use Rattle.grown_runs.specs.Runs.GrownWords.{HoldRun, IsLinked, children_of_words, cleared, has_node, is_linked, record_at, run_words, sizes_of};
 ghost use Rattle.grown_runs.specs.Runs.GrownWords.{state_of_words};
-ghost use Rattle.step_core.specs.Histories.{HasCome, WasFree};
+ghost use Rattle.step_core.specs.Histories.{HasCome, WasFree, WasSo};
 ghost use Rattle.step_core.specs.LastViews.{StandsAsSeen};
-ghost use Rattle.step_core.specs.LaterViews.{IsLater, IsLawfulView};
+ghost use Rattle.step_core.specs.LaterViews.{HasLooked, IsLater, IsLawfulView};
+ghost use Rattle.step_core.specs.Notes.{FillsNoPlace, IsLoaded, NotesAsSeen, SeesSome, last_seen};
 ghost use Rattle.step_core.specs.SeenBests.{IsInformed, IsUnskipped, MayPost};
 ghost use Rattle.grown_runs.specs.Runs.LeastBests.{IsLeastBest};
 ghost use Rattle.step_core.specs.SeenRecords.{own_count};
 ghost use Rattle.step_core.specs.SharedWords.{linked_points};
-ghost use Rattle.step_core.specs.Steps.{Holds, IsMoment, MayCheapen, MayClaim, MayFinish, MayJoin, MayLink, Moment, Step, Steps, view_after, views_after};
+ghost use Rattle.step_core.specs.Steps.{Holds, IsMoment, MayCheapen, MayClaim, MayFinish, MayJoin, MayLink, Moment, Step, Steps, steps_by, view_after, views_after};
 ghost use Rattle.step_core.specs.ViewStarts.{newcomer};
 ghost use Rattle.step_core.specs.ViewSteps.{best_loaded, best_with, posted};
 ghost use Rattle.step_core.specs.ViewSteps.{claimed, counted, finished, half, joined, linked, loaded, looker, lowered, pair_in_hand, parted};
@@ -66,7 +67,7 @@ pub fn steps_keep_the_law()
 pub fn claims_keep_the_law()
     ensures law { (now : Moment) → IsMoment now → (strip limit : ℕ) → MayClaim now strip limit → (after : Words)
         → WritesWord (Counter strip) (now.words (Counter strip) + 1) now.words after
-        → IsWorld now.run after (slice_set now.views now.id (claimed now.view strip (now.words (Counter strip)) limit)) }
+        → IsWorld now.run after (slice_set now.views now.id (claimed now.view strip (now.words (Counter strip)) limit (steps_by now))) }
     // a claim that finds another number than was seen finds a higher one
     ensures failed { (now : Moment) → IsMoment now → (strip : ℕ) → now.words (Counter strip) ≢ sees now.view (Counter strip)
         → sees now.view (Counter strip) < now.words (Counter strip) }
@@ -106,12 +107,11 @@ pub fn trees_keep_the_law()
 {}
 
 /// A link keeps the law. It puts the node in hand, whose words are written, into an empty child word, to which the way of the
-/// point leads over what the view has seen. If that word is not 0, the step only loads it. The view notes how many steps each view
-/// has made by then.
+/// point leads over what the view has seen. If that word is not 0, the step only loads it.
 pub fn links_keep_the_law()
     ensures law { (now : Moment) → IsMoment now → (hand : Hand) (n : ℕ) (side : Bool) → MayLink now hand n side → (after : Words)
         → WritesWord (ChildOf n side) (suc hand.mark) now.words after
-        → IsWorld now.run after (slice_set now.views now.id (linked now.view hand n side (steps_then now.views now.id now.view))) }
+        → IsWorld now.run after (slice_set now.views now.id (linked now.view hand n side (steps_by now))) }
     // a link that finds a child takes the way a step deeper, to that child
     ensures failed { (before after : View) → IsLater before after → (p : Point) (n c : ℕ) (side : Bool) (leads : LeadsTo before p n side)
         → (tree_seen after).child n side ≡ Some c → IsOnWayOf after p (suc leads.depth) c }
@@ -123,7 +123,7 @@ pub fn links_keep_the_law()
 /// Counting the linked node in hand keeps the law.
 pub fn counts_keep_the_law()
     ensures law { (now : Moment) → IsMoment now → (hand : Hand) → Holds now.view hand Linked → (after : Words)
-        → WritesWord Count (now.words Count + 1) now.words after → IsWorld now.run after (slice_set now.views now.id (counted now.view hand)) }
+        → WritesWord Count (now.words Count + 1) now.words after → IsWorld now.run after (slice_set now.views now.id (counted now.view hand (now.words Count + 1) (steps_by now))) }
     // no more nodes are counted than there may be
     ensures most { (run : SharedRun) (words : Words) (views : List View) → IsWorld run words views → words Count ≤ length run.marks + 1 }
     // and no fewer than a worker has placed, by the records that a view has seen
@@ -135,7 +135,7 @@ pub fn counts_keep_the_law()
 pub fn lowers_keep_the_law()
     ensures law { (now : Moment) → IsMoment now → (n parent cost : ℕ) → MayCheapen now n parent cost → (after : Words)
         → WritesWord (TreeOf n) (tree_word parent cost) now.words after
-        → IsWorld now.run after (slice_set now.views now.id (lowered now.view n parent cost)) }
+        → IsWorld now.run after (slice_set now.views now.id (lowered now.view n parent cost (steps_by now))) }
     // one that finds another word than was seen finds a lower cost
     ensures failed { (now : Moment) → IsMoment now → (n : ℕ) → 2 ^ 63 ≤ sees now.view (TreeOf n) → now.words (TreeOf n) ≢ sees now.view (TreeOf n)
         → (2 ^ 63 ≤ now.words (TreeOf n)) × (cost_in (now.words (TreeOf n)) < cost_in (sees now.view (TreeOf n))) }
@@ -153,7 +153,7 @@ pub fn best_loads_keep_the_law()
 pub fn posts_keep_the_law()
     ensures { (now : Moment) → IsMoment now → (n : ℕ) → MayPost now.view n → (after : Words)
         → WritesWord Best (best_with now.view n (now.words Best)) now.words after
-        → IsWorld now.run after (slice_set now.views now.id (posted now.view n (now.words Best))) }
+        → IsWorld now.run after (slice_set now.views now.id (posted now.view n (now.words Best) (steps_by now))) }
 {}
 
 /// The best word is at most the pair of first cost and number of each goal node that is the start, that is recorded as placed, or that the
@@ -165,9 +165,12 @@ pub fn best_words_are_least()
         → now.words Best ≤ best_word (cost_in (now.words (FirstOf (suc hand.mark)))) (suc hand.mark) }
     ensures pair { (run : SharedRun) (words : Words) (views : List View) → IsWorld run words views → words Best ≢ no_best
         → IsGoalNode run.goals (linked_points (run_sizes run) words) (best_node_in (words Best))
-        × (cost_in (words (TreeOf (best_node_in (words Best)))) ≤ best_cost_in (words Best)) }
+        × (cost_in (words (TreeOf (best_node_in (words Best)))) ≤ best_cost_in (words Best)) × (best_cost_in (words Best) < 2 ^ 44) }
     // what a view has seen of it is no less
     ensures seen { (now : Moment) → IsMoment now → now.words Best ≤ now.view.best }
+    // and if that is a pair, it is of a goal node too
+    ensures goal { (now : Moment) → IsMoment now → now.view.best ≢ no_best
+        → IsGoalNode now.run.goals (linked_points (run_sizes now.run) now.words) (best_node_in now.view.best) }
 {}
 
 /// A record of the mark in hand keeps the law. It is of the first worker of the view's crew, and of its next turn. It says that
@@ -204,15 +207,15 @@ pub fn empty_places_have_no_node()
 {}
 
 /// A place of a child that a step says to have found empty was empty. That holds of a step of any kind which keeps the law, leaves a
-/// later view and notes no fill: a view cannot have found a place empty by it that was filled before. So no node stood then at a point
+/// later view and notes no place of a child: a view cannot have found a place empty by it that was filled before. So no node stood then at a point
 /// whose way leads to that place by what the view sees at that moment, or at any later one.
 pub fn what_was_found_empty_was_empty()
     ensures before { (now : Moment) → IsMoment now → (after : Words) (then : View) → IsWorld now.run after (slice_set now.views now.id then)
-        → IsLater now.view then → then.fills ≡ now.view.fills → (n : ℕ) (side : Bool) → now.view.steps < last_zero then (ChildOf n side)
+        → IsLater now.view then → FillsNoPlace now.view then → (n : ℕ) (side : Bool) → now.view.steps < last_zero then (ChildOf n side)
         → now.words (ChildOf n side) ≡ 0 }
     // and the step left it empty
     ensures after { (now : Moment) → IsMoment now → (after : Words) (then : View) → IsWorld now.run after (slice_set now.views now.id then)
-        → then.fills ≡ now.view.fills → (n : ℕ) (side : Bool) → now.view.steps < last_zero then (ChildOf n side) → after (ChildOf n side) ≡ 0 }
+        → FillsNoPlace now.view then → (n : ℕ) (side : Bool) → now.view.steps < last_zero then (ChildOf n side) → after (ChildOf n side) ≡ 0 }
     // so a load may not tell of a filled place that it was found empty, whatever the view had seen there
     ensures stale { (now : Moment) → IsMoment now → (n : ℕ) (side : Bool) → n ≤ length now.run.marks → now.words (ChildOf n side) ≢ 0
         → ¬ IsWorld now.run now.words (slice_set now.views now.id (loaded now.view (ChildOf n side) 0)) }
@@ -223,12 +226,31 @@ pub fn what_was_found_empty_was_empty()
         → LeadsTo view q n side → words (ChildOf n side) ≡ 0 → IsFree (linked_points (run_sizes run) words) q }
     // Both together: no node stood at the point by the step that found the place empty.
     ensures by_then { (run : SharedRun) (words after later : Words) (views lasts : List View) (id : ℕ) (view then last : View) → IsWorld run words views
-        → get_elem? views id ≡ some view → IsWorld run after (slice_set views id then) → view.run ≡ run → then.fills ≡ view.fills
+        → get_elem? views id ≡ some view → IsWorld run after (slice_set views id then) → view.run ≡ run → FillsNoPlace view then
         → IsWorld run later lasts → AreBehind after later → get_elem? lasts id ≡ some last → last.run ≡ run → (q : Point) (n : ℕ) (side : Bool)
         → LeadsTo last q n side → view.steps < last_zero then (ChildOf n side) → IsFree (linked_points (run_sizes run) after) q }
     // What a view has swept since some of its steps has such a place.
     ensures swept { (view : View) (steps : ℕ) (q : Point) → EndsSince (sight_in view) steps q
         → (n : ℕ) × (side : Bool) × LeadsTo view q n side × (steps < last_zero view (ChildOf n side)) }
+{}
+
+/// What a step tells of a word that passes load while others change it is the word as it is after the step, if the view says to have looked at it by
+/// this step. That holds of a step of any kind which keeps the law, and notes nothing else of the word than what it tells. Of a tree word it is
+/// asked that something was seen.
+pub fn looks_tell_what_words_are()
+    ensures as_it_is { (now : Moment) → IsMoment now → (after : Words) (then : View) → IsWorld now.run after (slice_set now.views now.id then)
+        → (name : Word) → IsLoaded now.run name → now.view.steps < last_look then name → NotesAsSeen now.view then name → SeesSome then name
+        → last_seen then name ≡ after name }
+    // so no load may tell another word, whatever the view had seen before
+    ensures stale { (now : Moment) → IsMoment now → (name : Word) → IsLoaded now.run name → name ≢ Best → (word : ℕ) → word ≢ now.words name
+        → SeesSome (loaded now.view name word) name → ¬ IsWorld now.run now.words (slice_set now.views now.id (loaded now.view name word)) }
+    // nor another best word
+    ensures stale_best { (now : Moment) → IsMoment now → (word : ℕ) → word ≢ now.words Best
+        → ¬ IsWorld now.run now.words (slice_set now.views now.id (best_loaded now.view word)) }
+    // Over many steps: what a pass sees last of a word at which it has looked since a call began was so at some moment of this very call.
+    ensures was_so { (run : SharedRun) (id : ℕ) (words last : Words) (views lasts : List View) (first end : View) → IsWorld run words views
+        → get_elem? views id ≡ some first → HasCome run id words views last lasts → get_elem? lasts id ≡ some end → end.run ≡ run → (name : Word)
+        → IsLoaded run name → first.steps < last_look end name → SeesSome end name → WasSo run words last name (last_seen end name) }
 {}
 
 /// Each point that a call of a pass has swept, and at which the pass sees no node, was free at some moment of this very call. The
@@ -237,8 +259,8 @@ pub fn swept_points_were_free()
     ensures swept { (run : SharedRun) (id : ℕ) (words last : Words) (views lasts : List View) (first end : View) → IsWorld run words views
         → get_elem? views id ≡ some first → HasCome run id words views last lasts → get_elem? lasts id ≡ some end → end.run ≡ run → (q : Point)
         → EndsSince (sight_in end) first.steps q → WasFree run words last q }
-    // The world comes further by a link of the view. By its other steps it does as they note no fill, and by those of other views as the
-    // view stays.
+    // The world comes further by a link of the view. By its other steps it does as they note no place of a child, and by those of other views as
+    // the view stays.
     ensures link { (run : SharedRun) (id : ℕ) (words now after : Words) (views here : List View) (view : View) → IsWorld run words views
         → HasCome run id words views now here → get_elem? here id ≡ some view → view.run ≡ run → (hand : Hand) → view.hand ≡ Some hand
         → hand.stage ≡ Treed → (n : ℕ) (side : Bool) → LeadsTo view hand.point n side → now (ChildOf n side) ≡ 0
@@ -256,6 +278,9 @@ pub fn no_cost_rises()
         → IsLater now.view then → (name : Word) → IsTold now.run now.words name → MayBecome (kind_of name) (now.words name) (after name) }
     ensures costs { (now : Moment) → IsMoment now → (after : Words) (then : View) → IsWorld now.run after (slice_set now.views now.id then)
         → IsLater now.view then → (n : ℕ) → is_linked (run_sizes now.run) now.words n ≡ true → cost_in (after (TreeOf n)) ≤ cost_in (now.words (TreeOf n)) }
+    // nor does the best word
+    ensures best { (now : Moment) → IsMoment now → (after : Words) (then : View) → IsWorld now.run after (slice_set now.views now.id then)
+        → IsLater now.view then → after Best ≤ now.words Best }
 {}
 
 /// A view looks at words, and finds them 0, by steps that it has made. So where a look at a word is later than a moment, the view has
@@ -339,6 +364,9 @@ pub fn seen_claims_are_below_the_limit()
 pub fn steps_lead_to_later_views()
     ensures stay { (view : View) → IsLater view view }
     ensures go_on { (before mid after : View) → IsLater before mid → IsLater mid after → IsLater before after }
+    // if what it sees otherwise was looked at since by each of two calls, so it was by both
+    ensures looked { (before mid after : View) → IsLater before mid → IsLater mid after → HasLooked before mid → HasLooked mid after
+        → HasLooked before after }
 {}
 
 /// What the law says of each view alone: its worker, its turn, its mark in hand and the numbers that it has seen are within their

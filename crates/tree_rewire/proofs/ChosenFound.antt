@@ -11,10 +11,8 @@ use Rattle.step_core.proofs.Common.{IsBounded-seen, IsLawfulView, tree_seen, Con
 use Rattle.plan_words.proofs.Common.{numbers_of, weighed, GoesOn}
 use Rattle.plan_words.specs.declared.spots.Found.{Found}
 use Rattle.step_core.specs.declared.views.View.{View}
-use Rattle.tree_rewire.specs.FoundNodes.{IsWeighed, StandsAsFound}
-use Rattle.tree_rewire.specs.NearNodes.{IsBlockedBelow, IsClearTo, IsNextOf, IsNextWord, IsOpenWord, word_through}
-use Rattle.tree_rewire.specs.SeenCosts.{NamesNothing, SeesAnew, SeesPair, seen_cost_through}
-use Rattle.tree_rewire.specs.Spreads.{SeesKnot}
+use Rattle.tree_rewire.proofs.Words.{IsWeighed, StandsAsFound, IsBlockedBelow, IsClearTo, IsNextOf, IsNextWord, IsOpenWord, word_through, NamesNothing}
+use Rattle.tree_rewire.proofs.Words.{SeesAnew, SeesPair, seen_cost_through, SeesKnot}
 use Rattle.tree_rewire.proofs.ChosenParents.{take_read}
 use Rattle.tree_rewire.proofs.CostSteps.{seen_cost_through-same}
 use Rattle.tree_rewire.proofs.FoundLists.{Contains-image, Contains-source}

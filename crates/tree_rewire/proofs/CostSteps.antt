@@ -1,13 +1,13 @@
 -- What steps leave of a pass that show some words anew, one after another.
-use Rattle.std.proofs.Common.{◌≡◌, ℕ, refl, sym, ap, ◌∙◌, subst, arith, inl, inr}
+use Rattle.std.proofs.Common.{◌≡◌, ℕ, ◌+◌, refl, sym, ap, ◌∙◌, subst, arith, inl, inr}
 use Rattle.std.specs.Prelude.{Err, IfErr, IfOk, Ok, Result, unwrap_or}
 use Rattle.grown_runs.proofs.Common.{Point, cost_of, IsPresent, point_of, Word, WritesWord, Best, ChildOf, Count, Counter, FirstOf, PointOf, RecordOf, TreeOf}
 use Rattle.grown_runs.proofs.Common.{cost_in}
-use Rattle.plan_words.proofs.Common.{HasPostedHand, OnlyPosts, BelongsTo, GoesOn, PassState, SharedState, with_view, KeepsHand-trans, BelongsTo-later}
-use Rattle.plan_words.proofs.Common.{GoesOn-refl, GoesOn-trans, HasPostedHand-kept, hand-posted}
-use Rattle.step_core.proofs.Common.{IsLawfulView, loaded, saw, WritesWord-looked, SeesNode, sees, tree_seen, point_at-kept}
+use Rattle.plan_words.proofs.Common.{OnlyPosts, BelongsTo, GoesOn, PassState, SharedState, with_view, HasLooked-loaded, HasLooked-refl, KeepsOrPosts-trans}
+use Rattle.plan_words.proofs.Common.{BelongsTo-later, GoesOn-refl, GoesOn-trans}
+use Rattle.step_core.proofs.Common.{HasLooked, HasLooked-trans, IsLawfulView, last_look, loaded, saw, sees, tree_seen, point_at-kept}
 use Rattle.step_core.specs.declared.views.View.{View}
-use Rattle.tree_rewire.specs.SeenCosts.{IsLoadedSince, NamesNothing, NamesPoint, NamesTreeOrPoint, NamesTree, PassLowers, PassSees, SeesAnew, seen_cost_through}
+use Rattle.tree_rewire.proofs.Words.{NamesLowered, NamesLoweredOrPoint, NamesNothing, NamesPoint, NamesTree, PassLowers, PassSees, SeesAnew, seen_cost_through}
 use Rattle.tree_rewire.proofs.SeenCosts.{load_shows_none}
 
 -- ---- views
@@ -16,7 +16,9 @@ pub SeesAnew-refl : (which : Word → Type 0) (view : View) → IsLawfulView vie
 SeesAnew-refl which view lawful = record {
   goes_on = GoesOn-refl view lawful;
   others = λ name off. refl;
-  kept = record { crew = refl; most = refl; hand = refl };
+  looked = HasLooked-refl view;
+  kept = record { crew = refl; most = refl; hand = inl refl };
+  held = λ off. refl;
 }
 
 pub SeesAnew-trans : (which : Word → Type 0) (before mid after : View) → SeesAnew which before mid → SeesAnew which mid after
@@ -24,7 +26,9 @@ pub SeesAnew-trans : (which : Word → Type 0) (before mid after : View) → See
 SeesAnew-trans which before mid after one other = record {
   goes_on = GoesOn-trans before mid after one.goes_on other.goes_on;
   others = λ name off. other.others name off ∙ one.others name off;
-  kept = KeepsHand-trans before mid after one.kept other.kept;
+  looked = HasLooked-trans before mid after one.goes_on.later other.goes_on.later one.looked other.looked;
+  kept = KeepsOrPosts-trans before mid after one.kept other.kept;
+  held = λ off. other.held off ∙ one.held off;
 }
 
 pub SeesAnew-more : (few more : Word → Type 0) (before after : View) → ((name : Word) → few name → more name) → SeesAnew few before after
@@ -32,7 +36,9 @@ pub SeesAnew-more : (few more : Word → Type 0) (before after : View) → ((nam
 SeesAnew-more few more before after within one = record {
   goes_on = one.goes_on;
   others = λ name off. one.others name (λ h. off (within name h));
+  looked = one.looked;
   kept = one.kept;
+  held = λ off. one.held (λ h. off (within Best h));
 }
 
 -- ---- passes
@@ -60,19 +66,21 @@ PassSees-more few more shared before after within one = record {
 -- one step on a word
 pub PassSees-saw : (which : Word → Type 0) (shared : SharedState) (before after : PassState) (name : Word) (found left : ℕ)
     → BelongsTo before shared → after ≡ with_view before (saw before.view name found left) → GoesOn before.view after.view
-    → ((other : Word) → ¬ which other → sees after.view other ≡ sees before.view other) → PassSees which shared before after
-PassSees-saw which shared before after name found left belongs is goes_on others =
+    → HasLooked before.view after.view → ((other : Word) → ¬ which other → sees after.view other ≡ sees before.view other) → PassSees which shared before after
+PassSees-saw which shared before after name found left belongs is goes_on looked others =
     let view_is : after.view ≡ saw before.view name found left = ap (λ (p : PassState). p.view) is in
     record {
       belongs = BelongsTo-later shared before after (ap (λ (p : PassState). p.table) is) goes_on belongs;
       sees_anew = record {
         goes_on = goes_on;
         others = others;
+        looked = looked;
         kept = record {
           crew = ap (λ (v : View). v.crew) view_is;
           most = ap (λ (v : View). v.most) view_is;
-          hand = ap (λ (v : View). v.hand) view_is;
+          hand = inl (ap (λ (v : View). v.hand) view_is);
         };
+        held = λ off. ap (λ (v : View). v.hand) view_is;
       };
       view_alone = is ∙ ap (with_view before) (sym view_is);
     }
@@ -80,86 +88,94 @@ PassSees-saw which shared before after name found left belongs is goes_on others
 -- the tree word of a node is loaded
 pub PassSees-tree : (shared : SharedState) (before after : PassState) (n word value : ℕ) → BelongsTo before shared
     → after ≡ with_view before (loaded before.view (TreeOf n) word) → GoesOn before.view after.view
-    → WritesWord (TreeOf n) value (sees before.view) (sees after.view) → PassSees NamesTree shared before after
-PassSees-tree shared before after n word value belongs is goes_on writes =
+    → WritesWord (TreeOf n) value (sees before.view) (sees after.view)
+    → WritesWord (TreeOf n) (before.view.steps + 1) (last_look before.view) (last_look after.view) → PassSees NamesTree shared before after
+PassSees-tree shared before after n word value belongs is goes_on writes looked =
     PassSees-saw NamesTree shared before after (TreeOf n) word word belongs is goes_on
+    (HasLooked-loaded before.view after.view (TreeOf n) value writes looked (ap (λ (p : PassState). p.view.best) is))
     (λ other off. writes.others other (λ same. off (subst NamesTree (sym same) tt)))
-
--- and so its last look is this step
-pub IsLoadedSince-tree : (before after : PassState) (n word : ℕ) → IsLawfulView before.view → SeesNode before.view n
-    → after ≡ with_view before (loaded before.view (TreeOf n) word) → IsLoadedSince before.view.steps after.view n
-IsLoadedSince-tree before after n word lawful node is =
-    let looks = WritesWord-looked before.view.run before.view lawful.of_run (TreeOf n) (lawful.within n node) word word in
-    subst (λ v. IsLoadedSince before.view.steps v n) (sym (ap (λ (p : PassState). p.view) is)) (omega (arith, looks.here))
 
 -- the point of a node that is seen with it is loaded again
 pub PassSees-point : (shared : SharedState) (before after : PassState) (n word value : ℕ) → BelongsTo before shared
     → IsPresent (tree_seen before.view).points n → after ≡ with_view before (loaded before.view (PointOf n) word) → GoesOn before.view after.view
-    → WritesWord (PointOf n) value (sees before.view) (sees after.view) → PassSees NamesNothing shared before after
-PassSees-point shared before after n word value belongs present is goes_on writes =
+    → WritesWord (PointOf n) value (sees before.view) (sees after.view)
+    → WritesWord (PointOf n) (before.view.steps + 1) (last_look before.view) (last_look after.view) → PassSees NamesNothing shared before after
+PassSees-point shared before after n word value belongs present is goes_on writes looked =
     PassSees-saw NamesNothing shared before after (PointOf n) word word belongs is goes_on
+    (HasLooked-loaded before.view after.view (PointOf n) value writes looked (ap (λ (p : PassState). p.view.best) is))
     (λ other off. load_shows_none before.view after.view goes_on n value present writes other)
 
 -- the point of any seen node is loaded
 pub PassSees-any_point : (shared : SharedState) (before after : PassState) (n word value : ℕ) → BelongsTo before shared
     → after ≡ with_view before (loaded before.view (PointOf n) word) → GoesOn before.view after.view
-    → WritesWord (PointOf n) value (sees before.view) (sees after.view) → PassSees NamesPoint shared before after
-PassSees-any_point shared before after n word value belongs is goes_on writes =
+    → WritesWord (PointOf n) value (sees before.view) (sees after.view)
+    → WritesWord (PointOf n) (before.view.steps + 1) (last_look before.view) (last_look after.view) → PassSees NamesPoint shared before after
+PassSees-any_point shared before after n word value belongs is goes_on writes looked =
     PassSees-saw NamesPoint shared before after (PointOf n) word word belongs is goes_on
+    (HasLooked-loaded before.view after.view (PointOf n) value writes looked (ap (λ (p : PassState). p.view.best) is))
     (λ other off. writes.others other (λ same. off (subst NamesPoint (sym same) tt)))
-
--- the hand has posted its node still, if it had
-pub HasPostedHand-later : (which : Word → Type 0) (before after : View) → SeesAnew which before after → HasPostedHand before → HasPostedHand after
-HasPostedHand-later which before after steps = HasPostedHand-kept before after steps.goes_on.later.run steps.kept.hand
 
 -- the cost of a node is lowered, or another word was found
 pub PassSees-lower : (shared : SharedState) (before after : PassState) (n word value : ℕ) (result : Result Unit (ℕ × ℕ)) → BelongsTo before shared
-    → HasPostedHand before.view → IfOk result (λ done. OnlyPosts n before after)
-    → IfErr result (λ pair. after ≡ with_view before (loaded before.view (TreeOf n) word)) → GoesOn before.view after.view
-    → WritesWord (TreeOf n) value (sees before.view) (sees after.view) → PassSees NamesTree shared before after
-PassSees-lower shared before after n word value (Ok done) belongs posted posts found goes_on writes = record {
+    → IfOk result (λ done. OnlyPosts n before after) → IfErr result (λ pair. after ≡ with_view before (loaded before.view (TreeOf n) word))
+    → GoesOn before.view after.view → WritesWord (TreeOf n) value (sees before.view) (sees after.view) → HasLooked before.view after.view
+    → PassSees NamesLowered shared before after
+PassSees-lower shared before after n word value (Ok done) belongs posts found goes_on writes looked = record {
   belongs = BelongsTo-later shared before after (ap (λ (p : PassState). p.table) posts.pass) goes_on belongs;
   sees_anew = record {
     goes_on = goes_on;
-    others = λ other off. writes.others other (λ same. off (subst NamesTree (sym same) tt));
+    others = λ other off. writes.others other (λ same. off (subst NamesLowered (sym same) tt));
+    looked = looked;
     kept = record {
       crew = posts.crew;
       most = posts.most;
       hand = elim posts.hand [
-        | inl same ↦ same
-        | inr (goal, noted) ↦ noted ∙ hand-posted before.view n goes_on.was_lawful posted goal
+        | inl same ↦ inl same
+        | inr (goal, noted) ↦ inr (n, noted)
       ];
     };
+    held = λ off. absurd (off tt);
   };
   view_alone = posts.pass;
 }
-PassSees-lower shared before after n word value (Err pair) belongs posted posts found goes_on writes =
-    PassSees-tree shared before after n word value belongs found goes_on writes
+PassSees-lower shared before after n word value (Err pair) belongs posts found goes_on writes looked =
+    PassSees-saw NamesLowered shared before after (TreeOf n) word word belongs found goes_on looked
+    (λ other off. writes.others other (λ same. off (subst NamesLowered (sym same) tt)))
 
--- both kinds of words
-pub TreeOrPoint-tree : (name : Word) → NamesTree name → NamesTreeOrPoint name
-TreeOrPoint-tree (TreeOf n) h = h
-TreeOrPoint-tree (PointOf n) h = absurd h
-TreeOrPoint-tree Count h = absurd h
-TreeOrPoint-tree Best h = absurd h
-TreeOrPoint-tree (Counter g) h = absurd h
-TreeOrPoint-tree (ChildOf n side) h = absurd h
-TreeOrPoint-tree (FirstOf n) h = absurd h
-TreeOrPoint-tree (RecordOf k) h = absurd h
+-- words of one kind are of another
+pub Lowered-tree : (name : Word) → NamesTree name → NamesLowered name
+Lowered-tree Count h = absurd h
+Lowered-tree Best h = absurd h
+Lowered-tree (Counter g) h = absurd h
+Lowered-tree (PointOf n) h = absurd h
+Lowered-tree (ChildOf n side) h = absurd h
+Lowered-tree (TreeOf n) h = h
+Lowered-tree (FirstOf n) h = absurd h
+Lowered-tree (RecordOf k) h = absurd h
 
-pub TreeOrPoint-point : (name : Word) → NamesPoint name → NamesTreeOrPoint name
-TreeOrPoint-point (PointOf n) h = h
-TreeOrPoint-point (TreeOf n) h = absurd h
-TreeOrPoint-point Count h = absurd h
-TreeOrPoint-point Best h = absurd h
-TreeOrPoint-point (Counter g) h = absurd h
-TreeOrPoint-point (ChildOf n side) h = absurd h
-TreeOrPoint-point (FirstOf n) h = absurd h
-TreeOrPoint-point (RecordOf k) h = absurd h
+pub LoweredOrPoint-lowered : (name : Word) → NamesLowered name → NamesLoweredOrPoint name
+LoweredOrPoint-lowered Count h = absurd h
+LoweredOrPoint-lowered Best h = h
+LoweredOrPoint-lowered (Counter g) h = absurd h
+LoweredOrPoint-lowered (PointOf n) h = absurd h
+LoweredOrPoint-lowered (ChildOf n side) h = absurd h
+LoweredOrPoint-lowered (TreeOf n) h = h
+LoweredOrPoint-lowered (FirstOf n) h = absurd h
+LoweredOrPoint-lowered (RecordOf k) h = absurd h
+
+pub LoweredOrPoint-point : (name : Word) → NamesPoint name → NamesLoweredOrPoint name
+LoweredOrPoint-point Count h = absurd h
+LoweredOrPoint-point Best h = absurd h
+LoweredOrPoint-point (Counter g) h = absurd h
+LoweredOrPoint-point (PointOf n) h = h
+LoweredOrPoint-point (ChildOf n side) h = absurd h
+LoweredOrPoint-point (TreeOf n) h = absurd h
+LoweredOrPoint-point (FirstOf n) h = absurd h
+LoweredOrPoint-point (RecordOf k) h = absurd h
 
 -- ---- passes that lower costs
 
-pub PassLowers-sees : (shared : SharedState) (before after : PassState) → PassSees NamesTreeOrPoint shared before after → PassLowers shared before after
+pub PassLowers-sees : (shared : SharedState) (before after : PassState) → PassSees NamesLoweredOrPoint shared before after → PassLowers shared before after
 PassLowers-sees shared before after one = record {
   belongs = one.belongs;
   sees_anew = one.sees_anew;
@@ -172,7 +188,7 @@ pub PassLowers-trans : (shared : SharedState) (before mid after : PassState) →
     → PassLowers shared before after
 PassLowers-trans shared before mid after one other = record {
   belongs = other.belongs;
-  sees_anew = SeesAnew-trans NamesTreeOrPoint before.view mid.view after.view one.sees_anew other.sees_anew;
+  sees_anew = SeesAnew-trans NamesLoweredOrPoint before.view mid.view after.view one.sees_anew other.sees_anew;
   near = other.near ∙ one.near;
   around = other.around ∙ one.around;
   search = other.search ∙ one.search;
@@ -183,7 +199,7 @@ pub PassLowers-lists : (shared : SharedState) (before after : PassState) → Bel
     → after.view ≡ before.view → after.lists.near ≡ before.lists.near → after.lists.around ≡ before.lists.around → after.lists.search ≡ before.lists.search
     → PassLowers shared before after
 PassLowers-lists shared before after belongs table view near around search =
-    let sees_anew = subst (SeesAnew NamesTreeOrPoint before.view) (sym view) (SeesAnew-refl NamesTreeOrPoint before.view belongs.lawful) in
+    let sees_anew = subst (SeesAnew NamesLoweredOrPoint before.view) (sym view) (SeesAnew-refl NamesLoweredOrPoint before.view belongs.lawful) in
     record {
       belongs = BelongsTo-later shared before after table sees_anew.goes_on belongs;
       sees_anew = sees_anew;

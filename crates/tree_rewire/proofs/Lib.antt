@@ -16,3 +16,4 @@ pub mod SkippedNodes
 pub mod RewiredFound
 pub mod RewiredTrees
 pub mod LoweredBelow
+mod Words

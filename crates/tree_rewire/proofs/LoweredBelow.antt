@@ -7,7 +7,7 @@ use Rattle.plan_words.proofs.Common.{IsOn, GoesOn-refl, GoesOn-trans}
 use Rattle.step_core.proofs.Common.{IsLawfulView, sees}
 use Rattle.grown_runs.proofs.Common.{TreeOf, cost_in}
 use Rattle.step_core.specs.declared.views.View.{View}
-use Rattle.tree_rewire.specs.SeenCosts.{NamesTreeOrPoint, PassLowers, SeesPair, cost_seen}
+use Rattle.tree_rewire.specs.SeenCosts.{NamesLoweredOrPoint, PassLowers, SeesPair, cost_seen}
 use Rattle.tree_rewire.specs.Spreads.{IsSpreading, IsWithinParent, IsWithinSeenParent, NoneRises, OnlyAt, QueuesFallen, SpreadsFrom}
 use Rattle.tree_rewire.proofs.LoweredCosts.{IsWithinParent-below}
 use Rattle.tree_rewire.proofs.SeenCosts.{SeesPair-later, cost_seen-later}
@@ -23,8 +23,10 @@ PassLowers-looks shared before after belongs looks near around search = record {
   sees_anew = record {
     goes_on = looks.goes_on;
     others = λ name off.
-        looks.others name (λ n. (λ e. off (subst NamesTreeOrPoint (sym e) tt), λ e. off (subst NamesTreeOrPoint (sym e) tt)));
+        looks.others name (λ n. (λ e. off (subst NamesLoweredOrPoint (sym e) tt), λ e. off (subst NamesLoweredOrPoint (sym e) tt)));
+    looked = looks.looked;
     kept = looks.kept;
+    held = λ off. absurd (off tt);
   };
   near = near;
   around = around;

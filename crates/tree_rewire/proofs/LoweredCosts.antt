@@ -4,8 +4,7 @@ use Rattle.grown_runs.proofs.Common.{Point, cost_of, IsAllowedEdge, IsPresent, p
 use Rattle.plan_words.specs.Parents.{IsPairIn}
 use Rattle.step_core.proofs.Common.{IsLawfulView, MayLower, SeesPoint, sees, setup_in, tree_seen}
 use Rattle.step_core.specs.declared.views.View.{View}
-use Rattle.tree_rewire.specs.SeenCosts.{SeesPair, cost_seen, seen_cost_through, parent_seen}
-use Rattle.tree_rewire.specs.Spreads.{IsWithinSeenParent, IsWithinParent}
+use Rattle.tree_rewire.proofs.Words.{SeesPair, cost_seen, seen_cost_through, parent_seen, IsWithinSeenParent, IsWithinParent}
 
 -- a node may be lowered to less than it was seen to cost, through a seen parent over an allowed edge
 pub MayLower-less : (view : View) (n parent cost : ℕ) (at from : Point) → SeesPoint view n at → SeesPair view n → SeesPoint view parent from

@@ -6,9 +6,7 @@ use Rattle.grown_runs.proofs.Common.{sum-parent, sums-tight, KeepsOrder-falls, P
 use Rattle.plan_words.proofs.Common.{SeesAsBefore, HasWholeShare}
 use Rattle.step_core.proofs.Common.{IsLater, IsLawfulView, state_of_links, run_sizes, sees, setup_in, tree_seen, point_at-kept}
 use Rattle.step_core.specs.declared.views.View.{View}
-use Rattle.tree_rewire.specs.Mirrors.{Mirrors}
-use Rattle.tree_rewire.specs.SeenCosts.{SeesPair, cost_seen, seen_cost_through, parent_seen}
-use Rattle.tree_rewire.specs.Spreads.{AllTight}
+use Rattle.tree_rewire.proofs.Words.{Mirrors, SeesPair, cost_seen, seen_cost_through, parent_seen, AllTight}
 use Rattle.tree_rewire.proofs.TightCosts.{IsPresent-linked, IsPresent-unlinked}
 
 -- if all words are seen as before, so is the tree

@@ -10,11 +10,7 @@ use Rattle.step_core.specs.declared.views.View.{View}
 use Rattle.tree_rewire.proofs.ChosenFound.{AllWeighed-seen}
 use Rattle.tree_rewire.proofs.FoundLists.{numbers-weighed}
 use Rattle.tree_rewire.proofs.SeenCosts.{SeesPair-later, stands_later}
-use Rattle.tree_rewire.specs.NearNodes.{AreKnown, StandOn, nodes_on, weighed_on}
-use Rattle.tree_rewire.specs.SeenCosts.{IsInReach, SeesPair}
-use Rattle.tree_rewire.specs.Spreads.{SeesKnot}
-use Rattle.tree_rewire.specs.declared.near_nodes.NearNodes.{NearNodes}
-use Rattle.tree_rewire.specs.declared.near_nodes.NearNodes.TheVariants.{Listed, Searched}
+use Rattle.tree_rewire.proofs.Words.{AreKnown, StandOn, nodes_on, weighed_on, IsInReach, SeesPair, SeesKnot, NearNodes, Listed, Searched}
 
 -- they stay while these lists do
 pub nodes_on-kept : (among : NearNodes) (before after : Lists) → after.near ≡ before.near → after.search ≡ before.search

@@ -15,12 +15,9 @@ use Rattle.plan_words.proofs.Common.{is_dearer, numbers_of, HasWholeShare, tree_
 use Rattle.plan_words.specs.declared.spots.Found.{Found}
 use Rattle.step_core.proofs.Common.{IsLawfulView, tree_seen, SeesPoint}
 use Rattle.step_core.specs.declared.views.View.{View}
-use Rattle.tree_rewire.specs.FoundNodes.{AreOf, IsWeighed}
-use Rattle.tree_rewire.specs.Mirrors.{Mirrors}
+use Rattle.tree_rewire.proofs.Words.{AreOf, IsWeighed, Mirrors, HasPlaced, IsInReach, cost_seen}
 use Rattle.step_core.specs.declared.views.Hand.{Hand}
 use Rattle.tree_rewire.proofs.RewiredNodes.{placed_cost}
-use Rattle.tree_rewire.specs.Rewirings.{HasPlaced}
-use Rattle.tree_rewire.specs.SeenCosts.{IsInReach, cost_seen}
 use Rattle.tree_rewire.proofs.FoundLists.{Contains-image, Contains-kept, kept_passes}
 use Rattle.tree_rewire.proofs.MirroredTrees.{CostsFall-seen}
 use Rattle.tree_rewire.proofs.SkippedNodes.{IsNoDearer, Rewires-some}

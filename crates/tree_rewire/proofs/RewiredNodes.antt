@@ -9,8 +9,7 @@ use Rattle.step_core.specs.declared.views.Hand.{Hand}
 use Rattle.step_core.specs.declared.views.Stage.{Stage}
 use Rattle.step_core.specs.declared.views.Stage.TheVariants.{Claimed, Counted, Half, Linked, Pointed, Posted, Treed}
 use Rattle.step_core.specs.declared.views.View.{View}
-use Rattle.tree_rewire.specs.Rewirings.{HasPlaced}
-use Rattle.tree_rewire.specs.SeenCosts.{IsInReach, SeesPair, cost_seen}
+use Rattle.tree_rewire.proofs.Words.{HasPlaced, IsInReach, SeesPair, cost_seen}
 use Rattle.tree_rewire.proofs.ChosenParents.{points_later}
 use Rattle.tree_rewire.proofs.SeenCosts.{SeesPair-later, cost_seen-later}
 

@@ -8,9 +8,7 @@ use Rattle.grown_runs.proofs.Common.{WritesWord, PointOf, TreeOf, cost_in, paren
 use Rattle.plan_words.specs.States.{GoesOn, HasWholeShare}
 use Rattle.step_core.proofs.Common.{IsLater, IsLawfulView, SeesPoint, sees, tree_seen, point_at-kept}
 use Rattle.step_core.specs.declared.views.View.{View}
-use Rattle.tree_rewire.specs.Mirrors.{Mirrors}
-use Rattle.tree_rewire.specs.SeenCosts.{SeesPair, cost_seen, seen_cost_through, parent_seen}
-use Rattle.tree_rewire.specs.Spreads.{AllTight, AllTightBut, IsTight, KeepsParents, SeesKnot}
+use Rattle.tree_rewire.proofs.Words.{Mirrors, SeesPair, cost_seen, seen_cost_through, parent_seen, AllTight, AllTightBut, IsTight, KeepsParents, SeesKnot}
 use Rattle.tree_rewire.proofs.MirroredTrees.{AllTight-mirrored, Mirrors-tight}
 use Rattle.tree_rewire.proofs.SeenCosts.{SeesPair-later, pair_low}
 

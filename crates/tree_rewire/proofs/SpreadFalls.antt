@@ -5,9 +5,8 @@ use Rattle.grown_runs.proofs.Common.{Point, Clear, ConfigurationSpace, cost_of, 
 use Rattle.plan_words.specs.States.{GoesOn}
 use Rattle.step_core.proofs.Common.{SeesPoint, sees, tree_seen, IsPresent-later}
 use Rattle.step_core.specs.declared.views.View.{View}
-use Rattle.tree_rewire.specs.Rewirings.{CostsLess, HangsElsewhere, HasSpreadFalls, IsInFall, IsShortcut}
-use Rattle.tree_rewire.specs.SeenCosts.{SeesPair, cost_seen, seen_cost_through, parent_seen}
-use Rattle.tree_rewire.specs.Spreads.{HasSettledChanges, HasSpread, IsWithinParent}
+use Rattle.tree_rewire.proofs.Words.{CostsLess, HangsElsewhere, HasSpreadFalls, IsInFall, IsShortcut, SeesPair, cost_seen, seen_cost_through, parent_seen}
+use Rattle.tree_rewire.proofs.Words.{HasSettledChanges, HasSpread, IsWithinParent}
 use Rattle.tree_rewire.proofs.ChosenParents.{points_later}
 use Rattle.tree_rewire.proofs.SeenCosts.{SeesPair-later, cost_seen-later, stands_later}
 use Rattle.tree_rewire.proofs.SpreadCosts.{IsWithinParent-later}

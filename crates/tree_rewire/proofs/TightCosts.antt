@@ -6,8 +6,7 @@ use Rattle.grown_runs.proofs.Common.{cost_of, KeepsOrder, IsPresent, point_at, p
 use Rattle.step_core.proofs.Common.{IsLater, IsLawfulView, linked_points, state_of_links, run_sizes, sees, setup_in, tree_seen, point_at-kept}
 use Rattle.step_core.proofs.Common.{linked_points-seen}
 use Rattle.step_core.specs.declared.views.View.{View}
-use Rattle.tree_rewire.specs.SeenCosts.{cost_seen, seen_cost_through, parent_seen}
-use Rattle.tree_rewire.specs.Spreads.{AllTight, AllTightBut, HasSpread, IsSource, KeepsParents, SeesKnot}
+use Rattle.tree_rewire.proofs.Words.{cost_seen, seen_cost_through, parent_seen, AllTight, AllTightBut, HasSpread, IsSource, KeepsParents, SeesKnot}
 
 -- ---- the order law of what is seen
 

@@ -7,8 +7,7 @@ use Rattle.step_core.proofs.Common.{sees, same_name}
 use Rattle.grown_runs.proofs.Common.{Word, WritesWord, Best, ChildOf, Count, Counter, FirstOf, PointOf, RecordOf, TreeOf, cost_in, parent_in}
 use Rattle.step_core.specs.declared.views.SharedRun.{SharedRun}
 use Rattle.step_core.specs.declared.views.View.{View}
-use Rattle.tree_rewire.specs.SeenCosts.{NamesNothing, NamesTree, SeesAnew, SeesPair, cost_seen, parent_seen}
-use Rattle.tree_rewire.specs.Spreads.{KeepsParents}
+use Rattle.tree_rewire.proofs.Words.{NamesNothing, NamesTree, SeesAnew, SeesPair, cost_seen, parent_seen, KeepsParents}
 
 -- the share stays whole
 pub HasWholeShare-later : (which : Word → Type 0) (before after : View) → SeesAnew which before after → HasWholeShare before → HasWholeShare after

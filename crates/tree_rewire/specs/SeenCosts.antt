@@ -4,11 +4,12 @@ use Rattle.plan_model.specs.declared.geometry.Point.{Point}
 use Rattle.plan_model.specs.Geometry.Plane.{squared_distance}
 use Rattle.plan_model.specs.Trees.NodeLists.{cost_through_by}
 use Rattle.plan_model.specs.Trees.PointsByNumber.{IsPresent, point_of}
-use Rattle.plan_words.specs.Claims.{KeepsHand}
+use Rattle.plan_words.specs.Bests.{KeepsOrPosts}
 use Rattle.plan_words.specs.States.{BelongsTo, GoesOn, PassState, SharedState, with_view}
+use Rattle.step_core.specs.LaterViews.{HasLooked}
 use Rattle.step_core.specs.Views.{last_look, sees, tree_seen}
 use Rattle.grown_runs.specs.Table.WordNames.{ChangesOnly, Word}
-use Rattle.grown_runs.specs.Table.WordNames.Word.{PointOf, TreeOf}
+use Rattle.grown_runs.specs.Table.WordNames.Word.{Best, PointOf, TreeOf}
 use Rattle.grown_runs.specs.Table.Words.{cost_in, parent_in}
 use Rattle.step_core.specs.declared.views.View.{View}
 
@@ -55,17 +56,27 @@ abbrev pub NamesPoint : Word → Type 0
 NamesPoint (PointOf n) = Unit {0}
 NamesPoint _ = ⊥
 
--- the name is of either
-abbrev pub NamesTreeOrPoint : Word → Type 0
-NamesTreeOrPoint (PointOf n) = Unit {0}
-NamesTreeOrPoint (TreeOf n) = Unit {0}
-NamesTreeOrPoint _ = ⊥
+-- the name is of a node's parent and cost, or of the best word: a node that is lowered may be posted
+abbrev pub NamesLowered : Word → Type 0
+NamesLowered (TreeOf n) = Unit {0}
+NamesLowered Best = Unit {0}
+NamesLowered _ = ⊥
 
--- What was seen stays seen, and of all words none is seen anew but these. Share, limit and hand stay.
+-- it is of one of these, or of a node's point
+abbrev pub NamesLoweredOrPoint : Word → Type 0
+NamesLoweredOrPoint (PointOf n) = Unit {0}
+NamesLoweredOrPoint (TreeOf n) = Unit {0}
+NamesLoweredOrPoint Best = Unit {0}
+NamesLoweredOrPoint _ = ⊥
+
+-- What was seen stays seen, and of all words none is seen anew but these; what is seen otherwise was looked at by a step since. Share and limit stay, and
+-- so does the hand, but that it may have noted a post of its node, if the best word is one of these.
 pub record SeesAnew (which : Word → Type 0) (before after : View) : Type 0 where
   pub goes_on : GoesOn before after
   pub others : ChangesOnly which (sees before) (sees after)
-  pub kept : KeepsHand before after
+  pub looked : HasLooked before after
+  pub kept : KeepsOrPosts before after
+  pub held : ¬ which Best → after.hand ≡ before.hand
 
 -- A pass of this tree does so, and nothing but its view changes.
 pub record PassSees (which : Word → Type 0) (shared : SharedState) (before after : PassState) : Type 0 where
@@ -76,7 +87,7 @@ pub record PassSees (which : Word → Type 0) (shared : SharedState) (before aft
 -- A pass of this tree sees parents, costs and points anew. Its near list, its second list and that of its search stay.
 pub record PassLowers (shared : SharedState) (before after : PassState) : Type 0 where
   pub belongs : BelongsTo after shared
-  pub sees_anew : SeesAnew NamesTreeOrPoint before.view after.view
+  pub sees_anew : SeesAnew NamesLoweredOrPoint before.view after.view
   pub near : after.lists.near ≡ before.lists.near
   pub around : after.lists.around ≡ before.lists.around
   pub search : after.lists.search ≡ before.lists.search

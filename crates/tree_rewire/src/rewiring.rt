@@ -9,7 +9,7 @@ ghost use Rattle.plan_model.specs.Geometry.Cost.{cost_of};
 ghost use Rattle.plan_model.specs.Runs.OrderLaw.{IsAllowedEdge};
 ghost use Rattle.plan_model.specs.Trees.PointsByNumber.{IsPresent, point_of};
 ghost use Rattle.plan_model.specs.Runs.Textbook.{Nodes, Rewires, RewiresOne};
-ghost use Rattle.plan_words.specs.Bests.{HasPostedGoals, HasPostedHand};
+ghost use Rattle.plan_words.specs.Bests.{HasPostedGoals};
 ghost use Rattle.plan_words.specs.Claims.{SeesAsBefore};
 ghost use Rattle.plan_words.specs.SearchLists.{numbers_of};
 ghost use Rattle.plan_words.specs.States.{BelongsTo, HasWholeShare};
@@ -22,7 +22,7 @@ ghost use Rattle.tree_rewire.specs.FoundNodes.{AreOf, IsWeighed};
 ghost use Rattle.tree_rewire.specs.Mirrors.{Mirrors};
 ghost use Rattle.tree_rewire.specs.NearNodes.{nodes_on};
 ghost use Rattle.tree_rewire.specs.Rewirings.{HasPlaced, HasSpreadFalls};
-ghost use Rattle.tree_rewire.specs.SeenCosts.{IsInReach, NamesTreeOrPoint, NamesTree, PassLowers, PassSees, SeesAnew, SeesPair, cost_seen};
+ghost use Rattle.tree_rewire.specs.SeenCosts.{IsInReach, NamesLowered, NamesLoweredOrPoint, NamesTree, PassLowers, PassSees, SeesAnew, SeesPair, cost_seen};
 ghost use Rattle.tree_rewire.specs.Spreads.{OnlyAt};
 
 use crate::near_nodes::NearNodes;
@@ -35,21 +35,20 @@ use swept_check::Clearing;
 
 /// Rewires the nodes on the near list, in their order, once the node of mark k is placed: it becomes the parent of each that
 /// is then strictly cheaper, over a clear edge, and what fell is [spread] before the next is looked at. Each near node is seen
-/// with its point, at most a step from the new one; without any, nothing changes. The pass has a share, and has posted its new node
-/// if that lies in a goal by which marks are skipped. Each such node that is lowered is posted.
+/// with its point, at most a step from the new one; without any, nothing changes. The pass has a share. Each node that is lowered
+/// and lies in a goal by which marks are skipped is posted.
 ///
 /// An edge is tested only if the node would be cheaper than it was seen to be last. Another pass may lower the node first, or give
 /// it another parent; it is lowered again only while it is still dearer. O(n) for n near nodes, and what the spreads take.
 pub fn rewire<C: Clearing>(shared: &Shared, pass: &mut Pass, hall: &C, k: u32)
     requires belongs { BelongsTo pass.old shared.now }
     requires part { 0 < share pass.old.view }
-    requires posted { HasPostedHand pass.old.view }
     requires hall { C.space hall.now ≡ space_of shared.now.task.scene }
     requires hand { IsSome pass.old.view.hand }
     requires placed { IfSome pass.old.view.hand (λ hand. HasPlaced pass.old.view k hand) }
     requires near { IfSome pass.old.view.hand (λ hand. All (IsInReach pass.old.view hand.point) pass.old.lists.near) }
     ensures belongs { BelongsTo pass.new shared.now }
-    ensures seen { SeesAnew NamesTreeOrPoint pass.old.view pass.new.view }
+    ensures seen { SeesAnew NamesLoweredOrPoint pass.old.view pass.new.view }
     ensures lists { (pass.new.lists.near ≡ pass.old.lists.near) × (pass.new.lists.around ≡ pass.old.lists.around)
         × (pass.new.lists.search ≡ pass.old.lists.search) }
     ensures pairs { All (SeesPair pass.new.view) pass.old.lists.near }
@@ -78,14 +77,13 @@ pub fn rewire<C: Clearing>(shared: &Shared, pass: &mut Pass, hall: &C, k: u32)
 pub fn rewire_found<C: Clearing>(shared: &Shared, pass: &mut Pass, hall: &C, k: u32)
     requires belongs { BelongsTo pass.old shared.now }
     requires part { 0 < share pass.old.view }
-    requires posted { HasPostedHand pass.old.view }
     requires hall { C.space hall.now ≡ space_of shared.now.task.scene }
     requires hand { IsSome pass.old.view.hand }
     requires placed { IfSome pass.old.view.hand (λ hand. HasPlaced pass.old.view k hand) }
     requires near { IfSome pass.old.view.hand (λ hand. All (IsInReach pass.old.view hand.point) (numbers_of pass.old.lists.search.found)) }
     requires weighed { IfSome pass.old.view.hand (λ hand. All (IsWeighed pass.old.view hand.point) pass.old.lists.search.found) }
     ensures belongs { BelongsTo pass.new shared.now }
-    ensures seen { SeesAnew NamesTreeOrPoint pass.old.view pass.new.view }
+    ensures seen { SeesAnew NamesLoweredOrPoint pass.old.view pass.new.view }
     ensures lists { (pass.new.lists.near ≡ pass.old.lists.near) × (pass.new.lists.around ≡ pass.old.lists.around) }
     ensures pairs { All (SeesPair pass.new.view) (numbers_of pass.old.lists.search.found) }
     // each found node with a clear edge costs no more than through the new node, by the cost that this was placed at
@@ -110,13 +108,12 @@ pub fn rewire_found<C: Clearing>(shared: &Shared, pass: &mut Pass, hall: &C, k: 
 fn rewire_each<C: Clearing>(shared: &Shared, pass: &mut Pass, hall: &C, k: u32, among: NearNodes)
     requires belongs { BelongsTo pass.old shared.now }
     requires part { 0 < share pass.old.view }
-    requires posted { HasPostedHand pass.old.view }
     requires hall { C.space hall.now ≡ space_of shared.now.task.scene }
     requires hand { IsSome pass.old.view.hand }
     requires placed { IfSome pass.old.view.hand (λ hand. HasPlaced pass.old.view k hand) }
     requires near { IfSome pass.old.view.hand (λ hand. All (IsInReach pass.old.view hand.point) (nodes_on among pass.old.lists)) }
     ensures belongs { BelongsTo pass.new shared.now }
-    ensures seen { SeesAnew NamesTreeOrPoint pass.old.view pass.new.view }
+    ensures seen { SeesAnew NamesLoweredOrPoint pass.old.view pass.new.view }
     ensures lists { (pass.new.lists.near ≡ pass.old.lists.near) × (pass.new.lists.around ≡ pass.old.lists.around)
         × (pass.new.lists.search ≡ pass.old.lists.search) }
     ensures pairs { All (SeesPair pass.new.view) (nodes_on among pass.old.lists) }
@@ -148,7 +145,6 @@ fn rewire_node<C: Clearing>(
 )
     requires belongs { BelongsTo pass.old shared.now }
     requires part { 0 < share pass.old.view }
-    requires posted { HasPostedHand pass.old.view }
     requires hall { C.space hall.now ≡ space_of shared.now.task.scene }
     requires parent { SeesPoint pass.old.view parent from }
     requires parent_pair { SeesPair pass.old.view parent }
@@ -193,7 +189,6 @@ fn known_cost(shared: &Shared, pass: &mut Pass, node: u32) -> u64
 fn improve(shared: &Shared, pass: &mut Pass, parent: u32, from: Point, node: u32, to: Point)
     requires belongs { BelongsTo pass.old shared.now }
     requires part { 0 < share pass.old.view }
-    requires posted { HasPostedHand pass.old.view }
     requires parent { SeesPoint pass.old.view parent from }
     requires parent_pair { SeesPair pass.old.view parent }
     requires node { SeesPoint pass.old.view node to }
@@ -202,7 +197,7 @@ fn improve(shared: &Shared, pass: &mut Pass, parent: u32, from: Point, node: u32
     requires edge { IsAllowedEdge (setup_in pass.old.view.run) from to }
     requires from { IsBounded from }
     requires to { IsBounded to }
-    ensures steps { PassSees NamesTree shared.now pass.old pass.new }
+    ensures steps { PassSees NamesLowered shared.now pass.old pass.new }
     ensures others { OnlyAt node pass.old.view pass.new.view }
     ensures most { cost_seen pass.new.view node ≤ cost_seen pass.old.view parent + cost_of from to }
     ensures goals { HasWholeShare pass.old.view → HasPostedGoals pass.old.view → HasPostedGoals pass.new.view }

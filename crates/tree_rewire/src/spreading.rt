@@ -1,12 +1,12 @@
 //! A lowered cost comes to the subtree of its node.
 
 ghost use Rattle.std.specs.Prelude.{◌≡◌, ◌<◌, IfNone, IfSome};
-ghost use Rattle.plan_words.specs.Bests.{HasPostedGoals, HasPostedHand};
+ghost use Rattle.plan_words.specs.Bests.{HasPostedGoals};
 ghost use Rattle.plan_words.specs.Claims.{SeesAsBefore};
 ghost use Rattle.plan_words.specs.States.{BelongsTo, HasWholeShare};
 ghost use Rattle.step_core.specs.ViewTrees.{MayLower};
 ghost use Rattle.step_core.specs.Views.{share};
-ghost use Rattle.tree_rewire.specs.SeenCosts.{NamesPoint, NamesTreeOrPoint, PassLowers, PassSees, SeesAnew, SeesPair, parent_seen};
+ghost use Rattle.tree_rewire.specs.SeenCosts.{NamesPoint, NamesLoweredOrPoint, PassLowers, PassSees, SeesAnew, SeesPair, parent_seen};
 ghost use Rattle.tree_rewire.specs.Spreads.{AllTight, AllTightBut, HasSettledChanges, HasSpread, IsWithinSeenParent, KeepsParents};
 ghost use Rattle.tree_rewire.specs.Spreads.{NoneRises, OnlyAt, QueuesFallen, SpreadsFrom};
 
@@ -15,18 +15,17 @@ use plan_words::{Pass, Shared};
 
 /// Lowers the subtree of a node whose cost fell: each child that costs more than through its parent, both as the pass has seen them
 /// last, and so on from each node whose cost falls. Children are those by the parents that were seen last; without any, nothing
-/// changes. The node is seen with its parent and its cost. The pass has a share, and has posted the node in its hand if that is counted
-/// and lies in a goal by which marks are skipped. Each such node that is lowered is posted.
+/// changes. The node is seen with its parent and its cost. The pass has a share. Each node that is lowered and lies in a goal by which
+/// marks are skipped is posted.
 ///
 /// It loads no costs; an exchange that fails shows what the node costs by now, and with whatever parent. The sum of the costs seen
 /// falls with each exchange, so it ends. O(k) for k children of the node and of those that fell, if no other pass comes between.
 pub fn spread(shared: &Shared, pass: &mut Pass, node: u32)
     requires belongs { BelongsTo pass.old shared.now }
     requires part { 0 < share pass.old.view }
-    requires posted { HasPostedHand pass.old.view }
     requires pair { SeesPair pass.old.view node }
     ensures belongs { BelongsTo pass.new shared.now }
-    ensures seen { SeesAnew NamesTreeOrPoint pass.old.view pass.new.view }
+    ensures seen { SeesAnew NamesLoweredOrPoint pass.old.view pass.new.view }
     ensures lists { (pass.new.lists.near ≡ pass.old.lists.near) × (pass.new.lists.around ≡ pass.old.lists.around)
         × (pass.new.lists.search ≡ pass.old.lists.search) }
     // by what is seen then, each child of the node, and of each node whose cost fell, costs no more than through its parent
@@ -51,7 +50,6 @@ pub fn spread(shared: &Shared, pass: &mut Pass, node: u32)
 fn lower_below(shared: &Shared, pass: &mut Pass, node: u32)
     requires belongs { BelongsTo pass.old shared.now }
     requires part { 0 < share pass.old.view }
-    requires posted { HasPostedHand pass.old.view }
     requires pair { SeesPair pass.old.view node }
     ensures steps { PassLowers shared.now pass.old pass.new }
     ensures spreads { SpreadsFrom node pass.old pass.new }
@@ -71,9 +69,8 @@ fn lower_below(shared: &Shared, pass: &mut Pass, node: u32)
 fn settle(shared: &Shared, pass: &mut Pass, node: u32)
     requires belongs { BelongsTo pass.old shared.now }
     requires part { 0 < share pass.old.view }
-    requires posted { HasPostedHand pass.old.view }
     requires pair { SeesPair pass.old.view node }
-    ensures steps { PassSees NamesTreeOrPoint shared.now pass.old pass.new }
+    ensures steps { PassSees NamesLoweredOrPoint shared.now pass.old pass.new }
     ensures others { OnlyAt node pass.old.view pass.new.view }
     ensures settled { IsWithinSeenParent pass.new.view node }
 {

@@ -4,7 +4,7 @@ use Rattle.std.specs.Prelude.{All, IfSome}
 use Rattle.kd_shared.specs.Placings.{IsPlacing}
 use Rattle.kd_shared.specs.declared.placing.Placing.{Placing}
 use Rattle.kd_shared.specs.declared.placing.Placing.TheVariants.{Placed, Same}
-use Rattle.plan_words.proofs.Common.{HasPostedHand, BelongsTo, GoesOn, PassState, SharedState, at_hand, if_hand}
+use Rattle.plan_words.proofs.Common.{BelongsTo, GoesOn, PassState, SharedState, at_hand, if_hand}
 use Rattle.step_core.specs.Views.{share}
 use Rattle.step_core.specs.declared.views.Hand.{Hand}
 use Rattle.step_core.specs.declared.views.Stage.TheVariants.{Counted}
@@ -14,17 +14,16 @@ use Rattle.growing_tests.specs.LoweredNodes.HeldMarks.{HasNearInReach, IfPlaced,
 use Rattle.growing_tests.proofs.LoweredNodes.ReachedNodes.{All-in_reach-later}
 
 pub MayRewire-placed : (shared : SharedState) (before after : PassState) (k : ℕ) (hand : Hand) (result : Placing) → BelongsTo after shared
-    → 0 < share after.view → HasPostedHand after.view → GoesOn before.view after.view → before.view.hand ≡ Some hand → hand.mark ≡ k → HasNearInReach before
+    → 0 < share after.view → GoesOn before.view after.view → before.view.hand ≡ Some hand → hand.mark ≡ k → HasNearInReach before
     → after.lists.near ≡ before.lists.near → IfSome before.view.hand (λ h. IsPlacing after.view h result) → IfPlaced result (MayRewire shared k after)
-MayRewire-placed shared before after k hand (Same j) belongs part posted goes_on held mark reach near placing = tt
-MayRewire-placed shared before after k hand Placed belongs part posted goes_on held mark reach near placing =
+MayRewire-placed shared before after k hand (Same j) belongs part goes_on held mark reach near placing = tt
+MayRewire-placed shared before after k hand Placed belongs part goes_on held mark reach near placing =
     let placed = at_hand (λ h. IsPlacing after.view h Placed) before.view.hand hand held placing in
     let counted : Hand = record hand { stage = Counted } in
     let all = at_hand (λ h. All (IsInReach before.view h.point) before.lists.near) before.view.hand hand held reach in
     record {
       belongs = belongs;
       part = part;
-      posted = posted;
       hand = IsSome-placed after.view hand placed;
       placed = HasPlaced-placed after.view k hand placed mark;
       near = if_hand (λ h. All (IsInReach after.view h.point) after.lists.near) after.view.hand counted placed.counted

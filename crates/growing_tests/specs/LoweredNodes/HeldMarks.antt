@@ -2,7 +2,6 @@
 use Rattle.std.specs.Prelude.{◌≡◌, ℕ, ◌<◌, Some, All, IfSome, IsSome}
 use Rattle.kd_shared.specs.declared.placing.Placing.{Placing}
 use Rattle.kd_shared.specs.declared.placing.Placing.TheVariants.{Placed, Same}
-use Rattle.plan_words.specs.Bests.{HasPostedHand}
 use Rattle.plan_words.specs.States.{BelongsTo, PassState, SharedState}
 use Rattle.step_core.specs.Views.{share}
 use Rattle.step_core.specs.declared.views.Hand.{Hand}
@@ -10,11 +9,10 @@ use Rattle.step_core.specs.declared.views.Stage.{Stage}
 use Rattle.tree_rewire.specs.Rewirings.{HasPlaced}
 use Rattle.tree_rewire.specs.SeenCosts.{IsInReach}
 
--- a pass of the tree that has a share, and has posted the node in its hand if that is counted and lies in a goal by which marks are skipped
+-- a pass of the tree that has a share
 pub record IsAtWork (shared : SharedState) (pass : PassState) : Type 0 where
   pub belongs : BelongsTo pass shared
   pub part : 0 < share pass.view
-  pub posted : HasPostedHand pass.view
 
 -- such a pass with the mark in hand, which has come so far; its point is steered from this node, if it is written
 pub record HoldsMark (shared : SharedState) (k : ℕ) (stage : Stage) (nearest : ℕ) (pass : PassState) : Type 0 where
@@ -34,7 +32,6 @@ HasNearInReach pass = IfSome pass.view.hand (λ hand. All (IsInReach pass.view h
 pub record MayRewire (shared : SharedState) (k : ℕ) (pass : PassState) : Type 0 where
   pub belongs : BelongsTo pass shared
   pub part : 0 < share pass.view
-  pub posted : HasPostedHand pass.view
   pub hand : IsSome pass.view.hand
   pub placed : IfSome pass.view.hand (λ hand. HasPlaced pass.view k hand)
   pub near : HasNearInReach pass

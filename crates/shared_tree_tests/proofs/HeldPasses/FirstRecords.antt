@@ -7,9 +7,9 @@ use Rattle.std.proofs.lemmas.List.Sums.{length-filter}
 use Rattle.grown_runs.proofs.Common.{Clear, mark_at, space_of, cost_of, is_goal_point, IsNotAbove, distance_to, is_placed, IsPresent, point_of, class_of}
 use Rattle.grown_runs.proofs.Common.{is_earlier_record, Point, Placed, Record, below_digits, class_from_powers, count-single, IsPresent-stands, point_of-stands}
 use Rattle.grown_runs.proofs.Common.{record_at, ChildOf, Count, TreeOf, cost_in}
-use Rattle.plan_words.proofs.Common.{PassState, SharedState, run_in, with_view, at_hand, if_hand, no_goals}
-use Rattle.step_core.proofs.Common.{IsLater, IsLawfulView, IsUnskipped, MayBePlaced, MayEnd, MayRecord, is_own_node, own_count, own_first_cost, counted}
-use Rattle.step_core.proofs.Common.{last_fill, linked, loaded, SeesPoint, sees, setup_in, tree_seen, SeesPoint-later}
+use Rattle.plan_words.proofs.Common.{HasLinked, PassState, SharedState, run_in, with_view, at_hand, if_hand, no_goals}
+use Rattle.step_core.proofs.Common.{IsLater, IsLawfulView, IsUnskipped, MayBePlaced, MayEnd, MayRecord, is_own_node, own_count, own_first_cost}
+use Rattle.step_core.proofs.Common.{loaded, SeesPoint, sees, setup_in, tree_seen, SeesPoint-later}
 use Rattle.step_core.specs.declared.views.Hand.{Hand}
 use Rattle.step_core.specs.declared.views.Stage.{Stage}
 use Rattle.step_core.specs.declared.views.Stage.TheVariants.{Counted, Posted, Treed}
@@ -85,12 +85,11 @@ module _ (before after : View) (later : IsLater before after) where
 -- and so after a link that was tried
 pub HangsFromStart-linked :
     {A : Type 0} (old new : PassState) (cost n : ℕ) (side : Bool) (result : Result A ℕ) → IsLater old.view new.view → HangsFromStart cost old.view
-    → IfOk result (λ _. IfSome old.view.hand (λ hand. new ≡ with_view old (counted (linked old.view hand n side (last_fill new.view)) hand)))
+    → IfOk result (λ _. IfSome old.view.hand (HasLinked old new n side))
     → IfErr result (λ c. new ≡ with_view old (loaded old.view (ChildOf n side) c)) → HangsFromStart cost new.view
 HangsFromStart-linked old new cost n side (Ok u) later hung is other =
     HangsFromStart-later old.view new.view later cost hung Counted
-    (ap (λ p. p.view.hand) (at_hand (λ hand. new ≡ with_view old (counted (linked old.view hand n side (last_fill new.view)) hand)) old.view.hand
-    hung.hand hung.held is))
+    (ap (λ p. p.view.hand) (at_hand (HasLinked old new n side) old.view.hand hung.hand hung.held is))
 HangsFromStart-linked old new cost n side (Err c) later hung is other =
     HangsFromStart-kept old.view new.view later cost hung (ap (λ p. p.view.hand) other)
 
@@ -146,7 +145,6 @@ module _ (view : View) (hand : Hand) (entry : Record) (cost : ℕ) (lawful : IsL
       entry.outcome ≡ Placed → entry.first_parent ≡ 0 → entry.first_cost ≡ cost → entry.class ≡ 1 → 1 ≤ sees view Count → MayRecord view hand entry
   MayRecord-first outcome parent cost_is class some =
       subst (MayEnd view hand entry) (sym outcome) record {
-        unskipped = subst (IsUnskipped view) same_hand hung.unskipped;
         present = subst (IsPresent (tree_seen view).points) (sym nearest) (IsPresent-stands (tree_seen view).points 0 hung.start hung.seen);
         nearest = λ i own. (
             let alone = own_start view entry first i own in
@@ -175,7 +173,7 @@ module _ (view : View) (hand : Hand) (entry : Record) (cost : ℕ) (lawful : IsL
             subst
             (λ n. (2 ^ 63 ≤ sees view (TreeOf n)) × (cost_in (sees view (TreeOf n)) ≤ hand.cost + cost_of (point_of (tree_seen view).points n) hand.point))
             (sym alone) (hung.written, omega (arith, ((lawful.pairs 0 hung.written).start refl).1)));
-        posted = posted;
+        posted = (posted, (lawful.tree.holds hand held).posted);
       }
 
 pub may_finish :

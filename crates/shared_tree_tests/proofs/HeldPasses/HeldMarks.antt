@@ -1,8 +1,8 @@
 -- A mark stays in hand while its pass looks, and when its node is linked.
 use Rattle.std.proofs.Common.{◌≡◌, ℕ, Bool, refl, ap, ◌∙◌}
 use Rattle.std.specs.Prelude.{Err, IfErr, IfOk, IfSome, Ok, Result}
-use Rattle.plan_words.proofs.Common.{GoesOn, PassState, SharedState, with_view, BelongsTo-later, at_hand}
-use Rattle.step_core.specs.ViewSteps.{counted, last_fill, linked, loaded}
+use Rattle.plan_words.proofs.Common.{GoesOn, HasLinked, PassState, SharedState, with_view, BelongsTo-later, at_hand}
+use Rattle.step_core.specs.ViewSteps.{loaded}
 use Rattle.grown_runs.specs.Table.WordNames.Word.{ChildOf}
 use Rattle.step_core.specs.declared.views.Stage.{Stage}
 use Rattle.step_core.specs.declared.views.Stage.TheVariants.{Counted, Treed}
@@ -24,12 +24,11 @@ HoldsMark-kept shared k stage before after view is same goes_on holds = record {
 pub HoldsMark-linked :
     {A : Type 0} (shared : SharedState) (k n : ℕ) (side : Bool) (before after : PassState) (result : Result A ℕ)
     → HoldsMark shared k Treed before → GoesOn before.view after.view
-    → IfOk result (λ _. IfSome before.view.hand (λ hand. after ≡ with_view before (counted (linked before.view hand n side (last_fill after.view)) hand)))
+    → IfOk result (λ _. IfSome before.view.hand (HasLinked before after n side))
     → IfOk result (λ _. HoldsMark shared k Counted after)
 HoldsMark-linked shared k n side before after (Err c) holds goes_on is = tt
 HoldsMark-linked shared k n side before after (Ok u) holds goes_on is =
-    let done = at_hand (λ hand. after ≡ with_view before (counted (linked before.view hand n side (last_fill after.view)) hand)) before.view.hand
-    holds.hand holds.held is in
+    let done = at_hand (HasLinked before after n side) before.view.hand holds.hand holds.held is in
     record {
       belongs = BelongsTo-later shared before after (ap (λ (p : PassState). p.table) done) goes_on holds.belongs;
       hand = record holds.hand { stage = Counted };

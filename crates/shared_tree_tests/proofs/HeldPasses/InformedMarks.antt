@@ -5,7 +5,8 @@ use Rattle.std.specs.Prelude.{◌==◌}
 use Rattle.std.proofs.lemmas.Bool.{cases_lt, eq-eqb}
 use Rattle.grown_runs.proofs.Common.{lies_in_goals, goals-some, TreeOf, best_of_word}
 use Rattle.plan_words.proofs.Common.{GoesOn, PassState, SharedState, run_in, with_view, BelongsTo-later, goal-at}
-use Rattle.step_core.proofs.Common.{IsLawfulView, IsInformed, MayPost, has_link, best_loaded, best_taken, hand_with_best, hand_with_post, post_noted, with_best}
+use Rattle.step_core.proofs.Common.{IsLawfulView, IsInformed, MayPost, has_link, best_loaded, best_taken, hand_with_best, hand_with_post, last_note}
+use Rattle.step_core.proofs.Common.{post_noted, with_post}
 use Rattle.step_core.proofs.Common.{SeesPoint, sees, share}
 use Rattle.step_core.specs.declared.views.Hand.{Hand}
 use Rattle.step_core.specs.declared.views.Stage.TheVariants.{Claimed, Counted, Posted}
@@ -78,7 +79,7 @@ pub lies_here : (shared : SharedState) (view : View) (hand : Hand) → view.run 
 lies_here shared view hand run informed lies = ap (λ goals. lies_in_goals goals hand.point) (goals_are shared view run informed) ∙ lies
 
 module _ (shared : SharedState) (k n : ℕ) (before after : PassState) (holds : HoldsMark shared k Counted before) (own : n ≡ suc holds.hand.mark)
-    (is : after ≡ with_view before (with_best before.view after.view.best (hand_with_post before.view.hand n))) (goes_on : GoesOn before.view after.view) where
+    (is : after ≡ with_view before (with_post before.view n after.view.best (last_note after.view))) (goes_on : GoesOn before.view after.view) where
   noted : after.view.hand ≡ Some (record holds.hand { stage = Posted })
   noted =
       ap (λ (p : PassState). p.view.hand) is ∙ ap (λ o. hand_with_post o n) holds.held

@@ -29,12 +29,14 @@ module _ (view : View) (hand : Hand) (entry : Record) (seen : SeesPoint view 0 (
   stays = sym (steered-near _ _ view.run.step (omega (arith, at_mark)))
 
   MayRecord-start : entry.outcome ≡ Same 0 → MayRecord view hand entry
-  MayRecord-start outcome = subst (MayEnd view hand entry) (sym outcome) record {
-    unskipped = λ informed. absurd (informed none);
-    present = subst (IsPresent (tree_seen view).points) (sym nearest) (IsPresent-stands (tree_seen view).points 0 (mark_at view.run.marks hand.mark) seen);
-    nearest = λ i own. record { least = omega (arith, at_mark); first = λ e. omega (arith, nearest) };
-    outcome = subst (SeesPoint view 0) stays seen;
-  }
+  MayRecord-start outcome = subst (MayEnd view hand entry) (sym outcome) (
+    λ informed. absurd (informed none),
+    record {
+      present = subst (IsPresent (tree_seen view).points) (sym nearest) (IsPresent-stands (tree_seen view).points 0 (mark_at view.run.marks hand.mark) seen);
+      nearest = λ i own. record { least = omega (arith, at_mark); first = λ e. omega (arith, nearest) };
+      outcome = subst (SeesPoint view 0) stays seen;
+    },
+  )
 
 pub may_finish-start :
     (view : View) (hand : Hand) (entry : Record) → view.hand ≡ Some hand → SeesPoint view 0 (mark_at view.run.marks hand.mark) → entry.nearest ≡ 0

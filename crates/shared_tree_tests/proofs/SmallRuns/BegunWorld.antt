@@ -13,10 +13,13 @@ use Rattle.grown_runs.proofs.Common.{PointOf, RecordOf, TreeOf, HasWord, Sizes, 
 use Rattle.grown_runs.proofs.Common.{IsStartWord, AreBehind-refl, word_at-none}
 use Rattle.step_core.proofs.Common.{linked_points, SeesNode, SeesTree, IsViewOf, run_sizes, sees, setup_in, share, spent, times, took_over, tree_seen, Agree}
 use Rattle.step_core.proofs.Common.{EachView, IsMember, IsWorld, SeesBest, Trees, counters, state_in, IsPresent-seen, linked-present, point_at-seen}
-use Rattle.step_core.proofs.Common.{seen-within, zero-read, IsWrittenFor, AreBehind-nothing, HasFirst, HasTree, AreSeenLawfully-all}
+use Rattle.step_core.proofs.Common.{last_seen, last_seen-table, HasNoted, same_name, seen-within, zero-read, IsWrittenFor, AreBehind-nothing}
+use Rattle.step_core.proofs.Common.{HasFirst, HasTree, AreSeenLawfully-all}
 use Rattle.grown_runs.specs.Table.WordPlaces.{word_at}
+use Rattle.step_core.specs.Notes.{IsNoted}
 use Rattle.step_core.specs.declared.views.Hand.{Hand}
 use Rattle.step_core.specs.declared.views.Member.{Member}
+use Rattle.step_core.specs.declared.views.Note.{Note}
 use Rattle.step_core.specs.declared.views.SharedRun.{SharedRun}
 use Rattle.step_core.specs.declared.views.View.{View}
 use Rattle.shared_tree_tests.specs.SmallRuns.SmallWorlds.{idle, never, small_run, start_table, view_with, worker_at}
@@ -238,6 +241,17 @@ saw_none view run best none = record {
     least : words Best ≡ no_best
     least = refl
 
+-- nothing is noted, and each word is seen as it is
+none_noted : (note : Note) → ¬ IsNoted (one ∷ other ∷ []) note
+none_noted note now = both (λ u. ¬ HasNoted u note) (λ has. has) (λ has. has) now.id now.view now.at now.has
+
+as_it_is : (view : View) → sees view ≡ words → view.best ≡ words Best → (name : Word) → last_seen view name ≡ words name
+as_it_is view seen best name =
+    elim (same_name name Best) [
+      | inl is ↦ subst (λ m. last_seen view m ≡ words m) (sym is) best
+      | inr off ↦ last_seen-table view name off ∙ ap (λ s. s name) seen
+    ]
+
 pub IsWorld-begun : IsWorld small_run words (one ∷ other ∷ [])
 unfolding word_at
 IsWorld-begun = record {
@@ -300,7 +314,14 @@ IsWorld-begun = record {
   sights = both (λ u. u.run ≡ small_run → SeesTree u) (λ of. SeesTree-one) (λ of. SeesTree-other);
   copies = λ name told. record { id = 0; view = one; at = refl; run_is = refl; part = omega arith; same = refl };
   best_copy = record { id = 0; view = one; at = refl; run_is = refl; part = omega arith; same = refl };
-  empties = record { made = λ place i. inl refl; filled = λ n side some_child. absurd (some_child (no_child n side)) };
+  notes = record {
+    made = λ note now. absurd (none_noted note now);
+    still = λ note now. absurd (none_noted note now);
+    fresh = λ i u e live note now. absurd (none_noted note now);
+    noted = λ i u e live name may differs. absurd (differs (both (λ v. last_seen v name ≡ words name) (as_it_is one refl refl name)
+        (as_it_is other refl refl name) i u e));
+  };
+  empties = λ n side some_child. absurd (some_child (no_child n side));
   best = record { pair = λ some_node. absurd (some_node refl); placed = λ n node goal. absurd (no_goal_node (linked_points sizes words) n goal) };
   bests = both (λ u. u.run ≡ small_run → SeesBest small_run words u) (λ of. saw_none one refl refl (λ hand e. cc))
       (λ of. saw_none other refl refl (λ hand e. cc));

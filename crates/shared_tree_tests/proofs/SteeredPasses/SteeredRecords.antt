@@ -75,7 +75,6 @@ module _ (view : View) (nearest : ℕ) (entry : Record) (lawful : IsLawfulView v
   -- so the mark may end with what it may be at that point
   MaySteer-steered : (MayEndAt : Point → Type 0) → MayEndAt steers.hand.point → MaySteer view steers.hand entry MayEndAt
   MaySteer-steered MayEndAt ended = record {
-    unskipped = λ informed. absurd (informed none);
     present = subst (IsPresent (tree_seen view).points) (sym is) (present_nearest view nearest lawful steers);
     nearest = λ i own.
         subst (λ m. IsNotAbove (distance_to (mark_at view.run.marks steers.hand.mark) (tree_seen view).points) m i) (sym is)
@@ -93,8 +92,10 @@ pub may_finish-same :
     → entry.outcome ≡ Same j → IfSome view.hand (λ h. MayRecord view h entry)
 may_finish-same view nearest j entry none lawful steers seen is outcome =
     let same : seen.hand ≡ steers.hand = cc (seen.held, steers.held) in
-    MayRecord-steered view nearest entry lawful steers is none (Same j) outcome
-    (MaySteer-steered view nearest entry lawful steers is none (SeesPoint view j) (subst (λ h. SeesPoint view j h.point) same seen.stands))
+    MayRecord-steered view nearest entry lawful steers is none (Same j) outcome (
+      λ informed. absurd (informed none),
+      MaySteer-steered view nearest entry lawful steers is none (SeesPoint view j) (subst (λ h. SeesPoint view j h.point) same seen.stands),
+    )
 
 module _ (view : View) (nearest cost : ℕ) (entry : Record) (lawful : IsLawfulView view) (hangs : HangsBelowNearest nearest cost view)
     (linked : has_link hangs.steers.hand.stage ≡ true) (gamma : view.run.gamma ≡ 0)
@@ -128,7 +129,10 @@ module _ (view : View) (nearest cost : ℕ) (entry : Record) (lawful : IsLawfulV
         high = omega (arith, class);
         chosen = λ i near. absurd (no_neighbour i near);
         rewired = λ i near. absurd (no_neighbour i near);
-        posted = λ goal. (let gone = subst (λ goals. IsTrue (is_goal_point goals (Some hand.point))) none goal in cc);
+        posted = (
+          λ goal. (let gone = subst (λ goals. IsTrue (is_goal_point goals (Some hand.point))) none goal in cc),
+          (lawful.tree.holds hand hangs.steers.held).posted,
+        );
       } in
       MayRecord-steered view nearest entry lawful hangs.steers is none Placed outcome
       (MaySteer-steered view nearest entry lawful hangs.steers is none (λ p. MayBePlaced view hand entry) placed)

@@ -58,6 +58,14 @@ pub record AllowedStepVectors : Type 0 where
 abbrev pub waited : View
 waited = record (idle claimed_table) { steps = 5; looked = 4 ∷ replicate 13 0; found_zero = found_right 5 }
 
+-- the step that looked at the best word, and a view that left it so by this step
+abbrev pub looked_best : List ℕ
+looked_best = 0 ∷ 4 ∷ replicate 12 0
+
+abbrev pub left_best : ℕ → View → View
+left_best best view =
+    record view { steps = 4; best = best; looked = looked_best; notes = record { place = 1; word = best; steps = 4 ∷ [] } ∷ [] }
+
 pub record StepVectors : Type 0 where
   -- a load of the child to the right of node 0, which is there, and of one that is not
   pub load_of_a_child :
@@ -71,10 +79,11 @@ pub record StepVectors : Type 0 where
         found_zero = found_right 4;
       }
   pub claim :
-      claimed (idle (table 1 0 (start_above 0) no_node 0)) 0 0 1
+      claimed (idle (table 1 0 (start_above 0) no_node 0)) 0 0 1 (3 ∷ 4 ∷ [])
       ≡ record (view_with (worker_at 1 0) 1 (Some (new_hand 0)) claimed_table (0 ∷ 0 ∷ 4 ∷ replicate 11 0) []) {
         steps = 4;
         looked = 0 ∷ 0 ∷ 4 ∷ replicate 11 0;
+        notes = record { place = 2; word = 1; steps = 3 ∷ 4 ∷ [] } ∷ [];
       }
   -- of the mark that worker 0 has in hand, one that the other has linked
   pub join :
@@ -83,21 +92,21 @@ pub record StepVectors : Type 0 where
   -- a load of the best word, and that of one with a node of its own in hand
   pub load_of_the_best :
       best_loaded (handling (new_hand 0) claimed_table) (best_word 9 7)
-      ≡ record (handling (took_best (best_word 9 7)) claimed_table) { steps = 4; best = best_word 9 7 }
+      ≡ record (handling (took_best (best_word 9 7)) claimed_table) { steps = 4; best = best_word 9 7; looked = looked_best }
   pub load_that_is_not_taken :
       best_loaded (handling (hand_at Pointed 0 0) claimed_table) (best_word 9 7)
-      ≡ record (handling (hand_at Pointed 0 0) claimed_table) { steps = 4; best = best_word 9 7 }
+      ≡ record (handling (hand_at Pointed 0 0) claimed_table) { steps = 4; best = best_word 9 7; looked = looked_best }
   -- a post of node 1 at the cost 1280, where the best cost was greater and where it was less
   pub post_of_the_node_in_hand :
-      posted (handling (hand_at Counted 0 1280) linked_table) 1 (best_word 1281 0)
-      ≡ record (handling (hand_at Posted 0 1280) linked_table) { steps = 4; best = best_word 1280 1 }
+      posted (handling (hand_at Counted 0 1280) linked_table) 1 (best_word 1281 0) (4 ∷ [])
+      ≡ left_best (best_word 1280 1) (handling (hand_at Posted 0 1280) linked_table)
   pub post_of_a_dearer_node :
-      posted (handling (hand_at Linked 0 1280) linked_table) 1 (best_word 1280 0)
-      ≡ record (handling (hand_at Linked 0 1280) linked_table) { steps = 4; best = best_word 1280 0 }
+      posted (handling (hand_at Linked 0 1280) linked_table) 1 (best_word 1280 0) (4 ∷ [])
+      ≡ left_best (best_word 1280 0) (handling (hand_at Linked 0 1280) linked_table)
   pub post_of_another_node :
-      posted (handling (hand_at Counted 0 1280) linked_table) 0 no_best
-      ≡ record (handling (hand_at Counted 0 1280) linked_table) { steps = 4; best = best_word 0 0 }
-  pub new_looker : looker waited ≡ record waited { crew = []; found_zero = never }
+      posted (handling (hand_at Counted 0 1280) linked_table) 0 no_best (4 ∷ [])
+      ≡ left_best (best_word 0 0) (handling (hand_at Counted 0 1280) linked_table)
+  pub new_looker : looker waited ≡ record waited { crew = []; looked = never; found_zero = never }
   pub first_view :
       newcomer small_run claimed_table
       ≡ record (view_with (worker_at 0 0 ++ worker_at 1 0) 0 None claimed_table never []) { steps = 0 }
@@ -153,6 +162,9 @@ pub record UnlawfulViewVectors : Type 0 where
   pub linked_without_first_word :
       ¬ IsLawfulView (handling (hand_at Linked 0 1280) (table 1 1 (start_above 1) (node_by (point_word (at 8 9)) 0 (tree_word 0 1280) 0) 0))
   pub seen_before_it_is_linked : ¬ IsLawfulView (handling (hand_at Treed 0 1280) linked_table)
+  pub went_on_past_a_best :
+      ¬ IsLawfulView (with_goal (best_word 1280 1) (handling (record (hand_at Pointed 0 0) { best = Some (best_word 1280 1) }) claimed_table))
+  pub posted_in_no_goal : ¬ IsLawfulView (handling (hand_at Posted 0 1280) linked_table)
   pub parent_fits_no_word : ¬ IsLawfulView (handling (hand_at Half (2 ^ 18) 1280) claimed_table)
   pub cost_fits_no_word : ¬ IsLawfulView (handling (hand_at Half 0 (2 ^ 44)) claimed_table)
   -- parents, costs and numbers
@@ -170,6 +182,7 @@ pub record UnlawfulViewVectors : Type 0 where
   pub counter_past_the_marks : ¬ IsLawfullySeen (table 1 2 (start_above 0) no_node 0)
   -- the best word
   pub best_past_a_recorded_goal_node : ¬ IsLawfulView (with_goal (best_word 1281 1) (idle (recorded_table 0)))
+  pub best_past_the_marks : ¬ IsLawfulView (with_goal (best_word 1280 2) (idle claimed_table))
   pub took_less_than_the_best : ¬ IsLawfulView (with_goal (best_word 1280 1) (handling (took_best (best_word 1279 1)) claimed_table))
   -- with the share of both workers
   pub whole_below_its_edge :

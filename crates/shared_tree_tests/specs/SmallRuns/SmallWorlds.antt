@@ -1,5 +1,5 @@
 -- Words of a small shared run with the views of two passes, and worlds that differ from a lawful one in one thing.
-use Rattle.std.specs.Prelude.{ℕ, ◌+◌, ◌^◌, Option, Some, None, List, [], ◌∷◌, ◌++◌, replicate}
+use Rattle.std.specs.Prelude.{ℕ, ◌+◌, ◌^◌, Option, Some, None, List, [], ◌∷◌, ◌++◌, replicate, slice_set}
 use Rattle.plan_model.specs.Spaces.EmptyRooms.{empty_room}
 use Rattle.plan_model.specs.Vectors.Overlaps.{placed_by}
 use Rattle.plan_model.specs.Vectors.Shapes.{at}
@@ -7,9 +7,9 @@ use Rattle.step_core.specs.Views.{words_of_run}
 use Rattle.step_core.specs.ViewSteps.{new_hand}
 use Rattle.grown_runs.specs.Table.Words.{best_word, no_best, point_word, record_word, tree_word}
 use Rattle.step_core.specs.Worlds.{IsWorld}
-use Rattle.step_core.specs.declared.views.Fill.{Fill}
 use Rattle.step_core.specs.declared.views.Hand.{Hand}
 use Rattle.step_core.specs.declared.views.Member.{Member}
+use Rattle.step_core.specs.declared.views.Note.{Note}
 use Rattle.step_core.specs.declared.views.SharedRun.{SharedRun}
 use Rattle.step_core.specs.declared.views.Stage.{Stage}
 use Rattle.step_core.specs.declared.views.Stage.TheVariants.{Counted, Half, Linked, Pointed, Posted, Treed}
@@ -88,8 +88,8 @@ hand_at stage parent cost = record { mark = 0; stage = stage; best = None; neare
 abbrev pub never : List ℕ
 never = replicate 14 0
 
-abbrev pub view_with : List Member → ℕ → Option Hand → List ℕ → List ℕ → List Fill → View
-view_with crew most hand seen found_zero fills =
+abbrev pub view_with : List Member → ℕ → Option Hand → List ℕ → List ℕ → List Note → View
+view_with crew most hand seen found_zero notes =
     record {
       run = small_run;
       crew = crew;
@@ -101,7 +101,7 @@ view_with crew most hand seen found_zero fills =
       steps = 3;
       looked = never;
       found_zero = found_zero;
-      fills = fills;
+      notes = notes;
     }
 
 abbrev pub worker_at : ℕ → ℕ → List Member
@@ -141,8 +141,15 @@ abbrev pub AreLawfulInHand : Hand → List ℕ → Type 0
 AreLawfulInHand hand items = AreLawful items (handling hand items) (idle items)
 
 -- worker 0 filled the place to the right of node 0 when the views had made so many steps
-abbrev pub filled_at : List ℕ → List Fill
-filled_at steps = record { place = 5; steps = steps } ∷ []
+abbrev pub filled_at : List ℕ → List Note
+filled_at steps = record { place = 5; word = 1; steps = steps } ∷ []
+
+-- Worker 0 has this in hand, and left this word at a place when the other had made two steps. The other looked there by its third step, and sees
+-- these words.
+abbrev pub AreLawfulLooks : List ℕ → Hand → ℕ → ℕ → List ℕ → Type 0
+AreLawfulLooks items hand place word seen =
+    AreLawful items (record (handling hand items) { notes = record { place = place; word = word; steps = 3 ∷ 2 ∷ [] } ∷ [] })
+    (record (idle seen) { looked = slice_set never place 3 })
 
 -- the step that found this place empty
 abbrev pub found_right : ℕ → List ℕ
@@ -241,6 +248,15 @@ pub record UnlawfulWorldVectors : Type 0 where
   pub noted_too_many_steps :
       ¬ AreLawful linked_table (view_with (worker_at 0 0) 1 (Some (hand_at Linked 0 1280)) linked_table never (filled_at (3 ∷ 4 ∷ [])))
       (idle linked_table)
+  -- stale looks, and a change that nobody notes
+  pub saw_a_stale_counter : ¬ AreLawfulLooks claimed_table (new_hand 0) 2 1 start_table
+  pub saw_a_stale_count : ¬ AreLawfulLooks (table 2 1 (start_above 1) mark_node 0) (hand_at Counted 0 1280) 0 2 linked_table
+  pub saw_no_child_where_one_was : ¬ AreLawfulLooks linked_table (hand_at Linked 0 1280) 5 1 claimed_table
+  pub saw_a_stale_tree_word :
+      ¬ AreLawfulLooks linked_table (hand_at Linked 0 1280) 11 (tree_word 0 1280)
+      (table 1 1 (start_above 1) (node_by (point_word (at 8 9)) 0 (tree_word 0 1281) (tree_word 0 1280)) 0)
+  pub saw_a_stale_best : ¬ AreLawfulLooks (linked_with (best_word 1280 1)) (hand_at Linked 0 1280) 1 (best_word 1280 1) linked_table
+  pub claim_not_noted : ¬ AreLawful claimed_table claimer (idle start_table)
   pub recorded_by_no_worker :
       ¬ AreLawful (recorded_table 2) (view_with (worker_at 0 0) 1 None (recorded_table 2) never []) (idle (recorded_table 2))
   -- the best word

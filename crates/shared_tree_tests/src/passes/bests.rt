@@ -179,8 +179,16 @@ fn place_in_goal<R: Abort>(rt: &R, alloc: Global, shared: &Shared, first: &mut P
     requires marks { length shared.now.task.marks ≡ 3 }
     requires first { MayClaim shared.now first.old }
 {
-    let hall = sure(rt, Hall::new(alloc, &shared.task().scene));
     claim_mark(rt, shared, first, 0);
+    place_held_in_goal(rt, alloc, shared, first);
+}
+
+/// The same, once the first mark is in its hand.
+fn place_held_in_goal<R: Abort>(rt: &R, alloc: Global, shared: &Shared, first: &mut Pass)
+    requires marks { length shared.now.task.marks ≡ 3 }
+    requires holds { HoldsMark shared.now 0 Claimed first.old }
+{
+    let hall = sure(rt, Hall::new(alloc, &shared.task().scene));
     expect_no_best(rt, shared, first, 0);
     write_from_start(rt, shared, first, 0, GOAL);
     hang_at_cost(rt, shared, &hall, first, 0, 12_800);
@@ -205,6 +213,13 @@ fn claim_and_skip<R: Abort>(
     requires pass { MayClaim shared.now pass.old }
 {
     claim_mark(rt, shared, pass, mark);
+    skip_held(rt, shared, pass, mark, node, cost);
+}
+
+/// Skips the mark in hand by this best.
+fn skip_held<R: Abort>(rt: &R, shared: &Shared, pass: &mut Pass, mark: u32, node: u32, cost: u64)
+    requires holds { HoldsMark shared.now mark Claimed pass.old }
+{
     let Some(best) = load_best(rt, shared, pass, mark) else {
         panic!(rt; "no goal node is known");
     };
@@ -217,6 +232,19 @@ fn a_mark_is_skipped_by_the_node_that_another_pass_posted(rt: HostRuntime) {
     let (shared, mut first, mut second) = two_informed(&rt, rt.alloc(), START);
     place_in_goal(&rt, rt.alloc(), &shared, &mut first);
     claim_and_skip(&rt, &shared, &mut second, 1, 1, 12_800);
+    drop(shared);
+    drop(first);
+    drop(second);
+}
+
+#[test]
+fn a_pass_that_looks_again_finds_what_another_has_posted_since(rt: HostRuntime) {
+    let (shared, mut first, mut second) = two_informed(&rt, rt.alloc(), START);
+    claim_mark(&rt, &shared, &mut first, 0);
+    claim_mark(&rt, &shared, &mut second, 1);
+    expect_no_best(&rt, &shared, &mut second, 1);
+    place_held_in_goal(&rt, rt.alloc(), &shared, &mut first);
+    skip_held(&rt, &shared, &mut second, 1, 1, 12_800);
     drop(shared);
     drop(first);
     drop(second);

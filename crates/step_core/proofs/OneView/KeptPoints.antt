@@ -1,10 +1,6 @@
 -- Points whose words are seen alike are seen alike.
-use Rattle.std.proofs.Common.{◌≡◌, ℕ, ◌<◌, Option, Some, None, is_some, arith, refl, sym, ap, ◌∙◌, inl, inr}
-use Rattle.std.proofs.lemmas.Bool.{cases_lt}
-use Rattle.grown_runs.proofs.Common.{Point, point_at, seen_tree_of_words, Words, PointOf, Sizes, point_of_word}
-use Rattle.step_core.specs.LaterViews.{IsLater}
-use Rattle.step_core.specs.Views.{run_sizes, sees, tree_seen}
-use Rattle.step_core.specs.declared.views.View.{View}
+use Rattle.step_core.proofs.Words.{◌≡◌, ◌<◌, ◌∙◌, ℕ, Option, Some, None, is_some, arith, refl, sym, ap, inl, inr, cases_lt, Point, point_at, seen_tree_of_words}
+use Rattle.step_core.proofs.Words.{Words, PointOf, Sizes, point_of_word, IsLater, run_sizes, sees, tree_seen, View}
 use Rattle.step_core.proofs.Seen.SeenWords.{point_at-seen, seen-within}
 
 -- points that are seen by the same words are the same

@@ -1,17 +1,15 @@
 -- A view is a later one after the words of its node are written, after the node is linked, and after it is counted.
-use Rattle.std.proofs.Common.{ℕ, ◌<◌, ◌≤◌, Bool, List, length, refl, ap, ◌∙◌, inl, inr, arith}
-use Rattle.grown_runs.proofs.Common.{Point, ChildOf, AreBehind-refl}
-use Rattle.step_core.specs.LaterViews.{IsLater}
-use Rattle.step_core.specs.ViewSteps.{counted, half, linked, pointed, treed}
-use Rattle.step_core.specs.Views.{IsViewOf, last_look, last_zero, sees}
-use Rattle.step_core.specs.declared.views.Hand.{Hand}
-use Rattle.step_core.specs.declared.views.SharedRun.{SharedRun}
-use Rattle.step_core.specs.declared.views.View.{View}
+use Rattle.step_core.proofs.Words.{◌<◌, ◌≤◌, ◌∷◌, ◌∙◌, ℕ, Bool, List, length, Option, Some, refl, ap, inl, inr, arith, Point, ChildOf, Count, AreBehind-refl}
+use Rattle.step_core.proofs.Words.{IsLater, counted, half, linked, place_in, pointed, stepped, treed, IsViewOf, last_look, last_zero, sees, Hand, Member, Note}
+use Rattle.step_core.proofs.Words.{SharedRun, Counted, Half, Pointed, Treed, View}
 use Rattle.step_core.proofs.OneView.LinkedViews.{AreBehind-shown, MayShow, WritesWord-look_linked, WritesWord-zero_linked}
 use Rattle.step_core.proofs.Seen.Looks.{same_name}
 
-pub IsLater-pointed : (view : View) (hand : Hand) (m : ℕ) (p : Point) → IsLater view (pointed view hand m p)
-IsLater-pointed view hand m p = record {
+-- a step that looks at no word, whatever it makes of the crew and the hand, and whatever it notes
+pub IsLater-on :
+    (view : View) (crew : List Member) (next : Option Hand) (notes : List Note)
+    → IsLater view (record (stepped view) { crew = crew; hand = next; notes = notes })
+IsLater-on view crew next notes = record {
   run = refl;
   seen = AreBehind-refl (sees view);
   best = omega arith;
@@ -19,36 +17,20 @@ IsLater-pointed view hand m p = record {
   looked = λ name. inl refl;
   zero_found = λ name told. inl refl;
 }
+
+pub IsLater-pointed : (view : View) (hand : Hand) (m : ℕ) (p : Point) → IsLater view (pointed view hand m p)
+IsLater-pointed view hand m p = IsLater-on view view.crew (Some (record hand { stage = Pointed; nearest = m; point = p })) view.notes
 
 pub IsLater-half : (view : View) (hand : Hand) (parent cost : ℕ) → IsLater view (half view hand parent cost)
-IsLater-half view hand parent cost = record {
-  run = refl;
-  seen = AreBehind-refl (sees view);
-  best = omega arith;
-  steps = omega arith;
-  looked = λ name. inl refl;
-  zero_found = λ name told. inl refl;
-}
+IsLater-half view hand parent cost = IsLater-on view view.crew (Some (record hand { stage = Half; parent = parent; cost = cost })) view.notes
 
 pub IsLater-treed : (view : View) (hand : Hand) → IsLater view (treed view hand)
-IsLater-treed view hand = record {
-  run = refl;
-  seen = AreBehind-refl (sees view);
-  best = omega arith;
-  steps = omega arith;
-  looked = λ name. inl refl;
-  zero_found = λ name told. inl refl;
-}
+IsLater-treed view hand = IsLater-on view view.crew (Some (record hand { stage = Treed })) view.notes
 
-pub IsLater-counted : (view : View) (hand : Hand) → IsLater view (counted view hand)
-IsLater-counted view hand = record {
-  run = refl;
-  seen = AreBehind-refl (sees view);
-  best = omega arith;
-  steps = omega arith;
-  looked = λ name. inl refl;
-  zero_found = λ name told. inl refl;
-}
+pub IsLater-counted : (view : View) (hand : Hand) (count : ℕ) (steps : List ℕ) → IsLater view (counted view hand count steps)
+IsLater-counted view hand count steps =
+    let note : Note = record { place = place_in view Count; word = count; steps = steps } in
+    IsLater-on view view.crew (Some (record hand { stage = Counted })) (note ∷ view.notes)
 
 -- if no child was seen where the node is linked, and no other words of it
 pub IsLater-linked :

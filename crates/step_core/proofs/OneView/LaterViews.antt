@@ -1,29 +1,19 @@
 -- A view after steps of its own is a later one, and the law of worlds says of each view alone what `IsLawfulView` says.
-use Rattle.std.proofs.Common.{◌≡◌, ℕ, suc, ◌+◌, ◌<◌, ◌≤◌, ◌^◌, true, List, length, Some, refl, sym, ap, ◌∙◌, subst, inl, inr, arith, le_refl, le_trans}
-use Rattle.std.specs.Prelude.{◌≢◌, ◌⊎◌}
-use lib.ListN.{get_elem?}
-use mathlib.Core.Option.{some}
-use Rattle.std.proofs.lemmas.Bool.{cases_Bool, cases_eq}
-use Rattle.grown_runs.proofs.Common.{is_of_worker, turns_of, count-same, IsBounded, FollowWays, children_of_words, is_linked, record_at, point_word}
-use Rattle.grown_runs.proofs.Common.{record_of_word, AreBehind, MayBecome, WordKind, kind_of, Rising, Once, Falling, Apart, Word, Words, WritesWord, Best}
-use Rattle.grown_runs.proofs.Common.{ChildOf, Count, Counter, FirstOf, PointOf, RecordOf, TreeOf, HasWord, AreBehind-refl, AreBehind-trans}
-use Rattle.step_core.specs.SharedWords.{linked_points}
-use Rattle.step_core.specs.ViewTrees.{MayLoad, SeesTree}
-use Rattle.step_core.specs.LaterViews.{IsLater, IsLawfulView}
-use Rattle.step_core.specs.ViewSteps.{claimed, finished, joined, loaded, parted, saw, stepped}
-use Rattle.step_core.specs.Views.{IsSharedRun, IsViewOf, last_look, last_zero, run_sizes, sees, share}
-use Rattle.step_core.specs.Worlds.{IsWorld, greatest_limit}
-use Rattle.step_core.specs.declared.views.Hand.{Hand}
-use Rattle.step_core.specs.declared.views.Member.{Member}
-use Rattle.step_core.specs.declared.views.SharedRun.{SharedRun}
-use Rattle.step_core.specs.declared.views.View.{View}
-use Rattle.step_core.proofs.Steps.FinishedMarks.{in_hand}
+use Rattle.step_core.proofs.Words.{◌≡◌, ◌+◌, ◌<◌, ◌≤◌, ◌^◌, ◌∙◌, ◌≢◌, ◌⊎◌, ℕ, suc, true, List, length, Some, refl, sym, ap, subst, inl, inr, arith, le_refl}
+use Rattle.step_core.proofs.Words.{le_trans, get_elem?, some, cases_Bool, cases_eq, IsPresent-goal, best_node_in, point_at, is_of_worker, turns_of, count-same}
+use Rattle.step_core.proofs.Words.{IsBounded, FollowWays, children_of_words, is_linked, record_at, point_word, record_of_word, AreBehind, MayBecome, WordKind}
+use Rattle.step_core.proofs.Words.{kind_of, Rising, Once, Falling, Apart, Word, Words, WritesWord, Best, ChildOf, Count, Counter, FirstOf, PointOf, RecordOf}
+use Rattle.step_core.proofs.Words.{TreeOf, HasWord, AreBehind-refl, AreBehind-trans, linked_points, MayLoad, SeesTree, HasLooked, IsLater, IsLawfulView}
+use Rattle.step_core.proofs.Words.{claimed, finished, joined, loaded, parted, saw, stepped, without_second, IsSharedRun, IsViewOf, last_look, last_zero}
+use Rattle.step_core.proofs.Words.{run_sizes, sees, share, IsWorld, greatest_limit, Hand, Member, SharedRun, View}
 use Rattle.step_core.proofs.Seen.Looks.{same_name}
 use Rattle.step_core.proofs.OneView.LawfulPairs.{IsSeenPair-lawful}
+use Rattle.step_core.proofs.OneView.LaterSteps.{IsLater-on}
 use Rattle.step_core.proofs.OneView.LawfulSights.{AreDistinct-seen, FollowSeenWays-seen, SeesNode-within, SeesPoint-start, is_linked-seen}
 use Rattle.step_core.proofs.Parts.LinkedStates.{few_nodes, first_cost-linked, linked-present}
-use Rattle.step_core.proofs.Parts.MarksInHand.{greatest_limit-most}
+use Rattle.step_core.proofs.Parts.MarksInHand.{greatest_limit-most, in_hand}
 use Rattle.step_core.proofs.Seen.SawWords.{AreBehind-write}
+use Rattle.step_core.proofs.Seen.TrueWords.{linked-within}
 use Rattle.step_core.proofs.Seen.SeenByViews.{WritesWord-looked, WritesWord-saw, WritesWord-zero, last_zero-other}
 use Rattle.step_core.proofs.Parts.ViewLists.{sum-one}
 use Rattle.step_core.proofs.Whole.WholeShares.{turn-below, worker-below}
@@ -82,6 +72,20 @@ IsLater-trans before mid after first then = record {
         ]
       ];
 }
+
+-- what was looked at since, where it is seen otherwise, by each of two, was so by both
+pub HasLooked-trans : (before mid after : View) → IsLater before mid → IsLater mid after → HasLooked before mid → HasLooked mid after → HasLooked before after
+HasLooked-trans before mid after first then by_first by_then name =
+    elim (by_then name) [
+      | inr since ↦ inr (omega (arith, since, first.steps))
+      | inl same ↦ elim (by_first name) [
+        | inl was ↦ inl (same ∙ was)
+        | inr since ↦ elim (then.looked name) [
+          | inl kept ↦ inr (omega (arith, kept, since))
+          | inr anew ↦ inr (omega (arith, anew, first.steps))
+        ]
+      ]
+    ]
 
 -- a step on one word
 module _ (run : SharedRun) (view : View) (of_run : IsViewOf run view) (name : Word) (here : HasWord (run_sizes run) name) (found left : ℕ)
@@ -144,8 +148,8 @@ module _ (run : SharedRun) (words : Words) (views : List View) (id : ℕ) (view 
       (subst (MayBecome (kind_of name) (sees view name)) none (world.seen.behind id view at name)))
 
   -- a claim
-  pub IsLater-claimed : (g c limit : ℕ) → g < run.strips → words (Counter g) ≡ c → IsLater view (claimed view g c limit)
-  IsLater-claimed g c limit strip is =
+  pub IsLater-claimed : (g c limit : ℕ) → g < run.strips → words (Counter g) ≡ c → (steps : List ℕ) → IsLater view (claimed view g c limit steps)
+  IsLater-claimed g c limit strip is steps =
       let seen = world.seen.behind id view at (Counter g) in
       let here : HasWord (run_sizes run) (Counter g) = strip in
       let then = IsLater-saw run view of_run (Counter g) here c (c + 1) (omega (arith, seen, is)) (λ none. omega (arith, seen, is, none)) in
@@ -158,8 +162,7 @@ module _ (run : SharedRun) (words : Words) (views : List View) (id : ℕ) (view 
       let none : sees view (RecordOf hand.mark) ≡ 0 =
       MayBecome-zero Once (λ e. cc) (sees view (RecordOf hand.mark))
       (subst (MayBecome Once (sees view (RecordOf hand.mark))) (record_word-none (words (RecordOf hand.mark)) (words (FirstOf (suc hand.mark)))
-      (world.numbers.packed hand.mark) mark.absent)
-      (world.seen.behind id view at (RecordOf hand.mark))) in
+      (world.numbers.packed hand.mark) mark.absent) (world.seen.behind id view at (RecordOf hand.mark))) in
       let here : HasWord (run_sizes run) (RecordOf hand.mark) = mark.low in
       let then = IsLater-saw run view of_run (RecordOf hand.mark) here x x (inl none) (λ gone. absurd (omega (arith, written, gone))) in
       record { run = then.run; seen = then.seen; best = then.best; steps = then.steps; looked = then.looked; zero_found = then.zero_found }
@@ -191,8 +194,7 @@ module _ (run : SharedRun) (words : Words) (views : List View) (id : ℕ) (view 
             ]
       ]
 
-  own_turn : (i : ℕ) (member : Member) → get_elem? view.crew i ≡ some member
-      → member.turn ≡ turns_of (record_at (sees view)) (length run.marks) member.worker
+  own_turn : (i : ℕ) (member : Member) → get_elem? view.crew i ≡ some member → member.turn ≡ turns_of (record_at (sees view)) (length run.marks) member.worker
   own_turn i member e =
       (world.turns.members id view at i member e).turn
       ∙ sym (count-same (λ k. is_of_worker member.worker (record_at (sees view) k)) (λ k. is_of_worker member.worker (record_at words k)) (length run.marks)
@@ -227,9 +229,10 @@ module _ (run : SharedRun) (words : Words) (views : List View) (id : ℕ) (view 
         (few_nodes view.run words here.run_is) n written;
     count = subst (λ r. sees view Count ≤ length r.marks + 1) (sym own)
         (le_trans (world.seen.behind id view at Count) (count-most run words views world.numbers world.links));
-    counter = λ g strip. subst (λ r. sees view (Counter g) ≤ length r.marks) (sym own)
-        (counter_within g (subst (λ r. g < r.strips) own strip));
+    counter = λ g strip. subst (λ r. sees view (Counter g) ≤ length r.marks) (sym own) (counter_within g (subst (λ r. g < r.strips) own strip));
     best = (world.bests id view at own).placed;
+    best_node = λ some_pair. subst (λ r. best_node_in view.best ≤ length r.marks) (sym own) (linked-within (run_sizes run) words (best_node_in view.best)
+        (IsPresent-goal run.goals (point_at (linked_points (run_sizes run) words) (best_node_in view.best)) ((world.bests id view at own).pair some_pair).0));
     taken = (world.bests id view at own).taken;
     order = λ all. KeepsOrder-whole view.run words views id view here at all;
   }
@@ -249,24 +252,10 @@ module _ (run : SharedRun) (words : Words) (views : List View) (id : ℕ) (view 
 -- ---- splits and joins
 
 pub IsLater-stepped : (view : View) → IsLater view (stepped view)
-IsLater-stepped view = record {
-  run = refl;
-  seen = AreBehind-refl (sees view);
-  best = le_refl view.best;
-  steps = omega arith;
-  looked = λ name. inl refl;
-  zero_found = λ name told. inl refl;
-}
+IsLater-stepped view = IsLater-on view view.crew view.hand view.notes
 
 pub IsLater-parted : (view : View) → IsLater view (parted view)
-IsLater-parted view = record {
-  run = refl;
-  seen = AreBehind-refl (sees view);
-  best = le_refl view.best;
-  steps = omega arith;
-  looked = λ name. inl refl;
-  zero_found = λ name told. inl refl;
-}
+IsLater-parted view = IsLater-on view (without_second view.crew) view.hand view.notes
 
 pub IsLater-joined : (view other : View) → IsLater view (joined view other)
 IsLater-joined view other = record {

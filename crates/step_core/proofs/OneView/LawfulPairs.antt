@@ -1,16 +1,9 @@
 -- What the law says of the parents and the costs that a view has seen, of the view alone.
-use Rattle.std.proofs.Common.{◌≡◌, ◌≢◌, ℕ, zero, suc, ◌<◌, ◌≤◌, ◌^◌, true, length, Some, None, refl, sym, ap, ◌∙◌, subst, inl, inr, arith}
-use Rattle.std.specs.Int.{abs_diff}
-use Rattle.std.specs.Prelude.{◌*◌, cond}
-use Rattle.std.proofs.lemmas.Bool.{le-ltb}
-use Rattle.grown_runs.proofs.Common.{Point, MOST_NODES, ClearAt, Hangs, IsAllowedEdge, IsPresent, StandsAt, node_count, point_of, AreSeenLawfully, Setup}
-use Rattle.grown_runs.proofs.Common.{first_cost_of, FollowWays, point_of-stands, most_cost_of-within, Clear-alone, children_of_words, is_linked, AreBehind}
-use Rattle.grown_runs.proofs.Common.{Words, FirstOf, TreeOf, cost_in, parent_in, tree_of_word}
-use Rattle.step_core.specs.SharedWords.{linked_points}
-use Rattle.step_core.specs.ViewTrees.{IsSeenPair, SeesPoint, SeesTree}
-use Rattle.step_core.specs.Views.{IsSharedRun, run_sizes, sees, setup_in, tree_seen}
-use Rattle.step_core.specs.Worlds.{Trees, state_in}
-use Rattle.step_core.specs.declared.views.View.{View}
+use Rattle.step_core.proofs.Words.{◌≡◌, ◌≢◌, ◌<◌, ◌≤◌, ◌^◌, ◌∙◌, ◌*◌, ℕ, zero, suc, true, length, Some, None, refl, sym, ap, subst, inl, inr, arith, abs_diff}
+use Rattle.step_core.proofs.Words.{cond, le-ltb, Point, MOST_NODES, ClearAt, Hangs, IsAllowedEdge, IsPresent, StandsAt, node_count, point_of, AreSeenLawfully}
+use Rattle.step_core.proofs.Words.{Setup, first_cost_of, FollowWays, point_of-stands, most_cost_of-within, Clear-alone, children_of_words, is_linked, AreBehind}
+use Rattle.step_core.proofs.Words.{Words, FirstOf, TreeOf, cost_in, parent_in, tree_of_word, linked_points, IsSeenPair, SeesPoint, SeesTree, IsSharedRun}
+use Rattle.step_core.proofs.Words.{run_sizes, sees, setup_in, tree_seen, Trees, state_in, View}
 use Rattle.step_core.proofs.OneView.LawfulSights.{IsTrueOf-seen}
 use Rattle.step_core.proofs.Seen.TrueWords.{linked-within}
 
@@ -79,8 +72,7 @@ module _ (view : View) (words : Words) (behind : AreBehind (sees view) words) (t
       subst (λ p. IsAllowedEdge (setup_in view.run) p at) (sym from_is)
       (subst (λ p. IsAllowedEdge (setup_in view.run) start p) (sym at_is) (IsAllowedEdge-alone (setup_in view.run) start trees.order.start_clear))
 
-  allowed : (m : ℕ) → n ≡ m → (at from : Point) → SeesPoint view n at → SeesPoint view (parent_in word) from
-      → IsAllowedEdge (setup_in view.run) from at
+  allowed : (m : ℕ) → n ≡ m → (at from : Point) → SeesPoint view n at → SeesPoint view (parent_in word) from → IsAllowedEdge (setup_in view.run) from at
   allowed zero e at from here there = alone e at from here there
   allowed (suc m) e at from here there =
       let own = point_of-stands (linked_points (run_sizes view.run) words) n at (stays n at here) in

@@ -1,17 +1,11 @@
 -- What a view that sees its tree says of the linked nodes: a node that it sees is linked, where it sees it, and a way that it sees is one
 -- through the tree.
-use Rattle.std.proofs.Common.{◌≡◌, ℕ, ◌≤◌, Bool, true, length, sym, ap, ◌∙◌, subst, inl, inr, arith}
-use Rattle.std.specs.Prelude.{is_some}
-use Rattle.grown_runs.proofs.Common.{Point, IsBounded, mark_at, IsInBoxOf, AreDistinct, IsFree, IsPresent, point_of, FollowSeenWays, IsTrueOf, SharedTree}
-use Rattle.grown_runs.proofs.Common.{IsLaterMoment, KeepsSight, steered, EndsBelow, FollowWays, StandsAt-present, IsStep-steered, AreDistinct-true}
-use Rattle.grown_runs.proofs.Common.{FollowSeenWays-true, IsOnWay-true, IsPresent-true, EndsBelow-free, child_of_word, children_of_words, is_linked, AreBehind}
-use Rattle.grown_runs.proofs.Common.{Words, ChildOf, PointOf, Sizes, point_of_word, point_word, IsBounded-word, point_of_word-packed, is_linked-child}
-use Rattle.grown_runs.proofs.Common.{is_linked-start}
-use Rattle.step_core.specs.LaterViews.{IsLater, IsLawfulView}
-use Rattle.step_core.specs.SharedWords.{linked_points, shared_tree_of_words}
-use Rattle.step_core.specs.ViewTrees.{IsSteered, LeadsTo, SeesNode, SeesPoint, SeesTree, sight_in}
-use Rattle.step_core.specs.Views.{run_sizes, sees, tree_seen}
-use Rattle.step_core.specs.declared.views.View.{View}
+use Rattle.step_core.proofs.Words.{◌≡◌, ◌≤◌, ◌∙◌, ℕ, Bool, true, length, sym, ap, subst, inl, inr, arith, is_some, Point, IsBounded, mark_at, IsInBoxOf}
+use Rattle.step_core.proofs.Words.{AreDistinct, IsFree, IsPresent, point_of, FollowSeenWays, IsTrueOf, SharedTree, IsLaterMoment, KeepsSight, steered}
+use Rattle.step_core.proofs.Words.{EndsBelow, FollowWays, StandsAt-present, IsStep-steered, AreDistinct-true, FollowSeenWays-true, IsOnWay-true, IsPresent-true}
+use Rattle.step_core.proofs.Words.{EndsBelow-free, child_of_word, children_of_words, is_linked, AreBehind, Words, ChildOf, PointOf, Sizes, point_of_word}
+use Rattle.step_core.proofs.Words.{point_word, IsBounded-word, point_of_word-packed, is_linked-child, is_linked-start, IsLater, IsLawfulView, linked_points}
+use Rattle.step_core.proofs.Words.{shared_tree_of_words, IsSteered, LeadsTo, SeesNode, SeesPoint, SeesTree, sight_in, run_sizes, sees, tree_seen, View}
 use Rattle.step_core.proofs.OneView.SeenViews.{HasSeenAtLeast-later}
 use Rattle.step_core.proofs.Seen.SeenWords.{child_says, point_at-seen, point_says, seen-within}
 use Rattle.step_core.proofs.Seen.TrueWords.{IsTrueOf-words, linked-within}
@@ -35,8 +29,7 @@ IsBounded-box a b p here there box = record {
 pub IsBounded-steered : (view : View) (k m : ℕ) (p : Point) → IsBounded (mark_at view.run.marks k) → IsSteered view k m p → IsBounded p
 IsBounded-steered view k m p mark step =
     let to : Point = mark_at view.run.marks k in
-    subst IsBounded (sym step.reached)
-    (IsBounded-box step.from to (steered step.from to view.run.step) (IsBounded-seen view m step.from step.seen) mark
+    subst IsBounded (sym step.reached) (IsBounded-box step.from to (steered step.from to view.run.step) (IsBounded-seen view m step.from step.seen) mark
     (IsStep-steered step.from to view.run.step).within)
 
 -- ---- seen of the linked nodes
@@ -73,8 +66,7 @@ module _ (view : View) (words : Words) (behind : AreBehind (sees view) words) (t
   pub is_linked-seen : (n : ℕ) → SeesNode view n → is_linked sizes words n ≡ true
   is_linked-seen n (inl start) = ap (is_linked sizes words) start ∙ is_linked-start sizes words
   is_linked-seen n (inr (a, side, link)) =
-      is_linked-child sizes words a n side (SeesNode-within a (tree.rooted.children a n side link))
-      (child_says sizes (sees view) words behind a n side link)
+      is_linked-child sizes words a n side (SeesNode-within a (tree.rooted.children a n side link)) (child_says sizes (sees view) words behind a n side link)
 
   -- Node 0 is seen at the start.
   pub SeesPoint-start : words (PointOf 0) ≡ point_word view.run.start → IsBounded view.run.start → SeesPoint view 0 view.run.start

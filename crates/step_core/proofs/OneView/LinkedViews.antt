@@ -1,13 +1,7 @@
 -- What a view has seen after it has linked its node: the node below the one at whose end it was put, with its point, its parent and its cost.
-use Rattle.std.proofs.Common.{◌≡◌, ◌≢◌, ℕ, suc, ◌+◌, ◌<◌, ◌≤◌, ◌^◌, Bool, List, [], length, sym, ap, ◌∙◌, subst, inl, inr, arith}
-use Rattle.std.specs.Prelude.{◌⊎◌}
-use Rattle.step_core.specs.ViewSteps.{linked, pair_in_hand, saw}
-use Rattle.step_core.specs.Views.{IsViewOf, last_look, last_zero, run_sizes, sees}
-use Rattle.grown_runs.proofs.Common.{AreBehind, HaveWholePairs, MayBecome, Falling, Once, Word, Words, WritesWord, ChildOf, FirstOf, PointOf, TreeOf, HasWord}
-use Rattle.grown_runs.proofs.Common.{point_word, AreBehind-trans}
-use Rattle.step_core.specs.declared.views.Hand.{Hand}
-use Rattle.step_core.specs.declared.views.SharedRun.{SharedRun}
-use Rattle.step_core.specs.declared.views.View.{View}
+use Rattle.step_core.proofs.Words.{◌≡◌, ◌≢◌, ◌+◌, ◌<◌, ◌≤◌, ◌^◌, [], ◌∙◌, ◌⊎◌, ℕ, suc, Bool, List, length, sym, ap, subst, inl, inr, arith, linked}
+use Rattle.step_core.proofs.Words.{pair_in_hand, saw, IsViewOf, last_look, last_zero, run_sizes, sees, AreBehind, HaveWholePairs, MayBecome, Falling, Once}
+use Rattle.step_core.proofs.Words.{Word, Words, WritesWord, ChildOf, FirstOf, PointOf, TreeOf, HasWord, point_word, AreBehind-trans, Hand, SharedRun, View}
 use Rattle.step_core.proofs.Seen.Looks.{same_name}
 use Rattle.step_core.proofs.Seen.SawWords.{AreBehind-saw, AreBehind-write}
 use Rattle.step_core.proofs.Seen.SeenByViews.{IsViewOf-saw, WritesWord-looked, WritesWord-saw, WritesWord-zero}

@@ -1,13 +1,7 @@
 -- Nodes whose records a view has seen, and of them those of one worker.
-use Rattle.std.proofs.Common.{◌≡◌, ℕ, zero, suc, true, Option, Some, None, refl}
-use Rattle.std.specs.Prelude.{◌==◌, ◌&&◌, IsTrue, nat_lt}
-use Rattle.std.proofs.lemmas.Bool.{and_parts}
-use Rattle.grown_runs.proofs.Common.{is_placed, is_earlier_record, IsPresent, Record, has_node, has_placed, record_at, RecordOf}
+use Rattle.step_core.proofs.Words.{◌≡◌, ◌==◌, ◌&&◌, ℕ, zero, suc, true, Option, Some, None, refl, IsTrue, nat_lt, and_parts, is_placed, is_earlier_record}
+use Rattle.step_core.proofs.Words.{IsPresent, Record, has_node, has_placed, record_at, RecordOf, IsLawfulView, is_own_node, sees, tree_seen, View}
 use Rattle.step_core.proofs.Seen.PlacedWords.{has_node-same}
-use Rattle.step_core.specs.LaterViews.{IsLawfulView}
-use Rattle.step_core.specs.SeenRecords.{is_own_node}
-use Rattle.step_core.specs.Views.{sees, tree_seen}
-use Rattle.step_core.specs.declared.views.View.{View}
 
 -- each is seen with its point
 pub present_recorded : (view : View) → IsLawfulView view → (n : ℕ) → has_node (sees view) n ≡ true → IsPresent (tree_seen view).points n

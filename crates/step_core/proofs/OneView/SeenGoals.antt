@@ -1,14 +1,8 @@
 -- Goal nodes that a view has seen are so, and so is what they were placed at.
-use Rattle.std.proofs.Common.{◌≡◌, ℕ, zero, suc, ◌≤◌, ◌^◌, true, refl, sym, ap, ◌∙◌, subst, inl, inr, arith}
-use Rattle.std.specs.Prelude.{IsTrue}
-use Rattle.grown_runs.proofs.Common.{FollowWays, IsGoalNode, is_goal_point, point_at, point_of, IsPresent-goal, StandsAt-present, children_of_words, has_node}
-use Rattle.grown_runs.proofs.Common.{has_placed, AreBehind, Words, Best, FirstOf, RecordOf, best_word, cost_in, record_of_word, tree_word}
-use Rattle.step_core.specs.SeenBests.{IsAtMostPlaced, SeesGoal, seen_first_cost}
-use Rattle.step_core.specs.SharedWords.{linked_points}
-use Rattle.step_core.specs.ViewTrees.{SeesTree}
-use Rattle.step_core.specs.Views.{run_sizes, sees, tree_seen}
-use Rattle.step_core.specs.Worlds.{BestWord}
-use Rattle.step_core.specs.declared.views.View.{View}
+use Rattle.step_core.proofs.Words.{◌≡◌, ◌≤◌, ◌∙◌, ℕ, zero, suc, true, refl, sym, ap, subst, inl, inr, arith, IsTrue, FollowWays, IsGoalNode, is_goal_point}
+use Rattle.step_core.proofs.Words.{point_at, point_of, IsPresent-goal, StandsAt-present, children_of_words, has_node, has_placed, AreBehind, Words, Best}
+use Rattle.step_core.proofs.Words.{FirstOf, RecordOf, best_word, cost_in, record_of_word, tree_word, IsAtMostPlaced, SeesGoal, seen_first_cost, linked_points}
+use Rattle.step_core.proofs.Words.{SeesTree, run_sizes, sees, tree_seen, BestWord, View}
 use Rattle.step_core.proofs.OneView.LawfulSights.{IsTrueOf-seen}
 use Rattle.step_core.proofs.Seen.PlacedWords.{has_node-same}
 
@@ -42,5 +36,4 @@ module _ (words : Words) (view : View) (behind : AreBehind (sees view) words) (s
 
     -- the best word is at most the pair of each
     pub least-now : BestWord view.run words → IsAtMostPlaced view (words Best)
-    least-now best n node goal =
-        subst (λ c. words Best ≤ best_word c n) (first-now n node) (best.placed n (node-now n node) (goal-now n goal))
+    least-now best n node goal = subst (λ c. words Best ≤ best_word c n) (first-now n node) (best.placed n (node-now n node) (goal-now n goal))

@@ -1,13 +1,9 @@
 -- The first view of a shared run, which has seen all words of a closed run, sees its tree.
-use Rattle.std.proofs.Common.{◌≡◌, ℕ, zero, suc, ◌≤◌, ◌^◌, Bool, true, List, Some, refl, sym, ap, ◌∙◌, inl, inr, arith}
-use Rattle.std.specs.Prelude.{IsSome, is_some}
-use Rattle.std.proofs.lemmas.Bool.{cases_Bool}
-use Rattle.grown_runs.proofs.Common.{Point, Task, IsPresent, point_of, IsRooted, IsSeen, SeenTree, IsOnWay, goes_right, StandsAt-present, last_step, not_empty}
-use Rattle.grown_runs.proofs.Common.{way_start, HoldRun, children_of_words, has_node, points_of_words, run_words, sizes_of, seen_tree_of_words, Words, FirstOf}
-use Rattle.grown_runs.proofs.Common.{Sizes, point_of_word, tree_of_word, has_node-present, point_of_word-stands, present-within, node_present}
-use Rattle.step_core.specs.ViewStarts.{newcomer}
-use Rattle.step_core.specs.ViewTrees.{SeesTree}
-use Rattle.step_core.specs.Views.{run_of}
+use Rattle.step_core.proofs.Words.{◌≡◌, ◌≤◌, ◌^◌, ◌∙◌, ℕ, zero, suc, Bool, true, List, Some, refl, sym, ap, inl, inr, arith, IsSome, is_some, cases_Bool, Point}
+use Rattle.step_core.proofs.Words.{Task, IsPresent, point_of, IsRooted, IsSeen, SeenTree, IsOnWay, goes_right, StandsAt-present, last_step, not_empty}
+use Rattle.step_core.proofs.Words.{way_start, HoldRun, children_of_words, has_node, points_of_words, run_words, sizes_of, seen_tree_of_words, Words, FirstOf}
+use Rattle.step_core.proofs.Words.{Sizes, point_of_word, tree_of_word, has_node-present, point_of_word-stands, present-within, node_present, newcomer, SeesTree}
+use Rattle.step_core.proofs.Words.{run_of}
 use Rattle.step_core.proofs.Seen.SeenWords.{point_at-seen, seen-within}
 
 module _ (task : Task) (limit : ℕ) (words : Words) (held : HoldRun task limit words) where
@@ -22,8 +18,7 @@ module _ (task : Task) (limit : ℕ) (words : Words) (held : HoldRun task limit 
   point_shown n h =
       let points = points_of_words sizes words in
       let here = node_present task limit words held n h in
-      ap is_some
-      (point_at-seen sizes words n (present-within sizes words n here)
+      ap is_some (point_at-seen sizes words n (present-within sizes words n here)
       ∙ point_of_word-stands sizes words n (point_of points n) (StandsAt-present points n here))
 
   -- and is the child that its way comes to

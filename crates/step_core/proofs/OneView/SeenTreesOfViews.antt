@@ -1,22 +1,15 @@
 -- A view still sees its tree after a step of its own: from node 0 on, with the nodes that it has placed, and the node in its hand.
-use Rattle.std.proofs.Common.{◌≡◌, ◌≢◌, ℕ, suc, ◌+◌, ◌<◌, ◌≤◌, ◌^◌, Bool, true, List, length, Some, refl, sym, ap, ◌∙◌, subst, inl, inr, arith}
-use Rattle.std.specs.Prelude.{is_some}
-use Rattle.std.proofs.lemmas.Option.{same_Some}
-use Rattle.grown_runs.proofs.Common.{IsBounded, is_placed, IsPresent, IsRooted, Point, Record, child_of_word, has_node, has_placed, MayLookAt, AreBehind}
-use Rattle.grown_runs.proofs.Common.{MayBecome, Falling, Word, Words, WritesWord, Count, Best, Counter, PointOf, ChildOf, TreeOf, FirstOf, RecordOf, HasWord}
-use Rattle.grown_runs.proofs.Common.{FitsWord, point_of_word, point_word, record_of_word, record_word, tree_word, point_of_word-packed, AreBehind-refl}
-use Rattle.step_core.specs.Stages.{MayBeRecorded, has_link, has_point}
-use Rattle.step_core.specs.ViewSteps.{claimed, counted, finished, half, linked, loaded, looker, lowered, mark_of, new_hand}
-use Rattle.step_core.specs.ViewSteps.{pair_in_hand, parted, pointed, stepped, treed, worker_apart}
-use Rattle.step_core.specs.ViewTrees.{SeesHand, IsSteered, LeadsTo, MayLoad, SeesNode, SeesPoint, SeesTree}
-use Rattle.step_core.specs.Views.{IsViewOf, run_sizes, sees, tree_seen}
-use Rattle.step_core.specs.declared.views.Hand.{Hand}
-use Rattle.step_core.specs.declared.views.SharedRun.{SharedRun}
-use Rattle.step_core.specs.declared.views.Stage.TheVariants.{Counted, Half, Linked, Pointed, Treed}
-use Rattle.step_core.specs.declared.views.View.{View}
+use Rattle.step_core.proofs.Words.{◌≡◌, ◌≢◌, ◌+◌, ◌<◌, ◌≤◌, ◌^◌, [], ◌∙◌, ℕ, suc, Bool, true, List, length, Some, None, refl, sym, ap, subst, inl, inr, arith}
+use Rattle.step_core.proofs.Words.{is_some, same_Some, IsBounded, is_placed, IsPresent, IsRooted, Point, Record, child_of_word, has_node, has_placed, MayLookAt}
+use Rattle.step_core.proofs.Words.{AreBehind, MayBecome, Falling, Word, Words, WritesWord, Count, Best, Counter, PointOf, ChildOf, TreeOf, FirstOf, RecordOf}
+use Rattle.step_core.proofs.Words.{HasWord, FitsWord, point_of_word, point_word, record_of_word, record_word, tree_word, point_of_word-packed, AreBehind-refl}
+use Rattle.step_core.proofs.Words.{IsUnskipped, MayBeRecorded, has_link, has_point, claimed, finished, linked, loaded, looker, lowered, mark_of, new_hand}
+use Rattle.step_core.proofs.Words.{pair_in_hand, parted, pointed, second_alone, stepped, unlooked, without_second, worker_apart, SeesHand, IsSteered, LeadsTo}
+use Rattle.step_core.proofs.Words.{MayLoad, SeesNode, SeesPoint, SeesTree, IsViewOf, run_sizes, sees, tree_seen, Hand, Member, Note, SharedRun, Stage, Linked}
+use Rattle.step_core.proofs.Words.{Pointed, Posted, Treed, View}
 use Rattle.step_core.proofs.OneView.LinkedViews.{AreBehind-child, AreBehind-first, AreBehind-point, AreBehind-shown, AreBehind-tree, MayShow, ShowsNode}
-use Rattle.step_core.proofs.OneView.LinkedViews.{WritesWord-child, WritesWord-first, WritesWord-point, WritesWord-tree}
-use Rattle.step_core.proofs.OneView.LinkedViews.{child_shown, pair_shown, point_shown, sees-linked}
+use Rattle.step_core.proofs.OneView.LinkedViews.{WritesWord-child, WritesWord-first, WritesWord-point, WritesWord-tree, child_shown, pair_shown, point_shown}
+use Rattle.step_core.proofs.OneView.LinkedViews.{sees-linked}
 use Rattle.step_core.proofs.Seen.Looks.{same_name}
 use Rattle.step_core.proofs.Seen.PlacedWords.{has_node-same, has_placed-record_word}
 use Rattle.step_core.proofs.Seen.SawWords.{AreBehind-write}
@@ -45,14 +38,12 @@ no_record view name may k e = subst (MayLoad view) (sym e) may
 placed_still :
     (view then : View) → then.run ≡ view.run → AreBehind (sees view) (sees then) → SeesTree view → (k : ℕ)
     → sees then (RecordOf k) ≡ sees view (RecordOf k) → has_node (sees then) (suc k) ≡ true → IsPresent (tree_seen then).points (suc k)
-placed_still view then run go tree k same h =
-    IsPresent-later view then run go (suc k) (tree.placed k (sym (has_node-same (sees view) (sees then) k same) ∙ h))
+placed_still view then run go tree k same h = IsPresent-later view then run go (suc k) (tree.placed k (sym (has_node-same (sees view) (sees then) k same) ∙ h))
 
 first_still :
     (view then : View) → then.run ≡ view.run → AreBehind (sees view) (sees then) → SeesTree view → (k : ℕ)
     → sees then (RecordOf k) ≡ sees view (RecordOf k) → has_node (sees then) (suc k) ≡ true → 2 ^ 63 ≤ sees then (FirstOf (suc k))
-first_still view then run go tree k same h =
-    first-later view then run go (suc k) (tree.placed_first k (sym (has_node-same (sees view) (sees then) k same) ∙ h))
+first_still view then run go tree k same h = first-later view then run go (suc k) (tree.placed_first k (sym (has_node-same (sees view) (sees then) k same) ∙ h))
 
 -- After a load of a word of the run a view sees its tree.
 pub SeesTree-loaded : (run : SharedRun) (view : View) (words : Words) → IsViewOf run view → AreBehind (sees view) words → SeesTree view
@@ -62,8 +53,7 @@ SeesTree-loaded run view words of_run behind tree name here may =
     let writes : WritesWord name (words name) (sees view) (sees then) = WritesWord-saw run view of_run name here (words name) (words name) in
     let go = AreBehind-write name (words name) (sees view) (sees then) writes (behind name) in
     record {
-      rooted =
-          IsRooted-write (run_sizes view.run) name (words name) (sees view) (sees then) writes go (MayLookAt-load view name may) tree.rooted;
+      rooted = IsRooted-write (run_sizes view.run) name (words name) (sees view) (sees then) writes go (MayLookAt-load view name may) tree.rooted;
       placed = λ k. placed_still view then refl go tree k (writes.others (RecordOf k) (no_record view name may k));
       placed_first = λ k. first_still view then refl go tree k (writes.others (RecordOf k) (no_record view name may k));
       holds = λ hand held. SeesHand-later view then refl go hand (tree.holds hand held);
@@ -71,9 +61,9 @@ SeesTree-loaded run view words of_run behind tree name here may =
 
 -- After the tree word of a seen node was lowered a view sees its tree.
 pub SeesTree-lowered : (run : SharedRun) (view : View) → IsViewOf run view → SeesTree view → (n parent cost : ℕ) → n ≤ length run.marks → SeesNode view n
-    → MayBecome Falling (sees view (TreeOf n)) (tree_word parent cost) → SeesTree (lowered view n parent cost)
-SeesTree-lowered run view of_run tree n parent cost within seen_node may =
-    let then : View = lowered view n parent cost in
+    → MayBecome Falling (sees view (TreeOf n)) (tree_word parent cost) → (steps : List ℕ) → SeesTree (lowered view n parent cost steps)
+SeesTree-lowered run view of_run tree n parent cost within seen_node may steps =
+    let then : View = lowered view n parent cost steps in
     let here : HasWord (run_sizes run) (TreeOf n) = within in
     let word : ℕ = tree_word parent cost in
     let writes : WritesWord (TreeOf n) word (sees view) (sees then) = WritesWord-saw run view of_run (TreeOf n) here (sees view (TreeOf n)) word in
@@ -93,9 +83,9 @@ holds_one then own node hand e = subst (SeesHand then) (same_Some own hand e) no
 
 -- After a claim there is nothing to hold.
 pub SeesTree-claimed : (run : SharedRun) (view : View) (words : Words) → IsViewOf run view → AreBehind (sees view) words → SeesTree view
-    → (g c limit : ℕ) → g < run.strips → words (Counter g) ≡ c → SeesTree (claimed view g c limit)
-SeesTree-claimed run view words of_run behind tree g c limit strip is =
-    let then : View = claimed view g c limit in
+    → (g c limit : ℕ) → g < run.strips → words (Counter g) ≡ c → (steps : List ℕ) → SeesTree (claimed view g c limit steps)
+SeesTree-claimed run view words of_run behind tree g c limit strip is steps =
+    let then : View = claimed view g c limit steps in
     let here : HasWord (run_sizes run) (Counter g) = strip in
     let writes : WritesWord (Counter g) (c + 1) (sees view) (sees then) = WritesWord-saw run view of_run (Counter g) here c (c + 1) in
     let go = AreBehind-write (Counter g) (c + 1) (sees view) (sees then) writes (omega (arith, behind (Counter g), is)) in
@@ -106,15 +96,17 @@ SeesTree-claimed run view words of_run behind tree g c limit strip is =
       holds = holds_one then (new_hand (mark_of view.run g c)) record {
         steered_from = λ on. cc;
         other = λ on. cc;
+        unskipped = λ on. cc;
         shown = λ on. cc;
         first_shown = λ on. cc;
+        posted = λ is. cc;
       };
     }
 
--- After its point is written it holds that.
+-- After its point is written it holds that: its mark is not skipped.
 pub SeesTree-pointed : (view : View) → SeesTree view → (hand : Hand) (m : ℕ) (p : Point) → IsSteered view hand.mark m p → m ≢ suc hand.mark
-    → SeesTree (pointed view hand m p)
-SeesTree-pointed view tree hand m p step apart =
+    → IsUnskipped view hand → SeesTree (pointed view hand m p)
+SeesTree-pointed view tree hand m p step apart unskipped =
     let then : View = pointed view hand m p in
     record {
       rooted = tree.rooted;
@@ -123,65 +115,33 @@ SeesTree-pointed view tree hand m p step apart =
       holds = holds_one then (record hand { stage = Pointed; nearest = m; point = p }) record {
         steered_from = λ on. record { from = step.from; seen = step.seen; reached = step.reached };
         other = λ on. apart;
+        unskipped = λ on. unskipped;
         shown = λ on. cc;
         first_shown = λ on. cc;
+        posted = λ is. cc;
       };
     }
 
--- After its first word and its tree word are written it holds what it held.
-pub SeesTree-half :
-    (view : View) → SeesTree view → (hand : Hand) → view.hand ≡ Some hand → hand.stage ≡ Pointed → (parent cost : ℕ) → SeesTree (half view hand parent cost)
-SeesTree-half view tree hand held stage parent cost =
-    let then : View = half view hand parent cost in
+-- After a step that looks at no word, for a hand that comes to another stage, if not farther than it held, with another parent and cost, it holds that.
+pub SeesTree-on :
+    (view : View) → SeesTree view → {hand : Hand} → view.hand ≡ Some hand → (stage : Stage) (parent cost : ℕ) (notes : List Note)
+    → (has_point stage ≡ true → has_point hand.stage ≡ true) → (has_link stage ≡ true → has_link hand.stage ≡ true) → stage ≢ Posted
+    → SeesTree (record (stepped view) { hand = Some (record hand { stage = stage; parent = parent; cost = cost }); notes = notes })
+SeesTree-on view tree {hand} held stage parent cost notes point link off =
+    let next : Hand = record hand { stage = stage; parent = parent; cost = cost } in
+    let then : View = record (stepped view) { hand = Some next; notes = notes } in
     let node = SeesHand-later view then refl (AreBehind-refl (sees view)) hand (tree.holds hand held) in
     record {
       rooted = tree.rooted;
       placed = tree.placed;
       placed_first = tree.placed_first;
-      holds = holds_one then (record hand { stage = Half; parent = parent; cost = cost }) record {
-        steered_from = λ on.
-            let step = node.steered_from (ap has_point stage) in
-            record { from = step.from; seen = step.seen; reached = step.reached };
-        other = λ on. node.other (ap has_point stage);
-        shown = λ on. cc;
-        first_shown = λ on. cc;
-      };
-    }
-
-pub SeesTree-treed : (view : View) → SeesTree view → (hand : Hand) → view.hand ≡ Some hand → hand.stage ≡ Half → SeesTree (treed view hand)
-SeesTree-treed view tree hand held stage =
-    let then : View = treed view hand in
-    let node = SeesHand-later view then refl (AreBehind-refl (sees view)) hand (tree.holds hand held) in
-    record {
-      rooted = tree.rooted;
-      placed = tree.placed;
-      placed_first = tree.placed_first;
-      holds = holds_one then (record hand { stage = Treed }) record {
-        steered_from = λ on.
-            let step = node.steered_from (ap has_point stage) in
-            record { from = step.from; seen = step.seen; reached = step.reached };
-        other = λ on. node.other (ap has_point stage);
-        shown = λ on. cc;
-        first_shown = λ on. cc;
-      };
-    }
-
--- After it is counted it holds what it held.
-pub SeesTree-counted : (view : View) → SeesTree view → (hand : Hand) → view.hand ≡ Some hand → hand.stage ≡ Linked → SeesTree (counted view hand)
-SeesTree-counted view tree hand held stage =
-    let then : View = counted view hand in
-    let node = SeesHand-later view then refl (AreBehind-refl (sees view)) hand (tree.holds hand held) in
-    record {
-      rooted = tree.rooted;
-      placed = tree.placed;
-      placed_first = tree.placed_first;
-      holds = holds_one then (record hand { stage = Counted }) record {
-        steered_from = λ on.
-            let step = node.steered_from (ap has_point stage) in
-            record { from = step.from; seen = step.seen; reached = step.reached };
-        other = λ on. node.other (ap has_point stage);
-        shown = λ on. node.shown (ap has_link stage);
-        first_shown = λ on. node.first_shown (ap has_link stage);
+      holds = holds_one then next record {
+        steered_from = λ on. node.steered_from (point on);
+        other = λ on. node.other (point on);
+        unskipped = λ on. node.unskipped (point on);
+        shown = λ on. node.shown (link on);
+        first_shown = λ on. node.first_shown (link on);
+        posted = λ is. absurd (off is);
       };
     }
 
@@ -236,10 +196,8 @@ SeesTree-finished run view of_run tree hand held low none entry fits may =
 -- ---- a link
 
 -- the node is seen at its point
-point_shown_at : (view : View) (m : ℕ) (p : Point) → sees view (PointOf m) ≡ point_word p → IsBounded p → m ≤ length view.run.marks
-    → SeesPoint view m p
-point_shown_at view m p is bounded within =
-    point_at-seen (run_sizes view.run) (sees view) m within ∙ ap point_of_word is ∙ point_of_word-packed p bounded
+point_shown_at : (view : View) (m : ℕ) (p : Point) → sees view (PointOf m) ≡ point_word p → IsBounded p → m ≤ length view.run.marks → SeesPoint view m p
+point_shown_at view m p is bounded within = point_at-seen (run_sizes view.run) (sees view) m within ∙ ap point_of_word is ∙ point_of_word-packed p bounded
 
 -- After a link the node is seen too, if what was seen allows it.
 pub SeesTree-linked :
@@ -282,34 +240,37 @@ SeesTree-linked run view of_run tree hand held stage low bounded n side within l
             let step = node.steered_from (ap has_point stage) in
             record { from = step.from; seen = step.seen; reached = step.reached };
         other = λ on. node.other (ap has_point stage);
+        unskipped = λ on. node.unskipped (ap has_point stage);
         shown = λ on.
             point_shown_at then m hand.point shows.point bounded (subst (λ r. m ≤ length r.marks) (sym of_run.run_is) (omega (arith, low)));
         first_shown = λ on. omega (arith, shows.first);
+        posted = λ is. cc;
       };
     }
 
 -- ---- splits
 
 -- One that has seen as much, and has the same hand or none, sees its tree.
+SeesTree-crew : (view : View) (crew : List Member) → SeesTree view → SeesTree (record (stepped view) { crew = crew })
+SeesTree-crew view crew tree = record {
+  rooted = tree.rooted;
+  placed = tree.placed;
+  placed_first = tree.placed_first;
+  holds = λ hand held. SeesHand-later view (record (stepped view) { crew = crew }) refl (AreBehind-refl (sees view)) hand (tree.holds hand held);
+}
+
+SeesTree-new : (view : View) (crew : List Member) → SeesTree view → SeesTree (record (unlooked view) { crew = crew; hand = None })
+SeesTree-new view crew tree = record { rooted = tree.rooted; placed = tree.placed; placed_first = tree.placed_first; holds = λ hand held. cc }
+
 module _ (view : View) (tree : SeesTree view) where
   pub SeesTree-stepped : SeesTree (stepped view)
-  SeesTree-stepped = record {
-    rooted = tree.rooted;
-    placed = tree.placed;
-    placed_first = tree.placed_first;
-    holds = λ hand held. SeesHand-later view (stepped view) refl (AreBehind-refl (sees view)) hand (tree.holds hand held);
-  }
+  SeesTree-stepped = SeesTree-crew view view.crew tree
 
   pub SeesTree-parted : SeesTree (parted view)
-  SeesTree-parted = record {
-    rooted = tree.rooted;
-    placed = tree.placed;
-    placed_first = tree.placed_first;
-    holds = λ hand held. SeesHand-later view (parted view) refl (AreBehind-refl (sees view)) hand (tree.holds hand held);
-  }
+  SeesTree-parted = SeesTree-crew view (without_second view.crew) tree
 
   pub SeesTree-looker : SeesTree (looker view)
-  SeesTree-looker = record { rooted = tree.rooted; placed = tree.placed; placed_first = tree.placed_first; holds = λ hand held. cc }
+  SeesTree-looker = SeesTree-new view [] tree
 
   pub SeesTree-apart : SeesTree (worker_apart view)
-  SeesTree-apart = record { rooted = tree.rooted; placed = tree.placed; placed_first = tree.placed_first; holds = λ hand held. cc }
+  SeesTree-apart = SeesTree-new view (second_alone view.crew) tree

@@ -1,38 +1,12 @@
 -- What two views have seen of the tree, a view that has seen what either has sees from node 0 on too.
-use Rattle.std.proofs.Common.{◌≡◌, ℕ, suc, Bool, true, false, Some, None, refl, sym, ap, ◌∙◌, subst, inl, inr, arith}
-use Rattle.std.specs.Prelude.{◌⊎◌, ◌==◌, ◌&&◌, cond, is_some, nat_le, nat_lt, ◌^◌}
-use Rattle.std.proofs.lemmas.Bool.{cases_lt}
-use Rattle.grown_runs.proofs.Common.{IsPresent, point_of, IsRooted, IsSeen, SeenTree, IsPresent-stands, StandsAt-present, IsSeen-more, child_of_word}
-use Rattle.grown_runs.proofs.Common.{seen_tree_of_words, AreBehind, WordKind, kind_of, later_word, Rising, Once, Falling, Apart, Word, Words, ChildOf, PointOf}
-use Rattle.grown_runs.proofs.Common.{RecordOf, TreeOf, Sizes, cost_in, point_of_word, tree_of_word}
-use Rattle.step_core.specs.ViewSteps.{joined}
-use Rattle.step_core.specs.ViewTrees.{SeesTree}
-use Rattle.step_core.specs.Views.{run_sizes, sees, words_of_run}
-use Rattle.step_core.specs.declared.views.View.{View}
-use Rattle.step_core.proofs.Seen.LaterWords.{word_at-merged}
+use Rattle.step_core.proofs.Words.{◌≡◌, ◌∙◌, ◌⊎◌, ℕ, suc, Bool, Some, None, refl, sym, ap, subst, inl, inr, is_some, IsPresent, point_of, IsRooted, IsSeen}
+use Rattle.step_core.proofs.Words.{SeenTree, IsPresent-stands, StandsAt-present, IsSeen-more, child_of_word, seen_tree_of_words, AreBehind, kind_of, Word}
+use Rattle.step_core.proofs.Words.{Words, ChildOf, PointOf, RecordOf, TreeOf, Sizes, point_of_word, tree_of_word, joined, SeesTree, run_sizes, sees}
+use Rattle.step_core.proofs.Words.{words_of_run, View}
+use Rattle.step_core.proofs.Seen.LaterWords.{later_word-either, word_at-merged}
 use Rattle.step_core.proofs.Seen.PlacedWords.{has_node-same}
 use Rattle.step_core.proofs.OneView.SeenViews.{IsPresent-later, first-later}
 use Rattle.step_core.proofs.Seen.SeenWords.{HasSeenAtLeast-words, point_at-seen, seen-within}
-
--- the later of two words is one of them
-later_word-either : (kind : WordKind) (one other : ℕ) → (later_word kind one other ≡ one) ⊎ (later_word kind one other ≡ other)
-later_word-either Rising one other =
-    elim (cases_lt one other) [
-      | inl less ↦ inr (omega (arith, less))
-      | inr enough ↦ inl (omega (arith, enough))
-    ]
-later_word-either Apart one other = inl refl
-later_word-either Once one other = by_test (one == 0)
-  where
-    by_test : (b : Bool) → (cond b other one ≡ one) ⊎ (cond b other one ≡ other)
-    by_test true = inr refl
-    by_test false = inl refl
-later_word-either Falling one other = by_test (one == 0) (nat_le (2 ^ 63) other && nat_lt (cost_in other) (cost_in one))
-  where
-    by_test : (b lower : Bool) → (cond b other (cond lower other one) ≡ one) ⊎ (cond b other (cond lower other one) ≡ other)
-    by_test true lower = inr refl
-    by_test false true = inr refl
-    by_test false false = inl refl
 
 -- each word is as the one or the other table has it
 abbrev AreOfEither : Words → Words → Words → Type 0
@@ -61,10 +35,8 @@ module _ (sizes : Sizes) (one other both : Words) (first : AreBehind one both) (
       let within = seen-within sizes both n h in
       let here = sym (ap is_some (point_at-seen sizes both n within)) ∙ h in
       elim (either (PointOf n)) [
-        | inl e ↦
-            seen_first n (own.points n (ap is_some (point_at-seen sizes one n within) ∙ ap (λ w. is_some (point_of_word w)) (sym e) ∙ here))
-        | inr e ↦
-            seen_second n (also.points n (ap is_some (point_at-seen sizes other n within) ∙ ap (λ w. is_some (point_of_word w)) (sym e) ∙ here))
+        | inl e ↦ seen_first n (own.points n (ap is_some (point_at-seen sizes one n within) ∙ ap (λ w. is_some (point_of_word w)) (sym e) ∙ here))
+        | inr e ↦ seen_second n (also.points n (ap is_some (point_at-seen sizes other n within) ∙ ap (λ w. is_some (point_of_word w)) (sym e) ∙ here))
       ]
 
   -- What each saw from node 0 on, both see so.

@@ -1,11 +1,8 @@
 -- What a view has seen of the tree, a later view of the same run has seen too.
-use Rattle.std.proofs.Common.{◌≡◌, ℕ, suc, ◌≤◌, ◌^◌, refl, sym, ap, ◌∙◌, subst, inl, inr, arith}
-use Rattle.grown_runs.proofs.Common.{mark_at, Point, IsPresent, point_of, HasSeenAtLeast, IsRooted, steered, IsPresent-stands, StandsAt-present, LooksAt}
-use Rattle.grown_runs.proofs.Common.{MayLookAt, SeenWords, seen_tree_of_words, AreBehind, Word, Words, WritesWord, FirstOf, Sizes}
-use Rattle.step_core.specs.ViewTrees.{SeesHand, IsSteered, SeesPoint}
-use Rattle.step_core.specs.Views.{run_sizes, sees, tree_seen}
-use Rattle.step_core.specs.declared.views.Hand.{Hand}
-use Rattle.step_core.specs.declared.views.View.{View}
+use Rattle.step_core.proofs.Words.{◌≡◌, ◌≤◌, ◌^◌, ◌∙◌, ℕ, suc, Some, refl, sym, ap, subst, inl, inr, arith, IsTrue, is_goal_point, mark_at, Point, IsPresent}
+use Rattle.step_core.proofs.Words.{point_of, HasSeenAtLeast, IsRooted, steered, IsPresent-stands, StandsAt-present, LooksAt, MayLookAt, SeenWords}
+use Rattle.step_core.proofs.Words.{seen_tree_of_words, AreBehind, Word, Words, WritesWord, FirstOf, Sizes, IsUnskipped, SeesHand, IsSteered, SeesPoint}
+use Rattle.step_core.proofs.Words.{run_sizes, sees, tree_seen, Hand, View}
 use Rattle.step_core.proofs.Seen.Looks.{IsRooted-looks}
 use Rattle.step_core.proofs.Seen.SeenWords.{HasSeenAtLeast-words}
 
@@ -38,8 +35,10 @@ module _ (before after : View) (same : after.run ≡ before.run) (go : AreBehind
   SeesHand-later hand holds = record {
     steered_from = λ on. IsSteered-later hand.mark hand.nearest hand.point (holds.steered_from on);
     other = holds.other;
+    unskipped = λ on. subst (λ run. IsUnskipped (record before { run = run }) hand) (sym same) (holds.unskipped on);
     shown = λ on. SeesPoint-later (suc hand.mark) hand.point (holds.shown on);
     first_shown = λ on. first-later (suc hand.mark) (holds.first_shown on);
+    posted = λ is. subst (λ run. IsTrue (is_goal_point run.goals (Some hand.point))) (sym same) (holds.posted is);
   }
 
 -- If a word is seen anew, and is of a seen node or of none, all is seen from node 0 on as before.

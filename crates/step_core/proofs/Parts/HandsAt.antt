@@ -1,22 +1,11 @@
 -- How many hands hold a mark and have come so far: of a mark in hand it is told by that hand alone.
-use Rattle.std.proofs.Common.{◌≡◌, ◌≢◌, ℕ, ◌+◌, ◌≤◌, Bool, true, false, List, [], ◌∷◌, set, Option, Some, None, refl, sym, ap, ◌∙◌, arith}
-use Rattle.std.specs.Prelude.{◌==◌, ◌&&◌}
-use Rattle.std.proofs.lemmas.Bool.{eq-eqb, ne_eqb}
-use Rattle.std.proofs.lemmas.List.Sums.{sum_by-cons}
-use mathlib.Core.Option.{some}
-use lib.ListN.{get_elem?}
-use Rattle.grown_runs.proofs.Common.{is_claimed, once_if, Words}
-use Rattle.step_core.specs.Stages.{holds_at}
-use Rattle.step_core.specs.ViewSteps.{new_hand}
-use Rattle.step_core.specs.Views.{holds}
-use Rattle.step_core.specs.Worlds.{ClaimedMarks, counters, hands_at, holders, is_recorded}
-use Rattle.step_core.specs.declared.views.Hand.{Hand}
-use Rattle.step_core.specs.declared.views.SharedRun.{SharedRun}
-use Rattle.step_core.specs.declared.views.Stage.{Stage}
-use Rattle.step_core.specs.declared.views.Stage.TheVariants.{Claimed}
-use Rattle.step_core.specs.declared.views.View.{View}
-use Rattle.step_core.proofs.Parts.MarksInHand.{once_if-most}
-use Rattle.step_core.proofs.Parts.ViewLists.{sum-set}
+use Rattle.step_core.proofs.Words.{◌≡◌, ◌≢◌, ◌+◌, ◌≤◌, [], ◌∷◌, ◌∙◌, ◌==◌, ◌&&◌, ℕ, Bool, true, false, List, set, Option, Some, None, refl, sym, ap, inl, inr}
+use Rattle.step_core.proofs.Words.{arith, cases_eq, eq-eqb, ne_eqb, sum_by-cons, some, get_elem?, is_claimed, once_if, Word, Words, holds_at, new_hand, holds}
+use Rattle.step_core.proofs.Words.{ClaimedMarks, counters, hands_at, holders, is_recorded, Hand, SharedRun, Stage, Claimed, View, IsMoment, Moment, PointOf}
+use Rattle.step_core.proofs.Words.{FirstOf, TreeOf, has_point, has_first, has_tree, suc}
+use Rattle.step_core.proofs.Parts.MarksInHand.{once_if-false, once_if-most}
+use Rattle.step_core.proofs.Parts.Shifts.{IsShift, Shift, at-then, later_views}
+use Rattle.step_core.proofs.Parts.ViewLists.{sum-one, sum-set, sum-two}
 
 -- ---- one hand
 
@@ -36,8 +25,7 @@ holds_at-own test o hand e = ap (holds_at test hand.mark) e ∙ ap (λ b. b && t
 
 -- and of others nothing
 pub holds_at-other : (test : Stage → Bool) (k : ℕ) (o : Option Hand) (hand : Hand) → o ≡ Some hand → k ≢ hand.mark → holds_at test k o ≡ false
-holds_at-other test k o hand e apart =
-    ap (holds_at test k) e ∙ ap (λ b. b && test hand.stage) (ne_eqb hand.mark k (λ same. apart (sym same)))
+holds_at-other test k o hand e apart = ap (holds_at test k) e ∙ ap (λ b. b && test hand.stage) (ne_eqb hand.mark k (λ same. apart (sym same)))
 
 -- if the hand has come on no further in this, it tells the same
 pub holds_at-stays :
@@ -76,8 +64,7 @@ module _ (run : SharedRun) (words : Words) (views : List View) (numbers : Claime
   pub hands_at-held :
       (test : Stage → Bool) (id : ℕ) (view : View) (hand : Hand) → get_elem? views id ≡ some view → view.hand ≡ Some hand
       → hands_at test hand.mark views ≡ once_if (test hand.stage)
-  hands_at-held test id view hand at held =
-      omega (arith, others_none, ap once_if (holds_at-own test view.hand hand held))
+  hands_at-held test id view hand at held = omega (arith, others_none, ap once_if (holds_at-own test view.hand hand held))
     where
       without : View
       without = record view { hand = None }
@@ -93,3 +80,103 @@ module _ (run : SharedRun) (words : Words) (views : List View) (numbers : Claime
             holders-most hand.mark,
             own,
           )
+
+-- ---- a mark in hand
+
+-- The word of a mark that is not recorded is 0 while no hand that has the mark has come so far.
+abbrev pub IsBlank : (Stage → Bool) → (ℕ → Word) → Words → List View → Type 0
+IsBlank test own words views = (k : ℕ) → is_recorded words k ≡ false → hands_at test k views ≡ 0 → words (own k) ≡ 0
+
+module _ {now : Moment} (is : IsMoment now) {hand : Hand} (held : now.view.hand ≡ Some hand) where
+  -- it is not recorded,
+  pub unrecorded-held : is_recorded now.words hand.mark ≡ false
+  unrecorded-held =
+      once_if-false (is_recorded now.words hand.mark) (omega (
+        arith,
+        holders-most now.run now.words now.views is.world.numbers hand.mark,
+        sum-one (λ u. once_if (holds hand.mark u.hand)) now.views now.id now.view is.at,
+        ap once_if (ap (holds hand.mark) held ∙ eq-eqb hand.mark hand.mark refl),
+      ))
+
+  -- and nobody else has it.
+  pub alone-held : (i : ℕ) (other : View) (own : Hand) → i ≢ now.id → get_elem? now.views i ≡ some other → other.hand ≡ Some own → own.mark ≢ hand.mark
+  alone-held i other own apart e has same =
+      omega (
+        arith,
+        sum-two (λ u. once_if (holds hand.mark u.hand)) now.views i now.id other now.view apart e is.at,
+        holders-most now.run now.words now.views is.world.numbers hand.mark,
+        ap once_if (ap (holds hand.mark) held ∙ eq-eqb hand.mark hand.mark refl),
+        ap once_if (ap (holds hand.mark) has ∙ eq-eqb own.mark hand.mark same),
+      )
+
+  none_held : (test : Stage → Bool) (own : ℕ → Word) → IsBlank test own now.words now.views → test hand.stage ≡ false → now.words (own hand.mark) ≡ 0
+  none_held test own blank not_yet =
+      blank hand.mark unrecorded-held
+      (hands_at-held now.run now.words now.views is.world.numbers test now.id now.view hand is.at held ∙ ap once_if not_yet)
+
+  -- What is written for its node is not there before the hand has come so far.
+  pub blank-held : has_point hand.stage ≡ false → now.words (PointOf (suc hand.mark)) ≡ 0
+  blank-held = none_held has_point (λ k. PointOf (suc k)) is.world.hands.blank
+
+  pub first-held : has_first hand.stage ≡ false → now.words (FirstOf (suc hand.mark)) ≡ 0
+  first-held = none_held has_first (λ k. FirstOf (suc k)) is.world.pairs.no_first
+
+  pub tree-held : has_tree hand.stage ≡ false → now.words (TreeOf (suc hand.mark)) ≡ 0
+  tree-held = none_held has_tree (λ k. TreeOf (suc k)) is.world.pairs.no_tree
+
+-- ---- a step of its view
+
+module _ {s : Shift} (is : IsShift s) (test : Stage → Bool) (own : ℕ → Word) (blank : IsBlank test own s.now.words s.now.views) where
+  -- a step by which the hand comes no farther
+  pub IsBlank-step :
+      ((k : ℕ) → is_recorded s.now.words k ≡ false → hands_at test k s.now.views ≡ 0 → s.after (own k) ≡ s.now.words (own k))
+      → ((k : ℕ) → is_recorded s.after k ≡ is_recorded s.now.words k) → ((k : ℕ) → holds_at test k s.then.hand ≡ holds_at test k s.now.view.hand)
+      → IsBlank test own s.after (later_views s)
+  IsBlank-step stays recorded same k none no_hand =
+      let none_before = sym (recorded k) ∙ none in
+      let no_hand_before : hands_at test k s.now.views ≡ 0 =
+      omega (arith, no_hand, sum-set (λ u. once_if (holds_at test k u.hand)) s.now.views s.now.id s.now.view s.then is.moment.at, ap once_if (same k)) in
+      stays k none_before no_hand_before ∙ blank k none_before no_hand_before
+
+  module _ (hand : Hand) (held : s.now.view.hand ≡ Some hand) where
+    -- a record of its mark
+    pub IsBlank-recorded :
+        s.then.hand ≡ None → ((k : ℕ) → is_recorded s.now.words k ≡ false → hands_at test k s.now.views ≡ 0 → s.after (own k) ≡ s.now.words (own k))
+        → is_recorded s.after hand.mark ≡ true → ((k : ℕ) → k ≢ hand.mark → is_recorded s.after k ≡ is_recorded s.now.words k)
+        → IsBlank test own s.after (later_views s)
+    IsBlank-recorded idle stays now recorded k none no_hand =
+        elim (cases_eq k hand.mark) [
+          | inl e ↦ (let no = sym none ∙ ap (is_recorded s.after) e ∙ now in cc)
+          | inr apart ↦ (
+              let none_before = sym (recorded k apart) ∙ none in
+              let no_hand_before : hands_at test k s.now.views ≡ 0 = omega (
+                arith,
+                no_hand,
+                sum-set (λ u. once_if (holds_at test k u.hand)) s.now.views s.now.id s.now.view s.then is.moment.at,
+                ap once_if (ap (holds_at test k) idle),
+                ap once_if (holds_at-other test k s.now.view.hand hand held apart),
+              ) in
+              stays k none_before no_hand_before ∙ blank k none_before no_hand_before)
+        ]
+
+    -- one by which it comes to another stage, with its word as that says
+    pub IsBlank-hand :
+        (next : Hand) → s.then.hand ≡ Some next → next.mark ≡ hand.mark → ((k : ℕ) → k ≢ hand.mark → s.after (own k) ≡ s.now.words (own k))
+        → ((k : ℕ) → is_recorded s.after k ≡ is_recorded s.now.words k) → (test next.stage ≡ false → s.after (own hand.mark) ≡ 0)
+        → IsBlank test own s.after (later_views s)
+    IsBlank-hand next now same stays recorded none_own k none no_hand =
+        elim (cases_eq k hand.mark) [
+          | inl e ↦ ap (λ j. s.after (own j)) e ∙ none_own (once_if-false (test next.stage) (omega (
+            arith,
+            no_hand,
+            sum-one (λ u. once_if (holds_at test k u.hand)) (later_views s) s.now.id s.then (at-then is),
+            ap once_if (ap (λ j. holds_at test j s.then.hand) (e ∙ sym same) ∙ holds_at-own test s.then.hand next now),
+          )))
+          | inr apart ↦ stays k apart ∙ blank k (sym (recorded k) ∙ none) (omega (
+            arith,
+            no_hand,
+            sum-set (λ u. once_if (holds_at test k u.hand)) s.now.views s.now.id s.now.view s.then is.moment.at,
+            ap once_if (holds_at-other test k s.then.hand next now (λ e. apart (e ∙ same))),
+            ap once_if (holds_at-other test k s.now.view.hand hand held apart),
+          ))
+        ]

@@ -1,17 +1,10 @@
 -- From what a view has seen of parents and costs to the tree now: a node may hang where it was seen that it may, since no cost rises.
-use Rattle.std.proofs.Common.{◌≡◌, ◌≢◌, ℕ, suc, ◌<◌, ◌≤◌, ◌^◌, true, sym, ap, ◌∙◌, subst, inl, inr, arith}
-use Rattle.std.specs.Prelude.{is_some}
-use Rattle.grown_runs.proofs.Common.{cost_of, Hangs, IsAllowedEdge, most_cost_of, IsPresent, StandsAt, node_count, point_of, AreSeenLawfully, GrowsInto}
-use Rattle.grown_runs.proofs.Common.{TreeState, first_cost_of, FollowWays, Point, MOST_NODES, IsPresent-stands, node_count-some, point_of-stands, Hangs-grows}
-use Rattle.grown_runs.proofs.Common.{cost_of-short, most_cost_of-le, most_cost_of-more, most_cost_of-within, IsPresent-grows, node_count-grows, point_of-grows}
-use Rattle.grown_runs.proofs.Common.{children_of_words, is_linked, AreBehind, Words, FirstOf, TreeOf, cost_in, parent_in, tree_word}
-use Rattle.step_core.specs.SharedWords.{linked_points}
-use Rattle.step_core.specs.ViewTrees.{IsCostBelow, MayHang, MayLower, SeesCost, SeesTree}
-use Rattle.step_core.specs.Views.{IsSharedRun, run_sizes, sees, setup_in, tree_seen}
-use Rattle.step_core.specs.Worlds.{IsFirstOf, Trees, state_in}
-use Rattle.step_core.specs.declared.views.Hand.{Hand}
-use Rattle.step_core.specs.declared.views.Stage.TheVariants.{Half}
-use Rattle.step_core.specs.declared.views.View.{View}
+use Rattle.step_core.proofs.Words.{◌≡◌, ◌≢◌, ◌<◌, ◌≤◌, ◌^◌, ◌∙◌, ℕ, suc, true, sym, ap, subst, inl, inr, arith, is_some, cost_of, Hangs, IsAllowedEdge}
+use Rattle.step_core.proofs.Words.{most_cost_of, IsPresent, StandsAt, node_count, point_of, AreSeenLawfully, GrowsInto, TreeState, first_cost_of, FollowWays}
+use Rattle.step_core.proofs.Words.{Point, MOST_NODES, IsPresent-stands, node_count-some, point_of-stands, Hangs-grows, cost_of-short, most_cost_of-le}
+use Rattle.step_core.proofs.Words.{most_cost_of-more, most_cost_of-within, IsPresent-grows, node_count-grows, point_of-grows, children_of_words, is_linked}
+use Rattle.step_core.proofs.Words.{AreBehind, Words, FirstOf, TreeOf, cost_in, parent_in, tree_word, linked_points, IsCostBelow, MayHang, MayLower, SeesCost}
+use Rattle.step_core.proofs.Words.{SeesTree, IsSharedRun, run_sizes, sees, setup_in, tree_seen, IsFirstOf, Trees, state_in, Hand, Half, View}
 use Rattle.step_core.proofs.OneView.LawfulPairs.{tree_of_word-written}
 use Rattle.step_core.proofs.OneView.LawfulSights.{IsTrueOf-seen, is_linked-seen}
 use Rattle.step_core.proofs.Seen.TrueWords.{linked-within}
@@ -49,8 +42,7 @@ module _ (view : View) (words : Words) (behind : AreBehind (sees view) words) (t
       omega (
         arith,
         seen.cost_is,
-        pairs.first n (parent_in (sees view (TreeOf n)), cost_in (sees view (TreeOf n)))
-            (tree_of_word-written (sees view (TreeOf n)) seen.written),
+        pairs.first n (parent_in (sees view (TreeOf n)), cost_in (sees view (TreeOf n))) (tree_of_word-written (sees view (TreeOf n)) seen.written),
       )
 
   -- so a node may hang below a parent that was seen, whatever that costs by now
@@ -125,8 +117,7 @@ module _ (view : View) (words : Words) (behind : AreBehind (sees view) words) (t
               may.chosen,
               cost-first hand.nearest may.nearest_at may.nearest_cost may.nearest,
               grows.first_costs hand.nearest nearest,
-              ap (λ q. cost_of q hand.point)
-                  (point_of-grows now next grows hand.nearest nearest ∙ at hand.nearest may.nearest_at may.nearest_cost may.nearest),
+              ap (λ q. cost_of q hand.point) (point_of-grows now next grows hand.nearest nearest ∙ at hand.nearest may.nearest_at may.nearest_cost may.nearest),
             );
         bounded =
             omega (
@@ -147,8 +138,7 @@ module _ (view : View) (words : Words) (behind : AreBehind (sees view) words) (t
 
     -- its parent is another node, since that costs less
     pub lowered-apart : parent ≢ n
-    lowered-apart e =
-        omega (arith, may.cheaper, may.below.cost_is, may.below.seen.cost_is, may.seen.cost_is, ap (λ m. cost_in (sees view (TreeOf m))) e)
+    lowered-apart e = omega (arith, may.cheaper, may.below.cost_is, may.below.seen.cost_is, may.seen.cost_is, ap (λ m. cost_in (sees view (TreeOf m))) e)
 
     pub Hangs-lower : Hangs (setup_in view.run) now n (point_of now.points n) parent cost
     Hangs-lower =

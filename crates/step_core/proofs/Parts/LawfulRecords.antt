@@ -1,39 +1,24 @@
 -- From what a pass has seen to the record law: a record that the view allows is lawful in the tree now.
-use Rattle.std.proofs.Common.{◌≡◌, ◌≢◌, ℕ, zero, suc, ◌+◌, ◌*◌, ◌/◌, ◌%◌, ◌<◌, ◌≤◌, ◌^◌, Bool, true, false, Option, Some}
-use Rattle.std.proofs.Common.{None, List, ◌∷◌, length, refl, sym, ap, ◌∙◌, subst, inl, inr, arith}
-use Rattle.std.specs.Prelude.{◌==◌, ◌&&◌, IsTrue, cond, is_some, nat_lt, unwrap_or}
-use Rattle.std.specs.List.{count_by, range_with_len, sum_by}
-use mathlib.Core.Option.{some}
-use lib.ListN.{get_elem?}
-use Rattle.std.proofs.lemmas.Nat.{div-add-mod', mod_below}
-use Rattle.std.proofs.lemmas.List.FromFn.{length-map-range_with_len}
-use Rattle.std.proofs.lemmas.List.Sums.{length-filter}
-use Rattle.grown_runs.proofs.Common.{Clear, mark_at, cost_of, squared_distance, IsGoalNode, is_goal_point, is_within, Hangs, is_placed, IsPresent, StandsAt}
-use Rattle.grown_runs.proofs.Common.{node_count, point_at, point_of, class_of, radius_of_class, HangsLawfully, HasLawfulOutcome, IsBlockedLawfully}
-use Rattle.grown_runs.proofs.Common.{IsChosenLawfully, IsEarlier, IsLawfulRecord, IsNeighbour, IsPlacedLawfully, IsSkippedLawfully, IsSteeredLawfully}
-use Rattle.grown_runs.proofs.Common.{earlier_count, first_cost_through, is_earlier, is_earlier_record, steered, Setup, mark_bound, TreeState, first_cost_of}
-use Rattle.grown_runs.proofs.Common.{is_of_worker, once_if, Point, Outcome, Blocked, Placed, Same, Skipped, Record, count-first, count-same, sum-le}
-use Rattle.grown_runs.proofs.Common.{no_goal_node, IsPresent-stands, StandsAt-present, class_of-le, has_node, has_placed, record_at, AreBehind, Words, Count}
-use Rattle.grown_runs.proofs.Common.{FirstOf, RecordOf, TreeOf, IsFirstWord, best_cost_in, best_word, cost_in, no_best, outcome_in, record_in, record_of_word}
-use Rattle.grown_runs.proofs.Common.{tree_word, unplaced_at, zeros, cost_in-tree_word}
-use Rattle.step_core.specs.SeenBests.{IsInformed, MayBeSkipped}
-use Rattle.step_core.specs.SeenRecords.{IsOwnNeighbour, MayBeBlocked, MayBePlaced, MayEnd, MayRecord, MaySteer, is_own_node, own_count, own_first_cost}
-use Rattle.step_core.specs.SharedWords.{linked_point}
-use Rattle.step_core.specs.Stages.{MayBeRecorded, has_count, has_first, has_link, has_point}
-use Rattle.step_core.specs.ViewTrees.{SeesHand, SeesPoint, SeesTree}
-use Rattle.step_core.specs.Views.{run_sizes, sees, setup_in, tree_seen}
-use Rattle.step_core.specs.Worlds.{IsFirstOf, IsWorld, counted_once, state_in}
-use Rattle.step_core.specs.declared.views.Hand.{Hand}
-use Rattle.step_core.specs.declared.views.Member.{Member}
-use Rattle.step_core.specs.declared.views.SharedRun.{SharedRun}
-use Rattle.step_core.specs.declared.views.Stage.{Stage}
-use Rattle.step_core.specs.declared.views.Stage.TheVariants.{Claimed, Counted, Half, Linked, Pointed, Posted, Treed}
-use Rattle.step_core.specs.declared.views.View.{View}
+use Rattle.step_core.proofs.Words.{◌≡◌, ◌≢◌, ◌+◌, ◌*◌, ◌/◌, ◌%◌, ◌<◌, ◌≤◌, ◌^◌, ◌∙◌, ◌==◌, ◌&&◌, ℕ, zero, suc, Bool, true, false, Option, Some, None, List}
+use Rattle.step_core.proofs.Words.{length, refl, sym, ap, subst, inl, inr, arith, IsTrue, cond, is_some, nat_lt, unwrap_or, count_by, range_with_len, sum_by}
+use Rattle.step_core.proofs.Words.{some, get_elem?, div-add-mod', mod_below, length-map-range_with_len, length-filter, Clear, mark_at, cost_of}
+use Rattle.step_core.proofs.Words.{squared_distance, IsGoalNode, is_goal_point, is_within, Hangs, is_placed, IsPresent, StandsAt, node_count, point_at}
+use Rattle.step_core.proofs.Words.{point_of, class_of, radius_of_class, HangsLawfully, HasLawfulOutcome, IsBlockedLawfully, IsChosenLawfully, IsEarlier}
+use Rattle.step_core.proofs.Words.{IsLawfulRecord, IsNeighbour, IsPlacedLawfully, IsSkippedLawfully, IsSteeredLawfully, earlier_count, first_cost_through}
+use Rattle.step_core.proofs.Words.{is_earlier, is_earlier_record, steered, Setup, mark_bound, TreeState, first_cost_of, is_of_worker, once_if, Point, Outcome}
+use Rattle.step_core.proofs.Words.{Blocked, Placed, Same, Skipped, Record, count-first, count-same, sum-le, no_goal_node, IsPresent-stands, StandsAt-present}
+use Rattle.step_core.proofs.Words.{class_of-le, has_node, has_placed, record_at, AreBehind, Words, Count, FirstOf, RecordOf, TreeOf, IsFirstWord, best_cost_in}
+use Rattle.step_core.proofs.Words.{best_word, cost_in, no_best, outcome_in, record_in, record_of_word, tree_word, unplaced_at, zeros, cost_in-tree_word}
+use Rattle.step_core.proofs.Words.{IsInformed, IsUnskipped, MayBeSkipped, IsOwnNeighbour, MayBeBlocked, MayBePlaced, MayEnd, MaySteer, is_own_node, own_count}
+use Rattle.step_core.proofs.Words.{own_first_cost, linked_point, IsMoment, MayFinish, Moment, has_count, has_first, has_link, has_point, SeesHand, SeesPoint}
+use Rattle.step_core.proofs.Words.{SeesTree, run_sizes, sees, setup_in, tree_seen, IsFirstOf, IsWorld, counted_once, state_in, Hand, SharedRun, Stage, Claimed}
+use Rattle.step_core.proofs.Words.{Counted, Half, Linked, Pointed, Posted, Treed, View}
 use Rattle.step_core.proofs.OneView.LawfulSights.{IsTrueOf-seen}
 use Rattle.step_core.proofs.Parts.LinkedCounts.{count-most}
 use Rattle.step_core.proofs.Parts.LinkedStates.{first_cost-linked, linked-present, placed-linked}
 use Rattle.step_core.proofs.Seen.PlacedWords.{has_node-same}
 use Rattle.step_core.proofs.Seen.SeenWords.{seen-within}
+use Rattle.step_core.proofs.Seen.SawWords.{cost_in-falls}
 use Rattle.step_core.proofs.Parts.WorldRecords.{earlier-placed}
 
 -- ---- pairs
@@ -157,8 +142,7 @@ has_come Posted e = record { point = refl; first = refl; link = refl }
 -- ---- what is seen against what is so
 
 module _ (words : Words) (views : List View) (id : ℕ) (view : View) (world : IsWorld view.run words views) (at : get_elem? views id ≡ some view)
-    (hand : Hand) (held : view.hand ≡ Some hand) (member : Member) (crew : List Member) (crew_is : view.crew ≡ member ∷ crew) (entry : Record)
-    (worker : entry.worker ≡ member.worker) where
+    {hand : Hand} {entry : Record} (made : MayFinish view hand entry) where
   abbrev own_run : SharedRun
   own_run = view.run
 
@@ -192,8 +176,8 @@ module _ (words : Words) (views : List View) (id : ℕ) (view : View) (world : I
   -- the view has seen all records of the worker
   own_records : (k : ℕ) → is_of_worker entry.worker (record_at words k) ≡ true → sees view (RecordOf k) ≡ words (RecordOf k)
   own_records k of =
-      (world.turns.members id view at 0 member (ap (λ l. get_elem? l 0) crew_is)).own k
-      (subst (λ w. is_of_worker w (record_at words k) ≡ true) worker of)
+      (world.turns.members id view at 0 made.member (ap (λ l. get_elem? l 0) made.first)).own k
+      (subst (λ w. is_of_worker w (record_at words k) ≡ true) made.worker of)
 
   same_own : (n : ℕ) → is_own_node view entry n ≡ is_earlier state entry n
   same_own = is_own_node-earlier view words entry behind own_records
@@ -219,14 +203,7 @@ module _ (words : Words) (views : List View) (id : ℕ) (view : View) (world : I
 
   -- what a node was seen to cost is no less than what it costs
   cost_falls : (n : ℕ) → 2 ^ 63 ≤ sees view (TreeOf n) → state.cost n ≤ cost_in (sees view (TreeOf n))
-  cost_falls n written =
-      elim (behind (TreeOf n)) [
-        | inl unseen ↦ absurd (omega (arith, unseen, written))
-        | inr falls ↦ elim falls [
-          | inl same ↦ omega (arith, ap cost_in same)
-          | inr fell ↦ omega (arith, fell.1)
-        ]
-      ]
+  cost_falls n written = cost_in-falls (sees view (TreeOf n)) (words (TreeOf n)) written (behind (TreeOf n))
 
   -- ---- placed marks
 
@@ -244,8 +221,7 @@ module _ (words : Words) (views : List View) (id : ℕ) (view : View) (world : I
   as_many =
       let all : length state.points ≡ length own_run.marks + 1 = length-map-range_with_len (linked_point (run_sizes own_run) words) 0
       (length own_run.marks + 1) in
-      length-filter (is_earlier state entry) (range_with_len 0 (length state.points))
-      ∙ ap (λ n. count_by (is_earlier state entry) (range_with_len 0 n)) all
+      length-filter (is_earlier state entry) (range_with_len 0 (length state.points)) ∙ ap (λ n. count_by (is_earlier state entry) (range_with_len 0 n)) all
       ∙ count-same (is_earlier state entry) (is_own_node view entry) (length own_run.marks + 1) (λ n low. sym (same_own n))
       ∙ sym (length-filter (is_own_node view entry) (range_with_len 0 (length own_run.marks + 1)))
 
@@ -261,8 +237,7 @@ module _ (words : Words) (views : List View) (id : ℕ) (view : View) (world : I
                 omega (
                   arith,
                   may.high,
-                  class_of-le (sees view Count) (node_count state.points)
-                      (omega (arith, behind Count, count-most own_run words views world.links world.trees)),
+                  class_of-le (sees view Count) (node_count state.points) (omega (arith, behind Count, count-most own_run words views world.links world.trees)),
                 );
           };
           chosen = λ i h.
@@ -291,10 +266,10 @@ module _ (words : Words) (views : List View) (id : ℕ) (view : View) (world : I
       come = has_come hand.stage count
 
       holds : SeesHand view hand
-      holds = tree.holds hand held
+      holds = tree.holds hand made.held
 
       first : IsFirstOf own_run words hand
-      first = world.pairs.first id view at hand held come.first
+      first = world.pairs.first id view at hand made.held come.first
 
       stands : StandsAt state.points (suc hand.mark) hand.point
       stands = stands_now (suc hand.mark) hand.point (holds.shown come.link)
@@ -359,7 +334,7 @@ module _ (words : Words) (views : List View) (id : ℕ) (view : View) (world : I
       let here = own_seen i own in
       let seen = subst (λ o. IsTrue (is_goal_point own_run.goals o)) (same_at i here) goal in
       let within : i < 2 ^ 18 = omega (arith, seen-within (run_sizes own_run) (sees view) i here, world.run_is.marks) in
-      let least = ((world.bests id view at refl).taken hand word held taken).1 i (node_of i own) seen in
+      let least = ((world.bests id view at refl).taken hand word made.held taken).1 i (node_of i own) seen in
       let low = best_cost-below word (own_first_cost view i) i within least in
       let some_pair = best_word-some word (own_first_cost view i) i within (first_cost-small i) least in
       omega (arith, above some_pair, low, own_cost i own)
@@ -375,7 +350,7 @@ module _ (words : Words) (views : List View) (id : ℕ) (view : View) (world : I
   -- a mark that may be skipped is skipped lawfully
   skipped_now : MayBeSkipped view hand entry.nearest → IsSkippedLawfully setup state (mark_at own_run.marks hand.mark) entry
   skipped_now may =
-      let pair = (world.bests id view at refl).taken_pair hand may.word held may.taken may.some_node in
+      let pair = (world.bests id view at refl).taken_pair hand may.word made.held may.taken may.some_node in
       record {
         goal = subst (IsGoalNode own_run.goals state.points) (sym may.node) pair.0;
         within = omega (arith, ap state.cost may.node, pair.1, may.within);
@@ -383,14 +358,13 @@ module _ (words : Words) (views : List View) (id : ℕ) (view : View) (world : I
 
   -- A nearest node that was seen is lawful, and steers to the same point.
   IsSteeredLawfully-own :
-      (MayEndAt EndsAt : Point → Type 0)
-      → (IsPresent seen_points entry.nearest → (p : Point)
+      (MayEndAt EndsAt : Point → Type 0) → (IsPresent seen_points entry.nearest → (p : Point)
       → p ≡ steered (point_of seen_points entry.nearest) (mark_at own_run.marks hand.mark) own_run.step → MayEndAt p → EndsAt p)
-      → MaySteer view hand entry MayEndAt → IsSteeredLawfully setup state (mark_at own_run.marks hand.mark) entry EndsAt
-  IsSteeredLawfully-own MayEndAt EndsAt now may =
+      → IsUnskipped view hand → MaySteer view hand entry MayEndAt → IsSteeredLawfully setup state (mark_at own_run.marks hand.mark) entry EndsAt
+  IsSteeredLawfully-own MayEndAt EndsAt now unskipped may =
       let mark : Point = mark_at own_run.marks hand.mark in
       record {
-        cheaper = λ i early goal. cheaper_now i (own_of i early) goal (may.unskipped (informed i goal));
+        cheaper = λ i early goal. cheaper_now i (own_of i early) goal (unskipped (informed i goal));
         present = ap is_some (same_at entry.nearest may.present) ∙ may.present;
         nearest = λ i early.
             let own = own_of i early in
@@ -404,24 +378,27 @@ module _ (words : Words) (views : List View) (id : ℕ) (view : View) (world : I
       }
 
   -- What the view allows to be recorded is lawful.
-  IsLawfulRecord-own : MayRecord view hand entry → MayBeRecorded hand.stage entry.outcome
-      → IsLawfulRecord setup state hand.mark (mark_at own_run.marks hand.mark) entry
-  IsLawfulRecord-own may stage = by_outcome entry.outcome refl may
+  IsLawfulRecord-own : IsLawfulRecord setup state hand.mark (mark_at own_run.marks hand.mark) entry
+  IsLawfulRecord-own = by_outcome entry.outcome refl made.true
     where
+      counted : entry.outcome ≡ Placed → has_count hand.stage ≡ true
+      counted e = sym made.stage.counted ∙ ap is_placed e
+
       by_outcome : (outcome : Outcome) → entry.outcome ≡ outcome → MayEnd view hand entry outcome
           → HasLawfulOutcome setup state hand.mark (mark_at own_run.marks hand.mark) entry outcome
       by_outcome Placed e placed =
           IsSteeredLawfully-own (λ p. MayBePlaced view hand entry) (IsPlacedLawfully setup state hand.mark entry)
-          (λ present p is ended. placed_now present p is (sym stage.counted ∙ ap is_placed e) ended) placed
-      by_outcome (Same j) e same =
-          IsSteeredLawfully-own (SeesPoint view j) (StandsAt state.points j) (λ present p is ended. stands_now j p ended) same
+          (λ present p is ended. placed_now present p is (counted e) ended) ((tree.holds hand made.held).unskipped (has_come hand.stage (counted e)).point)
+          placed
+      by_outcome (Same j) e same = IsSteeredLawfully-own (SeesPoint view j) (StandsAt state.points j) (λ present p is ended. stands_now j p ended) same.0 same.1
       by_outcome Blocked e blocked =
-          IsSteeredLawfully-own (MayBeBlocked view entry) (IsBlockedLawfully setup state entry) (λ present p is ended. blocked_now present p ended) blocked
+          IsSteeredLawfully-own (MayBeBlocked view entry) (IsBlockedLawfully setup state entry) (λ present p is ended. blocked_now present p ended) blocked.0
+          blocked.1
       by_outcome Skipped e skipped = skipped_now skipped
 
   -- Its first word has its first parent and its first cost, if it was placed.
-  IsFirstWord-own : MayRecord view hand entry → MayBeRecorded hand.stage entry.outcome → IsFirstWord entry (words (FirstOf (suc hand.mark)))
-  IsFirstWord-own may stage = by_outcome entry.outcome refl may
+  IsFirstWord-own : IsFirstWord entry (words (FirstOf (suc hand.mark)))
+  IsFirstWord-own = by_outcome entry.outcome refl made.true
     where
       unplaced : (outcome : Outcome) → entry.outcome ≡ outcome → outcome ≢ Placed
           → IsTrue (entry.first_parent == 0 && (entry.first_cost == 0 && entry.class == 0)) → IsFirstWord entry (words (FirstOf (suc hand.mark)))
@@ -436,7 +413,7 @@ module _ (words : Words) (views : List View) (id : ℕ) (view : View) (world : I
       by_outcome : (outcome : Outcome) → entry.outcome ≡ outcome → MayEnd view hand entry outcome → IsFirstWord entry (words (FirstOf (suc hand.mark)))
       by_outcome Placed e ended =
           let placed = ended.outcome in
-          let first = world.pairs.first id view at hand held (has_come hand.stage (sym stage.counted ∙ ap is_placed e)).first in
+          let first = world.pairs.first id view at hand made.held (has_come hand.stage (sym made.stage.counted ∙ ap is_placed e)).first in
           record {
             word = λ is. first.word ∙ ap (λ f. tree_word f hand.cost) (sym placed.parent_is) ∙ ap (tree_word entry.first_parent) (sym placed.cost_is);
             parent = omega (arith, placed.parent_is, first.fits.0);
@@ -448,17 +425,12 @@ module _ (words : Words) (views : List View) (id : ℕ) (view : View) (world : I
 
 -- the same of a view of the run
 pub IsLawfulRecord-seen :
-    (run : SharedRun) (words : Words) (views : List View) (id : ℕ) (view : View) → IsWorld run words views → get_elem? views id ≡ some view
-    → view.run ≡ run → (hand : Hand) → view.hand ≡ Some hand → (member : Member) (crew : List Member) → view.crew ≡ member ∷ crew → (entry : Record)
-    → entry.worker ≡ member.worker → MayRecord view hand entry → MayBeRecorded hand.stage entry.outcome
-    → IsLawfulRecord (setup_in run) (state_in run words) hand.mark (mark_at run.marks hand.mark) entry
-IsLawfulRecord-seen run words views id view world at own hand held member crew crew_is entry worker may stage =
-    subst (λ r. IsWorld r words views → IsLawfulRecord (setup_in r) (state_in r words) hand.mark (mark_at r.marks hand.mark) entry) own
-    (λ here. IsLawfulRecord-own words views id view here at hand held member crew crew_is entry worker may stage) world
+    {now : Moment} → IsMoment now → {hand : Hand} {entry : Record} → MayFinish now.view hand entry
+    → IsLawfulRecord (setup_in now.run) (state_in now.run now.words) hand.mark (mark_at now.run.marks hand.mark) entry
+IsLawfulRecord-seen {now} is {hand} {entry} may =
+    subst (λ r. IsWorld r now.words now.views → IsLawfulRecord (setup_in r) (state_in r now.words) hand.mark (mark_at r.marks hand.mark) entry) is.own
+    (λ here. IsLawfulRecord-own now.words now.views now.id now.view here is.at may) is.world
 
 pub IsFirstWord-seen :
-    (run : SharedRun) (words : Words) (views : List View) (id : ℕ) (view : View) → IsWorld run words views → get_elem? views id ≡ some view
-    → view.run ≡ run → (hand : Hand) → view.hand ≡ Some hand → (member : Member) (crew : List Member) → view.crew ≡ member ∷ crew → (entry : Record)
-    → entry.worker ≡ member.worker → MayRecord view hand entry → MayBeRecorded hand.stage entry.outcome → IsFirstWord entry (words (FirstOf (suc hand.mark)))
-IsFirstWord-seen run words views id view world at own hand held member crew crew_is entry worker may stage =
-    IsFirstWord-own words views id view (subst (λ r. IsWorld r words views) (sym own) world) at hand held member crew crew_is entry worker may stage
+    {now : Moment} → IsMoment now → {hand : Hand} {entry : Record} → MayFinish now.view hand entry → IsFirstWord entry (now.words (FirstOf (suc hand.mark)))
+IsFirstWord-seen {now} is may = IsFirstWord-own now.words now.views now.id now.view (subst (λ r. IsWorld r now.words now.views) (sym is.own) is.world) is.at may

@@ -1,22 +1,9 @@
 -- How many nodes are linked, by the count that is kept of them.
-use Rattle.std.proofs.Common.{◌≡◌, ℕ, zero, suc, ◌+◌, ◌≤◌, Bool, true, false, List, [], ◌∷◌}
-use Rattle.std.proofs.Common.{length, Some, None, Option, refl, sym, ap, ◌∙◌, inl, inr, arith}
-use Rattle.std.specs.Prelude.{◌==◌, ◌&&◌, is_some}
-use Rattle.std.specs.List.{range_with_len, sum_by}
-use Rattle.std.proofs.lemmas.Bool.{cases_Bool}
-use Rattle.std.proofs.lemmas.List.FromFn.{length-map-range_with_len}
-use Rattle.std.proofs.lemmas.List.Sums.{sum_by-cons}
-use Rattle.grown_runs.proofs.Common.{IsPresent, node_count, point_at, once_if, IsPresent-stands, count-next, sum-le, child_of_word, is_linked, Words, Count}
-use Rattle.grown_runs.proofs.Common.{in_child}
-use Rattle.step_core.specs.SharedWords.{linked_point, linked_points}
-use Rattle.step_core.specs.Stages.{has_count, has_link, holds_at}
-use Rattle.step_core.specs.Views.{run_sizes}
-use Rattle.step_core.specs.Worlds.{LinkedTree, Trees, counted_once, hands_at}
-use Rattle.step_core.specs.declared.views.Hand.{Hand}
-use Rattle.step_core.specs.declared.views.SharedRun.{SharedRun}
-use Rattle.step_core.specs.declared.views.Stage.{Stage}
-use Rattle.step_core.specs.declared.views.Stage.TheVariants.{Claimed, Counted, Half, Linked, Pointed, Posted, Treed}
-use Rattle.step_core.specs.declared.views.View.{View}
+use Rattle.step_core.proofs.Words.{◌≡◌, ◌+◌, ◌≤◌, [], ◌∷◌, ◌∙◌, ◌==◌, ◌&&◌, ℕ, zero, suc, Bool, true, false, List, length, Some, None, Option, refl, sym, ap}
+use Rattle.step_core.proofs.Words.{inl, inr, arith, is_some, range_with_len, sum_by, cases_Bool, length-map-range_with_len, sum_by-cons, IsPresent, node_count}
+use Rattle.step_core.proofs.Words.{point_at, once_if, IsPresent-stands, count-next, sum-le, child_of_word, is_linked, Words, Count, in_child, linked_point}
+use Rattle.step_core.proofs.Words.{linked_points, has_count, has_link, holds_at, run_sizes, LinkedTree, Trees, counted_once, hands_at, Hand, SharedRun, Stage}
+use Rattle.step_core.proofs.Words.{Claimed, Counted, Half, Linked, Pointed, Posted, Treed, View}
 use Rattle.step_core.proofs.Parts.LinkedStates.{linked-present}
 
 -- ---- hands

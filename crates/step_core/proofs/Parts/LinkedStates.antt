@@ -1,19 +1,10 @@
 -- The linked nodes as a tree with its costs and records, and how it grows with the words.
-use Rattle.std.proofs.Common.{◌≡◌, ℕ, zero, suc, ◌+◌, ◌<◌, ◌≤◌, ◌^◌, Bool, true, false, List, length, Option, Some, None}
-use Rattle.std.proofs.Common.{refl, sym, ap, ◌∙◌, inl, inr, arith}
-use Rattle.std.specs.Prelude.{cond, is_some, nat_lt}
-use Rattle.std.proofs.lemmas.List.FromFn.{get_or-map-range_with_len, length-map-range_with_len}
-use Rattle.std.proofs.lemmas.Option.{same_Some}
-use Rattle.grown_runs.proofs.Common.{Point, Record, IsPresent, StandsAt, node_count, point_at, MOST_NODES, node_count-length, GrowsInto, first_cost_of}
-use Rattle.grown_runs.proofs.Common.{recorded_or, once_if, child_of_word, has_node, has_placed, is_linked, record_at, AreBehind, Words, ChildOf, FirstOf}
-use Rattle.grown_runs.proofs.Common.{PointOf, RecordOf, TreeOf, Sizes, cost_in, outcome_in, parent_in, point_of_word, record_in, record_of_word, tree_word}
-use Rattle.grown_runs.proofs.Common.{in_child, is_linked-child}
-use Rattle.step_core.specs.SharedWords.{linked_point, linked_points}
-use Rattle.step_core.specs.Stages.{has_link}
-use Rattle.step_core.specs.Views.{IsSharedRun, run_sizes}
-use Rattle.step_core.specs.Worlds.{LinkedTree, ClaimedMarks, Trees, is_recorded, state_in}
-use Rattle.step_core.specs.declared.views.SharedRun.{SharedRun}
-use Rattle.step_core.specs.declared.views.View.{View}
+use Rattle.step_core.proofs.Words.{◌≡◌, ◌+◌, ◌<◌, ◌≤◌, ◌^◌, ◌∙◌, ℕ, zero, suc, Bool, true, false, List, length, Option, Some, None, refl, sym, ap, inl, inr}
+use Rattle.step_core.proofs.Words.{arith, cond, is_some, nat_lt, get_or-map-range_with_len, length-map-range_with_len, same_Some, Point, Record, IsPresent}
+use Rattle.step_core.proofs.Words.{StandsAt, node_count, point_at, MOST_NODES, node_count-length, GrowsInto, first_cost_of, recorded_or, once_if, child_of_word}
+use Rattle.step_core.proofs.Words.{has_node, has_placed, is_linked, record_at, AreBehind, Words, ChildOf, FirstOf, PointOf, RecordOf, TreeOf, Sizes, cost_in}
+use Rattle.step_core.proofs.Words.{outcome_in, parent_in, point_of_word, record_in, record_of_word, tree_word, in_child, is_linked-child, linked_point}
+use Rattle.step_core.proofs.Words.{linked_points, has_link, IsSharedRun, run_sizes, LinkedTree, ClaimedMarks, Trees, is_recorded, state_in, SharedRun, View}
 use Rattle.step_core.proofs.Parts.HandsAt.{hands_at-most, holders-most}
 use Rattle.step_core.proofs.Parts.MarksInHand.{once_if-true}
 use Rattle.step_core.proofs.Seen.TrueWords.{linked-within}
@@ -36,22 +27,19 @@ module _ (sizes : Sizes) (words : Words) where
   -- and stands where its word says
   pub stands-linked : (n : ℕ) (p : Point) → n ≤ sizes.marks → is_linked sizes words n ≡ true → point_of_word (words (PointOf n)) ≡ Some p
       → StandsAt (linked_points sizes words) n p
-  stands-linked n p within linked is =
-      point_at-linked n within ∙ ap (λ b. cond b (point_of_word (words (PointOf n))) None) linked ∙ is
+  stands-linked n p within linked is = point_at-linked n within ∙ ap (λ b. cond b (point_of_word (words (PointOf n))) None) linked ∙ is
 
   pub word-stands : (n : ℕ) (p : Point) → StandsAt (linked_points sizes words) n p → point_of_word (words (PointOf n)) ≡ Some p
   word-stands n p h =
       let here = ap is_some h in
-      ap (λ b. cond b (point_of_word (words (PointOf n))) None) (sym (linked-present n here))
-      ∙ sym (point_at-linked n (linked-within sizes words n here)) ∙ h
+      ap (λ b. cond b (point_of_word (words (PointOf n))) None) (sym (linked-present n here)) ∙ sym (point_at-linked n (linked-within sizes words n here)) ∙ h
 
 -- a number that is not linked has no child
 pub unlinked-childless :
     (run : SharedRun) (words : Words) (views : List View) → LinkedTree run words views → (n : ℕ) → is_linked (run_sizes run) words n ≡ false → (side : Bool)
     → words (ChildOf n side) ≡ 0
 unlinked-childless run words views links n unlinked side =
-    no_child (words (ChildOf n side))
-    (links.ways.empty n side (λ here. let gone = sym unlinked ∙ linked-present (run_sizes run) words n here in cc))
+    no_child (words (ChildOf n side)) (links.ways.empty n side (λ here. let gone = sym unlinked ∙ linked-present (run_sizes run) words n here in cc))
   where
     no_child : (word : ℕ) → child_of_word word ≡ None → word ≡ 0
     no_child zero h = refl
@@ -106,8 +94,7 @@ module _ (run : SharedRun) (words : Words) (views : List View) (numbers : Claime
   -- a linked node of a mark that is recorded was placed
   placed-recorded : (k : ℕ) → is_linked (run_sizes run) words (suc k) ≡ true → is_recorded words k ≡ true → has_node words (suc k) ≡ true
   placed-recorded k linked recorded =
-      once_if-true (has_node words (suc k))
-      (omega (
+      once_if-true (has_node words (suc k)) (omega (
         arith,
         links.linked k,
         ap once_if linked,
@@ -126,8 +113,7 @@ module _ (run : SharedRun) (words : Words) (views : List View) (numbers : Claime
       by_record : (o : Option Record) → record_at words k ≡ o → recorded_or (cost_in (words (FirstOf (suc k)))) o ≡ cost_in (words (FirstOf (suc k)))
       by_record None e = refl
       by_record (Some entry) e =
-          placed-first (words (RecordOf k)) (words (FirstOf (suc k))) entry e
-          (ap has_placed (sym e) ∙ placed-recorded k linked (ap is_some e))
+          placed-first (words (RecordOf k)) (words (FirstOf (suc k))) entry e (ap has_placed (sym e) ∙ placed-recorded k linked (ap is_some e))
 
 -- ---- the words go on
 

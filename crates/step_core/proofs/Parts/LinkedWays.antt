@@ -1,15 +1,10 @@
 -- Links lead from node 0: to each linked node through the words, and a step further each time that a view finds a child where its way led.
-use Rattle.std.proofs.Common.{◌≡◌, ◌≢◌, ℕ, zero, suc, ◌+◌, ◌≤◌, Bool, true, Some, None, refl, sym, ap, ◌∙◌, subst, arith}
-use Rattle.std.specs.Prelude.{IsSome, is_some, if◌then◌else◌}
-use Rattle.std.proofs.lemmas.List.FromFn.{get_or-map-range_with_len}
-use Rattle.grown_runs.proofs.Common.{point_of, HasSeenAtLeast, FollowWays, IsOnWay, begins, goes_on, Point, StandsAt-present, IsOnWay-fills, IsLinked}
-use Rattle.grown_runs.proofs.Common.{child_of_word, children_of_words, is_linked, start, below, AreBehind, Words, ChildOf, PointOf, Sizes, point_of_word}
-use Rattle.grown_runs.proofs.Common.{in_child, is_linked-linked}
-use Rattle.step_core.specs.LaterViews.{IsLater}
-use Rattle.step_core.specs.SharedWords.{linked_point, linked_points}
-use Rattle.step_core.specs.ViewTrees.{IsOnWayOf, LeadsTo, SeesNode, SeesTree}
-use Rattle.step_core.specs.Views.{run_sizes, sees, tree_seen}
-use Rattle.step_core.specs.declared.views.View.{View}
+use Rattle.step_core.proofs.Words.{◌≡◌, ◌≢◌, ◌+◌, ◌≤◌, ◌∙◌, ℕ, zero, suc, Bool, true, Some, None, refl, sym, ap, subst, arith, IsSome, is_some, if◌then◌else◌}
+use Rattle.step_core.proofs.Words.{get_or-map-range_with_len, point_of, HasSeenAtLeast, FollowWays, IsOnWay, Point, StandsAt-present, IsOnWay-fills, IsLinked}
+use Rattle.step_core.proofs.Words.{child_of_word, children_of_words, is_linked, start, below, AreBehind, Words, ChildOf, PointOf, Sizes, point_of_word}
+use Rattle.step_core.proofs.Words.{in_child, is_linked-linked, IsLater, linked_point, linked_points, IsOnWayOf, LeadsTo, SeesNode, SeesTree, run_sizes, sees}
+use Rattle.step_core.proofs.Words.{tree_seen, View}
+use Rattle.grown_runs.proofs.Common.{begins, goes_on}
 use Rattle.step_core.proofs.OneView.LawfulSights.{IsPresent-seen, SeesNode-within, is_linked-seen}
 use Rattle.step_core.proofs.OneView.SeenViews.{HasSeenAtLeast-later}
 use Rattle.step_core.proofs.Parts.WorldLinks.{parent_within}
@@ -64,12 +59,10 @@ IsOnWayOf-found before after later p n c side leads found =
 -- The point of a node that a view has seen is written.
 pub IsSome-seen_point :
     (view : View) (words : Words) → AreBehind (sees view) words → SeesTree view
-    → FollowWays (children_of_words words) (linked_points (run_sizes view.run) words) → (n : ℕ) → SeesNode view n
-    → IsSome (point_of_word (words (PointOf n)))
+    → FollowWays (children_of_words words) (linked_points (run_sizes view.run) words) → (n : ℕ) → SeesNode view n → IsSome (point_of_word (words (PointOf n)))
 IsSome-seen_point view words behind tree ways n seen =
     let sizes = run_sizes view.run in
     let within = SeesNode-within view words behind tree ways n seen in
-    ap is_some
-    (sym (ap (λ b. if b then point_of_word (words (PointOf n)) else None) (is_linked-seen view words behind tree ways n seen))
+    ap is_some (sym (ap (λ b. if b then point_of_word (words (PointOf n)) else None) (is_linked-seen view words behind tree ways n seen))
     ∙ sym (get_or-map-range_with_len (linked_point sizes words) 0 (sizes.marks + 1) n n None (omega (arith, within)) (omega arith)))
     ∙ IsPresent-seen view words behind tree ways n seen

@@ -1,16 +1,8 @@
 -- A mark in hand has no record yet, and is one of the marks. A claim takes one mark more.
-use Rattle.std.proofs.Common.{◌≡◌, ◌≢◌, ℕ, suc, ◌+◌, ◌*◌, ◌/◌, ◌%◌, ◌<◌, ◌≤◌, Bool, true}
-use Rattle.std.proofs.Common.{false, List, length, Option, Some, None, refl, sym, ap, ◌∙◌, inl, inr, arith}
-use Rattle.std.specs.Prelude.{◌==◌, cond, is_some}
-use mathlib.Core.Option.{some}
-use lib.ListN.{get_elem?}
-use Rattle.std.proofs.lemmas.Bool.{cases_eq, eq-eqb, ne_eqb, ltb-true}
-use Rattle.std.proofs.lemmas.Nat.{div-add-mod', mod_below}
-use Rattle.grown_runs.proofs.Common.{is_claimed, once_if, Record, IsCutAt-quota, is_claimed-now, is_claimed-other, not_claimed-yet, record_at, Words, Counter}
-use Rattle.step_core.specs.Views.{holds, share}
-use Rattle.step_core.specs.Worlds.{ClaimedMarks, counters, greatest_limit, holders, is_recorded, limit_of}
-use Rattle.step_core.specs.declared.views.SharedRun.{SharedRun}
-use Rattle.step_core.specs.declared.views.View.{View}
+use Rattle.step_core.proofs.Words.{◌≡◌, ◌≢◌, ◌+◌, ◌*◌, ◌/◌, ◌%◌, ◌<◌, ◌≤◌, ◌∙◌, ◌==◌, ℕ, suc, Bool, true, false, List, length, Option, Some, None, refl, sym}
+use Rattle.step_core.proofs.Words.{ap, inl, inr, arith, cond, is_some, some, get_elem?, cases_eq, eq-eqb, ne_eqb, ltb-true, div-add-mod', mod_below, is_claimed}
+use Rattle.step_core.proofs.Words.{once_if, Record, IsCutAt-quota, is_claimed-now, is_claimed-other, not_claimed-yet, record_at, Words, Counter, holds, share}
+use Rattle.step_core.proofs.Words.{ClaimedMarks, counters, greatest_limit, holders, is_recorded, limit_of, SharedRun, View, Hand, IsWorld}
 use Rattle.step_core.proofs.Parts.ViewLists.{maximum-most, sum-one}
 
 -- ---- 0 or 1
@@ -22,6 +14,12 @@ once_if-most false = omega arith
 pub once_if-true : (b : Bool) → 1 ≤ once_if b → b ≡ true
 once_if-true true h = refl
 once_if-true false h = absurd (omega (arith, h))
+
+pub once_if-same : (a b : Bool) → once_if a ≡ once_if b → a ≡ b
+once_if-same true true e = refl
+once_if-same false false e = refl
+once_if-same true false e = absurd (omega (arith, e))
+once_if-same false true e = absurd (omega (arith, e))
 
 pub once_if-false : (b : Bool) → once_if b ≡ 0 → b ≡ false
 once_if-false true h = absurd (omega (arith, h))
@@ -82,7 +80,7 @@ module _ (run : SharedRun) (words : Words) (views : List View) (some_strip : 0 <
     pub absent : record_at words k ≡ None
     pub low : k < length run.marks
 
-  pub IsInHand-held : (id : ℕ) (view : View) (k : ℕ) → get_elem? views id ≡ some view → holds k view.hand ≡ true → IsInHand k
+  IsInHand-held : (id : ℕ) (view : View) (k : ℕ) → get_elem? views id ≡ some view → holds k view.hand ≡ true → IsInHand k
   IsInHand-held id view k at held =
       let one : once_if (holds k view.hand) ≡ 1 = ap once_if held in
       let count : once_if (holds k view.hand) ≤ holders k views = sum-one (λ u. once_if (holds k u.hand)) views id view at in
@@ -93,3 +91,10 @@ module _ (run : SharedRun) (words : Words) (views : List View) (some_strip : 0 <
         absent = no_record (record_at words k) (once_if-false (is_recorded words k) (omega (arith, balance, one, count, top)));
         low = omega (arith, claimed-below k claimed, greatest_limit-most);
       }
+
+-- a mark in hand has no record, and is one of the marks
+pub in_hand :
+    (run : SharedRun) (words : Words) (views : List View) (id : ℕ) (view : View) → (world : IsWorld run words views) → get_elem? views id ≡ some view
+    → (hand : Hand) → view.hand ≡ Some hand → IsInHand run words views world.run_is.strips.0 world.numbers hand.mark
+in_hand run words views id view world at hand held =
+    IsInHand-held run words views world.run_is.strips.0 world.numbers id view hand.mark at (ap (holds hand.mark) held ∙ eq-eqb hand.mark hand.mark refl)

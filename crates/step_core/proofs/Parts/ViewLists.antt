@@ -1,11 +1,6 @@
 -- Sums and greatest numbers over a list in which one element changes, and what holds of each view then.
-use Rattle.std.proofs.Common.{◌≡◌, ◌≢◌, ◌⊎◌, ℕ, zero, suc, ◌+◌, ◌≤◌, List, [], ◌∷◌, ◌++◌, map, set, refl, sym, ap, subst, inl, inr, arith}
-use Rattle.std.specs.List.{sum_by}
-use Rattle.std.proofs.lemmas.List.Sums.{sum_by-cons}
-use mathlib.Core.Option.{some, some-ne-none, some-injective}
-use lib.ListN.{get_elem?}
-use Rattle.step_core.specs.Worlds.{EachView, maximum}
-use Rattle.step_core.specs.declared.views.View.{View}
+use Rattle.step_core.proofs.Words.{◌≡◌, ◌≢◌, ◌⊎◌, ◌+◌, ◌≤◌, [], ◌∷◌, ◌++◌, ◌∙◌, ℕ, zero, suc, List, map, set, refl, sym, ap, subst, inl, inr, arith, sum_by}
+use Rattle.step_core.proofs.Words.{cases_eq, sum_by-cons, some, some-ne-none, some-injective, get_elem?, EachView, maximum, View}
 
 module _ {A : Type 0} where
   -- ---- one element
@@ -14,6 +9,14 @@ module _ {A : Type 0} where
   at-set [] i a b e = absurd (some-ne-none a (sym e))
   at-set (x ∷ l) zero a b e = refl
   at-set (x ∷ l) (suc i) a b e = at-set l i a b e
+
+  -- elements at two places are one if the places are
+  pub same-at : (l : List A) (i j : ℕ) (a b : A) → get_elem? l i ≡ some a → get_elem? l j ≡ some b → ((i ≡ j) × (a ≡ b)) ⊎ (i ≢ j)
+  same-at l i j a b e d =
+      elim (cases_eq i j) [
+        | inl same ↦ inl (same, some-injective a b (sym e ∙ ap (get_elem? l) same ∙ d))
+        | inr apart ↦ inr apart
+      ]
 
   -- an element after another was set
   pub at-after_set :

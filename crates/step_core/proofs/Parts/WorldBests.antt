@@ -1,23 +1,10 @@
 -- The parts of the law of worlds on the best word, after each kind of step.
-use Rattle.std.proofs.Common.{◌≡◌, ℕ, zero, suc, ◌+◌, ◌*◌, ◌<◌, ◌≤◌, ◌^◌, true, List, set, Option, Some, None}
-use Rattle.std.proofs.Common.{refl, sym, ap, ◌∙◌, subst, inl, inr, arith, le_refl, le_trans}
-use Rattle.std.specs.Prelude.{◌⊎◌, ◌≢◌, IsTrue}
-use Rattle.std.proofs.lemmas.Option.{same_Some}
-use mathlib.Core.Option.{some}
-use lib.ListN.{get_elem?}
-use Rattle.grown_runs.proofs.Common.{IsGoalNode, is_goal_point, IsPresent, point_at, point_of, GrowsInto, Point, IsPresent-goal, StandsAt-present}
-use Rattle.grown_runs.proofs.Common.{IsGoalNode-before, IsGoalNode-grows, cost-grows, has_node, is_linked, AreBehind, Words, Best, FirstOf, RecordOf}
-use Rattle.grown_runs.proofs.Common.{best_cost_in, best_node_in, best_word, cost_in}
-use Rattle.step_core.specs.SeenBests.{IsAtMostPlaced, SeesGoal, seen_first_cost}
-use Rattle.step_core.specs.SharedWords.{linked_points}
-use Rattle.step_core.specs.ViewSteps.{new_hand}
-use Rattle.step_core.specs.ViewTrees.{SeesTree}
-use Rattle.step_core.specs.Views.{run_sizes, sees, tree_seen}
-use Rattle.step_core.specs.Worlds.{BestWord, ClaimedMarks, IsBestWord, LinkedTree, SeenBests, SeesBest, Trees, state_in}
-use Rattle.step_core.specs.declared.views.Hand.{Hand}
-use Rattle.step_core.specs.declared.views.SharedRun.{SharedRun}
-use Rattle.step_core.specs.declared.views.Stage.TheVariants.{Posted}
-use Rattle.step_core.specs.declared.views.View.{View}
+use Rattle.step_core.proofs.Words.{◌≡◌, ◌≤◌, ◌∙◌, ◌⊎◌, ◌≢◌, ℕ, zero, suc, true, List, set, Option, Some, None, refl, sym, ap, subst, inl, inr, arith, le_trans}
+use Rattle.step_core.proofs.Words.{IsTrue, same_Some, some, get_elem?, IsGoalNode, is_goal_point, IsPresent, point_at, point_of, GrowsInto, IsPresent-goal}
+use Rattle.step_core.proofs.Words.{StandsAt-present, IsGoalNode-before, IsGoalNode-grows, cost-grows, has_node, is_linked, AreBehind, Words, Best, FirstOf}
+use Rattle.step_core.proofs.Words.{RecordOf, best_node_in, best_word, cost_in, IsAtMostPlaced, SeesGoal, seen_first_cost, linked_points, new_hand, SeesTree}
+use Rattle.step_core.proofs.Words.{run_sizes, sees, tree_seen, BestWord, ClaimedMarks, IsBestWord, LinkedTree, SeenBests, SeesBest, Trees, state_in, Hand}
+use Rattle.step_core.proofs.Words.{SharedRun, Posted, View}
 use Rattle.step_core.proofs.Parts.LinkedCounts.{present-linked}
 use Rattle.step_core.proofs.Parts.LinkedStates.{placed-linked}
 use Rattle.step_core.proofs.Seen.PlacedWords.{has_node-same}
@@ -35,6 +22,7 @@ module _ (run : SharedRun) (before after : Words) (grows : GrowsInto (state_in r
       let here = IsPresent-goal run.goals (point_at (linked_points (run_sizes run) before) n) was.0 in (
         IsGoalNode-grows run.goals (state_in run before) (state_in run after) grows n was.0,
         le_trans (cost-grows (state_in run before) (state_in run after) grows n here) was.1,
+        was.2,
       )
 
   -- a node that was present was a goal node before
@@ -79,8 +67,7 @@ module _ (run : SharedRun) (before after : Words) (views : List View) (numbers :
   pub BestWord-step :
       BestWord run before → IsBestWord run after (after Best) → after Best ≤ before Best
       → ((n : ℕ) → has_node after n ≡ true → IsGoalNode run.goals (linked_points (run_sizes run) after) n
-      → (has_node before n ≡ true) ⊎ (after Best ≤ best_word (cost_in (after (FirstOf n))) n))
-      → BestWord run after
+      → (has_node before n ≡ true) ⊎ (after Best ≤ best_word (cost_in (after (FirstOf n))) n)) → BestWord run after
   BestWord-step best pair falls nodes = record {
     pair = pair;
     placed = λ n node goal.
@@ -194,10 +181,8 @@ pub record KeepsBest (before after : Words) (view then : View) : Type 0 where
 pub SeenBests-kept :
     (run : SharedRun) (before after : Words) (views : List View) (id : ℕ) (view then : View) → get_elem? views id ≡ some view → view.run ≡ run
     → then.run ≡ view.run → SeenBests run before views → GrowsInto (state_in run before) (state_in run after) → AreBehind (sees view) (sees then)
-    → SeesTree view → ((k : ℕ) → sees then (RecordOf k) ≡ sees view (RecordOf k)) → KeepsBest before after view then
-    → SeenBests run after (set views id then)
+    → SeesTree view → ((k : ℕ) → sees then (RecordOf k) ≡ sees view (RecordOf k)) → KeepsBest before after view then → SeenBests run after (set views id then)
 SeenBests-kept run before after views id view then at own same seen grows go tree records keeps =
     let falls : after Best ≤ before Best = omega (arith, keeps.word) in
-    SeenBests-set run before after grows views id then falls seen
-    (λ of. SeesBest-kept view then same go tree run after keeps.seen keeps.hand records
+    SeenBests-set run before after grows views id then falls seen (λ of. SeesBest-kept view then same go tree run after keeps.seen keeps.hand records
     (SeesBest-goes_on run before after grows falls view (seen id view at own)))

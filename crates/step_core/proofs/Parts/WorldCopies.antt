@@ -1,20 +1,12 @@
 -- Each word that tells of the run is seen as it is after a step of one view, too: a word that stays is seen so by the view that saw it so before,
 -- and one that changes by the view that makes the step.
-use Rattle.std.proofs.Common.{◌≡◌, ◌≢◌, ℕ, suc, ◌<◌, Bool, true, List, [], ◌∷◌, ◌++◌, set, sym, ap, ◌∙◌, subst, inl, inr}
-use Rattle.std.specs.Prelude.{◌⊎◌}
-use mathlib.Core.Option.{some, some-injective}
-use lib.ListN.{get_elem?}
-use Rattle.std.proofs.lemmas.Bool.{cases_eq}
-use Rattle.grown_runs.proofs.Common.{is_linked, AreBehind, MayBecome, kind_of, Apart, Word, Words, WritesWord, Best, ChildOf, Count, Counter, FirstOf, PointOf}
-use Rattle.grown_runs.proofs.Common.{RecordOf, TreeOf, MayBecome-both}
-use Rattle.step_core.specs.Views.{run_sizes, sees, share}
-use Rattle.step_core.specs.Worlds.{BestCopy, Copies, HasCopy, IsTold}
-use Rattle.step_core.specs.declared.views.Hand.{Hand}
-use Rattle.step_core.specs.declared.views.SharedRun.{SharedRun}
-use Rattle.step_core.specs.declared.views.View.{View}
+use Rattle.step_core.proofs.Words.{◌≡◌, ◌≢◌, ◌<◌, [], ◌∷◌, ◌++◌, ◌∙◌, ◌⊎◌, ℕ, suc, Bool, true, List, set, sym, ap, subst, inl, inr, some, get_elem?, cases_eq}
+use Rattle.step_core.proofs.Words.{is_linked, AreBehind, MayBecome, kind_of, Apart, Word, Words, WritesWord, Best, ChildOf, Count, Counter, FirstOf, PointOf}
+use Rattle.step_core.proofs.Words.{RecordOf, TreeOf, MayBecome-both, run_sizes, sees, share, BestCopy, Copies, HasCopy, IsTold, SomeSharer, Hand, SharedRun}
+use Rattle.step_core.proofs.Words.{View}
 use Rattle.step_core.proofs.OneView.LinkedViews.{AreInHand, ShowsNode}
 use Rattle.step_core.proofs.Seen.Looks.{same_name}
-use Rattle.step_core.proofs.Parts.ViewLists.{at-push, at-set, at-set_other}
+use Rattle.step_core.proofs.Parts.ViewLists.{at-push, at-set, at-set_other, same-at}
 use Rattle.step_core.proofs.Parts.WorldLinks.{KeepsLinks, is_linked-kept}
 
 -- what was seen as it is, is seen so later, if it stays
@@ -50,6 +42,30 @@ module _ (run : SharedRun) (before after : Words) where
 
 -- ---- a step of one view
 
+-- A view with a share has a property after a step of one view if it had one before that stays, for that view by the step.
+SomeSharer-later :
+    (run : SharedRun) (views : List View) (id : ℕ) (view then : View) → get_elem? views id ≡ some view → then.run ≡ run → (0 < share view → 0 < share then)
+    → (had has : View → Type 0) → ((u : View) → had u → has u) → (had view → has then) → SomeSharer run views had → SomeSharer run (set views id then) has
+SomeSharer-later run views id view then at own shares had has stays goes sharer =
+    elim (same-at views sharer.id id sharer.view view sharer.at at) [
+      | inl (same, is) ↦ record {
+        id = id;
+        view = then;
+        at = at-set views id view then at;
+        run_is = own;
+        part = shares (subst (λ u. 0 < share u) is sharer.part);
+        same = goes (subst had is sharer.same);
+      }
+      | inr apart ↦ record {
+        id = sharer.id;
+        view = sharer.view;
+        at = at-set_other views id sharer.id then apart ∙ sharer.at;
+        run_is = sharer.run_is;
+        part = sharer.part;
+        same = stays sharer.view sharer.same;
+      }
+    ]
+
 module _ (run : SharedRun) (before after : Words) (views : List View) (id : ℕ) (view then : View) (at : get_elem? views id ≡ some view)
     (own : then.run ≡ run) (copies : Copies run before views) (more : AreBehind (sees view) (sees then)) (behind : AreBehind (sees then) after)
     (shares : 0 < share view → 0 < share then) where
@@ -60,21 +76,9 @@ module _ (run : SharedRun) (before after : Words) (views : List View) (id : ℕ)
   HasCopy-own name part same = record { id = id; view = then; at = at-set views id view then at; run_is = own; part = part; same = same }
 
   HasCopy-stays : (name : Word) → kind_of name ≢ Apart → after name ≡ before name → HasCopy run before views name → HasCopy run after later name
-  HasCopy-stays name told stays copy =
-      elim (cases_eq copy.id id) [
-        | inl here ↦ (
-            let is : copy.view ≡ view = some-injective copy.view view (sym copy.at ∙ ap (get_elem? views) here ∙ at) in
-            let saw : sees view name ≡ after name = ap (λ u. sees u name) (sym is) ∙ copy.same ∙ sym stays in
-            HasCopy-own name (shares (subst (λ u. 0 < share u) is copy.part)) (same-later name told (sees view) (sees then) after more behind saw))
-        | inr apart ↦ record {
-          id = copy.id;
-          view = copy.view;
-          at = at-set_other views id copy.id then apart ∙ copy.at;
-          run_is = copy.run_is;
-          part = copy.part;
-          same = copy.same ∙ sym stays;
-        }
-      ]
+  HasCopy-stays name told stays =
+      SomeSharer-later run views id view then at own shares (λ u. sees u name ≡ before name) (λ u. sees u name ≡ after name) (λ u saw. saw ∙ sym stays)
+      (λ saw. same-later name told (sees view) (sees then) after more behind (saw ∙ sym stays))
 
   -- each word stays and told of the run before, or the view has a share and sees it as it is
   pub Copies-step :
@@ -124,8 +128,7 @@ module _ (run : SharedRun) (before after : Words) (views : List View) (id : ℕ)
       -- a word of each node, that of the node in hand seen
       of_node :
           (word : ℕ → Word) → ((m : ℕ) → word m ≢ ChildOf n side) → sees then (word node) ≡ after (word node) → (m : ℕ)
-          → is_linked (run_sizes run) after m ≡ true
-          → ((after (word m) ≡ before (word m)) × (is_linked (run_sizes run) before m ≡ true))
+          → is_linked (run_sizes run) after m ≡ true → ((after (word m) ≡ before (word m)) × (is_linked (run_sizes run) before m ≡ true))
           ⊎ ((0 < share then) × (sees then (word m) ≡ after (word m)))
       of_node word apart seen m linked =
           elim (cases_eq m node) [
@@ -140,8 +143,7 @@ module _ (run : SharedRun) (before after : Words) (views : List View) (id : ℕ)
             | inr same ↦ same
           ]
 
-      each : (name : Word) → IsTold run after name
-          → ((after name ≡ before name) × IsTold run before name) ⊎ ((0 < share then) × (sees then name ≡ after name))
+      each : (name : Word) → IsTold run after name → ((after name ≡ before name) × IsTold run before name) ⊎ ((0 < share then) × (sees then name ≡ after name))
       each Count told = absurd told
       each Best told = absurd told
       each (Counter g) told = inl (writes.others (Counter g) (λ e. cc), told)
@@ -155,8 +157,7 @@ module _ (run : SharedRun) (before after : Words) (views : List View) (id : ℕ)
             | inr apart ↦ elim (cases_eq m node) [
               | inl e ↦ inr (
                 part,
-                subst (λ i. ChildOf i right ≢ ChildOf n side → sees then (ChildOf i right) ≡ after (ChildOf i right)) (sym e)
-                    (unseen right) apart,
+                subst (λ i. ChildOf i right ≢ ChildOf n side → sees then (ChildOf i right) ≡ after (ChildOf i right)) (sym e) (unseen right) apart,
               )
               | inr off ↦ inl (writes.others (ChildOf m right) apart, sym (others m off) ∙ told)
             ]
@@ -168,26 +169,7 @@ pub BestCopy-step :
     → BestCopy run before views → (0 < share view → 0 < share then) → after Best ≡ before Best
     → (view.best ≡ before Best → then.best ≡ after Best) → BestCopy run after (set views id then)
 BestCopy-step run before after views id view then at own copy shares stays keeps =
-    elim (cases_eq copy.id id) [
-      | inl here ↦ (
-          let is : copy.view ≡ view = some-injective copy.view view (sym copy.at ∙ ap (get_elem? views) here ∙ at) in
-          record {
-            id = id;
-            view = then;
-            at = at-set views id view then at;
-            run_is = own;
-            part = shares (subst (λ u. 0 < share u) is copy.part);
-            same = keeps (ap (λ u. u.best) (sym is) ∙ copy.same);
-          })
-      | inr apart ↦ record {
-        id = copy.id;
-        view = copy.view;
-        at = at-set_other views id copy.id then apart ∙ copy.at;
-        run_is = copy.run_is;
-        part = copy.part;
-        same = copy.same ∙ sym stays;
-      }
-    ]
+    SomeSharer-later run views id view then at own shares (λ u. u.best ≡ before Best) (λ u. u.best ≡ after Best) (λ u saw. saw ∙ sym stays) keeps copy
 
 pub BestCopy-push : (run : SharedRun) (words : Words) (views : List View) (more : View) → BestCopy run words views → BestCopy run words (views ++ more ∷ [])
 BestCopy-push run words views more copy =

@@ -1,19 +1,8 @@
 -- The part of the law of worlds on the points of nodes in hand, after each kind of step.
-use Rattle.std.proofs.Common.{◌≡◌, ◌≢◌, ℕ, suc, true, false, List, set, Some, None, refl, sym, ap, ◌∙◌, subst, inl, inr, arith}
-use Rattle.std.proofs.lemmas.Bool.{cases_eq, eq-eqb}
-use Rattle.std.proofs.lemmas.Option.{same_Some}
-use mathlib.Core.Option.{some}
-use lib.ListN.{get_elem?}
-use Rattle.grown_runs.proofs.Common.{once_if, Words, WritesWord, PointOf, point_word}
-use Rattle.step_core.specs.Stages.{has_point, holds_at}
-use Rattle.step_core.specs.Views.{holds}
-use Rattle.step_core.specs.Worlds.{EachView, Hands, ClaimedMarks, hands_at, is_recorded}
-use Rattle.step_core.specs.declared.views.Hand.{Hand}
-use Rattle.step_core.specs.declared.views.SharedRun.{SharedRun}
-use Rattle.step_core.specs.declared.views.View.{View}
-use Rattle.step_core.proofs.Parts.HandsAt.{hands_at-held, holders-most, holds_at-other, holds_at-own}
-use Rattle.step_core.proofs.Parts.MarksInHand.{once_if-false}
-use Rattle.step_core.proofs.Parts.ViewLists.{at-set, each-set, sum-one, sum-set, sum-two}
+use Rattle.step_core.proofs.Words.{◌≡◌, ◌≢◌, ◌∙◌, ℕ, suc, true, List, Some, None, sym, ap, subst, same_Some, Words, WritesWord, PointOf, point_word, has_point}
+use Rattle.step_core.proofs.Words.{holds_at, EachView, Hands, hands_at, is_recorded, Hand, View}
+use Rattle.step_core.proofs.Parts.HandsAt.{IsBlank-hand, IsBlank-recorded, IsBlank-step, alone-held, holds_at-stays}
+use Rattle.step_core.proofs.Parts.Shifts.{IsShift, Shift, each-later, later_views}
 
 -- the hand's point is written, if it has come so far
 abbrev pub IsWrittenFor : Words → View → Type 0
@@ -28,95 +17,52 @@ Hands-views words views later hands written same = record {
   blank = λ k no_record no_hand. hands.blank k no_record (sym (same k) ∙ no_hand);
 }
 
-module _ (before after : Words) (views : List View) (id : ℕ) (view then : View) (at : get_elem? views id ≡ some view) (hands : Hands before views) where
+module _ {s : Shift} (is : IsShift s) where
   -- Of a step that leaves all points and all records it is asked that the hand has not come on to a point.
   pub Hands-step :
-      ((n : ℕ) → after (PointOf n) ≡ before (PointOf n)) → ((k : ℕ) → is_recorded after k ≡ is_recorded before k) → IsWrittenFor before then
-      → ((k : ℕ) → holds_at has_point k then.hand ≡ holds_at has_point k view.hand) → Hands after (set views id then)
+      ((n : ℕ) → s.after (PointOf n) ≡ s.now.words (PointOf n)) → ((k : ℕ) → is_recorded s.after k ≡ is_recorded s.now.words k)
+      → IsWrittenFor s.now.words s.then → ((k : ℕ) → holds_at has_point k s.then.hand ≡ holds_at has_point k s.now.view.hand) → Hands s.after (later_views s)
   Hands-step points recorded own same = record {
-    written = each-set views id then (IsWrittenFor after) (λ i u apart e hand held far. points (suc hand.mark) ∙ hands.written i u e hand held far)
+    written = each-later is (IsWrittenFor s.after) (λ i u apart e hand held far. points (suc hand.mark) ∙ is.moment.world.hands.written i u e hand held far)
         (λ hand held far. points (suc hand.mark) ∙ own hand held far);
-    blank = λ k no_record no_hand. points (suc k)
-        ∙ hands.blank k (sym (recorded k) ∙ no_record)
-        (omega (arith, no_hand, sum-set (λ u. once_if (holds_at has_point k u.hand)) views id view then at, ap once_if (same k)));
+    blank = IsBlank-step is has_point (λ k. PointOf (suc k)) is.moment.world.hands.blank (λ k none no_hand. points (suc k)) recorded same;
   }
+
+  -- the hand has come on with its point as it was
+  pub Hands-on :
+      {hand next : Hand} → s.now.view.hand ≡ Some hand → s.then.hand ≡ Some next → next.mark ≡ hand.mark → next.point ≡ hand.point
+      → has_point hand.stage ≡ true → has_point next.stage ≡ true → ((n : ℕ) → s.after (PointOf n) ≡ s.now.words (PointOf n))
+      → ((k : ℕ) → is_recorded s.after k ≡ is_recorded s.now.words k) → Hands s.after (later_views s)
+  Hands-on {hand} {next} held now same point far far_then points recorded =
+      Hands-step points recorded
+      (λ other e on. subst (λ h. s.now.words (PointOf (suc h.mark)) ≡ point_word h.point) (same_Some next other (sym now ∙ e))
+      (ap (λ k. s.now.words (PointOf (suc k))) same ∙ is.moment.world.hands.written s.now.id s.now.view is.moment.at hand held far
+      ∙ ap point_word (sym point)))
+      (λ k. ap (holds_at has_point k) now ∙ holds_at-stays has_point s.now.view.hand hand next held same (far_then ∙ sym far) k)
 
   -- a record of the mark in hand
   pub Hands-recorded :
-      (hand : Hand) → view.hand ≡ Some hand → then.hand ≡ None → ((n : ℕ) → after (PointOf n) ≡ before (PointOf n)) → is_recorded after hand.mark ≡ true
-      → ((k : ℕ) → k ≢ hand.mark → is_recorded after k ≡ is_recorded before k) → Hands after (set views id then)
+      (hand : Hand) → s.now.view.hand ≡ Some hand → s.then.hand ≡ None → ((n : ℕ) → s.after (PointOf n) ≡ s.now.words (PointOf n))
+      → is_recorded s.after hand.mark ≡ true
+      → ((k : ℕ) → k ≢ hand.mark → is_recorded s.after k ≡ is_recorded s.now.words k) → Hands s.after (later_views s)
   Hands-recorded hand held idle points now recorded = record {
-    written = each-set views id then (IsWrittenFor after) (λ i u apart e own has far. points (suc own.mark) ∙ hands.written i u e own has far)
+    written = each-later is (IsWrittenFor s.after) (λ i u apart e own has far. points (suc own.mark) ∙ is.moment.world.hands.written i u e own has far)
         (λ own has far. let none = sym idle ∙ has in cc);
-    blank = λ k no_record no_hand.
-        elim (cases_eq k hand.mark) [
-          | inl e ↦ (let no = sym no_record ∙ ap (is_recorded after) e ∙ now in cc)
-          | inr apart ↦
-              points (suc k)
-              ∙ hands.blank k (sym (recorded k apart) ∙ no_record)
-              (omega (
-                arith,
-                no_hand,
-                sum-set (λ u. once_if (holds_at has_point k u.hand)) views id view then at,
-                ap once_if (ap (holds_at has_point k) idle),
-                ap once_if (holds_at-other has_point k view.hand hand held apart),
-              ))
-        ];
+    blank = IsBlank-recorded is has_point (λ k. PointOf (suc k)) is.moment.world.hands.blank hand held idle (λ k none no_hand. points (suc k))
+        now recorded;
   }
 
   -- the point of the node in hand
-  module _ (run : SharedRun) (numbers : ClaimedMarks run before views) (hand : Hand) (held : view.hand ≡ Some hand) where
-    -- nobody else has the mark in hand
-    held_alone : (i : ℕ) (other : View) (own : Hand) → i ≢ id → get_elem? views i ≡ some other → other.hand ≡ Some own → own.mark ≢ hand.mark
-    held_alone i other own apart e has same =
-        omega (
-          arith,
-          sum-two (λ u. once_if (holds hand.mark u.hand)) views i id other view apart e at,
-          holders-most run before views numbers hand.mark,
-          ap once_if (ap (holds hand.mark) held ∙ eq-eqb hand.mark hand.mark refl),
-          ap once_if (ap (holds hand.mark) has ∙ eq-eqb own.mark hand.mark same),
-        )
-
-    -- and so its point is not written yet
-    pub blank-held : has_point hand.stage ≡ false → before (PointOf (suc hand.mark)) ≡ 0
-    blank-held not_yet =
-        hands.blank hand.mark (once_if-false (is_recorded before hand.mark)
-        (omega (
-          arith,
-          holders-most run before views numbers hand.mark,
-          sum-one (λ u. once_if (holds hand.mark u.hand)) views id view at,
-          ap once_if (ap (holds hand.mark) held ∙ eq-eqb hand.mark hand.mark refl),
-        )))
-        (hands_at-held run before views numbers has_point id view hand at held ∙ ap once_if not_yet)
-
-    pub Hands-pointed :
-        (next : Hand) → then.hand ≡ Some next → next.mark ≡ hand.mark → has_point next.stage ≡ true
-        → WritesWord (PointOf (suc hand.mark)) (point_word next.point) before after → ((k : ℕ) → is_recorded after k ≡ is_recorded before k)
-        → Hands after (set views id then)
-    Hands-pointed next now same_mark far writes recorded = record {
-      written = each-set views id then (IsWrittenFor after)
-          (λ i u apart e own has far.
-          writes.others (PointOf (suc own.mark)) (λ same. held_alone i u own apart e has cc) ∙ hands.written i u e own has far)
-          (λ own has far.
-          let is : next ≡ own = same_Some next own (sym now ∙ has) in
-          subst (λ h. after (PointOf (suc h.mark)) ≡ point_word h.point) is (ap (λ k. after (PointOf (suc k))) same_mark ∙ writes.here));
-      blank = λ k no_record no_hand.
-          elim (cases_eq k hand.mark) [
-            | inl e ↦ absurd (omega (
-              arith,
-              no_hand,
-              sum-one (λ u. once_if (holds_at has_point k u.hand)) (set views id then) id then (at-set views id view then at),
-              ap once_if (ap (λ j. holds_at has_point j then.hand) (e ∙ sym same_mark) ∙ holds_at-own has_point then.hand next now ∙ far),
-            ))
-            | inr apart ↦
-                writes.others (PointOf (suc k)) (λ e. apart cc)
-                ∙ hands.blank k (sym (recorded k) ∙ no_record)
-                (omega (
-                  arith,
-                  no_hand,
-                  sum-set (λ u. once_if (holds_at has_point k u.hand)) views id view then at,
-                  ap once_if (holds_at-other has_point k then.hand next now (λ e. apart (e ∙ same_mark))),
-                  ap once_if (holds_at-other has_point k view.hand hand held apart),
-                ))
-          ];
-    }
+  pub Hands-pointed :
+      (hand : Hand) → s.now.view.hand ≡ Some hand → (next : Hand) → s.then.hand ≡ Some next → next.mark ≡ hand.mark → has_point next.stage ≡ true
+      → WritesWord (PointOf (suc hand.mark)) (point_word next.point) s.now.words s.after → ((k : ℕ) → is_recorded s.after k ≡ is_recorded s.now.words k)
+      → Hands s.after (later_views s)
+  Hands-pointed hand held next now same_mark far writes recorded = record {
+    written = each-later is (IsWrittenFor s.after) (λ i u apart e own has far.
+        writes.others (PointOf (suc own.mark)) (λ same. alone-held is.moment held i u own apart e has cc)
+        ∙ is.moment.world.hands.written i u e own has far) (λ own has far.
+        let same : next ≡ own = same_Some next own (sym now ∙ has) in
+        subst (λ h. s.after (PointOf (suc h.mark)) ≡ point_word h.point) same (ap (λ k. s.after (PointOf (suc k))) same_mark ∙ writes.here));
+    blank = IsBlank-hand is has_point (λ k. PointOf (suc k)) is.moment.world.hands.blank hand held next now same_mark
+        (λ k apart. writes.others (PointOf (suc k)) (λ e. apart cc)) recorded (λ early. let no = sym far ∙ early in cc);
+  }

@@ -1,30 +1,16 @@
 -- The part of the law of worlds on links and on the count of nodes, after each kind of step.
-use Rattle.std.proofs.Common.{◌≡◌, ◌≢◌, ℕ, zero, suc, ◌+◌, ◌<◌, ◌≤◌, Bool, true, false, List, length, map, set, Option, Some, None, refl, sym, ap, ◌∙◌, subst}
-use Rattle.std.proofs.Common.{inl, inr, arith}
-use Rattle.std.specs.Prelude.{◌⊎◌, ◌==◌, ◌||◌, is_some, if◌then◌else◌}
-use Rattle.std.specs.List.{list_any, range_with_len}
-use Rattle.std.proofs.lemmas.Bool.{cases_Bool, cases_eq, cases_lt, eq-eqb}
-use Rattle.std.proofs.lemmas.List.{get_or_past}
-use Rattle.std.proofs.lemmas.List.FromFn.{get_or-map-range_with_len, length-map-range_with_len}
-use mathlib.Core.Option.{some}
-use lib.ListN.{get_elem?}
-use Rattle.grown_runs.proofs.Common.{is_placed, IsPresent, StandsAt, point_at, once_if, EndsBelow, FollowWays, goes_right, Point, Record, AddsPoint-stands}
-use Rattle.grown_runs.proofs.Common.{FollowWays-links, child_of_word, children_of_words, has_node, has_placed, is_linked, record_at, Words, WritesWord, ChildOf}
-use Rattle.grown_runs.proofs.Common.{Count, FirstOf, PointOf, RecordOf, Sizes, point_of_word, record_of_word, in_child, is_linked-child, is_linked-start}
-use Rattle.grown_runs.proofs.Common.{sum-most, sum-up}
-use Rattle.step_core.specs.SharedWords.{linked_point, linked_points}
-use Rattle.step_core.specs.Stages.{has_count, has_link, holds_at}
-use Rattle.step_core.specs.Views.{holds, run_sizes}
-use Rattle.step_core.specs.Worlds.{LinkedTree, ClaimedMarks, counted_once, hands_at, holders, is_recorded}
-use Rattle.step_core.specs.declared.views.Hand.{Hand}
-use Rattle.step_core.specs.declared.views.SharedRun.{SharedRun}
-use Rattle.step_core.specs.declared.views.Stage.{Stage}
-use Rattle.step_core.specs.declared.views.View.{View}
+use Rattle.step_core.proofs.Words.{◌≡◌, ◌≢◌, ◌+◌, ◌<◌, ◌≤◌, ◌∙◌, ◌⊎◌, ◌==◌, ◌||◌, ℕ, zero, suc, Bool, true, false, List, length, map, set, Option, Some, None}
+use Rattle.step_core.proofs.Words.{refl, sym, ap, subst, inl, inr, arith, is_some, if◌then◌else◌, list_any, range_with_len, cases_Bool, cases_eq, cases_lt}
+use Rattle.step_core.proofs.Words.{eq-eqb, get_or_past, get_or-map-range_with_len, length-map-range_with_len, some, get_elem?, is_placed, IsPresent, StandsAt}
+use Rattle.step_core.proofs.Words.{point_at, once_if, EndsBelow, FollowWays, goes_right, Point, Record, AddsPoint-stands, FollowWays-links, child_of_word}
+use Rattle.step_core.proofs.Words.{children_of_words, has_node, has_placed, is_linked, record_at, Words, WritesWord, ChildOf, Count, FirstOf, PointOf, RecordOf}
+use Rattle.step_core.proofs.Words.{Sizes, point_of_word, record_of_word, in_child, is_linked-child, is_linked-start, sum-most, sum-up, linked_point}
+use Rattle.step_core.proofs.Words.{linked_points, has_count, has_link, holds_at, holds, run_sizes, LinkedTree, ClaimedMarks, counted_once, hands_at, holders}
+use Rattle.step_core.proofs.Words.{is_recorded, Hand, SharedRun, Stage, View, sum-same}
 use Rattle.step_core.proofs.Parts.HandsAt.{hands_at-held, hands_at-most, holders-most, holds_at-other, holds_at-own}
 use Rattle.step_core.proofs.Seen.Looks.{same_name}
 use Rattle.step_core.proofs.Parts.MarksInHand.{once_if-false}
 use Rattle.step_core.proofs.Seen.PlacedWords.{has_node-same}
-use Rattle.plan_model.proofs.SumsBelow.{sum-same}
 use Rattle.step_core.proofs.Seen.TrueWords.{linked-within}
 use Rattle.step_core.proofs.Parts.ViewLists.{sum-one, sum-set}
 use Rattle.step_core.proofs.Parts.WorldParts.{KeepsRecords}
@@ -68,8 +54,7 @@ pub record KeepsLinks (sizes : Sizes) (before after : Words) : Type 0 where
 
 module _ (sizes : Sizes) (before after : Words) (keeps : KeepsLinks sizes before after) where
   pub is_linked-kept : (n : ℕ) → is_linked sizes after n ≡ is_linked sizes before n
-  is_linked-kept n =
-      λ t. (n == 0) || list_any (λ m. (keeps.children m false t == n) || (keeps.children m true t == n)) (range_with_len 0 (sizes.marks + 1))
+  is_linked-kept n = λ t. (n == 0) || list_any (λ m. (keeps.children m false t == n) || (keeps.children m true t == n)) (range_with_len 0 (sizes.marks + 1))
 
   linked_point-kept : (n : ℕ) → linked_point sizes after n ≡ linked_point sizes before n
   linked_point-kept n = by_test (is_linked sizes before n) refl
@@ -145,8 +130,7 @@ module _ (sizes : Sizes) (before after : Words) (ways : FollowWays (children_of_
 
   module _ (p at : Point) (k n depth : ℕ) (ends : EndsBelow (children_of_words before) (linked_points sizes before) p depth n at) (low : k < sizes.marks)
       (unlinked : is_linked sizes before (suc k) ≡ false) (written : point_of_word (before (PointOf (suc k))) ≡ Some p)
-      (empty : before (ChildOf n (goes_right depth at p)) ≡ 0)
-      (writes : WritesWord (ChildOf n (goes_right depth at p)) (suc k) before after) where
+      (empty : before (ChildOf n (goes_right depth at p)) ≡ 0) (writes : WritesWord (ChildOf n (goes_right depth at p)) (suc k) before after) where
     n_within : n ≤ sizes.marks
     n_within = linked-within sizes before n (ap is_some ends.stands)
 
@@ -175,8 +159,7 @@ module _ (sizes : Sizes) (before after : Words) (ways : FollowWays (children_of_
               let was = ap (λ a. before (ChildOf a own.side)) (sym here.0) ∙ own.holds in
               let none = ap (λ side. before (ChildOf n side)) here.1 ∙ empty in
               absurd (omega (arith, was, none)))
-          | inr same ↦
-              is_linked-child sizes after own.node (suc m) own.side (parent_within own.node m own.side own.holds) (ap child_of_word (same ∙ own.holds))
+          | inr same ↦ is_linked-child sizes after own.node (suc m) own.side (parent_within own.node m own.side own.holds) (ap child_of_word (same ∙ own.holds))
         ]
 
     was_linked : (m : ℕ) → m ≢ k → is_linked sizes after (suc m) ≡ true → is_linked sizes before (suc m) ≡ true
@@ -205,8 +188,7 @@ module _ (sizes : Sizes) (before after : Words) (ways : FollowWays (children_of_
         ]
 
     same_point : (m : ℕ) → m ≢ suc k → linked_point sizes after m ≡ linked_point sizes before m
-    same_point m apart =
-        λ t. if is_linked-others m apart t then point_of_word (writes.others (PointOf m) (λ e. cc) t) else None
+    same_point m apart = λ t. if is_linked-others m apart t then point_of_word (writes.others (PointOf m) (λ e. cc) t) else None
 
     new_point : linked_point sizes after (suc k) ≡ Some p
     new_point =
@@ -217,8 +199,7 @@ module _ (sizes : Sizes) (before after : Words) (ways : FollowWays (children_of_
     no_point = ap (λ b. if b then point_of_word (before (PointOf (suc k))) else None) unlinked
 
     at_within : (words : Words) (m : ℕ) → m ≤ sizes.marks → point_at (linked_points sizes words) m ≡ linked_point sizes words m
-    at_within words m within =
-        get_or-map-range_with_len (linked_point sizes words) 0 (sizes.marks + 1) m m None (omega (arith, within)) (omega arith)
+    at_within words m within = get_or-map-range_with_len (linked_point sizes words) 0 (sizes.marks + 1) m m None (omega (arith, within)) (omega arith)
 
     past : (words : Words) (m : ℕ) → sizes.marks < m → point_at (linked_points sizes words) m ≡ None
     past words m beyond =
@@ -241,8 +222,7 @@ module _ (sizes : Sizes) (before after : Words) (ways : FollowWays (children_of_
     pub FollowWays-linked : FollowWays (children_of_words after) (linked_points sizes after)
     FollowWays-linked =
         FollowWays-links (children_of_words before) (children_of_words after) (linked_points sizes before) (linked_points sizes after) p depth n (suc k) at ways
-        ends
-        (AddsPoint-stands (linked_points sizes before) (linked_points sizes after) (suc k) p absent-new stands-new point_at-others)
+        ends (AddsPoint-stands (linked_points sizes before) (linked_points sizes after) (suc k) p absent-new stands-new point_at-others)
         record {
           was_empty = ap child_of_word empty;
           linked = ap child_of_word writes.here;
@@ -278,8 +258,7 @@ module _ (run : SharedRun) (before after : Words) (views : List View) (id : ℕ)
   pub unlinked-held : has_link hand.stage ≡ false → is_linked (run_sizes run) before (suc hand.mark) ≡ false
   unlinked-held not_yet =
       let none : once_if (is_recorded before hand.mark) ≡ 0 = omega (arith, mine, holders-most run before views numbers hand.mark) in
-      once_if-false (is_linked (run_sizes run) before (suc hand.mark))
-      (omega (
+      once_if-false (is_linked (run_sizes run) before (suc hand.mark)) (omega (
         arith,
         links.linked hand.mark,
         hands_at-held run before views numbers has_link id view hand at held,
@@ -336,10 +315,8 @@ module _ (run : SharedRun) (before after : Words) (views : List View) (id : ℕ)
       each test same k =
           elim (cases_eq k hand.mark) [
             | inl e ↦
-                subst
-                (λ j. once_if (has_node after (suc j)) + hands_at test j (set views id newer) ≡ once_if (has_node before (suc j)) + hands_at test j views)
-                (sym e)
-                (omega (
+                subst (λ j. once_if (has_node after (suc j)) + hands_at test j (set views id newer) ≡ once_if (has_node before (suc j)) + hands_at test j views)
+                (sym e) (omega (
                   arith,
                   ap once_if is_now,
                   ap once_if was_none,
@@ -357,8 +334,7 @@ module _ (run : SharedRun) (before after : Words) (views : List View) (id : ℕ)
     none_other test k apart = holds_at-other test k newer.hand next now (λ e. apart (e ∙ same_mark))
 
     own_stage : (test : Stage → Bool) → hands_at test hand.mark (set views id newer) ≡ once_if (test next.stage)
-    own_stage test =
-        hands_own test ∙ ap (λ k. once_if (holds_at test k newer.hand)) (sym same_mark) ∙ ap once_if (holds_at-own test newer.hand next now)
+    own_stage test = hands_own test ∙ ap (λ k. once_if (holds_at test k newer.hand)) (sym same_mark) ∙ ap once_if (holds_at-own test newer.hand next now)
 
     -- so far as its links go, nothing has changed
     stage_kept : (test : Stage → Bool) → test next.stage ≡ test hand.stage → (k : ℕ) → hands_at test k (set views id newer) ≡ hands_at test k views
@@ -370,26 +346,6 @@ module _ (run : SharedRun) (before after : Words) (views : List View) (id : ℕ)
           | inr apart ↦ hands_other test (none_other test) k apart
         ]
 
-    -- the point of a node that is not linked is written
-    pub LinkedTree-pointed :
-        (x : ℕ) → has_link hand.stage ≡ false → has_link next.stage ≡ has_link hand.stage → has_count next.stage ≡ has_count hand.stage
-        → WritesWord (PointOf (suc hand.mark)) x before after → LinkedTree run after (set views id newer)
-    LinkedTree-pointed x not_yet link count writes =
-        LinkedTree-step run before after views (set views id newer) links keeps (writes.others Count (λ e. cc))
-        (λ k. omega (arith, ap once_if (nodes k), stage_kept has_link link k)) (λ k. omega (arith, ap once_if (nodes k), stage_kept has_count count k))
-      where
-        nodes : (k : ℕ) → has_node after (suc k) ≡ has_node before (suc k)
-        nodes = has_node-kept_records before after (λ k. writes.others (RecordOf k) (λ e. cc))
-
-        keeps : KeepsLinks (run_sizes run) before after
-        keeps = record {
-          children = λ n side. writes.others (ChildOf n side) (λ e. cc);
-          points = λ n linked. writes.others (PointOf n) (λ e.
-              let own : n ≡ suc hand.mark = cc in
-              let no = sym (unlinked-held not_yet) ∙ ap (is_linked (run_sizes run) before) (sym own) ∙ linked in
-              cc);
-        }
-
     -- it is put into an empty child word at the end of the way of its point
     pub LinkedTree-linked :
         (p above : Point) (n depth : ℕ) → EndsBelow (children_of_words before) (linked_points (run_sizes run) before) p depth n above
@@ -398,8 +354,7 @@ module _ (run : SharedRun) (before after : Words) (views : List View) (id : ℕ)
         → WritesWord (ChildOf n (goes_right depth above p)) (suc hand.mark) before after → LinkedTree run after (set views id newer)
     LinkedTree-linked p above n depth ends low written empty not_yet link count writes = record {
       start = writes.others (PointOf 0) (λ e. cc) ∙ links.start;
-      ways =
-          FollowWays-linked (run_sizes run) before after links.ways p above hand.mark n depth ends low (unlinked-held not_yet) written empty writes;
+      ways = FollowWays-linked (run_sizes run) before after links.ways p above hand.mark n depth ends low (unlinked-held not_yet) written empty writes;
       linked = linked;
       count =
           writes.others Count (λ e. cc) ∙ links.count

@@ -1,19 +1,10 @@
 -- What a step of one view leaves of each part of the law of worlds.
-use Rattle.std.proofs.Common.{◌≡◌, ◌≢◌, ℕ, zero, suc, ◌+◌, ◌%◌, ◌<◌, ◌≤◌, ◌^◌, Bool, true, false}
-use Rattle.std.proofs.Common.{List, length, set, Some, None, refl, sym, ap, ◌∙◌, subst, inl, inr, arith}
-use Rattle.std.specs.Prelude.{◌⊎◌, ◌==◌, nat_lt, cond, is_some}
-use mathlib.Core.Option.{some}
-use lib.ListN.{get_elem?}
-use Rattle.std.proofs.lemmas.Bool.{cases_lt, le-ltb}
-use Rattle.grown_runs.proofs.Common.{is_claimed, quota_of, AreTurns, is_of_turn, is_of_worker, once_if, turns_of, count-all, count-same, count-wider}
-use Rattle.grown_runs.proofs.Common.{IsCutAt-quota, record_at, AreBehind, HaveWholePairs, Words, Counter, FirstOf, RecordOf, TreeOf, cost_in, outcome_in}
-use Rattle.grown_runs.proofs.Common.{record_in, record_of_word, AreBehind-trans}
-use Rattle.step_core.specs.Views.{IsViewOf, holds, sees, share, spent, times, took_over}
-use Rattle.step_core.specs.Worlds.{Agree, EachView, IsMember, IsRecordWord, ClaimedMarks, SeenBehind, Shares, Turns, counters, greatest_limit, is_recorded}
-use Rattle.step_core.specs.Worlds.{limit_of}
-use Rattle.step_core.specs.declared.views.Member.{Member}
-use Rattle.step_core.specs.declared.views.SharedRun.{SharedRun}
-use Rattle.step_core.specs.declared.views.View.{View}
+use Rattle.step_core.proofs.Words.{◌≡◌, ◌≢◌, ◌+◌, ◌%◌, ◌<◌, ◌≤◌, ◌^◌, ◌∙◌, ◌⊎◌, ◌==◌, ℕ, zero, suc, Bool, true, false, List, length, set, Some, None, refl, sym}
+use Rattle.step_core.proofs.Words.{ap, subst, inl, inr, arith, nat_lt, cond, is_some, some, get_elem?, cases_lt, le-ltb, is_claimed, quota_of, AreTurns}
+use Rattle.step_core.proofs.Words.{is_of_turn, is_of_worker, once_if, turns_of, count-all, count-same, count-wider, IsCutAt-quota, record_at, AreBehind}
+use Rattle.step_core.proofs.Words.{HaveWholePairs, Words, Counter, FirstOf, RecordOf, TreeOf, cost_in, outcome_in, record_in, record_of_word, AreBehind-trans}
+use Rattle.step_core.proofs.Words.{IsViewOf, holds, sees, share, spent, times, took_over, Agree, EachView, IsMember, IsRecordWord, ClaimedMarks, SeenBehind}
+use Rattle.step_core.proofs.Words.{Shares, Turns, counters, greatest_limit, is_recorded, limit_of, Member, SharedRun, View}
 use Rattle.step_core.proofs.Parts.ViewLists.{each-set, sum-set}
 
 -- ---- records by their own words
@@ -89,8 +80,7 @@ module _ (before after : Words) (kept : KeepsRecords before after) where
       ∙ turn-own w t (before (RecordOf k)) (after (FirstOf (suc k))) (before (FirstOf (suc k)))
 
   pub turns_of-kept : (limit w : ℕ) → turns_of (record_at after) limit w ≡ turns_of (record_at before) limit w
-  turns_of-kept limit w =
-      count-same (λ k. is_of_worker w (record_at after k)) (λ k. is_of_worker w (record_at before k)) limit (λ k low. worker_kept w k)
+  turns_of-kept limit w = count-same (λ k. is_of_worker w (record_at after k)) (λ k. is_of_worker w (record_at before k)) limit (λ k low. worker_kept w k)
 
   pub AreTurns-kept : (limit : ℕ) → AreTurns limit (record_at before) → AreTurns limit (record_at after)
   AreTurns-kept limit turns = record {
@@ -116,8 +106,7 @@ module _ (before after : Words) (kept : KeepsRecords before after) where
 
 -- a quota is at most its limit
 pub quota-most : (strips g limit : ℕ) → quota_of strips g limit ≤ limit
-quota-most strips g limit =
-    omega (arith, count-wider (λ k. k % strips == g) (λ k. true) limit (λ k h. refl), count-all (λ k. true) limit (λ k low. refl))
+quota-most strips g limit = omega (arith, count-wider (λ k. k % strips == g) (λ k. true) limit (λ k h. refl), count-all (λ k. true) limit (λ k low. refl))
 
 -- a higher limit has no lower quota
 pub quota-up : (strips g low high : ℕ) → g < strips → low ≤ high → quota_of strips g low ≤ quota_of strips g high
@@ -215,8 +204,7 @@ pub agree-set :
 agree-set views id then agree own =
     each-set views id then (λ one. EachView (set views id then) (λ other. Agree (sees one) (sees other)))
     (λ i one apart e. each-set views id then (λ other. Agree (sees one) (sees other)) (λ j other apart_too f. agree i one e j other f)
-    (Agree-sym (sees then) (sees one) (own i one apart e)))
-    (each-set views id then (λ other. Agree (sees then) (sees other)) own (λ n written also same. refl))
+    (Agree-sym (sees then) (sees one) (own i one apart e))) (each-set views id then (λ other. Agree (sees then) (sees other)) own (λ n written also same. refl))
 
 pub SeenBehind-step :
     (before after : Words) (views : List View) (id : ℕ) (view then : View) → get_elem? views id ≡ some view → SeenBehind before views → AreBehind before after
@@ -239,5 +227,4 @@ SeenBehind-step before after views id view then at seen go own took pairs whole 
 pub of_run-step :
     (run : SharedRun) (views : List View) (id : ℕ) (then : View) → EachView views (λ u. (u ≡ spent) ⊎ IsViewOf run u) → IsViewOf run then
     → EachView (set views id then) (λ u. (u ≡ spent) ⊎ IsViewOf run u)
-of_run-step run views id then of_run own =
-    each-set views id then (λ u. (u ≡ spent) ⊎ IsViewOf run u) (λ i u apart e. of_run i u e) (inr own)
+of_run-step run views id then of_run own = each-set views id then (λ u. (u ≡ spent) ⊎ IsViewOf run u) (λ i u apart e. of_run i u e) (inr own)

@@ -1,15 +1,9 @@
 -- The part of the law of worlds on records, after each kind of step.
-use Rattle.std.proofs.Common.{◌≡◌, ◌≢◌, ℕ, zero, suc, ◌<◌, ◌≤◌, Bool, true, false, List, length, Option}
-use Rattle.std.proofs.Common.{Some, None, refl, sym, ap, ◌∙◌, subst, inl, inr, arith, le_refl}
-use Rattle.std.specs.Prelude.{◌⊎◌, ◌==◌, ◌&&◌, is_some, nat_lt}
-use Rattle.std.proofs.lemmas.Bool.{cases_eq}
-use Rattle.grown_runs.proofs.Common.{mark_at, is_placed, IsPresent, IsEarlier, IsLawfulRecord, is_earlier_record, GrowsInto, TreeState, AreTurns, turns_of}
-use Rattle.grown_runs.proofs.Common.{MOST_WORKERS, Record, Task, HaveSameEarlier, is_earlier-same, is_earlier-same_records, RecordsMark, new_or_recorded}
-use Rattle.grown_runs.proofs.Common.{IsLawfulRecord-grows, turn-below, HoldRun, has_placed, record_at, Words, state_by-closed}
-use Rattle.step_core.specs.Views.{run_of, setup_in}
-use Rattle.step_core.specs.Worlds.{LinkedTree, ClaimedMarks, Records, Trees, state_in}
-use Rattle.step_core.specs.declared.views.SharedRun.{SharedRun}
-use Rattle.step_core.specs.declared.views.View.{View}
+use Rattle.step_core.proofs.Words.{◌≡◌, ◌≢◌, ◌<◌, ◌≤◌, ◌∙◌, ◌⊎◌, ◌==◌, ◌&&◌, ℕ, zero, suc, Bool, true, false, List, length, Option, Some, None, refl, sym, ap}
+use Rattle.step_core.proofs.Words.{subst, inl, inr, arith, le_refl, is_some, nat_lt, cases_eq, mark_at, is_placed, IsPresent, IsEarlier, IsLawfulRecord}
+use Rattle.step_core.proofs.Words.{is_earlier_record, GrowsInto, TreeState, AreTurns, turns_of, MOST_WORKERS, Record, Task, HaveSameEarlier, is_earlier-same}
+use Rattle.step_core.proofs.Words.{is_earlier-same_records, RecordsMark, new_or_recorded, IsLawfulRecord-grows, turn-below, HoldRun, has_placed, record_at}
+use Rattle.step_core.proofs.Words.{Words, state_by-closed, run_of, setup_in, LinkedTree, ClaimedMarks, Records, Trees, state_in, SharedRun, View}
 use Rattle.step_core.proofs.Parts.LinkedCounts.{present-linked}
 use Rattle.step_core.proofs.Parts.LinkedStates.{placed-linked}
 use Rattle.step_core.proofs.Parts.WorldParts.{KeepsRecords, is_recorded-kept}
@@ -33,8 +27,7 @@ module _ (run : SharedRun) (words : Words) (views : List View) (numbers : Claime
   pub earlier-linked : (entry : Record) (n : ℕ) → IsEarlier (state_in run words) entry n → IsPresent (state_in run words).points n
   earlier-linked entry zero h = present-linked run words views links trees 0 refl
   earlier-linked entry (suc k) h =
-      present-linked run words views links trees (suc k)
-      (placed-linked run words views numbers links k (earlier-placed entry (record_at words k) h))
+      present-linked run words views links trees (suc k) (placed-linked run words views numbers links k (earlier-placed entry (record_at words k) h))
 
 module _ (run : SharedRun) (before after : Words) (views : List View) (numbers : ClaimedMarks run before views) (links : LinkedTree run before views)
     (trees : Trees run before) (grows : GrowsInto (state_in run before) (state_in run after)) (records : Records run before) where
@@ -102,8 +95,7 @@ module _ (run : SharedRun) (before after : Words) (views : List View) (numbers :
                 (subst (λ i. IsLawfulRecord (setup_in run) now i (mark_at run.marks i) entry) (sym new.0)
                 (IsLawfulRecord-grows (setup_in run) was now grows entry (earlier_with entry (inr (le_refl entry.turn))) k (mark_at run.marks k) lawful))
             | inr old ↦
-                IsLawfulRecord-grows (setup_in run) was now grows own (earlier_with own (later j own old)) j (mark_at run.marks j)
-                (records.lawful j own old)
+                IsLawfulRecord-grows (setup_in run) was now grows own (earlier_with own (later j own old)) j (mark_at run.marks j) (records.lawful j own old)
           ];
       workers = λ j own e.
           elim (new_or_recorded (record_at before) (record_at after) k entry change j own e) [

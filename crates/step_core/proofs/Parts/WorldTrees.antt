@@ -1,20 +1,15 @@
 -- The part of the law of worlds on the order law of the linked nodes, after each kind of step.
-use Rattle.std.proofs.Common.{◌≡◌, ◌≢◌, ℕ, suc, ◌<◌, ◌≤◌, ◌^◌, true, false, List, Some, refl, sym, ap, ◌∙◌, subst, inl, inr, arith}
-use Rattle.std.proofs.lemmas.Bool.{cases_eq}
-use Rattle.grown_runs.proofs.Common.{IsBounded, Hangs, most_cost_of, IsPresent, node_count, point_at, point_of, GrowsInto, TreeState, first_cost_of}
-use Rattle.grown_runs.proofs.Common.{EndsBelow, goes_right, Point, AddsNode, KeepsFirstCosts-adds, KeepsOrder-adds, KeepsFirstCosts-lowered, KeepsOrder-lowered}
-use Rattle.grown_runs.proofs.Common.{LowersCosts, LowersCosts-rewires, StandsStill, EndsBelow-free, IsPointWord, IsTreeWord, IsWritten, children_of_words}
-use Rattle.grown_runs.proofs.Common.{is_linked, AreBehind, Words, WritesWord, ChildOf, FirstOf, PointOf, TreeOf, Sizes, cost_in, parent_in, point_of_word}
-use Rattle.grown_runs.proofs.Common.{point_word, tree_word, IsTreeWord-packed, IsPointWord-packed, cost_in-tree_word, parent_in-tree_word}
-use Rattle.step_core.specs.SharedWords.{linked_points}
-use Rattle.step_core.specs.Views.{run_sizes, setup_in}
-use Rattle.step_core.specs.Worlds.{LinkedTree, ClaimedMarks, Trees, state_in}
-use Rattle.step_core.specs.declared.views.SharedRun.{SharedRun}
-use Rattle.step_core.specs.declared.views.View.{View}
+use Rattle.step_core.proofs.Words.{◌≡◌, ◌≢◌, ◌<◌, ◌≤◌, ◌^◌, ◌∙◌, ℕ, suc, true, false, List, Some, refl, sym, ap, subst, inl, inr, arith, cases_eq, IsBounded}
+use Rattle.step_core.proofs.Words.{Hangs, most_cost_of, IsPresent, node_count, point_at, point_of, GrowsInto, TreeState, first_cost_of, EndsBelow, goes_right}
+use Rattle.step_core.proofs.Words.{Point, AddsNode, KeepsFirstCosts-adds, KeepsOrder-adds, KeepsFirstCosts-lowered, KeepsOrder-lowered, LowersCosts}
+use Rattle.step_core.proofs.Words.{LowersCosts-rewires, StandsStill, EndsBelow-free, IsPointWord, IsTreeWord, IsWritten, children_of_words, is_linked}
+use Rattle.step_core.proofs.Words.{AreBehind, Words, WritesWord, ChildOf, FirstOf, PointOf, TreeOf, Sizes, cost_in, parent_in, point_of_word, point_word}
+use Rattle.step_core.proofs.Words.{tree_word, IsTreeWord-packed, IsPointWord-packed, cost_in-tree_word, parent_in-tree_word, linked_points, run_sizes, setup_in}
+use Rattle.step_core.proofs.Words.{LinkedTree, ClaimedMarks, Trees, state_in, SharedRun, View}
 use Rattle.step_core.proofs.Parts.LinkedStates.{GrowsInto-behind, first_cost-linked, linked-present}
 use Rattle.step_core.proofs.Seen.Looks.{same_name}
-use Rattle.step_core.proofs.Parts.WorldLinks.{KeepsLinks, absent-new, is_linked-kept, is_linked-new, is_linked-others}
-use Rattle.step_core.proofs.Parts.WorldLinks.{linked_points-kept, point_at-others, stands-new}
+use Rattle.step_core.proofs.Parts.WorldLinks.{KeepsLinks, absent-new, is_linked-kept, is_linked-new, is_linked-others, linked_points-kept, point_at-others}
+use Rattle.step_core.proofs.Parts.WorldLinks.{stands-new}
 
 -- All children stay, and the words of linked nodes.
 pub record KeepsNodes (sizes : Sizes) (before after : Words) : Type 0 where
@@ -140,8 +135,7 @@ module _ (run : SharedRun) (before after : Words) (views later : List View) (num
       (writes : WritesWord (ChildOf n (goes_right depth at p)) (suc k) before after) (bounded : IsBounded p)
       (point : before (PointOf (suc k)) ≡ point_word p) (parent cost : ℕ) (parent_fits : parent < 2 ^ 18) (cost_fits : cost < 2 ^ 44)
       (tree : before (TreeOf (suc k)) ≡ tree_word parent cost) (first : before (FirstOf (suc k)) ≡ tree_word parent cost)
-      (hangs : Hangs (setup_in run) was (suc k) p parent cost)
-      (within : cost ≤ most_cost_of (setup_in run) (suc (node_count was.points))) where
+      (hangs : Hangs (setup_in run) was (suc k) p parent cost) (within : cost ≤ most_cost_of (setup_in run) (suc (node_count was.points))) where
     tree_then : now.cost (suc k) ≡ cost
     tree_then = ap cost_in (writes.others (TreeOf (suc k)) (λ e. cc) ∙ tree) ∙ cost_in-tree_word parent cost parent_fits cost_fits
 

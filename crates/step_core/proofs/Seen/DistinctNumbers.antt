@@ -1,12 +1,8 @@
 -- Lists of numbers of which no two are equal.
-use Rattle.std.proofs.Common.{◌≡◌, ◌⊎◌, ℕ, zero, suc, ◌≤◌, Bool, true, false, eqb, length, List, [], ◌∷◌, ◌++◌, inl, inr, arith, refl, sym}
-use Rattle.std.specs.Prelude.{Contains, ◌||◌}
-use Rattle.std.specs.List.{IsDistinct, AllByRecursion, list_any}
-use Rattle.std.proofs.lemmas.Bool.{ne_eqb, eqb-true}
-use Rattle.std.proofs.lemmas.List.Elements.{Contains-append_cases, Contains-append_left, Contains-append_right}
-use Rattle.std.proofs.lemmas.Map.Keys.{IsDistinct-cons}
-use Rattle.std.proofs.lemmas.Map.Steps.{length-le_from_distinct_below}
-use Rattle.plan_model.proofs.ListMembers.{Contains-after}
+use Rattle.step_core.proofs.Words.{◌≡◌, ◌⊎◌, ◌≤◌, [], ◌∷◌, ◌++◌, ◌||◌, ℕ, zero, suc, Bool, true, false, eqb, length, List, inl, inr, arith, refl, sym, Contains}
+use Rattle.step_core.proofs.Words.{AllByRecursion, list_any, ne_eqb, eqb-true, Contains-append_cases, Contains-append_left, Contains-append_right}
+use Rattle.step_core.proofs.Words.{IsDistinct-cons, length-le_from_distinct_below, Contains-after}
+use Rattle.std.specs.List.{IsDistinct}
 
 -- ---- what a list contains
 
@@ -73,5 +69,4 @@ Contains-from_any n (m ∷ ns) h = by_test (Contains-from_any n ns) (eqb n m) re
 -- different numbers up to a limit are few
 pub AreDifferent-few : (ns : List ℕ) (limit : ℕ) → AreDifferent ns → ((n : ℕ) → Contains ns n → n ≤ limit) → length ns ≤ suc limit
 AreDifferent-few ns limit h low =
-    length-le_from_distinct_below ns (suc limit) (IsDistinct-from_different ns h)
-    (λ n k. omega (arith, low n (Contains-from_any n ns k)))
+    length-le_from_distinct_below ns (suc limit) (IsDistinct-from_different ns h) (λ n k. omega (arith, low n (Contains-from_any n ns k)))

@@ -1,13 +1,10 @@
 -- The later of two words of a kind, and the table of the later words of two tables.
-use Rattle.std.proofs.Common.{◌≡◌, ℕ, ◌+◌, ◌-◌, ◌*◌, ◌%◌, ◌^◌, ◌<◌, ◌≤◌, Bool, true, false, List, length, arith, refl, sym, ap, ◌∙◌, inl, inr}
-use Rattle.std.specs.Prelude.{◌≢◌, ◌⊎◌, ◌==◌, ◌&&◌, nat_lt, nat_le, cond, slice_index}
-use Rattle.std.proofs.lemmas.Bool.{cases_Bool, cases_lt, eqb-true, eqb-false, lt-ltb, le-ltb, le-leb, lt-leb, ltb-true, leb-true, ne_eqb}
-use Rattle.std.proofs.lemmas.List.FromFn.{get_or-map-range_with_len, length-map-range_with_len}
-use Rattle.std.proofs.lemmas.Nat.{mod-mul-add}
-use Rattle.step_core.specs.ViewSteps.{merged}
-use Rattle.grown_runs.proofs.Common.{WordKind, kind_of, kind_at, later_word, MayBecome, Rising, Once, Falling, Apart, Word, Count, Best, Counter, PointOf}
-use Rattle.grown_runs.proofs.Common.{ChildOf, TreeOf, FirstOf, RecordOf, Sizes, HasWord, has_word, node_place, place_of, word_count, cost_in, HasWord-true}
-use Rattle.grown_runs.proofs.Common.{place_of-within, word_at-false, word_at-has}
+use Rattle.step_core.proofs.Words.{◌≡◌, ◌+◌, ◌-◌, ◌*◌, ◌%◌, ◌^◌, ◌<◌, ◌≤◌, ◌∙◌, ◌≢◌, ◌⊎◌, ◌==◌, ◌&&◌, ℕ, Bool, true, false, List, length, arith, refl, sym, ap}
+use Rattle.step_core.proofs.Words.{inl, inr, nat_lt, nat_le, cond, slice_index, cases_Bool, cases_lt, eqb-true, eqb-false, lt-ltb, le-ltb, le-leb, lt-leb}
+use Rattle.step_core.proofs.Words.{ltb-true, leb-true, ne_eqb, get_or-map-range_with_len, length-map-range_with_len, mod-mul-add, merged, WordKind, kind_of}
+use Rattle.step_core.proofs.Words.{kind_at, later_word, MayBecome, Rising, Once, Falling, Apart, Word, Count, Best, Counter, PointOf, ChildOf, TreeOf, FirstOf}
+use Rattle.step_core.proofs.Words.{RecordOf, Sizes, HasWord, has_word, node_place, place_of, word_count, cost_in, HasWord-true, place_of-within, word_at-false}
+use Rattle.step_core.proofs.Words.{word_at-has}
 use Rattle.grown_runs.specs.Table.WordPlaces.{word_at}
 
 -- ---- kinds by place
@@ -23,8 +20,7 @@ node_kind sizes n r low small =
     ap (λ b. cond b Apart (cond (nat_le place (sizes.strips + 1)) Rising (cond (nat_lt place (node_place sizes (sizes.marks + 1))
     && (place - node_place sizes 0) % 5 == 3) Falling Once))) other
     ∙ ap (λ b. cond b Rising (cond (nat_lt place (node_place sizes (sizes.marks + 1)) && (place - node_place sizes 0) % 5 == 3) Falling Once)) past
-    ∙ ap (λ b. cond (b && (place - node_place sizes 0) % 5 == 3) Falling Once) within
-    ∙ ap (λ m. cond (m == 3) Falling Once) rest
+    ∙ ap (λ b. cond (b && (place - node_place sizes 0) % 5 == 3) Falling Once) within ∙ ap (λ m. cond (m == 3) Falling Once) rest
 
 number_kind : (sizes : Sizes) (place : ℕ) → place ≢ 1 → place ≤ sizes.strips + 1 → kind_at sizes place ≡ Rising
 number_kind sizes place apart low =
@@ -54,6 +50,26 @@ kind_at-place sizes (RecordOf k) here =
 
 -- ---- the later of two words
 
+-- the later of two words is one of them
+pub later_word-either : (kind : WordKind) (one other : ℕ) → (later_word kind one other ≡ one) ⊎ (later_word kind one other ≡ other)
+later_word-either Rising one other =
+    elim (cases_lt one other) [
+      | inl less ↦ inr (omega (arith, less))
+      | inr enough ↦ inl (omega (arith, enough))
+    ]
+later_word-either Apart one other = inl refl
+later_word-either Once one other = by_test (one == 0)
+  where
+    by_test : (b : Bool) → (cond b other one ≡ one) ⊎ (cond b other one ≡ other)
+    by_test true = inr refl
+    by_test false = inl refl
+later_word-either Falling one other = by_test (one == 0) (nat_le (2 ^ 63) other && nat_lt (cost_in other) (cost_in one))
+  where
+    by_test : (b lower : Bool) → (cond b other (cond lower other one) ≡ one) ⊎ (cond b other (cond lower other one) ≡ other)
+    by_test true lower = inr refl
+    by_test false true = inr refl
+    by_test false false = inl refl
+
 later-none : (kind : WordKind) → later_word kind 0 0 ≡ 0
 later-none Rising = refl
 later-none Once = refl
@@ -61,8 +77,7 @@ later-none Falling = refl
 later-none Apart = refl
 
 -- it may become what both may
-pub MayBecome-later : (kind : WordKind) (one other now : ℕ) → MayBecome kind one now → MayBecome kind other now
-    → MayBecome kind (later_word kind one other) now
+pub MayBecome-later : (kind : WordKind) (one other now : ℕ) → MayBecome kind one now → MayBecome kind other now → MayBecome kind (later_word kind one other) now
 MayBecome-later Rising one other now a b = omega (arith, a, b)
 MayBecome-later Once one other now a b = by_test (one == 0)
   where

@@ -1,11 +1,9 @@
 -- A worker that looks at one word more is at a later moment, and what it has seen is of the words still, and seen from node 0 on.
-use Rattle.std.proofs.Common.{◌≡◌, ℕ, ◌+◌, ◌<◌, Bool, true, false, Some, None, refl, arith, sym, ap, ◌∙◌, subst, inl, inr}
-use Rattle.std.specs.Prelude.{◌≢◌, ◌⊎◌, is_some, IsSome}
-use Rattle.std.proofs.lemmas.Bool.{cases_eq}
-use Rattle.grown_runs.proofs.Common.{point_of, IsPresent, SeenTree, IsSeen, IsRooted, HasSeenAtLeast, IsLaterMoment, IsPresent-stands, StandsAt-present}
-use Rattle.grown_runs.proofs.Common.{IsSeen-more, child_of_word, SeenWords, MayLookAt, LooksAt, seen_tree_of_words, sight_of_words, kind_of, MayBecome}
-use Rattle.grown_runs.proofs.Common.{AreBehind, Once, Word, Words, Count, Best, Counter, PointOf, ChildOf, TreeOf, FirstOf, RecordOf, Sizes, point_of_word}
-use Rattle.grown_runs.proofs.Common.{tree_of_word, MayBecome-refl}
+use Rattle.step_core.proofs.Words.{◌≡◌, ◌+◌, ◌<◌, ◌∙◌, ◌≢◌, ◌⊎◌, ℕ, Bool, true, false, Some, None, refl, arith, sym, ap, subst, inl, inr, is_some, IsSome}
+use Rattle.step_core.proofs.Words.{cases_eq, point_of, IsPresent, SeenTree, IsSeen, IsRooted, HasSeenAtLeast, IsLaterMoment, IsPresent-stands, StandsAt-present}
+use Rattle.step_core.proofs.Words.{IsSeen-more, child_of_word, SeenWords, MayLookAt, LooksAt, seen_tree_of_words, sight_of_words, kind_of, MayBecome, AreBehind}
+use Rattle.step_core.proofs.Words.{Once, Word, Words, Count, Best, Counter, PointOf, ChildOf, TreeOf, FirstOf, RecordOf, Sizes, point_of_word, tree_of_word}
+use Rattle.step_core.proofs.Words.{MayBecome-refl}
 use Rattle.step_core.proofs.Seen.SeenWords.{HasSeenAtLeast-words, point_at-seen, seen-within}
 
 -- ---- names
@@ -52,11 +50,9 @@ module _ (name : Word) (words : Words) (before after : SeenWords) (looks : Looks
   pub AreBehind-looked : AreBehind before.seen after.seen
   AreBehind-looked other =
       elim (same_name other name) [
-        | inl e ↦
-            subst (MayBecome (kind_of other) (before.seen other)) (sym (ap after.seen e ∙ looks.seen.here ∙ ap words (sym e))) (behind other)
+        | inl e ↦ subst (MayBecome (kind_of other) (before.seen other)) (sym (ap after.seen e ∙ looks.seen.here ∙ ap words (sym e))) (behind other)
         | inr apart ↦
-            subst (MayBecome (kind_of other) (before.seen other)) (sym (looks.seen.others other apart))
-            (MayBecome-refl (kind_of other) (before.seen other))
+            subst (MayBecome (kind_of other) (before.seen other)) (sym (looks.seen.others other apart)) (MayBecome-refl (kind_of other) (before.seen other))
       ]
 
   -- the step that last found a child word 0 is as it was, or it is this one, and then no child was seen
@@ -109,8 +105,7 @@ module _ (name : Word) (words : Words) (before after : SeenWords) (looks : Looks
           elim (same_name (PointOf n) name) [
             | inl e ↦ still_seen n (subst (MayLookAt was) (sym e) may)
             | inr apart ↦
-                still_seen n
-                (rooted.points n
+                still_seen n (rooted.points n
                 (ap is_some (point_at-seen sizes before.seen n within ∙ ap point_of_word (sym (looks.seen.others (PointOf n) apart)))
                 ∙ sym (ap is_some (point_at-seen sizes after.seen n within)) ∙ h))
           ]
@@ -126,8 +121,7 @@ module _ (name : Word) (words : Words) (before after : SeenWords) (looks : Looks
       pub IsRooted-looks : IsRooted now
       IsRooted-looks = record {
         start =
-            IsPresent-stands now.points 0 (point_of was.points 0)
-            (more.places.nodes 0 (point_of was.points 0) (StandsAt-present was.points 0 rooted.start));
+            IsPresent-stands now.points 0 (point_of was.points 0) (more.places.nodes 0 (point_of was.points 0) (StandsAt-present was.points 0 rooted.start));
         children = children_seen;
         points = points_seen;
         pairs = pairs_seen;

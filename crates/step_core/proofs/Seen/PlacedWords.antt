@@ -1,8 +1,7 @@
 -- Whether a mark was placed is said by its record's own word.
-use Rattle.std.proofs.Common.{◌≡◌, ℕ, zero, suc, ◌≤◌, ◌^◌, Bool, true, false, Some, None, refl, ap, ◌∙◌, arith}
-use Rattle.std.specs.Prelude.{cond, nat_lt}
-use Rattle.grown_runs.proofs.Common.{is_placed, Outcome, Placed, Same, Blocked, Skipped, Record, has_node, has_placed, Words, FirstOf, RecordOf, FitsWord}
-use Rattle.grown_runs.proofs.Common.{number_of_outcome, outcome_in, record_in, record_of_word, record_word, outcome_in-record_word, if_written-set}
+use Rattle.step_core.proofs.Words.{◌≡◌, ◌≤◌, ◌^◌, ◌∙◌, ℕ, zero, suc, Bool, true, false, Some, None, refl, ap, arith, cond, nat_lt, is_placed, Outcome, Placed}
+use Rattle.step_core.proofs.Words.{Same, Blocked, Skipped, Record, has_node, has_placed, Words, FirstOf, RecordOf, FitsWord, number_of_outcome, outcome_in}
+use Rattle.step_core.proofs.Words.{record_in, record_of_word, record_word, outcome_in-record_word, if_written-set}
 
 -- the first word of its node says nothing of that
 has_placed-own : (word first other : ℕ) → has_placed (record_of_word word first) ≡ has_placed (record_of_word word other)

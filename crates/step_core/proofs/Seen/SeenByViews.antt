@@ -1,13 +1,7 @@
 -- What a view has seen after a step on one word: that word is as the step left it, and all others are as they were.
-use Rattle.std.proofs.Common.{◌≡◌, ◌≢◌, ℕ, ◌+◌, ◌≤◌, Bool, true, false, List, length, refl, sym, ap, ◌∙◌, subst, inl, inr, arith}
-use Rattle.std.specs.Prelude.{◌==◌, slice_set, cond}
-use Rattle.std.proofs.lemmas.Bool.{eqb-false, eqb-true, ne_eqb}
-use Rattle.std.proofs.lemmas.List.{length-set}
-use Rattle.step_core.specs.ViewSteps.{place_in, saw}
-use Rattle.step_core.specs.Views.{IsViewOf, last_look, last_zero, run_sizes, sees, words_of_run}
-use Rattle.grown_runs.proofs.Common.{Word, Words, WritesWord, HasWord, word_count, WritesWord-set}
-use Rattle.step_core.specs.declared.views.SharedRun.{SharedRun}
-use Rattle.step_core.specs.declared.views.View.{View}
+use Rattle.step_core.proofs.Words.{◌≡◌, ◌≢◌, ◌+◌, ◌≤◌, ◌∙◌, ◌==◌, ℕ, Bool, true, false, Option, List, length, refl, sym, ap, subst, inl, inr, arith, slice_set}
+use Rattle.step_core.proofs.Words.{cond, eqb-false, eqb-true, ne_eqb, length-set, place_in, saw, with_best, IsViewOf, last_look, last_zero, run_sizes, sees}
+use Rattle.step_core.proofs.Words.{words_of_run, Best, Word, Words, WritesWord, HasWord, word_count, WritesWord-set, Hand, Note, SharedRun, View}
 use Rattle.step_core.proofs.Seen.Looks.{same_name}
 
 -- a table of the view with one word set
@@ -71,3 +65,25 @@ module _ (run : SharedRun) (view : View) (of_run : IsViewOf run view) (name : Wo
       by_test : (b : Bool) → length (cond b (slice_set view.found_zero (place_in view name) (view.steps + 1)) view.found_zero) ≡ word_count (run_sizes run)
       by_test true = length-set view.found_zero (place_in view name) (view.steps + 1) ∙ of_run.found_zero
       by_test false = of_run.found_zero
+
+-- after a step on the best word that was the last on it, and the tables stay as long
+module _ (run : SharedRun) (view : View) (of_run : IsViewOf run view) (best : ℕ) (next : Option Hand) (notes : List Note) where
+  abbrev then : View
+  then = record (with_best view best next) { notes = notes }
+
+  pub WritesWord-look_best : WritesWord Best (view.steps + 1) (last_look view) (last_look then)
+  WritesWord-look_best = writes_table run view of_run Best tt view.looked (view.steps + 1) of_run.looked
+
+  pub IsViewOf-best : IsViewOf run then
+  IsViewOf-best = record {
+    run_is = of_run.run_is;
+    seen = of_run.seen;
+    looked = length-set view.looked (place_in view Best) (view.steps + 1) ∙ of_run.looked;
+    found_zero = of_run.found_zero;
+    looks = λ name.
+        elim (same_name name Best) [
+          | inl e ↦ omega (arith, ap (last_look then) e, WritesWord-look_best.here)
+          | inr apart ↦ omega (arith, WritesWord-look_best.others name apart, of_run.looks name)
+        ];
+    zero_looks = λ name. omega (arith, of_run.zero_looks name);
+  }

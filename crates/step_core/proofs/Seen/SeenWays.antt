@@ -1,8 +1,8 @@
 -- Ways over what is seen: they go on as more is seen, none is longer than nodes are seen, and one that ends at no child has no node at its end.
-use Rattle.std.proofs.Common.{◌≡◌, ℕ, zero, suc, ◌<◌, ◌≤◌, List, [], ◌∷◌, length, Option, Some, None, arith, refl, sym, ap, ◌∙◌, subst, inl, inr}
-use Rattle.std.specs.Prelude.{◌⊎◌, Contains}
-use Rattle.grown_runs.proofs.Common.{Point, IsFree, FollowSeenWays, IsSeen, IsLaterMoment, KeepsSight, Sight, EndsBelow, goes_right, IsOnWay, begins}
-use Rattle.grown_runs.proofs.Common.{HasSeenAtLeast-refl, IsFree-ends, last_step, way_start, IsOnWay-fills}
+use Rattle.step_core.proofs.Words.{◌≡◌, ◌<◌, ◌≤◌, [], ◌∷◌, ◌∙◌, ◌⊎◌, ℕ, zero, suc, List, length, Option, Some, None, arith, refl, sym, ap, subst, inl, inr}
+use Rattle.step_core.proofs.Words.{Contains, Point, IsFree, FollowSeenWays, IsSeen, IsLaterMoment, KeepsSight, Sight, EndsBelow, goes_right, IsOnWay}
+use Rattle.step_core.proofs.Words.{HasSeenAtLeast-refl, IsFree-ends, last_step, way_start, IsOnWay-fills}
+use Rattle.grown_runs.proofs.Common.{begins}
 use Rattle.step_core.proofs.Seen.DistinctNumbers.{AreDifferent, AreDifferent-few, Contains-cases}
 
 -- ---- ways at later moments
@@ -80,8 +80,7 @@ pub depth_within : (now : Sight) (marks : ℕ) → KeepsSight now → ((n : ℕ)
     → (q : Point) (depth n : ℕ) → IsOnWay now.seen.child now.seen.points q depth n → depth ≤ marks
 depth_within now marks keeps within q depth n way =
     let on_it = passed_nodes now keeps.ways q depth n way in
-    let few = AreDifferent-few on_it.nodes marks on_it.different
-    (λ m k. let there = on_it.passed m k in within m (IsSeen-on_way now q there.0 m there.2)) in
+    let few = AreDifferent-few on_it.nodes marks on_it.different (λ m k. let there = on_it.passed m k in within m (IsSeen-on_way now q there.0 m there.2)) in
     omega (arith, few, on_it.long)
 
 -- ---- ways that end over what is seen
@@ -116,11 +115,9 @@ module _ (sight : Sight) (keeps : KeepsSight sight) where
   -- If the way of q ends at a place where no child is seen, no node is seen at q.
   pub IsFree-here : (q : Point) (depth n : ℕ) (at : Point) → EndsBelow sight.seen.child sight.seen.points q depth n at → IsFree sight.seen.points q
   IsFree-here q depth n at ends =
-      IsFree-ends unlooked looked looked_later
-      (record { rooted = keeps.rooted; ways = keeps.ways; steps = λ m side. omega arith })
+      IsFree-ends unlooked looked looked_later (record { rooted = keeps.rooted; ways = keeps.ways; steps = λ m side. omega arith })
       (record { rooted = keeps.rooted; ways = keeps.ways; steps = λ m side. looks_once (sight.seen.child m side) })
-      q
-      (record {
+      q (record {
         depth = depth;
         node = n;
         point = at;

@@ -1,13 +1,10 @@
 -- What seen words say: no more than what they may become says, and so what was seen is true of the tree in the words now.
-use Rattle.std.proofs.Common.{◌≡◌, ℕ, zero, suc, ◌+◌, ◌<◌, ◌≤◌, ◌^◌, Bool, true, false, Option, Some, None, refl, arith, sym, ap, ◌∙◌, inl, inr}
-use Rattle.std.specs.Prelude.{◌⊎◌, ◌&&◌, is_some, nat_lt, unwrap_or, cond}
-use Rattle.std.proofs.lemmas.Bool.{cases_lt, cases_Bool, le-ltb, lt-ltb}
-use Rattle.std.proofs.lemmas.List.{get_or_past}
-use Rattle.std.proofs.lemmas.List.FromFn.{get_or-map-range_with_len, length-map-range_with_len}
-use Rattle.grown_runs.proofs.Common.{Point, Record, is_placed, point_at, StandsAt, IsPresent, HasSeenAtLeast, KeepsOrLowers, has_placed, child_of_word}
-use Rattle.grown_runs.proofs.Common.{children_of_words, seen_point, whole_record, seen_tree_of_words, MayBecome, AreBehind, Once, Falling, Words, Count}
-use Rattle.grown_runs.proofs.Common.{Counter, PointOf, ChildOf, TreeOf, FirstOf, RecordOf, Sizes, point_of_word, parent_in, cost_in, tree_of_word, outcome_in}
-use Rattle.grown_runs.proofs.Common.{record_in, record_of_word}
+use Rattle.step_core.proofs.Words.{◌≡◌, ◌+◌, ◌<◌, ◌≤◌, ◌^◌, ◌∙◌, ◌⊎◌, ◌&&◌, ℕ, zero, suc, Bool, true, false, Option, Some, None, refl, arith, sym, ap, inl, inr}
+use Rattle.step_core.proofs.Words.{is_some, nat_lt, unwrap_or, cond, cases_lt, cases_Bool, le-ltb, lt-ltb, get_or_past, get_or-map-range_with_len}
+use Rattle.step_core.proofs.Words.{length-map-range_with_len, Point, Record, is_placed, point_at, StandsAt, IsPresent, HasSeenAtLeast, KeepsOrLowers}
+use Rattle.step_core.proofs.Words.{has_placed, child_of_word, children_of_words, seen_point, whole_record, seen_tree_of_words, MayBecome, AreBehind, Once}
+use Rattle.step_core.proofs.Words.{Falling, Words, Count, Counter, PointOf, ChildOf, TreeOf, FirstOf, RecordOf, Sizes, point_of_word, parent_in, cost_in}
+use Rattle.step_core.proofs.Words.{tree_of_word, outcome_in, record_in, record_of_word}
 
 -- ---- one word
 
@@ -93,8 +90,7 @@ whole_says word first later entry (inl unseen) h =
 
 -- where a node was seen, by the list of points
 pub point_at-seen : (sizes : Sizes) (seen : Words) (n : ℕ) → n ≤ sizes.marks → point_at (seen_tree_of_words sizes seen).points n ≡ seen_point seen n
-point_at-seen sizes seen n within =
-    get_or-map-range_with_len (seen_point seen) 0 (sizes.marks + 1) n n None (omega (arith, within)) (omega arith)
+point_at-seen sizes seen n within = get_or-map-range_with_len (seen_point seen) 0 (sizes.marks + 1) n n None (omega (arith, within)) (omega arith)
 
 -- no node was seen past the last mark
 pub seen-within : (sizes : Sizes) (seen : Words) (n : ℕ) → IsPresent (seen_tree_of_words sizes seen).points n → n ≤ sizes.marks
@@ -126,16 +122,14 @@ module _ (sizes : Sizes) (seen words : Words) (behind : AreBehind seen words) wh
   -- and what may be read of a whole record, whatever reads it
   pub record_stays : (f : ℕ → ℕ → Option Record)
       → ((word first later : ℕ) (entry : Record) → MayBecome Once first later → whole_record word first ≡ Some entry → f word later ≡ Some entry)
-      → (k : ℕ) (entry : Record) → (seen_tree_of_words sizes seen).record_of k ≡ Some entry
-      → f (words (RecordOf k)) (words (FirstOf (suc k))) ≡ Some entry
+      → (k : ℕ) (entry : Record) → (seen_tree_of_words sizes seen).record_of k ≡ Some entry → f (words (RecordOf k)) (words (FirstOf (suc k))) ≡ Some entry
   record_stays f says k entry h = by_word (behind (RecordOf k)) (behind (FirstOf (suc k))) h
     where
       by_word : MayBecome Once (seen (RecordOf k)) (words (RecordOf k)) → MayBecome Once (seen (FirstOf (suc k))) (words (FirstOf (suc k)))
           → whole_record (seen (RecordOf k)) (seen (FirstOf (suc k))) ≡ Some entry → f (words (RecordOf k)) (words (FirstOf (suc k))) ≡ Some entry
       by_word (inl unseen) first g = (let gone = sym (ap (λ w. whole_record w (seen (FirstOf (suc k)))) unseen) ∙ g in cc)
       by_word (inr same) first g =
-          ap (λ w. f w (words (FirstOf (suc k)))) (sym same)
-          ∙ says (seen (RecordOf k)) (seen (FirstOf (suc k))) (words (FirstOf (suc k))) entry first g
+          ap (λ w. f w (words (FirstOf (suc k)))) (sym same) ∙ says (seen (RecordOf k)) (seen (FirstOf (suc k))) (words (FirstOf (suc k))) entry first g
 
   -- Words say no more than those that they may become.
   pub HasSeenAtLeast-words : HasSeenAtLeast (seen_tree_of_words sizes seen) (seen_tree_of_words sizes words)

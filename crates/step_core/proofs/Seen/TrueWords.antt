@@ -1,14 +1,10 @@
 -- What was seen of words, each of which may become the word now, is true of the tree in the words now.
-use Rattle.std.proofs.Common.{◌≡◌, ℕ, ◌+◌, ◌≤◌, ◌^◌, Bool, true, false, Some, None, arith, sym, ap, ◌∙◌, subst, inl, inr}
-use Rattle.std.specs.Prelude.{is_some, nat_lt, cond, if◌then◌else◌}
-use Rattle.std.proofs.lemmas.Bool.{cases_lt}
-use Rattle.std.proofs.lemmas.List.{get_or_past}
-use Rattle.std.proofs.lemmas.List.FromFn.{get_or-map-range_with_len, length-map-range_with_len}
-use Rattle.grown_runs.proofs.Common.{Point, point_of, StandsAt, IsPresent, IsSeen, IsRooted, KeepsOrLowers, seen_whole, IsTrueOf, FollowWays, IsPresent-stands}
-use Rattle.grown_runs.proofs.Common.{StandsAt-present, whole_pair, not_empty, children_of_words, is_linked, seen_tree_of_words, AreBehind, Words, Count}
-use Rattle.grown_runs.proofs.Common.{Counter, PointOf, TreeOf, Sizes, point_of_word, parent_in, cost_in, tree_of_word, record_of_word, is_linked-child}
-use Rattle.grown_runs.proofs.Common.{is_linked-start}
-use Rattle.step_core.specs.SharedWords.{linked_point, linked_points, shared_tree_of_words}
+use Rattle.step_core.proofs.Words.{◌≡◌, ◌+◌, ◌≤◌, ◌^◌, ◌∙◌, ℕ, Bool, true, false, Some, None, arith, sym, ap, subst, inl, inr, is_some, nat_lt, cond}
+use Rattle.step_core.proofs.Words.{if◌then◌else◌, cases_lt, get_or_past, get_or-map-range_with_len, length-map-range_with_len, Point, point_of, StandsAt}
+use Rattle.step_core.proofs.Words.{IsPresent, IsSeen, IsRooted, KeepsOrLowers, seen_whole, IsTrueOf, FollowWays, IsPresent-stands, StandsAt-present, whole_pair}
+use Rattle.step_core.proofs.Words.{not_empty, children_of_words, is_linked, seen_tree_of_words, AreBehind, Words, Count, Counter, PointOf, TreeOf, Sizes}
+use Rattle.step_core.proofs.Words.{point_of_word, parent_in, cost_in, tree_of_word, record_of_word, is_linked-child, is_linked-start, linked_point}
+use Rattle.step_core.proofs.Words.{linked_points, shared_tree_of_words}
 use Rattle.step_core.proofs.Seen.SeenWords.{seen-within, child_says, point_says, pair_says, record_stays, record_says}
 
 -- ---- links
@@ -35,8 +31,7 @@ module _ (sizes : Sizes) (seen words : Words) (behind : AreBehind seen words) (r
   above-within a n side h =
       elim (cases_lt sizes.marks a) [
         | inr within ↦ within
-        | inl past ↦
-            absurd (not_empty (children_of_words words) a n side (follow.empty a side (λ p. omega (arith, past, linked-within sizes words a p))) h)
+        | inl past ↦ absurd (not_empty (children_of_words words) a n side (follow.empty a side (λ p. omega (arith, past, linked-within sizes words a p))) h)
       ]
 
   -- a node that was seen is linked now
@@ -49,8 +44,7 @@ module _ (sizes : Sizes) (seen words : Words) (behind : AreBehind seen words) (r
   -- where a node was seen, it stands
   stands_now : (n : ℕ) (p : Point) → StandsAt (seen_tree_of_words sizes seen).points n p → StandsAt (linked_points sizes words) n p
   stands_now n p h =
-      get_or-map-range_with_len (linked_point sizes words) 0 (sizes.marks + 1) n n None
-      (omega (arith, seen-within sizes seen n (ap is_some h))) (omega arith)
+      get_or-map-range_with_len (linked_point sizes words) 0 (sizes.marks + 1) n n None (omega (arith, seen-within sizes seen n (ap is_some h))) (omega arith)
       ∙ ap (λ b. if b then point_of_word (words (PointOf n)) else None) (linked_now n (rooted.points n (ap is_some h)))
       ∙ point_says sizes seen words behind n p h
 
@@ -58,8 +52,7 @@ module _ (sizes : Sizes) (seen words : Words) (behind : AreBehind seen words) (r
   present_now : (n : ℕ) → IsSeen (seen_tree_of_words sizes seen) n → IsPresent (linked_points sizes words) n
   present_now n (inl start) =
       let p : Point = point_of (seen_tree_of_words sizes seen).points 0 in
-      subst (IsPresent (linked_points sizes words)) (sym start)
-      (IsPresent-stands (linked_points sizes words) 0 p
+      subst (IsPresent (linked_points sizes words)) (sym start) (IsPresent-stands (linked_points sizes words) 0 p
       (stands_now 0 p (StandsAt-present (seen_tree_of_words sizes seen).points 0 rooted.start)))
   present_now n (inr (a, side, link)) = follow.present a n side (child_says sizes seen words behind a n side link)
 

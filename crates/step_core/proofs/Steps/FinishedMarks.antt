@@ -1,41 +1,29 @@
 -- The record of the mark in hand keeps the law of worlds.
-use Rattle.std.proofs.Common.{◌≡◌, ℕ, ◌*◌, zero, suc, ◌+◌, ◌/◌, ◌%◌, ◌<◌, ◌≤◌, ◌^◌, ◌≢◌, Bool, true, List, ◌∷◌, length, set, Some, refl, sym}
-use Rattle.std.proofs.Common.{ap, ◌∙◌, subst, inl, inr, arith, le_refl}
-use Rattle.std.specs.Prelude.{◌⊎◌, ◌==◌, IsTrue, nat_lt, is_some}
-use mathlib.Core.Option.{some}
-use lib.ListN.{get_elem?}
-use Rattle.std.proofs.lemmas.Bool.{cases_eq, eq-eqb, ne_eqb}
-use Rattle.std.proofs.lemmas.Nat.{div-mul-add, mod-mul-add}
-use Rattle.grown_runs.proofs.Common.{is_claimed, IsGoalNode, is_goal_point, StandsAt, point_at, GrowsInto, once_if, turns_of, Outcome, Blocked, Placed, Same}
-use Rattle.grown_runs.proofs.Common.{Skipped, Record, is_placed, has_node, has_placed, record_at, AreBehind, Words, WritesWord, Best, ChildOf, Counter, FirstOf}
-use Rattle.grown_runs.proofs.Common.{PointOf, RecordOf, TreeOf, HasWord, FitsWord, IsFirstWord, IsTurnWord, best_word, cost_in, last_field, number_of_outcome}
-use Rattle.grown_runs.proofs.Common.{record_of_word, record_word, turn_in, worker_in, record_of_word-packed, cost_in-tree_word, AreBehind-trans}
-use Rattle.step_core.specs.SeenBests.{IsAtMostPlaced, SeesGoal, seen_first_cost}
-use Rattle.step_core.specs.SeenRecords.{MayEnd, MayRecord}
-use Rattle.step_core.specs.SharedWords.{linked_points}
-use Rattle.step_core.specs.Stages.{MayBeRecorded, has_count, has_link}
-use Rattle.step_core.specs.ViewTrees.{SeesPoint, SeesTree}
-use Rattle.step_core.specs.ViewSteps.{finished, one_turn_more, saw}
-use Rattle.step_core.specs.Views.{IsViewOf, holds, run_sizes, sees, share, tree_seen}
-use Rattle.step_core.specs.Worlds.{BestWord, IsBestWord, IsRecordWord, IsWorld, Records, SeesBest, counters, is_recorded, limit_of, state_in}
-use Rattle.step_core.specs.declared.views.Hand.{Hand}
-use Rattle.step_core.specs.declared.views.Member.{Member}
-use Rattle.step_core.specs.declared.views.SharedRun.{SharedRun}
-use Rattle.step_core.specs.declared.views.Stage.TheVariants.{Posted}
-use Rattle.step_core.specs.declared.views.View.{View}
+use Rattle.step_core.proofs.Words.{◌≡◌, ◌*◌, ◌+◌, ◌/◌, ◌%◌, ◌<◌, ◌≤◌, ◌^◌, ◌≢◌, ◌∷◌, ◌∙◌, ◌⊎◌, ◌==◌, ℕ, zero, suc, Bool, true, List, length, set, Some, refl}
+use Rattle.step_core.proofs.Words.{sym, ap, subst, inl, inr, arith, le_refl, IsTrue, nat_lt, is_some, some, get_elem?, cases_eq, eq-eqb, ne_eqb, div-mul-add}
+use Rattle.step_core.proofs.Words.{mod-mul-add, is_claimed, IsGoalNode, is_goal_point, StandsAt, point_at, GrowsInto, once_if, turns_of, Outcome, Blocked}
+use Rattle.step_core.proofs.Words.{Placed, Same, Skipped, Record, is_placed, has_node, has_placed, record_at, AreBehind, Words, WritesWord, Best, ChildOf}
+use Rattle.step_core.proofs.Words.{Counter, FirstOf, PointOf, RecordOf, TreeOf, HasWord, FitsWord, IsFirstWord, IsTurnWord, best_word, cost_in, last_field}
+use Rattle.step_core.proofs.Words.{number_of_outcome, record_of_word, record_word, turn_in, worker_in, record_of_word-packed, cost_in-tree_word}
+use Rattle.step_core.proofs.Words.{AreBehind-trans, IsLoaded, IsAtMostPlaced, SeesGoal, seen_first_cost, MayEnd, MayRecord, linked_points, MayBeRecorded}
+use Rattle.step_core.proofs.Words.{has_count, has_link, IsMoment, MayFinish, Moment, SeesPoint, SeesTree, finished, one_turn_more, saw, IsViewOf, holds}
+use Rattle.step_core.proofs.Words.{run_sizes, sees, share, tree_seen, BestWord, IsBestWord, IsRecordWord, IsWorld, Records, SeesBest, counters, is_recorded}
+use Rattle.step_core.proofs.Words.{limit_of, state_in, Hand, Member, SharedRun, Posted, View}
 use Rattle.step_core.proofs.Steps.FinishedTurns.{Turns-finished, change}
 use Rattle.step_core.proofs.Parts.LinkedStates.{GrowsInto-behind}
 use Rattle.step_core.proofs.Parts.LawfulRecords.{HasCome, IsFirstWord-seen, IsLawfulRecord-seen, has_come}
 use Rattle.step_core.proofs.OneView.LawfulSights.{IsTrueOf-seen}
-use Rattle.step_core.proofs.Parts.MarksInHand.{IsInHand, IsInHand-held, claimed-below, greatest_limit-most, once_if-true}
+use Rattle.step_core.proofs.Parts.MarksInHand.{IsInHand, claimed-below, greatest_limit-most, once_if-true, in_hand}
 use Rattle.step_core.proofs.Seen.PlacedWords.{has_node-same, has_placed-record_word}
 use Rattle.step_core.proofs.Seen.SawWords.{AreBehind-saw, AreBehind-seen, AreBehind-write, HaveWholePairs-saw, IsFair-saw}
-use Rattle.step_core.proofs.Seen.SeenByViews.{IsViewOf-saw, WritesWord-saw}
+use Rattle.step_core.proofs.Seen.SeenByViews.{IsViewOf-saw, WritesWord-looked, WritesWord-saw}
 use Rattle.step_core.proofs.OneView.SeenTreesOfViews.{SeesTree-finished}
 use Rattle.step_core.proofs.OneView.SeenViews.{SeesPoint-later}
 use Rattle.step_core.proofs.Parts.ViewLists.{maximum-set}
 use Rattle.step_core.proofs.Parts.WorldBests.{BestWord-step, IsBestWord-grows, SeenBests-set, SeesBest-goes_on, goal-seen_before, same_first_cost}
-use Rattle.step_core.proofs.Parts.WorldEmpties.{Empties-kept, last_zero-saw}
+use Rattle.step_core.proofs.Parts.NotedSteps.{KeepsNotes, KeepsNotes-kept, LeavesNotes-none, shown-one}
+use Rattle.step_core.proofs.Parts.Shifts.{IsShift, shift_at}
+use Rattle.step_core.proofs.Parts.WorldNotes.{last_zero-saw}
 use Rattle.step_core.proofs.Parts.WorldHands.{Hands-recorded}
 use Rattle.step_core.proofs.Parts.WorldCopies.{BestCopy-step, Copies-seen}
 use Rattle.step_core.proofs.Parts.WorldLinks.{KeepsLinks, LinkedTree-recorded}
@@ -46,14 +34,6 @@ use Rattle.step_core.proofs.Steps.WorldSteps.{TreesSeen-set, follow, live, tree}
 use Rattle.step_core.proofs.Whole.WholeShares.{worker-below}
 use Rattle.step_core.proofs.Parts.WorldRecords.{Records-recorded}
 use Rattle.step_core.proofs.Parts.WorldTrees.{Trees-kept}
-
--- a mark in hand has no record, and is one of the marks
-pub in_hand :
-    (run : SharedRun) (words : Words) (views : List View) (id : ℕ) (view : View) → (world : IsWorld run words views) → get_elem? views id ≡ some view
-    → (hand : Hand) → view.hand ≡ Some hand → IsInHand run words views world.run_is.strips.0 world.numbers hand.mark
-in_hand run words views id view world at hand held =
-    IsInHand-held run words views world.run_is.strips.0 world.numbers id view hand.mark at
-    (ap (holds hand.mark) held ∙ eq-eqb hand.mark hand.mark refl)
 
 module _ (run : SharedRun) (words after : Words) (views : List View) (id : ℕ) (view : View) (world : IsWorld run words views)
     (at : get_elem? views id ≡ some view) (own : view.run ≡ run) (hand : Hand) (held : view.hand ≡ Some hand) (member : Member)
@@ -132,6 +112,17 @@ module _ (run : SharedRun) (words after : Words) (views : List View) (id : ℕ) 
         trees = λ n h. writes.others (TreeOf n) (λ e. cc);
         firsts = λ n h. writes.others (FirstOf n) (λ e. cc);
       } in
+      let is : IsShift (shift_at run words views id view then after) = record {
+        moment = record { world = world; at = at; own = own };
+        of_run = by_fields (IsViewOf-saw run view of_run (RecordOf k) here x x);
+        one_more = refl;
+        go = go;
+        best = omega (arith, same_best);
+      } in
+      let kept : KeepsNotes (shift_at run words views id view then after) = KeepsNotes-kept is
+      (LeavesNotes-none is refl (λ name told. inl (writes.others name (λ e. subst (IsLoaded run) e told))) (λ n seen. writes.others (FirstOf n) (λ e. cc))
+      (shown-one is (RecordOf k) (λ e. cc) (view.steps + 1) x (WritesWord-looked run view of_run (RecordOf k) here x x) saw_it writes.here refl))
+      keeps_links.children (λ n side some_child. last_zero-saw run view of_run (RecordOf k) here x x (ChildOf n side) (λ e. cc)) in
       record {
         run_is = world.run_is;
         of_run = of_run-step run views id then world.of_run (by_fields (IsViewOf-saw run view of_run (RecordOf k) here x x));
@@ -145,8 +136,8 @@ module _ (run : SharedRun) (words after : Words) (views : List View) (id : ℕ) 
             (IsFair-saw (RecordOf k) x (sees view) (sees then) after saw_it writes.here behind);
         links = links;
         trees = trees;
-        hands = Hands-recorded words after views id view then at world.hands hand held refl (λ n. writes.others (PointOf n) (λ e. cc)) recorded others;
-        pairs = Pairs-recorded run words after views id view then at world.numbers world.links world.pairs grows (λ n. writes.others (FirstOf n) (λ e. cc))
+        hands = Hands-recorded is hand held refl (λ n. writes.others (PointOf n) (λ e. cc)) recorded others;
+        pairs = Pairs-recorded is grows (λ n. writes.others (FirstOf n) (λ e. cc))
             (λ n h. writes.others (TreeOf n) (λ e. cc)) hand held refl recorded others;
         seen_pairs = SeenPairs-set run words after views id then grows world.seen_pairs
             (λ of. AreSeenLawfully-own run words after view then trees links.ways of grows own (world.seen_pairs id view at own)
@@ -160,8 +151,8 @@ module _ (run : SharedRun) (words after : Words) (views : List View) (id : ℕ) 
             keeps_links some_share saw_it.here;
         best_copy = BestCopy-step run words after views id view then at own world.best_copy (λ part. omega (arith, part, same_share)) same_best
             (λ saw. saw ∙ sym same_best);
-        empties = Empties-kept run words after views id view then at world.empties refl (omega arith) refl keeps_links.children
-            (λ n side. last_zero-saw run view of_run (RecordOf k) here x x (ChildOf n side) (λ e. cc));
+        notes = kept.notes;
+        empties = kept.empties;
         best = best_then grows;
         bests = SeenBests-set run words after grows views id then (omega (arith, same_best)) world.bests (λ of. knows_best grows seen saw_it);
       }
@@ -259,8 +250,7 @@ module _ (run : SharedRun) (words after : Words) (views : List View) (id : ℕ) 
 
       recorded : is_recorded after k ≡ true
       recorded =
-          ap is_some
-          (change run words after views id view member crew k x world.turns at crew_is mark.low mark.absent writes written worker turn).recorded
+          ap is_some (change run words after views id view member crew k x world.turns at crew_is mark.low mark.absent writes written worker turn).recorded
 
       others : (j : ℕ) → j ≢ k → is_recorded after j ≡ is_recorded words j
       others j apart =
@@ -320,30 +310,29 @@ IsTurnWord-packed entry fits =
 -- the records with it
 Records-finished :
     (run : SharedRun) (words after : Words) (views : List View) (id : ℕ) (view : View) → IsWorld run words views → get_elem? views id ≡ some view
-    → view.run ≡ run → (hand : Hand) → view.hand ≡ Some hand → (member : Member) (crew : List Member) → view.crew ≡ member ∷ crew → (entry : Record)
-    → FitsWord entry → entry.worker ≡ member.worker → entry.turn ≡ member.turn → MayBeRecorded hand.stage entry.outcome → MayRecord view hand entry
-    → WritesWord (RecordOf hand.mark) (record_word entry) words after → GrowsInto (state_in run words) (state_in run after) → Records run after
-Records-finished run words after views id view world at own hand held member crew crew_is entry fits worker turn stage may writes grows =
-    let says = IsTurnWord-packed entry fits in
-    let mark = in_hand run words views id view world at hand held in
-    let stored = change run words after views id view member crew hand.mark (record_word entry) world.turns at crew_is mark.low mark.absent writes
-    says.written (says.worker_is ∙ worker) (says.turn_is ∙ turn) in
+    → view.run ≡ run → (hand : Hand) (entry : Record) → MayFinish view hand entry → WritesWord (RecordOf hand.mark) (record_word entry) words after
+    → GrowsInto (state_in run words) (state_in run after) → Records run after
+Records-finished run words after views id view world at own hand entry made writes grows =
+    let now : Moment = record { run = run; words = words; views = views; id = id; view = view } in
+    let is : IsMoment now = record { world = world; at = at; own = own } in
+    let says = IsTurnWord-packed entry made.fits in
+    let mark = in_hand run words views id view world at hand made.held in
+    let stored = change run words after views id view made.member made.crew hand.mark (record_word entry) world.turns at made.first mark.low mark.absent writes
+    says.written (says.worker_is ∙ made.worker) (says.turn_is ∙ made.turn) in
     let same_first : after (FirstOf (suc hand.mark)) ≡ words (FirstOf (suc hand.mark)) = writes.others (FirstOf (suc hand.mark)) (λ e. cc) in
-    let first = subst (IsFirstWord entry) (sym same_first)
-    (IsFirstWord-seen run words views id view world at own hand held member crew crew_is entry worker may stage) in
-    let mate : get_elem? view.crew 0 ≡ some member = ap (λ l. get_elem? l 0) crew_is in
-    let is_member = world.turns.members id view at 0 member mate in
+    let first = subst (IsFirstWord entry) (sym same_first) (IsFirstWord-seen is made) in
+    let mate : get_elem? view.crew 0 ≡ some made.member = ap (λ l. get_elem? l 0) made.first in
+    let is_member = world.turns.members id view at 0 made.member mate in
     Records-recorded run words after views world.numbers world.links world.trees grows world.records hand.mark entry
     record {
       absent = mark.absent;
       recorded = ap (λ w. record_of_word w (after (FirstOf (suc hand.mark)))) writes.here
-          ∙ record_of_word-packed entry (after (FirstOf (suc hand.mark))) fits first;
+          ∙ record_of_word-packed entry (after (FirstOf (suc hand.mark))) made.fits first;
       others = stored.others;
     }
     world.run_is.workers.1 (recorded-below run words views world) world.turns.workers
-    (omega (arith, worker, worker-below run words views id view world at 0 member mate))
-    (turn ∙ is_member.turn ∙ ap (turns_of (record_at words) (length run.marks)) (sym worker))
-    (IsLawfulRecord-seen run words views id view world at own hand held member crew crew_is entry worker may stage)
+    (omega (arith, made.worker, worker-below run words views id view world at 0 made.member mate))
+    (made.turn ∙ is_member.turn ∙ ap (turns_of (record_at words) (length run.marks)) (sym made.worker)) (IsLawfulRecord-seen is made)
 
 -- the record of the mark in hand, by the first of the crew in its next turn, keeps the law
 pub IsWorld-recorded :
@@ -352,6 +341,17 @@ pub IsWorld-recorded :
     → FitsWord entry → entry.worker ≡ member.worker → entry.turn ≡ member.turn → MayBeRecorded hand.stage entry.outcome → MayRecord view hand entry
     → WritesWord (RecordOf hand.mark) (record_word entry) words after → IsWorld run after (set views id (finished view hand.mark (record_word entry)))
 IsWorld-recorded run words after views id view world at own hand held member crew crew_is entry fits worker turn stage may writes =
+    let made : MayFinish view hand entry = record {
+      held = held;
+      member = member;
+      crew = crew;
+      first = crew_is;
+      fits = fits;
+      worker = worker;
+      turn = turn;
+      stage = stage;
+      true = may;
+    } in
     let says = IsTurnWord-packed entry fits in
     let mark = in_hand run words views id view world at hand held in
     IsWorld-finished run words after views id view world at own hand held member crew crew_is (record_word entry) says.written (says.worker_is ∙ worker)
@@ -359,14 +359,13 @@ IsWorld-recorded run words after views id view world at own hand held member cre
     (λ first. has_placed-record_word entry first fits) stage.linked stage.counted
     (SeesTree-finished run view (live run words views id view world at own) (tree run words views id view world at own) hand held mark.low
     (none_seen run words views id view world at hand held) entry fits stage)
-    (Records-finished run words after views id view world at own hand held member crew crew_is entry fits worker turn stage may writes)
-    (λ placed goal. (world.bests id view at own).posted hand held
+    (Records-finished run words after views id view world at own hand entry made writes) (λ placed goal. (world.bests id view at own).posted hand held
     (by_outcome entry.outcome may placed (subst (λ r. IsTrue (is_goal_point r.goals (Some hand.point))) (sym own) goal)))
   where
     -- a goal node was posted
     by_outcome : (outcome : Outcome) → MayEnd view hand entry outcome → is_placed outcome ≡ true
         → IsTrue (is_goal_point view.run.goals (Some hand.point)) → hand.stage ≡ Posted
-    by_outcome Placed ended is goal = ended.outcome.posted goal
+    by_outcome Placed ended is goal = ended.outcome.posted.0 goal
     by_outcome (Same j) ended is goal = cc
     by_outcome Blocked ended is goal = cc
     by_outcome Skipped ended is goal = cc

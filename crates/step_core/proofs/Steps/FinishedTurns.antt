@@ -1,19 +1,9 @@
 -- The first of a crew records its mark: it has one turn more, and no other worker has.
-use Rattle.std.proofs.Common.{◌≡◌, ◌≢◌, ℕ, zero, suc, ◌+◌, ◌<◌, ◌≤◌, ◌^◌, true, List, ◌∷◌}
-use Rattle.std.proofs.Common.{length, set, Some, None, refl, sym, ap, ◌∙◌, subst, inl, inr, arith}
-use Rattle.std.specs.Prelude.{◌==◌, nat_lt, cond}
-use mathlib.Core.Option.{some, some-injective}
-use lib.ListN.{get_elem?}
-use Rattle.std.proofs.lemmas.Bool.{cases_eq, eq-eqb, eqb-true, le-ltb}
-use Rattle.std.proofs.lemmas.List.Sums.{sum_by-cons}
-use Rattle.grown_runs.proofs.Common.{is_of_worker, once_if, turns_of, Record, RecordsMark, AreTurns-recorded, turns_of-recorded, turns_of-recorded_by_other}
-use Rattle.grown_runs.proofs.Common.{record_at, Words, WritesWord, FirstOf, RecordOf, outcome_in, record_in, record_of_word, turn_in, worker_in}
-use Rattle.step_core.specs.ViewSteps.{finished, one_turn_more}
-use Rattle.step_core.specs.Views.{sees, times}
-use Rattle.step_core.specs.Worlds.{IsMember, Turns}
-use Rattle.step_core.specs.declared.views.Member.{Member}
-use Rattle.step_core.specs.declared.views.SharedRun.{SharedRun}
-use Rattle.step_core.specs.declared.views.View.{View}
+use Rattle.step_core.proofs.Words.{◌≡◌, ◌≢◌, ◌+◌, ◌<◌, ◌≤◌, ◌^◌, ◌∷◌, ◌∙◌, ◌==◌, ℕ, zero, suc, true, List, length, set, Some, None, refl, sym, ap, subst, inl}
+use Rattle.step_core.proofs.Words.{inr, arith, nat_lt, cond, some, some-injective, get_elem?, cases_eq, eq-eqb, eqb-true, le-ltb, sum_by-cons, is_of_worker}
+use Rattle.step_core.proofs.Words.{once_if, turns_of, Record, RecordsMark, AreTurns-recorded, turns_of-recorded, turns_of-recorded_by_other, record_at, Words}
+use Rattle.step_core.proofs.Words.{WritesWord, FirstOf, RecordOf, outcome_in, record_in, record_of_word, turn_in, worker_in, finished, one_turn_more, sees}
+use Rattle.step_core.proofs.Words.{times, IsMember, Turns, Member, SharedRun, View}
 use Rattle.step_core.proofs.Parts.MarksInHand.{once_if-most}
 use Rattle.step_core.proofs.Parts.ViewLists.{each-set, sum-one, sum-set, sum-two}
 
@@ -60,9 +50,7 @@ module _ (run : SharedRun) (before after : Words) (views : List View) (id : ℕ)
   entry_turn = turn_of_record (outcome_in x) x (after (FirstOf (suc k))) ∙ turn
 
   pub recorded : record_at after k ≡ Some entry
-  recorded =
-      ap (λ w. record_of_word w (after (FirstOf (suc k)))) writes.here
-      ∙ ap (λ b. cond b None (Some entry)) (le-ltb x (2 ^ 63) written)
+  recorded = ap (λ w. record_of_word w (after (FirstOf (suc k)))) writes.here ∙ ap (λ b. cond b None (Some entry)) (le-ltb x (2 ^ 63) written)
 
   -- the mark had no record, and has this one
   pub change : RecordsMark (record_at before) (record_at after) k entry

@@ -1,20 +1,10 @@
 -- The words of a closed run as those of a world in which nothing is in hand: its nodes are linked, counted and within bounds.
-use Rattle.std.proofs.Common.{◌≡◌, ℕ, zero, suc, ◌+◌, ◌<◌, true, false, length, map, Option, Some, None, refl, sym, ap, ◌∙◌, subst}
-use Rattle.std.proofs.Common.{inl, inr, arith}
-use Rattle.std.specs.Prelude.{count_by, cond, is_some}
-use Rattle.std.specs.List.{range_with_len, sum_by}
-use Rattle.std.proofs.lemmas.Bool.{cases_lt}
-use Rattle.std.proofs.lemmas.List.{get_or_past}
-use Rattle.std.proofs.lemmas.List.Elements.{All-get_or}
-use Rattle.std.proofs.lemmas.List.FromFn.{map-range_with_len_more}
-use Rattle.std.proofs.lemmas.List.Sums.{sum_by_push}
-use Rattle.grown_runs.proofs.Common.{IsBounded, has_outcome, mark_at, is_placed, once_if, FollowWays, Point, Record, Task, All-task_marks_within, HoldRun}
-use Rattle.grown_runs.proofs.Common.{children_of_words, has_node, has_placed, node_point, points_of_words, record_at, sizes_of, Words, Count, PointOf, Sizes}
-use Rattle.grown_runs.proofs.Common.{point_word, IsBounded-stands, point_at-words, start_present-held, start_stands-held, point_in-stands, state_by-closed}
-use Rattle.grown_runs.proofs.Common.{sum-more}
-use Rattle.step_core.specs.SharedWords.{linked_points}
-use Rattle.step_core.specs.Worlds.{is_recorded}
-use Rattle.plan_model.proofs.SumsBelow.{sum-same}
+use Rattle.step_core.proofs.Words.{◌≡◌, ◌+◌, ◌<◌, ◌∙◌, ℕ, zero, suc, true, false, length, map, Option, Some, None, refl, sym, ap, subst, inl, inr, arith}
+use Rattle.step_core.proofs.Words.{count_by, cond, is_some, range_with_len, sum_by, cases_lt, get_or_past, All-get_or, map-range_with_len_more, sum_by_push}
+use Rattle.step_core.proofs.Words.{IsBounded, has_outcome, mark_at, is_placed, once_if, FollowWays, Point, Record, Task, All-task_marks_within, HoldRun}
+use Rattle.step_core.proofs.Words.{children_of_words, has_node, has_placed, node_point, points_of_words, record_at, sizes_of, Words, Count, PointOf, Sizes}
+use Rattle.step_core.proofs.Words.{point_word, IsBounded-stands, point_at-words, start_present-held, start_stands-held, point_in-stands, state_by-closed}
+use Rattle.step_core.proofs.Words.{sum-more, linked_points, is_recorded, sum-same}
 
 -- ---- marks
 
@@ -23,8 +13,7 @@ pub IsBounded-mark : (task : Task) (k : ℕ) → IsBounded (mark_at task.marks k
 IsBounded-mark task k =
     elim (cases_lt k (length task.marks)) [
       | inl low ↦ All-get_or IsBounded task.marks k (record { x = 0; y = 0 }) low (All-task_marks_within task)
-      | inr past ↦
-          subst IsBounded (sym (get_or_past task.marks k (record { x = 0; y = 0 }) past)) (record { right = omega arith; top = omega arith })
+      | inr past ↦ subst IsBounded (sym (get_or_past task.marks k (record { x = 0; y = 0 }) past)) (record { right = omega arith; top = omega arith })
     ]
 
 -- ---- how many nodes
@@ -69,8 +58,7 @@ module _ (task : Task) (limit : ℕ) (words : Words) (held : HoldRun task limit 
 
   -- a node is there if its mark was placed
   placed_node : (k : ℕ) → k < length task.marks → is_some (node_point words (suc k)) ≡ has_node words (suc k)
-  placed_node k low =
-      ap is_some (sym (point_at-words sizes words (suc k) (omega (arith, low)))) ∙ held.closed.placed k ∙ by_record (record_at words k)
+  placed_node k low = ap is_some (sym (point_at-words sizes words (suc k) (omega (arith, low)))) ∙ held.closed.placed k ∙ by_record (record_at words k)
     where
       by_record : (o : Option Record) → has_outcome is_placed o ≡ has_placed o
       by_record None = refl
@@ -79,8 +67,7 @@ module _ (task : Task) (limit : ℕ) (words : Words) (held : HoldRun task limit 
   -- The count is 1, and 1 for each mark that is recorded as placed.
   pub count-held : words Count ≡ 1 + sum_by (λ k. once_if (has_node words (suc k))) (range_with_len 0 (length task.marks))
   count-held =
-      held.counted
-      ∙ nodes_below (node_point words) (length task.marks)
+      held.counted ∙ nodes_below (node_point words) (length task.marks)
       (ap is_some (sym (point_at-words sizes words 0 (omega arith))) ∙ start_present-held task limit words held)
       ∙ ap (λ n. 1 + n) (sum-same (λ k. once_if (is_some (node_point words (suc k)))) (λ k. once_if (has_node words (suc k))) (length task.marks)
       (λ k low. ap once_if (placed_node k low)))

@@ -1,10 +1,7 @@
 -- Each step keeps the law of worlds: the lemma of its kind, at a moment.
-use Rattle.std.proofs.Common.{refl, sym, ap, subst, ◌∙◌, ◌≤◌, inl, arith}
-use Rattle.step_core.specs.LaterViews.{IsLater}
-use Rattle.step_core.specs.Steps.{IsMoment, Moment, Step, Steps, view_after, views_after}
-use Rattle.step_core.specs.ViewSteps.{best_with, hand_with_best, hand_with_post, joined, looker, parted, stepped, steps_then, worker_apart}
-use Rattle.grown_runs.proofs.Common.{AreBehind, Words, Best, AreBehind-refl}
-use Rattle.step_core.specs.Worlds.{IsWorld}
+use Rattle.step_core.proofs.Words.{◌∙◌, ◌+◌, ◌≤◌, refl, sym, ap, subst, inl, arith, IsLater, IsMoment, Moment, Step, Steps, steps_by, view_after, views_after}
+use Rattle.step_core.proofs.Words.{best_with, hand_with_best, hand_with_post, joined, looker, parted, posted, stepped, worker_apart, AreBehind, Words, Best}
+use Rattle.step_core.proofs.Words.{Count, AreBehind-refl, IsWorld}
 use Rattle.step_core.proofs.Steps.FinishedMarks.{AreBehind-finished, IsTurnWord-packed, IsWorld-recorded}
 use Rattle.step_core.proofs.OneView.LaterSteps.{IsLater-counted, IsLater-half, IsLater-pointed, IsLater-treed}
 use Rattle.step_core.proofs.OneView.LaterViews.{IsLater-claimed, IsLater-finished, IsLater-joined, IsLater-loaded, IsLater-parted, IsLater-stepped}
@@ -16,7 +13,7 @@ use Rattle.step_core.proofs.Steps.WorldNodes.{AreBehind-half, AreBehind-pointed,
 use Rattle.step_core.proofs.Steps.WorldNodes.{IsWorld-pointed, IsWorld-treed}
 use Rattle.step_core.proofs.Steps.WorldPosts.{IsLater-best, IsWorld-best_loaded, IsWorld-posted}
 use Rattle.step_core.proofs.Steps.WorldSplits.{IsCut-looker, IsCut-parted, IsWorld-cut}
-use Rattle.step_core.proofs.Steps.WorldSteps.{AreBehind-claimed, IsWorld-claimed, IsWorld-loaded}
+use Rattle.step_core.proofs.Steps.WorldSteps.{AreBehind-claimed, IsWorld-claimed, IsWorld-loaded, live}
 
 -- the law holds afterwards
 pub IsWorld-stepped :
@@ -30,7 +27,7 @@ IsWorld-stepped now is (Step.Load name) after made =
     (IsWorld-loaded now.run now.words now.views now.id now.view is.world is.at is.own name made.may)
 IsWorld-stepped now is (Step.WritePoint hand nearest at) after made =
     IsWorld-pointed now.run now.words after now.views now.id now.view is.world is.at is.own hand made.may.0.held made.may.0.far at made.leaves nearest
-    made.may.1
+    made.may.1 made.may.2
 IsWorld-stepped now is (Step.WriteFirst hand parent cost) after made =
     IsWorld-half now.run now.words after now.views now.id now.view is.world is.at is.own hand made.may.0.held made.may.0.far parent cost made.may.1
     made.leaves
@@ -48,8 +45,7 @@ IsWorld-stepped now is (Step.Lower node parent cost) after made =
 IsWorld-stepped now is Step.LoadBest after made =
     subst (λ words. IsWorld now.run words (views_after now Step.LoadBest)) (sym made.leaves)
     (IsWorld-best_loaded now.run now.words now.views now.id now.view is.world is.at is.own)
-IsWorld-stepped now is (Step.Post n) after made =
-    IsWorld-posted now.run now.words after now.views now.id now.view is.world is.at is.own n made.may made.leaves
+IsWorld-stepped now is (Step.Post n) after made = IsWorld-posted now.run now.words after now.views now.id now.view is.world is.at is.own n made.may made.leaves
 IsWorld-stepped now is (Step.Finish hand entry) after made =
     let may = made.may in
     IsWorld-recorded now.run now.words after now.views now.id now.view is.world is.at is.own hand may.held may.member may.crew may.first entry may.fits
@@ -70,7 +66,7 @@ IsWorld-stepped now is (Step.Join other taken) after made =
 pub AreBehind-stepped : (now : Moment) → IsMoment now → (step : Step) (after : Words) → Steps now step after → AreBehind now.words after
 AreBehind-stepped now is (Step.Claim g limit) after made = AreBehind-claimed now.words after g _ refl made.leaves
 AreBehind-stepped now is (Step.WritePoint hand nearest at) after made =
-    AreBehind-pointed now.run now.words after now.views now.id now.view is.world is.at hand made.may.0.held made.may.0.far at made.leaves
+    AreBehind-pointed is made.may.0.held made.may.0.far at after made.leaves
 AreBehind-stepped now is (Step.WriteFirst hand parent cost) after made =
     AreBehind-half now.run now.words after now.views now.id now.view is.world is.at is.own hand made.may.0.held made.may.0.far _ made.leaves
 AreBehind-stepped now is (Step.WriteTree hand) after made =
@@ -91,7 +87,7 @@ AreBehind-stepped now is (Step.Join other taken) after made = subst (AreBehind n
 -- the view that stepped is a later one
 pub IsLater-step : (now : Moment) → IsMoment now → (step : Step) (after : Words) → Steps now step after → IsLater now.view (view_after now step)
 IsLater-step now is (Step.Claim g limit) after made =
-    IsLater-claimed now.run now.words now.views now.id now.view is.world is.at is.own g _ limit made.may.of_run refl
+    IsLater-claimed now.run now.words now.views now.id now.view is.world is.at is.own g _ limit made.may.of_run refl (steps_by now)
 IsLater-step now is (Step.Load name) after made = IsLater-loaded now.run now.words now.views now.id now.view is.world is.at is.own name made.may
 IsLater-step now is (Step.WritePoint hand nearest at) after made = IsLater-pointed now.view hand nearest at
 IsLater-step now is (Step.WriteFirst hand parent cost) after made = IsLater-half now.view hand parent cost
@@ -99,18 +95,19 @@ IsLater-step now is (Step.WriteTree hand) after made = IsLater-treed now.view ha
 IsLater-step now is (Step.Link hand node side) after made =
     let may = made.may in
     IsLater-link now.run now.words now.words now.views now.id now.view is.world is.at is.own hand may.holds.held may.holds.far node side may.leads may.empty
-    (steps_then now.views now.id now.view)
-IsLater-step now is (Step.Add hand) after made = IsLater-counted now.view hand
+    (steps_by now)
+IsLater-step now is (Step.Add hand) after made = IsLater-counted now.view hand (now.words Count + 1) (steps_by now)
 IsLater-step now is (Step.Lower node parent cost) after made =
-    IsLater-lowered now.run now.words now.views now.id now.view is.world is.at is.own node parent cost made.may.may made.may.as_seen
+    IsLater-lowered now.run now.words now.views now.id now.view is.world is.at is.own node parent cost made.may.may made.may.as_seen (steps_by now)
 IsLater-step now is Step.LoadBest after made =
-    IsLater-best now.view (now.words Best) (hand_with_best now.view.hand (now.words Best)) (is.world.bests now.id now.view is.at is.own).falls
+    IsLater-best now.run now.view (live now.run now.words now.views now.id now.view is.world is.at is.own) (now.words Best)
+    (hand_with_best now.view.hand (now.words Best)) now.view.notes (is.world.bests now.id now.view is.at is.own).falls
 IsLater-step now is (Step.Post n) after made =
     let falls = (is.world.bests now.id now.view is.at is.own).falls in
-    IsLater-best now.view (best_with now.view n (now.words Best)) (hand_with_post now.view.hand n) (omega (arith, falls))
+    IsLater-best now.run now.view (live now.run now.words now.views now.id now.view is.world is.at is.own) (best_with now.view n (now.words Best))
+    (hand_with_post now.view.hand n) (posted now.view n (now.words Best) (steps_by now)).notes (omega (arith, falls))
 IsLater-step now is (Step.Finish hand entry) after made =
-    IsLater-finished now.run now.words now.views now.id now.view is.world is.at is.own hand made.may.held _
-    (IsTurnWord-packed entry made.may.fits).written
+    IsLater-finished now.run now.words now.views now.id now.view is.world is.at is.own hand made.may.held _ (IsTurnWord-packed entry made.may.fits).written
 IsLater-step now is Step.HandOn after made = IsLater-parted now.view
 IsLater-step now is Step.Look after made = IsLater-stepped now.view
 IsLater-step now is (Step.Join other taken) after made = IsLater-joined now.view taken

@@ -1,32 +1,22 @@
 -- A join keeps the law of worlds: shares are added, and what either has seen is seen.
-use Rattle.std.proofs.Common.{◌≡◌, ◌≢◌, ℕ, zero, suc, ◌<◌, ◌≤◌, ◌^◌, max, Bool, true, false, List, [], ◌∷◌, min}
-use Rattle.std.proofs.Common.{◌++◌, length, length-append, set, Some, None, refl, sym, ap, ◌∙◌, subst, inl, inr, arith, zero-le}
-use Rattle.std.specs.Prelude.{◌⊎◌, ◌==◌, ◌&&◌, nat_le, nat_lt, cond}
-use Rattle.std.proofs.lemmas.Bool.{cases_eq, eqb-true, eqb-false, ne_eqb}
-use Rattle.std.proofs.lemmas.List.Sums.{sum_by-append}
-use mathlib.Core.Option.{some, some-ne-none, some-injective}
-use lib.ListN.{get_elem?}
-use Rattle.grown_runs.proofs.Common.{once_if, AreSeenLawfully, AreSeenLawfully-either, has_node, AreBehind, HaveWholePairs, MayBecome, WordKind, kind_of}
-use Rattle.grown_runs.proofs.Common.{later_word, Rising, Once, Falling, Apart, Word, Words, Count, Best, Counter, PointOf, ChildOf, TreeOf, FirstOf, RecordOf}
-use Rattle.grown_runs.proofs.Common.{Sizes, word_count, cost_in, tree_of_word, min-either}
-use Rattle.step_core.specs.Stages.{has_count, has_first, has_link, has_point, has_tree, holds_at}
-use Rattle.step_core.specs.ViewSteps.{joined}
-use Rattle.step_core.specs.SeenBests.{IsAtMostPlaced}
-use Rattle.step_core.specs.ViewTrees.{SeesTree}
-use Rattle.step_core.specs.Views.{IsViewOf, holds, no_run, run_sizes, sees, setup_in, share, spent, times, took_over, tree_seen, words_of_run}
+use Rattle.step_core.proofs.Words.{◌≡◌, ◌≢◌, ◌<◌, ◌≤◌, ◌^◌, [], ◌∷◌, ◌++◌, ◌∙◌, ◌⊎◌, ◌==◌, ℕ, zero, suc, max, Bool, true, false, List, min, length}
+use Rattle.step_core.proofs.Words.{length-append, set, Some, None, refl, sym, ap, subst, inl, inr, arith, zero-le, cond, cases_eq, eqb-true, eqb-false, ne_eqb}
+use Rattle.step_core.proofs.Words.{sum_by-append, some, some-ne-none, get_elem?, once_if, AreSeenLawfully, AreSeenLawfully-either, has_node, AreBehind}
+use Rattle.step_core.proofs.Words.{HaveWholePairs, MayBecome, WordKind, kind_of, later_word, Rising, Once, Falling, Apart, Word, Words, Count, Best, Counter}
+use Rattle.step_core.proofs.Words.{PointOf, ChildOf, TreeOf, FirstOf, RecordOf, Sizes, word_count, cost_in, tree_of_word, min-either, has_count, has_first}
+use Rattle.step_core.proofs.Words.{has_link, has_point, has_tree, holds_at, joined, last_seen, IsAtMostPlaced, SeesTree, IsViewOf, holds, no_run, run_sizes}
+use Rattle.step_core.proofs.Words.{sees, setup_in, share, spent, times, took_over, tree_seen, words_of_run, Agree, BestCopy, EachView, HasCopy, IsBestWord}
+use Rattle.step_core.proofs.Words.{IsMember, IsWorld, SeesBest, greatest_limit, hands_at, limit_of, state_in, Member, SharedRun, Stage, View}
 use Rattle.grown_runs.specs.Table.WordPlaces.{word_at}
-use Rattle.step_core.specs.Worlds.{Agree, BestCopy, EachView, HasCopy, IsBestWord, IsMember, IsWorld, SeesBest, greatest_limit, hands_at, limit_of, state_in}
-use Rattle.step_core.specs.declared.views.Member.{Member}
-use Rattle.step_core.specs.declared.views.SharedRun.{SharedRun}
-use Rattle.step_core.specs.declared.views.Stage.{Stage}
-use Rattle.step_core.specs.declared.views.View.{View}
-use Rattle.step_core.proofs.Seen.LaterWords.{IsWholePair-later, MayBecome-later, MayBecome-other_to_later, MayBecome-to_later, length-merged, word_at-merged}
-use Rattle.step_core.proofs.Parts.ViewLists.{at-set, at-set_other, each-set, maximum-most, maximum-one, sum-set}
+use Rattle.step_core.proofs.Seen.LaterWords.{IsWholePair-later, MayBecome-later, later_word-either, MayBecome-other_to_later, MayBecome-to_later, length-merged}
+use Rattle.step_core.proofs.Seen.LaterWords.{word_at-merged}
+use Rattle.step_core.proofs.Parts.ViewLists.{at-set, at-set_other, each-set, maximum-most, maximum-one, same-at, sum-set}
 use Rattle.step_core.proofs.OneView.SeenTreesTogether.{SeesTree-joined}
+use Rattle.step_core.proofs.Seen.Looks.{same_name}
 use Rattle.step_core.proofs.Seen.PlacedWords.{has_node-same}
 use Rattle.step_core.proofs.Parts.WorldBests.{goal-seen_before, same_first_cost}
 use Rattle.step_core.proofs.Parts.WorldCopies.{same-later, told-kind}
-use Rattle.step_core.proofs.Parts.WorldEmpties.{Empties-joined, zero-read}
+use Rattle.step_core.proofs.Parts.WorldNotes.{Empties-joined, GoesTo-seen, Notes-joined, last_seen-table, zero-read}
 use Rattle.step_core.proofs.Parts.WorldHands.{Hands-views, IsWrittenFor}
 use Rattle.step_core.proofs.Parts.WorldLinks.{LinkedTree-views}
 use Rattle.step_core.proofs.Parts.WorldPairs.{HasFirst, HasFirst-none, HasTree, HasTree-none, Pairs-views}
@@ -113,8 +103,7 @@ module _ (run : SharedRun) (words : Words) (views : List View) (id : ℕ) (view 
   behind_both : AreBehind (sees both) words
   behind_both name =
       subst (λ w. MayBecome (kind_of name) w (words name)) (sym (sees_both name))
-      (MayBecome-later (kind_of name) (sees view name) (sees other name) (words name) (world.seen.behind id view at name)
-      (world.seen.behind j other was name))
+      (MayBecome-later (kind_of name) (sees view name) (sees other name) (words name) (world.seen.behind id view at name) (world.seen.behind j other was name))
 
   whole_both : HaveWholePairs (sees both)
   whole_both n =
@@ -147,32 +136,29 @@ module _ (run : SharedRun) (words : Words) (views : List View) (id : ℕ) (view 
   took_both : AreBehind (took_over both) (sees both)
   took_both name = subst (λ w. MayBecome (kind_of name) w (sees both name)) (sym (sees_other name)) (AreBehind-other name)
 
-  -- each pair of both is one that one of them saw
-  pair_of_one : (n : ℕ) → (sees both (TreeOf n) ≡ sees view (TreeOf n)) ⊎ (sees both (TreeOf n) ≡ sees other (TreeOf n))
-  pair_of_one n = by_test (sees view (TreeOf n) == 0) refl (nat_le (2 ^ 63) (sees other (TreeOf n)) && nat_lt (cost_in (sees other (TreeOf n)))
-      (cost_in (sees view (TreeOf n)))) refl
-    where
-      by_test :
-          (t : Bool) → (sees view (TreeOf n) == 0) ≡ t → (u : Bool)
-          → (nat_le (2 ^ 63) (sees other (TreeOf n)) && nat_lt (cost_in (sees other (TreeOf n))) (cost_in (sees view (TreeOf n)))) ≡ u
-          → (sees both (TreeOf n) ≡ sees view (TreeOf n)) ⊎ (sees both (TreeOf n) ≡ sees other (TreeOf n))
-      by_test true e u f = inr (sees_both (TreeOf n)
-          ∙ ap (λ b. cond b (sees other (TreeOf n)) (cond (nat_le (2 ^ 63) (sees other (TreeOf n)) && nat_lt (cost_in (sees other (TreeOf n)))
-          (cost_in (sees view (TreeOf n)))) (sees other (TreeOf n)) (sees view (TreeOf n)))) e)
-      by_test false e true f =
-          inr (sees_both (TreeOf n)
-          ∙ ap (λ b. cond b (sees other (TreeOf n)) (cond (nat_le (2 ^ 63) (sees other (TreeOf n)) && nat_lt (cost_in (sees other (TreeOf n)))
-          (cost_in (sees view (TreeOf n)))) (sees other (TreeOf n)) (sees view (TreeOf n)))) e
-          ∙ ap (λ b. cond b (sees other (TreeOf n)) (sees view (TreeOf n))) f)
-      by_test false e false f =
-          inl (sees_both (TreeOf n)
-          ∙ ap (λ b. cond b (sees other (TreeOf n)) (cond (nat_le (2 ^ 63) (sees other (TreeOf n)) && nat_lt (cost_in (sees other (TreeOf n)))
-          (cost_in (sees view (TreeOf n)))) (sees other (TreeOf n)) (sees view (TreeOf n)))) e
-          ∙ ap (λ b. cond b (sees other (TreeOf n)) (sees view (TreeOf n))) f)
+  -- each word that both see is one that one of them saw,
+  of_one : (name : Word) → (sees both name ≡ sees view name) ⊎ (sees both name ≡ sees other name)
+  of_one name =
+      elim (later_word-either (kind_of name) (sees view name) (sees other name)) [
+        | inl mine ↦ inl (sees_both name ∙ mine)
+        | inr theirs ↦ inr (sees_both name ∙ theirs)
+      ]
+
+  -- and so is the best word
+  last_of_one : (name : Word) → (last_seen both name ≡ last_seen view name) ⊎ (last_seen both name ≡ last_seen other name)
+  last_of_one name =
+      elim (same_name name Best) [
+        | inl is ↦ subst (λ m. (last_seen both m ≡ last_seen view m) ⊎ (last_seen both m ≡ last_seen other m)) (sym is)
+            (min-either (λ best. (best ≡ view.best) ⊎ (best ≡ other.best)) view.best other.best (inl refl) (inr refl))
+        | inr off ↦ elim (of_one name) [
+          | inl mine ↦ inl (last_seen-table both name off ∙ mine ∙ sym (last_seen-table view name off))
+          | inr theirs ↦ inr (last_seen-table both name off ∙ theirs ∙ sym (last_seen-table other name off))
+        ]
+      ]
 
   agree_both : (i : ℕ) (u : View) → get_elem? views i ≡ some u → Agree (sees both) (sees u)
   agree_both i u e n written also same =
-      elim (pair_of_one n) [
+      elim (of_one (TreeOf n)) [
         | inl mine ↦ mine ∙ world.seen.agree id view at i u e n (subst (λ w. 2 ^ 63 ≤ w) mine written) also (ap cost_in (sym mine) ∙ same)
         | inr theirs ↦ theirs ∙ world.seen.agree j other was i u e n (subst (λ w. 2 ^ 63 ≤ w) theirs written) also (ap cost_in (sym theirs) ∙ same)
       ]
@@ -202,14 +188,10 @@ module _ (run : SharedRun) (words : Words) (views : List View) (id : ℕ) (view 
     all_limits : greatest_limit views ≤ greatest_limit after
     all_limits = maximum-most limit_of views (greatest_limit after) (λ i u e.
         let top = maximum-one limit_of after id both here in
-        elim (cases_eq i id) [
-          | inl same ↦ (
-              let is : u ≡ view = some-injective u view (sym e ∙ ap (get_elem? views) same ∙ at) in
-              omega (arith, ap limit_of is, limit_of-joined view other, top))
-          | inr off ↦ elim (cases_eq i j) [
-            | inl same ↦ (
-                let is : u ≡ other = some-injective u other (sym e ∙ ap (get_elem? views) same ∙ was) in
-                omega (arith, ap limit_of is, limit_of-joined view other, top))
+        elim (same-at views i id u view e at) [
+          | inl (same, is) ↦ omega (arith, ap limit_of is, limit_of-joined view other, top)
+          | inr off ↦ elim (same-at views i j u other e was) [
+            | inl (same, is) ↦ omega (arith, ap limit_of is, limit_of-joined view other, top)
             | inr off_too ↦ maximum-one limit_of after i u (at-set_other middle j i spent off_too ∙ at-set_other views id i both off ∙ e)
           ]
         ])
@@ -304,16 +286,17 @@ module _ (run : SharedRun) (words : Words) (views : List View) (id : ℕ) (view 
           (hands_both has_first) (hands_both has_tree);
       seen_pairs = each (λ u. u.run ≡ run → AreSeenLawfully (setup_in run) (tree_seen u) (state_in run words)) world.seen_pairs
           (λ of. AreSeenLawfully-either (setup_in run) (tree_seen view) (tree_seen other) (tree_seen both) (state_in run words) pair_seen
-          (world.seen_pairs id view at own) (world.seen_pairs j other was own_too))
-          (λ of. absurd (live_spent of));
+          (world.seen_pairs id view at own) (world.seen_pairs j other was own_too)) (λ of. absurd (live_spent of));
       records = world.records;
       sights = each (λ u. u.run ≡ run → SeesTree u) world.sights
           (λ of. SeesTree-joined view other (own_too ∙ sym own) (AreBehind-joined view other) AreBehind-other idle_too (world.sights id view at own)
-          (world.sights j other was own_too))
-          (λ of. absurd (live_spent of));
+          (world.sights j other was own_too)) (λ of. absurd (live_spent of));
       copies = λ name told. copy_after name (told-kind run words name told) (world.copies name told);
       best_copy = best_after world.best_copy;
-      empties = Empties-joined run words views id view j other both world.empties at was apart there live_spent refl (omega arith) refl (λ name. refl);
+      notes = Notes-joined run words views id view j other both at was apart there own own_too live_spent refl (omega arith) refl world.notes (λ name. refl)
+          (λ name. GoesTo-seen view both name (AreBehind-joined view other name) (omega arith)) last_of_one;
+      empties = Empties-joined run words views id view j other both at was apart there own own_too live_spent refl (omega arith) refl world.empties
+          (λ name. refl);
       best = world.best;
       bests = each (λ u. u.run ≡ run → SeesBest run words u) world.bests (λ of. best_both) (λ of. absurd (live_spent of));
     }
@@ -334,16 +317,14 @@ module _ (run : SharedRun) (words : Words) (views : List View) (id : ℕ) (view 
 
         copy_after : (name : Word) → kind_of name ≢ Apart → HasCopy run words views name → HasCopy run words after name
         copy_after name told copy =
-            elim (cases_eq copy.id id) [
-              | inl same ↦ (
-                  let is : copy.view ≡ view = some-injective copy.view view (sym copy.at ∙ ap (get_elem? views) same ∙ at) in
+            elim (same-at views copy.id id copy.view view copy.at at) [
+              | inl (same, is) ↦
                   copy_both name told view (subst (λ u. 0 < share u) is copy.part) (omega (arith, length-append view.crew other.crew))
-                  (AreBehind-joined view other) (ap (λ u. sees u name) (sym is) ∙ copy.same))
-              | inr off ↦ elim (cases_eq copy.id j) [
-                | inl same ↦ (
-                    let is : copy.view ≡ other = some-injective copy.view other (sym copy.at ∙ ap (get_elem? views) same ∙ was) in
+                  (AreBehind-joined view other) (ap (λ u. sees u name) (sym is) ∙ copy.same)
+              | inr off ↦ elim (same-at views copy.id j copy.view other copy.at was) [
+                | inl (same, is) ↦
                     copy_both name told other (subst (λ u. 0 < share u) is copy.part) (omega (arith, length-append view.crew other.crew)) AreBehind-other
-                    (ap (λ u. sees u name) (sym is) ∙ copy.same))
+                    (ap (λ u. sees u name) (sym is) ∙ copy.same)
                 | inr off_too ↦ record {
                   id = copy.id;
                   view = copy.view;
@@ -363,16 +344,12 @@ module _ (run : SharedRun) (words : Words) (views : List View) (id : ℕ) (view 
         best_after copy =
             let mine = (world.bests id view at own).falls in
             let theirs = (world.bests j other was own_too).falls in
-            elim (cases_eq copy.id id) [
-              | inl same ↦ (
-                  let is : copy.view ≡ view = some-injective copy.view view (sym copy.at ∙ ap (get_elem? views) same ∙ at) in
-                  best_seen (omega (arith, ap (λ u. u.best) is, copy.same, theirs))
-                  (omega (arith, ap share is, copy.part, length-append view.crew other.crew)))
-              | inr off ↦ elim (cases_eq copy.id j) [
-                | inl same ↦ (
-                    let is : copy.view ≡ other = some-injective copy.view other (sym copy.at ∙ ap (get_elem? views) same ∙ was) in
-                    best_seen (omega (arith, ap (λ u. u.best) is, copy.same, mine))
-                    (omega (arith, ap share is, copy.part, length-append view.crew other.crew)))
+            elim (same-at views copy.id id copy.view view copy.at at) [
+              | inl (same, is) ↦
+                  best_seen (omega (arith, ap (λ u. u.best) is, copy.same, theirs)) (omega (arith, ap share is, copy.part, length-append view.crew other.crew))
+              | inr off ↦ elim (same-at views copy.id j copy.view other copy.at was) [
+                | inl (same, is) ↦
+                    best_seen (omega (arith, ap (λ u. u.best) is, copy.same, mine)) (omega (arith, ap share is, copy.part, length-append view.crew other.crew))
                 | inr off_too ↦ record {
                   id = copy.id;
                   view = copy.view;
@@ -397,24 +374,16 @@ module _ (run : SharedRun) (words : Words) (views : List View) (id : ℕ) (view 
             (n : ℕ) (pair : ℕ × ℕ) → (tree_seen both).parent_and_cost n ≡ Some pair
             → ((tree_seen view).parent_and_cost n ≡ Some pair) ⊎ ((tree_seen other).parent_and_cost n ≡ Some pair)
         pair_seen n pair e =
-            elim (pair_of_one n) [
+            elim (of_one (TreeOf n)) [
               | inl mine ↦ inl (ap tree_of_word (sym mine) ∙ e)
               | inr theirs ↦ inr (ap tree_of_word (sym theirs) ∙ e)
             ]
 
-        -- a record that both have seen, one of them has seen
-        record_of_one : (k : ℕ) → (sees both (RecordOf k) ≡ sees view (RecordOf k)) ⊎ (sees both (RecordOf k) ≡ sees other (RecordOf k))
-        record_of_one k = by_test (sees view (RecordOf k) == 0) refl
-          where
-            by_test : (t : Bool) → (sees view (RecordOf k) == 0) ≡ t
-                → (sees both (RecordOf k) ≡ sees view (RecordOf k)) ⊎ (sees both (RecordOf k) ≡ sees other (RecordOf k))
-            by_test true e = inr (sees_both (RecordOf k) ∙ ap (λ b. cond b (sees other (RecordOf k)) (sees view (RecordOf k))) e)
-            by_test false e = inl (sees_both (RecordOf k) ∙ ap (λ b. cond b (sees other (RecordOf k)) (sees view (RecordOf k))) e)
-
+        -- a node that both have seen recorded, one of them has
         node_of_one : (n : ℕ) → has_node (sees both) n ≡ true → (has_node (sees view) n ≡ true) ⊎ (has_node (sees other) n ≡ true)
         node_of_one zero h = inl refl
         node_of_one (suc k) h =
-            elim (record_of_one k) [
+            elim (of_one (RecordOf k)) [
               | inl mine ↦ inl (sym (has_node-same (sees view) (sees both) k mine) ∙ h)
               | inr theirs ↦ inr (sym (has_node-same (sees other) (sees both) k theirs) ∙ h)
             ]

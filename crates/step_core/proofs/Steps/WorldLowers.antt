@@ -1,19 +1,9 @@
 -- The cost of a node is lowered: the tree word that was seen last gives way to one of lower cost. The step keeps the law of worlds.
-use Rattle.std.proofs.Common.{◌≡◌, ◌≢◌, ℕ, ◌<◌, ◌≤◌, ◌^◌, true, List, set, refl, sym, ap, ◌∙◌, subst, inl, inr, arith}
-use Rattle.std.specs.Prelude.{◌⊎◌, IsSome, is_some}
-use mathlib.Core.Option.{some}
-use lib.ListN.{get_elem?}
-use Rattle.grown_runs.proofs.Common.{Hangs, IsPresent, point_of, is_linked, AreBehind, HaveWholePairs, MayBecome, Falling, Words, WritesWord, Best, ChildOf}
-use Rattle.grown_runs.proofs.Common.{Count, Counter, FirstOf, PointOf, RecordOf, TreeOf, HasWord, cost_in, tree_of_word, tree_word, cost_in-tree_word}
-use Rattle.grown_runs.proofs.Common.{AreBehind-trans}
-use Rattle.step_core.specs.LaterViews.{IsLater}
-use Rattle.step_core.specs.SharedWords.{linked_points}
-use Rattle.step_core.specs.ViewSteps.{lowered}
-use Rattle.step_core.specs.ViewTrees.{MayLower, SeesNode}
-use Rattle.step_core.specs.Views.{run_sizes, sees, setup_in, share}
-use Rattle.step_core.specs.Worlds.{IsWorld, state_in}
-use Rattle.step_core.specs.declared.views.SharedRun.{SharedRun}
-use Rattle.step_core.specs.declared.views.View.{View}
+use Rattle.step_core.proofs.Words.{◌≡◌, ◌≢◌, ◌+◌, ◌<◌, ◌≤◌, ◌^◌, ◌∷◌, ◌∙◌, ◌⊎◌, ℕ, true, List, set, refl, sym, ap, subst, inl, inr, arith, IsSome, is_some}
+use Rattle.step_core.proofs.Words.{some, get_elem?, Hangs, IsPresent, point_of, is_linked, AreBehind, HaveWholePairs, MayBecome, Falling, Words, WritesWord}
+use Rattle.step_core.proofs.Words.{Best, ChildOf, Count, Counter, FirstOf, PointOf, RecordOf, TreeOf, HasWord, place_of, cost_in, tree_of_word, tree_word}
+use Rattle.step_core.proofs.Words.{cost_in-tree_word, AreBehind-trans, IsLater, linked_points, lowered, steps_then, MayLower, SeesNode, run_sizes, sees}
+use Rattle.step_core.proofs.Words.{setup_in, share, IsWorld, state_in, SharedRun, View}
 use Rattle.step_core.proofs.Parts.HungNodes.{Hangs-lower, fits-below, lowered-linked, lowered-present}
 use Rattle.step_core.proofs.OneView.LaterViews.{IsLater-saw}
 use Rattle.step_core.proofs.OneView.LawfulPairs.{tree_of_word-written}
@@ -21,17 +11,18 @@ use Rattle.step_core.proofs.OneView.LawfulSights.{is_linked-seen}
 use Rattle.step_core.proofs.Parts.LinkedStates.{few_nodes}
 use Rattle.step_core.proofs.Seen.Looks.{same_name}
 use Rattle.step_core.proofs.Seen.SawWords.{AreBehind-saw, AreBehind-seen, AreBehind-write, HaveWholePairs-saw, IsFair-saw}
-use Rattle.step_core.proofs.Seen.SeenByViews.{IsViewOf-saw, WritesWord-saw}
+use Rattle.step_core.proofs.Seen.SeenByViews.{IsViewOf-saw, WritesWord-looked, WritesWord-saw}
 use Rattle.step_core.proofs.OneView.SeenTreesOfViews.{SeesTree-lowered}
 use Rattle.step_core.proofs.Parts.WorldBests.{FollowsHand-refl}
 use Rattle.step_core.proofs.Parts.WorldCopies.{Copies-seen}
-use Rattle.step_core.proofs.Parts.WorldEmpties.{Empties-kept, last_zero-saw}
+use Rattle.step_core.proofs.Parts.NotedSteps.{KeepsNotes-kept, LeavesNotes-one, shown-one}
+use Rattle.step_core.proofs.Parts.Shifts.{IsShift, Shift, shift_at}
+use Rattle.step_core.proofs.Parts.WorldNotes.{last_zero-saw}
 use Rattle.step_core.proofs.Parts.WorldHands.{Hands-step}
 use Rattle.step_core.proofs.Parts.WorldLinks.{KeepsLinks, LinkedTree-kept}
-use Rattle.step_core.proofs.Steps.WorldNodes.{IsWorld-leaves, KeepsMarks, grows_kept, numbers_kept}
+use Rattle.step_core.proofs.Steps.WorldSteps.{IsWorld-leaves, KeepsMarks, grows_kept, numbers_kept, follow, live, seen_within, tree}
 use Rattle.step_core.proofs.Parts.WorldPairs.{Pairs-same}
 use Rattle.step_core.proofs.Parts.WorldParts.{is_recorded-kept}
-use Rattle.step_core.proofs.Steps.WorldSteps.{follow, live, seen_within, tree}
 use Rattle.step_core.proofs.Parts.WorldTrees.{Trees-lowered}
 
 -- the tree word of a seen node is written
@@ -89,12 +80,8 @@ IsLowered-seen words views id view world at n parent cost may =
 module _ (run : SharedRun) (words : Words) (views : List View) (id : ℕ) (view : View) (world : IsWorld run words views)
     (at : get_elem? views id ≡ some view) (own : view.run ≡ run) (n parent cost : ℕ) (may : MayLower view n parent cost)
     (as_seen : words (TreeOf n) ≡ sees view (TreeOf n)) where
-  abbrev then : View
-  then = lowered view n parent cost
-
   lowers : IsLowered run words n parent cost
-  lowers =
-      subst (λ r. IsWorld r words views → IsLowered r words n parent cost) own (λ here. IsLowered-seen words views id view here at n parent cost may) world
+  lowers = subst (λ r. IsWorld r words views → IsLowered r words n parent cost) own (λ here. IsLowered-seen words views id view here at n parent cost may) world
 
   new_cost : cost_in (tree_word parent cost) ≡ cost
   new_cost = cost_in-tree_word parent cost lowers.fits.0 lowers.fits.1
@@ -113,9 +100,11 @@ module _ (run : SharedRun) (words : Words) (views : List View) (id : ℕ) (view 
   seen_falls = subst (λ w. MayBecome Falling w (tree_word parent cost)) as_seen falls
 
   -- The view is a later one then,
-  pub IsLater-lowered : IsLater view then
-  IsLater-lowered =
-      IsLater-saw run view (live run words views id view world at own) (TreeOf n) here (sees view (TreeOf n)) (tree_word parent cost) seen_falls (λ e. e)
+  pub IsLater-lowered : (steps : List ℕ) → IsLater view (lowered view n parent cost steps)
+  IsLater-lowered steps =
+      let of_run = live run words views id view world at own in
+      let then = IsLater-saw run view of_run (TreeOf n) here (sees view (TreeOf n)) (tree_word parent cost) seen_falls (λ e. e) in
+      record { run = then.run; seen = then.seen; best = then.best; steps = then.steps; looked = then.looked; zero_found = then.zero_found }
 
   module _ (after : Words) (writes : WritesWord (TreeOf n) (tree_word parent cost) words after) where
     -- the words go on,
@@ -123,20 +112,36 @@ module _ (run : SharedRun) (words : Words) (views : List View) (id : ℕ) (view 
     AreBehind-lowered = AreBehind-write (TreeOf n) (tree_word parent cost) words after writes falls
 
     -- and the law holds.
-    pub IsWorld-lowered : 0 < share view → IsWorld run after (set views id then)
+    pub IsWorld-lowered : 0 < share view → IsWorld run after (set views id (lowered view n parent cost (steps_then views id view)))
     IsWorld-lowered part =
         let x : ℕ = tree_word parent cost in
+        let steps : List ℕ = steps_then views id view in
+        let then : View = lowered view n parent cost steps in
         let of_run = live run words views id view world at own in
         let saw_it = WritesWord-saw run view of_run (TreeOf n) here (sees view (TreeOf n)) x in
         let behind = AreBehind-trans (sees view) words after (world.seen.behind id view at) AreBehind-lowered in
-        let keeps : KeepsMarks words after view then = record {
+        let now = AreBehind-saw (TreeOf n) x (sees view) (sees then) after saw_it writes.here behind in
+        let v = IsViewOf-saw run view of_run (TreeOf n) here (sees view (TreeOf n)) x in
+        let s : Shift = shift_at run words views id view then after in
+        let is : IsShift s = record {
+          moment = record { world = world; at = at; own = own };
+          of_run = record { run_is = v.run_is; seen = v.seen; looked = v.looked; found_zero = v.found_zero; looks = v.looks; zero_looks = v.zero_looks };
+          one_more = refl;
+          go = AreBehind-lowered;
+          best = omega (arith, writes.others Best (λ e. cc));
+        } in
+        let keeps : KeepsMarks s = record {
           records = λ k. writes.others (RecordOf k) (λ e. cc);
           counters = λ g. writes.others (Counter g) (λ e. cc);
           pairs = whole_after;
           crew = refl;
           most = refl;
           holds = λ k. refl;
+          idle = world.shares.idle id view at;
           seen_records = λ k. saw_it.others (RecordOf k) (λ e. cc);
+          took = refl;
+          behind = now;
+          more = AreBehind-seen (TreeOf n) x (sees view) (sees then) after saw_it writes.here behind;
           whole = HaveWholePairs-saw (TreeOf n) x (sees view) (sees then) after saw_it writes.here behind (world.seen.pairs_seen id view at) whole_after;
           fair = IsFair-saw (TreeOf n) x (sees view) (sees then) after saw_it writes.here behind;
         } in
@@ -144,28 +149,24 @@ module _ (run : SharedRun) (words : Words) (views : List View) (id : ℕ) (view 
         record { children = λ m side. writes.others (ChildOf m side) (λ e. cc); points = λ m h. writes.others (PointOf m) (λ e. cc) } in
         let links = LinkedTree-kept run words after views id view then at world.links keeps_links keeps.records (writes.others Count (λ e. cc)) (λ k. refl)
         (λ k. refl) in
-        let numbers = numbers_kept run words after views id view then world at own keeps in
-        let grows = grows_kept run words after views id view then world at own keeps AreBehind-lowered links in
-        let now = AreBehind-saw (TreeOf n) x (sees view) (sees then) after saw_it writes.here behind in
-        let more = AreBehind-seen (TreeOf n) x (sees view) (sees then) after saw_it writes.here behind in
-        IsWorld-leaves run words after views id view then world at own keeps
-        (record { word = writes.others Best (λ e. cc); seen = refl; hand = FollowsHand-refl view.hand })
-        (IsViewOf-saw run view of_run (TreeOf n) here (sees view (TreeOf n)) x) AreBehind-lowered
-        now more refl (world.shares.idle id view at) links
+        let numbers = numbers_kept is keeps in
+        let grows = grows_kept is keeps links in
+        IsWorld-leaves is keeps (record { word = writes.others Best (λ e. cc); seen = refl; hand = FollowsHand-refl view.hand }) links
         (Trees-lowered run words after views (set views id then) world.numbers world.links numbers links world.trees AreBehind-lowered n parent cost writes
         lowers.linked lowers.fits.0 lowers.fits.1 lowers.present lowers.hangs cheaper)
-        (Hands-step words after views id view then at world.hands (λ m. writes.others (PointOf m) (λ e. cc)) (is_recorded-kept words after keeps.records)
+        (Hands-step is (λ m. writes.others (PointOf m) (λ e. cc)) (is_recorded-kept words after keeps.records)
         (world.hands.written id view at) (λ k. refl))
-        (Pairs-same run words after views id view then at world.numbers world.links world.pairs grows (λ m. writes.others (FirstOf m) (λ e. cc))
+        (Pairs-same is grows (λ m. writes.others (FirstOf m) (λ e. cc))
         (λ m unlinked. writes.others (TreeOf m) (λ e.
         let same : m ≡ n = cc in
         let no = sym unlinked ∙ ap (is_linked (run_sizes run) words) same ∙ lowers.linked in
-        cc)) (is_recorded-kept words after keeps.records) refl)
-        (SeesTree-lowered run view of_run (tree run words views id view world at own) n parent cost here
-        ((tree run words views id view world at own).rooted.points n (ap is_some may.seen.stands)) seen_falls)
-        (Copies-seen run words after views id view then at own world.copies more now (λ had. had) (TreeOf n) x writes keeps_links part saw_it.here)
-        (Empties-kept run words after views id view then at world.empties refl (omega arith) refl keeps_links.children
-        (λ m side. last_zero-saw run view of_run (TreeOf n) here (sees view (TreeOf n)) x (ChildOf m side) (λ e. cc)))
+        cc)) (is_recorded-kept words after keeps.records) refl) (SeesTree-lowered run view of_run (tree run words views id view world at own) n parent cost here
+        ((tree run words views id view world at own).rooted.points n (ap is_some may.seen.stands)) seen_falls steps)
+        (Copies-seen run words after views id view then at own world.copies keeps.more now (λ had. had) (TreeOf n) x writes keeps_links part saw_it.here)
+        (KeepsNotes-kept is (LeavesNotes-one is (TreeOf n) here x writes
+        (ap (λ r. record { place = place_of (run_sizes r) (TreeOf n); word = x; steps = steps } ∷ view.notes) own)
+        (shown-one is (TreeOf n) (λ e. cc) (view.steps + 1) x (WritesWord-looked run view of_run (TreeOf n) here (sees view (TreeOf n)) x) saw_it writes.here
+        refl)) keeps_links.children (λ m side some_child. last_zero-saw run view of_run (TreeOf n) here (sees view (TreeOf n)) x (ChildOf m side) (λ e. cc)))
       where
         whole_after : HaveWholePairs after
         whole_after m =

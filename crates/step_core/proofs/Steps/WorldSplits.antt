@@ -1,28 +1,19 @@
 -- A split keeps the law of worlds: no worker is lost, and the hand stays with the pass that is split.
-use Rattle.std.proofs.Common.{◌≡◌, ℕ, zero, suc, ◌+◌, ◌≤◌, Bool, true, false, List, [], ◌∷◌}
-use Rattle.std.proofs.Common.{◌++◌, length, map, set, None, refl, sym, ap, ◌∙◌, subst, inl, inr, arith, le_trans}
-use Rattle.std.specs.Prelude.{◌⊎◌, ◌==◌, ◌<◌, cond}
-use Rattle.std.proofs.lemmas.Bool.{eqb-true}
-use Rattle.std.proofs.lemmas.List.{length-replicate}
-use Rattle.std.proofs.lemmas.List.Sums.{sum_by_push}
-use mathlib.Core.Option.{some, some-ne-none}
-use lib.ListN.{get_elem?}
-use Rattle.grown_runs.proofs.Common.{once_if, AreSeenLawfully, AreBehind, HaveWholePairs, Word, Words, ChildOf, RecordOf, TreeOf, tree_of_word, AreBehind-refl}
-use Rattle.step_core.specs.Stages.{has_count, has_first, has_link, has_point, has_tree, holds_at}
-use Rattle.step_core.specs.ViewSteps.{found_none, looker, parted, second_alone, stepped, without_second, worker_apart}
-use Rattle.step_core.specs.ViewTrees.{SeesTree}
-use Rattle.step_core.specs.Views.{IsViewOf, holds, last_zero, run_sizes, sees, setup_in, share, spent, times, took_over, tree_seen, words_of_run}
-use Rattle.step_core.specs.Worlds.{Agree, EachView, IsMember, IsWorld, SeesBest, maximum, hands_at, limit_of, noted_by, noted_in, state_in}
-use Rattle.step_core.specs.declared.views.Member.{Member}
-use Rattle.step_core.specs.declared.views.SharedRun.{SharedRun}
-use Rattle.step_core.specs.declared.views.Stage.{Stage}
-use Rattle.step_core.specs.declared.views.View.{View}
+use Rattle.step_core.proofs.Words.{◌≡◌, ◌+◌, ◌≤◌, [], ◌∷◌, ◌++◌, ◌∙◌, ◌⊎◌, ◌==◌, ◌<◌, ℕ, zero, suc, Bool, true, false, List, length, set, None, refl, sym, ap}
+use Rattle.step_core.proofs.Words.{subst, inl, inr, arith, le_trans, cond, eqb-true, length-replicate, sum_by_push, some, some-ne-none, get_elem?, once_if}
+use Rattle.step_core.proofs.Words.{AreSeenLawfully, AreBehind, HaveWholePairs, Word, Words, ChildOf, RecordOf, TreeOf, tree_of_word, AreBehind-refl, has_count}
+use Rattle.step_core.proofs.Words.{has_first, has_link, has_point, has_tree, holds_at, looker, parted, second_alone, stepped, unlooked, without_second}
+use Rattle.step_core.proofs.Words.{worker_apart, SeesTree, IsViewOf, holds, last_look, last_zero, run_sizes, sees, setup_in, share, spent, times, took_over}
+use Rattle.step_core.proofs.Words.{tree_seen, words_of_run, Agree, EachView, IsMember, IsWorld, SeesBest, hands_at, limit_of, state_in, Member, SharedRun}
+use Rattle.step_core.proofs.Words.{Stage, View}
 use Rattle.step_core.proofs.Steps.FinishedTurns.{times-cons}
 use Rattle.step_core.proofs.OneView.SeenTreesOfViews.{SeesTree-apart, SeesTree-looker, SeesTree-parted, SeesTree-stepped}
-use Rattle.step_core.proofs.Parts.ViewLists.{at-set, each-push, each-set, maximum-one, maximum-push, maximum-set, sum-set}
+use Rattle.step_core.proofs.Parts.ViewLists.{at-set, each-push, each-set, maximum-push, maximum-set, sum-set}
 use Rattle.step_core.proofs.Parts.WorldBests.{FollowsHand, FollowsHand-none, FollowsHand-refl, SeesBest-kept}
 use Rattle.step_core.proofs.Parts.WorldCopies.{BestCopy-push, BestCopy-step, Copies-push, Copies-step}
-use Rattle.step_core.proofs.Parts.WorldEmpties.{Empties-push, Empties-step, zero-read}
+use Rattle.step_core.proofs.Parts.NotedSteps.{KeepsNotes, KeepsNotes-kept, LeavesNotes-none, last_seen-same, shown-none}
+use Rattle.step_core.proofs.Parts.Shifts.{IsShift, shift_at}
+use Rattle.step_core.proofs.Parts.WorldNotes.{Empties-push, Notes-push, zero-read}
 use Rattle.step_core.proofs.Parts.WorldHands.{Hands-views, IsWrittenFor}
 use Rattle.step_core.proofs.Parts.WorldLinks.{LinkedTree-views}
 use Rattle.step_core.proofs.Parts.WorldPairs.{HasFirst, HasFirst-none, HasTree, HasTree-none, Pairs-views}
@@ -30,19 +21,19 @@ use Rattle.step_core.proofs.Parts.WorldParts.{Agree-sym, agree-set, quotas-kept}
 use Rattle.step_core.proofs.Parts.WorldSeenPairs.{AreSeenLawfully-same}
 use Rattle.step_core.proofs.Steps.WorldSteps.{live, tree}
 
--- The one view has looked at the same words as the other, and has found no word 0 since. It notes the same fills.
+-- The one view has seen the same words as the other, and has looked at none since.
 pub record SeesAsMuch (view then : View) : Type 0 where
   pub run : then.run ≡ view.run
   pub seen : then.seen ≡ view.seen
   pub best : then.best ≡ view.best
   pub took : then.took ≡ view.took
-  pub looked : then.looked ≡ view.looked
+  pub looked : length then.looked ≡ length view.looked
   pub found_zero : length then.found_zero ≡ length view.found_zero
+  pub looks : (name : Word) → last_look then name ≤ last_look view name
   pub zero_looks : (name : Word) → last_zero then name ≤ last_zero view name
   pub steps : view.steps ≤ then.steps
-  pub fills : then.fills ≡ view.fills
 
--- A view is cut into two: no member is lost, and the hand stays on the left. The right has found no word 0 itself.
+-- A view is cut into two: no member is lost, and the hand stays on the left, with what it has noted. The right has looked at no word itself.
 pub record IsCut (view left right : View) : Type 0 where
   pub crews : (w : ℕ) → times w left.crew + times w right.crew ≡ times w view.crew
   pub on_left : (i : ℕ) (member : Member) → get_elem? left.crew i ≡ some member → (j : ℕ) × (get_elem? view.crew j ≡ some member)
@@ -56,7 +47,11 @@ pub record IsCut (view left right : View) : Type 0 where
   pub tables_right : SeesAsMuch view right
   pub tree_left : SeesTree view → SeesTree left
   pub tree_right : SeesTree view → SeesTree right
-  pub none_right : (name : Word) → last_zero right name ≡ 0
+  pub one_more : left.steps ≡ view.steps + 1
+  pub same_notes : left.notes ≡ view.notes
+  pub same_looks : (name : Word) → (last_look left name ≡ last_look view name) × (last_zero left name ≡ last_zero view name)
+  pub no_notes : right.notes ≡ []
+  pub no_looks : (name : Word) → (last_look right name ≡ 0) × (last_zero right name ≡ 0)
 
 -- ---- what is seen as much
 
@@ -70,11 +65,9 @@ IsViewOf-same : (run : SharedRun) (view then : View) → SeesAsMuch view then �
 IsViewOf-same run view then same of_run = record {
   run_is = same.run ∙ of_run.run_is;
   seen = ap (λ l. length l) same.seen ∙ of_run.seen;
-  looked = ap (λ l. length l) same.looked ∙ of_run.looked;
+  looked = same.looked ∙ of_run.looked;
   found_zero = same.found_zero ∙ of_run.found_zero;
-  looks = λ name.
-      let is = ap (λ r. words_of_run r then.looked name) same.run ∙ ap (λ l. words_of_run view.run l name) same.looked in
-      omega (arith, is, of_run.looks name, same.steps);
+  looks = λ name. omega (arith, same.looks name, of_run.looks name, same.steps);
   zero_looks = λ name. omega (arith, same.zero_looks name, of_run.zero_looks name, same.steps);
 }
 
@@ -111,14 +104,16 @@ module _ (run : SharedRun) (words : Words) (views : List View) (id : ℕ) (view 
       each-set views id left (λ other. Agree (sees right) (sees other)) (λ i other apart e. agree_all right cut.tables_right i other e)
       (subst (λ s. Agree (sees right) s) (sym (sees-same view left cut.tables_left)) (agree_all right cut.tables_right id view at))
 
+  -- of each view afterwards
+  each : (has : View → Type 0) → EachView views has → has left → has right → EachView (rest ++ right ∷ []) has
+  each has all one other = each-push rest right has (each-set views id left has (λ i u apart e. all i u e) one) other
+
   pub IsWorld-cut : IsWorld run words (rest ++ right ∷ [])
   IsWorld-cut =
       let of_run = live run words views id view world at own in
       record {
         run_is = world.run_is;
-        of_run = each-push rest right (λ u. (u ≡ spent) ⊎ IsViewOf run u)
-            (each-set views id left (λ u. (u ≡ spent)
-            ⊎ IsViewOf run u) (λ i u apart e. world.of_run i u e) (inr (IsViewOf-same run view left cut.tables_left of_run)))
+        of_run = each (λ u. (u ≡ spent) ⊎ IsViewOf run u) world.of_run (inr (IsViewOf-same run view left cut.tables_left of_run))
             (inr (IsViewOf-same run view right cut.tables_right of_run));
         numbers = record {
           quotas = quotas-kept run words words views (rest ++ right ∷ []) world.numbers (λ g within. refl)
@@ -131,22 +126,15 @@ module _ (run : SharedRun) (words : Words) (views : List View) (id : ℕ) (view 
             ap (λ h. once_if (holds k h)) cut.hand,
             ap (λ h. once_if (holds k h)) cut.no_hand,
           );
-          limits = each-push rest right (λ u. u.most ≤ length run.marks)
-              (each-set views id left (λ u. u.most ≤ length run.marks) (λ i u apart e. world.numbers.limits i u e) (omega (
-                arith,
-                cut.limits.0,
-                world.numbers.limits id view at,
-              )))
+          limits = each (λ u. u.most ≤ length run.marks) world.numbers.limits (omega (arith, cut.limits.0, world.numbers.limits id view at))
               (omega (arith, cut.limits.1, world.numbers.limits id view at));
           packed = world.numbers.packed;
         };
         turns = record {
           workers = world.turns.workers;
-          members = each-push rest right (λ u. (i : ℕ) (member : Member) → get_elem? u.crew i ≡ some member → IsMember run words u member)
-              (each-set views id left (λ u. (i : ℕ) (member : Member) → get_elem? u.crew i ≡ some member → IsMember run words u member)
-              (λ j u apart e. world.turns.members j u e)
+          members = each (λ u. (i : ℕ) (member : Member) → get_elem? u.crew i ≡ some member → IsMember run words u member) world.turns.members
               (λ i member there. let from = cut.on_left i member there in IsMember-same run words view left member cut.tables_left
-              (world.turns.members id view at from.0 member from.1)))
+              (world.turns.members id view at from.0 member from.1))
               (λ i member there. let from = cut.on_right i member there in IsMember-same run words view right member cut.tables_right
               (world.turns.members id view at from.0 member from.1));
           in_one_crew = λ w. omega (
@@ -159,23 +147,17 @@ module _ (run : SharedRun) (words : Words) (views : List View) (id : ℕ) (view 
         };
         shares = record {
           add_up = omega (arith, world.shares.add_up, sum-set share views id view left at, sum_by_push share rest right, cut.shares);
-          idle = each-push rest right (λ u. share u ≡ 0 → u.hand ≡ None)
-              (each-set views id left (λ u. share u ≡ 0 → u.hand ≡ None) (λ i u apart e. world.shares.idle i u e) (λ none. cut.hand
-              ∙ world.shares.idle id view at (cut.stays none)))
+          idle = each (λ u. share u ≡ 0 → u.hand ≡ None) world.shares.idle (λ none. cut.hand ∙ world.shares.idle id view at (cut.stays none))
               (λ none. cut.no_hand);
         };
         seen = record {
-          behind = each-push rest right (λ u. AreBehind (sees u) words)
-              (each-set views id left (λ u. AreBehind (sees u) words) (λ i u apart e. world.seen.behind i u e)
-              (subst (λ s. AreBehind s words) (sym (sees-same view left cut.tables_left)) (world.seen.behind id view at)))
+          behind = each (λ u. AreBehind (sees u) words) world.seen.behind
+              (subst (λ s. AreBehind s words) (sym (sees-same view left cut.tables_left)) (world.seen.behind id view at))
               (subst (λ s. AreBehind s words) (sym (sees-same view right cut.tables_right)) (world.seen.behind id view at));
-          took = each-push rest right (λ u. AreBehind (took_over u) (sees u))
-              (each-set views id left (λ u. AreBehind (took_over u) (sees u)) (λ i u apart e. world.seen.took i u e) (took_as_much left cut.tables_left))
-              (took_as_much right cut.tables_right);
+          took = each (λ u. AreBehind (took_over u) (sees u)) world.seen.took (took_as_much left cut.tables_left) (took_as_much right cut.tables_right);
           pairs = world.seen.pairs;
-          pairs_seen = each-push rest right (λ u. HaveWholePairs (sees u))
-              (each-set views id left (λ u. HaveWholePairs (sees u)) (λ i u apart e. world.seen.pairs_seen i u e)
-              (subst HaveWholePairs (sym (sees-same view left cut.tables_left)) (world.seen.pairs_seen id view at)))
+          pairs_seen = each (λ u. HaveWholePairs (sees u)) world.seen.pairs_seen
+              (subst HaveWholePairs (sym (sees-same view left cut.tables_left)) (world.seen.pairs_seen id view at))
               (subst HaveWholePairs (sym (sees-same view right cut.tables_right)) (world.seen.pairs_seen id view at));
           agree = each-push rest right (λ one. EachView (rest ++ right ∷ []) (λ other. Agree (sees one) (sees other)))
               (λ i one e. each-push rest right (λ other. Agree (sees one) (sees other)) (with_left i one e)
@@ -184,54 +166,49 @@ module _ (run : SharedRun) (words : Words) (views : List View) (id : ℕ) (view 
         };
         links = LinkedTree-views run words views (rest ++ right ∷ []) world.links (hands_cut has_link) (hands_cut has_count);
         hands = Hands-views words views (rest ++ right ∷ []) world.hands
-            (each-push rest right (IsWrittenFor words)
-            (each-set views id left (IsWrittenFor words) (λ i u apart e. world.hands.written i u e)
-            (λ hand held. world.hands.written id view at hand (sym cut.hand ∙ held)))
-            (λ hand held. let none = sym cut.no_hand ∙ held in cc))
-            (hands_cut has_point);
+            (each (IsWrittenFor words) world.hands.written (λ hand held. world.hands.written id view at hand (sym cut.hand ∙ held))
+            (λ hand held. let none = sym cut.no_hand ∙ held in cc)) (hands_cut has_point);
         trees = world.trees;
         pairs = Pairs-views run words views (rest ++ right ∷ []) world.pairs
-            (each-push rest right (HasFirst run words)
-            (each-set views id left (HasFirst run words) (λ i u apart e. world.pairs.first i u e)
-            (λ hand held. world.pairs.first id view at hand (sym cut.hand ∙ held)))
+            (each (HasFirst run words) world.pairs.first (λ hand held. world.pairs.first id view at hand (sym cut.hand ∙ held))
             (HasFirst-none run words right cut.no_hand))
-            (each-push rest right (HasTree words)
-            (each-set views id left (HasTree words) (λ i u apart e. world.pairs.tree i u e)
-            (λ hand held. world.pairs.tree id view at hand (sym cut.hand ∙ held)))
-            (HasTree-none words right cut.no_hand))
+            (each (HasTree words) world.pairs.tree (λ hand held. world.pairs.tree id view at hand (sym cut.hand ∙ held)) (HasTree-none words right cut.no_hand))
             (hands_cut has_first) (hands_cut has_tree);
-        seen_pairs = each-push rest right (λ u. u.run ≡ run → AreSeenLawfully (setup_in run) (tree_seen u) (state_in run words))
-            (each-set views id left (λ u. u.run ≡ run → AreSeenLawfully (setup_in run) (tree_seen u) (state_in run words))
-            (λ i u apart e. world.seen_pairs i u e) (λ of. pairs_same left cut.tables_left))
-            (λ of. pairs_same right cut.tables_right);
+        seen_pairs = each (λ u. u.run ≡ run → AreSeenLawfully (setup_in run) (tree_seen u) (state_in run words)) world.seen_pairs
+            (λ of. pairs_same left cut.tables_left) (λ of. pairs_same right cut.tables_right);
         records = world.records;
-        sights = each-push rest right (λ u. u.run ≡ run → SeesTree u)
-            (each-set views id left (λ u. u.run ≡ run → SeesTree u) (λ i u apart e. world.sights i u e)
-            (λ of. cut.tree_left (tree run words views id view world at own)))
+        sights = each (λ u. u.run ≡ run → SeesTree u) world.sights (λ of. cut.tree_left (tree run words views id view world at own))
             (λ of. cut.tree_right (tree run words views id view world at own));
-        copies = Copies-push run words rest right
-            (Copies-step run words words views id view left at (cut.tables_left.run ∙ own) world.copies
+        copies = Copies-push run words rest right (Copies-step run words words views id view left at (cut.tables_left.run ∙ own) world.copies
             (subst (AreBehind (sees view)) (sym (sees-same view left cut.tables_left)) (AreBehind-refl (sees view)))
-            (subst (λ s. AreBehind s words) (sym (sees-same view left cut.tables_left)) (world.seen.behind id view at)) stays
-            (λ name told. inl (refl, told)));
+            (subst (λ s. AreBehind s words) (sym (sees-same view left cut.tables_left)) (world.seen.behind id view at)) stays (λ name told. inl (refl, told)));
         best_copy = BestCopy-push run words rest right
             (BestCopy-step run words words views id view left at (cut.tables_left.run ∙ own) world.best_copy stays refl (λ saw. cut.tables_left.best ∙ saw));
-        empties = Empties-push run words rest right
-            (Empties-step run words words views id view left at world.empties cut.tables_left.run cut.tables_left.steps cut.tables_left.fills
-            (λ n side some_child. (some_child, cut.tables_left.zero_looks (ChildOf n side))))
-            (λ place i. omega (
-              arith,
-              ap (λ l. maximum (map (noted_in place i) l)) (cut.tables_right.fills ∙ sym cut.tables_left.fills),
-              maximum-one (noted_by place i) rest id left (at-set views id view left at),
-            ))
-            cut.none_right;
+        notes = Notes-push run words rest right cut.no_notes kept_left.notes (λ name. (cut.no_looks name).0) id left (at-set views id view left at)
+            (cut.tables_left.run ∙ own) (λ name. last_seen-same left right name
+            (ap (λ s. s name) (sees-same view right cut.tables_right ∙ sym (sees-same view left cut.tables_left)))
+            (cut.tables_right.best ∙ sym cut.tables_left.best));
+        empties = Empties-push run words rest right cut.no_notes kept_left.empties (λ name. (cut.no_looks name).1);
         best = world.best;
-        bests = each-push rest right (λ u. u.run ≡ run → SeesBest run words u)
-            (each-set views id left (λ u. u.run ≡ run → SeesBest run words u) (λ i u apart e. world.bests i u e)
-            (λ of. best_same left cut.tables_left (subst (FollowsHand view.hand) (sym cut.hand) (FollowsHand-refl view.hand))))
+        bests = each (λ u. u.run ≡ run → SeesBest run words u) world.bests
+            (λ of. best_same left cut.tables_left (subst (FollowsHand view.hand) (sym cut.hand) (FollowsHand-refl view.hand)))
             (λ of. best_same right cut.tables_right (subst (FollowsHand view.hand) (sym cut.no_hand) (FollowsHand-none view.hand)));
       }
     where
+      -- the left one has noted what the whole one had, and knows of each word what it did
+      kept_left : KeepsNotes (shift_at run words views id view left words)
+      kept_left =
+          let is : IsShift (shift_at run words views id view left words) = record {
+            moment = record { world = world; at = at; own = own };
+            of_run = IsViewOf-same run view left cut.tables_left (live run words views id view world at own);
+            one_more = cut.one_more;
+            go = AreBehind-refl words;
+            best = omega arith;
+          } in
+          KeepsNotes-kept is (LeavesNotes-none is cut.same_notes (λ name told. inl refl) (λ n seen. refl)
+          (shown-none is (λ name. (cut.same_looks name).0) (λ name. ap (λ s. s name) (sees-same view left cut.tables_left)) cut.tables_left.best))
+          (λ n side. refl) (λ n side some_child. (cut.same_looks (ChildOf n side)).1)
+
       -- both know as much of the best word
       best_same : (then : View) → SeesAsMuch view then → FollowsHand view.hand then.hand → SeesBest run words then
       best_same then same follows =
@@ -296,22 +273,36 @@ stays_parted [] e = refl
 stays_parted (first ∷ []) e = e
 stays_parted (first ∷ second ∷ crew) e = absurd (omega (arith, e))
 
--- a new view has found no word 0
-none_found : (view : View) (name : Word) → words_of_run view.run (found_none view) name ≡ 0
-none_found view name = zero-read (run_sizes view.run) (length view.found_zero) name
+-- a new view has looked at no word
+none_looked : (view : View) (name : Word) → (last_look (unlooked view) name ≡ 0) × (last_zero (unlooked view) name ≡ 0)
+none_looked view name = (zero-read (run_sizes view.run) (length view.looked) name, zero-read (run_sizes view.run) (length view.found_zero) name)
 
 -- and has seen as much, whatever its crew
-sees_as_much : (view : View) → SeesAsMuch view (looker view)
-sees_as_much view = record {
+sees_as_much : (view : View) (crew : List Member) → SeesAsMuch view (record (unlooked view) { crew = crew; hand = None })
+sees_as_much view crew = record {
+  run = refl;
+  seen = refl;
+  best = refl;
+  took = refl;
+  looked = length-replicate (length view.looked) 0;
+  found_zero = length-replicate (length view.found_zero) 0;
+  looks = λ name. omega (arith, (none_looked view name).0);
+  zero_looks = λ name. omega (arith, (none_looked view name).1);
+  steps = omega arith;
+}
+
+-- one step more, with whatever crew
+stays_as_much : (view : View) (crew : List Member) → SeesAsMuch view (record (stepped view) { crew = crew })
+stays_as_much view crew = record {
   run = refl;
   seen = refl;
   best = refl;
   took = refl;
   looked = refl;
-  found_zero = length-replicate (length view.found_zero) 0;
-  zero_looks = λ name. omega (arith, none_found view name);
+  found_zero = refl;
+  looks = λ name. omega arith;
+  zero_looks = λ name. omega arith;
   steps = omega arith;
-  fills = refl;
 }
 
 pub IsCut-parted : (view : View) → IsCut view (parted view) (worker_apart view)
@@ -324,33 +315,15 @@ IsCut-parted view = record {
   hand = refl;
   no_hand = refl;
   limits = (refl, refl);
-  tables_left =
-      record {
-        run = refl;
-        seen = refl;
-        best = refl;
-        took = refl;
-        looked = refl;
-        found_zero = refl;
-        zero_looks = λ name. omega arith;
-        steps = omega arith;
-        fills = refl;
-      };
-  tables_right =
-      (let same = sees_as_much view in record {
-        run = refl;
-        seen = refl;
-        best = refl;
-        took = refl;
-        looked = refl;
-        found_zero = same.found_zero;
-        zero_looks = same.zero_looks;
-        steps = same.steps;
-        fills = refl;
-      });
+  tables_left = stays_as_much view (without_second view.crew);
+  tables_right = sees_as_much view (second_alone view.crew);
   tree_left = SeesTree-parted view;
   tree_right = SeesTree-apart view;
-  none_right = none_found view;
+  one_more = refl;
+  same_notes = refl;
+  same_looks = λ name. (refl, refl);
+  no_notes = refl;
+  no_looks = none_looked view;
 }
 
 pub IsCut-looker : (view : View) → IsCut view (stepped view) (looker view)
@@ -363,20 +336,13 @@ IsCut-looker view = record {
   hand = refl;
   no_hand = refl;
   limits = (refl, refl);
-  tables_left =
-      record {
-        run = refl;
-        seen = refl;
-        best = refl;
-        took = refl;
-        looked = refl;
-        found_zero = refl;
-        zero_looks = λ name. omega arith;
-        steps = omega arith;
-        fills = refl;
-      };
-  tables_right = sees_as_much view;
+  tables_left = stays_as_much view view.crew;
+  tables_right = sees_as_much view [];
   tree_left = SeesTree-stepped view;
   tree_right = SeesTree-looker view;
-  none_right = none_found view;
+  one_more = refl;
+  same_notes = refl;
+  same_looks = λ name. (refl, refl);
+  no_notes = refl;
+  no_looks = none_looked view;
 }

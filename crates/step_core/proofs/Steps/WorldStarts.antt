@@ -1,31 +1,17 @@
 -- A shared run that goes on from a closed run begins with a lawful world: one view, which has the whole share and has seen all words.
-use Rattle.std.proofs.Common.{◌≡◌, ℕ, zero, suc, ◌+◌, ◌<◌, ◌≤◌, Bool, true, false, List, [], ◌∷◌, ◌/◌, ◌^◌}
-use Rattle.std.proofs.Common.{length, map, Option, Some, None, refl, sym, ap, ◌∙◌, subst, inl, inr, arith, le_refl}
-use Rattle.std.specs.Prelude.{◌⊎◌, ◌==◌, nat_lt, cond, is_some, max}
-use Rattle.std.specs.List.{count_by, range_with_len}
-use mathlib.Core.Option.{some, some-ne-none, some-injective}
-use lib.ListN.{get_elem?}
-use Rattle.std.proofs.lemmas.Bool.{cases_Bool, cases_lt, eq-eqb, eqb-true, le-ltb, lt-ltb, ne_eqb}
-use Rattle.std.proofs.lemmas.List.{length-map, length-replicate}
-use Rattle.std.proofs.lemmas.List.FromFn.{length-range_with_len}
-use Rattle.std.proofs.lemmas.Nat.{mod_below}
-use Rattle.std.proofs.lemmas.Option.{same_Some}
-use Rattle.std.proofs.lemmas.List.Sums.{sum_by-cons}
-use Rattle.grown_runs.proofs.Common.{is_claimed, KeepsFirstCosts, KeepsOrder, AreSeenLawfully, skipping_goals, setup_of, point_at, first_cost_of, recorded_or}
-use Rattle.grown_runs.proofs.Common.{IsPresent-goal, once_if, turns_of, Record, Task, MOST_WORKERS, KeepsFirstCosts-closed, count-none, count-single}
-use Rattle.grown_runs.proofs.Common.{length-marks, step-steers, is_claimed-below, is_claimed-past, AreTurns-longer, IsLeastBest, HoldRun, has_node, has_placed}
-use Rattle.grown_runs.proofs.Common.{record_at, run_words, sizes_of, state_of_words, AreBehind, HaveWholePairs, Words, Best, ChildOf, FirstOf, RecordOf}
-use Rattle.grown_runs.proofs.Common.{word_count, FitsWord, cost_in, outcome_in, record_in, record_of_word, is_linked-closed, node_present, state_by-closed}
-use Rattle.grown_runs.proofs.Common.{AreBehind-refl}
-use Rattle.step_core.specs.SharedWords.{linked_points}
-use Rattle.step_core.specs.ViewStarts.{crew_from, member_of, newcomer}
-use Rattle.step_core.specs.ViewTrees.{SeesTree}
-use Rattle.step_core.specs.Views.{IsViewOf, last_zero, run_of, run_sizes, sees, setup_in, share, spent, times, took_over, tree_seen}
-use Rattle.step_core.specs.Worlds.{Agree, BestWord, EachView, IsMember, IsRecordWord, IsWorld, SeesBest, counted_once, Trees, counters}
-use Rattle.step_core.specs.Worlds.{greatest_limit, is_recorded, state_in}
-use Rattle.step_core.specs.declared.views.Member.{Member}
-use Rattle.step_core.specs.declared.views.SharedRun.{SharedRun}
-use Rattle.step_core.specs.declared.views.View.{View}
+use Rattle.step_core.proofs.Words.{◌≡◌, ◌+◌, ◌<◌, ◌≤◌, [], ◌∷◌, ◌/◌, ◌^◌, ◌∙◌, ◌⊎◌, ◌==◌, ℕ, zero, suc, Bool, true, false, List, length, map, Option, Some}
+use Rattle.step_core.proofs.Words.{None, refl, sym, ap, subst, inl, inr, arith, le_refl, nat_lt, cond, is_some, max, count_by, range_with_len, some}
+use Rattle.step_core.proofs.Words.{some-ne-none, some-injective, get_elem?, cases_Bool, cases_lt, eq-eqb, eqb-true, le-ltb, lt-ltb, ne_eqb, length-map}
+use Rattle.step_core.proofs.Words.{length-replicate, length-range_with_len, mod_below, same_Some, sum_by-cons, is_claimed, KeepsFirstCosts, KeepsOrder}
+use Rattle.step_core.proofs.Words.{AreSeenLawfully, skipping_goals, setup_of, point_at, first_cost_of, recorded_or, IsPresent-goal, once_if, turns_of, Record}
+use Rattle.step_core.proofs.Words.{Task, MOST_WORKERS, KeepsFirstCosts-closed, count-none, count-single, length-marks, step-steers, is_claimed-below}
+use Rattle.step_core.proofs.Words.{is_claimed-past, AreTurns-longer, IsLeastBest, HoldRun, has_node, has_placed, record_at, run_words, sizes_of, state_of_words}
+use Rattle.step_core.proofs.Words.{AreBehind, HaveWholePairs, Words, Best, ChildOf, FirstOf, RecordOf, word_count, FitsWord, cost_in, outcome_in, record_in}
+use Rattle.step_core.proofs.Words.{record_of_word, is_linked-closed, node_present, state_by-closed, AreBehind-refl, Word, TreeOf, best_node_in, linked_points}
+use Rattle.step_core.proofs.Words.{crew_from, member_of, newcomer, SeesTree, IsViewOf, last_zero, run_of, run_sizes, sees, setup_in, share, spent, times}
+use Rattle.step_core.proofs.Words.{took_over, tree_seen, Agree, BestWord, EachView, IsMember, IsRecordWord, IsWorld, SeesBest, counted_once, Trees, counters}
+use Rattle.step_core.proofs.Words.{greatest_limit, is_recorded, state_in, Member, SharedRun, View, sum-same, HasNoted, IsNoted, last_seen, Note, turn_in, ◌%◌}
+use Rattle.step_core.proofs.Words.{worker_in}
 use Rattle.step_core.proofs.Steps.FinishedTurns.{times-cons}
 use Rattle.step_core.proofs.Parts.LinkedStates.{placed-first}
 use Rattle.step_core.proofs.OneView.SeenGoals.{least-now}
@@ -33,8 +19,8 @@ use Rattle.step_core.proofs.OneView.LawfulSights.{IsPresent-seen}
 use Rattle.step_core.proofs.Parts.MarksInHand.{once_if-false}
 use Rattle.step_core.proofs.OneView.SeenTreesAtStart.{SeesTree-started}
 use Rattle.step_core.proofs.Steps.StartLinks.{FollowWays-held, IsBounded-mark, IsBounded-start, blank-held, count-held, start-held}
-use Rattle.plan_model.proofs.SumsBelow.{sum-same}
-use Rattle.step_core.proofs.Parts.WorldEmpties.{zero-read}
+use Rattle.step_core.proofs.Parts.WorldNotes.{last_seen-table, zero-read}
+use Rattle.step_core.proofs.Seen.Looks.{same_name}
 use Rattle.step_core.proofs.Parts.WorldHands.{IsWrittenFor}
 use Rattle.step_core.proofs.Parts.WorldLinks.{has_node-recorded}
 use Rattle.step_core.proofs.Parts.WorldPairs.{HasFirst, HasTree}
@@ -60,8 +46,7 @@ times-from run words worker (w ∷ numbers) =
 -- each worker of the run is among all once, and no other is
 times-all : (run : SharedRun) (words : Words) (worker : ℕ) → times worker (crew_from run words 0 run.workers) ≡ once_if (nat_lt worker run.workers)
 times-all run words worker =
-    times-from run words worker (range_with_len 0 run.workers)
-    ∙ elim (cases_lt worker run.workers) [
+    times-from run words worker (range_with_len 0 run.workers) ∙ elim (cases_lt worker run.workers) [
       | inl low ↦
           count-single (λ w. w == worker) run.workers worker low (eq-eqb worker worker refl) (λ w apart. ne_eqb w worker apart)
           ∙ sym (ap once_if (lt-ltb worker run.workers low))
@@ -84,33 +69,25 @@ crew-at run words (w ∷ numbers) (suc i) member e = crew-at run words numbers i
 
 -- what is read of a word fits one
 FitsWord-read : (number word first : ℕ) → FitsWord (record_in number word first)
-FitsWord-read zero word first = record {
-  worker = mod_below word (2 ^ 6) (omega arith);
-  turn = mod_below (word / 2 ^ 6) (2 ^ 18) (omega arith);
-  nearest = mod_below (word / 2 ^ 24) (2 ^ 18) (omega arith);
-  last = mod_below (word / 2 ^ 44) (2 ^ 18) (omega arith);
-}
-FitsWord-read (suc zero) word first = record {
-  worker = mod_below word (2 ^ 6) (omega arith);
-  turn = mod_below (word / 2 ^ 6) (2 ^ 18) (omega arith);
-  nearest = mod_below (word / 2 ^ 24) (2 ^ 18) (omega arith);
-  last = mod_below (word / 2 ^ 44) (2 ^ 18) (omega arith);
-}
-FitsWord-read (suc (suc n)) word first = blocked_fits n
+FitsWord-read number word first = by_number number
   where
-    blocked_fits : (n : ℕ) → FitsWord (record_in (suc (suc n)) word first)
-    blocked_fits zero = record {
-      worker = mod_below word (2 ^ 6) (omega arith);
-      turn = mod_below (word / 2 ^ 6) (2 ^ 18) (omega arith);
-      nearest = mod_below (word / 2 ^ 24) (2 ^ 18) (omega arith);
-      last = omega arith;
-    }
-    blocked_fits (suc m) = record {
-      worker = mod_below word (2 ^ 6) (omega arith);
-      turn = mod_below (word / 2 ^ 6) (2 ^ 18) (omega arith);
-      nearest = mod_below (word / 2 ^ 24) (2 ^ 18) (omega arith);
-      last = omega arith;
-    }
+    worker : worker_in word < 2 ^ 6
+    worker = mod_below word (2 ^ 6) (omega arith)
+
+    turn : turn_in word < 2 ^ 18
+    turn = mod_below (word / 2 ^ 6) (2 ^ 18) (omega arith)
+
+    nearest : word / 2 ^ 24 % 2 ^ 18 < 2 ^ 18
+    nearest = mod_below (word / 2 ^ 24) (2 ^ 18) (omega arith)
+
+    last : word / 2 ^ 44 % 2 ^ 18 < 2 ^ 18
+    last = mod_below (word / 2 ^ 44) (2 ^ 18) (omega arith)
+
+    by_number : (n : ℕ) → FitsWord (record_in n word first)
+    by_number zero = record { worker = worker; turn = turn; nearest = nearest; last = last }
+    by_number (suc zero) = record { worker = worker; turn = turn; nearest = nearest; last = last }
+    by_number (suc (suc zero)) = record { worker = worker; turn = turn; nearest = nearest; last = omega arith }
+    by_number (suc (suc (suc n))) = record { worker = worker; turn = turn; nearest = nearest; last = omega arith }
 
 -- the record that a word holds is the one that is read
 record_in_word : (word first : ℕ) (entry : Record) → record_of_word word first ≡ Some entry → entry ≡ record_in (outcome_in word) word first
@@ -261,13 +238,14 @@ IsWorld-started task limit workers items sized held least some_worker few =
       sights = only first (λ u. u.run ≡ run → SeesTree u) (λ of. sees_tree);
       copies = λ name told. record { id = 0; view = first; at = refl; run_is = refl; part = omega (arith, all, some_worker); same = refl };
       best_copy = record { id = 0; view = first; at = refl; run_is = refl; part = omega (arith, all, some_worker); same = refl };
-      empties = record {
-        made = λ place i. inl refl;
-        filled = λ n side some_child i u e. (
-            let none : last_zero u (ChildOf n side) ≡ 0 =
-            only first (λ v. last_zero v (ChildOf n side) ≡ 0) (zero-read (run_sizes run) (length items) (ChildOf n side)) i u e in
-            omega (arith, none));
+      notes = record {
+        made = λ note now. absurd (none_noted note now);
+        still = λ note now. absurd (none_noted note now);
+        fresh = λ i u e live note now. absurd (none_noted note now);
+        noted = λ i u e live name may differs. absurd (differs (only first (λ v. last_seen v name ≡ words name) (as_it_is name) i u e));
       };
+      empties = λ n side some_child i u e.
+          inl (only first (λ v. last_zero v (ChildOf n side) ≡ 0) (zero-read (run_sizes run) (length items) (ChildOf n side)) i u e);
       best = best trees sees_tree;
       bests = only first (λ u. u.run ≡ run → SeesBest run words u) (λ of. record {
         pair = (best trees sees_tree).pair;
@@ -279,6 +257,17 @@ IsWorld-started task limit workers items sized held least some_worker few =
       });
     }
   where
+    -- nothing is noted yet, and each word is seen as it is
+    none_noted : (note : Note) → IsNoted (newcomer (run_of task workers limit) items ∷ []) note → ⊥
+    none_noted note now = only (newcomer (run_of task workers limit) items) (λ v. ¬ HasNoted v note) (λ has. has) now.id now.view now.at now.has
+
+    as_it_is : (name : Word) → last_seen (newcomer (run_of task workers limit) items) name ≡ run_words task items name
+    as_it_is name =
+        elim (same_name name Best) [
+          | inl is ↦ subst (λ m. last_seen (newcomer (run_of task workers limit) items) m ≡ run_words task items m) (sym is) refl
+          | inr off ↦ last_seen-table (newcomer (run_of task workers limit) items) name off
+        ]
+
     -- the goal nodes are those of the run at rest, and none costs more than it was placed at
     best : Trees (run_of task workers limit) (run_words task items) → SeesTree (newcomer (run_of task workers limit) items)
         → BestWord (run_of task workers limit) (run_words task items)
@@ -287,7 +276,10 @@ IsWorld-started task limit workers items sized held least some_worker few =
         let same = state_by-closed task limit words held in
         let linked_least = subst (λ state. IsLeastBest (skipping_goals task.scene) state (words Best)) (sym same) least in
         record {
-          pair = λ some_pair. let is = linked_least.pair some_pair in (is.0, omega (arith, is.1));
+          pair = λ some_pair.
+              let is = linked_least.pair some_pair in
+              let kept = mod_below (words (TreeOf (best_node_in (words Best))) / 2 ^ 18) (2 ^ 44) (omega arith) in
+              (is.0, omega (arith, is.1), omega (arith, is.1, kept));
           placed = λ n node goal.
               let low = linked_least.least n goal in
               let kept = trees.first_costs.kept n (IsPresent-goal (skipping_goals task.scene) (point_at (linked_points (sizes_of task) words) n) goal) in
@@ -306,8 +298,7 @@ IsWorld-started task limit workers items sized held least some_worker few =
                 placed-first (run_words task items (RecordOf k)) (run_words task items (FirstOf (suc k))) entry e (ap has_placed (sym e) ∙ node)
 
     unplaced : (k : ℕ) → is_recorded (run_words task items) k ≡ false → has_node (run_words task items) (suc k) ≡ false
-    unplaced k none =
-        once_if-false (has_node (run_words task items) (suc k)) (omega (arith, has_node-recorded (run_words task items) k, ap once_if none))
+    unplaced k none = once_if-false (has_node (run_words task items) (suc k)) (omega (arith, has_node-recorded (run_words task items) k, ap once_if none))
 
     binds : share (newcomer (run_of task workers limit) items) ≡ workers → limit ≤ greatest_limit (newcomer (run_of task workers limit) items ∷ [])
     binds all = subst (λ n. limit ≤ max (cond (n == 0) 0 limit) 0) (sym all) (by_test (workers == 0) refl)

@@ -1,33 +1,22 @@
 -- When one view has the whole share and nothing in hand, and has seen all counters at their quotas, the words are those of a closed run.
-use Rattle.std.proofs.Common.{◌≡◌, ℕ, zero, suc, ◌+◌, ◌/◌, ◌%◌, ◌<◌, ◌≤◌, ◌^◌, Bool, true, false, List, length, Option, Some, None}
-use Rattle.std.proofs.Common.{refl, sym, ap, ◌∙◌, subst, inl, inr, arith}
-use Rattle.std.specs.Prelude.{◌==◌, ◌⊎◌, IsSome, cond, is_some, nat_lt, map, if◌then◌else◌}
-use Rattle.std.specs.List.{range_with_len}
-use mathlib.Core.Option.{some, some-injective}
-use lib.ListN.{get_elem?}
-use Rattle.std.proofs.lemmas.Bool.{cases_Bool, cases_eq, cases_lt, eqb-true, le-ltb, lt-ltb, ltb-true}
-use Rattle.std.proofs.lemmas.Nat.{div-add-mod', mod_below}
-use Rattle.grown_runs.proofs.Common.{IsClosed, has_outcome, is_claimed, quota_of, is_placed, IsPresent, StandsAt, node_count, point_at, setup_of, AreSameRuns}
-use Rattle.grown_runs.proofs.Common.{AreTurns, is_of_turn, is_of_worker, once_if, FollowWays, Record, Task, count-longer, IsCutAt-quota, IsClosed-same_run}
-use Rattle.grown_runs.proofs.Common.{HoldRun, IsBlank, IsPointWord, IsTreeWord, children_of_words, cleared, has_node, has_placed, is_linked, node_point_by}
-use Rattle.grown_runs.proofs.Common.{points_of_words, record_at, sizes_of, state_of_words, AreBehind, Words, Counter, FirstOf, PointOf, RecordOf, TreeOf, Sizes}
-use Rattle.grown_runs.proofs.Common.{cost_in, parent_in, point_of_word, record_of_word, record_word, tree_of_word, record_word-again, if_written-set}
-use Rattle.step_core.specs.LastViews.{StandsAsSeen}
-use Rattle.step_core.specs.SharedWords.{linked_point, linked_points}
-use Rattle.step_core.specs.Stages.{has_count, has_link, holds_at}
-use Rattle.step_core.specs.ViewTrees.{SeesNode, SeesTree}
-use Rattle.step_core.specs.Views.{run_of, run_sizes, sees, share}
-use Rattle.step_core.specs.Worlds.{IsRecordWord, IsWorld, counted_once, counters, greatest_limit, hands_at, is_recorded, limit_of, state_in}
-use Rattle.step_core.specs.declared.views.SharedRun.{SharedRun}
-use Rattle.step_core.specs.declared.views.Stage.{Stage}
-use Rattle.step_core.specs.declared.views.View.{View}
-use Rattle.step_core.proofs.OneView.LawfulSights.{IsTrueOf-seen, is_linked-seen}
+use Rattle.step_core.proofs.Words.{◌≡◌, ◌+◌, ◌/◌, ◌%◌, ◌<◌, ◌≤◌, ◌^◌, ◌∙◌, ◌==◌, ℕ, zero, suc, Bool, true, false, List, length, Option, Some, None, refl, sym}
+use Rattle.step_core.proofs.Words.{ap, subst, inl, inr, arith, IsSome, cond, is_some, nat_lt, map, if◌then◌else◌, range_with_len, some, get_elem?, cases_Bool}
+use Rattle.step_core.proofs.Words.{cases_lt, eqb-true, le-ltb, lt-ltb, ltb-true, div-add-mod', mod_below, IsClosed, is_claimed, quota_of, IsPresent, node_count}
+use Rattle.step_core.proofs.Words.{point_at, setup_of, AreSameRuns, AreTurns, is_of_turn, is_of_worker, once_if, FollowWays, Record, Task, count-longer}
+use Rattle.step_core.proofs.Words.{IsCutAt-quota, IsClosed-same_run, HoldRun, IsBlank, IsPointWord, IsTreeWord, children_of_words, cleared, has_node}
+use Rattle.step_core.proofs.Words.{has_placed, is_linked, node_point_by, points_of_words, record_at, state_of_words, Words, Counter, FirstOf, PointOf, RecordOf}
+use Rattle.step_core.proofs.Words.{TreeOf, Sizes, cost_in, parent_in, point_of_word, record_of_word, record_word, tree_of_word, record_word-again}
+use Rattle.step_core.proofs.Words.{if_written-set, StandsAsSeen, linked_point, linked_points, has_count, has_link, holds_at, SeesNode, run_of, run_sizes, sees}
+use Rattle.step_core.proofs.Words.{share, IsRecordWord, IsWorld, counted_once, counters, greatest_limit, hands_at, is_recorded, limit_of, state_in, SharedRun}
+use Rattle.step_core.proofs.Words.{Stage, View, sum-same}
 use Rattle.step_core.proofs.Parts.LinkedCounts.{node_count-linked, present-linked}
-use Rattle.step_core.proofs.Parts.LinkedStates.{linked-present, record-unplaced, record-written}
-use Rattle.plan_model.proofs.SumsBelow.{sum-same}
-use Rattle.step_core.proofs.Parts.ViewLists.{maximum-one, maximum-most, sum-zero}
+use Rattle.step_core.proofs.Parts.LinkedStates.{linked-present, record-unplaced}
+use Rattle.step_core.proofs.Parts.ViewLists.{maximum-one, maximum-most, sum-zero, same-at}
 use Rattle.step_core.proofs.Whole.WholeShares.{is_recorded-whole, others_idle, others_shareless}
 use Rattle.step_core.proofs.Parts.WorldParts.{quota-up, record_word-none}
+use Rattle.step_core.proofs.Parts.MarksInHand.{once_if-same}
+use Rattle.step_core.proofs.Whole.WholeCopies.{nodes-whole, points-whole, records-whole, sees-whole}
+use Rattle.step_core.proofs.Whole.GrownFromWords.{placed_mark}
 
 -- ---- cleared words
 
@@ -64,11 +53,6 @@ module _ (words : Words) where
     first = ap (λ b. if b then words (FirstOf n) else 0) none;
   }
 
--- a placed mark by either name
-placed_mark : (o : Option Record) → has_placed o ≡ has_outcome is_placed o
-placed_mark None = refl
-placed_mark (Some entry) = refl
-
 -- ---- a whole share
 
 module _ (task : Task) (workers opening : ℕ) (words : Words) (views : List View) (id : ℕ) (view : View)
@@ -98,10 +82,8 @@ module _ (task : Task) (workers opening : ℕ) (words : Words) (views : List Vie
 
       others : (i : ℕ) (u : View) → get_elem? views i ≡ some u → limit_of u ≤ last
       others i u e =
-          elim (cases_eq i id) [
-            | inl same ↦ (
-                let is : u ≡ view = some-injective u view (sym e ∙ ap (get_elem? views) same ∙ at) in
-                omega (arith, ap limit_of is, binds (share view == 0) refl))
+          elim (same-at views i id u view e at) [
+            | inl (same, is) ↦ omega (arith, ap limit_of is, binds (share view == 0) refl)
             | inr apart ↦ (
                 let none = others_shareless run words views id view world at whole i u apart e in
                 let zero_limit : limit_of u ≡ 0 = ap (λ n. cond (n == 0) 0 u.most) none in
@@ -153,24 +135,15 @@ module _ (task : Task) (workers opening : ℕ) (words : Words) (views : List Vie
     where
       none : (i : ℕ) (u : View) → get_elem? views i ≡ some u → once_if (holds_at test k u.hand) ≡ 0
       none i u e =
-          elim (cases_eq i id) [
-            | inl same ↦ (
-                let is : u ≡ view = some-injective u view (sym e ∙ ap (get_elem? views) same ∙ at) in
-                ap (λ v. once_if (holds_at test k v.hand)) is ∙ ap (λ h. once_if (holds_at test k h)) idle)
+          elim (same-at views i id u view e at) [
+            | inl (same, is) ↦ ap (λ v. once_if (holds_at test k v.hand)) is ∙ ap (λ h. once_if (holds_at test k h)) idle
             | inr apart ↦ ap (λ h. once_if (holds_at test k h)) (others_idle run words views id view world at whole i u apart e)
           ]
 
   -- a node is linked if its mark was placed, and no other is
   is_linked-whole : (n : ℕ) → is_linked sizes words n ≡ has_node words n
   is_linked-whole zero = refl
-  is_linked-whole (suc k) =
-      same_test (is_linked sizes words (suc k)) (has_node words (suc k)) (omega (arith, world.links.linked k, no_hands has_link k))
-    where
-      same_test : (a b : Bool) → once_if a ≡ once_if b → a ≡ b
-      same_test true true e = refl
-      same_test false false e = refl
-      same_test true false e = absurd (omega (arith, e))
-      same_test false true e = absurd (omega (arith, e))
+  is_linked-whole (suc k) = once_if-same (is_linked sizes words (suc k)) (has_node words (suc k)) (omega (arith, world.links.linked k, no_hands has_link k))
 
   point-whole : (n : ℕ) → node_point_by (has_node (cleared words)) (cleared words) n ≡ linked_point sizes words n
   point-whole n =
@@ -182,8 +155,8 @@ module _ (task : Task) (workers opening : ℕ) (words : Words) (views : List Vie
       by_test true e = refl
       by_test false e = refl
 
-  points-whole : points_of_words sizes (cleared words) ≡ linked_points sizes words
-  points-whole = ap (λ f. map f (range_with_len 0 (sizes.marks + 1))) (λ t n. point-whole n t)
+  points-linked : points_of_words sizes (cleared words) ≡ linked_points sizes words
+  points-linked = ap (λ f. map f (range_with_len 0 (sizes.marks + 1))) (λ t n. point-whole n t)
 
   -- ---- the closed law
 
@@ -191,8 +164,7 @@ module _ (task : Task) (workers opening : ℕ) (words : Words) (views : List Vie
   AreTurns-last = record {
     each = λ w t.
         sym (count-longer (λ k. is_of_turn w t (record_at words k)) last (length run.marks) (world.numbers.limits id view at)
-        (λ k of. turn_below w t k (record_at words k) refl of))
-        ∙ world.turns.workers.each w t
+        (λ k of. turn_below w t k (record_at words k) refl of)) ∙ world.turns.workers.each w t
         ∙ ap (λ n. once_if (nat_lt t n)) (count-longer (λ k. is_of_worker w (record_at words k)) last (length run.marks) (world.numbers.limits id view at)
         (λ k of. worker_below w k (record_at words k) refl of));
   }
@@ -232,7 +204,7 @@ module _ (task : Task) (workers opening : ℕ) (words : Words) (views : List Vie
   -- clearing leaves the tree and its records
   pub AreSameRuns-cleared : AreSameRuns (state_in run words) (state_of_words sizes (cleared words))
   AreSameRuns-cleared = record {
-    points = λ n. ap (λ l. point_at l n) points-whole;
+    points = λ n. ap (λ l. point_at l n) points-linked;
     parents = λ n here. ap parent_in (tree-cleared words n (node_at n here));
     costs = λ n here. ap cost_in (tree-cleared words n (node_at n here));
     records = record_at-cleared words;
@@ -247,15 +219,14 @@ module _ (task : Task) (workers opening : ℕ) (words : Words) (views : List Vie
     closed =
         IsClosed-same_run (setup_of task.scene) task.marks last (state_in run words) (state_of_words sizes (cleared words)) IsClosed-linked
         AreSameRuns-cleared;
-    ways = subst (FollowWays (children_of_words words)) (sym points-whole) world.links.ways;
+    ways = subst (FollowWays (children_of_words words)) (sym points-linked) world.links.ways;
     counted =
-        world.links.count
-        ∙ ap (λ n. 1 + n) (sum-same (counted_once words views) (λ k. once_if (is_linked sizes words (suc k))) (length task.marks)
+        world.links.count ∙ ap (λ n. 1 + n) (sum-same (counted_once words views) (λ k. once_if (is_linked sizes words (suc k))) (length task.marks)
         (λ k low. omega (arith, no_hands has_count k, ap once_if (is_linked-whole (suc k)))))
-        ∙ sym (node_count-linked run words views world.links world.trees) ∙ ap node_count (sym points-whole);
+        ∙ sym (node_count-linked run words views world.links world.trees) ∙ ap node_count (sym points-linked);
     claimed = claimed-whole;
     written = λ n here.
-        let linked = linked-present sizes words n (subst (λ l. IsPresent l n) points-whole here) in
+        let linked = linked-present sizes words n (subst (λ l. IsPresent l n) points-linked here) in
         let node = sym (is_linked-whole n) ∙ linked in
         let words_of = world.trees.written n linked in
         record {
@@ -278,63 +249,27 @@ module _ (task : Task) (workers opening : ℕ) (words : Words) (views : List Vie
   -- ---- what the view has seen
 
   module _ (own : view.run ≡ run) where
-    behind : AreBehind (sees view) words
-    behind = world.seen.behind id view at
-
-    tree : SeesTree view
-    tree = world.sights id view at own
-
-    follow : FollowWays (children_of_words words) (linked_points (run_sizes view.run) words)
-    follow = subst (λ r. FollowWays (children_of_words words) (linked_points (run_sizes r) words)) (sym own) world.links.ways
-
-    seen_linked : (n : ℕ) → SeesNode view n → is_linked sizes words n ≡ true
-    seen_linked n h = subst (λ r. is_linked (run_sizes r) words n ≡ true) own (is_linked-seen view words behind tree follow n h)
-
-    -- a word that is written once is seen as it is
-    same_once : (seen now : ℕ) → (seen ≡ 0) ⊎ (seen ≡ now) → 0 < seen → now ≡ seen
-    same_once seen now (inl unseen) written = absurd (omega (arith, unseen, written))
-    same_once seen now (inr same) written = sym same
-
-    record_stands : (k : ℕ) (entry : Record) → record_at (sees view) k ≡ Some entry → record_at words k ≡ Some entry
-    record_stands k entry e =
-        let word = same_once (sees view (RecordOf k)) (words (RecordOf k)) (behind (RecordOf k))
-        (record-written (sees view (RecordOf k)) (sees view (FirstOf (suc k))) entry e) in
-        ap (λ w. record_of_word w (words (FirstOf (suc k)))) word ∙ by_test (has_node (sees view) (suc k)) refl ∙ e
-      where
-        by_test : (b : Bool) → has_node (sees view) (suc k) ≡ b
-            → record_of_word (sees view (RecordOf k)) (words (FirstOf (suc k))) ≡ record_of_word (sees view (RecordOf k)) (sees view (FirstOf (suc k)))
-        by_test true placed =
-            ap (record_of_word (sees view (RecordOf k)))
-            (same_once (sees view (FirstOf (suc k))) (words (FirstOf (suc k))) (behind (FirstOf (suc k))) (omega (arith, tree.placed_first k placed)))
-        by_test false not_placed = record-unplaced (sees view (RecordOf k)) (sees view (FirstOf (suc k))) (words (FirstOf (suc k))) not_placed
+    linked_seen : (n : ℕ) → SeesNode view n → is_linked sizes words n ≡ true
+    linked_seen n = (nodes-whole run words views id view world at whole n).0
 
     -- All that the view has seen stands in that run.
-    pub StandsAsSeen-whole : StandsAsSeen view (state_of_words (sizes_of task) (cleared words))
+    pub StandsAsSeen-whole : StandsAsSeen view (state_of_words sizes (cleared words))
     StandsAsSeen-whole = record {
-      nodes = λ n h. subst (λ l. IsPresent l n) (sym points-whole) (present-linked run words views world.links world.trees n (seen_linked n h));
-      points = λ n p h.
-          subst (λ l. StandsAt l n p) (sym points-whole)
-          (subst (λ r. StandsAt (linked_points (run_sizes r) words) n p) own ((IsTrueOf-seen view words behind tree follow).places.nodes n p h));
+      nodes = λ n h. subst (λ l. IsPresent l n) (sym points-linked) (present-linked run words views world.links world.trees n (linked_seen n h));
+      points = λ n p h. ap (λ l. point_at l n) (points-linked ∙ sym (points-whole run words views id view world at whole)) ∙ h;
       trees = λ n written.
-          let node = sym (is_linked-whole n) ∙ seen_linked n (tree.rooted.pairs n (tree_written n written)) in
-          let now = tree-cleared words n node in
-          elim (behind (TreeOf n)) [
-            | inl unseen ↦ absurd (omega (arith, unseen, written))
-            | inr falls ↦ elim falls [
-              | inl same ↦ inl (ap cost_in (now ∙ sym same), ap parent_in (now ∙ sym same))
-              | inr fell ↦ inr (omega (arith, ap cost_in now, fell.1))
-            ]
-          ];
-      records = λ k entry e. record_at-cleared words k ∙ record_stands k entry e;
+          let linked = linked_seen n ((world.sights id view at own).rooted.pairs n (tree_written n written)) in
+          let same = tree-cleared words n (sym (is_linked-whole n) ∙ linked) ∙ sym (sees-whole run words views id view world at whole (TreeOf n) linked) in
+          inl (ap cost_in same, ap parent_in same);
+      records = λ k entry e. record_at-cleared words k ∙ sym (records-whole run words views id view world at whole k) ∙ e;
       counters = λ g strip.
           let here : g < task.scene.strips = subst (λ r. g < r.strips) own strip in
           let quota = ap (λ r. quota_of r.strips g last) own in
-          omega (arith, behind (Counter g), claimed-whole g here, quota);
+          omega (arith, world.seen.behind id view at (Counter g), claimed-whole g here, quota);
     }
       where
         tree_written : (n : ℕ) → 2 ^ 63 ≤ sees view (TreeOf n) → IsSome (tree_of_word (sees view (TreeOf n)))
-        tree_written n written =
-            ap is_some (if_written-set (sees view (TreeOf n)) (parent_in (sees view (TreeOf n)), cost_in (sees view (TreeOf n))) written)
+        tree_written n written = ap is_some (if_written-set (sees view (TreeOf n)) (parent_in (sees view (TreeOf n)), cost_in (sees view (TreeOf n))) written)
 
   -- Its records of marks from the opening limit on are by workers of the run.
   pub own_workers-whole : (k : ℕ) (entry : Record) → opening ≤ k → record_at (cleared words) k ≡ Some entry → entry.worker < workers

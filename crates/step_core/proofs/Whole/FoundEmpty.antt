@@ -1,25 +1,16 @@
 -- No word that tells of the run goes back, whatever step a view makes. A place that a step found empty was empty, and so no node stood at a
 -- point whose way leads there, by what the view sees at any later moment.
-use Rattle.std.proofs.Common.{◌≡◌, ◌≢◌, ℕ, ◌<◌, ◌≤◌, Bool, true, List, Option, None, length, map, set}
-use Rattle.std.proofs.Common.{refl, sym, ap, ◌∙◌, subst, inl, inr, arith}
-use Rattle.std.specs.Prelude.{◌⊎◌}
-use Rattle.std.proofs.lemmas.Bool.{cases_Bool, cases_eq, cases_order}
-use mathlib.Core.Option.{some, some-injective}
-use lib.ListN.{get_elem?}
-use Rattle.grown_runs.proofs.Common.{IsFree, StandsAt, point_at, EndsSince, Children, FillsPlaces, FollowWays, IsOnWay, goes_right, Point, StandsAt-unique}
-use Rattle.grown_runs.proofs.Common.{IsOnWay-true, IsOnWay-unique, earlier_step, not_empty, way_stops, IsOnWay-fills, child_of_word, children_of_words}
-use Rattle.grown_runs.proofs.Common.{is_linked, AreBehind, MayBecome, kind_of, Word, Words, ChildOf, TreeOf, place_of, cost_in, MayBecome-trans}
-use Rattle.step_core.specs.LaterViews.{IsLater}
-use Rattle.step_core.specs.SharedWords.{linked_points, shared_tree_of_words}
-use Rattle.step_core.specs.ViewSteps.{loaded}
-use Rattle.step_core.specs.ViewTrees.{LeadsTo, sight_in}
-use Rattle.step_core.specs.Views.{last_zero, run_sizes, sees, tree_seen}
-use Rattle.step_core.specs.Worlds.{IsTold, IsWorld, maximum, noted, noted_by, noted_in}
-use Rattle.step_core.specs.declared.views.SharedRun.{SharedRun}
-use Rattle.step_core.specs.declared.views.View.{View}
+use Rattle.step_core.proofs.Words.{◌≡◌, ◌≢◌, ◌<◌, ◌≤◌, ◌∙◌, ◌⊎◌, ℕ, Bool, true, List, Option, None, length, set, refl, sym, ap, subst, inl, inr, arith}
+use Rattle.step_core.proofs.Words.{slice_index, cases_Bool, cases_eq, cases_order, some, some-injective, get_elem?, IsFree, StandsAt, point_at, EndsSince}
+use Rattle.step_core.proofs.Words.{Children, FillsPlaces, FollowWays, IsOnWay, goes_right, Point, StandsAt-unique, IsOnWay-true, IsOnWay-unique, earlier_step}
+use Rattle.step_core.proofs.Words.{not_empty, way_stops, IsOnWay-fills, child_of_word, children_of_words, is_linked, AreBehind, MayBecome, kind_of, Word, Words}
+use Rattle.step_core.proofs.Words.{Best, ChildOf, TreeOf, cost_in, MayBecome-trans, IsLater, FillsNoPlace, HasNoted, IsNoted, IsNoteOf, linked_points}
+use Rattle.step_core.proofs.Words.{shared_tree_of_words, loaded, LeadsTo, sight_in, last_zero, run_sizes, sees, tree_seen, IsTold, IsWorld, Note, SharedRun}
+use Rattle.step_core.proofs.Words.{View}
 use Rattle.step_core.proofs.OneView.LawfulSights.{IsTrueOf-seen}
 use Rattle.step_core.proofs.Parts.LinkedStates.{GrowsInto-behind, unlinked-childless}
-use Rattle.step_core.proofs.Parts.ViewLists.{at-set, at-set_other, each-set, maximum-most, maximum-one}
+use Rattle.step_core.proofs.Parts.ViewLists.{at-after_set, at-set, at-set_other, same-at}
+use Rattle.step_core.proofs.Seen.SawWords.{cost_in-falls}
 use Rattle.step_core.proofs.Seen.SeenByViews.{WritesWord-zero}
 use Rattle.step_core.proofs.Steps.WorldSteps.{follow, live, tree}
 
@@ -35,11 +26,10 @@ module _ (run : SharedRun) (words after : Words) (views : List View) (id : ℕ) 
     pub MayBecome-told : (name : Word) → IsTold run words name → MayBecome (kind_of name) (words name) (after name)
     MayBecome-told name told =
         let copy = world.copies name told in
-        elim (cases_eq copy.id id) [
-          | inl same ↦ (
-              let is : copy.view ≡ view = some-injective copy.view view (sym copy.at ∙ ap (get_elem? views) same ∙ at) in
+        elim (same-at views copy.id id copy.view view copy.at at) [
+          | inl (same, is) ↦
               subst (λ w. MayBecome (kind_of name) w (after name)) (ap (λ u. sees u name) (sym is) ∙ copy.same)
-              (MayBecome-trans (kind_of name) (sees view name) (sees then name) (after name) (later.seen name) (next.seen.behind id then here name)))
+              (MayBecome-trans (kind_of name) (sees view name) (sees then name) (after name) (later.seen name) (next.seen.behind id then here name))
           | inr apart ↦
               subst (λ w. MayBecome (kind_of name) w (after name)) copy.same
               (next.seen.behind copy.id copy.view (at-set_other views id copy.id then apart ∙ copy.at) name)
@@ -48,42 +38,62 @@ module _ (run : SharedRun) (words after : Words) (views : List View) (id : ℕ) 
     -- So no cost rises.
     pub cost-falls : (n : ℕ) → is_linked (run_sizes run) words n ≡ true → cost_in (after (TreeOf n)) ≤ cost_in (words (TreeOf n))
     cost-falls n linked =
-        elim (MayBecome-told (TreeOf n) linked) [
-          | inl none ↦ absurd (omega (arith, none, (world.trees.written n linked).tree))
-          | inr falls ↦ elim falls [
-            | inl same ↦ omega (arith, ap cost_in same)
-            | inr fell ↦ omega (arith, fell.1)
-          ]
+        cost_in-falls (words (TreeOf n)) (after (TreeOf n)) (omega (arith, (world.trees.written n linked).tree)) (MayBecome-told (TreeOf n) linked)
+
+    -- nor does the best word
+    pub best-falls : after Best ≤ words Best
+    best-falls =
+        let copy = world.best_copy in
+        elim (same-at views copy.id id copy.view view copy.at at) [
+          | inl (same, is) ↦ (
+              let own : then.run ≡ run = later.run ∙ ap (λ u. u.run) (sym is) ∙ copy.run_is in
+              omega (arith, (next.bests id then here own).falls, later.best, ap (λ u. u.best) is, copy.same))
+          | inr apart ↦ omega (arith, (next.bests copy.id copy.view (at-set_other views id copy.id then apart ∙ copy.at) copy.run_is).falls, copy.same)
         ]
 
-  -- A place that the view has found empty by this step is empty after it, if the view notes no fill.
+  -- what is noted then was noted before, or by the view that made the step
+  pub was-noted : (note : Note) → IsNoted (set views id then) note → IsNoted views note ⊎ HasNoted then note
+  was-noted note now =
+      elim (at-after_set views id now.id then now.view now.at) [
+        | inr other ↦ inl (record { id = now.id; view = now.view; at = other.1; has = now.has })
+        | inl own ↦ inr (subst (λ u. HasNoted u note) (sym own.1) now.has)
+      ]
+
+  -- what was noted tells of no more steps of the view than it had made
+  pub made-before : view.run ≡ run → (note : Note) → IsNoted views note → slice_index note.steps id ≤ view.steps
+  made-before own note now =
+      elim (world.notes.made note now id) [
+        | inl none ↦ omega (arith, none)
+        | inr (u, there, most) ↦
+            let is : u ≡ view = some-injective u view (sym there ∙ at) in
+            omega (arith, most (ap (λ v. v.run) is ∙ own), ap (λ v. v.steps) is)
+      ]
+
+  -- A place that the view has found empty by this step is empty after it, if the view notes no place of a child.
   pub empty-after :
-      view.run ≡ run → then.fills ≡ view.fills → (n : ℕ) (side : Bool) → view.steps < last_zero then (ChildOf n side) → after (ChildOf n side) ≡ 0
+      view.run ≡ run → FillsNoPlace view then → (n : ℕ) (side : Bool) → view.steps < last_zero then (ChildOf n side) → after (ChildOf n side) ≡ 0
   empty-after own fills n side found =
       elim (cases_eq (after (ChildOf n side)) 0) [
         | inl none ↦ none
-        | inr some_child ↦ absurd (omega (arith, found, next.empties.filled n side some_child id then here, no_more, made (world.empties.made place id)))
+        | inr some_child ↦ elim (next.empties n side some_child id then here) [
+          | inl never ↦ absurd (omega (arith, found, never))
+          | inr told ↦ absurd (omega (
+            arith,
+            found,
+            told.same,
+            made-before own told.note (elim (was-noted told.note told.is_noted) [
+              | inl old ↦ old
+              | inr has ↦
+                  let of = subst (λ r. IsNoteOf r (ChildOf n side) told.note) (sym own) told.of_word in
+                  record { id = id; view = view; at = at; has = fills n side told.note has of }
+            ]),
+          ))
+        ]
       ]
-    where
-      place : ℕ
-      place = place_of (run_sizes run) (ChildOf n side)
-
-      no_more : noted (set views id then) place id ≤ noted views place id
-      no_more =
-          maximum-most (noted_by place id) (set views id then) (noted views place id)
-          (each-set views id then (λ u. noted_by place id u ≤ noted views place id) (λ j u apart e. maximum-one (noted_by place id) views j u e)
-          (omega (arith, ap (λ l. maximum (map (noted_in place id) l)) fills, maximum-one (noted_by place id) views id view at)))
-
-      made : (noted views place id ≡ 0) ⊎ ((u : View) × (get_elem? views id ≡ some u) × (u.run ≡ run → noted views place id ≤ u.steps))
-          → noted views place id ≤ view.steps
-      made (inl none) = omega (arith, none)
-      made (inr (u, there, most)) =
-          let is : u ≡ view = some-injective u view (sym there ∙ at) in
-          omega (arith, most (ap (λ v. v.run) is ∙ own), ap (λ v. v.steps) is)
 
   -- And so it was before.
   pub empty-before :
-      IsLater view then → view.run ≡ run → then.fills ≡ view.fills → (n : ℕ) (side : Bool) → view.steps < last_zero then (ChildOf n side)
+      IsLater view then → view.run ≡ run → FillsNoPlace view then → (n : ℕ) (side : Bool) → view.steps < last_zero then (ChildOf n side)
       → words (ChildOf n side) ≡ 0
   empty-before later own fills n side found =
       elim (cases_Bool (is_linked (run_sizes run) words n)) [
@@ -100,7 +110,8 @@ pub filled-not_found :
     → (n : ℕ) (side : Bool) → n ≤ length run.marks → words (ChildOf n side) ≢ 0 → ¬ IsWorld run words (set views id (loaded view (ChildOf n side) 0))
 filled-not_found run words views id view world at own n side within some_child next =
     let now = (WritesWord-zero run view (live run words views id view world at own) (ChildOf n side) within 0).here in
-    some_child (empty-after run words words views id view (loaded view (ChildOf n side) 0) world at next own refl n side (omega (arith, now)))
+    some_child (empty-after run words words views id view (loaded view (ChildOf n side) 0) world at next own (λ m right note has of. has) n side
+    (omega (arith, now)))
 
 -- ---- with the way at a later moment
 
@@ -124,8 +135,7 @@ module _ (child later : Children) (points points_later : List (Option Point)) (f
             let same : step.node ≡ n =
             IsOnWay-unique later points_later q depth step.node n (IsOnWay-fills child later points points_later fills q depth step.node step.on_way) way in
             let point : step.point ≡ p =
-            StandsAt-unique points_later n step.point p
-            (ap (point_at points_later) (sym same) ∙ fills.nodes step.node step.point step.stands) stands in
+            StandsAt-unique points_later n step.point p (ap (point_at points_later) (sym same) ∙ fills.nodes step.node step.point step.stands) stands in
             let place : child step.node (goes_right depth step.point q) ≡ child n (goes_right depth p q) =
             ap (λ a. child a (goes_right depth step.point q)) same ∙ ap (λ r. child n (goes_right depth r q)) point in
             not_empty child n found.0 (goes_right depth p q) empty (sym place ∙ step.link))
@@ -168,7 +178,7 @@ IsFree-since run words later views lasts id view world last go at own q n side l
 -- If a step has found a place empty to which the way of q leads by what the view sees later, no node stood at q by that step.
 pub IsFree-found :
     (run : SharedRun) (words after later : Words) (views lasts : List View) (id : ℕ) (view then last : View) → IsWorld run words views
-    → get_elem? views id ≡ some view → IsWorld run after (set views id then) → view.run ≡ run → then.fills ≡ view.fills → IsWorld run later lasts
+    → get_elem? views id ≡ some view → IsWorld run after (set views id then) → view.run ≡ run → FillsNoPlace view then → IsWorld run later lasts
     → AreBehind after later → get_elem? lasts id ≡ some last → last.run ≡ run → (q : Point) (n : ℕ) (side : Bool) → LeadsTo last q n side
     → view.steps < last_zero then (ChildOf n side) → IsFree (linked_points (run_sizes run) after) q
 IsFree-found run words after later views lasts id view then last world at next own fills world_last go at_last own_last q n side leads found =

@@ -1,16 +1,10 @@
 -- A state in which all stands that a view has seen has grown from a closed run, if the view has seen at least the words of that run.
-use Rattle.std.proofs.Common.{◌≡◌, ℕ, zero, suc, ◌<◌, ◌≤◌, ◌^◌, Bool, true, false, List, length, Option, Some, None}
-use Rattle.std.proofs.Common.{refl, sym, ap, ◌∙◌, subst, inl, inr, arith}
-use Rattle.std.specs.Prelude.{is_some}
-use Rattle.grown_runs.proofs.Common.{has_outcome, is_placed, IsPresent, StandsAt, GrowsInto, TreeState, first_cost_of, recorded_or, Point, Record, Task}
-use Rattle.grown_runs.proofs.Common.{state_of_grown, words_of_grown, HoldRun, has_node, has_placed, points_of_words, record_at, sizes_of, state_of_words}
-use Rattle.grown_runs.proofs.Common.{AreBehind, Falls, MayBecome, Falling, Once, Words, FirstOf, PointOf, RecordOf, TreeOf, point_of_word, record_of_word}
-use Rattle.grown_runs.proofs.Common.{has_node-present, point_of_word-stands, present-within}
-use Rattle.step_core.specs.LastViews.{HasOrFell, StandsAsSeen}
-use Rattle.step_core.specs.ViewTrees.{SeesPoint}
-use Rattle.step_core.specs.Views.{run_of, run_sizes, sees}
-use Rattle.grown_runs.specs.declared.grown.Grown.{Grown}
-use Rattle.step_core.specs.declared.views.View.{View}
+use Rattle.step_core.proofs.Words.{◌≡◌, ◌<◌, ◌≤◌, ◌^◌, ◌∙◌, ℕ, zero, suc, Bool, true, false, List, length, Option, Some, None, refl, sym, ap, subst, inl, inr}
+use Rattle.step_core.proofs.Words.{arith, is_some, has_outcome, is_placed, IsPresent, StandsAt, GrowsInto, TreeState, first_cost_of, recorded_or, Point, Record}
+use Rattle.step_core.proofs.Words.{Task, state_of_grown, words_of_grown, HoldRun, has_node, has_placed, points_of_words, record_at, sizes_of, state_of_words}
+use Rattle.step_core.proofs.Words.{AreBehind, Falls, MayBecome, Falling, Once, Words, FirstOf, PointOf, RecordOf, TreeOf, point_of_word, record_of_word}
+use Rattle.step_core.proofs.Words.{has_node-present, point_of_word-stands, present-within, HasOrFell, StandsAsSeen, SeesPoint, run_of, run_sizes, sees, Grown}
+use Rattle.step_core.proofs.Words.{View}
 use Rattle.step_core.proofs.Parts.LinkedStates.{record-unplaced, record-written}
 use Rattle.step_core.proofs.Seen.SeenWords.{point_at-seen}
 
@@ -38,7 +32,7 @@ has_or_fell-before state n word seen (inr fell) (inl has) = inr (omega (arith, f
 has_or_fell-before state n word seen (inr fell) (inr lower) = inr (omega (arith, fell.1, lower))
 
 -- a placed mark by either name
-placed_mark : (o : Option Record) → has_placed o ≡ has_outcome is_placed o
+pub placed_mark : (o : Option Record) → has_placed o ≡ has_outcome is_placed o
 placed_mark None = refl
 placed_mark (Some entry) = refl
 
@@ -73,8 +67,7 @@ module _ (task : Task) (limit : ℕ) (words : Words) (held : HoldRun task limit 
 
   -- its tree word is seen as a written one
   tree_written-seen : (n : ℕ) → IsPresent points n → 2 ^ 63 ≤ seen (TreeOf n)
-  tree_written-seen n here =
-      written-falls (words (TreeOf n)) (seen (TreeOf n)) (falls-seen n here) (omega (arith, (held.written n here).tree))
+  tree_written-seen n here = written-falls (words (TreeOf n)) (seen (TreeOf n)) (falls-seen n here) (omega (arith, (held.written n here).tree))
 
   -- each record is seen
   record-seen : (k : ℕ) (entry : Record) → record_at words k ≡ Some entry → record_at seen k ≡ Some entry

@@ -1,42 +1,32 @@
 -- A place that a view has found empty since a moment was empty at some moment since, and so no node stood where the way to it leads.
-use Rattle.std.proofs.Common.{◌≡◌, ◌≢◌, ℕ, suc, ◌<◌, ◌≤◌, Bool, List, set, Some, refl, sym, ap, ◌∙◌, subst, inl, inr, arith}
-use Rattle.std.specs.Prelude.{is_some}
-use Rattle.std.proofs.lemmas.Bool.{cases_eq}
-use mathlib.Core.Option.{some, some-injective}
-use lib.ListN.{get_elem?}
-use Rattle.grown_runs.proofs.Common.{EndsSince, Point, AreBehind, Words, WritesWord, ChildOf, AreBehind-refl, AreBehind-trans}
-use Rattle.step_core.specs.Histories.{HasCome, WasEmpty, WasFree}
-use Rattle.step_core.specs.Histories.HasCome.{begins, goes_on, steps}
-use Rattle.step_core.specs.ViewSteps.{linked, steps_then}
-use Rattle.step_core.specs.ViewTrees.{LeadsTo, sight_in}
-use Rattle.step_core.specs.Views.{last_zero}
-use Rattle.step_core.specs.Worlds.{IsWorld}
-use Rattle.step_core.specs.declared.views.Hand.{Hand}
-use Rattle.step_core.specs.declared.views.SharedRun.{SharedRun}
-use Rattle.step_core.specs.declared.views.Stage.TheVariants.{Treed}
-use Rattle.step_core.specs.declared.views.View.{View}
+use Rattle.step_core.proofs.Words.{◌≡◌, ◌≢◌, ◌<◌, ◌≤◌, ◌∙◌, ℕ, suc, Bool, List, set, Some, refl, sym, ap, subst, inl, inr, arith, is_some, cases_eq, some}
+use Rattle.step_core.proofs.Words.{some-injective, get_elem?, EndsSince, Point, AreBehind, Word, Words, WritesWord, ChildOf, AreBehind-refl, AreBehind-trans}
+use Rattle.step_core.proofs.Words.{HasCome, WasEmpty, WasFree, WasSo, steps, IsLoaded, SeesSome, last_seen, linked, steps_then, LeadsTo, sight_in, last_look}
+use Rattle.step_core.proofs.Words.{last_zero, IsWorld, Hand, SharedRun, Treed, View}
+use Rattle.step_core.specs.Histories.HasCome.{begins, goes_on}
 use Rattle.step_core.proofs.Whole.FoundEmpty.{IsFree-since, LeadsTo-ends, empty-after}
-use Rattle.step_core.proofs.Steps.FinishedMarks.{in_hand}
 use Rattle.step_core.proofs.OneView.LinkedViews.{WritesWord-zero_linked}
 use Rattle.step_core.proofs.Seen.SawWords.{AreBehind-write}
 use Rattle.step_core.proofs.Parts.ViewLists.{at-set, at-set_other}
-use Rattle.step_core.proofs.Parts.WorldEmpties.{last_zero-spent}
-use Rattle.step_core.proofs.Steps.WorldNodes.{IsWorld-linked}
+use Rattle.step_core.proofs.Parts.WorldNotes.{last_look-spent, last_zero-spent}
+use Rattle.step_core.proofs.Steps.WorldNodes.{IsWorld-linked, shown_linked}
+use Rattle.step_core.proofs.Whole.LookedWords.{seen-as_it_is}
 use Rattle.step_core.proofs.Steps.WorldSteps.{live, seen_within, tree}
+use Rattle.step_core.proofs.Parts.MarksInHand.{in_hand}
 
 module _ (run : SharedRun) (id : ℕ) (words : Words) (views : List View) (world : IsWorld run words views) where
   -- the law holds all the while
   world_now : (last : Words) (lasts : List View) → HasCome run id words views last lasts → IsWorld run last lasts
   world_now last lasts begins = world
-  world_now last lasts (steps now after here next view then come at own is holds go later fills) = holds
-  world_now last lasts (goes_on now after here next view then come at at_then holds go same) = holds
+  world_now last lasts (steps now after here next view then come at own is holds go later fills knows) = holds
+  world_now last lasts (goes_on now after here next view then come at at_then holds go same knows) = holds
 
   -- and the words go on
   behind_now : (last : Words) (lasts : List View) → HasCome run id words views last lasts → AreBehind words last
   behind_now last lasts begins = AreBehind-refl words
-  behind_now last lasts (steps now after here next view then come at own is holds go later fills) =
+  behind_now last lasts (steps now after here next view then come at own is holds go later fills knows) =
       AreBehind-trans words now after (behind_now now here come) go
-  behind_now last lasts (goes_on now after here next view then come at at_then holds go same) =
+  behind_now last lasts (goes_on now after here next view then come at at_then holds go same knows) =
       AreBehind-trans words now after (behind_now now here come) go
 
   -- what was empty by then was so by now
@@ -65,24 +55,21 @@ module _ (run : SharedRun) (id : ℕ) (words : Words) (views : List View) (world
     WasEmpty-found last lasts begins end at_end found =
         let same : end ≡ first = some-injective end first (sym at_end ∙ at_first) in
         absurd (omega (arith, found, ap (λ v. last_zero v (ChildOf n side)) same, found_before))
-    WasEmpty-found last lasts (steps now after here next view then come at own is holds go later fills) end at_end found =
+    WasEmpty-found last lasts (steps now after here next view then come at own is holds go later fills knows) end at_end found =
         let same : end ≡ then = some-injective end then (sym at_end ∙ ap (λ l. get_elem? l id) is ∙ at-set here id view then at) in
         let looked = ap (λ v. last_zero v (ChildOf n side)) same in
         elim (later.zero_found (ChildOf n side) (λ e. cc)) [
-          | inl as_before ↦
-              WasEmpty-on now after n side go
-              (WasEmpty-found now here come view at (omega (arith, found, looked, as_before)))
+          | inl as_before ↦ WasEmpty-on now after n side go (WasEmpty-found now here come view at (omega (arith, found, looked, as_before)))
           | inr anew ↦ record {
             words = after;
             views = next;
             world = holds;
             since = AreBehind-trans words now after (behind_now now here come) go;
             until = AreBehind-refl after;
-            empty =
-                empty-after run now after here id view then (world_now now here come) at (subst (IsWorld run after) is holds) own fills n side anew.0;
+            empty = empty-after run now after here id view then (world_now now here come) at (subst (IsWorld run after) is holds) own fills n side anew.0;
           }
         ]
-    WasEmpty-found last lasts (goes_on now after here next view then come at at_then holds go same) end at_end found =
+    WasEmpty-found last lasts (goes_on now after here next view then come at at_then holds go same knows) end at_end found =
         elim (cases_eq (now (ChildOf n side)) 0) [
           | inl none ↦ record {
             words = now;
@@ -94,10 +81,66 @@ module _ (run : SharedRun) (id : ℕ) (words : Words) (views : List View) (world
           }
           | inr some_child ↦ (
               let is : end ≡ then = some-injective end then (sym at_end ∙ at_then) in
-              WasEmpty-on now after n side go
-              (WasEmpty-found now here come view at
+              WasEmpty-on now after n side go (WasEmpty-found now here come view at
               (omega (arith, found, ap (λ v. last_zero v (ChildOf n side)) is, same n side some_child))))
         ]
+
+-- So what a view sees last of a word at which it has looked since was so at some moment since.
+module _ (run : SharedRun) (id : ℕ) (words : Words) (views : List View) (world : IsWorld run words views) (first : View)
+    (at_first : get_elem? views id ≡ some first) (name : Word) (may : IsLoaded run name) where
+  WasSo-on : (now after : Words) (word : ℕ) → AreBehind now after → WasSo run words now name word → WasSo run words after name word
+  WasSo-on now after word go was = record {
+    words = was.words;
+    views = was.views;
+    world = was.world;
+    since = was.since;
+    until = AreBehind-trans was.words now after was.until go;
+    so = was.so;
+  }
+
+  so_now : (last : Words) (lasts : List View) (word : ℕ) → HasCome run id words views last lasts → last name ≡ word → WasSo run words last name word
+  so_now last lasts word come is = record {
+    words = last;
+    views = lasts;
+    world = world_now run id words views world last lasts come;
+    since = behind_now run id words views world last lasts come;
+    until = AreBehind-refl last;
+    so = is;
+  }
+
+  pub WasSo-looked :
+      (last : Words) (lasts : List View) → HasCome run id words views last lasts → (end : View) → get_elem? lasts id ≡ some end
+      → first.steps < last_look end name → SeesSome end name → WasSo run words last name (last_seen end name)
+  WasSo-looked last lasts begins end at_end looked some_seen =
+      let same : end ≡ first = some-injective end first (sym at_end ∙ at_first) in
+      let top : last_look first name ≤ first.steps = elim (world.of_run id first at_first) [
+        | inl gone ↦ omega (arith, ap (λ v. last_look v name) gone, last_look-spent name)
+        | inr live ↦ live.looks name
+      ] in
+      absurd (omega (arith, looked, ap (λ v. last_look v name) same, top))
+  WasSo-looked last lasts (steps now after here next view then come at own is holds go later fills knows) end at_end looked some_seen =
+      let same : end ≡ then = some-injective end then (sym at_end ∙ ap (λ l. get_elem? l id) is ∙ at-set here id view then at) in
+      let found = subst (λ v. first.steps < last_look v name) same looked in
+      let some = subst (λ v. SeesSome v name) same some_seen in
+      subst (λ v. WasSo run words after name (last_seen v name)) (sym same) (elim (knows name may) [
+        | inl as_before ↦
+            subst (WasSo run words after name) (sym as_before.1) (WasSo-on now after (last_seen view name) go
+            (WasSo-looked now here come view at (omega (arith, found, as_before.0)) (λ n e none. some n e (as_before.1 ∙ none))))
+        | inr anew ↦
+            so_now after next (last_seen then name) (steps now after here next view then come at own is holds go later fills knows)
+            (sym (seen-as_it_is run now after here id view then (world_now run id words views world now here come) at own
+            (subst (IsWorld run after) is holds) name may anew.0 anew.1 some))
+      ])
+  WasSo-looked last lasts (goes_on now after here next view then come at at_then holds go same knows) end at_end looked some_seen =
+      let is : end ≡ then = some-injective end then (sym at_end ∙ at_then) in
+      let seen : last_seen end name ≡ last_seen then name = ap (λ v. last_seen v name) is in
+      subst (WasSo run words after name) (sym seen) (elim (knows name may) [
+        | inr so ↦ so_now after next (last_seen then name) (goes_on now after here next view then come at at_then holds go same knows) (sym so)
+        | inl as_before ↦
+            subst (WasSo run words after name) (sym as_before.1) (WasSo-on now after (last_seen view name) go
+            (WasSo-looked now here come view at (omega (arith, looked, ap (λ v. last_look v name) is, as_before.0))
+            (λ n e none. some_seen n e (seen ∙ as_before.1 ∙ none))))
+      ])
 
 -- Each point that a view has swept since a moment, and at which it sees no node, was free at some moment since.
 pub WasFree-swept :
@@ -137,11 +180,12 @@ HasCome-linked run id words now after views here view world come at own hand hel
     (IsWorld-linked run now after here id view holds at own hand held stage n side leads empty writes)
     (AreBehind-write (ChildOf n side) (suc hand.mark) now after writes (inl empty))
     (λ m right some_child. zeros.others (ChildOf m right) (λ e. some_child (ap now e ∙ empty)))
+    (λ name told. shown_linked run now after here id view holds at own hand held stage n side leads empty writes noted name)
 
 -- and by a step of another view.
 pub HasCome-other :
     (run : SharedRun) (id j : ℕ) (words now after : Words) (views here : List View) (view then : View) → HasCome run id words views now here
-    → get_elem? here id ≡ some view → j ≢ id → IsWorld run after (set here j then) → AreBehind now after
-    → HasCome run id words views after (set here j then)
+    → get_elem? here id ≡ some view → j ≢ id → IsWorld run after (set here j then) → AreBehind now after → HasCome run id words views after (set here j then)
 HasCome-other run id j words now after views here view then come at apart holds go =
     goes_on now after here (set here j then) view view come at (at-set_other here j id then (λ e. apart (sym e)) ∙ at) holds go (λ m right some_child. refl)
+    (λ name told. inl (refl, refl))

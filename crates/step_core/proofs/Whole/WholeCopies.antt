@@ -1,35 +1,21 @@
 -- A view with the whole share sees all words that tell of the run as they are, and so the whole tree.
-use Rattle.std.proofs.Common.{◌≡◌, ◌≢◌, ℕ, zero, suc, ◌+◌, ◌≤◌, Bool, true, false, List, length, map, Option, Some, None, refl, sym, ap, ◌∙◌, subst}
-use Rattle.std.proofs.Common.{inl, inr, arith}
-use Rattle.std.specs.Prelude.{◌↔◌, ◌==◌, ◌&&◌, is_some, if◌then◌else◌}
-use Rattle.std.specs.List.{range_with_len}
-use mathlib.Core.Option.{some, some-injective}
-use lib.ListN.{get_elem?}
-use Rattle.std.proofs.lemmas.Bool.{cases_Bool, cases_eq, cases_lt}
-use Rattle.grown_runs.proofs.Common.{node_count, once_if, FollowWays, Record, child_of_word, children_of_words, has_node, is_linked, record_at, seen_point}
-use Rattle.grown_runs.proofs.Common.{AreBehind, Word, Words, Best, ChildOf, Count, FirstOf, PointOf, RecordOf, TreeOf, Sizes, cost_in, parent_in, point_of_word}
-use Rattle.grown_runs.proofs.Common.{record_of_word, tree_of_word, none_some, in_child, word_at-none}
-use Rattle.step_core.specs.SharedWords.{linked_point, linked_points}
-use Rattle.step_core.specs.Stages.{has_count, has_link, holds_at}
-use Rattle.step_core.specs.ViewTrees.{SeesNode, SeesTree}
-use Rattle.step_core.specs.Views.{run_sizes, sees, share, tree_seen}
-use Rattle.step_core.specs.Worlds.{IsTold, IsWorld, counted_once, hands_at}
-use Rattle.step_core.specs.declared.views.Hand.{Hand}
-use Rattle.step_core.specs.declared.views.SharedRun.{SharedRun}
-use Rattle.step_core.specs.declared.views.Stage.{Stage}
-use Rattle.step_core.specs.declared.views.Stage.TheVariants.{Claimed, Counted, Half, Linked, Pointed, Posted, Treed}
-use Rattle.step_core.specs.declared.views.View.{View}
+use Rattle.step_core.proofs.Words.{◌≡◌, ◌≢◌, ◌+◌, ◌≤◌, ◌∙◌, ◌↔◌, ◌==◌, ◌&&◌, ℕ, zero, suc, Bool, true, false, List, length, map, Option, Some, None, refl, sym}
+use Rattle.step_core.proofs.Words.{ap, subst, inl, inr, arith, if◌then◌else◌, range_with_len, some, get_elem?, cases_Bool, cases_lt, node_count, once_if}
+use Rattle.step_core.proofs.Words.{FollowWays, Record, child_of_word, children_of_words, has_node, is_linked, record_at, seen_point, AreBehind, Word, Words}
+use Rattle.step_core.proofs.Words.{Best, ChildOf, Count, FirstOf, PointOf, RecordOf, TreeOf, Sizes, cost_in, parent_in, point_of_word, record_of_word}
+use Rattle.step_core.proofs.Words.{tree_of_word, in_child, linked_point, linked_points, has_count, has_link, holds_at, SeesNode, SeesTree, run_sizes, sees}
+use Rattle.step_core.proofs.Words.{share, tree_seen, IsTold, IsWorld, counted_once, hands_at, Hand, SharedRun, Stage, Claimed, Counted, Half, Linked, Pointed}
+use Rattle.step_core.proofs.Words.{Posted, Treed, View, sum-same}
 use Rattle.step_core.proofs.Steps.FinishedMarks.{recorded-below}
 use Rattle.step_core.proofs.OneView.LawfulPairs.{tree_of_word-written}
 use Rattle.step_core.proofs.OneView.LawfulSights.{is_linked-seen}
 use Rattle.step_core.proofs.Parts.LinkedCounts.{node_count-linked}
 use Rattle.step_core.proofs.Parts.LinkedStates.{record-unplaced, unlinked-childless}
 use Rattle.step_core.proofs.Parts.MarksInHand.{once_if-true}
-use Rattle.step_core.proofs.Seen.SeenWords.{point_at-seen}
-use Rattle.plan_model.proofs.SumsBelow.{sum-same}
-use Rattle.step_core.proofs.Parts.ViewLists.{sum-each}
+use Rattle.step_core.proofs.Parts.ViewLists.{sum-each, same-at}
 use Rattle.step_core.proofs.Whole.WholeShares.{others_idle, others_shareless}
 use Rattle.step_core.proofs.Parts.WorldParts.{record_word-none}
+use Rattle.step_core.proofs.OneView.SeenStates.{seen_point-none}
 
 -- a hand that is not at the stage linked has counted its node if it has linked it
 counted-linked : (stage : Stage) → stage ≢ Linked → has_count stage ≡ has_link stage
@@ -58,24 +44,18 @@ module _ (run : SharedRun) (words : Words) (views : List View) (id : ℕ) (view 
   pub sees-whole : (name : Word) → IsTold run words name → sees view name ≡ words name
   sees-whole name told =
       let copy = world.copies name told in
-      elim (cases_eq copy.id id) [
-        | inl same ↦ (
-            let is : copy.view ≡ view = some-injective copy.view view (sym copy.at ∙ ap (get_elem? views) same ∙ at) in
-            ap (λ u. sees u name) (sym is) ∙ copy.same)
-        | inr apart ↦
-            absurd (omega (arith, copy.part, others_shareless run words views id view world at whole copy.id copy.view apart copy.at))
+      elim (same-at views copy.id id copy.view view copy.at at) [
+        | inl (same, is) ↦ ap (λ u. sees u name) (sym is) ∙ copy.same
+        | inr apart ↦ absurd (omega (arith, copy.part, others_shareless run words views id view world at whole copy.id copy.view apart copy.at))
       ]
 
   -- and what it saw last of the best word is what that is
   pub best-whole : view.best ≡ words Best
   best-whole =
       let copy = world.best_copy in
-      elim (cases_eq copy.id id) [
-        | inl same ↦ (
-            let is : copy.view ≡ view = some-injective copy.view view (sym copy.at ∙ ap (get_elem? views) same ∙ at) in
-            ap (λ u. u.best) (sym is) ∙ copy.same)
-        | inr apart ↦
-            absurd (omega (arith, copy.part, others_shareless run words views id view world at whole copy.id copy.view apart copy.at))
+      elim (same-at views copy.id id copy.view view copy.at at) [
+        | inl (same, is) ↦ ap (λ u. u.best) (sym is) ∙ copy.same
+        | inr apart ↦ absurd (omega (arith, copy.part, others_shareless run words views id view world at whole copy.id copy.view apart copy.at))
       ]
 
   behind : AreBehind (sees view) words
@@ -115,25 +95,12 @@ module _ (run : SharedRun) (words : Words) (views : List View) (id : ℕ) (view 
 
   -- no point of a number that is not linked is seen
   unseen_point : (n : ℕ) → is_linked sizes words n ≡ false → seen_point (sees view) n ≡ None
-  unseen_point n unlinked =
-      elim (cases_lt (length view.run.marks) n) [
-        | inl past ↦ ap point_of_word (word_at-none (run_sizes view.run) view.seen (PointOf n) (λ within. omega (arith, within, past)))
-        | inr within ↦ none_some (seen_point (sees view) n) (by_test (is_some (seen_point (sees view) n)) refl within)
-      ]
-    where
-      by_test : (b : Bool) → is_some (seen_point (sees view) n) ≡ b → n ≤ length view.run.marks → is_some (seen_point (sees view) n) ≡ false
-      by_test false e within = e
-      by_test true e within =
-          let present = ap is_some (point_at-seen (run_sizes view.run) (sees view) n within) ∙ e in
-          let no = sym unlinked ∙ linked-seen n (tree.rooted.points n present) in
-          cc
+  unseen_point n unlinked = seen_point-none view n (λ present. let no = sym unlinked ∙ linked-seen n (tree.rooted.points n present) in cc)
 
   point-whole : (n : ℕ) → seen_point (sees view) n ≡ linked_point sizes words n
   point-whole n =
       elim (cases_Bool (is_linked sizes words n)) [
-        | inl linked ↦
-            ap point_of_word (sees-whole (PointOf n) linked)
-            ∙ sym (ap (λ b. if b then point_of_word (words (PointOf n)) else None) linked)
+        | inl linked ↦ ap point_of_word (sees-whole (PointOf n) linked) ∙ sym (ap (λ b. if b then point_of_word (words (PointOf n)) else None) linked)
         | inr unlinked ↦ unseen_point n unlinked ∙ sym (ap (λ b. if b then point_of_word (words (PointOf n)) else None) unlinked)
       ]
 
@@ -151,8 +118,7 @@ module _ (run : SharedRun) (words : Words) (views : List View) (id : ℕ) (view 
   pub trees-whole : (n : ℕ) → is_linked sizes words n ≡ true
       → (tree_seen view).parent_and_cost n ≡ Some (parent_in (words (TreeOf n)), cost_in (words (TreeOf n)))
   trees-whole n linked =
-      ap tree_of_word (sees-whole (TreeOf n) linked)
-      ∙ tree_of_word-written (words (TreeOf n)) (omega (arith, (world.trees.written n linked).tree))
+      ap tree_of_word (sees-whole (TreeOf n) linked) ∙ tree_of_word-written (words (TreeOf n)) (omega (arith, (world.trees.written n linked).tree))
 
   -- ---- records
 
@@ -175,15 +141,13 @@ module _ (run : SharedRun) (words : Words) (views : List View) (id : ℕ) (view 
   -- Each record is seen as it is, of a placed mark with the first word of its node.
   pub records-whole : (k : ℕ) → record_at (sees view) k ≡ record_at words k
   records-whole k =
-      ap (λ word. record_of_word word (sees view (FirstOf (suc k)))) (record_word-whole k)
-      ∙ elim (cases_Bool (has_node words (suc k))) [
+      ap (λ word. record_of_word word (sees view (FirstOf (suc k)))) (record_word-whole k) ∙ elim (cases_Bool (has_node words (suc k))) [
         | inl placed ↦ ap (record_of_word (words (RecordOf k))) (sees-whole (FirstOf (suc k)) (linked placed))
         | inr unplaced ↦ record-unplaced (words (RecordOf k)) (words (FirstOf (suc k))) (sees view (FirstOf (suc k))) unplaced
       ]
     where
       linked : has_node words (suc k) ≡ true → is_linked sizes words (suc k) ≡ true
-      linked placed =
-          once_if-true (is_linked sizes words (suc k)) (omega (arith, world.links.linked k, ap once_if placed))
+      linked placed = once_if-true (is_linked sizes words (suc k)) (omega (arith, world.links.linked k, ap once_if placed))
 
   -- ---- the count
 
@@ -201,10 +165,8 @@ module _ (run : SharedRun) (words : Words) (views : List View) (id : ℕ) (view 
 
         each : (i : ℕ) (u : View) → get_elem? views i ≡ some u → same u
         each i u e =
-            elim (cases_eq i id) [
-              | inl here ↦ (
-                  let is : u ≡ view = some-injective u view (sym e ∙ ap (get_elem? views) here ∙ at) in
-                  subst same (sym is) (by_hand view.hand refl))
+            elim (same-at views i id u view e at) [
+              | inl (here, is) ↦ subst same (sym is) (by_hand view.hand refl)
               | inr apart ↦
                   let idle = others_idle run words views id view world at whole i u apart e in
                   ap (λ h. once_if (holds_at has_count k h)) idle ∙ sym (ap (λ h. once_if (holds_at has_link k h)) idle)
@@ -213,7 +175,6 @@ module _ (run : SharedRun) (words : Words) (views : List View) (id : ℕ) (view 
     -- The count is the number of nodes that it sees.
     pub count-whole : words Count ≡ node_count (tree_seen view).points
     count-whole =
-        world.links.count
-        ∙ ap (λ n. 1 + n) (sum-same (counted_once words views) (λ k. once_if (is_linked sizes words (suc k))) (length run.marks)
+        world.links.count ∙ ap (λ n. 1 + n) (sum-same (counted_once words views) (λ k. once_if (is_linked sizes words (suc k))) (length run.marks)
         (λ k low. omega (arith, all_counted k, world.links.linked k)))
         ∙ sym (node_count-linked run words views world.links world.trees) ∙ ap node_count (sym points-whole)

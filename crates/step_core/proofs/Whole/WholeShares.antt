@@ -1,20 +1,11 @@
 -- What the law of worlds says of a view with a mark in hand, and of one with the whole share.
-use Rattle.std.proofs.Common.{◌≡◌, ◌≢◌, ℕ, ◌<◌, Bool, true, false, List, length, Some, None, refl, sym, ap, ◌∙◌, inl, inr, arith}
-use Rattle.std.specs.Prelude.{◌==◌, nat_lt, cond, if◌then◌else◌}
-use Rattle.std.specs.List.{count_by, range_with_len}
-use mathlib.Core.Option.{some, some-injective}
-use lib.ListN.{get_elem?}
-use Rattle.std.proofs.lemmas.Bool.{cases_eq, eq-eqb, ltb-true, ne_eqb}
-use Rattle.grown_runs.proofs.Common.{is_claimed, is_of_worker, once_if, turns_of, count-all, count-one_more, count-wider, record_at, Words}
-use Rattle.step_core.specs.Views.{holds, share, times}
-use Rattle.step_core.specs.Worlds.{IsWorld, counters, is_recorded}
-use Rattle.step_core.specs.declared.views.Hand.{Hand}
-use Rattle.step_core.specs.declared.views.Member.{Member}
-use Rattle.step_core.specs.declared.views.SharedRun.{SharedRun}
-use Rattle.step_core.specs.declared.views.View.{View}
+use Rattle.step_core.proofs.Words.{◌≡◌, ◌≢◌, ◌<◌, ◌∙◌, ◌==◌, ℕ, Bool, true, false, List, length, Some, None, refl, ap, inl, inr, arith, nat_lt, cond}
+use Rattle.step_core.proofs.Words.{if◌then◌else◌, count_by, range_with_len, some, get_elem?, cases_eq, eq-eqb, ltb-true, ne_eqb, is_claimed, is_of_worker}
+use Rattle.step_core.proofs.Words.{once_if, turns_of, count-all, count-one_more, count-wider, record_at, Words, holds, share, times, IsWorld, counters}
+use Rattle.step_core.proofs.Words.{is_recorded, Hand, Member, SharedRun, View}
 use Rattle.step_core.proofs.Steps.FinishedTurns.{times-at}
-use Rattle.step_core.proofs.Parts.MarksInHand.{IsInHand-held, once_if-most, once_if-true}
-use Rattle.step_core.proofs.Parts.ViewLists.{sum-one, sum-two, sum-zero}
+use Rattle.step_core.proofs.Parts.MarksInHand.{once_if-most, once_if-true, in_hand, once_if-same}
+use Rattle.step_core.proofs.Parts.ViewLists.{sum-one, sum-two, sum-zero, same-at}
 
 -- fewer than all pass a test that one number fails
 count-missing : (test : ℕ → Bool) (n j : ℕ) → j < n → test j ≡ false → count_by test (range_with_len 0 n) < n
@@ -40,8 +31,7 @@ module _ (run : SharedRun) (words : Words) (views : List View) (id : ℕ) (view 
   -- While a mark is in hand, the next turn is below the number of marks.
   pub turn-below : (hand : Hand) (i : ℕ) (member : Member) → view.hand ≡ Some hand → get_elem? view.crew i ≡ some member → member.turn < length run.marks
   turn-below hand i member held e =
-      let mark = IsInHand-held run words views world.run_is.strips.0 world.numbers id view hand.mark at (ap (holds hand.mark) held
-      ∙ eq-eqb hand.mark hand.mark refl) in
+      let mark = in_hand run words views id view world at hand held in
       let own = world.turns.members id view at i member e in
       omega (arith, own.turn, missing (length run.marks) mark.low (ap (is_of_worker member.worker) mark.absent))
     where
@@ -62,24 +52,16 @@ module _ (run : SharedRun) (words : Words) (views : List View) (id : ℕ) (view 
   module _ (whole : share view ≡ run.workers) (idle : view.hand ≡ None) where
     none_holds : (k i : ℕ) (u : View) → get_elem? views i ≡ some u → once_if (holds k u.hand) ≡ 0
     none_holds k i u e =
-        elim (cases_eq i id) [
-          | inl same ↦ (
-              let is : u ≡ view = some-injective u view (sym e ∙ ap (get_elem? views) same ∙ at) in
-              ap (λ v. once_if (holds k v.hand)) is ∙ ap (λ h. once_if (holds k h)) idle)
+        elim (same-at views i id u view e at) [
+          | inl (same, is) ↦ ap (λ v. once_if (holds k v.hand)) is ∙ ap (λ h. once_if (holds k h)) idle
           | inr apart ↦ ap (λ h. once_if (holds k h)) (others_idle whole i u apart e)
         ]
 
     -- Exactly the marks below the counters are recorded.
     pub is_recorded-whole : (k : ℕ) → is_recorded words k ≡ is_claimed run.strips (counters words) k
     is_recorded-whole k =
-        same_test (is_recorded words k) (is_claimed run.strips (counters words) k)
+        once_if-same (is_recorded words k) (is_claimed run.strips (counters words) k)
         (omega (arith, world.numbers.each_once k, sum-zero (λ u. once_if (holds k u.hand)) views (none_holds k)))
-      where
-        same_test : (a b : Bool) → once_if a ≡ once_if b → a ≡ b
-        same_test true true e = refl
-        same_test false false e = refl
-        same_test true false e = absurd (omega (arith, e))
-        same_test false true e = absurd (omega (arith, e))
 
 -- ---- one hand
 

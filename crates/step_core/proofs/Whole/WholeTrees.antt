@@ -1,18 +1,10 @@
 -- The tree in the words that a view with the whole share sees is that in the words of the run, with parents, costs and records: so it keeps the
 -- order law.
-use Rattle.std.proofs.Common.{◌≡◌, ℕ, zero, suc, ◌+◌, Bool, true, false, List, map, None, refl, sym, ap, ◌∙◌, inl, inr}
-use Rattle.std.specs.Prelude.{◌||◌, ◌==◌, if◌then◌else◌}
-use Rattle.std.specs.List.{range_with_len, list_any}
-use lib.ListN.{get_elem?}
-use mathlib.Core.Option.{some}
-use Rattle.std.proofs.lemmas.Bool.{cases_Bool}
-use Rattle.grown_runs.proofs.Common.{KeepsOrder, IsPresent, point_at, first_cost_of, recorded_or, HaveSameTree, KeepsOrder-lowered, LowersCosts-same, is_linked}
-use Rattle.grown_runs.proofs.Common.{record_at, Words, ChildOf, FirstOf, PointOf, TreeOf, Sizes, cost_in, parent_in, point_of_word}
-use Rattle.step_core.specs.SharedWords.{linked_point, linked_points, state_of_links}
-use Rattle.step_core.specs.Views.{run_sizes, sees, setup_in, share}
-use Rattle.step_core.specs.Worlds.{IsWorld, state_in}
-use Rattle.step_core.specs.declared.views.SharedRun.{SharedRun}
-use Rattle.step_core.specs.declared.views.View.{View}
+use Rattle.step_core.proofs.Words.{◌≡◌, ◌+◌, ◌∙◌, ◌||◌, ◌==◌, ℕ, zero, suc, Bool, true, false, List, map, None, refl, sym, ap, inl, inr, if◌then◌else◌}
+use Rattle.step_core.proofs.Words.{range_with_len, list_any, get_elem?, some, cases_Bool, KeepsOrder, IsPresent, point_at, first_cost_of, recorded_or}
+use Rattle.step_core.proofs.Words.{HaveSameTree, KeepsOrder-lowered, LowersCosts-same, is_linked, record_at, Words, ChildOf, FirstOf, PointOf, TreeOf, Sizes}
+use Rattle.step_core.proofs.Words.{cost_in, parent_in, point_of_word, linked_point, linked_points, state_of_links, run_sizes, sees, setup_in, share, IsWorld}
+use Rattle.step_core.proofs.Words.{state_in, SharedRun, View}
 use Rattle.step_core.proofs.Parts.LinkedStates.{linked-present}
 use Rattle.step_core.proofs.Whole.WholeCopies.{child-whole, records-whole, sees-whole}
 
@@ -26,17 +18,14 @@ module _ (run : SharedRun) (words : Words) (views : List View) (id : ℕ) (view 
 
   -- the same nodes are linked
   is_linked-whole : (n : ℕ) → is_linked sizes (sees view) n ≡ is_linked sizes words n
-  is_linked-whole n =
-      ap (λ f. (n == 0) || list_any f (range_with_len 0 (sizes.marks + 1))) (λ t m. (child m false t == n) || (child m true t == n))
+  is_linked-whole n = ap (λ f. (n == 0) || list_any f (range_with_len 0 (sizes.marks + 1))) (λ t m. (child m false t == n) || (child m true t == n))
 
   -- at the same points
   linked_point-whole : (n : ℕ) → linked_point sizes (sees view) n ≡ linked_point sizes words n
   linked_point-whole n =
-      ap (λ b. if b then point_of_word (sees view (PointOf n)) else None) (is_linked-whole n)
-      ∙ elim (cases_Bool (is_linked sizes words n)) [
+      ap (λ b. if b then point_of_word (sees view (PointOf n)) else None) (is_linked-whole n) ∙ elim (cases_Bool (is_linked sizes words n)) [
         | inl linked ↦
-            ap (λ word. if is_linked sizes words n then point_of_word word else None)
-            (sees-whole run words views id view world at whole (PointOf n) linked)
+            ap (λ word. if is_linked sizes words n then point_of_word word else None) (sees-whole run words views id view world at whole (PointOf n) linked)
         | inr unlinked ↦
             ap (λ b. if b then point_of_word (sees view (PointOf n)) else None) unlinked
             ∙ sym (ap (λ b. if b then point_of_word (words (PointOf n)) else None) unlinked)

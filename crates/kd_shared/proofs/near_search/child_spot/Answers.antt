@@ -9,9 +9,11 @@ use Rattle.kd_shared.proofs.near_search.child_spot.Goals as goal
 pub returns-clause-looks : goal.returns-clause-looks
 returns-clause-looks c =
     let load = PassLooks-load c.args.shared.now c.args.pass.now c.child_or_start.new.pass (ChildOf c.args.spot.node c.args.right) _ _
-    c.requires.belongs tt c.child_or_start.ensures.view c.child_or_start.ensures.goes_on c.child_or_start.ensures.seen c.child_or_start.ensures.whole in
+    c.requires.belongs tt c.child_or_start.ensures.view c.child_or_start.ensures.goes_on c.child_or_start.ensures.seen
+    c.child_or_start.ensures.looked c.child_or_start.ensures.whole in
     let look = PassLooks-load c.args.shared.now c.child_or_start.new.pass c.point_word-word.new.pass (PointOf c.child_within-node.result) _ _
-    load.belongs tt c.point_word-word.ensures.view c.point_word-word.ensures.goes_on c.point_word-word.ensures.seen c.point_word-word.ensures.whole in
+    load.belongs tt c.point_word-word.ensures.view c.point_word-word.ensures.goes_on c.point_word-word.ensures.seen
+    c.point_word-word.ensures.looked c.point_word-word.ensures.whole in
     PassLooks-trans c.args.shared.now c.args.pass.now c.child_or_start.new.pass c.point_word-word.new.pass load look
 
 pub returns-clause-child : goal.returns-clause-child

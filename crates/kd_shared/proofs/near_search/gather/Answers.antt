@@ -3,8 +3,7 @@ use Rattle.std.specs.Prelude.{IsFalse, option_to_list}
 use Rattle.plan_words.proofs.Common.{point_of_spot, PassState, with_lists}
 use Rattle.plan_words.specs.declared.spots.Spot.{Spot}
 use Rattle.grown_runs.proofs.Common.{IsBounded, squared_distance, PointOf}
-use Rattle.kd_shared.specs.Looking.{searched}
-use Rattle.kd_shared.specs.Spots.{Notes, side_distance}
+use Rattle.kd_shared.proofs.Words.{searched, Notes, side_distance}
 use Rattle.kd_shared.proofs.Looking.{LoadsPoint-point, SeesNode-later}
 use Rattle.kd_shared.proofs.NearPasses.{ended_few, ended_gathered, fewer_left, IsGatheringPass-begins, IsGatheringPass-both, LoadsBoth}
 use Rattle.kd_shared.proofs.NearPasses.{noted_seen, room_first, room_last, spot_bounded, taken_both, TakesFirst, with_child}
@@ -17,7 +16,8 @@ pub visits-init : goal.visits-init
 visits-init c =
     let spot : Spot = record { node = 0; by_rows = false; word = c.point_word-start.result } in
     let first = PassLooks-load c.args.shared.now c.args.pass.now c.point_word-start.new.pass (PointOf 0) _ _ c.requires.belongs tt
-    c.point_word-start.ensures.view c.point_word-start.ensures.goes_on c.point_word-start.ensures.seen c.point_word-start.ensures.whole in
+    c.point_word-start.ensures.view c.point_word-start.ensures.goes_on c.point_word-start.ensures.seen
+    c.point_word-start.ensures.looked c.point_word-start.ensures.whole in
     let load = LoadsPoint-point c.args.pass.now.view c.point_word-start.new.pass.view 0 c.point_word-start.ensures.goes_on (point_of_spot spot)
     c.point_word-start.ensures.found c.point_word-start.ensures.seen.others in
     let cleared = c.clear_search.ensures.others ∙ ap (with_lists c.point_word-start.new.pass) c.clear_search.ensures.search in

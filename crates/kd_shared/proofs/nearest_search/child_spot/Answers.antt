@@ -15,9 +15,10 @@ returns-in_default-clause-loads c =
 pub returns-clause-looks : goal.returns-clause-looks
 returns-clause-looks c =
     let load = PassLooks-load c.args.shared.now c.args.pass.now c.child.new.pass (ChildOf c.args.spot.node c.args.right) _ _
-    c.requires.belongs tt c.child.ensures.view c.child.ensures.goes_on c.child.ensures.seen c.child.ensures.whole in
+    c.requires.belongs tt c.child.ensures.view c.child.ensures.goes_on c.child.ensures.seen c.child.ensures.looked c.child.ensures.whole in
     let look = PassLooks-load c.args.shared.now c.child.new.pass c.point_word-word.new.pass (PointOf c.in-Some.node) _ _
-    load.belongs tt c.point_word-word.ensures.view c.point_word-word.ensures.goes_on c.point_word-word.ensures.seen c.point_word-word.ensures.whole in
+    load.belongs tt c.point_word-word.ensures.view c.point_word-word.ensures.goes_on c.point_word-word.ensures.seen
+    c.point_word-word.ensures.looked c.point_word-word.ensures.whole in
     (PassLooks-trans c.args.shared.now c.args.pass.now c.child.new.pass c.point_word-word.new.pass load look).looks
 
 pub returns-clause-loads : goal.returns-clause-loads

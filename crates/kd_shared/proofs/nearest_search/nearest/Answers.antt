@@ -15,7 +15,8 @@ pub visits-init : goal.visits-init
 visits-init c =
     let here : Spot = record { node = 0; by_rows = false; word = c.point_word-start.result } in
     let first = PassLooks-load c.args.shared.now c.args.pass.now c.point_word-start.new.pass (PointOf 0) _ _ c.requires.belongs tt
-    c.point_word-start.ensures.view c.point_word-start.ensures.goes_on c.point_word-start.ensures.seen c.point_word-start.ensures.whole in
+    c.point_word-start.ensures.view c.point_word-start.ensures.goes_on c.point_word-start.ensures.seen
+    c.point_word-start.ensures.looked c.point_word-start.ensures.whole in
     let load = LoadsPoint-point c.args.pass.now.view c.point_word-start.new.pass.view 0 c.point_word-start.ensures.goes_on (point_of_spot here)
     c.point_word-start.ensures.found c.point_word-start.ensures.seen.others in
     let cleared = c.clear_search.ensures.others ∙ ap (with_lists c.point_word-start.new.pass) c.clear_search.ensures.search in

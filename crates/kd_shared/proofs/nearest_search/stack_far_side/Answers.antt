@@ -4,9 +4,7 @@ use Rattle.grown_runs.proofs.Common.{Point, Sight, child_of_word, ChildOf}
 use Rattle.plan_words.specs.States.{PassState}
 use Rattle.plan_words.specs.declared.spots.Spot.{Spot}
 use Rattle.step_core.specs.ViewTrees.{sight_in}
-use Rattle.kd_shared.specs.FarSides.{far_side, line_square, StacksFar}
-use Rattle.kd_shared.specs.Loads.{LoadsChild}
-use Rattle.kd_shared.specs.Looking.{OnlyLooks, PassLooks}
+use Rattle.kd_shared.proofs.Words.{far_side, line_square, StacksFar, LoadsChild, OnlyLooks, PassLooks}
 use Rattle.kd_shared.proofs.Looking.{LoadsChild-child}
 use Rattle.kd_shared.proofs.PassLooks.{PassLooks-load}
 use Rattle.kd_shared.proofs.nearest_search.stack_far_side.Goals as goal
@@ -16,7 +14,7 @@ load : (c : After-put_spot_if) → PassLooks c.args.shared.now c.args.pass.now c
 load c =
     PassLooks-load c.args.shared.now c.args.pass.now c.child_or_start-far.new.pass (ChildOf c.args.here.node (not c.goes_right_of-right.result)) _ _
     c.requires.belongs tt c.child_or_start-far.ensures.view c.child_or_start-far.ensures.goes_on c.child_or_start-far.ensures.seen
-    c.child_or_start-far.ensures.whole
+    c.child_or_start-far.ensures.looked c.child_or_start-far.ensures.whole
 
 pub returns-clause-looks : goal.returns-clause-looks
 returns-clause-looks c =

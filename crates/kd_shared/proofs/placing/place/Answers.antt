@@ -9,7 +9,7 @@ use Rattle.kd_shared.proofs.Finding.{LeadsTo-stop}
 use Rattle.kd_shared.proofs.PassLooks.{PassLooks-load, PassLooks-met}
 use Rattle.kd_shared.proofs.LinkedSights.{IfSome-all, IfSome-free, IfSome-sees_linked}
 use Rattle.kd_shared.proofs.PlacedNodes.{GoesOnPlacing-looks, IfSome-kept, IfSome-leads, IfSome-placed}
-use Rattle.kd_shared.proofs.PlacedNodes.{IfSome-same, PassPlaces, PassPlaces-links, PassPlaces-looks}
+use Rattle.kd_shared.proofs.PlacedNodes.{IfSome-same, IfSome-since, PassPlaces, PassPlaces-links, PassPlaces-looks}
 use Rattle.kd_shared.proofs.placing.place.Goals as goal
 
 -- the walk before has only looked
@@ -21,7 +21,7 @@ pub returns-then-eq-clause-belongs : goal.returns-then-eq-clause-belongs
 returns-then-eq-clause-belongs c = c.depths.invariant.passes.belongs
 
 pub returns-then-eq-clause-goes_on : goal.returns-then-eq-clause-goes_on
-returns-then-eq-clause-goes_on c = GoesOnPlacing-looks c.args.pass.now.view c.depths.pass.view c.depths.invariant.passes.looks.looks
+returns-then-eq-clause-goes_on c = GoesOnPlacing-looks c.args.pass.now.view c.depths.pass.view c.depths.invariant.passes.looks
 
 pub returns-then-eq-clause-share : goal.returns-then-eq-clause-share
 returns-then-eq-clause-share c =
@@ -37,6 +37,9 @@ returns-then-eq-clause-placed c =
     c.hand_point-p.ensures
     (subst (SeesPoint c.depths.pass.view c.depths.stop.node) (same_point-true c.depths.stop.here c.hand_point-p.result (sym c.eq.ensures ∙ c.if-eq.true))
     c.depths.invariant.stops.stands)
+
+pub returns-then-eq-clause-since : goal.returns-then-eq-clause-since
+returns-then-eq-clause-since c = IfSome-all c.args.pass.now.view.hand (λ hand. c.depths.invariant.passes.looks.looked)
 
 pub returns-then-eq-clause-whole : goal.returns-then-eq-clause-whole
 returns-then-eq-clause-whole c = λ all.
@@ -100,6 +103,12 @@ returns-in_default-clause-placed c =
     c.args.pass.now.view.hand c.depths.invariant.passes.looks.kept.hand c.hand_point-p.ensures c.in_default.ensures.linked
     c.in_default.ensures.on_way (leads_there c)
 
+pub returns-in_default-clause-since : goal.returns-in_default-clause-since
+returns-in_default-clause-since c =
+    IfSome-since c.args.pass.now.view c.depths.pass c.link.new.pass c.depths.stop.node c.leads_right.result c.args.pass.now.view.hand
+    c.depths.invariant.passes.looks.looks.goes_on c.depths.invariant.passes.looks.kept.hand c.in_default.ensures.linked c.link.ensures.looked
+    c.in_default.ensures.view
+
 pub returns-in_default-clause-whole : goal.returns-in_default-clause-whole
 returns-in_default-clause-whole c = λ all. IfSome-all c.args.pass.now.view.hand (λ hand free. refl)
 
@@ -116,15 +125,15 @@ pub point-here-requires-clause-belongs : goal.point-here-requires-clause-belongs
 point-here-requires-clause-belongs c =
     (PassLooks-met c.args.shared.now c.depths.pass c.link.new.pass c.depths.stop.node c.leads_right.result c.in-Err.child
     c.depths.invariant.passes.belongs c.depths.invariant.stops.seen c.in-Err.ensures.view_found c.link.ensures.goes_on
-    c.in-Err.ensures.others_found c.in-Err.ensures.whole_found).belongs
+    c.in-Err.ensures.others_found c.link.ensures.looked c.in-Err.ensures.whole_found).belongs
 
 pub depths-preserved : goal.depths-preserved
 depths-preserved c =
     let fails = PassLooks-met c.args.shared.now c.depths.pass c.link.new.pass c.depths.stop.node c.leads_right.result c.in-Err.child
     c.depths.invariant.passes.belongs c.depths.invariant.stops.seen c.in-Err.ensures.view_found c.link.ensures.goes_on
-    c.in-Err.ensures.others_found c.in-Err.ensures.whole_found in
+    c.in-Err.ensures.others_found c.link.ensures.looked c.in-Err.ensures.whole_found in
     let look = PassLooks-load c.args.shared.now c.link.new.pass c.point-here.new.pass (PointOf c.in-Err.child) _ _
-    fails.belongs tt c.point-here.ensures.view c.point-here.ensures.goes_on c.point-here.ensures.seen
+    fails.belongs tt c.point-here.ensures.view c.point-here.ensures.goes_on c.point-here.ensures.seen c.point-here.ensures.looked
     c.point-here.ensures.whole in
     record {
       passes = PassLooks-trans c.args.shared.now c.args.pass.now c.depths.pass c.point-here.new.pass c.depths.invariant.passes

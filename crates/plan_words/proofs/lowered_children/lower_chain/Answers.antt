@@ -2,10 +2,7 @@ use Rattle.std.proofs.Common.{◌≡◌, ◌≢◌, ◌⊎◌, ◌<◌, ℕ, suc
 use Rattle.std.proofs.lemmas.Bool.{ne_eqb}
 use Rattle.std.specs.Prelude.{not, slice_index, slice_set}
 use Rattle.std.proofs.lemmas.List.{get_or_default, length-set}
-use Rattle.plan_words.specs.Parents.{FindsLess}
-use Rattle.plan_words.specs.SeenChains.{sibling_chain_in}
-use Rattle.plan_words.specs.States.{HasFirstPairs}
-use Rattle.plan_words.specs.Waiting.{WaitingState}
+use Rattle.plan_words.proofs.Words.{FindsLess, sibling_chain_in, HasFirstPairs, WaitingState}
 use Rattle.plan_words.proofs.ChildCosts.{IsSeenAbove-kept}
 use Rattle.plan_words.proofs.LoweredChains.{HasFirstPairs-at, IsLowering-ends, IsLowering-start, IsLowering-step, chains-at, child_here, child_low}
 use Rattle.plan_words.proofs.LoweredChains.{child_own, child_seen, found_less, lowered_found, own_now, own_was, parents_found, points_then}
@@ -26,9 +23,10 @@ children-init c =
     let words = c.args.words.now.items in
     record {
       sits = c.requires.sits;
+      held = c.requires.held;
       capacity = refl;
       lowering =
-          IsLowering-start c.args.children.now c.args.above.node c.args.seat.now.me.0 words c.args.waiting.now.nodes c.args.waiting.now.size
+          IsLowering-start c.args.children.now c.args.from.above.node c.args.seat.now.me.0 words c.args.waiting.now.nodes c.args.waiting.now.size
           c.first_child-child.result c.requires.sits.lawful c.requires.pairs
           (c.first_child-child.ensures (length words) (sibling_chain_in words) c.requires.index);
       kept = refl;
@@ -45,7 +43,7 @@ next_sibling-next-requires c =
     let words = c.args.words.now.items in
     let h = c.children.invariant.lowering in
     let some : 0 < c.children.child = omega (arith, c.children-test.true) in (
-      suc c.args.above.node,
+      suc c.args.from.above.node,
       omega arith,
       record {
         nodes = length words;
@@ -65,7 +63,7 @@ first_child-has_child-requires c =
 pub lower_child-requires-clause-above : goal.lower_child-requires-clause-above
 lower_child-requires-clause-above c =
     let h = c.children.invariant.lowering in
-    IsSeenAbove-kept c.args.seat.now.me.0 c.children.seat.me.0 c.args.above h.looks.goes_on h.level c.requires.above
+    IsSeenAbove-kept c.args.seat.now.me.0 c.children.seat.me.0 c.args.from.above h.looks.goes_on h.level c.requires.above
 
 pub lower_child-requires-clause-child : goal.lower_child-requires-clause-child
 lower_child-requires-clause-child c =
@@ -79,7 +77,7 @@ lower_child-requires-clause-seen c =
     c.index-seen.ensures ∙ get_or_default c.children.words.items c.children.child _ 0 (omega (arith, own, h.as_many))
     ∙ child_seen _ _ _ _ _ _ _ _ _ _ h c.requires.index some
 
-here : (c : After-lower_child) → sibling_chain_in c.args.words.now.items c.children.child ≡ suc c.args.above.node
+here : (c : After-lower_child) → sibling_chain_in c.args.words.now.items c.children.child ≡ suc c.args.from.above.node
 here c = child_here _ _ _ _ _ _ _ _ _ _ c.children.invariant.lowering c.requires.index (omega (arith, c.children-test.true))
 
 low : (c : After-lower_child) → c.children.child < length c.args.words.now.items
@@ -115,14 +113,14 @@ pub returns-in-Err-clause-lowered : goal.returns-in-Err-clause-lowered
 returns-in-Err-clause-lowered c =
     let at = (goal.at.returns-in-Err-clause-lowered c).After-lower_child in
     let looks = c.lower_child.ensures.looks in
-    lowered_found c.args.children.now c.args.above.node c.children.child c.args.seat.now.me.0 c.children.seat.me.0 c.lower_child.new.seat.me.0 _ _ _ _ _
+    lowered_found c.args.children.now c.args.from.above.node c.children.child c.args.seat.now.me.0 c.children.seat.me.0 c.lower_child.new.seat.me.0 _ _ _ _ _
     c.children.invariant.lowering c.requires.pairs (here at) looks c.lower_child.ensures.others c.lower_child.ensures.points
     (less at c.in-Err.found c.in-Err.ensures.found.0 c.in-Err.ensures.found.1)
 
 pub returns-in-Err-clause-posted : goal.returns-in-Err-clause-posted
 returns-in-Err-clause-posted c =
     let at = (goal.at.returns-in-Err-clause-posted c).After-lower_child in
-    posted_found c.args.children.now c.args.above.node c.children.child c.args.seat.now.me.0 c.children.seat.me.0 c.lower_child.new.seat.me.0 _ _ _ _ _
+    posted_found c.args.children.now c.args.from.above.node c.children.child c.args.seat.now.me.0 c.children.seat.me.0 c.lower_child.new.seat.me.0 _ _ _ _ _
     c.children.invariant.lowering c.requires.pairs (here at) c.lower_child.ensures.looks c.lower_child.ensures.others c.lower_child.ensures.points
     (less at c.in-Err.found c.in-Err.ensures.found.0 c.in-Err.ensures.found.1)
 
@@ -130,9 +128,9 @@ pub returns-in-Err-clause-found : goal.returns-in-Err-clause-found
 returns-in-Err-clause-found c =
     let at = (goal.at.returns-in-Err-clause-found c).After-lower_child in
     let looks = c.lower_child.ensures.looks in (
-      own_was c.args.children.now c.args.above.node c.children.child c.args.seat.now.me.0 c.children.seat.me.0 c.lower_child.new.seat.me.0 _ _ _ _ _
+      own_was c.args.children.now c.args.from.above.node c.children.child c.args.seat.now.me.0 c.children.seat.me.0 c.lower_child.new.seat.me.0 _ _ _ _ _
           c.children.invariant.lowering c.requires.pairs (here at) looks c.lower_child.ensures.others c.lower_child.ensures.points,
-      found_less c.args.children.now c.args.above.node c.children.child c.args.seat.now.me.0 c.children.seat.me.0 c.lower_child.new.seat.me.0 _ _ _ _ _
+      found_less c.args.children.now c.args.from.above.node c.children.child c.args.seat.now.me.0 c.children.seat.me.0 c.lower_child.new.seat.me.0 _ _ _ _ _
           c.children.invariant.lowering c.requires.pairs (here at) looks c.lower_child.ensures.others c.lower_child.ensures.points
           (less at c.in-Err.found c.in-Err.ensures.found.0 c.in-Err.ensures.found.1),
     )
@@ -141,7 +139,7 @@ pub returns-in-Err-clause-parents : goal.returns-in-Err-clause-parents
 returns-in-Err-clause-parents c =
     let at = (goal.at.returns-in-Err-clause-parents c).After-lower_child in
     let looks = c.lower_child.ensures.looks in
-    parents_found c.args.children.now c.args.above.node c.children.child c.args.seat.now.me.0 c.children.seat.me.0 c.lower_child.new.seat.me.0 _ _ _ _ _
+    parents_found c.args.children.now c.args.from.above.node c.children.child c.args.seat.now.me.0 c.children.seat.me.0 c.lower_child.new.seat.me.0 _ _ _ _ _
     c.children.invariant.lowering c.requires.pairs (here at) looks c.lower_child.ensures.others c.lower_child.ensures.points
     (less at c.in-Err.found c.in-Err.ensures.found.0 c.in-Err.ensures.found.1)
 
@@ -149,7 +147,7 @@ pub returns-in-Err-clause-same : goal.returns-in-Err-clause-same
 returns-in-Err-clause-same c =
     let at = (goal.at.returns-in-Err-clause-same c).After-lower_child in
     let looks = c.lower_child.ensures.looks in
-    same_found c.args.children.now c.args.above.node c.children.child c.args.seat.now.me.0 c.children.seat.me.0 c.lower_child.new.seat.me.0 _ _ _ _ _
+    same_found c.args.children.now c.args.from.above.node c.children.child c.args.seat.now.me.0 c.children.seat.me.0 c.lower_child.new.seat.me.0 _ _ _ _ _
     c.children.invariant.lowering c.requires.pairs (here at) looks c.lower_child.ensures.others c.lower_child.ensures.points
     (less at c.in-Err.found c.in-Err.ensures.found.0 c.in-Err.ensures.found.1)
 
@@ -191,7 +189,7 @@ children-preserved c =
     let word = c.in-Ok.word in
     let looks = c.lower_child.ensures.looks in
     let down = c.write_down.ensures in
-    let own = own_now c.args.children.now c.args.above.node child c.args.seat.now.me.0 now then _ _ _ _ _ h c.requires.pairs (here at) looks
+    let own = own_now c.args.children.now c.args.from.above.node child c.args.seat.now.me.0 now then _ _ _ _ _ h c.requires.pairs (here at) looks
     c.lower_child.ensures.others c.lower_child.ensures.points in
     let was : slice_index c.children.words.items child ≡ sees now (TreeOf child) =
     child_seen _ _ _ _ _ _ _ _ _ _ h c.requires.index (omega (arith, c.children-test.true)) in
@@ -205,12 +203,13 @@ children-preserved c =
     ] in
     let changes : sees then (TreeOf child) ≢ sees now (TreeOf child) → word ≢ slice_index c.children.words.items child = λ changed e.
     changed (sym c.in-Ok.ensures.here ∙ e ∙ was) in
-    let chains = chains-at now then c.children.words.items c.args.above.node child word h.pairs pairs own c.in-Ok.ensures.is.0 in
+    let chains = chains-at now then c.children.words.items c.args.from.above.node child word h.pairs pairs own c.in-Ok.ensures.is.0 in
     record {
       sits = c.lower_child.ensures.sits;
+      held = c.lower_child.ensures.held;
       capacity = c.write_down.ensures.capacity ∙ c.children.invariant.capacity;
       lowering =
-          IsLowering-step c.args.children.now c.args.above.node child c.args.seat.now.me.0 now then _ _ _ _ _ h c.requires.pairs (here at) looks
+          IsLowering-step c.args.children.now c.args.from.above.node child c.args.seat.now.me.0 now then _ _ _ _ _ h c.requires.pairs (here at) looks
           c.lower_child.ensures.others c.lower_child.ensures.points c.next_sibling-next.result c.write_down.new.words.items
           c.write_down.new.waiting.nodes c.next_sibling-next.ensures
           c.in-Ok.ensures.is.0 c.in-Ok.ensures.is.1 falls (subst (HasFirstPairs then) (sym down.words) pairs)
@@ -239,7 +238,7 @@ returns-clause-all c = IsLowering-ends _ _ _ _ _ _ _ _ _ _ c.children.invariant.
 pub returns-in-Err-clause-points : goal.returns-in-Err-clause-points
 returns-in-Err-clause-points c =
     let at = (goal.at.returns-in-Err-clause-points c).After-lower_child in
-    points_then c.args.children.now c.args.above.node c.children.child c.args.seat.now.me.0 c.children.seat.me.0 c.lower_child.new.seat.me.0 _ _ _ _ _
+    points_then c.args.children.now c.args.from.above.node c.children.child c.args.seat.now.me.0 c.children.seat.me.0 c.lower_child.new.seat.me.0 _ _ _ _ _
     c.children.invariant.lowering c.requires.pairs (here at) c.lower_child.ensures.looks c.lower_child.ensures.others c.lower_child.ensures.points
 
 pub returns-clause-lowered : goal.returns-clause-lowered

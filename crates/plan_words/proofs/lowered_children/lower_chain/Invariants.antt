@@ -7,10 +7,12 @@ use Rattle.grown_runs.specs.ChildChains.{siblings_from}
 
 abbrev pub invariant-children : goal.invariant-children
 invariant-children l = record {
-  sits : SitsAt l.shared l.seat.table_id l.seat.me;
+  sits : SitsAt l.from.shared.now l.seat.table_id l.seat.me;
+  held : l.hand ≡ l.seat.me.0.hand;
   capacity : vec_capacity l.words ≡ vec_capacity l.fn.words;
   lowering :
-      IsLowering l.children l.above.node l.fn.seat.me.0 l.seat.me.0 l.fn.words.items l.words.items l.fn.waiting.nodes l.waiting.nodes l.fn.waiting.size l.child;
+      IsLowering l.children l.from.above.node l.fn.seat.me.0 l.seat.me.0 l.fn.words.items l.words.items l.fn.waiting.nodes l.waiting.nodes
+      l.fn.waiting.size l.child;
   kept : l.waiting ≡ record l.fn.waiting { nodes = l.waiting.nodes };
 }
 

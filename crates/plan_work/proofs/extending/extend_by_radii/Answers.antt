@@ -60,7 +60,8 @@ returns g c =
         stored = placed.extended.stored;
         outcome =
             EndsAsSeen-steered before.view done.view c.args.k entry entry.outcome
-            (WasNotSkipped-loaded shared before mid c.args.k c.requires.may loaded some unskipped done.view placed.handled.goes_on)
+            (WasNotSkipped-loaded shared before mid c.args.k c.requires.may loaded some unskipped done.view placed.handled.goes_on
+            placed.handled.best)
             (EndsAsSteered-loaded shared before mid c.args.k c.requires.may loaded some unskipped done.view entry placed.extended.outcome);
       };
       textbook = λ alone book.

@@ -6,7 +6,7 @@ use Rattle.plan_work.proofs.SkippedMarks.{IsUnskipped-kept}
 use Rattle.step_core.proofs.Common.{IsUnskipped, pointed, SeesPoint, sees, setup_in, tree_seen, MayBeRecorded, has_count, has_link}
 use Rattle.step_core.specs.declared.views.View.{View}
 use Rattle.kd_shared.proofs.Looking.{OnlyLooks-refl}
-use Rattle.plan_work.specs.ExtensionSteps.{IsFilledSince, KeepsRecords}
+use Rattle.plan_work.proofs.Words.{IsFilledSince, KeepsRecords, WorksAlone, IsFilledWhole, SeesButCount}
 use Rattle.plan_work.proofs.ExtendedMarks.{HandlesMark-after, HasLooked, HasLooked-looks, IsExtended-blocked, IsExtended-found, IsExtended-written}
 use Rattle.plan_work.proofs.ExtendedMarks.{IsFilledSince-written, IsSteered-found, KeepsRecords-written, MayPlace-written, MayRecord-blocked}
 use Rattle.plan_work.proofs.ExtendedMarks.{MayRecord-found, blocked_here}
@@ -16,8 +16,6 @@ use Rattle.plan_work.proofs.extending.steer_and_place.Given.{Over}
 use Rattle.plan_work.proofs.ExtendedAlone.{AloneNext-blocked, AloneNext-found, IsFilledWhole-written, IsSteeredWhole-written}
 use Rattle.plan_work.proofs.ExtendedAlone.{IsNotSkippedIn-written, SeesTextbook-written, WorksAlone-written}
 use Rattle.plan_work.proofs.WholeLists.{HasCounted-claimed, HasCounted-kept, HasWholeShare-kept, SeesButCount-all, SeesButCount-trans}
-use Rattle.plan_work.specs.OneWorker.{WorksAlone}
-use Rattle.plan_work.specs.WholeShares.{IsFilledWhole, SeesButCount}
 use Rattle.step_core.specs.declared.views.Stage.TheVariants.{Claimed}
 use Rattle.plan_work.proofs.extending.steer_and_place.Goals as goal
 use Rattle.plan_work.proofs.extending.steer_and_place.Goals.{After-find, After-steer_and_test-class, After-write_point}

@@ -10,6 +10,7 @@ returns-clause-linked c = λ before after k entry extended is.
       GoesOn-trans before ended.chosen_at ended.linked_at ended.chosen.since ended.in_turn,
       ended.rewired.until,
       ended.rewired.written,
+      ended.rewired.posted,
     )
 
 pub returns-clause-fallen : goal.returns-clause-fallen

@@ -5,8 +5,7 @@ use Rattle.plan_work.proofs.LoneRuns.{IsOfTextbook-seen}
 use Rattle.plan_work.proofs.RetiredWorkers.{HaveStopped, all_ready, have_stopped-ready, whole_list}
 use Rattle.plan_work.proofs.SharedRuns.{GrowsInto-all, HasHandled-alone, all_may_claim, limit_reached, none_left, one_of, whole_share}
 use Rattle.plan_work.proofs.growing.grow.Goals as goal
-use Rattle.plan_work.specs.OneWorker.{SeesTextbook}
-use Rattle.plan_work.specs.Workers.{HasLeft, HasTakenOver, IsReady, left_of}
+use Rattle.plan_work.proofs.Words.{SeesTextbook, HasLeft, HasTakenOver, IsReady, left_of}
 use Rattle.grown_runs.specs.Runs.GrownRuns.{state_of_grown}
 use Rattle.step_core.specs.LaterViews.{IsLawfulView}
 

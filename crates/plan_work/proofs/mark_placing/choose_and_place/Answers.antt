@@ -5,10 +5,8 @@ use Rattle.plan_work.proofs.KeptRecords.{KeepsRecords-trans}
 use Rattle.plan_work.proofs.TriedMarks.{IsTried-placing, KeepsRecords-placing, reach_of-steered}
 use Rattle.plan_work.proofs.ExtendedAlone.{KeepsOthers-after}
 use Rattle.plan_work.proofs.WholeLists.{HasWholeShare-kept}
-use Rattle.plan_work.specs.WholeShares.{KeepsOthers}
+use Rattle.plan_work.proofs.Words.{KeepsOthers, HasCome, IsHung, IsTried, Hanging}
 use Rattle.plan_work.proofs.mark_placing.choose_and_place.Goals as goal
-use Rattle.plan_work.specs.ExtensionSteps.{HasCome, IsHung, IsTried}
-use Rattle.plan_work.specs.declared.mark_placing.Hanging.{Hanging}
 
 pub choose_and_write-parent-requires-clause-nearest : goal.choose_and_write-parent-requires-clause-nearest
 choose_and_write-parent-requires-clause-nearest g c κs within =

@@ -22,7 +22,7 @@ write_tree-requires-clause-may g c =
     let present = present_still before after goes_on c.args.nearest c.requires.nearest.present in
     let clear = subst (λ q. Clear space q c.args.p) (sym (point_still before after goes_on c.args.nearest c.requires.nearest.present)) c.requires.clear in
     if_held after (λ hand. MayHang after hand c.choose_found-parent.result.0 c.choose_found-parent.result.1) own.hand
-    (c.choose_found-parent.ensures.seen.kept.hand ∙ own.held)
+    (c.choose_found-parent.ensures.seen.held (λ no. no) ∙ own.held)
     (MayHang-chosen space after own.hand c.args.p c.args.nearest c.choose_found-parent.result.0 c.choose_found-parent.result.1
     (numbers_of c.args.pass.now.lists.search.found) own.says
     c.choose_found-parent.ensures.least c.choose_found-parent.ensures.cost present (c.choose_found-parent.ensures.pairs 0 0 (omega arith)) clear
@@ -33,7 +33,7 @@ returns-clause-keeps g c =
     let before = c.args.pass.now in
     let mid = c.choose_found-parent.new.pass in
     let own = holding before.view (λ hand. IsPointed hand c.args.nearest c.args.p) c.requires.hand c.requires.pointed in
-    let held = c.choose_found-parent.ensures.seen.kept.hand ∙ own.held in
+    let held = c.choose_found-parent.ensures.seen.held (λ no. no) ∙ own.held in
     KeepsRecords-trans c.args.shared.now before mid c.write_tree.new.pass
     (KeepsRecords-anew NamesTree c.args.shared.now before mid (λ k no. no) (λ g no. no) c.choose_found-parent.ensures.belongs
     c.choose_found-parent.ensures.seen)
@@ -44,7 +44,7 @@ pub returns-clause-found : goal.returns-clause-found
 returns-clause-found g c =
     let mid = c.choose_found-parent.new.pass in
     let own = holding c.args.pass.now.view (λ hand. IsPointed hand c.args.nearest c.args.p) c.requires.hand c.requires.pointed in
-    let held = c.choose_found-parent.ensures.seen.kept.hand ∙ own.held in
+    let held = c.choose_found-parent.ensures.seen.held (λ no. no) ∙ own.held in
     let written = of_held mid.view _ own.hand held c.write_tree.ensures.view in
     ap (λ (x : PassState). x.lists.search.found) written ∙ ap (λ (x : PassState). x.lists.search.found) c.choose_found-parent.ensures.found_alone
 
@@ -52,7 +52,7 @@ pub returns-clause-count : goal.returns-clause-count
 returns-clause-count g c =
     let mid = c.choose_found-parent.new.pass in
     let own = holding c.args.pass.now.view (λ hand. IsPointed hand c.args.nearest c.args.p) c.requires.hand c.requires.pointed in
-    let held = c.choose_found-parent.ensures.seen.kept.hand ∙ own.held in
+    let held = c.choose_found-parent.ensures.seen.held (λ no. no) ∙ own.held in
     let written = of_held mid.view _ own.hand held c.write_tree.ensures.view in
     ap (λ (x : PassState). sees x.view Count) written ∙ c.choose_found-parent.ensures.seen.others Count (λ no. no)
 
@@ -62,7 +62,7 @@ returns-clause-hung g c =
     let before = c.args.pass.now in
     let mid = c.choose_found-parent.new.pass in
     let own = holding before.view (λ hand. IsPointed hand c.args.nearest c.args.p) c.requires.hand c.requires.pointed in
-    let held = c.choose_found-parent.ensures.seen.kept.hand ∙ own.held in
+    let held = c.choose_found-parent.ensures.seen.held (λ no. no) ∙ own.held in
     let written = of_held mid.view _ own.hand held c.write_tree.ensures.view in
     let run = ap (λ (r : SharedRun). (setup_in r).space) c.choose_found-parent.ensures.belongs.run in
     if_held before.view (λ hand. IsHung before.view.steps c.write_tree.new.pass.view hand c.choose_found-parent.result
@@ -81,7 +81,7 @@ returns-clause-whole g c = λ whole.
     let before = c.args.pass.now in
     let mid = c.choose_found-parent.new.pass in
     let own = holding before.view (λ hand. IsPointed hand c.args.nearest c.args.p) c.requires.hand c.requires.pointed in
-    let held = c.choose_found-parent.ensures.seen.kept.hand ∙ own.held in
+    let held = c.choose_found-parent.ensures.seen.held (λ no. no) ∙ own.held in
     let written = of_held mid.view _ own.hand held c.write_tree.ensures.view in
     let unshown = c.choose_found-parent.ensures.whole whole in (
       λ name. ap (λ (x : PassState). sees x.view name) written ∙ unshown name,

@@ -8,8 +8,8 @@ use Rattle.plan_work.proofs.HeldMarks.{holding, if_held, of_held}
 use Rattle.plan_work.proofs.PostedNodes.{GoesOnPlacing-posted, HasBeenPlaced-posted, KeepsShare-posted, KeepsShare-trans, PostsGoalNode}
 use Rattle.plan_work.proofs.PostedNodes.{same_words, view_alone}
 use Rattle.plan_work.proofs.mark_placing.place_and_post.Goals as goal
-use Rattle.plan_work.specs.ExtensionSteps.{HasCome}
-use Rattle.plan_work.specs.WholeShares.{KeepsOthers}
+use Rattle.plan_work.proofs.mark_placing.place_and_post.Goals.{After-post_goal_node}
+use Rattle.plan_work.proofs.Words.{HasCome, KeepsOthers}
 use Rattle.step_core.specs.declared.views.Member.{Member}
 
 pub post_goal_node-requires-clause-part : goal.post_goal_node-requires-clause-part
@@ -26,38 +26,36 @@ post_goal_node-requires-clause-placed c =
       of_held before (λ hand. hand.point ≡ c.args.p) own.hand own.held c.requires.point,
     )
 
+-- what the post leaves
+posts_there : (c : After-post_goal_node) → PostsGoalNode c.place.new.pass c.post_goal_node.new.pass c.args.p (suc c.args.k)
+posts_there c = record {
+  goes_on = c.post_goal_node.ensures.goes_on;
+  best = c.post_goal_node.ensures.best;
+  in_goal = c.post_goal_node.ensures.in_goal;
+  elsewhere = c.post_goal_node.ensures.elsewhere;
+}
+
 pub returns-in-Placed-clause-goes_on : goal.returns-in-Placed-clause-goes_on
 returns-in-Placed-clause-goes_on c =
     let mid = c.place.new.pass in
     let after = c.post_goal_node.new.pass in
-    let posts : PostsGoalNode mid after c.args.p (suc c.args.k) = record {
-      goes_on = c.post_goal_node.ensures.goes_on;
-      in_goal = c.post_goal_node.ensures.in_goal;
-      elsewhere = c.post_goal_node.ensures.elsewhere;
-    } in
+    let posts = posts_there (goal.at.returns-in-Placed-clause-goes_on c).After-post_goal_node in
     GoesOnPlacing-posted c.args.pass.now.view mid.view after.view c.place.ensures.goes_on c.post_goal_node.ensures.goes_on
+    posts.best
     (same_words mid after c.args.p (suc c.args.k) posts)
 
 pub returns-in-Placed-clause-share : goal.returns-in-Placed-clause-share
 returns-in-Placed-clause-share c =
     let mid = c.place.new.pass in
     let after = c.post_goal_node.new.pass in
-    let posts : PostsGoalNode mid after c.args.p (suc c.args.k) = record {
-      goes_on = c.post_goal_node.ensures.goes_on;
-      in_goal = c.post_goal_node.ensures.in_goal;
-      elsewhere = c.post_goal_node.ensures.elsewhere;
-    } in
+    let posts = posts_there (goal.at.returns-in-Placed-clause-share c).After-post_goal_node in
     KeepsShare-trans c.args.pass.now.view mid.view after.view c.place.ensures.share (KeepsShare-posted mid after c.args.p (suc c.args.k) posts)
 
 pub returns-in-Placed-clause-view_alone : goal.returns-in-Placed-clause-view_alone
 returns-in-Placed-clause-view_alone c =
     let mid = c.place.new.pass in
     let after = c.post_goal_node.new.pass in
-    let posts : PostsGoalNode mid after c.args.p (suc c.args.k) = record {
-      goes_on = c.post_goal_node.ensures.goes_on;
-      in_goal = c.post_goal_node.ensures.in_goal;
-      elsewhere = c.post_goal_node.ensures.elsewhere;
-    } in
+    let posts = posts_there (goal.at.returns-in-Placed-clause-view_alone c).After-post_goal_node in
     view_alone mid after c.args.p (suc c.args.k) posts ∙ ap (λ (q : PassState). with_view q after.view) c.place.ensures.view_alone
 
 pub returns-in-Placed-clause-placed : goal.returns-in-Placed-clause-placed
@@ -65,11 +63,7 @@ returns-in-Placed-clause-placed c =
     let before = c.args.pass.now.view in
     let mid = c.place.new.pass in
     let after = c.post_goal_node.new.pass in
-    let posts : PostsGoalNode mid after c.args.p (suc c.args.k) = record {
-      goes_on = c.post_goal_node.ensures.goes_on;
-      in_goal = c.post_goal_node.ensures.in_goal;
-      elsewhere = c.post_goal_node.ensures.elsewhere;
-    } in
+    let posts = posts_there (goal.at.returns-in-Placed-clause-placed c).After-post_goal_node in
     let own = holding before (λ hand. IsPlacing mid.view hand c.place.result) c.requires.hand c.place.ensures.placed in
     if_held before (λ hand. HasCome after.view hand Placed) own.hand own.held
     (HasBeenPlaced-posted mid after c.args.p (suc c.args.k) posts own.hand (subst (IsPlacing mid.view own.hand) c.in-Placed.is own.says)
@@ -81,11 +75,7 @@ returns-in-Placed-clause-whole c = λ whole.
     let before = c.args.pass.now.view in
     let mid = c.place.new.pass in
     let after = c.post_goal_node.new.pass in
-    let posts : PostsGoalNode mid after c.args.p (suc c.args.k) = record {
-      goes_on = c.post_goal_node.ensures.goes_on;
-      in_goal = c.post_goal_node.ensures.in_goal;
-      elsewhere = c.post_goal_node.ensures.elsewhere;
-    } in
+    let posts = posts_there (goal.at.returns-in-Placed-clause-whole c).After-post_goal_node in
     let own = holding before (λ hand. SeesPlacing before mid.view hand c.place.result) c.requires.hand (c.place.ensures.whole_seen whole) in
     if_held before (λ hand. KeepsOthers before after.view hand.mark Placed) own.hand own.held
     (KeepsOthers-then before mid.view after.view own.hand.mark Placed

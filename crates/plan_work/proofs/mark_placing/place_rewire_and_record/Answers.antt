@@ -1,5 +1,5 @@
-use Rattle.std.proofs.Common.{◌≡◌, suc, true, sym, ap, ◌∙◌, subst}
-use Rattle.std.specs.Prelude.{All, Contains}
+use Rattle.std.proofs.Common.{◌≡◌, suc, true, refl, sym, ap, ◌∙◌, subst}
+use Rattle.std.specs.Prelude.{All, Contains, IsSome}
 use Rattle.grown_runs.proofs.Common.{Record, space_of, FirstOf, near_new}
 use Rattle.plan_work.proofs.HeldMarks.{if_held, of_held}
 use Rattle.plan_work.proofs.KeptRecords.{KeepsRecords-anew, KeepsRecords-trans}
@@ -7,13 +7,12 @@ use Rattle.plan_work.proofs.PlacedMarks.{IsPlacedAt-recorded, MayRecord-placed, 
 use Rattle.plan_work.proofs.RecordedMarks.{HandlesMark-recorded}
 use Rattle.plan_work.proofs.PlacedAlone.{HasPostedGoals-tried, AloneNext-placed, AloneNext-same, Mirrors-tried}
 use Rattle.plan_work.proofs.WholeLists.{HasWholeShare-kept}
-use Rattle.plan_work.specs.WholeShares.{IsFilledWhole, IsTriedWhole}
+use Rattle.plan_work.proofs.Words.{IsFilledWhole, IsTriedWhole, EndsWritten, IsFilledSince, IsTried, hung_by, placed_hand}
 use Rattle.plan_work.proofs.mark_placing.place_rewire_and_record.Goals as goal
-use Rattle.plan_work.specs.ExtensionSteps.{EndsWritten, IsFilledSince, IsTried, hung_by, placed_hand}
 use Rattle.step_core.proofs.Common.{has_count, pair_in_hand, SeesPoint, sees, setup_in, tree_seen}
 use Rattle.tree_rewire.proofs.ChosenParents.{IsInReach-later}
 use Rattle.plan_work.proofs.PlacedHands.{HasPlaced-come}
-use Rattle.plan_work.proofs.SkippedMarks.{HasPostedHand-placed, has_count-placed}
+use Rattle.plan_work.proofs.SkippedMarks.{has_count-placed, held_on}
 use Rattle.tree_rewire.proofs.SeenCosts.{stands_later}
 use Rattle.kd_shared.proofs.SortedNear.{near-increases}
 use Rattle.kd_shared.specs.declared.placing.Placing.TheVariants.{Placed}
@@ -22,7 +21,7 @@ use Rattle.tree_rewire.specs.FoundNodes.{AreOf, IsWeighed}
 use Rattle.tree_rewire.specs.Rewirings.{HasSpreadFalls}
 use Rattle.tree_rewire.proofs.FoundLists.{AreOf-weighed}
 use Rattle.plan_work.proofs.TriedMarks.{AllWeighed-tried, IsRewiredBy, numbers-tried}
-use Rattle.tree_rewire.specs.SeenCosts.{IsInReach, NamesTreeOrPoint, SeesPair}
+use Rattle.tree_rewire.specs.SeenCosts.{IsInReach, NamesLoweredOrPoint, SeesPair}
 
 pub rewire_found-requires-clause-placed : goal.rewire_found-requires-clause-placed
 rewire_found-requires-clause-placed g c κs within =
@@ -34,15 +33,17 @@ rewire_found-requires-clause-placed g c κs within =
     let placed = subst (λ placing. IsTried before after may.hand placing c.choose_and_place-placing.result.1) c.in-Placed.is tried in
     HasPlaced-come after.view c.args.k _ placed.came may.mark
 
-pub rewire_found-requires-clause-posted : goal.rewire_found-requires-clause-posted
-rewire_found-requires-clause-posted g c κs within =
+pub record_placed-requires-clause-hand : goal.record_placed-requires-clause-hand
+record_placed-requires-clause-hand g c =
     let before = c.args.pass.now in
     let after = c.choose_and_place-placing.new.pass in
     let may = c.requires.may in
     let tried = of_held before.view (λ hand. IsTried before after hand c.choose_and_place-placing.result.0 c.choose_and_place-placing.result.1) may.hand
     may.held c.choose_and_place-placing.ensures.tried in
     let placed = subst (λ placing. IsTried before after may.hand placing c.choose_and_place-placing.result.1) c.in-Placed.is tried in
-    HasPostedHand-placed after.view (hung_by may.hand c.choose_and_place-placing.result.1) placed.came.counted
+    subst IsSome
+    (sym (held_on after.view c.rewire_found.new.pass.view (hung_by may.hand c.choose_and_place-placing.result.1) placed.came.counted
+    c.rewire_found.ensures.seen.kept.hand c.rewire_found.ensures.seen.goes_on)) refl
 
 pub record_placed-requires-clause-counted : goal.record_placed-requires-clause-counted
 record_placed-requires-clause-counted g c =
@@ -53,7 +54,9 @@ record_placed-requires-clause-counted g c =
     may.held c.choose_and_place-placing.ensures.tried in
     let placed = subst (λ placing. IsTried before after may.hand placing c.choose_and_place-placing.result.1) c.in-Placed.is tried in
     if_held c.rewire_found.new.pass.view (λ hand. has_count hand.stage ≡ true) _
-    (c.rewire_found.ensures.seen.kept.hand ∙ placed.came.counted) (has_count-placed after.view.run.goals may.hand.point)
+    (held_on after.view c.rewire_found.new.pass.view (hung_by may.hand c.choose_and_place-placing.result.1) placed.came.counted
+    c.rewire_found.ensures.seen.kept.hand c.rewire_found.ensures.seen.goes_on)
+    (has_count-placed after.view.run.goals may.hand.point)
 
 pub rewire_found-requires-clause-near : goal.rewire_found-requires-clause-near
 rewire_found-requires-clause-near g c κs within =
@@ -109,7 +112,8 @@ record_placed-requires-clause-first g c =
     may.held c.choose_and_place-placing.ensures.tried in
     let placed = subst (λ placing. IsTried before after may.hand placing c.choose_and_place-placing.result.1) c.in-Placed.is tried in
     if_held c.rewire_found.new.pass.view (λ hand. sees c.rewire_found.new.pass.view (FirstOf (suc hand.mark)) ≡ pair_in_hand hand) _
-    (c.rewire_found.ensures.seen.kept.hand ∙ placed.came.counted)
+    (held_on after.view c.rewire_found.new.pass.view (hung_by may.hand c.choose_and_place-placing.result.1) placed.came.counted
+    c.rewire_found.ensures.seen.kept.hand c.rewire_found.ensures.seen.goes_on)
     (c.rewire_found.ensures.seen.others (FirstOf (suc may.hand.mark)) (λ no. no) ∙ placed.came.first)
 
 pub record_unplaced-requires-clause-may : goal.record_unplaced-requires-clause-may
@@ -134,9 +138,11 @@ returns-in-Placed-clause-handled g c =
     HandlesMark-recorded c.args.shared.now before c.rewire_found.new.pass c.record_placed.new.pass
     (placed_hand after.view (hung_by may.hand c.choose_and_place-placing.result.1)) c.args.k c.record_placed.result
     (KeepsRecords-trans c.args.shared.now before after c.rewire_found.new.pass c.choose_and_place-placing.ensures.keeps
-    (KeepsRecords-anew NamesTreeOrPoint c.args.shared.now after c.rewire_found.new.pass (λ j no. no) (λ g no. no) c.rewire_found.ensures.belongs
+    (KeepsRecords-anew NamesLoweredOrPoint c.args.shared.now after c.rewire_found.new.pass (λ j no. no) (λ g no. no) c.rewire_found.ensures.belongs
     c.rewire_found.ensures.seen))
-    c.record_placed.ensures.recorded (c.rewire_found.ensures.seen.kept.hand ∙ placed.came.counted) may.mark
+    c.record_placed.ensures.recorded
+    (held_on after.view c.rewire_found.new.pass.view (hung_by may.hand c.choose_and_place-placing.result.1) placed.came.counted
+    c.rewire_found.ensures.seen.kept.hand c.rewire_found.ensures.seen.goes_on) may.mark
 
 pub returns-in-Placed-clause-ended : goal.returns-in-Placed-clause-ended
 returns-in-Placed-clause-ended g c = λ first filled.

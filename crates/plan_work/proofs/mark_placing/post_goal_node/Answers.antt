@@ -1,8 +1,8 @@
-use Rattle.std.proofs.Common.{◌≡◌, ◌+◌, ◌^◌, ◌≤◌, suc, ap, ◌∙◌, subst, sym, arith}
+use Rattle.std.proofs.Common.{◌≡◌, ◌+◌, ◌^◌, ◌≤◌, suc, inl, inr, refl, ap, ◌∙◌, subst, sym, arith}
 use Rattle.grown_runs.proofs.Common.{lies_in_goals, TreeOf, best_word, cost_in}
 use Rattle.plan_words.proofs.Common.{BelongsTo-later, goal-at, PassState, with_view}
 use Rattle.plan_work.proofs.mark_placing.post_goal_node.Goals as goal
-use Rattle.step_core.proofs.Common.{MayPost, hand_with_post, with_best, SeesPoint, sees}
+use Rattle.step_core.proofs.Common.{MayPost, last_note, with_post, SeesPoint, sees}
 use Rattle.step_core.specs.declared.views.SharedRun.{SharedRun}
 
 pub post-requires-clause-may : goal.post-requires-clause-may
@@ -28,13 +28,19 @@ returns-then-has_goal_at-clause-belongs c =
     BelongsTo-later c.args.shared.now c.args.pass.now c.post.new.pass (ap (λ (q : PassState). q.table) c.post.ensures.view) c.post.ensures.goes_on
     c.requires.belongs
 
+pub returns-then-has_goal_at-clause-best : goal.returns-then-has_goal_at-clause-best
+returns-then-has_goal_at-clause-best c = inr (omega (arith, c.post.ensures.looked.here))
+
+pub returns-else-has_goal_at-clause-best : goal.returns-else-has_goal_at-clause-best
+returns-else-has_goal_at-clause-best c = inl refl
+
 pub returns-then-has_goal_at-clause-in_goal : goal.returns-then-has_goal_at-clause-in_goal
 returns-then-has_goal_at-clause-in_goal c = λ lies.
     let before = c.args.pass.now in
     let after = c.post.new.pass in
     let one : c.args.k + 1 ≡ suc c.args.k = omega arith in
     subst
-    (λ n. (after ≡ with_view before (with_best before.view after.view.best (hand_with_post before.view.hand n)))
+    (λ n. (after ≡ with_view before (with_post before.view n after.view.best (last_note after.view)))
     × (after.view.best ≤ best_word (cost_in (sees before.view (TreeOf n))) n))
     one (c.post.ensures.view, c.post.ensures.posted)
 

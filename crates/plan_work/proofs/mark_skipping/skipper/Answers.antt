@@ -1,10 +1,12 @@
-use Rattle.std.proofs.Common.{length, refl, sym, ap, ◌∙◌, subst, arith}
+use Rattle.std.proofs.Common.{◌≡◌, true, length, refl, sym, ap, ◌∙◌, subst, arith}
 use Rattle.grown_runs.proofs.Common.{IsBounded, mark_at, Task}
 use Rattle.plan_words.proofs.GoingOn.{GoesOn-refl}
 use Rattle.plan_work.proofs.HeldMarks.{mark_low}
 use Rattle.plan_work.proofs.SkippingMarks.{IsUnskipped-above, IsUnskipped-none, IsUnskipped-plain, KeepsRecords-loaded, KeepsRecords-refl}
 use Rattle.plan_work.proofs.SkippingMarks.{FindsGoalNode-found, MayBeSkipped-loaded, MayExtend-loaded, informed_here}
 use Rattle.plan_work.proofs.mark_skipping.skipper.Goals as goal
+use Rattle.plan_work.proofs.mark_skipping.skipper.Goals.{After-best}
+use Rattle.plan_work.specs.ExtensionSteps.{HasLoadedBest}
 use Rattle.step_core.specs.declared.views.SharedRun.{SharedRun}
 
 pub best-requires-clause-informed : goal.best-requires-clause-informed
@@ -41,6 +43,17 @@ returns-then-not-task-clause-unskipped c =
     IsUnskipped-plain c.args.shared.now c.args.pass.now c.requires.belongs c.requires.hand
     (ap (λ (t : Task). t.scene.informed) (sym c.task.ensures) ∙ c.if-not-task.true)
 
+-- ---- the best was loaded
+
+loaded_there : (c : After-best) → c.args.shared.now.task.scene.informed ≡ true → HasLoadedBest c.args.shared.now c.args.pass.now c.best.new.pass
+loaded_there c informed = record {
+  keeps =
+      KeepsRecords-loaded c.args.shared.now c.args.pass.now c.best.new.pass c.args.k c.best.new.pass.view.best c.requires c.best.ensures.view
+      c.best.ensures.goes_on c.best.ensures.looked;
+  informed = λ e. c.best.ensures.view;
+  plain = λ e. absurd (let no = sym e ∙ informed in cc);
+}
+
 -- ---- no goal node is known
 
 pub returns-in_default-clause-may : goal.returns-in_default-clause-may
@@ -50,14 +63,8 @@ returns-in_default-clause-may c =
 
 pub returns-in_default-clause-loaded : goal.returns-in_default-clause-loaded
 returns-in_default-clause-loaded c =
-    let informed = ap (λ (t : Task). t.scene.informed) (sym c.task.ensures) ∙ c.if-not-task.false in
-    record {
-      keeps =
-          KeepsRecords-loaded c.args.shared.now c.args.pass.now c.best.new.pass c.args.k c.best.new.pass.view.best c.requires c.best.ensures.view
-          c.best.ensures.goes_on;
-      informed = λ e. c.best.ensures.view;
-      plain = λ e. absurd (let no = sym e ∙ informed in cc);
-    }
+    loaded_there (goal.at.returns-in_default-clause-loaded c).After-best
+    (ap (λ (t : Task). t.scene.informed) (sym c.task.ensures) ∙ c.if-not-task.false)
 
 pub returns-in_default-clause-unskipped : goal.returns-in_default-clause-unskipped
 returns-in_default-clause-unskipped c =
@@ -74,14 +81,8 @@ returns-then-cost-mark_bound-clause-may c =
 
 pub returns-then-cost-mark_bound-clause-loaded : goal.returns-then-cost-mark_bound-clause-loaded
 returns-then-cost-mark_bound-clause-loaded c =
-    let informed = ap (λ (t : Task). t.scene.informed) (sym c.task.ensures) ∙ c.if-not-task.false in
-    record {
-      keeps =
-          KeepsRecords-loaded c.args.shared.now c.args.pass.now c.best.new.pass c.args.k c.best.new.pass.view.best c.requires c.best.ensures.view
-          c.best.ensures.goes_on;
-      informed = λ e. c.best.ensures.view;
-      plain = λ e. absurd (let no = sym e ∙ informed in cc);
-    }
+    loaded_there (goal.at.returns-then-cost-mark_bound-clause-loaded c).After-best
+    (ap (λ (t : Task). t.scene.informed) (sym c.task.ensures) ∙ c.if-not-task.false)
 
 pub returns-then-cost-mark_bound-clause-informed : goal.returns-then-cost-mark_bound-clause-informed
 returns-then-cost-mark_bound-clause-informed c = ap (λ (t : Task). t.scene.informed) (sym c.task.ensures) ∙ c.if-not-task.false
@@ -104,14 +105,8 @@ returns-else-cost-mark_bound-clause-may c =
 
 pub returns-else-cost-mark_bound-clause-loaded : goal.returns-else-cost-mark_bound-clause-loaded
 returns-else-cost-mark_bound-clause-loaded c =
-    let informed = ap (λ (t : Task). t.scene.informed) (sym c.task.ensures) ∙ c.if-not-task.false in
-    record {
-      keeps =
-          KeepsRecords-loaded c.args.shared.now c.args.pass.now c.best.new.pass c.args.k c.best.new.pass.view.best c.requires c.best.ensures.view
-          c.best.ensures.goes_on;
-      informed = λ e. c.best.ensures.view;
-      plain = λ e. absurd (let no = sym e ∙ informed in cc);
-    }
+    loaded_there (goal.at.returns-else-cost-mark_bound-clause-loaded c).After-best
+    (ap (λ (t : Task). t.scene.informed) (sym c.task.ensures) ∙ c.if-not-task.false)
 
 pub returns-else-cost-mark_bound-clause-unskipped : goal.returns-else-cost-mark_bound-clause-unskipped
 returns-else-cost-mark_bound-clause-unskipped c =

@@ -5,9 +5,8 @@ use Rattle.plan_work.proofs.FilledNear.{HasFilledNear-begun, own_count-some}
 use Rattle.plan_work.proofs.KeptRecords.{KeepsRecords-number, KeepsRecords-trans}
 use Rattle.plan_work.proofs.TriedMarks.{HasFilledNear-recounted}
 use Rattle.plan_work.proofs.WholeLists.{HasCounted-kept, HasWholeShare-kept, IsFilledWhole-still, SeesButCount-trans}
-use Rattle.plan_work.specs.WholeShares.{IsFilledWhole, SeesButCount}
+use Rattle.plan_work.proofs.Words.{IsFilledWhole, SeesButCount, HasFilledNear}
 use Rattle.plan_work.proofs.mark_steering.renew_near.Goals as goal
-use Rattle.plan_work.specs.ExtensionSteps.{HasFilledNear}
 
 pub class-class-requires : goal.class-class-requires
 class-class-requires c =

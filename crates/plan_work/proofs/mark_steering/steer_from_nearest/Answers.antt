@@ -25,7 +25,8 @@ nearest-nearest-requires-clause-bounded c =
 pub returns-clause-looks : goal.returns-clause-looks
 returns-clause-looks c =
     let load = PassLooks-load c.args.shared.now c.nearest-nearest.new.pass c.point-from.new.pass (PointOf c.nearest-nearest.result) _ _
-    c.nearest-nearest.ensures.belongs tt c.point-from.ensures.view c.point-from.ensures.goes_on c.point-from.ensures.seen c.point-from.ensures.whole in
+    c.nearest-nearest.ensures.belongs tt c.point-from.ensures.view c.point-from.ensures.goes_on c.point-from.ensures.seen c.point-from.ensures.looked
+    c.point-from.ensures.whole in
     OnlyLooks-trans c.args.pass.now.view c.nearest-nearest.new.pass.view c.point-from.new.pass.view c.nearest-nearest.ensures.looks load.looks
 
 pub returns-clause-steered : goal.returns-clause-steered
@@ -53,5 +54,5 @@ pub returns-clause-whole : goal.returns-clause-whole
 returns-clause-whole c = λ whole name.
     let steps = PassSees-point c.args.shared.now c.nearest-nearest.new.pass c.point-from.new.pass c.nearest-nearest.result _ _
     c.nearest-nearest.ensures.belongs c.nearest-nearest.ensures.nearest.nearest.member c.point-from.ensures.view c.point-from.ensures.goes_on
-    c.point-from.ensures.seen in
+    c.point-from.ensures.seen c.point-from.ensures.looked in
     steps.sees_anew.others name (λ no. no) ∙ c.nearest-nearest.ensures.looks.whole whole name

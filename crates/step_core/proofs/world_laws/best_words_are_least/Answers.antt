@@ -18,3 +18,6 @@ returns-clause-pair c = λ run words views world. world.best.pair
 
 pub returns-clause-seen : goal.returns-clause-seen
 returns-clause-seen c = λ now is. (is.world.bests now.id now.view is.at is.own).falls
+
+pub returns-clause-goal : goal.returns-clause-goal
+returns-clause-goal c = λ now is some_pair. ((is.world.bests now.id now.view is.at is.own).pair some_pair).0

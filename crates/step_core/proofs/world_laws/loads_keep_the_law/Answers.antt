@@ -7,12 +7,10 @@ use Rattle.step_core.specs.Steps.{Step}
 use Rattle.step_core.proofs.world_laws.loads_keep_the_law.Goals as goal
 
 pub returns-clause-law : goal.returns-clause-law
-returns-clause-law c =
-    λ now is name may. IsWorld-stepped now is (Step.Load name) now.words (record { may = may; leaves = refl })
+returns-clause-law c = λ now is name may. IsWorld-stepped now is (Step.Load name) now.words (record { may = may; leaves = refl })
 
 pub returns-clause-seen : goal.returns-clause-seen
-returns-clause-seen c =
-    λ now is name may. AreBehind-loaded now.run now.words now.views now.id now.view is.world is.at is.own name may
+returns-clause-seen c = λ now is name may. AreBehind-loaded now.run now.words now.views now.id now.view is.world is.at is.own name may
 
 pub returns-clause-written : goal.returns-clause-written
 returns-clause-written c =
@@ -21,5 +19,4 @@ returns-clause-written c =
     (follow now.run now.words now.views now.id now.view is.world is.at is.own)
 
 pub returns-clause-written_trees : goal.returns-clause-written_trees
-returns-clause-written_trees c =
-    λ now is. IsSome-seen_tree now.run now.words now.views now.id now.view is.world is.at is.own
+returns-clause-written_trees c = λ now is. IsSome-seen_tree now.run now.words now.views now.id now.view is.world is.at is.own

@@ -1,5 +1,5 @@
-use Rattle.step_core.proofs.Steps.FinishedMarks.{in_hand}
 use Rattle.step_core.proofs.Whole.WholeShares.{one_hand}
+use Rattle.step_core.proofs.Parts.MarksInHand.{in_hand}
 use Rattle.step_core.proofs.world_laws.marks_in_hand_are_in_one_hand.Goals as goal
 
 pub returns-clause-no_record : goal.returns-clause-no_record

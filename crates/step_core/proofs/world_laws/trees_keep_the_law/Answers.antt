@@ -8,5 +8,4 @@ returns-clause-first c =
     IsWorld-stepped now is (Step.WriteFirst hand parent cost) after (record { may = (holds, hangs); leaves = writes })
 
 pub returns-clause-tree : goal.returns-clause-tree
-returns-clause-tree c =
-    λ now is hand holds after writes. IsWorld-stepped now is (Step.WriteTree hand) after (record { may = holds; leaves = writes })
+returns-clause-tree c = λ now is hand holds after writes. IsWorld-stepped now is (Step.WriteTree hand) after (record { may = holds; leaves = writes })

@@ -2,12 +2,10 @@ use Rattle.step_core.proofs.Whole.FoundEmpty.{IsFree-found, IsFree-since, LeadsT
 use Rattle.step_core.proofs.world_laws.what_was_found_empty_was_empty.Goals as goal
 
 pub returns-clause-before : goal.returns-clause-before
-returns-clause-before c =
-    λ now is after then next later. empty-before now.run now.words after now.views now.id now.view then is.world is.at next later is.own
+returns-clause-before c = λ now is after then next later. empty-before now.run now.words after now.views now.id now.view then is.world is.at next later is.own
 
 pub returns-clause-after : goal.returns-clause-after
-returns-clause-after c =
-    λ now is after then next. empty-after now.run now.words after now.views now.id now.view then is.world is.at next is.own
+returns-clause-after c = λ now is after then next. empty-after now.run now.words after now.views now.id now.view then is.world is.at next is.own
 
 pub returns-clause-stale : goal.returns-clause-stale
 returns-clause-stale c = λ now is. filled-not_found now.run now.words now.views now.id now.view is.world is.at is.own

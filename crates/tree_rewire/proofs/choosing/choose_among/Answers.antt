@@ -4,9 +4,8 @@ use Rattle.grown_runs.proofs.Common.{IsFirstLeast, IsOpenTo, Clear, point_of, Co
 use Rattle.plan_words.proofs.Common.{GoesOn-trans, PassState, with_lists, with_view}
 use Rattle.step_core.proofs.Common.{tree_seen, IsPresent-later}
 use Rattle.swept_check.proofs.BoundedSegments.{IsBounded-clear_in_scene}
-use Rattle.tree_rewire.specs.NearNodes.{AreKnown, IsClearTo, StandOn, nodes_on, weighed_on}
-use Rattle.tree_rewire.specs.SeenCosts.{IsInReach, NamesNothing, NamesTree, SeesAnew, SeesPair, seen_cost_through}
-use Rattle.tree_rewire.specs.Spreads.{SeesKnot}
+use Rattle.tree_rewire.proofs.Words.{AreKnown, IsClearTo, StandOn, nodes_on, weighed_on, IsInReach, NamesNothing, NamesTree, SeesAnew, SeesPair}
+use Rattle.tree_rewire.proofs.Words.{seen_cost_through, SeesKnot}
 use Rattle.tree_rewire.proofs.ChosenParents.{All-present, IsCostBelow-best, points_later}
 use Rattle.tree_rewire.proofs.CostSteps.{SeesAnew-more, SeesAnew-trans}
 use Rattle.tree_rewire.proofs.NearLists.{AreKnown-weighed, StandOn-later, nodes_on-then}

@@ -5,10 +5,9 @@ use Rattle.std.proofs.lemmas.List.Elements.{All-cons, All-nil}
 use Rattle.grown_runs.proofs.Common.{IsPresent, TreeOf}
 use Rattle.plan_words.specs.States.{PassState}
 use Rattle.step_core.proofs.Common.{SeesNode, tree_seen, IsPresent-later}
-use Rattle.tree_rewire.specs.NearNodes.{nodes_on}
-use Rattle.tree_rewire.specs.SeenCosts.{IsLoadedSince, NamesTree, SeesPair}
+use Rattle.tree_rewire.proofs.Words.{nodes_on, IsLoadedSince, NamesTree, SeesPair}
 use Rattle.tree_rewire.proofs.ChosenParents.{All-more, All-read, take_read}
-use Rattle.tree_rewire.proofs.CostSteps.{IsLoadedSince-tree, PassSees-trans, PassSees-tree}
+use Rattle.tree_rewire.proofs.CostSteps.{PassSees-trans, PassSees-tree}
 use Rattle.tree_rewire.proofs.SeenCosts.{IsLoadedSince-later, SeesNode-present, SeesPair-later}
 use Rattle.tree_rewire.proofs.WholeShares.{HasWholeShare-later, SeesAsBefore-loaded, SeesAsBefore-trans}
 use Rattle.tree_rewire.proofs.choosing.load_costs.Goals as goal
@@ -19,10 +18,9 @@ loads-init c =
     let load = c.tree-pair.ensures in
     let new = c.tree-pair.new.pass in
     record {
-      steps = PassSees-tree c.args.shared.now c.args.pass.now new c.args.nearest _ _ c.requires.belongs load.view load.goes_on load.seen;
+      steps = PassSees-tree c.args.shared.now c.args.pass.now new c.args.nearest _ _ c.requires.belongs load.view load.goes_on load.seen load.looked;
       first = load.found.written;
-      first_loaded = IsLoadedSince-tree c.args.pass.now new c.args.nearest _ c.requires.belongs.lawful
-          (SeesNode-present c.args.pass.now.view c.args.nearest c.requires.belongs.lawful c.requires.nearest) load.view;
+      first_loaded = omega (arith, load.looked.here);
       earlier = All-nil (SeesPair new.view);
       earlier_loaded = All-nil (IsLoadedSince c.args.pass.now.view.steps new.view);
       whole = λ all. SeesAsBefore-loaded c.args.pass.now.view new.view (TreeOf c.args.nearest) _ load.seen (load.whole all);
@@ -52,8 +50,7 @@ loads-preserved c =
     let load = c.tree-pair-in-loads.ensures in
     let then = c.tree-pair-in-loads.new.pass in
     let later = steps.sees_anew.goes_on.later in
-    let loaded = IsLoadedSince-tree c.loads.pass then n _ steps.sees_anew.goes_on.lawful (node here) load.view in
-    let step = PassSees-tree c.args.shared.now c.loads.pass then n _ _ steps.belongs load.view load.goes_on load.seen in
+    let step = PassSees-tree c.args.shared.now c.loads.pass then n _ _ steps.belongs load.view load.goes_on load.seen load.looked in
     let near = nodes_on c.args.among before.lists in
     let one_more = take_read near near c.loads.index n refl (read here) in
     record {
@@ -65,7 +62,7 @@ loads-preserved c =
           (λ k d below. SeesPair-later c.loads.pass.view then.view load.goes_on _ (c.loads.invariant.earlier k d below)) load.found.written;
       earlier_loaded = All-more (IsLoadedSince before.view.steps then.view) (take c.loads.index near) _ n one_more
           (λ k d below. IsLoadedSince-later c.loads.pass.view then.view load.goes_on before.view.steps _ later.steps
-          (c.loads.invariant.earlier_loaded k d below)) (omega (arith, loaded, later.steps));
+          (c.loads.invariant.earlier_loaded k d below)) (omega (arith, load.looked.here, later.steps));
       whole = λ all.
           SeesAsBefore-trans before.view c.loads.pass.view then.view (c.loads.invariant.whole all)
           (SeesAsBefore-loaded c.loads.pass.view then.view (TreeOf n) _ load.seen

@@ -1,7 +1,6 @@
 use Rattle.std.proofs.Common.{All, take}
 use Rattle.plan_words.proofs.Common.{SeesAsBefore, HasWholeShare}
-use Rattle.tree_rewire.specs.NearNodes.{nodes_on}
-use Rattle.tree_rewire.specs.SeenCosts.{IsLoadedSince, NamesTree, PassSees, SeesPair}
+use Rattle.tree_rewire.proofs.Words.{nodes_on, IsLoadedSince, NamesTree, PassSees, SeesPair}
 use Rattle.tree_rewire.proofs.choosing.load_costs.Given as goal
 
 abbrev pub invariant-loads : goal.invariant-loads

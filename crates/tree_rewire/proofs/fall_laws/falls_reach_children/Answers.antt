@@ -1,8 +1,7 @@
 use Rattle.std.proofs.Common.{◌≤◌, inl, inr, subst, sym}
 use Rattle.plan_model.specs.Trees.PointsByNumber.{point_of}
 use Rattle.step_core.specs.Views.{tree_seen}
-use Rattle.tree_rewire.specs.Rewirings.{CostsLess}
-use Rattle.tree_rewire.specs.SeenCosts.{SeesPair, cost_seen, seen_cost_through}
+use Rattle.tree_rewire.proofs.Words.{CostsLess, SeesPair, cost_seen, seen_cost_through}
 use Rattle.tree_rewire.proofs.fall_laws.falls_reach_children.Goals as goal
 
 pub returns-clause-fallen : goal.returns-clause-fallen

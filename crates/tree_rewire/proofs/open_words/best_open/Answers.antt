@@ -2,8 +2,7 @@ use Rattle.std.proofs.Common.{◌∷◌, List, ℕ, ap, subst, sym, ◌∙◌}
 use Rattle.grown_runs.proofs.Common.{IsFirstLeast, IsOpenTo, parent_in, tree_word}
 use Rattle.plan_words.specs.States.{PassState}
 use Rattle.step_core.proofs.Common.{IsPresent-later, tree_seen}
-use Rattle.tree_rewire.specs.NearNodes.{AreKnown, nodes_on}
-use Rattle.tree_rewire.specs.SeenCosts.{NamesNothing, seen_cost_through}
+use Rattle.tree_rewire.proofs.Words.{AreKnown, nodes_on, NamesNothing, seen_cost_through}
 use Rattle.tree_rewire.proofs.ChosenFound.{IsChosenWord, IsChosenWord-least}
 use Rattle.tree_rewire.proofs.ChosenParents.{IsFirstLeast-after, clear_after}
 use Rattle.tree_rewire.proofs.CostSteps.{PassSees-trans, seen_cost_through-same}

@@ -34,6 +34,7 @@ pub returns-clause-steps : goal.returns-clause-steps
 returns-clause-steps g c =
     PassSees-point c.args.shared.now c.args.pass.now c.point-from.new.pass c.pair_in.result.0 _ _ c.requires.belongs
     (stands g (goal.at.returns-clause-steps g c).After-pair_in) c.point-from.ensures.view c.point-from.ensures.goes_on c.point-from.ensures.seen
+    c.point-from.ensures.looked
 
 -- the edge is from where the node is seen
 from_is : (g : Over) (c : After-point-from g)

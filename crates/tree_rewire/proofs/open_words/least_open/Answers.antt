@@ -7,8 +7,7 @@ use Rattle.tree_rewire.proofs.ChosenFound.{IsWordOf-next, blocked-first, blocked
 use Rattle.tree_rewire.proofs.ChosenParents.{clear_after, clear_before}
 use Rattle.tree_rewire.proofs.CostSteps.{PassSees-trans}
 use Rattle.tree_rewire.proofs.NearLists.{AllKnots-known, AreKnown-later}
-use Rattle.tree_rewire.specs.NearNodes.{AreKnown, IsClearTo, IsNextWord, nodes_on, word_through}
-use Rattle.tree_rewire.specs.SeenCosts.{NamesNothing, PassSees}
+use Rattle.tree_rewire.proofs.Words.{AreKnown, IsClearTo, IsNextWord, nodes_on, word_through, NamesNothing, PassSees}
 use Rattle.tree_rewire.proofs.open_words.least_open.Given.{Over}
 use Rattle.tree_rewire.proofs.open_words.least_open.Goals as goal
 use Rattle.tree_rewire.proofs.open_words.least_open.Goals.{After-is_blocked}

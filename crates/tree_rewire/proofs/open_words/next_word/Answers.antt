@@ -7,10 +7,8 @@ use Rattle.tree_rewire.proofs.ChosenFound.{IsNextWord-more, IsNextWord-none, edg
 use Rattle.tree_rewire.proofs.ChosenParents.{All-read}
 use Rattle.tree_rewire.proofs.CostSteps.{PassSees-refl, PassSees-trans, seen_cost_through-same}
 use Rattle.tree_rewire.proofs.NearLists.{AllKnots-known, AreKnown-later}
-use Rattle.tree_rewire.specs.NearNodes.{AreKnown, IsNextOf, IsNextWord, nodes_on, word_through}
+use Rattle.tree_rewire.proofs.Words.{AreKnown, IsNextOf, IsNextWord, nodes_on, word_through, NamesNothing, SeesPair, seen_cost_through, SeesKnot}
 use Rattle.tree_rewire.proofs.SeenCosts.{SeesPair-later}
-use Rattle.tree_rewire.specs.SeenCosts.{NamesNothing, SeesPair, seen_cost_through}
-use Rattle.tree_rewire.specs.Spreads.{SeesKnot}
 use Rattle.tree_rewire.proofs.open_words.next_word.Goals as goal
 use Rattle.tree_rewire.proofs.open_words.next_word.Goals.{After-weighed-node}
 

@@ -1,6 +1,5 @@
 use Rattle.std.proofs.Common.{map, take}
-use Rattle.tree_rewire.specs.NearNodes.{IsNextWord, nodes_on, word_through}
-use Rattle.tree_rewire.specs.SeenCosts.{NamesNothing, PassSees}
+use Rattle.tree_rewire.proofs.Words.{IsNextWord, nodes_on, word_through, NamesNothing, PassSees}
 use Rattle.tree_rewire.proofs.open_words.next_word.Given as goal
 
 -- the next word so far is that among the earlier nodes

@@ -19,7 +19,7 @@ pack_tree-requires-clause-cost c =
 pub returns-clause-steps : goal.returns-clause-steps
 returns-clause-steps c =
     PassSees-point c.args.shared.now c.args.pass.now c.point-from.new.pass c.args.node _ _ c.requires.belongs c.requires.node.stands
-    c.point-from.ensures.view c.point-from.ensures.goes_on c.point-from.ensures.seen
+    c.point-from.ensures.view c.point-from.ensures.goes_on c.point-from.ensures.seen c.point-from.ensures.looked
 
 pub returns-clause-word : goal.returns-clause-word
 returns-clause-word c =

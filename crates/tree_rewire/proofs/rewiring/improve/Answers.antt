@@ -1,8 +1,8 @@
 use Rattle.std.proofs.Common.{◌≡◌, ◌+◌, ◌<◌, ◌≤◌, ◌^◌, ℕ, ap, arith, inl, inr, refl, subst, sym, ◌∙◌}
 use Rattle.grown_runs.proofs.Common.{cost_of, IsAllowedEdge, TreeOf, cost_in, tree_word}
 use Rattle.step_core.specs.Views.{sees, setup_in}
-use Rattle.tree_rewire.specs.SeenCosts.{NamesTree, cost_seen}
-use Rattle.tree_rewire.proofs.CostSteps.{HasPostedHand-later, PassSees-lower, PassSees-refl, PassSees-trans}
+use Rattle.tree_rewire.specs.SeenCosts.{NamesLowered, cost_seen}
+use Rattle.tree_rewire.proofs.CostSteps.{PassSees-lower, PassSees-refl, PassSees-trans}
 use Rattle.tree_rewire.proofs.LoweredCosts.{MayLower-less}
 use Rattle.tree_rewire.proofs.PostedFalls.{HasPostedGoals-lower}
 use Rattle.tree_rewire.proofs.SeenCosts.{SeesPair-later, pair_low, stands_later}
@@ -15,7 +15,7 @@ put_cost parent cost small = omega (arith, small)
 
 pub lowers-init : goal.lowers-init
 lowers-init c = record {
-  steps = PassSees-refl NamesTree c.args.shared.now c.args.pass.now c.requires.belongs;
+  steps = PassSees-refl NamesLowered c.args.shared.now c.args.pass.now c.requires.belongs;
   others = λ m apart. refl;
   pair = c.requires.pair;
   goals = λ all posted. posted;
@@ -40,10 +40,9 @@ lowers-preserved c =
     let h = c.lowers.invariant in
     let lower = c.lower-found.ensures in
     record {
-      steps = PassSees-trans NamesTree c.args.shared.now c.args.pass.now c.lowers.pass c.lower-found.new.pass h.steps
+      steps = PassSees-trans NamesLowered c.args.shared.now c.args.pass.now c.lowers.pass c.lower-found.new.pass h.steps
           (PassSees-lower c.args.shared.now c.lowers.pass c.lower-found.new.pass c.args.node _ _ c.lower-found.result h.steps.belongs
-          (HasPostedHand-later NamesTree c.args.pass.now.view c.lowers.pass.view h.steps.sees_anew c.requires.posted) lower.kept lower.view_found
-          lower.goes_on lower.seen);
+          lower.kept lower.view_found lower.goes_on lower.seen lower.shown);
       others = λ m apart. lower.seen.others (TreeOf m) (λ e. apart (let own : m ≡ c.args.node = cc in own)) ∙ h.others m apart;
       pair = lower.falls.written;
       goals = λ all posted.
@@ -51,7 +50,7 @@ lowers-preserved c =
           HasPostedGoals-lower c.lowers.pass.view c.lower-found.new.pass.view c.args.node c.args.parent _ _ c.lower-found.result
           (omega (arith, pair_low c.args.pass.now.view c.args.parent c.requires.belongs.lawful c.requires.parent_pair, c.requires.belongs.lawful.run.marks))
           (omega (arith, c.lowers-test.true, c.seen_cost-in-lowers.ensures, (lawful.pairs c.args.node h.pair).low)) lower.goes_on lower.seen
-          (lower.whole (HasWholeShare-later NamesTree c.args.pass.now.view c.lowers.pass.view h.steps.sees_anew all)) lower.lowered lower.posted
+          (lower.whole (HasWholeShare-later NamesLowered c.args.pass.now.view c.lowers.pass.view h.steps.sees_anew all)) lower.lowered lower.posted
           (h.goals all posted);
       whole = λ all.
           let before = c.args.pass.now.view in
@@ -62,7 +61,7 @@ lowers-preserved c =
           elim (h.whole all) [
             | inl same ↦
                 let here = on_ok c.lower-found.result (sees c.lower-found.new.pass.view (TreeOf c.args.node) ≡ tree_word c.args.parent most)
-                (lower.whole (HasWholeShare-later NamesTree before now h.steps.sees_anew all)) lower.lowered in
+                (lower.whole (HasWholeShare-later NamesLowered before now h.steps.sees_anew all)) lower.lowered in
                 inr (record {
                   here = here ∙ ap (tree_word c.args.parent) most_is;
                   others = λ name off. lower.seen.others name off ∙ same name;

@@ -2,13 +2,12 @@ use Rattle.std.proofs.Common.{◌⊎◌, ◌+◌}
 use Rattle.grown_runs.proofs.Common.{cost_of, WritesWord, TreeOf, tree_word}
 use Rattle.plan_words.proofs.Common.{HasPostedGoals, SeesAsBefore, HasWholeShare}
 use Rattle.step_core.specs.Views.{sees}
-use Rattle.tree_rewire.specs.SeenCosts.{NamesTree, PassSees, SeesPair, cost_seen}
-use Rattle.tree_rewire.specs.Spreads.{OnlyAt}
+use Rattle.tree_rewire.proofs.Words.{NamesLowered, PassSees, SeesPair, cost_seen, OnlyAt}
 use Rattle.tree_rewire.proofs.rewiring.improve.Given as goal
 
 abbrev pub invariant-lowers : goal.invariant-lowers
 invariant-lowers l = record {
-  steps : PassSees NamesTree l.shared l.fn.pass l.pass;
+  steps : PassSees NamesLowered l.shared l.fn.pass l.pass;
   others : OnlyAt l.node l.fn.pass.view l.pass.view;
   pair : SeesPair l.pass.view l.node;
   goals : HasWholeShare l.fn.pass.view → HasPostedGoals l.fn.pass.view → HasPostedGoals l.pass.view;

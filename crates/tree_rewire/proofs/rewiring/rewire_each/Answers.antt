@@ -5,11 +5,9 @@ use Rattle.std.proofs.lemmas.List.Elements.{All-contains_itself, All-nil}
 use Rattle.grown_runs.proofs.Common.{space_of, Rewires}
 use Rattle.plan_words.proofs.HandSteps.{some_hand}
 use Rattle.tree_rewire.proofs.NearLists.{nodes_on-kept}
-use Rattle.tree_rewire.specs.NearNodes.{nodes_on}
-use Rattle.tree_rewire.specs.Rewirings.{HasSpreadFalls}
-use Rattle.tree_rewire.specs.SeenCosts.{IsInReach, NamesTreeOrPoint, SeesPair, cost_seen}
+use Rattle.tree_rewire.proofs.Words.{nodes_on, HasSpreadFalls, IsInReach, NamesLoweredOrPoint, SeesPair, cost_seen}
 use Rattle.tree_rewire.proofs.ChosenParents.{All-more, IsInReach-later, drop_read, near_read, take_read}
-use Rattle.tree_rewire.proofs.CostSteps.{HasPostedHand-later, PassLowers-lists, PassLowers-trans}
+use Rattle.tree_rewire.proofs.CostSteps.{PassLowers-lists, PassLowers-trans}
 use Rattle.tree_rewire.proofs.RewiredNodes.{IsRewired, IsRewired-later, IsRewired-looked, all_rewired, placed_near, placed_pair, placed_stands}
 use Rattle.tree_rewire.proofs.RewiredTrees.{IsRewiring-more}
 use Rattle.tree_rewire.proofs.SeenCosts.{SeesPair-later, stands_later}
@@ -58,10 +56,6 @@ rewire_node-requires-clause-parent_pair g c κs within =
     SeesPair-later c.args.pass.now.view c.nodes.pass.view c.nodes.invariant.steps.sees_anew.goes_on (c.args.k + 1)
     (placed_pair c.args.pass.now.view c.args.k c.hand_point-from.result held.0 held.1 c.requires.placed c.hand_point-from.ensures)
 
-pub rewire_node-requires-clause-posted : goal.rewire_node-requires-clause-posted
-rewire_node-requires-clause-posted g c κs within =
-    HasPostedHand-later NamesTreeOrPoint c.args.pass.now.view c.nodes.pass.view c.nodes.invariant.steps.sees_anew c.requires.posted
-
 pub rewire_node-requires-clause-reach : goal.rewire_node-requires-clause-reach
 rewire_node-requires-clause-reach g c κs within =
     IsInReach-later c.args.pass.now.view c.nodes.pass.view c.hand_point-from.result c.node-node.result
@@ -97,13 +91,13 @@ nodes-preserved g c =
           (ap is_some (placed_stands before c.args.k from held.0 held.1 c.requires.placed c.hand_point-from.ensures))
           (placed_pair before c.args.k from held.0 held.1 c.requires.placed c.hand_point-from.ensures) h.spread done.spread;
       goals = λ all posted.
-          done.goals (HasWholeShare-later NamesTreeOrPoint before c.nodes.pass.view h.steps.sees_anew all) (h.goals all posted);
+          done.goals (HasWholeShare-later NamesLoweredOrPoint before c.nodes.pass.view h.steps.sees_anew all) (h.goals all posted);
       whole = λ all tree mirrors.
           let was = h.whole all tree mirrors in
           IsRewiring-more space tree (c.args.k + 1) n near (drop c.nodes.index near)
           (drop (c.nodes.index + 1) near) c.nodes.pass.view new.view
           (drop_read near now c.nodes.index n same c.node-node.ensures) was
-          (done.whole (HasWholeShare-later NamesTreeOrPoint before c.nodes.pass.view h.steps.sees_anew all) was.now was.mirrors);
+          (done.whole (HasWholeShare-later NamesLoweredOrPoint before c.nodes.pass.view h.steps.sees_anew all) was.now was.mirrors);
     }
 
 pub returns-clause-pairs : goal.returns-clause-pairs

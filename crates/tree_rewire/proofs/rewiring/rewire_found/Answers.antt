@@ -3,15 +3,12 @@ use Rattle.std.specs.Prelude.{All, Contains, IfSome, IsSome}
 use Rattle.std.proofs.lemmas.Bool.{cases_Bool, ltb-false}
 use Rattle.std.proofs.lemmas.List.Elements.{All-contains, All-map, Contains-get_or}
 use Rattle.grown_runs.proofs.Common.{cost_of, Clear, space_of, point_of, cost_of-swap}
-use Rattle.plan_words.proofs.Common.{at_hand, some_hand, if_hand, Contains-number, HasPostedGoals, HasPostedHand, numbers_of, GoesOn, HasWholeShare, Lists}
+use Rattle.plan_words.proofs.Common.{at_hand, some_hand, if_hand, Contains-number, HasPostedGoals, numbers_of, GoesOn, HasWholeShare, Lists}
 use Rattle.plan_words.proofs.Common.{PassState}
 use Rattle.step_core.proofs.Common.{share, tree_seen}
 use Rattle.step_core.specs.declared.views.View.{View}
-use Rattle.tree_rewire.specs.Mirrors.{Mirrors}
-use Rattle.tree_rewire.specs.Rewirings.{HasPlaced, HasSpreadFalls}
+use Rattle.tree_rewire.proofs.Words.{Mirrors, HasPlaced, HasSpreadFalls, IsWeighed, IsInReach, NamesLoweredOrPoint, SeesAnew, SeesPair, cost_seen}
 use Rattle.plan_words.specs.declared.spots.Found.{Found}
-use Rattle.tree_rewire.specs.FoundNodes.{IsWeighed}
-use Rattle.tree_rewire.specs.SeenCosts.{IsInReach, NamesTreeOrPoint, SeesAnew, SeesPair, cost_seen}
 use Rattle.tree_rewire.proofs.FoundLists.{Contains-image}
 use Rattle.tree_rewire.proofs.RewiredFound.{Holding, Rewires-few, few_all, few_found, placed_cost_of, test}
 use Rattle.tree_rewire.proofs.SeenCosts.{SeesPair-later, cost_seen-later, pair_low}
@@ -92,10 +89,6 @@ rewire_each-requires-clause-belongs g c κs within = record {
 pub rewire_each-requires-clause-part : goal.rewire_each-requires-clause-part
 rewire_each-requires-clause-part g c κs within = subst (λ v. 0 < share v) (sym (ap (λ (s : PassState). s.view) c.keep_dearer.ensures.others)) c.requires.part
 
-pub rewire_each-requires-clause-posted : goal.rewire_each-requires-clause-posted
-rewire_each-requires-clause-posted g c κs within =
-    subst HasPostedHand (sym (ap (λ (s : PassState). s.view) c.keep_dearer.ensures.others)) c.requires.posted
-
 pub rewire_each-requires-clause-hand : goal.rewire_each-requires-clause-hand
 rewire_each-requires-clause-hand g c κs within =
     subst (λ (v : View). IsSome v.hand) (sym (ap (λ (s : PassState). s.view) c.keep_dearer.ensures.others)) c.requires.hand
@@ -121,7 +114,7 @@ rewire_each-requires-clause-near g c κs within =
 
 pub returns-clause-seen : goal.returns-clause-seen
 returns-clause-seen g c =
-    subst (λ v. SeesAnew NamesTreeOrPoint v c.rewire_each.new.pass.view) (ap (λ (s : PassState). s.view) c.keep_dearer.ensures.others)
+    subst (λ v. SeesAnew NamesLoweredOrPoint v c.rewire_each.new.pass.view) (ap (λ (s : PassState). s.view) c.keep_dearer.ensures.others)
     c.rewire_each.ensures.seen
 
 pub returns-clause-lists : goal.returns-clause-lists

@@ -3,9 +3,9 @@ use Rattle.std.proofs.lemmas.Bool.{cases_lt}
 use Rattle.grown_runs.proofs.Common.{Clear, cost_of, squared_distance, point_of, IsCheaperThrough, with_parent, squared_distance-swap, TreeOf, cost_in}
 use Rattle.plan_words.proofs.Common.{HasPostedGoals, SeesAsBefore, HasWholeShare, GoesOn-trans, HasPostedGoals-same}
 use Rattle.step_core.proofs.Common.{sees, setup_in, tree_seen, IsBounded-seen, IsPresent-later}
-use Rattle.tree_rewire.specs.SeenCosts.{NamesNothing, NamesTreeOrPoint, NamesTree, PassLowers, PassSees, SeesPair, cost_seen}
-use Rattle.tree_rewire.proofs.CostSteps.{HasPostedHand-later, PassLowers-sees, PassLowers-trans}
-use Rattle.tree_rewire.proofs.CostSteps.{PassSees-more, PassSees-point, PassSees-trans, TreeOrPoint-tree}
+use Rattle.tree_rewire.specs.SeenCosts.{NamesLowered, NamesLoweredOrPoint, NamesNothing, NamesTree, PassLowers, PassSees, SeesPair, cost_seen}
+use Rattle.tree_rewire.proofs.CostSteps.{PassLowers-sees, PassLowers-trans}
+use Rattle.tree_rewire.proofs.CostSteps.{PassSees-more, PassSees-point, PassSees-trans, Lowered-tree, LoweredOrPoint-lowered}
 use Rattle.tree_rewire.proofs.LoweredCosts.{IsWithinParent-below}
 use Rattle.tree_rewire.proofs.MirroredTrees.{Mirrors-same}
 use Rattle.tree_rewire.proofs.RewiredTrees.{AllTightBut-lowered, Clear-cheaper_through, IsCheaperThrough-seen, Mirrors-rewired, less-cheaper_through}
@@ -30,7 +30,7 @@ loads_point g c =
     let later = known.sees_anew.goes_on.later in
     PassSees-point c.args.shared.now c.known_cost-kept_cost.new.pass c.point-to.new.pass c.args.node _ _ known.belongs
     (IsPresent-later c.args.pass.now.view c.known_cost-kept_cost.new.pass.view later.run later.seen c.args.node c.requires.reach.present)
-    c.point-to.ensures.view c.point-to.ensures.goes_on c.point-to.ensures.seen
+    c.point-to.ensures.view c.point-to.ensures.goes_on c.point-to.ensures.seen c.point-to.ensures.looked
 
 -- its cost is known, and its point is loaded
 loads : (g : Over) (c : After-seen_cost g) → PassSees NamesTree c.args.shared.now c.args.pass.now c.point-to.new.pass
@@ -95,17 +95,6 @@ pub improve-requires-clause-pair : goal.improve-requires-clause-pair
 improve-requires-clause-pair g c =
     SeesPair-later c.known_cost-kept_cost.new.pass.view c.point-to.new.pass.view c.point-to.ensures.goes_on c.args.node c.known_cost-kept_cost.ensures.pair
 
-pub improve-requires-clause-posted : goal.improve-requires-clause-posted
-improve-requires-clause-posted g c =
-    let to = (goal.at.improve-requires-clause-posted g c).After-seen_cost in
-    HasPostedHand-later NamesTree c.args.pass.now.view c.point-to.new.pass.view (loads g to).sees_anew c.requires.posted
-
-pub spread-requires-clause-posted : goal.spread-requires-clause-posted
-spread-requires-clause-posted g c =
-    let to = (goal.at.spread-requires-clause-posted g c).After-seen_cost in
-    HasPostedHand-later NamesTree c.point-to.new.pass.view c.improve.new.pass.view c.improve.ensures.steps.sees_anew
-    (HasPostedHand-later NamesTree c.args.pass.now.view c.point-to.new.pass.view (loads g to).sees_anew c.requires.posted)
-
 pub spread-requires-clause-pair : goal.spread-requires-clause-pair
 spread-requires-clause-pair g c =
     SeesPair-later c.point-to.new.pass.view c.improve.new.pass.view c.improve.ensures.steps.sees_anew.goes_on c.args.node
@@ -115,7 +104,8 @@ pub returns-then-clear-clause-steps : goal.returns-then-clear-clause-steps
 returns-then-clear-clause-steps g c =
     let to = (goal.at.returns-then-clear-clause-steps g c).After-seen_cost in
     let shared = c.args.shared.now in
-    let lowers = PassSees-trans NamesTree shared c.args.pass.now c.point-to.new.pass c.improve.new.pass (loads g to) c.improve.ensures.steps in
+    let lowers = PassSees-trans NamesLowered shared c.args.pass.now c.point-to.new.pass c.improve.new.pass
+    (PassSees-more NamesTree NamesLowered shared c.args.pass.now c.point-to.new.pass Lowered-tree (loads g to)) c.improve.ensures.steps in
     let spreads : PassLowers shared c.improve.new.pass c.spread.new.pass = record {
       belongs = c.spread.ensures.belongs;
       sees_anew = c.spread.ensures.seen;
@@ -125,7 +115,7 @@ returns-then-clear-clause-steps g c =
     } in
     PassLowers-trans shared c.args.pass.now c.improve.new.pass c.spread.new.pass
     (PassLowers-sees shared c.args.pass.now c.improve.new.pass
-    (PassSees-more NamesTree NamesTreeOrPoint shared c.args.pass.now c.improve.new.pass TreeOrPoint-tree lowers))
+    (PassSees-more NamesLowered NamesLoweredOrPoint shared c.args.pass.now c.improve.new.pass LoweredOrPoint-lowered lowers))
     spreads
 
 pub returns-then-clear-clause-pair : goal.returns-then-clear-clause-pair
@@ -191,7 +181,8 @@ pub returns-else-costs_less_through-clause-steps : goal.returns-else-costs_less_
 returns-else-costs_less_through-clause-steps g c =
     let to = (goal.at.returns-else-costs_less_through-clause-steps g c).After-seen_cost in
     PassLowers-sees c.args.shared.now c.args.pass.now c.point-to.new.pass
-    (PassSees-more NamesTree NamesTreeOrPoint c.args.shared.now c.args.pass.now c.point-to.new.pass TreeOrPoint-tree (loads g to))
+    (PassSees-more NamesTree NamesLoweredOrPoint c.args.shared.now c.args.pass.now c.point-to.new.pass
+    (λ name h. LoweredOrPoint-lowered name (Lowered-tree name h)) (loads g to))
 
 pub returns-else-costs_less_through-clause-pair : goal.returns-else-costs_less_through-clause-pair
 returns-else-costs_less_through-clause-pair g c =
@@ -247,8 +238,8 @@ returns-then-clear-clause-whole g c =
     let lawful = loads.sees_anew.goes_on.lawful in
     λ all tree mirrors.
     let all_before = HasWholeShare-later NamesTree start before loads.sees_anew all in
-    let all_mid = HasWholeShare-later NamesTree before mid improved all_before in
-    let all_after = HasWholeShare-later NamesTreeOrPoint mid after spread all_mid in
+    let all_mid = HasWholeShare-later NamesLowered before mid improved all_before in
+    let all_after = HasWholeShare-later NamesLoweredOrPoint mid after spread all_mid in
     let same = Mirrors-same start before tree loads.sees_anew.goes_on.later (loads_whole g to all) mirrors in
     let writes = c.improve.ensures.whole all_before less in
     let tight = c.spread.ensures.whole_tight all_mid
@@ -303,7 +294,7 @@ pub returns-then-clear-clause-goals : goal.returns-then-clear-clause-goals
 returns-then-clear-clause-goals g c all posted =
     let to = (goal.at.returns-then-clear-clause-goals g c).After-seen_cost in
     let all_before = HasWholeShare-later NamesTree c.args.pass.now.view c.point-to.new.pass.view (loads g to).sees_anew all in
-    let all_mid = HasWholeShare-later NamesTree c.point-to.new.pass.view c.improve.new.pass.view c.improve.ensures.steps.sees_anew all_before in
+    let all_mid = HasWholeShare-later NamesLowered c.point-to.new.pass.view c.improve.new.pass.view c.improve.ensures.steps.sees_anew all_before in
     c.spread.ensures.goals all_mid (c.improve.ensures.goals all_before (loads_goals g to all posted))
 
 pub returns-else-costs_less_through-clause-goals : goal.returns-else-costs_less_through-clause-goals

@@ -19,9 +19,9 @@ pair-requires c = pair_low c.args.pass.now.view c.args.node c.requires.belongs.l
 loads : (c : After-costs_less_through) → PassSees NamesPoint c.args.shared.now c.args.pass.now c.point-there.new.pass
 loads c =
     let one = PassSees-any_point c.args.shared.now c.args.pass.now c.point-here.new.pass c.args.node _ _ c.requires.belongs c.point-here.ensures.view
-    c.point-here.ensures.goes_on c.point-here.ensures.seen in
+    c.point-here.ensures.goes_on c.point-here.ensures.seen c.point-here.ensures.looked in
     let other = PassSees-any_point c.args.shared.now c.point-here.new.pass c.point-there.new.pass c.unwrap-parent.result.0 _ _ one.belongs
-    c.point-there.ensures.view c.point-there.ensures.goes_on c.point-there.ensures.seen in
+    c.point-there.ensures.view c.point-there.ensures.goes_on c.point-there.ensures.seen c.point-there.ensures.looked in
     PassSees-trans NamesPoint c.args.shared.now c.args.pass.now c.point-here.new.pass c.point-there.new.pass one other
 
 -- with the whole share they are found as they were seen
@@ -31,7 +31,7 @@ wholes c all =
     let mid = c.point-here.new.pass.view in
     let new = c.point-there.new.pass.view in
     let one = PassSees-any_point c.args.shared.now c.args.pass.now c.point-here.new.pass c.args.node _ _ c.requires.belongs c.point-here.ensures.view
-    c.point-here.ensures.goes_on c.point-here.ensures.seen in
+    c.point-here.ensures.goes_on c.point-here.ensures.seen c.point-here.ensures.looked in
     SeesAsBefore-trans old mid new
     (SeesAsBefore-loaded old mid (PointOf c.args.node) _ c.point-here.ensures.seen (c.point-here.ensures.whole all))
     (SeesAsBefore-loaded mid new (PointOf c.unwrap-parent.result.0) _ c.point-there.ensures.seen

@@ -1,9 +1,8 @@
 use Rattle.std.proofs.Common.{◌≡◌, ◌⊎◌, ◌+◌, ◌<◌, ◌≤◌, Some, None, ap, arith, inl, inr, length, refl, subst, sym, ◌∙◌}
 use Rattle.plan_words.proofs.Common.{HasWholeShare, with_lists, IsOn, HasPostedGoals-children}
 use Rattle.step_core.specs.declared.views.SharedRun.{SharedRun}
-use Rattle.tree_rewire.specs.SeenCosts.{NamesTreeOrPoint, PassLowers, cost_seen}
-use Rattle.tree_rewire.specs.Spreads.{IsSpreading, NoneRises, QueuesFallen}
-use Rattle.tree_rewire.proofs.CostSteps.{HasPostedHand-later, PassLowers-lists, PassLowers-sees, PassLowers-trans}
+use Rattle.tree_rewire.proofs.Words.{NamesLoweredOrPoint, PassLowers, cost_seen, IsSpreading, NoneRises, QueuesFallen}
+use Rattle.tree_rewire.proofs.CostSteps.{PassLowers-lists, PassLowers-sees, PassLowers-trans}
 use Rattle.tree_rewire.proofs.LoweredBelow.{IsSpreading-found, NoneRises-children, NoneRises-settled, NoneRises-trans, PassLowers-looks}
 use Rattle.tree_rewire.proofs.LoweredBelow.{QueuesFallen-same, QueuesFallen-then, SpreadsFrom-all}
 use Rattle.tree_rewire.proofs.SeenCosts.{cost_seen-later, pair_low}
@@ -19,17 +18,7 @@ lowers c =
     PassLowers-looks c.args.shared.now c.tries.pass c.lower_children.new.pass done.belongs done.looks done.lists.0 done.lists.1 done.lists.2
 
 whole_now : (c : After-lower_children) → HasWholeShare c.args.pass.now.view → HasWholeShare c.tries.pass.view
-whole_now c all = HasWholeShare-later NamesTreeOrPoint c.args.pass.now.view c.tries.pass.view c.tries.invariant.steps.sees_anew all
-
-pub lower_children-requires-clause-posted : goal.lower_children-requires-clause-posted
-lower_children-requires-clause-posted c =
-    HasPostedHand-later NamesTreeOrPoint c.args.pass.now.view c.tries.pass.view c.tries.invariant.steps.sees_anew c.requires.posted
-
-pub settle-requires-clause-posted : goal.settle-requires-clause-posted
-settle-requires-clause-posted c =
-    HasPostedHand-later NamesTreeOrPoint c.args.pass.now.view c.lower_children.new.pass.view
-    (PassLowers-trans c.args.shared.now c.args.pass.now c.tries.pass c.lower_children.new.pass c.tries.invariant.steps
-    (lowers (goal.at.settle-requires-clause-posted c).After-lower_children)).sees_anew c.requires.posted
+whole_now c all = HasWholeShare-later NamesLoweredOrPoint c.args.pass.now.view c.tries.pass.view c.tries.invariant.steps.sees_anew all
 
 pub queue_parent-requires : goal.queue_parent-requires
 queue_parent-requires c =
@@ -138,9 +127,9 @@ tries-preserved c =
       falls = NoneRises-trans old.view now.view new.view h.falls more;
       queued = QueuesFallen-then old now new h.queued h.falls more (step.sees_anew.goes_on.later.run ∙ run) (queued_then at) run;
       goals = λ all.
-          absurd (let none = found.whole (HasWholeShare-later NamesTreeOrPoint old.view now.view h.steps.sees_anew all) in cc);
+          absurd (let none = found.whole (HasWholeShare-later NamesLoweredOrPoint old.view now.view h.steps.sees_anew all) in cc);
       whole = λ all.
-          absurd (let none = found.whole (HasWholeShare-later NamesTreeOrPoint old.view now.view h.steps.sees_anew all) in cc);
+          absurd (let none = found.whole (HasWholeShare-later NamesLoweredOrPoint old.view now.view h.steps.sees_anew all) in cc);
     }
 
 pub returns-clause-steps : goal.returns-clause-steps

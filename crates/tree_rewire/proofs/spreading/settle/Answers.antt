@@ -1,25 +1,22 @@
 use Rattle.std.proofs.Common.{◌<◌, ap, arith, ◌∙◌}
 use Rattle.grown_runs.proofs.Common.{TreeOf, cost_in}
-use Rattle.tree_rewire.specs.SeenCosts.{NamesPoint, NamesTreeOrPoint, NamesTree, PassSees, cost_seen}
-use Rattle.tree_rewire.specs.Spreads.{OnlyAt}
-use Rattle.tree_rewire.proofs.CostSteps.{HasPostedHand-later, PassSees-lower, PassSees-more, PassSees-trans, TreeOrPoint-point, TreeOrPoint-tree}
+use Rattle.tree_rewire.proofs.Words.{NamesLowered, NamesLoweredOrPoint, NamesPoint, PassSees, cost_seen, OnlyAt}
+use Rattle.tree_rewire.proofs.CostSteps.{PassSees-lower, PassSees-more, PassSees-trans, LoweredOrPoint-point, LoweredOrPoint-lowered}
 use Rattle.tree_rewire.proofs.spreading.settle.Goals as goal
 use Rattle.tree_rewire.proofs.spreading.settle.Goals.{After-lower-found}
 
 -- the node's points are looked at, and its tree word is lowered or found lower
-all_steps : (c : After-lower-found) → PassSees NamesTreeOrPoint c.args.shared.now c.args.pass.now c.lower-found.new.pass
+all_steps : (c : After-lower-found) → PassSees NamesLoweredOrPoint c.args.shared.now c.args.pass.now c.lower-found.new.pass
 all_steps c =
     let shared = c.args.shared.now in
     let lower = c.lower-found.ensures in
     let looks = c.looser.ensures.steps in
-    PassSees-trans NamesTreeOrPoint shared c.args.pass.now c.lowers.pass c.lower-found.new.pass c.lowers.invariant.steps
-    (PassSees-trans NamesTreeOrPoint shared c.lowers.pass c.looser.new.pass c.lower-found.new.pass
-    (PassSees-more NamesPoint NamesTreeOrPoint shared c.lowers.pass c.looser.new.pass TreeOrPoint-point looks)
-    (PassSees-more NamesTree NamesTreeOrPoint shared c.looser.new.pass c.lower-found.new.pass TreeOrPoint-tree
+    PassSees-trans NamesLoweredOrPoint shared c.args.pass.now c.lowers.pass c.lower-found.new.pass c.lowers.invariant.steps
+    (PassSees-trans NamesLoweredOrPoint shared c.lowers.pass c.looser.new.pass c.lower-found.new.pass
+    (PassSees-more NamesPoint NamesLoweredOrPoint shared c.lowers.pass c.looser.new.pass LoweredOrPoint-point looks)
+    (PassSees-more NamesLowered NamesLoweredOrPoint shared c.looser.new.pass c.lower-found.new.pass LoweredOrPoint-lowered
     (PassSees-lower shared c.looser.new.pass c.lower-found.new.pass c.args.node _ _ c.lower-found.result looks.belongs
-    (HasPostedHand-later NamesPoint c.lowers.pass.view c.looser.new.pass.view looks.sees_anew
-    (HasPostedHand-later NamesTreeOrPoint c.args.pass.now.view c.lowers.pass.view c.lowers.invariant.steps.sees_anew c.requires.posted))
-    lower.kept lower.view_found lower.goes_on lower.seen)))
+    lower.kept lower.view_found lower.goes_on lower.seen lower.shown)))
 
 only_here : (c : After-lower-found) → OnlyAt c.args.node c.args.pass.now.view c.lower-found.new.pass.view
 only_here c m apart =
@@ -39,5 +36,5 @@ lowers-preserved c =
 
 pub returns-clause-steps : goal.returns-clause-steps
 returns-clause-steps c =
-    PassSees-trans NamesTreeOrPoint c.args.shared.now c.args.pass.now c.lowers.pass c.looser.new.pass c.lowers.invariant.steps
-    (PassSees-more NamesPoint NamesTreeOrPoint c.args.shared.now c.lowers.pass c.looser.new.pass TreeOrPoint-point c.looser.ensures.steps)
+    PassSees-trans NamesLoweredOrPoint c.args.shared.now c.args.pass.now c.lowers.pass c.looser.new.pass c.lowers.invariant.steps
+    (PassSees-more NamesPoint NamesLoweredOrPoint c.args.shared.now c.lowers.pass c.looser.new.pass LoweredOrPoint-point c.looser.ensures.steps)

@@ -1,10 +1,9 @@
-use Rattle.tree_rewire.specs.SeenCosts.{NamesTreeOrPoint, PassSees, SeesPair, cost_seen}
-use Rattle.tree_rewire.specs.Spreads.{OnlyAt}
+use Rattle.tree_rewire.proofs.Words.{NamesLoweredOrPoint, PassSees, SeesPair, cost_seen, OnlyAt}
 use Rattle.tree_rewire.proofs.spreading.settle.Given as goal
 
 abbrev pub invariant-lowers : goal.invariant-lowers
 invariant-lowers l = record {
-  steps : PassSees NamesTreeOrPoint l.shared l.fn.pass l.pass;
+  steps : PassSees NamesLoweredOrPoint l.shared l.fn.pass l.pass;
   others : OnlyAt l.node l.fn.pass.view l.pass.view;
   pair : SeesPair l.pass.view l.node;
 }

@@ -1,10 +1,9 @@
 use Rattle.std.proofs.Common.{◌≡◌, ◌⊎◌, ◌≤◌, ◌+◌, [], ap, arith, inl, inr, length, refl, subst, sym, ◌∙◌}
-use Rattle.plan_words.proofs.Common.{HasPostedGoals, HasPostedHand, HasWholeShare, with_lists, HasSeenParent, IsOn}
+use Rattle.plan_words.proofs.Common.{HasPostedGoals, HasWholeShare, with_lists, HasSeenParent, IsOn}
 use Rattle.step_core.specs.declared.views.SharedRun.{SharedRun}
 use Rattle.step_core.specs.declared.views.View.{View}
-use Rattle.tree_rewire.specs.SeenCosts.{NamesTreeOrPoint, PassLowers, SeesPair}
-use Rattle.tree_rewire.specs.Spreads.{IsSpreading, KeepsParents}
-use Rattle.tree_rewire.proofs.CostSteps.{HasPostedHand-later, PassLowers-lists, PassLowers-trans}
+use Rattle.tree_rewire.proofs.Words.{NamesLoweredOrPoint, PassLowers, SeesPair, IsSpreading, KeepsParents}
+use Rattle.tree_rewire.proofs.CostSteps.{PassLowers-lists, PassLowers-trans}
 use Rattle.tree_rewire.proofs.LoweredBelow.{measure_falls}
 use Rattle.tree_rewire.proofs.SeenCosts.{pair_low}
 use Rattle.tree_rewire.proofs.SpreadCosts.{HasSettledChanges-ends, HasSpread-ends, IsSpreading-begins, IsSpreading-waits}
@@ -55,11 +54,6 @@ lower_below-requires-clause-pair c =
     subst (λ v. SeesPair v c.in-Some.fallen) (sym (ap (λ p. p.view) c.pop_waiting.ensures.others))
     (c.falls.invariant.spreads.pairs c.in-Some.fallen c.in-Some.ensures.was_on)
 
-pub lower_below-requires-clause-posted : goal.lower_below-requires-clause-posted
-lower_below-requires-clause-posted c =
-    subst HasPostedHand (sym (ap (λ p. p.view) c.pop_waiting.ensures.others))
-    (HasPostedHand-later NamesTreeOrPoint c.args.pass.now.view c.falls.pass.view c.falls.invariant.steps.sees_anew c.requires.posted)
-
 pub falls-smaller : goal.falls-smaller
 falls-smaller c =
     let h = c.falls.invariant in
@@ -98,11 +92,11 @@ falls-preserved c =
           h.spreads));
       goals = λ all posted.
           subst (λ v. HasWholeShare v → HasPostedGoals v → HasPostedGoals new.view) view_is c.lower_below.ensures.goals
-          (HasWholeShare-later NamesTreeOrPoint old.view now.view h.steps.sees_anew all) (h.goals all posted);
+          (HasWholeShare-later NamesLoweredOrPoint old.view now.view h.steps.sees_anew all) (h.goals all posted);
       whole = λ all.
           KeepsParents-trans old.view now.view new.view (h.whole all)
           (subst (λ v. HasWholeShare v → KeepsParents v new.view) view_is c.lower_below.ensures.whole
-          (HasWholeShare-later NamesTreeOrPoint old.view now.view h.steps.sees_anew all));
+          (HasWholeShare-later NamesLoweredOrPoint old.view now.view h.steps.sees_anew all));
     }
 
 -- at last none waits
@@ -143,7 +137,7 @@ returns-clause-whole_tight c =
     let spread = HasSpread-ends c.args.node old.view new.view (ends at (c.pop_waiting.ensures.none c.in_default.is)) in
     λ all tight.
     AllTight-spread c.args.node old.view new.view goes_on.lawful
-    (goes_on.lawful.order (HasWholeShare-later NamesTreeOrPoint old.view new.view steps.sees_anew all)) goes_on.later (whole_at at all) spread tight
+    (goes_on.lawful.order (HasWholeShare-later NamesLoweredOrPoint old.view new.view steps.sees_anew all)) goes_on.later (whole_at at all) spread tight
 
 pub returns-clause-goals : goal.returns-clause-goals
 returns-clause-goals c all posted = subst HasPostedGoals (sym (ap (λ p. p.view) c.pop_waiting.ensures.others)) (c.falls.invariant.goals all posted)

@@ -1,7 +1,6 @@
 use Rattle.std.proofs.Common.{◌+◌, ◌*◌, length}
 use Rattle.plan_words.proofs.Common.{HasPostedGoals, HasWholeShare, IsOn}
-use Rattle.tree_rewire.specs.SeenCosts.{PassLowers}
-use Rattle.tree_rewire.specs.Spreads.{IsSpreading, KeepsParents}
+use Rattle.tree_rewire.proofs.Words.{PassLowers, IsSpreading, KeepsParents}
 use Rattle.tree_rewire.proofs.SpreadCosts.{weigh}
 use Rattle.tree_rewire.proofs.spreading.spread.Given as goal
 

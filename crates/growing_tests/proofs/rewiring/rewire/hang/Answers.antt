@@ -60,7 +60,7 @@ write_tree-requires-clause-may c =
     let space = space_of c.args.shared.now.task.scene in
     let near_reach = IsInReach-later c.args.pass.now.view mid.view c.hand_point-p.result c.args.nearest c.point-from.ensures.goes_on
     (reach c.requires.holds c.hand_point-p.ensures) in
-    let held = choice.seen.kept.hand ∙ ap (λ (s : PassState). s.view.hand) c.point-from.ensures.view ∙ holds.held in
+    let held = choice.seen.held (λ no. no) ∙ ap (λ (s : PassState). s.view.hand) c.point-from.ensures.view ∙ holds.held in
     let free = subst (λ s. Clear s c.point-from.result c.hand_point-p.result) c.requires.hall (c.clear.ensures.0 c.if-not-clear.false) in
     let from_is = points_later mid.view now.view c.args.nearest choice.seen.goes_on near_reach.present
     ∙ point_of-stands (tree_seen mid.view).points c.args.nearest c.point-from.result c.point-from.ensures.found in
@@ -79,7 +79,7 @@ returns-clause-near c =
     let now = c.choose-parent.new.pass in
     let after = c.write_tree.new.pass in
     let choice = c.choose-parent.ensures in
-    let held = choice.seen.kept.hand ∙ ap (λ (s : PassState). s.view.hand) c.point-from.ensures.view ∙ holds.held in
+    let held = choice.seen.held (λ no. no) ∙ ap (λ (s : PassState). s.view.hand) c.point-from.ensures.view ∙ holds.held in
     let hung : Hand = record holds.hand { stage = Treed; parent = c.choose-parent.result.0; cost = c.choose-parent.result.1 } in
     let is = at_hand
     (λ hand. after ≡ with_view now
@@ -101,7 +101,7 @@ returns-clause-holds c =
     let now = c.choose-parent.new.pass in
     let after = c.write_tree.new.pass in
     let choice = c.choose-parent.ensures in
-    let held = choice.seen.kept.hand ∙ ap (λ (s : PassState). s.view.hand) c.point-from.ensures.view ∙ holds.held in
+    let held = choice.seen.held (λ no. no) ∙ ap (λ (s : PassState). s.view.hand) c.point-from.ensures.view ∙ holds.held in
     let is = at_hand
     (λ hand. after ≡ with_view now
     (treed (half now.view hand c.choose-parent.result.0 c.choose-parent.result.1)

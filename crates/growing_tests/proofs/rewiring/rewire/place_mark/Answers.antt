@@ -1,5 +1,4 @@
 use Rattle.std.proofs.Common.{length, ap, arith}
-use Rattle.plan_words.proofs.Posting.{HasPostedHand-calm}
 use Rattle.growing_tests.proofs.LoweredNodes.PlacedHands.{MayRewire-placed}
 use Rattle.growing_tests.proofs.rewiring.rewire.place_mark.Goals as goal
 
@@ -9,5 +8,5 @@ returns c =
     let place = c.place.ensures in
     MayRewire-placed c.args.shared.now c.args.pass.now c.place.new.pass c.args.mark holds.hand c.place.result place.belongs
     (omega (arith, holds.part, ap (λ crew. length crew) place.share.crew))
-    (HasPostedHand-calm c.args.shared.now c.place.new.pass.view place.belongs.run c.requires.plain) place.goes_on.goes_on holds.held holds.mark c.requires.near
+    place.goes_on.goes_on holds.held holds.mark c.requires.near
     (ap (λ pass. pass.lists.near) place.view_alone) place.placed

@@ -1,5 +1,4 @@
 use Rattle.std.proofs.Common.{length, ap, arith}
-use Rattle.plan_words.proofs.PostedGoals.{HasPostedHand-kept}
 use Rattle.growing_tests.proofs.rewiring.rewire.rewire_placed.Goals as goal
 
 pub returns : goal.returns
@@ -9,5 +8,4 @@ returns c =
     record {
       belongs = c.rewire.ensures.belongs;
       part = omega (arith, may.part, ap (λ crew. length crew) seen.kept.crew);
-      posted = HasPostedHand-kept c.args.pass.now.view c.rewire.new.pass.view seen.goes_on.later.run seen.kept.hand may.posted;
     }

@@ -10,7 +10,7 @@ use Rattle.growing_tests.proofs.rewiring.support.load_at.Goals.{After-find}
 finds : (c : After-find) → IsAtWork c.args.shared.now c.find.new.pass
 finds c =
     let find = c.find.ensures in
-    IsAtWork-kept c.args.shared.now c.args.pass.now c.find.new.pass find.belongs find.looks.looks.goes_on.later.run find.looks.kept c.requires
+    IsAtWork-kept c.args.shared.now c.args.pass.now c.find.new.pass find.belongs find.looks.kept.crew c.requires
 
 pub returns-in_err-node-clause-works : goal.returns-in_err-node-clause-works
 returns-in_err-node-clause-works c = finds (goal.at.returns-in_err-node-clause-works c).After-find
@@ -19,8 +19,9 @@ pub returns-clause-works : goal.returns-clause-works
 returns-clause-works c =
     let tree = c.tree-pair.ensures in
     let found = finds (goal.at.returns-clause-works c).After-find in
-    let steps = PassSees-tree c.args.shared.now c.find.new.pass c.tree-pair.new.pass c.in_ok-node.node _ _ found.belongs tree.view tree.goes_on tree.seen in
-    IsAtWork-kept c.args.shared.now c.find.new.pass c.tree-pair.new.pass steps.belongs steps.sees_anew.goes_on.later.run steps.sees_anew.kept found
+    let steps = PassSees-tree c.args.shared.now c.find.new.pass c.tree-pair.new.pass c.in_ok-node.node _ _ found.belongs tree.view tree.goes_on tree.seen
+    tree.looked in
+    IsAtWork-kept c.args.shared.now c.find.new.pass c.tree-pair.new.pass steps.belongs steps.sees_anew.kept.crew found
 
 pub returns-clause-stands : goal.returns-clause-stands
 returns-clause-stands c =

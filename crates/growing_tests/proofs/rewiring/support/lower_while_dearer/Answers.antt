@@ -26,9 +26,9 @@ lowers-preserved c =
     let h = c.lowers.invariant in
     let lower = c.lower-found.ensures in
     let step = PassSees-lower c.args.shared.now c.lowers.pass c.lower-found.new.pass c.args.node _ _ c.lower-found.result h.works.belongs
-    h.works.posted lower.kept lower.view_found lower.goes_on lower.seen in
+    lower.kept lower.view_found lower.goes_on lower.seen lower.shown in
     record {
-      works = IsAtWork-kept c.args.shared.now c.lowers.pass c.lower-found.new.pass step.belongs step.sees_anew.goes_on.later.run step.sees_anew.kept h.works;
+      works = IsAtWork-kept c.args.shared.now c.lowers.pass c.lower-found.new.pass step.belongs step.sees_anew.kept.crew h.works;
       goes_on = GoesOn-trans c.args.pass.now.view c.lowers.pass.view c.lower-found.new.pass.view h.goes_on lower.goes_on;
       others = λ m apart. lower.seen.others (TreeOf m) (λ e. apart (let own : m ≡ c.args.node = cc in own)) ∙ h.others m apart;
       pair = lower.falls.written;

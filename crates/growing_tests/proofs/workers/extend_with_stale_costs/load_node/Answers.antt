@@ -1,3 +1,4 @@
+use Rattle.std.proofs.Common.{inl}
 use Rattle.plan_words.proofs.GoingOn.{GoesOn-trans}
 use Rattle.growing_tests.proofs.Shares.KeptShares.{HasShare-kept, HasShare-sees}
 use Rattle.growing_tests.proofs.workers.extend_with_stale_costs.load_node.Goals as goal
@@ -18,5 +19,7 @@ returns-clause-share g c =
     let shared = c.args.shared.now in
     let tree = c.tree-pair.ensures in
     HasShare-sees NamesTree shared c.find.new.pass c.tree-pair.new.pass 1
-    (PassSees-tree shared c.find.new.pass c.tree-pair.new.pass c.in-Some.node _ _ c.find.ensures.belongs tree.view tree.goes_on tree.seen)
-    (HasShare-kept shared c.args.pass.now c.find.new.pass 1 c.find.ensures.belongs c.find.ensures.looks.kept c.requires)
+    (PassSees-tree shared c.find.new.pass c.tree-pair.new.pass c.in-Some.node _ _ c.find.ensures.belongs tree.view tree.goes_on tree.seen
+    tree.looked)
+    (HasShare-kept shared c.args.pass.now c.find.new.pass 1 c.find.ensures.belongs c.find.ensures.looks.kept.crew (inl c.find.ensures.looks.kept.hand)
+    c.requires)

@@ -3,9 +3,7 @@ use Rattle.std.specs.Prelude.{All, IsPermutation, filter, slice_index}
 use Rattle.std.specs.List.Sorted.{IsNonDecreasing}
 use Rattle.std.proofs.lemmas.List.Sorted.{IsNonDecreasingBy-from_sort_by_key, IsPermutation-map}
 use Rattle.plan_words.proofs.KeptFound.{All-cells, all_kept, filter-found, rising_numbers}
-use Rattle.plan_words.specs.SearchLists.{SearchState, found_in, is_dearer, numbers_of}
-use Rattle.plan_words.specs.declared.spots.Cell.{Cell}
-use Rattle.plan_words.specs.declared.spots.Found.{Found}
+use Rattle.plan_words.proofs.Words.{SearchState, found_in, is_dearer, numbers_of, Cell, Found}
 use Rattle.plan_words.proofs.search_store.SearchStore.keep_dearer.Goals as goal
 
 pub keep_in_front-kept-requires-clause-low : goal.keep_in_front-kept-requires-clause-low

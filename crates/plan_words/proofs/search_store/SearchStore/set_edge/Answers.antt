@@ -3,9 +3,7 @@ use Rattle.std.specs.Prelude.{IfSome, slice_get}
 use Rattle.std.proofs.lemmas.List.{drop-set-lt}
 use Rattle.std.specs.Vec.{vec_capacity}
 use Rattle.plan_words.proofs.KeptFound.{found-set, found_below, found_here}
-use Rattle.plan_words.specs.SearchLists.{SearchState, found_in, spot_in}
-use Rattle.plan_words.specs.declared.spots.Cell.{Cell}
-use Rattle.plan_words.specs.declared.spots.Found.{Found}
+use Rattle.plan_words.proofs.Words.{SearchState, found_in, spot_in, Cell, Found}
 use Rattle.plan_words.proofs.search_store.SearchStore.set_edge.Goals as goal
 
 pub returns : goal.returns

@@ -5,8 +5,7 @@ use Rattle.plan_words.proofs.FirstPairs.{HasFirstPairs-seen, HasPairs-first, Has
 use Rattle.plan_words.proofs.SeenLists.{length-seen}
 use Rattle.plan_words.proofs.seen_pairs.SeenPairs.lower_children.Goals as goal
 use Rattle.plan_words.proofs.seen_pairs.SeenPairs.lower_children.Goals.{After-lower_chain}
-use Rattle.plan_words.specs.SeenChains.{seen_words, sibling_chain_in}
-use Rattle.plan_words.specs.States.{HasPairs}
+use Rattle.plan_words.proofs.Words.{seen_words, sibling_chain_in, HasPairs}
 use Rattle.grown_runs.proofs.Common.{IndexesChains, IsIndex-same}
 
 pub lower_chain-requires-clause-index : goal.lower_chain-requires-clause-index

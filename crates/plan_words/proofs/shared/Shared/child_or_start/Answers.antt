@@ -2,7 +2,7 @@ use Rattle.plan_words.proofs.KeptPairs.{keeps_saw}
 use Rattle.std.proofs.Common.{◌≡◌, ◌<◌, ◌≤◌, Some, ap, sym, subst, refl, ◌∙◌, arith}
 use Rattle.std.specs.Prelude.{MatchOption}
 use Rattle.plan_words.proofs.LookedNodes.{child_fits, child_found, place_here, seen_low}
-use Rattle.plan_words.proofs.Owning.{found_whole, may_load_here, same_run, same_table, sees_told}
+use Rattle.plan_words.proofs.Owning.{found_whole, looks_told, may_load_here, same_run, same_table, sees_told}
 use Rattle.plan_words.proofs.shared.Shared.child_or_start.Goals as goal
 use Rattle.grown_runs.proofs.Common.{child_of_word, ChildOf, place_of}
 use Rattle.step_core.proofs.Common.{SeesNode, last_zero, tree_seen}
@@ -39,6 +39,16 @@ returns-clause-seen c =
     let place = place_here c.self.inside.places _ c.pass.inside.seat.me.0
     (ChildOf c.args.node c.args.right) _ c.self.invariant.places_are own c.child-place.ensures in
     sees_told _ _ _ (ChildOf c.args.node c.args.right) _ _ (ap (λ p. p.view) c.pass.view_is) lawful (lawful.within c.args.node seen) place
+    c.load.ensures.2.told.view_is
+
+pub returns-clause-looked : goal.returns-clause-looked
+returns-clause-looked c =
+    let own = same_run _ _ _ _ c.pass.view_is c.self.view_is c.requires.belongs in
+    let seen = subst (λ p. SeesNode p.view c.args.node) (sym c.pass.view_is) c.requires.seen_node in
+    let lawful = c.pass.invariant.1.lawful in
+    let place = place_here c.self.inside.places _ c.pass.inside.seat.me.0
+    (ChildOf c.args.node c.args.right) _ c.self.invariant.places_are own c.child-place.ensures in
+    looks_told _ _ _ (ChildOf c.args.node c.args.right) _ _ (ap (λ p. p.view) c.pass.view_is) lawful (lawful.within c.args.node seen) place
     c.load.ensures.2.told.view_is
 
 pub returns-clause-found : goal.returns-clause-found

@@ -4,8 +4,7 @@ use Rattle.plan_words.proofs.Claiming.{claim_nearer, kept_exchanged, loaded_befo
 use Rattle.plan_words.proofs.GoingOn.{BelongsTo-later, GoesOn-more, GoesOn-trans}
 use Rattle.plan_words.proofs.WholeClaims.{HasWholeShare-kept, IsLeastOpen-first, RaisesCounter-exchanged, whole_twice}
 use Rattle.plan_words.proofs.shared.Shared.claim.Goals as goal
-use Rattle.plan_words.specs.Claims.{AllFull, IsClaimed, IsLeastOpen, IsOpen, KeepsHand, RaisesCounter, SeesAsBefore}
-use Rattle.plan_words.specs.States.{run_in, worker_of}
+use Rattle.plan_words.proofs.Words.{AllFull, IsClaimed, IsLeastOpen, IsOpen, KeepsHand, RaisesCounter, SeesAsBefore, run_in, worker_of}
 use Rattle.step_core.proofs.Common.{mark_of, IsLater-refl, IsLater-trans}
 
 pub tries-init : goal.tries-init

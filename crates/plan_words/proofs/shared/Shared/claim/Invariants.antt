@@ -1,6 +1,5 @@
 use Rattle.std.proofs.Common.{◌≡◌}
-use Rattle.plan_words.specs.Claims.{KeepsHand, SeesAsBefore}
-use Rattle.plan_words.specs.States.{BelongsTo, HasWholeShare, with_view}
+use Rattle.plan_words.proofs.Words.{KeepsHand, SeesAsBefore, BelongsTo, HasWholeShare, with_view}
 use Rattle.plan_words.proofs.GoingOn.{HasGoneOn}
 use Rattle.plan_words.proofs.Scanning.{left_over}
 use Rattle.plan_words.proofs.shared.Shared.claim.Given as goal

@@ -5,7 +5,7 @@ use Rattle.plan_words.proofs.KeptPairs.{keeps_hand}
 use Rattle.plan_words.proofs.Owning.{may_count_here, same_run, same_table}
 use Rattle.plan_words.proofs.ToldHands.{none_held}
 use Rattle.plan_words.proofs.shared.Shared.count.Goals as goal
-use Rattle.step_core.specs.ViewSteps.{counted}
+use Rattle.step_core.specs.ViewSteps.{counted, last_note, note_before}
 use Rattle.step_core.specs.declared.views.Stage.TheVariants.{Linked}
 
 pub unreachable-requires : goal.unreachable-requires
@@ -26,6 +26,6 @@ invariant_of-pass c =
     let hand = c.in-Some.hand in
     let held = sym c.pass.invariant.1.hand_is ∙ c.in-Some.is in
     let me = c.pass.inside.seat.me in
-    keeps_hand me c.fetch_add-count.new.seat.me (counted me.0 hand) _ _ c.at_stage.result _ _ _ _ _ (c.fetch_add-count.ensures.2 hand held)
-    c.pass.invariant refl
-    refl (ap Some (sym c.at_stage.ensures)) (λ n. refl)
+    let after = c.fetch_add-count.new.seat.me in
+    keeps_hand me after (counted me.0 hand (note_before after.0 0).word (last_note after.0)) _ _ c.at_stage.result _ _ _ _ _
+    (c.fetch_add-count.ensures.2 hand held) c.pass.invariant refl refl (ap Some (sym c.at_stage.ensures)) (λ n. refl)

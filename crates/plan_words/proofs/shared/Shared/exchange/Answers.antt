@@ -1,24 +1,24 @@
-use Rattle.std.proofs.Common.{◌≡◌, ℕ, ◌+◌, ◌<◌, ◌≤◌, ◌==◌, None, Some, ap, cond, length, refl, subst, sym, ◌∙◌}
+use Rattle.std.proofs.Common.{◌≡◌, ℕ, ◌+◌, ◌<◌, ◌≤◌, ◌==◌, List, None, Some, ap, cond, length, refl, subst, sym, ◌∙◌}
 use Rattle.std.proofs.lemmas.Bool.{eq-eqb, ne_eqb}
 use Rattle.plan_words.proofs.KeptPairs.{HasPairs-claimed, keeps_saw, keeps_view}
 use Rattle.plan_words.proofs.Owning.{found_whole, may_claim_here, same_run, same_table, sees_exchanged, tells_on, with_view_told}
 use Rattle.plan_words.proofs.shared.Shared.exchange.Goals as goal
-use Rattle.plan_words.specs.Plays.{Tells}
-use Rattle.plan_words.specs.States.{run_in}
+use Rattle.plan_words.proofs.Words.{Tells, run_in}
 use Rattle.grown_runs.proofs.Common.{WritesWord, Counter}
 use Rattle.plan_model.specs.Scenes.MarkPoints.{mark_of as mark_by_strips}
-use Rattle.step_core.proofs.Common.{claimed, loaded, mark_of, new_hand, place_in, saw_at, sees, share}
+use Rattle.step_core.proofs.Common.{claimed, last_note, loaded, mark_of, new_hand, place_in, saw_at, sees, share}
 use Rattle.step_core.specs.declared.views.View.{View}
 
 -- the view after an exchange was tried, by what the counter was
-abbrev view_exchanged : View → ℕ → ℕ → ℕ → ℕ → View
-view_exchanged view strip round limit x = cond (x == round) (claimed view strip round limit) (loaded view (Counter strip) x)
+abbrev view_exchanged : View → ℕ → ℕ → ℕ → ℕ → List ℕ → View
+view_exchanged view strip round limit x steps = cond (x == round) (claimed view strip round limit steps) (loaded view (Counter strip) x)
 
 view_exchanged-told :
-    (view then : View) (strip round next limit x place : ℕ) → then ≡ cond (x == round) (claimed view strip round limit) (saw_at view place x x)
-    → place ≡ place_in view (Counter strip) → round ≡ next → then ≡ view_exchanged view strip next limit x
-view_exchanged-told view then strip round next limit x place is at same =
-    is ∙ ap (λ n. cond (x == round) (claimed view strip round limit) (saw_at view n x x)) at ∙ ap (λ n. view_exchanged view strip n limit x) same
+    (view then : View) (strip round next limit x place : ℕ) (steps : List ℕ)
+    → then ≡ cond (x == round) (claimed view strip round limit steps) (saw_at view place x x)
+    → place ≡ place_in view (Counter strip) → round ≡ next → then ≡ view_exchanged view strip next limit x steps
+view_exchanged-told view then strip round next limit x place steps is at same =
+    is ∙ ap (λ n. cond (x == round) (claimed view strip round limit steps) (saw_at view n x x)) at ∙ ap (λ n. view_exchanged view strip n limit x steps) same
 
 pub compare_exchange_with-found-requires : goal.compare_exchange_with-found-requires
 compare_exchange_with-found-requires c =
@@ -41,8 +41,8 @@ returns-then-found-round-clause-seen c =
     let x = c.compare_exchange_with-found.result in
     let then = c.compare_exchange_with-found.new.seat.me.0 in
     subst (λ round. WritesWord (Counter c.args.next.strip) (cond (x == round) (round + 1) x) (sees c.args.pass.now.view) (sees then)) c.from-round.ensures
-    (sees_exchanged _ _ _ c.args.next.strip c.from-round.result c.args.limit _ x (ap (λ p. p.view) c.pass.view_is) c.pass.invariant.1.lawful here
-    c.counter-place.ensures c.compare_exchange_with-found.ensures.2.told.view_is)
+    (sees_exchanged _ _ _ c.args.next.strip c.from-round.result c.args.limit _ x (last_note then) (ap (λ p. p.view) c.pass.view_is) c.pass.invariant.1.lawful
+    here c.counter-place.ensures c.compare_exchange_with-found.ensures.2.told.view_is)
 
 pub returns-else-found-round-clause-seen : goal.returns-else-found-round-clause-seen
 returns-else-found-round-clause-seen c =
@@ -52,8 +52,8 @@ returns-else-found-round-clause-seen c =
     let x = c.compare_exchange_with-found.result in
     let then = c.compare_exchange_with-found.new.seat.me.0 in
     subst (λ round. WritesWord (Counter c.args.next.strip) (cond (x == round) (round + 1) x) (sees c.args.pass.now.view) (sees then)) c.from-round.ensures
-    (sees_exchanged _ _ _ c.args.next.strip c.from-round.result c.args.limit _ x (ap (λ p. p.view) c.pass.view_is) c.pass.invariant.1.lawful here
-    c.counter-place.ensures c.compare_exchange_with-found.ensures.2.told.view_is)
+    (sees_exchanged _ _ _ c.args.next.strip c.from-round.result c.args.limit _ x (last_note then) (ap (λ p. p.view) c.pass.view_is) c.pass.invariant.1.lawful
+    here c.counter-place.ensures c.compare_exchange_with-found.ensures.2.told.view_is)
 
 pub invariant_of-pass : goal.invariant_of-pass
 invariant_of-pass c =
@@ -63,14 +63,14 @@ invariant_of-pass c =
     let me = c.pass.inside.seat.me in
     let after = c.compare_exchange_with-found.new.seat.me in
     let x = c.compare_exchange_with-found.result in
-    let then = claimed me.0 c.args.next.strip c.from-round.result c.args.limit in
+    let then = claimed me.0 c.args.next.strip c.from-round.result c.args.limit (last_note after.0) in
     let told = subst (λ b. Tells me (cond b then (saw_at me.0 c.counter-place.result x x)) after) (eq-eqb x c.from-round.result c.if-found-round.true)
     c.compare_exchange_with-found.ensures.2.told in
     keeps_view me after then _ _ _ _ _ _ _ _ c.pass.inside.pairs _ told c.pass.invariant refl c.pass.invariant.1.member_is
     (ap (λ k. Some (new_hand k))
     (c.mark_of.ensures ∙ ap (mark_by_strips c.self.inside.task.scene.strips c.args.next.strip) (sym c.from-round.ensures)
     ∙ ap (λ r. mark_of r c.args.next.strip c.from-round.result) (sym own)))
-    (HasPairs-claimed me.0 c.pass.inside.pairs c.args.next.strip c.from-round.result c.args.limit c.pass.invariant.1.lawful here)
+    (HasPairs-claimed me.0 c.pass.inside.pairs c.args.next.strip c.from-round.result c.args.limit (last_note after.0) c.pass.invariant.1.lawful here)
 
 pub invariant_of-pass-else-found-round : goal.invariant_of-pass-else-found-round
 invariant_of-pass-else-found-round c =
@@ -80,7 +80,8 @@ invariant_of-pass-else-found-round c =
     let me = c.pass.inside.seat.me in
     let after = c.compare_exchange_with-found.new.seat.me in
     let x = c.compare_exchange_with-found.result in
-    let told = subst (λ b. Tells me (cond b (claimed me.0 c.args.next.strip c.from-round.result c.args.limit) (saw_at me.0 c.counter-place.result x x)) after)
+    let told = subst (λ b. Tells me (cond b (claimed me.0 c.args.next.strip c.from-round.result c.args.limit (last_note after.0))
+    (saw_at me.0 c.counter-place.result x x)) after)
     (ne_eqb x c.from-round.result c.if-found-round.false) c.compare_exchange_with-found.ensures.2.told in
     keeps_saw me after _ _ _ _ _ _ c.pass.inside.pairs (Counter c.args.next.strip) _ _ _ told c.pass.invariant here c.counter-place.ensures (λ n e. cc)
 
@@ -104,10 +105,11 @@ pub returns-then-found-round-clause-view : goal.returns-then-found-round-clause-
 returns-then-found-round-clause-view c =
     let next = c.args.next in
     with_view_told _ _ _ c.compare_exchange_with-found.new.seat.me.0
-    (λ v. view_exchanged v next.strip next.round c.args.limit c.compare_exchange_with-found.result) c.pass.view_is
+    (λ v. view_exchanged v next.strip next.round c.args.limit c.compare_exchange_with-found.result
+    (last_note c.compare_exchange_with-found.new.seat.me.0)) c.pass.view_is
     c.compare_exchange_with-found.ensures.0
     (view_exchanged-told c.pass.inside.seat.me.0 c.compare_exchange_with-found.new.seat.me.0 next.strip c.from-round.result next.round c.args.limit
-    c.compare_exchange_with-found.result c.counter-place.result c.compare_exchange_with-found.ensures.2.told.view_is c.counter-place.ensures
+    c.compare_exchange_with-found.result c.counter-place.result _ c.compare_exchange_with-found.ensures.2.told.view_is c.counter-place.ensures
     c.from-round.ensures)
 
 pub returns-then-found-round-clause-goes_on : goal.returns-then-found-round-clause-goes_on
@@ -118,10 +120,11 @@ pub returns-else-found-round-clause-view : goal.returns-else-found-round-clause-
 returns-else-found-round-clause-view c =
     let next = c.args.next in
     with_view_told _ _ _ c.compare_exchange_with-found.new.seat.me.0
-    (λ v. view_exchanged v next.strip next.round c.args.limit c.compare_exchange_with-found.result) c.pass.view_is
+    (λ v. view_exchanged v next.strip next.round c.args.limit c.compare_exchange_with-found.result
+    (last_note c.compare_exchange_with-found.new.seat.me.0)) c.pass.view_is
     c.compare_exchange_with-found.ensures.0
     (view_exchanged-told c.pass.inside.seat.me.0 c.compare_exchange_with-found.new.seat.me.0 next.strip c.from-round.result next.round c.args.limit
-    c.compare_exchange_with-found.result c.counter-place.result c.compare_exchange_with-found.ensures.2.told.view_is c.counter-place.ensures
+    c.compare_exchange_with-found.result c.counter-place.result _ c.compare_exchange_with-found.ensures.2.told.view_is c.counter-place.ensures
     c.from-round.ensures)
 
 pub returns-else-found-round-clause-goes_on : goal.returns-else-found-round-clause-goes_on

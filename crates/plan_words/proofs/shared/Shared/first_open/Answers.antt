@@ -5,8 +5,7 @@ use Rattle.plan_words.proofs.Claiming.{best_strip, counters_changed, kept_loaded
 use Rattle.plan_words.proofs.GoingOn.{BelongsTo-later, GoesOn-more}
 use Rattle.plan_words.proofs.WholeClaims.{whole_loaded}
 use Rattle.plan_words.proofs.shared.Shared.first_open.Goals as goal
-use Rattle.plan_words.specs.Claims.{is_own}
-use Rattle.plan_words.specs.States.{worker_of}
+use Rattle.plan_words.proofs.Words.{is_own, worker_of}
 use Rattle.step_core.specs.declared.views.SharedRun.{SharedRun}
 use Rattle.step_core.proofs.OneView.LaterViews.{IsLater-refl, IsLater-trans}
 

@@ -1,6 +1,5 @@
 use Rattle.std.proofs.Common.{◌≡◌, ◌%◌, ◌<◌, ◌⊎◌, ℕ}
-use Rattle.plan_words.specs.Claims.{KeepsHand, SeesAsBefore}
-use Rattle.plan_words.specs.States.{BelongsTo, GoesOn, HasWholeShare, with_view, worker_of}
+use Rattle.plan_words.proofs.Words.{KeepsHand, SeesAsBefore, BelongsTo, GoesOn, HasWholeShare, with_view, worker_of}
 use Rattle.plan_words.proofs.Scanning.{Scanned}
 use Rattle.plan_words.proofs.shared.Shared.first_open.Given as goal
 use Rattle.step_core.proofs.Common.{IsLater, last_look, sees}

@@ -4,8 +4,7 @@ use Rattle.plan_words.proofs.Joining.{first-joined, keeps_taken_over}
 use Rattle.plan_words.proofs.Owning.{BelongsTo-seat, same_run, with_view_told}
 use Rattle.plan_words.proofs.SeenChildren.{HasParentsBelow-seen}
 use Rattle.plan_words.proofs.shared.Shared.join.Goals as goal
-use Rattle.plan_words.specs.Parents.{HasParentsBelow}
-use Rattle.plan_words.specs.States.{GoesOn, PassState, first_member}
+use Rattle.plan_words.proofs.Words.{HasParentsBelow, GoesOn, PassState, first_member}
 use Rattle.step_core.proofs.Common.{joined, loaded, sees}
 use Rattle.grown_runs.proofs.Common.{AreBehind, Count}
 

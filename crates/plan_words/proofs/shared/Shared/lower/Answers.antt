@@ -6,9 +6,8 @@ use Rattle.plan_words.proofs.KeptPairs.{fits_word}
 use Rattle.plan_words.proofs.Posting.{OnlyPosts-after, goal-before, goal-later, lowered_here}
 use Rattle.plan_words.proofs.shared.Shared.lower.Goals as goal
 use Rattle.plan_words.proofs.shared.Shared.lower.Goals.{After-lower_pair}
-use Rattle.plan_words.specs.Bests.{LooksAndPosts}
-use Rattle.plan_words.specs.States.{PassState, SharedState}
-use Rattle.step_core.proofs.Common.{lowered, IsPresent-later}
+use Rattle.plan_words.proofs.Words.{LooksAndPosts, PassState, SharedState}
+use Rattle.step_core.proofs.Common.{HasLooked-trans, last_note, lowered, IsPresent-later}
 use Rattle.grown_runs.proofs.Common.{Words, TreeOf, best_word, cost_in, cost_in-tree_word}
 
 pub returns-in_err-lower_pair-clause-whole : goal.returns-in_err-lower_pair-clause-whole
@@ -25,9 +24,11 @@ post_lowered-requires-clause-present c =
     IsPresent-later c.args.pass.now.view c.lower_pair.new.pass.view later.run later.seen c.args.node (ap is_some c.requires.may.seen.stands)
 
 pub returns-then-self-clause-posts : goal.returns-then-self-clause-posts
-returns-then-self-clause-posts c _ =
-    subst (λ v. LooksAndPosts c.args.node v c.post_lowered.new.pass.view) (ap (λ (p : PassState). p.view) c.in_ok-lower_pair.ensures.view)
-    c.post_lowered.ensures.posts
+returns-then-self-clause-posts c _ = (
+  last_note c.lower_pair.new.pass.view,
+  subst (λ v. LooksAndPosts c.args.node v c.post_lowered.new.pass.view) (ap (λ (p : PassState). p.view) c.in_ok-lower_pair.ensures.view)
+      c.post_lowered.ensures.posts,
+)
 
 pub returns-else-self-clause-posts : goal.returns-else-self-clause-posts
 returns-else-self-clause-posts c informed =
@@ -36,7 +37,7 @@ returns-else-self-clause-posts c informed =
 pub returns-then-self-clause-kept : goal.returns-then-self-clause-kept
 returns-then-self-clause-kept c =
     OnlyPosts-after c.args.node c.args.pass.now c.lower_pair.new.pass c.post_lowered.new.pass
-    (lowered c.args.pass.now.view c.args.node c.args.parent c.args.cost) c.in_ok-lower_pair.ensures.view refl refl refl
+    (lowered c.args.pass.now.view c.args.node c.args.parent c.args.cost (last_note c.lower_pair.new.pass.view)) c.in_ok-lower_pair.ensures.view refl refl refl
     (goal-before c.args.pass.now.view c.lower_pair.new.pass.view c.args.node c.requires.may.at c.in_ok-lower_pair.ensures.goes_on
     c.requires.may.seen.stands)
     c.post_lowered.ensures.kept
@@ -55,12 +56,12 @@ within c =
 pub returns-then-self-clause-lowered : goal.returns-then-self-clause-lowered
 returns-then-self-clause-lowered c =
     ap (λ (w : Words). w (TreeOf c.args.node)) c.post_lowered.ensures.seen
-    ∙ lowered_here c.args.pass.now c.lower_pair.new.pass c.args.node c.args.parent c.args.cost c.requires.belongs.lawful
+    ∙ lowered_here c.args.pass.now c.lower_pair.new.pass c.args.node c.args.parent c.args.cost _ c.requires.belongs.lawful
     (within (goal.at.returns-then-self-clause-lowered c).After-lower_pair) c.in_ok-lower_pair.ensures.view
 
 pub returns-else-self-clause-lowered : goal.returns-else-self-clause-lowered
 returns-else-self-clause-lowered c =
-    lowered_here c.args.pass.now c.lower_pair.new.pass c.args.node c.args.parent c.args.cost c.requires.belongs.lawful
+    lowered_here c.args.pass.now c.lower_pair.new.pass c.args.node c.args.parent c.args.cost _ c.requires.belongs.lawful
     (within (goal.at.returns-else-self-clause-lowered c).After-lower_pair) c.in_ok-lower_pair.ensures.view
 
 pub returns-then-self-clause-posted : goal.returns-then-self-clause-posted
@@ -69,9 +70,17 @@ returns-then-self-clause-posted c here =
     let mid = c.lower_pair.new.pass.view in
     let may = c.requires.may in
     let lawful = c.requires.belongs.lawful in
-    let wrote = lowered_here c.args.pass.now c.lower_pair.new.pass c.args.node c.args.parent c.args.cost lawful
+    let wrote = lowered_here c.args.pass.now c.lower_pair.new.pass c.args.node c.args.parent c.args.cost _ lawful
     (within (goal.at.returns-then-self-clause-posted c).After-lower_pair) c.in_ok-lower_pair.ensures.view in
     let fits = fits_word before may.at c.args.parent c.args.cost lawful may.below in
     let cost = ap cost_in wrote ∙ cost_in-tree_word c.args.parent c.args.cost fits.0 fits.1 in
     subst (λ x. c.post_lowered.new.pass.view.best ≤ best_word x c.args.node) cost
     (c.post_lowered.ensures.posted (goal-later before mid c.args.node may.at c.in_ok-lower_pair.ensures.goes_on may.seen.stands here))
+
+pub returns-then-self-clause-looked : goal.returns-then-self-clause-looked
+returns-then-self-clause-looked c = c.post_lowered.ensures.looked c.args.node ∙ c.in_ok-lower_pair.ensures.looked
+
+pub returns-then-self-clause-shown : goal.returns-then-self-clause-shown
+returns-then-self-clause-shown c =
+    HasLooked-trans c.args.pass.now.view c.lower_pair.new.pass.view c.post_lowered.new.pass.view c.in_ok-lower_pair.ensures.goes_on.later
+    c.post_lowered.ensures.goes_on.later c.in_ok-lower_pair.ensures.shown c.post_lowered.ensures.shown

@@ -1,14 +1,15 @@
-use Rattle.std.proofs.Common.{◌≡◌, ◌≤◌, ap, arith, is_some, subst, sym, ◌∙◌}
+use Rattle.std.proofs.Common.{◌≡◌, ◌≤◌, List, ◌∷◌, ap, arith, is_some, length, subst, sym, ◌∙◌}
 use Rattle.std.specs.Prelude.{◌==◌, cond}
-use Rattle.plan_words.proofs.KeptPairs.{fits_word}
+use Rattle.plan_words.proofs.KeptPairs.{fits_word, lower_view}
 use Rattle.plan_words.proofs.LookedNodes.{place_here, seen_low}
 use Rattle.plan_words.proofs.Owning.{may_lower_here}
-use Rattle.plan_words.proofs.SeatSteps.{LooksOn-told, SitsAt-told, writes_told}
+use Rattle.plan_words.proofs.SeatSteps.{LooksOn-told, SitsAt-told, exchanged_noted, looked_told, with_notes, writes_told}
 use Rattle.plan_words.proofs.shared.Shared.lower_at.Goals as goal
 use Rattle.plan_words.proofs.shared.Shared.lower_at.Goals.{After-compare_exchange}
-use Rattle.plan_words.specs.States.{run_in}
-use Rattle.step_core.proofs.Common.{place_in, SeesNode, sees}
-use Rattle.grown_runs.proofs.Common.{WritesWord, PointOf, TreeOf, place_of}
+use Rattle.plan_words.proofs.Words.{Tells, run_in}
+use Rattle.step_core.proofs.Common.{last_note, place_in, saw_at, SeesNode, sees}
+use Rattle.step_core.specs.declared.views.Note.{Note}
+use Rattle.grown_runs.proofs.Common.{WritesWord, TreeOf, place_of}
 
 pub tree-place-requires : goal.tree-place-requires
 tree-place-requires c =
@@ -38,46 +39,69 @@ compare_exchange-requires c =
     may_lower_here _ _ _ _ c.self.invariant _ _ _ _ _ c.args.node c.args.parent c.args.cost _ same own low place c.requires.part c.requires.may node
     c.requires.seen c.pack_tree.ensures
 
-node_of : (c : After-compare_exchange) → SeesNode c.args.seat.now.me.0 c.args.node
-node_of c = c.requires.sits.lawful.tree.rooted.points c.args.node (ap is_some c.requires.may.seen.stands)
+within : (c : After-compare_exchange) → c.args.node ≤ length c.args.seat.now.me.0.run.marks
+within c =
+    c.requires.sits.lawful.within c.args.node (c.requires.sits.lawful.tree.rooted.points c.args.node (ap is_some c.requires.may.seen.stands))
 
 here : (c : After-compare_exchange) → c.tree-place.result ≡ place_in c.args.seat.now.me.0 (TreeOf c.args.node)
 here c =
     place_here c.self.inside.places _ c.args.seat.now.me.0 (TreeOf c.args.node) _ c.self.invariant.places_are
     (c.requires.sits.run ∙ ap run_in (sym c.self.view_is)) c.tree-place.ensures
 
-writes : (c : After-compare_exchange) → WritesWord (TreeOf c.args.node)
-    (cond (c.compare_exchange.result == c.args.seen) c.pack_tree.result c.compare_exchange.result)
-    (sees c.args.seat.now.me.0) (sees c.compare_exchange.new.seat.me.0)
-writes c =
-    writes_told c.args.seat.now.me c.compare_exchange.new.seat.me (TreeOf c.args.node) c.tree-place.result _ _ c.requires.sits.lawful
-    (c.requires.sits.lawful.within c.args.node (node_of c)) (here c) c.compare_exchange.ensures.2.told
+-- the notes then
+abbrev notes : After-compare_exchange → List Note
+notes c =
+    let note : Note = record { place = c.tree-place.result; word = c.pack_tree.result; steps = last_note c.compare_exchange.new.seat.me.0 } in
+    cond (c.compare_exchange.result == c.args.seen) (note ∷ c.args.seat.now.me.0.notes) c.args.seat.now.me.0.notes
+
+told : (c : After-compare_exchange) → Tells c.args.seat.now.me
+    (with_notes (saw_at c.args.seat.now.me.0 c.tree-place.result c.compare_exchange.result
+    (cond (c.compare_exchange.result == c.args.seen) c.pack_tree.result c.compare_exchange.result)) (notes c))
+    c.compare_exchange.new.seat.me
+told c =
+    subst (λ v. Tells c.args.seat.now.me v c.compare_exchange.new.seat.me)
+    (exchanged_noted c.args.seat.now.me.0 c.tree-place.result c.args.seen c.pack_tree.result c.compare_exchange.result
+    (last_note c.compare_exchange.new.seat.me.0))
+    c.compare_exchange.ensures.2.told
 
 pub returns-clause-sits : goal.returns-clause-sits
 returns-clause-sits c =
     let at = (goal.at.returns-clause-sits c).After-compare_exchange in
-    SitsAt-told c.args.seat.now.me c.compare_exchange.new.seat.me (TreeOf c.args.node) c.tree-place.result _ _ c.requires.sits.lawful
-    (c.requires.sits.lawful.within c.args.node (node_of at)) (here at) c.compare_exchange.ensures.2.told _ _ _ c.compare_exchange.ensures.0 c.requires.sits
+    SitsAt-told c.args.seat.now.me c.compare_exchange.new.seat.me (TreeOf c.args.node) c.tree-place.result _ _ (notes at) c.requires.sits.lawful
+    (within at) (here at) (told at) _ _ _ c.compare_exchange.ensures.0 c.requires.sits
 
 pub returns-clause-looks : goal.returns-clause-looks
 returns-clause-looks c =
     let at = (goal.at.returns-clause-looks c).After-compare_exchange in
-    LooksOn-told c.args.seat.now.me c.compare_exchange.new.seat.me (TreeOf c.args.node) c.tree-place.result _ _ c.requires.sits.lawful
-    (c.requires.sits.lawful.within c.args.node (node_of at)) (here at) c.compare_exchange.ensures.2.told (λ other off. (off c.args.node).0)
+    LooksOn-told c.args.seat.now.me c.compare_exchange.new.seat.me (TreeOf c.args.node) c.tree-place.result _ _ (notes at) c.requires.sits.lawful
+    (within at) (here at) (told at) (λ other off. (off c.args.node).0)
 
-pub returns-clause-here : goal.returns-clause-here
-returns-clause-here c =
-    (writes (goal.at.returns-clause-here c).After-compare_exchange).here
-    ∙ ap (λ w. cond (c.compare_exchange.result == c.args.seen) w c.compare_exchange.result) c.pack_tree.ensures
+pub returns-clause-hand : goal.returns-clause-hand
+returns-clause-hand c = ap (λ v. v.hand) (told (goal.at.returns-clause-hand c).After-compare_exchange).view_is
 
-pub returns-clause-others : goal.returns-clause-others
-returns-clause-others c n apart = (writes (goal.at.returns-clause-others c).After-compare_exchange).others (TreeOf n) (λ e. apart cc)
+pub returns-clause-view : goal.returns-clause-view
+returns-clause-view c =
+    let then = c.compare_exchange.new.seat.me.0 in
+    lower_view c.args.seat.now.me.0 then c.args.node c.args.parent c.args.cost _ _ _ c.compare_exchange.result (last_note then)
+    (here (goal.at.returns-clause-view c).After-compare_exchange) c.requires.seen c.pack_tree.ensures c.compare_exchange.ensures.2.told.view_is
+
+pub returns-clause-wrote : goal.returns-clause-wrote
+returns-clause-wrote c =
+    let at = (goal.at.returns-clause-wrote c).After-compare_exchange in
+    let found = c.compare_exchange.result in
+    subst (λ w. WritesWord (TreeOf c.args.node) (cond (found == c.args.seen) w found) (sees c.args.seat.now.me.0) (sees c.compare_exchange.new.seat.me.0))
+    c.pack_tree.ensures
+    (writes_told c.args.seat.now.me c.compare_exchange.new.seat.me (TreeOf c.args.node) c.tree-place.result _ _ (notes at) c.requires.sits.lawful
+    (within at) (here at) (told at))
+
+pub returns-clause-looked : goal.returns-clause-looked
+returns-clause-looked c =
+    let at = (goal.at.returns-clause-looked c).After-compare_exchange in
+    (looked_told c.args.seat.now.me c.compare_exchange.new.seat.me (TreeOf c.args.node) c.tree-place.result _ _ (notes at) c.requires.sits.lawful
+    (within at) (here at) (told at)).here
 
 pub returns-clause-found : goal.returns-clause-found
 returns-clause-found c off = c.compare_exchange.ensures.2.fell off
 
 pub returns-clause-whole : goal.returns-clause-whole
 returns-clause-whole c all = c.compare_exchange.ensures.2.whole all
-
-pub returns-clause-points : goal.returns-clause-points
-returns-clause-points c n = (writes (goal.at.returns-clause-points c).After-compare_exchange).others (PointOf n) (λ e. cc)

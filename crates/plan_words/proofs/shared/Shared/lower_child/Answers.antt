@@ -1,94 +1,196 @@
-use Rattle.std.proofs.Common.{◌≡◌, ◌+◌, ◌<◌, ap, arith, inl, inr, ◌∙◌}
-use Rattle.std.specs.Prelude.{cond}
-use Rattle.std.proofs.lemmas.Bool.{cases_lt, eq-eqb}
+use Rattle.std.proofs.Common.{◌≡◌, ◌≢◌, ◌+◌, ◌<◌, ℕ, ap, arith, inl, inr, length, subst, sym, ◌∙◌}
+use Rattle.std.specs.Prelude.{◌==◌, cond}
+use Rattle.std.proofs.lemmas.Bool.{cases_lt, eq-eqb, ne_eqb}
 use Rattle.grown_runs.proofs.Common.{cost_of, PointOf, TreeOf, cost_in, tree_word}
-use Rattle.plan_words.proofs.ChildCosts.{CostsAtMostThrough-looked, CostsAtMostThrough-lowered, HasSeenParent-lowered, MayLower-child, cost-lowered, own_mid}
+use Rattle.plan_words.proofs.ChildCosts.{CostsAtMostThrough-kept, CostsAtMostThrough-looked, CostsAtMostThrough-lowered, HasSeenParent-kept}
+use Rattle.plan_words.proofs.ChildCosts.{HasSeenParent-lowered, LooksAtChild, MayLower-child, cost-lowered, own_mid, stands_on}
+use Rattle.plan_words.proofs.GoingOn.{GoesOn-trans}
 use Rattle.plan_words.proofs.Posting.{goal-goes_on}
-use Rattle.plan_words.proofs.SeatSteps.{LooksOn-trans}
+use Rattle.plan_words.proofs.SeatSteps.{LooksOn-trans, points_kept, whole_later}
 use Rattle.plan_words.proofs.shared.Shared.lower_child.Goals as goal
-use Rattle.plan_words.proofs.shared.Shared.lower_child.Goals.{After-cost}
-use Rattle.step_core.specs.Views.{sees}
+use Rattle.plan_words.proofs.shared.Shared.lower_child.Goals.{After-cost, After-lower_at-found, After-point_in-point}
+use Rattle.step_core.proofs.Common.{SeesPoint, sees}
+
+-- ---- the point was looked at
+
+looked : (c : After-point_in-point)
+    → LooksAtChild c.args.seat.now.me.0 c.point_at-word.new.seat.me.0 c.args.above c.args.child c.point_in-point.result
+looked c = record {
+  looks = c.point_at-word.ensures.looks;
+  same = λ n. c.point_at-word.ensures.seen.others (TreeOf n) (λ e. cc);
+  above_seen = c.requires.above;
+  own = c.requires.child;
+  stands = subst (SeesPoint c.point_at-word.new.seat.me.0 c.args.child) (sym c.point_in-point.ensures) c.point_at-word.ensures.found;
+}
+
+pub returns-then-not-costs_less_through-clause-held : goal.returns-then-not-costs_less_through-clause-held
+returns-then-not-costs_less_through-clause-held c = c.requires.held ∙ sym (ap (λ v. v.hand) c.point_at-word.ensures.view)
+
+pub returns-then-not-costs_less_through-clause-others : goal.returns-then-not-costs_less_through-clause-others
+returns-then-not-costs_less_through-clause-others c n apart = c.point_at-word.ensures.seen.others (TreeOf n) (λ e. cc)
+
+pub returns-then-not-costs_less_through-clause-here : goal.returns-then-not-costs_less_through-clause-here
+returns-then-not-costs_less_through-clause-here c =
+    c.requires.seen ∙ sym (c.point_at-word.ensures.seen.others (TreeOf c.args.child) (λ e. cc))
 
 pub returns-then-not-costs_less_through-clause-is : goal.returns-then-not-costs_less_through-clause-is
 returns-then-not-costs_less_through-clause-is c =
-    let before = c.args.seat.now.me.0 in
-    let mid = c.point_at-point.new.seat.me.0 in
-    let point = c.point_at-point.ensures in
-    let at = c.point_at-point.result in (
-      own_mid before mid c.args.above c.args.child at point.looks point.same c.requires.above c.requires.child point.found,
-      CostsAtMostThrough-looked before mid c.args.above c.args.child at point.looks point.same c.requires.above c.requires.child point.found
-          (elim (cases_lt (c.args.above.cost + cost_of c.args.above.point at) (cost_in (sees before (TreeOf c.args.child)))) [
+    let child = looked (goal.at.returns-then-not-costs_less_through-clause-is c).After-point_in-point in (
+      own_mid _ _ _ _ _ child,
+      CostsAtMostThrough-looked _ _ _ _ _ child
+          (elim (cases_lt (c.args.above.cost + cost_of c.args.above.point c.point_in-point.result)
+          (cost_in (sees c.args.seat.now.me.0 (TreeOf c.args.child)))) [
             | inl less ↦ absurd (let yes = c.costs_less_through.ensures.1 (omega (arith, less, c.pair_in.ensures.cost, ap cost_in c.requires.seen)) in cc)
             | inr most ↦ most
           ]),
     )
 
-less : (c : After-cost) → c.args.above.cost + c.cost.result < cost_in (sees c.args.seat.now.me.0 (TreeOf c.args.child))
-less c =
-    omega (
+pub returns-then-not-costs_less_through-clause-points : goal.returns-then-not-costs_less_through-clause-points
+returns-then-not-costs_less_through-clause-points c all =
+    points_kept c.args.seat.now.me.0 c.point_at-word.new.seat.me.0 c.args.child _ c.point_at-word.ensures.seen (c.point_at-word.ensures.whole all)
+
+-- ---- the exchange
+
+cost_is : (c : After-cost) → c.args.above.cost + c.cost.result ≡ c.args.above.cost + cost_of c.args.above.point c.point_in-point.result
+cost_is c = omega (arith, c.cost.ensures.value)
+
+pub lower_at-found-requires-clause-part : goal.lower_at-found-requires-clause-part
+lower_at-found-requires-clause-part c = subst (λ l. 0 < length l) (sym c.point_at-word.ensures.looks.kept.crew) c.requires.part
+
+pub lower_at-found-requires-clause-may : goal.lower_at-found-requires-clause-may
+lower_at-found-requires-clause-may c =
+    let at = goal.at.lower_at-found-requires-clause-may c in
+    MayLower-child _ _ _ _ _ (looked at.After-point_in-point) (c.args.above.cost + c.cost.result) (cost_is at.After-cost)
+    (omega (
       arith,
       c.cost.ensures.value,
       c.costs_less_through.ensures.0 c.if-not-costs_less_through.false,
       c.pair_in.ensures.cost,
       ap cost_in c.requires.seen,
-    )
+    ))
 
-pub exchange_at-found-requires-clause-may : goal.exchange_at-found-requires-clause-may
-exchange_at-found-requires-clause-may c =
-    let point = c.point_at-point.ensures in
-    MayLower-child c.args.seat.now.me.0 c.point_at-point.new.seat.me.0 c.args.above c.args.child c.point_at-point.result point.looks point.same
-    c.requires.above c.requires.child point.found (c.args.above.cost + c.cost.result) (omega (arith, c.cost.ensures.value))
-    (less (goal.at.exchange_at-found-requires-clause-may c).After-cost)
+pub lower_at-found-requires-clause-seen : goal.lower_at-found-requires-clause-seen
+lower_at-found-requires-clause-seen c = c.requires.seen ∙ sym (c.point_at-word.ensures.seen.others (TreeOf c.args.child) (λ e. cc))
 
-pub returns-then-found-seen-clause-looks : goal.returns-then-found-seen-clause-looks
-returns-then-found-seen-clause-looks c =
-    LooksOn-trans c.args.seat.now.me.0 c.point_at-point.new.seat.me.0 c.exchange_at-found.new.seat.me.0 c.point_at-point.ensures.looks
-    c.exchange_at-found.ensures.looks
+here : (c : After-lower_at-found) → c.lower_at-found.result ≡ c.args.seen
+    → sees c.lower_at-found.new.seat.me.0 (TreeOf c.args.child) ≡ tree_word c.args.above.node (c.args.above.cost + c.cost.result)
+here c found =
+    c.lower_at-found.ensures.wrote.here
+    ∙ ap (λ b. cond b (tree_word c.args.above.node (c.args.above.cost + c.cost.result)) c.lower_at-found.result)
+    (eq-eqb c.lower_at-found.result c.args.seen found)
+
+hand_kept : (c : After-lower_at-found) → c.args.hand.now ≡ c.lower_at-found.new.seat.me.0.hand
+hand_kept c = c.requires.held ∙ sym (ap (λ v. v.hand) c.point_at-word.ensures.view) ∙ sym c.lower_at-found.ensures.hand
+
+others_kept : (c : After-lower_at-found) → (n : ℕ) → n ≢ c.args.child
+    → sees c.lower_at-found.new.seat.me.0 (TreeOf n) ≡ sees c.point_at-word.new.seat.me.0 (TreeOf n)
+others_kept c n apart = c.lower_at-found.ensures.wrote.others (TreeOf n) (λ e. apart cc)
+
+-- ---- another word was found
+
+pub returns-else-found-seen-clause-held : goal.returns-else-found-seen-clause-held
+returns-else-found-seen-clause-held c = hand_kept (goal.at.returns-else-found-seen-clause-held c).After-lower_at-found
 
 pub returns-else-found-seen-clause-looks : goal.returns-else-found-seen-clause-looks
 returns-else-found-seen-clause-looks c =
-    LooksOn-trans c.args.seat.now.me.0 c.point_at-point.new.seat.me.0 c.exchange_at-found.new.seat.me.0 c.point_at-point.ensures.looks
-    c.exchange_at-found.ensures.looks
+    LooksOn-trans c.args.seat.now.me.0 c.point_at-word.new.seat.me.0 c.lower_at-found.new.seat.me.0 c.point_at-word.ensures.looks
+    c.lower_at-found.ensures.looks
 
+pub returns-else-found-seen-clause-others : goal.returns-else-found-seen-clause-others
+returns-else-found-seen-clause-others c n apart =
+    others_kept (goal.at.returns-else-found-seen-clause-others c).After-lower_at-found n apart
+    ∙ c.point_at-word.ensures.seen.others (TreeOf n) (λ e. cc)
+
+pub returns-else-found-seen-clause-found : goal.returns-else-found-seen-clause-found
+returns-else-found-seen-clause-found c =
+    let found = c.lower_at-found.result in (
+      sym (c.lower_at-found.ensures.wrote.here ∙ ap (λ b. cond b (tree_word c.args.above.node (c.args.above.cost + c.cost.result)) found)
+          (ne_eqb found c.args.seen c.if-found-seen.false)),
+      c.lower_at-found.ensures.found c.if-found-seen.false,
+    )
+
+pub returns-else-found-seen-clause-whole : goal.returns-else-found-seen-clause-whole
+returns-else-found-seen-clause-whole c all =
+    absurd (c.if-found-seen.false (c.lower_at-found.ensures.whole
+    (whole_later c.args.seat.now.me.0 c.point_at-word.new.seat.me.0 c.point_at-word.ensures.looks all)))
+
+pub returns-else-found-seen-clause-points : goal.returns-else-found-seen-clause-points
+returns-else-found-seen-clause-points c all n =
+    c.lower_at-found.ensures.wrote.others (PointOf n) (λ e. cc)
+    ∙ points_kept c.args.seat.now.me.0 c.point_at-word.new.seat.me.0 c.args.child _ c.point_at-word.ensures.seen (c.point_at-word.ensures.whole all) n
+
+-- ---- the child was lowered
+
+pub post_child-requires-clause-held : goal.post_child-requires-clause-held
+post_child-requires-clause-held c = hand_kept (goal.at.post_child-requires-clause-held c).After-lower_at-found
+
+pub post_child-requires-clause-part : goal.post_child-requires-clause-part
+post_child-requires-clause-part c =
+    subst (λ l. 0 < length l) (sym (c.lower_at-found.ensures.looks.kept.crew ∙ c.point_at-word.ensures.looks.kept.crew)) c.requires.part
+
+pub post_child-requires-clause-stands : goal.post_child-requires-clause-stands
+post_child-requires-clause-stands c =
+    stands_on c.point_at-word.new.seat.me.0 c.lower_at-found.new.seat.me.0 c.args.child c.point_in-point.result c.lower_at-found.ensures.looks.goes_on
+    (looked (goal.at.post_child-requires-clause-stands c).After-point_in-point).stands
+
+pub post_child-requires-clause-written : goal.post_child-requires-clause-written
+post_child-requires-clause-written c =
+    omega (arith, here (goal.at.post_child-requires-clause-written c).After-lower_at-found c.if-found-seen.true)
+
+pub post_child-requires-clause-cost : goal.post_child-requires-clause-cost
+post_child-requires-clause-cost c =
+    let at = goal.at.post_child-requires-clause-cost c in
+    sym (ap cost_in (here at.After-lower_at-found c.if-found-seen.true)
+    ∙ cost-lowered _ _ _ _ _ (looked at.After-point_in-point) (c.args.above.cost + c.cost.result) (cost_is at.After-cost))
+
+pub returns-then-found-seen-clause-looks : goal.returns-then-found-seen-clause-looks
+returns-then-found-seen-clause-looks c =
+    let mid = c.point_at-word.new.seat.me.0 in
+    LooksOn-trans c.args.seat.now.me.0 mid c.post_child.new.seat.me.0 c.point_at-word.ensures.looks
+    (LooksOn-trans mid c.lower_at-found.new.seat.me.0 c.post_child.new.seat.me.0 c.lower_at-found.ensures.looks c.post_child.ensures.looks)
+
+pub returns-then-found-seen-clause-others : goal.returns-then-found-seen-clause-others
+returns-then-found-seen-clause-others c n apart =
+    ap (λ w. w (TreeOf n)) c.post_child.ensures.seen
+    ∙ others_kept (goal.at.returns-then-found-seen-clause-others c).After-lower_at-found n apart
+    ∙ c.point_at-word.ensures.seen.others (TreeOf n) (λ e. cc)
+
+pub returns-then-found-seen-clause-here : goal.returns-then-found-seen-clause-here
+returns-then-found-seen-clause-here c =
+    c.pack_tree.ensures
+    ∙ sym (ap (λ w. w (TreeOf c.args.child)) c.post_child.ensures.seen
+    ∙ here (goal.at.returns-then-found-seen-clause-here c).After-lower_at-found c.if-found-seen.true)
+
+-- the post shows no parent and no cost anew
 pub returns-then-found-seen-clause-is : goal.returns-then-found-seen-clause-is
 returns-then-found-seen-clause-is c =
-    let before = c.args.seat.now.me.0 in
-    let mid = c.point_at-point.new.seat.me.0 in
-    let after = c.exchange_at-found.new.seat.me.0 in
-    let point = c.point_at-point.ensures in
-    let at = c.point_at-point.result in
+    let at = goal.at.returns-then-found-seen-clause-is c in
+    let after = c.lower_at-found.new.seat.me.0 in
+    let last = c.post_child.new.seat.me.0 in
+    let m = c.args.above.node in
+    let seen : (n : ℕ) → sees last (TreeOf n) ≡ sees after (TreeOf n) = λ n. ap (λ w. w (TreeOf n)) c.post_child.ensures.seen in
+    let child = looked at.After-point_in-point in
     let cost = c.args.above.cost + c.cost.result in
-    let cost_is : cost ≡ c.args.above.cost + cost_of c.args.above.point at = omega (arith, c.cost.ensures.value) in
-    let under = less (goal.at.returns-then-found-seen-clause-is c).After-cost in
-    let here : sees after (TreeOf c.args.child) ≡ tree_word c.args.above.node cost =
-    c.exchange_at-found.ensures.here
-    ∙ ap (λ b. cond b (tree_word c.args.above.node cost) c.exchange_at-found.result) (eq-eqb c.exchange_at-found.result c.args.seen c.if-found-seen.true) in (
-      HasSeenParent-lowered before mid c.args.above c.args.child at point.looks point.same c.requires.above c.requires.child point.found cost cost_is under
-          after c.exchange_at-found.ensures.looks.goes_on here c.exchange_at-found.ensures.others,
-      CostsAtMostThrough-lowered before mid c.args.above c.args.child at point.looks point.same c.requires.above c.requires.child point.found cost cost_is under
-          after c.exchange_at-found.ensures.looks.goes_on here c.exchange_at-found.ensures.others,
+    let there = here at.After-lower_at-found c.if-found-seen.true in
+    let goes_on = c.lower_at-found.ensures.looks.goes_on in
+    let own = HasSeenParent-lowered _ _ _ _ _ child cost (cost_is at.After-cost) after goes_on there (others_kept at.After-lower_at-found) in
+    let most = CostsAtMostThrough-lowered _ _ _ _ _ child cost (cost_is at.After-cost) after goes_on there (others_kept at.After-lower_at-found) in (
+      HasSeenParent-kept after last m c.args.child (seen c.args.child) own,
+      CostsAtMostThrough-kept after last m c.args.child c.post_child.ensures.looks.goes_on (seen c.args.child) (seen m) most,
     )
 
 pub returns-then-found-seen-clause-posted : goal.returns-then-found-seen-clause-posted
 returns-then-found-seen-clause-posted c changed on_goal =
+    let at = goal.at.returns-then-found-seen-clause-posted c in
     let before = c.args.seat.now.me.0 in
-    let mid = c.point_at-point.new.seat.me.0 in
-    let after = c.exchange_at-found.new.seat.me.0 in
-    let point = c.point_at-point.ensures in
-    let at = c.point_at-point.result in
-    let cost = c.args.above.cost + c.cost.result in
-    let cost_is : cost ≡ c.args.above.cost + cost_of c.args.above.point at = omega (arith, c.cost.ensures.value) in
-    let under = less (goal.at.returns-then-found-seen-clause-posted c).After-cost in
-    let here : sees after (TreeOf c.args.child) ≡ tree_word c.args.above.node cost =
-    c.exchange_at-found.ensures.here
-    ∙ ap (λ b. cond b (tree_word c.args.above.node cost) c.exchange_at-found.result) (eq-eqb c.exchange_at-found.result c.args.seen c.if-found-seen.true) in
-    let level = cost-lowered before mid c.args.above c.args.child at point.looks point.same c.requires.above c.requires.child point.found cost cost_is under
-    after c.exchange_at-found.ensures.looks.goes_on here c.exchange_at-found.ensures.others in
-    let posted = c.exchange_at-found.ensures.posted c.if-found-seen.true (goal-goes_on before mid c.args.child point.looks.goes_on on_goal) in
-    omega (arith, posted, level, ap cost_in c.pack_tree.ensures)
+    let mid = c.point_at-word.new.seat.me.0 in
+    let after = c.lower_at-found.new.seat.me.0 in
+    let level = cost-lowered _ _ _ _ _ (looked at.After-point_in-point) (c.args.above.cost + c.cost.result) (cost_is at.After-cost) in
+    let there = goal-goes_on before after c.args.child
+    (GoesOn-trans before mid after c.point_at-word.ensures.looks.goes_on c.lower_at-found.ensures.looks.goes_on) on_goal in
+    omega (arith, c.post_child.ensures.posted there, level, ap cost_in c.pack_tree.ensures)
 
 pub returns-then-found-seen-clause-points : goal.returns-then-found-seen-clause-points
-returns-then-found-seen-clause-points c all n = c.exchange_at-found.ensures.points n ∙ c.point_at-point.ensures.whole all (PointOf n)
-
-pub returns-else-found-seen-clause-points : goal.returns-else-found-seen-clause-points
-returns-else-found-seen-clause-points c all n = c.exchange_at-found.ensures.points n ∙ c.point_at-point.ensures.whole all (PointOf n)
+returns-then-found-seen-clause-points c all n =
+    ap (λ w. w (PointOf n)) c.post_child.ensures.seen ∙ c.lower_at-found.ensures.wrote.others (PointOf n) (λ e. cc)
+    ∙ points_kept c.args.seat.now.me.0 c.point_at-word.new.seat.me.0 c.args.child _ c.point_at-word.ensures.seen (c.point_at-word.ensures.whole all) n

@@ -1,7 +1,5 @@
 use Rattle.std.proofs.Common.{◌≡◌, ◌⊎◌, ◌+◌, ◌≤◌, ◌^◌, ℕ, ap, arith, inl, inr, length, subst, sym, ◌∙◌}
-use Rattle.plan_words.specs.LoweredChildren.{HasQueued, LooksOn, SeesSamePoints}
-use Rattle.plan_words.specs.States.{GoesOn, HasWholeShare}
-use Rattle.plan_words.specs.Waiting.{HasSeenParent, IsOn}
+use Rattle.plan_words.proofs.Words.{HasQueued, LooksOn, SeesSamePoints, GoesOn, HasWholeShare, HasSeenParent, IsOn}
 use Rattle.plan_words.proofs.ChildCosts.{HasSeenParent-kept}
 use Rattle.plan_words.proofs.KeptPairs.{keeps_parent}
 use Rattle.plan_words.proofs.LoweredChains.{HasQueued-since, LowersChildren-since, PostsChanged-since}
@@ -21,7 +19,7 @@ looks_at c =
     LooksOn-trans c.args.pass.now.view c.pass.inside.seat.me.0 c.lower_children.new.seat.me.0
     (subst (λ p. LooksOn c.args.pass.now.view p.view) (sym c.pass.view_is)
     (LooksOn-loaded c.args.pass.now c.point-point.new.pass c.args.node _ _ c.point-point.ensures.view c.point-point.ensures.goes_on
-    c.point-point.ensures.seen))
+    c.point-point.ensures.seen c.point-point.ensures.looked))
     c.lower_children.ensures.looks
 
 waiting_is : (c : After-lower_children) → c.pass.inside.lists.waiting.nodes ≡ c.args.pass.now.lists.waiting
@@ -71,11 +69,14 @@ lower_children-requires-clause-above c =
           ∙ ap cost_in (c.word.ensures ∙ pair-seen c.pass.inside.seat.me.0 c.pass.inside.pairs c.args.node (HasFirstPairs-all _ _ c.pass.invariant.3) written);
     }
 
+pub lower_children-requires-clause-held : goal.lower_children-requires-clause-held
+lower_children-requires-clause-held c = c.pass.invariant.1.hand_is
+
 pub invariant_of-pass : goal.invariant_of-pass
 invariant_of-pass c =
     let kept = c.lower_children.ensures in
-    Keeps-looked c.pass.inside.seat.me c.lower_children.new.seat.me _ _ _ _ _ _ _ c.pass.inside.pairs _ c.pass.invariant kept.looks kept.sits.slots
-    (ap (λ w. w.size) kept.size) c.in_err-child.ensures.pairs
+    Keeps-looked c.pass.inside.seat.me c.lower_children.new.seat.me _ _ _ _ _ _ _ _ c.pass.inside.pairs _ c.pass.invariant kept.looks.goes_on
+    kept.looks.kept.crew kept.sits.slots kept.held (ap (λ w. w.size) kept.size) c.in_err-child.ensures.pairs
 
 pub returns-in_err-child-clause-looks : goal.returns-in_err-child-clause-looks
 returns-in_err-child-clause-looks c = looks_at (goal.at.returns-in_err-child-clause-looks c).After-lower_children
@@ -100,16 +101,16 @@ set-requires-clause-parent c =
     let kept = c.lower_children.ensures in
     let within = within-written c.pass.inside.seat.me.0 c.in_ok-child.child c.in_ok-child.ensures.found.0.written in
     keeps_parent c.lower_children.new.seat.me _ _ _ _ _ _ c.lower_children.new.self c.in_ok-child.child c.in_ok-child.word
-    (Keeps-looked c.pass.inside.seat.me c.lower_children.new.seat.me _ _ _ _ _ _ c.lower_children.new.waiting.size c.pass.inside.pairs _ c.pass.invariant
-    kept.looks kept.sits.slots (ap (λ w. w.size) kept.size) c.in_ok-child.ensures.pairs_found)
+    (Keeps-looked c.pass.inside.seat.me c.lower_children.new.seat.me _ _ _ _ _ _ _ c.lower_children.new.waiting.size c.pass.inside.pairs _ c.pass.invariant
+    kept.looks.goes_on kept.looks.kept.crew kept.sits.slots kept.held (ap (λ w. w.size) kept.size) c.in_ok-child.ensures.pairs_found)
     (omega (arith, within, c.pass.invariant.3.for_each, kept.as_many))
 
 pub invariant_of-pass-2 : goal.invariant_of-pass-2
 invariant_of-pass-2 c =
     let kept = c.lower_children.ensures in
     rw c.set.ensures
-    (Keeps-looked c.pass.inside.seat.me c.lower_children.new.seat.me _ _ _ _ _ _ _ c.pass.inside.pairs _ c.pass.invariant kept.looks kept.sits.slots
-    (ap (λ w. w.size) kept.size) c.in_ok-child.ensures.pairs_found)
+    (Keeps-looked c.pass.inside.seat.me c.lower_children.new.seat.me _ _ _ _ _ _ _ _ c.pass.inside.pairs _ c.pass.invariant kept.looks.goes_on
+    kept.looks.kept.crew kept.sits.slots kept.held (ap (λ w. w.size) kept.size) c.in_ok-child.ensures.pairs_found)
 
 pub returns-clause-looks : goal.returns-clause-looks
 returns-clause-looks c = looks_at (goal.at.returns-clause-looks c).After-lower_children
@@ -156,7 +157,7 @@ points_at c all n =
     let whole = subst HasWholeShare (sym view_is)
     (whole_later before c.point-point.new.pass.view
     (LooksOn-loaded c.args.pass.now c.point-point.new.pass c.args.node _ _ c.point-point.ensures.view c.point-point.ensures.goes_on
-    c.point-point.ensures.seen) all) in
+    c.point-point.ensures.seen c.point-point.ensures.looked) all) in
     c.lower_children.ensures.points whole n ∙ ap (λ v. sees v (PointOf n)) view_is
     ∙ elim (same_name (PointOf n) (PointOf c.args.node)) [
       | inl e ↦ ap (sees c.point-point.new.pass.view) e ∙ c.point-point.ensures.whole all ∙ ap (sees before) (sym e)

@@ -1,9 +1,10 @@
-use Rattle.std.proofs.Common.{◌≢◌, ap, arith, subst, sym, ◌∙◌}
+use Rattle.std.proofs.Common.{◌≡◌, ◌≢◌, ap, arith, subst, sym, ◌∙◌}
 use Rattle.std.specs.Prelude.{is_some}
 use Rattle.plan_words.proofs.LookedNodes.{IsEdgeSeen-pair}
 use Rattle.plan_words.proofs.LoweredNodes.{found_less, found_pair, found_pass, found_writes, lowered_less, lowered_pass, lowered_writes}
 use Rattle.plan_words.proofs.shared.Shared.lower_pair.Goals as goal
-use Rattle.step_core.proofs.Common.{IsLawfulView, MayLower, sees}
+use Rattle.plan_words.proofs.shared.Shared.lower_pair.Goals.{After-word-seen}
+use Rattle.step_core.proofs.Common.{MayLower, sees}
 use Rattle.grown_runs.specs.Table.WordNames.Word.{TreeOf}
 
 pub word-seen-requires : goal.word-seen-requires
@@ -13,58 +14,44 @@ word-seen-requires c =
     let node = lawful.tree.rooted.points c.args.node (ap is_some may.seen.stands) in
     omega (arith, c.pass.invariant.3.for_each, lawful.within c.args.node node)
 
-pub returns-then-found-seen-clause-view : goal.returns-then-found-seen-clause-view
-returns-then-found-seen-clause-view c =
+-- the list has the word as it was seen last
+seen_there : (c : After-word-seen) → c.word-seen.result ≡ sees c.args.pass.now.view (TreeOf c.args.node)
+seen_there c =
     let lawful = c.pass.invariant.1.lawful in
     let may = subst (λ p. MayLower p.view c.args.node c.args.parent c.args.cost) (sym c.pass.view_is) c.requires.may in
     let within = lawful.within c.args.node (lawful.tree.rooted.points c.args.node (ap is_some may.seen.stands)) in
-    let seen = c.word-seen.ensures
-    ∙ c.pass.invariant.3.seen c.args.node within ∙ ap (λ p. sees p.view (TreeOf c.args.node)) c.pass.view_is in
-    let was = subst (λ p. IsLawfulView p.view) c.pass.view_is lawful in
-    lowered_pass _ _ c.args.node c.args.parent c.args.cost _ was c.requires.may c.exchange_tree-found.ensures.view (c.if-found-seen.true ∙ seen)
+    c.word-seen.ensures ∙ c.pass.invariant.3.seen c.args.node within ∙ ap (λ p. sees p.view (TreeOf c.args.node)) c.pass.view_is
+
+pub returns-then-found-seen-clause-view : goal.returns-then-found-seen-clause-view
+returns-then-found-seen-clause-view c =
+    let seen = seen_there (goal.at.returns-then-found-seen-clause-view c).After-word-seen in
+    lowered_pass _ _ c.args.node c.args.parent c.args.cost _ c.requires.belongs.lawful c.requires.may c.exchange_tree-found.ensures.view
+    (c.if-found-seen.true ∙ seen)
 
 pub returns-then-found-seen-clause-seen : goal.returns-then-found-seen-clause-seen
 returns-then-found-seen-clause-seen c =
-    let lawful = c.pass.invariant.1.lawful in
-    let may = subst (λ p. MayLower p.view c.args.node c.args.parent c.args.cost) (sym c.pass.view_is) c.requires.may in
-    let within = lawful.within c.args.node (lawful.tree.rooted.points c.args.node (ap is_some may.seen.stands)) in
-    let seen = c.word-seen.ensures
-    ∙ c.pass.invariant.3.seen c.args.node within ∙ ap (λ p. sees p.view (TreeOf c.args.node)) c.pass.view_is in
-    let was = subst (λ p. IsLawfulView p.view) c.pass.view_is lawful in
-    lowered_writes _ _ c.args.node c.args.parent c.args.cost _ was c.requires.may c.exchange_tree-found.ensures.view (c.if-found-seen.true ∙ seen)
+    let seen = seen_there (goal.at.returns-then-found-seen-clause-seen c).After-word-seen in
+    lowered_writes _ _ c.args.node c.args.parent c.args.cost _ c.requires.belongs.lawful c.requires.may c.exchange_tree-found.ensures.view
+    (c.if-found-seen.true ∙ seen)
 
 pub returns-then-found-seen-clause-falls : goal.returns-then-found-seen-clause-falls
 returns-then-found-seen-clause-falls c =
-    let lawful = c.pass.invariant.1.lawful in
-    let may = subst (λ p. MayLower p.view c.args.node c.args.parent c.args.cost) (sym c.pass.view_is) c.requires.may in
-    let within = lawful.within c.args.node (lawful.tree.rooted.points c.args.node (ap is_some may.seen.stands)) in
-    let seen = c.word-seen.ensures
-    ∙ c.pass.invariant.3.seen c.args.node within ∙ ap (λ p. sees p.view (TreeOf c.args.node)) c.pass.view_is in
-    let was = subst (λ p. IsLawfulView p.view) c.pass.view_is lawful in
-    lowered_less _ _ c.args.node c.args.parent c.args.cost _ was c.requires.may c.exchange_tree-found.ensures.view (c.if-found-seen.true ∙ seen)
+    let seen = seen_there (goal.at.returns-then-found-seen-clause-falls c).After-word-seen in
+    lowered_less _ _ c.args.node c.args.parent c.args.cost _ c.requires.belongs.lawful c.requires.may c.exchange_tree-found.ensures.view
+    (c.if-found-seen.true ∙ seen)
 
 pub returns-clause-view_found : goal.returns-clause-view_found
 returns-clause-view_found c =
-    let lawful = c.pass.invariant.1.lawful in
-    let may = subst (λ p. MayLower p.view c.args.node c.args.parent c.args.cost) (sym c.pass.view_is) c.requires.may in
-    let within = lawful.within c.args.node (lawful.tree.rooted.points c.args.node (ap is_some may.seen.stands)) in
-    let seen = c.word-seen.ensures
-    ∙ c.pass.invariant.3.seen c.args.node within ∙ ap (λ p. sees p.view (TreeOf c.args.node)) c.pass.view_is in
-    let was = subst (λ p. IsLawfulView p.view) c.pass.view_is lawful in
+    let seen = seen_there (goal.at.returns-clause-view_found c).After-word-seen in
     let other : c.exchange_tree-found.result ≢ sees c.args.pass.now.view (TreeOf c.args.node) = λ same. c.if-found-seen.false (same ∙ sym seen) in
-    found_pass _ _ c.args.node c.args.parent c.args.cost _ was c.requires.may c.exchange_tree-found.ensures.view other
+    found_pass _ _ c.args.node c.args.parent c.args.cost _ c.requires.belongs.lawful c.requires.may c.exchange_tree-found.ensures.view other
     (c.exchange_tree-found.ensures.found other)
 
 pub returns-clause-found : goal.returns-clause-found
 returns-clause-found c =
-    let lawful = c.pass.invariant.1.lawful in
-    let may = subst (λ p. MayLower p.view c.args.node c.args.parent c.args.cost) (sym c.pass.view_is) c.requires.may in
-    let within = lawful.within c.args.node (lawful.tree.rooted.points c.args.node (ap is_some may.seen.stands)) in
-    let seen = c.word-seen.ensures
-    ∙ c.pass.invariant.3.seen c.args.node within ∙ ap (λ p. sees p.view (TreeOf c.args.node)) c.pass.view_is in
-    let was = subst (λ p. IsLawfulView p.view) c.pass.view_is lawful in
+    let seen = seen_there (goal.at.returns-clause-found c).After-word-seen in
     let other : c.exchange_tree-found.result ≢ sees c.args.pass.now.view (TreeOf c.args.node) = λ same. c.if-found-seen.false (same ∙ sym seen) in
-    found_pair _ _ c.args.node c.args.parent c.args.cost _ was c.requires.may c.exchange_tree-found.ensures.view other
+    found_pair _ _ c.args.node c.args.parent c.args.cost _ c.requires.belongs.lawful c.requires.may c.exchange_tree-found.ensures.view other
     (c.exchange_tree-found.ensures.found other) c.pair_in.result
     c.pair_in.ensures.parent c.pair_in.ensures.cost
 
@@ -73,33 +60,19 @@ returns-clause-edge_found c = IsEdgeSeen-pair _ _ c.args.node _ c.exchange_tree-
 
 pub returns-clause-seen : goal.returns-clause-seen
 returns-clause-seen c =
-    let lawful = c.pass.invariant.1.lawful in
-    let may = subst (λ p. MayLower p.view c.args.node c.args.parent c.args.cost) (sym c.pass.view_is) c.requires.may in
-    let within = lawful.within c.args.node (lawful.tree.rooted.points c.args.node (ap is_some may.seen.stands)) in
-    let seen = c.word-seen.ensures
-    ∙ c.pass.invariant.3.seen c.args.node within ∙ ap (λ p. sees p.view (TreeOf c.args.node)) c.pass.view_is in
-    let was = subst (λ p. IsLawfulView p.view) c.pass.view_is lawful in
+    let seen = seen_there (goal.at.returns-clause-seen c).After-word-seen in
     let other : c.exchange_tree-found.result ≢ sees c.args.pass.now.view (TreeOf c.args.node) = λ same. c.if-found-seen.false (same ∙ sym seen) in
-    found_writes _ _ c.args.node c.args.parent c.args.cost _ was c.requires.may c.exchange_tree-found.ensures.view other
+    found_writes _ _ c.args.node c.args.parent c.args.cost _ c.requires.belongs.lawful c.requires.may c.exchange_tree-found.ensures.view other
     (c.exchange_tree-found.ensures.found other)
 
 pub returns-clause-falls : goal.returns-clause-falls
 returns-clause-falls c =
-    let lawful = c.pass.invariant.1.lawful in
-    let may = subst (λ p. MayLower p.view c.args.node c.args.parent c.args.cost) (sym c.pass.view_is) c.requires.may in
-    let within = lawful.within c.args.node (lawful.tree.rooted.points c.args.node (ap is_some may.seen.stands)) in
-    let seen = c.word-seen.ensures
-    ∙ c.pass.invariant.3.seen c.args.node within ∙ ap (λ p. sees p.view (TreeOf c.args.node)) c.pass.view_is in
-    let was = subst (λ p. IsLawfulView p.view) c.pass.view_is lawful in
+    let seen = seen_there (goal.at.returns-clause-falls c).After-word-seen in
     let other : c.exchange_tree-found.result ≢ sees c.args.pass.now.view (TreeOf c.args.node) = λ same. c.if-found-seen.false (same ∙ sym seen) in
-    found_less _ _ c.args.node c.args.parent c.args.cost _ was c.requires.may c.exchange_tree-found.ensures.view other
+    found_less _ _ c.args.node c.args.parent c.args.cost _ c.requires.belongs.lawful c.requires.may c.exchange_tree-found.ensures.view other
     (c.exchange_tree-found.ensures.found other)
 
 pub returns-clause-whole : goal.returns-clause-whole
 returns-clause-whole c all =
-    let lawful = c.pass.invariant.1.lawful in
-    let may = subst (λ p. MayLower p.view c.args.node c.args.parent c.args.cost) (sym c.pass.view_is) c.requires.may in
-    let within = lawful.within c.args.node (lawful.tree.rooted.points c.args.node (ap is_some may.seen.stands)) in
-    let seen = c.word-seen.ensures
-    ∙ c.pass.invariant.3.seen c.args.node within ∙ ap (λ p. sees p.view (TreeOf c.args.node)) c.pass.view_is in
+    let seen = seen_there (goal.at.returns-clause-whole c).After-word-seen in
     absurd (c.if-found-seen.false (c.exchange_tree-found.ensures.whole all ∙ sym seen))

@@ -1,7 +1,7 @@
 use Rattle.plan_words.proofs.KeptPairs.{keeps_saw}
 use Rattle.std.proofs.Common.{◌≡◌, ◌≢◌, ◌≤◌, Some, ap, arith, subst, sym, ◌∙◌}
 use Rattle.plan_words.proofs.LookedNodes.{place_here}
-use Rattle.plan_words.proofs.Owning.{count_fits, may_load_here, sees_told, same_run, same_table}
+use Rattle.plan_words.proofs.Owning.{count_fits, looks_told, may_load_here, sees_told, same_run, same_table}
 use Rattle.plan_words.proofs.shared.Shared.number.Goals as goal
 use Rattle.grown_runs.proofs.Common.{node_count, Count}
 use Rattle.plan_words.specs.States.{HasWholeShare}
@@ -21,6 +21,10 @@ overflow_cast-result c = omega (arith, count_fits _ _ _ c.pass.invariant.1.lawfu
 pub returns-clause-seen : goal.returns-clause-seen
 returns-clause-seen c =
     sees_told _ _ _ Count _ _ (ap (λ p. p.view) c.pass.view_is) c.pass.invariant.1.lawful tt c.count.ensures c.load.ensures.2.told.view_is
+
+pub returns-clause-looked : goal.returns-clause-looked
+returns-clause-looked c =
+    looks_told _ _ _ Count _ _ (ap (λ p. p.view) c.pass.view_is) c.pass.invariant.1.lawful tt c.count.ensures c.load.ensures.2.told.view_is
 
 pub invariant_of-pass : goal.invariant_of-pass
 invariant_of-pass c =

@@ -1,70 +1,46 @@
-use Rattle.plan_words.proofs.KeptPairs.{keeps_saw}
-use Rattle.std.proofs.Common.{◌≤◌, ap, sym, subst, ◌∙◌}
-use Rattle.plan_words.proofs.LookedNodes.{place_here, point_found, point_word_seen, seen_low}
-use Rattle.plan_words.proofs.Owning.{found_whole, may_load_here, same_run, same_table, sees_told, with_view_told}
+use Rattle.std.proofs.Common.{◌≡◌, ◌+◌, ap, refl, subst, sym, ◌∙◌}
+use Rattle.plan_words.proofs.KeptPairs.{HasPairs-kept}
+use Rattle.plan_words.proofs.Owning.{SitsAt-pass, goes_on_told, with_view_told}
+use Rattle.plan_words.proofs.SeatSteps.{Keeps-looked}
 use Rattle.plan_words.proofs.shared.Shared.point_word.Goals as goal
-use Rattle.step_core.proofs.Common.{loaded, saw_at, SeesNode, sees}
-use Rattle.grown_runs.proofs.Common.{WritesWord, PointOf, place_of}
+use Rattle.plan_words.specs.States.{HasWholeShare}
+use Rattle.step_core.proofs.Common.{SeesNode, last_look, loaded, sees}
+use Rattle.grown_runs.proofs.Common.{WritesWord, PointOf, TreeOf}
 
-pub point-place-requires : goal.point-place-requires
-point-place-requires c =
-    let own = same_run _ _ _ _ c.pass.view_is c.self.view_is c.requires.belongs in
-    let seen = subst (λ p. SeesNode p.view c.args.node) (sym c.pass.view_is) c.requires.seen_node in
-    subst (λ s. c.args.node ≤ s.marks) (sym c.self.invariant.places_are) (seen_low _ _ c.args.node c.pass.invariant.1.lawful own seen)
+pub point_at-requires-clause-sits : goal.point_at-requires-clause-sits
+point_at-requires-clause-sits c = SitsAt-pass _ _ _ _ _ c.pass.view_is refl refl c.pass.invariant.0 c.requires.belongs
 
-pub load-requires : goal.load-requires
-load-requires c =
-    let same = same_table _ _ _ _ c.pass.view_is c.self.view_is c.requires.belongs in
-    let own = same_run _ _ _ _ c.pass.view_is c.self.view_is c.requires.belongs in
-    let seen = subst (λ p. SeesNode p.view c.args.node) (sym c.pass.view_is) c.requires.seen_node in
-    let low = seen_low _ _ c.args.node c.pass.invariant.1.lawful own seen in
-    let place = c.point-place.ensures ∙ ap (λ s. place_of s (PointOf c.args.node)) c.self.invariant.places_are in
-    may_load_here _ _ _ _ c.self.invariant _ _ _ _ (PointOf c.args.node) same own low seen place
-
-pub returns-clause-view : goal.returns-clause-view
-returns-clause-view c =
-    let own = same_run _ _ _ _ c.pass.view_is c.self.view_is c.requires.belongs in
-    let seen = subst (λ p. SeesNode p.view c.args.node) (sym c.pass.view_is) c.requires.seen_node in
-    let place = place_here c.self.inside.places _ c.pass.inside.seat.me.0 (PointOf c.args.node) _ c.self.invariant.places_are own c.point-place.ensures in
-    let told = c.load.ensures.2 in
-    let x = c.load.result in
-    let word = point_word_seen _ c.load.new.seat.me.0 c.args.node _ x c.pass.invariant.1.lawful seen place told.told.view_is told.point in
-    let then = c.load.new.seat.me.0 in
-    with_view_told _ _ _ then (λ v. loaded v (PointOf c.args.node) (sees then (PointOf c.args.node))) c.pass.view_is c.load.ensures.0
-    (told.told.view_is ∙ ap (λ n. saw_at c.pass.inside.seat.me.0 n x x) place ∙ ap (λ w. loaded c.pass.inside.seat.me.0 (PointOf c.args.node) w) (sym word))
-
-pub returns-clause-seen : goal.returns-clause-seen
-returns-clause-seen c =
-    let own = same_run _ _ _ _ c.pass.view_is c.self.view_is c.requires.belongs in
-    let seen = subst (λ p. SeesNode p.view c.args.node) (sym c.pass.view_is) c.requires.seen_node in
-    let lawful = c.pass.invariant.1.lawful in
-    let place = place_here c.self.inside.places _ c.pass.inside.seat.me.0 (PointOf c.args.node) _ c.self.invariant.places_are own c.point-place.ensures in
-    let told = c.load.ensures.2 in
-    let word = point_word_seen _ c.load.new.seat.me.0 c.args.node _ _ lawful seen place told.told.view_is told.point in
-    subst (λ w. WritesWord (PointOf c.args.node) w (sees c.args.pass.now.view) (sees c.load.new.seat.me.0)) (sym word)
-    (sees_told _ _ _ (PointOf c.args.node) _ _ (ap (λ p. p.view) c.pass.view_is) lawful (lawful.within c.args.node seen) place told.told.view_is)
-
-pub returns-clause-found : goal.returns-clause-found
-returns-clause-found c =
-    let own = same_run _ _ _ _ c.pass.view_is c.self.view_is c.requires.belongs in
-    let seen = subst (λ p. SeesNode p.view c.args.node) (sym c.pass.view_is) c.requires.seen_node in
-    let place = place_here c.self.inside.places _ c.pass.inside.seat.me.0 (PointOf c.args.node) _ c.self.invariant.places_are own c.point-place.ensures in
-    let told = c.load.ensures.2 in
-    point_found _ c.load.new.seat.me.0 c.args.node _ _ c.pass.invariant.1.lawful seen place told.told.view_is told.point
+pub point_at-requires-clause-seen_node : goal.point_at-requires-clause-seen_node
+point_at-requires-clause-seen_node c = subst (λ p. SeesNode p.view c.args.node) (sym c.pass.view_is) c.requires.seen_node
 
 pub invariant_of-pass : goal.invariant_of-pass
 invariant_of-pass c =
-    let own = same_run _ _ _ _ c.pass.view_is c.self.view_is c.requires.belongs in
-    let seen = subst (λ p. SeesNode p.view c.args.node) (sym c.pass.view_is) c.requires.seen_node in
-    let place = place_here c.self.inside.places _ c.pass.inside.seat.me.0 (PointOf c.args.node) _ c.self.invariant.places_are own c.point-place.ensures in
-    keeps_saw c.pass.inside.seat.me c.load.new.seat.me _ _ _ _ _ _ c.pass.inside.pairs (PointOf c.args.node) _ _ _ c.load.ensures.2.told c.pass.invariant
-    (c.pass.invariant.1.lawful.within c.args.node seen) place (λ n e. cc)
+    let kept = c.point_at.ensures in
+    let me = c.pass.inside.seat.me in
+    let after = c.point_at.new.seat.me in
+    Keeps-looked me after _ _ _ _ _ _ _ _ c.pass.inside.pairs _ c.pass.invariant kept.looks.goes_on kept.looks.kept.crew kept.sits.slots
+    (c.pass.invariant.1.hand_is ∙ sym (ap (λ v. v.hand) kept.view)) refl
+    (HasPairs-kept me.0 after.0 c.pass.inside.pairs kept.looks.goes_on.later.run (λ n. kept.seen.others (TreeOf n) (λ e. cc)) c.pass.invariant.3)
+
+pub returns-clause-view : goal.returns-clause-view
+returns-clause-view c =
+    let then = c.point_at.new.seat.me.0 in
+    with_view_told _ _ _ then (λ v. loaded v (PointOf c.args.node) (sees then (PointOf c.args.node))) c.pass.view_is
+    (c.point_at.ensures.sits.table_is ∙ sym c.requires.belongs.table ∙ sym (ap (λ p. p.table) c.pass.view_is)) c.point_at.ensures.view
+
+pub returns-clause-goes_on : goal.returns-clause-goes_on
+returns-clause-goes_on c = goes_on_told _ _ _ _ c.pass.view_is refl c.point_at.ensures.looks.goes_on
+
+pub returns-clause-seen : goal.returns-clause-seen
+returns-clause-seen c =
+    let then = c.point_at.new.seat.me.0 in
+    subst (λ p. WritesWord (PointOf c.args.node) (sees then (PointOf c.args.node)) (sees p.view) (sees then)) c.pass.view_is c.point_at.ensures.seen
+
+pub returns-clause-looked : goal.returns-clause-looked
+returns-clause-looked c =
+    let then = c.point_at.new.seat.me.0 in
+    subst (λ p. WritesWord (PointOf c.args.node) (p.view.steps + 1) (last_look p.view) (last_look then)) c.pass.view_is c.point_at.ensures.looked
 
 pub returns-clause-whole : goal.returns-clause-whole
 returns-clause-whole c all =
-    let own = same_run _ _ _ _ c.pass.view_is c.self.view_is c.requires.belongs in
-    let seen = subst (λ p. SeesNode p.view c.args.node) (sym c.pass.view_is) c.requires.seen_node in
-    let place = place_here c.self.inside.places _ c.pass.inside.seat.me.0 (PointOf c.args.node) _ c.self.invariant.places_are own c.point-place.ensures in
-    let told = c.load.ensures.2 in
-    point_word_seen _ c.load.new.seat.me.0 c.args.node _ _ c.pass.invariant.1.lawful seen place told.told.view_is told.point
-    ∙ found_whole _ _ (PointOf c.args.node) _ _ (ap (λ p. p.view) c.pass.view_is) told.whole (λ e. cc) seen place all
+    c.point_at.ensures.whole (subst (λ p. HasWholeShare p.view) (sym c.pass.view_is) all) ∙ ap (λ p. sees p.view (PointOf c.args.node)) c.pass.view_is

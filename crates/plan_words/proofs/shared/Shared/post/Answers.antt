@@ -1,74 +1,65 @@
-use Rattle.std.proofs.Common.{◌≡◌, ◌≤◌, ap, arith, refl, subst, sym, ◌∙◌}
-use Rattle.plan_words.proofs.KeptPairs.{HasPairs-kept, keeps_view}
-use Rattle.plan_words.proofs.Owning.{may_post_here, same_run, same_table, with_view_told}
-use Rattle.plan_words.proofs.Posting.{mark_fits, post_node, post_pair, post_within, posted_low, posted_view, posted_whole}
+use Rattle.std.proofs.Common.{◌≡◌, ◌+◌, ◌≤◌, ap, arith, refl, subst, sym, ◌∙◌}
+use Rattle.plan_words.proofs.KeptPairs.{HasPairs-kept}
+use Rattle.plan_words.proofs.Owning.{SitsAt-pass, goes_on_told, with_view_told}
+use Rattle.plan_words.proofs.Posting.{mark_fits, post_within}
+use Rattle.plan_words.proofs.SeatSteps.{Keeps-looked}
 use Rattle.plan_words.proofs.shared.Shared.post.Goals as goal
 use Rattle.plan_words.specs.States.{HasWholeShare}
-use Rattle.step_core.proofs.Common.{MayPost, best_with, hand_with_post, posted, with_best, sees}
-use Rattle.grown_runs.proofs.Common.{TreeOf, best_node_in, best_word, cost_in}
+use Rattle.step_core.proofs.Common.{MayPost, best_with, hand_with_post, last_look, last_note, sees, with_post}
+use Rattle.grown_runs.proofs.Common.{WritesWord, Best, TreeOf, best_word, cost_in}
 
 pub word-requires : goal.word-requires
 word-requires c =
     let may = subst (λ p. MayPost p.view c.args.node) (sym c.pass.view_is) c.requires.may in
     omega (arith, c.pass.invariant.3.for_each, post_within c.pass.inside.seat.me.0 c.args.node c.pass.invariant.1.lawful may)
 
-pub pack_best-requires-clause-node : goal.pack_best-requires-clause-node
-pack_best-requires-clause-node c =
-    let may = subst (λ p. MayPost p.view c.args.node) (sym c.pass.view_is) c.requires.may in
-    let lawful = c.pass.invariant.1.lawful in
-    omega (arith, post_within c.pass.inside.seat.me.0 c.args.node lawful may, lawful.run.marks)
+pub post_at-requires-clause-sits : goal.post_at-requires-clause-sits
+post_at-requires-clause-sits c = SitsAt-pass _ _ _ _ _ c.pass.view_is refl refl c.pass.invariant.0 c.requires.belongs
 
-pub fetch_min-found-requires : goal.fetch_min-found-requires
-fetch_min-found-requires c =
-    let same = same_table _ _ _ _ c.pass.view_is c.self.view_is c.requires.belongs in
-    let own = same_run _ _ _ _ c.pass.view_is c.self.view_is c.requires.belongs in
+pub post_at-requires-clause-may : goal.post_at-requires-clause-may
+post_at-requires-clause-may c = subst (λ p. MayPost p.view c.args.node) (sym c.pass.view_is) c.requires.may
+
+pub post_at-requires-clause-cost : goal.post_at-requires-clause-cost
+post_at-requires-clause-cost c =
     let may = subst (λ p. MayPost p.view c.args.node) (sym c.pass.view_is) c.requires.may in
-    let view = c.pass.inside.seat.me.0 in
-    let lawful = c.pass.invariant.1.lawful in
-    may_post_here _ _ _ _ c.self.invariant _ _ _ _ c.args.node _ same own c.best-place.ensures may
-    (post_pair view c.pass.inside.pairs c.args.node _ _ _ lawful may c.pass.invariant.3 c.word.ensures c.pair_in-cost.ensures.cost c.pack_best.ensures)
-    (post_node view c.args.node _ _ lawful may c.pack_best.ensures)
+    let within = post_within c.pass.inside.seat.me.0 c.args.node c.pass.invariant.1.lawful may in
+    c.pair_in-cost.ensures.cost ∙ ap cost_in (c.word.ensures ∙ c.pass.invariant.3.seen c.args.node within)
 
 pub note_post-pass-inside-requires : goal.note_post-pass-inside-requires
 note_post-pass-inside-requires c = mark_fits c.pass.inside.seat.me.0 c.pass.inside.hand c.pass.invariant.1.lawful c.pass.invariant.1.hand_is
 
 pub invariant_of-pass : goal.invariant_of-pass
 invariant_of-pass c =
-    let may = subst (λ p. MayPost p.view c.args.node) (sym c.pass.view_is) c.requires.may in
+    let kept = c.post_at.ensures in
     let me = c.pass.inside.seat.me in
-    let tied = c.pass.invariant.1 in
-    let node = post_node me.0 c.args.node _ _ tied.lawful may c.pack_best.ensures in
-    let then = posted me.0 (best_node_in c.pack_best.result) c.fetch_min-found.result in
-    keeps_view me c.fetch_min-found.new.seat.me then _ _ _ _ _ _ _ _ c.pass.inside.pairs c.pass.inside.pairs
-    c.fetch_min-found.ensures.2.told c.pass.invariant refl
-    tied.member_is
-    (c.note_post-pass-inside.ensures ∙ ap (λ h. hand_with_post h c.args.node) tied.hand_is ∙ ap (hand_with_post me.0.hand) (sym node))
-    (HasPairs-kept me.0 then c.pass.inside.pairs refl (λ n. refl))
+    let after = c.post_at.new.seat.me in
+    let pairs = c.pass.inside.pairs in
+    Keeps-looked me after _ _ _ _ _ _ _ _ pairs _ c.pass.invariant kept.goes_on (ap (λ v. v.crew) kept.view) kept.sits.slots
+    (c.note_post-pass-inside.ensures ∙ ap (λ h. hand_with_post h c.args.node) c.pass.invariant.1.hand_is ∙ sym (ap (λ v. v.hand) kept.view)) refl
+    (HasPairs-kept me.0 after.0 pairs kept.goes_on.later.run (λ n. ap (λ v. sees v (TreeOf n)) kept.view) c.pass.invariant.3)
 
 pub returns-clause-view : goal.returns-clause-view
 returns-clause-view c =
-    let may = subst (λ p. MayPost p.view c.args.node) (sym c.pass.view_is) c.requires.may in
-    let me = c.pass.inside.seat.me in
-    let then = c.fetch_min-found.new.seat.me.0 in
-    let node = post_node me.0 c.args.node _ _ c.pass.invariant.1.lawful may c.pack_best.ensures in
-    with_view_told _ _ _ then (λ v. with_best v then.best (hand_with_post v.hand c.args.node)) c.pass.view_is c.fetch_min-found.ensures.0
-    (posted_view me.0 then _ c.args.node _ node c.fetch_min-found.ensures.2.told.view_is)
+    let then = c.post_at.new.seat.me.0 in
+    with_view_told _ _ _ then (λ v. with_post v c.args.node then.best (last_note then)) c.pass.view_is
+    (c.post_at.ensures.sits.table_is ∙ sym c.requires.belongs.table ∙ sym (ap (λ p. p.table) c.pass.view_is)) c.post_at.ensures.view
+
+pub returns-clause-goes_on : goal.returns-clause-goes_on
+returns-clause-goes_on c = goes_on_told _ _ _ _ c.pass.view_is refl c.post_at.ensures.goes_on
+
+pub returns-clause-looked : goal.returns-clause-looked
+returns-clause-looked c =
+    subst (λ p. WritesWord Best (p.view.steps + 1) (last_look p.view) (last_look c.post_at.new.seat.me.0)) c.pass.view_is c.post_at.ensures.looked
 
 pub returns-clause-posted : goal.returns-clause-posted
 returns-clause-posted c =
     let may = subst (λ p. MayPost p.view c.args.node) (sym c.pass.view_is) c.requires.may in
-    let me = c.pass.inside.seat.me in
-    let then = c.fetch_min-found.new.seat.me.0 in
-    let node = post_node me.0 c.args.node _ _ c.pass.invariant.1.lawful may c.pack_best.ensures in
-    subst (λ p. then.best ≤ best_word (cost_in (sees p.view (TreeOf c.args.node))) c.args.node) c.pass.view_is
-    (posted_low me.0 then _ c.args.node _ node c.fetch_min-found.ensures.2.told.view_is)
+    let within = post_within c.pass.inside.seat.me.0 c.args.node c.pass.invariant.1.lawful may in
+    let cost = c.pair_in-cost.ensures.cost ∙ ap cost_in (c.word.ensures ∙ c.pass.invariant.3.seen c.args.node within
+    ∙ ap (λ p. sees p.view (TreeOf c.args.node)) c.pass.view_is) in
+    subst (λ x. c.post_at.new.seat.me.0.best ≤ best_word x c.args.node) cost c.post_at.ensures.posted
 
 pub returns-clause-whole : goal.returns-clause-whole
-returns-clause-whole c whole =
-    let may = subst (λ p. MayPost p.view c.args.node) (sym c.pass.view_is) c.requires.may in
-    let view = c.pass.inside.seat.me.0 in
-    let then = c.fetch_min-found.new.seat.me.0 in
-    let node = post_node view c.args.node _ _ c.pass.invariant.1.lawful may c.pack_best.ensures in
-    let found = c.fetch_min-found.ensures.2 in
-    subst (λ p. then.best ≡ best_with p.view c.args.node p.view.best) c.pass.view_is
-    (posted_whole view then _ c.args.node _ node found.told.view_is (found.same (subst (λ p. HasWholeShare p.view) (sym c.pass.view_is) whole)))
+returns-clause-whole c all =
+    subst (λ p. c.post_at.new.seat.me.0.best ≡ best_with p.view c.args.node p.view.best) c.pass.view_is
+    (c.post_at.ensures.whole (subst (λ p. HasWholeShare p.view) (sym c.pass.view_is) all))

@@ -8,9 +8,8 @@ use Rattle.plan_words.proofs.Owning.{found_whole, may_link_here, same_run, same_
 use Rattle.plan_words.proofs.ToldHands.{none_held}
 use Rattle.plan_words.proofs.shared.Shared.put.Goals as goal
 use Rattle.plan_words.proofs.shared.Shared.put.Goals.{else-found-eq0, then-found-eq0}
-use Rattle.plan_words.specs.States.{GoesOn}
-use Rattle.plan_words.specs.Plays.{Tells}
-use Rattle.step_core.proofs.Common.{has_first, last_fill, linked_at, saw_at, LeadsTo}
+use Rattle.plan_words.proofs.Words.{GoesOn, Tells}
+use Rattle.step_core.proofs.Common.{has_first, last_note, linked_at, saw_at, LeadsTo}
 use Rattle.grown_runs.proofs.Common.{ChildOf, place_of}
 use Rattle.step_core.specs.declared.views.Stage.TheVariants.{Linked, Treed}
 
@@ -87,11 +86,11 @@ set-requires-clause-parent c =
     let seen = leads_seen me.0 hand c.args.node c.args.right tied.lawful leads in
     let place = place_here c.self.inside.places _ me.0 (ChildOf c.args.node c.args.right) _ c.self.invariant.places_are own c.child-place.ensures in
     let none = eq-eqb found 0 c.if-found-eq0.true in
-    let told = subst (λ b. Tells me (cond b (linked_at me.0 hand c.child-place.result (last_fill after.0))
+    let told = subst (λ b. Tells me (cond b (linked_at me.0 hand c.child-place.result (last_note after.0))
     (saw_at me.0 c.child-place.result found found)) after) none
     (c.compare_exchange-found.ensures.2.told hand held) in
     let kept =
-    keeps_view me after (linked_at me.0 hand c.child-place.result (last_fill after.0)) _ _ _ _ _ _ _ _ c.pass.inside.pairs _ told c.pass.invariant refl
+    keeps_view me after (linked_at me.0 hand c.child-place.result (last_note after.0)) _ _ _ _ _ _ _ _ c.pass.inside.pairs _ told c.pass.invariant refl
     tied.member_is
     (ap Some (c.after_link.ensures ∙ ap (λ b. cond b (record hand { stage = Linked }) hand) none))
     (HasPairs-linked me.0 hand c.args.node c.args.right _ _ c.pass.inside.pairs c.pack_tree.result tied.lawful held (tied.lawful.within c.args.node seen)
@@ -112,11 +111,11 @@ invariant_of-pass c =
     let seen = leads_seen me.0 hand c.args.node c.args.right tied.lawful leads in
     let place = place_here c.self.inside.places _ me.0 (ChildOf c.args.node c.args.right) _ c.self.invariant.places_are own c.child-place.ensures in
     let none = eq-eqb found 0 c.if-found-eq0.true in
-    let told = subst (λ b. Tells me (cond b (linked_at me.0 hand c.child-place.result (last_fill after.0))
+    let told = subst (λ b. Tells me (cond b (linked_at me.0 hand c.child-place.result (last_note after.0))
     (saw_at me.0 c.child-place.result found found)) after) none
     (c.compare_exchange-found.ensures.2.told hand held) in
     rw c.set.ensures
-    (keeps_view me after (linked_at me.0 hand c.child-place.result (last_fill after.0)) _ _ _ _ _ _ _ _ c.pass.inside.pairs _ told c.pass.invariant
+    (keeps_view me after (linked_at me.0 hand c.child-place.result (last_note after.0)) _ _ _ _ _ _ _ _ c.pass.inside.pairs _ told c.pass.invariant
     refl tied.member_is
     (ap Some (c.after_link.ensures ∙ ap (λ b. cond b (record hand { stage = Linked }) hand) none))
     (HasPairs-linked me.0 hand c.args.node c.args.right _ _ c.pass.inside.pairs c.pack_tree.result tied.lawful held (tied.lawful.within c.args.node seen)
@@ -136,7 +135,7 @@ invariant_of-pass-else-found-eq0 c =
     let seen = leads_seen me.0 hand c.args.node c.args.right tied.lawful leads in
     let place = place_here c.self.inside.places _ me.0 (ChildOf c.args.node c.args.right) _ c.self.invariant.places_are own c.child-place.ensures in
     let some_child = ne_eqb found 0 c.if-found-eq0.false in
-    let told = subst (λ b. Tells me (cond b (linked_at me.0 hand c.child-place.result (last_fill after.0))
+    let told = subst (λ b. Tells me (cond b (linked_at me.0 hand c.child-place.result (last_note after.0))
     (saw_at me.0 c.child-place.result found found)) after) some_child
     (c.compare_exchange-found.ensures.2.told hand held) in
     keeps_view me after (saw_at me.0 c.child-place.result found found) _ _ _ _ _ _ _ _ c.pass.inside.pairs _ told c.pass.invariant refl tied.member_is
@@ -152,7 +151,7 @@ returns-clause-goes_on c =
     let found = c.compare_exchange-found.result in
     let told = c.compare_exchange-found.ensures.2.told hand (sym c.pass.invariant.1.hand_is ∙ c.in-Some.is) in
     let on = tells_on _ me c.compare_exchange-found.new.seat.me
-    (cond (found == 0) (linked_at me.0 hand place (last_fill c.compare_exchange-found.new.seat.me.0)) (saw_at me.0 place found found))
+    (cond (found == 0) (linked_at me.0 hand place (last_note c.compare_exchange-found.new.seat.me.0)) (saw_at me.0 place found found))
     (ap (λ p. p.view) c.pass.view_is) told in
     elim c.if-found-eq0.branch [
       | then-found-eq0 w ↦ subst (λ p. GoesOn c.args.pass.now.view p.view) (sym w.pass-is) on

@@ -6,7 +6,7 @@ use Rattle.plan_words.proofs.Owning.{goes_on_told, may_point_here, same_run, sam
 use Rattle.plan_words.proofs.ToldHands.{none_held}
 use Rattle.plan_words.proofs.shared.Shared.store_point.Goals as goal
 use Rattle.plan_words.specs.Plays.{Tells}
-use Rattle.step_core.proofs.Common.{IsBounded-steered, pointed, IsSteered}
+use Rattle.step_core.proofs.Common.{IsBounded-steered, IsUnskipped, pointed, IsSteered}
 use Rattle.grown_runs.proofs.Common.{sizes_in, PointOf, place_of, point_word}
 use Rattle.step_core.specs.declared.views.Stage.TheVariants.{Claimed}
 
@@ -41,12 +41,14 @@ store-requires g c =
     (subst (λ p. IfSome p.view.hand (λ h. IsSteered p.view h.mark c.args.nearest c.args.p)) (sym c.pass.view_is) c.requires.steered) in
     let told = subst (λ m. IsSteered view hand.mark m g.S.SteeredFrom.point) (sym c.requires.told_nearest)
     (subst (λ p. IsSteered view hand.mark c.args.nearest p) (sym c.requires.told_point) steered) in
+    let unskipped = at_hand (λ h. IsUnskipped view h) _ hand held
+    (subst (λ p. IfSome p.view.hand (λ h. IsUnskipped p.view h)) (sym c.pass.view_is) c.requires.unskipped) in
     let next : hand.mark + 1 ≡ suc hand.mark = omega arith in
     let place = c.point-place.ensures ∙ ap (λ n. place_of (sizes_in c.self.inside.places) (PointOf n)) next
     ∙ ap (λ s. place_of s (PointOf (suc hand.mark))) c.self.invariant.places_are in
     let low = subst (λ r. hand.mark < length r.marks) own (tied.lawful.mark hand held) in
     may_point_here _ _ _ _ c.self.invariant _ _ _ _ _ hand g.S.SteeredFrom.nearest g.S.SteeredFrom.point same own place low held claimed told
-    (c.pack_point.ensures ∙ ap point_word (sym c.requires.told_point))
+    unskipped (c.pack_point.ensures ∙ ap point_word (sym c.requires.told_point))
 
 pub invariant_of-pass : goal.invariant_of-pass
 invariant_of-pass g c =

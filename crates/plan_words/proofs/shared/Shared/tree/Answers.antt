@@ -1,7 +1,7 @@
 use Rattle.std.proofs.Common.{◌≤◌, ap, arith, subst, sym, ◌∙◌}
 use Rattle.plan_words.proofs.KeptPairs.{keeps_pair, keeps_parent}
 use Rattle.plan_words.proofs.LookedNodes.{IsEdgeSeen-pair, pair_found, pair_not_above, place_here, seen_low, tree_word_seen}
-use Rattle.plan_words.proofs.Owning.{found_whole, goes_on_told, may_load_here, same_run, same_table, sees_told, with_view_told}
+use Rattle.plan_words.proofs.Owning.{found_whole, goes_on_told, looks_told, may_load_here, same_run, same_table, sees_told, with_view_told}
 use Rattle.plan_words.proofs.shared.Shared.tree.Goals as goal
 use Rattle.step_core.proofs.Common.{loaded, saw_at, SeesNode, sees}
 use Rattle.grown_runs.proofs.Common.{WritesWord, TreeOf, place_of}
@@ -68,6 +68,15 @@ returns-clause-seen c =
     let word = tree_word_seen _ c.load-word.new.seat.me.0 c.args.node _ _ lawful seen place told.view_is in
     subst (λ w. WritesWord (TreeOf c.args.node) w (sees c.args.pass.now.view) (sees c.load-word.new.seat.me.0)) (sym word)
     (sees_told _ _ _ (TreeOf c.args.node) _ _ (ap (λ p. p.view) c.pass.view_is) lawful (lawful.within c.args.node seen) place told.view_is)
+
+pub returns-clause-looked : goal.returns-clause-looked
+returns-clause-looked c =
+    let own = same_run _ _ _ _ c.pass.view_is c.self.view_is c.requires.belongs in
+    let seen = subst (λ p. SeesNode p.view c.args.node) (sym c.pass.view_is) c.requires.seen_node in
+    let lawful = c.pass.invariant.1.lawful in
+    let place = place_here c.self.inside.places _ c.pass.inside.seat.me.0 (TreeOf c.args.node) _ c.self.invariant.places_are own c.tree-place.ensures in
+    looks_told _ _ _ (TreeOf c.args.node) _ _ (ap (λ p. p.view) c.pass.view_is) lawful (lawful.within c.args.node seen) place
+    c.load-word.ensures.2.told.view_is
 
 pub returns-clause-found : goal.returns-clause-found
 returns-clause-found c =

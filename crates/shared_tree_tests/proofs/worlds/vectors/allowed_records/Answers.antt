@@ -73,7 +73,6 @@ pub returns : goal.returns
 unfolding word_at
 returns c = record {
   placed = record {
-    unskipped = λ informed. absurd (informed refl);
     present = refl;
     nearest = nearest (counter_of 1280 1) (hand_at Counted 0 1280) (counted_by 1280 1) refl refl;
     outcome = record {
@@ -81,30 +80,33 @@ returns c = record {
       parent_is = refl;
       cost_is = refl;
       clear = clear;
-      posted = λ goal. cc;
+      posted = (λ goal. cc, λ posted. cc);
       low = omega arith;
       high = omega arith;
       chosen = chosen 1280 1 1 (omega arith);
       rewired = rewired 1280 1 1;
     };
   };
-  blocked = record {
-    unskipped = λ informed. absurd (informed refl);
-    present = refl;
-    nearest = nearest (claimer_in 8) (new_hand 0) (unplaced_record 0 0 0 Blocked) refl refl;
-    outcome = record {
-      blocked = λ h. (let e : 9 ≤ 8 = (AreInRoom-from_clear (empty_room (at 100 8)) (at 5 5) (at 8 9) h).last.vertical in omega (arith, e));
-      free = free;
-    };
-  };
-  same = record {
-    unskipped = λ informed. absurd (informed refl);
-    present = refl;
-    nearest = nearest claimer_at_start (new_hand 0) (unplaced_record 0 0 0 (Same 0)) refl refl;
-    outcome = refl;
-  };
+  blocked = (
+    λ informed. absurd (informed refl),
+    record {
+      present = refl;
+      nearest = nearest (claimer_in 8) (new_hand 0) (unplaced_record 0 0 0 Blocked) refl refl;
+      outcome = record {
+        blocked = λ h. (let e : 9 ≤ 8 = (AreInRoom-from_clear (empty_room (at 100 8)) (at 5 5) (at 8 9) h).last.vertical in omega (arith, e));
+        free = free;
+      };
+    },
+  );
+  same = (
+    λ informed. absurd (informed refl),
+    record {
+      present = refl;
+      nearest = nearest claimer_at_start (new_hand 0) (unplaced_record 0 0 0 (Same 0)) refl refl;
+      outcome = refl;
+    },
+  );
   dearer_past_the_radius = record {
-    unskipped = λ informed. absurd (informed refl);
     present = refl;
     nearest = nearest (counter_of 2000 2048) (hand_at Counted 0 2000) (counted_by 2000 12) refl refl;
     outcome = record {
@@ -112,7 +114,7 @@ returns c = record {
       parent_is = refl;
       cost_is = refl;
       clear = clear;
-      posted = λ goal. cc;
+      posted = (λ goal. cc, λ posted. cc);
       low = omega arith;
       high = omega arith;
       chosen = past_the_radius;

@@ -1,12 +1,14 @@
 use Rattle.std.proofs.Common.{◌≡◌, ℕ, ◌+◌, ◌<◌, ◌≤◌, ◌^◌, true, false, Some, None, arith, refl, sym, ap, subst, inl, inr}
 use Rattle.std.specs.Prelude.{◌⊎◌}
 use Rattle.std.proofs.lemmas.Option.{same_Some}
-use Rattle.grown_runs.proofs.Common.{steered, at, Point, same_x, root_ceiling-from_squares, ChildOf, best_word}
+use Rattle.grown_runs.proofs.Common.{mark_bound, steered, at, Point, same_x, root_ceiling-from_squares, root_ceiling-zero, ChildOf, best_cost_in, best_word}
 use Rattle.plan_model.specs.Geometry.Roots.{root_ceiling}
+use Rattle.plan_model.specs.Trees.GoalBounds.{bound_of}
+use Rattle.step_core.specs.Views.{setup_in}
 use Rattle.step_core.specs.ViewSteps.{new_hand}
 use Rattle.grown_runs.specs.Table.WordPlaces.{word_at}
-use Rattle.step_core.specs.declared.views.Stage.TheVariants.{Half, Linked, Pointed, Treed}
-use Rattle.shared_tree_tests.specs.SmallRuns.SmallWorlds.{hand_at, took_best}
+use Rattle.step_core.specs.declared.views.Stage.TheVariants.{Half, Linked, Pointed, Posted, Treed}
+use Rattle.shared_tree_tests.specs.SmallRuns.SmallWorlds.{goal_run, hand_at, took_best}
 use Rattle.shared_tree_tests.proofs.worlds.vectors.unlawful_views.Goals as goal
 
 edge : root_ceiling 1638400 ≡ 1280
@@ -15,6 +17,11 @@ edge = root_ceiling-from_squares 1638400 1280 (omega arith) (omega arith)
 neither : (a b : ℕ) → ¬ (a ≡ b) → ¬ ((a ≡ b) ⊎ (a ≡ b))
 neither a b apart (inl e) = apart e
 neither a b apart (inr e) = apart e
+
+-- the edge to the mark, and on to it
+bound : mark_bound (setup_in goal_run) (at 8 9) ≡ 1280
+unfolding bound_of
+bound = omega (arith, edge, root_ceiling-zero)
 
 pub returns : goal.returns
 unfolding word_at
@@ -48,6 +55,12 @@ returns c = record {
   linked_not_seen = λ h. (let e : None ≡ Some (at 8 9) = (h.tree.holds (hand_at Linked 0 1280) refl).shown refl in cc);
   linked_without_first_word = λ h. (let e : 2 ^ 63 ≤ 0 = (h.tree.holds (hand_at Linked 0 1280) refl).first_shown refl in omega (arith, e));
   seen_before_it_is_linked = λ h. h.unseen (hand_at Treed 0 1280) refl refl (inr (0, true, refl));
+  went_on_past_a_best = λ h. (
+      let own = (h.tree.holds (record (hand_at Pointed 0 0) { best = Some (best_word 1280 1) }) refl).unskipped refl (λ e. cc) in
+      let same : best_word 1280 1 ≡ own.0 = same_Some (best_word 1280 1) own.0 own.1 in
+      let low : mark_bound (setup_in goal_run) (at 8 9) < best_cost_in own.0 = own.2 (λ none. omega (arith, same, none)) in
+      omega (arith, low, bound, ap best_cost_in same));
+  posted_in_no_goal = λ h. (let e : false ≡ true = (h.tree.holds (hand_at Posted 0 1280) refl).posted refl in cc);
   parent_fits_no_word = λ h. (let e : 2 ^ 18 < 2 ^ 18 = (h.pair_fits (hand_at Half (2 ^ 18) 1280) refl refl).0 in omega (arith, e));
   cost_fits_no_word = λ h. (let e : 2 ^ 44 < 2 ^ 44 = (h.pair_fits (hand_at Half 0 (2 ^ 44)) refl refl).1 in omega (arith, e));
   cost_of_no_tree = λ h. (let e : 2 ^ 42 < 2 ^ 42 = (h.pairs 1 (omega arith)).low in omega (arith, e));
@@ -60,6 +73,7 @@ returns c = record {
   count_past_the_marks = λ h. (let e : 3 ≤ 2 = h.count in omega (arith, e));
   counter_past_the_marks = λ h. (let e : 2 ≤ 1 = h.counter 0 (omega arith) in omega (arith, e));
   best_past_a_recorded_goal_node = λ h. (let e : best_word 1281 1 ≤ best_word 1280 1 = h.best 1 refl refl in omega (arith, e));
+  best_past_the_marks = λ h. (let e : 2 ≤ 1 = h.best_node (λ none. omega (arith, none)) in omega (arith, e));
   took_less_than_the_best =
       λ h. (let e : best_word 1280 1 ≤ best_word 1279 1 = (h.taken (took_best (best_word 1279 1)) (best_word 1279 1) refl refl).0 in omega (arith, e));
   whole_below_its_edge = λ h. (let e : 0 + root_ceiling 1638400 ≤ 1279 = ((h.order refl).hangs 0 refl).above in omega (arith, e, edge));

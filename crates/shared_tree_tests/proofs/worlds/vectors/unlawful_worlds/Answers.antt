@@ -1,15 +1,20 @@
-use Rattle.std.proofs.Common.{◌≡◌, ℕ, zero, suc, ◌+◌, ◌<◌, ◌≤◌, ◌^◌, true, false, Some, None, [], ◌∷◌, arith, refl, sym, ap, subst, inl, inr}
-use Rattle.std.specs.Prelude.{◌⊎◌}
+use Rattle.std.proofs.Common.{◌≡◌, ℕ, zero, suc, ◌+◌, ◌<◌, ◌≤◌, ◌^◌, true, false, List, Some, None, [], ◌∷◌, arith, refl, sym, ap, subst, inl, inr}
+use Rattle.std.specs.Prelude.{◌⊎◌, slice_index, slice_set}
 use mathlib.Core.Option.{some, some-injective, some-ne-none}
 use lib.ListN.{get_elem?}
-use Rattle.grown_runs.proofs.Common.{placed_by, at, root_ceiling-from_squares, Word, Words, ChildOf, Count, Counter, best_word, no_best, point_word, tree_word}
+use Rattle.grown_runs.proofs.Common.{placed_by, at, root_ceiling-from_squares, Word, Best, ChildOf, Count, Counter, TreeOf, place_of}
+use Rattle.grown_runs.proofs.Common.{best_word, no_best, point_word, tree_word}
 use Rattle.plan_model.specs.Geometry.Roots.{root_ceiling}
-use Rattle.step_core.proofs.Common.{new_hand, IsViewOf, sees, share, spent, HasMade, IsRecordWord, SomeSharer}
+use Rattle.step_core.proofs.Common.{new_hand, IsViewOf, last_look, last_seen, run_sizes, share, spent, HasMade, IsLoaded, IsRecordWord, SomeSharer}
+use Rattle.step_core.specs.Notes.{GoesTo, IsAmong, IsNoted}
 use Rattle.grown_runs.specs.Table.WordPlaces.{word_at}
+use Rattle.step_core.specs.declared.views.Hand.{Hand}
+use Rattle.step_core.specs.declared.views.Note.{Note}
 use Rattle.step_core.specs.declared.views.SharedRun.{SharedRun}
 use Rattle.step_core.specs.declared.views.Stage.TheVariants.{Half, Linked, Pointed, Posted, Treed}
 use Rattle.step_core.specs.declared.views.View.{View}
-use Rattle.shared_tree_tests.specs.SmallRuns.SmallWorlds.{filled_at, hand_at, idle, linked_table, never, small_run, took_best, view_with, worker_at}
+use Rattle.shared_tree_tests.specs.SmallRuns.SmallWorlds.{AreLawfulLooks, filled_at, hand_at, idle, linked_table, never, small_run, took_best}
+use Rattle.shared_tree_tests.specs.SmallRuns.SmallWorlds.{view_with, worker_at}
 use Rattle.shared_tree_tests.proofs.worlds.vectors.unlawful_worlds.Goals as goal
 
 edge : root_ceiling 1638400 ≡ 1280
@@ -36,6 +41,42 @@ one_of_two run one other has copy = by_id copy.id copy.view copy.at copy.same
 of_run : (view : View) → share view ≡ 1 → (view ≡ spent) ⊎ IsViewOf small_run view → IsViewOf small_run view
 of_run view part (inl e) = absurd (omega (arith, part, ap share e))
 of_run view part (inr h) = h
+
+-- the notes of two views, of which the one has one or none, and the other none
+one_note : (one other : View) (only : Note) → one.notes ≡ only ∷ [] → other.notes ≡ [] → (note : Note) → IsNoted (one ∷ other ∷ []) note → only ≡ note
+one_note one other only is none note now = by_id now.id now.view now.at now.has
+  where
+    alone : IsAmong note (only ∷ []) → only ≡ note
+    alone (inl same) = same
+    alone (inr none_more) = absurd none_more
+
+    by_id : (id : ℕ) (view : View) → get_elem? (one ∷ other ∷ []) id ≡ some view → IsAmong note view.notes → only ≡ note
+    by_id zero view at has = alone (subst (IsAmong note) is (subst (λ (v : View). IsAmong note v.notes) (sym (some-injective one view at)) has))
+    by_id (suc zero) view at has =
+        absurd (subst (IsAmong note) none (subst (λ (v : View). IsAmong note v.notes) (sym (some-injective other view at)) has))
+    by_id (suc (suc id)) view at has = absurd (some-ne-none view (sym at))
+
+none_noted : (one other : View) → one.notes ≡ [] → other.notes ≡ [] → (note : Note) → ¬ IsNoted (one ∷ other ∷ []) note
+none_noted one other is none note now = by_id now.id now.view now.at now.has
+  where
+    by_id : (id : ℕ) (view : View) → get_elem? (one ∷ other ∷ []) id ≡ some view → ¬ IsAmong note view.notes
+    by_id zero view at has = subst (IsAmong note) is (subst (λ (v : View). IsAmong note v.notes) (sym (some-injective one view at)) has)
+    by_id (suc zero) view at has = subst (IsAmong note) none (subst (λ (v : View). IsAmong note v.notes) (sym (some-injective other view at)) has)
+    by_id (suc (suc id)) view at has = absurd (some-ne-none view (sym at))
+
+-- what was left at a place before the other looked there, it has seen
+seen_since :
+    {items seen : List ℕ} {hand : Hand} {place word : ℕ} → AreLawfulLooks items hand place word seen → (name : Word) → IsLoaded small_run name
+    → place ≡ place_of (run_sizes small_run) name → last_look (record (idle seen) { looked = slice_set never place 3 }) name ≡ 3
+    → GoesTo name word (last_seen (record (idle seen) { looked = slice_set never place 3 }) name)
+seen_since {items} {seen} {hand} {place} {word} h name may of looked =
+    h.notes.fresh 1 _ refl refl (record { place = place; word = word; steps = 3 ∷ 2 ∷ [] }) (record { id = 0; view = _; at = refl; has = inl refl }) name may of
+    (omega (arith, looked))
+
+stale_tree : ¬ GoesTo (TreeOf 1) (tree_word 0 1280) (tree_word 0 1281)
+stale_tree (inl none) = omega (arith, none)
+stale_tree (inr (inl same)) = omega (arith, same)
+stale_tree (inr (inr fell)) = (let e : 1281 < 1280 = fell.1 in omega (arith, e))
 
 made_four : (one other : View) → other.run ≡ small_run → other.steps ≡ 3 → ¬ HasMade small_run (one ∷ other ∷ []) 1 4
 made_four one other run steps (inl e) = omega (arith, e)
@@ -94,10 +135,29 @@ returns c = record {
   looked_later = λ h. (let e : 4 ≤ 3 = (of_run _ refl (h.of_run 1 _ refl)).looks Count in omega (arith, e));
   found_zero_later = λ h. (let e : 4 ≤ 3 = (of_run _ refl (h.of_run 1 _ refl)).zero_looks (ChildOf 0 true) in omega (arith, e));
   too_few_words = λ h. (let e : 13 ≡ 14 = (of_run _ refl (h.of_run 1 _ refl)).looked in omega (arith, e));
-  found_empty_when_filled = λ h. (let e : 3 ≤ 2 = h.empties.filled 0 true (λ zero. omega (arith, zero)) 1 _ refl in omega (arith, e));
+  found_empty_when_filled = λ h. (
+      let never_filled : ¬ (3 ≡ 0) = λ e. omega (arith, e) in
+      elim (h.empties 0 true (λ zero. omega (arith, zero)) 1 _ refl) [
+        | inl none ↦ never_filled none
+        | inr some_note ↦ (
+            let by : record { place = 5; word = 1; steps = 3 ∷ 2 ∷ [] } ≡ some_note.note = one_note _ _ _ refl refl some_note.note some_note.is_noted in
+            let e : 3 ≤ 2 = subst (λ (note : Note). 3 ≤ slice_index note.steps 1) (sym by) some_note.same in
+            omega (arith, e))
+      ]);
   noted_too_many_steps =
       λ h. made_four (view_with (worker_at 0 0) 1 (Some (hand_at Linked 0 1280)) linked_table never (filled_at (3 ∷ 4 ∷ []))) (idle linked_table)
-      refl refl (h.empties.made 5 1);
+      refl refl (h.notes.made (record { place = 5; word = 1; steps = 3 ∷ 4 ∷ [] }) (record { id = 0; view = _; at = refl; has = inl refl }) 1);
+  saw_a_stale_counter = λ h. (let e : 1 ≤ 0 = seen_since h (Counter 0) (omega arith) refl refl in omega (arith, e));
+  saw_a_stale_count = λ h. (let e : 2 ≤ 1 = seen_since h Count tt refl refl in omega (arith, e));
+  saw_no_child_where_one_was = λ h. neither 1 0 (λ e. omega (arith, e)) (seen_since h (ChildOf 0 true) (omega arith) refl refl);
+  saw_a_stale_tree_word = λ h. stale_tree (seen_since h (TreeOf 1) (omega arith) refl refl);
+  saw_a_stale_best = λ h. (let e : no_best ≤ best_word 1280 1 = seen_since h Best tt refl refl in omega (arith, e));
+  claim_not_noted = λ h. (
+      let apart : ¬ (0 ≡ 1) = λ e. omega (arith, e) in
+      elim (h.notes.noted 1 _ refl refl (Counter 0) (omega arith) apart) [
+        | inl placed ↦ (let no = placed.1 in cc)
+        | inr some_note ↦ none_noted _ _ refl refl some_note.note some_note.is_noted
+      ]);
   best_of_no_goal_node = λ h. (let e : false ≡ true = (h.best.pair (λ e. omega (arith, e))).0 in cc);
   best_of_no_node = λ h. (let e : false ≡ true = (h.best.pair (λ e. omega (arith, e))).0 in cc);
   best_below_the_cost = λ h. (let e : 1280 ≤ 1279 = (h.best.pair (λ e. omega (arith, e))).1 in omega (arith, e));

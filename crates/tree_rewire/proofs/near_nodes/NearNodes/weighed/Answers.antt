@@ -6,9 +6,7 @@ use Rattle.tree_rewire.proofs.ChosenParents.{All-read}
 use Rattle.tree_rewire.proofs.CostSteps.{PassSees-point}
 use Rattle.tree_rewire.proofs.FoundLists.{All-at, number_read}
 use Rattle.tree_rewire.proofs.SeenCosts.{point_later}
-use Rattle.tree_rewire.specs.FoundNodes.{IsWeighed}
-use Rattle.tree_rewire.specs.NearNodes.{AreKnown, nodes_on}
-use Rattle.tree_rewire.specs.Spreads.{SeesKnot}
+use Rattle.tree_rewire.proofs.Words.{IsWeighed, AreKnown, nodes_on, SeesKnot}
 use Rattle.tree_rewire.proofs.near_nodes.NearNodes.weighed.Goals as goal
 
 pub returns-in-Listed-clause-steps : goal.returns-in-Listed-clause-steps
@@ -17,7 +15,7 @@ returns-in-Listed-clause-steps c =
     let known = subst (λ m. AreKnown m pass.view c.args.p pass.lists) c.in-Listed.is c.requires.known in
     PassSees-point c.args.shared.now pass c.point-from.new.pass c.near_node-node.result _ _ c.requires.belongs
     (All-read (SeesKnot pass.view) pass.lists.near c.args.index c.near_node-node.result c.near_node-node.ensures known).stands
-    c.point-from.ensures.view c.point-from.ensures.goes_on c.point-from.ensures.seen
+    c.point-from.ensures.view c.point-from.ensures.goes_on c.point-from.ensures.seen c.point-from.ensures.looked
 
 pub returns-in-Listed-clause-edge : goal.returns-in-Listed-clause-edge
 returns-in-Listed-clause-edge c =
