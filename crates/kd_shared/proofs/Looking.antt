@@ -1,5 +1,5 @@
 -- What calls that look at nodes leave of a pass, one after another, and what they show of it.
-use Rattle.std.proofs.Common.{◌≡◌, ℕ, ◌<◌, ◌≤◌, Bool, Option, Some, None, refl, sym, ap, ◌∙◌, inl, inr}
+use Rattle.std.proofs.Common.{◌≡◌, ℕ, ◌<◌, Bool, Option, Some, None, refl, sym, ap, ◌∙◌, inl, inr}
 use Rattle.std.specs.Prelude.{◌≢◌, MatchOption}
 use Rattle.grown_runs.proofs.Common.{Point, IsLaterMoment, KeepsSight, IsSeen-more, ChangesOnly, Word, Words, WritesWord, ChildOf, PointOf}
 use Rattle.plan_words.proofs.Common.{HasLooked-refl, SeesAsBefore, NamesChildOrPoint, GoesOn, HasWholeShare}

@@ -1,5 +1,5 @@
 -- What a search has found at a later moment, and for a call that began before the search did.
-use Rattle.std.proofs.Common.{ℕ, ◌*◌, ◌≤◌, List, arith, ◌∙◌, subst}
+use Rattle.std.proofs.Common.{ℕ, ◌*◌, ◌≤◌, List, arith, subst}
 use Rattle.std.specs.Prelude.{Contains}
 use Rattle.grown_runs.proofs.Common.{Point, squared_distance, point_at, StandsAt, EndsSince, IsLaterMoment, KeepsSight, Sight}
 use Rattle.grown_runs.proofs.Common.{IsSwept-later}

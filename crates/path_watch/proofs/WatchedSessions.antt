@@ -1,6 +1,6 @@
 -- What a session that is watched has given after some steps, what the sink has taken, and how both end.
-use Rattle.std.proofs.Common.{◌≡◌, ◌≤◌, ℕ, zero, suc, List, [], ◌∷◌, ◌++◌, map, Option, Some, None, IsSome, IsSomeAnd, Ok}
-use Rattle.std.proofs.Common.{inl, inr, refl, sym, ap, subst, arith}
+use Rattle.std.proofs.Common.{◌≡◌, ℕ, zero, suc, List, [], ◌∷◌, ◌++◌, map, Option, Some, None, IsSome, IsSomeAnd, Ok}
+use Rattle.std.proofs.Common.{inl, inr, refl, sym, subst}
 use Rattle.std.proofs.lemmas.Fn.{FoldsTo-push, chained_keeps}
 use Rattle.std.proofs.lemmas.List.{map-append}
 use Rattle.std.specs.List.{FoldsTo}

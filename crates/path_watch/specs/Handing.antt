@@ -1,7 +1,6 @@
 -- What a session does until its next item, and how the item's block is handed to a sink.
 use Rattle.std.specs.Prelude.{◌≡◌, ℕ, zero, suc, ◌≤◌, List, [], ◌∷◌, Option, Some, None, Result, Ok, IsSomeAnd}
 use Rattle.std.specs.List.{FoldsTo}
-use Rattle.futures.specs.declared.task.Poll.{Poll}
 use Rattle.futures.specs.declared.task.Poll.TheVariants.{Ready, Pending}
 use Rattle.plan_model.specs.Texts.Streams.{SinkState}
 use Rattle.plan_model.specs.declared.errors.Memory.{Memory}

@@ -1,6 +1,6 @@
 -- Records of skipped marks, and of marks that are not skipped beside a goal node.
-use Rattle.std.proofs.Common.{◌≡◌, ℕ, zero, suc, ◌<◌, ◌≤◌, List, [], ◌∷◌, arith, refl}
-use Rattle.plan_model_tests.proofs.Common.{Goal, Record, IsEarlier, mark_bound, IsGoalNode, IsNotAbove, distance_to, TreeState, first_cost_of, box}
+use Rattle.std.proofs.Common.{ℕ, zero, suc, ◌<◌, [], ◌∷◌, arith, refl}
+use Rattle.plan_model_tests.proofs.Common.{IsEarlier, mark_bound, IsGoalNode, IsNotAbove, distance_to, TreeState, first_cost_of, box}
 use Rattle.plan_model_tests.proofs.Common.{open_setup_to, at, no_goal_node}
 use Rattle.plan_model_tests.specs.SkippedMarks.{IsFourth, at_node_3, goal_of_2, goal_reached, skipped_by}
 use Rattle.plan_model_tests.proofs.WorkedBounds.{nearer_by_the_second, to_a_point}

@@ -1,7 +1,7 @@
 -- The run whose last mark is skipped by node 2, which lies in the goal and costs as much as the bound of the mark.
-use Rattle.std.proofs.Common.{◌≡◌, ℕ, zero, suc, ◌<◌, ◌≤◌, [], ◌∷◌, ◌++◌, None, arith, refl}
-use Rattle.plan_model_tests.proofs.Common.{EndsSkipped, IsBestGoalNode, IsTextbookRun, MayBeCheaper, skipped_record, IsGoalNode, IsNotAbove, points_of, sum_of}
-use Rattle.plan_model_tests.proofs.Common.{open_setup_to, rewired_tree, at, IsNotAbove-refl, cost_2441, cost_2500, rewired_run_with_more, rewired_sum, AreOpen}
+use Rattle.std.proofs.Common.{◌≡◌, ℕ, zero, suc, [], ◌∷◌, ◌++◌, None, arith, refl}
+use Rattle.plan_model_tests.proofs.Common.{EndsSkipped, IsTextbookRun, MayBeCheaper, skipped_record, IsGoalNode, IsNotAbove, points_of, sum_of}
+use Rattle.plan_model_tests.proofs.Common.{open_setup_to, rewired_tree, at, IsNotAbove-refl, cost_2441, cost_2500, rewired_run_with_more, rewired_sum}
 use Rattle.plan_model.proofs.OpenRoomMarks.{one_node, two_nodes}
 use Rattle.plan_model.proofs.ThreeMarks.{three_nodes}
 use Rattle.plan_model_tests.specs.SkippedMarks.{goal_of_2, marks_to_skip, skipped_records, skipped_tree}

@@ -1,5 +1,5 @@
 -- Bounds by the nearest lattice point of a goal, to which no other is nearer in either coordinate.
-use Rattle.std.proofs.Common.{◌≡◌, ℕ, ◌≤◌, List, [], ◌∷◌, arith, refl, ap, ◌∙◌, inl, inr}
+use Rattle.std.proofs.Common.{◌≡◌, ◌≤◌, [], ◌∷◌, arith, refl, ◌∙◌, inl, inr}
 use Rattle.std.specs.Prelude.{IsTrue}
 use Rattle.std.specs.Int.{abs_diff}
 use Rattle.plan_model_tests.proofs.Common.{Goal, Point, cost_of, is_in_goal, lies_in_goals, box, at, bound_of-is, cost_of-le, squared_distance-le, IsInside}

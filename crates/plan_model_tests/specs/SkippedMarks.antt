@@ -12,7 +12,7 @@ use Rattle.plan_model.specs.Trees.GoalBounds.{bound_of}
 use Rattle.plan_model.specs.Trees.TreeStates.{TreeState, state_of}
 use Rattle.plan_model.specs.Vectors.Overlaps.{placed_by}
 use Rattle.plan_model.specs.Vectors.Reports.{box}
-use Rattle.plan_model.specs.Vectors.Runs.{marks_to_rewire, open_setup_to, rewired_records, rewired_tree}
+use Rattle.plan_model.specs.Vectors.Runs.{open_setup_to, rewired_records, rewired_tree}
 use Rattle.plan_model.specs.Vectors.Shapes.{at}
 use Rattle.plan_model_tests.specs.UnlawfulRecords.{nodes_with}
 

@@ -15,7 +15,7 @@ use Rattle.plan_words.proofs.Words.{LoadsBest, Lowers, Posts, TellsHand, WritesF
 use Rattle.step_core.proofs.Common.{IsLater, IsUnskipped, MayPost, MayRecord, MayBeRecorded, best_loaded, best_with, hand_with_best, hand_with_post}
 use Rattle.step_core.proofs.Common.{posted, claimed}
 use Rattle.step_core.proofs.Common.{counted, finished, finished_at, half, joined, last_note, linked, linked_at, loaded, looker, lowered, mark_of, pair_in_hand}
-use Rattle.step_core.proofs.Common.{live, note_before, noting, parted, place_in, pointed, saw_at, steps_then, treed, worker_apart, IsSteered, LeadsTo}
+use Rattle.step_core.proofs.Common.{live, noting, parted, place_in, pointed, saw_at, steps_then, treed, worker_apart, IsSteered, LeadsTo}
 use Rattle.step_core.proofs.Common.{MayHang, MayLoad, MayLower}
 use Rattle.step_core.proofs.Common.{run_sizes, sees, share, spent, words_of_run, IsWorld, IsTurnWord-packed, IsWorld-recorded, in_hand, IsLater-claimed}
 use Rattle.step_core.proofs.Common.{IsLater-finished, IsLater-loaded, IsLawfulView-world, own_count-most, at-set, IsWorld-joined, IsCut-looker, IsCut-parted}

@@ -7,7 +7,7 @@ use Rattle.grown_runs.proofs.Common.{mark_at, IsNotAbove, distance_to, is_placed
 use Rattle.grown_runs.proofs.Common.{IsPresent-stands, point_of-stands, record_of_word-packed, has_node, record_at, Word, WritesWord, Counter, FirstOf}
 use Rattle.grown_runs.proofs.Common.{RecordOf, IsFirstWord, record_of_word, record_word}
 use Rattle.plan_words.proofs.Common.{GoesOn, MayClaim, PassState, SharedState, turn_of, with_view, worker_of, GoesOn-trans, SeesBestSince-trans, entry_fits}
-use Rattle.step_core.proofs.Common.{is_own_node-earlier, has_node-recorded, own_recorded, present_recorded, WritesWord-saw, IsLawfulView, IsUnskipped}
+use Rattle.step_core.proofs.Common.{is_own_node-earlier, has_node-recorded, own_recorded, present_recorded, WritesWord-saw, IsLawfulView}
 use Rattle.step_core.proofs.Common.{MayBePlaced, MayEnd, MayRecord, MaySteer, is_own_node, own_count, has_count, has_first, finished, one_turn_more}
 use Rattle.step_core.proofs.Common.{pair_in_hand, sees, tree_seen}
 use Rattle.step_core.specs.declared.views.Hand.{Hand}

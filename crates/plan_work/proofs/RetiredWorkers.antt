@@ -1,5 +1,5 @@
 -- What is left of the passes of workers, once these have worked.
-use Rattle.std.proofs.Common.{◌≡◌, ℕ, zero, suc, ◌<◌, List, length, ap, ◌∙◌, sym, subst, arith, refl, Option, None, Some}
+use Rattle.std.proofs.Common.{◌≡◌, ℕ, zero, suc, ◌<◌, List, length, ap, ◌∙◌, sym, subst, arith, refl, Some}
 use Rattle.std.specs.Prelude.{◌++◌, [], ◌∷◌, All, IsSome, option_to_list, slice_index_or}
 use Rattle.std.proofs.Math.Seq.{take-append_seam}
 use lib.ListN.{drop, take}

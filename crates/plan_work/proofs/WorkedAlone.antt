@@ -1,5 +1,5 @@
 -- What the pass of the only worker has come to once it has worked.
-use Rattle.std.proofs.Common.{◌≡◌, ◌∙◌, ℕ, zero, suc, ◌<◌, ◌≤◌, List, length, refl, sym, ap, subst, arith}
+use Rattle.std.proofs.Common.{◌≡◌, ℕ, zero, suc, ◌<◌, ◌≤◌, List, refl, subst, arith}
 use Rattle.std.specs.Prelude.{[], ◌∷◌, slice_index_or}
 use lib.ListN.{get_elem?}
 use mathlib.Core.Option.{some}

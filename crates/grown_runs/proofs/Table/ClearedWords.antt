@@ -1,5 +1,5 @@
 -- Words of numbers without a node are cleared, one number after another: at last they are the words as they are cleared at once.
-use Rattle.std.proofs.Common.{◌≡◌, ℕ, ◌+◌, ◌<◌, Bool, true, false, List, arith, refl, sym, ◌∙◌, subst, inl, inr}
+use Rattle.std.proofs.Common.{◌≡◌, ℕ, ◌<◌, Bool, true, false, List, arith, refl, sym, ◌∙◌, subst, inl, inr}
 use Rattle.std.specs.Prelude.{if◌then◌else◌}
 use Rattle.std.proofs.lemmas.Bool.{cases_lt}
 use Rattle.grown_runs.proofs.Words.{Word, Words, WritesWord, Count, Best, Counter, PointOf, ChildOf, TreeOf, FirstOf, RecordOf, Sizes, HasWord, has_node}

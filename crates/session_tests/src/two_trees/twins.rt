@@ -84,7 +84,7 @@ fn a_tie_goes_to_the_start(rt: HostRuntime) {
     assert_report(&rt, rt.alloc(), small, &marks, 3, want);
 }
 
-/// Three nodes on the way, of which the middle two are joined: over the second mark of both runs, and not over the root of the second.
+/// Four points on the way, of which the middle two are joined: over the second mark of both runs, and not over the root of the second.
 #[test]
 fn of_equal_ways_the_least_numbers_are_taken(rt: HostRuntime) {
     let small = SmallScene {

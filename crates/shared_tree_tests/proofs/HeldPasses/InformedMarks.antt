@@ -1,7 +1,6 @@
 -- Marks in an informed scene: the best is taken for the mark in hand, and its node is posted.
-use Rattle.std.proofs.Common.{◌≡◌, ◌≢◌, ℕ, suc, ◌+◌, ◌<◌, ◌≤◌, ◌^◌, true, [], Option, Some, cond, length}
+use Rattle.std.proofs.Common.{◌≡◌, ℕ, suc, ◌<◌, ◌≤◌, ◌^◌, true, [], Option, Some, cond, length}
 use Rattle.std.proofs.Common.{inl, inr, refl, sym, ap, ◌∙◌, arith}
-use Rattle.std.specs.Prelude.{◌==◌}
 use Rattle.std.proofs.lemmas.Bool.{cases_lt, eq-eqb}
 use Rattle.grown_runs.proofs.Common.{lies_in_goals, goals-some, TreeOf, best_of_word}
 use Rattle.plan_words.proofs.Common.{GoesOn, PassState, SharedState, run_in, with_view, BelongsTo-later, goal-at}

@@ -1,5 +1,4 @@
-use Rattle.std.proofs.Common.{◌≡◌, None, Some, refl, sym, subst, ◌∙◌, arith}
-use Rattle.std.proofs.KnownBytes.{Consumes-nil, Keeps-refl}
+use Rattle.std.proofs.Common.{sym}
 use Rattle.planner.specs.declared.refusals.Refusal.TheVariants as refusals
 use Rattle.path_watch.proofs.WatchedScenes.{HasWatched-asked, HasWatched-refused, HasWatched-words}
 use Rattle.path_watch.proofs.top_call.watch.Goals as goal

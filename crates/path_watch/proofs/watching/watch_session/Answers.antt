@@ -1,13 +1,10 @@
-use Rattle.std.proofs.Common.{◌++◌, ◌∷◌, [], List, Some, IsSome, IsSomeAnd, refl, sym, subst}
+use Rattle.std.proofs.Common.{◌++◌, ◌∷◌, []}
 use Rattle.std.proofs.lemmas.Fn.{FoldsTo-push}
 use Rattle.std.specs.List.{FoldsTo}
 use Rattle.plan_model.specs.Texts.Streams.{SinkState}
 use Rattle.any_time.specs.Sessions.{SessionState}
-use Rattle.grown_runs.specs.Runs.GrownRuns.{state_of_grown}
-use Rattle.grown_runs.specs.declared.grown.Grown.{Grown}
 use Rattle.path_watch.proofs.WatchedSessions.{Reached-steps, Watches-cut, Watches-over, Watches-refused, fresh_run, settled_at_end}
-use Rattle.path_watch.specs.Handing.{Hands, Steps}
-use Rattle.path_watch.specs.declared.handing.Step.{Step}
+use Rattle.path_watch.specs.Handing.{Hands}
 use Rattle.path_watch.proofs.watching.watch_session.Goals as goal
 
 pub returns-in_default : goal.returns-in_default

@@ -1,5 +1,5 @@
 use Rattle.std.proofs.Common.{◌≡◌, refl, sym, ap, ◌∙◌, subst, arith}
-use Rattle.std.specs.Prelude.{◌++◌, [], ◌∷◌, All, IsSome, option_to_list}
+use Rattle.std.specs.Prelude.{◌++◌, [], ◌∷◌, All, option_to_list}
 use Rattle.plan_words.specs.States.{MayClaim, PassState}
 use Rattle.plan_work.proofs.RetiredWorkers.{has_left, left_of-last, stopped-front, stopped-last}
 use Rattle.plan_work.proofs.TakenOver.{All-front, All-next, HasTakenOver-alone, HasTakenOver-more, not_alone, only, taken_next}

@@ -1,4 +1,4 @@
-use Rattle.std.proofs.Common.{◌≡◌, ◌∙◌, arith, subst, sym}
+use Rattle.std.proofs.Common.{◌∙◌, arith, subst, sym}
 use Rattle.std.specs.Prelude.{All}
 use Rattle.plan_words.specs.States.{MayClaim}
 use Rattle.plan_work.proofs.LoneRuns.{IsOfTextbook-seen}

@@ -1,4 +1,4 @@
-use Rattle.std.proofs.Common.{◌≡◌, ℕ, ◌+◌, ◌<◌, get_or, length, refl, subst, sym, arith}
+use Rattle.std.proofs.Common.{ℕ, ◌+◌, get_or, refl, subst, sym, arith}
 use Rattle.seq_planner.proofs.LeastNumbers.{IsFirstLeast-all, IsLeastOf, IsLeastOf-keeps, IsLeastOf-takes}
 use Rattle.seq_planner.proofs.goal_nodes.least.Goals as goal
 use Rattle.seq_planner.proofs.goal_nodes.least.Goals.{then-comes_before, else-comes_before}

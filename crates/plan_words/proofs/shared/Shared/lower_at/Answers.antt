@@ -7,7 +7,7 @@ use Rattle.plan_words.proofs.SeatSteps.{LooksOn-told, SitsAt-told, exchanged_not
 use Rattle.plan_words.proofs.shared.Shared.lower_at.Goals as goal
 use Rattle.plan_words.proofs.shared.Shared.lower_at.Goals.{After-compare_exchange}
 use Rattle.plan_words.proofs.Words.{Tells, run_in}
-use Rattle.step_core.proofs.Common.{last_note, place_in, saw_at, SeesNode, sees}
+use Rattle.step_core.proofs.Common.{last_note, place_in, saw_at, sees}
 use Rattle.step_core.specs.declared.views.Note.{Note}
 use Rattle.grown_runs.proofs.Common.{WritesWord, TreeOf, place_of}
 

@@ -1,5 +1,5 @@
 use Rattle.std.proofs.Common.{◌≡◌, ◌≢◌, ◌+◌, ◌<◌, ℕ, ap, arith, inl, inr, length, subst, sym, ◌∙◌}
-use Rattle.std.specs.Prelude.{◌==◌, cond}
+use Rattle.std.specs.Prelude.{cond}
 use Rattle.std.proofs.lemmas.Bool.{cases_lt, eq-eqb, ne_eqb}
 use Rattle.grown_runs.proofs.Common.{cost_of, PointOf, TreeOf, cost_in, tree_word}
 use Rattle.plan_words.proofs.ChildCosts.{CostsAtMostThrough-kept, CostsAtMostThrough-looked, CostsAtMostThrough-lowered, HasSeenParent-kept}

@@ -1,4 +1,4 @@
-use Rattle.std.proofs.Common.{◌≡◌, ◌+◌, ap, refl, subst, sym, ◌∙◌}
+use Rattle.std.proofs.Common.{◌+◌, ap, refl, subst, sym, ◌∙◌}
 use Rattle.plan_words.proofs.KeptPairs.{HasPairs-kept}
 use Rattle.plan_words.proofs.Owning.{SitsAt-pass, goes_on_told, with_view_told}
 use Rattle.plan_words.proofs.SeatSteps.{Keeps-looked}

@@ -1,5 +1,5 @@
-use Rattle.std.proofs.Common.{◌≡◌, ℕ, ◌+◌, ◌-◌, false, true, List, [], ◌∷◌, ◌++◌, Some, None, get_or, length, ap, ◌∙◌, refl, subst, sym, arith}
-use Rattle.grown_runs.proofs.Common.{skipping_goals, lies_in_goals, node_at, points_of, Goal}
+use Rattle.std.proofs.Common.{◌≡◌, ℕ, ◌+◌, ◌-◌, false, true, [], ◌∷◌, None, get_or, length, ap, ◌∙◌, subst, sym, arith}
+use Rattle.grown_runs.proofs.Common.{skipping_goals, lies_in_goals, points_of}
 use Rattle.seq_planner.specs.GoalLists.{AreGoalNodesBelow}
 use Rattle.seq_planner.proofs.GoalNodeLists.{AreGoalNodesBelow-absent, AreGoalNodesBelow-beside, AreGoalNodesBelow-in_goal, skipping_goals-by}
 use Rattle.seq_planner.proofs.goal_nodes.GoalNodes.look_at_last.Goals as goal
