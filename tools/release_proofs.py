@@ -1,12 +1,14 @@
 #!/usr/bin/env python3
 """Proves the commit of this checkout several times over, in other folders, and compares what is built byte for byte.
 
-Usage: release_proofs.py FOLDER WAY.. A way is `anew` or `kept`, and a number of processors: `anew4` proves from nothing
-by four, `kept2` takes what this machine kept of earlier proofs, by two. Each way has a clone of its own in FOLDER, the
-path of which has another length, and which is removed once it is proved. FOLDER/WAY keeps the programs and the static library,
-FOLDER/WAY.log what the gate wrote. A way that FOLDER has already is not gone again: they can be gone one at a time.
+Usage: release_proofs.py FOLDER WAY.. A way is `anew`, `kept` or `user`, and a number of processors: by `anew4` the gate
+proves from nothing by four, by `kept2` it takes what this machine kept of earlier proofs, by two. By `user2` nothing but
+the launcher and `rt lib` proves, on two processors, with an empty folder in place of what this machine kept: for root.
+Each way has a clone of its own in FOLDER, the path of which has another length, and which is removed once it is proved.
+FOLDER/WAY keeps the programs and the static library, FOLDER/WAY.log what was written. A way that FOLDER has already is
+not gone again: they can be gone one at a time.
 
-It prints a line for each way and each file that differs, and ends with 1 if one does, or if a gate failed.
+It prints a line for each way and each file that differs, and ends with 1 if one does, or if a proof failed.
 """
 
 import os
@@ -20,22 +22,45 @@ from pathlib import Path
 from release_archive import NoRelease, sum_of
 from release_commit import commit_of, top_of
 from release_compare import compared, show
-from release_proof import LIBRARY, PROGRAMS, built, folder_of, prove
-from static_library import NotBuilt
+from release_proof import LIBRARY, PROGRAMS, built, folder_of, prove, toolchain
+from static_library import NotBuilt, kit
 from usage import words_or_usage
 
 TOP = top_of(__file__)
-WAY = re.compile(r"(anew|kept)([1-9]\d?)")
+KINDS = ["kept", "anew", "user"]
+WAY = re.compile(rf"({'|'.join(KINDS)})([1-9]\d?)")
 COMMIT, GATE = "commit", "gate.log"
+
+# What a user does who has a checkout and the toolchain.
+AS_A_USER = """
+mkdir -p "$KEPT" && mount -t tmpfs none "$KEPT" || exit
+(cd crates/plan_c && rt lib) && ./prrt plan 1 < examples/hall.scene && ./prrt watch 1 < examples/hall.scene
+"""
 
 
 def clone_for(folder, kind, processors):
     """A clone of this checkout, whose path has a length that no other way's has."""
-    clone = folder / f"{kind}-{'x' * (2 * processors + 31 * (kind == 'anew'))}"
+    clone = folder / f"{kind}-{'x' * (2 * processors + 31 * KINDS.index(kind))}"
     shutil.rmtree(clone, ignore_errors=True)
     subprocess.run(["git", "clone", "--quiet", TOP, clone], check=True)
     subprocess.run(["git", "-C", clone, "checkout", "--quiet", commit_of(TOP)], check=True)
     return clone
+
+
+def prove_by_gate(clone, kind):
+    """Has the gate prove a clone, and tells the commit, the toolchain and the gate's last line."""
+    proved = prove(clone, ["--anew"] if kind == "anew" else [])
+    return proved.commit, proved.toolchain, proved.gate
+
+
+def prove_as_a_user(clone, processors):
+    """Has the launcher and `rt lib` prove a clone on some processors, as on a machine that has kept nothing."""
+    alone = ["unshare", "--mount", "taskset", "--cpu-list", f"0-{processors - 1}", "sh", "-c", AS_A_USER]
+    given = {"stdin": subprocess.DEVNULL, "stderr": subprocess.STDOUT, "env": os.environ | {"KEPT": kit().parent / "rattle-kept"}}
+    with open(folder_of(clone) / GATE, "w", encoding="utf-8") as log:
+        subprocess.run(alone, cwd=clone, check=True, stdout=log, **given)
+    shutil.copy2(clone / "crates/plan_c/out/libplan_c.a", built(clone, LIBRARY))
+    return commit_of(clone), toolchain()[0], "proved by rt lib and the launcher"
 
 
 def go(folder, way):
@@ -43,17 +68,17 @@ def go(folder, way):
     kind, processors = WAY.fullmatch(way).groups()
     os.environ["RT_JOBS"] = processors
     clone, begun = clone_for(folder, kind, int(processors)), time.monotonic()
-    proved = prove(clone, ["--anew"] if kind == "anew" else [])
+    told = prove_as_a_user(clone, int(processors)) if kind == "user" else prove_by_gate(clone, kind)
     made = folder / f"{way}.new"
     shutil.rmtree(made, ignore_errors=True)
     made.mkdir()
     for name in (*PROGRAMS, LIBRARY):
         shutil.copy2(built(clone, name), made / Path(name).name)
     shutil.copy2(folder_of(clone) / GATE, folder / f"{way}.log")
-    (made / COMMIT).write_text(f"{proved.commit}\n{proved.toolchain}\n{proved.gate}\n")
+    (made / COMMIT).write_text("".join(f"{it}\n" for it in told))
     made.rename(folder / way)
     shutil.rmtree(clone)
-    print(f"{way}: {proved.gate}, in {round(time.monotonic() - begun)} s, at a path of {len(str(clone))} characters")
+    print(f"{way}: {told[-1]}, in {round(time.monotonic() - begun)} s, at a path of {len(str(clone))} characters")
 
 
 def main(folder, *ways):
