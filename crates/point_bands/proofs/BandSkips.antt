@@ -1,14 +1,16 @@
 -- What a walk over a disc may skip: points in bands below or above it, and in a band those left or right of it.
-use Rattle.std.proofs.Common.{ℕ, ◌+◌, ◌-◌, ◌*◌, ◌<◌, ◌≤◌, List, length, All, arith, inl, inr, subst, sym, min}
+use Rattle.std.proofs.Common.{◌≡◌, ℕ, ◌+◌, ◌-◌, ◌*◌, ◌/◌, ◌%◌, ◌^◌, ◌<◌, ◌≤◌, List, length, All, arith, inl, inr, subst, sym, ap, ◌∙◌, min, bit_and, bit_or}
 use Rattle.std.specs.Int.{abs_diff}
 use Rattle.std.specs.List.Sorted.{IsNonDecreasingBy}
 use Rattle.std.proofs.lemmas.Bool.{cases_eq, cases_lt}
-use Rattle.std.proofs.lemmas.Nat.{mul-le}
+use Rattle.std.proofs.lemmas.Nat.{mul-le, or_shifted, pow-add}
+use Rattle.std.proofs.lemmas.Nat.Bits.{and_high_mask}
+use Rattle.std.proofs.Math.Nat.{div-div-eq-div-mul, div-mul-le_self, mul-div_cancel}
 use Rattle.std.proofs.Math.Pow.{shr_mono}
 use Rattle.plan_model.specs.Geometry.Bounds.{IsBounded}
 use Rattle.plan_model.specs.declared.geometry.Point.{Point}
 use Rattle.point_bands.specs.Discs.{IsInColumns, IsWithin}
-use Rattle.point_bands.specs.BandOrder.{band_key, band_of}
+use Rattle.point_bands.specs.BandOrder.{band_key, lowest_row}
 use Rattle.point_bands.specs.Walks.{HasNoneBetween, nowhere, numbered_at}
 use Rattle.point_bands.specs.declared.bands.Numbered.{Numbered}
 
@@ -72,6 +74,35 @@ HasNoneBetween-after center square points at limit here later j from to =
       | inr other ↦ later j (omega (arith, from, other)) to
     ]
 
+-- ---- bands
+
+lowest_row-mono : (h y z : ℕ) → y ≤ z → lowest_row h y ≤ lowest_row h z
+lowest_row-mono h y z up = mul-le (y / 2 ^ h) (2 ^ h) (z / 2 ^ h) (2 ^ h) (shr_mono {a = y} {b = z} h up) (omega arith)
+
+-- of two bands the upper one begins a height or more above the lower one
+next_row : (h y z : ℕ) → lowest_row h y < lowest_row h z → lowest_row h y + 2 ^ h ≤ lowest_row h z
+next_row h y z below =
+    elim (cases_lt (y / 2 ^ h) (z / 2 ^ h)) [
+      | inl less ↦ (
+          let one_on = mul-le (y / 2 ^ h + 1) (2 ^ h) (z / 2 ^ h) (2 ^ h) (omega (arith, less)) (omega arith) in
+          omega (arith, one_on))
+      | inr more ↦ absurd (omega (arith, mul-le (z / 2 ^ h) (2 ^ h) (y / 2 ^ h) (2 ^ h) more (omega arith), below))
+    ]
+
+-- the bits of a row that the mask keeps, above those of a column
+pub masked_place : (h y x : ℕ) → h < 32 → y < 4294967296 → x < 4294967296
+    → bit_or (bit_and (y * 4294967296 % 18446744073709551616) (18446744073709551616 - 2 ^ (32 + h))) x ≡ lowest_row h y * 4294967296 + x
+masked_place h y x few row column =
+    let fits : y * 4294967296 % 18446744073709551616 ≡ y * 4294967296 = omega (arith, row) in
+    let width : 2 ^ (32 + h) ≡ 4294967296 * 2 ^ h = pow-add 2 32 h in
+    let band : y * 4294967296 / 2 ^ (32 + h) ≡ y / 2 ^ h =
+    ap (λ w. y * 4294967296 / w) width ∙ sym (div-div-eq-div-mul (y * 4294967296) 4294967296 (2 ^ h))
+    ∙ ap (λ n. n / 2 ^ h) (mul-div_cancel y (omega arith)) in
+    let kept : bit_and (y * 4294967296) (18446744073709551616 - 2 ^ (32 + h)) ≡ lowest_row h y * 4294967296 =
+    and_high_mask 64 (32 + h) (omega (arith, few)) (y * 4294967296) (omega (arith, row))
+    ∙ (λ i. band i * width i) ∙ omega arith in
+    ap (λ n. bit_or (bit_and n (18446744073709551616 - 2 ^ (32 + h))) x) fits ∙ ap (λ n. bit_or n x) kept ∙ or_shifted (lowest_row h y) 32 x column
+
 -- ---- in the order of bands
 
 module _ (center : Point) (square reach height_log : ℕ) (points : List Numbered) (at : ℕ)
@@ -83,20 +114,20 @@ module _ (center : Point) (square reach height_log : ℕ) (points : List Numbere
 
   -- what is below the lowest band, or in it and left of the disc
   pub none_below : (j : ℕ) → j < length points
-      → band_key height_log (numbered_at points j) < band_of height_log (center.y - reach) * 1048576 + (center.x - reach)
+      → band_key height_log (numbered_at points j) < lowest_row height_log (center.y - reach) * 4294967296 + (center.x - reach)
       → ¬ IsWithin center square (numbered_at points j).point
   none_below j inside before =
       let n = numbered_at points j in
       elim (cases_lt n.point.y (center.y - reach)) [
         | inl below ↦ out_below center square reach low n.point below
         | inr up ↦ (
-            let bands = shr_mono {a = center.y - reach} {b = n.point.y} height_log up in
-            out_left center square reach low n.point (omega (arith, bands, before)))
+            let rows = lowest_row-mono height_log (center.y - reach) n.point.y up in
+            out_left center square reach low n.point (omega (arith, rows, before)))
       ]
 
   -- what is in the band of a position, from there on, and left of the disc
   pub none_left : (j : ℕ) → at ≤ j → j < length points
-      → band_key height_log (numbered_at points j) < band_of height_log (numbered_at points at).point.y * 1048576 + (center.x - reach)
+      → band_key height_log (numbered_at points j) < lowest_row height_log (numbered_at points at).point.y * 4294967296 + (center.x - reach)
       → ¬ IsWithin center square (numbered_at points j).point
   none_left j later inside before =
       out_left center square reach low (numbered_at points j).point
@@ -104,30 +135,25 @@ module _ (center : Point) (square reach height_log : ℕ) (points : List Numbere
 
   -- what is in the band of a position right of the disc, from there on, or in the next band and left of the disc
   pub none_right : (j : ℕ) → at ≤ j → j < length points → center.x + reach < (numbered_at points at).point.x
-      → band_key height_log (numbered_at points j) < (band_of height_log (numbered_at points at).point.y + 1) * 1048576 + (center.x - reach)
+      → band_key height_log (numbered_at points j)
+      < (lowest_row height_log (numbered_at points at).point.y + 2 ^ height_log) * 4294967296 + (center.x - reach)
       → ¬ IsWithin center square (numbered_at points j).point
   none_right j later inside right before =
       let n = numbered_at points j in
-      let here = band_of height_log (numbered_at points at).point.y in
+      let here = (numbered_at points at).point.y in
       let up = no_less j later inside in
       let column = (bounded j nowhere inside).right in
-      elim (cases_lt here (band_of height_log n.point.y)) [
-        | inl above ↦ out_left center square reach low n.point (omega (arith, above, before, column, central.right))
+      elim (cases_lt (lowest_row height_log here) (lowest_row height_log n.point.y)) [
+        | inl above ↦ out_left center square reach low n.point (omega (arith, next_row height_log here n.point.y above, before, column, central.right))
         | inr same ↦ out_right center square reach low n.point (omega (arith, same, up, column, right))
       ]
 
-  -- what is from a position on that is in a band above the disc
+  -- what is from a position on whose band is above the disc
   pub none_above : (j : ℕ) → at ≤ j → j < length points
-      → band_of height_log (min (center.y + reach) 4294967295) < band_of height_log (numbered_at points at).point.y
+      → min (center.y + reach) 4294967295 < lowest_row height_log (numbered_at points at).point.y
       → ¬ IsWithin center square (numbered_at points j).point
   none_above j later inside above =
       let n = numbered_at points j in
-      let up = no_less j later inside in
-      let column = (bounded j nowhere inside).right in
-      let row = (bounded j nowhere inside).top in
-      elim (cases_lt (min (center.y + reach) 4294967295) n.point.y) [
-        | inl over ↦ out_above center square reach low n.point (omega (arith, over, row))
-        | inr under ↦ (
-            let bands = shr_mono {a = n.point.y} {b = min (center.y + reach) 4294967295} height_log under in
-            absurd (omega (arith, bands, above, up, column)))
-      ]
+      let limits = bounded j nowhere inside in
+      out_above center square reach low n.point
+      (omega (arith, no_less j later inside, above, div-mul-le_self n.point.y (2 ^ height_log), limits.right, limits.top))

@@ -3,30 +3,42 @@
 ghost use Rattle.std.specs.Prelude.{◌≡◌, ◌+◌, ◌-◌, ◌*◌, ◌/◌, ◌^◌, ◌<◌, ◌≤◌, All, ℕ, length};
 ghost use Rattle.std.specs.List.Sorted.{IsNonDecreasingBy};
 ghost use Rattle.plan_model.specs.Geometry.Bounds.{IsBounded};
-ghost use Rattle.point_bands.specs.BandOrder.{StandsBetween, band_key, band_of};
+ghost use Rattle.point_bands.specs.BandOrder.{StandsBetween, band_key, lowest_row};
 ghost use Rattle.point_bands.specs.Walks.{HasNoneBetween, IsNextStretch, numbered_at};
 
 use crate::bands::{Numbered, Stretch};
 use crate::discs::Disc;
 use plan_model::Point;
 
-/// How many columns there are that a point may stand in.
-const COLUMNS: u64 = 1_048_576;
-
-/// Where a point stands in the order: by the band of its row, and in a band by its column.
-pub(crate) fn key(point: Point, height_log: u32) -> u64
-    requires { height_log < 32 }
-    ensures { result ≡ band_of height_log point.y * 1048576 + point.x }
+/// Where a point stands in the order: by the lowest row of its band, and in a band by its column. `rows` is the mask of [`band_rows`].
+pub(crate) fn key(point: Point, rows: u64) -> u64
+    ensures { (height_log : ℕ) → height_log < 32 → rows ≡ 2 ^ 64 - 2 ^ (32 + height_log)
+        → result ≡ lowest_row height_log point.y * 4294967296 + point.x }
 {
-    u64::from(band(point.y, height_log)) * COLUMNS + u64::from(point.x)
+    (u64::from(point.y) << 32) & rows | u64::from(point.x)
 }
 
-/// The band of a row.
-fn band(row: u32, height_log: u32) -> u32
+/// The mask of the bits of rows that tell bands apart, where a key has them.
+pub(crate) fn band_rows(height_log: u32) -> u64
     requires { height_log < 32 }
-    ensures { result ≡ band_of height_log row }
+    ensures { result ≡ 2 ^ 64 - 2 ^ (32 + height_log) }
 {
-    row >> height_log
+    u64::MAX << (32 + height_log)
+}
+
+/// The lowest row of the band of a row.
+fn lowest_row(row: u32, height_log: u32) -> u32
+    requires { height_log < 32 }
+    ensures { result ≡ lowest_row height_log row }
+{
+    row >> height_log << height_log
+}
+
+/// The key of a place: of the column with this number in the band with this lowest row.
+fn place(row: u32, column: u32) -> u64
+    ensures { result ≡ row * 4294967296 + column }
+{
+    u64::from(row) << 32 | u64::from(column)
 }
 
 /// The binary logarithm of a height of bands at which n points that lie evenly have about twice the root of n in a band. O(n).
@@ -80,19 +92,24 @@ fn skipped(points: &[Numbered], height_log: u32, at: usize, disc: Disc) -> usize
     ensures columns { result ≡ at → StandsBetween (disc.center.x - disc.reach) (disc.center.x + disc.reach) points.now at }
 {
     let point = points[at].point;
-    let here = band(point.y, height_log);
-    if here > band(disc.top(), height_log) {
+    let here = lowest_row(point.y, height_log);
+    if here > disc.top() {
         return points.len();
     }
-    let lowest = band(disc.bottom(), height_log);
+    let lowest = lowest_row(disc.bottom(), height_log);
     if here < lowest {
-        return first_from(points, height_log, at + 1, lowest, disc.left());
+        return first_from(points, height_log, at + 1, place(lowest, disc.left()));
     }
     if point.x < disc.left() {
-        return first_from(points, height_log, at + 1, here, disc.left());
+        return first_from(points, height_log, at + 1, place(here, disc.left()));
     }
     if point.x > disc.right() {
-        return first_from(points, height_log, at + 1, here + 1, disc.left());
+        return first_from(
+            points,
+            height_log,
+            at + 1,
+            place(here + (1 << height_log), disc.left()),
+        );
     }
     at
 }
@@ -101,17 +118,18 @@ fn skipped(points: &[Numbered], height_log: u32, at: usize, disc: Disc) -> usize
 fn end_of_stretch(points: &[Numbered], height_log: u32, start: usize, right: u32) -> usize
     requires inside { start < length points.now }
     requires height { height_log < 32 }
+    requires bounded { All (λ n. IsBounded n.point) points.now }
     requires sorted { IsNonDecreasingBy (band_key height_log) points.now }
     requires column { (numbered_at points.now start).point.x ≤ right }
     ensures some { start < result }
     ensures within { result ≤ length points.now }
     ensures columns { (j : ℕ) → start ≤ j → j < result → StandsBetween (numbered_at points.now start).point.x right points.now j }
 {
-    let here = band(points[start].point.y, height_log);
+    let rows = band_rows(height_log);
+    let last = place(lowest_row(points[start].point.y, height_log), right);
     let mut end = start + 1;
     while end < points.len() {
-        let point = points[end].point;
-        if point.x > right || band(point.y, height_log) != here {
+        if key(points[end].point, rows) > last {
             return end;
         }
         end += 1;
@@ -119,23 +137,22 @@ fn end_of_stretch(points: &[Numbered], height_log: u32, start: usize, right: u32
     end
 }
 
-/// The first position, from `from` on, whose point stands neither below a band, nor in it and left of a column, by halving; the end if
-/// there is none. O(log n).
-fn first_from(points: &[Numbered], height_log: u32, from: usize, band: u32, column: u32) -> usize
+/// The first position, from `from` on, whose key is not below `target`, by halving; the end if there is none. O(log n).
+fn first_from(points: &[Numbered], height_log: u32, from: usize, target: u64) -> usize
     requires from { from ≤ length points.now }
     requires height { height_log < 32 }
     requires sorted { IsNonDecreasingBy (band_key height_log) points.now }
     ensures later { from ≤ result }
     ensures within { result ≤ length points.now }
-    ensures before { (j : ℕ) → from ≤ j → j < result → band_key height_log (numbered_at points.now j) < band * 1048576 + column }
+    ensures before { (j : ℕ) → from ≤ j → j < result → band_key height_log (numbered_at points.now j) < target }
 {
-    let target = u64::from(band) * COLUMNS + u64::from(column);
+    let rows = band_rows(height_log);
     let mut low = from;
     let mut count = points.len() - from;
     while count > 0 {
         // halved alike whatever the answer, so that no branch is on a value that was just loaded
         let half = count - count / 2;
-        if key(points[low + half - 1].point, height_log) < target {
+        if key(points[low + half - 1].point, rows) < target {
             low += half;
         }
         count /= 2;

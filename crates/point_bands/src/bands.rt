@@ -5,7 +5,7 @@ ghost use Rattle.std.specs.List.Sorted.{IsPermutation};
 ghost use Rattle.plan_model.specs.Geometry.Bounds.{IsBounded};
 ghost use Rattle.point_bands.specs.Walks.{IsNextStretch, numbered_at};
 
-use crate::band_order::{height_log_for, key, next_stretch};
+use crate::band_order::{band_rows, height_log_for, key, next_stretch};
 use crate::discs::Disc;
 use plan_model::Point;
 use std::marker::Model;
@@ -61,8 +61,9 @@ impl Bands {
         ensures { IsPermutation points.items result }
     {
         let height_log = height_log_for(&points);
+        let rows = band_rows(height_log);
         let mut points = points;
-        points.sort_unstable_by_key(|numbered| key(numbered.point, height_log));
+        points.sort_unstable_by_key(|numbered| key(numbered.point, rows));
         Bands { points, height_log }
     }
 

@@ -5,6 +5,8 @@ use Rattle.std.specs.Prelude.{◌⊎◌, bytes_eq, int_le, IfNone, IfSome, Optio
 use Rattle.std.specs.List.{list_all}
 use Rattle.std.specs.Prelude.{fold}
 use Rattle.std.specs.Int.{IsInRange}
+use Rattle.std.proofs.lemmas.Nat.{mul-le}
+use Rattle.std.proofs.Math.Nat.{mul_assoc, mul_comm, pow-le-pow_right, pow-suc}
 use Rattle.std.proofs.lemmas.Fmt.{decimal_by_steps, decimal_digit, decimal-digits_value}
 use Rattle.std.proofs.lemmas.Str.Parse.{IsDigitsTest, FoldsDigits, numerals_by_fold}
 use Rattle.std.proofs.lemmas.List.Folds.{list_all-append}
@@ -119,6 +121,42 @@ folds = record {
 decimal-digits : (digits : List ℕ) → AreDigital digits → 0 < length digits → (get_or digits 0 0 ≡ 48 → length digits ≡ 1) → magnitude digits < 2 ^ 64
     → decimal (magnitude digits) ≡ digits
 decimal-digits digits h some lead low = decimal-digits_value (numerals_by_fold AreDigital tells read_after folds) digits h some lead low
+
+-- so many digits stand for a number below the power of 10 with this exponent
+magnitude-low : (digits : List ℕ) (n : ℕ) → AreDigital digits → read_after n digits < (n + 1) * 10 ^ length digits
+magnitude-low [] n h = omega arith
+magnitude-low (d ∷ digits) n h =
+    let parts = and_parts (is_digit d) (list_all is_digit digits) h in
+    let rest = magnitude-low digits (10 * n + (d - 48)) parts.1 in
+    let digit = (in_range d parts.0).1 in
+    let whole = mul-le (10 * n + (d - 48) + 1) (10 ^ length digits) ((n + 1) * 10) (10 ^ length digits) (omega (arith, digit)) (omega arith) in
+    let below : read_after (10 * n + (d - 48)) digits < (n + 1) * 10 * 10 ^ length digits = omega (arith, rest, whole) in
+    let more : 10 * 10 ^ length digits ≡ 10 ^ suc (length digits) = mul_comm 10 (10 ^ length digits) ∙ sym (pow-suc 10 (length digits)) in
+    subst (λ p. read_after (10 * n + (d - 48)) digits < p) (mul_assoc (n + 1) 10 (10 ^ length digits) ∙ ap (λ p. (n + 1) * p) more) below
+
+-- 19 digits without a leading zero are what the remainder of their number modulo 2^64 has in decimal
+pub decimal-remainder :
+    (digits : List ℕ) (n : ℕ) → AreDigital digits → eqb (length digits) 0 ≡ false
+    → ((get_or digits 0 0 ≡ 48) × (length digits ≤ 1)) ⊎ (get_or digits 0 0 ≡ 48 → ⊥) → length digits ≤ 19 → n ≡ magnitude digits % 2 ^ 64
+    → digits ≡ decimal n
+decimal-remainder digits n h some lead few is =
+    let filled : 0 < length digits = grind (arith, nat_tests, some) in
+    let most : 10 ^ length digits ≤ 10 ^ 19 = pow-le-pow_right {n = 10} (omega arith) few in
+    let low : magnitude digits < 2 ^ 64 = omega (arith, magnitude-low digits 0 h, most) in
+    let same : magnitude digits ≡ n = omega (arith, low, is) in
+    let led : get_or digits 0 0 ≡ 48 → length digits ≡ 1 =
+    λ zero. elim lead [ inl alone ↦ omega (arith, alone.1, filled) | inr other ↦ absurd (other zero) ] in
+    sym (decimal-digits digits h filled led low) ∙ ap decimal same
+
+-- what is empty is no number, nor what has a zero in front of other digits
+pub no_number-empty : (digits : List ℕ) → length digits ≡ 0 → is_number digits ≡ false
+no_number-empty [] none = refl
+no_number-empty (d ∷ digits) none = absurd (omega (arith, none))
+
+pub no_number-zero : (digits : List ℕ) → get_or digits 0 0 ≡ 48 → 1 < length digits → is_number digits ≡ false
+no_number-zero [] e many = absurd (omega (arith, many))
+no_number-zero (d ∷ []) e many = absurd (omega (arith, many))
+no_number-zero (d ∷ b ∷ digits) e many = subst (λ x. is_number (x ∷ b ∷ digits) ≡ false) (sym e) refl
 
 decimal-positive : (digits : List ℕ) → is_positive digits ≡ true → magnitude digits < 2 ^ 64 → decimal (magnitude digits) ≡ digits
 decimal-positive [] h low = absurd (cc)

@@ -180,7 +180,7 @@ fn is_least_near<C: Clearing>(
         square: u64::from(radius) * u64::from(radius),
         first_cost: entry.first_cost,
     };
-    !has_one(hall, judged, search, Disc::of_square(mark, search.square))
+    !has_one(hall, judged, search, Disc::of_radius(mark, radius))
 }
 
 /// Whether no node that stood already within a radius of a new node at `p`, with a clear segment to it, was a cheaper parent, and none
@@ -208,7 +208,7 @@ fn keeps_near<C: Clearing>(
         square: u64::from(radius) * u64::from(radius),
         first_cost: entry.first_cost,
     };
-    !has_one(hall, judged, search, Disc::of_square(p, search.square))
+    !has_one(hall, judged, search, Disc::of_radius(p, radius))
 }
 
 /// Whether a search finds a node of the worker. Each node that it finds lies in the disc.

@@ -9,6 +9,7 @@ loop-count-preserved c =
     let low = c.loop-count.low in
     let count = c.loop-count.count in
     let half : ℕ = count - count / 2 in
+    let key = c.key.ensures c.args.height_log c.requires.height c.band_rows-rows.ensures in
     elim c.if-key-target.branch [
       | then-key-target w ↦ record {
         later = omega (arith, w.low-is, so_far.later);
@@ -16,7 +17,7 @@ loop-count-preserved c =
         before = λ j from below.
             let inside : low + half - 1 < length c.args.points.now = omega (arith, so_far.within, c.loop-count-test.true) in
             let rises = c.requires.sorted j (low + half - 1) nowhere (omega (arith, below, w.low-is)) inside in
-            omega (arith, rises, c.key.ensures, w.if-key-target.true);
+            omega (arith, rises, key, w.if-key-target.true);
       }
       | else-key-target w ↦ record {
         later = omega (arith, w.low-is, so_far.later);

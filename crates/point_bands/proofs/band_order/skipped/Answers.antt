@@ -1,28 +1,28 @@
 use Rattle.std.proofs.Common.{◌+◌, ◌<◌, arith, ap, ◌∙◌}
-use Rattle.point_bands.specs.BandOrder.{band_of}
+use Rattle.std.proofs.lemmas.Nat.{pow_pos}
+use Rattle.point_bands.specs.BandOrder.{lowest_row}
 use Rattle.point_bands.specs.Walks.{nowhere, numbered_at}
 use Rattle.point_bands.proofs.BandSkips.{HasNoneBetween-after, none_above, none_below, none_left, none_right}
 use Rattle.point_bands.proofs.band_order.skipped.Goals as goal
 
-pub returns-then-here-band-clause-none : goal.returns-then-here-band-clause-none
-returns-then-here-band-clause-none c j later inside =
+pub returns-then-here-top-clause-none : goal.returns-then-here-top-clause-none
+returns-then-here-top-clause-none c j later inside =
     let disc = c.args.disc in
     none_above disc.center disc.square disc.reach c.args.height_log c.args.points.now c.args.at disc.reaches c.requires.bounded c.requires.sorted
-    disc.center_bounded j later inside
-    (omega (arith, c.if-here-band.true, c.band.ensures ∙ ap (band_of c.args.height_log) c.top.ensures, c.band-here.ensures))
+    disc.center_bounded j later inside (omega (arith, c.if-here-top.true, c.top.ensures, c.lowest_row-here.ensures))
 
 pub returns-then-here-lowest-clause-none : goal.returns-then-here-lowest-clause-none
 returns-then-here-lowest-clause-none c =
     let disc = c.args.disc in
-    let bottom = c.band-lowest.ensures ∙ ap (band_of c.args.height_log) c.bottom.ensures in
+    let bottom = c.lowest_row-lowest.ensures ∙ ap (lowest_row c.args.height_log) c.bottom.ensures in
     let none = none_below disc.center disc.square disc.reach c.args.height_log c.args.points.now c.args.at disc.reaches c.requires.bounded
     c.requires.sorted disc.center_bounded in
     let column = (c.requires.bounded c.args.at nowhere c.requires.inside).right in
     HasNoneBetween-after disc.center disc.square c.args.points.now c.args.at c.first_from.result
-    (none c.args.at c.requires.inside (omega (arith, c.if-here-lowest.true, bottom, c.band-here.ensures, column)))
+    (none c.args.at c.requires.inside (omega (arith, c.if-here-lowest.true, bottom, c.lowest_row-here.ensures, column)))
     (λ j later below.
     none j (omega (arith, below, c.first_from.ensures.within))
-    (omega (arith, c.first_from.ensures.before j later below, bottom, c.left.ensures)))
+    (omega (arith, c.first_from.ensures.before j later below, bottom, c.left.ensures, c.place.ensures)))
 
 pub returns-then-point-left-clause-none : goal.returns-then-point-left-clause-none
 returns-then-point-left-clause-none c =
@@ -34,7 +34,7 @@ returns-then-point-left-clause-none c =
     (none c.args.at (omega arith) c.requires.inside (omega (arith, c.if-point-left.true, c.left-2.ensures)))
     (λ j later below.
     none j (omega (arith, later)) (omega (arith, below, next.ensures.within))
-    (omega (arith, next.ensures.before j later below, c.band-here.ensures, c.left-then-point-left.ensures)))
+    (omega (arith, next.ensures.before j later below, c.lowest_row-here.ensures, c.left-then-point-left.ensures, c.place-then-point-left.ensures)))
 
 pub returns-then-point-right-clause-none : goal.returns-then-point-right-clause-none
 returns-then-point-right-clause-none c =
@@ -46,7 +46,7 @@ returns-then-point-right-clause-none c =
     let none = none_right disc.center disc.square disc.reach c.args.height_log c.args.points.now c.args.at disc.reaches c.requires.bounded
     c.requires.sorted disc.center_bounded in
     HasNoneBetween-after disc.center disc.square c.args.points.now c.args.at next.result
-    (none c.args.at (omega arith) c.requires.inside right (omega (arith, column)))
+    (none c.args.at (omega arith) c.requires.inside right (omega (arith, column, pow_pos c.args.height_log)))
     (λ j later below.
     none j (omega (arith, later)) (omega (arith, below, next.ensures.within)) right
-    (omega (arith, next.ensures.before j later below, c.band-here.ensures, c.left-then-point-right.ensures)))
+    (omega (arith, next.ensures.before j later below, c.lowest_row-here.ensures, c.left-then-point-right.ensures, c.place-then-point-right.ensures)))

@@ -1,4 +1,4 @@
-use Rattle.std.proofs.Common.{◌≡◌, ◌*◌, arith, inl, inr}
+use Rattle.std.proofs.Common.{◌≡◌, ◌*◌, ◌∙◌, arith, inl, inr, sym}
 use Rattle.report_judge.specs.Workers.JudgedRuns.{run_of}
 use Rattle.report_judge.proofs.Workers.OwnNodeLaws.{is_nearest_of_all, is_not_nearest, keeps_all_near, keeps_not_near, not_false, not_true, unlawful_within}
 use Rattle.report_judge.proofs.own.searches.is_least_near.Goals as goal
@@ -6,8 +6,8 @@ use Rattle.report_judge.proofs.own.searches.is_least_near.Goals as goal
 pub has_one-requires-clause-within : goal.has_one-requires-clause-within
 has_one-requires-clause-within g c κs within =
     let square : c.from.result * c.from-2.result ≡ c.args.radius * c.args.radius = λ i. c.from.ensures i * c.from-2.ensures i in
-    unlawful_within (g.C.Clearing.space c.args.hall.now) c.args.judged.now.standings.now _ c.of_square.result.center
-    c.of_square.result.square c.of_square.ensures.center c.of_square.ensures.square
+    unlawful_within (g.C.Clearing.space c.args.hall.now) c.args.judged.now.standings.now _ c.of_radius.result.center
+    c.of_radius.result.square c.of_radius.ensures.center (c.of_radius.ensures.square ∙ sym square)
     (omega (arith, c.requires.within, square))
 
 pub returns-clause-nearest : goal.returns-clause-nearest

@@ -1,12 +1,13 @@
-use Rattle.std.proofs.Common.{◌*◌, arith, inl, inr}
+use Rattle.std.proofs.Common.{◌≡◌, ◌*◌, ◌∙◌, arith, inl, inr, sym}
 use Rattle.report_judge.specs.Workers.JudgedRuns.{run_of}
 use Rattle.report_judge.proofs.Workers.OwnNodeLaws.{keeps_all_near, keeps_not_near, none_nearer, not_false, not_true, unlawful_within}
 use Rattle.report_judge.proofs.own.searches.keeps_near.Goals as goal
 
 pub has_one-requires-clause-within : goal.has_one-requires-clause-within
 has_one-requires-clause-within g c κs within =
-    unlawful_within (g.C.Clearing.space c.args.hall.now) c.args.judged.now.standings.now _ c.of_square.result.center
-    c.of_square.result.square c.of_square.ensures.center c.of_square.ensures.square (omega arith)
+    let square : c.from.result * c.from-2.result ≡ c.args.radius * c.args.radius = λ i. c.from.ensures i * c.from-2.ensures i in
+    unlawful_within (g.C.Clearing.space c.args.hall.now) c.args.judged.now.standings.now _ c.of_radius.result.center
+    c.of_radius.result.square c.of_radius.ensures.center (c.of_radius.ensures.square ∙ sym square) (omega arith)
 
 pub returns-clause-kept : goal.returns-clause-kept
 returns-clause-kept g c = λ h.
