@@ -1,11 +1,6 @@
 -- The report of a batch, from scene to scene.
-use Rattle.std.proofs.Common.{◌≡◌, ◌<◌, ◌+◌, ◌++◌, ◌&&◌, ℕ, suc, Bool, List, ◌∷◌, All, length, get_or, drop, take, sym, ap, subst, ◌∙◌, arith, append_assoc}
-use Rattle.std.proofs.lemmas.List.{drop_more}
-use Rattle.std.proofs.lemmas.List.Folds.{list_all_more}
-use Rattle.std.specs.List.{list_all}
-use Rattle.grown_runs.proofs.Common.{IsSettled, state_of_grown}
-use Rattle.grown_runs.specs.declared.grown.Grown.{Grown}
-use Rattle.any_time.proofs.Words.{has_path, batch_report, scene_report, Better}
+use Rattle.any_time.proofs.Words.{◌≡◌, ◌<◌, ◌+◌, ◌++◌, ◌&&◌, ℕ, suc, Bool, List, ◌∷◌, All, length, get_or, drop, take, sym, ap, subst, ◌∙◌, arith, append_assoc}
+use Rattle.any_time.proofs.Words.{drop_more, list_all_more, list_all, IsSettled, state_of_grown, Grown, has_path, batch_report, scene_report, Better}
 
 module _ (runs : List Grown) (i : ℕ) (run : Grown) (within : i < length runs) (run_is : run ≡ get_or runs i run) where
   pub settled_at : All (λ r. IsSettled (state_of_grown r)) runs → IsSettled (state_of_grown run)

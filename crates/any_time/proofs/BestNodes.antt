@@ -1,10 +1,6 @@
 -- The best node of a run is present and lies in a goal; without one, no node does.
-use Rattle.std.proofs.Common.{◌≡◌, ℕ, Option, Some, None, refl}
-use Rattle.std.specs.Prelude.{option_map}
-use Rattle.grown_runs.proofs.Common.{IsPresent-goal, best_node-none, best_node-some, numbers-closed, setup_of, IsGoalNode, goals_of, AreNumberedTo, IsPresent}
-use Rattle.grown_runs.proofs.Common.{point_at, sum_in, state_of_grown}
-use Rattle.grown_runs.specs.declared.grown.Grown.{Grown}
-use Rattle.any_time.specs.BestPaths.{best_of, best_sum}
+use Rattle.any_time.proofs.Words.{◌≡◌, ℕ, Option, Some, None, refl, option_map, IsPresent-goal, best_node-none, best_node-some, numbers-closed, setup_of}
+use Rattle.any_time.proofs.Words.{IsGoalNode, goals_of, AreNumberedTo, IsPresent, point_at, sum_in, state_of_grown, Grown, best_of, best_sum}
 
 -- no node of a run has a number past its limit
 pub AreNumberedTo-grown : (run : Grown) → AreNumberedTo run.limit (state_of_grown run).points

@@ -1,17 +1,11 @@
 -- The runs after each slice, from poll to poll: the best path of each cost what the last item by then does. So all items of a session.
-use Rattle.std.proofs.Common.{◌≡◌, ◌<◌, ◌≤◌, ◌*◌, ℕ, List, [], ◌∷◌, Option, Some, None, Ok, Err, IsSomeAnd, MatchOption}
-use Rattle.std.proofs.Common.{inl, inr, true, false, refl, sym, ap, subst, ◌∙◌, arith, length}
-use Rattle.std.specs.Prelude.{All, nat_le, option_map}
-use Rattle.std.proofs.lemmas.Bool.Decides.{nat_tests}
-use Rattle.std.proofs.lemmas.List.Elements.{All-cons, All-head, All-nil, All-tail, All-weaker}
-use Rattle.std.specs.List.{FoldsTo}
-use Rattle.futures.specs.declared.task.Poll.TheVariants.{Ready, Pending}
-use Rattle.grown_runs.proofs.Common.{IsClosed, setup_of, Record, Task, state_of_grown}
-use Rattle.grown_runs.specs.declared.grown.Grown.{Grown}
+use Rattle.any_time.proofs.Words.{◌≡◌, ◌<◌, ◌≤◌, ◌*◌, ℕ, List, [], ◌∷◌, Option, Some, None, Ok, Err, IsSomeAnd, MatchOption, inl, inr, true, false, refl, sym}
+use Rattle.any_time.proofs.Words.{ap, subst, ◌∙◌, arith, length, All, nat_le, option_map, nat_tests, All-cons, All-head, All-nil, All-tail, All-weaker, FoldsTo}
+use Rattle.any_time.proofs.Words.{Ready, Pending, IsClosed, setup_of, Record, Task, state_of_grown, Grown, Shows, best_sum, Answers, EndsWith, GrowBySlices}
+use Rattle.any_time.proofs.Words.{IsRunOf, ItemsFall, MissesNoFall, betters_among, last_cost, last_of, up_to, Handles, IsBetter, IsNew, Moves, Polls}
+use Rattle.any_time.proofs.Words.{SessionState, Better, Last}
 use Rattle.any_time.proofs.FallingItems.{GoesOn-last, Reaches, Tied, first_better, gave, goes, no_best, pending, reaches_on, run_of}
 use Rattle.any_time.proofs.KnownOptions.{between, if_there, some_is, there}
-use Rattle.any_time.proofs.Words.{Shows, best_sum, Answers, EndsWith, GrowBySlices, IsRunOf, ItemsFall, MissesNoFall, betters_among, last_cost, last_of, up_to}
-use Rattle.any_time.proofs.Words.{Handles, IsBetter, IsNew, Moves, Polls, SessionState, Better, Last}
 
 -- ---- the items up to so many marks
 

@@ -1,22 +1,13 @@
 -- The items of a session fall, from poll to poll, and stay paths of its run.
-use Rattle.std.proofs.Common.{◌≡◌, ◌<◌, ◌≤◌, ℕ, List, [], ◌∷◌, Option, Some, None, Ok, Err, IfSome, IsSomeAnd}
-use Rattle.std.proofs.Common.{◌⊎◌, inl, inr, refl, sym, ap, subst, ◌∙◌, arith, length, min, ◌+◌}
-use Rattle.std.specs.Prelude.{All, option_map}
-use Rattle.std.proofs.lemmas.Bool.{cases_lt}
-use Rattle.std.proofs.lemmas.List.Elements.{All-cons, All-nil}
-use Rattle.std.specs.List.{FoldsTo}
-use Rattle.futures.specs.declared.task.Poll.TheVariants.{Ready, Pending}
-use Rattle.futures.specs.declared.task.Poll.{Poll}
-use Rattle.std.specs.Prelude.{Result}
-use Rattle.grown_runs.proofs.Common.{IsGoalNode-grows, GrowsInto-refl, GrowsInto-trans, IsGoalNode, goals_of, GrowsInto, sum_in, Memory, Record, Scene, Task}
-use Rattle.grown_runs.proofs.Common.{state_of_grown}
-use Rattle.grown_runs.specs.declared.grown.Grown.{Grown}
+use Rattle.any_time.proofs.Words.{◌≡◌, ◌<◌, ◌≤◌, ℕ, List, [], ◌∷◌, Option, Some, None, Ok, Err, IfSome, IsSomeAnd, ◌⊎◌, inl, inr, refl, sym, ap, subst, ◌∙◌}
+use Rattle.any_time.proofs.Words.{arith, length, min, ◌+◌, All, option_map, cases_lt, All-cons, All-nil, FoldsTo, Ready, Pending, Poll, Result}
+use Rattle.any_time.proofs.Words.{IsGoalNode-grows, GrowsInto-refl, GrowsInto-trans, IsGoalNode, goals_of, GrowsInto, sum_in, Memory, Record, Scene, Task}
+use Rattle.any_time.proofs.Words.{state_of_grown, Grown, Shows, best_sum, Answers, AreSlices, Fall, HaveGoalNode, IfFirst, IsFirstPath, IsFound, IsRunOf}
+use Rattle.any_time.proofs.Words.{betters_among, last_among, last_of, LeadsIntoGoal, Handles, IsBetter, Moves, Polls, SessionState, Better, Last}
 use Rattle.any_time.proofs.BestNodes.{AreNumberedTo-grown, IsGoalNode-best, IsPresent-best}
 use Rattle.any_time.proofs.FirstPaths.{AreSlices-next, below_next, none_below, some_entry}
 use Rattle.any_time.proofs.FoundPaths.{LeadsIntoGoal-grows, LeadsIntoGoal-shown}
 use Rattle.any_time.proofs.SunkSums.{Sinks, Sinks-grows}
-use Rattle.any_time.proofs.Words.{Shows, best_sum, Answers, AreSlices, Fall, HaveGoalNode, IfFirst, IsFirstPath, IsFound, IsRunOf, betters_among, last_among}
-use Rattle.any_time.proofs.Words.{last_of, LeadsIntoGoal, Handles, IsBetter, Moves, Polls, SessionState, Better, Last}
 
 -- ---- the run and the last item
 

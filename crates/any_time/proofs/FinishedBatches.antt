@@ -1,10 +1,7 @@
 -- What the sessions of a batch have come to, once it is at its end.
-use Rattle.std.proofs.Common.{◌≡◌, ◌<◌, ◌++◌, ℕ, zero, suc, List, [], ◌∷◌, length, map, get_or, Some, false, inl, inr, refl, sym, ap, ◌∙◌}
-use Rattle.std.proofs.Common.{arith}
-use Rattle.std.proofs.Math.ListN.{length-map}
-use Rattle.plan_model.specs.declared.tasks.Task.{Task}
-use Rattle.grown_runs.specs.declared.grown.Grown.{Grown}
-use Rattle.any_time.proofs.Words.{AllEmpty, GathersBatch, HasFinished, betters_of, AllOver, BatchState, IsBatchOver, Gathers, IsFresh, SessionState, Better}
+use Rattle.any_time.proofs.Words.{◌≡◌, ◌<◌, ◌++◌, ℕ, zero, suc, List, [], ◌∷◌, length, map, get_or, Some, false, inl, inr, refl, sym, ap, ◌∙◌, arith}
+use Rattle.any_time.proofs.Words.{length-map, Task, Grown, AllEmpty, GathersBatch, HasFinished, betters_of, AllOver, BatchState, IsBatchOver, Gathers, IsFresh}
+use Rattle.any_time.proofs.Words.{SessionState, Better}
 use Rattle.any_time.proofs.GatheredItems.{AreBetterPaths-gathered, EndsWith-gathered}
 use Rattle.any_time.proofs.ItemsOfSessions.{items_of_sessions}
 

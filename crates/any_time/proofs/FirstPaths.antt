@@ -1,13 +1,9 @@
 -- The nodes that a run has are those of a later run with numbers up to its limit; so the first path comes with the first goal node.
-use Rattle.std.proofs.Common.{◌≡◌, ◌<◌, ◌≤◌, ◌+◌, ◌*◌, ℕ, zero, suc, Option, Some, None, inl, inr, refl, sym, ap, ◌∙◌, subst, arith, min}
-use Rattle.std.specs.Prelude.{IsSome, IsTrue}
-use Rattle.std.proofs.Math.Nat.{mul-le-mul_right, min-le_left, min-le_right}
-use Rattle.std.proofs.lemmas.Bool.{cases_lt}
-use Rattle.grown_runs.proofs.Common.{IsPresent-goal, present-of_record, record-of_present, point_at-grows, goals_of, is_goal_point, IsPresent, point_at}
-use Rattle.grown_runs.proofs.Common.{GrowsInto, Record, Scene, Task, start_present-held, state_of_grown, words_of_grown}
-use Rattle.grown_runs.specs.declared.grown.Grown.{Grown}
+use Rattle.any_time.proofs.Words.{◌≡◌, ◌<◌, ◌≤◌, ◌+◌, ◌*◌, ℕ, zero, suc, Option, Some, None, inl, inr, refl, sym, ap, ◌∙◌, subst, arith, min, IsSome, IsTrue}
+use Rattle.any_time.proofs.Words.{mul-le-mul_right, min-le_left, min-le_right, cases_lt, IsPresent-goal, present-of_record, record-of_present, point_at-grows}
+use Rattle.any_time.proofs.Words.{goals_of, is_goal_point, IsPresent, point_at, GrowsInto, Record, Scene, Task, start_present-held, state_of_grown}
+use Rattle.any_time.proofs.Words.{words_of_grown, Grown, best_sum, AreSlices, HaveGoalNode}
 use Rattle.any_time.proofs.BestNodes.{none-best}
-use Rattle.any_time.proofs.Words.{best_sum, AreSlices, HaveGoalNode}
 
 pub some_entry : (o : Option Record) → IsSome o → (entry : Record) × (o ≡ Some entry)
 some_entry None h = cc

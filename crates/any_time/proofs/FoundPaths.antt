@@ -1,16 +1,11 @@
 -- The path to the best node of a run leads from the start into a goal, in that run and in each that it grows into.
-use Rattle.std.proofs.Common.{◌≡◌, ℕ, zero, suc, ◌+◌, ◌-◌, ◌<◌, ◌≤◌, List, [], ◌∷◌, ◌++◌, length, map, reverse, arith, refl, sym, ap, ◌∙◌, subst, inl, inr}
-use Rattle.std.proofs.Common.{length-append}
-use Rattle.std.proofs.lemmas.Bool.{cases_lt}
-use Rattle.std.proofs.lemmas.List.{map-append, get_or_append_left, get_or-append_right, reverse-append}
-use Rattle.std.specs.Prelude.{IsTrue, Option, Some}
-use Rattle.grown_runs.proofs.Common.{chain-start, chain-parent, StandsAt-present, KeepsOrder-falls, FallAlong-ordered, length_of_path-reverse, path_to}
-use Rattle.grown_runs.proofs.Common.{IsAllowedEdge, KeepsOrder, Setup, setup_of, path_point, goals_of, is_goal_point, lies_in_goals, length_of_path}
-use Rattle.grown_runs.proofs.Common.{AreNumberedTo, IsPresent, StandsAt, point_of, GrowsInto, TreeState, chain_in, Goal, Point, Scene, Task, state_of_grown}
-use Rattle.settle_report.proofs.GrownPaths.{path_to-reverse, points_up}
-use Rattle.grown_runs.specs.declared.grown.Grown.{Grown}
+use Rattle.any_time.proofs.Words.{◌≡◌, ℕ, zero, suc, ◌+◌, ◌-◌, ◌<◌, ◌≤◌, List, [], ◌∷◌, ◌++◌, length, map, reverse, arith, refl, sym, ap, ◌∙◌, subst, inl, inr}
+use Rattle.any_time.proofs.Words.{length-append, cases_lt, map-append, get_or_append_left, get_or-append_right, reverse-append, IsTrue, Option, Some}
+use Rattle.any_time.proofs.Words.{chain-start, chain-parent, StandsAt-present, KeepsOrder-falls, FallAlong-ordered, length_of_path-reverse, path_to}
+use Rattle.any_time.proofs.Words.{IsAllowedEdge, KeepsOrder, Setup, setup_of, path_point, goals_of, is_goal_point, lies_in_goals, length_of_path, AreNumberedTo}
+use Rattle.any_time.proofs.Words.{IsPresent, StandsAt, point_of, GrowsInto, TreeState, chain_in, Goal, Point, Scene, Task, state_of_grown, path_to-reverse}
+use Rattle.any_time.proofs.Words.{points_up, Grown, Shows, IsOfFirstNodes, Leads, LeadsIntoGoal, Better}
 use Rattle.any_time.proofs.BestNodes.{AreNumberedTo-grown, IsGoalNode-best, IsPresent-best}
-use Rattle.any_time.proofs.Words.{Shows, IsOfFirstNodes, Leads, LeadsIntoGoal, Better}
 
 module _ (Edge : Point → Point → Type 0) (Node : Point → Type 0) (first : Point) where
   -- one point

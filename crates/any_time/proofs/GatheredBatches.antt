@@ -1,10 +1,7 @@
 -- One poll more before a batch's items.
-use Rattle.std.proofs.Common.{◌≡◌, ◌≢◌, ◌<◌, ◌++◌, ℕ, Bool, true, false, List, [], ◌∷◌, length, get_or, set, length-set, get_or-set_same, get_or-set_other}
-use Rattle.std.proofs.Common.{Some, None, Ok, Err, inl, nat_eq, if◌then◌else◌, refl, sym, ap, subst, ◌∙◌, arith, append_assoc, append-nil}
-use Rattle.std.proofs.lemmas.Bool.Decides.{nat_tests}
-use Rattle.futures.specs.declared.task.Poll.TheVariants.{Ready, Pending}
-use Rattle.plan_model.specs.declared.errors.Memory.{Memory}
-use Rattle.any_time.proofs.Words.{GathersBatch, BatchPolls, BatchState, IsBatchOver, Better}
+use Rattle.any_time.proofs.Words.{◌≡◌, ◌≢◌, ◌<◌, ◌++◌, ℕ, Bool, true, false, List, [], ◌∷◌, length, get_or, set, length-set, get_or-set_same, get_or-set_other}
+use Rattle.any_time.proofs.Words.{Some, None, Ok, Err, inl, nat_eq, if◌then◌else◌, refl, sym, ap, subst, ◌∙◌, arith, append_assoc, append-nil, nat_tests, Ready}
+use Rattle.any_time.proofs.Words.{Pending, Memory, GathersBatch, BatchPolls, BatchState, IsBatchOver, Better}
 
 pub after_pending : (b u c : BatchState) (xs ys : List (List Better)) → BatchPolls b Pending u → GathersBatch u xs c ys → GathersBatch b xs c ys
 after_pending b u c xs ys p h =

@@ -1,14 +1,10 @@
 -- One poll more before a session's items, and what all of them are.
-use Rattle.std.proofs.Common.{◌≡◌, ◌++◌, ℕ, List, [], ◌∷◌, Option, Some, None, Ok, Err, MatchOption, ap, refl, sym, subst, ◌∙◌, length}
-use Rattle.std.proofs.Common.{append-nil, append_assoc}
-use Rattle.futures.specs.declared.task.Poll.TheVariants.{Ready, Pending}
-use Rattle.grown_runs.proofs.Common.{Memory, Task}
-use Rattle.grown_runs.specs.declared.grown.Grown.{Grown}
+use Rattle.any_time.proofs.Words.{◌≡◌, ◌++◌, ℕ, List, [], ◌∷◌, Option, Some, None, Ok, Err, MatchOption, ap, refl, sym, subst, ◌∙◌, length, append-nil}
+use Rattle.any_time.proofs.Words.{append_assoc, Ready, Pending, Memory, Task, Grown, best_sum, Gathers, EndsWith, HasGiven, MissesNoFall, betters_among}
+use Rattle.any_time.proofs.Words.{IsBetter, IsFresh, IsOver, Polls, SessionState, AreBetterPaths, Better, Last}
 use Rattle.any_time.proofs.EachSlice.{items_fall_on}
 use Rattle.any_time.proofs.KnownOptions.{held}
 use Rattle.any_time.proofs.TextbookSlices.{AreTextbookItems-given}
-use Rattle.any_time.proofs.Words.{best_sum, Gathers, EndsWith, HasGiven, MissesNoFall, betters_among, IsBetter, IsFresh, IsOver, Polls, SessionState}
-use Rattle.any_time.proofs.Words.{AreBetterPaths, Better, Last}
 
 pub after_pending : (s u t : SessionState) (xs ys : List Better) → Polls s Pending u → Gathers u xs t ys → Gathers s xs t ys
 after_pending s u t xs ys p h = (Pending ∷ h.0, (u, p, h.1), h.2, h.3)

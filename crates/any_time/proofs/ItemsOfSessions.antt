@@ -1,15 +1,9 @@
 -- The items of a batch are those of its sessions, from poll to poll.
-use Rattle.std.proofs.Common.{◌≡◌, ◌≢◌, ◌<◌, ◌≤◌, ◌⊎◌, inl, inr, ℕ, Bool, true, false, List, [], ◌∷◌, ◌++◌, length, Option, Some, None, Result, Ok, Err}
-use Rattle.std.proofs.Common.{nat_eq, if◌then◌else◌, ◌||◌, refl, sym, ap, subst, ◌∙◌, arith, IfSome}
-use Rattle.std.proofs.lemmas.Bool.Decides.{nat_tests}
-use Rattle.std.specs.List.{FoldsTo}
-use Rattle.std.proofs.Math.Decide.{dec_lt}
-use Rattle.futures.specs.declared.task.Poll.{Poll}
-use Rattle.futures.specs.declared.task.Poll.TheVariants.{Ready, Pending}
-use Rattle.plan_model.specs.declared.errors.Memory.{Memory}
-use Rattle.any_time.proofs.Words.{Better, ArePolled, BatchAnswers, BatchItemsFall, EndsWithSessions, FailsByMemory, ItemsAreOfSessions, betters_of, has_memory}
-use Rattle.any_time.proofs.Words.{AllOver, BatchPolls, BatchState, Gave, Rests, at, first_turn, place_of, turn_after, Answers, EndsWith, HasGiven, MissesNoFall}
-use Rattle.any_time.proofs.Words.{betters_among, IsOver, Polls, SessionState}
+use Rattle.any_time.proofs.Words.{◌≡◌, ◌≢◌, ◌<◌, ◌≤◌, ◌⊎◌, inl, inr, ℕ, Bool, true, false, List, [], ◌∷◌, ◌++◌, length, Option, Some, None, Result, Ok, Err}
+use Rattle.any_time.proofs.Words.{nat_eq, if◌then◌else◌, ◌||◌, refl, sym, ap, subst, ◌∙◌, arith, IfSome, nat_tests, FoldsTo, dec_lt, Poll, Ready, Pending}
+use Rattle.any_time.proofs.Words.{Memory, Better, ArePolled, BatchAnswers, BatchItemsFall, EndsWithSessions, FailsByMemory, ItemsAreOfSessions, betters_of}
+use Rattle.any_time.proofs.Words.{has_memory, AllOver, BatchPolls, BatchState, Gave, Rests, at, first_turn, place_of, turn_after, Answers, EndsWith, HasGiven}
+use Rattle.any_time.proofs.Words.{MissesNoFall, betters_among, IsOver, Polls, SessionState}
 use Rattle.any_time.proofs.EachSlice.{items_fall_on}
 use Rattle.any_time.proofs.TurnLoop.{place_once}
 

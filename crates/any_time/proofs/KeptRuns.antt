@@ -1,8 +1,6 @@
 -- A poll in turn that gives no `Memory` leaves each session its run.
-use Rattle.std.proofs.Common.{◌≡◌, ◌<◌, ◌≤◌, inl, inr, ℕ, List, length, Option, Some, None, Ok, IsSome, IsSomeAnd, All, refl, sym, subst, arith}
-use Rattle.std.proofs.Math.Decide.{dec_lt}
-use Rattle.futures.specs.declared.task.Poll.TheVariants.{Ready}
-use Rattle.any_time.proofs.Words.{Gave, Rests, at, place_of, SessionState, Better}
+use Rattle.any_time.proofs.Words.{◌≡◌, ◌<◌, ◌≤◌, inl, inr, ℕ, List, length, Option, Some, None, Ok, IsSome, IsSomeAnd, All, refl, sym, subst, arith, dec_lt}
+use Rattle.any_time.proofs.Words.{Ready, Gave, Rests, at, place_of, SessionState, Better}
 use Rattle.any_time.proofs.TurnLoop.{place_once}
 
 has : {A : Type 0} (o : Option A) (P : A → Type 0) → IsSomeAnd o P → IsSome o

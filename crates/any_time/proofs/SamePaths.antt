@@ -1,13 +1,9 @@
 -- The best path of a textbook run is the one item that shows it.
-use Rattle.std.proofs.Common.{◌≡◌, ℕ, Some, sym, ap, subst, ◌∙◌}
-use Rattle.std.specs.Prelude.{map, reverse, take, unwrap_or}
-use Rattle.grown_runs.proofs.Common.{AreSameRuns-textbook, best_node-same, chain_in-same, sum_in-same, path_to, KeepsOrder, IsOfTextbookRun, Setup, setup_of}
-use Rattle.grown_runs.proofs.Common.{best_node, goals_of, IsPresent, point_of, AreSameRuns, TreeState, chain_in, sum_in, Point, state_of_grown}
-use Rattle.plan_work.specs.OneWorker.{IsOfTextbook}
-use Rattle.grown_runs.specs.declared.grown.Grown.{Grown}
+use Rattle.any_time.proofs.Words.{◌≡◌, ℕ, Some, sym, ap, subst, ◌∙◌, map, reverse, take, unwrap_or, AreSameRuns-textbook, best_node-same, chain_in-same}
+use Rattle.any_time.proofs.Words.{sum_in-same, path_to, KeepsOrder, IsOfTextbookRun, Setup, setup_of, best_node, goals_of, IsPresent, point_of, AreSameRuns}
+use Rattle.any_time.proofs.Words.{TreeState, chain_in, sum_in, Point, state_of_grown, IsOfTextbook, Grown, Shows, best_of, IsTextbookPath, Better}
 use Rattle.any_time.proofs.BestNodes.{IsPresent-best}
 use Rattle.any_time.proofs.KnownOptions.{some_is}
-use Rattle.any_time.proofs.Words.{Shows, best_of, IsTextbookPath, Better}
 
 module _ (setup : Setup) (one other : TreeState) (order : KeepsOrder setup one) (same : AreSameRuns one other) where
   points_alike : point_of other.points ≡ point_of one.points

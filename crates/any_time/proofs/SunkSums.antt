@@ -1,11 +1,7 @@
 -- The best sum of a settled run that grows into another stays or falls.
-use Rattle.std.proofs.Common.{◌≡◌, ◌≤◌, ℕ, Option, Some, None, IfSome, IsSomeAnd, refl, sym, ap, subst}
-use Rattle.std.specs.Prelude.{option_map}
-use Rattle.grown_runs.proofs.Common.{best_node-some, IsGoalNode-grows, best_sum-grows, IsBestNode, goals_of, GrowsInto, IsSettled, sum_in, Scene, Task}
-use Rattle.grown_runs.proofs.Common.{state_of_grown}
-use Rattle.grown_runs.specs.declared.grown.Grown.{Grown}
+use Rattle.any_time.proofs.Words.{◌≡◌, ◌≤◌, ℕ, Option, Some, None, IfSome, IsSomeAnd, refl, sym, ap, subst, option_map, best_node-some, IsGoalNode-grows}
+use Rattle.any_time.proofs.Words.{best_sum-grows, IsBestNode, goals_of, GrowsInto, IsSettled, sum_in, Scene, Task, state_of_grown, Grown, best_of, best_sum}
 use Rattle.any_time.proofs.BestNodes.{AreNumberedTo-grown, none-best}
-use Rattle.any_time.specs.BestPaths.{best_of, best_sum}
 
 -- there still is a sum, and it is no greater
 abbrev pub Sinks : Option ℕ → Option ℕ → Type 0

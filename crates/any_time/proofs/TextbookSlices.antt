@@ -1,19 +1,14 @@
 -- A session by one worker gives the items of the textbook's runs, and leaves none out.
-use Rattle.std.proofs.Common.{◌≡◌, ◌<◌, ◌≤◌, ℕ, List, [], ◌∷◌, Option, Some, None}
-use Rattle.std.proofs.Common.{◌⊎◌, inl, inr, refl, sym, ap, subst, ◌∙◌, arith, get_or, length, min, ◌+◌, ◌*◌}
-use Rattle.std.specs.Prelude.{All, Contains}
-use Rattle.std.proofs.lemmas.Bool.{cases_lt}
-use Rattle.std.proofs.lemmas.List.Elements.{All-cons, All-contains, All-head, All-nil, All-tail, All-weaker, Contains-get_or}
-use Rattle.grown_runs.proofs.Common.{Contains-after, Contains-first, Task}
-use Rattle.plan_work.specs.OneWorker.{IsOfTextbook}
-use Rattle.grown_runs.specs.declared.grown.Grown.{Grown}
+use Rattle.any_time.proofs.Words.{◌≡◌, ◌<◌, ◌≤◌, ℕ, List, [], ◌∷◌, Option, Some, None, ◌⊎◌, inl, inr, refl, sym, ap, subst, ◌∙◌, arith, get_or, length, min}
+use Rattle.any_time.proofs.Words.{◌+◌, ◌*◌, All, Contains, cases_lt, All-cons, All-contains, All-head, All-nil, All-tail, All-weaker, Contains-get_or}
+use Rattle.any_time.proofs.Words.{Contains-after, Contains-first, Task, IsOfTextbook, Grown, Shows, best_sum, AreSlices, EndsWith, Fall, GrowBySlices, HasGiven}
+use Rattle.any_time.proofs.Words.{IsFound, MissesNoFall, betters_among, last_cost, last_of, up_to, AreTextbookItems, GivesTextbookItems, IsTextbookItem}
+use Rattle.any_time.proofs.Words.{IsTextbookPath, Better, Last}
 use Rattle.any_time.proofs.EachSlice.{items_fall_on, up_to-past, up_to-within}
 use Rattle.any_time.proofs.FallingItems.{best_shown}
 use Rattle.any_time.proofs.FirstPaths.{AreSlices-next, below_next}
 use Rattle.any_time.proofs.KnownOptions.{held, none_is, some_is, there_some}
 use Rattle.any_time.proofs.SamePaths.{IsTextbookPath-shown, Shows-alone, Shows-textbook}
-use Rattle.any_time.proofs.Words.{Shows, best_sum, AreSlices, EndsWith, Fall, GrowBySlices, HasGiven, IsFound, MissesNoFall, betters_among, last_cost, last_of}
-use Rattle.any_time.proofs.Words.{up_to, AreTextbookItems, GivesTextbookItems, IsTextbookItem, IsTextbookPath, Better, Last}
 
 -- ---- items that fall
 

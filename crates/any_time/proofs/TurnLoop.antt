@@ -1,15 +1,8 @@
 -- A poll of sessions in turn, as far as it has come.
-use Rattle.std.proofs.Common.{◌≡◌, ◌≢◌, ◌<◌, ◌≤◌, ◌+◌, inl, inr, ℕ, Bool, true, false, List, length, get_or, set, length-set, get_or-set_same}
-use Rattle.std.proofs.Common.{get_or-set_other, below_more, Option, None, Result, refl, sym, ap, subst, ◌∙◌, arith}
-use Rattle.std.proofs.lemmas.Bool.Decides.{nat_tests}
-use Rattle.futures.specs.declared.task.context.Context.{Context}
-use Rattle.futures.specs.declared.task.Poll.TheVariants.{Ready, Pending}
-use Rattle.std.proofs.lemmas.Bool.{true≢false}
-use Rattle.futures.specs.Task.{Keeps}
-use Rattle.std.proofs.lemmas.List.{get_or_read, set-get_or}
-use Rattle.futures.specs.declared.task.Poll.{Poll}
-use Rattle.plan_model.specs.declared.errors.Memory.{Memory}
-use Rattle.any_time.proofs.Words.{Better, AllRest, Gave, Rests, place_of, at, SessionState, IsOver, Polls}
+use Rattle.any_time.proofs.Words.{◌≡◌, ◌≢◌, ◌<◌, ◌≤◌, ◌+◌, inl, inr, ℕ, Bool, true, false, List, length, get_or, set, length-set, get_or-set_same}
+use Rattle.any_time.proofs.Words.{get_or-set_other, below_more, Option, None, Result, refl, sym, ap, subst, ◌∙◌, arith, nat_tests, Context, Ready, Pending}
+use Rattle.any_time.proofs.Words.{true≢false, Keeps, get_or_read, set-get_or, Poll, Memory, Better, AllRest, Gave, Rests, place_of, at, SessionState, IsOver}
+use Rattle.any_time.proofs.Words.{Polls}
 
 -- The sessions at the places before this one were polled once and gave no item, and the others are as they were. If none of them answered
 -- Pending, all of them are at their ends, and nothing has changed.

@@ -1,18 +1,9 @@
 -- Least and greatest coordinates, and the box in which a convex polygon lies.
-use Rattle.std.proofs.Common.{◌≡◌, ℕ, suc, ◌+◌, ◌<◌, List, length, refl, arith, Bool, true, false, cond, ◌∙◌}
-use Rattle.std.specs.Prelude.{ℤ, pos, ◌+ℤ◌, ◌-ℤ◌, ◌*ℤ◌, ◌≤ℤ◌, int_lt}
-use Rattle.std.specs.Int.{int_min, int_max}
-use Rattle.std.proofs.lemmas.Int.{ints}
+use Rattle.convex_sets.proofs.Words.{◌≡◌, ℕ, suc, ◌+◌, ◌<◌, List, length, refl, arith, Bool, true, false, cond, ◌∙◌, ℤ, pos, ◌+ℤ◌, ◌-ℤ◌, ◌*ℤ◌, ◌≤ℤ◌, int_lt}
+use Rattle.convex_sets.proofs.Words.{int_min, int_max, ints, LEAST_CORNER_COORDINATE, MOST_CORNER_COORDINATE, Vertex, corner_at, IsInside, Rational, at_lattice}
+use Rattle.convex_sets.proofs.Words.{BoundingBox, IsBoundingBox, IsBoxed, IsInBox, Point, var, plus, minus, times, same}
 use borrow.Author.Count.{below_more}
-use Rattle.plan_model.specs.declared.limits.TheConstants.{LEAST_CORNER_COORDINATE, MOST_CORNER_COORDINATE}
-use Rattle.plan_model.specs.declared.geometry.Vertex.{Vertex}
-use Rattle.plan_model.specs.Geometry.Convexity.{corner_at}
-use Rattle.plan_model.specs.Spaces.HalfPlanes.{IsInside}
-use Rattle.plan_model.specs.Spaces.RoomOfConfigurations.{Rational, at_lattice}
-use Rattle.convex_sets.proofs.Words.{BoundingBox, IsBoundingBox, IsBoxed, IsInBox}
 use Rattle.convex_sets.proofs.Corners.{IsWithin, bounded_corner, bounded_at}
-use Rattle.plan_model.specs.declared.geometry.Point.{Point}
-use Rattle.plan_model.proofs.Ring.{var, plus, minus, times, same}
 use Rattle.convex_sets.proofs.Signs.{mul-not_negative, not_negative_factor}
 use Rattle.convex_sets.proofs.ConvexPolygons.{IsConvex, IsConvex-from_test}
 use Rattle.convex_sets.proofs.Fans.{fan}

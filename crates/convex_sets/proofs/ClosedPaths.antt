@@ -1,11 +1,6 @@
 -- A closed merged outline is a strictly convex polygon.
-use Rattle.std.proofs.Common.{◌≡◌, ◌≢◌, ◌⊎◌, ℕ, zero, suc, ◌-◌, ◌<◌, ◌≤◌, List, [], ◌∷◌, ◌++◌, length, sym, ap, ◌∙◌, inl, inr, arith}
-use Rattle.std.specs.Prelude.{pos, ◌<ℤ◌, ◌≤ℤ◌}
-use Rattle.std.proofs.lemmas.Int.{ints, by_lt_z}
-use Rattle.std.proofs.lemmas.Bool.{cases_lt}
-use Rattle.plan_model.specs.declared.geometry.Vertex.{Vertex}
-use Rattle.plan_model.specs.Geometry.Convexity.{corner_at, next_corner}
-use Rattle.convex_sets.proofs.Words.{cross, from_to, both, edge_at, start, rise, IsOutline, IsMerged}
+use Rattle.convex_sets.proofs.Words.{◌≡◌, ◌≢◌, ◌⊎◌, ℕ, zero, suc, ◌-◌, ◌<◌, ◌≤◌, List, [], ◌∷◌, ◌++◌, length, sym, ap, ◌∙◌, inl, inr, arith, pos, ◌<ℤ◌, ◌≤ℤ◌}
+use Rattle.convex_sets.proofs.Words.{ints, by_lt_z, cases_lt, Vertex, corner_at, next_corner, cross, from_to, both, edge_at, start, rise, IsOutline, IsMerged}
 use Rattle.convex_sets.proofs.Crosses.{cross-by_way}
 use Rattle.convex_sets.proofs.MergeSteps.{zero_vector}
 use Rattle.convex_sets.proofs.MergedPaths.{IsPath, IsMergedTo, cross-sums, at_front, at_end, pushed}

@@ -1,15 +1,8 @@
 -- Strictly convex polygons, corner by corner.
-use Rattle.std.proofs.Common.{◌≡◌, ◌≢◌, ◌⊎◌, inl, inr, ℕ, suc, ◌+◌, ◌<◌, ◌≤◌, Bool, true, false, ◌&&◌, nat_le, eqb, List, length}
-use Rattle.std.proofs.Common.{refl, sym, ◌∙◌, arith, cond, eq-eqb}
-use Rattle.std.specs.Prelude.{pos, ◌<ℤ◌, int_lt}
-use Rattle.std.proofs.lemmas.Int.{ints}
-use Rattle.std.proofs.lemmas.Bool.{and_parts, and_from, leb-true, eqb-true, cases_lt}
-use Rattle.std.specs.List.{list_all, range_with_len}
-use Rattle.plan_model.specs.declared.geometry.Vertex.{Vertex}
-use Rattle.plan_model.specs.Geometry.Convexity.{corner_at, next_corner, is_left_of_edge, is_strictly_convex}
-use Rattle.plan_model.specs.Geometry.Plane.{orientation}
-use Rattle.convex_sets.specs.Edges.{is_end_or_left}
-use Rattle.plan_model.proofs.Tests.{true_below, true_of_below, false_below, last_true, one_true}
+use Rattle.convex_sets.proofs.Words.{◌≡◌, ◌≢◌, ◌⊎◌, inl, inr, ℕ, suc, ◌+◌, ◌<◌, ◌≤◌, Bool, true, false, ◌&&◌, nat_le, eqb, List, length, refl, sym, ◌∙◌, arith}
+use Rattle.convex_sets.proofs.Words.{cond, eq-eqb, pos, ◌<ℤ◌, int_lt, ints, and_parts, and_from, leb-true, eqb-true, cases_lt, list_all, range_with_len, Vertex}
+use Rattle.convex_sets.proofs.Words.{corner_at, next_corner, is_left_of_edge, is_strictly_convex, orientation, is_end_or_left, true_below, true_of_below}
+use Rattle.convex_sets.proofs.Words.{false_below, last_true, one_true}
 
 pub left_of_edge : (corners : List Vertex) (i to : ℕ) → to ≡ next_corner (length corners) i
     → ((k : ℕ) → k < length corners → is_end_or_left corners i to k ≡ true) → is_left_of_edge corners i ≡ true

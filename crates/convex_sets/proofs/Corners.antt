@@ -1,14 +1,7 @@
 -- Corners by their coordinates: when two are the same, and what their bounds say.
-use Rattle.std.proofs.Common.{◌≡◌, ℕ, ◌<◌, true, ◌&&◌, List, length, sym, arith}
-use Rattle.std.specs.Prelude.{ℤ, pos, ◌≤ℤ◌, int_le}
-use Rattle.std.proofs.lemmas.Bool.{and_parts, and_from}
-use Rattle.std.proofs.lemmas.Int.{ints}
-use Rattle.plan_model.specs.declared.limits.TheConstants.{LEAST_CORNER_COORDINATE, MOST_CORNER_COORDINATE}
-use Rattle.plan_model.specs.declared.geometry.Vertex.{Vertex}
-use Rattle.plan_model.specs.Geometry.Convexity.{corner_at}
-use Rattle.plan_model.specs.Scenes.Limits.{is_corner_between}
-use Rattle.convex_sets.specs.Bounds.{IsBoundedCorner, AreBoundedCorners}
-use Rattle.plan_model.proofs.Tests.{true_at}
+use Rattle.convex_sets.proofs.Words.{◌≡◌, ℕ, ◌<◌, true, ◌&&◌, List, length, sym, arith, ℤ, pos, ◌≤ℤ◌, int_le, and_parts, and_from, ints}
+use Rattle.convex_sets.proofs.Words.{LEAST_CORNER_COORDINATE, MOST_CORNER_COORDINATE, Vertex, corner_at, is_corner_between, IsBoundedCorner, AreBoundedCorners}
+use Rattle.convex_sets.proofs.Words.{true_at}
 
 -- vectors with the same coordinates are the same
 pub same_vector : (u v : Vertex) → u.x ≡ v.x → u.y ≡ v.y → u ≡ v

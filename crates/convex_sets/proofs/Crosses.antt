@@ -1,11 +1,5 @@
 -- Laws of the cross product of plane vectors.
-use Rattle.std.proofs.Common.{◌≡◌, arith}
-use Rattle.std.specs.Prelude.{pos, ◌+ℤ◌, ◌-ℤ◌, ◌*ℤ◌, ◌<ℤ◌, ◌≤ℤ◌}
-use Rattle.std.proofs.lemmas.Int.{ints}
-use Rattle.plan_model.specs.declared.geometry.Vertex.{Vertex}
-use Rattle.plan_model.specs.Geometry.Convexity.{}
-use Rattle.convex_sets.proofs.Words.{cross, from_to, both}
-use Rattle.plan_model.proofs.Ring.{Read, var, plus, minus, times, same}
+use Rattle.convex_sets.proofs.Words.{◌≡◌, arith, pos, ◌+ℤ◌, ◌-ℤ◌, ◌*ℤ◌, ◌<ℤ◌, ◌≤ℤ◌, ints, Vertex, cross, from_to, both, Read, var, plus, minus, times, same}
 use Rattle.convex_sets.proofs.Signs.{mul-not_negative, not_negative_factor}
 
 abbrev pub cross_is : (u v : Vertex) → Read (cross u v)

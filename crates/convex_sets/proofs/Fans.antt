@@ -1,16 +1,9 @@
 -- A point on the inner side of every edge of a strictly convex polygon lies in a triangle of the fan from its first corner.
-use Rattle.std.proofs.Common.{◌≡◌, ℕ, ◌+◌, ◌-◌, ◌<◌, ◌≤◌, zero, suc, List, length, refl, ◌∙◌, arith}
-use Rattle.std.specs.Prelude.{ℤ, pos, negsuc, ◌+ℤ◌, ◌-ℤ◌, ◌*ℤ◌, ◌<ℤ◌, ◌≤ℤ◌}
-use Rattle.std.proofs.lemmas.Int.{ints, by_lt_z}
-use Rattle.plan_model.specs.declared.geometry.Vertex.{Vertex}
-use Rattle.plan_model.specs.Geometry.Convexity.{corner_at, next_corner}
-use Rattle.plan_model.specs.Spaces.HalfPlanes.{IsInside, side_of}
-use Rattle.plan_model.specs.Spaces.RoomOfConfigurations.{Rational}
-use Rattle.convex_sets.proofs.Words.{at_corner, cross, from_to}
-use Rattle.plan_model.proofs.Ring.{Read, var, plus, minus, times, same}
+use Rattle.convex_sets.proofs.Words.{◌≡◌, ℕ, ◌+◌, ◌-◌, ◌<◌, ◌≤◌, zero, suc, List, length, refl, ◌∙◌, arith, ℤ, pos, negsuc, ◌+ℤ◌, ◌-ℤ◌, ◌*ℤ◌, ◌<ℤ◌, ◌≤ℤ◌, ints}
+use Rattle.convex_sets.proofs.Words.{by_lt_z, Vertex, corner_at, next_corner, IsInside, side_of, Rational, at_corner, cross, from_to, Read, var, plus, minus}
+use Rattle.convex_sets.proofs.Words.{times, same, orientation}
 use Rattle.convex_sets.proofs.Crosses.{exchange_x, exchange_y, cross_opposite}
 use Rattle.convex_sets.proofs.Signs.{mul-positive}
-use Rattle.plan_model.specs.Geometry.Plane.{orientation}
 use Rattle.convex_sets.proofs.ConvexPolygons.{IsConvex, next_suc, next_last}
 
 -- the vector from a corner to a point, times the point's denominator

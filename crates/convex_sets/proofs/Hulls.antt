@@ -1,15 +1,7 @@
 -- Weighted means of corners: closed convex hulls, and the side of a line on which they lie.
-use Rattle.std.proofs.Common.{◌≡◌, ℕ, ◌+◌, ◌<◌, zero, suc, List, [], ◌∷◌, length, refl, ap, ◌∙◌, arith}
-use Rattle.std.specs.Prelude.{ℤ, pos, ◌+ℤ◌, ◌-ℤ◌, ◌*ℤ◌, ◌<ℤ◌, ◌≤ℤ◌, sum}
-use Rattle.std.proofs.lemmas.Int.{ints}
-use Rattle.std.proofs.lemmas.List.Sums.{sum_by-cons}
-use Rattle.plan_model.specs.declared.geometry.Vertex.{Vertex}
-use Rattle.plan_model.specs.Geometry.Convexity.{corner_at}
-use Rattle.plan_model.specs.Spaces.Meeting.{Meets, weighted}
-use Rattle.plan_model.specs.Spaces.RoomOfConfigurations.{Rational}
-use Rattle.plan_model.proofs.MeetingLaws.{SharesPoint-meets, Meets-shares_point}
-use Rattle.convex_sets.specs.Edges.{cross, from_to}
-use Rattle.plan_model.proofs.Ring.{var, plus, minus, times, same}
+use Rattle.convex_sets.proofs.Words.{◌≡◌, ℕ, ◌+◌, ◌<◌, zero, suc, List, [], ◌∷◌, length, refl, ap, ◌∙◌, arith, ℤ, pos, ◌+ℤ◌, ◌-ℤ◌, ◌*ℤ◌, ◌<ℤ◌, ◌≤ℤ◌, sum, ints}
+use Rattle.convex_sets.proofs.Words.{sum_by-cons, Vertex, corner_at, Meets, weighted, Rational, SharesPoint-meets, Meets-shares_point, cross, from_to, var}
+use Rattle.convex_sets.proofs.Words.{plus, minus, times, same}
 use Rattle.convex_sets.proofs.Signs.{mul-not_negative, not_negative_factor}
 use Rattle.convex_sets.proofs.Fans.{out_to, IsMeanOf}
 

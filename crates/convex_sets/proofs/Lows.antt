@@ -1,11 +1,7 @@
 -- The lowest of some corners, and of these the leftmost.
-use Rattle.std.proofs.Common.{◌≡◌, ℕ, ◌+◌, ◌<◌, Bool, true, false, MatchBool, List, length, refl, arith}
-use Rattle.std.specs.Prelude.{ℤ, pos, ◌<ℤ◌, ◌≤ℤ◌, int_lt}
-use Rattle.std.proofs.lemmas.Int.{ints}
+use Rattle.convex_sets.proofs.Words.{◌≡◌, ℕ, ◌+◌, ◌<◌, Bool, true, false, MatchBool, List, length, refl, arith, ℤ, pos, ◌<ℤ◌, ◌≤ℤ◌, int_lt, ints, Vertex}
+use Rattle.convex_sets.proofs.Words.{corner_at, IsBoundedCorner, from_to, rise, start}
 use borrow.Author.Count.{below_more}
-use Rattle.plan_model.specs.declared.geometry.Vertex.{Vertex}
-use Rattle.plan_model.specs.Geometry.Convexity.{corner_at}
-use Rattle.convex_sets.proofs.Words.{IsBoundedCorner, from_to, rise, start}
 use Rattle.convex_sets.proofs.Corners.{bounded_corner}
 use Rattle.convex_sets.proofs.Crosses.{cross-by_way}
 use Rattle.convex_sets.proofs.MergeSteps.{zero_vector}

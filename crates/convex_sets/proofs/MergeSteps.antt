@@ -1,12 +1,6 @@
 -- One step of merging two outlines by the order of their edges' angles.
-use Rattle.std.proofs.Common.{◌≡◌, ◌⊎◌, ℕ, suc, ◌<◌, ◌≤◌, List, length, ◌∙◌, inl, inr, arith}
-use Rattle.std.specs.Prelude.{pos, negsuc, ◌*ℤ◌, ◌<ℤ◌, ◌≤ℤ◌}
-use Rattle.std.proofs.lemmas.Int.{ints, by_lt_z}
-use Rattle.plan_model.specs.declared.geometry.Vertex.{Vertex}
-use Rattle.plan_model.specs.Geometry.Convexity.{corner_at}
-use Rattle.convex_sets.proofs.Words.{cross, from_to, both, edge_at, start, rise, IsOutline}
-use Rattle.std.proofs.lemmas.Bool.{cases_lt}
-use Rattle.plan_model.proofs.Ring.{var, minus, times, same}
+use Rattle.convex_sets.proofs.Words.{◌≡◌, ◌⊎◌, ℕ, suc, ◌<◌, ◌≤◌, List, length, ◌∙◌, inl, inr, arith, pos, negsuc, ◌*ℤ◌, ◌<ℤ◌, ◌≤ℤ◌, ints, by_lt_z, Vertex}
+use Rattle.convex_sets.proofs.Words.{corner_at, cross, from_to, both, edge_at, start, rise, IsOutline, cases_lt, var, minus, times, same}
 use Rattle.convex_sets.proofs.Signs.{mul-positive, mul-not_negative, mul-down_up, not_negative_factor, positive_factor}
 use Rattle.convex_sets.proofs.Crosses.{exchange, between, cross_opposite, cross_self, cross-both, both-cross, cross-by_way}
 

@@ -1,15 +1,8 @@
 -- The merged outline as far as it has come, and its closing.
-use Rattle.std.proofs.Common.{◌≡◌, ◌⊎◌, ℕ, suc, ◌+◌, ◌-◌, ◌<◌, ◌≤◌, List, [], ◌∷◌, ◌++◌, length, refl, sym, ap, subst, ◌∙◌, inl, inr, arith}
-use Rattle.std.specs.Prelude.{pos, ◌+ℤ◌, ◌<ℤ◌, ◌≤ℤ◌}
-use Rattle.std.proofs.lemmas.Int.{ints}
-use Rattle.std.proofs.lemmas.Bool.{cases_lt}
-use Rattle.std.proofs.Math.ListN.{length-append, get_or-append}
-use Rattle.std.proofs.Math.Seq.{get_or-append_seam}
-use Rattle.plan_model.specs.declared.geometry.Vertex.{Vertex}
-use Rattle.plan_model.specs.Geometry.Convexity.{corner_at}
-use Rattle.convex_sets.proofs.Words.{cross, from_to, both, edge_at, start, rise, IsOutline, IsSum, IsMergeStep}
+use Rattle.convex_sets.proofs.Words.{◌≡◌, ◌⊎◌, ℕ, suc, ◌+◌, ◌-◌, ◌<◌, ◌≤◌, List, [], ◌∷◌, ◌++◌, length, refl, sym, ap, subst, ◌∙◌, inl, inr, arith, pos, ◌+ℤ◌}
+use Rattle.convex_sets.proofs.Words.{◌<ℤ◌, ◌≤ℤ◌, ints, cases_lt, length-append, get_or-append, get_or-append_seam, Vertex, corner_at, cross, from_to, both}
+use Rattle.convex_sets.proofs.Words.{edge_at, start, rise, IsOutline, IsSum, IsMergeStep, var, plus, minus, times, same}
 use Rattle.convex_sets.proofs.Corners.{same_vector}
-use Rattle.plan_model.proofs.Ring.{var, plus, minus, times, same}
 use Rattle.convex_sets.proofs.MergeSteps.{IsAhead, IsAt, IsNext, Step, take_first, take_second, take_both}
 
 -- the corners so far, the current one last, and the last edge e

@@ -1,10 +1,6 @@
 -- Two polygons whose sum is merged lie to the left of each of its edges, each moved to where the edge begins.
-use Rattle.std.proofs.Common.{◌≡◌, ℕ, ◌<◌, List, length, ap, subst, arith}
-use Rattle.std.specs.Prelude.{pos, ◌≤ℤ◌}
-use Rattle.std.proofs.lemmas.Int.{ints}
-use Rattle.plan_model.specs.declared.geometry.Vertex.{Vertex}
-use Rattle.plan_model.specs.Geometry.Convexity.{corner_at, next_corner}
-use Rattle.convex_sets.proofs.Words.{cross, from_to, both, IsMerged, IsOutlineOf}
+use Rattle.convex_sets.proofs.Words.{◌≡◌, ℕ, ◌<◌, List, length, ap, subst, arith, pos, ◌≤ℤ◌, ints, Vertex, corner_at, next_corner, cross, from_to, both}
+use Rattle.convex_sets.proofs.Words.{IsMerged, IsOutlineOf}
 use Rattle.convex_sets.proofs.MergeSteps.{zero_vector}
 use Rattle.convex_sets.proofs.MergedPaths.{cross-sums}
 

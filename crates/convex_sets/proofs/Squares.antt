@@ -1,13 +1,8 @@
 -- The square of a clearance: its corners, and the points between them.
-use Rattle.std.proofs.Common.{◌≡◌, ◌≢◌, ℕ, zero, suc, ◌*◌, ◌<◌, ◌≤◌, true, refl, arith}
-use Rattle.std.specs.Prelude.{ℤ, pos, neg_ℤ, ◌+ℤ◌, ◌-ℤ◌, ◌*ℤ◌, ◌<ℤ◌, ◌≤ℤ◌}
-use Rattle.std.proofs.lemmas.Int.{ints, by_lt_z}
-use Rattle.plan_model.specs.declared.geometry.Vertex.{Vertex}
-use Rattle.plan_model.specs.Geometry.Convexity.{corner_at, next_corner, is_strictly_convex}
-use Rattle.plan_model.specs.Geometry.Plane.{orientation}
+use Rattle.convex_sets.proofs.Words.{◌≡◌, ◌≢◌, ℕ, zero, suc, ◌*◌, ◌<◌, ◌≤◌, true, refl, arith, ℤ, pos, neg_ℤ, ◌+ℤ◌, ◌-ℤ◌, ◌*ℤ◌, ◌<ℤ◌, ◌≤ℤ◌, ints, by_lt_z}
+use Rattle.convex_sets.proofs.Words.{Vertex, corner_at, next_corner, is_strictly_convex, orientation, var, plus, minus, times, opposite, same, cross, from_to}
+use Rattle.convex_sets.proofs.Words.{corner, square}
 use Rattle.plan_model.specs.Spaces.Meeting as meeting
-use Rattle.plan_model.proofs.Ring.{var, plus, minus, times, opposite, same}
-use Rattle.convex_sets.proofs.Words.{cross, from_to, corner, square}
 use Rattle.convex_sets.proofs.ConvexPolygons.{test-from_IsConvex}
 use Rattle.convex_sets.proofs.Corners.{IsWithin}
 use Rattle.convex_sets.proofs.Signs.{mul-positive, mul-not_negative, mul-up_down, mul-down_up, mul-both_negative, mul-both_not_positive}

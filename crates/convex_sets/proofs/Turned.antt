@@ -1,22 +1,15 @@
 -- The corners of a strictly convex polygon from the lowest on are an outline.
-use Rattle.std.proofs.Common.{◌≡◌, ◌≢◌, ◌⊎◌, ℕ, suc, ◌+◌, ◌-◌, ◌<◌, ◌≤◌, Bool, true, false, cond, ltb, ◌||◌, ◌==◌, List, [], ◌∷◌, ◌++◌}
-use Rattle.std.proofs.Common.{length, refl, sym, ap, ◌∙◌, inl, inr, arith}
-use Rattle.std.specs.Prelude.{ℤ, pos, ◌<ℤ◌, ◌≤ℤ◌}
-use Rattle.std.proofs.lemmas.Int.{ints, by_lt_z}
-use Rattle.std.proofs.lemmas.Bool.{cases_lt, cases_order, ltb-true, ltb-false, eqb-true}
-use Rattle.plan_model.specs.declared.limits.TheConstants.{LEAST_CORNER_COORDINATE, MOST_CORNER_COORDINATE}
-use Rattle.plan_model.specs.declared.geometry.Vertex.{Vertex}
-use Rattle.plan_model.specs.Geometry.Convexity.{corner_at, next_corner, is_strictly_convex}
-use Rattle.plan_model.specs.Geometry.Plane.{orientation}
+use Rattle.convex_sets.proofs.Words.{◌≡◌, ◌≢◌, ◌⊎◌, ℕ, suc, ◌+◌, ◌-◌, ◌<◌, ◌≤◌, Bool, true, false, cond, ltb, ◌||◌, ◌==◌, List, [], ◌∷◌, ◌++◌, length, refl}
+use Rattle.convex_sets.proofs.Words.{sym, ap, ◌∙◌, inl, inr, arith, ℤ, pos, ◌<ℤ◌, ◌≤ℤ◌, ints, by_lt_z, cases_lt, cases_order, ltb-true, ltb-false, eqb-true}
+use Rattle.convex_sets.proofs.Words.{LEAST_CORNER_COORDINATE, MOST_CORNER_COORDINATE, Vertex, corner_at, next_corner, is_strictly_convex, orientation}
 use Rattle.convex_sets.proofs.Words.{AreBoundedCorners, IsBoundedCorner, cross, from_to, edge_at, start, rise, IsOutline, IsOutlineOf, IsTurned, places_after}
+use Rattle.convex_sets.proofs.Words.{true_of_all, is_corner_between}
 use Rattle.convex_sets.proofs.Corners.{same_vector, bounded_corner, bounded_at}
 use Rattle.convex_sets.proofs.Crosses.{between, cross_opposite, cross_self, cross-by_way}
 use Rattle.convex_sets.proofs.MergeSteps.{zero_vector, from_end}
 use Rattle.convex_sets.proofs.MergedPaths.{pushed, at_front, at_end}
 use borrow.Author.Count.{below_more}
 use Rattle.convex_sets.proofs.ConvexPolygons.{IsConvex, IsConvex-from_test, next_suc, next_last}
-use Rattle.plan_model.proofs.Tests.{true_of_all}
-use Rattle.plan_model.specs.Scenes.Limits.{is_corner_between}
 
 pub places_before : (n i k : ℕ) → i + k < n → places_after n i k ≡ i + k
 places_before n i k h = by (ltb (i + k) n) refl

@@ -1,10 +1,5 @@
 -- The order of edges by their angles, from the start on, once around.
-use Rattle.std.proofs.Common.{◌⊎◌, inl, inr, arith}
-use Rattle.std.specs.Prelude.{pos, ◌<ℤ◌, ◌≤ℤ◌}
-use Rattle.std.proofs.lemmas.Int.{ints, by_lt_z}
-use Rattle.std.proofs.Math.IntN.{*ℤ_comm}
-use Rattle.plan_model.specs.declared.geometry.Vertex.{Vertex}
-use Rattle.convex_sets.proofs.Words.{cross, start, rise}
+use Rattle.convex_sets.proofs.Words.{◌⊎◌, inl, inr, arith, pos, ◌<ℤ◌, ◌≤ℤ◌, ints, by_lt_z, *ℤ_comm, Vertex, cross, start, rise}
 use Rattle.convex_sets.proofs.Signs.{mul-positive, mul-not_negative, mul-not_positive, mul-down_up, mul-up_down, mul-both_not_positive}
 use Rattle.convex_sets.proofs.Signs.{mul-both_negative, positive_factor}
 use Rattle.convex_sets.proofs.Crosses.{exchange, cross_opposite}

@@ -1,21 +1,8 @@
 -- A body that is widened by a clearance meets without it exactly what the body meets with it.
-use Rattle.std.proofs.Common.{◌≡◌, ℕ, suc, ◌+◌, ◌*◌, ◌<◌, ◌≤◌, List, [], ◌∷◌, length, map, true, refl, sym, ap, subst, ◌∙◌, arith}
-use Rattle.std.specs.Prelude.{ℤ, pos, ◌+ℤ◌, ◌-ℤ◌, ◌*ℤ◌, ◌≤ℤ◌, sum}
-use Rattle.std.specs.List.{list_all}
-use Rattle.std.proofs.Math.Nat.{mul-pos}
-use Rattle.std.proofs.lemmas.Int.{ints}
-use Rattle.plan_model.specs.declared.limits.TheConstants.{LEAST_BODY_COORDINATE, LEAST_SUMMAND_COORDINATE}
-use Rattle.plan_model.specs.declared.limits.TheConstants.{MOST_BODY_COORDINATE, MOST_CLEARANCE, MOST_SUMMAND_COORDINATE}
-use Rattle.plan_model.specs.declared.geometry.Vertex.{Vertex}
-use Rattle.plan_model.specs.Geometry.Convexity.{corner_at, next_corner}
-use Rattle.plan_model.specs.Scenes.Limits.{is_corner_between}
-use Rattle.plan_model.specs.Spaces.HalfPlanes.{IsInside}
-use Rattle.plan_model.specs.Spaces.Meeting.{IsWithin, Meets, weighted}
-use Rattle.plan_model.specs.Spaces.RoomOfConfigurations.{Rational}
-use Rattle.plan_model.specs.Spaces.Zones.{IsZoneOf}
-use Rattle.plan_model.proofs.MeetingLaws.{SharesPoint-meets, Meets-shares_point}
-use Rattle.plan_model.proofs.Ring.{var, plus, minus, times, same}
-use Rattle.plan_model.proofs.Tests.{true_at, true_of_all}
+use Rattle.convex_sets.proofs.Words.{◌≡◌, ℕ, suc, ◌+◌, ◌*◌, ◌<◌, ◌≤◌, List, [], ◌∷◌, length, map, true, refl, sym, ap, subst, ◌∙◌, arith, ℤ, pos, ◌+ℤ◌, ◌-ℤ◌}
+use Rattle.convex_sets.proofs.Words.{◌*ℤ◌, ◌≤ℤ◌, sum, list_all, mul-pos, ints, LEAST_BODY_COORDINATE, LEAST_SUMMAND_COORDINATE, MOST_BODY_COORDINATE}
+use Rattle.convex_sets.proofs.Words.{MOST_CLEARANCE, MOST_SUMMAND_COORDINATE, Vertex, corner_at, next_corner, is_corner_between, IsInside, IsWithin, Meets}
+use Rattle.convex_sets.proofs.Words.{weighted, Rational, IsZoneOf, SharesPoint-meets, Meets-shares_point, var, plus, minus, times, same, true_at, true_of_all}
 use Rattle.convex_sets.proofs.Words.{cross, from_to, both, IsMerged, IsOutlineOf, IsSum, IsWidenedBy, square}
 use Rattle.convex_sets.proofs.ConvexPolygons.{IsConvex-from_test}
 use Rattle.convex_sets.proofs.Corners.{within_of, of_within}

@@ -1,22 +1,9 @@
 -- The merged outline of an obstacle and the reflected body is the zone: where the body meets the obstacle.
-use Rattle.std.proofs.Common.{◌≡◌, ℕ, zero, suc, ◌<◌, Bool, true, false, ◌||◌, ◌==◌, List, [], ◌∷◌, length, map, refl}
-use Rattle.std.proofs.Common.{sym, ap, subst, ◌∙◌, inl, inr, arith}
-use Rattle.std.specs.Prelude.{ℤ, pos, ◌≤ℤ◌}
-use Rattle.std.specs.List.{list_all}
-use Rattle.std.proofs.lemmas.Int.{ints, by_lt_z}
-use Rattle.plan_model.specs.declared.limits.TheConstants.{LEAST_CORNER_COORDINATE, LEAST_SUMMAND_COORDINATE}
-use Rattle.plan_model.specs.declared.limits.TheConstants.{MOST_CORNER_COORDINATE, MOST_SUMMAND_COORDINATE}
-use Rattle.plan_model.specs.declared.geometry.Vertex.{Vertex}
-use Rattle.plan_model.specs.Geometry.Convexity.{corner_at, next_corner, is_strictly_convex}
-use Rattle.plan_model.specs.Geometry.Plane.{orientation}
-use Rattle.plan_model.specs.Spaces.HalfPlanes.{IsInside}
-use Rattle.plan_model.specs.Scenes.Limits.{is_corner_between}
-use Rattle.plan_model.specs.Spaces.Meeting.{Meets}
-use Rattle.plan_model.specs.Spaces.RoomOfConfigurations.{Rational}
-use Rattle.plan_model.specs.Spaces.Zones.{IsZoneOf, IsLowerOrLeft}
-use Rattle.convex_sets.proofs.Words.{AreBoundedCorners, cross, from_to, reflection, IsMerged, IsOutlineOf, IsSum}
-use Rattle.plan_model.proofs.Ring.{var, minus, times, opposite, same}
-use Rattle.plan_model.proofs.Tests.{true_at, true_of_all}
+use Rattle.convex_sets.proofs.Words.{◌≡◌, ℕ, zero, suc, ◌<◌, Bool, true, false, ◌||◌, ◌==◌, List, [], ◌∷◌, length, map, refl, sym, ap, subst, ◌∙◌, inl, inr}
+use Rattle.convex_sets.proofs.Words.{arith, ℤ, pos, ◌≤ℤ◌, list_all, ints, by_lt_z, LEAST_CORNER_COORDINATE, LEAST_SUMMAND_COORDINATE, MOST_CORNER_COORDINATE}
+use Rattle.convex_sets.proofs.Words.{MOST_SUMMAND_COORDINATE, Vertex, corner_at, next_corner, is_strictly_convex, orientation, IsInside, is_corner_between}
+use Rattle.convex_sets.proofs.Words.{Meets, Rational, IsZoneOf, IsLowerOrLeft, AreBoundedCorners, cross, from_to, reflection, IsMerged, IsOutlineOf, IsSum, var}
+use Rattle.convex_sets.proofs.Words.{minus, times, opposite, same, true_at, true_of_all}
 use Rattle.convex_sets.proofs.Corners.{within_of, of_within, bounded_of, bounded_corner, bounded_at}
 use Rattle.convex_sets.proofs.MergedSides.{first_left, second_left}
 use Rattle.convex_sets.proofs.ConvexPolygons.{IsConvex, IsConvex-from_test, test-from_IsConvex, next_within}

@@ -1,12 +1,5 @@
 -- Costs of edges between points whose distances can be taken.
-use Rattle.std.proofs.Common.{◌*◌, ◌^◌, ◌<◌, ◌≤◌, arith}
-use Rattle.std.proofs.lemmas.Nat.{mul-le}
-use Rattle.std.specs.Int.{abs_diff}
-use Rattle.plan_model.specs.declared.geometry.Point.{Point}
-use Rattle.plan_model.specs.Geometry.Bounds.{IsBounded}
-use Rattle.plan_model.specs.Geometry.Cost.{cost_of}
-use Rattle.plan_model.specs.Geometry.Plane.{squared_distance}
-use Rattle.plan_model.proofs.RootLaws.{root_ceiling-is}
+use Rattle.edge_cost.proofs.Words.{◌*◌, ◌^◌, ◌<◌, ◌≤◌, arith, mul-le, abs_diff, Point, IsBounded, cost_of, squared_distance, root_ceiling-is}
 
 -- no edge costs more than the greatest
 pub cost_of-low : (a b : Point) → IsBounded a → IsBounded b → cost_of a b < 2 ^ 29

@@ -1,21 +1,9 @@
 -- The point of the first so many goals that is nearest to a point, by its squared distance.
-use Rattle.std.proofs.Common.{◌≡◌, ℕ, ◌+◌, ◌*◌, ◌<◌, ◌≤◌, List, get_or, length, take, arith, sym, ap, ◌∙◌, subst, inl, inr}
-use Rattle.std.specs.Prelude.{All, IsTrue, min, max}
-use Rattle.std.specs.Int.{abs_diff}
-use Rattle.std.proofs.lemmas.Bool.{cases_lt}
-use Rattle.std.proofs.lemmas.List.{take_all}
-use Rattle.std.proofs.lemmas.List.Elements.{All-more, All-weaker}
-use Rattle.std.proofs.lemmas.List.Folds.{Any-from_list_any, list_any_at}
-use Rattle.plan_model.specs.declared.geometry.Goal.{Goal}
-use Rattle.plan_model.specs.declared.geometry.Point.{Point}
-use Rattle.plan_model.specs.Geometry.Bounds.{IsBoundedBox}
-use Rattle.plan_model.specs.Geometry.Cost.{cost_of}
-use Rattle.plan_model.specs.Geometry.Plane.{squared_distance}
+use Rattle.edge_cost.proofs.Words.{◌≡◌, ℕ, ◌+◌, ◌*◌, ◌<◌, ◌≤◌, List, get_or, length, take, arith, sym, ap, ◌∙◌, subst, inl, inr, All, IsTrue, min, max}
+use Rattle.edge_cost.proofs.Words.{abs_diff, cases_lt, take_all, All-more, All-weaker, Any-from_list_any, list_any_at, Goal, Point, IsBoundedBox, cost_of}
+use Rattle.edge_cost.proofs.Words.{squared_distance, is_in_goal, lies_in_goals, bound_of-is, cost_of-le, squared_distance-le, in_goal_parts}
 use Rattle.plan_model.specs.Geometry.Roots.{root_ceiling}
-use Rattle.plan_model.specs.Trees.BestNode.{is_in_goal, lies_in_goals}
 use Rattle.plan_model.specs.Trees.GoalBounds.{bound_of}
-use Rattle.plan_model.proofs.GoalBoundLaws.{bound_of-is, cost_of-le, squared_distance-le}
-use Rattle.plan_model.proofs.GoalPoints.{in_goal_parts}
 
 -- ---- one goal
 

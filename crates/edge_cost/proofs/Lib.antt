@@ -3,3 +3,4 @@ pub mod LeastEdges
 pub mod ReachedRoots
 pub mod RadiusFromRoot
 pub mod RootBounds
+mod Words

@@ -1,12 +1,6 @@
 -- The radius of a class, from the root, rounded down, of a whole quotient; and the classes that there are.
-use Rattle.std.proofs.Common.{◌≡◌, ℕ, ◌+◌, ◌-◌, ◌*◌, ◌/◌, ◌^◌, ◌<◌, ◌≤◌, min, nat_le, inl, inr, arith}
-use Rattle.std.proofs.Math.Nat.{div-mul-le_self}
-use Rattle.std.proofs.lemmas.Nat.{le-div, mul-le, pow_pos, pow_below}
-use Rattle.std.proofs.lemmas.Bool.{cases_lt}
-use Rattle.std.proofs.lemmas.Bool.Decides.{nat_tests}
-use Rattle.plan_model.specs.Geometry.Radius.{radius_of_class}
-use Rattle.plan_model.proofs.RootLaws.{lt-from_squares}
-use Rattle.plan_model.proofs.RadiusLaws.{greatest-unique}
+use Rattle.edge_cost.proofs.Words.{◌≡◌, ℕ, ◌+◌, ◌-◌, ◌*◌, ◌/◌, ◌^◌, ◌<◌, ◌≤◌, min, nat_le, inl, inr, arith, div-mul-le_self, le-div, mul-le, pow_pos, pow_below}
+use Rattle.edge_cost.proofs.Words.{cases_lt, nat_tests, radius_of_class, lt-from_squares, greatest-unique}
 
 -- no number whose square times p is at most g is above the root of the quotient
 le_root : (g p s t : ℕ) → 0 < p → g / p < (s + 1) * (s + 1) → t * t * p ≤ g → t ≤ s

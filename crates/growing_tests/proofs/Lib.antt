@@ -1,2 +1,3 @@
 pub mod LoweredNodes
 pub mod Shares
+mod Words

@@ -1,4 +1,4 @@
--- The definitions that proofs of this crate are about, passed on from one place. Declares nothing.
+-- The definitions and lemmas that proofs of this crate are about, passed on from one place. Declares nothing.
 pub use Rattle.grown_runs.specs.ChildChains.{AreChained, AreMembers, HasInChain, IndexesChains, IsIndex, MovesNode, OnlyMoves, front_in, siblings_from, times}
 pub use Rattle.grown_runs.specs.ChildChains.{walk_from}
 pub use Rattle.grown_runs.specs.Runs.GrownRuns.{CostsInstead, MayCost, state_of_grown, words_of_grown}
@@ -15,11 +15,83 @@ pub use Rattle.grown_runs.specs.Table.WordKinds.{AreBehind, MayBecome, WordKind,
 pub use Rattle.grown_runs.specs.Table.WordKinds.WordKind.{Apart, Falling, Once, Rising}
 pub use Rattle.grown_runs.specs.Table.WordNames.{ChangesOnly, IsChildWord, IsCounter, IsKnotWord, Word, Words, WritesWord}
 pub use Rattle.grown_runs.specs.Table.WordNames.Word.{Best, ChildOf, Count, Counter, FirstOf, PointOf, RecordOf, TreeOf}
-pub use Rattle.grown_runs.specs.Table.WordPlaces.{HasWord, Sizes, has_word, place_of}
-pub use Rattle.grown_runs.specs.Table.Words.{cost_in, if_written, last_field, parent_in, point_in, point_of_word, point_word, record_of_word, record_word}
-pub use Rattle.grown_runs.specs.Table.Words.{tree_of_word, tree_word}
+pub use Rattle.grown_runs.specs.Table.WordPlaces.{HasWord, Sizes, has_word, place_of, word_count}
+pub use Rattle.grown_runs.specs.Table.Words.{FitsWord, IsFirstWord, best_cost_in, best_node_in, best_word, cost_in, if_written, last_field, last_in, nearest_in}
+pub use Rattle.grown_runs.specs.Table.Words.{no_best, number_of_outcome, outcome_in, parent_in, placed_in, point_in, point_of_word, point_word, record_in}
+pub use Rattle.grown_runs.specs.Table.Words.{record_of_word, record_word, tree_of_word, tree_word, turn_in, unplaced_in, worker_in}
 pub use Rattle.grown_runs.specs.Ways.KdLinks.{AreLinkedBelow, AreUnlinked, ChangesChildren, LinksRise, MayLink, points_below, tree_below}
-pub use Rattle.grown_runs.specs.Ways.KdSides.{is_by_rows}
+pub use Rattle.grown_runs.specs.Ways.KdSides.{goes_right_by, is_by_rows, split_distance}
 pub use Rattle.grown_runs.specs.Ways.KdWalks.{StopsAt, side_of}
 pub use Rattle.grown_runs.specs.declared.child_index.ChildIndex.{ChildIndex}
 pub use Rattle.grown_runs.specs.declared.kd_walks.Stop.{Stop}
+pub use Rattle.plan_model.proofs.BestNodeLaws.{IsPresent-goal}
+pub use Rattle.plan_model.proofs.ChainLaws.{node_count-cons}
+pub use Rattle.plan_model.proofs.ClassLaws.{class_from_powers}
+pub use Rattle.plan_model.proofs.ClosedLaws.{IsClosed-lowered}
+pub use Rattle.plan_model.proofs.CountLaws.{node_count-closed}
+pub use Rattle.plan_model.proofs.CountsBelow.{count-more}
+pub use Rattle.plan_model.proofs.EmptyRoomClearance.{IsInRoom-from_clear_at}
+pub use Rattle.plan_model.proofs.LoweredCosts.{LowersCosts-lowers, LowersNode, StandsStill}
+pub use Rattle.plan_model.proofs.MarkBounds.{length-marks}
+pub use Rattle.plan_model.proofs.NewNodes.{IsPresent-stands, StandsAt-present, not_present, point_of-stands}
+pub use Rattle.plan_model.proofs.NodeCounts.{node_count-same}
+pub use Rattle.plan_model.proofs.OrderLaws.{most_cost_of-within, parent-present}
+pub use Rattle.plan_model.proofs.PlacedNodes.{is_placed-true, present-of_record, record-of_present}
+pub use Rattle.plan_model.proofs.RecordLaws.{class_of-le}
+pub use Rattle.plan_model.proofs.SamePoints.{same_point-false}
+pub use Rattle.plan_model.proofs.SameTrees.{IsClosed-same_run}
+pub use Rattle.plan_model.proofs.SceneBounds.{IsBounded-in_room, IsBounded-scene_start, step-steers}
+pub use Rattle.plan_model.proofs.SegmentLaws.{Clear-last}
+pub use Rattle.plan_model.proofs.TextbookStates.{IsClosed-start}
+pub use Rattle.plan_model.proofs.TreeChanges.{node_at-past, point_at-points_of}
+pub use Rattle.plan_model.proofs.UniqueRuns.{Record-from_fields}
+pub use Rattle.plan_model.proofs.WayLinks.{AddsPoint-stands, FillsPlaces-trans, FollowWays-links, FollowWays-same, FollowWays-start, IsOnWay-fills}
+pub use Rattle.plan_model.proofs.WayLinks.{new_or_old_child}
+pub use Rattle.plan_model.proofs.WorkerTurns.{turn-below_limit}
+pub use Rattle.plan_model.specs.Geometry.Bounds.{IsBounded}
+pub use Rattle.plan_model.specs.Geometry.Plane.{squared_distance}
+pub use Rattle.plan_model.specs.Geometry.Radius.{class_of}
+pub use Rattle.plan_model.specs.Runs.ClosedLaw.{IsClosed, has_outcome, mark_at}
+pub use Rattle.plan_model.specs.Runs.OrderLaw.{most_cost_of}
+pub use Rattle.plan_model.specs.Runs.Outcomes.{is_placed, is_zero_unless_placed}
+pub use Rattle.plan_model.specs.Runs.RecordLaw.{HasLawfulOutcome}
+pub use Rattle.plan_model.specs.Runs.Textbook.{Setup, setup_of, skipping_goals, start_alone}
+pub use Rattle.plan_model.specs.Scenes.MarkPoints.{quota_of, strip_of_mark}
+pub use Rattle.plan_model.specs.Seen.SeenTrees.{IsSeen, SeenTree}
+pub use Rattle.plan_model.specs.Seen.Ways.{AddsPoint, EndsBelow, FillsPlaces, FollowWays, IsOnWay, LinksAt, goes_right}
+pub use Rattle.plan_model.specs.Seen.Ways.IsOnWay.{begins, goes_on}
+pub use Rattle.plan_model.specs.Spaces.Clearance.{ClearAt}
+pub use Rattle.plan_model.specs.Spaces.ConfigurationSpace.{space_of}
+pub use Rattle.plan_model.specs.Trees.BestNode.{IsGoalNode, is_goal_point}
+pub use Rattle.plan_model.specs.Trees.NodeLists.{parent_of, parent_or_zero, points_of, sum_of, without_costs}
+pub use Rattle.plan_model.specs.Trees.PointsByNumber.{IsFree, IsPresent, StandsAt, node_count, point_at, point_of}
+pub use Rattle.plan_model.specs.Trees.TreeStates.{AreSameRuns, TreeState, first_cost_of, recorded_or, state_of}
+pub use Rattle.plan_model.specs.declared.geometry.Goal.{Goal}
+pub use Rattle.plan_model.specs.declared.geometry.Point.{Point}
+pub use Rattle.plan_model.specs.declared.limits.TheConstants.{MOST_NODES}
+pub use Rattle.plan_model.specs.declared.records.Outcome.{Outcome}
+pub use Rattle.plan_model.specs.declared.records.Outcome.TheVariants.{Blocked, Placed, Same, Skipped}
+pub use Rattle.plan_model.specs.declared.records.Record.{Record}
+pub use Rattle.plan_model.specs.declared.tasks.Task.{Task}
+pub use Rattle.plan_model.specs.declared.trees.Knot.{Knot}
+pub use Rattle.plan_model.specs.declared.trees.Twig.{Twig}
+pub use Rattle.std.proofs.Common.{Bool, List, None, Option, Some, [], ap, arith, bit_and, bit_or, cond, eqb, false, get_or, inl, inr, le_refl, length, map, min}
+pub use Rattle.std.proofs.Common.{not, refl, subst, suc, sym, true, zero, ℕ, ⊎_elim, ◌%◌, ◌*◌, ◌++◌, ◌+◌, ◌-◌, ◌/◌, ◌<◌, ◌^◌, ◌∙◌, ◌∷◌, ◌≡◌, ◌≤◌}
+pub use Rattle.std.proofs.Math.ListN.{get_or-map}
+pub use Rattle.std.proofs.Math.Nat.{suc-mod}
+pub use Rattle.std.proofs.lemmas.Bool.{and_parts, cases_Bool, cases_eq, cases_lt, eqb-true, false_from_ne_true, le-leb, le-ltb, leb-true, lt-ltb, ltb-false}
+pub use Rattle.std.proofs.lemmas.Bool.{ltb-true, ne_eqb}
+pub use Rattle.std.proofs.lemmas.Bool.Decides.{nat_tests}
+pub use Rattle.std.proofs.lemmas.List.{get_or-replicate, get_or-set_other, get_or-set_same, get_or_default, get_or_past, length-append, length-replicate}
+pub use Rattle.std.proofs.lemmas.List.{length-set}
+pub use Rattle.std.proofs.lemmas.List.Folds.{list_any_at}
+pub use Rattle.std.proofs.lemmas.List.FromFn.{get_or-map-range_with_len, get_or-range_with_len, length-map-range_with_len, length-range_with_len}
+pub use Rattle.std.proofs.lemmas.List.Sums.{count_by-le-length, sum_by-cons}
+pub use Rattle.std.proofs.lemmas.Map.Steps.{length-le_from_distinct_below}
+pub use Rattle.std.proofs.lemmas.Nat.{and_mask, div-mul-add, mod-mul-add, mul-le, or_shifted}
+pub use Rattle.std.proofs.lemmas.Option.{get_or_from_slice_get, same_Some, slice_get-get_or, slice_get_cases, slice_get_read, slice_get_within}
+pub use Rattle.std.specs.Int.{abs_diff}
+pub use Rattle.std.specs.List.{AllByRecursion, list_any, range_with_len}
+unfoldable pub use Rattle.std.specs.List.{IsDistinct}
+pub use Rattle.std.specs.Prelude.{IsTrue, count_by, if◌then◌else◌, is_some, nat_lt, option_map, replicate, slice_get, slice_index, slice_index_or, slice_set}
+pub use Rattle.std.specs.Prelude.{unwrap_or, ◌&&◌, ◌==◌, ◌||◌, ◌≢◌, ◌⊎◌}

@@ -1,11 +1,6 @@
 -- A walk of a pass that has only looked has stopped at a node of the way of a point: the way ends there, or leads on.
-use Rattle.std.proofs.Common.{◌≡◌, ◌<◌, None, sym, subst}
-use Rattle.std.specs.Prelude.{◌≢◌}
-use Rattle.grown_runs.proofs.Common.{Point, EndsSince, IsFree, IsFree-ends, side_of, StopsAt, EndsBelow-stop, side_is}
-use Rattle.step_core.proofs.Common.{LeadsTo, sight_in, tree_seen, IsLaterMoment-later, KeepsSight-lawful, IsFree-here}
-use Rattle.grown_runs.specs.declared.kd_walks.Stop.{Stop}
-use Rattle.step_core.specs.declared.views.View.{View}
-use Rattle.kd_shared.proofs.Words.{FindsEmpty, OnlyLooks}
+use Rattle.kd_shared.proofs.Words.{◌≡◌, ◌<◌, None, sym, subst, ◌≢◌, Point, EndsSince, IsFree, IsFree-ends, side_of, StopsAt, EndsBelow-stop, side_is, LeadsTo}
+use Rattle.kd_shared.proofs.Words.{sight_in, tree_seen, IsLaterMoment-later, KeepsSight-lawful, IsFree-here, Stop, View, FindsEmpty, OnlyLooks}
 
 module _ (entry now : View) (p : Point) (stop : Stop) (looks : OnlyLooks entry now) (stops : StopsAt (tree_seen now) p stop)
     (apart : stop.here ≢ p) where

@@ -1,16 +1,11 @@
 -- What a pass with the share of all workers sees after the node in hand was placed: the tree that it saw before, with that node.
-use Rattle.std.proofs.Common.{◌≡◌, ℕ, suc, ◌^◌, ◌<◌, ◌≤◌, Bool, true, false, List, length, Option, Some, None, refl, sym, ap, ◌∙◌, subst, inl, inr}
-use Rattle.std.specs.Prelude.{IfSome}
-use Rattle.std.proofs.lemmas.Bool.{cases_eq}
-use Rattle.grown_runs.proofs.Common.{Point, IsFree, IsPresent, point_at, IsOnWay, child_of_word, has_node, record_at, seen_tree_of_words, ChangesOnly, Word}
-use Rattle.grown_runs.proofs.Common.{ChildOf, FirstOf, PointOf, RecordOf, TreeOf, cost_in, parent_in, record_of_word, cost_in-tree_word, parent_in-tree_word}
-use Rattle.plan_words.proofs.Common.{GoesOn, HasLinked, HasWholeShare, PassState, IsLinkedAt-counted, leads_seen}
-use Rattle.step_core.proofs.Common.{IsLater, IsLawfulView, has_first, has_link, counted, linked, LeadsTo, SeesNode, SeesPoint, run_sizes, sees}
-use Rattle.step_core.proofs.Common.{tree_seen, IsLater-trans, record-unplaced, ShowsNode, sees-linked, point_at-kept, linked_points-seen}
-use Rattle.step_core.specs.declared.views.Hand.{Hand}
-use Rattle.step_core.specs.declared.views.Stage.TheVariants.{Treed}
-use Rattle.step_core.specs.declared.views.View.{View}
-use Rattle.kd_shared.proofs.Words.{OnlyLooks, AddsHand, IsWordOfLink, SeesLinked, state_seen}
+use Rattle.kd_shared.proofs.Words.{◌≡◌, ℕ, suc, ◌^◌, ◌<◌, ◌≤◌, Bool, true, false, List, length, Option, Some, None, refl, sym, ap, ◌∙◌, subst, inl, inr, IfSome}
+use Rattle.kd_shared.proofs.Words.{cases_eq, Point, IsFree, IsPresent, point_at, IsOnWay, child_of_word, has_node, record_at, seen_tree_of_words, ChangesOnly}
+use Rattle.kd_shared.proofs.Words.{Word, ChildOf, FirstOf, PointOf, RecordOf, TreeOf, cost_in, parent_in, record_of_word, cost_in-tree_word}
+use Rattle.kd_shared.proofs.Words.{parent_in-tree_word, GoesOn, HasLinked, HasWholeShare, PassState, IsLinkedAt-counted, leads_seen, IsLater, IsLawfulView}
+use Rattle.kd_shared.proofs.Words.{has_first, has_link, counted, linked, LeadsTo, SeesNode, SeesPoint, run_sizes, sees, tree_seen, IsLater-trans}
+use Rattle.kd_shared.proofs.Words.{record-unplaced, ShowsNode, sees-linked, point_at-kept, linked_points-seen, Hand, Treed, View, OnlyLooks, AddsHand}
+use Rattle.kd_shared.proofs.Words.{IsWordOfLink, SeesLinked, state_seen}
 
 -- what holds of any hand holds of the one that there is
 pub IfSome-all : {Holds : Hand → Type 0} (held : Option Hand) → ((hand : Hand) → Holds hand) → IfSome held Holds

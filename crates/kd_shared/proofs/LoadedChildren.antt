@@ -1,12 +1,8 @@
 -- A loaded child is queued with its point.
-use Rattle.std.proofs.Common.{◌≡◌, ℕ, zero, suc, ◌≤◌, Bool, true, false, not, List, [], ◌∷◌, ◌++◌, Some, arith, refl}
-use Rattle.std.proofs.Common.{sym, ap, ◌∙◌, subst, inl, inr}
-use Rattle.std.specs.Prelude.{◌==◌, if◌then◌else◌}
-use Rattle.std.proofs.lemmas.Bool.{cases_eq, ne_eqb}
-use Rattle.grown_runs.proofs.Common.{Point, IsLaterMoment, KeepsSight, Sight, point_at, point_of, StandsAt-present, IsLaterMoment-trans, child_of_word}
-use Rattle.grown_runs.proofs.Common.{point_in}
-use Rattle.kd_shared.proofs.Words.{FindsEmpty, KeepsPoints, LoadsChild, LoadsPoint, QueuesChild, QueuesWithin}
-use Rattle.plan_words.specs.declared.spots.Spot.{Spot}
+use Rattle.kd_shared.proofs.Words.{◌≡◌, ℕ, zero, suc, ◌≤◌, Bool, true, false, not, List, [], ◌∷◌, ◌++◌, Some, arith, refl, sym, ap, ◌∙◌, subst, inl, inr, ◌==◌}
+use Rattle.kd_shared.proofs.Words.{if◌then◌else◌, cases_eq, ne_eqb, Point, IsLaterMoment, KeepsSight, Sight, point_at, point_of, StandsAt-present}
+use Rattle.kd_shared.proofs.Words.{IsLaterMoment-trans, child_of_word, point_in, FindsEmpty, KeepsPoints, LoadsChild, LoadsPoint, QueuesChild, QueuesWithin}
+use Rattle.kd_shared.proofs.Words.{Spot}
 
 module _ (before mid after : Sight) (keeps : KeepsSight before) where
   -- what was found empty is so since

@@ -1,12 +1,8 @@
 -- What calls that look at nodes leave of a pass, one after another, and what they show of it.
-use Rattle.std.proofs.Common.{◌≡◌, ℕ, ◌<◌, Bool, Option, Some, None, refl, sym, ap, ◌∙◌, inl, inr}
-use Rattle.std.specs.Prelude.{◌≢◌, MatchOption}
-use Rattle.grown_runs.proofs.Common.{Point, IsLaterMoment, KeepsSight, IsSeen-more, ChangesOnly, Word, Words, WritesWord, ChildOf, PointOf}
-use Rattle.plan_words.proofs.Common.{HasLooked-refl, SeesAsBefore, NamesChildOrPoint, GoesOn, HasWholeShare}
-use Rattle.step_core.proofs.Common.{HasLooked, IsLater, IsLawfulView, loaded, SeesNode, SeesPoint, sight_in, sees, tree_seen, IsLater-refl, IsLaterMoment-later}
-use Rattle.step_core.proofs.Common.{KeepsSight-lawful, same_name, point_at-kept}
-use Rattle.step_core.specs.declared.views.View.{View}
-use Rattle.kd_shared.proofs.Words.{FindsChild, LoadsChild, LoadsPoint, OnlyLooks}
+use Rattle.kd_shared.proofs.Words.{◌≡◌, ℕ, ◌<◌, Bool, Option, Some, None, refl, sym, ap, ◌∙◌, inl, inr, ◌≢◌, MatchOption, Point, IsLaterMoment, KeepsSight}
+use Rattle.kd_shared.proofs.Words.{IsSeen-more, ChangesOnly, Word, Words, WritesWord, ChildOf, PointOf, HasLooked-refl, SeesAsBefore, NamesChildOrPoint, GoesOn}
+use Rattle.kd_shared.proofs.Words.{HasWholeShare, HasLooked, IsLater, IsLawfulView, loaded, SeesNode, SeesPoint, sight_in, sees, tree_seen, IsLater-refl}
+use Rattle.kd_shared.proofs.Words.{IsLaterMoment-later, KeepsSight-lawful, same_name, point_at-kept, View, FindsChild, LoadsChild, LoadsPoint, OnlyLooks}
 
 -- ---- one after another
 

@@ -1,11 +1,7 @@
 -- The search of a pass for all near nodes: what waits and what is found at each stage.
-use Rattle.std.proofs.Common.{◌≡◌, ℕ, suc, ◌+◌, ◌*◌, ◌<◌, ◌≤◌, Bool, false, true, not, List, [], ◌∷◌, ◌++◌, length, arith, refl, sym, ap, ◌∙◌, subst}
-use Rattle.std.specs.Prelude.{◌==◌, IsFalse, if◌then◌else◌}
-use Rattle.grown_runs.proofs.Common.{Point, IsBounded, squared_distance, KeepsSight}
-use Rattle.plan_words.proofs.Common.{SearchLists, point_of_spot, BelongsTo, PassState, SharedState, with_lists, with_view}
-use Rattle.plan_words.specs.declared.spots.Found.{Found}
-use Rattle.plan_words.specs.declared.spots.Spot.{Spot}
-use Rattle.step_core.proofs.Common.{IsLawfulView, SeesNode, sight_in, IsBounded-seen, KeepsSight-lawful}
+use Rattle.kd_shared.proofs.Words.{◌≡◌, ℕ, suc, ◌+◌, ◌*◌, ◌<◌, ◌≤◌, Bool, false, true, not, List, [], ◌∷◌, ◌++◌, length, arith, refl, sym, ap, ◌∙◌, subst, ◌==◌}
+use Rattle.kd_shared.proofs.Words.{IsFalse, if◌then◌else◌, Point, IsBounded, squared_distance, KeepsSight, SearchLists, point_of_spot, BelongsTo, PassState}
+use Rattle.kd_shared.proofs.Words.{SharedState, with_lists, with_view, Found, Spot, IsLawfulView, SeesNode, sight_in, IsBounded-seen, KeepsSight-lawful}
 use Rattle.kd_shared.proofs.Words.{LoadsPoint, OnlyLooks-trans, KeepsLists, OnlyLooks, PassLooks, searched, AreGathered, IsChildWithin, Notes, QueuesWithin}
 use Rattle.kd_shared.proofs.Words.{side_distance}
 use Rattle.kd_shared.proofs.NearSearch.{IsGathering, IsGathering-begins, IsGathering-ends, IsGathering-few_found, IsGathering-room_first}

@@ -1,18 +1,11 @@
 -- The search for all near nodes, by a queue whose front is visited: the nodes found, and the points that wait.
-use Rattle.std.proofs.Common.{◌≡◌, ◌⊎◌, ℕ, suc, ◌+◌, ◌*◌, ◌<◌, ◌≤◌, Bool, false, not, List, [], ◌∷◌, ◌++◌, length, arith}
-use Rattle.std.proofs.Common.{refl, sym, ap, ◌∙◌, subst, inl, inr}
-use Rattle.std.specs.Prelude.{Contains, IsFalse}
-use Rattle.std.proofs.lemmas.Bool.{cases_eq}
-use Rattle.std.proofs.lemmas.List.{append-nil, length-map, map-append}
-use Rattle.std.proofs.lemmas.List.Elements.{Contains-append_left, Contains-push, Contains-push_cases}
-use Rattle.grown_runs.proofs.Common.{Point, squared_distance, point_at, AreDistinct, StandsAt, IsSeen, IsLaterMoment, KeepsSight, Sight, StandsAt-unique}
-use Rattle.grown_runs.proofs.Common.{IsFree-ends, IsLaterMoment-trans, Contains-after, Contains-first}
-use Rattle.kd_shared.proofs.Words.{KeepsPoints, LoadsPoint, AreGathered, LeavesChild, Notes, Opens, QueuesChild, QueuesWithin, side_distance}
-use Rattle.plan_words.specs.SearchLists.{noted, numbers_of, point_of_spot}
-use Rattle.plan_words.specs.declared.spots.Found.{Found}
-use Rattle.plan_words.specs.declared.spots.Spot.{Spot}
-use Rattle.step_core.proofs.Seen.DistinctNumbers.{AreDifferent, AreDifferent-few, AreDifferent-within, Contains-cases, IsDistinct-from_different}
-use Rattle.step_core.proofs.Seen.DistinctNumbers.{Contains-none, length-one_more}
+use Rattle.kd_shared.proofs.Words.{◌≡◌, ◌⊎◌, ℕ, suc, ◌+◌, ◌*◌, ◌<◌, ◌≤◌, Bool, false, not, List, [], ◌∷◌, ◌++◌, length, arith, refl, sym, ap, ◌∙◌, subst, inl}
+use Rattle.kd_shared.proofs.Words.{inr, Contains, IsFalse, cases_eq, append-nil, length-map, map-append, Contains-append_left, Contains-push}
+use Rattle.kd_shared.proofs.Words.{Contains-push_cases, Point, squared_distance, point_at, AreDistinct, StandsAt, IsSeen, IsLaterMoment, KeepsSight, Sight}
+use Rattle.kd_shared.proofs.Words.{StandsAt-unique, IsFree-ends, IsLaterMoment-trans, Contains-after, Contains-first, KeepsPoints, LoadsPoint, AreGathered}
+use Rattle.kd_shared.proofs.Words.{LeavesChild, Notes, Opens, QueuesChild, QueuesWithin, side_distance, noted, numbers_of, point_of_spot, Found, Spot}
+use Rattle.kd_shared.proofs.Words.{AreDifferent, AreDifferent-few, AreDifferent-within, Contains-cases, IsDistinct-from_different, Contains-none}
+use Rattle.kd_shared.proofs.Words.{length-one_more}
 use Rattle.kd_shared.proofs.Searching.{GoesBelow, GoesTo, IsMet, IsSearch, IsSearch-begins, IsSearch-ends, IsSearch-leaves_first, IsSearch-leaves_last}
 use Rattle.kd_shared.proofs.Searching.{IsSearch-opens_first, IsSearch-opens_last, IsSearch-takes, IsSearch-visits, Nothing}
 use Rattle.kd_shared.proofs.SideDistances.{beyond_radius}

@@ -1,11 +1,8 @@
 -- The walk of a pass to the nearest node: what its stack holds at each stage.
-use Rattle.std.proofs.Common.{◌≡◌, ℕ, suc, ◌+◌, ◌<◌, ◌≤◌, false, [], length, Some, None, arith, refl, sym, ap, ◌∙◌, subst}
-use Rattle.std.specs.Prelude.{Contains}
-use Rattle.grown_runs.proofs.Common.{Point, MOST_NODES, IsBounded, squared_distance, KeepsSight, Contains-first, IsPresent-stands}
-use Rattle.plan_words.proofs.Common.{no_search, point_of_spot, BelongsTo, PassState, SharedState}
-use Rattle.plan_words.specs.declared.spots.Spot.{Spot}
-use Rattle.step_core.proofs.Common.{IsLawfulView, SeesNode, sight_in, tree_seen, IsBounded-seen, KeepsSight-lawful}
-use Rattle.kd_shared.proofs.Words.{StacksFar, WalksOn, LoadsPoint, OnlyLooks-trans, KeepsLists, OnlyLooks, PassLooks, searched, IsNearestSeen}
+use Rattle.kd_shared.proofs.Words.{◌≡◌, ℕ, suc, ◌+◌, ◌<◌, ◌≤◌, false, [], length, Some, None, arith, refl, sym, ap, ◌∙◌, subst, Contains, Point, MOST_NODES}
+use Rattle.kd_shared.proofs.Words.{IsBounded, squared_distance, KeepsSight, Contains-first, IsPresent-stands, no_search, point_of_spot, BelongsTo, PassState}
+use Rattle.kd_shared.proofs.Words.{SharedState, Spot, IsLawfulView, SeesNode, sight_in, tree_seen, IsBounded-seen, KeepsSight-lawful, StacksFar, WalksOn}
+use Rattle.kd_shared.proofs.Words.{LoadsPoint, OnlyLooks-trans, KeepsLists, OnlyLooks, PassLooks, searched, IsNearestSeen}
 use Rattle.kd_shared.proofs.Looking.{SeesNode-later}
 use Rattle.kd_shared.proofs.NearPasses.{KeepsLists-looks, KeepsLists-searched}
 use Rattle.kd_shared.proofs.NearestSearch.{HasSought-nearest, HasSought-walks, IsNearer, IsSeeking, IsSeeking-begins, IsSeeking-walks, stands_half}

@@ -1,17 +1,11 @@
 -- The walk to the nearest node: the nearest so far, and the points that are left.
-use Rattle.std.proofs.Common.{◌≡◌, ◌⊎◌, ℕ, suc, ◌≤◌, false, Some, None, List, [], ◌∷◌}
-use Rattle.std.proofs.Common.{◌++◌, arith, refl, sym, ap, ◌∙◌, subst, inl, inr}
-use Rattle.std.specs.Prelude.{Contains}
-use Rattle.std.proofs.lemmas.Bool.{cases_eq, cases_lt}
-use Rattle.std.proofs.lemmas.List.Elements.{Contains-append_cases, Contains-append_left, Contains-append_right, Contains-push, Contains-push_cases}
-use Rattle.grown_runs.proofs.Common.{Point, squared_distance, IsNotAbove, IsPairNotAbove, distance_to, point_of, AreDistinct, StandsAt, IsSeen, IsLaterMoment}
-use Rattle.grown_runs.proofs.Common.{KeepsSight, Sight, Contains-first, IsPresent-stands, point_of-stands, StandsAt-present, StandsAt-unique, same_or_other}
-use Rattle.grown_runs.proofs.Common.{IsFree-ends, IsLaterMoment-trans, goes_right_by, IsNearerOf, split_distance-le, two_sides}
-use Rattle.plan_words.specs.SearchLists.{point_of_spot}
-use Rattle.plan_words.specs.declared.spots.Spot.{Spot}
-use Rattle.grown_runs.specs.declared.measured_nodes.MeasuredNode.{MeasuredNode}
-use Rattle.step_core.proofs.Seen.DistinctNumbers.{Contains-cases, Contains-none}
-use Rattle.kd_shared.proofs.Words.{far_side, IsChildSpot, IsFinished, LoadsSpot, near_side, PopsFar, StacksFar, WalksOn, LoadsPoint, IsNearestSeen, Puts}
+use Rattle.kd_shared.proofs.Words.{◌≡◌, ◌⊎◌, ℕ, suc, ◌≤◌, false, Some, None, List, [], ◌∷◌, ◌++◌, arith, refl, sym, ap, ◌∙◌, subst, inl, inr, Contains}
+use Rattle.kd_shared.proofs.Words.{cases_eq, cases_lt, Contains-append_cases, Contains-append_left, Contains-append_right, Contains-push, Contains-push_cases}
+use Rattle.kd_shared.proofs.Words.{Point, squared_distance, IsNotAbove, IsPairNotAbove, distance_to, point_of, AreDistinct, StandsAt, IsSeen, IsLaterMoment}
+use Rattle.kd_shared.proofs.Words.{KeepsSight, Sight, Contains-first, IsPresent-stands, point_of-stands, StandsAt-present, StandsAt-unique, same_or_other}
+use Rattle.kd_shared.proofs.Words.{IsFree-ends, IsLaterMoment-trans, goes_right_by, IsNearerOf, split_distance-le, two_sides, point_of_spot, Spot, MeasuredNode}
+use Rattle.kd_shared.proofs.Words.{Contains-cases, Contains-none, far_side, IsChildSpot, IsFinished, LoadsSpot, near_side, PopsFar, StacksFar, WalksOn}
+use Rattle.kd_shared.proofs.Words.{LoadsPoint, IsNearestSeen, Puts}
 use Rattle.kd_shared.proofs.Searching.{ends_here, GoesBelow, GoesBelow-later, GoesTo, IsMet, IsSearch, IsSearch-begins, IsSearch-ends, IsSearch-shifts}
 use Rattle.kd_shared.proofs.Searching.{Nothing, Waits, WaitsAt, waits_at_child}
 use Rattle.kd_shared.proofs.WalkedOnce.{IsWalking, IsWalking-begins, IsWalking-far, IsWalking-near}

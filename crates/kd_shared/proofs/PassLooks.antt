@@ -1,10 +1,7 @@
 -- What loads leave of a pass: all but what it sees of the loaded words.
-use Rattle.std.proofs.Common.{◌≡◌, ℕ, ◌+◌, Bool, sym, ap, ◌∙◌, subst}
-use Rattle.plan_words.proofs.Common.{HasLooked-loaded, SeesAsBefore, NamesChildOrPoint, BelongsTo, GoesOn, HasWholeShare, PassState, SharedState}
-use Rattle.plan_words.proofs.Common.{with_view, BelongsTo-later}
-use Rattle.step_core.proofs.Common.{HasLooked, last_look, loaded, SeesNode, sees, WritesWord-saw}
-use Rattle.grown_runs.proofs.Common.{ChangesOnly, Word, WritesWord, ChildOf}
-use Rattle.kd_shared.specs.Looking.{PassLooks}
+use Rattle.kd_shared.proofs.Words.{◌≡◌, ℕ, ◌+◌, Bool, sym, ap, ◌∙◌, subst, HasLooked-loaded, SeesAsBefore, NamesChildOrPoint, BelongsTo, GoesOn, HasWholeShare}
+use Rattle.kd_shared.proofs.Words.{PassState, SharedState, with_view, BelongsTo-later, HasLooked, last_look, loaded, SeesNode, sees, WritesWord-saw}
+use Rattle.kd_shared.proofs.Words.{ChangesOnly, Word, WritesWord, ChildOf, PassLooks}
 use Rattle.kd_shared.proofs.Looking.{OnlyLooks-loaded, same_words}
 
 -- one step that shows no word but that of a child or of a point

@@ -1,13 +1,8 @@
 -- The node in hand is linked where the walk along the way of its point has come to, or it stays in hand.
-use Rattle.std.proofs.Common.{◌≡◌, ℕ, suc, ◌+◌, Bool, Option, Some, None, inl, sym, ap, ◌∙◌, subst, arith}
-use Rattle.std.specs.Prelude.{IfSome, IsSome}
-use Rattle.grown_runs.proofs.Common.{Point, ChangesOnly, Best, ChildOf, Count, WritesWord}
-use Rattle.plan_words.proofs.Common.{IsLinkedAt, LeadsOn, NamesNode, BelongsTo, GoesOn, PassState, SharedState, with_view, BelongsTo-later, GoesOn-trans}
-use Rattle.plan_words.proofs.Common.{HasLinked, NamesNode-child, SeesBestSince-trans}
-use Rattle.step_core.proofs.Common.{last_look, note_before, place_in, LeadsTo, SeesPoint, sees}
-use Rattle.step_core.specs.declared.views.Hand.{Hand}
-use Rattle.step_core.specs.declared.views.View.{View}
-use Rattle.kd_shared.proofs.Words.{OnlyLooks, PassLooks, GoesOnPlacing, IsPlaced, IsSame, KeepsShare, WasLinkedSince}
+use Rattle.kd_shared.proofs.Words.{◌≡◌, ℕ, suc, ◌+◌, Bool, Option, Some, None, inl, sym, ap, ◌∙◌, subst, arith, IfSome, IsSome, Point, ChangesOnly, Best}
+use Rattle.kd_shared.proofs.Words.{ChildOf, Count, WritesWord, IsLinkedAt, LeadsOn, NamesNode, BelongsTo, GoesOn, PassState, SharedState, with_view}
+use Rattle.kd_shared.proofs.Words.{BelongsTo-later, GoesOn-trans, HasLinked, NamesNode-child, SeesBestSince-trans, last_look, note_before, place_in, LeadsTo}
+use Rattle.kd_shared.proofs.Words.{SeesPoint, sees, Hand, View, OnlyLooks, PassLooks, GoesOnPlacing, IsPlaced, IsSame, KeepsShare, WasLinkedSince}
 
 -- the hand of a pass that only looked
 pub IfSome-kept : (before after : View) (Holds : Hand → Type 0) → OnlyLooks before after → IfSome before.hand Holds → IfSome after.hand Holds

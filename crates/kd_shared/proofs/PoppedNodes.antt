@@ -1,11 +1,6 @@
 -- Nodes are popped off the stack of a walk until one has a child on its far side.
-use Rattle.std.proofs.Common.{◌≡◌, ℕ, ◌≤◌, List, [], ◌∷◌, ◌++◌, Some, None, inl, inr, arith, sym, ap, ◌∙◌, subst}
-use Rattle.std.specs.Prelude.{Contains}
-use Rattle.std.proofs.lemmas.List.{append_assoc}
-use Rattle.std.proofs.lemmas.List.Elements.{Contains-append_left, Contains-push}
-use Rattle.grown_runs.proofs.Common.{Point, IsLaterMoment, KeepsSight, Sight, IsLaterMoment-trans}
-use Rattle.plan_words.specs.declared.spots.Spot.{Spot}
-use Rattle.step_core.proofs.Seen.DistinctNumbers.{Contains-cases}
+use Rattle.kd_shared.proofs.Words.{◌≡◌, ℕ, ◌≤◌, List, [], ◌∷◌, ◌++◌, Some, None, inl, inr, arith, sym, ap, ◌∙◌, subst, Contains, append_assoc}
+use Rattle.kd_shared.proofs.Words.{Contains-append_left, Contains-push, Point, IsLaterMoment, KeepsSight, Sight, IsLaterMoment-trans, Spot, Contains-cases}
 use Rattle.kd_shared.proofs.Words.{far_side, IsFinished, LoadsFar, PopsFar, KeepsPoints}
 
 -- The far sides of those that were popped so far are finished, and no point was seen anew.

@@ -1,9 +1,6 @@
 -- What a search has found at a later moment, and for a call that began before the search did.
-use Rattle.std.proofs.Common.{ℕ, ◌*◌, ◌≤◌, List, arith, subst}
-use Rattle.std.specs.Prelude.{Contains}
-use Rattle.grown_runs.proofs.Common.{Point, squared_distance, point_at, StandsAt, EndsSince, IsLaterMoment, KeepsSight, Sight}
-use Rattle.grown_runs.proofs.Common.{IsSwept-later}
-use Rattle.kd_shared.specs.Searches.{AreNearSeen, SweepsWithin}
+use Rattle.kd_shared.proofs.Words.{ℕ, ◌*◌, ◌≤◌, List, arith, subst, Contains, Point, squared_distance, point_at, StandsAt, EndsSince, IsLaterMoment, KeepsSight}
+use Rattle.kd_shared.proofs.Words.{Sight, IsSwept-later, AreNearSeen, SweepsWithin}
 use Rattle.kd_shared.proofs.SortedNear.{is_within-close, near-within}
 
 -- ---- swept points

@@ -1,14 +1,10 @@
 -- A search of a kd-tree: which points are met, which wait at a node that is still to be visited, and what each stage does to that.
-use Rattle.std.proofs.Common.{◌≡◌, ◌⊎◌, ℕ, suc, ◌*◌, ◌<◌, ◌≤◌, Bool, false, not, List, [], ◌∷◌, Some, arith, refl, sym, ap, ◌∙◌, subst, inl, inr}
-use Rattle.std.specs.Prelude.{◌≢◌, Contains}
-use Rattle.std.proofs.lemmas.List.Elements.{Contains-append_left, Contains-push, Contains-push_cases}
-use Rattle.grown_runs.proofs.Common.{Point, squared_distance, StandsAt, IsSeen, EndsSince, IsLaterMoment, KeepsSight, Sight, goes_right, IsOnWay, begins}
-use Rattle.grown_runs.proofs.Common.{goes_on, same_or_other, IsSeen-more, EndsSince-later, IsLaterMoment-trans, goes_right_by, is_by_rows, Contains-after}
-use Rattle.grown_runs.proofs.Common.{goes_right-by, is_by_rows-next, two_sides}
-use Rattle.kd_shared.proofs.Words.{FindsEmpty, Opens, Puts, side_distance}
+use Rattle.kd_shared.proofs.Words.{◌≡◌, ◌⊎◌, ℕ, suc, ◌*◌, ◌<◌, ◌≤◌, Bool, false, not, List, [], ◌∷◌, Some, arith, refl, sym, ap, ◌∙◌, subst, inl, inr, ◌≢◌}
+use Rattle.kd_shared.proofs.Words.{Contains, Contains-append_left, Contains-push, Contains-push_cases, Point, squared_distance, StandsAt, IsSeen, EndsSince}
+use Rattle.kd_shared.proofs.Words.{IsLaterMoment, KeepsSight, Sight, goes_right, IsOnWay, begins, goes_on, same_or_other, IsSeen-more, EndsSince-later}
+use Rattle.kd_shared.proofs.Words.{IsLaterMoment-trans, goes_right_by, is_by_rows, Contains-after, goes_right-by, is_by_rows-next, two_sides, FindsEmpty, Opens}
+use Rattle.kd_shared.proofs.Words.{Puts, side_distance, Spot, Contains-cases, Contains-none, IsOnWay-later}
 use Rattle.kd_shared.proofs.SideDistances.{side_distance-le}
-use Rattle.plan_words.specs.declared.spots.Spot.{Spot}
-use Rattle.step_core.proofs.Common.{Contains-cases, Contains-none, IsOnWay-later}
 
 -- ---- where a point is
 

@@ -1,11 +1,6 @@
 -- The sides of a node, how far they are, and which of them are within a radius.
-use Rattle.std.proofs.Common.{◌≡◌, ℕ, zero, suc, ◌*◌, ◌<◌, ◌≤◌, Bool, true, false, not, arith, refl}
-use Rattle.std.specs.Prelude.{IsFalse, nat_lt}
-use Rattle.std.specs.Int.{abs_diff}
-use Rattle.std.proofs.lemmas.Bool.{ltb-true, ltb-false}
-use Rattle.std.proofs.lemmas.Nat.{mul-le}
-use Rattle.grown_runs.proofs.Common.{Point, squared_distance, goes_right_by}
-use Rattle.kd_shared.specs.Spots.{past_line, side_distance}
+use Rattle.kd_shared.proofs.Words.{◌≡◌, ℕ, zero, suc, ◌*◌, ◌<◌, ◌≤◌, Bool, true, false, not, arith, refl, IsFalse, nat_lt, abs_diff, ltb-true, ltb-false}
+use Rattle.kd_shared.proofs.Words.{mul-le, Point, squared_distance, goes_right_by, past_line, side_distance}
 
 -- a coordinate on one side of a line is at least as far as the line
 past_line-le : (line at other : ℕ) (side : Bool) → not (nat_lt at line) ≡ side → past_line line other side ≤ abs_diff at other

@@ -1,21 +1,10 @@
 -- Near nodes that were found in any order, each once, are the near nodes in rising number once they are sorted.
-use Rattle.std.proofs.Common.{◌≡◌, ℕ, ◌+◌, ◌*◌, ◌≤◌, Bool, true, false, eqb, List, length, Option, Some, None, arith, refl, sym}
-use Rattle.std.proofs.Common.{ap, ◌∙◌}
-use Rattle.std.specs.Prelude.{Contains, nat_le}
-use Rattle.std.specs.List.{IsDistinct, range_with_len}
-use Rattle.std.specs.List.Sorted.{IsNonDecreasing, IsPermutation, IsStrictlyIncreasing}
-use Rattle.std.specs.Ordering.{nat_cmp}
-use Rattle.std.proofs.lemmas.Bool.{leb-false, leb-true}
-use Rattle.std.proofs.lemmas.List.Elements.{All-contains, filter_passes}
-use Rattle.std.proofs.lemmas.List.FromFn.{get_or-range_with_len, length-range_with_len}
-use Rattle.std.proofs.lemmas.List.Kept.{IsStrictlyIncreasing-filter}
-use Rattle.std.proofs.lemmas.List.Sorted.{Contains-permutation, IsPermutation-sym}
-use Rattle.std.proofs.lemmas.Map.Keys.{IsDistinct-IsPermutation, IsStrictlyIncreasing-from_distinct, sorted_from_strictly_increasing}
-use Rattle.std.specs.List.Sorted.{IsStrictlySortedBy}
-use Rattle.grown_runs.proofs.Common.{Point, squared_distance, is_within, near, point_at, Sight, Contains-near}
-use Rattle.plan_words.proofs.Common.{Contains-number, eqb-swap, same_numbers, numbers_of}
-use Rattle.plan_words.specs.declared.spots.Found.{Found}
-use Rattle.kd_shared.specs.Searches.{AreGathered, AreNearSeen}
+use Rattle.kd_shared.proofs.Words.{◌≡◌, ℕ, ◌+◌, ◌*◌, ◌≤◌, Bool, true, false, eqb, List, length, Option, Some, None, arith, refl, sym, ap, ◌∙◌, Contains, nat_le}
+use Rattle.kd_shared.proofs.Words.{IsDistinct, range_with_len, IsNonDecreasing, IsPermutation, IsStrictlyIncreasing, nat_cmp, leb-false, leb-true, All-contains}
+use Rattle.kd_shared.proofs.Words.{filter_passes, get_or-range_with_len, length-range_with_len, IsStrictlyIncreasing-filter, Contains-permutation}
+use Rattle.kd_shared.proofs.Words.{IsPermutation-sym, IsDistinct-IsPermutation, IsStrictlyIncreasing-from_distinct, sorted_from_strictly_increasing}
+use Rattle.kd_shared.proofs.Words.{IsStrictlySortedBy, Point, squared_distance, is_within, near, point_at, Sight, Contains-near, Contains-number, eqb-swap}
+use Rattle.kd_shared.proofs.Words.{same_numbers, numbers_of, Found, AreGathered, AreNearSeen}
 
 -- ---- near nodes
 

@@ -1,13 +1,8 @@
 -- A search visits each node once, so few nodes wait at a time, and it comes to an end.
-use Rattle.std.proofs.Common.{◌≡◌, ◌⊎◌, ℕ, suc, ◌+◌, ◌≤◌, Bool, true, false, not, length, length-append, List, [], ◌∷◌, ◌++◌, Some, arith, refl, sym, ap, ◌∙◌}
-use Rattle.std.proofs.Common.{subst, inl, inr}
-use Rattle.std.specs.Prelude.{Contains, map}
-use Rattle.std.proofs.lemmas.List.{length-map}
-use Rattle.std.proofs.lemmas.List.Elements.{Contains-append_right}
-use Rattle.grown_runs.proofs.Common.{IsSeen, IsLaterMoment, KeepsSight, Sight, Contains-first, Contains-after}
-use Rattle.kd_shared.specs.Spots.{Opens}
-use Rattle.plan_words.specs.declared.spots.Spot.{Spot}
-use Rattle.step_core.proofs.Common.{AreDifferent, AreDifferent-after, AreDifferent-few, AreDifferent-within, Contains-cases, Contains-none, Contains-within}
+use Rattle.kd_shared.proofs.Words.{◌≡◌, ◌⊎◌, ℕ, suc, ◌+◌, ◌≤◌, Bool, true, false, not, length, length-append, List, [], ◌∷◌, ◌++◌, Some, arith, refl, sym, ap}
+use Rattle.kd_shared.proofs.Words.{◌∙◌, subst, inl, inr, Contains, map, length-map, Contains-append_right, IsSeen, IsLaterMoment, KeepsSight, Sight}
+use Rattle.kd_shared.proofs.Words.{Contains-first, Contains-after, Opens, Spot, AreDifferent, AreDifferent-after, AreDifferent-few, AreDifferent-within}
+use Rattle.kd_shared.proofs.Words.{Contains-cases, Contains-none, Contains-within}
 
 -- ---- the nodes that wait
 

@@ -1,13 +1,8 @@
 -- A walk to the nearest node visits each node once, though it comes back to far sides.
-use Rattle.std.proofs.Common.{◌≡◌, ◌⊎◌, ℕ, suc, ◌≤◌, Bool, true, false, not, length, List, [], ◌∷◌, ◌++◌, arith, refl, sym, ap, ◌∙◌}
-use Rattle.std.proofs.Common.{subst, inl, inr}
-use Rattle.std.specs.Prelude.{Contains}
-use Rattle.std.proofs.lemmas.List.{append-nil, length-map, map-append}
-use Rattle.std.proofs.lemmas.List.Elements.{Contains-append_left, Contains-append_right, Contains-push_cases}
-use Rattle.grown_runs.proofs.Common.{Point, IsSeen, IsLaterMoment, KeepsSight, Sight, IsLaterMoment-refl, Contains-after, Contains-first}
-use Rattle.plan_words.specs.declared.spots.Spot.{Spot}
-use Rattle.step_core.proofs.Seen.DistinctNumbers.{AreDifferent, AreDifferent-few, AreDifferent-within, Contains-cases, Contains-none}
-use Rattle.kd_shared.proofs.Words.{far_side, near_side, Puts}
+use Rattle.kd_shared.proofs.Words.{◌≡◌, ◌⊎◌, ℕ, suc, ◌≤◌, Bool, true, false, not, length, List, [], ◌∷◌, ◌++◌, arith, refl, sym, ap, ◌∙◌, subst, inl, inr}
+use Rattle.kd_shared.proofs.Words.{Contains, append-nil, length-map, map-append, Contains-append_left, Contains-append_right, Contains-push_cases, Point}
+use Rattle.kd_shared.proofs.Words.{IsSeen, IsLaterMoment, KeepsSight, Sight, IsLaterMoment-refl, Contains-after, Contains-first, Spot, AreDifferent}
+use Rattle.kd_shared.proofs.Words.{AreDifferent-few, AreDifferent-within, Contains-cases, Contains-none, far_side, near_side, Puts}
 use Rattle.kd_shared.proofs.VisitedOnce.{AreOnce, AreOnce-few, AreOnce-later, AreOnce-low, AreOnce-opens, nodes_of}
 
 -- ---- lists of different numbers

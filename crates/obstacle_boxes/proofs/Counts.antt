@@ -1,12 +1,6 @@
 -- How many leaves have a box that meets another one.
-use Rattle.std.proofs.Common.{◌≡◌, ℕ, suc, ◌+◌, ◌<◌, Bool, false, cond, List, [], ◌∷◌, ◌++◌, length, get_or, refl, arith}
-use Rattle.std.specs.Prelude.{All, count_by}
-use Rattle.std.proofs.lemmas.List.Sums.{sum_by-cons, sum_by-append}
-use Rattle.std.proofs.lemmas.List.Elements.{All-head, All-tail}
-use Rattle.convex_sets.specs.declared.bounding_boxes.BoundingBox.{BoundingBox}
-use Rattle.obstacle_boxes.specs.declared.leaves.Leaf.{Leaf}
-use Rattle.obstacle_boxes.specs.LeafBoxes.{leaves_met}
-use Rattle.convex_sets.specs.Boxes.{boxes_meet}
+use Rattle.obstacle_boxes.proofs.Words.{◌≡◌, ℕ, suc, ◌+◌, ◌<◌, Bool, false, cond, List, [], ◌∷◌, ◌++◌, length, get_or, refl, arith, All, count_by, sum_by-cons}
+use Rattle.obstacle_boxes.proofs.Words.{sum_by-append, All-head, All-tail, BoundingBox, Leaf, leaves_met, boxes_meet}
 
 -- two tests that agree place by place count as many
 pub count_by-agree : {X Y : Type 0} (p : X → Bool) (q : Y → Bool) (xs : List X) (ys : List Y) → length xs ≡ length ys

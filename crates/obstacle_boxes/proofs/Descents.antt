@@ -1,20 +1,9 @@
 -- The steps of a descent.
-use Rattle.std.proofs.Common.{◌≡◌, ℕ, ◌+◌, ◌<◌, ◌≤◌, true, false, List, [], ◌∷◌, ◌++◌, length, length-append}
-use Rattle.std.proofs.Common.{get_or, take, drop, take-take, refl, subst, arith, ◌∙◌}
-use Rattle.std.specs.Prelude.{All}
-use Rattle.std.proofs.lemmas.List.{drop_more, drop-append-le, take-append-drop, drop_at, length-take-le, get_or_append_left}
-use Rattle.std.proofs.lemmas.List.Elements.{All-cons, All-append, All-drop, All-head, All-weaker}
-use Rattle.plan_model.specs.declared.geometry.Point.{Point}
-use Rattle.plan_model.specs.declared.geometry.Vertex.{Vertex}
-use Rattle.swept_check.specs.Crossings.{Crosses}
-use Rattle.obstacle_boxes.specs.declared.leaves.Leaf.{Leaf}
-use Rattle.obstacle_boxes.specs.declared.box_nodes.Node.{Node}
-use Rattle.obstacle_boxes.specs.declared.box_nodes.Node.TheVariants.{Halves, Zone}
-use Rattle.convex_sets.specs.declared.bounding_boxes.BoundingBox.{BoundingBox}
-use Rattle.obstacle_boxes.specs.LeafBoxes.{Holds, HoldsAll, IsLeafAmong, IsMissed, leaves_met}
-use Rattle.convex_sets.specs.Boxes.{boxes_meet, segment_box}
-use Rattle.obstacle_boxes.specs.Searches.{AreApartBelow, HasSearched}
-use Rattle.obstacle_boxes.specs.Trees.{leaves_in, IsAbove, IsTree}
+use Rattle.obstacle_boxes.proofs.Words.{◌≡◌, ℕ, ◌+◌, ◌<◌, ◌≤◌, true, false, List, [], ◌∷◌, ◌++◌, length, length-append, get_or, take, drop, take-take, refl}
+use Rattle.obstacle_boxes.proofs.Words.{subst, arith, ◌∙◌, All, drop_more, drop-append-le, take-append-drop, drop_at, length-take-le, get_or_append_left}
+use Rattle.obstacle_boxes.proofs.Words.{All-cons, All-append, All-drop, All-head, All-weaker, Point, Vertex, Crosses, Leaf, Node, Halves, Zone, BoundingBox}
+use Rattle.obstacle_boxes.proofs.Words.{Holds, HoldsAll, IsLeafAmong, IsMissed, leaves_met, boxes_meet, segment_box, AreApartBelow, HasSearched, leaves_in}
+use Rattle.obstacle_boxes.proofs.Words.{IsAbove, IsTree}
 use Rattle.obstacle_boxes.proofs.Counts.{leaves_met-append, leaves_met-cons, leaves_met-apart}
 use Rattle.obstacle_boxes.proofs.HeldBoxes.{apart-inner}
 use Rattle.obstacle_boxes.proofs.NodeLists.{leaves_in-append}

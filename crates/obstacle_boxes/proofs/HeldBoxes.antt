@@ -1,11 +1,5 @@
 -- A box that holds another meets all that it meets.
-use Rattle.std.proofs.Common.{◌≡◌, Bool, true, false, ◌&&◌, refl, arith}
-use Rattle.std.specs.Prelude.{ℤ, int_le, ◌≤ℤ◌}
-use Rattle.std.proofs.lemmas.Int.{ints}
-use Rattle.std.proofs.lemmas.Bool.{and_parts, and_from}
-use Rattle.convex_sets.specs.declared.bounding_boxes.BoundingBox.{BoundingBox}
-use Rattle.convex_sets.specs.Boxes.{boxes_meet}
-use Rattle.obstacle_boxes.specs.LeafBoxes.{Holds}
+use Rattle.obstacle_boxes.proofs.Words.{◌≡◌, Bool, true, false, ◌&&◌, refl, arith, ℤ, int_le, ◌≤ℤ◌, ints, and_parts, and_from, BoundingBox, boxes_meet, Holds}
 
 -- what an inner box meets, the outer one meets
 pub meets-outer : (p outer inner : BoundingBox) → Holds outer inner → boxes_meet p inner ≡ true → boxes_meet p outer ≡ true

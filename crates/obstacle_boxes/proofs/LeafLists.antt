@@ -1,13 +1,7 @@
 -- Lists of leaves that grow at their end.
-use Rattle.std.proofs.Common.{◌≡◌, ℕ, ◌+◌, ◌<◌, List, [], ◌∷◌, ◌++◌, length, length-append, get_or, take, drop, arith}
-use Rattle.std.specs.Prelude.{IsPermutation}
-use Rattle.std.proofs.lemmas.List.{get_or_append_left, get_or_push, take-append-le, take_all}
-use Rattle.std.proofs.lemmas.List.Sorted.{length_permutation}
+use Rattle.obstacle_boxes.proofs.Words.{◌≡◌, ℕ, ◌+◌, ◌<◌, List, [], ◌∷◌, ◌++◌, length, length-append, get_or, take, drop, arith, IsPermutation}
+use Rattle.obstacle_boxes.proofs.Words.{get_or_append_left, get_or_push, take-append-le, take_all, length_permutation, Vertex, IsBoundingBox, Leaf, AreLeavesOf}
 use borrow.Author.Count.{below_more}
-use Rattle.plan_model.specs.declared.geometry.Vertex.{Vertex}
-use Rattle.convex_sets.specs.Boxes.{IsBoundingBox}
-use Rattle.obstacle_boxes.specs.declared.leaves.Leaf.{Leaf}
-use Rattle.obstacle_boxes.specs.LeafBoxes.{AreLeavesOf}
 
 -- the leaf of one zone more
 pub AreLeavesOf-push : (zones : List (List Vertex)) (n : ℕ) (leaves now : List Leaf) (leaf : Leaf) → AreLeavesOf zones n leaves → now ≡ leaves ++ leaf ∷ []

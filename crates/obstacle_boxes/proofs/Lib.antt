@@ -5,3 +5,4 @@ pub mod NodeLists
 pub mod Counts
 pub mod Descents
 pub mod ZoneTrees
+mod Words

@@ -1,14 +1,7 @@
 -- Lists of nodes that grow at their end.
-use Rattle.std.proofs.Common.{◌≡◌, inl, inr, ℕ, ◌+◌, ◌≤◌, List, [], ◌∷◌, ◌++◌, length, length-append, take, drop, refl, arith, append_assoc, ◌∙◌}
-use Rattle.std.proofs.lemmas.List.{append-nil, drop_at, take-append-le, take_all, get_or_append_left, get_or_push}
-use Rattle.std.proofs.lemmas.List.Elements.{filter_map-append}
-use Rattle.std.proofs.lemmas.Bool.{cases_lt}
-use Rattle.convex_sets.specs.declared.bounding_boxes.BoundingBox.{BoundingBox}
-use Rattle.obstacle_boxes.specs.declared.leaves.Leaf.{Leaf}
-use Rattle.obstacle_boxes.specs.declared.box_nodes.Node.{Node}
-use Rattle.obstacle_boxes.specs.declared.box_nodes.Node.TheVariants.{Halves, Zone}
-use Rattle.obstacle_boxes.specs.LeafBoxes.{HoldsAll}
-use Rattle.obstacle_boxes.specs.Trees.{leaf_of, leaves_in, IsAbove, IsTree, Adds}
+use Rattle.obstacle_boxes.proofs.Words.{◌≡◌, inl, inr, ℕ, ◌+◌, ◌≤◌, List, [], ◌∷◌, ◌++◌, length, length-append, take, drop, refl, arith, append_assoc, ◌∙◌}
+use Rattle.obstacle_boxes.proofs.Words.{append-nil, drop_at, take-append-le, take_all, get_or_append_left, get_or_push, filter_map-append, cases_lt}
+use Rattle.obstacle_boxes.proofs.Words.{BoundingBox, Leaf, Node, Halves, Zone, HoldsAll, leaf_of, leaves_in, IsAbove, IsTree, Adds}
 
 pub leaves_in-append : (xs ys : List Node) → leaves_in (xs ++ ys) ≡ leaves_in xs ++ leaves_in ys
 leaves_in-append xs ys = filter_map-append leaf_of xs ys

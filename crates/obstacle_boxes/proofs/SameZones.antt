@@ -1,22 +1,7 @@
 -- The zones of a body and an obstacle with one clearance: what crosses one crosses the other, and they have one box.
-use Rattle.std.proofs.Common.{◌≡◌, ℕ, ◌<◌, Bool, true, false, List, length, refl, arith, eqb}
-use Rattle.std.specs.Prelude.{pos, ◌≤ℤ◌}
-use Rattle.std.proofs.lemmas.Int.{ints}
-use Rattle.std.proofs.lemmas.Bool.{eqb-true, eqb-false}
-use Rattle.plan_model.specs.declared.geometry.Point.{Point}
-use Rattle.plan_model.specs.declared.geometry.Vertex.{Vertex}
-use Rattle.plan_model.specs.Spaces.Clearance.{on_the_way}
-use Rattle.plan_model.specs.Geometry.Convexity.{corner_at, next_corner}
-use Rattle.plan_model.specs.Geometry.Plane.{orientation}
-use Rattle.plan_model.specs.Spaces.HalfPlanes.{IsInside}
-use Rattle.plan_model.specs.Spaces.Zones.{IsZoneOf}
-use Rattle.convex_sets.specs.declared.bounding_boxes.BoundingBox.{BoundingBox}
-use Rattle.convex_sets.specs.Boxes.{IsBoundingBox, at_corner, boxes_meet}
-use Rattle.convex_sets.proofs.BoxLaws.{IsInRange, in_range}
-use Rattle.convex_sets.proofs.ConvexPolygons.{IsConvex, IsConvex-from_test}
-use Rattle.convex_sets.proofs.Fans.{inside_at}
-use Rattle.plan_model.proofs.Ring.{var, minus, times, same}
-use Rattle.swept_check.specs.Crossings.{Crosses}
+use Rattle.obstacle_boxes.proofs.Words.{◌≡◌, ℕ, ◌<◌, Bool, true, false, List, length, refl, arith, eqb, pos, ◌≤ℤ◌, ints, eqb-true, eqb-false, Point, Vertex}
+use Rattle.obstacle_boxes.proofs.Words.{on_the_way, corner_at, next_corner, orientation, IsInside, IsZoneOf, BoundingBox, IsBoundingBox, at_corner, boxes_meet}
+use Rattle.obstacle_boxes.proofs.Words.{IsInRange, in_range, IsConvex, IsConvex-from_test, inside_at, var, minus, times, same, Crosses}
 
 pub Crosses-other : (clearance : ℕ) (body obstacle z w : List Vertex) (a b : Point) → IsZoneOf clearance body obstacle z
     → IsZoneOf clearance body obstacle w → Crosses z a b → Crosses w a b

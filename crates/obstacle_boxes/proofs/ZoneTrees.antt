@@ -1,25 +1,9 @@
 -- What a tree over the zones of a space says of any list of these zones, and of their boxes.
-use Rattle.std.proofs.Common.{◌≡◌, ◌<◌, Bool, true, false, List, [], length, get_or, refl, arith, ◌∙◌, cond}
-use Rattle.std.specs.Prelude.{All, IsTrue, pos}
-use Rattle.std.proofs.lemmas.List.Elements.{All-get_or, All-from_get_or}
-use Rattle.std.proofs.lemmas.List.Sorted.{All-permutation, IsPermutation-sym, sum_by-IsPermutation}
-use Rattle.plan_model.specs.declared.geometry.Point.{Point}
-use Rattle.plan_model.specs.declared.geometry.Vertex.{Vertex}
-use Rattle.plan_model.specs.declared.configuration_spaces.ConfigurationSpace.{ConfigurationSpace}
-use Rattle.convex_sets.specs.declared.bounding_boxes.BoundingBox.{BoundingBox}
-use Rattle.convex_sets.proofs.ConvexPolygons.{IsConvex-from_test}
-use Rattle.swept_check.specs.Crossings.{Crosses}
-use Rattle.swept_check.specs.Halls.{AreZonesOf}
-use Rattle.swept_check.proofs.HallLaws.{CrossesNone}
-use Rattle.obstacle_boxes.specs.declared.leaves.Leaf.{Leaf}
-use Rattle.obstacle_boxes.specs.declared.box_nodes.Node.{Node}
-use Rattle.obstacle_boxes.specs.LeafBoxes.{IsLeafAmong, IsMissed, leaves_met}
-use Rattle.convex_sets.specs.Boxes.{boxes_meet, segment_box}
-use Rattle.obstacle_boxes.specs.NearZones.{AreZoneBoxes, near_count}
-use Rattle.obstacle_boxes.specs.Searches.{CrossesSome}
-use Rattle.obstacle_boxes.specs.Trees.{IsTreeOver, leaves_in}
+use Rattle.obstacle_boxes.proofs.Words.{◌≡◌, ◌<◌, Bool, true, false, List, [], length, get_or, refl, arith, ◌∙◌, cond, All, IsTrue, pos, All-get_or}
+use Rattle.obstacle_boxes.proofs.Words.{All-from_get_or, All-permutation, IsPermutation-sym, sum_by-IsPermutation, Point, Vertex, ConfigurationSpace}
+use Rattle.obstacle_boxes.proofs.Words.{BoundingBox, IsConvex-from_test, Crosses, AreZonesOf, CrossesNone, Leaf, Node, IsLeafAmong, IsMissed, leaves_met}
+use Rattle.obstacle_boxes.proofs.Words.{boxes_meet, segment_box, AreZoneBoxes, near_count, CrossesSome, IsTreeOver, leaves_in, meets-crossed}
 use Rattle.obstacle_boxes.proofs.Counts.{count_by-agree}
-use Rattle.swept_check.proofs.BoxRejects.{meets-crossed}
 use Rattle.obstacle_boxes.proofs.SameZones.{Crosses-other, meets-other}
 
 abbrev pub no_box : BoundingBox

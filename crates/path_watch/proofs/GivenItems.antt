@@ -1,17 +1,7 @@
 -- What a session gives after polls that gave nothing, and what all of its items are then.
-use Rattle.std.proofs.Common.{◌≡◌, ℕ, zero, suc, List, [], ◌∷◌, ◌++◌, append-nil, Option, Some, None, Result, Ok, Err, IsSomeAnd, refl, sym, ap, subst, ◌∙◌}
-use Rattle.std.proofs.lemmas.Fn.{FoldsTo-push}
-use Rattle.std.specs.List.{FoldsTo}
-use Rattle.futures.specs.declared.task.Poll.{Poll}
-use Rattle.futures.specs.declared.task.Poll.TheVariants.{Ready, Pending}
-use Rattle.grown_runs.specs.declared.grown.Grown.{Grown}
-use Rattle.plan_model.specs.declared.errors.Memory.{Memory}
-use Rattle.any_time.specs.BatchItems.{ArePolled}
-use Rattle.any_time.specs.BestPaths.{Shows, best_sum}
-use Rattle.any_time.specs.Items.{Answers, betters_among}
-use Rattle.any_time.specs.Sessions.{IsBetter, Moves, Polls, SessionState}
-use Rattle.any_time.specs.declared.betters.Better.{Better}
-use Rattle.path_watch.specs.Handing.{Comes, pendings}
+use Rattle.path_watch.proofs.Words.{◌≡◌, ℕ, zero, suc, List, [], ◌∷◌, ◌++◌, append-nil, Option, Some, None, Result, Ok, Err, IsSomeAnd, refl, sym, ap, subst}
+use Rattle.path_watch.proofs.Words.{◌∙◌, FoldsTo-push, FoldsTo, Poll, Ready, Pending, Grown, Memory, ArePolled, Shows, best_sum, Answers, betters_among}
+use Rattle.path_watch.proofs.Words.{IsBetter, Moves, Polls, SessionState, Better, Comes, pendings}
 
 -- ---- one poll more before an item
 

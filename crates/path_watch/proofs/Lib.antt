@@ -1,3 +1,4 @@
 pub mod GivenItems
 pub mod WatchedSessions
 pub mod WatchedScenes
+mod Words

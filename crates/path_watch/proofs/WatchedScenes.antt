@@ -1,34 +1,11 @@
 -- What a whole call has done, from the refusal or from the session that was watched.
-use Rattle.std.proofs.Common.{◌≡◌, ◌≤◌, ◌⊎◌, ℕ, false, List, [], ◌∷◌, length, map, Option, Some, None, IfSome, inl, inr, refl, sym, ap, subst, ◌∙◌, arith}
-use Rattle.std.specs.List.{FoldsTo}
-use Rattle.std.specs.Prelude.{is_some}
-use Rattle.grown_runs.proofs.Common.{MOST_TEXT_BYTES}
-use Rattle.plan_model.specs.Reports.ReportText.{report_text}
-use Rattle.plan_model.specs.declared.scenes.Scene.{Scene}
-use Rattle.any_time.specs.Sessions.{SessionState}
-use Rattle.planner.specs.BatchSessions.{IsSessionOf}
-use Rattle.std.proofs.KnownBytes.{Consumes-nil, Keeps-refl}
-use Rattle.plan_model.specs.Trees.BestNode.{best_node, goals_of}
-use Rattle.plan_model.specs.Texts.Streams.{SinkState, SourceState}
-use Rattle.grown_runs.specs.Runs.GrownRuns.{state_of_grown}
-use Rattle.scene_text.specs.Fetching.{ReadsWithin}
-use Rattle.planner.proofs.DecidedStatuses.{refusal_decided, success_decided}
-use Rattle.planner.specs.CheckedTexts.{RefusesSceneText}
-use Rattle.planner.specs.Conclusions.{IsCaused, status_of_report}
-use Rattle.planner.specs.Decisions.{IsDecided}
-use Rattle.planner.specs.Exchanges.{IsReadWhole, IsUnread, ReadFailed, WriteFailed}
-use Rattle.planner.specs.Refusals.{status_of}
+use Rattle.path_watch.proofs.Words.{◌≡◌, ◌≤◌, ◌⊎◌, ℕ, false, List, [], ◌∷◌, length, map, Option, Some, None, IfSome, inl, inr, refl, sym, ap, subst, ◌∙◌, arith}
+use Rattle.path_watch.proofs.Words.{FoldsTo, is_some, MOST_TEXT_BYTES, report_text, Scene, SessionState, IsSessionOf, Consumes-nil, Keeps-refl, best_node}
+use Rattle.path_watch.proofs.Words.{goals_of, SinkState, SourceState, state_of_grown, ReadsWithin, refusal_decided, success_decided, RefusesSceneText, IsCaused}
+use Rattle.path_watch.proofs.Words.{status_of_report, IsDecided, IsReadWhole, IsUnread, ReadFailed, WriteFailed, status_of, Refusal, NO_MEMORY, Done, Takes}
+use Rattle.path_watch.proofs.Words.{as_plan, orders_of, HasWatched, IsAskedSession, IsRefused, WatchesScene, status_of_ending, Refuses, Watches, Orders, Ending}
 use Rattle.planner.specs.declared.commands.Command.TheVariants as commands
-use Rattle.planner.specs.declared.refusals.Refusal.{Refusal}
 use Rattle.planner.specs.declared.refusals.Refusal.TheVariants as refusals
-use Rattle.planner.specs.declared.statuses.TheConstants.{NO_MEMORY}
-use Rattle.planner.specs.declared.top_call.Done.{Done}
-use Rattle.path_watch.specs.Handing.{Takes}
-use Rattle.path_watch.specs.WatchWords.{as_plan, orders_of}
-use Rattle.path_watch.specs.WatchedCalls.{HasWatched, IsAskedSession, IsRefused, WatchesScene, status_of_ending}
-use Rattle.path_watch.specs.Watching.{Refuses, Watches}
-use Rattle.path_watch.specs.declared.watch_words.Orders.{Orders}
-use Rattle.path_watch.specs.declared.watching.Ending.{Ending}
 use Rattle.path_watch.specs.declared.watching.Ending.TheVariants as endings
 
 -- there are more than two words

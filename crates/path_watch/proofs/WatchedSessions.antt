@@ -1,31 +1,11 @@
 -- What a session that is watched has given after some steps, what the sink has taken, and how both end.
-use Rattle.std.proofs.Common.{◌≡◌, ℕ, zero, suc, List, [], ◌∷◌, ◌++◌, map, Option, Some, None, IsSome, IsSomeAnd, Ok}
-use Rattle.std.proofs.Common.{inl, inr, refl, sym, subst}
-use Rattle.std.proofs.lemmas.Fn.{FoldsTo-push, chained_keeps}
-use Rattle.std.proofs.lemmas.List.{map-append}
-use Rattle.std.specs.List.{FoldsTo}
-use Rattle.plan_model.specs.Texts.Streams.{SinkState}
-use Rattle.plan_model.specs.Trees.TreeStates.{IsSettled}
-use Rattle.plan_model.specs.declared.scenes.Scene.{Scene}
-use Rattle.grown_runs.specs.Runs.GrownRuns.{state_of_grown}
-use Rattle.grown_runs.specs.declared.grown.Grown.{Grown}
-use Rattle.any_time.proofs.EachSlice.{items_fall_on}
-use Rattle.any_time.proofs.GatheredItems.{AreBetterPaths-gathered, EndsWith-gathered}
-use Rattle.any_time.proofs.KnownOptions.{there_some}
-use Rattle.any_time.specs.BatchItems.{ArePolled}
-use Rattle.any_time.specs.Gathering.{Gathers}
-use Rattle.any_time.specs.Items.{HasGiven}
-use Rattle.any_time.specs.Sessions.{IsNew, IsOver, Polls, SessionState}
-use Rattle.any_time.specs.declared.betters.Better.{Better}
-use Rattle.planner.proofs.GivenBatches.{IsRunBySlices-finished}
-use Rattle.planner.specs.BatchSessions.{IsSessionOf}
-use Rattle.planner.specs.Conclusions.{IsRunBySlices}
+use Rattle.path_watch.proofs.Words.{◌≡◌, ℕ, zero, suc, List, [], ◌∷◌, ◌++◌, map, Option, Some, None, IsSome, IsSomeAnd, Ok, inl, inr, refl, sym, subst}
+use Rattle.path_watch.proofs.Words.{FoldsTo-push, chained_keeps, map-append, FoldsTo, SinkState, IsSettled, Scene, state_of_grown, Grown, items_fall_on}
+use Rattle.path_watch.proofs.Words.{AreBetterPaths-gathered, EndsWith-gathered, there_some, ArePolled, Gathers, HasGiven, IsNew, IsOver, Polls, SessionState}
+use Rattle.path_watch.proofs.Words.{Better, IsRunBySlices-finished, IsSessionOf, IsRunBySlices, block, end_text, Comes, Cuts, Hands, Takes, pendings, EndsAfter}
+use Rattle.path_watch.proofs.Words.{HandsEnd, IsAfter, Refuses, TakesBlocks, Watches, Ending}
 use Rattle.planner.specs.declared.refusals.Refusal.TheVariants as refusals
 use Rattle.path_watch.proofs.GivenItems.{ArePolled-end, ArePolled-item}
-use Rattle.path_watch.specs.Blocks.{block, end_text}
-use Rattle.path_watch.specs.Handing.{Comes, Cuts, Hands, Takes, pendings}
-use Rattle.path_watch.specs.Watching.{EndsAfter, HandsEnd, IsAfter, Refuses, TakesBlocks, Watches}
-use Rattle.path_watch.specs.declared.watching.Ending.{Ending}
 use Rattle.path_watch.specs.declared.watching.Ending.TheVariants as endings
 
 has_run : (run : Option Grown) (P : Grown → Type 0) → IsSomeAnd run P → IsSome run

@@ -1,9 +1,7 @@
 -- A node is added to a tree with kept costs: the tree keeps the order law, and grows.
-use Rattle.std.proofs.Common.{◌≡◌, ℕ, suc, ◌+◌, ◌≤◌, Some, arith, sym, ap, ◌∙◌, subst, inl, inr}
-use Rattle.std.specs.Prelude.{◌≢◌, ◌⊎◌, is_some}
-use Rattle.std.proofs.lemmas.Bool.{cases_eq}
-use Rattle.plan_model.proofs.Words.{Point, Record, cost_of, point_at, StandsAt, IsPresent, point_of, IsFree, AreDistinct, node_count, TreeState, first_cost_of}
-use Rattle.plan_model.proofs.Words.{GrowsInto, Hangs, HangsBelow, most_cost_of, KeepsOrder, KeepsFirstCosts, Setup}
+use Rattle.plan_model.proofs.Words.{◌≡◌, ℕ, suc, ◌+◌, ◌≤◌, Some, arith, sym, ap, ◌∙◌, subst, inl, inr, ◌≢◌, ◌⊎◌, is_some, cases_eq, Point, Record, cost_of}
+use Rattle.plan_model.proofs.Words.{point_at, StandsAt, IsPresent, point_of, IsFree, AreDistinct, node_count, TreeState, first_cost_of, GrowsInto, Hangs}
+use Rattle.plan_model.proofs.Words.{HangsBelow, most_cost_of, KeepsOrder, KeepsFirstCosts, Setup}
 use Rattle.plan_model.proofs.NewNodes.{IsPresent-stands, StandsAt-present, StandsAt-unique}
 use Rattle.plan_model.proofs.NodeCounts.{node_count-one_more}
 use Rattle.plan_model.proofs.OrderLaws.{most_cost_of-le, Hangs-later, Hangs-grows, HangsBelow-at, start-present}

@@ -1,8 +1,7 @@
 -- The parts of a text: the first of them, its lines, and what comes after it.
-use Rattle.std.proofs.Common.{◌≡◌, ℕ, zero, suc, ◌+◌, ◌<◌, ◌==◌, ◌&&◌, Bool, true, false, not, cond, List, [], ◌∷◌, ◌++◌, length, get_or, drop}
-use Rattle.std.proofs.Common.{refl, sym, ap, subst, ◌∙◌, arith, add-one}
-use Rattle.std.specs.Prelude.{bytes_eq}
-use Rattle.plan_model.proofs.Words.{lines_of, onto_first, Part, separator, onto_first_part, parts_of, text_of, lines_before}
+use Rattle.plan_model.proofs.Words.{◌≡◌, ℕ, zero, suc, ◌+◌, ◌<◌, ◌==◌, ◌&&◌, Bool, true, false, not, cond, List, [], ◌∷◌, ◌++◌, length, get_or, drop, refl, sym}
+use Rattle.plan_model.proofs.Words.{ap, subst, ◌∙◌, arith, add-one, bytes_eq, lines_of, onto_first, Part, separator, onto_first_part, parts_of, text_of}
+use Rattle.plan_model.proofs.Words.{lines_before}
 
 -- ---- lines have no line feed
 

@@ -1,7 +1,6 @@
 -- The best node of a tree is the goal node with the least pair of sum and number, and there is one if there is a goal node.
-use Rattle.std.proofs.Common.{◌≡◌, ℕ, suc, ◌<◌, List, Option, Some, None, arith, refl}
-use Rattle.std.specs.Prelude.{Bool, IsTrue, IsSome}
-use Rattle.plan_model.proofs.Words.{Point, Goal, point_at, AreNumberedTo, TreeState, sum_in, is_goal_point, IsGoalNode, IsBestNode, best_node}
+use Rattle.plan_model.proofs.Words.{◌≡◌, ℕ, suc, ◌<◌, List, Option, Some, None, arith, refl, Bool, IsTrue, IsSome, Point, Goal, point_at, AreNumberedTo}
+use Rattle.plan_model.proofs.Words.{TreeState, sum_in, is_goal_point, IsGoalNode, IsBestNode, best_node}
 use Rattle.plan_model.proofs.LeastPairLaws.{
   IsBelowPassing,
   IsFirstLeast-among,

@@ -1,12 +1,7 @@
 -- Chains and sums of nodes with kept costs that strictly fall along parents, whichever numbers the parents have.
-use Rattle.std.proofs.Common.{◌≡◌, ℕ, zero, suc, ◌+◌, ◌<◌, ◌≤◌, Bool, true, false, cond, leb, List, [], ◌∷◌, map, get_or, Option, Some, None}
-use Rattle.std.proofs.Common.{arith, refl, sym, ap, ◌∙◌, add-zero}
-use Rattle.std.specs.Prelude.{IsSome, is_some, ◌&&◌, nat_le}
-use Rattle.std.proofs.lemmas.Bool.Decides.{nat_tests}
-use Rattle.std.proofs.lemmas.List.Sums.{sum_by-cons}
-use Rattle.std.proofs.lemmas.Grind.{common_steps}
-use Rattle.plan_model.proofs.Words.{Point, cost_of, point_at, point_of, IsPresent, node_count, chain_within, chain_by, length_of_path, sum_by, edge_by}
-use Rattle.plan_model.proofs.Words.{FallAlong, AreTightAlong}
+use Rattle.plan_model.proofs.Words.{◌≡◌, ℕ, zero, suc, ◌+◌, ◌<◌, ◌≤◌, Bool, true, false, cond, leb, List, [], ◌∷◌, map, get_or, Option, Some, None, arith, refl}
+use Rattle.plan_model.proofs.Words.{sym, ap, ◌∙◌, add-zero, IsSome, is_some, ◌&&◌, nat_le, nat_tests, sum_by-cons, common_steps, Point, cost_of, point_at}
+use Rattle.plan_model.proofs.Words.{point_of, IsPresent, node_count, chain_within, chain_by, length_of_path, sum_by, edge_by, FallAlong, AreTightAlong}
 
 -- ---- how many present nodes cost at most so much
 

@@ -1,10 +1,6 @@
 -- The number of binary digits of a number, and the powers of 2 around it.
-use Rattle.std.proofs.Common.{◌≡◌, inl, inr, ℕ, suc, ◌+◌, ◌-◌, ◌*◌, ◌^◌, ◌<◌, ◌≤◌, length, subst, ap, arith}
-use Rattle.std.proofs.Math.Nat.{pow-le-pow_right, pow-suc}
-use Rattle.std.specs.Int.Digits.{digits_of}
-use Rattle.std.proofs.lemmas.Bool.{cases_lt}
-use Rattle.std.proofs.lemmas.Int.Digits.{length-digits_of-le, number_lt, number_digits_of, all_below_base_digits_of}
-use Rattle.plan_model.specs.Geometry.Radius.{class_of}
+use Rattle.plan_model.proofs.Words.{◌≡◌, inl, inr, ℕ, suc, ◌+◌, ◌-◌, ◌*◌, ◌^◌, ◌<◌, ◌≤◌, length, subst, ap, arith, pow-le-pow_right, pow-suc, digits_of}
+use Rattle.plan_model.proofs.Words.{cases_lt, length-digits_of-le, number_lt, number_digits_of, all_below_base_digits_of, class_of}
 
 -- a number is below the power of 2 that its binary digits give
 pub below_digits : (n : ℕ) → n < 2 ^ length (digits_of 2 n)

@@ -1,11 +1,9 @@
 -- The paths of a closed run: each edge is clear, since each node hangs below its parent by an allowed edge.
-use Rattle.std.proofs.Common.{◌≡◌, ℕ, zero, suc, ◌+◌, ◌-◌, ◌<◌, ◌≤◌, Option, Some, None, List, []}
-use Rattle.std.proofs.Common.{◌∷◌, ◌++◌, length, map, reverse, arith, refl, sym, ap, ◌∙◌, subst, inl, inr}
+use Rattle.plan_model.proofs.Words.{◌≡◌, ℕ, zero, suc, ◌+◌, ◌-◌, ◌<◌, ◌≤◌, Option, Some, None, List, [], ◌∷◌, ◌++◌, length, map, reverse, arith, refl, sym, ap}
+use Rattle.plan_model.proofs.Words.{◌∙◌, subst, inl, inr, cases_lt, map-append, get_or_append_left, get_or-append_right, reverse-append, Point, Goal, best_node}
+use Rattle.plan_model.proofs.Words.{Clear, path_point, IsClearPath, ConfigurationSpace, KeepsOrder, AreNumberedTo, IsPresent, point_at, point_of, best_path}
+use Rattle.plan_model.proofs.Words.{path_to, Setup, TreeState, chain_in}
 use Rattle.std.proofs.Common.{length-append}
-use Rattle.std.proofs.lemmas.Bool.{cases_lt}
-use Rattle.std.proofs.lemmas.List.{map-append, get_or_append_left, get_or-append_right, reverse-append}
-use Rattle.plan_model.proofs.Words.{Point, Goal, best_node, Clear, path_point, IsClearPath, ConfigurationSpace, KeepsOrder, AreNumberedTo, IsPresent, point_at}
-use Rattle.plan_model.proofs.Words.{point_of, best_path, path_to, Setup, TreeState, chain_in}
 use Rattle.plan_model.proofs.BestNodeLaws.{IsPresent-goal, best_node-some}
 use Rattle.plan_model.proofs.ChainLaws.{chain-start, chain-parent}
 use Rattle.plan_model.proofs.OrderedTrees.{FallAlong-ordered}

@@ -1,8 +1,7 @@
 -- A closed run stays closed when costs are lowered, as in settling; and in it no node costs more than it was placed at.
-use Rattle.std.proofs.Common.{◌≡◌, ℕ, zero, suc, ◌≤◌, List, Some, arith, sym, ap, ◌∙◌, subst}
-use Rattle.std.specs.Prelude.{is_some}
-use Rattle.plan_model.proofs.Words.{Point, Outcome, Placed, Record, IsPresent, point_of, node_count, steered, TreeState, recorded_or, first_cost_of}
-use Rattle.plan_model.proofs.Words.{most_cost_of, KeepsFirstCosts, HasLawfulOutcome, HangsLawfully, mark_at, has_outcome, IsClosed, is_placed, Setup}
+use Rattle.plan_model.proofs.Words.{◌≡◌, ℕ, zero, suc, ◌≤◌, List, Some, arith, sym, ap, ◌∙◌, subst, is_some, Point, Outcome, Placed, Record, IsPresent}
+use Rattle.plan_model.proofs.Words.{point_of, node_count, steered, TreeState, recorded_or, first_cost_of, most_cost_of, KeepsFirstCosts, HasLawfulOutcome}
+use Rattle.plan_model.proofs.Words.{HangsLawfully, mark_at, has_outcome, IsClosed, is_placed, Setup}
 use Rattle.plan_model.proofs.OrderLaws.{start-present}
 use Rattle.plan_model.proofs.LoweredCosts.{
   LowersCosts,

@@ -1,9 +1,7 @@
 -- Each fact of the closed law has one proof at most, so a value may keep it as it is.
-use Rattle.std.specs.Prelude.{ℕ, List, Option}
-use Rattle.std.proofs.Props.{props}
-use Rattle.plan_model.proofs.Words.{Point, Outcome, Placed, Same, Blocked, Skipped, Record, IsClear, ConfigurationSpace, StandsAt, Rational, TreeState}
-use Rattle.plan_model.proofs.Words.{KeepsOrder, IsPlacedLawfully, IsBlockedLawfully, IsSkippedLawfully, IsSteeredLawfully, HasLawfulOutcome, IsLawfulRecord}
-use Rattle.plan_model.proofs.Words.{IsClosed, Setup}
+use Rattle.plan_model.proofs.Words.{ℕ, List, Option, props, Point, Outcome, Placed, Same, Blocked, Skipped, Record, IsClear, ConfigurationSpace, StandsAt}
+use Rattle.plan_model.proofs.Words.{Rational, TreeState, KeepsOrder, IsPlacedLawfully, IsBlockedLawfully, IsSkippedLawfully, IsSteeredLawfully}
+use Rattle.plan_model.proofs.Words.{HasLawfulOutcome, IsLawfulRecord, IsClosed, Setup}
 
 IsClear-prop : (space : ConfigurationSpace) (q : Rational) → IsProp (IsClear space q)
 IsClear-prop space q = hlevel props

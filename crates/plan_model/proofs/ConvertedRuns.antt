@@ -1,8 +1,7 @@
 -- A scene and the one that it is converted to have the same inputs of their textbook runs, and the same goals.
-use Rattle.std.proofs.Common.{◌≡◌, ℕ, ◌+◌, ◌%◌, ◌^◌, List, [], map, cond, refl, sym, ap, ◌∙◌}
-use Rattle.std.specs.List.{range_with_len}
-use Rattle.plan_model.proofs.Words.{Point, Vertex, Marks, Drawn, Listed, Scene, HaveSameInputs, skipping_goals, IsConverted, columns, first_word, mark_points}
-use Rattle.plan_model.proofs.Words.{picked, points_of_marks, rows, second_word, strip, strip_of_mark, space_of}
+use Rattle.plan_model.proofs.Words.{◌≡◌, ℕ, ◌+◌, ◌%◌, ◌^◌, List, [], map, cond, refl, sym, ap, ◌∙◌, range_with_len, Point, Vertex, Marks, Drawn, Listed, Scene}
+use Rattle.plan_model.proofs.Words.{HaveSameInputs, skipping_goals, IsConverted, columns, first_word, mark_points, picked, points_of_marks, rows, second_word}
+use Rattle.plan_model.proofs.Words.{strip, strip_of_mark, space_of}
 
 module _ (scene converted : Scene) (h : IsConverted scene converted) where
   pub space_of-converted : space_of converted ≡ space_of scene

@@ -1,7 +1,5 @@
 -- Costs are the same in both directions, and only an edge without length costs nothing.
-use Rattle.std.proofs.Common.{◌≡◌, ℕ, ◌*◌, ap, arith}
-use Rattle.plan_model.proofs.Words.{Point, squared_distance, cost_of}
-use Rattle.std.specs.Int.{abs_diff}
+use Rattle.plan_model.proofs.Words.{◌≡◌, ℕ, ◌*◌, ap, arith, Point, squared_distance, cost_of, abs_diff}
 use Rattle.plan_model.specs.Geometry.Roots.{root_ceiling}
 use Rattle.plan_model.proofs.RootLaws.{root_ceiling-is}
 use Rattle.plan_model.proofs.FreePoints.{same-from_distance}

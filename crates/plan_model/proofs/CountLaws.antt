@@ -1,11 +1,9 @@
 -- In a closed run each mark below the limit was placed, ended on a node, was blocked or was skipped, so these add up to the limit, and none
 -- was skipped if there are no goals to skip by.
-use Rattle.std.proofs.Common.{◌≡◌, ℕ, zero, suc, ◌+◌, ◌<◌, Bool, true, false, cond, List, [], length, Option, Some, None, subst}
-use Rattle.std.proofs.Common.{arith, refl, sym, ap, ◌∙◌, inl, inr}
-use Rattle.std.specs.Prelude.{IsSome}
-use Rattle.std.proofs.lemmas.Bool.{cases_lt, true≢false}
-use Rattle.plan_model.proofs.Words.{Point, Outcome, Placed, Same, Blocked, Skipped, Record, is_placed, is_same, is_blocked, AreNumberedTo, node_count}
-use Rattle.plan_model.proofs.Words.{TreeState, has_outcome, mark_at, outcome_count, IsClosed, HasLawfulOutcome, IsGoalNode, Setup}
+use Rattle.plan_model.proofs.Words.{◌≡◌, ℕ, zero, suc, ◌+◌, ◌<◌, Bool, true, false, cond, List, [], length, Option, Some, None, subst, arith, refl, sym, ap}
+use Rattle.plan_model.proofs.Words.{◌∙◌, inl, inr, IsSome, cases_lt, true≢false, Point, Outcome, Placed, Same, Blocked, Skipped, Record, is_placed, is_same}
+use Rattle.plan_model.proofs.Words.{is_blocked, AreNumberedTo, node_count, TreeState, has_outcome, mark_at, outcome_count, IsClosed, HasLawfulOutcome}
+use Rattle.plan_model.proofs.Words.{IsGoalNode, Setup}
 use Rattle.plan_model.specs.Runs.Outcomes.{is_skipped}
 use Rattle.plan_model.proofs.CountsBelow.{count-more, count-longer, count-none}
 use Rattle.plan_model.proofs.GoalNodes.{no_goal_node}

@@ -1,10 +1,6 @@
 -- How large distances on the lattice are.
-use Rattle.std.proofs.Common.{◌≡◌, ℕ, zero, suc, ◌+◌, ◌-◌, ◌*◌, ◌≤◌, ◌<◌, ◌⊎◌, refl, ap, ◌∙◌, arith, inl, inr, FitsSigned, w64, to_z, of_z}
-use Rattle.std.specs.Prelude.{ℤ, pos, neg_ℤ, ◌-ℤ◌, ◌*ℤ◌}
-use Rattle.std.specs.Int.{abs_diff}
-use Rattle.std.proofs.lemmas.Bool.{cases_lt}
-use Rattle.std.proofs.lemmas.Int.{ints, to_z-of_z}
-use Rattle.std.proofs.lemmas.Nat.{mul-le}
+use Rattle.plan_model.proofs.Words.{◌≡◌, ℕ, zero, suc, ◌+◌, ◌-◌, ◌*◌, ◌≤◌, ◌<◌, ◌⊎◌, refl, ap, ◌∙◌, arith, inl, inr, FitsSigned, w64, to_z, of_z, ℤ, pos, neg_ℤ}
+use Rattle.plan_model.proofs.Words.{◌-ℤ◌, ◌*ℤ◌, abs_diff, cases_lt, ints, to_z-of_z, mul-le}
 
 pub square_of_difference : (a b : ℕ) → a ≤ 1048575 → b ≤ 1048575 → ((a - b) + (b - a)) * ((a - b) + (b - a)) ≤ 1048575 * 1048575
 square_of_difference a b p q = mul-le ((a - b) + (b - a)) ((a - b) + (b - a)) 1048575 1048575 (omega arith) (omega arith)

@@ -1,9 +1,7 @@
 -- The numbers that digits stand for.
-use Rattle.std.proofs.Common.{◌≡◌, ℕ, ◌+◌, ◌-◌, ◌*◌, ◌≤◌, ◌<◌, Bool, true, false, ◌&&◌, eqb, leb, not, zero, suc, subst, List, [], ◌∷◌, length, get_or}
-use Rattle.std.proofs.Common.{drop, fold, pos, int_le, neg_ℤ, Option, None, Some, IfNone, refl, sym, arith}
-use Rattle.std.proofs.lemmas.List.{at_drop_more}
-use Rattle.std.proofs.lemmas.Bool.Decides.{nat_tests}
-use Rattle.plan_model.specs.Texts.TextNumbers.{is_positive, is_number, magnitude, value_of}
+use Rattle.plan_model.proofs.Words.{◌≡◌, ℕ, ◌+◌, ◌-◌, ◌*◌, ◌≤◌, ◌<◌, Bool, true, false, ◌&&◌, eqb, leb, not, zero, suc, subst, List, [], ◌∷◌, length, get_or}
+use Rattle.plan_model.proofs.Words.{drop, fold, pos, int_le, neg_ℤ, Option, None, Some, IfNone, refl, sym, arith, at_drop_more, nat_tests, is_positive}
+use Rattle.plan_model.proofs.Words.{is_number, magnitude, value_of}
 
 -- the number that digits stand for after a number
 abbrev pub magnitude_after : ℕ → List ℕ → ℕ

@@ -25,15 +25,11 @@ use Rattle.std.proofs.Common.{
   inl,
   inr,
 }
-use Rattle.std.specs.Prelude.{IsSome, is_some, All, true, option_map}
-use Rattle.std.specs.List.{range_with_len}
-use Rattle.std.proofs.lemmas.Bool.{cases_order, cases_lt}
-use Rattle.std.proofs.lemmas.List.{get_or_append_left, get_or_past, length-append, map-set, set-get_or}
-use Rattle.std.proofs.lemmas.List.Elements.{All-head, All-tail, All-weaker, filter_passes}
-use Rattle.std.proofs.Math.Seq.{get_or-append_seam}
-use Rattle.plan_model.proofs.Words.{Point, Twig, Outcome, Placed, Same, Blocked, Skipped, Record, ConfigurationSpace, point_at, StandsAt, IsPresent, point_of}
-use Rattle.plan_model.proofs.Words.{IsFree, AreDistinct, is_within, near, points_of, Nodes, Setup, start_alone, near_new, with_parent, RewiresOne, Rewires}
-use Rattle.plan_model.proofs.Words.{Ends, HandlesAll, IsTextbookRun}
+use Rattle.plan_model.proofs.Words.{IsSome, is_some, All, true, option_map, range_with_len, cases_order, cases_lt, get_or_append_left, get_or_past, map-set}
+use Rattle.plan_model.proofs.Words.{set-get_or, All-head, All-tail, All-weaker, filter_passes, get_or-append_seam, Point, Twig, Outcome, Placed, Same, Blocked}
+use Rattle.plan_model.proofs.Words.{Skipped, Record, ConfigurationSpace, point_at, StandsAt, IsPresent, point_of, IsFree, AreDistinct, is_within, near}
+use Rattle.plan_model.proofs.Words.{points_of, Nodes, Setup, start_alone, near_new, with_parent, RewiresOne, Rewires, Ends, HandlesAll, IsTextbookRun}
+use Rattle.std.proofs.lemmas.List.{length-append}
 use Rattle.plan_model.proofs.TreeChanges.{points_of-push}
 use Rattle.plan_model.proofs.NewNodes.{StandsAt-present}
 

@@ -1,9 +1,6 @@
 -- The marks that are drawn lie in the columns of their strips and in the rows, so in the room of configurations.
-use Rattle.std.proofs.Common.{ℕ, ◌+◌, ◌*◌, ◌/◌, ◌%◌, ◌^◌, ◌<◌, arith}
-use Rattle.std.specs.Prelude.{bit_xor}
-use Rattle.std.proofs.Math.Nat.{div-le_self}
-use Rattle.std.proofs.lemmas.Nat.{mul-le, xor_lt, mod_below, div_below, pow_pos}
-use Rattle.plan_model.proofs.Words.{Scene, space_of, at_lattice, InRoom, IsInSpan, strip, picked, mixed, word_of_state, first_word, second_word, next_state}
+use Rattle.plan_model.proofs.Words.{ℕ, ◌+◌, ◌*◌, ◌/◌, ◌%◌, ◌^◌, ◌<◌, arith, bit_xor, div-le_self, mul-le, xor_lt, mod_below, div_below, pow_pos, Scene}
+use Rattle.plan_model.proofs.Words.{space_of, at_lattice, InRoom, IsInSpan, strip, picked, mixed, word_of_state, first_word, second_word, next_state}
 use Rattle.plan_model.proofs.Words.{strip_of_mark, drawn_mark, columns, rows, BodyFits, Span}
 use Rattle.plan_model.proofs.SpanLaws.{InRoom-from_spans}
 use Rattle.plan_model.proofs.StripLaws.{strip-some, strip-within}

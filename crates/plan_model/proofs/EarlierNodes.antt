@@ -1,11 +1,7 @@
 -- The nodes that stood already when the worker of a record handled its mark: they stay the same, and as many.
-use Rattle.std.proofs.Common.{◌≡◌, ℕ, zero, suc, ◌<◌, ◌≤◌, Bool, true, false, eqb, ltb, Option, Some, None, length, refl, sym, ap, ◌∙◌, inl, inr}
-use Rattle.std.specs.Prelude.{◌≢◌, ◌⊎◌, ◌&&◌, IsTrue}
-use Rattle.std.specs.List.{range_with_len}
-use Rattle.std.proofs.lemmas.Bool.{cases_eq, and_parts, and_left, and_right, ne_eqb, le-ltb}
-use Rattle.std.proofs.lemmas.List.Sums.{length-filter}
-use Rattle.plan_model.proofs.Words.{Placed, Record, IsPresent, TreeState, GrowsInto, is_placed, is_earlier_record, is_earlier, IsEarlier, earlier_count}
-use Rattle.plan_model.proofs.Words.{ArePlacedMarks}
+use Rattle.plan_model.proofs.Words.{◌≡◌, ℕ, zero, suc, ◌<◌, ◌≤◌, Bool, true, false, eqb, ltb, Option, Some, None, length, refl, sym, ap, ◌∙◌, inl, inr, ◌≢◌}
+use Rattle.plan_model.proofs.Words.{◌⊎◌, ◌&&◌, IsTrue, range_with_len, cases_eq, and_parts, and_left, and_right, ne_eqb, le-ltb, length-filter, Placed, Record}
+use Rattle.plan_model.proofs.Words.{IsPresent, TreeState, GrowsInto, is_placed, is_earlier_record, is_earlier, IsEarlier, earlier_count, ArePlacedMarks}
 use Rattle.plan_model.proofs.CountsBelow.{count-same, count-limits}
 use Rattle.plan_model.proofs.DistinctPoints.{IsPresent-below}
 use Rattle.plan_model.proofs.NextRecords.{RecordsMark}

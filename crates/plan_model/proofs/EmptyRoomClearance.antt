@@ -1,12 +1,7 @@
 -- A point body is clear in an empty room, and any body is clear only at points of its room.
-use Rattle.std.proofs.Common.{ℕ, ◌+◌, ◌-◌, ◌*◌, ◌≤◌, arith, List, []}
-use Rattle.std.specs.Prelude.{ℤ, pos, ◌+ℤ◌, ◌-ℤ◌, ◌*ℤ◌, ◌≤ℤ◌}
-use Rattle.std.proofs.Math.Nat.{le_refl}
-use Rattle.std.proofs.lemmas.Int.{ints}
-use Rattle.std.proofs.lemmas.Nat.{mul-le}
-use Rattle.std.proofs.lemmas.List.Elements.{All-cons, All-nil}
-use Rattle.plan_model.proofs.Words.{Vertex, Point, ConfigurationSpace, Rational, moved_by, IsBetweenWalls, Meets, IsClear, ClearAt, on_the_way, Clear}
-use Rattle.plan_model.proofs.Words.{empty_room, IsInRoom}
+use Rattle.plan_model.proofs.Words.{ℕ, ◌+◌, ◌-◌, ◌*◌, ◌≤◌, arith, List, [], ℤ, pos, ◌+ℤ◌, ◌-ℤ◌, ◌*ℤ◌, ◌≤ℤ◌, le_refl, ints, mul-le, All-cons, All-nil, Vertex}
+use Rattle.plan_model.proofs.Words.{Point, ConfigurationSpace, Rational, moved_by, IsBetweenWalls, Meets, IsClear, ClearAt, on_the_way, Clear, empty_room}
+use Rattle.plan_model.proofs.Words.{IsInRoom}
 use Rattle.plan_model.proofs.SegmentLaws.{part_and_rest, way_is}
 
 -- a coordinate on the way lies between 0 and the side

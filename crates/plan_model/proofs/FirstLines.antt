@@ -1,8 +1,7 @@
 -- Cutting the first line off a text.
-use Rattle.std.proofs.Common.{◌≡◌, ℕ, ◌+◌, ◌<◌, Bool, true, false, cond, not, eqb, List, [], ◌∷◌, suc, length, take, drop, refl, ap, ◌∙◌, arith}
-use Rattle.std.specs.List.{position_or_len}
+use Rattle.plan_model.proofs.Words.{◌≡◌, ℕ, ◌+◌, ◌<◌, Bool, true, false, cond, not, eqb, List, [], ◌∷◌, suc, length, take, drop, refl, ap, ◌∙◌, arith}
+use Rattle.plan_model.proofs.Words.{position_or_len, lines_of, onto_first}
 use Rattle.std.proofs.lemmas.List.{drop-drop}
-use Rattle.plan_model.specs.Texts.TextLines.{lines_of, onto_first}
 
 -- how many bytes the first line has
 abbrev pub line_length : List ℕ → ℕ

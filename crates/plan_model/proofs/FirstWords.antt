@@ -1,11 +1,8 @@
 -- Cutting the first word off a line.
-use Rattle.std.proofs.Common.{◌≡◌, ℕ, ◌+◌, ◌<◌, ◌≤◌, Bool, true, false, cond, not, eqb, ltb, List, [], ◌∷◌, length, suc, take, drop, refl, ap, ◌∙◌, sym}
-use Rattle.std.proofs.Common.{subst, arith}
-use Rattle.std.specs.List.{position_or_len, prefix_len, filter}
-use Rattle.std.proofs.lemmas.List.{length-take-le, nil_from_length}
-use Rattle.std.proofs.lemmas.List.Sums.{prefix_len-le-length}
-use Rattle.std.proofs.lemmas.Bool.Decides.{nat_tests}
-use Rattle.plan_model.specs.Texts.TextLines.{pieces_of, words_of, onto_first}
+use Rattle.plan_model.proofs.Words.{◌≡◌, ℕ, ◌+◌, ◌<◌, ◌≤◌, Bool, true, false, cond, not, eqb, ltb, List, [], ◌∷◌, length, suc, take, drop, refl, ap, ◌∙◌, sym}
+use Rattle.plan_model.proofs.Words.{subst, arith, position_or_len, prefix_len, length-take-le, nil_from_length, prefix_len-le-length, nat_tests, pieces_of}
+use Rattle.plan_model.proofs.Words.{words_of, onto_first}
+use Rattle.std.specs.List.{filter}
 
 -- how many blanks a line begins with
 abbrev pub blank_count : List ℕ → ℕ

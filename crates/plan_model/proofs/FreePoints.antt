@@ -1,10 +1,7 @@
 -- Points at no distance are one point, so no other node is within radius 0 of a free point.
-use Rattle.std.proofs.Common.{◌≡◌, ℕ, ◌*◌, ◌<◌, ◌≤◌, Bool, false, List, [], ◌∷◌, Option, Some, None, arith, refl, ap, ◌∙◌, inl, inr}
+use Rattle.plan_model.proofs.Words.{◌≡◌, ℕ, ◌*◌, ◌<◌, ◌≤◌, Bool, false, List, [], ◌∷◌, Option, Some, None, arith, refl, ap, ◌∙◌, inl, inr, mul-pos, lt-leb}
+use Rattle.plan_model.proofs.Words.{cases_lt, cases_order, abs_diff, Point, squared_distance, point_at, IsFree, is_within}
 use Rattle.std.specs.Prelude.{filter}
-use Rattle.std.proofs.Math.Nat.{mul-pos}
-use Rattle.std.proofs.lemmas.Bool.{lt-leb, cases_lt, cases_order}
-use Rattle.std.specs.Int.{abs_diff}
-use Rattle.plan_model.proofs.Words.{Point, squared_distance, point_at, IsFree, is_within}
 use Rattle.plan_model.proofs.SamePoints.{point_is}
 
 -- points with no distance are the same

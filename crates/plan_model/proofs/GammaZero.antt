@@ -1,10 +1,7 @@
 -- With gamma 0 the radius is 0, so no node is near a free point.
-use Rattle.std.proofs.Common.{◌≡◌, ℕ, zero, suc, ◌-◌, ◌*◌, ◌^◌, ◌<◌, Bool, false, leb, List, [], length, Option, arith, refl, ap, ◌∙◌}
-use Rattle.std.specs.List.{range_with_len}
-use Rattle.std.proofs.Math.Nat.{mul-pos}
-use Rattle.std.proofs.lemmas.Nat.{pow_pos}
-use Rattle.std.proofs.lemmas.Bool.Decides.{nat_tests}
-use Rattle.plan_model.proofs.Words.{Point, class_of, greatest, radius_of, point_at, IsFree, node_count, is_within, near, Setup, near_new}
+use Rattle.plan_model.proofs.Words.{◌≡◌, ℕ, zero, suc, ◌-◌, ◌*◌, ◌^◌, ◌<◌, Bool, false, leb, List, [], length, Option, arith, refl, ap, ◌∙◌, range_with_len}
+use Rattle.plan_model.proofs.Words.{mul-pos, pow_pos, nat_tests, Point, class_of, greatest, radius_of, point_at, IsFree, node_count, is_within, near, Setup}
+use Rattle.plan_model.proofs.Words.{near_new}
 use Rattle.plan_model.proofs.FreePoints.{is_near_free, filter-none}
 
 greatest-none : (test : ℕ → Bool) (n : ℕ) → ((r : ℕ) → test (suc r) ≡ false) → greatest test n ≡ 0

@@ -1,15 +1,11 @@
 -- A text whose lines have no fault, and in which nothing is missing, spells a scene; any other is refused.
-use Rattle.std.proofs.Common.{◌≡◌, ℕ, zero, suc, ◌+◌, ◌<◌, ◌≤◌, ◌&&◌, Bool, true, false, cond, eqb, leb, ℤ, Option, Some, None, ◌⊎◌, inl, inr, List, [], ◌∷◌}
-use Rattle.std.proofs.Common.{length, map, All, refl, sym, subst, arith, add-one}
-use Rattle.std.specs.List.{list_all}
-use Rattle.std.proofs.lemmas.Bool.{and_from, and_parts, le-leb}
-use Rattle.std.proofs.lemmas.List.{length-map}
-use Rattle.std.proofs.lemmas.List.Elements.{All-head}
-use borrow.Author.Count.{below_more}
-use Rattle.plan_model.proofs.Words.{Scene, Kind, by_version, is_obstacle, are_obstacles, may_be_informed, most_clearance, MOST_GAMMA, MOST_OBSTACLES, MOST_SEED}
+use Rattle.plan_model.proofs.Words.{◌≡◌, ℕ, zero, suc, ◌+◌, ◌<◌, ◌≤◌, ◌&&◌, Bool, true, false, cond, eqb, leb, ℤ, Option, Some, None, ◌⊎◌, inl, inr, List, []}
+use Rattle.plan_model.proofs.Words.{◌∷◌, length, map, All, refl, sym, subst, arith, add-one, list_all, and_from, and_parts, le-leb, length-map, All-head, Scene}
+use Rattle.plan_model.proofs.Words.{Kind, by_version, is_obstacle, are_obstacles, may_be_informed, most_clearance, MOST_GAMMA, MOST_OBSTACLES, MOST_SEED}
 use Rattle.plan_model.proofs.Words.{MOST_STRIPS, lines_of, statements_of, Format, Given, is_inhabited, stands, corners_from, fault_at_end, MayStand}
 use Rattle.plan_model.proofs.Words.{AllMayStand, first_of, point_from, goal_from, number_or, body_from, plan_from, version_given, given_after_version}
 use Rattle.plan_model.proofs.Words.{fault_of_line, fault_of_end, IsSoundBelow, HasFields, Spells, Refused}
+use borrow.Author.Count.{below_more}
 use Rattle.plan_model.specs.declared.text_terms.Key.TheVariants as keys
 use Rattle.plan_model.specs.declared.text_terms.Kind.TheVariants as kinds
 use Rattle.plan_model.proofs.SoundStatements.{IsSoundGiven-text}

@@ -1,13 +1,8 @@
 -- The bound of a point is the least cost of an edge from the start to it and one from it to a point of a goal, and no path over it into
 -- a goal costs less.
-use Rattle.std.proofs.Common.{◌≡◌, ℕ, zero, suc, ◌+◌, ◌-◌, ◌*◌, ◌<◌, ◌≤◌, List, [], ◌∷◌, map, length}
-use Rattle.std.proofs.Common.{refl, ap, ◌∙◌, arith, inl, inr}
-use Rattle.std.specs.Prelude.{Contains, IsTrue, min}
-use Rattle.std.specs.List.{flat_map}
-use Rattle.std.specs.Int.{abs_diff}
-use Rattle.std.proofs.lemmas.Bool.{cases_lt}
-use Rattle.std.proofs.lemmas.Nat.{mul-le}
-use Rattle.plan_model.proofs.Words.{Goal, Point, cost_of, squared_distance, path_point, lies_in_goals, least_of, points_of_goal, length_of_path}
+use Rattle.plan_model.proofs.Words.{◌≡◌, ℕ, zero, suc, ◌+◌, ◌-◌, ◌*◌, ◌<◌, ◌≤◌, List, [], ◌∷◌, map, length, refl, ap, ◌∙◌, arith, inl, inr, Contains, IsTrue}
+use Rattle.plan_model.proofs.Words.{min, flat_map, abs_diff, cases_lt, mul-le, Goal, Point, cost_of, squared_distance, path_point, lies_in_goals, least_of}
+use Rattle.plan_model.proofs.Words.{points_of_goal, length_of_path}
 use Rattle.plan_model.specs.Geometry.Roots.{root_ceiling}
 use Rattle.plan_model.specs.Trees.GoalBounds.{bound_of}
 use Rattle.plan_model.proofs.CostLaws.{cost_of-swap}

@@ -1,8 +1,7 @@
 -- Where there are no goals there is no goal node. Goal nodes stay while a tree grows, and what was present lies in a goal later only
 -- if it did.
-use Rattle.std.proofs.Common.{◌≡◌, ℕ, List, [], Option, Some, None, sym, subst}
-use Rattle.std.specs.Prelude.{IsTrue}
-use Rattle.plan_model.proofs.Words.{Goal, Point, IsGoalNode, is_goal_point, MayBeCheaper, Setup, IsPresent, point_at, GrowsInto, TreeState}
+use Rattle.plan_model.proofs.Words.{◌≡◌, ℕ, List, [], Option, Some, None, sym, subst, IsTrue, Goal, Point, IsGoalNode, is_goal_point, MayBeCheaper, Setup}
+use Rattle.plan_model.proofs.Words.{IsPresent, point_at, GrowsInto, TreeState}
 use Rattle.plan_model.proofs.BestNodeLaws.{IsPresent-goal}
 use Rattle.plan_model.proofs.TreeStateLaws.{point_at-grows}
 

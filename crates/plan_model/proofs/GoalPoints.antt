@@ -1,11 +1,8 @@
 -- The lattice points of goals, as a list: a point is one of them exactly if it lies in one of the boxes.
-use Rattle.std.proofs.Common.{◌≡◌, ◌⊎◌, ℕ, zero, suc, ◌-◌, ◌<◌, ◌≤◌, Bool, List, [], ◌∷◌, map, true, false, refl, sym, ap, subst, arith, inl, inr}
-use Rattle.std.specs.Prelude.{Contains, IsTrue, ◌&&◌, ◌||◌}
-use Rattle.std.specs.List.{flat_map}
-use Rattle.std.proofs.lemmas.Bool.{and_parts, le-leb, leb-true}
-use Rattle.std.proofs.lemmas.List.Elements.{Contains-append_left, Contains-append_right, Contains-append_cases}
-use Rattle.std.proofs.lemmas.List.FromFn.{length-range_with_len, get_or-range_with_len}
-use Rattle.plan_model.proofs.Words.{Goal, Point, is_in_goal, lies_in_goals, numbers_between, points_of_goal}
+use Rattle.plan_model.proofs.Words.{◌≡◌, ◌⊎◌, ℕ, zero, suc, ◌-◌, ◌<◌, ◌≤◌, Bool, List, [], ◌∷◌, map, true, false, refl, sym, ap, subst, arith, inl, inr}
+use Rattle.plan_model.proofs.Words.{Contains, IsTrue, ◌&&◌, ◌||◌, flat_map, and_parts, le-leb, leb-true, Contains-append_left, Contains-append_right}
+use Rattle.plan_model.proofs.Words.{Contains-append_cases, length-range_with_len, get_or-range_with_len, Goal, Point, is_in_goal, lies_in_goals}
+use Rattle.plan_model.proofs.Words.{numbers_between, points_of_goal}
 use Rattle.plan_model.proofs.ListMembers.{Contains-first, Contains-after}
 
 -- ---- lists made of lists

@@ -1,10 +1,7 @@
 -- Kept costs of a tree with one more node, or with one more absent number: they stay tight, and fall along parents.
-use Rattle.std.proofs.Common.{◌≡◌, ℕ, suc, ◌+◌, ◌*◌, ◌<◌, ◌≤◌, List, Option, arith, sym, ap, ◌∙◌, subst, inl, inr}
-use Rattle.std.specs.Prelude.{◌≢◌, is_some, unwrap_or}
-use Rattle.std.proofs.lemmas.Bool.{cases_lt}
-use Rattle.std.proofs.lemmas.Nat.{mul-le}
-use Rattle.plan_model.proofs.Words.{Point, Twig, squared_distance, cost_of, point_at, IsPresent, point_of, node_at, points_of, parent_or_zero, parent_of}
-use Rattle.plan_model.proofs.Words.{edge_of, CostsFall, AreTight}
+use Rattle.plan_model.proofs.Words.{◌≡◌, ℕ, suc, ◌+◌, ◌*◌, ◌<◌, ◌≤◌, List, Option, arith, sym, ap, ◌∙◌, subst, inl, inr, ◌≢◌, is_some, unwrap_or, cases_lt}
+use Rattle.plan_model.proofs.Words.{mul-le, Point, Twig, squared_distance, cost_of, point_at, IsPresent, point_of, node_at, points_of, parent_or_zero}
+use Rattle.plan_model.proofs.Words.{parent_of, edge_of, CostsFall, AreTight}
 use Rattle.plan_model.proofs.RootLaws.{root_ceiling-is}
 use Rattle.plan_model.proofs.FreePoints.{same-from_distance}
 use Rattle.plan_model.proofs.NewNodes.{Adds, point_at-same, IsPresent-kept, point_of-kept, parent_of-kept}

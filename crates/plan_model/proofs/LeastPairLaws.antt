@@ -1,9 +1,7 @@
 -- The order of pairs (key, number) is total, and the least of some numbers is only one.
-use Rattle.std.proofs.Common.{◌≡◌, ℕ, zero, suc, ◌+◌, ◌<◌, ◌≤◌, ltb, Bool, true, false, cond, ◌∷◌, Option, Some, None, arith, refl, ap, subst, inl, inr, ◌⊎◌}
-use Rattle.std.specs.Prelude.{IsTrue, filter}
-use Rattle.std.specs.List.{range_with_len}
-use Rattle.std.proofs.lemmas.Bool.{cases_order, ltb-true, ltb-false}
-use Rattle.plan_model.specs.Trees.LeastPairs.{IsNotAbove, IsFirstLeast, lesser, first_least}
+use Rattle.plan_model.proofs.Words.{◌≡◌, ℕ, zero, suc, ◌+◌, ◌<◌, ◌≤◌, ltb, Bool, true, false, cond, ◌∷◌, Option, Some, None, arith, refl, ap, subst, inl, inr}
+use Rattle.plan_model.proofs.Words.{◌⊎◌, IsTrue, range_with_len, cases_order, ltb-true, ltb-false, IsNotAbove, IsFirstLeast, lesser, first_least}
+use Rattle.std.specs.Prelude.{filter}
 
 -- ---- the order
 

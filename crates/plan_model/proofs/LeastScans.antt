@@ -1,6 +1,5 @@
 -- Scans for the first least pair of key and number, one number after another.
-use Rattle.std.proofs.Common.{ℕ, ◌+◌, ◌<◌, ◌≤◌, arith, below_more}
-use Rattle.plan_model.specs.Trees.LeastPairs.{IsNotAbove, IsFirstLeast}
+use Rattle.plan_model.proofs.Words.{ℕ, ◌+◌, ◌<◌, ◌≤◌, arith, below_more, IsNotAbove, IsFirstLeast}
 
 -- m has the least pair of itself and the members below the limit
 pub record IsFirstLeastBelow (key : ℕ → ℕ) (among : ℕ → Type 0) (limit m : ℕ) : Type 0 where

@@ -1,6 +1,5 @@
 -- Members of a list with one more in front.
-use Rattle.std.proofs.Common.{suc, ◌∷◌, List, arith, refl}
-use Rattle.std.specs.Prelude.{Contains}
+use Rattle.plan_model.proofs.Words.{suc, ◌∷◌, List, arith, refl, Contains}
 
 pub Contains-first : {A : Type 0} → (x : A) (xs : List A) → Contains (x ∷ xs) x
 Contains-first x xs = (0, omega arith, refl)

@@ -1,9 +1,7 @@
 -- Costs that fall while all nodes stay where they are, as in rewiring: the tree keeps the order law, and grows.
-use Rattle.std.proofs.Common.{◌≡◌, ℕ, zero, suc, ◌+◌, ◌<◌, ◌≤◌, Some, None, arith, refl, sym, ap, ◌∙◌, subst, inl, inr}
-use Rattle.std.specs.Prelude.{◌≢◌, ◌⊎◌, is_some}
-use Rattle.std.proofs.lemmas.Bool.{cases_eq, cases_lt}
-use Rattle.plan_model.proofs.Words.{Point, Record, cost_of, point_at, StandsAt, IsPresent, point_of, node_count, TreeState, recorded_or, first_cost_of}
-use Rattle.plan_model.proofs.Words.{KeepsOrFalls, GrowsInto, Hangs, HangsBelow, most_cost_of, KeepsOrder, KeepsFirstCosts, Setup}
+use Rattle.plan_model.proofs.Words.{◌≡◌, ℕ, zero, suc, ◌+◌, ◌<◌, ◌≤◌, Some, None, arith, refl, sym, ap, ◌∙◌, subst, inl, inr, ◌≢◌, ◌⊎◌, is_some, cases_eq}
+use Rattle.plan_model.proofs.Words.{cases_lt, Point, Record, cost_of, point_at, StandsAt, IsPresent, point_of, node_count, TreeState, recorded_or}
+use Rattle.plan_model.proofs.Words.{first_cost_of, KeepsOrFalls, GrowsInto, Hangs, HangsBelow, most_cost_of, KeepsOrder, KeepsFirstCosts, Setup}
 use Rattle.plan_model.proofs.NewNodes.{StandsAt-present}
 use Rattle.plan_model.proofs.NodeCounts.{node_count-same}
 use Rattle.plan_model.proofs.OrderLaws.{Hangs-later, HangsBelow-at, start-present, KeepsOrder-falls}

@@ -1,16 +1,10 @@
 -- The marks of a scene are few, and their distances can be taken: no coordinate is above the greatest one of such points.
-use Rattle.std.proofs.Common.{◌≡◌, ℕ, ◌+◌, ◌-◌, ◌*◌, ◌/◌, ◌%◌, ◌^◌, ◌<◌, ◌≤◌, Bool, true, false, length, arith, refl, ap, inl, inr}
-use Rattle.std.specs.Prelude.{IsTrue, All, ◌&&◌, ℤ, pos, negsuc, int_le}
-use Rattle.std.specs.List.{list_all, range_with_len}
-use Rattle.std.proofs.lemmas.Nat.{mod_below}
-use Rattle.std.proofs.lemmas.List.{length-map}
-use Rattle.std.proofs.lemmas.List.FromFn.{length-range_with_len}
-use Rattle.std.proofs.lemmas.List.Sums.{AllPass-from_list_all}
-use Rattle.std.proofs.lemmas.List.Elements.{All-map, All-weaker, All-same}
-use Rattle.std.proofs.lemmas.Bool.{and_parts, leb-true, cases_lt, lt-ltb}
-use Rattle.plan_model.proofs.Words.{Vertex, Scene, Marks, Drawn, Listed, Span, Task, LEAST_BODY_COORDINATE, MOST_BODY_COORDINATE, MOST_COORDINATE, MOST_MARKS}
-use Rattle.plan_model.proofs.Words.{IsBounded, is_corner_between, is_mark, is_plan, mark_points, points_of_marks, drawn_mark, strip_of_mark, first_word}
-use Rattle.plan_model.proofs.Words.{second_word, next_state, below_zero, above_zero, reach, span_within, columns, rows, strip, picked}
+use Rattle.plan_model.proofs.Words.{◌≡◌, ℕ, ◌+◌, ◌-◌, ◌*◌, ◌/◌, ◌%◌, ◌^◌, ◌<◌, ◌≤◌, Bool, true, false, length, arith, refl, ap, inl, inr, IsTrue, All, ◌&&◌, ℤ}
+use Rattle.plan_model.proofs.Words.{pos, negsuc, int_le, list_all, range_with_len, mod_below, length-map, length-range_with_len, AllPass-from_list_all, All-map}
+use Rattle.plan_model.proofs.Words.{All-weaker, All-same, and_parts, leb-true, cases_lt, lt-ltb, Vertex, Scene, Marks, Drawn, Listed, Span, Task}
+use Rattle.plan_model.proofs.Words.{LEAST_BODY_COORDINATE, MOST_BODY_COORDINATE, MOST_COORDINATE, MOST_MARKS, IsBounded, is_corner_between, is_mark, is_plan}
+use Rattle.plan_model.proofs.Words.{mark_points, points_of_marks, drawn_mark, strip_of_mark, first_word, second_word, next_state, below_zero, above_zero, reach}
+use Rattle.plan_model.proofs.Words.{span_within, columns, rows, strip, picked}
 use Rattle.plan_model.proofs.SceneBounds.{IsBounded-listed, IsBounded-room}
 use Rattle.plan_model.proofs.SpanLaws.{reach-bounded}
 use Rattle.plan_model.proofs.StripLaws.{strip-some, strip-within}

@@ -1,10 +1,6 @@
 -- A body meets an obstacle without a clearance if the two share a point, and with a greater clearance if with a smaller one.
-use Rattle.std.proofs.Common.{◌≡◌, ℕ, ◌*◌, ◌≤◌, List, arith}
-use Rattle.std.specs.Prelude.{ℤ}
-use Rattle.std.proofs.lemmas.Int.{ints}
-use Rattle.std.proofs.lemmas.Nat.{mul-le}
-use Rattle.std.proofs.lemmas.List.Elements.{All-weaker}
-use Rattle.plan_model.proofs.Words.{Vertex, ConfigurationSpace, Rational, IsWithin, Meets, SharesPoint, IsClear}
+use Rattle.plan_model.proofs.Words.{◌≡◌, ℕ, ◌*◌, ◌≤◌, List, arith, ℤ, ints, mul-le, All-weaker, Vertex, ConfigurationSpace, Rational, IsWithin, Meets}
+use Rattle.plan_model.proofs.Words.{SharesPoint, IsClear}
 
 -- numbers no distance apart are equal
 equal-within : (m n : ℕ) (a b : ℤ) → IsWithin (0 * m * n) a b → a ≡ b

@@ -1,15 +1,9 @@
 -- Near nodes and candidates for a parent: all are present, and an edge from them is no longer than the step.
-use Rattle.std.proofs.Common.{◌≡◌, ℕ, zero, suc, ◌-◌, ◌*◌, ◌^◌, ◌<◌, ◌≤◌, Bool, true, false, cond, leb, List, [], ◌∷◌, length, Option, Some, None, get_or}
-use Rattle.std.proofs.Common.{arith, refl, sym, ap, ◌∙◌, subst}
-use Rattle.std.specs.Prelude.{All, Contains, IsTrue, filter}
-use Rattle.std.specs.List.{range_with_len}
-use Rattle.std.specs.Int.{abs_diff}
-use Rattle.std.proofs.lemmas.Bool.{leb-true}
-use Rattle.std.proofs.lemmas.Nat.{mul-le}
-use Rattle.std.proofs.lemmas.List.Elements.{All-weaker, All-cons, All-contains, filter_passes}
-use Rattle.std.proofs.lemmas.List.FromFn.{length-range_with_len, get_or-range_with_len}
-use Rattle.plan_model.proofs.Words.{Point, squared_distance, is_within, near, point_at, IsPresent, point_of, node_count, class_of, radius_of, Setup, near_new}
-use Rattle.plan_model.proofs.Words.{IsCandidate, SteersTo}
+use Rattle.plan_model.proofs.Words.{◌≡◌, ℕ, zero, suc, ◌-◌, ◌*◌, ◌^◌, ◌<◌, ◌≤◌, Bool, true, false, cond, leb, List, [], ◌∷◌, length, Option, Some, None, get_or}
+use Rattle.plan_model.proofs.Words.{arith, refl, sym, ap, ◌∙◌, subst, All, Contains, IsTrue, range_with_len, abs_diff, leb-true, mul-le, All-weaker, All-cons}
+use Rattle.plan_model.proofs.Words.{All-contains, filter_passes, length-range_with_len, get_or-range_with_len, Point, squared_distance, is_within, near}
+use Rattle.plan_model.proofs.Words.{point_at, IsPresent, point_of, node_count, class_of, radius_of, Setup, near_new, IsCandidate, SteersTo}
+use Rattle.std.specs.Prelude.{filter}
 use Rattle.plan_model.proofs.DistinctPoints.{within_present, IsPresent-below}
 use Rattle.plan_model.proofs.NewNodes.{IsPresent-stands, point_of-stands}
 use Rattle.plan_model.proofs.RadiusLaws.{greatest-le}

@@ -1,9 +1,8 @@
 -- A tree with one more node, at a number that had none: the other nodes stay as they are.
-use Rattle.std.proofs.Common.{◌≡◌, ℕ, zero, suc, ◌<◌, ◌≤◌, List, [], ◌∷◌, ◌++◌, length, Option, Some, None, arith, refl, sym, ap, ◌∙◌, inl, inr, length-append}
-use Rattle.std.specs.Prelude.{◌≢◌, ◌⊎◌, true, is_some, cond, option_map, unwrap_or}
-use Rattle.std.proofs.lemmas.Bool.{cases_lt, cases_order}
-use Rattle.plan_model.proofs.Words.{Point, Twig, point_at, StandsAt, IsPresent, point_of, IsFree, AreDistinct, node_count, node_at, points_of, parent_or_zero}
-use Rattle.plan_model.proofs.Words.{parent_of}
+use Rattle.plan_model.proofs.Words.{◌≡◌, ℕ, zero, suc, ◌<◌, ◌≤◌, List, [], ◌∷◌, ◌++◌, length, Option, Some, None, arith, refl, sym, ap, ◌∙◌, inl, inr, ◌≢◌, ◌⊎◌}
+use Rattle.plan_model.proofs.Words.{true, is_some, cond, option_map, unwrap_or, cases_lt, cases_order, Point, Twig, point_at, StandsAt, IsPresent, point_of}
+use Rattle.plan_model.proofs.Words.{IsFree, AreDistinct, node_count, node_at, points_of, parent_or_zero, parent_of}
+use Rattle.std.proofs.Common.{length-append}
 use Rattle.plan_model.proofs.ChainLaws.{node_count-cons}
 use Rattle.plan_model.proofs.TreeChanges.{point_at-points_of, node_at-push, node_at-push_new, node_at-past}
 

@@ -1,13 +1,9 @@
 -- The next mark of a closed run: if the tree has grown in the order law and the new record is lawful, the run with it is closed.
-use Rattle.std.proofs.Common.{◌≡◌, ℕ, suc, ◌<◌, ◌≤◌, Bool, false, List, length, Some, None, arith, sym, ap, ◌∙◌, subst, inl, inr}
-use Rattle.std.specs.Prelude.{◌≢◌, ◌↔◌, ◌⊎◌, is_some}
-use Rattle.std.specs.List.{range_with_len}
-use Rattle.std.proofs.lemmas.Bool.{cases_eq, cases_lt, true≢false}
-use Rattle.std.proofs.lemmas.List.Sums.{length-filter}
-use Rattle.plan_model.proofs.Words.{Point, MOST_WORKERS, Outcome, Placed, Same, Blocked, Skipped, Record, Clear, IsFree, IsPresent, StandsAt, point_of}
-use Rattle.plan_model.proofs.Words.{node_count, steered, TreeState, GrowsInto, KeepsOrder, is_placed, is_earlier, IsEarlier, earlier_count, IsBlockedLawfully}
-use Rattle.plan_model.proofs.Words.{IsSkippedLawfully, IsSteeredLawfully, HasLawfulOutcome, IsLawfulRecord, mark_at, IsClosed, Setup, MayBeCheaper, SteersTo}
-use Rattle.plan_model.proofs.Words.{turns_of}
+use Rattle.plan_model.proofs.Words.{◌≡◌, ℕ, suc, ◌<◌, ◌≤◌, Bool, false, List, length, Some, None, arith, sym, ap, ◌∙◌, subst, inl, inr, ◌≢◌, ◌↔◌, ◌⊎◌, is_some}
+use Rattle.plan_model.proofs.Words.{range_with_len, cases_eq, cases_lt, true≢false, length-filter, Point, MOST_WORKERS, Outcome, Placed, Same, Blocked, Skipped}
+use Rattle.plan_model.proofs.Words.{Record, Clear, IsFree, IsPresent, StandsAt, point_of, node_count, steered, TreeState, GrowsInto, KeepsOrder, is_placed}
+use Rattle.plan_model.proofs.Words.{is_earlier, IsEarlier, earlier_count, IsBlockedLawfully, IsSkippedLawfully, IsSteeredLawfully, HasLawfulOutcome}
+use Rattle.plan_model.proofs.Words.{IsLawfulRecord, mark_at, IsClosed, Setup, MayBeCheaper, SteersTo, turns_of}
 use Rattle.plan_model.proofs.ClosedLaws.{KeepsFirstCosts-closed}
 use Rattle.plan_model.proofs.GoalNodes.{IsGoalNode-before}
 use Rattle.plan_model.proofs.NodeCounts.{count-le_node_count}

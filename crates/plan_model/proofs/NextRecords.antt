@@ -1,9 +1,6 @@
 -- One record more: that of the next mark. The others stand, and their earlier nodes stay the same.
-use Rattle.std.proofs.Common.{◌≡◌, ℕ, suc, Option, Some, None, arith, sym, ap, ◌∙◌, inl, inr}
-use Rattle.std.specs.Prelude.{◌≢◌, ◌⊎◌, is_some}
-use Rattle.std.proofs.lemmas.Bool.{cases_eq}
-use Rattle.std.proofs.lemmas.Option.{same_Some}
-use Rattle.plan_model.proofs.Words.{Record, AreRecordedBelow}
+use Rattle.plan_model.proofs.Words.{◌≡◌, ℕ, suc, Option, Some, None, arith, sym, ap, ◌∙◌, inl, inr, ◌≢◌, ◌⊎◌, is_some, cases_eq, same_Some, Record}
+use Rattle.plan_model.proofs.Words.{AreRecordedBelow}
 
 -- Mark k had no record, and has this one. The other marks have the records that they had.
 pub record RecordsMark (before after : ℕ → Option Record) (k : ℕ) (entry : Record) : Type 0 where

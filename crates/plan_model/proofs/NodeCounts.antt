@@ -1,10 +1,6 @@
 -- How many nodes are present: not fewer if each present node stays, and one more if one number more has a node.
-use Rattle.std.proofs.Common.{◌≡◌, ℕ, zero, suc, ◌+◌, ◌≤◌, Bool, true, cond, List, [], ◌∷◌, length, Option, arith, refl, sym, ap, ◌∙◌}
-use Rattle.std.specs.Prelude.{◌≢◌, is_some, count_by}
-use Rattle.std.specs.List.{range_with_len}
-use Rattle.std.proofs.lemmas.Bool.{false_from_ne_true}
-use Rattle.std.proofs.lemmas.List.Sums.{sum_by-cons, count_by-le-length}
-use Rattle.plan_model.proofs.Words.{Point, point_at, IsPresent, node_count}
+use Rattle.plan_model.proofs.Words.{◌≡◌, ℕ, zero, suc, ◌+◌, ◌≤◌, Bool, true, cond, List, [], ◌∷◌, length, Option, arith, refl, sym, ap, ◌∙◌, ◌≢◌, is_some}
+use Rattle.plan_model.proofs.Words.{count_by, range_with_len, false_from_ne_true, sum_by-cons, count_by-le-length, Point, point_at, IsPresent, node_count}
 use Rattle.plan_model.proofs.ChainLaws.{node_count-cons}
 use Rattle.plan_model.proofs.CountsBelow.{one_or_none}
 

@@ -1,10 +1,8 @@
 -- Marks in the open room of the worked runs, which are placed at themselves, and the first mark of both runs.
-use Rattle.std.proofs.Common.{◌≡◌, ℕ, zero, suc, List, [], ◌∷◌, ◌++◌, Option, Some, refl, sym, ap, ◌∙◌, subst, arith, inr}
-use Rattle.std.specs.Prelude.{All, Contains, unwrap_or}
-use Rattle.std.proofs.lemmas.List.Elements.{All-cons, All-nil, All-contains}
-use Rattle.plan_model.proofs.Words.{Goal, Point, empty_room, IsInRoom, steered, class_of, point_of, IsFree, IsPresent, node_count, IsNotAbove, distance_to}
-use Rattle.plan_model.proofs.Words.{IsNearest, points_of, sum_of, Nodes, MayBeCheaper, near_new, cost_through, Rewires, EndsPlaced, placed_record, at}
-use Rattle.plan_model.proofs.Words.{open_setup, open_setup_to, node}
+use Rattle.plan_model.proofs.Words.{◌≡◌, ℕ, zero, suc, List, [], ◌∷◌, ◌++◌, Option, Some, refl, sym, ap, ◌∙◌, subst, arith, inr, All, Contains, unwrap_or}
+use Rattle.plan_model.proofs.Words.{All-cons, All-nil, All-contains, Goal, Point, empty_room, IsInRoom, steered, class_of, point_of, IsFree, IsPresent}
+use Rattle.plan_model.proofs.Words.{node_count, IsNotAbove, distance_to, IsNearest, points_of, sum_of, Nodes, MayBeCheaper, near_new, cost_through, Rewires}
+use Rattle.plan_model.proofs.Words.{EndsPlaced, placed_record, at, open_setup, open_setup_to, node}
 use Rattle.plan_model.specs.Geometry.Roots.{root_ceiling}
 use Rattle.plan_model.proofs.LeastPairLaws.{IsNotAbove-refl}
 use Rattle.plan_model.proofs.RootLaws.{root_ceiling-from_squares}

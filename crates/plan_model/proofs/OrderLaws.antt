@@ -1,9 +1,7 @@
 -- The order law: what an edge costs at most, and that costs strictly fall along parents.
-use Rattle.std.proofs.Common.{◌≡◌, ℕ, zero, suc, ◌+◌, ◌-◌, ◌*◌, ◌^◌, ◌<◌, ◌≤◌, Some, arith, sym, ap, ◌∙◌, subst}
-use Rattle.std.specs.Prelude.{◌≢◌}
-use Rattle.std.proofs.lemmas.Nat.{mul-le}
-use Rattle.plan_model.proofs.Words.{Point, MOST_NODES, MOST_STEERING_STEP, squared_distance, cost_of, StandsAt, IsPresent, point_of, AreDistinct, node_count}
-use Rattle.plan_model.proofs.Words.{TreeState, GrowsInto, IsAllowedEdge, Hangs, HangsBelow, most_cost_of, KeepsOrder, Setup}
+use Rattle.plan_model.proofs.Words.{◌≡◌, ℕ, zero, suc, ◌+◌, ◌-◌, ◌*◌, ◌^◌, ◌<◌, ◌≤◌, Some, arith, sym, ap, ◌∙◌, subst, ◌≢◌, mul-le, Point, MOST_NODES}
+use Rattle.plan_model.proofs.Words.{MOST_STEERING_STEP, squared_distance, cost_of, StandsAt, IsPresent, point_of, AreDistinct, node_count, TreeState, GrowsInto}
+use Rattle.plan_model.proofs.Words.{IsAllowedEdge, Hangs, HangsBelow, most_cost_of, KeepsOrder, Setup}
 use Rattle.plan_model.proofs.RootLaws.{root_ceiling-is}
 use Rattle.plan_model.proofs.KeptCosts.{cost_of-apart}
 use Rattle.plan_model.proofs.NewNodes.{IsPresent-stands, point_of-stands, StandsAt-present, node_count-some}

@@ -1,6 +1,5 @@
 -- A state that keeps the order law: kept costs fall along its parents, are at least its sums, and its sums if they are settled.
-use Rattle.std.proofs.Common.{◌≡◌, ℕ, zero, suc, ◌+◌, ◌≤◌, arith}
-use Rattle.plan_model.proofs.Words.{IsPresent, edge_by, FallAlong, TreeState, sum_in, KeepsOrder, Setup}
+use Rattle.plan_model.proofs.Words.{◌≡◌, ℕ, zero, suc, ◌+◌, ◌≤◌, arith, IsPresent, edge_by, FallAlong, TreeState, sum_in, KeepsOrder, Setup}
 use Rattle.plan_model.proofs.ChainLaws.{sum-start, sum-parent}
 use Rattle.plan_model.proofs.OrderLaws.{start-present, KeepsOrder-falls}
 

@@ -1,10 +1,7 @@
 -- A node gets a cheaper parent: costs fall along parents, and are tight once the node and its descendants cost less.
-use Rattle.std.proofs.Common.{◌≡◌, ℕ, zero, suc, ◌+◌, ◌<◌, List, Option, Some, None, arith, sym, ap, ◌∙◌, subst, inl, inr}
-use Rattle.std.specs.Prelude.{◌≢◌}
-use Rattle.std.proofs.lemmas.Bool.{cases_eq}
-use Rattle.std.proofs.lemmas.List.{get_or-set_same, get_or-set_other}
-use Rattle.plan_model.proofs.Words.{Twig, IsBranchLowered, cost_of, IsPresent, point_of, AreDistinct, with_parent, points_of, parent_or_zero, parent_of}
-use Rattle.plan_model.proofs.Words.{edge_of, CostsFall, AreTight}
+use Rattle.plan_model.proofs.Words.{◌≡◌, ℕ, zero, suc, ◌+◌, ◌<◌, List, Option, Some, None, arith, sym, ap, ◌∙◌, subst, inl, inr, ◌≢◌, cases_eq, get_or-set_same}
+use Rattle.plan_model.proofs.Words.{get_or-set_other, Twig, IsBranchLowered, cost_of, IsPresent, point_of, AreDistinct, with_parent, points_of, parent_or_zero}
+use Rattle.plan_model.proofs.Words.{parent_of, edge_of, CostsFall, AreTight}
 use Rattle.plan_model.proofs.DistinctPoints.{points_of-with_parent}
 use Rattle.plan_model.proofs.KeptCosts.{cost_of-apart}
 use Rattle.plan_model.proofs.NewNodes.{StandsAt-present, present_below}

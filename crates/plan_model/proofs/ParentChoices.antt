@@ -1,9 +1,6 @@
 -- The choice of a parent: the least pair of cost and number among the nodes that were looked at.
-use Rattle.std.proofs.Common.{◌≡◌, ℕ, List, [], ◌∷◌, ◌++◌, Option}
-use Rattle.std.proofs.Common.{arith, refl, sym, subst, inl, inr, ◌⊎◌}
-use Rattle.std.specs.Prelude.{Contains}
-use Rattle.std.proofs.lemmas.List.Elements.{Contains-append_left, Contains-push, Contains-push_cases}
-use Rattle.plan_model.proofs.Words.{Point, Clear, ConfigurationSpace, IsNotAbove, IsFirstLeast, IsOpenTo, point_of}
+use Rattle.plan_model.proofs.Words.{◌≡◌, ℕ, List, [], ◌∷◌, ◌++◌, Option, arith, refl, sym, subst, inl, inr, ◌⊎◌, Contains, Contains-append_left, Contains-push}
+use Rattle.plan_model.proofs.Words.{Contains-push_cases, Point, Clear, ConfigurationSpace, IsNotAbove, IsFirstLeast, IsOpenTo, point_of}
 use Rattle.plan_model.proofs.LeastPairLaws.{IsNotAbove-refl, IsNotAbove-trans}
 
 module _ (space : ConfigurationSpace) (points : List (Option Point)) (p : Point) where

@@ -1,7 +1,6 @@
 -- What a path costs, from either end.
-use Rattle.std.proofs.Common.{◌≡◌, ◌+◌, List, [], ◌∷◌, ◌++◌, reverse, arith, refl, sym, ap, ◌∙◌}
-use Rattle.std.proofs.lemmas.List.{append_assoc, reverse-append}
-use Rattle.plan_model.proofs.Words.{Point, cost_of, length_of_path}
+use Rattle.plan_model.proofs.Words.{◌≡◌, ◌+◌, List, [], ◌∷◌, ◌++◌, reverse, arith, refl, sym, ap, ◌∙◌, reverse-append, Point, cost_of, length_of_path}
+use Rattle.std.proofs.lemmas.List.{append_assoc}
 use Rattle.plan_model.proofs.CostLaws.{cost_of-swap}
 
 -- one point more at the end of a path costs one edge more

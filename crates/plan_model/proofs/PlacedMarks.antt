@@ -1,10 +1,9 @@
 -- A mark that is placed by all that a closed run holds, and its record, which is lawful in the tree with the new node.
-use Rattle.std.proofs.Common.{◌≡◌, ℕ, suc, ◌+◌, ◌≤◌, List, Option, arith, refl, sym, ap, ◌∙◌, subst}
-use Rattle.std.specs.Prelude.{◌≢◌, Contains, IsTrue, is_some}
-use Rattle.plan_model.proofs.Words.{Point, Placed, Record, Clear, cost_of, IsFirstLeast, is_within, cost_through_by, point_at, StandsAt, IsPresent, point_of}
-use Rattle.plan_model.proofs.Words.{node_count, class_of, radius_of, radius_of_class, TreeState, recorded_or, first_cost_of, GrowsInto, IsAllowedEdge, Hangs}
-use Rattle.plan_model.proofs.Words.{KeepsOrder, KeepsFirstCosts, earlier_count, IsNeighbour, first_cost_through, IsChosenLawfully, HangsLawfully}
-use Rattle.plan_model.proofs.Words.{IsPlacedLawfully, IsSteeredLawfully, HasLawfulOutcome, IsClosed, Setup, MayBeCheaper, near_new, IsCandidate, SteersTo}
+use Rattle.plan_model.proofs.Words.{◌≡◌, ℕ, suc, ◌+◌, ◌≤◌, List, Option, arith, refl, sym, ap, ◌∙◌, subst, ◌≢◌, Contains, IsTrue, is_some, Point, Placed}
+use Rattle.plan_model.proofs.Words.{Record, Clear, cost_of, IsFirstLeast, is_within, cost_through_by, point_at, StandsAt, IsPresent, point_of, node_count}
+use Rattle.plan_model.proofs.Words.{class_of, radius_of, radius_of_class, TreeState, recorded_or, first_cost_of, GrowsInto, IsAllowedEdge, Hangs, KeepsOrder}
+use Rattle.plan_model.proofs.Words.{KeepsFirstCosts, earlier_count, IsNeighbour, first_cost_through, IsChosenLawfully, HangsLawfully, IsPlacedLawfully}
+use Rattle.plan_model.proofs.Words.{IsSteeredLawfully, HasLawfulOutcome, IsClosed, Setup, MayBeCheaper, near_new, IsCandidate, SteersTo}
 use Rattle.plan_model.proofs.NewNodes.{IsPresent-stands}
 use Rattle.plan_model.proofs.OrderLaws.{Hangs-grows}
 use Rattle.plan_model.proofs.TreeStateLaws.{point_at-grows, point_of-grows, node_count-grows}

@@ -1,7 +1,5 @@
 -- The present nodes beside the start are those of the marks whose records say that they were placed.
-use Rattle.std.proofs.Common.{◌≡◌, ℕ, suc, Bool, true, false, Option, Some, None, refl, sym, ap, ◌∙◌}
-use Rattle.std.specs.Prelude.{◌↔◌, is_some}
-use Rattle.std.proofs.lemmas.Bool.{false_from_ne_true, true≢false}
+use Rattle.plan_model.proofs.Words.{◌≡◌, ℕ, suc, Bool, true, false, Option, Some, None, refl, sym, ap, ◌∙◌, ◌↔◌, is_some, false_from_ne_true, true≢false}
 use Rattle.plan_model.proofs.Words.{Outcome, Placed, Same, Blocked, Skipped, Record, is_placed, IsPresent, point_at, TreeState, ArePlacedMarks, has_outcome}
 
 -- an outcome that counts as placed is

@@ -1,8 +1,6 @@
 -- The c-th mark of strip g has the number c * strips + g, so the quota counts the marks of the strip below the limit.
-use Rattle.std.proofs.Common.{◌≡◌, ℕ, zero, suc, ◌+◌, ◌*◌, ◌/◌, ◌%◌, ◌<◌, ◌≤◌, Bool, true, false, cond, eqb, arith, refl, ap, ◌∙◌, inl, inr}
-use Rattle.std.proofs.lemmas.Nat.{mul-le, div-add-mod', mod-mul-add}
-use Rattle.std.proofs.lemmas.Bool.{cases_lt, eqb-true, eqb-false}
-use Rattle.plan_model.specs.Scenes.MarkPoints.{quota_of}
+use Rattle.plan_model.proofs.Words.{◌≡◌, ℕ, zero, suc, ◌+◌, ◌*◌, ◌/◌, ◌%◌, ◌<◌, ◌≤◌, Bool, true, false, cond, eqb, arith, refl, ap, ◌∙◌, inl, inr, mul-le}
+use Rattle.plan_model.proofs.Words.{div-add-mod', mod-mul-add, cases_lt, eqb-true, eqb-false, quota_of}
 use Rattle.plan_model.proofs.CountsBelow.{count-more}
 
 quota-more : (strips g n : ℕ) → quota_of strips g (suc n) ≡ quota_of strips g n + cond (eqb (n % strips) g) 1 0

@@ -1,7 +1,5 @@
 -- The greatest number up to a bound that passes a test.
-use Rattle.std.proofs.Common.{◌≡◌, ℕ, zero, suc, ◌≤◌, Bool, true, false, cond, refl, arith, inl, inr}
-use Rattle.std.proofs.lemmas.Bool.{cases_order}
-use Rattle.plan_model.specs.Geometry.Radius.{greatest}
+use Rattle.plan_model.proofs.Words.{◌≡◌, ℕ, zero, suc, ◌≤◌, Bool, true, false, cond, refl, arith, inl, inr, cases_order, greatest}
 
 cond_le : (b : Bool) (m n : ℕ) → n ≤ m → cond b (suc m) n ≤ suc m
 cond_le true m n h = omega arith

@@ -1,13 +1,8 @@
 -- A rational point is the same with whichever denominator it is written.
-use Rattle.std.proofs.Common.{◌≡◌, ℕ, suc, ◌+◌, ◌*◌, ◌<◌, ◌≤◌, List, arith, sym, ap}
-use Rattle.std.specs.Prelude.{ℤ, pos, negsuc, ◌+ℤ◌, ◌-ℤ◌, ◌*ℤ◌, ◌≤ℤ◌}
-use Rattle.std.proofs.Math.Nat.{le_of_mul-le-mul_left}
-use Rattle.std.proofs.lemmas.Int.{ints}
-use Rattle.std.proofs.lemmas.Nat.{mul-le}
-use Rattle.std.proofs.lemmas.List.Elements.{All-weaker}
+use Rattle.plan_model.proofs.Words.{◌≡◌, ℕ, suc, ◌+◌, ◌*◌, ◌<◌, ◌≤◌, List, arith, sym, ap, ℤ, pos, negsuc, ◌+ℤ◌, ◌-ℤ◌, ◌*ℤ◌, ◌≤ℤ◌, le_of_mul-le-mul_left, ints}
+use Rattle.plan_model.proofs.Words.{mul-le, All-weaker, Vertex, Point, ConfigurationSpace, Rational, IsSamePoint, scaled, moved_by, IsBetweenWalls, InRoom}
+use Rattle.plan_model.proofs.Words.{weighted, IsWithin, Meets, IsClear}
 use borrow.Author.Differences.{up, down, sum_is_lem, product_is}
-use Rattle.plan_model.proofs.Words.{Vertex, Point, ConfigurationSpace, Rational, IsSamePoint, scaled, moved_by, IsBetweenWalls, InRoom, weighted, IsWithin}
-use Rattle.plan_model.proofs.Words.{Meets, IsClear}
 
 -- ---- numbers
 -- x / m and z / n are one number

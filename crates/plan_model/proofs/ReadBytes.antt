@@ -1,12 +1,9 @@
 -- What a read of bytes in memory moves, and what it leaves.
-use Rattle.std.proofs.Common.{◌≡◌, ℕ, ◌≤◌, ◌<◌, min, Bool, false, List, [], ◌∷◌, ◌++◌, length, take, drop, refl, sym, ap, ◌∙◌}
-use Rattle.std.proofs.Common.{append_assoc, take-append-drop, take_all, arith}
-use Rattle.std.specs.Prelude.{◌==◌}
-use Rattle.std.specs.List.{list_any}
-use Rattle.std.proofs.lemmas.Bool.{true≢false}
-use Rattle.std.proofs.lemmas.Bool.Decides.{nat_tests}
-use Rattle.std.proofs.lemmas.List.{drop-append-le, take-append-le, length-take-le, length-drop}
-use Rattle.plan_model.specs.Texts.Streams.{MemSourceState, counted_up, given_count, is_failing, read_into}
+use Rattle.plan_model.proofs.Words.{◌≡◌, ℕ, ◌≤◌, ◌<◌, min, Bool, false, List, [], ◌∷◌, ◌++◌, length, take, drop, refl, sym, ap, ◌∙◌, take-append-drop, arith}
+use Rattle.plan_model.proofs.Words.{◌==◌, list_any, true≢false, nat_tests, drop-append-le, take-append-le, length-take-le, MemSourceState, counted_up}
+use Rattle.plan_model.proofs.Words.{given_count, is_failing, read_into}
+use Rattle.std.proofs.Common.{append_assoc, take_all}
+use Rattle.std.proofs.lemmas.List.{length-drop}
 
 -- the bytes that were moved, and those that are left then, are those that were left before
 pub bytes_consumed : (left source moved after into : List ℕ) (count most : ℕ) → source ≡ left → most ≤ length into

@@ -1,7 +1,6 @@
 -- The version that statements give is one of the format, and one that is read.
-use Rattle.std.proofs.Common.{◌≡◌, ℕ, ◌≤◌, Bool, true, false, cond, Option, Some, None, List, [], ◌∷◌, refl, subst, arith}
-use Rattle.std.specs.Prelude.{bytes_eq}
-use Rattle.plan_model.proofs.Words.{format_name, version_word, every_version, version_among, Given, fault_at_end, version_of, version_within, version_given}
+use Rattle.plan_model.proofs.Words.{◌≡◌, ℕ, ◌≤◌, Bool, true, false, cond, Option, Some, None, List, [], ◌∷◌, refl, subst, arith, bytes_eq, format_name}
+use Rattle.plan_model.proofs.Words.{version_word, every_version, version_among, Given, fault_at_end, version_of, version_within, version_given}
 
 -- a version of the format that is read
 pub record IsReadVersion (reads : ℕ → Bool) (version : ℕ) : Type 0 where

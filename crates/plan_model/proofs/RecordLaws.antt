@@ -1,11 +1,9 @@
 -- A lawful record stays lawful while the tree grows, if the earlier nodes of the record stay the same.
-use Rattle.std.proofs.Common.{◌≡◌, ℕ, suc, ◌≤◌, arith, sym, ap, ◌∙◌, subst}
-use Rattle.std.specs.Prelude.{IsTrue}
-use Rattle.std.proofs.lemmas.Int.Digits.{length-digits_of-le}
-use Rattle.plan_model.proofs.Words.{Point, Outcome, Placed, Same, Blocked, Skipped, Record, Clear, cost_of, squared_distance, IsNotAbove, distance_to}
-use Rattle.plan_model.proofs.Words.{is_within, IsPresent, StandsAt, point_at, point_of, node_count, class_of, radius_of_class, steered, TreeState, GrowsInto}
-use Rattle.plan_model.proofs.Words.{most_cost_of, IsEarlier, IsNeighbour, first_cost_through, IsChosenLawfully, HangsLawfully, IsBlockedLawfully}
-use Rattle.plan_model.proofs.Words.{IsPlacedLawfully, IsSkippedLawfully, IsSteeredLawfully, HasLawfulOutcome, IsLawfulRecord, Setup}
+use Rattle.plan_model.proofs.Words.{◌≡◌, ℕ, suc, ◌≤◌, arith, sym, ap, ◌∙◌, subst, IsTrue, length-digits_of-le, Point, Outcome, Placed, Same, Blocked, Skipped}
+use Rattle.plan_model.proofs.Words.{Record, Clear, cost_of, squared_distance, IsNotAbove, distance_to, is_within, IsPresent, StandsAt, point_at, point_of}
+use Rattle.plan_model.proofs.Words.{node_count, class_of, radius_of_class, steered, TreeState, GrowsInto, most_cost_of, IsEarlier, IsNeighbour}
+use Rattle.plan_model.proofs.Words.{first_cost_through, IsChosenLawfully, HangsLawfully, IsBlockedLawfully, IsPlacedLawfully, IsSkippedLawfully}
+use Rattle.plan_model.proofs.Words.{IsSteeredLawfully, HasLawfulOutcome, IsLawfulRecord, Setup}
 use Rattle.plan_model.proofs.BestNodeLaws.{IsPresent-goal}
 use Rattle.plan_model.proofs.ClassLaws.{below_digits}
 use Rattle.plan_model.proofs.EarlierNodes.{HaveSameEarlier, earlier_count-same}

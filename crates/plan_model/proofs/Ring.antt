@@ -1,7 +1,5 @@
 -- Equations between whole numbers, shown on natural numbers: a term is read as a difference, and its products multiplied out.
-use Rattle.std.proofs.Common.{◌≡◌, ℕ, ◌+◌, ◌*◌, ap, refl, arith}
-use Rattle.std.specs.Prelude.{ℤ, neg_ℤ, ◌+ℤ◌, ◌-ℤ◌, ◌*ℤ◌}
-use Rattle.std.proofs.lemmas.Int.{ints}
+use Rattle.plan_model.proofs.Words.{◌≡◌, ℕ, ◌+◌, ◌*◌, ap, refl, arith, ℤ, neg_ℤ, ◌+ℤ◌, ◌-ℤ◌, ◌*ℤ◌, ints}
 use borrow.Author.Differences.{up, down, same_in, product_is, sum_is_lem}
 
 -- the number as the difference of two others

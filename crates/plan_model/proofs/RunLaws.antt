@@ -1,6 +1,5 @@
 -- A textbook run has a record for each mark, and goes on by one mark at its end.
-use Rattle.std.proofs.Common.{◌≡◌, ℕ, suc, ◌+◌, List, [], ◌∷◌, ◌++◌, length, arith, refl, ap, subst}
-use Rattle.plan_model.proofs.Words.{Point, Record, Nodes, Setup, Handles, HandlesAll}
+use Rattle.plan_model.proofs.Words.{◌≡◌, ℕ, suc, ◌+◌, List, [], ◌∷◌, ◌++◌, length, arith, refl, ap, subst, Point, Record, Nodes, Setup, Handles, HandlesAll}
 
 -- there are as many records as marks
 pub HandlesAll-length :

@@ -1,9 +1,6 @@
 -- Whether two points are the same.
-use Rattle.std.proofs.Common.{◌≡◌, ℕ, Bool, true, false, eqb, refl, ap, ◌∙◌, eq-eqb, inl, inr}
-use Rattle.std.specs.Prelude.{nat_eq, ◌&&◌, ◌≢◌, ◌⊎◌}
-use Rattle.std.specs.Cmp.Derive.{both_true}
-use Rattle.std.proofs.lemmas.Bool.{cases_eq, eqb-true}
-use Rattle.plan_model.specs.declared.geometry.Point.{Point}
+use Rattle.plan_model.proofs.Words.{◌≡◌, ℕ, Bool, true, false, eqb, refl, ap, ◌∙◌, inl, inr, nat_eq, ◌&&◌, ◌≢◌, ◌⊎◌, both_true, cases_eq, eqb-true, Point}
+use Rattle.std.proofs.Common.{eq-eqb}
 
 -- points with the same coordinates are the same
 pub point_is : (a b : Point) → a.x ≡ b.x → a.y ≡ b.y → a ≡ b

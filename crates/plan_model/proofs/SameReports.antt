@@ -1,11 +1,10 @@
 -- Trees that are the same have the same best node and the same reports at one limit, if one of them keeps the order law.
-use Rattle.std.proofs.Common.{◌≡◌, ℕ, suc, List, ◌++◌, true, false, Bool, Option, Some, None, refl, sym, ap, ◌∙◌, subst, arith}
-use Rattle.std.specs.Prelude.{IsTrue, is_some, unwrap_or, filter, map, reverse}
-use Rattle.std.specs.List.{range_with_len, flat_map}
-use Rattle.plan_model.proofs.Words.{Point, Goal, Scene, is_goal_point, best_node, goals_of, ClearAt, IsFirstLeast, first_least, KeepsOrder, point_at, point_of}
-use Rattle.plan_model.proofs.Words.{IsPresent, path_line, head_line, point_lines, best_path, path_to, counts_line, node_line_if_present, node_lines}
-use Rattle.plan_model.proofs.Words.{mark_line_if_recorded, mark_lines, short_report, report_text, summary, IsOfTextbookRun, Setup, TreeState, AreSameRuns}
-use Rattle.plan_model.proofs.Words.{chain_in, sum_in, state_of}
+use Rattle.plan_model.proofs.Words.{◌≡◌, ℕ, suc, List, ◌++◌, true, false, Bool, Option, Some, None, refl, sym, ap, ◌∙◌, subst, arith, IsTrue, is_some}
+use Rattle.plan_model.proofs.Words.{unwrap_or, map, reverse, range_with_len, flat_map, Point, Goal, Scene, is_goal_point, best_node, goals_of, ClearAt}
+use Rattle.plan_model.proofs.Words.{IsFirstLeast, first_least, KeepsOrder, point_at, point_of, IsPresent, path_line, head_line, point_lines, best_path, path_to}
+use Rattle.plan_model.proofs.Words.{counts_line, node_line_if_present, node_lines, mark_line_if_recorded, mark_lines, short_report, report_text, summary}
+use Rattle.plan_model.proofs.Words.{IsOfTextbookRun, Setup, TreeState, AreSameRuns, chain_in, sum_in, state_of}
+use Rattle.std.specs.Prelude.{filter}
 use Rattle.plan_model.proofs.BestNodeLaws.{IsPresent-goal}
 use Rattle.plan_model.proofs.LeastPairLaws.{IsBelowPassing, first_least-some, first_least-none, first_least-from_least, first_least-from_none}
 use Rattle.plan_model.proofs.NodeCounts.{node_count-same}

@@ -1,10 +1,9 @@
 -- Scenes with the same version and the same fields are the same, as each fact about them has one proof at most. So a text spells one scene at
 -- most, and a scene is converted to one.
-use Rattle.std.proofs.Common.{◌≡◌, Bool, ℕ, List, Option, Some, ◌≤◌, IsTrue, sym, ◌∙◌}
-use Rattle.std.proofs.Props.{props}
+use Rattle.plan_model.proofs.Words.{◌≡◌, Bool, ℕ, List, Option, Some, ◌≤◌, IsTrue, sym, ◌∙◌, props, Point, Scene, IsBetween, are_goals, are_obstacles, is_body}
+use Rattle.plan_model.proofs.Words.{is_plan, may_be_informed, most_clearance, most_side, most_step, LEAST_SIDE, LEAST_STEP, MOST_GAMMA, MOST_SEED, MOST_STRIPS}
+use Rattle.plan_model.proofs.Words.{IsConverted, Format, Given, HasFields, Spells}
 use mathlib.Core.HLevel.{is_prop→PathP}
-use Rattle.plan_model.proofs.Words.{Point, Scene, IsBetween, are_goals, are_obstacles, is_body, is_plan, may_be_informed, most_clearance, most_side, most_step}
-use Rattle.plan_model.proofs.Words.{LEAST_SIDE, LEAST_STEP, MOST_GAMMA, MOST_SEED, MOST_STRIPS, IsConverted, Format, Given, HasFields, Spells}
 
 IsBetween-prop : (low high : ℕ) (p : Point) → IsProp (IsBetween low high p)
 IsBetween-prop low high p = hlevel props

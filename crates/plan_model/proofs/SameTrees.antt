@@ -1,8 +1,7 @@
 -- Runs that are the same have the same chains and sums, and one is settled or closed if the other is, and has grown into it.
-use Rattle.std.proofs.Common.{length, ◌≡◌, ℕ, zero, suc, List, [], ◌∷◌, map, refl, sym, ap, ◌∙◌}
-use Rattle.std.specs.Prelude.{is_some, unwrap_or}
-use Rattle.plan_model.proofs.Words.{Point, IsPresent, point_of, node_count, chain_within, length_of_path, TreeState, recorded_or, first_cost_of, chain_in}
-use Rattle.plan_model.proofs.Words.{sum_in, IsSettled, AreSameRuns, state_of, ClearAt, IsClosed, IsOfTextbookRun, KeepsOrder, Setup}
+use Rattle.plan_model.proofs.Words.{length, ◌≡◌, ℕ, zero, suc, List, [], ◌∷◌, map, refl, sym, ap, ◌∙◌, is_some, unwrap_or, Point, IsPresent, point_of}
+use Rattle.plan_model.proofs.Words.{node_count, chain_within, length_of_path, TreeState, recorded_or, first_cost_of, chain_in, sum_in, IsSettled, AreSameRuns}
+use Rattle.plan_model.proofs.Words.{state_of, ClearAt, IsClosed, IsOfTextbookRun, KeepsOrder, Setup}
 use Rattle.plan_model.proofs.NodeCounts.{node_count-same}
 use Rattle.plan_model.proofs.LoweredCosts.{HaveSameTree}
 use Rattle.plan_model.proofs.ClosedLaws.{IsClosed-same}

@@ -1,12 +1,10 @@
 -- A text spells the scenes of one batch, or is refused as a batch at one line and for one kind.
-use Rattle.std.proofs.Common.{◌≡◌, ℕ, zero, suc, ◌+◌, ◌<◌, ◌≤◌, ◌⊎◌, inl, inr, List, [], ◌∷◌, ◌++◌, length, get_or, refl, sym, ap, subst, ◌∙◌}
-use Rattle.std.proofs.Common.{arith, add-one}
-use Rattle.std.proofs.lemmas.Bool.{cases_order, cases_lt}
-use Rattle.std.proofs.lemmas.List.{ext_get_or, get_or_append_left, length-append}
-use Rattle.std.proofs.Math.Seq.{get_or-append_seam}
+use Rattle.plan_model.proofs.Words.{◌≡◌, ℕ, zero, suc, ◌+◌, ◌<◌, ◌≤◌, ◌⊎◌, inl, inr, List, [], ◌∷◌, ◌++◌, length, get_or, refl, sym, ap, subst, ◌∙◌, arith}
+use Rattle.plan_model.proofs.Words.{add-one, cases_order, cases_lt, ext_get_or, get_or_append_left, get_or-append_seam, MOST_SCENES, Scene, Kind, lines_of}
+use Rattle.plan_model.proofs.Words.{Format, Spells, Part, parts_of, part_text, lines_before, SpellsBatch, AreSpelledBelow, IsRefusedPart, FailsAtPart}
+use Rattle.plan_model.proofs.Words.{RefusesBatch}
+use Rattle.std.proofs.lemmas.List.{length-append}
 use borrow.Author.Count.{below_more}
-use Rattle.plan_model.proofs.Words.{MOST_SCENES, Scene, Kind, lines_of, Format, Spells, Part, parts_of, part_text, lines_before, SpellsBatch, AreSpelledBelow}
-use Rattle.plan_model.proofs.Words.{IsRefusedPart, FailsAtPart, RefusesBatch}
 use Rattle.plan_model.specs.declared.text_terms.Kind.TheVariants as kinds
 use Rattle.plan_model.proofs.Soundness.{Refused-one_line, Refused-one_kind, Spells-not_refused}
 use Rattle.plan_model.proofs.SameScenes.{Spells-one_scene}

@@ -1,17 +1,12 @@
 -- What a scene of either version may have is within what is counted on: distances of its points can be taken, points are steered by its
 -- step, and its obstacles go into Minkowski sums.
-use Rattle.std.proofs.Common.{◌≡◌, ◌<◌, ◌≤◌, ◌&&◌, Bool, ℕ, true, false, eqb, cond, length, List, [], ◌∷◌, refl, sym, arith}
-use Rattle.std.specs.Prelude.{All, ℤ, ◌≤ℤ◌, int_le, nat_le}
-use Rattle.std.specs.List.{list_all}
-use Rattle.std.proofs.lemmas.Bool.{and_parts, and_from, leb-true}
-use Rattle.std.proofs.lemmas.Int.{ints}
-use Rattle.std.proofs.lemmas.List.Elements.{All-weaker}
-use Rattle.std.proofs.lemmas.List.Sums.{AllPass-from_list_all}
-use Rattle.plan_model.proofs.Words.{Goal, Point, Vertex, Scene, LEAST_OBSTACLE_COORDINATE, LEAST_OBSTACLE_COORDINATE_OF_VERSION_2, LEAST_SUMMAND_COORDINATE}
-use Rattle.plan_model.proofs.Words.{MOST_CLEARANCE, MOST_COORDINATE, MOST_OBSTACLE_COORDINATE, MOST_OBSTACLE_COORDINATE_OF_VERSION_2, MOST_OBSTACLE_CORNERS}
-use Rattle.plan_model.proofs.Words.{MOST_SIDE, MOST_SIDE_OF_VERSION_2, MOST_STEERING_STEP, MOST_STEP, MOST_STEP_OF_VERSION_2, MOST_SUMMAND_COORDINATE}
-use Rattle.plan_model.proofs.Words.{IsBounded, IsBoundedBox, is_strictly_convex, IsInRoom, is_corner_between, is_goal, is_mark, is_obstacle}
-use Rattle.plan_model.proofs.Words.{least_obstacle_coordinate, most_obstacle_coordinate, most_side, most_goals, most_step}
+use Rattle.plan_model.proofs.Words.{◌≡◌, ◌<◌, ◌≤◌, ◌&&◌, Bool, ℕ, true, false, eqb, cond, length, List, [], ◌∷◌, refl, sym, arith, All, ℤ, ◌≤ℤ◌, int_le, nat_le}
+use Rattle.plan_model.proofs.Words.{list_all, and_parts, and_from, leb-true, ints, All-weaker, AllPass-from_list_all, Goal, Point, Vertex, Scene}
+use Rattle.plan_model.proofs.Words.{LEAST_OBSTACLE_COORDINATE, LEAST_OBSTACLE_COORDINATE_OF_VERSION_2, LEAST_SUMMAND_COORDINATE, MOST_CLEARANCE}
+use Rattle.plan_model.proofs.Words.{MOST_COORDINATE, MOST_OBSTACLE_COORDINATE, MOST_OBSTACLE_COORDINATE_OF_VERSION_2, MOST_OBSTACLE_CORNERS, MOST_SIDE}
+use Rattle.plan_model.proofs.Words.{MOST_SIDE_OF_VERSION_2, MOST_STEERING_STEP, MOST_STEP, MOST_STEP_OF_VERSION_2, MOST_SUMMAND_COORDINATE, IsBounded}
+use Rattle.plan_model.proofs.Words.{IsBoundedBox, is_strictly_convex, IsInRoom, is_corner_between, is_goal, is_mark, is_obstacle, least_obstacle_coordinate}
+use Rattle.plan_model.proofs.Words.{most_obstacle_coordinate, most_side, most_goals, most_step}
 
 -- ---- the limits of either version
 

@@ -1,17 +1,13 @@
 -- The parts of a scene, from numbers that may stand after its keys.
-use Rattle.std.proofs.Common.{◌≡◌, ℕ, zero, suc, ◌+◌, ◌*◌, ◌≤◌, ◌&&◌, ◌||◌, ◌⊎◌, not, Bool, true, false, cond, eqb, ltb, leb, ℤ, pos, negsuc, int_le}
-use Rattle.std.proofs.Common.{unsigned_abs, List, []}
-use Rattle.std.proofs.Common.{◌∷◌, length, map, All, refl, inl, inr, arith}
-use Rattle.std.specs.List.{list_all}
-use Rattle.std.proofs.lemmas.Bool.{and_parts, and_from, or_cases, or_left, or_right, leb-true, le-leb, eqb-true, eq-eqb, ltb-false}
-use Rattle.std.proofs.lemmas.List.{length-map}
-use Rattle.std.proofs.lemmas.List.Elements.{All-head, All-tail}
+use Rattle.plan_model.proofs.Words.{◌≡◌, ℕ, zero, suc, ◌+◌, ◌*◌, ◌≤◌, ◌&&◌, ◌||◌, ◌⊎◌, not, Bool, true, false, cond, eqb, ltb, leb, ℤ, pos, negsuc, int_le}
+use Rattle.plan_model.proofs.Words.{unsigned_abs, List, [], ◌∷◌, length, map, All, refl, inl, inr, arith, list_all, and_parts, and_from, or_cases, or_left}
+use Rattle.plan_model.proofs.Words.{or_right, leb-true, le-leb, eqb-true, ltb-false, length-map, All-head, All-tail, is_strictly_convex, IsBetween, by_version}
+use Rattle.plan_model.proofs.Words.{is_corner_between, are_goals, is_body, is_goal, is_obstacle, is_mark, is_plan, may_be_informed, least_obstacle_coordinate}
+use Rattle.plan_model.proofs.Words.{most_clearance, most_goals, most_obstacle_coordinate, most_side, most_step, LEAST_BODY_COORDINATE, LEAST_SIDE, LEAST_STEP}
+use Rattle.plan_model.proofs.Words.{MOST_BODY_COORDINATE, MOST_BODY_CORNERS, MOST_GAMMA, MOST_MARKS, MOST_OBSTACLE_CORNERS, MOST_SEED, MOST_STRIPS, are_between}
+use Rattle.plan_model.proofs.Words.{corners_from, is_ordered, MayStand, point_from, goal_from, number_or, body_from, plan_from}
+use Rattle.std.proofs.lemmas.Bool.{eq-eqb}
 use Rattle.plan_model.specs.declared.text_terms.Key.TheVariants as keys
-use Rattle.plan_model.proofs.Words.{is_strictly_convex, IsBetween, by_version, is_corner_between, are_goals, is_body, is_goal, is_obstacle, is_mark, is_plan}
-use Rattle.plan_model.proofs.Words.{may_be_informed, least_obstacle_coordinate, most_clearance, most_goals, most_obstacle_coordinate, most_side, most_step}
-use Rattle.plan_model.proofs.Words.{LEAST_BODY_COORDINATE, LEAST_SIDE, LEAST_STEP, MOST_BODY_COORDINATE, MOST_BODY_CORNERS, MOST_GAMMA, MOST_MARKS}
-use Rattle.plan_model.proofs.Words.{MOST_OBSTACLE_CORNERS, MOST_SEED, MOST_STRIPS, are_between, corners_from, is_ordered, MayStand, point_from, goal_from}
-use Rattle.plan_model.proofs.Words.{number_or, body_from, plan_from}
 
 -- ---- one number
 

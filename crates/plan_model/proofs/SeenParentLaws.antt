@@ -1,8 +1,6 @@
 -- Parents and costs that were seen of a tree which keeps the order law are lawful, and stay so while it grows.
-use Rattle.std.proofs.Common.{◌≡◌, ℕ, suc, Some, arith, sym, ap, ◌∙◌, subst, inl, inr}
-use Rattle.std.specs.Prelude.{◌⊎◌}
-use Rattle.plan_model.proofs.Words.{Hangs, KeepsOrder, KeepsFirstCosts, point_of, AreSeenLawfully, Sight, TakesOver, SeenTree, SharedTree, seen_whole, Setup}
-use Rattle.plan_model.proofs.Words.{TreeState, GrowsInto}
+use Rattle.plan_model.proofs.Words.{◌≡◌, ℕ, suc, Some, arith, sym, ap, ◌∙◌, subst, inl, inr, ◌⊎◌, Hangs, KeepsOrder, KeepsFirstCosts, point_of, AreSeenLawfully}
+use Rattle.plan_model.proofs.Words.{Sight, TakesOver, SeenTree, SharedTree, seen_whole, Setup, TreeState, GrowsInto}
 use Rattle.plan_model.proofs.OrderLaws.{Hangs-grows}
 use Rattle.plan_model.proofs.TreeStateLaws.{IsPresent-grows, point_of-grows}
 use Rattle.plan_model.proofs.SightsTogether.{cheaper_either}

@@ -1,8 +1,6 @@
 -- What was seen of a tree, and more of it: seen nodes stay seen, and ways over what is seen are ways.
-use Rattle.std.proofs.Common.{◌≡◌, ℕ, zero, suc, ◌<◌, Bool, Some, arith, refl, sym, ap, ◌∙◌, subst, inl, inr}
-use Rattle.std.specs.Prelude.{◌≢◌, ◌⊎◌}
-use Rattle.std.proofs.lemmas.Bool.{cases_order}
-use Rattle.plan_model.proofs.Words.{Point, point_at, StandsAt, goes_right, IsOnWay, SeenTree, IsSeen, IsOnSeenWay, HasSeenAtLeast}
+use Rattle.plan_model.proofs.Words.{◌≡◌, ℕ, zero, suc, ◌<◌, Bool, Some, arith, refl, sym, ap, ◌∙◌, subst, inl, inr, ◌≢◌, ◌⊎◌, cases_order, Point, point_at}
+use Rattle.plan_model.proofs.Words.{StandsAt, goes_right, IsOnWay, SeenTree, IsSeen, IsOnSeenWay, HasSeenAtLeast}
 use Rattle.plan_model.specs.Seen.SeenTrees.IsOnSeenWay.{begins, goes_on}
 use Rattle.plan_model.proofs.NewNodes.{StandsAt-unique}
 use Rattle.plan_model.proofs.WayLaws.{way_start, last_step, same_child, earlier_step}

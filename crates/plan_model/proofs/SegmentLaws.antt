@@ -1,9 +1,6 @@
 -- The points of a segment: where they are, and that a segment is clear from either end.
-use Rattle.std.proofs.Common.{◌≡◌, ℕ, suc, ◌+◌, ◌-◌, ◌*◌, ◌<◌, ◌≤◌, arith, ap, refl}
-use Rattle.std.specs.Prelude.{ℤ, pos, negsuc, ◌+ℤ◌, ◌-ℤ◌, ◌*ℤ◌}
-use Rattle.std.proofs.Math.Nat.{le_refl}
-use Rattle.std.proofs.lemmas.Int.{ints}
-use Rattle.plan_model.proofs.Words.{Point, ConfigurationSpace, at_lattice, IsSamePoint, ClearAt, on_the_way, Clear}
+use Rattle.plan_model.proofs.Words.{◌≡◌, ℕ, suc, ◌+◌, ◌-◌, ◌*◌, ◌<◌, ◌≤◌, arith, ap, refl, ℤ, pos, negsuc, ◌+ℤ◌, ◌-ℤ◌, ◌*ℤ◌, le_refl, ints, Point}
+use Rattle.plan_model.proofs.Words.{ConfigurationSpace, at_lattice, IsSamePoint, ClearAt, on_the_way, Clear}
 use Rattle.plan_model.proofs.RationalPoints.{IsSamePoint-sym, IsClear-same}
 
 -- s of d parts and the rest of them are the whole

@@ -1,7 +1,6 @@
 -- Settled runs: what stays while one grows into another, and that a textbook run is settled already.
-use Rattle.std.proofs.Common.{◌≡◌, ℕ, ◌≤◌, List, arith, sym, ap, ◌∙◌, subst}
-use Rattle.plan_model.proofs.Words.{Point, Goal, IsBestNode, ClearAt, IsPresent, point_at, IsOfTextbookRun, Setup, AreSameRuns, ChangesCosts, GrowsInto}
-use Rattle.plan_model.proofs.Words.{IsSettled, TreeState, state_of, sum_in, sum_by}
+use Rattle.plan_model.proofs.Words.{◌≡◌, ℕ, ◌≤◌, List, arith, sym, ap, ◌∙◌, subst, Point, Goal, IsBestNode, ClearAt, IsPresent, point_at, IsOfTextbookRun}
+use Rattle.plan_model.proofs.Words.{Setup, AreSameRuns, ChangesCosts, GrowsInto, IsSettled, TreeState, state_of, sum_in, sum_by}
 use Rattle.plan_model.proofs.BestNodeLaws.{IsPresent-goal}
 use Rattle.plan_model.proofs.GoalNodes.{IsGoalNode-grows}
 use Rattle.plan_model.proofs.SameTrees.{AreSameRuns-trans, IsSettled-of_textbook}

@@ -1,8 +1,6 @@
 -- Later moments of one worker: what a call has swept stays swept, and a way that ends misses no node.
-use Rattle.std.proofs.Common.{◌≡◌, ℕ, zero, suc, ◌<◌, Bool, Option, Some, None, arith, refl, sym, ap, ◌∙◌, subst, inl, inr}
-use Rattle.std.proofs.lemmas.Bool.{cases_eq}
-use Rattle.plan_model.proofs.Words.{Point, point_at, IsFree, goes_right, IsSeen, IsOnSeenWay, Sight, KeepsSight, KeepsOrFindsEmpty, IsLaterMoment, EndsSince}
-use Rattle.plan_model.proofs.Words.{IsSwept}
+use Rattle.plan_model.proofs.Words.{◌≡◌, ℕ, zero, suc, ◌<◌, Bool, Option, Some, None, arith, refl, sym, ap, ◌∙◌, subst, inl, inr, cases_eq, Point, point_at}
+use Rattle.plan_model.proofs.Words.{IsFree, goes_right, IsSeen, IsOnSeenWay, Sight, KeepsSight, KeepsOrFindsEmpty, IsLaterMoment, EndsSince, IsSwept}
 use Rattle.plan_model.proofs.NewNodes.{IsPresent-stands}
 use Rattle.plan_model.proofs.SeenTreeLaws.{HasSeenAtLeast-refl, HasSeenAtLeast-trans, IsSeen-more, seen_step, same_way, further_down}
 use Rattle.plan_model.proofs.WayLaws.{not_empty}

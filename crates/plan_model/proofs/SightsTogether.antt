@@ -1,10 +1,8 @@
 -- What a worker takes over from another: it has seen at least what both had, and it is a later moment of itself.
-use Rattle.std.proofs.Common.{◌≡◌, ℕ, ◌<◌, Bool, true, false, Option, Some, None, arith, refl, sym, ap, ◌∙◌, subst, inl, inr}
-use Rattle.std.specs.Prelude.{◌⊎◌, nat_lt, cond, is_some, IsSome}
-use Rattle.std.specs.Option.{option_or}
-use Rattle.std.proofs.lemmas.Bool.{cases_lt, ltb-true, ltb-false}
-use Rattle.plan_model.proofs.Words.{Point, point_at, point_of, StandsAt, FollowWays, SeenTree, IsSeen, IsRooted, HasSeenAtLeast, SharedTree, IsTrueOf, Sight}
-use Rattle.plan_model.proofs.Words.{KeepsSight, IsLaterMoment, cheaper_of, HaveSeenTogether, TakesOver, AgreeOnParents}
+use Rattle.plan_model.proofs.Words.{◌≡◌, ℕ, ◌<◌, Bool, true, false, Option, Some, None, arith, refl, sym, ap, ◌∙◌, subst, inl, inr, ◌⊎◌, nat_lt, cond, is_some}
+use Rattle.plan_model.proofs.Words.{IsSome, option_or, cases_lt, ltb-true, ltb-false, Point, point_at, point_of, StandsAt, FollowWays, SeenTree, IsSeen}
+use Rattle.plan_model.proofs.Words.{IsRooted, HasSeenAtLeast, SharedTree, IsTrueOf, Sight, KeepsSight, IsLaterMoment, cheaper_of, HaveSeenTogether, TakesOver}
+use Rattle.plan_model.proofs.Words.{AgreeOnParents}
 use Rattle.plan_model.proofs.NewNodes.{IsPresent-stands, StandsAt-present, StandsAt-unique}
 use Rattle.plan_model.proofs.SeenTreeLaws.{IsSeen-more}
 use Rattle.plan_model.proofs.TrueSights.{FollowSeenWays-true}

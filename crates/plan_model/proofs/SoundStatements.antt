@@ -1,15 +1,12 @@
 -- Of lines without a fault, the numbers after each key may stand there by the version that was read, no key stands too often, and each is
 -- supported.
-use Rattle.std.proofs.Common.{◌≡◌, ℕ, zero, suc, ◌*◌, ◌<◌, ◌≤◌, not, Bool, true, false, cond, ltb, leb, ℤ, Option, Some, None, List, [], ◌∷◌, ◌++◌, length}
-use Rattle.std.proofs.Common.{map, take, get_or, All, refl, sym, ap, ◌∙◌, subst, arith, take-suc}
-use Rattle.std.specs.List.{list_all}
-use Rattle.std.proofs.lemmas.Bool.{cond_both, or_parts, leb-false}
-use Rattle.std.proofs.lemmas.List.{append-nil, length-map, length_push, take_all}
-use Rattle.std.proofs.lemmas.List.Elements.{All-nil, All-push}
-use Rattle.plan_model.proofs.Words.{Key, Kind, lines_of, words_of, statements_of, is_number, value_of, key_of, fits_words, most_corners, most_lines, Format}
-use Rattle.plan_model.proofs.Words.{Given, begins_with, given_by, with_statement, is_repeated, is_too_many, is_in_range, has_corners, fault_at_key}
-use Rattle.plan_model.proofs.Words.{fault_of_statement, fault_after, first_failing, checks_of, MayStand, AllMayStand, version_given, given_after_version}
-use Rattle.plan_model.proofs.Words.{IsSoundBelow}
+use Rattle.plan_model.proofs.Words.{◌≡◌, ℕ, zero, suc, ◌*◌, ◌<◌, ◌≤◌, not, Bool, true, false, cond, ltb, leb, ℤ, Option, Some, None, List, [], ◌∷◌, ◌++◌}
+use Rattle.plan_model.proofs.Words.{length, map, take, get_or, All, refl, sym, ap, ◌∙◌, subst, arith, take-suc, list_all, cond_both, or_parts, leb-false}
+use Rattle.plan_model.proofs.Words.{append-nil, length-map, length_push, All-nil, All-push, Key, Kind, lines_of, words_of, statements_of, is_number, value_of}
+use Rattle.plan_model.proofs.Words.{key_of, fits_words, most_corners, most_lines, Format, Given, begins_with, given_by, with_statement, is_repeated}
+use Rattle.plan_model.proofs.Words.{is_too_many, is_in_range, has_corners, fault_at_key, fault_of_statement, fault_after, first_failing, checks_of, MayStand}
+use Rattle.plan_model.proofs.Words.{AllMayStand, version_given, given_after_version, IsSoundBelow}
+use Rattle.std.proofs.lemmas.List.{take_all}
 use Rattle.plan_model.specs.declared.text_terms.Kind.TheVariants as kinds
 use Rattle.plan_model.specs.Texts.TextLines.{is_skipped}
 use Rattle.plan_model.proofs.StatementNumbers.{key-begun, given_by-push, statements_of-push}

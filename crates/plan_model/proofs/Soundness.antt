@@ -1,8 +1,6 @@
 -- Texts whose lines have no fault, by a test of each line; and a text is refused at one line and for one kind.
-use Rattle.std.proofs.Common.{◌≡◌, ℕ, zero, suc, ◌+◌, ◌<◌, ◌≤◌, Bool, true, List, length, Option, Some, None, inl, inr, ◌∙◌, ap, refl, arith}
-use Rattle.std.specs.Prelude.{◌&&◌, is_none}
-use Rattle.std.proofs.lemmas.Bool.{cases_order}
-use Rattle.plan_model.proofs.Words.{Scene, Kind, lines_of, Format, fault_of_line, IsSoundBelow, FailsAt, Refused, Spells}
+use Rattle.plan_model.proofs.Words.{◌≡◌, ℕ, zero, suc, ◌+◌, ◌<◌, ◌≤◌, Bool, true, List, length, Option, Some, None, inl, inr, ◌∙◌, ap, refl, arith, ◌&&◌}
+use Rattle.plan_model.proofs.Words.{is_none, cases_order, Scene, Kind, lines_of, Format, fault_of_line, IsSoundBelow, FailsAt, Refused, Spells}
 
 -- no line below line n has a fault
 unfoldable pub are_sound : Format → List (List ℕ) → ℕ → Bool

@@ -1,10 +1,7 @@
 -- The lattice points of the room of configurations are those whose coordinates are in its columns and its rows.
-use Rattle.std.proofs.Common.{ℕ, ◌+◌, ◌-◌, ◌*◌, ◌≤◌, List, [], ◌∷◌, arith}
-use Rattle.std.specs.Prelude.{ℤ, pos, negsuc, ◌+ℤ◌, ◌*ℤ◌, ◌≤ℤ◌, All, fold, max}
-use Rattle.std.proofs.lemmas.Int.{ints}
-use Rattle.std.proofs.lemmas.List.Elements.{All-cons, All-nil, All-head, All-tail}
-use Rattle.plan_model.proofs.Words.{Vertex, Point, ConfigurationSpace, at_lattice, InRoom, below_zero, above_zero, reach, IsInSpan, span_within, columns, rows}
-use Rattle.plan_model.proofs.Words.{BodyFits, Span}
+use Rattle.plan_model.proofs.Words.{ℕ, ◌+◌, ◌-◌, ◌*◌, ◌≤◌, List, [], ◌∷◌, arith, ℤ, pos, negsuc, ◌+ℤ◌, ◌*ℤ◌, ◌≤ℤ◌, All, fold, max, ints, All-cons, All-nil}
+use Rattle.plan_model.proofs.Words.{All-head, All-tail, Vertex, Point, ConfigurationSpace, at_lattice, InRoom, below_zero, above_zero, reach, IsInSpan}
+use Rattle.plan_model.proofs.Words.{span_within, columns, rows, BodyFits, Span}
 
 -- ---- how far a body reaches, seen from a bound of it
 pub record IsReachBounded (extent : Vertex → ℕ) (far : ℕ) (body : List Vertex) (n : ℕ) : Type 0 where

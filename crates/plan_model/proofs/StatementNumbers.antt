@@ -1,12 +1,9 @@
 -- The grammar's words at one more statement and at one more line.
-use Rattle.std.proofs.Common.{◌≡◌, ℕ, not, Bool, true, false, cond, Option, Some, None, List, [], ◌∷◌, ◌++◌, map, filter, refl, sym, ap, ◌∙◌}
+use Rattle.plan_model.proofs.Words.{◌≡◌, ℕ, not, Bool, true, false, cond, Option, Some, None, List, [], ◌∷◌, ◌++◌, map, refl, sym, ap, ◌∙◌, bytes_eq}
+use Rattle.plan_model.proofs.Words.{map-append, append-nil, filter-append, bytes_eq-Decides, Key, words_of, statements_of, name_of, every_key, key_among}
+use Rattle.plan_model.proofs.Words.{is_key, key_within, key_of, begins_with, numbers_in, given_by, with_statement}
+use Rattle.std.proofs.Common.{filter}
 use mathlib.Core.Path.{fun_ext}
-use Rattle.std.specs.Prelude.{bytes_eq}
-use Rattle.std.proofs.lemmas.List.{map-append, append-nil}
-use Rattle.std.proofs.lemmas.List.Elements.{filter-append}
-use Rattle.std.proofs.lemmas.Slice.Eq.{bytes_eq-Decides}
-use Rattle.plan_model.proofs.Words.{Key, words_of, statements_of, name_of, every_key, key_among, is_key, key_within, key_of, begins_with, numbers_in, given_by}
-use Rattle.plan_model.proofs.Words.{with_statement}
 use Rattle.plan_model.specs.declared.text_terms.Key.TheVariants as keys
 use Rattle.plan_model.specs.Texts.TextLines.{is_skipped}
 

@@ -1,7 +1,6 @@
 -- A node that stands where the nearest node steers to stands where the nearest node does; if that is elsewhere, none stands there.
-use Rattle.std.proofs.Common.{◌≡◌, ℕ, ◌≤◌, List, Option, Some, IsSome, refl, ap, sym, ◌∙◌, subst}
-use Rattle.std.specs.Prelude.{◌≢◌, unwrap_or}
-use Rattle.plan_model.proofs.Words.{Point, squared_distance, point_of, StandsAt, IsPresent, IsFree, IsNearest, steered, Setup, SteersTo}
+use Rattle.plan_model.proofs.Words.{◌≡◌, ℕ, ◌≤◌, List, Option, Some, IsSome, refl, ap, sym, ◌∙◌, subst, ◌≢◌, unwrap_or, Point, squared_distance, point_of}
+use Rattle.plan_model.proofs.Words.{StandsAt, IsPresent, IsFree, IsNearest, steered, Setup, SteersTo}
 use Rattle.plan_model.proofs.NewNodes.{point_of-stands}
 use Rattle.plan_model.proofs.SteeringLaws.{IsStep-steered, corner_of_box}
 

@@ -1,13 +1,8 @@
 -- A coordinate is moved by a share of the way, rounded towards where it stands. So a step is short, and leads nearer.
-use Rattle.std.proofs.Common.{◌≡◌, ℕ, zero, suc, ◌+◌, ◌-◌, ◌*◌, ◌/◌, ◌<◌, ◌≤◌, ◌≢◌, Bool, true, false, cond, leb, refl, sym, ap, ◌∙◌, subst, arith, inl, inr}
-use Rattle.std.specs.Prelude.{ℤ, pos, neg_ℤ, ◌+ℤ◌, ◌-ℤ◌, ◌*ℤ◌, int_div, unsigned_abs}
-use Rattle.std.specs.Prelude.{min, max}
-use Rattle.std.specs.Int.{abs_diff}
-use Rattle.std.proofs.Math.Nat.{div-le_of_le-mul, div-mul-le_self, le_of_mul-le-mul_right}
-use Rattle.std.proofs.lemmas.Bool.{cases_lt, le-leb, lt-leb, leb-true, leb-false}
-use Rattle.std.proofs.lemmas.Int.{ints}
-use Rattle.std.proofs.lemmas.Nat.{mul-le, mod_below, div-add-mod'}
-use Rattle.plan_model.proofs.Words.{Point, squared_distance, IsInBoxOf, IsRootCeiling, IsStep, advanced, steered}
+use Rattle.plan_model.proofs.Words.{◌≡◌, ℕ, zero, suc, ◌+◌, ◌-◌, ◌*◌, ◌/◌, ◌<◌, ◌≤◌, ◌≢◌, Bool, true, false, cond, leb, refl, sym, ap, ◌∙◌, subst, arith, inl}
+use Rattle.plan_model.proofs.Words.{inr, ℤ, pos, neg_ℤ, ◌+ℤ◌, ◌-ℤ◌, ◌*ℤ◌, int_div, unsigned_abs, min, max, abs_diff, div-le_of_le-mul, div-mul-le_self}
+use Rattle.plan_model.proofs.Words.{le_of_mul-le-mul_right, cases_lt, le-leb, lt-leb, leb-true, leb-false, ints, mul-le, mod_below, div-add-mod', Point}
+use Rattle.plan_model.proofs.Words.{squared_distance, IsInBoxOf, IsRootCeiling, IsStep, advanced, steered}
 use Rattle.plan_model.specs.Geometry.Roots.{root_ceiling}
 use Rattle.plan_model.proofs.RootLaws.{root_ceiling-is, lt-from_squares}
 use Rattle.plan_model.proofs.SamePoints.{point_is}

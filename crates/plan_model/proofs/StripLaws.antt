@@ -1,9 +1,6 @@
 -- The strips of a span lie one after another and make up the whole.
-use Rattle.std.proofs.Common.{◌≡◌, ℕ, ◌+◌, ◌-◌, ◌*◌, ◌/◌, ◌<◌, ◌≤◌, Bool, true, false, cond, ltb, inl, inr, arith, refl}
-use Rattle.std.proofs.Math.Nat.{div-le_of_le-mul, div-mul-le_self, mul-div_cancel_left}
-use Rattle.std.proofs.lemmas.Bool.{cases_lt, le-ltb, ltb-false}
-use Rattle.std.proofs.lemmas.Nat.{mul-le, le-div}
-use Rattle.plan_model.proofs.Words.{IsInSpan, strip, Span}
+use Rattle.plan_model.proofs.Words.{◌≡◌, ℕ, ◌+◌, ◌-◌, ◌*◌, ◌/◌, ◌<◌, ◌≤◌, Bool, true, false, cond, ltb, inl, inr, arith, refl, div-le_of_le-mul}
+use Rattle.plan_model.proofs.Words.{div-mul-le_self, mul-div_cancel_left, cases_lt, le-ltb, ltb-false, mul-le, le-div, IsInSpan, strip, Span}
 
 div-le-div : (m n k : ℕ) → 0 < k → m ≤ n → m / k ≤ n / k
 div-le-div m n k some h =

@@ -1,11 +1,9 @@
 -- Marks by their strips: each mark below a limit is the c-th of one strip, once, and the quotas of all strips add up to the limit.
-use Rattle.std.proofs.Common.{◌≡◌, ℕ, zero, suc, ◌+◌, ◌*◌, ◌/◌, ◌%◌, ◌<◌, ◌≤◌, true, false}
-use Rattle.std.proofs.Common.{cond, eqb, ltb, arith, refl, sym, ap, ◌∙◌, inl, inr}
-use Rattle.std.specs.Prelude.{◌≢◌, count_by}
-use Rattle.std.specs.List.{range_with_len, sum_by}
-use Rattle.std.proofs.lemmas.Bool.{cases_eq, cases_lt, eq-eqb, ne_eqb, lt-ltb, le-ltb}
-use Rattle.std.proofs.lemmas.Nat.{div-add-mod', div-mul-add, mod-mul-add}
-use Rattle.plan_model.specs.Scenes.MarkPoints.{quota_of, IsMarkOf, is_claimed}
+use Rattle.plan_model.proofs.Words.{◌≡◌, ℕ, zero, suc, ◌+◌, ◌*◌, ◌/◌, ◌%◌, ◌<◌, ◌≤◌, true, false, cond, eqb, ltb, arith, refl, sym, ap, ◌∙◌, inl, inr, ◌≢◌}
+use Rattle.plan_model.proofs.Words.{count_by, range_with_len, cases_eq, cases_lt, ne_eqb, lt-ltb, le-ltb, div-add-mod', div-mul-add, mod-mul-add, quota_of}
+use Rattle.plan_model.proofs.Words.{IsMarkOf, is_claimed}
+use Rattle.std.specs.List.{sum_by}
+use Rattle.std.proofs.lemmas.Bool.{eq-eqb}
 use Rattle.plan_model.proofs.CountsBelow.{count-more, count-single}
 use Rattle.plan_model.proofs.QuotaLaws.{IsCutAt-quota}
 use Rattle.plan_model.proofs.SumsBelow.{sum-more}

@@ -1,9 +1,7 @@
 -- Tests of every member of a list, and of every number below another.
-use Rattle.std.proofs.Common.{◌≡◌, ◌≢◌, ℕ, ◌<◌, Bool, true, false, ◌||◌, eqb, List, [], ◌∷◌, length, get_or, refl, zero, suc, eq-eqb, arith}
-use Rattle.std.proofs.lemmas.Bool.{and_parts, and_from, eqb-true}
-use Rattle.std.proofs.lemmas.List.FromFn.{length-range_with_len, get_or-range_with_len}
-use Rattle.std.proofs.lemmas.List.Folds.{list_all_at}
-use Rattle.std.specs.List.{list_all, range_with_len}
+use Rattle.plan_model.proofs.Words.{◌≡◌, ◌≢◌, ℕ, ◌<◌, Bool, true, false, ◌||◌, eqb, List, [], ◌∷◌, length, get_or, refl, zero, suc, arith, and_parts, and_from}
+use Rattle.plan_model.proofs.Words.{eqb-true, length-range_with_len, get_or-range_with_len, list_all_at, list_all, range_with_len}
+use Rattle.std.proofs.Common.{eq-eqb}
 
 pub true_at : {X : Type 0} (p : X → Bool) (xs : List X) (i : ℕ) (d : X) → list_all p xs ≡ true → i < length xs → p (get_or xs i d) ≡ true
 true_at p [] i d h l = absurd (omega arith)

@@ -1,14 +1,11 @@
 -- One mark of a textbook run: a run that was closed before the mark is closed with it.
-use Rattle.std.proofs.Common.{◌≡◌, ℕ, suc, ◌+◌, ◌<◌, ◌≤◌, true, false, List, [], ◌∷◌, ◌++◌, length, get_or, Some, None}
-use Rattle.std.proofs.Common.{arith, refl, sym, ap, ◌∙◌, subst, inl, inr, length-append}
-use Rattle.std.specs.Prelude.{All, Contains, option_map, slice_get}
+use Rattle.plan_model.proofs.Words.{◌≡◌, ℕ, suc, ◌+◌, ◌<◌, ◌≤◌, true, false, List, [], ◌∷◌, ◌++◌, length, get_or, Some, None, arith, refl, sym, ap, ◌∙◌, subst}
+use Rattle.plan_model.proofs.Words.{inl, inr, All, Contains, option_map, slice_get, length-map, All-weaker, All-contains, slice_get-get_or, Point, MOST_WORKERS}
+use Rattle.plan_model.proofs.Words.{Outcome, Placed, Same, Blocked, Skipped, Record, Twig, Clear, cost_of, squared_distance, point_at, point_of, points_of}
+use Rattle.plan_model.proofs.Words.{sum_of, TreeState, GrowsInto, state_of, KeepsOrder, is_placed, mark_at, IsClosed, Nodes, Setup, MayBeCheaper, near_new}
+use Rattle.plan_model.proofs.Words.{SteersTo, EndsPlaced, EndsSkipped, Ends, is_of_worker, turns_of}
+use Rattle.std.proofs.Common.{length-append}
 use Rattle.std.proofs.lemmas.Bool.{eq-eqb}
-use Rattle.std.proofs.lemmas.List.{length-map}
-use Rattle.std.proofs.lemmas.List.Elements.{All-weaker, All-contains}
-use Rattle.std.proofs.lemmas.Option.{slice_get-get_or}
-use Rattle.plan_model.proofs.Words.{Point, MOST_WORKERS, Outcome, Placed, Same, Blocked, Skipped, Record, Twig, Clear, cost_of, squared_distance, point_at}
-use Rattle.plan_model.proofs.Words.{point_of, points_of, sum_of, TreeState, GrowsInto, state_of, KeepsOrder, is_placed, mark_at, IsClosed, Nodes, Setup}
-use Rattle.plan_model.proofs.Words.{MayBeCheaper, near_new, SteersTo, EndsPlaced, EndsSkipped, Ends, is_of_worker, turns_of}
 use Rattle.plan_model.proofs.CostLaws.{cost_of-swap}
 use Rattle.plan_model.proofs.SegmentLaws.{Clear-back}
 use Rattle.plan_model.proofs.CountsBelow.{count-all}

@@ -1,11 +1,9 @@
 -- Rewiring in a textbook run: sums fall, the tree keeps the order law, and no near node stays dearer than by way of the new one.
-use Rattle.std.proofs.Common.{◌≡◌, ℕ, zero, suc, ◌+◌, ◌-◌, ◌*◌, ◌≤◌, List, [], ◌∷◌, Option, arith, refl, sym, ap, ◌∙◌, subst, inl, inr}
-use Rattle.std.specs.Prelude.{◌≢◌, All}
-use Rattle.std.proofs.lemmas.Bool.{cases_eq, cases_lt}
-use Rattle.std.proofs.lemmas.List.Elements.{All-head, All-tail, All-cons, All-nil, All-weaker}
-use Rattle.plan_model.proofs.Words.{Point, Record, Clear, cost_of, squared_distance, point_at, StandsAt, IsPresent, point_of, points_of, parent_of, sum_of}
-use Rattle.plan_model.proofs.Words.{edge_of, CostsFall, AreTight, first_cost_of, GrowsInto, state_of, IsAllowedEdge, Hangs, KeepsOrder, KeepsFirstCosts, Nodes}
-use Rattle.plan_model.proofs.Words.{Setup, cost_through, IsCheaperThrough, with_parent, RewiresOne, Rewires}
+use Rattle.plan_model.proofs.Words.{◌≡◌, ℕ, zero, suc, ◌+◌, ◌-◌, ◌*◌, ◌≤◌, List, [], ◌∷◌, Option, arith, refl, sym, ap, ◌∙◌, subst, inl, inr, ◌≢◌, All}
+use Rattle.plan_model.proofs.Words.{cases_eq, cases_lt, All-head, All-tail, All-cons, All-nil, All-weaker, Point, Record, Clear, cost_of, squared_distance}
+use Rattle.plan_model.proofs.Words.{point_at, StandsAt, IsPresent, point_of, points_of, parent_of, sum_of, edge_of, CostsFall, AreTight, first_cost_of}
+use Rattle.plan_model.proofs.Words.{GrowsInto, state_of, IsAllowedEdge, Hangs, KeepsOrder, KeepsFirstCosts, Nodes, Setup, cost_through, IsCheaperThrough}
+use Rattle.plan_model.proofs.Words.{with_parent, RewiresOne, Rewires}
 use Rattle.plan_model.proofs.ChainLaws.{AreTight-sums}
 use Rattle.plan_model.proofs.NewNodes.{StandsAt-present}
 use Rattle.plan_model.proofs.ParentChanges.{HasCheaperParent, points_of-cheaper_parent, IsPresent-cheaper_parent, parent_new, parent_kept, edge_from}

@@ -1,8 +1,7 @@
 -- A textbook run is closed at the number of its marks.
-use Rattle.std.proofs.Common.{◌≡◌, ℕ, suc, ◌+◌, ◌<◌, List, [], ◌∷◌, ◌++◌, length, arith, refl, sym, ap, ◌∙◌, subst, length-append, append_assoc}
-use Rattle.std.proofs.lemmas.List.{append-nil}
-use Rattle.std.proofs.Math.Seq.{get_or-append_seam}
-use Rattle.plan_model.proofs.Words.{Point, Record, ClearAt, state_of, mark_at, IsClosed, Nodes, Setup, start_alone, HandlesAll, IsTextbookRun}
+use Rattle.plan_model.proofs.Words.{◌≡◌, ℕ, suc, ◌+◌, ◌<◌, List, [], ◌∷◌, ◌++◌, length, arith, refl, sym, ap, ◌∙◌, subst, append-nil, get_or-append_seam, Point}
+use Rattle.plan_model.proofs.Words.{Record, ClearAt, state_of, mark_at, IsClosed, Nodes, Setup, start_alone, HandlesAll, IsTextbookRun}
+use Rattle.std.proofs.Common.{length-append, append_assoc}
 use Rattle.plan_model.proofs.TextbookStates.{IsClosed-start}
 use Rattle.plan_model.proofs.TextbookMarks.{IsTextbookSoFar, IsTextbookSoFar-ends}
 

@@ -1,11 +1,9 @@
 -- The state of a tree and the records of its marks, as in a textbook run: its costs, the start alone, and one number more.
-use Rattle.std.proofs.Common.{◌≡◌, ℕ, zero, suc, ◌≤◌, eqb, cond, List, [], ◌∷◌, ◌++◌, length, Some, None, arith, refl, sym, ap, ◌∙◌, subst}
-use Rattle.std.specs.Prelude.{◌≢◌, slice_get}
-use Rattle.std.proofs.lemmas.Bool.{cond-true, cond-false, eq-eqb, ne_eqb, le-ltb}
-use Rattle.std.proofs.lemmas.Option.{slice_get_past}
-use Rattle.plan_model.proofs.Words.{Point, Record, Twig, ClearAt, StandsAt, IsPresent, point_of, IsFree, node_count, parent_of, points_of, parent_or_zero}
-use Rattle.plan_model.proofs.Words.{sum_of, CostsFall, AreTight, recorded_or, first_cost_of, state_of, IsAllowedEdge, most_cost_of, KeepsOrder, IsClosed, Nodes}
-use Rattle.plan_model.proofs.Words.{Setup, start_alone, cost_through, once_if}
+use Rattle.plan_model.proofs.Words.{◌≡◌, ℕ, zero, suc, ◌≤◌, eqb, cond, List, [], ◌∷◌, ◌++◌, length, Some, None, arith, refl, sym, ap, ◌∙◌, subst, ◌≢◌}
+use Rattle.plan_model.proofs.Words.{slice_get, cond-true, cond-false, ne_eqb, le-ltb, slice_get_past, Point, Record, Twig, ClearAt, StandsAt, IsPresent}
+use Rattle.plan_model.proofs.Words.{point_of, IsFree, node_count, parent_of, points_of, parent_or_zero, sum_of, CostsFall, AreTight, recorded_or, first_cost_of}
+use Rattle.plan_model.proofs.Words.{state_of, IsAllowedEdge, most_cost_of, KeepsOrder, IsClosed, Nodes, Setup, start_alone, cost_through, once_if}
+use Rattle.std.proofs.lemmas.Bool.{eq-eqb}
 use Rattle.plan_model.proofs.ChainLaws.{sums-tight, AreTight-sums}
 use Rattle.plan_model.proofs.DistinctPoints.{AreDistinct-start}
 use Rattle.plan_model.proofs.KeptCosts.{AddsPriced, CostsFall-adds, AreTight-adds}

@@ -1,10 +1,7 @@
 -- The second and the third mark of the worked runs, by where node 2 stands, and the run of all three marks.
-use Rattle.std.proofs.Common.{◌≡◌, ℕ, zero, suc, ◌<◌, List, [], ◌∷◌, refl, arith, inr}
-use Rattle.std.specs.Prelude.{All}
-use Rattle.std.proofs.lemmas.List.Elements.{All-cons, All-nil}
-use Rattle.plan_model.proofs.Words.{Goal, Point, Record, empty_room, IsInRoom, squared_distance, IsFree, IsPresent, IsNotAbove, distance_to, steered, points_of}
-use Rattle.plan_model.proofs.Words.{sum_of, Nodes, MayBeCheaper, near_new, cost_through, Rewires, EndsPlaced, HandlesAll, placed_record, IsTextbookRun, at}
-use Rattle.plan_model.proofs.Words.{open_setup, open_setup_to, node}
+use Rattle.plan_model.proofs.Words.{◌≡◌, ℕ, zero, suc, ◌<◌, List, [], ◌∷◌, refl, arith, inr, All, All-cons, All-nil, Goal, Point, Record, empty_room, IsInRoom}
+use Rattle.plan_model.proofs.Words.{squared_distance, IsFree, IsPresent, IsNotAbove, distance_to, steered, points_of, sum_of, Nodes, MayBeCheaper, near_new}
+use Rattle.plan_model.proofs.Words.{cost_through, Rewires, EndsPlaced, HandlesAll, placed_record, IsTextbookRun, at, open_setup, open_setup_to, node}
 use Rattle.plan_model.proofs.GoalNodes.{no_goal_node}
 use Rattle.plan_model.proofs.LeastPairLaws.{IsNotAbove-refl, IsNotAbove-lesser}
 use Rattle.plan_model.proofs.OpenRoomMarks.{EndsPlaced-placeable, same_x, same_y, cost_2500, cost_2000, one_node, two_nodes, first_mark}

@@ -26,15 +26,9 @@ use Rattle.std.proofs.Common.{
   length-append,
   append_assoc,
 }
-use Rattle.std.specs.Prelude.{option_map, is_some, cond, replicate}
-use Rattle.std.proofs.lemmas.List.{append-nil, get_or_append_left, get_or_past}
-use Rattle.std.proofs.lemmas.List.Sums.{sum_by-append}
-use Rattle.std.proofs.lemmas.Bool.{cases_order}
-use Rattle.std.proofs.Math.Seq.{get_or-append_seam}
-use Rattle.std.proofs.Math.ListN.{get_or-map}
-use Rattle.std.proofs.lemmas.List.{map-append}
-use Rattle.plan_model.proofs.Words.{Point, Twig, point_at, point_of, node_count, node_at, points_of, parent_or_zero, parent_of, chain_within, chain}
-use Rattle.plan_model.proofs.Words.{length_of_path, sum_of}
+use Rattle.plan_model.proofs.Words.{option_map, is_some, cond, replicate, append-nil, get_or_append_left, get_or_past, sum_by-append, cases_order}
+use Rattle.plan_model.proofs.Words.{get_or-append_seam, get_or-map, map-append, Point, Twig, point_at, point_of, node_count, node_at, points_of, parent_or_zero}
+use Rattle.plan_model.proofs.Words.{parent_of, chain_within, chain, length_of_path, sum_of}
 
 -- where node n stands, by the node itself
 pub point_at-points_of : (tree : List (Option Twig)) (n : ℕ) → point_at (points_of tree) n ≡ option_map (λ node. node.point) (node_at tree n)

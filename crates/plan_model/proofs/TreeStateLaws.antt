@@ -1,7 +1,6 @@
 -- What stays of a tree with costs and records from one moment to a later one: its nodes where they are, and no cost rises.
-use Rattle.std.proofs.Common.{◌≡◌, ℕ, ◌≤◌, arith, refl, sym, ap, ◌∙◌, inl, inr}
-use Rattle.std.specs.Prelude.{unwrap_or}
-use Rattle.plan_model.proofs.Words.{Point, point_at, StandsAt, IsPresent, point_of, node_count, TreeState, KeepsOrFalls, GrowsInto}
+use Rattle.plan_model.proofs.Words.{◌≡◌, ℕ, ◌≤◌, arith, refl, sym, ap, ◌∙◌, inl, inr, unwrap_or, Point, point_at, StandsAt, IsPresent, point_of, node_count}
+use Rattle.plan_model.proofs.Words.{TreeState, KeepsOrFalls, GrowsInto}
 use Rattle.plan_model.proofs.NewNodes.{IsPresent-stands, StandsAt-present}
 use Rattle.plan_model.proofs.NodeCounts.{node_count-le}
 

@@ -1,9 +1,5 @@
 -- An edge costs at most as much as two edges over a third point.
-use Rattle.std.proofs.Common.{◌≡◌, ℕ, ◌+◌, ◌-◌, ◌*◌, ◌<◌, ◌≤◌, inl, inr, arith}
-use Rattle.std.proofs.lemmas.Bool.{cases_lt}
-use Rattle.std.proofs.lemmas.Nat.{mul-le}
-use Rattle.std.specs.Int.{abs_diff}
-use Rattle.plan_model.proofs.Words.{Point, cost_of, squared_distance}
+use Rattle.plan_model.proofs.Words.{◌≡◌, ℕ, ◌+◌, ◌-◌, ◌*◌, ◌<◌, ◌≤◌, inl, inr, arith, cases_lt, mul-le, abs_diff, Point, cost_of, squared_distance}
 use Rattle.plan_model.proofs.RootLaws.{root_ceiling-is, lt-from_squares}
 
 ordered_product : (u d : ℕ) → 2 * (u * (u + d)) ≤ u * u + (u + d) * (u + d)

@@ -1,8 +1,7 @@
 -- What was seen is true of a tree: it stays true while the tree grows, and has ways because the tree has them.
-use Rattle.std.proofs.Common.{◌≡◌, ℕ, zero, suc, ◌<◌, ◌≤◌, Option, Some, None, arith, refl, sym, ap, ◌∙◌, subst, inl, inr}
-use Rattle.std.specs.Prelude.{◌≢◌, ◌⊎◌, option_map}
-use Rattle.plan_model.proofs.Words.{Point, point_at, point_of, StandsAt, IsPresent, AreDistinct, KeepsOrFalls, goes_right, IsOnWay, FollowWays, SeenTree}
-use Rattle.plan_model.proofs.Words.{IsSeen, IsRooted, IsOnSeenWay, HasSeenWay, FollowSeenWays, KeepsOrLowers, HasSeenAtLeast, SharedTree, TreeGrows, seen_whole}
+use Rattle.plan_model.proofs.Words.{◌≡◌, ℕ, zero, suc, ◌<◌, ◌≤◌, Option, Some, None, arith, refl, sym, ap, ◌∙◌, subst, inl, inr, ◌≢◌, ◌⊎◌, option_map, Point}
+use Rattle.plan_model.proofs.Words.{point_at, point_of, StandsAt, IsPresent, AreDistinct, KeepsOrFalls, goes_right, IsOnWay, FollowWays, SeenTree, IsSeen}
+use Rattle.plan_model.proofs.Words.{IsRooted, IsOnSeenWay, HasSeenWay, FollowSeenWays, KeepsOrLowers, HasSeenAtLeast, SharedTree, TreeGrows, seen_whole}
 use Rattle.plan_model.proofs.Words.{IsTrueOf}
 use Rattle.plan_model.specs.Seen.SeenTrees.IsOnSeenWay.{begins, goes_on}
 use Rattle.plan_model.proofs.NewNodes.{IsPresent-stands, StandsAt-present, StandsAt-unique}

@@ -1,11 +1,9 @@
 -- Turns that run from 0, with no gap and none twice, are exactly those of which each is counted once.
-use Rattle.std.proofs.Common.{◌≡◌, ℕ, zero, suc, ◌<◌, ◌≤◌, Bool, true, false, eqb, ltb, Option, Some, None}
-use Rattle.std.proofs.Common.{arith, refl, sym, ap, ◌∙◌, subst, inl, inr}
-use Rattle.std.specs.Prelude.{◌≢◌, ◌&&◌, count_by}
-use Rattle.std.specs.List.{range_with_len}
-use Rattle.std.proofs.lemmas.Bool.{cases_eq, cases_lt, cases_Bool, and_parts, and_from, and_left, and_right, eq-eqb, eqb-true, ne_eqb, ltb-true, lt-ltb, le-ltb}
-use Rattle.std.proofs.lemmas.Bool.{true≢false}
-use Rattle.plan_model.proofs.Words.{Record, is_of_worker, turns_of, is_of_turn, times_of, once_if, AreTurns, RunFromZero}
+use Rattle.plan_model.proofs.Words.{◌≡◌, ℕ, zero, suc, ◌<◌, ◌≤◌, Bool, true, false, eqb, ltb, Option, Some, None, arith, refl, sym, ap, ◌∙◌, subst, inl, inr}
+use Rattle.plan_model.proofs.Words.{◌≢◌, ◌&&◌, count_by, range_with_len, cases_eq, cases_lt, cases_Bool, and_parts, and_from, and_left, and_right, eqb-true}
+use Rattle.plan_model.proofs.Words.{ne_eqb, ltb-true, lt-ltb, le-ltb, true≢false, Record, is_of_worker, turns_of, is_of_turn, times_of, once_if, AreTurns}
+use Rattle.plan_model.proofs.Words.{RunFromZero}
+use Rattle.std.proofs.lemmas.Bool.{eq-eqb}
 use Rattle.plan_model.proofs.CountsBelow.{count-longer, count-wider, count-one_more, count-less, count-none, count-single}
 use Rattle.plan_model.proofs.WorkerTurns.{HasTurn, is_of_turn-own, turn_of_record, ltb-next, once_if-below, once_if-past}
 use Rattle.plan_model.proofs.WorkerTurns.{turn-below, HasTurn-below, times-once}

@@ -1,11 +1,9 @@
 -- The textbook run is one run: the same setup and marks give the same tree and the same records.
-use Rattle.std.proofs.Common.{◌≡◌, ℕ, suc, ◌+◌, ◌<◌, ◌≤◌, arith, List, [], ◌∷◌, ◌++◌, Option, Some, refl, sym, ap, ◌∙◌, subst, inl, inr}
-use Rattle.std.specs.Prelude.{Bool, IsTrue}
-use Rattle.std.proofs.Props.{props}
-use mathlib.Core.HLevel.{is_prop→PathP}
-use Rattle.plan_model.proofs.Words.{Point, Scene, Outcome, Placed, Same, Blocked, Skipped, Record, ConfigurationSpace, Clear, steered, class_of}
+use Rattle.plan_model.proofs.Words.{◌≡◌, ℕ, suc, ◌+◌, ◌<◌, ◌≤◌, arith, List, [], ◌∷◌, ◌++◌, Option, Some, refl, sym, ap, ◌∙◌, subst, inl, inr, Bool, IsTrue}
+use Rattle.plan_model.proofs.Words.{props, Point, Scene, Outcome, Placed, Same, Blocked, Skipped, Record, ConfigurationSpace, Clear, steered, class_of}
 use Rattle.plan_model.proofs.Words.{is_zero_unless_placed, StandsAt, IsPresent, point_of, AreDistinct, node_count, distance_to, IsNearest, mark_points}
 use Rattle.plan_model.proofs.Words.{points_of, sum_of, IsGoalNode, HaveSameFields, HaveSameInputs}
+use mathlib.Core.HLevel.{is_prop→PathP}
 use Rattle.plan_model.specs.Runs.Textbook.{
   Nodes,
   Setup,

@@ -1,8 +1,7 @@
 -- A way through a kd-tree is one way: it has one node at each depth, stops at a node at its point, and has one end.
-use Rattle.std.proofs.Common.{◌≡◌, ℕ, zero, suc, ◌<◌, Bool, List, Option, Some, None, arith, refl, sym, ap, ◌∙◌, subst, inl, inr}
-use Rattle.std.specs.Prelude.{◌≢◌, ◌⊎◌, unwrap_or}
-use Rattle.std.proofs.lemmas.Bool.{cases_order, cases_eq}
-use Rattle.plan_model.proofs.Words.{Point, point_at, StandsAt, IsPresent, IsFree, AreDistinct, goes_right, Children, IsOnWay, EndsBelow, FollowWays}
+use Rattle.plan_model.proofs.Words.{◌≡◌, ℕ, zero, suc, ◌<◌, Bool, List, Option, Some, None, arith, refl, sym, ap, ◌∙◌, subst, inl, inr, ◌≢◌, ◌⊎◌, unwrap_or}
+use Rattle.plan_model.proofs.Words.{cases_order, cases_eq, Point, point_at, StandsAt, IsPresent, IsFree, AreDistinct, goes_right, Children, IsOnWay, EndsBelow}
+use Rattle.plan_model.proofs.Words.{FollowWays}
 use Rattle.plan_model.specs.Seen.Ways.IsOnWay.{begins, goes_on}
 use Rattle.plan_model.proofs.NewNodes.{IsPresent-stands, StandsAt-unique}
 

@@ -1,8 +1,7 @@
 -- The nodes of a way through a kd-tree are different, so it is no longer than nodes are present, and it comes to an end.
-use Rattle.std.proofs.Common.{◌≡◌, ℕ, zero, suc, ◌+◌, ◌<◌, ◌≤◌, List, set, Option, Some, None, arith, sym, ap, ◌∙◌, subst, inl, inr}
-use Rattle.std.specs.Prelude.{◌⊎◌, is_some}
-use Rattle.std.proofs.lemmas.List.{get_or-set_same, get_or-set_other}
-use Rattle.plan_model.proofs.Words.{Point, point_at, point_of, StandsAt, IsPresent, IsFree, node_count, Children, IsOnWay, EndsBelow, FollowWays}
+use Rattle.plan_model.proofs.Words.{◌≡◌, ℕ, zero, suc, ◌+◌, ◌<◌, ◌≤◌, List, set, Option, Some, None, arith, sym, ap, ◌∙◌, subst, inl, inr, ◌⊎◌, is_some}
+use Rattle.plan_model.proofs.Words.{get_or-set_same, get_or-set_other, Point, point_at, point_of, StandsAt, IsPresent, IsFree, node_count, Children, IsOnWay}
+use Rattle.plan_model.proofs.Words.{EndsBelow, FollowWays}
 use Rattle.plan_model.specs.Seen.Ways.IsOnWay.{begins}
 use Rattle.plan_model.proofs.NewNodes.{StandsAt-present}
 use Rattle.plan_model.proofs.NodeCounts.{node_count-one_more}

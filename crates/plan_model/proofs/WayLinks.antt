@@ -1,9 +1,7 @@
 -- A node is linked at the end of the way of its point: each node still is where its way leads, and all ways go on as before.
-use Rattle.std.proofs.Common.{◌≡◌, ℕ, zero, suc, Bool, true, false, List, Option, Some, None, refl, sym, ap, ◌∙◌, subst, inl, inr}
-use Rattle.std.specs.Prelude.{◌≢◌, ◌⊎◌, is_some}
-use Rattle.std.proofs.lemmas.Bool.{cases_eq}
-use Rattle.plan_model.proofs.Words.{Point, point_at, point_of, StandsAt, IsPresent, goes_right, Children, IsOnWay, EndsBelow, FollowWays, LinksAt, AddsPoint}
-use Rattle.plan_model.proofs.Words.{FillsPlaces}
+use Rattle.plan_model.proofs.Words.{◌≡◌, ℕ, zero, suc, Bool, true, false, List, Option, Some, None, refl, sym, ap, ◌∙◌, subst, inl, inr, ◌≢◌, ◌⊎◌, is_some}
+use Rattle.plan_model.proofs.Words.{cases_eq, Point, point_at, point_of, StandsAt, IsPresent, goes_right, Children, IsOnWay, EndsBelow, FollowWays, LinksAt}
+use Rattle.plan_model.proofs.Words.{AddsPoint, FillsPlaces}
 use Rattle.plan_model.specs.Seen.Ways.IsOnWay.{begins, goes_on}
 use Rattle.plan_model.proofs.NewNodes.{IsPresent-stands, StandsAt-present, StandsAt-unique}
 use Rattle.plan_model.proofs.WayLaws.{way_start, last_step, same_child, not_empty, way_goes_on, IsOnWay-began}

@@ -1,11 +1,7 @@
 -- That each node of a kd-tree is where its way leads has one proof at most, so a value may keep it as it is.
-use Rattle.std.proofs.Common.{◌≡◌, ℕ, zero, suc, List, Option, Some, None, refl, sym, ◌∙◌, inl, inr, arith}
-use Rattle.std.specs.Prelude.{◌≢◌, Bool}
-use Rattle.std.proofs.Props.{props}
-use Rattle.std.proofs.lemmas.Bool.{cases_eq, cases_lt}
-use Rattle.std.proofs.lemmas.Option.{same_Some}
+use Rattle.plan_model.proofs.Words.{◌≡◌, ℕ, zero, suc, List, Option, Some, None, refl, sym, ◌∙◌, inl, inr, arith, ◌≢◌, Bool, props, cases_eq, cases_lt}
+use Rattle.plan_model.proofs.Words.{same_Some, Point, point_at, StandsAt, IsPresent, Children, goes_right, IsOnWay, FollowWays}
 use mathlib.Core.HLevel.{is_prop→PathP}
-use Rattle.plan_model.proofs.Words.{Point, point_at, StandsAt, IsPresent, Children, goes_right, IsOnWay, FollowWays}
 use Rattle.plan_model.specs.Seen.Ways.IsOnWay.{begins, goes_on}
 use Rattle.plan_model.proofs.WayLaws.{IsOnWay-unique, way_stops}
 

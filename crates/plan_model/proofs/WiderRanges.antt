@@ -1,14 +1,11 @@
 -- What a scene of either version may have, a scene of version 2 may have.
-use Rattle.std.proofs.Common.{◌≡◌, ◌≤◌, ◌&&◌, Bool, ℕ, true, false, eqb, cond, length, List, [], ◌∷◌, refl, arith}
-use Rattle.std.specs.Prelude.{◌≤ℤ◌, nat_le}
-use Rattle.std.specs.List.{list_all}
-use Rattle.std.proofs.lemmas.Bool.{and_parts, and_from, leb-true, le-leb}
-use Rattle.std.proofs.lemmas.Int.{ints}
-use Rattle.plan_model.proofs.Words.{Goal, Point, Vertex, Marks, Drawn, Listed, LEAST_OBSTACLE_COORDINATE, LEAST_OBSTACLE_COORDINATE_OF_VERSION_2}
-use Rattle.plan_model.proofs.Words.{MOST_CLEARANCE, MOST_GOALS, MOST_MARKS, MOST_OBSTACLE_COORDINATE, MOST_OBSTACLE_COORDINATE_OF_VERSION_2}
-use Rattle.plan_model.proofs.Words.{MOST_OBSTACLE_CORNERS, MOST_OBSTACLES, MOST_SIDE, MOST_SIDE_OF_VERSION_2, MOST_STEP, MOST_STEP_OF_VERSION_2}
-use Rattle.plan_model.proofs.Words.{is_strictly_convex, IsBetween, are_goals, are_obstacles, is_corner_between, is_goal, is_mark, is_obstacle, is_plan}
-use Rattle.plan_model.proofs.Words.{may_be_informed, least_obstacle_coordinate, most_clearance, most_goals, most_obstacle_coordinate, most_side, most_step}
+use Rattle.plan_model.proofs.Words.{◌≡◌, ◌≤◌, ◌&&◌, Bool, ℕ, true, false, eqb, cond, length, List, [], ◌∷◌, refl, arith, ◌≤ℤ◌, nat_le, list_all, and_parts}
+use Rattle.plan_model.proofs.Words.{and_from, leb-true, le-leb, ints, Goal, Point, Vertex, Marks, Drawn, Listed, LEAST_OBSTACLE_COORDINATE}
+use Rattle.plan_model.proofs.Words.{LEAST_OBSTACLE_COORDINATE_OF_VERSION_2, MOST_CLEARANCE, MOST_GOALS, MOST_MARKS, MOST_OBSTACLE_COORDINATE}
+use Rattle.plan_model.proofs.Words.{MOST_OBSTACLE_COORDINATE_OF_VERSION_2, MOST_OBSTACLE_CORNERS, MOST_OBSTACLES, MOST_SIDE, MOST_SIDE_OF_VERSION_2, MOST_STEP}
+use Rattle.plan_model.proofs.Words.{MOST_STEP_OF_VERSION_2, is_strictly_convex, IsBetween, are_goals, are_obstacles, is_corner_between, is_goal, is_mark}
+use Rattle.plan_model.proofs.Words.{is_obstacle, is_plan, may_be_informed, least_obstacle_coordinate, most_clearance, most_goals, most_obstacle_coordinate}
+use Rattle.plan_model.proofs.Words.{most_side, most_step}
 use Rattle.plan_model.proofs.SceneBounds.{widened}
 
 -- ---- the limits

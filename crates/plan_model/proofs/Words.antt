@@ -1,4 +1,4 @@
--- The definitions that proofs of this crate are about, passed on from one place. Declares nothing.
+-- The definitions and lemmas that proofs of this crate are about, passed on from one place. Declares nothing.
 pub use Rattle.plan_model.specs.Geometry.Bounds.{IsBounded, IsBoundedBox}
 pub use Rattle.plan_model.specs.Geometry.Convexity.{is_strictly_convex}
 pub use Rattle.plan_model.specs.Geometry.Cost.{cost_of}
@@ -23,8 +23,9 @@ pub use Rattle.plan_model.specs.Scenes.ConvertedScenes.{IsConverted}
 pub use Rattle.plan_model.specs.Scenes.Limits.{IsBetween, are_goals, are_obstacles, by_version, is_body, is_corner_between, is_goal, is_mark, is_obstacle}
 pub use Rattle.plan_model.specs.Scenes.Limits.{is_plan, least_obstacle_coordinate, may_be_informed, most_clearance, most_goals, most_obstacle_coordinate}
 pub use Rattle.plan_model.specs.Scenes.Limits.{most_side, most_step}
-pub use Rattle.plan_model.specs.Scenes.MarkPoints.{BodyFits, IsInSpan, above_zero, below_zero, columns, drawn_mark, first_word, mark_points, mixed, next_state}
-pub use Rattle.plan_model.specs.Scenes.MarkPoints.{picked, points_of_marks, reach, rows, second_word, span_within, strip, strip_of_mark, word_of_state}
+pub use Rattle.plan_model.specs.Scenes.MarkPoints.{BodyFits, IsInSpan, IsMarkOf, above_zero, below_zero, columns, drawn_mark, first_word, is_claimed}
+pub use Rattle.plan_model.specs.Scenes.MarkPoints.{mark_points, mixed, next_state, picked, points_of_marks, quota_of, reach, rows, second_word, span_within}
+pub use Rattle.plan_model.specs.Scenes.MarkPoints.{strip, strip_of_mark, word_of_state}
 pub use Rattle.plan_model.specs.Seen.SeenParents.{AreSeenLawfully}
 pub use Rattle.plan_model.specs.Seen.SeenTrees.{FollowSeenWays, HasSeenAtLeast, HasSeenWay, IsOnSeenWay, IsRooted, IsSeen, IsTrueOf, KeepsOrLowers, SeenTree}
 pub use Rattle.plan_model.specs.Seen.SeenTrees.{SharedTree, TreeGrows, seen_whole}
@@ -47,12 +48,13 @@ pub use Rattle.plan_model.specs.Texts.SceneBatches.{AreSpelledBelow, FailsAtPart
 pub use Rattle.plan_model.specs.Texts.SceneBatches.{part_text, parts_of, separator, text_of}
 pub use Rattle.plan_model.specs.Texts.SceneGrammar.{FailsAt, HasFields, IsSoundBelow, Refused, Spells, body_from, fault_of_end, fault_of_line, first_of}
 pub use Rattle.plan_model.specs.Texts.SceneGrammar.{given_after_version, goal_from, number_or, plan_from, point_from, version_given}
-pub use Rattle.plan_model.specs.Texts.TextLines.{lines_of, onto_first, statements_of, words_of}
-pub use Rattle.plan_model.specs.Texts.TextNumbers.{is_number, value_of}
+pub use Rattle.plan_model.specs.Texts.Streams.{MemSourceState, counted_up, given_count, is_failing, read_into}
+pub use Rattle.plan_model.specs.Texts.TextLines.{lines_of, onto_first, pieces_of, statements_of, words_of}
+pub use Rattle.plan_model.specs.Texts.TextNumbers.{is_number, is_positive, magnitude, value_of}
 pub use Rattle.plan_model.specs.Trees.BestNode.{IsBestNode, IsGoalNode, best_node, goals_of, is_goal_point, is_in_goal, lies_in_goals}
 pub use Rattle.plan_model.specs.Trees.Branches.{IsBranchLowered}
 pub use Rattle.plan_model.specs.Trees.GoalBounds.{least_of, numbers_between, points_of_goal}
-pub use Rattle.plan_model.specs.Trees.LeastPairs.{IsFirstLeast, IsNotAbove, first_least}
+pub use Rattle.plan_model.specs.Trees.LeastPairs.{IsFirstLeast, IsNotAbove, first_least, lesser}
 pub use Rattle.plan_model.specs.Trees.Nearness.{IsNearest, distance_to, is_within, near}
 pub use Rattle.plan_model.specs.Trees.NodeLists.{AreTight, AreTightAlong, CostsFall, FallAlong, chain, chain_by, chain_within, cost_through_by, edge_by}
 pub use Rattle.plan_model.specs.Trees.NodeLists.{edge_of, length_of_path, node_at, parent_of, parent_or_zero, points_of, sum_by, sum_of}
@@ -83,3 +85,39 @@ pub use Rattle.plan_model.specs.declared.tasks.Task.{Task}
 pub use Rattle.plan_model.specs.declared.text_terms.Key.{Key}
 pub use Rattle.plan_model.specs.declared.text_terms.Kind.{Kind}
 pub use Rattle.plan_model.specs.declared.trees.Twig.{Twig}
+pub use Rattle.std.proofs.Common.{Bool, FitsSigned, IfNone, List, None, Option, Some, [], add-one, add-zero, ap, arith, below_more, cond, drop, eqb, false}
+pub use Rattle.std.proofs.Common.{get_or, inl, inr, int_le, leb, length, ltb, map, min, not, of_z, refl, reverse, rules, set, subst, suc, sym, take}
+pub use Rattle.std.proofs.Common.{take-append-drop, take-suc, to_z, true, w32, w64, zero, ℕ, ◌%◌, ◌*◌, ◌++◌, ◌+◌, ◌-◌, ◌/◌, ◌<◌, ◌==◌, ◌^◌, ◌||◌, ◌∙◌, ◌∷◌, ◌≡◌}
+pub use Rattle.std.proofs.Common.{◌≤◌}
+pub use Rattle.std.proofs.Math.ListN.{get_or-map}
+pub use Rattle.std.proofs.Math.Nat.{div-le_of_le-mul, div-le_self, div-mul-le_self, le_of_mul-le-mul_left, le_of_mul-le-mul_right, le_refl, mul-div_cancel_left}
+pub use Rattle.std.proofs.Math.Nat.{mul-pos, pow-le-pow_right, pow-suc}
+pub use Rattle.std.proofs.Math.Seq.{get_or-append_seam}
+pub use Rattle.std.proofs.Props.{props}
+pub use Rattle.std.proofs.lemmas.Bool.{and_from, and_left, and_parts, and_right, cases_Bool, cases_eq, cases_lt, cases_order, cond-false, cond-true, cond_both}
+pub use Rattle.std.proofs.lemmas.Bool.{eqb-false, eqb-true, false_from_ne_true, le-leb, le-ltb, leb-false, leb-true, lt-leb, lt-ltb, ltb-false, ltb-true}
+pub use Rattle.std.proofs.lemmas.Bool.{ne_eqb, or_cases, or_left, or_parts, or_right, true≢false}
+pub use Rattle.std.proofs.lemmas.Bool.Decides.{nat_tests}
+pub use Rattle.std.proofs.lemmas.Grind.{common_steps}
+pub use Rattle.std.proofs.lemmas.Int.{ints, to_z-of_z}
+pub use Rattle.std.proofs.lemmas.Int.Digits.{all_below_base_digits_of, length-digits_of-le, number_digits_of, number_lt}
+pub use Rattle.std.proofs.lemmas.List.{append-nil, at_drop_more, drop-append-le, ext_get_or, get_or-append_right, get_or-set_other, get_or-set_same}
+pub use Rattle.std.proofs.lemmas.List.{get_or_append_left, get_or_past, length-map, length-take-le, length_push, map-append, map-id, map-set, nil_from_length}
+pub use Rattle.std.proofs.lemmas.List.{reverse-append, set-get_or, take-append-le, take_rest}
+pub use Rattle.std.proofs.lemmas.List.Elements.{All-cons, All-contains, All-head, All-map, All-nil, All-push, All-same, All-tail, All-weaker}
+pub use Rattle.std.proofs.lemmas.List.Elements.{Contains-append_cases, Contains-append_left, Contains-append_right, Contains-push, Contains-push_cases}
+pub use Rattle.std.proofs.lemmas.List.Elements.{filter-append, filter_passes}
+pub use Rattle.std.proofs.lemmas.List.Folds.{list_all_at}
+pub use Rattle.std.proofs.lemmas.List.FromFn.{get_or-range_with_len, length-range_with_len, map-range_with_len_more}
+pub use Rattle.std.proofs.lemmas.List.Sums.{AllPass-from_list_all, count_by-le-length, fold_more, length-filter, prefix_len-le-length, sum_by-append}
+pub use Rattle.std.proofs.lemmas.List.Sums.{sum_by-cons, sum_by_push}
+pub use Rattle.std.proofs.lemmas.Nat.{div-add-mod', div-mul-add, div_below, le-div, mod-mul-add, mod_below, mul-le, pow_pos, xor_lt}
+pub use Rattle.std.proofs.lemmas.Option.{same_Some, slice_get-get_or, slice_get_past}
+pub use Rattle.std.proofs.lemmas.Slice.Eq.{bytes_eq-Decides}
+pub use Rattle.std.specs.Cmp.Derive.{both_true}
+pub use Rattle.std.specs.Int.{abs_diff}
+pub use Rattle.std.specs.Int.Digits.{digits_of}
+pub use Rattle.std.specs.List.{flat_map, list_all, list_any, position_or_len, prefix_len, range_with_len}
+pub use Rattle.std.specs.Option.{option_or}
+pub use Rattle.std.specs.Prelude.{All, Contains, IsSome, IsTrue, bit_xor, bytes_eq, count_by, fold, int_div, is_none, is_some, max, nat_eq, nat_le, nat_lt}
+pub use Rattle.std.specs.Prelude.{neg_ℤ, negsuc, option_map, pos, replicate, slice_get, unsigned_abs, unwrap_or, ℤ, ◌&&◌, ◌*ℤ◌, ◌+ℤ◌, ◌-ℤ◌, ◌↔◌, ◌≢◌, ◌≤ℤ◌, ◌⊎◌}

@@ -1,12 +1,8 @@
 -- The turns of a worker are exactly the numbers below the number of its records, so that number is its next turn.
-use Rattle.std.proofs.Common.{◌≡◌, ℕ, suc, ◌<◌, ◌≤◌, Bool, true, false, eqb, ltb, Option, Some, None}
-use Rattle.std.proofs.Common.{arith, refl, sym, ap, ◌∙◌, subst, inl, inr}
-use Rattle.std.specs.Prelude.{◌≢◌, count_by}
-use Rattle.std.specs.List.{range_with_len}
-use Rattle.std.proofs.lemmas.Bool.{cases_eq, cases_lt, and_parts, and_from, and_left, and_right, eq-eqb, eqb-true, ne_eqb, lt-ltb, le-ltb}
-use Rattle.std.proofs.lemmas.List.FromFn.{length-range_with_len}
-use Rattle.std.proofs.lemmas.List.Sums.{count_by-le-length}
-use Rattle.plan_model.proofs.Words.{Record, is_of_worker, turns_of, is_of_turn, times_of, once_if, AreTurns}
+use Rattle.plan_model.proofs.Words.{◌≡◌, ℕ, suc, ◌<◌, ◌≤◌, Bool, true, false, eqb, ltb, Option, Some, None, arith, refl, sym, ap, ◌∙◌, subst, inl, inr, ◌≢◌}
+use Rattle.plan_model.proofs.Words.{count_by, range_with_len, cases_eq, cases_lt, and_parts, and_from, and_left, and_right, eqb-true, ne_eqb, lt-ltb, le-ltb}
+use Rattle.plan_model.proofs.Words.{length-range_with_len, count_by-le-length, Record, is_of_worker, turns_of, is_of_turn, times_of, once_if, AreTurns}
+use Rattle.std.proofs.lemmas.Bool.{eq-eqb}
 use Rattle.plan_model.proofs.CountsBelow.{count-same, count-longer, count-one_more, count-some, count-found, count-unique}
 use Rattle.plan_model.proofs.NextRecords.{RecordsMark}
 

@@ -1,11 +1,9 @@
 -- The run in which the radius falls.
-use Rattle.std.proofs.Common.{◌≡◌, ℕ, [], ◌∷◌, refl, arith, inr}
-use Rattle.std.specs.Prelude.{All}
-use Rattle.std.proofs.lemmas.List.Elements.{All-cons, All-nil}
+use Rattle.plan_model_tests.proofs.Words.{◌≡◌, ℕ, [], ◌∷◌, refl, arith, inr, All, All-cons, All-nil, falling_marks, falling_tree, falling_records}
 use Rattle.plan_model_tests.proofs.Common.{empty_room, IsNotAbove, Nodes, cost_through, Rewires, EndsPlaced, placed_record, IsTextbookRun, sum_of, node, at}
 use Rattle.plan_model_tests.proofs.Common.{IsNotAbove-refl, IsNotAbove-lesser, root_ceiling-from_squares}
 use Rattle.plan_model.specs.Geometry.Roots.{root_ceiling}
-use Rattle.plan_model_tests.specs.NarrowRuns.{narrow_setup, falling_marks, falling_tree, falling_records}
+use Rattle.plan_model_tests.specs.NarrowRuns.{narrow_setup}
 use Rattle.plan_model_tests.proofs.NarrowMarks.{EndsPlaced-placeable}
 
 -- ---- the costs of edges, by the squares of their lengths

@@ -1,11 +1,10 @@
 -- Records of the third mark that are lawful. Of the nodes the start and node 1 alone are earlier.
-use Rattle.std.proofs.Common.{◌≡◌, ℕ, zero, suc, ◌+◌, ◌≤◌, false, arith, refl, sym, subst}
+use Rattle.plan_model_tests.proofs.Words.{◌≡◌, ℕ, zero, suc, ◌+◌, ◌≤◌, false, arith, refl, sym, subst, IsThird, entry_by, room_by, third, third_with}
 use Rattle.plan_model_tests.proofs.Common.{Point, Record, Clear, cost_of, empty_room, squared_distance, IsNotAbove, distance_to, is_within, IsAllowedEdge}
 use Rattle.plan_model_tests.proofs.Common.{IsPresent, point_at, point_of, HangsLawfully, HasClass, IsEarlier, IsLawfulRecord, IsNeighbour, IsPlacedLawfully}
 use Rattle.plan_model_tests.proofs.Common.{first_cost_through, TreeState, at, AreInRoom-from_clear, Clear-empty_room, no_goal_node, cost_2000, cost_2500}
 use Rattle.plan_model_tests.proofs.Common.{root_ceiling-from_squares, steered-near}
 use Rattle.plan_model.specs.Geometry.Roots.{root_ceiling}
-use Rattle.plan_model_tests.specs.UnlawfulRecords.{IsThird, entry_by, room_by, third, third_with}
 
 -- from node 2 to node 3
 pub cost_520 : root_ceiling 34078720 ≡ 5838

@@ -17,3 +17,4 @@ pub mod SkippedRun
 pub mod OpenedRuns
 pub mod Common
 pub mod RouteExamples
+mod Words

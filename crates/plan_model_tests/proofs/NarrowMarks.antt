@@ -1,10 +1,7 @@
 -- Marks in the room of the narrow runs, which are placed at themselves, by what computes of them.
-use Rattle.std.proofs.Common.{◌≡◌, ℕ, suc, ◌*◌, List, [], ◌∷◌, ◌++◌, length, Option, Some, true, refl, sym, ap, ◌∙◌, subst, arith}
-use Rattle.std.specs.Prelude.{All, Contains, filter, is_some}
-use Rattle.std.specs.Int.{abs_diff}
-use Rattle.std.specs.List.{range_with_len}
+use Rattle.plan_model_tests.proofs.Words.{◌≡◌, ℕ, suc, ◌*◌, List, [], ◌∷◌, ◌++◌, length, Option, Some, true, refl, sym, ap, ◌∙◌, subst, arith, All, Contains}
+use Rattle.plan_model_tests.proofs.Words.{filter, is_some, abs_diff, range_with_len, All-contains}
 use Rattle.std.proofs.lemmas.Bool.{le-leb}
-use Rattle.std.proofs.lemmas.List.Elements.{All-contains}
 use Rattle.plan_model_tests.proofs.Common.{Point, empty_room, IsInRoom, squared_distance, steered, class_of, point_at, point_of, IsFree, IsPresent, node_count}
 use Rattle.plan_model_tests.proofs.Common.{IsNotAbove, first_least, distance_to, is_within, near, IsNearest, points_of, sum_of, Nodes, near_new, cost_through}
 use Rattle.plan_model_tests.proofs.Common.{Rewires, EndsPlaced, placed_record, at, node, IsPresent-below, Clear-empty_room, MayBeCheaper-not_skipping}

@@ -1,11 +1,10 @@
 -- A run of one mark that ended at the start is closed; each other state breaks the clause that its name says.
-use Rattle.std.proofs.Common.{◌≡◌, ℕ, zero, suc, ◌<◌, ◌≤◌, Some, None, ◌∷◌, [], ap, arith, refl, subst}
-use Rattle.std.specs.Prelude.{◌↔◌, IsSome, unwrap_or}
+use Rattle.plan_model_tests.proofs.Words.{◌≡◌, ℕ, zero, suc, ◌<◌, ◌≤◌, Some, None, ◌∷◌, [], ap, arith, refl, subst, ◌↔◌, IsSome, unwrap_or, ended_at_start}
+use Rattle.plan_model_tests.proofs.Words.{one_node_more, overlapped_with, start_below_a_node}
 use Rattle.plan_model_tests.proofs.Common.{Placed, Record, IsClosed, mark_at, empty_room, IsNotAbove, distance_to, HangsBelow, KeepsOrder, most_cost_of}
 use Rattle.plan_model_tests.proofs.Common.{IsPresent, node_count, IsEarlier, IsLawfulRecord, same_record, RunFromZero, placed_by, early_record, overlapped}
 use Rattle.plan_model_tests.proofs.Common.{open_setup, marks_to_rewire, at, AreDistinct-placed, Clear-empty_room, no_goal_node, IsNotAbove-refl}
 use Rattle.plan_model_tests.proofs.Common.{ArePlacedMarks-from, Clear-first, AreTurns-counted}
-use Rattle.plan_model_tests.specs.UnclosedRuns.{ended_at_start, one_node_more, overlapped_with, start_below_a_node}
 use Rattle.plan_model_tests.proofs.NarrowMarks.{IsFree-computed}
 use Rattle.plan_model_tests.proofs.UnlawfulOrders.{none_distinct}
 

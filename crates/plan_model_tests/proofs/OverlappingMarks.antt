@@ -1,6 +1,5 @@
 -- The run of two workers whose first marks overlap is closed.
-use Rattle.std.proofs.Common.{◌≡◌, ℕ, zero, suc, ◌+◌, ◌*◌, ◌<◌, ◌≤◌, Some, None, arith, refl, sym, ap, ◌∙◌, subst}
-use Rattle.std.specs.Prelude.{◌↔◌, IsSome, ◌/◌, unwrap_or}
+use Rattle.plan_model_tests.proofs.Words.{◌≡◌, ℕ, zero, suc, ◌+◌, ◌*◌, ◌<◌, ◌≤◌, Some, None, arith, refl, sym, ap, ◌∙◌, subst, ◌↔◌, IsSome, ◌/◌, unwrap_or}
 use Rattle.plan_model_tests.proofs.Common.{Point, Placed, Record, IsClosed, mark_at, cost_of, squared_distance, IsNotAbove, distance_to, HangsBelow}
 use Rattle.plan_model_tests.proofs.Common.{IsAllowedEdge, most_cost_of, StandsAt, IsPresent, point_of, node_count, IsEarlier, IsLawfulRecord, IsPlacedLawfully}
 use Rattle.plan_model_tests.proofs.Common.{first_cost_through, advanced, steered, early_record, overlapped, placed_by, open_setup, marks_to_rewire, at}

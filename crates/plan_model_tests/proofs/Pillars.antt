@@ -1,8 +1,5 @@
 -- A point body to the left of a pillar or above it, beyond the clearance, does not meet it.
-use Rattle.std.proofs.Common.{◌≡◌, ℕ, ◌+◌, ◌*◌, ◌<◌, [], ◌∷◌, arith, ap}
-use Rattle.std.specs.Prelude.{pos, ◌-ℤ◌, ◌*ℤ◌, sum}
-use Rattle.std.proofs.lemmas.Int.{ints}
-use Rattle.std.proofs.lemmas.Nat.{mul-le}
+use Rattle.plan_model_tests.proofs.Words.{◌≡◌, ℕ, ◌+◌, ◌*◌, ◌<◌, [], ◌∷◌, arith, ap, pos, ◌-ℤ◌, ◌*ℤ◌, sum, ints, mul-le}
 use Rattle.plan_model_tests.proofs.Common.{Rational, weighted, IsWithin, Meets, point_body, pillar}
 use Rattle.plan_model_tests.proofs.ShortLists.{one, four}
 

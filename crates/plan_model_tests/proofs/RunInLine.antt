@@ -1,11 +1,9 @@
 -- The run in which the first near node that is rewired decides that the next one stays.
-use Rattle.std.proofs.Common.{◌≡◌, ℕ, [], ◌∷◌, refl, arith, inl, inr}
-use Rattle.std.specs.Prelude.{All}
-use Rattle.std.proofs.lemmas.List.Elements.{All-cons, All-nil}
+use Rattle.plan_model_tests.proofs.Words.{◌≡◌, ℕ, [], ◌∷◌, refl, arith, inl, inr, All, All-cons, All-nil, marks_in_line, tree_in_line, records_in_line}
 use Rattle.plan_model_tests.proofs.Common.{empty_room, IsNotAbove, Nodes, cost_through, IsCheaperThrough, Rewires, EndsPlaced, placed_record, IsTextbookRun}
 use Rattle.plan_model_tests.proofs.Common.{sum_of, node, at, Clear-empty_room, IsNotAbove-refl, IsNotAbove-lesser, root_ceiling-from_squares}
 use Rattle.plan_model.specs.Geometry.Roots.{root_ceiling}
-use Rattle.plan_model_tests.specs.NarrowRuns.{narrow_setup, marks_in_line, tree_in_line, records_in_line}
+use Rattle.plan_model_tests.specs.NarrowRuns.{narrow_setup}
 use Rattle.plan_model_tests.proofs.NarrowMarks.{EndsPlaced-placeable}
 
 -- ---- the costs of edges, by the squares of their lengths

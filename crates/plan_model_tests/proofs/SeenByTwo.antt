@@ -1,7 +1,5 @@
 -- What two workers have seen of a kd-tree of five nodes is true of the tree, and the one takes it over from the other.
-use Rattle.std.proofs.Common.{◌≡◌, ℕ, zero, suc, Bool, true, false, Some, arith, refl, ap, inl, inr}
-use Rattle.std.specs.Prelude.{unwrap_or}
-use Rattle.std.specs.Option.{option_or}
+use Rattle.plan_model_tests.proofs.Words.{◌≡◌, ℕ, zero, suc, Bool, true, false, Some, arith, refl, ap, inl, inr, unwrap_or, option_or}
 use Rattle.plan_model_tests.proofs.Common.{Point, point_at, StandsAt, KeepsOrLowers, HasSeenAtLeast, IsTrueOf, seen_whole, IsLaterMoment, TakesOver, cheaper_of}
 use Rattle.plan_model_tests.proofs.Common.{at_entry, at_return, of_other, of_both, tree_now, tree_before, four_children, five_children, others_children}
 use Rattle.plan_model_tests.proofs.Common.{five_points, others_points, three_children, three_points, IsLaterMoment-takes}

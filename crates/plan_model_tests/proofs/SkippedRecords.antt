@@ -1,8 +1,7 @@
 -- Records of skipped marks, and of marks that are not skipped beside a goal node.
-use Rattle.std.proofs.Common.{ℕ, zero, suc, ◌<◌, [], ◌∷◌, arith, refl}
+use Rattle.plan_model_tests.proofs.Words.{ℕ, zero, suc, ◌<◌, [], ◌∷◌, arith, refl, IsFourth, at_node_3, goal_of_2, goal_reached, skipped_by}
 use Rattle.plan_model_tests.proofs.Common.{IsEarlier, mark_bound, IsGoalNode, IsNotAbove, distance_to, TreeState, first_cost_of, box}
 use Rattle.plan_model_tests.proofs.Common.{open_setup_to, at, no_goal_node}
-use Rattle.plan_model_tests.specs.SkippedMarks.{IsFourth, at_node_3, goal_of_2, goal_reached, skipped_by}
 use Rattle.plan_model_tests.proofs.WorkedBounds.{nearer_by_the_second, to_a_point}
 
 -- ---- skipped

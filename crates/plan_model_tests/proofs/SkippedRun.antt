@@ -1,10 +1,9 @@
 -- The run whose last mark is skipped by node 2, which lies in the goal and costs as much as the bound of the mark.
-use Rattle.std.proofs.Common.{◌≡◌, ℕ, zero, suc, [], ◌∷◌, ◌++◌, None, arith, refl}
+use Rattle.plan_model_tests.proofs.Words.{◌≡◌, ℕ, zero, suc, [], ◌∷◌, ◌++◌, None, arith, refl, goal_of_2, marks_to_skip, skipped_records, skipped_tree}
 use Rattle.plan_model_tests.proofs.Common.{EndsSkipped, IsTextbookRun, MayBeCheaper, skipped_record, IsGoalNode, IsNotAbove, points_of, sum_of}
 use Rattle.plan_model_tests.proofs.Common.{open_setup_to, rewired_tree, at, IsNotAbove-refl, cost_2441, cost_2500, rewired_run_with_more, rewired_sum}
 use Rattle.plan_model.proofs.OpenRoomMarks.{one_node, two_nodes}
 use Rattle.plan_model.proofs.ThreeMarks.{three_nodes}
-use Rattle.plan_model_tests.specs.SkippedMarks.{goal_of_2, marks_to_skip, skipped_records, skipped_tree}
 use Rattle.plan_model_tests.proofs.WorkedBounds.{to_a_point}
 
 first_is_open : MayBeCheaper (open_setup_to goal_of_2) (sum_of one_node) (points_of one_node) (at 0 50)

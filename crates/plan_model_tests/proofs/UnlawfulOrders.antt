@@ -1,10 +1,9 @@
 -- The start and two nodes keep the order law, and so does a start alone; each other tree breaks the clause that its name says.
-use Rattle.std.proofs.Common.{◌≡◌, ℕ, zero, suc, ◌≤◌, Option, Some, List, [], ◌∷◌, arith, refl}
+use Rattle.plan_model_tests.proofs.Words.{◌≡◌, ℕ, zero, suc, ◌≤◌, Option, Some, List, [], ◌∷◌, arith, refl, room_to, tree_of, three_points, start_for_all}
 use Rattle.plan_model_tests.proofs.Common.{Point, empty_room, squared_distance, HangsBelow, IsAllowedEdge, KeepsOrder, most_cost_of, AreDistinct, IsPresent}
 use Rattle.plan_model_tests.proofs.Common.{node_count, at, AreDistinct-placed, AreInRoom-from_clear, Clear-empty_room, IsInRoom-from_clear_at, cost_2500}
 use Rattle.plan_model_tests.proofs.Common.{same_x, root_ceiling-from_squares, Clear-first}
 use Rattle.plan_model.specs.Geometry.Roots.{root_ceiling}
-use Rattle.plan_model_tests.specs.UnlawfulTrees.{room_to, tree_of, three_points, start_for_all}
 use Rattle.plan_model_tests.proofs.NarrowMarks.{IsFree-computed}
 
 cost_100 : root_ceiling 6553600 ≡ 2560

@@ -1,7 +1,6 @@
 -- Records of the third mark each of which breaks the clause that its name says.
-use Rattle.std.proofs.Common.{arith, refl}
+use Rattle.plan_model_tests.proofs.Words.{arith, refl, IsThird, entry_by, room_by, third, third_with}
 use Rattle.plan_model_tests.proofs.Common.{empty_room, IsLawfulRecord, at, AreInRoom-from_clear, cost_2000, cost_2500, same_x}
-use Rattle.plan_model_tests.specs.UnlawfulRecords.{IsThird, entry_by, room_by, third, third_with}
 use Rattle.plan_model_tests.proofs.LawfulThird.{clear_in, cost_520}
 
 pub own_node_is_nearer : ¬ IsThird 100 50 third (entry_by 0 0 12800 2)

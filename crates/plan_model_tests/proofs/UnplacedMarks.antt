@@ -1,10 +1,9 @@
 -- Records of marks without a node: some are lawful, and each of the others breaks the clause that its name says.
-use Rattle.std.proofs.Common.{◌≡◌, ℕ, zero, suc, ◌≤◌, ap, arith, refl, subst, sym}
+use Rattle.plan_model_tests.proofs.Words.{◌≡◌, ℕ, zero, suc, ◌≤◌, ap, arith, refl, subst, sym, ended, halfway, room_by, start_at}
 use Rattle.plan_model_tests.proofs.Common.{Point, Same, Blocked, Record, empty_room, IsNotAbove, distance_to, StandsAt, IsBlockedLawfully, IsEarlier}
 use Rattle.plan_model_tests.proofs.Common.{IsLawfulRecord, advanced, steered, unplaced_record, at, AreInRoom-from_clear, Clear-empty_room, no_goal_node}
 use Rattle.plan_model_tests.proofs.Common.{IsNotAbove-lesser, IsNotAbove-refl, same_x, same_y, root_ceiling-from_squares}
 use Rattle.plan_model.specs.Geometry.Roots.{root_ceiling}
-use Rattle.plan_model_tests.specs.UnlawfulRecords.{ended, halfway, room_by, start_at}
 
 -- ---- at a node
 

@@ -1,12 +1,9 @@
 -- Bounds by the nearest lattice point of a goal, to which no other is nearer in either coordinate.
-use Rattle.std.proofs.Common.{◌≡◌, ◌≤◌, [], ◌∷◌, arith, refl, ◌∙◌, inl, inr}
-use Rattle.std.specs.Prelude.{IsTrue}
-use Rattle.std.specs.Int.{abs_diff}
+use Rattle.plan_model_tests.proofs.Words.{◌≡◌, ◌≤◌, [], ◌∷◌, arith, refl, ◌∙◌, inl, inr, IsTrue, abs_diff, goal_of_2}
 use Rattle.plan_model_tests.proofs.Common.{Goal, Point, cost_of, is_in_goal, lies_in_goals, box, at, bound_of-is, cost_of-le, squared_distance-le, IsInside}
 use Rattle.plan_model_tests.proofs.Common.{in_goal_parts, or_cases, cost_2500, cost_2401, root_ceiling-from_squares, root_ceiling-zero}
 use Rattle.plan_model.specs.Geometry.Roots.{root_ceiling}
 use Rattle.plan_model.specs.Trees.GoalBounds.{bound_of}
-use Rattle.plan_model_tests.specs.SkippedMarks.{goal_of_2}
 
 edge_of_5 : root_ceiling 1638400 ≡ 1280
 edge_of_5 = root_ceiling-from_squares 1638400 1280 (omega arith) (omega arith)

@@ -1,36 +1,25 @@
 -- The steps of a seat, as the table asks for them: whatever its words are then, the law of worlds holds after the step.
-use Rattle.std.proofs.Common.{◌≡◌, ℕ, suc, ◌+◌, ◌%◌, ◌<◌, ◌≤◌, ◌^◌, Bool, true, false, List, ◌∷◌}
-use Rattle.std.proofs.Common.{length, set, Some, None, refl, sym, ap, ◌∙◌, subst, arith}
-use Rattle.std.specs.Prelude.{◌≢◌, ◌==◌, cond, min, slice_index, slice_set}
-use Rattle.std.proofs.lemmas.Bool.{eqb-false, eqb-true}
-use Rattle.std.proofs.lemmas.List.{length-set, set-get_or}
-use Rattle.std.proofs.lemmas.Option.{same_Some}
+use Rattle.plan_words.proofs.Words.{◌≡◌, ℕ, suc, ◌+◌, ◌%◌, ◌<◌, ◌≤◌, ◌^◌, Bool, true, false, List, ◌∷◌, length, set, Some, None, refl, sym, ap, ◌∙◌, subst}
+use Rattle.plan_words.proofs.Words.{arith, ◌≢◌, ◌==◌, cond, min, slice_index, slice_set, eqb-false, eqb-true, length-set, set-get_or, same_Some, State, Me, Act}
+use Rattle.plan_words.proofs.Words.{step, Valid, carried_after, Allows, Splits, Joins, keeps, Aim, FindsGoalNode, Claims, Counts, FindsAsSeen, FindsCount}
+use Rattle.plan_words.proofs.Words.{FindsPoint, FindsTree, FindsWholeCount, Finishes, Links, Loads, LoadsBest, Lowers, Posts, TellsHand, WritesFirst}
+use Rattle.plan_words.proofs.Words.{WritesPoint, WritesTree, exchanged_at, GoesOn, HasWholeShare, HoldsWorld, IsLater, IsUnskipped, MayPost, MayRecord}
+use Rattle.plan_words.proofs.Words.{MayBeRecorded, best_loaded, best_with, hand_with_best, hand_with_post, posted, claimed, counted, finished, finished_at}
+use Rattle.plan_words.proofs.Words.{half, joined, last_note, linked, linked_at, loaded, looker, lowered, mark_of, pair_in_hand, live, noting, parted, place_in}
+use Rattle.plan_words.proofs.Words.{pointed, saw_at, steps_then, treed, worker_apart, IsSteered, LeadsTo, MayHang, MayLoad, MayLower, run_sizes, sees, share}
+use Rattle.plan_words.proofs.Words.{spent, words_of_run, IsWorld, IsTurnWord-packed, IsWorld-recorded, in_hand, IsLater-claimed, IsLater-finished}
+use Rattle.plan_words.proofs.Words.{IsLater-loaded, IsLawfulView-world, own_count-most, at-set, IsWorld-joined, IsCut-looker, IsCut-parted, IsWorld-cut}
+use Rattle.plan_words.proofs.Words.{count-most, IsLater-lowered, IsWorld-lowered, lower-found, tree-written, IsLater-link, IsWorld-counted, IsWorld-half}
+use Rattle.plan_words.proofs.Words.{IsWorld-linked, IsWorld-pointed, IsWorld-treed, IsLater-counted, IsLater-half, IsLater-pointed, IsLater-treed, HasWord-load}
+use Rattle.plan_words.proofs.Words.{IsWorld-claimed, IsWorld-loaded, seen_within, IsLater-best, IsWorld-best_loaded, IsWorld-posted, Word, Words, WritesWord}
+use Rattle.plan_words.proofs.Words.{Best, ChildOf, Count, Counter, FirstOf, PointOf, RecordOf, TreeOf, HasWord, place_of, Point, Record, FitsWord, best_cost_in}
+use Rattle.plan_words.proofs.Words.{best_node_in, best_word, no_best, cost_in, parent_in, point_word, record_word, tree_word, WritesWord-set, word-found, Hand}
+use Rattle.plan_words.proofs.Words.{Member, SharedRun, Claimed, Half, Linked, Pointed, Treed, View}
 use mathlib.Core.Option.{none, some}
 use prog.Atomic.{either}
 use lib.ListN.{get_elem?}
-use Rattle.atomic_table.specs.Table.{State, Me, Act, step, stepped, Valid, carried_after, Allows, Splits, Joins}
-use Rattle.atomic_table.specs.Table.Act.{keeps}
-use Rattle.plan_words.proofs.Words.{Aim, FindsGoalNode, Claims, Counts, FindsAsSeen, FindsCount, FindsPoint, FindsTree, FindsWholeCount, Finishes, Links, Loads}
-use Rattle.plan_words.proofs.Words.{LoadsBest, Lowers, Posts, TellsHand, WritesFirst, WritesPoint, WritesTree, exchanged_at, GoesOn, HasWholeShare, HoldsWorld}
-use Rattle.step_core.proofs.Common.{IsLater, IsUnskipped, MayPost, MayRecord, MayBeRecorded, best_loaded, best_with, hand_with_best, hand_with_post}
-use Rattle.step_core.proofs.Common.{posted, claimed}
-use Rattle.step_core.proofs.Common.{counted, finished, finished_at, half, joined, last_note, linked, linked_at, loaded, looker, lowered, mark_of, pair_in_hand}
-use Rattle.step_core.proofs.Common.{live, noting, parted, place_in, pointed, saw_at, steps_then, treed, worker_apart, IsSteered, LeadsTo}
-use Rattle.step_core.proofs.Common.{MayHang, MayLoad, MayLower}
-use Rattle.step_core.proofs.Common.{run_sizes, sees, share, spent, words_of_run, IsWorld, IsTurnWord-packed, IsWorld-recorded, in_hand, IsLater-claimed}
-use Rattle.step_core.proofs.Common.{IsLater-finished, IsLater-loaded, IsLawfulView-world, own_count-most, at-set, IsWorld-joined, IsCut-looker, IsCut-parted}
-use Rattle.step_core.proofs.Common.{IsWorld-cut, count-most, IsLater-lowered, IsWorld-lowered, lower-found, tree-written, IsLater-link, IsWorld-counted}
-use Rattle.step_core.proofs.Common.{IsWorld-half, IsWorld-linked, IsWorld-pointed, IsWorld-treed, IsLater-counted, IsLater-half, IsLater-pointed, IsLater-treed}
-use Rattle.step_core.proofs.Common.{HasWord-load, IsWorld-claimed, IsWorld-loaded, seen_within, IsLater-best, IsWorld-best_loaded, IsWorld-posted}
+use Rattle.atomic_table.specs.Table.{stepped}
 use Rattle.step_core.specs.ViewSteps.{stepped as one_step}
-use Rattle.grown_runs.proofs.Common.{Word, Words, WritesWord, Best, ChildOf, Count, Counter, FirstOf, PointOf, RecordOf, TreeOf, HasWord, place_of, Point}
-use Rattle.grown_runs.proofs.Common.{Record, FitsWord, best_cost_in, best_node_in, best_word, no_best, cost_in, parent_in, point_word, record_word, tree_word}
-use Rattle.grown_runs.proofs.Common.{WritesWord-set, word-found}
-use Rattle.step_core.specs.declared.views.Hand.{Hand}
-use Rattle.step_core.specs.declared.views.Member.{Member}
-use Rattle.step_core.specs.declared.views.SharedRun.{SharedRun}
-use Rattle.step_core.specs.declared.views.Stage.TheVariants.{Claimed, Half, Linked, Pointed, Treed}
-use Rattle.step_core.specs.declared.views.View.{View}
 use Rattle.plan_words.proofs.WholeViews.{best-as_seen, best-whole, word_count-whole, words-whole}
 use Rattle.plan_words.proofs.WrittenPoints.{written-seen}
 

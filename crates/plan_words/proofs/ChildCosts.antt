@@ -1,10 +1,8 @@
 -- A child costs at most what it costs through its parent, or it may be lowered to that.
-use Rattle.std.proofs.Common.{◌≡◌, ◌≢◌, ℕ, ◌+◌, ◌<◌, ◌≤◌, ◌^◌, refl, sym, ap, ◌∙◌, subst, arith}
-use Rattle.grown_runs.proofs.Common.{Point, cost_of, TreeOf, cost_in, parent_in, tree_word, cost_in-tree_word, parent_in-tree_word}
-use Rattle.plan_words.proofs.Words.{CostsAtMostThrough, IsSeenAbove, LooksOn, GoesOn, HasSeenParent, Above}
+use Rattle.plan_words.proofs.Words.{◌≡◌, ◌≢◌, ℕ, ◌+◌, ◌<◌, ◌≤◌, ◌^◌, refl, sym, ap, ◌∙◌, subst, arith, Point, cost_of, TreeOf, cost_in, parent_in, tree_word}
+use Rattle.plan_words.proofs.Words.{cost_in-tree_word, parent_in-tree_word, CostsAtMostThrough, IsSeenAbove, LooksOn, GoesOn, HasSeenParent, Above}
+use Rattle.plan_words.proofs.Words.{IsLawfulView, IsCostBelow, MayLower, SeesPoint, sees, SeesPoint-later, View}
 use Rattle.plan_words.proofs.KeptPairs.{fits_word}
-use Rattle.step_core.proofs.Common.{IsLawfulView, IsCostBelow, MayLower, SeesPoint, sees, SeesPoint-later}
-use Rattle.step_core.specs.declared.views.View.{View}
 
 -- a point that is seen stays
 pub stands_on : (before after : View) (n : ℕ) (p : Point) → GoesOn before after → SeesPoint before n p → SeesPoint after n p

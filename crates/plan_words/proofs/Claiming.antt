@@ -1,15 +1,10 @@
 -- The scan of a claim over the views of its pass, and what a claim leaves.
-use Rattle.std.proofs.Common.{◌≡◌, ◌≢◌, ℕ, ◌+◌, ◌-◌, ◌*◌, ◌%◌, ◌<◌, ◌≤◌, Bool, max, true}
-use Rattle.std.proofs.Common.{Option, Some, None, refl, sym, ap, ◌∙◌, subst, inl, inr, arith}
-use Rattle.std.specs.Prelude.{◌==◌, cond, MatchOption, IfNone, IfSome}
-use Rattle.std.proofs.lemmas.Bool.{cases_eq, eq-eqb, ne_eqb}
-use Rattle.std.proofs.lemmas.Nat.{mod-mul-add, mul-le}
-use Rattle.grown_runs.proofs.Common.{sum-le, ChangesOnly, IsCounter, Words, WritesWord, Counter}
-use Rattle.plan_words.proofs.Words.{AllFull, AllLoaded, GoesBefore, IsClaimed, IsFirst, IsOpen, KeepsHand, better_of, is_own, next_mark, BelongsTo, PassState}
-use Rattle.plan_words.proofs.Words.{SharedState, with_view, worker_of, ClaimOrder, Next}
-use Rattle.step_core.proofs.Common.{IsLater, claimed, last_note, loaded, mark_of, new_hand, last_look, sees}
-use Rattle.step_core.specs.declared.views.SharedRun.{SharedRun}
-use Rattle.step_core.specs.declared.views.View.{View}
+use Rattle.plan_words.proofs.Words.{◌≡◌, ◌≢◌, ℕ, ◌+◌, ◌-◌, ◌*◌, ◌%◌, ◌<◌, ◌≤◌, Bool, max, true, Option, Some, None, refl, sym, ap, ◌∙◌, subst, inl, inr, arith}
+use Rattle.plan_words.proofs.Words.{◌==◌, cond, MatchOption, IfNone, IfSome, cases_eq, ne_eqb, mod-mul-add, mul-le, sum-le, ChangesOnly, IsCounter, Words}
+use Rattle.plan_words.proofs.Words.{WritesWord, Counter, AllFull, AllLoaded, GoesBefore, IsClaimed, IsFirst, IsOpen, KeepsHand, better_of, is_own, next_mark}
+use Rattle.plan_words.proofs.Words.{BelongsTo, PassState, SharedState, with_view, worker_of, ClaimOrder, Next, IsLater, claimed, last_note, loaded, mark_of}
+use Rattle.plan_words.proofs.Words.{new_hand, last_look, sees, SharedRun, View}
+use Rattle.std.proofs.lemmas.Bool.{eq-eqb}
 use Rattle.plan_words.proofs.Scanning.{Scanned, Scanned-all, Scanned-more, left_over, sum_less}
 
 -- ---- one load of the scan

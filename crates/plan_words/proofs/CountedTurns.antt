@@ -1,12 +1,8 @@
 -- How many records each worker has among the words of a run, when one mark more is read.
-use Rattle.std.proofs.Common.{◌≡◌, ℕ, suc, ◌+◌, ◌<◌, ◌≤◌, Bool, true, false, cond, List, length, replicate, Option, Some, None, sym, ap, ◌∙◌, inl, inr, arith}
-use Rattle.std.specs.Prelude.{slice_index, slice_set}
-use Rattle.std.specs.List.{range_with_len}
-use Rattle.std.proofs.lemmas.Bool.{cases_eq, eq-eqb, ne_eqb}
-use Rattle.std.proofs.lemmas.List.{get_or-replicate, get_or-set_other, get_or-set_same}
-use Rattle.std.proofs.lemmas.List.FromFn.{length-range_with_len}
-use Rattle.std.proofs.lemmas.List.Sums.{count_by-le-length}
-use Rattle.grown_runs.proofs.Common.{is_of_worker, turns_of, Record, count-more}
+use Rattle.plan_words.proofs.Words.{◌≡◌, ℕ, suc, ◌+◌, ◌<◌, ◌≤◌, Bool, true, false, cond, List, length, replicate, Option, Some, None, sym, ap, ◌∙◌, inl, inr}
+use Rattle.plan_words.proofs.Words.{arith, slice_index, slice_set, range_with_len, cases_eq, ne_eqb, get_or-replicate, get_or-set_other, get_or-set_same}
+use Rattle.plan_words.proofs.Words.{length-range_with_len, count_by-le-length, is_of_worker, turns_of, Record, count-more}
+use Rattle.std.proofs.lemmas.Bool.{eq-eqb}
 
 -- a list says of each worker how many of the marks below the limit it has handled
 abbrev pub AreCounted : (ℕ → Option Record) → ℕ → ℕ → List ℕ → Type 0

@@ -1,21 +1,14 @@
 -- The world that a shared run begins with, and the passes of all workers, made one by one from the pass that stands for them all.
-use Rattle.std.proofs.Common.{◌≡◌, ℕ, zero, suc, ◌+◌, ◌-◌, ◌<◌, ◌≤◌, List, [], ◌∷◌, ◌++◌, length, Some, None, refl, sym, ap, ◌∙◌, subst, arith}
-use Rattle.std.specs.Prelude.{All}
-use Rattle.std.proofs.lemmas.List.Elements.{All-cons, All-nil}
+use Rattle.plan_words.proofs.Words.{◌≡◌, ℕ, zero, suc, ◌+◌, ◌-◌, ◌<◌, ◌≤◌, List, [], ◌∷◌, ◌++◌, length, Some, None, refl, sym, ap, ◌∙◌, subst, arith, All}
+use Rattle.plan_words.proofs.Words.{All-cons, All-nil, TableId, skipping_goals, turns_of, state_of_grown, words_of_grown, HoldRun, record_at, sizes_of}
+use Rattle.plan_words.proofs.Words.{state_of_words, sizes_in, IsLeastBest, Word, Words, WritesWord, Best, ChildOf, Count, Counter, FirstOf, PointOf, RecordOf}
+use Rattle.plan_words.proofs.Words.{TreeOf, word_count, state-best, HasParentsWithin, IsPassOf, StandsFor, each_after, BelongsTo, HoldsWorld, IsTableOf, IsTied}
+use Rattle.plan_words.proofs.Words.{MayClaim, PassState, SharedState, StartsAs, first_member, first_view, new_pass, run_in, run_of_opening, with_view}
+use Rattle.plan_words.proofs.Words.{without_best, Opening, crew_from, member_of, parted, second_alone, without_second, worker_apart, sees, IsLawfulView}
+use Rattle.plan_words.proofs.Words.{IsLawfulView-world, IsWorld-started, Grown, SharedRun, WordPlaces}
 use lib.ListN.{get_elem?}
 use mathlib.Core.Option.{some, some-injective, some-ne-none}
-use Rattle.atomic_table.specs.Seated.{TableId}
-use Rattle.grown_runs.proofs.Common.{skipping_goals, turns_of, state_of_grown, words_of_grown, HoldRun, record_at, sizes_of, state_of_words, sizes_in}
-use Rattle.grown_runs.proofs.Common.{IsLeastBest, Word, Words, WritesWord, Best, ChildOf, Count, Counter, FirstOf, PointOf, RecordOf, TreeOf, word_count}
-use Rattle.grown_runs.proofs.Common.{state-best}
-use Rattle.plan_words.proofs.Words.{HasParentsWithin, IsPassOf, StandsFor, each_after, BelongsTo, HoldsWorld, IsTableOf, IsTied, MayClaim, PassState}
-use Rattle.plan_words.proofs.Words.{SharedState, StartsAs, first_member, first_view, new_pass, run_in, run_of_opening, with_view, without_best, Opening}
-use Rattle.step_core.proofs.Common.{crew_from, member_of, parted, second_alone, without_second, worker_apart, sees, IsLawfulView, IsLawfulView-world}
-use Rattle.step_core.proofs.Common.{IsWorld-started}
 use Rattle.grown_runs.specs.Table.WordPlaces.{word_at}
-use Rattle.grown_runs.specs.declared.grown.Grown.{Grown}
-use Rattle.step_core.specs.declared.views.SharedRun.{SharedRun}
-use Rattle.grown_runs.specs.declared.word_places.WordPlaces.{WordPlaces}
 
 -- the workers from w on are w and those past it
 crew-more : (run : SharedRun) (words : Words) (w n : ℕ) → w < n

@@ -1,19 +1,13 @@
 -- From the last words of a table to the closed run that they are.
-use Rattle.std.proofs.Common.{◌≡◌, ◌≢◌, ℕ, zero, suc, ◌<◌, ◌≤◌, List, [], ◌∷◌, get_or, length, Some, None, sym, ap, ◌∙◌, subst, inl, inr, arith}
-use Rattle.std.specs.Prelude.{is_some}
-use Rattle.std.proofs.lemmas.Bool.{cases_eq, cases_lt}
+use Rattle.plan_words.proofs.Words.{◌≡◌, ◌≢◌, ℕ, zero, suc, ◌<◌, ◌≤◌, List, [], ◌∷◌, get_or, length, Some, None, sym, ap, ◌∙◌, subst, inl, inr, arith, is_some}
+use Rattle.plan_words.proofs.Words.{cases_eq, cases_lt, Final, Seen, State, quota_of, AreSameRuns, Record, Task, HoldRun, cleared, record_at, run_words}
+use Rattle.plan_words.proofs.Words.{sizes_of, state_of_words, state_of_grown, words_of_grown, sizes_in, words_in, Words, Counter, FirstOf, RecordOf, Sizes}
+use Rattle.plan_words.proofs.Words.{record_of_word, AreSameRuns-trans, HasNoneLeft, Aim, Opening, HoldsWorld, run_of_opening, StandsAsSeen, state_of_links}
+use Rattle.plan_words.proofs.Words.{run_of, run_sizes, sees, share, words_of_run, IsWorld, state_in, AreSameRuns-cleared, HoldRun-whole, StandsAsSeen-whole}
+use Rattle.plan_words.proofs.Words.{own_workers-whole, Grown, RunWords, View}
 use mathlib.Core.Option.{some, some-injective, some-ne-none}
 use lib.ListN.{get_elem?}
-use Rattle.atomic_table.specs.Table.{Final, Seen, State}
-use Rattle.grown_runs.proofs.Common.{quota_of, AreSameRuns, Record, Task, HoldRun, cleared, record_at, run_words, sizes_of, state_of_words, state_of_grown}
-use Rattle.grown_runs.proofs.Common.{words_of_grown, sizes_in, words_in, Words, Counter, FirstOf, RecordOf, Sizes, record_of_word, AreSameRuns-trans}
-use Rattle.plan_words.proofs.Words.{HasNoneLeft, Aim, Opening, HoldsWorld, run_of_opening}
-use Rattle.step_core.proofs.Common.{StandsAsSeen, state_of_links, run_of, run_sizes, sees, share, words_of_run, IsWorld, state_in, AreSameRuns-cleared}
-use Rattle.step_core.proofs.Common.{HoldRun-whole, StandsAsSeen-whole, own_workers-whole}
 use Rattle.grown_runs.specs.Table.WordPlaces.{word_at}
-use Rattle.grown_runs.specs.declared.grown.Grown.{Grown}
-use Rattle.grown_runs.specs.declared.run_words.RunWords.{RunWords}
-use Rattle.step_core.specs.declared.views.View.{View}
 use Rattle.plan_words.proofs.WholeTrees.{AreSameRuns-whole}
 
 -- an element that is there is read

@@ -1,10 +1,7 @@
 -- The words of the first nodes stand for those of all.
-use Rattle.std.proofs.Common.{◌≡◌, ℕ, ◌+◌, ◌<◌, ◌≤◌, List, length, sym, ap, ◌∙◌, subst, arith}
-use Rattle.std.specs.Prelude.{slice_set}
-use Rattle.std.proofs.lemmas.List.{length-set}
-use Rattle.plan_words.proofs.Words.{chain_of, seen_words, sibling_chain_in, HasFirstPairs, HasPairs}
+use Rattle.plan_words.proofs.Words.{◌≡◌, ℕ, ◌+◌, ◌<◌, ◌≤◌, List, length, sym, ap, ◌∙◌, subst, arith, slice_set, length-set, chain_of, seen_words}
+use Rattle.plan_words.proofs.Words.{sibling_chain_in, HasFirstPairs, HasPairs, View}
 use Rattle.plan_words.proofs.SeenLists.{index-seen, length-seen, seen-set}
-use Rattle.step_core.specs.declared.views.View.{View}
 
 -- in the same chains
 pub chain-seen : (nodes : ℕ) (words : List ℕ) (n : ℕ) → sibling_chain_in (seen_words nodes words) n ≡ sibling_chain_in words n

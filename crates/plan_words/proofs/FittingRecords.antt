@@ -1,11 +1,7 @@
 -- What a pass may record fits the word of a record.
-use Rattle.std.proofs.Common.{ℕ, ◌*◌, ◌<◌, ◌≤◌, ◌^◌, ap, arith, subst, sym}
-use Rattle.std.proofs.lemmas.Nat.{mod_below}
-use Rattle.std.specs.Prelude.{is_some}
-use Rattle.grown_runs.proofs.Common.{IsPresent, class_of, Outcome, Blocked, Placed, Same, Skipped, Record, class_from_powers, class_of-le, Count, last_field}
-use Rattle.step_core.proofs.Common.{IsLawfulView, MayEnd, MayRecord, sees, tree_seen}
-use Rattle.step_core.specs.declared.views.Hand.{Hand}
-use Rattle.step_core.specs.declared.views.View.{View}
+use Rattle.plan_words.proofs.Words.{ℕ, ◌*◌, ◌<◌, ◌≤◌, ◌^◌, ap, arith, subst, sym, mod_below, is_some, IsPresent, class_of, Outcome, Blocked, Placed, Same}
+use Rattle.plan_words.proofs.Words.{Skipped, Record, class_from_powers, class_of-le, Count, last_field, IsLawfulView, MayEnd, MayRecord, sees, tree_seen, Hand}
+use Rattle.plan_words.proofs.Words.{View}
 
 module _ (view : View) (hand : Hand) (entry : Record) (lawful : IsLawfulView view) (may : MayRecord view hand entry) where
   small_number : (n : ℕ) → IsPresent (tree_seen view).points n → n < 2 ^ 18

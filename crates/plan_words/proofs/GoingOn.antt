@@ -1,8 +1,5 @@
 -- Steps of a pass, one after another.
-use Rattle.std.proofs.Common.{◌≡◌, ◌⊎◌, ◌∙◌, inl, inr, subst}
-use Rattle.plan_words.specs.States.{BelongsTo, GoesOn, PassState, SharedState}
-use Rattle.step_core.proofs.Common.{IsLater-refl, IsLater-trans, IsLawfulView}
-use Rattle.step_core.specs.declared.views.View.{View}
+use Rattle.plan_words.proofs.Words.{◌≡◌, ◌⊎◌, ◌∙◌, inl, inr, subst, BelongsTo, GoesOn, PassState, SharedState, IsLater-refl, IsLater-trans, IsLawfulView, View}
 
 pub GoesOn-refl : (view : View) → IsLawfulView view → GoesOn view view
 GoesOn-refl view lawful = record { was_lawful = lawful; later = IsLater-refl view; lawful = lawful }

@@ -1,17 +1,10 @@
 -- What a pass keeps and has seen after a step for the mark in its hand.
-use Rattle.std.proofs.Common.{◌≡◌, ◌≢◌, ℕ, zero, suc, ◌+◌, ◌<◌, ◌≤◌, ◌^◌, Bool, true, false, List, length, Option, Some, None, inr, refl, sym, ap}
-use Rattle.std.proofs.Common.{◌∙◌, subst, arith}
-use Rattle.std.specs.Prelude.{◌==◌, cond, IfSome, IsSome, is_some}
-use Rattle.std.proofs.lemmas.Bool.{eqb-true, ne_eqb}
-use Rattle.grown_runs.proofs.Common.{IsBounded, child_of_word, ChangesOnly, Word, WritesWord, Best, ChildOf, Count, Counter, FirstOf, PointOf, RecordOf, TreeOf}
-use Rattle.grown_runs.proofs.Common.{point_of_word, point_of_word-packed}
-use Rattle.plan_words.proofs.Words.{HasLinked, IsLinkedAt, NamesChildOrPoint, NamesNode, PassState, with_view}
-use Rattle.step_core.proofs.Common.{IsLawfulView, has_point, counted, last_look, last_note, linked, linked_at, loaded, note_before, place_in, saw_at}
-use Rattle.step_core.proofs.Common.{LeadsTo, SeesNode, run_sizes}
-use Rattle.step_core.proofs.Common.{sees, tree_seen, IsBounded-steered, sees-linked, WritesWord-looked, WritesWord-saw, point_at-seen}
-use Rattle.step_core.specs.declared.views.Hand.{Hand}
-use Rattle.step_core.specs.declared.views.Stage.TheVariants.{Treed}
-use Rattle.step_core.specs.declared.views.View.{View}
+use Rattle.plan_words.proofs.Words.{◌≡◌, ◌≢◌, ℕ, zero, suc, ◌+◌, ◌<◌, ◌≤◌, ◌^◌, Bool, true, false, List, length, Option, Some, None, inr, refl, sym, ap, ◌∙◌}
+use Rattle.plan_words.proofs.Words.{subst, arith, ◌==◌, cond, IfSome, IsSome, is_some, eqb-true, ne_eqb, IsBounded, child_of_word, ChangesOnly, Word}
+use Rattle.plan_words.proofs.Words.{WritesWord, Best, ChildOf, Count, Counter, FirstOf, PointOf, RecordOf, TreeOf, point_of_word, point_of_word-packed}
+use Rattle.plan_words.proofs.Words.{HasLinked, IsLinkedAt, NamesChildOrPoint, NamesNode, PassState, with_view, IsLawfulView, has_point, counted, last_look}
+use Rattle.plan_words.proofs.Words.{last_note, linked, linked_at, loaded, note_before, place_in, saw_at, LeadsTo, SeesNode, run_sizes, sees, tree_seen}
+use Rattle.plan_words.proofs.Words.{IsBounded-steered, sees-linked, WritesWord-looked, WritesWord-saw, point_at-seen, Hand, Treed, View}
 use Rattle.plan_words.proofs.LookedNodes.{child_fits, child_seen}
 
 -- children and points are words of nodes

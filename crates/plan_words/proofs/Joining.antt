@@ -1,15 +1,8 @@
 -- A pass goes on by a join and the load that follows it.
-use Rattle.std.proofs.Common.{◌≡◌, ℕ, ◌<◌, ◌≤◌, ◌^◌, Bool, List, [], ◌∷◌, ◌++◌, length, Option, false, true, refl, sym, ap, ◌∙◌, subst, arith}
-use Rattle.std.specs.Prelude.{◌==◌, ◌&&◌, cond, nat_le, nat_lt, slice_index}
-use Rattle.std.specs.Option.{option_or}
-use Rattle.atomic_table.specs.Table.{Me}
-use Rattle.plan_words.proofs.Words.{Aim, Tells, GoesOn, HasPairs, first_member}
-use Rattle.step_core.proofs.Common.{IsLater, IsLawfulView, joined, loaded, place_in, run_sizes, sees, took_over, words_of_run, IsLater-joined, IsLater-trans}
-use Rattle.step_core.proofs.Common.{word_at-merged}
-use Rattle.grown_runs.proofs.Common.{AreBehind, later_word, Falling, Count, TreeOf, cost_in}
-use Rattle.step_core.specs.declared.views.Hand.{Hand}
-use Rattle.step_core.specs.declared.views.Member.{Member}
-use Rattle.step_core.specs.declared.views.View.{View}
+use Rattle.plan_words.proofs.Words.{◌≡◌, ℕ, ◌<◌, ◌≤◌, ◌^◌, Bool, List, [], ◌∷◌, ◌++◌, length, Option, false, true, refl, sym, ap, ◌∙◌, subst, arith, ◌==◌, ◌&&◌}
+use Rattle.plan_words.proofs.Words.{cond, nat_le, nat_lt, slice_index, option_or, Me, Aim, Tells, GoesOn, HasPairs, first_member, IsLater, IsLawfulView, joined}
+use Rattle.plan_words.proofs.Words.{loaded, place_in, run_sizes, sees, took_over, words_of_run, IsLater-joined, IsLater-trans, word_at-merged, AreBehind}
+use Rattle.plan_words.proofs.Words.{later_word, Falling, Count, TreeOf, cost_in, Hand, Member, View}
 use Rattle.plan_words.proofs.KeptPairs.{Keeps, keeps_saw}
 
 -- A seat that took over another, and loaded the count then.

@@ -1,17 +1,10 @@
 -- Nodes found that are kept in place: each is written behind those kept before it, and counted if it passes.
-use Rattle.std.proofs.Common.{◌≡◌, ℕ, ◌+◌, ◌<◌, ◌≤◌, Bool, true, false, cond, List, [], ◌∷◌, length, map, set, take, get_or, Some}
-use Rattle.std.proofs.Common.{refl, sym, ap, ◌∙◌, subst, arith}
-use mir.Val.{bool_byte}
-use Rattle.std.specs.Prelude.{All, IsPermutation, filter, nat_lt, slice_get}
-use Rattle.std.proofs.lemmas.List.Sorted.{length_permutation}
-use Rattle.grown_runs.specs.Table.Words.{cost_in}
-use Rattle.std.proofs.lemmas.List.Elements.{All-head, All-tail}
-use Rattle.std.proofs.Math.Seq.{take-set-lt}
-use Rattle.std.proofs.lemmas.List.{drop-set-lt, get_or-drop, get_or-map, get_or-take, length-map, length-set, length-take-le, map-set, take-set-le, take_all}
-use Rattle.std.proofs.lemmas.Option.{slice_get-get_or}
-use Rattle.std.proofs.lemmas.List.Filters.{FiltersInPlace, FiltersInPlace-more_no, FiltersInPlace-more_set}
-use Rattle.std.specs.List.Sorted.{IsNonDecreasing, IsNonDecreasingBy}
+use Rattle.plan_words.proofs.Words.{◌≡◌, ℕ, ◌+◌, ◌<◌, ◌≤◌, Bool, true, false, cond, List, [], ◌∷◌, length, map, set, take, get_or, Some, refl, sym, ap, ◌∙◌}
+use Rattle.plan_words.proofs.Words.{subst, arith, All, IsPermutation, filter, nat_lt, slice_get, length_permutation, cost_in, All-head, All-tail, take-set-lt}
+use Rattle.plan_words.proofs.Words.{drop-set-lt, get_or-drop, get_or-map, get_or-take, length-map, length-set, length-take-le, map-set, take-set-le, take_all}
+use Rattle.plan_words.proofs.Words.{slice_get-get_or, FiltersInPlace, FiltersInPlace-more_no, FiltersInPlace-more_set, IsNonDecreasing, IsNonDecreasingBy}
 use Rattle.plan_words.proofs.Words.{found_in, is_dearer, numbers_of, Cell, Found}
+use mir.Val.{bool_byte}
 
 -- one more is written
 pub FiltersInPlace-put : {X : Type 0} (p : X → Bool) (xs ys : List X) (k next i : ℕ) (x : X) (b : Bool) → FiltersInPlace p xs ys k i → i < length ys

@@ -1,18 +1,10 @@
 -- The list of the tree words that a pass has seen, after each kind of step.
-use Rattle.std.proofs.Common.{◌≡◌, ◌≢◌, ℕ, suc, ◌+◌, ◌<◌, ◌≤◌, ◌^◌, Bool, true, false, List, [], ◌∷◌}
-use Rattle.std.proofs.Common.{length, Option, Some, refl, sym, ap, ◌∙◌, subst, inl, inr, arith}
-use Rattle.std.specs.Prelude.{◌==◌, IfSome, cond, is_some, slice_index, slice_set}
-use Rattle.std.proofs.lemmas.Bool.{cases_eq}
-use Rattle.std.proofs.lemmas.List.{get_or-set_other, get_or-set_same, length-set}
-use Rattle.atomic_table.specs.Table.{Me}
-use Rattle.grown_runs.proofs.Common.{Point, cost_of-short, Word, ChildOf, Counter, RecordOf, TreeOf, HasWord, WritesWord, parent_in, tree_word}
-use Rattle.plan_words.proofs.Words.{Tells, exchanged_at, HasPairs, HasRoom, IsTied, first_member, turned, Aim}
-use Rattle.step_core.proofs.Common.{IsLawfulView, claimed, finished_at, linked, linked_at, loaded, lowered, noting, one_turn_more, pair_in_hand}
-use Rattle.step_core.proofs.Common.{place_in, saw, saw_at}
-use Rattle.step_core.proofs.Common.{IsCostBelow, run_sizes, sees, sees-linked, WritesWord-saw}
-use Rattle.step_core.specs.declared.views.Hand.{Hand}
-use Rattle.step_core.specs.declared.views.Member.{Member}
-use Rattle.step_core.specs.declared.views.View.{View}
+use Rattle.plan_words.proofs.Words.{◌≡◌, ◌≢◌, ℕ, suc, ◌+◌, ◌<◌, ◌≤◌, ◌^◌, Bool, true, false, List, [], ◌∷◌, length, Option, Some, refl, sym, ap, ◌∙◌, subst}
+use Rattle.plan_words.proofs.Words.{inl, inr, arith, ◌==◌, IfSome, cond, is_some, slice_index, slice_set, cases_eq, get_or-set_other, get_or-set_same}
+use Rattle.plan_words.proofs.Words.{length-set, Me, Point, cost_of-short, Word, ChildOf, Counter, RecordOf, TreeOf, HasWord, WritesWord, parent_in, tree_word}
+use Rattle.plan_words.proofs.Words.{Tells, exchanged_at, HasPairs, HasRoom, IsTied, first_member, turned, Aim, IsLawfulView, claimed, finished_at, linked}
+use Rattle.plan_words.proofs.Words.{linked_at, loaded, lowered, noting, one_turn_more, pair_in_hand, place_in, saw, saw_at, IsCostBelow, run_sizes, sees}
+use Rattle.plan_words.proofs.Words.{sees-linked, WritesWord-saw, Hand, Member, View}
 
 -- if no tree word is seen anew, the list stays
 pub HasPairs-kept :

@@ -1,14 +1,8 @@
 -- What a pass has seen of a node after it has loaded a word of it.
-use Rattle.std.proofs.Common.{◌≡◌, ℕ, zero, suc, ◌<◌, ◌≤◌, ◌^◌, Bool, length, Some, inl, inr, refl, sym, ap, ◌∙◌, subst, arith}
-use Rattle.std.specs.Prelude.{MatchOption, unwrap_or}
-use Rattle.plan_words.proofs.Words.{IsEdgeSeen, IsPairIn, FindsPoint, GoesOn}
-use Rattle.grown_runs.proofs.Common.{child_of_word, sizes_in, Word, ChildOf, PointOf, TreeOf, place_of, cost_in, parent_in, point_in, point_of_word}
-use Rattle.grown_runs.proofs.Common.{if_written-set}
-use Rattle.step_core.proofs.Common.{IsLawfulView, place_in, saw, saw_at, SeesNode, SeesPoint, last_zero, run_sizes, sees, tree_seen, WritesWord-saw}
-use Rattle.step_core.proofs.Common.{WritesWord-zero, point_at-seen}
-use Rattle.step_core.specs.declared.views.SharedRun.{SharedRun}
-use Rattle.step_core.specs.declared.views.View.{View}
-use Rattle.grown_runs.specs.declared.word_places.WordPlaces.{WordPlaces}
+use Rattle.plan_words.proofs.Words.{◌≡◌, ℕ, zero, suc, ◌<◌, ◌≤◌, ◌^◌, Bool, length, Some, inl, inr, refl, sym, ap, ◌∙◌, subst, arith, MatchOption, unwrap_or}
+use Rattle.plan_words.proofs.Words.{IsEdgeSeen, IsPairIn, FindsPoint, GoesOn, child_of_word, sizes_in, Word, ChildOf, PointOf, TreeOf, place_of, cost_in}
+use Rattle.plan_words.proofs.Words.{parent_in, point_in, point_of_word, if_written-set, IsLawfulView, place_in, saw, saw_at, SeesNode, SeesPoint, last_zero}
+use Rattle.plan_words.proofs.Words.{run_sizes, sees, tree_seen, WritesWord-saw, WritesWord-zero, point_at-seen, SharedRun, View, WordPlaces}
 
 -- the number of a seen node is one of the run's
 pub seen_low : (view : View) (run : SharedRun) (node : ℕ) → IsLawfulView view → view.run ≡ run → SeesNode view node → node ≤ length run.marks

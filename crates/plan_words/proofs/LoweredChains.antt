@@ -1,20 +1,13 @@
 -- A walk along the children of a node that lowers them.
-use Rattle.std.proofs.Common.{◌≡◌, ◌≢◌, ◌⊎◌, ℕ, suc, ◌<◌, ◌≤◌, List, ◌∷◌, length, inl, inr, refl, sym, ap, ◌∙◌, subst, arith}
-use Rattle.std.specs.Prelude.{slice_index, slice_set}
-use Rattle.std.proofs.lemmas.Bool.{cases_eq}
-use Rattle.std.proofs.lemmas.List.{get_or-set_other, get_or-set_same, length-set}
-use Rattle.plan_words.proofs.Words.{CostsAtMostThrough, HasQueued, IsLoweredChild, LooksOn, LowersChildren, PostsChanged, SeesSamePoints, FindsLess, chain_of}
-use Rattle.plan_words.proofs.Words.{sibling_chain_in, GoesOn, HasFirstPairs, HasWholeShare, HasSeenParent, IsOn}
+use Rattle.plan_words.proofs.Words.{◌≡◌, ◌≢◌, ◌⊎◌, ℕ, suc, ◌<◌, ◌≤◌, List, ◌∷◌, length, inl, inr, refl, sym, ap, ◌∙◌, subst, arith, slice_index, slice_set}
+use Rattle.plan_words.proofs.Words.{cases_eq, get_or-set_other, get_or-set_same, length-set, CostsAtMostThrough, HasQueued, IsLoweredChild, LooksOn}
+use Rattle.plan_words.proofs.Words.{LowersChildren, PostsChanged, SeesSamePoints, FindsLess, chain_of, sibling_chain_in, GoesOn, HasFirstPairs, HasWholeShare}
+use Rattle.plan_words.proofs.Words.{HasSeenParent, IsOn, AreMembers, IndexesChains, siblings_from, TreeOf, best_word, cost_in, AreMembers-chain}
+use Rattle.plan_words.proofs.Words.{siblings_from-here, times-else, times-here, times, IsLawfulView, SeesGoal, sees, ChildIndex, View}
 use Rattle.plan_words.proofs.ChildCosts.{CostsAtMostThrough-kept, HasSeenParent-kept, apart_above}
 use Rattle.plan_words.proofs.Posting.{goal-goes_on}
 use Rattle.plan_words.proofs.SeatSteps.{LooksOn-refl, LooksOn-trans, whole_later}
 use Rattle.plan_words.proofs.SeenChildren.{HasSeenParent-chain, chain-HasSeenParent, pair-seen}
-use Rattle.grown_runs.proofs.Common.{AreMembers, IndexesChains, siblings_from, TreeOf, best_word, cost_in, AreMembers-chain, siblings_from-here, times-else}
-use Rattle.grown_runs.proofs.Common.{times-here}
-use Rattle.grown_runs.specs.ChildChains.{times}
-use Rattle.step_core.proofs.Common.{IsLawfulView, SeesGoal, sees}
-use Rattle.grown_runs.specs.declared.child_index.ChildIndex.{ChildIndex}
-use Rattle.step_core.specs.declared.views.View.{View}
 
 -- ---- the list of tree words
 

@@ -1,10 +1,8 @@
 -- What a pass has seen after it has tried to lower the cost of a node.
-use Rattle.std.proofs.Common.{◌≡◌, ◌≢◌, ℕ, refl, sym, ap, ◌∙◌, subst, arith}
-use Rattle.std.specs.Prelude.{◌==◌, cond, is_some}
-use Rattle.std.proofs.lemmas.Bool.{eq-eqb, ne_eqb}
-use Rattle.plan_words.proofs.Words.{FindsLess, IsPairIn, PassState, with_view}
-use Rattle.step_core.proofs.Common.{IsLawfulView, last_note, loaded, lowered, MayLower, SeesNode, sees, WritesWord-saw}
-use Rattle.grown_runs.proofs.Common.{WritesWord, TreeOf, cost_in, parent_in, tree_word, cost_in-tree_word}
+use Rattle.plan_words.proofs.Words.{◌≡◌, ◌≢◌, ℕ, refl, sym, ap, ◌∙◌, subst, arith, ◌==◌, cond, is_some, ne_eqb, FindsLess, IsPairIn, PassState, with_view}
+use Rattle.plan_words.proofs.Words.{IsLawfulView, last_note, loaded, lowered, MayLower, SeesNode, sees, WritesWord-saw, WritesWord, TreeOf, cost_in, parent_in}
+use Rattle.plan_words.proofs.Words.{tree_word, cost_in-tree_word}
+use Rattle.std.proofs.lemmas.Bool.{eq-eqb}
 use Rattle.plan_words.proofs.KeptPairs.{fits_word}
 
 module _ (old new : PassState) (n parent cost found : ℕ) (lawful : IsLawfulView old.view) (may : MayLower old.view n parent cost)

@@ -1,11 +1,9 @@
 -- A node that waits is marked, comes on the list, and goes off it.
-use Rattle.std.proofs.Common.{◌≡◌, ◌≢◌, ◌⊎◌, ℕ, zero, suc, ◌<◌, ◌≤◌, Bool, true, false, List, []}
-use Rattle.std.proofs.Common.{◌∷◌, ◌++◌, Option, None, Some, append-nil, length, refl, sym, ap, ◌∙◌, subst, ⊎_elim, inl, inr, arith}
-use Rattle.std.specs.Prelude.{IfSome, option_to_list, replicate, slice_index, slice_set}
-use Rattle.std.proofs.lemmas.Bool.{cases_eq, cases_lt}
-use Rattle.std.proofs.lemmas.List.{get_or-replicate, get_or-set_other, get_or-set_same, get_or_append_left}
-use Rattle.std.proofs.lemmas.List.{get_or_past, length-append, length-replicate, length-set}
-use Rattle.plan_words.specs.Waiting.{AreMarked, IsOn, NoneMarked, count_marked, is_marked}
+use Rattle.plan_words.proofs.Words.{◌≡◌, ◌≢◌, ◌⊎◌, ℕ, zero, suc, ◌<◌, ◌≤◌, Bool, true, false, List, [], ◌∷◌, ◌++◌, Option, None, Some, append-nil, length, refl}
+use Rattle.plan_words.proofs.Words.{sym, ap, ◌∙◌, subst, ⊎_elim, inl, inr, arith, IfSome, option_to_list, replicate, slice_index, slice_set, cases_eq, cases_lt}
+use Rattle.plan_words.proofs.Words.{get_or-replicate, get_or-set_other, get_or-set_same, get_or_append_left, get_or_past, length-replicate, length-set}
+use Rattle.plan_words.proofs.Words.{AreMarked, IsOn, NoneMarked, count_marked, is_marked}
+use Rattle.std.proofs.lemmas.List.{length-append}
 
 -- ---- a list with one node more
 

@@ -1,11 +1,7 @@
 -- A node in hand may hang below the node that it was steered from, if the segment between them is clear.
-use Rattle.std.proofs.Common.{◌≡◌, ℕ, ◌+◌, ◌≤◌, ◌^◌, true, Some, refl, sym, ap, subst, arith}
-use Rattle.std.specs.Prelude.{IfSome}
-use Rattle.grown_runs.proofs.Common.{IsBounded, Clear, mark_at, space_of, cost_of, squared_distance, Point, StandsAt-unique, IsStep-steered, TreeOf}
-use Rattle.plan_words.specs.States.{SharedState, run_in}
-use Rattle.step_core.proofs.Common.{IsLawfulView, has_point, MayHang, SeesCost, SeesPoint, sees, setup_in, tree_seen, IsBounded-steered}
-use Rattle.step_core.specs.declared.views.Hand.{Hand}
-use Rattle.step_core.specs.declared.views.View.{View}
+use Rattle.plan_words.proofs.Words.{◌≡◌, ℕ, ◌+◌, ◌≤◌, ◌^◌, true, Some, refl, sym, ap, subst, arith, IfSome, IsBounded, Clear, mark_at, space_of, cost_of}
+use Rattle.plan_words.proofs.Words.{squared_distance, Point, StandsAt-unique, IsStep-steered, TreeOf, SharedState, run_in, IsLawfulView, has_point, MayHang}
+use Rattle.plan_words.proofs.Words.{SeesCost, SeesPoint, sees, setup_in, tree_seen, IsBounded-steered, Hand, View}
 use Rattle.plan_words.proofs.HandSteps.{at_hand}
 use Rattle.plan_words.proofs.KeptPairs.{if_hand}
 

@@ -1,26 +1,16 @@
 -- What a call of a shared tree owes to its table, and what a load tells, by what the tree and the pass keep.
-use Rattle.std.proofs.Common.{◌≡◌, ◌≢◌, ℕ, suc, ◌+◌, ◌%◌, ◌<◌, ◌≤◌, ◌^◌, Bool, true, false, List, [], ◌∷◌, length, Some, None, refl, sym, ap, ◌∙◌, subst, arith}
-use Rattle.std.specs.Prelude.{◌==◌, cond, min}
+use Rattle.plan_words.proofs.Words.{◌≡◌, ◌≢◌, ℕ, suc, ◌+◌, ◌%◌, ◌<◌, ◌≤◌, ◌^◌, Bool, true, false, List, [], ◌∷◌, length, Some, None, refl, sym, ap, ◌∙◌, subst}
+use Rattle.plan_words.proofs.Words.{arith, ◌==◌, cond, min, TableId, Allows, Joins, Me, Splits, State, step, Aim, Opening, SitsAt, Claims, Counts, FindsAsSeen}
+use Rattle.plan_words.proofs.Words.{Finishes, Links, Loads, LoadsBest, Lowers, Posts, Tells, WritesFirst, WritesPoint, WritesTree, BelongsTo, GoesOn}
+use Rattle.plan_words.proofs.Words.{HasWholeShare, HoldsWorld, IsTableOf, PassState, SharedState, new_pass, run_in, run_of_opening, with_view, Point, Word}
+use Rattle.plan_words.proofs.Words.{WritesWord, Best, ChildOf, Count, Counter, FirstOf, PointOf, RecordOf, TreeOf, HasWord, place_of, Record, FitsWord}
+use Rattle.plan_words.proofs.Words.{best_node_in, best_word, cost_in, parent_in, point_word, record_word, tree_word, place_of-within, IsLawfulView, IsUnskipped}
+use Rattle.plan_words.proofs.Words.{MayPost, MayRecord, MayBeRecorded, IsSteered, LeadsTo, MayHang, MayLoad, MayLower, claimed, joined, loaded, looker, mark_of}
+use Rattle.plan_words.proofs.Words.{pair_in_hand, parted, place_in, saw_at, worker_apart, last_look, run_sizes, sees, share, spent, WritesWord-looked}
+use Rattle.plan_words.proofs.Words.{WritesWord-saw, Claimed, Half, Linked, Pointed, Treed, Hand, Member, SharedRun, View, WordPlaces}
 use mathlib.Core.Option.{none, some}
 use prog.Atomic.{either}
-use Rattle.atomic_table.specs.Seated.{TableId}
-use Rattle.atomic_table.specs.Table.{Allows, Joins, Me, Splits, State, step}
-use Rattle.plan_words.proofs.Words.{Aim, Opening, SitsAt, Claims, Counts, FindsAsSeen, Finishes, Links, Loads, LoadsBest, Lowers, Posts, Tells, WritesFirst}
-use Rattle.plan_words.proofs.Words.{WritesPoint, WritesTree, BelongsTo, GoesOn, HasWholeShare, HoldsWorld, IsTableOf, PassState, SharedState, new_pass, run_in}
-use Rattle.plan_words.proofs.Words.{run_of_opening, with_view}
-use Rattle.grown_runs.proofs.Common.{Point, Word, WritesWord, Best, ChildOf, Count, Counter, FirstOf, PointOf, RecordOf, TreeOf, HasWord, place_of, Record}
-use Rattle.grown_runs.proofs.Common.{FitsWord, best_node_in, best_word, cost_in, parent_in, point_word, record_word, tree_word, place_of-within}
-use Rattle.step_core.proofs.Common.{IsLawfulView, IsUnskipped, MayPost, MayRecord, MayBeRecorded, IsSteered, LeadsTo, MayHang, MayLoad, MayLower}
-use Rattle.step_core.proofs.Common.{claimed, joined, loaded}
-use Rattle.step_core.proofs.Common.{looker, mark_of, pair_in_hand, parted, place_in, saw_at, worker_apart, last_look, run_sizes, sees, share, spent}
-use Rattle.step_core.proofs.Common.{WritesWord-looked, WritesWord-saw}
-use Rattle.step_core.specs.declared.views.Stage.TheVariants.{Claimed, Half, Linked, Pointed, Treed}
 use Rattle.step_core.specs.ViewSteps.{stepped as one_step}
-use Rattle.step_core.specs.declared.views.Hand.{Hand}
-use Rattle.step_core.specs.declared.views.Member.{Member}
-use Rattle.step_core.specs.declared.views.SharedRun.{SharedRun}
-use Rattle.step_core.specs.declared.views.View.{View}
-use Rattle.grown_runs.specs.declared.word_places.WordPlaces.{WordPlaces}
 use Rattle.plan_words.proofs.Allowing.{Holds, may_best, may_claim, may_count, may_finish, may_first, may_hand_on, may_link, may_load, may_look, may_lower}
 use Rattle.plan_words.proofs.Allowing.{may_point, may_post, may_take_over, may_tree}
 

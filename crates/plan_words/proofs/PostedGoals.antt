@@ -1,12 +1,7 @@
 -- Goal nodes of which the best word is at most the pair: what steps of a pass leave of that.
-use Rattle.std.proofs.Common.{◌≡◌, ◌≢◌, ℕ, ◌≤◌, [], arith, inl, inr, sym, ap, subst}
-use Rattle.std.specs.Prelude.{IsTrue}
-use Rattle.std.proofs.lemmas.Bool.{cases_eq}
-use Rattle.grown_runs.proofs.Common.{is_goal_point, point_at, PointOf, TreeOf, best_word, cost_in}
-use Rattle.plan_words.proofs.Words.{HasPostedGoals, SeesAsBefore, PostsChanged, SeesSamePoints, GoesOn}
-use Rattle.step_core.proofs.Common.{IsLater, SeesGoal, sees, tree_seen, point_at-kept}
-use Rattle.step_core.specs.declared.views.SharedRun.{SharedRun}
-use Rattle.step_core.specs.declared.views.View.{View}
+use Rattle.plan_words.proofs.Words.{◌≡◌, ◌≢◌, ℕ, ◌≤◌, [], arith, inl, inr, sym, ap, subst, IsTrue, cases_eq, is_goal_point, point_at, PointOf, TreeOf}
+use Rattle.plan_words.proofs.Words.{best_word, cost_in, HasPostedGoals, SeesAsBefore, PostsChanged, SeesSamePoints, GoesOn, IsLater, SeesGoal, sees, tree_seen}
+use Rattle.plan_words.proofs.Words.{point_at-kept, SharedRun, View}
 
 -- ---- goals
 

@@ -1,18 +1,11 @@
 -- What a post leaves of a pass: nothing is seen anew but the best word.
-use Rattle.std.proofs.Common.{◌≡◌, ◌≢◌, ℕ, zero, suc, ◌≤◌, ◌^◌, Bool, true, false, Option, Some, None, List, refl, sym, ap, ◌∙◌, subst, inl}
-use Rattle.std.proofs.Common.{inr, arith}
-use Rattle.std.specs.Prelude.{◌+◌, ◌<◌, ◌==◌, ◌/◌, IfNone, IfSome, IsTrue, cond, length}
-use Rattle.std.proofs.lemmas.Nat.{mod-mul-add, mod_below}
-use Rattle.std.proofs.lemmas.Bool.{eqb-false, eqb-true}
-use Rattle.grown_runs.proofs.Common.{is_goal_point, lies_in_goals, IsPresent, point_at, point_of, Point, IsPresent-goal, StandsAt-present, has_node}
-use Rattle.grown_runs.proofs.Common.{seen_tree_of_words, Word, WritesWord, FirstOf, PointOf, TreeOf, best_cost_in, best_node_in, best_of_word, best_word}
-use Rattle.grown_runs.proofs.Common.{cost_in, no_best, point_of_word, tree_word}
-use Rattle.plan_words.proofs.Words.{LooksAndPosts, OnlyPosts, GoesOn, PassState, with_view}
-use Rattle.step_core.proofs.Common.{IsLawfulView, MayPost, SeesGoal, seen_first_cost, best_with, hand_with_post, last_note, loaded, lowered, posted}
-use Rattle.step_core.proofs.Common.{with_post, SeesPoint, run_sizes, sees, tree_seen, same_name, WritesWord-saw, SeesPoint-later, point_at-seen, seen-within}
-use Rattle.step_core.specs.declared.views.Hand.{Hand}
-use Rattle.step_core.specs.declared.views.SharedRun.{SharedRun}
-use Rattle.step_core.specs.declared.views.View.{View}
+use Rattle.plan_words.proofs.Words.{◌≡◌, ◌≢◌, ℕ, zero, suc, ◌≤◌, ◌^◌, Bool, true, false, Option, Some, None, List, refl, sym, ap, ◌∙◌, subst, inl, inr, arith}
+use Rattle.plan_words.proofs.Words.{◌+◌, ◌<◌, ◌==◌, ◌/◌, IfNone, IfSome, IsTrue, cond, length, mod-mul-add, mod_below, eqb-false, eqb-true, is_goal_point}
+use Rattle.plan_words.proofs.Words.{lies_in_goals, IsPresent, point_at, point_of, Point, IsPresent-goal, StandsAt-present, has_node, seen_tree_of_words, Word}
+use Rattle.plan_words.proofs.Words.{WritesWord, FirstOf, PointOf, TreeOf, best_cost_in, best_node_in, best_of_word, best_word, cost_in, no_best, point_of_word}
+use Rattle.plan_words.proofs.Words.{tree_word, LooksAndPosts, OnlyPosts, GoesOn, PassState, with_view, IsLawfulView, MayPost, SeesGoal, seen_first_cost}
+use Rattle.plan_words.proofs.Words.{best_with, hand_with_post, last_note, loaded, lowered, posted, with_post, SeesPoint, run_sizes, sees, tree_seen, same_name}
+use Rattle.plan_words.proofs.Words.{WritesWord-saw, SeesPoint-later, point_at-seen, seen-within, Hand, SharedRun, View}
 
 -- ---- goals
 

@@ -1,14 +1,8 @@
 -- Lists of numbers that rise, by what they contain.
-use Rattle.std.proofs.Common.{◌≡◌, ℕ, suc, ◌<◌, Bool, true, false, cond, eqb, eq-eqb, List, [], ◌∷◌, arith, inl, inr, refl, sym, ap, ◌∙◌}
-use Rattle.std.specs.Prelude.{Contains, filter}
-use Rattle.std.specs.List.{AllByRecursion, IsDistinct}
-use Rattle.std.specs.List.Sorted.{IsStrictlySortedBy}
-use Rattle.std.specs.Ordering.{nat_cmp}
-use Rattle.std.proofs.lemmas.Bool.{eqb-true}
-use Rattle.std.proofs.lemmas.Map.Keys.{below_from_sorted, sorted_tail}
-use Rattle.plan_model.proofs.ListMembers.{Contains-after, Contains-first}
-use Rattle.plan_words.proofs.Words.{numbers_of, Found}
-use Rattle.step_core.proofs.Seen.DistinctNumbers.{Contains-cases, Contains-none}
+use Rattle.plan_words.proofs.Words.{◌≡◌, ℕ, suc, ◌<◌, Bool, true, false, cond, eqb, List, [], ◌∷◌, arith, inl, inr, refl, sym, ap, ◌∙◌, Contains, filter}
+use Rattle.plan_words.proofs.Words.{AllByRecursion, IsDistinct, IsStrictlySortedBy, nat_cmp, eqb-true, below_from_sorted, sorted_tail, Contains-after}
+use Rattle.plan_words.proofs.Words.{Contains-first, numbers_of, Found, Contains-cases, Contains-none}
+use Rattle.std.proofs.Common.{eq-eqb}
 
 pub eqb-swap : (m n : ℕ) → eqb m n ≡ eqb n m
 eqb-swap m n = by_tests (eqb m n) (eqb n m) refl refl

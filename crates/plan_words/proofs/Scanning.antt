@@ -1,14 +1,8 @@
 -- The strips are gone through one by one: of those below a number, the best next mark is known. A claim that fails has seen more.
-use Rattle.std.proofs.Common.{◌≡◌, ◌≢◌, ℕ, zero, suc, ◌+◌, ◌-◌, ◌*◌, ◌<◌, ◌≤◌, Bool, true}
-use Rattle.std.proofs.Common.{false, Option, Some, None, refl, sym, ap, ◌∙◌, subst, inl, inr, arith}
-use Rattle.std.specs.Prelude.{nat_lt, cond, MatchOption}
-use Rattle.std.specs.List.{range_with_len, sum_by}
-use Rattle.std.proofs.lemmas.Bool.{cases_Bool, cases_eq, cases_lt, le-ltb, lt-ltb, ltb-true}
-use Rattle.grown_runs.proofs.Common.{quota_of, IsCutAt-quota, sum-le, sum-more, Counter}
-use Rattle.plan_words.proofs.Words.{AllFull, GoesBefore, IsOpen, better_of, better_open, goes_first, is_own, mark_in, ClaimOrder, Next}
-use Rattle.step_core.proofs.Common.{mark_of, sees}
-use Rattle.step_core.specs.declared.views.SharedRun.{SharedRun}
-use Rattle.step_core.specs.declared.views.View.{View}
+use Rattle.plan_words.proofs.Words.{◌≡◌, ◌≢◌, ℕ, zero, suc, ◌+◌, ◌-◌, ◌*◌, ◌<◌, ◌≤◌, Bool, true, false, Option, Some, None, refl, sym, ap, ◌∙◌, subst, inl, inr}
+use Rattle.plan_words.proofs.Words.{arith, nat_lt, cond, MatchOption, range_with_len, sum_by, cases_Bool, cases_eq, cases_lt, le-ltb, lt-ltb, ltb-true}
+use Rattle.plan_words.proofs.Words.{quota_of, IsCutAt-quota, sum-le, sum-more, Counter, AllFull, GoesBefore, IsOpen, better_of, better_open, goes_first, is_own}
+use Rattle.plan_words.proofs.Words.{mark_in, ClaimOrder, Next, mark_of, sees, SharedRun, View}
 
 -- ---- which goes before
 

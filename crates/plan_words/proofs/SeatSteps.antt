@@ -1,25 +1,13 @@
 -- Steps by the seat of a pass on points, parents and costs.
-use Rattle.std.proofs.Common.{◌≡◌, ◌≢◌, ◌⊎◌, ℕ, suc, ◌+◌, Bool, true, false, List, [], ◌∷◌, Option, Some, None, length, refl, sym, ap, ◌∙◌, subst}
-use Rattle.std.proofs.Common.{inl, inr, arith}
-use Rattle.std.specs.Prelude.{◌==◌, cond}
-use Rattle.std.proofs.lemmas.Bool.{eqb-true}
-use Rattle.atomic_table.specs.Seated.{TableId}
-use Rattle.atomic_table.specs.Table.{Me}
-use Rattle.plan_words.proofs.Words.{IsOrPosted, KeepsOrPosts, SeesBestSince, IsOtherWord, LooksOn, SeesSamePoints, SitsAt, Tells, exchanged_at, GoesOn}
-use Rattle.plan_words.proofs.Words.{HasPairs, HasRoom, HasWholeShare, PassState, SharedState, first_member, with_view, Aim}
+use Rattle.plan_words.proofs.Words.{◌≡◌, ◌≢◌, ◌⊎◌, ℕ, suc, ◌+◌, Bool, true, false, List, [], ◌∷◌, Option, Some, None, length, refl, sym, ap, ◌∙◌, subst, inl}
+use Rattle.plan_words.proofs.Words.{inr, arith, ◌==◌, cond, eqb-true, TableId, Me, IsOrPosted, KeepsOrPosts, SeesBestSince, IsOtherWord, LooksOn}
+use Rattle.plan_words.proofs.Words.{SeesSamePoints, SitsAt, Tells, exchanged_at, GoesOn, HasPairs, HasRoom, HasWholeShare, PassState, SharedState, first_member}
+use Rattle.plan_words.proofs.Words.{with_view, Aim, HasLooked, HasLooked-trans, IsLawfulView, hand_with_post, last_look, last_note, last_seen, last_seen-table}
+use Rattle.plan_words.proofs.Words.{loaded, noting, place_in, post_noted, run_sizes, same_name, saw, saw_at, sees, with_post, WritesWord-looked, WritesWord-saw}
+use Rattle.plan_words.proofs.Words.{last_seen-same, Word, WritesWord, Best, PointOf, HasWord, Hand, Member, Note, SharedRun, Stage, Claimed, Counted, Half}
+use Rattle.plan_words.proofs.Words.{Linked, Pointed, Posted, Treed, View}
 use Rattle.plan_words.proofs.GoingOn.{GoesOn-refl, GoesOn-trans}
 use Rattle.plan_words.proofs.KeptPairs.{Keeps}
-use Rattle.step_core.proofs.Common.{HasLooked, HasLooked-trans, IsLawfulView, hand_with_post, last_look, last_note, last_seen, last_seen-table, loaded}
-use Rattle.step_core.proofs.Common.{noting, place_in, post_noted, run_sizes, same_name, saw, saw_at, sees, with_post, WritesWord-looked, WritesWord-saw}
-use Rattle.step_core.proofs.Parts.NotedSteps.{last_seen-same}
-use Rattle.grown_runs.proofs.Common.{Word, WritesWord, Best, PointOf, HasWord}
-use Rattle.step_core.specs.declared.views.Hand.{Hand}
-use Rattle.step_core.specs.declared.views.Member.{Member}
-use Rattle.step_core.specs.declared.views.Note.{Note}
-use Rattle.step_core.specs.declared.views.SharedRun.{SharedRun}
-use Rattle.step_core.specs.declared.views.Stage.{Stage}
-use Rattle.step_core.specs.declared.views.Stage.TheVariants.{Claimed, Counted, Half, Linked, Pointed, Posted, Treed}
-use Rattle.step_core.specs.declared.views.View.{View}
 
 -- ---- what is looked at
 

@@ -1,11 +1,7 @@
 -- The children of a node by the pairs that a pass has seen.
-use Rattle.std.proofs.Common.{◌≡◌, ℕ, zero, suc, ◌+◌, ◌<◌, ◌≤◌, ◌^◌, Bool, true, false, List, [], ◌∷◌, length, refl, sym, ap, ◌∙◌, subst, ⊎_elim, arith}
-use Rattle.std.specs.Prelude.{cond, nat_lt, slice_index}
-use Rattle.std.proofs.lemmas.Bool.{cases_lt, le-ltb, ltb-false}
-use Rattle.plan_words.proofs.Words.{HasParentsBelow, sibling_chain_in, chain_of, HasFirstPairs, HasPairs, HasSeenParent}
-use Rattle.step_core.proofs.Common.{IsLawfulView, run_sizes, sees}
-use Rattle.grown_runs.proofs.Common.{TreeOf, parent_in, word_at-none}
-use Rattle.step_core.specs.declared.views.View.{View}
+use Rattle.plan_words.proofs.Words.{◌≡◌, ℕ, zero, suc, ◌+◌, ◌<◌, ◌≤◌, ◌^◌, Bool, true, false, List, [], ◌∷◌, length, refl, sym, ap, ◌∙◌, subst, ⊎_elim, arith}
+use Rattle.plan_words.proofs.Words.{cond, nat_lt, slice_index, cases_lt, le-ltb, ltb-false, HasParentsBelow, sibling_chain_in, chain_of, HasFirstPairs}
+use Rattle.plan_words.proofs.Words.{HasPairs, HasSeenParent, IsLawfulView, run_sizes, sees, TreeOf, parent_in, word_at-none, View}
 
 -- a word past the end of a list is 0
 index-past : (items : List ℕ) (i : ℕ) → length items ≤ i → slice_index items i ≡ 0

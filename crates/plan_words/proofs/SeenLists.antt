@@ -1,12 +1,9 @@
 -- Lists of the words of the first nodes, which stand for those of all, get longer.
-use Rattle.std.proofs.Common.{◌≡◌, ℕ, zero, suc, ◌+◌, ◌-◌, ◌<◌, ◌≤◌, List, [], ◌∷◌, ◌++◌, length, replicate, refl, sym, ap, ◌∙◌, subst, arith}
-use Rattle.std.proofs.Common.{◌^◌, Bool, true, false}
-use Rattle.std.specs.Prelude.{cond, max, nat_lt, slice_index, slice_set}
-use Rattle.std.proofs.lemmas.Bool.{ltb-false}
-use Rattle.std.proofs.lemmas.List.{append_assoc, get_or-set_other, get_or-set_same, length-append, length-replicate, length-set, set-append_left}
-use Rattle.plan_words.specs.SeenChains.{AreSeenFirst, Reaches, chain_of, seen_words, sibling_chain_in}
-use Rattle.grown_runs.proofs.Common.{FitsNumbers, HasOneMore, IndexesChains, KeepsRoom, MovesNode, parent_in, IsIndex-same}
-use Rattle.grown_runs.specs.declared.child_index.ChildIndex.{ChildIndex}
+use Rattle.plan_words.proofs.Words.{◌≡◌, ℕ, zero, suc, ◌+◌, ◌-◌, ◌<◌, ◌≤◌, List, [], ◌∷◌, ◌++◌, length, replicate, refl, sym, ap, ◌∙◌, subst, arith, ◌^◌, Bool}
+use Rattle.plan_words.proofs.Words.{true, false, cond, max, nat_lt, slice_index, slice_set, ltb-false, append_assoc, get_or-set_other, get_or-set_same}
+use Rattle.plan_words.proofs.Words.{length-replicate, length-set, set-append_left, AreSeenFirst, Reaches, chain_of, seen_words, sibling_chain_in, FitsNumbers}
+use Rattle.plan_words.proofs.Words.{HasOneMore, IndexesChains, KeepsRoom, MovesNode, parent_in, IsIndex-same, ChildIndex}
+use Rattle.std.proofs.lemmas.List.{length-append}
 
 -- ---- the words of all nodes
 

@@ -1,10 +1,5 @@
 -- A pass with a mark in its hand. A step for the mark leaves it but for its view.
-use Rattle.std.proofs.Common.{◌≡◌, Option, Some, None, refl, sym, ap, ◌∙◌, subst}
-use Rattle.std.specs.Prelude.{IfSome, IsSome, is_some}
-use Rattle.atomic_table.specs.Seated.{TableId}
-use Rattle.plan_words.specs.States.{PassState, with_view}
-use Rattle.step_core.specs.declared.views.Hand.{Hand}
-use Rattle.step_core.specs.declared.views.View.{View}
+use Rattle.plan_words.proofs.Words.{◌≡◌, Option, Some, None, refl, sym, ap, ◌∙◌, subst, IfSome, IsSome, is_some, TableId, PassState, with_view, Hand, View}
 use Rattle.plan_words.proofs.Owning.{with_view_told}
 
 pub with_view_told_hand :

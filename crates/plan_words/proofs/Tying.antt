@@ -1,21 +1,13 @@
 -- What a pass keeps beside its view, after steps that the law tells nothing of, and the word that it stores for its turn.
-use Rattle.std.proofs.Common.{◌≡◌, ℕ, ◌+◌, ◌<◌, ◌≤◌, List}
-use Rattle.std.proofs.Common.{[], ◌∷◌, length, Option, Some, None, refl, sym, ap, ◌∙◌, subst, arith, le_trans}
-use Rattle.std.specs.Prelude.{IfSome, IsSome, is_some}
+use Rattle.plan_words.proofs.Words.{◌≡◌, ℕ, ◌+◌, ◌<◌, ◌≤◌, List, [], ◌∷◌, length, Option, Some, None, refl, sym, ap, ◌∙◌, subst, arith, le_trans, IfSome}
+use Rattle.plan_words.proofs.Words.{IsSome, is_some, length-replicate, same_Some, MOST_MARKS, MOST_WORKERS, Record, sizes_in, Word, FitsWord, BelongsTo, GoesOn}
+use Rattle.plan_words.proofs.Words.{HasRoom, IsTied, MayClaim, PassState, SharedState, first_member, turn_of, worker_of, IsLawfulView, finished_at, looker}
+use Rattle.plan_words.proofs.Words.{one_turn_more, parted, second_alone, without_second, worker_apart, MayRecord, IsSeenPair, IsViewOf, last_look, last_zero}
+use Rattle.plan_words.proofs.Words.{run_sizes, spent, IsLater-stepped, SeesTree-apart, SeesTree-looker, SeesTree-parted, SeesTree-stepped, zero-read, goes_at}
+use Rattle.plan_words.proofs.Words.{stays_at, Hand, Member, SharedRun, View, WordPlaces}
 use mathlib.Core.Option.{some, some-ne-none}
 use lib.ListN.{get_elem?}
-use Rattle.std.proofs.lemmas.List.{length-replicate}
-use Rattle.std.proofs.lemmas.Option.{same_Some}
-use Rattle.grown_runs.proofs.Common.{MOST_MARKS, MOST_WORKERS, Record, sizes_in, Word, FitsWord}
-use Rattle.plan_words.specs.States.{BelongsTo, GoesOn, HasRoom, IsTied, MayClaim, PassState, SharedState, first_member, turn_of, worker_of}
-use Rattle.step_core.proofs.Common.{IsLawfulView, finished_at, looker, one_turn_more, parted, second_alone, stepped, without_second, worker_apart, MayRecord}
-use Rattle.step_core.proofs.Common.{IsSeenPair, IsViewOf, last_look, last_zero, run_sizes, spent, IsLater-stepped, SeesTree-apart, SeesTree-looker}
-use Rattle.step_core.proofs.Common.{SeesTree-parted, SeesTree-stepped, zero-read, goes_at, stays_at}
-use Rattle.step_core.specs.declared.views.Hand.{Hand}
-use Rattle.step_core.specs.declared.views.Member.{Member}
-use Rattle.step_core.specs.declared.views.SharedRun.{SharedRun}
-use Rattle.step_core.specs.declared.views.View.{View}
-use Rattle.grown_runs.specs.declared.word_places.WordPlaces.{WordPlaces}
+use Rattle.step_core.proofs.Common.{stepped}
 use Rattle.plan_words.proofs.GoingOn.{BelongsTo-later}
 use Rattle.plan_words.proofs.FittingRecords.{last_fits, nearest_fits}
 

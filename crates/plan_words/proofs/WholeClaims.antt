@@ -1,16 +1,12 @@
 -- What a claim of a pass with the share of all workers leaves: it finds the counters as it has seen them, and takes the least mark left.
-use Rattle.std.proofs.Common.{◌≡◌, ℕ, ◌+◌, ◌*◌, ◌/◌, ◌%◌, ◌<◌, ◌≤◌, true, List, [], ◌∷◌, refl, sym, ap, ◌∙◌, subst, inl, inr, arith}
-use Rattle.std.specs.Prelude.{◌==◌, cond, length}
+use Rattle.plan_words.proofs.Words.{◌≡◌, ℕ, ◌+◌, ◌*◌, ◌/◌, ◌%◌, ◌<◌, ◌≤◌, true, List, [], ◌∷◌, refl, sym, ap, ◌∙◌, subst, inl, inr, arith, ◌==◌, cond, length}
+use Rattle.plan_words.proofs.Words.{cases_eq, cases_lt, le-ltb, lt-ltb, div-add-mod', div-mul-add, mod-mul-add, mod_below, mul-le, is_claimed, Word, Words}
+use Rattle.plan_words.proofs.Words.{WritesWord, Best, ChildOf, Count, Counter, FirstOf, PointOf, RecordOf, TreeOf, GoesBefore, IsLeastOpen, IsOpen, KeepsHand}
+use Rattle.plan_words.proofs.Words.{OwnsAllStrips, RaisesCounter, SeesAsBefore, is_own, next_mark, BelongsTo, HasWholeShare, PassState, SharedState, worker_of}
+use Rattle.plan_words.proofs.Words.{IsLawfulView, mark_of, sees, counters, Member, View}
 use lib.ListN.{get_elem?}
 use mathlib.Core.Option.{some}
-use Rattle.std.proofs.lemmas.Bool.{cases_eq, cases_lt, eq-eqb, le-ltb, lt-ltb}
-use Rattle.std.proofs.lemmas.Nat.{div-add-mod', div-mul-add, mod-mul-add, mod_below, mul-le}
-use Rattle.grown_runs.proofs.Common.{is_claimed, Word, Words, WritesWord, Best, ChildOf, Count, Counter, FirstOf, PointOf, RecordOf, TreeOf}
-use Rattle.plan_words.specs.Claims.{GoesBefore, IsLeastOpen, IsOpen, KeepsHand, OwnsAllStrips, RaisesCounter, SeesAsBefore, is_own, next_mark}
-use Rattle.plan_words.specs.States.{BelongsTo, HasWholeShare, PassState, SharedState, worker_of}
-use Rattle.step_core.proofs.Common.{IsLawfulView, mark_of, sees, counters}
-use Rattle.step_core.specs.declared.views.Member.{Member}
-use Rattle.step_core.specs.declared.views.View.{View}
+use Rattle.std.proofs.lemmas.Bool.{eq-eqb}
 
 -- the share stays
 pub HasWholeShare-kept : (before after : View) → KeepsHand before after → after.run ≡ before.run → HasWholeShare before → HasWholeShare after

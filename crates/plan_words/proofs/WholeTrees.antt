@@ -1,15 +1,10 @@
 -- The tree that a pass with the share of all workers has seen, with its records, is that of the linked nodes.
-use Rattle.std.proofs.Common.{◌≡◌, ℕ, ◌+◌, Bool, true, false, List, None, sym, ap, ◌∙◌, subst, inl, inr}
-use Rattle.std.specs.Prelude.{◌==◌, ◌||◌, if◌then◌else◌, map, unwrap_or}
-use Rattle.std.specs.List.{list_any, range_with_len}
+use Rattle.plan_words.proofs.Words.{◌≡◌, ℕ, ◌+◌, Bool, true, false, List, None, sym, ap, ◌∙◌, subst, inl, inr, ◌==◌, ◌||◌, if◌then◌else◌, map, unwrap_or}
+use Rattle.plan_words.proofs.Words.{list_any, range_with_len, cases_Bool, IsPresent, point_at, AreSameRuns, is_linked, Words, ChildOf, PointOf, TreeOf, Sizes}
+use Rattle.plan_words.proofs.Words.{cost_in, parent_in, point_of_word, linked_point, linked_points, state_of_links, run_sizes, sees, share, IsWorld, state_in}
+use Rattle.plan_words.proofs.Words.{linked-present, children-whole, records-whole, sees-whole, SharedRun, View}
 use mathlib.Core.Option.{some}
 use lib.ListN.{get_elem?}
-use Rattle.std.proofs.lemmas.Bool.{cases_Bool}
-use Rattle.grown_runs.proofs.Common.{IsPresent, point_at, AreSameRuns, is_linked, Words, ChildOf, PointOf, TreeOf, Sizes, cost_in, parent_in, point_of_word}
-use Rattle.step_core.proofs.Common.{linked_point, linked_points, state_of_links, run_sizes, sees, share, IsWorld, state_in, linked-present, children-whole}
-use Rattle.step_core.proofs.Common.{records-whole, sees-whole}
-use Rattle.step_core.specs.declared.views.SharedRun.{SharedRun}
-use Rattle.step_core.specs.declared.views.View.{View}
 use Rattle.plan_words.proofs.LookedNodes.{unwrap_or-child}
 
 module _ (run : SharedRun) (words : Words) (views : List View) (id : ℕ) (view : View) (world : IsWorld run words views)

@@ -1,17 +1,10 @@
 -- A pass with the share of all workers finds each word as it has seen it, and the count as that of the nodes that it sees.
-use Rattle.std.proofs.Common.{◌≡◌, ◌≢◌, ℕ, ◌<◌, List, Some, arith, refl, sym, ap, ◌∙◌, subst}
+use Rattle.plan_words.proofs.Words.{◌≡◌, ◌≢◌, ℕ, ◌<◌, List, Some, arith, refl, sym, ap, ◌∙◌, subst, IsTrue, IsGoalNode, is_goal_point, node_count, point_at}
+use Rattle.plan_words.proofs.Words.{IsPresent-goal, Word, Words, Best, ChildOf, Count, Counter, FirstOf, PointOf, RecordOf, TreeOf, best_cost_in, best_node_in}
+use Rattle.plan_words.proofs.Words.{cost_in, no_best, FindsGoalNode, HasWholeShare, linked_points, MayLoad, run_sizes, sees, share, tree_seen, IsWorld}
+use Rattle.plan_words.proofs.Words.{linked-present, count-whole, nodes-whole, points-whole, sees-whole, Hand, SharedRun, Linked, View}
 use mathlib.Core.Option.{some}
 use lib.ListN.{get_elem?}
-use Rattle.std.specs.Prelude.{IsTrue}
-use Rattle.grown_runs.proofs.Common.{IsGoalNode, is_goal_point, node_count, point_at, IsPresent-goal, Word, Words, Best, ChildOf, Count, Counter, FirstOf}
-use Rattle.grown_runs.proofs.Common.{PointOf, RecordOf, TreeOf, best_cost_in, best_node_in, cost_in, no_best}
-use Rattle.plan_words.proofs.Words.{FindsGoalNode, HasWholeShare}
-use Rattle.step_core.proofs.Common.{linked_points, MayLoad, run_sizes, sees, share, tree_seen, IsWorld, linked-present, count-whole, nodes-whole, points-whole}
-use Rattle.step_core.proofs.Common.{sees-whole}
-use Rattle.step_core.specs.declared.views.Hand.{Hand}
-use Rattle.step_core.specs.declared.views.SharedRun.{SharedRun}
-use Rattle.step_core.specs.declared.views.Stage.TheVariants.{Linked}
-use Rattle.step_core.specs.declared.views.View.{View}
 use Rattle.step_core.proofs.Whole.WholeCopies.{best-whole as best-same}
 
 module _ (run : SharedRun) (words : Words) (views : List View) (id : ℕ) (view : View) (world : IsWorld run words views)

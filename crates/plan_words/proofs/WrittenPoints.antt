@@ -1,14 +1,9 @@
 -- The point of each node that a view has seen is written, whether or not the view has seen that too.
-use Rattle.std.proofs.Common.{◌≡◌, ℕ, ◌+◌, ◌≤◌, ◌^◌, Bool, true, false, List, length, Some, None, inl, inr, sym, ap, ◌∙◌, subst, arith}
-use Rattle.std.specs.Prelude.{cond, is_some}
-use Rattle.std.proofs.lemmas.Bool.{cases_lt, lt-ltb}
-use Rattle.std.proofs.lemmas.List.FromFn.{get_or-map-range_with_len}
+use Rattle.plan_words.proofs.Words.{◌≡◌, ℕ, ◌+◌, ◌≤◌, ◌^◌, Bool, true, false, List, length, Some, None, inl, inr, sym, ap, ◌∙◌, subst, arith, cond, is_some}
+use Rattle.plan_words.proofs.Words.{cases_lt, lt-ltb, get_or-map-range_with_len, IsPresent, point_at, is_linked, Words, PointOf, Sizes, point_in, point_of_word}
+use Rattle.plan_words.proofs.Words.{linked_point, linked_points, SeesNode, run_sizes, IsWorld, IsPresent-seen, follow, seen_within, tree, SharedRun, View}
 use mathlib.Core.Option.{some}
 use lib.ListN.{get_elem?}
-use Rattle.grown_runs.proofs.Common.{IsPresent, point_at, is_linked, Words, PointOf, Sizes, point_in, point_of_word}
-use Rattle.step_core.proofs.Common.{linked_point, linked_points, SeesNode, run_sizes, IsWorld, IsPresent-seen, follow, seen_within, tree}
-use Rattle.step_core.specs.declared.views.SharedRun.{SharedRun}
-use Rattle.step_core.specs.declared.views.View.{View}
 
 -- a word that holds a point is written
 written-some : (word : ℕ) (b : Bool) → is_some (cond b (point_of_word word) None) ≡ true → 2 ^ 63 ≤ word

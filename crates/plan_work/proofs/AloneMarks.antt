@@ -1,20 +1,11 @@
 -- What a pass that works alone sees, from mark to mark.
-use Rattle.std.proofs.Common.{◌≡◌, ◌≢◌, ℕ, suc, ◌+◌, ◌<◌, Some, List, [], ◌∷◌, ◌++◌, length, take, arith, refl, sym, ap, ◌∙◌, subst, inl, inr}
-use Rattle.std.specs.Prelude.{slice_get}
-use Rattle.std.proofs.lemmas.Bool.{cases_eq}
-use Rattle.grown_runs.proofs.Common.{mark_at, Handles, IsTextbookRun, Nodes, Record, RecordsMark-push, record_at, Word, FirstOf, PointOf, RecordOf, TreeOf}
-use Rattle.grown_runs.proofs.Common.{record_of_word}
-use Rattle.plan_words.proofs.Common.{HasPostedGoals, PassState, SharedState, HasPostedGoals-step}
+use Rattle.plan_work.proofs.Words.{◌≡◌, ◌≢◌, ℕ, suc, ◌+◌, ◌<◌, Some, List, [], ◌∷◌, ◌++◌, length, take, arith, refl, sym, ap, ◌∙◌, subst, inl, inr, slice_get}
+use Rattle.plan_work.proofs.Words.{cases_eq, mark_at, Handles, IsTextbookRun, Nodes, Record, RecordsMark-push, record_at, Word, FirstOf, PointOf, RecordOf}
+use Rattle.plan_work.proofs.Words.{TreeOf, record_of_word, HasPostedGoals, PassState, SharedState, HasPostedGoals-step, HasRecorded, SeesTextbook, WorksAlone}
+use Rattle.plan_work.proofs.Words.{SeesButCount, IsLater, one_turn_more, sees, setup_in, Hand, Member, SharedRun, View, Mirrors}
 use Rattle.plan_work.proofs.MirroredTrees.{Mirrors-still}
 use Rattle.plan_work.proofs.RecordedMarks.{others_still}
 use Rattle.plan_work.proofs.TextbookSteps.{IsTextbookRun-push, RecordsNext-run}
-use Rattle.plan_work.proofs.Words.{HasRecorded, SeesTextbook, WorksAlone, SeesButCount}
-use Rattle.step_core.proofs.Common.{IsLater, one_turn_more, sees, setup_in}
-use Rattle.step_core.specs.declared.views.Hand.{Hand}
-use Rattle.step_core.specs.declared.views.Member.{Member}
-use Rattle.step_core.specs.declared.views.SharedRun.{SharedRun}
-use Rattle.step_core.specs.declared.views.View.{View}
-use Rattle.tree_rewire.specs.Mirrors.{Mirrors}
 
 -- ---- the same mark
 

@@ -1,10 +1,8 @@
 -- Lists of points that have the same point at each number: the same nodes are near, and as many.
-use Rattle.std.proofs.Common.{◌≡◌, ℕ, zero, suc, ◌+◌, ◌≤◌, Bool, false, cond, Option, None, List, [], ◌∷◌, ◌++◌, length, arith, sym, ap, ◌∙◌}
+use Rattle.plan_work.proofs.Words.{◌≡◌, ℕ, zero, suc, ◌+◌, ◌≤◌, Bool, false, cond, Option, None, List, [], ◌∷◌, ◌++◌, length, arith, sym, ap, ◌∙◌}
+use Rattle.plan_work.proofs.Words.{range_with_len, append-nil, get_or_past, filter-append, filter_agree, is_within, near, node_count, point_at, radius_of}
+use Rattle.plan_work.proofs.Words.{Setup, near_new, Point, range-more, node_count-same}
 use Rattle.std.specs.Prelude.{filter}
-use Rattle.std.specs.List.{range_with_len}
-use Rattle.std.proofs.lemmas.List.{append-nil, get_or_past}
-use Rattle.std.proofs.lemmas.List.Elements.{filter-append, filter_agree}
-use Rattle.grown_runs.proofs.Common.{is_within, near, node_count, point_at, radius_of, Setup, near_new, Point, range-more, node_count-same}
 
 -- numbers past all that pass add none
 filter-longer : (test : ℕ → Bool) (n d : ℕ) → ((i : ℕ) → n ≤ i → test i ≡ false)

@@ -1,22 +1,16 @@
 -- A pass that works alone handles a mark as in the textbook: what its steps lead to.
-use Rattle.std.proofs.Common.{◌≡◌, ℕ, suc, Some, None, [], ◌∷◌, ◌++◌, sym, ap, ◌∙◌, subst}
-use Rattle.kd_shared.specs.Placings.{SeesPlacing}
-use Rattle.kd_shared.specs.declared.placing.Placing.{Placing}
+use Rattle.plan_work.proofs.Words.{◌≡◌, ℕ, suc, Some, None, [], ◌∷◌, ◌++◌, sym, ap, ◌∙◌, subst, SeesPlacing, Placing, Clear, mark_at, IsFree, point_of, Handles}
+use Rattle.plan_work.proofs.Words.{MayBeCheaper, SteersTo, unplaced_record, points_of, sum_of, Point, Blocked, Record, FirstOf, PointOf, TreeOf, SeesAsBefore}
+use Rattle.plan_work.proofs.Words.{GoesOn, PassState, SharedState, turn_of, with_view, worker_of, HasSteered, HasRecorded, KeepsRecords, own_unplaced}
+use Rattle.plan_work.proofs.Words.{IsNotSkippedIn, SeesTextbook, WorksAlone, IsFilledWhole, IsSteeredWhole, KeepsNode, KeepsOthers, SeesButCount, pointed}
+use Rattle.plan_work.proofs.Words.{SeesPoint, sees, setup_in, tree_seen, Hand, View}
 use Rattle.kd_shared.specs.declared.placing.Placing.TheVariants.{Placed, Same}
-use Rattle.grown_runs.proofs.Common.{Clear, mark_at, IsFree, point_of, Handles, MayBeCheaper, SteersTo, unplaced_record, points_of, sum_of, Point, Blocked}
-use Rattle.grown_runs.proofs.Common.{Record, FirstOf, PointOf, TreeOf}
 use Rattle.plan_model.specs.declared.records.Outcome.TheVariants.{Same as SameNode}
-use Rattle.plan_words.proofs.Common.{SeesAsBefore, GoesOn, PassState, SharedState, turn_of, with_view, worker_of}
 use Rattle.plan_work.proofs.AloneMarks.{KeepsRun-refl, SeesTextbook-recorded, SeesTextbook-still, WorksAlone-recorded, WorksAlone-still}
 use Rattle.plan_work.proofs.MirroredTrees.{Mirrors-absent, SteersTo-mirrored, point_of-mirrored}
 use Rattle.plan_work.proofs.SkippedAlone.{IsNotSkippedIn-kept, MayBeCheaper-mirrored}
 use Rattle.plan_work.proofs.TextbookSteps.{Handles-blocked, Handles-same}
 use Rattle.plan_work.proofs.WholeLists.{IsFilledWhole-still, IsSteeredWhole-found, IsSteeredWhole-still}
-use Rattle.plan_work.proofs.Words.{HasSteered, HasRecorded, KeepsRecords, own_unplaced, IsNotSkippedIn, SeesTextbook, WorksAlone, IsFilledWhole, IsSteeredWhole}
-use Rattle.plan_work.proofs.Words.{KeepsNode, KeepsOthers, SeesButCount}
-use Rattle.step_core.proofs.Common.{pointed, SeesPoint, sees, setup_in, tree_seen}
-use Rattle.step_core.specs.declared.views.Hand.{Hand}
-use Rattle.step_core.specs.declared.views.View.{View}
 
 -- nodes are kept by calls that show nothing new before
 pub KeepsOthers-after : (before mid after : View) (k : ℕ) (placing : Placing) → SeesAsBefore before mid → KeepsOthers mid after k placing

@@ -1,18 +1,13 @@
 -- A mark is handled in steps: what the first of them leave, and what all of them leave together.
-use Rattle.std.proofs.Common.{◌≡◌, ℕ, ◌≤◌, Some, inl, refl, sym, ap, ◌∙◌, subst, arith}
-use Rattle.std.specs.Prelude.{IfSome, IsSome, is_some}
-use Rattle.grown_runs.proofs.Common.{Clear, space_of, IsFree, point_of, EndsSince, IsSwept, Point, Blocked, Same, Record, point_of-stands, EndsSince-later}
-use Rattle.grown_runs.proofs.Common.{IsBounded, Count, Counter, PointOf, RecordOf, point_of_word, Outcome}
-use Rattle.plan_words.proofs.Common.{BelongsTo, GoesOn, PassState, SharedState, turn_of, with_view, worker_of, BelongsTo-later, GoesOn-trans}
-use Rattle.plan_words.proofs.Common.{SeesBestSince, SeesBestSince-trans}
-use Rattle.step_core.proofs.Common.{IsLaterMoment-later, KeepsSight-lawful, point_at-seen, seen-within, IsUnskipped, MayBeBlocked, MayRecord, one_turn_more}
-use Rattle.step_core.proofs.Common.{pointed, IsSteered, SeesPoint, sight_in, run_sizes, sees, setup_in, tree_seen, has_node-recorded, present_recorded}
-use Rattle.step_core.specs.declared.views.Hand.{Hand}
-use Rattle.step_core.specs.declared.views.SharedRun.{SharedRun}
-use Rattle.step_core.specs.declared.views.Stage.TheVariants.{Pointed}
-use Rattle.step_core.specs.declared.views.View.{View}
-use Rattle.tree_rewire.proofs.SeenCosts.{stands_later}
-use Rattle.kd_shared.specs.Looking.{OnlyLooks}
+use Rattle.plan_work.proofs.Words.{◌≡◌, ℕ, ◌≤◌, Some, inl, refl, sym, ap, ◌∙◌, subst, arith, IfSome, IsSome, is_some, Clear, space_of, IsFree, point_of}
+use Rattle.plan_work.proofs.Words.{EndsSince, IsSwept, Point, Blocked, Record, point_of-stands, EndsSince-later, IsBounded, Count, Counter, PointOf, RecordOf}
+use Rattle.plan_work.proofs.Words.{point_of_word, Outcome, BelongsTo, GoesOn, PassState, SharedState, turn_of, with_view, worker_of, BelongsTo-later}
+use Rattle.plan_work.proofs.Words.{GoesOn-trans, SeesBestSince, SeesBestSince-trans, IsLaterMoment-later, KeepsSight-lawful, point_at-seen, seen-within}
+use Rattle.plan_work.proofs.Words.{IsUnskipped, MayBeBlocked, MayRecord, one_turn_more, pointed, IsSteered, SeesPoint, sight_in, run_sizes, sees, setup_in}
+use Rattle.plan_work.proofs.Words.{tree_seen, has_node-recorded, present_recorded, Hand, SharedRun, Pointed, View, stands_later, OnlyLooks, EndsAsSteered}
+use Rattle.plan_work.proofs.Words.{HandlesMark, HasSteered, IsBlockedAt, WasSteered, EndsWritten, HasFilledNear, HasRecorded, IsFilledSince}
+use Rattle.plan_work.proofs.Words.{IsSteeredAndHandled, IsSteeredTo, KeepsRecords, MayPlace, own_unplaced}
+use Rattle.grown_runs.proofs.Common.{Same}
 use Rattle.plan_work.proofs.HeldMarks.{holding, if_held}
 use Rattle.plan_work.proofs.KeptRecords.{KeepsRecords-looks, KeepsRecords-trans}
 use Rattle.plan_work.proofs.KeptSights.{HasSteered-still}
@@ -20,8 +15,6 @@ use Rattle.plan_work.proofs.RecordedMarks.{HandlesMark-recorded, IsSteeredTo-sti
 use Rattle.plan_work.proofs.SkippedMarks.{IsUnskipped-kept}
 use Rattle.plan_work.proofs.SteeredOutcomes.{EndsAsSteered-written, WasSteered-to}
 use Rattle.plan_work.proofs.TriedMarks.{HasFilledNear-still}
-use Rattle.plan_work.proofs.Words.{EndsAsSteered, HandlesMark, HasSteered, IsBlockedAt, WasSteered, EndsWritten, HasFilledNear, HasRecorded, IsFilledSince}
-use Rattle.plan_work.proofs.Words.{IsSteeredAndHandled, IsSteeredTo, KeepsRecords, MayPlace, own_unplaced}
 
 -- ---- one after another
 

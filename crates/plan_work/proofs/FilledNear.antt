@@ -1,23 +1,11 @@
 -- The near list of a new node, from the count that was loaded before.
-use Rattle.std.proofs.Common.{◌≡◌, ℕ, ◌+◌, ◌-◌, ◌*◌, ◌^◌, ◌<◌, ◌≤◌, List, length, refl, sym, ap, ◌∙◌, subst, inl, inr, arith}
-use Rattle.std.specs.Prelude.{nat_le, slice_index_or}
-use Rattle.std.specs.List.{range_with_len}
-use Rattle.std.proofs.lemmas.List.Elements.{All-map, Contains-get_or}
-use Rattle.std.proofs.lemmas.Nat.{mul-le}
-use Rattle.std.proofs.lemmas.List.Sums.{length-filter}
-use Rattle.kd_shared.specs.Searches.{AreGathered}
-use Rattle.kd_shared.proofs.SearchResults.{SweepsWithin-begun}
-use Rattle.kd_shared.proofs.SortedNear.{is_within-near}
-use Rattle.grown_runs.proofs.Common.{squared_distance, class_of, radius_of_class, Point, Record, greatest-le, count-some, IsPresent-stands, point_of-stands}
-use Rattle.grown_runs.proofs.Common.{distance_to, is_within, Word, Count, RecordOf}
-use Rattle.plan_words.proofs.Common.{Contains-number, GoesOn, PassState, with_view}
-use Rattle.plan_words.specs.declared.spots.Found.{Found}
-use Rattle.tree_rewire.specs.SeenCosts.{IsInReach}
+use Rattle.plan_work.proofs.Words.{◌≡◌, ℕ, ◌+◌, ◌-◌, ◌*◌, ◌^◌, ◌<◌, ◌≤◌, List, length, refl, sym, ap, ◌∙◌, subst, inl, inr, arith, nat_le, slice_index_or}
+use Rattle.plan_work.proofs.Words.{range_with_len, All-map, Contains-get_or, mul-le, length-filter, AreGathered, SweepsWithin-begun, is_within-near}
+use Rattle.plan_work.proofs.Words.{squared_distance, class_of, radius_of_class, Point, Record, greatest-le, count-some, IsPresent-stands, point_of-stands}
+use Rattle.plan_work.proofs.Words.{distance_to, is_within, Word, Count, RecordOf, Contains-number, GoesOn, PassState, with_view, Found, IsInReach, radius_in}
+use Rattle.plan_work.proofs.Words.{HasFilledNear, is_own_node, own_count, loaded, sight_in, last_look, sees, tree_seen, IsLaterMoment-later, WritesWord-looked}
+use Rattle.plan_work.proofs.Words.{View, stands_later}
 use Rattle.plan_work.proofs.RecordedMarks.{own_count-same}
-use Rattle.plan_work.proofs.Words.{radius_in, HasFilledNear}
-use Rattle.step_core.proofs.Common.{is_own_node, own_count, loaded, sight_in, last_look, sees, tree_seen, IsLaterMoment-later, WritesWord-looked}
-use Rattle.step_core.specs.declared.views.View.{View}
-use Rattle.tree_rewire.proofs.SeenCosts.{stands_later}
 
 -- a worker has the start at least
 pub own_count-some : (view : View) (entry : Record) → 1 ≤ own_count view entry

@@ -1,11 +1,6 @@
 -- What a search gathered are the near nodes, each once.
-use Rattle.std.proofs.Common.{ℕ, ◌∙◌, List, ap, sym}
-use Rattle.kd_shared.specs.Searches.{AreGathered}
-use Rattle.kd_shared.proofs.SortedNear.{is_within-near, near-within}
-use Rattle.grown_runs.proofs.Common.{Contains-near, Sight, is_within, near, point_at, Point}
-use Rattle.plan_words.proofs.RisingNumbers.{Contains-number}
-use Rattle.plan_words.specs.declared.spots.Found.{Found}
-use Rattle.tree_rewire.specs.FoundNodes.{AreOf}
+use Rattle.plan_work.proofs.Words.{ℕ, ◌∙◌, List, ap, sym, AreGathered, is_within-near, near-within, Contains-near, Sight, is_within, near, point_at, Point}
+use Rattle.plan_work.proofs.Words.{Contains-number, Found, AreOf}
 
 pub AreOf-gathered : (before after : Sight) (p : Point) (r : ℕ) (found : List Found) → AreGathered before after p r found
     → AreOf found (near after.seen.points p r)

@@ -1,12 +1,6 @@
 -- A mark in hand, by the view of its pass.
-use Rattle.std.proofs.Common.{◌≡◌, ℕ, ◌<◌, Option, Some, None, List, length, refl, sym, ap, ◌∙◌, subst, arith}
-use Rattle.std.specs.Prelude.{IfSome, IsSome, slice_index_or}
-use Rattle.grown_runs.proofs.Common.{mark_at, Point}
-use Rattle.plan_words.specs.States.{BelongsTo, PassState, SharedState}
-use Rattle.step_core.specs.LaterViews.{IsLawfulView}
-use Rattle.step_core.specs.declared.views.Hand.{Hand}
-use Rattle.step_core.specs.declared.views.SharedRun.{SharedRun}
-use Rattle.step_core.specs.declared.views.View.{View}
+use Rattle.plan_work.proofs.Words.{◌≡◌, ℕ, ◌<◌, Option, Some, None, List, length, refl, sym, ap, ◌∙◌, subst, arith, IfSome, IsSome, slice_index_or, mark_at}
+use Rattle.plan_work.proofs.Words.{Point, BelongsTo, PassState, SharedState, IsLawfulView, Hand, SharedRun, View}
 
 -- what is in hand
 pub record Holding (view : View) (has : Hand → Type 0) : Type 0 where

@@ -1,16 +1,9 @@
 -- The node in hand gets its parent and its cost.
-use Rattle.std.proofs.Common.{◌≡◌, ℕ, ◌≤◌, ◌∷◌, List, inl, refl, sym, ap, ◌∙◌, subst, arith}
-use Rattle.std.specs.Prelude.{All, Contains, slice_index_or}
-use Rattle.std.proofs.lemmas.List.Elements.{All-contains, Contains-get_or}
-use Rattle.grown_runs.proofs.Common.{Clear, ConfigurationSpace, cost_of, IsFirstLeast, IsOpenTo, IsPresent, point_at, point_of, Point, Contains-after}
-use Rattle.grown_runs.proofs.Common.{Contains-first, StandsAt-present, Counter, RecordOf, TreeOf}
-use Rattle.plan_words.proofs.Common.{BelongsTo, GoesOn, PassState, SharedState, with_view, BelongsTo-later}
-use Rattle.plan_work.specs.ExtensionSteps.{IsHung, IsPointed, KeepsRecords}
-use Rattle.step_core.proofs.Common.{half, treed, IsCostBelow, MayHang, sees, setup_in, tree_seen}
-use Rattle.step_core.specs.declared.views.Hand.{Hand}
-use Rattle.step_core.specs.declared.views.Stage.TheVariants.{Half}
-use Rattle.step_core.specs.declared.views.View.{View}
-use Rattle.tree_rewire.specs.SeenCosts.{IsLoadedSince, SeesPair, cost_seen, seen_cost_through}
+use Rattle.plan_work.proofs.Words.{◌≡◌, ℕ, ◌≤◌, ◌∷◌, List, inl, refl, sym, ap, ◌∙◌, subst, arith, All, Contains, slice_index_or, All-contains, Contains-get_or}
+use Rattle.plan_work.proofs.Words.{Clear, ConfigurationSpace, cost_of, IsFirstLeast, IsOpenTo, IsPresent, point_at, point_of, Point, Contains-after}
+use Rattle.plan_work.proofs.Words.{Contains-first, StandsAt-present, Counter, RecordOf, TreeOf, BelongsTo, GoesOn, PassState, SharedState, with_view}
+use Rattle.plan_work.proofs.Words.{BelongsTo-later, IsHung, IsPointed, KeepsRecords, half, treed, IsCostBelow, MayHang, sees, setup_in, tree_seen, Hand, Half}
+use Rattle.plan_work.proofs.Words.{View, IsLoadedSince, SeesPair, cost_seen, seen_cost_through}
 use Rattle.plan_work.proofs.FilledNear.{looked_since}
 
 module _ (space : ConfigurationSpace) (view : View) (hand : Hand) (p : Point) (nearest parent cost : ℕ) (near : List ℕ) (pointed : IsPointed hand nearest p)

@@ -1,11 +1,6 @@
 -- Calls that see no record anew, one after another.
-use Rattle.std.proofs.Common.{◌≡◌, ℕ, inl, ap, ◌∙◌}
-use Rattle.kd_shared.specs.Looking.{OnlyLooks}
-use Rattle.plan_words.proofs.Common.{BelongsTo, GoesOn, PassState, SharedState, BelongsTo-later, GoesOn-trans, SeesBestSince-trans}
-use Rattle.plan_work.specs.ExtensionSteps.{KeepsRecords}
-use Rattle.step_core.proofs.Common.{loaded, sees}
-use Rattle.grown_runs.proofs.Common.{Word, WritesWord, Best, Count, Counter, RecordOf}
-use Rattle.tree_rewire.specs.SeenCosts.{SeesAnew}
+use Rattle.plan_work.proofs.Words.{◌≡◌, ℕ, inl, ap, ◌∙◌, OnlyLooks, BelongsTo, GoesOn, PassState, SharedState, BelongsTo-later, GoesOn-trans}
+use Rattle.plan_work.proofs.Words.{SeesBestSince-trans, KeepsRecords, loaded, sees, Word, WritesWord, Best, Count, Counter, RecordOf, SeesAnew}
 
 pub KeepsRecords-trans : (shared : SharedState) (before mid after : PassState) → KeepsRecords shared before mid → KeepsRecords shared mid after
     → KeepsRecords shared before after

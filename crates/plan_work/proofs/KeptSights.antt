@@ -1,14 +1,8 @@
 -- What a pass has found at a moment, at a later one.
-use Rattle.std.proofs.Common.{◌≡◌, ℕ, sym, ap, ◌∙◌, subst, arith}
-use Rattle.kd_shared.specs.Searches.{IsNearestSeen, SweepsWithin}
-use Rattle.kd_shared.proofs.SearchResults.{SweepsWithin-begun, SweepsWithin-later}
-use Rattle.grown_runs.proofs.Common.{mark_at, squared_distance, IsNotAbove, distance_to, IsPresent, point_of, steered, Point, IsPresent-stands}
-use Rattle.grown_runs.proofs.Common.{StandsAt-present, point_of-stands}
-use Rattle.plan_words.specs.States.{GoesOn}
-use Rattle.plan_work.specs.Extensions.{HasSteered}
-use Rattle.step_core.proofs.Common.{SeesPoint, sight_in, tree_seen, IsLaterMoment-later, KeepsSight-lawful}
-use Rattle.step_core.specs.declared.views.View.{View}
-use Rattle.tree_rewire.proofs.SeenCosts.{stands_later}
+use Rattle.plan_work.proofs.Words.{◌≡◌, ℕ, sym, ap, ◌∙◌, subst, arith, IsNearestSeen, SweepsWithin, SweepsWithin-begun, SweepsWithin-later, mark_at}
+use Rattle.plan_work.proofs.Words.{squared_distance, IsNotAbove, distance_to, IsPresent, point_of, steered, Point, IsPresent-stands, StandsAt-present}
+use Rattle.plan_work.proofs.Words.{point_of-stands, GoesOn, HasSteered, SeesPoint, sight_in, tree_seen, IsLaterMoment-later, KeepsSight-lawful, View}
+use Rattle.plan_work.proofs.Words.{stands_later}
 
 module _ (mid after : View) (goes_on : GoesOn mid after) where
   -- a node seen with its point is seen there still

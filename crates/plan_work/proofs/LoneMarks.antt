@@ -1,17 +1,10 @@
 -- One worker alone goes from mark to mark, each the least that is not claimed, and handles each as the textbook does.
-use Rattle.std.proofs.Common.{◌≡◌, ℕ, suc, ◌+◌, ◌*◌, ◌/◌, ◌%◌, ◌<◌, ◌≤◌, ◌^◌, true, length, take, sym, ap, ◌∙◌, subst, inl, inr, arith}
-use Rattle.std.specs.Prelude.{◌≢◌, map}
-use Rattle.std.specs.List.{range_with_len}
-use Rattle.std.proofs.lemmas.Bool.{cases_eq, cases_lt, le-ltb, lt-ltb}
-use Rattle.grown_runs.proofs.Common.{is_claimed, strip_of_mark, point_at, IsTextbookRun, Record, IsMarkOf-own, is_claimed-now, is_claimed-other, ltb-next}
-use Rattle.grown_runs.proofs.Common.{record_at, seen_point, ChangesOnly, IsCounter, Counter, FirstOf, PointOf, RecordOf, TreeOf, cost_in, parent_in}
-use Rattle.grown_runs.proofs.Common.{point_of_word, record_of_word}
-use Rattle.plan_words.proofs.Common.{AllFull, IsClaimed, IsLeastOpen, KeepsHand, RaisesCounter, SeesAsBefore, GoesOn, PassState, SharedState}
-use Rattle.plan_words.proofs.Common.{HasPostedGoals-step}
-use Rattle.step_core.proofs.Common.{IsLater, mark_of, sees, setup_in, tree_seen, counters}
-use Rattle.step_core.specs.declared.views.SharedRun.{SharedRun}
-use Rattle.step_core.specs.declared.views.View.{View}
-use Rattle.plan_work.proofs.Words.{HandlesMark, HasClaimed, HasHandled, SeesTextbook, WorksAlone}
+use Rattle.plan_work.proofs.Words.{◌≡◌, ℕ, suc, ◌+◌, ◌*◌, ◌/◌, ◌%◌, ◌<◌, ◌≤◌, ◌^◌, true, length, take, sym, ap, ◌∙◌, subst, inl, inr, arith, ◌≢◌, map}
+use Rattle.plan_work.proofs.Words.{range_with_len, cases_eq, cases_lt, le-ltb, lt-ltb, is_claimed, strip_of_mark, point_at, IsTextbookRun, Record, IsMarkOf-own}
+use Rattle.plan_work.proofs.Words.{is_claimed-now, is_claimed-other, ltb-next, record_at, seen_point, ChangesOnly, IsCounter, Counter, FirstOf, PointOf}
+use Rattle.plan_work.proofs.Words.{RecordOf, TreeOf, cost_in, parent_in, point_of_word, record_of_word, AllFull, IsClaimed, IsLeastOpen, KeepsHand}
+use Rattle.plan_work.proofs.Words.{RaisesCounter, SeesAsBefore, GoesOn, PassState, SharedState, HasPostedGoals-step, IsLater, mark_of, sees, setup_in}
+use Rattle.plan_work.proofs.Words.{tree_seen, counters, SharedRun, View, HandlesMark, HasClaimed, HasHandled, SeesTextbook, WorksAlone}
 
 -- ---- while only counters are seen anew
 

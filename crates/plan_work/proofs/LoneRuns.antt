@@ -1,26 +1,15 @@
 -- One worker alone begins with what a run of the textbook has come to, and ends with such a run.
-use Rattle.std.proofs.Common.{◌≡◌, ℕ, ◌+◌, ◌<◌, ◌≤◌, ◌^◌, true, cond, ltb, List, [], ◌∷◌, length}
-use Rattle.std.proofs.Common.{take, Option, Some, None, refl, sym, ap, ◌∙◌, subst, inl, inr, arith}
-use Rattle.std.specs.Prelude.{IsTrue, is_some}
-use Rattle.std.proofs.lemmas.Bool.{cases_Bool, cases_lt, le-ltb, lt-ltb}
-use Rattle.std.proofs.lemmas.List.{get_or_past}
-use Rattle.std.proofs.lemmas.List.FromFn.{length-map-range_with_len}
+use Rattle.plan_work.proofs.Words.{◌≡◌, ℕ, ◌+◌, ◌<◌, ◌≤◌, ◌^◌, true, cond, ltb, List, [], ◌∷◌, length, take, Option, Some, None, refl, sym, ap, ◌∙◌, subst, inl}
+use Rattle.plan_work.proofs.Words.{inr, arith, IsTrue, is_some, cases_Bool, cases_lt, le-ltb, lt-ltb, get_or_past, length-map-range_with_len, is_claimed}
+use Rattle.plan_work.proofs.Words.{IsGoalNode, is_goal_point, IsPresent, point_at, IsSeen, IsTextbookRun, setup_of, skipping_goals, start_alone, AreSameRuns}
+use Rattle.plan_work.proofs.Words.{state_of, points_of, Point, Task, AreSameRuns-trans, is_claimed-below, is_claimed-past, state_of_grown, words_of_grown}
+use Rattle.plan_work.proofs.Words.{HoldRun, has_node, is_linked, points_of_words, record_at, sizes_of, seen_point, seen_tree_of_words, Words, PointOf, TreeOf}
+use Rattle.plan_work.proofs.Words.{Sizes, best_word, cost_in, parent_in, point_of_word, node_point-here, point_at-past, point_at-words, is_linked-child}
+use Rattle.plan_work.proofs.Words.{is_linked-start, HasPostedGoals, PassState, SharedState, StartsAs, run_in, IsLawfulView, linked_points, state_of_links}
+use Rattle.plan_work.proofs.Words.{member_of, run_of, run_sizes, sees, setup_in, tree_seen, counters, linked-present, point_at-linked, point_at-seen}
+use Rattle.plan_work.proofs.Words.{seen-within, linked-within, Grown, Member, SharedRun, View, point_at-absent, HasHandled, IsOfTextbook, SeesTextbook}
 use lib.Seq.{length-take-le}
-use Rattle.grown_runs.proofs.Common.{is_claimed, IsGoalNode, is_goal_point, IsPresent, point_at, IsSeen, IsTextbookRun, setup_of, skipping_goals, start_alone}
-use Rattle.grown_runs.proofs.Common.{AreSameRuns, state_of, points_of, Point, Task, AreSameRuns-trans, is_claimed-below, is_claimed-past, state_of_grown}
-use Rattle.grown_runs.proofs.Common.{words_of_grown, HoldRun, has_node, is_linked, points_of_words, record_at, sizes_of, seen_point, seen_tree_of_words, Words}
-use Rattle.grown_runs.proofs.Common.{PointOf, TreeOf, Sizes, best_word, cost_in, parent_in, point_of_word, node_point-here, point_at-past, point_at-words}
-use Rattle.grown_runs.proofs.Common.{is_linked-child, is_linked-start}
-use Rattle.plan_words.proofs.Common.{HasPostedGoals, PassState, SharedState, StartsAs, run_in}
-use Rattle.step_core.proofs.Common.{IsLawfulView, linked_points, state_of_links, member_of, run_of, run_sizes, sees, setup_in, tree_seen, counters}
-use Rattle.step_core.proofs.Common.{linked-present, point_at-linked, point_at-seen, seen-within, linked-within}
-use Rattle.grown_runs.specs.declared.grown.Grown.{Grown}
-use Rattle.step_core.specs.declared.views.Member.{Member}
-use Rattle.step_core.specs.declared.views.SharedRun.{SharedRun}
-use Rattle.step_core.specs.declared.views.View.{View}
-use Rattle.grown_runs.proofs.Runs.GrownPoints.{point_at-absent}
 use Rattle.plan_work.proofs.TextbookTurns.{turns-textbook}
-use Rattle.plan_work.specs.OneWorker.{HasHandled, IsOfTextbook, SeesTextbook}
 
 -- ---- the start
 

@@ -1,18 +1,11 @@
 -- A view that mirrors a tree of the textbook: what it sees is what the tree says, and it mirrors the tree after the next mark.
-use Rattle.std.proofs.Common.{◌≡◌, ◌≢◌, ℕ, suc, ◌+◌, ◌^◌, ◌≤◌, Option, Some, None, List, [], ◌∷◌, ◌++◌, map, arith, sym, ap, ◌∙◌, subst, inl, inr}
-use Rattle.std.specs.Prelude.{All, Contains, is_some, unwrap_or}
-use Rattle.std.specs.List.{range_with_len}
-use Rattle.std.proofs.lemmas.Bool.{cases_eq}
-use Rattle.std.proofs.lemmas.List.Elements.{All-contains}
-use Rattle.grown_runs.proofs.Common.{Clear, cost_of, squared_distance, IsFirstLeast, IsNotAbove, distance_to, IsOpenTo, KeepsOrder, IsPresent, point_at}
-use Rattle.grown_runs.proofs.Common.{point_of, steered, IsBestParent, Nodes, Setup, SteersTo, near_new, cost_through, parent_of, parent_or_zero, points_of}
-use Rattle.grown_runs.proofs.Common.{sum_of, state_of, Point, Record, AddsNode, point_at-same, AddsNode-placed, PlacesNode, RecordsNext, sum-placed}
-use Rattle.grown_runs.proofs.Common.{HaveSameNodes-absent, node_at-absent, seen_point, PointOf, TreeOf, cost_in, parent_in, point_of_word}
-use Rattle.plan_model.proofs.TreeChanges.{sum-same}
-use Rattle.step_core.proofs.Common.{SeesPoint, run_sizes, sees, setup_in, tree_seen}
-use Rattle.step_core.specs.declared.views.View.{View}
-use Rattle.tree_rewire.specs.Mirrors.{Mirrors}
-use Rattle.tree_rewire.specs.SeenCosts.{seen_cost_through}
+use Rattle.plan_work.proofs.Words.{◌≡◌, ◌≢◌, ℕ, suc, ◌+◌, ◌^◌, ◌≤◌, Option, Some, None, List, [], ◌∷◌, ◌++◌, map, arith, sym, ap, ◌∙◌, subst, inl, inr, All}
+use Rattle.plan_work.proofs.Words.{Contains, is_some, unwrap_or, range_with_len, cases_eq, All-contains, Clear, cost_of, squared_distance, IsFirstLeast}
+use Rattle.plan_work.proofs.Words.{IsNotAbove, distance_to, IsOpenTo, KeepsOrder, IsPresent, point_at, point_of, steered, IsBestParent, Nodes, Setup, SteersTo}
+use Rattle.plan_work.proofs.Words.{near_new, cost_through, parent_of, parent_or_zero, points_of, sum_of, state_of, Point, Record, AddsNode, point_at-same}
+use Rattle.plan_work.proofs.Words.{AddsNode-placed, PlacesNode, RecordsNext, sum-placed, HaveSameNodes-absent, node_at-absent, seen_point, PointOf, TreeOf}
+use Rattle.plan_work.proofs.Words.{cost_in, parent_in, point_of_word, sum-same, SeesPoint, run_sizes, sees, setup_in, tree_seen, View, Mirrors}
+use Rattle.plan_work.proofs.Words.{seen_cost_through}
 
 -- ---- what it sees
 

@@ -1,21 +1,9 @@
 -- The nearest node of a near list is the nearest of all.
-use Rattle.std.proofs.Common.{◌≡◌, ℕ, ◌*◌, ◌≤◌, Option, List, [], ◌∷◌, ◌++◌, arith, inl, inr, sym, ap, ◌∙◌, subst}
-use Rattle.std.specs.Prelude.{All, Contains}
-use Rattle.std.proofs.lemmas.Bool.{cases_lt}
-use Rattle.std.proofs.lemmas.List.Elements.{All-contains, All-nil}
-use Rattle.kd_shared.specs.Searches.{SweepsWithin}
-use Rattle.kd_shared.proofs.SearchResults.{SweepsWithin-less}
-use Rattle.grown_runs.proofs.Common.{mark_at, squared_distance, IsNotAbove, IsPairNotAbove, distance_to, IsPresent, point_of, steered, Point, IsNotAbove-lesser}
-use Rattle.grown_runs.proofs.Common.{IsNotAbove-refl, IsNotAbove-trans, StandsAt-present, point_of-stands, steered-near, IsNearerOf}
-use Rattle.plan_words.proofs.Common.{numbers_of, GoesOn}
-use Rattle.plan_words.specs.declared.spots.Found.{Found}
-use Rattle.grown_runs.specs.declared.measured_nodes.MeasuredNode.{MeasuredNode}
-use Rattle.step_core.proofs.Common.{SeesPoint, sight_in, tree_seen}
-use Rattle.step_core.specs.declared.views.View.{View}
-use Rattle.tree_rewire.proofs.ChosenParents.{All-more}
-use Rattle.tree_rewire.proofs.SeenCosts.{stands_later}
-use Rattle.tree_rewire.specs.SeenCosts.{IsInReach}
-use Rattle.plan_work.proofs.Words.{HasSteered, radius_in, HasFilledNear, IsNearestOf}
+use Rattle.plan_work.proofs.Words.{◌≡◌, ℕ, ◌*◌, ◌≤◌, Option, List, [], ◌∷◌, ◌++◌, arith, inl, inr, sym, ap, ◌∙◌, subst, All, Contains, cases_lt, All-contains}
+use Rattle.plan_work.proofs.Words.{All-nil, SweepsWithin, SweepsWithin-less, mark_at, squared_distance, IsNotAbove, IsPairNotAbove, distance_to, IsPresent}
+use Rattle.plan_work.proofs.Words.{point_of, steered, Point, IsNotAbove-lesser, IsNotAbove-refl, IsNotAbove-trans, StandsAt-present, point_of-stands}
+use Rattle.plan_work.proofs.Words.{steered-near, IsNearerOf, numbers_of, GoesOn, Found, MeasuredNode, SeesPoint, sight_in, tree_seen, View, All-more}
+use Rattle.plan_work.proofs.Words.{stands_later, IsInReach, HasSteered, radius_in, HasFilledNear, IsNearestOf}
 
 -- of two nodes the one that is not further has a pair that is not above
 pub IsNotAbove-further : (key : ℕ → ℕ) (m n distance further : ℕ) → distance ≡ key m → further ≡ key n → IsPairNotAbove distance m further n

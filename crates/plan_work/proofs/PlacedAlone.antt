@@ -1,34 +1,24 @@
 -- A pass that works alone places a node, or finds one at its point: the mark is handled as in the textbook.
-use Rattle.std.proofs.Common.{◌≡◌, ℕ, suc, ◌+◌, ◌<◌, ◌≤◌, ◌^◌, Some, None, [], ◌∷◌, ◌++◌, length, arith, refl, sym, ap, ◌∙◌, subst, inl, inr}
-use Rattle.std.specs.Prelude.{All, Contains, List, Option}
-use Rattle.std.proofs.lemmas.Bool.{cases_lt}
-use Rattle.std.proofs.lemmas.List.{get_or_past}
-use Rattle.std.proofs.lemmas.List.Elements.{All-cons, All-contains, Contains-get_or}
-use Rattle.std.proofs.lemmas.List.FromFn.{length-map-range_with_len}
+use Rattle.plan_work.proofs.Words.{◌≡◌, ℕ, suc, ◌+◌, ◌<◌, ◌≤◌, ◌^◌, Some, None, [], ◌∷◌, ◌++◌, length, arith, refl, sym, ap, ◌∙◌, subst, inl, inr, All}
+use Rattle.plan_work.proofs.Words.{Contains, List, Option, cases_lt, get_or_past, All-cons, All-contains, Contains-get_or, length-map-range_with_len, Clear}
+use Rattle.plan_work.proofs.Words.{ClearAt, mark_at, space_of, IsFirstLeast, IsOpenTo, IsFree, IsPresent, node_count, point_at, point_of, class_of, Handles}
+use Rattle.plan_work.proofs.Words.{IsBestParent, Nodes, Rewires, Setup, SteersTo, near_new, cost_through, placed_record, unplaced_record, points_of, Point}
+use Rattle.plan_work.proofs.Words.{Record, candidate-reachable, IsPresent-stands, PlacesNode, Contains-after, Contains-first, ConfigurationSpace}
+use Rattle.plan_work.proofs.Words.{cost_in-tree_word, parent_in-tree_word, seen_point, FirstOf, PointOf, RecordOf, TreeOf, best_word, cost_in, parent_in}
+use Rattle.plan_work.proofs.Words.{point_of_word, tree_word, numbers_of, HasPostedGoals-more, HasPostedGoals-step, lies-at, HasPostedGoals, PassState}
+use Rattle.plan_work.proofs.Words.{SharedState, turn_of, worker_of, Contains-cases, point_at-seen, has_link, SeesPoint, run_sizes, sees, setup_in, tree_seen}
+use Rattle.plan_work.proofs.Words.{SeesGoal, HasRecorded, IsTried, KeepsRecords, MayPlace, hung_by, own_placed, own_unplaced, placed_hand, IsNotSkippedIn}
+use Rattle.plan_work.proofs.Words.{SeesTextbook, WorksAlone, IsFilledWhole, IsSteeredWhole, IsTriedWhole, Hanging, Hand, SharedRun, View, stands_later, Mirrors}
+use Rattle.plan_work.proofs.Words.{IsInReach, NamesLoweredOrPoint, SeesAnew, seen_cost_through}
 use Rattle.kd_shared.specs.declared.placing.Placing.TheVariants.{Placed, Same}
-use Rattle.grown_runs.proofs.Common.{Clear, ClearAt, mark_at, space_of, IsFirstLeast, IsOpenTo, IsFree, IsPresent, node_count, point_at, point_of, class_of}
-use Rattle.grown_runs.proofs.Common.{Handles, IsBestParent, Nodes, Rewires, Setup, SteersTo, near_new, cost_through, placed_record, unplaced_record, points_of}
-use Rattle.grown_runs.proofs.Common.{Point, Record, candidate-reachable, IsPresent-stands, PlacesNode, Contains-after, Contains-first, ConfigurationSpace}
-use Rattle.grown_runs.proofs.Common.{cost_in-tree_word, parent_in-tree_word, seen_point, FirstOf, PointOf, RecordOf, TreeOf, best_word, cost_in, parent_in}
-use Rattle.grown_runs.proofs.Common.{point_of_word, tree_word}
 use Rattle.plan_model.specs.declared.records.Outcome.TheVariants.{Placed as PlacedMark, Same as SameNode}
-use Rattle.plan_words.proofs.Common.{numbers_of, HasPostedGoals-more, HasPostedGoals-step, lies-at, HasPostedGoals, PassState, SharedState, turn_of, worker_of}
-use Rattle.step_core.proofs.Common.{Contains-cases, point_at-seen, has_link, SeesPoint, run_sizes, sees, setup_in, tree_seen, SeesGoal}
 use Rattle.plan_work.proofs.AloneMarks.{KeepsRun, SeesTextbook-recorded, WorksAlone-recorded}
 use Rattle.plan_work.proofs.EqualPoints.{count-same, near_new-same}
 use Rattle.plan_work.proofs.MirroredTrees.{IsBestParent-mirrored, Mirrors-absent, Mirrors-placed, Mirrors-still, SeesNewNode, SteersTo-mirrored}
 use Rattle.plan_work.proofs.MirroredTrees.{seen_cost_through-mirrored, point_of-mirrored}
 use Rattle.plan_work.proofs.TextbookSteps.{Handles-placed, Handles-same, KeepsOrder-run, RecordsNext-run}
-use Rattle.plan_work.proofs.Words.{HasRecorded, IsTried, KeepsRecords, MayPlace, hung_by, own_placed, own_unplaced, placed_hand, IsNotSkippedIn, SeesTextbook}
-use Rattle.plan_work.proofs.Words.{WorksAlone, IsFilledWhole, IsSteeredWhole, IsTriedWhole, Hanging}
 use Rattle.plan_work.proofs.SkippedAlone.{MayBeCheaper-mirrored}
 use Rattle.plan_work.proofs.SkippedMarks.{has_first-placed, held_on}
-use Rattle.step_core.specs.declared.views.Hand.{Hand}
-use Rattle.step_core.specs.declared.views.SharedRun.{SharedRun}
-use Rattle.step_core.specs.declared.views.View.{View}
-use Rattle.tree_rewire.proofs.SeenCosts.{stands_later}
-use Rattle.tree_rewire.specs.Mirrors.{Mirrors}
-use Rattle.tree_rewire.specs.SeenCosts.{IsInReach, NamesLoweredOrPoint, SeesAnew, seen_cost_through}
 
 -- where a node is seen goes by its own word
 point_kept : (before after : View) → after.run ≡ before.run → (n : ℕ) → sees after (PointOf n) ≡ sees before (PointOf n)

@@ -1,17 +1,7 @@
 -- A node in hand that was placed, whose near nodes may be rewired then.
-use Rattle.std.proofs.Common.{◌≡◌, ℕ, suc, arith, refl, sym, subst}
-use Rattle.std.specs.Prelude.{IfSome, IsSome}
-use Rattle.kd_shared.specs.Placings.{IsPlaced}
-use Rattle.plan_words.proofs.KeptPairs.{if_hand}
+use Rattle.plan_work.proofs.Words.{◌≡◌, ℕ, suc, arith, refl, sym, subst, IfSome, IsSome, IsPlaced, if_hand, HasBeenPlaced, placed_hand, pair_in_hand, SeesPoint}
+use Rattle.plan_work.proofs.Words.{sees, FirstOf, Hand, Counted, View, HasPlaced, SeesPair}
 use Rattle.plan_work.proofs.SkippedMarks.{has_count-placed}
-use Rattle.plan_work.specs.ExtensionSteps.{HasBeenPlaced, placed_hand}
-use Rattle.step_core.proofs.Common.{pair_in_hand, SeesPoint, sees}
-use Rattle.grown_runs.specs.Table.WordNames.Word.{FirstOf}
-use Rattle.step_core.specs.declared.views.Hand.{Hand}
-use Rattle.step_core.specs.declared.views.Stage.TheVariants.{Counted}
-use Rattle.step_core.specs.declared.views.View.{View}
-use Rattle.tree_rewire.specs.Rewirings.{HasPlaced}
-use Rattle.tree_rewire.specs.SeenCosts.{SeesPair}
 
 pub IsSome-placed : (view : View) (hand : Hand) → IsPlaced view hand → IsSome view.hand
 IsSome-placed view hand placed = subst IsSome (sym placed.counted) refl

@@ -1,32 +1,22 @@
 -- A mark whose node was placed: what its neighbours cost, what may be recorded, and what the whole handling leaves.
-use Rattle.std.proofs.Common.{◌≡◌, ◌≢◌, ℕ, zero, suc, ◌+◌, ◌*◌, ◌≤◌, ◌^◌, true, Some, inl, inr, refl, sym, ap, ◌∙◌, subst, arith}
-use Rattle.std.specs.Prelude.{All, Contains, IfSome, IsTrue}
-use Rattle.std.proofs.lemmas.Bool.{leb-true}
-use Rattle.std.proofs.lemmas.List.Elements.{All-contains}
+use Rattle.plan_work.proofs.Words.{◌≡◌, ◌≢◌, ℕ, zero, suc, ◌+◌, ◌*◌, ◌≤◌, ◌^◌, true, Some, inl, inr, refl, sym, ap, ◌∙◌, subst, arith, All, Contains, IfSome}
+use Rattle.plan_work.proofs.Words.{IsTrue, leb-true, All-contains, Clear, space_of, cost_of, squared_distance, lies_in_goals, distance_to, is_within, point_at}
+use Rattle.plan_work.proofs.Words.{point_of, class_of, radius_of_class, Point, Record, cost_of-swap, IsPresent-stands, StandsAt-present, point_of-stands}
+use Rattle.plan_work.proofs.Words.{class_of-le, Clear-back, Word, Count, FirstOf, RecordOf, TreeOf, best_word, cost_in, tree_word, numbers_of, GoesOn}
+use Rattle.plan_work.proofs.Words.{PassState, SharedState, GoesOn-trans, IsOwnNeighbour, MayBePlaced, MayRecord, is_own_node, own_count, own_first_cost}
+use Rattle.plan_work.proofs.Words.{SeesPoint, sight_in, sees, setup_in, tree_seen, has_node-recorded, own_recorded, present_recorded, SweepsWithin, Hand}
+use Rattle.plan_work.proofs.Words.{SharedRun, View, SeesPair-later, cost_seen-later, stands_later, HasSpreadFalls-still, HasSpreadFalls, IsLoadedSince}
+use Rattle.plan_work.proofs.Words.{NamesLoweredOrPoint, SeesAnew, SeesPair, cost_seen, IsPlacedAt, IsWithinRadius, WasChosen, WasNeighbour, WasRewired}
+use Rattle.plan_work.proofs.Words.{radius_in, HasFilledNear, HasRecorded, IsFilledSince, IsTried, KeepsRecords, MayPlace, hung_by, own_placed, placed_hand}
+use Rattle.plan_work.proofs.Words.{own_unplaced, Hanging}
 use Rattle.kd_shared.specs.declared.placing.Placing.TheVariants.{Placed, Same}
-use Rattle.grown_runs.proofs.Common.{Clear, space_of, cost_of, squared_distance, lies_in_goals, distance_to, is_within, point_at, point_of, class_of}
-use Rattle.grown_runs.proofs.Common.{radius_of_class, Point, Record, cost_of-swap, IsPresent-stands, StandsAt-present, point_of-stands, class_of-le, Clear-back}
-use Rattle.grown_runs.proofs.Common.{Word, Count, FirstOf, RecordOf, TreeOf, best_word, cost_in, tree_word}
 use Rattle.plan_model.specs.declared.records.Outcome.TheVariants.{Same as SameNode}
-use Rattle.plan_words.proofs.Common.{numbers_of, GoesOn, PassState, SharedState, GoesOn-trans}
-use Rattle.step_core.proofs.Common.{IsOwnNeighbour, MayBePlaced, MayRecord, is_own_node, own_count, own_first_cost, SeesPoint, sight_in, sees, setup_in}
-use Rattle.step_core.proofs.Common.{tree_seen, has_node-recorded, own_recorded, present_recorded}
-use Rattle.kd_shared.specs.Searches.{SweepsWithin}
-use Rattle.step_core.specs.declared.views.Hand.{Hand}
-use Rattle.step_core.specs.declared.views.SharedRun.{SharedRun}
-use Rattle.step_core.specs.declared.views.View.{View}
-use Rattle.tree_rewire.proofs.SeenCosts.{SeesPair-later, cost_seen-later, stands_later}
-use Rattle.tree_rewire.proofs.SpreadFalls.{HasSpreadFalls-still}
-use Rattle.tree_rewire.specs.Rewirings.{HasSpreadFalls}
-use Rattle.tree_rewire.specs.SeenCosts.{IsLoadedSince, NamesLoweredOrPoint, SeesAnew, SeesPair, cost_seen}
 use Rattle.plan_work.proofs.FilledNear.{looked_still}
 use Rattle.plan_work.proofs.KeptSights.{SweepsWithin-still}
 use Rattle.plan_work.proofs.HeldMarks.{if_held, of_held}
 use Rattle.plan_work.proofs.RecordedMarks.{IsSteeredTo-still, MaySteer-steered, others_still, own_count-same}
 use Rattle.plan_work.proofs.SkippedMarks.{IsUnskipped-kept, held_on, placed_stage-goal}
 use Rattle.plan_work.proofs.TriedMarks.{HasFilledNear-still, clear_of-may}
-use Rattle.plan_work.proofs.Words.{IsPlacedAt, IsWithinRadius, WasChosen, WasNeighbour, WasRewired, radius_in, HasFilledNear, HasRecorded, IsFilledSince}
-use Rattle.plan_work.proofs.Words.{IsTried, KeepsRecords, MayPlace, hung_by, own_placed, placed_hand, own_unplaced, Hanging}
 
 -- The first word of a node stays once it was seen.
 first_kept : (before after : View) → GoesOn before after → (n : ℕ) → 2 ^ 63 ≤ sees before (FirstOf n) → sees after (FirstOf n) ≡ sees before (FirstOf n)

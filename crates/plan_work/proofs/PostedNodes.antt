@@ -1,15 +1,8 @@
 -- A node that was placed is posted if it lies in a goal by which marks are skipped: what that leaves of the pass.
-use Rattle.std.proofs.Common.{◌≡◌, ℕ, suc, ◌≤◌, ◌⊎◌, Bool, true, false, Some, cond, inl, inr, refl, sym, ap, ◌∙◌, subst, arith}
-use Rattle.std.proofs.lemmas.Bool.{cases_Bool, eq-eqb}
-use Rattle.kd_shared.specs.Placings.{GoesOnPlacing, IsPlaced, KeepsShare}
-use Rattle.grown_runs.proofs.Common.{lies_in_goals, Point, cost_in-tree_word, FirstOf, TreeOf, best_word, cost_in}
-use Rattle.plan_words.proofs.Common.{GoesOn-trans, SeesAsBefore, SeesBestSince, SeesBestSince-trans, GoesOn, PassState, with_view}
-use Rattle.plan_work.specs.ExtensionSteps.{HasBeenPlaced, placed_hand, placed_stage}
-use Rattle.step_core.proofs.Common.{hand_with_post, last_note, with_post, SeesPoint, sees}
-use Rattle.step_core.specs.declared.views.Hand.{Hand}
-use Rattle.step_core.specs.declared.views.SharedRun.{SharedRun}
-use Rattle.step_core.specs.declared.views.Stage.TheVariants.{Counted, Posted}
-use Rattle.step_core.specs.declared.views.View.{View}
+use Rattle.plan_work.proofs.Words.{◌≡◌, ℕ, suc, ◌≤◌, ◌⊎◌, Bool, true, false, Some, cond, inl, inr, refl, sym, ap, ◌∙◌, subst, arith, cases_Bool, eq-eqb}
+use Rattle.plan_work.proofs.Words.{GoesOnPlacing, IsPlaced, KeepsShare, lies_in_goals, Point, cost_in-tree_word, FirstOf, TreeOf, best_word, cost_in}
+use Rattle.plan_work.proofs.Words.{GoesOn-trans, SeesAsBefore, SeesBestSince, SeesBestSince-trans, GoesOn, PassState, with_view, HasBeenPlaced, placed_hand}
+use Rattle.plan_work.proofs.Words.{placed_stage, hand_with_post, last_note, with_post, SeesPoint, sees, Hand, SharedRun, Counted, Posted, View}
 
 -- node n at p was posted if it lies in such a goal, and else nothing was done
 pub record PostsGoalNode (mid after : PassState) (p : Point) (n : ℕ) : Type 0 where

@@ -1,24 +1,16 @@
 -- What a pass may record of a mark that was steered to p from the nearest node, and that it was handled then.
-use Rattle.std.proofs.Common.{◌≡◌, ◌≢◌, ℕ, zero, suc, ◌+◌, true, Some, length, inl, refl, sym, ap, ◌∙◌, subst, arith}
-use Rattle.std.specs.Prelude.{false, IfSome}
-use Rattle.std.proofs.lemmas.List.Elements.{filter_agree}
-use Rattle.std.specs.List.{filter, range_with_len}
-use Rattle.grown_runs.proofs.Common.{mark_at, IsNotAbove, distance_to, is_placed, IsPresent, point_of, steered, Point, Outcome, Placed, Record}
-use Rattle.grown_runs.proofs.Common.{IsPresent-stands, point_of-stands, record_of_word-packed, has_node, record_at, Word, WritesWord, Counter, FirstOf}
-use Rattle.grown_runs.proofs.Common.{RecordOf, IsFirstWord, record_of_word, record_word}
-use Rattle.plan_words.proofs.Common.{GoesOn, MayClaim, PassState, SharedState, turn_of, with_view, worker_of, GoesOn-trans, SeesBestSince-trans, entry_fits}
-use Rattle.step_core.proofs.Common.{is_own_node-earlier, has_node-recorded, own_recorded, present_recorded, WritesWord-saw, IsLawfulView}
-use Rattle.step_core.proofs.Common.{MayBePlaced, MayEnd, MayRecord, MaySteer, is_own_node, own_count, has_count, has_first, finished, one_turn_more}
-use Rattle.step_core.proofs.Common.{pair_in_hand, sees, tree_seen}
-use Rattle.step_core.specs.declared.views.Hand.{Hand}
-use Rattle.step_core.specs.declared.views.SharedRun.{SharedRun}
-use Rattle.step_core.specs.declared.views.Stage.{Stage}
-use Rattle.step_core.specs.declared.views.Stage.TheVariants.{Claimed, Counted, Half, Linked, Pointed, Posted, Treed}
-use Rattle.step_core.specs.declared.views.View.{View}
-use Rattle.tree_rewire.proofs.SeenCosts.{stands_later}
+use Rattle.plan_work.proofs.Words.{◌≡◌, ◌≢◌, ℕ, zero, suc, ◌+◌, true, Some, length, inl, refl, sym, ap, ◌∙◌, subst, arith, false, IfSome, filter_agree}
+use Rattle.plan_work.proofs.Words.{range_with_len, mark_at, IsNotAbove, distance_to, is_placed, IsPresent, point_of, steered, Point, Outcome, Record}
+use Rattle.plan_work.proofs.Words.{IsPresent-stands, point_of-stands, record_of_word-packed, has_node, record_at, Word, WritesWord, Counter, FirstOf, RecordOf}
+use Rattle.plan_work.proofs.Words.{IsFirstWord, record_of_word, record_word, GoesOn, MayClaim, PassState, SharedState, turn_of, with_view, worker_of}
+use Rattle.plan_work.proofs.Words.{GoesOn-trans, SeesBestSince-trans, entry_fits, is_own_node-earlier, has_node-recorded, own_recorded, present_recorded}
+use Rattle.plan_work.proofs.Words.{WritesWord-saw, IsLawfulView, MayBePlaced, MayEnd, MayRecord, MaySteer, is_own_node, own_count, has_count, has_first}
+use Rattle.plan_work.proofs.Words.{finished, one_turn_more, pair_in_hand, sees, tree_seen, Hand, SharedRun, Stage, Claimed, Counted, Half, Linked, Pointed}
+use Rattle.plan_work.proofs.Words.{Posted, Treed, View, stands_later, HandlesMark, HasRecorded, IsSteeredTo, KeepsRecords, own_unplaced}
+use Rattle.std.specs.List.{filter}
+use Rattle.grown_runs.proofs.Common.{Placed}
 use Rattle.plan_work.proofs.HeldMarks.{of_held}
 use Rattle.plan_work.proofs.KeptSights.{IsNotAbove-still}
-use Rattle.plan_work.proofs.Words.{HandlesMark, HasRecorded, IsSteeredTo, KeepsRecords, own_unplaced}
 
 -- a worker has as many own nodes while no record is seen anew
 pub own_count-same : (before after : View) (entry : Record) → GoesOn before after → ((k : ℕ) → sees after (RecordOf k) ≡ sees before (RecordOf k))

@@ -1,11 +1,8 @@
 -- What is left of the passes of workers, once these have worked.
-use Rattle.std.proofs.Common.{◌≡◌, ℕ, zero, suc, ◌<◌, List, length, ap, ◌∙◌, sym, subst, arith, refl, Some}
-use Rattle.std.specs.Prelude.{◌++◌, [], ◌∷◌, All, IsSome, option_to_list, slice_index_or}
-use Rattle.std.proofs.Math.Seq.{take-append_seam}
+use Rattle.plan_work.proofs.Words.{◌≡◌, ℕ, zero, suc, ◌<◌, List, length, ap, ◌∙◌, sym, subst, arith, refl, Some, ◌++◌, [], ◌∷◌, All, IsSome, option_to_list}
+use Rattle.plan_work.proofs.Words.{slice_index_or, take-append_seam, AllFull, GoesOn, MayClaim, PassState, SharedState, new_pass, HandlesRest, HasDone, HasLeft}
+use Rattle.plan_work.proofs.Words.{HasStopped, HasWorked, IsReady, left_by, left_of, workers_with, Worker, Away, Stopped, Working}
 use lib.ListN.{drop, take}
-use Rattle.plan_words.proofs.Common.{AllFull, GoesOn, MayClaim, PassState, SharedState, new_pass}
-use Rattle.plan_work.proofs.Words.{HandlesRest, HasDone, HasLeft, HasStopped, HasWorked, IsReady, left_by, left_of, workers_with, Worker, Away, Stopped}
-use Rattle.plan_work.proofs.Words.{Working}
 
 MayClaim-left : (shared : SharedState) (pass : PassState) → MayClaim shared pass → MayClaim shared (new_pass pass.table pass.view)
 MayClaim-left shared pass may = record {

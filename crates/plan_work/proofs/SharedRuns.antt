@@ -1,15 +1,12 @@
 -- A shared run that several workers have gone on with: what the passes have seen, once one has taken over all.
-use Rattle.std.proofs.Common.{◌≡◌, ℕ, zero, suc, ◌<◌, ◌≤◌, List, length, inl, inr, refl, sym, ap, ◌∙◌, subst, arith}
-use Rattle.std.specs.Prelude.{◌⊎◌, [], ◌∷◌, All, slice_index_or}
+use Rattle.plan_work.proofs.Words.{◌≡◌, ℕ, zero, suc, ◌<◌, ◌≤◌, List, length, inl, inr, refl, sym, ap, ◌∙◌, subst, arith, ◌⊎◌, [], ◌∷◌, All, slice_index_or}
+use Rattle.plan_work.proofs.Words.{quota_of, quotas-add_up, AreBehind-trans, sum-le, AreBehind, MayBecome, kind_of, Words, Best, ChildOf, Count, Counter}
+use Rattle.plan_work.proofs.Words.{FirstOf, PointOf, RecordOf, TreeOf, state_of_grown, words_of_grown, GrowsInto, TreeState, AllFull, HasNoneLeft, MayClaim}
+use Rattle.plan_work.proofs.Words.{PassState, SharedState, StartsAs, without_best, run_of, sees, share, StandsAsSeen, GrowsInto-seen, Grown, HasHandled}
+use Rattle.plan_work.proofs.Words.{IsOfTextbook, HasDone, HasTakenOver, shares_of}
 use lib.ListN.{get_elem?}
 use mathlib.Core.Option.{some}
-use Rattle.grown_runs.proofs.Common.{quota_of, quotas-add_up, AreBehind-trans, sum-le, AreBehind, MayBecome, kind_of, Words, Best, ChildOf, Count, Counter}
-use Rattle.grown_runs.proofs.Common.{FirstOf, PointOf, RecordOf, TreeOf, state_of_grown, words_of_grown, GrowsInto, TreeState}
-use Rattle.plan_words.proofs.Common.{AllFull, HasNoneLeft, MayClaim, PassState, SharedState, StartsAs, without_best}
-use Rattle.step_core.proofs.Common.{run_of, sees, share, StandsAsSeen, GrowsInto-seen}
-use Rattle.grown_runs.specs.declared.grown.Grown.{Grown}
 use Rattle.plan_work.proofs.LoneRuns.{HasHandled-started}
-use Rattle.plan_work.proofs.Words.{HasHandled, IsOfTextbook, HasDone, HasTakenOver, shares_of}
 
 -- passes with a share of 1 each have as many shares as they are
 shares-ones : (passes : List PassState) → All (λ pass. share pass.view ≡ 1) passes → shares_of passes ≡ length passes

@@ -1,15 +1,8 @@
 -- A pass that works alone loads the best word: it is the best goal node of the textbook tree that it sees, and by it marks are skipped or not.
-use Rattle.std.proofs.Common.{◌≢◌, ℕ, ◌<◌, ◌≤◌, ◌^◌, arith, sym, ap, subst}
-use Rattle.std.specs.Prelude.{IsTrue}
-use Rattle.grown_runs.proofs.Common.{mark_at, IsBestGoalNode, MayBeCheaper, Nodes, mark_bound, IsGoalNode, is_goal_point, IsNotAbove, points_of, sum_of}
-use Rattle.grown_runs.proofs.Common.{IsPresent, point_at, IsPresent-goal, PointOf, TreeOf, best_cost_in, best_node_in, best_word, cost_in, no_best}
-use Rattle.plan_words.proofs.Common.{SeesGoal-kept, FindsGoalNode, HasPostedGoals}
-use Rattle.plan_work.proofs.Words.{IsNotSkippedIn, SeesButCount}
-use Rattle.step_core.proofs.Common.{IsLater, IsLawfulView, SeesGoal, setup_in, tree_seen}
-use Rattle.step_core.specs.declared.views.SharedRun.{SharedRun}
-use Rattle.step_core.specs.declared.views.View.{View}
-use Rattle.tree_rewire.specs.Mirrors.{Mirrors}
-use Rattle.tree_rewire.specs.SeenCosts.{cost_seen}
+use Rattle.plan_work.proofs.Words.{◌≢◌, ℕ, ◌<◌, ◌≤◌, ◌^◌, arith, sym, ap, subst, IsTrue, mark_at, IsBestGoalNode, MayBeCheaper, Nodes, mark_bound, IsGoalNode}
+use Rattle.plan_work.proofs.Words.{is_goal_point, IsNotAbove, points_of, sum_of, IsPresent, point_at, IsPresent-goal, PointOf, TreeOf, best_cost_in}
+use Rattle.plan_work.proofs.Words.{best_node_in, best_word, cost_in, no_best, SeesGoal-kept, FindsGoalNode, HasPostedGoals, IsNotSkippedIn, SeesButCount}
+use Rattle.plan_work.proofs.Words.{IsLater, IsLawfulView, SeesGoal, setup_in, tree_seen, SharedRun, View, Mirrors, cost_seen}
 
 -- while no point, parent or cost is seen anew, a mark is not skipped still
 pub IsNotSkippedIn-kept : (before after : View) (k : ℕ) → IsLater before after → SeesButCount before after → IsNotSkippedIn before k → IsNotSkippedIn after k

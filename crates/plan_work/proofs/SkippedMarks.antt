@@ -1,16 +1,7 @@
 -- A mark that is not skipped stays so while other things are seen anew; the hand whose node is placed has posted it if it lies in a goal.
-use Rattle.std.proofs.Common.{◌≡◌, suc, Bool, true, false, List, Some, cond, inl, inr, refl, sym, ap, ◌∙◌, subst}
-use Rattle.std.specs.Prelude.{◌<◌, ◌==◌}
-use Rattle.std.proofs.lemmas.Bool.{true≢false}
-use Rattle.grown_runs.proofs.Common.{mark_at, mark_bound, lies_in_goals, Goal, Point, best_cost_in}
-use Rattle.plan_words.proofs.Common.{GoesOn, IsOrPosted}
-use Rattle.plan_work.specs.ExtensionSteps.{placed_hand, placed_stage}
-use Rattle.step_core.proofs.Common.{IsInformed, IsUnskipped, hand_with_post, has_count, has_first, post_noted, setup_in}
-use Rattle.step_core.specs.declared.views.Hand.{Hand}
-use Rattle.step_core.specs.declared.views.SharedRun.{SharedRun}
-use Rattle.step_core.specs.declared.views.Stage.{Stage}
-use Rattle.step_core.specs.declared.views.Stage.TheVariants.{Counted, Posted}
-use Rattle.step_core.specs.declared.views.View.{View}
+use Rattle.plan_work.proofs.Words.{◌≡◌, suc, Bool, true, false, List, Some, cond, inl, inr, refl, sym, ap, ◌∙◌, subst, ◌<◌, ◌==◌, true≢false, mark_at}
+use Rattle.plan_work.proofs.Words.{mark_bound, lies_in_goals, Goal, Point, best_cost_in, GoesOn, IsOrPosted, placed_hand, placed_stage, IsInformed, IsUnskipped}
+use Rattle.plan_work.proofs.Words.{hand_with_post, has_count, has_first, post_noted, setup_in, Hand, SharedRun, Stage, Counted, Posted, View}
 
 -- it depends on the run, the mark and the best in hand
 pub IsUnskipped-kept : (before after : View) (hand now : Hand) → after.run ≡ before.run → now.best ≡ hand.best → now.mark ≡ hand.mark

@@ -1,33 +1,22 @@
 -- The best word was loaded, or the scene is not informed: what that leaves of a pass, and of what is said of the mark since.
-use Rattle.std.proofs.Common.{◌≡◌, ◌≢◌, ◌⊎◌, ℕ, suc, ◌<◌, ◌≤◌, ◌^◌, Bool, true, false, cond, inl, inr, Some, None, [], ◌∷◌, ◌++◌, length}
-use Rattle.std.proofs.Common.{◌+◌, refl, sym, ap, ◌∙◌, subst, arith}
-use Rattle.std.specs.Prelude.{◌==◌, IfSome, IsSome, Option}
-use Rattle.std.proofs.lemmas.Bool.{cases_Bool, eq-eqb, eqb-true}
-use Rattle.std.proofs.lemmas.Option.{same_Some}
-use Rattle.grown_runs.proofs.Common.{mark_at, Handles, IsBestGoalNode, mark_bound, skipped_record, unplaced_record, IsSwept, sum_of, Point, Outcome, Blocked}
-use Rattle.grown_runs.proofs.Common.{Placed, Same, Skipped, Record, MayBeCheaper-not_skipping, goals-some, record_at, Counter, RecordOf, TreeOf, best_cost_in}
-use Rattle.grown_runs.proofs.Common.{WritesWord, Best}
-use Rattle.grown_runs.proofs.Common.{best_node_in, best_of_word, cost_in, no_best, record_word}
+use Rattle.plan_work.proofs.Words.{◌≡◌, ◌≢◌, ◌⊎◌, ℕ, suc, ◌<◌, ◌≤◌, ◌^◌, Bool, true, false, cond, inl, inr, Some, None, [], ◌∷◌, ◌++◌, length, ◌+◌, refl, sym}
+use Rattle.plan_work.proofs.Words.{ap, ◌∙◌, subst, arith, ◌==◌, IfSome, IsSome, Option, cases_Bool, eq-eqb, eqb-true, same_Some, mark_at, Handles}
+use Rattle.plan_work.proofs.Words.{IsBestGoalNode, mark_bound, skipped_record, unplaced_record, IsSwept, sum_of, Point, Outcome, Blocked, Skipped, Record}
+use Rattle.plan_work.proofs.Words.{MayBeCheaper-not_skipping, goals-some, record_at, Counter, RecordOf, TreeOf, best_cost_in, WritesWord, Best, best_node_in}
+use Rattle.plan_work.proofs.Words.{best_of_word, cost_in, no_best, record_word, FindsGoalNode, SeesAsBefore, BelongsTo-later, GoesOn-trans, no_goals, BelongsTo}
+use Rattle.plan_work.proofs.Words.{GoesOn, PassState, SharedState, run_in, SeesBestSince, turn_of, with_view, worker_of, EndsAsSeen, EndsAsSteered, HandlesMark}
+use Rattle.plan_work.proofs.Words.{IsBlockedAt, IsExtended, IsPlacedAt, MayExtend, WasNeighbour, WasNotSkipped, WasSkipped, WasSteered, steered_point}
+use Rattle.plan_work.proofs.Words.{HasLoadedBest, HasRecorded, KeepsRecords, own_unplaced, IsNotSkippedIn, SeesTextbook, WorksAlone, IsLawfulView, IsInformed}
+use Rattle.plan_work.proofs.Words.{IsUnskipped, MayBeSkipped, SeesGoal, best_loaded, best_taken, finished, hand_with_best, SeesPoint, last_look, sight_in, sees}
+use Rattle.plan_work.proofs.Words.{setup_in, tree_seen, Hand, SharedRun, Stage, Claimed, View, cost_seen}
+use Rattle.grown_runs.proofs.Common.{Placed, Same}
 use Rattle.plan_model.specs.Trees.GoalBounds.{bound_of}
-use Rattle.plan_words.proofs.Common.{FindsGoalNode, SeesAsBefore, BelongsTo-later, GoesOn-trans, no_goals, BelongsTo, GoesOn, PassState, SharedState, run_in}
-use Rattle.plan_words.proofs.Common.{SeesBestSince, turn_of, with_view, worker_of}
 use Rattle.plan_work.proofs.AloneMarks.{KeepsRun-refl, SeesTextbook-recorded, SeesTextbook-still, WorksAlone-recorded, WorksAlone-still}
 use Rattle.plan_work.proofs.HeldMarks.{Holding, holding, if_held, of_held}
 use Rattle.plan_work.proofs.MirroredTrees.{Mirrors-absent}
 use Rattle.plan_work.proofs.RecordedMarks.{HandlesMark-recorded}
 use Rattle.plan_work.proofs.SkippedAlone.{IsBestGoalNode-found, IsNotSkippedIn-best, within-found}
 use Rattle.plan_work.proofs.WholeLists.{SeesButCount-all}
-use Rattle.plan_work.proofs.Words.{EndsAsSeen, EndsAsSteered, HandlesMark, IsBlockedAt, IsExtended, IsPlacedAt, MayExtend, WasNeighbour, WasNotSkipped}
-use Rattle.plan_work.proofs.Words.{WasSkipped, WasSteered, steered_point, HasLoadedBest, HasRecorded, KeepsRecords, own_unplaced, IsNotSkippedIn, SeesTextbook}
-use Rattle.plan_work.proofs.Words.{WorksAlone}
-use Rattle.step_core.proofs.Common.{IsLawfulView, IsInformed, IsUnskipped, MayBeSkipped, SeesGoal, best_loaded, best_taken, finished, hand_with_best, SeesPoint}
-use Rattle.step_core.proofs.Common.{last_look, sight_in, sees, setup_in, tree_seen}
-use Rattle.step_core.specs.declared.views.Hand.{Hand}
-use Rattle.step_core.specs.declared.views.SharedRun.{SharedRun}
-use Rattle.step_core.specs.declared.views.Stage.{Stage}
-use Rattle.step_core.specs.declared.views.Stage.TheVariants.{Claimed}
-use Rattle.step_core.specs.declared.views.View.{View}
-use Rattle.tree_rewire.specs.SeenCosts.{cost_seen}
 
 -- a hand for which nothing is written has the best then
 pub hand-loaded : (hand : Hand) (word : ℕ) → hand.stage ≡ Claimed → best_taken hand.stage hand word ≡ record hand { best = Some word }

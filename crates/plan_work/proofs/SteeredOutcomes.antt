@@ -1,9 +1,8 @@
 -- What each outcome of a mark that is not skipped says of the nearest node, and of the point to which it steered.
-use Rattle.std.proofs.Common.{◌≡◌, ◌≢◌, ℕ, suc, refl, sym, ap, ◌∙◌, subst}
-use Rattle.grown_runs.proofs.Common.{mark_at, IsFree, steered, Point, Outcome, Blocked, Placed, Same, Skipped, Record, point_of-stands}
-use Rattle.step_core.proofs.Common.{tree_seen, SeesPoint}
-use Rattle.step_core.specs.declared.views.View.{View}
-use Rattle.plan_work.proofs.Words.{EndsAsSeen, EndsAsSteered, HasSteered, IsPlacedAt, WasNotSkipped, WasSteered, steered_point, EndsWritten}
+use Rattle.plan_work.proofs.Words.{◌≡◌, ◌≢◌, ℕ, suc, refl, sym, ap, ◌∙◌, subst, mark_at, IsFree, steered, Point, Outcome, Blocked, Skipped, Record}
+use Rattle.plan_work.proofs.Words.{point_of-stands, tree_seen, SeesPoint, View, EndsAsSeen, EndsAsSteered, HasSteered, IsPlacedAt, WasNotSkipped, WasSteered}
+use Rattle.plan_work.proofs.Words.{steered_point, EndsWritten}
+use Rattle.grown_runs.proofs.Common.{Placed, Same}
 
 module _ (before after : View) (k : ℕ) (entry : Record) where
   -- a mark that was steered to p, and ended there

@@ -1,12 +1,7 @@
 -- One pass takes over others, one after another.
-use Rattle.std.proofs.Common.{◌≡◌, ℕ, zero, suc, ◌+◌, ◌<◌, ◌≤◌, List, length, inl, inr, ap, ◌∙◌, arith, length-append}
-use Rattle.std.specs.Prelude.{◌++◌, ◌⊎◌, [], ◌∷◌, All, max, slice_index_or}
-use Rattle.std.proofs.lemmas.Bool.{cases_lt}
-use Rattle.std.proofs.lemmas.List.{append_assoc}
-use Rattle.plan_words.specs.States.{MayClaim, PassState, SharedState}
-use Rattle.grown_runs.proofs.Common.{AreBehind-refl, AreBehind-trans, AreBehind}
-use Rattle.step_core.specs.Views.{sees, share}
-use Rattle.plan_work.specs.Workers.{HasTakenOver}
+use Rattle.plan_work.proofs.Words.{◌≡◌, ℕ, zero, suc, ◌+◌, ◌<◌, ◌≤◌, List, length, inl, inr, ap, ◌∙◌, arith, length-append, ◌++◌, ◌⊎◌, [], ◌∷◌, All, max}
+use Rattle.plan_work.proofs.Words.{slice_index_or, cases_lt, append_assoc, MayClaim, PassState, SharedState, AreBehind-refl, AreBehind-trans, AreBehind, sees}
+use Rattle.plan_work.proofs.Words.{share, HasTakenOver}
 
 -- what holds of all of two lists holds of the first, and of the one that comes next
 pub All-front : (P : PassState → Type 0) (xs ys : List PassState) → All P (xs ++ ys) → All P xs

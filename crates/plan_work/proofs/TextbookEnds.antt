@@ -1,9 +1,6 @@
 -- Textbook runs at their two ends: the start alone, and all marks of a scene.
-use Rattle.std.proofs.Common.{◌≡◌, [], length, take, sym, ap, ◌∙◌, subst, arith}
-use Rattle.std.proofs.lemmas.List.{take_all}
-use Rattle.grown_runs.proofs.Common.{mark_points, IsOfTextbookRun, IsTextbookRun, setup_of, start_alone, AreSameRuns, state_of, Scene, Task, state_of_grown}
-use Rattle.plan_work.specs.OneWorker.{IsOfTextbook}
-use Rattle.grown_runs.specs.declared.grown.Grown.{Grown}
+use Rattle.plan_work.proofs.Words.{◌≡◌, [], length, take, sym, ap, ◌∙◌, subst, arith, take_all, mark_points, IsOfTextbookRun, IsTextbookRun, setup_of}
+use Rattle.plan_work.proofs.Words.{start_alone, AreSameRuns, state_of, Scene, Task, state_of_grown, IsOfTextbook, Grown}
 
 -- the start alone is the run over no marks
 pub IsOfTextbook-new :

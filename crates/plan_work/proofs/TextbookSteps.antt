@@ -1,12 +1,10 @@
 -- One mark of a pass that works alone is one mark of the textbook run.
-use Rattle.std.proofs.Common.{◌≡◌, ℕ, suc, ◌+◌, ◌<◌, ◌≤◌, Some, None, List, [], ◌∷◌, ◌++◌, length, take, arith, refl, sym, ap, ◌∙◌, subst, inl, inr}
-use Rattle.std.proofs.lemmas.List.{length-set, length-take-le}
-use Rattle.std.proofs.Math.Seq.{take-suc}
-use Rattle.grown_runs.proofs.Common.{Clear, ClearAt, mark_at, ConfigurationSpace, KeepsOrder, IsFree, StandsAt, node_count, point_of, class_of, Ends, Handles}
-use Rattle.grown_runs.proofs.Common.{HandlesAll, IsBestParent, IsTextbookRun, MayBeCheaper, Nodes, Rewires, RewiresOne, Setup, SteersTo, blocked_record}
-use Rattle.grown_runs.proofs.Common.{cost_through, near_new, placed_record, same_record, start_alone, points_of, sum_of, state_of, Point, Outcome, Blocked}
-use Rattle.grown_runs.proofs.Common.{Placed, Same, Skipped, Record, HandlesAll-length, HandlesAll-push, IsClosed-textbook, RecordsNext}
-use Rattle.std.proofs.Common.{length-append}
+use Rattle.plan_work.proofs.Words.{◌≡◌, ℕ, suc, ◌+◌, ◌<◌, ◌≤◌, Some, None, List, [], ◌∷◌, ◌++◌, length, take, arith, refl, sym, ap, ◌∙◌, subst, inl, inr}
+use Rattle.plan_work.proofs.Words.{length-set, length-take-le, take-suc, Clear, ClearAt, mark_at, ConfigurationSpace, KeepsOrder, IsFree, StandsAt, node_count}
+use Rattle.plan_work.proofs.Words.{point_of, class_of, Ends, Handles, HandlesAll, IsBestParent, IsTextbookRun, MayBeCheaper, Nodes, Rewires, RewiresOne, Setup}
+use Rattle.plan_work.proofs.Words.{SteersTo, blocked_record, cost_through, near_new, placed_record, same_record, start_alone, points_of, sum_of, state_of}
+use Rattle.plan_work.proofs.Words.{Point, Outcome, Blocked, Skipped, Record, HandlesAll-length, HandlesAll-push, IsClosed-textbook, RecordsNext, length-append}
+use Rattle.grown_runs.proofs.Common.{Placed, Same}
 
 -- ---- the length of a tree
 

@@ -1,10 +1,8 @@
 -- The records of a textbook run are all of worker 0, one for each mark, so its next turn is the number of marks.
-use Rattle.std.proofs.Common.{◌≡◌, ℕ, zero, suc, ◌+◌, ◌<◌, ◌≤◌, true, List, [], ◌∷◌, length, Option, sym, ap, ◌∙◌, inl, inr, arith}
-use Rattle.std.specs.Prelude.{slice_get}
-use Rattle.std.proofs.lemmas.Bool.{cases_lt, eq-eqb}
-use Rattle.std.proofs.lemmas.Option.{slice_get_past}
-use Rattle.grown_runs.proofs.Common.{Ends, HandlesAll, Nodes, Setup, is_of_worker, turns_of, Point, Outcome, Blocked, Placed, Same, Skipped, Record, count-all}
-use Rattle.grown_runs.proofs.Common.{count-longer, count-same, HandlesAll-length}
+use Rattle.plan_work.proofs.Words.{◌≡◌, ℕ, zero, suc, ◌+◌, ◌<◌, ◌≤◌, true, List, [], ◌∷◌, length, Option, sym, ap, ◌∙◌, inl, inr, arith, slice_get, cases_lt}
+use Rattle.plan_work.proofs.Words.{eq-eqb, slice_get_past, Ends, HandlesAll, Nodes, Setup, is_of_worker, turns_of, Point, Outcome, Blocked, Skipped, Record}
+use Rattle.plan_work.proofs.Words.{count-all, count-longer, count-same, HandlesAll-length}
+use Rattle.grown_runs.proofs.Common.{Placed, Same}
 
 worker-ends : (setup : Setup) (tree : Nodes) (k : ℕ) (mark : Point) (outcome : Outcome) (entry : Record) (after : Nodes)
     → Ends setup tree k mark outcome entry after → entry.worker ≡ 0

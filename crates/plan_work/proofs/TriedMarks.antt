@@ -1,27 +1,12 @@
 -- A mark whose point is written is hung by the nodes near it, and comes to its place.
-use Rattle.std.proofs.Common.{◌≡◌, ℕ, ◌+◌, ◌*◌, ◌≤◌, List, arith, sym, ap, ◌∙◌, subst}
-use Rattle.std.specs.Prelude.{All, Contains, IfSome}
-use Rattle.std.proofs.lemmas.List.Elements.{All-contains}
-use Rattle.grown_runs.proofs.Common.{cost_of, space_of, Clear, ConfigurationSpace, mark_at, squared_distance, distance_to, point_of, class_of, radius_of_class}
-use Rattle.grown_runs.proofs.Common.{Point, IsPresent-stands, point_of-stands, IsStep-steered, Count, Counter, RecordOf}
-use Rattle.tree_rewire.proofs.FoundLists.{numbers-weighed}
-use Rattle.tree_rewire.proofs.ChosenFound.{AllWeighed-seen}
-use Rattle.tree_rewire.specs.FoundNodes.{IsWeighed, StandsAsFound}
-use Rattle.kd_shared.specs.Placings.{GoesOnPlacing, KeepsShare}
-use Rattle.kd_shared.specs.declared.placing.Placing.{Placing}
-use Rattle.kd_shared.specs.Searches.{SweepsWithin}
-use Rattle.step_core.proofs.Common.{sight_in, sees, tree_seen}
-use Rattle.step_core.specs.declared.views.SharedRun.{SharedRun}
-use Rattle.plan_words.proofs.Common.{numbers_of, weighed, BelongsTo, GoesOn, PassState, SharedState}
-use Rattle.plan_words.specs.declared.spots.Found.{Found}
-use Rattle.step_core.specs.declared.views.Hand.{Hand}
-use Rattle.step_core.specs.declared.views.View.{View}
-use Rattle.tree_rewire.proofs.ChosenParents.{IsInReach-later}
-use Rattle.tree_rewire.proofs.SeenCosts.{SeesPair-later, stands_later}
-use Rattle.tree_rewire.specs.SeenCosts.{IsInReach, cost_seen}
+use Rattle.plan_work.proofs.Words.{◌≡◌, ℕ, ◌+◌, ◌*◌, ◌≤◌, List, arith, sym, ap, ◌∙◌, subst, All, Contains, IfSome, All-contains, cost_of, space_of, Clear}
+use Rattle.plan_work.proofs.Words.{ConfigurationSpace, mark_at, squared_distance, distance_to, point_of, class_of, radius_of_class, Point, IsPresent-stands}
+use Rattle.plan_work.proofs.Words.{point_of-stands, IsStep-steered, Count, Counter, RecordOf, numbers-weighed, AllWeighed-seen, IsWeighed, StandsAsFound}
+use Rattle.plan_work.proofs.Words.{GoesOnPlacing, KeepsShare, Placing, SweepsWithin, sight_in, sees, tree_seen, SharedRun, numbers_of, weighed, BelongsTo}
+use Rattle.plan_work.proofs.Words.{GoesOn, PassState, SharedState, Found, Hand, View, IsInReach-later, SeesPair-later, stands_later, IsInReach, cost_seen}
+use Rattle.plan_work.proofs.Words.{radius_in, HasCome, HasFilledNear, IsHung, IsSteeredTo, IsTried, KeepsRecords, MayPlace, hung_by, Hanging}
 use Rattle.plan_work.proofs.FilledNear.{looked_still}
 use Rattle.plan_work.proofs.KeptSights.{SweepsWithin-still, distance_still, point_still}
-use Rattle.plan_work.proofs.Words.{radius_in, HasCome, HasFilledNear, IsHung, IsSteeredTo, IsTried, KeepsRecords, MayPlace, hung_by, Hanging}
 
 -- a node that steers to p is at most a step from it
 pub reach_of-steered : (view : View) (k m : ℕ) (p : Point) → IsSteeredTo view k m p → IsInReach view p m

@@ -1,18 +1,10 @@
 -- Near lists and nearest nodes of a pass with the share of all workers, while it is shown nothing new but the count.
-use Rattle.std.proofs.Common.{◌≡◌, ℕ, ◌+◌, Some, List, ◌∷◌, length, sym, ap, ◌∙◌, subst}
-use Rattle.grown_runs.proofs.Common.{mark_at, ConfigurationSpace, cost_of, IsFirstLeast, near, IsOpenTo, IsPresent, node_count, point_of, class_of, radius_of}
-use Rattle.grown_runs.proofs.Common.{radius_of_class, steered, SteersTo, near_new, Point, IsPresent-stands, point_of-stands, PointOf, TreeOf, cost_in}
-use Rattle.plan_words.proofs.Common.{SeesAsBefore, HasWholeShare, PassState, SharedState}
-use Rattle.plan_words.specs.declared.spots.Found.{Found}
-use Rattle.tree_rewire.specs.FoundNodes.{AreOf}
+use Rattle.plan_work.proofs.Words.{◌≡◌, ℕ, ◌+◌, Some, List, ◌∷◌, length, sym, ap, ◌∙◌, subst, mark_at, ConfigurationSpace, cost_of, IsFirstLeast, near}
+use Rattle.plan_work.proofs.Words.{IsOpenTo, IsPresent, node_count, point_of, class_of, radius_of, radius_of_class, steered, SteersTo, near_new, Point}
+use Rattle.plan_work.proofs.Words.{IsPresent-stands, point_of-stands, PointOf, TreeOf, cost_in, SeesAsBefore, HasWholeShare, PassState, SharedState, Found}
+use Rattle.plan_work.proofs.Words.{AreOf, HasSteered, KeepsRecords, HasCounted, IsBestHanging, IsFilledWhole, IsSteeredWhole, SeesButCount, sees, setup_in}
+use Rattle.plan_work.proofs.Words.{tree_seen, Hand, SharedRun, Claimed, View, seen_cost_through}
 use Rattle.plan_work.proofs.MirroredTrees.{points_still}
-use Rattle.plan_work.proofs.Words.{HasSteered, KeepsRecords, HasCounted, IsBestHanging, IsFilledWhole, IsSteeredWhole, SeesButCount}
-use Rattle.step_core.specs.Views.{sees, setup_in, tree_seen}
-use Rattle.step_core.specs.declared.views.Hand.{Hand}
-use Rattle.step_core.specs.declared.views.SharedRun.{SharedRun}
-use Rattle.step_core.specs.declared.views.Stage.TheVariants.{Claimed}
-use Rattle.step_core.specs.declared.views.View.{View}
-use Rattle.tree_rewire.specs.SeenCosts.{seen_cost_through}
 
 -- ---- shares and hands
 

@@ -1,15 +1,11 @@
 -- What the pass of the only worker has come to once it has worked.
-use Rattle.std.proofs.Common.{◌≡◌, ℕ, zero, suc, ◌<◌, ◌≤◌, List, refl, subst, arith}
-use Rattle.std.specs.Prelude.{[], ◌∷◌, slice_index_or}
+use Rattle.plan_work.proofs.Words.{◌≡◌, ℕ, zero, suc, ◌<◌, ◌≤◌, List, refl, subst, arith, [], ◌∷◌, slice_index_or, GrowsInto, TreeState, state_of_grown}
+use Rattle.plan_work.proofs.Words.{AllFull, GoesOn, HasNoneLeft, PassState, SharedState, StartsAs, share, StandsAsSeen, Grown, HandlesRest, HasHandled}
+use Rattle.plan_work.proofs.Words.{IsOfTextbook, HasDone, HasTakenOver, HasWorked}
 use lib.ListN.{get_elem?}
 use mathlib.Core.Option.{some}
-use Rattle.grown_runs.proofs.Common.{GrowsInto, TreeState, state_of_grown}
-use Rattle.plan_words.proofs.Common.{AllFull, GoesOn, HasNoneLeft, PassState, SharedState, StartsAs}
-use Rattle.step_core.proofs.Common.{share, StandsAsSeen}
-use Rattle.grown_runs.specs.declared.grown.Grown.{Grown}
 use Rattle.plan_work.proofs.SharedRuns.{GrowsInto-all, HasHandled-alone, limit_reached, none_left, whole_share}
 use Rattle.plan_work.proofs.TakenOver.{HasTakenOver-alone}
-use Rattle.plan_work.proofs.Words.{HandlesRest, HasHandled, IsOfTextbook, HasDone, HasTakenOver, HasWorked}
 
 -- it has the share of all workers, leaves no mark, and its run has grown from the opening one, as the textbook does
 pub record HasWorkedAlone (shared : SharedState) (grown : Grown) (limit : ℕ) (after : PassState) : Type 0 where

@@ -1,15 +1,9 @@
 -- A worker has handled one mark more.
-use Rattle.std.proofs.Common.{◌≡◌, ◌≢◌, ℕ, ◌+◌, ◌-◌, ◌<◌, ◌≤◌, List, length, inl, inr, refl, sym, ap, ◌∙◌, subst, arith}
-use Rattle.std.specs.Prelude.{◌⊎◌, [], ◌∷◌, max}
-use Rattle.std.proofs.lemmas.Bool.{cases_eq, cases_lt}
+use Rattle.plan_work.proofs.Words.{◌≡◌, ◌≢◌, ℕ, ◌+◌, ◌-◌, ◌<◌, ◌≤◌, List, length, inl, inr, refl, sym, ap, ◌∙◌, subst, arith, ◌⊎◌, [], ◌∷◌, max, cases_eq}
+use Rattle.plan_work.proofs.Words.{cases_lt, Record, ChangesOnly, IsCounter, RecordOf, AllLoaded, IsClaimed, GoesOn, PassState, SharedState, turn_of, worker_of}
+use Rattle.plan_work.proofs.Words.{GoesOn-more, GoesOn-trans, HasGoneOn, HasMember-held, new_hand, one_turn_more, sees, Member, View, HandlesMark, IsExtended}
+use Rattle.plan_work.proofs.Words.{AllExtended, HasWorked}
 use lib.ListN.{get_elem?}
-use Rattle.grown_runs.proofs.Common.{Record, ChangesOnly, IsCounter, RecordOf}
-use Rattle.plan_words.proofs.Common.{AllLoaded, IsClaimed, GoesOn, PassState, SharedState, turn_of, worker_of, GoesOn-more, GoesOn-trans, HasGoneOn}
-use Rattle.plan_words.proofs.Common.{HasMember-held}
-use Rattle.step_core.proofs.Common.{new_hand, one_turn_more, sees}
-use Rattle.step_core.specs.declared.views.Member.{Member}
-use Rattle.step_core.specs.declared.views.View.{View}
-use Rattle.plan_work.proofs.Words.{HandlesMark, IsExtended, AllExtended, HasWorked}
 
 -- a turn more changes neither the share nor the worker
 pub share-turned : (crew : List Member) → length (one_turn_more crew) ≡ length crew

@@ -1,15 +1,9 @@
 -- Why a command that reads a text is refused.
-use Rattle.std.proofs.Common.{◌≡◌, ℕ, ◌<◌, true, false, Some, IsTrue, [], ◌∷◌, length, Vec, refl, sym, ap, subst, arith}
-use Rattle.std.proofs.lemmas.Bool.{and_from}
-use Rattle.std.proofs.Common.{Option, None, IfSome, IfNone, Result, Ok, Err, IsErrAnd, IsErrOf, IfErr}
-use Rattle.std.specs.Io.KnownBytes.{IsAtEnd}
-use Rattle.grown_runs.proofs.Common.{MOST_TEXT_BYTES, Scene, ClearAt, space_of, SourceState, counted_up}
-use Rattle.scene_text.specs.declared.fetching.FetchFault.{FetchFault}
+use Rattle.planner.proofs.Words.{◌≡◌, ℕ, ◌<◌, true, false, Some, IsTrue, [], ◌∷◌, length, Vec, refl, sym, ap, subst, arith, and_from, Option, None, IfSome}
+use Rattle.planner.proofs.Words.{IfNone, Result, Ok, Err, IsErrAnd, IsErrOf, IfErr, IsAtEnd, MOST_TEXT_BYTES, Scene, ClearAt, space_of, SourceState, counted_up}
+use Rattle.planner.proofs.Words.{FetchFault, Fetches, IsAllOf, goal_middle, Command, input_of, plans, reads_text, tests_goal, Input, one_scene, reads_bytes}
+use Rattle.planner.proofs.Words.{SpellsInput, IsCaused, HasScene, ReadFailed, CameShort, IsReadWhole, refusal_of_fetch}
 use Rattle.scene_text.specs.declared.fetching.FetchFault.TheVariants as fetching
-use Rattle.scene_text.specs.Fetching.{Fetches, IsAllOf}
-use Rattle.twin_trees.specs.TurnedScenes.{goal_middle}
-use Rattle.planner.proofs.Words.{Command, input_of, plans, reads_text, tests_goal, Input, one_scene, reads_bytes, SpellsInput, IsCaused, HasScene, ReadFailed}
-use Rattle.planner.proofs.Words.{CameShort, IsReadWhole, refusal_of_fetch}
 use Rattle.planner.specs.declared.refusals.Refusal.TheVariants as refusals
 
 read≢long : fetching.Read ≡ fetching.TooLong → ⊥

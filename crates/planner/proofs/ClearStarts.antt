@@ -1,13 +1,7 @@
 -- A body meets no obstacle that lies to its right, and so the start of a generated scene is clear.
-use Rattle.std.proofs.Common.{◌≡◌, ℕ, ◌+◌, ◌*◌, ◌%◌, ◌<◌, ◌≤◌, Bool, true, false, List, [], ◌∷◌, length, refl, arith}
-use Rattle.std.specs.Prelude.{ℤ, pos, negsuc, ◌*ℤ◌, ◌≤ℤ◌, ◌==◌, All, sum}
-use Rattle.std.specs.List.{range_with_len}
-use Rattle.std.proofs.lemmas.Int.{ints}
-use Rattle.std.proofs.lemmas.Nat.{mul-le}
-use Rattle.std.proofs.lemmas.List.Sums.{sum_by-cons}
-use Rattle.std.proofs.lemmas.List.Elements.{All-from_recursion, All-head, All-tail, All-map}
-use Rattle.grown_runs.proofs.Common.{Point, Vertex, Meets, weighted, at_lattice, moved_by, IsBetweenWalls, InRoom, ConfigurationSpace, space_among, ClearAt}
-use Rattle.grown_runs.proofs.Common.{SharesPoint-meets}
+use Rattle.planner.proofs.Words.{◌≡◌, ℕ, ◌+◌, ◌*◌, ◌%◌, ◌<◌, ◌≤◌, Bool, true, false, List, [], ◌∷◌, length, refl, arith, ℤ, pos, negsuc, ◌*ℤ◌, ◌≤ℤ◌, ◌==◌, All}
+use Rattle.planner.proofs.Words.{sum, range_with_len, ints, mul-le, sum_by-cons, All-from_recursion, All-head, All-tail, All-map, Point, Vertex, Meets}
+use Rattle.planner.proofs.Words.{weighted, at_lattice, moved_by, IsBetweenWalls, InRoom, ConfigurationSpace, space_among, ClearAt, SharesPoint-meets}
 use Rattle.planner.proofs.Words.{lattice_corner, square_at, triangle_at, place_in_cell, side_by, obstacle_by, generated_obstacle, generated_obstacles}
 
 times_at_least : (w n : ℕ) (z : ℤ) → pos n ≤ℤ z → pos (w * n) ≤ℤ (pos w *ℤ z)

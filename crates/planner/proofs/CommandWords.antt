@@ -1,6 +1,5 @@
 -- Words that ask for no command.
-use Rattle.std.proofs.Common.{◌≡◌, ℕ, ◌≤◌, None, List, [], ◌∷◌, length, map, arith, refl}
-use Rattle.planner.specs.Commands.{command_of}
+use Rattle.planner.proofs.Words.{◌≡◌, ℕ, ◌≤◌, None, List, [], ◌∷◌, length, map, arith, refl, command_of}
 
 -- there are more than three of them
 pub command_of-many : {X : Type 0} (f : X → List ℕ) (words : List X) → 4 ≤ length words → None ≡ command_of (map f words)

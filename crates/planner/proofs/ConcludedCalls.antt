@@ -1,11 +1,7 @@
 -- What a whole call has done, from the answer that it writes and from what was written.
-use Rattle.std.proofs.Common.{◌≡◌, ◌≢◌, ℕ, ◌⊎◌, inl, inr, true, false, Option, None, IfSome, List, refl, sym, subst, ◌∙◌}
-use Rattle.std.proofs.Math.Dec.{eqb}
-use Rattle.std.proofs.lemmas.Bool.Decides.{eqb_tells}
-use Rattle.plan_model.specs.Texts.Streams.{SourceState, SinkState}
-use Rattle.scene_text.specs.Fetching.{ReadsWithin}
-use Rattle.planner.proofs.Words.{Command, Refusal, WORDS_REFUSED, WRITE_FAULT, NO_MEMORY, Done, reads_text, IsAnswer, IsCaused, Asks, IsDecided, HasConcluded}
-use Rattle.planner.proofs.Words.{ReadFailed, IsUnread, IsWrittenWhole, IsCutShort, status_of}
+use Rattle.planner.proofs.Words.{◌≡◌, ◌≢◌, ℕ, ◌⊎◌, inl, inr, true, false, Option, None, IfSome, List, refl, sym, subst, ◌∙◌, eqb, eqb_tells, SourceState}
+use Rattle.planner.proofs.Words.{SinkState, ReadsWithin, Command, Refusal, WORDS_REFUSED, WRITE_FAULT, NO_MEMORY, Done, reads_text, IsAnswer, IsCaused, Asks}
+use Rattle.planner.proofs.Words.{IsDecided, HasConcluded, ReadFailed, IsUnread, IsWrittenWhole, IsCutShort, status_of}
 use Rattle.planner.specs.declared.refusals.Refusal.TheVariants as refusals
 use Rattle.planner.proofs.DecidedStatuses.{success_decided, refusal_decided}
 

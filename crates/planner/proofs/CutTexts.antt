@@ -1,10 +1,6 @@
 -- A text is cut at one line `report`, or has none.
-use Rattle.std.proofs.Common.{◌≡◌, ℕ, ◌==◌, not, true, ◌⊎◌, inl, inr, List, [], ◌∷◌, ◌++◌, drop, get_or, refl, sym, ap, subst, ◌∙◌, append_assoc}
-use Rattle.std.specs.Prelude.{All}
-use Rattle.std.proofs.lemmas.Bool.{and_parts, false≢true}
-use Rattle.std.proofs.lemmas.List.Elements.{All-head, All-tail}
-use Rattle.plan_model.specs.Texts.SceneBatches.{text_of}
-use Rattle.report_judge.specs.Texts.ReportCuts.{HasNoReportLine, IsCutAtReport, IsOtherLine, has_no_feed, report_line}
+use Rattle.planner.proofs.Words.{◌≡◌, ℕ, ◌==◌, not, true, ◌⊎◌, inl, inr, List, [], ◌∷◌, ◌++◌, drop, get_or, refl, sym, ap, subst, ◌∙◌, append_assoc, All}
+use Rattle.planner.proofs.Words.{and_parts, false≢true, All-head, All-tail, text_of, HasNoReportLine, IsCutAtReport, IsOtherLine, has_no_feed, report_line}
 
 -- ---- the first line
 

@@ -1,18 +1,12 @@
 -- Which status the bytes of the source decide, from the answer and its cause.
-use Rattle.std.proofs.Common.{◌≡◌, ℕ, ◌≤◌, ◌<◌, ◌⊎◌, inl, inr, Bool, true, false, IsTrue, MatchBool, Option, Some, None, IfSome}
-use Rattle.std.proofs.Common.{List, [], ◌∷◌, length, refl, sym, ap, subst, ◌∙◌, arith}
-use Rattle.std.proofs.lemmas.Bool.{and_parts, false≢true}
-use Rattle.grown_runs.proofs.Common.{MOST_TEXT_BYTES, Scene, Kind, Spells, supported, SourceState, SpellsBatch-not_refused, SpellsBatch-one_batch}
-use Rattle.grown_runs.proofs.Common.{Spells-not_refused, Spells-one_scene}
-use Rattle.twin_trees.proofs.TurnedRuns.{ClearAt-middle}
-use Rattle.scene_text.specs.Fetching.{CameTooLong}
-use Rattle.report_judge.specs.declared.verdicts.Verdict.{Verdict}
-use Rattle.report_judge.specs.declared.verdicts.Verdict.TheVariants.{Broken, Lawful}
-use Rattle.planner.proofs.Words.{Command, Refusal, NO_PATH, GOAL_BLOCKED, TEXT_REFUSED, START_BLOCKED, NO_MEMORY, Done, input_of, plans, reads_text, tests_goal}
-use Rattle.planner.proofs.Words.{tests_start, greatest_success, BlocksGoal, BlocksStart, IsCaused, IsSceneOf, IsSuccess, MayReach, MayStart, OfScene, Succeeds}
-use Rattle.planner.proofs.Words.{status_of_report, IsDecidedBy, IsDecided, Input, nothing, one_scene, several_scenes, scene_and_report, AreGoalsClear}
-use Rattle.planner.proofs.Words.{AreStartsClear, RefusesInput, SpellsInput, IsTextBeforeReport, RefusesFront, RefusesWhole, ReadFailed, IsReadWhole, IsUnread}
-use Rattle.planner.proofs.Words.{status_of, status_of_verdict}
+use Rattle.planner.proofs.Words.{◌≡◌, ℕ, ◌≤◌, ◌<◌, ◌⊎◌, inl, inr, Bool, true, false, IsTrue, MatchBool, Option, Some, None, IfSome, List, [], ◌∷◌, length, refl}
+use Rattle.planner.proofs.Words.{sym, ap, subst, ◌∙◌, arith, and_parts, false≢true, MOST_TEXT_BYTES, Scene, Kind, Spells, supported, SourceState}
+use Rattle.planner.proofs.Words.{SpellsBatch-not_refused, SpellsBatch-one_batch, Spells-not_refused, Spells-one_scene, ClearAt-middle, CameTooLong, Verdict}
+use Rattle.planner.proofs.Words.{Broken, Lawful, Command, Refusal, NO_PATH, GOAL_BLOCKED, TEXT_REFUSED, START_BLOCKED, NO_MEMORY, Done, input_of, plans}
+use Rattle.planner.proofs.Words.{reads_text, tests_goal, tests_start, greatest_success, BlocksGoal, BlocksStart, IsCaused, IsSceneOf, IsSuccess, MayReach}
+use Rattle.planner.proofs.Words.{MayStart, OfScene, Succeeds, status_of_report, IsDecidedBy, IsDecided, Input, nothing, one_scene, several_scenes}
+use Rattle.planner.proofs.Words.{scene_and_report, AreGoalsClear, AreStartsClear, RefusesInput, SpellsInput, IsTextBeforeReport, RefusesFront, RefusesWhole}
+use Rattle.planner.proofs.Words.{ReadFailed, IsReadWhole, IsUnread, status_of, status_of_verdict}
 use Rattle.planner.specs.declared.commands.Command.TheVariants as commands
 use Rattle.planner.specs.declared.refusals.Refusal.TheVariants as refusals
 use Rattle.planner.proofs.KnownBytes.{came_count}

@@ -1,17 +1,9 @@
 -- Squares and right triangles are strictly convex and counterclockwise.
-use Rattle.std.proofs.Common.{◌≡◌, ℕ, ◌+◌, ◌*◌, ◌/◌, ◌%◌, ◌<◌, ◌≤◌, Bool, true, false, IsTrue, List, length, map, refl, ◌∙◌, arith}
-use Rattle.std.specs.Prelude.{pos, ◌<ℤ◌, int_lt, nat_le, ◌==◌}
-use Rattle.std.specs.List.{list_all, range_with_len}
-use Rattle.std.proofs.lemmas.List.FromFn.{length-map-range_with_len}
-use Rattle.std.proofs.lemmas.List.Folds.{list_all-map}
-use Rattle.std.proofs.lemmas.Nat.{mod_below, div-add-mod'}
-use Rattle.std.proofs.Math.Nat.{mul-pos}
-use Rattle.std.proofs.lemmas.Int.{ints}
-use Rattle.std.proofs.lemmas.Bool.{and_from}
-use Rattle.grown_runs.proofs.Common.{Point, Vertex, orientation, is_strictly_convex, is_corner_between, is_obstacle, are_obstacles, LEAST_OBSTACLE_COORDINATE}
-use Rattle.grown_runs.proofs.Common.{MOST_OBSTACLE_COORDINATE, MOST_OBSTACLES, true_of_below, Read, var, minus}
-use Rattle.plan_model.proofs.Ring.{times}
-use Rattle.planner.proofs.Words.{lattice_corner, square_at, triangle_at, place_in_cell, side_by, obstacle_by, generated_obstacle, generated_obstacles}
+use Rattle.planner.proofs.Words.{◌≡◌, ℕ, ◌+◌, ◌*◌, ◌/◌, ◌%◌, ◌<◌, ◌≤◌, Bool, true, false, IsTrue, List, length, map, refl, ◌∙◌, arith, pos, ◌<ℤ◌, int_lt}
+use Rattle.planner.proofs.Words.{nat_le, ◌==◌, list_all, range_with_len, length-map-range_with_len, list_all-map, mod_below, div-add-mod', mul-pos, ints}
+use Rattle.planner.proofs.Words.{and_from, Point, Vertex, orientation, is_strictly_convex, is_corner_between, is_obstacle, are_obstacles}
+use Rattle.planner.proofs.Words.{LEAST_OBSTACLE_COORDINATE, MOST_OBSTACLE_COORDINATE, MOST_OBSTACLES, true_of_below, Read, var, minus, times, lattice_corner}
+use Rattle.planner.proofs.Words.{square_at, triangle_at, place_in_cell, side_by, obstacle_by, generated_obstacle, generated_obstacles}
 
 -- the area that a turn spans, as a difference
 abbrev turn : (a b c : Vertex) → Read (orientation a b c)

@@ -1,13 +1,8 @@
 -- What is answered to words, from the success or the refusal that it is.
-use Rattle.std.proofs.Common.{◌≡◌, ℕ, false, IsTrue, List, [], Some, Result, Ok, Err, IsErrAnd, refl, sym, ap, subst, arith}
-use Rattle.std.proofs.KnownBytes.{Keeps-refl, Consumes-nil}
-use Rattle.grown_runs.proofs.Common.{Scene, ClearAt, space_of, SourceState}
-use Rattle.scene_text.specs.Fetching.{ReadsWithin}
-use Rattle.twin_trees.specs.TurnedScenes.{goal_middle}
-use Rattle.twin_trees.specs.declared.twin_runs.TwinFault.{TwinFault}
+use Rattle.planner.proofs.Words.{◌≡◌, ℕ, false, IsTrue, List, [], Some, Result, Ok, Err, IsErrAnd, refl, sym, ap, subst, arith, Keeps-refl, Consumes-nil, Scene}
+use Rattle.planner.proofs.Words.{ClearAt, space_of, SourceState, ReadsWithin, goal_middle, TwinFault, Answer, Command, Refusal, input_of, reads_text}
+use Rattle.planner.proofs.Words.{tests_goal, Answers, HasScene, IsCaused, Succeeds, IsReadWhole, IsUnread, refusal_of_twin, one_scene, reads_bytes}
 use Rattle.twin_trees.specs.declared.twin_runs.TwinFault.TheVariants as faults
-use Rattle.planner.proofs.Words.{Answer, Command, Refusal, input_of, reads_text, tests_goal, Answers, HasScene, IsCaused, Succeeds, IsReadWhole, IsUnread}
-use Rattle.planner.proofs.Words.{refusal_of_twin, one_scene, reads_bytes}
 use Rattle.planner.specs.declared.refusals.Refusal.TheVariants as refusals
 use Rattle.planner.proofs.Causes.{GoalBlocked-caused}
 

@@ -1,25 +1,12 @@
 -- What is answered to a command that reads several scenes, and what comes of their sessions.
-use Rattle.std.proofs.Common.{◌≡◌, ℕ, zero, suc, ◌<◌, ◌≤◌, ◌+◌, ◌++◌, IsTrue, List, [], ◌∷◌, length, get_or, below_more}
-use Rattle.std.proofs.Common.{Option, Some, None, IsSome, IsSomeAnd, Result, Ok, Err, IsErrAnd, refl, sym, ap, subst, ◌∙◌, arith}
-use Rattle.std.proofs.lemmas.Bool.{and_from}
-use Rattle.std.specs.List.{list_all}
-use Rattle.std.proofs.lemmas.List.{get_or_append_left, get_or_push}
-use Rattle.grown_runs.proofs.Common.{Point, Scene, Task, IsClosed, setup_of, mark_points, ClearAt, space_of, SourceState, IsSettled, MOST_TEXT_BYTES}
-use Rattle.grown_runs.proofs.Common.{state_of_grown}
-use Rattle.plan_work.proofs.TextbookEnds.{IsOfTextbookRun-whole}
-use Rattle.scene_text.specs.Batches.{IsBatchRefusal}
-use Rattle.scene_text.specs.Fetching.{ReadsWithin}
-use Rattle.scene_text.specs.declared.refusals.SceneRefusal.{SceneRefusal}
+use Rattle.planner.proofs.Words.{◌≡◌, ℕ, zero, suc, ◌<◌, ◌≤◌, ◌+◌, ◌++◌, IsTrue, List, [], ◌∷◌, length, get_or, below_more, Option, Some, None, IsSome}
+use Rattle.planner.proofs.Words.{IsSomeAnd, Result, Ok, Err, IsErrAnd, refl, sym, ap, subst, ◌∙◌, arith, and_from, list_all, get_or_append_left, get_or_push}
+use Rattle.planner.proofs.Words.{Point, Scene, Task, IsClosed, setup_of, mark_points, ClearAt, space_of, SourceState, IsSettled, MOST_TEXT_BYTES}
+use Rattle.planner.proofs.Words.{state_of_grown, IsOfTextbookRun-whole, IsBatchRefusal, ReadsWithin, SceneRefusal, Grown, HasFinished, has_path, batch_report}
+use Rattle.planner.proofs.Words.{IsFresh, SessionState, Better, HaveSessions, IsSessionOf, Answer, Command, Refusal, input_of, plans, reads_text, Done, Answers}
+use Rattle.planner.proofs.Words.{HandsOutNothing, HasBatch, IsCaused, IsRunBySlices, ReportsBatch, Succeeds, status_of_report, IsReadWhole, refusal_of_scene}
+use Rattle.planner.proofs.Words.{AreStartsClear, Input, RefusesInput, SpellsInput, several_scenes, reads_bytes}
 use Rattle.scene_text.specs.declared.refusals.SceneRefusal.TheVariants as reading
-use Rattle.grown_runs.specs.declared.grown.Grown.{Grown}
-use Rattle.any_time.specs.BatchGathering.{HasFinished}
-use Rattle.any_time.specs.BestPaths.{has_path}
-use Rattle.any_time.specs.BetterReports.{batch_report}
-use Rattle.any_time.specs.Sessions.{IsFresh, SessionState}
-use Rattle.any_time.specs.declared.betters.Better.{Better}
-use Rattle.planner.proofs.Words.{HaveSessions, IsSessionOf, Answer, Command, Refusal, input_of, plans, reads_text, Done, Answers, HandsOutNothing, HasBatch}
-use Rattle.planner.proofs.Words.{IsCaused, IsRunBySlices, ReportsBatch, Succeeds, status_of_report, IsReadWhole, refusal_of_scene, AreStartsClear, Input}
-use Rattle.planner.proofs.Words.{RefusesInput, SpellsInput, several_scenes, reads_bytes}
 use Rattle.planner.proofs.GivenAnswers.{Answers-given, Answers-refused}
 use Rattle.planner.specs.declared.refusals.Refusal.TheVariants as refusals
 

@@ -1,14 +1,8 @@
 -- What is answered to `check`, from the bytes that were read.
-use Rattle.std.proofs.Common.{◌≡◌, ℕ, ◌≤◌, ◌+◌, ◌++◌, List, [], ◌∷◌, length, length-append, Result, IsErrAnd}
-use Rattle.std.proofs.Common.{Some, refl, ap, inl, inr, arith}
-use Rattle.std.specs.Prelude.{◌⊎◌}
-use Rattle.grown_runs.proofs.Common.{MOST_TEXT_BYTES, SourceState}
-use Rattle.report_judge.specs.Texts.ReportCuts.{HasNoReportLine, IsCutAtReport, report_line}
-use Rattle.scene_text.specs.Fetching.{ReadsWithin}
-use Rattle.scene_text.specs.Refusals.{IsSceneRefusal}
-use Rattle.scene_text.specs.declared.refusals.SceneRefusal.{SceneRefusal}
-use Rattle.scene_text.specs.declared.refusals.SceneRefusal.TheVariants as reading
+use Rattle.planner.proofs.Words.{◌≡◌, ℕ, ◌≤◌, ◌+◌, ◌++◌, List, [], ◌∷◌, length, length-append, Result, IsErrAnd, Some, refl, ap, inl, inr, arith, ◌⊎◌}
+use Rattle.planner.proofs.Words.{MOST_TEXT_BYTES, SourceState, HasNoReportLine, IsCutAtReport, report_line, ReadsWithin, IsSceneRefusal, SceneRefusal}
 use Rattle.planner.proofs.Words.{RefusesCheck, RefusesSceneText, RefusesWithoutReport, Answers, IsCaused, IsReadWhole, refusal_of_scene, Answer, Refusal}
+use Rattle.scene_text.specs.declared.refusals.SceneRefusal.TheVariants as reading
 use Rattle.planner.proofs.GivenAnswers.{Answers-refused}
 use Rattle.planner.specs.declared.commands.Command.TheVariants as commands
 use Rattle.planner.specs.declared.refusals.Refusal.TheVariants as refusals

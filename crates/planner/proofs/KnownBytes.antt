@@ -1,6 +1,5 @@
 -- How many of the known bytes of a source came.
-use Rattle.std.proofs.Common.{◌≡◌, ℕ, ◌+◌, Option, Some, None, List, length, length-append, ap, arith}
-use Rattle.std.specs.Io.KnownBytes.{Consumes}
+use Rattle.planner.proofs.Words.{◌≡◌, ℕ, ◌+◌, Option, Some, None, List, length, length-append, ap, arith, Consumes}
 
 -- how many are left
 abbrev pub left_count : Option (List ℕ) → ℕ

@@ -1,11 +1,7 @@
 -- What is reported of a run, and of the scene that it is of.
-use Rattle.std.proofs.Common.{◌≡◌, ℕ, Option, List, length, None, Some, IfSome, refl, subst}
-use Rattle.std.specs.Prelude.{is_some}
-use Rattle.grown_runs.proofs.Common.{Point, Scene, best_node, goals_of, IsClosed, mark_points, IsOfTextbookRun, Setup, setup_of, IsPresent, IsSettled}
-use Rattle.grown_runs.proofs.Common.{TreeState, state_of_grown}
-use Rattle.grown_runs.specs.declared.grown.Grown.{Grown}
-use Rattle.twin_trees.specs.Bridges.{IsBridge}
-use Rattle.planner.proofs.Words.{Done, HandsOutRunAlone, Report, ReportsGrown, ReportsScene, ReportsTwin, status_of_report}
+use Rattle.planner.proofs.Words.{◌≡◌, ℕ, Option, List, length, None, Some, IfSome, refl, subst, is_some, Point, Scene, best_node, goals_of, IsClosed}
+use Rattle.planner.proofs.Words.{mark_points, IsOfTextbookRun, Setup, setup_of, IsPresent, IsSettled, TreeState, state_of_grown, Grown, IsBridge, Done}
+use Rattle.planner.proofs.Words.{HandsOutRunAlone, Report, ReportsGrown, ReportsScene, ReportsTwin, status_of_report}
 
 -- a settled run over all marks of its scene is reported by its status and such a text; that it is closed, its type says
 pub ReportsGrown-answer :

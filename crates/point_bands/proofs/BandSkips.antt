@@ -1,18 +1,8 @@
 -- What a walk over a disc may skip: points in bands below or above it, and in a band those left or right of it.
-use Rattle.std.proofs.Common.{◌≡◌, ℕ, ◌+◌, ◌-◌, ◌*◌, ◌/◌, ◌%◌, ◌^◌, ◌<◌, ◌≤◌, List, length, All, arith, inl, inr, subst, sym, ap, ◌∙◌, min, bit_and, bit_or}
-use Rattle.std.specs.Int.{abs_diff}
-use Rattle.std.specs.List.Sorted.{IsNonDecreasingBy}
-use Rattle.std.proofs.lemmas.Bool.{cases_eq, cases_lt}
-use Rattle.std.proofs.lemmas.Nat.{mul-le, or_shifted, pow-add}
-use Rattle.std.proofs.lemmas.Nat.Bits.{and_high_mask}
-use Rattle.std.proofs.Math.Nat.{div-div-eq-div-mul, div-mul-le_self, mul-div_cancel}
-use Rattle.std.proofs.Math.Pow.{shr_mono}
-use Rattle.plan_model.specs.Geometry.Bounds.{IsBounded}
-use Rattle.plan_model.specs.declared.geometry.Point.{Point}
-use Rattle.point_bands.specs.Discs.{IsInColumns, IsWithin}
-use Rattle.point_bands.specs.BandOrder.{band_key, lowest_row}
-use Rattle.point_bands.specs.Walks.{HasNoneBetween, nowhere, numbered_at}
-use Rattle.point_bands.specs.declared.bands.Numbered.{Numbered}
+use Rattle.point_bands.proofs.Words.{◌≡◌, ℕ, ◌+◌, ◌-◌, ◌*◌, ◌/◌, ◌%◌, ◌^◌, ◌<◌, ◌≤◌, List, length, All, arith, inl, inr, subst, sym, ap, ◌∙◌, min, bit_and}
+use Rattle.point_bands.proofs.Words.{bit_or, abs_diff, IsNonDecreasingBy, cases_eq, cases_lt, mul-le, or_shifted, pow-add, and_high_mask, div-div-eq-div-mul}
+use Rattle.point_bands.proofs.Words.{div-mul-le_self, mul-div_cancel, shr_mono, IsBounded, Point, IsInColumns, IsWithin, band_key, lowest_row, HasNoneBetween}
+use Rattle.point_bands.proofs.Words.{nowhere, numbered_at, Numbered}
 
 -- a difference above the reach has a square above that of the disc
 past_reach : (square reach gap rest : ℕ) → square < (reach + 1) * (reach + 1) → reach < gap → square < gap * gap + rest

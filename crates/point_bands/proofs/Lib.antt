@@ -1,1 +1,2 @@
 pub mod BandSkips
+mod Words

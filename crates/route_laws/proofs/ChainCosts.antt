@@ -1,11 +1,10 @@
 -- In a closed run no node of a chain in order was placed at more than the chain costs up to it, nor is the last one kept at more.
-use Rattle.std.proofs.Common.{◌≡◌, ℕ, suc, ◌+◌, ◌≤◌, List, [], ◌∷◌, Option, Some, None, arith, refl, sym, ap, subst, inl, inr}
-use Rattle.std.specs.Prelude.{◌⊎◌}
+use Rattle.route_laws.proofs.Words.{◌≡◌, ℕ, suc, ◌+◌, ◌≤◌, List, [], ◌∷◌, Option, Some, None, arith, refl, sym, ap, subst, inl, inr, ◌⊎◌, IsChain}
+use Rattle.route_laws.proofs.Words.{IsChainInOrder, IsLinkInOrder, cost_of_chain}
 use Rattle.route_laws.proofs.Common.{Goal, Point, Outcome, Placed, Record, cost_of, steered, IsClosed, mark_at, HasLawfulOutcome, IsPlacedLawfully, Setup}
 use Rattle.route_laws.proofs.Common.{IsGoalNode, best_node, IsPresent, point_of, TreeState, first_cost_of, recorded_or, sum_in, best_node-none, best_node-some}
 use Rattle.route_laws.proofs.Common.{KeepsFirstCosts-closed, cost_of-swap, numbers-closed, earlier-present, point_of-stands, start-present, sum_in-le_cost}
 use Rattle.route_laws.proofs.Common.{present-of_record}
-use Rattle.route_laws.specs.Chains.{IsChain, IsChainInOrder, IsLinkInOrder, cost_of_chain}
 
 module _ (setup : Setup) (marks : List Point) (limit : ℕ) (state : TreeState) (closed : IsClosed setup marks limit state) where
   abbrev point : ℕ → Point

@@ -1,14 +1,12 @@
 -- A run with a goal node that costs so much at most has a best node whose sum is no more: where a route of near links leads into a goal, and
 -- where a mark is skipped.
-use Rattle.std.proofs.Common.{◌≡◌, inl, inr, ℕ, ◌≤◌, Bool, true, false, cond, List, [], length, map, Option, Some, None, arith, refl, sym, subst}
-use Rattle.std.specs.Prelude.{IsTrue}
+use Rattle.route_laws.proofs.Words.{◌≡◌, inl, inr, ℕ, ◌≤◌, Bool, true, false, cond, List, [], length, map, Option, Some, None, arith, refl, sym, subst, IsTrue}
+use Rattle.route_laws.proofs.Words.{EndApart, IsNearLink, cost_of_route, end_of, IsRoute}
 use Rattle.route_laws.proofs.Common.{Goal, Point, Scene, Outcome, Skipped, Record, IsClosed, mark_at, HasLawfulOutcome, IsSkippedLawfully, IsOfTextbookRun}
 use Rattle.route_laws.proofs.Common.{Setup, setup_of, mark_points, ClearAt, space_of, IsGoalNode, best_node, goals_of, is_goal_point, lies_in_goals}
 use Rattle.route_laws.proofs.Common.{AreNumberedTo, point_at, IsSettled, TreeState, sum_in, IsPresent-goal, best_node-none, best_node-some, numbers-closed}
 use Rattle.route_laws.proofs.Common.{no_goal_node, IsClosed-of_textbook, IsSettled-of_textbook}
 use Rattle.plan_model.specs.Trees.GoalBounds.{bound_of}
-use Rattle.route_laws.specs.RouteCosts.{EndApart, IsNearLink, cost_of_route, end_of}
-use Rattle.route_laws.specs.Routes.{IsRoute}
 use Rattle.route_laws.proofs.FollowedPaths.{IsGoalNode-skipping}
 use Rattle.route_laws.proofs.RouteCosts.{CostsWithin-route}
 

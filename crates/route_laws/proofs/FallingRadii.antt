@@ -1,7 +1,6 @@
 -- The radius does not rise with the number of nodes.
-use Rattle.std.proofs.Common.{◌≡◌, inl, inr, ℕ, zero, suc, ◌-◌, ◌*◌, ◌^◌, ◌<◌, ◌≤◌, Bool, leb, arith, sym, ap, ◌∙◌, subst}
-use Rattle.std.proofs.lemmas.Bool.{cases_lt, le-leb, leb-true}
-use Rattle.std.proofs.Math.Nat.{pow-le-pow_right}
+use Rattle.route_laws.proofs.Words.{◌≡◌, inl, inr, ℕ, zero, suc, ◌-◌, ◌*◌, ◌^◌, ◌<◌, ◌≤◌, Bool, leb, arith, sym, ap, ◌∙◌, subst, cases_lt, le-leb, leb-true}
+use Rattle.route_laws.proofs.Words.{pow-le-pow_right}
 use Rattle.route_laws.proofs.Common.{class_of, radius_of, radius_of_class, below_digits, from_digits, greatest-le, greatest-most, greatest-passes}
 
 fits : ℕ → ℕ → ℕ → Bool

@@ -1,14 +1,10 @@
 -- Where the body, placed at the end of a link, keeps farther than the link from all obstacles and walls, the disc of the link is clear:
 -- the body at a point of the disc that shares a point with an obstacle has moved as far as the two were apart.
-use Rattle.std.proofs.Common.{◌≡◌, ℕ, suc, ◌+◌, ◌*◌, ◌<◌, ◌≤◌, List, arith, sym, ap, ◌∙◌, subst}
-use Rattle.std.specs.Prelude.{ℤ, pos, negsuc, ◌+ℤ◌, ◌-ℤ◌, ◌*ℤ◌, ◌≤ℤ◌, unsigned_abs}
-use Rattle.std.proofs.Math.Nat.{le_of_mul-le-mul_left}
-use Rattle.std.proofs.lemmas.Int.{ints, unsigned_abs-mul}
-use Rattle.std.proofs.lemmas.List.Elements.{All-weaker}
-use Rattle.std.proofs.lemmas.Nat.{mul-le}
+use Rattle.route_laws.proofs.Words.{◌≡◌, ℕ, suc, ◌+◌, ◌*◌, ◌<◌, ◌≤◌, List, arith, sym, ap, ◌∙◌, subst, ℤ, pos, negsuc, ◌+ℤ◌, ◌-ℤ◌, ◌*ℤ◌, ◌≤ℤ◌, unsigned_abs}
+use Rattle.route_laws.proofs.Words.{le_of_mul-le-mul_left, ints, unsigned_abs-mul, All-weaker, mul-le, HasClearDisc, IsFartherFrom, IsInDisc, KeepsBodyFar}
+use Rattle.route_laws.proofs.Words.{KeepsFromWalls, gap_from, obstacle_less_body}
 use Rattle.route_laws.proofs.Common.{Point, Vertex, squared_distance, Setup, IsClear, Meets, IsBetweenWalls, IsSamePoint, Rational, moved_by, SharesPoint-meets}
 use Rattle.route_laws.proofs.Common.{minus, same, times, var, lt-from_squares}
-use Rattle.route_laws.specs.Discs.{HasClearDisc, IsFartherFrom, IsInDisc, KeepsBodyFar, KeepsFromWalls, gap_from, obstacle_less_body}
 
 -- ---- one point, written with two denominators
 

@@ -1,13 +1,7 @@
 -- A segment into the middle of a disc stays in the disc, so a link whose disc is clear is open.
-use Rattle.std.proofs.Common.{◌≡◌, inl, inr, ℕ, zero, suc, ◌+◌, ◌-◌, ◌*◌, ◌<◌, ◌≤◌, List, [], ◌∷◌, map, arith, refl, ap, ◌∙◌}
-use Rattle.std.specs.Prelude.{ℤ, pos, neg_ℤ, ◌-ℤ◌, unsigned_abs}
-use Rattle.std.specs.Int.{abs_diff}
-use Rattle.std.proofs.lemmas.Bool.{cases_lt}
-use Rattle.std.proofs.lemmas.Int.{ints}
-use Rattle.std.proofs.lemmas.Nat.{mul-le}
+use Rattle.route_laws.proofs.Words.{◌≡◌, inl, inr, ℕ, zero, suc, ◌+◌, ◌-◌, ◌*◌, ◌<◌, ◌≤◌, List, [], ◌∷◌, map, arith, refl, ap, ◌∙◌, ℤ, pos, neg_ℤ, ◌-ℤ◌}
+use Rattle.route_laws.proofs.Words.{unsigned_abs, abs_diff, cases_lt, ints, mul-le, HasClearDisc, IsInDisc, gap_from, AreLinks, IsOpenLink, IsRoute}
 use Rattle.route_laws.proofs.Common.{Point, squared_distance, mark_at, Setup, on_the_way, way_is}
-use Rattle.route_laws.specs.Discs.{HasClearDisc, IsInDisc, gap_from}
-use Rattle.route_laws.specs.Routes.{AreLinks, IsOpenLink, IsRoute}
 
 -- ---- routes of such links
 

@@ -1,9 +1,8 @@
 -- One open link in a closed run: if an earlier node stands where it begins, the mark where it ends is placed there or ends at a node there,
 -- unless it is skipped.
-use Rattle.std.proofs.Common.{◌≡◌, ◌⊎◌, inl, inr, ℕ, zero, suc, ◌≤◌, List, arith, refl, sym, subst}
+use Rattle.route_laws.proofs.Words.{◌≡◌, ◌⊎◌, inl, inr, ℕ, zero, suc, ◌≤◌, List, arith, refl, sym, subst, HasGoalNode, IsOpenLink}
 use Rattle.route_laws.proofs.Common.{Point, Outcome, Placed, Same, Blocked, Skipped, Record, squared_distance, IsClosed, HasLawfulOutcome, IsEarlier}
 use Rattle.route_laws.proofs.Common.{IsSteeredLawfully, Setup, ClearAt, IsPresent, StandsAt, point_of, TreeState, point_of-stands, Clear-last, steered-near}
-use Rattle.route_laws.specs.Routes.{HasGoalNode, IsOpenLink}
 
 module _ (setup : Setup) (marks : List Point) (limit : ℕ) (state : TreeState) (closed : IsClosed setup marks limit state) where
   -- each node of a closed run is clear

@@ -1,7 +1,6 @@
 -- A textbook run with a node at a point in a goal has a best node, and its report begins with the line of the path to it.
-use Rattle.std.proofs.Common.{◌≡◌, inl, inr, ℕ, Bool, true, false, cond, List, [], ◌++◌, length, Option, Some, None, refl, sym, ap, ◌∙◌, subst, append_assoc}
-use Rattle.std.specs.Prelude.{Contains, IsTrue}
-use Rattle.std.proofs.lemmas.List.Elements.{All-contains}
+use Rattle.route_laws.proofs.Words.{◌≡◌, inl, inr, ℕ, Bool, true, false, cond, List, [], ◌++◌, length, Option, Some, None, refl, sym, ap, ◌∙◌, subst}
+use Rattle.route_laws.proofs.Words.{append_assoc, Contains, IsTrue, All-contains, ShowsPath, HasGoalNode, IsOpenLink, IsReached, IsRoute}
 use Rattle.route_laws.proofs.Common.{Goal, Point, Scene, mark_at, IsOfTextbookRun, setup_of, mark_points, ClearAt, space_of, IsGoalNode, best_node, goals_of}
 use Rattle.route_laws.proofs.Common.{is_goal_point, lies_in_goals, AreNumberedTo, TreeState, sum_in, best_node-none, best_node-some, no_goal_node}
 use Rattle.route_laws.proofs.Common.{numbers-closed, IsClosed-of_textbook}
@@ -17,8 +16,6 @@ use Rattle.plan_model.specs.Reports.ReportText.{
   report_text,
   short_report,
 }
-use Rattle.route_laws.specs.BestPaths.{ShowsPath}
-use Rattle.route_laws.specs.Routes.{HasGoalNode, IsOpenLink, IsReached, IsRoute}
 use Rattle.route_laws.proofs.FollowedRoutes.{IsReached-open_route}
 
 -- the goals to skip by are goals of the scene

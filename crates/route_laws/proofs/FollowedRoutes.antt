@@ -1,13 +1,10 @@
 -- A textbook run follows a route of open links: by induction over the links, the node that stands where a link begins is an earlier one of
 -- the record of the mark where it ends.
-use Rattle.std.proofs.Common.{◌≡◌, ◌⊎◌, inl, inr, ℕ, zero, suc, ◌≤◌, true, List, [], ◌∷◌, length, map, Option, Some, None, arith, refl, sym, ap, ◌∙◌, subst}
-use Rattle.std.specs.Prelude.{◌&&◌, All, IsSome}
-use Rattle.std.proofs.Common.{eqb, ltb}
-use Rattle.std.proofs.lemmas.Bool.{and_from, eq-eqb, lt-ltb}
-use Rattle.std.proofs.lemmas.List.Elements.{All-cons, All-nil}
+use Rattle.route_laws.proofs.Words.{◌≡◌, ◌⊎◌, inl, inr, ℕ, zero, suc, ◌≤◌, true, List, [], ◌∷◌, length, map, Option, Some, None, arith, refl, sym, ap, ◌∙◌}
+use Rattle.route_laws.proofs.Words.{subst, ◌&&◌, All, IsSome, eqb, ltb, and_from, eq-eqb, lt-ltb, All-cons, All-nil, AreLinks, HasGoalNode, IsOpenLink}
+use Rattle.route_laws.proofs.Words.{IsReached, IsRoute, Rise}
 use Rattle.route_laws.proofs.Common.{Point, Placed, Same, Record, IsClosed, mark_at, is_placed, IsEarlier, is_earlier_record, IsOfTextbookRun, Setup, ClearAt}
 use Rattle.route_laws.proofs.Common.{IsPresent, StandsAt, TreeState, no_goal_node, IsPresent-stands, record-of_present, IsClosed-of_textbook}
-use Rattle.route_laws.specs.Routes.{AreLinks, HasGoalNode, IsOpenLink, IsReached, IsRoute, Rise}
 use Rattle.route_laws.proofs.FollowedLinks.{EndsThere-lawful}
 use Rattle.route_laws.proofs.TextbookRecords.{IsInTurn, IsInTurn-textbook}
 

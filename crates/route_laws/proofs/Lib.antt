@@ -13,3 +13,4 @@ pub mod RouteCosts
 pub mod CheapestPaths
 pub mod WorkersRoutes
 pub mod Common
+mod Words

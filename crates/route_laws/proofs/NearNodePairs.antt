@@ -1,19 +1,12 @@
 -- Two nodes of a textbook run at the ends of a near link: the one costs no more than the other was placed at and the edge, whichever of
 -- them was placed first.
-use Rattle.std.proofs.Common.{◌≡◌, inl, inr, ℕ, zero, suc, ◌+◌, ◌*◌, ◌<◌, ◌≤◌, List, ◌∷◌, length, Some, arith, sym, ap, ◌∙◌, subst}
-use Rattle.std.specs.Prelude.{IsTrue, slice_get}
-use Rattle.std.proofs.lemmas.Bool.{cases_order, le-leb}
-use Rattle.std.specs.List.{range_with_len}
-use Rattle.std.proofs.lemmas.List.{length-append}
-use Rattle.std.proofs.lemmas.List.FromFn.{length-range_with_len}
-use Rattle.std.proofs.lemmas.List.Sums.{count_by-le-length}
-use Rattle.std.proofs.lemmas.Nat.{mul-le}
+use Rattle.route_laws.proofs.Words.{◌≡◌, inl, inr, ℕ, zero, suc, ◌+◌, ◌*◌, ◌<◌, ◌≤◌, List, ◌∷◌, length, Some, arith, sym, ap, ◌∙◌, subst, IsTrue, slice_get}
+use Rattle.route_laws.proofs.Words.{cases_order, le-leb, range_with_len, length-append, length-range_with_len, count_by-le-length, mul-le, least_radius}
 use Rattle.route_laws.proofs.Common.{Point, Outcome, Placed, Record, cost_of, squared_distance, class_of, radius_of, radius_of_class, steered, IsClosed}
 use Rattle.route_laws.proofs.Common.{has_outcome, mark_at, is_placed, HasLawfulOutcome, IsNeighbour, IsPlacedLawfully, IsOfTextbookRun, Ends, EndsPlaced, Nodes}
 use Rattle.route_laws.proofs.Common.{Setup, start_alone, Clear, ClearAt, is_within, points_of, StandsAt, node_count, point_of, TreeState, first_cost_of}
 use Rattle.route_laws.proofs.Common.{recorded_or, state_of, KeepsFirstCosts-closed, node_count-closed, cost_of-swap, squared_distance-swap, IsPresent-stands}
 use Rattle.route_laws.proofs.Common.{StandsAt-unique, node_count-some, point_of-stands, record-of_present, Clear-back, IsClosed-textbook}
-use Rattle.route_laws.specs.RouteCosts.{least_radius}
 use Rattle.route_laws.proofs.FallingRadii.{radius_of-falls}
 use Rattle.route_laws.proofs.FollowedRoutes.{IsEarlier-below, closed}
 use Rattle.route_laws.proofs.PartsOfRuns.{ComesTo, ComesTo-each}

@@ -1,7 +1,6 @@
 -- A textbook run up to one of its marks: the run over the marks before it, and how the mark is handled there.
-use Rattle.std.proofs.Common.{◌≡◌, ℕ, zero, suc, ◌+◌, List, [], ◌∷◌, ◌++◌, length, Option, Some, None, arith, refl, sym, ap, ◌∙◌, subst, append_assoc}
-use Rattle.std.specs.Prelude.{slice_get}
-use Rattle.std.proofs.lemmas.List.{append-nil}
+use Rattle.route_laws.proofs.Words.{◌≡◌, ℕ, zero, suc, ◌+◌, List, [], ◌∷◌, ◌++◌, length, Option, Some, None, arith, refl, sym, ap, ◌∙◌, subst, append_assoc}
+use Rattle.route_laws.proofs.Words.{slice_get, append-nil}
 use Rattle.route_laws.proofs.Common.{Point, Outcome, Placed, Same, Blocked, Skipped, Record, Twig, Ends, Handles, HandlesAll, Nodes, Setup, near_new, points_of}
 use Rattle.route_laws.proofs.Common.{near-present_beside, points_of-rewires, points_of-push}
 

@@ -26,17 +26,13 @@ use Rattle.std.proofs.Common.{
   ◌∙◌,
   subst,
 }
-use Rattle.std.specs.Prelude.{◌&&◌, IsTrue}
-use Rattle.std.specs.Int.{abs_diff}
-use Rattle.std.proofs.Math.Nat.{le_refl}
-use Rattle.std.proofs.lemmas.Bool.{true≢false}
+use Rattle.route_laws.proofs.Words.{◌&&◌, IsTrue, abs_diff, le_refl, true≢false, EndApart, IsNearLink, cost_of_route, end_of, ends_same, least_radius, AreLinks}
+use Rattle.route_laws.proofs.Words.{IsRoute, Rise}
 use Rattle.route_laws.proofs.Common.{Point, Outcome, Placed, Same, Blocked, Skipped, Record, cost_of, squared_distance, IsClosed, has_outcome, mark_at, is_same}
 use Rattle.route_laws.proofs.Common.{HasLawfulOutcome, IsEarlier, IsOfTextbookRun, Ends, EndsPlaced, Setup, mark_bound, Clear, ClearAt, IsGoalNode}
 use Rattle.route_laws.proofs.Common.{lies_in_goals, length_of_path, StandsAt, point_of, TreeState, recorded_or, cost_of-swap, bound_of-least, IsPresent-stands}
 use Rattle.route_laws.proofs.Common.{point_of-stands, root_ceiling-zero, cost_of-triangle}
 use Rattle.plan_model.specs.Geometry.Roots.{root_ceiling}
-use Rattle.route_laws.specs.RouteCosts.{EndApart, IsNearLink, cost_of_route, end_of, ends_same, least_radius}
-use Rattle.route_laws.specs.Routes.{AreLinks, IsRoute, Rise}
 use Rattle.route_laws.proofs.FollowedLinks.{ClearAt-node, ends_at, near}
 use Rattle.route_laws.proofs.FollowedRoutes.{IsEarlier-below, closed, in_turn, record_there}
 use Rattle.route_laws.proofs.NearNodePairs.{part_of_run}

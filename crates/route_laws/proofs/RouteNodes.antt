@@ -27,14 +27,11 @@ use Rattle.std.proofs.Common.{
   ◌∙◌,
   subst,
 }
-use Rattle.std.specs.Prelude.{IsTrue, option_map}
-use Rattle.std.proofs.Math.Seq.{get_or-append_seam}
-use Rattle.std.proofs.lemmas.List.{get_or_append_left, length-append, length-map}
+use Rattle.route_laws.proofs.Words.{IsTrue, option_map, get_or-append_seam, get_or_append_left, length-append, length-map, least_radius}
 use Rattle.route_laws.proofs.Common.{Point, Record, Twig, cost_of, squared_distance, radius_of, mark_at, IsOfTextbookRun, EndsPlaced, IsCandidate, Setup}
 use Rattle.route_laws.proofs.Common.{near_new, start_alone, Clear, ClearAt, is_within, points_of, sum_of, StandsAt, node_count, point_at, point_of, TreeState}
 use Rattle.route_laws.proofs.Common.{first_cost_of, recorded_or, state_of, KeepsFirstCosts-closed, Contains-after, Contains-near, IsPresent-stands}
 use Rattle.route_laws.proofs.Common.{point_of-stands, record-of_present, steered-near, IsClosed-textbook}
-use Rattle.route_laws.specs.RouteCosts.{least_radius}
 use Rattle.route_laws.proofs.FallingRadii.{radius_of-falls}
 use Rattle.route_laws.proofs.FollowedRoutes.{closed}
 use Rattle.route_laws.proofs.NearNodePairs.{cost-near, radius_in_part, within_more}

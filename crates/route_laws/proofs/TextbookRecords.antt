@@ -1,8 +1,7 @@
 -- The records of a textbook run: that of mark k is of worker 0 in its turn k, and a mark that ended where a node stood did so at one that
 -- an earlier mark gave, or at the start.
-use Rattle.std.proofs.Common.{◌≡◌, ℕ, zero, suc, ◌+◌, ◌≤◌, List, [], ◌∷◌, ◌++◌, length, Option, Some, None, arith, refl, sym, ap, ◌∙◌, subst}
-use Rattle.std.specs.Prelude.{slice_get}
-use Rattle.std.proofs.lemmas.List.{length-append, length-map}
+use Rattle.route_laws.proofs.Words.{◌≡◌, ℕ, zero, suc, ◌+◌, ◌≤◌, List, [], ◌∷◌, ◌++◌, length, Option, Some, None, arith, refl, sym, ap, ◌∙◌, subst, slice_get}
+use Rattle.route_laws.proofs.Words.{length-append, length-map}
 use Rattle.route_laws.proofs.Common.{Point, Outcome, Placed, Same, Blocked, Skipped, Record, Twig, Ends, HandlesAll, IsTextbookRun, Nodes, Setup, near_new}
 use Rattle.route_laws.proofs.Common.{start_alone, points_of, near-present_beside, points_of-rewires, IsPresent-stands, present_below}
 

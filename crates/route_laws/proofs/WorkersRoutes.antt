@@ -1,10 +1,7 @@
 -- One worker of several follows a route of open links, if each mark of it but the last ends at a node of its own that stood before.
-use Rattle.std.proofs.Common.{◌≡◌, ◌⊎◌, inl, inr, ℕ, suc, List, [], ◌∷◌, map, Some, refl, sym, ◌∙◌, subst}
-use Rattle.std.specs.Prelude.{All}
-use Rattle.std.proofs.lemmas.List.Elements.{All-cons, All-nil}
+use Rattle.route_laws.proofs.Words.{◌≡◌, ◌⊎◌, inl, inr, ℕ, suc, List, [], ◌∷◌, map, Some, refl, sym, ◌∙◌, subst, All, All-cons, All-nil, AreLinks, HasGoalNode}
+use Rattle.route_laws.proofs.Words.{IsOpenLink, AreHandledInTurn, EndsAtNode, HasNodeAt, IsHandledAfter}
 use Rattle.route_laws.proofs.Common.{Point, Outcome, Placed, Same, Record, IsClosed, mark_at, Setup, StandsAt, TreeState}
-use Rattle.route_laws.specs.Routes.{AreLinks, HasGoalNode, IsOpenLink}
-use Rattle.route_laws.specs.WorkersRoutes.{AreHandledInTurn, EndsAtNode, HasNodeAt, IsHandledAfter}
 use Rattle.route_laws.proofs.FollowedLinks.{EndsThere-lawful}
 
 -- a mark has one outcome, and so ended at one node

@@ -1,17 +1,10 @@
 -- How far a batch is read, from part to part.
-use Rattle.std.proofs.Common.{◌≡◌, ◌≢◌, ℕ, ◌+◌, ◌<◌, ◌≤◌, List, [], ◌∷◌, ◌++◌, length, drop, get_or, refl, sym, ap, subst, ◌∙◌, inl, inr, arith}
-use Rattle.std.proofs.lemmas.Bool.{cases_lt}
-use Rattle.std.proofs.lemmas.List.{drop_more, get_or_append_left, length-append, length-drop}
-use Rattle.std.proofs.Math.Seq.{get_or-append_seam}
-use Rattle.plan_model.specs.declared.limits.TheConstants.{MOST_SCENES}
-use Rattle.plan_model.specs.declared.scenes.Scene.{Scene}
+use Rattle.scene_text.proofs.Words.{◌≡◌, ◌≢◌, ℕ, ◌+◌, ◌<◌, ◌≤◌, List, [], ◌∷◌, ◌++◌, length, drop, get_or, refl, sym, ap, subst, ◌∙◌, inl, inr, arith, cases_lt}
+use Rattle.scene_text.proofs.Words.{drop_more, get_or_append_left, length-drop, get_or-append_seam, MOST_SCENES, Scene, Part, AreSpelledBelow, RefusesBatch}
+use Rattle.scene_text.proofs.Words.{SpellsBatch, lines_before, part_text, parts_of, text_of, Refused, Spells, supported, lines_of, first_part, later_parts}
+use Rattle.scene_text.proofs.Words.{lines_before-next, parts_of-first, some_part, IsBatchRefusal, IsPartRefusal, SceneRefusal}
+use Rattle.std.proofs.lemmas.List.{length-append}
 use Rattle.plan_model.specs.declared.text_terms.Kind.TheVariants as kinds
-use Rattle.plan_model.specs.Texts.SceneBatches.{Part, AreSpelledBelow, RefusesBatch, SpellsBatch, lines_before, part_text, parts_of, text_of}
-use Rattle.plan_model.specs.Texts.SceneGrammar.{Refused, Spells, supported}
-use Rattle.plan_model.specs.Texts.TextLines.{lines_of}
-use Rattle.plan_model.proofs.BatchParts.{first_part, later_parts, lines_before-next, parts_of-first, some_part}
-use Rattle.scene_text.specs.Batches.{IsBatchRefusal, IsPartRefusal}
-use Rattle.scene_text.specs.declared.refusals.SceneRefusal.{SceneRefusal}
 use Rattle.scene_text.specs.declared.refusals.SceneRefusal.TheVariants as scene_refusal
 use Rattle.scene_text.proofs.PartLemmas.{head_text}
 

@@ -1,28 +1,13 @@
 -- No statement of a scene's canonical text has a fault.
-use Rattle.std.proofs.Common.{◌≡◌, ℕ, ◌+◌, ◌*◌, ◌≤◌, ◌&&◌, ◌||◌, not, Bool, true, false, cond, eqb, leb, ltb, zero, suc, ℤ, pos, Some, None, List, []}
-use Rattle.std.proofs.Common.{◌∷◌, ◌++◌, length, map, refl, ap, ◌∙◌, arith}
-use Rattle.std.specs.List.{list_all}
-use Rattle.std.proofs.lemmas.Bool.Decides.{nat_tests}
+use Rattle.scene_text.proofs.Words.{◌≡◌, ℕ, ◌+◌, ◌*◌, ◌≤◌, ◌&&◌, ◌||◌, not, Bool, true, false, cond, eqb, leb, ltb, zero, suc, ℤ, pos, Some, None, List, []}
+use Rattle.scene_text.proofs.Words.{◌∷◌, ◌++◌, length, map, refl, ap, ◌∙◌, arith, list_all, nat_tests, list_all-append, and_parts, leb-true, Goal, Point}
+use Rattle.scene_text.proofs.Words.{Vertex, Scene, Marks, Drawn, Listed, Key, MOST_MARKS, MOST_OBSTACLE_CORNERS, MOST_OBSTACLES, is_goal, is_mark, is_obstacle}
+use Rattle.scene_text.proofs.Words.{is_plan, most_goals, name_of, is_key, most_corners, most_lines, rival_of, version_word, Format, begins_with, given_by}
+use Rattle.scene_text.proofs.Words.{is_inhabited, version_of, is_repeated, is_too_many, fault_of_version, fault_of_statement, point_numbers, goal_numbers}
+use Rattle.scene_text.proofs.Words.{corner_numbers, statement, version_statement, obstacle_statement, goal_statement, mark_statement, clearance_statements}
+use Rattle.scene_text.proofs.Words.{informed_statements, plan_statements, search_statements, task_statements, canonical_statements, Covers, given_by-append}
 use Rattle.std.proofs.lemmas.List.{length-append}
-use Rattle.std.proofs.lemmas.List.Folds.{list_all-append}
-use Rattle.std.proofs.lemmas.Bool.{and_parts, leb-true}
-use Rattle.plan_model.specs.declared.geometry.Goal.{Goal}
-use Rattle.plan_model.specs.declared.geometry.Point.{Point}
-use Rattle.plan_model.specs.declared.geometry.Vertex.{Vertex}
-use Rattle.plan_model.specs.declared.scenes.Scene.{Scene}
-use Rattle.plan_model.specs.declared.scenes.Marks.{Marks}
-use Rattle.plan_model.specs.declared.scenes.Marks.TheVariants.{Drawn, Listed}
-use Rattle.plan_model.specs.declared.text_terms.Key.{Key}
 use Rattle.plan_model.specs.declared.text_terms.Key.TheVariants as keys
-use Rattle.plan_model.specs.declared.limits.TheConstants.{MOST_MARKS, MOST_OBSTACLE_CORNERS, MOST_OBSTACLES}
-use Rattle.plan_model.specs.Scenes.Limits.{is_goal, is_mark, is_obstacle, is_plan, most_goals}
-use Rattle.plan_model.specs.Texts.Keys.{name_of, is_key, most_corners, most_lines, rival_of, version_word}
-use Rattle.plan_model.specs.Texts.LineChecks.{Format, begins_with, given_by, is_inhabited, version_of, is_repeated, is_too_many, fault_of_version}
-use Rattle.plan_model.specs.Texts.LineChecks.{fault_of_statement}
-use Rattle.plan_model.specs.Texts.CanonicalText.{point_numbers, goal_numbers, corner_numbers, statement, version_statement, obstacle_statement, goal_statement}
-use Rattle.plan_model.specs.Texts.CanonicalText.{mark_statement, clearance_statements, informed_statements, plan_statements, search_statements, task_statements}
-use Rattle.plan_model.specs.Texts.CanonicalText.{canonical_statements, Covers}
-use Rattle.plan_model.proofs.StatementNumbers.{given_by-append}
 use Rattle.scene_text.proofs.StatementTexts.{is_word, is_clean, AreSound, AreSoundAfter, AreSoundAfter-append, AreSound-after}
 use Rattle.scene_text.proofs.CanonicalWords.{IsFit, is_clean-statement, fault-none}
 use Rattle.scene_text.proofs.CanonicalNumbers.{fit-room, fit-body, few-body, fit-obstacle, small-obstacle, fit-clearance, fit-start, fit-goal, fit-step}

@@ -1,31 +1,12 @@
 -- The canonical text of a scene spells the scene: the fields are those of its statements.
-use Rattle.std.proofs.Common.{◌≡◌, ◌≤◌, ℕ, Bool, true, false, cond, eqb, leb, ℤ, pos, None, List, [], ◌∷◌, ◌++◌, map, refl, sym, ap, ◌∙◌}
-use Rattle.std.proofs.Common.{◌&&◌, length, subst, arith}
-use Rattle.std.specs.List.{list_all}
-use Rattle.std.specs.Fmt.{signed_decimal}
-use Rattle.std.proofs.lemmas.List.{append-nil}
-use Rattle.std.proofs.lemmas.Bool.{and_parts}
-use Rattle.plan_model.specs.declared.geometry.Goal.{Goal}
-use Rattle.plan_model.specs.declared.geometry.Point.{Point}
-use Rattle.plan_model.specs.declared.geometry.Vertex.{Vertex}
-use Rattle.plan_model.specs.declared.scenes.Scene.{Scene}
-use Rattle.plan_model.specs.declared.scenes.Marks.{Marks}
-use Rattle.plan_model.specs.declared.scenes.Marks.TheVariants.{Drawn, Listed}
-use Rattle.plan_model.specs.declared.text_terms.Key.{Key}
+use Rattle.scene_text.proofs.Words.{◌≡◌, ◌≤◌, ℕ, Bool, true, false, cond, eqb, leb, ℤ, pos, None, List, [], ◌∷◌, ◌++◌, map, refl, sym, ap, ◌∙◌, ◌&&◌, length}
+use Rattle.scene_text.proofs.Words.{subst, arith, list_all, signed_decimal, append-nil, and_parts, Goal, Point, Vertex, Scene, Marks, Drawn, Listed, Key}
+use Rattle.scene_text.proofs.Words.{is_goal, is_obstacle, is_mark, is_plan, statements_of, lines_of, value_of, name_of, MOST_CLEARANCE, MOST_MARKS, Format}
+use Rattle.scene_text.proofs.Words.{begins_with, given_by, is_inhabited, stands, corners_from, fault_at_end, point_from, goal_from, number_or, plan_from}
+use Rattle.scene_text.proofs.Words.{first_of, version_given, fault_of_end, given_after_version, HasFields, Spells, point_numbers, goal_numbers, corner_numbers}
+use Rattle.scene_text.proofs.Words.{statement, obstacle_statement, goal_statement, mark_statement, clearance_statements, informed_statements, plan_statements}
+use Rattle.scene_text.proofs.Words.{search_statements, task_statements, canonical_statements, canonical_text, Covers, given_by-append}
 use Rattle.plan_model.specs.declared.text_terms.Key.TheVariants as keys
-use Rattle.plan_model.specs.Scenes.Limits.{is_goal, is_obstacle, is_mark, is_plan}
-use Rattle.plan_model.specs.Texts.TextLines.{statements_of, lines_of}
-use Rattle.plan_model.specs.Texts.TextNumbers.{value_of}
-use Rattle.plan_model.specs.Texts.Keys.{name_of}
-use Rattle.plan_model.specs.declared.limits.TheConstants.{MOST_CLEARANCE, MOST_MARKS}
-use Rattle.plan_model.specs.Texts.LineChecks.{Format, begins_with, given_by, is_inhabited, stands, corners_from, fault_at_end}
-use Rattle.plan_model.specs.Texts.SceneGrammar.{point_from, goal_from, number_or, plan_from, first_of, version_given, fault_of_end, given_after_version}
-use Rattle.plan_model.specs.Texts.SceneGrammar.{HasFields}
-use Rattle.plan_model.specs.Texts.SceneGrammar.{Spells}
-use Rattle.plan_model.specs.Texts.CanonicalText.{point_numbers, goal_numbers, corner_numbers, statement, obstacle_statement, goal_statement, mark_statement}
-use Rattle.plan_model.specs.Texts.CanonicalText.{clearance_statements, informed_statements, plan_statements, search_statements, task_statements}
-use Rattle.plan_model.specs.Texts.CanonicalText.{canonical_statements, canonical_text, Covers}
-use Rattle.plan_model.proofs.StatementNumbers.{given_by-append}
 use Rattle.scene_text.proofs.StatementTexts.{lines_of-text, statements_of-lines, IsSoundBelow-text}
 use Rattle.scene_text.proofs.CanonicalWords.{IsFit, short-ranged, values-decimal}
 use Rattle.scene_text.proofs.CanonicalNumbers.{corners_from-numbers, fit-room, fit-body, fit-obstacle, fit-clearance, fit-start, fit-goal, fit-step, fit-gamma}

@@ -1,29 +1,13 @@
 -- The canonical text of a scene is not longer than a text may be.
-use Rattle.std.proofs.Common.{◌≡◌, ℕ, ◌+◌, ◌*◌, ◌≤◌, Bool, true, false, cond, eqb, leb, suc, ℤ, pos, negsuc, List, [], ◌∷◌, ◌++◌, length, map, refl}
-use Rattle.std.proofs.Common.{sym, ap, ◌∙◌, subst, arith}
-use Rattle.std.specs.Fmt.{signed_decimal}
-use Rattle.std.specs.List.{list_all, flat_map}
-use Rattle.std.proofs.lemmas.Bool.Decides.{nat_tests}
-use Rattle.std.proofs.lemmas.Fmt.{length-decimal-le}
-use Rattle.std.proofs.lemmas.Grind.{flat_map-append}
+use Rattle.scene_text.proofs.Words.{◌≡◌, ℕ, ◌+◌, ◌*◌, ◌≤◌, Bool, true, false, cond, eqb, leb, suc, ℤ, pos, negsuc, List, [], ◌∷◌, ◌++◌, length, map, refl, sym}
+use Rattle.scene_text.proofs.Words.{ap, ◌∙◌, subst, arith, signed_decimal, list_all, flat_map, nat_tests, length-decimal-le, flat_map-append, and_parts, Goal}
+use Rattle.scene_text.proofs.Words.{Point, Vertex, Scene, Marks, Drawn, Listed, Key, MOST_BODY_CORNERS, MOST_GOALS, MOST_MARKS, MOST_OBSTACLE_CORNERS}
+use Rattle.scene_text.proofs.Words.{MOST_OBSTACLES, MOST_TEXT_BYTES, is_goal, is_obstacle, is_mark, is_plan, line, format_name, version_word, name_of}
+use Rattle.scene_text.proofs.Words.{point_numbers, goal_numbers, corner_numbers, statement, version_statement, obstacle_statement, goal_statement}
+use Rattle.scene_text.proofs.Words.{mark_statement, clearance_statements, informed_statements, plan_statements, search_statements, task_statements}
+use Rattle.scene_text.proofs.Words.{canonical_text}
 use Rattle.std.proofs.lemmas.List.{length-append}
-use Rattle.std.proofs.lemmas.Bool.{and_parts}
-use Rattle.plan_model.specs.declared.geometry.Goal.{Goal}
-use Rattle.plan_model.specs.declared.geometry.Point.{Point}
-use Rattle.plan_model.specs.declared.geometry.Vertex.{Vertex}
-use Rattle.plan_model.specs.declared.scenes.Scene.{Scene}
-use Rattle.plan_model.specs.declared.scenes.Marks.{Marks}
-use Rattle.plan_model.specs.declared.scenes.Marks.TheVariants.{Drawn, Listed}
-use Rattle.plan_model.specs.declared.text_terms.Key.{Key}
 use Rattle.plan_model.specs.declared.text_terms.Key.TheVariants as keys
-use Rattle.plan_model.specs.declared.limits.TheConstants.{MOST_BODY_CORNERS, MOST_GOALS, MOST_MARKS, MOST_OBSTACLE_CORNERS, MOST_OBSTACLES}
-use Rattle.plan_model.specs.declared.limits.TheConstants.{MOST_TEXT_BYTES}
-use Rattle.plan_model.specs.Scenes.Limits.{is_goal, is_obstacle, is_mark, is_plan}
-use Rattle.plan_model.specs.Reports.ReportText.{line}
-use Rattle.plan_model.specs.Texts.Keys.{format_name, version_word, name_of}
-use Rattle.plan_model.specs.Texts.CanonicalText.{point_numbers, goal_numbers, corner_numbers, statement, version_statement, obstacle_statement, goal_statement}
-use Rattle.plan_model.specs.Texts.CanonicalText.{mark_statement, clearance_statements, informed_statements, plan_statements, search_statements, task_statements}
-use Rattle.plan_model.specs.Texts.CanonicalText.{canonical_text}
 use Rattle.scene_text.proofs.TextLemmas.{line-spaced}
 use Rattle.scene_text.proofs.DecimalWords.{IsShort}
 use Rattle.scene_text.proofs.CanonicalWords.{IsFit, AreShort, short-ranged}

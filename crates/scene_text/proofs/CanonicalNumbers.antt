@@ -1,20 +1,11 @@
 -- The numbers of a scene's parts may stand after their keys, and give the parts back.
-use Rattle.std.proofs.Common.{◌≡◌, ℕ, ◌*◌, ◌%◌, ◌≤◌, Bool, true, false, cond, not, ◌&&◌, ◌||◌, eqb, leb, ltb, ℤ, pos, int_le, List, [], ◌∷◌, length, ◌⊎◌}
-use Rattle.std.proofs.Common.{inl, inr, refl, ap, ◌∙◌, arith}
-use Rattle.std.specs.List.{list_all}
-use Rattle.std.proofs.lemmas.Bool.Decides.{nat_tests}
-use Rattle.std.proofs.lemmas.Bool.{and_parts, leb-true}
-use Rattle.plan_model.specs.declared.geometry.Point.{Point}
-use Rattle.plan_model.specs.declared.geometry.Vertex.{Vertex}
-use Rattle.plan_model.specs.declared.geometry.Goal.{Goal}
+use Rattle.scene_text.proofs.Words.{◌≡◌, ℕ, ◌*◌, ◌%◌, ◌≤◌, Bool, true, false, cond, not, ◌&&◌, ◌||◌, eqb, leb, ltb, ℤ, pos, int_le, List, [], ◌∷◌, length, ◌⊎◌}
+use Rattle.scene_text.proofs.Words.{inl, inr, refl, ap, ◌∙◌, arith, list_all, nat_tests, and_parts, leb-true, Point, Vertex, Goal, is_strictly_convex}
+use Rattle.scene_text.proofs.Words.{IsBetween, by_version, is_body, is_goal, is_obstacle, is_mark, least_obstacle_coordinate, most_clearance}
+use Rattle.scene_text.proofs.Words.{most_obstacle_coordinate, most_side, most_step, LEAST_BODY_COORDINATE, LEAST_CORNERS, LEAST_SIDE, LEAST_STEP}
+use Rattle.scene_text.proofs.Words.{MOST_BODY_COORDINATE, MOST_BODY_CORNERS, MOST_GAMMA, MOST_MARKS, MOST_OBSTACLE_CORNERS, MOST_SEED, MOST_STRIPS}
+use Rattle.scene_text.proofs.Words.{corners_from, point_numbers, goal_numbers, corner_numbers}
 use Rattle.plan_model.specs.declared.text_terms.Key.TheVariants as keys
-use Rattle.plan_model.specs.Geometry.Convexity.{is_strictly_convex}
-use Rattle.plan_model.specs.Scenes.Limits.{IsBetween, by_version, is_body, is_goal, is_obstacle, is_mark, least_obstacle_coordinate, most_clearance}
-use Rattle.plan_model.specs.Scenes.Limits.{most_obstacle_coordinate, most_side, most_step}
-use Rattle.plan_model.specs.declared.limits.TheConstants.{LEAST_BODY_COORDINATE, LEAST_CORNERS, LEAST_SIDE, LEAST_STEP, MOST_BODY_COORDINATE}
-use Rattle.plan_model.specs.declared.limits.TheConstants.{MOST_BODY_CORNERS, MOST_GAMMA, MOST_MARKS, MOST_OBSTACLE_CORNERS, MOST_SEED, MOST_STRIPS}
-use Rattle.plan_model.specs.Texts.LineChecks.{corners_from}
-use Rattle.plan_model.specs.Texts.CanonicalText.{point_numbers, goal_numbers, corner_numbers}
 use Rattle.scene_text.proofs.CanonicalWords.{IsFit}
 
 -- ---- one number

@@ -1,23 +1,13 @@
 -- The statements of canonical texts: their words are words, their numbers are numbers of the values written.
-use Rattle.std.proofs.Common.{◌≡◌, ℕ, ◌^◌, ◌<◌, Bool, true, false, cond, not, ◌&&◌, eqb, leb, suc, ℤ, pos, negsuc, int_le, None, List, [], ◌∷◌, length, map}
-use Rattle.std.proofs.Common.{get_or, refl, ap, ◌∙◌, arith}
-use Rattle.std.specs.Fmt.{signed_decimal}
-use Rattle.std.specs.List.{list_all}
-use Rattle.std.proofs.lemmas.List.{length-map}
-use Rattle.std.proofs.lemmas.Bool.Decides.{nat_tests}
-use Rattle.std.proofs.lemmas.Bool.{and_parts}
-use Rattle.plan_model.specs.declared.text_terms.Key.{Key}
+use Rattle.scene_text.proofs.Words.{◌≡◌, ℕ, ◌^◌, ◌<◌, Bool, true, false, cond, not, ◌&&◌, eqb, leb, suc, ℤ, pos, negsuc, int_le, None, List, [], ◌∷◌, length}
+use Rattle.scene_text.proofs.Words.{map, get_or, refl, ap, ◌∙◌, arith, signed_decimal, list_all, length-map, nat_tests, and_parts, Key}
+use Rattle.scene_text.proofs.Words.{LEAST_OBSTACLE_COORDINATE, LEAST_OBSTACLE_COORDINATE_OF_VERSION_2, MOST_CLEARANCE, MOST_GAMMA, MOST_MARKS}
+use Rattle.scene_text.proofs.Words.{MOST_OBSTACLE_COORDINATE, MOST_OBSTACLE_COORDINATE_OF_VERSION_2, MOST_SIDE, MOST_SIDE_OF_VERSION_2, MOST_STEP}
+use Rattle.scene_text.proofs.Words.{MOST_STEP_OF_VERSION_2, MOST_STRIPS, is_number, value_of, name_of, is_key, least_of, most_of, fits_words, is_repeated}
+use Rattle.scene_text.proofs.Words.{is_too_many, is_in_range, is_ordered, are_between, has_corners, first_failing, fault_at_key, fault_of_statement, Given}
+use Rattle.scene_text.proofs.Words.{statement, key_of-name}
 use Rattle.plan_model.specs.declared.text_terms.Key.TheVariants as keys
 use Rattle.plan_model.specs.declared.text_terms.Kind.TheVariants as kinds
-use Rattle.plan_model.specs.declared.limits.TheConstants.{LEAST_OBSTACLE_COORDINATE, LEAST_OBSTACLE_COORDINATE_OF_VERSION_2, MOST_CLEARANCE, MOST_GAMMA}
-use Rattle.plan_model.specs.declared.limits.TheConstants.{MOST_MARKS, MOST_OBSTACLE_COORDINATE, MOST_OBSTACLE_COORDINATE_OF_VERSION_2, MOST_SIDE}
-use Rattle.plan_model.specs.declared.limits.TheConstants.{MOST_SIDE_OF_VERSION_2, MOST_STEP, MOST_STEP_OF_VERSION_2, MOST_STRIPS}
-use Rattle.plan_model.specs.Texts.TextNumbers.{is_number, value_of}
-use Rattle.plan_model.specs.Texts.Keys.{name_of, is_key, least_of, most_of, fits_words}
-use Rattle.plan_model.specs.Texts.LineChecks.{is_repeated, is_too_many, is_in_range, is_ordered, are_between, has_corners, first_failing, fault_at_key}
-use Rattle.plan_model.specs.Texts.LineChecks.{fault_of_statement, Given}
-use Rattle.plan_model.specs.Texts.CanonicalText.{statement}
-use Rattle.plan_model.proofs.StatementNumbers.{key_of-name}
 use Rattle.scene_text.proofs.StatementTexts.{is_word, is_clean}
 use Rattle.scene_text.proofs.DecimalWords.{IsShort, is_word-signed, is_number-signed, value_of-signed}
 

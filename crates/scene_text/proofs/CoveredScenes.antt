@@ -1,8 +1,5 @@
 -- Which formats have the version and the keys of a scene's canonical text.
-use Rattle.std.proofs.Common.{refl}
-use Rattle.plan_model.specs.declared.scenes.Scene.{Scene}
-use Rattle.plan_model.specs.Texts.SceneGrammar.{supported, whole_format}
-use Rattle.plan_model.specs.Texts.CanonicalText.{Covers}
+use Rattle.scene_text.proofs.Words.{refl, Scene, supported, whole_format, Covers}
 
 pub Covers-whole : (scene : Scene) → Covers whole_format scene
 Covers-whole scene = record { version = refl; keys = λ key h. refl }

@@ -1,14 +1,7 @@
 -- Numbers in decimal are words that are numbers, and stand for themselves.
-use Rattle.std.proofs.Common.{◌≡◌, ℕ, ◌+◌, ◌-◌, ◌*◌, ◌/◌, ◌%◌, ◌^◌, ◌<◌, ◌≤◌, true, false, not, ◌&&◌, eqb, ltb, zero, suc, ℤ, pos, negsuc, List, [], ◌∷◌}
-use Rattle.std.proofs.Common.{◌++◌, length, refl, ap, ◌∙◌, decimal, arith}
-use Rattle.std.specs.Fmt.{signed_decimal}
-use Rattle.std.specs.List.{list_all}
-use Rattle.std.proofs.lemmas.Fmt.{decimal_by_steps, decimal_nonempty, decimal_digit}
-use Rattle.std.proofs.lemmas.List.Folds.{list_all-append}
-use Rattle.std.proofs.lemmas.List.Sums.{fold-append}
-use Rattle.std.proofs.lemmas.Bool.Decides.{nat_tests}
-use Rattle.std.proofs.lemmas.Bool.{and_parts}
-use Rattle.plan_model.specs.Texts.TextNumbers.{is_digit, is_positive, is_number, magnitude, value_of}
+use Rattle.scene_text.proofs.Words.{◌≡◌, ℕ, ◌+◌, ◌-◌, ◌*◌, ◌/◌, ◌%◌, ◌^◌, ◌<◌, ◌≤◌, true, false, not, ◌&&◌, eqb, ltb, zero, suc, ℤ, pos, negsuc, List, [], ◌∷◌}
+use Rattle.scene_text.proofs.Words.{◌++◌, length, refl, ap, ◌∙◌, decimal, arith, signed_decimal, list_all, decimal_by_steps, decimal_nonempty, decimal_digit}
+use Rattle.scene_text.proofs.Words.{list_all-append, fold-append, nat_tests, and_parts, is_digit, is_positive, is_number, magnitude, value_of}
 use Rattle.scene_text.proofs.StatementTexts.{is_inner, is_word}
 
 -- the number has at most 64 bits

@@ -1,25 +1,11 @@
 -- The checks of a draft are those of the grammar over what the draft gives.
-use Rattle.std.proofs.Common.{◌≡◌, ℕ, ◌||◌, not, Bool, true, false, Option, Some, None, List, [], ◌∷◌, ◌++◌, map, Result, Ok, Err, OnOk}
-use Rattle.std.proofs.Common.{refl, sym, ap, ◌∙◌}
+use Rattle.scene_text.proofs.Words.{◌≡◌, ℕ, ◌||◌, not, Bool, true, false, Option, Some, None, List, [], ◌∷◌, ◌++◌, map, Result, Ok, Err, OnOk, refl, sym, ap}
+use Rattle.scene_text.proofs.Words.{◌∙◌, ℤ, true≢false, map-append, Goal, Point, Vertex, Key, is_skipped, value_of, name_of, Check, Given, with_statement}
+use Rattle.scene_text.proofs.Words.{stands, is_inhabited, is_repeated, version_of, fault_of_statement, first_failing, is_supported, supported, point_numbers}
+use Rattle.scene_text.proofs.Words.{goal_numbers, corner_numbers, Draft, amount_numbers, line_numbers, given_by_draft, given_after, version_after, TakesLine}
 use mathlib.Core.Path.{fun_ext}
-use Rattle.std.specs.Prelude.{ℤ}
-use Rattle.std.proofs.lemmas.Bool.{true≢false}
-use Rattle.std.proofs.lemmas.List.{map-append}
-use Rattle.plan_model.specs.declared.geometry.Goal.{Goal}
-use Rattle.plan_model.specs.declared.geometry.Point.{Point}
-use Rattle.plan_model.specs.declared.geometry.Vertex.{Vertex}
-use Rattle.plan_model.specs.declared.text_terms.Key.{Key}
 use Rattle.plan_model.specs.declared.text_terms.Key.TheVariants as keys
 use Rattle.plan_model.specs.declared.text_terms.Kind.TheVariants as kinds
-use Rattle.plan_model.specs.Texts.TextLines.{is_skipped}
-use Rattle.plan_model.specs.Texts.TextNumbers.{value_of}
-use Rattle.plan_model.specs.Texts.Keys.{name_of}
-use Rattle.plan_model.specs.Texts.LineChecks.{Check, Given, with_statement, stands, is_inhabited, is_repeated, version_of, fault_of_statement}
-use Rattle.plan_model.specs.Texts.LineChecks.{first_failing}
-use Rattle.plan_model.specs.Texts.SceneGrammar.{is_supported, supported}
-use Rattle.plan_model.specs.Texts.CanonicalText.{point_numbers, goal_numbers, corner_numbers}
-use Rattle.scene_text.specs.declared.drafts.Draft.{Draft}
-use Rattle.scene_text.specs.Drafts.{amount_numbers, line_numbers, given_by_draft, given_after, version_after, TakesLine}
 
 -- the checks that pass leave those after them
 formed : (built repeated fits many numbers : Bool) (rest : List Check) → built ≡ true → repeated ≡ false → fits ≡ true → many ≡ false → numbers ≡ true

@@ -1,23 +1,12 @@
 -- The scene that a draft gives: its fields are in their ranges, and are those of the lines.
-use Rattle.std.proofs.Common.{◌≡◌, ℕ, ◌≤◌, true, ℤ, Option, Some, None, List, [], ◌∷◌, length, map, All, eqb, refl, sym, ap, ◌∙◌, subst, arith}
-use Rattle.std.specs.Option.{unwrap_or}
-use Rattle.std.proofs.lemmas.List.{length-map}
-use Rattle.std.proofs.lemmas.List.Elements.{All-head}
-use Rattle.plan_model.specs.declared.geometry.Point.{Point}
-use Rattle.plan_model.specs.declared.geometry.Vertex.{Vertex}
-use Rattle.plan_model.specs.declared.geometry.Goal.{Goal}
-use Rattle.plan_model.specs.declared.text_terms.Key.{Key}
+use Rattle.scene_text.proofs.Words.{◌≡◌, ℕ, ◌≤◌, true, ℤ, Option, Some, None, List, [], ◌∷◌, length, map, All, eqb, refl, sym, ap, ◌∙◌, subst, arith, unwrap_or}
+use Rattle.scene_text.proofs.Words.{length-map, All-head, Point, Vertex, Goal, Key, LEAST_SIDE, LEAST_STEP, MOST_GAMMA, MOST_STRIPS, IsBetween, are_goals}
+use Rattle.scene_text.proofs.Words.{are_obstacles, is_body, is_plan, may_be_informed, most_clearance, most_side, most_step, is_inhabited, corners_from}
+use Rattle.scene_text.proofs.Words.{fault_at_end, MayStand, AllMayStand, first_of, number_or, point_from, goal_from, body_from, plan_from, point_numbers}
+use Rattle.scene_text.proofs.Words.{goal_numbers, corner_numbers, IsWithin, room-within, body-within, start-within, goals-within, step-within, clearance-within}
+use Rattle.scene_text.proofs.Words.{gamma-within, informed-by_number, informed-within, strips-within, plan-within, obstacles-given, Draft, line_numbers}
+use Rattle.scene_text.proofs.Words.{amount_numbers, given_by_draft}
 use Rattle.plan_model.specs.declared.text_terms.Key.TheVariants as keys
-use Rattle.plan_model.specs.declared.limits.TheConstants.{LEAST_SIDE, LEAST_STEP, MOST_GAMMA, MOST_STRIPS}
-use Rattle.plan_model.specs.Scenes.Limits.{IsBetween, are_goals, are_obstacles, is_body, is_plan, may_be_informed, most_clearance, most_side, most_step}
-use Rattle.plan_model.specs.Texts.LineChecks.{is_inhabited, corners_from, fault_at_end, MayStand, AllMayStand}
-use Rattle.plan_model.specs.Texts.SceneGrammar.{first_of, number_or, point_from, goal_from, body_from, plan_from}
-use Rattle.plan_model.specs.Texts.CanonicalText.{point_numbers, goal_numbers, corner_numbers}
-use Rattle.plan_model.proofs.SceneParts.{IsWithin, room-within, body-within, start-within, goals-within, step-within, clearance-within, gamma-within}
-use Rattle.plan_model.proofs.SceneParts.{informed-by_number, informed-within, strips-within, plan-within}
-use Rattle.plan_model.proofs.GivenScenes.{obstacles-given}
-use Rattle.scene_text.specs.declared.drafts.Draft.{Draft}
-use Rattle.scene_text.specs.Drafts.{line_numbers, amount_numbers, given_by_draft}
 use Rattle.scene_text.proofs.CanonicalNumbers.{corners_from-numbers}
 
 -- ---- one field

@@ -1,12 +1,9 @@
 -- What came from a source.
-use Rattle.std.proofs.Common.{◌≡◌, ℕ, ◌+◌, ◌-◌, ◌<◌, ◌≤◌, List, [], ◌++◌, length, take, Option, Result, Ok, Err, Vec, IsErrAnd}
-use Rattle.std.proofs.Common.{Some, None, IsErrOf, refl, sym, ap, arith, length-append, length-take}
-use Rattle.std.proofs.KnownBytes.{Consumes-trans, Consumes-kept}
-use Rattle.std.specs.Io.KnownBytes.{Consumes, Keeps}
-use Rattle.plan_model.specs.declared.limits.TheConstants.{MOST_TEXT_BYTES}
-use Rattle.scene_text.specs.declared.fetching.FetchFault.{FetchFault}
+use Rattle.scene_text.proofs.Words.{◌≡◌, ℕ, ◌+◌, ◌-◌, ◌<◌, ◌≤◌, List, [], ◌++◌, length, take, Option, Result, Ok, Err, Vec, Some, None, IsErrOf, refl, sym, ap}
+use Rattle.scene_text.proofs.Words.{arith, length-take, Consumes-trans, Consumes-kept, Consumes, Keeps, MOST_TEXT_BYTES, FetchFault, Fetches, ReadsWithin}
+use Rattle.std.proofs.Common.{IsErrAnd}
+use Rattle.std.proofs.Common.{length-append}
 use Rattle.scene_text.specs.declared.fetching.FetchFault.TheVariants as faults
-use Rattle.scene_text.specs.Fetching.{Fetches, ReadsWithin}
 
 pub ReadsWithin-fetched : {Z : Type 0} (before now : Option (List ℕ)) (result : Result (Vec ℕ Z) FetchFault)
     → Fetches before now result → ReadsWithin before now

@@ -1,9 +1,6 @@
 -- The key that a word names, from the word's length and each of its bytes, which is what the arms of a `match` on byte strings test.
-use Rattle.std.proofs.Common.{◌≡◌, ℕ, suc, Some, List, [], ◌∷◌, length, get_or, refl, sym, ap, ap₂, ◌∙◌, arith}
-use Rattle.std.specs.Prelude.{⊤}
-use Rattle.plan_model.specs.declared.text_terms.Key.{Key}
+use Rattle.scene_text.proofs.Words.{◌≡◌, ℕ, suc, Some, List, [], ◌∷◌, length, get_or, refl, sym, ap, ap₂, ◌∙◌, arith, ⊤, Key, name_of, every_key, key_among}
 use Rattle.plan_model.specs.declared.text_terms.Key.TheVariants as keys
-use Rattle.plan_model.specs.Texts.Keys.{name_of, every_key, key_among}
 
 -- these bytes stand at the places from the first on
 abbrev pub Reads : (ℕ → ℕ) → List ℕ → Type 0

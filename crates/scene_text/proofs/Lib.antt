@@ -16,3 +16,4 @@ pub mod CanonicalFields
 pub mod CanonicalLengths
 pub mod CoveredScenes
 pub mod KeyBytes
+mod Words

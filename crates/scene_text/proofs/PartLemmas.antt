@@ -1,17 +1,9 @@
 -- How far the first part of a text is read.
-use Rattle.std.proofs.Common.{◌≡◌, ℕ, ◌+◌, ◌<◌, ◌≤◌, false, List, [], ◌∷◌, ◌++◌, length, drop, refl, sym, ap, subst, ◌∙◌, arith}
-use Rattle.std.specs.Prelude.{bytes_eq}
-use Rattle.std.proofs.lemmas.List.{length-append, length-drop}
-use Rattle.plan_model.specs.Texts.SceneBatches.{Part, part_text, parts_of, separator, text_of}
-use Rattle.plan_model.specs.Texts.LineChecks.{fault_of_words}
-use Rattle.plan_model.specs.Texts.SceneGrammar.{supported}
-use Rattle.plan_model.specs.Texts.TextLines.{lines_of, words_of}
-use Rattle.plan_model.proofs.BatchParts.{first_part, first_part-line, later_parts, later_parts-line, lines_of-first}
-use Rattle.scene_text.specs.Batches.{IsPartRefusal}
-use Rattle.scene_text.specs.Drafts.{TakesLine, given_by_draft}
-use Rattle.scene_text.specs.Refusals.{IsLineRefusal, IsSceneRefusal, refusal_at}
-use Rattle.scene_text.specs.declared.drafts.Draft.{Draft}
-use Rattle.scene_text.specs.declared.refusals.LineRefusal.{LineRefusal}
+use Rattle.scene_text.proofs.Words.{◌≡◌, ℕ, ◌+◌, ◌<◌, ◌≤◌, false, List, [], ◌∷◌, ◌++◌, length, drop, refl, sym, ap, subst, ◌∙◌, arith, bytes_eq, length-drop}
+use Rattle.scene_text.proofs.Words.{Part, part_text, parts_of, separator, text_of, fault_of_words, supported, lines_of, words_of, first_part, first_part-line}
+use Rattle.scene_text.proofs.Words.{later_parts, later_parts-line, lines_of-first, IsPartRefusal, TakesLine, given_by_draft, IsLineRefusal, IsSceneRefusal}
+use Rattle.scene_text.proofs.Words.{refusal_at, Draft, LineRefusal}
+use Rattle.std.proofs.lemmas.List.{length-append}
 use Rattle.scene_text.specs.declared.refusals.LineRefusal.TheVariants as line_refusal
 use Rattle.scene_text.proofs.ReaderLemmas.{Reads, Reads-more, Reads-refused}
 

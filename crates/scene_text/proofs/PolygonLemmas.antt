@@ -1,21 +1,10 @@
 -- The corners of a polygon, from the numbers of its line.
-use Rattle.std.proofs.Common.{◌≡◌, ℕ, ◌+◌, ◌*◌, ◌%◌, Bool, true, false, ◌||◌, eqb, ℤ, ◌≤ℤ◌, None, Some, List, [], ◌∷◌, ◌++◌, length, map}
-use Rattle.std.proofs.Common.{refl, ap, ◌∙◌, subst, arith}
-use Rattle.std.specs.List.{list_all}
-use Rattle.std.proofs.lemmas.List.{length-map}
-use Rattle.std.proofs.lemmas.Bool.Decides.{nat_tests}
-use Rattle.convex_sets.specs.Bounds.{AreBoundedCorners}
-use Rattle.convex_sets.proofs.ZoneLaws.{bounded_corners}
-use Rattle.plan_model.specs.declared.geometry.Vertex.{Vertex}
-use Rattle.plan_model.specs.Texts.TextNumbers.{is_number, value_of}
+use Rattle.scene_text.proofs.Words.{◌≡◌, ℕ, ◌+◌, ◌*◌, ◌%◌, Bool, true, false, ◌||◌, eqb, ℤ, ◌≤ℤ◌, None, Some, List, [], ◌∷◌, ◌++◌, length, map, refl, ap, ◌∙◌}
+use Rattle.scene_text.proofs.Words.{subst, arith, list_all, length-map, nat_tests, AreBoundedCorners, bounded_corners, Vertex, is_number, value_of}
+use Rattle.scene_text.proofs.Words.{LEAST_CORNER_COORDINATE, MOST_CORNER_COORDINATE, is_strictly_convex, is_corner_between, are_between, corners_from}
+use Rattle.scene_text.proofs.Words.{has_corners, first_failing, corner_numbers, corners-within}
 use Rattle.plan_model.specs.declared.text_terms.Key.TheVariants as keys
 use Rattle.plan_model.specs.declared.text_terms.Kind.TheVariants as kinds
-use Rattle.plan_model.specs.declared.limits.TheConstants.{LEAST_CORNER_COORDINATE, MOST_CORNER_COORDINATE}
-use Rattle.plan_model.specs.Geometry.Convexity.{is_strictly_convex}
-use Rattle.plan_model.specs.Scenes.Limits.{is_corner_between}
-use Rattle.plan_model.specs.Texts.LineChecks.{are_between, corners_from, has_corners, first_failing}
-use Rattle.plan_model.specs.Texts.CanonicalText.{corner_numbers}
-use Rattle.plan_model.proofs.SceneParts.{corners-within}
 use Rattle.scene_text.proofs.CanonicalNumbers.{corners_from-numbers, length-corner_numbers}
 
 -- ---- corners that are read one after another

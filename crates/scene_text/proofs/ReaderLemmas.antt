@@ -1,20 +1,12 @@
 -- How far a text is read: the lines so far have no fault, and the draft gives what their statements give.
-use Rattle.std.proofs.Common.{◌≡◌, ℕ, ◌+◌, ◌<◌, ◌≤◌, not, Bool, true, false, cond, Option, Some, None, List, [], ◌∷◌, ◌++◌, length, take, drop, get_or, refl}
-use Rattle.std.proofs.Common.{is_some, sym, ap, ◌∙◌, subst, inl, inr, arith}
+use Rattle.scene_text.proofs.Words.{◌≡◌, ℕ, ◌+◌, ◌<◌, ◌≤◌, not, Bool, true, false, cond, Option, Some, None, List, [], ◌∷◌, ◌++◌, length, take, drop, get_or}
+use Rattle.scene_text.proofs.Words.{refl, is_some, sym, ap, ◌∙◌, subst, inl, inr, arith, append-nil, drop_more, take_more, take_all, length-drop, Scene}
+use Rattle.scene_text.proofs.Words.{lines_of, words_of, is_skipped, statements_of, Given, given_by, is_inhabited, version_of, fault_of_version, fault_of_words}
+use Rattle.scene_text.proofs.Words.{fault_at_end, AllMayStand, version_given, given_after_version, fault_of_line, fault_of_end, HasFields, IsSoundBelow, Spells}
+use Rattle.scene_text.proofs.Words.{supported, given_by-push, statements_of-push, IsSoundGiven-text, IsReadVersion-given, Draft, LineRefusal, refusal_at}
+use Rattle.scene_text.proofs.Words.{IsLineRefusal, IsSceneRefusal, given_by_draft, given_after, version_after, IsSoundDraft, TakesLine}
 use borrow.Author.Count.{below_more}
-use Rattle.std.proofs.lemmas.List.{append-nil, drop_more, take_more, take_all, length-drop}
-use Rattle.plan_model.specs.declared.scenes.Scene.{Scene}
-use Rattle.plan_model.specs.Texts.TextLines.{lines_of, words_of, is_skipped, statements_of}
-use Rattle.plan_model.specs.Texts.LineChecks.{Given, given_by, is_inhabited, version_of, fault_of_version, fault_of_words, fault_at_end, AllMayStand}
-use Rattle.plan_model.specs.Texts.SceneGrammar.{version_given, given_after_version, fault_of_line, fault_of_end, HasFields, IsSoundBelow, Spells, supported}
-use Rattle.plan_model.proofs.StatementNumbers.{given_by-push, statements_of-push}
-use Rattle.plan_model.proofs.SoundStatements.{IsSoundGiven-text}
-use Rattle.plan_model.proofs.ReadVersions.{IsReadVersion-given}
-use Rattle.scene_text.specs.declared.drafts.Draft.{Draft}
-use Rattle.scene_text.specs.declared.refusals.LineRefusal.{LineRefusal}
 use Rattle.scene_text.specs.declared.refusals.LineRefusal.TheVariants as line_refusal
-use Rattle.scene_text.specs.Refusals.{refusal_at, IsLineRefusal, IsSceneRefusal}
-use Rattle.scene_text.specs.Drafts.{given_by_draft, given_after, version_after, IsSoundDraft, TakesLine}
 
 -- ---- what a draft stands for
 

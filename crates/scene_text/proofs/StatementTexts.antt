@@ -1,17 +1,9 @@
 -- A text whose lines are statements, their words with a blank between two: its lines and words are those of the statements.
-use Rattle.std.proofs.Common.{◌≡◌, ℕ, ◌<◌, Bool, true, false, not, ◌&&◌, eqb, ltb, zero, suc, Option, Some, None, List, [], ◌∷◌, ◌++◌, length, map, take}
-use Rattle.std.proofs.Common.{get_or, filter, refl, sym, ap, ◌∙◌, subst, arith}
-use Rattle.std.specs.List.{list_all, flat_map, join_with_byte}
-use Rattle.std.proofs.lemmas.List.{append_assoc, append-nil, take-map, length-map}
-use Rattle.std.proofs.Math.ListN.{get_or-map}
-use Rattle.std.proofs.lemmas.List.Folds.{list_all-append}
-use Rattle.std.proofs.lemmas.Bool.{and_parts}
-use Rattle.plan_model.specs.Reports.ReportText.{line}
-use Rattle.plan_model.specs.Texts.TextLines.{lines_of, pieces_of, words_of, is_skipped, statements_of}
-use Rattle.plan_model.specs.declared.text_terms.Key.{Key}
-use Rattle.plan_model.specs.Texts.LineChecks.{Format, given_by, version_of, fault_of_statement, fault_after}
-use Rattle.plan_model.specs.declared.text_terms.Kind.{Kind}
-use Rattle.plan_model.specs.Texts.SceneGrammar.{version_given, given_after_version, fault_of_line, IsSoundBelow}
+use Rattle.scene_text.proofs.Words.{◌≡◌, ℕ, ◌<◌, Bool, true, false, not, ◌&&◌, eqb, ltb, zero, suc, Option, Some, None, List, [], ◌∷◌, ◌++◌, length, map, take}
+use Rattle.scene_text.proofs.Words.{get_or, filter, refl, sym, ap, ◌∙◌, subst, arith, list_all, flat_map, join_with_byte, append_assoc, append-nil, take-map}
+use Rattle.scene_text.proofs.Words.{length-map, get_or-map, list_all-append, and_parts, line, lines_of, pieces_of, words_of, is_skipped, statements_of, Key}
+use Rattle.scene_text.proofs.Words.{Format, given_by, version_of, fault_of_statement, fault_after, Kind, version_given, given_after_version, fault_of_line}
+use Rattle.scene_text.proofs.Words.{IsSoundBelow}
 
 -- ---- words
 

@@ -1,10 +1,6 @@
 -- The text of a line, word by word.
-use Rattle.std.proofs.Common.{◌≡◌, ℕ, ℤ, List, [], ◌∷◌, ◌++◌, map, refl, sym, ap, ◌∙◌, arith}
-use Rattle.std.proofs.lemmas.Grind.{common_steps}
-use Rattle.std.specs.Fmt.{signed_decimal}
-use Rattle.std.specs.List.{flat_map, join_with_byte}
-use Rattle.std.proofs.lemmas.List.{append_assoc, append-nil}
-use Rattle.plan_model.specs.Reports.ReportText.{line}
+use Rattle.scene_text.proofs.Words.{◌≡◌, ℕ, ℤ, List, [], ◌∷◌, ◌++◌, map, refl, sym, ap, ◌∙◌, arith, common_steps, signed_decimal, flat_map, join_with_byte}
+use Rattle.scene_text.proofs.Words.{append_assoc, append-nil, line}
 
 -- a word, and then each number after a blank
 join-spaced : (word : List ℕ) (zs : List ℤ) → join_with_byte 32 (word ∷ map signed_decimal zs) ≡ word ++ flat_map (λ z. 32 ∷ signed_decimal z) zs

@@ -1,14 +1,9 @@
 -- What a new node, or another parent of a node, changes in who is whose child.
-use Rattle.std.proofs.Common.{◌≡◌, ℕ, zero, suc, ◌+◌, ◌<◌, ◌≤◌, List, [], ◌∷◌, ◌++◌, length, set, cond, Option, Some, None}
-use Rattle.std.proofs.Common.{refl, sym, ap, ◌∙◌, subst, arith, inl, inr}
-use Rattle.std.specs.Prelude.{option_map}
-use Rattle.std.proofs.lemmas.Bool.{cases_eq, eq-eqb, ne_eqb}
-use Rattle.std.proofs.lemmas.List.{get_or-set_same, get_or-set_other, length-append, length-set}
-use Rattle.grown_runs.proofs.Common.{MOST_NODES, Twig, node_at, node_at-push_new, node_at-past, node_at-absent, Adds-push, AreMembers, HasInChain, HasOneMore}
-use Rattle.grown_runs.proofs.Common.{IndexesChains, MovesNode, IsIndex-same}
-use Rattle.grown_runs.specs.ChildChains.{times}
-use Rattle.grown_runs.specs.declared.child_index.ChildIndex.{ChildIndex}
-use Rattle.seq_planner.specs.LinkedTrees.{AreLinked, chain_in, chain_of, hangs_below, is_parent_number, parent_if_child}
+use Rattle.seq_planner.proofs.Words.{◌≡◌, ℕ, zero, suc, ◌+◌, ◌<◌, ◌≤◌, List, [], ◌∷◌, ◌++◌, length, set, cond, Option, Some, None, refl, sym, ap, ◌∙◌, subst}
+use Rattle.seq_planner.proofs.Words.{arith, inl, inr, option_map, cases_eq, eq-eqb, ne_eqb, get_or-set_same, get_or-set_other, length-set, MOST_NODES, Twig}
+use Rattle.seq_planner.proofs.Words.{node_at, node_at-push_new, node_at-past, node_at-absent, Adds-push, AreMembers, HasInChain, HasOneMore, IndexesChains}
+use Rattle.seq_planner.proofs.Words.{MovesNode, IsIndex-same, times, ChildIndex, AreLinked, chain_in, chain_of, hangs_below, is_parent_number, parent_if_child}
+use Rattle.std.proofs.lemmas.List.{length-append}
 
 -- ---- by nodes
 

@@ -1,9 +1,7 @@
 -- A child, by its parent, and what it costs.
-use Rattle.std.proofs.Common.{◌≡◌, ℕ, zero, suc, ◌<◌, true, List, Option, Some, None, arith, refl, sym, ap, ◌∙◌}
-use Rattle.std.specs.Prelude.{is_some, option_map}
-use Rattle.std.proofs.lemmas.Bool.{eq-eqb, eqb-true}
-use Rattle.grown_runs.proofs.Common.{Twig, IsPresent, node_at, points_of, parent_or_zero, parent_of, CostsFall, point_at-points_of}
-use Rattle.seq_planner.specs.LinkedTrees.{is_parent_number, hangs_below}
+use Rattle.seq_planner.proofs.Words.{◌≡◌, ℕ, zero, suc, ◌<◌, true, List, Option, Some, None, arith, refl, sym, ap, ◌∙◌, is_some, option_map, eq-eqb, eqb-true}
+use Rattle.seq_planner.proofs.Words.{Twig, IsPresent, node_at, points_of, parent_or_zero, parent_of, CostsFall, point_at-points_of, is_parent_number}
+use Rattle.seq_planner.proofs.Words.{hangs_below}
 
 -- Node c is present and not the start, and has node f as its parent.
 pub record IsChild (tree : List (Option Twig)) (f c : ℕ) : Type 0 where

@@ -1,19 +1,12 @@
 -- The list of the nodes that lie in a goal, as a tree grows by one number after another.
-use Rattle.std.proofs.Common.{◌≡◌, ℕ, suc, ◌+◌, ◌<◌, ◌≤◌, Bool, true, false, List, [], ◌∷◌, ◌++◌, length, get_or, Option, Some, None, refl, sym}
-use Rattle.std.proofs.Common.{ap, ◌∙◌, subst, arith, inl, inr}
-use Rattle.std.specs.Prelude.{Contains, IsTrue, cond, option_map}
-use Rattle.std.proofs.lemmas.Bool.{cases_eq}
-use Rattle.std.proofs.lemmas.List.{get_or_append_left, get_or_default, length-map}
-use Rattle.std.proofs.lemmas.List.Elements.{All-contains, All-push, All-weaker, Contains-append_left, Contains-push}
-use Rattle.grown_runs.proofs.Common.{Goal, Point, Outcome, Placed, Same, Blocked, Skipped, Record, Scene, Twig, Ends, MayBeCheaper, Nodes, Setup, mark_bound}
-use Rattle.grown_runs.proofs.Common.{near_new, setup_of, skipping_goals, IsGoalNode, is_goal_point, lies_in_goals, IsFirstLeast, IsNotAbove, node_at, points_of}
-use Rattle.grown_runs.proofs.Common.{sum_of, point_at, IsPresent-goal, near-present_beside, points_of-rewires, no_goal_node, StandsAt-node}
-use Rattle.grown_runs.proofs.Common.{present_below, points_of-push}
+use Rattle.seq_planner.proofs.Words.{◌≡◌, ℕ, suc, ◌+◌, ◌<◌, ◌≤◌, Bool, true, false, List, [], ◌∷◌, ◌++◌, length, get_or, Option, Some, None, refl, sym, ap, ◌∙◌}
+use Rattle.seq_planner.proofs.Words.{subst, arith, inl, inr, Contains, IsTrue, cond, option_map, cases_eq, get_or_append_left, get_or_default, length-map}
+use Rattle.seq_planner.proofs.Words.{All-contains, All-push, All-weaker, Contains-append_left, Contains-push, Goal, Point, Outcome, Placed, Same, Blocked}
+use Rattle.seq_planner.proofs.Words.{Skipped, Record, Scene, Twig, Ends, MayBeCheaper, Nodes, Setup, mark_bound, near_new, setup_of, skipping_goals, IsGoalNode}
+use Rattle.seq_planner.proofs.Words.{is_goal_point, lies_in_goals, IsFirstLeast, IsNotAbove, node_at, points_of, sum_of, point_at, IsPresent-goal}
+use Rattle.seq_planner.proofs.Words.{near-present_beside, points_of-rewires, no_goal_node, StandsAt-node, present_below, points_of-push, point_at-absent}
+use Rattle.seq_planner.proofs.Words.{AreGoalNodesBelow, IsGoalNodeBelow, SearchTree, GrowsByMark, IsSkippedBy, IsSoundTree}
 use Rattle.plan_model.specs.Trees.GoalBounds.{bound_of}
-use Rattle.plan_model.proofs.NewNodes.{point_at-absent}
-use Rattle.seq_planner.specs.GoalLists.{AreGoalNodesBelow, IsGoalNodeBelow}
-use Rattle.seq_planner.specs.declared.search_tree.SearchTree.{SearchTree}
-use Rattle.seq_planner.specs.SearchTrees.{GrowsByMark, IsSkippedBy, IsSoundTree}
 use Rattle.seq_planner.proofs.SoundTrees.{kept_sum}
 
 -- ---- one mark more

@@ -1,10 +1,8 @@
 -- The nodes of a sound tree with their kept costs: they are the same run as the nodes alone, each at its sum.
-use Rattle.std.proofs.Common.{◌≡◌, ℕ, zero, suc, List, [], ◌∷◌, length, get_or, Some, None, arith, refl, sym, ap, ◌∙◌, subst}
-use Rattle.grown_runs.proofs.Common.{Point, Record, ClearAt, IsClosed, IsPresent, point_at, IsOfTextbookRun, Nodes, Setup, IsTextbookRun, points_of, parent_of}
-use Rattle.grown_runs.proofs.Common.{without_costs, TreeState, AreSameRuns, state_of, HandlesAll-length, AreSameRuns-trans, IsClosed-same_run}
-use Rattle.grown_runs.proofs.Common.{IsClosed-textbook, kept_cost_of, state_of_lists}
-use Rattle.seq_planner.specs.declared.placed_points.PlacedPoints.{PlacedPoints}
-use Rattle.seq_planner.specs.SearchTrees.{IsSound, with_costs}
+use Rattle.seq_planner.proofs.Words.{◌≡◌, ℕ, zero, suc, List, [], ◌∷◌, length, get_or, Some, None, arith, refl, sym, ap, ◌∙◌, subst, Point, Record, ClearAt}
+use Rattle.seq_planner.proofs.Words.{IsClosed, IsPresent, point_at, IsOfTextbookRun, Nodes, Setup, IsTextbookRun, points_of, parent_of, without_costs}
+use Rattle.seq_planner.proofs.Words.{TreeState, AreSameRuns, state_of, HandlesAll-length, AreSameRuns-trans, IsClosed-same_run, IsClosed-textbook, kept_cost_of}
+use Rattle.seq_planner.proofs.Words.{state_of_lists, PlacedPoints, IsSound, with_costs}
 use Rattle.seq_planner.proofs.SoundTrees.{kept_sum}
 
 -- without the kept costs they are the nodes again

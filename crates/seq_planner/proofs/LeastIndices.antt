@@ -1,13 +1,7 @@
 -- Scans of a list, index after index, for the first with the least key.
-use Rattle.std.proofs.Common.{◌≡◌, ℕ, ◌+◌, ◌<◌, ◌≤◌, List, length, get_or, arith, ap, ◌∙◌, inl, inr}
-use Rattle.std.specs.Prelude.{Contains}
-use Rattle.std.specs.List.{AllPairs}
-use Rattle.std.specs.List.Sorted.{IsStrictlyIncreasing}
-use Rattle.std.proofs.lemmas.Bool.{cases_order}
-use Rattle.std.proofs.lemmas.List.{get_or_default}
-use Rattle.std.proofs.lemmas.List.Kept.{AllPairs-from_increasing}
-use Rattle.plan_model.specs.Trees.LeastPairs.{IsFirstLeast}
-use Rattle.plan_model.proofs.LeastScans.{IsFirstLeastBelow, IsFirstLeastBelow-first, IsFirstLeastBelow-keeps, IsFirstLeastBelow-takes, IsFirstLeast-scanned}
+use Rattle.seq_planner.proofs.Words.{◌≡◌, ℕ, ◌+◌, ◌<◌, ◌≤◌, List, length, get_or, arith, ap, ◌∙◌, inl, inr, Contains, AllPairs, IsStrictlyIncreasing}
+use Rattle.seq_planner.proofs.Words.{cases_order, get_or_default, AllPairs-from_increasing, IsFirstLeast, IsFirstLeastBelow, IsFirstLeastBelow-first}
+use Rattle.seq_planner.proofs.Words.{IsFirstLeastBelow-keeps, IsFirstLeastBelow-takes, IsFirstLeast-scanned}
 
 -- the best index is the first with the least key of itself and those before the limit, and has this key
 pub record IsLeastIndex (key : ℕ → ℕ) (count limit best least : ℕ) : Type 0 where

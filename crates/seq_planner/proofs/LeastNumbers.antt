@@ -1,9 +1,6 @@
 -- The number of a list with the least pair of key and number, by the first so many of them.
-use Rattle.std.proofs.Common.{◌≡◌, ℕ, ◌+◌, ◌<◌, List, get_or, length, take, ap, ◌∙◌, subst, sym, arith}
-use Rattle.std.specs.Prelude.{All, Contains}
-use Rattle.std.proofs.lemmas.List.{take_all}
-use Rattle.std.proofs.lemmas.List.Elements.{All-contains, All-more, All-weaker, Contains-get_or}
-use Rattle.grown_runs.proofs.Common.{IsFirstLeast, IsNotAbove, IsNotAbove-refl, IsNotAbove-trans}
+use Rattle.seq_planner.proofs.Words.{◌≡◌, ℕ, ◌+◌, ◌<◌, List, get_or, length, take, ap, ◌∙◌, subst, sym, arith, All, Contains, take_all, All-contains, All-more}
+use Rattle.seq_planner.proofs.Words.{All-weaker, Contains-get_or, IsFirstLeast, IsNotAbove, IsNotAbove-refl, IsNotAbove-trans}
 
 -- it is in the list, and its pair is not above that of any of the first so many
 pub record IsLeastOf (key : ℕ → ℕ) (numbers : List ℕ) (count best : ℕ) : Type 0 where

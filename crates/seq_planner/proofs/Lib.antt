@@ -20,3 +20,4 @@ pub mod LeastNumbers
 pub mod GoalNodeLists
 pub mod RunsSoFar
 pub mod KeptNodes
+mod Words

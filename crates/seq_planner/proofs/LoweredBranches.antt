@@ -1,8 +1,6 @@
 -- How a lower cost spreads from a node to its descendants, by the nodes that are still to be lowered.
-use Rattle.std.proofs.Common.{◌≡◌, ℕ, suc, ◌+◌, ◌<◌, ◌≤◌, Bool, cond, List, Option, arith, refl, sym, ap, subst, ◌⊎◌, inl, inr}
-use Rattle.std.specs.Prelude.{◌≢◌, ◌==◌}
-use Rattle.std.proofs.lemmas.Bool.{cases_eq, false_from_ne_true, eq-eqb, eqb-true}
-use Rattle.grown_runs.proofs.Common.{Twig, IsBranchLowered, IsPresent, points_of, parent_of}
+use Rattle.seq_planner.proofs.Words.{◌≡◌, ℕ, suc, ◌+◌, ◌<◌, ◌≤◌, Bool, cond, List, Option, arith, refl, sym, ap, subst, ◌⊎◌, inl, inr, ◌≢◌, ◌==◌, cases_eq}
+use Rattle.seq_planner.proofs.Words.{false_from_ne_true, eq-eqb, eqb-true, Twig, IsBranchLowered, IsPresent, points_of, parent_of}
 
 -- how often a number is counted that is there once or not at all
 abbrev pub one_if : Bool → ℕ

@@ -1,9 +1,6 @@
 -- One turn of lowering a branch: a node is lowered, and its children are to be lowered next.
-use Rattle.std.proofs.Common.{◌≡◌, ℕ, suc, ◌+◌, ◌<◌, ◌≤◌, List, Option, arith, sym, ap, ◌∙◌, subst, ◌⊎◌, inl, inr}
-use Rattle.std.specs.Prelude.{◌≢◌, ◌==◌}
-use Rattle.std.proofs.lemmas.Bool.{cases_Bool, cases_eq, cases_lt}
-use Rattle.grown_runs.proofs.Common.{Twig, IsPresent, points_of, parent_of, CostsFall}
-use Rattle.seq_planner.specs.LinkedTrees.{hangs_below}
+use Rattle.seq_planner.proofs.Words.{◌≡◌, ℕ, suc, ◌+◌, ◌<◌, ◌≤◌, List, Option, arith, sym, ap, ◌∙◌, subst, ◌⊎◌, inl, inr, ◌≢◌, ◌==◌, cases_Bool, cases_eq}
+use Rattle.seq_planner.proofs.Words.{cases_lt, Twig, IsPresent, points_of, parent_of, CostsFall, hangs_below}
 use Rattle.seq_planner.proofs.Children.{IsChild, IsChild-hangs_below, hangs_below-present, IsChild-costs}
 use Rattle.seq_planner.proofs.LoweredBranches.{one_if, equal_one, other_none, HasFallen, IsDue, IsUnderway}
 

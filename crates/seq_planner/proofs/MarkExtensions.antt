@@ -1,16 +1,11 @@
 -- What a mark adds to a sound tree handles it, by its outcome.
-use Rattle.std.proofs.Common.{◌≡◌, ℕ, suc, ◌+◌, ◌*◌, ◌^◌, ◌≤◌, List, [], ◌∷◌, ◌++◌, length, Option, Some, None, arith, refl, sym, ap, ◌∙◌, subst}
-use Rattle.std.specs.Prelude.{All, ◌≢◌}
-use Rattle.std.proofs.lemmas.List.Elements.{All-cons, All-contains, All-nil}
-use Rattle.grown_runs.proofs.Common.{Point, Twig, Scene, Record, space_of, Clear, IsInRoom, IsFirstLeast, class_of, radius_of, steered, IsNearest, IsOpenTo}
-use Rattle.grown_runs.proofs.Common.{StandsAt, IsPresent, IsFree, point_of, node_count, points_of, sum_of, Nodes, setup_of, near_new, SteersTo, Rewires}
-use Rattle.grown_runs.proofs.Common.{EndsPlaced, Handles, IsCandidate, IsBestParent, cost_through, MayBeCheaper, same_record, skipped_record, blocked_record}
-use Rattle.grown_runs.proofs.Common.{placed_record, IsFirstLeast-among, AreInRoom-from_clear, IsFree-steered, near-present, StandsAt-present, IsBounded-in_room}
-use Rattle.seq_planner.specs.declared.extensions.Extension.{Extension}
-use Rattle.edge_cost.specs.LeastParents.{IsLeastParent}
-use Rattle.edge_cost.specs.declared.parents.Parent.{Parent}
-use Rattle.seq_planner.specs.declared.search_tree.SearchTree.{SearchTree}
-use Rattle.seq_planner.specs.SearchTrees.{AddsRewired, IsExtensionOf, IsSkippedBy, Fits}
+use Rattle.seq_planner.proofs.Words.{◌≡◌, ℕ, suc, ◌+◌, ◌*◌, ◌^◌, ◌≤◌, List, [], ◌∷◌, ◌++◌, length, Option, Some, None, arith, refl, sym, ap, ◌∙◌, subst, All}
+use Rattle.seq_planner.proofs.Words.{◌≢◌, All-cons, All-contains, All-nil, Point, Twig, Scene, Record, space_of, Clear, IsInRoom, IsFirstLeast, class_of}
+use Rattle.seq_planner.proofs.Words.{radius_of, steered, IsNearest, IsOpenTo, StandsAt, IsPresent, IsFree, point_of, node_count, points_of, sum_of, Nodes}
+use Rattle.seq_planner.proofs.Words.{setup_of, near_new, SteersTo, Rewires, EndsPlaced, Handles, IsCandidate, IsBestParent, cost_through, MayBeCheaper}
+use Rattle.seq_planner.proofs.Words.{same_record, skipped_record, blocked_record, placed_record, IsFirstLeast-among, AreInRoom-from_clear, IsFree-steered}
+use Rattle.seq_planner.proofs.Words.{near-present, StandsAt-present, IsBounded-in_room, Extension, IsLeastParent, Parent, SearchTree, AddsRewired}
+use Rattle.seq_planner.proofs.Words.{IsExtensionOf, IsSkippedBy, Fits}
 
 -- A path over the next mark, of number k, may be cheaper than each goal node is. The mark steers from its nearest node, which stands at
 -- from, to the point.

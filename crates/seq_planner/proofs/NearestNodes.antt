@@ -1,14 +1,9 @@
 -- The nearest of the nodes near a point is the nearest of all, and a mark with near nodes is steered to.
-use Rattle.std.proofs.Common.{◌≡◌, ℕ, ◌*◌, ◌<◌, ◌≤◌, List, length, get_or, Bool, true, Option, Some, None, arith, refl, ap, ◌∙◌, inl, inr}
-use Rattle.std.specs.Prelude.{Contains}
-use Rattle.std.specs.List.{range_with_len}
-use Rattle.std.specs.List.Sorted.{IsStrictlyIncreasing}
-use Rattle.std.proofs.lemmas.Bool.{cases_lt, le-leb, leb-true}
-use Rattle.std.proofs.lemmas.List.Elements.{All-contains, All-get_or, filter_passes}
-use Rattle.std.proofs.lemmas.List.Kept.{IsStrictlyIncreasing-filter}
-use Rattle.grown_runs.proofs.Common.{squared_distance, steered, Setup, near_new, IsFirstLeast, distance_to, IsNearest, is_within, near, point_at, StandsAt}
-use Rattle.grown_runs.proofs.Common.{IsPresent, point_of, Point, near-present, IsNotAbove-lesser, Contains-near, IsReachable, near_new-reachable}
-use Rattle.grown_runs.proofs.Common.{point_of-stands, StandsAt-present, steered-near}
+use Rattle.seq_planner.proofs.Words.{◌≡◌, ℕ, ◌*◌, ◌<◌, ◌≤◌, List, length, get_or, Bool, true, Option, Some, None, arith, refl, ap, ◌∙◌, inl, inr, Contains}
+use Rattle.seq_planner.proofs.Words.{range_with_len, IsStrictlyIncreasing, cases_lt, le-leb, leb-true, All-contains, All-get_or, filter_passes}
+use Rattle.seq_planner.proofs.Words.{IsStrictlyIncreasing-filter, squared_distance, steered, Setup, near_new, IsFirstLeast, distance_to, IsNearest, is_within}
+use Rattle.seq_planner.proofs.Words.{near, point_at, StandsAt, IsPresent, point_of, Point, near-present, IsNotAbove-lesser, Contains-near, IsReachable}
+use Rattle.seq_planner.proofs.Words.{near_new-reachable, point_of-stands, StandsAt-present, steered-near}
 use Rattle.seq_planner.proofs.PresentNumbers.{IsStrictlyIncreasing-range_with_len}
 
 -- near nodes are in rising number

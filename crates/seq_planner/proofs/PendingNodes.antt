@@ -1,12 +1,7 @@
 -- The nodes that are still to be lowered, as a list that is taken from and added to at its end.
-use Rattle.std.proofs.Common.{◌≡◌, ℕ, ◌+◌, ◌<◌, ◌≤◌, List, [], ◌∷◌, ◌++◌, length, get_or, set, Option, arith, refl, ap, ◌∙◌}
-use Rattle.std.specs.Prelude.{◌==◌}
-use Rattle.std.specs.List.{sum}
-use Rattle.std.proofs.lemmas.List.{get_or-set_same, get_or-set_other}
-use Rattle.std.proofs.lemmas.List.Sums.{count_by-le-length, sum_by_push, sum_by-set}
-use Rattle.grown_runs.proofs.Common.{Twig, IsPresent, points_of, present_below}
-use Rattle.grown_runs.specs.ChildChains.{times}
-use Rattle.seq_planner.specs.LinkedTrees.{hangs_below}
+use Rattle.seq_planner.proofs.Words.{◌≡◌, ℕ, ◌+◌, ◌<◌, ◌≤◌, List, [], ◌∷◌, ◌++◌, length, get_or, set, Option, arith, refl, ap, ◌∙◌, ◌==◌, sum, get_or-set_same}
+use Rattle.seq_planner.proofs.Words.{get_or-set_other, count_by-le-length, sum_by_push, sum_by-set, Twig, IsPresent, points_of, present_below, times}
+use Rattle.seq_planner.proofs.Words.{hangs_below}
 use Rattle.seq_planner.proofs.LoweredBranches.{one_if, equal_one, IsUnderway}
 use Rattle.seq_planner.proofs.LoweringTurns.{IsTurn}
 

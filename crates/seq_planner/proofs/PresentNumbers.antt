@@ -1,17 +1,10 @@
 -- The numbers of the nodes that are present, and their points beside them.
-use Rattle.std.proofs.Common.{◌≡◌, ℕ, zero, suc, ◌+◌, ◌<◌, ◌≤◌, Bool, true, false, cond, List, [], ◌∷◌, ◌++◌, length, map, Option, Some, None}
-use Rattle.std.proofs.Common.{arith, refl, sym, ap, ◌∙◌}
-use Rattle.std.specs.Prelude.{is_some, unwrap_or, filter, All}
-use Rattle.std.specs.List.{range_with_len}
-use Rattle.std.specs.List.Sorted.{IsStrictlyIncreasing}
-use Rattle.std.proofs.lemmas.List.{append-nil, length-map, length_push, get_or_append_left, get_or_push, map_push}
-use Rattle.std.proofs.lemmas.List.Elements.{All-same, All-head, All-tail, All-weaker, All-map, filter-append, filter_passes}
-use Rattle.std.proofs.lemmas.List.FromFn.{fill_by_all, length-range_with_len, get_or-range_with_len}
-use Rattle.std.proofs.lemmas.List.Kept.{IsStrictlyIncreasing-filter}
-use Rattle.std.proofs.lemmas.List.Sums.{length-filter}
-use Rattle.grown_runs.proofs.Common.{IsBounded, point_at, StandsAt, IsPresent, point_of, node_count, Point, range-more, IsPresent-below, StandsAt-present}
-use Rattle.seq_planner.specs.PlacedLists.{present_numbers, ArePlaced}
-use Rattle.seq_planner.specs.declared.placed_points.PlacedPoints.{PlacedPoints}
+use Rattle.seq_planner.proofs.Words.{◌≡◌, ℕ, zero, suc, ◌+◌, ◌<◌, ◌≤◌, Bool, true, false, cond, List, [], ◌∷◌, ◌++◌, length, map, Option, Some, None, arith}
+use Rattle.seq_planner.proofs.Words.{refl, sym, ap, ◌∙◌, is_some, unwrap_or, filter, All, range_with_len, IsStrictlyIncreasing, append-nil, length-map}
+use Rattle.seq_planner.proofs.Words.{length_push, get_or_append_left, get_or_push, map_push, All-same, All-head, All-tail, All-weaker, All-map, filter-append}
+use Rattle.seq_planner.proofs.Words.{filter_passes, fill_by_all, length-range_with_len, get_or-range_with_len, IsStrictlyIncreasing-filter, length-filter}
+use Rattle.seq_planner.proofs.Words.{IsBounded, point_at, StandsAt, IsPresent, point_of, node_count, Point, range-more, IsPresent-below, StandsAt-present}
+use Rattle.seq_planner.proofs.Words.{present_numbers, ArePlaced, PlacedPoints}
 
 -- ---- ranges and filters
 

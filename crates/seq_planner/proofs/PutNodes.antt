@@ -1,11 +1,7 @@
 -- A mark is handled: its node is put at the end, and near nodes are rewired.
-use Rattle.std.proofs.Common.{◌≡◌, ℕ, ◌+◌, List, [], ◌∷◌, ◌++◌, length, Option, Some, None, true, false, sym, ap, ◌∙◌, subst}
-use Rattle.std.specs.Prelude.{All, is_some, option_map}
-use Rattle.std.proofs.lemmas.List.Elements.{All-weaker}
-use Rattle.grown_runs.proofs.Common.{Point, Twig, Scene, ConfigurationSpace, space_of, IsPresent, points_of, Nodes, Rewires, points_of-push, IsPresent-push}
-use Rattle.seq_planner.specs.declared.extensions.Extension.{Extension}
-use Rattle.seq_planner.specs.declared.search_tree.SearchTree.{SearchTree}
-use Rattle.seq_planner.specs.SearchTrees.{AddsRewired, IsExtensionOf, GrowsByMark}
+use Rattle.seq_planner.proofs.Words.{◌≡◌, ℕ, ◌+◌, List, [], ◌∷◌, ◌++◌, length, Option, Some, None, true, false, sym, ap, ◌∙◌, subst, All, is_some, option_map}
+use Rattle.seq_planner.proofs.Words.{All-weaker, Point, Twig, Scene, ConfigurationSpace, space_of, IsPresent, points_of, Nodes, Rewires, points_of-push}
+use Rattle.seq_planner.proofs.Words.{IsPresent-push, Extension, SearchTree, AddsRewired, IsExtensionOf, GrowsByMark}
 
 -- present nodes are present beside one more number
 pub present-put :

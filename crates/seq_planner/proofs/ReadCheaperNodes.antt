@@ -1,8 +1,6 @@
 -- What was read of a near node says that it is cheaper through a new one.
-use Rattle.std.proofs.Common.{◌≡◌, ℕ, List, get_or, arith, ap, ◌∙◌}
-use Rattle.grown_runs.proofs.Common.{Point, ConfigurationSpace, IsPresent, point_of, points_of, Nodes, cost_through, IsCheaperThrough}
-use Rattle.seq_planner.specs.declared.placed_points.PlacedPoints.{PlacedPoints}
-use Rattle.seq_planner.specs.SearchTrees.{IsSound}
+use Rattle.seq_planner.proofs.Words.{◌≡◌, ℕ, List, get_or, arith, ap, ◌∙◌, Point, ConfigurationSpace, IsPresent, point_of, points_of, Nodes, cost_through}
+use Rattle.seq_planner.proofs.Words.{IsCheaperThrough, PlacedPoints, IsSound}
 use Rattle.seq_planner.proofs.ReadCosts.{sum-read}
 use Rattle.seq_planner.proofs.RewiredNodes.{IsCheaper}
 

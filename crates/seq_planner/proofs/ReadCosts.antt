@@ -1,11 +1,6 @@
 -- Kept costs that are read: they are sums, and give the costs through nodes.
-use Rattle.std.proofs.Common.{◌≡◌, ℕ, ◌+◌, ◌*◌, ◌^◌, ◌≤◌, List, get_or}
-use Rattle.std.proofs.Common.{arith, refl, sym, ap, ◌∙◌}
-use Rattle.std.proofs.lemmas.List.{get_or_default}
-use Rattle.grown_runs.proofs.Common.{Point, IsPresent, point_of, node_count, IsBounded, cost_of, points_of, sum_of, Nodes, cost_through, present_below}
-use Rattle.seq_planner.specs.declared.placed_points.PlacedPoints.{PlacedPoints}
-use Rattle.seq_planner.specs.SearchTrees.{IsSound}
-use Rattle.edge_cost.proofs.CostBounds.{cost_of-low}
+use Rattle.seq_planner.proofs.Words.{◌≡◌, ℕ, ◌+◌, ◌*◌, ◌^◌, ◌≤◌, List, get_or, arith, refl, sym, ap, ◌∙◌, get_or_default, Point, IsPresent, point_of}
+use Rattle.seq_planner.proofs.Words.{node_count, IsBounded, cost_of, points_of, sum_of, Nodes, cost_through, present_below, PlacedPoints, IsSound, cost_of-low}
 use Rattle.seq_planner.proofs.SoundTrees.{IsBounded-present, kept_sum, some_present}
 
 -- the kept cost of a present node that was read is its sum

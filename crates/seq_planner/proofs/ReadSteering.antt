@@ -1,11 +1,7 @@
 -- What was read of the nearest node says that it steers towards the next mark, that the point is bounded, and which nodes are near it.
-use Rattle.std.proofs.Common.{◌≡◌, ℕ, ◌+◌, ◌<◌, ◌≤◌, List, length, max, arith, sym, ap, ◌∙◌, subst}
-use Rattle.std.specs.Prelude.{◌≢◌}
-use Rattle.grown_runs.proofs.Common.{Point, Scene, IsBounded, radius_of, MayBeCheaper, setup_of, near_new, IsNearest, near, point_of, node_count, steered}
-use Rattle.grown_runs.proofs.Common.{points_of, sum_of}
-use Rattle.seq_planner.specs.declared.search_tree.SearchTree.{SearchTree}
-use Rattle.seq_planner.specs.PlacedLists.{listed_near}
-use Rattle.seq_planner.specs.SearchTrees.{IsSoundTree}
+use Rattle.seq_planner.proofs.Words.{◌≡◌, ℕ, ◌+◌, ◌<◌, ◌≤◌, List, length, max, arith, sym, ap, ◌∙◌, subst, ◌≢◌, Point, Scene, IsBounded, radius_of}
+use Rattle.seq_planner.proofs.Words.{MayBeCheaper, setup_of, near_new, IsNearest, near, point_of, node_count, steered, points_of, sum_of, SearchTree}
+use Rattle.seq_planner.proofs.Words.{listed_near, IsSoundTree}
 use Rattle.seq_planner.proofs.MarkExtensions.{Steers, is_free}
 use Rattle.seq_planner.proofs.NearestNodes.{steered-beside}
 use Rattle.seq_planner.proofs.ScannedLists.{near-listed, listed_near-free}

@@ -1,8 +1,5 @@
 -- A record of a mark is known by its fields: the fact that it holds about them has one proof at most.
-use Rattle.std.proofs.Common.{◌≡◌, ℕ, ap, refl}
-use Rattle.std.specs.Prelude.{Bool, IsTrue}
-use Rattle.std.proofs.Props.{props}
-use Rattle.grown_runs.proofs.Common.{Outcome, Placed, Record, is_zero_unless_placed, placed_record}
+use Rattle.seq_planner.proofs.Words.{◌≡◌, ℕ, ap, refl, Bool, IsTrue, props, Outcome, Placed, Record, is_zero_unless_placed, placed_record}
 
 one_proof : (b : Bool) → IsProp (IsTrue b)
 one_proof b = hlevel props

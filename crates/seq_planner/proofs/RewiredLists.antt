@@ -1,10 +1,6 @@
 -- Near nodes are looked at one after another: what is so after some of them.
-use Rattle.std.proofs.Common.{◌≡◌, ℕ, ◌+◌, ◌<◌, List, [], ◌∷◌, ◌++◌, length}
-use Rattle.std.proofs.Common.{get_or, take, refl, sym, ap, ◌∙◌, subst}
-use Rattle.std.proofs.lemmas.List.{take_more}
-use Rattle.grown_runs.proofs.Common.{ConfigurationSpace, points_of, Nodes, RewiresOne, Rewires}
-use Rattle.seq_planner.specs.declared.search_tree.SearchTree.{SearchTree}
-use Rattle.seq_planner.specs.SearchTrees.{IsSoundTree}
+use Rattle.seq_planner.proofs.Words.{◌≡◌, ℕ, ◌+◌, ◌<◌, List, [], ◌∷◌, ◌++◌, length, get_or, take, refl, sym, ap, ◌∙◌, subst, take_more, ConfigurationSpace}
+use Rattle.seq_planner.proofs.Words.{points_of, Nodes, RewiresOne, Rewires, SearchTree, IsSoundTree}
 
 -- one more near node
 pub Rewires-push :

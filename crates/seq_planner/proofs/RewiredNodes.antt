@@ -1,13 +1,8 @@
 -- A near node that is cheaper through a new one gets it as its parent, and the tree stays sound.
-use Rattle.std.proofs.Common.{◌≡◌, ℕ, ◌+◌, ◌-◌, ◌<◌, List, length, get_or, Result, Ok, Err, OnOk, arith, sym, ap, ◌∙◌, subst, inl, inr}
-use Rattle.std.proofs.lemmas.List.{length-set}
-use Rattle.std.proofs.lemmas.Bool.{cases_eq}
-use Rattle.grown_runs.proofs.Common.{Point, IsBranchLowered, Clear, ConfigurationSpace, cost_of, IsPresent, point_of, AreDistinct, points_of, parent_of, sum_of}
-use Rattle.grown_runs.proofs.Common.{Nodes, with_parent, cost_through, IsCheaperThrough, HasCheaperParent, points_of-cheaper_parent, AreTight-cheaper_parent}
-use Rattle.grown_runs.proofs.Common.{CostsFall-lowered}
-use Rattle.seq_planner.specs.declared.placed_points.PlacedPoints.{PlacedPoints}
-use Rattle.seq_planner.specs.PlacedLists.{ArePlaced}
-use Rattle.seq_planner.specs.SearchTrees.{AreBounded, IsSound, most_cost}
+use Rattle.seq_planner.proofs.Words.{◌≡◌, ℕ, ◌+◌, ◌-◌, ◌<◌, List, length, get_or, Result, Ok, Err, OnOk, arith, sym, ap, ◌∙◌, subst, inl, inr, length-set}
+use Rattle.seq_planner.proofs.Words.{cases_eq, Point, IsBranchLowered, Clear, ConfigurationSpace, cost_of, IsPresent, point_of, AreDistinct, points_of}
+use Rattle.seq_planner.proofs.Words.{parent_of, sum_of, Nodes, with_parent, cost_through, IsCheaperThrough, HasCheaperParent, points_of-cheaper_parent}
+use Rattle.seq_planner.proofs.Words.{AreTight-cheaper_parent, CostsFall-lowered, PlacedPoints, ArePlaced, AreBounded, IsSound, most_cost}
 use Rattle.seq_planner.proofs.SoundTrees.{kept_sum}
 
 -- what follows of two facts that hold after a success

@@ -1,9 +1,7 @@
 -- A textbook run that has come as far as some of the marks.
-use Rattle.std.proofs.Common.{◌≡◌, ℕ, ◌+◌, ◌<◌, List, [], ◌∷◌, ◌++◌, length, get_or, take, arith, sym, ap, ◌∙◌, subst, length-append}
-use Rattle.std.proofs.lemmas.List.{take_more}
-use Rattle.grown_runs.proofs.Common.{Point, Scene, Record, setup_of, start_alone, Handles, HandlesAll, HandlesAll-push}
-use Rattle.seq_planner.specs.declared.search_tree.SearchTree.{SearchTree}
-use Rattle.seq_planner.specs.SearchTrees.{IsSoundTree, GrowsByMark}
+use Rattle.seq_planner.proofs.Words.{◌≡◌, ℕ, ◌+◌, ◌<◌, List, [], ◌∷◌, ◌++◌, length, get_or, take, arith, sym, ap, ◌∙◌, subst, take_more, Point, Scene, Record}
+use Rattle.seq_planner.proofs.Words.{setup_of, start_alone, Handles, HandlesAll, HandlesAll-push, SearchTree, IsSoundTree, GrowsByMark}
+use Rattle.std.proofs.Common.{length-append}
 
 -- these marks are handled, and the tree is what they left
 pub record IsRunSoFar (scene : Scene) (marks : List Point) (tree : SearchTree) : Type 0 where

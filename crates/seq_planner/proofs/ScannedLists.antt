@@ -1,18 +1,11 @@
 -- Scans over the nodes that are present, index after index: for the nearest to a mark, and for those near a point.
-use Rattle.std.proofs.Common.{◌≡◌, ℕ, ◌+◌, ◌*◌, ◌<◌, ◌≤◌, leb, Bool, true, false, cond, List, [], ◌∷◌, ◌++◌, length, get_or, take, Option, Some}
-use Rattle.std.proofs.Common.{zero, suc, arith, refl, sym, ap, ◌∙◌, subst}
-use Rattle.std.specs.Prelude.{is_some, filter, All, Contains}
-use Rattle.std.specs.List.{range_with_len}
-use Rattle.std.specs.List.Sorted.{IsStrictlyIncreasing}
-use Rattle.std.proofs.lemmas.Bool.{le-leb, lt-leb}
-use Rattle.std.proofs.lemmas.List.{append-nil, get_or-map, get_or_read, take_all}
-use Rattle.std.proofs.lemmas.List.Elements.{All-contains, All-nil, All-get_or, filter_more}
-use Rattle.std.proofs.lemmas.List.FromFn.{length-range_with_len, get_or-range_with_len}
-use Rattle.grown_runs.proofs.Common.{squared_distance, IsFirstLeast, distance_to, IsNearest, is_within, near, point_at, StandsAt, IsPresent, point_of, IsFree}
-use Rattle.grown_runs.proofs.Common.{Point, IsPresent-below, near-present, within_present, is_near_free, filter-none, IsFirstLeast-among, Contains-filter}
-use Rattle.grown_runs.proofs.Common.{point_of-stands, StandsAt-present}
-use Rattle.seq_planner.specs.PlacedLists.{present_numbers, ArePlaced, listed_near}
-use Rattle.seq_planner.specs.declared.placed_points.PlacedPoints.{PlacedPoints}
+use Rattle.seq_planner.proofs.Words.{◌≡◌, ℕ, ◌+◌, ◌*◌, ◌<◌, ◌≤◌, leb, Bool, true, false, cond, List, [], ◌∷◌, ◌++◌, length, get_or, take, Option, Some, zero}
+use Rattle.seq_planner.proofs.Words.{suc, arith, refl, sym, ap, ◌∙◌, subst, is_some, filter, All, Contains, range_with_len, IsStrictlyIncreasing, le-leb}
+use Rattle.seq_planner.proofs.Words.{lt-leb, append-nil, get_or-map, get_or_read, take_all, All-contains, All-nil, All-get_or, filter_more}
+use Rattle.seq_planner.proofs.Words.{length-range_with_len, get_or-range_with_len, squared_distance, IsFirstLeast, distance_to, IsNearest, is_within, near}
+use Rattle.seq_planner.proofs.Words.{point_at, StandsAt, IsPresent, point_of, IsFree, Point, IsPresent-below, near-present, within_present, is_near_free}
+use Rattle.seq_planner.proofs.Words.{filter-none, IsFirstLeast-among, Contains-filter, point_of-stands, StandsAt-present, present_numbers, ArePlaced}
+use Rattle.seq_planner.proofs.Words.{listed_near, PlacedPoints}
 use Rattle.seq_planner.proofs.LeastIndices.{IsLeastIndex, IsFirstLeast-index, IsFirstLeast-listed}
 use Rattle.seq_planner.proofs.PresentNumbers.{ArePlaced-numbered, present_numbers-present, present_numbers-rising}
 

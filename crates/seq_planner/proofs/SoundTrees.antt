@@ -1,18 +1,11 @@
 -- A tree with its kept costs stays sound if a node, or an absent one, is put at its end.
-use Rattle.std.proofs.Common.{◌≡◌, ℕ, ◌+◌, ◌<◌, ◌≤◌, List, [], ◌∷◌, ◌++◌}
-use Rattle.std.proofs.Common.{length, get_or, Option, Some, None, arith, sym, ap, ◌∙◌, subst, inl, inr, length-append}
-use Rattle.std.proofs.Math.Seq.{get_or-append_seam}
-use Rattle.std.specs.Prelude.{is_some, option_map}
-use Rattle.std.proofs.lemmas.List.{get_or_append_left, get_or_past, length-map}
-use Rattle.std.proofs.lemmas.List.Sums.{count_by-le-length}
-use Rattle.std.proofs.lemmas.Bool.{cases_order}
-use Rattle.grown_runs.proofs.Common.{Point, Twig, IsBounded, StandsAt, IsPresent, point_of, node_count, points_of, parent_of, sum_of, Nodes, points_of-push}
-use Rattle.grown_runs.proofs.Common.{node_count-push, node_at-absent, Adds, Adds-push, AreDistinct-adds, StandsAt-present, node_count-some, new_or_kept}
-use Rattle.grown_runs.proofs.Common.{point_at-same, present_below, CostsFall-same, AreTight-same, CostsFall-adds, AreTight-adds, KeepsCosts, IsPriced}
-use Rattle.grown_runs.proofs.Common.{AddsPriced, sums-tight}
-use Rattle.seq_planner.specs.declared.placed_points.PlacedPoints.{PlacedPoints}
-use Rattle.seq_planner.specs.PlacedLists.{ArePlaced}
-use Rattle.seq_planner.specs.SearchTrees.{AreBounded, IsSound, Fits, most_cost}
+use Rattle.seq_planner.proofs.Words.{◌≡◌, ℕ, ◌+◌, ◌<◌, ◌≤◌, List, [], ◌∷◌, ◌++◌, length, get_or, Option, Some, None, arith, sym, ap, ◌∙◌, subst, inl, inr}
+use Rattle.seq_planner.proofs.Words.{get_or-append_seam, is_some, option_map, get_or_append_left, get_or_past, length-map, count_by-le-length, cases_order}
+use Rattle.seq_planner.proofs.Words.{Point, Twig, IsBounded, StandsAt, IsPresent, point_of, node_count, points_of, parent_of, sum_of, Nodes, points_of-push}
+use Rattle.seq_planner.proofs.Words.{node_count-push, node_at-absent, Adds, Adds-push, AreDistinct-adds, StandsAt-present, node_count-some, new_or_kept}
+use Rattle.seq_planner.proofs.Words.{point_at-same, present_below, CostsFall-same, AreTight-same, CostsFall-adds, AreTight-adds, KeepsCosts, IsPriced}
+use Rattle.seq_planner.proofs.Words.{AddsPriced, sums-tight, PlacedPoints, ArePlaced, AreBounded, IsSound, Fits, most_cost}
+use Rattle.std.proofs.Common.{length-append}
 
 -- ---- kept costs of a longer list
 

@@ -1,9 +1,7 @@
 -- The outcomes of the marks below a limit, counted one mark at a time.
-use Rattle.std.proofs.Common.{◌≡◌, ℕ, suc, ◌+◌, Bool, cond, Option, Some, arith, refl, ap, ◌∙◌}
-use Rattle.grown_runs.proofs.Common.{Outcome, Placed, Same, Blocked, Skipped, Record, has_outcome, outcome_count, is_placed, is_same, is_blocked, is_skipped}
-use Rattle.grown_runs.proofs.Common.{count-more}
-use Rattle.settle_report.specs.OutcomeCounts.{AreCounts, with_outcome}
-use Rattle.settle_report.specs.declared.outcome_counts.OutcomeCounts.{OutcomeCounts}
+use Rattle.settle_report.proofs.Words.{◌≡◌, ℕ, suc, ◌+◌, Bool, cond, Option, Some, arith, refl, ap, ◌∙◌, Outcome, Placed, Same, Blocked, Skipped, Record}
+use Rattle.settle_report.proofs.Words.{has_outcome, outcome_count, is_placed, is_same, is_blocked, is_skipped, count-more, AreCounts, with_outcome}
+use Rattle.settle_report.proofs.Words.{OutcomeCounts}
 
 -- a mark counts once
 counts_once : (o : Outcome) → ((cond (is_placed o) 1 0 + cond (is_same o) 1 0) + cond (is_blocked o) 1 0) + cond (is_skipped o) 1 0 ≡ 1

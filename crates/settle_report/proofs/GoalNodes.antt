@@ -1,8 +1,6 @@
 -- The best of the nodes from some number on, one number after another; and that the best node is present.
-use Rattle.std.proofs.Common.{◌≡◌, ℕ, suc, ◌+◌, true, false, List, filter, Option, Some, None, IfSome, refl, sym}
-use Rattle.std.specs.List.{range_with_len}
-use Rattle.grown_runs.proofs.Common.{Goal, best_node, is_goal_point, first_least, lesser, IsPresent, point_at, TreeState, sum_in, IsPresent-goal}
-use Rattle.grown_runs.proofs.Common.{first_least-some}
+use Rattle.settle_report.proofs.Words.{◌≡◌, ℕ, suc, ◌+◌, true, false, List, filter, Option, Some, None, IfSome, refl, sym, range_with_len, Goal, best_node}
+use Rattle.settle_report.proofs.Words.{is_goal_point, first_least, lesser, IsPresent, point_at, TreeState, sum_in, IsPresent-goal, first_least-some}
 
 module _ (goals : List Goal) (state : TreeState) where
   -- the best of so many nodes from number k on

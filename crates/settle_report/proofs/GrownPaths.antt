@@ -1,9 +1,8 @@
 -- Steps up a path of a closed run, from a node to its parent, until the start: kept costs fall, so the walk ends.
-use Rattle.std.proofs.Common.{◌≡◌, ◌≢◌, ℕ, zero, suc, ◌<◌, List, [], ◌∷◌, map, reverse, refl, sym, ap, ◌∙◌, subst}
+use Rattle.settle_report.proofs.Words.{◌≡◌, ◌≢◌, ℕ, zero, suc, ◌<◌, List, [], ◌∷◌, map, reverse, refl, sym, ap, ◌∙◌, subst, Point, point_of, IsPresent}
+use Rattle.settle_report.proofs.Words.{StandsAt, path_to, setup_of, FallAlong, TreeState, chain_in, chain-start, chain-parent, KeepsOrder-falls, state_of_grown}
+use Rattle.settle_report.proofs.Words.{words_of_grown, start_present-held, Grown}
 use mathlib.Core.List.{reverse_aux}
-use Rattle.grown_runs.proofs.Common.{Point, point_of, IsPresent, StandsAt, path_to, setup_of, FallAlong, TreeState, chain_in, chain-start, chain-parent}
-use Rattle.grown_runs.proofs.Common.{KeepsOrder-falls, state_of_grown, words_of_grown, start_present-held}
-use Rattle.grown_runs.specs.declared.grown.Grown.{Grown}
 use Rattle.settle_report.proofs.HeldOrders.{parent-held}
 
 -- kept costs fall along the parents of a closed run

@@ -1,8 +1,6 @@
 -- What the order law of a closed run says of its parents, its kept costs and its sums.
-use Rattle.std.proofs.Common.{◌≡◌, ℕ, zero, suc, ◌+◌, ◌<◌, ◌≤◌, arith, sym, subst}
-use Rattle.grown_runs.proofs.Common.{Task, IsPresent, setup_of, edge_by, sum_in, parent-present, sum_in-le_cost, Words, state_of_grown, words_of_grown, HoldRun}
-use Rattle.grown_runs.proofs.Common.{sizes_of, state_of_words, node-held}
-use Rattle.grown_runs.specs.declared.grown.Grown.{Grown}
+use Rattle.settle_report.proofs.Words.{◌≡◌, ℕ, zero, suc, ◌+◌, ◌<◌, ◌≤◌, arith, sym, subst, Task, IsPresent, setup_of, edge_by, sum_in, parent-present}
+use Rattle.settle_report.proofs.Words.{sum_in-le_cost, Words, state_of_grown, words_of_grown, HoldRun, sizes_of, state_of_words, node-held, Grown}
 
 module _ (task : Task) (limit : ℕ) (words : Words) (held : HoldRun task limit words) where
   -- the parent of a node is present

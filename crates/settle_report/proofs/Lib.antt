@@ -7,3 +7,4 @@ pub mod TightNodes
 pub mod CountedMarks
 pub mod WaysDown
 pub mod MarkedRuns
+mod Words

@@ -1,10 +1,6 @@
 -- Runs whose nodes are settled in the order of their numbers, each with those above it, and marked.
-use Rattle.std.proofs.Common.{◌≡◌, ℕ, suc, ◌+◌, ◌<◌, Bool, false, List, arith, sym, ◌∙◌, subst, inl, inr}
-use Rattle.std.specs.Prelude.{IsTrue, slice_index_or}
-use Rattle.std.proofs.lemmas.Bool.{cases_eq}
-use Rattle.grown_runs.proofs.Common.{IsPresent, ChangesCosts, IsSettled, children_of_grown, state_of_grown}
-use Rattle.grown_runs.specs.declared.grown.Grown.{Grown}
-use Rattle.settle_report.specs.SettledMarks.{MarksSettled}
+use Rattle.settle_report.proofs.Words.{◌≡◌, ℕ, suc, ◌+◌, ◌<◌, Bool, false, List, arith, sym, ◌∙◌, subst, inl, inr, IsTrue, slice_index_or, cases_eq, IsPresent}
+use Rattle.settle_report.proofs.Words.{ChangesCosts, IsSettled, children_of_grown, state_of_grown, Grown, MarksSettled}
 use Rattle.settle_report.proofs.HeldOrders.{number-grown}
 use Rattle.settle_report.proofs.SettlingSteps.{ChangesCosts-trans}
 

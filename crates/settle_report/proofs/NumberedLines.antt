@@ -1,9 +1,6 @@
 -- A line for each number below a limit, one number more at a time.
-use Rattle.std.proofs.Common.{◌≡◌, ℕ, ◌+◌, List, [], ◌∷◌, ◌++◌, map, arith, sym, ap, ◌∙◌, append_assoc, append-nil}
-use Rattle.std.specs.List.{range_with_len, flat_map}
-use Rattle.std.proofs.lemmas.Grind.{flat_map-append}
-use Rattle.std.proofs.lemmas.List.Folds.{flat_map-map}
-use Rattle.std.proofs.lemmas.List.FromFn.{map-range_with_len_more}
+use Rattle.settle_report.proofs.Words.{◌≡◌, ℕ, ◌+◌, List, [], ◌∷◌, ◌++◌, map, arith, sym, ap, ◌∙◌, append_assoc, append-nil, range_with_len, flat_map}
+use Rattle.settle_report.proofs.Words.{flat_map-append, flat_map-map, map-range_with_len_more}
 
 -- the lines below a limit of one more are those below it and the limit's own
 pub lines-more : (line_of : ℕ → List ℕ) (n : ℕ)

@@ -1,12 +1,8 @@
 -- A node is settled through its parent, and marked: costs alone change, and each marked node stays at its sum.
-use Rattle.std.proofs.Common.{◌≡◌, ℕ, zero, suc, ◌<◌, ◌≤◌, Bool, true, false, List, length, replicate, set, arith, refl, sym, ◌∙◌, subst, inl, inr}
-use Rattle.std.specs.Prelude.{IsTrue, slice_index_or}
-use Rattle.std.proofs.lemmas.Bool.{cases_eq, cases_lt}
-use Rattle.std.proofs.lemmas.Grind.{get_or-set_at}
-use Rattle.std.proofs.lemmas.List.{get_or-replicate, get_or-set_other, get_or_past, length-replicate, length-set}
-use Rattle.grown_runs.proofs.Common.{IsPresent, StandsAt, KeepsOrder, Setup, sum_by, TreeState, ChangesCosts, GrowsInto, first_cost_of, recorded_or, sum_in}
-use Rattle.grown_runs.proofs.Common.{sum_in-parent, sum_in-start, CostsInstead}
-use Rattle.settle_report.specs.SettledMarks.{CostsByParent, MarksSettled}
+use Rattle.settle_report.proofs.Words.{◌≡◌, ℕ, zero, suc, ◌<◌, ◌≤◌, Bool, true, false, List, length, replicate, set, arith, refl, sym, ◌∙◌, subst, inl, inr}
+use Rattle.settle_report.proofs.Words.{IsTrue, slice_index_or, cases_eq, cases_lt, get_or-set_at, get_or-replicate, get_or-set_other, get_or_past}
+use Rattle.settle_report.proofs.Words.{length-replicate, length-set, IsPresent, StandsAt, KeepsOrder, Setup, sum_by, TreeState, ChangesCosts, GrowsInto}
+use Rattle.settle_report.proofs.Words.{first_cost_of, recorded_or, sum_in, sum_in-parent, sum_in-start, CostsInstead, CostsByParent, MarksSettled}
 
 -- ---- costs alone change
 

@@ -1,8 +1,6 @@
 -- A run is settled exactly if all its nodes but the start are tight.
-use Rattle.std.proofs.Common.{ℕ, zero, suc, ◌<◌, ◌≤◌, arith, sym}
-use Rattle.grown_runs.proofs.Common.{setup_of, IsSettled, sums-tight, sum_in-parent, state_of_grown, words_of_grown, node-held}
-use Rattle.grown_runs.specs.declared.grown.Grown.{Grown}
-use Rattle.settle_report.specs.TightNodes.{IsTight}
+use Rattle.settle_report.proofs.Words.{ℕ, zero, suc, ◌<◌, ◌≤◌, arith, sym, setup_of, IsSettled, sums-tight, sum_in-parent, state_of_grown, words_of_grown}
+use Rattle.settle_report.proofs.Words.{node-held, Grown, IsTight}
 use Rattle.settle_report.proofs.GrownPaths.{FallAlong-grown}
 use Rattle.settle_report.proofs.HeldOrders.{parent-held}
 

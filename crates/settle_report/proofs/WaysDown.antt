@@ -1,10 +1,6 @@
 -- Ways down a tree by a list of children: costs rise along them, and a climb makes one longer at its upper end.
-use Rattle.std.proofs.Common.{◌≡◌, ◌≢◌, ℕ, zero, suc, ◌<◌, ◌≤◌, List, length, set, arith, refl, sym, ap, subst}
-use Rattle.std.specs.Prelude.{slice_index}
-use Rattle.std.proofs.lemmas.Grind.{get_or-set_at}
-use Rattle.std.proofs.lemmas.List.{get_or-set_other}
-use Rattle.grown_runs.proofs.Common.{FallAlong, TreeState}
-use Rattle.settle_report.specs.SettledMarks.{IsChildOf, LeadsDown, LeadsDownBy}
+use Rattle.settle_report.proofs.Words.{◌≡◌, ◌≢◌, ℕ, zero, suc, ◌<◌, ◌≤◌, List, length, set, arith, refl, sym, ap, subst, slice_index, get_or-set_at}
+use Rattle.settle_report.proofs.Words.{get_or-set_other, FallAlong, TreeState, IsChildOf, LeadsDown, LeadsDownBy}
 
 module _ (state : TreeState) (fall : FallAlong state.cost state.points state.parent) where
   pub child_costs_more : (parent n : ℕ) → IsChildOf state parent n → state.cost parent < state.cost n

@@ -1,3 +1,4 @@
 pub mod SmallRuns
 pub mod HeldPasses
 pub mod SteeredPasses
+mod Words

@@ -1,14 +1,5 @@
 -- The ends of a clear segment are within bounds, as they lie in the room.
-use Rattle.std.proofs.Common.{arith}
-use Rattle.std.proofs.lemmas.Int.{ints}
-use Rattle.plan_model.specs.declared.geometry.Point.{Point}
-use Rattle.plan_model.specs.declared.scenes.Scene.{Scene}
-use Rattle.plan_model.specs.Geometry.Bounds.{IsBounded}
-use Rattle.plan_model.proofs.SceneBounds.{IsBounded-room}
-use Rattle.plan_model.specs.Spaces.Clearance.{Clear}
-use Rattle.plan_model.specs.Spaces.ConfigurationSpace.{space_of}
-use Rattle.plan_model.specs.declared.configuration_spaces.ConfigurationSpace.{ConfigurationSpace}
-use Rattle.plan_model.specs.Spaces.RoomOfConfigurations.{InRoom, at_lattice}
+use Rattle.swept_check.proofs.Words.{arith, ints, Point, Scene, IsBounded, IsBounded-room, Clear, space_of, ConfigurationSpace, InRoom, at_lattice}
 use Rattle.swept_check.proofs.HallLaws.{first_in_room, last_in_room}
 
 IsBounded-in_room : (space : ConfigurationSpace) (p : Point) → IsBounded space.room → InRoom space (at_lattice p) → IsBounded p

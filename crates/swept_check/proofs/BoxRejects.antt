@@ -1,17 +1,7 @@
 -- A segment that crosses a polygon has a box that meets the polygon's.
-use Rattle.std.proofs.Common.{◌≡◌, ℕ, ◌<◌, ◌≤◌, Bool, true, false, List, refl, arith}
-use Rattle.std.specs.Prelude.{ℤ, pos, ◌+ℤ◌, ◌-ℤ◌, ◌*ℤ◌, ◌≤ℤ◌, ◌<ℤ◌, int_le, min, max}
-use Rattle.std.proofs.lemmas.Int.{ints}
-use Rattle.std.proofs.lemmas.Bool.{and_from}
-use Rattle.plan_model.specs.declared.geometry.Point.{Point}
-use Rattle.plan_model.specs.declared.geometry.Vertex.{Vertex}
-use Rattle.plan_model.specs.Spaces.Clearance.{on_the_way}
-use Rattle.convex_sets.specs.declared.bounding_boxes.BoundingBox.{BoundingBox}
-use Rattle.convex_sets.specs.Boxes.{IsBoundingBox, boxes_meet, segment_box}
-use Rattle.convex_sets.proofs.BoxLaws.{in_range}
-use Rattle.convex_sets.proofs.ConvexPolygons.{IsConvex}
-use Rattle.plan_model.proofs.Ring.{var, plus, minus, times, same}
-use Rattle.swept_check.specs.Crossings.{Crosses}
+use Rattle.swept_check.proofs.Words.{◌≡◌, ℕ, ◌<◌, ◌≤◌, Bool, true, false, List, refl, arith, ℤ, pos, ◌+ℤ◌, ◌-ℤ◌, ◌*ℤ◌, ◌≤ℤ◌, ◌<ℤ◌, int_le, min, max, ints}
+use Rattle.swept_check.proofs.Words.{and_from, Point, Vertex, on_the_way, BoundingBox, IsBoundingBox, boxes_meet, segment_box, in_range, IsConvex, var, plus}
+use Rattle.swept_check.proofs.Words.{minus, times, same, Crosses}
 use Rattle.swept_check.proofs.LinearValues.{IsAdmitted-outside}
 
 -- how far a coordinate on the way is past another

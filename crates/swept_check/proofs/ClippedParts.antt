@@ -1,8 +1,5 @@
 -- A part of a segment that is clipped at one end.
-use Rattle.std.proofs.Common.{◌≡◌, ℕ, ◌+◌, ◌*◌, ◌≤◌, subst, sym}
-use Rattle.std.specs.Prelude.{ℤ, ◌↔◌}
-use Rattle.swept_check.specs.declared.fractions.Fraction.{Fraction}
-use Rattle.swept_check.specs.Clipping.{IsBetweenFractions, IsAdmitted}
+use Rattle.swept_check.proofs.Words.{◌≡◌, ℕ, ◌+◌, ◌*◌, ◌≤◌, subst, sym, ℤ, ◌↔◌, Fraction, IsBetweenFractions, IsAdmitted}
 
 -- the exit is clipped at a of a + b parts
 pub clipped_exit :

@@ -1,17 +1,7 @@
 -- A segment crosses a polygon if some parameter is in the half-plane of each edge.
-use Rattle.std.proofs.Common.{◌≡◌, ℕ, ◌+◌, ◌*◌, ◌<◌, ◌≤◌, List, length, arith}
-use Rattle.std.specs.Prelude.{ℤ, ◌↔◌}
+use Rattle.swept_check.proofs.Words.{◌≡◌, ℕ, ◌+◌, ◌*◌, ◌<◌, ◌≤◌, List, length, arith, ℤ, ◌↔◌, Point, Vertex, corner_at, next_corner, orientation, on_the_way}
+use Rattle.swept_check.proofs.Words.{IsInside, Fraction, IsAdmitted, IsBetweenFractions, Crosses, corner_of}
 use borrow.Author.Count.{below_more}
-use Rattle.plan_model.specs.declared.geometry.Point.{Point}
-use Rattle.plan_model.specs.declared.geometry.Vertex.{Vertex}
-use Rattle.plan_model.specs.Geometry.Convexity.{corner_at, next_corner}
-use Rattle.plan_model.specs.Geometry.Plane.{orientation}
-use Rattle.plan_model.specs.Spaces.Clearance.{on_the_way}
-use Rattle.plan_model.specs.Spaces.HalfPlanes.{IsInside}
-use Rattle.swept_check.specs.declared.fractions.Fraction.{Fraction}
-use Rattle.swept_check.specs.Clipping.{IsAdmitted, IsBetweenFractions}
-use Rattle.swept_check.specs.Crossings.{Crosses}
-use Rattle.convex_sets.specs.Boxes.{corner_of}
 use Rattle.swept_check.proofs.SideValues.{side_of-on_the_way}
 use Rattle.swept_check.proofs.Parameters.{in_order}
 

@@ -1,15 +1,6 @@
 -- A segment is clear if its ends are in the room of configurations and it crosses no zone.
-use Rattle.std.proofs.Common.{◌<◌, List, [], length, All, arith}
-use Rattle.std.proofs.lemmas.List.Elements.{All-get_or, All-from_get_or}
-use Rattle.plan_model.specs.declared.geometry.Point.{Point}
-use Rattle.plan_model.specs.declared.geometry.Vertex.{Vertex}
-use Rattle.plan_model.specs.declared.configuration_spaces.ConfigurationSpace.{ConfigurationSpace}
-use Rattle.plan_model.specs.Spaces.RoomOfConfigurations.{InRoom, at_lattice}
-use Rattle.plan_model.specs.Spaces.Clearance.{on_the_way, Clear}
-use Rattle.plan_model.specs.Spaces.Meeting.{Meets}
-use Rattle.plan_model.proofs.SegmentLaws.{Clear-first, Clear-last}
-use Rattle.swept_check.specs.Crossings.{Crosses}
-use Rattle.swept_check.specs.Halls.{AreZonesOf}
+use Rattle.swept_check.proofs.Words.{◌<◌, List, [], length, All, arith, All-get_or, All-from_get_or, Point, Vertex, ConfigurationSpace, InRoom, at_lattice}
+use Rattle.swept_check.proofs.Words.{on_the_way, Clear, Meets, Clear-first, Clear-last, Crosses, AreZonesOf}
 use Rattle.swept_check.proofs.RoomLaws.{InRoom-on_the_way}
 
 -- no zone of the list is crossed

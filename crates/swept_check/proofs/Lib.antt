@@ -8,3 +8,4 @@ pub mod BoxRejects
 pub mod HallLaws
 pub mod SceneSummands
 pub mod BoundedSegments
+mod Words

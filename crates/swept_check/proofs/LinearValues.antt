@@ -1,12 +1,6 @@
 -- A linear function along a segment, by its values at the ends.
-use Rattle.std.proofs.Common.{◌≡◌, ℕ, suc, ◌+◌, ◌-◌, ◌*◌, ◌<◌, ◌≤◌, arith, subst, inl, inr}
-use Rattle.std.specs.Prelude.{ℤ, pos, negsuc, ◌+ℤ◌, ◌*ℤ◌, ◌≤ℤ◌, ◌<ℤ◌, ◌↔◌, unsigned_abs}
-use Rattle.std.proofs.lemmas.Int.{ints}
-use Rattle.std.proofs.lemmas.Bool.{cases_lt}
-use Rattle.std.proofs.Math.Nat.{mul-pos}
-use Rattle.plan_model.proofs.SegmentLaws.{part_and_rest}
-use Rattle.swept_check.specs.Clipping.{value_at, IsAdmitted}
-use Rattle.plan_model.proofs.Ring.{var, plus, minus, times, same}
+use Rattle.swept_check.proofs.Words.{◌≡◌, ℕ, suc, ◌+◌, ◌-◌, ◌*◌, ◌<◌, ◌≤◌, arith, subst, inl, inr, ℤ, pos, negsuc, ◌+ℤ◌, ◌*ℤ◌, ◌≤ℤ◌, ◌<ℤ◌, ◌↔◌, unsigned_abs}
+use Rattle.swept_check.proofs.Words.{ints, cases_lt, mul-pos, part_and_rest, value_at, IsAdmitted, var, plus, minus, times, same}
 
 -- a value on the way is a mean of those at the ends, d = s + k
 value_at-parts : (f t : ℤ) (s k : ℕ) → value_at f t s (s + k) ≡ (pos k *ℤ f) +ℤ (pos s *ℤ t)

@@ -1,6 +1,5 @@
 -- Parameters of a segment, compared by products.
-use Rattle.std.proofs.Common.{ℕ, ◌*◌, ◌<◌, ◌≤◌, arith}
-use Rattle.std.proofs.Math.Nat.{mul-le-mul_right, le_of_mul-le-mul_right}
+use Rattle.swept_check.proofs.Words.{ℕ, ◌*◌, ◌<◌, ◌≤◌, arith, mul-le-mul_right, le_of_mul-le-mul_right}
 
 -- if one parameter is at most another, s / d is past it once it is past the other
 pub past-lesser : (a b c e s d : ℕ) → 0 < e → a * e ≤ c * b → c * d ≤ s * e → a * d ≤ s * b

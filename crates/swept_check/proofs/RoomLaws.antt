@@ -1,17 +1,7 @@
 -- The room of configurations is convex: a segment lies in it if its ends do.
-use Rattle.std.proofs.Common.{◌≡◌, ℕ, ◌*◌, ◌<◌, ◌≤◌, arith}
-use Rattle.std.specs.Prelude.{ℤ, pos, ◌+ℤ◌, ◌-ℤ◌, ◌*ℤ◌, ◌≤ℤ◌}
-use Rattle.std.proofs.lemmas.Int.{ints}
-use Rattle.plan_model.specs.declared.geometry.Point.{Point}
-use Rattle.plan_model.specs.declared.configuration_spaces.ConfigurationSpace.{ConfigurationSpace}
-use Rattle.plan_model.specs.Spaces.RoomOfConfigurations.{InRoom, at_lattice}
-use Rattle.plan_model.specs.Spaces.Clearance.{on_the_way}
-use Rattle.plan_model.specs.Scenes.MarkPoints.{IsInSpan}
-use Rattle.plan_model.proofs.SpanLaws.{IsInSpans-from_in_room, InRoom-from_spans}
-use Rattle.plan_model.specs.declared.spans.RoomSpans.{RoomSpans}
-use Rattle.plan_model.specs.Scenes.SpansOfRooms.{AreSpansOf}
+use Rattle.swept_check.proofs.Words.{◌≡◌, ℕ, ◌*◌, ◌<◌, ◌≤◌, arith, ℤ, pos, ◌+ℤ◌, ◌-ℤ◌, ◌*ℤ◌, ◌≤ℤ◌, ints, Point, ConfigurationSpace, InRoom, at_lattice}
+use Rattle.swept_check.proofs.Words.{on_the_way, IsInSpan, IsInSpans-from_in_room, InRoom-from_spans, RoomSpans, AreSpansOf, var, plus, minus, times, same}
 use Rattle.swept_check.proofs.LinearValues.{IsAdmitted-inside}
-use Rattle.plan_model.proofs.Ring.{var, plus, minus, times, same}
 
 -- the coordinate of a moved corner, at s / d of the way
 moved_on_way : (a b c d s : ℤ) → (((d *ℤ a) +ℤ (s *ℤ (b -ℤ a))) +ℤ (d *ℤ c)) ≡ ((d *ℤ (a +ℤ c)) +ℤ (s *ℤ ((b +ℤ c) -ℤ (a +ℤ c))))

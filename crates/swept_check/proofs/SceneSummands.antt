@@ -1,16 +1,8 @@
 -- The body and the obstacles of a space have zones, which are made one after another.
-use Rattle.std.proofs.Common.{◌≡◌, ℕ, ◌+◌, ◌<◌, true, List, [], ◌∷◌, ◌++◌, length, length-append, get_or, nat_le, arith}
-use Rattle.std.specs.List.{list_all}
-use Rattle.std.proofs.lemmas.List.{get_or_append_left, get_or_push}
-use Rattle.std.proofs.lemmas.Bool.{and_parts}
+use Rattle.swept_check.proofs.Words.{◌≡◌, ℕ, ◌+◌, ◌<◌, true, List, [], ◌∷◌, ◌++◌, length, length-append, get_or, nat_le, arith, list_all, get_or_append_left}
+use Rattle.swept_check.proofs.Words.{get_or_push, and_parts, ConfigurationSpace, Vertex, is_corner_between, is_obstacle, are_obstacles}
+use Rattle.swept_check.proofs.Words.{LEAST_SUMMAND_COORDINATE, MOST_OBSTACLES, MOST_SUMMAND_COORDINATE, IsZoneOf, corners-summands, true_at}
 use borrow.Author.Count.{below_more}
-use Rattle.plan_model.specs.declared.configuration_spaces.ConfigurationSpace.{ConfigurationSpace}
-use Rattle.plan_model.specs.declared.geometry.Vertex.{Vertex}
-use Rattle.plan_model.specs.Scenes.Limits.{is_corner_between, is_obstacle, are_obstacles}
-use Rattle.plan_model.specs.declared.limits.TheConstants.{LEAST_SUMMAND_COORDINATE, MOST_OBSTACLES, MOST_SUMMAND_COORDINATE}
-use Rattle.plan_model.specs.Spaces.Zones.{IsZoneOf}
-use Rattle.plan_model.proofs.SceneBounds.{corners-summands}
-use Rattle.plan_model.proofs.Tests.{true_at}
 
 pub obstacle_within : (version : ℕ) (obstacles : List (List Vertex)) (i : ℕ) → are_obstacles version obstacles ≡ true → i < length obstacles
     → list_all (is_corner_between LEAST_SUMMAND_COORDINATE MOST_SUMMAND_COORDINATE) (get_or obstacles i []) ≡ true

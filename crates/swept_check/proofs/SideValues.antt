@@ -1,14 +1,6 @@
 -- On which side of a line the points of a segment lie: a linear function of the parameter.
-use Rattle.std.proofs.Common.{◌≡◌, ℕ, ◌<◌, arith}
-use Rattle.std.specs.Prelude.{ℤ, pos, ◌+ℤ◌, ◌-ℤ◌, ◌*ℤ◌}
-use Rattle.plan_model.specs.declared.geometry.Point.{Point}
-use Rattle.plan_model.specs.declared.geometry.Vertex.{Vertex}
-use Rattle.plan_model.specs.Geometry.Plane.{orientation}
-use Rattle.plan_model.specs.Spaces.Clearance.{on_the_way}
-use Rattle.plan_model.specs.Spaces.HalfPlanes.{side_of}
-use Rattle.swept_check.specs.Clipping.{value_at}
-use Rattle.convex_sets.specs.Boxes.{corner_of}
-use Rattle.plan_model.proofs.Ring.{var, plus, minus, times, same}
+use Rattle.swept_check.proofs.Words.{◌≡◌, ℕ, ◌<◌, arith, ℤ, pos, ◌+ℤ◌, ◌-ℤ◌, ◌*ℤ◌, Point, Vertex, orientation, on_the_way, side_of, value_at, corner_of, var}
+use Rattle.swept_check.proofs.Words.{plus, minus, times, same}
 
 -- one product of the orientation, at s / d of the way from a to b
 product_on_way : (e u a b d s : ℤ) → (e *ℤ (((d *ℤ a) +ℤ (s *ℤ (b -ℤ a))) -ℤ (d *ℤ u)))

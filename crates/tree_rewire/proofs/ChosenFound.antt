@@ -1,18 +1,11 @@
 -- The choice of a parent by the words of pairs.
-use Rattle.std.proofs.Common.{◌≡◌, ◌≢◌, ◌⊎◌, ℕ, ◌+◌, ◌^◌, ◌<◌, ◌≤◌, List, ◌∷◌, [], ◌++◌, Option}
-use Rattle.std.proofs.Common.{map, take, Some, arith, inl, inr, refl, sym, ap, ◌∙◌, subst}
-use Rattle.std.specs.Prelude.{All, Contains, slice_get, slice_index_or}
-use Rattle.std.proofs.lemmas.Bool.{cases_eq, cases_lt}
-use Rattle.std.proofs.lemmas.List.Elements.{All-contains, All-map, All-push, Contains-append_left, Contains-get_or, Contains-push}
-use Rattle.edge_cost.proofs.CostBounds.{cost_of-low}
-use Rattle.grown_runs.proofs.Common.{IsBounded, ConfigurationSpace, Point, cost_of, IsFirstLeast, IsNotAbove, IsOpenTo, IsPresent, point_of, StandsAt-present}
-use Rattle.grown_runs.proofs.Common.{Contains-after, Contains-first, cost_in, parent_in, tree_word, cost_in-tree_word, parent_in-tree_word}
-use Rattle.step_core.proofs.Common.{IsBounded-seen, IsLawfulView, tree_seen, Contains-cases}
-use Rattle.plan_words.proofs.Common.{numbers_of, weighed, GoesOn}
-use Rattle.plan_words.specs.declared.spots.Found.{Found}
-use Rattle.step_core.specs.declared.views.View.{View}
-use Rattle.tree_rewire.proofs.Words.{IsWeighed, StandsAsFound, IsBlockedBelow, IsClearTo, IsNextOf, IsNextWord, IsOpenWord, word_through, NamesNothing}
-use Rattle.tree_rewire.proofs.Words.{SeesAnew, SeesPair, seen_cost_through, SeesKnot}
+use Rattle.tree_rewire.proofs.Words.{◌≡◌, ◌≢◌, ◌⊎◌, ℕ, ◌+◌, ◌^◌, ◌<◌, ◌≤◌, List, ◌∷◌, [], ◌++◌, Option, map, take, Some, arith, inl, inr, refl, sym, ap, ◌∙◌}
+use Rattle.tree_rewire.proofs.Words.{subst, All, Contains, slice_get, slice_index_or, cases_eq, cases_lt, All-contains, All-map, All-push, Contains-append_left}
+use Rattle.tree_rewire.proofs.Words.{Contains-get_or, Contains-push, cost_of-low, IsBounded, ConfigurationSpace, Point, cost_of, IsFirstLeast, IsNotAbove}
+use Rattle.tree_rewire.proofs.Words.{IsOpenTo, IsPresent, point_of, StandsAt-present, Contains-after, Contains-first, cost_in, parent_in, tree_word}
+use Rattle.tree_rewire.proofs.Words.{cost_in-tree_word, parent_in-tree_word, IsBounded-seen, IsLawfulView, tree_seen, Contains-cases, numbers_of, weighed}
+use Rattle.tree_rewire.proofs.Words.{GoesOn, Found, View, IsWeighed, StandsAsFound, IsBlockedBelow, IsClearTo, IsNextOf, IsNextWord, IsOpenWord, word_through}
+use Rattle.tree_rewire.proofs.Words.{NamesNothing, SeesAnew, SeesPair, seen_cost_through, SeesKnot}
 use Rattle.tree_rewire.proofs.ChosenParents.{take_read}
 use Rattle.tree_rewire.proofs.CostSteps.{seen_cost_through-same}
 use Rattle.tree_rewire.proofs.FoundLists.{Contains-image, Contains-source}

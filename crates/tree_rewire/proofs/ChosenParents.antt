@@ -1,15 +1,9 @@
 -- The choice of the best parent among nodes whose costs were seen.
-use Rattle.std.proofs.Common.{◌≡◌, ℕ, ◌+◌, ◌≤◌, ◌*◌, List, ◌∷◌, [], ◌++◌, Some, drop, take, arith, refl, sym, ap, ◌∙◌, subst}
-use Rattle.std.specs.Prelude.{All, Contains, slice_get}
-use Rattle.std.proofs.lemmas.List.{drop_more, take_more}
-use Rattle.std.proofs.lemmas.List.Elements.{All-contains, All-push, Contains-get_or}
-use Rattle.std.proofs.lemmas.Option.{get_or_from_slice_get, slice_get_within}
-use Rattle.grown_runs.proofs.Common.{Point, Clear, ConfigurationSpace, space_of, cost_of, squared_distance, IsFirstLeast, IsNotAbove, IsOpenTo, IsPresent}
-use Rattle.grown_runs.proofs.Common.{point_of, StandsAt-present}
-use Rattle.plan_words.specs.States.{GoesOn, SharedState, run_in}
-use Rattle.step_core.proofs.Common.{IsCostBelow, SeesPoint, setup_in, tree_seen, IsPresent-later}
-use Rattle.step_core.specs.declared.views.View.{View}
-use Rattle.tree_rewire.specs.SeenCosts.{IsInReach, NamesNothing, SeesAnew, SeesPair, cost_seen, seen_cost_through}
+use Rattle.tree_rewire.proofs.Words.{◌≡◌, ℕ, ◌+◌, ◌≤◌, ◌*◌, List, ◌∷◌, [], ◌++◌, Some, drop, take, arith, refl, sym, ap, ◌∙◌, subst, All, Contains, slice_get}
+use Rattle.tree_rewire.proofs.Words.{drop_more, take_more, All-contains, All-push, Contains-get_or, get_or_from_slice_get, slice_get_within, Point, Clear}
+use Rattle.tree_rewire.proofs.Words.{ConfigurationSpace, space_of, cost_of, squared_distance, IsFirstLeast, IsNotAbove, IsOpenTo, IsPresent, point_of}
+use Rattle.tree_rewire.proofs.Words.{StandsAt-present, GoesOn, SharedState, run_in, IsCostBelow, SeesPoint, setup_in, tree_seen, IsPresent-later, View}
+use Rattle.tree_rewire.proofs.Words.{IsInReach, NamesNothing, SeesAnew, SeesPair, cost_seen, seen_cost_through}
 use Rattle.tree_rewire.proofs.CostSteps.{seen_cost_through-same, point_of-same}
 use Rattle.tree_rewire.proofs.SeenCosts.{point_later}
 

@@ -1,13 +1,10 @@
 -- What steps leave of a pass that show some words anew, one after another.
-use Rattle.std.proofs.Common.{◌≡◌, ℕ, ◌+◌, refl, sym, ap, ◌∙◌, subst, arith, inl, inr}
-use Rattle.std.specs.Prelude.{Err, IfErr, IfOk, Ok, Result, unwrap_or}
-use Rattle.grown_runs.proofs.Common.{Point, cost_of, IsPresent, point_of, Word, WritesWord, Best, ChildOf, Count, Counter, FirstOf, PointOf, RecordOf, TreeOf}
-use Rattle.grown_runs.proofs.Common.{cost_in}
-use Rattle.plan_words.proofs.Common.{OnlyPosts, BelongsTo, GoesOn, PassState, SharedState, with_view, HasLooked-loaded, HasLooked-refl, KeepsOrPosts-trans}
-use Rattle.plan_words.proofs.Common.{BelongsTo-later, GoesOn-refl, GoesOn-trans}
-use Rattle.step_core.proofs.Common.{HasLooked, HasLooked-trans, IsLawfulView, last_look, loaded, saw, sees, tree_seen, point_at-kept}
-use Rattle.step_core.specs.declared.views.View.{View}
-use Rattle.tree_rewire.proofs.Words.{NamesLowered, NamesLoweredOrPoint, NamesNothing, NamesPoint, NamesTree, PassLowers, PassSees, SeesAnew, seen_cost_through}
+use Rattle.tree_rewire.proofs.Words.{◌≡◌, ℕ, ◌+◌, refl, sym, ap, ◌∙◌, subst, arith, inl, inr, Err, IfErr, IfOk, Ok, Result, unwrap_or, Point, cost_of}
+use Rattle.tree_rewire.proofs.Words.{IsPresent, point_of, Word, WritesWord, Best, ChildOf, Count, Counter, FirstOf, PointOf, RecordOf, TreeOf, cost_in}
+use Rattle.tree_rewire.proofs.Words.{OnlyPosts, BelongsTo, GoesOn, PassState, SharedState, with_view, HasLooked-loaded, HasLooked-refl, KeepsOrPosts-trans}
+use Rattle.tree_rewire.proofs.Words.{BelongsTo-later, GoesOn-refl, GoesOn-trans, HasLooked, HasLooked-trans, IsLawfulView, last_look, loaded, saw, sees}
+use Rattle.tree_rewire.proofs.Words.{tree_seen, point_at-kept, View, NamesLowered, NamesLoweredOrPoint, NamesNothing, NamesPoint, NamesTree, PassLowers}
+use Rattle.tree_rewire.proofs.Words.{PassSees, SeesAnew, seen_cost_through}
 use Rattle.tree_rewire.proofs.SeenCosts.{load_shows_none}
 
 -- ---- views

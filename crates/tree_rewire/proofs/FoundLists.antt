@@ -1,14 +1,7 @@
 -- Records of found nodes, and their numbers.
-use Rattle.std.proofs.Common.{◌≡◌, ◌⊎◌, ℕ, zero, suc, Bool, true, false, cond, List, [], ◌∷◌, ◌++◌, Some, map, take, drop}
-use Rattle.std.proofs.Common.{inl, inr, refl, sym, ap, ◌∙◌, subst}
-use Rattle.std.specs.Prelude.{All, Contains, eqb, filter, option_map, slice_get}
-use Rattle.std.proofs.lemmas.Option.{get_or_from_slice_get, slice_get-map, slice_get_within}
-use Rattle.grown_runs.proofs.Common.{Contains-after, Contains-first, Point}
-use Rattle.plan_words.specs.SearchLists.{numbers_of, weighed}
-use Rattle.plan_words.specs.declared.spots.Found.{Found}
-use Rattle.std.specs.List.{IsDistinct}
-use Rattle.tree_rewire.specs.FoundNodes.{AreOf}
-use Rattle.step_core.proofs.Seen.DistinctNumbers.{Contains-cases, Contains-none}
+use Rattle.tree_rewire.proofs.Words.{◌≡◌, ◌⊎◌, ℕ, zero, suc, Bool, true, false, cond, List, [], ◌∷◌, ◌++◌, Some, map, take, drop, inl, inr, refl, sym, ap, ◌∙◌}
+use Rattle.tree_rewire.proofs.Words.{subst, All, Contains, eqb, filter, option_map, slice_get, get_or_from_slice_get, slice_get-map, slice_get_within}
+use Rattle.tree_rewire.proofs.Words.{Contains-after, Contains-first, Point, numbers_of, weighed, Found, IsDistinct, AreOf, Contains-cases, Contains-none}
 
 -- what holds of all records holds of the one that is read
 pub All-at : (P : Found → Type 0) (found : List Found) (i : ℕ) (f : Found) → slice_get found i ≡ Some f → All P found → P f

@@ -1,14 +1,8 @@
 -- The children of a node are lowered, again and again while exchanges fail.
-use Rattle.std.proofs.Common.{◌≡◌, ◌⊎◌, ℕ, suc, ◌+◌, ◌*◌, ◌<◌, ◌≤◌, Option, Some, None, length, arith, inl, inr, refl, sym, ap, subst}
-use Rattle.std.proofs.lemmas.Bool.{cases_eq}
-use Rattle.std.proofs.lemmas.Nat.{mul-le}
-use Rattle.plan_words.proofs.Common.{CostsAtMostThrough, HasQueued, IsFound, LooksOn, LowersChildren, BelongsTo, GoesOn, PassState, SharedState, HasSeenParent}
-use Rattle.plan_words.proofs.Common.{IsOn, GoesOn-refl, GoesOn-trans}
-use Rattle.step_core.proofs.Common.{IsLawfulView, sees}
-use Rattle.grown_runs.proofs.Common.{TreeOf, cost_in}
-use Rattle.step_core.specs.declared.views.View.{View}
-use Rattle.tree_rewire.specs.SeenCosts.{NamesLoweredOrPoint, PassLowers, SeesPair, cost_seen}
-use Rattle.tree_rewire.specs.Spreads.{IsSpreading, IsWithinParent, IsWithinSeenParent, NoneRises, OnlyAt, QueuesFallen, SpreadsFrom}
+use Rattle.tree_rewire.proofs.Words.{◌≡◌, ◌⊎◌, ℕ, suc, ◌+◌, ◌*◌, ◌<◌, ◌≤◌, Option, Some, None, length, arith, inl, inr, refl, sym, ap, subst, cases_eq, mul-le}
+use Rattle.tree_rewire.proofs.Words.{CostsAtMostThrough, HasQueued, IsFound, LooksOn, LowersChildren, BelongsTo, GoesOn, PassState, SharedState, HasSeenParent}
+use Rattle.tree_rewire.proofs.Words.{IsOn, GoesOn-refl, GoesOn-trans, IsLawfulView, sees, TreeOf, cost_in, View, NamesLoweredOrPoint, PassLowers, SeesPair}
+use Rattle.tree_rewire.proofs.Words.{cost_seen, IsSpreading, IsWithinParent, IsWithinSeenParent, NoneRises, OnlyAt, QueuesFallen, SpreadsFrom}
 use Rattle.tree_rewire.proofs.LoweredCosts.{IsWithinParent-below}
 use Rattle.tree_rewire.proofs.SeenCosts.{SeesPair-later, cost_seen-later}
 use Rattle.tree_rewire.proofs.SpreadCosts.{IsSpreading-lowers, weigh, weigh-less, weigh-lower, fallen_low}

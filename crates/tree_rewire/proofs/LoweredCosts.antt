@@ -1,9 +1,6 @@
 -- When a cost may be lowered, and when it need not.
-use Rattle.std.proofs.Common.{◌≡◌, ℕ, ◌+◌, ◌<◌, ◌≤◌, is_some, arith, refl, sym, ap, ◌∙◌, subst}
-use Rattle.grown_runs.proofs.Common.{Point, cost_of, IsAllowedEdge, IsPresent, point_of, point_of-stands, TreeOf, cost_in, parent_in}
-use Rattle.plan_words.specs.Parents.{IsPairIn}
-use Rattle.step_core.proofs.Common.{IsLawfulView, MayLower, SeesPoint, sees, setup_in, tree_seen}
-use Rattle.step_core.specs.declared.views.View.{View}
+use Rattle.tree_rewire.proofs.Words.{◌≡◌, ℕ, ◌+◌, ◌<◌, ◌≤◌, is_some, arith, refl, sym, ap, ◌∙◌, subst, Point, cost_of, IsAllowedEdge, IsPresent, point_of}
+use Rattle.tree_rewire.proofs.Words.{point_of-stands, TreeOf, cost_in, parent_in, IsPairIn, IsLawfulView, MayLower, SeesPoint, sees, setup_in, tree_seen, View}
 use Rattle.tree_rewire.proofs.Words.{SeesPair, cost_seen, seen_cost_through, parent_seen, IsWithinSeenParent, IsWithinParent}
 
 -- a node may be lowered to less than it was seen to cost, through a seen parent over an allowed edge

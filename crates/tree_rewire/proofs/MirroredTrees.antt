@@ -1,12 +1,9 @@
 -- A tree of the textbook that a view with the whole share sees: its costs are exact, and exact costs are sums.
-use Rattle.std.proofs.Common.{◌≡◌, ℕ, zero, suc, ◌+◌, ◌<◌, is_some, arith, refl, sym, ap, ◌∙◌, subst}
-use Rattle.std.specs.Prelude.{unwrap_or}
-use Rattle.grown_runs.proofs.Common.{cost_of, KeepsOrder, IsPresent, point_at, point_of, Nodes, AreTight, CostsFall, edge_of, parent_of, points_of, TreeState}
-use Rattle.grown_runs.proofs.Common.{sum-parent, sums-tight, KeepsOrder-falls, PointOf, TreeOf, cost_in, parent_in}
-use Rattle.plan_words.proofs.Common.{SeesAsBefore, HasWholeShare}
-use Rattle.step_core.proofs.Common.{IsLater, IsLawfulView, state_of_links, run_sizes, sees, setup_in, tree_seen, point_at-kept}
-use Rattle.step_core.specs.declared.views.View.{View}
-use Rattle.tree_rewire.proofs.Words.{Mirrors, SeesPair, cost_seen, seen_cost_through, parent_seen, AllTight}
+use Rattle.tree_rewire.proofs.Words.{◌≡◌, ℕ, zero, suc, ◌+◌, ◌<◌, is_some, arith, refl, sym, ap, ◌∙◌, subst, unwrap_or, cost_of, KeepsOrder, IsPresent}
+use Rattle.tree_rewire.proofs.Words.{point_at, point_of, Nodes, AreTight, CostsFall, edge_of, parent_of, points_of, TreeState, sum-parent, sums-tight}
+use Rattle.tree_rewire.proofs.Words.{KeepsOrder-falls, PointOf, TreeOf, cost_in, parent_in, SeesAsBefore, HasWholeShare, IsLater, IsLawfulView, state_of_links}
+use Rattle.tree_rewire.proofs.Words.{run_sizes, sees, setup_in, tree_seen, point_at-kept, View, Mirrors, SeesPair, cost_seen, seen_cost_through, parent_seen}
+use Rattle.tree_rewire.proofs.Words.{AllTight}
 use Rattle.tree_rewire.proofs.TightCosts.{IsPresent-linked, IsPresent-unlinked}
 
 -- if all words are seen as before, so is the tree

@@ -1,16 +1,10 @@
 -- The nodes on a list of a pass, and what is known of them.
-use Rattle.std.proofs.Common.{◌≡◌, refl, ap, ◌∙◌}
-use Rattle.std.specs.Prelude.{All}
-use Rattle.std.proofs.lemmas.List.Elements.{All-map}
-use Rattle.grown_runs.proofs.Common.{IsPresent-stands, Point}
-use Rattle.plan_words.proofs.Common.{SearchLists, numbers_of, GoesOn, Lists, PassState, with_lists, with_view}
-use Rattle.plan_words.specs.declared.spots.Found.{Found}
-use Rattle.step_core.proofs.Common.{IsPresent-later, tree_seen}
-use Rattle.step_core.specs.declared.views.View.{View}
+use Rattle.tree_rewire.proofs.Words.{◌≡◌, refl, ap, ◌∙◌, All, All-map, IsPresent-stands, Point, SearchLists, numbers_of, GoesOn, Lists, PassState, with_lists}
+use Rattle.tree_rewire.proofs.Words.{with_view, Found, IsPresent-later, tree_seen, View, AreKnown, StandOn, nodes_on, weighed_on, IsInReach, SeesPair, SeesKnot}
+use Rattle.tree_rewire.proofs.Words.{NearNodes, Listed, Searched}
 use Rattle.tree_rewire.proofs.ChosenFound.{AllWeighed-seen}
 use Rattle.tree_rewire.proofs.FoundLists.{numbers-weighed}
 use Rattle.tree_rewire.proofs.SeenCosts.{SeesPair-later, stands_later}
-use Rattle.tree_rewire.proofs.Words.{AreKnown, StandOn, nodes_on, weighed_on, IsInReach, SeesPair, SeesKnot, NearNodes, Listed, Searched}
 
 -- they stay while these lists do
 pub nodes_on-kept : (among : NearNodes) (before after : Lists) → after.near ≡ before.near → after.search ≡ before.search

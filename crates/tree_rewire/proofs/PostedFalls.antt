@@ -1,10 +1,6 @@
 -- Goal nodes of which the best word is at most the pair, while a pass with the whole share lowers costs.
-use Rattle.std.proofs.Common.{◌≡◌, ℕ, ◌<◌, ◌≤◌, ◌^◌, Result, Ok, Err, arith, ap, ◌∙◌}
-use Rattle.std.specs.Prelude.{IfOk, IsOk}
-use Rattle.plan_words.proofs.Common.{HasPostedGoals, GoesOn, HasPostedGoals-more, SeesGoal-kept}
-use Rattle.step_core.proofs.Common.{SeesGoal, sees}
-use Rattle.grown_runs.proofs.Common.{WritesWord, PointOf, TreeOf, best_word, cost_in, tree_word, cost_in-tree_word}
-use Rattle.step_core.specs.declared.views.View.{View}
+use Rattle.tree_rewire.proofs.Words.{◌≡◌, ℕ, ◌<◌, ◌≤◌, ◌^◌, Result, Ok, Err, arith, ap, ◌∙◌, IfOk, IsOk, HasPostedGoals, GoesOn, HasPostedGoals-more}
+use Rattle.tree_rewire.proofs.Words.{SeesGoal-kept, SeesGoal, sees, WritesWord, PointOf, TreeOf, best_word, cost_in, tree_word, cost_in-tree_word, View}
 
 -- a node is lowered, and posted if it is a goal node
 pub HasPostedGoals-lower : (before after : View) (n parent cost value : ℕ) (result : Result Unit (ℕ × ℕ)) → parent < 2 ^ 18 → cost < 2 ^ 44

@@ -1,22 +1,12 @@
 -- Of the nodes found those that are dearer than through a new one are rewired, in rising number; the others need not be looked at.
-use Rattle.std.proofs.Common.{◌≡◌, ℕ, suc, ◌+◌, ◌≤◌, Bool, true, false, List, Option, Some, is_some}
-use Rattle.std.proofs.Common.{arith, refl, sym, ap, ◌∙◌, subst}
-use Rattle.std.specs.Prelude.{All, Contains, IsPermutation, filter, nat_lt, eqb, unwrap_or}
-use Rattle.std.specs.List.Sorted.{IsNonDecreasing, IsStrictlyIncreasing}
-use Rattle.std.specs.Ordering.{nat_cmp}
-use Rattle.std.proofs.lemmas.Bool.{ltb-false}
-use Rattle.std.proofs.lemmas.List.Elements.{All-contains, All-contains_itself, All-filter, Contains-get_or, filter_passes}
-use Rattle.std.proofs.lemmas.List.Kept.{IsStrictlySortedBy-filter}
-use Rattle.std.proofs.lemmas.List.Sorted.{Contains-permutation, IsPermutation-map, IsPermutation-sym}
-use Rattle.std.proofs.lemmas.Map.Keys.{IsDistinct-IsPermutation, IsStrictlyIncreasing-from_distinct, sorted_from_strictly_increasing}
-use Rattle.grown_runs.proofs.Common.{Point, cost_of, Nodes, Rewires, ConfigurationSpace, CostsFall, parent_of, points_of, sum_of, AreDistinct, IsPresent}
-use Rattle.grown_runs.proofs.Common.{point_of, cost_of-swap, Contains-filter, point_of-stands}
-use Rattle.plan_words.proofs.Common.{is_dearer, numbers_of, HasWholeShare, tree_words, Contains-number, distinct_numbers, eqb-swap, same_numbers, if_hand}
-use Rattle.plan_words.specs.declared.spots.Found.{Found}
-use Rattle.step_core.proofs.Common.{IsLawfulView, tree_seen, SeesPoint}
-use Rattle.step_core.specs.declared.views.View.{View}
-use Rattle.tree_rewire.proofs.Words.{AreOf, IsWeighed, Mirrors, HasPlaced, IsInReach, cost_seen}
-use Rattle.step_core.specs.declared.views.Hand.{Hand}
+use Rattle.tree_rewire.proofs.Words.{◌≡◌, ℕ, suc, ◌+◌, ◌≤◌, Bool, true, false, List, Option, Some, is_some, arith, refl, sym, ap, ◌∙◌, subst, All, Contains}
+use Rattle.tree_rewire.proofs.Words.{IsPermutation, filter, nat_lt, eqb, unwrap_or, IsNonDecreasing, IsStrictlyIncreasing, nat_cmp, ltb-false, All-contains}
+use Rattle.tree_rewire.proofs.Words.{All-contains_itself, All-filter, Contains-get_or, filter_passes, IsStrictlySortedBy-filter, Contains-permutation}
+use Rattle.tree_rewire.proofs.Words.{IsPermutation-map, IsPermutation-sym, IsDistinct-IsPermutation, IsStrictlyIncreasing-from_distinct}
+use Rattle.tree_rewire.proofs.Words.{sorted_from_strictly_increasing, Point, cost_of, Nodes, Rewires, ConfigurationSpace, CostsFall, parent_of, points_of}
+use Rattle.tree_rewire.proofs.Words.{sum_of, AreDistinct, IsPresent, point_of, cost_of-swap, Contains-filter, point_of-stands, is_dearer, numbers_of}
+use Rattle.tree_rewire.proofs.Words.{HasWholeShare, tree_words, Contains-number, distinct_numbers, eqb-swap, same_numbers, if_hand, Found, IsLawfulView}
+use Rattle.tree_rewire.proofs.Words.{tree_seen, SeesPoint, View, AreOf, IsWeighed, Mirrors, HasPlaced, IsInReach, cost_seen, Hand}
 use Rattle.tree_rewire.proofs.RewiredNodes.{placed_cost}
 use Rattle.tree_rewire.proofs.FoundLists.{Contains-image, Contains-kept, kept_passes}
 use Rattle.tree_rewire.proofs.MirroredTrees.{CostsFall-seen}

@@ -1,15 +1,8 @@
 -- Near nodes that were looked at whether they are cheaper below a new one.
-use Rattle.std.proofs.Common.{◌≡◌, ℕ, suc, ◌+◌, ◌≤◌, true, List, Some, arith, refl, sym, ap, ◌∙◌, subst}
-use Rattle.std.specs.Prelude.{All, Contains, IfSome}
-use Rattle.std.proofs.lemmas.List.Elements.{All-contains}
-use Rattle.grown_runs.proofs.Common.{Point, Clear, ConfigurationSpace, cost_of, IsPresent, point_of, FirstOf, cost_in, cost_in-tree_word}
-use Rattle.plan_words.proofs.Common.{GoesOn, at_hand, if_hand}
-use Rattle.step_core.proofs.Common.{IsLawfulView, has_count, has_first, SeesPoint, sees, tree_seen}
-use Rattle.step_core.specs.declared.views.Hand.{Hand}
-use Rattle.step_core.specs.declared.views.Stage.{Stage}
-use Rattle.step_core.specs.declared.views.Stage.TheVariants.{Claimed, Counted, Half, Linked, Pointed, Posted, Treed}
-use Rattle.step_core.specs.declared.views.View.{View}
-use Rattle.tree_rewire.proofs.Words.{HasPlaced, IsInReach, SeesPair, cost_seen}
+use Rattle.tree_rewire.proofs.Words.{◌≡◌, ℕ, suc, ◌+◌, ◌≤◌, true, List, Some, arith, refl, sym, ap, ◌∙◌, subst, All, Contains, IfSome, All-contains, Point}
+use Rattle.tree_rewire.proofs.Words.{Clear, ConfigurationSpace, cost_of, IsPresent, point_of, FirstOf, cost_in, cost_in-tree_word, GoesOn, at_hand, if_hand}
+use Rattle.tree_rewire.proofs.Words.{IsLawfulView, has_count, has_first, SeesPoint, sees, tree_seen, Hand, Stage, Claimed, Counted, Half, Linked, Pointed}
+use Rattle.tree_rewire.proofs.Words.{Posted, Treed, View, HasPlaced, IsInReach, SeesPair, cost_seen}
 use Rattle.tree_rewire.proofs.ChosenParents.{points_later}
 use Rattle.tree_rewire.proofs.SeenCosts.{SeesPair-later, cost_seen-later}
 

@@ -1,14 +1,10 @@
 -- One near node of a tree that a view with the whole share sees is looked at: it gets the new node as its parent if that is cheaper.
-use Rattle.std.proofs.Common.{◌≡◌, ◌≢◌, ℕ, ◌+◌, ◌-◌, ◌<◌, ◌^◌, List, ◌∷◌, is_some, arith, inl, inr, refl, sym, ap, ◌∙◌, subst}
-use Rattle.std.specs.Prelude.{unwrap_or}
-use Rattle.std.proofs.lemmas.Bool.{cases_eq}
-use Rattle.grown_runs.proofs.Common.{Point, Clear, ConfigurationSpace, cost_of, IsPresent, point_at, point_of, IsCheaperThrough, Nodes, RewiresOne, Rewires}
-use Rattle.grown_runs.proofs.Common.{with_parent, parent_of, points_of, point_of-stands, HasCheaperParent, parent_kept, parent_new, points_of-cheaper_parent}
-use Rattle.grown_runs.proofs.Common.{WritesWord, PointOf, TreeOf, cost_in, parent_in, tree_word, cost_in-tree_word, parent_in-tree_word}
-use Rattle.plan_words.specs.States.{GoesOn, HasWholeShare}
-use Rattle.step_core.proofs.Common.{IsLater, IsLawfulView, SeesPoint, sees, tree_seen, point_at-kept}
-use Rattle.step_core.specs.declared.views.View.{View}
-use Rattle.tree_rewire.proofs.Words.{Mirrors, SeesPair, cost_seen, seen_cost_through, parent_seen, AllTight, AllTightBut, IsTight, KeepsParents, SeesKnot}
+use Rattle.tree_rewire.proofs.Words.{◌≡◌, ◌≢◌, ℕ, ◌+◌, ◌-◌, ◌<◌, ◌^◌, List, ◌∷◌, is_some, arith, inl, inr, refl, sym, ap, ◌∙◌, subst, unwrap_or, cases_eq}
+use Rattle.tree_rewire.proofs.Words.{Point, Clear, ConfigurationSpace, cost_of, IsPresent, point_at, point_of, IsCheaperThrough, Nodes, RewiresOne, Rewires}
+use Rattle.tree_rewire.proofs.Words.{with_parent, parent_of, points_of, point_of-stands, HasCheaperParent, parent_kept, parent_new, points_of-cheaper_parent}
+use Rattle.tree_rewire.proofs.Words.{WritesWord, PointOf, TreeOf, cost_in, parent_in, tree_word, cost_in-tree_word, parent_in-tree_word, GoesOn, HasWholeShare}
+use Rattle.tree_rewire.proofs.Words.{IsLater, IsLawfulView, SeesPoint, sees, tree_seen, point_at-kept, View, Mirrors, SeesPair, cost_seen, seen_cost_through}
+use Rattle.tree_rewire.proofs.Words.{parent_seen, AllTight, AllTightBut, IsTight, KeepsParents, SeesKnot}
 use Rattle.tree_rewire.proofs.MirroredTrees.{AllTight-mirrored, Mirrors-tight}
 use Rattle.tree_rewire.proofs.SeenCosts.{SeesPair-later, pair_low}
 

@@ -1,11 +1,8 @@
 -- What a lawful view has seen of nodes, and what stays of it.
-use Rattle.std.proofs.Common.{◌≡◌, ℕ, ◌≤◌, is_some, length, arith, sym, ap, ◌∙◌, inl, inr}
-use Rattle.grown_runs.proofs.Common.{Point, IsPresent, point_of, StandsAt-present, StandsAt-unique, Word, WritesWord, PointOf, TreeOf, cost_in, point_of_word}
-use Rattle.grown_runs.proofs.Common.{if_written-set}
-use Rattle.plan_words.specs.States.{GoesOn}
-use Rattle.step_core.proofs.Common.{IsLawfulView, SeesNode, SeesPoint, run_sizes, sees, tree_seen, same_name, SeesPoint-later, point_at-seen, seen-within}
-use Rattle.step_core.specs.declared.views.View.{View}
-use Rattle.tree_rewire.specs.SeenCosts.{IsLoadedSince, SeesPair, cost_seen, parent_seen}
+use Rattle.tree_rewire.proofs.Words.{◌≡◌, ℕ, ◌≤◌, is_some, length, arith, sym, ap, ◌∙◌, inl, inr, Point, IsPresent, point_of, StandsAt-present, StandsAt-unique}
+use Rattle.tree_rewire.proofs.Words.{Word, WritesWord, PointOf, TreeOf, cost_in, point_of_word, if_written-set, GoesOn, IsLawfulView, SeesNode, SeesPoint}
+use Rattle.tree_rewire.proofs.Words.{run_sizes, sees, tree_seen, same_name, SeesPoint-later, point_at-seen, seen-within, View, IsLoadedSince, SeesPair}
+use Rattle.tree_rewire.proofs.Words.{cost_seen, parent_seen}
 
 -- ---- nodes
 

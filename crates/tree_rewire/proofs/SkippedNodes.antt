@@ -1,11 +1,9 @@
 -- Rewiring the near nodes that are dearer than through the new one is rewiring all: the others would stay as they are.
-use Rattle.std.proofs.Common.{◌≡◌, ◌≢◌, ℕ, zero, suc, ◌+◌, ◌-◌, ◌<◌, ◌≤◌, Bool, true, false, cond, List, [], ◌∷◌, arith, inl, inr, refl, sym, ap, subst}
-use Rattle.std.specs.Prelude.{All, Contains, filter}
-use Rattle.std.proofs.lemmas.Bool.{cases_eq}
-use Rattle.std.proofs.lemmas.List.Elements.{All-contains, All-head, All-tail}
-use Rattle.grown_runs.proofs.Common.{ConfigurationSpace, cost_of, Nodes, Rewires, RewiresOne, cost_through, AreTight, CostsFall, edge_of, parent_of, points_of}
-use Rattle.grown_runs.proofs.Common.{sum_of, AreDistinct, IsPresent, point_of, AreTight-sums, Contains-after, Contains-first, CostsFall-cheaper_parent}
-use Rattle.grown_runs.proofs.Common.{CostsFall-tight, HasCheaperParent, IsPresent-cheaper_parent, edge_from, parent_kept, parent_new, points_of-cheaper_parent}
+use Rattle.tree_rewire.proofs.Words.{◌≡◌, ◌≢◌, ℕ, zero, suc, ◌+◌, ◌-◌, ◌<◌, ◌≤◌, Bool, true, false, cond, List, [], ◌∷◌, arith, inl, inr, refl, sym, ap, subst}
+use Rattle.tree_rewire.proofs.Words.{All, Contains, filter, cases_eq, All-contains, All-head, All-tail, ConfigurationSpace, cost_of, Nodes, Rewires, RewiresOne}
+use Rattle.tree_rewire.proofs.Words.{cost_through, AreTight, CostsFall, edge_of, parent_of, points_of, sum_of, AreDistinct, IsPresent, point_of, AreTight-sums}
+use Rattle.tree_rewire.proofs.Words.{Contains-after, Contains-first, CostsFall-cheaper_parent, CostsFall-tight, HasCheaperParent, IsPresent-cheaper_parent}
+use Rattle.tree_rewire.proofs.Words.{edge_from, parent_kept, parent_new, points_of-cheaper_parent}
 
 -- ---- one node is rewired
 

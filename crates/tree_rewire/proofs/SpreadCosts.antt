@@ -1,12 +1,8 @@
 -- Costs that fall come to the nodes below.
-use Rattle.std.proofs.Common.{◌≡◌, ◌≢◌, ◌⊎◌, ℕ, zero, suc, ◌+◌, ◌<◌, ◌≤◌, ◌^◌, List, [], length, is_some, arith, inl, inr, refl, sym, ap, ◌∙◌, subst}
-use Rattle.std.proofs.lemmas.Bool.{cases_eq}
-use Rattle.grown_runs.proofs.Common.{cost_of, IsPresent, point_of, TreeOf, cost_in, parent_in}
-use Rattle.plan_words.proofs.Common.{LowersChildren, GoesOn, HasSeenParent, IsOn, GoesOn-refl, GoesOn-trans}
-use Rattle.step_core.proofs.Common.{IsLawfulView, sees, tree_seen, IsPresent-later}
-use Rattle.step_core.specs.declared.views.View.{View}
-use Rattle.tree_rewire.specs.SeenCosts.{SeesPair, cost_seen, seen_cost_through, parent_seen}
-use Rattle.tree_rewire.specs.Spreads.{HasSettledChanges, HasSpread, IsLooked, IsSource, IsSpreading, IsWithinParent, IsWithinSeenParent, NoneRises}
+use Rattle.tree_rewire.proofs.Words.{◌≡◌, ◌≢◌, ◌⊎◌, ℕ, zero, suc, ◌+◌, ◌<◌, ◌≤◌, ◌^◌, List, [], length, is_some, arith, inl, inr, refl, sym, ap, ◌∙◌, subst}
+use Rattle.tree_rewire.proofs.Words.{cases_eq, cost_of, IsPresent, point_of, TreeOf, cost_in, parent_in, LowersChildren, GoesOn, HasSeenParent, IsOn}
+use Rattle.tree_rewire.proofs.Words.{GoesOn-refl, GoesOn-trans, IsLawfulView, sees, tree_seen, IsPresent-later, View, SeesPair, cost_seen, seen_cost_through}
+use Rattle.tree_rewire.proofs.Words.{parent_seen, HasSettledChanges, HasSpread, IsLooked, IsSource, IsSpreading, IsWithinParent, IsWithinSeenParent, NoneRises}
 use Rattle.tree_rewire.proofs.ChosenParents.{points_later}
 use Rattle.tree_rewire.proofs.SeenCosts.{SeesPair-later, pair_low}
 

@@ -1,11 +1,7 @@
 -- While near nodes are rewired, what fell comes to the nodes below.
-use Rattle.std.proofs.Common.{◌≡◌, ◌≢◌, ◌⊎◌, ℕ, ◌+◌, ◌<◌, arith, inl, inr, sym, ap, ◌∙◌, subst}
-use Rattle.std.proofs.lemmas.Bool.{cases_eq}
-use Rattle.grown_runs.proofs.Common.{Point, Clear, ConfigurationSpace, cost_of, IsPresent, point_of, point_of-stands, TreeOf, cost_in, parent_in}
-use Rattle.plan_words.specs.States.{GoesOn}
-use Rattle.step_core.proofs.Common.{SeesPoint, sees, tree_seen, IsPresent-later}
-use Rattle.step_core.specs.declared.views.View.{View}
-use Rattle.tree_rewire.proofs.Words.{CostsLess, HangsElsewhere, HasSpreadFalls, IsInFall, IsShortcut, SeesPair, cost_seen, seen_cost_through, parent_seen}
+use Rattle.tree_rewire.proofs.Words.{◌≡◌, ◌≢◌, ◌⊎◌, ℕ, ◌+◌, ◌<◌, arith, inl, inr, sym, ap, ◌∙◌, subst, cases_eq, Point, Clear, ConfigurationSpace, cost_of}
+use Rattle.tree_rewire.proofs.Words.{IsPresent, point_of, point_of-stands, TreeOf, cost_in, parent_in, GoesOn, SeesPoint, sees, tree_seen, IsPresent-later}
+use Rattle.tree_rewire.proofs.Words.{View, CostsLess, HangsElsewhere, HasSpreadFalls, IsInFall, IsShortcut, SeesPair, cost_seen, seen_cost_through, parent_seen}
 use Rattle.tree_rewire.proofs.Words.{HasSettledChanges, HasSpread, IsWithinParent}
 use Rattle.tree_rewire.proofs.ChosenParents.{points_later}
 use Rattle.tree_rewire.proofs.SeenCosts.{SeesPair-later, cost_seen-later, stands_later}

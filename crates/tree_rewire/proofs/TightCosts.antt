@@ -1,12 +1,8 @@
 -- The tree that a view with the whole share sees keeps the order law: so costs that are at most what they are through parents are exact.
-use Rattle.std.proofs.Common.{◌≡◌, ◌≢◌, ℕ, zero, suc, ◌<◌, ◌≤◌, is_some, arith, inl, inr, sym, ap, ◌∙◌, subst}
-use Rattle.std.specs.Prelude.{unwrap_or}
-use Rattle.std.proofs.lemmas.Bool.{cases_eq, cases_lt}
-use Rattle.grown_runs.proofs.Common.{cost_of, KeepsOrder, IsPresent, point_at, point_of, PointOf, Sizes}
-use Rattle.step_core.proofs.Common.{IsLater, IsLawfulView, linked_points, state_of_links, run_sizes, sees, setup_in, tree_seen, point_at-kept}
-use Rattle.step_core.proofs.Common.{linked_points-seen}
-use Rattle.step_core.specs.declared.views.View.{View}
-use Rattle.tree_rewire.proofs.Words.{cost_seen, seen_cost_through, parent_seen, AllTight, AllTightBut, HasSpread, IsSource, KeepsParents, SeesKnot}
+use Rattle.tree_rewire.proofs.Words.{◌≡◌, ◌≢◌, ℕ, zero, suc, ◌<◌, ◌≤◌, is_some, arith, inl, inr, sym, ap, ◌∙◌, subst, unwrap_or, cases_eq, cases_lt, cost_of}
+use Rattle.tree_rewire.proofs.Words.{KeepsOrder, IsPresent, point_at, point_of, PointOf, Sizes, IsLater, IsLawfulView, linked_points, state_of_links, run_sizes}
+use Rattle.tree_rewire.proofs.Words.{sees, setup_in, tree_seen, point_at-kept, linked_points-seen, View, cost_seen, seen_cost_through, parent_seen, AllTight}
+use Rattle.tree_rewire.proofs.Words.{AllTightBut, HasSpread, IsSource, KeepsParents, SeesKnot}
 
 -- ---- the order law of what is seen
 

@@ -1,13 +1,8 @@
 -- What steps of a pass with the whole share leave of what it has seen: loads show nothing new, and lowered children keep their parent.
-use Rattle.std.proofs.Common.{◌≡◌, ℕ, ◌≤◌, ◌⊎◌, Result, Ok, Err, length, arith, inl, inr, sym, ap, ◌∙◌}
-use Rattle.std.specs.Prelude.{IfOk, IsOk}
-use Rattle.std.proofs.lemmas.Bool.{cases_eq}
-use Rattle.plan_words.proofs.Common.{SeesAsBefore, IsLoweredChild, LooksOn, LowersChildren, SeesSamePoints, HasWholeShare}
-use Rattle.step_core.proofs.Common.{sees, same_name}
-use Rattle.grown_runs.proofs.Common.{Word, WritesWord, Best, ChildOf, Count, Counter, FirstOf, PointOf, RecordOf, TreeOf, cost_in, parent_in}
-use Rattle.step_core.specs.declared.views.SharedRun.{SharedRun}
-use Rattle.step_core.specs.declared.views.View.{View}
-use Rattle.tree_rewire.proofs.Words.{NamesNothing, NamesTree, SeesAnew, SeesPair, cost_seen, parent_seen, KeepsParents}
+use Rattle.tree_rewire.proofs.Words.{◌≡◌, ℕ, ◌≤◌, ◌⊎◌, Result, Ok, Err, length, arith, inl, inr, sym, ap, ◌∙◌, IfOk, IsOk, cases_eq, SeesAsBefore}
+use Rattle.tree_rewire.proofs.Words.{IsLoweredChild, LooksOn, LowersChildren, SeesSamePoints, HasWholeShare, sees, same_name, Word, WritesWord, Best, ChildOf}
+use Rattle.tree_rewire.proofs.Words.{Count, Counter, FirstOf, PointOf, RecordOf, TreeOf, cost_in, parent_in, SharedRun, View, NamesNothing, NamesTree, SeesAnew}
+use Rattle.tree_rewire.proofs.Words.{SeesPair, cost_seen, parent_seen, KeepsParents}
 
 -- the share stays whole
 pub HasWholeShare-later : (which : Word → Type 0) (before after : View) → SeesAnew which before after → HasWholeShare before → HasWholeShare after

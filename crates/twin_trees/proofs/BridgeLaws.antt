@@ -1,7 +1,5 @@
 -- There is one bridge between two trees, or none.
-use Rattle.std.proofs.Common.{◌≡◌, ℕ, Option, Some, None, arith, refl, sym}
-use Rattle.grown_runs.proofs.Common.{Setup, TreeState}
-use Rattle.twin_trees.specs.Bridges.{IsBridge, IsTripleNotAbove}
+use Rattle.twin_trees.proofs.Words.{◌≡◌, ℕ, Option, Some, None, arith, refl, sym, Setup, TreeState, IsBridge, IsTripleNotAbove}
 
 -- two triples of which neither is above the other have the same numbers
 same_numbers : (cost a b other_cost c d : ℕ) → IsTripleNotAbove cost a b other_cost c d → IsTripleNotAbove other_cost c d cost a b

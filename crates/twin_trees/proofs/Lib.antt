@@ -5,3 +5,4 @@ pub mod TurnedRanges
 pub mod TurnedRuns
 pub mod NumberedNodes
 pub mod BridgeLaws
+mod Words

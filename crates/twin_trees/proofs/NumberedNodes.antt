@@ -1,9 +1,6 @@
 -- The nodes of a tree as numbered points, one more of them.
-use Rattle.std.proofs.Common.{◌≡◌, ℕ, ◌+◌, ◌<◌, List, [], ◌∷◌, ◌++◌, All, Contains, arith, ap, sym, subst, ◌∙◌, inl, inr}
-use Rattle.std.proofs.lemmas.Bool.{cases_eq}
-use Rattle.std.proofs.lemmas.List.Elements.{All-push, Contains-append_left, Contains-push}
-use Rattle.grown_runs.proofs.Common.{IsBounded, IsPresent, StandsAt, point_of, TreeState, Point, point_of-stands}
-use Rattle.point_bands.specs.declared.bands.Numbered.{Numbered}
+use Rattle.twin_trees.proofs.Words.{◌≡◌, ℕ, ◌+◌, ◌<◌, List, [], ◌∷◌, ◌++◌, All, Contains, arith, ap, sym, subst, ◌∙◌, inl, inr, cases_eq, All-push}
+use Rattle.twin_trees.proofs.Words.{Contains-append_left, Contains-push, IsBounded, IsPresent, StandsAt, point_of, TreeState, Point, point_of-stands, Numbered}
 
 -- the numbered points are the nodes below a number
 pub record AreNodesBelow (state : TreeState) (nodes : List Numbered) (number : ℕ) : Type 0 where

@@ -1,17 +1,8 @@
 -- Pairs that were searched: what is within a step of a node, and what is too far.
-use Rattle.std.proofs.Common.{◌≡◌, ℕ, ◌+◌, ◌*◌, ◌<◌, ◌≤◌, List, Option, Some, length, arith, ap, sym, subst, inl, inr}
-use Rattle.std.specs.List.Sorted.{IsPermutation}
-use Rattle.std.proofs.lemmas.Bool.{cases_lt}
-use Rattle.std.proofs.lemmas.List.{get_or_read}
-use Rattle.std.proofs.lemmas.List.Sorted.{All-permutation, Contains-permutation}
-use Rattle.grown_runs.proofs.Common.{cost_of, squared_distance, IsAllowedEdge, KeepsOrder, Setup, Clear, StandsAt, point_of, TreeState, sum_in, Point}
-use Rattle.grown_runs.proofs.Common.{squared_distance-swap, IsPresent-stands, point_of-stands, cost_of-triangle}
-use Rattle.point_bands.specs.Discs.{IsWithin}
-use Rattle.point_bands.specs.Walks.{HasNoneBetween, nowhere, numbered_at}
-use Rattle.point_bands.specs.declared.bands.Numbered.{Numbered}
-use Rattle.twin_trees.specs.BridgeSearches.{AreNodes, Matches}
-use Rattle.twin_trees.specs.Bridges.{IsCandidate, cost_over}
-use Rattle.twin_trees.specs.declared.bridges.Bridge.{Bridge}
+use Rattle.twin_trees.proofs.Words.{◌≡◌, ℕ, ◌+◌, ◌*◌, ◌<◌, ◌≤◌, List, Option, Some, length, arith, ap, sym, subst, inl, inr, IsPermutation, cases_lt}
+use Rattle.twin_trees.proofs.Words.{get_or_read, All-permutation, Contains-permutation, cost_of, squared_distance, IsAllowedEdge, KeepsOrder, Setup, Clear}
+use Rattle.twin_trees.proofs.Words.{StandsAt, point_of, TreeState, sum_in, Point, squared_distance-swap, IsPresent-stands, point_of-stands, cost_of-triangle}
+use Rattle.twin_trees.proofs.Words.{IsWithin, HasNoneBetween, nowhere, numbered_at, Numbered, AreNodes, Matches, IsCandidate, cost_over, Bridge}
 use Rattle.twin_trees.proofs.StraightWays.{line-le_sum}
 use Rattle.twin_trees.proofs.TripleOrder.{IsMatched-more}
 

@@ -1,8 +1,6 @@
 -- No way from the start of a tree to a node costs less than the straight line between them.
-use Rattle.std.proofs.Common.{◌≡◌, ℕ, zero, suc, ◌≤◌, arith, ap, refl}
-use Rattle.std.specs.Int.{abs_diff}
-use Rattle.grown_runs.proofs.Common.{cost_of, squared_distance, Point, KeepsOrder, Setup, IsPresent, point_of, TreeState, sum_in, cost_of-swap, point_of-stands}
-use Rattle.grown_runs.proofs.Common.{KeepsOrder-falls, cost_of-short, sum_in-parent, cost_of-triangle}
+use Rattle.twin_trees.proofs.Words.{◌≡◌, ℕ, zero, suc, ◌≤◌, arith, ap, refl, abs_diff, cost_of, squared_distance, Point, KeepsOrder, Setup, IsPresent, point_of}
+use Rattle.twin_trees.proofs.Words.{TreeState, sum_in, cost_of-swap, point_of-stands, KeepsOrder-falls, cost_of-short, sum_in-parent, cost_of-triangle}
 
 -- an edge without length costs nothing
 no_cost : (p : Point) → cost_of p p ≤ 0

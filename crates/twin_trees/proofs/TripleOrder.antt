@@ -1,7 +1,5 @@
 -- The order of bridges: when one matches another, and when it is no worse.
-use Rattle.std.proofs.Common.{◌≡◌, ℕ, ◌<◌, Bool, true, false, not, Some, arith, refl}
-use Rattle.twin_trees.specs.BridgeOrder.{IsMatched}
-use Rattle.twin_trees.specs.declared.bridges.Bridge.{Bridge}
+use Rattle.twin_trees.proofs.Words.{◌≡◌, ℕ, ◌<◌, Bool, true, false, not, Some, arith, refl, IsMatched, Bridge}
 
 module _ (bridge : Bridge) (total a b : ℕ) where
   -- a way that costs more is matched

@@ -1,10 +1,7 @@
 -- A scene may be planned from its other end: the middle of its first goal may be a start, and its start a goal.
-use Rattle.std.proofs.Common.{◌≡◌, ◌≤◌, Bool, true, false, ◌&&◌, length, arith, refl, le-leb, leb-true}
-use Rattle.std.specs.Prelude.{IsTrue, nat_le, ◌==◌, if◌then◌else◌}
-use Rattle.std.specs.List.{list_all}
-use Rattle.std.proofs.lemmas.Bool.{and_from, and_parts}
-use Rattle.grown_runs.proofs.Common.{goals-some, true_at, MOST_GOALS, Scene, IsBetween, are_goals, is_goal, most_goals, most_side}
-use Rattle.twin_trees.specs.TurnedScenes.{box_of, first_goal, goal_middle, start_boxes}
+use Rattle.twin_trees.proofs.Words.{◌≡◌, ◌≤◌, Bool, true, false, ◌&&◌, length, arith, refl, le-leb, leb-true, IsTrue, nat_le, ◌==◌, if◌then◌else◌, list_all}
+use Rattle.twin_trees.proofs.Words.{and_from, and_parts, goals-some, true_at, MOST_GOALS, Scene, IsBetween, are_goals, is_goal, most_goals, most_side, box_of}
+use Rattle.twin_trees.proofs.Words.{first_goal, goal_middle, start_boxes}
 
 -- the first goal of a scene is one
 is_goal-first : (scene : Scene) → is_goal scene.version (first_goal scene) ≡ true

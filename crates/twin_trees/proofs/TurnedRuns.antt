@@ -1,10 +1,6 @@
 -- What a scene and the scene from its other end have in common, and whole runs of either.
-use Rattle.std.proofs.Common.{◌≡◌, ◌<◌, ℕ, List, Some, length, ap, sym, subst, ◌∙◌}
-use Rattle.grown_runs.proofs.Common.{IsClosed, IsOfTextbookRun, setup_of, mark_points, ClearAt, space_of, IsSettled, Point, Record, Scene, Task, state_of_grown}
-use Rattle.grown_runs.specs.declared.grown.Grown.{Grown}
-use Rattle.twin_trees.specs.TurnedScenes.{IsTurnedRound, goal_middle}
-use Rattle.twin_trees.specs.Twins.{IsTwin, IsWholeRun}
-use Rattle.twin_trees.specs.declared.twin_runs.Twin.{Twin}
+use Rattle.twin_trees.proofs.Words.{◌≡◌, ◌<◌, ℕ, List, Some, length, ap, sym, subst, ◌∙◌, IsClosed, IsOfTextbookRun, setup_of, mark_points, ClearAt, space_of}
+use Rattle.twin_trees.proofs.Words.{IsSettled, Point, Record, Scene, Task, state_of_grown, Grown, IsTurnedRound, goal_middle, IsTwin, IsWholeRun, Twin}
 
 module _ (scene turned : Scene) (h : IsTurnedRound scene turned) where
   -- one collision checker serves both

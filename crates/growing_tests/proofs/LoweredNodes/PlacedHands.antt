@@ -1,16 +1,6 @@
 -- A node in hand that was placed, whose near nodes may be rewired then.
-use Rattle.std.proofs.Common.{◌≡◌, ℕ, ◌<◌, Some}
-use Rattle.std.specs.Prelude.{All, IfSome}
-use Rattle.kd_shared.specs.Placings.{IsPlacing}
-use Rattle.kd_shared.specs.declared.placing.Placing.{Placing}
-use Rattle.kd_shared.specs.declared.placing.Placing.TheVariants.{Placed, Same}
-use Rattle.plan_words.proofs.Common.{BelongsTo, GoesOn, PassState, SharedState, at_hand, if_hand}
-use Rattle.step_core.specs.Views.{share}
-use Rattle.step_core.specs.declared.views.Hand.{Hand}
-use Rattle.step_core.specs.declared.views.Stage.TheVariants.{Counted}
-use Rattle.tree_rewire.specs.SeenCosts.{IsInReach}
-use Rattle.plan_work.proofs.PlacedHands.{HasPlaced-placed, IsSome-placed}
-use Rattle.growing_tests.specs.LoweredNodes.HeldMarks.{HasNearInReach, IfPlaced, MayRewire}
+use Rattle.growing_tests.proofs.Words.{◌≡◌, ℕ, ◌<◌, Some, All, IfSome, IsPlacing, Placing, Placed, Same, BelongsTo, GoesOn, PassState, SharedState, at_hand}
+use Rattle.growing_tests.proofs.Words.{if_hand, share, Hand, Counted, IsInReach, HasPlaced-placed, IsSome-placed, HasNearInReach, IfPlaced, MayRewire}
 use Rattle.growing_tests.proofs.LoweredNodes.ReachedNodes.{All-in_reach-later}
 
 pub MayRewire-placed : (shared : SharedState) (before after : PassState) (k : ℕ) (hand : Hand) (result : Placing) → BelongsTo after shared

@@ -1,18 +1,9 @@
 -- Nodes that are at most a step from a point, and the parent that is chosen among them.
-use Rattle.std.proofs.Common.{◌≡◌, ℕ, ◌*◌, ◌≤◌, true, Some, List, ◌∷◌, is_some, arith, refl, sym, ap, subst}
-use Rattle.std.specs.Prelude.{All, Contains}
-use Rattle.std.proofs.lemmas.List.Elements.{Contains-get_or}
-use Rattle.std.proofs.lemmas.Nat.{mul-le}
-use Rattle.grown_runs.proofs.Common.{Point, Clear, mark_at, ConfigurationSpace, cost_of, squared_distance, IsFirstLeast, IsOpenTo, IsPresent, point_of, Sight}
-use Rattle.grown_runs.proofs.Common.{StandsAt-present, point_of-stands, IsStep-steered}
-use Rattle.kd_shared.specs.Searches.{AreNearSeen}
-use Rattle.kd_shared.proofs.SearchResults.{AreNearSeen-only}
-use Rattle.plan_words.specs.States.{GoesOn}
-use Rattle.step_core.proofs.Common.{IsLawfulView, has_point, IsCostBelow, MayHang, SeesCost, SeesPoint, sight_in, tree_seen}
-use Rattle.step_core.specs.declared.views.Hand.{Hand}
-use Rattle.step_core.specs.declared.views.View.{View}
-use Rattle.tree_rewire.specs.SeenCosts.{IsInReach, SeesPair, cost_seen, seen_cost_through}
-use Rattle.tree_rewire.proofs.ChosenParents.{IsInReach-later}
+use Rattle.growing_tests.proofs.Words.{◌≡◌, ℕ, ◌*◌, ◌≤◌, true, Some, List, ◌∷◌, is_some, arith, refl, sym, ap, subst, All, Contains, Contains-get_or, mul-le}
+use Rattle.growing_tests.proofs.Words.{Point, Clear, mark_at, ConfigurationSpace, cost_of, squared_distance, IsFirstLeast, IsOpenTo, IsPresent, point_of, Sight}
+use Rattle.growing_tests.proofs.Words.{StandsAt-present, point_of-stands, IsStep-steered, AreNearSeen, AreNearSeen-only, GoesOn, IsLawfulView, has_point}
+use Rattle.growing_tests.proofs.Words.{IsCostBelow, MayHang, SeesCost, SeesPoint, sight_in, tree_seen, Hand, View, IsInReach, SeesPair, cost_seen}
+use Rattle.growing_tests.proofs.Words.{seen_cost_through, IsInReach-later}
 
 -- a node that is seen so close is in reach
 IsInReach-stands : (view : View) (p q : Point) (n : ℕ) → SeesPoint view n q → squared_distance q p ≤ view.run.step * view.run.step → IsInReach view p n

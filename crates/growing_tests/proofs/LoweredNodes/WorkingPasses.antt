@@ -1,10 +1,6 @@
 -- Passes with a share.
-use Rattle.std.proofs.Common.{◌≡◌, true, [], cond, length, arith, sym, ap, ◌∙◌}
-use Rattle.plan_model.proofs.SceneBounds.{goals-some}
-use Rattle.plan_words.proofs.Common.{BelongsTo, GoesOn, MayClaim, PassState, SharedState, run_in, with_view, BelongsTo-later}
-use Rattle.step_core.proofs.Common.{IsInformed, best_loaded}
-use Rattle.step_core.specs.declared.views.View.{View}
-use Rattle.growing_tests.specs.LoweredNodes.HeldMarks.{IsAtWork}
+use Rattle.growing_tests.proofs.Words.{◌≡◌, true, [], cond, length, arith, sym, ap, ◌∙◌, goals-some, BelongsTo, GoesOn, MayClaim, PassState, SharedState}
+use Rattle.growing_tests.proofs.Words.{run_in, with_view, BelongsTo-later, IsInformed, best_loaded, View, IsAtWork}
 
 -- one with nothing in hand
 pub IsAtWork-claims : (shared : SharedState) (pass : PassState) → MayClaim shared pass → IsAtWork shared pass

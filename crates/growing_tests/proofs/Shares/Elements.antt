@@ -1,6 +1,5 @@
 -- Elements of a list by their index.
-use Rattle.std.proofs.Common.{◌≡◌, ℕ, zero, suc, ◌<◌, List, [], ◌∷◌, length, refl, arith}
-use Rattle.std.specs.Prelude.{slice_index_or}
+use Rattle.growing_tests.proofs.Words.{◌≡◌, ℕ, zero, suc, ◌<◌, List, [], ◌∷◌, length, refl, arith, slice_index_or}
 use mathlib.Core.Option.{some}
 use lib.ListN.{get_elem?}
 

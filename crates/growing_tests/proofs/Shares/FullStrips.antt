@@ -1,8 +1,5 @@
 -- Strips of which no mark is left, as a pass has seen it.
-use Rattle.std.proofs.Common.{ℕ, ◌<◌, ap, subst, arith}
-use Rattle.plan_words.proofs.Common.{AllFull, GoesOn}
-use Rattle.grown_runs.proofs.Common.{quota_of, Counter}
-use Rattle.step_core.specs.declared.views.View.{View}
+use Rattle.growing_tests.proofs.Words.{ℕ, ◌<◌, ap, subst, arith, AllFull, GoesOn, quota_of, Counter, View}
 
 -- none is left later, as counters only rise
 pub AllFull-later : (before after : View) (limit : ℕ) → GoesOn before after → AllFull before limit → AllFull after limit

@@ -1,13 +1,6 @@
 -- What steps and whole marks leave of the share of a pass.
-use Rattle.std.proofs.Common.{◌≡◌, ℕ, ◌<◌, Option, None, inl, inr, length, sym, ap, ◌∙◌, subst}
-use Rattle.grown_runs.proofs.Common.{Record, Word}
-use Rattle.plan_words.proofs.Common.{BelongsTo, IsOrPosted, PassState, SharedState}
-use Rattle.plan_work.specs.Extensions.{HandlesMark}
-use Rattle.plan_work.proofs.WorkedMarks.{share-turned}
-use Rattle.growing_tests.specs.Shares.Sharers.{HasClaimed, HasShare}
-use Rattle.step_core.proofs.Common.{hand_with_post}
-use Rattle.step_core.specs.declared.views.Hand.{Hand}
-use Rattle.tree_rewire.specs.SeenCosts.{PassSees}
+use Rattle.growing_tests.proofs.Words.{◌≡◌, ℕ, ◌<◌, Option, None, inl, inr, length, sym, ap, ◌∙◌, subst, Record, Word, BelongsTo, IsOrPosted, PassState}
+use Rattle.growing_tests.proofs.Words.{SharedState, HandlesMark, share-turned, HasClaimed, HasShare, hand_with_post, Hand, PassSees}
 
 -- a hand that may have noted a post stays empty
 IsOrPosted-none : (before after : Option Hand) → before ≡ None → IsOrPosted before after → after ≡ None

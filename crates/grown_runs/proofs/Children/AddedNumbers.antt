@@ -1,8 +1,6 @@
 -- An index of children with one number more, which is in no chain.
-use Rattle.std.proofs.Common.{◌≡◌, ℕ, zero, suc, ◌+◌, ◌<◌, ◌≤◌, List, [], ◌∷◌, ◌++◌, refl, sym, ap, ◌∙◌, subst, arith}
-use Rattle.std.specs.Prelude.{slice_index}
-use Rattle.std.proofs.lemmas.List.{length-append}
-use Rattle.grown_runs.specs.ChildChains.{IsIndex, front_in}
+use Rattle.grown_runs.proofs.Words.{◌≡◌, ℕ, zero, suc, ◌+◌, ◌<◌, ◌≤◌, List, [], ◌∷◌, ◌++◌, refl, sym, ap, ◌∙◌, subst, arith, slice_index, length-append}
+use Rattle.grown_runs.proofs.Words.{IsIndex, front_in}
 
 -- a 0 at the end is read as one past the end
 index-push : (items : List ℕ) (i : ℕ) → slice_index (items ++ 0 ∷ []) i ≡ slice_index items i

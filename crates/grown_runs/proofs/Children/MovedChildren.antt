@@ -1,10 +1,8 @@
 -- A node goes out of its chain of children, and comes to the front of another.
-use Rattle.std.proofs.Common.{◌≡◌, ◌≢◌, ℕ, zero, suc, ◌<◌, ◌≤◌, List, [], ◌∷◌, length, refl, sym, ap, ◌∙◌, subst, ⊎_elim, arith, le_refl}
-use Rattle.std.proofs.Common.{◌==◌, Bool, cond, eq-eqb}
-use Rattle.std.specs.Prelude.{slice_index, slice_set}
-use Rattle.std.proofs.lemmas.Bool.{cases_eq, ne_eqb}
-use Rattle.std.proofs.lemmas.List.{get_or-set_other, get_or-set_same, length-set}
-use Rattle.grown_runs.proofs.Words.{AreChained, HasInChain, IsIndex, MovesNode, OnlyMoves, front_in, ChildIndex}
+use Rattle.grown_runs.proofs.Words.{◌≡◌, ◌≢◌, ℕ, zero, suc, ◌<◌, ◌≤◌, List, [], ◌∷◌, length, refl, sym, ap, ◌∙◌, subst, ⊎_elim, arith, le_refl, ◌==◌, Bool}
+use Rattle.grown_runs.proofs.Words.{cond, slice_index, slice_set, cases_eq, ne_eqb, get_or-set_other, get_or-set_same, length-set, AreChained, HasInChain}
+use Rattle.grown_runs.proofs.Words.{IsIndex, MovesNode, OnlyMoves, front_in, ChildIndex}
+use Rattle.std.proofs.Common.{eq-eqb}
 
 -- the node c has gone out of its chain
 pub record IsTakenOut (chain front next previous new_chain new_front new_next new_previous : ℕ → ℕ) (c : ℕ) : Type 0 where

@@ -1,12 +1,9 @@
 -- A walk along a chain of children meets each of them once, and ends.
-use Rattle.std.proofs.Common.{◌≡◌, ◌≢◌, ◌==◌, ℕ, zero, suc, ◌+◌, ◌<◌, ◌≤◌, true, false, cond, eqb, List, [], ◌∷◌, length}
-use Rattle.std.proofs.Common.{refl, sym, ap, ◌∙◌, subst, inl, inr, arith}
-use Rattle.std.specs.Prelude.{◌||◌, slice_index}
-use Rattle.std.specs.List.{AllByRecursion, IsDistinct, list_any}
-use Rattle.std.proofs.lemmas.Bool.{cases_eq, cases_lt, eq-eqb, ne_eqb}
-use Rattle.std.proofs.lemmas.List.Sums.{sum_by-cons}
-use Rattle.std.proofs.lemmas.Map.Steps.{length-le_from_distinct_below}
-use Rattle.grown_runs.proofs.Words.{AreMembers, HasInChain, IndexesChains, IsIndex, front_in, siblings_from, times, walk_from, ChildIndex}
+use Rattle.grown_runs.proofs.Words.{◌≡◌, ◌≢◌, ◌==◌, ℕ, zero, suc, ◌+◌, ◌<◌, ◌≤◌, true, false, cond, eqb, List, [], ◌∷◌, length, refl, sym, ap, ◌∙◌, subst, inl}
+use Rattle.grown_runs.proofs.Words.{inr, arith, ◌||◌, slice_index, AllByRecursion, IsDistinct, list_any, cases_eq, cases_lt, ne_eqb, sum_by-cons}
+use Rattle.grown_runs.proofs.Words.{length-le_from_distinct_below, AreMembers, HasInChain, IndexesChains, IsIndex, front_in, siblings_from, times, walk_from}
+use Rattle.grown_runs.proofs.Words.{ChildIndex}
+use Rattle.std.proofs.lemmas.Bool.{eq-eqb}
 
 -- ---- how often a number stands in a list
 

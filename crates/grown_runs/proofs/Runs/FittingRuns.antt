@@ -1,19 +1,7 @@
 -- The nodes and the records of a closed run that is given by lists fit their words.
-use Rattle.std.proofs.Common.{ℕ, List, Option, Some, None, length, arith, ap, ◌∙◌, subst}
-use Rattle.std.specs.Prelude.{option_map}
-use Rattle.std.proofs.lemmas.Option.{get_or_from_slice_get}
-use Rattle.plan_model.specs.declared.records.Record.{Record}
-use Rattle.plan_model.specs.declared.tasks.Task.{Task}
-use Rattle.plan_model.specs.declared.trees.Knot.{Knot}
-use Rattle.plan_model.specs.Geometry.Bounds.{IsBounded}
-use Rattle.plan_model.specs.Runs.ClosedLaw.{IsClosed}
-use Rattle.plan_model.specs.Trees.PointsByNumber.{StandsAt}
-use Rattle.plan_model.specs.Runs.Textbook.{setup_of}
-use Rattle.plan_model.specs.Trees.NodeLists.{points_of, parent_of, without_costs}
-use Rattle.plan_model.specs.Trees.TreeStates.{TreeState}
-use Rattle.plan_model.proofs.NewNodes.{IsPresent-stands, point_of-stands}
-use Rattle.plan_model.proofs.OrderLaws.{parent-present}
-use Rattle.grown_runs.proofs.Words.{sizes_of, kept_cost_of, state_of_lists, IsKnot, FitsNode, FitWords}
+use Rattle.grown_runs.proofs.Words.{ℕ, List, Option, Some, None, length, arith, ap, ◌∙◌, subst, option_map, get_or_from_slice_get, Record, Task, Knot}
+use Rattle.grown_runs.proofs.Words.{IsBounded, IsClosed, StandsAt, setup_of, points_of, parent_of, without_costs, TreeState, IsPresent-stands, point_of-stands}
+use Rattle.grown_runs.proofs.Words.{parent-present, sizes_of, kept_cost_of, state_of_lists, IsKnot, FitsNode, FitWords}
 use Rattle.grown_runs.proofs.Runs.FittingStates.{present-closed, small_number, kept-low, IsBounded-closed, FitsRecord-closed}
 use Rattle.grown_runs.proofs.Runs.PackedStates.{point_at-lists, parent_of-lists}
 

@@ -1,39 +1,11 @@
 -- The fields of a closed run fit their words: its numbers, costs and classes, the points of its nodes, and its records.
-use Rattle.std.proofs.Common.{◌≡◌, ℕ, zero, suc, ◌*◌, ◌<◌, ◌≤◌, ◌^◌, true, eqb, Some, length, arith, refl, sym, ◌∙◌, subst, inl, inr}
-use Rattle.std.specs.Prelude.{◌&&◌}
-use Rattle.std.specs.List.{range_with_len}
-use Rattle.std.proofs.lemmas.Bool.{cases_lt, and_parts, eqb-true}
-use Rattle.std.proofs.lemmas.List.FromFn.{length-range_with_len}
-use Rattle.std.proofs.lemmas.List.Sums.{count_by-le-length}
-use Rattle.plan_model.specs.declared.records.Outcome.{Outcome}
-use Rattle.plan_model.specs.declared.records.Outcome.TheVariants.{Placed, Same, Blocked, Skipped}
-use Rattle.plan_model.specs.declared.records.Record.{Record}
-use Rattle.plan_model.specs.declared.tasks.Task.{Task}
-use Rattle.plan_model.specs.Geometry.Bounds.{IsBounded}
-use Rattle.plan_model.specs.Spaces.Clearance.{ClearAt}
-use Rattle.plan_model.specs.Runs.ClosedLaw.{IsClosed, has_outcome, mark_at}
-use Rattle.plan_model.specs.Runs.Outcomes.{is_placed}
-use Rattle.plan_model.specs.Spaces.ConfigurationSpace.{space_of}
-use Rattle.plan_model.specs.Runs.OrderLaw.{most_cost_of}
-use Rattle.plan_model.specs.Runs.Outcomes.{is_zero_unless_placed}
-use Rattle.plan_model.specs.Trees.PointsByNumber.{IsPresent, point_at, point_of, node_count}
-use Rattle.plan_model.specs.Geometry.Radius.{class_of}
-use Rattle.plan_model.specs.Runs.RecordLaw.{HasLawfulOutcome}
-use Rattle.plan_model.specs.Runs.Textbook.{setup_of, skipping_goals}
-use Rattle.plan_model.specs.Trees.TreeStates.{TreeState}
-use Rattle.plan_model.proofs.BestNodeLaws.{IsPresent-goal}
-use Rattle.plan_model.proofs.ClassLaws.{class_from_powers}
-use Rattle.plan_model.proofs.CountLaws.{node_count-closed}
-use Rattle.plan_model.proofs.EmptyRoomClearance.{IsInRoom-from_clear_at}
-use Rattle.plan_model.proofs.MarkBounds.{length-marks}
-use Rattle.plan_model.proofs.NewNodes.{IsPresent-stands, point_of-stands}
-use Rattle.plan_model.proofs.OrderLaws.{most_cost_of-within}
-use Rattle.plan_model.proofs.RecordLaws.{class_of-le}
-use Rattle.plan_model.proofs.SceneBounds.{IsBounded-in_room, step-steers}
-use Rattle.plan_model.proofs.SegmentLaws.{Clear-last}
-use Rattle.plan_model.proofs.WorkerTurns.{turn-below_limit}
-use Rattle.grown_runs.proofs.Words.{last_field, FitsRecord}
-use Rattle.plan_model.proofs.PlacedNodes.{record-of_present}
+use Rattle.grown_runs.proofs.Words.{◌≡◌, ℕ, zero, suc, ◌*◌, ◌<◌, ◌≤◌, ◌^◌, true, eqb, Some, length, arith, refl, sym, ◌∙◌, subst, inl, inr, ◌&&◌}
+use Rattle.grown_runs.proofs.Words.{range_with_len, cases_lt, and_parts, eqb-true, length-range_with_len, count_by-le-length, Outcome, Placed, Same, Blocked}
+use Rattle.grown_runs.proofs.Words.{Skipped, Record, Task, IsBounded, ClearAt, IsClosed, has_outcome, mark_at, is_placed, space_of, most_cost_of}
+use Rattle.grown_runs.proofs.Words.{is_zero_unless_placed, IsPresent, point_at, point_of, node_count, class_of, HasLawfulOutcome, setup_of, skipping_goals}
+use Rattle.grown_runs.proofs.Words.{TreeState, IsPresent-goal, class_from_powers, node_count-closed, IsInRoom-from_clear_at, length-marks, IsPresent-stands}
+use Rattle.grown_runs.proofs.Words.{point_of-stands, most_cost_of-within, class_of-le, IsBounded-in_room, step-steers, Clear-last, turn-below_limit, last_field}
+use Rattle.grown_runs.proofs.Words.{FitsRecord, record-of_present}
 
 zero_unless_placed :
     (o : Outcome) (parent cost class : ℕ) → (o ≡ Placed → ⊥) → is_zero_unless_placed o parent cost class ≡ true → (parent ≡ 0) × (cost ≡ 0)

@@ -1,16 +1,9 @@
 -- The nodes that the words of a run hold: each has a number up to that of the last mark, and stands where its point word says, within bounds.
-use Rattle.std.proofs.Common.{◌≡◌, ℕ, zero, suc, ◌+◌, ◌<◌, ◌≤◌, ◌^◌, Bool, true, false, Option, Some, None, List, length, refl, arith, sym, ap, ◌∙◌, inl, inr}
-use Rattle.std.specs.Prelude.{is_some, nat_lt, unwrap_or, if◌then◌else◌}
-use Rattle.std.proofs.lemmas.Bool.{cases_lt, cases_Bool}
-use Rattle.std.proofs.lemmas.List.{get_or_past}
-use Rattle.std.proofs.lemmas.List.Sums.{count_by-le-length}
-use Rattle.std.proofs.lemmas.List.FromFn.{get_or-map-range_with_len, length-map-range_with_len}
-use Rattle.plan_model.specs.declared.geometry.Point.{Point}
-use Rattle.plan_model.specs.Geometry.Bounds.{IsBounded}
-use Rattle.plan_model.specs.Trees.PointsByNumber.{point_at, StandsAt, IsPresent, node_count}
-use Rattle.plan_model.proofs.NewNodes.{IsPresent-stands}
-use Rattle.grown_runs.proofs.Words.{Words, PointOf, FirstOf, RecordOf, Sizes, record_of_word, point_in, point_of_word, record_at, has_placed, has_node}
-use Rattle.grown_runs.proofs.Words.{node_point, points_of_words}
+use Rattle.grown_runs.proofs.Words.{◌≡◌, ℕ, zero, suc, ◌+◌, ◌<◌, ◌≤◌, ◌^◌, Bool, true, false, Option, Some, None, List, length, refl, arith, sym, ap, ◌∙◌, inl}
+use Rattle.grown_runs.proofs.Words.{inr, is_some, nat_lt, unwrap_or, if◌then◌else◌, cases_lt, cases_Bool, get_or_past, count_by-le-length}
+use Rattle.grown_runs.proofs.Words.{get_or-map-range_with_len, length-map-range_with_len, Point, IsBounded, point_at, StandsAt, IsPresent, node_count}
+use Rattle.grown_runs.proofs.Words.{IsPresent-stands, Words, PointOf, FirstOf, RecordOf, Sizes, record_of_word, point_in, point_of_word, record_at, has_placed}
+use Rattle.grown_runs.proofs.Words.{has_node, node_point, points_of_words}
 use Rattle.grown_runs.specs.Table.WordPlaces.{word_at}
 use Rattle.grown_runs.proofs.Table.WordReads.{word_at-none}
 

@@ -1,13 +1,7 @@
 -- The best word is no part of a run at rest: whatever is written there, the words are still those of the run.
-use Rattle.std.proofs.Common.{◌≡◌, ℕ, false, sym, ap, ◌∙◌, subst}
-use Rattle.plan_model.specs.Runs.ClosedLaw.{IsClosed}
-use Rattle.plan_model.specs.Runs.Textbook.{setup_of}
-use Rattle.plan_model.specs.Seen.Ways.{FollowWays}
-use Rattle.plan_model.specs.Trees.PointsByNumber.{node_count}
-use Rattle.plan_model.specs.declared.tasks.Task.{Task}
-use Rattle.grown_runs.proofs.Words.{HoldRun, IsBlank, IsPointWord, IsTreeWord, child_of_word, children_of_words, has_node, points_of_words, sizes_of}
-use Rattle.grown_runs.proofs.Words.{state_of_words, Words, WritesWord, Best, ChildOf, Count, Counter, FirstOf, PointOf, RecordOf, TreeOf, Sizes, cost_in}
-use Rattle.grown_runs.proofs.Words.{parent_in}
+use Rattle.grown_runs.proofs.Words.{◌≡◌, ℕ, false, sym, ap, ◌∙◌, subst, IsClosed, setup_of, FollowWays, node_count, Task, HoldRun, IsBlank, IsPointWord}
+use Rattle.grown_runs.proofs.Words.{IsTreeWord, child_of_word, children_of_words, has_node, points_of_words, sizes_of, state_of_words, Words, WritesWord, Best}
+use Rattle.grown_runs.proofs.Words.{ChildOf, Count, Counter, FirstOf, PointOf, RecordOf, TreeOf, Sizes, cost_in, parent_in}
 use Rattle.grown_runs.proofs.Table.KeptWords.{KeepsNodes, has_node-kept, points-kept, present-kept, record_at-kept}
 
 module _ (before after : Words) (x : ℕ) (writes : WritesWord Best x before after) where

@@ -1,10 +1,6 @@
 -- The nodes of a closed run: the start is one, stands at its place below itself and costs nothing, and none is past the limit.
-use Rattle.std.proofs.Common.{ℕ, ◌≤◌, sym, ◌∙◌, inl, inr}
-use Rattle.std.proofs.lemmas.Bool.{cases_lt}
-use Rattle.plan_model.specs.declared.tasks.Task.{Task}
-use Rattle.plan_model.specs.Trees.PointsByNumber.{StandsAt, IsPresent}
-use Rattle.plan_model.proofs.NewNodes.{IsPresent-stands}
-use Rattle.grown_runs.proofs.Words.{Words, HoldRun, points_of_words, sizes_of}
+use Rattle.grown_runs.proofs.Words.{ℕ, ◌≤◌, sym, ◌∙◌, inl, inr, cases_lt, Task, StandsAt, IsPresent, IsPresent-stands, Words, HoldRun, points_of_words}
+use Rattle.grown_runs.proofs.Words.{sizes_of}
 use Rattle.grown_runs.proofs.Runs.GrownPoints.{has_node-present}
 use Rattle.grown_runs.proofs.Runs.HeldRuns.{none_past-held}
 

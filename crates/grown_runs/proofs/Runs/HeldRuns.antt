@@ -1,7 +1,5 @@
 -- The words of a closed run: no node has a number past the limit.
-use Rattle.std.proofs.Common.{◌≡◌, ℕ, zero, suc, ◌<◌, false, arith, ap}
-use Rattle.plan_model.specs.declared.tasks.Task.{Task}
-use Rattle.grown_runs.proofs.Words.{Words, HoldRun, has_placed, has_node}
+use Rattle.grown_runs.proofs.Words.{◌≡◌, ℕ, zero, suc, ◌<◌, false, arith, ap, Task, Words, HoldRun, has_placed, has_node}
 
 pub none_past-held : (task : Task) (limit : ℕ) (words : Words) → HoldRun task limit words → (n : ℕ) → limit < n → has_node words n ≡ false
 none_past-held task limit words held zero past = absurd (omega (arith, past))

@@ -1,21 +1,10 @@
 -- Nodes that are present by their links. In a closed run they are those that are present by their records.
-use Rattle.std.proofs.Common.{◌≡◌, ℕ, zero, suc, ◌+◌, ◌≤◌, Bool, true, false, List, [], ◌∷◌, Some, arith, refl, sym, ap, ◌∙◌, inl, inr}
-use Rattle.std.specs.Prelude.{◌≢◌, ◌==◌, ◌||◌, ◌⊎◌, is_some, unwrap_or, Option, None}
-use Rattle.std.specs.List.{range_with_len, list_any}
-use Rattle.std.proofs.lemmas.Bool.{cases_Bool, eq-eqb, eqb-true}
-use Rattle.std.proofs.lemmas.List.Folds.{list_any_at}
-use Rattle.std.proofs.lemmas.List.FromFn.{get_or-range_with_len, length-range_with_len}
-use Rattle.plan_model.specs.declared.geometry.Point.{Point}
-use Rattle.plan_model.specs.declared.records.Outcome.TheVariants.{Placed}
-use Rattle.plan_model.specs.declared.records.Record.{Record}
-use Rattle.plan_model.specs.declared.tasks.Task.{Task}
-use Rattle.plan_model.specs.Trees.PointsByNumber.{point_of, IsPresent}
-use Rattle.plan_model.specs.Seen.Ways.{IsOnWay}
-use Rattle.plan_model.specs.Seen.Ways.IsOnWay.{goes_on}
-use Rattle.plan_model.proofs.PlacedNodes.{is_placed-true, present-of_record}
-use Rattle.plan_model.proofs.NewNodes.{StandsAt-present}
-use Rattle.grown_runs.proofs.Words.{Words, ChildOf, Sizes, has_placed, has_node, is_child_of, is_linked, IsLinked, record_at, state_by, child_of_word}
-use Rattle.grown_runs.proofs.Words.{children_of_words, points_of_words, state_of_words, sizes_of, HoldRun, below}
+use Rattle.grown_runs.proofs.Words.{◌≡◌, ℕ, zero, suc, ◌+◌, ◌≤◌, Bool, true, false, List, [], ◌∷◌, Some, arith, refl, sym, ap, ◌∙◌, inl, inr, ◌≢◌, ◌==◌, ◌||◌}
+use Rattle.grown_runs.proofs.Words.{◌⊎◌, is_some, unwrap_or, Option, None, range_with_len, list_any, cases_Bool, eqb-true, list_any_at, get_or-range_with_len}
+use Rattle.grown_runs.proofs.Words.{length-range_with_len, Point, Placed, Record, Task, point_of, IsPresent, IsOnWay, goes_on, is_placed-true}
+use Rattle.grown_runs.proofs.Words.{present-of_record, StandsAt-present, Words, ChildOf, Sizes, has_placed, has_node, is_child_of, is_linked, IsLinked}
+use Rattle.grown_runs.proofs.Words.{record_at, state_by, child_of_word, children_of_words, points_of_words, state_of_words, sizes_of, HoldRun, below}
+use Rattle.std.proofs.lemmas.Bool.{eq-eqb}
 use Rattle.grown_runs.proofs.Runs.GrownPoints.{has_node-present, present-within}
 
 -- ---- children

@@ -1,11 +1,5 @@
 -- Runs that are given by equal lists are closed together.
-use Rattle.std.proofs.Common.{◌≡◌, Option, List, length, sym, ap, subst}
-use Rattle.plan_model.specs.declared.geometry.Point.{Point}
-use Rattle.plan_model.specs.declared.records.Record.{Record}
-use Rattle.plan_model.specs.declared.trees.Knot.{Knot}
-use Rattle.plan_model.specs.Runs.ClosedLaw.{IsClosed}
-use Rattle.plan_model.specs.Runs.Textbook.{Setup}
-use Rattle.grown_runs.specs.Runs.PackedRuns.{state_of_lists}
+use Rattle.grown_runs.proofs.Words.{◌≡◌, Option, List, length, sym, ap, subst, Point, Record, Knot, IsClosed, Setup, state_of_lists}
 
 pub IsClosed-same_lists :
     (setup of_setup : Setup) (marks points : List Point) (knots nodes : List (Option Knot)) (records entries : List Record)

@@ -1,17 +1,9 @@
 -- The words of a run in which one kept cost is lowered: one tree word changes, and what the others say stays.
-use Rattle.std.proofs.Common.{◌≡◌, ℕ, zero, suc, ◌<◌, ◌≤◌, ◌^◌, Bool, true, arith, refl, sym, ap, ◌∙◌, subst, inl, inr}
-use Rattle.std.specs.Prelude.{◌≢◌}
-use Rattle.std.proofs.lemmas.Bool.{cases_eq}
-use Rattle.plan_model.specs.declared.tasks.Task.{Task}
-use Rattle.plan_model.specs.Trees.PointsByNumber.{point_at, node_count}
-use Rattle.plan_model.specs.Runs.Textbook.{setup_of}
-use Rattle.plan_model.specs.Trees.TreeStates.{recorded_or, first_cost_of}
-use Rattle.plan_model.proofs.ClosedLaws.{IsClosed-lowered}
-use Rattle.plan_model.proofs.LoweredCosts.{StandsStill, LowersNode, LowersCosts-lowers}
-use Rattle.plan_model.proofs.WayLinks.{FollowWays-same}
-use Rattle.grown_runs.proofs.Words.{Word, Words, WritesWord, Count, Counter, PointOf, ChildOf, TreeOf, FirstOf, RecordOf, Sizes, parent_in, cost_in, tree_word}
-use Rattle.grown_runs.proofs.Words.{has_node, points_of_words, state_of_words, child_of_word, children_of_words, IsPointWord, IsTreeWord, IsWritten, sizes_of}
-use Rattle.grown_runs.proofs.Words.{HoldRun, MayCost, CostsInstead}
+use Rattle.grown_runs.proofs.Words.{◌≡◌, ℕ, zero, suc, ◌<◌, ◌≤◌, ◌^◌, Bool, true, arith, refl, sym, ap, ◌∙◌, subst, inl, inr, ◌≢◌, cases_eq, Task, point_at}
+use Rattle.grown_runs.proofs.Words.{node_count, setup_of, recorded_or, first_cost_of, IsClosed-lowered, StandsStill, LowersNode, LowersCosts-lowers}
+use Rattle.grown_runs.proofs.Words.{FollowWays-same, Word, Words, WritesWord, Count, Counter, PointOf, ChildOf, TreeOf, FirstOf, RecordOf, Sizes, parent_in}
+use Rattle.grown_runs.proofs.Words.{cost_in, tree_word, has_node, points_of_words, state_of_words, child_of_word, children_of_words, IsPointWord, IsTreeWord}
+use Rattle.grown_runs.proofs.Words.{IsWritten, sizes_of, HoldRun, MayCost, CostsInstead}
 use Rattle.grown_runs.proofs.Table.KeptWords.{KeepsNodes, has_node-kept, record_at-kept, points-kept, point_at-kept, present-kept}
 use Rattle.grown_runs.proofs.Table.PackedWords.{parent_in-tree_word, cost_in-tree_word}
 

@@ -1,14 +1,7 @@
 -- The least pair of the goal nodes of a run, found among its nodes one after another.
-use Rattle.std.proofs.Common.{◌≡◌, ℕ, ◌+◌, ◌<◌, ◌≤◌, ◌^◌, Bool, true, false, List, []}
-use Rattle.std.proofs.Common.{refl, sym, ap, ◌∙◌, subst, inl, inr, arith, min}
-use Rattle.std.specs.Prelude.{◌≢◌, cond}
-use Rattle.std.proofs.lemmas.Bool.{cases_eq, cases_lt}
-use Rattle.std.proofs.lemmas.Nat.{div-mul-add, mod-mul-add}
-use Rattle.plan_model.specs.Trees.BestNode.{IsGoalNode, is_goal_point}
-use Rattle.plan_model.specs.Trees.PointsByNumber.{point_at}
-use Rattle.plan_model.specs.Trees.TreeStates.{TreeState}
-use Rattle.plan_model.specs.declared.geometry.Goal.{Goal}
-use Rattle.grown_runs.specs.Table.Words.{best_cost_in, best_node_in, best_word, no_best}
+use Rattle.grown_runs.proofs.Words.{◌≡◌, ℕ, ◌+◌, ◌<◌, ◌≤◌, ◌^◌, Bool, true, false, List, [], refl, sym, ap, ◌∙◌, subst, inl, inr, arith, min, ◌≢◌, cond}
+use Rattle.grown_runs.proofs.Words.{cases_eq, cases_lt, div-mul-add, mod-mul-add, IsGoalNode, is_goal_point, point_at, TreeState, Goal, best_cost_in}
+use Rattle.grown_runs.proofs.Words.{best_node_in, best_word, no_best}
 
 -- what holds of two numbers holds of the lesser
 pub min-either : (P : ℕ → Type 0) (a b : ℕ) → P a → P b → P (min a b)

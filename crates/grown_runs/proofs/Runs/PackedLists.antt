@@ -1,21 +1,10 @@
 -- The words of a run after its counters, its count, its nodes and its records were written, one after another.
-use Rattle.std.proofs.Common.{◌≡◌, ℕ, suc, Bool, List, [], ◌∷◌, Option, Some, None, length, cond, arith, refl, sym, ap, ◌∙◌, subst}
-use Rattle.std.specs.Prelude.{is_some, count_by, slice_index_or, option_map}
-use Rattle.std.proofs.lemmas.List.Sums.{sum_by-cons}
-use Rattle.std.proofs.lemmas.Option.{slice_get_within}
-use Rattle.plan_model.specs.declared.records.Record.{Record}
-use Rattle.plan_model.specs.declared.tasks.Task.{Task}
-use Rattle.plan_model.specs.declared.trees.Knot.{Knot}
-use Rattle.plan_model.specs.Runs.ClosedLaw.{IsClosed}
-use Rattle.plan_model.specs.Trees.PointsByNumber.{point_at, node_count}
-use Rattle.plan_model.specs.Runs.Textbook.{setup_of}
-use Rattle.plan_model.specs.Trees.NodeLists.{points_of, without_costs}
-use Rattle.plan_model.proofs.ChainLaws.{node_count-cons}
-use Rattle.plan_model.specs.Seen.Ways.{FollowWays}
-use Rattle.grown_runs.proofs.Words.{Word, Words, WritesWord, Count, Counter, PointOf, ChildOf, TreeOf, FirstOf, RecordOf, Sizes, tree_word, sizes_of}
-use Rattle.grown_runs.proofs.Words.{points_of_words, state_of_words, child_of_word, children_of_words, HoldRun, AreUnlinked, ChangesChildren, state_of_lists}
-use Rattle.grown_runs.proofs.Words.{FitWords, HoldsNode, HoldsRecord, WritesNodes, WritesRecords, CountsMarks, HoldLists}
-use Rattle.plan_model.specs.Trees.TreeStates.{AreSameRuns}
+use Rattle.grown_runs.proofs.Words.{◌≡◌, ℕ, suc, Bool, List, [], ◌∷◌, Option, Some, None, length, cond, arith, refl, sym, ap, ◌∙◌, subst, is_some, count_by}
+use Rattle.grown_runs.proofs.Words.{slice_index_or, option_map, sum_by-cons, slice_get_within, Record, Task, Knot, IsClosed, point_at, node_count, setup_of}
+use Rattle.grown_runs.proofs.Words.{points_of, without_costs, node_count-cons, FollowWays, Word, Words, WritesWord, Count, Counter, PointOf, ChildOf, TreeOf}
+use Rattle.grown_runs.proofs.Words.{FirstOf, RecordOf, Sizes, tree_word, sizes_of, points_of_words, state_of_words, child_of_word, children_of_words, HoldRun}
+use Rattle.grown_runs.proofs.Words.{AreUnlinked, ChangesChildren, state_of_lists, FitWords, HoldsNode, HoldsRecord, WritesNodes, WritesRecords, CountsMarks}
+use Rattle.grown_runs.proofs.Words.{HoldLists, AreSameRuns}
 use Rattle.grown_runs.proofs.Runs.PackedStates.{point_at-lists, points-packed, AreSameRuns-packed, HoldRun-packed}
 
 -- as many nodes are present as the list has

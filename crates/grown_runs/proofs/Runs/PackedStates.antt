@@ -1,36 +1,17 @@
 -- The words that hold the lists of a closed run are those of a closed run, and have the same tree and records.
-use Rattle.std.proofs.Common.{◌≡◌, ℕ, zero, suc, true, List, Option, Some, None, length, refl, sym, ap, ◌∙◌, subst, inl, inr, false}
-use Rattle.std.specs.Prelude.{is_some, option_map, slice_get, slice_index_or}
-use Rattle.std.proofs.lemmas.Bool.{cases_lt, cases_Bool, false_from_ne_true}
-use Rattle.std.proofs.lemmas.List.{get_or_past}
-use Rattle.std.proofs.lemmas.Option.{slice_get-get_or, slice_get_cases, get_or_from_slice_get}
-use Rattle.std.proofs.Math.ListN.{get_or-map}
-use Rattle.plan_model.specs.declared.records.Outcome.TheVariants.{Placed}
-use Rattle.plan_model.specs.declared.records.Record.{Record}
-use Rattle.plan_model.specs.declared.tasks.Task.{Task}
-use Rattle.plan_model.specs.declared.trees.Knot.{Knot}
-use Rattle.plan_model.specs.declared.trees.Twig.{Twig}
-use Rattle.plan_model.specs.Runs.ClosedLaw.{IsClosed}
-use Rattle.plan_model.specs.Trees.PointsByNumber.{point_at, IsPresent}
-use Rattle.plan_model.specs.Runs.Outcomes.{is_placed}
-use Rattle.plan_model.specs.Runs.Textbook.{setup_of}
-use Rattle.plan_model.specs.Trees.NodeLists.{points_of, parent_of, parent_or_zero, without_costs}
-use Rattle.plan_model.specs.Trees.TreeStates.{AreSameRuns}
-use Rattle.plan_model.specs.Seen.Ways.{FollowWays}
-use Rattle.plan_model.proofs.PlacedNodes.{is_placed-true}
-use Rattle.plan_model.proofs.NewNodes.{IsPresent-stands}
-use Rattle.plan_model.proofs.NodeCounts.{node_count-same}
-use Rattle.plan_model.proofs.SameTrees.{IsClosed-same_run}
-use Rattle.plan_model.proofs.TreeChanges.{point_at-points_of}
-use Rattle.grown_runs.proofs.Words.{Words, TreeOf, FirstOf, Sizes, parent_in, cost_in, point_of_word, record_of_word, record_at, has_placed, has_node}
-use Rattle.grown_runs.proofs.Words.{points_of_words, state_of_words, children_of_words, IsPointWord, IsTreeWord, IsWritten, IsBlank, sizes_of, HoldRun}
-use Rattle.grown_runs.proofs.Words.{kept_cost_of, state_of_lists, IsKnot, FitWords, HoldLists}
+use Rattle.grown_runs.proofs.Words.{◌≡◌, ℕ, zero, suc, true, List, Option, Some, None, length, refl, sym, ap, ◌∙◌, subst, inl, inr, false, is_some, option_map}
+use Rattle.grown_runs.proofs.Words.{slice_get, slice_index_or, cases_lt, cases_Bool, false_from_ne_true, get_or_past, slice_get-get_or, slice_get_cases}
+use Rattle.grown_runs.proofs.Words.{get_or_from_slice_get, get_or-map, Placed, Record, Task, Knot, Twig, IsClosed, point_at, IsPresent, is_placed, setup_of}
+use Rattle.grown_runs.proofs.Words.{points_of, parent_of, parent_or_zero, without_costs, AreSameRuns, FollowWays, is_placed-true, IsPresent-stands}
+use Rattle.grown_runs.proofs.Words.{node_count-same, IsClosed-same_run, point_at-points_of, Words, TreeOf, FirstOf, Sizes, parent_in, cost_in, point_of_word}
+use Rattle.grown_runs.proofs.Words.{record_of_word, record_at, has_placed, has_node, points_of_words, state_of_words, children_of_words, IsPointWord}
+use Rattle.grown_runs.proofs.Words.{IsTreeWord, IsWritten, IsBlank, sizes_of, HoldRun, kept_cost_of, state_of_lists, IsKnot, FitWords, HoldLists}
+use Rattle.grown_runs.proofs.Words.{record-of_present, present-of_record}
 use Rattle.grown_runs.specs.Runs.PackedRuns.{HasKnot as HasNode}
 use Rattle.grown_runs.proofs.Runs.GrownPoints.{none_some, record_at-unwritten, node_point-here, point_at-words, point_at-absent}
 use Rattle.grown_runs.proofs.Table.PackedRecords.{record_of_word-packed}
 use Rattle.grown_runs.proofs.Table.PackedWords.{parent_in-tree_word, cost_in-tree_word, point_of_word-packed, IsPointWord-packed}
 use Rattle.grown_runs.proofs.Runs.LoweredWords.{IsTreeWord-packed}
-use Rattle.plan_model.proofs.PlacedNodes.{record-of_present, present-of_record}
 
 -- ---- lists
 

@@ -1,20 +1,10 @@
 -- Words of a run that are written one after another: nodes, records, and the counters of strips.
-use Rattle.std.proofs.Common.{◌≡◌, ℕ, zero, suc, ◌+◌, ◌<◌, ◌≤◌, ◌%◌, List, Option, Some, None}
-use Rattle.std.proofs.Common.{cond, arith, refl, sym, ap, ◌∙◌, subst, inl, inr}
-use Rattle.std.specs.Prelude.{◌≢◌, ◌==◌, slice_get}
-use Rattle.std.specs.List.{range_with_len}
-use Rattle.std.proofs.lemmas.Bool.{cases_eq, eq-eqb, ne_eqb}
-use Rattle.std.proofs.lemmas.List.FromFn.{length-range_with_len}
-use Rattle.std.proofs.lemmas.List.Sums.{count_by-le-length}
-use Rattle.std.proofs.lemmas.Option.{same_Some}
-use Rattle.plan_model.specs.declared.records.Outcome.TheVariants.{Placed}
-use Rattle.plan_model.specs.declared.records.Record.{Record}
-use Rattle.plan_model.specs.declared.trees.Knot.{Knot}
-use Rattle.plan_model.specs.Scenes.MarkPoints.{quota_of}
-use Rattle.plan_model.proofs.CountsBelow.{count-more}
-use Rattle.grown_runs.proofs.Words.{Word, Words, WritesWord, IsCounter, IsKnotWord, Counter, PointOf, TreeOf, FirstOf, RecordOf, Sizes, point_word, tree_word}
-use Rattle.grown_runs.proofs.Words.{record_word, IsKnot, HoldsNode, HoldsRecord, HasKnot, IsWholeRecord, IsWordOfRecords, ChangesNode, ChangesRecord}
-use Rattle.grown_runs.proofs.Words.{WritesNodes, WritesRecords, CountsMarks}
+use Rattle.grown_runs.proofs.Words.{◌≡◌, ℕ, zero, suc, ◌+◌, ◌<◌, ◌≤◌, ◌%◌, List, Option, Some, None, cond, arith, refl, sym, ap, ◌∙◌, subst, inl, inr, ◌≢◌}
+use Rattle.grown_runs.proofs.Words.{◌==◌, slice_get, range_with_len, cases_eq, ne_eqb, length-range_with_len, count_by-le-length, same_Some, Placed, Record}
+use Rattle.grown_runs.proofs.Words.{Knot, quota_of, count-more, Word, Words, WritesWord, IsCounter, IsKnotWord, Counter, PointOf, TreeOf, FirstOf, RecordOf}
+use Rattle.grown_runs.proofs.Words.{Sizes, point_word, tree_word, record_word, IsKnot, HoldsNode, HoldsRecord, HasKnot, IsWholeRecord, IsWordOfRecords}
+use Rattle.grown_runs.proofs.Words.{ChangesNode, ChangesRecord, WritesNodes, WritesRecords, CountsMarks}
+use Rattle.std.proofs.lemmas.Bool.{eq-eqb}
 
 -- ---- one node or one record
 

@@ -1,28 +1,12 @@
 -- The words of the start alone are those of a closed run at limit 0.
-use Rattle.std.proofs.Common.{◌≡◌, ℕ, zero, suc, Bool, Some, None, List, [], length, get_or, arith, refl, sym, ap, ◌∙◌, subst, inl, inr, false}
-use Rattle.std.specs.Prelude.{is_some, replicate}
-use Rattle.std.proofs.lemmas.Bool.{cases_lt, cases_Bool}
-use Rattle.std.proofs.lemmas.List.{get_or-replicate, get_or_past, length-replicate}
-use Rattle.plan_model.specs.declared.geometry.Point.{Point}
-use Rattle.plan_model.specs.declared.tasks.Task.{Task}
-use Rattle.plan_model.specs.Geometry.Bounds.{IsBounded}
-use Rattle.plan_model.specs.Spaces.Clearance.{ClearAt}
-use Rattle.plan_model.specs.Spaces.ConfigurationSpace.{space_of}
-use Rattle.plan_model.specs.Trees.PointsByNumber.{point_at, StandsAt, IsPresent}
-use Rattle.plan_model.specs.Runs.Textbook.{setup_of, start_alone}
-use Rattle.plan_model.specs.Trees.NodeLists.{points_of, parent_of, sum_of}
-use Rattle.plan_model.specs.Trees.TreeStates.{state_of, AreSameRuns}
-use Rattle.plan_model.specs.Seen.Ways.{FollowWays}
-use Rattle.plan_model.proofs.NewNodes.{IsPresent-stands, not_present, point_at-absent as tree-absent}
-use Rattle.plan_model.proofs.NodeCounts.{node_count-same}
-use Rattle.plan_model.proofs.SameTrees.{IsClosed-same_run}
-use Rattle.plan_model.proofs.SceneBounds.{IsBounded-scene_start}
-use Rattle.plan_model.proofs.TextbookStates.{IsClosed-start}
-use Rattle.plan_model.proofs.TreeChanges.{node_at-past}
-use Rattle.plan_model.proofs.WayLinks.{FollowWays-start}
-use Rattle.grown_runs.proofs.Words.{Word, Words, WritesWord, Count, Counter, PointOf, ChildOf, TreeOf, FirstOf, RecordOf, Sizes, place_of, has_word, parent_in}
-use Rattle.grown_runs.proofs.Words.{cost_in, tree_word, point_word, point_of_word, record_at, has_placed, has_node, points_of_words, state_of_words}
-use Rattle.grown_runs.proofs.Words.{child_of_word, children_of_words, IsPointWord, IsTreeWord, IsWritten, IsBlank, sizes_of, HoldRun}
+use Rattle.grown_runs.proofs.Words.{◌≡◌, ℕ, zero, suc, Bool, Some, None, List, [], length, get_or, arith, refl, sym, ap, ◌∙◌, subst, inl, inr, false, is_some}
+use Rattle.grown_runs.proofs.Words.{replicate, cases_lt, cases_Bool, get_or-replicate, get_or_past, length-replicate, Point, Task, IsBounded, ClearAt, space_of}
+use Rattle.grown_runs.proofs.Words.{point_at, StandsAt, IsPresent, setup_of, start_alone, points_of, parent_of, sum_of, state_of, AreSameRuns, FollowWays}
+use Rattle.grown_runs.proofs.Words.{IsPresent-stands, not_present, node_count-same, IsClosed-same_run, IsBounded-scene_start, IsClosed-start, node_at-past}
+use Rattle.grown_runs.proofs.Words.{FollowWays-start, Word, Words, WritesWord, Count, Counter, PointOf, ChildOf, TreeOf, FirstOf, RecordOf, Sizes, place_of}
+use Rattle.grown_runs.proofs.Words.{has_word, parent_in, cost_in, tree_word, point_word, point_of_word, record_at, has_placed, has_node, points_of_words}
+use Rattle.grown_runs.proofs.Words.{state_of_words, child_of_word, children_of_words, IsPointWord, IsTreeWord, IsWritten, IsBlank, sizes_of, HoldRun}
+use Rattle.plan_model.proofs.NewNodes.{point_at-absent as tree-absent}
 use Rattle.grown_runs.specs.Table.WordPlaces.{word_at}
 use Rattle.grown_runs.proofs.Runs.GrownPoints.{record_at-unwritten, point_at-absent, point_at-words}
 use Rattle.grown_runs.proofs.Table.PackedWords.{parent_in-tree_word, cost_in-tree_word, point_of_word-packed, IsPointWord-packed}

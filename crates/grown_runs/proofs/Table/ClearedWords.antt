@@ -1,9 +1,7 @@
 -- Words of numbers without a node are cleared, one number after another: at last they are the words as they are cleared at once.
-use Rattle.std.proofs.Common.{◌≡◌, ℕ, ◌<◌, Bool, true, false, List, arith, refl, sym, ◌∙◌, subst, inl, inr}
-use Rattle.std.specs.Prelude.{if◌then◌else◌}
-use Rattle.std.proofs.lemmas.Bool.{cases_lt}
-use Rattle.grown_runs.proofs.Words.{Word, Words, WritesWord, Count, Best, Counter, PointOf, ChildOf, TreeOf, FirstOf, RecordOf, Sizes, HasWord, has_node}
-use Rattle.grown_runs.proofs.Words.{IsBlank, cleared, IsNodeWord, ClearsNode, ClearsNodes}
+use Rattle.grown_runs.proofs.Words.{◌≡◌, ℕ, ◌<◌, Bool, true, false, List, arith, refl, sym, ◌∙◌, subst, inl, inr, if◌then◌else◌, cases_lt, Word, Words}
+use Rattle.grown_runs.proofs.Words.{WritesWord, Count, Best, Counter, PointOf, ChildOf, TreeOf, FirstOf, RecordOf, Sizes, HasWord, has_node, IsBlank, cleared}
+use Rattle.grown_runs.proofs.Words.{IsNodeWord, ClearsNode, ClearsNodes}
 use Rattle.grown_runs.specs.Table.WordPlaces.{word_at}
 use Rattle.grown_runs.proofs.Table.WordReads.{word_at-none}
 

@@ -1,10 +1,7 @@
 -- Words that hold the same nodes and records, since those of points, first words and records stay.
-use Rattle.std.proofs.Common.{◌≡◌, ℕ, zero, suc, ◌+◌, None, map, refl, ap, subst}
-use Rattle.std.specs.Prelude.{if◌then◌else◌}
-use Rattle.std.specs.List.{range_with_len}
-use Rattle.plan_model.specs.Trees.PointsByNumber.{point_at, IsPresent}
-use Rattle.grown_runs.proofs.Words.{Words, ChangesOnly, IsChildWord, PointOf, FirstOf, RecordOf, Sizes, point_of_word, record_of_word, record_at, has_placed}
-use Rattle.grown_runs.proofs.Words.{has_node, node_point, points_of_words}
+use Rattle.grown_runs.proofs.Words.{◌≡◌, ℕ, zero, suc, ◌+◌, None, map, refl, ap, subst, if◌then◌else◌, range_with_len, point_at, IsPresent, Words, ChangesOnly}
+use Rattle.grown_runs.proofs.Words.{IsChildWord, PointOf, FirstOf, RecordOf, Sizes, point_of_word, record_of_word, record_at, has_placed, has_node, node_point}
+use Rattle.grown_runs.proofs.Words.{points_of_words}
 
 -- each point, each first word and each record is as it was
 pub record KeepsNodes (before after : Words) : Type 0 where

@@ -1,6 +1,5 @@
 -- Fields that stand beside one another in a word: `|` adds them up.
-use Rattle.std.proofs.Common.{◌≡◌, ℕ, ◌+◌, ◌*◌, ◌<◌, ◌≤◌, ◌%◌, ◌^◌, bit_or, refl, sym, ap, ◌∙◌, arith}
-use Rattle.std.proofs.lemmas.Nat.{or_shifted}
+use Rattle.grown_runs.proofs.Words.{◌≡◌, ℕ, ◌+◌, ◌*◌, ◌<◌, ◌≤◌, ◌%◌, ◌^◌, bit_or, refl, sym, ap, ◌∙◌, arith, or_shifted}
 
 -- a number below what stands at bit j and above
 pub or-below : (j high low q : ℕ) → high ≡ q * 2 ^ j → low < 2 ^ j → bit_or high low ≡ high + low

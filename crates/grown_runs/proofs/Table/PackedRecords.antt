@@ -1,15 +1,8 @@
 -- A packed record is read again.
-use Rattle.std.proofs.Common.{◌≡◌, ℕ, ◌+◌, ◌*◌, ◌<◌, ◌≤◌, ◌^◌, Some, refl, sym, ap, subst, ◌∙◌, arith}
-use Rattle.std.specs.Prelude.{IsTrue, ◌==◌, ◌&&◌, unwrap_or}
-use Rattle.std.proofs.lemmas.Bool.Decides.{nat_tests}
-use Rattle.std.proofs.lemmas.Option.{same_Some}
-use Rattle.plan_model.specs.declared.records.Outcome.{Outcome}
-use Rattle.plan_model.specs.declared.records.Outcome.TheVariants.{Placed, Same, Blocked, Skipped}
-use Rattle.plan_model.specs.declared.records.Record.{Record}
-use Rattle.plan_model.specs.Runs.Outcomes.{is_zero_unless_placed}
-use Rattle.plan_model.proofs.UniqueRuns.{Record-from_fields}
-use Rattle.grown_runs.specs.Table.Words.{number_of_outcome, parent_in, cost_in, last_field, record_word, FitsWord, IsFirstWord, worker_in, turn_in}
-use Rattle.grown_runs.specs.Table.Words.{nearest_in, outcome_in, last_in, placed_in, unplaced_in, record_in, record_of_word}
+use Rattle.grown_runs.proofs.Words.{◌≡◌, ℕ, ◌+◌, ◌*◌, ◌<◌, ◌≤◌, ◌^◌, Some, refl, sym, ap, subst, ◌∙◌, arith, IsTrue, ◌==◌, ◌&&◌, unwrap_or, nat_tests}
+use Rattle.grown_runs.proofs.Words.{same_Some, Outcome, Placed, Same, Blocked, Skipped, Record, is_zero_unless_placed, Record-from_fields, number_of_outcome}
+use Rattle.grown_runs.proofs.Words.{parent_in, cost_in, last_field, record_word, FitsWord, IsFirstWord, worker_in, turn_in, nearest_in, outcome_in, last_in}
+use Rattle.grown_runs.proofs.Words.{placed_in, unplaced_in, record_in, record_of_word}
 use Rattle.grown_runs.proofs.Table.ReadWords.{if_written-set}
 use Rattle.grown_runs.proofs.Table.PackedWords.{parent_in-tree_word, cost_in-tree_word}
 

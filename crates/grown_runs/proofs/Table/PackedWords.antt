@@ -1,8 +1,6 @@
 -- Packed points, and packed parents with their costs, are read again; a lower cost has a lower word.
-use Rattle.std.proofs.Common.{◌≡◌, ℕ, ◌<◌, ◌/◌, ◌%◌, ◌^◌, Some, sym, ◌∙◌, arith}
-use Rattle.plan_model.specs.declared.geometry.Point.{Point}
-use Rattle.plan_model.specs.Geometry.Bounds.{IsBounded}
-use Rattle.grown_runs.proofs.Words.{IsPointWord, point_word, point_of_word, tree_word, tree_of_word, parent_in, cost_in}
+use Rattle.grown_runs.proofs.Words.{◌≡◌, ℕ, ◌<◌, ◌/◌, ◌%◌, ◌^◌, Some, sym, ◌∙◌, arith, Point, IsBounded, IsPointWord, point_word, point_of_word, tree_word}
+use Rattle.grown_runs.proofs.Words.{tree_of_word, parent_in, cost_in}
 use Rattle.grown_runs.proofs.Table.ReadWords.{if_written-set}
 
 -- the coordinates in a packed point

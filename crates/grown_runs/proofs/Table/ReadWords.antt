@@ -1,11 +1,6 @@
 -- A word that is written holds its value, and a record outcome by outcome.
-use Rattle.std.proofs.Common.{◌≡◌, ℕ, zero, suc, ◌<◌, ◌≤◌, ◌/◌, ◌^◌, false, nat_lt, bit_and, refl, sym, ap, ◌∙◌, arith}
-use Rattle.std.proofs.Common.{if◌then◌else◌, Some, None}
-use Rattle.std.proofs.lemmas.Bool.Decides.{nat_tests}
-use Rattle.std.proofs.lemmas.Nat.{and_mask}
-use Rattle.plan_model.specs.declared.records.Outcome.TheVariants.{Skipped}
-use Rattle.plan_model.specs.declared.records.Record.{Record}
-use Rattle.grown_runs.specs.Table.Words.{if_written, outcome_in, record_in, record_of_word, unplaced_in}
+use Rattle.grown_runs.proofs.Words.{◌≡◌, ℕ, zero, suc, ◌<◌, ◌≤◌, ◌/◌, ◌^◌, false, nat_lt, bit_and, refl, sym, ap, ◌∙◌, arith, if◌then◌else◌, Some, None}
+use Rattle.grown_runs.proofs.Words.{nat_tests, and_mask, Skipped, Record, if_written, outcome_in, record_in, record_of_word, unplaced_in}
 
 -- a written word holds its value
 pub if_written-set : {A : Type 0} → (word : ℕ) (value : A) → 2 ^ 63 ≤ word → if_written word value ≡ Some value

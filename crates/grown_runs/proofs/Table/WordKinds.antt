@@ -1,7 +1,6 @@
 -- A word may stay as it is, what may become of it in two steps may become of it in one, and nothing comes back that has changed.
-use Rattle.std.proofs.Common.{◌≡◌, ℕ, ◌<◌, ◌≤◌, ◌^◌, arith, refl, sym, ◌∙◌, subst, inl, inr}
-use Rattle.std.specs.Prelude.{◌≢◌}
-use Rattle.grown_runs.proofs.Words.{cost_in, Words, WordKind, kind_of, MayBecome, AreBehind, Rising, Once, Falling, Apart}
+use Rattle.grown_runs.proofs.Words.{◌≡◌, ℕ, ◌<◌, ◌≤◌, ◌^◌, arith, refl, sym, ◌∙◌, subst, inl, inr, ◌≢◌, cost_in, Words, WordKind, kind_of, MayBecome, AreBehind}
+use Rattle.grown_runs.proofs.Words.{Rising, Once, Falling, Apart}
 
 pub MayBecome-refl : (kind : WordKind) (word : ℕ) → MayBecome kind word word
 MayBecome-refl Rising word = omega arith

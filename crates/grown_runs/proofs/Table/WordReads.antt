@@ -1,11 +1,9 @@
 -- Each word of a run has a place of its own. A word that is read from the list of a run's words, and one that is written there.
-use Rattle.std.proofs.Common.{◌≡◌, ℕ, ◌<◌, true, false, List, length, get_or, arith, refl, sym, ap, ◌∙◌, inl, inr}
-use Rattle.std.specs.Prelude.{◌≢◌, slice_index, slice_set, if◌then◌else◌}
-use Rattle.std.proofs.lemmas.Bool.{cases_Bool, lt-ltb, le-leb, ltb-true, leb-true}
-use Rattle.std.proofs.lemmas.List.{get_or_default, get_or-set_same, get_or-set_other}
-use Rattle.grown_runs.specs.Table.WordNames.{Word, WritesWord}
-use Rattle.grown_runs.specs.Table.WordNames.Word.{Count, Best, Counter, PointOf, ChildOf, TreeOf, FirstOf, RecordOf}
-use Rattle.grown_runs.specs.Table.WordPlaces.{Sizes, place_of, word_count, HasWord, has_word, word_at}
+use Rattle.grown_runs.proofs.Words.{◌≡◌, ℕ, ◌<◌, true, false, List, length, get_or, arith, refl, sym, ap, ◌∙◌, inl, inr, ◌≢◌, slice_index, slice_set}
+use Rattle.grown_runs.proofs.Words.{if◌then◌else◌, cases_Bool, lt-ltb, le-leb, ltb-true, leb-true, get_or_default, get_or-set_same, get_or-set_other, Word}
+use Rattle.grown_runs.proofs.Words.{WritesWord, Count, Best, Counter, PointOf, ChildOf, TreeOf, FirstOf, RecordOf, Sizes, place_of, word_count, HasWord}
+use Rattle.grown_runs.proofs.Words.{has_word}
+use Rattle.grown_runs.specs.Table.WordPlaces.{word_at}
 
 -- ---- places
 

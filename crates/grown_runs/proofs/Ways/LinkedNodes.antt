@@ -1,14 +1,7 @@
 -- All nodes of a run are linked, one after another: at first the start alone, at last the way of each node ends at it.
-use Rattle.std.proofs.Common.{◌≡◌, ℕ, ◌+◌, ◌≤◌, Bool, true, false, None, arith, refl, sym, ap, ◌∙◌, inl, inr}
-use Rattle.std.specs.Prelude.{is_some}
-use Rattle.std.proofs.lemmas.Bool.{cases_eq, cases_lt}
-use Rattle.plan_model.specs.declared.geometry.Point.{Point}
-use Rattle.plan_model.specs.Trees.PointsByNumber.{point_at, StandsAt}
-use Rattle.plan_model.specs.Seen.Ways.{FollowWays}
-use Rattle.plan_model.proofs.NewNodes.{IsPresent-stands}
-use Rattle.plan_model.proofs.WayLinks.{FollowWays-same, FollowWays-start}
-use Rattle.grown_runs.proofs.Words.{Sizes, Words, points_of_words, children_of_words, points_below, AreLinkedBelow, AreUnlinked, ChangesChildren, LinksRise}
-use Rattle.grown_runs.proofs.Words.{MayLink}
+use Rattle.grown_runs.proofs.Words.{◌≡◌, ℕ, ◌+◌, ◌≤◌, Bool, true, false, None, arith, refl, sym, ap, ◌∙◌, inl, inr, is_some, cases_eq, cases_lt, Point}
+use Rattle.grown_runs.proofs.Words.{point_at, StandsAt, FollowWays, IsPresent-stands, FollowWays-same, FollowWays-start, Sizes, Words, points_of_words}
+use Rattle.grown_runs.proofs.Words.{children_of_words, points_below, AreLinkedBelow, AreUnlinked, ChangesChildren, LinksRise, MayLink}
 use Rattle.grown_runs.proofs.Runs.GrownPoints.{none_some}
 use Rattle.grown_runs.proofs.Ways.NodesBelow.{point_at-lesser, point_at-greater, present-lesser}
 use Rattle.grown_runs.proofs.Table.KeptWords.{KeepsNodes-children, point_at-kept}

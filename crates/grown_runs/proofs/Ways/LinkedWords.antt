@@ -1,14 +1,8 @@
 -- The words of a run in which a node is linked: one child word changes, and what the others say stays.
-use Rattle.std.proofs.Common.{◌≡◌, ℕ, ◌+◌, ◌<◌, Bool, Some, arith, sym, ap, ◌∙◌, subst, inl, inr}
-use Rattle.std.specs.Prelude.{◌≢◌, is_some}
-use Rattle.std.proofs.lemmas.Bool.{cases_lt}
-use Rattle.plan_model.specs.declared.geometry.Point.{Point}
-use Rattle.plan_model.specs.Trees.PointsByNumber.{IsFree, point_at, StandsAt, point_of}
-use Rattle.plan_model.specs.Seen.Ways.{goes_right, AddsPoint, EndsBelow, LinksAt}
-use Rattle.plan_model.proofs.NewNodes.{IsPresent-stands, StandsAt-present}
-use Rattle.plan_model.proofs.WayLinks.{AddsPoint-stands, FollowWays-links, new_or_old_child}
-use Rattle.grown_runs.proofs.Words.{Words, WritesWord, IsChildWord, PointOf, ChildOf, Sizes, point_in, points_of_words, child_of_word, children_of_words}
-use Rattle.grown_runs.proofs.Words.{points_below, AreLinkedBelow, LinksRise, MayLink, ChangesChildren}
+use Rattle.grown_runs.proofs.Words.{◌≡◌, ℕ, ◌+◌, ◌<◌, Bool, Some, arith, sym, ap, ◌∙◌, subst, inl, inr, ◌≢◌, is_some, cases_lt, Point, IsFree, point_at}
+use Rattle.grown_runs.proofs.Words.{StandsAt, point_of, goes_right, AddsPoint, EndsBelow, LinksAt, IsPresent-stands, StandsAt-present, AddsPoint-stands}
+use Rattle.grown_runs.proofs.Words.{FollowWays-links, new_or_old_child, Words, WritesWord, IsChildWord, PointOf, ChildOf, Sizes, point_in, points_of_words}
+use Rattle.grown_runs.proofs.Words.{child_of_word, children_of_words, points_below, AreLinkedBelow, LinksRise, MayLink, ChangesChildren}
 use Rattle.grown_runs.proofs.Ways.NodesBelow.{child_of_word-some, point_in-stands, point_at-lesser, point_at-greater, present-lesser, stands-lesser}
 use Rattle.grown_runs.proofs.Table.KeptWords.{KeepsNodes, KeepsNodes-children, point_at-kept}
 

@@ -1,17 +1,9 @@
 -- The nodes below a number: where they stand, and which they are.
-use Rattle.std.proofs.Common.{◌≡◌, ℕ, zero, suc, ◌+◌, ◌<◌, ◌≤◌, ◌^◌, Bool, length}
-use Rattle.std.proofs.Common.{Some, None, arith, refl, sym, ap, ◌∙◌, subst, inl, inr}
-use Rattle.std.specs.Prelude.{◌≢◌, nat_lt, is_some, if◌then◌else◌}
-use Rattle.std.proofs.lemmas.Bool.{cases_lt, cases_Bool, le-ltb, lt-ltb}
-use Rattle.std.proofs.lemmas.List.{get_or_past}
-use Rattle.std.proofs.lemmas.List.FromFn.{get_or-map-range_with_len, length-map-range_with_len}
-use Rattle.std.proofs.lemmas.Option.{same_Some}
-use Rattle.plan_model.specs.declared.geometry.Point.{Point}
-use Rattle.plan_model.specs.Trees.PointsByNumber.{point_at, StandsAt, IsPresent, point_of}
-use Rattle.plan_model.specs.Seen.SeenTrees.{IsSeen}
-use Rattle.plan_model.proofs.NewNodes.{IsPresent-stands, StandsAt-present}
-use Rattle.grown_runs.proofs.Words.{Words, PointOf, ChildOf, Sizes, if_written, point_in, node_point, points_of_words, child_of_word, AreLinkedBelow}
-use Rattle.grown_runs.proofs.Words.{points_below, tree_below}
+use Rattle.grown_runs.proofs.Words.{◌≡◌, ℕ, zero, suc, ◌+◌, ◌<◌, ◌≤◌, ◌^◌, Bool, length, Some, None, arith, refl, sym, ap, ◌∙◌, subst, inl, inr, ◌≢◌, nat_lt}
+use Rattle.grown_runs.proofs.Words.{is_some, if◌then◌else◌, cases_lt, cases_Bool, le-ltb, lt-ltb, get_or_past, get_or-map-range_with_len}
+use Rattle.grown_runs.proofs.Words.{length-map-range_with_len, same_Some, Point, point_at, StandsAt, IsPresent, point_of, IsSeen, IsPresent-stands}
+use Rattle.grown_runs.proofs.Words.{StandsAt-present, Words, PointOf, ChildOf, Sizes, if_written, point_in, node_point, points_of_words, child_of_word}
+use Rattle.grown_runs.proofs.Words.{AreLinkedBelow, points_below, tree_below}
 use Rattle.grown_runs.proofs.Runs.GrownPoints.{point_at-words, point_at-past, point_of_word-stands, present-within}
 
 -- ---- words

@@ -1,14 +1,7 @@
 -- The sides of a node by depth and by row or column, and how far the points of the other side are.
-use Rattle.std.proofs.Common.{◌≡◌, ◌⊎◌, ℕ, zero, suc, ◌*◌, ◌<◌, ◌≤◌, Bool, true, false, not, arith, refl, ap, ◌∙◌, inl, inr}
-use Rattle.std.specs.Prelude.{◌%◌, ◌==◌, if◌then◌else◌, nat_lt}
-use Rattle.std.specs.Int.{abs_diff}
-use Rattle.std.proofs.lemmas.Bool.{ltb-true, ltb-false}
-use Rattle.std.proofs.Math.Nat.{suc-mod}
-use Rattle.std.proofs.lemmas.Nat.{mul-le}
-use Rattle.plan_model.specs.declared.geometry.Point.{Point}
-use Rattle.plan_model.specs.Geometry.Plane.{squared_distance}
-use Rattle.plan_model.specs.Seen.Ways.{goes_right}
-use Rattle.grown_runs.specs.Ways.KdSides.{goes_right_by, is_by_rows, split_distance}
+use Rattle.grown_runs.proofs.Words.{◌≡◌, ◌⊎◌, ℕ, zero, suc, ◌*◌, ◌<◌, ◌≤◌, Bool, true, false, not, arith, refl, ap, ◌∙◌, inl, inr, ◌%◌, ◌==◌, if◌then◌else◌}
+use Rattle.grown_runs.proofs.Words.{nat_lt, abs_diff, ltb-true, ltb-false, suc-mod, mul-le, Point, squared_distance, goes_right, goes_right_by, is_by_rows}
+use Rattle.grown_runs.proofs.Words.{split_distance}
 
 -- by row at odd depth, by column at even depth
 pub goes_right-by : (depth : ℕ) (p q : Point) → goes_right depth p q ≡ goes_right_by (is_by_rows depth) p q

@@ -1,13 +1,7 @@
 -- A walk along the way of a point goes on from stop to stop, or ends at one.
-use Rattle.std.proofs.Common.{◌≡◌, ℕ, suc, ◌+◌, Bool, false, not, Some, None, arith, refl, sym, ap, ◌∙◌, subst, inl, inr}
-use Rattle.std.specs.Prelude.{◌≢◌}
-use Rattle.plan_model.specs.declared.geometry.Point.{Point}
-use Rattle.plan_model.specs.Trees.PointsByNumber.{StandsAt}
-use Rattle.plan_model.specs.Seen.SeenTrees.{IsSeen, SeenTree}
-use Rattle.plan_model.specs.Seen.Ways.{EndsBelow, FillsPlaces, goes_right, IsOnWay}
-use Rattle.plan_model.specs.Seen.Ways.IsOnWay.{begins, goes_on}
-use Rattle.plan_model.proofs.WayLinks.{FillsPlaces-trans, IsOnWay-fills}
-use Rattle.grown_runs.proofs.Words.{is_by_rows, side_of, StopsAt, Stop}
+use Rattle.grown_runs.proofs.Words.{◌≡◌, ℕ, suc, ◌+◌, Bool, false, not, Some, None, arith, refl, sym, ap, ◌∙◌, subst, inl, inr, ◌≢◌, Point, StandsAt, IsSeen}
+use Rattle.grown_runs.proofs.Words.{SeenTree, EndsBelow, FillsPlaces, goes_right, IsOnWay, begins, goes_on, FillsPlaces-trans, IsOnWay-fills, is_by_rows}
+use Rattle.grown_runs.proofs.Words.{side_of, StopsAt, Stop}
 use Rattle.grown_runs.proofs.Ways.SplitSides.{goes_right-by, is_by_rows-next}
 
 -- every way begins at the root

@@ -1,9 +1,7 @@
 -- Chains and links of the two runs, in order or not.
-use Rattle.std.proofs.Common.{◌≡◌, [], ◌∷◌, arith, refl, inl, inr}
-use Rattle.route_laws.proofs.Common.{Record, placed_record, same_record, empty_room, early_record, overlapped, placed_by, open_setup, at, AreInRoom-from_clear}
-use Rattle.route_laws.proofs.Common.{Clear-empty_room}
-use Rattle.route_laws.specs.Chains.{IsChain, IsChainInOrder, IsLinkInOrder, cost_of_chain}
-use Rattle.plan_model_tests.specs.RouteExamples.ChainRuns.{late, low_setup, small_setup}
+use Rattle.plan_model_tests.proofs.Words.{◌≡◌, [], ◌∷◌, arith, refl, inl, inr, Record, placed_record, same_record, empty_room, early_record, overlapped}
+use Rattle.plan_model_tests.proofs.Words.{placed_by, open_setup, at, AreInRoom-from_clear, Clear-empty_room, IsChain, IsChainInOrder, IsLinkInOrder}
+use Rattle.plan_model_tests.proofs.Words.{cost_of_chain, late, low_setup, small_setup}
 use Rattle.plan_model_tests.proofs.RouteExamples.ChainLinks.{IsLinkInOrder-neighbour, entry_is, neighbour-link, none_to_start}
 use Rattle.plan_model_tests.proofs.RouteExamples.ChainRun.{cost_1, cost_4, cost_5, cost_13, cost_16, cost_20, cost_29}
 

@@ -1,8 +1,6 @@
 -- Links of placed nodes, by what computes of their records.
-use Rattle.std.proofs.Common.{◌≡◌, ℕ, suc, Some, arith, refl, sym, ap, ◌∙◌, subst}
-use Rattle.std.specs.Prelude.{unwrap_or}
-use Rattle.route_laws.proofs.Common.{Placed, Record, IsNeighbour, Setup, point_of, TreeState}
-use Rattle.route_laws.specs.Chains.{IsLinkInOrder}
+use Rattle.plan_model_tests.proofs.Words.{◌≡◌, ℕ, suc, Some, arith, refl, sym, ap, ◌∙◌, subst, unwrap_or, Placed, Record, IsNeighbour, Setup, point_of}
+use Rattle.plan_model_tests.proofs.Words.{TreeState, IsLinkInOrder}
 
 module _ (setup : Setup) (state : TreeState) (i k : ℕ) (entry : Record) (recorded : state.record_of k ≡ Some entry) where
   pub IsLinkInOrder-neighbour : entry.outcome ≡ Placed → IsNeighbour setup state entry (point_of state.points (suc k)) i

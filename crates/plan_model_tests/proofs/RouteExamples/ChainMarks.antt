@@ -1,15 +1,11 @@
 -- Marks in the small room, by what computes of them: marks that are placed, and marks that end at a node.
-use Rattle.std.proofs.Common.{◌≡◌, ℕ, suc, ◌*◌, List, [], ◌∷◌, ◌++◌, length, Option, Some, None, true, refl, sym, ap, ◌∙◌, subst, arith}
-use Rattle.std.specs.Prelude.{All, Contains, filter, is_some}
-use Rattle.std.specs.Int.{abs_diff}
-use Rattle.std.specs.List.{range_with_len}
+use Rattle.plan_model_tests.proofs.Words.{◌≡◌, ℕ, suc, ◌*◌, List, [], ◌∷◌, ◌++◌, length, Option, Some, None, true, refl, sym, ap, ◌∙◌, subst, arith, All}
+use Rattle.plan_model_tests.proofs.Words.{Contains, filter, is_some, abs_diff, range_with_len, All-contains, Point, empty_room, IsInRoom, squared_distance}
+use Rattle.plan_model_tests.proofs.Words.{steered, class_of, point_at, point_of, IsFree, IsPresent, StandsAt, node_count, IsNotAbove, first_least, distance_to}
+use Rattle.plan_model_tests.proofs.Words.{is_within, near, IsNearest, points_of, sum_of, Nodes, near_new, cost_through, Rewires, EndsPlaced, EndsSame}
+use Rattle.plan_model_tests.proofs.Words.{placed_record, same_record, at, node, IsPresent-below, Clear-empty_room, MayBeCheaper-not_skipping}
+use Rattle.plan_model_tests.proofs.Words.{IsFirstLeast-among, IsBelowPassing, first_least-some, Contains-near, small_setup}
 use Rattle.std.proofs.lemmas.Bool.{le-leb}
-use Rattle.std.proofs.lemmas.List.Elements.{All-contains}
-use Rattle.route_laws.proofs.Common.{Point, empty_room, IsInRoom, squared_distance, steered, class_of, point_at, point_of, IsFree, IsPresent, StandsAt}
-use Rattle.route_laws.proofs.Common.{node_count, IsNotAbove, first_least, distance_to, is_within, near, IsNearest, points_of, sum_of, Nodes, near_new}
-use Rattle.route_laws.proofs.Common.{cost_through, Rewires, EndsPlaced, EndsSame, placed_record, same_record, at, node, IsPresent-below, Clear-empty_room}
-use Rattle.route_laws.proofs.Common.{MayBeCheaper-not_skipping, IsFirstLeast-among, IsBelowPassing, first_least-some, Contains-near}
-use Rattle.plan_model_tests.specs.RouteExamples.ChainRuns.{small_setup}
 
 -- the present nodes by number
 abbrev pub present : List (Option Point) → List ℕ

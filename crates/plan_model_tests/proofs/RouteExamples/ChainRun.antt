@@ -1,12 +1,9 @@
 -- The run in which node 2 moves below node 4.
-use Rattle.std.proofs.Common.{◌≡◌, ℕ, [], ◌∷◌, None, refl, sym, ap, arith, inl, inr}
-use Rattle.std.specs.Prelude.{All}
-use Rattle.std.proofs.lemmas.List.Elements.{All-cons, All-nil}
-use Rattle.route_laws.proofs.Common.{empty_room, advanced, steered, IsNotAbove, sum_of, Nodes, cost_through, EndsPlaced, EndsSame, HandlesAll, IsCheaperThrough}
-use Rattle.route_laws.proofs.Common.{IsTextbookRun, Rewires, placed_record, same_record, node, at, Clear-empty_room, IsNotAbove-refl, IsNotAbove-lesser}
-use Rattle.route_laws.proofs.Common.{root_ceiling-from_squares}
+use Rattle.plan_model_tests.proofs.Words.{◌≡◌, ℕ, [], ◌∷◌, None, refl, sym, ap, arith, inl, inr, All, All-cons, All-nil, empty_room, advanced, steered}
+use Rattle.plan_model_tests.proofs.Words.{IsNotAbove, sum_of, Nodes, cost_through, EndsPlaced, EndsSame, HandlesAll, IsCheaperThrough, IsTextbookRun, Rewires}
+use Rattle.plan_model_tests.proofs.Words.{placed_record, same_record, node, at, Clear-empty_room, IsNotAbove-refl, IsNotAbove-lesser, root_ceiling-from_squares}
+use Rattle.plan_model_tests.proofs.Words.{late_marks, late_records, late_tree, small_setup}
 use Rattle.plan_model.specs.Geometry.Roots.{root_ceiling}
-use Rattle.plan_model_tests.specs.RouteExamples.ChainRuns.{late_marks, late_records, late_tree, small_setup}
 use Rattle.plan_model_tests.proofs.RouteExamples.ChainMarks.{EndsPlaced-placeable, EndsSame-computed}
 
 -- ---- the costs of edges, by the squares of their lengths

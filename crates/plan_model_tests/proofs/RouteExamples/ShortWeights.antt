@@ -1,8 +1,6 @@
 -- Weights of one corner, and of three; and a point body that meets nothing between the walls.
-use Rattle.std.proofs.Common.{◌≡◌, ℕ, ◌≤◌, List, [], ◌∷◌, length, arith, refl}
-use Rattle.std.proofs.lemmas.Int.{ints}
-use Rattle.std.proofs.lemmas.List.Elements.{All-cons, All-nil}
-use Rattle.route_laws.proofs.Common.{Point, Vertex, ClearAt, space_among, Meets, IsBetweenWalls, at_lattice, moved_by, point_body, corner, corner_in_box}
+use Rattle.plan_model_tests.proofs.Words.{◌≡◌, ℕ, ◌≤◌, List, [], ◌∷◌, length, arith, refl, ints, All-cons, All-nil, Point, Vertex, ClearAt, space_among, Meets}
+use Rattle.plan_model_tests.proofs.Words.{IsBetweenWalls, at_lattice, moved_by, point_body, corner, corner_in_box}
 
 pub record One (ws : List ℕ) : Type 0 where
   pub only : ℕ

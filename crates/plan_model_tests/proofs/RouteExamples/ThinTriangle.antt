@@ -1,13 +1,7 @@
 -- The thin triangle meets a point body at no lattice point near (5, 5), but halfway between (5, 4) and (5, 5).
-use Rattle.std.proofs.Common.{◌≡◌, inl, inr, ℕ, ◌+◌, ◌*◌, ◌<◌, ◌≤◌, [], ◌∷◌, arith, refl}
-use Rattle.std.specs.Prelude.{pos, ◌*ℤ◌}
-use Rattle.std.specs.Int.{abs_diff}
-use Rattle.std.proofs.lemmas.Bool.{cases_lt}
-use Rattle.std.proofs.lemmas.Int.{ints}
-use Rattle.std.proofs.lemmas.Nat.{mul-le}
-use Rattle.route_laws.proofs.Common.{Point, squared_distance, Clear, ClearAt, on_the_way, Meets, Rational, at_lattice, point_body, at, two_is_positive}
-use Rattle.route_laws.proofs.Common.{Meets-shares_point, SharesPoint-meets}
-use Rattle.plan_model_tests.specs.RouteExamples.Links.{thin_space, thin_triangle}
+use Rattle.plan_model_tests.proofs.Words.{◌≡◌, inl, inr, ℕ, ◌+◌, ◌*◌, ◌<◌, ◌≤◌, [], ◌∷◌, arith, refl, pos, ◌*ℤ◌, abs_diff, cases_lt, ints, mul-le, Point}
+use Rattle.plan_model_tests.proofs.Words.{squared_distance, Clear, ClearAt, on_the_way, Meets, Rational, at_lattice, point_body, at, two_is_positive}
+use Rattle.plan_model_tests.proofs.Words.{Meets-shares_point, SharesPoint-meets, thin_space, thin_triangle}
 use Rattle.plan_model_tests.proofs.RouteExamples.ShortWeights.{ClearAt-apart, one, three}
 
 -- ---- lattice points

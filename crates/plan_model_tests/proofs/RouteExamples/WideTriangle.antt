@@ -1,14 +1,7 @@
 -- The wide triangle begins in column 10: four lattice steps or more to the right of what stands in columns 0 to 6.
-use Rattle.std.proofs.Common.{◌≡◌, ℕ, ◌+◌, ◌*◌, ◌<◌, ◌≤◌, [], ◌∷◌, arith, ap, ◌∙◌, refl}
-use Rattle.std.specs.Prelude.{pos, ◌-ℤ◌, unsigned_abs}
-use Rattle.std.specs.Int.{abs_diff}
-use Rattle.std.proofs.lemmas.Int.{ints}
-use Rattle.std.proofs.lemmas.List.Elements.{All-cons, All-nil}
-use Rattle.std.proofs.lemmas.Nat.{mul-le}
-use Rattle.route_laws.proofs.Common.{Point, squared_distance, weighted, great_triangle, point_body, at, corner}
-use Rattle.route_laws.specs.Discs.{IsFartherFrom, KeepsBodyFar, KeepsFromWalls, gap_from}
-use Rattle.route_laws.proofs.FollowedDiscs.{difference}
-use Rattle.plan_model_tests.specs.RouteExamples.Links.{wide_setup}
+use Rattle.plan_model_tests.proofs.Words.{◌≡◌, ℕ, ◌+◌, ◌*◌, ◌<◌, ◌≤◌, [], ◌∷◌, arith, ap, ◌∙◌, refl, pos, ◌-ℤ◌, unsigned_abs, abs_diff, ints, All-cons, All-nil}
+use Rattle.plan_model_tests.proofs.Words.{mul-le, Point, squared_distance, weighted, great_triangle, point_body, at, corner, IsFartherFrom, KeepsBodyFar}
+use Rattle.plan_model_tests.proofs.Words.{KeepsFromWalls, gap_from, difference, wide_setup}
 use Rattle.plan_model_tests.proofs.RouteExamples.ShortWeights.{one, three}
 
 -- by weights of this total

@@ -1,12 +1,9 @@
 -- The first line that breaks a law of nodes or marks is that of the first node or mark that does.
-use Rattle.std.proofs.Common.{◌≡◌, ℕ, zero, suc, ◌<◌, ◌≤◌, cond, List, [], ◌∷◌, length, take, Option, Some, None, arith, refl, subst, inl, inr}
-use Rattle.std.specs.Prelude.{is_some, count_by, slice_get}
-use Rattle.std.proofs.lemmas.Bool.{cases_lt}
-use Rattle.std.proofs.lemmas.List.Sums.{sum_by-cons}
-use Rattle.std.proofs.lemmas.Option.{slice_get_within}
-use Rattle.grown_runs.proofs.Common.{Record, Task, Knot, mark_at, IsLawfulRecord, setup_of, IsPresent}
-use Rattle.report_judge.proofs.Words.{IsFirstBreak, KeepsHead, KeepsPresence, extent_of, Sheet, SpellsSheet, head_lines, state_of_sheet, number_of_node_line}
-use Rattle.report_judge.proofs.Words.{number_of_mark_line, KeepsNodeLaw, HasOwnTurn, KeepsLawAt, KeepsLaw, best_priced_path, tally_of, BreaksLawFirst, IsLawful}
+use Rattle.report_judge.proofs.Words.{◌≡◌, ℕ, zero, suc, ◌<◌, ◌≤◌, cond, List, [], ◌∷◌, length, take, Option, Some, None, arith, refl, subst, inl, inr, is_some}
+use Rattle.report_judge.proofs.Words.{count_by, slice_get, cases_lt, sum_by-cons, slice_get_within, Record, Task, Knot, mark_at, IsLawfulRecord, setup_of}
+use Rattle.report_judge.proofs.Words.{IsPresent, IsFirstBreak, KeepsHead, KeepsPresence, extent_of, Sheet, SpellsSheet, head_lines, state_of_sheet}
+use Rattle.report_judge.proofs.Words.{number_of_node_line, number_of_mark_line, KeepsNodeLaw, HasOwnTurn, KeepsLawAt, KeepsLaw, best_priced_path, tally_of}
+use Rattle.report_judge.proofs.Words.{BreaksLawFirst, IsLawful}
 
 -- among more first nodes no fewer are present
 count-take-le : (knots : List (Option Knot)) (m n : ℕ) → m ≤ n → count_by is_some (take m knots) ≤ count_by is_some (take n knots)

@@ -1,13 +1,7 @@
 -- The first numbers that break laws: of two laws, of laws that say the same, and of a law that no number repeats an earlier one.
-use Rattle.std.proofs.Common.{◌≡◌, ℕ, ◌<◌, true, false, eqb, List, length, take, get_or, Option, Some, None}
-use Rattle.std.proofs.Common.{arith, sym, ◌∙◌, subst, inl, inr}
-use Rattle.std.specs.Prelude.{min}
-use Rattle.std.specs.List.{list_any}
-use Rattle.std.proofs.lemmas.Bool.{cases_lt, eq-eqb, eqb-true, true≢false}
-use Rattle.std.proofs.lemmas.List.{get_or-take, length-take-le}
-use Rattle.std.proofs.lemmas.List.Folds.{Any-from_list_any, list_any_at}
-use Rattle.std.proofs.lemmas.Option.{slice_get-get_or}
-use Rattle.report_judge.specs.Laws.FirstBreaks.{IsFirstBreak, IsNewKey, earlier_of}
+use Rattle.report_judge.proofs.Words.{◌≡◌, ℕ, ◌<◌, true, false, eqb, List, length, take, get_or, Option, Some, None, arith, sym, ◌∙◌, subst, inl, inr, min}
+use Rattle.report_judge.proofs.Words.{list_any, cases_lt, eq-eqb, eqb-true, true≢false, get_or-take, length-take-le, Any-from_list_any, list_any_at}
+use Rattle.report_judge.proofs.Words.{slice_get-get_or, IsFirstBreak, IsNewKey, earlier_of}
 
 -- The first number that breaks one of two laws is the lesser of those that break each first.
 pub IsFirstBreak-earlier : (Keeps Others : ℕ → Type 0) (limit : ℕ) (one other : Option ℕ) → IsFirstBreak Keeps limit one

@@ -1,9 +1,7 @@
 -- A node may hang by the list as it may hang in the tree of the list; and first costs by the records.
-use Rattle.std.proofs.Common.{◌≡◌, ℕ, zero, suc, ◌-◌, ◌*◌, ◌<◌, ◌≤◌, List, Option, arith, sym, ap, subst}
-use Rattle.std.specs.Prelude.{slice_get}
-use Rattle.grown_runs.proofs.Common.{ConfigurationSpace, Record, Knot, cost_of, squared_distance, Hangs, Setup, Clear, point_of, TreeState, first_cost_of}
-use Rattle.grown_runs.proofs.Common.{recorded_or, kept_cost_of, state_of_lists}
-use Rattle.report_judge.specs.Laws.ExactEdges.{MayHang}
+use Rattle.report_judge.proofs.Words.{◌≡◌, ℕ, zero, suc, ◌-◌, ◌*◌, ◌<◌, ◌≤◌, List, Option, arith, sym, ap, subst, slice_get, ConfigurationSpace, Record, Knot}
+use Rattle.report_judge.proofs.Words.{cost_of, squared_distance, Hangs, Setup, Clear, point_of, TreeState, first_cost_of, recorded_or, kept_cost_of}
+use Rattle.report_judge.proofs.Words.{state_of_lists, MayHang}
 use Rattle.report_judge.proofs.Laws.NodeBreaks.{listed, own_point, present}
 
 -- a later node's first cost is that of its mark's record

@@ -1,13 +1,8 @@
 -- Two heads differ first at the first line if one alone has a path, or the paths differ in length or cost; or else at a point or the counts.
-use Rattle.std.proofs.Common.{◌≡◌, ℕ, zero, suc, ◌<◌, ◌≤◌, List, [], ◌∷◌, ◌++◌, length, map, get_or, Option, Some, None}
-use Rattle.std.proofs.Common.{arith, refl, sym, ap, ◌∙◌, subst, inl, inr, length-append}
-use Rattle.std.specs.Prelude.{◌⊎◌, IfNone, IfSome, slice_get}
-use Rattle.std.proofs.lemmas.Bool.{cases_lt}
-use Rattle.std.proofs.lemmas.List.{length-map}
-use Rattle.std.proofs.lemmas.Option.{slice_get-get_or, slice_get_within}
-use Rattle.plan_model.specs.declared.geometry.Point.{Point}
-use Rattle.report_judge.proofs.Words.{IsFirstBreak, KeepsHead, KeepsPoint, ReportLine, PathOf, PathPoint, Counts, PricedPath, head_lines}
-use Rattle.report_judge.specs.Texts.ReportLines.{Tally}
+use Rattle.report_judge.proofs.Words.{◌≡◌, ℕ, zero, suc, ◌<◌, ◌≤◌, List, [], ◌∷◌, ◌++◌, length, map, get_or, Option, Some, None, arith, refl, sym, ap, ◌∙◌}
+use Rattle.report_judge.proofs.Words.{subst, inl, inr, length-append, ◌⊎◌, slice_get, cases_lt, length-map, slice_get-get_or, slice_get_within, Point}
+use Rattle.report_judge.proofs.Words.{IsFirstBreak, KeepsHead, KeepsPoint, ReportLine, PathOf, PathPoint, Counts, PricedPath, head_lines, Tally}
+use Rattle.std.specs.Prelude.{IfNone, IfSome}
 
 -- the lines after that of the path
 abbrev later : List Point → Tally → List ReportLine

@@ -1,16 +1,11 @@
 -- A sheet that keeps every law is the full report of a settled run that is closed over all marks.
-use Rattle.std.proofs.Common.{◌≡◌, ℕ, suc, ◌+◌, ◌<◌, true, List, [], ◌∷◌, length, map, Option, Some, None}
-use Rattle.std.proofs.Common.{arith, refl, sym, ap, ◌∙◌, get_or, length-append}
-use Rattle.std.specs.Prelude.{is_some, option_map, slice_get}
-use Rattle.std.proofs.lemmas.Bool.{false_from_ne_true}
-use Rattle.std.proofs.lemmas.List.{length-map, ext_get_or}
-use Rattle.std.proofs.lemmas.Option.{slice_get-get_or, slice_get_past}
-use Rattle.grown_runs.proofs.Common.{Blocked, Record, Task, Knot, Twig, IsClosed, has_outcome, KeepsOrder, is_placed, Setup, setup_of, unplaced_record, ClearAt}
-use Rattle.grown_runs.proofs.Common.{space_of, without_costs, IsPresent, point_at, TreeState, IsSettled, present_below}
-use Rattle.report_judge.proofs.Words.{ReportLine, extent_of, lines_text, NoPath, PathOf, PathPoint, Counts, PricedPath, Sheet, head_lines, lines_of_sheet}
-use Rattle.report_judge.proofs.Words.{state_of_sheet, HasForm, number_of_node_line, number_of_mark_line, KeepsNodeLaw, KeepsLaw, best_priced_path, tally_of}
-use Rattle.report_judge.proofs.Words.{IsReportOfRun, IsLawful}
-use Rattle.report_judge.specs.Texts.ReportLines.{Tally}
+use Rattle.report_judge.proofs.Words.{◌≡◌, ℕ, suc, ◌+◌, ◌<◌, true, List, [], ◌∷◌, length, map, Option, Some, None, arith, refl, sym, ap, ◌∙◌, get_or}
+use Rattle.report_judge.proofs.Words.{length-append, is_some, option_map, slice_get, false_from_ne_true, length-map, ext_get_or, slice_get-get_or}
+use Rattle.report_judge.proofs.Words.{slice_get_past, Blocked, Record, Task, Knot, Twig, IsClosed, has_outcome, KeepsOrder, is_placed, Setup, setup_of}
+use Rattle.report_judge.proofs.Words.{unplaced_record, ClearAt, space_of, without_costs, IsPresent, point_at, TreeState, IsSettled, present_below, ReportLine}
+use Rattle.report_judge.proofs.Words.{extent_of, lines_text, NoPath, PathOf, PathPoint, Counts, PricedPath, Sheet, head_lines, lines_of_sheet, state_of_sheet}
+use Rattle.report_judge.proofs.Words.{HasForm, number_of_node_line, number_of_mark_line, KeepsNodeLaw, KeepsLaw, best_priced_path, tally_of, IsReportOfRun}
+use Rattle.report_judge.proofs.Words.{IsLawful, Tally}
 use Rattle.report_judge.proofs.Laws.OwnTurns.{AreTurns-own}
 use Rattle.report_judge.proofs.Texts.SheetTexts.{lines_text-sheet}
 use Rattle.report_judge.proofs.Laws.SheetTrees.{IsSettled-sound, KeepsOrder-sound}

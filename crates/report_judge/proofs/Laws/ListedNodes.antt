@@ -1,8 +1,7 @@
 -- Where a node of a list stands in the tree of the list.
-use Rattle.std.proofs.Common.{◌≡◌, ℕ, List, Option, Some, None, sym, ap, ◌∙◌}
-use Rattle.std.specs.Prelude.{is_some, option_map, slice_index_or}
-use Rattle.grown_runs.proofs.Common.{Goal, Point, Record, Knot, is_goal_point, lies_in_goals, IsPresent, StandsAt, point_at, point_of, IsPresent-stands}
-use Rattle.grown_runs.proofs.Common.{point_of-stands, state_of_lists, point_at-lists}
+use Rattle.report_judge.proofs.Words.{◌≡◌, ℕ, List, Option, Some, None, sym, ap, ◌∙◌, is_some, option_map, slice_index_or, Goal, Point, Record, Knot}
+use Rattle.report_judge.proofs.Words.{is_goal_point, lies_in_goals, IsPresent, StandsAt, point_at, point_of, IsPresent-stands, point_of-stands, state_of_lists}
+use Rattle.report_judge.proofs.Words.{point_at-lists}
 
 -- the point of a node of the list
 abbrev point_in : Option Knot → Option Point

@@ -1,8 +1,7 @@
 -- A node but the start keeps its law if its point is new and it hangs exactly below its parent.
-use Rattle.std.proofs.Common.{◌≡◌, ℕ, zero, suc, ◌+◌, ◌*◌, ◌<◌, ◌≤◌, List, length, Option, Some, None, arith, sym, ap, ◌∙◌, subst}
-use Rattle.std.specs.Prelude.{is_some, option_map, slice_index_or}
-use Rattle.grown_runs.proofs.Common.{ConfigurationSpace, Point, Record, Knot, cost_of, squared_distance, Setup, Clear, IsPresent, StandsAt, point_of, TreeState}
-use Rattle.grown_runs.proofs.Common.{IsPresent-stands, point_of-stands, kept_cost_of, state_of_lists, point_at-lists, parent_of-lists}
+use Rattle.report_judge.proofs.Words.{◌≡◌, ℕ, zero, suc, ◌+◌, ◌*◌, ◌<◌, ◌≤◌, List, length, Option, Some, None, arith, sym, ap, ◌∙◌, subst, is_some, option_map}
+use Rattle.report_judge.proofs.Words.{slice_index_or, ConfigurationSpace, Point, Record, Knot, cost_of, squared_distance, Setup, Clear, IsPresent, StandsAt}
+use Rattle.report_judge.proofs.Words.{point_of, TreeState, IsPresent-stands, point_of-stands, kept_cost_of, state_of_lists, point_at-lists, parent_of-lists}
 use Rattle.report_judge.proofs.Words.{FitsEdges, KeepsEdges, IsFirstBreak, IsNewKey, KeepsNode, point_key, IsSoundNode}
 use Rattle.report_judge.proofs.Laws.FirstBreakLaws.{IsFirstBreak-same}
 

@@ -1,11 +1,6 @@
 -- Bytes have one verdict at most.
-use Rattle.std.proofs.Common.{◌≡◌, ℕ, suc, ◌<◌, ◌^◌, List, [], ◌∷◌, ◌++◌, length, Some}
-use Rattle.std.proofs.Common.{arith, refl, sym, ap, ◌∙◌, subst, inl, inr, append_assoc, append-nil, length-append}
-use Rattle.std.specs.Prelude.{◌⊎◌, slice_get}
-use Rattle.std.specs.List.{join_with_byte}
-use Rattle.std.proofs.lemmas.Bool.{cases_order}
-use Rattle.std.proofs.Math.Seq.{take-append_seam}
-use Rattle.grown_runs.proofs.Common.{Task, length-marks}
+use Rattle.report_judge.proofs.Words.{◌≡◌, ℕ, suc, ◌<◌, ◌^◌, List, [], ◌∷◌, ◌++◌, length, Some, arith, refl, sym, ap, ◌∙◌, subst, inl, inr, append_assoc}
+use Rattle.report_judge.proofs.Words.{append-nil, length-append, ◌⊎◌, slice_get, join_with_byte, cases_order, take-append_seam, Task, length-marks}
 use Rattle.report_judge.proofs.Words.{MayStandNext, AreBegun, AreAll, BreaksFormFirst, ReportLine, Extent, extent_of, line_words, line_text, lines_text}
 use Rattle.report_judge.proofs.Words.{FitsLine, Sheet, SpellsSheet, lines_of_sheet, KeepsLawAt, IsLawful, BreaksLawFirst, IsBroken}
 use Rattle.report_judge.proofs.Texts.ListPlaces.{slice_get-seam}

@@ -1,12 +1,8 @@
 -- Turns below the number of a worker's records, none twice, leave no gap.
-use Rattle.std.proofs.Common.{◌≡◌, ℕ, zero, suc, ◌+◌, ◌-◌, ◌<◌, ◌≤◌, Bool, true, false, cond, eqb, ltb, Option, Some, None}
-use Rattle.std.proofs.Common.{arith, refl, sym, ap, ◌∙◌, inl, inr}
-use Rattle.std.specs.Prelude.{◌&&◌, count_by}
-use Rattle.std.specs.List.{range_with_len}
-use Rattle.std.proofs.lemmas.Bool.{cases_eq, cases_lt, cases_order, cases_Bool, and_from, and_left, and_right, eq-eqb, ne_eqb, lt-ltb, le-ltb}
-use Rattle.grown_runs.proofs.Common.{Record, is_of_worker, turns_of, is_of_turn, times_of, AreTurns, count-more, count-same, count-none, count-single}
-use Rattle.grown_runs.proofs.Common.{count-found, turn_of_record, ltb-next, once_if-below, once_if-past}
-use Rattle.report_judge.specs.Laws.SheetLaws.{HasOwnTurn}
+use Rattle.report_judge.proofs.Words.{◌≡◌, ℕ, zero, suc, ◌+◌, ◌-◌, ◌<◌, ◌≤◌, Bool, true, false, cond, eqb, ltb, Option, Some, None, arith, refl, sym, ap, ◌∙◌}
+use Rattle.report_judge.proofs.Words.{inl, inr, ◌&&◌, count_by, range_with_len, cases_eq, cases_lt, cases_order, cases_Bool, and_from, and_left, and_right}
+use Rattle.report_judge.proofs.Words.{eq-eqb, ne_eqb, lt-ltb, le-ltb, Record, is_of_worker, turns_of, is_of_turn, times_of, AreTurns, count-more, count-same}
+use Rattle.report_judge.proofs.Words.{count-none, count-single, count-found, turn_of_record, ltb-next, once_if-below, once_if-past, HasOwnTurn}
 
 -- ---- counts
 

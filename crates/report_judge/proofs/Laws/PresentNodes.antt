@@ -1,9 +1,6 @@
 -- Whether a node is present, by the list of nodes.
-use Rattle.std.proofs.Common.{◌≡◌, ℕ, suc, Bool, true, false, not, List, Option, Some, None, refl, sym, ap, ◌∙◌}
-use Rattle.std.proofs.Math.Bool.{beq}
-use Rattle.std.specs.Prelude.{is_some, option_map, slice_get, slice_index_or}
-use Rattle.grown_runs.proofs.Common.{Record, Knot, is_placed, point_at, state_of_lists, point_at-lists}
-use Rattle.report_judge.specs.Laws.FirstBreaks.{KeepsPresence}
+use Rattle.report_judge.proofs.Words.{◌≡◌, ℕ, suc, Bool, true, false, not, List, Option, Some, None, refl, sym, ap, ◌∙◌, beq, is_some, option_map, slice_get}
+use Rattle.report_judge.proofs.Words.{slice_index_or, Record, Knot, is_placed, point_at, state_of_lists, point_at-lists, KeepsPresence}
 
 is_some-map : (o : Option Knot) → is_some (option_map (λ (knot : Knot). knot.point) o) ≡ is_some o
 is_some-map None = refl

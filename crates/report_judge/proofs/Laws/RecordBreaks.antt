@@ -1,9 +1,7 @@
 -- The first mark of any worker that breaks the law of records is the first of those of each worker.
-use Rattle.std.proofs.Common.{◌≡◌, ℕ, suc, ◌≤◌, List, length, Option, Some, None, arith, ap, inl, inr}
-use Rattle.std.specs.Prelude.{slice_get}
-use Rattle.std.proofs.lemmas.Bool.{cases_lt}
-use Rattle.grown_runs.proofs.Common.{Record, Task, Knot, turns_of}
-use Rattle.report_judge.proofs.Words.{HasFewTurns, IsFirstBreak, earlier_of, HaveLowTurns, KeepsRecord, KeepsRecordOf, KeepsRecordBelow, KeepsRecordBetween}
+use Rattle.report_judge.proofs.Words.{◌≡◌, ℕ, suc, ◌≤◌, List, length, Option, Some, None, arith, ap, inl, inr, slice_get, cases_lt, Record, Task, Knot}
+use Rattle.report_judge.proofs.Words.{turns_of, HasFewTurns, IsFirstBreak, earlier_of, HaveLowTurns, KeepsRecord, KeepsRecordOf, KeepsRecordBelow}
+use Rattle.report_judge.proofs.Words.{KeepsRecordBetween}
 use Rattle.report_judge.proofs.Laws.FirstBreakLaws.{IsFirstBreak-earlier, IsFirstBreak-same}
 
 module _ (task : Task) (knots : List (Option Knot)) (records : List Record) where

@@ -1,23 +1,18 @@
 -- The full report of a settled run that is closed over all marks is a sheet that keeps every law.
-use Rattle.std.proofs.Common.{◌≡◌, ℕ, zero, suc, ◌-◌, ◌<◌, ◌≤◌, ◌^◌, Bool, true, false, cond, eqb, List, [], length, map, get_or, Option, Some, None}
-use Rattle.std.proofs.Common.{arith, refl, sym, ap, ◌∙◌, subst, inl, inr}
-use Rattle.std.specs.Prelude.{◌&&◌, All, count_by, is_some, option_map, unwrap_or, reverse, slice_get, slice_index_or}
-use Rattle.std.specs.List.{range_with_len}
-use Rattle.std.proofs.lemmas.Bool.{cases_lt, and_parts, eqb-true}
-use Rattle.std.proofs.lemmas.List.{length-map, length-reverse, get_or_past, get_or-reverse}
-use Rattle.std.proofs.lemmas.List.Elements.{All-map}
-use Rattle.std.proofs.lemmas.List.FromFn.{get_or-map-range_with_len, length-map-range_with_len, length-range_with_len}
-use Rattle.std.proofs.lemmas.List.Sums.{count_by-le-length}
-use Rattle.std.proofs.lemmas.Option.{slice_get-get_or, slice_get_past, slice_get_within, get_or_from_slice_get}
-use Rattle.grown_runs.proofs.Common.{Goal, Point, Outcome, Placed, Same, Blocked, Skipped, Record, Task, Knot, Twig, IsBounded, full_report, path_to, IsClosed}
-use Rattle.grown_runs.proofs.Common.{has_outcome, mark_at, is_placed, is_same, is_blocked, is_skipped, is_zero_unless_placed, HasLawfulOutcome, Setup, setup_of}
-use Rattle.grown_runs.proofs.Common.{unplaced_record, best_node, goals_of, is_goal_point, chain_within, without_costs, IsPresent, node_count, point_at}
-use Rattle.grown_runs.proofs.Common.{point_of, TreeState, AreSameRuns, IsSettled, chain_in, IsPresent-goal, best_node-some, numbers-closed, length-marks}
-use Rattle.grown_runs.proofs.Common.{IsPresent-stands, StandsAt-present, point_of-stands, node_count-length, sum_in-parent, start-present, parent-present}
-use Rattle.grown_runs.proofs.Common.{report_text-same, IsClosed-same_run, IsSettled-same, times-once, turn-below, IsKnot, kept_cost_of, state_of_lists}
-use Rattle.grown_runs.proofs.Common.{FitsRecord-closed, IsBounded-closed, kept-low, present-closed, point_at-lists, parent_of-lists}
-use Rattle.report_judge.proofs.Words.{FitsKnot, FitsEntry, FitsTally, FitsSkipped, EndsWithin, extent_of, Sheet, FitsOptionalPath, HasForm, HasOwnTurn}
-use Rattle.report_judge.proofs.Words.{KeepsNodeLaw, KeepsLaw, best_priced_path, path_by, skipped_of, tally_of, IsReportOfRun, IsLawful}
+use Rattle.report_judge.proofs.Words.{◌≡◌, ℕ, zero, suc, ◌-◌, ◌<◌, ◌≤◌, ◌^◌, Bool, true, false, cond, eqb, List, [], length, map, get_or, Option, Some, None}
+use Rattle.report_judge.proofs.Words.{arith, refl, sym, ap, ◌∙◌, subst, inl, inr, ◌&&◌, All, count_by, is_some, option_map, unwrap_or, reverse, slice_get}
+use Rattle.report_judge.proofs.Words.{slice_index_or, range_with_len, cases_lt, and_parts, eqb-true, length-map, length-reverse, get_or_past, get_or-reverse}
+use Rattle.report_judge.proofs.Words.{All-map, get_or-map-range_with_len, length-map-range_with_len, length-range_with_len, count_by-le-length}
+use Rattle.report_judge.proofs.Words.{slice_get-get_or, slice_get_past, slice_get_within, get_or_from_slice_get, Goal, Point, Outcome, Placed, Same, Blocked}
+use Rattle.report_judge.proofs.Words.{Skipped, Record, Task, Knot, Twig, IsBounded, full_report, path_to, IsClosed, has_outcome, mark_at, is_placed, is_same}
+use Rattle.report_judge.proofs.Words.{is_blocked, is_skipped, is_zero_unless_placed, HasLawfulOutcome, Setup, setup_of, unplaced_record, best_node, goals_of}
+use Rattle.report_judge.proofs.Words.{is_goal_point, chain_within, without_costs, IsPresent, node_count, point_at, point_of, TreeState, AreSameRuns, IsSettled}
+use Rattle.report_judge.proofs.Words.{chain_in, IsPresent-goal, best_node-some, numbers-closed, length-marks, IsPresent-stands, StandsAt-present}
+use Rattle.report_judge.proofs.Words.{point_of-stands, node_count-length, sum_in-parent, start-present, parent-present, report_text-same, IsClosed-same_run}
+use Rattle.report_judge.proofs.Words.{IsSettled-same, times-once, turn-below, IsKnot, kept_cost_of, state_of_lists, FitsRecord-closed, IsBounded-closed}
+use Rattle.report_judge.proofs.Words.{kept-low, present-closed, point_at-lists, parent_of-lists, FitsKnot, FitsEntry, FitsTally, FitsSkipped, EndsWithin}
+use Rattle.report_judge.proofs.Words.{extent_of, Sheet, FitsOptionalPath, HasForm, HasOwnTurn, KeepsNodeLaw, KeepsLaw, best_priced_path, path_by, skipped_of}
+use Rattle.report_judge.proofs.Words.{tally_of, IsReportOfRun, IsLawful}
 use Rattle.report_judge.proofs.Laws.LawfulSheets.{length-without_costs}
 use Rattle.report_judge.proofs.Texts.SheetTexts.{lines_text-sheet}
 

@@ -1,13 +1,10 @@
 -- What the form of a sheet and the laws that it keeps say of its lists.
-use Rattle.std.proofs.Common.{◌≡◌, ℕ, zero, suc, ◌<◌, true, eqb, ltb, arith, List, [], length, Option, Some, None, refl, sym, ◌∙◌, inl, inr, ◌≤◌, subst}
-use Rattle.std.specs.Prelude.{◌&&◌, slice_get, slice_index_or}
-use Rattle.std.proofs.lemmas.Bool.{and_parts, cases_order}
-use Rattle.std.proofs.lemmas.Option.{slice_get_within}
-use Rattle.grown_runs.proofs.Common.{MOST_MARKS, MOST_NODES, Record, Task, Knot, is_placed, is_earlier_record, Setup, setup_of, ClearAt, IsPresent, TreeState}
-use Rattle.grown_runs.proofs.Common.{length-marks, KeepsOrder-falls, parent-present, state_of_lists, IsKnot-at}
-use Rattle.report_judge.proofs.Words.{FitsEdges, HasFewTurns, KeepsPresence, KeepsTurn, HaveLowTurns, IsSettledList, ArePresent, FitFirstCosts, Extent}
-use Rattle.report_judge.proofs.Words.{extent_of, Sheet, HasForm, number_of_mark_line, number_of_node_line, state_of_sheet, HaveOwnTurns, HasOwnTurn, KeepsLaw}
-use Rattle.report_judge.proofs.Words.{KeepsNodeLaw}
+use Rattle.report_judge.proofs.Words.{◌≡◌, ℕ, zero, suc, ◌<◌, true, eqb, ltb, arith, List, [], length, Option, Some, None, refl, sym, ◌∙◌, inl, inr, ◌≤◌, subst}
+use Rattle.report_judge.proofs.Words.{◌&&◌, slice_get, slice_index_or, and_parts, cases_order, slice_get_within, MOST_MARKS, MOST_NODES, Record, Task, Knot}
+use Rattle.report_judge.proofs.Words.{is_placed, is_earlier_record, Setup, setup_of, ClearAt, IsPresent, TreeState, length-marks, KeepsOrder-falls}
+use Rattle.report_judge.proofs.Words.{parent-present, state_of_lists, IsKnot-at, FitsEdges, HasFewTurns, KeepsPresence, KeepsTurn, HaveLowTurns, IsSettledList}
+use Rattle.report_judge.proofs.Words.{ArePresent, FitFirstCosts, Extent, extent_of, Sheet, HasForm, number_of_mark_line, number_of_node_line, state_of_sheet}
+use Rattle.report_judge.proofs.Words.{HaveOwnTurns, HasOwnTurn, KeepsLaw, KeepsNodeLaw}
 use Rattle.report_judge.proofs.Laws.SheetTrees.{IsSettled-sound, KeepsOrder-sound}
 
 -- ---- form

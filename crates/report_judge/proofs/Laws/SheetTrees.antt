@@ -1,10 +1,9 @@
 -- Nodes that keep their law, each at its line, make a settled tree that keeps the order law.
-use Rattle.std.proofs.Common.{◌≡◌, ℕ, zero, suc, ◌+◌, ◌-◌, ◌*◌, ◌<◌, ◌≤◌, List, ◌∷◌, Option, Some, map, arith, refl, sym, ap, ◌∙◌, inl, inr}
-use Rattle.std.proofs.lemmas.Bool.{cases_order}
-use Rattle.grown_runs.proofs.Common.{Point, cost_of, HangsBelow, KeepsOrder, most_cost_of, Setup, ClearAt, chain_within, length_of_path, AreTightAlong}
-use Rattle.grown_runs.proofs.Common.{FallAlong, AreDistinct, IsPresent, StandsAt, node_count, point_of, TreeState, IsSettled, sums-tight, IsPresent-stands}
-use Rattle.grown_runs.proofs.Common.{point_of-stands, node_count-some, HangsBelow-falls, cost_of-short}
-use Rattle.report_judge.specs.Laws.SheetLaws.{IsStartNode, IsSoundNode, KeepsNodeLaw}
+use Rattle.report_judge.proofs.Words.{◌≡◌, ℕ, zero, suc, ◌+◌, ◌-◌, ◌*◌, ◌<◌, ◌≤◌, List, ◌∷◌, Option, Some, map, arith, refl, sym, ap, ◌∙◌, inl, inr}
+use Rattle.report_judge.proofs.Words.{cases_order, Point, cost_of, HangsBelow, KeepsOrder, most_cost_of, Setup, ClearAt, chain_within, length_of_path}
+use Rattle.report_judge.proofs.Words.{AreTightAlong, FallAlong, AreDistinct, IsPresent, StandsAt, node_count, point_of, TreeState, IsSettled, sums-tight}
+use Rattle.report_judge.proofs.Words.{IsPresent-stands, point_of-stands, node_count-some, HangsBelow-falls, cost_of-short, IsStartNode, IsSoundNode}
+use Rattle.report_judge.proofs.Words.{KeepsNodeLaw}
 
 -- a path from p over a chain of some members is an edge longer than the chain's
 path_of_chain :

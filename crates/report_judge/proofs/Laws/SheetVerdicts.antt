@@ -1,13 +1,11 @@
 -- The verdict on a sheet in form, by the first node, mark or line of the head that breaks a law.
-use Rattle.std.proofs.Common.{◌≡◌, ℕ, suc, ◌-◌, ◌<◌, ◌≤◌, List, [], length, Option, Some, None, arith, refl, ap, length-append, ◌∙◌, subst, inl, inr}
-use Rattle.std.specs.Prelude.{is_some, slice_get}
-use Rattle.std.proofs.lemmas.Bool.{both_ways, cases_Bool}
-use Rattle.grown_runs.proofs.Common.{Record, Task, Knot, outcome_count, is_placed, is_same, is_blocked, Setup, setup_of, ClearAt, space_of, best_node, goals_of}
-use Rattle.grown_runs.proofs.Common.{without_costs, IsPresent, node_count, point_at, present_below, state_of_lists}
-use Rattle.report_judge.proofs.Words.{Lawful, Broken, IsFirstBreak, KeepsHead, KeepsNode, KeepsPresence, KeepsTurn, IsVerdict, KeepsRecord, Extent, lines_text}
-use Rattle.report_judge.proofs.Words.{extent_of, PricedPath, Sheet, HasForm, SpellsSheet, head_lines, lines_of_sheet, state_of_sheet, number_of_mark_line}
-use Rattle.report_judge.proofs.Words.{number_of_node_line, HasOwnTurn, KeepsLaw, best_priced_path, path_by, skipped_of, tally_of, IsBroken, BreaksFormFirst}
-use Rattle.report_judge.specs.Texts.ReportLines.{Tally}
+use Rattle.report_judge.proofs.Words.{◌≡◌, ℕ, suc, ◌-◌, ◌<◌, ◌≤◌, List, [], length, Option, Some, None, arith, refl, ap, length-append, ◌∙◌, subst, inl, inr}
+use Rattle.report_judge.proofs.Words.{is_some, slice_get, both_ways, cases_Bool, Record, Task, Knot, outcome_count, is_placed, is_same, is_blocked, Setup}
+use Rattle.report_judge.proofs.Words.{setup_of, ClearAt, space_of, best_node, goals_of, without_costs, IsPresent, node_count, point_at, present_below}
+use Rattle.report_judge.proofs.Words.{state_of_lists, Lawful, Broken, IsFirstBreak, KeepsHead, KeepsNode, KeepsPresence, KeepsTurn, IsVerdict, KeepsRecord}
+use Rattle.report_judge.proofs.Words.{Extent, lines_text, extent_of, PricedPath, Sheet, HasForm, SpellsSheet, head_lines, lines_of_sheet, state_of_sheet}
+use Rattle.report_judge.proofs.Words.{number_of_mark_line, number_of_node_line, HasOwnTurn, KeepsLaw, best_priced_path, path_by, skipped_of, tally_of, IsBroken}
+use Rattle.report_judge.proofs.Words.{BreaksFormFirst, Tally}
 use Rattle.report_judge.proofs.Laws.BrokenLines.{BreaksLawFirst-heads, BreaksLawFirst-nodes, BreaksLawFirst-presence, BreaksLawFirst-records}
 use Rattle.report_judge.proofs.Laws.BrokenLines.{BreaksLawFirst-turns, IsLawful-six, KeepsLaw-heads, KeepsLaw-nodes}
 use Rattle.report_judge.proofs.Laws.BrokenLines.{KeepsLaw-turns, KeepsTurns}

@@ -1,9 +1,6 @@
 -- A mark has a turn of its own if its worker and turn are new, and its turn is below the number of its worker's marks.
-use Rattle.std.proofs.Common.{◌≡◌, ℕ, ◌+◌, ◌*◌, ◌<◌, List, length, get_or, Option, Some, arith, sym, ◌∙◌}
-use Rattle.std.specs.Prelude.{slice_get, slice_index_or}
-use Rattle.std.proofs.lemmas.Option.{slice_get-get_or}
-use Rattle.grown_runs.proofs.Common.{Blocked, Record, unplaced_record}
-use Rattle.report_judge.specs.Laws.FirstBreaks.{HasFewTurns, HasLowTurn, IsFirstBreak, IsNewKey, KeepsTurn, turn_key}
+use Rattle.report_judge.proofs.Words.{◌≡◌, ℕ, ◌+◌, ◌*◌, ◌<◌, List, length, get_or, Option, Some, arith, sym, ◌∙◌, slice_get, slice_index_or, slice_get-get_or}
+use Rattle.report_judge.proofs.Words.{Blocked, Record, unplaced_record, HasFewTurns, HasLowTurn, IsFirstBreak, IsNewKey, KeepsTurn, turn_key}
 use Rattle.report_judge.proofs.Laws.FirstBreakLaws.{IsFirstBreak-same}
 
 module _

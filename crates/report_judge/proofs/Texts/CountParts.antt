@@ -1,9 +1,5 @@
 -- The text of a line of counts as words and numbers one after another.
-use Rattle.std.proofs.Common.{◌≡◌, ℕ, List, ◌∷◌, ◌++◌, Option, Some, append_assoc, decimal}
-use Rattle.std.specs.Prelude.{codes}
-use Rattle.plan_model.specs.Reports.ReportText.{line}
-use Rattle.report_judge.proofs.Words.{field, line_text, skipped_count, Counts}
-use Rattle.report_judge.specs.declared.tallies.Tally.{Tally}
+use Rattle.report_judge.proofs.Words.{◌≡◌, ℕ, List, ◌∷◌, ◌++◌, Option, Some, append_assoc, decimal, codes, line, field, line_text, skipped_count, Counts, Tally}
 
 -- the line from the count of blocked marks on
 abbrev pub last_counts : ℕ → Option ℕ → List ℕ → List ℕ

@@ -1,20 +1,11 @@
 -- The words that are numbers without a sign are those that numbers have in decimal.
-use Rattle.std.proofs.Common.{◌≡◌, ℕ, zero, suc, ◌+◌, ◌-◌, ◌*◌, ◌/◌, ◌%◌, ◌^◌, ◌<◌, ◌≤◌, Bool, true, false, not, ◌&&◌, ◌||◌, eqb, leb, pos, List, [], ◌∷◌, ◌++◌}
-use Rattle.std.proofs.Common.{length, get_or, refl, sym, ap, ◌∙◌, subst, decimal, arith, inl, inr}
-use Rattle.std.specs.Prelude.{◌⊎◌, bytes_eq, int_le, IfNone, IfSome, Option, None, Some}
-use Rattle.std.specs.List.{list_all}
-use Rattle.std.specs.Prelude.{fold}
-use Rattle.std.specs.Int.{IsInRange}
-use Rattle.std.proofs.lemmas.Nat.{mul-le}
-use Rattle.std.proofs.Math.Nat.{mul_assoc, mul_comm, pow-le-pow_right, pow-suc}
-use Rattle.std.proofs.lemmas.Fmt.{decimal_by_steps, decimal_digit, decimal-digits_value}
-use Rattle.std.proofs.lemmas.Str.Parse.{IsDigitsTest, FoldsDigits, numerals_by_fold}
-use Rattle.std.proofs.lemmas.List.Folds.{list_all-append}
-use Rattle.std.proofs.lemmas.List.Sums.{fold-append}
-use Rattle.std.proofs.lemmas.Bool.Decides.{nat_tests}
-use Rattle.std.proofs.lemmas.Slice.Eq.{bytes_eq-Decides}
-use Rattle.std.proofs.lemmas.Bool.{and_parts, and_from, eq-eqb, leb-true, ne_eqb, true≢false}
-use Rattle.plan_model.specs.Texts.TextNumbers.{is_digit, is_positive, is_number, magnitude, value_of}
+use Rattle.report_judge.proofs.Words.{◌≡◌, ℕ, zero, suc, ◌+◌, ◌-◌, ◌*◌, ◌/◌, ◌%◌, ◌^◌, ◌<◌, ◌≤◌, Bool, true, false, not, ◌&&◌, ◌||◌, eqb, leb, pos, List, []}
+use Rattle.report_judge.proofs.Words.{◌∷◌, ◌++◌, length, get_or, refl, sym, ap, ◌∙◌, subst, decimal, arith, inl, inr, ◌⊎◌, bytes_eq, int_le, Option, None, Some}
+use Rattle.report_judge.proofs.Words.{list_all, fold, IsInRange, mul-le, mul_assoc, mul_comm, pow-le-pow_right, pow-suc, decimal_by_steps, decimal_digit}
+use Rattle.report_judge.proofs.Words.{decimal-digits_value, IsDigitsTest, FoldsDigits, numerals_by_fold, list_all-append, fold-append, nat_tests}
+use Rattle.report_judge.proofs.Words.{bytes_eq-Decides, and_parts, and_from, eq-eqb, leb-true, ne_eqb, true≢false, is_digit, is_positive, is_number, magnitude}
+use Rattle.report_judge.proofs.Words.{value_of}
+use Rattle.std.specs.Prelude.{IfNone, IfSome}
 
 -- digits that stand for a number, with no leading zero
 record AreDigitsOf (n : ℕ) (digits : List ℕ) : Type 0 where

@@ -1,15 +1,8 @@
 -- Numbers in decimal at the front of texts.
-use Rattle.std.proofs.Common.{◌≡◌, ℕ, suc, ◌+◌, ◌<◌, ◌^◌, Bool, true, false, cond, List, [], ◌∷◌, ◌++◌, length, take, drop, drop-cons, get_or}
-use Rattle.std.proofs.Common.{arith, refl, sym, ap, ◌∙◌, decimal, length-append}
-use Rattle.std.specs.Option.{IfNone, IfSome, MatchOption}
-use Rattle.std.specs.Prelude.{Option, None, Some}
-use Rattle.std.specs.List.{list_all, prefix_len}
-use Rattle.std.proofs.lemmas.Bool.{and_parts}
-use Rattle.std.proofs.lemmas.Bool.Decides.{nat_tests}
-use Rattle.std.proofs.lemmas.Fmt.{decimal_injective}
-use Rattle.std.proofs.lemmas.List.{append_cancel_left, take-append-drop}
-use Rattle.std.proofs.Math.Seq.{take-append_seam}
-use Rattle.plan_model.specs.Texts.TextNumbers.{is_digit}
+use Rattle.report_judge.proofs.Words.{◌≡◌, ℕ, suc, ◌+◌, ◌<◌, ◌^◌, Bool, true, false, cond, List, [], ◌∷◌, ◌++◌, length, take, drop, drop-cons, get_or, arith}
+use Rattle.report_judge.proofs.Words.{refl, sym, ap, ◌∙◌, decimal, length-append, MatchOption, Option, None, Some, list_all, prefix_len, and_parts, nat_tests}
+use Rattle.report_judge.proofs.Words.{decimal_injective, append_cancel_left, take-append-drop, take-append_seam, is_digit}
+use Rattle.std.specs.Option.{IfNone, IfSome}
 use Rattle.report_judge.proofs.Texts.LineWords.{digits-decimal}
 
 -- a byte below the digits is none of them

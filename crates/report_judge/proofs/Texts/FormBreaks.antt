@@ -1,16 +1,11 @@
 -- Where lines that were read break the form, and that they have it if they break it nowhere.
-use Rattle.std.proofs.Common.{◌≡◌, ℕ, zero, suc, ◌+◌, ◌-◌, ◌<◌, ◌≤◌, ◌^◌, List, [], ◌∷◌, ◌++◌, length, map, Option, Some, None}
-use Rattle.std.proofs.Common.{arith, refl, sym, ap, ◌∙◌, subst, inl, inr, append_assoc, append-nil, length-append}
-use Rattle.std.specs.Prelude.{◌≢◌, ◌⊎◌, IsSome, is_some, count_by, slice_get, slice_index_or}
-use Rattle.std.proofs.lemmas.Grind.{flat_map-append}
-use Rattle.std.proofs.lemmas.List.{length-map}
-use Rattle.std.proofs.lemmas.Option.{slice_get_past, slice_get_within}
-use Rattle.grown_runs.proofs.Common.{Point, Record, Knot, IsPresent, node_count-lists}
-use Rattle.report_judge.proofs.Words.{ReadsPoints, ReadsNodes, ReadsRecords, nodes_said, counts_place, nodes_to_come, MayFollow, MayStandNext, AreBegun}
-use Rattle.report_judge.proofs.Words.{BreaksFormFirst, ReportLine, Extent, line_text, lines_text, FitsTally, FitsEntry, FitsLine, NoPath, PathOf, PathPoint}
-use Rattle.report_judge.proofs.Words.{Counts, NodeLine, MarkLine, PricedPath, Sheet, path_lines, head_lines, lines_of_knots, lines_of_records, lines_of_sheet}
-use Rattle.report_judge.proofs.Words.{FitsOptionalPath, SpellsSheet, state_of_sheet}
-use Rattle.report_judge.specs.Texts.ReportLines.{Tally}
+use Rattle.report_judge.proofs.Words.{◌≡◌, ℕ, zero, suc, ◌+◌, ◌-◌, ◌<◌, ◌≤◌, ◌^◌, List, [], ◌∷◌, ◌++◌, length, map, Option, Some, None, arith, refl, sym, ap}
+use Rattle.report_judge.proofs.Words.{◌∙◌, subst, inl, inr, append_assoc, append-nil, length-append, ◌≢◌, ◌⊎◌, IsSome, is_some, count_by, slice_get}
+use Rattle.report_judge.proofs.Words.{slice_index_or, flat_map-append, length-map, slice_get_past, slice_get_within, Point, Record, Knot, IsPresent}
+use Rattle.report_judge.proofs.Words.{node_count-lists, ReadsPoints, ReadsNodes, ReadsRecords, nodes_said, counts_place, nodes_to_come, MayFollow, MayStandNext}
+use Rattle.report_judge.proofs.Words.{AreBegun, BreaksFormFirst, ReportLine, Extent, line_text, lines_text, FitsTally, FitsEntry, FitsLine, NoPath, PathOf}
+use Rattle.report_judge.proofs.Words.{PathPoint, Counts, NodeLine, MarkLine, PricedPath, Sheet, path_lines, head_lines, lines_of_knots, lines_of_records}
+use Rattle.report_judge.proofs.Words.{lines_of_sheet, FitsOptionalPath, SpellsSheet, state_of_sheet, Tally}
 use Rattle.report_judge.proofs.Texts.ListPlaces.{slice_get-right}
 use Rattle.report_judge.proofs.Laws.NodeBreaks.{present}
 use Rattle.report_judge.proofs.Texts.SheetLines.{lines_few}

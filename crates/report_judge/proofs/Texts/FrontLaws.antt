@@ -1,16 +1,11 @@
 -- One more line is read at the front of a text.
-use Rattle.std.proofs.Common.{◌≡◌, ℕ, zero, suc, ◌+◌, ◌-◌, ◌<◌, ◌≤◌, ◌^◌, false, List, [], ◌∷◌, ◌++◌, length, get_or, set, replicate, Option, Some, None}
-use Rattle.std.proofs.Common.{arith, refl, sym, ap, ◌∙◌, subst, inl, inr, append_assoc, append-nil, length-append}
-use Rattle.std.specs.Prelude.{◌≢◌, ◌⊎◌, All, IsSome, is_some, slice_get, slice_index_or}
-use Rattle.std.specs.List.{range_with_len, flat_map}
-use Rattle.std.proofs.lemmas.Bool.{cases_eq, cases_lt}
-use Rattle.std.proofs.lemmas.Grind.{flat_map-append, get_or-set_at}
-use Rattle.std.proofs.lemmas.List.{get_or-replicate, get_or_past, get_or-set_other, get_or_append_left, get_or_at, length-replicate, length-set}
-use Rattle.std.proofs.lemmas.Option.{get_or_from_slice_get}
-use Rattle.grown_runs.proofs.Common.{Record, Knot, IsKnot, IsKnot-at}
-use Rattle.report_judge.proofs.Words.{IsNextNode, ReadsNodes, MayFollow, ReportLine, line_text, lines_text, FitsKnot, Counts, NodeLine, MarkLine, line_of_knot}
-use Rattle.report_judge.proofs.Words.{line_of_record, lines_of_knots, lines_of_records}
-use Rattle.report_judge.specs.Texts.ReportLines.{Tally}
+use Rattle.report_judge.proofs.Words.{◌≡◌, ℕ, zero, suc, ◌+◌, ◌-◌, ◌<◌, ◌≤◌, ◌^◌, false, List, [], ◌∷◌, ◌++◌, length, get_or, set, replicate, Option, Some}
+use Rattle.report_judge.proofs.Words.{None, arith, refl, sym, ap, ◌∙◌, subst, inl, inr, append_assoc, append-nil, length-append, ◌≢◌, ◌⊎◌, All, IsSome, is_some}
+use Rattle.report_judge.proofs.Words.{slice_get, slice_index_or, range_with_len, flat_map, cases_eq, cases_lt, flat_map-append, get_or-set_at, get_or-replicate}
+use Rattle.report_judge.proofs.Words.{get_or_past, get_or-set_other, get_or_append_left, get_or_at, length-replicate, get_or_from_slice_get, Record, Knot}
+use Rattle.report_judge.proofs.Words.{IsKnot, IsKnot-at, IsNextNode, ReadsNodes, MayFollow, ReportLine, line_text, lines_text, FitsKnot, Counts, NodeLine}
+use Rattle.report_judge.proofs.Words.{MarkLine, line_of_knot, line_of_record, lines_of_knots, lines_of_records, Tally}
+use Rattle.std.proofs.lemmas.List.{length-set}
 use Rattle.report_judge.proofs.Texts.LineWords.{same_first_lines}
 use Rattle.report_judge.proofs.Texts.SheetForms.{flat_map-more}
 use Rattle.report_judge.proofs.Texts.ListPlaces.{slice_get-left, slice_get-seam}

@@ -1,9 +1,6 @@
 -- The texts of lines as words and numbers one after another.
-use Rattle.std.proofs.Common.{◌≡◌, ℕ, ◌<◌, ◌^◌, List, [], ◌∷◌, ◌++◌, sym, ◌∙◌, append_assoc, decimal}
-use Rattle.std.specs.Prelude.{codes}
-use Rattle.std.proofs.lemmas.List.{append_cancel_left}
-use Rattle.grown_runs.proofs.Common.{Point, Knot}
-use Rattle.report_judge.proofs.Words.{field, line_text, point_field, NodeLine, PathOf, PathPoint}
+use Rattle.report_judge.proofs.Words.{◌≡◌, ℕ, ◌<◌, ◌^◌, List, [], ◌∷◌, ◌++◌, sym, ◌∙◌, append_assoc, decimal, codes, append_cancel_left, Point, Knot, field}
+use Rattle.report_judge.proofs.Words.{line_text, point_field, NodeLine, PathOf, PathPoint}
 use Rattle.report_judge.proofs.Texts.FieldWords.{same_fields}
 
 -- Texts that begin with the same word, a number and the same byte, and are the same, begin with the same number.

@@ -1,17 +1,10 @@
 -- What a line says is known by its words, and these by its bytes.
-use Rattle.std.proofs.Common.{◌≡◌, ℕ, ◌+◌, ◌%◌, ◌/◌, ◌<◌, ◌≤◌, ◌^◌, Bool, true, false, not, ◌&&◌, eqb, List, [], ◌∷◌, ◌++◌, length, get_or}
-use Rattle.std.proofs.Common.{arith, refl, sym, ap, ◌∙◌, subst, append_assoc, decimal}
-use Rattle.std.specs.Prelude.{IsTrue, Option, Some, None, codes}
-use Rattle.std.specs.List.{list_all, join_with_byte}
-use Rattle.std.proofs.lemmas.Bool.{and_parts, eqb-true, true≢false}
-use Rattle.std.proofs.lemmas.Bool.Decides.{nat_tests}
-use Rattle.std.proofs.lemmas.Fmt.{decimal_by_steps, decimal_injective}
-use Rattle.std.proofs.lemmas.List.{append_cancel_left}
-use Rattle.std.proofs.lemmas.List.Folds.{list_all-append}
-use Rattle.grown_runs.proofs.Common.{Outcome, Placed, Same, Blocked, Skipped, Record, line, outcome_words, is_zero_unless_placed, HaveSameFields, lines_of}
-use Rattle.grown_runs.proofs.Common.{pieces_of, is_digit, Record-from_fields, last_field}
-use Rattle.report_judge.specs.Texts.ReportLines.{ReportLine, Extent, line_words, line_text, skipped_count, FitsLine, FitsSkipped}
-use Rattle.report_judge.specs.Texts.ReportLines.ReportLine.{NoPath, PathOf, PathPoint, Counts, NodeLine, MarkLine}
+use Rattle.report_judge.proofs.Words.{◌≡◌, ℕ, ◌+◌, ◌%◌, ◌/◌, ◌<◌, ◌≤◌, ◌^◌, Bool, true, false, not, ◌&&◌, eqb, List, [], ◌∷◌, ◌++◌, length, get_or, arith, refl}
+use Rattle.report_judge.proofs.Words.{sym, ap, ◌∙◌, subst, append_assoc, decimal, IsTrue, Option, Some, None, codes, list_all, join_with_byte, and_parts}
+use Rattle.report_judge.proofs.Words.{eqb-true, true≢false, nat_tests, decimal_by_steps, decimal_injective, append_cancel_left, list_all-append, Outcome}
+use Rattle.report_judge.proofs.Words.{Placed, Same, Blocked, Skipped, Record, line, outcome_words, is_zero_unless_placed, HaveSameFields, lines_of, pieces_of}
+use Rattle.report_judge.proofs.Words.{is_digit, Record-from_fields, last_field, ReportLine, Extent, line_words, line_text, skipped_count, FitsLine, FitsSkipped}
+use Rattle.report_judge.proofs.Words.{NoPath, PathOf, PathPoint, Counts, NodeLine, MarkLine}
 
 -- ---- bytes of words
 

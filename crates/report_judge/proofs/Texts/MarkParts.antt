@@ -1,8 +1,7 @@
 -- The text of a mark's line as its front and what its outcome has after it; and records that fit, by their outcomes.
-use Rattle.std.proofs.Common.{◌≡◌, ℕ, ◌<◌, ◌≤◌, ◌^◌, true, List, [], ◌∷◌, ◌++◌, ap, arith, get_or, refl, ◌∙◌, append_assoc, decimal}
-use Rattle.std.specs.Prelude.{codes}
-use Rattle.grown_runs.proofs.Common.{MOST_MARKS, Outcome, Placed, Same, Blocked, Skipped, Record, line, outcome_words, last_field}
-use Rattle.report_judge.proofs.Words.{Extent, EndsWithin, FitsEntry, field, line_text, mark_front, MarkLine}
+use Rattle.report_judge.proofs.Words.{◌≡◌, ℕ, ◌<◌, ◌≤◌, ◌^◌, true, List, [], ◌∷◌, ◌++◌, ap, arith, get_or, refl, ◌∙◌, append_assoc, decimal, codes, MOST_MARKS}
+use Rattle.report_judge.proofs.Words.{Outcome, Placed, Same, Blocked, Skipped, Record, line, outcome_words, last_field, Extent, EndsWithin, FitsEntry, field}
+use Rattle.report_judge.proofs.Words.{line_text, mark_front, MarkLine}
 use Rattle.report_judge.proofs.Texts.LineParts.{same_field}
 
 front : (k w t : ℕ) (first : List ℕ) (more : List (List ℕ)) (rest : List ℕ)

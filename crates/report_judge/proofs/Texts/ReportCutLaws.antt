@@ -1,12 +1,7 @@
 -- A text is cut at one line `report` at most.
-use Rattle.std.proofs.Common.{◌≡◌, ℕ, ◌==◌, not, true, List, [], ◌∷◌, ◌++◌, refl, sym, ap, ◌∙◌, subst, append_assoc, ◌⊎◌, inl, inr}
-use Rattle.std.specs.Prelude.{All}
-use Rattle.std.proofs.lemmas.Bool.{and_parts, true≢false}
-use Rattle.std.proofs.lemmas.List.{append_cancel_left}
-use Rattle.std.proofs.lemmas.List.Elements.{All-head, All-tail}
-use Rattle.std.proofs.lemmas.List.Folds.{list_all-append}
-use Rattle.plan_model.specs.Texts.SceneBatches.{text_of}
-use Rattle.report_judge.specs.Texts.ReportCuts.{HasNoReportLine, IsCutAtReport, IsOtherLine, has_no_feed, report_line}
+use Rattle.report_judge.proofs.Words.{◌≡◌, ℕ, ◌==◌, not, true, List, [], ◌∷◌, ◌++◌, refl, sym, ap, ◌∙◌, subst, append_assoc, ◌⊎◌, inl, inr, All, and_parts}
+use Rattle.report_judge.proofs.Words.{true≢false, append_cancel_left, All-head, All-tail, list_all-append, text_of, HasNoReportLine, IsCutAtReport, IsOtherLine}
+use Rattle.report_judge.proofs.Words.{has_no_feed, report_line}
 
 -- ---- the first line
 

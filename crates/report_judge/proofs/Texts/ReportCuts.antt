@@ -1,14 +1,7 @@
 -- How far a text is walked over, line by line, to a line `report`.
-use Rattle.std.proofs.Common.{◌≡◌, ℕ, suc, ◌+◌, ◌-◌, ◌<◌, ◌==◌, not, Bool, true, false, cond, List, [], ◌∷◌, ◌++◌, length, take, get_or}
-use Rattle.std.proofs.Common.{arith, refl, sym, ap, ◌∙◌, append_assoc, length-append, inl, inr}
-use Rattle.std.specs.Prelude.{All}
-use Rattle.std.specs.List.{position_or_len}
-use Rattle.std.proofs.lemmas.Bool.{eqb-true, not-false}
-use Rattle.std.proofs.lemmas.List.Sums.{prefix_len_stops}
-use Rattle.std.proofs.lemmas.List.Elements.{All-push}
-use Rattle.std.proofs.Math.Seq.{take-append_seam}
-use Rattle.plan_model.specs.Texts.SceneBatches.{text_of}
-use Rattle.report_judge.specs.Texts.ReportCuts.{IsCutAtReport, IsOtherLine, has_no_feed, report_line}
+use Rattle.report_judge.proofs.Words.{◌≡◌, ℕ, suc, ◌+◌, ◌-◌, ◌<◌, ◌==◌, not, Bool, true, false, cond, List, [], ◌∷◌, ◌++◌, length, take, get_or, arith, refl}
+use Rattle.report_judge.proofs.Words.{sym, ap, ◌∙◌, append_assoc, length-append, inl, inr, All, position_or_len, eqb-true, not-false, prefix_len_stops}
+use Rattle.report_judge.proofs.Words.{All-push, take-append_seam, text_of, IsCutAtReport, IsOtherLine, has_no_feed, report_line}
 
 -- ---- the first line
 

@@ -1,15 +1,9 @@
 -- Sheets in form with the same lines say the same.
-use Rattle.std.proofs.Common.{◌≡◌, ℕ, zero, suc, ◌<◌, ◌≤◌, cond, eqb, List, [], ◌∷◌, ◌++◌, length, map, get_or, Option, Some, None}
-use Rattle.std.proofs.Common.{arith, refl, sym, ap, ◌∙◌, inl, inr, append_assoc}
-use Rattle.std.specs.Prelude.{◌≢◌, slice_get, slice_index_or}
-use Rattle.std.specs.List.{range_with_len, flat_map}
-use Rattle.std.proofs.lemmas.Bool.{cases_lt, eq-eqb, ne_eqb}
-use Rattle.std.proofs.lemmas.List.{ext_get_or}
-use Rattle.std.proofs.lemmas.Option.{slice_get-get_or}
-use Rattle.grown_runs.proofs.Common.{Point, Blocked, Record, Knot, unplaced_record}
-use Rattle.report_judge.proofs.Words.{counts_place, ReportLine, Extent, NoPath, PathOf, PathPoint, Counts, NodeLine, MarkLine, PricedPath, Sheet, HasForm}
-use Rattle.report_judge.proofs.Words.{path_lines, head_lines, line_of_knot, line_of_record, lines_of_knots, lines_of_records, lines_of_sheet}
-use Rattle.report_judge.specs.Texts.ReportLines.{Tally}
+use Rattle.report_judge.proofs.Words.{◌≡◌, ℕ, zero, suc, ◌<◌, ◌≤◌, cond, eqb, List, [], ◌∷◌, ◌++◌, length, map, get_or, Option, Some, None, arith, refl, sym}
+use Rattle.report_judge.proofs.Words.{ap, ◌∙◌, inl, inr, append_assoc, ◌≢◌, slice_get, slice_index_or, range_with_len, flat_map, cases_lt, eq-eqb, ne_eqb}
+use Rattle.report_judge.proofs.Words.{ext_get_or, slice_get-get_or, Point, Blocked, Record, Knot, unplaced_record, counts_place, ReportLine, Extent, NoPath}
+use Rattle.report_judge.proofs.Words.{PathOf, PathPoint, Counts, NodeLine, MarkLine, PricedPath, Sheet, HasForm, path_lines, head_lines, line_of_knot}
+use Rattle.report_judge.proofs.Words.{line_of_record, lines_of_knots, lines_of_records, lines_of_sheet, Tally}
 use Rattle.report_judge.proofs.Texts.SheetForms.{counts_place-head, flat_map-more, length-nodes}
 
 -- ---- lists

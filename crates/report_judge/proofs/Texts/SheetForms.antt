@@ -1,21 +1,13 @@
 -- The lines of a sheet in form stand one after another where they may, and are all the report.
-use Rattle.std.proofs.Common.{◌≡◌, ℕ, zero, suc, ◌+◌, ◌-◌, ◌<◌, ◌≤◌, cond, List, [], ◌∷◌, ◌++◌, length, map, take, get_or, Option, Some, None}
-use Rattle.std.proofs.Common.{arith, refl, sym, ap, ◌∙◌, subst, inl, inr, append_assoc, append-nil, length-append}
-use Rattle.std.specs.Prelude.{is_some, option_map, count_by, slice_get, slice_index_or}
-use Rattle.std.specs.List.{range_with_len, flat_map}
-use Rattle.std.proofs.lemmas.Bool.{cases_lt, true≢false}
-use Rattle.std.proofs.lemmas.Grind.{flat_map-append}
-use Rattle.std.proofs.lemmas.List.{length-map, map-append, take-append-le, take_more, take_all}
-use Rattle.std.proofs.lemmas.List.Sums.{sum_by_push, sum_by-take-le}
-use Rattle.std.proofs.lemmas.Option.{slice_get_within, slice_get-get_or}
-use Rattle.std.proofs.Math.Seq.{take-append_seam}
-use Rattle.grown_runs.proofs.Common.{Point, Blocked, Record, Knot, IsBounded, unplaced_record, IsPresent, point_at, range-more, node_count-some}
-use Rattle.grown_runs.proofs.Common.{node_count-lists, IsKnot-at, point_at-lists, IsKnot}
-use Rattle.report_judge.specs.Texts.ReportForms.{nodes_said, counts_place, nodes_to_come, MayFollow, MayStandNext, AreBegun, AreAll}
-use Rattle.report_judge.specs.Texts.ReportLines.{Tally, ReportLine, Extent, FitsTally, FitsKnot, FitsEntry, FitsLine}
-use Rattle.report_judge.specs.Texts.ReportLines.ReportLine.{NoPath, PathOf, PathPoint, Counts, NodeLine, MarkLine}
-use Rattle.report_judge.specs.Texts.ReportSheets.{PricedPath, Sheet, path_lines, head_lines, line_of_knot, line_of_record, lines_of_knots, lines_of_records}
-use Rattle.report_judge.specs.Texts.ReportSheets.{lines_of_sheet, FitsOptionalPath, HasForm, state_of_sheet}
+use Rattle.report_judge.proofs.Words.{◌≡◌, ℕ, zero, suc, ◌+◌, ◌-◌, ◌<◌, ◌≤◌, cond, List, [], ◌∷◌, ◌++◌, length, map, take, get_or, Option, Some, None, arith}
+use Rattle.report_judge.proofs.Words.{refl, sym, ap, ◌∙◌, subst, inl, inr, append_assoc, append-nil, length-append, is_some, option_map, count_by, slice_get}
+use Rattle.report_judge.proofs.Words.{slice_index_or, range_with_len, flat_map, cases_lt, true≢false, flat_map-append, length-map, map-append, take-append-le}
+use Rattle.report_judge.proofs.Words.{take_more, take_all, sum_by_push, sum_by-take-le, slice_get_within, slice_get-get_or, take-append_seam, Point, Blocked}
+use Rattle.report_judge.proofs.Words.{Record, Knot, IsBounded, unplaced_record, IsPresent, point_at, range-more, node_count-some, node_count-lists, IsKnot-at}
+use Rattle.report_judge.proofs.Words.{point_at-lists, IsKnot, nodes_said, counts_place, nodes_to_come, MayFollow, MayStandNext, AreBegun, AreAll, Tally}
+use Rattle.report_judge.proofs.Words.{ReportLine, Extent, FitsTally, FitsKnot, FitsEntry, FitsLine, NoPath, PathOf, PathPoint, Counts, NodeLine, MarkLine}
+use Rattle.report_judge.proofs.Words.{PricedPath, Sheet, path_lines, head_lines, line_of_knot, line_of_record, lines_of_knots, lines_of_records, lines_of_sheet}
+use Rattle.report_judge.proofs.Words.{FitsOptionalPath, HasForm, state_of_sheet}
 use Rattle.report_judge.proofs.Texts.ListPlaces.{slice_get-left, slice_get-seam}
 
 -- ---- lists

@@ -1,12 +1,7 @@
 -- The number of each line of a sheet is at most that of the bytes.
-use Rattle.std.proofs.Common.{◌≡◌, ℕ, ◌+◌, ◌<◌, ◌≤◌, true, cond, List, [], ◌∷◌, ◌++◌, length, take, Option, Some, None}
-use Rattle.std.proofs.Common.{arith, sym, ap, ◌∙◌, append_assoc, length-append}
-use Rattle.std.specs.Prelude.{is_some, count_by, slice_index_or}
-use Rattle.std.specs.List.{join_with_byte}
-use Rattle.std.proofs.lemmas.List.{take_more}
-use Rattle.std.proofs.lemmas.List.Sums.{sum_by_push, sum_by-take-le}
-use Rattle.plan_model.specs.declared.trees.Knot.{Knot}
-use Rattle.report_judge.proofs.Words.{counts_place, nodes_to_come, ReportLine, Extent, line_words, line_text, lines_text, Sheet, path_lines, head_lines}
+use Rattle.report_judge.proofs.Words.{◌≡◌, ℕ, ◌+◌, ◌<◌, ◌≤◌, true, cond, List, [], ◌∷◌, ◌++◌, length, take, Option, Some, None, arith, sym, ap, ◌∙◌}
+use Rattle.report_judge.proofs.Words.{append_assoc, length-append, is_some, count_by, slice_index_or, join_with_byte, take_more, sum_by_push, sum_by-take-le}
+use Rattle.report_judge.proofs.Words.{Knot, counts_place, nodes_to_come, ReportLine, Extent, line_words, line_text, lines_text, Sheet, path_lines, head_lines}
 use Rattle.report_judge.proofs.Words.{lines_of_knots, lines_of_records, lines_of_sheet, SpellsSheet, number_of_node_line, number_of_mark_line}
 use Rattle.report_judge.proofs.Texts.SheetForms.{AreAll-sheet, counts_place-head, nodes_to_come-head, length-head_lines, length-lines_of_knots, length-nodes}
 

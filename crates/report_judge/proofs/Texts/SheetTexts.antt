@@ -1,16 +1,11 @@
 -- The lines of a sheet are those of a run's full report, if its head is that of the run.
-use Rattle.std.proofs.Common.{◌≡◌, ℕ, suc, Bool, true, false, List, [], ◌∷◌, ◌++◌, length, map, Option, Some, None}
-use Rattle.std.proofs.Common.{refl, sym, ap, ◌∙◌, append_assoc, append-nil}
-use Rattle.std.specs.Prelude.{is_some, option_map, slice_get, slice_index_or}
-use Rattle.std.specs.List.{range_with_len, flat_map}
-use Rattle.std.proofs.lemmas.Grind.{flat_map-append}
-use Rattle.std.proofs.lemmas.List.Folds.{flat_map-map}
-use Rattle.grown_runs.proofs.Common.{Point, Record, Scene, Knot, head_line, best_path, counts_line, no_path_line, point_lines, short_report, skipped_words}
-use Rattle.grown_runs.proofs.Common.{full_report, node_line_if_present, node_lines, mark_line_if_recorded, mark_lines, best_node, goals_of, point_at, TreeState}
-use Rattle.grown_runs.proofs.Common.{IsSettled, sum_in, kept_cost_of, state_of_lists, point_at-lists, parent_of-lists}
-use Rattle.report_judge.proofs.Words.{ReportLine, line_text, lines_text, skipped_count, PathPoint, Counts, NodeLine, MarkLine, Sheet, head_lines, line_of_knot}
-use Rattle.report_judge.proofs.Words.{line_of_record, lines_of_knots, lines_of_records, lines_of_sheet, state_of_sheet, path_by, best_priced_path, skipped_of}
-use Rattle.report_judge.proofs.Words.{tally_of}
+use Rattle.report_judge.proofs.Words.{◌≡◌, ℕ, suc, Bool, true, false, List, [], ◌∷◌, ◌++◌, length, map, Option, Some, None, refl, sym, ap, ◌∙◌, append_assoc}
+use Rattle.report_judge.proofs.Words.{append-nil, is_some, option_map, slice_get, slice_index_or, range_with_len, flat_map, flat_map-append, flat_map-map}
+use Rattle.report_judge.proofs.Words.{Point, Record, Scene, Knot, head_line, best_path, counts_line, no_path_line, point_lines, short_report, skipped_words}
+use Rattle.report_judge.proofs.Words.{full_report, node_line_if_present, node_lines, mark_line_if_recorded, mark_lines, best_node, goals_of, point_at}
+use Rattle.report_judge.proofs.Words.{TreeState, IsSettled, sum_in, kept_cost_of, state_of_lists, point_at-lists, parent_of-lists, ReportLine, line_text}
+use Rattle.report_judge.proofs.Words.{lines_text, skipped_count, PathPoint, Counts, NodeLine, MarkLine, Sheet, head_lines, line_of_knot, line_of_record}
+use Rattle.report_judge.proofs.Words.{lines_of_knots, lines_of_records, lines_of_sheet, state_of_sheet, path_by, best_priced_path, skipped_of, tally_of}
 
 -- a list of lists that is mapped twice
 flat_map-flat_map : {X A B : Type 0} → (f : A → List B) (g : X → List A) (xs : List X) → flat_map f (flat_map g xs) ≡ flat_map (λ x. flat_map f (g x)) xs

@@ -1,9 +1,6 @@
 -- The radius of a class is that at the least number of nodes of it; and each number of nodes of a run has a class from 1 to 19.
-use Rattle.std.proofs.Common.{◌≡◌, ℕ, zero, suc, ◌+◌, ◌-◌, ◌*◌, ◌^◌, ◌%◌, ◌<◌, ◌≤◌, length, arith, refl, sym, ap, ◌∙◌}
-use Rattle.std.proofs.Math.Nat.{pow-le-pow_right, pow-suc}
-use Rattle.std.specs.List.{range_with_len}
-use Rattle.std.proofs.lemmas.List.Sums.{length-filter}
-use Rattle.grown_runs.proofs.Common.{Record, class_of, is_earlier, earlier_count, TreeState, class_from_powers, count-some}
+use Rattle.report_judge.proofs.Words.{◌≡◌, ℕ, zero, suc, ◌+◌, ◌-◌, ◌*◌, ◌^◌, ◌%◌, ◌<◌, ◌≤◌, length, arith, refl, sym, ap, ◌∙◌, pow-le-pow_right, pow-suc}
+use Rattle.report_judge.proofs.Words.{range_with_len, length-filter, Record, class_of, is_earlier, earlier_count, TreeState, class_from_powers, count-some}
 
 some_power : (k : ℕ) → 0 < 2 ^ k
 some_power zero = omega arith

@@ -1,8 +1,6 @@
 -- A node was placed at a cost of 44 bits.
-use Rattle.std.proofs.Common.{◌≡◌, ℕ, zero, suc, ◌<◌, ◌^◌, List, Option, Some, None, arith, refl}
-use Rattle.std.specs.Prelude.{slice_get}
-use Rattle.grown_runs.proofs.Common.{Record, Knot, first_cost_of, recorded_or, state_of_lists}
-use Rattle.report_judge.specs.Workers.OwnNodes.{FitFirstCosts}
+use Rattle.report_judge.proofs.Words.{◌≡◌, ℕ, zero, suc, ◌<◌, ◌^◌, List, Option, Some, None, arith, refl, slice_get, Record, Knot, first_cost_of, recorded_or}
+use Rattle.report_judge.proofs.Words.{state_of_lists, FitFirstCosts}
 
 pub first_cost_low : (knots : List (Option Knot)) (records : List Record) → FitFirstCosts records → (n : ℕ)
     → first_cost_of (state_of_lists knots records) n < 2 ^ 44

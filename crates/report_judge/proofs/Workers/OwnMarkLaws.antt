@@ -1,16 +1,9 @@
 -- The marks of a worker between two of its turns, turn by turn; and the first of them that breaks a law.
-use Rattle.std.proofs.Common.{◌≡◌, ℕ, suc, ◌+◌, ◌<◌, ◌≤◌, Bool, true, false, List, [], ◌∷◌, ◌++◌, length, length-append, Option, Some, None}
-use Rattle.std.proofs.Common.{arith, refl, sym, ap, ◌∙◌, subst, inl, inr}
-use Rattle.std.specs.Prelude.{◌↔◌, IfNone, IfSome, IsTrue}
-use Rattle.std.specs.List.Sorted.{IsPermutation}
-use Rattle.std.proofs.lemmas.Bool.{cases_lt, true≢false}
-use Rattle.std.proofs.lemmas.List.{get_or_append_left, get_or_default, get_or_push}
-use Rattle.std.proofs.lemmas.List.Elements.{All-push}
-use Rattle.std.proofs.lemmas.List.Sorted.{All-permutation, Contains-permutation}
-use Rattle.grown_runs.proofs.Common.{Point, Record}
-use Rattle.point_bands.specs.Walks.{nowhere, numbered_at}
-use Rattle.point_bands.specs.declared.bands.Numbered.{Numbered}
-use Rattle.report_judge.proofs.Words.{IsFirstBreak, AreMarksBetween, HasNumber, IsFirstSeen, IsMarkBetween, HaveOwnTurns, IsMarkOfTurn}
+use Rattle.report_judge.proofs.Words.{◌≡◌, ℕ, suc, ◌+◌, ◌<◌, ◌≤◌, Bool, true, false, List, [], ◌∷◌, ◌++◌, length, length-append, Option, Some, None, arith}
+use Rattle.report_judge.proofs.Words.{refl, sym, ap, ◌∙◌, subst, inl, inr, ◌↔◌, IsTrue, IsPermutation, cases_lt, true≢false, get_or_append_left, get_or_default}
+use Rattle.report_judge.proofs.Words.{get_or_push, All-push, All-permutation, Contains-permutation, Point, Record, nowhere, numbered_at, Numbered, IsFirstBreak}
+use Rattle.report_judge.proofs.Words.{AreMarksBetween, HasNumber, IsFirstSeen, IsMarkBetween, HaveOwnTurns, IsMarkOfTurn}
+use Rattle.std.specs.Prelude.{IfNone, IfSome}
 
 -- ---- the list, turn by turn
 

@@ -1,23 +1,14 @@
 -- The nodes of a worker that stood before a turn, and searches among them by their places.
-use Rattle.std.proofs.Common.{◌≡◌, ℕ, zero, suc, ◌+◌, ◌*◌, ◌<◌, ◌≤◌, Bool, true, false, not, eqb, ltb, List, [], ◌∷◌, ◌++◌, length, Option, Some, None}
-use Rattle.std.proofs.Common.{arith, refl, sym, ap, ◌∙◌, subst, inl, inr}
-use Rattle.std.specs.Prelude.{◌&&◌, ◌⊎◌, Contains, slice_get, slice_index_or}
-use Rattle.std.specs.List.Sorted.{IsPermutation}
-use Rattle.std.specs.Int.{abs_diff}
-use Rattle.std.proofs.lemmas.Bool.{and_parts, and_from, cases_eq, cases_lt, eq-eqb, eqb-true, le-leb, leb-true, lt-ltb, ltb-true}
-use Rattle.std.proofs.lemmas.List.{get_or_default}
-use Rattle.std.proofs.lemmas.List.Elements.{All-push, Contains-append_left, Contains-push}
-use Rattle.std.proofs.lemmas.List.Sorted.{All-permutation, Contains-permutation}
-use Rattle.grown_runs.proofs.Common.{ConfigurationSpace, Point, Record, Knot, IsBounded, cost_of, squared_distance, is_placed, IsEarlier, Clear, distance_to}
-use Rattle.grown_runs.proofs.Common.{is_within, StandsAt, point_at, point_of, TreeState, first_cost_of, same-from_distance, StandsAt-present, point_of-stands}
-use Rattle.grown_runs.proofs.Common.{state_of_lists}
-use Rattle.point_bands.specs.Discs.{IsWithin}
-use Rattle.point_bands.specs.Walks.{numbered_at, nowhere, HasNoneBetween, IsStretchAfter}
-use Rattle.point_bands.specs.declared.bands.Numbered.{Numbered}
-use Rattle.point_bands.specs.declared.bands.Stretch.{Stretch}
-use Rattle.report_judge.proofs.Words.{AreNodesBefore, ArePresent, HasNo, HasOne, IsPassedOverAt, IsNearerAt, IsNodeBefore, IsPlacedAt, IsPlacedMarkAt}
-use Rattle.report_judge.proofs.Words.{IsUnlawfulAt, IsNearestOfEarlier, IsTaken, KeepsNear, HaveOwnTurns, IsMarkOfTurn, is_before, places_before, AreStandings}
-use Rattle.report_judge.proofs.Words.{place_of, standing_at, standing_of, turns_to, NearerSearch, NeighbourSearch, Standing, FitsEdges}
+use Rattle.report_judge.proofs.Words.{◌≡◌, ℕ, zero, suc, ◌+◌, ◌*◌, ◌<◌, ◌≤◌, Bool, true, false, not, eqb, ltb, List, [], ◌∷◌, ◌++◌, length, Option, Some, None}
+use Rattle.report_judge.proofs.Words.{arith, refl, sym, ap, ◌∙◌, subst, inl, inr, ◌&&◌, ◌⊎◌, Contains, slice_get, slice_index_or, IsPermutation, abs_diff}
+use Rattle.report_judge.proofs.Words.{and_parts, and_from, cases_eq, cases_lt, eq-eqb, eqb-true, le-leb, leb-true, lt-ltb, ltb-true, get_or_default, All-push}
+use Rattle.report_judge.proofs.Words.{Contains-append_left, Contains-push, All-permutation, Contains-permutation, ConfigurationSpace, Point, Record, Knot}
+use Rattle.report_judge.proofs.Words.{IsBounded, cost_of, squared_distance, is_placed, IsEarlier, Clear, distance_to, is_within, StandsAt, point_at, point_of}
+use Rattle.report_judge.proofs.Words.{TreeState, first_cost_of, same-from_distance, StandsAt-present, point_of-stands, state_of_lists, IsWithin, numbered_at}
+use Rattle.report_judge.proofs.Words.{nowhere, HasNoneBetween, IsStretchAfter, Numbered, Stretch, AreNodesBefore, ArePresent, HasNo, HasOne, IsPassedOverAt}
+use Rattle.report_judge.proofs.Words.{IsNearerAt, IsNodeBefore, IsPlacedAt, IsPlacedMarkAt, IsUnlawfulAt, IsNearestOfEarlier, IsTaken, KeepsNear, HaveOwnTurns}
+use Rattle.report_judge.proofs.Words.{IsMarkOfTurn, is_before, places_before, AreStandings, place_of, standing_at, standing_of, turns_to, NearerSearch}
+use Rattle.report_judge.proofs.Words.{NeighbourSearch, Standing, FitsEdges}
 use Rattle.report_judge.proofs.Laws.ListedNodes.{none-stands, same-listed}
 use Rattle.report_judge.proofs.Workers.SeenLaws.{is_before-earlier}
 

@@ -1,14 +1,11 @@
 -- What stood before one turn more of a worker: a node more, if it placed the mark of that turn.
-use Rattle.std.proofs.Common.{◌≡◌, ℕ, zero, suc, ◌+◌, ◌<◌, ◌≤◌, Bool, true, false, eqb, ltb, List, length, Option, Some, None}
-use Rattle.std.proofs.Common.{arith, refl, sym, ap, ◌∙◌, subst, inl, inr}
-use Rattle.std.specs.Prelude.{◌≢◌, ◌⊎◌, ◌&&◌, IfNone, IfSome, min, slice_get}
-use Rattle.std.specs.List.{range_with_len}
-use Rattle.std.proofs.lemmas.Bool.{and_from, and_left, and_right, cases_Bool, cases_eq, cases_lt, eq-eqb, le-ltb, lt-ltb, ne_eqb, true≢false}
-use Rattle.std.proofs.lemmas.List.Sums.{length-filter}
-use Rattle.grown_runs.proofs.Common.{Goal, Record, Knot, is_placed, is_earlier, is_earlier_record, earlier_count, IsGoalNode, TreeState, first_cost_of}
-use Rattle.grown_runs.proofs.Common.{recorded_or, count-one_more, count-same, state_of_lists}
-use Rattle.report_judge.proofs.Words.{IsTurnOf, IsMarkOfTurn, HaveOwnTurns, places_before, is_before, count_before, IsLeastGoalCost, IsLeastIfAny, AreSeen}
-use Rattle.report_judge.proofs.Words.{Seen}
+use Rattle.report_judge.proofs.Words.{◌≡◌, ℕ, zero, suc, ◌+◌, ◌<◌, ◌≤◌, Bool, true, false, eqb, ltb, List, length, Option, Some, None, arith, refl, sym, ap}
+use Rattle.report_judge.proofs.Words.{◌∙◌, subst, inl, inr, ◌≢◌, ◌⊎◌, ◌&&◌, min, slice_get, range_with_len, and_from, and_left, and_right, cases_Bool, cases_eq}
+use Rattle.report_judge.proofs.Words.{cases_lt, eq-eqb, le-ltb, lt-ltb, ne_eqb, true≢false, length-filter, Goal, Record, Knot, is_placed, is_earlier}
+use Rattle.report_judge.proofs.Words.{is_earlier_record, earlier_count, IsGoalNode, TreeState, first_cost_of, recorded_or, count-one_more, count-same}
+use Rattle.report_judge.proofs.Words.{state_of_lists, IsTurnOf, IsMarkOfTurn, HaveOwnTurns, places_before, is_before, count_before, IsLeastGoalCost}
+use Rattle.report_judge.proofs.Words.{IsLeastIfAny, AreSeen, Seen}
+use Rattle.std.specs.Prelude.{IfNone, IfSome}
 
 -- ---- earlier nodes are those before a turn
 

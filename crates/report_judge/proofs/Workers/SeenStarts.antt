@@ -1,13 +1,8 @@
 -- Before the first turn of a worker stood the start alone.
-use Rattle.std.proofs.Common.{◌≡◌, ℕ, zero, suc, ◌-◌, ◌<◌, Bool, true, false, eqb, ltb, List, length, Option, Some, None}
-use Rattle.std.proofs.Common.{arith, refl, sym, ap, ◌∙◌}
-use Rattle.std.specs.Prelude.{◌&&◌, count_by, option_map, slice_get}
-use Rattle.std.specs.List.{range_with_len}
-use Rattle.std.proofs.lemmas.Bool.{and_right, le-ltb, true≢false}
-use Rattle.std.proofs.lemmas.List.{length-map}
-use Rattle.grown_runs.proofs.Common.{Goal, Record, Knot, Twig, is_placed, IsGoalNode, points_of, without_costs, TreeState, count-first, count-none}
-use Rattle.grown_runs.proofs.Common.{state_of_lists}
-use Rattle.report_judge.specs.Workers.SeenNodes.{places_before, is_before, count_before, AreSeen}
+use Rattle.report_judge.proofs.Words.{◌≡◌, ℕ, zero, suc, ◌-◌, ◌<◌, Bool, true, false, eqb, ltb, List, length, Option, Some, None, arith, refl, sym, ap, ◌∙◌}
+use Rattle.report_judge.proofs.Words.{◌&&◌, count_by, option_map, slice_get, range_with_len, and_right, le-ltb, true≢false, length-map, Goal, Record, Knot}
+use Rattle.report_judge.proofs.Words.{Twig, is_placed, IsGoalNode, points_of, without_costs, TreeState, count-first, count-none, state_of_lists, places_before}
+use Rattle.report_judge.proofs.Words.{is_before, count_before, AreSeen}
 use Rattle.report_judge.proofs.Laws.LawfulSheets.{length-without_costs}
 
 -- nothing was placed before the first turn

@@ -1,13 +1,7 @@
 -- The marks of a worker by its turns, one mark after another.
-use Rattle.std.proofs.Common.{◌≡◌, ℕ, ◌+◌, ◌<◌, List, length, set, Option, Some, None, arith}
-use Rattle.std.proofs.Common.{sym, ap, ◌∙◌, subst, inl, inr}
-use Rattle.std.specs.Prelude.{IfSome, slice_get, slice_index_or}
-use Rattle.std.proofs.lemmas.Bool.{cases_eq, cases_lt}
-use Rattle.std.proofs.lemmas.Grind.{get_or-set_at}
-use Rattle.std.proofs.lemmas.List.{get_or-set_other}
-use Rattle.std.proofs.lemmas.Option.{slice_get_within}
-use Rattle.plan_model.specs.declared.records.Record.{Record}
-use Rattle.report_judge.specs.Workers.SeenNodes.{IsTurnOf, IsMarkOfTurn}
+use Rattle.report_judge.proofs.Words.{◌≡◌, ℕ, ◌+◌, ◌<◌, List, length, set, Option, Some, None, arith, sym, ap, ◌∙◌, subst, inl, inr, slice_get, slice_index_or}
+use Rattle.report_judge.proofs.Words.{cases_eq, cases_lt, get_or-set_at, get_or-set_other, slice_get_within, Record, IsTurnOf, IsMarkOfTurn}
+use Rattle.std.specs.Prelude.{IfSome}
 
 module _ (records : List Record) (worker : ℕ) where
   -- the mark of a turn among those below a number, or that none of them is of that turn

@@ -1,10 +1,8 @@
 -- The standings of a worker's nodes, turn by turn.
-use Rattle.std.proofs.Common.{◌≡◌, ℕ, zero, suc, ◌+◌, ◌<◌, true, List, [], ◌∷◌, ◌++◌, length, Option, Some, None, arith, refl, sym, ap, ◌∙◌}
-use Rattle.std.specs.Prelude.{IfNone, IfSome, slice_get, slice_index_or}
-use Rattle.std.proofs.lemmas.List.{get_or_append_left}
-use Rattle.grown_runs.proofs.Common.{Record, Knot, state_of_lists}
-use Rattle.report_judge.proofs.Words.{AreMarksByTurn, HaveOwnTurns, IsMarkOfTurn, is_before, AreStandings, no_standing, place_of, standing_at, standing_of}
-use Rattle.report_judge.proofs.Words.{turns_to, Standing}
+use Rattle.report_judge.proofs.Words.{◌≡◌, ℕ, zero, suc, ◌+◌, ◌<◌, true, List, [], ◌∷◌, ◌++◌, length, Option, Some, None, arith, refl, sym, ap, ◌∙◌, slice_get}
+use Rattle.report_judge.proofs.Words.{slice_index_or, get_or_append_left, Record, Knot, state_of_lists, AreMarksByTurn, HaveOwnTurns, IsMarkOfTurn, is_before}
+use Rattle.report_judge.proofs.Words.{AreStandings, no_standing, place_of, standing_at, standing_of, turns_to, Standing}
+use Rattle.std.specs.Prelude.{IfNone, IfSome}
 use Rattle.report_judge.proofs.Workers.OwnNodeLaws.{placed_before}
 
 -- the node of a mark; the start's number where there is none

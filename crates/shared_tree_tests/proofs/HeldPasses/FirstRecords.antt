@@ -1,20 +1,13 @@
 -- What a worker may record in its first turn, when the start alone is its own node: that a node was placed below it.
-use Rattle.std.proofs.Common.{◌≡◌, ◌≢◌, ℕ, zero, suc, ◌+◌, ◌≤◌, ◌^◌, Bool, true, false, [], Option, Some, None, length}
-use Rattle.std.proofs.Common.{inl, inr, refl, sym, ap, ◌∙◌, subst, arith}
-use Rattle.std.specs.Prelude.{◌==◌, ◌&&◌, IfErr, IfOk, IfSome, IsTrue, Result, Ok, Err, nat_lt}
-use Rattle.std.proofs.lemmas.Bool.{and_parts, cases_Bool, cases_lt, le-ltb}
-use Rattle.std.proofs.lemmas.List.Sums.{length-filter}
-use Rattle.grown_runs.proofs.Common.{Clear, mark_at, space_of, cost_of, is_goal_point, IsNotAbove, distance_to, is_placed, IsPresent, point_of, class_of}
-use Rattle.grown_runs.proofs.Common.{is_earlier_record, Point, Placed, Record, below_digits, class_from_powers, count-single, IsPresent-stands, point_of-stands}
-use Rattle.grown_runs.proofs.Common.{record_at, ChildOf, Count, TreeOf, cost_in}
-use Rattle.plan_words.proofs.Common.{HasLinked, PassState, SharedState, run_in, with_view, at_hand, if_hand, no_goals}
-use Rattle.step_core.proofs.Common.{IsLater, IsLawfulView, IsUnskipped, MayBePlaced, MayEnd, MayRecord, is_own_node, own_count, own_first_cost}
-use Rattle.step_core.proofs.Common.{loaded, SeesPoint, sees, setup_in, tree_seen, SeesPoint-later}
-use Rattle.step_core.specs.declared.views.Hand.{Hand}
-use Rattle.step_core.specs.declared.views.Stage.{Stage}
-use Rattle.step_core.specs.declared.views.Stage.TheVariants.{Counted, Posted, Treed}
-use Rattle.step_core.specs.declared.views.View.{View}
-use Rattle.shared_tree_tests.specs.HeldPasses.HeldMarks.{HangsFromStart}
+use Rattle.shared_tree_tests.proofs.Words.{◌≡◌, ◌≢◌, ℕ, zero, suc, ◌+◌, ◌≤◌, ◌^◌, Bool, true, false, [], Option, Some, None, length, inl, inr, refl, sym, ap}
+use Rattle.shared_tree_tests.proofs.Words.{◌∙◌, subst, arith, ◌==◌, ◌&&◌, IfErr, IfOk, IfSome, IsTrue, Result, Ok, Err, nat_lt, and_parts, cases_Bool, cases_lt}
+use Rattle.shared_tree_tests.proofs.Words.{le-ltb, length-filter, Clear, mark_at, space_of, cost_of, is_goal_point, IsNotAbove, distance_to, is_placed}
+use Rattle.shared_tree_tests.proofs.Words.{IsPresent, point_of, class_of, is_earlier_record, Point, Record, below_digits, class_from_powers, count-single}
+use Rattle.shared_tree_tests.proofs.Words.{IsPresent-stands, point_of-stands, record_at, ChildOf, Count, TreeOf, cost_in, HasLinked, PassState, SharedState}
+use Rattle.shared_tree_tests.proofs.Words.{run_in, with_view, at_hand, if_hand, no_goals, IsLater, IsLawfulView, IsUnskipped, MayBePlaced, MayEnd, MayRecord}
+use Rattle.shared_tree_tests.proofs.Words.{is_own_node, own_count, own_first_cost, loaded, SeesPoint, sees, setup_in, tree_seen, SeesPoint-later, Hand, Stage}
+use Rattle.shared_tree_tests.proofs.Words.{Counted, Posted, Treed, View, HangsFromStart}
+use Rattle.grown_runs.proofs.Common.{Placed}
 
 -- ---- marks that are not skipped
 

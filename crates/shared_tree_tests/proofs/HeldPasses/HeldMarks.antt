@@ -1,13 +1,6 @@
 -- A mark stays in hand while its pass looks, and when its node is linked.
-use Rattle.std.proofs.Common.{◌≡◌, ℕ, Bool, refl, ap, ◌∙◌}
-use Rattle.std.specs.Prelude.{Err, IfErr, IfOk, IfSome, Ok, Result}
-use Rattle.plan_words.proofs.Common.{GoesOn, HasLinked, PassState, SharedState, with_view, BelongsTo-later, at_hand}
-use Rattle.step_core.specs.ViewSteps.{loaded}
-use Rattle.grown_runs.specs.Table.WordNames.Word.{ChildOf}
-use Rattle.step_core.specs.declared.views.Stage.{Stage}
-use Rattle.step_core.specs.declared.views.Stage.TheVariants.{Counted, Treed}
-use Rattle.step_core.specs.declared.views.View.{View}
-use Rattle.shared_tree_tests.specs.HeldPasses.HeldMarks.{HoldsMark}
+use Rattle.shared_tree_tests.proofs.Words.{◌≡◌, ℕ, Bool, refl, ap, ◌∙◌, Err, IfErr, IfOk, IfSome, Ok, Result, GoesOn, HasLinked, PassState, SharedState}
+use Rattle.shared_tree_tests.proofs.Words.{with_view, BelongsTo-later, at_hand, loaded, ChildOf, Stage, Counted, Treed, View, HoldsMark}
 
 pub HoldsMark-kept :
     (shared : SharedState) (k : ℕ) (stage : Stage) (before after : PassState) (view : View) → after ≡ with_view before view → view.hand ≡ before.view.hand

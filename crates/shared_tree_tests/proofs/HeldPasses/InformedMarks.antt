@@ -1,16 +1,9 @@
 -- Marks in an informed scene: the best is taken for the mark in hand, and its node is posted.
-use Rattle.std.proofs.Common.{◌≡◌, ℕ, suc, ◌<◌, ◌≤◌, ◌^◌, true, [], Option, Some, cond, length}
-use Rattle.std.proofs.Common.{inl, inr, refl, sym, ap, ◌∙◌, arith}
-use Rattle.std.proofs.lemmas.Bool.{cases_lt, eq-eqb}
-use Rattle.grown_runs.proofs.Common.{lies_in_goals, goals-some, TreeOf, best_of_word}
-use Rattle.plan_words.proofs.Common.{GoesOn, PassState, SharedState, run_in, with_view, BelongsTo-later, goal-at}
-use Rattle.step_core.proofs.Common.{IsLawfulView, IsInformed, MayPost, has_link, best_loaded, best_taken, hand_with_best, hand_with_post, last_note}
-use Rattle.step_core.proofs.Common.{post_noted, with_post}
-use Rattle.step_core.proofs.Common.{SeesPoint, sees, share}
-use Rattle.step_core.specs.declared.views.Hand.{Hand}
-use Rattle.step_core.specs.declared.views.Stage.TheVariants.{Claimed, Counted, Posted}
-use Rattle.step_core.specs.declared.views.View.{View}
-use Rattle.shared_tree_tests.specs.HeldPasses.HeldMarks.{HangsFromStart, HoldsMark, TakesBest}
+use Rattle.shared_tree_tests.proofs.Words.{◌≡◌, ℕ, suc, ◌<◌, ◌≤◌, ◌^◌, true, [], Option, Some, cond, length, inl, inr, refl, sym, ap, ◌∙◌, arith, cases_lt}
+use Rattle.shared_tree_tests.proofs.Words.{eq-eqb, lies_in_goals, goals-some, TreeOf, best_of_word, GoesOn, PassState, SharedState, run_in, with_view}
+use Rattle.shared_tree_tests.proofs.Words.{BelongsTo-later, goal-at, IsLawfulView, IsInformed, MayPost, has_link, best_loaded, best_taken, hand_with_best}
+use Rattle.shared_tree_tests.proofs.Words.{hand_with_post, last_note, post_noted, with_post, SeesPoint, sees, share, Hand, Claimed, Counted, Posted, View}
+use Rattle.shared_tree_tests.proofs.Words.{HangsFromStart, HoldsMark, TakesBest}
 use Rattle.shared_tree_tests.proofs.HeldPasses.FirstRecords.{HangsFromStart-later}
 
 -- ---- the scene

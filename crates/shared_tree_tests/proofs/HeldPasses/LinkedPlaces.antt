@@ -1,11 +1,6 @@
 -- Ways of points above the start and to its right: to the place at its right, and on to the left of the node there.
-use Rattle.std.proofs.Common.{◌≡◌, ◌≢◌, ℕ, ◌<◌, ◌≤◌, true, false, Option, Some, None, sym, ap, ◌∙◌, subst, arith}
-use Rattle.std.specs.Prelude.{IfSome, not}
-use Rattle.std.proofs.lemmas.Bool.{le-ltb, lt-ltb}
-use Rattle.grown_runs.proofs.Common.{goes_right, begins, goes_on, Point}
-use Rattle.step_core.proofs.Common.{LeadsTo, SeesPoint, tree_seen}
-use Rattle.step_core.specs.declared.views.Hand.{Hand}
-use Rattle.step_core.specs.declared.views.View.{View}
+use Rattle.shared_tree_tests.proofs.Words.{◌≡◌, ◌≢◌, ℕ, ◌<◌, ◌≤◌, true, false, Option, Some, None, sym, ap, ◌∙◌, subst, arith, IfSome, not, le-ltb, lt-ltb}
+use Rattle.shared_tree_tests.proofs.Words.{goes_right, begins, goes_on, Point, LeadsTo, SeesPoint, tree_seen, Hand, View}
 
 -- what is so of a point is so of the one in hand, if that is the point
 pub of_hand : (o : Option Hand) (p : Point) (has : Point → Type 0) → IfSome o (λ hand. p ≡ hand.point) → has p → IfSome o (λ hand. has hand.point)

@@ -1,13 +1,8 @@
 -- A mark that lies on the start ends there: no node is nearer, and the start is where the step to it leads.
-use Rattle.std.proofs.Common.{◌≡◌, ℕ, ◌*◌, [], Some, sym, ap, ◌∙◌, subst, arith}
-use Rattle.std.specs.Int.{abs_diff}
-use Rattle.std.specs.Prelude.{IfSome}
-use Rattle.grown_runs.proofs.Common.{mark_at, squared_distance, distance_to, IsPresent, point_of, steered, Point, Same, Record, IsPresent-stands}
-use Rattle.grown_runs.proofs.Common.{point_of-stands, steered-near}
-use Rattle.plan_words.proofs.KeptPairs.{if_hand}
-use Rattle.step_core.proofs.Common.{MayEnd, MayRecord, SeesPoint, tree_seen}
-use Rattle.step_core.specs.declared.views.Hand.{Hand}
-use Rattle.step_core.specs.declared.views.View.{View}
+use Rattle.shared_tree_tests.proofs.Words.{◌≡◌, ℕ, ◌*◌, [], Some, sym, ap, ◌∙◌, subst, arith, abs_diff, IfSome, mark_at, squared_distance, distance_to}
+use Rattle.shared_tree_tests.proofs.Words.{IsPresent, point_of, steered, Point, Record, IsPresent-stands, point_of-stands, steered-near, if_hand, MayEnd}
+use Rattle.shared_tree_tests.proofs.Words.{MayRecord, SeesPoint, tree_seen, Hand, View}
+use Rattle.grown_runs.proofs.Common.{Same}
 
 squared_distance-same : (p : Point) → squared_distance p p ≡ 0
 squared_distance-same p =

@@ -1,28 +1,19 @@
 -- A run in which nothing is claimed, and two passes that see it as it is.
-use Rattle.std.proofs.Common.{◌≡◌, ℕ, zero, suc, ◌<◌, ◌≤◌, ◌^◌, Bool, true, false, Some, None, [], ◌∷◌, arith, refl, sym, ap, ◌∙◌, subst, inl, inr}
-use Rattle.std.specs.Prelude.{◌≢◌, ◌⊎◌, IsSome, is_some, nat_lt}
-use Rattle.std.specs.List.{sum_by}
+use Rattle.shared_tree_tests.proofs.Words.{◌≡◌, ℕ, zero, suc, ◌<◌, ◌≤◌, ◌^◌, Bool, true, false, Some, None, [], ◌∷◌, arith, refl, sym, ap, ◌∙◌, subst, inl, inr}
+use Rattle.shared_tree_tests.proofs.Words.{◌≢◌, ◌⊎◌, IsSome, is_some, nat_lt, sum_by, cases_Bool, le-ltb, ne_eqb, Point, IsBounded, mark_at, most_cost_of}
+use Rattle.shared_tree_tests.proofs.Words.{is_claimed, ClearAt, once_if, times_of, turns_of, AreSeenLawfully, IsRooted, IsSeen, FollowWays, IsGoalNode}
+use Rattle.shared_tree_tests.proofs.Words.{IsPresent, StandsAt, node_count, first_cost_of, at, Clear-empty_room, no_goal_node, IsPresent-stands, Clear-first}
+use Rattle.shared_tree_tests.proofs.Words.{is_claimed-past, FollowWays-start, IsWritten, child_of_word, children_of_words, has_placed, is_linked, record_at}
+use Rattle.shared_tree_tests.proofs.Words.{seen_tree_of_words, AreBehind, HaveWholePairs, Word, Words, Best, ChildOf, Count, Counter, FirstOf, PointOf}
+use Rattle.shared_tree_tests.proofs.Words.{RecordOf, TreeOf, HasWord, Sizes, no_best, point_of_word, tree_of_word, record_at-unwritten, in_child, IsStartWord}
+use Rattle.shared_tree_tests.proofs.Words.{AreBehind-refl, word_at-none, linked_points, SeesNode, SeesTree, IsViewOf, run_sizes, sees, setup_in, share, spent}
+use Rattle.shared_tree_tests.proofs.Words.{times, took_over, tree_seen, Agree, EachView, IsMember, IsWorld, SeesBest, Trees, counters, state_in, IsPresent-seen}
+use Rattle.shared_tree_tests.proofs.Words.{linked-present, point_at-seen, last_seen, last_seen-table, HasNoted, same_name, seen-within, zero-read, IsWrittenFor}
+use Rattle.shared_tree_tests.proofs.Words.{AreBehind-nothing, HasFirst, HasTree, AreSeenLawfully-all, IsNoted, Hand, Member, Note, SharedRun, View, idle, never}
+use Rattle.shared_tree_tests.proofs.Words.{small_run, start_table, view_with, worker_at}
 use mathlib.Core.Option.{some, some-injective, some-ne-none}
 use lib.ListN.{get_elem?}
-use Rattle.std.proofs.lemmas.Bool.{cases_Bool, le-ltb, ne_eqb}
-use Rattle.grown_runs.proofs.Common.{Point, IsBounded, mark_at, most_cost_of, is_claimed, ClearAt, once_if, times_of, turns_of, AreSeenLawfully, IsRooted}
-use Rattle.grown_runs.proofs.Common.{IsSeen, FollowWays, IsGoalNode, IsPresent, StandsAt, node_count, first_cost_of, at, Clear-empty_room, no_goal_node}
-use Rattle.grown_runs.proofs.Common.{IsPresent-stands, Clear-first, is_claimed-past, FollowWays-start, IsWritten, child_of_word, children_of_words, has_placed}
-use Rattle.grown_runs.proofs.Common.{is_linked, record_at, seen_tree_of_words, AreBehind, HaveWholePairs, Word, Words, Best, ChildOf, Count, Counter, FirstOf}
-use Rattle.grown_runs.proofs.Common.{PointOf, RecordOf, TreeOf, HasWord, Sizes, no_best, point_of_word, tree_of_word, record_at-unwritten, in_child}
-use Rattle.grown_runs.proofs.Common.{IsStartWord, AreBehind-refl, word_at-none}
-use Rattle.step_core.proofs.Common.{linked_points, SeesNode, SeesTree, IsViewOf, run_sizes, sees, setup_in, share, spent, times, took_over, tree_seen, Agree}
-use Rattle.step_core.proofs.Common.{EachView, IsMember, IsWorld, SeesBest, Trees, counters, state_in, IsPresent-seen, linked-present, point_at-seen}
-use Rattle.step_core.proofs.Common.{last_seen, last_seen-table, HasNoted, same_name, seen-within, zero-read, IsWrittenFor, AreBehind-nothing}
-use Rattle.step_core.proofs.Common.{HasFirst, HasTree, AreSeenLawfully-all}
 use Rattle.grown_runs.specs.Table.WordPlaces.{word_at}
-use Rattle.step_core.specs.Notes.{IsNoted}
-use Rattle.step_core.specs.declared.views.Hand.{Hand}
-use Rattle.step_core.specs.declared.views.Member.{Member}
-use Rattle.step_core.specs.declared.views.Note.{Note}
-use Rattle.step_core.specs.declared.views.SharedRun.{SharedRun}
-use Rattle.step_core.specs.declared.views.View.{View}
-use Rattle.shared_tree_tests.specs.SmallRuns.SmallWorlds.{idle, never, small_run, start_table, view_with, worker_at}
 
 abbrev sizes : Sizes
 sizes = run_sizes small_run

@@ -1,10 +1,6 @@
 -- Points that are pushed one by one, each within the room.
-use Rattle.std.proofs.Common.{◌≡◌, ℕ, ◌+◌, ◌≤◌, true, List, [], ◌∷◌, ◌++◌, length, length-append, ap, ◌∙◌, arith, refl}
-use Rattle.std.specs.Prelude.{◌&&◌, nat_le}
-use Rattle.std.specs.List.{list_all}
-use Rattle.std.proofs.lemmas.Bool.{le-leb}
-use Rattle.std.proofs.lemmas.List.Folds.{list_all-append}
-use Rattle.grown_runs.proofs.Common.{is_mark, is_plan, Point, MOST_MARKS, MOST_SIDE, Listed}
+use Rattle.shared_tree_tests.proofs.Words.{◌≡◌, ℕ, ◌+◌, ◌≤◌, true, List, [], ◌∷◌, ◌++◌, length, length-append, ap, ◌∙◌, arith, refl, ◌&&◌, nat_le, list_all}
+use Rattle.shared_tree_tests.proofs.Words.{le-leb, list_all-append, is_mark, is_plan, Point, MOST_MARKS, MOST_SIDE, Listed}
 
 -- so many points, each one that a mark may have
 pub record AreMarks (points : List Point) (n : ℕ) : Type 0 where

@@ -1,20 +1,11 @@
 -- What a pass knows of the mark in its hand: the node that it was steered from is the nearest of those whose records are seen, as later views say too.
-use Rattle.std.proofs.Common.{◌≡◌, ◌≤◌, ◌+◌, ℕ, suc, Bool, true, false, Some, refl, sym, ap, ◌∙◌, subst}
-use Rattle.std.specs.Prelude.{IfSome}
-use Rattle.grown_runs.proofs.Common.{Clear, mark_at, space_of, cost_of, squared_distance, distance_to, IsPresent, point_of, Point, IsPresent-stands}
-use Rattle.grown_runs.proofs.Common.{StandsAt-present, point_of-stands, has_node, WritesWord, PointOf, RecordOf, TreeOf}
-use Rattle.kd_shared.specs.Searches.{IsNearestSeen}
-use Rattle.kd_shared.specs.Placings.{IsPlaced, IsPlacing, IsSame}
-use Rattle.kd_shared.specs.declared.placing.Placing.{Placing}
+use Rattle.shared_tree_tests.proofs.Words.{◌≡◌, ◌≤◌, ◌+◌, ℕ, suc, Bool, true, false, Some, refl, sym, ap, ◌∙◌, subst, IfSome, Clear, mark_at, space_of, cost_of}
+use Rattle.shared_tree_tests.proofs.Words.{squared_distance, distance_to, IsPresent, point_of, Point, IsPresent-stands, StandsAt-present, point_of-stands}
+use Rattle.shared_tree_tests.proofs.Words.{has_node, WritesWord, PointOf, RecordOf, TreeOf, IsNearestSeen, IsPlaced, IsPlacing, IsSame, Placing, GoesOn}
+use Rattle.shared_tree_tests.proofs.Words.{SharedState, run_in, at_hand, if_hand, MayHang-nearest, IsLater, IsLawfulView, has_link, has_point, pointed, MayHang}
+use Rattle.shared_tree_tests.proofs.Words.{SeesCost, SeesNode, SeesPoint, sight_in, sees, setup_in, tree_seen, has_node-recorded, present_recorded}
+use Rattle.shared_tree_tests.proofs.Words.{SeesPoint-later, Hand, Stage, Counted, Pointed, Treed, View, HangsBelowNearest, IsNearestRecorded, SteersFrom}
 use Rattle.kd_shared.specs.declared.placing.Placing.TheVariants.{Placed, Same}
-use Rattle.plan_words.proofs.Common.{GoesOn, SharedState, run_in, at_hand, if_hand, MayHang-nearest}
-use Rattle.step_core.proofs.Common.{IsLater, IsLawfulView, has_link, has_point, pointed, MayHang, SeesCost, SeesNode, SeesPoint, sight_in, sees, setup_in}
-use Rattle.step_core.proofs.Common.{tree_seen, has_node-recorded, present_recorded, SeesPoint-later}
-use Rattle.step_core.specs.declared.views.Hand.{Hand}
-use Rattle.step_core.specs.declared.views.Stage.{Stage}
-use Rattle.step_core.specs.declared.views.Stage.TheVariants.{Counted, Pointed, Treed}
-use Rattle.step_core.specs.declared.views.View.{View}
-use Rattle.shared_tree_tests.specs.SteeredPasses.HeldMarks.{HangsBelowNearest, IsNearestRecorded, SteersFrom}
 
 -- what a search for the nearest node finds
 pub IsNearestRecorded-found :

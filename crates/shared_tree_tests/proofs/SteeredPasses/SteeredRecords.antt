@@ -1,23 +1,13 @@
 -- What may be recorded of a mark that was steered from the nearest node: that another node stands at its point, or, if the radius is 0,
 -- that its node was placed below the nearest.
-use Rattle.std.proofs.Common.{◌≡◌, ℕ, zero, suc, refl, ◌+◌, ◌-◌, ◌*◌, ◌<◌, ◌≤◌, ◌^◌, true, Option}
-use Rattle.std.proofs.Common.{[], Some, None, length, inl, inr, sym, ap, ◌∙◌, subst, arith}
-use Rattle.std.specs.Prelude.{◌⊎◌, IfSome, IsTrue, nat_le}
-use Rattle.std.specs.List.{filter, range_with_len}
-use Rattle.std.proofs.Math.Nat.{mul-pos}
-use Rattle.std.proofs.lemmas.Bool.{cases_lt, le-leb, leb-true}
-use Rattle.std.proofs.lemmas.List.Elements.{filter_agree}
-use Rattle.std.proofs.lemmas.Nat.{pow_pos}
-use Rattle.grown_runs.proofs.Common.{Clear, mark_at, is_goal_point, IsNotAbove, distance_to, is_within, IsPresent, point_at, point_of, class_of}
-use Rattle.grown_runs.proofs.Common.{radius_of_class, steered, Point, Outcome, Placed, Same, Record, same-from_distance, point_of-stands, greatest-passes}
-use Rattle.grown_runs.proofs.Common.{class_of-le, has_node, Count, RecordOf}
-use Rattle.plan_words.proofs.Common.{GoesOn, if_hand}
-use Rattle.step_core.proofs.Common.{is_own_node-earlier, own_recorded, IsLawfulView, IsOwnNeighbour, MayBePlaced, MayEnd, MayRecord, MaySteer, is_own_node}
-use Rattle.step_core.proofs.Common.{own_count, has_link, SeesPoint, sees, setup_in, tree_seen}
-use Rattle.step_core.specs.declared.views.Hand.{Hand}
-use Rattle.step_core.specs.declared.views.SharedRun.{SharedRun}
-use Rattle.step_core.specs.declared.views.View.{View}
-use Rattle.shared_tree_tests.specs.SteeredPasses.HeldMarks.{HangsBelowNearest, SeesHandPoint, SteersFrom}
+use Rattle.shared_tree_tests.proofs.Words.{◌≡◌, ℕ, zero, suc, refl, ◌+◌, ◌-◌, ◌*◌, ◌<◌, ◌≤◌, ◌^◌, true, Option, [], Some, None, length, inl, inr, sym, ap, ◌∙◌}
+use Rattle.shared_tree_tests.proofs.Words.{subst, arith, ◌⊎◌, IfSome, IsTrue, nat_le, filter, range_with_len, mul-pos, cases_lt, le-leb, leb-true, filter_agree}
+use Rattle.shared_tree_tests.proofs.Words.{pow_pos, Clear, mark_at, is_goal_point, IsNotAbove, distance_to, is_within, IsPresent, point_at, point_of, class_of}
+use Rattle.shared_tree_tests.proofs.Words.{radius_of_class, steered, Point, Outcome, Record, same-from_distance, point_of-stands, greatest-passes, class_of-le}
+use Rattle.shared_tree_tests.proofs.Words.{has_node, Count, RecordOf, GoesOn, if_hand, is_own_node-earlier, own_recorded, IsLawfulView, IsOwnNeighbour}
+use Rattle.shared_tree_tests.proofs.Words.{MayBePlaced, MayEnd, MayRecord, MaySteer, is_own_node, own_count, has_link, SeesPoint, sees, setup_in, tree_seen}
+use Rattle.shared_tree_tests.proofs.Words.{Hand, SharedRun, View, HangsBelowNearest, SeesHandPoint, SteersFrom}
+use Rattle.grown_runs.proofs.Common.{Placed, Same}
 use Rattle.shared_tree_tests.proofs.SteeredPasses.SteeredMarks.{present_nearest}
 
 -- ---- classes and radii

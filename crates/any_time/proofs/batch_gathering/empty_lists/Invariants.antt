@@ -1,5 +1,4 @@
-use Rattle.std.proofs.Common.{◌≡◌, length}
-use Rattle.any_time.specs.BatchGathering.{AllEmpty}
+use Rattle.any_time.proofs.Words.{◌≡◌, length, AllEmpty}
 use Rattle.any_time.proofs.batch_gathering.empty_lists.Given as goal
 
 abbrev pub invariant-loop-number : goal.invariant-loop-number

@@ -1,6 +1,4 @@
-use Rattle.std.proofs.Common.{◌≡◌, ◌++◌, ◌∷◌, [], List, rules, set, ap, ◌∙◌}
-use Rattle.std.proofs.lemmas.List.{get_or_read, set-set}
-use Rattle.any_time.specs.declared.betters.Better.{Better}
+use Rattle.any_time.proofs.Words.{◌≡◌, ◌++◌, ◌∷◌, [], List, rules, set, ap, ◌∙◌, get_or_read, set-set, Better}
 use Rattle.any_time.proofs.batch_gathering.push_better.Goals as goal
 
 pub returns : goal.returns

@@ -1,6 +1,4 @@
-use Rattle.std.proofs.Common.{◌≡◌, ◌++◌, drop, take}
-use Rattle.std.specs.List.{list_all}
-use Rattle.any_time.proofs.Words.{has_path, batch_report}
+use Rattle.any_time.proofs.Words.{◌≡◌, ◌++◌, drop, take, list_all, has_path, batch_report}
 use Rattle.any_time.proofs.batch_reports.batch_report.Given as goal
 
 abbrev pub invariant-loop-number : goal.invariant-loop-number

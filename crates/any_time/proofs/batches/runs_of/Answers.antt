@@ -1,9 +1,5 @@
-use Rattle.std.proofs.Common.{◌≡◌, ◌++◌, ◌∷◌, [], ◌+◌, List, Option, Some, length, map, take, sym, ap, ◌∙◌, rules}
-use Rattle.std.proofs.lemmas.Iterator.Adapters.{YieldsList-from_vec}
-use Rattle.std.proofs.lemmas.Iterator.Consumers.{YieldsList-turn}
-use Rattle.std.proofs.lemmas.List.{length_push, map_more, map_push}
-use Rattle.grown_runs.specs.declared.grown.Grown.{Grown}
-use Rattle.any_time.specs.Sessions.{SessionState}
+use Rattle.any_time.proofs.Words.{◌≡◌, ◌++◌, ◌∷◌, [], ◌+◌, List, Option, Some, length, map, take, sym, ap, ◌∙◌, rules, YieldsList-from_vec, YieldsList-turn}
+use Rattle.any_time.proofs.Words.{length_push, map_more, map_push, Grown, SessionState}
 use Rattle.any_time.proofs.batches.runs_of.Goals as goal
 
 pub loop-session-preserved : goal.loop-session-preserved

@@ -1,5 +1,4 @@
-use Rattle.std.proofs.Common.{◌≡◌, ◌≤◌, Some, length, map, take, vec_capacity}
-use Rattle.any_time.specs.Sessions.{SessionState}
+use Rattle.any_time.proofs.Words.{◌≡◌, ◌≤◌, Some, length, map, take, vec_capacity, SessionState}
 use Rattle.any_time.proofs.batches.runs_of.Given as goal
 
 abbrev pub invariant-loop-session : goal.invariant-loop-session

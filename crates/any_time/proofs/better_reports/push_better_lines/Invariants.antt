@@ -1,5 +1,4 @@
-use Rattle.std.proofs.Common.{◌≡◌, ◌++◌, take, string_bytes}
-use Rattle.any_time.specs.BetterReports.{better_lines}
+use Rattle.any_time.proofs.Words.{◌≡◌, ◌++◌, take, string_bytes, better_lines}
 use Rattle.any_time.proofs.better_reports.push_better_lines.Given as goal
 
 abbrev pub invariant-loop-item : goal.invariant-loop-item

@@ -1,6 +1,5 @@
-use Rattle.std.proofs.Common.{sym, ◌∙◌, subst}
+use Rattle.any_time.proofs.Words.{sym, ◌∙◌, subst, AreBetterPaths}
 use Rattle.any_time.proofs.GatheredItems.{AreBetterPaths-gathered, EndsWith-gathered}
-use Rattle.any_time.specs.BetterPaths.{AreBetterPaths}
 use Rattle.any_time.proofs.gathering.finish_session.Goals as goal
 
 pub returns-clause-ended : goal.returns-clause-ended

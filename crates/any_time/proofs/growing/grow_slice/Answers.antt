@@ -1,6 +1,4 @@
-use Rattle.std.proofs.Common.{◌<◌, ◌∙◌, sym, subst, take}
-use Rattle.grown_runs.proofs.Common.{IsSettled-of_textbook, GrowsInto-trans, setup_of, state_of_grown}
-use Rattle.plan_work.specs.OneWorker.{IsOfTextbook}
+use Rattle.any_time.proofs.Words.{◌<◌, ◌∙◌, sym, subst, take, IsSettled-of_textbook, GrowsInto-trans, setup_of, state_of_grown, IsOfTextbook}
 use Rattle.any_time.proofs.growing.grow_slice.Goals as goal
 
 -- a textbook run is settled already, so it stays as it is

@@ -1,5 +1,4 @@
-use Rattle.std.proofs.Common.{arith}
-use Rattle.plan_model.proofs.MarkBounds.{length-marks}
+use Rattle.any_time.proofs.Words.{arith, length-marks}
 use Rattle.any_time.proofs.growing.mark_count.Goals as goal
 
 pub overflow_cast-result : goal.overflow_cast-result

@@ -1,6 +1,4 @@
-use Rattle.std.proofs.Common.{take}
-use Rattle.grown_runs.proofs.Common.{IsSettled-of_textbook, setup_of, state_of_grown}
-use Rattle.plan_work.proofs.TextbookEnds.{IsOfTextbook-new}
+use Rattle.any_time.proofs.Words.{take, IsSettled-of_textbook, setup_of, state_of_grown, IsOfTextbook-new}
 use Rattle.any_time.proofs.sessions.fresh_run.Goals as goal
 
 pub returns-clause-textbook : goal.returns-clause-textbook

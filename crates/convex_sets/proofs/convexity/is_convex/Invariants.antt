@@ -1,5 +1,4 @@
-use Rattle.std.proofs.Common.{◌≡◌, ℕ, ◌<◌, true}
-use Rattle.plan_model.specs.Geometry.Convexity.{is_left_of_edge}
+use Rattle.convex_sets.proofs.Words.{◌≡◌, ℕ, ◌<◌, true, is_left_of_edge}
 use Rattle.convex_sets.proofs.convexity.is_convex.Given as goal
 
 abbrev pub invariant-loop-i : goal.invariant-loop-i

@@ -1,5 +1,4 @@
-use Rattle.std.proofs.Common.{◌≡◌, ℕ, ◌<◌, true}
-use Rattle.convex_sets.specs.Edges.{is_end_or_left}
+use Rattle.convex_sets.proofs.Words.{◌≡◌, ℕ, ◌<◌, true, is_end_or_left}
 use Rattle.convex_sets.proofs.convexity.is_left_of.Given as goal
 
 abbrev pub invariant-loop-k : goal.invariant-loop-k

@@ -1,5 +1,4 @@
-use Rattle.std.proofs.Common.{refl, arith}
-use Rattle.std.proofs.lemmas.Int.{ints}
+use Rattle.convex_sets.proofs.Words.{refl, arith, ints}
 use borrow.Author.Count.{below_more}
 use Rattle.convex_sets.proofs.Fans.{not_inside, inside_at}
 use Rattle.convex_sets.proofs.half_planes.is_inside.Goals as goal

@@ -1,8 +1,4 @@
-use Rattle.std.proofs.Common.{ℕ, ◌<◌}
-use Rattle.std.specs.Prelude.{pos, ◌≤ℤ◌}
-use Rattle.plan_model.specs.Geometry.Convexity.{corner_at, next_corner}
-use Rattle.plan_model.specs.Geometry.Plane.{orientation}
-use Rattle.std.proofs.Common.{length}
+use Rattle.convex_sets.proofs.Words.{ℕ, ◌<◌, pos, ◌≤ℤ◌, corner_at, next_corner, orientation, length}
 use Rattle.convex_sets.proofs.half_planes.is_inside.Given as goal
 
 abbrev pub invariant-loop-i : goal.invariant-loop-i

@@ -1,9 +1,4 @@
-use Rattle.std.proofs.Common.{◌≡◌, ◌+◌, inl, inr, refl, suc, arith}
-use Rattle.std.proofs.lemmas.Int.{ints}
-use Rattle.plan_model.specs.declared.geometry.Vertex.{Vertex}
-use Rattle.std.specs.Prelude.{ℕ, List, ℤ}
-use Rattle.plan_model.specs.Geometry.Convexity.{corner_at}
-use Rattle.convex_sets.proofs.Words.{cross, from_to, edge_at}
+use Rattle.convex_sets.proofs.Words.{◌≡◌, ◌+◌, inl, inr, refl, suc, arith, ints, Vertex, ℕ, List, ℤ, corner_at, cross, from_to, edge_at}
 use Rattle.convex_sets.proofs.Crosses.{cross_opposite}
 use Rattle.convex_sets.proofs.merging.merge_step.Goals as goal
 

@@ -1,6 +1,4 @@
-use Rattle.std.proofs.Common.{inl, inr, arith}
-use Rattle.std.proofs.lemmas.Int.{ints}
-use Rattle.plan_model.specs.Geometry.Convexity.{corner_at}
+use Rattle.convex_sets.proofs.Words.{inl, inr, arith, ints, corner_at}
 use Rattle.convex_sets.proofs.Corners.{bounded_corner, bounded_at}
 use Rattle.convex_sets.proofs.MergedPaths.{IsMergedTo-start, IsMergedTo-step, IsMergeStep-goes_on, pushed_is}
 use Rattle.convex_sets.proofs.ClosedPaths.{IsMerged-closed}

@@ -1,7 +1,4 @@
-use Rattle.std.proofs.Common.{◌≡◌, arith}
-use Rattle.std.specs.Prelude.{ℤ, pos, negsuc, ◌-ℤ◌, ◌*ℤ◌, ◌≤ℤ◌}
-use Rattle.std.proofs.Common.{w64, to_z, of_z}
-use Rattle.std.proofs.lemmas.Int.{ints}
+use Rattle.convex_sets.proofs.Words.{◌≡◌, arith, ℤ, pos, negsuc, ◌-ℤ◌, ◌*ℤ◌, ◌≤ℤ◌, w64, to_z, of_z, ints}
 use Rattle.convex_sets.proofs.Signs.{mul-bounds}
 use Rattle.convex_sets.proofs.orientations.cross.Goals as goal
 

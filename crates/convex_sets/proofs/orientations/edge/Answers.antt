@@ -1,5 +1,4 @@
-use Rattle.std.proofs.Common.{arith}
-use Rattle.std.proofs.lemmas.Int.{ints}
+use Rattle.convex_sets.proofs.Words.{arith, ints}
 use Rattle.convex_sets.proofs.Corners.{same_vector, bounded_corner}
 use Rattle.convex_sets.proofs.orientations.edge.Goals as goal
 

@@ -1,5 +1,4 @@
-use Rattle.std.proofs.Common.{◌≡◌, w32, to_z, of_z, arith}
-use Rattle.std.proofs.lemmas.Int.{ints}
+use Rattle.convex_sets.proofs.Words.{◌≡◌, w32, to_z, of_z, arith, ints}
 use Rattle.convex_sets.proofs.Lows.{lt_cases, rise-lower, rise-left}
 use Rattle.convex_sets.proofs.outlines.is_lower.Goals as goal
 

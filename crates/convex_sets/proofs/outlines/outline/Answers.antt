@@ -1,6 +1,4 @@
-use Rattle.std.proofs.Common.{List}
-use Rattle.plan_model.specs.declared.geometry.Vertex.{Vertex}
-use Rattle.convex_sets.specs.Outlines.{IsTurned}
+use Rattle.convex_sets.proofs.Words.{List, Vertex, IsTurned}
 use Rattle.convex_sets.proofs.Made.{IfOk-map}
 use Rattle.convex_sets.proofs.Turned.{IsRound, IsRound-point, IsRound-polygon}
 use Rattle.convex_sets.proofs.outlines.outline.Goals as goal

@@ -1,8 +1,4 @@
-use Rattle.std.proofs.Common.{arith}
-use Rattle.std.proofs.lemmas.Int.{ints}
-use Rattle.std.proofs.lemmas.Grind.{common_steps}
-use Rattle.plan_model.specs.Geometry.Convexity.{corner_at}
-use Rattle.convex_sets.specs.Outlines.{reflection}
+use Rattle.convex_sets.proofs.Words.{arith, ints, common_steps, corner_at, reflection}
 use Rattle.convex_sets.proofs.Corners.{bounded_corner, bounded_at}
 use Rattle.convex_sets.proofs.MergedPaths.{pushed_is}
 use Rattle.convex_sets.proofs.outlines.reflected.Goals as goal

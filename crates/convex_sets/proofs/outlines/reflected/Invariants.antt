@@ -1,5 +1,4 @@
-use Rattle.std.proofs.Common.{◌≡◌, map, take}
-use Rattle.convex_sets.specs.Outlines.{reflection}
+use Rattle.convex_sets.proofs.Words.{◌≡◌, map, take, reflection}
 use Rattle.convex_sets.proofs.outlines.reflected.Given as goal
 
 abbrev pub invariant-loop-corner : goal.invariant-loop-corner

@@ -1,5 +1,4 @@
-use Rattle.std.proofs.Common.{ap}
-use Rattle.plan_model.specs.Geometry.Convexity.{corner_at}
+use Rattle.convex_sets.proofs.Words.{ap, corner_at}
 use Rattle.convex_sets.proofs.Turned.{IsTurned-push}
 use Rattle.convex_sets.proofs.outlines.turned.Goals as goal
 

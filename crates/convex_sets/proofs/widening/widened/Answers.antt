@@ -1,6 +1,4 @@
-use Rattle.std.proofs.Common.{arith}
-use Rattle.std.proofs.lemmas.Int.{ints}
-use Rattle.plan_model.specs.declared.limits.TheConstants.{LEAST_BODY_COORDINATE, MOST_BODY_COORDINATE}
+use Rattle.convex_sets.proofs.Words.{arith, ints, LEAST_BODY_COORDINATE, MOST_BODY_COORDINATE}
 use Rattle.convex_sets.proofs.Made.{IfOk-map}
 use Rattle.convex_sets.proofs.Squares.{square_convex}
 use Rattle.convex_sets.proofs.WidenedBodies.{widened_is, widened_within}

@@ -1,8 +1,4 @@
-use Rattle.std.proofs.Common.{◌≡◌, arith, ap, ◌∙◌}
-use Rattle.std.specs.Prelude.{min}
-use Rattle.plan_model.specs.declared.geometry.Goal.{Goal}
-use Rattle.plan_model.specs.declared.geometry.Point.{Point}
-use Rattle.plan_model.specs.Geometry.Plane.{squared_distance}
+use Rattle.edge_cost.proofs.Words.{◌≡◌, arith, ap, ◌∙◌, min, Goal, Point, squared_distance}
 use Rattle.edge_cost.proofs.LeastEdges.{IsLeastOfFirst-next, bound_of-scanned}
 use Rattle.edge_cost.proofs.bounds.bound.Goals as goal
 

@@ -1,5 +1,4 @@
-use Rattle.std.proofs.Common.{◌≡◌, ap, ◌∙◌}
-use Rattle.std.specs.Prelude.{min}
+use Rattle.edge_cost.proofs.Words.{◌≡◌, ap, ◌∙◌, min}
 use Rattle.edge_cost.proofs.LeastEdges.{moved, moved_into-nearest}
 use Rattle.edge_cost.proofs.bounds.nearest_in.Goals as goal
 

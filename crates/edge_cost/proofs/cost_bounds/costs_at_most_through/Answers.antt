@@ -1,6 +1,4 @@
-use Rattle.std.proofs.Common.{◌-◌, ◌*◌, ◌≤◌, arith}
-use Rattle.std.proofs.lemmas.Bool.Decides.{nat_tests}
-use Rattle.plan_model.specs.Geometry.Plane.{squared_distance}
+use Rattle.edge_cost.proofs.Words.{◌-◌, ◌*◌, ◌≤◌, arith, nat_tests, squared_distance}
 use Rattle.edge_cost.proofs.ReachedRoots.{within_if_reached, reached_if_within}
 use Rattle.edge_cost.proofs.cost_bounds.costs_at_most_through.Goals as goal
 

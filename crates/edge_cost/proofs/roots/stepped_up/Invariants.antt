@@ -1,5 +1,4 @@
-use Rattle.std.proofs.Common.{◌-◌, ◌≤◌}
-use Rattle.edge_cost.specs.declared.roots.TheConstants.{MOST_ROOT}
+use Rattle.edge_cost.proofs.Words.{◌-◌, ◌≤◌, MOST_ROOT}
 use Rattle.edge_cost.proofs.roots.stepped_up.Given as goal
 
 abbrev pub invariant-loop-root : goal.invariant-loop-root

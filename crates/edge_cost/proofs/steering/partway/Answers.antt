@@ -1,5 +1,4 @@
-use Rattle.std.proofs.Common.{arith}
-use Rattle.plan_model.proofs.SteeringLaws.{IsStep-partial}
+use Rattle.edge_cost.proofs.Words.{arith, IsStep-partial}
 use Rattle.edge_cost.proofs.steering.partway.Goals as goal
 
 pub returns-clause-steps : goal.returns-clause-steps

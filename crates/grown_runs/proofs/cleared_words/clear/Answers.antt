@@ -1,5 +1,4 @@
-use Rattle.std.proofs.Common.{◌≡◌, arith, sym, ap, subst}
-use Rattle.grown_runs.proofs.Words.{ClearsNodes, cleared, sizes_in, words_in}
+use Rattle.grown_runs.proofs.Words.{◌≡◌, arith, sym, ap, subst, ClearsNodes, cleared, sizes_in, words_in}
 use Rattle.grown_runs.specs.Table.WordPlaces.{word_at}
 use Rattle.grown_runs.proofs.Table.ClearedWords.{cleared-all}
 use Rattle.grown_runs.proofs.cleared_words.clear.Goals as goal

@@ -1,5 +1,4 @@
-use Rattle.std.proofs.Common.{◌≡◌}
-use Rattle.grown_runs.proofs.Words.{ClearsNodes, words_in}
+use Rattle.grown_runs.proofs.Words.{◌≡◌, ClearsNodes, words_in}
 use Rattle.grown_runs.proofs.cleared_words.clear.Given as goal
 
 -- the numbers so far are cleared

@@ -1,7 +1,5 @@
-use Rattle.std.proofs.Common.{Some, ap, ◌∙◌, subst}
-use Rattle.std.specs.Prelude.{◌≢◌}
-use Rattle.plan_model.specs.Seen.Ways.{EndsBelow, goes_right}
-use Rattle.grown_runs.proofs.Words.{children_of_words, points_below, tree_below, sizes_in, words_in, WritesWord, ChildOf, point_in}
+use Rattle.grown_runs.proofs.Words.{Some, ap, ◌∙◌, subst, ◌≢◌, EndsBelow, goes_right, children_of_words, points_below, tree_below, sizes_in, words_in}
+use Rattle.grown_runs.proofs.Words.{WritesWord, ChildOf, point_in}
 use Rattle.grown_runs.proofs.Runs.GrownPoints.{present-within}
 use Rattle.grown_runs.proofs.Ways.LinkedWords.{AreLinkedBelow-more, ChangesChildren-written, IsFree-own, LinksRise-more}
 use Rattle.grown_runs.proofs.Ways.NodesBelow.{here_seen, here_within}

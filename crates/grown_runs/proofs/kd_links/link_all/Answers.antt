@@ -1,7 +1,5 @@
-use Rattle.std.proofs.Common.{◌+◌, arith, refl, sym, ap, ◌∙◌, subst}
-use Rattle.std.specs.Prelude.{None, is_some, slice_index_or}
-use Rattle.std.proofs.lemmas.List.{get_or_past}
-use Rattle.grown_runs.proofs.Words.{AreLinkedBelow, MayLink, sizes_in, words_in}
+use Rattle.grown_runs.proofs.Words.{◌+◌, arith, refl, sym, ap, ◌∙◌, subst, None, is_some, slice_index_or, get_or_past, AreLinkedBelow, MayLink, sizes_in}
+use Rattle.grown_runs.proofs.Words.{words_in}
 use Rattle.grown_runs.proofs.Ways.LinkedNodes.{LinksSoFar, LinksSoFar-start, MayLink-present, LinksSoFar-absent, LinksSoFar-more, FollowWays-all}
 use Rattle.grown_runs.proofs.kd_links.link_all.Goals as goal
 use Rattle.grown_runs.proofs.kd_links.link_all.Goals.{then-is_some, else-is_some}

@@ -1,6 +1,4 @@
-use Rattle.std.proofs.Common.{◌≡◌}
-use Rattle.std.specs.Prelude.{None, is_some, slice_index_or}
-use Rattle.grown_runs.proofs.Words.{sizes_in, words_in}
+use Rattle.grown_runs.proofs.Words.{◌≡◌, None, is_some, slice_index_or, sizes_in, words_in}
 use Rattle.grown_runs.proofs.Ways.LinkedNodes.{LinksSoFar}
 use Rattle.grown_runs.proofs.kd_links.link_all.Given as goal
 

@@ -1,6 +1,4 @@
-use Rattle.std.proofs.Common.{sym, ◌∙◌, subst}
-use Rattle.plan_model.proofs.SamePoints.{same_point-false}
-use Rattle.grown_runs.specs.Ways.KdWalks.{StopsAt}
+use Rattle.grown_runs.proofs.Words.{sym, ◌∙◌, subst, same_point-false, StopsAt}
 use Rattle.grown_runs.proofs.Ways.WalkStops.{StopsAt-below, StopsAt-fills, StopsAt-root}
 use Rattle.grown_runs.proofs.kd_walks.walk.Goals as goal
 

@@ -1,6 +1,4 @@
-use Rattle.std.proofs.Common.{◌-◌}
-use Rattle.plan_model.specs.declared.limits.TheConstants.{MOST_NODES}
-use Rattle.grown_runs.specs.Ways.KdWalks.{StopsAt}
+use Rattle.grown_runs.proofs.Words.{◌-◌, MOST_NODES, StopsAt}
 use Rattle.grown_runs.proofs.kd_walks.walk.Given as goal
 
 abbrev pub invariant-way : goal.invariant-way

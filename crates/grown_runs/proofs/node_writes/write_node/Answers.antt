@@ -1,5 +1,4 @@
-use Rattle.std.proofs.Common.{◌∙◌, subst}
-use Rattle.grown_runs.proofs.Words.{words_in, WritesWord, PointOf, TreeOf}
+use Rattle.grown_runs.proofs.Words.{◌∙◌, subst, words_in, WritesWord, PointOf, TreeOf}
 use Rattle.grown_runs.proofs.Runs.PackedWritings.{HoldsNode-written, ChangesNode-written}
 use Rattle.grown_runs.proofs.node_writes.write_node.Goals as goal
 

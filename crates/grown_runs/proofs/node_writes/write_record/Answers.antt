@@ -1,5 +1,4 @@
-use Rattle.std.proofs.Common.{◌≡◌, ◌+◌, suc, arith, ◌∙◌, subst}
-use Rattle.grown_runs.proofs.Words.{words_in, WritesWord, FirstOf, RecordOf, tree_word}
+use Rattle.grown_runs.proofs.Words.{◌≡◌, ◌+◌, suc, arith, ◌∙◌, subst, words_in, WritesWord, FirstOf, RecordOf, tree_word}
 use Rattle.grown_runs.proofs.Runs.PackedWritings.{HoldsRecord-unplaced, HoldsRecord-placed, ChangesRecord-unplaced, ChangesRecord-placed}
 use Rattle.grown_runs.proofs.node_writes.write_record.Goals as goal
 

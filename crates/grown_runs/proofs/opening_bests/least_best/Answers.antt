@@ -1,6 +1,4 @@
-use Rattle.std.proofs.Common.{◌<◌, ◌+◌, ◌^◌, arith, sym, subst}
-use Rattle.plan_model.proofs.MarkBounds.{length-marks}
-use Rattle.grown_runs.specs.Runs.GrownRuns.{state_of_grown}
+use Rattle.grown_runs.proofs.Words.{◌<◌, ◌+◌, ◌^◌, arith, sym, subst, length-marks, state_of_grown}
 use Rattle.grown_runs.proofs.Runs.OpeningBests.{IsLeastBelow, IsLeastBelow-more}
 use Rattle.grown_runs.proofs.opening_bests.least_best.Goals as goal
 

@@ -1,5 +1,4 @@
-use Rattle.std.proofs.Common.{◌+◌, ◌<◌, ◌%◌, ◌^◌, arith, sym, ◌∙◌, subst}
-use Rattle.grown_runs.proofs.Words.{sizes_in, words_in, WritesWord, Counter}
+use Rattle.grown_runs.proofs.Words.{◌+◌, ◌<◌, ◌%◌, ◌^◌, arith, sym, ◌∙◌, subst, sizes_in, words_in, WritesWord, Counter}
 use Rattle.grown_runs.proofs.Runs.PackedWritings.{CountsMarks-more, quota_of-le}
 use Rattle.grown_runs.proofs.packed_runs.count_marks.Goals as goal
 

@@ -1,5 +1,4 @@
-use Rattle.std.proofs.Common.{◌≡◌}
-use Rattle.grown_runs.proofs.Words.{CountsMarks, sizes_in, words_in}
+use Rattle.grown_runs.proofs.Words.{◌≡◌, CountsMarks, sizes_in, words_in}
 use Rattle.grown_runs.proofs.packed_runs.count_marks.Given as goal
 
 -- the marks so far are counted

@@ -1,7 +1,5 @@
-use Rattle.std.proofs.Common.{sym, subst}
-use Rattle.std.specs.Prelude.{None, is_some, slice_index_or}
-use Rattle.plan_model.specs.Seen.Ways.{FollowWays}
-use Rattle.grown_runs.proofs.Words.{children_of_words, points_of_words, AreUnlinked, FitWords, sizes_in, words_in}
+use Rattle.grown_runs.proofs.Words.{sym, subst, None, is_some, slice_index_or, FollowWays, children_of_words, points_of_words, AreUnlinked, FitWords, sizes_in}
+use Rattle.grown_runs.proofs.Words.{words_in}
 use Rattle.grown_runs.proofs.Runs.FittingRuns.{FitWords-closed}
 use Rattle.grown_runs.proofs.Runs.PackedLists.{AreUnlinked-written, HoldRun-linked, AreSameRuns-linked}
 use Rattle.grown_runs.proofs.packed_runs.packed_run.Goals as goal

@@ -1,5 +1,4 @@
-use Rattle.std.proofs.Common.{subst}
-use Rattle.grown_runs.proofs.Words.{sizes_in, words_in, WritesWord, Count, FirstOf}
+use Rattle.grown_runs.proofs.Words.{subst, sizes_in, words_in, WritesWord, Count, FirstOf}
 use Rattle.grown_runs.proofs.Runs.PackedLists.{HoldLists-written, child-written}
 use Rattle.grown_runs.proofs.packed_runs.write_lists.Goals as goal
 

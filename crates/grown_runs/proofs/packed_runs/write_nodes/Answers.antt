@@ -1,7 +1,4 @@
-use Rattle.std.proofs.Common.{◌+◌, sym, ap, ◌∙◌, subst}
-use Rattle.std.specs.Prelude.{Some, None}
-use Rattle.std.proofs.lemmas.Option.{slice_get-get_or}
-use Rattle.grown_runs.proofs.Words.{WritesNodes, words_in}
+use Rattle.grown_runs.proofs.Words.{◌+◌, sym, ap, ◌∙◌, subst, Some, None, slice_get-get_or, WritesNodes, words_in}
 use Rattle.grown_runs.proofs.Runs.PackedWritings.{WritesNodes-absent, WritesNodes-more}
 use Rattle.grown_runs.proofs.packed_runs.write_nodes.Goals as goal
 use Rattle.grown_runs.proofs.packed_runs.write_nodes.Goals.{in-Some, in_default}

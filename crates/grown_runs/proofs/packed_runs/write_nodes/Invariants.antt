@@ -1,5 +1,4 @@
-use Rattle.std.proofs.Common.{◌≡◌}
-use Rattle.grown_runs.proofs.Words.{WritesNodes, words_in}
+use Rattle.grown_runs.proofs.Words.{◌≡◌, WritesNodes, words_in}
 use Rattle.grown_runs.proofs.packed_runs.write_nodes.Given as goal
 
 -- the nodes so far are written

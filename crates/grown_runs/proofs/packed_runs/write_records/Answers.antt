@@ -1,6 +1,4 @@
-use Rattle.std.proofs.Common.{◌≡◌, length, refl, arith, ◌∙◌, subst}
-use Rattle.std.proofs.lemmas.Option.{slice_get_read}
-use Rattle.grown_runs.proofs.Words.{WritesRecords, words_in}
+use Rattle.grown_runs.proofs.Words.{◌≡◌, length, refl, arith, ◌∙◌, subst, slice_get_read, WritesRecords, words_in}
 use Rattle.grown_runs.proofs.Runs.PackedWritings.{WritesRecords-more}
 use Rattle.grown_runs.proofs.packed_runs.write_records.Goals as goal
 

@@ -1,5 +1,4 @@
-use Rattle.std.proofs.Common.{◌≡◌}
-use Rattle.grown_runs.proofs.Words.{WritesRecords, words_in}
+use Rattle.grown_runs.proofs.Words.{◌≡◌, WritesRecords, words_in}
 use Rattle.grown_runs.proofs.packed_runs.write_records.Given as goal
 
 -- the records so far are written

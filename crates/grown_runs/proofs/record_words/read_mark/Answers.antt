@@ -1,6 +1,4 @@
-use Rattle.std.proofs.Common.{◌/◌, ◌^◌, ◌∙◌, ap, bit_and, refl, sym, arith}
-use Rattle.plan_model.specs.declared.records.Outcome.TheVariants.{Same}
-use Rattle.grown_runs.specs.Table.Words.{unplaced_in}
+use Rattle.grown_runs.proofs.Words.{◌/◌, ◌^◌, ◌∙◌, ap, bit_and, refl, sym, arith, Same, unplaced_in}
 use Rattle.grown_runs.proofs.Table.ReadWords.{record_of_word-is, record_in-skipped}
 use Rattle.grown_runs.proofs.record_words.read_mark.Goals as goal
 

@@ -1,8 +1,4 @@
-use Rattle.std.proofs.Common.{sym, subst}
-use Rattle.plan_model.specs.Runs.ClosedLaw.{IsClosed}
-use Rattle.plan_model.specs.Runs.Textbook.{setup_of}
-use Rattle.plan_model.proofs.SameTrees.{IsClosed-same_run}
-use Rattle.grown_runs.proofs.Words.{state_of_grown, state_of_lists}
+use Rattle.grown_runs.proofs.Words.{sym, subst, IsClosed, setup_of, IsClosed-same_run, state_of_grown, state_of_lists}
 use Rattle.grown_runs.proofs.word_laws.runs_may_be_packed_again.Goals as goal
 
 pub returns-clause-closed : goal.returns-clause-closed

@@ -1,6 +1,4 @@
-use Rattle.grown_runs.proofs.Common.{child_of_word, ChildOf, PointOf, point_in}
-use Rattle.step_core.proofs.Common.{sight_in, KeepsSight-lawful}
-use Rattle.kd_shared.specs.LookLaws.{PassLooks-trans}
+use Rattle.kd_shared.proofs.Words.{child_of_word, ChildOf, PointOf, point_in, sight_in, KeepsSight-lawful, PassLooks-trans}
 use Rattle.kd_shared.proofs.LoadedChildren.{QueuesWithin-loaded}
 use Rattle.kd_shared.proofs.Looking.{LoadsChild-child, LoadsPoint-point}
 use Rattle.kd_shared.proofs.PassLooks.{PassLooks-load}

@@ -1,9 +1,5 @@
-use Rattle.std.proofs.Common.{◌≡◌, ◌<◌, ◌+◌, ◌*◌, List, [], ◌∷◌, ◌++◌, length, false, true, arith, refl, sym, ap, ◌∙◌, subst}
-use Rattle.std.specs.Prelude.{IsFalse, option_to_list}
-use Rattle.plan_words.proofs.Common.{point_of_spot, PassState, with_lists}
-use Rattle.plan_words.specs.declared.spots.Spot.{Spot}
-use Rattle.grown_runs.proofs.Common.{IsBounded, squared_distance, PointOf}
-use Rattle.kd_shared.proofs.Words.{searched, Notes, side_distance}
+use Rattle.kd_shared.proofs.Words.{◌≡◌, ◌<◌, ◌+◌, ◌*◌, List, [], ◌∷◌, ◌++◌, length, false, true, arith, refl, sym, ap, ◌∙◌, subst, IsFalse, option_to_list}
+use Rattle.kd_shared.proofs.Words.{point_of_spot, PassState, with_lists, Spot, IsBounded, squared_distance, PointOf, searched, Notes, side_distance}
 use Rattle.kd_shared.proofs.Looking.{LoadsPoint-point, SeesNode-later}
 use Rattle.kd_shared.proofs.NearPasses.{ended_few, ended_gathered, fewer_left, IsGatheringPass-begins, IsGatheringPass-both, LoadsBoth}
 use Rattle.kd_shared.proofs.NearPasses.{noted_seen, room_first, room_last, spot_bounded, taken_both, TakesFirst, with_child}

@@ -1,7 +1,4 @@
-use Rattle.std.proofs.Common.{sym, subst}
-use Rattle.plan_words.specs.States.{PassState}
-use Rattle.step_core.specs.ViewTrees.{sight_in}
-use Rattle.kd_shared.specs.Searches.{AreNearSeen}
+use Rattle.kd_shared.proofs.Words.{sym, subst, PassState, sight_in, AreNearSeen}
 use Rattle.kd_shared.proofs.SortedNear.{AreNearSeen-gathered}
 use Rattle.kd_shared.proofs.near_search.near.Goals as goal
 

@@ -1,7 +1,4 @@
-use Rattle.std.proofs.Common.{Some, None, refl, ◌∙◌}
-use Rattle.grown_runs.proofs.Common.{IsLaterMoment-trans, ChildOf, PointOf, point_in}
-use Rattle.step_core.specs.ViewTrees.{sight_in}
-use Rattle.kd_shared.specs.LookLaws.{PassLooks-trans}
+use Rattle.kd_shared.proofs.Words.{Some, None, refl, ◌∙◌, IsLaterMoment-trans, ChildOf, PointOf, point_in, sight_in, PassLooks-trans}
 use Rattle.kd_shared.proofs.Looking.{LoadsChild-child, LoadsPoint-point}
 use Rattle.kd_shared.proofs.PassLooks.{PassLooks-load}
 use Rattle.kd_shared.proofs.nearest_search.child_spot.Goals as goal

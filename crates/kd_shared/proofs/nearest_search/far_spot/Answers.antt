@@ -1,9 +1,5 @@
-use Rattle.std.proofs.Common.{ℕ, not, Option, Some, None, inl, inr, refl, sym, ◌∙◌, subst, arith}
-use Rattle.std.proofs.lemmas.Bool.{leb-false}
-use Rattle.grown_runs.proofs.Common.{Point, Sight, IsLaterMoment-refl}
-use Rattle.plan_words.specs.declared.spots.Spot.{Spot}
-use Rattle.step_core.proofs.Common.{sight_in, KeepsSight-lawful}
-use Rattle.kd_shared.specs.FarSides.{far_side, line_square, LoadsFar, LoadsSpot}
+use Rattle.kd_shared.proofs.Words.{ℕ, not, Option, Some, None, inl, inr, refl, sym, ◌∙◌, subst, arith, leb-false, Point, Sight, IsLaterMoment-refl, Spot}
+use Rattle.kd_shared.proofs.Words.{sight_in, KeepsSight-lawful, far_side, line_square, LoadsFar, LoadsSpot}
 use Rattle.kd_shared.proofs.nearest_search.far_spot.Goals as goal
 
 pub returns-then-not-reaches-clause-loads : goal.returns-then-not-reaches-clause-loads

@@ -1,8 +1,4 @@
-use Rattle.std.proofs.Common.{false, arith, refl, sym, ap, ◌∙◌, subst}
-use Rattle.grown_runs.proofs.Common.{IsBounded, squared_distance, PointOf}
-use Rattle.plan_words.proofs.Common.{point_of_spot, with_lists}
-use Rattle.plan_words.specs.declared.spots.Spot.{Spot}
-use Rattle.grown_runs.specs.declared.measured_nodes.MeasuredNode.{MeasuredNode}
+use Rattle.kd_shared.proofs.Words.{false, arith, refl, sym, ap, ◌∙◌, subst, IsBounded, squared_distance, PointOf, point_of_spot, with_lists, Spot, MeasuredNode}
 use Rattle.kd_shared.proofs.Looking.{LoadsPoint-point}
 use Rattle.kd_shared.proofs.NearestPasses.{half_seen, half_seen_stack, here_bounded, here_seen, IsSeekingPass, IsSeekingPass-begins, IsSeekingPass-ends}
 use Rattle.kd_shared.proofs.NearestPasses.{IsSeekingPass-walks, stack_room, visits_low, VisitsHere, walked_looks}

@@ -1,8 +1,5 @@
-use Rattle.std.proofs.Common.{◌≡◌, [], ◌∷◌, ◌++◌, Some, None, sym, ap, ◌∙◌, subst}
-use Rattle.plan_words.specs.States.{PassState, with_lists, with_view}
-use Rattle.step_core.specs.ViewTrees.{SeesNode, sight_in}
-use Rattle.step_core.specs.declared.views.View.{View}
-use Rattle.kd_shared.proofs.Words.{LoadsFar, OnlyLooks-trans, OnlyLooks, searched}
+use Rattle.kd_shared.proofs.Words.{◌≡◌, [], ◌∷◌, ◌++◌, Some, None, sym, ap, ◌∙◌, subst, PassState, with_lists, with_view, SeesNode, sight_in, View, LoadsFar}
+use Rattle.kd_shared.proofs.Words.{OnlyLooks-trans, OnlyLooks, searched}
 use Rattle.kd_shared.proofs.Looking.{SeesNode-later}
 use Rattle.kd_shared.proofs.PoppedNodes.{IsPopping-finds, IsPopping-more, popped_in}
 use Rattle.kd_shared.proofs.nearest_search.next_far_spot.Goals as goal

@@ -1,7 +1,4 @@
-use Rattle.std.proofs.Common.{◌≡◌, length}
-use Rattle.plan_words.specs.States.{BelongsTo}
-use Rattle.step_core.specs.ViewTrees.{sight_in}
-use Rattle.kd_shared.specs.Looking.{OnlyLooks, searched}
+use Rattle.kd_shared.proofs.Words.{◌≡◌, length, BelongsTo, sight_in, OnlyLooks, searched}
 use Rattle.kd_shared.proofs.PoppedNodes.{IsPopping}
 use Rattle.kd_shared.proofs.nearest_search.next_far_spot.Given as goal
 

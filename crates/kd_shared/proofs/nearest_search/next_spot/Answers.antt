@@ -1,7 +1,4 @@
-use Rattle.std.proofs.Common.{ap, subst}
-use Rattle.std.specs.Prelude.{Contains}
-use Rattle.plan_words.specs.States.{PassState}
-use Rattle.kd_shared.specs.LookLaws.{OnlyLooks-trans}
+use Rattle.kd_shared.proofs.Words.{ap, subst, Contains, PassState, OnlyLooks-trans}
 use Rattle.kd_shared.proofs.Looking.{SeesNode-later}
 use Rattle.kd_shared.proofs.nearest_search.next_spot.Goals as goal
 

@@ -1,10 +1,6 @@
-use Rattle.std.proofs.Common.{◌≡◌, ◌⊎◌, ℕ, ◌<◌, not, Bool, true, false, List, [], ◌∷◌, ◌++◌, inl, inr, refl, sym, ap, ◌∙◌, subst}
-use Rattle.std.specs.Prelude.{if◌then◌else◌, IsFalse}
-use Rattle.grown_runs.proofs.Common.{Point, Sight, child_of_word, ChildOf}
-use Rattle.plan_words.specs.States.{PassState}
-use Rattle.plan_words.specs.declared.spots.Spot.{Spot}
-use Rattle.step_core.specs.ViewTrees.{sight_in}
-use Rattle.kd_shared.proofs.Words.{far_side, line_square, StacksFar, LoadsChild, OnlyLooks, PassLooks}
+use Rattle.kd_shared.proofs.Words.{◌≡◌, ◌⊎◌, ℕ, ◌<◌, not, Bool, true, false, List, [], ◌∷◌, ◌++◌, inl, inr, refl, sym, ap, ◌∙◌, subst, if◌then◌else◌, IsFalse}
+use Rattle.kd_shared.proofs.Words.{Point, Sight, child_of_word, ChildOf, PassState, Spot, sight_in, far_side, line_square, StacksFar, LoadsChild, OnlyLooks}
+use Rattle.kd_shared.proofs.Words.{PassLooks}
 use Rattle.kd_shared.proofs.Looking.{LoadsChild-child}
 use Rattle.kd_shared.proofs.PassLooks.{PassLooks-load}
 use Rattle.kd_shared.proofs.nearest_search.stack_far_side.Goals as goal

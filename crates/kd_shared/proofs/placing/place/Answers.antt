@@ -1,10 +1,5 @@
-use Rattle.std.proofs.Common.{◌≡◌, refl, sym, ap, subst, ◌∙◌, arith}
-use Rattle.std.specs.Prelude.{IsSome}
-use Rattle.grown_runs.proofs.Common.{same_point-false, same_point-true, PointOf, StopsAt-below}
-use Rattle.step_core.proofs.Common.{LeadsTo, SeesPoint, tree_seen}
-use Rattle.grown_runs.specs.declared.kd_walks.Stop.{Stop}
-use Rattle.step_core.specs.declared.views.Stage.TheVariants.{Treed}
-use Rattle.kd_shared.specs.LookLaws.{PassLooks-fills, PassLooks-short, PassLooks-trans}
+use Rattle.kd_shared.proofs.Words.{◌≡◌, refl, sym, ap, subst, ◌∙◌, arith, IsSome, same_point-false, same_point-true, PointOf, StopsAt-below, LeadsTo, SeesPoint}
+use Rattle.kd_shared.proofs.Words.{tree_seen, Stop, Treed, PassLooks-fills, PassLooks-short, PassLooks-trans}
 use Rattle.kd_shared.proofs.Finding.{LeadsTo-stop}
 use Rattle.kd_shared.proofs.PassLooks.{PassLooks-load, PassLooks-met}
 use Rattle.kd_shared.proofs.LinkedSights.{IfSome-all, IfSome-free, IfSome-sees_linked}

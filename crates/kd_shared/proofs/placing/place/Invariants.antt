@@ -1,7 +1,4 @@
-use Rattle.std.proofs.Common.{◌-◌}
-use Rattle.grown_runs.proofs.Common.{MOST_NODES, StopsAt}
-use Rattle.step_core.specs.Views.{tree_seen}
-use Rattle.kd_shared.specs.Looking.{PassLooks}
+use Rattle.kd_shared.proofs.Words.{◌-◌, MOST_NODES, StopsAt, tree_seen, PassLooks}
 use Rattle.kd_shared.proofs.placing.place.Given as goal
 
 abbrev pub invariant-depths : goal.invariant-depths

@@ -1,6 +1,4 @@
-use Rattle.std.proofs.Common.{sym, subst, ◌∙◌}
-use Rattle.plan_model.proofs.SamePoints.{same_point-false, same_point-true}
-use Rattle.step_core.specs.ViewTrees.{SeesPoint}
+use Rattle.kd_shared.proofs.Words.{sym, subst, ◌∙◌, same_point-false, same_point-true, SeesPoint}
 use Rattle.kd_shared.proofs.Finding.{EndsSince-stop, IsFree-before, IsFree-now}
 use Rattle.kd_shared.proofs.point_search.find.Goals as goal
 

@@ -1,5 +1,4 @@
-use Rattle.std.proofs.Common.{take, get_or, arith}
-use Rattle.std.proofs.lemmas.List.{take_more}
+use Rattle.obstacle_boxes.proofs.Words.{take, get_or, arith, take_more}
 use Rattle.obstacle_boxes.proofs.NodeLists.{Adds-leaf}
 use Rattle.obstacle_boxes.proofs.ZoneTrees.{no_leaf}
 use Rattle.obstacle_boxes.proofs.box_nodes.push_leaves.Goals as goal

@@ -1,5 +1,4 @@
-use Rattle.std.proofs.Common.{take}
-use Rattle.obstacle_boxes.specs.Trees.{Adds}
+use Rattle.obstacle_boxes.proofs.Words.{take, Adds}
 use Rattle.obstacle_boxes.proofs.box_nodes.push_leaves.Given as goal
 
 abbrev pub invariant-loop-leaf : goal.invariant-loop-leaf

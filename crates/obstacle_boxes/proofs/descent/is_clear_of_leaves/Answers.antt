@@ -1,7 +1,4 @@
-use Rattle.std.proofs.Common.{◌≡◌, ◌+◌, ◌-◌, [], get_or, subst, sym, refl, arith, ◌∙◌, rules}
-use Rattle.std.proofs.lemmas.List.{get_or_default}
-use Rattle.swept_check.specs.Crossings.{Crosses}
-use Rattle.obstacle_boxes.specs.Searches.{HasSearched}
+use Rattle.obstacle_boxes.proofs.Words.{◌≡◌, ◌+◌, ◌-◌, [], get_or, subst, sym, refl, arith, ◌∙◌, rules, get_or_default, Crosses, HasSearched}
 use Rattle.obstacle_boxes.proofs.Descents.{AreApartBelow-over, HasSearched-all, HasSearched-into, HasSearched-over, HasSearched-past, HasSearched-tested}
 use Rattle.obstacle_boxes.proofs.Descents.{leaf-among, tested-within}
 use Rattle.obstacle_boxes.proofs.descent.is_clear_of_leaves.Goals as goal

@@ -1,7 +1,4 @@
-use Rattle.std.proofs.Common.{take, arith}
-use Rattle.std.proofs.lemmas.List.{take_all}
-use Rattle.std.proofs.lemmas.List.Elements.{All-more, All-weaker}
-use Rattle.obstacle_boxes.specs.LeafBoxes.{Holds}
+use Rattle.obstacle_boxes.proofs.Words.{take, arith, take_all, All-more, All-weaker, Holds}
 use Rattle.obstacle_boxes.proofs.HeldBoxes.{Holds-trans}
 use Rattle.obstacle_boxes.proofs.leaves.box_round.Goals as goal
 

@@ -1,5 +1,4 @@
-use Rattle.std.proofs.Common.{take}
-use Rattle.obstacle_boxes.specs.LeafBoxes.{HoldsAll}
+use Rattle.obstacle_boxes.proofs.Words.{take, HoldsAll}
 use Rattle.obstacle_boxes.proofs.leaves.box_round.Given as goal
 
 abbrev pub invariant-loop-leaf : goal.invariant-loop-leaf

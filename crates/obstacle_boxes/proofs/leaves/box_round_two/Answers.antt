@@ -1,5 +1,4 @@
-use Rattle.std.proofs.Common.{arith}
-use Rattle.std.proofs.lemmas.Int.{ints}
+use Rattle.obstacle_boxes.proofs.Words.{arith, ints}
 use Rattle.obstacle_boxes.proofs.leaves.box_round_two.Goals as goal
 
 pub returns-clause-first : goal.returns-clause-first

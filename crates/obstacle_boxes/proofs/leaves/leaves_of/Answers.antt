@@ -1,5 +1,4 @@
-use Rattle.std.proofs.Common.{◌≡◌, [], get_or, refl, arith, ◌∙◌}
-use Rattle.std.proofs.lemmas.List.{get_or_default}
+use Rattle.obstacle_boxes.proofs.Words.{◌≡◌, [], get_or, refl, arith, ◌∙◌, get_or_default}
 use Rattle.obstacle_boxes.proofs.LeafLists.{AreLeavesOf-push}
 use Rattle.obstacle_boxes.proofs.leaves.leaves_of.Goals as goal
 

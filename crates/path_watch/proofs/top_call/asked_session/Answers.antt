@@ -1,8 +1,4 @@
-use Rattle.std.proofs.Common.{List, ℕ, refl, subst}
-use Rattle.planner.proofs.Causes.{IfErr-only, IsReadWhole-fetched}
-use Rattle.planner.specs.CheckedTexts.{RefusesSceneText}
-use Rattle.planner.specs.Conclusions.{IsCaused}
-use Rattle.plan_model.specs.Texts.SceneGrammar.{Spells, supported}
+use Rattle.path_watch.proofs.Words.{List, ℕ, refl, subst, IfErr-only, IsReadWhole-fetched, RefusesSceneText, IsCaused, Spells, supported}
 use Rattle.path_watch.proofs.WatchedScenes.{IsCaused-text}
 use Rattle.path_watch.proofs.top_call.asked_session.Goals as goal
 

@@ -1,5 +1,4 @@
-use Rattle.std.proofs.Common.{length, ap, arith}
-use Rattle.grown_runs.proofs.Common.{length-points_of_marks}
+use Rattle.path_watch.proofs.Words.{length, ap, arith, length-points_of_marks}
 use Rattle.path_watch.proofs.top_call.mark_count.Goals as goal
 
 pub overflow_cast-result : goal.overflow_cast-result

@@ -1,10 +1,5 @@
-use Rattle.std.proofs.Common.{◌++◌, ◌∷◌, []}
-use Rattle.std.proofs.lemmas.Fn.{FoldsTo-push}
-use Rattle.std.specs.List.{FoldsTo}
-use Rattle.plan_model.specs.Texts.Streams.{SinkState}
-use Rattle.any_time.specs.Sessions.{SessionState}
+use Rattle.path_watch.proofs.Words.{◌++◌, ◌∷◌, [], FoldsTo-push, FoldsTo, SinkState, SessionState, Hands}
 use Rattle.path_watch.proofs.WatchedSessions.{Reached-steps, Watches-cut, Watches-over, Watches-refused, fresh_run, settled_at_end}
-use Rattle.path_watch.specs.Handing.{Hands}
 use Rattle.path_watch.proofs.watching.watch_session.Goals as goal
 
 pub returns-in_default : goal.returns-in_default

@@ -1,7 +1,4 @@
-use Rattle.std.proofs.Common.{List}
-use Rattle.std.specs.List.{FoldsTo}
-use Rattle.any_time.specs.declared.betters.Better.{Better}
-use Rattle.path_watch.specs.Handing.{Hands}
+use Rattle.path_watch.proofs.Words.{List, FoldsTo, Better, Hands}
 use Rattle.path_watch.proofs.watching.watch_session.Given as goal
 
 abbrev pub invariant-loop : goal.invariant-loop

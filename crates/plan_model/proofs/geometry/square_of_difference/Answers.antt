@@ -1,5 +1,4 @@
-use Rattle.std.proofs.Common.{arith, ap}
-use Rattle.std.specs.Prelude.{unsigned_abs}
+use Rattle.plan_model.proofs.Words.{arith, ap, unsigned_abs}
 use Rattle.plan_model.proofs.Differences.{difference_fits, difference_kept, square_of_difference, square_of_kept-fits, square_kept}
 use Rattle.plan_model.proofs.geometry.square_of_difference.Goals as goal
 

@@ -1,5 +1,4 @@
-use Rattle.std.proofs.Common.{◌≤◌, ◌^◌, arith}
-use Rattle.plan_model.specs.Texts.TextNumbers.{magnitude}
+use Rattle.plan_model.proofs.Words.{◌≤◌, ◌^◌, arith, magnitude}
 use Rattle.plan_model.proofs.DigitNumbers.{magnitude_after-next, IfNone-fact}
 use Rattle.plan_model.proofs.number_words.decimal.Goals as goal
 

@@ -1,5 +1,4 @@
-use Rattle.std.proofs.Common.{◌≡◌, drop}
-use Rattle.plan_model.specs.Texts.TextNumbers.{magnitude}
+use Rattle.plan_model.proofs.Words.{◌≡◌, drop, magnitude}
 use Rattle.plan_model.proofs.DigitNumbers.{magnitude_after}
 use Rattle.plan_model.proofs.number_words.decimal.Given as goal
 

@@ -1,5 +1,4 @@
-use Rattle.std.proofs.Common.{◌<◌, length, rules}
-use Rattle.std.proofs.lemmas.List.{take_rest}
+use Rattle.plan_model.proofs.Words.{◌<◌, length, rules, take_rest}
 use Rattle.plan_model.proofs.FirstLines.{lines_of-split, rest_of_nothing}
 use Rattle.plan_model.proofs.text_lines.next_line.Goals as goal
 

@@ -1,5 +1,4 @@
-use Rattle.std.proofs.Common.{rules}
-use Rattle.std.proofs.lemmas.List.{take_rest}
+use Rattle.plan_model.proofs.Words.{rules, take_rest}
 use Rattle.plan_model.proofs.FirstWords.{words_of-none, words_of-split}
 use Rattle.plan_model.proofs.text_lines.next_word.Goals as goal
 

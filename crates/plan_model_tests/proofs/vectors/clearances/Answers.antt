@@ -1,8 +1,4 @@
-use Rattle.std.proofs.Common.{◌≡◌, ℕ, ◌+◌, ◌-◌, ◌*◌, ◌<◌, ◌≤◌, List, [], ◌∷◌, arith, refl}
-use Rattle.std.specs.Prelude.{pos, ◌-ℤ◌, ◌*ℤ◌, sum}
-use Rattle.std.proofs.lemmas.Int.{ints}
-use Rattle.std.proofs.lemmas.Nat.{mul-le}
-use Rattle.std.proofs.lemmas.List.Elements.{All-cons, All-nil}
+use Rattle.plan_model_tests.proofs.Words.{◌≡◌, ℕ, ◌+◌, ◌-◌, ◌*◌, ◌<◌, ◌≤◌, List, [], ◌∷◌, arith, refl, pos, ◌-ℤ◌, ◌*ℤ◌, sum, ints, mul-le, All-cons, All-nil}
 use Rattle.plan_model_tests.proofs.Common.{Vertex, Point, ConfigurationSpace, Rational, IsSamePoint, at_lattice, moved_by, IsBetweenWalls, weighted, Meets}
 use Rattle.plan_model_tests.proofs.Common.{IsClear, on_the_way, Clear, at, corner, two_is_positive, point_body, pillar, square, beside_square}
 use Rattle.plan_model_tests.proofs.Common.{apart_from_pillar, corner_in_box, part_and_rest, way_is, IsClear-same, SharesPoint-meets, Meets-shares_point}

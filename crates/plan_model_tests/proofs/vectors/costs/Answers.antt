@@ -1,5 +1,4 @@
-use Rattle.std.proofs.Common.{arith}
-use Rattle.plan_model.proofs.RootLaws.{root_ceiling-zero, root_ceiling-from_squares}
+use Rattle.plan_model_tests.proofs.Words.{arith, root_ceiling-zero, root_ceiling-from_squares}
 use Rattle.plan_model_tests.proofs.vectors.costs.Goals as goal
 
 pub returns : goal.returns

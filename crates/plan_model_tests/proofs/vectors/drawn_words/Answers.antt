@@ -1,5 +1,4 @@
-use Rattle.std.proofs.Common.{ap, refl}
-use Rattle.plan_model.specs.Scenes.MarkPoints.{points_of_marks}
+use Rattle.plan_model_tests.proofs.Words.{ap, refl, points_of_marks}
 use Rattle.plan_model_tests.proofs.vectors.drawn_words.Goals as goal
 
 pub returns : goal.returns

@@ -1,5 +1,4 @@
-use Rattle.std.proofs.Common.{refl}
-use Rattle.std.specs.Fmt.{digits}
+use Rattle.plan_model_tests.proofs.Words.{refl, digits}
 use Rattle.plan_model_tests.proofs.vectors.fault_words.Goals as goal
 
 pub returns : goal.returns

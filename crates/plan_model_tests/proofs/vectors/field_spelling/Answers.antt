@@ -1,5 +1,4 @@
-use Rattle.std.proofs.Common.{false, [], ◌∷◌, arith, refl}
-use Rattle.std.specs.Fmt.{digits}
+use Rattle.plan_model_tests.proofs.Words.{false, [], ◌∷◌, arith, refl, digits}
 use Rattle.plan_model_tests.proofs.Common.{Scene, Drawn, lines_of, supported, at, corner, text_of_every_field, IsSoundBelow-from_test}
 use Rattle.plan_model.proofs.Soundness.{are_sound}
 use Rattle.plan_model_tests.proofs.vectors.field_spelling.Goals as goal

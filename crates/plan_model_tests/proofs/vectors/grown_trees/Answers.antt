@@ -1,9 +1,7 @@
-use Rattle.std.proofs.Common.{◌≡◌, ℕ, zero, suc, ◌≤◌, ◌<◌, Some, None, [], ◌∷◌, arith, refl, ap, inl, inr}
-use Rattle.std.specs.Prelude.{◌⊎◌, unwrap_or}
+use Rattle.plan_model_tests.proofs.Words.{◌≡◌, ℕ, zero, suc, ◌≤◌, ◌<◌, Some, None, [], ◌∷◌, arith, refl, ap, inl, inr, ◌⊎◌, unwrap_or, before, after_with}
+use Rattle.plan_model_tests.proofs.Words.{both_records, first_by, four_points, moment_of, room_to, three_points}
 use Rattle.plan_model_tests.proofs.Common.{Point, Record, most_cost_of, StandsAt, IsPresent, node_count, point_at, first_cost_of, KeepsOrFalls, TreeState, at}
 use Rattle.plan_model_tests.proofs.Common.{same_y}
-use Rattle.plan_model_tests.specs.GrownTrees.{before, after_with, both_records, first_by, four_points, moment_of}
-use Rattle.plan_model_tests.specs.UnlawfulTrees.{room_to, three_points}
 use Rattle.plan_model_tests.proofs.vectors.grown_trees.Goals as goal
 
 abbrev after : TreeState

@@ -1,8 +1,5 @@
-use Rattle.std.proofs.Common.{◌≡◌, ℕ, zero, suc, ◌+◌, ◌≤◌, ◌<◌, [], ◌∷◌, arith, refl}
-use Rattle.std.specs.Prelude.{◌≢◌}
+use Rattle.plan_model_tests.proofs.Words.{◌≡◌, ℕ, zero, suc, ◌+◌, ◌≤◌, ◌<◌, [], ◌∷◌, arith, refl, ◌≢◌, costs_of, three_points}
 use Rattle.plan_model_tests.proofs.Common.{IsPresent, edge_by, parent_of, points_of, gapped, cost_2500}
-use Rattle.plan_model_tests.specs.GrownTrees.{costs_of}
-use Rattle.plan_model_tests.specs.UnlawfulTrees.{three_points}
 use Rattle.plan_model_tests.proofs.vectors.kept_costs.Goals as goal
 
 with_parent : (n : ℕ) → IsPresent three_points (suc n) → suc n ≢ 1

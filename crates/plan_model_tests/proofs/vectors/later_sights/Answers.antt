@@ -1,7 +1,6 @@
-use Rattle.std.proofs.Common.{◌≡◌, ℕ, zero, suc, ◌<◌, ◌≤◌, Bool, true, false, Some, None, arith, refl, inl, inr}
-use Rattle.std.specs.Prelude.{◌⊎◌}
+use Rattle.plan_model_tests.proofs.Words.{◌≡◌, ℕ, zero, suc, ◌<◌, ◌≤◌, Bool, true, false, Some, None, arith, refl, inl, inr, ◌⊎◌, child_of_none, found_with}
+use Rattle.plan_model_tests.proofs.Words.{sight_of}
 use Rattle.plan_model_tests.proofs.Common.{KeepsOrFindsEmpty, at_entry, at_return, three_children, Children}
-use Rattle.plan_model_tests.specs.LesserSights.{child_of_none, found_with, sight_of}
 use Rattle.plan_model_tests.proofs.SeenByOne.{IsLaterMoment-return}
 use Rattle.plan_model_tests.proofs.vectors.later_sights.Goals as goal
 

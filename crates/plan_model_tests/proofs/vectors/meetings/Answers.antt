@@ -1,6 +1,4 @@
-use Rattle.std.proofs.Common.{◌≡◌, ℕ, ◌<◌, [], ◌∷◌, arith, refl}
-use Rattle.std.specs.Prelude.{pos, ◌-ℤ◌, ◌*ℤ◌, sum}
-use Rattle.std.proofs.lemmas.Int.{ints}
+use Rattle.plan_model_tests.proofs.Words.{◌≡◌, ℕ, ◌<◌, [], ◌∷◌, arith, refl, pos, ◌-ℤ◌, ◌*ℤ◌, sum, ints}
 use Rattle.plan_model_tests.proofs.Common.{at_lattice, weighted, at, halves, small_triangle, great_triangle, small_square, great_square, far_square, point_body}
 use Rattle.plan_model_tests.proofs.Common.{pillar, SharesPoint-meets, Meets-shares_point}
 use Rattle.plan_model_tests.proofs.ShortLists.{three, four}

@@ -1,7 +1,5 @@
-use Rattle.std.proofs.Common.{ℕ, zero, suc, ◌<◌, [], ◌∷◌, arith, refl}
-use Rattle.std.specs.Prelude.{Contains}
+use Rattle.plan_model_tests.proofs.Words.{ℕ, zero, suc, ◌<◌, [], ◌∷◌, arith, refl, Contains, low_room}
 use Rattle.plan_model_tests.proofs.Common.{Clear, path_point, at, AreInRoom-from_clear, Clear-empty_room}
-use Rattle.plan_model_tests.specs.OpenPaths.{low_room}
 use Rattle.plan_model_tests.proofs.vectors.open_paths.Goals as goal
 
 clear_edges : (i : ℕ) → suc i < 3

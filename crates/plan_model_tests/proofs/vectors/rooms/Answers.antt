@@ -1,8 +1,4 @@
-use Rattle.std.proofs.Common.{arith, ap, refl, [], ◌∷◌}
-use Rattle.std.specs.Prelude.{pos}
-use Rattle.std.proofs.Math.Bridge.{le_prop}
-use Rattle.std.proofs.lemmas.Int.{ints}
-use Rattle.std.proofs.lemmas.List.Elements.{All-cons, All-nil}
+use Rattle.plan_model_tests.proofs.Words.{arith, ap, refl, [], ◌∷◌, pos, le_prop, ints, All-cons, All-nil}
 use Rattle.plan_model_tests.proofs.Common.{Vertex, Rational, at_lattice, moved_by, IsBetweenWalls, InRoom, triangle, ten_by_ten, at, corner, halves}
 use Rattle.plan_model_tests.proofs.vectors.rooms.Goals as goal
 

@@ -1,7 +1,5 @@
 -- A report is computed part by part, after its best node.
-use Rattle.std.proofs.Common.{◌≡◌, ℕ, false, List, [], ◌∷◌, ◌++◌, Option, Some, refl, ap, ◌∙◌}
-use Rattle.std.specs.Prelude.{codes}
-use Rattle.std.specs.Fmt.{digits}
+use Rattle.plan_model_tests.proofs.Words.{◌≡◌, ℕ, false, List, [], ◌∷◌, ◌++◌, Option, Some, refl, ap, ◌∙◌, codes, digits}
 use Rattle.plan_model_tests.proofs.Common.{Scene, TreeState, state_of, best_node, goals_of, head_line, best_path, point_lines, counts_line, node_lines}
 use Rattle.plan_model_tests.proofs.Common.{mark_lines, box, rewired_tree, rewired_records, rewired_text, kept_tree, kept_records, kept_text, cost_2500}
 use Rattle.plan_model_tests.proofs.Common.{cost_2401, rewired_run, rewired_sum}

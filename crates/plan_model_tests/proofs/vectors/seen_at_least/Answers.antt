@@ -1,8 +1,7 @@
-use Rattle.std.proofs.Common.{◌≡◌, ℕ, zero, suc, ◌+◌, ◌<◌, ◌≤◌, false, Some, arith, refl, ap, inl, inr}
-use Rattle.std.specs.Prelude.{unwrap_or}
+use Rattle.plan_model_tests.proofs.Words.{◌≡◌, ℕ, zero, suc, ◌+◌, ◌<◌, ◌≤◌, false, Some, arith, refl, ap, inl, inr, unwrap_or, known, one_record, seen_by}
+use Rattle.plan_model_tests.proofs.Words.{trees_with}
 use Rattle.plan_model_tests.proofs.Common.{IsPresent, KeepsOrLowers, first_cost_of, KeepsOrFalls, placed_by, at_entry, at_return, five_points, tree_before}
 use Rattle.plan_model_tests.proofs.Common.{tree_now, at, three_children, three_points}
-use Rattle.plan_model_tests.specs.LesserSights.{known, one_record, seen_by, trees_with}
 use Rattle.plan_model_tests.proofs.vectors.seen_at_least.Goals as goal
 
 -- the cost in a pair, and the parent

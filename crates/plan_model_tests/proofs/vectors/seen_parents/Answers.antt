@@ -1,5 +1,4 @@
-use Rattle.std.proofs.Common.{ℕ, arith, refl, ap}
-use Rattle.plan_model.proofs.OpenRoomMarks.{cost_2500}
+use Rattle.plan_model_tests.proofs.Words.{ℕ, arith, refl, ap, cost_2500}
 use Rattle.plan_model_tests.proofs.vectors.seen_parents.Goals as goal
 
 pub returns : goal.returns

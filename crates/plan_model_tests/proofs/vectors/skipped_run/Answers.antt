@@ -1,10 +1,7 @@
 -- The report is computed part by part, after its best node.
-use Rattle.std.proofs.Common.{◌≡◌, true, List, ℕ, ◌++◌, Some, refl, ap, ◌∙◌}
-use Rattle.std.specs.Prelude.{codes}
-use Rattle.std.specs.Fmt.{digits}
+use Rattle.plan_model_tests.proofs.Words.{◌≡◌, true, List, ℕ, ◌++◌, Some, refl, ap, ◌∙◌, codes, digits, goal_of_2, skipped_records, skipped_text, skipped_tree}
 use Rattle.plan_model_tests.proofs.Common.{Scene, best_path, counts_line, head_line, mark_lines, node_lines, point_lines, best_node, goals_of, TreeState}
 use Rattle.plan_model_tests.proofs.Common.{state_of, cost_2401, cost_2500}
-use Rattle.plan_model_tests.specs.SkippedMarks.{goal_of_2, skipped_records, skipped_text, skipped_tree}
 use Rattle.plan_model_tests.proofs.SkippedRun.{skipped_run}
 use Rattle.plan_model_tests.proofs.vectors.skipped_run.Goals as goal
 

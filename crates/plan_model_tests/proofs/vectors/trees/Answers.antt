@@ -1,6 +1,5 @@
-use Rattle.std.proofs.Common.{◌≡◌, arith, refl}
+use Rattle.plan_model_tests.proofs.Words.{◌≡◌, arith, refl, root_ceiling-from_squares}
 use Rattle.plan_model.specs.Geometry.Roots.{root_ceiling}
-use Rattle.plan_model.proofs.RootLaws.{root_ceiling-from_squares}
 use Rattle.plan_model_tests.proofs.vectors.trees.Goals as goal
 
 edge : root_ceiling 163840000 ≡ 12800

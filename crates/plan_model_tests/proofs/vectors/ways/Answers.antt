@@ -1,5 +1,4 @@
-use Rattle.std.proofs.Common.{◌≡◌, Some, arith, refl, ap}
-use Rattle.std.specs.Prelude.{◌≢◌}
+use Rattle.plan_model_tests.proofs.Words.{◌≡◌, Some, arith, refl, ap, ◌≢◌}
 use Rattle.plan_model_tests.proofs.Common.{Point, goes_right, IsOnWay, begins, goes_on, at, three_points, three_children, way_stops}
 use Rattle.plan_model_tests.proofs.vectors.ways.Goals as goal
 

@@ -1,5 +1,4 @@
-use Rattle.std.proofs.Common.{true, [], ◌∷◌, arith, refl}
-use Rattle.std.specs.Fmt.{digits}
+use Rattle.plan_model_tests.proofs.Words.{true, [], ◌∷◌, arith, refl, digits}
 use Rattle.plan_model_tests.proofs.Common.{Scene, Drawn, lines_of, whole_format, at, corner, wide_text, IsSoundBelow-from_test}
 use Rattle.plan_model.proofs.Soundness.{are_sound}
 use Rattle.plan_model_tests.proofs.vectors.wide_spelling.Goals as goal

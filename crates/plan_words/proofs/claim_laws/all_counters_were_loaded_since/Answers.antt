@@ -1,5 +1,4 @@
-use Rattle.std.proofs.Common.{arith}
-use Rattle.grown_runs.specs.Table.WordNames.Word.{Counter}
+use Rattle.plan_words.proofs.Words.{arith, Counter}
 use Rattle.plan_words.proofs.claim_laws.all_counters_were_loaded_since.Goals as goal
 
 pub returns-clause-stepped : goal.returns-clause-stepped

@@ -1,9 +1,7 @@
-use Rattle.std.proofs.Common.{◌+◌, ◌<◌, ◌∷◌, ◌++◌, [], length, take, sym, ap, ◌∙◌, arith}
-use Rattle.std.proofs.lemmas.List.{take_more, take_more_set}
-use Rattle.std.specs.Mem.Slots.{slots_counts, slots_items}
+use Rattle.plan_words.proofs.Words.{◌+◌, ◌<◌, ◌∷◌, ◌++◌, [], length, take, sym, ap, ◌∙◌, arith, take_more, take_more_set, slots_counts, slots_items, sizes_in}
+use Rattle.plan_words.proofs.Words.{word_count}
 use Rattle.plan_words.proofs.Ending.{read-there}
 use Rattle.plan_words.proofs.ends.copy_words.Goals as goal
-use Rattle.grown_runs.proofs.Common.{sizes_in, word_count}
 
 pub loop-place-preserved : goal.loop-place-preserved
 loop-place-preserved c =

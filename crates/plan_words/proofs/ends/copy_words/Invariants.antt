@@ -1,5 +1,4 @@
-use Rattle.std.proofs.Common.{◌≡◌, take}
-use Rattle.std.specs.Mem.Slots.{slots_items}
+use Rattle.plan_words.proofs.Words.{◌≡◌, take, slots_items}
 use Rattle.plan_words.proofs.ends.copy_words.Given as goal
 
 -- the words so far

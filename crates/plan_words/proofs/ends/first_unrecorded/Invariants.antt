@@ -1,6 +1,5 @@
-use Rattle.std.proofs.Common.{◌≢◌, ℕ, ◌<◌}
+use Rattle.plan_words.proofs.Words.{◌≢◌, ℕ, ◌<◌, words_in, RecordOf}
 use Rattle.plan_words.proofs.ends.first_unrecorded.Given as goal
-use Rattle.grown_runs.proofs.Common.{words_in, RecordOf}
 
 -- the marks so far have records
 abbrev pub invariant-loop-mark : goal.invariant-loop-mark

@@ -1,8 +1,6 @@
-use Rattle.std.proofs.Common.{◌≡◌, ◌≢◌, ◌⊎◌, ◌<◌, ℕ, suc, zero, ap, arith, inl, inr, length, refl, subst, sym, ◌∙◌}
-use Rattle.std.proofs.lemmas.Bool.{ne_eqb}
-use Rattle.std.specs.Prelude.{not, slice_index, slice_set}
-use Rattle.std.proofs.lemmas.List.{get_or_default, length-set}
-use Rattle.plan_words.proofs.Words.{FindsLess, sibling_chain_in, HasFirstPairs, WaitingState}
+use Rattle.plan_words.proofs.Words.{◌≡◌, ◌≢◌, ◌⊎◌, ◌<◌, ℕ, suc, zero, ap, arith, inl, inr, length, refl, subst, sym, ◌∙◌, ne_eqb, not, slice_index, slice_set}
+use Rattle.plan_words.proofs.Words.{get_or_default, length-set, FindsLess, sibling_chain_in, HasFirstPairs, WaitingState, AreMembers, siblings_from, TreeOf}
+use Rattle.plan_words.proofs.Words.{best_word, cost_in, ChildIndex, sees}
 use Rattle.plan_words.proofs.ChildCosts.{IsSeenAbove-kept}
 use Rattle.plan_words.proofs.LoweredChains.{HasFirstPairs-at, IsLowering-ends, IsLowering-start, IsLowering-step, chains-at, child_here, child_low}
 use Rattle.plan_words.proofs.LoweredChains.{child_own, child_seen, found_less, lowered_found, own_now, own_was, parents_found, points_then}
@@ -11,9 +9,6 @@ use Rattle.plan_words.proofs.SeatSteps.{LooksOn-trans}
 use Rattle.plan_words.proofs.SeenChildren.{chain-HasSeenParent}
 use Rattle.plan_words.proofs.lowered_children.lower_chain.Goals as goal
 use Rattle.plan_words.proofs.lowered_children.lower_chain.Goals.{After-lower_child}
-use Rattle.grown_runs.proofs.Common.{AreMembers, siblings_from, TreeOf, best_word, cost_in}
-use Rattle.grown_runs.specs.declared.child_index.ChildIndex.{ChildIndex}
-use Rattle.step_core.specs.Views.{sees}
 
 pub first_child-child-requires : goal.first_child-child-requires
 first_child-child-requires c = omega (arith, c.requires.index.firsts, c.requires.low)

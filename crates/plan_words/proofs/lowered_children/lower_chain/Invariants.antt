@@ -1,9 +1,6 @@
-use Rattle.std.proofs.Common.{◌≡◌, length}
-use Rattle.std.specs.Vec.{vec_capacity}
-use Rattle.plan_words.specs.LoweredChildren.{SitsAt}
+use Rattle.plan_words.proofs.Words.{◌≡◌, length, vec_capacity, SitsAt, siblings_from}
 use Rattle.plan_words.proofs.LoweredChains.{IsLowering}
 use Rattle.plan_words.proofs.lowered_children.lower_chain.Given as goal
-use Rattle.grown_runs.specs.ChildChains.{siblings_from}
 
 abbrev pub invariant-children : goal.invariant-children
 invariant-children l = record {

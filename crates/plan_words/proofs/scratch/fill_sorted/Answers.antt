@@ -1,8 +1,5 @@
-use Rattle.std.proofs.Common.{◌∷◌, ◌++◌, [], take, sym, ap, ◌∙◌}
-use Rattle.std.proofs.lemmas.List.{map-append, take_more}
-use Rattle.std.proofs.lemmas.List.Sorted.{IsNonDecreasingBy-from_sort}
-use Rattle.std.proofs.lemmas.Option.{get_or_from_slice_get, slice_get_within}
-use Rattle.plan_words.proofs.Words.{numbers_of, Found}
+use Rattle.plan_words.proofs.Words.{◌∷◌, ◌++◌, [], take, sym, ap, ◌∙◌, map-append, take_more, IsNonDecreasingBy-from_sort, get_or_from_slice_get}
+use Rattle.plan_words.proofs.Words.{slice_get_within, numbers_of, Found}
 use Rattle.plan_words.proofs.scratch.fill_sorted.Goals as goal
 
 -- one more is on the list

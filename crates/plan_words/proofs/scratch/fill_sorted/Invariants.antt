@@ -1,6 +1,4 @@
-use Rattle.std.proofs.Common.{◌≡◌, take}
-use Rattle.std.specs.Vec.{vec_capacity}
-use Rattle.plan_words.specs.SearchLists.{numbers_of}
+use Rattle.plan_words.proofs.Words.{◌≡◌, take, vec_capacity, numbers_of}
 use Rattle.plan_words.proofs.scratch.fill_sorted.Given as goal
 
 -- the first of those found are on the list

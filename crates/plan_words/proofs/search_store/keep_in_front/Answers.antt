@@ -1,7 +1,4 @@
-use Rattle.std.proofs.Common.{◌≡◌, ◌+◌, arith, ap, sym, ◌∙◌, length, take}
-use Rattle.std.specs.Prelude.{filter, nat_lt, slice_index}
-use Rattle.grown_runs.specs.Table.Words.{cost_in}
-use Rattle.plan_words.proofs.Words.{Found, found_in, is_dearer}
+use Rattle.plan_words.proofs.Words.{◌≡◌, ◌+◌, arith, ap, sym, ◌∙◌, length, take, filter, nat_lt, slice_index, cost_in, Found, found_in, is_dearer}
 use Rattle.plan_words.proofs.KeptFound.{FiltersInPlace-put, low_at}
 use Rattle.plan_words.proofs.search_store.keep_in_front.Goals as goal
 

@@ -1,8 +1,4 @@
-use Rattle.std.proofs.Common.{◌≡◌}
-use Rattle.std.specs.Prelude.{slice_index}
-use Rattle.std.specs.Vec.{vec_capacity}
-use Rattle.std.proofs.lemmas.List.Filters.{FiltersInPlace}
-use Rattle.plan_words.specs.SearchLists.{found_in, is_dearer}
+use Rattle.plan_words.proofs.Words.{◌≡◌, slice_index, vec_capacity, FiltersInPlace, found_in, is_dearer}
 use Rattle.plan_words.proofs.search_store.keep_in_front.Given as goal
 
 -- those of the earlier cells that are dearer stand in front

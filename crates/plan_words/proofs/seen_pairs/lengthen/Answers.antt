@@ -1,8 +1,6 @@
-use Rattle.std.proofs.Common.{refl, arith}
-use Rattle.std.specs.Vec.{vec_capacity}
+use Rattle.plan_words.proofs.Words.{refl, arith, vec_capacity, seen_words}
 use Rattle.plan_words.proofs.SeenLists.{StandFor-longer}
 use Rattle.plan_words.proofs.seen_pairs.lengthen.Goals as goal
-use Rattle.plan_words.specs.SeenChains.{seen_words}
 
 pub loop-words-init : goal.loop-words-init
 loop-words-init c all within first = record { first = first; same = refl }

@@ -1,8 +1,6 @@
-use Rattle.std.proofs.Common.{ℕ, ◌-◌, ◌≤◌, length}
-use Rattle.std.specs.Vec.{vec_capacity}
+use Rattle.plan_words.proofs.Words.{ℕ, ◌-◌, ◌≤◌, length, vec_capacity, AreSeenFirst, seen_words}
 use Rattle.plan_words.proofs.SeenLists.{StandFor}
 use Rattle.plan_words.proofs.seen_pairs.lengthen.Given as goal
-use Rattle.plan_words.specs.SeenChains.{AreSeenFirst, seen_words}
 
 -- the lists stand for the words that they stood for
 abbrev pub invariant-loop-words : goal.invariant-loop-words

@@ -1,10 +1,7 @@
-use Rattle.std.proofs.Common.{ℕ, ◌<◌, ◌≤◌, ◌^◌, length, refl, sym, ap, ◌∙◌, subst, inl, inr, arith}
-use Rattle.std.specs.Prelude.{slice_index, slice_set}
-use Rattle.std.proofs.lemmas.Bool.{cases_eq}
-use Rattle.std.proofs.lemmas.List.{get_or-set_other, get_or-set_same, length-set}
+use Rattle.plan_words.proofs.Words.{ℕ, ◌<◌, ◌≤◌, ◌^◌, length, refl, sym, ap, ◌∙◌, subst, inl, inr, arith, slice_index, slice_set, cases_eq, get_or-set_other}
+use Rattle.plan_words.proofs.Words.{get_or-set_same, length-set, later_word, Falling, parent_in}
 use Rattle.plan_words.proofs.Joining.{later_word-either}
 use Rattle.plan_words.proofs.shared.take_cheaper.Goals as goal
-use Rattle.grown_runs.proofs.Common.{later_word, Falling, parent_in}
 
 pub loop-node-init : goal.loop-node-init
 loop-node-init c = record { sized = refl; taken = λ n low. absurd (omega (arith, low)); left = λ n from. refl }

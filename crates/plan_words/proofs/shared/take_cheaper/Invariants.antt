@@ -1,7 +1,5 @@
-use Rattle.std.proofs.Common.{◌≡◌, ℕ, ◌<◌, ◌≤◌, List, length}
-use Rattle.std.specs.Prelude.{slice_index}
+use Rattle.plan_words.proofs.Words.{◌≡◌, ℕ, ◌<◌, ◌≤◌, List, length, slice_index, later_word, Falling}
 use Rattle.plan_words.proofs.shared.take_cheaper.Given as goal
-use Rattle.grown_runs.proofs.Common.{later_word, Falling}
 
 -- the later words of the numbers so far, and all others as they were
 pub record AreTaken (was others : List ℕ) (node : ℕ) (pairs : List ℕ) : Type 0 where

@@ -1,9 +1,8 @@
-use Rattle.std.proofs.Common.{rules, ◌≡◌, ◌+◌, ◌<◌, ◌≤◌, length, replicate, sym, ap, ◌∙◌, subst, arith}
-use Rattle.std.proofs.lemmas.List.{get_or_default, length-replicate, length-set}
+use Rattle.plan_words.proofs.Words.{rules, ◌≡◌, ◌+◌, ◌<◌, ◌≤◌, length, replicate, sym, ap, ◌∙◌, subst, arith, get_or_default, length-replicate, length-set}
+use Rattle.plan_words.proofs.Words.{record_at, words_in}
 use Rattle.plan_words.proofs.CountedTurns.{AreCounted, AreCounted-blank, AreCounted-none, AreCounted-one, AreCounted-past, turns_of-few}
 use Rattle.plan_words.proofs.starts.count_turns.Goals as goal
 use Rattle.plan_words.proofs.starts.count_turns.Goals.{in-Some+then-entry-workers, in-Some+else-entry-workers, in_default}
-use Rattle.grown_runs.proofs.Common.{record_at, words_in}
 
 pub loop-mark-init : goal.loop-mark-init
 loop-mark-init c =

@@ -1,7 +1,6 @@
-use Rattle.std.proofs.Common.{◌≡◌, length}
+use Rattle.plan_words.proofs.Words.{◌≡◌, length, record_at, words_in}
 use Rattle.plan_words.proofs.CountedTurns.{AreCounted}
 use Rattle.plan_words.proofs.starts.count_turns.Given as goal
-use Rattle.grown_runs.proofs.Common.{record_at, words_in}
 
 -- the turns of the marks so far
 abbrev pub invariant-loop-mark : goal.invariant-loop-mark

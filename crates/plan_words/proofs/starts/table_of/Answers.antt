@@ -1,9 +1,7 @@
-use Rattle.std.proofs.Common.{◌∷◌, ◌+◌, ◌≤◌, [], length, None, Some, sym, ap, ◌∙◌, subst}
+use Rattle.plan_words.proofs.Words.{◌∷◌, ◌+◌, ◌≤◌, [], length, None, Some, sym, ap, ◌∙◌, subst, HoldsWorld, IsTied, first_view, new_pass, run_of_opening, sees}
+use Rattle.plan_words.proofs.Words.{TreeOf}
 use Rattle.plan_words.proofs.Dealing.{HoldsWorld-started, IsTied-started, sees-started}
 use Rattle.plan_words.proofs.starts.table_of.Goals as goal
-use Rattle.plan_words.specs.States.{HoldsWorld, IsTied, first_view, new_pass, run_of_opening}
-use Rattle.step_core.specs.Views.{sees}
-use Rattle.grown_runs.specs.Table.WordNames.Word.{TreeOf}
 
 pub of_words-requires : goal.of_words-requires
 of_words-requires c =

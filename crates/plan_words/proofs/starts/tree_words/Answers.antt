@@ -1,10 +1,7 @@
-use Rattle.std.proofs.Common.{ℕ, ◌+◌, ◌≤◌, ◌^◌, length, ap, ◌∙◌, subst, sym, arith, inl, inr}
-use Rattle.std.specs.Prelude.{slice_index, slice_set}
-use Rattle.std.proofs.lemmas.Bool.{cases_eq}
-use Rattle.std.proofs.lemmas.List.{get_or-set_other, get_or-set_same, length-replicate, length-set}
+use Rattle.plan_words.proofs.Words.{ℕ, ◌+◌, ◌≤◌, ◌^◌, length, ap, ◌∙◌, subst, sym, arith, inl, inr, slice_index, slice_set, cases_eq, get_or-set_other}
+use Rattle.plan_words.proofs.Words.{get_or-set_same, length-replicate, length-set, words_of_grown, sizes_in, words_in, TreeOf, parent_in}
 use Rattle.plan_words.proofs.Dealing.{HasParentsWithin-started}
 use Rattle.plan_words.proofs.starts.tree_words.Goals as goal
-use Rattle.grown_runs.proofs.Common.{words_of_grown, sizes_in, words_in, TreeOf, parent_in}
 
 pub set-requires-clause-parent : goal.set-requires-clause-parent
 set-requires-clause-parent c written =

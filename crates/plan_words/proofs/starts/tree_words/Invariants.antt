@@ -1,7 +1,5 @@
-use Rattle.std.proofs.Common.{◌≡◌, ℕ, ◌+◌, ◌<◌, List, length}
-use Rattle.std.specs.Prelude.{slice_index}
+use Rattle.plan_words.proofs.Words.{◌≡◌, ℕ, ◌+◌, ◌<◌, List, length, slice_index, words_of_grown, TreeOf}
 use Rattle.plan_words.proofs.starts.tree_words.Given as goal
-use Rattle.grown_runs.proofs.Common.{words_of_grown, TreeOf}
 
 -- the words of the numbers so far
 pub record AreRead (words : ℕ → ℕ) (nodes : ℕ) (node : ℕ) (pairs : List ℕ) : Type 0 where

@@ -1,7 +1,5 @@
-use Rattle.std.proofs.Common.{◌≡◌, ◌≢◌, ℕ, ◌<◌, Bool, true, List, length}
-use Rattle.std.specs.Prelude.{slice_index}
+use Rattle.plan_words.proofs.Words.{◌≡◌, ◌≢◌, ℕ, ◌<◌, Bool, true, List, length, slice_index, is_marked}
 use Rattle.plan_words.proofs.waiting.unmark.Given as goal
-use Rattle.plan_words.specs.Waiting.{is_marked}
 
 -- who is marked still was so, and stands on the list from here on
 pub record AreLeft (was : List Bool) (nodes : List ℕ) (index : ℕ) (marked : List Bool) : Type 0 where

@@ -1,12 +1,10 @@
-use Rattle.std.proofs.Common.{sym, ap}
-use Rattle.plan_model.specs.declared.records.Outcome.TheVariants.{Skipped}
+use Rattle.plan_work.proofs.Words.{sym, ap, Skipped, MayBeSkipped, MayBeRecorded, has_count, has_link}
 use Rattle.plan_work.proofs.ExtendedMarks.{HandlesMark-after}
 use Rattle.plan_work.proofs.HeldMarks.{holding, if_held}
 use Rattle.plan_work.proofs.SkippingMarks.{AloneNext-skipped, EndsAsSteered-loaded, HandlesMark-skipped, IsExtended-skipped, IsNotSkippedIn-loaded}
 use Rattle.plan_work.proofs.SkippingMarks.{SeesTextbook-loaded, WasNotSkipped-loaded, WorksAlone-loaded}
 use Rattle.plan_work.proofs.SteeredOutcomes.{EndsAsSeen-steered}
 use Rattle.plan_work.proofs.extending.extend_by_radii.Goals as goal
-use Rattle.step_core.proofs.Common.{MayBeSkipped, MayBeRecorded, has_count, has_link}
 
 pub record_unplaced-requires-clause-stage : goal.record_unplaced-requires-clause-stage
 record_unplaced-requires-clause-stage g c =

@@ -1,12 +1,8 @@
-use Rattle.std.specs.Prelude.{IfSome}
-use Rattle.std.proofs.Common.{◌≡◌, false, refl, sym, ap, ◌∙◌, subst}
-use Rattle.grown_runs.proofs.Common.{Clear, point_of, same_point-true, is_placed, Outcome, Blocked, Same}
-use Rattle.plan_words.proofs.Common.{PassState, with_view, HasWholeShare}
+use Rattle.plan_work.proofs.Words.{IfSome, ◌≡◌, false, refl, sym, ap, ◌∙◌, subst, Clear, point_of, same_point-true, is_placed, Outcome, Blocked, PassState}
+use Rattle.plan_work.proofs.Words.{with_view, HasWholeShare, IsUnskipped, pointed, SeesPoint, sees, setup_in, tree_seen, MayBeRecorded, has_count, has_link}
+use Rattle.plan_work.proofs.Words.{View, OnlyLooks-refl, IsFilledSince, KeepsRecords, WorksAlone, IsFilledWhole, SeesButCount, Claimed}
+use Rattle.grown_runs.proofs.Common.{Same}
 use Rattle.plan_work.proofs.SkippedMarks.{IsUnskipped-kept}
-use Rattle.step_core.proofs.Common.{IsUnskipped, pointed, SeesPoint, sees, setup_in, tree_seen, MayBeRecorded, has_count, has_link}
-use Rattle.step_core.specs.declared.views.View.{View}
-use Rattle.kd_shared.proofs.Looking.{OnlyLooks-refl}
-use Rattle.plan_work.proofs.Words.{IsFilledSince, KeepsRecords, WorksAlone, IsFilledWhole, SeesButCount}
 use Rattle.plan_work.proofs.ExtendedMarks.{HandlesMark-after, HasLooked, HasLooked-looks, IsExtended-blocked, IsExtended-found, IsExtended-written}
 use Rattle.plan_work.proofs.ExtendedMarks.{IsFilledSince-written, IsSteered-found, KeepsRecords-written, MayPlace-written, MayRecord-blocked}
 use Rattle.plan_work.proofs.ExtendedMarks.{MayRecord-found, blocked_here}
@@ -16,7 +12,6 @@ use Rattle.plan_work.proofs.extending.steer_and_place.Given.{Over}
 use Rattle.plan_work.proofs.ExtendedAlone.{AloneNext-blocked, AloneNext-found, IsFilledWhole-written, IsSteeredWhole-written}
 use Rattle.plan_work.proofs.ExtendedAlone.{IsNotSkippedIn-written, SeesTextbook-written, WorksAlone-written}
 use Rattle.plan_work.proofs.WholeLists.{HasCounted-claimed, HasCounted-kept, HasWholeShare-kept, SeesButCount-all, SeesButCount-trans}
-use Rattle.step_core.specs.declared.views.Stage.TheVariants.{Claimed}
 use Rattle.plan_work.proofs.extending.steer_and_place.Goals as goal
 use Rattle.plan_work.proofs.extending.steer_and_place.Goals.{After-find, After-steer_and_test-class, After-write_point}
 

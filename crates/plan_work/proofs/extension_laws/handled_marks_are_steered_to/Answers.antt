@@ -1,5 +1,4 @@
-use Rattle.std.proofs.Common.{subst}
-use Rattle.plan_work.specs.Extensions.{EndsAsSeen}
+use Rattle.plan_work.proofs.Words.{subst, EndsAsSeen}
 use Rattle.plan_work.proofs.SteeredOutcomes.{Blocked-free, EndsAsSteered-unskipped, HasSteered-ended}
 use Rattle.plan_work.proofs.extension_laws.handled_marks_are_steered_to.Goals as goal
 

@@ -1,8 +1,6 @@
-use Rattle.std.proofs.Common.{ap, arith, subst}
-use Rattle.plan_work.specs.Extensions.{EndsAsSeen}
+use Rattle.plan_work.proofs.Words.{ap, arith, subst, EndsAsSeen, View}
 use Rattle.plan_work.proofs.SteeredOutcomes.{WasNotSkipped-unskipped}
 use Rattle.plan_work.proofs.extension_laws.marks_are_skipped_by_the_best.Goals as goal
-use Rattle.step_core.specs.declared.views.View.{View}
 
 pub returns-clause-skipped : goal.returns-clause-skipped
 returns-clause-skipped c = λ before after k entry extended is.

@@ -1,6 +1,4 @@
-use Rattle.std.proofs.Common.{inl, inr, subst}
-use Rattle.plan_words.proofs.GoingOn.{GoesOn-trans}
-use Rattle.plan_work.specs.Extensions.{EndsAsSeen}
+use Rattle.plan_work.proofs.Words.{inl, inr, subst, GoesOn-trans, EndsAsSeen}
 use Rattle.plan_work.proofs.extension_laws.placed_marks_bring_falls_down.Goals as goal
 
 pub returns-clause-linked : goal.returns-clause-linked

@@ -1,8 +1,4 @@
-use Rattle.std.proofs.Common.{arith, subst}
-use Rattle.plan_work.specs.Extensions.{EndsAsSeen}
-use Rattle.grown_runs.specs.Table.WordNames.Word.{TreeOf}
-use Rattle.tree_rewire.proofs.SeenCosts.{cost_seen-later}
-use Rattle.plan_words.proofs.GoingOn.{GoesOn-trans}
+use Rattle.plan_work.proofs.Words.{arith, subst, EndsAsSeen, TreeOf, cost_seen-later, GoesOn-trans}
 use Rattle.plan_work.proofs.FilledNear.{looked_since}
 use Rattle.plan_work.proofs.extension_laws.placed_marks_have_the_best_parent.Goals as goal
 

@@ -1,13 +1,9 @@
-use Rattle.std.proofs.Common.{◌≡◌, ◌<◌, ◌∙◌, length, ap, arith, subst, sym}
-use Rattle.std.specs.Prelude.{All, slice_index_or}
-use Rattle.plan_words.specs.States.{MayClaim, PassState}
+use Rattle.plan_work.proofs.Words.{◌≡◌, ◌<◌, ◌∙◌, length, ap, arith, subst, sym, All, slice_index_or, MayClaim, PassState, SeesTextbook, HasLeft, HasTakenOver}
+use Rattle.plan_work.proofs.Words.{IsReady, left_of, state_of_grown, IsLawfulView}
 use Rattle.plan_work.proofs.LoneRuns.{IsOfTextbook-seen}
 use Rattle.plan_work.proofs.RetiredWorkers.{HaveStopped, all_ready, have_stopped-ready, whole_list}
 use Rattle.plan_work.proofs.SharedRuns.{GrowsInto-all, HasHandled-alone, all_may_claim, limit_reached, none_left, one_of, whole_share}
 use Rattle.plan_work.proofs.growing.grow.Goals as goal
-use Rattle.plan_work.proofs.Words.{SeesTextbook, HasLeft, HasTakenOver, IsReady, left_of}
-use Rattle.grown_runs.specs.Runs.GrownRuns.{state_of_grown}
-use Rattle.step_core.specs.LaterViews.{IsLawfulView}
 
 pub work_all-requires-clause-ready : goal.work_all-requires-clause-ready
 work_all-requires-clause-ready g c _ _ =

@@ -1,10 +1,8 @@
-use Rattle.std.proofs.Common.{◌≡◌, refl, sym, ap, ◌∙◌, subst, arith}
-use Rattle.std.specs.Prelude.{◌++◌, [], ◌∷◌, All, option_to_list}
-use Rattle.plan_words.specs.States.{MayClaim, PassState}
+use Rattle.plan_work.proofs.Words.{◌≡◌, refl, sym, ap, ◌∙◌, subst, arith, ◌++◌, [], ◌∷◌, All, option_to_list, MayClaim, PassState, HasLeft, left_by, left_of}
+use Rattle.plan_work.proofs.Words.{Stopped}
 use Rattle.plan_work.proofs.RetiredWorkers.{has_left, left_of-last, stopped-front, stopped-last}
 use Rattle.plan_work.proofs.TakenOver.{All-front, All-next, HasTakenOver-alone, HasTakenOver-more, not_alone, only, taken_next}
 use Rattle.plan_work.proofs.growing.take_over_all.Goals as goal
-use Rattle.plan_work.proofs.Words.{HasLeft, left_by, left_of, Stopped}
 
 pub others-init : goal.others-init
 others-init c =

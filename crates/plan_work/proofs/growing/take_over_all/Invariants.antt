@@ -1,7 +1,5 @@
-use Rattle.std.specs.Prelude.{◌≡◌, ◌++◌, [], ◌∷◌, All, List, length}
-use Rattle.plan_words.specs.States.{MayClaim, PassState}
+use Rattle.plan_work.proofs.Words.{◌≡◌, ◌++◌, [], ◌∷◌, All, List, length, MayClaim, PassState, HasLeft, HasTakenOver, left_of}
 use Rattle.plan_work.proofs.growing.take_over_all.Given as goal
-use Rattle.plan_work.specs.Workers.{HasLeft, HasTakenOver, left_of}
 
 abbrev pub invariant-others : goal.invariant-others
 invariant-others l = record {

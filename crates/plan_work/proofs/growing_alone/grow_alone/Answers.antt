@@ -1,11 +1,7 @@
-use Rattle.std.proofs.Common.{◌∙◌, arith, subst, sym}
-use Rattle.std.specs.Prelude.{All}
-use Rattle.plan_words.specs.States.{MayClaim}
+use Rattle.plan_work.proofs.Words.{◌∙◌, arith, subst, sym, All, MayClaim, SeesTextbook, state_of_grown}
 use Rattle.plan_work.proofs.LoneRuns.{IsOfTextbook-seen}
 use Rattle.plan_work.proofs.WorkedAlone.{HasWorkedAlone-worked}
 use Rattle.plan_work.proofs.growing_alone.grow_alone.Goals as goal
-use Rattle.plan_work.specs.OneWorker.{SeesTextbook}
-use Rattle.grown_runs.specs.Runs.GrownRuns.{state_of_grown}
 
 pub work-requires-clause-may_claim : goal.work-requires-clause-may_claim
 work-requires-clause-may_claim g c _ _ =

@@ -1,11 +1,9 @@
-use Rattle.std.proofs.Common.{ap, subst, sym, ◌∙◌}
-use Rattle.plan_words.proofs.Common.{numbers_of, weighed, PassState}
+use Rattle.plan_work.proofs.Words.{ap, subst, sym, ◌∙◌, numbers_of, weighed, PassState, KeepsOthers, HasCome, IsHung, IsTried, Hanging}
 use Rattle.plan_work.proofs.HeldMarks.{if_held, of_held}
 use Rattle.plan_work.proofs.KeptRecords.{KeepsRecords-trans}
 use Rattle.plan_work.proofs.TriedMarks.{IsTried-placing, KeepsRecords-placing, reach_of-steered}
 use Rattle.plan_work.proofs.ExtendedAlone.{KeepsOthers-after}
 use Rattle.plan_work.proofs.WholeLists.{HasWholeShare-kept}
-use Rattle.plan_work.proofs.Words.{KeepsOthers, HasCome, IsHung, IsTried, Hanging}
 use Rattle.plan_work.proofs.mark_placing.choose_and_place.Goals as goal
 
 pub choose_and_write-parent-requires-clause-nearest : goal.choose_and_write-parent-requires-clause-nearest

@@ -1,16 +1,11 @@
-use Rattle.std.proofs.Common.{sym, ap, ◌∙◌, subst, arith}
-use Rattle.grown_runs.proofs.Common.{Clear, space_of, Count}
-use Rattle.plan_words.proofs.Common.{numbers_of, PassState}
+use Rattle.plan_work.proofs.Words.{sym, ap, ◌∙◌, subst, arith, Clear, space_of, Count, numbers_of, PassState, sees, MayHang, setup_in, IsHung, IsPointed}
+use Rattle.plan_work.proofs.Words.{SharedRun, NamesTree}
 use Rattle.plan_work.proofs.HeldMarks.{holding, if_held, of_held}
 use Rattle.plan_work.proofs.HungMarks.{IsHung-written, KeepsRecords-written, MayHang-chosen, chosen_near}
 use Rattle.plan_work.proofs.KeptRecords.{KeepsRecords-anew, KeepsRecords-trans}
 use Rattle.plan_work.proofs.KeptSights.{point_still, present_still}
 use Rattle.plan_work.proofs.WholeLists.{IsBestHanging-before}
-use Rattle.step_core.proofs.Common.{sees, MayHang, setup_in}
 use Rattle.plan_work.proofs.mark_placing.choose_and_write.Goals as goal
-use Rattle.plan_work.specs.ExtensionSteps.{IsHung, IsPointed}
-use Rattle.step_core.specs.declared.views.SharedRun.{SharedRun}
-use Rattle.tree_rewire.specs.SeenCosts.{NamesTree}
 
 pub write_tree-requires-clause-may : goal.write_tree-requires-clause-may
 write_tree-requires-clause-may g c =

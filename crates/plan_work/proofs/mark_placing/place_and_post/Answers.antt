@@ -1,16 +1,11 @@
-use Rattle.std.proofs.Common.{◌≡◌, suc, length, ap, ◌∙◌, subst, arith}
-use Rattle.std.specs.Prelude.{List}
-use Rattle.kd_shared.specs.Placings.{IsPlacing, SeesPlacing}
+use Rattle.plan_work.proofs.Words.{◌≡◌, suc, length, ap, ◌∙◌, subst, arith, List, IsPlacing, SeesPlacing, PassState, with_view, HasCome, KeepsOthers, Member}
 use Rattle.kd_shared.specs.declared.placing.Placing.TheVariants.{Placed, Same}
-use Rattle.plan_words.specs.States.{PassState, with_view}
 use Rattle.plan_work.proofs.ExtendedAlone.{KeepsOthers-placing, KeepsOthers-then}
 use Rattle.plan_work.proofs.HeldMarks.{holding, if_held, of_held}
 use Rattle.plan_work.proofs.PostedNodes.{GoesOnPlacing-posted, HasBeenPlaced-posted, KeepsShare-posted, KeepsShare-trans, PostsGoalNode}
 use Rattle.plan_work.proofs.PostedNodes.{same_words, view_alone}
 use Rattle.plan_work.proofs.mark_placing.place_and_post.Goals as goal
 use Rattle.plan_work.proofs.mark_placing.place_and_post.Goals.{After-post_goal_node}
-use Rattle.plan_work.proofs.Words.{HasCome, KeepsOthers}
-use Rattle.step_core.specs.declared.views.Member.{Member}
 
 pub post_goal_node-requires-clause-part : goal.post_goal_node-requires-clause-part
 post_goal_node-requires-clause-part c = omega (arith, c.requires.part, ap (λ (l : List Member). length l) c.place.ensures.share.crew)

@@ -1,27 +1,18 @@
-use Rattle.std.proofs.Common.{◌≡◌, suc, true, refl, sym, ap, ◌∙◌, subst}
-use Rattle.std.specs.Prelude.{All, Contains, IsSome}
-use Rattle.grown_runs.proofs.Common.{Record, space_of, FirstOf, near_new}
+use Rattle.plan_work.proofs.Words.{◌≡◌, suc, true, refl, sym, ap, ◌∙◌, subst, All, Contains, IsSome, Record, space_of, FirstOf, near_new, IsFilledWhole}
+use Rattle.plan_work.proofs.Words.{IsTriedWhole, EndsWritten, IsFilledSince, IsTried, hung_by, placed_hand, has_count, pair_in_hand, SeesPoint, sees, setup_in}
+use Rattle.plan_work.proofs.Words.{tree_seen, IsInReach-later, stands_later, near-increases, numbers_of, AreOf, IsWeighed, HasSpreadFalls, AreOf-weighed}
+use Rattle.plan_work.proofs.Words.{IsInReach, NamesLoweredOrPoint, SeesPair}
 use Rattle.plan_work.proofs.HeldMarks.{if_held, of_held}
 use Rattle.plan_work.proofs.KeptRecords.{KeepsRecords-anew, KeepsRecords-trans}
 use Rattle.plan_work.proofs.PlacedMarks.{IsPlacedAt-recorded, MayRecord-placed, MayRecord-same, Rewired-hand}
 use Rattle.plan_work.proofs.RecordedMarks.{HandlesMark-recorded}
 use Rattle.plan_work.proofs.PlacedAlone.{HasPostedGoals-tried, AloneNext-placed, AloneNext-same, Mirrors-tried}
 use Rattle.plan_work.proofs.WholeLists.{HasWholeShare-kept}
-use Rattle.plan_work.proofs.Words.{IsFilledWhole, IsTriedWhole, EndsWritten, IsFilledSince, IsTried, hung_by, placed_hand}
 use Rattle.plan_work.proofs.mark_placing.place_rewire_and_record.Goals as goal
-use Rattle.step_core.proofs.Common.{has_count, pair_in_hand, SeesPoint, sees, setup_in, tree_seen}
-use Rattle.tree_rewire.proofs.ChosenParents.{IsInReach-later}
 use Rattle.plan_work.proofs.PlacedHands.{HasPlaced-come}
 use Rattle.plan_work.proofs.SkippedMarks.{has_count-placed, held_on}
-use Rattle.tree_rewire.proofs.SeenCosts.{stands_later}
-use Rattle.kd_shared.proofs.SortedNear.{near-increases}
 use Rattle.kd_shared.specs.declared.placing.Placing.TheVariants.{Placed}
-use Rattle.plan_words.specs.SearchLists.{numbers_of}
-use Rattle.tree_rewire.specs.FoundNodes.{AreOf, IsWeighed}
-use Rattle.tree_rewire.specs.Rewirings.{HasSpreadFalls}
-use Rattle.tree_rewire.proofs.FoundLists.{AreOf-weighed}
 use Rattle.plan_work.proofs.TriedMarks.{AllWeighed-tried, IsRewiredBy, numbers-tried}
-use Rattle.tree_rewire.specs.SeenCosts.{IsInReach, NamesLoweredOrPoint, SeesPair}
 
 pub rewire_found-requires-clause-placed : goal.rewire_found-requires-clause-placed
 rewire_found-requires-clause-placed g c κs within =

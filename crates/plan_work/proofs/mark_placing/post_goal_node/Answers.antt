@@ -1,9 +1,6 @@
-use Rattle.std.proofs.Common.{◌≡◌, ◌+◌, ◌^◌, ◌≤◌, suc, inl, inr, refl, ap, ◌∙◌, subst, sym, arith}
-use Rattle.grown_runs.proofs.Common.{lies_in_goals, TreeOf, best_word, cost_in}
-use Rattle.plan_words.proofs.Common.{BelongsTo-later, goal-at, PassState, with_view}
+use Rattle.plan_work.proofs.Words.{◌≡◌, ◌+◌, ◌^◌, ◌≤◌, suc, inl, inr, refl, ap, ◌∙◌, subst, sym, arith, lies_in_goals, TreeOf, best_word, cost_in}
+use Rattle.plan_work.proofs.Words.{BelongsTo-later, goal-at, PassState, with_view, MayPost, last_note, with_post, SeesPoint, sees, SharedRun}
 use Rattle.plan_work.proofs.mark_placing.post_goal_node.Goals as goal
-use Rattle.step_core.proofs.Common.{MayPost, last_note, with_post, SeesPoint, sees}
-use Rattle.step_core.specs.declared.views.SharedRun.{SharedRun}
 
 pub post-requires-clause-may : goal.post-requires-clause-may
 post-requires-clause-may c =

@@ -1,6 +1,5 @@
-use Rattle.std.proofs.Common.{List, length, sym, ap, ◌∙◌, subst, arith}
-use Rattle.std.specs.Prelude.{All}
-use Rattle.grown_runs.proofs.Common.{IsBounded, IsBoundedBox, mark_at, Goal, Point, Task, All-goals_bounded, IsBounded-scene_start, goals-some}
+use Rattle.plan_work.proofs.Words.{List, length, sym, ap, ◌∙◌, subst, arith, All, IsBounded, IsBoundedBox, mark_at, Goal, Point, Task, All-goals_bounded}
+use Rattle.plan_work.proofs.Words.{IsBounded-scene_start, goals-some}
 use Rattle.plan_model.specs.Trees.GoalBounds.{bound_of}
 use Rattle.plan_work.proofs.mark_skipping.mark_bound.Goals as goal
 

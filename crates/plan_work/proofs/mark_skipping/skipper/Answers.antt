@@ -1,13 +1,9 @@
-use Rattle.std.proofs.Common.{◌≡◌, true, length, refl, sym, ap, ◌∙◌, subst, arith}
-use Rattle.grown_runs.proofs.Common.{IsBounded, mark_at, Task}
-use Rattle.plan_words.proofs.GoingOn.{GoesOn-refl}
+use Rattle.plan_work.proofs.Words.{◌≡◌, true, length, refl, sym, ap, ◌∙◌, subst, arith, IsBounded, mark_at, Task, GoesOn-refl, HasLoadedBest, SharedRun}
 use Rattle.plan_work.proofs.HeldMarks.{mark_low}
 use Rattle.plan_work.proofs.SkippingMarks.{IsUnskipped-above, IsUnskipped-none, IsUnskipped-plain, KeepsRecords-loaded, KeepsRecords-refl}
 use Rattle.plan_work.proofs.SkippingMarks.{FindsGoalNode-found, MayBeSkipped-loaded, MayExtend-loaded, informed_here}
 use Rattle.plan_work.proofs.mark_skipping.skipper.Goals as goal
 use Rattle.plan_work.proofs.mark_skipping.skipper.Goals.{After-best}
-use Rattle.plan_work.specs.ExtensionSteps.{HasLoadedBest}
-use Rattle.step_core.specs.declared.views.SharedRun.{SharedRun}
 
 pub best-requires-clause-informed : goal.best-requires-clause-informed
 best-requires-clause-informed c =

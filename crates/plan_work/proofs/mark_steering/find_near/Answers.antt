@@ -1,16 +1,11 @@
-use Rattle.std.proofs.Common.{sym, ap, ◌∙◌, subst, arith}
-use Rattle.kd_shared.specs.Searches.{AreGathered}
+use Rattle.plan_work.proofs.Words.{sym, ap, ◌∙◌, subst, arith, AreGathered, AreOf, class_of, radius_of_class, unplaced_record, Blocked, near, node_count}
+use Rattle.plan_work.proofs.Words.{PointOf, Count, SeesButCount, tree_seen, sight_in, SharedRun}
 use Rattle.plan_work.proofs.FoundNear.{AreOf-gathered}
-use Rattle.tree_rewire.specs.FoundNodes.{AreOf}
-use Rattle.grown_runs.proofs.Common.{class_of, radius_of_class, unplaced_record, Blocked, near, node_count, PointOf, Count}
 use Rattle.plan_work.proofs.FilledNear.{HasFilledNear-found, looks_at_count, own_count-some}
 use Rattle.plan_work.proofs.KeptRecords.{KeepsRecords-looks, KeepsRecords-number, KeepsRecords-trans}
 use Rattle.plan_work.proofs.MirroredTrees.{points_still}
 use Rattle.plan_work.proofs.WholeLists.{HasWholeShare-kept, IsFilledWhole-found, SeesButCount-all, SeesButCount-trans}
-use Rattle.plan_work.specs.WholeShares.{SeesButCount}
-use Rattle.step_core.proofs.Common.{tree_seen, sight_in}
 use Rattle.plan_work.proofs.mark_steering.find_near.Goals as goal
-use Rattle.step_core.specs.declared.views.SharedRun.{SharedRun}
 
 pub at-requires-clause-some : goal.at-requires-clause-some
 at-requires-clause-some c =

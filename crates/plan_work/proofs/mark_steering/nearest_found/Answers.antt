@@ -1,17 +1,7 @@
-use Rattle.std.proofs.Common.{◌+◌, ap, arith, refl, subst, sym, take, ◌∙◌}
-use Rattle.std.specs.Prelude.{Contains}
-use Rattle.std.proofs.lemmas.List.{length-map, take_all}
-use Rattle.std.proofs.lemmas.List.Elements.{All-contains_itself}
-use Rattle.grown_runs.proofs.Common.{IsPresent-stands, point_of-stands, squared_distance}
-use Rattle.plan_words.specs.SearchLists.{numbers_of}
-use Rattle.plan_words.specs.declared.spots.Found.{Found}
-use Rattle.step_core.proofs.Common.{IsBounded-seen, tree_seen}
-use Rattle.grown_runs.specs.declared.measured_nodes.MeasuredNode.{MeasuredNode}
-use Rattle.tree_rewire.proofs.ChosenParents.{near_read, take_read}
-use Rattle.tree_rewire.proofs.FoundLists.{All-at, number_read}
-use Rattle.tree_rewire.specs.FoundNodes.{StandsAsFound}
+use Rattle.plan_work.proofs.Words.{◌+◌, ap, arith, refl, subst, sym, take, ◌∙◌, Contains, length-map, take_all, All-contains_itself, IsPresent-stands}
+use Rattle.plan_work.proofs.Words.{point_of-stands, squared_distance, numbers_of, Found, IsBounded-seen, tree_seen, MeasuredNode, near_read, take_read, All-at}
+use Rattle.plan_work.proofs.Words.{number_read, StandsAsFound, IsNearestOf}
 use Rattle.plan_work.proofs.NearestListed.{IsBestOf-alone, IsBestOf-more}
-use Rattle.plan_work.specs.ExtensionSteps.{IsNearestOf}
 use Rattle.plan_work.proofs.mark_steering.nearest_found.Goals as goal
 use Rattle.plan_work.proofs.mark_steering.nearest_found.Goals.{After-found-first, After-found-found}
 

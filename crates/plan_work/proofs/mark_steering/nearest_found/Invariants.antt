@@ -1,5 +1,4 @@
-use Rattle.std.proofs.Common.{take}
-use Rattle.plan_words.specs.SearchLists.{numbers_of}
+use Rattle.plan_work.proofs.Words.{take, numbers_of}
 use Rattle.plan_work.proofs.NearestListed.{IsBestOf}
 use Rattle.plan_work.proofs.mark_steering.nearest_found.Given as goal
 

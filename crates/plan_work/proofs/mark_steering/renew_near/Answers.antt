@@ -1,11 +1,9 @@
-use Rattle.std.proofs.Common.{◌≡◌, sym, ap, ◌∙◌, subst, arith}
-use Rattle.grown_runs.proofs.Common.{class_of, unplaced_record, Blocked, PointOf}
-use Rattle.plan_words.specs.States.{PassState}
+use Rattle.plan_work.proofs.Words.{◌≡◌, sym, ap, ◌∙◌, subst, arith, class_of, unplaced_record, Blocked, PointOf, PassState, IsFilledWhole, SeesButCount}
+use Rattle.plan_work.proofs.Words.{HasFilledNear}
 use Rattle.plan_work.proofs.FilledNear.{HasFilledNear-begun, own_count-some}
 use Rattle.plan_work.proofs.KeptRecords.{KeepsRecords-number, KeepsRecords-trans}
 use Rattle.plan_work.proofs.TriedMarks.{HasFilledNear-recounted}
 use Rattle.plan_work.proofs.WholeLists.{HasCounted-kept, HasWholeShare-kept, IsFilledWhole-still, SeesButCount-trans}
-use Rattle.plan_work.proofs.Words.{IsFilledWhole, SeesButCount, HasFilledNear}
 use Rattle.plan_work.proofs.mark_steering.renew_near.Goals as goal
 
 pub class-class-requires : goal.class-class-requires

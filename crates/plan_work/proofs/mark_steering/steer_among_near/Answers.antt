@@ -1,7 +1,4 @@
-use Rattle.std.proofs.Common.{◌≡◌, length, sym, ap, ◌∙◌, subst, arith}
-use Rattle.std.specs.Prelude.{IfSome, IsSome}
-use Rattle.grown_runs.proofs.Common.{IsBounded, mark_at, Task}
-use Rattle.step_core.specs.declared.views.SharedRun.{SharedRun}
+use Rattle.plan_work.proofs.Words.{◌≡◌, length, sym, ap, ◌∙◌, subst, arith, IfSome, IsSome, IsBounded, mark_at, Task, SharedRun}
 use Rattle.plan_work.proofs.FilledNear.{HasFilledNear-begun}
 use Rattle.plan_work.proofs.HeldMarks.{mark_low, mark_shown}
 use Rattle.plan_work.proofs.KeptRecords.{KeepsRecords-looks, KeepsRecords-trans}

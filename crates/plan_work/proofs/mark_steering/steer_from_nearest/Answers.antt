@@ -1,13 +1,7 @@
-use Rattle.std.proofs.Common.{length, sym, ap, ◌∙◌, subst, arith}
-use Rattle.kd_shared.specs.LookLaws.{OnlyLooks-trans}
-use Rattle.kd_shared.proofs.PassLooks.{PassLooks-load}
-use Rattle.grown_runs.proofs.Common.{IsBounded, mark_at, steered, Task, PointOf}
-use Rattle.kd_shared.specs.Searches.{IsNearestSeen}
-use Rattle.step_core.specs.ViewTrees.{sight_in}
-use Rattle.step_core.specs.declared.views.SharedRun.{SharedRun}
+use Rattle.plan_work.proofs.Words.{length, sym, ap, ◌∙◌, subst, arith, OnlyLooks-trans, PassLooks-load, IsBounded, mark_at, steered, Task, PointOf}
+use Rattle.plan_work.proofs.Words.{IsNearestSeen, sight_in, SharedRun, PassSees-point}
 use Rattle.plan_work.proofs.HeldMarks.{mark_low, mark_shown}
 use Rattle.plan_work.proofs.KeptSights.{HasSteered-found}
-use Rattle.tree_rewire.proofs.CostSteps.{PassSees-point}
 use Rattle.plan_work.proofs.mark_steering.steer_from_nearest.Goals as goal
 
 pub bounds-as_slice-k : goal.bounds-as_slice-k

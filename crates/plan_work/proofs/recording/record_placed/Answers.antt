@@ -1,11 +1,7 @@
-use Rattle.std.proofs.Common.{◌≡◌, suc, true, refl, sym, subst}
-use Rattle.std.specs.Prelude.{IfSome}
-use Rattle.grown_runs.proofs.Common.{Record-from_fields, FirstOf}
+use Rattle.plan_work.proofs.Words.{◌≡◌, suc, true, refl, sym, subst, IfSome, Record-from_fields, FirstOf, own_placed, MayRecord, has_count, pair_in_hand, sees}
 use Rattle.plan_work.proofs.HeldMarks.{of_held}
 use Rattle.plan_work.proofs.RecordedMarks.{HasRecorded-finished, IsFirstWord-placed}
 use Rattle.plan_work.proofs.recording.record_placed.Goals as goal
-use Rattle.plan_work.specs.ExtensionSteps.{own_placed}
-use Rattle.step_core.proofs.Common.{MayRecord, has_count, pair_in_hand, sees}
 
 pub finish-requires-clause-may : goal.finish-requires-clause-may
 finish-requires-clause-may c =

@@ -1,8 +1,6 @@
-use Rattle.std.proofs.Common.{◌≡◌, refl, ◌∙◌}
-use Rattle.plan_model.specs.Runs.Textbook.{unplaced_record}
+use Rattle.plan_work.proofs.Words.{◌≡◌, refl, ◌∙◌, unplaced_record, own_unplaced}
 use Rattle.plan_work.proofs.RecordedMarks.{HasRecorded-finished, IsFirstWord-unplaced}
 use Rattle.plan_work.proofs.recording.record_unplaced.Goals as goal
-use Rattle.plan_work.specs.ExtensionSteps.{own_unplaced}
 
 pub returns-clause-recorded : goal.returns-clause-recorded
 returns-clause-recorded c =

@@ -1,10 +1,7 @@
-use Rattle.std.proofs.Common.{suc, inr, length, ap, ◌∙◌, subst, arith}
-use Rattle.std.specs.Prelude.{◌-◌, ◌<◌}
-use Rattle.plan_words.proofs.Common.{GoesOn-more, OwnsAllStrips-alone, turn_of}
+use Rattle.plan_work.proofs.Words.{suc, inr, length, ap, ◌∙◌, subst, arith, ◌-◌, ◌<◌, GoesOn-more, OwnsAllStrips-alone, turn_of, SharedRun}
 use Rattle.plan_work.proofs.LoneMarks.{HasHandled-all, HasHandled-mark}
 use Rattle.plan_work.proofs.WorkedMarks.{AllExtended-last, AllExtendedSo-mark, AllLoaded-earlier, HasWorked-mark, fewer_turns}
 use Rattle.plan_work.proofs.working.work.Goals as goal
-use Rattle.step_core.specs.declared.views.SharedRun.{SharedRun}
 
 pub marks-smaller : goal.marks-smaller
 marks-smaller g c =

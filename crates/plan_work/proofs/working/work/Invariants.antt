@@ -1,8 +1,6 @@
-use Rattle.std.specs.Prelude.{◌≡◌, ℕ, ◌-◌, ◌≤◌, length}
-use Rattle.plan_words.proofs.Common.{turn_of, HasGoneOn}
+use Rattle.plan_work.proofs.Words.{◌≡◌, ℕ, ◌-◌, ◌≤◌, length, turn_of, HasGoneOn, HasHandled, HasWorked}
 use Rattle.plan_work.proofs.working.work.Given as goal
 use Rattle.plan_work.proofs.WorkedMarks.{AllExtendedSo}
-use Rattle.plan_work.proofs.Words.{HasHandled, HasWorked}
 
 abbrev pub invariant-marks : goal.invariant-marks
 invariant-marks g l = record {

@@ -1,9 +1,5 @@
-use Rattle.std.proofs.Common.{ap, ◌∙◌}
-use Rattle.std.specs.Prelude.{is_some}
-use Rattle.any_time.specs.BetterReports.{better_report}
-use Rattle.planner.specs.Conclusions.{IsBetterReport, status_of_report}
+use Rattle.planner.proofs.Words.{ap, ◌∙◌, is_some, better_report, IsBetterReport, status_of_report, state_of_grown}
 use Rattle.planner.proofs.Successes.{ReportsGrown-answer}
-use Rattle.grown_runs.specs.Runs.GrownRuns.{state_of_grown}
 use Rattle.planner.proofs.answers.better_report_of.Goals as goal
 
 pub returns-clause-reported : goal.returns-clause-reported

@@ -1,5 +1,4 @@
-use Rattle.std.proofs.Common.{refl, sym, ap, ◌∙◌, length}
-use Rattle.plan_model.specs.Scenes.MarkPoints.{mark_points}
+use Rattle.planner.proofs.Words.{refl, sym, ap, ◌∙◌, length, mark_points}
 use Rattle.planner.specs.declared.commands.Command.TheVariants as commands
 use Rattle.planner.proofs.GivenAnswers.{Answers-success, Answers-no_memory}
 use Rattle.planner.proofs.Successes.{ReportsGrown-of_scene}

@@ -1,9 +1,7 @@
-use Rattle.std.proofs.Common.{Err, refl, sym, ap, subst}
-use Rattle.plan_model.specs.declared.scenes.Scene.{Scene}
+use Rattle.planner.proofs.Words.{Err, refl, sym, ap, subst, Scene, IsTwin}
 use Rattle.planner.specs.declared.commands.Command.TheVariants as commands
 use Rattle.planner.proofs.GivenAnswers.{Answers-success, Answers-no_memory, Answers-twin_fault}
 use Rattle.planner.proofs.Successes.{ReportsTwin-of_scene}
-use Rattle.twin_trees.specs.Twins.{IsTwin}
 use Rattle.planner.proofs.answers.plan_twin.Goals as goal
 
 pub twin_report_of-requires : goal.twin_report_of-requires

@@ -1,5 +1,4 @@
-use Rattle.std.proofs.Common.{refl}
-use Rattle.planner.specs.Conclusions.{IsCaused}
+use Rattle.planner.proofs.Words.{refl, IsCaused}
 use Rattle.planner.specs.declared.refusals.Refusal.TheVariants as refusals
 use Rattle.planner.proofs.Causes.{StartBlocked-caused, IfErr-only, given_none}
 use Rattle.planner.proofs.answers.problem_for.Goals as goal

@@ -1,7 +1,4 @@
-use Rattle.std.proofs.Common.{length, ap, ◌∙◌}
-use Rattle.std.proofs.lemmas.Result.{IfOk-weaker}
-use Rattle.plan_model.specs.declared.tasks.Task.{Task}
-use Rattle.plan_work.proofs.TextbookEnds.{IsOfTextbookRun-whole}
+use Rattle.planner.proofs.Words.{length, ap, ◌∙◌, IfOk-weaker, Task, IsOfTextbookRun-whole}
 use Rattle.planner.proofs.answers.run_by_slices.Goals as goal
 
 pub returns-clause-scene : goal.returns-clause-scene

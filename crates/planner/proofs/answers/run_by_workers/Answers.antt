@@ -1,6 +1,5 @@
-use Rattle.std.proofs.Common.{length, ap, sym, ◌∙◌, arith}
-use Rattle.grown_runs.proofs.Common.{length-points_of_marks, mark_points, setup_of, Task, IsOfTextbookRun-settled, state_of_grown}
-use Rattle.plan_work.proofs.TextbookEnds.{IsOfTextbook-new, IsOfTextbookRun-whole}
+use Rattle.planner.proofs.Words.{length, ap, sym, ◌∙◌, arith, length-points_of_marks, mark_points, setup_of, Task, IsOfTextbookRun-settled, state_of_grown}
+use Rattle.planner.proofs.Words.{IsOfTextbook-new, IsOfTextbookRun-whole}
 use Rattle.planner.proofs.answers.run_by_workers.Goals as goal
 
 pub overflow_cast-limit : goal.overflow_cast-limit

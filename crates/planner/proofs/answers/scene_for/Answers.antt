@@ -1,5 +1,4 @@
-use Rattle.std.proofs.Common.{refl, ap}
-use Rattle.planner.proofs.Words.{IsCaused, reads_bytes}
+use Rattle.planner.proofs.Words.{refl, ap, IsCaused, reads_bytes}
 use Rattle.planner.proofs.Causes.{fetch-caused, IfErr-only}
 use Rattle.planner.proofs.answers.scene_for.Goals as goal
 

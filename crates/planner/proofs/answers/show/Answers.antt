@@ -1,5 +1,4 @@
-use Rattle.std.proofs.Common.{refl}
-use Rattle.std.proofs.lemmas.Bool.{false≢true}
+use Rattle.planner.proofs.Words.{refl, false≢true}
 use Rattle.planner.specs.declared.commands.Command.TheVariants as commands
 use Rattle.planner.proofs.GivenAnswers.{Answers-success}
 use Rattle.planner.proofs.answers.show.Goals as goal

@@ -1,10 +1,6 @@
-use Rattle.std.proofs.Common.{ap, sym, ◌∙◌, subst}
-use Rattle.std.specs.Prelude.{is_some}
-use Rattle.path_tools.specs.SmoothedReports.{IsSmoothedReport}
-use Rattle.planner.specs.Conclusions.{status_of_report}
+use Rattle.planner.proofs.Words.{ap, sym, ◌∙◌, subst, is_some, IsSmoothedReport, status_of_report, state_of_grown}
 use Rattle.planner.proofs.Successes.{ReportsGrown-answer}
 use Rattle.planner.proofs.answers.smoothed_report_of.Goals as goal
-use Rattle.grown_runs.specs.Runs.GrownRuns.{state_of_grown}
 
 pub returns-clause-reported : goal.returns-clause-reported
 returns-clause-reported c =

@@ -1,6 +1,4 @@
-use Rattle.std.proofs.Common.{ap, ◌∙◌}
-use Rattle.std.specs.Prelude.{is_some}
-use Rattle.planner.specs.Conclusions.{IsSummary, status_of_report}
+use Rattle.planner.proofs.Words.{ap, ◌∙◌, is_some, IsSummary, status_of_report}
 use Rattle.planner.proofs.Successes.{ReportsGrown-answer}
 use Rattle.planner.proofs.answers.summary_of.Goals as goal
 

@@ -1,6 +1,4 @@
-use Rattle.std.proofs.Common.{refl, ap, subst, List, ℕ}
-use Rattle.planner.proofs.Words.{IsCaused, reads_bytes}
-use Rattle.scene_text.specs.Batches.{IsBatchRefusal}
+use Rattle.planner.proofs.Words.{refl, ap, subst, List, ℕ, IsCaused, reads_bytes, IsBatchRefusal}
 use Rattle.planner.proofs.Causes.{IsReadWhole-fetched, fetch-caused, IfErr-only}
 use Rattle.planner.proofs.GivenBatches.{read_batch-caused}
 use Rattle.planner.proofs.batches.scenes_for.Goals as goal

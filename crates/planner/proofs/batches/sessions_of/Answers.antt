@@ -1,9 +1,5 @@
-use Rattle.std.proofs.Common.{◌≡◌, ◌+◌, ◌++◌, ◌∷◌, [], length, sym, ap, subst, ◌∙◌, arith, rules}
-use Rattle.std.proofs.lemmas.Iterator.Adapters.{YieldsList-from_vec}
-use Rattle.std.proofs.lemmas.Iterator.Consumers.{YieldsList-end, YieldsList-turn}
-use Rattle.std.proofs.lemmas.List.{length_push, get_or_default}
-use Rattle.grown_runs.proofs.Common.{Scene, ClearAt, space_of}
-use Rattle.planner.specs.BatchSessions.{IsSessionOf}
+use Rattle.planner.proofs.Words.{◌≡◌, ◌+◌, ◌++◌, ◌∷◌, [], length, sym, ap, subst, ◌∙◌, arith, rules, YieldsList-from_vec, YieldsList-end, YieldsList-turn}
+use Rattle.planner.proofs.Words.{length_push, get_or_default, Scene, ClearAt, space_of, IsSessionOf}
 use Rattle.planner.proofs.Causes.{given_none, given_some}
 use Rattle.planner.proofs.GivenBatches.{clear_at_number, one_session_more}
 use Rattle.planner.proofs.batches.sessions_of.Goals as goal

@@ -1,5 +1,4 @@
-use Rattle.std.proofs.Common.{◌≡◌, length}
-use Rattle.planner.specs.BatchSessions.{HaveSessions}
+use Rattle.planner.proofs.Words.{◌≡◌, length, HaveSessions}
 use Rattle.planner.proofs.batches.sessions_of.Given as goal
 
 abbrev pub invariant-loop-scene : goal.invariant-loop-scene

@@ -1,5 +1,4 @@
-use Rattle.std.proofs.Common.{List, ℕ, refl, subst}
-use Rattle.planner.specs.CheckedTexts.{Judges, RefusesCheck}
+use Rattle.planner.proofs.Words.{List, ℕ, refl, subst, Judges, RefusesCheck}
 use Rattle.planner.specs.declared.commands.Command.TheVariants as commands
 use Rattle.planner.specs.declared.refusals.Refusal.TheVariants as refusals
 use Rattle.planner.proofs.Causes.{IsReadWhole-fetched, fetch-caused}

@@ -1,5 +1,4 @@
-use Rattle.std.proofs.Common.{◌≡◌, ◌≤◌, ◌+◌, length}
-use Rattle.plan_model.specs.Texts.TextLines.{lines_of}
+use Rattle.planner.proofs.Words.{◌≡◌, ◌≤◌, ◌+◌, length, lines_of}
 use Rattle.planner.proofs.checking.line_count.Given as goal
 
 -- the lines so far are counted, and each has a byte at least

@@ -1,5 +1,4 @@
-use Rattle.std.proofs.Common.{arith}
-use Rattle.planner.specs.CheckedTexts.{RefusesCheck}
+use Rattle.planner.proofs.Words.{arith, RefusesCheck}
 use Rattle.planner.specs.declared.refusals.Refusal.TheVariants as refusals
 use Rattle.planner.proofs.Causes.{IfErr-only}
 use Rattle.planner.proofs.GivenChecks.{IsCutAtReport-short, RefusesCheck-front, RefusesCheck-whole, RefusesWithoutReport-read}

@@ -1,9 +1,6 @@
-use Rattle.std.proofs.Common.{◌≡◌, Result, Ok, Err, None, ap, inr, map, refl, ◌∙◌}
-use Rattle.std.specs.Prelude.{String, string_bytes}
+use Rattle.planner.proofs.Words.{◌≡◌, Result, Ok, Err, None, ap, inr, map, refl, ◌∙◌, String, string_bytes, Error, IntoIter, AreNoText, words_after_name}
+use Rattle.planner.proofs.Words.{command_of}
 use Rattle.std.specs.Global.{Global}
-use Rattle.std.specs.declared.io.Error.{Error}
-use Rattle.std.specs.declared.vec.IntoIter.{IntoIter}
-use Rattle.planner.proofs.Words.{AreNoText, words_after_name, command_of}
 use Rattle.planner.proofs.command_line.exit_code.Goals as goal
 
 -- arguments that are no text ask for no command

@@ -1,8 +1,4 @@
-use Rattle.std.proofs.Common.{length, ap, ◌∙◌}
-use Rattle.std.specs.Iterator.Adapters.{skip_source}
-use Rattle.std.specs.Vec.Iter.{into_iter_items}
-use Rattle.std.proofs.lemmas.Iterator.{items_from_collect}
-use Rattle.std.proofs.lemmas.Iterator.Adapters.{YieldsList-from_vec, YieldsList-from_skip}
+use Rattle.planner.proofs.Words.{length, ap, ◌∙◌, skip_source, into_iter_items, items_from_collect, YieldsList-from_vec, YieldsList-from_skip}
 use Rattle.planner.proofs.command_line.words_after_name.Goals as goal
 
 pub returns-in_ok-collect-in-Ok-clause-words : goal.returns-in_ok-collect-in-Ok-clause-words

@@ -1,7 +1,4 @@
-use Rattle.std.proofs.Common.{◌+◌, ◌*◌, ◌%◌, refl, arith}
-use Rattle.std.proofs.lemmas.Bool.{le-leb}
-use Rattle.std.proofs.lemmas.Nat.{mod_below}
-use Rattle.plan_model.specs.declared.limits.TheConstants.{MOST_MARKS}
+use Rattle.planner.proofs.Words.{◌+◌, ◌*◌, ◌%◌, refl, arith, le-leb, mod_below, MOST_MARKS}
 use Rattle.planner.proofs.GeneratedObstacles.{are_obstacles-generated}
 use Rattle.planner.proofs.ClearStarts.{ClearAt-start}
 use Rattle.planner.proofs.generated_scenes.gen_scene.Goals as goal

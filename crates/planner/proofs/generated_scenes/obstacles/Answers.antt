@@ -1,7 +1,4 @@
-use Rattle.std.proofs.Common.{◌≡◌, map, ap, arith, refl, ◌∙◌}
-use Rattle.std.specs.List.{range_with_len}
-use Rattle.std.proofs.lemmas.List.FromFn.{map-range_with_len_more}
-use Rattle.planner.specs.GeneratedScenes.{generated_obstacle}
+use Rattle.planner.proofs.Words.{◌≡◌, map, ap, arith, refl, ◌∙◌, range_with_len, map-range_with_len_more, generated_obstacle}
 use Rattle.planner.proofs.generated_scenes.obstacles.Goals as goal
 
 pub loop-cell-preserved : goal.loop-cell-preserved

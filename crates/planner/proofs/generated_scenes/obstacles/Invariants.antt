@@ -1,6 +1,4 @@
-use Rattle.std.proofs.Common.{◌≡◌, map}
-use Rattle.std.specs.List.{range_with_len}
-use Rattle.planner.specs.GeneratedScenes.{generated_obstacle}
+use Rattle.planner.proofs.Words.{◌≡◌, map, range_with_len, generated_obstacle}
 use Rattle.planner.proofs.generated_scenes.obstacles.Given as goal
 
 abbrev pub invariant-loop-cell : goal.invariant-loop-cell

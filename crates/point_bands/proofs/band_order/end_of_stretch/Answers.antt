@@ -1,7 +1,4 @@
-use Rattle.std.proofs.Common.{arith, inl, inr, subst, sym}
-use Rattle.std.proofs.lemmas.Bool.{cases_eq}
-use Rattle.point_bands.specs.BandOrder.{StandsBetween}
-use Rattle.point_bands.specs.Walks.{nowhere, numbered_at}
+use Rattle.point_bands.proofs.Words.{arith, inl, inr, subst, sym, cases_eq, StandsBetween, nowhere, numbered_at}
 use Rattle.point_bands.proofs.band_order.end_of_stretch.Goals as goal
 
 pub loop-end-preserved : goal.loop-end-preserved

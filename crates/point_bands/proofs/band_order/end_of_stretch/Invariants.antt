@@ -1,6 +1,4 @@
-use Rattle.std.specs.Prelude.{ℕ, ◌≤◌, ◌<◌, ◌-◌, length}
-use Rattle.point_bands.specs.BandOrder.{StandsBetween}
-use Rattle.point_bands.specs.Walks.{numbered_at}
+use Rattle.point_bands.proofs.Words.{ℕ, ◌≤◌, ◌<◌, ◌-◌, length, StandsBetween, numbered_at}
 use Rattle.point_bands.proofs.band_order.end_of_stretch.Given as goal
 
 abbrev pub invariant-loop-end : goal.invariant-loop-end

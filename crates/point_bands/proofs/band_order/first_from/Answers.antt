@@ -1,5 +1,4 @@
-use Rattle.std.proofs.Common.{ℕ, ◌+◌, ◌-◌, ◌/◌, ◌<◌, length, arith}
-use Rattle.point_bands.specs.Walks.{nowhere}
+use Rattle.point_bands.proofs.Words.{ℕ, ◌+◌, ◌-◌, ◌/◌, ◌<◌, length, arith, nowhere}
 use Rattle.point_bands.proofs.band_order.first_from.Goals as goal
 use Rattle.point_bands.proofs.band_order.first_from.Goals.{then-key-target, else-key-target}
 

@@ -1,6 +1,4 @@
-use Rattle.std.specs.Prelude.{ℕ, ◌≤◌, ◌<◌, ◌+◌, length}
-use Rattle.point_bands.specs.BandOrder.{band_key}
-use Rattle.point_bands.specs.Walks.{numbered_at}
+use Rattle.point_bands.proofs.Words.{ℕ, ◌≤◌, ◌<◌, ◌+◌, length, band_key, numbered_at}
 use Rattle.point_bands.proofs.band_order.first_from.Given as goal
 
 abbrev pub invariant-loop-count : goal.invariant-loop-count

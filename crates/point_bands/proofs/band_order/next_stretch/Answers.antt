@@ -1,6 +1,4 @@
-use Rattle.std.proofs.Common.{ap, arith, inl, inr}
-use Rattle.std.proofs.lemmas.Bool.{cases_lt}
-use Rattle.point_bands.specs.Walks.{numbered_at}
+use Rattle.point_bands.proofs.Words.{ap, arith, inl, inr, cases_lt, numbered_at}
 use Rattle.point_bands.proofs.BandSkips.{in_columns}
 use Rattle.point_bands.proofs.band_order.next_stretch.Goals as goal
 

@@ -1,5 +1,4 @@
-use Rattle.std.specs.Prelude.{◌≤◌, ◌-◌, length}
-use Rattle.point_bands.specs.Walks.{HasNoneBetween}
+use Rattle.point_bands.proofs.Words.{◌≤◌, ◌-◌, length, HasNoneBetween}
 use Rattle.point_bands.proofs.band_order.next_stretch.Given as goal
 
 abbrev pub invariant-loop-at : goal.invariant-loop-at

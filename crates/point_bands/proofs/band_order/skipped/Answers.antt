@@ -1,7 +1,4 @@
-use Rattle.std.proofs.Common.{◌+◌, ◌<◌, arith, ap, ◌∙◌}
-use Rattle.std.proofs.lemmas.Nat.{pow_pos}
-use Rattle.point_bands.specs.BandOrder.{lowest_row}
-use Rattle.point_bands.specs.Walks.{nowhere, numbered_at}
+use Rattle.point_bands.proofs.Words.{◌+◌, ◌<◌, arith, ap, ◌∙◌, pow_pos, lowest_row, nowhere, numbered_at}
 use Rattle.point_bands.proofs.BandSkips.{HasNoneBetween-after, none_above, none_below, none_left, none_right}
 use Rattle.point_bands.proofs.band_order.skipped.Goals as goal
 

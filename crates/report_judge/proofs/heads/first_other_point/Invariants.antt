@@ -1,5 +1,4 @@
-use Rattle.std.proofs.Common.{ℕ, ◌<◌}
-use Rattle.report_judge.specs.Laws.FirstBreaks.{KeepsPoint}
+use Rattle.report_judge.proofs.Words.{ℕ, ◌<◌, KeepsPoint}
 use Rattle.report_judge.proofs.heads.first_other_point.Given as goal
 
 -- each point so far is the own one

@@ -1,5 +1,4 @@
-use Rattle.std.proofs.Common.{◌≡◌, suc, ◌+◌, Some, length, arith, subst}
-use Rattle.report_judge.proofs.Words.{IsFirstBreak, KeepsHead, PricedPath, head_lines}
+use Rattle.report_judge.proofs.Words.{◌≡◌, suc, ◌+◌, Some, length, arith, subst, IsFirstBreak, KeepsHead, PricedPath, head_lines}
 use Rattle.report_judge.proofs.Laws.HeadBreaks.{counts_found, points_unlike}
 use Rattle.report_judge.proofs.heads.first_wrong_line.Goals as goal
 use Rattle.report_judge.proofs.heads.first_wrong_line.Goals.{After-first_other_point}

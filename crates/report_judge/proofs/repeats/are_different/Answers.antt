@@ -1,14 +1,6 @@
-use Rattle.std.proofs.Common.{◌≡◌, ℕ, ◌+◌, ◌-◌, ◌<◌, eqb, length, get_or, arith, sym, ap, ◌∙◌, subst, inl, inr}
-use Rattle.std.specs.Prelude.{◌≢◌}
-use Rattle.std.specs.List.{AllPairs, IsDistinct}
-use Rattle.std.specs.List.Sorted.{IsStrictlyIncreasing}
-use Rattle.std.proofs.lemmas.Bool.{cases_eq, cases_lt, eq-eqb, ne_eqb}
-use Rattle.std.proofs.lemmas.Bool.Decides.{Decides-eqb}
-use Rattle.std.proofs.lemmas.List.{get_or_default}
-use Rattle.std.proofs.lemmas.List.Kept.{AllPairs-from_increasing}
-use Rattle.std.proofs.lemmas.List.Sorted.{IsPermutation-sym}
-use Rattle.std.proofs.lemmas.Map.Keys.{IsDistinct-IsPermutation}
-use Rattle.std.proofs.lemmas.Map.Made.{AllPairs-from_IsDistinct, IsDistinct-from_AllPairs}
+use Rattle.report_judge.proofs.Words.{◌≡◌, ℕ, ◌+◌, ◌-◌, ◌<◌, eqb, length, get_or, arith, sym, ap, ◌∙◌, subst, inl, inr, ◌≢◌, AllPairs, IsDistinct}
+use Rattle.report_judge.proofs.Words.{IsStrictlyIncreasing, cases_eq, cases_lt, eq-eqb, ne_eqb, Decides-eqb, get_or_default, AllPairs-from_increasing}
+use Rattle.report_judge.proofs.Words.{IsPermutation-sym, IsDistinct-IsPermutation, AllPairs-from_IsDistinct, IsDistinct-from_AllPairs}
 use Rattle.report_judge.proofs.repeats.are_different.Goals as goal
 
 pub loop-place-preserved : goal.loop-place-preserved

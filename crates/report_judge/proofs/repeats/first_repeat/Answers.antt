@@ -1,8 +1,5 @@
-use Rattle.std.proofs.Common.{◌≡◌, ℕ, Bool, true, false, cond, not, eqb, ltb, get_or, arith, refl, sym, ap, ◌∙◌, inl, inr, below_more}
-use Rattle.std.specs.Prelude.{◌||◌}
-use Rattle.std.specs.Ordering.{nat_cmp, is_eq}
-use Rattle.std.proofs.lemmas.Bool.{cases_order, eq-eqb, ne_eqb, lt-ltb, le-ltb}
-use Rattle.std.proofs.lemmas.List.Folds.{list_any_more}
+use Rattle.report_judge.proofs.Words.{◌≡◌, ℕ, Bool, true, false, cond, not, eqb, ltb, get_or, arith, refl, sym, ap, ◌∙◌, inl, inr, below_more, ◌||◌, nat_cmp}
+use Rattle.report_judge.proofs.Words.{is_eq, cases_order, eq-eqb, ne_eqb, lt-ltb, le-ltb, list_any_more}
 use Rattle.report_judge.proofs.Laws.FirstBreakLaws.{IsNewKey-none, IsNewKey-some}
 use Rattle.report_judge.proofs.repeats.first_repeat.Goals as goal
 

@@ -1,8 +1,4 @@
-use Rattle.std.proofs.Common.{◌≡◌, ℕ, ◌<◌, eqb, take}
-use Rattle.std.specs.BTreeSet.{contains}
-use Rattle.std.specs.List.{list_any}
-use Rattle.std.specs.Ordering.{nat_cmp}
-use Rattle.report_judge.specs.Laws.FirstBreaks.{IsNewKey}
+use Rattle.report_judge.proofs.Words.{◌≡◌, ℕ, ◌<◌, eqb, take, contains, list_any, nat_cmp, IsNewKey}
 use Rattle.report_judge.proofs.repeats.first_repeat.Given as goal
 
 -- the numbers so far are new, and the set has them and no others

@@ -1,5 +1,4 @@
-use Rattle.std.proofs.Common.{◌≡◌, ◌≢◌, rules}
-use Rattle.report_judge.specs.Texts.ReportCuts.{report_line}
+use Rattle.report_judge.proofs.Words.{◌≡◌, ◌≢◌, rules, report_line}
 use Rattle.report_judge.proofs.Texts.ReportCuts.{IsCutAtReport-end, IsCutAtReport-line, IsWalked-more}
 use Rattle.report_judge.proofs.report_cuts.cut_at_report.Goals as goal
 

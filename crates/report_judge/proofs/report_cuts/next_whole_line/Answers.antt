@@ -1,6 +1,5 @@
-use Rattle.std.proofs.Common.{◌≡◌, ℕ, ◌+◌, ◌-◌, ◌<◌, true, List, ◌∷◌, ◌++◌, take, drop, get_or, length, length-drop, arith, sym, ap, subst, ◌∙◌}
-use Rattle.std.proofs.lemmas.List.{take_all}
-use Rattle.report_judge.specs.Texts.ReportCuts.{has_no_feed}
+use Rattle.report_judge.proofs.Words.{◌≡◌, ℕ, ◌+◌, ◌-◌, ◌<◌, true, List, ◌∷◌, ◌++◌, take, drop, get_or, length, length-drop, arith, sym, ap, subst, ◌∙◌}
+use Rattle.report_judge.proofs.Words.{take_all, has_no_feed}
 use Rattle.report_judge.proofs.Texts.FieldWords.{text_at}
 use Rattle.report_judge.proofs.Texts.ReportCuts.{feed_after, no_feed_before}
 use Rattle.report_judge.proofs.report_cuts.next_whole_line.Goals as goal

@@ -1,8 +1,4 @@
-use Rattle.std.proofs.Common.{◌+◌, length, refl, sym, subst}
-use Rattle.std.specs.Prelude.{slice_get}
-use Rattle.std.proofs.lemmas.Option.{slice_get_read}
-use Rattle.settle_report.specs.OutcomeCounts.{AreCounts}
-use Rattle.settle_report.proofs.CountedMarks.{AreCounts-next}
+use Rattle.report_judge.proofs.Words.{◌+◌, length, refl, sym, subst, slice_get, slice_get_read, AreCounts, AreCounts-next}
 use Rattle.report_judge.proofs.tallies.counts_of.Goals as goal
 
 pub loop-entry-preserved : goal.loop-entry-preserved

@@ -1,5 +1,4 @@
-use Rattle.std.specs.Prelude.{slice_get}
-use Rattle.settle_report.specs.OutcomeCounts.{AreCounts}
+use Rattle.report_judge.proofs.Words.{slice_get, AreCounts}
 use Rattle.report_judge.proofs.tallies.counts_of.Given as goal
 
 -- the counts of the marks so far

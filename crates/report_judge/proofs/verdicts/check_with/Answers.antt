@@ -1,7 +1,4 @@
-use Rattle.std.proofs.Common.{ℕ, arith, sym, subst}
-use Rattle.std.specs.Prelude.{IfErr}
-use Rattle.plan_model.proofs.MarkBounds.{length-marks}
-use Rattle.report_judge.proofs.Words.{IsVerdict, BreaksFormFirst, Extent}
+use Rattle.report_judge.proofs.Words.{ℕ, arith, sym, subst, IfErr, length-marks, IsVerdict, BreaksFormFirst, Extent}
 use Rattle.report_judge.proofs.Laws.SheetVerdicts.{broken_form, form_low}
 use Rattle.report_judge.proofs.verdicts.check_with.Goals as goal
 

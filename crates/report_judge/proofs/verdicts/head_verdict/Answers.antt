@@ -1,7 +1,6 @@
-use Rattle.std.proofs.Common.{◌≡◌, suc, ◌+◌, ◌-◌, ◌≤◌, [], List, Option, length, arith, refl, sym, ap, ◌∙◌, subst}
-use Rattle.grown_runs.proofs.Common.{MOST_NODES, Goal, Task, Knot, best_node, state_of_lists}
-use Rattle.report_judge.proofs.Words.{Broken, IsVerdict, bytes_of, IsSettledList, extent_of, best_priced_path, path_by, tally_of, HasForm, head_lines, Sheet}
-use Rattle.report_judge.proofs.Words.{state_of_sheet, priced_path, sheet_read}
+use Rattle.report_judge.proofs.Words.{◌≡◌, suc, ◌+◌, ◌-◌, ◌≤◌, [], List, Option, length, arith, refl, sym, ap, ◌∙◌, subst, MOST_NODES, Goal, Task, Knot}
+use Rattle.report_judge.proofs.Words.{best_node, state_of_lists, Broken, IsVerdict, bytes_of, IsSettledList, extent_of, best_priced_path, path_by, tally_of}
+use Rattle.report_judge.proofs.Words.{HasForm, head_lines, Sheet, state_of_sheet, priced_path, sheet_read}
 use Rattle.report_judge.proofs.Laws.SheetFacts.{few_knots, few_records, settled_of_law}
 use Rattle.report_judge.proofs.Texts.SheetLines.{head_few}
 use Rattle.report_judge.proofs.Laws.SheetVerdicts.{best_path-listed, broken_head, lawful_sheet, tally-listed}

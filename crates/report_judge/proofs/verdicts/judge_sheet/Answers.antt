@@ -1,6 +1,5 @@
-use Rattle.std.proofs.Common.{subst}
+use Rattle.report_judge.proofs.Words.{subst, KeepsLaw, sheet_read}
 use Rattle.std.specs.Prelude.{IfNone}
-use Rattle.report_judge.proofs.Words.{KeepsLaw, sheet_read}
 use Rattle.report_judge.proofs.verdicts.judge_sheet.Goals as goal
 
 pub node_verdict-requires-clause-hall : goal.node_verdict-requires-clause-hall

@@ -1,7 +1,4 @@
-use Rattle.std.proofs.Common.{List, [], take, Option, arith, ◌∙◌, ap}
-use Rattle.std.specs.Prelude.{count_by, is_some}
-use Rattle.grown_runs.proofs.Common.{Knot, node_count-lists}
-use Rattle.report_judge.specs.Texts.SheetsRead.{sheet_read}
+use Rattle.report_judge.proofs.Words.{List, [], take, Option, arith, ◌∙◌, ap, count_by, is_some, Knot, node_count-lists, sheet_read}
 use Rattle.report_judge.proofs.Texts.SheetForms.{length-head_lines}
 use Rattle.report_judge.proofs.verdicts.node_line.Goals as goal
 

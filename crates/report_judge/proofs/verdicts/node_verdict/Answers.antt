@@ -1,7 +1,5 @@
-use Rattle.std.proofs.Common.{◌≡◌, ℕ, ◌<◌, ◌≤◌, List, Option, Some, None, length, arith, sym, ap, ◌∙◌, subst}
-use Rattle.std.specs.Prelude.{slice_index_or}
-use Rattle.grown_runs.proofs.Common.{MOST_NODES, Knot, setup_of}
-use Rattle.report_judge.proofs.Words.{Broken, FitsEdges, IsFirstBreak, KeepsNode, IsVerdict, bytes_of, extent_of, number_of_node_line, sheet_read}
+use Rattle.report_judge.proofs.Words.{◌≡◌, ℕ, ◌<◌, ◌≤◌, List, Option, Some, None, length, arith, sym, ap, ◌∙◌, subst, slice_index_or, MOST_NODES, Knot}
+use Rattle.report_judge.proofs.Words.{setup_of, Broken, FitsEdges, IsFirstBreak, KeepsNode, IsVerdict, bytes_of, extent_of, number_of_node_line, sheet_read}
 use Rattle.report_judge.proofs.Laws.SheetFacts.{few_knots, knots_fit}
 use Rattle.report_judge.proofs.Laws.SheetVerdicts.{broken_node, kept_nodes, node_by, node_low}
 use Rattle.report_judge.proofs.verdicts.node_verdict.Given.{Over}

@@ -1,5 +1,4 @@
-use Rattle.std.proofs.Common.{Some, None, arith, sym, subst}
-use Rattle.report_judge.proofs.Words.{IsVerdict, bytes_of, sheet_read}
+use Rattle.report_judge.proofs.Words.{Some, None, arith, sym, subst, IsVerdict, bytes_of, sheet_read}
 use Rattle.report_judge.proofs.Laws.BrokenLines.{KeepsLaw-presence}
 use Rattle.report_judge.proofs.Laws.SheetFacts.{few_knots}
 use Rattle.report_judge.proofs.Laws.SheetVerdicts.{broken_presence, mark_low, presence_by}

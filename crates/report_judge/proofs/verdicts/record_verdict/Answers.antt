@@ -1,8 +1,6 @@
-use Rattle.std.proofs.Common.{◌≡◌, ℕ, ◌≤◌, List, Option, Some, None, length, arith, sym, subst}
-use Rattle.std.specs.Prelude.{slice_get, slice_index_or}
-use Rattle.grown_runs.proofs.Common.{MOST_MARKS, Record, Knot, state_of_lists}
-use Rattle.report_judge.proofs.Words.{FitsEdges, HasFewTurns, IsFirstBreak, IsVerdict, bytes_of, HaveLowTurns, KeepsRecord, ArePresent, FitFirstCosts}
-use Rattle.report_judge.proofs.Words.{extent_of, HaveOwnTurns, sheet_read}
+use Rattle.report_judge.proofs.Words.{◌≡◌, ℕ, ◌≤◌, List, Option, Some, None, length, arith, sym, subst, slice_get, slice_index_or, MOST_MARKS, Record, Knot}
+use Rattle.report_judge.proofs.Words.{state_of_lists, FitsEdges, HasFewTurns, IsFirstBreak, IsVerdict, bytes_of, HaveLowTurns, KeepsRecord, ArePresent}
+use Rattle.report_judge.proofs.Words.{FitFirstCosts, extent_of, HaveOwnTurns, sheet_read}
 use Rattle.report_judge.proofs.Laws.BrokenLines.{KeepsLaw-records}
 use Rattle.report_judge.proofs.Laws.SheetFacts.{few_knots, few_records, few_turns, first_costs, knots_fit, low_turns_of_law, own_turns_of_law, present_of_law}
 use Rattle.report_judge.proofs.Laws.SheetVerdicts.{broken_record, mark_low, record_by}

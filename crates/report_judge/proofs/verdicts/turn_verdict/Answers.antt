@@ -1,7 +1,5 @@
-use Rattle.std.proofs.Common.{◌≡◌, ℕ, ◌≤◌, List, Option, Some, None, length, arith, sym, subst}
-use Rattle.std.specs.Prelude.{slice_get}
-use Rattle.grown_runs.proofs.Common.{MOST_MARKS, Record}
-use Rattle.report_judge.proofs.Words.{HasFewTurns, IsFirstBreak, KeepsTurn, IsVerdict, bytes_of, extent_of, sheet_read}
+use Rattle.report_judge.proofs.Words.{◌≡◌, ℕ, ◌≤◌, List, Option, Some, None, length, arith, sym, subst, slice_get, MOST_MARKS, Record, HasFewTurns}
+use Rattle.report_judge.proofs.Words.{IsFirstBreak, KeepsTurn, IsVerdict, bytes_of, extent_of, sheet_read}
 use Rattle.report_judge.proofs.Laws.SheetFacts.{few_knots, few_records, few_turns}
 use Rattle.report_judge.proofs.Laws.SheetVerdicts.{broken_turn, kept_turns, mark_low, turn_by}
 use Rattle.report_judge.proofs.verdicts.turn_verdict.Goals as goal

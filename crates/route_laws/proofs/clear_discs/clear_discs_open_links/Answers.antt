@@ -1,5 +1,4 @@
-use Rattle.route_laws.specs.Discs.{HasClearDisc}
-use Rattle.route_laws.specs.Routes.{IsOpenLink}
+use Rattle.route_laws.proofs.Words.{HasClearDisc, IsOpenLink}
 use Rattle.route_laws.proofs.FollowedDiscs.{IsOpenLink-clear_disc, IsRoute-weaker}
 use Rattle.route_laws.proofs.clear_discs.clear_discs_open_links.Goals as goal
 

@@ -1,8 +1,5 @@
-use Rattle.std.proofs.Common.{List, ◌≡◌, ◌≢◌, ◌+◌, [], ◌∷◌, ◌++◌, length, subst, sym, ◌∙◌, rules, arith}
-use Rattle.std.proofs.lemmas.Bool.Decides.{nat_tests}
-use Rattle.std.proofs.lemmas.Result.{err_from_is_err_and}
-use Rattle.plan_model.specs.declared.limits.TheConstants.{MOST_SCENES}
-use Rattle.plan_model.specs.declared.scenes.Scene.{Scene}
+use Rattle.scene_text.proofs.Words.{List, ◌≡◌, ◌≢◌, ◌+◌, [], ◌∷◌, ◌++◌, length, subst, sym, ◌∙◌, rules, arith, nat_tests, err_from_is_err_and, MOST_SCENES}
+use Rattle.scene_text.proofs.Words.{Scene}
 use Rattle.scene_text.proofs.BatchLemmas.{HasRead, HasRead-more, IsBatchRefusal-many, ReadsParts-more, ReadsParts-refused, SpellsBatch-read}
 use Rattle.scene_text.proofs.batch_reader.read_batch.Goals as goal
 

@@ -1,8 +1,5 @@
-use Rattle.std.proofs.Common.{ℕ, ◌≡◌, ◌+◌, IfErr, IfOk, subst, sym, ap, ◌∙◌, rules, arith}
-use Rattle.std.proofs.lemmas.Result.{err_from_is_err_and}
-use Rattle.plan_model.specs.Texts.SceneGrammar.{Spells, supported}
-use Rattle.scene_text.specs.Batches.{IsPartRefusal}
-use Rattle.scene_text.specs.Refusals.{refusal_at}
+use Rattle.scene_text.proofs.Words.{ℕ, ◌≡◌, ◌+◌, IfErr, IfOk, subst, sym, ap, ◌∙◌, rules, arith, err_from_is_err_and, Spells, supported, IsPartRefusal}
+use Rattle.scene_text.proofs.Words.{refusal_at}
 use Rattle.scene_text.proofs.MappedErrors.{IfErr-map_err, IfOk-map_err, IfOk-two, OnOk-before_map_err}
 use Rattle.scene_text.proofs.PartLemmas.{IsPartRefusal-at, ReadsPart-more, ReadsPart-none, ReadsPart-refused, all_lines, head_text, reads_all}
 use Rattle.scene_text.proofs.ReaderLemmas.{IsSoundDraft-read, Reads-all, Reads-missing, Reads-none}

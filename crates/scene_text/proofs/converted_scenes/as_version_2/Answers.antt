@@ -1,7 +1,5 @@
-use Rattle.std.proofs.Common.{arith}
-use Rattle.plan_model.proofs.WiderRanges.{IsBetween-wider, are_goals-wider, are_obstacles-wider, clearance-wider, is_plan-wider, may_be_informed-wider}
-use Rattle.plan_model.proofs.WiderRanges.{step-wider}
-use Rattle.plan_model.specs.declared.limits.TheConstants.{LEAST_SIDE}
+use Rattle.scene_text.proofs.Words.{arith, IsBetween-wider, are_goals-wider, are_obstacles-wider, clearance-wider, is_plan-wider, may_be_informed-wider}
+use Rattle.scene_text.proofs.Words.{step-wider, LEAST_SIDE}
 use Rattle.scene_text.proofs.converted_scenes.as_version_2.Goals as goal
 
 pub invariant_of-scene-clause-room_within : goal.invariant_of-scene-clause-room_within

@@ -1,5 +1,4 @@
-use Rattle.std.proofs.Common.{ap, ◌∙◌}
-use Rattle.plan_model.specs.declared.scenes.Marks.TheVariants.{Listed}
+use Rattle.scene_text.proofs.Words.{ap, ◌∙◌, Listed}
 use Rattle.scene_text.proofs.DraftScenes.{points-given}
 use Rattle.scene_text.proofs.drafts.plan_of.Goals as goal
 

@@ -1,7 +1,6 @@
-use Rattle.std.proofs.Common.{◌≡◌, ◌≤◌, ◌-◌, ◌+◌, ◌++◌, IsTrue, length, length-append, take, ap, sym, subst, rules, ◌∙◌, arith, length-take}
-use Rattle.std.proofs.KnownBytes.{Consumes-trans}
-use Rattle.plan_model.specs.Texts.Streams.{counted_up}
-use Rattle.plan_model.specs.declared.limits.TheConstants.{MOST_TEXT_BYTES}
+use Rattle.scene_text.proofs.Words.{◌≡◌, ◌≤◌, ◌-◌, ◌+◌, ◌++◌, IsTrue, length, take, ap, sym, subst, rules, ◌∙◌, arith, length-take, Consumes-trans, counted_up}
+use Rattle.scene_text.proofs.Words.{MOST_TEXT_BYTES}
+use Rattle.std.proofs.Common.{length-append}
 use Rattle.scene_text.proofs.FetchLemmas.{ReadsWithin-fetched, Fetches-failed, Fetches-whole, Fetches-too_long, Fetches-memory, IsErrOf-failed}
 use Rattle.scene_text.proofs.fetching.fetch.Goals as goal
 

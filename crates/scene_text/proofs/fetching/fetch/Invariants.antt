@@ -1,6 +1,4 @@
-use Rattle.std.proofs.Common.{◌≡◌, ◌-◌, ◌≤◌, false, IsTrue, vec_len}
-use Rattle.std.specs.Io.KnownBytes.{Consumes}
-use Rattle.plan_model.specs.declared.limits.TheConstants.{MOST_TEXT_BYTES}
+use Rattle.scene_text.proofs.Words.{◌≡◌, ◌-◌, ◌≤◌, false, IsTrue, vec_len, Consumes, MOST_TEXT_BYTES}
 use Rattle.scene_text.proofs.fetching.fetch.Given as goal
 
 -- the text is what came so far, no end was given, and no read has failed

@@ -1,8 +1,4 @@
-use Rattle.std.proofs.Common.{◌≡◌, map, ◌∙◌, sym, false, true, rules, arith}
-use Rattle.std.proofs.lemmas.Int.{ints}
-use Rattle.plan_model.specs.Texts.TextLines.{words_of}
-use Rattle.plan_model.specs.Texts.TextNumbers.{value_of}
-use Rattle.plan_model.specs.declared.limits.TheConstants.{LEAST_BODY_COORDINATE, MOST_BODY_COORDINATE}
+use Rattle.scene_text.proofs.Words.{◌≡◌, map, ◌∙◌, sym, false, true, rules, arith, ints, words_of, value_of, LEAST_BODY_COORDINATE, MOST_BODY_COORDINATE}
 use Rattle.scene_text.proofs.PolygonLemmas.{bounded-given, has_corners-body, checks-pass, checks-corners}
 use Rattle.scene_text.proofs.field_words.read_body.Goals as goal
 

@@ -1,6 +1,4 @@
-use Rattle.std.proofs.Common.{length}
-use Rattle.plan_model.specs.Texts.Keys.{least_of, most_of}
-use Rattle.plan_model.specs.Texts.TextLines.{words_of}
+use Rattle.scene_text.proofs.Words.{length, least_of, most_of, words_of}
 use Rattle.scene_text.proofs.PolygonLemmas.{ReadsCorners}
 use Rattle.scene_text.proofs.field_words.read_corners.Given as goal
 

@@ -1,10 +1,5 @@
-use Rattle.std.proofs.Common.{◌≡◌, ◌≤ℤ◌, map, ◌∙◌, sym, false, true, rules, arith}
-use Rattle.std.proofs.lemmas.Int.{ints}
-use Rattle.plan_model.specs.Texts.TextLines.{words_of}
-use Rattle.plan_model.specs.Texts.TextNumbers.{value_of}
-use Rattle.plan_model.specs.declared.limits.TheConstants.{LEAST_CORNER_COORDINATE, MOST_CORNER_COORDINATE}
-use Rattle.plan_model.specs.Scenes.Limits.{least_obstacle_coordinate, most_obstacle_coordinate}
-use Rattle.plan_model.proofs.SceneBounds.{least_obstacle-counted, most_obstacle-counted}
+use Rattle.scene_text.proofs.Words.{◌≡◌, ◌≤ℤ◌, map, ◌∙◌, sym, false, true, rules, arith, ints, words_of, value_of, LEAST_CORNER_COORDINATE}
+use Rattle.scene_text.proofs.Words.{MOST_CORNER_COORDINATE, least_obstacle_coordinate, most_obstacle_coordinate, least_obstacle-counted, most_obstacle-counted}
 use Rattle.scene_text.proofs.PolygonLemmas.{bounded-given, has_corners-obstacle, checks-pass, checks-corners}
 use Rattle.scene_text.proofs.field_words.read_obstacle.Goals as goal
 

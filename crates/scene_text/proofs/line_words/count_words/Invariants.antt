@@ -1,7 +1,4 @@
-use Rattle.std.proofs.Common.{◌≡◌, ◌+◌, ◌≤◌, ◌&&◌, length}
-use Rattle.std.specs.List.{list_all}
-use Rattle.plan_model.specs.Texts.TextLines.{words_of}
-use Rattle.plan_model.specs.Texts.TextNumbers.{is_number}
+use Rattle.scene_text.proofs.Words.{◌≡◌, ◌+◌, ◌≤◌, ◌&&◌, length, list_all, words_of, is_number}
 use Rattle.scene_text.proofs.line_words.count_words.Given as goal
 
 -- the words that were counted, and those of the rest, are those of the line, and so for whether each is a number

@@ -1,6 +1,4 @@
-use Rattle.std.proofs.Common.{List, ℕ, ◌≡◌, ◌+◌, IfErr, subst, sym, rules}
-use Rattle.std.proofs.lemmas.Result.{err_from_is_err_and}
-use Rattle.scene_text.specs.Refusals.{refusal_at, IsSceneRefusal}
+use Rattle.scene_text.proofs.Words.{List, ℕ, ◌≡◌, ◌+◌, IfErr, subst, sym, rules, err_from_is_err_and, refusal_at, IsSceneRefusal}
 use Rattle.scene_text.proofs.MappedErrors.{IfErr-map_err, IfOk-map_err, IfOk-two, OnOk-before_map_err}
 use Rattle.scene_text.proofs.ReaderLemmas.{Reads, Reads-none, Reads-more, Reads-refused, Reads-missing, Reads-all, IsSoundDraft-read}
 use Rattle.scene_text.proofs.scene_reader.read_scene.Goals as goal

@@ -1,7 +1,4 @@
-use Rattle.std.proofs.Common.{◌≡◌, ◌∷◌, ◌++◌, take, string_bytes}
-use Rattle.std.specs.Fmt.{signed_decimal}
-use Rattle.std.specs.List.{flat_map}
-use Rattle.plan_model.specs.Texts.CanonicalText.{corner_numbers}
+use Rattle.scene_text.proofs.Words.{◌≡◌, ◌∷◌, ◌++◌, take, string_bytes, signed_decimal, flat_map, corner_numbers}
 use Rattle.scene_text.proofs.scene_writer.push_corners.Given as goal
 
 abbrev pub invariant-loop-corner : goal.invariant-loop-corner

@@ -1,10 +1,6 @@
-use Rattle.std.proofs.Common.{[], ◌∷◌, ◌++◌, map, string_bytes, ap, ◌∙◌}
-use Rattle.std.specs.List.{flat_map}
+use Rattle.scene_text.proofs.Words.{[], ◌∷◌, ◌++◌, map, string_bytes, ap, ◌∙◌, flat_map, line, point_numbers, corner_numbers, statement, version_statement}
+use Rattle.scene_text.proofs.Words.{obstacle_statement, clearance_statements, task_statements, plan_statements, supported, whole_format}
 use Rattle.plan_model.specs.declared.text_terms.Key.TheVariants as keys
-use Rattle.plan_model.specs.Reports.ReportText.{line}
-use Rattle.plan_model.specs.Texts.CanonicalText.{point_numbers, corner_numbers, statement, version_statement, obstacle_statement, clearance_statements}
-use Rattle.plan_model.specs.Texts.CanonicalText.{task_statements, plan_statements}
-use Rattle.plan_model.specs.Texts.SceneGrammar.{supported, whole_format}
 use Rattle.scene_text.proofs.CoveredScenes.{Covers-supported, Covers-whole}
 use Rattle.scene_text.proofs.TextLemmas.{lines-written}
 use Rattle.scene_text.proofs.CanonicalFields.{Spells-canonical}

@@ -1,6 +1,4 @@
-use Rattle.std.proofs.Common.{refl}
-use Rattle.plan_model.specs.Texts.CanonicalText.{canonical_text}
-use Rattle.plan_model.specs.Texts.SceneGrammar.{supported}
+use Rattle.scene_text.proofs.Words.{refl, canonical_text, supported}
 use Rattle.scene_text.proofs.CoveredScenes.{Covers-supported}
 use Rattle.scene_text.proofs.CanonicalFields.{Spells-canonical}
 use Rattle.scene_text.proofs.text_laws.read_scenes_are_read_again.Goals as goal

@@ -1,8 +1,4 @@
-use Rattle.std.proofs.Common.{refl}
-use Rattle.plan_model.specs.Texts.CanonicalText.{canonical_text}
-use Rattle.plan_model.specs.Texts.SceneGrammar.{whole_format}
-use Rattle.plan_model.proofs.SameScenes.{Spells-one_scene}
-use Rattle.plan_model.proofs.Soundness.{Spells-not_refused}
+use Rattle.scene_text.proofs.Words.{refl, canonical_text, whole_format, Spells-one_scene, Spells-not_refused}
 use Rattle.scene_text.proofs.CoveredScenes.{Covers-whole}
 use Rattle.scene_text.proofs.CanonicalFields.{Spells-canonical}
 use Rattle.scene_text.proofs.CanonicalLengths.{length-canonical}

@@ -1,7 +1,4 @@
-use Rattle.std.proofs.Common.{ℕ, ◌-◌, [], ◌∷◌, ◌++◌, get_or, set, arith, ap, ◌∙◌}
-use Rattle.std.proofs.lemmas.List.{length-set}
-use Rattle.std.proofs.lemmas.Grind.{get_or_default_zero}
-use Rattle.grown_runs.specs.ChildChains.{times}
+use Rattle.seq_planner.proofs.Words.{ℕ, ◌-◌, [], ◌∷◌, ◌++◌, get_or, set, arith, ap, ◌∙◌, length-set, get_or_default_zero, times}
 use Rattle.seq_planner.proofs.LoweredBranches.{IsUnderway-start, IsBranchLowered-end}
 use Rattle.seq_planner.proofs.LoweringTurns.{IsUnderway-turn}
 use Rattle.seq_planner.proofs.PendingNodes.{times-last, times-none, IsNext-last, IsTurn-lists, sum-lowered}

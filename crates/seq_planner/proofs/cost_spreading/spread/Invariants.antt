@@ -1,7 +1,5 @@
-use Rattle.std.proofs.Common.{◌≡◌, length, slice_index}
-use Rattle.std.specs.List.{sum}
+use Rattle.seq_planner.proofs.Words.{◌≡◌, length, slice_index, sum, times}
 use Rattle.seq_planner.proofs.LoweredBranches.{IsUnderway}
-use Rattle.grown_runs.specs.ChildChains.{times}
 use Rattle.seq_planner.proofs.cost_spreading.spread.Given as goal
 
 -- the nodes of the list are to be lowered next

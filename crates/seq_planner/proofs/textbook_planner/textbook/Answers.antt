@@ -1,7 +1,5 @@
-use Rattle.std.proofs.Common.{◌≡◌, ap, arith, length, subst}
-use Rattle.std.proofs.lemmas.List.{length-take, get_or_default}
-use Rattle.grown_runs.proofs.Common.{Point, skipping_goals, points_of, length-marks, All-task_marks_within}
-use Rattle.seq_planner.specs.GoalLists.{AreGoalNodesBelow}
+use Rattle.seq_planner.proofs.Words.{◌≡◌, ap, arith, length, subst, length-take, get_or_default, Point, skipping_goals, points_of, length-marks}
+use Rattle.seq_planner.proofs.Words.{All-task_marks_within, AreGoalNodesBelow}
 use Rattle.seq_planner.proofs.GoalNodeLists.{AreGoalNodesBelow-grown}
 use Rattle.seq_planner.proofs.RunsSoFar.{IsRunSoFar-more}
 use Rattle.seq_planner.proofs.textbook_planner.textbook.Goals as goal

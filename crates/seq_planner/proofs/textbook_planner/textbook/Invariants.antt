@@ -1,6 +1,4 @@
-use Rattle.std.proofs.Common.{length, take}
-use Rattle.grown_runs.proofs.Common.{skipping_goals, points_of}
-use Rattle.seq_planner.specs.GoalLists.{AreGoalNodesBelow}
+use Rattle.seq_planner.proofs.Words.{length, take, skipping_goals, points_of, AreGoalNodesBelow}
 use Rattle.seq_planner.proofs.RunsSoFar.{IsRunSoFar}
 use Rattle.seq_planner.proofs.textbook_planner.textbook.Given as goal
 

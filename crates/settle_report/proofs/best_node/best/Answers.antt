@@ -1,5 +1,4 @@
-use Rattle.std.proofs.Common.{◌≡◌, ℕ, ◌+◌, ◌-◌, Some, arith, sym, ap, ◌∙◌}
-use Rattle.grown_runs.proofs.Common.{goals_of, lesser, sum_in, length-marks, state_of_grown}
+use Rattle.settle_report.proofs.Words.{◌≡◌, ℕ, ◌+◌, ◌-◌, Some, arith, sym, ap, ◌∙◌, goals_of, lesser, sum_in, length-marks, state_of_grown}
 use Rattle.settle_report.proofs.GoalNodes.{best_of, best_of-goal_node, best_of-other, best_of-all}
 use Rattle.settle_report.proofs.best_node.best.Goals as goal
 

@@ -1,6 +1,4 @@
-use Rattle.std.proofs.Common.{◌≡◌, ◌+◌, ◌-◌}
-use Rattle.std.specs.Prelude.{IfSome}
-use Rattle.grown_runs.proofs.Common.{goals_of, IsPresent, state_of_grown}
+use Rattle.settle_report.proofs.Words.{◌≡◌, ◌+◌, ◌-◌, IfSome, goals_of, IsPresent, state_of_grown}
 use Rattle.settle_report.proofs.GoalNodes.{best_of}
 use Rattle.settle_report.proofs.best_node.best.Given as goal
 

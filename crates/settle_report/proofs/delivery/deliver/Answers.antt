@@ -1,7 +1,4 @@
-use Rattle.std.proofs.Common.{◌≡◌, ◌+◌, ◌-◌, ◌++◌, ◌≤◌, length, take, drop, sym, ap, ◌∙◌, arith}
-use Rattle.std.proofs.Math.Seq.{take-add}
-use Rattle.std.proofs.lemmas.List.{take_rest, length-drop}
-use Rattle.std.proofs.KnownBytes.{Appends-trans}
+use Rattle.settle_report.proofs.Words.{◌≡◌, ◌+◌, ◌-◌, ◌++◌, ◌≤◌, length, take, drop, sym, ap, ◌∙◌, arith, take-add, take_rest, length-drop, Appends-trans}
 use Rattle.settle_report.proofs.delivery.deliver.Goals as goal
 
 pub loop-written-preserved : goal.loop-written-preserved

@@ -1,5 +1,4 @@
-use Rattle.std.proofs.Common.{◌≡◌, ◌≤◌, ◌-◌, IsTrue, length, take}
-use Rattle.std.specs.Io.KnownBytes.{Appends}
+use Rattle.settle_report.proofs.Words.{◌≡◌, ◌≤◌, ◌-◌, IsTrue, length, take, Appends}
 use Rattle.settle_report.proofs.delivery.deliver.Given as goal
 
 abbrev pub invariant-loop-written : goal.invariant-loop-written

@@ -1,5 +1,4 @@
-use Rattle.std.proofs.Common.{◌++◌, string_bytes, sym, ap, ◌∙◌}
-use Rattle.grown_runs.proofs.Common.{mark_line_if_recorded, state_of_grown}
+use Rattle.settle_report.proofs.Words.{◌++◌, string_bytes, sym, ap, ◌∙◌, mark_line_if_recorded, state_of_grown}
 use Rattle.settle_report.proofs.NumberedLines.{lines-pushed}
 use Rattle.settle_report.proofs.mark_lines.push_mark_lines.Goals as goal
 

@@ -1,5 +1,4 @@
-use Rattle.std.proofs.Common.{◌≡◌, ◌++◌, string_bytes}
-use Rattle.grown_runs.proofs.Common.{mark_lines, state_of_grown}
+use Rattle.settle_report.proofs.Words.{◌≡◌, ◌++◌, string_bytes, mark_lines, state_of_grown}
 use Rattle.settle_report.proofs.mark_lines.push_mark_lines.Given as goal
 
 -- the lines of the marks so far

@@ -1,6 +1,5 @@
-use Rattle.std.proofs.Common.{◌≡◌, suc, ◌++◌, string_bytes, arith, ap, ◌∙◌}
-use Rattle.std.specs.List.{range_with_len, flat_map}
-use Rattle.grown_runs.proofs.Common.{point_at, node_line_if_present, length-marks, state_of_grown}
+use Rattle.settle_report.proofs.Words.{◌≡◌, suc, ◌++◌, string_bytes, arith, ap, ◌∙◌, range_with_len, flat_map, point_at, node_line_if_present, length-marks}
+use Rattle.settle_report.proofs.Words.{state_of_grown}
 use Rattle.settle_report.proofs.NumberedLines.{lines-pushed}
 use Rattle.settle_report.proofs.node_lines.push_node_lines.Goals as goal
 

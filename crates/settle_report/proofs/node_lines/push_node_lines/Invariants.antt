@@ -1,6 +1,4 @@
-use Rattle.std.proofs.Common.{◌≡◌, ◌++◌, string_bytes}
-use Rattle.std.specs.List.{range_with_len, flat_map}
-use Rattle.grown_runs.proofs.Common.{point_at, node_line_if_present, state_of_grown}
+use Rattle.settle_report.proofs.Words.{◌≡◌, ◌++◌, string_bytes, range_with_len, flat_map, point_at, node_line_if_present, state_of_grown}
 use Rattle.settle_report.proofs.node_lines.push_node_lines.Given as goal
 
 -- the lines of the numbers so far

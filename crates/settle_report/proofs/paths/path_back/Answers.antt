@@ -1,5 +1,4 @@
-use Rattle.std.proofs.Common.{◌++◌, arith, sym, ap, ◌∙◌, append_assoc}
-use Rattle.grown_runs.proofs.Common.{StandsAt, state_of_grown}
+use Rattle.settle_report.proofs.Words.{◌++◌, arith, sym, ap, ◌∙◌, append_assoc, StandsAt, state_of_grown}
 use Rattle.settle_report.proofs.GrownPaths.{FallAlong-grown, steps_up, points_up-start}
 use Rattle.settle_report.proofs.paths.path_back.Goals as goal
 

@@ -1,5 +1,4 @@
-use Rattle.std.proofs.Common.{◌≡◌, ◌++◌}
-use Rattle.grown_runs.proofs.Common.{IsPresent, state_of_grown}
+use Rattle.settle_report.proofs.Words.{◌≡◌, ◌++◌, IsPresent, state_of_grown}
 use Rattle.settle_report.proofs.GrownPaths.{points_up}
 use Rattle.settle_report.proofs.paths.path_back.Given as goal
 

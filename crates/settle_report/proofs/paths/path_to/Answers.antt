@@ -1,5 +1,4 @@
-use Rattle.std.proofs.Common.{reverse, sym, ap, ◌∙◌}
-use Rattle.grown_runs.specs.Runs.GrownRuns.{state_of_grown}
+use Rattle.settle_report.proofs.Words.{reverse, sym, ap, ◌∙◌, state_of_grown}
 use Rattle.settle_report.proofs.GrownPaths.{path_to-reverse}
 use Rattle.settle_report.proofs.paths.path_to.Goals as goal
 

@@ -1,6 +1,4 @@
-use Rattle.std.proofs.Common.{◌+◌, sym, subst}
-use Rattle.grown_runs.specs.Runs.GrownRuns.{state_of_grown}
-use Rattle.settle_report.specs.OutcomeCounts.{AreCounts}
+use Rattle.settle_report.proofs.Words.{◌+◌, sym, subst, state_of_grown, AreCounts}
 use Rattle.settle_report.proofs.CountedMarks.{AreCounts-next}
 use Rattle.settle_report.proofs.reports.counts_of.Goals as goal
 

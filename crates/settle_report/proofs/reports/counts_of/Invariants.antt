@@ -1,5 +1,4 @@
-use Rattle.grown_runs.specs.Runs.GrownRuns.{state_of_grown}
-use Rattle.settle_report.specs.OutcomeCounts.{AreCounts}
+use Rattle.settle_report.proofs.Words.{state_of_grown, AreCounts}
 use Rattle.settle_report.proofs.reports.counts_of.Given as goal
 
 -- the counts of the marks so far

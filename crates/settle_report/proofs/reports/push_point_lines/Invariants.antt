@@ -1,5 +1,4 @@
-use Rattle.std.proofs.Common.{◌≡◌, ◌++◌, take, string_bytes}
-use Rattle.plan_model.specs.Reports.ReportText.{point_lines}
+use Rattle.settle_report.proofs.Words.{◌≡◌, ◌++◌, take, string_bytes, point_lines}
 use Rattle.settle_report.proofs.reports.push_point_lines.Given as goal
 
 abbrev pub invariant-loop-point : goal.invariant-loop-point

@@ -1,6 +1,4 @@
-use Rattle.std.proofs.Common.{◌<◌, length, arith, sym}
-use Rattle.grown_runs.specs.Runs.GrownRuns.{state_of_grown}
-use Rattle.settle_report.specs.SettledMarks.{IsChildOf}
+use Rattle.settle_report.proofs.Words.{◌<◌, length, arith, sym, state_of_grown, IsChildOf}
 use Rattle.settle_report.proofs.GrownPaths.{FallAlong-grown}
 use Rattle.settle_report.proofs.HeldOrders.{number-grown, parent-grown}
 use Rattle.settle_report.proofs.WaysDown.{LeadsDown-up, child_costs_more}

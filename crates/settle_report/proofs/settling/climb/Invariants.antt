@@ -1,6 +1,4 @@
-use Rattle.std.proofs.Common.{◌≡◌, ◌<◌}
-use Rattle.grown_runs.proofs.Common.{IsPresent, state_of_grown}
-use Rattle.settle_report.specs.SettledMarks.{LeadsDown}
+use Rattle.settle_report.proofs.Words.{◌≡◌, ◌<◌, IsPresent, state_of_grown, LeadsDown}
 use Rattle.settle_report.proofs.settling.climb.Given as goal
 
 -- from the node that was climbed to, the list leads back

@@ -1,7 +1,4 @@
-use Rattle.std.proofs.Common.{rules, arith, inl, inr, subst, sym}
-use Rattle.std.proofs.lemmas.Bool.{cases_eq}
-use Rattle.grown_runs.specs.Runs.GrownRuns.{state_of_grown}
-use Rattle.settle_report.specs.TightNodes.{IsTight}
+use Rattle.settle_report.proofs.Words.{rules, arith, inl, inr, subst, sym, cases_eq, state_of_grown, IsTight}
 use Rattle.settle_report.proofs.TightNodes.{IsSettled-tight, IsTight-settled}
 use Rattle.settle_report.proofs.settling.is_settled.Goals as goal
 

@@ -1,6 +1,4 @@
-use Rattle.std.proofs.Common.{ℕ, ◌<◌}
-use Rattle.grown_runs.specs.Runs.GrownRuns.{state_of_grown}
-use Rattle.settle_report.specs.TightNodes.{IsTight}
+use Rattle.settle_report.proofs.Words.{ℕ, ◌<◌, state_of_grown, IsTight}
 use Rattle.settle_report.proofs.settling.is_settled.Given as goal
 
 -- The nodes so far are tight.

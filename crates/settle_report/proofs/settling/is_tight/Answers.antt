@@ -1,5 +1,4 @@
-use Rattle.std.proofs.Common.{sym, ◌∙◌}
-use Rattle.grown_runs.proofs.Common.{words_of_grown, sizes_of, IsBounded-stands}
+use Rattle.settle_report.proofs.Words.{sym, ◌∙◌, words_of_grown, sizes_of, IsBounded-stands}
 use Rattle.settle_report.proofs.settling.is_tight.Goals as goal
 
 pub costs_less_through-requires-clause-from : goal.costs_less_through-requires-clause-from

@@ -1,6 +1,5 @@
-use Rattle.std.proofs.Common.{arith, ap, sym, ◌∙◌, subst}
-use Rattle.std.specs.Prelude.{is_some}
-use Rattle.grown_runs.proofs.Common.{cost_of, IsPresent, point_of, point_of-stands, state_of_grown, words_of_grown, sizes_of, IsBounded-stands}
+use Rattle.settle_report.proofs.Words.{arith, ap, sym, ◌∙◌, subst, is_some, cost_of, IsPresent, point_of, point_of-stands, state_of_grown, words_of_grown}
+use Rattle.settle_report.proofs.Words.{sizes_of, IsBounded-stands}
 use Rattle.settle_report.proofs.HeldOrders.{edge-held, parent-held}
 use Rattle.settle_report.proofs.settling.lower_to_parent.Goals as goal
 

@@ -1,6 +1,5 @@
-use Rattle.std.proofs.Common.{◌≡◌, suc, ◌+◌, true, false, replicate, set, arith, sym, ap, ◌∙◌, subst}
-use Rattle.grown_runs.proofs.Common.{IsPresent, setup_of, state_of_grown, words_of_grown}
-use Rattle.settle_report.specs.SettledMarks.{MarksSettled}
+use Rattle.settle_report.proofs.Words.{◌≡◌, suc, ◌+◌, true, false, replicate, set, arith, sym, ap, ◌∙◌, subst, IsPresent, setup_of, state_of_grown}
+use Rattle.settle_report.proofs.Words.{words_of_grown, MarksSettled}
 use Rattle.settle_report.proofs.HeldOrders.{sum-held}
 use Rattle.settle_report.proofs.SettlingSteps.{GrowsInto-cheaper, MarksSettled-start, sum_in-changed}
 use Rattle.settle_report.proofs.settling.settle.Goals as goal

@@ -1,7 +1,5 @@
-use Rattle.std.proofs.Common.{◌≡◌, ℕ, ◌+◌, Bool, false, List, arith, sym, ap, ◌∙◌, subst}
-use Rattle.std.specs.Prelude.{IsTrue, is_some, slice_index_or}
-use Rattle.grown_runs.proofs.Common.{IsPresent, length-marks, state_of_grown}
-use Rattle.grown_runs.specs.declared.grown.Grown.{Grown}
+use Rattle.settle_report.proofs.Words.{◌≡◌, ℕ, ◌+◌, Bool, false, List, arith, sym, ap, ◌∙◌, subst, IsTrue, is_some, slice_index_or, IsPresent, length-marks}
+use Rattle.settle_report.proofs.Words.{state_of_grown, Grown}
 use Rattle.settle_report.proofs.MarkedRuns.{AreMarkedBelow, AreMarkedBelow-kept, AreMarkedBelow-more, IsSettled-marked, SettlesMarked, SettlesMarked-trans}
 use Rattle.settle_report.proofs.settling.settle_all.Goals.{then-is_some+then-not-settled-node, else-is_some}
 use Rattle.settle_report.proofs.settling.settle_all.Goals.{else-is_some-via-then-is_some+else-not-settled-node, else-is_some-via-else-is_some}

@@ -1,6 +1,4 @@
-use Rattle.std.proofs.Common.{◌<◌, ◌≤◌, ℕ, ◌-◌, true, false, length, set, arith, sym, subst}
-use Rattle.std.specs.Prelude.{IsTrue, slice_index, slice_index_or}
-use Rattle.grown_runs.specs.Runs.GrownRuns.{state_of_grown}
+use Rattle.settle_report.proofs.Words.{◌<◌, ◌≤◌, ℕ, ◌-◌, true, false, length, set, arith, sym, subst, IsTrue, slice_index, slice_index_or, state_of_grown}
 use Rattle.settle_report.proofs.GrownPaths.{FallAlong-grown}
 use Rattle.settle_report.proofs.HeldOrders.{number-grown}
 use Rattle.settle_report.proofs.MarkedRuns.{SettlesMarked-trans}

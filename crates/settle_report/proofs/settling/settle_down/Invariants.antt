@@ -1,7 +1,4 @@
-use Rattle.std.proofs.Common.{ℕ, ◌-◌, ◌<◌, false}
-use Rattle.std.specs.Prelude.{IsTrue, slice_index_or}
-use Rattle.grown_runs.proofs.Common.{IsPresent, state_of_grown}
-use Rattle.settle_report.specs.SettledMarks.{LeadsDown}
+use Rattle.settle_report.proofs.Words.{ℕ, ◌-◌, ◌<◌, false, IsTrue, slice_index_or, IsPresent, state_of_grown, LeadsDown}
 use Rattle.settle_report.proofs.MarkedRuns.{SettlesMarked}
 use Rattle.settle_report.proofs.settling.settle_down.Given as goal
 

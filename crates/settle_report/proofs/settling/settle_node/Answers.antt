@@ -1,6 +1,4 @@
-use Rattle.std.proofs.Common.{◌<◌, length, set, true, sym, subst, arith}
-use Rattle.grown_runs.proofs.Common.{setup_of, state_of_grown}
-use Rattle.settle_report.specs.SettledMarks.{MarksSettled}
+use Rattle.settle_report.proofs.Words.{◌<◌, length, set, true, sym, subst, arith, setup_of, state_of_grown, MarksSettled}
 use Rattle.settle_report.proofs.HeldOrders.{number-grown}
 use Rattle.settle_report.proofs.SettlingSteps.{MarksSettled-more}
 use Rattle.settle_report.proofs.settling.settle_node.Goals as goal

@@ -1,8 +1,4 @@
-use Rattle.std.proofs.Common.{◌≡◌, ℕ, ◌<◌, ◌≤◌, length, arith, w64, to_z, of_z}
-use Rattle.std.proofs.lemmas.Int.{ints}
-use Rattle.std.specs.Prelude.{◌↔◌}
-use Rattle.swept_check.specs.Clipping.{IsAdmitted, IsBetweenFractions}
-use Rattle.convex_sets.specs.Boxes.{corner_of}
+use Rattle.swept_check.proofs.Words.{◌≡◌, ℕ, ◌<◌, ◌≤◌, length, arith, w64, to_z, of_z, ints, ◌↔◌, IsAdmitted, IsBetweenFractions, corner_of}
 use Rattle.swept_check.proofs.CommonParameters.{IsAdmittedAt, IsAdmittedBelow, one_more, crosses_between, not_crossing}
 use Rattle.swept_check.proofs.clipping.crosses_polygon.Goals as goal
 

@@ -1,5 +1,4 @@
-use Rattle.std.proofs.Common.{ℕ, ◌<◌, ◌≤◌, ◌↔◌}
-use Rattle.swept_check.specs.Clipping.{IsBetweenFractions}
+use Rattle.swept_check.proofs.Words.{ℕ, ◌<◌, ◌≤◌, ◌↔◌, IsBetweenFractions}
 use Rattle.swept_check.proofs.CommonParameters.{IsAdmittedBelow}
 use Rattle.swept_check.proofs.clipping.crosses_polygon.Given as goal
 

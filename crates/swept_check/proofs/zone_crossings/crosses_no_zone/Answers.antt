@@ -1,6 +1,4 @@
-use Rattle.std.proofs.Common.{[], arith, refl}
-use Rattle.std.proofs.lemmas.List.Elements.{All-from_get_or}
-use Rattle.swept_check.specs.Crossings.{Crosses}
+use Rattle.swept_check.proofs.Words.{[], arith, refl, All-from_get_or, Crosses}
 use Rattle.swept_check.proofs.zone_crossings.crosses_no_zone.Goals as goal
 
 pub returns : goal.returns

@@ -1,5 +1,4 @@
-use Rattle.std.proofs.Common.{ℕ, ◌<◌, [], get_or}
-use Rattle.swept_check.specs.Crossings.{Crosses}
+use Rattle.swept_check.proofs.Words.{ℕ, ◌<◌, [], get_or, Crosses}
 use Rattle.swept_check.proofs.zone_crossings.crosses_no_zone.Given as goal
 
 abbrev pub invariant-loop-zone : goal.invariant-loop-zone

@@ -1,11 +1,6 @@
-use Rattle.std.proofs.Common.{◌∷◌, List, ℕ, ap, arith, subst, sym, ◌∙◌}
-use Rattle.std.proofs.lemmas.List.Elements.{All-cons, All-tail}
-use Rattle.grown_runs.proofs.Common.{IsFirstLeast, IsOpenTo, Clear, point_of, ConfigurationSpace}
-use Rattle.plan_words.proofs.Common.{GoesOn-trans, PassState, with_lists, with_view}
-use Rattle.step_core.proofs.Common.{tree_seen, IsPresent-later}
-use Rattle.swept_check.proofs.BoundedSegments.{IsBounded-clear_in_scene}
-use Rattle.tree_rewire.proofs.Words.{AreKnown, IsClearTo, StandOn, nodes_on, weighed_on, IsInReach, NamesNothing, NamesTree, SeesAnew, SeesPair}
-use Rattle.tree_rewire.proofs.Words.{seen_cost_through, SeesKnot}
+use Rattle.tree_rewire.proofs.Words.{◌∷◌, List, ℕ, ap, arith, subst, sym, ◌∙◌, All-cons, All-tail, IsFirstLeast, IsOpenTo, Clear, point_of, ConfigurationSpace}
+use Rattle.tree_rewire.proofs.Words.{GoesOn-trans, PassState, with_lists, with_view, tree_seen, IsPresent-later, IsBounded-clear_in_scene, AreKnown, IsClearTo}
+use Rattle.tree_rewire.proofs.Words.{StandOn, nodes_on, weighed_on, IsInReach, NamesNothing, NamesTree, SeesAnew, SeesPair, seen_cost_through, SeesKnot}
 use Rattle.tree_rewire.proofs.ChosenParents.{All-present, IsCostBelow-best, points_later}
 use Rattle.tree_rewire.proofs.CostSteps.{SeesAnew-more, SeesAnew-trans}
 use Rattle.tree_rewire.proofs.NearLists.{AreKnown-weighed, StandOn-later, nodes_on-then}

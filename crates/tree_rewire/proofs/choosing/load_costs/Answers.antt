@@ -1,11 +1,5 @@
-use Rattle.std.proofs.Common.{◌≡◌, Some, take, ap, arith, refl, subst, sym, ◌∙◌}
-use Rattle.std.specs.Prelude.{All, slice_get}
-use Rattle.std.proofs.lemmas.List.{take_all}
-use Rattle.std.proofs.lemmas.List.Elements.{All-cons, All-nil}
-use Rattle.grown_runs.proofs.Common.{IsPresent, TreeOf}
-use Rattle.plan_words.specs.States.{PassState}
-use Rattle.step_core.proofs.Common.{SeesNode, tree_seen, IsPresent-later}
-use Rattle.tree_rewire.proofs.Words.{nodes_on, IsLoadedSince, NamesTree, SeesPair}
+use Rattle.tree_rewire.proofs.Words.{◌≡◌, Some, take, ap, arith, refl, subst, sym, ◌∙◌, All, slice_get, take_all, All-cons, All-nil, IsPresent, TreeOf}
+use Rattle.tree_rewire.proofs.Words.{PassState, SeesNode, tree_seen, IsPresent-later, nodes_on, IsLoadedSince, NamesTree, SeesPair}
 use Rattle.tree_rewire.proofs.ChosenParents.{All-more, All-read, take_read}
 use Rattle.tree_rewire.proofs.CostSteps.{PassSees-trans, PassSees-tree}
 use Rattle.tree_rewire.proofs.SeenCosts.{IsLoadedSince-later, SeesNode-present, SeesPair-later}

@@ -1,6 +1,4 @@
-use Rattle.std.proofs.Common.{All, take}
-use Rattle.plan_words.proofs.Common.{SeesAsBefore, HasWholeShare}
-use Rattle.tree_rewire.proofs.Words.{nodes_on, IsLoadedSince, NamesTree, PassSees, SeesPair}
+use Rattle.tree_rewire.proofs.Words.{All, take, SeesAsBefore, HasWholeShare, nodes_on, IsLoadedSince, NamesTree, PassSees, SeesPair}
 use Rattle.tree_rewire.proofs.choosing.load_costs.Given as goal
 
 abbrev pub invariant-loads : goal.invariant-loads

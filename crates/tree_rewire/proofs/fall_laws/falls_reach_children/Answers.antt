@@ -1,7 +1,4 @@
-use Rattle.std.proofs.Common.{◌≤◌, inl, inr, subst, sym}
-use Rattle.plan_model.specs.Trees.PointsByNumber.{point_of}
-use Rattle.step_core.specs.Views.{tree_seen}
-use Rattle.tree_rewire.proofs.Words.{CostsLess, SeesPair, cost_seen, seen_cost_through}
+use Rattle.tree_rewire.proofs.Words.{◌≤◌, inl, inr, subst, sym, point_of, tree_seen, CostsLess, SeesPair, cost_seen, seen_cost_through}
 use Rattle.tree_rewire.proofs.fall_laws.falls_reach_children.Goals as goal
 
 pub returns-clause-fallen : goal.returns-clause-fallen

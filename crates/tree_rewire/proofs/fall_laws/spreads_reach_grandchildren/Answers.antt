@@ -1,8 +1,4 @@
-use Rattle.std.proofs.Common.{◌≡◌, ℕ, ◌<◌, ◌≤◌, arith, inl, inr, subst, sym}
-use Rattle.plan_model.specs.Trees.PointsByNumber.{point_of}
-use Rattle.step_core.specs.Views.{tree_seen}
-use Rattle.step_core.specs.declared.views.View.{View}
-use Rattle.tree_rewire.specs.SeenCosts.{cost_seen, seen_cost_through}
+use Rattle.tree_rewire.proofs.Words.{◌≡◌, ℕ, ◌<◌, ◌≤◌, arith, inl, inr, subst, sym, point_of, tree_seen, View, cost_seen, seen_cost_through}
 use Rattle.tree_rewire.proofs.fall_laws.spreads_reach_grandchildren.Goals as goal
 
 -- what a node costs through its parent, by the parent's name

@@ -1,13 +1,7 @@
-use Rattle.std.proofs.Common.{◌≡◌, ◌++◌, ◌≤◌, Some, length, map, take, drop, set, ap, arith, refl, subst, sym, ◌∙◌}
-use Rattle.std.specs.Prelude.{IfSome, slice_get}
-use Rattle.std.proofs.lemmas.List.{append-nil, drop_all, take_all}
-use Rattle.std.proofs.lemmas.List.Edits.{map_over_more}
-use Rattle.std.proofs.lemmas.Option.{get_or_from_slice_get, slice_get_within}
-use Rattle.grown_runs.proofs.Common.{IsBounded, cost_of}
-use Rattle.plan_words.proofs.Common.{weighed, PassState, with_lists}
-use Rattle.plan_words.specs.declared.spots.Found.{Found}
+use Rattle.tree_rewire.proofs.Words.{◌≡◌, ◌++◌, ◌≤◌, Some, length, map, take, drop, set, ap, arith, refl, subst, sym, ◌∙◌, IfSome, slice_get, append-nil}
+use Rattle.tree_rewire.proofs.Words.{drop_all, take_all, map_over_more, get_or_from_slice_get, slice_get_within, IsBounded, cost_of, weighed, PassState}
+use Rattle.tree_rewire.proofs.Words.{with_lists, Found, with_found}
 use Rattle.tree_rewire.proofs.FoundLists.{All-at, rest_read}
-use Rattle.tree_rewire.specs.FoundNodes.{with_found}
 use Rattle.tree_rewire.proofs.near_nodes.set_edges.Goals as goal
 use Rattle.tree_rewire.proofs.near_nodes.set_edges.Goals.{After-found-found, After-edges}
 

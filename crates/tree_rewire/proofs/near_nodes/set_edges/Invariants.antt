@@ -1,6 +1,4 @@
-use Rattle.std.proofs.Common.{◌≡◌, ◌++◌, drop, take}
-use Rattle.plan_words.specs.SearchLists.{weighed}
-use Rattle.tree_rewire.specs.FoundNodes.{with_found}
+use Rattle.tree_rewire.proofs.Words.{◌≡◌, ◌++◌, drop, take, weighed, with_found}
 use Rattle.tree_rewire.proofs.near_nodes.set_edges.Given as goal
 
 -- the earlier ones have the costs of their edges

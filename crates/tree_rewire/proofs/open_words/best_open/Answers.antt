@@ -1,7 +1,4 @@
-use Rattle.std.proofs.Common.{◌∷◌, List, ℕ, ap, subst, sym, ◌∙◌}
-use Rattle.grown_runs.proofs.Common.{IsFirstLeast, IsOpenTo, parent_in, tree_word}
-use Rattle.plan_words.specs.States.{PassState}
-use Rattle.step_core.proofs.Common.{IsPresent-later, tree_seen}
+use Rattle.tree_rewire.proofs.Words.{◌∷◌, List, ℕ, ap, subst, sym, ◌∙◌, IsFirstLeast, IsOpenTo, parent_in, tree_word, PassState, IsPresent-later, tree_seen}
 use Rattle.tree_rewire.proofs.Words.{AreKnown, nodes_on, NamesNothing, seen_cost_through}
 use Rattle.tree_rewire.proofs.ChosenFound.{IsChosenWord, IsChosenWord-least}
 use Rattle.tree_rewire.proofs.ChosenParents.{IsFirstLeast-after, clear_after}

@@ -1,9 +1,7 @@
-use Rattle.std.proofs.Common.{◌≡◌, ◌∙◌, Bool, IsFalse, IsTrue, ap, arith, false, not, refl, true, inr, subst, sym}
-use Rattle.grown_runs.proofs.Common.{Clear, IsPresent, point_of, parent_in}
-use Rattle.step_core.specs.Views.{tree_seen}
+use Rattle.tree_rewire.proofs.Words.{◌≡◌, ◌∙◌, Bool, IsFalse, IsTrue, ap, arith, false, not, refl, true, inr, subst, sym, Clear, IsPresent, point_of, parent_in}
+use Rattle.tree_rewire.proofs.Words.{tree_seen, NamesNothing}
 use Rattle.tree_rewire.proofs.CostSteps.{PassSees-point, PassSees-refl}
 use Rattle.tree_rewire.proofs.SeenCosts.{SeesNode-present, point_later}
-use Rattle.tree_rewire.specs.SeenCosts.{NamesNothing}
 use Rattle.tree_rewire.proofs.open_words.is_blocked.Goals as goal
 use Rattle.tree_rewire.proofs.open_words.is_blocked.Given.{Over}
 use Rattle.tree_rewire.proofs.open_words.is_blocked.Goals.{After-pair_in, After-point-from}

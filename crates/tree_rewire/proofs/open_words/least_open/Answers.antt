@@ -1,13 +1,9 @@
-use Rattle.std.proofs.Common.{ap, arith, inl, inr, map, subst, sym, ◌∙◌}
-use Rattle.std.specs.Prelude.{◌≢◌, IsTrue}
-use Rattle.plan_words.specs.States.{PassState}
-use Rattle.step_core.proofs.OneView.SeenViews.{IsPresent-later}
-use Rattle.grown_runs.specs.Table.Words.{parent_in}
+use Rattle.tree_rewire.proofs.Words.{ap, arith, inl, inr, map, subst, sym, ◌∙◌, ◌≢◌, IsTrue, PassState, IsPresent-later, parent_in, AreKnown, IsClearTo}
+use Rattle.tree_rewire.proofs.Words.{IsNextWord, nodes_on, word_through, NamesNothing, PassSees}
 use Rattle.tree_rewire.proofs.ChosenFound.{IsWordOf-next, blocked-first, blocked-next, open_word, present_of, words-same}
 use Rattle.tree_rewire.proofs.ChosenParents.{clear_after, clear_before}
 use Rattle.tree_rewire.proofs.CostSteps.{PassSees-trans}
 use Rattle.tree_rewire.proofs.NearLists.{AllKnots-known, AreKnown-later}
-use Rattle.tree_rewire.proofs.Words.{AreKnown, IsClearTo, IsNextWord, nodes_on, word_through, NamesNothing, PassSees}
 use Rattle.tree_rewire.proofs.open_words.least_open.Given.{Over}
 use Rattle.tree_rewire.proofs.open_words.least_open.Goals as goal
 use Rattle.tree_rewire.proofs.open_words.least_open.Goals.{After-is_blocked}

@@ -1,7 +1,5 @@
-use Rattle.std.proofs.Common.{ℕ, ◌≤◌, ◌-◌}
-use Rattle.std.specs.Prelude.{Contains}
+use Rattle.tree_rewire.proofs.Words.{ℕ, ◌≤◌, ◌-◌, Contains, IsBlockedBelow, nodes_on, NamesNothing, PassSees}
 use Rattle.tree_rewire.proofs.ChosenFound.{IsWordOf}
-use Rattle.tree_rewire.proofs.Words.{IsBlockedBelow, nodes_on, NamesNothing, PassSees}
 use Rattle.tree_rewire.proofs.open_words.least_open.Given as goal
 
 -- all words below this one are blocked

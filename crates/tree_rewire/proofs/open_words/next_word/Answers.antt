@@ -1,13 +1,9 @@
-use Rattle.std.proofs.Common.{◌≡◌, ◌+◌, List, ℕ, Some, map, take, ap, arith, subst, sym, ◌∙◌}
-use Rattle.std.specs.Prelude.{slice_get}
-use Rattle.std.proofs.lemmas.List.{take_all}
-use Rattle.plan_words.specs.States.{PassState}
-use Rattle.grown_runs.proofs.Common.{TreeOf, cost_in, tree_word}
+use Rattle.tree_rewire.proofs.Words.{◌≡◌, ◌+◌, List, ℕ, Some, map, take, ap, arith, subst, sym, ◌∙◌, slice_get, take_all, PassState, TreeOf, cost_in, tree_word}
+use Rattle.tree_rewire.proofs.Words.{AreKnown, IsNextOf, IsNextWord, nodes_on, word_through, NamesNothing, SeesPair, seen_cost_through, SeesKnot}
 use Rattle.tree_rewire.proofs.ChosenFound.{IsNextWord-more, IsNextWord-none, edge_low, number_low, words_read}
 use Rattle.tree_rewire.proofs.ChosenParents.{All-read}
 use Rattle.tree_rewire.proofs.CostSteps.{PassSees-refl, PassSees-trans, seen_cost_through-same}
 use Rattle.tree_rewire.proofs.NearLists.{AllKnots-known, AreKnown-later}
-use Rattle.tree_rewire.proofs.Words.{AreKnown, IsNextOf, IsNextWord, nodes_on, word_through, NamesNothing, SeesPair, seen_cost_through, SeesKnot}
 use Rattle.tree_rewire.proofs.SeenCosts.{SeesPair-later}
 use Rattle.tree_rewire.proofs.open_words.next_word.Goals as goal
 use Rattle.tree_rewire.proofs.open_words.next_word.Goals.{After-weighed-node}

@@ -1,5 +1,4 @@
-use Rattle.std.proofs.Common.{map, take}
-use Rattle.tree_rewire.proofs.Words.{IsNextWord, nodes_on, word_through, NamesNothing, PassSees}
+use Rattle.tree_rewire.proofs.Words.{map, take, IsNextWord, nodes_on, word_through, NamesNothing, PassSees}
 use Rattle.tree_rewire.proofs.open_words.next_word.Given as goal
 
 -- the next word so far is that among the earlier nodes

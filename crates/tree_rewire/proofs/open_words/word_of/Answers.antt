@@ -1,9 +1,8 @@
-use Rattle.std.proofs.Common.{◌+◌, ◌∙◌, ap, arith}
+use Rattle.tree_rewire.proofs.Words.{◌+◌, ◌∙◌, ap, arith, tree_word}
 use Rattle.tree_rewire.proofs.ChosenFound.{number_low}
 use Rattle.tree_rewire.proofs.ChosenParents.{read_through}
 use Rattle.tree_rewire.proofs.CostSteps.{PassSees-point}
 use Rattle.tree_rewire.proofs.SeenCosts.{SeesNode-pair}
-use Rattle.grown_runs.specs.Table.Words.{tree_word}
 use Rattle.tree_rewire.proofs.open_words.word_of.Goals as goal
 
 pub point-from-requires-clause-seen_node : goal.point-from-requires-clause-seen_node

@@ -1,7 +1,5 @@
-use Rattle.std.proofs.Common.{◌≡◌, ◌+◌, ◌<◌, ◌≤◌, ◌^◌, ℕ, ap, arith, inl, inr, refl, subst, sym, ◌∙◌}
-use Rattle.grown_runs.proofs.Common.{cost_of, IsAllowedEdge, TreeOf, cost_in, tree_word}
-use Rattle.step_core.specs.Views.{sees, setup_in}
-use Rattle.tree_rewire.specs.SeenCosts.{NamesLowered, cost_seen}
+use Rattle.tree_rewire.proofs.Words.{◌≡◌, ◌+◌, ◌<◌, ◌≤◌, ◌^◌, ℕ, ap, arith, inl, inr, refl, subst, sym, ◌∙◌, cost_of, IsAllowedEdge, TreeOf, cost_in, tree_word}
+use Rattle.tree_rewire.proofs.Words.{sees, setup_in, NamesLowered, cost_seen}
 use Rattle.tree_rewire.proofs.CostSteps.{PassSees-lower, PassSees-refl, PassSees-trans}
 use Rattle.tree_rewire.proofs.LoweredCosts.{MayLower-less}
 use Rattle.tree_rewire.proofs.PostedFalls.{HasPostedGoals-lower}

@@ -1,8 +1,5 @@
-use Rattle.std.proofs.Common.{◌⊎◌, ◌+◌}
-use Rattle.grown_runs.proofs.Common.{cost_of, WritesWord, TreeOf, tree_word}
-use Rattle.plan_words.proofs.Common.{HasPostedGoals, SeesAsBefore, HasWholeShare}
-use Rattle.step_core.specs.Views.{sees}
-use Rattle.tree_rewire.proofs.Words.{NamesLowered, PassSees, SeesPair, cost_seen, OnlyAt}
+use Rattle.tree_rewire.proofs.Words.{◌⊎◌, ◌+◌, cost_of, WritesWord, TreeOf, tree_word, HasPostedGoals, SeesAsBefore, HasWholeShare, sees, NamesLowered}
+use Rattle.tree_rewire.proofs.Words.{PassSees, SeesPair, cost_seen, OnlyAt}
 use Rattle.tree_rewire.proofs.rewiring.improve.Given as goal
 
 abbrev pub invariant-lowers : goal.invariant-lowers

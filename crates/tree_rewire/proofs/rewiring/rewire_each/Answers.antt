@@ -1,11 +1,7 @@
-use Rattle.std.proofs.Common.{◌+◌, ◌≡◌, ℕ, List, [], ap, arith, drop, is_some, refl, subst, suc, sym, take}
-use Rattle.std.specs.Prelude.{All, Contains}
-use Rattle.std.proofs.lemmas.List.{drop_all, take_all}
-use Rattle.std.proofs.lemmas.List.Elements.{All-contains_itself, All-nil}
-use Rattle.grown_runs.proofs.Common.{space_of, Rewires}
-use Rattle.plan_words.proofs.HandSteps.{some_hand}
+use Rattle.tree_rewire.proofs.Words.{◌+◌, ◌≡◌, ℕ, List, [], ap, arith, drop, is_some, refl, subst, suc, sym, take, All, Contains, drop_all, take_all}
+use Rattle.tree_rewire.proofs.Words.{All-contains_itself, All-nil, space_of, Rewires, some_hand, nodes_on, HasSpreadFalls, IsInReach, NamesLoweredOrPoint}
+use Rattle.tree_rewire.proofs.Words.{SeesPair, cost_seen}
 use Rattle.tree_rewire.proofs.NearLists.{nodes_on-kept}
-use Rattle.tree_rewire.proofs.Words.{nodes_on, HasSpreadFalls, IsInReach, NamesLoweredOrPoint, SeesPair, cost_seen}
 use Rattle.tree_rewire.proofs.ChosenParents.{All-more, IsInReach-later, drop_read, near_read, take_read}
 use Rattle.tree_rewire.proofs.CostSteps.{PassLowers-lists, PassLowers-trans}
 use Rattle.tree_rewire.proofs.RewiredNodes.{IsRewired, IsRewired-later, IsRewired-looked, all_rewired, placed_near, placed_pair, placed_stands}

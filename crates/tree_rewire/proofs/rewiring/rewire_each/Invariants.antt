@@ -1,8 +1,5 @@
-use Rattle.std.proofs.Common.{◌+◌, All, drop, take}
-use Rattle.std.specs.Prelude.{Contains}
-use Rattle.plan_model.specs.Runs.Textbook.{Nodes}
-use Rattle.plan_words.proofs.Common.{HasPostedGoals, HasWholeShare}
-use Rattle.tree_rewire.proofs.Words.{Mirrors, nodes_on, HasSpreadFalls, PassLowers, cost_seen}
+use Rattle.tree_rewire.proofs.Words.{◌+◌, All, drop, take, Contains, Nodes, HasPostedGoals, HasWholeShare, Mirrors, nodes_on, HasSpreadFalls, PassLowers}
+use Rattle.tree_rewire.proofs.Words.{cost_seen}
 use Rattle.tree_rewire.proofs.RewiredNodes.{IsRewired}
 use Rattle.tree_rewire.proofs.RewiredTrees.{IsRewiring}
 use Rattle.tree_rewire.proofs.rewiring.rewire_each.Given as goal

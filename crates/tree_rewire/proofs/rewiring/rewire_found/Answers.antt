@@ -1,14 +1,7 @@
-use Rattle.std.proofs.Common.{◌+◌, ◌≡◌, ◌<◌, ◌≤◌, ℕ, ap, arith, inl, inr, subst, suc, sym, ◌∙◌}
-use Rattle.std.specs.Prelude.{All, Contains, IfSome, IsSome}
-use Rattle.std.proofs.lemmas.Bool.{cases_Bool, ltb-false}
-use Rattle.std.proofs.lemmas.List.Elements.{All-contains, All-map, Contains-get_or}
-use Rattle.grown_runs.proofs.Common.{cost_of, Clear, space_of, point_of, cost_of-swap}
-use Rattle.plan_words.proofs.Common.{at_hand, some_hand, if_hand, Contains-number, HasPostedGoals, numbers_of, GoesOn, HasWholeShare, Lists}
-use Rattle.plan_words.proofs.Common.{PassState}
-use Rattle.step_core.proofs.Common.{share, tree_seen}
-use Rattle.step_core.specs.declared.views.View.{View}
-use Rattle.tree_rewire.proofs.Words.{Mirrors, HasPlaced, HasSpreadFalls, IsWeighed, IsInReach, NamesLoweredOrPoint, SeesAnew, SeesPair, cost_seen}
-use Rattle.plan_words.specs.declared.spots.Found.{Found}
+use Rattle.tree_rewire.proofs.Words.{◌+◌, ◌≡◌, ◌<◌, ◌≤◌, ℕ, ap, arith, inl, inr, subst, suc, sym, ◌∙◌, All, Contains, IfSome, IsSome, cases_Bool, ltb-false}
+use Rattle.tree_rewire.proofs.Words.{All-contains, All-map, Contains-get_or, cost_of, Clear, space_of, point_of, cost_of-swap, at_hand, some_hand, if_hand}
+use Rattle.tree_rewire.proofs.Words.{Contains-number, HasPostedGoals, numbers_of, GoesOn, HasWholeShare, Lists, PassState, share, tree_seen, View, Mirrors}
+use Rattle.tree_rewire.proofs.Words.{HasPlaced, HasSpreadFalls, IsWeighed, IsInReach, NamesLoweredOrPoint, SeesAnew, SeesPair, cost_seen, Found}
 use Rattle.tree_rewire.proofs.FoundLists.{Contains-image}
 use Rattle.tree_rewire.proofs.RewiredFound.{Holding, Rewires-few, few_all, few_found, placed_cost_of, test}
 use Rattle.tree_rewire.proofs.SeenCosts.{SeesPair-later, cost_seen-later, pair_low}

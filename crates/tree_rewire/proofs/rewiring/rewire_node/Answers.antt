@@ -1,9 +1,7 @@
-use Rattle.std.proofs.Common.{◌≡◌, ◌≢◌, ℕ, ◌∙◌, ◌+◌, ◌*◌, ◌<◌, ◌≤◌, ap, arith, inl, inr, refl, subst, sym}
-use Rattle.std.proofs.lemmas.Bool.{cases_lt}
-use Rattle.grown_runs.proofs.Common.{Clear, cost_of, squared_distance, point_of, IsCheaperThrough, with_parent, squared_distance-swap, TreeOf, cost_in}
-use Rattle.plan_words.proofs.Common.{HasPostedGoals, SeesAsBefore, HasWholeShare, GoesOn-trans, HasPostedGoals-same}
-use Rattle.step_core.proofs.Common.{sees, setup_in, tree_seen, IsBounded-seen, IsPresent-later}
-use Rattle.tree_rewire.specs.SeenCosts.{NamesLowered, NamesLoweredOrPoint, NamesNothing, NamesTree, PassLowers, PassSees, SeesPair, cost_seen}
+use Rattle.tree_rewire.proofs.Words.{◌≡◌, ◌≢◌, ℕ, ◌∙◌, ◌+◌, ◌*◌, ◌<◌, ◌≤◌, ap, arith, inl, inr, refl, subst, sym, cases_lt, Clear, cost_of, squared_distance}
+use Rattle.tree_rewire.proofs.Words.{point_of, IsCheaperThrough, with_parent, squared_distance-swap, TreeOf, cost_in, HasPostedGoals, SeesAsBefore}
+use Rattle.tree_rewire.proofs.Words.{HasWholeShare, GoesOn-trans, HasPostedGoals-same, sees, setup_in, tree_seen, IsBounded-seen, IsPresent-later, NamesLowered}
+use Rattle.tree_rewire.proofs.Words.{NamesLoweredOrPoint, NamesNothing, NamesTree, PassLowers, PassSees, SeesPair, cost_seen}
 use Rattle.tree_rewire.proofs.CostSteps.{PassLowers-sees, PassLowers-trans}
 use Rattle.tree_rewire.proofs.CostSteps.{PassSees-more, PassSees-point, PassSees-trans, Lowered-tree, LoweredOrPoint-lowered}
 use Rattle.tree_rewire.proofs.LoweredCosts.{IsWithinParent-below}

@@ -1,10 +1,5 @@
-use Rattle.std.proofs.Common.{◌+◌, ◌∙◌, ap, arith, inl, inr, subst, sym}
-use Rattle.std.specs.Prelude.{IfSome}
-use Rattle.std.proofs.lemmas.Bool.{cases_lt}
-use Rattle.grown_runs.proofs.Common.{cost_of, PointOf, TreeOf, parent_in}
-use Rattle.plan_words.proofs.Common.{SeesAsBefore, IsPairIn, HasWholeShare}
-use Rattle.step_core.specs.Views.{sees}
-use Rattle.tree_rewire.specs.SeenCosts.{NamesPoint, PassSees}
+use Rattle.tree_rewire.proofs.Words.{◌+◌, ◌∙◌, ap, arith, inl, inr, subst, sym, IfSome, cases_lt, cost_of, PointOf, TreeOf, parent_in, SeesAsBefore, IsPairIn}
+use Rattle.tree_rewire.proofs.Words.{HasWholeShare, sees, NamesPoint, PassSees}
 use Rattle.tree_rewire.proofs.CostSteps.{PassSees-any_point, PassSees-trans}
 use Rattle.tree_rewire.proofs.LoweredCosts.{IsWithinSeenParent-parent, MayLower-parent}
 use Rattle.tree_rewire.proofs.SeenCosts.{pair_low, stands_later}

@@ -1,7 +1,5 @@
-use Rattle.std.proofs.Common.{◌≡◌, ◌⊎◌, ◌+◌, ◌<◌, ◌≤◌, Some, None, ap, arith, inl, inr, length, refl, subst, sym, ◌∙◌}
-use Rattle.plan_words.proofs.Common.{HasWholeShare, with_lists, IsOn, HasPostedGoals-children}
-use Rattle.step_core.specs.declared.views.SharedRun.{SharedRun}
-use Rattle.tree_rewire.proofs.Words.{NamesLoweredOrPoint, PassLowers, cost_seen, IsSpreading, NoneRises, QueuesFallen}
+use Rattle.tree_rewire.proofs.Words.{◌≡◌, ◌⊎◌, ◌+◌, ◌<◌, ◌≤◌, Some, None, ap, arith, inl, inr, length, refl, subst, sym, ◌∙◌, HasWholeShare, with_lists, IsOn}
+use Rattle.tree_rewire.proofs.Words.{HasPostedGoals-children, SharedRun, NamesLoweredOrPoint, PassLowers, cost_seen, IsSpreading, NoneRises, QueuesFallen}
 use Rattle.tree_rewire.proofs.CostSteps.{PassLowers-lists, PassLowers-sees, PassLowers-trans}
 use Rattle.tree_rewire.proofs.LoweredBelow.{IsSpreading-found, NoneRises-children, NoneRises-settled, NoneRises-trans, PassLowers-looks}
 use Rattle.tree_rewire.proofs.LoweredBelow.{QueuesFallen-same, QueuesFallen-then, SpreadsFrom-all}

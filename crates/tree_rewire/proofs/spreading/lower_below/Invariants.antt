@@ -1,7 +1,5 @@
-use Rattle.std.proofs.Common.{◌≡◌, ◌⊎◌, ◌+◌, ℕ, length}
-use Rattle.plan_words.proofs.Common.{HasPostedGoals, HasWholeShare, IsOn}
-use Rattle.step_core.specs.declared.views.View.{View}
-use Rattle.tree_rewire.proofs.Words.{PassLowers, IsSpreading, KeepsParents, NoneRises, QueuesFallen}
+use Rattle.tree_rewire.proofs.Words.{◌≡◌, ◌⊎◌, ◌+◌, ℕ, length, HasPostedGoals, HasWholeShare, IsOn, View, PassLowers, IsSpreading, KeepsParents, NoneRises}
+use Rattle.tree_rewire.proofs.Words.{QueuesFallen}
 use Rattle.tree_rewire.proofs.SpreadCosts.{weigh}
 use Rattle.tree_rewire.proofs.spreading.lower_below.Given as goal
 

@@ -1,6 +1,4 @@
-use Rattle.std.proofs.Common.{◌<◌, ap, arith, ◌∙◌}
-use Rattle.grown_runs.proofs.Common.{TreeOf, cost_in}
-use Rattle.tree_rewire.proofs.Words.{NamesLowered, NamesLoweredOrPoint, NamesPoint, PassSees, cost_seen, OnlyAt}
+use Rattle.tree_rewire.proofs.Words.{◌<◌, ap, arith, ◌∙◌, TreeOf, cost_in, NamesLowered, NamesLoweredOrPoint, NamesPoint, PassSees, cost_seen, OnlyAt}
 use Rattle.tree_rewire.proofs.CostSteps.{PassSees-lower, PassSees-more, PassSees-trans, LoweredOrPoint-point, LoweredOrPoint-lowered}
 use Rattle.tree_rewire.proofs.spreading.settle.Goals as goal
 use Rattle.tree_rewire.proofs.spreading.settle.Goals.{After-lower-found}

@@ -1,8 +1,5 @@
-use Rattle.std.proofs.Common.{◌≡◌, ◌⊎◌, ◌≤◌, ◌+◌, [], ap, arith, inl, inr, length, refl, subst, sym, ◌∙◌}
-use Rattle.plan_words.proofs.Common.{HasPostedGoals, HasWholeShare, with_lists, HasSeenParent, IsOn}
-use Rattle.step_core.specs.declared.views.SharedRun.{SharedRun}
-use Rattle.step_core.specs.declared.views.View.{View}
-use Rattle.tree_rewire.proofs.Words.{NamesLoweredOrPoint, PassLowers, SeesPair, IsSpreading, KeepsParents}
+use Rattle.tree_rewire.proofs.Words.{◌≡◌, ◌⊎◌, ◌≤◌, ◌+◌, [], ap, arith, inl, inr, length, refl, subst, sym, ◌∙◌, HasPostedGoals, HasWholeShare, with_lists}
+use Rattle.tree_rewire.proofs.Words.{HasSeenParent, IsOn, SharedRun, View, NamesLoweredOrPoint, PassLowers, SeesPair, IsSpreading, KeepsParents}
 use Rattle.tree_rewire.proofs.CostSteps.{PassLowers-lists, PassLowers-trans}
 use Rattle.tree_rewire.proofs.LoweredBelow.{measure_falls}
 use Rattle.tree_rewire.proofs.SeenCosts.{pair_low}

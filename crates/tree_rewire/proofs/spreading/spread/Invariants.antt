@@ -1,6 +1,4 @@
-use Rattle.std.proofs.Common.{◌+◌, ◌*◌, length}
-use Rattle.plan_words.proofs.Common.{HasPostedGoals, HasWholeShare, IsOn}
-use Rattle.tree_rewire.proofs.Words.{PassLowers, IsSpreading, KeepsParents}
+use Rattle.tree_rewire.proofs.Words.{◌+◌, ◌*◌, length, HasPostedGoals, HasWholeShare, IsOn, PassLowers, IsSpreading, KeepsParents}
 use Rattle.tree_rewire.proofs.SpreadCosts.{weigh}
 use Rattle.tree_rewire.proofs.spreading.spread.Given as goal
 

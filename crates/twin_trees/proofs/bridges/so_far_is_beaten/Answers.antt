@@ -1,5 +1,4 @@
-use Rattle.std.proofs.Common.{subst}
-use Rattle.twin_trees.specs.BridgeOrder.{IsMatched}
+use Rattle.twin_trees.proofs.Words.{subst, IsMatched}
 use Rattle.twin_trees.proofs.bridges.so_far_is_beaten.Goals as goal
 
 pub returns-in-Some-clause-beaten : goal.returns-in-Some-clause-beaten

@@ -1,6 +1,4 @@
-use Rattle.std.proofs.Common.{◌*◌, ap, ◌∙◌, inl, inr}
-use Rattle.std.proofs.lemmas.Bool.{cases_lt}
-use Rattle.grown_runs.proofs.Common.{setup_of, Task, state_of_grown, words_of_grown, sizes_of, IsBounded-stands}
+use Rattle.twin_trees.proofs.Words.{◌*◌, ap, ◌∙◌, inl, inr, cases_lt, setup_of, Task, state_of_grown, words_of_grown, sizes_of, IsBounded-stands}
 use Rattle.twin_trees.proofs.SearchedPairs.{HasNoneBetween-same, Matches-walked}
 use Rattle.twin_trees.proofs.bridging.best_from.Goals as goal
 

@@ -1,8 +1,4 @@
-use Rattle.std.specs.Prelude.{ℕ, ◌-◌, ◌*◌, ◌<◌, length}
-use Rattle.point_bands.specs.Discs.{IsWithin}
-use Rattle.point_bands.specs.Walks.{numbered_at}
-use Rattle.twin_trees.specs.BridgeOrder.{IsNoWorse}
-use Rattle.twin_trees.specs.BridgeSearches.{MatchesIn, MayBeBestIn}
+use Rattle.twin_trees.proofs.Words.{ℕ, ◌-◌, ◌*◌, ◌<◌, length, IsWithin, numbered_at, IsNoWorse, MatchesIn, MayBeBestIn}
 use Rattle.twin_trees.proofs.bridging.best_from.Given as goal
 
 -- each node of a position that was passed, within a step, is matched

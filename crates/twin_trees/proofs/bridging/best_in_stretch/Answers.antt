@@ -1,11 +1,5 @@
-use Rattle.std.proofs.Common.{◌≡◌, ◌*◌, arith, refl, ap, sym, subst, ◌∙◌, inl, inr}
-use Rattle.std.proofs.lemmas.Bool.{cases_lt, true≢false}
-use Rattle.grown_runs.proofs.Common.{setup_of, StandsAt, Task, state_of_grown, words_of_grown, sizes_of, IsBounded-stands}
-use Rattle.point_bands.specs.Discs.{IsWithin}
-use Rattle.point_bands.specs.Walks.{nowhere, numbered_at}
-use Rattle.point_bands.specs.declared.bands.Numbered.{Numbered}
-use Rattle.twin_trees.specs.BridgeOrder.{IsMatched}
-use Rattle.twin_trees.specs.BridgeSearches.{Matches, MayBeBest}
+use Rattle.twin_trees.proofs.Words.{◌≡◌, ◌*◌, arith, refl, ap, sym, subst, ◌∙◌, inl, inr, cases_lt, true≢false, setup_of, StandsAt, Task, state_of_grown}
+use Rattle.twin_trees.proofs.Words.{words_of_grown, sizes_of, IsBounded-stands, IsWithin, nowhere, numbered_at, Numbered, IsMatched, Matches, MayBeBest}
 use Rattle.twin_trees.proofs.SearchedPairs.{IsWithin-same}
 use Rattle.twin_trees.proofs.bridging.best_in_stretch.Goals as goal
 use Rattle.twin_trees.proofs.bridging.best_in_stretch.Goals.{then-has, else-has}

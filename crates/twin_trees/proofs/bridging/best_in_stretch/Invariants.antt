@@ -1,8 +1,4 @@
-use Rattle.std.specs.Prelude.{ℕ, ◌*◌, ◌<◌, ◌≤◌}
-use Rattle.point_bands.specs.Discs.{IsWithin}
-use Rattle.point_bands.specs.Walks.{numbered_at}
-use Rattle.twin_trees.specs.BridgeOrder.{IsNoWorse}
-use Rattle.twin_trees.specs.BridgeSearches.{MatchesIn, MayBeBestIn}
+use Rattle.twin_trees.proofs.Words.{ℕ, ◌*◌, ◌<◌, ◌≤◌, IsWithin, numbered_at, IsNoWorse, MatchesIn, MayBeBestIn}
 use Rattle.twin_trees.proofs.bridging.best_in_stretch.Given as goal
 
 -- each node of the stretch so far, within a step, is matched

@@ -1,7 +1,5 @@
-use Rattle.std.proofs.Common.{◌≡◌, ◌+◌, arith, sym, subst}
-use Rattle.grown_runs.proofs.Common.{IsPresent-stands, cost_of, setup_of, Clear, state_of_grown, words_of_grown, sizes_of, kept-low, IsBounded-stands}
-use Rattle.twin_trees.specs.BridgeOrder.{IsMatched}
-use Rattle.twin_trees.specs.Bridges.{cost_over}
+use Rattle.twin_trees.proofs.Words.{◌≡◌, ◌+◌, arith, sym, subst, IsPresent-stands, cost_of, setup_of, Clear, state_of_grown, words_of_grown, sizes_of, kept-low}
+use Rattle.twin_trees.proofs.Words.{IsBounded-stands, IsMatched, cost_over}
 use Rattle.twin_trees.proofs.SearchedPairs.{Clear-candidate, IsCandidate-clear, cost_over-stands}
 use Rattle.twin_trees.proofs.bridging.better.Goals.{then-not-so_far_is_beaten-via-then-not-so_far_is_beaten}
 use Rattle.twin_trees.proofs.bridging.better.Goals.{then-not-so_far_is_beaten-via-else-not-so_far_is_beaten+then-not-clear}

@@ -1,8 +1,5 @@
-use Rattle.std.proofs.Common.{◌+◌, ◌<◌, arith, ap, sym, subst, inl, inr}
-use Rattle.std.proofs.lemmas.Bool.{cases_lt}
-use Rattle.grown_runs.proofs.Common.{IsPresent-stands, point_of-stands, cost_of, setup_of, point_of, sum_in, Task, state_of_grown, words_of_grown, sizes_of}
-use Rattle.grown_runs.proofs.Common.{IsBounded-stands}
-use Rattle.twin_trees.specs.BridgeSearches.{Matches}
+use Rattle.twin_trees.proofs.Words.{◌+◌, ◌<◌, arith, ap, sym, subst, inl, inr, cases_lt, IsPresent-stands, point_of-stands, cost_of, setup_of, point_of, sum_in}
+use Rattle.twin_trees.proofs.Words.{Task, state_of_grown, words_of_grown, sizes_of, IsBounded-stands, Matches}
 use Rattle.twin_trees.proofs.SearchedPairs.{Matches-far}
 use Rattle.twin_trees.proofs.TripleOrder.{false_of_not}
 use Rattle.twin_trees.proofs.bridging.is_too_far.Goals as goal

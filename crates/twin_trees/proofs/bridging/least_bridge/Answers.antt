@@ -1,10 +1,5 @@
-use Rattle.std.proofs.Common.{◌<◌, arith, sym, subst, inl, inr}
-use Rattle.std.specs.Prelude.{IfSome}
-use Rattle.std.proofs.lemmas.Bool.{cases_eq}
-use Rattle.grown_runs.proofs.Common.{setup_of, state_of_grown, words_of_grown, node-held}
-use Rattle.twin_trees.specs.BridgeOrder.{IsMatched}
-use Rattle.twin_trees.specs.BridgeSearches.{IsMember, Matches}
-use Rattle.twin_trees.specs.Bridges.{IsTripleNotAbove, cost_over}
+use Rattle.twin_trees.proofs.Words.{◌<◌, arith, sym, subst, inl, inr, IfSome, cases_eq, setup_of, state_of_grown, words_of_grown, node-held, IsMatched}
+use Rattle.twin_trees.proofs.Words.{IsMember, Matches, IsTripleNotAbove, cost_over}
 use Rattle.twin_trees.proofs.bridging.least_bridge.Goals as goal
 
 pub loop-node-preserved : goal.loop-node-preserved

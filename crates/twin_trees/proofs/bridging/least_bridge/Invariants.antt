@@ -1,6 +1,4 @@
-use Rattle.std.specs.Prelude.{ℕ, ◌<◌}
-use Rattle.grown_runs.proofs.Common.{setup_of, state_of_grown}
-use Rattle.twin_trees.specs.BridgeSearches.{Matches, MayBeBest}
+use Rattle.twin_trees.proofs.Words.{ℕ, ◌<◌, setup_of, state_of_grown, Matches, MayBeBest}
 use Rattle.twin_trees.proofs.bridging.least_bridge.Given as goal
 
 -- each pair of a node of the first run below this number is matched

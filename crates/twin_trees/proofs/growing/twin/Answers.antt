@@ -1,6 +1,4 @@
-use Rattle.std.proofs.Common.{sym, subst}
-use Rattle.grown_runs.proofs.Common.{Clear-alone, Clear-first, Clear, ClearAt, space_of}
-use Rattle.twin_trees.specs.TurnedScenes.{goal_middle}
+use Rattle.twin_trees.proofs.Words.{sym, subst, Clear-alone, Clear-first, Clear, ClearAt, space_of, goal_middle}
 use Rattle.twin_trees.proofs.growing.twin.Goals as goal
 
 pub twin_from-requires-clause-middle : goal.twin_from-requires-clause-middle

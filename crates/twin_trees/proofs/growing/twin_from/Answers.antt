@@ -1,6 +1,4 @@
-use Rattle.std.proofs.Common.{ap, sym, subst, ◌∙◌}
-use Rattle.grown_runs.proofs.Common.{setup_of, space_of, Scene, state_of_grown}
-use Rattle.twin_trees.specs.Bridges.{IsBridge}
+use Rattle.twin_trees.proofs.Words.{ap, sym, subst, ◌∙◌, setup_of, space_of, Scene, state_of_grown, IsBridge}
 use Rattle.twin_trees.proofs.TurnedRuns.{ClearAt-turned, space-turned}
 use Rattle.twin_trees.proofs.growing.twin_from.Goals as goal
 

@@ -1,6 +1,5 @@
-use Rattle.std.proofs.Common.{length, ap, arith, sym, ◌∙◌}
-use Rattle.grown_runs.proofs.Common.{length-marks, IsOfTextbookRun-settled, setup_of, mark_points, Task, state_of_grown}
-use Rattle.plan_work.proofs.TextbookEnds.{IsOfTextbook-new, IsOfTextbookRun-whole}
+use Rattle.twin_trees.proofs.Words.{length, ap, arith, sym, ◌∙◌, length-marks, IsOfTextbookRun-settled, setup_of, mark_points, Task, state_of_grown}
+use Rattle.twin_trees.proofs.Words.{IsOfTextbook-new, IsOfTextbookRun-whole}
 use Rattle.twin_trees.proofs.TurnedRuns.{IsWholeRun-settled}
 use Rattle.twin_trees.proofs.growing.whole_run.Goals as goal
 

@@ -1,6 +1,4 @@
-use Rattle.std.proofs.Common.{◌+◌, ap, sym, subst, ◌∙◌}
-use Rattle.std.specs.Prelude.{is_some}
-use Rattle.grown_runs.proofs.Common.{state_of_grown, words_of_grown, sizes_of, IsBounded-stands}
+use Rattle.twin_trees.proofs.Words.{◌+◌, ap, sym, subst, ◌∙◌, is_some, state_of_grown, words_of_grown, sizes_of, IsBounded-stands}
 use Rattle.twin_trees.proofs.NumberedNodes.{AreNodesBelow, AreNodesBelow-push, AreNodesBelow-skip}
 use Rattle.twin_trees.proofs.nodes.nodes_of.Goals.{in-Some+in_ok-push, in_default}
 use Rattle.twin_trees.proofs.nodes.nodes_of.Goals as goal

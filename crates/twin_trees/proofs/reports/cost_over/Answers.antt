@@ -1,5 +1,4 @@
-use Rattle.std.proofs.Common.{sym, ◌∙◌}
-use Rattle.grown_runs.proofs.Common.{words_of_grown, sizes_of, IsBounded-stands}
+use Rattle.twin_trees.proofs.Words.{sym, ◌∙◌, words_of_grown, sizes_of, IsBounded-stands}
 use Rattle.twin_trees.proofs.reports.cost_over.Goals as goal
 
 pub cost-requires-2-clause-from : goal.cost-requires-2-clause-from

@@ -1,6 +1,4 @@
-use Rattle.std.proofs.Common.{[], ◌∷◌, refl, ap, ◌∙◌}
-use Rattle.grown_runs.proofs.Common.{same_parts, with_ends, Goal, ConfigurationSpace}
-use Rattle.twin_trees.specs.TurnedScenes.{goal_middle, start_boxes}
+use Rattle.twin_trees.proofs.Words.{[], ◌∷◌, refl, ap, ◌∙◌, same_parts, with_ends, Goal, ConfigurationSpace, goal_middle, start_boxes}
 use Rattle.twin_trees.proofs.TurnedRanges.{IsBetween-middle, are_goals-start}
 use Rattle.twin_trees.proofs.turned_scenes.turned_scene.Goals as goal
 

@@ -1,5 +1,4 @@
-use Rattle.std.proofs.Common.{◌≡◌, ◌++◌, ◌∷◌, [], get_or, set, rules}
-use Rattle.std.proofs.lemmas.Result.{IfOk-weaker}
+use Rattle.any_time.proofs.Words.{◌≡◌, ◌++◌, ◌∷◌, [], get_or, set, rules, IfOk-weaker}
 use Rattle.any_time.proofs.GatheredBatches.{after_item, after_pending, at_end, at_memory}
 use Rattle.any_time.proofs.batch_gathering.GatherBatchFuture.poll.Goals as goal
 

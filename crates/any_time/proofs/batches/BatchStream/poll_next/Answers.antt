@@ -1,5 +1,4 @@
-use Rattle.std.proofs.Common.{◌≤◌, ℕ, length, refl, ap, ◌∙◌, arith, vec_capacity}
-use Rattle.any_time.specs.Batches.{turn_after}
+use Rattle.any_time.proofs.Words.{◌≤◌, ℕ, length, refl, ap, ◌∙◌, arith, vec_capacity, turn_after}
 use Rattle.any_time.proofs.KeptRuns.{runs_of_gave}
 use Rattle.any_time.proofs.TurnLoop.{all_rest, gave, turned_ended, turned_pending}
 use Rattle.any_time.proofs.batches.BatchStream.poll_next.Goals as goal

@@ -1,5 +1,4 @@
-use Rattle.std.proofs.Common.{rules, ◌≡◌, [], ◌∷◌, ◌++◌}
-use Rattle.std.proofs.lemmas.Result.{IfOk-weaker}
+use Rattle.any_time.proofs.Words.{rules, ◌≡◌, [], ◌∷◌, ◌++◌, IfOk-weaker}
 use Rattle.any_time.proofs.GatheredItems.{after_pending, after_item, at_memory}
 use Rattle.any_time.proofs.gathering.GatherFuture.poll.Goals as goal
 

@@ -1,5 +1,4 @@
-use Rattle.std.proofs.Common.{arith}
-use Rattle.std.proofs.lemmas.Int.{ints}
+use Rattle.convex_sets.proofs.Words.{arith, ints}
 use Rattle.convex_sets.proofs.bounding_boxes.BoundingBox.has.Goals as goal
 
 pub returns-then-is_between : goal.returns-then-is_between

@@ -1,5 +1,4 @@
-use Rattle.std.proofs.Common.{arith}
-use Rattle.std.proofs.lemmas.Int.{ints, clamps}
+use Rattle.convex_sets.proofs.Words.{arith, ints, clamps}
 use Rattle.convex_sets.proofs.BoxLaws.{IsLeast-more, IsGreatest-more}
 use Rattle.convex_sets.proofs.bounding_boxes.BoundingBox.of.Goals as goal
 

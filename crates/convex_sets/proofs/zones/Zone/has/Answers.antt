@@ -1,8 +1,4 @@
-use Rattle.std.proofs.Common.{sym, subst, List}
-use Rattle.plan_model.specs.declared.geometry.Vertex.{Vertex}
-use Rattle.plan_model.specs.Spaces.HalfPlanes.{IsInside}
-use Rattle.plan_model.specs.Spaces.RoomOfConfigurations.{at_lattice}
-use Rattle.convex_sets.specs.Boxes.{corner_of}
+use Rattle.convex_sets.proofs.Words.{sym, subst, List, Vertex, IsInside, at_lattice, corner_of}
 use Rattle.convex_sets.proofs.Corners.{bounded_of}
 use Rattle.convex_sets.proofs.BoxLaws.{in_box, bounded_in_box}
 use Rattle.convex_sets.proofs.zones.Zone.has.Goals as goal

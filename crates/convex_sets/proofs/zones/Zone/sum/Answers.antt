@@ -1,7 +1,4 @@
-use Rattle.std.proofs.Common.{arith}
-use Rattle.std.proofs.lemmas.Int.{ints}
-use Rattle.plan_model.specs.declared.limits.TheConstants.{LEAST_BODY_COORDINATE, LEAST_SUMMAND_COORDINATE}
-use Rattle.plan_model.specs.declared.limits.TheConstants.{MOST_BODY_COORDINATE, MOST_SUMMAND_COORDINATE}
+use Rattle.convex_sets.proofs.Words.{arith, ints, LEAST_BODY_COORDINATE, LEAST_SUMMAND_COORDINATE, MOST_BODY_COORDINATE, MOST_SUMMAND_COORDINATE}
 use Rattle.convex_sets.proofs.Made.{IfOk-map}
 use Rattle.convex_sets.proofs.WidenedBodies.{zone_of_wider}
 use Rattle.convex_sets.proofs.ZoneLaws.{between_wider}

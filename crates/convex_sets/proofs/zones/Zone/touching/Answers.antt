@@ -1,8 +1,5 @@
-use Rattle.std.proofs.Common.{◌≡◌, ◌∙◌, map, List, arith}
-use Rattle.std.proofs.lemmas.Int.{ints}
-use Rattle.plan_model.specs.declared.limits.TheConstants.{LEAST_SUMMAND_COORDINATE, MOST_SUMMAND_COORDINATE}
-use Rattle.plan_model.specs.declared.geometry.Vertex.{Vertex}
-use Rattle.convex_sets.specs.Outlines.{reflection, IsMerged, IsOutlineOf}
+use Rattle.convex_sets.proofs.Words.{◌≡◌, ◌∙◌, map, List, arith, ints, LEAST_SUMMAND_COORDINATE, MOST_SUMMAND_COORDINATE, Vertex, reflection, IsMerged}
+use Rattle.convex_sets.proofs.Words.{IsOutlineOf}
 use Rattle.convex_sets.proofs.ZoneLaws.{bounded_corners, bounded-reflected, shape-reflected, zone_is, zone_bounded}
 use Rattle.convex_sets.proofs.zones.Zone.touching.Goals as goal
 

@@ -1,5 +1,4 @@
-use Rattle.std.proofs.Common.{◌∙◌, ap}
-use Rattle.plan_model.specs.Geometry.Radius.{radius_of_class}
+use Rattle.edge_cost.proofs.Words.{◌∙◌, ap, radius_of_class}
 use Rattle.edge_cost.proofs.RadiusFromRoot.{class_below}
 use Rattle.edge_cost.proofs.radii.Radii.at.Goals as goal
 

@@ -1,5 +1,4 @@
-use Rattle.std.proofs.Common.{◌≡◌, ℕ, ◌<◌, slice_index}
-use Rattle.plan_model.specs.Geometry.Radius.{radius_of_class}
+use Rattle.edge_cost.proofs.Words.{◌≡◌, ℕ, ◌<◌, slice_index, radius_of_class}
 use Rattle.edge_cost.proofs.radii.Radii.new.Given as goal
 
 abbrev pub invariant-loop-class : goal.invariant-loop-class

@@ -1,9 +1,4 @@
-use Rattle.std.proofs.Common.{◌≡◌, ap, arith, subst, sym, ◌∙◌}
-use Rattle.std.specs.Prelude.{All}
-use Rattle.plan_model.specs.Geometry.Bounds.{IsBounded}
-use Rattle.plan_words.proofs.Common.{at_hand, if_hand, IsBounded-hand}
-use Rattle.step_core.proofs.Common.{has_point, sight_in}
-use Rattle.tree_rewire.specs.SeenCosts.{IsInReach}
+use Rattle.growing_tests.proofs.Words.{◌≡◌, ap, arith, subst, sym, ◌∙◌, All, IsBounded, at_hand, if_hand, IsBounded-hand, has_point, sight_in, IsInReach}
 use Rattle.growing_tests.proofs.LoweredNodes.ReachedNodes.{All-in_reach}
 use Rattle.growing_tests.proofs.rewiring.rewire.fill_near.Goals as goal
 

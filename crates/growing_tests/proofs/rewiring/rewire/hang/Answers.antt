@@ -1,14 +1,6 @@
-use Rattle.std.proofs.Common.{◌≡◌, ℕ, ap, arith, length, refl, subst, sym, ◌∙◌}
-use Rattle.std.specs.Prelude.{All, IfSome}
-use Rattle.std.proofs.lemmas.List.Elements.{All-head}
-use Rattle.grown_runs.proofs.Common.{Point, Clear, space_of, point_of-stands}
-use Rattle.plan_words.proofs.Common.{PassState, SharedState, with_view, at_hand, if_hand}
-use Rattle.step_core.proofs.Common.{has_point, half, treed, MayHang, tree_seen}
-use Rattle.step_core.specs.declared.views.Hand.{Hand}
-use Rattle.step_core.specs.declared.views.Stage.TheVariants.{Half, Pointed, Treed}
-use Rattle.tree_rewire.specs.SeenCosts.{IsInReach, SeesPair}
-use Rattle.tree_rewire.proofs.ChosenParents.{IsInReach-later, points_later}
-use Rattle.growing_tests.specs.LoweredNodes.HeldMarks.{HoldsMark}
+use Rattle.growing_tests.proofs.Words.{◌≡◌, ℕ, ap, arith, length, refl, subst, sym, ◌∙◌, All, IfSome, All-head, Point, Clear, space_of, point_of-stands}
+use Rattle.growing_tests.proofs.Words.{PassState, SharedState, with_view, at_hand, if_hand, has_point, half, treed, MayHang, tree_seen, Hand, Half, Pointed}
+use Rattle.growing_tests.proofs.Words.{Treed, IsInReach, SeesPair, IsInReach-later, points_later, HoldsMark}
 use Rattle.growing_tests.proofs.LoweredNodes.ReachedNodes.{All-in_reach-later, IsInReach-nearest, MayHang-chosen}
 use Rattle.growing_tests.proofs.rewiring.rewire.hang.Goals as goal
 

@@ -1,7 +1,4 @@
-use Rattle.std.proofs.Common.{◌≡◌, ap, arith, length, refl, ◌∙◌}
-use Rattle.plan_words.proofs.Common.{PassState, with_view, at_hand, if_hand, no_goals}
-use Rattle.step_core.proofs.Common.{IsUnskipped, pointed}
-use Rattle.step_core.specs.declared.views.Stage.TheVariants.{Pointed}
+use Rattle.growing_tests.proofs.Words.{◌≡◌, ap, arith, length, refl, ◌∙◌, PassState, with_view, at_hand, if_hand, no_goals, IsUnskipped, pointed, Pointed}
 use Rattle.growing_tests.proofs.rewiring.rewire.write_near.Goals as goal
 
 pub write_point-requires-clause-unskipped : goal.write_point-requires-clause-unskipped

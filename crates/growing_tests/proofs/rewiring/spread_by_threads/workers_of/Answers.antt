@@ -1,7 +1,4 @@
-use Rattle.std.proofs.Common.{sym, subst}
-use Rattle.std.specs.Prelude.{All}
-use Rattle.std.proofs.lemmas.List.Elements.{All-push}
-use Rattle.plan_words.specs.States.{MayClaim}
+use Rattle.growing_tests.proofs.Words.{sym, subst, All, All-push, MayClaim}
 use Rattle.growing_tests.specs.declared.rewiring.spread_by_threads.Worker.{Worker}
 use Rattle.growing_tests.proofs.rewiring.spread_by_threads.workers_of.Goals as goal
 

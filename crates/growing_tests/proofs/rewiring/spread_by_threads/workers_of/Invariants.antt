@@ -1,5 +1,4 @@
-use Rattle.std.specs.Prelude.{All}
-use Rattle.plan_words.specs.States.{MayClaim}
+use Rattle.growing_tests.proofs.Words.{All, MayClaim}
 use Rattle.growing_tests.proofs.rewiring.spread_by_threads.workers_of.Given as goal
 
 abbrev pub invariant-passes : goal.invariant-passes

@@ -1,6 +1,4 @@
-use Rattle.std.proofs.Common.{◌*◌, ap, arith, subst}
-use Rattle.std.proofs.lemmas.Bool.{leb-true}
-use Rattle.grown_runs.proofs.Common.{Clear, Task}
+use Rattle.growing_tests.proofs.Words.{◌*◌, ap, arith, subst, leb-true, Clear, Task}
 use Rattle.growing_tests.proofs.rewiring.support.is_allowed.Goals as goal
 
 pub returns-then-clear : goal.returns-then-clear

@@ -1,7 +1,4 @@
-use Rattle.plan_words.proofs.GoingOn.{GoesOn-trans}
-use Rattle.tree_rewire.proofs.CostSteps.{PassSees-tree}
-use Rattle.tree_rewire.proofs.SeenCosts.{stands_later}
-use Rattle.growing_tests.specs.LoweredNodes.HeldMarks.{IsAtWork}
+use Rattle.growing_tests.proofs.Words.{GoesOn-trans, PassSees-tree, stands_later, IsAtWork}
 use Rattle.growing_tests.proofs.LoweredNodes.WorkingPasses.{IsAtWork-kept}
 use Rattle.growing_tests.proofs.rewiring.support.load_at.Goals as goal
 use Rattle.growing_tests.proofs.rewiring.support.load_at.Goals.{After-find}

@@ -1,10 +1,5 @@
-use Rattle.std.proofs.Common.{◌≡◌, ◌+◌, ap, arith, subst, sym, ◌∙◌}
-use Rattle.grown_runs.proofs.Common.{IsAllowedEdge, TreeOf, cost_in}
-use Rattle.plan_words.proofs.GoingOn.{GoesOn-trans}
-use Rattle.step_core.specs.Views.{setup_in}
-use Rattle.tree_rewire.proofs.CostSteps.{PassSees-lower}
-use Rattle.tree_rewire.proofs.LoweredCosts.{MayLower-less}
-use Rattle.tree_rewire.proofs.SeenCosts.{SeesPair-later, stands_later}
+use Rattle.growing_tests.proofs.Words.{◌≡◌, ◌+◌, ap, arith, subst, sym, ◌∙◌, IsAllowedEdge, TreeOf, cost_in, GoesOn-trans, setup_in, PassSees-lower}
+use Rattle.growing_tests.proofs.Words.{MayLower-less, SeesPair-later, stands_later}
 use Rattle.growing_tests.proofs.LoweredNodes.WorkingPasses.{IsAtWork-kept}
 use Rattle.growing_tests.proofs.rewiring.support.lower_while_dearer.Goals as goal
 

@@ -1,7 +1,4 @@
-use Rattle.plan_words.specs.States.{GoesOn}
-use Rattle.tree_rewire.specs.SeenCosts.{SeesPair, cost_seen}
-use Rattle.tree_rewire.specs.Spreads.{OnlyAt}
-use Rattle.growing_tests.specs.LoweredNodes.HeldMarks.{IsAtWork}
+use Rattle.growing_tests.proofs.Words.{GoesOn, SeesPair, cost_seen, OnlyAt, IsAtWork}
 use Rattle.growing_tests.proofs.rewiring.support.lower_while_dearer.Given as goal
 
 -- the pass goes on, and sees no cost anew but that of the node

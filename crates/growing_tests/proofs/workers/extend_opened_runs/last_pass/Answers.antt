@@ -1,5 +1,4 @@
-use Rattle.std.proofs.lemmas.List.Elements.{All-pop}
-use Rattle.plan_words.specs.States.{MayClaim}
+use Rattle.growing_tests.proofs.Words.{All-pop, MayClaim}
 use Rattle.growing_tests.proofs.workers.extend_opened_runs.last_pass.Goals as goal
 
 pub returns-clause-rest : goal.returns-clause-rest

@@ -1,5 +1,4 @@
-use Rattle.std.proofs.Common.{arith}
-use Rattle.grown_runs.proofs.Common.{length-marks}
+use Rattle.growing_tests.proofs.Words.{arith, length-marks}
 use Rattle.growing_tests.proofs.workers.extend_with_fallen_costs.assert_handled.Goals as goal
 
 pub overflow_cast-limit : goal.overflow_cast-limit

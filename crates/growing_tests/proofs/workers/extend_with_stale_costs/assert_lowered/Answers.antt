@@ -1,7 +1,6 @@
 use Rattle.growing_tests.proofs.Shares.KeptShares.{HasShare-sees}
 use Rattle.growing_tests.proofs.workers.extend_with_stale_costs.assert_lowered.Goals as goal
-use Rattle.tree_rewire.proofs.CostSteps.{PassSees-lower}
-use Rattle.tree_rewire.specs.SeenCosts.{NamesLowered}
+use Rattle.growing_tests.proofs.Words.{PassSees-lower, NamesLowered}
 
 pub returns : goal.returns
 returns g c =

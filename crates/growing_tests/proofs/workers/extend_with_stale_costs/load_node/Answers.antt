@@ -1,10 +1,6 @@
-use Rattle.std.proofs.Common.{inl}
-use Rattle.plan_words.proofs.GoingOn.{GoesOn-trans}
+use Rattle.growing_tests.proofs.Words.{inl, GoesOn-trans, NamesTree, PassSees-tree, stands_later}
 use Rattle.growing_tests.proofs.Shares.KeptShares.{HasShare-kept, HasShare-sees}
 use Rattle.growing_tests.proofs.workers.extend_with_stale_costs.load_node.Goals as goal
-use Rattle.tree_rewire.specs.SeenCosts.{NamesTree}
-use Rattle.tree_rewire.proofs.CostSteps.{PassSees-tree}
-use Rattle.tree_rewire.proofs.SeenCosts.{stands_later}
 
 pub returns-clause-goes_on : goal.returns-clause-goes_on
 returns-clause-goes_on g c =

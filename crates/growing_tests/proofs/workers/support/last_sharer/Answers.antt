@@ -1,5 +1,4 @@
-use Rattle.std.proofs.lemmas.List.Elements.{All-pop}
-use Rattle.growing_tests.specs.Shares.Sharers.{HasShare}
+use Rattle.growing_tests.proofs.Words.{All-pop, HasShare}
 use Rattle.growing_tests.proofs.workers.support.last_sharer.Goals as goal
 
 pub returns-clause-rest : goal.returns-clause-rest

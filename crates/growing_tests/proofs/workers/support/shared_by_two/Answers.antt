@@ -1,5 +1,4 @@
-use Rattle.std.proofs.Common.{length, ap}
-use Rattle.std.specs.Prelude.{slice_index_or}
+use Rattle.growing_tests.proofs.Words.{length, ap, slice_index_or}
 use Rattle.growing_tests.proofs.Shares.Elements.{there}
 use Rattle.growing_tests.proofs.workers.support.shared_by_two.Goals as goal
 

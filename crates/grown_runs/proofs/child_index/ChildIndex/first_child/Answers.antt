@@ -1,6 +1,4 @@
-use Rattle.std.proofs.Common.{suc, ◌∙◌, sym, subst}
-use Rattle.std.proofs.lemmas.List.{get_or_default}
-use Rattle.grown_runs.specs.ChildChains.{AreMembers, siblings_from}
+use Rattle.grown_runs.proofs.Words.{suc, ◌∙◌, sym, subst, get_or_default, AreMembers, siblings_from}
 use Rattle.grown_runs.proofs.Children.SiblingWalks.{AreMembers-first}
 use Rattle.grown_runs.proofs.child_index.ChildIndex.first_child.Goals as goal
 

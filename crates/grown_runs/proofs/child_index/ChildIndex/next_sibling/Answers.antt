@@ -1,6 +1,4 @@
-use Rattle.std.proofs.Common.{◌∷◌, ◌<◌, ◌∙◌, length, sym, ap, arith}
-use Rattle.std.proofs.lemmas.List.{get_or_default}
-use Rattle.grown_runs.specs.ChildChains.{siblings_from}
+use Rattle.grown_runs.proofs.Words.{◌∷◌, ◌<◌, ◌∙◌, length, sym, ap, arith, get_or_default, siblings_from}
 use Rattle.grown_runs.proofs.Children.SiblingWalks.{siblings_from-next}
 use Rattle.grown_runs.proofs.child_index.ChildIndex.next_sibling.Goals as goal
 

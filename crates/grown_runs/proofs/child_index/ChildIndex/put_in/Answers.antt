@@ -1,7 +1,4 @@
-use Rattle.std.proofs.Common.{◌-◌, ◌<◌, suc, length, sym, ◌∙◌, subst, inl, inr, arith}
-use Rattle.std.proofs.lemmas.Bool.{cases_eq}
-use Rattle.std.proofs.lemmas.List.{get_or_default}
-use Rattle.grown_runs.specs.ChildChains.{MovesNode}
+use Rattle.grown_runs.proofs.Words.{◌-◌, ◌<◌, suc, length, sym, ◌∙◌, subst, inl, inr, arith, cases_eq, get_or_default, MovesNode}
 use Rattle.grown_runs.proofs.Children.MovedChildren.{IsIndex-put_in, MovesNode-none, front_within}
 use Rattle.grown_runs.proofs.child_index.ChildIndex.put_in.Goals as goal
 

@@ -1,5 +1,4 @@
-use Rattle.std.proofs.Common.{subst, arith}
-use Rattle.grown_runs.specs.ChildChains.{MovesNode}
+use Rattle.grown_runs.proofs.Words.{subst, arith, MovesNode}
 use Rattle.grown_runs.proofs.Children.MovedChildren.{HasInChain-out, MovesNode-none, MovesNode-trans, length-out}
 use Rattle.grown_runs.proofs.child_index.ChildIndex.relink.Goals as goal
 

@@ -1,6 +1,4 @@
-use Rattle.std.proofs.Common.{◌-◌, ◌<◌, length, refl, sym, ◌∙◌, subst, arith}
-use Rattle.std.proofs.lemmas.List.{get_or_default}
-use Rattle.grown_runs.specs.ChildChains.{MovesNode}
+use Rattle.grown_runs.proofs.Words.{◌-◌, ◌<◌, length, refl, sym, ◌∙◌, subst, arith, get_or_default, MovesNode}
 use Rattle.grown_runs.proofs.Children.MovedChildren.{IsIndex-taken_out, MovesNode-none, after_within, before_within}
 use Rattle.grown_runs.proofs.child_index.ChildIndex.take_out.Goals as goal
 

@@ -1,6 +1,4 @@
-use Rattle.std.proofs.Common.{arith, ◌∙◌}
-use Rattle.plan_model.proofs.MarkBounds.{length-marks}
-use Rattle.grown_runs.proofs.Words.{words_of_grown, sizes_of}
+use Rattle.grown_runs.proofs.Words.{arith, ◌∙◌, length-marks, words_of_grown, sizes_of}
 use Rattle.grown_runs.proofs.Runs.GrownPoints.{node_count-words}
 use Rattle.grown_runs.proofs.grown.Grown.count.Goals as goal
 

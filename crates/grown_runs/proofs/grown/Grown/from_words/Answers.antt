@@ -1,5 +1,4 @@
-use Rattle.std.proofs.Common.{sym, ap, ◌∙◌, subst}
-use Rattle.grown_runs.proofs.Words.{HoldRun, sizes_in}
+use Rattle.grown_runs.proofs.Words.{sym, ap, ◌∙◌, subst, HoldRun, sizes_in}
 use Rattle.grown_runs.proofs.grown.Grown.from_words.Goals as goal
 
 pub invariant_of-result : goal.invariant_of-result

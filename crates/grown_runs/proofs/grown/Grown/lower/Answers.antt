@@ -1,5 +1,4 @@
-use Rattle.std.proofs.Common.{arith, ap, ◌∙◌, subst}
-use Rattle.grown_runs.proofs.Words.{words_of_grown, sizes_of, sizes_in, words_in, WritesWord, TreeOf, Sizes, tree_word}
+use Rattle.grown_runs.proofs.Words.{arith, ap, ◌∙◌, subst, words_of_grown, sizes_of, sizes_in, words_in, WritesWord, TreeOf, Sizes, tree_word}
 use Rattle.grown_runs.proofs.Runs.GrownPoints.{has_node-present, present-within}
 use Rattle.grown_runs.proofs.Runs.LoweredWords.{CostsInstead-exchanged, HoldRun-lowered, children-kept}
 use Rattle.grown_runs.proofs.grown.Grown.lower.Goals as goal

@@ -1,5 +1,4 @@
-use Rattle.std.proofs.Common.{ap, ◌∙◌, subst}
-use Rattle.grown_runs.proofs.Words.{sizes_of, sizes_in, words_in, WritesWord, PointOf, TreeOf, FirstOf}
+use Rattle.grown_runs.proofs.Words.{ap, ◌∙◌, subst, sizes_of, sizes_in, words_in, WritesWord, PointOf, TreeOf, FirstOf}
 use Rattle.grown_runs.proofs.Runs.StartWords.{AreSameRuns-start, HoldRun-start, HoldStart-written, IsBounded-start}
 use Rattle.grown_runs.proofs.grown.Grown.new.Goals as goal
 

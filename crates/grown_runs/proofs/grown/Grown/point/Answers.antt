@@ -1,5 +1,4 @@
-use Rattle.std.proofs.Common.{◌≡◌, true, arith, sym, ap, ◌∙◌}
-use Rattle.grown_runs.proofs.Words.{words_of_grown, has_node, sizes_of, sizes_in, Sizes, point_of_word}
+use Rattle.grown_runs.proofs.Words.{◌≡◌, true, arith, sym, ap, ◌∙◌, words_of_grown, has_node, sizes_of, sizes_in, Sizes, point_of_word}
 use Rattle.grown_runs.proofs.Runs.GrownPoints.{point_at-words, point_at-absent, node_point-here, has_node-within}
 use Rattle.grown_runs.proofs.grown.Grown.point.Goals as goal
 

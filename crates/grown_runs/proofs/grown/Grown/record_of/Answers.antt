@@ -1,5 +1,4 @@
-use Rattle.std.proofs.Common.{sym, ap, ◌∙◌}
-use Rattle.std.specs.Prelude.{is_some}
+use Rattle.grown_runs.proofs.Words.{sym, ap, ◌∙◌, is_some}
 use Rattle.grown_runs.proofs.grown.Grown.record_of.Goals as goal
 
 pub unwrap-requires : goal.unwrap-requires

@@ -1,5 +1,4 @@
-use Rattle.std.proofs.Common.{ap, ◌∙◌}
-use Rattle.grown_runs.proofs.Words.{sizes_in, words_in}
+use Rattle.grown_runs.proofs.Words.{ap, ◌∙◌, sizes_in, words_in}
 use Rattle.grown_runs.proofs.Runs.HeldBests.{HoldRun-best}
 use Rattle.grown_runs.proofs.grown.Grown.write_best.Goals as goal
 

@@ -1,5 +1,4 @@
-use Rattle.std.proofs.Common.{arith, ◌∙◌}
-use Rattle.grown_runs.proofs.Words.{sizes_in, words_in}
+use Rattle.grown_runs.proofs.Words.{arith, ◌∙◌, sizes_in, words_in}
 use Rattle.grown_runs.proofs.Ways.NodesBelow.{child_within, here_seen, here_within}
 use Rattle.grown_runs.proofs.kd_links.LinkedNodesKdTree.child.Goals as goal
 

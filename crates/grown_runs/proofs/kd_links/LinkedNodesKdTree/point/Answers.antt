@@ -1,5 +1,4 @@
-use Rattle.std.proofs.Common.{Some, sym, ap, ◌∙◌}
-use Rattle.grown_runs.proofs.Words.{sizes_in, words_in, point_in}
+use Rattle.grown_runs.proofs.Words.{Some, sym, ap, ◌∙◌, sizes_in, words_in, point_in}
 use Rattle.grown_runs.proofs.Ways.NodesBelow.{here_seen, here_stands, here_within}
 use Rattle.grown_runs.proofs.kd_links.LinkedNodesKdTree.point.Goals as goal
 

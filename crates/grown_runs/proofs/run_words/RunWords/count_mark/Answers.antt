@@ -1,6 +1,4 @@
-use Rattle.std.proofs.Common.{◌+◌, ◌<◌, arith, subst}
-use Rattle.plan_model.specs.Scenes.MarkPoints.{strip_of_mark}
-use Rattle.grown_runs.proofs.Words.{words_in, WritesWord, Counter}
+use Rattle.grown_runs.proofs.Words.{◌+◌, ◌<◌, arith, subst, strip_of_mark, words_in, WritesWord, Counter}
 use Rattle.grown_runs.proofs.run_words.RunWords.count_mark.Goals as goal
 
 pub returns-clause-word : goal.returns-clause-word

@@ -1,5 +1,4 @@
-use Rattle.std.proofs.Common.{arith, sym}
-use Rattle.grown_runs.specs.Table.PlacesOfWords.{sizes_in}
+use Rattle.grown_runs.proofs.Words.{arith, sym, sizes_in}
 use Rattle.grown_runs.proofs.Runs.GrownPoints.{record_at-past}
 use Rattle.grown_runs.proofs.run_words.RunWords.record_at.Goals as goal
 

@@ -1,5 +1,4 @@
-use Rattle.std.proofs.Common.{refl}
-use Rattle.grown_runs.specs.Table.PlacesOfWords.{sizes_in}
+use Rattle.grown_runs.proofs.Words.{refl, sizes_in}
 use Rattle.grown_runs.proofs.Table.WordReads.{WritesWord-set}
 use Rattle.grown_runs.proofs.run_words.RunWords.set.Goals as goal
 

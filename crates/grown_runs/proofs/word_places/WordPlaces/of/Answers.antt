@@ -1,5 +1,4 @@
-use Rattle.std.proofs.Common.{arith}
-use Rattle.plan_model.proofs.MarkBounds.{length-marks}
+use Rattle.grown_runs.proofs.Words.{arith, length-marks}
 use Rattle.grown_runs.proofs.word_places.WordPlaces.of.Goals as goal
 
 pub invariant_of-result-clause-few_marks : goal.invariant_of-result-clause-few_marks

@@ -1,6 +1,4 @@
-use Rattle.std.proofs.Common.{refl}
-use Rattle.plan_model.specs.Spaces.RoomOfConfigurations.{InRoom, at_lattice}
-use Rattle.swept_check.proofs.HallLaws.{CrossesNone-clear, clear_of, first_in_room, last_in_room}
+use Rattle.obstacle_boxes.proofs.Words.{refl, InRoom, at_lattice, CrossesNone-clear, clear_of, first_in_room, last_in_room}
 use Rattle.obstacle_boxes.proofs.ZoneTrees.{leaves-among, CrossesNone-leaves, leaves_met-near, true_unless, not_none}
 use Rattle.obstacle_boxes.proofs.boxes.Boxes.tests.Goals as goal
 use Rattle.obstacle_boxes.proofs.boxes.Boxes.tests.Goals.{then-not-is_in_room-via-then-not-is_in_room}

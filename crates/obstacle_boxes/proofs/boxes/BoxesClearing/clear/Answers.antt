@@ -1,5 +1,4 @@
-use Rattle.std.proofs.Common.{◌↔◌, IsTrue, subst}
-use Rattle.plan_model.specs.Spaces.Clearance.{Clear}
+use Rattle.obstacle_boxes.proofs.Words.{◌↔◌, IsTrue, subst, Clear}
 use Rattle.obstacle_boxes.proofs.boxes.BoxesClearing.clear.Goals as goal
 
 pub returns-then-zones-le-MOST_WITHOUT_TREE : goal.returns-then-zones-le-MOST_WITHOUT_TREE

@@ -1,5 +1,4 @@
-use Rattle.std.proofs.Common.{ℕ, ◌-◌, ◌*◌, ◌^◌, Bool, leb, arith}
-use Rattle.std.proofs.lemmas.Bool.{leb-true, le-leb}
+use Rattle.plan_model.proofs.Words.{ℕ, ◌-◌, ◌*◌, ◌^◌, Bool, leb, arith, leb-true, le-leb}
 use Rattle.plan_model.proofs.RadiusLaws.{greatest-le, greatest-passes, greatest-most}
 use Rattle.plan_model.proofs.laws.radii.radius_is_greatest.Goals as goal
 

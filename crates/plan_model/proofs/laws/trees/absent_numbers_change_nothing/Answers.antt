@@ -1,5 +1,4 @@
-use Rattle.std.proofs.Common.{None, ◌++◌}
-use Rattle.std.specs.Prelude.{replicate}
+use Rattle.plan_model.proofs.Words.{None, ◌++◌, replicate}
 use Rattle.plan_model.proofs.TreeChanges.{HaveSameNodes-absent_all, chain-same, sum-same}
 use Rattle.plan_model.proofs.laws.trees.absent_numbers_change_nothing.Goals as goal
 

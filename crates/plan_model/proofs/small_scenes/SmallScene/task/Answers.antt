@@ -1,5 +1,4 @@
-use Rattle.std.proofs.Common.{◌≡◌, List, [], refl, sym, ap, ◌∙◌}
-use Rattle.plan_model.proofs.Words.{Point, Scene, Listed, mark_points, points_of_marks, space_among}
+use Rattle.plan_model.proofs.Words.{◌≡◌, List, [], refl, sym, ap, ◌∙◌, Point, Scene, Listed, mark_points, points_of_marks, space_among}
 use Rattle.plan_model.proofs.small_scenes.SmallScene.task.Goals as goal
 
 -- the marks of a plan that lists them

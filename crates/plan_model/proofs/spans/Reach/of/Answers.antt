@@ -1,8 +1,6 @@
-use Rattle.std.proofs.Common.{◌≡◌, ℕ, ◌+◌, ◌<◌, ◌≤◌, max, List, length, get_or, take, sym, ap, ◌∙◌, take_all, rules, w32, to_z, of_z}
-use Rattle.std.specs.Prelude.{pos}
-use Rattle.std.proofs.lemmas.Int.{to_z-of_z}
-use Rattle.std.proofs.lemmas.List.Sums.{fold_more}
+use Rattle.plan_model.proofs.Words.{◌≡◌, ℕ, ◌+◌, ◌<◌, ◌≤◌, max, List, length, get_or, take, sym, ap, ◌∙◌, rules, w32, to_z, of_z, pos, to_z-of_z, fold_more}
 use Rattle.plan_model.proofs.Words.{Vertex, above_zero, below_zero, reach}
+use Rattle.std.proofs.Common.{take_all}
 use Rattle.plan_model.proofs.spans.Reach.of.Goals as goal
 
 -- the reach of the corners so far and of the next one

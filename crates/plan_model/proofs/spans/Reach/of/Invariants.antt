@@ -1,5 +1,4 @@
-use Rattle.std.proofs.Common.{◌≡◌, take}
-use Rattle.plan_model.specs.Scenes.MarkPoints.{above_zero, below_zero, reach}
+use Rattle.plan_model.proofs.Words.{◌≡◌, take, above_zero, below_zero, reach}
 use Rattle.plan_model.proofs.spans.Reach.of.Given as goal
 
 abbrev pub invariant-loop-corner : goal.invariant-loop-corner

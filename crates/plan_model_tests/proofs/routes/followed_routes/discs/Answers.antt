@@ -1,11 +1,5 @@
-use Rattle.std.proofs.Common.{[], ◌∷◌, arith, refl}
-use Rattle.std.specs.Prelude.{pos, negsuc}
-use Rattle.std.proofs.Math.Nat.{le_refl}
-use Rattle.std.proofs.lemmas.Int.{ints}
-use Rattle.route_laws.proofs.Common.{Point, Setup, Meets, Rational, at_lattice, great_triangle, point_body, small_square, at, two_is_positive}
-use Rattle.route_laws.specs.Discs.{HasClearDisc}
-use Rattle.route_laws.proofs.FollowedBodies.{HasClearDisc-far}
-use Rattle.plan_model_tests.specs.RouteExamples.Links.{IsNeither, wide_setup}
+use Rattle.plan_model_tests.proofs.Words.{[], ◌∷◌, arith, refl, pos, negsuc, le_refl, ints, Point, Setup, Meets, Rational, at_lattice, great_triangle}
+use Rattle.plan_model_tests.proofs.Words.{point_body, small_square, at, two_is_positive, HasClearDisc, HasClearDisc-far, IsNeither, wide_setup}
 use Rattle.plan_model_tests.proofs.RouteExamples.WideTriangle.{KeepsBodyFar-wide}
 use Rattle.plan_model_tests.proofs.routes.followed_routes.discs.Goals as goal
 

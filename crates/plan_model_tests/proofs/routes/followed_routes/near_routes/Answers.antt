@@ -1,7 +1,6 @@
-use Rattle.std.proofs.Common.{◌≡◌, ◌*◌, ◌≤◌, [], arith, refl, sym, subst}
-use Rattle.route_laws.proofs.Common.{squared_distance, marks_to_rewire, open_setup, at, Clear-empty_room, IsInRoom-from_clear_at, cost_2441, cost_2500}
-use Rattle.route_laws.specs.RouteCosts.{IsNearLink, least_radius}
-use Rattle.plan_model_tests.specs.RouteExamples.NearRoutes.{narrow_setup, three_marks, two_marks}
+use Rattle.plan_model_tests.proofs.Words.{◌≡◌, ◌*◌, ◌≤◌, [], arith, refl, sym, subst, squared_distance, marks_to_rewire, open_setup, at, Clear-empty_room}
+use Rattle.plan_model_tests.proofs.Words.{IsInRoom-from_clear_at, cost_2441, cost_2500, IsNearLink, least_radius, three_marks, two_marks}
+use Rattle.plan_model_tests.specs.RouteExamples.NearRoutes.{narrow_setup}
 use Rattle.plan_model_tests.proofs.RouteExamples.OpenRoomLinks.{IsOpenLink-short}
 use Rattle.plan_model_tests.proofs.routes.followed_routes.near_routes.Goals as goal
 

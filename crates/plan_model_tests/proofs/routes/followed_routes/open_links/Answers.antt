@@ -1,9 +1,4 @@
-use Rattle.std.proofs.Common.{[], arith, refl}
-use Rattle.std.specs.Prelude.{pos, negsuc}
-use Rattle.std.proofs.Math.Nat.{le_refl}
-use Rattle.std.proofs.lemmas.Int.{ints}
-use Rattle.route_laws.proofs.Common.{on_the_way, Rational, at}
-use Rattle.plan_model_tests.specs.RouteExamples.Links.{thin_triangle}
+use Rattle.plan_model_tests.proofs.Words.{[], arith, refl, pos, negsuc, le_refl, ints, on_the_way, Rational, at, thin_triangle}
 use Rattle.plan_model_tests.proofs.RouteExamples.OpenRoomLinks.{IsOpenLink-short}
 use Rattle.plan_model_tests.proofs.RouteExamples.ThinTriangle.{ClearAt-near, blocked_from_below, blocked_from_beside, four_is_positive, meets_middle}
 use Rattle.plan_model_tests.proofs.routes.followed_routes.open_links.Goals as goal

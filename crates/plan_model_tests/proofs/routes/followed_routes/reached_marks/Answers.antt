@@ -1,8 +1,5 @@
-use Rattle.std.proofs.Common.{ℕ, zero, suc, ◌≤◌, [], ◌∷◌, arith, refl}
-use Rattle.std.proofs.lemmas.List.Elements.{All-cons, All-nil}
-use Rattle.route_laws.proofs.Common.{points_of, StandsAt, marks_to_rewire, rewired_tree, at, same_y}
-use Rattle.route_laws.specs.Routes.{IsReached}
-use Rattle.plan_model_tests.specs.RouteExamples.FollowedRuns.{late_points}
+use Rattle.plan_model_tests.proofs.Words.{ℕ, zero, suc, ◌≤◌, [], ◌∷◌, arith, refl, All-cons, All-nil, points_of, StandsAt, marks_to_rewire, rewired_tree, at}
+use Rattle.plan_model_tests.proofs.Words.{same_y, IsReached, late_points}
 use Rattle.plan_model_tests.proofs.routes.followed_routes.reached_marks.Goals as goal
 
 -- neither the start nor node 1 stands at the mark

@@ -1,5 +1,4 @@
-use Rattle.std.proofs.Common.{[], arith}
-use Rattle.plan_model.specs.Vectors.Shapes.{at}
+use Rattle.plan_model_tests.proofs.Words.{[], arith, at}
 use Rattle.plan_model_tests.proofs.RouteExamples.OpenRoomLinks.{IsOpenLink-short}
 use Rattle.plan_model_tests.proofs.routes.followed_routes.routes.Goals as goal
 

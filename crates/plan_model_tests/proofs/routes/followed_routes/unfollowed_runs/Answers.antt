@@ -1,6 +1,6 @@
-use Rattle.std.proofs.Common.{◌≡◌, ℕ, zero, suc, ◌≤◌, [], arith, refl, sym, ◌∙◌}
-use Rattle.route_laws.proofs.Common.{Point, steered, IsGoalNode, IsNotAbove, IsNearest, distance_to, points_of, sum_of, IsFree, IsPresent, StandsAt, open_setup}
-use Rattle.route_laws.proofs.Common.{open_setup_to, at, MayBeCheaper-not_skipping, IsNotAbove-refl, first_mark, same_y, root_ceiling-from_squares}
+use Rattle.plan_model_tests.proofs.Words.{◌≡◌, ℕ, zero, suc, ◌≤◌, [], arith, refl, sym, ◌∙◌, Point, steered, IsGoalNode, IsNotAbove, IsNearest, distance_to}
+use Rattle.plan_model_tests.proofs.Words.{points_of, sum_of, IsFree, IsPresent, StandsAt, open_setup, open_setup_to, at, MayBeCheaper-not_skipping}
+use Rattle.plan_model_tests.proofs.Words.{IsNotAbove-refl, first_mark, same_y, root_ceiling-from_squares, goal_at_start, no_node, short_of_mark, thin_setup}
 use Rattle.plan_model.specs.Geometry.Roots.{root_ceiling}
 use Rattle.plan_model.specs.Runs.Textbook.{
   EndsBlocked,
@@ -13,8 +13,6 @@ use Rattle.plan_model.specs.Runs.Textbook.{
   start_alone,
 }
 use Rattle.plan_model.proofs.OpenRoomMarks.{one_node, two_nodes}
-use Rattle.plan_model_tests.specs.RouteExamples.FollowedRuns.{goal_at_start, no_node, short_of_mark}
-use Rattle.plan_model_tests.specs.RouteExamples.Links.{thin_setup}
 use Rattle.plan_model_tests.proofs.RouteExamples.OpenRoomLinks.{IsOpenLink-short}
 use Rattle.plan_model_tests.proofs.RouteExamples.ThinTriangle.{blocked_from_below}
 use Rattle.plan_model_tests.proofs.routes.followed_routes.unfollowed_runs.Goals as goal

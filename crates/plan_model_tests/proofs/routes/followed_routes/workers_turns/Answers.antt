@@ -1,7 +1,5 @@
-use Rattle.std.proofs.Common.{◌≡◌, ◌⊎◌, inl, inr, ℕ, suc, Some, refl, sym, ap, ◌∙◌, subst}
-use Rattle.route_laws.proofs.Common.{Placed, Same, Record, IsEarlier, placed_by}
-use Rattle.route_laws.specs.WorkersRoutes.{EndsAtNode, IsHandledAfter}
-use Rattle.plan_model_tests.specs.RouteExamples.WorkersTurns.{two_workers}
+use Rattle.plan_model_tests.proofs.Words.{◌≡◌, ◌⊎◌, inl, inr, ℕ, suc, Some, refl, sym, ap, ◌∙◌, subst, Placed, Same, Record, IsEarlier, placed_by, EndsAtNode}
+use Rattle.plan_model_tests.proofs.Words.{IsHandledAfter, two_workers}
 use Rattle.plan_model_tests.proofs.routes.followed_routes.workers_turns.Goals as goal
 
 -- a mark whose record says that it was placed ended at its own node

@@ -1,7 +1,6 @@
-use Rattle.std.proofs.Common.{◌<◌, List, length, arith, ap, sym, subst, ◌∙◌}
-use Rattle.std.specs.Prelude.{All, IsPermutation, filter, slice_index}
+use Rattle.plan_words.proofs.Words.{◌<◌, List, length, arith, ap, sym, subst, ◌∙◌, All, IsPermutation, filter, slice_index, is_dearer, PassState, tree_words}
+use Rattle.plan_words.proofs.Words.{Found}
 use Rattle.plan_words.proofs.KeptFound.{filter-same}
-use Rattle.plan_words.proofs.Words.{is_dearer, PassState, tree_words, Found}
 use Rattle.plan_words.proofs.passes.Pass.keep_dearer.Goals as goal
 
 pub keep_dearer-requires-clause-low : goal.keep_dearer-requires-clause-low

@@ -1,8 +1,6 @@
-use Rattle.std.proofs.Common.{length, sym, ap, ◌∙◌, subst, arith}
-use Rattle.std.proofs.lemmas.Option.{IfSome_then}
+use Rattle.plan_words.proofs.Words.{length, sym, ap, ◌∙◌, subst, arith, IfSome_then, IsOn}
 use Rattle.plan_words.proofs.MarkedNodes.{IsOn-before, IsOn-popped, IsOn-unless_popped, shorter-popped}
 use Rattle.plan_words.proofs.passes.Pass.pop_waiting.Goals as goal
-use Rattle.plan_words.specs.Waiting.{IsOn}
 
 pub returns-clause-popped : goal.returns-clause-popped
 returns-clause-popped c = sym (ap (λ p. p.lists.waiting) c.self.view_is) ∙ c.pop.ensures.popped

@@ -1,7 +1,6 @@
-use Rattle.std.proofs.Common.{◌≡◌, ◌⊎◌, ap, arith, inr, length, subst, sym}
+use Rattle.plan_words.proofs.Words.{◌≡◌, ◌⊎◌, ap, arith, inr, length, subst, sym, HasSeenParent, IsOn}
 use Rattle.plan_words.proofs.SeenChildren.{HasFirstPairs-all, chain-HasSeenParent}
 use Rattle.plan_words.proofs.passes.Pass.queue_parent.Goals as goal
-use Rattle.plan_words.specs.Waiting.{HasSeenParent, IsOn}
 
 pub returns-then-has_child-clause-only : goal.returns-then-has_child-clause-only
 returns-then-has_child-clause-only c n on = subst (λ p. IsOn p.lists.waiting n ⊎ (n ≡ c.args.node)) c.self.view_is (c.push.ensures.only n on)

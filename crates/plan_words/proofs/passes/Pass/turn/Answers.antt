@@ -1,5 +1,4 @@
-use Rattle.std.proofs.Common.{subst, sym, ◌∙◌}
-use Rattle.std.specs.Prelude.{IsSome}
+use Rattle.plan_words.proofs.Words.{subst, sym, ◌∙◌, IsSome}
 use Rattle.plan_words.proofs.Tying.{turn_few}
 use Rattle.plan_words.proofs.passes.Pass.turn.Goals as goal
 

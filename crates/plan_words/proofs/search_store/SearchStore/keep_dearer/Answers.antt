@@ -1,9 +1,6 @@
-use Rattle.std.proofs.Common.{◌<◌, List, length, map, take, ap, sym, subst, ◌∙◌, rules}
-use Rattle.std.specs.Prelude.{All, IsPermutation, filter, slice_index}
-use Rattle.std.specs.List.Sorted.{IsNonDecreasing}
-use Rattle.std.proofs.lemmas.List.Sorted.{IsNonDecreasingBy-from_sort_by_key, IsPermutation-map}
+use Rattle.plan_words.proofs.Words.{◌<◌, List, length, map, take, ap, sym, subst, ◌∙◌, rules, All, IsPermutation, filter, slice_index, IsNonDecreasing}
+use Rattle.plan_words.proofs.Words.{IsNonDecreasingBy-from_sort_by_key, IsPermutation-map, SearchState, found_in, is_dearer, numbers_of, Cell, Found}
 use Rattle.plan_words.proofs.KeptFound.{All-cells, all_kept, filter-found, rising_numbers}
-use Rattle.plan_words.proofs.Words.{SearchState, found_in, is_dearer, numbers_of, Cell, Found}
 use Rattle.plan_words.proofs.search_store.SearchStore.keep_dearer.Goals as goal
 
 pub keep_in_front-kept-requires-clause-low : goal.keep_in_front-kept-requires-clause-low

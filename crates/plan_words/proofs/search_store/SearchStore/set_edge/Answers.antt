@@ -1,9 +1,6 @@
-use Rattle.std.proofs.Common.{◌≡◌, List, drop, length, map, set, take, ap, arith, subst, sym, ◌∙◌}
-use Rattle.std.specs.Prelude.{IfSome, slice_get}
-use Rattle.std.proofs.lemmas.List.{drop-set-lt}
-use Rattle.std.specs.Vec.{vec_capacity}
-use Rattle.plan_words.proofs.KeptFound.{found-set, found_below, found_here}
+use Rattle.plan_words.proofs.Words.{◌≡◌, List, drop, length, map, set, take, ap, arith, subst, sym, ◌∙◌, IfSome, slice_get, drop-set-lt, vec_capacity}
 use Rattle.plan_words.proofs.Words.{SearchState, found_in, spot_in, Cell, Found}
+use Rattle.plan_words.proofs.KeptFound.{found-set, found_below, found_here}
 use Rattle.plan_words.proofs.search_store.SearchStore.set_edge.Goals as goal
 
 pub returns : goal.returns

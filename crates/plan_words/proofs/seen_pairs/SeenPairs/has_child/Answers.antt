@@ -1,9 +1,6 @@
-use Rattle.std.proofs.Common.{◌≡◌, ap, arith, inl, inr, length, suc, ◌∙◌}
+use Rattle.plan_words.proofs.Words.{◌≡◌, ap, arith, inl, inr, length, suc, ◌∙◌, cases_eq, ne_eqb, seen_words, sibling_chain_in, siblings_from, times}
 use mathlib.Core.Bool.{not}
-use Rattle.std.proofs.lemmas.Bool.{cases_eq, ne_eqb}
-use Rattle.plan_words.specs.SeenChains.{seen_words, sibling_chain_in}
 use Rattle.plan_words.proofs.seen_pairs.SeenPairs.has_child.Goals as goal
-use Rattle.grown_runs.specs.ChildChains.{siblings_from, times}
 
 pub returns-then-parent-len : goal.returns-then-parent-len
 returns-then-parent-len c n own =

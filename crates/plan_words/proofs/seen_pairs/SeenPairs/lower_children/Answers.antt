@@ -1,12 +1,10 @@
-use Rattle.std.proofs.Common.{◌≡◌, ◌+◌, ◌≤◌, length, ap, arith, subst, sym, ◌∙◌}
-use Rattle.std.proofs.lemmas.Option.{IfSome_then}
+use Rattle.plan_words.proofs.Words.{◌≡◌, ◌+◌, ◌≤◌, length, ap, arith, subst, sym, ◌∙◌, IfSome_then, seen_words, sibling_chain_in, HasPairs, IndexesChains}
+use Rattle.plan_words.proofs.Words.{IsIndex-same}
 use Rattle.plan_words.proofs.Claiming.{IfNone-then}
 use Rattle.plan_words.proofs.FirstPairs.{HasFirstPairs-seen, HasPairs-first, HasPairs-first_set, chain-seen}
 use Rattle.plan_words.proofs.SeenLists.{length-seen}
 use Rattle.plan_words.proofs.seen_pairs.SeenPairs.lower_children.Goals as goal
 use Rattle.plan_words.proofs.seen_pairs.SeenPairs.lower_children.Goals.{After-lower_chain}
-use Rattle.plan_words.proofs.Words.{seen_words, sibling_chain_in, HasPairs}
-use Rattle.grown_runs.proofs.Common.{IndexesChains, IsIndex-same}
 
 pub lower_chain-requires-clause-index : goal.lower_chain-requires-clause-index
 lower_chain-requires-clause-index c =

@@ -1,9 +1,6 @@
-use Rattle.std.proofs.Common.{length, sym, ap, ◌∙◌, arith}
-use Rattle.std.specs.Prelude.{slice_set}
-use Rattle.std.specs.Vec.{vec_capacity}
+use Rattle.plan_words.proofs.Words.{length, sym, ap, ◌∙◌, arith, slice_set, vec_capacity, chain_of, seen_words, sibling_chain_in}
 use Rattle.plan_words.proofs.SeenLists.{StandFor, StandFor-reached, StandFor-set, needed-within}
 use Rattle.plan_words.proofs.seen_pairs.SeenPairs.set.Goals as goal
-use Rattle.plan_words.specs.SeenChains.{chain_of, seen_words, sibling_chain_in}
 
 pub reach-requires : goal.reach-requires
 reach-requires c = (

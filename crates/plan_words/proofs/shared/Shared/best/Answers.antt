@@ -1,11 +1,9 @@
-use Rattle.std.proofs.Common.{◌≡◌, ◌+◌, ◌≤◌, ℕ, ap, length, refl, subst, sym, true, ◌∙◌}
-use Rattle.std.specs.Prelude.{IfNone, IfSome}
+use Rattle.plan_words.proofs.Words.{◌≡◌, ◌+◌, ◌≤◌, ℕ, ap, length, refl, subst, sym, true, ◌∙◌, IfNone, IfSome, Best, WritesWord, best_of_word, has_node}
+use Rattle.plan_words.proofs.Words.{no_best, SeesGoal, WritesWord-look_best, best_loaded, hand_with_best, last_look, sees}
 use Rattle.plan_words.proofs.KeptPairs.{HasPairs-kept, keeps_view}
 use Rattle.plan_words.proofs.Owning.{may_best_here, same_run, same_table}
 use Rattle.plan_words.proofs.Posting.{none_posted, read_none, read_within}
 use Rattle.plan_words.proofs.shared.Shared.best.Goals as goal
-use Rattle.grown_runs.proofs.Common.{Best, WritesWord, best_of_word, has_node, no_best}
-use Rattle.step_core.proofs.Common.{SeesGoal, WritesWord-look_best, best_loaded, hand_with_best, last_look, sees}
 
 pub load-word-requires : goal.load-word-requires
 load-word-requires c =

@@ -1,11 +1,9 @@
 use Rattle.plan_words.proofs.KeptPairs.{keeps_saw}
-use Rattle.std.proofs.Common.{◌≡◌, ◌<◌, ◌≤◌, Some, ap, sym, subst, refl, ◌∙◌, arith}
-use Rattle.std.specs.Prelude.{MatchOption}
+use Rattle.plan_words.proofs.Words.{◌≡◌, ◌<◌, ◌≤◌, Some, ap, sym, subst, refl, ◌∙◌, arith, MatchOption, child_of_word, ChildOf, place_of, SeesNode, last_zero}
+use Rattle.plan_words.proofs.Words.{tree_seen}
 use Rattle.plan_words.proofs.LookedNodes.{child_fits, child_found, place_here, seen_low}
 use Rattle.plan_words.proofs.Owning.{found_whole, looks_told, may_load_here, same_run, same_table, sees_told}
 use Rattle.plan_words.proofs.shared.Shared.child_or_start.Goals as goal
-use Rattle.grown_runs.proofs.Common.{child_of_word, ChildOf, place_of}
-use Rattle.step_core.proofs.Common.{SeesNode, last_zero, tree_seen}
 
 pub child-place-requires : goal.child-place-requires
 child-place-requires c =

@@ -1,11 +1,10 @@
-use Rattle.std.proofs.Common.{◌≢◌, ◌<◌, inl, inr, refl, ap, sym, subst, ◌∙◌, arith, le_trans, length}
+use Rattle.plan_words.proofs.Words.{◌≢◌, ◌<◌, inl, inr, refl, ap, sym, subst, ◌∙◌, arith, le_trans, length, AllFull, IsClaimed, IsLeastOpen, IsOpen, KeepsHand}
+use Rattle.plan_words.proofs.Words.{RaisesCounter, SeesAsBefore, run_in, worker_of, mark_of, IsLater-refl, IsLater-trans}
 use Rattle.plan_words.proofs.Claiming.{IfNone-any, IsClaimed-exchanged, KeepsHand-trans, counters_changed, counters_twice}
 use Rattle.plan_words.proofs.Claiming.{claim_nearer, kept_exchanged, loaded_before, loaded_since, view_alone-more}
 use Rattle.plan_words.proofs.GoingOn.{BelongsTo-later, GoesOn-more, GoesOn-trans}
 use Rattle.plan_words.proofs.WholeClaims.{HasWholeShare-kept, IsLeastOpen-first, RaisesCounter-exchanged, whole_twice}
 use Rattle.plan_words.proofs.shared.Shared.claim.Goals as goal
-use Rattle.plan_words.proofs.Words.{AllFull, IsClaimed, IsLeastOpen, IsOpen, KeepsHand, RaisesCounter, SeesAsBefore, run_in, worker_of}
-use Rattle.step_core.proofs.Common.{mark_of, IsLater-refl, IsLater-trans}
 
 pub tries-init : goal.tries-init
 tries-init c = record {

@@ -1,10 +1,7 @@
-use Rattle.std.proofs.Common.{◌≡◌}
-use Rattle.plan_words.proofs.Words.{KeepsHand, SeesAsBefore, BelongsTo, HasWholeShare, with_view}
+use Rattle.plan_words.proofs.Words.{◌≡◌, KeepsHand, SeesAsBefore, BelongsTo, HasWholeShare, with_view, IsLater, sees, ChangesOnly, IsCounter, Counter}
 use Rattle.plan_words.proofs.GoingOn.{HasGoneOn}
 use Rattle.plan_words.proofs.Scanning.{left_over}
 use Rattle.plan_words.proofs.shared.Shared.claim.Given as goal
-use Rattle.step_core.proofs.Common.{IsLater, sees}
-use Rattle.grown_runs.proofs.Common.{ChangesOnly, IsCounter, Counter}
 
 abbrev pub invariant-tries : goal.invariant-tries
 invariant-tries l = record {

@@ -1,12 +1,9 @@
-use Rattle.std.proofs.Common.{◌≡◌, Some, ap, refl, subst, sym, ◌∙◌}
-use Rattle.std.specs.Prelude.{IfSome}
+use Rattle.plan_words.proofs.Words.{◌≡◌, Some, ap, refl, subst, sym, ◌∙◌, IfSome, counted, last_note, note_before, Linked}
 use Rattle.plan_words.proofs.HandSteps.{at_hand}
 use Rattle.plan_words.proofs.KeptPairs.{keeps_hand}
 use Rattle.plan_words.proofs.Owning.{may_count_here, same_run, same_table}
 use Rattle.plan_words.proofs.ToldHands.{none_held}
 use Rattle.plan_words.proofs.shared.Shared.count.Goals as goal
-use Rattle.step_core.specs.ViewSteps.{counted, last_note, note_before}
-use Rattle.step_core.specs.declared.views.Stage.TheVariants.{Linked}
 
 pub unreachable-requires : goal.unreachable-requires
 unreachable-requires c = none_held _ _ _ c.pass.view_is c.pass.invariant.1.hand_is c.in_default.is c.requires.hand

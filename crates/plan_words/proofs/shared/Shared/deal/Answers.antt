@@ -1,9 +1,6 @@
-use Rattle.std.proofs.Common.{◌∙◌, ◌<◌, ap, length, subst, sym, arith}
-use Rattle.grown_runs.proofs.Common.{turns_of, record_at}
+use Rattle.plan_words.proofs.Words.{◌∙◌, ◌<◌, ap, length, subst, sym, arith, turns_of, record_at, IsPassOf, sees}
 use Rattle.plan_words.proofs.Dealing.{sees-started}
 use Rattle.plan_words.proofs.shared.Shared.deal.Goals as goal
-use Rattle.plan_words.specs.Dealt.{IsPassOf}
-use Rattle.step_core.specs.Views.{sees}
 
 pub open-requires : goal.open-requires
 open-requires c = c.requires.turns 0 (omega (arith, c.args.opening.some))

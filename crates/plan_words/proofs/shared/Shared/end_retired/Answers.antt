@@ -1,12 +1,9 @@
-use Rattle.std.proofs.Common.{sym, ap, ◌∙◌, subst, arith}
-use Rattle.std.specs.Mem.Slots.{slots_items}
+use Rattle.plan_words.proofs.Words.{sym, ap, ◌∙◌, subst, arith, slots_items, HasNoneLeft, HoldRun, cleared, record_at, run_words, sizes_in, words_in}
+use Rattle.plan_words.proofs.Words.{word_count, share}
 use Rattle.plan_words.proofs.Ending.{AreSameRuns-ended, HoldRun-ended, StandsAsSeen-ended, limit-found, own_workers-ended}
 use Rattle.plan_words.proofs.Ending.{same_in_run, stands_in_run, words-copied}
 use Rattle.plan_words.proofs.Owning.{same_run}
 use Rattle.plan_words.proofs.shared.Shared.end_retired.Goals as goal
-use Rattle.plan_words.specs.Claims.{HasNoneLeft}
-use Rattle.grown_runs.proofs.Common.{HoldRun, cleared, record_at, run_words, sizes_in, words_in, word_count}
-use Rattle.step_core.specs.Views.{share}
 
 pub copy_words-requires-clause-as_many : goal.copy_words-requires-clause-as_many
 copy_words-requires-clause-as_many c =

@@ -1,13 +1,10 @@
-use Rattle.std.proofs.Common.{◌≡◌, ℕ, ◌+◌, ◌<◌, ◌≤◌, ◌==◌, List, None, Some, ap, cond, length, refl, subst, sym, ◌∙◌}
-use Rattle.std.proofs.lemmas.Bool.{eq-eqb, ne_eqb}
+use Rattle.plan_words.proofs.Words.{◌≡◌, ℕ, ◌+◌, ◌<◌, ◌≤◌, ◌==◌, List, None, Some, ap, cond, length, refl, subst, sym, ◌∙◌, ne_eqb, Tells, run_in, WritesWord}
+use Rattle.plan_words.proofs.Words.{Counter, claimed, last_note, loaded, mark_of, new_hand, place_in, saw_at, sees, share, View}
+use Rattle.std.proofs.lemmas.Bool.{eq-eqb}
 use Rattle.plan_words.proofs.KeptPairs.{HasPairs-claimed, keeps_saw, keeps_view}
 use Rattle.plan_words.proofs.Owning.{found_whole, may_claim_here, same_run, same_table, sees_exchanged, tells_on, with_view_told}
 use Rattle.plan_words.proofs.shared.Shared.exchange.Goals as goal
-use Rattle.plan_words.proofs.Words.{Tells, run_in}
-use Rattle.grown_runs.proofs.Common.{WritesWord, Counter}
 use Rattle.plan_model.specs.Scenes.MarkPoints.{mark_of as mark_by_strips}
-use Rattle.step_core.proofs.Common.{claimed, last_note, loaded, mark_of, new_hand, place_in, saw_at, sees, share}
-use Rattle.step_core.specs.declared.views.View.{View}
 
 -- the view after an exchange was tried, by what the counter was
 abbrev view_exchanged : View → ℕ → ℕ → ℕ → ℕ → List ℕ → View

@@ -1,13 +1,10 @@
-use Rattle.std.proofs.Common.{◌≡◌, ◌<◌, ◌≤◌, ◌+◌, ap, arith, length, refl, subst, sym, ◌∙◌}
-use Rattle.std.specs.Prelude.{◌==◌, cond, is_some}
+use Rattle.plan_words.proofs.Words.{◌≡◌, ◌<◌, ◌≤◌, ◌+◌, ap, arith, length, refl, subst, sym, ◌∙◌, ◌==◌, cond, is_some, FindsLess, HasWholeShare, HasLooked}
+use Rattle.plan_words.proofs.Words.{last_note, loaded, lowered, MayLower, sees, share, WritesWord, TreeOf}
 use Rattle.plan_words.proofs.KeptPairs.{HasPairs-wrote, fits_word, keeps_parent}
 use Rattle.plan_words.proofs.Owning.{SitsAt-pass, goes_on_told, with_view_told}
 use Rattle.plan_words.proofs.SeatSteps.{Keeps-looked}
 use Rattle.plan_words.proofs.shared.Shared.exchange_tree.Goals as goal
 use Rattle.plan_words.proofs.shared.Shared.exchange_tree.Goals.{After-word-seen}
-use Rattle.plan_words.proofs.Words.{FindsLess, HasWholeShare}
-use Rattle.step_core.proofs.Common.{HasLooked, last_note, loaded, lowered, MayLower, sees, share}
-use Rattle.grown_runs.proofs.Common.{WritesWord, TreeOf}
 
 pub word-seen-requires : goal.word-seen-requires
 word-seen-requires c =

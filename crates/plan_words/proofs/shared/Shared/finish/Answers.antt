@@ -1,4 +1,5 @@
-use Rattle.std.proofs.Common.{◌<◌, arith, length, refl, ap, subst, sym, ◌∙◌}
+use Rattle.plan_words.proofs.Words.{◌<◌, arith, length, refl, ap, subst, sym, ◌∙◌, turn_of, turned, worker_of, IfSome, finished, finished_at, MayRecord}
+use Rattle.plan_words.proofs.Words.{MayBeRecorded, RecordOf, place_of, record_word}
 use Rattle.plan_words.proofs.KeptPairs.{HasPairs-finished, keeps_view, turned-first}
 use Rattle.plan_words.proofs.HandSteps.{at_hand}
 use Rattle.plan_words.proofs.LookedNodes.{place_here}
@@ -6,10 +7,6 @@ use Rattle.plan_words.proofs.Owning.{goes_on_told, may_finish_here, same_run, sa
 use Rattle.plan_words.proofs.Tying.{HasMember-held, MayClaim-finished, entry_fits, turn_fits}
 use Rattle.plan_words.proofs.ToldHands.{none_held, with_view_told_hand}
 use Rattle.plan_words.proofs.shared.Shared.finish.Goals as goal
-use Rattle.plan_words.specs.States.{turn_of, turned, worker_of}
-use Rattle.std.specs.Prelude.{IfSome}
-use Rattle.step_core.proofs.Common.{finished, finished_at, MayRecord, MayBeRecorded}
-use Rattle.grown_runs.proofs.Common.{RecordOf, place_of, record_word}
 
 pub unreachable-requires : goal.unreachable-requires
 unreachable-requires c = none_held _ _ _ c.pass.view_is c.pass.invariant.1.hand_is c.in_default.is c.requires.hand

@@ -1,13 +1,9 @@
-use Rattle.std.proofs.Common.{◌≡◌, ℕ, ◌%◌, ◌+◌, suc, refl, sym, ap, ◌∙◌, arith, inl, inr}
-use Rattle.std.proofs.Math.Nat.{suc-mod, zero-mod}
-use Rattle.std.specs.Prelude.{◌==◌}
+use Rattle.plan_words.proofs.Words.{◌≡◌, ℕ, ◌%◌, ◌+◌, suc, refl, sym, ap, ◌∙◌, arith, inl, inr, suc-mod, zero-mod, ◌==◌, is_own, worker_of, SharedRun}
+use Rattle.plan_words.proofs.Words.{IsLater-refl, IsLater-trans}
 use Rattle.plan_words.proofs.Claiming.{best_strip, counters_changed, kept_loaded, loaded_more, scan_ends, scan_more, view_alone-more}
 use Rattle.plan_words.proofs.GoingOn.{BelongsTo-later, GoesOn-more}
 use Rattle.plan_words.proofs.WholeClaims.{whole_loaded}
 use Rattle.plan_words.proofs.shared.Shared.first_open.Goals as goal
-use Rattle.plan_words.proofs.Words.{is_own, worker_of}
-use Rattle.step_core.specs.declared.views.SharedRun.{SharedRun}
-use Rattle.step_core.proofs.OneView.LaterViews.{IsLater-refl, IsLater-trans}
 
 -- the strips are dealt out in turns
 next_owner : (strip workers owner : ℕ) → owner ≡ strip % workers → (owner + 1) % workers ≡ (strip + 1) % workers

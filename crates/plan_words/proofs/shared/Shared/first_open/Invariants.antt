@@ -1,9 +1,7 @@
-use Rattle.std.proofs.Common.{◌≡◌, ◌%◌, ◌<◌, ◌⊎◌, ℕ}
-use Rattle.plan_words.proofs.Words.{KeepsHand, SeesAsBefore, BelongsTo, GoesOn, HasWholeShare, with_view, worker_of}
+use Rattle.plan_words.proofs.Words.{◌≡◌, ◌%◌, ◌<◌, ◌⊎◌, ℕ, KeepsHand, SeesAsBefore, BelongsTo, GoesOn, HasWholeShare, with_view, worker_of, IsLater, last_look}
+use Rattle.plan_words.proofs.Words.{sees, ChangesOnly, IsCounter, Counter}
 use Rattle.plan_words.proofs.Scanning.{Scanned}
 use Rattle.plan_words.proofs.shared.Shared.first_open.Given as goal
-use Rattle.step_core.proofs.Common.{IsLater, last_look, sees}
-use Rattle.grown_runs.proofs.Common.{ChangesOnly, IsCounter, Counter}
 
 abbrev pub invariant-loop-strip : goal.invariant-loop-strip
 invariant-loop-strip l = record {

@@ -1,11 +1,8 @@
-use Rattle.std.proofs.Common.{◌+◌, None, Some, ap, subst, sym, ◌∙◌}
+use Rattle.plan_words.proofs.Words.{◌+◌, None, Some, ap, subst, sym, ◌∙◌, HasPairs, IsTied, second_alone, sees, TreeOf}
 use Rattle.plan_words.proofs.KeptPairs.{HasPairs-kept}
 use Rattle.plan_words.proofs.Owning.{may_hand_on_here, same_run, same_table}
 use Rattle.plan_words.proofs.Tying.{HasRoom-kept, HasRoom-new, IsTied-apart, IsTied-parted}
 use Rattle.plan_words.proofs.shared.Shared.hand_on.Goals as goal
-use Rattle.plan_words.specs.States.{HasPairs, IsTied}
-use Rattle.step_core.proofs.Common.{second_alone, sees}
-use Rattle.grown_runs.specs.Table.WordNames.Word.{TreeOf}
 
 pub split_seat-seat-requires : goal.split_seat-seat-requires
 split_seat-seat-requires c =

@@ -1,6 +1,5 @@
-use Rattle.std.proofs.Common.{◌≡◌, ◌+◌, length}
+use Rattle.plan_words.proofs.Words.{◌≡◌, ◌+◌, length, IsPassOf, StandsFor, each_after}
 use Rattle.plan_words.proofs.shared.Shared.hand_on_all.Given as goal
-use Rattle.plan_words.specs.Dealt.{IsPassOf, StandsFor, each_after}
 
 -- the first pass stands for worker 0 and those that have no pass yet
 abbrev pub invariant-loop-worker : goal.invariant-loop-worker

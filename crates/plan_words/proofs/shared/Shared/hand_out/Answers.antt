@@ -1,7 +1,6 @@
-use Rattle.std.proofs.Common.{length, ap, arith}
+use Rattle.plan_words.proofs.Words.{length, ap, arith, IsPassOf}
 use Rattle.plan_words.proofs.Dealing.{StandsFor-all, each-head}
 use Rattle.plan_words.proofs.shared.Shared.hand_out.Goals as goal
-use Rattle.plan_words.specs.Dealt.{IsPassOf}
 
 pub hand_on_all-requires-clause-stands : goal.hand_on_all-requires-clause-stands
 hand_on_all-requires-clause-stands c =

@@ -1,12 +1,9 @@
-use Rattle.std.proofs.Common.{◌+◌, length, ap, refl, subst, sym, ◌∙◌}
-use Rattle.std.specs.Option.{option_or}
+use Rattle.plan_words.proofs.Words.{◌+◌, length, ap, refl, subst, sym, ◌∙◌, option_or, HasParentsBelow, GoesOn, PassState, first_member, joined, loaded, sees}
+use Rattle.plan_words.proofs.Words.{AreBehind, Count}
 use Rattle.plan_words.proofs.Joining.{first-joined, keeps_taken_over}
 use Rattle.plan_words.proofs.Owning.{BelongsTo-seat, same_run, with_view_told}
 use Rattle.plan_words.proofs.SeenChildren.{HasParentsBelow-seen}
 use Rattle.plan_words.proofs.shared.Shared.join.Goals as goal
-use Rattle.plan_words.proofs.Words.{HasParentsBelow, GoesOn, PassState, first_member}
-use Rattle.step_core.proofs.Common.{joined, loaded, sees}
-use Rattle.grown_runs.proofs.Common.{AreBehind, Count}
 
 pub take_over-requires-clause-belongs : goal.take_over-requires-clause-belongs
 take_over-requires-clause-belongs c = BelongsTo-seat _ _ _ c.pass.view_is c.requires.belongs

@@ -1,9 +1,6 @@
-use Rattle.std.proofs.Common.{ap, ◌∙◌}
+use Rattle.plan_words.proofs.Words.{ap, ◌∙◌, PassState, joined, loaded, sees, Count}
 use Rattle.plan_words.proofs.Owning.{with_view_told}
 use Rattle.plan_words.proofs.shared.Shared.join_retired.Goals as goal
-use Rattle.plan_words.specs.States.{PassState}
-use Rattle.step_core.proofs.Common.{joined, loaded, sees}
-use Rattle.grown_runs.specs.Table.WordNames.Word.{Count}
 
 pub returns-clause-view : goal.returns-clause-view
 returns-clause-view c =

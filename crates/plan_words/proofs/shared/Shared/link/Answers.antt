@@ -1,15 +1,10 @@
-use Rattle.std.proofs.Common.{◌≡◌, ◌≢◌, Some, ap, subst, suc, sym, ◌∙◌}
-use Rattle.std.specs.Prelude.{◌==◌, IfSome, cond}
+use Rattle.plan_words.proofs.Words.{◌≡◌, ◌≢◌, Some, ap, subst, suc, sym, ◌∙◌, ◌==◌, IfSome, cond, HasLinked, IsLinkedAt, LeadsOn, with_view, SeesNode, counted}
+use Rattle.plan_words.proofs.Words.{last_note, linked, loaded, note_before, LeadsTo, IsOnWayOf-found, ChildOf, Hand, Treed}
 use Rattle.plan_words.proofs.GoingOn.{GoesOn-trans}
 use Rattle.plan_words.proofs.HandSteps.{ChangesOnly-linked, ChangesOnly-met, ChangesOnly-met_node, IsLinkedAt-counted, at_hand}
 use Rattle.plan_words.proofs.HandSteps.{child_met, leads_seen, linked_view, looked-linked, looked-met, met_view, some_hand}
 use Rattle.plan_words.proofs.shared.Shared.link.Goals as goal
 use Rattle.plan_words.proofs.shared.Shared.link.Goals.{After-count, After-put-child}
-use Rattle.plan_words.proofs.Words.{HasLinked, IsLinkedAt, LeadsOn, with_view}
-use Rattle.step_core.proofs.Common.{SeesNode, counted, last_note, linked, loaded, note_before, LeadsTo, IsOnWayOf-found}
-use Rattle.grown_runs.specs.Table.WordNames.Word.{ChildOf}
-use Rattle.step_core.specs.declared.views.Hand.{Hand}
-use Rattle.step_core.specs.declared.views.Stage.TheVariants.{Treed}
 
 -- ---- a child was met
 

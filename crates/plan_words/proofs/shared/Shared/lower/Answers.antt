@@ -1,14 +1,10 @@
-use Rattle.std.proofs.Common.{◌≤◌, ap, length, refl, subst, sym, ◌∙◌}
-use Rattle.std.specs.Prelude.{is_some}
-use Rattle.std.proofs.lemmas.Bool.{true≢false}
+use Rattle.plan_words.proofs.Words.{◌≤◌, ap, length, refl, subst, sym, ◌∙◌, is_some, true≢false, LooksAndPosts, PassState, SharedState, HasLooked-trans}
+use Rattle.plan_words.proofs.Words.{last_note, lowered, IsPresent-later, Words, TreeOf, best_word, cost_in, cost_in-tree_word}
 use Rattle.plan_words.proofs.GoingOn.{BelongsTo-later, GoesOn-trans}
 use Rattle.plan_words.proofs.KeptPairs.{fits_word}
 use Rattle.plan_words.proofs.Posting.{OnlyPosts-after, goal-before, goal-later, lowered_here}
 use Rattle.plan_words.proofs.shared.Shared.lower.Goals as goal
 use Rattle.plan_words.proofs.shared.Shared.lower.Goals.{After-lower_pair}
-use Rattle.plan_words.proofs.Words.{LooksAndPosts, PassState, SharedState}
-use Rattle.step_core.proofs.Common.{HasLooked-trans, last_note, lowered, IsPresent-later}
-use Rattle.grown_runs.proofs.Common.{Words, TreeOf, best_word, cost_in, cost_in-tree_word}
 
 pub returns-in_err-lower_pair-clause-whole : goal.returns-in_err-lower_pair-clause-whole
 returns-in_err-lower_pair-clause-whole c all = let no = c.in_err-lower_pair.ensures.whole all in cc

@@ -1,15 +1,11 @@
-use Rattle.std.proofs.Common.{◌≡◌, ◌≤◌, List, ◌∷◌, ap, arith, is_some, length, subst, sym, ◌∙◌}
-use Rattle.std.specs.Prelude.{◌==◌, cond}
+use Rattle.plan_words.proofs.Words.{◌≡◌, ◌≤◌, List, ◌∷◌, ap, arith, is_some, length, subst, sym, ◌∙◌, ◌==◌, cond, Tells, run_in, last_note, place_in, saw_at}
+use Rattle.plan_words.proofs.Words.{sees, Note, WritesWord, TreeOf, place_of}
 use Rattle.plan_words.proofs.KeptPairs.{fits_word, lower_view}
 use Rattle.plan_words.proofs.LookedNodes.{place_here, seen_low}
 use Rattle.plan_words.proofs.Owning.{may_lower_here}
 use Rattle.plan_words.proofs.SeatSteps.{LooksOn-told, SitsAt-told, exchanged_noted, looked_told, with_notes, writes_told}
 use Rattle.plan_words.proofs.shared.Shared.lower_at.Goals as goal
 use Rattle.plan_words.proofs.shared.Shared.lower_at.Goals.{After-compare_exchange}
-use Rattle.plan_words.proofs.Words.{Tells, run_in}
-use Rattle.step_core.proofs.Common.{last_note, place_in, saw_at, sees}
-use Rattle.step_core.specs.declared.views.Note.{Note}
-use Rattle.grown_runs.proofs.Common.{WritesWord, TreeOf, place_of}
 
 pub tree-place-requires : goal.tree-place-requires
 tree-place-requires c =

@@ -1,7 +1,6 @@
-use Rattle.std.proofs.Common.{◌≡◌, ◌≢◌, ◌+◌, ◌<◌, ℕ, ap, arith, inl, inr, length, subst, sym, ◌∙◌}
-use Rattle.std.specs.Prelude.{cond}
-use Rattle.std.proofs.lemmas.Bool.{cases_lt, eq-eqb, ne_eqb}
-use Rattle.grown_runs.proofs.Common.{cost_of, PointOf, TreeOf, cost_in, tree_word}
+use Rattle.plan_words.proofs.Words.{◌≡◌, ◌≢◌, ◌+◌, ◌<◌, ℕ, ap, arith, inl, inr, length, subst, sym, ◌∙◌, cond, cases_lt, ne_eqb, cost_of, PointOf, TreeOf}
+use Rattle.plan_words.proofs.Words.{cost_in, tree_word, SeesPoint, sees}
+use Rattle.std.proofs.lemmas.Bool.{eq-eqb}
 use Rattle.plan_words.proofs.ChildCosts.{CostsAtMostThrough-kept, CostsAtMostThrough-looked, CostsAtMostThrough-lowered, HasSeenParent-kept}
 use Rattle.plan_words.proofs.ChildCosts.{HasSeenParent-lowered, LooksAtChild, MayLower-child, cost-lowered, own_mid, stands_on}
 use Rattle.plan_words.proofs.GoingOn.{GoesOn-trans}
@@ -9,7 +8,6 @@ use Rattle.plan_words.proofs.Posting.{goal-goes_on}
 use Rattle.plan_words.proofs.SeatSteps.{LooksOn-trans, points_kept, whole_later}
 use Rattle.plan_words.proofs.shared.Shared.lower_child.Goals as goal
 use Rattle.plan_words.proofs.shared.Shared.lower_child.Goals.{After-cost, After-lower_at-found, After-point_in-point}
-use Rattle.step_core.proofs.Common.{SeesPoint, sees}
 
 -- ---- the point was looked at
 

@@ -1,5 +1,5 @@
-use Rattle.std.proofs.Common.{◌≡◌, ◌⊎◌, ◌+◌, ◌≤◌, ◌^◌, ℕ, ap, arith, inl, inr, length, subst, sym, ◌∙◌}
-use Rattle.plan_words.proofs.Words.{HasQueued, LooksOn, SeesSamePoints, GoesOn, HasWholeShare, HasSeenParent, IsOn}
+use Rattle.plan_words.proofs.Words.{◌≡◌, ◌⊎◌, ◌+◌, ◌≤◌, ◌^◌, ℕ, ap, arith, inl, inr, length, subst, sym, ◌∙◌, HasQueued, LooksOn, SeesSamePoints, GoesOn}
+use Rattle.plan_words.proofs.Words.{HasWholeShare, HasSeenParent, IsOn, same_name, SeesPoint, sees, PointOf, TreeOf, cost_in}
 use Rattle.plan_words.proofs.ChildCosts.{HasSeenParent-kept}
 use Rattle.plan_words.proofs.KeptPairs.{keeps_parent}
 use Rattle.plan_words.proofs.LoweredChains.{HasQueued-since, LowersChildren-since, PostsChanged-since}
@@ -7,8 +7,6 @@ use Rattle.plan_words.proofs.SeatSteps.{Keeps-looked, LooksOn-loaded, LooksOn-tr
 use Rattle.plan_words.proofs.SeenChildren.{HasFirstPairs-all, pair-seen, within-written}
 use Rattle.plan_words.proofs.shared.Shared.lower_children.Goals as goal
 use Rattle.plan_words.proofs.shared.Shared.lower_children.Goals.{After-lower_children}
-use Rattle.step_core.proofs.Common.{same_name, SeesPoint, sees}
-use Rattle.grown_runs.proofs.Common.{PointOf, TreeOf, cost_in}
 
 -- the point was loaded
 same_at : (c : After-lower_children) → (n : ℕ) → sees c.pass.inside.seat.me.0 (TreeOf n) ≡ sees c.args.pass.now.view (TreeOf n)

@@ -1,11 +1,8 @@
-use Rattle.std.proofs.Common.{◌≡◌, ◌≢◌, ap, arith, subst, sym, ◌∙◌}
-use Rattle.std.specs.Prelude.{is_some}
+use Rattle.plan_words.proofs.Words.{◌≡◌, ◌≢◌, ap, arith, subst, sym, ◌∙◌, is_some, MayLower, sees, TreeOf}
 use Rattle.plan_words.proofs.LookedNodes.{IsEdgeSeen-pair}
 use Rattle.plan_words.proofs.LoweredNodes.{found_less, found_pair, found_pass, found_writes, lowered_less, lowered_pass, lowered_writes}
 use Rattle.plan_words.proofs.shared.Shared.lower_pair.Goals as goal
 use Rattle.plan_words.proofs.shared.Shared.lower_pair.Goals.{After-word-seen}
-use Rattle.step_core.proofs.Common.{MayLower, sees}
-use Rattle.grown_runs.specs.Table.WordNames.Word.{TreeOf}
 
 pub word-seen-requires : goal.word-seen-requires
 word-seen-requires c =

@@ -1,13 +1,8 @@
 use Rattle.plan_words.proofs.KeptPairs.{keeps_saw}
-use Rattle.std.proofs.Common.{◌≡◌, ◌≢◌, ◌≤◌, Some, ap, arith, subst, sym, ◌∙◌}
+use Rattle.plan_words.proofs.Words.{◌≡◌, ◌≢◌, ◌≤◌, Some, ap, arith, subst, sym, ◌∙◌, node_count, Count, HasWholeShare, own_count, tree_seen, Hand, Linked}
 use Rattle.plan_words.proofs.LookedNodes.{place_here}
 use Rattle.plan_words.proofs.Owning.{count_fits, looks_told, may_load_here, sees_told, same_run, same_table}
 use Rattle.plan_words.proofs.shared.Shared.number.Goals as goal
-use Rattle.grown_runs.proofs.Common.{node_count, Count}
-use Rattle.plan_words.specs.States.{HasWholeShare}
-use Rattle.step_core.proofs.Common.{own_count, tree_seen}
-use Rattle.step_core.specs.declared.views.Hand.{Hand}
-use Rattle.step_core.specs.declared.views.Stage.TheVariants.{Linked}
 
 pub load-requires : goal.load-requires
 load-requires c =

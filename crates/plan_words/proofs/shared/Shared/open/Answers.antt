@@ -1,8 +1,6 @@
-use Rattle.std.proofs.Common.{◌∙◌, ap, subst, sym}
+use Rattle.plan_words.proofs.Words.{◌∙◌, ap, subst, sym, IsTableOf, run_of, IsLawfulView}
 use Rattle.plan_words.proofs.Dealing.{IsLawfulView-started, IsTableOf-started}
 use Rattle.plan_words.proofs.shared.Shared.open.Goals as goal
-use Rattle.plan_words.specs.States.{IsTableOf}
-use Rattle.step_core.proofs.Common.{run_of, IsLawfulView}
 
 pub invariant_of-shared : goal.invariant_of-shared
 invariant_of-shared c =

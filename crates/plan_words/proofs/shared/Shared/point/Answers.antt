@@ -1,6 +1,5 @@
-use Rattle.std.proofs.Common.{sym, subst}
+use Rattle.plan_words.proofs.Words.{sym, subst, IsBounded-seen, SeesPoint}
 use Rattle.plan_words.proofs.shared.Shared.point.Goals as goal
-use Rattle.step_core.proofs.Common.{IsBounded-seen, SeesPoint}
 
 pub returns-clause-found : goal.returns-clause-found
 returns-clause-found c = subst (SeesPoint c.point_word.new.pass.view c.args.node) (sym c.point_in.ensures) c.point_word.ensures.found

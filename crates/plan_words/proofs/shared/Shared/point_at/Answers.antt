@@ -1,12 +1,9 @@
-use Rattle.std.proofs.Common.{◌≡◌, ◌≤◌, ap, sym, subst, ◌∙◌}
+use Rattle.plan_words.proofs.Words.{◌≡◌, ◌≤◌, ap, sym, subst, ◌∙◌, run_in, loaded, place_in, saw_at, sees, WritesWord, PointOf, place_of}
 use Rattle.plan_words.proofs.LookedNodes.{place_here, point_found, point_word_seen, seen_low}
 use Rattle.plan_words.proofs.Owning.{may_load_here}
 use Rattle.plan_words.proofs.SeatSteps.{LooksOn-told, SitsAt-told, looked_told, writes_told}
 use Rattle.plan_words.proofs.shared.Shared.point_at.Goals as goal
 use Rattle.plan_words.proofs.shared.Shared.point_at.Goals.{After-load}
-use Rattle.plan_words.specs.States.{run_in}
-use Rattle.step_core.proofs.Common.{loaded, place_in, saw_at, sees}
-use Rattle.grown_runs.proofs.Common.{WritesWord, PointOf, place_of}
 
 pub point-place-requires : goal.point-place-requires
 point-place-requires c =

@@ -1,11 +1,8 @@
-use Rattle.std.proofs.Common.{◌+◌, ap, refl, subst, sym, ◌∙◌}
+use Rattle.plan_words.proofs.Words.{◌+◌, ap, refl, subst, sym, ◌∙◌, HasWholeShare, SeesNode, last_look, loaded, sees, WritesWord, PointOf, TreeOf}
 use Rattle.plan_words.proofs.KeptPairs.{HasPairs-kept}
 use Rattle.plan_words.proofs.Owning.{SitsAt-pass, goes_on_told, with_view_told}
 use Rattle.plan_words.proofs.SeatSteps.{Keeps-looked}
 use Rattle.plan_words.proofs.shared.Shared.point_word.Goals as goal
-use Rattle.plan_words.specs.States.{HasWholeShare}
-use Rattle.step_core.proofs.Common.{SeesNode, last_look, loaded, sees}
-use Rattle.grown_runs.proofs.Common.{WritesWord, PointOf, TreeOf}
 
 pub point_at-requires-clause-sits : goal.point_at-requires-clause-sits
 point_at-requires-clause-sits c = SitsAt-pass _ _ _ _ _ c.pass.view_is refl refl c.pass.invariant.0 c.requires.belongs

@@ -1,12 +1,10 @@
-use Rattle.std.proofs.Common.{◌≡◌, ◌+◌, ◌≤◌, ap, arith, refl, subst, sym, ◌∙◌}
+use Rattle.plan_words.proofs.Words.{◌≡◌, ◌+◌, ◌≤◌, ap, arith, refl, subst, sym, ◌∙◌, HasWholeShare, MayPost, best_with, hand_with_post, last_look, last_note}
+use Rattle.plan_words.proofs.Words.{sees, with_post, WritesWord, Best, TreeOf, best_word, cost_in}
 use Rattle.plan_words.proofs.KeptPairs.{HasPairs-kept}
 use Rattle.plan_words.proofs.Owning.{SitsAt-pass, goes_on_told, with_view_told}
 use Rattle.plan_words.proofs.Posting.{mark_fits, post_within}
 use Rattle.plan_words.proofs.SeatSteps.{Keeps-looked}
 use Rattle.plan_words.proofs.shared.Shared.post.Goals as goal
-use Rattle.plan_words.specs.States.{HasWholeShare}
-use Rattle.step_core.proofs.Common.{MayPost, best_with, hand_with_post, last_look, last_note, sees, with_post}
-use Rattle.grown_runs.proofs.Common.{WritesWord, Best, TreeOf, best_word, cost_in}
 
 pub word-requires : goal.word-requires
 word-requires c =

@@ -1,11 +1,9 @@
-use Rattle.std.proofs.Common.{◌≡◌, ◌+◌, ◌≤◌, ap, arith, subst, sym, ◌∙◌}
+use Rattle.plan_words.proofs.Words.{◌≡◌, ◌+◌, ◌≤◌, ap, arith, subst, sym, ◌∙◌, GoesOn, run_in, WritesWord-look_best, last_look, WritesWord, Best, best_node_in}
+use Rattle.plan_words.proofs.Words.{best_word}
 use Rattle.plan_words.proofs.Owning.{may_post_here}
 use Rattle.plan_words.proofs.Posting.{post_node, post_within, posted_low, posted_view, posted_whole}
 use Rattle.plan_words.proofs.shared.Shared.post_at.Goals as goal
 use Rattle.plan_words.proofs.shared.Shared.post_at.Goals.{After-fetch_min-found}
-use Rattle.plan_words.specs.States.{GoesOn, run_in}
-use Rattle.step_core.proofs.Common.{WritesWord-look_best, last_look}
-use Rattle.grown_runs.proofs.Common.{WritesWord, Best, best_node_in, best_word}
 
 pub pack_best-requires-clause-node : goal.pack_best-requires-clause-node
 pack_best-requires-clause-node c =

@@ -1,11 +1,7 @@
-use Rattle.std.proofs.Common.{ap, sym, ◌∙◌}
-use Rattle.std.proofs.lemmas.Bool.{true≢false}
+use Rattle.plan_words.proofs.Words.{ap, sym, ◌∙◌, true≢false, hand_with_post, SharedRun, lies_in_goals}
 use Rattle.plan_words.proofs.Posting.{goal-at, lies-at, mark_fits}
 use Rattle.plan_words.proofs.SeatSteps.{LooksOn-posted, LooksOn-refl, sees-posted}
 use Rattle.plan_words.proofs.shared.Shared.post_child.Goals as goal
-use Rattle.step_core.proofs.Common.{hand_with_post}
-use Rattle.step_core.specs.declared.views.SharedRun.{SharedRun}
-use Rattle.grown_runs.proofs.Common.{lies_in_goals}
 
 pub post_at-requires-clause-may : goal.post_at-requires-clause-may
 post_at-requires-clause-may c = record {

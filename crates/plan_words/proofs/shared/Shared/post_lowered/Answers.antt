@@ -1,14 +1,11 @@
-use Rattle.std.proofs.Common.{◌≡◌, false, true, ap, refl, sym, ◌∙◌}
-use Rattle.grown_runs.proofs.Common.{lies_in_goals, PointOf, TreeOf}
+use Rattle.plan_words.proofs.Words.{◌≡◌, false, true, ap, refl, sym, ◌∙◌, lies_in_goals, PointOf, TreeOf, PassState, HasLooked, HasLooked-trans, SeesGoal}
+use Rattle.plan_words.proofs.Words.{loaded, sees, SharedRun}
 use Rattle.plan_words.proofs.GoingOn.{GoesOn-trans}
 use Rattle.plan_words.proofs.Posting.{LooksAndPosts-looked, LooksAndPosts-posted, OnlyPosts-after, OnlyPosts-posted, goal-again, goal-at, lies-at}
 use Rattle.plan_words.proofs.Posting.{sees-point_again}
 use Rattle.plan_words.proofs.shared.Shared.post_lowered.Goals as goal
 use Rattle.plan_words.proofs.shared.Shared.post_lowered.Goals.{After-has_goal_at}
-use Rattle.plan_words.specs.States.{PassState}
 use Rattle.plan_words.proofs.SeatSteps.{HasLooked-loaded, HasLooked-posted}
-use Rattle.step_core.proofs.Common.{HasLooked, HasLooked-trans, SeesGoal, loaded, sees}
-use Rattle.step_core.specs.declared.views.SharedRun.{SharedRun}
 
 -- nothing is seen anew by the look at the point
 same_words : (c : After-has_goal_at) → sees c.point-point.new.pass.view ≡ sees c.args.pass.now.view

@@ -1,6 +1,6 @@
-use Rattle.std.proofs.Common.{◌+◌, ◌≡◌, ◌≤◌, Some, ap, arith, cond, refl, subst, sym, ◌∙◌}
-use Rattle.std.proofs.lemmas.Bool.{eq-eqb, ne_eqb}
-use Rattle.std.specs.Prelude.{◌==◌, IfSome}
+use Rattle.plan_words.proofs.Words.{◌+◌, ◌≡◌, ◌≤◌, Some, ap, arith, cond, refl, subst, sym, ◌∙◌, ne_eqb, ◌==◌, IfSome, GoesOn, Tells, has_first, last_note}
+use Rattle.plan_words.proofs.Words.{linked_at, saw_at, LeadsTo, ChildOf, place_of, Linked, Treed}
+use Rattle.std.proofs.lemmas.Bool.{eq-eqb}
 use Rattle.plan_words.proofs.HandSteps.{at_hand, leads_seen, tried_fits}
 use Rattle.plan_words.proofs.KeptPairs.{HasPairs-linked, HasPairs-saw, keeps_parent, keeps_view}
 use Rattle.plan_words.proofs.LookedNodes.{place_here, seen_low}
@@ -8,10 +8,6 @@ use Rattle.plan_words.proofs.Owning.{found_whole, may_link_here, same_run, same_
 use Rattle.plan_words.proofs.ToldHands.{none_held}
 use Rattle.plan_words.proofs.shared.Shared.put.Goals as goal
 use Rattle.plan_words.proofs.shared.Shared.put.Goals.{else-found-eq0, then-found-eq0}
-use Rattle.plan_words.proofs.Words.{GoesOn, Tells}
-use Rattle.step_core.proofs.Common.{has_first, last_note, linked_at, saw_at, LeadsTo}
-use Rattle.grown_runs.proofs.Common.{ChildOf, place_of}
-use Rattle.step_core.specs.declared.views.Stage.TheVariants.{Linked, Treed}
 
 pub unreachable-requires : goal.unreachable-requires
 unreachable-requires c = none_held _ _ _ c.pass.view_is c.pass.invariant.1.hand_is c.in_default.is c.requires.hand

@@ -1,12 +1,9 @@
-use Rattle.std.proofs.Common.{◌+◌, None, ap, subst, sym, ◌∙◌}
+use Rattle.plan_words.proofs.Words.{◌+◌, None, ap, subst, sym, ◌∙◌, HasPairs, IsTied, sees, TreeOf}
 use Rattle.plan_words.proofs.GoingOn.{BelongsTo-later}
 use Rattle.plan_words.proofs.KeptPairs.{HasPairs-kept}
 use Rattle.plan_words.proofs.Owning.{goes_on_told, may_look_here, same_run, same_table}
 use Rattle.plan_words.proofs.Tying.{GoesOn-stepped, HasRoom-kept, HasRoom-new, IsTied-looker, IsTied-stepped}
 use Rattle.plan_words.proofs.shared.Shared.split.Goals as goal
-use Rattle.plan_words.specs.States.{HasPairs, IsTied}
-use Rattle.step_core.specs.Views.{sees}
-use Rattle.grown_runs.specs.Table.WordNames.Word.{TreeOf}
 
 pub split_seat-seat-requires : goal.split_seat-seat-requires
 split_seat-seat-requires c =

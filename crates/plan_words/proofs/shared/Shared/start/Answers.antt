@@ -1,10 +1,7 @@
-use Rattle.std.proofs.Common.{◌∙◌, ap, subst, sym}
-use Rattle.std.specs.Prelude.{slice_index}
-use Rattle.std.proofs.lemmas.Result.{IfOk-weaker}
-use Rattle.grown_runs.proofs.Common.{turns_of, skipping_goals, state_of_grown, words_of_grown, IsLeastBest, Best, record_at, sizes_in, words_in}
+use Rattle.plan_words.proofs.Words.{◌∙◌, ap, subst, sym, slice_index, IfOk-weaker, turns_of, skipping_goals, state_of_grown, words_of_grown, IsLeastBest, Best}
+use Rattle.plan_words.proofs.Words.{record_at, sizes_in, words_in, first_view, new_pass, without_best, Opening}
 use Rattle.plan_words.proofs.Dealing.{IsLeastBest-written, MayClaim-starts, StartsAs-pass, sees-started, without_best-written}
 use Rattle.plan_words.proofs.shared.Shared.start.Goals as goal
-use Rattle.plan_words.proofs.Words.{first_view, new_pass, without_best, Opening}
 
 pub deal-requires-clause-turns : goal.deal-requires-clause-turns
 deal-requires-clause-turns c w low =

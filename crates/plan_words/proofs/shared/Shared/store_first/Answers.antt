@@ -1,14 +1,10 @@
-use Rattle.std.proofs.Common.{◌≡◌, ◌<◌, ◌+◌, suc, ap, arith, length, refl, subst, sym, ◌∙◌}
-use Rattle.std.specs.Prelude.{IfSome}
+use Rattle.plan_words.proofs.Words.{◌≡◌, ◌<◌, ◌+◌, suc, ap, arith, length, refl, subst, sym, ◌∙◌, IfSome, Tells, cost_in-tree_word, parent_in-tree_word}
+use Rattle.plan_words.proofs.Words.{sizes_in, FirstOf, place_of, cost_in, parent_in, half, MayHang, Pointed}
 use Rattle.plan_words.proofs.HandSteps.{at_hand}
 use Rattle.plan_words.proofs.KeptPairs.{fits_word, if_hand, keeps_hand}
 use Rattle.plan_words.proofs.Owning.{goes_on_told, may_first_here, same_run, same_table, with_view_told}
 use Rattle.plan_words.proofs.ToldHands.{none_held}
 use Rattle.plan_words.proofs.shared.Shared.store_first.Goals as goal
-use Rattle.plan_words.specs.Plays.{Tells}
-use Rattle.grown_runs.proofs.Common.{cost_in-tree_word, parent_in-tree_word, sizes_in, FirstOf, place_of, cost_in, parent_in}
-use Rattle.step_core.proofs.Common.{half, MayHang}
-use Rattle.step_core.specs.declared.views.Stage.TheVariants.{Pointed}
 
 pub unreachable-requires : goal.unreachable-requires
 unreachable-requires c = none_held _ _ _ c.pass.view_is c.pass.invariant.1.hand_is c.in_default.is c.requires.hand

@@ -1,14 +1,10 @@
-use Rattle.std.proofs.Common.{◌≡◌, ◌<◌, ◌+◌, suc, ap, arith, length, refl, subst, sym, ◌∙◌}
-use Rattle.std.specs.Prelude.{IfSome}
+use Rattle.plan_words.proofs.Words.{◌≡◌, ◌<◌, ◌+◌, suc, ap, arith, length, refl, subst, sym, ◌∙◌, IfSome, Tells, IsBounded-steered, IsUnskipped, pointed}
+use Rattle.plan_words.proofs.Words.{IsSteered, sizes_in, PointOf, place_of, point_word, Claimed}
 use Rattle.plan_words.proofs.HandSteps.{at_hand}
 use Rattle.plan_words.proofs.KeptPairs.{keeps_hand}
 use Rattle.plan_words.proofs.Owning.{goes_on_told, may_point_here, same_run, same_table}
 use Rattle.plan_words.proofs.ToldHands.{none_held}
 use Rattle.plan_words.proofs.shared.Shared.store_point.Goals as goal
-use Rattle.plan_words.specs.Plays.{Tells}
-use Rattle.step_core.proofs.Common.{IsBounded-steered, IsUnskipped, pointed, IsSteered}
-use Rattle.grown_runs.proofs.Common.{sizes_in, PointOf, place_of, point_word}
-use Rattle.step_core.specs.declared.views.Stage.TheVariants.{Claimed}
 
 pub unreachable-requires : goal.unreachable-requires
 unreachable-requires g c = none_held _ _ _ c.pass.view_is c.pass.invariant.1.hand_is c.in_default.is c.requires.hand

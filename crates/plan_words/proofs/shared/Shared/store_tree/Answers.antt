@@ -1,13 +1,10 @@
-use Rattle.std.proofs.Common.{◌≡◌, ◌<◌, ◌+◌, Some, suc, ap, arith, length, refl, subst, sym, ◌∙◌}
-use Rattle.std.specs.Prelude.{IfSome}
+use Rattle.plan_words.proofs.Words.{◌≡◌, ◌<◌, ◌+◌, Some, suc, ap, arith, length, refl, subst, sym, ◌∙◌, IfSome, sizes_in, TreeOf, place_of, has_first, treed}
+use Rattle.plan_words.proofs.Words.{Half}
 use Rattle.plan_words.proofs.HandSteps.{at_hand}
 use Rattle.plan_words.proofs.KeptPairs.{keeps_hand}
 use Rattle.plan_words.proofs.Owning.{may_tree_here, same_run, same_table}
 use Rattle.plan_words.proofs.ToldHands.{none_held}
 use Rattle.plan_words.proofs.shared.Shared.store_tree.Goals as goal
-use Rattle.grown_runs.proofs.Common.{sizes_in, TreeOf, place_of}
-use Rattle.step_core.proofs.Common.{has_first, treed}
-use Rattle.step_core.specs.declared.views.Stage.TheVariants.{Half}
 
 pub unreachable-requires : goal.unreachable-requires
 unreachable-requires c = none_held _ _ _ c.pass.view_is c.pass.invariant.1.hand_is c.in_default.is c.requires.hand

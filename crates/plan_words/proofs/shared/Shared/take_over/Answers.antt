@@ -1,12 +1,7 @@
-use Rattle.std.proofs.Common.{◌≡◌, ap, refl, subst, sym, ◌∙◌}
-use Rattle.atomic_table.specs.Table.{Me}
+use Rattle.plan_words.proofs.Words.{◌≡◌, ap, refl, subst, sym, ◌∙◌, Me, Tells, Aim, loaded, saw_at, sees, Count, View}
 use Rattle.plan_words.proofs.Joining.{AreBehind-taken_over, GoesOn-taken_over}
 use Rattle.plan_words.proofs.Owning.{may_load_here, may_take_over_here, same_run, same_table, sees-loaded}
 use Rattle.plan_words.proofs.shared.Shared.take_over.Goals as goal
-use Rattle.plan_words.proofs.Words.{Tells, Aim}
-use Rattle.step_core.proofs.Common.{loaded, saw_at, sees}
-use Rattle.grown_runs.specs.Table.WordNames.Word.{Count}
-use Rattle.step_core.specs.declared.views.View.{View}
 
 pub join_seat-requires : goal.join_seat-requires
 join_seat-requires c =

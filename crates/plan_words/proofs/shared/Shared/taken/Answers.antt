@@ -1,8 +1,7 @@
 use Rattle.plan_words.proofs.KeptPairs.{keeps_saw}
-use Rattle.std.proofs.Common.{◌<◌, ap, arith, subst, sym}
+use Rattle.plan_words.proofs.Words.{◌<◌, ap, arith, subst, sym, Counter}
 use Rattle.plan_words.proofs.Owning.{counter_most, found_whole, looks_told, may_load_here, sees_told, same_run, same_table}
 use Rattle.plan_words.proofs.shared.Shared.taken.Goals as goal
-use Rattle.grown_runs.specs.Table.WordNames.Word.{Counter}
 
 pub load-requires : goal.load-requires
 load-requires c =

@@ -1,10 +1,8 @@
-use Rattle.std.proofs.Common.{◌≤◌, ap, arith, subst, sym, ◌∙◌}
+use Rattle.plan_words.proofs.Words.{◌≤◌, ap, arith, subst, sym, ◌∙◌, loaded, saw_at, SeesNode, sees, WritesWord, TreeOf, place_of}
 use Rattle.plan_words.proofs.KeptPairs.{keeps_pair, keeps_parent}
 use Rattle.plan_words.proofs.LookedNodes.{IsEdgeSeen-pair, pair_found, pair_not_above, place_here, seen_low, tree_word_seen}
 use Rattle.plan_words.proofs.Owning.{found_whole, goes_on_told, looks_told, may_load_here, same_run, same_table, sees_told, with_view_told}
 use Rattle.plan_words.proofs.shared.Shared.tree.Goals as goal
-use Rattle.step_core.proofs.Common.{loaded, saw_at, SeesNode, sees}
-use Rattle.grown_runs.proofs.Common.{WritesWord, TreeOf, place_of}
 
 pub tree-place-requires : goal.tree-place-requires
 tree-place-requires c =

@@ -1,5 +1,4 @@
-use Rattle.std.proofs.Common.{sym, subst, arith}
-use Rattle.plan_words.specs.Waiting.{AreMarked}
+use Rattle.plan_words.proofs.Words.{sym, subst, arith, AreMarked}
 use Rattle.plan_words.proofs.MarkedNodes.{AreMarked-none}
 use Rattle.plan_words.proofs.waiting.Waiting.clear.Goals as goal
 

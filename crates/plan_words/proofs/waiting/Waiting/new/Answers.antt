@@ -1,5 +1,4 @@
-use Rattle.std.proofs.Common.{rules, ◌≡◌, false, replicate, sym, subst, arith}
-use Rattle.plan_words.specs.Waiting.{AreMarked, NoneMarked}
+use Rattle.plan_words.proofs.Words.{rules, ◌≡◌, false, replicate, sym, subst, arith, AreMarked, NoneMarked}
 use Rattle.plan_words.proofs.MarkedNodes.{AreMarked-none, NoneMarked-start}
 use Rattle.plan_words.proofs.waiting.Waiting.new.Goals as goal
 

@@ -1,6 +1,4 @@
-use Rattle.std.proofs.Common.{false, subst, arith}
-use Rattle.std.proofs.lemmas.List.{length-set}
-use Rattle.plan_words.specs.Waiting.{AreMarked}
+use Rattle.plan_words.proofs.Words.{false, subst, arith, length-set, AreMarked}
 use Rattle.plan_words.proofs.MarkedNodes.{AreMarked-pop}
 use Rattle.plan_words.proofs.waiting.Waiting.pop.Goals as goal
 

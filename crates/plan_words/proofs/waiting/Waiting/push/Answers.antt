@@ -1,7 +1,4 @@
-use Rattle.std.proofs.Common.{◌≡◌, ◌⊎◌, ◌<◌, false, true, ap, length, inl, sym, ◌∙◌, subst, arith}
-use Rattle.std.specs.Prelude.{slice_set}
-use Rattle.std.proofs.lemmas.List.{get_or_default, length-set}
-use Rattle.plan_words.specs.Waiting.{AreMarked, IsOn}
+use Rattle.plan_words.proofs.Words.{◌≡◌, ◌⊎◌, ◌<◌, false, true, ap, length, inl, sym, ◌∙◌, subst, arith, slice_set, get_or_default, length-set, AreMarked, IsOn}
 use Rattle.plan_words.proofs.MarkedNodes.{AreMarked-push, IsOn-before, IsOn-cases, IsOn-end, few-marked, room-push}
 use Rattle.plan_words.proofs.waiting.Waiting.push.Goals as goal
 

@@ -1,8 +1,4 @@
-use Rattle.std.proofs.Common.{rules}
-use Rattle.std.proofs.lemmas.List.Sorted.{All-permutation, IsNonDecreasingBy-from_sort_by_key}
-use Rattle.plan_model.specs.Geometry.Bounds.{IsBounded}
-use Rattle.point_bands.specs.BandOrder.{band_key}
-use Rattle.point_bands.specs.declared.bands.Numbered.{Numbered}
+use Rattle.point_bands.proofs.Words.{rules, All-permutation, IsNonDecreasingBy-from_sort_by_key, IsBounded, band_key, Numbered}
 use Rattle.point_bands.proofs.bands.Bands.new.Goals as goal
 
 pub invariant_of-result : goal.invariant_of-result

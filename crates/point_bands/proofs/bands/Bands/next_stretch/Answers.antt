@@ -1,7 +1,4 @@
-use Rattle.std.proofs.Common.{List, sym, subst}
-use Rattle.std.specs.List.Sorted.{IsNonDecreasingBy}
-use Rattle.point_bands.specs.BandOrder.{band_key}
-use Rattle.point_bands.specs.declared.bands.Numbered.{Numbered}
+use Rattle.point_bands.proofs.Words.{List, sym, subst, IsNonDecreasingBy, band_key, Numbered}
 use Rattle.point_bands.proofs.bands.Bands.next_stretch.Goals as goal
 
 pub next_stretch-requires-clause-sorted : goal.next_stretch-requires-clause-sorted

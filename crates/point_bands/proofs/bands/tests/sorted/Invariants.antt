@@ -1,5 +1,4 @@
-use Rattle.std.specs.Prelude.{All}
-use Rattle.plan_model.specs.Geometry.Bounds.{IsBounded}
+use Rattle.point_bands.proofs.Words.{All, IsBounded}
 use Rattle.point_bands.proofs.bands.tests.sorted.Given as goal
 
 abbrev pub invariant-loop-number : goal.invariant-loop-number

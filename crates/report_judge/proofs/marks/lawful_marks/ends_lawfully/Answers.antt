@@ -1,7 +1,4 @@
-use Rattle.std.proofs.Common.{sym, ◌∙◌, subst}
-use Rattle.std.proofs.lemmas.Bool.{true≢false}
-use Rattle.plan_model.specs.Runs.RecordLaw.{IsPlacedLawfully}
-use Rattle.report_judge.proofs.Words.{run_of, setup_by, EndsLawfully}
+use Rattle.report_judge.proofs.Words.{sym, ◌∙◌, subst, true≢false, IsPlacedLawfully, run_of, setup_by, EndsLawfully}
 use Rattle.report_judge.proofs.marks.lawful_marks.ends_lawfully.Goals as goal
 
 pub is_chosen_lawfully-requires-clause-asked : goal.is_chosen_lawfully-requires-clause-asked

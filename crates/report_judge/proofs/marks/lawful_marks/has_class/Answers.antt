@@ -1,8 +1,4 @@
-use Rattle.std.proofs.Common.{arith, refl}
-use Rattle.std.proofs.lemmas.Bool.{leb-true}
-use Rattle.grown_runs.proofs.Common.{node_count-some, node_count-length}
-use Rattle.edge_cost.proofs.RadiusFromRoot.{class_below}
-use Rattle.report_judge.specs.Workers.JudgedRuns.{run_of}
+use Rattle.report_judge.proofs.Words.{arith, refl, leb-true, node_count-some, node_count-length, class_below, run_of}
 use Rattle.report_judge.proofs.Workers.ClassRadii.{some_class, some_earlier}
 use Rattle.report_judge.proofs.Workers.SeenStarts.{length-points}
 use Rattle.report_judge.proofs.marks.lawful_marks.has_class.Goals as goal

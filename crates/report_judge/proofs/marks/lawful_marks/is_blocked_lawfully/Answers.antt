@@ -1,7 +1,4 @@
-use Rattle.std.proofs.Common.{sym, ◌∙◌, subst}
-use Rattle.std.proofs.lemmas.Bool.{true≢false}
-use Rattle.grown_runs.proofs.Common.{Clear, point_of}
-use Rattle.report_judge.specs.Workers.JudgedRuns.{run_of}
+use Rattle.report_judge.proofs.Words.{sym, ◌∙◌, subst, true≢false, Clear, point_of, run_of}
 use Rattle.report_judge.proofs.marks.lawful_marks.is_blocked_lawfully.Goals as goal
 
 pub returns-then-is_clear_from_nearest-clause-only : goal.returns-then-is_clear_from_nearest-clause-only

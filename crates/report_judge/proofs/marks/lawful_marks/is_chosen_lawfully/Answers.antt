@@ -1,9 +1,5 @@
-use Rattle.std.proofs.Common.{◌≡◌, ℕ, sym, ◌∙◌, subst}
-use Rattle.std.specs.Prelude.{IsTrue}
-use Rattle.std.proofs.lemmas.Bool.{true≢false}
-use Rattle.edge_cost.specs.declared.radii.Radii.{Radii}
-use Rattle.grown_runs.proofs.Common.{radius_of_class, Scene, IsNeighbour, Clear, is_within, point_at, point_of}
-use Rattle.report_judge.specs.Workers.JudgedRuns.{AreRadiiOf, run_of, setup_by}
+use Rattle.report_judge.proofs.Words.{◌≡◌, ℕ, sym, ◌∙◌, subst, IsTrue, true≢false, Radii, radius_of_class, Scene, IsNeighbour, Clear, is_within, point_at}
+use Rattle.report_judge.proofs.Words.{point_of, AreRadiiOf, run_of, setup_by}
 use Rattle.report_judge.proofs.Workers.SeenLaws.{count_before-earlier}
 use Rattle.report_judge.proofs.marks.lawful_marks.is_chosen_lawfully.Goals as goal
 

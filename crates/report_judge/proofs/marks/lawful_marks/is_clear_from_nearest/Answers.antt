@@ -1,6 +1,4 @@
-use Rattle.std.proofs.Common.{sym, subst}
-use Rattle.std.specs.Prelude.{◌↔◌, IsTrue}
-use Rattle.plan_model.specs.Spaces.Clearance.{Clear}
+use Rattle.report_judge.proofs.Words.{sym, subst, ◌↔◌, IsTrue, Clear}
 use Rattle.report_judge.proofs.Laws.ListedNodes.{none-present, point_of-listed}
 use Rattle.report_judge.proofs.marks.lawful_marks.is_clear_from_nearest.Goals as goal
 

@@ -1,9 +1,6 @@
-use Rattle.std.proofs.Common.{◌≡◌, Bool, true, cond, [], Some, None, arith, sym, ap, ◌∙◌}
-use Rattle.std.specs.Prelude.{slice_index_or}
-use Rattle.std.proofs.lemmas.Bool.{leb-false, leb-true, true≢false}
-use Rattle.grown_runs.proofs.Common.{Scene, mark_bound, setup_of, skipping_goals, is_goal_point, lies_in_goals, point_at, kept_cost_of}
+use Rattle.report_judge.proofs.Words.{◌≡◌, Bool, true, cond, [], Some, None, arith, sym, ap, ◌∙◌, slice_index_or, leb-false, leb-true, true≢false, Scene}
+use Rattle.report_judge.proofs.Words.{mark_bound, setup_of, skipping_goals, is_goal_point, lies_in_goals, point_at, kept_cost_of, run_of}
 use Rattle.plan_model.specs.Trees.GoalBounds.{bound_of}
-use Rattle.report_judge.specs.Workers.JudgedRuns.{run_of}
 use Rattle.report_judge.proofs.Laws.ListedNodes.{goal-listed, goal-none}
 use Rattle.report_judge.proofs.marks.lawful_marks.is_skipped_lawfully.Goals as goal
 

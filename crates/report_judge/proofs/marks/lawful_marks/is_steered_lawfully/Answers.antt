@@ -1,7 +1,4 @@
-use Rattle.std.proofs.Common.{◌≡◌, arith, sym, ap, ◌∙◌, subst}
-use Rattle.std.proofs.lemmas.Bool.{true≢false}
-use Rattle.grown_runs.proofs.Common.{steered, point_of}
-use Rattle.report_judge.proofs.Words.{run_of, setup_by, EndsLawfully}
+use Rattle.report_judge.proofs.Words.{◌≡◌, arith, sym, ap, ◌∙◌, subst, true≢false, steered, point_of, run_of, setup_by, EndsLawfully}
 use Rattle.report_judge.proofs.Laws.ListedNodes.{none-present, point_of-listed, present-listed}
 use Rattle.report_judge.proofs.marks.lawful_marks.is_steered_lawfully.Goals as goal
 

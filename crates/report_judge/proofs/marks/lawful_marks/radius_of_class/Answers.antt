@@ -1,5 +1,4 @@
-use Rattle.std.proofs.Common.{◌∙◌, ap}
-use Rattle.plan_model.specs.Geometry.Radius.{radius_of_class}
+use Rattle.report_judge.proofs.Words.{◌∙◌, ap, radius_of_class}
 use Rattle.report_judge.proofs.Workers.ClassRadii.{shifted-class, shifted-low}
 use Rattle.report_judge.proofs.marks.lawful_marks.radius_of_class.Goals as goal
 

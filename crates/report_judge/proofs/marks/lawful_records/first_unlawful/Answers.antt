@@ -1,5 +1,4 @@
-use Rattle.std.proofs.Common.{◌≡◌, suc, ◌+◌, arith, sym, subst, length}
-use Rattle.report_judge.proofs.Words.{IsFirstBreak, KeepsRecordBelow}
+use Rattle.report_judge.proofs.Words.{◌≡◌, suc, ◌+◌, arith, sym, subst, length, IsFirstBreak, KeepsRecordBelow}
 use Rattle.report_judge.proofs.Laws.RecordBreaks.{IsFirstBreak-no_worker, IsFirstBreak-worker, IsFirstBreak-workers}
 use Rattle.report_judge.proofs.marks.lawful_records.first_unlawful.Goals as goal
 

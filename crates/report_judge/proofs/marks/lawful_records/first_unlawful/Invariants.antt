@@ -1,5 +1,4 @@
-use Rattle.std.specs.Prelude.{length}
-use Rattle.report_judge.proofs.Words.{IsFirstBreak, KeepsRecordBelow}
+use Rattle.report_judge.proofs.Words.{length, IsFirstBreak, KeepsRecordBelow}
 use Rattle.report_judge.proofs.marks.lawful_records.first_unlawful.Given as goal
 
 -- the first mark of the workers so far

@@ -1,7 +1,4 @@
-use Rattle.std.proofs.Common.{◌≡◌, ◌+◌, Some, length, arith, ap, sym, subst}
-use Rattle.point_bands.specs.Walks.{numbered_at}
-use Rattle.point_bands.specs.declared.bands.Numbered.{Numbered}
-use Rattle.report_judge.proofs.Words.{KeepsRecord, IsFirstSeen}
+use Rattle.report_judge.proofs.Words.{◌≡◌, ◌+◌, Some, length, arith, ap, sym, subst, numbered_at, Numbered, KeepsRecord, IsFirstSeen}
 use Rattle.report_judge.proofs.Workers.OwnMarkLaws.{IsFirstSeen-broken, IsFirstSeen-kept, IsFirstSeen-past, may_come_first}
 use Rattle.report_judge.proofs.marks.lawful_records.first_unlawful_among.Goals as goal
 use Rattle.report_judge.proofs.marks.lawful_records.first_unlawful_among.Goals.{then-may_be_first+then-not-keeps_law}

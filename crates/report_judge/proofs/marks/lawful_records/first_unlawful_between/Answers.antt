@@ -1,7 +1,5 @@
-use Rattle.std.proofs.Common.{◌≡◌, Some, length, arith, ap, sym, ◌∙◌, subst}
-use Rattle.std.proofs.lemmas.Option.{slice_get_within}
-use Rattle.grown_runs.proofs.Common.{Record, state_of_lists}
-use Rattle.report_judge.proofs.Words.{KeepsRecord, KeepsRecordBetween, AreStandings}
+use Rattle.report_judge.proofs.Words.{◌≡◌, Some, length, arith, ap, sym, ◌∙◌, subst, slice_get_within, Record, state_of_lists, KeepsRecord, KeepsRecordBetween}
+use Rattle.report_judge.proofs.Words.{AreStandings}
 use Rattle.report_judge.proofs.Workers.OwnMarkLaws.{IsFirstBreak-seen, mark_among, mark_of}
 use Rattle.report_judge.proofs.Workers.OwnNodeLaws.{AreStandings-earlier}
 use Rattle.report_judge.proofs.marks.lawful_records.first_unlawful_between.Goals as goal

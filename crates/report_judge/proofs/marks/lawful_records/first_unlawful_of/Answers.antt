@@ -1,9 +1,4 @@
-use Rattle.std.proofs.Common.{◌≡◌, length, arith, sym, subst}
-use Rattle.std.specs.Prelude.{slice_get}
-use Rattle.std.specs.List.{range_with_len}
-use Rattle.std.proofs.lemmas.List.FromFn.{length-range_with_len}
-use Rattle.std.proofs.lemmas.List.Sums.{count_by-le-length}
-use Rattle.plan_model.specs.Runs.Turns.{is_of_worker}
+use Rattle.report_judge.proofs.Words.{◌≡◌, length, arith, sym, subst, slice_get, range_with_len, length-range_with_len, count_by-le-length, is_of_worker}
 use Rattle.report_judge.proofs.Words.{IsFirstBreak, KeepsRecordBetween}
 use Rattle.report_judge.proofs.Laws.RecordBreaks.{IsFirstBreak-stretch, IsFirstBreak-turns}
 use Rattle.report_judge.proofs.marks.lawful_records.first_unlawful_of.Goals as goal

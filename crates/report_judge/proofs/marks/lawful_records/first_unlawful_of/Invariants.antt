@@ -1,5 +1,4 @@
-use Rattle.std.proofs.Common.{◌≤◌, ◌-◌, length}
-use Rattle.report_judge.proofs.Words.{IsFirstBreak, KeepsRecordBetween}
+use Rattle.report_judge.proofs.Words.{◌≤◌, ◌-◌, length, IsFirstBreak, KeepsRecordBetween}
 use Rattle.report_judge.proofs.marks.lawful_records.first_unlawful_of.Given as goal
 
 -- the first mark of the turns so far

@@ -1,9 +1,6 @@
-use Rattle.std.proofs.Common.{◌≡◌, ℕ, ◌<◌, List, Some, None, length, arith, sym, ap, ◌∙◌, subst}
-use Rattle.std.specs.Prelude.{slice_get, slice_index_or}
-use Rattle.std.proofs.lemmas.List.{get_or_default}
-use Rattle.std.proofs.lemmas.Option.{get_or_from_slice_get, slice_get-get_or, slice_get_within}
-use Rattle.grown_runs.proofs.Common.{Point, Record, IsBounded, IsLawfulRecord, setup_of, skipping_goals, All-task_marks_within}
-use Rattle.report_judge.proofs.Words.{IsAsked, IsJudged, run_of, AreSeen, Seen}
+use Rattle.report_judge.proofs.Words.{◌≡◌, ℕ, ◌<◌, List, Some, None, length, arith, sym, ap, ◌∙◌, subst, slice_get, slice_index_or, get_or_default}
+use Rattle.report_judge.proofs.Words.{get_or_from_slice_get, slice_get-get_or, slice_get_within, Point, Record, IsBounded, IsLawfulRecord, setup_of}
+use Rattle.report_judge.proofs.Words.{skipping_goals, All-task_marks_within, IsAsked, IsJudged, run_of, AreSeen, Seen}
 use Rattle.report_judge.proofs.marks.lawful_records.keeps_law.Goals as goal
 
 pub bounds-judged-k : goal.bounds-judged-k

@@ -1,7 +1,4 @@
-use Rattle.std.proofs.Common.{ap, arith, sym, ◌∙◌}
-use Rattle.std.specs.Prelude.{count_by, is_some}
-use Rattle.std.proofs.lemmas.List.{take_all}
-use Rattle.grown_runs.proofs.Runs.PackedLists.{node_count-lists}
+use Rattle.report_judge.proofs.Words.{ap, arith, sym, ◌∙◌, count_by, is_some, take_all, node_count-lists}
 use Rattle.report_judge.proofs.marks.lawful_records.present_count.Goals as goal
 
 pub returns : goal.returns

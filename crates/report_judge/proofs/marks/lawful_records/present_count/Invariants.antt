@@ -1,5 +1,4 @@
-use Rattle.std.proofs.Common.{◌≡◌, take}
-use Rattle.std.specs.Prelude.{count_by, is_some}
+use Rattle.report_judge.proofs.Words.{◌≡◌, take, count_by, is_some}
 use Rattle.report_judge.proofs.marks.lawful_records.present_count.Given as goal
 
 -- the nodes so far are counted

@@ -1,8 +1,5 @@
-use Rattle.std.proofs.Common.{◌≡◌, suc, ◌+◌, ◌-◌, ◌*◌, ◌≤◌, None, arith, sym, ap, ◌∙◌, subst}
-use Rattle.std.specs.Prelude.{slice_index_or}
-use Rattle.std.proofs.lemmas.Bool.{true≢false}
-use Rattle.grown_runs.proofs.Common.{Knot, Hangs, StandsAt, node_count, kept_cost_of}
-use Rattle.report_judge.specs.Workers.JudgedRuns.{run_of, setup_by}
+use Rattle.report_judge.proofs.Words.{◌≡◌, suc, ◌+◌, ◌-◌, ◌*◌, ◌≤◌, None, arith, sym, ap, ◌∙◌, subst, slice_index_or, true≢false, Knot, Hangs, StandsAt}
+use Rattle.report_judge.proofs.Words.{node_count, kept_cost_of, run_of, setup_by}
 use Rattle.report_judge.proofs.Laws.HangingNodes.{Hangs-listed, listed-Hangs}
 use Rattle.report_judge.proofs.marks.placed_marks.hangs_lawfully.Goals as goal
 

@@ -1,7 +1,4 @@
-use Rattle.std.proofs.Common.{◌≡◌, ◌+◌, arith, sym, ap}
-use Rattle.std.proofs.lemmas.Bool.{leb-false, leb-true}
-use Rattle.grown_runs.proofs.Common.{cost_of, point_of}
-use Rattle.report_judge.specs.Workers.JudgedRuns.{run_of}
+use Rattle.report_judge.proofs.Words.{◌≡◌, ◌+◌, arith, sym, ap, leb-false, leb-true, cost_of, point_of, run_of}
 use Rattle.report_judge.proofs.Workers.FirstCosts.{first_cost_low}
 use Rattle.report_judge.proofs.Laws.ListedNodes.{none-present, point_of-listed, present-listed}
 use Rattle.report_judge.proofs.marks.placed_marks.is_within_first.Goals as goal

@@ -1,7 +1,4 @@
-use Rattle.std.proofs.Common.{◌≡◌, Some, true, eqb, ap, sym, ◌∙◌}
-use Rattle.std.specs.Prelude.{◌&&◌}
-use Rattle.std.proofs.lemmas.Bool.{and_from, and_parts, eq-eqb, eqb-true, true≢false}
-use Rattle.plan_model.specs.declared.geometry.Point.{Point}
+use Rattle.report_judge.proofs.Words.{◌≡◌, Some, true, eqb, ap, sym, ◌∙◌, ◌&&◌, and_from, and_parts, eq-eqb, eqb-true, true≢false, Point}
 use Rattle.report_judge.proofs.Laws.ListedNodes.{none-stands, same-listed, stands-listed}
 use Rattle.report_judge.proofs.marks.placed_marks.stands_at.Goals as goal
 

@@ -1,6 +1,4 @@
-use Rattle.std.proofs.Common.{◌≡◌, suc, ◌+◌, length, refl, arith, ap, ◌∙◌, sym, below_more}
-use Rattle.std.specs.Prelude.{is_some, slice_index_or, None}
-use Rattle.std.proofs.lemmas.Option.{slice_get_read}
+use Rattle.report_judge.proofs.Words.{◌≡◌, suc, ◌+◌, length, refl, arith, ap, ◌∙◌, sym, below_more, is_some, slice_index_or, None, slice_get_read}
 use Rattle.report_judge.proofs.Laws.PresentNodes.{KeepsPresence-listed, listed-KeepsPresence, same_tests, apart_tests}
 use Rattle.report_judge.proofs.marks.presence.first_unlike.Goals as goal
 

@@ -1,5 +1,4 @@
-use Rattle.std.proofs.Common.{ℕ, ◌<◌}
-use Rattle.report_judge.specs.Laws.FirstBreaks.{KeepsPresence}
+use Rattle.report_judge.proofs.Words.{ℕ, ◌<◌, KeepsPresence}
 use Rattle.report_judge.proofs.marks.presence.first_unlike.Given as goal
 
 abbrev pub invariant-loop-k : goal.invariant-loop-k

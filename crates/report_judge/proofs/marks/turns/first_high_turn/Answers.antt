@@ -1,8 +1,4 @@
-use Rattle.std.proofs.Common.{◌≡◌, ◌<◌, Some, length, arith, refl, sym, ◌∙◌, subst, below_more}
-use Rattle.std.specs.Prelude.{slice_get}
-use Rattle.std.proofs.lemmas.Option.{slice_get_read}
-use Rattle.grown_runs.proofs.Common.{Record, turns_of}
-use Rattle.report_judge.specs.Laws.FirstBreaks.{HasLowTurn}
+use Rattle.report_judge.proofs.Words.{◌≡◌, ◌<◌, Some, length, arith, refl, sym, ◌∙◌, subst, below_more, slice_get, slice_get_read, Record, turns_of, HasLowTurn}
 use Rattle.report_judge.proofs.marks.turns.first_high_turn.Goals as goal
 
 pub bounds-counts-entry : goal.bounds-counts-entry

@@ -1,5 +1,4 @@
-use Rattle.std.proofs.Common.{ℕ, ◌<◌}
-use Rattle.report_judge.specs.Laws.FirstBreaks.{HasLowTurn}
+use Rattle.report_judge.proofs.Words.{ℕ, ◌<◌, HasLowTurn}
 use Rattle.report_judge.proofs.marks.turns.first_high_turn.Given as goal
 
 -- each turn so far is low

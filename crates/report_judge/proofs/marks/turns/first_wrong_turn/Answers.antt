@@ -1,5 +1,4 @@
-use Rattle.std.proofs.Common.{length, sym, subst}
-use Rattle.report_judge.specs.Laws.FirstBreaks.{HasLowTurn, IsFirstBreak, IsNewKey}
+use Rattle.report_judge.proofs.Words.{length, sym, subst, HasLowTurn, IsFirstBreak, IsNewKey}
 use Rattle.report_judge.proofs.Laws.FirstBreakLaws.{IsFirstBreak-earlier}
 use Rattle.report_judge.proofs.Laws.TurnBreaks.{IsFirstBreak-turns}
 use Rattle.report_judge.proofs.marks.turns.first_wrong_turn.Goals as goal

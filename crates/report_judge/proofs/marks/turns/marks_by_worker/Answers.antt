@@ -1,13 +1,7 @@
-use Rattle.std.proofs.Common.{◌≡◌, ℕ, suc, ◌+◌, ◌<◌, ◌≤◌, cond, eqb, List, length, Some, arith, refl, sym, ap, ◌∙◌, inl, inr}
-use Rattle.std.specs.Prelude.{slice_get, slice_index_or, slice_set}
-use Rattle.std.specs.List.{range_with_len}
-use Rattle.std.proofs.lemmas.Bool.{cases_eq, eq-eqb, ne_eqb}
-use Rattle.std.proofs.lemmas.Grind.{get_or-set_at}
-use Rattle.std.proofs.lemmas.List.{get_or-replicate, get_or-set_other, length-set}
-use Rattle.std.proofs.lemmas.List.FromFn.{length-range_with_len}
-use Rattle.std.proofs.lemmas.List.Sums.{count_by-le-length}
-use Rattle.std.proofs.lemmas.Option.{slice_get_read}
-use Rattle.grown_runs.proofs.Common.{Record, is_of_worker, turns_of, count-more}
+use Rattle.report_judge.proofs.Words.{◌≡◌, ℕ, suc, ◌+◌, ◌<◌, ◌≤◌, cond, eqb, List, length, Some, arith, refl, sym, ap, ◌∙◌, inl, inr, slice_get, slice_index_or}
+use Rattle.report_judge.proofs.Words.{slice_set, range_with_len, cases_eq, eq-eqb, ne_eqb, get_or-set_at, get_or-replicate, get_or-set_other}
+use Rattle.report_judge.proofs.Words.{length-range_with_len, count_by-le-length, slice_get_read, Record, is_of_worker, turns_of, count-more}
+use Rattle.std.proofs.lemmas.List.{length-set}
 use Rattle.report_judge.proofs.marks.turns.marks_by_worker.Goals as goal
 
 -- a worker has handled at most as many marks as there are

@@ -1,6 +1,4 @@
-use Rattle.std.proofs.Common.{◌≡◌, ℕ, ◌<◌, length}
-use Rattle.std.specs.Prelude.{slice_get, slice_index_or}
-use Rattle.plan_model.specs.Runs.Turns.{turns_of}
+use Rattle.report_judge.proofs.Words.{◌≡◌, ℕ, ◌<◌, length, slice_get, slice_index_or, turns_of}
 use Rattle.report_judge.proofs.marks.turns.marks_by_worker.Given as goal
 
 -- the records so far are counted

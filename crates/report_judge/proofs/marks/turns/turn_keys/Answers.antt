@@ -1,10 +1,5 @@
-use Rattle.std.proofs.Common.{◌≡◌, ℕ, ◌+◌, ◌<◌, List, [], ◌∷◌, ◌++◌, Some, length, length-append, arith, refl, sym, ap, ◌∙◌, inl, inr}
-use Rattle.std.specs.Prelude.{slice_get, slice_index_or}
-use Rattle.std.proofs.lemmas.Bool.{cases_lt}
-use Rattle.std.proofs.lemmas.List.{get_or_append_left, get_or_push}
-use Rattle.std.proofs.lemmas.Option.{slice_get_read, slice_get_within}
-use Rattle.plan_model.specs.declared.records.Record.{Record}
-use Rattle.report_judge.specs.Laws.FirstBreaks.{turn_key}
+use Rattle.report_judge.proofs.Words.{◌≡◌, ℕ, ◌+◌, ◌<◌, List, [], ◌∷◌, ◌++◌, Some, length, length-append, arith, refl, sym, ap, ◌∙◌, inl, inr, slice_get}
+use Rattle.report_judge.proofs.Words.{slice_index_or, cases_lt, get_or_append_left, get_or_push, slice_get_read, slice_get_within, Record, turn_key}
 use Rattle.report_judge.proofs.marks.turns.turn_keys.Goals as goal
 
 -- one number more

@@ -1,7 +1,4 @@
-use Rattle.std.proofs.Common.{◌≡◌, ℕ, ◌<◌, Some, length}
-use Rattle.std.specs.Prelude.{slice_get, slice_index_or}
-use Rattle.plan_model.specs.declared.records.Record.{Record}
-use Rattle.report_judge.specs.Laws.FirstBreaks.{turn_key}
+use Rattle.report_judge.proofs.Words.{◌≡◌, ℕ, ◌<◌, Some, length, slice_get, slice_index_or, Record, turn_key}
 use Rattle.report_judge.proofs.marks.turns.turn_keys.Given as goal
 
 -- there is a number for each record so far

@@ -1,6 +1,4 @@
-use Rattle.std.proofs.Common.{arith, ◌∙◌, subst}
-use Rattle.grown_runs.specs.Runs.PackedRuns.{state_of_lists}
-use Rattle.report_judge.proofs.Words.{AreSeen, AreStandings}
+use Rattle.report_judge.proofs.Words.{arith, ◌∙◌, subst, state_of_lists, AreSeen, AreStandings}
 use Rattle.report_judge.proofs.own.own_histories.own_history.Goals as goal
 
 pub seen_by_turn-requires-clause-few : goal.seen_by_turn-requires-clause-few

@@ -1,10 +1,6 @@
-use Rattle.std.proofs.Common.{◌≡◌, suc, ◌+◌, ◌<◌, [], ◌∷◌, ◌++◌, length, arith, sym, ap, ◌∙◌, subst}
-use Rattle.std.specs.Prelude.{All, IfSome, None, slice_index_or}
-use Rattle.std.proofs.lemmas.List.{get_or_default}
-use Rattle.std.proofs.lemmas.List.Elements.{All-push}
-use Rattle.grown_runs.proofs.Common.{Point, IsBounded, All-task_marks_within}
-use Rattle.point_bands.specs.declared.bands.Numbered.{Numbered}
-use Rattle.report_judge.proofs.Words.{AreMarksBetween, IsMarkOfTurn}
+use Rattle.report_judge.proofs.Words.{◌≡◌, suc, ◌+◌, ◌<◌, [], ◌∷◌, ◌++◌, length, arith, sym, ap, ◌∙◌, subst, All, None, slice_index_or, get_or_default}
+use Rattle.report_judge.proofs.Words.{All-push, Point, IsBounded, All-task_marks_within, Numbered, AreMarksBetween, IsMarkOfTurn}
+use Rattle.std.specs.Prelude.{IfSome}
 use Rattle.report_judge.proofs.Workers.SeenTurns.{low_mark}
 use Rattle.report_judge.proofs.Workers.OwnMarkLaws.{AreMarksBetween-more, AreMarksBetween-none, AreMarksBetween-same, AreMarksBetween-sorted}
 use Rattle.report_judge.proofs.own.own_marks.marks_between.Goals as goal

@@ -1,6 +1,4 @@
-use Rattle.std.specs.Prelude.{All}
-use Rattle.plan_model.specs.Geometry.Bounds.{IsBounded}
-use Rattle.report_judge.specs.Workers.OwnMarks.{AreMarksBetween}
+use Rattle.report_judge.proofs.Words.{All, IsBounded, AreMarksBetween}
 use Rattle.report_judge.proofs.own.own_marks.marks_between.Given as goal
 
 -- the marks of the turns so far

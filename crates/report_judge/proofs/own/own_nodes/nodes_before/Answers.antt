@@ -1,10 +1,5 @@
-use Rattle.std.proofs.Common.{◌≡◌, suc, ◌+◌, [], ◌∷◌, ◌++◌, Some, None, arith, sym, ap, ◌∙◌, subst}
-use Rattle.std.specs.Prelude.{All, slice_index_or}
-use Rattle.std.proofs.lemmas.List.{get_or_default}
-use Rattle.std.proofs.lemmas.List.Elements.{All-push}
-use Rattle.grown_runs.proofs.Common.{IsBounded, state_of_lists}
-use Rattle.point_bands.specs.declared.bands.Numbered.{Numbered}
-use Rattle.report_judge.proofs.Words.{AreNodesBefore, IsPlacedAt, IsMarkOfTurn}
+use Rattle.report_judge.proofs.Words.{◌≡◌, suc, ◌+◌, [], ◌∷◌, ◌++◌, Some, None, arith, sym, ap, ◌∙◌, subst, All, slice_index_or, get_or_default, All-push}
+use Rattle.report_judge.proofs.Words.{IsBounded, state_of_lists, Numbered, AreNodesBefore, IsPlacedAt, IsMarkOfTurn}
 use Rattle.report_judge.proofs.Laws.ListedNodes.{none-stands, stands-listed}
 use Rattle.report_judge.proofs.Workers.OwnNodeLaws.{AreNodesBefore-none, AreNodesBefore-placed, AreNodesBefore-sorted, AreNodesBefore-start}
 use Rattle.report_judge.proofs.Workers.OwnNodeLaws.{AreNodesBefore-unplaced}

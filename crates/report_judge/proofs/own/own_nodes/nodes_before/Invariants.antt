@@ -1,6 +1,4 @@
-use Rattle.std.specs.Prelude.{All}
-use Rattle.grown_runs.proofs.Common.{IsBounded, state_of_lists}
-use Rattle.report_judge.specs.Workers.OwnNodes.{AreNodesBefore}
+use Rattle.report_judge.proofs.Words.{All, IsBounded, state_of_lists, AreNodesBefore}
 use Rattle.report_judge.proofs.own.own_nodes.nodes_before.Given as goal
 
 -- the nodes of the worker so far

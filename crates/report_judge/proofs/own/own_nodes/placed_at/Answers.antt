@@ -1,8 +1,5 @@
-use Rattle.std.proofs.Common.{◌+◌, ◌≡◌, Some, length, suc, arith, refl, sym, ap, ◌∙◌}
-use Rattle.std.specs.Prelude.{None, slice_index_or}
-use Rattle.std.proofs.lemmas.Bool.{true≢false}
-use Rattle.std.proofs.lemmas.Option.{slice_get_read, slice_get_within}
-use Rattle.grown_runs.proofs.Common.{Record, is_placed}
+use Rattle.report_judge.proofs.Words.{◌+◌, ◌≡◌, Some, length, suc, arith, refl, sym, ap, ◌∙◌, None, slice_index_or, true≢false, slice_get_read}
+use Rattle.report_judge.proofs.Words.{slice_get_within, Record, is_placed}
 use Rattle.report_judge.proofs.Laws.ListedNodes.{none-stands, stands-listed}
 use Rattle.report_judge.proofs.Workers.OwnNodeLaws.{is_placed_at, not_placed}
 use Rattle.report_judge.proofs.own.own_nodes.placed_at.Goals as goal

@@ -1,5 +1,4 @@
-use Rattle.std.proofs.Common.{◌-◌, length}
-use Rattle.report_judge.specs.Workers.OwnNodes.{HasNo}
+use Rattle.report_judge.proofs.Words.{◌-◌, length, HasNo}
 use Rattle.report_judge.proofs.own.searches.has_one.Given as goal
 
 -- none so far is one of the search

@@ -1,5 +1,4 @@
-use Rattle.std.proofs.Common.{◌≡◌, ◌*◌, ◌∙◌, arith, inl, inr, sym}
-use Rattle.report_judge.specs.Workers.JudgedRuns.{run_of}
+use Rattle.report_judge.proofs.Words.{◌≡◌, ◌*◌, ◌∙◌, arith, inl, inr, sym, run_of}
 use Rattle.report_judge.proofs.Workers.OwnNodeLaws.{is_nearest_of_all, is_not_nearest, keeps_all_near, keeps_not_near, not_false, not_true, unlawful_within}
 use Rattle.report_judge.proofs.own.searches.is_least_near.Goals as goal
 

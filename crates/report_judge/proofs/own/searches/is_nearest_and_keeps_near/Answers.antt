@@ -1,7 +1,5 @@
-use Rattle.std.proofs.Common.{sym, subst}
-use Rattle.report_judge.proofs.Words.{run_of, KeepsNear}
+use Rattle.report_judge.proofs.Words.{sym, subst, run_of, KeepsNear, true≢false}
 use Rattle.report_judge.proofs.Workers.OwnNodeLaws.{same_point}
-use Rattle.std.proofs.lemmas.Bool.{true≢false}
 use Rattle.report_judge.proofs.own.searches.is_nearest_and_keeps_near.Goals as goal
 
 pub nearest_distance-distance-requires-clause-bounded : goal.nearest_distance-distance-requires-clause-bounded

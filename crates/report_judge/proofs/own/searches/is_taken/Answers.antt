@@ -1,6 +1,4 @@
-use Rattle.std.proofs.Common.{arith}
-use Rattle.grown_runs.proofs.Common.{without_costs, IsPresent-stands, present_below}
-use Rattle.report_judge.specs.Workers.JudgedRuns.{run_of}
+use Rattle.report_judge.proofs.Words.{arith, without_costs, IsPresent-stands, present_below, run_of}
 use Rattle.report_judge.proofs.Laws.LawfulSheets.{length-without_costs}
 use Rattle.report_judge.proofs.Workers.OwnNodeLaws.{is_free, is_taken_by, nearer_within}
 use Rattle.report_judge.proofs.own.searches.is_taken.Goals as goal

@@ -1,5 +1,4 @@
-use Rattle.std.proofs.Common.{sym, ap, ◌∙◌}
-use Rattle.plan_model.specs.Geometry.Plane.{squared_distance}
+use Rattle.report_judge.proofs.Words.{sym, ap, ◌∙◌, squared_distance}
 use Rattle.report_judge.proofs.Laws.ListedNodes.{none-present, point_of-listed}
 use Rattle.report_judge.proofs.own.searches.nearest_distance.Goals as goal
 

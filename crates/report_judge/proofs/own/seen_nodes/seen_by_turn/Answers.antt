@@ -1,8 +1,5 @@
-use Rattle.std.proofs.Common.{◌≡◌, suc, ◌+◌, [], ◌∷◌, length, length-append, arith, sym, ap, ◌∙◌, subst}
-use Rattle.std.specs.Prelude.{None, slice_get, slice_index_or}
-use Rattle.std.proofs.lemmas.Option.{slice_get_within}
-use Rattle.grown_runs.specs.Runs.PackedRuns.{state_of_lists}
-use Rattle.report_judge.specs.Workers.SeenNodes.{AreSeen, IsMarkOfTurn}
+use Rattle.report_judge.proofs.Words.{◌≡◌, suc, ◌+◌, [], ◌∷◌, length, length-append, arith, sym, ap, ◌∙◌, subst, None, slice_get, slice_index_or}
+use Rattle.report_judge.proofs.Words.{slice_get_within, state_of_lists, AreSeen, IsMarkOfTurn}
 use Rattle.report_judge.proofs.Workers.SeenTurns.{low_mark}
 use Rattle.report_judge.proofs.Texts.ListPlaces.{pushed_each}
 use Rattle.report_judge.proofs.Workers.SeenStarts.{one_counted}

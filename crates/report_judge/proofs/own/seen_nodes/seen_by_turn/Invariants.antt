@@ -1,7 +1,4 @@
-use Rattle.std.proofs.Common.{◌≡◌, ◌+◌, ◌≤◌, ℕ, Some, length}
-use Rattle.std.specs.Prelude.{slice_get}
-use Rattle.grown_runs.specs.Runs.PackedRuns.{state_of_lists}
-use Rattle.report_judge.proofs.Words.{AreSeen, Seen}
+use Rattle.report_judge.proofs.Words.{◌≡◌, ◌+◌, ◌≤◌, ℕ, Some, length, slice_get, state_of_lists, AreSeen, Seen}
 use Rattle.report_judge.proofs.own.seen_nodes.seen_by_turn.Given as goal
 
 -- what stood before each turn so far, and before this one

@@ -1,9 +1,6 @@
-use Rattle.std.proofs.Common.{◌≡◌, ℕ, suc, [], ◌∷◌, ◌++◌, ◌<◌, ◌≤◌, Option, Some, None, length, length-append, arith, sym, ap, ◌∙◌, subst, inl, inr}
-use Rattle.std.specs.Prelude.{IfSome, slice_index_or}
-use Rattle.grown_runs.proofs.Common.{state_of_lists, MOST_MARKS}
-use Rattle.std.proofs.lemmas.Bool.{cases_lt}
-use Rattle.std.proofs.lemmas.List.{get_or_push}
-use Rattle.report_judge.proofs.Words.{IsMarkOfTurn, no_standing, standing_at, standing_of}
+use Rattle.report_judge.proofs.Words.{◌≡◌, ℕ, suc, [], ◌∷◌, ◌++◌, ◌<◌, ◌≤◌, Option, Some, None, length, length-append, arith, sym, ap, ◌∙◌, subst, inl, inr}
+use Rattle.report_judge.proofs.Words.{slice_index_or, state_of_lists, MOST_MARKS, cases_lt, get_or_push, IsMarkOfTurn, no_standing, standing_at, standing_of}
+use Rattle.std.specs.Prelude.{IfSome}
 use Rattle.report_judge.proofs.Workers.SeenTurns.{low_mark}
 use Rattle.report_judge.proofs.Workers.StandingLaws.{AreStandings-all, node_of_mark, node_of_some, standing_pushed}
 use Rattle.report_judge.proofs.own.standings.standings.Goals as goal

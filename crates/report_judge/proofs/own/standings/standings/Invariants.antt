@@ -1,7 +1,4 @@
-use Rattle.std.proofs.Common.{◌≡◌, ℕ, suc, ◌+◌, ◌<◌, None, length}
-use Rattle.std.specs.Prelude.{slice_index_or}
-use Rattle.grown_runs.specs.Runs.PackedRuns.{state_of_lists}
-use Rattle.report_judge.specs.Workers.Standings.{standing_at, standing_of}
+use Rattle.report_judge.proofs.Words.{◌≡◌, ℕ, suc, ◌+◌, ◌<◌, None, length, slice_index_or, state_of_lists, standing_at, standing_of}
 use Rattle.report_judge.proofs.Workers.StandingLaws.{node_of_mark}
 use Rattle.report_judge.proofs.own.standings.standings.Given as goal
 

@@ -1,7 +1,4 @@
-use Rattle.std.proofs.Common.{◌≡◌, ℕ, List, ◌++◌, arith, sym, ap, ◌∙◌}
-use Rattle.std.specs.Prelude.{Bool, codes}
-use Rattle.report_judge.proofs.Words.{FitsTally, field, line_text, Counts}
-use Rattle.report_judge.specs.declared.tallies.Tally.{Tally}
+use Rattle.report_judge.proofs.Words.{◌≡◌, ℕ, List, ◌++◌, arith, sym, ap, ◌∙◌, Bool, codes, FitsTally, field, line_text, Counts, Tally}
 use Rattle.report_judge.proofs.Texts.CountParts.{last_counts, parts-counts}
 use Rattle.report_judge.proofs.Texts.FieldWords.{none_always}
 use Rattle.report_judge.proofs.reading.count_readers.read_counts.Goals as goal

@@ -1,6 +1,4 @@
-use Rattle.std.proofs.Common.{sym, ap, ◌∙◌}
-use Rattle.std.specs.Prelude.{codes}
-use Rattle.report_judge.specs.Texts.ReportLines.{field}
+use Rattle.report_judge.proofs.Words.{sym, ap, ◌∙◌, codes, field}
 use Rattle.report_judge.proofs.Texts.CountParts.{parts-skipped}
 use Rattle.report_judge.proofs.reading.count_readers.read_last_counts.Goals as goal
 

@@ -1,6 +1,4 @@
-use Rattle.std.proofs.Common.{◌≡◌, List, ℕ, ◌++◌, Bor}
-use Rattle.std.proofs.lemmas.Bool.Decides.{Decides-eqb}
-use Rattle.std.proofs.lemmas.Slice.Eq.{strip_prefix_is}
+use Rattle.report_judge.proofs.Words.{◌≡◌, List, ℕ, ◌++◌, Bor, Decides-eqb, strip_prefix_is}
 use Rattle.report_judge.proofs.Texts.FieldWords.{none_of, some_of}
 use Rattle.report_judge.proofs.reading.fields.after.Goals as goal
 

@@ -1,6 +1,4 @@
-use Rattle.std.proofs.Common.{◌≡◌, ◌+◌, ◌≤◌, ◌%◌, ◌-◌, ◌^◌, drop, length, take, true}
-use Rattle.std.specs.List.{list_all, prefix_len}
-use Rattle.plan_model.specs.Texts.TextNumbers.{is_digit, magnitude}
+use Rattle.report_judge.proofs.Words.{◌≡◌, ◌+◌, ◌≤◌, ◌%◌, ◌-◌, ◌^◌, drop, length, take, true, list_all, prefix_len, is_digit, magnitude}
 use Rattle.report_judge.proofs.reading.fields.read_digits.Given as goal
 
 -- the bytes so far are digits

@@ -1,5 +1,4 @@
-use Rattle.std.proofs.Common.{◌≡◌, ℕ, ◌≤◌, List, ◌∷◌, ◌++◌, arith, sym, ap, ◌∙◌, decimal}
-use Rattle.std.proofs.lemmas.List.{append_cancel_left}
+use Rattle.report_judge.proofs.Words.{◌≡◌, ℕ, ◌≤◌, List, ◌∷◌, ◌++◌, arith, sym, ap, ◌∙◌, decimal, append_cancel_left}
 use Rattle.report_judge.proofs.Texts.FieldWords.{none_always, same_fields}
 use Rattle.report_judge.proofs.reading.fields.read_field.Goals as goal
 

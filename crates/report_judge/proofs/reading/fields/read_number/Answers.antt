@@ -1,5 +1,4 @@
-use Rattle.std.proofs.Common.{◌≡◌, ℕ, ◌+◌, ◌-◌, ◌≤◌, List, ◌∷◌, ◌++◌, drop, length, length-drop, arith, sym, ap, ◌∙◌, decimal}
-use Rattle.std.proofs.lemmas.List.{take_all}
+use Rattle.report_judge.proofs.Words.{◌≡◌, ℕ, ◌+◌, ◌-◌, ◌≤◌, List, ◌∷◌, ◌++◌, drop, length, length-drop, arith, sym, ap, ◌∙◌, decimal, take_all}
 use Rattle.report_judge.proofs.Texts.FieldWords.{BeginsWith-number, none_always, text_at}
 use Rattle.report_judge.proofs.reading.fields.read_number.Goals as goal
 

@@ -1,5 +1,4 @@
-use Rattle.std.proofs.Common.{◌+◌, ◌<◌, ◌^◌, arith, rules, sym, subst}
-use Rattle.report_judge.specs.Texts.FrontLines.{IsNextNode}
+use Rattle.report_judge.proofs.Words.{◌+◌, ◌<◌, ◌^◌, arith, rules, sym, subst, IsNextNode}
 use Rattle.report_judge.proofs.Texts.FrontLaws.{HasRead, HasRead-none, HasRead-more, ReadsNodes-ended, other_node}
 use Rattle.report_judge.proofs.reading.front_lines.read_nodes.Goals as goal
 

@@ -1,7 +1,4 @@
-use Rattle.std.proofs.Common.{◌≡◌, List, [], ◌∷◌, ◌++◌, map, length-append, arith, sym, ap, subst}
-use Rattle.std.specs.Prelude.{All, length}
-use Rattle.std.proofs.lemmas.List.{map-append}
-use Rattle.grown_runs.proofs.Common.{Point, IsBounded}
+use Rattle.report_judge.proofs.Words.{◌≡◌, List, [], ◌∷◌, ◌++◌, map, length-append, arith, sym, ap, subst, All, length, map-append, Point, IsBounded}
 use Rattle.report_judge.proofs.Words.{lines_text, PathPoint}
 use Rattle.report_judge.proofs.Texts.FrontLaws.{All-push, one_more}
 use Rattle.report_judge.proofs.reading.front_lines.read_points.Goals as goal

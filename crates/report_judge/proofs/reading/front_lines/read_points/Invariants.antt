@@ -1,7 +1,4 @@
-use Rattle.std.proofs.Common.{◌≡◌, ◌++◌, length, map}
-use Rattle.std.specs.Prelude.{All}
-use Rattle.plan_model.specs.Geometry.Bounds.{IsBounded}
-use Rattle.report_judge.proofs.Words.{lines_text, PathPoint}
+use Rattle.report_judge.proofs.Words.{◌≡◌, ◌++◌, length, map, All, IsBounded, lines_text, PathPoint}
 use Rattle.report_judge.proofs.reading.front_lines.read_points.Given as goal
 
 -- the points so far are read

@@ -1,7 +1,5 @@
-use Rattle.std.proofs.Common.{◌≡◌, ◌<◌, List, [], ◌∷◌, ◌++◌, ℕ, Some, length-append, arith, sym, ap, subst}
-use Rattle.std.specs.Prelude.{length, slice_get}
-use Rattle.plan_model.specs.declared.records.Record.{Record}
-use Rattle.report_judge.proofs.Words.{Extent, ReportLine, line_text, lines_text, FitsEntry, MarkLine, lines_of_records}
+use Rattle.report_judge.proofs.Words.{◌≡◌, ◌<◌, List, [], ◌∷◌, ◌++◌, ℕ, Some, length-append, arith, sym, ap, subst, length, slice_get, Record, Extent}
+use Rattle.report_judge.proofs.Words.{ReportLine, line_text, lines_text, FitsEntry, MarkLine, lines_of_records}
 use Rattle.report_judge.proofs.Texts.FrontLaws.{lines_of_records-push, one_more}
 use Rattle.report_judge.proofs.Texts.ListPlaces.{pushed_each}
 use Rattle.report_judge.proofs.reading.front_lines.read_records.Goals as goal

@@ -1,7 +1,4 @@
-use Rattle.std.proofs.Common.{◌≡◌, ℕ, ◌++◌, Some, length}
-use Rattle.std.specs.Prelude.{slice_get}
-use Rattle.plan_model.specs.declared.records.Record.{Record}
-use Rattle.report_judge.proofs.Words.{lines_text, FitsEntry, lines_of_records}
+use Rattle.report_judge.proofs.Words.{◌≡◌, ℕ, ◌++◌, Some, length, slice_get, Record, lines_text, FitsEntry, lines_of_records}
 use Rattle.report_judge.proofs.reading.front_lines.read_records.Given as goal
 
 -- the records so far are read

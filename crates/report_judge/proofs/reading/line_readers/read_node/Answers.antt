@@ -1,7 +1,4 @@
-use Rattle.std.proofs.Common.{◌≡◌, ℕ, List, ◌++◌, arith, sym, ap, ◌∙◌}
-use Rattle.std.specs.Prelude.{codes}
-use Rattle.plan_model.specs.declared.trees.Knot.{Knot}
-use Rattle.report_judge.proofs.Words.{FitsKnot, field, line_text, point_field, NodeLine}
+use Rattle.report_judge.proofs.Words.{◌≡◌, ℕ, List, ◌++◌, arith, sym, ap, ◌∙◌, codes, Knot, FitsKnot, field, line_text, point_field, NodeLine}
 use Rattle.report_judge.proofs.Texts.FieldWords.{none_always}
 use Rattle.report_judge.proofs.Texts.LineParts.{parts-node}
 use Rattle.report_judge.proofs.reading.line_readers.read_node.Goals as goal

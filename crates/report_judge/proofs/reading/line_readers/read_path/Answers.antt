@@ -1,6 +1,4 @@
-use Rattle.std.proofs.Common.{◌≡◌, ℕ, ◌<◌, ◌^◌, List, ◌++◌, arith, ◌∙◌}
-use Rattle.std.specs.Prelude.{codes}
-use Rattle.report_judge.proofs.Words.{field, line_text, PathOf}
+use Rattle.report_judge.proofs.Words.{◌≡◌, ℕ, ◌<◌, ◌^◌, List, ◌++◌, arith, ◌∙◌, codes, field, line_text, PathOf}
 use Rattle.report_judge.proofs.Texts.FieldWords.{none_always}
 use Rattle.report_judge.proofs.Texts.LineParts.{parts-path}
 use Rattle.report_judge.proofs.reading.line_readers.read_path.Goals as goal

@@ -1,6 +1,4 @@
-use Rattle.std.proofs.Common.{◌≡◌, ℕ, List, ◌++◌, sym, ◌∙◌}
-use Rattle.grown_runs.proofs.Common.{Point, IsBounded}
-use Rattle.report_judge.proofs.Words.{line_text, PathPoint}
+use Rattle.report_judge.proofs.Words.{◌≡◌, ℕ, List, ◌++◌, sym, ◌∙◌, Point, IsBounded, line_text, PathPoint}
 use Rattle.report_judge.proofs.Texts.FieldWords.{none_always}
 use Rattle.report_judge.proofs.Texts.LineParts.{parts-point}
 use Rattle.report_judge.proofs.reading.line_readers.read_path_point.Goals as goal

@@ -1,6 +1,4 @@
-use Rattle.std.proofs.Common.{◌≡◌, ℕ, List, [], arith, ap, ◌∙◌}
-use Rattle.grown_runs.proofs.Common.{Point, IsBounded}
-use Rattle.report_judge.specs.Texts.ReportLines.{field, point_field}
+use Rattle.report_judge.proofs.Words.{◌≡◌, ℕ, List, [], arith, ap, ◌∙◌, Point, IsBounded, field, point_field}
 use Rattle.report_judge.proofs.Texts.FieldWords.{none_always}
 use Rattle.report_judge.proofs.reading.line_readers.read_point.Goals as goal
 

@@ -1,5 +1,4 @@
-use Rattle.std.proofs.Common.{◌≡◌, ℕ, ◌≤◌, List, ◌∷◌, ◌++◌, arith, decimal}
-use Rattle.std.specs.Prelude.{codes}
+use Rattle.report_judge.proofs.Words.{◌≡◌, ℕ, ◌≤◌, List, ◌∷◌, ◌++◌, arith, decimal, codes}
 use Rattle.report_judge.proofs.Texts.FieldWords.{none_always}
 use Rattle.report_judge.proofs.reading.mark_fields.read_nearest.Goals as goal
 

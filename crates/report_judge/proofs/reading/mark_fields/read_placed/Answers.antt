@@ -1,7 +1,4 @@
-use Rattle.std.proofs.Common.{◌≡◌, ℕ, ◌<◌, ◌≤◌, ◌^◌, List, [], ◌∷◌, ◌++◌, arith, sym, ap, ◌∙◌, append_assoc, decimal}
-use Rattle.std.specs.Prelude.{codes}
-use Rattle.plan_model.specs.Reports.ReportText.{line}
-use Rattle.report_judge.specs.Texts.ReportLines.{field}
+use Rattle.report_judge.proofs.Words.{◌≡◌, ℕ, ◌<◌, ◌≤◌, ◌^◌, List, [], ◌∷◌, ◌++◌, arith, sym, ap, ◌∙◌, append_assoc, decimal, codes, line, field}
 use Rattle.report_judge.proofs.Texts.FieldWords.{none_always}
 use Rattle.report_judge.proofs.reading.mark_fields.read_placed.Goals as goal
 

@@ -1,6 +1,4 @@
-use Rattle.std.proofs.Common.{◌≡◌, ℕ, ◌<◌, ◌≤◌, ◌^◌, List, arith, ap, ◌∙◌}
-use Rattle.std.specs.Prelude.{codes}
-use Rattle.report_judge.specs.Texts.ReportLines.{field, mark_front}
+use Rattle.report_judge.proofs.Words.{◌≡◌, ℕ, ◌<◌, ◌≤◌, ◌^◌, List, arith, ap, ◌∙◌, codes, field, mark_front}
 use Rattle.report_judge.proofs.Texts.FieldWords.{none_always}
 use Rattle.report_judge.proofs.reading.mark_fields.read_turn.Goals as goal
 

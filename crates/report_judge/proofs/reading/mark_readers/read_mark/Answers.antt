@@ -1,6 +1,4 @@
-use Rattle.std.proofs.Common.{◌≡◌, List, ℕ, ◌++◌, arith, ◌∙◌}
-use Rattle.grown_runs.proofs.Common.{Record, line, outcome_words}
-use Rattle.report_judge.proofs.Words.{FitsEntry, line_text, MarkLine}
+use Rattle.report_judge.proofs.Words.{◌≡◌, List, ℕ, ◌++◌, arith, ◌∙◌, Record, line, outcome_words, FitsEntry, line_text, MarkLine}
 use Rattle.report_judge.proofs.Texts.FieldWords.{none_always}
 use Rattle.report_judge.proofs.Texts.MarkParts.{parts-mark}
 use Rattle.report_judge.proofs.reading.mark_readers.read_mark.Goals as goal

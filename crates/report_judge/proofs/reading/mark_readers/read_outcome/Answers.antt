@@ -1,8 +1,5 @@
-use Rattle.std.proofs.Common.{◌≡◌, List, ℕ, ◌++◌, sym, subst, ◌∙◌}
+use Rattle.report_judge.proofs.Words.{◌≡◌, List, ℕ, ◌++◌, sym, subst, ◌∙◌, true≢false, Record, line, outcome_words, Extent, FitsEntry}
 use Rattle.std.specs.Option.{IfNone, IfSome}
-use Rattle.std.proofs.lemmas.Bool.{true≢false}
-use Rattle.grown_runs.proofs.Common.{Record, line, outcome_words}
-use Rattle.report_judge.specs.Texts.ReportLines.{Extent, FitsEntry}
 use Rattle.report_judge.proofs.Texts.FieldWords.{none_always}
 use Rattle.report_judge.proofs.Texts.MarkParts.{no_outcome}
 use Rattle.report_judge.proofs.reading.mark_readers.read_outcome.Goals as goal

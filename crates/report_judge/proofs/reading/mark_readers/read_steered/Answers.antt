@@ -1,7 +1,4 @@
-use Rattle.std.proofs.Common.{◌≡◌, ℕ, List, [], ◌∷◌, ◌++◌, sym, ap, ◌∙◌, decimal}
-use Rattle.std.specs.Prelude.{codes}
-use Rattle.grown_runs.proofs.Common.{Record, line, outcome_words}
-use Rattle.report_judge.specs.Texts.ReportLines.{Extent, FitsEntry, field}
+use Rattle.report_judge.proofs.Words.{◌≡◌, ℕ, List, [], ◌∷◌, ◌++◌, sym, ap, ◌∙◌, decimal, codes, Record, line, outcome_words, Extent, FitsEntry, field}
 use Rattle.report_judge.proofs.Texts.FieldWords.{none_always}
 use Rattle.report_judge.proofs.Texts.MarkParts.{nearest_first, no_ending}
 use Rattle.report_judge.proofs.reading.mark_readers.read_steered.Goals as goal

@@ -1,6 +1,4 @@
-use Rattle.std.proofs.Common.{List, ℕ, get_or, arith, ap, ◌∙◌, sym}
-use Rattle.std.proofs.lemmas.Bool.{true≢false}
-use Rattle.plan_model.specs.Texts.TextNumbers.{is_number}
+use Rattle.report_judge.proofs.Words.{List, ℕ, get_or, arith, ap, ◌∙◌, sym, true≢false, is_number}
 use Rattle.report_judge.proofs.Texts.DecimalWords.{is_number-decimal, decimal-unsigned, found-decimal, no-decimal}
 use Rattle.report_judge.proofs.reading.number_words.long_number_up_to.Goals as goal
 

@@ -1,7 +1,5 @@
-use Rattle.std.proofs.Common.{◌≡◌, ℕ, ◌^◌, ◌<◌, ◌≤◌, List, decimal, arith, sym, ap, ◌∙◌, false, length}
-use Rattle.std.proofs.lemmas.Bool.{eqb-true, true≢false}
-use Rattle.std.proofs.lemmas.Fmt.{decimal_injective}
-use Rattle.plan_model.specs.Texts.TextNumbers.{is_number}
+use Rattle.report_judge.proofs.Words.{◌≡◌, ℕ, ◌^◌, ◌<◌, ◌≤◌, List, decimal, arith, sym, ap, ◌∙◌, false, length, eqb-true, true≢false, decimal_injective}
+use Rattle.report_judge.proofs.Words.{is_number}
 use Rattle.report_judge.proofs.Texts.DecimalWords.{decimal-remainder, is_number-decimal, no_number-empty, no_number-zero}
 use Rattle.report_judge.proofs.reading.number_words.number_up_to.Goals as goal
 

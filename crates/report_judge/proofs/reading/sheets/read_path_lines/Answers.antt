@@ -1,6 +1,4 @@
-use Rattle.std.proofs.Common.{◌≡◌, ◌+◌, length, List, arith, rules, subst}
-use Rattle.plan_model.specs.declared.geometry.Point.{Point}
-use Rattle.report_judge.specs.Texts.ReportForms.{BreaksFormFirst}
+use Rattle.report_judge.proofs.Words.{◌≡◌, ◌+◌, length, List, arith, rules, subst, Point, BreaksFormFirst}
 use Rattle.report_judge.proofs.Texts.FormBreaks.{breaks_first, breaks_points}
 use Rattle.report_judge.proofs.reading.sheets.read_path_lines.Goals as goal
 

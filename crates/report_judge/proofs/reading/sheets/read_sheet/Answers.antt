@@ -1,8 +1,5 @@
-use Rattle.std.proofs.Common.{◌≡◌, ℕ, ◌+◌, ◌<◌, ◌≤◌, List, [], length, true, arith, sym, ap, ◌∙◌, subst, inl, inr}
-use Rattle.std.specs.Prelude.{◌⊎◌, ◌≢◌, ◌==◌}
-use Rattle.std.proofs.lemmas.Bool.{eqb-true, false≢true}
-use Rattle.std.proofs.lemmas.List.{nil_from_length}
-use Rattle.report_judge.proofs.Words.{BreaksFormFirst, Extent, path_lines, priced_path}
+use Rattle.report_judge.proofs.Words.{◌≡◌, ℕ, ◌+◌, ◌<◌, ◌≤◌, List, [], length, true, arith, sym, ap, ◌∙◌, subst, inl, inr, ◌⊎◌, ◌≢◌, ◌==◌, eqb-true, false≢true}
+use Rattle.report_judge.proofs.Words.{nil_from_length, BreaksFormFirst, Extent, path_lines, priced_path}
 use Rattle.report_judge.proofs.Texts.FormBreaks.{ReadsTree, all_lines_few, breaks_counts, breaks_marks, breaks_nodes, spells_sheet, tree_lines_few}
 use Rattle.report_judge.proofs.reading.sheets.read_sheet.Goals as goal
 use Rattle.report_judge.proofs.reading.sheets.read_sheet.Goals.{After-len-then-len-marks, In_ok-knots}

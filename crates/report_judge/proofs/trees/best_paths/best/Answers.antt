@@ -1,6 +1,5 @@
-use Rattle.std.proofs.Common.{◌≡◌, ℕ, ◌-◌, [], length, Some, arith, sym, ap, ◌∙◌}
-use Rattle.grown_runs.proofs.Common.{lesser, sum_in, state_of_lists}
-use Rattle.settle_report.proofs.GoalNodes.{best_of, best_of-goal_node, best_of-other, best_of-all}
+use Rattle.report_judge.proofs.Words.{◌≡◌, ℕ, ◌-◌, [], length, Some, arith, sym, ap, ◌∙◌, lesser, sum_in, state_of_lists, best_of, best_of-goal_node}
+use Rattle.report_judge.proofs.Words.{best_of-other, best_of-all}
 use Rattle.report_judge.proofs.trees.best_paths.best.Goals as goal
 
 pub loop-node-init : goal.loop-node-init

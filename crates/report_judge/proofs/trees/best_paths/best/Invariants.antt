@@ -1,7 +1,5 @@
-use Rattle.std.proofs.Common.{◌≡◌, ◌-◌, [], length}
+use Rattle.report_judge.proofs.Words.{◌≡◌, ◌-◌, [], length, IsPresent, state_of_lists, best_of}
 use Rattle.std.specs.Prelude.{IfSome}
-use Rattle.grown_runs.proofs.Common.{IsPresent, state_of_lists}
-use Rattle.settle_report.proofs.GoalNodes.{best_of}
 use Rattle.report_judge.proofs.trees.best_paths.best.Given as goal
 
 -- the best of the nodes from here on

@@ -1,7 +1,5 @@
-use Rattle.std.proofs.Common.{◌≡◌, [], ◌++◌, None, Some, arith, rules, sym, ap, ◌∙◌, append_assoc}
-use Rattle.std.specs.Prelude.{slice_index_or}
-use Rattle.grown_runs.proofs.Common.{state_of_lists, parent_of-lists}
-use Rattle.settle_report.proofs.GrownPaths.{steps_up, points_up-start}
+use Rattle.report_judge.proofs.Words.{◌≡◌, [], ◌++◌, None, Some, arith, rules, sym, ap, ◌∙◌, append_assoc, slice_index_or, state_of_lists, parent_of-lists}
+use Rattle.report_judge.proofs.Words.{steps_up, points_up-start}
 use Rattle.report_judge.proofs.Laws.ListedNodes.{stands-listed}
 use Rattle.report_judge.proofs.Laws.NodeBreaks.{listed}
 use Rattle.report_judge.proofs.trees.best_paths.path_back.Goals as goal

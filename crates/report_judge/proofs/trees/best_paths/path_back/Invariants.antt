@@ -1,6 +1,4 @@
-use Rattle.std.proofs.Common.{◌≡◌, [], ◌++◌}
-use Rattle.grown_runs.proofs.Common.{IsPresent, state_of_lists}
-use Rattle.settle_report.proofs.GrownPaths.{points_up}
+use Rattle.report_judge.proofs.Words.{◌≡◌, [], ◌++◌, IsPresent, state_of_lists, points_up}
 use Rattle.report_judge.proofs.trees.best_paths.path_back.Given as goal
 
 -- the points so far and those from here on are the chain's

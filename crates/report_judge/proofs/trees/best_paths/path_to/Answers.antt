@@ -1,6 +1,4 @@
-use Rattle.std.proofs.Common.{[], reverse, sym, ap, ◌∙◌}
-use Rattle.grown_runs.specs.Runs.PackedRuns.{state_of_lists}
-use Rattle.settle_report.proofs.GrownPaths.{path_to-reverse}
+use Rattle.report_judge.proofs.Words.{[], reverse, sym, ap, ◌∙◌, state_of_lists, path_to-reverse}
 use Rattle.report_judge.proofs.trees.best_paths.path_to.Goals as goal
 
 pub returns : goal.returns

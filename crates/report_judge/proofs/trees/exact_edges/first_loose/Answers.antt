@@ -1,5 +1,4 @@
-use Rattle.std.proofs.Common.{arith, below_more}
-use Rattle.report_judge.specs.Laws.ExactEdges.{KeepsEdges}
+use Rattle.report_judge.proofs.Words.{arith, below_more, KeepsEdges}
 use Rattle.report_judge.proofs.trees.exact_edges.first_loose.Goals as goal
 
 pub is_loose-requires-clause-fit : goal.is_loose-requires-clause-fit

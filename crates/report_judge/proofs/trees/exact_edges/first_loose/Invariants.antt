@@ -1,5 +1,4 @@
-use Rattle.std.proofs.Common.{ℕ, ◌<◌}
-use Rattle.report_judge.specs.Laws.ExactEdges.{KeepsEdges}
+use Rattle.report_judge.proofs.Words.{ℕ, ◌<◌, KeepsEdges}
 use Rattle.report_judge.proofs.trees.exact_edges.first_loose.Given as goal
 
 -- each node so far hangs exactly

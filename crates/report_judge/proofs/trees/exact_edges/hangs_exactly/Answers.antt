@@ -1,6 +1,4 @@
-use Rattle.std.proofs.Common.{◌≡◌, Some, None, sym, ◌∙◌, subst}
-use Rattle.std.specs.Prelude.{slice_index_or}
-use Rattle.report_judge.specs.Laws.ExactEdges.{IsExactEdge}
+use Rattle.report_judge.proofs.Words.{◌≡◌, Some, None, sym, ◌∙◌, subst, slice_index_or, IsExactEdge}
 use Rattle.report_judge.proofs.trees.exact_edges.hangs_exactly.Goals as goal
 
 pub is_exact_edge-requires-clause-from : goal.is_exact_edge-requires-clause-from

@@ -1,5 +1,4 @@
-use Rattle.std.proofs.Common.{◌≡◌, Some, None, sym, ◌∙◌, subst}
-use Rattle.report_judge.specs.Laws.ExactEdges.{HangsExactly}
+use Rattle.report_judge.proofs.Words.{◌≡◌, Some, None, sym, ◌∙◌, subst, HangsExactly}
 use Rattle.report_judge.proofs.Workers.OwnNodeLaws.{not_false, not_true}
 use Rattle.report_judge.proofs.trees.exact_edges.is_loose.Goals as goal
 

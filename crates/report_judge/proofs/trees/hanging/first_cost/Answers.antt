@@ -1,6 +1,5 @@
-use Rattle.std.proofs.Common.{◌-◌, length, refl, sym, ap, ◌∙◌, arith}
-use Rattle.std.proofs.lemmas.Option.{slice_get_past, slice_get_read}
-use Rattle.grown_runs.proofs.Common.{Record, first_cost_of, recorded_or, state_of_lists}
+use Rattle.report_judge.proofs.Words.{◌-◌, length, refl, sym, ap, ◌∙◌, arith, slice_get_past, slice_get_read, Record, first_cost_of, recorded_or}
+use Rattle.report_judge.proofs.Words.{state_of_lists}
 use Rattle.report_judge.proofs.Laws.HangingNodes.{first_cost-recorded}
 use Rattle.report_judge.proofs.trees.hanging.first_cost.Goals as goal
 

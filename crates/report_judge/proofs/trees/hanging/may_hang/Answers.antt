@@ -1,6 +1,4 @@
-use Rattle.std.proofs.Common.{◌≡◌, Some, None, sym, ◌∙◌, subst}
-use Rattle.std.specs.Prelude.{slice_index_or}
-use Rattle.report_judge.specs.Laws.ExactEdges.{IsHighEdge}
+use Rattle.report_judge.proofs.Words.{◌≡◌, Some, None, sym, ◌∙◌, subst, slice_index_or, IsHighEdge}
 use Rattle.report_judge.proofs.trees.hanging.may_hang.Goals as goal
 
 pub is_high_edge-requires-clause-from : goal.is_high_edge-requires-clause-from

@@ -1,6 +1,4 @@
-use Rattle.std.proofs.Common.{◌*◌, length, refl, sym, subst}
-use Rattle.plan_model.specs.Runs.Textbook.{setup_of}
-use Rattle.report_judge.proofs.Words.{KeepsEdges, IsFirstBreak, IsNewKey}
+use Rattle.report_judge.proofs.Words.{◌*◌, length, refl, sym, subst, setup_of, KeepsEdges, IsFirstBreak, IsNewKey}
 use Rattle.report_judge.proofs.Laws.FirstBreakLaws.{IsFirstBreak-earlier}
 use Rattle.report_judge.proofs.Laws.NodeBreaks.{IsFirstBreak-nodes, KeepsNode-start}
 use Rattle.report_judge.proofs.trees.nodes.first_unsound.Goals as goal

@@ -1,9 +1,6 @@
-use Rattle.std.proofs.Common.{◌≡◌, ℕ, ◌+◌, ◌<◌, List, [], ◌∷◌, ◌++◌, Option, Some, None, length, length-append, arith, refl, ap, ◌∙◌, inl, inr}
-use Rattle.std.specs.Prelude.{IfSome, slice_index_or}
-use Rattle.std.proofs.lemmas.Bool.{cases_lt}
-use Rattle.std.proofs.lemmas.List.{get_or_append_left, get_or_push}
-use Rattle.grown_runs.proofs.Common.{Knot, IsBounded}
-use Rattle.report_judge.proofs.Words.{FitsEdges, point_key}
+use Rattle.report_judge.proofs.Words.{◌≡◌, ℕ, ◌+◌, ◌<◌, List, [], ◌∷◌, ◌++◌, Option, Some, None, length, length-append, arith, refl, ap, ◌∙◌, inl, inr}
+use Rattle.report_judge.proofs.Words.{slice_index_or, cases_lt, get_or_append_left, get_or_push, Knot, IsBounded, FitsEdges, point_key}
+use Rattle.std.specs.Prelude.{IfSome}
 use Rattle.report_judge.proofs.trees.nodes.point_keys.Goals as goal
 
 bounded_if_any : (o : Option Knot) → ((other : Knot) → o ≡ Some other → FitsEdges other) → IfSome o (λ k. IsBounded k.point)

@@ -1,6 +1,4 @@
-use Rattle.std.proofs.Common.{◌≡◌, ℕ, ◌<◌, None, length}
-use Rattle.std.specs.Prelude.{slice_index_or}
-use Rattle.report_judge.specs.Laws.FirstBreaks.{point_key}
+use Rattle.report_judge.proofs.Words.{◌≡◌, ℕ, ◌<◌, None, length, slice_index_or, point_key}
 use Rattle.report_judge.proofs.trees.nodes.point_keys.Given as goal
 
 -- there is a number for each node so far

@@ -1,8 +1,4 @@
-use Rattle.std.proofs.Common.{◌≤◌, eqb, length, refl, ap, ◌∙◌, arith}
-use Rattle.std.proofs.lemmas.Grind.{common_steps}
-use Rattle.plan_model.specs.Texts.SceneGrammar.{point_from, number_or}
-use Rattle.plan_model.specs.Texts.CanonicalText.{point_numbers}
-use Rattle.scene_text.specs.Drafts.{amount_numbers}
+use Rattle.scene_text.proofs.Words.{◌≤◌, eqb, length, refl, ap, ◌∙◌, arith, common_steps, point_from, number_or, point_numbers, amount_numbers}
 use Rattle.scene_text.proofs.DraftScenes.{AreWithin-draft, known-given, default-given, goals-given, polygons-given, complete-draft}
 use Rattle.scene_text.proofs.drafts.Draft.into_scene.Goals as goal
 

@@ -1,7 +1,4 @@
-use Rattle.std.proofs.Common.{◌≡◌, ◌∷◌, true, false, Some, None, refl, rules, ap, ◌∙◌}
-use Rattle.plan_model.specs.Texts.TextLines.{words_of, is_skipped}
-use Rattle.plan_model.specs.Texts.LineChecks.{version_of}
-use Rattle.plan_model.specs.Texts.SceneGrammar.{supported}
+use Rattle.scene_text.proofs.Words.{◌≡◌, ◌∷◌, true, false, Some, None, refl, rules, ap, ◌∙◌, words_of, is_skipped, version_of, supported}
 use Rattle.scene_text.proofs.DraftLemmas.{given-version, TakesLine-skipped, TakesLine-version, TakesLine-statement, OnOk-three}
 use Rattle.scene_text.proofs.drafts.Draft.take_line.Goals as goal
 

@@ -1,6 +1,4 @@
-use Rattle.std.proofs.Common.{◌≡◌, Some, rules}
-use Rattle.plan_model.specs.Texts.Keys.{key_of}
-use Rattle.plan_model.proofs.StatementNumbers.{name-key_of}
+use Rattle.scene_text.proofs.Words.{◌≡◌, Some, rules, key_of, name-key_of}
 use Rattle.scene_text.proofs.drafts.Draft.take_statement.Goals as goal
 
 pub returns-clause-given : goal.returns-clause-given

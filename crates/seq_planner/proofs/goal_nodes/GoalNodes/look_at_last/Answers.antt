@@ -1,6 +1,5 @@
-use Rattle.std.proofs.Common.{◌≡◌, ℕ, ◌+◌, ◌-◌, false, true, [], ◌∷◌, None, get_or, length, ap, ◌∙◌, subst, sym, arith}
-use Rattle.grown_runs.proofs.Common.{skipping_goals, lies_in_goals, points_of}
-use Rattle.seq_planner.specs.GoalLists.{AreGoalNodesBelow}
+use Rattle.seq_planner.proofs.Words.{◌≡◌, ℕ, ◌+◌, ◌-◌, false, true, [], ◌∷◌, None, get_or, length, ap, ◌∙◌, subst, sym, arith, skipping_goals, lies_in_goals}
+use Rattle.seq_planner.proofs.Words.{points_of, AreGoalNodesBelow}
 use Rattle.seq_planner.proofs.GoalNodeLists.{AreGoalNodesBelow-absent, AreGoalNodesBelow-beside, AreGoalNodesBelow-in_goal, skipping_goals-by}
 use Rattle.seq_planner.proofs.goal_nodes.GoalNodes.look_at_last.Goals as goal
 use Rattle.seq_planner.proofs.goal_nodes.GoalNodes.look_at_last.Goals.{else-scene-via-then-scene+else-lies_in_goals, else-scene-via-else-scene}

@@ -1,6 +1,4 @@
-use Rattle.std.proofs.Common.{ℕ, List, get_or, subst, arith}
-use Rattle.std.specs.Prelude.{Contains}
-use Rattle.plan_model.specs.Trees.LeastPairs.{IsFirstLeast}
+use Rattle.seq_planner.proofs.Words.{ℕ, List, get_or, subst, arith, Contains, IsFirstLeast}
 use Rattle.seq_planner.proofs.GoalNodeLists.{IsSkippedBy-least, MayBeCheaper-least}
 use Rattle.seq_planner.proofs.goal_nodes.GoalNodes.skipper.Goals as goal
 

@@ -1,7 +1,5 @@
 -- The index has the children of the nodes so far, with room for one more, which then joins those of its parent.
-use Rattle.std.proofs.Common.{◌≡◌, ◌<◌, length, ap, subst, arith}
-use Rattle.grown_runs.proofs.Common.{MOST_NODES, IsPresent, points_of, present_below}
-use Rattle.seq_planner.specs.LinkedTrees.{MayJoin}
+use Rattle.seq_planner.proofs.Words.{◌≡◌, ◌<◌, length, ap, subst, arith, MOST_NODES, IsPresent, points_of, present_below, MayJoin}
 use Rattle.seq_planner.proofs.ChangedLinks.{AreLinked-push, AreLinked-push_absent, HasInChain-push}
 use Rattle.seq_planner.proofs.linked_tree.LinkedTree.push.Goals as goal
 

@@ -1,8 +1,6 @@
 -- Each child comes once, as the siblings from the first child on are all children.
-use Rattle.std.proofs.Common.{◌≡◌, ℕ, ◌<◌, suc, length, refl, ap, ◌∙◌, arith}
-use Rattle.grown_runs.specs.ChildChains.{siblings_from, times}
-use Rattle.grown_runs.proofs.Children.SiblingWalks.{AreMembers-chain, siblings_from-here, times-cons}
-use Rattle.seq_planner.specs.LinkedTrees.{chain_in, hangs_below}
+use Rattle.seq_planner.proofs.Words.{◌≡◌, ℕ, ◌<◌, suc, length, refl, ap, ◌∙◌, arith, siblings_from, times, AreMembers-chain, siblings_from-here, times-cons}
+use Rattle.seq_planner.proofs.Words.{chain_in, hangs_below}
 use Rattle.seq_planner.proofs.ChangedLinks.{hangs_below-times}
 use Rattle.seq_planner.proofs.LoweredBranches.{one_if}
 use Rattle.seq_planner.proofs.PendingNodes.{times-last}

@@ -1,7 +1,5 @@
 -- The children before the next one were added, and it is left with its siblings after it.
-use Rattle.std.proofs.Common.{◌≡◌, ℕ, suc, ◌+◌, ◌<◌, length}
-use Rattle.grown_runs.specs.ChildChains.{siblings_from, times}
-use Rattle.seq_planner.specs.LinkedTrees.{chain_in}
+use Rattle.seq_planner.proofs.Words.{◌≡◌, ℕ, suc, ◌+◌, ◌<◌, length, siblings_from, times, chain_in}
 use Rattle.seq_planner.proofs.linked_tree.LinkedTree.push_children.Given as goal
 
 abbrev pub invariant-loop-child : goal.invariant-loop-child

@@ -1,7 +1,5 @@
 -- The node leaves the children of one parent and joins those of another.
-use Rattle.std.proofs.Common.{◌≡◌, ◌<◌, Some, None, length, get_or, sym, subst, ◌∙◌, arith}
-use Rattle.std.proofs.lemmas.List.{get_or_read}
-use Rattle.grown_runs.proofs.Common.{Twig, IsPresent, points_of, present_below}
+use Rattle.seq_planner.proofs.Words.{◌≡◌, ◌<◌, Some, None, length, get_or, sym, subst, ◌∙◌, arith, get_or_read, Twig, IsPresent, points_of, present_below}
 use Rattle.seq_planner.proofs.ChangedLinks.{AreLinked-replace, chain_in-node}
 use Rattle.seq_planner.proofs.linked_tree.LinkedTree.set_parent.Goals as goal
 

@@ -1,5 +1,4 @@
-use Rattle.std.proofs.Common.{◌≡◌, ◌*◌, ◌<◌, [], ◌∷◌, ◌++◌, length, get_or, ap, sym, ◌∙◌, arith}
-use Rattle.grown_runs.proofs.Common.{squared_distance, Point}
+use Rattle.seq_planner.proofs.Words.{◌≡◌, ◌*◌, ◌<◌, [], ◌∷◌, ◌++◌, length, get_or, ap, sym, ◌∙◌, arith, squared_distance, Point}
 use Rattle.seq_planner.proofs.ScannedLists.{near_more_inside, near_more_outside, near-all, listed_near-zero, listed_near-above}
 use Rattle.seq_planner.proofs.placed_points.PlacedPoints.near.Goals as goal
 use Rattle.seq_planner.proofs.placed_points.PlacedPoints.near.Goals.{then-squared_distance-most+in_ok-push, else-squared_distance-most}

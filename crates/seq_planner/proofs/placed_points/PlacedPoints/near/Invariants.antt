@@ -1,7 +1,4 @@
-use Rattle.std.proofs.Common.{◌≡◌, List, Option, take}
-use Rattle.std.specs.Prelude.{filter}
-use Rattle.grown_runs.proofs.Common.{Point, is_within, point_at}
-use Rattle.seq_planner.specs.PlacedLists.{ArePlaced}
+use Rattle.seq_planner.proofs.Words.{◌≡◌, List, Option, take, filter, Point, is_within, point_at, ArePlaced}
 use Rattle.seq_planner.proofs.placed_points.PlacedPoints.near.Given as goal
 
 -- the list has those of the earlier nodes that are near

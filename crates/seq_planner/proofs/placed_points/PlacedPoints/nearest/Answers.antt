@@ -1,6 +1,4 @@
-use Rattle.std.proofs.Common.{◌≡◌, ◌+◌, ◌<◌, ◌≤◌, length, get_or, sym, ap, ◌∙◌, rules, subst, arith}
-use Rattle.std.proofs.lemmas.List.{get_or_read}
-use Rattle.plan_model.specs.Trees.Nearness.{IsNearest}
+use Rattle.seq_planner.proofs.Words.{◌≡◌, ◌+◌, ◌<◌, ◌≤◌, length, get_or, sym, ap, ◌∙◌, rules, subst, arith, get_or_read, IsNearest}
 use Rattle.seq_planner.proofs.LeastIndices.{IsLeastIndex, IsLeastIndex-keeps, IsLeastIndex-takes}
 use Rattle.seq_planner.proofs.ScannedLists.{IsNearest-all, distance_at}
 use Rattle.seq_planner.proofs.placed_points.PlacedPoints.nearest.Goals as goal

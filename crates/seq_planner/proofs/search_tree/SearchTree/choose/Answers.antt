@@ -1,6 +1,5 @@
-use Rattle.std.proofs.Common.{◌≡◌, ◌+◌, ◌∷◌, ◌++◌, [], get_or, take, arith, ap, ◌∙◌, sym}
-use Rattle.std.proofs.lemmas.List.{take_more}
-use Rattle.grown_runs.proofs.Common.{cost_through, points_of, IsFirstLeast-alone, IsFirstLeast-takes, IsFirstLeast-keeps}
+use Rattle.seq_planner.proofs.Words.{◌≡◌, ◌+◌, ◌∷◌, ◌++◌, [], get_or, take, arith, ap, ◌∙◌, sym, take_more, cost_through, points_of, IsFirstLeast-alone}
+use Rattle.seq_planner.proofs.Words.{IsFirstLeast-takes, IsFirstLeast-keeps}
 use Rattle.seq_planner.proofs.search_tree.SearchTree.choose.Goals as goal
 use Rattle.seq_planner.proofs.search_tree.SearchTree.choose.Goals.{then-wins, else-wins}
 

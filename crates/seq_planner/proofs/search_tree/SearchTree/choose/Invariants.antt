@@ -1,6 +1,4 @@
-use Rattle.std.proofs.Common.{◌∷◌, take}
-use Rattle.edge_cost.specs.LeastParents.{IsLeastParent}
-use Rattle.grown_runs.proofs.Common.{IsOpenTo, cost_through, points_of}
+use Rattle.seq_planner.proofs.Words.{◌∷◌, take, IsLeastParent, IsOpenTo, cost_through, points_of}
 use Rattle.seq_planner.proofs.search_tree.SearchTree.choose.Given as goal
 
 -- the best so far is that of the nearest node and the earlier near ones

@@ -1,8 +1,6 @@
-use Rattle.std.proofs.Common.{◌≡◌, ◌<◌, ℕ, List, ◌∷◌, length, true, arith, rules, sym, ap, ◌∙◌, subst}
-use Rattle.std.specs.Prelude.{All}
-use Rattle.grown_runs.proofs.Common.{Point, ConfigurationSpace, space_of, Clear, IsOpenTo, IsPresent, node_count, class_of, radius_of, setup_of, near_new}
-use Rattle.grown_runs.proofs.Common.{cost_through, points_of, same_point-true, same_point-false}
-use Rattle.edge_cost.specs.LeastParents.{IsLeastParent}
+use Rattle.seq_planner.proofs.Words.{◌≡◌, ◌<◌, ℕ, List, ◌∷◌, length, true, arith, rules, sym, ap, ◌∙◌, subst, All, Point, ConfigurationSpace, space_of, Clear}
+use Rattle.seq_planner.proofs.Words.{IsOpenTo, IsPresent, node_count, class_of, radius_of, setup_of, near_new, cost_through, points_of, same_point-true}
+use Rattle.seq_planner.proofs.Words.{same_point-false, IsLeastParent}
 use Rattle.seq_planner.proofs.PresentNumbers.{ArePlaced-bounded, ArePlaced-numbered}
 use Rattle.seq_planner.proofs.ReadCosts.{through-bound}
 use Rattle.seq_planner.proofs.SoundTrees.{IsBounded-present, few_present, some_present}

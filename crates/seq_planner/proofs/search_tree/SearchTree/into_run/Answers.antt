@@ -1,8 +1,5 @@
-use Rattle.std.proofs.Common.{List, Option, length, sym, ap, ◌∙◌, subst}
-use Rattle.std.proofs.lemmas.Result.{IfOk-weaker}
-use Rattle.grown_runs.proofs.Common.{Record, Knot, IsClosed, setup_of, start_alone, TreeState, AreSameRuns, HandlesAll-length, IsSettled-of_textbook}
-use Rattle.grown_runs.proofs.Common.{state_of_grown, state_of_lists}
-use Rattle.seq_planner.specs.SearchTrees.{with_costs}
+use Rattle.seq_planner.proofs.Words.{List, Option, length, sym, ap, ◌∙◌, subst, IfOk-weaker, Record, Knot, IsClosed, setup_of, start_alone, TreeState}
+use Rattle.seq_planner.proofs.Words.{AreSameRuns, HandlesAll-length, IsSettled-of_textbook, state_of_grown, state_of_lists, with_costs}
 use Rattle.seq_planner.proofs.KeptNodes.{IsClosed-with_costs, IsOfTextbookRun-with_costs}
 use Rattle.seq_planner.proofs.search_tree.SearchTree.into_run.Goals as goal
 

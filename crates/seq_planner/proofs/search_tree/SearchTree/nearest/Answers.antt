@@ -1,7 +1,5 @@
-use Rattle.std.proofs.Common.{◌<◌, List, ℕ, length, arith, rules, sym, subst}
-use Rattle.std.specs.Prelude.{All, Contains}
-use Rattle.std.specs.List.Sorted.{IsStrictlyIncreasing}
-use Rattle.grown_runs.proofs.Common.{IsFirstLeast, distance_to, points_of, IsPresent, near-present}
+use Rattle.seq_planner.proofs.Words.{◌<◌, List, ℕ, length, arith, rules, sym, subst, All, Contains, IsStrictlyIncreasing, IsFirstLeast, distance_to, points_of}
+use Rattle.seq_planner.proofs.Words.{IsPresent, near-present}
 use Rattle.seq_planner.proofs.NearestNodes.{near-rising, IsNearest-near}
 use Rattle.seq_planner.proofs.ScannedLists.{near-listed}
 use Rattle.seq_planner.proofs.PresentNumbers.{ArePlaced-bounded, ArePlaced-count, ArePlaced-numbered}

@@ -1,5 +1,4 @@
-use Rattle.std.proofs.Common.{ℕ, ◌+◌, length, get_or, sym, subst, arith}
-use Rattle.grown_runs.proofs.Common.{distance_to, points_of}
+use Rattle.seq_planner.proofs.Words.{ℕ, ◌+◌, length, get_or, sym, subst, arith, distance_to, points_of}
 use Rattle.seq_planner.proofs.LeastIndices.{IsLeastIndex, IsLeastIndex-first, IsLeastIndex-keeps, IsLeastIndex-takes, IsFirstLeast-index, IsFirstLeast-listed}
 use Rattle.seq_planner.proofs.search_tree.SearchTree.nearest_listed.Goals as goal
 use Rattle.seq_planner.proofs.search_tree.SearchTree.nearest_listed.Goals.{then-distance-least, else-distance-least}

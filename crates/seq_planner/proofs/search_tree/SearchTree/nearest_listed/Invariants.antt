@@ -1,5 +1,4 @@
-use Rattle.std.proofs.Common.{length, get_or}
-use Rattle.grown_runs.proofs.Common.{distance_to, points_of}
+use Rattle.seq_planner.proofs.Words.{length, get_or, distance_to, points_of}
 use Rattle.seq_planner.proofs.LeastIndices.{IsLeastIndex}
 use Rattle.seq_planner.proofs.search_tree.SearchTree.nearest_listed.Given as goal
 

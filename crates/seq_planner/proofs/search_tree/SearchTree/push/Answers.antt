@@ -1,8 +1,5 @@
-use Rattle.std.proofs.Common.{◌≡◌, List, [], ◌∷◌, ◌++◌, Option, Some, length, arith, sym, subst}
-use Rattle.std.specs.Prelude.{option_map}
-use Rattle.std.proofs.lemmas.List.{length-map}
-use Rattle.grown_runs.proofs.Common.{Point, Twig, points_of, points_of-push}
-use Rattle.seq_planner.specs.PlacedLists.{ArePlaced}
+use Rattle.seq_planner.proofs.Words.{◌≡◌, List, [], ◌∷◌, ◌++◌, Option, Some, length, arith, sym, subst, option_map, length-map, Point, Twig, points_of}
+use Rattle.seq_planner.proofs.Words.{points_of-push, ArePlaced}
 use Rattle.seq_planner.proofs.PresentNumbers.{ArePlaced-absent}
 use Rattle.seq_planner.proofs.SoundTrees.{IsSound-put, IsSound-same}
 use Rattle.seq_planner.proofs.search_tree.SearchTree.push.Goals as goal

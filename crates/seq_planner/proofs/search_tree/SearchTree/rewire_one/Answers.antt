@@ -1,5 +1,4 @@
-use Rattle.std.proofs.Common.{arith}
-use Rattle.plan_model.proofs.ParentChanges.{points_of-cheaper_parent, IsPresent-cheaper_parent, CostsFall-cheaper_parent}
+use Rattle.seq_planner.proofs.Words.{arith, points_of-cheaper_parent, IsPresent-cheaper_parent, CostsFall-cheaper_parent}
 use Rattle.seq_planner.proofs.ReadCheaperNodes.{IsCheaper-read}
 use Rattle.seq_planner.proofs.RewiredNodes.{OnOk-two, child-cheaper, HasCheaperParent-cheaper, IsSound-rewired}
 use Rattle.seq_planner.proofs.search_tree.SearchTree.rewire_one.Goals as goal

@@ -1,6 +1,5 @@
-use Rattle.std.proofs.Common.{[], ◌∷◌, length, length-append, ap, arith, rules}
-use Rattle.std.specs.Prelude.{is_some}
-use Rattle.plan_model.specs.Spaces.ConfigurationSpace.{space_of}
+use Rattle.seq_planner.proofs.Words.{[], ◌∷◌, length, ap, arith, rules, is_some, space_of}
+use Rattle.std.proofs.Common.{length-append}
 use Rattle.seq_planner.proofs.MarkExtensions.{IsExtensionOf-skipped}
 use Rattle.seq_planner.proofs.PutNodes.{AddsRewired-none, GrowsByMark-put}
 use Rattle.seq_planner.proofs.search_tree.SearchTree.skip.Goals as goal

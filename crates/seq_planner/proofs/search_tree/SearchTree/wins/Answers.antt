@@ -1,5 +1,4 @@
-use Rattle.std.proofs.Common.{◌≡◌, ◌+◌, sym, subst}
-use Rattle.grown_runs.proofs.Common.{Point, Clear, cost_of, cost_through}
+use Rattle.seq_planner.proofs.Words.{◌≡◌, ◌+◌, sym, subst, Point, Clear, cost_of, cost_through}
 use Rattle.seq_planner.proofs.ReadCosts.{through-read}
 use Rattle.seq_planner.proofs.search_tree.SearchTree.wins.Given.{Over}
 use Rattle.seq_planner.proofs.search_tree.SearchTree.wins.Goals as goal

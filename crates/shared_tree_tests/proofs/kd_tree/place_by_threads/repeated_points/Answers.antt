@@ -1,5 +1,4 @@
-use Rattle.std.proofs.Common.{◌/◌, ◌*◌, arith, subst, sym}
-use Rattle.std.proofs.lemmas.Nat.{mod_below}
+use Rattle.shared_tree_tests.proofs.Words.{◌/◌, ◌*◌, arith, subst, sym, mod_below}
 use Rattle.shared_tree_tests.proofs.SteeredPasses.RepeatedPoints.{AreMarks, AreMarks-none, AreMarks-push, is_plan-marks}
 use Rattle.shared_tree_tests.proofs.kd_tree.place_by_threads.repeated_points.Goals as goal
 

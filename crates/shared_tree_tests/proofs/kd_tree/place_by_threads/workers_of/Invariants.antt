@@ -1,5 +1,4 @@
-use Rattle.std.specs.Prelude.{All}
-use Rattle.plan_words.specs.States.{MayClaim}
+use Rattle.shared_tree_tests.proofs.Words.{All, MayClaim}
 use Rattle.shared_tree_tests.proofs.kd_tree.place_by_threads.workers_of.Given as goal
 
 abbrev pub invariant-passes : goal.invariant-passes

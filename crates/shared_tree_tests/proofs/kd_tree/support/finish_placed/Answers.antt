@@ -1,7 +1,4 @@
-use Rattle.std.proofs.Common.{◌≡◌, ◌∙◌, ap, arith, refl, sym, true}
-use Rattle.grown_runs.proofs.Common.{class_of, RecordOf}
-use Rattle.plan_words.proofs.PlainScenes.{no_goals}
-use Rattle.step_core.specs.Stages.{has_link}
+use Rattle.shared_tree_tests.proofs.Words.{◌≡◌, ◌∙◌, ap, arith, refl, sym, true, class_of, RecordOf, no_goals, has_link}
 use Rattle.shared_tree_tests.proofs.SteeredPasses.SteeredMarks.{HangsBelowNearest-kept}
 use Rattle.shared_tree_tests.proofs.SteeredPasses.SteeredRecords.{may_finish-placed, own_count-same}
 use Rattle.shared_tree_tests.proofs.kd_tree.support.finish_placed.Goals as goal

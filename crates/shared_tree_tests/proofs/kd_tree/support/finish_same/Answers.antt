@@ -1,6 +1,4 @@
-use Rattle.std.proofs.Common.{ap}
-use Rattle.plan_model.specs.declared.records.Record.{Record}
-use Rattle.plan_words.proofs.PlainScenes.{no_goals}
+use Rattle.shared_tree_tests.proofs.Words.{ap, Record, no_goals}
 use Rattle.shared_tree_tests.proofs.SteeredPasses.SteeredRecords.{may_finish-same}
 use Rattle.shared_tree_tests.proofs.kd_tree.support.finish_same.Goals as goal
 

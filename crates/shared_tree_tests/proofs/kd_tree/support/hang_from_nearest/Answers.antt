@@ -1,8 +1,5 @@
-use Rattle.std.proofs.Common.{◌≡◌, ◌+◌, ap, false, sym, subst, ◌∙◌}
-use Rattle.grown_runs.proofs.Common.{IsBounded, Clear, RecordOf}
-use Rattle.plan_words.proofs.Common.{with_view, at_hand, IsBounded-hand}
-use Rattle.step_core.proofs.Common.{has_link, has_point, half, treed, sees, SeesPoint-later}
-use Rattle.step_core.specs.declared.views.Stage.TheVariants.{Half}
+use Rattle.shared_tree_tests.proofs.Words.{◌≡◌, ◌+◌, ap, false, sym, subst, ◌∙◌, IsBounded, Clear, RecordOf, with_view, at_hand, IsBounded-hand, has_link}
+use Rattle.shared_tree_tests.proofs.Words.{has_point, half, treed, sees, SeesPoint-later, Half}
 use Rattle.shared_tree_tests.proofs.SteeredPasses.SteeredMarks.{HangsBelowNearest-hung, MayHang-steered, SteersFrom-looked, sees_nearest}
 use Rattle.shared_tree_tests.proofs.kd_tree.support.hang_from_nearest.Goals as goal
 

@@ -1,8 +1,5 @@
-use Rattle.std.proofs.Common.{◌≡◌, ◌∙◌, ap, refl, sym}
-use Rattle.plan_model.specs.Runs.ClosedLaw.{mark_at}
-use Rattle.plan_words.proofs.Common.{PassState, with_view, BelongsTo-later, at_hand, if_hand, no_goals}
-use Rattle.step_core.proofs.Common.{IsUnskipped, pointed}
-use Rattle.step_core.specs.declared.views.Stage.TheVariants.{Pointed}
+use Rattle.shared_tree_tests.proofs.Words.{◌≡◌, ◌∙◌, ap, refl, sym, mark_at, PassState, with_view, BelongsTo-later, at_hand, if_hand, no_goals, IsUnskipped}
+use Rattle.shared_tree_tests.proofs.Words.{pointed, Pointed}
 use Rattle.shared_tree_tests.proofs.SteeredPasses.SteeredMarks.{IsNearestRecorded-found, SteersFrom-written}
 use Rattle.shared_tree_tests.proofs.kd_tree.support.write_from_nearest.Goals as goal
 

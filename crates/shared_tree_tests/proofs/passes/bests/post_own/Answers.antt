@@ -1,15 +1,11 @@
-use Rattle.std.proofs.Common.{◌≡◌, ◌+◌, ◌≤◌, ◌^◌, suc, ap, arith, refl, subst, sym, true, ◌∙◌}
-use Rattle.grown_runs.proofs.Common.{lies_in_goals, IsPresent-stands, TreeOf}
-use Rattle.plan_words.proofs.HandSteps.{at_hand}
+use Rattle.shared_tree_tests.proofs.Words.{◌≡◌, ◌+◌, ◌≤◌, ◌^◌, suc, ap, arith, refl, subst, sym, true, ◌∙◌, lies_in_goals, IsPresent-stands, TreeOf, at_hand}
+use Rattle.shared_tree_tests.proofs.Words.{HoldsMark, MayPost, SeesNode, sees, tree_seen, Counted}
 use Rattle.shared_tree_tests.proofs.HeldPasses.FirstRecords.{HangsFromStart-kept}
 use Rattle.shared_tree_tests.proofs.HeldPasses.HeldMarks.{HoldsMark-kept}
 use Rattle.shared_tree_tests.proofs.HeldPasses.InformedMarks.{HangsFromStart-posted, MayPost-own, lies_here, own_stands}
 use Rattle.shared_tree_tests.proofs.passes.bests.post_own.Given.{Over}
 use Rattle.shared_tree_tests.proofs.passes.bests.post_own.Goals as goal
 use Rattle.shared_tree_tests.proofs.passes.bests.post_own.Goals.{After-tree-at}
-use Rattle.shared_tree_tests.specs.HeldPasses.HeldMarks.{HoldsMark}
-use Rattle.step_core.proofs.Common.{MayPost, SeesNode, sees, tree_seen}
-use Rattle.step_core.specs.declared.views.Stage.TheVariants.{Counted}
 
 pub tree-at-requires-clause-seen_node : goal.tree-at-requires-clause-seen_node
 tree-at-requires-clause-seen_node g c =

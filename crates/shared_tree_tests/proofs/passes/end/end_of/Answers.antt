@@ -1,6 +1,4 @@
-use Rattle.std.proofs.Common.{length, ap, subst, arith}
-use Rattle.std.specs.Prelude.{IfNone}
-use Rattle.plan_words.specs.Claims.{AllFull, KeepsHand}
+use Rattle.shared_tree_tests.proofs.Words.{length, ap, subst, arith, IfNone, AllFull, KeepsHand}
 use Rattle.shared_tree_tests.proofs.passes.end.end_of.Goals as goal
 
 pub end-requires-clause-none_left : goal.end-requires-clause-none_left

@@ -1,9 +1,5 @@
-use Rattle.std.proofs.Common.{◌<◌, ◌∙◌, length, ap, subst, sym, arith}
-use Rattle.std.specs.Prelude.{IfNone}
-use Rattle.grown_runs.proofs.Common.{quota_of, Counter}
-use Rattle.plan_words.proofs.Common.{AllFull, KeepsHand, PassState}
+use Rattle.shared_tree_tests.proofs.Words.{◌<◌, ◌∙◌, length, ap, subst, sym, arith, IfNone, quota_of, Counter, AllFull, KeepsHand, PassState, sees}
 use Rattle.shared_tree_tests.proofs.passes.end.end_of_left.Goals as goal
-use Rattle.step_core.specs.Views.{sees}
 
 pub end_retired-requires-clause-none_left : goal.end_retired-requires-clause-none_left
 end_retired-requires-clause-none_left g c =

@@ -1,5 +1,4 @@
-use Rattle.std.proofs.lemmas.List.Elements.{All-pop}
-use Rattle.shared_tree_tests.specs.HeldPasses.Sharers.{HasShare}
+use Rattle.shared_tree_tests.proofs.Words.{All-pop, HasShare}
 use Rattle.shared_tree_tests.proofs.passes.end.last_sharer.Goals as goal
 
 pub returns-clause-rest : goal.returns-clause-rest

@@ -1,5 +1,4 @@
-use Rattle.std.proofs.Common.{length, ap}
-use Rattle.std.specs.Prelude.{slice_index_or}
+use Rattle.shared_tree_tests.proofs.Words.{length, ap, slice_index_or}
 use Rattle.shared_tree_tests.proofs.HeldPasses.Elements.{there}
 use Rattle.shared_tree_tests.proofs.passes.end.shared_by_two.Goals as goal
 

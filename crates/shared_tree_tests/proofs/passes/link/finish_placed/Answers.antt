@@ -1,7 +1,5 @@
-use Rattle.std.proofs.Common.{◌∙◌, ap, arith, refl, sym}
-use Rattle.plan_words.proofs.PlainScenes.{no_goals}
+use Rattle.shared_tree_tests.proofs.Words.{◌∙◌, ap, arith, refl, sym, no_goals, Posted}
 use Rattle.shared_tree_tests.proofs.HeldPasses.FirstRecords.{HangsFromStart-kept, may_finish, posted_plain}
-use Rattle.step_core.specs.declared.views.Stage.TheVariants.{Posted}
 use Rattle.shared_tree_tests.proofs.passes.link.finish_placed.Goals as goal
 
 pub finish-requires-clause-may : goal.finish-requires-clause-may

@@ -1,8 +1,5 @@
-use Rattle.std.proofs.Common.{◌≡◌, ap, sym, subst, ◌∙◌}
-use Rattle.grown_runs.proofs.Common.{IsBounded, Clear}
-use Rattle.plan_words.proofs.Common.{at_hand, IsBounded-hand, MayHang-start, with_view}
-use Rattle.step_core.proofs.Common.{IsUnskipped, has_point, SeesPoint-later, half, treed}
-use Rattle.step_core.specs.declared.views.Stage.TheVariants.{Half}
+use Rattle.shared_tree_tests.proofs.Words.{◌≡◌, ap, sym, subst, ◌∙◌, IsBounded, Clear, at_hand, IsBounded-hand, MayHang-start, with_view, IsUnskipped}
+use Rattle.shared_tree_tests.proofs.Words.{has_point, SeesPoint-later, half, treed, Half}
 use Rattle.shared_tree_tests.proofs.HeldPasses.FirstRecords.{HangsFromStart-hung, unskipped_later}
 use Rattle.shared_tree_tests.proofs.passes.link.hang_from_start.Goals as goal
 

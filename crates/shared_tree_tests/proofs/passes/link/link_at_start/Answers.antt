@@ -1,13 +1,10 @@
-use Rattle.std.proofs.Common.{ap, refl, true}
+use Rattle.shared_tree_tests.proofs.Words.{ap, refl, true, HoldsMark, Treed, LeadsTo}
 use Rattle.shared_tree_tests.proofs.HeldPasses.FirstRecords.{HangsFromStart-kept, HangsFromStart-linked}
 use Rattle.shared_tree_tests.proofs.HeldPasses.HeldMarks.{HoldsMark-kept, HoldsMark-linked, HoldsMark-unlinked}
 use Rattle.shared_tree_tests.proofs.HeldPasses.LinkedPlaces.{LeadsTo-start, of_hand}
 use Rattle.shared_tree_tests.proofs.passes.link.link_at_start.Given.{Over}
 use Rattle.shared_tree_tests.proofs.passes.link.link_at_start.Goals as goal
 use Rattle.shared_tree_tests.proofs.passes.link.link_at_start.Goals.{After-point-start}
-use Rattle.shared_tree_tests.specs.HeldPasses.HeldMarks.{HoldsMark}
-use Rattle.step_core.specs.declared.views.Stage.TheVariants.{Treed}
-use Rattle.step_core.specs.ViewTrees.{LeadsTo}
 
 pub link-requires-clause-leads : goal.link-requires-clause-leads
 link-requires-clause-leads g c =

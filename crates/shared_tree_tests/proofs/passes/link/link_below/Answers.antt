@@ -1,11 +1,8 @@
-use Rattle.std.proofs.Common.{ap, false, refl, true}
-use Rattle.plan_words.proofs.Common.{BelongsTo-later, PassState}
+use Rattle.shared_tree_tests.proofs.Words.{ap, false, refl, true, BelongsTo-later, PassState, HasSeenAtLeast-later, LeadsTo, Treed}
 use Rattle.shared_tree_tests.proofs.HeldPasses.FirstRecords.{HangsFromStart-kept, HangsFromStart-linked}
 use Rattle.shared_tree_tests.proofs.HeldPasses.HeldMarks.{HoldsMark-kept, HoldsMark-linked}
 use Rattle.shared_tree_tests.proofs.HeldPasses.LinkedPlaces.{LeadsTo-below, of_hand}
 use Rattle.shared_tree_tests.proofs.passes.link.link_below.Goals as goal
-use Rattle.step_core.proofs.Common.{HasSeenAtLeast-later, LeadsTo}
-use Rattle.step_core.specs.declared.views.Stage.TheVariants.{Treed}
 
 pub link-requires-clause-belongs : goal.link-requires-clause-belongs
 link-requires-clause-belongs g c =

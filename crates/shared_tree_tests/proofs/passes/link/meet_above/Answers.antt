@@ -1,9 +1,7 @@
-use Rattle.std.proofs.Common.{◌∙◌, ap, refl, true}
+use Rattle.shared_tree_tests.proofs.Words.{◌∙◌, ap, refl, true, IsLater-trans, HasSeenAtLeast-later, Treed}
 use Rattle.shared_tree_tests.proofs.HeldPasses.FirstRecords.{HangsFromStart-kept}
 use Rattle.shared_tree_tests.proofs.HeldPasses.HeldMarks.{HoldsMark-kept}
 use Rattle.shared_tree_tests.proofs.passes.link.meet_above.Goals as goal
-use Rattle.step_core.proofs.Common.{IsLater-trans, HasSeenAtLeast-later}
-use Rattle.step_core.specs.declared.views.Stage.TheVariants.{Treed}
 
 pub returns-clause-holds : goal.returns-clause-holds
 returns-clause-holds g c =

@@ -1,7 +1,4 @@
-use Rattle.std.proofs.Common.{◌≡◌, ap, refl, ◌∙◌}
-use Rattle.plan_words.proofs.Common.{PassState, with_view, BelongsTo-later, at_hand, if_hand}
-use Rattle.step_core.proofs.Common.{IsUnskipped, pointed}
-use Rattle.step_core.specs.declared.views.Stage.TheVariants.{Pointed}
+use Rattle.shared_tree_tests.proofs.Words.{◌≡◌, ap, refl, ◌∙◌, PassState, with_view, BelongsTo-later, at_hand, if_hand, IsUnskipped, pointed, Pointed}
 use Rattle.shared_tree_tests.proofs.HeldPasses.FirstRecords.{unskipped_later}
 use Rattle.shared_tree_tests.proofs.passes.link.write_from_start.Given.{Over}
 use Rattle.shared_tree_tests.proofs.passes.link.write_from_start.Goals as goal

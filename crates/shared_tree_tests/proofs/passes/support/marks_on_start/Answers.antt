@@ -1,10 +1,6 @@
 -- All marks are the same, and there are not too many.
-use Rattle.std.proofs.Common.{◌≡◌, ℕ, zero, suc, ◌≤◌, List, true, leb, length, arith, refl, ap, ◌∙◌}
-use Rattle.std.specs.Prelude.{IsTrue, replicate}
-use Rattle.std.specs.List.{list_all}
-use Rattle.std.proofs.lemmas.Bool.{and_from, le-leb}
-use Rattle.std.proofs.lemmas.List.{length-replicate}
-use Rattle.grown_runs.proofs.Common.{Point, MOST_MARKS, Listed, is_mark, is_plan, at}
+use Rattle.shared_tree_tests.proofs.Words.{◌≡◌, ℕ, zero, suc, ◌≤◌, List, true, leb, length, arith, refl, ap, ◌∙◌, IsTrue, replicate, list_all, and_from, le-leb}
+use Rattle.shared_tree_tests.proofs.Words.{length-replicate, Point, MOST_MARKS, Listed, is_mark, is_plan, at}
 use Rattle.shared_tree_tests.proofs.passes.support.marks_on_start.Goals as goal
 
 list_all-replicate : (n : ℕ) → list_all (is_mark 1) (replicate n (at 0 0)) ≡ true

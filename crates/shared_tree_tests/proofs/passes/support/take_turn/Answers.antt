@@ -1,7 +1,4 @@
-use Rattle.std.proofs.Common.{◌∙◌, ap, subst, sym}
-use Rattle.grown_runs.proofs.Common.{mark_at, Record}
-use Rattle.plan_words.proofs.PlainScenes.{no_goals}
-use Rattle.step_core.specs.ViewTrees.{SeesPoint}
+use Rattle.shared_tree_tests.proofs.Words.{◌∙◌, ap, subst, sym, mark_at, Record, no_goals, SeesPoint}
 use Rattle.shared_tree_tests.proofs.HeldPasses.StartMarks.{may_finish-start}
 use Rattle.shared_tree_tests.proofs.passes.support.take_turn.Goals as goal
 

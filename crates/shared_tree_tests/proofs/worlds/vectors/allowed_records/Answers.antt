@@ -1,16 +1,11 @@
-use Rattle.std.proofs.Common.{◌≡◌, ℕ, zero, suc, ◌+◌, ◌≤◌, ◌^◌, true, false, None, length, arith, refl, sym, ap, ◌∙◌}
-use Rattle.std.specs.Prelude.{IsTrue}
-use Rattle.grown_runs.proofs.Common.{cost_of, mark_at, is_earlier_record, unplaced_record, Clear, empty_room, IsNotAbove, distance_to, point_of, placed_by, at}
-use Rattle.grown_runs.proofs.Common.{Blocked, Same, Record, AreInRoom-from_clear, Clear-empty_room, IsNotAbove-refl, same_x, root_ceiling-from_squares}
-use Rattle.grown_runs.proofs.Common.{record_at, TreeOf, cost_in, record_at-past}
+use Rattle.shared_tree_tests.proofs.Words.{◌≡◌, ℕ, zero, suc, ◌+◌, ◌≤◌, ◌^◌, true, false, None, length, arith, refl, sym, ap, ◌∙◌, IsTrue, cost_of, mark_at}
+use Rattle.shared_tree_tests.proofs.Words.{is_earlier_record, unplaced_record, Clear, empty_room, IsNotAbove, distance_to, point_of, placed_by, at, Blocked}
+use Rattle.shared_tree_tests.proofs.Words.{Record, AreInRoom-from_clear, Clear-empty_room, IsNotAbove-refl, same_x, root_ceiling-from_squares, record_at}
+use Rattle.shared_tree_tests.proofs.Words.{TreeOf, cost_in, record_at-past, IsOwnNeighbour, is_own_node, own_first_cost, new_hand, SeesPoint, run_sizes, sees}
+use Rattle.shared_tree_tests.proofs.Words.{setup_in, tree_seen, Hand, Counted, View, claimer_at_start, claimer_in, counter_of, hand_at, small_run}
+use Rattle.grown_runs.proofs.Common.{Same}
 use Rattle.plan_model.specs.Geometry.Roots.{root_ceiling}
-use Rattle.step_core.proofs.Common.{IsOwnNeighbour, is_own_node, own_first_cost, new_hand, SeesPoint, run_sizes, sees, setup_in, tree_seen}
 use Rattle.grown_runs.specs.Table.WordPlaces.{word_at}
-use Rattle.step_core.specs.declared.views.Hand.{Hand}
-use Rattle.step_core.specs.declared.views.Stage.TheVariants.{Counted}
-use Rattle.step_core.specs.declared.views.View.{View}
-use Rattle.shared_tree_tests.specs.SmallRuns.SmallRecords.{claimer_at_start, claimer_in, counter_of}
-use Rattle.shared_tree_tests.specs.SmallRuns.SmallWorlds.{hand_at, small_run}
 use Rattle.shared_tree_tests.proofs.worlds.vectors.allowed_records.Goals as goal
 
 edge : root_ceiling 1638400 ≡ 1280

@@ -1,12 +1,8 @@
-use Rattle.std.proofs.Common.{◌≡◌, true, arith, refl, ap, inr}
-use Rattle.std.specs.Prelude.{◌≢◌}
-use Rattle.grown_runs.proofs.Common.{IsAllowedEdge, mark_bound, begins, goes_on, at, Point, Clear-empty_room, root_ceiling-from_squares, root_ceiling-zero}
-use Rattle.grown_runs.proofs.Common.{best_word, no_best}
+use Rattle.shared_tree_tests.proofs.Words.{◌≡◌, true, arith, refl, ap, inr, ◌≢◌, IsAllowedEdge, mark_bound, begins, goes_on, at, Point, Clear-empty_room}
+use Rattle.shared_tree_tests.proofs.Words.{root_ceiling-from_squares, root_ceiling-zero, best_word, no_best, setup_in, goal_run, small_run}
 use Rattle.plan_model.specs.Geometry.Roots.{root_ceiling}
 use Rattle.plan_model.specs.Trees.GoalBounds.{bound_of}
-use Rattle.step_core.specs.Views.{setup_in}
 use Rattle.grown_runs.specs.Table.WordPlaces.{word_at}
-use Rattle.shared_tree_tests.specs.SmallRuns.SmallWorlds.{goal_run, small_run}
 use Rattle.shared_tree_tests.proofs.worlds.vectors.allowed_steps.Goals as goal
 
 edge : root_ceiling 1638400 ≡ 1280

@@ -1,10 +1,7 @@
-use Rattle.std.proofs.Common.{◌≡◌, ℕ, ◌≤◌, true, List, None, arith, sym, ap, ◌∙◌, inl, inr}
-use Rattle.std.specs.Prelude.{◌⊎◌, if◌then◌else◌}
-use Rattle.grown_runs.proofs.Common.{StandsAt, at, child_of_word, Words, ChildOf, Count, PointOf, Sizes, point_of_word, point_word}
-use Rattle.step_core.proofs.Common.{linked_points, run_sizes, IsWorld, linked-present, point_at-linked}
+use Rattle.shared_tree_tests.proofs.Words.{◌≡◌, ℕ, ◌≤◌, true, List, None, arith, sym, ap, ◌∙◌, inl, inr, ◌⊎◌, if◌then◌else◌, StandsAt, at, child_of_word, Words}
+use Rattle.shared_tree_tests.proofs.Words.{ChildOf, Count, PointOf, Sizes, point_of_word, point_word, linked_points, run_sizes, IsWorld, linked-present}
+use Rattle.shared_tree_tests.proofs.Words.{point_at-linked, View, small_run}
 use Rattle.grown_runs.specs.Table.WordPlaces.{word_at}
-use Rattle.step_core.specs.declared.views.View.{View}
-use Rattle.shared_tree_tests.specs.SmallRuns.SmallWorlds.{small_run}
 use Rattle.shared_tree_tests.proofs.worlds.vectors.free_points.Goals as goal
 
 -- a word that is there and stays

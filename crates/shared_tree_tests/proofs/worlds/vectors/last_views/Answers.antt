@@ -1,6 +1,4 @@
-use Rattle.std.proofs.Common.{◌≡◌, ℕ, ◌<◌, ◌≤◌, true, false, Some, None, arith, refl, inl, inr}
-use Rattle.std.specs.Prelude.{◌⊎◌}
-use Rattle.grown_runs.proofs.Common.{placed_by, at, same_x}
+use Rattle.shared_tree_tests.proofs.Words.{◌≡◌, ℕ, ◌<◌, ◌≤◌, true, false, Some, None, arith, refl, inl, inr, ◌⊎◌, placed_by, at, same_x}
 use Rattle.grown_runs.specs.Table.WordPlaces.{word_at}
 use Rattle.shared_tree_tests.proofs.worlds.vectors.last_views.Goals as goal
 

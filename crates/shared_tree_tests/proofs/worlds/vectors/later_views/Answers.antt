@@ -1,12 +1,7 @@
-use Rattle.std.proofs.Common.{◌≡◌, ℕ, zero, suc, ◌<◌, ◌≤◌, true, false, arith, refl, ap, inl, inr}
-use Rattle.std.specs.Prelude.{◌≢◌, ◌⊎◌}
-use Rattle.step_core.specs.Views.{last_look, last_zero, run_sizes, sees}
-use Rattle.grown_runs.proofs.Common.{kind_of, Apart, Word, WritesWord, Best, ChildOf, Count, Counter, FirstOf, PointOf, RecordOf, TreeOf, AreBehind-refl}
-use Rattle.grown_runs.proofs.Common.{WritesWord-set}
+use Rattle.shared_tree_tests.proofs.Words.{◌≡◌, ℕ, zero, suc, ◌<◌, ◌≤◌, true, false, arith, refl, ap, inl, inr, ◌≢◌, ◌⊎◌, last_look, last_zero, run_sizes, sees}
+use Rattle.shared_tree_tests.proofs.Words.{kind_of, Apart, Word, WritesWord, Best, ChildOf, Count, Counter, FirstOf, PointOf, RecordOf, TreeOf, AreBehind-refl}
+use Rattle.shared_tree_tests.proofs.Words.{WritesWord-set, SharedRun, waited, claimed_table, idle, never, small_run}
 use Rattle.grown_runs.specs.Table.WordPlaces.{word_at}
-use Rattle.step_core.specs.declared.views.SharedRun.{SharedRun}
-use Rattle.shared_tree_tests.specs.SmallRuns.SmallViews.{waited}
-use Rattle.shared_tree_tests.specs.SmallRuns.SmallWorlds.{claimed_table, idle, never, small_run}
 use Rattle.shared_tree_tests.proofs.worlds.vectors.later_views.Goals as goal
 
 -- one word of each table of steps is another

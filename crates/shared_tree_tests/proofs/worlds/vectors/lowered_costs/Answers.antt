@@ -1,7 +1,6 @@
-use Rattle.std.proofs.Common.{◌≡◌, ℕ, zero, suc, true, false, Some, None, [], ◌∷◌, arith, refl, ap}
-use Rattle.std.specs.Prelude.{◌≢◌, is_some}
-use Rattle.grown_runs.proofs.Common.{point_at, placed_by}
-use Rattle.shared_tree_tests.specs.SmallRuns.SmallRecords.{dearer, entries, tree_by, two_nodes}
+use Rattle.shared_tree_tests.proofs.Words.{◌≡◌, ℕ, zero, suc, true, false, Some, None, [], ◌∷◌, arith, refl, ap, ◌≢◌, is_some, point_at, placed_by, dearer}
+use Rattle.shared_tree_tests.proofs.Words.{entries, tree_by}
+use Rattle.shared_tree_tests.specs.SmallRuns.SmallRecords.{two_nodes}
 use Rattle.shared_tree_tests.proofs.worlds.vectors.lowered_costs.Goals as goal
 
 elsewhere : (i : ℕ) → i ≢ 1 → (tree_by two_nodes (0 ∷ 0 ∷ []) (0 ∷ 1280 ∷ []) 1281 entries).cost i ≡ dearer.cost i

@@ -1,14 +1,9 @@
-use Rattle.std.proofs.Common.{◌≡◌, ℕ, ◌+◌, ◌<◌, ◌≤◌, ◌^◌, true, false, Some, None, arith, refl, sym, ap, subst, inl, inr}
-use Rattle.std.specs.Prelude.{◌⊎◌}
-use Rattle.std.proofs.lemmas.Option.{same_Some}
-use Rattle.grown_runs.proofs.Common.{mark_bound, steered, at, Point, same_x, root_ceiling-from_squares, root_ceiling-zero, ChildOf, best_cost_in, best_word}
+use Rattle.shared_tree_tests.proofs.Words.{◌≡◌, ℕ, ◌+◌, ◌<◌, ◌≤◌, ◌^◌, true, false, Some, None, arith, refl, sym, ap, subst, inl, inr, ◌⊎◌, same_Some}
+use Rattle.shared_tree_tests.proofs.Words.{mark_bound, steered, at, Point, same_x, root_ceiling-from_squares, root_ceiling-zero, ChildOf, best_cost_in}
+use Rattle.shared_tree_tests.proofs.Words.{best_word, setup_in, new_hand, Half, Linked, Pointed, Posted, Treed, goal_run, hand_at, took_best}
 use Rattle.plan_model.specs.Geometry.Roots.{root_ceiling}
 use Rattle.plan_model.specs.Trees.GoalBounds.{bound_of}
-use Rattle.step_core.specs.Views.{setup_in}
-use Rattle.step_core.specs.ViewSteps.{new_hand}
 use Rattle.grown_runs.specs.Table.WordPlaces.{word_at}
-use Rattle.step_core.specs.declared.views.Stage.TheVariants.{Half, Linked, Pointed, Posted, Treed}
-use Rattle.shared_tree_tests.specs.SmallRuns.SmallWorlds.{goal_run, hand_at, took_best}
 use Rattle.shared_tree_tests.proofs.worlds.vectors.unlawful_views.Goals as goal
 
 edge : root_ceiling 1638400 ≡ 1280

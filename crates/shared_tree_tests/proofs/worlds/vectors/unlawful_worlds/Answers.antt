@@ -1,20 +1,13 @@
-use Rattle.std.proofs.Common.{◌≡◌, ℕ, zero, suc, ◌+◌, ◌<◌, ◌≤◌, ◌^◌, true, false, List, Some, None, [], ◌∷◌, arith, refl, sym, ap, subst, inl, inr}
-use Rattle.std.specs.Prelude.{◌⊎◌, slice_index, slice_set}
+use Rattle.shared_tree_tests.proofs.Words.{◌≡◌, ℕ, zero, suc, ◌+◌, ◌<◌, ◌≤◌, ◌^◌, true, false, List, Some, None, [], ◌∷◌, arith, refl, sym, ap, subst, inl, inr}
+use Rattle.shared_tree_tests.proofs.Words.{◌⊎◌, slice_index, slice_set, placed_by, at, root_ceiling-from_squares, Word, Best, ChildOf, Count, Counter, TreeOf}
+use Rattle.shared_tree_tests.proofs.Words.{place_of, best_word, no_best, point_word, tree_word, new_hand, IsViewOf, last_look, last_seen, run_sizes, share}
+use Rattle.shared_tree_tests.proofs.Words.{spent, HasMade, IsLoaded, IsRecordWord, SomeSharer, GoesTo, IsAmong, IsNoted, Hand, Note, SharedRun, Half, Linked}
+use Rattle.shared_tree_tests.proofs.Words.{Pointed, Posted, Treed, View, AreLawfulLooks, filled_at, hand_at, idle, linked_table, never, small_run, took_best}
+use Rattle.shared_tree_tests.proofs.Words.{view_with, worker_at}
 use mathlib.Core.Option.{some, some-injective, some-ne-none}
 use lib.ListN.{get_elem?}
-use Rattle.grown_runs.proofs.Common.{placed_by, at, root_ceiling-from_squares, Word, Best, ChildOf, Count, Counter, TreeOf, place_of}
-use Rattle.grown_runs.proofs.Common.{best_word, no_best, point_word, tree_word}
 use Rattle.plan_model.specs.Geometry.Roots.{root_ceiling}
-use Rattle.step_core.proofs.Common.{new_hand, IsViewOf, last_look, last_seen, run_sizes, share, spent, HasMade, IsLoaded, IsRecordWord, SomeSharer}
-use Rattle.step_core.specs.Notes.{GoesTo, IsAmong, IsNoted}
 use Rattle.grown_runs.specs.Table.WordPlaces.{word_at}
-use Rattle.step_core.specs.declared.views.Hand.{Hand}
-use Rattle.step_core.specs.declared.views.Note.{Note}
-use Rattle.step_core.specs.declared.views.SharedRun.{SharedRun}
-use Rattle.step_core.specs.declared.views.Stage.TheVariants.{Half, Linked, Pointed, Posted, Treed}
-use Rattle.step_core.specs.declared.views.View.{View}
-use Rattle.shared_tree_tests.specs.SmallRuns.SmallWorlds.{AreLawfulLooks, filled_at, hand_at, idle, linked_table, never, small_run, took_best}
-use Rattle.shared_tree_tests.specs.SmallRuns.SmallWorlds.{view_with, worker_at}
 use Rattle.shared_tree_tests.proofs.worlds.vectors.unlawful_worlds.Goals as goal
 
 edge : root_ceiling 1638400 ≡ 1280

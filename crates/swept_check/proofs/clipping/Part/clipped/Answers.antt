@@ -1,7 +1,5 @@
 -- Each arm by the signs at the ends.
-use Rattle.std.proofs.Common.{◌≡◌, ◌+◌, arith, rules}
-use Rattle.std.specs.Prelude.{pos, ◌≤ℤ◌, ◌<ℤ◌, unsigned_abs}
-use Rattle.std.proofs.lemmas.Int.{ints}
+use Rattle.swept_check.proofs.Words.{◌≡◌, ◌+◌, arith, rules, pos, ◌≤ℤ◌, ◌<ℤ◌, unsigned_abs, ints}
 use Rattle.swept_check.proofs.ClippedParts.{clipped_entry, clipped_exit}
 use Rattle.swept_check.proofs.LinearValues.{IsAdmitted-inside, IsAdmitted-entering, IsAdmitted-leaving}
 use Rattle.swept_check.proofs.clipping.Part.clipped.Goals as goal

@@ -1,7 +1,4 @@
-use Rattle.std.proofs.Common.{◌↔◌, arith}
-use Rattle.std.proofs.lemmas.Int.{ints}
-use Rattle.std.specs.Prelude.{IsTrue}
-use Rattle.plan_model.specs.Spaces.RoomOfConfigurations.{InRoom, at_lattice}
+use Rattle.swept_check.proofs.Words.{◌↔◌, arith, ints, IsTrue, InRoom, at_lattice}
 use Rattle.swept_check.proofs.RoomLaws.{in_room_of_spans, columns_of_in_room, rows_of_in_room}
 use Rattle.swept_check.proofs.hall.Hall.is_in_room.Goals as goal
 

@@ -1,7 +1,4 @@
-use Rattle.std.proofs.Common.{◌≡◌, ◌<◌, [], length, get_or, arith, ◌∙◌}
-use Rattle.std.proofs.lemmas.List.{get_or_default}
-use Rattle.plan_model.specs.Spaces.ConfigurationSpace.{space_of}
-use Rattle.plan_model.proofs.SceneBounds.{clearance-counted}
+use Rattle.swept_check.proofs.Words.{◌≡◌, ◌<◌, [], length, get_or, arith, ◌∙◌, get_or_default, space_of, clearance-counted}
 use Rattle.swept_check.proofs.SceneSummands.{obstacle_within, AreFirstZones-more}
 use Rattle.swept_check.proofs.hall.Hall.new.Goals as goal
 

@@ -1,6 +1,4 @@
-use Rattle.std.proofs.Common.{◌↔◌, refl}
-use Rattle.std.specs.Prelude.{IsTrue}
-use Rattle.plan_model.specs.Spaces.RoomOfConfigurations.{InRoom, at_lattice}
+use Rattle.swept_check.proofs.Words.{◌↔◌, refl, IsTrue, InRoom, at_lattice}
 use Rattle.swept_check.proofs.HallLaws.{CrossesNone, CrossesNone-clear, clear_of, first_in_room, last_in_room}
 use Rattle.swept_check.proofs.hall.HallClearing.clear.Goals as goal
 use Rattle.swept_check.proofs.hall.HallClearing.clear.Goals.{then-not-is_in_room-via-then-not-is_in_room}

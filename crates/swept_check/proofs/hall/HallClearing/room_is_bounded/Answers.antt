@@ -1,5 +1,4 @@
-use Rattle.std.proofs.Common.{arith}
-use Rattle.plan_model.specs.Geometry.Bounds.{IsBounded}
+use Rattle.swept_check.proofs.Words.{arith, IsBounded}
 use Rattle.swept_check.proofs.hall.HallClearing.room_is_bounded.Goals as goal
 
 pub returns : goal.returns

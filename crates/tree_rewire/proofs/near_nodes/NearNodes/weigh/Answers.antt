@@ -1,6 +1,4 @@
-use Rattle.std.proofs.Common.{subst}
-use Rattle.step_core.proofs.OneView.LawfulSights.{IsBounded-seen}
-use Rattle.tree_rewire.specs.NearNodes.{StandOn}
+use Rattle.tree_rewire.proofs.Words.{subst, IsBounded-seen, StandOn}
 use Rattle.tree_rewire.proofs.near_nodes.NearNodes.weigh.Goals as goal
 
 pub set_edges-requires-clause-found : goal.set_edges-requires-clause-found

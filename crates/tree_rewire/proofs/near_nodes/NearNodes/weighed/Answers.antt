@@ -1,12 +1,8 @@
-use Rattle.std.proofs.Common.{◌≡◌, Some, ap, subst, sym, ◌∙◌}
-use Rattle.std.specs.Prelude.{slice_get}
-use Rattle.grown_runs.proofs.Common.{cost_of, point_of-stands}
-use Rattle.step_core.specs.Views.{tree_seen}
+use Rattle.tree_rewire.proofs.Words.{◌≡◌, Some, ap, subst, sym, ◌∙◌, slice_get, cost_of, point_of-stands, tree_seen, IsWeighed, AreKnown, nodes_on, SeesKnot}
 use Rattle.tree_rewire.proofs.ChosenParents.{All-read}
 use Rattle.tree_rewire.proofs.CostSteps.{PassSees-point}
 use Rattle.tree_rewire.proofs.FoundLists.{All-at, number_read}
 use Rattle.tree_rewire.proofs.SeenCosts.{point_later}
-use Rattle.tree_rewire.proofs.Words.{IsWeighed, AreKnown, nodes_on, SeesKnot}
 use Rattle.tree_rewire.proofs.near_nodes.NearNodes.weighed.Goals as goal
 
 pub returns-in-Listed-clause-steps : goal.returns-in-Listed-clause-steps

@@ -1,5 +1,4 @@
-use Rattle.std.proofs.Common.{sym, ◌∙◌, inl, inr}
-use Rattle.std.proofs.lemmas.Bool.{true≢false}
+use Rattle.report_judge.proofs.Words.{sym, ◌∙◌, inl, inr, true≢false}
 use Rattle.report_judge.proofs.own.searches.NeighbourSearchSearch.has.Goals as goal
 
 pub returns-then-has-clause-found : goal.returns-then-has-clause-found

@@ -1,9 +1,6 @@
-use Rattle.std.proofs.Common.{◌≡◌, suc, ◌+◌, ◌<◌, Some, length, arith, refl, sym, ap, ◌∙◌, subst}
+use Rattle.report_judge.proofs.Words.{◌≡◌, suc, ◌+◌, ◌<◌, Some, length, arith, refl, sym, ap, ◌∙◌, subst, true≢false, slice_get_read, is_goal_point, point_at}
+use Rattle.report_judge.proofs.Words.{state_of_lists, IsMarkOfTurn}
 use Rattle.std.specs.Prelude.{IfSome}
-use Rattle.std.proofs.lemmas.Bool.{true≢false}
-use Rattle.std.proofs.lemmas.Option.{slice_get_read}
-use Rattle.grown_runs.proofs.Common.{is_goal_point, point_at, state_of_lists}
-use Rattle.report_judge.specs.Workers.SeenNodes.{IsMarkOfTurn}
 use Rattle.report_judge.proofs.Workers.SeenLaws.{AreSeen-inside, AreSeen-none, AreSeen-outside, AreSeen-unplaced, least_by, turn_of}
 use Rattle.report_judge.proofs.Workers.SeenStarts.{length-points}
 use Rattle.report_judge.proofs.own.seen_nodes.Seen.after.Goals as goal

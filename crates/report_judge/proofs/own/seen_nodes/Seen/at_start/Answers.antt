@@ -1,5 +1,4 @@
-use Rattle.std.proofs.Common.{sym, ◌∙◌}
-use Rattle.std.proofs.lemmas.Bool.{true≢false}
+use Rattle.report_judge.proofs.Words.{sym, ◌∙◌, true≢false}
 use Rattle.report_judge.proofs.Workers.SeenStarts.{AreSeen-in_goal, AreSeen-no_goal}
 use Rattle.report_judge.proofs.own.seen_nodes.Seen.at_start.Goals as goal
 
