@@ -55,8 +55,7 @@ pub use Rattle.plan_model.proofs.CostLaws.{cost_of-swap}
 pub use Rattle.plan_model.proofs.CountLaws.{numbers-closed}
 pub use Rattle.plan_model.proofs.CountsBelow.{count-all, count-first, count-found, count-longer, count-more, count-none, count-one_more, count-same}
 pub use Rattle.plan_model.proofs.CountsBelow.{count-single, count-some, count-wider, range-more}
-pub use Rattle.plan_model.proofs.DistinctPoints.{AreDistinct-placed, IsPresent-below, IsPresent-push, near-present, near-present_beside, points_of-rewires}
-pub use Rattle.plan_model.proofs.DistinctPoints.{within_present}
+pub use Rattle.plan_model.proofs.DistinctPoints.{AreDistinct-placed, IsPresent-below, IsPresent-push, near-present, points_of-ends, within_present}
 pub use Rattle.plan_model.proofs.EarlierNodes.{HaveSameEarlier, is_earlier-same, is_earlier-same_records}
 pub use Rattle.plan_model.proofs.EmptyRoomClearance.{AreInRoom-from_clear, Clear-empty_room}
 pub use Rattle.plan_model.proofs.FreePoints.{filter-none, is_near_free, same-from_distance}
@@ -88,7 +87,7 @@ pub use Rattle.plan_model.proofs.RecordLaws.{IsLawfulRecord-grows, class_of-le}
 pub use Rattle.plan_model.proofs.RewiredRun.{rewired_run, rewired_sum}
 pub use Rattle.plan_model.proofs.Ring.{Read, minus, var}
 pub use Rattle.plan_model.proofs.RootLaws.{root_ceiling-from_squares, root_ceiling-zero}
-pub use Rattle.plan_model.proofs.RunLaws.{HandlesAll-length, HandlesAll-push}
+pub use Rattle.plan_model.proofs.RunLaws.{HandlesAll-length, HandlesAll-nodes, HandlesAll-push}
 pub use Rattle.plan_model.proofs.SamePoints.{same_or_other, same_point-false, same_point-true}
 pub use Rattle.plan_model.proofs.SameReports.{AreSameRuns-textbook, best_node-same, report_text-same}
 pub use Rattle.plan_model.proofs.SameScenes.{Spells-one_scene, same_parts}
@@ -116,7 +115,7 @@ pub use Rattle.plan_model.proofs.TreeStateLaws.{GrowsInto-refl, GrowsInto-trans,
 pub use Rattle.plan_model.proofs.TriangleLaw.{cost_of-triangle}
 pub use Rattle.plan_model.proofs.TrueSights.{AreDistinct-true, FollowSeenWays-true, IsOnWay-true, IsPresent-true, whole_pair}
 pub use Rattle.plan_model.proofs.TurnsFromZero.{AreTurns-counted}
-pub use Rattle.plan_model.proofs.UniqueRuns.{Record-from_fields}
+pub use Rattle.plan_model.proofs.EndingLaws.{Record-from_fields, reached-unskipped, record_of_ending-again}
 pub use Rattle.plan_model.proofs.WayLaws.{EndsBelow-free, IsOnWay-unique, earlier_step, last_step, not_empty, way_start, way_stops}
 pub use Rattle.plan_model.proofs.WayLinks.{AddsPoint-stands, FollowWays-links, FollowWays-start, IsOnWay-fills}
 pub use Rattle.plan_model.proofs.WorkerTurns.{AreTurns-longer, AreTurns-recorded, ltb-next, once_if-below, once_if-past, times-once, turn-below, turn_of_record}
@@ -127,19 +126,20 @@ pub use Rattle.plan_model.specs.Geometry.Cost.{cost_of}
 pub use Rattle.plan_model.specs.Geometry.Plane.{IsInBoxOf, orientation, squared_distance}
 pub use Rattle.plan_model.specs.Geometry.Radius.{class_of, radius_of, radius_of_class}
 pub use Rattle.plan_model.specs.Geometry.Steering.{steered}
-pub use Rattle.plan_model.specs.Reports.ReportText.{best_path, counts_line, full_report, head_line, line, mark_line_if_recorded, mark_lines, no_path_line}
-pub use Rattle.plan_model.specs.Reports.ReportText.{node_line_if_present, node_lines, outcome_words, path_to, point_lines, short_report, skipped_words}
+pub use Rattle.plan_model.specs.Reports.ReportText.{best_path, counts_line, ending_words, full_report, head_line, line, mark_line_if_recorded, mark_lines}
+pub use Rattle.plan_model.specs.Reports.ReportText.{no_path_line, node_line_if_present, node_lines, path_to, point_lines, reached_words, short_report, skipped_words}
 pub use Rattle.plan_model.specs.Runs.ClosedLaw.{IsClosed, has_outcome, mark_at, outcome_count}
+pub use Rattle.plan_model.specs.Runs.Endings.{Ending, FirstHanging, NewNode, NoWay, Reached, SameNode, SkippedBy, Steered, ending_as, ending_of, first_hanging}
+pub use Rattle.plan_model.specs.Runs.Endings.{record_of_ending, unplaced_record}
 pub use Rattle.plan_model.specs.Runs.OrderLaw.{Hangs, HangsBelow, IsAllowedEdge, KeepsFirstCosts, KeepsOrder, most_cost_of}
 pub use Rattle.plan_model.specs.Runs.Outcomes.{is_blocked, is_placed, is_same, is_skipped, is_zero_unless_placed}
-pub use Rattle.plan_model.specs.Runs.RecordLaw.{HangsLawfully, HasLawfulOutcome, IsBlockedLawfully, IsChosenLawfully, IsEarlier, IsLawfulRecord, IsNeighbour}
-pub use Rattle.plan_model.specs.Runs.RecordLaw.{IsPlacedLawfully, IsSkippedLawfully, IsSteeredLawfully, earlier_count, first_cost_through, is_earlier}
-pub use Rattle.plan_model.specs.Runs.RecordLaw.{is_earlier_record}
+pub use Rattle.plan_model.specs.Runs.RecordLaw.{HangsLawfully, HasLawfulEnding, IsBlockedLawfully, IsChosenLawfully, IsEarlier, IsLawfulRecord, IsNeighbour}
+pub use Rattle.plan_model.specs.Runs.RecordLaw.{IsPlacedLawfully, IsSkippedLawfully, IsSteeredLawfully, ReachesLawfully, earlier_count, first_cost_through}
+pub use Rattle.plan_model.specs.Runs.RecordLaw.{is_earlier, is_earlier_record}
 pub use Rattle.plan_model.specs.Runs.SameRuns.{HaveSameFields, IsOfTextbookRun}
-pub use Rattle.plan_model.specs.Runs.Textbook.{Ends, EndsPlaced, Handles, HandlesAll, IsBestGoalNode, IsBestParent, IsCandidate, IsCheaperThrough}
-pub use Rattle.plan_model.specs.Runs.Textbook.{IsTextbookRun, MayBeCheaper, Nodes, Rewires, RewiresOne, Setup, SteersTo, blocked_record, cost_through}
-pub use Rattle.plan_model.specs.Runs.Textbook.{mark_bound, near_new, placed_record, same_record, setup_of, skipped_record, skipping_goals, start_alone}
-pub use Rattle.plan_model.specs.Runs.Textbook.{unplaced_record, with_parent}
+pub use Rattle.plan_model.specs.Runs.Textbook.{Ends, EndsBlocked, EndsPlaced, EndsSkipped, EndsSteered, Handles, HandlesAll, IsBestGoalNode, IsBestParent}
+pub use Rattle.plan_model.specs.Runs.Textbook.{IsCandidate, IsCheaperThrough, IsTextbookRun, MayBeCheaper, Nodes, Reaches, Rewires, RewiresOne, Setup, SteersTo}
+pub use Rattle.plan_model.specs.Runs.Textbook.{cost_through, mark_bound, near_new, setup_of, skipping_goals, start_alone, with_parent}
 pub use Rattle.plan_model.specs.Runs.Turns.{AreTurns, RunFromZero, is_of_turn, is_of_worker, once_if, times_of, turns_of}
 pub use Rattle.plan_model.specs.Scenes.Limits.{IsBetween, are_goals, are_obstacles, is_corner_between, is_goal, is_mark, is_obstacle, is_plan, most_goals}
 pub use Rattle.plan_model.specs.Scenes.Limits.{most_side}
@@ -171,7 +171,7 @@ pub use Rattle.plan_model.specs.Trees.OpenNodes.{IsOpenTo}
 pub use Rattle.plan_model.specs.Trees.PointsByNumber.{AreDistinct, AreNumberedTo, IsFree, IsPresent, StandsAt, node_count, point_at, point_of}
 pub use Rattle.plan_model.specs.Trees.TreeStates.{AreSameRuns, ChangesCosts, GrowsInto, IsSettled, TreeState, chain_in, first_cost_of, recorded_or, state_of}
 pub use Rattle.plan_model.specs.Trees.TreeStates.{sum_in}
-pub use Rattle.plan_model.specs.Vectors.Overlaps.{placed_by}
+pub use Rattle.plan_model.specs.Vectors.Records.{blocked_record, placed_by, placed_record, same_record}
 pub use Rattle.plan_model.specs.Vectors.Runs.{marks_to_rewire, node, open_setup, rewired_records, rewired_tree}
 pub use Rattle.plan_model.specs.Vectors.Shapes.{at}
 pub use Rattle.plan_model.specs.declared.configuration_spaces.ConfigurationSpace.{ConfigurationSpace}

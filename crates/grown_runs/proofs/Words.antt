@@ -31,6 +31,7 @@ pub use Rattle.plan_model.proofs.ClosedLaws.{IsClosed-lowered}
 pub use Rattle.plan_model.proofs.CountLaws.{node_count-closed}
 pub use Rattle.plan_model.proofs.CountsBelow.{count-more}
 pub use Rattle.plan_model.proofs.EmptyRoomClearance.{IsInRoom-from_clear_at}
+pub use Rattle.plan_model.proofs.EndingLaws.{Record-from_fields}
 pub use Rattle.plan_model.proofs.LoweredCosts.{LowersCosts-lowers, LowersNode, StandsStill}
 pub use Rattle.plan_model.proofs.MarkBounds.{length-marks}
 pub use Rattle.plan_model.proofs.NewNodes.{IsPresent-stands, StandsAt-present, not_present, point_of-stands}
@@ -44,7 +45,6 @@ pub use Rattle.plan_model.proofs.SceneBounds.{IsBounded-in_room, IsBounded-scene
 pub use Rattle.plan_model.proofs.SegmentLaws.{Clear-last}
 pub use Rattle.plan_model.proofs.TextbookStates.{IsClosed-start}
 pub use Rattle.plan_model.proofs.TreeChanges.{node_at-past, point_at-points_of}
-pub use Rattle.plan_model.proofs.UniqueRuns.{Record-from_fields}
 pub use Rattle.plan_model.proofs.WayLinks.{AddsPoint-stands, FillsPlaces-trans, FollowWays-links, FollowWays-same, FollowWays-start, IsOnWay-fills}
 pub use Rattle.plan_model.proofs.WayLinks.{new_or_old_child}
 pub use Rattle.plan_model.proofs.WorkerTurns.{turn-below_limit}
@@ -52,9 +52,10 @@ pub use Rattle.plan_model.specs.Geometry.Bounds.{IsBounded}
 pub use Rattle.plan_model.specs.Geometry.Plane.{squared_distance}
 pub use Rattle.plan_model.specs.Geometry.Radius.{class_of}
 pub use Rattle.plan_model.specs.Runs.ClosedLaw.{IsClosed, has_outcome, mark_at}
+pub use Rattle.plan_model.specs.Runs.Endings.{ending_as}
 pub use Rattle.plan_model.specs.Runs.OrderLaw.{most_cost_of}
 pub use Rattle.plan_model.specs.Runs.Outcomes.{is_placed, is_zero_unless_placed}
-pub use Rattle.plan_model.specs.Runs.RecordLaw.{HasLawfulOutcome}
+pub use Rattle.plan_model.specs.Runs.RecordLaw.{HasLawfulEnding}
 pub use Rattle.plan_model.specs.Runs.Textbook.{Setup, setup_of, skipping_goals, start_alone}
 pub use Rattle.plan_model.specs.Scenes.MarkPoints.{quota_of, strip_of_mark}
 pub use Rattle.plan_model.specs.Seen.SeenTrees.{IsSeen, SeenTree}

@@ -1,17 +1,10 @@
 -- A closed run stays closed when costs are lowered, as in settling; and in it no node costs more than it was placed at.
-use Rattle.plan_model.proofs.Words.{◌≡◌, ℕ, zero, suc, ◌≤◌, List, Some, arith, sym, ap, ◌∙◌, subst, is_some, Point, Outcome, Placed, Record, IsPresent}
-use Rattle.plan_model.proofs.Words.{point_of, node_count, steered, TreeState, recorded_or, first_cost_of, most_cost_of, KeepsFirstCosts, HasLawfulOutcome}
-use Rattle.plan_model.proofs.Words.{HangsLawfully, mark_at, has_outcome, IsClosed, is_placed, Setup}
+use Rattle.plan_model.proofs.Words.{◌≡◌, ℕ, zero, suc, ◌≤◌, List, Some, arith, sym, ap, ◌∙◌, subst, is_some, Point, Placed, Record, IsPresent, point_of}
+use Rattle.plan_model.proofs.Words.{node_count, steered, TreeState, recorded_or, first_cost_of, most_cost_of, KeepsFirstCosts, HasLawfulEnding}
+use Rattle.plan_model.proofs.Words.{IsPlacedLawfully, ending_as, first_hanging, mark_at, has_outcome, IsClosed, is_placed, Setup}
 use Rattle.plan_model.proofs.OrderLaws.{start-present}
-use Rattle.plan_model.proofs.LoweredCosts.{
-  LowersCosts,
-  GrowsInto-lowered,
-  KeepsOrder-lowered,
-  SettlesCosts,
-  LowersCosts-settles,
-  HaveSameTree,
-  LowersCosts-same,
-}
+use Rattle.plan_model.proofs.LoweredCosts.{LowersCosts, GrowsInto-lowered, KeepsOrder-lowered, HaveSameTree}
+use Rattle.plan_model.proofs.LoweredCosts.{LowersCosts-same}
 use Rattle.plan_model.proofs.EarlierNodes.{earlier-present, HaveSameEarlier, is_earlier-same_records}
 use Rattle.plan_model.proofs.RecordLaws.{IsLawfulRecord-grows}
 use Rattle.plan_model.proofs.PlacedNodes.{record-of_present}
@@ -53,17 +46,13 @@ module _
 -- ---- first costs
 
 module _ (setup : Setup) (marks : List Point) (limit : ℕ) (state : TreeState) (closed : IsClosed setup marks limit state) where
-  -- what the tree knows of the node of a mark that was placed
-  hangs_of : (k : ℕ) (mark : Point) (entry : Record) (outcome : Outcome) → outcome ≡ Placed → HasLawfulOutcome setup state k mark entry outcome
-      → HangsLawfully setup state k entry (steered (point_of state.points entry.nearest) mark setup.step)
-  hangs_of k mark entry outcome e h =
-      let own = subst (λ o. HasLawfulOutcome setup state k mark entry o) e h in
-      own.outcome.by_tree
-
-  pub HangsLawfully-closed : (k : ℕ) (entry : Record) → state.record_of k ≡ Some entry → entry.outcome ≡ Placed
-      → HangsLawfully setup state k entry (steered (point_of state.points entry.nearest) (mark_at marks k) setup.step)
-  HangsLawfully-closed k entry h placed =
-      hangs_of k (mark_at marks k) entry entry.outcome placed (closed.lawful k entry h)
+  -- what is lawful of a mark that was placed
+  pub IsPlacedLawfully-closed :
+      (k : ℕ) (entry : Record) → state.record_of k ≡ Some entry → entry.outcome ≡ Placed
+      → IsPlacedLawfully setup state k entry entry.nearest (first_hanging entry) (steered (point_of state.points entry.nearest) (mark_at marks k) setup.step)
+  IsPlacedLawfully-closed k entry h placed =
+      let own = subst (λ o. HasLawfulEnding setup state k (mark_at marks k) entry (ending_as entry o)) placed (closed.lawful k entry h) in
+      own.outcome
 
   -- In a closed run no node costs more than it was placed at.
   pub KeepsFirstCosts-closed : KeepsFirstCosts setup state
@@ -76,10 +65,10 @@ module _ (setup : Setup) (marks : List Point) (limit : ℕ) (state : TreeState) 
       kept zero h = omega (arith, closed.order.start_cost)
       kept (suc k) h =
           let own = record-of_present state closed.placed k h in
-          omega (arith, (HangsLawfully-closed k own.0 own.1 own.2).kept, first_cost_is k own.0 own.1)
+          omega (arith, (IsPlacedLawfully-closed k own.0 own.1 own.2).by_tree.kept, first_cost_is k own.0 own.1)
 
       bounded : (n : ℕ) → IsPresent state.points n → first_cost_of state n ≤ most_cost_of setup (node_count state.points)
       bounded zero h = omega arith
       bounded (suc k) h =
           let own = record-of_present state closed.placed k h in
-          omega (arith, (HangsLawfully-closed k own.0 own.1 own.2).bounded, first_cost_is k own.0 own.1)
+          omega (arith, (IsPlacedLawfully-closed k own.0 own.1 own.2).by_tree.bounded, first_cost_is k own.0 own.1)

@@ -2,7 +2,7 @@
 -- was skipped if there are no goals to skip by.
 use Rattle.plan_model.proofs.Words.{◌≡◌, ℕ, zero, suc, ◌+◌, ◌<◌, Bool, true, false, cond, List, [], length, Option, Some, None, subst, arith, refl, sym, ap}
 use Rattle.plan_model.proofs.Words.{◌∙◌, inl, inr, IsSome, cases_lt, true≢false, Point, Outcome, Placed, Same, Blocked, Skipped, Record, is_placed, is_same}
-use Rattle.plan_model.proofs.Words.{is_blocked, AreNumberedTo, node_count, TreeState, has_outcome, mark_at, outcome_count, IsClosed, HasLawfulOutcome}
+use Rattle.plan_model.proofs.Words.{is_blocked, AreNumberedTo, node_count, TreeState, has_outcome, mark_at, outcome_count, IsClosed, HasLawfulEnding, ending_as}
 use Rattle.plan_model.proofs.Words.{IsGoalNode, Setup}
 use Rattle.plan_model.specs.Runs.Outcomes.{is_skipped}
 use Rattle.plan_model.proofs.CountsBelow.{count-more, count-longer, count-none}
@@ -59,7 +59,7 @@ outcomes-closed setup marks limit state closed = outcomes-add_up state.record_of
 -- a lawful record is not of a skipped mark, if there are no goals to skip by
 not_skipped :
     (setup : Setup) (state : TreeState) (k : ℕ) (mark : Point) (entry : Record) (outcome : Outcome) → setup.goals ≡ []
-    → HasLawfulOutcome setup state k mark entry outcome → is_skipped outcome ≡ false
+    → HasLawfulEnding setup state k mark entry (ending_as entry outcome) → is_skipped outcome ≡ false
 not_skipped setup state k mark entry Placed none h = refl
 not_skipped setup state k mark entry (Same j) none h = refl
 not_skipped setup state k mark entry Blocked none h = refl

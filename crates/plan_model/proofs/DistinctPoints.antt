@@ -1,34 +1,10 @@
 -- No two nodes of a textbook run stand at one point: a node is placed at a free point alone, and rewiring moves none.
-use Rattle.std.proofs.Common.{
-  ◌≡◌,
-  ℕ,
-  zero,
-  suc,
-  ◌+◌,
-  ◌<◌,
-  List,
-  [],
-  ◌∷◌,
-  ◌++◌,
-  length,
-  set,
-  Option,
-  Some,
-  None,
-  refl,
-  sym,
-  ap,
-  ◌∙◌,
-  subst,
-  arith,
-  ◌⊎◌,
-  inl,
-  inr,
-}
-use Rattle.plan_model.proofs.Words.{IsSome, is_some, All, true, option_map, range_with_len, cases_order, cases_lt, get_or_append_left, get_or_past, map-set}
-use Rattle.plan_model.proofs.Words.{set-get_or, All-head, All-tail, All-weaker, filter_passes, get_or-append_seam, Point, Twig, Outcome, Placed, Same, Blocked}
-use Rattle.plan_model.proofs.Words.{Skipped, Record, ConfigurationSpace, point_at, StandsAt, IsPresent, point_of, IsFree, AreDistinct, is_within, near}
-use Rattle.plan_model.proofs.Words.{points_of, Nodes, Setup, start_alone, near_new, with_parent, RewiresOne, Rewires, Ends, HandlesAll, IsTextbookRun}
+use Rattle.plan_model.proofs.Words.{◌≡◌, ℕ, zero, suc, ◌+◌, ◌<◌, List, [], ◌∷◌, ◌++◌, length, set, Option, Some, None, refl, sym, ap, ◌∙◌, subst, arith, ◌⊎◌}
+use Rattle.plan_model.proofs.Words.{inl, inr, IsSome, is_some, All, true, option_map, range_with_len, cases_order, cases_lt, get_or_append_left, get_or_past}
+use Rattle.plan_model.proofs.Words.{length-map, map-set, set-get_or, All-head, All-tail, All-weaker, filter_passes, get_or-append_seam, Point, Twig, Record}
+use Rattle.plan_model.proofs.Words.{Ending, Steered, NewNode, SameNode, NoWay, SkippedBy, ending_of, ConfigurationSpace, point_at, StandsAt, IsPresent}
+use Rattle.plan_model.proofs.Words.{point_of, IsFree, AreDistinct, is_within, near, points_of, Nodes, Setup, start_alone, near_new, with_parent, RewiresOne}
+use Rattle.plan_model.proofs.Words.{Rewires, Ends, HandlesAll, IsTextbookRun}
 use Rattle.std.proofs.lemmas.List.{length-append}
 use Rattle.plan_model.proofs.TreeChanges.{points_of-push}
 use Rattle.plan_model.proofs.NewNodes.{StandsAt-present}
@@ -129,25 +105,44 @@ near-present_beside setup tree p parent =
 AreDistinct-same_points : (one other : List (Option Point)) → other ≡ one → AreDistinct one → AreDistinct other
 AreDistinct-same_points one other e h = subst AreDistinct (sym e) h
 
--- a mark that is not placed leaves points distinct
+-- an absent number more leaves points distinct
 AreDistinct-unplaced : (tree after : Nodes) → after ≡ tree ++ None ∷ [] → AreDistinct (points_of tree) → AreDistinct (points_of after)
 AreDistinct-unplaced tree after e h =
     AreDistinct-same_points (points_of tree ++ None ∷ []) (points_of after) (ap points_of e ∙ points_of-push tree None) (AreDistinct-absent (points_of tree) h)
 
--- and so does each mark
-pub AreDistinct-ends :
-    (setup : Setup) (tree : Nodes) (k : ℕ) (mark : Point) (outcome : Outcome) (entry : Record) (after : Nodes)
-    → Ends setup tree k mark outcome entry after → AreDistinct (points_of tree) → AreDistinct (points_of after)
-AreDistinct-ends setup tree k mark Placed entry after e h =
-    let node : Option Twig = Some (record { point = e.point; parent = entry.first_parent }) in
-    let beside = near-present_beside setup tree e.point entry.first_parent in
+-- each mark leaves the points of all nodes, and one number more
+pub points_of-ends :
+    (setup : Setup) (tree : Nodes) (k : ℕ) (mark : Point) (ending : Ending) (after : Nodes)
+    → Ends setup tree k mark ending after → (o : Option Point) × (points_of after ≡ points_of tree ++ o ∷ [])
+points_of-ends setup tree k mark (Steered m (NewNode first)) after e =
+    let node : Option Twig = Some (record { point = e.point; parent = first.parent }) in
+    let beside = near-present_beside setup tree e.point first.parent in
     let kept : points_of after ≡ points_of (tree ++ node ∷ []) =
-    points_of-rewires setup.space (tree ++ node ∷ []) (suc k) (near_new setup (points_of tree) e.point) after beside e.rewired in
-    AreDistinct-same_points (points_of tree ++ Some e.point ∷ []) (points_of after) (kept ∙ points_of-push tree node)
-    (AreDistinct-placed (points_of tree) e.point e.free h)
-AreDistinct-ends setup tree k mark (Same j) entry after e h = AreDistinct-unplaced tree after e.added h
-AreDistinct-ends setup tree k mark Blocked entry after e h = AreDistinct-unplaced tree after e.added h
-AreDistinct-ends setup tree k mark Skipped entry after e h = AreDistinct-unplaced tree after e.added h
+    points_of-rewires setup.space (tree ++ node ∷ []) (suc k) (near_new setup (points_of tree) e.point) after beside e.reaches.rewired in
+    (Some e.point, kept ∙ points_of-push tree node)
+points_of-ends setup tree k mark (Steered m (SameNode j)) after e = (None, ap points_of e.reaches.1 ∙ points_of-push tree None)
+points_of-ends setup tree k mark (Steered m NoWay) after e = (None, ap points_of e.reaches.1 ∙ points_of-push tree None)
+points_of-ends setup tree k mark (SkippedBy g) after e = (None, ap points_of e.added ∙ points_of-push tree None)
+
+pub length-ends :
+    (setup : Setup) (tree : Nodes) (k : ℕ) (mark : Point) (ending : Ending) (after : Nodes)
+    → Ends setup tree k mark ending after → length after ≡ suc (length tree)
+length-ends setup tree k mark ending after e =
+    let point : Option Twig → Option Point = option_map (λ (node : Twig). node.point) in
+    let more = points_of-ends setup tree k mark ending after e in
+    omega (arith, length-map after point, length-map tree point, ap length more.1, length-append (points_of tree) (more.0 ∷ []))
+
+-- and leaves points distinct
+pub AreDistinct-ends :
+    (setup : Setup) (tree : Nodes) (k : ℕ) (mark : Point) (ending : Ending) (after : Nodes)
+    → Ends setup tree k mark ending after → AreDistinct (points_of tree) → AreDistinct (points_of after)
+unfolding points_of-ends
+AreDistinct-ends setup tree k mark (Steered m (NewNode first)) after e h =
+    AreDistinct-same_points (points_of tree ++ Some e.point ∷ []) (points_of after) (points_of-ends setup tree k mark (Steered m (NewNode first)) after e).1
+    (AreDistinct-placed (points_of tree) e.point e.reaches.free h)
+AreDistinct-ends setup tree k mark (Steered m (SameNode j)) after e h = AreDistinct-unplaced tree after e.reaches.1 h
+AreDistinct-ends setup tree k mark (Steered m NoWay) after e h = AreDistinct-unplaced tree after e.reaches.1 h
+AreDistinct-ends setup tree k mark (SkippedBy g) after e h = AreDistinct-unplaced tree after e.added h
 
 -- the start alone has no other at its point
 pub AreDistinct-start : (start : Point) → AreDistinct (points_of (start_alone start))
@@ -167,7 +162,7 @@ AreDistinct-handles_all setup k tree [] [] after run h = AreDistinct-same_points
 AreDistinct-handles_all setup k tree [] (entry ∷ entries) after run h = absurd run
 AreDistinct-handles_all setup k tree (mark ∷ marks) [] after run h = absurd run
 AreDistinct-handles_all setup k tree (mark ∷ marks) (entry ∷ entries) after run h =
-    let mid = AreDistinct-ends setup tree k mark entry.outcome entry run.0 run.1 h in
+    let mid = AreDistinct-ends setup tree k mark (ending_of entry) run.0 run.1.ends h in
     AreDistinct-handles_all setup (k + 1) run.0 marks entries after run.2 mid
 
 -- no two nodes of a textbook run stand at one point

@@ -11,6 +11,7 @@ pub mod BestNodeLaws
 pub mod GoalPoints
 pub mod GoalBoundLaws
 pub mod DistinctPoints
+pub mod EndingLaws
 pub mod UniqueRuns
 pub mod OpenRoomMarks
 pub mod ThreeMarks

@@ -1,9 +1,9 @@
 -- The next mark of a closed run: if the tree has grown in the order law and the new record is lawful, the run with it is closed.
 use Rattle.plan_model.proofs.Words.{◌≡◌, ℕ, suc, ◌<◌, ◌≤◌, Bool, false, List, length, Some, None, arith, sym, ap, ◌∙◌, subst, inl, inr, ◌≢◌, ◌↔◌, ◌⊎◌, is_some}
-use Rattle.plan_model.proofs.Words.{range_with_len, cases_eq, cases_lt, true≢false, length-filter, Point, MOST_WORKERS, Outcome, Placed, Same, Blocked, Skipped}
-use Rattle.plan_model.proofs.Words.{Record, Clear, IsFree, IsPresent, StandsAt, point_of, node_count, steered, TreeState, GrowsInto, KeepsOrder, is_placed}
-use Rattle.plan_model.proofs.Words.{is_earlier, IsEarlier, earlier_count, IsBlockedLawfully, IsSkippedLawfully, IsSteeredLawfully, HasLawfulOutcome}
-use Rattle.plan_model.proofs.Words.{IsLawfulRecord, mark_at, IsClosed, Setup, MayBeCheaper, SteersTo, turns_of}
+use Rattle.plan_model.proofs.Words.{range_with_len, cases_eq, cases_lt, true≢false, length-filter, Point, MOST_WORKERS, Outcome, Placed, Record, Reached}
+use Rattle.plan_model.proofs.Words.{SameNode, NoWay, ending_as, Clear, IsPresent, StandsAt, point_of, node_count, steered, TreeState, GrowsInto, KeepsOrder}
+use Rattle.plan_model.proofs.Words.{is_placed, is_earlier, IsEarlier, earlier_count, IsSkippedLawfully, IsSteeredLawfully, ReachesLawfully, HasLawfulEnding}
+use Rattle.plan_model.proofs.Words.{IsLawfulRecord, mark_at, IsClosed, Setup, MayBeCheaper, SteersTo, EndsBlocked, turns_of}
 use Rattle.plan_model.proofs.ClosedLaws.{KeepsFirstCosts-closed}
 use Rattle.plan_model.proofs.GoalNodes.{IsGoalNode-before}
 use Rattle.plan_model.proofs.NodeCounts.{count-le_node_count}
@@ -15,18 +15,6 @@ use Rattle.plan_model.proofs.PlacedNodes.{record-of_present, present-of_record, 
 use Rattle.plan_model.proofs.RecordLaws.{IsNotAbove-grows, IsSkippedLawfully-grows, IsLawfulRecord-grows}
 use Rattle.plan_model.proofs.NextRecords.{RecordsMark, new_or_recorded, AreRecordedBelow-next}
 use Rattle.plan_model.proofs.WorkerTurns.{turn-below, AreTurns-next}
-
--- No node stands at p, and the segment to it from the nearest node is not clear.
-pub record IsBlockedAt (setup : Setup) (state : TreeState) (entry : Record) (p : Point) : Type 0 where
-  pub free : IsFree state.points p
-  pub blocked : ¬ Clear setup.space (point_of state.points entry.nearest) p
-
--- what the outcome says of a mark that is steered to p and not placed
-abbrev pub EndsUnplaced : Setup → TreeState → Record → Point → Outcome → Type 0
-EndsUnplaced setup state entry p Placed = ⊥
-EndsUnplaced setup state entry p (Same j) = StandsAt state.points j p
-EndsUnplaced setup state entry p Blocked = IsBlockedAt setup state entry p
-EndsUnplaced setup state entry p Skipped = ⊥
 
 -- What the end of mark k leaves: the tree has grown in the order law, and the new record is lawful. If it was placed its node is
 -- there, and no other node is new.
@@ -154,12 +142,11 @@ module _ (setup : Setup) (marks : List Point) (k : ℕ) (before : TreeState) (cl
             count-le_node_count before.points early (length after.points) early-present,
           )
 
-      -- A mark is steered lawfully if a path over it might be cheaper, and it was steered to the point at which it ends.
+      -- A mark is steered lawfully if a path over it might be cheaper, and what was reached at the point to which it steers is what it says.
       pub IsSteeredLawfully-steers :
-          (mark p : Point) (EndsAt : Point → Type 0) → MayBeCheaper setup before.cost before.points mark
-          → SteersTo setup before.points mark entry.nearest p → EndsAt p → IsSteeredLawfully setup after mark entry EndsAt
-      IsSteeredLawfully-steers mark p EndsAt cheaper steers h =
-          let m : ℕ = entry.nearest in
+          (mark p : Point) (m : ℕ) (reached : Reached) → MayBeCheaper setup before.cost before.points mark → SteersTo setup before.points mark m p
+          → ReachesLawfully setup after k entry m reached p → IsSteeredLawfully setup after k mark entry m reached
+      IsSteeredLawfully-steers mark p m reached cheaper steers h =
           let same = point_of-grows before after grows m steers.nearest.member in
           let point : p ≡ steered (point_of after.points m) mark setup.step =
           steers.reached ∙ ap (λ a. steered a mark setup.step) (sym same) in
@@ -172,7 +159,7 @@ module _ (setup : Setup) (marks : List Point) (k : ℕ) (before : TreeState) (cl
             nearest = λ i early.
                 let here = early-present i early in
                 IsNotAbove-grows before after grows mark m i steers.nearest.member here (steers.nearest.not_above i here);
-            outcome = subst EndsAt point h;
+            outcome = subst (ReachesLawfully setup after k entry m reached) point h;
           }
 
     -- ---- marks that are not placed
@@ -187,48 +174,39 @@ module _ (setup : Setup) (marks : List Point) (k : ℕ) (before : TreeState) (cl
       records_unplaced : RecordsMark before.record_of after.record_of k entry
       records_unplaced = record { absent = adds.absent; recorded = adds.recorded; others = adds.records }
 
-      ends_unplaced : is_placed entry.outcome ≡ false → IsLawfulRecord setup after k mark entry → EndsLawfully setup before after k mark entry
-      ends_unplaced unplaced lawful = record {
+      -- A mark that is not placed ends lawfully if its end is what it says.
+      pub EndsLawfully-unplaced :
+          (outcome : Outcome) → entry.outcome ≡ outcome → is_placed outcome ≡ false → HasLawfulEnding setup after k mark entry (ending_as entry outcome)
+          → EndsLawfully setup before after k mark entry
+      EndsLawfully-unplaced outcome e unplaced lawful = record {
         records = records_unplaced;
         order = KeepsOrder-lowered setup before after lowers closed.order;
         grows = grows_unplaced;
-        lawful = lawful;
+        lawful = subst (λ o. HasLawfulEnding setup after k mark entry (ending_as entry o)) (sym e) lawful;
         others = λ j apart present. ap is_some (sym (lowers.still.points (suc j))) ∙ present;
         own = (
           (λ present. absurd (node-absent (ap is_some (sym (lowers.still.points (suc k))) ∙ present))),
-          (λ placed. absurd (true≢false (sym (ap is_placed placed) ∙ unplaced))),
+          (λ placed. absurd (true≢false (sym (ap is_placed (sym e ∙ placed)) ∙ unplaced))),
         );
       }
 
-      -- A mark that is skipped ends lawfully if a goal node costs no more than its bound.
-      pub EndsLawfully-skipped :
-          entry.outcome ≡ Skipped → IsSkippedLawfully setup before mark entry → EndsLawfully setup before after k mark entry
-      EndsLawfully-skipped skipped h =
-          ends_unplaced (ap is_placed skipped)
-          (subst (HasLawfulOutcome setup after k mark entry) (sym skipped) (IsSkippedLawfully-grows setup before after grows_unplaced entry mark h))
+      -- a mark is skipped lawfully if a goal node costs no more than its bound
+      pub skipped_lawfully : (g : ℕ) → IsSkippedLawfully setup before mark g → IsSkippedLawfully setup after mark g
+      skipped_lawfully g h = IsSkippedLawfully-grows setup before after grows_unplaced mark g h
 
-      module _ (p : Point) (cheaper : MayBeCheaper setup before.cost before.points mark) (steers : SteersTo setup before.points mark entry.nearest p) where
-        -- what is blocked is so lawfully
-        blocked_lawfully : IsBlockedAt setup before entry p → IsBlockedLawfully setup after entry p
-        blocked_lawfully h = record {
+      module _ (p : Point) (m : ℕ) (cheaper : MayBeCheaper setup before.cost before.points mark) (steers : SteersTo setup before.points mark m p) where
+        -- it ends lawfully where a node stands,
+        pub same_lawfully : (j : ℕ) → StandsAt before.points j p → IsSteeredLawfully setup after k mark entry m (SameNode j)
+        same_lawfully j h =
+            IsSteeredLawfully-steers records_unplaced grows_unplaced mark p m (SameNode j) cheaper steers (grows_unplaced.nodes j p h)
+
+        -- and where it is blocked
+        pub blocked_lawfully : EndsBlocked setup.space before.points m p → IsSteeredLawfully setup after k mark entry m NoWay
+        blocked_lawfully h = IsSteeredLawfully-steers records_unplaced grows_unplaced mark p m NoWay cheaper steers (record {
           blocked = λ clear.
-              let same = point_of-grows before after grows_unplaced entry.nearest steers.nearest.member in
+              let same = point_of-grows before after grows_unplaced m steers.nearest.member in
               h.blocked (subst (λ a. Clear setup.space a p) same clear);
           free = λ i early stands.
               let here = early-present records_unplaced grows_unplaced i early in
               h.free i (StandsAt-before before after grows_unplaced i p here stands);
-        }
-
-        steered_lawfully : (EndsAt : Point → Type 0) → EndsAt p → IsSteeredLawfully setup after mark entry EndsAt
-        steered_lawfully EndsAt h = IsSteeredLawfully-steers records_unplaced grows_unplaced mark p EndsAt cheaper steers h
-
-        outcome_unplaced : (outcome : Outcome) → EndsUnplaced setup before entry p outcome → HasLawfulOutcome setup after k mark entry outcome
-        outcome_unplaced Placed h = absurd h
-        outcome_unplaced (Same j) h = steered_lawfully (StandsAt after.points j) (grows_unplaced.nodes j p h)
-        outcome_unplaced Blocked h = steered_lawfully (IsBlockedLawfully setup after entry) (blocked_lawfully h)
-        outcome_unplaced Skipped h = absurd h
-
-        -- A mark that is steered to and not placed ends lawfully if its outcome is what it says.
-        pub EndsLawfully-unplaced :
-            is_placed entry.outcome ≡ false → EndsUnplaced setup before entry p entry.outcome → EndsLawfully setup before after k mark entry
-        EndsLawfully-unplaced unplaced h = ends_unplaced unplaced (outcome_unplaced entry.outcome h)
+        })

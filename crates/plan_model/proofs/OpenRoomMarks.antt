@@ -1,8 +1,8 @@
 -- Marks in the open room of the worked runs, which are placed at themselves, and the first mark of both runs.
-use Rattle.plan_model.proofs.Words.{◌≡◌, ℕ, zero, suc, List, [], ◌∷◌, ◌++◌, Option, Some, refl, sym, ap, ◌∙◌, subst, arith, inr, All, Contains, unwrap_or}
-use Rattle.plan_model.proofs.Words.{All-cons, All-nil, All-contains, Goal, Point, empty_room, IsInRoom, steered, class_of, point_of, IsFree, IsPresent}
-use Rattle.plan_model.proofs.Words.{node_count, IsNotAbove, distance_to, IsNearest, points_of, sum_of, Nodes, MayBeCheaper, near_new, cost_through, Rewires}
-use Rattle.plan_model.proofs.Words.{EndsPlaced, placed_record, at, open_setup, open_setup_to, node}
+use Rattle.plan_model.proofs.Words.{◌≡◌, ℕ, zero, suc, List, [], ◌∷◌, ◌++◌, Option, Some, refl, sym, ap, subst, arith, inr, All, Contains, unwrap_or, All-cons}
+use Rattle.plan_model.proofs.Words.{All-nil, All-contains, Goal, Point, empty_room, IsInRoom, steered, class_of, point_of, IsFree, IsPresent, node_count}
+use Rattle.plan_model.proofs.Words.{IsNotAbove, distance_to, IsNearest, points_of, sum_of, Nodes, MayBeCheaper, near_new, cost_through, Rewires, Handles}
+use Rattle.plan_model.proofs.Words.{placed_record, at, open_setup, open_setup_to, node}
 use Rattle.plan_model.specs.Geometry.Roots.{root_ceiling}
 use Rattle.plan_model.proofs.LeastPairLaws.{IsNotAbove-refl}
 use Rattle.plan_model.proofs.RootLaws.{root_ceiling-from_squares}
@@ -27,31 +27,38 @@ pub record IsPlaceable (goals : List Goal) (tree : Nodes) (k m : ℕ) (p : Point
   pub rewired : Rewires (empty_room (at 100 100)) (tree ++ node p f ∷ []) (suc k) near after
 
 -- such a mark is placed under node f, at that cost and class
-pub EndsPlaced-placeable :
+pub Handles-placeable :
     (goals : List Goal) (tree : Nodes) (k m : ℕ) (p : Point) (f cost class : ℕ) (near : List ℕ) (after : Nodes)
     → IsPlaceable goals tree k m p f cost class near after
-    → EndsPlaced (open_setup_to goals) tree k p (placed_record k m f cost class) after
-EndsPlaced-placeable goals tree k m p f cost class near after h =
+    → Handles (open_setup_to goals) tree k p (placed_record k m f cost class) after
+Handles-placeable goals tree k m p f cost class near after h =
     let points : List (Option Point) = points_of tree in
     let P : List ℕ → Type 0 = λ ns. Contains (m ∷ ns) f in
     let Q : List ℕ → Type 0 = λ ns. All (IsNotAbove (cost_through tree p) f) (m ∷ ns) in
     let R : List ℕ → Type 0 = λ ns. Rewires (empty_room (at 100 100)) (tree ++ node p f ∷ []) (suc k) ns after in
     let best = subst Q (sym h.are_near) h.best in
     record {
-      cheaper = h.cheaper;
-      point = p;
-      steers = record { nearest = h.nearest; reached = h.reached };
-      free = h.free;
-      clear = Clear-empty_room (at 100 100) (point_of points m) p h.nearest_inside h.inside;
-      parent = record {
-        member = record {
-          among = subst P (sym h.are_near) h.parent;
-          clear = Clear-empty_room (at 100 100) (point_of points f) p h.parent_inside h.inside;
+      worker = refl;
+      turn = refl;
+      ends = record {
+        cheaper = h.cheaper;
+        point = p;
+        steers = record { nearest = h.nearest; reached = h.reached };
+        reaches = record {
+          free = h.free;
+          clear = Clear-empty_room (at 100 100) (point_of points m) p h.nearest_inside h.inside;
+          parent = record {
+            member = record {
+              among = subst P (sym h.are_near) h.parent;
+              clear = Clear-empty_room (at 100 100) (point_of points f) p h.parent_inside h.inside;
+            };
+            not_above = λ i own. All-contains (IsNotAbove (cost_through tree p) f) (m ∷ near_new open_setup points p) i best own.among;
+          };
+          cost = sym h.costs;
+          of_class = sym h.of_class;
+          rewired = subst R (sym h.are_near) h.rewired;
         };
-        not_above = λ i own. All-contains (IsNotAbove (cost_through tree p) f) (m ∷ near_new open_setup points p) i best own.among;
       };
-      recorded = ap (λ c. placed_record k m f c class) (sym h.costs) ∙ ap (placed_record k m f (cost_through tree p f)) (sym h.of_class);
-      rewired = subst R (sym h.are_near) h.rewired;
     }
 
 -- two nodes at one point have the same x
@@ -123,9 +130,9 @@ first_rewires = (two_nodes, inr ((λ c. absurd (omega (arith, c.cheaper, back_to
 -- the first mark is placed under the start, if the start is in no goal by which it is skipped
 pub first_mark :
     (goals : List Goal) → MayBeCheaper (open_setup_to goals) (sum_of one_node) (points_of one_node) (at 0 50)
-    → EndsPlaced (open_setup_to goals) one_node 0 (at 0 50) (placed_record 0 0 0 12800 1) two_nodes
+    → Handles (open_setup_to goals) one_node 0 (at 0 50) (placed_record 0 0 0 12800 1) two_nodes
 unfolding one_node two_nodes
-first_mark goals cheaper = EndsPlaced-placeable goals one_node 0 0 (at 0 50) 0 12800 1 (0 ∷ []) two_nodes (record {
+first_mark goals cheaper = Handles-placeable goals one_node 0 0 (at 0 50) 0 12800 1 (0 ∷ []) two_nodes (record {
   cheaper = cheaper;
   nearest = record { member = refl; not_above = first_is_near };
   reached = refl;

@@ -1,9 +1,9 @@
 -- A mark that is placed by all that a closed run holds, and its record, which is lawful in the tree with the new node.
 use Rattle.plan_model.proofs.Words.{◌≡◌, ℕ, suc, ◌+◌, ◌≤◌, List, Option, arith, refl, sym, ap, ◌∙◌, subst, ◌≢◌, Contains, IsTrue, is_some, Point, Placed}
-use Rattle.plan_model.proofs.Words.{Record, Clear, cost_of, IsFirstLeast, is_within, cost_through_by, point_at, StandsAt, IsPresent, point_of, node_count}
-use Rattle.plan_model.proofs.Words.{class_of, radius_of, radius_of_class, TreeState, recorded_or, first_cost_of, GrowsInto, IsAllowedEdge, Hangs, KeepsOrder}
-use Rattle.plan_model.proofs.Words.{KeepsFirstCosts, earlier_count, IsNeighbour, first_cost_through, IsChosenLawfully, HangsLawfully, IsPlacedLawfully}
-use Rattle.plan_model.proofs.Words.{IsSteeredLawfully, HasLawfulOutcome, IsClosed, Setup, MayBeCheaper, near_new, IsCandidate, SteersTo}
+use Rattle.plan_model.proofs.Words.{Record, NewNode, ending_as, first_hanging, Clear, cost_of, IsFirstLeast, is_within, cost_through_by, point_at, StandsAt}
+use Rattle.plan_model.proofs.Words.{IsPresent, point_of, node_count, class_of, radius_of, radius_of_class, TreeState, recorded_or, first_cost_of, GrowsInto}
+use Rattle.plan_model.proofs.Words.{IsAllowedEdge, Hangs, KeepsOrder, KeepsFirstCosts, earlier_count, IsNeighbour, first_cost_through, IsChosenLawfully}
+use Rattle.plan_model.proofs.Words.{HangsLawfully, IsSteeredLawfully, HasLawfulEnding, IsClosed, Setup, MayBeCheaper, near_new, IsCandidate, SteersTo}
 use Rattle.plan_model.proofs.NewNodes.{IsPresent-stands}
 use Rattle.plan_model.proofs.OrderLaws.{Hangs-grows}
 use Rattle.plan_model.proofs.TreeStateLaws.{point_at-grows, point_of-grows, node_count-grows}
@@ -65,7 +65,7 @@ module _
   }
 
   module _ (leaves : LeavesPlaced setup before after k entry p) where
-    early : (i : ℕ) → IsNeighbour setup after entry p i → IsPresent before.points i
+    early : (i : ℕ) → IsNeighbour setup after entry entry.class p i → IsPresent before.points i
     early i h = early-present setup marks k before closed after entry leaves.records leaves.grows i h.earlier
 
     same_point : (i : ℕ) → IsPresent before.points i → point_of after.points i ≡ point_of before.points i
@@ -83,7 +83,7 @@ module _
         let kept = (KeepsFirstCosts-closed setup marks k before closed).kept i h in
         omega (arith, chooses.cost, (chooses.parent.not_above i candidate).least, kept, leaves.grows.first_costs i h, same_edge i h)
 
-    neighbour_near : (i : ℕ) → IsNeighbour setup after entry p i → IsPresent before.points i → Contains (near_new setup before.points p) i
+    neighbour_near : (i : ℕ) → IsNeighbour setup after entry entry.class p i → IsPresent before.points i → Contains (near_new setup before.points p) i
     neighbour_near i h here =
         let within : ℕ → Option Point → Type 0 = λ c o. IsTrue (is_within p (radius_of_class setup.step setup.gamma c) o) in
         let of_class : within (class_of (node_count before.points)) (point_at after.points i) =
@@ -92,10 +92,10 @@ module _
         subst (within (class_of (node_count before.points))) (point_at-grows before after leaves.grows i here) of_class in
         Contains-near before.points p (radius_of setup.step setup.gamma (node_count before.points)) i was
 
-    neighbour_clear : (i : ℕ) → IsNeighbour setup after entry p i → IsPresent before.points i → Clear setup.space (point_of before.points i) p
+    neighbour_clear : (i : ℕ) → IsNeighbour setup after entry entry.class p i → IsPresent before.points i → Clear setup.space (point_of before.points i) p
     neighbour_clear i h here = subst (λ a. Clear setup.space a p) (same_point i here) h.clear
 
-    chosen_lawfully : IsChosenLawfully setup after entry p (node_count after.points)
+    chosen_lawfully : IsChosenLawfully setup after entry entry.nearest (first_hanging entry) p (node_count after.points)
     chosen_lawfully = record {
       clear = subst (λ a. Clear setup.space a p) (sym (same_point entry.nearest chooses.steers.nearest.member)) chooses.clear;
       of_class = record {
@@ -129,7 +129,7 @@ module _
     own_first_cost : first_cost_of after (suc k) ≡ entry.first_cost
     own_first_cost = ap (recorded_or (after.written_cost (suc k))) leaves.records.recorded
 
-    hangs_lawfully : HangsLawfully setup after k entry p
+    hangs_lawfully : HangsLawfully setup after k entry.nearest (first_hanging entry) p
     hangs_lawfully =
         let m : ℕ = entry.nearest in
         let m_here : IsPresent before.points m = chooses.steers.nearest.member in
@@ -137,7 +137,7 @@ module _
         let own = IsPresent-stands after.points (suc k) p leaves.stands in
         record {
           stands = leaves.stands;
-          first = Hangs-grows setup before after leaves.grows (suc k) p f entry.first_cost parent-hangs;
+          hangs = Hangs-grows setup before after leaves.grows (suc k) p f entry.first_cost parent-hangs;
           nearest_other = not_new m m_here;
           below_first = below_candidate f f_here chooses.parent.member;
           below_nearest = below_candidate m m_here (record { among = (0, omega arith, refl); clear = chooses.clear });
@@ -147,10 +147,10 @@ module _
 
     -- ---- the mark
 
-    placed_lawfully : IsSteeredLawfully setup after mark entry (IsPlacedLawfully setup after k entry)
+    placed_lawfully : IsSteeredLawfully setup after k mark entry entry.nearest (NewNode (first_hanging entry))
     placed_lawfully =
-        IsSteeredLawfully-steers setup marks k before closed after entry leaves.records leaves.grows mark p
-        (IsPlacedLawfully setup after k entry) chooses.cheaper chooses.steers (record { by_worker = chosen_lawfully; by_tree = hangs_lawfully })
+        IsSteeredLawfully-steers setup marks k before closed after entry leaves.records leaves.grows mark p entry.nearest
+        (NewNode (first_hanging entry)) chooses.cheaper chooses.steers (record { by_worker = chosen_lawfully; by_tree = hangs_lawfully })
 
     -- A placed mark ends lawfully.
     pub EndsLawfully-placed : entry.outcome ≡ Placed → EndsLawfully setup before after k mark entry
@@ -158,7 +158,7 @@ module _
       records = leaves.records;
       order = leaves.order;
       grows = leaves.grows;
-      lawful = subst (HasLawfulOutcome setup after k mark entry) (sym placed) placed_lawfully;
+      lawful = subst (λ o. HasLawfulEnding setup after k mark entry (ending_as entry o)) (sym placed) placed_lawfully;
       others = λ j apart h. ap is_some (sym (leaves.elsewhere (suc j) (λ e. apart (omega (arith, e))))) ∙ h;
       own = ((λ h. placed), (λ e. IsPresent-stands after.points (suc k) p leaves.stands));
     }

@@ -1,21 +1,22 @@
 -- One mark of a textbook run: a run that was closed before the mark is closed with it.
 use Rattle.plan_model.proofs.Words.{◌≡◌, ℕ, suc, ◌+◌, ◌<◌, ◌≤◌, true, false, List, [], ◌∷◌, ◌++◌, length, get_or, Some, None, arith, refl, sym, ap, ◌∙◌, subst}
-use Rattle.plan_model.proofs.Words.{inl, inr, All, Contains, option_map, slice_get, length-map, All-weaker, All-contains, slice_get-get_or, Point, MOST_WORKERS}
-use Rattle.plan_model.proofs.Words.{Outcome, Placed, Same, Blocked, Skipped, Record, Twig, Clear, cost_of, squared_distance, point_at, point_of, points_of}
-use Rattle.plan_model.proofs.Words.{sum_of, TreeState, GrowsInto, state_of, KeepsOrder, is_placed, mark_at, IsClosed, Nodes, Setup, MayBeCheaper, near_new}
-use Rattle.plan_model.proofs.Words.{SteersTo, EndsPlaced, EndsSkipped, Ends, is_of_worker, turns_of}
+use Rattle.plan_model.proofs.Words.{inl, inr, All, Contains, slice_get, All-weaker, All-contains, slice_get-get_or, Point, MOST_WORKERS}
+use Rattle.plan_model.proofs.Words.{Outcome, Placed, Same, Blocked, Skipped, Record, NewNode, ending_as, ending_of, first_hanging, Clear, cost_of}
+use Rattle.plan_model.proofs.Words.{squared_distance, point_at, HasLawfulEnding, point_of, points_of, sum_of, TreeState, GrowsInto, state_of, KeepsOrder}
+use Rattle.plan_model.proofs.Words.{is_placed, mark_at, IsClosed, Nodes, Setup, near_new, EndsSteered, Ends, Handles, is_of_worker, turns_of}
 use Rattle.std.proofs.Common.{length-append}
 use Rattle.std.proofs.lemmas.Bool.{eq-eqb}
 use Rattle.plan_model.proofs.CostLaws.{cost_of-swap}
 use Rattle.plan_model.proofs.SegmentLaws.{Clear-back}
 use Rattle.plan_model.proofs.CountsBelow.{count-all}
+use Rattle.plan_model.proofs.DistinctPoints.{length-ends}
 use Rattle.plan_model.proofs.NewNodes.{IsPresent-stands, point_of-stands}
 use Rattle.plan_model.proofs.TreeStateLaws.{IsPresent-grows, point_of-grows, GrowsInto-trans}
 use Rattle.plan_model.proofs.AddedNodes.{AddsNode, GrowsInto-adds, KeepsOrder-adds, KeepsFirstCosts-adds}
 use Rattle.plan_model.proofs.ClosedLaws.{KeepsFirstCosts-closed}
 use Rattle.plan_model.proofs.NearNodes.{squared_distance-swap, IsReachable, near_new-reachable}
 use Rattle.plan_model.proofs.NextRecords.{new_or_recorded}
-use Rattle.plan_model.proofs.NextMarks.{EndsLawfully, EndsUnplaced, IsClosed-next, EndsLawfully-unplaced, EndsLawfully-skipped}
+use Rattle.plan_model.proofs.NextMarks.{EndsLawfully, IsClosed-next, EndsLawfully-unplaced, same_lawfully, blocked_lawfully, skipped_lawfully}
 use Rattle.plan_model.proofs.PlacedMarks.{ChoosesParent, LeavesPlaced, parent-reachable, parent-allowed, EndsLawfully-placed}
 use Rattle.plan_model.proofs.TextbookStates.{RecordsNext, RecordsMark-push, AddsRecord-unplaced, PlacesNode, sum-placed, AddsNode-placed}
 use Rattle.plan_model.proofs.TextbookRewiring.{MayRewire, IsReached, Relaxes, Relaxes-all, AreReached-all}
@@ -84,35 +85,21 @@ module _
 
   -- A mark that is not placed ends in its turn.
   EndsInTurn-unplaced :
-      (mark p : Point) (outcome : Outcome) → MayBeCheaper setup (sum_of tree) (points_of tree) mark
-      → SteersTo setup (points_of tree) mark entry.nearest p → after ≡ tree ++ None ∷ [] → entry.worker ≡ 0 → entry.turn ≡ k
-      → entry.outcome ≡ outcome → is_placed outcome ≡ false → EndsUnplaced setup before_mark entry p outcome
+      (mark : Point) (outcome : Outcome) → Handles setup tree k mark entry after → after ≡ tree ++ None ∷ [] → entry.outcome ≡ outcome
+      → is_placed outcome ≡ false → HasLawfulEnding setup after_mark k mark entry (ending_as entry outcome)
       → EndsInTurn setup k tree records mark entry after
-  EndsInTurn-unplaced mark p outcome cheaper steers added worker turn e unplaced h = record {
-    nodes = omega (arith, ap length added, length-append tree (None ∷ []), so_far.next.nodes);
-    worker = worker;
-    turn = turn;
+  EndsInTurn-unplaced mark outcome handled added e unplaced lawful = record {
+    nodes = omega (arith, length-ends setup tree k mark (ending_of entry) after handled.ends, so_far.next.nodes);
+    worker = handled.worker;
+    turn = handled.turn;
     lawfully =
         EndsLawfully-unplaced setup marks k before_mark so_far.closed after_mark entry mark
-        (AddsRecord-unplaced tree records k entry so_far.next after added) p cheaper steers (ap is_placed e ∙ unplaced)
-        (subst (EndsUnplaced setup before_mark entry p) (sym e) h);
-  }
-
-  -- A skipped mark ends in its turn.
-  EndsInTurn-skipped : (mark : Point) → EndsSkipped setup tree k mark entry after → EndsInTurn setup k tree records mark entry after
-  EndsInTurn-skipped mark ends = record {
-    nodes = omega (arith, ap length ends.added, length-append tree (None ∷ []), so_far.next.nodes);
-    worker = ap (λ r. r.worker) ends.recorded;
-    turn = ap (λ r. r.turn) ends.recorded;
-    lawfully =
-        EndsLawfully-skipped setup marks k before_mark so_far.closed after_mark entry mark
-        (AddsRecord-unplaced tree records k entry so_far.next after ends.added) (ap (λ r. r.outcome) ends.recorded)
-        (record { goal = ends.best.member; within = ends.within });
+        (AddsRecord-unplaced tree records k entry so_far.next after added) outcome e unplaced lawful;
   }
 
   -- ---- placed marks
 
-  module _ (mark : Point) (ends : EndsPlaced setup tree k mark entry after) where
+  module _ (mark : Point) (ends : EndsSteered setup tree k mark entry.nearest (NewNode (first_hanging entry)) after) where
     abbrev p : Point
     p = ends.point
 
@@ -129,17 +116,17 @@ module _
     chooses = record {
       cheaper = ends.cheaper;
       steers = ends.steers;
-      clear = ends.clear;
-      parent = ends.parent;
-      cost = ap (λ r. r.first_cost) ends.recorded;
-      of_class = ap (λ r. r.class) ends.recorded;
+      clear = ends.reaches.clear;
+      parent = ends.reaches.parent;
+      cost = ends.reaches.cost;
+      of_class = ends.reaches.of_class;
     }
 
     -- ---- the new node
 
     places : PlacesNode setup tree k f p entry
     places = record {
-      free = ends.free;
+      free = ends.reaches.free;
       parent = (parent-reachable setup marks k before_mark after_mark mark entry p so_far.closed chooses).present;
       edge = parent-allowed setup marks k before_mark after_mark mark entry p so_far.closed chooses;
       cost = chooses.cost;
@@ -184,10 +171,10 @@ module _
         All-weaker (IsReachable (points_of tree) p setup.step) (MayRewire setup (points_of with_node) (suc k)) may_rewire near_nodes near_reachable
 
     relaxes : Relaxes setup with_node after (records ++ entry ∷ [])
-    relaxes = Relaxes-all setup with_node (records ++ entry ∷ []) (suc k) near_nodes after order_with all_may_rewire ends.rewired
+    relaxes = Relaxes-all setup with_node (records ++ entry ∷ []) (suc k) near_nodes after order_with all_may_rewire ends.reaches.rewired
 
     all_reached : All (IsReached setup (points_of with_node) (sum_of after) (sum_of with_node (suc k)) (suc k)) near_nodes
-    all_reached = AreReached-all setup with_node (records ++ entry ∷ []) (suc k) near_nodes after order_with all_may_rewire ends.rewired
+    all_reached = AreReached-all setup with_node (records ++ entry ∷ []) (suc k) near_nodes after order_with all_may_rewire ends.reaches.rewired
 
     -- no near node with a clear edge is dearer than by way of the new one
     reached : (i : ℕ) → Contains near_nodes i → Clear setup.space (point_of (points_of tree) i) p
@@ -219,36 +206,38 @@ module _
       reached = reached;
     }
 
-    same_length : length after ≡ length with_node
-    same_length =
-        sym (length-map after (option_map (λ (node : Twig). node.point))) ∙ ap length relaxes.points
-        ∙ length-map with_node (option_map (λ (node : Twig). node.point))
-
     -- A placed mark ends in its turn.
-    EndsInTurn-placed : EndsInTurn setup k tree records mark entry after
-    EndsInTurn-placed = record {
-      nodes = omega (arith, same_length, length-append tree (Some (record { point = ends.point; parent = entry.first_parent }) ∷ []), so_far.next.nodes);
-      worker = ap (λ r. r.worker) ends.recorded;
-      turn = ap (λ r. r.turn) ends.recorded;
-      lawfully =
-          EndsLawfully-placed setup marks k before_mark after_mark mark entry p so_far.closed chooses leaves (ap (λ r. r.outcome) ends.recorded);
+    EndsInTurn-placed : Handles setup tree k mark entry after → entry.outcome ≡ Placed → EndsInTurn setup k tree records mark entry after
+    EndsInTurn-placed handled placed = record {
+      nodes = omega (arith, length-ends setup tree k mark (ending_of entry) after handled.ends, so_far.next.nodes);
+      worker = handled.worker;
+      turn = handled.turn;
+      lawfully = EndsLawfully-placed setup marks k before_mark after_mark mark entry p so_far.closed chooses leaves placed;
     }
 
   -- ---- each mark
 
   -- Each mark ends in its turn.
-  EndsInTurn-textbook : (mark : Point) (outcome : Outcome) → Ends setup tree k mark outcome entry after → EndsInTurn setup k tree records mark entry after
-  EndsInTurn-textbook mark Placed ends = EndsInTurn-placed mark ends
-  EndsInTurn-textbook mark (Same j) ends =
-      EndsInTurn-unplaced mark ends.point (Same j) ends.cheaper ends.steers ends.added (ap (λ r. r.worker) ends.recorded)
-      (ap (λ r. r.turn) ends.recorded) (ap (λ r. r.outcome) ends.recorded) refl ends.stands
-  EndsInTurn-textbook mark Blocked ends =
-      EndsInTurn-unplaced mark ends.point Blocked ends.cheaper ends.steers ends.added (ap (λ r. r.worker) ends.recorded)
-      (ap (λ r. r.turn) ends.recorded) (ap (λ r. r.outcome) ends.recorded) refl (record { free = ends.free; blocked = ends.blocked })
-  EndsInTurn-textbook mark Skipped ends = EndsInTurn-skipped mark ends
+  EndsInTurn-textbook :
+      (mark : Point) → Handles setup tree k mark entry after → (outcome : Outcome) → entry.outcome ≡ outcome
+      → Ends setup tree k mark (ending_as entry outcome) after → EndsInTurn setup k tree records mark entry after
+  EndsInTurn-textbook mark handled Placed e ends = EndsInTurn-placed mark ends handled e
+  EndsInTurn-textbook mark handled (Same j) e ends =
+      EndsInTurn-unplaced mark (Same j) handled ends.reaches.1 e refl
+      (same_lawfully setup marks k before_mark so_far.closed after_mark entry mark
+      (AddsRecord-unplaced tree records k entry so_far.next after ends.reaches.1) ends.point entry.nearest ends.cheaper ends.steers j ends.reaches.0)
+  EndsInTurn-textbook mark handled Blocked e ends =
+      EndsInTurn-unplaced mark Blocked handled ends.reaches.1 e refl
+      (blocked_lawfully setup marks k before_mark so_far.closed after_mark entry mark
+      (AddsRecord-unplaced tree records k entry so_far.next after ends.reaches.1) ends.point entry.nearest ends.cheaper ends.steers ends.reaches.0)
+  EndsInTurn-textbook mark handled Skipped e ends =
+      EndsInTurn-unplaced mark Skipped handled ends.added e refl
+      (skipped_lawfully setup marks k before_mark so_far.closed after_mark entry mark
+      (AddsRecord-unplaced tree records k entry so_far.next after ends.added) entry.nearest (record { goal = ends.best.member; within = ends.within }))
 
   -- So the run comes to the next mark.
   pub IsTextbookSoFar-ends :
-      (mark : Point) → k < length marks → mark ≡ mark_at marks k → Ends setup tree k mark entry.outcome entry after
+      (mark : Point) → k < length marks → mark ≡ mark_at marks k → Handles setup tree k mark entry after
       → IsTextbookSoFar setup marks (suc k) after (records ++ entry ∷ [])
-  IsTextbookSoFar-ends mark below at ends = IsTextbookSoFar-more mark below at (EndsInTurn-textbook mark entry.outcome ends)
+  IsTextbookSoFar-ends mark below at handled =
+      IsTextbookSoFar-more mark below at (EndsInTurn-textbook mark handled entry.outcome refl handled.ends)

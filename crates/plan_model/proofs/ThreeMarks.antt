@@ -1,10 +1,10 @@
 -- The second and the third mark of the worked runs, by where node 2 stands, and the run of all three marks.
 use Rattle.plan_model.proofs.Words.{◌≡◌, ℕ, zero, suc, ◌<◌, List, [], ◌∷◌, refl, arith, inr, All, All-cons, All-nil, Goal, Point, Record, empty_room, IsInRoom}
 use Rattle.plan_model.proofs.Words.{squared_distance, IsFree, IsPresent, IsNotAbove, distance_to, steered, points_of, sum_of, Nodes, MayBeCheaper, near_new}
-use Rattle.plan_model.proofs.Words.{cost_through, Rewires, EndsPlaced, HandlesAll, placed_record, IsTextbookRun, at, open_setup, open_setup_to, node}
+use Rattle.plan_model.proofs.Words.{cost_through, Rewires, Handles, HandlesAll, placed_record, IsTextbookRun, at, open_setup, open_setup_to, node}
 use Rattle.plan_model.proofs.GoalNodes.{no_goal_node}
 use Rattle.plan_model.proofs.LeastPairLaws.{IsNotAbove-refl, IsNotAbove-lesser}
-use Rattle.plan_model.proofs.OpenRoomMarks.{EndsPlaced-placeable, same_x, same_y, cost_2500, cost_2000, one_node, two_nodes, first_mark}
+use Rattle.plan_model.proofs.OpenRoomMarks.{Handles-placeable, same_x, same_y, cost_2500, cost_2000, one_node, two_nodes, first_mark}
 
 -- the tree after the second mark, which is at p
 unfoldable pub three_nodes : Point → Nodes
@@ -72,9 +72,9 @@ module _ (goals : List Goal) (p : Point) (cost : ℕ) (above : StandsAbove p cos
   second_rewires = (three_nodes p, inr ((λ c. omega (arith, c.cheaper, above.way_back)), refl), refl)
 
   -- the second mark is placed under node 1
-  second_mark : EndsPlaced (open_setup_to goals) two_nodes 1 p (placed_record 1 1 1 cost 2) (three_nodes p)
+  second_mark : Handles (open_setup_to goals) two_nodes 1 p (placed_record 1 1 1 cost 2) (three_nodes p)
   unfolding two_nodes three_nodes
-  second_mark = EndsPlaced-placeable goals two_nodes 1 1 p 1 cost 2 (1 ∷ []) (three_nodes p) (record {
+  second_mark = Handles-placeable goals two_nodes 1 1 p 1 cost 2 (1 ∷ []) (three_nodes p) (record {
     cheaper = are_open.second;
     nearest = record { member = refl; not_above = second_is_near };
     reached = above.reached;
@@ -149,9 +149,9 @@ module _ (goals : List Goal) (p : Point) (cost : ℕ) (above : StandsAbove p cos
         (four_nodes p, inr ((λ c. omega (arith, c.cheaper, back_to_start)), refl), second)
 
     -- the third mark is placed under the start
-    third_mark : EndsPlaced (open_setup_to goals) (three_nodes p) 2 (at 40 30) (placed_record 2 1 0 12800 2) after
+    third_mark : Handles (open_setup_to goals) (three_nodes p) 2 (at 40 30) (placed_record 2 1 0 12800 2) after
     unfolding three_nodes four_nodes
-    third_mark = EndsPlaced-placeable goals (three_nodes p) 2 1 (at 40 30) 0 12800 2 (0 ∷ 1 ∷ 2 ∷ []) after (record {
+    third_mark = Handles-placeable goals (three_nodes p) 2 1 (at 40 30) 0 12800 2 (0 ∷ 1 ∷ 2 ∷ []) after (record {
       cheaper = are_open.third;
       nearest = record { member = refl; not_above = third_is_near };
       reached = refl;

@@ -1,60 +1,12 @@
 -- The textbook run is one run: the same setup and marks give the same tree and the same records.
-use Rattle.plan_model.proofs.Words.{◌≡◌, ℕ, suc, ◌+◌, ◌<◌, ◌≤◌, arith, List, [], ◌∷◌, ◌++◌, Option, Some, refl, sym, ap, ◌∙◌, subst, inl, inr, Bool, IsTrue}
-use Rattle.plan_model.proofs.Words.{props, Point, Scene, Outcome, Placed, Same, Blocked, Skipped, Record, ConfigurationSpace, Clear, steered, class_of}
-use Rattle.plan_model.proofs.Words.{is_zero_unless_placed, StandsAt, IsPresent, point_of, AreDistinct, node_count, distance_to, IsNearest, mark_points}
-use Rattle.plan_model.proofs.Words.{points_of, sum_of, IsGoalNode, HaveSameFields, HaveSameInputs}
-use mathlib.Core.HLevel.{is_prop→PathP}
-use Rattle.plan_model.specs.Runs.Textbook.{
-  Nodes,
-  Setup,
-  setup_of,
-  start_alone,
-  cost_through,
-  near_new,
-  IsCandidate,
-  IsBestParent,
-  RewiresOne,
-  Rewires,
-  SteersTo,
-  mark_bound,
-  MayBeCheaper,
-  same_record,
-  blocked_record,
-  skipped_record,
-  placed_record,
-  EndsSame,
-  EndsBlocked,
-  EndsSkipped,
-  EndsPlaced,
-  Ends,
-  HandlesAll,
-  IsTextbookRun,
-}
+use Rattle.plan_model.proofs.Words.{◌≡◌, ℕ, suc, ◌+◌, arith, List, [], ◌∷◌, ◌++◌, Option, Some, refl, sym, ap, ◌∙◌, subst, inl, inr, Point, Scene, Record}
+use Rattle.plan_model.proofs.Words.{FirstHanging, Reached, NewNode, SameNode, NoWay, Ending, Steered, SkippedBy, ending_of, record_of_ending}
+use Rattle.plan_model.proofs.Words.{ConfigurationSpace, steered, IsPresent, point_of, AreDistinct, distance_to, IsNearest, mark_points, points_of, sum_of}
+use Rattle.plan_model.proofs.Words.{IsGoalNode, HaveSameInputs, Nodes, Setup, setup_of, start_alone, cost_through, near_new, IsCandidate, IsBestParent}
+use Rattle.plan_model.proofs.Words.{RewiresOne, Rewires, SteersTo, EndsPlaced, EndsSteered, Reaches, Ends, Handles, HandlesAll, IsTextbookRun}
+use Rattle.plan_model.proofs.EndingLaws.{record_of_ending-again}
 use Rattle.plan_model.proofs.LeastPairLaws.{IsFirstLeast-unique}
 use Rattle.plan_model.proofs.DistinctPoints.{AreDistinct-start, AreDistinct-ends}
-
--- ---- records
-
--- a test has one proof at most
-test-prop : (b : Bool) → IsProp (IsTrue b)
-test-prop b = hlevel props
-
--- records with the same fields are the same: the fact that they hold has one proof at most
-pub Record-from_fields : (one other : Record) → HaveSameFields one other → one ≡ other
-Record-from_fields one other h = λ i. record {
-  worker = h.worker i;
-  turn = h.turn i;
-  nearest = h.nearest i;
-  outcome = h.outcome i;
-  first_parent = h.first_parent i;
-  first_cost = h.first_cost i;
-  class = h.class i;
-  unplaced =
-      is_prop→PathP
-      (λ j. IsTrue (is_zero_unless_placed (h.outcome j) (h.first_parent j) (h.first_cost j) (h.class j)))
-      (λ j. test-prop (is_zero_unless_placed (h.outcome j) (h.first_parent j) (h.first_cost j) (h.class j)))
-      one.unplaced other.unplaced i;
-}
 
 -- ---- the choices of one mark
 
@@ -100,151 +52,129 @@ SteersTo-unique setup points mark m n p q f g =
     let e : m ≡ n = IsNearest-unique points mark m n f.nearest g.nearest in
     record { nearest = e; point = f.reached ∙ ap (λ i. steered (point_of points i) mark setup.step) e ∙ sym g.reached }
 
--- ---- the outcomes of one mark
+-- ---- the ends of one mark
 
--- two records of one mark are the same, and so are the trees after it
-pub record EndAlike (one other : Record) (tree others : Nodes) : Type 0 where
-  pub records : one ≡ other
+-- two ends of one mark are the same, and so are the trees after it
+pub record EndAlike {A : Type 0} (one other : A) (tree others : Nodes) : Type 0 where
+  pub ends : one ≡ other
   pub trees : tree ≡ others
 
-module _ (setup : Setup) (tree : Nodes) (k : ℕ) (mark : Point) where
-  -- two records of a mark that ends at a node are the same: no two nodes stand at one point
-  EndsSame-unique :
-      (i j : ℕ) (one other : Record) (after others : Nodes) → AreDistinct (points_of tree)
-      → EndsSame setup tree k mark i one after → EndsSame setup tree k mark j other others → EndAlike one other after others
-  EndsSame-unique i j one other after others distinct e f =
-      let steer = SteersTo-unique setup (points_of tree) mark one.nearest other.nearest e.point f.point e.steers f.steers in
-      let stands : StandsAt (points_of tree) j e.point = f.stands ∙ ap Some (sym steer.point) in
-      let node : i ≡ j = distinct i j e.point e.stands stands in
-      record {
-        records = e.recorded ∙ ap (λ n. same_record k n i) steer.nearest ∙ ap (same_record k other.nearest) node ∙ sym f.recorded;
-        trees = e.added ∙ sym f.added;
-      }
-
-  -- two records of a blocked mark are the same
-  EndsBlocked-unique :
-      (one other : Record) (after others : Nodes)
-      → EndsBlocked setup tree k mark one after → EndsBlocked setup tree k mark other others → EndAlike one other after others
-  EndsBlocked-unique one other after others e f =
-      let steer = SteersTo-unique setup (points_of tree) mark one.nearest other.nearest e.point f.point e.steers f.steers in
-      record {
-        records = e.recorded ∙ ap (blocked_record k) steer.nearest ∙ sym f.recorded;
-        trees = e.added ∙ sym f.added;
-      }
-
-  -- two records of a placed mark are the same
+module _ (setup : Setup) (tree : Nodes) (k m : ℕ) (p : Point) where
+  -- two nodes that are placed at a point are given the same
   EndsPlaced-unique :
-      (one other : Record) (after others : Nodes)
-      → EndsPlaced setup tree k mark one after → EndsPlaced setup tree k mark other others → EndAlike one other after others
+      (one other : FirstHanging) (after others : Nodes)
+      → EndsPlaced setup tree k m p one after → EndsPlaced setup tree k m p other others → EndAlike (NewNode one) (NewNode other) after others
   EndsPlaced-unique one other after others e f =
-      let steer = SteersTo-unique setup (points_of tree) mark one.nearest other.nearest e.point f.point e.steers f.steers in
-      let own : IsBestParent setup tree one.nearest e.point other.first_parent =
-      (let P : ℕ → Type 0 = λ n. IsBestParent setup tree n e.point other.first_parent in
-      let Q : Point → Type 0 = λ p. IsBestParent setup tree other.nearest p other.first_parent in
-      subst P (sym steer.nearest) (subst Q (sym steer.point) f.parent)) in
-      let parent : one.first_parent ≡ other.first_parent =
-      IsBestParent-unique setup tree one.nearest e.point one.first_parent other.first_parent e.parent own in
-      let record_by : ℕ → ℕ → Point → Record =
-      λ n g p. placed_record k n g (cost_through tree p g) (class_of (node_count (points_of tree))) in
-      let rewired : ℕ → Point → Type 0 =
-      λ g p. Rewires setup.space (tree ++ Some (record { point = p; parent = g }) ∷ []) (suc k) (near_new setup (points_of tree) p) others in
-      let moved : rewired one.first_parent e.point =
-      (let P : ℕ → Type 0 = λ g. rewired g e.point in
-      let Q : Point → Type 0 = λ p. rewired other.first_parent p in
-      subst P (sym parent) (subst Q (sym steer.point) f.rewired)) in
+      let same : one.parent ≡ other.parent = IsBestParent-unique setup tree m p one.parent other.parent e.parent f.parent in
+      let rewired : ℕ → Type 0 =
+      λ g. Rewires setup.space (tree ++ Some (record { point = p; parent = g }) ∷ []) (suc k) (near_new setup (points_of tree) p) others in
       record {
-        records =
-            e.recorded
-            ∙ ap (λ n. record_by n one.first_parent e.point) steer.nearest
-            ∙ ap (λ g. record_by other.nearest g e.point) parent
-            ∙ ap (record_by other.nearest other.first_parent) steer.point
-            ∙ sym f.recorded;
+        ends = λ i. NewNode (record {
+          parent = same i;
+          cost = (e.cost ∙ ap (cost_through tree p) same ∙ sym f.cost) i;
+          class = (e.of_class ∙ sym f.of_class) i;
+        });
         trees =
-            Rewires-unique setup.space (tree ++ Some (record { point = e.point; parent = one.first_parent }) ∷ []) (suc k)
-            (near_new setup (points_of tree) e.point) after others e.rewired moved;
+            Rewires-unique setup.space (tree ++ Some (record { point = p; parent = one.parent }) ∷ []) (suc k) (near_new setup (points_of tree) p)
+            after others e.rewired (subst rewired (sym same) f.rewired);
       }
 
-  -- two records of a skipped mark are the same: one goal node is best
-  EndsSkipped-unique :
-      (one other : Record) (after others : Nodes)
-      → EndsSkipped setup tree k mark one after → EndsSkipped setup tree k mark other others → EndAlike one other after others
-  EndsSkipped-unique one other after others e f =
-      let node : one.nearest ≡ other.nearest =
-      IsFirstLeast-unique (sum_of tree) (IsGoalNode setup.goals (points_of tree)) one.nearest other.nearest e.best f.best in
-      record {
-        records = e.recorded ∙ ap (skipped_record k) node ∙ sym f.recorded;
-        trees = e.added ∙ sym f.added;
-      }
+  -- a point where a node stands is not blocked
+  not_same_and_blocked : (j : ℕ) (after others : Nodes) → Reaches setup tree k m p (SameNode j) after → ¬ Reaches setup tree k m p NoWay others
+  not_same_and_blocked j after others e f = f.0.free j e.0
 
-  -- a mark over which a path may be cheaper is not skipped
-  not_cheaper_and_skipped :
-      (one : Record) (after : Nodes) → MayBeCheaper setup (sum_of tree) (points_of tree) mark → ¬ EndsSkipped setup tree k mark one after
-  not_cheaper_and_skipped one after cheaper e =
-      let above : mark_bound setup mark < sum_of tree one.nearest = cheaper one.nearest e.best.member in
-      let below : sum_of tree one.nearest ≤ mark_bound setup mark = e.within in
-      omega (arith, above, below)
+  -- no node is placed there either
+  not_same_and_placed :
+      (j : ℕ) (first : FirstHanging) (after others : Nodes)
+      → Reaches setup tree k m p (SameNode j) after → ¬ Reaches setup tree k m p (NewNode first) others
+  not_same_and_placed j first after others e f = f.free j e.0
 
-  -- so none that ends where a node stands is,
-  pub not_same_and_skipped :
-      (j : ℕ) (one other : Record) (after others : Nodes)
-      → EndsSame setup tree k mark j one after → ¬ EndsSkipped setup tree k mark other others
-  not_same_and_skipped j one other after others e f = not_cheaper_and_skipped other others e.cheaper f
+  -- nor is one where it is blocked
+  not_blocked_and_placed :
+      (first : FirstHanging) (after others : Nodes) → Reaches setup tree k m p NoWay after → ¬ Reaches setup tree k m p (NewNode first) others
+  not_blocked_and_placed first after others e f = e.0.blocked f.clear
 
-  -- none that is blocked,
-  pub not_blocked_and_skipped :
-      (one other : Record) (after others : Nodes) → EndsBlocked setup tree k mark one after → ¬ EndsSkipped setup tree k mark other others
-  not_blocked_and_skipped one other after others e f = not_cheaper_and_skipped other others e.cheaper f
+  -- one end is reached: no two nodes stand at one point
+  Reaches-unique :
+      (one other : Reached) (after others : Nodes) → AreDistinct (points_of tree)
+      → Reaches setup tree k m p one after → Reaches setup tree k m p other others → EndAlike one other after others
+  Reaches-unique (SameNode i) (SameNode j) after others distinct e f = record { ends = ap SameNode (distinct i j p e.0 f.0); trees = e.1 ∙ sym f.1 }
+  Reaches-unique (SameNode i) NoWay after others distinct e f = absurd (not_same_and_blocked i after others e f)
+  Reaches-unique (SameNode i) (NewNode first) after others distinct e f = absurd (not_same_and_placed i first after others e f)
+  Reaches-unique NoWay (SameNode j) after others distinct e f = absurd (not_same_and_blocked j others after f e)
+  Reaches-unique NoWay NoWay after others distinct e f = record { ends = refl; trees = e.1 ∙ sym f.1 }
+  Reaches-unique NoWay (NewNode first) after others distinct e f = absurd (not_blocked_and_placed first after others e f)
+  Reaches-unique (NewNode one) (SameNode j) after others distinct e f = absurd (not_same_and_placed j one others after f e)
+  Reaches-unique (NewNode one) NoWay after others distinct e f = absurd (not_blocked_and_placed one others after f e)
+  Reaches-unique (NewNode one) (NewNode other) after others distinct e f = EndsPlaced-unique one other after others e f
 
-  -- and none that is placed
-  pub not_placed_and_skipped :
-      (one other : Record) (after others : Nodes) → EndsPlaced setup tree k mark one after → ¬ EndsSkipped setup tree k mark other others
-  not_placed_and_skipped one other after others e f = not_cheaper_and_skipped other others e.cheaper f
+module _ (setup : Setup) (tree : Nodes) (k : ℕ) (mark : Point) where
+  -- what is reached from one nearest node is reached from the other
+  Reaches-alike :
+      (m n : ℕ) (one other : Reached) (after others : Nodes)
+      (e : EndsSteered setup tree k mark m one after) → EndsSteered setup tree k mark n other others → Reaches setup tree k m e.point other others
+  Reaches-alike m n one other after others e f =
+      let steer = SteersTo-unique setup (points_of tree) mark m n e.point f.point e.steers f.steers in
+      let P : ℕ → Type 0 = λ i. Reaches setup tree k i e.point other others in
+      let Q : Point → Type 0 = λ p. Reaches setup tree k n p other others in
+      subst P (sym steer.nearest) (subst Q (sym steer.point) f.reaches)
 
   -- a mark that ends where a node stands is not blocked
-  pub not_same_and_blocked :
-      (j : ℕ) (one other : Record) (after others : Nodes)
-      → EndsSame setup tree k mark j one after → ¬ EndsBlocked setup tree k mark other others
-  not_same_and_blocked j one other after others e f =
-      let steer = SteersTo-unique setup (points_of tree) mark one.nearest other.nearest e.point f.point e.steers f.steers in
-      f.free j (e.stands ∙ ap Some steer.point)
+  pub not_same_or_blocked :
+      (m n j : ℕ) (after others : Nodes)
+      → Ends setup tree k mark (Steered m (SameNode j)) after → ¬ Ends setup tree k mark (Steered n NoWay) others
+  not_same_or_blocked m n j after others e f =
+      not_same_and_blocked setup tree k m e.point j after others e.reaches (Reaches-alike m n (SameNode j) NoWay after others e f)
 
   -- it is not placed either
-  pub not_same_and_placed :
-      (j : ℕ) (one other : Record) (after others : Nodes)
-      → EndsSame setup tree k mark j one after → ¬ EndsPlaced setup tree k mark other others
-  not_same_and_placed j one other after others e f =
-      let steer = SteersTo-unique setup (points_of tree) mark one.nearest other.nearest e.point f.point e.steers f.steers in
-      f.free j (e.stands ∙ ap Some steer.point)
+  pub not_same_or_placed :
+      (m n j : ℕ) (first : FirstHanging) (after others : Nodes)
+      → Ends setup tree k mark (Steered m (SameNode j)) after → ¬ Ends setup tree k mark (Steered n (NewNode first)) others
+  not_same_or_placed m n j first after others e f =
+      not_same_and_placed setup tree k m e.point j first after others e.reaches (Reaches-alike m n (SameNode j) (NewNode first) after others e f)
 
   -- a mark that is blocked is not placed
-  pub not_blocked_and_placed :
-      (one other : Record) (after others : Nodes) → EndsBlocked setup tree k mark one after → ¬ EndsPlaced setup tree k mark other others
-  not_blocked_and_placed one other after others e f =
-      let steer = SteersTo-unique setup (points_of tree) mark one.nearest other.nearest e.point f.point e.steers f.steers in
-      let P : ℕ → Type 0 = λ n. Clear setup.space (point_of (points_of tree) n) e.point in
-      let Q : Point → Type 0 = λ p. Clear setup.space (point_of (points_of tree) other.nearest) p in
-      e.blocked (subst P (sym steer.nearest) (subst Q (sym steer.point) f.clear))
+  pub not_blocked_or_placed :
+      (m n : ℕ) (first : FirstHanging) (after others : Nodes)
+      → Ends setup tree k mark (Steered m NoWay) after → ¬ Ends setup tree k mark (Steered n (NewNode first)) others
+  not_blocked_or_placed m n first after others e f =
+      not_blocked_and_placed setup tree k m e.point first after others e.reaches (Reaches-alike m n NoWay (NewNode first) after others e f)
 
-  -- whatever the outcomes, two records of a mark are the same
+  -- a mark that a node steers to is not skipped
+  pub not_steered_or_skipped :
+      (m g : ℕ) (reached : Reached) (after others : Nodes)
+      → Ends setup tree k mark (Steered m reached) after → ¬ Ends setup tree k mark (SkippedBy g) others
+  not_steered_or_skipped m g reached after others e f = omega (arith, e.cheaper g f.best.member, f.within)
+
+  -- a mark ends in one way
   pub Ends-unique :
-      (one_outcome other_outcome : Outcome) (one other : Record) (after others : Nodes) → AreDistinct (points_of tree)
-      → Ends setup tree k mark one_outcome one after → Ends setup tree k mark other_outcome other others → EndAlike one other after others
-  Ends-unique (Same i) (Same j) one other after others distinct e f = EndsSame-unique i j one other after others distinct e f
-  Ends-unique (Same i) Blocked one other after others distinct e f = absurd (not_same_and_blocked i one other after others e f)
-  Ends-unique (Same i) Placed one other after others distinct e f = absurd (not_same_and_placed i one other after others e f)
-  Ends-unique Blocked (Same j) one other after others distinct e f = absurd (not_same_and_blocked j other one others after f e)
-  Ends-unique Blocked Blocked one other after others distinct e f = EndsBlocked-unique one other after others e f
-  Ends-unique Blocked Placed one other after others distinct e f = absurd (not_blocked_and_placed one other after others e f)
-  Ends-unique Placed (Same j) one other after others distinct e f = absurd (not_same_and_placed j other one others after f e)
-  Ends-unique Placed Blocked one other after others distinct e f = absurd (not_blocked_and_placed other one others after f e)
-  Ends-unique Placed Placed one other after others distinct e f = EndsPlaced-unique one other after others e f
-  Ends-unique (Same i) Skipped one other after others distinct e f = absurd (not_same_and_skipped i one other after others e f)
-  Ends-unique Blocked Skipped one other after others distinct e f = absurd (not_blocked_and_skipped one other after others e f)
-  Ends-unique Placed Skipped one other after others distinct e f = absurd (not_placed_and_skipped one other after others e f)
-  Ends-unique Skipped (Same j) one other after others distinct e f = absurd (not_same_and_skipped j other one others after f e)
-  Ends-unique Skipped Blocked one other after others distinct e f = absurd (not_blocked_and_skipped other one others after f e)
-  Ends-unique Skipped Placed one other after others distinct e f = absurd (not_placed_and_skipped other one others after f e)
-  Ends-unique Skipped Skipped one other after others distinct e f = EndsSkipped-unique one other after others e f
+      (one other : Ending) (after others : Nodes) → AreDistinct (points_of tree)
+      → Ends setup tree k mark one after → Ends setup tree k mark other others → EndAlike one other after others
+  Ends-unique (Steered m one) (Steered n other) after others distinct e f =
+      let steer = SteersTo-unique setup (points_of tree) mark m n e.point f.point e.steers f.steers in
+      let alike =
+      Reaches-unique setup tree k m e.point one other after others distinct e.reaches (Reaches-alike m n one other after others e f) in
+      record { ends = λ i. Steered (steer.nearest i) (alike.ends i); trees = alike.trees }
+  Ends-unique (Steered m one) (SkippedBy g) after others distinct e f = absurd (not_steered_or_skipped m g one after others e f)
+  Ends-unique (SkippedBy g) (Steered n other) after others distinct e f = absurd (not_steered_or_skipped n g other others after f e)
+  Ends-unique (SkippedBy g) (SkippedBy h) after others distinct e f = record {
+    ends = ap SkippedBy (IsFirstLeast-unique (sum_of tree) (IsGoalNode setup.goals (points_of tree)) g h e.best f.best);
+    trees = e.added ∙ sym f.added;
+  }
+
+  -- and has one record
+  Handles-unique :
+      (one other : Record) (after others : Nodes) → AreDistinct (points_of tree)
+      → Handles setup tree k mark one after → Handles setup tree k mark other others → EndAlike one other after others
+  Handles-unique one other after others distinct e f =
+      let alike = Ends-unique (ending_of one) (ending_of other) after others distinct e.ends f.ends in
+      record {
+        ends =
+            sym (record_of_ending-again one)
+            ∙ (λ i. record_of_ending ((e.worker ∙ sym f.worker) i) ((e.turn ∙ sym f.turn) i) (alike.ends i))
+            ∙ record_of_ending-again other;
+        trees = alike.trees;
+      }
 
 -- ---- whole runs
 
@@ -263,11 +193,11 @@ HandlesAll-unique setup k tree [] (e ∷ one) other after others distinct r s = 
 HandlesAll-unique setup k tree (mark ∷ marks) [] other after others distinct r s = absurd r
 HandlesAll-unique setup k tree (mark ∷ marks) (e ∷ one) [] after others distinct r s = absurd s
 HandlesAll-unique setup k tree (mark ∷ marks) (e ∷ one) (f ∷ other) after others distinct r s =
-    let first = Ends-unique setup tree k mark e.outcome f.outcome e f r.0 s.0 distinct r.1 s.1 in
+    let first = Handles-unique setup tree k mark e f r.0 s.0 distinct r.1 s.1 in
     let P : Nodes → Type 0 = λ t. HandlesAll setup (k + 1) t marks other others in
-    let kept = AreDistinct-ends setup tree k mark e.outcome e r.0 r.1 distinct in
+    let kept = AreDistinct-ends setup tree k mark (ending_of e) r.0 r.1.ends distinct in
     let rest = HandlesAll-unique setup (k + 1) r.0 marks one other after others kept r.2 (subst P (sym first.trees) s.2) in
-    record { records = ap (λ x. x ∷ one) first.records ∙ ap (λ xs. f ∷ xs) rest.records; trees = rest.trees }
+    record { records = ap (λ x. x ∷ one) first.ends ∙ ap (λ xs. f ∷ xs) rest.records; trees = rest.trees }
 
 -- the textbook run ends with one tree
 pub IsTextbookRun-one_tree :

@@ -9,15 +9,17 @@ pub use Rattle.plan_model.specs.Geometry.Steering.{IsStep, advanced, steered}
 pub use Rattle.plan_model.specs.Reports.ReportText.{best_path, counts_line, head_line, mark_line_if_recorded, mark_lines, node_line_if_present, node_lines}
 pub use Rattle.plan_model.specs.Reports.ReportText.{path_line, path_to, point_lines, report_text, short_report, summary}
 pub use Rattle.plan_model.specs.Runs.ClosedLaw.{ArePlacedMarks, AreRecordedBelow, IsClosed, has_outcome, mark_at, outcome_count}
+pub use Rattle.plan_model.specs.Runs.Endings.{Ending, FirstHanging, NewNode, NoWay, Reached, SameNode, SkippedBy, Steered, ending_as, ending_of, first_hanging}
+pub use Rattle.plan_model.specs.Runs.Endings.{record_of_ending, unplaced_record, zeros}
 pub use Rattle.plan_model.specs.Runs.OrderLaw.{Hangs, HangsBelow, IsAllowedEdge, KeepsFirstCosts, KeepsOrder, most_cost_of}
 pub use Rattle.plan_model.specs.Runs.Outcomes.{is_blocked, is_placed, is_same, is_zero_unless_placed}
-pub use Rattle.plan_model.specs.Runs.RecordLaw.{HangsLawfully, HasLawfulOutcome, IsBlockedLawfully, IsChosenLawfully, IsEarlier, IsLawfulRecord, IsNeighbour}
-pub use Rattle.plan_model.specs.Runs.RecordLaw.{IsPlacedLawfully, IsSkippedLawfully, IsSteeredLawfully, earlier_count, first_cost_through, is_earlier}
-pub use Rattle.plan_model.specs.Runs.RecordLaw.{is_earlier_record}
+pub use Rattle.plan_model.specs.Runs.RecordLaw.{HangsLawfully, HasLawfulEnding, IsBlockedLawfully, IsChosenLawfully, IsEarlier, IsLawfulRecord, IsNeighbour}
+pub use Rattle.plan_model.specs.Runs.RecordLaw.{IsPlacedLawfully, IsSkippedLawfully, IsSteeredLawfully, ReachesLawfully, earlier_count, first_cost_through}
+pub use Rattle.plan_model.specs.Runs.RecordLaw.{is_earlier, is_earlier_record}
 pub use Rattle.plan_model.specs.Runs.SameRuns.{HaveSameFields, HaveSameInputs, IsOfTextbookRun}
-pub use Rattle.plan_model.specs.Runs.Textbook.{Ends, EndsPlaced, EndsSkipped, Handles, HandlesAll, IsCandidate, IsCheaperThrough, IsTextbookRun, MayBeCheaper}
-pub use Rattle.plan_model.specs.Runs.Textbook.{Nodes, Rewires, RewiresOne, Setup, SteersTo, cost_through, near_new, placed_record, skipping_goals, start_alone}
-pub use Rattle.plan_model.specs.Runs.Textbook.{with_parent}
+pub use Rattle.plan_model.specs.Runs.Textbook.{Ends, EndsBlocked, EndsPlaced, EndsSkipped, EndsSteered, Handles, HandlesAll, IsBestParent, IsCandidate}
+pub use Rattle.plan_model.specs.Runs.Textbook.{IsCheaperThrough, IsTextbookRun, MayBeCheaper, Nodes, Reaches, Rewires, RewiresOne, Setup, SteersTo}
+pub use Rattle.plan_model.specs.Runs.Textbook.{cost_through, mark_bound, near_new, setup_of, skipping_goals, start_alone, with_parent}
 pub use Rattle.plan_model.specs.Runs.Turns.{AreTurns, RunFromZero, is_of_turn, is_of_worker, once_if, times_of, turns_of}
 pub use Rattle.plan_model.specs.Scenes.ConvertedScenes.{IsConverted}
 pub use Rattle.plan_model.specs.Scenes.Limits.{IsBetween, are_goals, are_obstacles, by_version, is_body, is_corner_between, is_goal, is_mark, is_obstacle}
@@ -62,6 +64,7 @@ pub use Rattle.plan_model.specs.Trees.OpenNodes.{IsOpenTo}
 pub use Rattle.plan_model.specs.Trees.PointsByNumber.{AreDistinct, AreNumberedTo, IsFree, IsPresent, StandsAt, node_count, point_at, point_of}
 pub use Rattle.plan_model.specs.Trees.TreeStates.{AreSameRuns, ChangesCosts, GrowsInto, IsSettled, KeepsOrFalls, TreeState, chain_in, first_cost_of}
 pub use Rattle.plan_model.specs.Trees.TreeStates.{recorded_or, state_of, sum_in}
+pub use Rattle.plan_model.specs.Vectors.Records.{placed_record}
 pub use Rattle.plan_model.specs.Vectors.Runs.{marks_to_rewire, node, open_setup, open_setup_to, rewired_records, rewired_tree}
 pub use Rattle.plan_model.specs.Vectors.Shapes.{at}
 pub use Rattle.plan_model.specs.declared.configuration_spaces.ConfigurationSpace.{ConfigurationSpace}
@@ -87,8 +90,7 @@ pub use Rattle.plan_model.specs.declared.text_terms.Kind.{Kind}
 pub use Rattle.plan_model.specs.declared.trees.Twig.{Twig}
 pub use Rattle.std.proofs.Common.{Bool, FitsSigned, IfNone, List, None, Option, Some, [], add-one, add-zero, ap, arith, below_more, cond, drop, eqb, false}
 pub use Rattle.std.proofs.Common.{get_or, inl, inr, int_le, leb, length, ltb, map, min, not, of_z, refl, reverse, rules, set, subst, suc, sym, take}
-pub use Rattle.std.proofs.Common.{take-append-drop, take-suc, to_z, true, w32, w64, zero, ℕ, ◌%◌, ◌*◌, ◌++◌, ◌+◌, ◌-◌, ◌/◌, ◌<◌, ◌==◌, ◌^◌, ◌||◌, ◌∙◌, ◌∷◌, ◌≡◌}
-pub use Rattle.std.proofs.Common.{◌≤◌}
+pub use Rattle.std.proofs.Common.{take-append-drop, take-suc, to_z, true, w32, w64, zero, ℕ, ◌%◌, ◌*◌, ◌++◌, ◌+◌, ◌-◌, ◌/◌, ◌<◌, ◌^◌, ◌||◌, ◌∙◌, ◌∷◌, ◌≡◌, ◌≤◌}
 pub use Rattle.std.proofs.Math.ListN.{get_or-map}
 pub use Rattle.std.proofs.Math.Nat.{div-le_of_le-mul, div-le_self, div-mul-le_self, le_of_mul-le-mul_left, le_of_mul-le-mul_right, le_refl, mul-div_cancel_left}
 pub use Rattle.std.proofs.Math.Nat.{mul-pos, pow-le-pow_right, pow-suc}
@@ -120,4 +122,5 @@ pub use Rattle.std.specs.Int.Digits.{digits_of}
 pub use Rattle.std.specs.List.{flat_map, list_all, list_any, position_or_len, prefix_len, range_with_len}
 pub use Rattle.std.specs.Option.{option_or}
 pub use Rattle.std.specs.Prelude.{All, Contains, IsSome, IsTrue, bit_xor, bytes_eq, count_by, fold, int_div, is_none, is_some, max, nat_eq, nat_le, nat_lt}
-pub use Rattle.std.specs.Prelude.{neg_ℤ, negsuc, option_map, pos, replicate, slice_get, unsigned_abs, unwrap_or, ℤ, ◌&&◌, ◌*ℤ◌, ◌+ℤ◌, ◌-ℤ◌, ◌↔◌, ◌≢◌, ◌≤ℤ◌, ◌⊎◌}
+pub use Rattle.std.specs.Prelude.{neg_ℤ, negsuc, option_map, pos, replicate, slice_get, unsigned_abs, unwrap_or, ℤ, ◌&&◌, ◌*ℤ◌, ◌+ℤ◌, ◌-ℤ◌, ◌==◌, ◌↔◌, ◌≢◌}
+pub use Rattle.std.specs.Prelude.{◌≤ℤ◌, ◌⊎◌}

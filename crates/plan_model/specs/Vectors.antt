@@ -8,6 +8,7 @@ pub mod Strips
 pub mod Meetings
 pub mod Clearances
 pub mod Polygons
+pub mod Records
 pub mod Reports
 pub mod Words
 pub mod Texts

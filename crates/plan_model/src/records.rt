@@ -42,7 +42,7 @@ pub struct Record {
 
 impl Record {
     ghost use Rattle.std.specs.Prelude.{◌≡◌};
-    ghost use Rattle.plan_model.specs.Runs.Textbook.{unplaced_record};
+    ghost use Rattle.plan_model.specs.Runs.Endings.{unplaced_record};
 
     /// The record of a mark for which no node is placed: first parent, first cost and class are 0. O(1).
     pub fn unplaced(worker: u32, turn: u32, nearest: u32, outcome: Outcome) -> Record

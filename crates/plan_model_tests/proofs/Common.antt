@@ -29,11 +29,12 @@ pub use Rattle.plan_model.specs.Geometry.Roots.{IsRootCeiling}
 pub use Rattle.plan_model.specs.Geometry.Steering.{advanced, steered}
 pub use Rattle.plan_model.specs.Reports.ReportText.{best_path, counts_line, head_line, mark_lines, node_lines, point_lines}
 pub use Rattle.plan_model.specs.Runs.ClosedLaw.{IsClosed, mark_at}
+pub use Rattle.plan_model.specs.Runs.Endings.{first_hanging, unplaced_record}
 pub use Rattle.plan_model.specs.Runs.OrderLaw.{HangsBelow, IsAllowedEdge, KeepsOrder, most_cost_of}
 pub use Rattle.plan_model.specs.Runs.RecordLaw.{HangsLawfully, HasClass, IsBlockedLawfully, IsEarlier, IsLawfulRecord, IsNeighbour, IsPlacedLawfully}
 pub use Rattle.plan_model.specs.Runs.RecordLaw.{first_cost_through}
-pub use Rattle.plan_model.specs.Runs.Textbook.{EndsPlaced, EndsSkipped, IsBestGoalNode, IsCheaperThrough, IsTextbookRun, MayBeCheaper, Nodes, Rewires}
-pub use Rattle.plan_model.specs.Runs.Textbook.{cost_through, mark_bound, near_new, placed_record, same_record, skipped_record, unplaced_record}
+pub use Rattle.plan_model.specs.Runs.Textbook.{Handles, IsBestGoalNode, IsCheaperThrough, IsTextbookRun, MayBeCheaper, Nodes, Rewires, cost_through, mark_bound}
+pub use Rattle.plan_model.specs.Runs.Textbook.{near_new}
 pub use Rattle.plan_model.specs.Runs.Turns.{RunFromZero}
 pub use Rattle.plan_model.specs.Scenes.MarkPoints.{points_of_marks}
 pub use Rattle.plan_model.specs.Seen.SeenTrees.{HasSeenAtLeast, HasSeenWay, IsSeen, IsTrueOf, KeepsOrLowers, seen_whole}
@@ -55,7 +56,8 @@ pub use Rattle.plan_model.specs.Trees.PointsByNumber.{AreDistinct, IsFree, IsPre
 pub use Rattle.plan_model.specs.Trees.TreeStates.{KeepsOrFalls, TreeState, first_cost_of, state_of}
 pub use Rattle.plan_model.specs.Vectors.Clearances.{apart_from_pillar, beside_square, square}
 pub use Rattle.plan_model.specs.Vectors.Meetings.{far_square, great_square, great_triangle, pillar, point_body, small_square, small_triangle}
-pub use Rattle.plan_model.specs.Vectors.Overlaps.{early_record, overlapped, placed_by}
+pub use Rattle.plan_model.specs.Vectors.Overlaps.{early_record, overlapped}
+pub use Rattle.plan_model.specs.Vectors.Records.{placed_by, placed_record, same_record, skipped_record}
 pub use Rattle.plan_model.specs.Vectors.Reports.{box}
 pub use Rattle.plan_model.specs.Vectors.Rooms.{ten_by_ten, triangle}
 pub use Rattle.plan_model.specs.Vectors.Runs.{kept_records, kept_text, kept_tree, marks_to_keep, marks_to_rewire, node, open_setup, open_setup_to}

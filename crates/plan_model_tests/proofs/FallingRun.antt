@@ -1,10 +1,10 @@
 -- The run in which the radius falls.
 use Rattle.plan_model_tests.proofs.Words.{◌≡◌, ℕ, [], ◌∷◌, refl, arith, inr, All, All-cons, All-nil, falling_marks, falling_tree, falling_records}
-use Rattle.plan_model_tests.proofs.Common.{empty_room, IsNotAbove, Nodes, cost_through, Rewires, EndsPlaced, placed_record, IsTextbookRun, sum_of, node, at}
+use Rattle.plan_model_tests.proofs.Common.{empty_room, IsNotAbove, Nodes, cost_through, Rewires, Handles, placed_record, IsTextbookRun, sum_of, node, at}
 use Rattle.plan_model_tests.proofs.Common.{IsNotAbove-refl, IsNotAbove-lesser, root_ceiling-from_squares}
 use Rattle.plan_model.specs.Geometry.Roots.{root_ceiling}
 use Rattle.plan_model_tests.specs.NarrowRuns.{narrow_setup}
-use Rattle.plan_model_tests.proofs.NarrowMarks.{EndsPlaced-placeable}
+use Rattle.plan_model_tests.proofs.NarrowMarks.{Handles-placeable}
 
 -- ---- the costs of edges, by the squares of their lengths
 
@@ -42,9 +42,9 @@ first_parent =
     let P : ℕ → Type 0 = IsNotAbove (cost_through one_node (at 45 5)) 0 in
     All-cons P 0 [] (IsNotAbove-refl (cost_through one_node (at 45 5)) 0) (All-nil P)
 
-first_mark : EndsPlaced narrow_setup one_node 0 (at 45 5) (placed_record 0 0 0 11591 1) two_nodes
+first_mark : Handles narrow_setup one_node 0 (at 45 5) (placed_record 0 0 0 11591 1) two_nodes
 unfolding one_node two_nodes
-first_mark = EndsPlaced-placeable one_node 0 0 (at 45 5) 0 11591 1 [] two_nodes (record {
+first_mark = Handles-placeable one_node 0 0 (at 45 5) 0 11591 1 [] two_nodes (record {
   nearest = refl;
   reached = refl;
   free = refl;
@@ -65,9 +65,9 @@ second_parent =
     let P : ℕ → Type 0 = IsNotAbove (cost_through two_nodes (at 50 50)) 1 in
     All-cons P 1 [] (IsNotAbove-refl (cost_through two_nodes (at 50 50)) 1) (All-nil P)
 
-second_mark : EndsPlaced narrow_setup two_nodes 1 (at 50 50) (placed_record 1 1 1 23182 2) three_nodes
+second_mark : Handles narrow_setup two_nodes 1 (at 50 50) (placed_record 1 1 1 23182 2) three_nodes
 unfolding two_nodes three_nodes
-second_mark = EndsPlaced-placeable two_nodes 1 1 (at 50 50) 1 23182 2 [] three_nodes (record {
+second_mark = Handles-placeable two_nodes 1 1 (at 50 50) 1 23182 2 [] three_nodes (record {
   nearest = refl;
   reached = refl;
   free = refl;
@@ -99,9 +99,9 @@ third_rewires =
     (four_nodes, inr ((λ c. omega (arith, c.cheaper, cost_1325, cost_2050, cost_125)), refl), refl) in
     (four_nodes, inr ((λ c. omega (arith, c.cheaper, cost_1325)), refl), second)
 
-third_mark : EndsPlaced narrow_setup three_nodes 2 (at 35 10) (placed_record 2 1 0 9319 2) four_nodes
+third_mark : Handles narrow_setup three_nodes 2 (at 35 10) (placed_record 2 1 0 9319 2) four_nodes
 unfolding three_nodes four_nodes
-third_mark = EndsPlaced-placeable three_nodes 2 1 (at 35 10) 0 9319 2 (0 ∷ 1 ∷ []) four_nodes (record {
+third_mark = Handles-placeable three_nodes 2 1 (at 35 10) 0 9319 2 (0 ∷ 1 ∷ []) four_nodes (record {
   nearest = refl;
   reached = refl;
   free = refl;
@@ -132,9 +132,9 @@ fourth_rewires =
     (falling_tree, inr ((λ c. omega (arith, c.cheaper, cost_1325, cost_125)), refl), refl) in
     (falling_tree, inr ((λ c. omega (arith, c.cheaper, cost_1325, cost_125, cost_2050, cost_450)), refl), second)
 
-fourth_mark : EndsPlaced narrow_setup four_nodes 3 (at 30 20) (placed_record 3 3 3 12182 3) falling_tree
+fourth_mark : Handles narrow_setup four_nodes 3 (at 30 20) (placed_record 3 3 3 12182 3) falling_tree
 unfolding four_nodes
-fourth_mark = EndsPlaced-placeable four_nodes 3 3 (at 30 20) 3 12182 3 (1 ∷ 3 ∷ []) falling_tree (record {
+fourth_mark = Handles-placeable four_nodes 3 3 (at 30 20) 3 12182 3 (1 ∷ 3 ∷ []) falling_tree (record {
   nearest = refl;
   reached = refl;
   free = refl;

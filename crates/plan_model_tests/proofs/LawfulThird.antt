@@ -2,8 +2,8 @@
 use Rattle.plan_model_tests.proofs.Words.{◌≡◌, ℕ, zero, suc, ◌+◌, ◌≤◌, false, arith, refl, sym, subst, IsThird, entry_by, room_by, third, third_with}
 use Rattle.plan_model_tests.proofs.Common.{Point, Record, Clear, cost_of, empty_room, squared_distance, IsNotAbove, distance_to, is_within, IsAllowedEdge}
 use Rattle.plan_model_tests.proofs.Common.{IsPresent, point_at, point_of, HangsLawfully, HasClass, IsEarlier, IsLawfulRecord, IsNeighbour, IsPlacedLawfully}
-use Rattle.plan_model_tests.proofs.Common.{first_cost_through, TreeState, at, AreInRoom-from_clear, Clear-empty_room, no_goal_node, cost_2000, cost_2500}
-use Rattle.plan_model_tests.proofs.Common.{root_ceiling-from_squares, steered-near}
+use Rattle.plan_model_tests.proofs.Common.{first_cost_through, first_hanging, TreeState, at, AreInRoom-from_clear, Clear-empty_room, no_goal_node, cost_2000}
+use Rattle.plan_model_tests.proofs.Common.{cost_2500, root_ceiling-from_squares, steered-near}
 use Rattle.plan_model.specs.Geometry.Roots.{root_ceiling}
 
 -- from node 2 to node 3
@@ -46,10 +46,10 @@ module _ (first : Point) (cost other last n f c class : ℕ) where
       near_first : IsNotAbove (distance_to (at 40 30) state.points) n 1
       short : squared_distance (point_of state.points n) (at 40 30) ≤ 2500
       clear : Clear (empty_room (at 100 height)) (point_of state.points n) (at 40 30)
-      of_class : HasClass state entry 4
-      start : IsNeighbour (room_by height 50 gamma) state entry (at 40 30) 0 → Fits 0
-      own : IsNeighbour (room_by height 50 gamma) state entry (at 40 30) 1 → Fits 1
-      by_tree : HangsLawfully (room_by height 50 gamma) state 2 entry (at 40 30)
+      of_class : HasClass state entry class 4
+      start : IsNeighbour (room_by height 50 gamma) state entry class (at 40 30) 0 → Fits 0
+      own : IsNeighbour (room_by height 50 gamma) state entry class (at 40 30) 1 → Fits 1
+      by_tree : HangsLawfully (room_by height 50 gamma) state 2 n (first_hanging entry) (at 40 30)
 
     module _ (h : Needs) where
       nearest : (i : ℕ) → IsEarlier state entry i → IsNotAbove (distance_to (at 40 30) state.points) n i
@@ -57,12 +57,12 @@ module _ (first : Point) (cost other last n f c class : ℕ) where
       nearest (suc zero) early = h.near_first
       nearest (suc (suc i)) early = absurd (none_later i early)
 
-      fits : (i : ℕ) → IsNeighbour (room_by height 50 gamma) state entry (at 40 30) i → Fits i
+      fits : (i : ℕ) → IsNeighbour (room_by height 50 gamma) state entry class (at 40 30) i → Fits i
       fits zero near = h.start near
       fits (suc zero) near = h.own near
       fits (suc (suc i)) near = absurd (none_later i near.earlier)
 
-      placed : IsPlacedLawfully (room_by height 50 gamma) state 2 entry (at 40 30)
+      placed : IsPlacedLawfully (room_by height 50 gamma) state 2 entry n (first_hanging entry) (at 40 30)
       placed = record {
         by_worker = record {
           clear = h.clear;
@@ -79,14 +79,14 @@ module _ (first : Point) (cost other last n f c class : ℕ) where
         present = h.present;
         nearest = nearest;
         outcome =
-            subst (IsPlacedLawfully (room_by height 50 gamma) state 2 entry)
+            subst (IsPlacedLawfully (room_by height 50 gamma) state 2 entry n (first_hanging entry))
             (sym (steered-near (point_of state.points n) (at 40 30) 50 h.short)) placed;
       }
 
 -- what is past the radius is no neighbour
 too_far : (first : Point) (cost other last n f c : ℕ) (height i : ℕ)
     → is_within (at 40 30) 43 (point_at (third_with first cost other last (entry_by n f c 3)).points i) ≡ false
-    → ¬ IsNeighbour (room_by height 50 50) (third_with first cost other last (entry_by n f c 3)) (entry_by n f c 3) (at 40 30) i
+    → ¬ IsNeighbour (room_by height 50 50) (third_with first cost other last (entry_by n f c 3)) (entry_by n f c 3) 3 (at 40 30) i
 too_far first cost other last n f c height i far h = let near = h.near in cc
 
 -- ---- by the start, with both earlier nodes as neighbours
@@ -104,7 +104,7 @@ module _ (cost class : ℕ) (low : 2 ≤ class) (high : class ≤ 3) (falls : co
     own = λ h. (omega (arith, cost_2000), omega (arith, falls, cost_2000));
     by_tree = record {
       stands = refl;
-      first = record {
+      hangs = record {
         present = refl;
         other = λ e. absurd (omega (arith, e));
         edge = allowed 100 50 (at 0 0) (omega arith) (omega arith) (omega arith) (omega arith);
@@ -134,7 +134,7 @@ IsThird-second other c low high most = IsThird-fits (at 0 50) 12800 other 12800 
   own = λ h. absurd (too_far (at 0 50) 12800 other 12800 2 2 c 100 1 refl h);
   by_tree = record {
     stands = refl;
-    first = record {
+    hangs = record {
       present = refl;
       other = λ e. absurd (omega (arith, e));
       edge = allowed 100 50 (at 22 44) (omega arith) (omega arith) (omega arith) (omega arith);
@@ -161,7 +161,7 @@ of_first_parent = IsThird-fits (at 0 50) 12800 12594 12800 1 2 18432 3 100 50 (r
   own = λ h. absurd (too_far (at 0 50) 12800 12594 12800 1 2 18432 100 1 refl h);
   by_tree = record {
     stands = refl;
-    first = record {
+    hangs = record {
       present = refl;
       other = λ e. absurd (omega (arith, e));
       edge = allowed 100 50 (at 22 44) (omega arith) (omega arith) (omega arith) (omega arith);
@@ -188,7 +188,7 @@ cheaper_by_another = IsThird-fits (at 0 50) 12800 12594 12800 1 1 24249 3 100 50
   own = λ h. absurd (too_far (at 0 50) 12800 12594 12800 1 1 24249 100 1 refl h);
   by_tree = record {
     stands = refl;
-    first = record {
+    hangs = record {
       present = refl;
       other = λ e. absurd (omega (arith, e));
       edge = allowed 100 50 (at 0 50) (omega arith) (omega arith) (omega arith) (omega arith);
@@ -215,7 +215,7 @@ on_the_wall = IsThird-fits (at 0 50) 12800 18411 12800 2 1 24249 3 50 50 (record
   own = λ h. absurd (too_far (at 0 50) 12800 18411 12800 2 1 24249 50 1 refl h);
   by_tree = record {
     stands = refl;
-    first = record {
+    hangs = record {
       present = refl;
       other = λ e. absurd (omega (arith, e));
       edge = allowed 50 50 (at 0 50) (omega arith) (omega arith) (omega arith) (omega arith);
@@ -242,7 +242,7 @@ edge_of_a_step = IsThird-fits (at 90 30) 11446 18411 12800 2 1 24249 3 100 50 (r
   own = λ h. absurd (too_far (at 90 30) 11446 18411 12800 2 1 24249 100 1 refl h);
   by_tree = record {
     stands = refl;
-    first = record {
+    hangs = record {
       present = refl;
       other = λ e. absurd (omega (arith, e));
       edge = allowed 100 50 (at 90 30) (omega arith) (omega arith) (omega arith) (omega arith);
@@ -271,7 +271,7 @@ cheaper_not_clear = IsThird-fits (at 0 50) 12800 18412 12800 2 2 24250 2 49 49 (
   own = λ h. absurd (omega (arith, (AreInRoom-from_clear (empty_room (at 100 49)) (at 0 50) (at 40 30) h.clear).first.vertical));
   by_tree = record {
     stands = refl;
-    first = record {
+    hangs = record {
       present = refl;
       other = λ e. absurd (omega (arith, e));
       edge = allowed 49 49 (at 22 44) (omega arith) (omega arith) (omega arith) (omega arith);

@@ -4,7 +4,7 @@ use Rattle.plan_model_tests.proofs.Words.{filter, is_some, abs_diff, range_with_
 use Rattle.std.proofs.lemmas.Bool.{le-leb}
 use Rattle.plan_model_tests.proofs.Common.{Point, empty_room, IsInRoom, squared_distance, steered, class_of, point_at, point_of, IsFree, IsPresent, node_count}
 use Rattle.plan_model_tests.proofs.Common.{IsNotAbove, first_least, distance_to, is_within, near, IsNearest, points_of, sum_of, Nodes, near_new, cost_through}
-use Rattle.plan_model_tests.proofs.Common.{Rewires, EndsPlaced, placed_record, at, node, IsPresent-below, Clear-empty_room, MayBeCheaper-not_skipping}
+use Rattle.plan_model_tests.proofs.Common.{Rewires, Handles, placed_record, at, node, IsPresent-below, Clear-empty_room, MayBeCheaper-not_skipping}
 use Rattle.plan_model_tests.proofs.Common.{IsFirstLeast-among, IsBelowPassing, first_least-some, Contains-near}
 use Rattle.plan_model_tests.specs.NarrowRuns.{narrow_setup}
 
@@ -48,28 +48,35 @@ pub record IsPlaceable (tree : Nodes) (k m : ℕ) (p : Point) (f cost class : �
   pub rewired : Rewires (empty_room (at 100 100)) (tree ++ node p f ∷ []) (suc k) nodes after
 
 -- it is placed under node f, at that cost and class
-pub EndsPlaced-placeable :
+pub Handles-placeable :
     (tree : Nodes) (k m : ℕ) (p : Point) (f cost class : ℕ) (nodes : List ℕ) (after : Nodes)
-    → IsPlaceable tree k m p f cost class nodes after → EndsPlaced narrow_setup tree k p (placed_record k m f cost class) after
-EndsPlaced-placeable tree k m p f cost class nodes after h =
+    → IsPlaceable tree k m p f cost class nodes after → Handles narrow_setup tree k p (placed_record k m f cost class) after
+Handles-placeable tree k m p f cost class nodes after h =
     let points : List (Option Point) = points_of tree in
     let P : List ℕ → Type 0 = λ ns. Contains (m ∷ ns) f in
     let Q : List ℕ → Type 0 = λ ns. All (IsNotAbove (cost_through tree p) f) (m ∷ ns) in
     let R : List ℕ → Type 0 = λ ns. Rewires (empty_room (at 100 100)) (tree ++ node p f ∷ []) (suc k) ns after in
     let best = subst Q (sym h.are_near) h.best in
     record {
-      cheaper = MayBeCheaper-not_skipping narrow_setup (sum_of tree) points p refl;
-      point = p;
-      steers = record { nearest = IsNearest-computed points p m h.nearest; reached = h.reached };
-      free = IsFree-computed points p h.free;
-      clear = Clear-empty_room (at 100 100) (point_of points m) p h.nearest_inside h.inside;
-      parent = record {
-        member = record {
-          among = subst P (sym h.are_near) h.parent;
-          clear = Clear-empty_room (at 100 100) (point_of points f) p h.parent_inside h.inside;
+      worker = refl;
+      turn = refl;
+      ends = record {
+        cheaper = MayBeCheaper-not_skipping narrow_setup (sum_of tree) points p refl;
+        point = p;
+        steers = record { nearest = IsNearest-computed points p m h.nearest; reached = h.reached };
+        reaches = record {
+          free = IsFree-computed points p h.free;
+          clear = Clear-empty_room (at 100 100) (point_of points m) p h.nearest_inside h.inside;
+          parent = record {
+            member = record {
+              among = subst P (sym h.are_near) h.parent;
+              clear = Clear-empty_room (at 100 100) (point_of points f) p h.parent_inside h.inside;
+            };
+            not_above = λ i own. All-contains (IsNotAbove (cost_through tree p) f) (m ∷ near_new narrow_setup points p) i best own.among;
+          };
+          cost = sym h.costs;
+          of_class = sym h.of_class;
+          rewired = subst R (sym h.are_near) h.rewired;
         };
-        not_above = λ i own. All-contains (IsNotAbove (cost_through tree p) f) (m ∷ near_new narrow_setup points p) i best own.among;
       };
-      recorded = ap (λ c. placed_record k m f c class) (sym h.costs) ∙ ap (placed_record k m f (cost_through tree p f)) (sym h.of_class);
-      rewired = subst R (sym h.are_near) h.rewired;
     }

@@ -2,9 +2,9 @@
 use Rattle.plan_model_tests.proofs.Words.{◌≡◌, ℕ, zero, suc, ◌+◌, ◌*◌, ◌<◌, ◌≤◌, Some, None, arith, refl, sym, ap, ◌∙◌, subst, ◌↔◌, IsSome, ◌/◌, unwrap_or}
 use Rattle.plan_model_tests.proofs.Common.{Point, Placed, Record, IsClosed, mark_at, cost_of, squared_distance, IsNotAbove, distance_to, HangsBelow}
 use Rattle.plan_model_tests.proofs.Common.{IsAllowedEdge, most_cost_of, StandsAt, IsPresent, point_of, node_count, IsEarlier, IsLawfulRecord, IsPlacedLawfully}
-use Rattle.plan_model_tests.proofs.Common.{first_cost_through, advanced, steered, early_record, overlapped, placed_by, open_setup, marks_to_rewire, at}
-use Rattle.plan_model_tests.proofs.Common.{Clear-empty_room, no_goal_node, IsNotAbove-lesser, IsNotAbove-refl, cost_2500, root_ceiling-from_squares}
-use Rattle.plan_model_tests.proofs.Common.{Clear-first, RunFromZero, ArePlacedMarks-from, AreTurns-counted}
+use Rattle.plan_model_tests.proofs.Common.{first_hanging, first_cost_through, advanced, steered, early_record, overlapped, placed_by, open_setup}
+use Rattle.plan_model_tests.proofs.Common.{marks_to_rewire, at, Clear-empty_room, no_goal_node, IsNotAbove-lesser, IsNotAbove-refl, cost_2500}
+use Rattle.plan_model_tests.proofs.Common.{root_ceiling-from_squares, Clear-first, RunFromZero, ArePlacedMarks-from, AreTurns-counted}
 use Rattle.plan_model.specs.Geometry.Roots.{root_ceiling}
 
 abbrev second : Record
@@ -189,7 +189,7 @@ law_1 = record {
     };
     by_tree = record {
       stands = refl;
-      first = record { present = refl; other = λ e. absurd (omega (arith, e)); edge = start_first; above = omega (arith, to_first) };
+      hangs = record { present = refl; other = λ e. absurd (omega (arith, e)); edge = start_first; above = omega (arith, to_first) };
       nearest_other = λ e. absurd (omega (arith, e));
       below_first = omega (arith, to_first);
       below_nearest = omega (arith, to_first);
@@ -199,7 +199,7 @@ law_1 = record {
   };
 }
 
-placed_2 : IsPlacedLawfully open_setup overlapped 1 second (at 22 44)
+placed_2 : IsPlacedLawfully open_setup overlapped 1 second 0 (first_hanging second) (at 22 44)
 placed_2 = record {
   by_worker = record {
     clear = start_second.clear;
@@ -209,7 +209,7 @@ placed_2 = record {
   };
   by_tree = record {
     stands = refl;
-    first = record { present = refl; other = λ e. absurd (omega (arith, e)); edge = start_second; above = omega (arith, to_second) };
+    hangs = record { present = refl; other = λ e. absurd (omega (arith, e)); edge = start_second; above = omega (arith, to_second) };
     nearest_other = λ e. absurd (omega (arith, e));
     below_first = omega (arith, to_second);
     below_nearest = omega (arith, to_second);
@@ -223,7 +223,7 @@ law_2 = record {
   cheaper = λ i early goal. absurd (no_goal_node overlapped.points i goal);
   present = refl;
   nearest = nearest_2;
-  outcome = subst (IsPlacedLawfully open_setup overlapped 1 second) (sym reached) placed_2;
+  outcome = subst (IsPlacedLawfully open_setup overlapped 1 second 0 (first_hanging second)) (sym reached) placed_2;
 }
 
 law_3 : IsLawfulRecord open_setup overlapped 2 (at 40 30) third
@@ -240,7 +240,7 @@ law_3 = record {
     };
     by_tree = record {
       stands = refl;
-      first = record { present = refl; other = λ e. absurd (omega (arith, e)); edge = start_third; above = omega (arith, to_third) };
+      hangs = record { present = refl; other = λ e. absurd (omega (arith, e)); edge = start_third; above = omega (arith, to_third) };
       nearest_other = λ e. absurd (omega (arith, e));
       below_first = omega (arith, to_third);
       below_nearest = omega (arith, between);

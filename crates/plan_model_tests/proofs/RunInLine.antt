@@ -1,10 +1,10 @@
 -- The run in which the first near node that is rewired decides that the next one stays.
 use Rattle.plan_model_tests.proofs.Words.{◌≡◌, ℕ, [], ◌∷◌, refl, arith, inl, inr, All, All-cons, All-nil, marks_in_line, tree_in_line, records_in_line}
-use Rattle.plan_model_tests.proofs.Common.{empty_room, IsNotAbove, Nodes, cost_through, IsCheaperThrough, Rewires, EndsPlaced, placed_record, IsTextbookRun}
+use Rattle.plan_model_tests.proofs.Common.{empty_room, IsNotAbove, Nodes, cost_through, IsCheaperThrough, Rewires, Handles, placed_record, IsTextbookRun}
 use Rattle.plan_model_tests.proofs.Common.{sum_of, node, at, Clear-empty_room, IsNotAbove-refl, IsNotAbove-lesser, root_ceiling-from_squares}
 use Rattle.plan_model.specs.Geometry.Roots.{root_ceiling}
 use Rattle.plan_model_tests.specs.NarrowRuns.{narrow_setup}
-use Rattle.plan_model_tests.proofs.NarrowMarks.{EndsPlaced-placeable}
+use Rattle.plan_model_tests.proofs.NarrowMarks.{Handles-placeable}
 
 -- ---- the costs of edges, by the squares of their lengths
 
@@ -54,9 +54,9 @@ first_parent =
     let P : ℕ → Type 0 = IsNotAbove (cost_through one_node (at 0 45)) 0 in
     All-cons P 0 [] (IsNotAbove-refl (cost_through one_node (at 0 45)) 0) (All-nil P)
 
-first_mark : EndsPlaced narrow_setup one_node 0 (at 0 45) (placed_record 0 0 0 11520 1) two_nodes
+first_mark : Handles narrow_setup one_node 0 (at 0 45) (placed_record 0 0 0 11520 1) two_nodes
 unfolding one_node two_nodes
-first_mark = EndsPlaced-placeable one_node 0 0 (at 0 45) 0 11520 1 [] two_nodes (record {
+first_mark = Handles-placeable one_node 0 0 (at 0 45) 0 11520 1 [] two_nodes (record {
   nearest = refl;
   reached = refl;
   free = refl;
@@ -77,9 +77,9 @@ second_parent =
     let P : ℕ → Type 0 = IsNotAbove (cost_through two_nodes (at 35 25)) 1 in
     All-cons P 1 [] (IsNotAbove-refl (cost_through two_nodes (at 35 25)) 1) (All-nil P)
 
-second_mark : EndsPlaced narrow_setup two_nodes 1 (at 35 25) (placed_record 1 1 1 21840 2) three_nodes
+second_mark : Handles narrow_setup two_nodes 1 (at 35 25) (placed_record 1 1 1 21840 2) three_nodes
 unfolding two_nodes three_nodes
-second_mark = EndsPlaced-placeable two_nodes 1 1 (at 35 25) 1 21840 2 [] three_nodes (record {
+second_mark = Handles-placeable two_nodes 1 1 (at 35 25) 1 21840 2 [] three_nodes (record {
   nearest = refl;
   reached = refl;
   free = refl;
@@ -105,9 +105,9 @@ third_rewires : Rewires (empty_room (at 100 100)) four_nodes 3 (2 ∷ []) four_n
 unfolding four_nodes
 third_rewires = (four_nodes, inr ((λ c. omega (arith, c.cheaper, cost_100)), refl), refl)
 
-third_mark : EndsPlaced narrow_setup three_nodes 2 (at 45 25) (placed_record 2 2 2 24400 2) four_nodes
+third_mark : Handles narrow_setup three_nodes 2 (at 45 25) (placed_record 2 2 2 24400 2) four_nodes
 unfolding three_nodes four_nodes
-third_mark = EndsPlaced-placeable three_nodes 2 2 (at 45 25) 2 24400 2 (2 ∷ []) four_nodes (record {
+third_mark = Handles-placeable three_nodes 2 2 (at 45 25) 2 24400 2 (2 ∷ []) four_nodes (record {
   nearest = refl;
   reached = refl;
   free = refl;
@@ -157,9 +157,9 @@ fourth_rewires =
     (five_nodes, inr ((λ c. omega (arith, c.cheaper, cost_1025, cost_800, cost_2025)), refl), third) in
     (five_nodes, inr ((λ c. omega (arith, c.cheaper, cost_1025)), refl), second)
 
-fourth_mark : EndsPlaced narrow_setup four_nodes 3 (at 20 25) (placed_record 3 2 0 8196 3) tree_in_line
+fourth_mark : Handles narrow_setup four_nodes 3 (at 20 25) (placed_record 3 2 0 8196 3) tree_in_line
 unfolding four_nodes five_nodes
-fourth_mark = EndsPlaced-placeable four_nodes 3 2 (at 20 25) 0 8196 3 (0 ∷ 1 ∷ 2 ∷ 3 ∷ []) tree_in_line (record {
+fourth_mark = Handles-placeable four_nodes 3 2 (at 20 25) 0 8196 3 (0 ∷ 1 ∷ 2 ∷ 3 ∷ []) tree_in_line (record {
   nearest = refl;
   reached = refl;
   free = refl;

@@ -1,7 +1,7 @@
 -- The run whose last mark is skipped by node 2, which lies in the goal and costs as much as the bound of the mark.
 use Rattle.plan_model_tests.proofs.Words.{◌≡◌, ℕ, zero, suc, [], ◌∷◌, ◌++◌, None, arith, refl, goal_of_2, marks_to_skip, skipped_records, skipped_tree}
-use Rattle.plan_model_tests.proofs.Common.{EndsSkipped, IsTextbookRun, MayBeCheaper, skipped_record, IsGoalNode, IsNotAbove, points_of, sum_of}
-use Rattle.plan_model_tests.proofs.Common.{open_setup_to, rewired_tree, at, IsNotAbove-refl, cost_2441, cost_2500, rewired_run_with_more, rewired_sum}
+use Rattle.plan_model_tests.proofs.Common.{Handles, IsTextbookRun, MayBeCheaper, skipped_record, IsGoalNode, IsNotAbove, points_of, sum_of, open_setup_to}
+use Rattle.plan_model_tests.proofs.Common.{rewired_tree, at, IsNotAbove-refl, cost_2441, cost_2500, rewired_run_with_more, rewired_sum}
 use Rattle.plan_model.proofs.OpenRoomMarks.{one_node, two_nodes}
 use Rattle.plan_model.proofs.ThreeMarks.{three_nodes}
 use Rattle.plan_model_tests.proofs.WorkedBounds.{to_a_point}
@@ -36,12 +36,11 @@ is_best (suc (suc zero)) goal = IsNotAbove-refl (sum_of rewired_tree) 2
 is_best (suc (suc (suc zero))) goal = cc
 is_best (suc (suc (suc (suc i)))) goal = cc
 
-fourth_mark : EndsSkipped (open_setup_to goal_of_2) rewired_tree 3 (at 40 30) (skipped_record 3 2) (rewired_tree ++ None ∷ [])
+fourth_mark : Handles (open_setup_to goal_of_2) rewired_tree 3 (at 40 30) (skipped_record 3 2) (rewired_tree ++ None ∷ [])
 fourth_mark = record {
-  best = record { member = refl; not_above = is_best };
-  within = omega (arith, rewired_sum, to_a_point);
-  recorded = refl;
-  added = refl;
+  worker = refl;
+  turn = refl;
+  ends = record { best = record { member = refl; not_above = is_best }; within = omega (arith, rewired_sum, to_a_point); added = refl };
 }
 
 -- the four marks, one after another

@@ -35,20 +35,20 @@ pub not_at_its_node : ¬ IsLawfulRecord (room_by 100 50 50) (third (entry_by 2 0
 not_at_its_node h = omega (arith, same_x (at 40 30) (at 30 40) h.outcome.by_tree.stands)
 
 pub first_parent_absent : ¬ IsThird 100 50 third (entry_by 2 4 12800 2)
-first_parent_absent h = let present = h.outcome.by_tree.first.present in cc
+first_parent_absent h = let present = h.outcome.by_tree.hangs.present in cc
 
 pub first_parent_is_itself : ¬ IsThird 100 50 third (entry_by 2 3 12800 2)
-first_parent_is_itself h = h.outcome.by_tree.first.other refl
+first_parent_is_itself h = h.outcome.by_tree.hangs.other refl
 
 pub first_edge_not_clear : ¬ IsThird 49 50 (third_with (at 0 50) 12800 18411 12800) (entry_by 2 1 24249 3)
 first_edge_not_clear h =
-    omega (arith, (AreInRoom-from_clear (empty_room (at 100 49)) (at 0 50) (at 40 30) h.outcome.by_tree.first.edge.clear).first.vertical)
+    omega (arith, (AreInRoom-from_clear (empty_room (at 100 49)) (at 0 50) (at 40 30) h.outcome.by_tree.hangs.edge.clear).first.vertical)
 
 pub first_edge_longer : ¬ IsThird 100 50 (third_with (at 90 31) 11446 18411 12800) (entry_by 2 1 24249 3)
-first_edge_longer h = omega (arith, h.outcome.by_tree.first.edge.short)
+first_edge_longer h = omega (arith, h.outcome.by_tree.hangs.edge.short)
 
 pub below_parent_and_edge : ¬ IsThird 100 50 third (entry_by 2 2 18431 3)
-below_parent_and_edge h = omega (arith, h.outcome.by_tree.first.above, cost_520)
+below_parent_and_edge h = omega (arith, h.outcome.by_tree.hangs.above, cost_520)
 
 pub nearest_is_itself : ¬ IsThird 100 50 third (entry_by 3 0 12800 2)
 nearest_is_itself h = h.outcome.by_tree.nearest_other refl

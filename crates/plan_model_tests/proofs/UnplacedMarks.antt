@@ -66,7 +66,7 @@ module _ (p mark q : Point) (height step : ℕ) (ends : steered p mark step ≡ 
   free zero h stands = omega (arith, apart, same_y p q stands)
   free (suc i) h stands = start_alone p i h
 
-  ends_outside : IsBlockedLawfully (room_by height step 50) (start_at p blocked_record) blocked_record q
+  ends_outside : IsBlockedLawfully (room_by height step 50) (start_at p blocked_record) blocked_record 0 q
   ends_outside = record {
     blocked = λ h. omega (arith, outside, (AreInRoom-from_clear (empty_room (at 100 height)) p q h).last.vertical);
     free = free;
@@ -77,7 +77,7 @@ module _ (p mark q : Point) (height step : ℕ) (ends : steered p mark step ≡ 
     cheaper = λ i early goal. absurd (no_goal_node (start_at p blocked_record).points i goal);
     present = refl;
     nearest = nearest;
-    outcome = subst (IsBlockedLawfully (room_by height step 50) (start_at p blocked_record) blocked_record) (sym ends) ends_outside;
+    outcome = subst (IsBlockedLawfully (room_by height step 50) (start_at p blocked_record) blocked_record 0) (sym ends) ends_outside;
   }
 
 pub blocked : IsLawfulRecord (room_by 9 50 50) (start_at (at 0 0) blocked_record) 0 (at 0 10) blocked_record
@@ -104,4 +104,4 @@ blocked_beside = IsLawfulRecord-blocked (at 7 7) (at 20 20) (at 8 8) 5 2 step_of
 
 pub blocked_at_own_node : ¬ IsLawfulRecord (room_by 5 1 50) (start_at (at 7 7) blocked_record) 0 (at 20 20) blocked_record
 blocked_at_own_node h =
-    (subst (IsBlockedLawfully (room_by 5 1 50) (start_at (at 7 7) blocked_record) blocked_record) step_of_1 h.outcome).free 0 refl refl
+    (subst (IsBlockedLawfully (room_by 5 1 50) (start_at (at 7 7) blocked_record) blocked_record 0) step_of_1 h.outcome).free 0 refl refl

@@ -1,7 +1,9 @@
 -- The definitions and lemmas that proofs of this crate are about, passed on from one place. Declares nothing.
 pub use Rattle.plan_model.proofs.OpenRoomMarks.{cost_2500}
 pub use Rattle.plan_model.proofs.RootLaws.{root_ceiling-from_squares, root_ceiling-zero}
+pub use Rattle.plan_model.specs.Runs.Textbook.{MayBeCheaper, start_alone}
 pub use Rattle.plan_model.specs.Scenes.MarkPoints.{points_of_marks}
+pub use Rattle.plan_model.specs.Vectors.Records.{blocked_record, skipped_record}
 pub use Rattle.plan_model_tests.specs.GrownTrees.{after_with, before, both_records, costs_of, first_by, four_points, moment_of}
 pub use Rattle.plan_model_tests.specs.LesserSights.{child_of_none, found_with, known, one_record, seen_by, sight_of, trees_with}
 pub use Rattle.plan_model_tests.specs.LinkedNodes.{two_children, two_points}
@@ -17,16 +19,15 @@ pub use Rattle.plan_model_tests.specs.SkippedMarks.{skipped_tree}
 pub use Rattle.plan_model_tests.specs.UnclosedRuns.{ended_at_start, one_node_more, overlapped_with, start_below_a_node}
 pub use Rattle.plan_model_tests.specs.UnlawfulRecords.{IsThird, ended, entry_by, halfway, room_by, start_at, third, third_with}
 pub use Rattle.plan_model_tests.specs.UnlawfulTrees.{room_to, start_for_all, three_points, tree_of}
-pub use Rattle.route_laws.proofs.Common.{AreInRoom-from_clear, Clear, Clear-empty_room, ClearAt, Contains-near, EndsPlaced, EndsSame, Goal, HandlesAll}
-pub use Rattle.route_laws.proofs.Common.{IsBelowPassing, IsBetweenWalls, IsCheaperThrough, IsEarlier, IsFirstLeast-among, IsFree, IsGoalNode, IsInRoom}
-pub use Rattle.route_laws.proofs.Common.{IsInRoom-from_clear_at, IsNearest, IsNeighbour, IsNotAbove, IsNotAbove-lesser, IsNotAbove-refl, IsPresent}
-pub use Rattle.route_laws.proofs.Common.{IsPresent-below, IsTextbookRun, MayBeCheaper-not_skipping, Meets, Meets-shares_point, Nodes, Placed, Point, Rational}
-pub use Rattle.route_laws.proofs.Common.{Record, Rewires, Same, Setup, SharesPoint-meets, StandsAt, TreeState, Vertex, advanced, at, at_lattice, class_of}
-pub use Rattle.route_laws.proofs.Common.{corner, corner_in_box, cost_2441, cost_through, distance_to, early_record, empty_room, first_least, first_least-some}
-pub use Rattle.route_laws.proofs.Common.{first_mark, great_triangle, is_within, marks_to_rewire, moved_by, near, near_new, node, node_count, on_the_way}
-pub use Rattle.route_laws.proofs.Common.{open_setup, open_setup_to, overlapped, placed_by, placed_record, point_at, point_body, point_of, points_of}
-pub use Rattle.route_laws.proofs.Common.{rewired_tree, same_record, same_y, small_square, space_among, squared_distance, steered, sum_of, two_is_positive}
-pub use Rattle.route_laws.proofs.Common.{weighted}
+pub use Rattle.route_laws.proofs.Common.{AreInRoom-from_clear, Clear, Clear-empty_room, ClearAt, Contains-near, Goal, Handles, HandlesAll, IsBelowPassing}
+pub use Rattle.route_laws.proofs.Common.{IsBetweenWalls, IsCheaperThrough, IsEarlier, IsFirstLeast-among, IsFree, IsGoalNode, IsInRoom, IsInRoom-from_clear_at}
+pub use Rattle.route_laws.proofs.Common.{IsNearest, IsNeighbour, IsNotAbove, IsNotAbove-lesser, IsNotAbove-refl, IsPresent, IsPresent-below, IsTextbookRun}
+pub use Rattle.route_laws.proofs.Common.{MayBeCheaper-not_skipping, Meets, Meets-shares_point, Nodes, Placed, Point, Rational, Record, Rewires, Same, Setup}
+pub use Rattle.route_laws.proofs.Common.{SharesPoint-meets, StandsAt, TreeState, Vertex, advanced, at, at_lattice, class_of, corner, corner_in_box, cost_2441}
+pub use Rattle.route_laws.proofs.Common.{cost_through, distance_to, early_record, empty_room, first_least, first_least-some, first_mark, great_triangle}
+pub use Rattle.route_laws.proofs.Common.{is_within, marks_to_rewire, moved_by, near, near_new, node, node_count, on_the_way, open_setup, open_setup_to}
+pub use Rattle.route_laws.proofs.Common.{overlapped, placed_by, placed_record, point_at, point_body, point_of, points_of, rewired_tree, same_record, same_y}
+pub use Rattle.route_laws.proofs.Common.{small_square, space_among, squared_distance, steered, sum_of, two_is_positive, weighted}
 pub use Rattle.route_laws.proofs.FollowedBodies.{HasClearDisc-far}
 pub use Rattle.route_laws.proofs.FollowedDiscs.{difference}
 pub use Rattle.route_laws.specs.Chains.{IsChain, IsChainInOrder, IsLinkInOrder, cost_of_chain}

@@ -7,7 +7,7 @@ use Rattle.plan_model.specs.Trees.Branches.{IsBranchLowered}
 use Rattle.plan_model.specs.Runs.OrderLaw.{KeepsFirstCosts}
 use Rattle.plan_model.specs.Trees.NodeLists.{AreTight, CostsFall, without_costs}
 use Rattle.plan_model.specs.Trees.TreeStates.{AreSameRuns, ChangesCosts, GrowsInto, TreeState}
-use Rattle.plan_model.specs.Vectors.Overlaps.{placed_by}
+use Rattle.plan_model.specs.Vectors.Records.{placed_by}
 use Rattle.plan_model.specs.Vectors.Shapes.{at}
 use Rattle.plan_model.specs.Vectors.Trees.{gapped}
 use Rattle.plan_model_tests.specs.UnlawfulTrees.{room_to, three_points}

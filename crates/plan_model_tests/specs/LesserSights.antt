@@ -6,7 +6,7 @@ use Rattle.plan_model.specs.declared.records.Record.{Record}
 use Rattle.plan_model.specs.Seen.SeenParents.{AreSeenLawfully}
 use Rattle.plan_model.specs.Seen.SeenTrees.{FollowSeenWays, HasSeenAtLeast, IsRooted, SeenTree, TreeGrows}
 use Rattle.plan_model.specs.Seen.Sights.{AgreeOnParents, IsLaterMoment, KeepsSight, Sight}
-use Rattle.plan_model.specs.Vectors.Overlaps.{placed_by}
+use Rattle.plan_model.specs.Vectors.Records.{placed_by}
 use Rattle.plan_model.specs.Vectors.SeenTrees.{at_entry, at_return, found_at_entry, found_at_return, tree_before, tree_now, trees_at_entry}
 use Rattle.plan_model.specs.Vectors.Shapes.{at}
 use Rattle.plan_model.specs.Vectors.Ways.{three_children, three_points}

@@ -5,7 +5,8 @@ use Rattle.plan_model.specs.declared.geometry.Point.{Point}
 use Rattle.plan_model.specs.declared.records.Record.{Record}
 use Rattle.plan_model.specs.Spaces.EmptyRooms.{empty_room}
 use Rattle.plan_model.specs.Geometry.Radius.{radius_of}
-use Rattle.plan_model.specs.Runs.Textbook.{Nodes, Setup, placed_record, IsTextbookRun}
+use Rattle.plan_model.specs.Runs.Textbook.{Nodes, Setup, IsTextbookRun}
+use Rattle.plan_model.specs.Vectors.Records.{placed_record}
 use Rattle.plan_model.specs.Trees.NodeLists.{sum_of}
 use Rattle.plan_model.specs.Vectors.Runs.{node}
 use Rattle.plan_model.specs.Vectors.Shapes.{at}

@@ -7,10 +7,12 @@ use Rattle.plan_model.specs.declared.records.Record.{Record}
 use Rattle.plan_model.specs.declared.scenes.Scene.{Scene}
 use Rattle.plan_model.specs.Reports.ReportText.{full_report}
 use Rattle.plan_model.specs.Runs.RecordLaw.{IsLawfulRecord}
-use Rattle.plan_model.specs.Runs.Textbook.{IsTextbookRun, Nodes, skipped_record, unplaced_record}
+use Rattle.plan_model.specs.Runs.Textbook.{IsTextbookRun, Nodes}
+use Rattle.plan_model.specs.Vectors.Records.{skipped_record}
+use Rattle.plan_model.specs.Runs.Endings.{unplaced_record}
 use Rattle.plan_model.specs.Trees.GoalBounds.{bound_of}
 use Rattle.plan_model.specs.Trees.TreeStates.{TreeState, state_of}
-use Rattle.plan_model.specs.Vectors.Overlaps.{placed_by}
+use Rattle.plan_model.specs.Vectors.Records.{placed_by}
 use Rattle.plan_model.specs.Vectors.Reports.{box}
 use Rattle.plan_model.specs.Vectors.Runs.{open_setup_to, rewired_records, rewired_tree}
 use Rattle.plan_model.specs.Vectors.Shapes.{at}

@@ -2,9 +2,9 @@
 use Rattle.std.specs.Prelude.{Some, List, [], ◌∷◌, slice_get, slice_index_or}
 use Rattle.plan_model.specs.declared.records.Record.{Record}
 use Rattle.plan_model.specs.Runs.ClosedLaw.{IsClosed}
-use Rattle.plan_model.specs.Runs.Textbook.{same_record}
+use Rattle.plan_model.specs.Vectors.Records.{same_record}
 use Rattle.plan_model.specs.Trees.TreeStates.{TreeState}
-use Rattle.plan_model.specs.Vectors.Overlaps.{placed_by}
+use Rattle.plan_model.specs.Vectors.Records.{placed_by}
 use Rattle.plan_model.specs.Vectors.Overlaps.{early_record, overlapped}
 use Rattle.plan_model.specs.Vectors.Runs.{open_setup, marks_to_rewire}
 use Rattle.plan_model.specs.Vectors.Shapes.{at}

@@ -8,12 +8,12 @@ pub use Rattle.grown_runs.proofs.Common.{IsCounter, IsCutAt-quota, IsGoalNode, I
 pub use Rattle.grown_runs.proofs.Common.{MOST_MARKS, MOST_WORKERS, MovesNode, Outcome, Placed, Point, PointOf, Record, RecordOf, Same, Sizes, Skipped}
 pub use Rattle.grown_runs.proofs.Common.{StandsAt-present, StandsAt-unique, Task, TreeOf, Word, Words, WritesWord, WritesWord-set, best_cost_in, best_node_in}
 pub use Rattle.grown_runs.proofs.Common.{best_of_word, best_word, child_of_word, class_from_powers, class_of, class_of-le, cleared, cost_in, cost_in-tree_word}
-pub use Rattle.grown_runs.proofs.Common.{cost_of, cost_of-short, count-more, has_node, if_written-set, is_claimed, is_goal_point, is_linked, is_of_worker}
-pub use Rattle.grown_runs.proofs.Common.{last_field, later_word, lies_in_goals, mark_at, no_best, node_count, parent_in, parent_in-tree_word, place_of}
-pub use Rattle.grown_runs.proofs.Common.{place_of-within, point_at, point_in, point_of, point_of_word, point_of_word-packed, point_word, quota_of, record_at}
-pub use Rattle.grown_runs.proofs.Common.{record_of_word, record_word, run_words, seen_tree_of_words, siblings_from, siblings_from-here, sizes_in, sizes_of}
-pub use Rattle.grown_runs.proofs.Common.{skipping_goals, space_of, squared_distance, state-best, state_of_grown, state_of_words, sum-le, sum-more, times-else}
-pub use Rattle.grown_runs.proofs.Common.{times-here, tree_word, turns_of, word-found, word_at-none, word_count, words_in, words_of_grown}
+pub use Rattle.grown_runs.proofs.Common.{cost_of, cost_of-short, count-more, ending_as, has_node, if_written-set, is_claimed, is_goal_point, is_linked}
+pub use Rattle.grown_runs.proofs.Common.{is_of_worker, last_field, later_word, lies_in_goals, mark_at, no_best, node_count, parent_in, parent_in-tree_word}
+pub use Rattle.grown_runs.proofs.Common.{place_of, place_of-within, point_at, point_in, point_of, point_of_word, point_of_word-packed, point_word, quota_of}
+pub use Rattle.grown_runs.proofs.Common.{record_at, record_of_word, record_word, run_words, seen_tree_of_words, siblings_from, siblings_from-here, sizes_in}
+pub use Rattle.grown_runs.proofs.Common.{sizes_of, skipping_goals, space_of, squared_distance, state-best, state_of_grown, state_of_words, sum-le, sum-more}
+pub use Rattle.grown_runs.proofs.Common.{times-else, times-here, tree_word, turns_of, word-found, word_at-none, word_count, words_in, words_of_grown}
 pub use Rattle.grown_runs.specs.ChildChains.{times}
 pub use Rattle.grown_runs.specs.declared.child_index.ChildIndex.{ChildIndex}
 pub use Rattle.grown_runs.specs.declared.grown.Grown.{Grown}

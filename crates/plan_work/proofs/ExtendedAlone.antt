@@ -1,15 +1,15 @@
 -- A pass that works alone handles a mark as in the textbook: what its steps lead to.
-use Rattle.plan_work.proofs.Words.{◌≡◌, ℕ, suc, Some, None, [], ◌∷◌, ◌++◌, sym, ap, ◌∙◌, subst, SeesPlacing, Placing, Clear, mark_at, IsFree, point_of, Handles}
-use Rattle.plan_work.proofs.Words.{MayBeCheaper, SteersTo, unplaced_record, points_of, sum_of, Point, Blocked, Record, FirstOf, PointOf, TreeOf, SeesAsBefore}
-use Rattle.plan_work.proofs.Words.{GoesOn, PassState, SharedState, turn_of, with_view, worker_of, HasSteered, HasRecorded, KeepsRecords, own_unplaced}
-use Rattle.plan_work.proofs.Words.{IsNotSkippedIn, SeesTextbook, WorksAlone, IsFilledWhole, IsSteeredWhole, KeepsNode, KeepsOthers, SeesButCount, pointed}
-use Rattle.plan_work.proofs.Words.{SeesPoint, sees, setup_in, tree_seen, Hand, View}
+use Rattle.plan_work.proofs.Words.{◌≡◌, ℕ, suc, Some, None, [], ◌∷◌, ◌++◌, refl, sym, ap, ◌∙◌, subst, SeesPlacing, Placing, Clear, mark_at, IsFree, point_of}
+use Rattle.plan_work.proofs.Words.{MayBeCheaper, SteersTo, Reaches, Reached, SameNode, NoWay, Steered, ending_of, points_of, sum_of, Point, Blocked, Record}
+use Rattle.plan_work.proofs.Words.{FirstOf, PointOf, TreeOf, SeesAsBefore, GoesOn, PassState, SharedState, turn_of, with_view, worker_of, HasSteered}
+use Rattle.plan_work.proofs.Words.{HasRecorded, KeepsRecords, own_unplaced, IsNotSkippedIn, SeesTextbook, WorksAlone, IsFilledWhole, IsSteeredWhole, KeepsNode}
+use Rattle.plan_work.proofs.Words.{KeepsOthers, SeesButCount, pointed, SeesPoint, sees, setup_in, tree_seen, Hand, View}
 use Rattle.kd_shared.specs.declared.placing.Placing.TheVariants.{Placed, Same}
-use Rattle.plan_model.specs.declared.records.Outcome.TheVariants.{Same as SameNode}
+use Rattle.plan_model.specs.declared.records.Outcome.TheVariants.{Same as SameMark}
 use Rattle.plan_work.proofs.AloneMarks.{KeepsRun-refl, SeesTextbook-recorded, SeesTextbook-still, WorksAlone-recorded, WorksAlone-still}
 use Rattle.plan_work.proofs.MirroredTrees.{Mirrors-absent, SteersTo-mirrored, point_of-mirrored}
 use Rattle.plan_work.proofs.SkippedAlone.{IsNotSkippedIn-kept, MayBeCheaper-mirrored}
-use Rattle.plan_work.proofs.TextbookSteps.{Handles-blocked, Handles-same}
+use Rattle.plan_work.proofs.TextbookSteps.{Handles-steered}
 use Rattle.plan_work.proofs.WholeLists.{IsFilledWhole-still, IsSteeredWhole-found, IsSteeredWhole-still}
 
 -- nodes are kept by calls that show nothing new before
@@ -81,36 +81,33 @@ module _
   -- ---- without a node
 
   module _ (done : PassState) (entry : Record) (recorded : HasRecorded shared found done entry) where
-    unplaced : Handles (setup_in found.view.run) book.tree k (mark_at found.view.run.marks k) entry (book.tree ++ None ∷ [])
-        → WorksAlone done.view (suc k) × SeesTextbook done.view (suc k)
-    unplaced handles = (
+    unplaced : (reached : Reached) → ending_of entry ≡ Steered m reached
+        → Reaches (setup_in found.view.run) book.tree k m p reached (book.tree ++ None ∷ []) → WorksAlone done.view (suc k) × SeesTextbook done.view (suc k)
+    unplaced reached is reaches = (
       WorksAlone-recorded shared found.view found done hand k entry recorded held mark (KeepsRun-refl found.view k) alone,
       SeesTextbook-recorded shared found.view found done hand k entry recorded held mark (KeepsRun-refl found.view k) book (book.tree ++ None ∷ [])
-          handles (Mirrors-absent found.view book.tree book.nodes) book.best,
+          (Handles-steered (setup_in found.view.run) book.tree k m (mark_at found.view.run.marks k) p entry reached (book.tree ++ None ∷ [])
+          cheaper_tree steers_tree (recorded.worker ∙ ap worker_of alone.crew) (recorded.turn ∙ ap turn_of alone.crew) is reaches)
+          (Mirrors-absent found.view book.tree book.nodes) book.best,
     )
 
     -- a node stands at p
-    pub AloneNext-found : (j : ℕ) → entry ≡ own_unplaced found.view m (SameNode j) → SeesPoint found.view j p
+    pub AloneNext-found : (j : ℕ) → entry ≡ own_unplaced found.view m (SameMark j) → SeesPoint found.view j p
         → WorksAlone done.view (suc k) × SeesTextbook done.view (suc k)
-    AloneNext-found j is stands =
-        unplaced
-        (Handles-same (setup_in found.view.run) book.tree k m (mark_at found.view.run.marks k) p entry
-        cheaper_tree steers_tree j
-        (sym (book.nodes.points j) ∙ stands)
-        (is ∙ ap (λ members. unplaced_record (worker_of members) (turn_of members) m (SameNode j)) alone.crew))
+    AloneNext-found j is stands = unplaced (SameNode j) (ap ending_of is) (sym (book.nodes.points j) ∙ stands, refl)
 
     -- or the segment to it is blocked
     pub AloneNext-blocked : IsFree (tree_seen found.view).points p
         → ¬ Clear (setup_in found.view.run).space (point_of (tree_seen found.view).points m) p
         → entry ≡ own_unplaced found.view m Blocked → WorksAlone done.view (suc k) × SeesTextbook done.view (suc k)
-    AloneNext-blocked free blocked is =
-        unplaced
-        (Handles-blocked (setup_in found.view.run) book.tree k m (mark_at found.view.run.marks k) p entry
-        cheaper_tree steers_tree
-        (λ j stands. free j (book.nodes.points j ∙ stands))
-        (λ clear.
-        blocked (subst (λ a. Clear (setup_in found.view.run).space a p) (sym (point_of-mirrored found.view book.tree book.nodes m)) clear))
-        (is ∙ ap (λ members. unplaced_record (worker_of members) (turn_of members) m Blocked) alone.crew))
+    AloneNext-blocked free blocked is = unplaced NoWay (ap ending_of is) (
+      record {
+        free = λ j stands. free j (book.nodes.points j ∙ stands);
+        blocked = λ clear.
+            blocked (subst (λ a. Clear (setup_in found.view.run).space a p) (sym (point_of-mirrored found.view book.tree book.nodes m)) clear);
+      },
+      refl,
+    )
 
   -- ---- with its point written
 

@@ -1,19 +1,19 @@
 -- A mark is handled in steps: what the first of them leave, and what all of them leave together.
 use Rattle.plan_work.proofs.Words.{◌≡◌, ℕ, ◌≤◌, Some, inl, refl, sym, ap, ◌∙◌, subst, arith, IfSome, IsSome, is_some, Clear, space_of, IsFree, point_of}
 use Rattle.plan_work.proofs.Words.{EndsSince, IsSwept, Point, Blocked, Record, point_of-stands, EndsSince-later, IsBounded, Count, Counter, PointOf, RecordOf}
-use Rattle.plan_work.proofs.Words.{point_of_word, Outcome, BelongsTo, GoesOn, PassState, SharedState, turn_of, with_view, worker_of, BelongsTo-later}
-use Rattle.plan_work.proofs.Words.{GoesOn-trans, SeesBestSince, SeesBestSince-trans, IsLaterMoment-later, KeepsSight-lawful, point_at-seen, seen-within}
-use Rattle.plan_work.proofs.Words.{IsUnskipped, MayBeBlocked, MayRecord, one_turn_more, pointed, IsSteered, SeesPoint, sight_in, run_sizes, sees, setup_in}
-use Rattle.plan_work.proofs.Words.{tree_seen, has_node-recorded, present_recorded, Hand, SharedRun, Pointed, View, stands_later, OnlyLooks, EndsAsSteered}
-use Rattle.plan_work.proofs.Words.{HandlesMark, HasSteered, IsBlockedAt, WasSteered, EndsWritten, HasFilledNear, HasRecorded, IsFilledSince}
-use Rattle.plan_work.proofs.Words.{IsSteeredAndHandled, IsSteeredTo, KeepsRecords, MayPlace, own_unplaced}
+use Rattle.plan_work.proofs.Words.{point_of_word, Reached, SameNode, NoWay, Steered, ending_of, BelongsTo, GoesOn, PassState, SharedState, turn_of, with_view}
+use Rattle.plan_work.proofs.Words.{worker_of, BelongsTo-later, GoesOn-trans, SeesBestSince, SeesBestSince-trans, IsLaterMoment-later, KeepsSight-lawful}
+use Rattle.plan_work.proofs.Words.{point_at-seen, seen-within, IsUnskipped, MayRecord, one_turn_more, pointed, IsSteered, SeesPoint, sight_in, run_sizes, sees}
+use Rattle.plan_work.proofs.Words.{setup_in, tree_seen, has_node-recorded, present_recorded, Hand, SharedRun, Pointed, View, stands_later, OnlyLooks}
+use Rattle.plan_work.proofs.Words.{HandlesMark, HasSteered, ReachesAsSeen, HasReached, HasFilledNear, HasRecorded, IsFilledSince, IsSteeredAndHandled}
+use Rattle.plan_work.proofs.Words.{IsSteeredTo, KeepsRecords, MayPlace, own_unplaced}
 use Rattle.grown_runs.proofs.Common.{Same}
 use Rattle.plan_work.proofs.HeldMarks.{holding, if_held}
 use Rattle.plan_work.proofs.KeptRecords.{KeepsRecords-looks, KeepsRecords-trans}
 use Rattle.plan_work.proofs.KeptSights.{HasSteered-still}
 use Rattle.plan_work.proofs.RecordedMarks.{HandlesMark-recorded, IsSteeredTo-still, MaySteer-steered, others_still}
 use Rattle.plan_work.proofs.SkippedMarks.{IsUnskipped-kept}
-use Rattle.plan_work.proofs.SteeredOutcomes.{EndsAsSteered-written, WasSteered-to}
+use Rattle.plan_work.proofs.SteeredOutcomes.{WasSteered-to}
 use Rattle.plan_work.proofs.TriedMarks.{HasFilledNear-still}
 
 -- ---- one after another
@@ -141,64 +141,55 @@ module _
   pub MayRecord-found : IsUnskipped found.view hand → (j : ℕ) → SeesPoint found.view j p
       → IfSome found.view.hand (λ h. MayRecord found.view h (own_unplaced found.view m (Same j)))
   MayRecord-found unskipped j stands =
-      if_held found.view (λ h. MayRecord found.view h (own_unplaced found.view m (Same j))) hand held (
-        unskipped,
-        MaySteer-steered found.view hand k m p (own_unplaced found.view m (Same j)) (SeesPoint found.view j)
-            (IsSteeredTo-found shared before found k m from p keeps steers) mark refl stands,
-      )
+      if_held found.view (λ h. MayRecord found.view h (own_unplaced found.view m (Same j))) hand held
+      (MaySteer-steered found.view hand k m p (own_unplaced found.view m (Same j)) (SameNode j)
+      (IsSteeredTo-found shared before found k m from p keeps steers) mark (unskipped, stands))
 
   -- or the segment to it is blocked
   pub MayRecord-blocked : IsUnskipped found.view hand → IsFree (tree_seen found.view).points p
       → ¬ Clear (setup_in found.view.run).space (point_of (tree_seen found.view).points m) p
       → IfSome found.view.hand (λ h. MayRecord found.view h (own_unplaced found.view m Blocked))
   MayRecord-blocked unskipped free blocked =
-      if_held found.view (λ h. MayRecord found.view h (own_unplaced found.view m Blocked)) hand held (
-        unskipped,
-        MaySteer-steered found.view hand k m p (own_unplaced found.view m Blocked) (MayBeBlocked found.view (own_unplaced found.view m Blocked))
-            (IsSteeredTo-found shared before found k m from p keeps steers) mark refl
-            record { blocked = blocked; free = λ i own. free i },
-      )
+      if_held found.view (λ h. MayRecord found.view h (own_unplaced found.view m Blocked)) hand held
+      (MaySteer-steered found.view hand k m p (own_unplaced found.view m Blocked) NoWay
+      (IsSteeredTo-found shared before found k m from p keeps steers) mark (unskipped, record { blocked = blocked; free = λ i own. free i }))
 
   module _ (done : PassState) (entry : Record) (recorded : HasRecorded shared found done entry) where
     handles : HandlesMark shared before done k entry
     handles = HandlesMark-recorded shared before found done hand k entry keeps recorded held mark
 
-    was_steered : entry.nearest ≡ m → (EndsAt : Point → Type 0) → EndsAt p → WasSteered before.view done.view k entry EndsAt
-    was_steered is EndsAt ended =
-        WasSteered-to before.view done.view k entry from p EndsAt
-        (subst (λ n. HasSteered before.view done.view k n from p) (sym is)
-        (HasSteered-still before.view found.view done.view keeps.goes_on recorded.goes_on k m from p steers)) ended
-
-    extended : (outcome : Outcome) → entry.outcome ≡ outcome → EndsAsSteered before.view done.view k entry outcome
+    extended : (reached : Reached) → ending_of entry ≡ Steered m reached → ReachesAsSeen before.view done.view k m reached p
         → IsSteeredAndHandled before.view done.view k entry
-    extended outcome is ended = record { stored = handles.stored; outcome = subst (EndsAsSteered before.view done.view k entry) (sym is) ended }
+    extended reached is ended = record {
+      stored = handles.stored;
+      nearest = m;
+      reached = reached;
+      ending = is;
+      steered =
+          WasSteered-to before.view done.view k m from p reached
+          (HasSteered-still before.view found.view done.view keeps.goes_on recorded.goes_on k m from p steers) ended;
+    }
 
     pub IsExtended-found : (j : ℕ) → entry ≡ own_unplaced found.view m (Same j) → SeesPoint found.view j p → IsSteeredAndHandled before.view done.view k entry
-    IsExtended-found j is stands =
-        extended (Same j) (ap (λ (e : Record). e.outcome) is)
-        (was_steered (ap (λ (e : Record). e.nearest) is) (SeesPoint done.view j) (stands_later found.view done.view recorded.goes_on j p stands))
+    IsExtended-found j is stands = extended (SameNode j) (ap ending_of is) (stands_later found.view done.view recorded.goes_on j p stands)
 
     pub IsExtended-blocked : (steering : View) → GoesOn before.view steering → GoesOn steering found.view → entry ≡ own_unplaced found.view m Blocked
         → IsFree (tree_seen found.view).points p → EndsSince (sight_in found.view) steering.steps p
         → ¬ Clear (setup_in found.view.run).space (point_of (tree_seen found.view).points m) p → IsSteeredAndHandled before.view done.view k entry
     IsExtended-blocked steering one two is free ends blocked =
         let last = ap (λ (x : PassState). x.view) (recorded.view hand held) in
-        let nearest = ap (λ (e : Record). e.nearest) is in
         let at : point_of (tree_seen done.view).points m ≡ point_of (tree_seen found.view).points m =
         point_of-stands (tree_seen done.view).points m from (stands_later found.view done.view recorded.goes_on m from steers.stands)
         ∙ sym (point_of-stands (tree_seen found.view).points m from steers.stands) in
-        let ended : IsBlockedAt before.view done.view entry p =
-        record {
+        extended NoWay (ap ending_of is) record {
           blocked = λ clear.
               blocked
               (subst (λ (r : SharedRun). Clear (setup_in r).space (point_of (tree_seen found.view).points m) p) recorded.goes_on.later.run
-              (subst (λ q. Clear (setup_in done.view.run).space q p) at
-              (subst (λ n. Clear (setup_in done.view.run).space (point_of (tree_seen done.view).points n) p) nearest clear)));
+              (subst (λ q. Clear (setup_in done.view.run).space q p) at clear));
           free = free_still found.view done.view recorded.goes_on.later.run
               (λ n. others_still found.view done.view hand entry held last keeps.goes_on.lawful (PointOf n) (λ e. cc)) p free;
           swept = swept_since before.view steering found.view done.view one two recorded.goes_on p ends;
-        } in
-        extended Blocked (ap (λ (e : Record). e.outcome) is) (was_steered nearest (IsBlockedAt before.view done.view entry) ended)
+        }
 
 -- ---- marks whose point is written
 
@@ -263,14 +254,15 @@ module _
 pub IsExtended-written :
     (shared : SharedState) (before steering found written done : PassState) (k m : ℕ) (from p : Point) (entry : Record)
     → HasLooked shared before steering found k m from p → KeepsRecords shared before written → GoesOn found.view written.view
-    → HandlesMark shared written done k entry → entry.nearest ≡ m → EndsWritten before.view done.view k entry p entry.outcome
-    → IsSteeredAndHandled before.view done.view k entry
-IsExtended-written shared before steering found written done k m from p entry looked keeps goes_on handles is ended = record {
+    → HandlesMark shared written done k entry → HasReached before.view done.view k entry m p → IsSteeredAndHandled before.view done.view k entry
+IsExtended-written shared before steering found written done k m from p entry looked keeps goes_on handles ended = record {
   stored = handles.stored;
-  outcome =
-      EndsAsSteered-written before.view done.view k entry from p
-      (subst (λ n. HasSteered before.view done.view k n from p) (sym is)
+  nearest = m;
+  reached = ended.reached;
+  ending = ended.ending;
+  steered =
+      WasSteered-to before.view done.view k m from p ended.reached
       (HasSteered-still before.view found.view done.view looked.keeps.goes_on
-      (GoesOn-trans found.view written.view done.view goes_on handles.goes_on) k m from p looked.steers))
-      entry.outcome ended;
+      (GoesOn-trans found.view written.view done.view goes_on handles.goes_on) k m from p looked.steers)
+      ended.as_seen;
 }

@@ -2,21 +2,21 @@
 use Rattle.plan_work.proofs.Words.{◌≡◌, ℕ, suc, ◌+◌, ◌<◌, ◌≤◌, ◌^◌, Some, None, [], ◌∷◌, ◌++◌, length, arith, refl, sym, ap, ◌∙◌, subst, inl, inr, All}
 use Rattle.plan_work.proofs.Words.{Contains, List, Option, cases_lt, get_or_past, All-cons, All-contains, Contains-get_or, length-map-range_with_len, Clear}
 use Rattle.plan_work.proofs.Words.{ClearAt, mark_at, space_of, IsFirstLeast, IsOpenTo, IsFree, IsPresent, node_count, point_at, point_of, class_of, Handles}
-use Rattle.plan_work.proofs.Words.{IsBestParent, Nodes, Rewires, Setup, SteersTo, near_new, cost_through, placed_record, unplaced_record, points_of, Point}
+use Rattle.plan_work.proofs.Words.{IsBestParent, Nodes, Rewires, Setup, SteersTo, near_new, cost_through, points_of, NewNode, SameNode, ending_of, Point}
 use Rattle.plan_work.proofs.Words.{Record, candidate-reachable, IsPresent-stands, PlacesNode, Contains-after, Contains-first, ConfigurationSpace}
 use Rattle.plan_work.proofs.Words.{cost_in-tree_word, parent_in-tree_word, seen_point, FirstOf, PointOf, RecordOf, TreeOf, best_word, cost_in, parent_in}
 use Rattle.plan_work.proofs.Words.{point_of_word, tree_word, numbers_of, HasPostedGoals-more, HasPostedGoals-step, lies-at, HasPostedGoals, PassState}
 use Rattle.plan_work.proofs.Words.{SharedState, turn_of, worker_of, Contains-cases, point_at-seen, has_link, SeesPoint, run_sizes, sees, setup_in, tree_seen}
-use Rattle.plan_work.proofs.Words.{SeesGoal, HasRecorded, IsTried, KeepsRecords, MayPlace, hung_by, own_placed, own_unplaced, placed_hand, IsNotSkippedIn}
-use Rattle.plan_work.proofs.Words.{SeesTextbook, WorksAlone, IsFilledWhole, IsSteeredWhole, IsTriedWhole, Hanging, Hand, SharedRun, View, stands_later, Mirrors}
-use Rattle.plan_work.proofs.Words.{IsInReach, NamesLoweredOrPoint, SeesAnew, seen_cost_through}
+use Rattle.plan_work.proofs.Words.{SeesGoal, HasRecorded, IsTried, KeepsRecords, MayPlace, hung_by, given_by, own_placed, own_unplaced, placed_hand}
+use Rattle.plan_work.proofs.Words.{IsNotSkippedIn, SeesTextbook, WorksAlone, IsFilledWhole, IsSteeredWhole, IsTriedWhole, Hanging, Hand, SharedRun, View}
+use Rattle.plan_work.proofs.Words.{stands_later, Mirrors, IsInReach, NamesLoweredOrPoint, SeesAnew, seen_cost_through}
 use Rattle.kd_shared.specs.declared.placing.Placing.TheVariants.{Placed, Same}
-use Rattle.plan_model.specs.declared.records.Outcome.TheVariants.{Placed as PlacedMark, Same as SameNode}
+use Rattle.plan_model.specs.declared.records.Outcome.TheVariants.{Same as SameMark}
 use Rattle.plan_work.proofs.AloneMarks.{KeepsRun, SeesTextbook-recorded, WorksAlone-recorded}
 use Rattle.plan_work.proofs.EqualPoints.{count-same, near_new-same}
 use Rattle.plan_work.proofs.MirroredTrees.{IsBestParent-mirrored, Mirrors-absent, Mirrors-placed, Mirrors-still, SeesNewNode, SteersTo-mirrored}
 use Rattle.plan_work.proofs.MirroredTrees.{seen_cost_through-mirrored, point_of-mirrored}
-use Rattle.plan_work.proofs.TextbookSteps.{Handles-placed, Handles-same, KeepsOrder-run, RecordsNext-run}
+use Rattle.plan_work.proofs.TextbookSteps.{Handles-steered, KeepsOrder-run, RecordsNext-run}
 use Rattle.plan_work.proofs.SkippedAlone.{MayBeCheaper-mirrored}
 use Rattle.plan_work.proofs.SkippedMarks.{has_first-placed, held_on}
 
@@ -43,7 +43,7 @@ module _
     (shared : SharedState) (before tried done : PassState) (k m j : ℕ) (p : Point) (hanging : Hanging) (entry : Record)
     (may : MayPlace shared before k m p) (keeps : KeepsRecords shared before tried) (is_tried : IsTried before tried may.hand (Same j) hanging)
     (whole : IsTriedWhole (space_of shared.task.scene) before.view tried.view k p m (numbers_of before.lists.search.found) (Same j) hanging)
-    (recorded : HasRecorded shared tried done entry) (is : entry ≡ own_unplaced tried.view m (SameNode j))
+    (recorded : HasRecorded shared tried done entry) (is : entry ≡ own_unplaced tried.view m (SameMark j))
     (steers : IsSteeredWhole before.view k m p) (alone : WorksAlone before.view k) (book : SeesTextbook before.view k)
     (cheaper : IsNotSkippedIn before.view k) where
   same_run : KeepsRun before.view tried.view k
@@ -66,11 +66,11 @@ module _
   same_handles : Handles (setup_in before.view.run) book.tree k (mark_at before.view.run.marks k) entry (book.tree ++ None ∷ [])
   same_handles =
       let crew : tried.view.crew ≡ record { worker = 0; turn = k } ∷ [] = keeps.crew ∙ alone.crew in
-      Handles-same (setup_in before.view.run) book.tree k m (mark_at before.view.run.marks k) p entry
+      Handles-steered (setup_in before.view.run) book.tree k m (mark_at before.view.run.marks k) p entry (SameNode j) (book.tree ++ None ∷ [])
       (MayBeCheaper-mirrored before.view book.tree book.nodes k cheaper)
-      (SteersTo-mirrored before.view book.tree book.nodes (mark_at before.view.run.marks k) p m steers) j
-      (sym (same_mirrors.points j) ∙ subst (SeesPoint tried.view j) may.pointed.point is_tried.came.stands)
-      (is ∙ ap (λ crew. unplaced_record (worker_of crew) (turn_of crew) m (SameNode j)) crew)
+      (SteersTo-mirrored before.view book.tree book.nodes (mark_at before.view.run.marks k) p m steers)
+      (recorded.worker ∙ ap worker_of crew) (recorded.turn ∙ ap turn_of crew) (ap ending_of is)
+      (sym (same_mirrors.points j) ∙ subst (SeesPoint tried.view j) may.pointed.point is_tried.came.stands, refl)
 
   pub AloneNext-same : WorksAlone done.view (suc k) × SeesTextbook done.view (suc k)
   AloneNext-same = (
@@ -95,20 +95,6 @@ IsFirstLeast-of space points p key m f one other to back h = record {
       | inl same ↦ subst (Contains (m ∷ ns)) same (Contains-first m ns)
       | inr more ↦ Contains-after m ns n (within n more)
     ]
-
--- the record of a placed mark by its fields
-abbrev own_by : ℕ → ℕ → ℕ → ℕ → ℕ → ℕ → Record
-own_by nearest parent worker turn cost class =
-    record {
-      worker = worker;
-      turn = turn;
-      nearest = nearest;
-      outcome = PlacedMark;
-      first_parent = parent;
-      first_cost = cost;
-      class = class;
-      unplaced = refl;
-    }
 
 module _
     (shared : SharedState) (before tried : PassState) (k m : ℕ) (p : Point) (hanging : Hanging) (may : MayPlace shared before k m p)
@@ -266,19 +252,21 @@ module _
     class_is : hanging.class ≡ class_of (node_count (points_of tree))
     class_is = filled.class_is ∙ ap class_of (count-same (tree_seen before.view).points (points_of tree) book.nodes.points)
 
-    entry_is : entry ≡ placed_record k m f (cost_through tree p f) (class_of (node_count (points_of tree)))
-    entry_is =
-        is
-        ∙ ap (λ members. own_by m f (worker_of members) (turn_of members) hanging.cost hanging.class) crew
-        ∙ ap (λ c. own_by m f 0 k c hanging.class) cost_is ∙ ap (own_by m f 0 k (cost_through tree p f)) class_is
-
     handles : Handles (setup_in before.view.run) book.tree k (mark_at before.view.run.marks k) entry now
     handles =
-        Handles-placed setup tree k m (mark_at before.view.run.marks k) p entry
-        (MayBeCheaper-mirrored before.view tree book.nodes k cheaper) steers_tree f now free clear_tree parent entry_is
-        (subst (λ ns. Rewires setup.space (tree ++ Some (record { point = p; parent = f }) ∷ []) (suc k) ns now) near_is
-        (subst (λ s. Rewires s (tree ++ Some (record { point = p; parent = f }) ∷ []) (suc k) (near_new setup (tree_seen before.view).points p) now) space
-        rewired))
+        Handles-steered setup tree k m (mark_at before.view.run.marks k) p entry (NewNode (given_by hanging)) now
+        (MayBeCheaper-mirrored before.view tree book.nodes k cheaper) steers_tree (recorded.worker ∙ ap worker_of crew) (recorded.turn ∙ ap turn_of crew)
+        (ap ending_of is) record {
+          free = free;
+          clear = clear_tree;
+          parent = parent;
+          cost = cost_is;
+          of_class = class_is;
+          rewired =
+              subst (λ ns. Rewires setup.space (tree ++ Some (record { point = p; parent = f }) ∷ []) (suc k) ns now) near_is
+              (subst (λ s. Rewires s (tree ++ Some (record { point = p; parent = f }) ∷ []) (suc k) (near_new setup (tree_seen before.view).points p) now)
+              space rewired);
+        }
 
     held : after.view.hand ≡ Some counted_hand
     held = held_on tried.view after.view (hung_by may.hand hanging) is_tried.came.counted seen.kept.hand seen.goes_on

@@ -1,16 +1,16 @@
 -- A mark whose node was placed: what its neighbours cost, what may be recorded, and what the whole handling leaves.
 use Rattle.plan_work.proofs.Words.{◌≡◌, ◌≢◌, ℕ, zero, suc, ◌+◌, ◌*◌, ◌≤◌, ◌^◌, true, Some, inl, inr, refl, sym, ap, ◌∙◌, subst, arith, All, Contains, IfSome}
-use Rattle.plan_work.proofs.Words.{IsTrue, leb-true, All-contains, Clear, space_of, cost_of, squared_distance, lies_in_goals, distance_to, is_within, point_at}
+use Rattle.plan_work.proofs.Words.{IsTrue, leb-true, All-contains, Clear, space_of, cost_of, squared_distance, lies_in_goals, is_within, point_at}
 use Rattle.plan_work.proofs.Words.{point_of, class_of, radius_of_class, Point, Record, cost_of-swap, IsPresent-stands, StandsAt-present, point_of-stands}
-use Rattle.plan_work.proofs.Words.{class_of-le, Clear-back, Word, Count, FirstOf, RecordOf, TreeOf, best_word, cost_in, tree_word, numbers_of, GoesOn}
-use Rattle.plan_work.proofs.Words.{PassState, SharedState, GoesOn-trans, IsOwnNeighbour, MayBePlaced, MayRecord, is_own_node, own_count, own_first_cost}
-use Rattle.plan_work.proofs.Words.{SeesPoint, sight_in, sees, setup_in, tree_seen, has_node-recorded, own_recorded, present_recorded, SweepsWithin, Hand}
-use Rattle.plan_work.proofs.Words.{SharedRun, View, SeesPair-later, cost_seen-later, stands_later, HasSpreadFalls-still, HasSpreadFalls, IsLoadedSince}
-use Rattle.plan_work.proofs.Words.{NamesLoweredOrPoint, SeesAnew, SeesPair, cost_seen, IsPlacedAt, IsWithinRadius, WasChosen, WasNeighbour, WasRewired}
-use Rattle.plan_work.proofs.Words.{radius_in, HasFilledNear, HasRecorded, IsFilledSince, IsTried, KeepsRecords, MayPlace, hung_by, own_placed, placed_hand}
-use Rattle.plan_work.proofs.Words.{own_unplaced, Hanging}
+use Rattle.plan_work.proofs.Words.{class_of-le, Clear-back, Word, Count, FirstOf, RecordOf, TreeOf, best_word, cost_in, NewNode, SameNode, numbers_of, GoesOn}
+use Rattle.plan_work.proofs.Words.{PassState, SharedState, GoesOn-trans, IsOwnNeighbour, MayRecord, is_own_node, own_count, own_first_cost, SeesPoint, sight_in}
+use Rattle.plan_work.proofs.Words.{sees, setup_in, tree_seen, has_node-recorded, own_recorded, present_recorded, SweepsWithin, Hand, SharedRun, View}
+use Rattle.plan_work.proofs.Words.{SeesPair-later, cost_seen-later, stands_later, HasSpreadFalls-still, HasSpreadFalls, IsLoadedSince, NamesLoweredOrPoint}
+use Rattle.plan_work.proofs.Words.{SeesAnew, SeesPair, cost_seen, IsPlacedAt, IsWithinRadius, WasChosen, WasNeighbour, WasRewired, radius_in, HasFilledNear}
+use Rattle.plan_work.proofs.Words.{HasRecorded, IsFilledSince, IsTried, KeepsRecords, MayPlace, given_by, hung_by, own_placed, placed_hand, own_unplaced}
+use Rattle.plan_work.proofs.Words.{Hanging}
 use Rattle.kd_shared.specs.declared.placing.Placing.TheVariants.{Placed, Same}
-use Rattle.plan_model.specs.declared.records.Outcome.TheVariants.{Same as SameNode}
+use Rattle.plan_model.specs.declared.records.Outcome.TheVariants.{Same as SameMark}
 use Rattle.plan_work.proofs.FilledNear.{looked_still}
 use Rattle.plan_work.proofs.KeptSights.{SweepsWithin-still}
 use Rattle.plan_work.proofs.HeldMarks.{if_held, of_held}
@@ -46,14 +46,14 @@ cost-first before mid after one other entry records (suc k) own pair = omega (ar
 pub MayRecord-same :
     (shared : SharedState) (before after : PassState) (k m : ℕ) (p : Point) (hanging : Hanging) (j : ℕ) (may : MayPlace shared before k m p)
     → KeepsRecords shared before after → IsTried before after may.hand (Same j) hanging
-    → IfSome after.view.hand (λ hand. MayRecord after.view hand (own_unplaced after.view m (SameNode j)))
+    → IfSome after.view.hand (λ hand. MayRecord after.view hand (own_unplaced after.view m (SameMark j)))
 MayRecord-same shared before after k m p hanging j may keeps tried =
-    if_held after.view (λ hand. MayRecord after.view hand (own_unplaced after.view m (SameNode j))) (hung_by may.hand hanging) tried.came.unchanged (
+    if_held after.view (λ hand. MayRecord after.view hand (own_unplaced after.view m (SameMark j))) (hung_by may.hand hanging) tried.came.unchanged
+    (MaySteer-steered after.view (hung_by may.hand hanging) k m p (own_unplaced after.view m (SameMark j)) (SameNode j)
+    (IsSteeredTo-still before.view after.view k m p keeps.goes_on keeps.records may.steered) may.mark (
       IsUnskipped-kept before.view after.view may.hand (hung_by may.hand hanging) keeps.goes_on.later.run refl refl may.unskipped,
-      MaySteer-steered after.view (hung_by may.hand hanging) k m p (own_unplaced after.view m (SameNode j)) (SeesPoint after.view j)
-          (IsSteeredTo-still before.view after.view k m p keeps.goes_on keeps.records may.steered) may.mark refl
-          (subst (SeesPoint after.view j) may.pointed.point tried.came.stands),
-    )
+      subst (SeesPoint after.view j) may.pointed.point tried.came.stands,
+    ))
 
 -- what a rewiring says of the node in hand, by its point and its cost
 pub Rewired-hand :
@@ -177,7 +177,7 @@ module _
       (present_recorded first.view since.keeps.goes_on.was_lawful i
       (sym (has_node-recorded first.view after.view first_records i) ∙ own_recorded after.view entry i own))
 
-  close_own : (i : ℕ) → IsOwnNeighbour after.view entry may.hand.point i → IsCloseBy i (point_of (tree_seen after.view).points i)
+  close_own : (i : ℕ) → IsOwnNeighbour after.view entry hanging.class may.hand.point i → IsCloseBy i (point_of (tree_seen after.view).points i)
   close_own i h =
       let points = (tree_seen after.view).points in
       let old = (tree_seen first.view).points in
@@ -208,8 +208,8 @@ module _
   pub MayRecord-placed : IfSome after.view.hand (λ hand. MayRecord after.view hand entry)
   MayRecord-placed =
       if_held after.view (λ hand. MayRecord after.view hand entry) counted_hand held_after
-      (MaySteer-steered after.view counted_hand k m p entry (λ q. MayBePlaced after.view counted_hand entry)
-      (IsSteeredTo-still before.view after.view k m p whole records may.steered) may.mark refl
+      (MaySteer-steered after.view counted_hand k m p entry (NewNode (given_by hanging))
+      (IsSteeredTo-still before.view after.view k m p whole records may.steered) may.mark
       record {
         nearest_is = sym may.pointed.nearest;
         parent_is = refl;
@@ -242,16 +242,14 @@ module _
 
   module _ (spread : HasSpreadFalls (space_of shared.task.scene) (Contains (numbers_of before.lists.search.found)) (suc k) tried.view after.view)
       (done : PassState)
-      (stored : Record) (recorded : HasRecorded shared after done stored) (is : stored ≡ entry) where
+      (stored : Record) (recorded : HasRecorded shared after done stored) where
     end : GoesOn first.view done.view
     end = GoesOn-trans first.view after.view done.view since_first recorded.goes_on
 
-    radius_end : radius_in done.view stored.class ≡ r
-    radius_end =
-        ap (radius_in done.view) (ap (λ (x : Record). x.class) is)
-        ∙ ap (λ (x : SharedRun). radius_of_class x.step x.gamma hanging.class) (recorded.goes_on.later.run ∙ later.later.run)
+    radius_end : radius_in done.view hanging.class ≡ r
+    radius_end = ap (λ (x : SharedRun). radius_of_class x.step x.gamma hanging.class) (recorded.goes_on.later.run ∙ later.later.run)
 
-    close_neighbour : (i : ℕ) (was : WasNeighbour first.view done.view stored p i) → IsCloseBy i was.at
+    close_neighbour : (i : ℕ) (was : WasNeighbour first.view done.view hanging.class p i) → IsCloseBy i was.at
     close_neighbour i was = record {
       stood = was.stands;
       near = subst (λ x. squared_distance was.at p ≤ x * x) radius_end was.near;
@@ -275,34 +273,29 @@ module _
         (subst (SeesPoint tried.view (suc may.hand.mark)) may.pointed.point is_tried.came.stands)
 
     -- each of them is within the radius
-    within_radius : (i : ℕ) → Contains (numbers_of before.lists.search.found) i → IsWithinRadius tried.view stored p i
+    within_radius : (i : ℕ) → Contains (numbers_of before.lists.search.found) i → IsWithinRadius tried.view hanging.class p i
     within_radius i listed =
-        let filled_then = HasFilledNear-still first.view mid tried.view p hanging.class before.lists.search.found is_tried.ended is_tried.count filled in
-        subst (λ n. distance_to p (tree_seen tried.view).points i ≤ radius_in tried.view n * radius_in tried.view n)
-        (sym (ap (λ (x : Record). x.class) is)) (filled_then.close i listed)
+        (HasFilledNear-still first.view mid tried.view p hanging.class before.lists.search.found is_tried.ended is_tried.count filled).close i listed
 
-    WasChosen-recorded : WasChosen first.view mid done.view stored p
+    WasChosen-recorded : WasChosen first.view mid done.view (given_by hanging) p
     WasChosen-recorded = record {
       since = begun;
       loaded = λ i was.
           let loaded = All-contains (IsLoadedSince before.view.steps mid) (numbers_of before.lists.search.found) i is_tried.hung.loaded
           (among i was.at (close_neighbour i was)) in
           omega (arith, loaded, since.keeps.goes_on.later.steps);
-      least = λ i was. omega (arith, chosen_by i was.at (close_neighbour i was), ap (λ (x : Record). x.first_cost) is);
+      least = λ i was. omega (arith, chosen_by i was.at (close_neighbour i was));
     }
 
-    WasRewired-recorded : WasRewired first.view tried.view done.view k stored p
+    WasRewired-recorded : WasRewired first.view tried.view done.view k (given_by hanging) p
     WasRewired-recorded = record {
       until = from_tried;
       stood = stood;
-      written =
-          ap (λ j. sees tried.view (TreeOf (suc j))) (sym may.mark) ∙ is_tried.came.pair
-          ∙ ap (λ (x : Record). tree_word x.first_parent x.first_cost) (sym is);
+      written = ap (λ j. sees tried.view (TreeOf (suc j))) (sym may.mark) ∙ is_tried.came.pair;
       posted = λ lies.
           let here = subst (λ (r : SharedRun). lies_in_goals r.goals may.hand.point ≡ true) from_tried.later.run
           (subst (λ q. lies_in_goals done.view.run.goals q ≡ true) (sym may.pointed.point) lies) in
-          subst (λ cost. tried.view.best ≤ best_word cost (suc k)) (ap (λ (x : Record). x.first_cost) (sym is))
-          (subst (λ n. tried.view.best ≤ best_word hanging.cost (suc n)) may.mark (is_tried.came.posted here));
+          subst (λ n. tried.view.best ≤ best_word hanging.cost (suc n)) may.mark (is_tried.came.posted here);
       pairs = λ i was. SeesPair-later after.view done.view recorded.goes_on i (pair_after i was.at (close_neighbour i was));
       most = λ i was.
           let close = close_neighbour i was in
@@ -310,23 +303,21 @@ module _
             arith,
             rewired_by i was.at close,
             cost_seen-later after.view done.view recorded.goes_on i (pair_after i was.at close),
-            ap (λ (x : Record). x.first_cost) is,
           );
       spread =
-          subst (λ s. HasSpreadFalls s (IsWithinRadius tried.view stored p) (suc k) tried.view done.view)
+          subst (λ s. HasSpreadFalls s (IsWithinRadius tried.view hanging.class p) (suc k) tried.view done.view)
           (sym (ap (λ (x : SharedRun). (setup_in x).space) (recorded.goes_on.later.run ∙ whole.later.run ∙ may.belongs.run)))
-          (HasSpreadFalls-still (space_of shared.task.scene) (Contains (numbers_of before.lists.search.found)) (IsWithinRadius tried.view stored p) (suc k)
-          tried.view after.view
-          done.view recorded.goes_on (λ n. kept (TreeOf n) (λ e. cc))
+          (HasSpreadFalls-still (space_of shared.task.scene) (Contains (numbers_of before.lists.search.found)) (IsWithinRadius tried.view hanging.class p)
+          (suc k) tried.view after.view done.view recorded.goes_on (λ n. kept (TreeOf n) (λ e. cc))
           (IsPresent-stands (tree_seen after.view).points (suc k) p (stands_later tried.view after.view seen.goes_on (suc k) p stood)) within_radius
           spread);
     }
 
-    pub IsPlacedAt-recorded : IsPlacedAt first.view done.view k stored p
+    pub IsPlacedAt-recorded : IsPlacedAt first.view done.view k (given_by hanging) p
     IsPlacedAt-recorded = record {
       stands = stands_later tried.view done.view from_tried (suc k) p stood;
       class_is =
-          ap (λ (x : Record). x.class) is ∙ filled.class_is
+          filled.class_is
           ∙ ap class_of (sym (kept Count (λ e. cc) ∙ seen.others Count (λ no. no) ∙ is_tried.count));
       looked = looked_still first.view.steps mid done.view (GoesOn-trans mid after.view done.view later recorded.goes_on) filled.looked;
       swept =

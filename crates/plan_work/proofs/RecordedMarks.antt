@@ -1,12 +1,12 @@
 -- What a pass may record of a mark that was steered to p from the nearest node, and that it was handled then.
 use Rattle.plan_work.proofs.Words.{◌≡◌, ◌≢◌, ℕ, zero, suc, ◌+◌, true, Some, length, inl, refl, sym, ap, ◌∙◌, subst, arith, false, IfSome, filter_agree}
-use Rattle.plan_work.proofs.Words.{range_with_len, mark_at, IsNotAbove, distance_to, is_placed, IsPresent, point_of, steered, Point, Outcome, Record}
-use Rattle.plan_work.proofs.Words.{IsPresent-stands, point_of-stands, record_of_word-packed, has_node, record_at, Word, WritesWord, Counter, FirstOf, RecordOf}
-use Rattle.plan_work.proofs.Words.{IsFirstWord, record_of_word, record_word, GoesOn, MayClaim, PassState, SharedState, turn_of, with_view, worker_of}
+use Rattle.plan_work.proofs.Words.{range_with_len, mark_at, IsNotAbove, distance_to, is_placed, point_of, steered, Point, Outcome, Record, Reached}
+use Rattle.plan_work.proofs.Words.{ending_as, IsPresent-stands, point_of-stands, record_of_word-packed, has_node, record_at, Word, WritesWord, Counter, FirstOf}
+use Rattle.plan_work.proofs.Words.{RecordOf, IsFirstWord, record_of_word, record_word, GoesOn, MayClaim, PassState, SharedState, turn_of, with_view, worker_of}
 use Rattle.plan_work.proofs.Words.{GoesOn-trans, SeesBestSince-trans, entry_fits, is_own_node-earlier, has_node-recorded, own_recorded, present_recorded}
-use Rattle.plan_work.proofs.Words.{WritesWord-saw, IsLawfulView, MayBePlaced, MayEnd, MayRecord, MaySteer, is_own_node, own_count, has_count, has_first}
-use Rattle.plan_work.proofs.Words.{finished, one_turn_more, pair_in_hand, sees, tree_seen, Hand, SharedRun, Stage, Claimed, Counted, Half, Linked, Pointed}
-use Rattle.plan_work.proofs.Words.{Posted, Treed, View, stands_later, HandlesMark, HasRecorded, IsSteeredTo, KeepsRecords, own_unplaced}
+use Rattle.plan_work.proofs.Words.{WritesWord-saw, IsLawfulView, MayEnd, MayReach, MayRecord, MaySteer, is_own_node, own_count, has_count, has_first, finished}
+use Rattle.plan_work.proofs.Words.{one_turn_more, pair_in_hand, sees, tree_seen, Hand, SharedRun, Stage, Claimed, Counted, Half, Linked, Pointed, Posted, Treed}
+use Rattle.plan_work.proofs.Words.{View, stands_later, HandlesMark, HasRecorded, IsSteeredTo, KeepsRecords, own_unplaced}
 use Rattle.std.specs.List.{filter}
 use Rattle.grown_runs.proofs.Common.{Placed}
 use Rattle.plan_work.proofs.HeldMarks.{of_held}
@@ -45,21 +45,19 @@ IsSteeredTo-still before after k m p goes_on records h =
 
 -- So the mark may be recorded as what it may be at p.
 pub MaySteer-steered :
-    (view : View) (hand : Hand) (k m : ℕ) (p : Point) (entry : Record) (MayEndAt : Point → Type 0)
-    → IsSteeredTo view k m p → hand.mark ≡ k
-    → entry.nearest ≡ m → MayEndAt p → MaySteer view hand entry MayEndAt
-MaySteer-steered view hand k m p entry MayEndAt h mark is ended =
+    (view : View) (hand : Hand) (k m : ℕ) (p : Point) (entry : Record) (reached : Reached)
+    → IsSteeredTo view k m p → hand.mark ≡ k → MayReach view hand entry m reached p → MaySteer view hand entry m reached
+MaySteer-steered view hand k m p entry reached h mark ended =
     let points = (tree_seen view).points in
-    let reached : p ≡ steered (point_of points entry.nearest) (mark_at view.run.marks hand.mark) view.run.step =
+    let at : p ≡ steered (point_of points m) (mark_at view.run.marks hand.mark) view.run.step =
     h.point_is
-    ∙ ap (λ q. steered q (mark_at view.run.marks k) view.run.step) (sym (point_of-stands points m h.from h.stands) ∙ ap (point_of points) (sym is))
-    ∙ ap (λ j. steered (point_of points entry.nearest) (mark_at view.run.marks j) view.run.step) (sym mark) in
+    ∙ ap (λ q. steered q (mark_at view.run.marks k) view.run.step) (sym (point_of-stands points m h.from h.stands))
+    ∙ ap (λ j. steered (point_of points m) (mark_at view.run.marks j) view.run.step) (sym mark) in
     record {
-      present = subst (IsPresent points) (sym is) (IsPresent-stands points m h.from h.stands);
+      present = IsPresent-stands points m h.from h.stands;
       nearest = λ i own.
-          subst (λ n. IsNotAbove (distance_to (mark_at view.run.marks hand.mark) points) n i) (sym is)
-          (subst (λ j. IsNotAbove (distance_to (mark_at view.run.marks j) points) m i) (sym mark) (h.not_above i (own_recorded view entry i own)));
-      outcome = subst MayEndAt reached ended;
+          subst (λ j. IsNotAbove (distance_to (mark_at view.run.marks j) points) m i) (sym mark) (h.not_above i (own_recorded view entry i own));
+      outcome = subst (MayReach view hand entry m reached) at ended;
     }
 
 -- ---- records
@@ -96,7 +94,7 @@ pub IsFirstWord-placed :
     (view : View) (hand : Hand) (entry : Record) → IsLawfulView view → view.hand ≡ Some hand → has_count hand.stage ≡ true → entry.outcome ≡ Placed
     → MayRecord view hand entry → (first : ℕ) → first ≡ pair_in_hand hand → IsFirstWord entry first
 IsFirstWord-placed view hand entry lawful held counted placed may first is =
-    let ended : MayBePlaced view hand entry = (subst (MayEnd view hand entry) placed may).outcome in
+    let ended = (subst (λ o. MayEnd view hand entry (ending_as entry o)) placed may).outcome in
     let fits = lawful.pair_fits hand held (has_first-counted hand.stage counted) in
     record {
       word = λ same. omega (arith, is, ended.parent_is, ended.cost_is);

@@ -1,15 +1,14 @@
 -- The best word was loaded, or the scene is not informed: what that leaves of a pass, and of what is said of the mark since.
 use Rattle.plan_work.proofs.Words.{◌≡◌, ◌≢◌, ◌⊎◌, ℕ, suc, ◌<◌, ◌≤◌, ◌^◌, Bool, true, false, cond, inl, inr, Some, None, [], ◌∷◌, ◌++◌, length, ◌+◌, refl, sym}
-use Rattle.plan_work.proofs.Words.{ap, ◌∙◌, subst, arith, ◌==◌, IfSome, IsSome, Option, cases_Bool, eq-eqb, eqb-true, same_Some, mark_at, Handles}
-use Rattle.plan_work.proofs.Words.{IsBestGoalNode, mark_bound, skipped_record, unplaced_record, IsSwept, sum_of, Point, Outcome, Blocked, Skipped, Record}
-use Rattle.plan_work.proofs.Words.{MayBeCheaper-not_skipping, goals-some, record_at, Counter, RecordOf, TreeOf, best_cost_in, WritesWord, Best, best_node_in}
-use Rattle.plan_work.proofs.Words.{best_of_word, cost_in, no_best, record_word, FindsGoalNode, SeesAsBefore, BelongsTo-later, GoesOn-trans, no_goals, BelongsTo}
-use Rattle.plan_work.proofs.Words.{GoesOn, PassState, SharedState, run_in, SeesBestSince, turn_of, with_view, worker_of, EndsAsSeen, EndsAsSteered, HandlesMark}
-use Rattle.plan_work.proofs.Words.{IsBlockedAt, IsExtended, IsPlacedAt, MayExtend, WasNeighbour, WasNotSkipped, WasSkipped, WasSteered, steered_point}
-use Rattle.plan_work.proofs.Words.{HasLoadedBest, HasRecorded, KeepsRecords, own_unplaced, IsNotSkippedIn, SeesTextbook, WorksAlone, IsLawfulView, IsInformed}
-use Rattle.plan_work.proofs.Words.{IsUnskipped, MayBeSkipped, SeesGoal, best_loaded, best_taken, finished, hand_with_best, SeesPoint, last_look, sight_in, sees}
-use Rattle.plan_work.proofs.Words.{setup_in, tree_seen, Hand, SharedRun, Stage, Claimed, View, cost_seen}
-use Rattle.grown_runs.proofs.Common.{Placed, Same}
+use Rattle.plan_work.proofs.Words.{ap, ◌∙◌, subst, arith, ◌==◌, IfSome, IsSome, Option, cases_Bool, eq-eqb, eqb-true, same_Some, mark_at, Ends, Handles}
+use Rattle.plan_work.proofs.Words.{IsBestGoalNode, mark_bound, IsSwept, sum_of, Point, FirstHanging, Reached, NewNode, SameNode, NoWay, ending_of, Skipped}
+use Rattle.plan_work.proofs.Words.{Record, MayBeCheaper-not_skipping, goals-some, record_at, Counter, RecordOf, TreeOf, best_cost_in, WritesWord, Best}
+use Rattle.plan_work.proofs.Words.{best_node_in, best_of_word, cost_in, no_best, record_word, FindsGoalNode, SeesAsBefore, BelongsTo-later, GoesOn-trans}
+use Rattle.plan_work.proofs.Words.{no_goals, BelongsTo, GoesOn, PassState, SharedState, run_in, SeesBestSince, turn_of, with_view, worker_of, EndsAsSeen}
+use Rattle.plan_work.proofs.Words.{ReachesAsSeen, HandlesMark, IsExtended, IsPlacedAt, MayExtend, WasNeighbour, WasNotSkipped, WasSkipped, WasSteered}
+use Rattle.plan_work.proofs.Words.{steered_point, HasLoadedBest, HasRecorded, KeepsRecords, own_unplaced, IsNotSkippedIn, SeesTextbook, WorksAlone}
+use Rattle.plan_work.proofs.Words.{IsLawfulView, IsInformed, IsUnskipped, MayBeSkipped, SeesGoal, best_loaded, best_taken, finished, hand_with_best}
+use Rattle.plan_work.proofs.Words.{last_look, sight_in, sees, setup_in, tree_seen, Hand, SharedRun, Stage, Claimed, View, cost_seen}
 use Rattle.plan_model.specs.Trees.GoalBounds.{bound_of}
 use Rattle.plan_work.proofs.AloneMarks.{KeepsRun-refl, SeesTextbook-recorded, SeesTextbook-still, WorksAlone-recorded, WorksAlone-still}
 use Rattle.plan_work.proofs.HeldMarks.{Holding, holding, if_held, of_held}
@@ -183,7 +182,7 @@ IsUnskipped-plain shared pass belongs some plain =
 
 -- ---- what is said since the load is said since the entry
 
-module _ (before after : View) (word k : ℕ) (entry : Record) (goes_on : GoesOn before (best_loaded before word)) where
+module _ (before after : View) (word k : ℕ) (goes_on : GoesOn before (best_loaded before word)) where
   abbrev since : View
   since = best_loaded before word
 
@@ -201,11 +200,11 @@ module _ (before after : View) (word k : ℕ) (entry : Record) (goes_on : GoesOn
         empty = omega (arith, ends.empty);
       }
 
-  abbrev neighbour : (p : Point) (i : ℕ) → WasNeighbour before after entry p i → WasNeighbour since after entry p i
-  neighbour p i was = record { at = was.at; stands = was.stands; near = was.near; clear = was.clear }
+  abbrev neighbour : (class : ℕ) (p : Point) (i : ℕ) → WasNeighbour before after class p i → WasNeighbour since after class p i
+  neighbour class p i was = record { at = was.at; stands = was.stands; near = was.near; clear = was.clear }
 
-  placed-earlier : (p : Point) → IsPlacedAt since after k entry p → IsPlacedAt before after k entry p
-  placed-earlier p placed = record {
+  placed-earlier : (first : FirstHanging) (p : Point) → IsPlacedAt since after k first p → IsPlacedAt before after k first p
+  placed-earlier first p placed = record {
     stands = placed.stands;
     class_is = placed.class_is;
     looked = omega (arith, placed.looked);
@@ -215,26 +214,27 @@ module _ (before after : View) (word k : ℕ) (entry : Record) (goes_on : GoesOn
     in_turn = placed.in_turn;
     chosen = record {
       since = GoesOn-trans before since placed.chosen_at goes_on placed.chosen.since;
-      loaded = λ i was. omega (arith, placed.chosen.loaded i (neighbour p i was));
-      least = λ i was. placed.chosen.least i (neighbour p i was);
+      loaded = λ i was. omega (arith, placed.chosen.loaded i (neighbour first.class p i was));
+      least = λ i was. placed.chosen.least i (neighbour first.class p i was);
     };
     rewired = record {
       until = placed.rewired.until;
       stood = placed.rewired.stood;
       written = placed.rewired.written;
       posted = placed.rewired.posted;
-      pairs = λ i was. placed.rewired.pairs i (neighbour p i was);
-      most = λ i was. placed.rewired.most i (neighbour p i was);
+      pairs = λ i was. placed.rewired.pairs i (neighbour first.class p i was);
+      most = λ i was. placed.rewired.most i (neighbour first.class p i was);
       spread = placed.rewired.spread;
     };
   }
 
-  blocked-earlier : (p : Point) → IsBlockedAt since after entry p → IsBlockedAt before after entry p
-  blocked-earlier p blocked = record { blocked = blocked.blocked; free = blocked.free; swept = swept-earlier p blocked.swept }
+  reached-earlier : (m : ℕ) (reached : Reached) (p : Point) → ReachesAsSeen since after k m reached p → ReachesAsSeen before after k m reached p
+  reached-earlier m (NewNode first) p placed = placed-earlier first p placed
+  reached-earlier m (SameNode j) p stands = stands
+  reached-earlier m NoWay p blocked = record { blocked = blocked.blocked; free = blocked.free; swept = swept-earlier p blocked.swept }
 
-  steered-earlier : (EndsAt EndsAtEarlier : Point → Type 0) → ((p : Point) → EndsAt p → EndsAtEarlier p)
-      → WasSteered since after k entry EndsAt → WasSteered before after k entry EndsAtEarlier
-  steered-earlier EndsAt EndsAtEarlier earlier was = record {
+  pub WasSteered-earlier : (m : ℕ) (reached : Reached) → WasSteered since after k m reached → WasSteered before after k m reached
+  WasSteered-earlier m reached was = record {
     from = was.from;
     steered = record {
       stands = was.steered.stands;
@@ -242,14 +242,8 @@ module _ (before after : View) (word k : ℕ) (entry : Record) (goes_on : GoesOn
       not_above = was.steered.not_above;
       swept = λ q near. swept-earlier q (was.steered.swept q near);
     };
-    outcome = earlier (steered_point after k entry) was.outcome;
+    outcome = reached-earlier m reached (steered_point after k m) was.outcome;
   }
-
-  pub EndsAsSteered-earlier : (outcome : Outcome) → EndsAsSteered since after k entry outcome → EndsAsSteered before after k entry outcome
-  EndsAsSteered-earlier Placed ended = steered-earlier (IsPlacedAt since after k entry) (IsPlacedAt before after k entry) placed-earlier ended
-  EndsAsSteered-earlier (Same j) ended = steered-earlier (SeesPoint after j) (SeesPoint after j) (λ p stands. stands) ended
-  EndsAsSteered-earlier Blocked ended = steered-earlier (IsBlockedAt since after entry) (IsBlockedAt before after entry) blocked-earlier ended
-  EndsAsSteered-earlier Skipped ended = absurd ended
 
 -- ---- a mark that was not skipped
 
@@ -321,14 +315,12 @@ module _ (shared : SharedState) (before mid : PassState) (k : ℕ) (may : MayExt
         )
 
     -- what was said since the load is said since the entry
-    pub EndsAsSteered-loaded : (after : View) (entry : Record) → EndsAsSteered mid.view after k entry entry.outcome
-        → EndsAsSteered before.view after k entry entry.outcome
-    EndsAsSteered-loaded after entry ended = elim cases [
+    pub WasSteered-loaded : (after : View) (m : ℕ) (reached : Reached) → WasSteered mid.view after k m reached → WasSteered before.view after k m reached
+    WasSteered-loaded after m reached was = elim cases [
       | inl e ↦
-          EndsAsSteered-earlier before.view after mid.view.best k entry
-          (subst (GoesOn before.view) (then_loaded e) loaded.keeps.goes_on) entry.outcome
-          (subst (λ v. EndsAsSteered v after k entry entry.outcome) (then_loaded e) ended)
-      | inr e ↦ subst (λ v. EndsAsSteered v after k entry entry.outcome) (then_plain e) ended
+          WasSteered-earlier before.view after mid.view.best k (subst (GoesOn before.view) (then_loaded e) loaded.keeps.goes_on) m reached
+          (subst (λ v. WasSteered v after k m reached) (then_loaded e) was)
+      | inr e ↦ subst (λ v. WasSteered v after k m reached) (then_plain e) was
     ]
 
     pub IsNotSkippedIn-loaded : SeesTextbook mid.view k → IsNotSkippedIn mid.view k
@@ -369,12 +361,12 @@ module _
   pub HandlesMark-skipped : HandlesMark shared before done k entry
   HandlesMark-skipped = HandlesMark-recorded shared before mid done own.hand k entry loaded.keeps recorded own.held best.0
 
-  was_skipped : WasSkipped before.view done.view k entry
+  was_skipped : WasSkipped before.view done.view k entry g
   was_skipped = record {
     informed = subst IsInformed (sym recorded.goes_on.later.run) (informed_here shared mid.view loaded.keeps.belongs.run informed);
     word = mid.view.best;
     some_node = λ none. own.says.some_node (same ∙ none);
-    node = ap (λ (e : Record). e.nearest) is ∙ node;
+    node = node;
     within =
         subst (λ (r : SharedRun). best_cost_in mid.view.best ≤ mark_bound (setup_in r) (mark_at r.marks k)) (sym recorded.goes_on.later.run) within;
     steps =
@@ -385,7 +377,7 @@ module _
   pub IsExtended-skipped : IsExtended before.view done.view k entry
   IsExtended-skipped = record {
     stored = ap (record_at (sees done.view)) (sym best.0) ∙ recorded.stored own.hand own.held;
-    outcome = subst (EndsAsSeen before.view done.view k entry) (sym (ap (λ (e : Record). e.outcome) is)) was_skipped;
+    outcome = subst (EndsAsSeen before.view done.view k entry) (sym (ap ending_of is)) was_skipped;
   }
 
   -- of a pass that works alone
@@ -428,10 +420,11 @@ module _
           subst (λ n. sum_of book.tree n ≤ mark_bound (setup_in mid.view.run) (mark_at mid.view.run.marks k)) (sym node)
           (within-found mid.view book.tree book.nodes lawful book.best found _ within)
 
-      entry_is : entry ≡ skipped_record k g
-      entry_is = is ∙ ap (λ members. unplaced_record (worker_of members) (turn_of members) g Skipped) alone.crew
-
       handles : Handles (setup_in mid.view.run) book.tree k (mark_at mid.view.run.marks k) entry (book.tree ++ None ∷ [])
-      handles =
-          subst (λ e. Handles (setup_in mid.view.run) book.tree k (mark_at mid.view.run.marks k) e (book.tree ++ None ∷ [])) (sym entry_is)
-          (record { best = best_goal; within = costs_within; recorded = refl; added = refl })
+      handles = record {
+        worker = recorded.worker ∙ ap worker_of alone.crew;
+        turn = recorded.turn ∙ ap turn_of alone.crew;
+        ends =
+            subst (λ e. Ends (setup_in mid.view.run) book.tree k (mark_at mid.view.run.marks k) e (book.tree ++ None ∷ [])) (sym (ap ending_of is))
+            (record { best = best_goal; within = costs_within; added = refl });
+      }

@@ -1,15 +1,7 @@
 -- The records of a textbook run are all of worker 0, one for each mark, so its next turn is the number of marks.
 use Rattle.plan_work.proofs.Words.{◌≡◌, ℕ, zero, suc, ◌+◌, ◌<◌, ◌≤◌, true, List, [], ◌∷◌, length, Option, sym, ap, ◌∙◌, inl, inr, arith, slice_get, cases_lt}
-use Rattle.plan_work.proofs.Words.{eq-eqb, slice_get_past, Ends, HandlesAll, Nodes, Setup, is_of_worker, turns_of, Point, Outcome, Blocked, Skipped, Record}
-use Rattle.plan_work.proofs.Words.{count-all, count-longer, count-same, HandlesAll-length}
-use Rattle.grown_runs.proofs.Common.{Placed, Same}
-
-worker-ends : (setup : Setup) (tree : Nodes) (k : ℕ) (mark : Point) (outcome : Outcome) (entry : Record) (after : Nodes)
-    → Ends setup tree k mark outcome entry after → entry.worker ≡ 0
-worker-ends setup tree k mark Placed entry after ends = ap (λ (e : Record). e.worker) ends.recorded
-worker-ends setup tree k mark (Same j) entry after ends = ap (λ (e : Record). e.worker) ends.recorded
-worker-ends setup tree k mark Blocked entry after ends = ap (λ (e : Record). e.worker) ends.recorded
-worker-ends setup tree k mark Skipped entry after ends = ap (λ (e : Record). e.worker) ends.recorded
+use Rattle.plan_work.proofs.Words.{eq-eqb, slice_get_past, HandlesAll, Nodes, Setup, is_of_worker, turns_of, Point, Record, count-all, count-longer, count-same}
+use Rattle.plan_work.proofs.Words.{HandlesAll-length}
 
 -- each of worker 0
 worker-textbook : (setup : Setup) (k : ℕ) (tree : Nodes) (marks : List Point) (entries : List Record) (after : Nodes)
@@ -18,7 +10,7 @@ worker-textbook setup k tree [] [] after run j low = absurd (omega (arith, low))
 worker-textbook setup k tree [] (entry ∷ entries) after run j low = absurd run
 worker-textbook setup k tree (mark ∷ marks) [] after run j low = absurd run
 worker-textbook setup k tree (mark ∷ marks) (entry ∷ entries) after run zero low =
-    eq-eqb entry.worker 0 (worker-ends setup tree k mark entry.outcome entry run.0 run.1)
+    eq-eqb entry.worker 0 run.1.worker
 worker-textbook setup k tree (mark ∷ marks) (entry ∷ entries) after run (suc j) low =
     worker-textbook setup (k + 1) run.0 marks entries after run.2 j (omega (arith, low))
 

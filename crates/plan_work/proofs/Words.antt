@@ -1,25 +1,26 @@
 -- The definitions and lemmas that proofs of this crate are about, passed on from one place. Declares nothing.
 pub use Rattle.grown_runs.proofs.Common.{AddsNode, AddsNode-placed, All-goals_bounded, AreBehind, AreBehind-refl, AreBehind-trans, AreSameRuns}
 pub use Rattle.grown_runs.proofs.Common.{AreSameRuns-trans, Best, Blocked, ChangesOnly, ChildOf, Clear, Clear-back, ClearAt, ConfigurationSpace, Contains-after}
-pub use Rattle.grown_runs.proofs.Common.{Contains-first, Contains-near, Count, Counter, Ends, EndsSince, EndsSince-later, FirstOf, Goal, GrowsInto, Handles}
-pub use Rattle.grown_runs.proofs.Common.{HandlesAll, HandlesAll-length, HandlesAll-push, HaveSameNodes-absent, HoldRun, IsBestGoalNode, IsBestParent, IsBounded}
-pub use Rattle.grown_runs.proofs.Common.{IsBounded-scene_start, IsBoundedBox, IsClosed-textbook, IsCounter, IsFirstLeast, IsFirstWord, IsFree, IsGoalNode}
-pub use Rattle.grown_runs.proofs.Common.{IsMarkOf-own, IsNearerOf, IsNotAbove, IsNotAbove-lesser, IsNotAbove-refl, IsNotAbove-trans, IsOfTextbookRun, IsOpenTo}
-pub use Rattle.grown_runs.proofs.Common.{IsPairNotAbove, IsPresent, IsPresent-goal, IsPresent-stands, IsSeen, IsStep-steered, IsSwept, IsTextbookRun}
-pub use Rattle.grown_runs.proofs.Common.{KeepsOrder, MayBeCheaper, MayBeCheaper-not_skipping, MayBecome, Nodes, Outcome, PlacesNode, Point, PointOf, Record}
-pub use Rattle.grown_runs.proofs.Common.{Record-from_fields, RecordOf, RecordsMark-push, RecordsNext, Rewires, RewiresOne, Scene, Setup, Sight, Sizes, Skipped}
-pub use Rattle.grown_runs.proofs.Common.{StandsAt, StandsAt-present, SteersTo, Task, TreeOf, TreeState, Word, Words, WritesWord, best_cost_in, best_node_in}
-pub use Rattle.grown_runs.proofs.Common.{best_of_word, best_word, blocked_record, candidate-reachable, class_of, class_of-le, cost_in, cost_in-tree_word}
-pub use Rattle.grown_runs.proofs.Common.{cost_of, cost_of-swap, cost_through, count-all, count-longer, count-same, count-some, distance_to, goals-some}
-pub use Rattle.grown_runs.proofs.Common.{greatest-le, has_node, is_claimed, is_claimed-below, is_claimed-now, is_claimed-other, is_claimed-past, is_goal_point}
-pub use Rattle.grown_runs.proofs.Common.{is_linked, is_linked-child, is_linked-start, is_of_worker, is_placed, is_within, kind_of, lies_in_goals, ltb-next}
-pub use Rattle.grown_runs.proofs.Common.{mark_at, mark_bound, mark_points, near, near_new, no_best, node_at-absent, node_count, node_count-same}
-pub use Rattle.grown_runs.proofs.Common.{node_point-here, parent_in, parent_in-tree_word, parent_of, parent_or_zero, placed_record, point_at, point_at-past}
-pub use Rattle.grown_runs.proofs.Common.{point_at-same, point_at-words, point_of, point_of-stands, point_of_word, points_of, points_of_words, quota_of}
-pub use Rattle.grown_runs.proofs.Common.{quotas-add_up, radius_of, radius_of_class, range-more, record_at, record_of_word, record_of_word-packed, record_word}
-pub use Rattle.grown_runs.proofs.Common.{same_point-true, same_record, seen_point, seen_tree_of_words, setup_of, sizes_of, skipped_record, skipping_goals}
-pub use Rattle.grown_runs.proofs.Common.{space_of, squared_distance, start_alone, state_of, state_of_grown, steered, steered-near, strip_of_mark, sum-le}
-pub use Rattle.grown_runs.proofs.Common.{sum-placed, sum_of, tree_word, turns_of, unplaced_record, words_of_grown}
+pub use Rattle.grown_runs.proofs.Common.{Contains-first, Contains-near, Count, Counter, Ends, EndsSince, EndsSince-later, FirstHanging, FirstOf, Goal}
+pub use Rattle.grown_runs.proofs.Common.{GrowsInto, Handles, HandlesAll, HandlesAll-length, HandlesAll-nodes, HandlesAll-push, HaveSameNodes-absent, HoldRun}
+pub use Rattle.grown_runs.proofs.Common.{IsBestGoalNode, IsBestParent, IsBounded, IsBounded-scene_start, IsBoundedBox, IsClosed-textbook, IsCounter}
+pub use Rattle.grown_runs.proofs.Common.{IsFirstLeast, IsFirstWord, IsFree, IsGoalNode, IsMarkOf-own, IsNearerOf, IsNotAbove, IsNotAbove-lesser}
+pub use Rattle.grown_runs.proofs.Common.{IsNotAbove-refl, IsNotAbove-trans, IsOfTextbookRun, IsOpenTo, IsPairNotAbove, IsPresent, IsPresent-goal}
+pub use Rattle.grown_runs.proofs.Common.{IsPresent-stands, IsSeen, IsStep-steered, IsSwept, IsTextbookRun, KeepsOrder, MayBeCheaper, MayBeCheaper-not_skipping}
+pub use Rattle.grown_runs.proofs.Common.{MayBecome, NewNode, NoWay, Nodes, Outcome, PlacesNode, Point, PointOf, Reached, Reaches, Record, Record-from_fields}
+pub use Rattle.grown_runs.proofs.Common.{RecordOf, RecordsMark-push, RecordsNext, Rewires, SameNode, Scene, Setup, Sight, Sizes, Skipped, StandsAt-present}
+pub use Rattle.grown_runs.proofs.Common.{Steered, SteersTo, Task, TreeOf, TreeState, Word, Words, WritesWord, best_cost_in, best_node_in, best_of_word}
+pub use Rattle.grown_runs.proofs.Common.{best_word, candidate-reachable, class_of, class_of-le, cost_in, cost_in-tree_word, cost_of, cost_of-swap, cost_through}
+pub use Rattle.grown_runs.proofs.Common.{count-all, count-longer, count-same, count-some, distance_to, ending_of, goals-some, greatest-le, has_node, is_claimed}
+pub use Rattle.grown_runs.proofs.Common.{is_claimed-below, is_claimed-now, is_claimed-other, is_claimed-past, is_goal_point, is_linked, is_linked-child}
+pub use Rattle.grown_runs.proofs.Common.{is_linked-start, is_of_worker, is_placed, is_within, kind_of, lies_in_goals, ltb-next, mark_at, mark_bound}
+pub use Rattle.grown_runs.proofs.Common.{mark_points, near, near_new, no_best, node_at-absent, node_count, node_count-same, node_point-here, parent_in}
+pub use Rattle.grown_runs.proofs.Common.{parent_in-tree_word, parent_of, parent_or_zero, point_at, point_at-past, point_at-same, point_at-words, point_of}
+pub use Rattle.grown_runs.proofs.Common.{point_of-stands, point_of_word, points_of, points_of_words, quota_of, quotas-add_up, radius_of, radius_of_class}
+pub use Rattle.grown_runs.proofs.Common.{range-more, reached-unskipped, record_at, record_of_word, record_of_word-packed, record_word, same_point-true}
+pub use Rattle.grown_runs.proofs.Common.{seen_point, seen_tree_of_words, setup_of, sizes_of, skipping_goals, space_of, squared_distance, start_alone, state_of}
+pub use Rattle.grown_runs.proofs.Common.{state_of_grown, steered, steered-near, strip_of_mark, sum-le, sum-placed, sum_of, tree_word, turns_of, unplaced_record}
+pub use Rattle.grown_runs.proofs.Common.{words_of_grown}
 pub use Rattle.grown_runs.proofs.Runs.GrownPoints.{point_at-absent}
 pub use Rattle.grown_runs.specs.declared.grown.Grown.{Grown}
 pub use Rattle.grown_runs.specs.declared.measured_nodes.MeasuredNode.{MeasuredNode}
@@ -33,6 +34,7 @@ pub use Rattle.kd_shared.specs.Placings.{GoesOnPlacing, IsPlaced, IsPlacing, Kee
 pub use Rattle.kd_shared.specs.Searches.{AreGathered, IsNearestSeen, SweepsWithin}
 pub use Rattle.kd_shared.specs.declared.placing.Placing.{Placing}
 pub use Rattle.plan_model.proofs.TreeChanges.{sum-same}
+pub use Rattle.plan_model.specs.Runs.Endings.{ending_as}
 pub use Rattle.plan_words.proofs.Common.{AllFull, AllLoaded, BelongsTo, BelongsTo-later, FindsGoalNode, GoesOn, GoesOn-more, GoesOn-trans, HasGoneOn}
 pub use Rattle.plan_words.proofs.Common.{HasMember-held, HasNoneLeft, HasPostedGoals, HasPostedGoals-more, HasPostedGoals-step, HasWholeShare, IsClaimed}
 pub use Rattle.plan_words.proofs.Common.{IsLeastOpen, IsOrPosted, KeepsHand, OwnsAllStrips-alone, PassState, RaisesCounter, SeesAsBefore, SeesBestSince}
@@ -43,10 +45,10 @@ pub use Rattle.plan_words.proofs.KeptPairs.{if_hand}
 pub use Rattle.plan_words.proofs.RisingNumbers.{Contains-number}
 pub use Rattle.plan_words.specs.States.{MayClaim}
 pub use Rattle.plan_words.specs.declared.spots.Found.{Found}
-pub use Rattle.plan_work.specs.ExtensionSteps.{EndsWritten, HasBeenPlaced, HasCome, HasFilledNear, HasLoadedBest, HasRecorded, IsFilledSince, IsHung}
-pub use Rattle.plan_work.specs.ExtensionSteps.{IsNearestOf, IsPointed, IsSteeredAndHandled, IsSteeredTo, IsTried, KeepsRecords, MayPlace, hung_by, own_placed}
-pub use Rattle.plan_work.specs.ExtensionSteps.{own_unplaced, placed_hand, placed_stage}
-pub use Rattle.plan_work.specs.Extensions.{EndsAsSeen, EndsAsSteered, HandlesMark, HasSteered, IsBlockedAt, IsExtended, IsPlacedAt, IsWithinRadius, MayExtend}
+pub use Rattle.plan_work.specs.ExtensionSteps.{HasBeenPlaced, HasCome, HasFilledNear, HasLoadedBest, HasReached, HasRecorded, IsFilledSince, IsHung}
+pub use Rattle.plan_work.specs.ExtensionSteps.{IsNearestOf, IsPointed, IsSteeredAndHandled, IsSteeredTo, IsTried, KeepsRecords, MayPlace, given_by, hung_by}
+pub use Rattle.plan_work.specs.ExtensionSteps.{own_placed, own_unplaced, placed_hand, placed_stage}
+pub use Rattle.plan_work.specs.Extensions.{EndsAsSeen, HandlesMark, HasSteered, IsBlockedAt, IsExtended, IsPlacedAt, IsWithinRadius, MayExtend, ReachesAsSeen}
 pub use Rattle.plan_work.specs.Extensions.{WasChosen, WasNeighbour, WasNotSkipped, WasRewired, WasSkipped, WasSteered, radius_in, steered_point}
 pub use Rattle.plan_work.specs.OneWorker.{HandlesRest, HasClaimed, HasHandled, IsNotSkippedIn, IsOfTextbook, SeesTextbook, WorksAlone}
 pub use Rattle.plan_work.specs.WholeShares.{HasCounted, IsBestHanging, IsFilledWhole, IsSteeredWhole, IsTriedWhole, KeepsNode, KeepsOthers, SeesButCount}
@@ -58,7 +60,7 @@ pub use Rattle.std.proofs.Common.{Bool, List, None, Option, Some, [], ap, arith,
 pub use Rattle.std.proofs.Common.{true, zero, ℕ, ◌%◌, ◌*◌, ◌++◌, ◌+◌, ◌-◌, ◌/◌, ◌<◌, ◌^◌, ◌∙◌, ◌∷◌, ◌≡◌, ◌≢◌, ◌≤◌}
 pub use Rattle.std.proofs.Math.Seq.{take-append_seam, take-suc}
 pub use Rattle.std.proofs.lemmas.Bool.{cases_Bool, cases_eq, cases_lt, eq-eqb, eqb-true, le-ltb, leb-true, lt-ltb, true≢false}
-pub use Rattle.std.proofs.lemmas.List.{append-nil, append_assoc, get_or_past, length-map, length-set, length-take-le, take_all}
+pub use Rattle.std.proofs.lemmas.List.{append-nil, append_assoc, get_or_past, length-map, length-take-le, take_all}
 pub use Rattle.std.proofs.lemmas.List.Elements.{All-cons, All-contains, All-contains_itself, All-map, All-nil, Contains-get_or, filter-append, filter_agree}
 pub use Rattle.std.proofs.lemmas.List.FromFn.{length-map-range_with_len}
 pub use Rattle.std.proofs.lemmas.List.Sums.{length-filter}
@@ -68,13 +70,13 @@ pub use Rattle.std.specs.List.{range_with_len}
 pub use Rattle.std.specs.Prelude.{All, Contains, IfSome, IsSome, IsTrue, is_some, map, max, nat_le, option_to_list, slice_get, slice_index_or, unwrap_or, ◌==◌}
 pub use Rattle.std.specs.Prelude.{◌⊎◌}
 pub use Rattle.step_core.proofs.Common.{Contains-cases, GrowsInto-seen, IsBounded-seen, IsCostBelow, IsInformed, IsLater, IsLaterMoment-later, IsLawfulView}
-pub use Rattle.step_core.proofs.Common.{IsOwnNeighbour, IsSteered, IsUnskipped, KeepsSight-lawful, MayBeBlocked, MayBePlaced, MayBeRecorded, MayBeSkipped}
-pub use Rattle.step_core.proofs.Common.{MayEnd, MayHang, MayPost, MayRecord, MaySteer, SeesGoal, SeesPoint, StandsAsSeen, WritesWord-looked, WritesWord-saw}
-pub use Rattle.step_core.proofs.Common.{best_loaded, best_taken, counters, finished, half, hand_with_best, hand_with_post, has_count, has_first, has_link}
-pub use Rattle.step_core.proofs.Common.{has_node-recorded, is_own_node, is_own_node-earlier, last_look, last_note, linked-present, linked-within, linked_points}
-pub use Rattle.step_core.proofs.Common.{loaded, mark_of, member_of, new_hand, one_turn_more, own_count, own_first_cost, own_recorded, pair_in_hand}
-pub use Rattle.step_core.proofs.Common.{point_at-linked, point_at-seen, pointed, post_noted, present_recorded, run_of, run_sizes, seen-within, sees, setup_in}
-pub use Rattle.step_core.proofs.Common.{share, sight_in, state_of_links, tree_seen, treed, with_post}
+pub use Rattle.step_core.proofs.Common.{IsOwnNeighbour, IsSteered, IsUnskipped, KeepsSight-lawful, MayBeRecorded, MayBeSkipped, MayEnd, MayHang, MayPost}
+pub use Rattle.step_core.proofs.Common.{MayReach, MayRecord, MaySteer, SeesGoal, SeesPoint, StandsAsSeen, WritesWord-looked, WritesWord-saw, best_loaded}
+pub use Rattle.step_core.proofs.Common.{best_taken, counters, finished, half, hand_with_best, hand_with_post, has_count, has_first, has_link, has_node-recorded}
+pub use Rattle.step_core.proofs.Common.{is_own_node, is_own_node-earlier, last_look, last_note, linked-present, linked-within, linked_points, loaded, mark_of}
+pub use Rattle.step_core.proofs.Common.{member_of, new_hand, one_turn_more, own_count, own_first_cost, own_recorded, pair_in_hand, point_at-linked}
+pub use Rattle.step_core.proofs.Common.{point_at-seen, pointed, post_noted, present_recorded, run_of, run_sizes, seen-within, sees, setup_in, share, sight_in}
+pub use Rattle.step_core.proofs.Common.{state_of_links, tree_seen, treed, with_post}
 pub use Rattle.step_core.specs.declared.views.Hand.{Hand}
 pub use Rattle.step_core.specs.declared.views.Member.{Member}
 pub use Rattle.step_core.specs.declared.views.SharedRun.{SharedRun}

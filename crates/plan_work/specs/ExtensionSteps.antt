@@ -1,5 +1,5 @@
 -- What the steps of the handling of one mark leave, by what the pass has seen.
-use Rattle.std.specs.Prelude.{◌≡◌, true, false, ℕ, suc, ◌*◌, ◌<◌, ◌≤◌, if◌then◌else◌, All, Contains, IfSome, Some, List, refl}
+use Rattle.std.specs.Prelude.{◌≡◌, true, false, ℕ, suc, ◌*◌, ◌<◌, ◌≤◌, if◌then◌else◌, All, Contains, IfSome, Some, List}
 use Rattle.edge_cost.specs.declared.radii.Radii.{Radii}
 use Rattle.kd_shared.specs.Searches.{SweepsWithin}
 use Rattle.kd_shared.specs.Placings.{IsSame}
@@ -19,10 +19,9 @@ use Rattle.plan_model.specs.Geometry.Steering.{steered}
 use Rattle.plan_model.specs.declared.geometry.Goal.{Goal}
 use Rattle.plan_model.specs.declared.geometry.Point.{Point}
 use Rattle.plan_model.specs.declared.records.Outcome.{Outcome}
-use Rattle.plan_model.specs.declared.records.Outcome.TheVariants.{Blocked, Placed, Same, Skipped}
 use Rattle.plan_model.specs.declared.records.Record.{Record}
 use Rattle.plan_model.specs.declared.scenes.Scene.{Scene}
-use Rattle.plan_model.specs.Runs.Textbook.{unplaced_record}
+use Rattle.plan_model.specs.Runs.Endings.{FirstHanging, Reached, NewNode, Steered, ending_of, record_of_ending, unplaced_record}
 use Rattle.plan_words.specs.Bests.{SeesBestSince}
 use Rattle.plan_words.specs.SearchLists.{numbers_of, weighed}
 use Rattle.plan_words.specs.declared.spots.Found.{Found}
@@ -42,7 +41,7 @@ use Rattle.step_core.specs.declared.views.View.{View}
 use Rattle.tree_rewire.specs.FoundNodes.{StandsAsFound}
 use Rattle.tree_rewire.specs.SeenCosts.{IsInReach, IsLoadedSince, SeesPair, seen_cost_through}
 use Rattle.plan_work.specs.declared.mark_placing.Hanging.{Hanging}
-use Rattle.plan_work.specs.Extensions.{EndsAsSteered, HandlesMark, IsPlacedAt, MayExtend, radius_in}
+use Rattle.plan_work.specs.Extensions.{HandlesMark, MayExtend, ReachesAsSeen, WasSteered, radius_in}
 use Rattle.plan_work.specs.OneWorker.{IsNotSkippedIn, SeesTextbook, WorksAlone}
 
 -- the radii are those of the scene's step and gamma
@@ -173,12 +172,11 @@ pub record IsTried (before after : PassState) (hand : Hand) (placing : Placing) 
   pub count : sees after.view Count ≡ sees mid Count
   pub came : HasCome after.view (hung_by hand hanging) placing
 
--- a mark whose point p is written is placed there, or ends at a node that is seen there
-abbrev pub EndsWritten : View → View → ℕ → Record → Point → Outcome → Type 0
-EndsWritten before after k entry p Placed = IsPlacedAt before after k entry p
-EndsWritten before after k entry p (Same j) = SeesPoint after j p
-EndsWritten before after k entry p Blocked = ⊥
-EndsWritten before after k entry p Skipped = ⊥
+-- The mark of this record came to the point p to which node m steered.
+pub record HasReached (before after : View) (k : ℕ) (entry : Record) (m : ℕ) (p : Point) : Type 0 where
+  pub reached : Reached
+  pub ending : ending_of entry ≡ Steered m reached
+  pub as_seen : ReachesAsSeen before after k m reached p
 
 -- ---- records
 
@@ -186,18 +184,12 @@ EndsWritten before after k entry p Skipped = ⊥
 abbrev pub own_unplaced : View → ℕ → Outcome → Record
 own_unplaced view nearest outcome = unplaced_record (worker_of view.crew) (turn_of view.crew) nearest outcome
 
+-- what a node is given first that hangs so
+abbrev pub given_by : Hanging → FirstHanging
+given_by hanging = record { parent = hanging.parent; cost = hanging.cost; class = hanging.class }
+
 abbrev pub own_placed : View → ℕ → Hanging → Record
-own_placed view nearest hanging =
-    record {
-      worker = worker_of view.crew;
-      turn = turn_of view.crew;
-      nearest = nearest;
-      outcome = Placed;
-      first_parent = hanging.parent;
-      first_cost = hanging.cost;
-      class = hanging.class;
-      unplaced = refl;
-    }
+own_placed view nearest hanging = record_of_ending (worker_of view.crew) (turn_of view.crew) (Steered nearest (NewNode (given_by hanging)))
 
 -- The record of the mark in hand stands there, by the worker in its next turn, and nothing is in hand. Of all words no other is seen anew.
 pub record HasRecorded (shared : SharedState) (before after : PassState) (entry : Record) : Type 0 where
@@ -210,10 +202,13 @@ pub record HasRecorded (shared : SharedState) (before after : PassState) (entry 
 
 -- ---- the whole of a mark that is not skipped
 
--- Mark k was handled, and not skipped: the record that stands there is the one answered, and its outcome is what it says.
+-- Mark k was handled, and not skipped: the record that stands there is the one answered, and it says what the nearest node came to.
 pub record IsSteeredAndHandled (before after : View) (k : ℕ) (entry : Record) : Type 0 where
   pub stored : record_at (sees after) k ≡ Some entry
-  pub outcome : EndsAsSteered before after k entry entry.outcome
+  pub nearest : ℕ
+  pub reached : Reached
+  pub ending : ending_of entry ≡ Steered nearest reached
+  pub steered : WasSteered before after k nearest reached
 
 -- What is promised of a mark that is not skipped: it was handled, and a pass that works alone goes on in the textbook run by one mark.
 pub record Places (shared : SharedState) (before after : PassState) (k : ℕ) (entry : Record) : Type 0 where

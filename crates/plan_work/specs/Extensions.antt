@@ -3,6 +3,7 @@ use Rattle.std.specs.Prelude.{◌≡◌, ◌≢◌, ℕ, suc, ◌+◌, ◌*◌, 
 use Rattle.kd_shared.specs.Searches.{SweepsWithin}
 use Rattle.plan_model.specs.Spaces.Clearance.{Clear}
 use Rattle.plan_model.specs.Runs.ClosedLaw.{mark_at}
+use Rattle.plan_model.specs.Runs.Endings.{FirstHanging, Reached, NewNode, SameNode, NoWay, Ending, Steered, SkippedBy, ending_of}
 use Rattle.plan_model.specs.Geometry.Cost.{cost_of}
 use Rattle.plan_model.specs.Geometry.Plane.{squared_distance}
 use Rattle.plan_model.specs.Trees.BestNode.{lies_in_goals}
@@ -14,8 +15,6 @@ use Rattle.plan_model.specs.Seen.Sights.{IsSwept}
 use Rattle.plan_model.specs.Geometry.Steering.{steered}
 use Rattle.plan_model.specs.Runs.Textbook.{mark_bound}
 use Rattle.plan_model.specs.declared.geometry.Point.{Point}
-use Rattle.plan_model.specs.declared.records.Outcome.{Outcome}
-use Rattle.plan_model.specs.declared.records.Outcome.TheVariants.{Blocked, Placed, Same, Skipped}
 use Rattle.plan_model.specs.declared.records.Record.{Record}
 use Rattle.plan_words.specs.Bests.{SeesBestSince}
 use Rattle.plan_words.specs.States.{BelongsTo, GoesOn, MayClaim, PassState, SharedState, turn_of, worker_of}
@@ -55,53 +54,53 @@ pub record HandlesMark (shared : SharedState) (before after : PassState) (k : �
 
 -- ---- a placed node
 
--- the radius at the class of a record
+-- the radius at a class
 abbrev pub radius_in : View → ℕ → ℕ
 radius_in view class = radius_of_class view.run.step view.run.gamma class
 
--- Node i was seen with its point, within the radius of the record's class of p, with a clear edge.
-pub record WasNeighbour (before after : View) (entry : Record) (p : Point) (i : ℕ) : Type 0 where
+-- Node i was seen with its point, within the radius of this class of p, with a clear edge.
+pub record WasNeighbour (before after : View) (class : ℕ) (p : Point) (i : ℕ) : Type 0 where
   pub at : Point
   pub stands : SeesPoint before i at
-  pub near : squared_distance at p ≤ radius_in after entry.class * radius_in after entry.class
+  pub near : squared_distance at p ≤ radius_in after class * radius_in after class
   pub clear : Clear (setup_in after.run).space at p
 
 -- At this moment the parent was chosen. The cost of each neighbour was loaded since the call began, and through none of them would the new node
 -- cost less.
-pub record WasChosen (before chosen_at after : View) (entry : Record) (p : Point) : Type 0 where
+pub record WasChosen (before chosen_at after : View) (first : FirstHanging) (p : Point) : Type 0 where
   pub since : GoesOn before chosen_at
-  pub loaded : (i : ℕ) → WasNeighbour before after entry p i → IsLoadedSince before.steps chosen_at i
-  pub least : (i : ℕ) (was : WasNeighbour before after entry p i) → entry.first_cost ≤ cost_seen chosen_at i + cost_of was.at p
+  pub loaded : (i : ℕ) → WasNeighbour before after first.class p i → IsLoadedSince before.steps chosen_at i
+  pub least : (i : ℕ) (was : WasNeighbour before after first.class p i) → first.cost ≤ cost_seen chosen_at i + cost_of was.at p
 
--- node i is seen within the radius of the record's class of p
-abbrev pub IsWithinRadius : View → Record → Point → ℕ → Type 0
-IsWithinRadius view entry p i = distance_to p (tree_seen view).points i ≤ radius_in view entry.class * radius_in view entry.class
+-- node i is seen within the radius of this class of p
+abbrev pub IsWithinRadius : View → ℕ → Point → ℕ → Type 0
+IsWithinRadius view class p i = distance_to p (tree_seen view).points i ≤ radius_in view class * radius_in view class
 
 -- By this moment the node of mark k was linked, with its first parent and its first cost, and posted if it lies in a goal by which marks are skipped; no
 -- other was rewired by then. At the end no neighbour is seen dearer than through it.
 -- Each node whose seen cost fell since, or whose parent's did, is within its parent, but for a node within the radius to which the new one is a
 -- shortcut and which hangs elsewhere.
-pub record WasRewired (before linked_at after : View) (k : ℕ) (entry : Record) (p : Point) : Type 0 where
+pub record WasRewired (before linked_at after : View) (k : ℕ) (first : FirstHanging) (p : Point) : Type 0 where
   pub until : GoesOn linked_at after
   pub stood : SeesPoint linked_at (suc k) p
-  pub written : sees linked_at (TreeOf (suc k)) ≡ tree_word entry.first_parent entry.first_cost
-  pub posted : lies_in_goals after.run.goals p ≡ true → linked_at.best ≤ best_word entry.first_cost (suc k)
-  pub pairs : (i : ℕ) → WasNeighbour before after entry p i → SeesPair after i
-  pub most : (i : ℕ) (was : WasNeighbour before after entry p i) → cost_seen after i ≤ entry.first_cost + cost_of was.at p
-  pub spread : HasSpreadFalls (setup_in after.run).space (IsWithinRadius linked_at entry p) (suc k) linked_at after
+  pub written : sees linked_at (TreeOf (suc k)) ≡ tree_word first.parent first.cost
+  pub posted : lies_in_goals after.run.goals p ≡ true → linked_at.best ≤ best_word first.cost (suc k)
+  pub pairs : (i : ℕ) → WasNeighbour before after first.class p i → SeesPair after i
+  pub most : (i : ℕ) (was : WasNeighbour before after first.class p i) → cost_seen after i ≤ first.cost + cost_of was.at p
+  pub spread : HasSpreadFalls (setup_in after.run).space (IsWithinRadius linked_at first.class p) (suc k) linked_at after
 
 -- The node of the mark is seen at p. Its class is that of the count seen, which was loaded since, and all points within the radius are swept. Its
 -- parent was chosen by costs that were loaded since, then it was linked, and then the nodes near it were rewired.
-pub record IsPlacedAt (before after : View) (k : ℕ) (entry : Record) (p : Point) : Type 0 where
+pub record IsPlacedAt (before after : View) (k : ℕ) (first : FirstHanging) (p : Point) : Type 0 where
   pub stands : SeesPoint after (suc k) p
-  pub class_is : entry.class ≡ class_of (sees after Count)
+  pub class_is : first.class ≡ class_of (sees after Count)
   pub looked : before.steps < last_look after Count
-  pub swept : SweepsWithin (sight_in before) (sight_in after) p (radius_in after entry.class * radius_in after entry.class)
+  pub swept : SweepsWithin (sight_in before) (sight_in after) p (radius_in after first.class * radius_in after first.class)
   pub chosen_at : View
   pub linked_at : View
   pub in_turn : GoesOn chosen_at linked_at
-  pub chosen : WasChosen before chosen_at after entry p
-  pub rewired : WasRewired before linked_at after k entry p
+  pub chosen : WasChosen before chosen_at after first p
+  pub rewired : WasRewired before linked_at after k first p
 
 -- ---- outcomes
 
@@ -114,28 +113,27 @@ pub record HasSteered (before after : View) (k m : ℕ) (from p : Point) : Type 
   pub swept : SweepsWithin (sight_in before) (sight_in after) (mark_at after.run.marks k)
       (distance_to (mark_at after.run.marks k) (tree_seen after).points m)
 
--- The segment to p is not clear. No node is seen there, and p is swept.
-pub record IsBlockedAt (before after : View) (entry : Record) (p : Point) : Type 0 where
-  pub blocked : ¬ Clear (setup_in after.run).space (point_of (tree_seen after).points entry.nearest) p
+-- The segment to p from node m is not clear. No node is seen there, and p is swept.
+pub record IsBlockedAt (before after : View) (m : ℕ) (p : Point) : Type 0 where
+  pub blocked : ¬ Clear (setup_in after.run).space (point_of (tree_seen after).points m) p
   pub free : IsFree (tree_seen after).points p
   pub swept : IsSwept (sight_in after) before.steps p
 
--- where the nearest node of a record steers towards mark k, as it is seen
-abbrev pub steered_point : View → ℕ → Record → Point
-steered_point view k entry = steered (point_of (tree_seen view).points entry.nearest) (mark_at view.run.marks k) view.run.step
+-- what came of the point p to which node m steered: no way leads there if no node is seen at it, and only then
+abbrev pub ReachesAsSeen : View → View → ℕ → ℕ → Reached → Point → Type 0
+ReachesAsSeen before after k m (NewNode first) p = IsPlacedAt before after k first p
+ReachesAsSeen before after k m (SameNode j) p = SeesPoint after j p
+ReachesAsSeen before after k m NoWay p = IsBlockedAt before after m p
 
--- The nearest node steered to a point, and this is the outcome there.
-pub record WasSteered (before after : View) (k : ℕ) (entry : Record) (EndsAt : Point → Type 0) : Type 0 where
+-- where node m steers towards mark k, as it is seen
+abbrev pub steered_point : View → ℕ → ℕ → Point
+steered_point view k m = steered (point_of (tree_seen view).points m) (mark_at view.run.marks k) view.run.step
+
+-- Node m, the nearest, steered to a point, and this was reached there.
+pub record WasSteered (before after : View) (k m : ℕ) (reached : Reached) : Type 0 where
   pub from : Point
-  pub steered : HasSteered before after k entry.nearest from (steered_point after k entry)
-  pub outcome : EndsAt (steered_point after k entry)
-
--- what the outcome of a mark says that is not skipped: blocked if no node is seen at the point, and only then
-abbrev pub EndsAsSteered : View → View → ℕ → Record → Outcome → Type 0
-EndsAsSteered before after k entry Placed = WasSteered before after k entry (IsPlacedAt before after k entry)
-EndsAsSteered before after k entry (Same j) = WasSteered before after k entry (SeesPoint after j)
-EndsAsSteered before after k entry Blocked = WasSteered before after k entry (IsBlockedAt before after entry)
-EndsAsSteered before after k entry Skipped = ⊥
+  pub steered : HasSteered before after k m from (steered_point after k m)
+  pub outcome : ReachesAsSeen before after k m reached (steered_point after k m)
 
 -- If marks may be skipped, the view came to be from one that a load of this best word leaves as the first step, and the best that it tells of, if any,
 -- costs more than the bound of mark k. The word is the best one seen at the end, so the one that the first step found; or a later step looked at the
@@ -145,27 +143,26 @@ WasNotSkipped before after k =
     IsInformed after.run → (word : ℕ) × GoesOn (best_loaded before word) after × SeesBestSince (best_loaded before word) after
     × (word ≢ no_best → mark_bound (setup_in after.run) (mark_at after.run.marks k) < best_cost_in word)
 
--- Two steps were made: the best word was loaded, and the record stored. The best was the goal node that the record names, at a cost of at most
--- the bound of mark k.
-pub record WasSkipped (before after : View) (k : ℕ) (entry : Record) : Type 0 where
+-- Two steps were made: the best word was loaded, and the record stored. The best was the goal node g, at a cost of at most the bound of mark k.
+pub record WasSkipped (before after : View) (k : ℕ) (entry : Record) (g : ℕ) : Type 0 where
   pub informed : IsInformed after.run
   pub word : ℕ
   pub some_node : word ≢ no_best
-  pub node : entry.nearest ≡ best_node_in word
+  pub node : g ≡ best_node_in word
   pub within : best_cost_in word ≤ mark_bound (setup_in after.run) (mark_at after.run.marks k)
   pub steps : after ≡ finished (best_loaded before word) k (record_word entry)
 
--- what the outcome says
-abbrev pub EndsAsSeen : View → View → ℕ → Record → Outcome → Type 0
-EndsAsSeen before after k entry Skipped = WasSkipped before after k entry
-EndsAsSeen before after k entry outcome = WasNotSkipped before after k × EndsAsSteered before after k entry outcome
+-- what is seen of a mark with this record, by what became of it
+abbrev pub EndsAsSeen : View → View → ℕ → Record → Ending → Type 0
+EndsAsSeen before after k entry (Steered nearest reached) = WasNotSkipped before after k × WasSteered before after k nearest reached
+EndsAsSeen before after k entry (SkippedBy goal_node) = WasSkipped before after k entry goal_node
 
 -- ---- the whole
 
--- Mark k was handled: the record that stands there is the one answered, and its outcome is what it says.
+-- Mark k was handled: the record that stands there is the one answered, and the mark ended as it says.
 pub record IsExtended (before after : View) (k : ℕ) (entry : Record) : Type 0 where
   pub stored : record_at (sees after) k ≡ Some entry
-  pub outcome : EndsAsSeen before after k entry entry.outcome
+  pub outcome : EndsAsSeen before after k entry (ending_of entry)
 
 -- What `extend` promises: mark k was handled, and a pass that works alone goes on in the textbook run by one mark.
 pub record Extends (shared : SharedState) (before after : PassState) (k : ℕ) (entry : Record) : Type 0 where

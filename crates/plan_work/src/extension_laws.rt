@@ -36,18 +36,18 @@ pub fn handled_marks_are_steered_to()
         → IsPresent (tree_seen before).points n
         → IsNotAbove (distance_to (mark_at after.run.marks k) (tree_seen after).points) entry.nearest n }
     ensures same { (before after : View) (k : ℕ) (entry : Record) → IsExtended before after k entry → (j : ℕ) → entry.outcome ≡ Same j
-        → SeesPoint after j (steered_point after k entry) }
+        → SeesPoint after j (steered_point after k entry.nearest) }
     ensures blocked { (before after : View) (k : ℕ) (entry : Record) → IsExtended before after k entry → entry.outcome ≡ Blocked
-        → IsFree (tree_seen after).points (steered_point after k entry)
-        × (¬ Clear (setup_in after.run).space (point_of (tree_seen after).points entry.nearest) (steered_point after k entry)) }
+        → IsFree (tree_seen after).points (steered_point after k entry.nearest)
+        × (¬ Clear (setup_in after.run).space (point_of (tree_seen after).points entry.nearest) (steered_point after k entry.nearest)) }
     ensures free { (before after : View) (k : ℕ) (entry : Record) → IsExtended before after k entry → entry.outcome ≢ Skipped
-        → IsFree (tree_seen after).points (steered_point after k entry) → entry.outcome ≡ Blocked }
+        → IsFree (tree_seen after).points (steered_point after k entry.nearest) → entry.outcome ≡ Blocked }
     // all points at most as far from the mark as the nearest node are swept, and so is the point of a blocked mark
     ensures swept { (before after : View) (k : ℕ) (entry : Record) → IsExtended before after k entry → entry.outcome ≢ Skipped → (q : Point)
         → squared_distance q (mark_at after.run.marks k)
         ≤ distance_to (mark_at after.run.marks k) (tree_seen after).points entry.nearest → IsSwept (sight_in after) before.steps q }
     ensures blocked_swept { (before after : View) (k : ℕ) (entry : Record) → IsExtended before after k entry
-        → entry.outcome ≡ Blocked → IsSwept (sight_in after) before.steps (steered_point after k entry) }
+        → entry.outcome ≡ Blocked → IsSwept (sight_in after) before.steps (steered_point after k entry.nearest) }
 {}
 
 /// A mark is skipped only where marks may be, and only if the best that the call loaded is known and costs no more than the bound of
@@ -74,22 +74,23 @@ pub fn marks_are_skipped_by_the_best()
 /// what it is seen to cost at return.
 pub fn placed_marks_have_the_best_parent()
     ensures node { (before after : View) (k : ℕ) (entry : Record) → IsExtended before after k entry → entry.outcome ≡ Placed
-        → SeesPoint after (suc k) (steered_point after k entry) × (entry.class ≡ class_of (sees after Count)) × (before.steps < last_look after Count) }
+        → SeesPoint after (suc k) (steered_point after k entry.nearest) × (entry.class ≡ class_of (sees after Count)) × (before.steps < last_look after Count) }
     ensures loaded { (before after : View) (k : ℕ) (entry : Record) → IsExtended before after k entry → entry.outcome ≡ Placed
         → (i : ℕ) (q : Point) → SeesPoint before i q
-        → squared_distance q (steered_point after k entry) ≤ radius_in after entry.class * radius_in after entry.class
-        → Clear (setup_in after.run).space q (steered_point after k entry) → before.steps < last_look after (TreeOf i) }
+        → squared_distance q (steered_point after k entry.nearest) ≤ radius_in after entry.class * radius_in after entry.class
+        → Clear (setup_in after.run).space q (steered_point after k entry.nearest) → before.steps < last_look after (TreeOf i) }
     ensures chosen { (before after : View) (k : ℕ) (entry : Record) → IsExtended before after k entry → entry.outcome ≡ Placed
         → (i : ℕ) (q : Point) → SeesPoint before i q → SeesPair before i
-        → squared_distance q (steered_point after k entry) ≤ radius_in after entry.class * radius_in after entry.class
-        → Clear (setup_in after.run).space q (steered_point after k entry) → entry.first_cost ≤ cost_seen before i + cost_of q (steered_point after k entry) }
+        → squared_distance q (steered_point after k entry.nearest) ≤ radius_in after entry.class * radius_in after entry.class
+        → Clear (setup_in after.run).space q (steered_point after k entry.nearest)
+        → entry.first_cost ≤ cost_seen before i + cost_of q (steered_point after k entry.nearest) }
     ensures rewired { (before after : View) (k : ℕ) (entry : Record) → IsExtended before after k entry → entry.outcome ≡ Placed
         → (i : ℕ) (q : Point) → SeesPoint before i q
-        → squared_distance q (steered_point after k entry) ≤ radius_in after entry.class * radius_in after entry.class
-        → Clear (setup_in after.run).space q (steered_point after k entry)
-        → SeesPair after i × (cost_seen after i ≤ entry.first_cost + cost_of q (steered_point after k entry)) }
+        → squared_distance q (steered_point after k entry.nearest) ≤ radius_in after entry.class * radius_in after entry.class
+        → Clear (setup_in after.run).space q (steered_point after k entry.nearest)
+        → SeesPair after i × (cost_seen after i ≤ entry.first_cost + cost_of q (steered_point after k entry.nearest)) }
     ensures swept { (before after : View) (k : ℕ) (entry : Record) → IsExtended before after k entry → entry.outcome ≡ Placed
-        → (q : Point) → squared_distance q (steered_point after k entry) ≤ radius_in after entry.class * radius_in after entry.class
+        → (q : Point) → squared_distance q (steered_point after k entry.nearest) ≤ radius_in after entry.class * radius_in after entry.class
         → IsSwept (sight_in after) before.steps q }
 {}
 
@@ -101,10 +102,10 @@ pub fn placed_marks_bring_falls_down()
     ensures linked { (before after : View) (k : ℕ) (entry : Record) → IsExtended before after k entry → entry.outcome ≡ Placed
         → (mid : View) × GoesOn before mid × GoesOn mid after
         × (sees mid (TreeOf (suc k)) ≡ tree_word entry.first_parent entry.first_cost)
-        × (lies_in_goals after.run.goals (steered_point after k entry) ≡ true → mid.best ≤ best_word entry.first_cost (suc k)) }
+        × (lies_in_goals after.run.goals (steered_point after k entry.nearest) ≡ true → mid.best ≤ best_word entry.first_cost (suc k)) }
     ensures fallen { (before after : View) (k : ℕ) (entry : Record) → IsExtended before after k entry → entry.outcome ≡ Placed
         → (mid : View) × GoesOn before mid × GoesOn mid after × ((n : ℕ) → IsInFall mid after n
-        → (¬ IsWithinRadius mid entry (steered_point after k entry) n) ⊎ (parent_seen after n ≡ suc k) → IsWithinParent after n) }
+        → (¬ IsWithinRadius mid entry.class (steered_point after k entry.nearest) n) ⊎ (parent_seen after n ≡ suc k) → IsWithinParent after n) }
 {}
 
 /// Each mark of which a worker's pass sees a record now, and saw none before, was handled as `extend` promises, between two moments

@@ -11,7 +11,7 @@ ghost use Rattle.plan_words.specs.Claims.{SeesAsBefore};
 ghost use Rattle.plan_words.specs.SearchLists.{numbers_of, weighed};
 ghost use Rattle.plan_words.specs.States.{BelongsTo, GoesOn, HasWholeShare, PassState, with_view};
 ghost use Rattle.plan_work.specs.Extensions.{HandlesMark};
-ghost use Rattle.plan_work.specs.ExtensionSteps.{EndsWritten, HasCome, IsFilledSince, IsHung, IsPointed, IsTried, KeepsRecords, MayPlace};
+ghost use Rattle.plan_work.specs.ExtensionSteps.{HasCome, HasReached, IsFilledSince, IsHung, IsPointed, IsTried, KeepsRecords, MayPlace};
 ghost use Rattle.plan_work.specs.OneWorker.{IsNotSkippedIn, SeesTextbook, WorksAlone};
 ghost use Rattle.plan_work.specs.WholeShares.{IsBestHanging, IsFilledWhole, IsSteeredWhole, IsTriedWhole, KeepsOthers};
 ghost use Rattle.step_core.specs.ViewSteps.{last_note, with_post};
@@ -160,10 +160,9 @@ pub(crate) fn place_rewire_and_record<C: Clearing>(
     requires filled { (first : PassState) × IsFilledSince shared.now first pass.old steering.point class }
     requires hall { C.space hall.now ≡ space_of shared.now.task.scene }
     ensures handled { HandlesMark shared.now pass.old pass.new k result }
-    ensures nearest { result.nearest ≡ steering.nearest }
     // of the time since any moment after which the near nodes were found
     ensures ended { (first : PassState) → IsFilledSince shared.now first pass.old steering.point class
-        → EndsWritten first.view pass.new.view k result steering.point result.outcome }
+        → HasReached first.view pass.new.view k result steering.nearest steering.point }
     // a pass that works alone does so as in the textbook
     ensures textbook { IsSteeredWhole pass.old.view k steering.nearest steering.point
         → IsFilledWhole pass.old.view steering.point class pass.old.lists.search.found

@@ -2,24 +2,25 @@
 pub use Rattle.edge_cost.proofs.RadiusFromRoot.{class_below}
 pub use Rattle.edge_cost.specs.declared.radii.Radii.{Radii}
 pub use Rattle.grown_runs.proofs.Common.{All-task_marks_within, AreDistinct, AreSameRuns, AreTightAlong, AreTurns, Blocked, Clear, ClearAt, ConfigurationSpace}
-pub use Rattle.grown_runs.proofs.Common.{FallAlong, FitsRecord-closed, Goal, Hangs, HangsBelow, HangsBelow-falls, HasLawfulOutcome, HaveSameFields, IsBounded}
+pub use Rattle.grown_runs.proofs.Common.{Ending, FallAlong, FitsRecord-closed, Goal, Hangs, HangsBelow, HangsBelow-falls, HasLawfulEnding, IsBounded}
 pub use Rattle.grown_runs.proofs.Common.{IsBounded-closed, IsClosed, IsClosed-same_run, IsEarlier, IsGoalNode, IsKnot, IsKnot-at, IsLawfulRecord, IsNeighbour}
-pub use Rattle.grown_runs.proofs.Common.{IsPresent, IsPresent-goal, IsPresent-stands, IsSettled, IsSettled-same, KeepsOrder, KeepsOrder-falls, Knot, MOST_MARKS}
-pub use Rattle.grown_runs.proofs.Common.{MOST_NODES, Outcome, Placed, Point, Record, Record-from_fields, Same, Scene, Setup, Skipped, StandsAt}
-pub use Rattle.grown_runs.proofs.Common.{StandsAt-present, Task, TreeState, Twig, best_node, best_node-some, best_path, chain_in, chain_within}
-pub use Rattle.grown_runs.proofs.Common.{class_from_powers, class_of, cost_of, cost_of-short, count-first, count-found, count-more, count-none, count-one_more}
-pub use Rattle.grown_runs.proofs.Common.{count-same, count-single, count-some, counts_line, distance_to, earlier_count, first_cost_of, full_report, goals_of}
+pub use Rattle.grown_runs.proofs.Common.{IsPresent, IsPresent-goal, IsPresent-stands, IsSettled, IsSettled-same, IsSteeredLawfully, KeepsOrder}
+pub use Rattle.grown_runs.proofs.Common.{KeepsOrder-falls, Knot, MOST_MARKS, MOST_NODES, NewNode, NoWay, Outcome, Placed, Point, Reached, ReachesLawfully}
+pub use Rattle.grown_runs.proofs.Common.{Record, Same, SameNode, Scene, Setup, Skipped, SkippedBy, StandsAt, StandsAt-present, Steered, Task, TreeState, Twig}
+pub use Rattle.grown_runs.proofs.Common.{best_node, best_node-some, best_path, chain_in, chain_within, class_from_powers, class_of, cost_of, cost_of-short}
+pub use Rattle.grown_runs.proofs.Common.{count-first, count-found, count-more, count-none, count-one_more, count-same, count-single, count-some, counts_line}
+pub use Rattle.grown_runs.proofs.Common.{distance_to, earlier_count, ending_as, ending_of, ending_words, first_cost_of, first_hanging, full_report, goals_of}
 pub use Rattle.grown_runs.proofs.Common.{has_outcome, head_line, is_blocked, is_earlier, is_earlier_record, is_goal_point, is_of_turn, is_of_worker, is_placed}
-pub use Rattle.grown_runs.proofs.Common.{is_same, is_skipped, is_within, is_zero_unless_placed, kept-low, kept_cost_of, last_field, length-marks}
-pub use Rattle.grown_runs.proofs.Common.{length_of_path, lesser, lies_in_goals, line, lines_of, ltb-next, mark_at, mark_bound, mark_line_if_recorded}
-pub use Rattle.grown_runs.proofs.Common.{mark_lines, most_cost_of, no_path_line, node_count, node_count-length, node_count-lists, node_count-some}
-pub use Rattle.grown_runs.proofs.Common.{node_line_if_present, node_lines, numbers-closed, once_if-below, once_if-past, outcome_count, outcome_words}
-pub use Rattle.grown_runs.proofs.Common.{parent-present, parent_of-lists, path_to, pieces_of, point_at, point_at-lists, point_lines, point_of, point_of-stands}
-pub use Rattle.grown_runs.proofs.Common.{points_of, present-closed, present_below, radius_of_class, range-more, recorded_or, report_text-same}
-pub use Rattle.grown_runs.proofs.Common.{same-from_distance, setup_of, short_report, skipped_words, skipping_goals, space_of, squared_distance, start-present}
-pub use Rattle.grown_runs.proofs.Common.{state_of_lists, steered, sum_in, sum_in-parent, sums-tight, times-once, times_of, turn-below, turn_of_record, turns_of}
-pub use Rattle.grown_runs.proofs.Common.{unplaced_record, without_costs}
-pub use Rattle.plan_model.specs.Runs.RecordLaw.{IsPlacedLawfully}
+pub use Rattle.grown_runs.proofs.Common.{is_same, is_skipped, is_within, kept-low, kept_cost_of, last_field, length-marks, length_of_path, lesser}
+pub use Rattle.grown_runs.proofs.Common.{lies_in_goals, line, lines_of, ltb-next, mark_at, mark_bound, mark_line_if_recorded, mark_lines, most_cost_of}
+pub use Rattle.grown_runs.proofs.Common.{no_path_line, node_count, node_count-length, node_count-lists, node_count-some, node_line_if_present, node_lines}
+pub use Rattle.grown_runs.proofs.Common.{numbers-closed, once_if-below, once_if-past, outcome_count, parent-present, parent_of-lists, path_to, pieces_of}
+pub use Rattle.grown_runs.proofs.Common.{point_at, point_at-lists, point_lines, point_of, point_of-stands, points_of, present-closed, present_below}
+pub use Rattle.grown_runs.proofs.Common.{radius_of_class, range-more, reached-unskipped, reached_words, record_of_ending, record_of_ending-again, recorded_or}
+pub use Rattle.grown_runs.proofs.Common.{report_text-same, same-from_distance, setup_of, short_report, skipped_words, skipping_goals, space_of}
+pub use Rattle.grown_runs.proofs.Common.{squared_distance, start-present, state_of_lists, steered, sum_in, sum_in-parent, sums-tight, times-once, times_of}
+pub use Rattle.grown_runs.proofs.Common.{turn-below, turn_of_record, turns_of, unplaced_record, without_costs}
+pub use Rattle.grown_runs.specs.Runs.PackedRuns.{FitsRecord}
 pub use Rattle.plan_model.specs.Texts.SceneBatches.{text_of}
 pub use Rattle.plan_model.specs.Texts.TextNumbers.{is_digit, is_number, is_positive, magnitude, value_of}
 pub use Rattle.point_bands.specs.Discs.{IsWithin}
@@ -37,8 +38,8 @@ pub use Rattle.report_judge.specs.Laws.Verdicts.{BreaksLawFirst, IsBroken, IsLaw
 pub use Rattle.report_judge.specs.Texts.FrontLines.{IsNextNode, ReadsNodes, ReadsPoints, ReadsRecords}
 pub use Rattle.report_judge.specs.Texts.ReportCuts.{HasNoReportLine, IsCutAtReport, IsOtherLine, has_no_feed, report_line}
 pub use Rattle.report_judge.specs.Texts.ReportForms.{AreAll, AreBegun, BreaksFormFirst, MayFollow, MayStandNext, counts_place, nodes_said, nodes_to_come}
-pub use Rattle.report_judge.specs.Texts.ReportLines.{EndsWithin, Extent, FitsEntry, FitsKnot, FitsLine, FitsSkipped, FitsTally, ReportLine, Tally, extent_of}
-pub use Rattle.report_judge.specs.Texts.ReportLines.{field, line_text, line_words, lines_text, mark_front, point_field, skipped_count}
+pub use Rattle.report_judge.specs.Texts.ReportLines.{EndsWithin, Extent, FitsEntry, FitsKnot, FitsLine, FitsSkipped, FitsTally, ReachesWithin, ReportLine}
+pub use Rattle.report_judge.specs.Texts.ReportLines.{Tally, extent_of, field, line_text, line_words, lines_text, mark_front, point_field, skipped_count}
 pub use Rattle.report_judge.specs.Texts.ReportLines.ReportLine.{Counts, MarkLine, NoPath, NodeLine, PathOf, PathPoint}
 pub use Rattle.report_judge.specs.Texts.ReportSheets.{FitsOptionalPath, HasForm, PricedPath, Sheet, SpellsSheet, head_lines, line_of_knot, line_of_record}
 pub use Rattle.report_judge.specs.Texts.ReportSheets.{lines_of_knots, lines_of_records, lines_of_sheet, number_of_mark_line, number_of_node_line, path_lines}
@@ -46,7 +47,7 @@ pub use Rattle.report_judge.specs.Texts.ReportSheets.{state_of_sheet}
 pub use Rattle.report_judge.specs.Texts.SheetsRead.{priced_path, sheet_read}
 pub use Rattle.report_judge.specs.Workers.JudgedRuns.{AreRadiiOf, HaveLowTurns, IsAsked, IsJudged, KeepsRecord, KeepsRecordBelow, KeepsRecordBetween}
 pub use Rattle.report_judge.specs.Workers.JudgedRuns.{KeepsRecordOf, run_of, setup_by}
-pub use Rattle.report_judge.specs.Workers.MarkLaws.{EndsLawfully}
+pub use Rattle.report_judge.specs.Workers.MarkLaws.{IsReachedLawfully}
 pub use Rattle.report_judge.specs.Workers.OwnMarks.{AreMarksBetween, HasNumber, IsFirstSeen, IsMarkBetween}
 pub use Rattle.report_judge.specs.Workers.OwnNodes.{AreNodesBefore, ArePresent, FitFirstCosts, HasNo, HasOne, IsNearerAt, IsNearestOfEarlier, IsNodeBefore}
 pub use Rattle.report_judge.specs.Workers.OwnNodes.{IsPassedOverAt, IsPlacedAt, IsPlacedMarkAt, IsTaken, IsUnlawfulAt, KeepsNear}

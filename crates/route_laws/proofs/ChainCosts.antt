@@ -1,9 +1,9 @@
 -- In a closed run no node of a chain in order was placed at more than the chain costs up to it, nor is the last one kept at more.
 use Rattle.route_laws.proofs.Words.{◌≡◌, ℕ, suc, ◌+◌, ◌≤◌, List, [], ◌∷◌, Option, Some, None, arith, refl, sym, ap, subst, inl, inr, ◌⊎◌, IsChain}
 use Rattle.route_laws.proofs.Words.{IsChainInOrder, IsLinkInOrder, cost_of_chain}
-use Rattle.route_laws.proofs.Common.{Goal, Point, Outcome, Placed, Record, cost_of, steered, IsClosed, mark_at, HasLawfulOutcome, IsPlacedLawfully, Setup}
-use Rattle.route_laws.proofs.Common.{IsGoalNode, best_node, IsPresent, point_of, TreeState, first_cost_of, recorded_or, sum_in, best_node-none, best_node-some}
-use Rattle.route_laws.proofs.Common.{KeepsFirstCosts-closed, cost_of-swap, numbers-closed, earlier-present, point_of-stands, start-present, sum_in-le_cost}
+use Rattle.route_laws.proofs.Common.{Goal, Point, Placed, Record, first_hanging, cost_of, IsClosed, IsPlacedLawfully, Setup, IsGoalNode, best_node}
+use Rattle.route_laws.proofs.Common.{IsPresent, point_of, TreeState, first_cost_of, recorded_or, sum_in, best_node-none, best_node-some, KeepsFirstCosts-closed}
+use Rattle.route_laws.proofs.Common.{IsPlacedLawfully-closed, cost_of-swap, numbers-closed, earlier-present, point_of-stands, start-present, sum_in-le_cost}
 use Rattle.route_laws.proofs.Common.{present-of_record}
 
 module _ (setup : Setup) (marks : List Point) (limit : ℕ) (state : TreeState) (closed : IsClosed setup marks limit state) where
@@ -12,28 +12,20 @@ module _ (setup : Setup) (marks : List Point) (limit : ℕ) (state : TreeState) 
 
   -- ---- one link
 
-  -- the law of a mark that was placed
-  placed_of : (k : ℕ) (entry : Record) (outcome : Outcome) → outcome ≡ Placed → HasLawfulOutcome setup state k (mark_at marks k) entry outcome
-      → IsPlacedLawfully setup state k entry (steered (point entry.nearest) (mark_at marks k) setup.step)
-  placed_of k entry outcome e h =
-      let own = subst (λ o. HasLawfulOutcome setup state k (mark_at marks k) entry o) e h in
-      own.outcome
-
-  -- said of the point at which its node stands
+  -- the law of a mark that was placed, said of the point at which its node stands
   placed_at : (k : ℕ) (entry : Record) → state.record_of k ≡ Some entry → entry.outcome ≡ Placed
-      → IsPlacedLawfully setup state k entry (point (suc k))
+      → IsPlacedLawfully setup state k entry entry.nearest (first_hanging entry) (point (suc k))
   placed_at k entry h placed =
-      let p : Point = steered (point entry.nearest) (mark_at marks k) setup.step in
-      let own : IsPlacedLawfully setup state k entry p = placed_of k entry entry.outcome placed (closed.lawful k entry h) in
-      subst (IsPlacedLawfully setup state k entry) (sym (point_of-stands state.points (suc k) p own.by_tree.stands)) own
+      let own = IsPlacedLawfully-closed setup marks limit state closed k entry h placed in
+      subst (IsPlacedLawfully setup state k entry entry.nearest (first_hanging entry)) (sym (point_of-stands state.points (suc k) _ own.by_tree.stands)) own
 
   first_cost_is : (k : ℕ) (entry : Record) → state.record_of k ≡ Some entry → first_cost_of state (suc k) ≡ entry.first_cost
   first_cost_is k entry h = ap (recorded_or (state.written_cost (suc k))) h
 
   module _ (i n : ℕ) (link : IsLinkInOrder setup state i n) where
-    own_law : IsPlacedLawfully setup state link.mark link.entry (point n)
+    own_law : IsPlacedLawfully setup state link.mark link.entry link.entry.nearest (first_hanging link.entry) (point n)
     own_law =
-        subst (λ m. IsPlacedLawfully setup state link.mark link.entry (point m)) (sym link.number)
+        subst (λ m. IsPlacedLawfully setup state link.mark link.entry link.entry.nearest (first_hanging link.entry) (point m)) (sym link.number)
         (placed_at link.mark link.entry link.recorded link.placed)
 
     own_first_cost : first_cost_of state n ≡ link.entry.first_cost

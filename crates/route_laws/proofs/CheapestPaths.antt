@@ -2,10 +2,10 @@
 -- where a mark is skipped.
 use Rattle.route_laws.proofs.Words.{◌≡◌, inl, inr, ℕ, ◌≤◌, Bool, true, false, cond, List, [], length, map, Option, Some, None, arith, refl, sym, subst, IsTrue}
 use Rattle.route_laws.proofs.Words.{EndApart, IsNearLink, cost_of_route, end_of, IsRoute}
-use Rattle.route_laws.proofs.Common.{Goal, Point, Scene, Outcome, Skipped, Record, IsClosed, mark_at, HasLawfulOutcome, IsSkippedLawfully, IsOfTextbookRun}
-use Rattle.route_laws.proofs.Common.{Setup, setup_of, mark_points, ClearAt, space_of, IsGoalNode, best_node, goals_of, is_goal_point, lies_in_goals}
-use Rattle.route_laws.proofs.Common.{AreNumberedTo, point_at, IsSettled, TreeState, sum_in, IsPresent-goal, best_node-none, best_node-some, numbers-closed}
-use Rattle.route_laws.proofs.Common.{no_goal_node, IsClosed-of_textbook, IsSettled-of_textbook}
+use Rattle.route_laws.proofs.Common.{Goal, Point, Scene, Skipped, Record, ending_as, IsClosed, mark_at, HasLawfulEnding, IsOfTextbookRun, Setup, setup_of}
+use Rattle.route_laws.proofs.Common.{mark_points, ClearAt, space_of, IsGoalNode, best_node, goals_of, is_goal_point, lies_in_goals, AreNumberedTo, point_at}
+use Rattle.route_laws.proofs.Common.{IsSettled, TreeState, sum_in, IsPresent-goal, best_node-none, best_node-some, numbers-closed, no_goal_node}
+use Rattle.route_laws.proofs.Common.{IsClosed-of_textbook, IsSettled-of_textbook}
 use Rattle.plan_model.specs.Trees.GoalBounds.{bound_of}
 use Rattle.route_laws.proofs.FollowedPaths.{IsGoalNode-skipping}
 use Rattle.route_laws.proofs.RouteCosts.{CostsWithin-route}
@@ -64,11 +64,6 @@ module _
 
 -- ---- a skipped mark
 
--- what the law says of a mark with this outcome
-skipped_lawfully : (setup : Setup) (state : TreeState) (k : ℕ) (mark : Point) (entry : Record) (outcome : Outcome) → outcome ≡ Skipped
-    → HasLawfulOutcome setup state k mark entry outcome → IsSkippedLawfully setup state mark entry
-skipped_lawfully setup state k mark entry outcome e h = subst (λ o. HasLawfulOutcome setup state k mark entry o) e h
-
 -- the bound by the goals to skip by is that by the goals of the scene, if there is a node in one
 bound_to_skip : (informed : Bool) (goals : List Goal) (start p : Point) (points : List (Option Point)) (g : ℕ)
     → IsGoalNode (cond informed goals []) points g → bound_of start (cond informed goals []) p ≡ bound_of start goals p
@@ -82,7 +77,7 @@ pub best_within_bound :
     × (sum_in state best ≤ bound_of scene.start (goals_of scene) (mark_at (mark_points scene) k))
 best_within_bound scene limit state k entry closed settled recorded skipped =
     let mark : Point = mark_at (mark_points scene) k in
-    let lawful = skipped_lawfully (setup_of scene) state k mark entry entry.outcome skipped (closed.lawful k entry recorded) in
+    let lawful = subst (λ o. HasLawfulEnding (setup_of scene) state k mark entry (ending_as entry o)) skipped (closed.lawful k entry recorded) in
     let bound = bound_to_skip scene.informed scene.goals scene.start mark state.points entry.nearest lawful.goal in
     let in_goal = IsGoalNode-skipping scene.informed scene.goals state.points entry.nearest lawful.goal in
     best_within (setup_of scene) (mark_points scene) limit state closed settled (goals_of scene) entry.nearest in_goal

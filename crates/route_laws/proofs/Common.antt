@@ -1,10 +1,11 @@
 -- The names that proofs here and above cite, passed on from one place. Declares nothing.
 pub use Rattle.plan_model.proofs.BestNodeLaws.{IsPresent-goal, best_node-none, best_node-some}
 pub use Rattle.plan_model.proofs.ClassLaws.{below_digits, from_digits}
-pub use Rattle.plan_model.proofs.ClosedLaws.{KeepsFirstCosts-closed}
+pub use Rattle.plan_model.proofs.ClosedLaws.{IsPlacedLawfully-closed, KeepsFirstCosts-closed}
 pub use Rattle.plan_model.proofs.CostLaws.{cost_of-swap}
 pub use Rattle.plan_model.proofs.CountLaws.{node_count-closed, numbers-closed}
-pub use Rattle.plan_model.proofs.DistinctPoints.{IsPresent-below, near-present_beside, points_of-rewires}
+pub use Rattle.plan_model.proofs.DistinctPoints.{IsPresent-below, length-ends, points_of-ends}
+pub use Rattle.plan_model.proofs.RunLaws.{HandlesAll-nodes}
 pub use Rattle.plan_model.proofs.EarlierNodes.{earlier-present}
 pub use Rattle.plan_model.proofs.EmptyRoomClearance.{AreInRoom-from_clear, Clear-empty_room, IsInRoom-from_clear_at, corner_in_box}
 pub use Rattle.plan_model.proofs.GoalBoundLaws.{bound_of-least}
@@ -32,12 +33,13 @@ pub use Rattle.plan_model.specs.Geometry.Plane.{squared_distance}
 pub use Rattle.plan_model.specs.Geometry.Radius.{class_of, radius_of, radius_of_class}
 pub use Rattle.plan_model.specs.Geometry.Steering.{advanced, steered}
 pub use Rattle.plan_model.specs.Runs.ClosedLaw.{IsClosed, has_outcome, mark_at}
+pub use Rattle.plan_model.specs.Runs.Endings.{Ending, NewNode, NoWay, Reached, SameNode, SkippedBy, Steered, ending_as, ending_of, first_hanging}
 pub use Rattle.plan_model.specs.Runs.Outcomes.{is_placed, is_same}
-pub use Rattle.plan_model.specs.Runs.RecordLaw.{HasLawfulOutcome, IsEarlier, IsNeighbour, IsPlacedLawfully, IsSkippedLawfully, IsSteeredLawfully}
-pub use Rattle.plan_model.specs.Runs.RecordLaw.{is_earlier_record}
+pub use Rattle.plan_model.specs.Runs.RecordLaw.{HasLawfulEnding, IsEarlier, IsNeighbour, IsPlacedLawfully, IsSkippedLawfully, IsSteeredLawfully}
+pub use Rattle.plan_model.specs.Runs.RecordLaw.{ReachesLawfully, is_earlier_record}
 pub use Rattle.plan_model.specs.Runs.SameRuns.{IsOfTextbookRun}
-pub use Rattle.plan_model.specs.Runs.Textbook.{Ends, EndsPlaced, EndsSame, Handles, HandlesAll, IsCandidate, IsCheaperThrough, IsTextbookRun, Nodes, Rewires}
-pub use Rattle.plan_model.specs.Runs.Textbook.{Setup, cost_through, mark_bound, near_new, placed_record, same_record, setup_of, start_alone}
+pub use Rattle.plan_model.specs.Runs.Textbook.{Ends, EndsPlaced, EndsSteered, Handles, HandlesAll, IsCandidate, IsCheaperThrough, IsTextbookRun, Nodes, Rewires}
+pub use Rattle.plan_model.specs.Runs.Textbook.{Setup, cost_through, mark_bound, near_new, setup_of, start_alone}
 pub use Rattle.plan_model.specs.Scenes.MarkPoints.{mark_points}
 pub use Rattle.plan_model.specs.Spaces.Clearance.{Clear, ClearAt, IsClear, on_the_way}
 pub use Rattle.plan_model.specs.Spaces.ConfigurationSpace.{space_among, space_of}
@@ -51,7 +53,8 @@ pub use Rattle.plan_model.specs.Trees.NodeLists.{length_of_path, points_of, sum_
 pub use Rattle.plan_model.specs.Trees.PointsByNumber.{AreNumberedTo, IsFree, IsPresent, StandsAt, node_count, point_at, point_of}
 pub use Rattle.plan_model.specs.Trees.TreeStates.{IsSettled, TreeState, first_cost_of, recorded_or, state_of, sum_in}
 pub use Rattle.plan_model.specs.Vectors.Meetings.{great_triangle, point_body, small_square}
-pub use Rattle.plan_model.specs.Vectors.Overlaps.{early_record, overlapped, placed_by}
+pub use Rattle.plan_model.specs.Vectors.Overlaps.{early_record, overlapped}
+pub use Rattle.plan_model.specs.Vectors.Records.{placed_by, placed_record, same_record}
 pub use Rattle.plan_model.specs.Vectors.Runs.{marks_to_rewire, node, open_setup, open_setup_to, rewired_tree}
 pub use Rattle.plan_model.specs.Vectors.Shapes.{at, corner, two_is_positive}
 pub use Rattle.plan_model.specs.declared.geometry.Goal.{Goal}

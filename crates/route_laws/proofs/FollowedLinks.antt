@@ -1,8 +1,9 @@
 -- One open link in a closed run: if an earlier node stands where it begins, the mark where it ends is placed there or ends at a node there,
 -- unless it is skipped.
 use Rattle.route_laws.proofs.Words.{◌≡◌, ◌⊎◌, inl, inr, ℕ, zero, suc, ◌≤◌, List, arith, refl, sym, subst, HasGoalNode, IsOpenLink}
-use Rattle.route_laws.proofs.Common.{Point, Outcome, Placed, Same, Blocked, Skipped, Record, squared_distance, IsClosed, HasLawfulOutcome, IsEarlier}
-use Rattle.route_laws.proofs.Common.{IsSteeredLawfully, Setup, ClearAt, IsPresent, StandsAt, point_of, TreeState, point_of-stands, Clear-last, steered-near}
+use Rattle.route_laws.proofs.Common.{Point, Outcome, Placed, Same, Blocked, Skipped, Record, squared_distance, Reached, ending_as, IsClosed, HasLawfulEnding}
+use Rattle.route_laws.proofs.Common.{ReachesLawfully, IsEarlier, IsSteeredLawfully, Setup, ClearAt, IsPresent, StandsAt, point_of, TreeState, point_of-stands}
+use Rattle.route_laws.proofs.Common.{Clear-last, steered-near}
 
 module _ (setup : Setup) (marks : List Point) (limit : ℕ) (state : TreeState) (closed : IsClosed setup marks limit state) where
   -- each node of a closed run is clear
@@ -18,14 +19,17 @@ module _ (setup : Setup) (marks : List Point) (limit : ℕ) (state : TreeState) 
     nearest = point_of state.points entry.nearest
 
     -- the nearest node is no farther from b than a is
-    pub near : (EndsAt : Point → Type 0) → IsSteeredLawfully setup state b entry EndsAt → squared_distance nearest b ≤ squared_distance a b
-    near EndsAt steers =
+    pub near : (reached : Reached) → IsSteeredLawfully setup state k b entry entry.nearest reached → squared_distance nearest b ≤ squared_distance a b
+    near reached steers =
         subst (λ p. squared_distance nearest b ≤ squared_distance p b) (point_of-stands state.points n a stands) (steers.nearest n earlier).least
 
     -- so it steers to b itself
-    pub ends_at : (EndsAt : Point → Type 0) → IsSteeredLawfully setup state b entry EndsAt → EndsAt b
-    ends_at EndsAt steers =
-        subst EndsAt (steered-near nearest b setup.step (omega (arith, near EndsAt steers, link.short))) steers.outcome
+    pub ends_at :
+        (reached : Reached) → IsSteeredLawfully setup state k b entry entry.nearest reached
+        → ReachesLawfully setup state k entry entry.nearest reached b
+    ends_at reached steers =
+        subst (ReachesLawfully setup state k entry entry.nearest reached)
+        (steered-near nearest b setup.step (omega (arith, near reached steers, link.short))) steers.outcome
 
     -- a node was placed at b, or one stands there at which the mark ended, or there is a goal node
     abbrev pub EndsThere : Type 0
@@ -33,7 +37,7 @@ module _ (setup : Setup) (marks : List Point) (limit : ℕ) (state : TreeState) 
         ((n : ℕ) × (((n ≡ suc k) × (entry.outcome ≡ Placed)) ⊎ (entry.outcome ≡ Same n)) × StandsAt state.points n b)
         ⊎ HasGoalNode setup.goals state.points
 
-    pub EndsThere-lawful : (outcome : Outcome) → entry.outcome ≡ outcome → HasLawfulOutcome setup state k b entry outcome → EndsThere
+    pub EndsThere-lawful : (outcome : Outcome) → entry.outcome ≡ outcome → HasLawfulEnding setup state k b entry (ending_as entry outcome) → EndsThere
     EndsThere-lawful Placed e h = inl (suc k, inl (refl, e), (ends_at _ h).by_tree.stands)
     EndsThere-lawful (Same j) e h = inl (j, inr e, ends_at _ h)
     EndsThere-lawful Blocked e h =

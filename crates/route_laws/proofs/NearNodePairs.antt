@@ -2,11 +2,11 @@
 -- them was placed first.
 use Rattle.route_laws.proofs.Words.{◌≡◌, inl, inr, ℕ, zero, suc, ◌+◌, ◌*◌, ◌<◌, ◌≤◌, List, ◌∷◌, length, Some, arith, sym, ap, ◌∙◌, subst, IsTrue, slice_get}
 use Rattle.route_laws.proofs.Words.{cases_order, le-leb, range_with_len, length-append, length-range_with_len, count_by-le-length, mul-le, least_radius}
-use Rattle.route_laws.proofs.Common.{Point, Outcome, Placed, Record, cost_of, squared_distance, class_of, radius_of, radius_of_class, steered, IsClosed}
-use Rattle.route_laws.proofs.Common.{has_outcome, mark_at, is_placed, HasLawfulOutcome, IsNeighbour, IsPlacedLawfully, IsOfTextbookRun, Ends, EndsPlaced, Nodes}
-use Rattle.route_laws.proofs.Common.{Setup, start_alone, Clear, ClearAt, is_within, points_of, StandsAt, node_count, point_of, TreeState, first_cost_of}
-use Rattle.route_laws.proofs.Common.{recorded_or, state_of, KeepsFirstCosts-closed, node_count-closed, cost_of-swap, squared_distance-swap, IsPresent-stands}
-use Rattle.route_laws.proofs.Common.{StandsAt-unique, node_count-some, point_of-stands, record-of_present, Clear-back, IsClosed-textbook}
+use Rattle.route_laws.proofs.Common.{Point, Placed, Record, cost_of, squared_distance, class_of, radius_of, radius_of_class, IsClosed, has_outcome}
+use Rattle.route_laws.proofs.Common.{is_placed, ending_as, first_hanging, IsNeighbour, IsPlacedLawfully, IsOfTextbookRun, Ends, Handles, Nodes, Setup}
+use Rattle.route_laws.proofs.Common.{start_alone, Clear, ClearAt, is_within, points_of, StandsAt, node_count, TreeState, first_cost_of, recorded_or}
+use Rattle.route_laws.proofs.Common.{state_of, KeepsFirstCosts-closed, IsPlacedLawfully-closed, node_count-closed, cost_of-swap, squared_distance-swap}
+use Rattle.route_laws.proofs.Common.{IsPresent-stands, StandsAt-unique, node_count-some, point_of-stands, record-of_present, Clear-back, IsClosed-textbook}
 use Rattle.route_laws.proofs.FallingRadii.{radius_of-falls}
 use Rattle.route_laws.proofs.FollowedRoutes.{IsEarlier-below, closed}
 use Rattle.route_laws.proofs.PartsOfRuns.{ComesTo, ComesTo-each}
@@ -17,18 +17,11 @@ within_more p q r s near h = le-leb (squared_distance q p) (s * s) (omega (arith
 
 -- the class of a placed mark, by how the textbook handles it
 class_of_ends :
-    (setup : Setup) (tree : Nodes) (k : ℕ) (mark : Point) (outcome : Outcome) (entry : Record) (after : Nodes) → outcome ≡ Placed
-    → Ends setup tree k mark outcome entry after → entry.class ≡ class_of (node_count (points_of tree))
-class_of_ends setup tree k mark outcome entry after e ends =
-    let placed : EndsPlaced setup tree k mark entry after = subst (λ o. Ends setup tree k mark o entry after) e ends in
-    ap (λ r. r.class) placed.recorded
-
--- what is lawful of a mark with this outcome
-placed_lawfully : (setup : Setup) (state : TreeState) (k : ℕ) (mark : Point) (entry : Record) (outcome : Outcome) → outcome ≡ Placed
-    → HasLawfulOutcome setup state k mark entry outcome → IsPlacedLawfully setup state k entry (steered (point_of state.points entry.nearest) mark setup.step)
-placed_lawfully setup state k mark entry outcome e h =
-    let own = subst (λ o. HasLawfulOutcome setup state k mark entry o) e h in
-    own.outcome
+    (setup : Setup) (tree : Nodes) (k : ℕ) (mark : Point) (entry : Record) (after : Nodes) → entry.outcome ≡ Placed
+    → Handles setup tree k mark entry after → entry.class ≡ class_of (node_count (points_of tree))
+class_of_ends setup tree k mark entry after e handled =
+    let placed = subst (λ o. Ends setup tree k mark (ending_as entry o) after) e handled.ends in
+    placed.reaches.of_class
 
 module _
     (setup : Setup) (marks : List Point) (state : TreeState) (clear : ClearAt setup.space setup.start) (of_run : IsOfTextbookRun setup marks state)
@@ -61,7 +54,7 @@ module _
       → least ≤ radius_of_class setup.step setup.gamma entry.class
   radius_of_mark k entry h placed =
       let part = part_of_run k entry h in
-      let class = class_of_ends setup part.tree (0 + k) part.mark entry.outcome entry part.after placed part.handled in
+      let class = class_of_ends setup part.tree (0 + k) part.mark entry part.after placed part.handled in
       subst (λ c. least ≤ radius_of_class setup.step setup.gamma c) (sym class) (radius_in_part k entry part)
 
   -- the record of the mark that gave a node
@@ -69,19 +62,20 @@ module _
     entry : Record
     recorded : state.record_of j ≡ Some entry
     placed : entry.outcome ≡ Placed
-    lawful : IsPlacedLawfully setup state j entry p
+    lawful : IsPlacedLawfully setup state j entry entry.nearest (first_hanging entry) p
 
   PlacesAt-stands : (j : ℕ) (p : Point) → StandsAt state.points (suc j) p → PlacesAt j p
   PlacesAt-stands j p stands =
       let own = record-of_present state is_closed.placed j (IsPresent-stands state.points (suc j) p stands) in
-      let lawful = placed_lawfully setup state j (mark_at marks j) own.0 own.0.outcome own.2 (is_closed.lawful j own.0 own.1) in
+      let lawful = IsPlacedLawfully-closed setup marks (length marks) state is_closed j own.0 own.1 own.2 in
       let here = StandsAt-unique state.points (suc j) _ p lawful.by_tree.stands stands in
-      record { entry = own.0; recorded = own.1; placed = own.2; lawful = subst (IsPlacedLawfully setup state j own.0) here lawful }
+      let law : Point → Type 0 = IsPlacedLawfully setup state j own.0 own.0.nearest (first_hanging own.0) in
+      record { entry = own.0; recorded = own.1; placed = own.2; lawful = subst law here lawful }
 
   -- an earlier node that is near is a neighbour
   IsNeighbour-near :
       (j i : ℕ) (p q : Point) (places : PlacesAt j p) → StandsAt state.points i q → i ≤ j → squared_distance q p ≤ least * least → Clear setup.space q p
-      → IsNeighbour setup state places.entry p i
+      → IsNeighbour setup state places.entry places.entry.class p i
   IsNeighbour-near j i p q places stands low near open_way = record {
     earlier = IsEarlier-below setup marks state clear of_run i j places.entry (IsPresent-stands state.points i q stands) places.recorded low;
     near =

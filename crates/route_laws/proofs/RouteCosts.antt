@@ -1,36 +1,10 @@
 -- The end of a route of near links costs no more than the route, mark by mark: or a goal node does, by which a mark was skipped.
-use Rattle.std.proofs.Common.{
-  ◌≡◌,
-  ◌⊎◌,
-  inl,
-  inr,
-  ℕ,
-  suc,
-  ◌+◌,
-  ◌*◌,
-  ◌≤◌,
-  Bool,
-  true,
-  false,
-  List,
-  [],
-  ◌∷◌,
-  length,
-  map,
-  Option,
-  Some,
-  arith,
-  refl,
-  sym,
-  ap,
-  ◌∙◌,
-  subst,
-}
-use Rattle.route_laws.proofs.Words.{◌&&◌, IsTrue, abs_diff, le_refl, true≢false, EndApart, IsNearLink, cost_of_route, end_of, ends_same, least_radius, AreLinks}
-use Rattle.route_laws.proofs.Words.{IsRoute, Rise}
+use Rattle.route_laws.proofs.Words.{◌≡◌, ◌⊎◌, inl, inr, ℕ, suc, ◌+◌, ◌*◌, ◌≤◌, Bool, true, false, List, [], ◌∷◌, length, map, Option, Some, arith, refl, sym}
+use Rattle.route_laws.proofs.Words.{ap, ◌∙◌, subst, ◌&&◌, IsTrue, abs_diff, le_refl, true≢false, EndApart, IsNearLink, cost_of_route, end_of, ends_same}
+use Rattle.route_laws.proofs.Words.{least_radius, AreLinks, IsRoute, Rise}
 use Rattle.route_laws.proofs.Common.{Point, Outcome, Placed, Same, Blocked, Skipped, Record, cost_of, squared_distance, IsClosed, has_outcome, mark_at, is_same}
-use Rattle.route_laws.proofs.Common.{HasLawfulOutcome, IsEarlier, IsOfTextbookRun, Ends, EndsPlaced, Setup, mark_bound, Clear, ClearAt, IsGoalNode}
-use Rattle.route_laws.proofs.Common.{lies_in_goals, length_of_path, StandsAt, point_of, TreeState, recorded_or, cost_of-swap, bound_of-least, IsPresent-stands}
+use Rattle.route_laws.proofs.Common.{HasLawfulEnding, ending_as, IsEarlier, IsOfTextbookRun, Ends, Setup, mark_bound, Clear, ClearAt, IsGoalNode, lies_in_goals}
+use Rattle.route_laws.proofs.Common.{length_of_path, StandsAt, point_of, TreeState, recorded_or, cost_of-swap, bound_of-least, IsPresent-stands}
 use Rattle.route_laws.proofs.Common.{point_of-stands, root_ceiling-zero, cost_of-triangle}
 use Rattle.plan_model.specs.Geometry.Roots.{root_ceiling}
 use Rattle.route_laws.proofs.FollowedLinks.{ClearAt-node, ends_at, near}
@@ -115,8 +89,7 @@ module _
         → HasCome setup state least (suc k) (suc k) b (sum + cost_of a b) (ends_same state.record_of k)
     comes_placed e stands =
         let part = part_of_run setup marks state clear of_run least (le_refl least) k entry recorded in
-        let ends : EndsPlaced setup part.tree (0 + k) part.mark entry part.after =
-        subst (λ o. Ends setup part.tree (0 + k) part.mark o entry part.after) e part.handled in
+        let ends = subst (λ o. Ends setup part.tree (0 + k) part.mark (ending_as entry o) part.after) e part.handled.ends in
         let placed =
         first_cost-placed setup marks state clear of_run k entry part least (le_refl least) first n a sum before
         low come b (sym (mark_is setup marks state clear of_run k entry part)) link.open_link.short link.near open_way ends in
@@ -152,7 +125,7 @@ module _
               absurd (true≢false (sym both ∙ apart)))
         ]
 
-    comes_on : (outcome : Outcome) → entry.outcome ≡ outcome → HasLawfulOutcome setup state k b entry outcome
+    comes_on : (outcome : Outcome) → entry.outcome ≡ outcome → HasLawfulEnding setup state k b entry (ending_as entry outcome)
         → (before && ends_same state.record_of k) ≡ false → ComesOn
     comes_on Placed e h apart =
         inl (

@@ -1,42 +1,14 @@
 -- A node at a point of a route costs no more than the route up to there, in the run and where the run comes to a later mark.
-use Rattle.std.proofs.Common.{
-  ◌≡◌,
-  ◌⊎◌,
-  inl,
-  inr,
-  ℕ,
-  zero,
-  suc,
-  ◌+◌,
-  ◌*◌,
-  ◌<◌,
-  ◌≤◌,
-  Bool,
-  true,
-  List,
-  ◌∷◌,
-  ◌++◌,
-  length,
-  Option,
-  Some,
-  None,
-  arith,
-  refl,
-  sym,
-  ap,
-  ◌∙◌,
-  subst,
-}
-use Rattle.route_laws.proofs.Words.{IsTrue, option_map, get_or-append_seam, get_or_append_left, length-append, length-map, least_radius}
-use Rattle.route_laws.proofs.Common.{Point, Record, Twig, cost_of, squared_distance, radius_of, mark_at, IsOfTextbookRun, EndsPlaced, IsCandidate, Setup}
-use Rattle.route_laws.proofs.Common.{near_new, start_alone, Clear, ClearAt, is_within, points_of, sum_of, StandsAt, node_count, point_at, point_of, TreeState}
-use Rattle.route_laws.proofs.Common.{first_cost_of, recorded_or, state_of, KeepsFirstCosts-closed, Contains-after, Contains-near, IsPresent-stands}
-use Rattle.route_laws.proofs.Common.{point_of-stands, record-of_present, steered-near, IsClosed-textbook}
+use Rattle.route_laws.proofs.Words.{◌≡◌, ◌⊎◌, inl, inr, ℕ, zero, suc, ◌+◌, ◌*◌, ◌<◌, ◌≤◌, Bool, true, List, ◌∷◌, ◌++◌, length, Option, Some, None, arith, refl}
+use Rattle.route_laws.proofs.Words.{sym, ap, ◌∙◌, subst, IsTrue, option_map, get_or-append_seam, get_or_append_left, length-append, length-map, least_radius}
+use Rattle.route_laws.proofs.Common.{HandlesAll-nodes, Point, Record, Twig, cost_of, squared_distance, radius_of, mark_at, IsOfTextbookRun, EndsSteered}
+use Rattle.route_laws.proofs.Common.{NewNode, first_hanging, IsCandidate, Setup, near_new, start_alone, Clear, ClearAt, is_within, points_of, sum_of, StandsAt}
+use Rattle.route_laws.proofs.Common.{node_count, point_at, point_of, TreeState, first_cost_of, recorded_or, state_of, KeepsFirstCosts-closed, Contains-after}
+use Rattle.route_laws.proofs.Common.{Contains-near, IsPresent-stands, point_of-stands, record-of_present, steered-near, IsClosed-textbook}
 use Rattle.route_laws.proofs.FallingRadii.{radius_of-falls}
 use Rattle.route_laws.proofs.FollowedRoutes.{closed}
 use Rattle.route_laws.proofs.NearNodePairs.{cost-near, radius_in_part, within_more}
 use Rattle.route_laws.proofs.PartsOfRuns.{ComesTo}
-use Rattle.route_laws.proofs.TextbookRecords.{length-handles_all}
 
 -- The mark of a ended at an older node, and some node stands where a near link to a begins, which was placed at no more than the sum without
 -- that link.
@@ -102,7 +74,7 @@ module _
   -- a node with no later number stands there already
   pub StandsAt-there : (n : ℕ) (p : Point) → n ≤ k → StandsAt state.points n p → StandsAt (points_of part.tree) n p
   StandsAt-there n p low stands =
-      let long = length-handles_all setup 0 (start_alone setup.start) part.done part.records part.tree part.run refl in
+      let long = HandlesAll-nodes setup 0 (start_alone setup.start) part.done part.records part.tree part.run in
       let below : n < length (points_of part.tree) = omega (arith, length-map part.tree (option_map (λ (node : Twig). node.point)), long, part.so_many, low) in
       sym (get_or_append_left (points_of part.tree) part.points.0 None n below)
       ∙ sym (ap (λ points. point_at points n) part.points.1)
@@ -163,7 +135,7 @@ module _
     -- if the mark is placed at the end of a near link, it is so at no more than the route up to there
     pub first_cost-placed :
         (b : Point) → b ≡ part.mark → squared_distance a b ≤ setup.step * setup.step → squared_distance a b ≤ least * least → Clear setup.space a b
-        → EndsPlaced setup part.tree (0 + k) part.mark entry part.after → entry.first_cost ≤ sum + cost_of a b
+        → EndsSteered setup part.tree (0 + k) part.mark entry.nearest (NewNode (first_hanging entry)) part.after → entry.first_cost ≤ sum + cost_of a b
     first_cost-placed b is short near open_way ends =
         let points : List (Option Point) = points_of part.tree in
         let here : StandsAt points n a = StandsAt-there n a (omega (arith, come.low, low)) come.stands in
@@ -179,7 +151,6 @@ module _
         let among = Contains-after entry.nearest (near_new setup points b) n is_near in
         let candidate : IsCandidate setup points entry.nearest b n =
         record { among = among; clear = subst (λ p. Clear setup.space p b) (sym place) open_way } in
-        let best = (ends.parent.not_above n (subst (λ p. IsCandidate setup points entry.nearest p n) (sym at_mark) candidate)).least in
-        let first = ap (λ r. r.first_cost) ends.recorded in
+        let best = (ends.reaches.parent.not_above n (subst (λ p. IsCandidate setup points entry.nearest p n) (sym at_mark) candidate)).least in
         let edge : cost_of (point_of points n) ends.point ≡ cost_of a b = ap (λ p. cost_of p ends.point) place ∙ ap (cost_of a) at_mark in
-        omega (arith, best, first, edge, cost_there)
+        omega (arith, best, ends.reaches.cost, edge, cost_there)

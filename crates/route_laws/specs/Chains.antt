@@ -16,7 +16,7 @@ pub record IsLinkInOrder (setup : Setup) (state : TreeState) (i n : ℕ) : Type 
   pub entry : Record
   pub recorded : state.record_of mark ≡ Some entry
   pub placed : entry.outcome ≡ Placed
-  pub neighbour : IsNeighbour setup state entry (point_of state.points n) i
+  pub neighbour : IsNeighbour setup state entry entry.class (point_of state.points n) i
 
 -- The nodes are a chain in order, listed from the last one back to the start, as the chain of a node is.
 abbrev pub IsChainInOrder : Setup → TreeState → List ℕ → Type 0

@@ -174,7 +174,7 @@ placed (suc (suc (suc (suc k)))) = ((λ h. cc), λ h. (let e = h.1 in cc))
 
 -- ---- no node is a neighbour
 
-alone_1 : (i : ℕ) → ¬ IsNeighbour rrt_setup unsettled first (at 0 50) i
+alone_1 : (i : ℕ) → ¬ IsNeighbour rrt_setup unsettled first 1 (at 0 50) i
 alone_1 zero h = let e = h.near in cc
 alone_1 (suc zero) h = let e = h.earlier in cc
 alone_1 (suc (suc zero)) h = let e = h.earlier in cc
@@ -182,7 +182,7 @@ alone_1 (suc (suc (suc zero))) h = let e = h.earlier in cc
 alone_1 (suc (suc (suc (suc zero)))) h = let e = h.earlier in cc
 alone_1 (suc (suc (suc (suc (suc i))))) h = let e = h.earlier in cc
 
-alone_2 : (i : ℕ) → ¬ IsNeighbour rrt_setup unsettled second (at 40 79) i
+alone_2 : (i : ℕ) → ¬ IsNeighbour rrt_setup unsettled second 2 (at 40 79) i
 alone_2 zero h = let e = h.near in cc
 alone_2 (suc zero) h = let e = h.near in cc
 alone_2 (suc (suc zero)) h = let e = h.earlier in cc
@@ -190,7 +190,7 @@ alone_2 (suc (suc (suc zero))) h = let e = h.earlier in cc
 alone_2 (suc (suc (suc (suc zero)))) h = let e = h.earlier in cc
 alone_2 (suc (suc (suc (suc (suc i))))) h = let e = h.earlier in cc
 
-alone_3 : (i : ℕ) → ¬ IsNeighbour rrt_setup unsettled third (at 40 30) i
+alone_3 : (i : ℕ) → ¬ IsNeighbour rrt_setup unsettled third 2 (at 40 30) i
 alone_3 zero h = let e = h.near in cc
 alone_3 (suc zero) h = let e = h.near in cc
 alone_3 (suc (suc zero)) h = let e = h.near in cc
@@ -198,7 +198,7 @@ alone_3 (suc (suc (suc zero))) h = let e = h.earlier in cc
 alone_3 (suc (suc (suc (suc zero)))) h = let e = h.earlier in cc
 alone_3 (suc (suc (suc (suc (suc i))))) h = let e = h.earlier in cc
 
-alone_4 : (i : ℕ) → ¬ IsNeighbour rrt_setup unsettled fourth (at 24 18) i
+alone_4 : (i : ℕ) → ¬ IsNeighbour rrt_setup unsettled fourth 3 (at 24 18) i
 alone_4 zero h = let e = h.near in cc
 alone_4 (suc zero) h = let e = h.near in cc
 alone_4 (suc (suc zero)) h = let e = h.near in cc
@@ -256,7 +256,7 @@ law_1 = record {
     };
     by_tree = record {
       stands = refl;
-      first = record { present = refl; other = λ e. absurd (omega (arith, e)); edge = start_first; above = omega (arith, from_start) };
+      hangs = record { present = refl; other = λ e. absurd (omega (arith, e)); edge = start_first; above = omega (arith, from_start) };
       nearest_other = λ e. absurd (omega (arith, e));
       below_first = omega (arith, from_start);
       below_nearest = omega (arith, from_start);
@@ -280,7 +280,7 @@ law_2 = record {
     };
     by_tree = record {
       stands = refl;
-      first = record { present = refl; other = λ e. absurd (omega (arith, e)); edge = first_second; above = omega (arith, to_second) };
+      hangs = record { present = refl; other = λ e. absurd (omega (arith, e)); edge = first_second; above = omega (arith, to_second) };
       nearest_other = λ e. absurd (omega (arith, e));
       below_first = omega (arith, to_second);
       below_nearest = omega (arith, to_second);
@@ -304,7 +304,7 @@ law_3 = record {
     };
     by_tree = record {
       stands = refl;
-      first = record { present = refl; other = λ e. absurd (omega (arith, e)); edge = first_third; above = omega (arith, between) };
+      hangs = record { present = refl; other = λ e. absurd (omega (arith, e)); edge = first_third; above = omega (arith, between) };
       nearest_other = λ e. absurd (omega (arith, e));
       below_first = omega (arith, between);
       below_nearest = omega (arith, between);
@@ -328,7 +328,7 @@ law_4 = record {
     };
     by_tree = record {
       stands = refl;
-      first = record { present = refl; other = λ e. absurd (omega (arith, e)); edge = third_fourth; above = omega (arith, backwards) };
+      hangs = record { present = refl; other = λ e. absurd (omega (arith, e)); edge = third_fourth; above = omega (arith, backwards) };
       nearest_other = λ e. absurd (omega (arith, e));
       below_first = omega (arith, backwards);
       below_nearest = omega (arith, backwards);

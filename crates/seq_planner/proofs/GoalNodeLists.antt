@@ -1,29 +1,14 @@
 -- The list of the nodes that lie in a goal, as a tree grows by one number after another.
-use Rattle.seq_planner.proofs.Words.{◌≡◌, ℕ, suc, ◌+◌, ◌<◌, ◌≤◌, Bool, true, false, List, [], ◌∷◌, ◌++◌, length, get_or, Option, Some, None, refl, sym, ap, ◌∙◌}
+use Rattle.seq_planner.proofs.Words.{◌≡◌, ℕ, ◌+◌, ◌<◌, ◌≤◌, Bool, true, false, List, [], ◌∷◌, ◌++◌, length, get_or, Option, Some, None, refl, sym, ap, ◌∙◌}
 use Rattle.seq_planner.proofs.Words.{subst, arith, inl, inr, Contains, IsTrue, cond, option_map, cases_eq, get_or_append_left, get_or_default, length-map}
-use Rattle.seq_planner.proofs.Words.{All-contains, All-push, All-weaker, Contains-append_left, Contains-push, Goal, Point, Outcome, Placed, Same, Blocked}
-use Rattle.seq_planner.proofs.Words.{Skipped, Record, Scene, Twig, Ends, MayBeCheaper, Nodes, Setup, mark_bound, near_new, setup_of, skipping_goals, IsGoalNode}
-use Rattle.seq_planner.proofs.Words.{is_goal_point, lies_in_goals, IsFirstLeast, IsNotAbove, node_at, points_of, sum_of, point_at, IsPresent-goal}
-use Rattle.seq_planner.proofs.Words.{near-present_beside, points_of-rewires, no_goal_node, StandsAt-node, present_below, points_of-push, point_at-absent}
+use Rattle.seq_planner.proofs.Words.{All-contains, All-push, All-weaker, Contains-append_left, Contains-push, Goal, Point, ending_of, Scene, Twig, MayBeCheaper}
+use Rattle.seq_planner.proofs.Words.{Nodes, mark_bound, setup_of, skipping_goals, IsGoalNode, is_goal_point, lies_in_goals, IsFirstLeast, IsNotAbove, node_at}
+use Rattle.seq_planner.proofs.Words.{points_of, sum_of, point_at, IsPresent-goal, points_of-ends, no_goal_node, StandsAt-node, present_below, point_at-absent}
 use Rattle.seq_planner.proofs.Words.{AreGoalNodesBelow, IsGoalNodeBelow, SearchTree, GrowsByMark, IsSkippedBy, IsSoundTree}
 use Rattle.plan_model.specs.Trees.GoalBounds.{bound_of}
 use Rattle.seq_planner.proofs.SoundTrees.{kept_sum}
 
 -- ---- one mark more
-
--- a mark leaves the points of all nodes, and one number more
-points_of-ends :
-    (setup : Setup) (tree : Nodes) (k : ℕ) (mark : Point) (outcome : Outcome) (entry : Record) (after : Nodes)
-    → Ends setup tree k mark outcome entry after → (o : Option Point) × (points_of after ≡ points_of tree ++ o ∷ [])
-points_of-ends setup tree k mark Placed entry after e =
-    let node : Option Twig = Some (record { point = e.point; parent = entry.first_parent }) in
-    let beside = near-present_beside setup tree e.point entry.first_parent in
-    let kept : points_of after ≡ points_of (tree ++ node ∷ []) =
-    points_of-rewires setup.space (tree ++ node ∷ []) (suc k) (near_new setup (points_of tree) e.point) after beside e.rewired in
-    (Some e.point, kept ∙ points_of-push tree node)
-points_of-ends setup tree k mark (Same j) entry after e = (None, ap points_of e.added ∙ points_of-push tree None)
-points_of-ends setup tree k mark Blocked entry after e = (None, ap points_of e.added ∙ points_of-push tree None)
-points_of-ends setup tree k mark Skipped entry after e = (None, ap points_of e.added ∙ points_of-push tree None)
 
 -- the points of a tree are as many as its numbers
 points_count : (tree : Nodes) → length (points_of tree) ≡ length tree
@@ -35,7 +20,7 @@ pub point_at-grown :
     → point_at (points_of after.nodes) n ≡ point_at (points_of tree.nodes) n
 point_at-grown scene tree after mark grows n below =
     let points =
-    points_of-ends (setup_of scene) tree.nodes (length tree.records.items) mark grows.entry.outcome grows.entry after.nodes grows.handled in
+    points_of-ends (setup_of scene) tree.nodes (length tree.records.items) mark (ending_of grows.entry) after.nodes grows.handled.ends in
     ap (λ ps. point_at ps n) points.1
     ∙ get_or_append_left (points_of tree.nodes) (points.0 ∷ []) None n (omega (arith, below, points_count tree.nodes))
 

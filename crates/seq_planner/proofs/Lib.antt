@@ -7,7 +7,6 @@ pub mod Children
 pub mod LoweredBranches
 pub mod LoweringTurns
 pub mod PendingNodes
-pub mod RecordFacts
 pub mod SoundTrees
 pub mod ReadCosts
 pub mod MarkExtensions

@@ -2,8 +2,8 @@
 use Rattle.seq_planner.proofs.Words.{◌≡◌, ℕ, suc, ◌+◌, ◌*◌, ◌^◌, ◌≤◌, List, [], ◌∷◌, ◌++◌, length, Option, Some, None, arith, refl, sym, ap, ◌∙◌, subst, All}
 use Rattle.seq_planner.proofs.Words.{◌≢◌, All-cons, All-contains, All-nil, Point, Twig, Scene, Record, space_of, Clear, IsInRoom, IsFirstLeast, class_of}
 use Rattle.seq_planner.proofs.Words.{radius_of, steered, IsNearest, IsOpenTo, StandsAt, IsPresent, IsFree, point_of, node_count, points_of, sum_of, Nodes}
-use Rattle.seq_planner.proofs.Words.{setup_of, near_new, SteersTo, Rewires, EndsPlaced, Handles, IsCandidate, IsBestParent, cost_through, MayBeCheaper}
-use Rattle.seq_planner.proofs.Words.{same_record, skipped_record, blocked_record, placed_record, IsFirstLeast-among, AreInRoom-from_clear, IsFree-steered}
+use Rattle.seq_planner.proofs.Words.{setup_of, near_new, SteersTo, Rewires, Ending, Steered, NewNode, SameNode, NoWay, SkippedBy, record_of_ending, Ends}
+use Rattle.seq_planner.proofs.Words.{Handles, IsCandidate, IsBestParent, cost_through, MayBeCheaper, IsFirstLeast-among, AreInRoom-from_clear, IsFree-steered}
 use Rattle.seq_planner.proofs.Words.{near-present, StandsAt-present, IsBounded-in_room, Extension, IsLeastParent, Parent, SearchTree, AddsRewired}
 use Rattle.seq_planner.proofs.Words.{IsExtensionOf, IsSkippedBy, Fits}
 
@@ -41,75 +41,72 @@ module _ {scene : Scene} {tree : SearchTree} {mark : Point} {k nearest : ℕ} {f
 
 -- ---- marks that are not placed
 
--- The extension has no node, no cost and this record.
-pub record IsUnplaced (extension : Extension) (entry : Record) : Type 0 where
+-- The extension has no node and no cost, and its record says that mark k ended so.
+pub record IsUnplaced (extension : Extension) (k : ℕ) (ending : Ending) : Type 0 where
   pub node : extension.node ≡ None
   pub cost : extension.cost ≡ 0
-  pub recorded : extension.entry ≡ entry
+  pub recorded : extension.entry ≡ record_of_ending 0 k ending
 
 fits_none : (nodes : Nodes) (node : Option Twig) (cost : ℕ) → node ≡ None → cost ≡ 0 → Fits nodes node cost
 fits_none nodes o cost e f = (let P : Option Twig → Type 0 = λ n. Fits nodes n cost in subst P (sym e) f)
 
+-- a mark that ends so is handled with the record that says it
+Handles-ends :
+    (scene : Scene) (nodes : Nodes) (k : ℕ) (mark : Point) (ending : Ending) (after : Nodes) → Ends (setup_of scene) nodes k mark ending after
+    → Handles (setup_of scene) nodes k mark (record_of_ending 0 k ending) after
+Handles-ends scene nodes k mark (Steered m (NewNode first)) after ends = record { worker = refl; turn = refl; ends = ends }
+Handles-ends scene nodes k mark (Steered m (SameNode j)) after ends = record { worker = refl; turn = refl; ends = ends }
+Handles-ends scene nodes k mark (Steered m NoWay) after ends = record { worker = refl; turn = refl; ends = ends }
+Handles-ends scene nodes k mark (SkippedBy g) after ends = record { worker = refl; turn = refl; ends = ends }
+
 unplaced :
-    (scene : Scene) (tree : SearchTree) (mark : Point) (extension : Extension) (entry : Record) (ns : List ℕ)
-    → All (IsPresent (points_of tree.nodes)) ns
-    → Handles (setup_of scene) tree.nodes (length tree.records.items) mark entry (tree.nodes ++ None ∷ [])
-    → IsUnplaced extension entry → IsExtensionOf scene tree mark extension ns
-unplaced scene tree mark extension entry ns present handles h =
-    let k : ℕ = length tree.records.items in
-    let E : Record → Nodes → Type 0 = λ r after. Handles (setup_of scene) tree.nodes k mark r after in
+    (scene : Scene) (tree : SearchTree) (mark : Point) (extension : Extension) (k : ℕ) (ending : Ending) (ns : List ℕ)
+    → k ≡ length tree.records.items → All (IsPresent (points_of tree.nodes)) ns
+    → Ends (setup_of scene) tree.nodes k mark ending (tree.nodes ++ None ∷ [])
+    → IsUnplaced extension k ending → IsExtensionOf scene tree mark extension ns
+unplaced scene tree mark extension k ending ns turn present ends h =
+    let E : ℕ → Record → Nodes → Type 0 = λ n r after. Handles (setup_of scene) tree.nodes n mark r after in
     record {
       fits = fits_none tree.nodes extension.node extension.cost h.node h.cost;
       handles = λ after added.
           let A : Option Twig → Type 0 = λ node. AddsRewired (space_of scene) tree.nodes node ns after in
           let same : after ≡ tree.nodes ++ None ∷ [] = subst A h.node added in
-          subst (λ (r : Record). E r after) (sym h.recorded) (subst (E entry) (sym same) handles);
+          let own : E k (record_of_ending 0 k ending) (tree.nodes ++ None ∷ []) = Handles-ends scene tree.nodes k mark ending (tree.nodes ++ None ∷ []) ends in
+          subst (λ (n : ℕ). E n extension.entry after) turn
+          (subst (λ (r : Record). E k r after) (sym h.recorded) (subst (E k (record_of_ending 0 k ending)) (sym same) own));
       present = present;
     }
 
 -- the best goal node costs no more than the bound of the mark
 pub IsExtensionOf-skipped :
     (scene : Scene) (tree : SearchTree) (mark : Point) (k goal_node : ℕ) (extension : Extension) → k ≡ length tree.records.items
-    → IsSkippedBy scene tree mark goal_node → IsUnplaced extension (skipped_record k goal_node) → IsExtensionOf scene tree mark extension []
+    → IsSkippedBy scene tree mark goal_node → IsUnplaced extension k (SkippedBy goal_node) → IsExtensionOf scene tree mark extension []
 IsExtensionOf-skipped scene tree mark k goal_node extension turn by own =
-    let P : ℕ → Type 0 = λ n. Handles (setup_of scene) tree.nodes n mark (skipped_record k goal_node) (tree.nodes ++ None ∷ []) in
-    let ends : P k = record { best = by.best; within = by.within; recorded = refl; added = refl } in
-    unplaced scene tree mark extension (skipped_record k goal_node) [] (All-nil (IsPresent (points_of tree.nodes))) (subst P turn ends) own
+    unplaced scene tree mark extension k (SkippedBy goal_node) [] turn (All-nil (IsPresent (points_of tree.nodes)))
+    (record { best = by.best; within = by.within; added = refl }) own
 
 module _ {scene : Scene} {tree : SearchTree} {mark : Point} {k nearest : ℕ} {from point : Point} (h : Steers scene tree mark k nearest from point) where
   -- the nearest node stands at the point already
   pub IsExtensionOf-same :
       {extension : Extension} {ns : List ℕ} → All (IsPresent (points_of tree.nodes)) ns → point ≡ from
-      → IsUnplaced extension (same_record k nearest nearest) → IsExtensionOf scene tree mark extension ns
+      → IsUnplaced extension k (Steered nearest (SameNode nearest)) → IsExtensionOf scene tree mark extension ns
   IsExtensionOf-same {extension = extension} {ns = ns} present same own =
-      let P : ℕ → Type 0 = λ n. Handles (setup_of scene) tree.nodes n mark (same_record k nearest nearest) (tree.nodes ++ None ∷ []) in
-      let ends : P k = record {
-        cheaper = h.cheaper;
-        point = point;
-        steers = steers_to h;
-        stands = nearest_stands h same;
-        recorded = refl;
-        added = refl;
-      } in
-      unplaced scene tree mark extension (same_record k nearest nearest) ns present (subst P h.turn ends) own
+      unplaced scene tree mark extension k (Steered nearest (SameNode nearest)) ns h.turn present
+      (record { cheaper = h.cheaper; point = point; steers = steers_to h; reaches = (nearest_stands h same, refl) }) own
 
   -- the segment to the point is not clear
   pub IsExtensionOf-blocked :
       {extension : Extension} {ns : List ℕ} → All (IsPresent (points_of tree.nodes)) ns → point ≢ from → ¬ Clear (space_of scene) from point
-      → IsUnplaced extension (blocked_record k nearest) → IsExtensionOf scene tree mark extension ns
+      → IsUnplaced extension k (Steered nearest NoWay) → IsExtensionOf scene tree mark extension ns
   IsExtensionOf-blocked {extension = extension} {ns = ns} present apart blocked own =
-      let P : ℕ → Type 0 = λ n. Handles (setup_of scene) tree.nodes n mark (blocked_record k nearest) (tree.nodes ++ None ∷ []) in
       let Q : Point → Type 0 = λ p. ¬ Clear (space_of scene) p point in
-      let ends : P k = record {
+      unplaced scene tree mark extension k (Steered nearest NoWay) ns h.turn present
+      (record {
         cheaper = h.cheaper;
         point = point;
         steers = steers_to h;
-        free = is_free h apart;
-        blocked = subst Q h.begins blocked;
-        recorded = refl;
-        added = refl;
-      } in
-      unplaced scene tree mark extension (blocked_record k nearest) ns present (subst P h.turn ends) own
+        reaches = (record { free = is_free h apart; blocked = subst Q h.begins blocked }, refl);
+      }) own
 
 -- ---- a mark that is placed
 
@@ -123,7 +120,7 @@ pub record IsPlaced
   pub class_is : class ≡ class_of (node_count (points_of tree.nodes))
   pub node : extension.node ≡ Some (record { point = point; parent = parent.node })
   pub cost : extension.cost ≡ parent.cost
-  pub entry : extension.entry ≡ placed_record k nearest parent.node parent.cost class
+  pub entry : extension.entry ≡ record_of_ending 0 k (Steered nearest (NewNode (record { parent = parent.node; cost = parent.cost; class = class })))
 
 module _ {scene : Scene} {tree : SearchTree} {mark : Point} {k nearest : ℕ} {from point : Point} (h : Steers scene tree mark k nearest from point)
     {extension : Extension} {ns : List ℕ} (parent : Parent) (class : ℕ) (own : IsPlaced scene tree extension k nearest point ns parent class)
@@ -141,33 +138,29 @@ module _ {scene : Scene} {tree : SearchTree} {mark : Point} {k nearest : ℕ} {f
       (λ i o. record { among = o.among; clear = o.clear }) (λ i o. record { among = o.among; clear = o.clear })
       (subst L own.are_near own.best.least)
 
-  -- the record that the definition gives is that of the extension
-  is_recorded :
-      placed_record k nearest parent.node (cost_through tree.nodes point parent.node) (class_of (node_count (points_of tree.nodes))) ≡ extension.entry
-  is_recorded =
-      ap (λ sum. placed_record k nearest parent.node sum (class_of (node_count (points_of tree.nodes)))) (sym own.best.cost)
-      ∙ ap (placed_record k nearest parent.node parent.cost) (sym own.class_is)
-      ∙ sym own.entry
-
   handles_placed :
       (after : Nodes) → Rewires (space_of scene) (tree.nodes ++ Some new_node ∷ []) (suc k) ns after
       → Handles (setup_of scene) tree.nodes k mark extension.entry after
   handles_placed after rewired =
       let Q : Point → Type 0 = λ p. Clear (space_of scene) p point in
       let R : List ℕ → Type 0 = λ is. Rewires (space_of scene) (tree.nodes ++ Some new_node ∷ []) (suc k) is after in
-      let entry : Record =
-      placed_record k nearest parent.node (cost_through tree.nodes point parent.node) (class_of (node_count (points_of tree.nodes))) in
-      let ends : EndsPlaced (setup_of scene) tree.nodes k mark entry after = record {
-        cheaper = h.cheaper;
-        point = point;
-        steers = steers_to h;
-        free = is_free h apart;
-        clear = subst Q h.begins clear;
-        parent = best_parent;
-        recorded = refl;
-        rewired = subst R own.are_near rewired;
-      } in
-      subst (λ (r : Record). Handles (setup_of scene) tree.nodes k mark r after) is_recorded ends
+      subst (λ (r : Record). Handles (setup_of scene) tree.nodes k mark r after) (sym own.entry) (record {
+        worker = refl;
+        turn = refl;
+        ends = record {
+          cheaper = h.cheaper;
+          point = point;
+          steers = steers_to h;
+          reaches = record {
+            free = is_free h apart;
+            clear = subst Q h.begins clear;
+            parent = best_parent;
+            cost = own.best.cost;
+            of_class = own.class_is;
+            rewired = subst R own.are_near rewired;
+          };
+        };
+      })
 
   -- the best parent is one of nodes that are present
   is_present : IsPresent (points_of tree.nodes) parent.node

@@ -1,7 +1,7 @@
 //! The extension of a search tree by one mark.
 
 ghost use Rattle.std.specs.Prelude.{◌≡◌, Some, None};
-ghost use Rattle.plan_model.specs.Runs.Textbook.{blocked_record, placed_record, same_record, skipped_record};
+ghost use Rattle.plan_model.specs.Runs.Endings.{NewNode, NoWay, SameNode, SkippedBy, Steered, record_of_ending};
 
 use edge_cost::Parent;
 use plan_model::{Outcome, Point, Record, Twig};
@@ -22,7 +22,7 @@ impl Extension {
     pub(crate) fn same(turn: u32, nearest: u32, number: u32) -> Extension
         ensures node { result.node ≡ None }
         ensures cost { result.cost ≡ 0 }
-        ensures entry { result.entry ≡ same_record turn nearest number }
+        ensures entry { result.entry ≡ record_of_ending 0 turn (Steered nearest (SameNode number)) }
     {
         Extension {
             node: None,
@@ -35,7 +35,7 @@ impl Extension {
     pub(crate) fn blocked(turn: u32, nearest: u32) -> Extension
         ensures node { result.node ≡ None }
         ensures cost { result.cost ≡ 0 }
-        ensures entry { result.entry ≡ blocked_record turn nearest }
+        ensures entry { result.entry ≡ record_of_ending 0 turn (Steered nearest NoWay) }
     {
         Extension {
             node: None,
@@ -48,7 +48,7 @@ impl Extension {
     pub(crate) fn skipped(turn: u32, goal_node: u32) -> Extension
         ensures node { result.node ≡ None }
         ensures cost { result.cost ≡ 0 }
-        ensures entry { result.entry ≡ skipped_record turn goal_node }
+        ensures entry { result.entry ≡ record_of_ending 0 turn (SkippedBy goal_node) }
     {
         Extension {
             node: None,
@@ -67,7 +67,8 @@ impl Extension {
     ) -> Extension
         ensures node { result.node ≡ Some (record { point = point; parent = parent.node }) }
         ensures cost { result.cost ≡ parent.cost }
-        ensures entry { result.entry ≡ placed_record turn nearest parent.node parent.cost class }
+        ensures entry { result.entry
+            ≡ record_of_ending 0 turn (Steered nearest (NewNode (record { parent = parent.node; cost = parent.cost; class = class }))) }
     {
         Extension {
             node: Some(Twig {

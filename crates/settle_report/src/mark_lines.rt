@@ -1,7 +1,8 @@
 //! The lines of a full report on the marks of a run.
 
 ghost use Rattle.std.specs.Prelude.{◌≡◌, ◌++◌, OnOk, string_bytes};
-ghost use Rattle.plan_model.specs.Reports.ReportText.{line, mark_line, mark_lines, outcome_words};
+ghost use Rattle.plan_model.specs.Reports.ReportText.{ending_words, line, mark_line, mark_lines};
+ghost use Rattle.plan_model.specs.Runs.Endings.{ending_of};
 ghost use Rattle.grown_runs.specs.Runs.GrownRuns.{state_of_grown};
 ghost use Rattle.settle_report.specs.MarkWords.{words_before_outcome};
 
@@ -48,7 +49,7 @@ fn push_handling(text: &mut String, mark: u32, entry: Record) -> Result<(), Allo
 
 /// The rest of a mark's line: what became of it.
 fn push_outcome(text: &mut String, entry: Record) -> Result<(), AllocError>
-    ensures { OnOk result (string_bytes text.new ≡ string_bytes text.old ++ line (outcome_words entry entry.outcome)) }
+    ensures { OnOk result (string_bytes text.new ≡ string_bytes text.old ++ line (ending_words (ending_of entry))) }
 {
     match entry.outcome {
         Outcome::Placed => write!(

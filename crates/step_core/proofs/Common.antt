@@ -1,8 +1,8 @@
 -- The names that proofs of the crates above cite, passed on from one place. Declares nothing.
 pub use Rattle.step_core.proofs.OneView.KeptPoints.{point_at-kept}
 pub use Rattle.step_core.proofs.OneView.LaterSteps.{IsLater-counted, IsLater-half, IsLater-pointed, IsLater-treed}
-pub use Rattle.step_core.proofs.OneView.LaterViews.{IsLater-claimed, IsLater-finished, IsLater-joined, IsLater-loaded, IsLater-refl, IsLater-stepped}
-pub use Rattle.step_core.proofs.OneView.LaterViews.{HasLooked-trans, IsLater-trans, IsLawfulView-world}
+pub use Rattle.step_core.proofs.OneView.LaterViews.{HasLooked-trans, IsLater-claimed, IsLater-finished, IsLater-joined, IsLater-loaded, IsLater-refl}
+pub use Rattle.step_core.proofs.OneView.LaterViews.{IsLater-stepped, IsLater-trans, IsLawfulView-world}
 pub use Rattle.step_core.proofs.OneView.LawfulSights.{IsBounded-seen, IsBounded-steered, IsLaterMoment-later, IsPresent-seen, KeepsSight-lawful}
 pub use Rattle.step_core.proofs.OneView.LinkedViews.{ShowsNode, sees-linked}
 pub use Rattle.step_core.proofs.OneView.RecordedNodes.{has_node-recorded, own_recorded, present_recorded}
@@ -41,13 +41,14 @@ pub use Rattle.step_core.specs.LastViews.{StandsAsSeen}
 pub use Rattle.step_core.specs.LaterViews.{HasLooked, IsLater, IsLawfulView}
 pub use Rattle.step_core.specs.Notes.{FillsNoPlace, HasMade, HasNoted, IsLoaded, KnowsAsBefore, NotesAsSeen, SeesSome, last_seen}
 pub use Rattle.step_core.specs.SeenBests.{IsInformed, IsUnskipped, MayBeSkipped, MayPost, SeesGoal, seen_first_cost}
-pub use Rattle.step_core.specs.SeenRecords.{IsOwnNeighbour, MayBeBlocked, MayBePlaced, MayEnd, MayRecord, MaySteer, is_own_node, own_count, own_first_cost}
+pub use Rattle.step_core.specs.SeenRecords.{IsOwnNeighbour, MayBeBlocked, MayBePlaced, MayEnd, MayReach, MayRecord, MaySteer, is_own_node, own_count}
+pub use Rattle.step_core.specs.SeenRecords.{own_first_cost}
 pub use Rattle.step_core.specs.SharedWords.{linked_point, linked_points, state_of_links}
 pub use Rattle.step_core.specs.Stages.{MayBeRecorded, has_count, has_first, has_link, has_point}
 pub use Rattle.step_core.specs.ViewStarts.{crew_from, member_of}
 pub use Rattle.step_core.specs.ViewSteps.{best_loaded, best_taken, best_with, claimed, counted, finished, finished_at, half, hand_with_best, hand_with_post}
-pub use Rattle.step_core.specs.ViewSteps.{joined, last_note, linked, linked_at, loaded, looker, lowered, mark_of, new_hand, one_turn_more, pair_in_hand, parted}
-pub use Rattle.step_core.specs.ViewSteps.{note_before, noting, place_in, pointed, post_noted, posted, saw, saw_at, second_alone, stepped, steps_then, treed}
+pub use Rattle.step_core.specs.ViewSteps.{joined, last_note, linked, linked_at, loaded, looker, lowered, mark_of, new_hand, note_before, noting, one_turn_more}
+pub use Rattle.step_core.specs.ViewSteps.{pair_in_hand, parted, place_in, pointed, post_noted, posted, saw, saw_at, second_alone, stepped, steps_then, treed}
 pub use Rattle.step_core.specs.ViewSteps.{unlooked, with_best, with_post, without_second, worker_apart}
 pub use Rattle.step_core.specs.ViewTrees.{IsCostBelow, IsSeenPair, IsSteered, LeadsTo, MayHang, MayLoad, MayLower, SeesCost, SeesNode, SeesPoint, SeesTree}
 pub use Rattle.step_core.specs.ViewTrees.{sight_in}

@@ -4,7 +4,7 @@ pub use Rattle.grown_runs.proofs.Common.{AreDistinct-true, AreSameRuns, AreSeenL
 pub use Rattle.grown_runs.proofs.Common.{AreTurns, AreTurns-longer, AreTurns-recorded, Best, Blocked, ChildOf, Children, Clear, Clear-alone, ClearAt, Count}
 pub use Rattle.grown_runs.proofs.Common.{Counter, EndsBelow, EndsBelow-free, EndsSince, Falling, Falls, FillsPlaces, FirstOf, FitsWord, FollowSeenWays}
 pub use Rattle.grown_runs.proofs.Common.{FollowSeenWays-true, FollowWays, FollowWays-links, GrowsInto, GrowsInto-refl, Hangs, Hangs-grows, HangsLawfully}
-pub use Rattle.grown_runs.proofs.Common.{HasLawfulOutcome, HasSeenAtLeast, HasSeenAtLeast-refl, HasWord, HasWord-true, HaveSameEarlier, HaveSameTree}
+pub use Rattle.grown_runs.proofs.Common.{HasLawfulEnding, HasSeenAtLeast, HasSeenAtLeast-refl, HasWord, HasWord-true, HaveSameEarlier, HaveSameTree}
 pub use Rattle.grown_runs.proofs.Common.{HaveWholePairs, HoldRun, IsAllowedEdge, IsBlank, IsBlockedLawfully, IsBounded, IsBounded-stands, IsBounded-word}
 pub use Rattle.grown_runs.proofs.Common.{IsChosenLawfully, IsClosed, IsClosed-same_run, IsCutAt-quota, IsEarlier, IsFirstWord, IsFree, IsFree-ends, IsGoalNode}
 pub use Rattle.grown_runs.proofs.Common.{IsGoalNode-before, IsGoalNode-grows, IsInBoxOf, IsLaterMoment, IsLawfulRecord, IsLawfulRecord-grows, IsLeastBest}
@@ -14,27 +14,28 @@ pub use Rattle.grown_runs.proofs.Common.{IsSeen-more, IsSkippedLawfully, IsSteer
 pub use Rattle.grown_runs.proofs.Common.{IsWritten, KeepsFirstCosts, KeepsFirstCosts-adds, KeepsFirstCosts-closed, KeepsFirstCosts-lowered, KeepsOrLowers}
 pub use Rattle.grown_runs.proofs.Common.{KeepsOrder, KeepsOrder-adds, KeepsOrder-lowered, KeepsSight, LooksAt, LowersCosts, LowersCosts-rewires}
 pub use Rattle.grown_runs.proofs.Common.{LowersCosts-same, MOST_NODES, MOST_WORKERS, MayBecome, MayBecome-both, MayBecome-refl, MayBecome-trans, MayLookAt}
-pub use Rattle.grown_runs.proofs.Common.{Once, Outcome, Placed, Point, PointOf, Record, RecordOf, RecordsMark, Rising, Same, SeenTree, SeenWords, Setup}
-pub use Rattle.grown_runs.proofs.Common.{SharedTree, Sight, Sizes, Skipped, StandsAt, StandsAt-present, StandsAt-unique, StandsStill, Task, TreeOf, TreeState}
-pub use Rattle.grown_runs.proofs.Common.{Word, WordKind, Words, WritesWord, WritesWord-set, below, best_cost_in, best_node_in, best_word, child_of_word}
-pub use Rattle.grown_runs.proofs.Common.{children_of_words, class_of, class_of-le, cleared, cost-grows, cost_in, cost_in-tree_word, cost_of, cost_of-short}
-pub use Rattle.grown_runs.proofs.Common.{count-all, count-first, count-longer, count-next, count-none, count-one_more, count-same, count-single, count-wider}
-pub use Rattle.grown_runs.proofs.Common.{earlier_count, earlier_step, first_cost_of, first_cost_through, goes_right, has_node, has_node-present, has_outcome}
-pub use Rattle.grown_runs.proofs.Common.{has_placed, has_word, if_written-set, in_child, is_claimed, is_claimed-below, is_claimed-now, is_claimed-other}
-pub use Rattle.grown_runs.proofs.Common.{is_claimed-past, is_earlier, is_earlier-same, is_earlier-same_records, is_earlier_record, is_goal_point, is_linked}
-pub use Rattle.grown_runs.proofs.Common.{is_linked-child, is_linked-closed, is_linked-linked, is_linked-start, is_of_turn, is_of_worker, is_placed, is_within}
-pub use Rattle.grown_runs.proofs.Common.{kind_at, kind_of, last_field, last_step, later_word, length-marks, mark_at, mark_bound, min-either, most_cost_of}
-pub use Rattle.grown_runs.proofs.Common.{most_cost_of-le, most_cost_of-more, most_cost_of-within, new_or_recorded, no_best, no_goal_node, node_count}
-pub use Rattle.grown_runs.proofs.Common.{node_count-grows, node_count-length, node_count-some, node_place, node_point, node_point_by, node_present, none_some}
-pub use Rattle.grown_runs.proofs.Common.{not_claimed-yet, not_empty, number_of_outcome, once_if, outcome_in, outcome_in-record_word, parent_in}
-pub use Rattle.grown_runs.proofs.Common.{parent_in-tree_word, place_of, place_of-within, point_at, point_at-words, point_in-stands, point_of, point_of-grows}
-pub use Rattle.grown_runs.proofs.Common.{point_of-stands, point_of_word, point_of_word-packed, point_of_word-stands, point_word, points_of_words}
-pub use Rattle.grown_runs.proofs.Common.{present-within, quota_of, radius_of_class, record_at, record_in, record_of_word, record_of_word-packed, record_word}
-pub use Rattle.grown_runs.proofs.Common.{record_word-again, recorded_or, run_words, seen_point, seen_tree_of_words, seen_whole, setup_of, sight_of_words}
-pub use Rattle.grown_runs.proofs.Common.{sizes_of, skipping_goals, squared_distance, start, start_present-held, start_stands-held, state_by-closed}
-pub use Rattle.grown_runs.proofs.Common.{state_of_grown, state_of_words, steered, step-steers, sum-le, sum-more, sum-most, sum-up, tree_of_word, tree_word}
-pub use Rattle.grown_runs.proofs.Common.{turn-below, turn_in, turns_of, turns_of-recorded, turns_of-recorded_by_other, unplaced_at, way_start, way_stops}
-pub use Rattle.grown_runs.proofs.Common.{whole_pair, whole_record, word_at-false, word_at-has, word_at-none, word_count, words_of_grown, worker_in, zeros}
+pub use Rattle.grown_runs.proofs.Common.{NewNode, NoWay, Once, Outcome, Placed, Point, PointOf, Reached, ReachesLawfully, Record, RecordOf, RecordsMark, Rising}
+pub use Rattle.grown_runs.proofs.Common.{Same, SameNode, SeenTree, SeenWords, Setup, SharedTree, Sight, Sizes, Skipped, StandsAt, StandsAt-present}
+pub use Rattle.grown_runs.proofs.Common.{StandsAt-unique, StandsStill, Task, TreeOf, TreeState, Word, WordKind, Words, WritesWord, WritesWord-set, below}
+pub use Rattle.grown_runs.proofs.Common.{best_cost_in, best_node_in, best_word, child_of_word, children_of_words, class_of, class_of-le, cleared, cost-grows}
+pub use Rattle.grown_runs.proofs.Common.{cost_in, cost_in-tree_word, cost_of, cost_of-short, count-all, count-first, count-longer, count-next, count-none}
+pub use Rattle.grown_runs.proofs.Common.{count-one_more, count-same, count-single, count-wider, earlier_count, earlier_step, ending_as, first_cost_of}
+pub use Rattle.grown_runs.proofs.Common.{first_cost_through, first_hanging, goes_right, has_node, has_node-present, has_outcome, has_placed, has_word}
+pub use Rattle.grown_runs.proofs.Common.{if_written-set, in_child, is_claimed, is_claimed-below, is_claimed-now, is_claimed-other, is_claimed-past, is_earlier}
+pub use Rattle.grown_runs.proofs.Common.{is_earlier-same, is_earlier-same_records, is_earlier_record, is_goal_point, is_linked, is_linked-child}
+pub use Rattle.grown_runs.proofs.Common.{is_linked-closed, is_linked-linked, is_linked-start, is_of_turn, is_of_worker, is_placed, is_within, kind_at, kind_of}
+pub use Rattle.grown_runs.proofs.Common.{last_field, last_step, later_word, length-marks, mark_at, mark_bound, min-either, most_cost_of, most_cost_of-le}
+pub use Rattle.grown_runs.proofs.Common.{most_cost_of-more, most_cost_of-within, new_or_recorded, no_best, no_goal_node, node_count, node_count-grows}
+pub use Rattle.grown_runs.proofs.Common.{node_count-length, node_count-some, node_place, node_point, node_point_by, node_present, none_some, not_claimed-yet}
+pub use Rattle.grown_runs.proofs.Common.{not_empty, number_of_outcome, once_if, outcome_in, outcome_in-record_word, parent_in, parent_in-tree_word, place_of}
+pub use Rattle.grown_runs.proofs.Common.{place_of-within, point_at, point_at-words, point_in-stands, point_of, point_of-grows, point_of-stands, point_of_word}
+pub use Rattle.grown_runs.proofs.Common.{point_of_word-packed, point_of_word-stands, point_word, points_of_words, present-within, quota_of, radius_of_class}
+pub use Rattle.grown_runs.proofs.Common.{record_at, record_in, record_of_word, record_of_word-packed, record_word, record_word-again, recorded_or, run_words}
+pub use Rattle.grown_runs.proofs.Common.{seen_point, seen_tree_of_words, seen_whole, setup_of, sight_of_words, sizes_of, skipping_goals, squared_distance}
+pub use Rattle.grown_runs.proofs.Common.{start, start_present-held, start_stands-held, state_by-closed, state_of_grown, state_of_words, steered, step-steers}
+pub use Rattle.grown_runs.proofs.Common.{sum-le, sum-more, sum-most, sum-up, tree_of_word, tree_word, turn-below, turn_in, turns_of, turns_of-recorded}
+pub use Rattle.grown_runs.proofs.Common.{turns_of-recorded_by_other, unplaced_at, way_start, way_stops, whole_pair, whole_record, word_at-false, word_at-has}
+pub use Rattle.grown_runs.proofs.Common.{word_at-none, word_count, words_of_grown, worker_in, zeros}
 pub use Rattle.grown_runs.proofs.Table.WordReads.{place_of-once}
 pub use Rattle.grown_runs.specs.Table.ClearedWords.{IsNodeWord}
 pub use Rattle.grown_runs.specs.declared.grown.Grown.{Grown}
@@ -64,7 +65,8 @@ pub use Rattle.step_core.specs.LaterViews.{HasLooked, IsLater, IsLawfulView}
 pub use Rattle.step_core.specs.Notes.{Empties, FillsNoPlace, GoesTo, HasMade, HasNoted, IsAmong, IsAsPlaced, IsLoaded, IsNoteOf, IsNoted, KnowsAsBefore, Notes}
 pub use Rattle.step_core.specs.Notes.{NotesAsSeen, SeesSome, SomeNote, last_seen}
 pub use Rattle.step_core.specs.SeenBests.{IsAtMostPlaced, IsInformed, IsUnskipped, MayBeSkipped, MayPost, SeesGoal, seen_first_cost}
-pub use Rattle.step_core.specs.SeenRecords.{IsOwnNeighbour, MayBeBlocked, MayBePlaced, MayEnd, MayRecord, MaySteer, is_own_node, own_count, own_first_cost}
+pub use Rattle.step_core.specs.SeenRecords.{IsOwnNeighbour, MayBeBlocked, MayBePlaced, MayEnd, MayReach, MayRecord, MaySteer, is_own_node, own_count}
+pub use Rattle.step_core.specs.SeenRecords.{own_first_cost}
 pub use Rattle.step_core.specs.SharedWords.{linked_point, linked_points, shared_tree_of_words, state_of_links}
 pub use Rattle.step_core.specs.Stages.{MayBeRecorded, has_count, has_first, has_link, has_point, has_tree, holds_at}
 pub use Rattle.step_core.specs.Steps.{IsMoment, MayFinish, Moment, Step, Steps, steps_by, view_after, views_after}

@@ -9,11 +9,10 @@ use Rattle.plan_model.specs.Trees.LeastPairs.{IsNotAbove}
 use Rattle.plan_model.specs.Trees.Nearness.{distance_to, is_within}
 use Rattle.plan_model.specs.Trees.PointsByNumber.{IsPresent, point_at, point_of}
 use Rattle.plan_model.specs.Geometry.Radius.{class_of, radius_of_class}
+use Rattle.plan_model.specs.Runs.Endings.{FirstHanging, Reached, NewNode, SameNode, NoWay, Ending, Steered, SkippedBy, ending_of}
 use Rattle.plan_model.specs.Runs.RecordLaw.{is_earlier_record}
 use Rattle.plan_model.specs.Geometry.Steering.{steered}
 use Rattle.plan_model.specs.declared.geometry.Point.{Point}
-use Rattle.plan_model.specs.declared.records.Outcome.{Outcome}
-use Rattle.plan_model.specs.declared.records.Outcome.TheVariants.{Blocked, Placed, Same, Skipped}
 use Rattle.plan_model.specs.declared.records.Record.{Record}
 use Rattle.grown_runs.specs.Runs.GrownWords.{record_at}
 use Rattle.step_core.specs.SeenBests.{IsUnskipped, MayBeSkipped, seen_first_cost}
@@ -40,48 +39,54 @@ own_count view entry = length (filter (is_own_node view entry) (range_with_len 0
 abbrev pub own_first_cost : View → ℕ → ℕ
 own_first_cost view n = seen_first_cost view n
 
--- Node i is one of them within the radius of the record's class of p, with a clear edge.
-pub record IsOwnNeighbour (view : View) (entry : Record) (p : Point) (i : ℕ) : Type 0 where
+-- Node i is one of them within the radius of this class of p, with a clear edge.
+pub record IsOwnNeighbour (view : View) (entry : Record) (class : ℕ) (p : Point) (i : ℕ) : Type 0 where
   pub own : IsTrue (is_own_node view entry i)
-  pub near : IsTrue (is_within p (radius_of_class view.run.step view.run.gamma entry.class) (point_at (tree_seen view).points i))
+  pub near : IsTrue (is_within p (radius_of_class view.run.step view.run.gamma class) (point_at (tree_seen view).points i))
   pub clear : Clear (setup_in view.run).space (point_of (tree_seen view).points i) p
 
 -- ---- outcomes
 
--- The mark was placed at the point in hand, with the parent and the cost in hand. The segment to it is clear, the class is that of a number
--- of nodes between the own ones and the count seen, no own neighbour was a cheaper parent, and none is seen dearer than by way of the node. It was
--- posted if it lies in a goal by which marks are skipped, and only then.
-pub record MayBePlaced (view : View) (hand : Hand) (entry : Record) : Type 0 where
-  pub nearest_is : entry.nearest ≡ hand.nearest
-  pub parent_is : entry.first_parent ≡ hand.parent
-  pub cost_is : entry.first_cost ≡ hand.cost
-  pub clear : Clear (setup_in view.run).space (point_of (tree_seen view).points entry.nearest) hand.point
-  pub low : class_of (own_count view entry) ≤ entry.class
-  pub high : entry.class ≤ class_of (sees view Count)
-  pub chosen : (i : ℕ) → IsOwnNeighbour view entry hand.point i → hand.cost ≤ own_first_cost view i + cost_of (point_of (tree_seen view).points i) hand.point
-  pub rewired : (i : ℕ) → IsOwnNeighbour view entry hand.point i
+-- The mark was placed at the point in hand, with the parent and the cost in hand. The segment to it from the nearest node m is clear, the class is
+-- that of a number of nodes between the own ones and the count seen, no own neighbour was a cheaper parent, and none is seen dearer than by way of the
+-- node. It was posted if it lies in a goal by which marks are skipped, and only then.
+pub record MayBePlaced (view : View) (hand : Hand) (entry : Record) (m : ℕ) (first : FirstHanging) : Type 0 where
+  pub nearest_is : m ≡ hand.nearest
+  pub parent_is : first.parent ≡ hand.parent
+  pub cost_is : first.cost ≡ hand.cost
+  pub clear : Clear (setup_in view.run).space (point_of (tree_seen view).points m) hand.point
+  pub low : class_of (own_count view entry) ≤ first.class
+  pub high : first.class ≤ class_of (sees view Count)
+  pub chosen : (i : ℕ) → IsOwnNeighbour view entry first.class hand.point i
+      → hand.cost ≤ own_first_cost view i + cost_of (point_of (tree_seen view).points i) hand.point
+  pub rewired : (i : ℕ) → IsOwnNeighbour view entry first.class hand.point i
       → (2 ^ 63 ≤ sees view (TreeOf i)) × (cost_in (sees view (TreeOf i)) ≤ hand.cost + cost_of (point_of (tree_seen view).points i) hand.point)
   pub posted : IsTrue (is_goal_point view.run.goals (Some hand.point)) ↔ hand.stage ≡ Posted
 
--- The segment to p is not clear, and no own node stands at p.
-pub record MayBeBlocked (view : View) (entry : Record) (p : Point) : Type 0 where
-  pub blocked : ¬ Clear (setup_in view.run).space (point_of (tree_seen view).points entry.nearest) p
+-- The segment to p from the nearest node m is not clear, and no own node stands at p.
+pub record MayBeBlocked (view : View) (entry : Record) (m : ℕ) (p : Point) : Type 0 where
+  pub blocked : ¬ Clear (setup_in view.run).space (point_of (tree_seen view).points m) p
   pub free : (i : ℕ) → IsTrue (is_own_node view entry i) → ¬ SeesPoint view i p
 
--- The nearest node is seen, no own node is nearer to the mark, and the mark may end so at the point to which it steers.
-pub record MaySteer (view : View) (hand : Hand) (entry : Record) (MayEndAt : Point → Type 0) : Type 0 where
-  pub present : IsPresent (tree_seen view).points entry.nearest
-  pub nearest : (i : ℕ) → IsTrue (is_own_node view entry i)
-      → IsNotAbove (distance_to (mark_at view.run.marks hand.mark) (tree_seen view).points) entry.nearest i
-  pub outcome : MayEndAt (steered (point_of (tree_seen view).points entry.nearest) (mark_at view.run.marks hand.mark) view.run.step)
+-- What was reached at the point p to which the nearest node m steers. A mark whose point is written was not skipped: of another it is asked here.
+abbrev pub MayReach : View → Hand → Record → ℕ → Reached → Point → Type 0
+MayReach view hand entry m (NewNode first) p = MayBePlaced view hand entry m first
+MayReach view hand entry m (SameNode j) p = IsUnskipped view hand × SeesPoint view j p
+MayReach view hand entry m NoWay p = IsUnskipped view hand × MayBeBlocked view entry m p
 
--- What the outcome asks. A mark whose point is written was not skipped: of another that is steered to its point it is asked here.
-abbrev pub MayEnd : View → Hand → Record → Outcome → Type 0
-MayEnd view hand entry Placed = MaySteer view hand entry (λ p. MayBePlaced view hand entry)
-MayEnd view hand entry (Same j) = IsUnskipped view hand × MaySteer view hand entry (SeesPoint view j)
-MayEnd view hand entry Blocked = IsUnskipped view hand × MaySteer view hand entry (MayBeBlocked view entry)
-MayEnd view hand entry Skipped = MayBeSkipped view hand entry.nearest
+-- The nearest node m is seen, no own node is nearer to the mark, and this may be reached at the point to which it steers.
+pub record MaySteer (view : View) (hand : Hand) (entry : Record) (m : ℕ) (reached : Reached) : Type 0 where
+  pub present : IsPresent (tree_seen view).points m
+  pub nearest : (i : ℕ) → IsTrue (is_own_node view entry i)
+      → IsNotAbove (distance_to (mark_at view.run.marks hand.mark) (tree_seen view).points) m i
+  pub outcome : MayReach view hand entry m reached
+      (steered (point_of (tree_seen view).points m) (mark_at view.run.marks hand.mark) view.run.step)
+
+-- What is asked of the mark in hand, by what became of it.
+abbrev pub MayEnd : View → Hand → Record → Ending → Type 0
+MayEnd view hand entry (Steered nearest reached) = MaySteer view hand entry nearest reached
+MayEnd view hand entry (SkippedBy goal_node) = MayBeSkipped view hand goal_node
 
 -- The mark may end as the record says.
 abbrev pub MayRecord : View → Hand → Record → Type 0
-MayRecord view hand entry = MayEnd view hand entry entry.outcome
+MayRecord view hand entry = MayEnd view hand entry (ending_of entry)

@@ -2,10 +2,10 @@
 use Rattle.grown_runs.proofs.Words.{◌≡◌, ℕ, zero, suc, ◌*◌, ◌<◌, ◌≤◌, ◌^◌, true, eqb, Some, length, arith, refl, sym, ◌∙◌, subst, inl, inr, ◌&&◌}
 use Rattle.grown_runs.proofs.Words.{range_with_len, cases_lt, and_parts, eqb-true, length-range_with_len, count_by-le-length, Outcome, Placed, Same, Blocked}
 use Rattle.grown_runs.proofs.Words.{Skipped, Record, Task, IsBounded, ClearAt, IsClosed, has_outcome, mark_at, is_placed, space_of, most_cost_of}
-use Rattle.grown_runs.proofs.Words.{is_zero_unless_placed, IsPresent, point_at, point_of, node_count, class_of, HasLawfulOutcome, setup_of, skipping_goals}
-use Rattle.grown_runs.proofs.Words.{TreeState, IsPresent-goal, class_from_powers, node_count-closed, IsInRoom-from_clear_at, length-marks, IsPresent-stands}
-use Rattle.grown_runs.proofs.Words.{point_of-stands, most_cost_of-within, class_of-le, IsBounded-in_room, step-steers, Clear-last, turn-below_limit, last_field}
-use Rattle.grown_runs.proofs.Words.{FitsRecord, record-of_present}
+use Rattle.grown_runs.proofs.Words.{is_zero_unless_placed, IsPresent, point_at, point_of, node_count, class_of, HasLawfulEnding, ending_as, setup_of}
+use Rattle.grown_runs.proofs.Words.{skipping_goals, TreeState, IsPresent-goal, class_from_powers, node_count-closed, IsInRoom-from_clear_at, length-marks}
+use Rattle.grown_runs.proofs.Words.{IsPresent-stands, point_of-stands, most_cost_of-within, class_of-le, IsBounded-in_room, step-steers, Clear-last}
+use Rattle.grown_runs.proofs.Words.{turn-below_limit, last_field, FitsRecord, record-of_present}
 
 zero_unless_placed :
     (o : Outcome) (parent cost class : ℕ) → (o ≡ Placed → ⊥) → is_zero_unless_placed o parent cost class ≡ true → (parent ≡ 0) × (cost ≡ 0)
@@ -103,14 +103,14 @@ module _
     cost = (first entry.outcome refl (closed.lawful k entry is)).1;
   }
     where
-      nearest : (o : Outcome) → HasLawfulOutcome (setup_of task.scene) state k (mark_at task.marks k) entry o → entry.nearest < 2 ^ 18
+      nearest : (o : Outcome) → HasLawfulEnding (setup_of task.scene) state k (mark_at task.marks k) entry (ending_as entry o) → entry.nearest < 2 ^ 18
       nearest Placed h = small_number entry.nearest h.present
       nearest (Same j) h = small_number entry.nearest h.present
       nearest Blocked h = small_number entry.nearest h.present
       nearest Skipped h =
           small_number entry.nearest (IsPresent-goal (skipping_goals task.scene) (point_at state.points entry.nearest) h.goal)
 
-      last : (o : Outcome) → HasLawfulOutcome (setup_of task.scene) state k (mark_at task.marks k) entry o → last_field o entry.class < 2 ^ 18
+      last : (o : Outcome) → HasLawfulEnding (setup_of task.scene) state k (mark_at task.marks k) entry (ending_as entry o) → last_field o entry.class < 2 ^ 18
       last Placed h = low_class entry.class h.outcome.by_worker.of_class.high
       last (Same j) h = small_number j (IsPresent-stands state.points j _ h.outcome)
       last Blocked h = omega arith
@@ -121,9 +121,9 @@ module _
           let none = zero_unless_placed entry.outcome entry.first_parent entry.first_cost entry.class apart entry.unplaced in
           (omega (arith, none.0), omega (arith, none.1))
 
-      first : (o : Outcome) → entry.outcome ≡ o → HasLawfulOutcome (setup_of task.scene) state k (mark_at task.marks k) entry o
+      first : (o : Outcome) → entry.outcome ≡ o → HasLawfulEnding (setup_of task.scene) state k (mark_at task.marks k) entry (ending_as entry o)
           → (entry.first_parent < 2 ^ 18) × (entry.first_cost < 2 ^ 44)
-      first Placed e h = (small_number entry.first_parent h.outcome.by_tree.first.present, low_cost entry.first_cost h.outcome.by_tree.bounded)
+      first Placed e h = (small_number entry.first_parent h.outcome.by_tree.hangs.present, low_cost entry.first_cost h.outcome.by_tree.bounded)
       first (Same j) e h = zeros (λ placed. let gone = sym placed ∙ e in cc)
       first Blocked e h = zeros (λ placed. let gone = sym placed ∙ e in cc)
       first Skipped e h = zeros (λ placed. let gone = sym placed ∙ e in cc)

@@ -1,12 +1,12 @@
 -- Points, parents with their costs, and records as 64-bit words: bit 63 set, and each field times the power of 2 at which
 -- it stands. The best cost with its goal node is one without bit 63. What a word reads as: each field by division and remainder.
-use Rattle.std.specs.Prelude.{◌≡◌, ℕ, zero, suc, ◌+◌, ◌-◌, ◌*◌, ◌/◌, ◌%◌, ◌^◌, ◌<◌, ◌≤◌, ◌==◌, nat_lt, refl}
+use Rattle.std.specs.Prelude.{◌≡◌, ℕ, zero, suc, ◌+◌, ◌-◌, ◌*◌, ◌/◌, ◌%◌, ◌^◌, ◌<◌, ◌≤◌, ◌==◌, nat_lt}
 use Rattle.std.specs.Prelude.{if◌then◌else◌, Option, Some, None}
 use Rattle.plan_model.specs.declared.geometry.Point.{Point}
 use Rattle.plan_model.specs.declared.records.Outcome.{Outcome}
 use Rattle.plan_model.specs.declared.records.Outcome.TheVariants.{Placed, Same, Blocked, Skipped}
 use Rattle.plan_model.specs.declared.records.Record.{Record}
-use Rattle.plan_model.specs.Runs.Textbook.{unplaced_record}
+use Rattle.plan_model.specs.Runs.Endings.{NewNode, Steered, record_of_ending, unplaced_record}
 
 -- a word holds its value once bit 63 is set, and nothing before
 abbrev pub if_written : {A : Type 0} → ℕ → A → Option A
@@ -125,16 +125,8 @@ last_in word = word / 2 ^ 44 % 2 ^ 18
 -- the record of a placed mark in a word: its first parent and first cost are in the first word of its node
 abbrev pub placed_in : ℕ → ℕ → Record
 placed_in word first =
-    record {
-      worker = worker_in word;
-      turn = turn_in word;
-      nearest = nearest_in word;
-      outcome = Placed;
-      first_parent = parent_in first;
-      first_cost = cost_in first;
-      class = last_in word;
-      unplaced = refl;
-    }
+    record_of_ending (worker_in word) (turn_in word)
+    (Steered (nearest_in word) (NewNode (record { parent = parent_in first; cost = cost_in first; class = last_in word })))
 
 -- the record in a word of a mark of which no node was placed, with this outcome
 abbrev pub unplaced_in : ℕ → Outcome → Record

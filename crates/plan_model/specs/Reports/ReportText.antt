@@ -3,9 +3,8 @@ use Rattle.std.specs.Prelude.{ℕ, suc, Bool, true, false, Option, Some, None, L
 use Rattle.std.specs.List.{range_with_len, join_with_byte}
 use Rattle.plan_model.specs.declared.geometry.Point.{Point}
 use Rattle.plan_model.specs.declared.scenes.Scene.{Scene}
-use Rattle.plan_model.specs.declared.records.Outcome.{Outcome}
-use Rattle.plan_model.specs.declared.records.Outcome.TheVariants.{Placed, Same, Blocked, Skipped}
 use Rattle.plan_model.specs.declared.records.Record.{Record}
+use Rattle.plan_model.specs.Runs.Endings.{Reached, NewNode, SameNode, NoWay, Ending, Steered, SkippedBy, ending_of}
 use Rattle.plan_model.specs.Runs.Outcomes.{is_placed, is_same, is_blocked, is_skipped}
 use Rattle.plan_model.specs.Trees.PointsByNumber.{point_at, point_of, node_count}
 use Rattle.plan_model.specs.Trees.TreeStates.{TreeState, chain_in, sum_in}
@@ -84,21 +83,24 @@ node_line_if_present state n (Some p) = node_line state n p
 abbrev pub node_lines : ℕ → TreeState → List ℕ
 node_lines limit state = flat_map (λ n. node_line_if_present state n (point_at state.points n)) (range_with_len 0 (suc limit))
 
+-- what came of the point to which the nearest node of a mark steered, in words
+abbrev pub reached_words : Reached → List (List ℕ)
+reached_words (NewNode first) =
+    codes "placed" ∷ codes "class" ∷ decimal first.class ∷ codes "first" ∷ decimal first.parent ∷ decimal first.cost ∷ []
+reached_words (SameNode j) = codes "same" ∷ decimal j ∷ []
+reached_words NoWay = codes "blocked" ∷ []
+
 -- what became of a mark, in words, after its turn
-abbrev pub outcome_words : Record → Outcome → List (List ℕ)
-outcome_words entry Placed =
-    codes "nearest" ∷ decimal entry.nearest ∷ codes "placed" ∷ codes "class" ∷ decimal entry.class
-    ∷ codes "first" ∷ decimal entry.first_parent ∷ decimal entry.first_cost ∷ []
-outcome_words entry (Same j) = codes "nearest" ∷ decimal entry.nearest ∷ codes "same" ∷ decimal j ∷ []
-outcome_words entry Blocked = codes "nearest" ∷ decimal entry.nearest ∷ codes "blocked" ∷ []
-outcome_words entry Skipped = codes "skipped" ∷ codes "by" ∷ decimal entry.nearest ∷ []
+abbrev pub ending_words : Ending → List (List ℕ)
+ending_words (Steered nearest reached) = codes "nearest" ∷ decimal nearest ∷ reached_words reached
+ending_words (SkippedBy goal_node) = codes "skipped" ∷ codes "by" ∷ decimal goal_node ∷ []
 
 -- mark k and its record
 abbrev pub mark_line : ℕ → Record → List ℕ
 mark_line k entry =
     line (
     (codes "mark" ∷ decimal k ∷ codes "worker" ∷ decimal entry.worker ∷ codes "turn" ∷ decimal entry.turn ∷ [])
-    ++ outcome_words entry entry.outcome
+    ++ ending_words (ending_of entry)
     )
 
 -- the line of a mark, if it has a record

@@ -1,14 +1,12 @@
 -- The textbook run: RRT* as in Karaman and Frazzoli, IJRR 2011, algorithm 6, one mark after another. Where there are goals by which marks
 -- are skipped, a mark over which no path could be cheaper than the best one is skipped.
-use Rattle.std.specs.Prelude.{◌≡◌, ℕ, suc, ◌+◌, ◌<◌, ◌≤◌, ◌⊎◌, refl, IsTrue, Option, Some, None, List, [], ◌∷◌, ◌++◌, slice_set, if◌then◌else◌}
+use Rattle.std.specs.Prelude.{◌≡◌, ℕ, suc, ◌+◌, ◌<◌, ◌≤◌, ◌⊎◌, Option, Some, None, List, [], ◌∷◌, ◌++◌, slice_set, if◌then◌else◌}
 use Rattle.plan_model.specs.declared.geometry.Goal.{Goal}
 use Rattle.plan_model.specs.declared.geometry.Point.{Point}
 use Rattle.plan_model.specs.declared.trees.Twig.{Twig}
 use Rattle.plan_model.specs.declared.scenes.Scene.{Scene}
-use Rattle.plan_model.specs.declared.records.Outcome.{Outcome}
-use Rattle.plan_model.specs.declared.records.Outcome.TheVariants.{Placed, Same, Blocked, Skipped}
 use Rattle.plan_model.specs.declared.records.Record.{Record}
-use Rattle.plan_model.specs.Runs.Outcomes.{is_zero_unless_placed}
+use Rattle.plan_model.specs.Runs.Endings.{FirstHanging, Reached, NewNode, SameNode, NoWay, Ending, Steered, SkippedBy, ending_of}
 use Rattle.plan_model.specs.declared.configuration_spaces.ConfigurationSpace.{ConfigurationSpace}
 use Rattle.plan_model.specs.Spaces.ConfigurationSpace.{space_of}
 use Rattle.plan_model.specs.Spaces.Clearance.{Clear}
@@ -111,102 +109,49 @@ pub record SteersTo (setup : Setup) (points : List (Option Point)) (mark : Point
   pub nearest : IsNearest points mark m
   pub reached : p ≡ steered (point_of points m) mark setup.step
 
--- three zeros go with any outcome
-abbrev pub zeros : (outcome : Outcome) → IsTrue (is_zero_unless_placed outcome 0 0 0)
-zeros Placed = refl
-zeros (Same j) = refl
-zeros Blocked = refl
-zeros Skipped = refl
+-- no node stands at p, and the segment to it from its nearest node m is not clear
+pub record EndsBlocked (space : ConfigurationSpace) (points : List (Option Point)) (m : ℕ) (p : Point) : Type 0 where
+  pub free : IsFree points p
+  pub blocked : ¬ Clear space (point_of points m) p
 
--- the record of a mark for which no node is placed, by its worker, the worker's turn, the nearest node and the outcome
-abbrev pub unplaced_record : ℕ → ℕ → ℕ → Outcome → Record
-unplaced_record worker turn nearest outcome =
-    record {
-      worker = worker;
-      turn = turn;
-      nearest = nearest;
-      outcome = outcome;
-      first_parent = 0;
-      first_cost = 0;
-      class = 0;
-      unplaced = zeros outcome;
-    }
+-- The node of mark k is placed at p: it stands under its best parent, and near nodes that are cheaper through it are rewired.
+pub record EndsPlaced (setup : Setup) (tree : Nodes) (k m : ℕ) (p : Point) (first : FirstHanging) (after : Nodes) : Type 0 where
+  pub free : IsFree (points_of tree) p
+  pub clear : Clear setup.space (point_of (points_of tree) m) p
+  pub parent : IsBestParent setup tree m p first.parent
+  pub cost : first.cost ≡ cost_through tree p first.parent
+  pub of_class : first.class ≡ class_of (node_count (points_of tree))
+  pub rewired : Rewires setup.space (tree ++ Some (record { point = p; parent = first.parent }) ∷ []) (suc k) (near_new setup (points_of tree) p) after
 
--- the record of mark k, which worker 0 handles in its turn k, if node j stands where it ends
-abbrev pub same_record : ℕ → ℕ → ℕ → Record
-same_record k nearest j = unplaced_record 0 k nearest (Same j)
+-- What comes of the point p to which the nearest node m of mark k steers: from tree to after.
+abbrev pub Reaches : Setup → Nodes → ℕ → ℕ → Point → Reached → Nodes → Type 0
+Reaches setup tree k m p (NewNode first) after = EndsPlaced setup tree k m p first after
+Reaches setup tree k m p (SameNode j) after = StandsAt (points_of tree) j p × (after ≡ tree ++ None ∷ [])
+Reaches setup tree k m p NoWay after = EndsBlocked setup.space (points_of tree) m p × (after ≡ tree ++ None ∷ [])
 
--- the record of mark k, which worker 0 handles in its turn k, if it is blocked
-abbrev pub blocked_record : ℕ → ℕ → Record
-blocked_record k nearest = unplaced_record 0 k nearest Blocked
-
--- the record of mark k, which worker 0 handles in its turn k, if it is skipped by goal node g
-abbrev pub skipped_record : ℕ → ℕ → Record
-skipped_record k g = unplaced_record 0 k g Skipped
-
--- the record of mark k, which worker 0 handles in its turn k, if it is placed
-abbrev pub placed_record : ℕ → ℕ → ℕ → ℕ → ℕ → Record
-placed_record k nearest parent cost class =
-    record {
-      worker = 0;
-      turn = k;
-      nearest = nearest;
-      outcome = Placed;
-      first_parent = parent;
-      first_cost = cost;
-      class = class;
-      unplaced = refl;
-    }
-
--- Mark k is skipped: the best goal node costs no more than its bound. Nothing is placed.
-pub record EndsSkipped (setup : Setup) (tree : Nodes) (k : ℕ) (mark : Point) (entry : Record) (after : Nodes) : Type 0 where
-  pub best : IsBestGoalNode setup tree entry.nearest
-  pub within : sum_of tree entry.nearest ≤ mark_bound setup mark
-  pub recorded : entry ≡ skipped_record k entry.nearest
-  pub added : after ≡ tree ++ None ∷ []
-
--- Mark k ends where node j stands already: nothing is placed.
-pub record EndsSame (setup : Setup) (tree : Nodes) (k : ℕ) (mark : Point) (j : ℕ) (entry : Record) (after : Nodes) : Type 0 where
+-- Node m steers to mark k, over which a path may be cheaper than each goal node, and this comes of it.
+pub record EndsSteered (setup : Setup) (tree : Nodes) (k : ℕ) (mark : Point) (m : ℕ) (reached : Reached) (after : Nodes) : Type 0 where
   pub cheaper : MayBeCheaper setup (sum_of tree) (points_of tree) mark
   pub point : Point
-  pub steers : SteersTo setup (points_of tree) mark entry.nearest point
-  pub stands : StandsAt (points_of tree) j point
-  pub recorded : entry ≡ same_record k entry.nearest j
+  pub steers : SteersTo setup (points_of tree) mark m point
+  pub reaches : Reaches setup tree k m point reached after
+
+-- The mark is skipped: the best goal node g costs no more than its bound. Nothing is placed.
+pub record EndsSkipped (setup : Setup) (tree : Nodes) (mark : Point) (g : ℕ) (after : Nodes) : Type 0 where
+  pub best : IsBestGoalNode setup tree g
+  pub within : sum_of tree g ≤ mark_bound setup mark
   pub added : after ≡ tree ++ None ∷ []
 
--- The segment to the point that mark k steers to is not clear: nothing is placed.
-pub record EndsBlocked (setup : Setup) (tree : Nodes) (k : ℕ) (mark : Point) (entry : Record) (after : Nodes) : Type 0 where
-  pub cheaper : MayBeCheaper setup (sum_of tree) (points_of tree) mark
-  pub point : Point
-  pub steers : SteersTo setup (points_of tree) mark entry.nearest point
-  pub free : IsFree (points_of tree) point
-  pub blocked : ¬ Clear setup.space (point_of (points_of tree) entry.nearest) point
-  pub recorded : entry ≡ blocked_record k entry.nearest
-  pub added : after ≡ tree ++ None ∷ []
+-- Mark k ends so: from tree to after.
+abbrev pub Ends : Setup → Nodes → ℕ → Point → Ending → Nodes → Type 0
+Ends setup tree k mark (Steered nearest reached) after = EndsSteered setup tree k mark nearest reached after
+Ends setup tree k mark (SkippedBy goal_node) after = EndsSkipped setup tree mark goal_node after
 
--- Mark k is placed: the new node stands under its best parent, and near nodes that are cheaper through it are rewired.
-pub record EndsPlaced (setup : Setup) (tree : Nodes) (k : ℕ) (mark : Point) (entry : Record) (after : Nodes) : Type 0 where
-  pub cheaper : MayBeCheaper setup (sum_of tree) (points_of tree) mark
-  pub point : Point
-  pub steers : SteersTo setup (points_of tree) mark entry.nearest point
-  pub free : IsFree (points_of tree) point
-  pub clear : Clear setup.space (point_of (points_of tree) entry.nearest) point
-  pub parent : IsBestParent setup tree entry.nearest point entry.first_parent
-  pub recorded :
-      entry ≡ placed_record k entry.nearest entry.first_parent (cost_through tree point entry.first_parent) (class_of (node_count (points_of tree)))
-  pub rewired :
-      Rewires setup.space (tree ++ Some (record { point = point; parent = entry.first_parent }) ∷ []) (suc k) (near_new setup (points_of tree) point) after
-
--- Mark k is handled with this outcome: from tree to after.
-abbrev pub Ends : Setup → Nodes → ℕ → Point → Outcome → Record → Nodes → Type 0
-Ends setup tree k mark (Same j) entry after = EndsSame setup tree k mark j entry after
-Ends setup tree k mark Blocked entry after = EndsBlocked setup tree k mark entry after
-Ends setup tree k mark Placed entry after = EndsPlaced setup tree k mark entry after
-Ends setup tree k mark Skipped entry after = EndsSkipped setup tree k mark entry after
-
--- Mark k is handled, by the outcome of its record.
-abbrev pub Handles : Setup → Nodes → ℕ → Point → Record → Nodes → Type 0
-Handles setup tree k mark entry after = Ends setup tree k mark entry.outcome entry after
+-- Worker 0 handles mark k in its turn k, and the mark ends as its record says.
+pub record Handles (setup : Setup) (tree : Nodes) (k : ℕ) (mark : Point) (entry : Record) (after : Nodes) : Type 0 where
+  pub worker : entry.worker ≡ 0
+  pub turn : entry.turn ≡ k
+  pub ends : Ends setup tree k mark (ending_of entry) after
 
 -- ---- whole runs
 

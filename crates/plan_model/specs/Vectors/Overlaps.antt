@@ -1,26 +1,12 @@
 -- Two workers whose first marks overlap: a closed run that no order of whole marks gives.
-use Rattle.std.specs.Prelude.{◌≡◌, ℕ, refl, Some, List, [], ◌∷◌, slice_get, slice_index_or}
+use Rattle.std.specs.Prelude.{◌≡◌, Some, List, [], ◌∷◌, slice_get, slice_index_or}
 use Rattle.plan_model.specs.declared.records.Record.{Record}
 use Rattle.plan_model.specs.Runs.ClosedLaw.{IsClosed}
-use Rattle.plan_model.specs.declared.records.Outcome.TheVariants.{Placed}
 use Rattle.plan_model.specs.Trees.TreeStates.{TreeState}
 use Rattle.plan_model.specs.Runs.Turns.{turns_of}
+use Rattle.plan_model.specs.Vectors.Records.{placed_by}
 use Rattle.plan_model.specs.Vectors.Runs.{open_setup, marks_to_rewire}
 use Rattle.plan_model.specs.Vectors.Shapes.{at}
-
--- the record of a mark that this worker placed in this turn
-abbrev pub placed_by : ℕ → ℕ → ℕ → ℕ → ℕ → ℕ → Record
-placed_by worker turn nearest parent cost class =
-    record {
-      worker = worker;
-      turn = turn;
-      nearest = nearest;
-      outcome = Placed;
-      first_parent = parent;
-      first_cost = cost;
-      class = class;
-      unplaced = refl;
-    }
 
 -- Worker 0 chose the start as nearest for mark 0 before worker 1 placed mark 1, and counted two nodes after it.
 abbrev pub early_record : Record

@@ -5,7 +5,7 @@ use Rattle.plan_model.specs.declared.scenes.Scene.{Scene}
 use Rattle.plan_model.specs.declared.trees.Twig.{Twig}
 use Rattle.plan_model.specs.declared.records.Record.{Record}
 use Rattle.plan_model.specs.Trees.TreeStates.{state_of}
-use Rattle.plan_model.specs.Runs.Textbook.{same_record, blocked_record, placed_record, skipped_record}
+use Rattle.plan_model.specs.Vectors.Records.{same_record, blocked_record, placed_record, skipped_record}
 use Rattle.plan_model.specs.Trees.BestNode.{is_in_goal, lies_in_goals, goals_of, best_node}
 use Rattle.plan_model.specs.Reports.ReportText.{short_report, full_report}
 use Rattle.plan_model.specs.Vectors.Shapes.{at}

@@ -6,8 +6,9 @@ ghost use Rattle.plan_model.specs.Scenes.MarkPoints.{mark_points};
 ghost use Rattle.plan_model.specs.Trees.Nearness.{IsNearest};
 ghost use Rattle.plan_model.specs.Trees.PointsByNumber.{AreDistinct};
 ghost use Rattle.plan_model.specs.Runs.SameRuns.{HaveSameFields, HaveSameInputs};
-ghost use Rattle.plan_model.specs.Runs.Textbook.{EndsBlocked, EndsPlaced, EndsSame, EndsSkipped, IsBestParent, IsTextbookRun, Nodes};
-ghost use Rattle.plan_model.specs.Runs.Textbook.{Rewires, RewiresOne, Setup, setup_of};
+ghost use Rattle.plan_model.specs.Runs.Endings.{Ending, FirstHanging, NewNode, NoWay, Reached, SameNode, SkippedBy, Steered};
+ghost use Rattle.plan_model.specs.Runs.Endings.{ending_of, record_of_ending};
+ghost use Rattle.plan_model.specs.Runs.Textbook.{Ends, IsBestParent, IsTextbookRun, Nodes, Rewires, RewiresOne, Setup, setup_of};
 ghost use Rattle.plan_model.specs.Trees.NodeLists.{points_of};
 ghost use Rattle.plan_model.specs.declared.geometry.Point.{Point};
 ghost use Rattle.plan_model.specs.declared.records.Record.{Record};
@@ -30,20 +31,22 @@ pub fn choices_are_unique()
         → Rewires space tree n near one → Rewires space tree n near other → one ≡ other }
 {}
 
+/// The record of what became of a mark says it, and each record is that of what it says.
+pub fn records_are_their_endings()
+    ensures said { (worker turn : ℕ) (ending : Ending) → ending_of (record_of_ending worker turn ending) ≡ ending }
+    ensures again { (entry : Record) → record_of_ending entry.worker entry.turn (ending_of entry) ≡ entry }
+{}
+
 /// A mark has one outcome: no two of Same, Blocked, Placed and Skipped.
 pub fn outcomes_exclude_each_other()
-    ensures same_or_blocked { (setup : Setup) (tree : Nodes) (k : ℕ) (mark : Point) (j : ℕ) (one other : Record) (after others : Nodes)
-        → EndsSame setup tree k mark j one after → ¬ EndsBlocked setup tree k mark other others }
-    ensures same_or_placed { (setup : Setup) (tree : Nodes) (k : ℕ) (mark : Point) (j : ℕ) (one other : Record) (after others : Nodes)
-        → EndsSame setup tree k mark j one after → ¬ EndsPlaced setup tree k mark other others }
-    ensures blocked_or_placed { (setup : Setup) (tree : Nodes) (k : ℕ) (mark : Point) (one other : Record) (after others : Nodes)
-        → EndsBlocked setup tree k mark one after → ¬ EndsPlaced setup tree k mark other others }
-    ensures same_or_skipped { (setup : Setup) (tree : Nodes) (k : ℕ) (mark : Point) (j : ℕ) (one other : Record) (after others : Nodes)
-        → EndsSame setup tree k mark j one after → ¬ EndsSkipped setup tree k mark other others }
-    ensures blocked_or_skipped { (setup : Setup) (tree : Nodes) (k : ℕ) (mark : Point) (one other : Record) (after others : Nodes)
-        → EndsBlocked setup tree k mark one after → ¬ EndsSkipped setup tree k mark other others }
-    ensures placed_or_skipped { (setup : Setup) (tree : Nodes) (k : ℕ) (mark : Point) (one other : Record) (after others : Nodes)
-        → EndsPlaced setup tree k mark one after → ¬ EndsSkipped setup tree k mark other others }
+    ensures same_or_blocked { (setup : Setup) (tree : Nodes) (k : ℕ) (mark : Point) (m n j : ℕ) (after others : Nodes)
+        → Ends setup tree k mark (Steered m (SameNode j)) after → ¬ Ends setup tree k mark (Steered n NoWay) others }
+    ensures same_or_placed { (setup : Setup) (tree : Nodes) (k : ℕ) (mark : Point) (m n j : ℕ) (first : FirstHanging) (after others : Nodes)
+        → Ends setup tree k mark (Steered m (SameNode j)) after → ¬ Ends setup tree k mark (Steered n (NewNode first)) others }
+    ensures blocked_or_placed { (setup : Setup) (tree : Nodes) (k : ℕ) (mark : Point) (m n : ℕ) (first : FirstHanging) (after others : Nodes)
+        → Ends setup tree k mark (Steered m NoWay) after → ¬ Ends setup tree k mark (Steered n (NewNode first)) others }
+    ensures steered_or_skipped { (setup : Setup) (tree : Nodes) (k : ℕ) (mark : Point) (m g : ℕ) (reached : Reached) (after others : Nodes)
+        → Ends setup tree k mark (Steered m reached) after → ¬ Ends setup tree k mark (SkippedBy g) others }
 {}
 
 /// No two nodes of a textbook run stand at one point.

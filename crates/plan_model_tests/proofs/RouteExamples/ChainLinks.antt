@@ -3,7 +3,7 @@ use Rattle.plan_model_tests.proofs.Words.{◌≡◌, ℕ, suc, Some, arith, refl
 use Rattle.plan_model_tests.proofs.Words.{TreeState, IsLinkInOrder}
 
 module _ (setup : Setup) (state : TreeState) (i k : ℕ) (entry : Record) (recorded : state.record_of k ≡ Some entry) where
-  pub IsLinkInOrder-neighbour : entry.outcome ≡ Placed → IsNeighbour setup state entry (point_of state.points (suc k)) i
+  pub IsLinkInOrder-neighbour : entry.outcome ≡ Placed → IsNeighbour setup state entry entry.class (point_of state.points (suc k)) i
       → IsLinkInOrder setup state i (suc k)
   IsLinkInOrder-neighbour placed neighbour = record {
     mark = k;
@@ -20,8 +20,8 @@ module _ (setup : Setup) (state : TreeState) (i k : ℕ) (entry : Record) (recor
       let mark : link.mark ≡ k = omega (arith, link.number) in
       ap (λ o. unwrap_or {T = Record} o entry) (sym link.recorded ∙ ap state.record_of mark ∙ recorded)
 
-  pub neighbour-link : IsLinkInOrder setup state i (suc k) → IsNeighbour setup state entry (point_of state.points (suc k)) i
-  neighbour-link link = subst (λ r. IsNeighbour setup state r (point_of state.points (suc k)) i) (entry_is link) link.neighbour
+  pub neighbour-link : IsLinkInOrder setup state i (suc k) → IsNeighbour setup state entry entry.class (point_of state.points (suc k)) i
+  neighbour-link link = subst (λ r. IsNeighbour setup state r r.class (point_of state.points (suc k)) i) (entry_is link) link.neighbour
 
 -- no link in order leads to the start
 pub none_to_start : (setup : Setup) (state : TreeState) (i : ℕ) → ¬ IsLinkInOrder setup state i 0

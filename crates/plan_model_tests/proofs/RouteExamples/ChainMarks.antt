@@ -2,9 +2,9 @@
 use Rattle.plan_model_tests.proofs.Words.{◌≡◌, ℕ, suc, ◌*◌, List, [], ◌∷◌, ◌++◌, length, Option, Some, None, true, refl, sym, ap, ◌∙◌, subst, arith, All}
 use Rattle.plan_model_tests.proofs.Words.{Contains, filter, is_some, abs_diff, range_with_len, All-contains, Point, empty_room, IsInRoom, squared_distance}
 use Rattle.plan_model_tests.proofs.Words.{steered, class_of, point_at, point_of, IsFree, IsPresent, StandsAt, node_count, IsNotAbove, first_least, distance_to}
-use Rattle.plan_model_tests.proofs.Words.{is_within, near, IsNearest, points_of, sum_of, Nodes, near_new, cost_through, Rewires, EndsPlaced, EndsSame}
-use Rattle.plan_model_tests.proofs.Words.{placed_record, same_record, at, node, IsPresent-below, Clear-empty_room, MayBeCheaper-not_skipping}
-use Rattle.plan_model_tests.proofs.Words.{IsFirstLeast-among, IsBelowPassing, first_least-some, Contains-near, small_setup}
+use Rattle.plan_model_tests.proofs.Words.{is_within, near, IsNearest, points_of, sum_of, Nodes, near_new, cost_through, Rewires, Handles, placed_record}
+use Rattle.plan_model_tests.proofs.Words.{same_record, at, node, IsPresent-below, Clear-empty_room, MayBeCheaper-not_skipping, IsFirstLeast-among}
+use Rattle.plan_model_tests.proofs.Words.{IsBelowPassing, first_least-some, Contains-near, small_setup}
 use Rattle.std.proofs.lemmas.Bool.{le-leb}
 
 -- the present nodes by number
@@ -47,42 +47,51 @@ pub record IsPlaceable (tree : Nodes) (k m : ℕ) (mark p : Point) (f cost class
   pub rewired : Rewires (empty_room (at 10 10)) (tree ++ node p f ∷ []) (suc k) nodes after
 
 -- it is placed under node f, at that cost and class
-pub EndsPlaced-placeable :
+pub Handles-placeable :
     (tree : Nodes) (k m : ℕ) (mark p : Point) (f cost class : ℕ) (nodes : List ℕ) (after : Nodes)
-    → IsPlaceable tree k m mark p f cost class nodes after → EndsPlaced small_setup tree k mark (placed_record k m f cost class) after
-EndsPlaced-placeable tree k m mark p f cost class nodes after h =
+    → IsPlaceable tree k m mark p f cost class nodes after → Handles small_setup tree k mark (placed_record k m f cost class) after
+Handles-placeable tree k m mark p f cost class nodes after h =
     let points : List (Option Point) = points_of tree in
     let P : List ℕ → Type 0 = λ ns. Contains (m ∷ ns) f in
     let Q : List ℕ → Type 0 = λ ns. All (IsNotAbove (cost_through tree p) f) (m ∷ ns) in
     let R : List ℕ → Type 0 = λ ns. Rewires (empty_room (at 10 10)) (tree ++ node p f ∷ []) (suc k) ns after in
     let best = subst Q (sym h.are_near) h.best in
     record {
-      cheaper = MayBeCheaper-not_skipping small_setup (sum_of tree) points mark refl;
-      point = p;
-      steers = record { nearest = IsNearest-computed points mark m h.nearest; reached = h.reached };
-      free = IsFree-computed points p h.free;
-      clear = Clear-empty_room (at 10 10) (point_of points m) p h.nearest_inside h.inside;
-      parent = record {
-        member = record {
-          among = subst P (sym h.are_near) h.parent;
-          clear = Clear-empty_room (at 10 10) (point_of points f) p h.parent_inside h.inside;
+      worker = refl;
+      turn = refl;
+      ends = record {
+        cheaper = MayBeCheaper-not_skipping small_setup (sum_of tree) points mark refl;
+        point = p;
+        steers = record { nearest = IsNearest-computed points mark m h.nearest; reached = h.reached };
+        reaches = record {
+          free = IsFree-computed points p h.free;
+          clear = Clear-empty_room (at 10 10) (point_of points m) p h.nearest_inside h.inside;
+          parent = record {
+            member = record {
+              among = subst P (sym h.are_near) h.parent;
+              clear = Clear-empty_room (at 10 10) (point_of points f) p h.parent_inside h.inside;
+            };
+            not_above = λ i own. All-contains (IsNotAbove (cost_through tree p) f) (m ∷ near_new small_setup points p) i best own.among;
+          };
+          cost = sym h.costs;
+          of_class = sym h.of_class;
+          rewired = subst R (sym h.are_near) h.rewired;
         };
-        not_above = λ i own. All-contains (IsNotAbove (cost_through tree p) f) (m ∷ near_new small_setup points p) i best own.among;
       };
-      recorded = ap (λ c. placed_record k m f c class) (sym h.costs) ∙ ap (placed_record k m f (cost_through tree p f)) (sym h.of_class);
-      rewired = subst R (sym h.are_near) h.rewired;
     }
 
 -- a mark where node m stands, which is the nearest, ends there
-pub EndsSame-computed :
+pub Handles-same :
     (tree : Nodes) (k m : ℕ) (mark : Point) → first_least (distance_to mark (points_of tree)) (present (points_of tree)) ≡ Some m
     → mark ≡ steered (point_of (points_of tree) m) mark 5 → StandsAt (points_of tree) m mark
-    → EndsSame small_setup tree k mark m (same_record k m m) (tree ++ None ∷ [])
-EndsSame-computed tree k m mark nearest reached stands = record {
-  cheaper = MayBeCheaper-not_skipping small_setup (sum_of tree) (points_of tree) mark refl;
-  point = mark;
-  steers = record { nearest = IsNearest-computed (points_of tree) mark m nearest; reached = reached };
-  stands = stands;
-  recorded = refl;
-  added = refl;
+    → Handles small_setup tree k mark (same_record k m m) (tree ++ None ∷ [])
+Handles-same tree k m mark nearest reached stands = record {
+  worker = refl;
+  turn = refl;
+  ends = record {
+    cheaper = MayBeCheaper-not_skipping small_setup (sum_of tree) (points_of tree) mark refl;
+    point = mark;
+    steers = record { nearest = IsNearest-computed (points_of tree) mark m nearest; reached = reached };
+    reaches = (stands, refl);
+  };
 }

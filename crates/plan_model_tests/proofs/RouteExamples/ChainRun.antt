@@ -1,10 +1,10 @@
 -- The run in which node 2 moves below node 4.
 use Rattle.plan_model_tests.proofs.Words.{◌≡◌, ℕ, [], ◌∷◌, None, refl, sym, ap, arith, inl, inr, All, All-cons, All-nil, empty_room, advanced, steered}
-use Rattle.plan_model_tests.proofs.Words.{IsNotAbove, sum_of, Nodes, cost_through, EndsPlaced, EndsSame, HandlesAll, IsCheaperThrough, IsTextbookRun, Rewires}
-use Rattle.plan_model_tests.proofs.Words.{placed_record, same_record, node, at, Clear-empty_room, IsNotAbove-refl, IsNotAbove-lesser, root_ceiling-from_squares}
-use Rattle.plan_model_tests.proofs.Words.{late_marks, late_records, late_tree, small_setup}
+use Rattle.plan_model_tests.proofs.Words.{IsNotAbove, sum_of, Nodes, cost_through, Handles, HandlesAll, IsCheaperThrough, IsTextbookRun, Rewires, placed_record}
+use Rattle.plan_model_tests.proofs.Words.{same_record, node, at, Clear-empty_room, IsNotAbove-refl, IsNotAbove-lesser, root_ceiling-from_squares, late_marks}
+use Rattle.plan_model_tests.proofs.Words.{late_records, late_tree, small_setup}
 use Rattle.plan_model.specs.Geometry.Roots.{root_ceiling}
-use Rattle.plan_model_tests.proofs.RouteExamples.ChainMarks.{EndsPlaced-placeable, EndsSame-computed}
+use Rattle.plan_model_tests.proofs.RouteExamples.ChainMarks.{Handles-placeable, Handles-same}
 
 -- ---- the costs of edges, by the squares of their lengths
 
@@ -73,9 +73,9 @@ first_rewires : Rewires (empty_room (at 10 10)) two_nodes 1 (0 ∷ []) two_nodes
 unfolding two_nodes
 first_rewires = (two_nodes, inr ((λ c. omega (arith, c.cheaper, cost_16)), refl), refl)
 
-first_mark : EndsPlaced small_setup one_node 0 (at 6 2) (placed_record 0 0 0 1024 1) two_nodes
+first_mark : Handles small_setup one_node 0 (at 6 2) (placed_record 0 0 0 1024 1) two_nodes
 unfolding one_node two_nodes
-first_mark = EndsPlaced-placeable one_node 0 0 (at 6 2) (at 4 3) 0 1024 1 (0 ∷ []) two_nodes (record {
+first_mark = Handles-placeable one_node 0 0 (at 6 2) (at 4 3) 0 1024 1 (0 ∷ []) two_nodes (record {
   nearest = refl;
   reached = first_step;
   free = refl;
@@ -100,9 +100,9 @@ second_rewires : Rewires (empty_room (at 10 10)) three_nodes 2 (1 ∷ []) three_
 unfolding three_nodes
 second_rewires = (three_nodes, inr ((λ c. omega (arith, c.cheaper, cost_16, cost_5)), refl), refl)
 
-second_mark : EndsPlaced small_setup two_nodes 1 (at 5 5) (placed_record 1 1 1 1597 2) three_nodes
+second_mark : Handles small_setup two_nodes 1 (at 5 5) (placed_record 1 1 1 1597 2) three_nodes
 unfolding two_nodes three_nodes
-second_mark = EndsPlaced-placeable two_nodes 1 1 (at 5 5) (at 5 5) 1 1597 2 (1 ∷ []) three_nodes (record {
+second_mark = Handles-placeable two_nodes 1 1 (at 5 5) (at 5 5) 1 1597 2 (1 ∷ []) three_nodes (record {
   nearest = refl;
   reached = refl;
   free = refl;
@@ -133,9 +133,9 @@ third_rewires =
     (four_nodes, inr ((λ c. omega (arith, c.cheaper, cost_16, cost_13, cost_5, cost_4)), refl), refl) in
     (four_nodes, inr ((λ c. omega (arith, c.cheaper, cost_16, cost_13)), refl), second)
 
-third_mark : EndsPlaced small_setup three_nodes 2 (at 7 5) (placed_record 2 2 1 1948 2) four_nodes
+third_mark : Handles small_setup three_nodes 2 (at 7 5) (placed_record 2 2 1 1948 2) four_nodes
 unfolding three_nodes four_nodes
-third_mark = EndsPlaced-placeable three_nodes 2 2 (at 7 5) (at 7 5) 1 1948 2 (1 ∷ 2 ∷ []) four_nodes (record {
+third_mark = Handles-placeable three_nodes 2 2 (at 7 5) (at 7 5) 1 1948 2 (1 ∷ 2 ∷ []) four_nodes (record {
   nearest = refl;
   reached = refl;
   free = refl;
@@ -179,9 +179,9 @@ fourth_rewires =
     (five_nodes, inr ((λ c. omega (arith, c.cheaper, cost_1, cost_9, cost_16)), refl), third) in
     (five_nodes, inr ((λ c. omega (arith, c.cheaper, cost_1)), refl), second)
 
-fourth_mark : EndsPlaced small_setup four_nodes 3 (at 1 3) (placed_record 3 0 0 256 3) moved_tree
+fourth_mark : Handles small_setup four_nodes 3 (at 1 3) (placed_record 3 0 0 256 3) moved_tree
 unfolding four_nodes five_nodes
-fourth_mark = EndsPlaced-placeable four_nodes 3 0 (at 1 3) (at 1 3) 0 256 3 (0 ∷ 1 ∷ 2 ∷ []) moved_tree (record {
+fourth_mark = Handles-placeable four_nodes 3 0 (at 1 3) (at 1 3) 0 256 3 (0 ∷ 1 ∷ 2 ∷ []) moved_tree (record {
   nearest = refl;
   reached = refl;
   free = refl;
@@ -198,13 +198,13 @@ fourth_mark = EndsPlaced-placeable four_nodes 3 0 (at 1 3) (at 1 3) 0 256 3 (0 �
 
 -- ---- the last two, which end at nodes
 
-fifth_mark : EndsSame small_setup moved_tree 4 (at 5 5) 2 (same_record 4 2 2) next_tree
+fifth_mark : Handles small_setup moved_tree 4 (at 5 5) (same_record 4 2 2) next_tree
 unfolding moved_tree next_tree
-fifth_mark = EndsSame-computed moved_tree 4 2 (at 5 5) refl refl refl
+fifth_mark = Handles-same moved_tree 4 2 (at 5 5) refl refl refl
 
-sixth_mark : EndsSame small_setup next_tree 5 (at 7 5) 3 (same_record 5 3 3) late_tree
+sixth_mark : Handles small_setup next_tree 5 (at 7 5) (same_record 5 3 3) late_tree
 unfolding next_tree
-sixth_mark = EndsSame-computed next_tree 5 3 (at 7 5) refl refl refl
+sixth_mark = Handles-same next_tree 5 3 (at 7 5) refl refl refl
 
 -- ---- the run
 

@@ -3,7 +3,8 @@
 use Rattle.std.specs.Prelude.{◌≡◌, None, List, [], ◌∷◌}
 use Rattle.plan_model.specs.declared.geometry.Point.{Point}
 use Rattle.plan_model.specs.declared.records.Record.{Record}
-use Rattle.plan_model.specs.Runs.Textbook.{IsTextbookRun, Nodes, Setup, placed_record, same_record}
+use Rattle.plan_model.specs.Runs.Textbook.{IsTextbookRun, Nodes, Setup}
+use Rattle.plan_model.specs.Vectors.Records.{placed_record, same_record}
 use Rattle.plan_model.specs.Spaces.EmptyRooms.{empty_room}
 use Rattle.plan_model.specs.Trees.NodeLists.{sum_of}
 use Rattle.plan_model.specs.Trees.TreeStates.{TreeState, state_of}

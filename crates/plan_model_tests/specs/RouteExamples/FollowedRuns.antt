@@ -2,7 +2,8 @@
 use Rattle.std.specs.Prelude.{ℕ, All, Option, Some, None, List, [], ◌∷◌}
 use Rattle.plan_model.specs.declared.geometry.Goal.{Goal}
 use Rattle.plan_model.specs.declared.geometry.Point.{Point}
-use Rattle.plan_model.specs.Runs.Textbook.{IsTextbookRun, Nodes, blocked_record, placed_record, skipped_record}
+use Rattle.plan_model.specs.Runs.Textbook.{IsTextbookRun, Nodes}
+use Rattle.plan_model.specs.Vectors.Records.{blocked_record, placed_record, skipped_record}
 use Rattle.plan_model.specs.Trees.NodeLists.{points_of}
 use Rattle.plan_model.specs.Vectors.Reports.{box}
 use Rattle.plan_model.specs.Vectors.Runs.{marks_to_rewire, node, open_setup, open_setup_to, rewired_tree}

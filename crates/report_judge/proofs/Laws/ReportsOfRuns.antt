@@ -1,18 +1,18 @@
 -- The full report of a settled run that is closed over all marks is a sheet that keeps every law.
-use Rattle.report_judge.proofs.Words.{◌≡◌, ℕ, zero, suc, ◌-◌, ◌<◌, ◌≤◌, ◌^◌, Bool, true, false, cond, eqb, List, [], length, map, get_or, Option, Some, None}
-use Rattle.report_judge.proofs.Words.{arith, refl, sym, ap, ◌∙◌, subst, inl, inr, ◌&&◌, All, count_by, is_some, option_map, unwrap_or, reverse, slice_get}
-use Rattle.report_judge.proofs.Words.{slice_index_or, range_with_len, cases_lt, and_parts, eqb-true, length-map, length-reverse, get_or_past, get_or-reverse}
-use Rattle.report_judge.proofs.Words.{All-map, get_or-map-range_with_len, length-map-range_with_len, length-range_with_len, count_by-le-length}
-use Rattle.report_judge.proofs.Words.{slice_get-get_or, slice_get_past, slice_get_within, get_or_from_slice_get, Goal, Point, Outcome, Placed, Same, Blocked}
-use Rattle.report_judge.proofs.Words.{Skipped, Record, Task, Knot, Twig, IsBounded, full_report, path_to, IsClosed, has_outcome, mark_at, is_placed, is_same}
-use Rattle.report_judge.proofs.Words.{is_blocked, is_skipped, is_zero_unless_placed, HasLawfulOutcome, Setup, setup_of, unplaced_record, best_node, goals_of}
-use Rattle.report_judge.proofs.Words.{is_goal_point, chain_within, without_costs, IsPresent, node_count, point_at, point_of, TreeState, AreSameRuns, IsSettled}
-use Rattle.report_judge.proofs.Words.{chain_in, IsPresent-goal, best_node-some, numbers-closed, length-marks, IsPresent-stands, StandsAt-present}
+use Rattle.report_judge.proofs.Words.{◌≡◌, ℕ, zero, suc, ◌-◌, ◌<◌, ◌≤◌, ◌^◌, Bool, true, false, cond, List, [], length, map, get_or, Option, Some, None}
+use Rattle.report_judge.proofs.Words.{arith, refl, sym, ap, ◌∙◌, subst, inl, inr, All, count_by, is_some, option_map, unwrap_or, reverse, slice_get}
+use Rattle.report_judge.proofs.Words.{slice_index_or, range_with_len, cases_lt, length-map, length-reverse, get_or_past, get_or-reverse, All-map}
+use Rattle.report_judge.proofs.Words.{get_or-map-range_with_len, length-map-range_with_len, length-range_with_len, count_by-le-length, slice_get-get_or}
+use Rattle.report_judge.proofs.Words.{slice_get_past, slice_get_within, get_or_from_slice_get, Goal, Point, Blocked, Record, Ending, Steered, Reached, NewNode}
+use Rattle.report_judge.proofs.Words.{SameNode, NoWay, SkippedBy, ending_of, Task, Knot, Twig, IsBounded, full_report, path_to, IsClosed, has_outcome, mark_at}
+use Rattle.report_judge.proofs.Words.{is_placed, is_same, is_blocked, is_skipped, HasLawfulEnding, ReachesLawfully, Setup, setup_of, unplaced_record, best_node}
+use Rattle.report_judge.proofs.Words.{goals_of, is_goal_point, chain_within, without_costs, IsPresent, node_count, point_at, point_of, TreeState, AreSameRuns}
+use Rattle.report_judge.proofs.Words.{IsSettled, chain_in, IsPresent-goal, best_node-some, numbers-closed, length-marks, IsPresent-stands, StandsAt-present}
 use Rattle.report_judge.proofs.Words.{point_of-stands, node_count-length, sum_in-parent, start-present, parent-present, report_text-same, IsClosed-same_run}
 use Rattle.report_judge.proofs.Words.{IsSettled-same, times-once, turn-below, IsKnot, kept_cost_of, state_of_lists, FitsRecord-closed, IsBounded-closed}
 use Rattle.report_judge.proofs.Words.{kept-low, present-closed, point_at-lists, parent_of-lists, FitsKnot, FitsEntry, FitsTally, FitsSkipped, EndsWithin}
-use Rattle.report_judge.proofs.Words.{extent_of, Sheet, FitsOptionalPath, HasForm, HasOwnTurn, KeepsNodeLaw, KeepsLaw, best_priced_path, path_by, skipped_of}
-use Rattle.report_judge.proofs.Words.{tally_of, IsReportOfRun, IsLawful}
+use Rattle.report_judge.proofs.Words.{ReachesWithin, extent_of, Sheet, FitsOptionalPath, HasForm, HasOwnTurn, KeepsNodeLaw, KeepsLaw, best_priced_path, path_by}
+use Rattle.report_judge.proofs.Words.{skipped_of, tally_of, IsReportOfRun, IsLawful}
 use Rattle.report_judge.proofs.Laws.LawfulSheets.{length-without_costs}
 use Rattle.report_judge.proofs.Texts.SheetTexts.{lines_text-sheet}
 
@@ -22,13 +22,6 @@ use Rattle.report_judge.proofs.Texts.SheetTexts.{lines_text-sheet}
 some_unwrapped : (o : Option Record) (other : Record) → is_some o ≡ true → Some (unwrap_or o other) ≡ o
 some_unwrapped None other h = cc
 some_unwrapped (Some entry) other h = refl
-
--- the first parent of a mark that was not placed is 0
-first_parent_zero : (o : Outcome) (parent cost class : ℕ) → (o ≡ Placed → ⊥) → is_zero_unless_placed o parent cost class ≡ true → parent ≡ 0
-first_parent_zero Placed parent cost class apart h = absurd (apart refl)
-first_parent_zero (Same j) parent cost class apart h = eqb-true parent 0 (and_parts (eqb parent 0) (eqb cost 0 && eqb class 0) h).0
-first_parent_zero Blocked parent cost class apart h = eqb-true parent 0 (and_parts (eqb parent 0) (eqb cost 0 && eqb class 0) h).0
-first_parent_zero Skipped parent cost class apart h = eqb-true parent 0 (and_parts (eqb parent 0) (eqb cost 0 && eqb class 0) h).0
 
 -- a point lies in a goal by which marks are skipped only if the scene is informed
 informed_by_goal : (informed : Bool) (goals : List Goal) (o : Option Point) → is_goal_point (cond informed goals []) o ≡ true → informed ≡ true
@@ -163,32 +156,20 @@ module _
   record_fits : (k : ℕ) (entry : Record) → slice_get records k ≡ Some entry → FitsEntry (extent_of task) entry
   record_fits k entry is = record {
     words = FitsRecord-closed task limit run again k entry is;
-    nearest = nearest entry.outcome (again.lawful k entry is);
-    first = first entry.outcome refl (again.lawful k entry is);
-    ended = ended entry.outcome (again.lawful k entry is);
+    ended = ended (ending_of entry) (again.lawful k entry is);
   }
     where
-      nearest : (o : Outcome) → HasLawfulOutcome setup run k (mark_at task.marks k) entry o → entry.nearest ≤ limit
-      nearest Placed h = present-closed task limit run again entry.nearest h.present
-      nearest (Same j) h = present-closed task limit run again entry.nearest h.present
-      nearest Blocked h = present-closed task limit run again entry.nearest h.present
-      nearest Skipped h = present-closed task limit run again entry.nearest (IsPresent-goal setup.goals (point_at run.points entry.nearest) h.goal)
+      reached : (m : ℕ) (to : Reached) (p : Point) → ReachesLawfully setup run k entry m to p → ReachesWithin limit to
+      reached m (NewNode first) p h = present-closed task limit run again first.parent h.by_tree.hangs.present
+      reached m (SameNode j) p h = present-closed task limit run again j (IsPresent-stands run.points j p h)
+      reached m NoWay p h = tt
 
-      zeros : (entry.outcome ≡ Placed → ⊥) → entry.first_parent ≤ limit
-      zeros apart =
-          omega (arith, first_parent_zero entry.outcome entry.first_parent entry.first_cost entry.class apart entry.unplaced)
-
-      first : (o : Outcome) → entry.outcome ≡ o → HasLawfulOutcome setup run k (mark_at task.marks k) entry o → entry.first_parent ≤ limit
-      first Placed e h = present-closed task limit run again entry.first_parent h.outcome.by_tree.first.present
-      first (Same j) e h = zeros (λ placed. let gone = sym placed ∙ e in cc)
-      first Blocked e h = zeros (λ placed. let gone = sym placed ∙ e in cc)
-      first Skipped e h = zeros (λ placed. let gone = sym placed ∙ e in cc)
-
-      ended : (o : Outcome) → HasLawfulOutcome setup run k (mark_at task.marks k) entry o → EndsWithin (extent_of task) o
-      ended Placed h = tt
-      ended (Same j) h = present-closed task limit run again j (IsPresent-stands run.points j _ h.outcome)
-      ended Blocked h = tt
-      ended Skipped h = informed_by_goal task.scene.informed task.scene.goals (point_at run.points entry.nearest) h.goal
+      ended : (ending : Ending) → HasLawfulEnding setup run k (mark_at task.marks k) entry ending → EndsWithin (extent_of task) ending
+      ended (Steered m to) h = (present-closed task limit run again m h.present, reached m to _ h.outcome)
+      ended (SkippedBy g) h = (
+        present-closed task limit run again g (IsPresent-goal setup.goals (point_at run.points g) h.goal),
+        informed_by_goal task.scene.informed task.scene.goals (point_at run.points g) h.goal,
+      )
 
   count-within : (test : ℕ → Bool) → count_by test (range_with_len 0 limit) < 2 ^ 64
   count-within test = omega (arith, count_by-le-length test (range_with_len 0 limit), length-range_with_len 0 limit, length-marks task)

@@ -1,10 +1,11 @@
 -- What a line says is known by its words, and these by its bytes.
-use Rattle.report_judge.proofs.Words.{◌≡◌, ℕ, ◌+◌, ◌%◌, ◌/◌, ◌<◌, ◌≤◌, ◌^◌, Bool, true, false, not, ◌&&◌, eqb, List, [], ◌∷◌, ◌++◌, length, get_or, arith, refl}
-use Rattle.report_judge.proofs.Words.{sym, ap, ◌∙◌, subst, append_assoc, decimal, IsTrue, Option, Some, None, codes, list_all, join_with_byte, and_parts}
-use Rattle.report_judge.proofs.Words.{eqb-true, true≢false, nat_tests, decimal_by_steps, decimal_injective, append_cancel_left, list_all-append, Outcome}
-use Rattle.report_judge.proofs.Words.{Placed, Same, Blocked, Skipped, Record, line, outcome_words, is_zero_unless_placed, HaveSameFields, lines_of, pieces_of}
-use Rattle.report_judge.proofs.Words.{is_digit, Record-from_fields, last_field, ReportLine, Extent, line_words, line_text, skipped_count, FitsLine, FitsSkipped}
-use Rattle.report_judge.proofs.Words.{NoPath, PathOf, PathPoint, Counts, NodeLine, MarkLine}
+use Rattle.report_judge.proofs.Words.{Bool, List, [], ap, append_assoc, arith, decimal, eqb, false, get_or, length, not, refl, sym, true, ℕ, ◌%◌, ◌&&◌, ◌++◌}
+use Rattle.report_judge.proofs.Words.{◌+◌, ◌/◌, ◌<◌, ◌^◌, ◌∙◌, ◌∷◌, ◌≡◌, ◌≤◌, None, Option, Some, codes, join_with_byte, list_all, and_parts, true≢false}
+use Rattle.report_judge.proofs.Words.{nat_tests, decimal_by_steps, decimal_injective, append_cancel_left, list_all-append, Blocked, Ending, NewNode, NoWay}
+use Rattle.report_judge.proofs.Words.{Outcome, Placed, Reached, Record, Same, SameNode, Skipped, SkippedBy, Steered, ending_as, ending_of, ending_words, line}
+use Rattle.report_judge.proofs.Words.{lines_of, reached_words, record_of_ending, record_of_ending-again, FitsRecord, is_digit, last_field, pieces_of, Extent}
+use Rattle.report_judge.proofs.Words.{FitsLine, FitsSkipped, ReportLine, line_text, line_words, skipped_count, Counts, MarkLine, NoPath, NodeLine, PathOf}
+use Rattle.report_judge.proofs.Words.{PathPoint}
 
 -- ---- bytes of words
 
@@ -134,20 +135,34 @@ same_words words others x y some also uncut too h =
 
 -- ---- the words of lines
 
-uncut-outcome : (entry : Record) (o : Outcome) → entry.nearest < 2 ^ 18 → last_field o entry.class < 2 ^ 18 → entry.first_parent < 2 ^ 18
-    → entry.first_cost < 2 ^ 44
-    → AreUncut (outcome_words entry o)
-uncut-outcome entry Placed nearest last parent cost =
-    rw (
-      uncut-decimal entry.nearest (omega (arith, nearest)),
-      uncut-decimal entry.class (omega (arith, last)),
-      uncut-decimal entry.first_parent (omega (arith, parent)),
-      uncut-decimal entry.first_cost (omega (arith, cost)),
-    ) refl
-uncut-outcome entry (Same j) nearest last parent cost =
-    rw (uncut-decimal entry.nearest (omega (arith, nearest)), uncut-decimal j (omega (arith, last))) refl
-uncut-outcome entry Blocked nearest last parent cost = rw (uncut-decimal entry.nearest (omega (arith, nearest))) refl
-uncut-outcome entry Skipped nearest last parent cost = rw (uncut-decimal entry.nearest (omega (arith, nearest))) refl
+-- the numbers of an ending fit 64 bits
+abbrev FitsReached : Reached → Type 0
+FitsReached (NewNode first) = (first.parent < 2 ^ 64) × (first.cost < 2 ^ 64) × (first.class < 2 ^ 64)
+FitsReached (SameNode j) = j < 2 ^ 64
+FitsReached NoWay = Unit {0}
+
+abbrev FitsEnding : Ending → Type 0
+FitsEnding (Steered m reached) = (m < 2 ^ 64) × FitsReached reached
+FitsEnding (SkippedBy g) = g < 2 ^ 64
+
+-- those of a record that fits its words
+FitsEnding-record : (entry : Record) → FitsRecord entry → FitsEnding (ending_of entry)
+FitsEnding-record entry h = by_outcome entry.outcome h.word.last
+  where
+    by_outcome : (o : Outcome) → last_field o entry.class < 2 ^ 18 → FitsEnding (ending_as entry o)
+    by_outcome Placed last = (omega (arith, h.word.nearest), (omega (arith, h.parent), omega (arith, h.cost), omega (arith, last)))
+    by_outcome (Same j) last = (omega (arith, h.word.nearest), omega (arith, last))
+    by_outcome Blocked last = (omega (arith, h.word.nearest), tt)
+    by_outcome Skipped last = omega (arith, h.word.nearest)
+
+uncut-reached : (reached : Reached) → FitsReached reached → AreUncut (reached_words reached)
+uncut-reached (NewNode first) fits = rw (uncut-decimal first.class fits.2, uncut-decimal first.parent fits.0, uncut-decimal first.cost fits.1) refl
+uncut-reached (SameNode j) fits = rw (uncut-decimal j fits) refl
+uncut-reached NoWay fits = refl
+
+uncut-ending : (ending : Ending) → FitsEnding ending → AreUncut (ending_words ending)
+uncut-ending (Steered m reached) fits = rw (uncut-decimal m fits.0, uncut-reached reached fits.1) refl
+uncut-ending (SkippedBy g) fits = rw (uncut-decimal g fits) refl
 
 uncut-skipped : (informed : Bool) (count : Option ℕ) → FitsSkipped informed count → AreUncut (skipped_count count)
 uncut-skipped false None fits = refl
@@ -178,12 +193,12 @@ uncut-line extent few (NodeLine n knot) fits =
     ) refl
 uncut-line extent few (MarkLine k entry) fits =
     let own = fits.1 in
-    let outcome = uncut-outcome entry entry.outcome own.words.word.nearest own.words.word.last own.words.parent own.words.cost in
+    let ending = uncut-ending (ending_of entry) (FitsEnding-record entry own.words) in
     rw (
       uncut-decimal k (omega (arith, few, fits.0)),
       uncut-decimal entry.worker (omega (arith, own.words.word.worker)),
       uncut-decimal entry.turn (omega (arith, own.words.word.turn)),
-      outcome,
+      ending,
     ) refl
 
 pub some_words : (said : ReportLine) → 0 < length (line_words said)
@@ -200,93 +215,39 @@ some_words (MarkLine k entry) = omega arith
 same_number : (m n : ℕ) → m < 2 ^ 64 → n < 2 ^ 64 → decimal m ≡ decimal n → m ≡ n
 same_number m n one other h = decimal_injective m n one other h
 
--- records of marks that were not placed have three zeros
-record AreZeros (entry : Record) : Type 0 where
-  parent : entry.first_parent ≡ 0
-  cost : entry.first_cost ≡ 0
-  class : entry.class ≡ 0
-
-zeros_by : (entry : Record) → (eqb entry.first_parent 0 && (eqb entry.first_cost 0 && eqb entry.class 0)) ≡ true → AreZeros entry
-zeros_by entry h =
-    let parts = and_parts (eqb entry.first_parent 0) (eqb entry.first_cost 0 && eqb entry.class 0) h in
-    let rest = and_parts (eqb entry.first_cost 0) (eqb entry.class 0) parts.1 in
-    record { parent = eqb-true entry.first_parent 0 parts.0; cost = eqb-true entry.first_cost 0 rest.0; class = eqb-true entry.class 0 rest.1 }
-
-zeros-same : (entry : Record) (j : ℕ) → entry.outcome ≡ Same j → AreZeros entry
-zeros-same entry j e = zeros_by entry (subst (λ o. IsTrue (is_zero_unless_placed o entry.first_parent entry.first_cost entry.class)) e entry.unplaced)
-
-zeros-skipped : (entry : Record) → entry.outcome ≡ Skipped → AreZeros entry
-zeros-skipped entry e = zeros_by entry (subst (λ o. IsTrue (is_zero_unless_placed o entry.first_parent entry.first_cost entry.class)) e entry.unplaced)
-
-zeros-blocked : (entry : Record) → entry.outcome ≡ Blocked → AreZeros entry
-zeros-blocked entry e = zeros_by entry (subst (λ o. IsTrue (is_zero_unless_placed o entry.first_parent entry.first_cost entry.class)) e entry.unplaced)
-
 -- words that are the same begin with the same byte
 first_byte : (words others : List (List ℕ)) → words ≡ others → get_or (get_or words 0 []) 0 0 ≡ get_or (get_or others 0 []) 0 0
 first_byte words others h = ap (λ (ws : List (List ℕ)). get_or (get_or ws 0 []) 0 0) h
 
-module _
-    (entry other : Record) (worker : entry.worker ≡ other.worker) (turn : entry.turn ≡ other.turn)
-    (near : entry.nearest < 2 ^ 18) (near_too : other.nearest < 2 ^ 18) (low : (entry.first_parent < 2 ^ 18) × (entry.first_cost < 2 ^ 44))
-    (low_too : (other.first_parent < 2 ^ 18) × (other.first_cost < 2 ^ 44)) where
-  same_unplaced : decimal entry.nearest ≡ decimal other.nearest → entry.outcome ≡ other.outcome → AreZeros entry → AreZeros other
-      → HaveSameFields entry other
-  same_unplaced nearest outcome one two = record {
-    worker = worker;
-    turn = turn;
-    nearest = same_number entry.nearest other.nearest (omega (arith, near)) (omega (arith, near_too)) nearest;
-    outcome = outcome;
-    first_parent = one.parent ∙ sym two.parent;
-    first_cost = one.cost ∙ sym two.cost;
-    class = one.class ∙ sym two.class;
-  }
+-- endings with the same words are the same
+same_reached : (one other : Reached) → FitsReached one → FitsReached other → reached_words one ≡ reached_words other → one ≡ other
+same_reached (NewNode first) (NewNode new) fits also h =
+    let a : decimal first.class ≡ decimal new.class = cc in
+    let b : decimal first.parent ≡ decimal new.parent = cc in
+    let c : decimal first.cost ≡ decimal new.cost = cc in
+    let class = same_number first.class new.class fits.2 also.2 a in
+    let parent = same_number first.parent new.parent fits.0 also.0 b in
+    let cost = same_number first.cost new.cost fits.1 also.1 c in
+    λ i. NewNode (record { parent = parent i; cost = cost i; class = class i })
+same_reached (SameNode j) (SameNode i) fits also h = (let a : decimal j ≡ decimal i = cc in ap SameNode (same_number j i fits also a))
+same_reached NoWay NoWay fits also h = refl
+same_reached (NewNode first) (SameNode i) fits also h = absurd (cc)
+same_reached (NewNode first) NoWay fits also h = absurd (cc)
+same_reached (SameNode j) (NewNode new) fits also h = absurd (cc)
+same_reached (SameNode j) NoWay fits also h = absurd (cc)
+same_reached NoWay (NewNode new) fits also h = absurd (cc)
+same_reached NoWay (SameNode i) fits also h = absurd (cc)
 
-  -- records of one worker and turn whose other words are the same
-  same_outcomes : (o p : Outcome) → entry.outcome ≡ o → other.outcome ≡ p → last_field o entry.class < 2 ^ 18 → last_field p other.class < 2 ^ 18
-      → outcome_words entry o ≡ outcome_words other p → HaveSameFields entry other
-  same_outcomes Placed Placed e f last last_too h =
-      let nearest : decimal entry.nearest ≡ decimal other.nearest = cc in
-      let class : decimal entry.class ≡ decimal other.class = cc in
-      let parent : decimal entry.first_parent ≡ decimal other.first_parent = cc in
-      let cost : decimal entry.first_cost ≡ decimal other.first_cost = cc in
-      record {
-        worker = worker;
-        turn = turn;
-        nearest = same_number entry.nearest other.nearest (omega (arith, near)) (omega (arith, near_too)) nearest;
-        outcome = e ∙ sym f;
-        first_parent = same_number entry.first_parent other.first_parent (omega (arith, low.0)) (omega (arith, low_too.0)) parent;
-        first_cost = same_number entry.first_cost other.first_cost (omega (arith, low.1)) (omega (arith, low_too.1)) cost;
-        class = same_number entry.class other.class (omega (arith, last)) (omega (arith, last_too)) class;
-      }
-  same_outcomes (Same j) (Same i) e f last last_too h =
-      let nearest : decimal entry.nearest ≡ decimal other.nearest = cc in
-      let ended : decimal j ≡ decimal i = cc in
-      let node = same_number j i (omega (arith, last)) (omega (arith, last_too)) ended in
-      same_unplaced nearest (e ∙ ap Same node ∙ sym f) (zeros-same entry j e) (zeros-same other i f)
-  same_outcomes Blocked Blocked e f last last_too h =
-      let nearest : decimal entry.nearest ≡ decimal other.nearest = cc in
-      same_unplaced nearest (e ∙ sym f) (zeros-blocked entry e) (zeros-blocked other f)
-  same_outcomes Skipped Skipped e f last last_too h =
-      let nearest : decimal entry.nearest ≡ decimal other.nearest = cc in
-      same_unplaced nearest (e ∙ sym f) (zeros-skipped entry e) (zeros-skipped other f)
-  same_outcomes Placed (Same i) e f last last_too h = absurd (cc)
-  same_outcomes Placed Blocked e f last last_too h = absurd (cc)
-  same_outcomes (Same j) Placed e f last last_too h = absurd (cc)
-  same_outcomes (Same j) Blocked e f last last_too h = absurd (cc)
-  same_outcomes Blocked Placed e f last last_too h = absurd (cc)
-  same_outcomes Blocked (Same i) e f last last_too h = absurd (cc)
-  same_outcomes Placed Skipped e f last last_too h =
-      absurd (omega (arith, first_byte (outcome_words entry Placed) (outcome_words other Skipped) h))
-  same_outcomes (Same j) Skipped e f last last_too h =
-      absurd (omega (arith, first_byte (outcome_words entry (Same j)) (outcome_words other Skipped) h))
-  same_outcomes Blocked Skipped e f last last_too h =
-      absurd (omega (arith, first_byte (outcome_words entry Blocked) (outcome_words other Skipped) h))
-  same_outcomes Skipped Placed e f last last_too h =
-      absurd (omega (arith, first_byte (outcome_words entry Skipped) (outcome_words other Placed) h))
-  same_outcomes Skipped (Same i) e f last last_too h =
-      absurd (omega (arith, first_byte (outcome_words entry Skipped) (outcome_words other (Same i)) h))
-  same_outcomes Skipped Blocked e f last last_too h =
-      absurd (omega (arith, first_byte (outcome_words entry Skipped) (outcome_words other Blocked) h))
+same_endings : (one other : Ending) → FitsEnding one → FitsEnding other → ending_words one ≡ ending_words other → one ≡ other
+same_endings (Steered m one) (Steered n other) fits also h =
+    let a : decimal m ≡ decimal n = cc in
+    let b : reached_words one ≡ reached_words other = cc in
+    let nearest = same_number m n fits.0 also.0 a in
+    let reached = same_reached one other fits.1 also.1 b in
+    λ i. Steered (nearest i) (reached i)
+same_endings (SkippedBy g) (SkippedBy k) fits also h = (let a : decimal g ≡ decimal k = cc in ap SkippedBy (same_number g k fits also a))
+same_endings (Steered m one) (SkippedBy g) fits also h = absurd (omega (arith, first_byte (ending_words (Steered m one)) (ending_words (SkippedBy g)) h))
+same_endings (SkippedBy g) (Steered n other) fits also h = absurd (omega (arith, first_byte (ending_words (SkippedBy g)) (ending_words (Steered n other)) h))
 
 -- counts of skipped marks with the same words are the same
 same_skipped : (informed : Bool) (one other : Option ℕ) → FitsSkipped informed one → FitsSkipped informed other
@@ -345,14 +306,13 @@ same_said extent few (MarkLine k entry) (MarkLine j other) fits also h =
     let a : decimal k ≡ decimal j = cc in
     let b : decimal entry.worker ≡ decimal other.worker = cc in
     let c : decimal entry.turn ≡ decimal other.turn = cc in
-    let d : outcome_words entry entry.outcome ≡ outcome_words other other.outcome = cc in
+    let d : ending_words (ending_of entry) ≡ ending_words (ending_of other) = cc in
     let number = same_number k j (omega (arith, few, fits.0)) (omega (arith, few, also.0)) a in
     let worker = same_number entry.worker other.worker (omega (arith, own.words.word.worker)) (omega (arith, too.words.word.worker)) b in
     let turn = same_number entry.turn other.turn (omega (arith, own.words.word.turn)) (omega (arith, too.words.word.turn)) c in
-    let fields =
-    same_outcomes entry other worker turn own.words.word.nearest too.words.word.nearest (own.words.parent, own.words.cost) (too.words.parent, too.words.cost)
-    entry.outcome other.outcome refl refl own.words.word.last too.words.word.last d in
-    let same = Record-from_fields entry other fields in
+    let ending = same_endings (ending_of entry) (ending_of other) (FitsEnding-record entry own.words) (FitsEnding-record other too.words) d in
+    let same : entry ≡ other =
+    sym (record_of_ending-again entry) ∙ (λ i. record_of_ending (worker i) (turn i) (ending i)) ∙ record_of_ending-again other in
     λ i. MarkLine (number i) (same i)
 same_said extent few NoPath (PathOf others price) fits also h = absurd (cc)
 same_said extent few NoPath (PathPoint q) fits also h =

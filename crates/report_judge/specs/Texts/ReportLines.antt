@@ -1,13 +1,12 @@
 -- The lines of a full report: what each says, its text, and the ranges of its numbers.
 use Rattle.std.specs.Prelude.{ℕ, ◌<◌, ◌≤◌, ◌^◌, Bool, true, false, IsTrue, Option, Some, None, List, [], ◌∷◌, ◌++◌, length, codes, decimal, flat_map}
 use Rattle.plan_model.specs.declared.geometry.Point.{Point}
-use Rattle.plan_model.specs.declared.records.Outcome.{Outcome}
-use Rattle.plan_model.specs.declared.records.Outcome.TheVariants.{Placed, Same, Blocked, Skipped}
 use Rattle.plan_model.specs.declared.records.Record.{Record}
 use Rattle.plan_model.specs.declared.tasks.Task.{Task}
 use Rattle.plan_model.specs.declared.trees.Knot.{Knot}
 use Rattle.plan_model.specs.Geometry.Bounds.{IsBounded}
-use Rattle.plan_model.specs.Reports.ReportText.{line, outcome_words}
+use Rattle.plan_model.specs.Reports.ReportText.{line, ending_words}
+use Rattle.plan_model.specs.Runs.Endings.{Reached, NewNode, SameNode, NoWay, Ending, Steered, SkippedBy, ending_of}
 use Rattle.grown_runs.specs.Runs.PackedRuns.{FitsRecord}
 pub use Rattle.report_judge.specs.declared.tallies.Tally.{Tally}
 
@@ -53,7 +52,7 @@ line_words (NodeLine n knot) =
     ∷ codes "parent" ∷ decimal knot.parent ∷ codes "cost" ∷ decimal knot.cost ∷ []
 line_words (MarkLine k entry) =
     (codes "mark" ∷ decimal k ∷ codes "worker" ∷ decimal entry.worker ∷ codes "turn" ∷ decimal entry.turn ∷ [])
-    ++ outcome_words entry entry.outcome
+    ++ ending_words (ending_of entry)
 
 -- how a line is spelled: its words with a space between each two, and a line feed
 abbrev pub line_text : ReportLine → List ℕ
@@ -96,19 +95,21 @@ pub record FitsKnot (marks n : ℕ) (knot : Knot) : Type 0 where
   pub parent : knot.parent ≤ marks
   pub cost : knot.cost < 2 ^ 44
 
--- the node at which a mark ended has a number up to that of the last mark, and a mark is skipped only if it may be
-abbrev pub EndsWithin : Extent → Outcome → Type 0
-EndsWithin extent Placed = Unit {0}
-EndsWithin extent (Same j) = j ≤ extent.marks
-EndsWithin extent Blocked = Unit {0}
-EndsWithin extent Skipped = IsTrue extent.informed
+-- the node that was reached, or the first parent of a new one, is among so many
+abbrev pub ReachesWithin : ℕ → Reached → Type 0
+ReachesWithin most (NewNode first) = first.parent ≤ most
+ReachesWithin most (SameNode j) = j ≤ most
+ReachesWithin most NoWay = Unit {0}
+
+-- the nodes at which a mark ended have numbers up to that of the last mark, and a mark is skipped only if it may be
+abbrev pub EndsWithin : Extent → Ending → Type 0
+EndsWithin extent (Steered nearest reached) = (nearest ≤ extent.marks) × ReachesWithin extent.marks reached
+EndsWithin extent (SkippedBy goal_node) = (goal_node ≤ extent.marks) × IsTrue extent.informed
 
 -- a record of a run over so many marks: its fields fit a record's word, and the nodes that it names have numbers up to the last mark's
 pub record FitsEntry (extent : Extent) (entry : Record) : Type 0 where
   pub words : FitsRecord entry
-  pub nearest : entry.nearest ≤ extent.marks
-  pub first : entry.first_parent ≤ extent.marks
-  pub ended : EndsWithin extent entry.outcome
+  pub ended : EndsWithin extent (ending_of entry)
 
 -- the numbers of a line of a report are in their ranges
 abbrev pub FitsLine : Extent → ReportLine → Type 0

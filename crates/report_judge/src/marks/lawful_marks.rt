@@ -1,16 +1,18 @@
 //! Whether the record of a mark keeps the law of records.
 
-ghost use Rattle.std.specs.Prelude.{◌≡◌, ◌↔◌, ◌<◌, ◌≤◌, IsFalse, IsTrue};
+ghost use Rattle.std.specs.Prelude.{◌≡◌, ◌≢◌, ◌↔◌, ◌<◌, ◌≤◌, IsFalse, IsTrue};
 ghost use Rattle.plan_model.specs.Geometry.Bounds.{IsBounded};
 ghost use Rattle.plan_model.specs.Geometry.Radius.{radius_of_class};
 ghost use Rattle.plan_model.specs.Runs.RecordLaw.{HasClass, earlier_count, IsBlockedLawfully, IsChosenLawfully};
-ghost use Rattle.plan_model.specs.Runs.RecordLaw.{IsLawfulRecord, IsSkippedLawfully, IsSteeredLawfully};
+ghost use Rattle.plan_model.specs.Runs.RecordLaw.{IsLawfulRecord, IsSkippedLawfully};
+ghost use Rattle.plan_model.specs.Runs.Endings.{first_hanging};
+ghost use Rattle.plan_model.specs.declared.records.Outcome.TheVariants.{Skipped};
 ghost use Rattle.plan_model.specs.Runs.Textbook.{Setup, mark_bound, setup_of, skipping_goals};
 ghost use Rattle.plan_model.specs.Spaces.Clearance.{Clear};
 ghost use Rattle.plan_model.specs.Trees.PointsByNumber.{IsPresent, node_count, point_of};
 ghost use Rattle.plan_model.specs.declared.limits.TheConstants.{MOST_MARKS};
 ghost use Rattle.report_judge.specs.Workers.JudgedRuns.{IsAsked, IsJudged, run_of, setup_by};
-ghost use Rattle.report_judge.specs.Workers.MarkLaws.{AreDearer, EndsLawfully};
+ghost use Rattle.report_judge.specs.Workers.MarkLaws.{AreDearer, IsReachedLawfully};
 ghost use Rattle.report_judge.specs.Workers.OwnNodes.{IsNearestOfEarlier};
 ghost use Rattle.report_judge.specs.Workers.SeenNodes.{AreSeen};
 ghost use Rattle.report_judge.specs.declared.marks.judged.Judged.{Judged};
@@ -51,8 +53,8 @@ pub(crate) fn is_lawful<C: Clearing>(
 /// Whether a mark was skipped by a goal node that costs no more than the bound of the mark.
 fn is_skipped_lawfully(scene: &Scene, judged: &Judged<'_>, entry: Record, point: Point) -> bool
     requires point { IsBounded point }
-    ensures lawful { IsTrue result → IsSkippedLawfully (setup_of scene.now) (run_of judged.now) point entry }
-    ensures only { IsFalse result → ¬ IsSkippedLawfully (setup_of scene.now) (run_of judged.now) point entry }
+    ensures lawful { IsTrue result → IsSkippedLawfully (setup_of scene.now) (run_of judged.now) point entry.nearest }
+    ensures only { IsFalse result → ¬ IsSkippedLawfully (setup_of scene.now) (run_of judged.now) point entry.nearest }
 {
     if !scene.informed {
         return false;
@@ -74,10 +76,9 @@ fn is_steered_lawfully<C: Clearing>(
     requires asked { IsAsked (C.space hall.now) judged.now marked.entry marked.mark }
     requires low { marked.k < MOST_MARKS }
     requires seen { AreSeen (skipping_goals judged.now.task.now.scene) (run_of judged.now) marked.entry.worker marked.entry.turn seen }
-    ensures lawful { IsTrue result → IsSteeredLawfully (setup_by judged.now) (run_of judged.now) marked.mark marked.entry
-        (EndsLawfully (setup_by judged.now) (run_of judged.now) marked.k marked.entry marked.entry.outcome) }
-    ensures only { IsFalse result → ¬ IsSteeredLawfully (setup_by judged.now) (run_of judged.now) marked.mark marked.entry
-        (EndsLawfully (setup_by judged.now) (run_of judged.now) marked.k marked.entry marked.entry.outcome) }
+    ensures lawful { IsTrue result → IsLawfulRecord (setup_by judged.now) (run_of judged.now) marked.k marked.mark marked.entry }
+    ensures only { IsFalse result → marked.entry.outcome ≢ Skipped
+        → ¬ IsLawfulRecord (setup_by judged.now) (run_of judged.now) marked.k marked.mark marked.entry }
 {
     let Some(nearest) = knot_at(judged.knots, marked.entry.nearest) else {
         return false;
@@ -117,10 +118,10 @@ fn ends_lawfully<C: Clearing>(
     requires low { marked.k < MOST_MARKS }
     requires seen { AreSeen (skipping_goals judged.now.task.now.scene) (run_of judged.now) marked.entry.worker marked.entry.turn seen }
     requires nearest { IsPresent (run_of judged.now).points marked.entry.nearest }
-    ensures lawful { IsTrue result → EndsLawfully (setup_by judged.now) (run_of judged.now) marked.k marked.entry marked.entry.outcome p }
+    ensures lawful { IsTrue result → IsReachedLawfully (setup_by judged.now) (run_of judged.now) marked.k marked.entry p }
     ensures nearest { IsTrue result → IsNearestOfEarlier (run_of judged.now) marked.entry marked.mark }
     ensures only { IsFalse result → IsNearestOfEarlier (run_of judged.now) marked.entry marked.mark
-        → ¬ EndsLawfully (setup_by judged.now) (run_of judged.now) marked.k marked.entry marked.entry.outcome p }
+        → ¬ IsReachedLawfully (setup_by judged.now) (run_of judged.now) marked.k marked.entry p }
 {
     let entry = marked.entry;
     match entry.outcome {
@@ -144,8 +145,8 @@ fn is_blocked_lawfully<C: Clearing>(hall: &C, judged: &Judged<'_>, entry: Record
     requires turn { entry.turn ≤ judged.now.turns }
     requires p { IsBounded p }
     requires nearest { IsPresent (run_of judged.now).points entry.nearest }
-    ensures lawful { IsTrue result → (setup : Setup) → setup.space ≡ C.space hall.now → IsBlockedLawfully setup (run_of judged.now) entry p }
-    ensures only { IsFalse result → (setup : Setup) → setup.space ≡ C.space hall.now → ¬ IsBlockedLawfully setup (run_of judged.now) entry p }
+    ensures lawful { IsTrue result → (setup : Setup) → setup.space ≡ C.space hall.now → IsBlockedLawfully setup (run_of judged.now) entry entry.nearest p }
+    ensures only { IsFalse result → (setup : Setup) → setup.space ≡ C.space hall.now → ¬ IsBlockedLawfully setup (run_of judged.now) entry entry.nearest p }
 {
     if is_clear_from_nearest(hall, judged, entry, p) {
         return false;
@@ -186,10 +187,12 @@ fn is_chosen_lawfully<C: Clearing>(
     requires point { IsBounded marked.mark }
     requires seen { AreSeen (skipping_goals judged.now.task.now.scene) (run_of judged.now) marked.entry.worker marked.entry.turn seen }
     requires nearest { IsPresent (run_of judged.now).points marked.entry.nearest }
-    ensures lawful { IsTrue result → IsChosenLawfully (setup_by judged.now) (run_of judged.now) marked.entry p (node_count (run_of judged.now).points) }
+    ensures lawful { IsTrue result → IsChosenLawfully (setup_by judged.now) (run_of judged.now) marked.entry marked.entry.nearest
+        (first_hanging marked.entry) p (node_count (run_of judged.now).points) }
     ensures nearest { IsTrue result → IsNearestOfEarlier (run_of judged.now) marked.entry marked.mark }
     ensures only { IsFalse result → IsNearestOfEarlier (run_of judged.now) marked.entry marked.mark
-        → ¬ IsChosenLawfully (setup_by judged.now) (run_of judged.now) marked.entry p (node_count (run_of judged.now).points) }
+        → ¬ IsChosenLawfully (setup_by judged.now) (run_of judged.now) marked.entry marked.entry.nearest (first_hanging marked.entry) p
+        (node_count (run_of judged.now).points) }
 {
     if !has_class(judged, seen, marked.entry) {
         return false;
@@ -205,8 +208,8 @@ fn is_chosen_lawfully<C: Clearing>(
 fn has_class(judged: &Judged<'_>, seen: Seen, entry: Record) -> bool
     requires judged { IsJudged entry.worker judged.now }
     requires seen { seen.nodes ≡ earlier_count (run_of judged.now) entry }
-    ensures class { IsTrue result → HasClass (run_of judged.now) entry (node_count (run_of judged.now).points) }
-    ensures only { IsFalse result → ¬ HasClass (run_of judged.now) entry (node_count (run_of judged.now).points) }
+    ensures class { IsTrue result → HasClass (run_of judged.now) entry entry.class (node_count (run_of judged.now).points) }
+    ensures only { IsFalse result → ¬ HasClass (run_of judged.now) entry entry.class (node_count (run_of judged.now).points) }
     ensures range { IsTrue result → (1 ≤ entry.class) × (entry.class ≤ 19) }
 {
     class(u64::from(seen.nodes)) <= entry.class && entry.class <= class(u64::from(judged.nodes))

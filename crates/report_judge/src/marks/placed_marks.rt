@@ -2,6 +2,7 @@
 
 ghost use Rattle.std.specs.Prelude.{◌<◌, IsFalse, IsTrue, List};
 ghost use Rattle.plan_model.specs.Geometry.Bounds.{IsBounded};
+ghost use Rattle.plan_model.specs.Runs.Endings.{first_hanging};
 ghost use Rattle.plan_model.specs.Runs.RecordLaw.{HangsLawfully};
 ghost use Rattle.plan_model.specs.Trees.PointsByNumber.{IsPresent, StandsAt};
 ghost use Rattle.plan_model.specs.declared.limits.TheConstants.{MOST_MARKS};
@@ -30,8 +31,8 @@ pub(crate) fn hangs_lawfully<C: Clearing>(
     requires asked { IsAsked (C.space hall.now) judged.now marked.entry p }
     requires low { marked.k < MOST_MARKS }
     requires nearest { IsPresent (run_of judged.now).points marked.entry.nearest }
-    ensures lawful { IsTrue result → HangsLawfully (setup_by judged.now) (run_of judged.now) marked.k marked.entry p }
-    ensures only { IsFalse result → ¬ HangsLawfully (setup_by judged.now) (run_of judged.now) marked.k marked.entry p }
+    ensures lawful { IsTrue result → HangsLawfully (setup_by judged.now) (run_of judged.now) marked.k marked.entry.nearest (first_hanging marked.entry) p }
+    ensures only { IsFalse result → ¬ HangsLawfully (setup_by judged.now) (run_of judged.now) marked.k marked.entry.nearest (first_hanging marked.entry) p }
 {
     let scene = &judged.task.scene;
     let entry = marked.entry;

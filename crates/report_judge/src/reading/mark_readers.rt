@@ -1,7 +1,8 @@
 //! The line of a mark in a report, read with its line feed.
 
 ghost use Rattle.std.specs.Prelude.{◌≡◌, ◌++◌, ◌<◌, ◌≤◌, ◌^◌, ℕ, Bool, List, IfNone, IfSome, codes};
-ghost use Rattle.plan_model.specs.Reports.ReportText.{line, outcome_words};
+ghost use Rattle.plan_model.specs.Reports.ReportText.{line, ending_words};
+ghost use Rattle.plan_model.specs.Runs.Endings.{ending_of};
 ghost use Rattle.plan_model.specs.declared.limits.TheConstants.{MOST_MARKS};
 ghost use Rattle.plan_model.specs.declared.records.Record.{Record};
 ghost use Rattle.report_judge.specs.Texts.ReportLines.{FitsEntry, field, line_text};
@@ -43,9 +44,9 @@ fn read_outcome(
     requires few { marks ≤ MOST_MARKS }
     ensures fits { IfSome result (λ read. FitsEntry (record { marks = marks; informed = informed }) read.0) }
     ensures own { IfSome result (λ read. (read.0.worker ≡ worker) × (read.0.turn ≡ turn)) }
-    ensures some { IfSome result (λ read. text.now ≡ line (outcome_words read.0 read.0.outcome) ++ read.1.now) }
+    ensures some { IfSome result (λ read. text.now ≡ line (ending_words (ending_of read.0)) ++ read.1.now) }
     ensures none { IfNone result ((entry : Record) (rest : List ℕ) → FitsEntry (record { marks = marks; informed = informed }) entry
-        → ¬ (text.now ≡ line (outcome_words entry entry.outcome) ++ rest)) }
+        → ¬ (text.now ≡ line (ending_words (ending_of entry)) ++ rest)) }
 {
     if let Some((nearest, rest)) = read_nearest(text, marks) {
         return read_steered(rest, worker, turn, nearest, marks);
@@ -72,9 +73,9 @@ fn read_steered(
     requires few { marks ≤ MOST_MARKS }
     ensures fits { (informed : Bool) → IfSome result (λ read. FitsEntry (record { marks = marks; informed = informed }) read.0) }
     ensures own { IfSome result (λ read. (read.0.worker ≡ worker) × (read.0.turn ≡ turn)) }
-    ensures some { IfSome result (λ read. field (codes "nearest ") nearest 32 text.now ≡ line (outcome_words read.0 read.0.outcome) ++ read.1.now) }
+    ensures some { IfSome result (λ read. field (codes "nearest ") nearest 32 text.now ≡ line (ending_words (ending_of read.0)) ++ read.1.now) }
     ensures none { (informed : Bool) → IfNone result ((entry : Record) (rest : List ℕ) → FitsEntry (record { marks = marks; informed = informed }) entry
-        → ¬ (field (codes "nearest ") nearest 32 text.now ≡ line (outcome_words entry entry.outcome) ++ rest)) }
+        → ¬ (field (codes "nearest ") nearest 32 text.now ≡ line (ending_words (ending_of entry)) ++ rest)) }
 {
     if let Some((class, first_parent, first_cost, rest)) = read_placed(text, marks) {
         let entry = Record {

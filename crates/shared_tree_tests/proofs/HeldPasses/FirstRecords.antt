@@ -2,11 +2,11 @@
 use Rattle.shared_tree_tests.proofs.Words.{◌≡◌, ◌≢◌, ℕ, zero, suc, ◌+◌, ◌≤◌, ◌^◌, Bool, true, false, [], Option, Some, None, length, inl, inr, refl, sym, ap}
 use Rattle.shared_tree_tests.proofs.Words.{◌∙◌, subst, arith, ◌==◌, ◌&&◌, IfErr, IfOk, IfSome, IsTrue, Result, Ok, Err, nat_lt, and_parts, cases_Bool, cases_lt}
 use Rattle.shared_tree_tests.proofs.Words.{le-ltb, length-filter, Clear, mark_at, space_of, cost_of, is_goal_point, IsNotAbove, distance_to, is_placed}
-use Rattle.shared_tree_tests.proofs.Words.{IsPresent, point_of, class_of, is_earlier_record, Point, Record, below_digits, class_from_powers, count-single}
-use Rattle.shared_tree_tests.proofs.Words.{IsPresent-stands, point_of-stands, record_at, ChildOf, Count, TreeOf, cost_in, HasLinked, PassState, SharedState}
-use Rattle.shared_tree_tests.proofs.Words.{run_in, with_view, at_hand, if_hand, no_goals, IsLater, IsLawfulView, IsUnskipped, MayBePlaced, MayEnd, MayRecord}
-use Rattle.shared_tree_tests.proofs.Words.{is_own_node, own_count, own_first_cost, loaded, SeesPoint, sees, setup_in, tree_seen, SeesPoint-later, Hand, Stage}
-use Rattle.shared_tree_tests.proofs.Words.{Counted, Posted, Treed, View, HangsFromStart}
+use Rattle.shared_tree_tests.proofs.Words.{IsPresent, point_of, class_of, is_earlier_record, Point, Record, ending_as, first_hanging, below_digits}
+use Rattle.shared_tree_tests.proofs.Words.{class_from_powers, count-single, IsPresent-stands, point_of-stands, record_at, ChildOf, Count, TreeOf, cost_in}
+use Rattle.shared_tree_tests.proofs.Words.{HasLinked, PassState, SharedState, run_in, with_view, at_hand, if_hand, no_goals, IsLater, IsLawfulView, IsUnskipped}
+use Rattle.shared_tree_tests.proofs.Words.{MayBePlaced, MayEnd, MayRecord, is_own_node, own_count, own_first_cost, loaded, SeesPoint, sees, setup_in, tree_seen}
+use Rattle.shared_tree_tests.proofs.Words.{SeesPoint-later, Hand, Stage, Counted, Posted, Treed, View, HangsFromStart}
 use Rattle.grown_runs.proofs.Common.{Placed}
 
 -- ---- marks that are not skipped
@@ -137,7 +137,7 @@ module _ (view : View) (hand : Hand) (entry : Record) (cost : ℕ) (lawful : IsL
   pub MayRecord-first :
       entry.outcome ≡ Placed → entry.first_parent ≡ 0 → entry.first_cost ≡ cost → entry.class ≡ 1 → 1 ≤ sees view Count → MayRecord view hand entry
   MayRecord-first outcome parent cost_is class some =
-      subst (MayEnd view hand entry) (sym outcome) record {
+      subst (λ o. MayEnd view hand entry (ending_as entry o)) (sym outcome) record {
         present = subst (IsPresent (tree_seen view).points) (sym nearest) (IsPresent-stands (tree_seen view).points 0 hung.start hung.seen);
         nearest = λ i own. (
             let alone = own_start view entry first i own in
@@ -147,7 +147,7 @@ module _ (view : View) (hand : Hand) (entry : Record) (cost : ℕ) (lawful : IsL
         outcome = placed;
       }
     where
-      placed : MayBePlaced view hand entry
+      placed : MayBePlaced view hand entry entry.nearest (first_hanging entry)
       placed = record {
         nearest_is = nearest ∙ sym from_start;
         parent_is = parent ∙ sym hung.parent_is ∙ ap (λ h. h.parent) same_hand;

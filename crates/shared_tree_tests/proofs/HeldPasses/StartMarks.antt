@@ -1,7 +1,7 @@
 -- A mark that lies on the start ends there: no node is nearer, and the start is where the step to it leads.
 use Rattle.shared_tree_tests.proofs.Words.{◌≡◌, ℕ, ◌*◌, [], Some, sym, ap, ◌∙◌, subst, arith, abs_diff, IfSome, mark_at, squared_distance, distance_to}
-use Rattle.shared_tree_tests.proofs.Words.{IsPresent, point_of, steered, Point, Record, IsPresent-stands, point_of-stands, steered-near, if_hand, MayEnd}
-use Rattle.shared_tree_tests.proofs.Words.{MayRecord, SeesPoint, tree_seen, Hand, View}
+use Rattle.shared_tree_tests.proofs.Words.{IsPresent, point_of, steered, Point, Record, ending_as, IsPresent-stands, point_of-stands, steered-near, if_hand}
+use Rattle.shared_tree_tests.proofs.Words.{MayEnd, MayRecord, SeesPoint, tree_seen, Hand, View}
 use Rattle.grown_runs.proofs.Common.{Same}
 
 squared_distance-same : (p : Point) → squared_distance p p ≡ 0
@@ -24,14 +24,11 @@ module _ (view : View) (hand : Hand) (entry : Record) (seen : SeesPoint view 0 (
   stays = sym (steered-near _ _ view.run.step (omega (arith, at_mark)))
 
   MayRecord-start : entry.outcome ≡ Same 0 → MayRecord view hand entry
-  MayRecord-start outcome = subst (MayEnd view hand entry) (sym outcome) (
-    λ informed. absurd (informed none),
-    record {
-      present = subst (IsPresent (tree_seen view).points) (sym nearest) (IsPresent-stands (tree_seen view).points 0 (mark_at view.run.marks hand.mark) seen);
-      nearest = λ i own. record { least = omega (arith, at_mark); first = λ e. omega (arith, nearest) };
-      outcome = subst (SeesPoint view 0) stays seen;
-    },
-  )
+  MayRecord-start outcome = subst (λ o. MayEnd view hand entry (ending_as entry o)) (sym outcome) record {
+    present = subst (IsPresent (tree_seen view).points) (sym nearest) (IsPresent-stands (tree_seen view).points 0 (mark_at view.run.marks hand.mark) seen);
+    nearest = λ i own. record { least = omega (arith, at_mark); first = λ e. omega (arith, nearest) };
+    outcome = (λ informed. absurd (informed none), subst (SeesPoint view 0) stays seen);
+  }
 
 pub may_finish-start :
     (view : View) (hand : Hand) (entry : Record) → view.hand ≡ Some hand → SeesPoint view 0 (mark_at view.run.marks hand.mark) → entry.nearest ≡ 0

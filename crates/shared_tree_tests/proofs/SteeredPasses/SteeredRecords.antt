@@ -3,10 +3,11 @@
 use Rattle.shared_tree_tests.proofs.Words.{◌≡◌, ℕ, zero, suc, refl, ◌+◌, ◌-◌, ◌*◌, ◌<◌, ◌≤◌, ◌^◌, true, Option, [], Some, None, length, inl, inr, sym, ap, ◌∙◌}
 use Rattle.shared_tree_tests.proofs.Words.{subst, arith, ◌⊎◌, IfSome, IsTrue, nat_le, filter, range_with_len, mul-pos, cases_lt, le-leb, leb-true, filter_agree}
 use Rattle.shared_tree_tests.proofs.Words.{pow_pos, Clear, mark_at, is_goal_point, IsNotAbove, distance_to, is_within, IsPresent, point_at, point_of, class_of}
-use Rattle.shared_tree_tests.proofs.Words.{radius_of_class, steered, Point, Outcome, Record, same-from_distance, point_of-stands, greatest-passes, class_of-le}
-use Rattle.shared_tree_tests.proofs.Words.{has_node, Count, RecordOf, GoesOn, if_hand, is_own_node-earlier, own_recorded, IsLawfulView, IsOwnNeighbour}
-use Rattle.shared_tree_tests.proofs.Words.{MayBePlaced, MayEnd, MayRecord, MaySteer, is_own_node, own_count, has_link, SeesPoint, sees, setup_in, tree_seen}
-use Rattle.shared_tree_tests.proofs.Words.{Hand, SharedRun, View, HangsBelowNearest, SeesHandPoint, SteersFrom}
+use Rattle.shared_tree_tests.proofs.Words.{radius_of_class, steered, Point, Outcome, Record, Reached, NewNode, SameNode, ending_as, first_hanging}
+use Rattle.shared_tree_tests.proofs.Words.{same-from_distance, point_of-stands, greatest-passes, class_of-le, has_node, Count, RecordOf, GoesOn, if_hand}
+use Rattle.shared_tree_tests.proofs.Words.{is_own_node-earlier, own_recorded, IsLawfulView, IsOwnNeighbour, MayBePlaced, MayEnd, MayReach, MayRecord, MaySteer}
+use Rattle.shared_tree_tests.proofs.Words.{is_own_node, own_count, has_link, SeesPoint, sees, setup_in, tree_seen, Hand, SharedRun, View, HangsBelowNearest}
+use Rattle.shared_tree_tests.proofs.Words.{SeesHandPoint, SteersFrom}
 use Rattle.grown_runs.proofs.Common.{Placed, Same}
 use Rattle.shared_tree_tests.proofs.SteeredPasses.SteeredMarks.{present_nearest}
 
@@ -62,19 +63,22 @@ module _ (view : View) (nearest : ℕ) (entry : Record) (lawful : IsLawfulView v
       ∙ point_of-stands (tree_seen view).points steers.hand.nearest step.from step.seen in
       step.reached ∙ ap (λ p. steered p (mark_at view.run.marks steers.hand.mark) view.run.step) (sym at)
 
-  -- so the mark may end with what it may be at that point
-  MaySteer-steered : (MayEndAt : Point → Type 0) → MayEndAt steers.hand.point → MaySteer view steers.hand entry MayEndAt
-  MaySteer-steered MayEndAt ended = record {
+  -- so this may be recorded if it may be reached at that point
+  MaySteer-steered :
+      (to : Reached) → MayReach view steers.hand entry entry.nearest to steers.hand.point → MaySteer view steers.hand entry entry.nearest to
+  MaySteer-steered to ended = record {
     present = subst (IsPresent (tree_seen view).points) (sym is) (present_nearest view nearest lawful steers);
     nearest = λ i own.
         subst (λ m. IsNotAbove (distance_to (mark_at view.run.marks steers.hand.mark) (tree_seen view).points) m i) (sym is)
         (steers.not_above i (own_recorded view entry i own));
-    outcome = subst MayEndAt reached ended;
+    outcome = subst (MayReach view steers.hand entry entry.nearest to) reached ended;
   }
 
-  MayRecord-steered : (outcome : Outcome) → entry.outcome ≡ outcome → MayEnd view steers.hand entry outcome → IfSome view.hand (λ h. MayRecord view h entry)
+  MayRecord-steered : (outcome : Outcome) → entry.outcome ≡ outcome → MayEnd view steers.hand entry (ending_as entry outcome)
+      → IfSome view.hand (λ h. MayRecord view h entry)
   MayRecord-steered outcome e may =
-      if_hand (λ h. MayRecord view h entry) view.hand steers.hand steers.held (subst (MayEnd view steers.hand entry) (sym e) may)
+      if_hand (λ h. MayRecord view h entry) view.hand steers.hand steers.held
+      (subst (λ o. MayEnd view steers.hand entry (ending_as entry o)) (sym e) may)
 
 pub may_finish-same :
     (view : View) (nearest j : ℕ) (entry : Record) → view.run.goals ≡ [] → IsLawfulView view → SteersFrom nearest view → SeesHandPoint view j
@@ -82,16 +86,15 @@ pub may_finish-same :
     → entry.outcome ≡ Same j → IfSome view.hand (λ h. MayRecord view h entry)
 may_finish-same view nearest j entry none lawful steers seen is outcome =
     let same : seen.hand ≡ steers.hand = cc (seen.held, steers.held) in
-    MayRecord-steered view nearest entry lawful steers is none (Same j) outcome (
-      λ informed. absurd (informed none),
-      MaySteer-steered view nearest entry lawful steers is none (SeesPoint view j) (subst (λ h. SeesPoint view j h.point) same seen.stands),
-    )
+    MayRecord-steered view nearest entry lawful steers is none (Same j) outcome
+    (MaySteer-steered view nearest entry lawful steers is none (SameNode j)
+    (λ informed. absurd (informed none), subst (λ h. SeesPoint view j h.point) same seen.stands))
 
 module _ (view : View) (nearest cost : ℕ) (entry : Record) (lawful : IsLawfulView view) (hangs : HangsBelowNearest nearest cost view)
     (linked : has_link hangs.steers.hand.stage ≡ true) (gamma : view.run.gamma ≡ 0)
     (none : view.run.goals ≡ []) where
   -- no own node is a neighbour: it would stand at the very point
-  no_neighbour : (i : ℕ) → IsOwnNeighbour view entry hangs.steers.hand.point i → ⊥
+  no_neighbour : (i : ℕ) → IsOwnNeighbour view entry entry.class hangs.steers.hand.point i → ⊥
   no_neighbour i near =
       let hand : Hand = hangs.steers.hand in
       let within = subst (λ r. is_within hand.point r (point_at (tree_seen view).points i) ≡ true)
@@ -109,7 +112,7 @@ module _ (view : View) (nearest cost : ℕ) (entry : Record) (lawful : IsLawfulV
   may_finish-placed is outcome parent cost_is counted class =
       let hand : Hand = hangs.steers.hand in
       let few = class_of-le (own_count view entry) (sees view Count) (counted entry) in
-      let placed : MayBePlaced view hand entry =
+      let placed : MayBePlaced view hand entry entry.nearest (first_hanging entry) =
       record {
         nearest_is = is ∙ sym hangs.steers.nearest_is;
         parent_is = parent ∙ sym hangs.parent_is;
@@ -125,4 +128,4 @@ module _ (view : View) (nearest cost : ℕ) (entry : Record) (lawful : IsLawfulV
         );
       } in
       MayRecord-steered view nearest entry lawful hangs.steers is none Placed outcome
-      (MaySteer-steered view nearest entry lawful hangs.steers is none (λ p. MayBePlaced view hand entry) placed)
+      (MaySteer-steered view nearest entry lawful hangs.steers is none (NewNode (first_hanging entry)) placed)

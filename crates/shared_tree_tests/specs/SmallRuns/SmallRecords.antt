@@ -4,10 +4,10 @@ use Rattle.std.specs.Prelude.{ℕ, Option, Some, None, List, [], ◌∷◌, slic
 use Rattle.plan_model.specs.declared.geometry.Point.{Point}
 use Rattle.plan_model.specs.declared.records.Outcome.TheVariants.{Blocked, Same}
 use Rattle.plan_model.specs.declared.records.Record.{Record}
-use Rattle.plan_model.specs.Runs.Textbook.{unplaced_record}
+use Rattle.plan_model.specs.Runs.Endings.{unplaced_record}
 use Rattle.plan_model.specs.Spaces.EmptyRooms.{empty_room}
 use Rattle.plan_model.specs.Trees.TreeStates.{TreeState}
-use Rattle.plan_model.specs.Vectors.Overlaps.{placed_by}
+use Rattle.plan_model.specs.Vectors.Records.{placed_by}
 use Rattle.plan_model.specs.Vectors.Shapes.{at}
 use Rattle.grown_runs.specs.Runs.GrownRuns.{CostsInstead}
 use Rattle.step_core.specs.Histories.{WasFree}

@@ -2,7 +2,7 @@
 -- for one thing each.
 use Rattle.std.specs.Prelude.{◌≡◌, ℕ, ◌^◌, true, false, Some, None, List, [], ◌∷◌, ◌++◌, replicate}
 use Rattle.plan_model.specs.declared.records.Outcome.TheVariants.{Blocked, Placed, Same, Skipped}
-use Rattle.plan_model.specs.Vectors.Overlaps.{placed_by}
+use Rattle.plan_model.specs.Vectors.Records.{placed_by}
 use Rattle.plan_model.specs.Vectors.Shapes.{at}
 use Rattle.step_core.specs.LastViews.{HasOrFell, StandsAsSeen}
 use Rattle.step_core.specs.LaterViews.{IsLater, IsLawfulView}

@@ -1,7 +1,7 @@
 -- Words of a small shared run with the views of two passes, and worlds that differ from a lawful one in one thing.
 use Rattle.std.specs.Prelude.{ℕ, ◌+◌, ◌^◌, Option, Some, None, List, [], ◌∷◌, ◌++◌, replicate, slice_set}
 use Rattle.plan_model.specs.Spaces.EmptyRooms.{empty_room}
-use Rattle.plan_model.specs.Vectors.Overlaps.{placed_by}
+use Rattle.plan_model.specs.Vectors.Records.{placed_by}
 use Rattle.plan_model.specs.Vectors.Shapes.{at}
 use Rattle.step_core.specs.Views.{words_of_run}
 use Rattle.step_core.specs.ViewSteps.{new_hand}

@@ -3,16 +3,17 @@ use Rattle.step_core.proofs.Words.{◌≡◌, ◌≢◌, ◌+◌, ◌*◌, ◌/�
 use Rattle.step_core.proofs.Words.{length, refl, sym, ap, subst, inl, inr, arith, IsTrue, cond, is_some, nat_lt, unwrap_or, count_by, range_with_len, sum_by}
 use Rattle.step_core.proofs.Words.{some, get_elem?, div-add-mod', mod_below, length-map-range_with_len, length-filter, Clear, mark_at, cost_of}
 use Rattle.step_core.proofs.Words.{squared_distance, IsGoalNode, is_goal_point, is_within, Hangs, is_placed, IsPresent, StandsAt, node_count, point_at}
-use Rattle.step_core.proofs.Words.{point_of, class_of, radius_of_class, HangsLawfully, HasLawfulOutcome, IsBlockedLawfully, IsChosenLawfully, IsEarlier}
-use Rattle.step_core.proofs.Words.{IsLawfulRecord, IsNeighbour, IsPlacedLawfully, IsSkippedLawfully, IsSteeredLawfully, earlier_count, first_cost_through}
-use Rattle.step_core.proofs.Words.{is_earlier, is_earlier_record, steered, Setup, mark_bound, TreeState, first_cost_of, is_of_worker, once_if, Point, Outcome}
-use Rattle.step_core.proofs.Words.{Blocked, Placed, Same, Skipped, Record, count-first, count-same, sum-le, no_goal_node, IsPresent-stands, StandsAt-present}
-use Rattle.step_core.proofs.Words.{class_of-le, has_node, has_placed, record_at, AreBehind, Words, Count, FirstOf, RecordOf, TreeOf, IsFirstWord, best_cost_in}
-use Rattle.step_core.proofs.Words.{best_word, cost_in, no_best, outcome_in, record_in, record_of_word, tree_word, unplaced_at, zeros, cost_in-tree_word}
-use Rattle.step_core.proofs.Words.{IsInformed, IsUnskipped, MayBeSkipped, IsOwnNeighbour, MayBeBlocked, MayBePlaced, MayEnd, MaySteer, is_own_node, own_count}
-use Rattle.step_core.proofs.Words.{own_first_cost, linked_point, IsMoment, MayFinish, Moment, has_count, has_first, has_link, has_point, SeesHand, SeesPoint}
-use Rattle.step_core.proofs.Words.{SeesTree, run_sizes, sees, setup_in, tree_seen, IsFirstOf, IsWorld, counted_once, state_in, Hand, SharedRun, Stage, Claimed}
-use Rattle.step_core.proofs.Words.{Counted, Half, Linked, Pointed, Posted, Treed, View}
+use Rattle.step_core.proofs.Words.{point_of, class_of, radius_of_class, HangsLawfully, HasLawfulEnding, ReachesLawfully, IsBlockedLawfully, IsChosenLawfully}
+use Rattle.step_core.proofs.Words.{IsEarlier, IsLawfulRecord, IsNeighbour, IsPlacedLawfully, IsSkippedLawfully, IsSteeredLawfully, earlier_count}
+use Rattle.step_core.proofs.Words.{first_cost_through, is_earlier, is_earlier_record, NewNode, NoWay, Reached, SameNode, ending_as, first_hanging, steered}
+use Rattle.step_core.proofs.Words.{Setup, mark_bound, TreeState, first_cost_of, is_of_worker, once_if, Point, Outcome, Blocked, Placed, Same, Skipped, Record}
+use Rattle.step_core.proofs.Words.{count-first, count-same, sum-le, no_goal_node, IsPresent-stands, StandsAt-present, class_of-le, has_node, has_placed}
+use Rattle.step_core.proofs.Words.{record_at, AreBehind, Words, Count, FirstOf, RecordOf, TreeOf, IsFirstWord, best_cost_in, best_word, cost_in, no_best}
+use Rattle.step_core.proofs.Words.{outcome_in, record_in, record_of_word, tree_word, unplaced_at, zeros, cost_in-tree_word, IsInformed, IsUnskipped}
+use Rattle.step_core.proofs.Words.{MayBeSkipped, IsOwnNeighbour, MayBeBlocked, MayBePlaced, MayEnd, MayReach, MaySteer, is_own_node, own_count, own_first_cost}
+use Rattle.step_core.proofs.Words.{linked_point, IsMoment, MayFinish, Moment, has_count, has_first, has_link, has_point, SeesHand, SeesPoint, SeesTree}
+use Rattle.step_core.proofs.Words.{run_sizes, sees, setup_in, tree_seen, IsFirstOf, IsWorld, counted_once, state_in, Hand, SharedRun, Stage, Claimed, Counted}
+use Rattle.step_core.proofs.Words.{Half, Linked, Pointed, Posted, Treed, View}
 use Rattle.step_core.proofs.OneView.LawfulSights.{IsTrueOf-seen}
 use Rattle.step_core.proofs.Parts.LinkedCounts.{count-most}
 use Rattle.step_core.proofs.Parts.LinkedStates.{first_cost-linked, linked-present, placed-linked}
@@ -207,7 +208,7 @@ module _ (words : Words) (views : List View) (id : ℕ) (view : View) (world : I
 
   -- ---- placed marks
 
-  own_neighbour : (p : Point) (i : ℕ) → IsNeighbour setup state entry p i → IsOwnNeighbour view entry p i
+  own_neighbour : (p : Point) (i : ℕ) → IsNeighbour setup state entry entry.class p i → IsOwnNeighbour view entry entry.class p i
   own_neighbour p i h =
       let own = own_of i h.earlier in
       let here = own_seen i own in
@@ -227,9 +228,11 @@ module _ (words : Words) (views : List View) (id : ℕ) (view : View) (world : I
 
   module _ (present : IsPresent seen_points entry.nearest) where
     -- what the worker knows
-    IsChosenLawfully-seen : (p : Point) → p ≡ hand.point → MayBePlaced view hand entry → IsChosenLawfully setup state entry p (node_count state.points)
+    IsChosenLawfully-seen :
+        (p : Point) → p ≡ hand.point → MayBePlaced view hand entry entry.nearest (first_hanging entry)
+        → IsChosenLawfully setup state entry entry.nearest (first_hanging entry) p (node_count state.points)
     IsChosenLawfully-seen p is may =
-        subst (λ q. IsChosenLawfully setup state entry q (node_count state.points)) (sym is) record {
+        subst (λ q. IsChosenLawfully setup state entry entry.nearest (first_hanging entry) q (node_count state.points)) (sym is) record {
           clear = subst (λ a. Clear setup.space a hand.point) (sym (same_point entry.nearest present)) may.clear;
           of_class = record {
             low = omega (arith, ap class_of as_many, may.low);
@@ -288,12 +291,14 @@ module _ (words : Words) (views : List View) (id : ℕ) (view : View) (world : I
           ∙ ap cost_in first.word ∙ cost_in-tree_word hand.parent hand.cost first.fits.0 first.fits.1
 
       -- what the tree knows
-      HangsLawfully-seen : (p : Point) → p ≡ hand.point → MayBePlaced view hand entry → HangsLawfully setup state hand.mark entry p
+      HangsLawfully-seen :
+          (p : Point) → p ≡ hand.point → MayBePlaced view hand entry entry.nearest (first_hanging entry)
+          → HangsLawfully setup state hand.mark entry.nearest (first_hanging entry) p
       HangsLawfully-seen p is may =
           let here = IsPresent-stands state.points (suc hand.mark) hand.point stands in
-          subst (HangsLawfully setup state hand.mark entry) (sym is) record {
+          subst (HangsLawfully setup state hand.mark entry.nearest (first_hanging entry)) (sym is) record {
             stands = stands;
-            first =
+            hangs =
                 subst (λ f. Hangs setup state (suc hand.mark) hand.point f entry.first_cost) (sym may.parent_is)
                 (subst (Hangs setup state (suc hand.mark) hand.point hand.parent) (sym may.cost_is) first.hangs);
             nearest_other = λ e. holds.other come.point (sym may.nearest_is ∙ e);
@@ -306,12 +311,13 @@ module _ (words : Words) (views : List View) (id : ℕ) (view : View) (world : I
     -- ---- the outcome
 
     placed_now : (p : Point) → p ≡ steered (point_of seen_points entry.nearest) (mark_at own_run.marks hand.mark) own_run.step
-        → has_count hand.stage ≡ true → MayBePlaced view hand entry → IsPlacedLawfully setup state hand.mark entry p
+        → has_count hand.stage ≡ true → MayBePlaced view hand entry entry.nearest (first_hanging entry)
+        → IsPlacedLawfully setup state hand.mark entry entry.nearest (first_hanging entry) p
     placed_now p is count may =
         let there = is ∙ hand_point count may.nearest_is in
         record { by_worker = IsChosenLawfully-seen p there may; by_tree = HangsLawfully-seen count p there may }
 
-    blocked_now : (p : Point) → MayBeBlocked view entry p → IsBlockedLawfully setup state entry p
+    blocked_now : (p : Point) → MayBeBlocked view entry entry.nearest p → IsBlockedLawfully setup state entry entry.nearest p
     blocked_now p may = record {
       blocked = λ clear. may.blocked (subst (λ a. Clear setup.space a p) (same_point entry.nearest present) clear);
       free = λ i early stands.
@@ -348,7 +354,7 @@ module _ (words : Words) (views : List View) (id : ℕ) (view : View) (world : I
       first_cost-small (suc k) = mod_below (sees view (FirstOf (suc k)) / 2 ^ 18) (2 ^ 44) (omega arith)
 
   -- a mark that may be skipped is skipped lawfully
-  skipped_now : MayBeSkipped view hand entry.nearest → IsSkippedLawfully setup state (mark_at own_run.marks hand.mark) entry
+  skipped_now : MayBeSkipped view hand entry.nearest → IsSkippedLawfully setup state (mark_at own_run.marks hand.mark) entry.nearest
   skipped_now may =
       let pair = (world.bests id view at refl).taken_pair hand may.word made.held may.taken may.some_node in
       record {
@@ -358,10 +364,12 @@ module _ (words : Words) (views : List View) (id : ℕ) (view : View) (world : I
 
   -- A nearest node that was seen is lawful, and steers to the same point.
   IsSteeredLawfully-own :
-      (MayEndAt EndsAt : Point → Type 0) → (IsPresent seen_points entry.nearest → (p : Point)
-      → p ≡ steered (point_of seen_points entry.nearest) (mark_at own_run.marks hand.mark) own_run.step → MayEndAt p → EndsAt p)
-      → IsUnskipped view hand → MaySteer view hand entry MayEndAt → IsSteeredLawfully setup state (mark_at own_run.marks hand.mark) entry EndsAt
-  IsSteeredLawfully-own MayEndAt EndsAt now unskipped may =
+      (reached : Reached) → (IsPresent seen_points entry.nearest → (p : Point)
+      → p ≡ steered (point_of seen_points entry.nearest) (mark_at own_run.marks hand.mark) own_run.step
+      → MayReach view hand entry entry.nearest reached p → ReachesLawfully setup state hand.mark entry entry.nearest reached p)
+      → IsUnskipped view hand → MaySteer view hand entry entry.nearest reached
+      → IsSteeredLawfully setup state hand.mark (mark_at own_run.marks hand.mark) entry entry.nearest reached
+  IsSteeredLawfully-own reached now unskipped may =
       let mark : Point = mark_at own_run.marks hand.mark in
       record {
         cheaper = λ i early goal. cheaper_now i (own_of i early) goal (unskipped (informed i goal));
@@ -373,7 +381,8 @@ module _ (words : Words) (views : List View) (id : ℕ) (view : View) (world : I
             let other = ap (λ a. squared_distance a mark) (same_point i (own_seen i own)) in
             record { least = omega (arith, near, other, h.least); first = λ e. h.first (omega (arith, near, other, e)) };
         outcome =
-            subst (λ a. EndsAt (steered a mark own_run.step)) (sym (same_point entry.nearest may.present))
+            subst (λ a. ReachesLawfully setup state hand.mark entry entry.nearest reached (steered a mark own_run.step))
+            (sym (same_point entry.nearest may.present))
             (now may.present (steered (point_of seen_points entry.nearest) mark own_run.step) refl may.outcome);
       }
 
@@ -384,16 +393,15 @@ module _ (words : Words) (views : List View) (id : ℕ) (view : View) (world : I
       counted : entry.outcome ≡ Placed → has_count hand.stage ≡ true
       counted e = sym made.stage.counted ∙ ap is_placed e
 
-      by_outcome : (outcome : Outcome) → entry.outcome ≡ outcome → MayEnd view hand entry outcome
-          → HasLawfulOutcome setup state hand.mark (mark_at own_run.marks hand.mark) entry outcome
+      by_outcome : (outcome : Outcome) → entry.outcome ≡ outcome → MayEnd view hand entry (ending_as entry outcome)
+          → HasLawfulEnding setup state hand.mark (mark_at own_run.marks hand.mark) entry (ending_as entry outcome)
       by_outcome Placed e placed =
-          IsSteeredLawfully-own (λ p. MayBePlaced view hand entry) (IsPlacedLawfully setup state hand.mark entry)
-          (λ present p is ended. placed_now present p is (counted e) ended) ((tree.holds hand made.held).unskipped (has_come hand.stage (counted e)).point)
-          placed
-      by_outcome (Same j) e same = IsSteeredLawfully-own (SeesPoint view j) (StandsAt state.points j) (λ present p is ended. stands_now j p ended) same.0 same.1
+          IsSteeredLawfully-own (NewNode (first_hanging entry)) (λ present p is ended. placed_now present p is (counted e) ended)
+          ((tree.holds hand made.held).unskipped (has_come hand.stage (counted e)).point) placed
+      by_outcome (Same j) e same =
+          IsSteeredLawfully-own (SameNode j) (λ present p is ended. stands_now j p ended.1) same.outcome.0 same
       by_outcome Blocked e blocked =
-          IsSteeredLawfully-own (MayBeBlocked view entry) (IsBlockedLawfully setup state entry) (λ present p is ended. blocked_now present p ended) blocked.0
-          blocked.1
+          IsSteeredLawfully-own NoWay (λ present p is ended. blocked_now present p ended.1) blocked.outcome.0 blocked
       by_outcome Skipped e skipped = skipped_now skipped
 
   -- Its first word has its first parent and its first cost, if it was placed.
@@ -410,7 +418,8 @@ module _ (words : Words) (views : List View) (id : ℕ) (view : View) (world : I
             cost = omega (arith, fields.cost_is);
           }
 
-      by_outcome : (outcome : Outcome) → entry.outcome ≡ outcome → MayEnd view hand entry outcome → IsFirstWord entry (words (FirstOf (suc hand.mark)))
+      by_outcome : (outcome : Outcome) → entry.outcome ≡ outcome → MayEnd view hand entry (ending_as entry outcome)
+          → IsFirstWord entry (words (FirstOf (suc hand.mark)))
       by_outcome Placed e ended =
           let placed = ended.outcome in
           let first = world.pairs.first id view at hand made.held (has_come hand.stage (sym made.stage.counted ∙ ap is_placed e)).first in

@@ -1,10 +1,10 @@
 -- The record of the mark in hand keeps the law of worlds.
 use Rattle.step_core.proofs.Words.{◌≡◌, ◌*◌, ◌+◌, ◌/◌, ◌%◌, ◌<◌, ◌≤◌, ◌^◌, ◌≢◌, ◌∷◌, ◌∙◌, ◌⊎◌, ◌==◌, ℕ, zero, suc, Bool, true, List, length, set, Some, refl}
 use Rattle.step_core.proofs.Words.{sym, ap, subst, inl, inr, arith, le_refl, IsTrue, nat_lt, is_some, some, get_elem?, cases_eq, eq-eqb, ne_eqb, div-mul-add}
-use Rattle.step_core.proofs.Words.{mod-mul-add, is_claimed, IsGoalNode, is_goal_point, StandsAt, point_at, GrowsInto, once_if, turns_of, Outcome, Blocked}
-use Rattle.step_core.proofs.Words.{Placed, Same, Skipped, Record, is_placed, has_node, has_placed, record_at, AreBehind, Words, WritesWord, Best, ChildOf}
-use Rattle.step_core.proofs.Words.{Counter, FirstOf, PointOf, RecordOf, TreeOf, HasWord, FitsWord, IsFirstWord, IsTurnWord, best_word, cost_in, last_field}
-use Rattle.step_core.proofs.Words.{number_of_outcome, record_of_word, record_word, turn_in, worker_in, record_of_word-packed, cost_in-tree_word}
+use Rattle.step_core.proofs.Words.{mod-mul-add, is_claimed, ending_as, IsGoalNode, is_goal_point, StandsAt, point_at, GrowsInto, once_if, turns_of, Outcome}
+use Rattle.step_core.proofs.Words.{Blocked, Placed, Same, Skipped, Record, is_placed, has_node, has_placed, record_at, AreBehind, Words, WritesWord, Best}
+use Rattle.step_core.proofs.Words.{ChildOf, Counter, FirstOf, PointOf, RecordOf, TreeOf, HasWord, FitsWord, IsFirstWord, IsTurnWord, best_word, cost_in}
+use Rattle.step_core.proofs.Words.{last_field, number_of_outcome, record_of_word, record_word, turn_in, worker_in, record_of_word-packed, cost_in-tree_word}
 use Rattle.step_core.proofs.Words.{AreBehind-trans, IsLoaded, IsAtMostPlaced, SeesGoal, seen_first_cost, MayEnd, MayRecord, linked_points, MayBeRecorded}
 use Rattle.step_core.proofs.Words.{has_count, has_link, IsMoment, MayFinish, Moment, SeesPoint, SeesTree, finished, one_turn_more, saw, IsViewOf, holds}
 use Rattle.step_core.proofs.Words.{run_sizes, sees, share, tree_seen, BestWord, IsBestWord, IsRecordWord, IsWorld, Records, SeesBest, counters, is_recorded}
@@ -363,7 +363,7 @@ IsWorld-recorded run words after views id view world at own hand held member cre
     (by_outcome entry.outcome may placed (subst (λ r. IsTrue (is_goal_point r.goals (Some hand.point))) (sym own) goal)))
   where
     -- a goal node was posted
-    by_outcome : (outcome : Outcome) → MayEnd view hand entry outcome → is_placed outcome ≡ true
+    by_outcome : (outcome : Outcome) → MayEnd view hand entry (ending_as entry outcome) → is_placed outcome ≡ true
         → IsTrue (is_goal_point view.run.goals (Some hand.point)) → hand.stage ≡ Posted
     by_outcome Placed ended is goal = ended.outcome.posted.0 goal
     by_outcome (Same j) ended is goal = cc

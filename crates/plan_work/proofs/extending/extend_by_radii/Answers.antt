@@ -1,9 +1,8 @@
-use Rattle.plan_work.proofs.Words.{sym, ap, Skipped, MayBeSkipped, MayBeRecorded, has_count, has_link}
+use Rattle.plan_work.proofs.Words.{sym, ap, subst, Skipped, EndsAsSeen, MayBeSkipped, MayBeRecorded, has_count, has_link}
 use Rattle.plan_work.proofs.ExtendedMarks.{HandlesMark-after}
 use Rattle.plan_work.proofs.HeldMarks.{holding, if_held}
-use Rattle.plan_work.proofs.SkippingMarks.{AloneNext-skipped, EndsAsSteered-loaded, HandlesMark-skipped, IsExtended-skipped, IsNotSkippedIn-loaded}
+use Rattle.plan_work.proofs.SkippingMarks.{AloneNext-skipped, WasSteered-loaded, HandlesMark-skipped, IsExtended-skipped, IsNotSkippedIn-loaded}
 use Rattle.plan_work.proofs.SkippingMarks.{SeesTextbook-loaded, WasNotSkipped-loaded, WorksAlone-loaded}
-use Rattle.plan_work.proofs.SteeredOutcomes.{EndsAsSeen-steered}
 use Rattle.plan_work.proofs.extending.extend_by_radii.Goals as goal
 
 pub record_unplaced-requires-clause-stage : goal.record_unplaced-requires-clause-stage
@@ -56,11 +55,11 @@ returns g c =
       handled = HandlesMark-after shared before mid done c.args.k entry loaded.keeps placed.handled;
       extended = record {
         stored = placed.extended.stored;
-        outcome =
-            EndsAsSeen-steered before.view done.view c.args.k entry entry.outcome
-            (WasNotSkipped-loaded shared before mid c.args.k c.requires.may loaded some unskipped done.view placed.handled.goes_on
-            placed.handled.best)
-            (EndsAsSteered-loaded shared before mid c.args.k c.requires.may loaded some unskipped done.view entry placed.extended.outcome);
+        outcome = subst (EndsAsSeen before.view done.view c.args.k entry) (sym placed.extended.ending) (
+          WasNotSkipped-loaded shared before mid c.args.k c.requires.may loaded some unskipped done.view placed.handled.goes_on placed.handled.best,
+          WasSteered-loaded shared before mid c.args.k c.requires.may loaded some unskipped done.view placed.extended.nearest placed.extended.reached
+              placed.extended.steered,
+        );
       };
       textbook = λ alone book.
           let read = SeesTextbook-loaded shared before mid c.args.k c.requires.may loaded book in

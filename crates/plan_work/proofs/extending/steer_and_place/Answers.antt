@@ -311,7 +311,7 @@ returns g c =
           HandlesMark-after shared before written last c.args.k c.place_rewire_and_record.result (keeps g here looked) placed.handled;
       extended =
           IsExtended-written shared before found found written last c.args.k m from p c.place_rewire_and_record.result looked (keeps g here looked) goes_on
-          placed.handled placed.nearest (placed.ended before (filled g here looked));
+          placed.handled (placed.ended before (filled g here looked));
       textbook = λ alone book cheaper.
           let whole = whole_steered g at.After-steer_and_test-class alone in
           placed.textbook

@@ -1,7 +1,7 @@
-use Rattle.plan_work.proofs.Words.{◌≡◌, suc, true, refl, sym, ap, ◌∙◌, subst, All, Contains, IsSome, Record, space_of, FirstOf, near_new, IsFilledWhole}
-use Rattle.plan_work.proofs.Words.{IsTriedWhole, EndsWritten, IsFilledSince, IsTried, hung_by, placed_hand, has_count, pair_in_hand, SeesPoint, sees, setup_in}
-use Rattle.plan_work.proofs.Words.{tree_seen, IsInReach-later, stands_later, near-increases, numbers_of, AreOf, IsWeighed, HasSpreadFalls, AreOf-weighed}
-use Rattle.plan_work.proofs.Words.{IsInReach, NamesLoweredOrPoint, SeesPair}
+use Rattle.plan_work.proofs.Words.{◌≡◌, suc, true, refl, sym, ap, ◌∙◌, subst, All, Contains, IsSome, NewNode, SameNode, ending_of, space_of, FirstOf, near_new}
+use Rattle.plan_work.proofs.Words.{IsFilledWhole, IsTriedWhole, IsFilledSince, IsTried, given_by, hung_by, placed_hand, has_count, pair_in_hand, SeesPoint}
+use Rattle.plan_work.proofs.Words.{sees, setup_in, tree_seen, IsInReach-later, stands_later, near-increases, numbers_of, AreOf, IsWeighed, HasSpreadFalls}
+use Rattle.plan_work.proofs.Words.{AreOf-weighed, IsInReach, NamesLoweredOrPoint, SeesPair}
 use Rattle.plan_work.proofs.HeldMarks.{if_held, of_held}
 use Rattle.plan_work.proofs.KeptRecords.{KeepsRecords-anew, KeepsRecords-trans}
 use Rattle.plan_work.proofs.PlacedMarks.{IsPlacedAt-recorded, MayRecord-placed, MayRecord-same, Rewired-hand}
@@ -145,16 +145,15 @@ returns-in-Placed-clause-ended g c = λ first filled.
     let placed = subst (λ placing. IsTried before after may.hand placing c.choose_and_place-placing.result.1) c.in-Placed.is tried in
     let since = subst (IsFilledSince c.args.shared.now first before c.args.steering.point) (sym c.choose_and_place-placing.ensures.class) filled in
     let same = numbers-tried before after may.hand Placed c.choose_and_place-placing.result.1 placed in
-    subst (EndsWritten first.view c.record_placed.new.pass.view c.args.k c.record_placed.result c.args.steering.point)
-    (sym (ap (λ (entry : Record). entry.outcome) c.record_placed.ensures.entry))
-    (IsPlacedAt-recorded c.args.shared.now first before after c.rewire_found.new.pass c.args.k c.args.steering.nearest c.args.steering.point
+    let at = IsPlacedAt-recorded c.args.shared.now first before after c.rewire_found.new.pass c.args.k c.args.steering.nearest c.args.steering.point
     c.choose_and_place-placing.result.1 may since c.choose_and_place-placing.ensures.keeps placed c.rewire_found.ensures.seen
     (subst (All (SeesPair c.rewire_found.new.pass.view)) same c.rewire_found.ensures.pairs)
     (Rewired-hand c.args.shared.now before after c.rewire_found.new.pass c.args.k c.args.steering.nearest c.args.steering.point
     c.choose_and_place-placing.result.1 may placed
     (subst (IsRewiredBy c.args.shared.now after.view c.rewire_found.new.pass.view) same c.rewire_found.ensures.rewired))
     (subst (λ ns. HasSpreadFalls (space_of c.args.shared.now.task.scene) (Contains ns) (suc c.args.k) after.view c.rewire_found.new.pass.view) same
-    c.rewire_found.ensures.spread) c.record_placed.new.pass c.record_placed.result c.record_placed.ensures.recorded c.record_placed.ensures.entry)
+    c.rewire_found.ensures.spread) c.record_placed.new.pass c.record_placed.result c.record_placed.ensures.recorded in
+    record { reached = NewNode (given_by c.choose_and_place-placing.result.1); ending = ap ending_of c.record_placed.ensures.entry; as_seen = at }
 
 pub returns-in-Same-clause-handled : goal.returns-in-Same-clause-handled
 returns-in-Same-clause-handled g c =
@@ -175,10 +174,14 @@ returns-in-Same-clause-ended g c = λ first filled.
     let tried = of_held before.view (λ hand. IsTried before after hand c.choose_and_place-placing.result.0 c.choose_and_place-placing.result.1) may.hand
     may.held c.choose_and_place-placing.ensures.tried in
     let same = subst (λ placing. IsTried before after may.hand placing c.choose_and_place-placing.result.1) c.in-Same.is tried in
-    subst (EndsWritten first.view c.record_unplaced.new.pass.view c.args.k c.record_unplaced.result c.args.steering.point)
-    (sym (ap (λ (entry : Record). entry.outcome) c.record_unplaced.ensures.entry))
-    (subst (SeesPoint c.record_unplaced.new.pass.view c.in-Same.node) may.pointed.point
-    (stands_later after.view c.record_unplaced.new.pass.view c.record_unplaced.ensures.recorded.goes_on c.in-Same.node may.hand.point same.came.stands))
+    record {
+      reached = SameNode c.in-Same.node;
+      ending = ap ending_of c.record_unplaced.ensures.entry;
+      as_seen =
+          subst (SeesPoint c.record_unplaced.new.pass.view c.in-Same.node) may.pointed.point
+          (stands_later after.view c.record_unplaced.new.pass.view c.record_unplaced.ensures.recorded.goes_on c.in-Same.node may.hand.point
+          same.came.stands);
+    }
 
 -- ---- of a pass that works alone
 

@@ -88,7 +88,7 @@ returns-clause-only g c = λ h all bad.
     let radius = is_of_scene judged.task.now.scene judged.radii.now c.requires.asked.radii_are c.args.marked.entry.class c.radius_of_class-radius.ensures in
     c.is_nearest_and_keeps_near.ensures.only h all
     (λ i earlier within cleared.
-    let near : IsNeighbour (setup_by c.args.judged.now) run c.args.marked.entry p i =
+    let near : IsNeighbour (setup_by c.args.judged.now) run c.args.marked.entry c.args.marked.entry.class p i =
     record {
       earlier = earlier;
       near = subst (λ r. IsTrue (is_within p r (point_at run.points i))) radius within;

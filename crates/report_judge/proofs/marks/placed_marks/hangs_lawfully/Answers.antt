@@ -49,7 +49,7 @@ returns-then-not-is_within_first-clause-only g c = λ h bad.
 
 pub returns-then-not-is_within_first-2-clause-only : goal.returns-then-not-is_within_first-2-clause-only
 returns-then-not-is_within_first-2-clause-only g c = λ h bad.
-    c.is_within_first-2.ensures.only c.if-not-is_within_first-2.true (record { present = bad.first.present; within = bad.below_first })
+    c.is_within_first-2.ensures.only c.if-not-is_within_first-2.true (record { present = bad.hangs.present; within = bad.below_first })
 
 pub returns-clause-lawful : goal.returns-clause-lawful
 returns-clause-lawful g c = λ h.
@@ -66,7 +66,7 @@ returns-clause-lawful g c = λ h.
     (λ i. sym c.from-3.ensures i * sym c.from-4.ensures i) (c.args.marked.k + 1) place (c.may_hang.ensures.hangs h) in
     record {
       stands = subst (λ n. StandsAt run.points n c.args.p) (sym next) (c.stands_at.ensures.stands c.if-not-stands_at.false records);
-      first = subst (λ n. Hangs setup run n c.args.p entry.first_parent entry.first_cost) (sym next) hangs;
+      hangs = subst (λ n. Hangs setup run n c.args.p entry.first_parent entry.first_cost) (sym next) hangs;
       nearest_other = λ e. c.if-entry-node.false (e ∙ next);
       below_first = (c.is_within_first-2.ensures.within c.if-not-is_within_first-2.false).within;
       below_nearest = (c.is_within_first.ensures.within c.if-not-is_within_first.false).within;
@@ -90,4 +90,4 @@ returns-clause-only g c = λ h bad.
     c.may_hang.ensures.only h
     (listed-Hangs c.args.judged.now.knots.now c.args.judged.now.records.now setup (g.C.Clearing.space c.args.hall.now) (sym c.requires.asked.space_is)
     (c.from-3.result * c.from-4.result) (λ i. sym c.from-3.ensures i * sym c.from-4.ensures i) (c.args.marked.k + 1) place
-    (subst (λ n. Hangs setup run n c.args.p entry.first_parent entry.first_cost) next bad.first))
+    (subst (λ n. Hangs setup run n c.args.p entry.first_parent entry.first_cost) next bad.hangs))

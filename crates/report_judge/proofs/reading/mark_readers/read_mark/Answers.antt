@@ -1,4 +1,4 @@
-use Rattle.report_judge.proofs.Words.{◌≡◌, List, ℕ, ◌++◌, arith, ◌∙◌, Record, line, outcome_words, FitsEntry, line_text, MarkLine}
+use Rattle.report_judge.proofs.Words.{◌≡◌, List, ℕ, ◌++◌, arith, ◌∙◌, Record, line, ending_of, ending_words, FitsEntry, line_text, MarkLine}
 use Rattle.report_judge.proofs.Texts.FieldWords.{none_always}
 use Rattle.report_judge.proofs.Texts.MarkParts.{parts-mark}
 use Rattle.report_judge.proofs.reading.mark_readers.read_mark.Goals as goal
@@ -6,7 +6,7 @@ use Rattle.report_judge.proofs.reading.mark_readers.read_mark.Goals as goal
 pub returns-then-number-k-clause-none : goal.returns-then-number-k-clause-none
 returns-then-number-k-clause-none c = λ entry rest fits e.
     let read =
-    c.in_ok-number.ensures.only c.args.k entry.worker entry.turn (line (outcome_words entry entry.outcome) ++ rest)
+    c.in_ok-number.ensures.only c.args.k entry.worker entry.turn (line (ending_words (ending_of entry)) ++ rest)
     (omega (arith, c.requires.low)) fits.words.word.worker fits.words.word.turn (e ∙ parts-mark c.args.k entry rest) in
     c.if-number-k.true read.0
 
@@ -17,6 +17,6 @@ returns-in_err-entry-clause-none c =
     → c.args.text.now ≡ line_text (MarkLine c.args.k entry) ++ rest → ⊥)
     (λ entry rest fits e.
     let read =
-    c.in_ok-number.ensures.only c.args.k entry.worker entry.turn (line (outcome_words entry entry.outcome) ++ rest)
+    c.in_ok-number.ensures.only c.args.k entry.worker entry.turn (line (ending_words (ending_of entry)) ++ rest)
     (omega (arith, c.requires.low)) fits.words.word.worker fits.words.word.turn (e ∙ parts-mark c.args.k entry rest) in
     c.in_err-entry.ensures.none entry rest fits read.3)

@@ -58,23 +58,26 @@ run : IsTextbookRun low_setup marks three entries
 run = (
   two,
   record {
-    cheaper = λ i goal. absurd (no_goal_node (points_of one) i goal);
-    point = at 0 0;
-    steers = record { nearest = start_of_one (at 0 0); reached = refl };
-    stands = refl;
-    recorded = refl;
-    added = refl;
+    worker = refl;
+    turn = refl;
+    ends = record {
+      cheaper = λ i goal. absurd (no_goal_node (points_of one) i goal);
+      point = at 0 0;
+      steers = record { nearest = start_of_one (at 0 0); reached = refl };
+      reaches = (refl, refl);
+    };
   },
   (
     three,
     record {
-      cheaper = λ i goal. absurd (no_goal_node (points_of two) i goal);
-      point = at 0 50;
-      steers = record { nearest = start_of_two (at 0 50); reached = refl };
-      free = second_is_free;
-      blocked = second_is_blocked;
-      recorded = refl;
-      added = refl;
+      worker = refl;
+      turn = refl;
+      ends = record {
+        cheaper = λ i goal. absurd (no_goal_node (points_of two) i goal);
+        point = at 0 50;
+        steers = record { nearest = start_of_two (at 0 50); reached = refl };
+        reaches = (record { free = second_is_free; blocked = second_is_blocked }, refl);
+      };
     },
     refl,
   ),

@@ -40,20 +40,20 @@ none_counted : (cost count : ℕ) → record_at (sees (counter_of cost count)) 0
 unfolding word_at
 none_counted cost count = refl
 
-chosen : (cost count class : ℕ) → cost ≤ 1280 → (i : ℕ) → IsOwnNeighbour (counter_of cost count) (counted_by cost class) (at 8 9) i
+chosen : (cost count class : ℕ) → cost ≤ 1280 → (i : ℕ) → IsOwnNeighbour (counter_of cost count) (counted_by cost class) class (at 8 9) i
     → cost ≤ own_first_cost (counter_of cost count) i + cost_of (point_of (tree_seen (counter_of cost count)).points i) (at 8 9)
 unfolding word_at
 chosen cost count class low zero near = omega (arith, low, edge)
 chosen cost count class low (suc k) near = absurd (other (counter_of cost count) (counted_by cost class) refl (none_counted cost count) k near.own)
 
-rewired : (cost count class : ℕ) (i : ℕ) → IsOwnNeighbour (counter_of cost count) (counted_by cost class) (at 8 9) i
+rewired : (cost count class : ℕ) (i : ℕ) → IsOwnNeighbour (counter_of cost count) (counted_by cost class) class (at 8 9) i
     → (2 ^ 63 ≤ sees (counter_of cost count) (TreeOf i))
     × (cost_in (sees (counter_of cost count) (TreeOf i)) ≤ cost + cost_of (point_of (tree_seen (counter_of cost count)).points i) (at 8 9))
 unfolding word_at
 rewired cost count class zero near = (omega arith, omega arith)
 rewired cost count class (suc k) near = absurd (other (counter_of cost count) (counted_by cost class) refl (none_counted cost count) k near.own)
 
-past_the_radius : (i : ℕ) → IsOwnNeighbour (counter_of 2000 2048) (counted_by 2000 12) (at 8 9) i
+past_the_radius : (i : ℕ) → IsOwnNeighbour (counter_of 2000 2048) (counted_by 2000 12) 12 (at 8 9) i
     → 2000 ≤ own_first_cost (counter_of 2000 2048) i + cost_of (point_of (tree_seen (counter_of 2000 2048)).points i) (at 8 9)
 unfolding word_at
 past_the_radius zero near = (let e : false ≡ true = near.near in cc)
@@ -82,25 +82,22 @@ returns c = record {
       rewired = rewired 1280 1 1;
     };
   };
-  blocked = (
-    λ informed. absurd (informed refl),
-    record {
-      present = refl;
-      nearest = nearest (claimer_in 8) (new_hand 0) (unplaced_record 0 0 0 Blocked) refl refl;
-      outcome = record {
+  blocked = record {
+    present = refl;
+    nearest = nearest (claimer_in 8) (new_hand 0) (unplaced_record 0 0 0 Blocked) refl refl;
+    outcome = (
+      λ informed. absurd (informed refl),
+      record {
         blocked = λ h. (let e : 9 ≤ 8 = (AreInRoom-from_clear (empty_room (at 100 8)) (at 5 5) (at 8 9) h).last.vertical in omega (arith, e));
         free = free;
-      };
-    },
-  );
-  same = (
-    λ informed. absurd (informed refl),
-    record {
-      present = refl;
-      nearest = nearest claimer_at_start (new_hand 0) (unplaced_record 0 0 0 (Same 0)) refl refl;
-      outcome = refl;
-    },
-  );
+      },
+    );
+  };
+  same = record {
+    present = refl;
+    nearest = nearest claimer_at_start (new_hand 0) (unplaced_record 0 0 0 (Same 0)) refl refl;
+    outcome = (λ informed. absurd (informed refl), refl);
+  };
   dearer_past_the_radius = record {
     present = refl;
     nearest = nearest (counter_of 2000 2048) (hand_at Counted 0 2000) (counted_by 2000 12) refl refl;
