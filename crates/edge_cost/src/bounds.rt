@@ -7,8 +7,7 @@ ghost use Rattle.plan_model.specs.Geometry.Plane.{squared_distance};
 ghost use Rattle.plan_model.specs.Trees.BestNode.{is_in_goal};
 ghost use Rattle.plan_model.specs.Trees.GoalBounds.{bound_of};
 
-use crate::costs::{SQUARED_UNITS, cost};
-use crate::roots::root_ceiling;
+use crate::costs::{cost, cost_of_square};
 use plan_model::{Goal, Point};
 
 /// The bound of `p`: what the edge from `start` to it costs, and the least that an edge from it to a lattice point of a goal costs.
@@ -27,7 +26,7 @@ pub fn bound(start: Point, goals: &[Goal], p: Point) -> u64
     for goal in goals {
         least = least.min(p.squared_distance(nearest_in(*goal, p)));
     }
-    cost(start, p) + root_ceiling(SQUARED_UNITS * least)
+    cost(start, p) + cost_of_square(least)
 }
 
 /// The lattice point of the box that is nearest to `p`.

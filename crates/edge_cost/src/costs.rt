@@ -1,14 +1,20 @@
 //! What an edge costs.
 
-ghost use Rattle.std.specs.Prelude.{◌≡◌, ◌^◌, ◌<◌};
+ghost use Rattle.std.specs.Prelude.{◌≡◌, ◌^◌, ◌*◌, ◌<◌};
 ghost use Rattle.plan_model.specs.Geometry.Cost.{IsCost, cost_of};
 ghost use Rattle.plan_model.specs.Geometry.Bounds.{IsBounded};
+ghost use Rattle.plan_model.specs.Geometry.Roots.{IsRootCeiling, root_ceiling};
 
 use crate::roots::root_ceiling;
 use plan_model::Point;
+use std::num::f64_to_bits_with_nan;
 
 /// 256 squared: the square of a distance in lattice steps, times this, is the square of that distance in 256ths of a step.
 pub(crate) const SQUARED_UNITS: u64 = 65_536;
+
+/// 2 to the 24, less the 2 to the 28th part of 1. From 2 to the 24 up to its double the low 52 bits of a float say how far it is above
+/// that, in such parts.
+const FINE_FLOATS: f64 = 16_777_215.9999999962747097015380859375;
 
 /// The cost of the edge from `a` to `b`: its length in 256ths of a lattice step, rounded up.
 ///
@@ -23,7 +29,35 @@ pub fn cost(a: Point, b: Point) -> u64
     ensures least { IsCost a b result }
     ensures bound { result < 2 ^ 29 }
 {
-    root_ceiling(SQUARED_UNITS * a.squared_distance(b))
+    cost_of_square(a.squared_distance(b))
+}
+
+/// The cost of an edge whose length has this square, in square lattice steps, below 2^41: 256 times its root, rounded up. O(1).
+///
+/// The number before it is guessed by a float, and tested. The guess is wrong for 0 and where the root is hardly above a whole number:
+/// only then the root is sought.
+#[inline(always)]
+pub fn cost_of_square(square: u64) -> u64
+    requires { square < 2 ^ 41 }
+    ensures value { result ≡ root_ceiling (65536 * square) }
+    ensures least { IsRootCeiling (65536 * square) result }
+{
+    let n = SQUARED_UNITS * square;
+    let below = number_below(square);
+    if n.wrapping_sub(below * below + 1) <= 2 * below {
+        return below + 1;
+    }
+    root_ceiling(n)
+}
+
+/// Mostly the greatest number below 256 times the root of this one.
+#[inline(always)]
+fn number_below(square: u64) -> u64
+    requires { square < 2 ^ 41 }
+    ensures { result < 2 ^ 31 }
+{
+    let raised = ((square as i64) as f64).sqrt() + FINE_FLOATS;
+    f64_to_bits_with_nan(raised) >> 20 & 0x7fff_ffff
 }
 
 #[cfg(test)]

@@ -23,7 +23,7 @@ mod steering;
 pub use bounds::bound;
 pub use classes::class;
 pub use cost_bounds::costs_less_through;
-pub use costs::cost;
+pub use costs::{cost, cost_of_square};
 pub use parents::Parent;
 pub use radii::Radii;
 pub use steering::steer;

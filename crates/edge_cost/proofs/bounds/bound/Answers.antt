@@ -15,12 +15,12 @@ loop-goal-preserved c =
     )
 
 pub overflow_add-result : goal.overflow_add-result
-overflow_add-result c = omega (arith, c.root_ceiling.ensures.least.least 536870911, c.cost.ensures.bound, c.loop-goal.invariant.1)
+overflow_add-result c = omega (arith, c.cost_of_square.ensures.least.least 536870911, c.cost.ensures.bound, c.loop-goal.invariant.1)
 
 pub returns-clause-value : goal.returns-clause-value
 returns-clause-value c =
     let all = bound_of-scanned c.args.start c.args.goals.now c.args.p c.loop-goal.goal-index c.loop-goal.least (omega arith) c.loop-goal.invariant.0 in
-    omega (arith, c.cost.ensures.value, c.root_ceiling.ensures.value, all)
+    omega (arith, c.cost.ensures.value, c.cost_of_square.ensures.value, all)
 
 pub returns-clause-bound : goal.returns-clause-bound
-returns-clause-bound c = omega (arith, c.root_ceiling.ensures.least.least 536870911, c.cost.ensures.bound, c.loop-goal.invariant.1)
+returns-clause-bound c = omega (arith, c.cost_of_square.ensures.least.least 536870911, c.cost.ensures.bound, c.loop-goal.invariant.1)

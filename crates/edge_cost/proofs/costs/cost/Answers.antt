@@ -7,7 +7,7 @@ pub returns-clause-bound : goal.returns-clause-bound
 returns-clause-bound c =
     omega (
       arith,
-      c.root_ceiling.ensures.value,
+      c.cost_of_square.ensures.value,
       ap (λ (d : ℕ). root_ceiling (65536 * d)) c.squared_distance.ensures.value,
       cost_of-low c.args.a c.args.b c.requires.from c.requires.to,
     )
