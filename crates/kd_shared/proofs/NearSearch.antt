@@ -83,14 +83,14 @@ module _ (now after : Sight) (queue put : List Spot) (spot : Spot) (side : Bool)
 
 -- ---- a node is noted, if it is near
 
-numbers_of-push : (found : List Found) (spot : Spot) → numbers_of (found ++ noted spot ∷ []) ≡ numbers_of found ++ spot.node ∷ []
-numbers_of-push found spot = map-append (λ (f : Found). f.node) found (noted spot ∷ [])
+numbers_of-push : (found : List Found) (n distance : ℕ) → numbers_of (found ++ noted n distance ∷ []) ≡ numbers_of found ++ n ∷ []
+numbers_of-push found n distance = map-append (λ (f : Found). f.node) found (noted n distance ∷ [])
 
 module _ (found after : List Found) (spot : Spot) (distance bound : ℕ) (notes : Notes found after spot distance bound) where
   Notes-old : (n : ℕ) → Contains (numbers_of found) n → Contains (numbers_of after) n
   Notes-old n k =
       elim notes [
-        | inl (near, is) ↦ subst (λ ns. Contains ns n) (sym (ap numbers_of is ∙ numbers_of-push found spot))
+        | inl (near, is) ↦ subst (λ ns. Contains ns n) (sym (ap numbers_of is ∙ numbers_of-push found spot.node distance))
             (Contains-append_left (numbers_of found) (spot.node ∷ []) n k)
         | inr (far, is) ↦ subst (λ fs. Contains (numbers_of fs) n) (sym is) k
       ]
@@ -98,7 +98,7 @@ module _ (found after : List Found) (spot : Spot) (distance bound : ℕ) (notes 
   Notes-new : distance ≤ bound → Contains (numbers_of after) spot.node
   Notes-new close =
       elim notes [
-        | inl (near, is) ↦ subst (λ ns. Contains ns spot.node) (sym (ap numbers_of is ∙ numbers_of-push found spot))
+        | inl (near, is) ↦ subst (λ ns. Contains ns spot.node) (sym (ap numbers_of is ∙ numbers_of-push found spot.node distance))
             (Contains-push (numbers_of found) spot.node)
         | inr (far, is) ↦ absurd (omega (arith, close, far))
       ]
@@ -107,14 +107,14 @@ module _ (found after : List Found) (spot : Spot) (distance bound : ℕ) (notes 
   Notes-cases n k =
       elim notes [
         | inl (near, is) ↦ Contains-push_cases (numbers_of found) spot.node n
-            (subst (λ ns. Contains ns n) (ap numbers_of is ∙ numbers_of-push found spot) k)
+            (subst (λ ns. Contains ns n) (ap numbers_of is ∙ numbers_of-push found spot.node distance) k)
         | inr (far, is) ↦ inl (subst (λ fs. Contains (numbers_of fs) n) is k)
       ]
 
-  Notes-spots : (f : Found) → Contains after f → Contains found f ⊎ ((noted spot ≡ f) × (distance ≤ bound))
+  Notes-spots : (f : Found) → Contains after f → Contains found f ⊎ ((noted spot.node distance ≡ f) × (distance ≤ bound))
   Notes-spots f k =
       elim notes [
-        | inl (near, is) ↦ elim (Contains-push_cases found (noted spot) f (subst (λ fs. Contains fs f) is k)) [
+        | inl (near, is) ↦ elim (Contains-push_cases found (noted spot.node distance) f (subst (λ fs. Contains fs f) is k)) [
           | inl old ↦ inl old
           | inr same ↦ inr (same, near)
         ]
@@ -126,7 +126,7 @@ module _ (found after : List Found) (spot : Spot) (distance bound : ℕ) (notes 
       elim notes [
         | inl (near, is) ↦ (
             let whole : numbers_of found ++ [] ≡ numbers_of found = append-nil (numbers_of found) in
-            subst AreDifferent (sym (ap numbers_of is ∙ numbers_of-push found spot))
+            subst AreDifferent (sym (ap numbers_of is ∙ numbers_of-push found spot.node distance))
             (AreDifferent-within spot.node (numbers_of found) [] (subst AreDifferent (sym whole) h)
             (λ k. new (subst (λ ns. Contains ns spot.node) whole k))))
         | inr (far, is) ↦ subst (λ fs. AreDifferent (numbers_of fs)) (sym is) h
@@ -142,7 +142,8 @@ pub record IsGathering (before now : Sight) (target : Point) (r : ℕ) (queue : 
   pub stand : AreSeenSpots now queue
   pub different : AreDifferent (numbers_of found)
   pub among : (n : ℕ) → Contains (numbers_of found) n → Contains visiting.done n
-  pub only : (f : Found) → Contains found f → StandsAt now.seen.points f.node f.point × (squared_distance f.point target ≤ r * r) × (f.edge ≡ 0)
+  pub only : (f : Found) → Contains found f → (at : Point) × StandsAt now.seen.points f.node at × (f.distance ≡ squared_distance at target)
+      × (f.distance ≤ r * r) × (f.edge ≡ 0)
   pub fresh : AreFreshFound before now target (r * r) (numbers_of found) queue
 
 -- After one side of a node: it is noted, and the child on that side is left out or waits.
@@ -313,10 +314,11 @@ module _ {before now : Sight} {target : Point} {r : ℕ} {queue : List Spot} {fo
                 | inr same ↦ (0, omega arith, same)
               ];
               only = λ f k. elim (Notes-spots found more_found spot distance (r * r) notes f k) [
-                | inl old ↦ (let own = h.only f old in (later.seen.places.nodes f.node f.point own.0, own.1, own.2))
+                | inl old ↦ (let own = h.only f old in (own.0, later.seen.places.nodes f.node own.0 own.1, own.2, own.3, own.4))
                 | inr (same, near) ↦ subst
-                    (λ (g : Found). StandsAt after.seen.points g.node g.point × (squared_distance g.point target ≤ r * r) × (g.edge ≡ 0)) same
-                    (later.seen.places.nodes spot.node (point_of_spot spot) IsGathering-stands, near, refl)
+                    (λ (g : Found). (at : Point) × StandsAt after.seen.points g.node at × (g.distance ≡ squared_distance at target)
+                    × (g.distance ≤ r * r) × (g.edge ≡ 0))
+                    same (point_of_spot spot, later.seen.places.nodes spot.node (point_of_spot spot) IsGathering-stands, refl, near, refl)
               ];
               fresh = fresh;
             }

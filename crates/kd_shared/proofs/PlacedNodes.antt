@@ -1,5 +1,6 @@
 -- The node in hand is linked where the walk along the way of its point has come to, or it stays in hand.
 use Rattle.kd_shared.proofs.Words.{◌≡◌, ℕ, suc, ◌+◌, Bool, Option, Some, None, inl, sym, ap, ◌∙◌, subst, arith, IfSome, IsSome, Point, ChangesOnly, Best}
+use Rattle.kd_shared.proofs.Words.{IsBounded, IsBounded-hand, IsLawfulView, Treed, has_point}
 use Rattle.kd_shared.proofs.Words.{ChildOf, Count, WritesWord, IsLinkedAt, LeadsOn, NamesNode, BelongsTo, GoesOn, PassState, SharedState, with_view}
 use Rattle.kd_shared.proofs.Words.{BelongsTo-later, GoesOn-trans, HasLinked, NamesNode-child, SeesBestSince-trans, last_look, note_before, place_in, LeadsTo}
 use Rattle.kd_shared.proofs.Words.{SeesPoint, sees, Hand, View, OnlyLooks, PassLooks, GoesOnPlacing, IsPlaced, IsSame, KeepsShare, WasLinkedSince}
@@ -7,6 +8,12 @@ use Rattle.kd_shared.proofs.Words.{SeesPoint, sees, Hand, View, OnlyLooks, PassL
 -- the hand of a pass that only looked
 pub IfSome-kept : (before after : View) (Holds : Hand → Type 0) → OnlyLooks before after → IfSome before.hand Holds → IfSome after.hand Holds
 IfSome-kept before after Holds looks = subst (λ o. IfSome o Holds) (sym looks.kept.hand)
+
+-- the point in a hand that is treed is one whose distances fit
+pub IsBounded-held : (view : View) (p : Point) → IsLawfulView view → (held : Option Hand) → view.hand ≡ held → IsSome held
+    → IfSome held (λ hand. p ≡ hand.point) → IfSome held (λ hand. hand.stage ≡ Treed) → IsBounded p
+IsBounded-held view p lawful None is some at treed = cc
+IsBounded-held view p lawful (Some hand) is some at treed = subst IsBounded (sym at) (IsBounded-hand view hand lawful is (ap has_point treed))
 
 -- the way of the point in hand leads where that of p does
 pub IfSome-leads : (now : View) (p : Point) (n : ℕ) (side : Bool) (held : Option Hand) → IfSome held (λ hand. p ≡ hand.point) → LeadsTo now p n side

@@ -63,4 +63,5 @@ AreNearSeen-gathered before after p r found list h moved sorted = record {
     only n k =
         let own = Contains-number found n k in
         let here = h.only own.0 own.1 in
-        ap (λ m. is_within p r (point_at after.seen.points m)) (sym own.2) ∙ ap (is_within p r) here.0 ∙ is_within-near p r own.0.point here.1
+        ap (λ m. is_within p r (point_at after.seen.points m)) (sym own.2) ∙ ap (is_within p r) here.1
+        ∙ is_within-near p r here.0 (omega (arith, here.2, here.3))

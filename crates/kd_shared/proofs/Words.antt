@@ -7,6 +7,9 @@ pub use Rattle.grown_runs.proofs.Common.{StopsAt, StopsAt-below, TreeOf, Word, W
 pub use Rattle.grown_runs.proofs.Common.{distance_to, goes_on, goes_right, goes_right-by, goes_right_by, has_node, is_by_rows, is_by_rows-next, is_within, near}
 pub use Rattle.grown_runs.proofs.Common.{parent_in, parent_in-tree_word, point_at, point_in, point_of, point_of-stands, record_at, record_of_word}
 pub use Rattle.grown_runs.proofs.Common.{same_or_other, seen_tree_of_words, side_is, side_of, split_distance-le, squared_distance, two_sides}
+pub use Rattle.grown_runs.proofs.Table.PackedWords.{x_in-point_word, y_in-point_word}
+pub use Rattle.grown_runs.proofs.Ways.WalkStops.{StopsAt-fills, StopsAt-root}
+pub use Rattle.grown_runs.specs.Table.Words.{point_word}
 pub use Rattle.grown_runs.specs.declared.kd_walks.Stop.{Stop}
 pub use Rattle.grown_runs.specs.declared.measured_nodes.MeasuredNode.{MeasuredNode}
 pub use Rattle.kd_shared.specs.FarSides.{IsChildSpot, IsFinished, LoadsFar, LoadsSpot, PopsFar, StacksFar, WalksOn, far_side, line_square, near_side}
@@ -16,9 +19,10 @@ pub use Rattle.kd_shared.specs.Looking.{KeepsLists, OnlyLooks, PassLooks, search
 pub use Rattle.kd_shared.specs.Placings.{AddsHand, GoesOnPlacing, IsPlaced, IsSame, IsWordOfLink, KeepsShare, SeesLinked, WasLinkedSince, state_seen}
 pub use Rattle.kd_shared.specs.Searches.{AreGathered, AreNearSeen, IsNearestSeen, SweepsWithin}
 pub use Rattle.kd_shared.specs.Spots.{IsChildWithin, LeavesChild, Notes, Opens, Puts, QueuesChild, QueuesWithin, past_line, side_distance}
+pub use Rattle.kd_shared.specs.WordStops.{IsShift, StopsAtWord, stop_of}
 pub use Rattle.plan_model.proofs.SamePoints.{same_point-false, same_point-true}
 pub use Rattle.plan_words.proofs.Common.{BelongsTo, BelongsTo-later, Contains-number, GoesOn, GoesOn-trans, HasLinked, HasLooked-loaded, HasLooked-refl}
-pub use Rattle.plan_words.proofs.Common.{HasWholeShare, IsLinkedAt, IsLinkedAt-counted, LeadsOn, NamesChildOrPoint, NamesNode, NamesNode-child, PassState}
+pub use Rattle.plan_words.proofs.Common.{HasWholeShare, IsBounded-hand, IsLinkedAt, IsLinkedAt-counted, LeadsOn, NamesChildOrPoint, NamesNode, NamesNode-child, PassState}
 pub use Rattle.plan_words.proofs.Common.{SearchLists, SeesAsBefore, SeesBestSince-trans, SharedState, eqb-swap, leads_seen, no_search, numbers_of}
 pub use Rattle.plan_words.proofs.Common.{point_of_spot, same_numbers, with_lists, with_view}
 pub use Rattle.plan_words.specs.SearchLists.{noted}
@@ -46,6 +50,7 @@ pub use Rattle.step_core.proofs.Common.{WritesWord-saw, counted, has_first, has_
 pub use Rattle.step_core.proofs.Common.{point_at-kept, record-unplaced, run_sizes, same_name, sees, sees-linked, sight_in, tree_seen}
 pub use Rattle.step_core.proofs.Seen.DistinctNumbers.{AreDifferent, AreDifferent-few, AreDifferent-within, Contains-cases, Contains-none}
 pub use Rattle.step_core.proofs.Seen.DistinctNumbers.{IsDistinct-from_different, length-one_more}
+pub use Rattle.step_core.specs.Stages.{has_point}
 pub use Rattle.step_core.specs.declared.views.Hand.{Hand}
 pub use Rattle.step_core.specs.declared.views.Stage.TheVariants.{Treed}
 pub use Rattle.step_core.specs.declared.views.View.{View}

@@ -5,3 +5,4 @@ pub mod Searches
 pub mod Looking
 pub mod Placings
 pub mod LookLaws
+pub mod WordStops

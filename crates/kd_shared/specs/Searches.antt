@@ -25,10 +25,11 @@ pub record AreNearSeen (before after : Sight) (p : Point) (r : ℕ) (found : Lis
   pub all : found ≡ near after.seen.points p r
   pub swept : SweepsWithin before after p (r * r)
 
--- Each node seen with its point that is within r of p was found once, with its point and no cost of an edge, and nothing else was. All
--- points within r are swept.
+-- Each node seen with its point that is within r of p was found once, with its squared distance and no cost of an edge, and nothing else
+-- was. All points within r are swept.
 pub record AreGathered (before after : Sight) (p : Point) (r : ℕ) (found : List Found) : Type 0 where
   pub once : IsDistinct eqb (numbers_of found)
   pub all : (n : ℕ) → is_within p r (point_at after.seen.points n) ≡ true → Contains (numbers_of found) n
-  pub only : (f : Found) → Contains found f → StandsAt after.seen.points f.node f.point × (squared_distance f.point p ≤ r * r) × (f.edge ≡ 0)
+  pub only : (f : Found) → Contains found f → (at : Point) × StandsAt after.seen.points f.node at × (f.distance ≡ squared_distance at p)
+      × (f.distance ≤ r * r) × (f.edge ≡ 0)
   pub swept : SweepsWithin before after p (r * r)

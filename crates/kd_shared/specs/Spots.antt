@@ -62,4 +62,4 @@ IsChildWithin before after spot side within child =
 -- the node of a spot at this squared distance is noted, if that is within the bound
 abbrev pub Notes : List Found → List Found → Spot → ℕ → ℕ → Type 0
 Notes found after spot distance bound =
-    ((distance ≤ bound) × (after ≡ found ++ noted spot ∷ [])) ⊎ ((bound < distance) × (after ≡ found))
+    ((distance ≤ bound) × (after ≡ found ++ noted spot.node distance ∷ [])) ⊎ ((bound < distance) × (after ≡ found))

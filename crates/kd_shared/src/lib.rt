@@ -35,6 +35,7 @@ mod point_search;
 pub mod search_laws;
 mod shared_looks;
 mod squares;
+mod word_walks;
 
 pub use near_search::{around, gather, near};
 pub use nearest_search::nearest;

@@ -85,7 +85,7 @@ fn note(pass: &mut Pass, spot: Spot, distance: u64, most: u64)
     ensures others { pass.new ≡ searched pass.old pass.old.view (record pass.old.lists.search { found = pass.new.lists.search.found }) }
     ensures notes { Notes pass.old.lists.search.found pass.new.lists.search.found spot distance most }
 {
-    pass.note_if(spot, distance <= most);
+    pass.note_if(spot.node, distance, distance <= most);
 }
 
 /// Whether the left and the right of a node may hold points within the radius: a side is left out only if it is farther.

@@ -8,9 +8,8 @@ ghost use Rattle.plan_words.specs.States.{BelongsTo, HasWholeShare, with_view};
 ghost use Rattle.step_core.specs.Views.{tree_seen};
 ghost use Rattle.step_core.specs.declared.views.Stage.TheVariants.{Treed};
 
-use crate::shared_looks::SharedTree;
+use crate::word_walks::walk_by_words;
 use plan_words::{Pass, Shared};
-use step_core::walk;
 
 /// Where the node of a mark came to.
 #[derive(Clone, Copy, Debug, PartialEq, Eq)]
@@ -43,7 +42,7 @@ pub fn place(shared: &Shared, pass: &mut Pass, _mark: u32) -> Placing
     ensures whole_seen { HasWholeShare pass.old.view → IfSome pass.old.view.hand (λ hand. SeesPlacing pass.old.view pass.new.view hand result) }
 {
     let p = pass.hand_point();
-    let mut stop = walk(&SharedTree { shared }, pass, p);
+    let mut stop = walk_by_words(shared, pass, p);
     'depths: loop {
         if stop.here == p {
             return Placing::Same(stop.node);

@@ -1,6 +1,6 @@
 -- What a search keeps in a pass: the nodes that wait, how many were taken off, and those that it found among these.
-use Rattle.std.specs.Prelude.{ℕ, ◌+◌, ◌≤◌, ◌==◌, if◌then◌else◌, Bool, List, [], drop, length, map, nat_lt, take}
-use Rattle.plan_model.specs.Geometry.Cost.{cost_of}
+use Rattle.std.specs.Prelude.{ℕ, ◌+◌, ◌*◌, ◌≤◌, ◌==◌, if◌then◌else◌, Bool, List, [], drop, length, map, nat_lt, take}
+use Rattle.plan_model.specs.Geometry.Roots.{root_ceiling}
 use Rattle.plan_model.specs.declared.geometry.Point.{Point}
 use Rattle.grown_runs.specs.Table.Words.{cost_in, point_in}
 use Rattle.plan_words.specs.declared.spots.Cell.{Cell}
@@ -34,11 +34,11 @@ cell_of spot = record { node = spot.node; tag = if spot.by_rows then 1 else 0; w
 abbrev pub spot_in : Cell → Spot
 spot_in cell = record { node = cell.node; by_rows = cell.tag == 1; word = cell.word }
 
-abbrev pub noted_cell : Spot → Cell
-noted_cell spot = record { node = spot.node; tag = 0; word = spot.word }
+abbrev pub noted_cell : ℕ → ℕ → Cell
+noted_cell node distance = record { node = node; tag = 0; word = distance }
 
 abbrev pub found_in : Cell → Found
-found_in cell = record { node = cell.node; edge = cell.tag; point = point_in cell.word }
+found_in cell = record { node = cell.node; edge = cell.tag; distance = cell.word }
 
 -- The first cells are those of found nodes, and those past as many as were taken are those of spots that wait.
 abbrev pub lists_in : List Cell → ℕ → ℕ → SearchLists
@@ -51,16 +51,16 @@ pub record IsSearchStore (cells : List Cell) (taken count : ℕ) : Type 0 where
 
 -- ---- what is found
 
--- the node as it is noted
-abbrev pub noted : Spot → Found
-noted spot = record { node = spot.node; edge = 0; point = point_of_spot spot }
+-- the node, at this squared distance, as it is noted
+abbrev pub noted : ℕ → ℕ → Found
+noted node distance = record { node = node; edge = 0; distance = distance }
 
 abbrev pub numbers_of : List Found → List ℕ
 numbers_of found = map (λ (f : Found). f.node) found
 
--- the nodes with the costs of their edges to p
-abbrev pub weighed : Point → List Found → List Found
-weighed p found = map (λ (f : Found). record f { edge = cost_of f.point p }) found
+-- the nodes with the costs of edges as long as their distances
+abbrev pub weighed : List Found → List Found
+weighed found = map (λ (f : Found). record f { edge = root_ceiling (65536 * f.distance) }) found
 
 -- by the words seen, a found node costs more than this and its edge
 abbrev pub is_dearer : (ℕ → ℕ) → ℕ → Found → Bool

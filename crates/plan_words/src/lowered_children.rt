@@ -25,7 +25,7 @@ use crate::passes::Pass;
 use crate::shared::Shared;
 use crate::waiting::Waiting;
 use atomic_table::Seat;
-use edge_cost::{cost, costs_less_through};
+use edge_cost::cost;
 use plan_model::Point;
 use step_core::{ChildIndex, Hand, View, pack_tree, pair_in, point_in};
 
@@ -125,10 +125,11 @@ impl Shared {
     {
         let word = self.point_at(seat, child);
         let point = point_in(word);
-        if !costs_less_through(above.cost, above.point, point, pair_in(seen).1) {
+        let cost = above.cost + cost(above.point, point);
+        let (_, kept_cost) = pair_in(seen);
+        if kept_cost <= cost {
             return Ok(seen);
         }
-        let cost = above.cost + cost(above.point, point);
         let found = self.lower_at(seat, child, seen, above.node, cost);
         if found == seen {
             self.post_child(seat, hand, child, point, cost);

@@ -106,19 +106,19 @@ impl Pass {
         self.lists.search.pop()
     }
 
-    /// Puts the node of a spot at the end of those found, if it is wanted; no branch depends on that. Fewer were found than were taken.
-    /// O(1).
+    /// Puts a node at this squared distance at the end of those found, if it is wanted; no branch depends on that. Fewer were found than
+    /// were taken. O(1).
     #[inline]
-    pub fn note_if(&mut self, spot: Spot, wanted: bool)
+    pub fn note_if(&mut self, node: u32, distance: u64, wanted: bool)
         requires { length self.old.lists.search.found < self.old.lists.search.taken }
         ensures others { self.new ≡ with_lists self.old self.new.lists }
         ensures noted { self.new.lists ≡ record self.old.lists {
           search = record self.old.lists.search {
-            found = if wanted then self.old.lists.search.found ++ noted spot ∷ [] else self.old.lists.search.found;
+            found = if wanted then self.old.lists.search.found ++ noted node distance ∷ [] else self.old.lists.search.found;
           };
         } }
     {
-        self.lists.search.note_if(spot, wanted);
+        self.lists.search.note_if(node, distance, wanted);
     }
 
     /// How many nodes the search found. O(1).

@@ -100,16 +100,16 @@ impl SearchStore {
         Some(cell.spot())
     }
 
-    /// Puts the node of a spot at the end of those found, if it is wanted. It is always written.
-    pub(crate) fn note_if(&mut self, spot: Spot, wanted: bool)
+    /// Puts a node at this squared distance at the end of those found, if it is wanted. It is always written.
+    pub(crate) fn note_if(&mut self, node: u32, distance: u64, wanted: bool)
         requires { length self.old.lists.found < self.old.lists.taken }
         ensures { self.new ≡ record self.old {
           lists = record self.old.lists {
-            found = if wanted then self.old.lists.found ++ noted spot ∷ [] else self.old.lists.found;
+            found = if wanted then self.old.lists.found ++ noted node distance ∷ [] else self.old.lists.found;
           };
         } }
     {
-        self.cells[self.count] = Cell::noted(spot);
+        self.cells[self.count] = Cell::noted(node, distance);
         self.count += usize::from(wanted);
     }
 

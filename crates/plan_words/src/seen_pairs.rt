@@ -94,16 +94,26 @@ impl SeenPairs {
         }
     }
 
-    /// A node is seen with this word. O(1), and O(n) once if the lists get longer by n entries.
+    /// A node is seen with this word. O(1), and O(n) once if the lists get longer by n entries. Mostly it was seen with it before.
+    #[inline(always)]
     pub(crate) fn set(&mut self, node: u32, word: u64)
         requires node { node < length self.old }
         requires parent { 2 ^ 63 ≤ word → parent_in word < length self.old }
         ensures { self.new ≡ slice_set self.old node word }
     {
-        let before = self.word(node);
-        if before == word {
-            return;
+        if self.word(node) != word {
+            self.set_anew(node, word);
         }
+    }
+
+    /// The same, of another word than before.
+    #[inline(never)]
+    fn set_anew(&mut self, node: u32, word: u64)
+        requires node { node < length self.old }
+        requires parent { 2 ^ 63 ≤ word → parent_in word < length self.old }
+        ensures { self.new ≡ slice_set self.old node word }
+    {
+        let before = self.word(node);
         let chain = chain_of(node, word);
         reach(
             &mut self.words,

@@ -27,15 +27,15 @@ impl Spot {
     }
 }
 
-/// A node that a search has found, with its point.
+/// A node that a search has found, with its distance.
 #[derive(Clone, Copy)]
 pub struct Found {
     /// The number of the node.
     pub node: u32,
     /// The cost of an edge to it, in 256ths of a lattice step, which is below 2^29; 0 until it is worked out.
     pub edge: u32,
-    /// Where it stands.
-    pub point: Point,
+    /// Its squared distance from the point of the search, in square lattice steps.
+    pub distance: u64,
 }
 
 /// What both are made of: two numbers and a word, and nothing between them.
@@ -44,7 +44,7 @@ pub(crate) struct Cell {
     pub(crate) node: u32,
     /// 1 for a spot whose children are split by row, 0 for one of the others; the cost of the edge of a found node.
     tag: u32,
-    /// The word of its point.
+    /// The word of the point of a spot; the squared distance of a found node.
     word: u64,
 }
 
@@ -62,16 +62,16 @@ impl Cell {
         }
     }
 
-    /// The cell of the node of a spot that is found, with no cost of an edge.
+    /// The cell of a node that is found at this squared distance, with no cost of an edge.
     #[inline]
-    pub(crate) fn noted(spot: Spot) -> Cell
-        ensures cell { result ≡ noted_cell spot }
-        ensures found { found_in result ≡ noted spot }
+    pub(crate) fn noted(node: u32, distance: u64) -> Cell
+        ensures cell { result ≡ noted_cell node distance }
+        ensures found { found_in result ≡ noted node distance }
     {
         Cell {
-            node: spot.node,
+            node,
             tag: 0,
-            word: spot.word,
+            word: distance,
         }
     }
 
@@ -107,7 +107,7 @@ impl Cell {
         Found {
             node: self.node,
             edge: self.tag,
-            point: point_in(self.word),
+            distance: self.word,
         }
     }
 }

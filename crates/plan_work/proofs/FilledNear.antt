@@ -61,18 +61,24 @@ HasFilledNear-found before mid after one other p nodes class found looked own co
           All-map (IsInReach after p) (λ (f : Found). f.node) found (λ k d below.
           let f : Found = slice_index_or found k d in
           let here = gathered.only f (Contains-get_or found k d below) in
-          let at = point_of-stands points f.node f.point here.0 in
+          let at = point_of-stands points f.node here.0 here.1 in
           let bound = square-le r after.run.step (radius-most after.run.step after.run.gamma class) in
           record {
-            present = IsPresent-stands points f.node f.point here.0;
-            short = omega (arith, ap (λ a. squared_distance a p) at, here.1, bound);
+            present = IsPresent-stands points f.node here.0 here.1;
+            short = omega (arith, ap (λ a. squared_distance a p) at, here.2, here.3, bound);
           });
-      stands = λ k d below. (gathered.only _ (Contains-get_or found k d below)).0;
+      measured = λ k d below.
+          let f : Found = slice_index_or found k d in
+          let here = gathered.only f (Contains-get_or found k d below) in
+          record {
+            present = IsPresent-stands points f.node here.0 here.1;
+            distance = here.2 ∙ ap (λ a. squared_distance a p) (sym (point_of-stands points f.node here.0 here.1));
+          };
       close = λ i among.
           let f = Contains-number found i among in
           let here = gathered.only f.0 f.1 in
           subst (λ n. distance_to p points n ≤ r * r) f.2
-          (omega (arith, ap (λ a. squared_distance a p) (point_of-stands points f.0.node f.0.point here.0), here.1));
+          (omega (arith, ap (λ a. squared_distance a p) (point_of-stands points f.0.node here.0 here.1), here.2, here.3));
       swept = SweepsWithin-begun (sight_in before) (sight_in mid) (sight_in after) p (r * r) later gathered.swept;
     }
 
@@ -86,7 +92,7 @@ HasFilledNear-begun first before after one records p class found h = record {
   counted = λ entry. omega (arith, h.counted entry, own_count-same first before entry one records);
   all = λ i q stands close. h.all i q (stands_later first before one i q stands) close;
   in_reach = h.in_reach;
-  stands = h.stands;
+  measured = h.measured;
   close = h.close;
   swept =
       SweepsWithin-begun (sight_in first) (sight_in before) (sight_in after) p (radius_in after class * radius_in after class)

@@ -1,5 +1,5 @@
 -- What a search gathered are the near nodes, each once.
-use Rattle.plan_work.proofs.Words.{ℕ, ◌∙◌, List, ap, sym, AreGathered, is_within-near, near-within, Contains-near, Sight, is_within, near, point_at, Point}
+use Rattle.plan_work.proofs.Words.{ℕ, ◌∙◌, List, ap, arith, sym, AreGathered, is_within-near, near-within, Contains-near, Sight, is_within, near, point_at, Point}
 use Rattle.plan_work.proofs.Words.{Contains-number, Found, AreOf}
 
 pub AreOf-gathered : (before after : Sight) (p : Point) (r : ℕ) (found : List Found) → AreGathered before after p r found
@@ -11,5 +11,6 @@ AreOf-gathered before after p r found h = record {
       let f = Contains-number found n on in
       let here = h.only f.0 f.1 in
       Contains-near after.seen.points p r n
-      (ap (λ m. is_within p r (point_at after.seen.points m)) (sym f.2) ∙ ap (is_within p r) here.0 ∙ is_within-near p r f.0.point here.1);
+      (ap (λ m. is_within p r (point_at after.seen.points m)) (sym f.2) ∙ ap (is_within p r) here.1
+      ∙ is_within-near p r here.0 (omega (arith, here.2, here.3)));
 }

@@ -1,85 +1,80 @@
 -- The nearest node of a near list is the nearest of all.
-use Rattle.plan_work.proofs.Words.{◌≡◌, ℕ, ◌*◌, ◌≤◌, Option, List, [], ◌∷◌, ◌++◌, arith, inl, inr, sym, ap, ◌∙◌, subst, All, Contains, cases_lt, All-contains}
-use Rattle.plan_work.proofs.Words.{All-nil, SweepsWithin, SweepsWithin-less, mark_at, squared_distance, IsNotAbove, IsPairNotAbove, distance_to, IsPresent}
-use Rattle.plan_work.proofs.Words.{point_of, steered, Point, IsNotAbove-lesser, IsNotAbove-refl, IsNotAbove-trans, StandsAt-present, point_of-stands}
-use Rattle.plan_work.proofs.Words.{steered-near, IsNearerOf, numbers_of, GoesOn, Found, MeasuredNode, SeesPoint, sight_in, tree_seen, View, All-more}
-use Rattle.plan_work.proofs.Words.{stands_later, IsInReach, HasSteered, radius_in, HasFilledNear, IsNearestOf}
+use Rattle.plan_work.proofs.Words.{◌≡◌, ℕ, ◌+◌, ◌*◌, ◌<◌, ◌≤◌, ◌++◌, Option, Some, List, [], ◌∷◌, length, map, take, arith, inl, inr, sym, ap, ◌∙◌, subst, All}
+use Rattle.plan_work.proofs.Words.{Contains, cases_lt, min, slice_get, slice_index_or, slice_get_within, get_or_from_slice_get, take_more, map-append}
+use Rattle.plan_work.proofs.Words.{All-contains, All-map, Contains-get_or, Contains-image, Contains-source, IsNextWord, IsNextWord-more, parent_in, tree_word}
+use Rattle.plan_work.proofs.Words.{parent_in-tree_word, IsBounded, IsBounded-seen, squared_distance-low, seen-within, run_sizes, sees, IsMeasured, FitsWord}
+use Rattle.plan_work.proofs.Words.{SweepsWithin, SweepsWithin-less, mark_at, squared_distance, IsNotAbove, distance_to, IsPresent, point_of, steered, Point}
+use Rattle.plan_work.proofs.Words.{IsNotAbove-lesser, StandsAt-present, point_of-stands, steered-near, numbers_of, GoesOn, Found, sight_in, tree_seen, View}
+use Rattle.plan_work.proofs.Words.{IsLawfulView, stands_later, IsInReach, HasSteered, radius_in, HasFilledNear, IsNearestOf}
 
--- of two nodes the one that is not further has a pair that is not above
-pub IsNotAbove-further : (key : ℕ → ℕ) (m n distance further : ℕ) → distance ≡ key m → further ≡ key n → IsPairNotAbove distance m further n
-    → IsNotAbove key m n
-IsNotAbove-further key m n distance further near far h = record {
-  least = omega (arith, near, far, h.least);
-  first = λ e. h.first (omega (arith, near, far, e));
-}
+-- ---- the least word
 
--- one more node: the nearer of it and the nearest so far is the nearest
-pub IsNotAbove-more : (key : ℕ → ℕ) (among more : List ℕ) (best other nearer : ℕ) → more ≡ among ++ other ∷ [] → All (IsNotAbove key best) among
-    → IsNotAbove key nearer best → IsNotAbove key nearer other → All (IsNotAbove key nearer) more
-IsNotAbove-more key among more best other nearer is all one two =
-    All-more (IsNotAbove key nearer) among more other is
-    (λ k d below. IsNotAbove-trans key nearer best _ one (all k d below)) two
+-- the word of a found node: of two the lesser has the lesser pair of distance and number
+abbrev pub word_of : Found → ℕ
+word_of f = tree_word f.node f.distance
 
--- a node that is present is seen where it stands
-pub SeesPoint-of : (view : View) (m n : ℕ) (at : Point) → m ≡ n → at ≡ point_of (tree_seen view).points n → IsPresent (tree_seen view).points n
-    → SeesPoint view m at
-SeesPoint-of view m n at is here present =
-    subst (λ q. SeesPoint view m q) (sym here)
-    (subst (λ j. SeesPoint view j (point_of (tree_seen view).points n)) (sym is) (StandsAt-present (tree_seen view).points n present))
+-- one more
+pub IsNextWord-found : (found : List Found) (i : ℕ) (f : Found) (last least then : ℕ) → slice_get found i ≡ Some f
+    → IsNextWord (map word_of (take i found)) 0 last least → then ≡ min least (word_of f) → IsNextWord (map word_of (take (i + 1) found)) 0 last then
+IsNextWord-found found i f last least then read h is =
+    let more = ap (map word_of) (take_more found i f (slice_get_within found i f read) ∙ ap (λ x. take i found ++ x ∷ []) (get_or_from_slice_get found i f f read))
+    ∙ map-append word_of (take i found) (f ∷ []) in
+    IsNextWord-more (map word_of (take i found)) (map word_of (take (i + 1) found)) 0 last least (word_of f) then more h
+    (elim (cases_lt (word_of f) least) [
+      | inl less ↦ inl (omega arith, less, omega (arith, is, less))
+      | inr most ↦ inr (λ some. most, omega (arith, is, most))
+    ])
 
--- So far a measured node is the nearest, and its distance is kept.
-pub record IsBestOf (view : View) (p : Point) (near among : List ℕ) (best : MeasuredNode) : Type 0 where
-  pub nearest : IsNearestOf view p near among best.node best.at
-  pub distance : best.distance ≡ distance_to p (tree_seen view).points best.node
+-- The node of the least word is the nearest of those found.
+module _ (view : View) (p : Point) (found : List Found) (least : ℕ) (measured : All (IsMeasured view p) found) (fits : All FitsWord found)
+    (some : 0 < length found) (h : IsNextWord (map word_of found) 0 18446744073709551615 least) where
+  most : (f : Found) → Contains found f → least ≤ word_of f
+  most f on =
+      All-contains (λ w. 0 < w → least ≤ w) (map word_of found) (word_of f) h.least (Contains-image word_of found f on) (omega arith)
 
-pub IsBestOf-alone : (view : View) (p : Point) (near among : List ℕ) (best : MeasuredNode) (n : ℕ) → among ≡ [] ++ n ∷ [] → best.node ≡ n → Contains near n
-    → best.at ≡ point_of (tree_seen view).points n → best.distance ≡ distance_to p (tree_seen view).points n → IsPresent (tree_seen view).points n
-    → IsBestOf view p near among best
-IsBestOf-alone view p near among best n alone is listed here distance present =
-    let key = distance_to p (tree_seen view).points in
-    record {
-      nearest = record {
-        listed = subst (Contains near) (sym is) listed;
-        stands = SeesPoint-of view best.node n best.at is here present;
-        not_above =
-            All-more (IsNotAbove key best.node) [] among n alone (All-nil (IsNotAbove key best.node))
-            (subst (IsNotAbove key best.node) is (IsNotAbove-refl key best.node));
-      };
-      distance = distance ∙ ap key (sym is);
-    }
-
-module _ (view : View) (p : Point) (near among more : List ℕ) (best other nearer : MeasuredNode) (n : ℕ) (more_is : more ≡ among ++ n ∷ [])
-    (h : IsBestOf view p near among best) (is : other.node ≡ n) (listed : Contains near n) (here : other.at ≡ point_of (tree_seen view).points n)
-    (distance : other.distance ≡ distance_to p (tree_seen view).points n) (present : IsPresent (tree_seen view).points n)
-    (nearest : IsNearerOf best other nearer) where
-  abbrev key : ℕ → ℕ
-  key = distance_to p (tree_seen view).points
-
-  others : other.distance ≡ key other.node
-  others = distance ∙ ap key (sym is)
-
-  by_one : (P : MeasuredNode → Type 0) → P best → P other → P nearer
-  by_one P one two = elim nearest.one_of [
-    | inl e ↦ subst P (sym e) one
-    | inr e ↦ subst P (sym e) two
+  -- (it is no greater than that of the first)
+  here : Contains (map word_of found) least
+  here = elim h.one_of [
+    | inl last ↦ (
+        let none : Found = record { node = 0; edge = 0; distance = 0 } in
+        let fit : FitsWord (slice_index_or found 0 none) = fits 0 none some in
+        absurd (omega (arith, last, most (slice_index_or found 0 none) (Contains-get_or found 0 none some), fit.node, fit.distance)))
+    | inr on ↦ on
   ]
 
-  own : nearer.distance ≡ key nearer.node
-  own = by_one (λ c. c.distance ≡ key c.node) h.distance others
+  pub IsNearestOf-least : IsNearestOf view p (numbers_of found) (numbers_of found) (parent_in least) (point_of (tree_seen view).points (parent_in least))
+  IsNearestOf-least =
+      let points = (tree_seen view).points in
+      let key = distance_to p points in
+      let own = Contains-source word_of found least here in
+      let f : Found = own.0 in
+      let fit : FitsWord f = All-contains FitsWord found f fits own.1 in
+      let is : f.node ≡ parent_in least = sym (parent_in-tree_word f.node f.distance fit.node) ∙ ap parent_in own.2 in
+      let at : IsMeasured view p f = All-contains (IsMeasured view p) found f measured own.1 in
+      subst (λ m. IsNearestOf view p (numbers_of found) (numbers_of found) m (point_of points m)) is (record {
+        listed = Contains-image (λ (g : Found). g.node) found f own.1;
+        stands = StandsAt-present points f.node at.present;
+        not_above = All-map (IsNotAbove key f.node) (λ (g : Found). g.node) found (λ k d below.
+            let g : Found = slice_index_or found k d in
+            let other : IsMeasured view p g = measured k d below in
+            let small : FitsWord g = fits k d below in
+            let le = most g (Contains-get_or found k d below) in
+            let is_least = own.2 in
+            record {
+              least = omega (arith, le, is_least, fit.node, small.node, at.distance, other.distance);
+              first = λ e. omega (arith, le, is_least, fit.node, small.node, at.distance, other.distance, e);
+            });
+      })
 
-  pub IsBestOf-more : IsBestOf view p near more nearer
-  IsBestOf-more = record {
-    nearest = record {
-      listed = by_one (λ c. Contains near c.node) h.nearest.listed (subst (Contains near) (sym is) listed);
-      stands = by_one (λ c. SeesPoint view c.node c.at) h.nearest.stands (SeesPoint-of view other.node n other.at is here present);
-      not_above =
-          IsNotAbove-more key among more best.node n nearer.node more_is h.nearest.not_above
-          (IsNotAbove-further key nearer.node best.node nearer.distance best.distance own h.distance nearest.before)
-          (subst (IsNotAbove key nearer.node) is
-          (IsNotAbove-further key nearer.node other.node nearer.distance other.distance own others nearest.one_more));
-    };
-    distance = own;
-  }
+-- a node that is seen at its distance fits a word
+pub FitsWord-measured : (view : View) (p : Point) (f : Found) → IsLawfulView view → IsBounded p → IsMeasured view p f → FitsWord f
+FitsWord-measured view p f lawful bounded h =
+    let at = point_of (tree_seen view).points f.node in
+    let low = squared_distance-low at p (IsBounded-seen view f.node at (StandsAt-present (tree_seen view).points f.node h.present)) bounded in
+    record {
+      node = omega (arith, seen-within (run_sizes view.run) (sees view) f.node h.present, lawful.run.marks);
+      distance = omega (arith, h.distance, low);
+    }
 
 -- The nearest node on a near list of a mark steers to the mark itself.
 module _ (before mid : View) (one : GoesOn before mid) (k m class : ℕ) (from p : Point) (found : List Found) (is : p ≡ mark_at mid.run.marks k)

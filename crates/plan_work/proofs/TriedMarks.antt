@@ -1,7 +1,7 @@
 -- A mark whose point is written is hung by the nodes near it, and comes to its place.
 use Rattle.plan_work.proofs.Words.{◌≡◌, ℕ, ◌+◌, ◌*◌, ◌≤◌, List, arith, sym, ap, ◌∙◌, subst, All, Contains, IfSome, All-contains, cost_of, space_of, Clear}
 use Rattle.plan_work.proofs.Words.{ConfigurationSpace, mark_at, squared_distance, distance_to, point_of, class_of, radius_of_class, Point, IsPresent-stands}
-use Rattle.plan_work.proofs.Words.{point_of-stands, IsStep-steered, Count, Counter, RecordOf, numbers-weighed, AllWeighed-seen, IsWeighed, StandsAsFound}
+use Rattle.plan_work.proofs.Words.{point_of-stands, IsStep-steered, Count, Counter, RecordOf, numbers-weighed, AllWeighed-seen, IsMeasured, IsMeasured-later, IsWeighed}
 use Rattle.plan_work.proofs.Words.{GoesOnPlacing, KeepsShare, Placing, SweepsWithin, sight_in, sees, tree_seen, SharedRun, numbers_of, weighed, BelongsTo}
 use Rattle.plan_work.proofs.Words.{GoesOn, PassState, SharedState, Found, Hand, View, IsInReach-later, SeesPair-later, stands_later, IsInReach, cost_seen}
 use Rattle.plan_work.proofs.Words.{radius_in, HasCome, HasFilledNear, IsHung, IsSteeredTo, IsTried, KeepsRecords, MayPlace, hung_by, Hanging}
@@ -58,7 +58,7 @@ HasFilledNear-recounted before mid after p class found goes_on is filled =
       all = λ i q stands close.
           filled.all i q stands (subst (λ r. squared_distance q p ≤ r * r) same close);
       in_reach = λ k d below. IsInReach-later mid after p _ goes_on (filled.in_reach k d below);
-      stands = λ k d below. stands_later mid after goes_on _ _ (filled.stands k d below);
+      measured = λ k d below. IsMeasured-later mid after p _ goes_on (filled.measured k d below);
       close = λ i among.
           let present = (All-contains (IsInReach mid p) (numbers_of found) i filled.in_reach among).present in
           subst (λ r. distance_to p (tree_seen after).points i ≤ r * r) (sym same)
@@ -79,7 +79,7 @@ HasFilledNear-still before mid after p class found goes_on count filled =
 pub IsTried-placing :
     (shared : SharedState) (before hanging_at after : PassState) (hand : Hand) (placing : Placing) (hanging : Hanging)
     → KeepsRecords shared before hanging_at → GoesOnPlacing hanging_at.view after.view
-    → hanging_at.lists.search.found ≡ weighed hand.point before.lists.search.found
+    → hanging_at.lists.search.found ≡ weighed before.lists.search.found
     → after.lists.search.found ≡ hanging_at.lists.search.found → sees hanging_at.view Count ≡ sees before.view Count
     → IsHung before.view.steps hanging_at.view hand (hanging.parent, hanging.cost) (numbers_of before.lists.search.found)
     → HasCome after.view (hung_by hand hanging) placing → IsTried before after hand placing hanging
@@ -97,15 +97,15 @@ IsTried-placing shared before hanging_at after hand placing hanging keeps goes_o
 module _ (before after : PassState) (hand : Hand) (placing : Placing) (hanging : Hanging) (tried : IsTried before after hand placing hanging) where
   -- the records are of the same nodes
   pub numbers-tried : numbers_of after.lists.search.found ≡ numbers_of before.lists.search.found
-  numbers-tried = ap numbers_of tried.found ∙ numbers-weighed hand.point before.lists.search.found
+  numbers-tried = ap numbers_of tried.found ∙ numbers-weighed before.lists.search.found
 
   -- and have the costs of their edges
-  pub AllWeighed-tried : GoesOn before.view after.view → All (StandsAsFound before.view) before.lists.search.found
+  pub AllWeighed-tried : GoesOn before.view after.view → All (IsMeasured before.view hand.point) before.lists.search.found
       → All (IsWeighed after.view hand.point) after.lists.search.found
-  AllWeighed-tried goes_on stands =
+  AllWeighed-tried goes_on measured =
       let found = before.lists.search.found in
       subst (All (IsWeighed after.view hand.point)) (sym tried.found)
-      (AllWeighed-seen before.view after.view hand.point found goes_on stands
+      (AllWeighed-seen before.view after.view hand.point found goes_on measured
       (λ k d below. SeesPair-later tried.mid after.view tried.ended _ (tried.hung.pairs k d below)))
 
 -- each of these nodes with a clear edge costs no more than through the node in hand

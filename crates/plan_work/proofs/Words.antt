@@ -29,7 +29,7 @@ pub use Rattle.kd_shared.proofs.PassLooks.{PassLooks-load}
 pub use Rattle.kd_shared.proofs.SearchResults.{SweepsWithin-begun, SweepsWithin-later, SweepsWithin-less}
 pub use Rattle.kd_shared.proofs.SortedNear.{is_within-near, near-increases, near-within}
 pub use Rattle.kd_shared.specs.LookLaws.{OnlyLooks-trans}
-pub use Rattle.kd_shared.specs.Looking.{OnlyLooks}
+pub use Rattle.kd_shared.specs.Looking.{OnlyLooks, PassLooks}
 pub use Rattle.kd_shared.specs.Placings.{GoesOnPlacing, IsPlaced, IsPlacing, KeepsShare, SeesPlacing}
 pub use Rattle.kd_shared.specs.Searches.{AreGathered, IsNearestSeen, SweepsWithin}
 pub use Rattle.kd_shared.specs.declared.placing.Placing.{Placing}
@@ -45,7 +45,7 @@ pub use Rattle.plan_words.proofs.KeptPairs.{if_hand}
 pub use Rattle.plan_words.proofs.RisingNumbers.{Contains-number}
 pub use Rattle.plan_words.specs.States.{MayClaim}
 pub use Rattle.plan_words.specs.declared.spots.Found.{Found}
-pub use Rattle.plan_work.specs.ExtensionSteps.{HasBeenPlaced, HasCome, HasFilledNear, HasLoadedBest, HasReached, HasRecorded, IsFilledSince, IsHung}
+pub use Rattle.plan_work.specs.ExtensionSteps.{FitsWord, HasBeenPlaced, HasCome, HasFilledNear, HasLoadedBest, HasReached, HasRecorded, IsFilledSince, IsHung}
 pub use Rattle.plan_work.specs.ExtensionSteps.{IsNearestOf, IsPointed, IsSteeredAndHandled, IsSteeredTo, IsTried, KeepsRecords, MayPlace, given_by, hung_by}
 pub use Rattle.plan_work.specs.ExtensionSteps.{own_placed, own_unplaced, placed_hand, placed_stage}
 pub use Rattle.plan_work.specs.Extensions.{EndsAsSeen, HandlesMark, HasSteered, IsBlockedAt, IsExtended, IsPlacedAt, IsWithinRadius, MayExtend, ReachesAsSeen}
@@ -60,15 +60,15 @@ pub use Rattle.std.proofs.Common.{Bool, List, None, Option, Some, [], ap, arith,
 pub use Rattle.std.proofs.Common.{true, zero, ℕ, ◌%◌, ◌*◌, ◌++◌, ◌+◌, ◌-◌, ◌/◌, ◌<◌, ◌^◌, ◌∙◌, ◌∷◌, ◌≡◌, ◌≢◌, ◌≤◌}
 pub use Rattle.std.proofs.Math.Seq.{take-append_seam, take-suc}
 pub use Rattle.std.proofs.lemmas.Bool.{cases_Bool, cases_eq, cases_lt, eq-eqb, eqb-true, le-ltb, leb-true, lt-ltb, true≢false}
-pub use Rattle.std.proofs.lemmas.List.{append-nil, append_assoc, get_or_past, length-map, length-take-le, take_all}
+pub use Rattle.std.proofs.lemmas.List.{append-nil, append_assoc, get_or_past, length-map, length-take-le, map-append, take_all, take_more}
 pub use Rattle.std.proofs.lemmas.List.Elements.{All-cons, All-contains, All-contains_itself, All-map, All-nil, Contains-get_or, filter-append, filter_agree}
 pub use Rattle.std.proofs.lemmas.List.FromFn.{length-map-range_with_len}
 pub use Rattle.std.proofs.lemmas.List.Sums.{length-filter}
 pub use Rattle.std.proofs.lemmas.Nat.{mul-le}
-pub use Rattle.std.proofs.lemmas.Option.{same_Some, slice_get_past}
+pub use Rattle.std.proofs.lemmas.Option.{get_or_from_slice_get, same_Some, slice_get_past, slice_get_within}
 pub use Rattle.std.specs.List.{range_with_len}
 pub use Rattle.std.specs.Prelude.{All, Contains, IfSome, IsSome, IsTrue, is_some, map, max, nat_le, option_to_list, slice_get, slice_index_or, unwrap_or, ◌==◌}
-pub use Rattle.std.specs.Prelude.{◌⊎◌}
+pub use Rattle.std.specs.Prelude.{min, ◌⊎◌}
 pub use Rattle.step_core.proofs.Common.{Contains-cases, GrowsInto-seen, IsBounded-seen, IsCostBelow, IsInformed, IsLater, IsLaterMoment-later, IsLawfulView}
 pub use Rattle.step_core.proofs.Common.{IsOwnNeighbour, IsSteered, IsUnskipped, KeepsSight-lawful, MayBeRecorded, MayBeSkipped, MayEnd, MayHang, MayPost}
 pub use Rattle.step_core.proofs.Common.{MayReach, MayRecord, MaySteer, SeesGoal, SeesPoint, StandsAsSeen, WritesWord-looked, WritesWord-saw, best_loaded}
@@ -83,13 +83,16 @@ pub use Rattle.step_core.specs.declared.views.SharedRun.{SharedRun}
 pub use Rattle.step_core.specs.declared.views.Stage.{Stage}
 pub use Rattle.step_core.specs.declared.views.Stage.TheVariants.{Claimed, Counted, Half, Linked, Pointed, Posted, Treed}
 pub use Rattle.step_core.specs.declared.views.View.{View}
-pub use Rattle.tree_rewire.proofs.ChosenFound.{AllWeighed-seen}
+pub use Rattle.tree_rewire.proofs.ChosenFound.{AllWeighed-seen, IsNextWord-more, IsNextWord-none}
 pub use Rattle.tree_rewire.proofs.ChosenParents.{All-more, IsInReach-later, near_read, take_read}
 pub use Rattle.tree_rewire.proofs.CostSteps.{PassSees-point}
-pub use Rattle.tree_rewire.proofs.FoundLists.{All-at, AreOf-weighed, number_read, numbers-weighed}
-pub use Rattle.tree_rewire.proofs.SeenCosts.{SeesPair-later, cost_seen-later, stands_later}
+pub use Rattle.tree_rewire.proofs.FoundLists.{All-at, AreOf-weighed, Contains-image, Contains-source, numbers-weighed}
+pub use Rattle.tree_rewire.proofs.SeenCosts.{SeesPair-later, cost_seen-later, point_later, stands_later}
 pub use Rattle.tree_rewire.proofs.SpreadFalls.{HasSpreadFalls-still}
-pub use Rattle.tree_rewire.specs.FoundNodes.{AreOf, IsWeighed, StandsAsFound}
+pub use Rattle.tree_rewire.specs.FoundNodes.{AreOf, IsMeasured, IsWeighed}
 pub use Rattle.tree_rewire.specs.Mirrors.{Mirrors}
 pub use Rattle.tree_rewire.specs.Rewirings.{HasPlaced, HasSpreadFalls}
 pub use Rattle.tree_rewire.specs.SeenCosts.{IsInReach, IsLoadedSince, NamesLoweredOrPoint, NamesTree, SeesAnew, SeesPair, cost_seen, seen_cost_through}
+pub use Rattle.edge_cost.proofs.CostBounds.{squared_distance-low}
+pub use Rattle.tree_rewire.proofs.NearLists.{IsMeasured-later}
+pub use Rattle.tree_rewire.specs.NearNodes.{IsNextWord}

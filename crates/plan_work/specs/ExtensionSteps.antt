@@ -1,5 +1,5 @@
 -- What the steps of the handling of one mark leave, by what the pass has seen.
-use Rattle.std.specs.Prelude.{◌≡◌, true, false, ℕ, suc, ◌*◌, ◌<◌, ◌≤◌, if◌then◌else◌, All, Contains, IfSome, Some, List}
+use Rattle.std.specs.Prelude.{◌≡◌, true, false, ℕ, suc, ◌*◌, ◌^◌, ◌<◌, ◌≤◌, if◌then◌else◌, All, Contains, IfSome, Some, List}
 use Rattle.edge_cost.specs.declared.radii.Radii.{Radii}
 use Rattle.kd_shared.specs.Searches.{SweepsWithin}
 use Rattle.kd_shared.specs.Placings.{IsSame}
@@ -38,11 +38,11 @@ use Rattle.step_core.specs.declared.views.Hand.{Hand}
 use Rattle.step_core.specs.declared.views.Stage.{Stage}
 use Rattle.step_core.specs.declared.views.Stage.TheVariants.{Counted, Pointed, Posted, Treed}
 use Rattle.step_core.specs.declared.views.View.{View}
-use Rattle.tree_rewire.specs.FoundNodes.{StandsAsFound}
 use Rattle.tree_rewire.specs.SeenCosts.{IsInReach, IsLoadedSince, SeesPair, seen_cost_through}
 use Rattle.plan_work.specs.declared.mark_placing.Hanging.{Hanging}
 use Rattle.plan_work.specs.Extensions.{HandlesMark, MayExtend, ReachesAsSeen, WasSteered, radius_in}
 use Rattle.plan_work.specs.OneWorker.{IsNotSkippedIn, SeesTextbook, WorksAlone}
+use Rattle.tree_rewire.specs.FoundNodes.{IsMeasured}
 
 -- the radii are those of the scene's step and gamma
 pub record AreRadiiOf (scene : Scene) (radii : Radii) : Type 0 where
@@ -63,17 +63,22 @@ pub record KeepsRecords (shared : SharedState) (before after : PassState) : Type
 -- ---- steering
 
 -- The class is that of the count seen, which was loaded since, and is no less than how many nodes a worker has placed, by the records seen. Each
--- node that was seen before within the radius of p is found, all that are found are in reach, and within the radius, and stand where their
--- records say. All points within it are swept.
+-- node that was seen before within the radius of p is found, all that are found are in reach, and within the radius, and their records have
+-- their distances. All points within it are swept.
 pub record HasFilledNear (before after : View) (p : Point) (class : ℕ) (found : List Found) : Type 0 where
   pub class_is : class ≡ class_of (sees after Count)
   pub looked : before.steps < last_look after Count
   pub counted : (entry : Record) → own_count before entry ≤ sees after Count
   pub all : (i : ℕ) (q : Point) → SeesPoint before i q → squared_distance q p ≤ radius_in after class * radius_in after class → Contains (numbers_of found) i
   pub in_reach : All (IsInReach after p) (numbers_of found)
-  pub stands : All (StandsAsFound after) found
+  pub measured : All (IsMeasured after p) found
   pub close : (i : ℕ) → Contains (numbers_of found) i → distance_to p (tree_seen after).points i ≤ radius_in after class * radius_in after class
   pub swept : SweepsWithin (sight_in before) (sight_in after) p (radius_in after class * radius_in after class)
+
+-- The number of a found node and its distance fit a word.
+pub record FitsWord (f : Found) : Type 0 where
+  pub node : f.node < 2 ^ 18
+  pub distance : f.distance < 2 ^ 44
 
 -- Node m of a list is seen at this point, and none of those among is nearer to p.
 pub record IsNearestOf (view : View) (p : Point) (near among : List ℕ) (m : ℕ) (at : Point) : Type 0 where
@@ -165,7 +170,7 @@ hung_by hand hanging = record hand { stage = Treed; parent = hanging.parent; cos
 pub record IsTried (before after : PassState) (hand : Hand) (placing : Placing) (hanging : Hanging) : Type 0 where
   pub mid : View
   pub begun : GoesOn before.view mid
-  pub found : after.lists.search.found ≡ weighed hand.point before.lists.search.found
+  pub found : after.lists.search.found ≡ weighed before.lists.search.found
   pub counted : sees mid Count ≡ sees before.view Count
   pub hung : IsHung before.view.steps mid hand (hanging.parent, hanging.cost) (numbers_of before.lists.search.found)
   pub ended : GoesOn mid after.view

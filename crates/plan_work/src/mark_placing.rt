@@ -20,7 +20,7 @@ ghost use Rattle.grown_runs.specs.Table.WordNames.Word.{Count, TreeOf};
 ghost use Rattle.grown_runs.specs.Table.Words.{best_word, cost_in};
 ghost use Rattle.step_core.specs.declared.views.Hand.{Hand};
 ghost use Rattle.step_core.specs.declared.views.Stage.TheVariants.{Treed};
-ghost use Rattle.tree_rewire.specs.FoundNodes.{StandsAsFound};
+ghost use Rattle.tree_rewire.specs.FoundNodes.{IsMeasured};
 ghost use Rattle.tree_rewire.specs.SeenCosts.{IsInReach};
 ghost use Rattle.plan_model.specs.Trees.PointsByNumber.{point_of};
 
@@ -57,9 +57,9 @@ fn choose_and_write<C: Clearing>(
     requires nearest { IsInReach pass.old.view p nearest }
     requires clear { Clear (space_of shared.now.task.scene) (point_of (tree_seen pass.old.view).points nearest) p }
     requires near { All (IsInReach pass.old.view p) (numbers_of pass.old.lists.search.found) }
-    requires stands { All (StandsAsFound pass.old.view) pass.old.lists.search.found }
+    requires measured { All (IsMeasured pass.old.view p) pass.old.lists.search.found }
     ensures keeps { KeepsRecords shared.now pass.old pass.new }
-    ensures found { pass.new.lists.search.found ≡ weighed p pass.old.lists.search.found }
+    ensures found { pass.new.lists.search.found ≡ weighed pass.old.lists.search.found }
     ensures count { sees pass.new.view Count ≡ sees pass.old.view Count }
     ensures hung { IfSome pass.old.view.hand (λ hand. IsHung pass.old.view.steps pass.new.view hand result (numbers_of pass.old.lists.search.found)) }
     ensures whole { HasWholeShare pass.old.view → SeesAsBefore pass.old.view pass.new.view
@@ -125,7 +125,7 @@ fn choose_and_place<C: Clearing>(
     requires may { MayPlace shared.now pass.old k steering.nearest steering.point }
     requires part { 0 < share pass.old.view }
     requires near { All (IsInReach pass.old.view steering.point) (numbers_of pass.old.lists.search.found) }
-    requires stands { All (StandsAsFound pass.old.view) pass.old.lists.search.found }
+    requires measured { All (IsMeasured pass.old.view steering.point) pass.old.lists.search.found }
     requires hall { C.space hall.now ≡ space_of shared.now.task.scene }
     ensures keeps { KeepsRecords shared.now pass.old pass.new }
     ensures tried { IfSome pass.old.view.hand (λ hand. IsTried pass.old pass.new hand result.0 result.1) }

@@ -4,19 +4,21 @@ ghost use Rattle.std.specs.Prelude.{◌≡◌, ◌↔◌, All, IfSome, IsSome, I
 ghost use Rattle.kd_shared.specs.Looking.{OnlyLooks};
 ghost use Rattle.plan_model.specs.Geometry.Bounds.{IsBounded};
 ghost use Rattle.plan_model.specs.Spaces.Clearance.{Clear};
+ghost use Rattle.plan_model.specs.Trees.PointsByNumber.{point_of};
 ghost use Rattle.plan_words.specs.Claims.{SeesAsBefore};
 ghost use Rattle.plan_words.specs.SearchLists.{numbers_of};
 ghost use Rattle.plan_words.specs.States.{BelongsTo, HasWholeShare, PassState};
 ghost use Rattle.plan_work.specs.Extensions.{HasSteered};
-ghost use Rattle.plan_work.specs.ExtensionSteps.{AreRadiiOf, HasFilledNear, IsFilledSince, IsNearestOf, KeepsRecords};
+ghost use Rattle.plan_work.specs.ExtensionSteps.{AreRadiiOf, FitsWord, HasFilledNear, IsFilledSince, IsNearestOf, KeepsRecords};
 ghost use Rattle.plan_work.specs.WholeShares.{HasCounted, IsFilledWhole, SeesButCount};
-ghost use Rattle.tree_rewire.specs.FoundNodes.{StandsAsFound};
+ghost use Rattle.step_core.specs.Views.{tree_seen};
+ghost use Rattle.tree_rewire.specs.FoundNodes.{IsMeasured};
 
 use edge_cost::{Radii, class, steer};
 use kd_shared::{gather, nearest};
 use plan_model::Point;
 use plan_words::{Pass, Shared};
-use step_core::MeasuredNode;
+use step_core::{View, pack_tree, pair_in};
 use swept_check::Clearing;
 
 /// The node that steers towards a mark, and where to.
@@ -69,26 +71,25 @@ fn find_near(shared: &Shared, pass: &mut Pass, radii: &Radii, p: Point) -> u32
     class(nodes)
 }
 
-/// The nearest node to a point among those that the search found, of equally near ones that of the least number. `None` if it found
-/// none. No point is loaded. O(n) for n found nodes.
-fn nearest_found(pass: &Pass, p: Point) -> Option<MeasuredNode>
-    requires bounded { IsBounded p }
-    requires stands { All (StandsAsFound pass.now.view) pass.now.lists.search.found }
-    ensures some { IfSome result (λ best. IsNearestOf pass.now.view p (numbers_of pass.now.lists.search.found)
-        (numbers_of pass.now.lists.search.found) best.node best.at) }
+/// The node nearest to the point of the search among those that it found, of equally near ones that of the least number. `None` if it
+/// found none. O(n) for n found nodes.
+///
+/// The tree word of a node and its distance is the lower number of two if the pair is the lesser, so no branch depends on what was loaded.
+fn nearest_found(pass: &Pass) -> Option<u32>
+    requires { All FitsWord pass.now.lists.search.found }
+    ensures some { IfSome result (λ m. (view : View) (p : Point) → All (IsMeasured view p) pass.now.lists.search.found
+        → IsNearestOf view p (numbers_of pass.now.lists.search.found) (numbers_of pass.now.lists.search.found) m (point_of (tree_seen view).points m)) }
 {
     let count = pass.found_count();
     if count == 0 {
         return None;
     }
-    let first = pass.found(0);
-    let mut best = MeasuredNode::new(first.node, first.point, p);
-    'others: for index in 1..count {
+    let mut least = u64::MAX;
+    'others: for index in 0..count {
         let found = pass.found(index);
-        let other = MeasuredNode::new(found.node, found.point, p);
-        best = best.nearer(other);
+        least = least.min(pack_tree(found.node, found.distance));
     }
-    Some(best)
+    Some(pair_in(least).0)
 }
 
 /// The steering towards the mark in hand, with the nodes found near the point that it comes to, and the class of the number of nodes, by
@@ -112,10 +113,11 @@ fn steer_among_near(shared: &Shared, pass: &mut Pass, radii: &Radii, k: u32) -> 
 {
     let mark = shared.task().marks.as_slice()[k as usize];
     let class = find_near(shared, pass, radii, mark);
-    if let Some(best) = nearest_found(pass, mark) {
+    if let Some(nearest) = nearest_found(pass) {
+        let from = shared.point(pass, nearest);
         let steering = Steering {
-            nearest: best.node,
-            from: best.at,
+            nearest,
+            from,
             point: mark,
         };
         return (steering, class);

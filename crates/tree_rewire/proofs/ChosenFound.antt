@@ -1,15 +1,16 @@
 -- The choice of a parent by the words of pairs.
-use Rattle.tree_rewire.proofs.Words.{◌≡◌, ◌≢◌, ◌⊎◌, ℕ, ◌+◌, ◌^◌, ◌<◌, ◌≤◌, List, ◌∷◌, [], ◌++◌, Option, map, take, Some, arith, inl, inr, refl, sym, ap, ◌∙◌}
+use Rattle.tree_rewire.proofs.Words.{◌≡◌, ◌≢◌, ◌⊎◌, ℕ, ◌+◌, ◌*◌, ◌^◌, ◌<◌, ◌≤◌, List, ◌∷◌, [], ◌++◌, Option, map, take, Some, arith, inl, inr, refl, sym, ap, ◌∙◌}
 use Rattle.tree_rewire.proofs.Words.{subst, All, Contains, slice_get, slice_index_or, cases_eq, cases_lt, All-contains, All-map, All-push, Contains-append_left}
 use Rattle.tree_rewire.proofs.Words.{Contains-get_or, Contains-push, cost_of-low, IsBounded, ConfigurationSpace, Point, cost_of, IsFirstLeast, IsNotAbove}
-use Rattle.tree_rewire.proofs.Words.{IsOpenTo, IsPresent, point_of, StandsAt-present, Contains-after, Contains-first, cost_in, parent_in, tree_word}
+use Rattle.tree_rewire.proofs.Words.{IsOpenTo, IsPresent, point_of, IsPresent-later, StandsAt-present, Contains-after, Contains-first, cost_in, parent_in, tree_word}
 use Rattle.tree_rewire.proofs.Words.{cost_in-tree_word, parent_in-tree_word, IsBounded-seen, IsLawfulView, tree_seen, Contains-cases, numbers_of, weighed}
-use Rattle.tree_rewire.proofs.Words.{GoesOn, Found, View, IsWeighed, StandsAsFound, IsBlockedBelow, IsClearTo, IsNextOf, IsNextWord, IsOpenWord, word_through}
+use Rattle.tree_rewire.proofs.Words.{GoesOn, Found, View, IsMeasured, IsWeighed, IsBlockedBelow, IsClearTo, IsNextOf, IsNextWord, IsOpenWord, word_through}
 use Rattle.tree_rewire.proofs.Words.{NamesNothing, SeesAnew, SeesPair, seen_cost_through, SeesKnot}
-use Rattle.tree_rewire.proofs.ChosenParents.{take_read}
+use Rattle.plan_model.specs.Geometry.Roots.{root_ceiling}
+use Rattle.tree_rewire.proofs.ChosenParents.{points_later, take_read}
 use Rattle.tree_rewire.proofs.CostSteps.{seen_cost_through-same}
 use Rattle.tree_rewire.proofs.FoundLists.{Contains-image, Contains-source}
-use Rattle.tree_rewire.proofs.SeenCosts.{pair_low, stands_later}
+use Rattle.tree_rewire.proofs.SeenCosts.{pair_low}
 
 -- ---- words
 
@@ -235,15 +236,17 @@ IsChosenWord-least space view p near last word lawful knots nearest bounded pair
 -- ---- weighed records
 
 -- with the costs of their edges, records of nodes that were seen with their costs are weighed
-pub AllWeighed-seen : (before after : View) (p : Point) (found : List Found) → GoesOn before after → All (StandsAsFound before) found
-    → All (SeesPair after) (numbers_of found) → All (IsWeighed after p) (weighed p found)
-AllWeighed-seen before after p found goes_on stands pairs =
-    All-map (IsWeighed after p) (λ (f : Found). record f { edge = cost_of f.point p }) found (λ k d below.
+pub AllWeighed-seen : (before after : View) (p : Point) (found : List Found) → GoesOn before after → All (IsMeasured before p) found
+    → All (SeesPair after) (numbers_of found) → All (IsWeighed after p) (weighed found)
+AllWeighed-seen before after p found goes_on measured pairs =
+    All-map (IsWeighed after p) (λ (f : Found). record f { edge = root_ceiling (65536 * f.distance) }) found (λ k d below.
     let f : Found = slice_index_or found k d in
+    let own : IsMeasured before p f = measured k d below in
     record {
-      stands = stands_later before after goes_on f.node f.point (stands k d below);
+      present = IsPresent-later before after goes_on.later.run goes_on.later.seen f.node own.present;
       pair =
           All-contains (SeesPair after) (numbers_of found) f.node pairs
           (Contains-image (λ (g : Found). g.node) found f (Contains-get_or found k d below));
-      edge = refl;
+      edge = ap (λ (d : ℕ). root_ceiling (65536 * d)) own.distance
+          ∙ ap (λ q. cost_of q p) (sym (points_later before after f.node goes_on own.present));
     })

@@ -1,7 +1,7 @@
 -- Records of found nodes, and their numbers.
 use Rattle.tree_rewire.proofs.Words.{◌≡◌, ◌⊎◌, ℕ, zero, suc, Bool, true, false, cond, List, [], ◌∷◌, ◌++◌, Some, map, take, drop, inl, inr, refl, sym, ap, ◌∙◌}
 use Rattle.tree_rewire.proofs.Words.{subst, All, Contains, eqb, filter, option_map, slice_get, get_or_from_slice_get, slice_get-map, slice_get_within}
-use Rattle.tree_rewire.proofs.Words.{Contains-after, Contains-first, Point, numbers_of, weighed, Found, IsDistinct, AreOf, Contains-cases, Contains-none}
+use Rattle.tree_rewire.proofs.Words.{Contains-after, Contains-first, numbers_of, weighed, Found, IsDistinct, AreOf, Contains-cases, Contains-none}
 
 -- what holds of all records holds of the one that is read
 pub All-at : (P : Found → Type 0) (found : List Found) (i : ℕ) (f : Found) → slice_get found i ≡ Some f → All P found → P f
@@ -13,9 +13,9 @@ number_read found i f read =
     slice_get-map (λ (g : Found). g.node) found i ∙ ap (option_map (λ (g : Found). g.node)) read
 
 -- the costs of edges change no number
-pub numbers-weighed : (p : Point) (found : List Found) → numbers_of (weighed p found) ≡ numbers_of found
-numbers-weighed p [] = refl
-numbers-weighed p (f ∷ found) = ap (λ ns. f.node ∷ ns) (numbers-weighed p found)
+pub numbers-weighed : (found : List Found) → numbers_of (weighed found) ≡ numbers_of found
+numbers-weighed [] = refl
+numbers-weighed (f ∷ found) = ap (λ ns. f.node ∷ ns) (numbers-weighed found)
 
 -- while the first are mapped, the rest is as it was
 pub rest_read : (f : Found → Found) (found : List Found) (i : ℕ) → slice_get (map f (take i found) ++ drop i found) i ≡ slice_get found i
@@ -70,9 +70,9 @@ kept_passes p (y ∷ found) x on = elim (passed_one (p y) y (filter p found) x o
 ]
 
 -- the costs of edges change nothing of which nodes the records are
-pub AreOf-weighed : (p : Point) (found : List Found) (near : List ℕ) → AreOf found near → AreOf (weighed p found) near
-AreOf-weighed p found near h =
-    let same = sym (numbers-weighed p found) in
+pub AreOf-weighed : (found : List Found) (near : List ℕ) → AreOf found near → AreOf (weighed found) near
+AreOf-weighed found near h =
+    let same = sym (numbers-weighed found) in
     record {
       once = subst (IsDistinct eqb) same h.once;
       all = λ n on. subst (λ ns. Contains ns n) same (h.all n on);

@@ -35,9 +35,7 @@ module _ (view : View) (from : Point) (cost : ℕ) (found few : List Found) (wei
 
   test_is : (f : Found) → Contains found f → is_dearer (tree_words view) cost f ≡ test f.node
   test_is f on =
-      let own = is_weighed f on in
-      ap (λ e. nat_lt (cost + e) (cost_seen view f.node))
-      (own.edge ∙ ap (λ q. cost_of q from) (sym (point_of-stands points f.node f.point own.stands)))
+      ap (λ e. nat_lt (cost + e) (cost_seen view f.node)) (is_weighed f on).edge
 
   -- the few are found, and dearer
   pub few_found : (f : Found) → Contains few f → Contains found f × (test f.node ≡ true)
@@ -104,7 +102,7 @@ module _ (view : View) (from : Point) (cost n : ℕ) (found few : List Found) (w
   found_present i on =
       let f = Contains-number found i on in
       let own = All-contains (IsWeighed view from) found f.0 weighed f.1 in
-      subst (IsPresent (points_of tree)) f.2 (sym (ap is_some (mirrors.points f.0.node)) ∙ ap is_some own.stands)
+      subst (IsPresent (points_of tree)) f.2 (sym (ap is_some (mirrors.points f.0.node)) ∙ own.present)
 
   point_same : (i : ℕ) → point_of (points_of tree) i ≡ point_of (tree_seen view).points i
   point_same i = ap (λ o. unwrap_or o (record { x = 0; y = 0 })) (sym (mirrors.points i))

@@ -1,5 +1,5 @@
 -- The definitions and lemmas that proofs of this crate are about, passed on from one place. Declares nothing.
-pub use Rattle.edge_cost.proofs.CostBounds.{cost_of-low}
+pub use Rattle.edge_cost.proofs.CostBounds.{cost_of-low, squared_distance-low}
 pub use Rattle.grown_runs.proofs.Common.{AreDistinct, AreTight, AreTight-sums, Best, ChildOf, Clear, ConfigurationSpace, Contains-after, Contains-filter}
 pub use Rattle.grown_runs.proofs.Common.{Contains-first, CostsFall, CostsFall-cheaper_parent, CostsFall-tight, Count, Counter, FirstOf, HasCheaperParent}
 pub use Rattle.grown_runs.proofs.Common.{IsAllowedEdge, IsBounded, IsCheaperThrough, IsFirstLeast, IsNotAbove, IsOpenTo, IsPresent, IsPresent-cheaper_parent}
@@ -44,9 +44,9 @@ pub use Rattle.step_core.specs.declared.views.Stage.{Stage}
 pub use Rattle.step_core.specs.declared.views.Stage.TheVariants.{Claimed, Counted, Half, Linked, Pointed, Posted, Treed}
 pub use Rattle.step_core.specs.declared.views.View.{View}
 pub use Rattle.swept_check.proofs.BoundedSegments.{IsBounded-clear_in_scene}
-pub use Rattle.tree_rewire.specs.FoundNodes.{AreOf, IsWeighed, StandsAsFound, with_found}
+pub use Rattle.tree_rewire.specs.FoundNodes.{AreOf, IsMeasured, IsWeighed, with_found}
 pub use Rattle.tree_rewire.specs.Mirrors.{Mirrors}
-pub use Rattle.tree_rewire.specs.NearNodes.{AreKnown, IsBlockedBelow, IsClearTo, IsNextOf, IsNextWord, IsOpenWord, StandOn, nodes_on, weighed_on, word_through}
+pub use Rattle.tree_rewire.specs.NearNodes.{AreKnown, AreMeasured, IsBlockedBelow, IsClearTo, IsNextOf, IsNextWord, IsOpenWord, nodes_on, weighed_on, word_through}
 pub use Rattle.tree_rewire.specs.Rewirings.{CostsLess, HangsElsewhere, HasPlaced, HasSpreadFalls, IsInFall, IsShortcut}
 pub use Rattle.tree_rewire.specs.SeenCosts.{IsInReach, IsLoadedSince, NamesLowered, NamesLoweredOrPoint, NamesNothing, NamesPoint, NamesTree, PassLowers}
 pub use Rattle.tree_rewire.specs.SeenCosts.{PassSees, SeesAnew, SeesPair, cost_seen, parent_seen, seen_cost_through}

@@ -9,7 +9,7 @@ use Rattle.plan_words.specs.States.{Lists}
 use Rattle.step_core.specs.Views.{tree_seen}
 use Rattle.grown_runs.specs.Table.Words.{tree_word}
 use Rattle.step_core.specs.declared.views.View.{View}
-use Rattle.tree_rewire.specs.FoundNodes.{IsWeighed, StandsAsFound}
+use Rattle.tree_rewire.specs.FoundNodes.{IsMeasured, IsWeighed}
 use Rattle.tree_rewire.specs.SeenCosts.{seen_cost_through}
 use Rattle.tree_rewire.specs.Spreads.{SeesKnot}
 use Rattle.tree_rewire.specs.declared.near_nodes.NearNodes.{NearNodes}
@@ -20,15 +20,15 @@ abbrev pub nodes_on : NearNodes → Lists → List ℕ
 nodes_on Listed lists = lists.near
 nodes_on Searched lists = numbers_of lists.search.found
 
--- the nodes that a search found are seen where their records say
-abbrev pub StandOn : NearNodes → View → Lists → Type 0
-StandOn Listed view lists = Unit {0}
-StandOn Searched view lists = All (StandsAsFound view) lists.search.found
+-- the records of the nodes that a search found have their distances from p
+abbrev pub AreMeasured : NearNodes → View → Point → Lists → Type 0
+AreMeasured Listed view p lists = Unit {0}
+AreMeasured Searched view p lists = All (IsMeasured view p) lists.search.found
 
--- the lists, when the records of a search have the costs of their edges to p
-abbrev pub weighed_on : NearNodes → Point → Lists → Lists
-weighed_on Listed p lists = lists
-weighed_on Searched p lists = record lists { search = record lists.search { found = weighed p lists.search.found } }
+-- the lists, when the records of a search have the costs of their edges
+abbrev pub weighed_on : NearNodes → Lists → Lists
+weighed_on Listed lists = lists
+weighed_on Searched lists = record lists { search = record lists.search { found = weighed lists.search.found } }
 
 -- Each is seen with its point, its parent and its cost, and a record of the search has the cost of its edge to p.
 abbrev pub AreKnown : NearNodes → View → Point → Lists → Type 0

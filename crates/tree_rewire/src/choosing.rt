@@ -12,8 +12,8 @@ ghost use Rattle.plan_words.specs.SearchLists.{numbers_of, weighed};
 ghost use Rattle.plan_words.specs.States.{BelongsTo, HasWholeShare, with_lists, with_view};
 ghost use Rattle.step_core.specs.ViewTrees.{IsCostBelow};
 ghost use Rattle.step_core.specs.Views.{tree_seen};
-ghost use Rattle.tree_rewire.specs.FoundNodes.{StandsAsFound, with_found};
-ghost use Rattle.tree_rewire.specs.NearNodes.{StandOn, nodes_on, weighed_on};
+ghost use Rattle.tree_rewire.specs.FoundNodes.{IsMeasured, with_found};
+ghost use Rattle.tree_rewire.specs.NearNodes.{AreMeasured, nodes_on, weighed_on};
 ghost use Rattle.tree_rewire.specs.SeenCosts.{IsInReach, IsLoadedSince, NamesTree, PassSees, SeesAnew, SeesPair, seen_cost_through};
 
 use crate::near_nodes::NearNodes;
@@ -74,10 +74,10 @@ pub fn choose_found<C: Clearing>(
     requires nearest { IsInReach pass.old.view p nearest }
     requires clear { Clear (space_of shared.now.task.scene) (point_of (tree_seen pass.old.view).points nearest) p }
     requires near { All (IsInReach pass.old.view p) (numbers_of pass.old.lists.search.found) }
-    requires stands { All (StandsAsFound pass.old.view) pass.old.lists.search.found }
+    requires measured { All (IsMeasured pass.old.view p) pass.old.lists.search.found }
     ensures belongs { BelongsTo pass.new shared.now }
     ensures seen { SeesAnew NamesTree pass.old.view pass.new.view }
-    ensures found_alone { pass.new ≡ with_found pass.old pass.new.view (weighed p pass.old.lists.search.found) }
+    ensures found_alone { pass.new ≡ with_found pass.old pass.new.view (weighed pass.old.lists.search.found) }
     ensures pairs { All (SeesPair pass.new.view) (nearest ∷ numbers_of pass.old.lists.search.found) }
     // each cost was loaded in this call
     ensures loaded { All (IsLoadedSince pass.old.view.steps pass.new.view) (nearest ∷ numbers_of pass.old.lists.search.found) }
@@ -107,10 +107,10 @@ fn choose_among<C: Clearing>(
     requires nearest { IsInReach pass.old.view p nearest }
     requires clear { Clear (space_of shared.now.task.scene) (point_of (tree_seen pass.old.view).points nearest) p }
     requires near { All (IsInReach pass.old.view p) (nodes_on among pass.old.lists) }
-    requires stands { StandOn among pass.old.view pass.old.lists }
+    requires measured { AreMeasured among pass.old.view p pass.old.lists }
     ensures belongs { BelongsTo pass.new shared.now }
     ensures seen { SeesAnew NamesTree pass.old.view pass.new.view }
-    ensures alone { pass.new ≡ with_lists (with_view pass.old pass.new.view) (weighed_on among p pass.old.lists) }
+    ensures alone { pass.new ≡ with_lists (with_view pass.old pass.new.view) (weighed_on among pass.old.lists) }
     ensures pairs { All (SeesPair pass.new.view) (nearest ∷ nodes_on among pass.old.lists) }
     ensures loaded { All (IsLoadedSince pass.old.view.steps pass.new.view) (nearest ∷ nodes_on among pass.old.lists) }
     ensures least { IsFirstLeast (seen_cost_through pass.new.view p)
@@ -120,7 +120,7 @@ fn choose_among<C: Clearing>(
     ensures whole { HasWholeShare pass.old.view → SeesAsBefore pass.old.view pass.new.view }
 {
     load_costs(shared, pass, nearest, among);
-    among.weigh(pass, p);
+    among.weigh(pass);
     best_open(shared, pass, hall, p, nearest, among)
 }
 

@@ -1,6 +1,6 @@
 //! The nodes near a new one, on whichever list of a pass they are.
 
-ghost use Rattle.std.specs.Prelude.{◌≡◌, ◌<◌, All, Some, length, slice_get};
+ghost use Rattle.std.specs.Prelude.{◌≡◌, ◌^◌, ◌<◌, All, Some, length, slice_get};
 ghost use Rattle.plan_model.specs.Geometry.Bounds.{IsBounded};
 ghost use Rattle.plan_model.specs.Geometry.Cost.{cost_of};
 ghost use Rattle.plan_model.specs.Trees.PointsByNumber.{point_of};
@@ -8,10 +8,10 @@ ghost use Rattle.plan_words.specs.SearchLists.{weighed};
 ghost use Rattle.plan_words.specs.States.{BelongsTo, with_lists};
 ghost use Rattle.step_core.specs.Views.{tree_seen};
 ghost use Rattle.tree_rewire.specs.FoundNodes.{with_found};
-ghost use Rattle.tree_rewire.specs.NearNodes.{AreKnown, StandOn, nodes_on, weighed_on};
+ghost use Rattle.tree_rewire.specs.NearNodes.{AreKnown, AreMeasured, nodes_on, weighed_on};
 ghost use Rattle.tree_rewire.specs.SeenCosts.{NamesNothing, PassSees};
 
-use edge_cost::cost;
+use edge_cost::{cost, cost_of_square};
 use plan_model::Point;
 use plan_words::{Found, Pass, Shared};
 
@@ -48,16 +48,15 @@ impl NearNodes {
         }
     }
 
-    /// Works out the costs of the edges to a point of nodes that a search found, into their records.
+    /// Works out the costs of the edges of nodes that a search found, into their records.
     #[inline]
-    pub(crate) fn weigh(self, pass: &mut Pass, p: Point)
-        requires bounded { IsBounded p }
-        requires stands { StandOn self pass.old.view pass.old.lists }
-        ensures { pass.new ≡ with_lists pass.old (weighed_on self p pass.old.lists) }
+    pub(crate) fn weigh(self, pass: &mut Pass)
+        requires measured { (p : Point) × IsBounded p × AreMeasured self pass.old.view p pass.old.lists }
+        ensures { pass.new ≡ with_lists pass.old (weighed_on self pass.old.lists) }
     {
         match self {
             NearNodes::Listed => {}
-            NearNodes::Searched => set_edges(pass, p),
+            NearNodes::Searched => set_edges(pass),
         }
     }
 
@@ -92,16 +91,15 @@ impl NearNodes {
     }
 }
 
-/// Puts the costs of the edges of the nodes found to a point into their records.
-fn set_edges(pass: &mut Pass, p: Point)
-    requires bounded { IsBounded p }
-    requires found { All (λ (f : Found). IsBounded f.point) pass.old.lists.search.found }
-    ensures { pass.new ≡ with_found pass.old pass.old.view (weighed p pass.old.lists.search.found) }
+/// Puts the costs of the edges of the nodes found into their records.
+fn set_edges(pass: &mut Pass)
+    requires { All (λ (f : Found). f.distance < 2 ^ 41) pass.old.lists.search.found }
+    ensures { pass.new ≡ with_found pass.old pass.old.view (weighed pass.old.lists.search.found) }
 {
     let count = pass.found_count();
     'edges: for index in 0..count {
         let found = pass.found(index);
-        let edge = cost(found.point, p) as u32;
+        let edge = cost_of_square(found.distance) as u32;
         pass.set_edge(index, edge);
     }
 }

@@ -3,13 +3,18 @@ use Rattle.kd_shared.proofs.Words.{tree_seen, Stop, Treed, PassLooks-fills, Pass
 use Rattle.kd_shared.proofs.Finding.{LeadsTo-stop}
 use Rattle.kd_shared.proofs.PassLooks.{PassLooks-load, PassLooks-met}
 use Rattle.kd_shared.proofs.LinkedSights.{IfSome-all, IfSome-free, IfSome-sees_linked}
-use Rattle.kd_shared.proofs.PlacedNodes.{GoesOnPlacing-looks, IfSome-kept, IfSome-leads, IfSome-placed}
+use Rattle.kd_shared.proofs.PlacedNodes.{GoesOnPlacing-looks, IsBounded-held, IfSome-kept, IfSome-leads, IfSome-placed}
 use Rattle.kd_shared.proofs.PlacedNodes.{IfSome-same, IfSome-since, PassPlaces, PassPlaces-links, PassPlaces-looks}
 use Rattle.kd_shared.proofs.placing.place.Goals as goal
 
+pub walk_by_words-stop-requires-clause-bounded : goal.walk_by_words-stop-requires-clause-bounded
+walk_by_words-stop-requires-clause-bounded c =
+    IsBounded-held c.args.pass.now.view c.hand_point-p.result c.requires.belongs.lawful c.args.pass.now.view.hand refl c.requires.hand
+    c.hand_point-p.ensures c.requires.treed
+
 -- the walk before has only looked
 pub depths-init : goal.depths-init
-depths-init c = record { passes = c.walk-stop.ensures.looks; stops = c.walk-stop.ensures.stops }
+depths-init c = record { passes = c.walk_by_words-stop.ensures.looks; stops = c.walk_by_words-stop.ensures.stops }
 
 -- another node has the point
 pub returns-then-eq-clause-belongs : goal.returns-then-eq-clause-belongs

@@ -1,4 +1,4 @@
-use Rattle.plan_work.proofs.Words.{ap, subst, sym, ◌∙◌, numbers_of, weighed, PassState, KeepsOthers, HasCome, IsHung, IsTried, Hanging}
+use Rattle.plan_work.proofs.Words.{ap, subst, sym, ◌∙◌, numbers_of, PassState, KeepsOthers, HasCome, IsHung, IsTried, Hanging}
 use Rattle.plan_work.proofs.HeldMarks.{if_held, of_held}
 use Rattle.plan_work.proofs.KeptRecords.{KeepsRecords-trans}
 use Rattle.plan_work.proofs.TriedMarks.{IsTried-placing, KeepsRecords-placing, reach_of-steered}
@@ -30,10 +30,9 @@ returns-clause-tried g c =
     let hung = of_held before.view (λ hand. IsHung before.view.steps hung_at.view hand c.choose_and_write-parent.result
     (numbers_of before.lists.search.found)) may.hand may.held
     c.choose_and_write-parent.ensures.hung in
-    let found = c.choose_and_write-parent.ensures.found ∙ ap (λ p. weighed p before.lists.search.found) (sym may.pointed.point) in
     if_held before.view (λ hand. IsTried before after hand c.place_and_post-placing.result hanging) may.hand may.held
     (IsTried-placing c.args.shared.now before hung_at after may.hand c.place_and_post-placing.result hanging c.choose_and_write-parent.ensures.keeps
-    c.place_and_post-placing.ensures.goes_on found (ap (λ (p : PassState). p.lists.search.found) c.place_and_post-placing.ensures.view_alone)
+    c.place_and_post-placing.ensures.goes_on c.choose_and_write-parent.ensures.found (ap (λ (p : PassState). p.lists.search.found) c.place_and_post-placing.ensures.view_alone)
     c.choose_and_write-parent.ensures.count hung
     (of_held hung_at.view (λ hand. HasCome after.view hand c.place_and_post-placing.result) _ hung.held c.place_and_post-placing.ensures.placed))
 

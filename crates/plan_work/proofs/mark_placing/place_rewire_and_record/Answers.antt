@@ -1,7 +1,7 @@
 use Rattle.plan_work.proofs.Words.{◌≡◌, suc, true, refl, sym, ap, ◌∙◌, subst, All, Contains, IsSome, NewNode, SameNode, ending_of, space_of, FirstOf, near_new}
 use Rattle.plan_work.proofs.Words.{IsFilledWhole, IsTriedWhole, IsFilledSince, IsTried, given_by, hung_by, placed_hand, has_count, pair_in_hand, SeesPoint}
 use Rattle.plan_work.proofs.Words.{sees, setup_in, tree_seen, IsInReach-later, stands_later, near-increases, numbers_of, AreOf, IsWeighed, HasSpreadFalls}
-use Rattle.plan_work.proofs.Words.{AreOf-weighed, IsInReach, NamesLoweredOrPoint, SeesPair}
+use Rattle.plan_work.proofs.Words.{AreOf-weighed, IsInReach, NamesLoweredOrPoint, SeesPair, IsMeasured}
 use Rattle.plan_work.proofs.HeldMarks.{if_held, of_held}
 use Rattle.plan_work.proofs.KeptRecords.{KeepsRecords-anew, KeepsRecords-trans}
 use Rattle.plan_work.proofs.PlacedMarks.{IsPlacedAt-recorded, MayRecord-placed, MayRecord-same, Rewired-hand}
@@ -74,7 +74,7 @@ rewire_found-requires-clause-weighed g c κs within =
     let placed = subst (λ placing. IsTried before after may.hand placing c.choose_and_place-placing.result.1) c.in-Placed.is tried in
     if_held after.view (λ hand. All (IsWeighed after.view hand.point) after.lists.search.found) _ placed.came.counted
     (AllWeighed-tried before after may.hand Placed c.choose_and_place-placing.result.1 placed c.choose_and_place-placing.ensures.keeps.goes_on
-    c.requires.filled.1.filled.stands)
+    (subst (λ q. All (IsMeasured before.view q) before.lists.search.found) (sym may.pointed.point) c.requires.filled.1.filled.measured))
 
 pub record_placed-requires-clause-may : goal.record_placed-requires-clause-may
 record_placed-requires-clause-may g c =
@@ -208,7 +208,7 @@ returns-in-Placed-clause-textbook g c = λ steers filled alone book cheaper.
     let mirrors = Mirrors-tried shared before after c.args.k m p hanging may keeps placed whole reach steers filled_class book start_clear in
     let near = near_new (setup_in before.view.run) (tree_seen before.view).points p in
     let rises = near-increases (tree_seen before.view).points p _ in
-    let of = subst (λ fs. AreOf fs near) (sym placed.found) (AreOf-weighed may.hand.point before.lists.search.found near filled.found_is) in
+    let of = subst (λ fs. AreOf fs near) (sym placed.found) (AreOf-weighed before.lists.search.found near filled.found_is) in
     let rewired = c.rewire_found.ensures.whole (HasWholeShare-kept shared before after keeps alone.whole) _ mirrors near rises of in
     AloneNext-placed shared before after c.args.k m p hanging may keeps placed whole reach steers filled_class book start_clear c.rewire_found.new.pass
     c.record_placed.new.pass c.record_placed.result c.rewire_found.ensures.seen rewired.0 rewired.1 rewired.2 c.record_placed.ensures.recorded

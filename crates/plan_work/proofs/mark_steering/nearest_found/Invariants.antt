@@ -1,9 +1,7 @@
-use Rattle.plan_work.proofs.Words.{take, numbers_of}
-use Rattle.plan_work.proofs.NearestListed.{IsBestOf}
+use Rattle.plan_work.proofs.Words.{map, take, IsNextWord}
+use Rattle.plan_work.proofs.NearestListed.{word_of}
 use Rattle.plan_work.proofs.mark_steering.nearest_found.Given as goal
 
--- the best so far is the nearest of the earlier ones found
+-- the least word so far is that of the earlier ones found
 abbrev pub invariant-others : goal.invariant-others
-invariant-others l = record {
-  best : IsBestOf l.pass.view l.p (numbers_of l.pass.lists.search.found) (take l.index (numbers_of l.pass.lists.search.found)) l.best;
-}
+invariant-others l = IsNextWord (map word_of (take l.index l.pass.lists.search.found)) 0 18446744073709551615 l.least

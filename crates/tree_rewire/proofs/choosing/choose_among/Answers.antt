@@ -1,9 +1,9 @@
 use Rattle.tree_rewire.proofs.Words.{◌∷◌, List, ℕ, ap, arith, subst, sym, ◌∙◌, All-cons, All-tail, IsFirstLeast, IsOpenTo, Clear, point_of, ConfigurationSpace}
 use Rattle.tree_rewire.proofs.Words.{GoesOn-trans, PassState, with_lists, with_view, tree_seen, IsPresent-later, IsBounded-clear_in_scene, AreKnown, IsClearTo}
-use Rattle.tree_rewire.proofs.Words.{StandOn, nodes_on, weighed_on, IsInReach, NamesNothing, NamesTree, SeesAnew, SeesPair, seen_cost_through, SeesKnot}
+use Rattle.tree_rewire.proofs.Words.{AreMeasured, nodes_on, weighed_on, IsInReach, NamesNothing, NamesTree, SeesAnew, SeesPair, seen_cost_through, SeesKnot}
 use Rattle.tree_rewire.proofs.ChosenParents.{All-present, IsCostBelow-best, points_later}
 use Rattle.tree_rewire.proofs.CostSteps.{SeesAnew-more, SeesAnew-trans}
-use Rattle.tree_rewire.proofs.NearLists.{AreKnown-weighed, StandOn-later, nodes_on-then}
+use Rattle.tree_rewire.proofs.NearLists.{AreKnown-weighed, AreMeasured-later, nodes_on-then}
 use Rattle.tree_rewire.proofs.SeenCosts.{IsLoadedSince-later, SeesPair-later}
 use Rattle.tree_rewire.proofs.WholeShares.{SeesAsBefore-none, SeesAsBefore-trans}
 use Rattle.tree_rewire.proofs.choosing.choose_among.Given.{Over}
@@ -13,16 +13,19 @@ use Rattle.tree_rewire.proofs.choosing.choose_among.Goals.{After-best_open}
 pub load_costs-requires-clause-near : goal.load_costs-requires-clause-near
 load_costs-requires-clause-near g c = All-present c.args.pass.now.view c.args.p (nodes_on c.args.among c.args.pass.now.lists) c.requires.near
 
-pub weigh-requires-clause-bounded : goal.weigh-requires-clause-bounded
-weigh-requires-clause-bounded g c =
-    (IsBounded-clear_in_scene c.args.shared.now.task.scene (point_of (tree_seen c.args.pass.now.view).points c.args.nearest) c.args.p c.requires.clear).1
-
-pub weigh-requires-clause-stands : goal.weigh-requires-clause-stands
-weigh-requires-clause-stands g c =
+pub weigh-requires : goal.weigh-requires
+weigh-requires g c =
+    let before = c.args.pass.now in
     let steps = c.load_costs.ensures.steps in
     let mid = c.load_costs.new.pass in
-    subst (λ (s : PassState). StandOn c.args.among mid.view s.lists) (sym steps.view_alone)
-    (StandOn-later c.args.among c.args.pass.now.view mid.view c.args.pass.now.lists steps.sees_anew.goes_on c.requires.stands)
+    record {
+      measured = (
+        c.args.p,
+        (IsBounded-clear_in_scene c.args.shared.now.task.scene (point_of (tree_seen before.view).points c.args.nearest) c.args.p c.requires.clear).1,
+        subst (λ (s : PassState). AreMeasured c.args.among mid.view c.args.p s.lists) (sym steps.view_alone)
+            (AreMeasured-later c.args.among before.view mid.view c.args.p before.lists steps.sees_anew.goes_on c.requires.measured),
+      );
+    }
 
 -- ---- once all costs are loaded and the edges weighed
 
@@ -54,8 +57,8 @@ best_open-requires-clause-known g c κs within =
     let steps = c.load_costs.ensures.steps in
     let near = nodes_on c.args.among before.lists in
     subst (λ (s : PassState). AreKnown c.args.among s.view c.args.p s.lists) (sym c.weigh.ensures)
-    (subst (λ (s : PassState). AreKnown c.args.among mid.view c.args.p (weighed_on c.args.among c.args.p s.lists)) (sym steps.view_alone)
-    (AreKnown-weighed c.args.among before.view mid.view c.args.p before.lists steps.sees_anew.goes_on c.requires.stands c.requires.near
+    (subst (λ (s : PassState). AreKnown c.args.among mid.view c.args.p (weighed_on c.args.among s.lists)) (sym steps.view_alone)
+    (AreKnown-weighed c.args.among before.view mid.view c.args.p before.lists steps.sees_anew.goes_on c.requires.measured c.requires.near
     (All-tail (SeesPair mid.view) c.args.nearest near c.load_costs.ensures.pairs)))
 
 -- ---- what is answered
@@ -76,7 +79,7 @@ pub returns-clause-alone : goal.returns-clause-alone
 returns-clause-alone g c =
     let after = c.best_open.new.pass.view in
     c.best_open.ensures.steps.view_alone ∙ ap (λ s. with_view s after) c.weigh.ensures
-    ∙ ap (λ (s : PassState). with_view (with_lists s (weighed_on c.args.among c.args.p s.lists)) after) c.load_costs.ensures.steps.view_alone
+    ∙ ap (λ (s : PassState). with_view (with_lists s (weighed_on c.args.among s.lists)) after) c.load_costs.ensures.steps.view_alone
 
 pub returns-clause-pairs : goal.returns-clause-pairs
 returns-clause-pairs g c =
@@ -94,7 +97,7 @@ returns-clause-loaded g c =
 pub returns-clause-least : goal.returns-clause-least
 returns-clause-least g c =
     let after = c.best_open.new.pass.view in
-    let near = nodes_on-then c.args.among c.args.p c.args.pass.now c.load_costs.new.pass c.weigh.new.pass c.load_costs.ensures.steps.view_alone
+    let near = nodes_on-then c.args.among c.args.pass.now c.load_costs.new.pass c.weigh.new.pass c.load_costs.ensures.steps.view_alone
     c.weigh.ensures in
     let best = λ (space : ConfigurationSpace) (ns : List ℕ).
     IsFirstLeast (seen_cost_through after c.args.p) (IsOpenTo space (tree_seen after).points c.args.p (c.args.nearest ∷ ns)) c.best_open.result.0 in

@@ -1,6 +1,7 @@
-use Rattle.tree_rewire.proofs.Words.{◌≡◌, ◌++◌, ◌≤◌, Some, length, map, take, drop, set, ap, arith, refl, subst, sym, ◌∙◌, IfSome, slice_get, append-nil}
-use Rattle.tree_rewire.proofs.Words.{drop_all, take_all, map_over_more, get_or_from_slice_get, slice_get_within, IsBounded, cost_of, weighed, PassState}
+use Rattle.tree_rewire.proofs.Words.{◌≡◌, ◌++◌, ◌*◌, ◌^◌, ◌<◌, ◌≤◌, Some, length, map, take, drop, set, ap, arith, refl, subst, sym, ◌∙◌, IfSome, slice_get, append-nil}
+use Rattle.tree_rewire.proofs.Words.{drop_all, take_all, map_over_more, get_or_from_slice_get, slice_get_within, weighed, PassState}
 use Rattle.tree_rewire.proofs.Words.{with_lists, Found, with_found}
+use Rattle.plan_model.specs.Geometry.Roots.{root_ceiling}
 use Rattle.tree_rewire.proofs.FoundLists.{All-at, rest_read}
 use Rattle.tree_rewire.proofs.near_nodes.set_edges.Goals as goal
 use Rattle.tree_rewire.proofs.near_nodes.set_edges.Goals.{After-found-found, After-edges}
@@ -9,13 +10,19 @@ use Rattle.tree_rewire.proofs.near_nodes.set_edges.Goals.{After-found-found, Aft
 read : (c : After-found-found) → slice_get c.args.pass.now.lists.search.found c.edges.index ≡ Some c.found-found.result
 read c =
     let all = c.args.pass.now.lists.search.found in
-    sym (rest_read (λ (f : Found). record f { edge = cost_of f.point c.args.p }) all c.edges.index)
+    sym (rest_read (λ (f : Found). record f { edge = root_ceiling (65536 * f.distance) }) all c.edges.index)
     ∙ ap (λ (s : PassState). slice_get s.lists.search.found c.edges.index) (sym c.edges.invariant) ∙ c.found-found.ensures
 
-pub cost-edge-requires-clause-from : goal.cost-edge-requires-clause-from
-cost-edge-requires-clause-from c =
-    let here = (goal.at.cost-edge-requires-clause-from c).After-found-found in
-    All-at (λ (f : Found). IsBounded f.point) c.args.pass.now.lists.search.found c.edges.index c.found-found.result (read here) c.requires.found
+pub cost_of_square-edge-requires : goal.cost_of_square-edge-requires
+cost_of_square-edge-requires c =
+    let here = (goal.at.cost_of_square-edge-requires c).After-found-found in
+    All-at (λ (f : Found). f.distance < 2 ^ 41) c.args.pass.now.lists.search.found c.edges.index c.found-found.result (read here) c.requires
+
+pub overflow_cast-edge : goal.overflow_cast-edge
+overflow_cast-edge c =
+    let here = (goal.at.overflow_cast-edge c).After-found-found in
+    let short = All-at (λ (f : Found). f.distance < 2 ^ 41) c.args.pass.now.lists.search.found c.edges.index c.found-found.result (read here) c.requires in
+    omega (arith, c.cost_of_square-edge.ensures.least.least 536870912 (omega (arith, short)))
 
 pub edges-preserved : goal.edges-preserved
 edges-preserved c =
@@ -24,19 +31,19 @@ edges-preserved c =
     let here = (goal.at.edges-preserved c).After-found-found in
     let x = c.found-found.result in
     let mid = c.edges.pass in
-    let f : Found → Found = λ g. record g { edge = cost_of g.point c.args.p } in
+    let f : Found → Found = λ g. record g { edge = root_ceiling (65536 * g.distance) } in
     let now = map f (take c.edges.index all) ++ drop c.edges.index all in
     let edged = subst
     (λ o. IfSome o (λ g. c.set_edge.new.self.lists ≡ record mid.lists {
-      search = record mid.lists.search { found = set mid.lists.search.found c.edges.index (record g { edge = c.cost-edge.result }) };
+      search = record mid.lists.search { found = set mid.lists.search.found c.edges.index (record g { edge = c.cost_of_square-edge.result }) };
     }))
     c.found-found.ensures c.set_edge.ensures.set in
     let same = map_over_more f all now c.edges.index x
     (slice_get_within all c.edges.index x (read here)) refl
     (sym (get_or_from_slice_get now c.edges.index x x (rest_read f all c.edges.index ∙ read here))) in
     c.set_edge.ensures.others ∙ ap (with_lists mid) edged
-    ∙ ap (λ (s : PassState). with_found s s.view (set s.lists.search.found c.edges.index (record x { edge = c.cost-edge.result }))) c.edges.invariant
-    ∙ ap (λ e. with_found before before.view (set now c.edges.index (record x { edge = e }))) c.cost-edge.ensures.value
+    ∙ ap (λ (s : PassState). with_found s s.view (set s.lists.search.found c.edges.index (record x { edge = c.cost_of_square-edge.result }))) c.edges.invariant
+    ∙ ap (λ e. with_found before before.view (set now c.edges.index (record x { edge = e }))) c.cost_of_square-edge.ensures.value
     ∙ ap (with_found before before.view) same
 
 -- all are looked at
@@ -48,6 +55,6 @@ returns c =
     let all = c.args.pass.now.lists.search.found in
     let le = ended c in
     c.edges.invariant
-    ∙ ap (λ fs. with_found c.args.pass.now c.args.pass.now.view (weighed c.args.p fs ++ drop c.edges.index all)) (take_all c.edges.index all le)
-    ∙ ap (λ fs. with_found c.args.pass.now c.args.pass.now.view (weighed c.args.p all ++ fs)) (drop_all c.edges.index all le)
-    ∙ ap (with_found c.args.pass.now c.args.pass.now.view) (append-nil (weighed c.args.p all))
+    ∙ ap (λ fs. with_found c.args.pass.now c.args.pass.now.view (weighed fs ++ drop c.edges.index all)) (take_all c.edges.index all le)
+    ∙ ap (λ fs. with_found c.args.pass.now c.args.pass.now.view (weighed all ++ fs)) (drop_all c.edges.index all le)
+    ∙ ap (with_found c.args.pass.now c.args.pass.now.view) (append-nil (weighed all))

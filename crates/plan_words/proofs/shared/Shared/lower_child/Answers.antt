@@ -21,31 +21,14 @@ looked c = record {
   stands = subst (SeesPoint c.point_at-word.new.seat.me.0 c.args.child) (sym c.point_in-point.ensures) c.point_at-word.ensures.found;
 }
 
-pub returns-then-not-costs_less_through-clause-held : goal.returns-then-not-costs_less_through-clause-held
-returns-then-not-costs_less_through-clause-held c = c.requires.held ∙ sym (ap (λ v. v.hand) c.point_at-word.ensures.view)
-
-pub returns-then-not-costs_less_through-clause-others : goal.returns-then-not-costs_less_through-clause-others
-returns-then-not-costs_less_through-clause-others c n apart = c.point_at-word.ensures.seen.others (TreeOf n) (λ e. cc)
-
-pub returns-then-not-costs_less_through-clause-here : goal.returns-then-not-costs_less_through-clause-here
-returns-then-not-costs_less_through-clause-here c =
-    c.requires.seen ∙ sym (c.point_at-word.ensures.seen.others (TreeOf c.args.child) (λ e. cc))
-
-pub returns-then-not-costs_less_through-clause-is : goal.returns-then-not-costs_less_through-clause-is
-returns-then-not-costs_less_through-clause-is c =
-    let child = looked (goal.at.returns-then-not-costs_less_through-clause-is c).After-point_in-point in (
+pub returns-then-kept_cost-cost-clause-is : goal.returns-then-kept_cost-cost-clause-is
+returns-then-kept_cost-cost-clause-is c =
+    let child = looked (goal.at.returns-then-kept_cost-cost-clause-is c).After-point_in-point in
+    let kept = c.pair_in-kept_cost.ensures.cost in (
       own_mid _ _ _ _ _ child,
       CostsAtMostThrough-looked _ _ _ _ _ child
-          (elim (cases_lt (c.args.above.cost + cost_of c.args.above.point c.point_in-point.result)
-          (cost_in (sees c.args.seat.now.me.0 (TreeOf c.args.child)))) [
-            | inl less ↦ absurd (let yes = c.costs_less_through.ensures.1 (omega (arith, less, c.pair_in.ensures.cost, ap cost_in c.requires.seen)) in cc)
-            | inr most ↦ most
-          ]),
+          (omega (arith, c.if-kept_cost-cost.true, kept, ap cost_in c.requires.seen, c.cost.ensures.value)),
     )
-
-pub returns-then-not-costs_less_through-clause-points : goal.returns-then-not-costs_less_through-clause-points
-returns-then-not-costs_less_through-clause-points c all =
-    points_kept c.args.seat.now.me.0 c.point_at-word.new.seat.me.0 c.args.child _ c.point_at-word.ensures.seen (c.point_at-word.ensures.whole all)
 
 -- ---- the exchange
 
@@ -59,13 +42,7 @@ pub lower_at-found-requires-clause-may : goal.lower_at-found-requires-clause-may
 lower_at-found-requires-clause-may c =
     let at = goal.at.lower_at-found-requires-clause-may c in
     MayLower-child _ _ _ _ _ (looked at.After-point_in-point) (c.args.above.cost + c.cost.result) (cost_is at.After-cost)
-    (omega (
-      arith,
-      c.cost.ensures.value,
-      c.costs_less_through.ensures.0 c.if-not-costs_less_through.false,
-      c.pair_in.ensures.cost,
-      ap cost_in c.requires.seen,
-    ))
+    (omega (arith, c.cost.ensures.value, c.if-kept_cost-cost.false, c.pair_in-kept_cost.ensures.cost, ap cost_in c.requires.seen))
 
 pub lower_at-found-requires-clause-seen : goal.lower_at-found-requires-clause-seen
 lower_at-found-requires-clause-seen c = c.requires.seen ∙ sym (c.point_at-word.ensures.seen.others (TreeOf c.args.child) (λ e. cc))

@@ -1,4 +1,4 @@
-use Rattle.tree_rewire.proofs.Words.{◌≡◌, Some, ap, subst, sym, ◌∙◌, slice_get, cost_of, point_of-stands, tree_seen, IsWeighed, AreKnown, nodes_on, SeesKnot}
+use Rattle.tree_rewire.proofs.Words.{◌≡◌, Some, ap, subst, sym, ◌∙◌, slice_get, cost_of, IsWeighed, AreKnown, nodes_on, SeesKnot}
 use Rattle.tree_rewire.proofs.ChosenParents.{All-read}
 use Rattle.tree_rewire.proofs.CostSteps.{PassSees-point}
 use Rattle.tree_rewire.proofs.FoundLists.{All-at, number_read}
@@ -35,5 +35,4 @@ returns-in-Searched-clause-edge c =
     let pass = c.args.pass.now in
     let x = c.found-found.result in
     let known = subst (λ m. AreKnown m pass.view c.args.p pass.lists) c.in-Searched.is c.requires.known in
-    let own = All-at (IsWeighed pass.view c.args.p) pass.lists.search.found c.args.index x c.found-found.ensures known in
-    own.edge ∙ ap (λ q. cost_of q c.args.p) (sym (point_of-stands (tree_seen pass.view).points x.node x.point own.stands))
+    (All-at (IsWeighed pass.view c.args.p) pass.lists.search.found c.args.index x c.found-found.ensures known).edge

@@ -1,6 +1,6 @@
 use Rattle.plan_words.proofs.Words.{length, sym, ap, ◌∙◌, arith, slice_set, vec_capacity, chain_of, seen_words, sibling_chain_in}
 use Rattle.plan_words.proofs.SeenLists.{StandFor, StandFor-reached, StandFor-set, needed-within}
-use Rattle.plan_words.proofs.seen_pairs.SeenPairs.set.Goals as goal
+use Rattle.plan_words.proofs.seen_pairs.SeenPairs.set_anew.Goals as goal
 
 pub reach-requires : goal.reach-requires
 reach-requires c = (
