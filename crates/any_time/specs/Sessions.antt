@@ -27,6 +27,10 @@ IsBetter None last = ⊥
 IsBetter (Some cost) None = Unit {0}
 IsBetter (Some cost) (Some last) = cost < last.cost
 
+-- a run that has handled marks was looked at then, and has no better path any more
+abbrev pub HasShown : Grown → Option Last → Type 0
+HasShown run last = 0 < run.limit → ¬ IsBetter (best_sum run) last
+
 -- The next marks were handled, so many or the rest, and at least one, by workers numbered from 0; the run is settled. By one worker they
 -- were handled as the textbook does.
 pub record Handles (workers slice : ℕ) (before after : Grown) : Type 0 where

@@ -2,7 +2,7 @@
 
 ghost use Rattle.std.specs.Prelude.{◌≡◌, ◌≤◌, None, IfOk, IfErr, IfSome, IfNone, Some, true};
 ghost use Rattle.any_time.specs.BestPaths.{Shows, best_of, best_sum};
-ghost use Rattle.any_time.specs.Sessions.{IsBetter, Looks};
+ghost use Rattle.any_time.specs.Sessions.{HasShown, IsBetter, Looks};
 ghost use Rattle.futures.specs.Poll.{OnPending};
 ghost use Rattle.futures.specs.Task.{Covers, Keeps};
 ghost use Rattle.plan_work.specs.OneWorker.{IsOfTextbook};
@@ -39,7 +39,7 @@ pub struct Session<C: Clearing, R> {
 
 impl<C: Clearing, R> Model for Session<C, R> {
     ghost use Rattle.std.specs.Prelude.{◌≡◌, ◌≤◌, IfSome};
-    ghost use Rattle.any_time.specs.Sessions.{SessionState};
+    ghost use Rattle.any_time.specs.Sessions.{HasShown, SessionState};
     ghost use Rattle.std.specs.Coded.{codes};
     ghost use Rattle.grown_runs.specs.contracts.grown.Grown as grown;
     ghost use Rattle.plan_model.specs.Spaces.ConfigurationSpace.{space_of};
@@ -54,7 +54,7 @@ impl<C: Clearing, R> Model for Session<C, R> {
     ghost view = { λ s. record { run = s.run; workers = s.workers; slice = s.slice; last = s.last } };
 
     ghost invariant = { λ s. (1 ≤ s.workers) × (s.workers ≤ MOST_WORKERS) × (1 ≤ s.slice)
-        × IfSome s.run (λ run. (C.space s.hall ≡ space_of run.task.scene) × IsSettled (state_of_grown run)) };
+        × IfSome s.run (λ run. (C.space s.hall ≡ space_of run.task.scene) × IsSettled (state_of_grown run) × HasShown run s.last) };
 }
 
 impl<C: Clearing + Drop, R: Threads + Sync + Drop> Session<C, R> {
@@ -128,7 +128,7 @@ impl<C: Growing + Drop, R: Threads + Sync + Drop> Stream for Session<C, R> {
         let Some(run) = self.run.take() else {
             return Poll::Ready(None);
         };
-        if better_node(&run, self.last).is_some() {
+        if first_node(&run, self.last).is_some() {
             return look(self.alloc, run, &mut self.run, &mut self.last, cx);
         }
         if run.limit() == mark_count(&run) {
@@ -176,6 +176,7 @@ fn look(
     requires settled { IsSettled (state_of_grown run) }
     requires place { place.old ≡ None }
     ensures looks { Looks run last.old result place.new last.new }
+    ensures shown { IfSome place.new (λ run. ¬ IsBetter (best_sum run) last.new) }
     ensures woken { OnPending result (cx.new.is_woken ≡ true) }
     ensures registered { OnPending result (Covers cx.new (λ _. ⊥)) }
     ensures kept { Keeps cx.old cx.new }
@@ -192,6 +193,19 @@ fn look(
         }
         Err(memory) => Poll::Ready(Some(Err(memory))),
     }
+}
+
+/// The best node of a run, if a poll gives its path before it handles marks. A run that has handled some was looked at then.
+fn first_node(run: &Grown, last: Option<Last>) -> Option<u32>
+    requires settled { IsSettled (state_of_grown run.now) }
+    requires shown { HasShown run.now last }
+    ensures some { IfSome result (λ node. IsBetter (best_sum run.now) last) }
+    ensures none { IfNone result (¬ IsBetter (best_sum run.now) last) }
+{
+    if run.limit() > 0 {
+        return None;
+    }
+    better_node(run, last)
 }
 
 /// The path to the best node of a run, if its sum is below that of the last item, or if there is none yet.

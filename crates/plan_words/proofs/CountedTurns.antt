@@ -1,5 +1,5 @@
 -- How many records each worker has among the words of a run, when one mark more is read.
-use Rattle.plan_words.proofs.Words.{◌≡◌, ℕ, suc, ◌+◌, ◌<◌, ◌≤◌, Bool, true, false, cond, List, length, replicate, Option, Some, None, sym, ap, ◌∙◌, inl, inr}
+use Rattle.plan_words.proofs.Words.{◌≡◌, ℕ, suc, ◌+◌, ◌<◌, ◌≤◌, Bool, true, false, cond, List, length, replicate, Option, Some, sym, ap, ◌∙◌, inl, inr}
 use Rattle.plan_words.proofs.Words.{arith, slice_index, slice_set, range_with_len, cases_eq, ne_eqb, get_or-replicate, get_or-set_other, get_or-set_same}
 use Rattle.plan_words.proofs.Words.{length-range_with_len, count_by-le-length, is_of_worker, turns_of, Record, count-more}
 use Rattle.std.proofs.lemmas.Bool.{eq-eqb}
@@ -29,10 +29,6 @@ module _ (record_of : ℕ → Option Record) (mark : ℕ) where
       ∙ ap (λ b. turns_of record_of mark worker + cond b 1 0) is
 
   module _ (workers : ℕ) (turns : List ℕ) (counted : AreCounted record_of workers mark turns) where
-    -- without a record
-    pub AreCounted-blank : record_of mark ≡ None → AreCounted record_of workers (mark + 1) turns
-    AreCounted-blank none w low = omega (arith, counted w low, turns_of-more w false (ap (is_of_worker w) none))
-
     -- with the record of a worker past the last
     pub AreCounted-past : (entry : Record) → record_of mark ≡ Some entry → workers ≤ entry.worker → AreCounted record_of workers (mark + 1) turns
     AreCounted-past entry is past w low =

@@ -2,7 +2,7 @@
 use Rattle.plan_words.proofs.Words.{◌≡◌, ℕ, zero, suc, ◌+◌, ◌-◌, ◌<◌, ◌≤◌, List, [], ◌∷◌, ◌++◌, length, Some, None, refl, sym, ap, ◌∙◌, subst, arith, All}
 use Rattle.plan_words.proofs.Words.{All-cons, All-nil, TableId, skipping_goals, turns_of, state_of_grown, words_of_grown, HoldRun, record_at, sizes_of}
 use Rattle.plan_words.proofs.Words.{state_of_words, sizes_in, IsLeastBest, Word, Words, WritesWord, Best, ChildOf, Count, Counter, FirstOf, PointOf, RecordOf}
-use Rattle.plan_words.proofs.Words.{TreeOf, word_count, state-best, HasParentsWithin, IsPassOf, StandsFor, each_after, BelongsTo, HoldsWorld, IsTableOf, IsTied}
+use Rattle.plan_words.proofs.Words.{TreeOf, word_count, state-best, IsPassOf, StandsFor, each_after, BelongsTo, HoldsWorld, IsTableOf, IsTied}
 use Rattle.plan_words.proofs.Words.{MayClaim, PassState, SharedState, StartsAs, first_member, first_view, new_pass, run_in, run_of_opening, with_view}
 use Rattle.plan_words.proofs.Words.{without_best, Opening, crew_from, member_of, parted, second_alone, without_second, worker_apart, sees, IsLawfulView}
 use Rattle.plan_words.proofs.Words.{IsLawfulView-world, IsWorld-started, Grown, SharedRun, WordPlaces}
@@ -38,16 +38,11 @@ module _ (opening : Opening) where
         opening.some opening.few;
   }
 
-  -- the law holds of the first view, and so parents are among the nodes
+  -- the law holds of the first view
   pub IsLawfulView-started : IsLawfulView (first_view opening)
   IsLawfulView-started =
       IsLawfulView-world (run_of_opening opening) (sees (first_view opening)) (first_view opening ∷ []) 0 (first_view opening)
       HoldsWorld-started.world refl refl
-
-  pub HasParentsWithin-started : HasParentsWithin (length opening.grown.task.marks) (λ n. words_of_grown opening.grown (TreeOf n))
-  HasParentsWithin-started =
-      subst (λ words. HasParentsWithin (length opening.grown.task.marks) (λ n. words (TreeOf n))) sees-started
-      (λ n within written. (IsLawfulView-started.pairs n written).within)
 
   -- the first pass works as worker 0
   pub IsTied-started :

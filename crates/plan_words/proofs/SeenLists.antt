@@ -13,7 +13,7 @@ length-seen nodes words within =
     let more = length-append words (replicate (nodes - length words) 0) in
     omega (arith, more, length-replicate (nodes - length words) (zero), within)
 
-index-zeros : (count i : ℕ) → slice_index (replicate count 0) i ≡ 0
+pub index-zeros : (count i : ℕ) → slice_index (replicate count 0) i ≡ 0
 index-zeros zero i = refl
 index-zeros (suc count) zero = refl
 index-zeros (suc count) (suc i) = index-zeros count i
@@ -35,7 +35,7 @@ seen-set nodes words n x low =
 -- ---- node 0 alone
 
 -- a node that was not seen is nobody's child
-chain_of-unseen : (n : ℕ) → chain_of n 0 ≡ 0
+pub chain_of-unseen : (n : ℕ) → chain_of n 0 ≡ 0
 chain_of-unseen zero = refl
 chain_of-unseen (suc n) = refl
 

@@ -5,7 +5,7 @@ pub use Rattle.atomic_table.specs.Table.Act.{keeps}
 pub use Rattle.grown_runs.proofs.Common.{AreBehind, AreMembers, AreMembers-chain, AreSameRuns, AreSameRuns-trans, Best, Blocked, ChangesOnly, ChildOf, Clear}
 pub use Rattle.grown_runs.proofs.Common.{Count, Counter, Falling, FirstOf, FitsNumbers, FitsWord, HasOneMore, HasWord, HoldRun, IndexesChains, IsBounded}
 pub use Rattle.grown_runs.proofs.Common.{IsCounter, IsCutAt-quota, IsGoalNode, IsIndex-same, IsLeastBest, IsPresent, IsPresent-goal, IsStep-steered, KeepsRoom}
-pub use Rattle.grown_runs.proofs.Common.{MOST_MARKS, MOST_WORKERS, MovesNode, Outcome, Placed, Point, PointOf, Record, RecordOf, Same, Sizes, Skipped}
+pub use Rattle.grown_runs.proofs.Common.{MOST_MARKS, MOST_WORKERS, MovesNode, Outcome, Placed, Point, PointOf, Record, RecordOf, Same, Sizes, Skipped, setup_of}
 pub use Rattle.grown_runs.proofs.Common.{StandsAt-present, StandsAt-unique, Task, TreeOf, Word, Words, WritesWord, WritesWord-set, best_cost_in, best_node_in}
 pub use Rattle.grown_runs.proofs.Common.{best_of_word, best_word, child_of_word, class_from_powers, class_of, class_of-le, cleared, cost_in, cost_in-tree_word}
 pub use Rattle.grown_runs.proofs.Common.{cost_of, cost_of-short, count-more, ending_as, has_node, if_written-set, is_claimed, is_goal_point, is_linked}
@@ -13,7 +13,8 @@ pub use Rattle.grown_runs.proofs.Common.{is_of_worker, last_field, later_word, l
 pub use Rattle.grown_runs.proofs.Common.{place_of, place_of-within, point_at, point_in, point_of, point_of_word, point_of_word-packed, point_word, quota_of}
 pub use Rattle.grown_runs.proofs.Common.{record_at, record_of_word, record_word, run_words, seen_tree_of_words, siblings_from, siblings_from-here, sizes_in}
 pub use Rattle.grown_runs.proofs.Common.{sizes_of, skipping_goals, space_of, squared_distance, state-best, state_of_grown, state_of_words, sum-le, sum-more}
-pub use Rattle.grown_runs.proofs.Common.{times-else, times-here, tree_word, turns_of, word-found, word_at-none, word_count, words_in, words_of_grown}
+pub use Rattle.grown_runs.proofs.Common.{node-held, times-else, times-here, tree_word, turns_of, word-found, word_at-none, word_count, words_in, words_of_grown}
+pub use Rattle.grown_runs.proofs.Common.{node_present, parent-present}
 pub use Rattle.grown_runs.specs.ChildChains.{times}
 pub use Rattle.grown_runs.specs.declared.child_index.ChildIndex.{ChildIndex}
 pub use Rattle.grown_runs.specs.declared.grown.Grown.{Grown}
@@ -98,3 +99,6 @@ pub use Rattle.step_core.specs.declared.views.SharedRun.{SharedRun}
 pub use Rattle.step_core.specs.declared.views.Stage.{Stage}
 pub use Rattle.step_core.specs.declared.views.Stage.TheVariants.{Claimed, Counted, Half, Linked, Pointed, Posted, Treed}
 pub use Rattle.step_core.specs.declared.views.View.{View}
+pub use Rattle.grown_runs.proofs.Runs.FittingStates.{recorded-below}
+pub use Rattle.grown_runs.proofs.Runs.HeldRuns.{none_past-held}
+pub use Rattle.plan_model.proofs.WorkerTurns.{turns_of-longer}

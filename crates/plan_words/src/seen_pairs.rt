@@ -1,13 +1,14 @@
 //! The parents and costs that a pass saw last, with the children of each node by them.
 
-ghost use Rattle.std.specs.Prelude.{◌≡◌, ◌⊎◌, ℕ, suc, ◌<◌, ◌≤◌, ◌^◌, length, slice_index, slice_set, IfNone, IfOk, IfSome, IsTrue, None, replicate};
+ghost use Rattle.std.specs.Prelude.{◌≡◌, ◌⊎◌, ℕ, suc, ◌<◌, ◌≤◌, ◌^◌, length, slice_index, slice_set, IfNone, IfOk, IfSome, IsTrue, None, [], ◌∷◌, ◌+◌};
 ghost use Rattle.std.specs.Vec.{vec_capacity};
 ghost use Rattle.plan_words.specs.LoweredChildren.{CostsAtMostThrough, HasQueued, IsFoundPair, IsSeenAbove, LooksOn, LowersChildren, PostsChanged};
 ghost use Rattle.plan_words.specs.LoweredChildren.{SeesSamePoints, SitsAt};
 ghost use Rattle.plan_words.specs.Parents.{FindsLess};
-ghost use Rattle.plan_words.specs.SeenChains.{MayReach, Reaches, chain_of, sibling_chain_in};
+ghost use Rattle.plan_words.specs.SeenChains.{AreSeenFirst, MayReach, Reaches, chain_of, sibling_chain_in};
 ghost use Rattle.plan_words.specs.States.{HasPairs, HasWholeShare};
 ghost use Rattle.plan_words.specs.Waiting.{HasSeenParent, IsOn};
+ghost use Rattle.grown_runs.specs.Runs.GrownRuns.{words_of_grown};
 ghost use Rattle.step_core.specs.Views.{sees, share};
 ghost use Rattle.grown_runs.specs.Table.WordNames.Word.{TreeOf};
 ghost use Rattle.grown_runs.specs.Table.Words.{cost_in, parent_in};
@@ -18,12 +19,12 @@ use crate::waiting::Waiting;
 use atomic_table::Seat;
 use std::alloc::{AllocError, Global};
 use std::marker::Model;
-use step_core::{ChildIndex, Hand, View, read_tree};
+use step_core::{ChildIndex, Grown, Hand, View, read_tree};
 
 /// The tree word of each node as a pass saw it last, 0 if it did not, with an index from each node to those that have it as their
 /// parent by these words. To a contract it is the list of the words.
 ///
-/// The lists have room for all nodes, and an entry for each up to the greatest that was seen, as a node or as a parent.
+/// The lists have room for all nodes, and an entry at least for each up to the greatest that was seen, as a node or as a parent.
 #[derive(Drop)]
 pub(crate) struct SeenPairs {
     /// How many nodes there may be.
@@ -46,15 +47,16 @@ impl Model for SeenPairs {
 }
 
 impl SeenPairs {
-    /// No node is seen.
-    pub(crate) fn new(alloc: Global, nodes: usize) -> Result<SeenPairs, AllocError>
-        requires some { 0 < nodes }
-        requires few { nodes < 2 ^ 32 }
-        ensures { IfOk result (λ r. r ≡ replicate nodes 0) }
+    /// The tree words of a closed run. O(n) for n marks below its limit.
+    pub(crate) fn of_run(alloc: Global, grown: &Grown) -> Result<SeenPairs, AllocError>
+        ensures count { IfOk result (λ r. length r ≡ length grown.now.task.marks + 1) }
+        ensures each { IfOk result (λ r. (n : ℕ) → n ≤ length grown.now.task.marks → slice_index r n ≡ words_of_grown grown.now (TreeOf n)) }
     {
+        let nodes = grown.task().marks.len() + 1;
         let mut words = Vec::with_capacity(alloc, nodes)?;
         words.push_reserved(0u64);
-        let children = ChildIndex::new(alloc, nodes)?;
+        let mut children = ChildIndex::new(alloc, nodes)?;
+        see_run(&mut words, &mut children, grown);
         Ok(SeenPairs {
             nodes: nodes as u32,
             words,
@@ -170,6 +172,22 @@ impl SeenPairs {
             return None;
         }
         lower_chain(&mut self.words, &self.children, from, seat, hand, waiting)
+    }
+}
+
+/// Sees the tree words of a closed run, of which none past the limit is written, in lists that have seen no node.
+fn see_run(words: &mut Vec<u64>, children: &mut ChildIndex, grown: &Grown)
+    requires first { AreSeenFirst (length grown.now.task.marks + 1) words.old.items (vec_capacity words.old) children.old }
+    requires unseen { words.old.items ≡ 0 ∷ [] }
+    ensures first { AreSeenFirst (length grown.now.task.marks + 1) words.new.items (vec_capacity words.new) children.new }
+    ensures each { (n : ℕ) → slice_index words.new.items n ≡ words_of_grown grown.now (TreeOf n) }
+{
+    let nodes = grown.limit() + 1;
+    lengthen(words, children, nodes as usize);
+    for node in 0..nodes {
+        let word = grown.words().tree(node as usize);
+        children.relink(node, 0, chain_of(node, word));
+        words[node as usize] = word;
     }
 }
 

@@ -9,12 +9,9 @@ ghost use Rattle.plan_words.specs.Dealt.{IsPassOf, StandsFor, each_after};
 ghost use Rattle.plan_words.specs.States.{BelongsTo, HasPairs, IsTied, MayClaim, PassState, StartsAs, first_view, new_pass, run_in, with_view};
 ghost use Rattle.grown_runs.specs.Runs.GrownRuns.{words_of_grown};
 ghost use Rattle.grown_runs.specs.Runs.GrownWords.{record_at};
-ghost use Rattle.grown_runs.specs.Table.PlacesOfWords.{sizes_in};
-ghost use Rattle.grown_runs.specs.Table.RunWords.{words_in};
 ghost use Rattle.step_core.specs.ViewSteps.{parted, second_alone, worker_apart};
 ghost use Rattle.step_core.specs.ViewStarts.{crew_from};
 ghost use Rattle.step_core.specs.Views.{sees};
-ghost use Rattle.grown_runs.specs.Table.WordNames.Word.{TreeOf};
 
 use crate::openings::{Aim, Opening};
 use crate::passes::Pass;
@@ -25,7 +22,7 @@ use crate::shared::Shared;
 use atomic_table::{Seat, Table};
 use plan_model::Memory;
 use std::alloc::{AllocError, Global};
-use step_core::{Grown, Member, RunWords, View};
+use step_core::{Grown, Member, View};
 
 impl Shared {
     /// The words of a run in one table, and a pass for each of 1 to `MOST_WORKERS` workers, in the order of their numbers, each
@@ -49,7 +46,7 @@ impl Shared {
     {
         let mut grown = grown;
         grown.write_best();
-        let turns = count_turns(alloc, grown.words(), workers)?;
+        let turns = count_turns(alloc, &grown, workers)?;
         Shared::deal(alloc, Opening { grown, workers }, turns.as_slice())
     }
 
@@ -165,7 +162,7 @@ fn table_of(
     ensures key { IfOk result (λ laid. laid.0.shared.key ≡ opening.now) }
     ensures first { IfOk result (λ laid. laid.1 ≡ new_pass laid.0.shared.table_id (first_view opening.now)) }
 {
-    let pairs = tree_words(alloc, opening)?;
+    let pairs = SeenPairs::of_run(alloc, &opening.grown)?;
     let (table, seat) = Table::of_words(alloc, opening.grown.words().as_slice(), opening)?;
     let first = first_pass(alloc, seat, turn, pairs)?;
     Ok((table, first))
@@ -193,33 +190,18 @@ fn first_pass(
     })
 }
 
-/// How many records each worker has in the words of a run. O(n) for n marks.
-fn count_turns(alloc: Global, words: &RunWords, workers: u32) -> Result<Vec<u32>, AllocError>
+/// How many records each worker has in a closed run, which has none from its limit on. O(n) for n marks below the limit.
+fn count_turns(alloc: Global, grown: &Grown, workers: u32) -> Result<Vec<u32>, AllocError>
     ensures count { IfOk result (λ turns. length turns.items ≡ workers) }
     ensures each { IfOk result (λ turns. (w : ℕ) → w < workers
-        → slice_index turns.items w ≡ turns_of (record_at (words_in words.now)) (sizes_in words.now.places).marks w) }
+        → slice_index turns.items w ≡ turns_of (record_at (words_of_grown grown.now)) (length grown.now.task.marks) w) }
 {
     let mut turns = Vec::from_elem(alloc, 0u32, workers as usize)?;
-    for mark in 0..words.places().marks() {
-        if let Some(entry) = words.record_at(mark) {
-            if entry.worker < workers {
-                turns[entry.worker as usize] += 1;
-            }
+    for mark in 0..grown.limit() {
+        let entry = grown.record_of(mark);
+        if entry.worker < workers {
+            turns[entry.worker as usize] += 1;
         }
     }
     Ok(turns)
-}
-
-/// The tree word of each number, in the words of an opening. O(n) for n marks.
-fn tree_words(alloc: Global, opening: &Opening) -> Result<SeenPairs, AllocError>
-    ensures count { IfOk result (λ pairs. length pairs ≡ length opening.now.grown.task.marks + 1) }
-    ensures each { IfOk result (λ pairs. (n : ℕ) → n ≤ length opening.now.grown.task.marks
-        → slice_index pairs n ≡ words_of_grown opening.now.grown (TreeOf n)) }
-{
-    let words = opening.grown.words();
-    let mut pairs = SeenPairs::new(alloc, words.places().marks() + 1)?;
-    for node in 0..pairs.len() {
-        pairs.set(node, words.tree(node as usize));
-    }
-    Ok(pairs)
 }

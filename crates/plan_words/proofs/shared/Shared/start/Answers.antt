@@ -1,15 +1,10 @@
-use Rattle.plan_words.proofs.Words.{◌∙◌, ap, subst, sym, slice_index, IfOk-weaker, turns_of, skipping_goals, state_of_grown, words_of_grown, IsLeastBest, Best}
-use Rattle.plan_words.proofs.Words.{record_at, sizes_in, words_in, first_view, new_pass, without_best, Opening}
+use Rattle.plan_words.proofs.Words.{◌∙◌, ap, subst, sym, slice_index, IfOk-weaker, skipping_goals, state_of_grown, words_of_grown, IsLeastBest, Best}
+use Rattle.plan_words.proofs.Words.{first_view, new_pass, without_best, Opening}
 use Rattle.plan_words.proofs.Dealing.{IsLeastBest-written, MayClaim-starts, StartsAs-pass, sees-started, without_best-written}
 use Rattle.plan_words.proofs.shared.Shared.start.Goals as goal
 
 pub deal-requires-clause-turns : goal.deal-requires-clause-turns
-deal-requires-clause-turns c w low =
-    let grown = c.write_best.new.self in
-    ap (λ l. slice_index l w) c.as_slice.ensures.value
-    ∙ c.in_ok-turns.ensures.each w low
-    ∙ ap (λ words. turns_of (record_at (words_in words)) (sizes_in words.places).marks w) c.words.ensures
-    ∙ ap (λ s. turns_of (record_at (words_of_grown grown)) s.marks w) grown.of_task
+deal-requires-clause-turns c w low = ap (λ l. slice_index l w) c.as_slice.ensures.value ∙ c.in_ok-turns.ensures.each w low
 
 pub invariant_of-deal : goal.invariant_of-deal
 invariant_of-deal c = record {
