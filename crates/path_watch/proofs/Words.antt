@@ -44,10 +44,6 @@ pub use Rattle.std.proofs.Common.{Err, IfSome, IsSome, IsSomeAnd, List, None, Ok
 pub use Rattle.std.proofs.Common.{refl, subst, suc, sym, zero, ℕ, ◌++◌, ◌∙◌, ◌∷◌, ◌≡◌, ◌≤◌, ◌⊎◌}
 pub use Rattle.std.proofs.KnownBytes.{Consumes-nil, Keeps-refl}
 pub use Rattle.std.proofs.lemmas.Fn.{FoldsTo-push, chained_keeps}
-pub use Rattle.std.proofs.lemmas.Iterator.{items_from_collect}
-pub use Rattle.std.proofs.lemmas.Iterator.Adapters.{YieldsList-from_skip, YieldsList-from_vec}
 pub use Rattle.std.proofs.lemmas.List.{map-append}
-pub use Rattle.std.specs.Iterator.Adapters.{skip_source}
 pub use Rattle.std.specs.List.{FoldsTo}
 pub use Rattle.std.specs.Prelude.{is_some}
-pub use Rattle.std.specs.Vec.Iter.{into_iter_items}

@@ -1,5 +1,5 @@
 -- What the words of the command line ask for.
-use Rattle.std.specs.Prelude.{ℕ, ◌+◌, ◌/◌, ◌≤◌, max, false, Option, Some, None, IfSome, option_map, option_and_then, List, [], ◌∷◌}
+use Rattle.std.specs.Prelude.{ℕ, ◌+◌, ◌/◌, max, false, Option, Some, None, option_map, option_and_then, List, [], ◌∷◌}
 use Rattle.plan_model.specs.declared.limits.TheConstants.{MOST_MARKS, MOST_WORKERS}
 use Rattle.planner.specs.Commands.{number_in}
 use Rattle.planner.specs.declared.commands.Command.{Command}
@@ -22,10 +22,6 @@ orders_of [] = None
 orders_of (word ∷ []) = orders_by word
 orders_of (word ∷ second ∷ []) = orders_by_two word second
 orders_of (word ∷ second ∷ third ∷ words) = None
-
--- there is a worker, and not too many, and a mark at a time at least
-abbrev pub AreInRange : Orders → Type 0
-AreInRange orders = (1 ≤ orders.workers) × (orders.workers ≤ MOST_WORKERS) × IfSome orders.slice (λ slice. 1 ≤ slice)
 
 -- a twentieth of so many marks, rounded up, and 1 at least
 abbrev pub twentieth : ℕ → ℕ

@@ -1,14 +1,12 @@
 //! Everything that the program `plan_watch` does, over any source and any sink.
 
-ghost use Rattle.std.specs.Prelude.{◌≡◌, ◌≤◌, ◌⊎◌, false, length, map, string_bytes, IfErr, IfOk, Some};
+ghost use Rattle.std.specs.Prelude.{◌≡◌, ◌≤◌, ◌⊎◌, false, length, map, string_bytes, IfErr, IfOk, Some, IfSome};
 ghost use Rattle.std.specs.Process.{exit_status};
 ghost use Rattle.plan_model.specs.Scenes.MarkPoints.{mark_points};
-ghost use Rattle.plan_model.specs.Spaces.Clearance.{ClearAt};
-ghost use Rattle.plan_model.specs.Spaces.ConfigurationSpace.{space_of};
 ghost use Rattle.plan_model.specs.declared.limits.TheConstants.{MOST_MARKS};
 ghost use Rattle.any_time.specs.Sessions.{IsFresh};
 ghost use Rattle.scene_text.specs.Fetching.{ReadsWithin};
-ghost use Rattle.planner.specs.CommandLines.{words_after_name, AreNoText, IsOutOfMemory};
+ghost use Rattle.planner.specs.CommandLines.{words_after_name, IsOutOfMemory};
 ghost use Rattle.planner.specs.Conclusions.{IsCaused};
 ghost use Rattle.planner.specs.Exchanges.{IsUnread, IsUnwritten};
 ghost use Rattle.planner.specs.declared.statuses.TheConstants.{NO_MEMORY};
@@ -19,12 +17,12 @@ ghost use Rattle.path_watch.specs.declared.watching.Ending.{Ending};
 
 use crate::progress::Progress;
 use crate::statuses::NO_MEMORY;
-use crate::watch_words::{Orders, orders_of, words_after_name};
+use crate::watch_words::{Orders, orders_of};
 use crate::watching::{Ending, refuse, watch_session};
 use any_time::Session;
 use obstacle_boxes::Boxes;
 use plan_model::{Memory, Sink, Source, Task};
-use planner::{Refusal, problem_in};
+use planner::{Problem, Refusal, problem_in, words_after_name};
 use scene_text::fetch;
 use std::alloc::{AllocGlobal, Global};
 use std::env::Args;
@@ -96,35 +94,33 @@ fn asked_session<R: Threads + Sync + Clone + Drop, S: Source, P: Progress>(
     source: &mut S,
     progress: &P,
 ) -> Result<Session<Boxes, R>, Refusal>
-    requires ranges { spec.AreInRange orders }
+    requires slice { IfSome orders.slice (λ slice. 1 ≤ slice) }
     requires unended { (S.state source.old).has_ended ≡ false }
     ensures session { IfOk result (IsAskedSession orders (S.state source.old) (S.state source.new)) }
     ensures refusal { IfErr result (IsCaused (spec.as_plan (Some orders)) (S.state source.old) (S.state source.new)) }
     ensures within { ReadsWithin (S.state source.old).bytes_left (S.state source.new).bytes_left }
 {
     let text = fetch(alloc, source)?;
-    let (task, boxes) = problem_in(alloc, &text)?;
-    let session = fresh_session(rt, alloc, orders, task, boxes, progress)?;
+    let problem = problem_in(alloc, &text)?;
+    let session = fresh_session(rt, alloc, orders, problem, progress)?;
     Ok(session)
 }
 
-/// A session of a task whose start is clear, which has handled nothing yet.
+/// A session of a problem, which has handled nothing yet.
 fn fresh_session<R: Threads + Sync + Clone + Drop, P: Progress>(
     rt: &R,
     alloc: Global,
     orders: Orders,
-    task: Task,
-    boxes: Boxes,
+    problem: Problem,
     progress: &P,
 ) -> Result<Session<Boxes, R>, Memory>
-    requires ranges { spec.AreInRange orders }
-    requires boxes { boxes ≡ space_of task.scene }
-    requires start { ClearAt (space_of task.scene) task.scene.start }
-    ensures { IfOk result (IsFresh task orders.workers (spec.slice_by orders.slice (length (mark_points task.scene)))) }
+    requires { IfSome orders.slice (λ slice. 1 ≤ slice) }
+    ensures { IfOk result (IsFresh problem.task orders.workers (spec.slice_by orders.slice (length (mark_points problem.task.scene)))) }
 {
+    let Problem { task, boxes } = problem;
     let marks = mark_count(&task);
     let slice = orders.slice_of(marks);
-    let session = Session::new(rt.clone()?, alloc, task, boxes, orders.workers, slice)?;
+    let session = Session::new(rt.clone()?, alloc, task, boxes, orders.workers.get(), slice)?;
     progress.begins(marks, slice);
     Ok(session)
 }

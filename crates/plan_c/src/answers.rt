@@ -17,7 +17,7 @@ ghost use Rattle.grown_runs.specs.Runs.GrownRuns.{state_of_grown};
 use obstacle_boxes::Boxes;
 use plan_model::{MOST_TEXT_BYTES, Memory, Task};
 use plan_work::grow_alone;
-use planner::{Answer, Refusal, problem_in, report_of, smoothed_report_of};
+use planner::{Answer, Problem, Refusal, problem_in, report_of, smoothed_report_of};
 use report_judge::{Verdict, check_with};
 use settle_report::settle;
 use std::alloc::Global;
@@ -30,8 +30,8 @@ pub const MOST_REPORT_BYTES: usize = 4_294_967_294;
 pub(crate) fn plan_alone(alloc: Global, text: &[u8], full: bool) -> Result<Answer, Refusal>
     ensures { AnswersText (Command.Plan 1 full) text.now result }
 {
-    let (task, boxes) = problem_of(alloc, text)?;
-    let grown = run_alone(alloc, task, &boxes)?;
+    let problem = problem_of(alloc, text)?;
+    let grown = run_alone(alloc, problem.task, &problem.boxes)?;
     Ok(report_of(alloc, full, grown)?)
 }
 
@@ -39,9 +39,9 @@ pub(crate) fn plan_alone(alloc: Global, text: &[u8], full: bool) -> Result<Answe
 pub(crate) fn smooth_alone(alloc: Global, text: &[u8]) -> Result<Answer, Refusal>
     ensures { AnswersText (Command.Smooth 1) text.now result }
 {
-    let (task, boxes) = problem_of(alloc, text)?;
-    let grown = run_alone(alloc, task, &boxes)?;
-    Ok(smoothed_report_of(alloc, &boxes, grown)?)
+    let problem = problem_of(alloc, text)?;
+    let grown = run_alone(alloc, problem.task, &problem.boxes)?;
+    Ok(smoothed_report_of(alloc, &problem.boxes, grown)?)
 }
 
 /// Judges a report as one of the scene that a text spells.
@@ -51,16 +51,14 @@ pub(crate) fn judge_alone(alloc: Global, text: &[u8], report: &[u8]) -> Result<V
     if report.len() > MOST_REPORT_BYTES {
         return Err(Refusal::TooLong);
     }
-    let (task, boxes) = problem_of(alloc, text)?;
-    Ok(check_with(alloc, &task, &boxes, report)?)
+    let problem = problem_of(alloc, text)?;
+    Ok(check_with(alloc, &problem.task, &problem.boxes, report)?)
 }
 
-/// The task of the scene that a text spells, whose start is clear, with its collision checker.
-fn problem_of(alloc: Global, text: &[u8]) -> Result<(Task, Boxes), Refusal>
+/// The problem of the scene that a text spells, whose start is clear.
+fn problem_of(alloc: Global, text: &[u8]) -> Result<Problem, Refusal>
     ensures short { IfOk result (λ _. length text.now ≤ MOST_TEXT_BYTES) }
-    ensures scene { IfOk result (λ problem. Spells supported text.now problem.0.scene) }
-    ensures boxes { IfOk result (λ problem. problem.1 ≡ space_of problem.0.scene) }
-    ensures start { IfOk result (λ problem. ClearAt (space_of problem.0.scene) problem.0.scene.start) }
+    ensures scene { IfOk result (λ problem. Spells supported text.now problem.task.scene) }
     ensures refusal { IfErr result (RefusesText text.now) }
 {
     if text.len() > MOST_TEXT_BYTES {

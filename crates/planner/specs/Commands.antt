@@ -78,15 +78,14 @@ command_of (word ∷ second ∷ []) = command_of_two word second
 command_of (word ∷ second ∷ third ∷ []) = command_of_three word second third
 command_of (word ∷ second ∷ third ∷ fourth ∷ words) = None
 
--- if the command is about a generated scene, there is one of its number; a run is grown by at least one worker, and not too many, and by
--- a mark at a time at least
+-- if the command is about a generated scene, there is one of its number; a slice has a mark at least
 abbrev pub IsNumbered : Command → Type 0
 IsNumbered (commands.Plain full) = Unit {0}
-IsNumbered (commands.Plan workers full) = (1 ≤ workers) × (workers ≤ MOST_WORKERS)
-IsNumbered (commands.Smooth workers) = (1 ≤ workers) × (workers ≤ MOST_WORKERS)
-IsNumbered (commands.Anytime workers slice) = (1 ≤ workers) × (workers ≤ MOST_WORKERS) × (1 ≤ slice)
-IsNumbered (commands.Twin workers) = (1 ≤ workers) × (workers ≤ MOST_WORKERS)
-IsNumbered (commands.Batch workers slice) = (1 ≤ workers) × (workers ≤ MOST_WORKERS) × (1 ≤ slice)
+IsNumbered (commands.Plan workers full) = Unit {0}
+IsNumbered (commands.Smooth workers) = Unit {0}
+IsNumbered (commands.Anytime workers slice) = 1 ≤ slice
+IsNumbered (commands.Twin workers) = Unit {0}
+IsNumbered (commands.Batch workers slice) = 1 ≤ slice
 IsNumbered commands.Check = Unit {0}
 IsNumbered commands.Show = Unit {0}
 IsNumbered commands.Convert = Unit {0}

@@ -5,7 +5,6 @@ ghost use Rattle.std.specs.Prelude.{◌≡◌, ◌≤◌, ◌<◌, ◌↔◌, �
 ghost use Rattle.std.specs.Prelude.{IfOk, IfErr, IfNone, IfSome, IsNone, IsTrue, Err, None, Some, [], ◌∷◌};
 ghost use Rattle.plan_model.specs.Spaces.ConfigurationSpace.{space_of};
 ghost use Rattle.plan_model.specs.Spaces.Clearance.{ClearAt};
-ghost use Rattle.plan_model.specs.declared.limits.TheConstants.{MOST_WORKERS};
 ghost use Rattle.plan_model.specs.declared.records.Record.{Record};
 ghost use Rattle.plan_model.specs.Scenes.MarkPoints.{mark_points};
 ghost use Rattle.plan_model.specs.Runs.SameRuns.{IsOfTextbookRun};
@@ -28,14 +27,15 @@ use crate::batches::plan_batch;
 use crate::checking::check_report;
 use crate::commands::{Command, command_of};
 use crate::generated_scenes::gen_scene;
+use crate::problems::Problem;
 use crate::refusals::Refusal;
-use crate::scene_tasks::{boxes_if_start_clear, task_with_marks};
 use crate::statuses::{DONE, NO_PATH};
 use crate::top_call::Done;
+use crate::worker_counts::WorkerCount;
 use any_time::{FinishedSession, better_report, finish_session};
 use obstacle_boxes::Boxes;
 use path_tools::smoothed_report;
-use plan_model::{Memory, Scene, Sequence, Source};
+use plan_model::{Memory, Scene, Sequence, Source, Task};
 use plan_work::{Gate, grow};
 use scene_text::{as_version_2, fetch, read_scene, write_scene};
 use seq_planner::textbook;
@@ -119,11 +119,12 @@ pub fn answer_by_waiting<
     requires unended { (S.state source.old).has_ended ≡ false }
     ensures { Answers (command_of (map string_bytes words.now)) (S.state source.old) (S.state source.new) result }
 {
-    match command_of(words) {
-        Some(Command::Anytime { workers, slice }) => plan_by_slices(
-            rt, alloc, workers, slice, source,
-        ),
-        Some(Command::Batch { workers, slice }) => plan_batch(rt, alloc, workers, slice, source),
+    let Some(command) = command_of(words) else {
+        unreachable!()
+    };
+    match command {
+        Command::Anytime { workers, slice } => plan_by_slices(rt, alloc, workers, slice, source),
+        Command::Batch { workers, slice } => plan_batch(rt, alloc, workers, slice, source),
         _ => unreachable!(),
     }
 }
@@ -133,8 +134,8 @@ fn plain<S: Source>(alloc: Global, full: bool, source: &mut S) -> Result<Answer,
     requires { (S.state source.old).has_ended ≡ false }
     ensures { Answers (Some (Command.Plain full)) (S.state source.old) (S.state source.new) result }
 {
-    let (scene, boxes) = problem_for(alloc, Command::Plain { full }, source)?;
-    let grown = textbook_run(alloc, scene, boxes)?;
+    let problem = problem_for(alloc, Command::Plain { full }, source)?;
+    let grown = textbook_run(alloc, problem)?;
     Ok(report_of(alloc, full, grown)?)
 }
 
@@ -142,18 +143,16 @@ fn plain<S: Source>(alloc: Global, full: bool, source: &mut S) -> Result<Answer,
 fn plan<R: Threads + Sync, S: Source, G: Gate>(
     rt: &R,
     alloc: Global,
-    workers: u32,
+    workers: WorkerCount,
     full: bool,
     source: &mut S,
     gate: &G,
 ) -> Result<Answer, Refusal>
-    requires some { 1 ≤ workers }
-    requires few { workers ≤ MOST_WORKERS }
     requires unended { (S.state source.old).has_ended ≡ false }
     ensures { Answers (Some (Command.Plan workers full)) (S.state source.old) (S.state source.new) result }
 {
-    let (scene, boxes) = problem_for(alloc, Command::Plan { workers, full }, source)?;
-    let grown = run_by_workers(rt, alloc, workers, scene, &boxes, gate)?;
+    let problem = problem_for(alloc, Command::Plan { workers, full }, source)?;
+    let grown = run_by_workers(rt, alloc, workers, problem.task, &problem.boxes, gate)?;
     Ok(report_of(alloc, full, grown)?)
 }
 
@@ -161,18 +160,16 @@ fn plan<R: Threads + Sync, S: Source, G: Gate>(
 fn plan_smoothed<R: Threads + Sync, S: Source, G: Gate>(
     rt: &R,
     alloc: Global,
-    workers: u32,
+    workers: WorkerCount,
     source: &mut S,
     gate: &G,
 ) -> Result<Answer, Refusal>
-    requires some { 1 ≤ workers }
-    requires few { workers ≤ MOST_WORKERS }
     requires unended { (S.state source.old).has_ended ≡ false }
     ensures { Answers (Some (Command.Smooth workers)) (S.state source.old) (S.state source.new) result }
 {
-    let (scene, boxes) = problem_for(alloc, Command::Smooth(workers), source)?;
-    let grown = run_by_workers(rt, alloc, workers, scene, &boxes, gate)?;
-    Ok(smoothed_report_of(alloc, &boxes, grown)?)
+    let problem = problem_for(alloc, Command::Smooth(workers), source)?;
+    let grown = run_by_workers(rt, alloc, workers, problem.task, &problem.boxes, gate)?;
+    Ok(smoothed_report_of(alloc, &problem.boxes, grown)?)
 }
 
 /// Plans the scene that is read by several workers, so many marks at a time, and reports the better paths as they came, and the run in
@@ -180,18 +177,16 @@ fn plan_smoothed<R: Threads + Sync, S: Source, G: Gate>(
 fn plan_by_slices<R: Threads + Sync + Wait + RandomSource + AllocGlobal + Clone + Drop, S: Source>(
     rt: &R,
     alloc: Global,
-    workers: u32,
+    workers: WorkerCount,
     slice: u32,
     source: &mut S,
 ) -> Result<Answer, Refusal>
-    requires some { 1 ≤ workers }
-    requires few { workers ≤ MOST_WORKERS }
     requires slice { 1 ≤ slice }
     requires unended { (S.state source.old).has_ended ≡ false }
     ensures { Answers (Some (Command.Anytime workers slice)) (S.state source.old) (S.state source.new) result }
 {
-    let (scene, boxes) = problem_for(alloc, Command::Anytime { workers, slice }, source)?;
-    let finished = run_by_slices(rt, alloc, workers, slice, scene, boxes)?;
+    let problem = problem_for(alloc, Command::Anytime { workers, slice }, source)?;
+    let finished = run_by_slices(rt, alloc, workers, slice, problem)?;
     Ok(better_report_of(alloc, finished)?)
 }
 
@@ -199,17 +194,15 @@ fn plan_by_slices<R: Threads + Sync + Wait + RandomSource + AllocGlobal + Clone 
 fn plan_twin<R: Threads + Sync, S: Source, G: Gate>(
     rt: &R,
     alloc: Global,
-    workers: u32,
+    workers: WorkerCount,
     source: &mut S,
     gate: &G,
 ) -> Result<Answer, Refusal>
-    requires some { 1 ≤ workers }
-    requires few { workers ≤ MOST_WORKERS }
     requires unended { (S.state source.old).has_ended ≡ false }
     ensures { Answers (Some (Command.Twin workers)) (S.state source.old) (S.state source.new) result }
 {
-    let (scene, boxes) = problem_for(alloc, Command::Twin(workers), source)?;
-    let both = twin_of(rt, alloc, workers, scene, &boxes, gate)?;
+    let problem = problem_for(alloc, Command::Twin(workers), source)?;
+    let both = twin_of(rt, alloc, workers, problem, gate)?;
     Ok(twin_report_of(alloc, both)?)
 }
 
@@ -245,94 +238,83 @@ fn scene_for<S: Source>(alloc: Global, command: Command, source: &mut S) -> Resu
     Ok(scene)
 }
 
-/// The scene that a command asks for, read from the source, with its collision checker. It is to be planned, so its start is clear.
+/// The problem of the scene that a command asks for, read from the source. It is to be planned, so its start is clear.
 fn problem_for<S: Source>(
     alloc: Global,
     command: Command,
     source: &mut S,
-) -> Result<(Scene, Boxes), Refusal>
+) -> Result<Problem, Refusal>
     requires reads { input_of command ≡ one_scene }
     requires plans { IsTrue (plans command) }
     requires unended { (S.state source.old).has_ended ≡ false }
-    ensures scene { IfOk result (λ problem. HasScene (S.state source.old) (S.state source.new) problem.0) }
-    ensures boxes { IfOk result (λ problem. problem.1 ≡ space_of problem.0) }
-    ensures start { IfOk result (λ problem. ClearAt (space_of problem.0) problem.0.start) }
+    ensures scene { IfOk result (λ problem. HasScene (S.state source.old) (S.state source.new) problem.task.scene) }
     ensures refusal { IfErr result (IsCaused (Some command) (S.state source.old) (S.state source.new)) }
     ensures within { ReadsWithin (S.state source.old).bytes_left (S.state source.new).bytes_left }
 {
     let scene = scene_for(alloc, command, source)?;
-    let Some(boxes) = boxes_if_start_clear(alloc, &scene)? else {
+    let Some(problem) = Problem::if_start_clear(alloc, scene)? else {
         return Err(Refusal::StartBlocked);
     };
-    Ok((scene, boxes))
+    Ok(problem)
 }
 
-/// The textbook run of a scene, over all its marks.
-fn textbook_run(alloc: Global, scene: Scene, boxes: Boxes) -> Result<Grown, Memory>
-    requires boxes { boxes ≡ space_of scene }
-    requires start { ClearAt (space_of scene) scene.start }
-    ensures scene { IfOk result (λ grown. grown.task.scene ≡ scene) }
-    ensures all_marks { IfOk result (λ grown. grown.limit ≡ length (mark_points scene)) }
-    ensures run { IfOk result (λ grown. IsOfTextbookRun (setup_of scene) (mark_points scene) (state_of_grown grown)) }
+/// The textbook run of a problem, over all its marks.
+fn textbook_run(alloc: Global, problem: Problem) -> Result<Grown, Memory>
+    ensures scene { IfOk result (λ grown. grown.task.scene ≡ problem.task.scene) }
+    ensures all_marks { IfOk result (λ grown. grown.limit ≡ length (mark_points problem.task.scene)) }
+    ensures run { IfOk result (λ grown. IsOfTextbookRun (setup_of problem.task.scene) (mark_points problem.task.scene) (state_of_grown grown)) }
     ensures settled { IfOk result (λ grown. IsSettled (state_of_grown grown)) }
 {
-    let task = task_with_marks(alloc, scene)?;
-    textbook(alloc, task, &boxes)
+    textbook(alloc, problem.task, &problem.boxes)
 }
 
-/// A run of a scene by several workers, over all its marks, settled.
+/// A run of a task by several workers, over all its marks, settled.
 fn run_by_workers<R: Threads + Sync, G: Gate>(
     rt: &R,
     alloc: Global,
-    workers: u32,
-    scene: Scene,
+    workers: WorkerCount,
+    task: Task,
     boxes: &Boxes,
     gate: &G,
 ) -> Result<Grown, Memory>
-    requires some { 1 ≤ workers }
-    requires few { workers ≤ MOST_WORKERS }
-    requires boxes { boxes.now ≡ space_of scene }
-    requires start { ClearAt (space_of scene) scene.start }
-    ensures scene { IfOk result (λ grown. grown.task.scene ≡ scene) }
-    ensures all_marks { IfOk result (λ grown. grown.limit ≡ length (mark_points scene)) }
+    requires boxes { boxes.now ≡ space_of task.scene }
+    requires start { ClearAt (space_of task.scene) task.scene.start }
+    ensures scene { IfOk result (λ grown. grown.task.scene ≡ task.scene) }
+    ensures all_marks { IfOk result (λ grown. grown.limit ≡ length (mark_points task.scene)) }
     ensures settled { IfOk result (λ grown. IsSettled (state_of_grown grown)) }
     ensures workers { IfOk result (λ grown. (k : ℕ) (entry : Record)
         → (state_of_grown grown).record_of k ≡ Some entry → entry.worker < workers) }
-    ensures textbook { workers ≡ 1 → IfOk result (λ grown. IsOfTextbookRun (setup_of scene) (mark_points scene) (state_of_grown grown)) }
+    ensures textbook { workers ≡ 1
+        → IfOk result (λ grown. IsOfTextbookRun (setup_of task.scene) (mark_points task.scene) (state_of_grown grown)) }
 {
-    let task = task_with_marks(alloc, scene)?;
     let limit = task.marks.len() as u32;
     let fresh = Grown::new(alloc, task)?;
-    let mut grown = grow(rt, alloc, fresh, boxes, workers, limit, gate)?;
+    let mut grown = grow(rt, alloc, fresh, boxes, workers.get(), limit, gate)?;
     settle(alloc, &mut grown)?;
     Ok(grown)
 }
 
-/// A run of a scene by several workers, over all its marks, settled, with the better paths that came while it grew by so many marks at
+/// A run of a problem by several workers, over all its marks, settled, with the better paths that came while it grew by so many marks at
 /// a time.
 fn run_by_slices<R: Threads + Sync + Wait + RandomSource + AllocGlobal + Clone + Drop>(
     rt: &R,
     alloc: Global,
-    workers: u32,
+    workers: WorkerCount,
     slice: u32,
-    scene: Scene,
-    boxes: Boxes,
+    problem: Problem,
 ) -> Result<FinishedSession, Memory>
-    requires some { 1 ≤ workers }
-    requires few { workers ≤ MOST_WORKERS }
-    requires slice { 1 ≤ slice }
-    requires boxes { boxes ≡ space_of scene }
-    requires start { ClearAt (space_of scene) scene.start }
-    ensures scene { IfOk result (λ done. done.run.task.scene ≡ scene) }
-    ensures all_marks { IfOk result (λ done. done.run.limit ≡ length (mark_points scene)) }
+    requires { 1 ≤ slice }
+    ensures scene { IfOk result (λ done. done.run.task.scene ≡ problem.task.scene) }
+    ensures all_marks { IfOk result (λ done. done.run.limit ≡ length (mark_points problem.task.scene)) }
     ensures settled { IfOk result (λ done. IsSettled (state_of_grown done.run)) }
     ensures workers { IfOk result (λ done. (k : ℕ) (entry : Record)
         → (state_of_grown done.run).record_of k ≡ Some entry → entry.worker < workers) }
-    ensures textbook { workers ≡ 1 → IfOk result (λ done. IsOfTextbookRun (setup_of scene) (mark_points scene) (state_of_grown done.run)) }
+    ensures textbook { workers ≡ 1
+        → IfOk result (λ done. IsOfTextbookRun (setup_of problem.task.scene) (mark_points problem.task.scene) (state_of_grown done.run)) }
     ensures better { IfOk result (λ done. AreBetterPaths workers slice done.run done.better) }
 {
-    let task = task_with_marks(alloc, scene)?;
-    finish_session(rt, alloc, task, boxes, workers, slice)
+    let Problem { task, boxes } = problem;
+    finish_session(rt, alloc, task, boxes, workers.get(), slice)
 }
 
 /// The better paths of a settled run over all marks of its scene, and its short report.
@@ -358,24 +340,18 @@ fn better_report_of(alloc: Global, finished: FinishedSession) -> Result<Answer, 
     })
 }
 
-/// The two runs of a scene by several workers each, over all its marks, with the bridge between them.
+/// The two runs of a problem by several workers each, over all its marks, with the bridge between them.
 fn twin_of<R: Threads + Sync, G: Gate>(
     rt: &R,
     alloc: Global,
-    workers: u32,
-    scene: Scene,
-    boxes: &Boxes,
+    workers: WorkerCount,
+    problem: Problem,
     gate: &G,
 ) -> Result<Twin, TwinFault>
-    requires some { 1 ≤ workers }
-    requires few { workers ≤ MOST_WORKERS }
-    requires boxes { boxes.now ≡ space_of scene }
-    requires start { ClearAt (space_of scene) scene.start }
-    ensures twin { IfOk result (IsTwin workers scene) }
-    ensures blocked { result ≡ Err TwinFault.GoalBlocked → ¬ ClearAt (space_of scene) (goal_middle scene) }
+    ensures twin { IfOk result (IsTwin workers problem.task.scene) }
+    ensures blocked { result ≡ Err TwinFault.GoalBlocked → ¬ ClearAt (space_of problem.task.scene) (goal_middle problem.task.scene) }
 {
-    let task = task_with_marks(alloc, scene)?;
-    twin(rt, alloc, task, boxes, workers, gate)
+    twin(rt, alloc, problem.task, &problem.boxes, workers.get(), gate)
 }
 
 /// The report of two runs of a scene.
@@ -483,20 +459,14 @@ fn generate(alloc: Global, number: u32) -> Result<Answer, Memory>
     Ok(text_of(alloc, &scene)?)
 }
 
-/// The collision checker of a scene.
-fn boxes_of(alloc: Global, scene: &Scene) -> Result<Boxes, Memory>
-    ensures { IfOk result (λ boxes. boxes ≡ space_of scene.now) }
-{
-    Boxes::new(alloc, Hall::new(alloc, scene)?)
-}
-
 /// Plans the generated scene of a number.
 fn trial(alloc: Global, number: u32) -> Result<Answer, Memory>
     requires { number ≤ MOST_GENERATED }
     ensures { IfOk result (λ answer. Succeeds (Command.Trial number) [] answer.done answer.text.items) }
 {
     let scene = gen_scene(alloc, number)?;
-    let boxes = boxes_of(alloc, &scene)?;
-    let grown = textbook_run(alloc, scene, boxes)?;
+    let hall = Hall::new(alloc, &scene)?;
+    let problem = Problem::new(alloc, scene, hall)?;
+    let grown = textbook_run(alloc, problem)?;
     Ok(summary_of(alloc, grown)?)
 }

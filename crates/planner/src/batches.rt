@@ -7,7 +7,6 @@ ghost use Rattle.any_time.specs.BetterReports.{batch_report};
 ghost use Rattle.plan_model.specs.Spaces.Clearance.{ClearAt};
 ghost use Rattle.plan_model.specs.Spaces.ConfigurationSpace.{space_of};
 ghost use Rattle.plan_model.specs.Trees.TreeStates.{IsSettled};
-ghost use Rattle.plan_model.specs.declared.limits.TheConstants.{MOST_WORKERS};
 ghost use Rattle.planner.specs.BatchSessions.{HaveSessions, IsSessionOf};
 ghost use Rattle.planner.specs.Commands.{input_of};
 ghost use Rattle.planner.specs.Conclusions.{Answers, HandsOutNothing, HasBatch, IsCaused, status_of_report};
@@ -17,10 +16,11 @@ ghost use Rattle.grown_runs.specs.Runs.GrownRuns.{state_of_grown};
 
 use crate::answers::Answer;
 use crate::commands::Command;
+use crate::problems::Problem;
 use crate::refusals::Refusal;
-use crate::scene_tasks::{boxes_if_start_clear, task_with_marks};
 use crate::statuses::{DONE, NO_PATH};
 use crate::top_call::Done;
+use crate::worker_counts::WorkerCount;
 use any_time::{BatchReport, FinishedBatch, Session, batch_report, finish_batch};
 use obstacle_boxes::Boxes;
 use plan_model::{Memory, Scene, Source};
@@ -35,12 +35,10 @@ use std::thread::Threads;
 pub fn plan_batch<R: Threads + Sync + Wait + RandomSource + AllocGlobal + Clone + Drop, S: Source>(
     rt: &R,
     alloc: Global,
-    workers: u32,
+    workers: WorkerCount,
     slice: u32,
     source: &mut S,
 ) -> Result<Answer, Refusal>
-    requires some { 1 ≤ workers }
-    requires few { workers ≤ MOST_WORKERS }
     requires slice { 1 ≤ slice }
     requires unended { (S.state source.old).has_ended ≡ false }
     ensures { Answers (Some (Command.Batch workers slice)) (S.state source.old) (S.state source.new) result }
@@ -74,12 +72,10 @@ fn scenes_for<S: Source>(
 fn sessions_of<R: Threads + Sync + Clone + Drop>(
     rt: &R,
     alloc: Global,
-    workers: u32,
+    workers: WorkerCount,
     slice: u32,
     scenes: Vec<Scene>,
 ) -> Result<Option<Vec<Session<Boxes, R>>>, Memory>
-    requires some { 1 ≤ workers }
-    requires few { workers ≤ MOST_WORKERS }
     requires slice { 1 ≤ slice }
     ensures blocked { IfOk result (λ sessions. IfNone sessions (¬ AreStartsClear scenes.items)) }
     ensures count { IfOk result (λ made. IfSome made (λ sessions. length sessions.items ≡ length scenes.items)) }
@@ -99,42 +95,20 @@ fn sessions_of<R: Threads + Sync + Clone + Drop>(
 fn session_of<R: Threads + Sync + Clone + Drop>(
     rt: &R,
     alloc: Global,
-    workers: u32,
+    workers: WorkerCount,
     slice: u32,
     scene: Scene,
 ) -> Result<Option<Session<Boxes, R>>, Memory>
-    requires some { 1 ≤ workers }
-    requires few { workers ≤ MOST_WORKERS }
     requires slice { 1 ≤ slice }
     ensures blocked { IfOk result (λ session. IfNone session (¬ ClearAt (space_of scene) scene.start)) }
     ensures session { IfOk result (λ made. IfSome made (IsSessionOf workers slice scene)) }
 {
-    let Some(boxes) = boxes_if_start_clear(alloc, &scene)? else {
+    let Some(problem) = Problem::if_start_clear(alloc, scene)? else {
         return Ok(None);
     };
-    let session = fresh_session(rt, alloc, workers, slice, scene, boxes)?;
+    let Problem { task, boxes } = problem;
+    let session = Session::new(rt.clone()?, alloc, task, boxes, workers.get(), slice)?;
     Ok(Some(session))
-}
-
-/// A session of a scene with a clear start, which has handled nothing yet.
-fn fresh_session<R: Threads + Sync + Clone + Drop>(
-    rt: &R,
-    alloc: Global,
-    workers: u32,
-    slice: u32,
-    scene: Scene,
-    boxes: Boxes,
-) -> Result<Session<Boxes, R>, Memory>
-    requires some { 1 ≤ workers }
-    requires few { workers ≤ MOST_WORKERS }
-    requires slice { 1 ≤ slice }
-    requires boxes { boxes ≡ space_of scene }
-    requires start { ClearAt (space_of scene) scene.start }
-    ensures { IfOk result (IsSessionOf workers slice scene) }
-{
-    let task = task_with_marks(alloc, scene)?;
-    let session = Session::new(rt.clone()?, alloc, task, boxes, workers, slice)?;
-    Ok(session)
 }
 
 /// The answer that reports finished runs with their better paths.

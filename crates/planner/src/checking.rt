@@ -2,8 +2,6 @@
 
 ghost use Rattle.std.specs.Prelude.{◌≡◌, ◌≤◌, ◌<◌, ℕ, false, length, IfErr, IfOk, Some};
 ghost use Rattle.report_judge.specs.Texts.ReportCuts.{HasNoReportLine};
-ghost use Rattle.plan_model.specs.Spaces.Clearance.{ClearAt};
-ghost use Rattle.plan_model.specs.Spaces.ConfigurationSpace.{space_of};
 ghost use Rattle.plan_model.specs.Texts.SceneGrammar.{Spells, supported};
 ghost use Rattle.plan_model.specs.Texts.TextLines.{lines_of};
 ghost use Rattle.plan_model.specs.declared.limits.TheConstants.{MOST_TEXT_BYTES};
@@ -15,13 +13,12 @@ ghost use Rattle.scene_text.specs.Refusals.{IsSceneRefusal};
 ghost use Rattle.planner.specs.declared.short_lines.TheConstants.{LINE_CAPACITY};
 
 use crate::answers::Answer;
+use crate::problems::Problem;
 use crate::refusals::Refusal;
-use crate::scene_tasks::{boxes_if_start_clear, task_with_marks};
 use crate::short_lines::{Line, line_from, push, push_number};
 use crate::statuses::{DONE, NO_PATH};
 use crate::top_call::Done;
-use obstacle_boxes::Boxes;
-use plan_model::{Kind, Memory, Source, Task, next_line};
+use plan_model::{Kind, Memory, Source, next_line};
 use report_judge::{Verdict, check_with, cut_at_report};
 use scene_text::{SceneRefusal, fetch, read_scene};
 use std::alloc::Global;
@@ -45,8 +42,8 @@ fn verdict_on(alloc: Global, text: &[u8]) -> Result<Verdict, Refusal>
     let Some((front, report)) = cut_at_report(text) else {
         return Err(missing_report(alloc, text)?);
     };
-    let (task, boxes) = problem_in(alloc, front)?;
-    let verdict = check_with(alloc, &task, &boxes, report)?;
+    let problem = problem_in(alloc, front)?;
+    let verdict = check_with(alloc, &problem.task, &problem.boxes, report)?;
     Ok(verdict)
 }
 
@@ -81,24 +78,21 @@ fn line_count(text: &[u8]) -> u32
     count
 }
 
-/// The task of the scene that a text spells, whose start is clear, with its collision checker.
+/// The problem of the scene that a text spells, whose start is clear.
 ///
 /// # Errors
 ///
 /// The refusal with its cause: `Text`, `StartBlocked` or `Memory`.
-pub fn problem_in(alloc: Global, text: &[u8]) -> Result<(Task, Boxes), Refusal>
+pub fn problem_in(alloc: Global, text: &[u8]) -> Result<Problem, Refusal>
     requires { length text.now ≤ MOST_TEXT_BYTES }
-    ensures scene { IfOk result (λ problem. Spells supported text.now problem.0.scene) }
-    ensures boxes { IfOk result (λ problem. problem.1 ≡ space_of problem.0.scene) }
-    ensures start { IfOk result (λ problem. ClearAt (space_of problem.0.scene) problem.0.scene.start) }
+    ensures scene { IfOk result (λ problem. Spells supported text.now problem.task.scene) }
     ensures refusal { IfErr result (RefusesSceneText text.now) }
 {
     let scene = read_scene(alloc, text)?;
-    let Some(boxes) = boxes_if_start_clear(alloc, &scene)? else {
+    let Some(problem) = Problem::if_start_clear(alloc, scene)? else {
         return Err(Refusal::StartBlocked);
     };
-    let task = task_with_marks(alloc, scene)?;
-    Ok((task, boxes))
+    Ok(problem)
 }
 
 /// The answer that a verdict is.

@@ -48,7 +48,7 @@ pub fn exit_code<
 }
 
 /// The words after the program's name: none if the arguments are no text.
-fn words_after_name(alloc: Global, args: io::Result<Args>) -> Result<Vec<String>, Memory>
+pub fn words_after_name(alloc: Global, args: io::Result<Args>) -> Result<Vec<String>, Memory>
     ensures words { IfOk result (λ words. words.items ≡ given args) }
     ensures no_memory { IsOutOfMemory args → IsErr result }
     ensures no_text { AreNoText args → IsOk result }

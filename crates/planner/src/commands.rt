@@ -5,7 +5,8 @@ ghost use Rattle.planner.specs.Commands.{command_of, command_of_word, command_of
 ghost use Rattle.planner.specs.Commands.{anytime_by, batch_by, plan_by, number_in, waits, IsNumbered};
 
 use crate::generated_scenes::MOST_GENERATED;
-use plan_model::{MOST_MARKS, MOST_WORKERS, is_number, natural};
+use crate::number_words::{number_in, slice_in};
+use crate::worker_counts::WorkerCount;
 
 /// What the words of the command line ask for.
 #[derive(Clone, Copy, Debug, PartialEq, Eq)]
@@ -17,29 +18,28 @@ pub enum Command {
     },
     /// `plan W` and `plan W full`: the report of a run of the scene that is read, grown by several workers.
     Plan {
-        /// How many workers grow it: 1 to `MOST_WORKERS`.
-        workers: u32,
+        /// How many workers grow it.
+        workers: WorkerCount,
         /// Whether it is the full report; otherwise it is the short one.
         full: bool,
     },
-    /// `smooth W`: the short report of a run of the scene that is read, grown by so many workers, with its path smoothed: 1 to
-    /// `MOST_WORKERS`.
-    Smooth(u32),
+    /// `smooth W`: the short report of a run of the scene that is read, grown by so many workers, with its path smoothed.
+    Smooth(WorkerCount),
     /// `anytime W S`: the better paths of a run of the scene that is read, as they come while it grows by a slice of marks at a time,
     /// and the short report of the run.
     Anytime {
-        /// How many workers grow it: 1 to `MOST_WORKERS`.
-        workers: u32,
+        /// How many workers grow it.
+        workers: WorkerCount,
         /// How many marks a slice has: 1 to `MOST_MARKS`.
         slice: u32,
     },
     /// `twin W`: the report of two trees of the scene that is read, from its start and from the middle of its first goal, each grown by
-    /// so many workers: 1 to `MOST_WORKERS`.
-    Twin(u32),
+    /// so many workers.
+    Twin(WorkerCount),
     /// `batch W S`: for each of the scenes that are read, what `anytime W S` says of it.
     Batch {
-        /// How many workers grow each run: 1 to `MOST_WORKERS`.
-        workers: u32,
+        /// How many workers grow each run.
+        workers: WorkerCount,
         /// How many marks a slice has: 1 to `MOST_MARKS`.
         slice: u32,
     },
@@ -70,6 +70,7 @@ pub fn command_of(words: &[String]) -> Option<Command>
     ensures numbered { IfSome result IsNumbered }
 {
     match words {
+        [] => None,
         [word] => command_of_word(word.as_str()),
         [word, second] => command_of_two(word.as_str(), second.as_str()),
         [word, second, third] => command_of_three(word.as_str(), second.as_str(), third.as_str()),
@@ -99,8 +100,8 @@ fn command_of_two(word: &str, second: &str) -> Option<Command>
     match (word, second) {
         ("plain", "full") => Some(Command::Plain { full: true }),
         ("plan", _) => plan_by(second, false),
-        ("smooth", _) => Some(Command::Smooth(workers_in(second)?)),
-        ("twin", _) => Some(Command::Twin(workers_in(second)?)),
+        ("smooth", _) => Some(Command::Smooth(WorkerCount::in_word(second)?)),
+        ("twin", _) => Some(Command::Twin(WorkerCount::in_word(second)?)),
         _ => command_about(word, number_in(second.as_bytes(), 0, MOST_GENERATED)?),
     }
 }
@@ -123,7 +124,7 @@ fn plan_by(word: &str, full: bool) -> Option<Command>
     ensures value { result ≡ plan_by full word.now }
     ensures numbered { IfSome result IsNumbered }
 {
-    let workers = workers_in(word)?;
+    let workers = WorkerCount::in_word(word)?;
     Some(Command::Plan { workers, full })
 }
 
@@ -132,7 +133,7 @@ fn anytime_by(second: &str, third: &str) -> Option<Command>
     ensures value { result ≡ anytime_by second.now third.now }
     ensures numbered { IfSome result IsNumbered }
 {
-    let workers = workers_in(second)?;
+    let workers = WorkerCount::in_word(second)?;
     let slice = slice_in(third)?;
     Some(Command::Anytime { workers, slice })
 }
@@ -142,26 +143,9 @@ fn batch_by(second: &str, third: &str) -> Option<Command>
     ensures value { result ≡ batch_by second.now third.now }
     ensures numbered { IfSome result IsNumbered }
 {
-    let workers = workers_in(second)?;
+    let workers = WorkerCount::in_word(second)?;
     let slice = slice_in(third)?;
     Some(Command::Batch { workers, slice })
-}
-
-/// The number of workers that a word says: 1 to `MOST_WORKERS`.
-fn workers_in(word: &str) -> Option<u32>
-    ensures value { result ≡ number_in 1 MOST_WORKERS word.now }
-    ensures least { IfSome result (λ workers. 1 ≤ workers) }
-    ensures most { IfSome result (λ workers. workers ≤ MOST_WORKERS) }
-{
-    number_in(word.as_bytes(), 1, MOST_WORKERS)
-}
-
-/// The number of marks of a slice that a word says: 1 to `MOST_MARKS`.
-fn slice_in(word: &str) -> Option<u32>
-    ensures value { result ≡ number_in 1 MOST_MARKS word.now }
-    ensures least { IfSome result (λ slice. 1 ≤ slice) }
-{
-    number_in(word.as_bytes(), 1, MOST_MARKS)
 }
 
 /// The command of a word about the generated scene of a number.
@@ -175,17 +159,4 @@ fn command_about(word: &str, number: u32) -> Option<Command>
         "trial" => Some(Command::Trial(number)),
         _ => None,
     }
-}
-
-/// The number that a word stands for, if it is one from `least` to `most`.
-fn number_in(word: &[u8], least: u32, most: u32) -> Option<u32>
-    ensures value { result ≡ number_in least most word.now }
-    ensures least { IfSome result (λ number. least ≤ number) }
-    ensures most { IfSome result (λ number. number ≤ most) }
-{
-    if !is_number(word) {
-        return None;
-    }
-    let number = natural(word, u64::from(least), u64::from(most))?;
-    Some(number as u32)
 }

@@ -6,23 +6,23 @@ use Rattle.planner.proofs.answers.plan.Goals as goal
 
 pub returns-in_err-grown : goal.returns-in_err-grown
 returns-in_err-grown g c =
-    Answers-no_memory (commands.Plan c.args.workers c.args.full) _ _ c.in_ok-scene.scene refl c.in_ok-scene.ensures.within c.in_ok-scene.ensures.scene _
+    Answers-no_memory (commands.Plan c.args.workers c.args.full) _ _ _ refl c.in_ok-problem.ensures.within c.in_ok-problem.ensures.scene _
     c.from_residual-in_err-grown.ensures.1
 
 pub returns-in_err-report_of : goal.returns-in_err-report_of
 returns-in_err-report_of g c =
-    Answers-no_memory (commands.Plan c.args.workers c.args.full) _ _ c.in_ok-scene.scene refl c.in_ok-scene.ensures.within c.in_ok-scene.ensures.scene _
+    Answers-no_memory (commands.Plan c.args.workers c.args.full) _ _ _ refl c.in_ok-problem.ensures.within c.in_ok-problem.ensures.scene _
     c.from_residual-in_err-report_of.ensures.1
 
 pub returns : goal.returns
 returns g c =
-    let scene = c.in_ok-scene.scene in
-    let has = c.in_ok-scene.ensures.scene in
+    let scene = c.in_ok-problem.problem.task.scene in
+    let has = c.in_ok-problem.ensures.scene in
     let run = c.in_ok-grown.ensures in
-    Answers-success (commands.Plan c.args.workers c.args.full) _ _ scene refl c.in_ok-scene.ensures.within has _ (record {
+    Answers-success (commands.Plan c.args.workers c.args.full) _ _ scene refl c.in_ok-problem.ensures.within has _ (record {
       scene = scene;
       of_command = has.spelled;
-      start = λ planned. c.in_ok-scene.ensures.start;
+      start = λ planned. c.in_ok-problem.problem.start;
       meaning = record {
         grown = c.in_ok-grown.grown;
         reported = ReportsGrown-of_scene _ _ _ _ _ run.scene c.in_ok-report_of.ensures.reported;

@@ -6,13 +6,13 @@ use Rattle.planner.proofs.answers.plan_by_slices.Goals as goal
 
 pub returns-in_err-finished : goal.returns-in_err-finished
 returns-in_err-finished g c =
-    Answers-no_memory (commands.Anytime c.args.workers c.args.slice) _ _ c.in_ok-scene.scene refl c.in_ok-scene.ensures.within
-    c.in_ok-scene.ensures.scene _ c.from_residual-in_err-finished.ensures.1
+    Answers-no_memory (commands.Anytime c.args.workers c.args.slice) _ _ _ refl c.in_ok-problem.ensures.within
+    c.in_ok-problem.ensures.scene _ c.from_residual-in_err-finished.ensures.1
 
 pub returns-in_err-better_report_of : goal.returns-in_err-better_report_of
 returns-in_err-better_report_of g c =
-    Answers-no_memory (commands.Anytime c.args.workers c.args.slice) _ _ c.in_ok-scene.scene refl c.in_ok-scene.ensures.within
-    c.in_ok-scene.ensures.scene _ c.from_residual-in_err-better_report_of.ensures.1
+    Answers-no_memory (commands.Anytime c.args.workers c.args.slice) _ _ _ refl c.in_ok-problem.ensures.within
+    c.in_ok-problem.ensures.scene _ c.from_residual-in_err-better_report_of.ensures.1
 
 pub better_report_of-requires-clause-all_marks : goal.better_report_of-requires-clause-all_marks
 better_report_of-requires-clause-all_marks g c =
@@ -20,14 +20,14 @@ better_report_of-requires-clause-all_marks g c =
 
 pub returns : goal.returns
 returns g c =
-    let scene = c.in_ok-scene.scene in
-    let has = c.in_ok-scene.ensures.scene in
+    let scene = c.in_ok-problem.problem.task.scene in
+    let has = c.in_ok-problem.ensures.scene in
     let run = c.in_ok-finished.ensures in
     let report = c.in_ok-better_report_of.ensures in
-    Answers-success (commands.Anytime c.args.workers c.args.slice) _ _ scene refl c.in_ok-scene.ensures.within has _ (record {
+    Answers-success (commands.Anytime c.args.workers c.args.slice) _ _ scene refl c.in_ok-problem.ensures.within has _ (record {
       scene = scene;
       of_command = has.spelled;
-      start = λ planned. c.in_ok-scene.ensures.start;
+      start = λ planned. c.in_ok-problem.problem.start;
       meaning = record {
         grown = c.in_ok-finished.finished.run;
         items = c.in_ok-finished.finished.better;

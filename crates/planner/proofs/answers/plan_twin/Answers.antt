@@ -12,26 +12,26 @@ twin_report_of-requires g c =
 
 pub returns-in_err-both : goal.returns-in_err-both
 returns-in_err-both g c =
-    Answers-twin_fault (commands.Twin c.args.workers) _ _ c.in_ok-scene.scene refl c.in_ok-scene.ensures.within c.in_ok-scene.ensures.scene
-    c.in_err-both.field-0.0 _ refl c.in_ok-scene.ensures.start (λ is. c.in_err-both.ensures.blocked (ap Err is))
+    Answers-twin_fault (commands.Twin c.args.workers) _ _ _ refl c.in_ok-problem.ensures.within c.in_ok-problem.ensures.scene
+    c.in_err-both.field-0.0 _ refl c.in_ok-problem.problem.start (λ is. c.in_err-both.ensures.blocked (ap Err is))
     c.from_residual-in_err-both.ensures.1
 
 pub returns-in_err-twin_report_of : goal.returns-in_err-twin_report_of
 returns-in_err-twin_report_of g c =
-    Answers-no_memory (commands.Twin c.args.workers) _ _ c.in_ok-scene.scene refl c.in_ok-scene.ensures.within c.in_ok-scene.ensures.scene _
+    Answers-no_memory (commands.Twin c.args.workers) _ _ _ refl c.in_ok-problem.ensures.within c.in_ok-problem.ensures.scene _
     c.from_residual-in_err-twin_report_of.ensures.1
 
 pub returns : goal.returns
 returns g c =
-    let scene = c.in_ok-scene.scene in
-    let has = c.in_ok-scene.ensures.scene in
+    let scene = c.in_ok-problem.problem.task.scene in
+    let has = c.in_ok-problem.ensures.scene in
     let both = c.in_ok-both.both in
     let workers = c.args.workers in
     let twin = c.in_ok-both.ensures.twin in
     let own = subst (λ (s : Scene). IsTwin workers s both) (sym twin.from_start.scene_is) twin in
-    Answers-success (commands.Twin c.args.workers) _ _ scene refl c.in_ok-scene.ensures.within has _ (record {
+    Answers-success (commands.Twin c.args.workers) _ _ scene refl c.in_ok-problem.ensures.within has _ (record {
       scene = scene;
       of_command = has.spelled;
-      start = λ planned. c.in_ok-scene.ensures.start;
+      start = λ planned. c.in_ok-problem.problem.start;
       meaning = ReportsTwin-of_scene workers _ _ _ _ twin.from_start.scene_is (c.in_ok-twin_report_of.ensures workers own);
     })

@@ -6,9 +6,9 @@ use Rattle.planner.proofs.answers.problem_for.Goals as goal
 pub returns-in_default-clause-refusal : goal.returns-in_default-clause-refusal
 returns-in_default-clause-refusal g c =
     StartBlocked-caused c.args.command _ _ _ c.requires.reads c.requires.plans c.in_ok-scene.ensures.scene
-    (given_none _ _ c.in_default.is c.in_ok-boxes.ensures.blocked)
+    (given_none _ _ c.in_default.is c.in_ok-problem.ensures.blocked)
 
-pub returns-in_err-boxes-clause-refusal : goal.returns-in_err-boxes-clause-refusal
-returns-in_err-boxes-clause-refusal g c =
-    IfErr-only c.from_residual-in_err-boxes.result refusals.Memory (IsCaused _ _ _) c.from_residual-in_err-boxes.ensures.1
+pub returns-in_err-problem-clause-refusal : goal.returns-in_err-problem-clause-refusal
+returns-in_err-problem-clause-refusal g c =
+    IfErr-only c.from_residual-in_err-problem.result refusals.Memory (IsCaused _ _ _) c.from_residual-in_err-problem.ensures.1
     (refl, c.in_ok-scene.ensures.scene.read.no_fault)

@@ -12,5 +12,5 @@ pub returns-in_default-clause-refusal : goal.returns-in_default-clause-refusal
 returns-in_default-clause-refusal c = record {
   scene = c.in_ok-scene.scene;
   spelled = c.in_ok-scene.ensures.scene;
-  blocked = given_none _ _ c.in_default.is c.in_ok-boxes.ensures.blocked;
+  blocked = given_none _ _ c.in_default.is c.in_ok-problem.ensures.blocked;
 }

@@ -21,10 +21,10 @@ returns-in_err-missing_report-clause-refusal c =
 pub returns-in_default-clause-refusal : goal.returns-in_default-clause-refusal
 returns-in_default-clause-refusal c = RefusesCheck-whole _ _ c.requires c.in_ok-missing_report.ensures.missing
 
-pub returns-in_err-task-clause-refusal : goal.returns-in_err-task-clause-refusal
-returns-in_err-task-clause-refusal c =
-    IfErr-only c.from_residual-in_err-task.result _ (RefusesCheck c.args.text.now) c.from_residual-in_err-task.ensures.1
-    (RefusesCheck-front _ _ _ _ c.requires c.in-Some.ensures.some c.in_err-task.ensures.refusal)
+pub returns-in_err-problem-clause-refusal : goal.returns-in_err-problem-clause-refusal
+returns-in_err-problem-clause-refusal c =
+    IfErr-only c.from_residual-in_err-problem.result _ (RefusesCheck c.args.text.now) c.from_residual-in_err-problem.ensures.1
+    (RefusesCheck-front _ _ _ _ c.requires c.in-Some.ensures.some c.in_err-problem.ensures.refusal)
 
 pub returns-in_err-verdict-clause-refusal : goal.returns-in_err-verdict-clause-refusal
 returns-in_err-verdict-clause-refusal c =
@@ -35,8 +35,8 @@ returns-clause-verdict c = record {
   front = c.in-Some.front.now;
   report = c.in-Some.report.now;
   cut = c.in-Some.ensures.some;
-  task = c.in_ok-task.task;
-  spelled = c.in_ok-task.ensures.scene;
-  start = c.in_ok-task.ensures.start;
+  task = c.in_ok-problem.problem.task;
+  spelled = c.in_ok-problem.ensures.scene;
+  start = c.in_ok-problem.problem.start;
   judged = c.in_ok-verdict.ensures;
 }
