@@ -1,10 +1,13 @@
 -- What a worker has seen of a kd-tree of five nodes, and which points a call has swept.
-use Rattle.std.proofs.Common.{◌≡◌, ℕ, zero, suc, ◌<◌, ◌≤◌, Bool, true, false, Some, arith, refl, sym, ap, ◌∙◌, subst, inl, inr}
-use Rattle.std.specs.Prelude.{◌≢◌, ◌/◌, ◌%◌, ◌==◌, IsSome, unwrap_or}
-use Rattle.plan_model_tests.proofs.Common.{Point, point_at, StandsAt, IsPresent, IsFree, goes_right, IsOnWay, begins, goes_on, IsSeen, HasSeenWay}
-use Rattle.plan_model_tests.proofs.Common.{KeepsOrLowers, KeepsSight, KeepsOrFindsEmpty, IsLaterMoment, IsSwept, at, at_entry, at_return, four_children}
-use Rattle.plan_model_tests.proofs.Common.{found_at_return, three_points, three_children, StandsAt-unique, same_x, same_y, over_seen_points, way_start}
+use Rattle.std.proofs.Common.{◌≡◌, ℕ, zero, suc, ◌<◌, ◌≤◌, Bool, true, false, None, Some, arith, refl, sym, ap, ◌∙◌, subst, inl, inr}
+use Rattle.std.specs.Prelude.{◌≢◌, ◌/◌, ◌%◌, ◌==◌, IsSome, is_some, unwrap_or}
+use Rattle.plan_model_tests.proofs.Common.{HasSeenAtLeast, Point, point_at, StandsAt, IsFree, goes_right, IsOnWay, begins, goes_on, IsSeen, HasSeenWay}
+use Rattle.plan_model_tests.proofs.Common.{KeepsSight, IsLaterMoment, IsSwept, at, at_entry, at_return, four_children}
+use Rattle.plan_model_tests.proofs.Common.{found_at_return, three_points, StandsAt-unique, same_x, same_y, over_seen_points, way_start}
 use Rattle.plan_model_tests.proofs.Common.{way_ends}
+use Rattle.plan_model_tests.proofs.Decisions.{implied, is_at_most, is_true, refuted, shown}
+use Rattle.plan_model_tests.proofs.OrderDecisions.{of_nodes}
+use Rattle.plan_model_tests.proofs.SightDecisions.{IsSmall, by-side, counted, each_number, each_side, has_seen_at_least, is_later, is_seen, no_records, past_5}
 
 -- ---- ways
 
@@ -76,26 +79,21 @@ place_is n (suc (suc a)) true link = cc
 
 -- ---- what is seen at the end
 
-points_seen : (n : ℕ) → IsPresent three_points n → IsSeen at_return.seen n
-points_seen zero h = inl refl
-points_seen (suc zero) h = inr (0, true, refl)
-points_seen (suc (suc zero)) h = inr (1, false, refl)
-points_seen (suc (suc (suc n))) h = cc
-
-trees_seen : (n : ℕ) → IsSome (at_return.seen.parent_and_cost n) → IsSeen at_return.seen n
-trees_seen zero h = inl refl
-trees_seen (suc zero) h = inr (0, true, refl)
-trees_seen (suc (suc zero)) h = inr (1, false, refl)
-trees_seen (suc (suc (suc n))) h = cc
+pub small_return : IsSmall at_return.seen
+small_return = record { child = λ n side. refl; pairs = λ n. refl }
 
 -- step 8 is the last that found a place empty
 found_by_8 : (n : ℕ) (side : Bool) → found_at_return n side ≤ 8
-found_by_8 zero false = omega arith
-found_by_8 zero true = omega arith
-found_by_8 (suc zero) false = omega arith
-found_by_8 (suc zero) true = omega arith
-found_by_8 (suc (suc n)) false = omega arith
-found_by_8 (suc (suc n)) true = omega arith
+found_by_8 =
+    shown
+    (each_number (λ n. (side : Bool) → found_at_return n side ≤ 8) (λ n. by-side (λ side. found_at_return (past_5 n) side ≤ 8) (omega arith, omega arith))
+    (λ n. each_side (λ side. found_at_return n side ≤ 8) (λ side. is_at_most (found_at_return n side) 8))) refl
+
+trees_seen : (n : ℕ) → IsSome (at_return.seen.parent_and_cost n) → IsSeen at_return.seen n
+trees_seen =
+    shown
+    (each_number (λ n. IsSome (at_return.seen.parent_and_cost n) → IsSeen at_return.seen n) (λ n h. cc)
+    (λ n. implied (is_true (is_some (at_return.seen.parent_and_cost n))) (is_seen at_return.seen small_return n))) refl
 
 children_seen : (a n : ℕ) (side : Bool) → four_children a side ≡ Some n → IsSeen at_return.seen a
 children_seen zero n side link = inl refl
@@ -105,7 +103,12 @@ children_seen (suc (suc a)) n true link = cc
 
 pub KeepsSight-return : KeepsSight at_return
 KeepsSight-return = record {
-  rooted = record { start = refl; children = children_seen; points = points_seen; pairs = trees_seen };
+  rooted = record {
+    start = refl;
+    children = children_seen;
+    points = shown (of_nodes _ three_points (is_seen at_return.seen small_return)) refl;
+    pairs = trees_seen;
+  };
   ways = record {
     ways = ways;
     once = λ n a b left right one other.
@@ -118,47 +121,18 @@ KeepsSight-return = record {
 }
 
 pub not_seen_4 : ¬ IsSeen at_return.seen 4
-not_seen_4 (inl start) = omega (arith, start)
-not_seen_4 (inr (a, side, link)) = omega (arith, (place_is 4 a side link).few.1)
+not_seen_4 = refuted (is_seen at_return.seen small_return 4) refl
 
 -- ---- later
 
-children_stay : (n m : ℕ) (side : Bool) → three_children n side ≡ Some m → four_children n side ≡ Some m
-children_stay zero m false h = h
-children_stay zero m true h = h
-children_stay (suc zero) m false h = h
-children_stay (suc zero) m true h = cc
-children_stay (suc (suc n)) m false h = h
-children_stay (suc (suc n)) m true h = h
+pub small_entry : IsSmall at_entry.seen
+small_entry = record { child = λ n side. refl; pairs = λ n. refl }
 
-trees_stay : (n : ℕ) → KeepsOrLowers at_entry.seen at_return.seen n
-trees_stay zero tree h = (tree, h, inl refl)
-trees_stay (suc zero) tree h = (tree, h, inl refl)
-trees_stay (suc (suc zero)) tree h =
-    let cost : 1568 ≡ tree.1 = ap (λ o. (unwrap_or {T = ℕ × ℕ} o tree).1) h in
-    ((0, 1280), refl, inr (omega (arith, cost)))
-trees_stay (suc (suc (suc n))) tree h = cc
-
-empty_stays : (n : ℕ) (side : Bool) → KeepsOrFindsEmpty at_entry at_return n side
-empty_stays zero false = inl refl
-empty_stays zero true = inl refl
-empty_stays (suc zero) false = inl refl
-empty_stays (suc zero) true = inr (omega arith, refl)
-empty_stays (suc (suc n)) false = inl refl
-empty_stays (suc (suc n)) true = inl refl
+pub seen_at_return : HasSeenAtLeast at_entry.seen at_return.seen
+seen_at_return = shown (has_seen_at_least at_entry.seen at_return.seen small_entry (no_records (λ k. None)) (counted 2 2)) refl
 
 pub IsLaterMoment-return : IsLaterMoment at_entry at_return
-IsLaterMoment-return = record {
-  seen = record {
-    places = record { children = children_stay; nodes = λ n p h. h };
-    pairs = trees_stay;
-    records = λ k entry h. cc;
-    counters = λ strip. omega arith;
-    count = omega arith;
-  };
-  steps = omega arith;
-  empty = empty_stays;
-}
+IsLaterMoment-return = shown (is_later at_entry at_return (λ n side. inl refl) (yes seen_at_return)) refl
 
 -- ---- swept
 

@@ -1,51 +1,83 @@
 -- The definitions and lemmas that proofs of this crate are about, passed on from one place. Declares nothing.
-pub use Rattle.plan_model.proofs.OpenRoomMarks.{cost_2500}
+pub use Rattle.plan_model.proofs.BestNodeLaws.{IsPresent-goal}
+pub use Rattle.plan_model.proofs.PlacedNodes.{is_placed-true}
 pub use Rattle.plan_model.proofs.RootLaws.{root_ceiling-from_squares, root_ceiling-zero}
-pub use Rattle.plan_model.specs.Runs.Textbook.{MayBeCheaper, start_alone}
+pub use Rattle.plan_model.proofs.SegmentLaws.{Clear-first}
+pub use Rattle.plan_model.proofs.TurnsFromZero.{AreTurns-counted, RunFromZero-counts}
+pub use Rattle.plan_model.specs.Geometry.Cost.{cost_of}
+pub use Rattle.plan_model.specs.Geometry.Radius.{radius_of_class}
+pub use Rattle.plan_model.specs.Runs.ClosedLaw.{ArePlacedMarks, AreRecordedBelow, IsClosed, has_outcome, mark_at}
+pub use Rattle.plan_model.specs.Runs.Endings.{Ending, FirstHanging, NewNode, NoWay, Reached, SameNode, SkippedBy, Steered, ending_of}
+pub use Rattle.plan_model.specs.Runs.OrderLaw.{Hangs, HangsBelow, IsAllowedEdge, KeepsOrder, most_cost_of}
+pub use Rattle.plan_model.specs.Runs.Outcomes.{is_placed}
+pub use Rattle.plan_model.specs.Runs.RecordLaw.{HangsLawfully, HasClass, HasLawfulEnding, IsBlockedLawfully, IsChosenLawfully, IsLawfulRecord}
+pub use Rattle.plan_model.specs.Runs.RecordLaw.{IsPlacedLawfully, IsSkippedLawfully, IsSteeredLawfully, ReachesLawfully, earlier_count, first_cost_through}
+pub use Rattle.plan_model.specs.Runs.RecordLaw.{is_earlier}
+pub use Rattle.plan_model.specs.Runs.Textbook.{Ends, IsBestGoalNode, IsBestParent, IsCandidate, MayBeCheaper, Reaches, RewiresOne, SteersTo, mark_bound}
+pub use Rattle.plan_model.specs.Runs.Textbook.{start_alone, with_parent}
+pub use Rattle.plan_model.specs.Runs.Turns.{AreTurns, RunFromZero}
+pub use Rattle.plan_model.specs.Scenes.Limits.{IsBetween, are_goals, are_obstacles, is_body, is_plan, may_be_informed, most_clearance, most_side, most_step}
 pub use Rattle.plan_model.specs.Scenes.MarkPoints.{points_of_marks}
+pub use Rattle.plan_model.specs.Spaces.ClearPaths.{IsClearPath}
+pub use Rattle.plan_model.specs.Spaces.Meeting.{IsWithin}
+pub use Rattle.plan_model.specs.Texts.LineChecks.{Format, Given, corners_from}
+pub use Rattle.plan_model.specs.Texts.SceneGrammar.{Spells, body_from, fault_of_end, fault_of_line, first_of, given_after_version, goal_from, number_or}
+pub use Rattle.plan_model.specs.Texts.SceneGrammar.{plan_from, point_from, version_given}
+pub use Rattle.plan_model.specs.Texts.TextLines.{lines_of, statements_of}
+pub use Rattle.plan_model.specs.Trees.BestNode.{is_goal_point}
+pub use Rattle.plan_model.specs.Trees.GoalBounds.{least_of, points_of_goal}
+pub use Rattle.plan_model.specs.Trees.LeastPairs.{IsFirstLeast}
+pub use Rattle.plan_model.specs.Trees.NodeLists.{chain, length_of_path}
+pub use Rattle.plan_model.specs.Trees.OpenNodes.{IsOpenTo}
+pub use Rattle.plan_model.specs.Trees.PointsByNumber.{AreDistinct}
+pub use Rattle.plan_model.specs.Trees.TreeStates.{first_cost_of}
 pub use Rattle.plan_model.specs.Vectors.Records.{blocked_record, skipped_record}
-pub use Rattle.plan_model_tests.specs.GrownTrees.{after_with, before, both_records, costs_of, first_by, four_points, moment_of}
-pub use Rattle.plan_model_tests.specs.LesserSights.{child_of_none, found_with, known, one_record, seen_by, sight_of, trees_with}
+pub use Rattle.plan_model.specs.declared.configuration_spaces.ConfigurationSpace.{ConfigurationSpace}
+pub use Rattle.plan_model.specs.declared.limits.TheConstants.{LEAST_SIDE, LEAST_STEP, LEAST_STRIPS, MOST_GAMMA, MOST_SEED, MOST_STRIPS, MOST_WORKERS}
+pub use Rattle.plan_model.specs.declared.records.Outcome.{Outcome}
+pub use Rattle.plan_model.specs.declared.scenes.Scene.{Scene}
+pub use Rattle.plan_model.specs.declared.trees.Twig.{Twig}
+pub use Rattle.plan_model_tests.specs.GrownTrees.{after_with, before, both_records, costs_of, first_by, four_points}
+pub use Rattle.plan_model_tests.specs.LesserSights.{child_of_none, found_filled, found_with, known, one_record, seen_by, sight_of, trees_with}
 pub use Rattle.plan_model_tests.specs.LinkedNodes.{two_children, two_points}
 pub use Rattle.plan_model_tests.specs.NarrowRuns.{falling_marks, falling_records, falling_tree, marks_in_line, records_in_line, tree_in_line}
 pub use Rattle.plan_model_tests.specs.OpenPaths.{low_room}
 pub use Rattle.plan_model_tests.specs.RouteExamples.ChainRuns.{late, late_marks, late_records, late_tree, low_setup, small_setup}
 pub use Rattle.plan_model_tests.specs.RouteExamples.FollowedRuns.{goal_at_start, late_points, no_node, short_of_mark}
 pub use Rattle.plan_model_tests.specs.RouteExamples.Links.{IsNeither, thin_setup, thin_space, thin_triangle, wide_setup}
-pub use Rattle.plan_model_tests.specs.RouteExamples.NearRoutes.{three_marks, two_marks}
 pub use Rattle.plan_model_tests.specs.RouteExamples.WorkersTurns.{two_workers}
-pub use Rattle.plan_model_tests.specs.SkippedMarks.{IsFourth, at_node_3, goal_of_2, goal_reached, marks_to_skip, skipped_by, skipped_records, skipped_text}
-pub use Rattle.plan_model_tests.specs.SkippedMarks.{skipped_tree}
+pub use Rattle.plan_model_tests.specs.SkippedMarks.{goal_of_2, marks_to_skip, skipped_records, skipped_tree}
 pub use Rattle.plan_model_tests.specs.UnclosedRuns.{ended_at_start, one_node_more, overlapped_with, start_below_a_node}
-pub use Rattle.plan_model_tests.specs.UnlawfulRecords.{IsThird, ended, entry_by, halfway, room_by, start_at, third, third_with}
-pub use Rattle.plan_model_tests.specs.UnlawfulTrees.{room_to, start_for_all, three_points, tree_of}
-pub use Rattle.route_laws.proofs.Common.{AreInRoom-from_clear, Clear, Clear-empty_room, ClearAt, Contains-near, Goal, Handles, HandlesAll, IsBelowPassing}
-pub use Rattle.route_laws.proofs.Common.{IsBetweenWalls, IsCheaperThrough, IsEarlier, IsFirstLeast-among, IsFree, IsGoalNode, IsInRoom, IsInRoom-from_clear_at}
-pub use Rattle.route_laws.proofs.Common.{IsNearest, IsNeighbour, IsNotAbove, IsNotAbove-lesser, IsNotAbove-refl, IsPresent, IsPresent-below, IsTextbookRun}
-pub use Rattle.route_laws.proofs.Common.{MayBeCheaper-not_skipping, Meets, Meets-shares_point, Nodes, Placed, Point, Rational, Record, Rewires, Same, Setup}
-pub use Rattle.route_laws.proofs.Common.{SharesPoint-meets, StandsAt, TreeState, Vertex, advanced, at, at_lattice, class_of, corner, corner_in_box, cost_2441}
-pub use Rattle.route_laws.proofs.Common.{cost_through, distance_to, early_record, empty_room, first_least, first_least-some, first_mark, great_triangle}
-pub use Rattle.route_laws.proofs.Common.{is_within, marks_to_rewire, moved_by, near, near_new, node, node_count, on_the_way, open_setup, open_setup_to}
-pub use Rattle.route_laws.proofs.Common.{overlapped, placed_by, placed_record, point_at, point_body, point_of, points_of, rewired_tree, same_record, same_y}
-pub use Rattle.route_laws.proofs.Common.{small_square, space_among, squared_distance, steered, sum_of, two_is_positive, weighted}
+pub use Rattle.plan_model_tests.specs.UnlawfulRecords.{nodes_with, room_by}
+pub use Rattle.plan_model_tests.specs.UnlawfulTrees.{room_to, three_points}
+pub use Rattle.route_laws.proofs.Common.{AreInRoom-from_clear, Clear, Clear-empty_room, ClearAt, Goal, Handles, HandlesAll, IsBetweenWalls, IsCheaperThrough}
+pub use Rattle.route_laws.proofs.Common.{IsEarlier, IsFree, IsGoalNode, IsInRoom, IsInRoom-from_clear_at, IsNearest, IsNeighbour, IsNotAbove, IsPresent}
+pub use Rattle.route_laws.proofs.Common.{IsPresent-below, IsTextbookRun, MayBeCheaper-not_skipping, Meets, Meets-shares_point, Nodes, Placed, Point, Rational}
+pub use Rattle.route_laws.proofs.Common.{Record, Rewires, Same, Setup, SharesPoint-meets, StandsAt, TreeState, Vertex, advanced, at, at_lattice, class_of}
+pub use Rattle.route_laws.proofs.Common.{corner, corner_in_box, cost_through, distance_to, empty_room, great_triangle, is_within, marks_to_rewire, moved_by}
+pub use Rattle.route_laws.proofs.Common.{near_new, node_count, on_the_way, open_setup, open_setup_to, overlapped, placed_by, placed_record, point_at}
+pub use Rattle.route_laws.proofs.Common.{point_body, point_of, points_of, rewired_tree, small_square, space_among, squared_distance, steered, sum_of}
+pub use Rattle.route_laws.proofs.Common.{two_is_positive, weighted}
 pub use Rattle.route_laws.proofs.FollowedBodies.{HasClearDisc-far}
 pub use Rattle.route_laws.proofs.FollowedDiscs.{difference}
-pub use Rattle.route_laws.specs.Chains.{IsChain, IsChainInOrder, IsLinkInOrder, cost_of_chain}
+pub use Rattle.route_laws.specs.Chains.{IsChain, IsChainInOrder, IsLinkInOrder}
 pub use Rattle.route_laws.specs.Discs.{HasClearDisc, IsFartherFrom, KeepsBodyFar, KeepsFromWalls, gap_from}
-pub use Rattle.route_laws.specs.RouteCosts.{IsNearLink, least_radius}
+pub use Rattle.route_laws.specs.RouteCosts.{IsNearLink}
 pub use Rattle.route_laws.specs.Routes.{IsOpenLink, IsReached}
 pub use Rattle.route_laws.specs.WorkersRoutes.{EndsAtNode, IsHandledAfter}
-pub use Rattle.std.proofs.Common.{Bool, List, None, Option, Some, [], ap, arith, false, inl, inr, length, refl, subst, suc, sym, true, zero, ℕ, ◌*◌, ◌++◌, ◌+◌}
-pub use Rattle.std.proofs.Common.{◌-◌, ◌<◌, ◌∙◌, ◌∷◌, ◌≡◌, ◌≤◌}
+pub use Rattle.std.proofs.Common.{Bool, List, None, Option, Some, [], ap, arith, false, inl, inr, le-leb, leb, length, refl, subst, suc, sym, true, zero, ℕ}
+pub use Rattle.std.proofs.Common.{◌*◌, ◌++◌, ◌+◌, ◌-◌, ◌<◌, ◌^◌, ◌∙◌, ◌∷◌, ◌≡◌, ◌≤◌}
 pub use Rattle.std.proofs.Math.Bridge.{le_prop}
 pub use Rattle.std.proofs.Math.Nat.{le_refl}
-pub use Rattle.std.proofs.lemmas.Bool.{cases_lt}
+pub use Rattle.std.proofs.lemmas.Bool.{and_parts, cases_eq, cases_lt, cases_order, eqb-false, eqb-true, ltb-true, true≢false}
 pub use Rattle.std.proofs.lemmas.Int.{ints}
-pub use Rattle.std.proofs.lemmas.List.Elements.{All-cons, All-contains, All-nil}
+pub use Rattle.std.proofs.lemmas.List.{get_or_default, get_or_past}
+pub use Rattle.std.proofs.lemmas.List.Elements.{All-cons, All-nil}
 pub use Rattle.std.proofs.lemmas.Nat.{mul-le}
+pub use Rattle.std.proofs.lemmas.Option.{same_Some, slice_get-get_or, slice_get_past, slice_get_within}
 unfoldable pub use Rattle.std.specs.Fmt.{digits}
 pub use Rattle.std.specs.Int.{abs_diff}
-pub use Rattle.std.specs.List.{range_with_len}
+pub use Rattle.std.specs.List.{flat_map}
 pub use Rattle.std.specs.Option.{option_or}
-pub use Rattle.std.specs.Prelude.{All, Contains, IsSome, IsTrue, codes, filter, is_some, negsuc, pos, sum, unsigned_abs, unwrap_or, ◌*ℤ◌, ◌-ℤ◌, ◌/◌, ◌↔◌, ◌≢◌}
-pub use Rattle.std.specs.Prelude.{◌⊎◌}
+pub use Rattle.std.specs.Prelude.{Contains, IsSome, IsTrue, T, codes, cond, if◌then◌else◌, is_some, map, max, nat_le, negsuc, pos, slice_get, slice_index_or}
+pub use Rattle.std.specs.Prelude.{sum, unsigned_abs, unwrap_or, ℤ, ◌&&◌, ◌*ℤ◌, ◌+ℤ◌, ◌-ℤ◌, ◌/◌, ◌==◌, ◌≢◌, ◌≤ℤ◌, ◌⊎◌}

@@ -2,7 +2,8 @@
 use Rattle.plan_model_tests.proofs.Words.{◌≡◌, inl, inr, ℕ, ◌+◌, ◌*◌, ◌<◌, ◌≤◌, [], ◌∷◌, arith, refl, pos, ◌*ℤ◌, abs_diff, cases_lt, ints, mul-le, Point}
 use Rattle.plan_model_tests.proofs.Words.{squared_distance, Clear, ClearAt, on_the_way, Meets, Rational, at_lattice, point_body, at, two_is_positive}
 use Rattle.plan_model_tests.proofs.Words.{Meets-shares_point, SharesPoint-meets, thin_space, thin_triangle}
-use Rattle.plan_model_tests.proofs.RouteExamples.ShortWeights.{ClearAt-apart, one, three}
+use Rattle.plan_model_tests.proofs.ShortLists.{one, three}
+use Rattle.plan_model_tests.proofs.RouteExamples.ShortWeights.{ClearAt-apart}
 
 -- ---- lattice points
 

@@ -2,7 +2,7 @@
 use Rattle.plan_model_tests.proofs.Words.{◌≡◌, ℕ, ◌+◌, ◌*◌, ◌<◌, ◌≤◌, [], ◌∷◌, arith, ap, ◌∙◌, refl, pos, ◌-ℤ◌, unsigned_abs, abs_diff, ints, All-cons, All-nil}
 use Rattle.plan_model_tests.proofs.Words.{mul-le, Point, squared_distance, weighted, great_triangle, point_body, at, corner, IsFartherFrom, KeepsBodyFar}
 use Rattle.plan_model_tests.proofs.Words.{KeepsFromWalls, gap_from, difference, wide_setup}
-use Rattle.plan_model_tests.proofs.RouteExamples.ShortWeights.{one, three}
+use Rattle.plan_model_tests.proofs.ShortLists.{one, three}
 
 -- by weights of this total
 farther : (t whole v c d e f column : ℕ) → 0 < t → column ≤ 6 → whole ≤ 9 → c + d + e ≡ t

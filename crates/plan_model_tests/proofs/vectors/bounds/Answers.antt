@@ -1,11 +1,11 @@
-use Rattle.plan_model_tests.proofs.WorkedBounds as shown
+use Rattle.plan_model_tests.proofs.ComputedCosts.{bound-is}
 use Rattle.plan_model_tests.proofs.vectors.bounds.Goals as goal
 
 pub returns : goal.returns
 returns c = record {
-  to_a_point = shown.to_a_point;
-  to_a_side = shown.to_a_side;
-  to_a_corner = shown.to_a_corner;
-  inside = shown.inside;
-  to_the_second = shown.to_the_second;
+  to_a_point = bound-is _ _ _;
+  to_a_side = bound-is _ _ _;
+  to_a_corner = bound-is _ _ _;
+  inside = bound-is _ _ _;
+  to_the_second = bound-is _ _ _;
 }

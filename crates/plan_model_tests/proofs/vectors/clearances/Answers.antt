@@ -2,6 +2,8 @@ use Rattle.plan_model_tests.proofs.Words.{◌≡◌, ℕ, ◌+◌, ◌-◌, ◌*
 use Rattle.plan_model_tests.proofs.Common.{Vertex, Point, ConfigurationSpace, Rational, IsSamePoint, at_lattice, moved_by, IsBetweenWalls, weighted, Meets}
 use Rattle.plan_model_tests.proofs.Common.{IsClear, on_the_way, Clear, at, corner, two_is_positive, point_body, pillar, square, beside_square}
 use Rattle.plan_model_tests.proofs.Common.{apart_from_pillar, corner_in_box, part_and_rest, way_is, IsClear-same, SharesPoint-meets, Meets-shares_point}
+use Rattle.plan_model_tests.proofs.ComputedMeetings.{met_by}
+use Rattle.plan_model_tests.proofs.Decisions.{value_of}
 use Rattle.plan_model_tests.proofs.ShortLists.{one, four}
 use Rattle.plan_model_tests.proofs.Pillars.{fraction, apart_above}
 use Rattle.plan_model_tests.proofs.vectors.clearances.Goals as goal
@@ -99,18 +101,7 @@ eight_is_positive = omega arith
 
 -- the pillar's upper left corner is 5 steps away in both coordinates, an eighth of the way along its top
 meets_pillar : Meets 5 point_body (on_the_way (at 30 65) (at 70 65) 1 8 eight_is_positive) pillar
-meets_pillar = record {
-  total = 1;
-  on_obstacle = 0 ∷ 0 ∷ 0 ∷ 1 ∷ [];
-  on_body = 1 ∷ [];
-  some_weight = omega arith;
-  obstacle_corners = refl;
-  body_corners = refl;
-  obstacle_total = refl;
-  body_total = refl;
-  horizontal = record { lowest = omega (arith, ints); highest = omega (arith, ints) };
-  vertical = record { lowest = omega (arith, ints); highest = omega (arith, ints) };
-}
+meets_pillar = value_of (met_by 5 point_body (on_the_way (at 30 65) (at 70 65) 1 8 eight_is_positive) pillar (0 ∷ 0 ∷ 0 ∷ 1 ∷ []) (1 ∷ [])) refl
 
 -- a segment above the pillar, beyond the clearance
 clear_above : (from to y : ℕ) → 65 < y → y ≤ 100 → from ≤ 100 → to ≤ 100 → Clear apart_from_pillar (at from y) (at to y)

@@ -1,7 +1,9 @@
-use Rattle.plan_model_tests.proofs.Words.{◌≡◌, ℕ, zero, suc, ◌≤◌, ◌<◌, Some, None, [], ◌∷◌, arith, refl, ap, inl, inr, ◌⊎◌, unwrap_or, before, after_with}
-use Rattle.plan_model_tests.proofs.Words.{both_records, first_by, four_points, moment_of, room_to, three_points}
-use Rattle.plan_model_tests.proofs.Common.{Point, Record, most_cost_of, StandsAt, IsPresent, node_count, point_at, first_cost_of, KeepsOrFalls, TreeState, at}
+use Rattle.plan_model_tests.proofs.Words.{◌≡◌, ℕ, zero, suc, ◌<◌, Some, None, [], ◌∷◌, arith, refl, ap, inl, inr, ◌⊎◌, unwrap_or, before, after_with}
+use Rattle.plan_model_tests.proofs.Words.{both_records, first_by, four_points, three_points}
+use Rattle.plan_model_tests.proofs.Common.{Point, Record, StandsAt, point_at, TreeState, at}
 use Rattle.plan_model_tests.proofs.Common.{same_y}
+use Rattle.plan_model_tests.proofs.Decisions.{are_equal, both, either, is_at_most, shown}
+use Rattle.plan_model_tests.proofs.OrderDecisions.{of_nodes}
 use Rattle.plan_model_tests.proofs.vectors.grown_trees.Goals as goal
 
 abbrev after : TreeState
@@ -12,18 +14,6 @@ nodes zero p h = h
 nodes (suc zero) p h = h
 nodes (suc (suc zero)) p h = h
 nodes (suc (suc (suc n))) p h = cc
-
-first_costs : (n : ℕ) → IsPresent three_points n → first_cost_of after n ≡ first_cost_of before n
-first_costs zero h = refl
-first_costs (suc zero) h = refl
-first_costs (suc (suc zero)) h = refl
-first_costs (suc (suc (suc n))) h = cc
-
-trees : (n : ℕ) → IsPresent three_points n → KeepsOrFalls before after n
-trees zero h = inl (refl, refl)
-trees (suc zero) h = inl (refl, refl)
-trees (suc (suc zero)) h = inr (omega arith)
-trees (suc (suc (suc n))) h = cc
 
 records : (k : ℕ) (entry : Record) → before.record_of k ≡ Some entry → after.record_of k ≡ Some entry
 records zero entry h = h
@@ -46,41 +36,17 @@ same_points (suc (suc zero)) = refl
 same_points (suc (suc (suc zero))) = refl
 same_points (suc (suc (suc (suc n)))) = refl
 
-abbrev same_run : TreeState
-same_run =
-    moment_of (Some (at 0 0) ∷ Some (at 0 50) ∷ Some (at 0 10) ∷ None ∷ []) (0 ∷ 0 ∷ 1 ∷ 2 ∷ []) (0 ∷ 12803 ∷ 23043 ∷ 7 ∷ []) 0
-    (first_by 0 12803 ∷ [])
-
-same_parents : (n : ℕ) → IsPresent three_points n → same_run.parent n ≡ before.parent n
-same_parents zero h = refl
-same_parents (suc zero) h = refl
-same_parents (suc (suc zero)) h = refl
-same_parents (suc (suc (suc n))) h = cc
-
-same_costs : (n : ℕ) → IsPresent three_points n → same_run.cost n ≡ before.cost n
-same_costs zero h = refl
-same_costs (suc zero) h = refl
-same_costs (suc (suc zero)) h = refl
-same_costs (suc (suc (suc n))) h = cc
-
-kept : (n : ℕ) → IsPresent three_points n → before.cost n ≤ first_cost_of before n
-kept zero h = omega arith
-kept (suc zero) h = omega arith
-kept (suc (suc zero)) h = omega arith
-kept (suc (suc (suc n))) h = cc
-
-bounded : (n : ℕ) → IsPresent three_points n → first_cost_of before n ≤ most_cost_of (room_to 50 (at 0 0)) (node_count three_points)
-bounded zero h = omega arith
-bounded (suc zero) h = omega arith
-bounded (suc (suc zero)) h = omega arith
-bounded (suc (suc (suc n))) h = cc
-
 same_worker : (one other : Record) → Some one ≡ Some other → one.worker ≡ other.worker
 same_worker one other e = ap (λ o. (unwrap_or o one).worker) e
 
 pub returns : goal.returns
 returns c = record {
-  later = record { nodes = nodes; first_costs = first_costs; trees = trees; records = records };
+  later = record {
+    nodes = nodes;
+    first_costs = shown (of_nodes _ three_points (λ n. are_equal _ _)) refl;
+    trees = shown (of_nodes _ three_points (λ n. either (both (are_equal _ _) (are_equal _ _)) (is_at_most _ _))) refl;
+    records = records;
+  };
   node_gone = λ h. let e = h.nodes 2 (at 0 10) refl in cc;
   node_elsewhere = λ h. omega (arith, same_y (at 0 11) (at 0 10) (h.nodes 2 (at 0 10) refl));
   other_first_cost = λ h. omega (arith, h.first_costs 2 refl);
@@ -92,12 +58,20 @@ returns c = record {
   parent_too = λ h. omega (arith, h.parents 2);
   written_cost_too = λ h. omega (arith, h.written_costs 0);
   record_too = λ h. let e = h.records 0 in cc;
-  same = record { points = same_points; parents = same_parents; costs = same_costs; records = λ k. refl };
+  same = record {
+    points = same_points;
+    parents = shown (of_nodes _ three_points (λ n. are_equal _ _)) refl;
+    costs = shown (of_nodes _ three_points (λ n. are_equal _ _)) refl;
+    records = λ k. refl;
+  };
   one_node_more = λ h. let e = h.points 3 in cc;
   other_parent = λ h. omega (arith, h.parents 2 refl);
   other_cost = λ h. omega (arith, h.costs 2 refl);
   record_more = λ h. let e = h.records 1 in cc;
-  keeps_first_costs = record { kept = kept; bounded = bounded };
+  keeps_first_costs = record {
+    kept = shown (of_nodes _ three_points (λ n. is_at_most _ _)) refl;
+    bounded = shown (of_nodes _ three_points (λ n. is_at_most _ _)) refl;
+  };
   above_first_cost = λ h. omega (arith, h.kept 1 refl);
   first_cost_above_the_bound = λ h. omega (arith, h.bounded 2 refl);
 }

@@ -1,13 +1,9 @@
-use Rattle.plan_model_tests.proofs.Words.{◌≡◌, ℕ, zero, suc, ◌+◌, ◌≤◌, ◌<◌, [], ◌∷◌, arith, refl, ◌≢◌, costs_of, three_points}
-use Rattle.plan_model_tests.proofs.Common.{IsPresent, edge_by, parent_of, points_of, gapped, cost_2500}
+use Rattle.plan_model_tests.proofs.Words.{◌≡◌, ℕ, zero, suc, ◌+◌, ◌≤◌, [], ◌∷◌, arith, refl, costs_of, three_points}
+use Rattle.plan_model_tests.proofs.Common.{IsPresent, edge_by, parent_of, points_of, gapped}
+use Rattle.plan_model_tests.proofs.ComputedCosts.{cost_2500}
+use Rattle.plan_model_tests.proofs.Decisions.{are_equal, denied, implied, is_at_most, is_true, shown}
+use Rattle.plan_model_tests.proofs.OrderDecisions.{of_later_nodes}
 use Rattle.plan_model_tests.proofs.vectors.kept_costs.Goals as goal
-
-with_parent : (n : ℕ) → IsPresent three_points (suc n) → suc n ≢ 1
-    → costs_of (0 ∷ 12800 ∷ 23040 ∷ []) (suc n) + costs_of (0 ∷ 12803 ∷ 23043 ∷ []) (costs_of (0 ∷ 0 ∷ 1 ∷ []) (suc n))
-    ≡ costs_of (0 ∷ 12803 ∷ 23043 ∷ []) (suc n) + costs_of (0 ∷ 12800 ∷ 23040 ∷ []) (costs_of (0 ∷ 0 ∷ 1 ∷ []) (suc n))
-with_parent zero h other = absurd (other refl)
-with_parent (suc zero) h other = refl
-with_parent (suc (suc n)) h other = cc
 
 none_rises : (n : ℕ) → costs_of (0 ∷ 12800 ∷ 23040 ∷ []) n ≤ costs_of (0 ∷ 12803 ∷ 23043 ∷ []) n
 none_rises zero = omega arith
@@ -22,19 +18,14 @@ edges zero h = cc
 edges (suc zero) h = omega (arith, cost_2500)
 edges (suc (suc n)) h = cc
 
-parents : (n : ℕ) → IsPresent (points_of gapped) (suc n) → IsPresent (points_of gapped) (parent_of gapped (suc n))
-parents zero h = cc
-parents (suc zero) h = refl
-parents (suc (suc n)) h = cc
-
-falls : (n : ℕ) → IsPresent (points_of gapped) (suc n) → costs_of (5 ∷ 0 ∷ 6 ∷ []) (parent_of gapped (suc n)) < costs_of (5 ∷ 0 ∷ 6 ∷ []) (suc n)
-falls zero h = cc
-falls (suc zero) h = omega arith
-falls (suc (suc n)) h = cc
-
 pub returns : goal.returns
 returns c = record {
-  lowered = record { top = refl; start = refl; with_parent = with_parent; none_rises = none_rises };
+  lowered = record {
+    top = refl;
+    start = refl;
+    with_parent = shown (of_later_nodes _ three_points (λ n. implied (denied (are_equal _ _)) (are_equal _ _))) refl;
+    none_rises = none_rises;
+  };
   top_by_less = λ h. omega (arith, h.top);
   start_too = λ h. omega (arith, h.start);
   child_stays = λ h. omega (arith, h.with_parent 1 refl (λ e. omega (arith, e)));
@@ -42,7 +33,11 @@ returns c = record {
   tight = record { start = refl; edges = edges };
   start_at_a_cost = λ h. omega (arith, h.start);
   above_its_edge = λ h. omega (arith, h.edges 1 refl, cost_2500);
-  fall = record { start = refl; parent = parents; falls = falls };
+  fall = record {
+    start = refl;
+    parent = shown (of_later_nodes _ (points_of gapped) (λ n. is_true _)) refl;
+    falls = shown (of_later_nodes _ (points_of gapped) (λ n. is_at_most _ _)) refl;
+  };
   no_fall = λ h. omega (arith, h.falls 1 refl);
   no_start = λ h. let e = h.start in cc;
   no_parent = λ h. let e = h.parent 0 refl in cc;

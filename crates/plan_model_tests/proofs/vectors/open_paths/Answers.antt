@@ -1,34 +1,37 @@
-use Rattle.plan_model_tests.proofs.Words.{ℕ, zero, suc, ◌<◌, [], ◌∷◌, arith, refl, Contains, low_room}
-use Rattle.plan_model_tests.proofs.Common.{Clear, path_point, at, AreInRoom-from_clear, Clear-empty_room}
+use Rattle.plan_model_tests.proofs.Words.{◌≡◌, ℕ, suc, ◌<◌, List, Option, true, false, arith, length, low_room, IsClearPath, IsOpenTo}
+use Rattle.plan_model_tests.proofs.Common.{Clear, Point, at, path_point, point_of}
+use Rattle.plan_model_tests.proofs.Decisions.{contains, each_below, given, holds, implied, is_at_most, like, refuted, shown}
+use Rattle.plan_model_tests.proofs.OrderDecisions.{is_clear}
 use Rattle.plan_model_tests.proofs.vectors.open_paths.Goals as goal
 
-clear_edges : (i : ℕ) → suc i < 3
-    → Clear low_room (path_point (at 0 0 ∷ at 0 50 ∷ at 10 10 ∷ []) i) (path_point (at 0 0 ∷ at 0 50 ∷ at 10 10 ∷ []) (suc i))
-clear_edges zero h =
-    Clear-empty_room (at 100 50) (at 0 0) (at 0 50) (record { horizontal = omega arith; vertical = omega arith })
-    (record { horizontal = omega arith; vertical = omega arith })
-clear_edges (suc zero) h =
-    Clear-empty_room (at 100 50) (at 0 50) (at 10 10) (record { horizontal = omega arith; vertical = omega arith })
-    (record { horizontal = omega arith; vertical = omega arith })
-clear_edges (suc (suc i)) h = absurd (omega (arith, h))
+module _ (points : List (Option Point)) (p : Point) (candidates : List ℕ) (i : ℕ) where
+  abbrev pub is_open : Dec (IsOpenTo low_room points p candidates i)
+  is_open =
+      given (contains candidates i) (λ h. h.among) (λ a.
+      given (is_clear (at 100 50) (point_of points i) p) (λ h. h.clear) (λ b.
+      yes (record { among = a; clear = b })))
 
-not_in_1 : ¬ Contains {X = ℕ} (1 ∷ []) 0
-not_in_1 (zero, h, e) = omega (arith, e)
-not_in_1 (suc i, h, e) = omega (arith, h)
+  open_to : holds is_open ≡ true → IsOpenTo low_room points p candidates i
+  open_to = shown is_open
+
+  not_open_to : holds is_open ≡ false → ¬ IsOpenTo low_room points p candidates i
+  not_open_to = refuted is_open
+
+pub edge-below : (i n : ℕ) → suc i < n → i < n
+edge-below i n h = omega (arith, h)
+
+module _ (path : List Point) where
+  abbrev pub is_clear_path : Dec (IsClearPath low_room path)
+  is_clear_path =
+      like (λ f. record { clear = λ i h. f i (edge-below i (length path) h) h }) (λ g i _ h. g.clear i h)
+      (each_below (λ i. suc i < length path → Clear low_room (path_point path i) (path_point path (suc i)))
+      (λ i. implied (is_at_most (suc (suc i)) (length path)) (is_clear (at 100 50) (path_point path i) (path_point path (suc i)))) (length path))
+
+  clear_path : holds is_clear_path ≡ true → IsClearPath low_room path
+  clear_path = shown is_clear_path
+
+  no_clear_path : holds is_clear_path ≡ false → ¬ IsClearPath low_room path
+  no_clear_path = refuted is_clear_path
 
 pub returns : goal.returns
-returns c = record {
-  from_start = record {
-    among = (1, omega arith, refl);
-    clear =
-        Clear-empty_room (at 100 50) (at 0 0) (at 10 50) (record { horizontal = omega arith; vertical = omega arith })
-        (record { horizontal = omega arith; vertical = omega arith });
-  };
-  none_of_them = λ h. not_in_1 h.among;
-  begins_outside = λ h. omega (arith, (AreInRoom-from_clear low_room (at 0 51) (at 10 50) h.clear).first.vertical);
-  leads_outside = λ h. omega (arith, (AreInRoom-from_clear low_room (at 0 0) (at 10 51) h.clear).last.vertical);
-  clear = record { clear = clear_edges };
-  without_edges = record { clear = λ i h. absurd (omega (arith, h)) };
-  first_edge_not_clear = λ h. omega (arith, (AreInRoom-from_clear low_room (at 0 51) (at 0 50) (h.clear 0 (omega arith))).first.vertical);
-  last_edge_not_clear = λ h. omega (arith, (AreInRoom-from_clear low_room (at 0 50) (at 10 51) (h.clear 1 (omega arith))).last.vertical);
-}
+returns c = search (open_to, not_open_to, clear_path, no_clear_path)

@@ -1,10 +1,11 @@
-use Rattle.std.proofs.Common.{refl}
-use Rattle.plan_model_tests.proofs.OverlappingMarks.{IsClosed-overlapped}
+use Rattle.plan_model_tests.proofs.Words.{refl}
+use Rattle.plan_model_tests.proofs.Common.{marks_to_rewire, overlapped, overlapping_records}
+use Rattle.plan_model_tests.proofs.ClosedRuns.{closed}
 use Rattle.plan_model_tests.proofs.vectors.overlapping_marks.Goals as goal
 
 pub returns : goal.returns
 returns c = record {
-  closed = IsClosed-overlapped;
+  closed = closed overlapped overlapping_records refl marks_to_rewire 3 refl;
   turns_before = refl;
   turns_after = refl;
   turns_of_other = refl;

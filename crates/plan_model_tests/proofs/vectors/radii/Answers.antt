@@ -1,8 +1,10 @@
 -- A radius passes its test and the number after it does not, so that no number above has to be tried.
-use Rattle.std.proofs.Common.{◌≡◌, ℕ, suc, ◌-◌, ◌*◌, ◌^◌, ◌≤◌, ◌∷◌, List, leb, leb-true, leb-false, le-leb, true, false, refl, sym, arith, inl, inr}
-use Rattle.std.proofs.lemmas.Bool.{cases_order}
-use Rattle.std.proofs.lemmas.Nat.{mul-le}
+use Rattle.plan_model_tests.proofs.Words.{◌≡◌, ℕ, suc, ◌-◌, ◌*◌, ◌^◌, ◌≤◌, Option, Some, None, List, [], ◌∷◌, map, leb, le-leb, true, false, refl, sym}
+use Rattle.plan_model_tests.proofs.Words.{arith, inl, inr, cases_order, mul-le}
+use Rattle.std.proofs.Common.{leb-true, leb-false}
 use Rattle.plan_model_tests.proofs.Common.{greatest, radius_of_class, greatest-unique}
+use Rattle.plan_model_tests.proofs.Decisions.{agree, if_so, if_there, value_of}
+use Rattle.plan_model.specs.Vectors.Radii.{first_classes}
 use Rattle.plan_model_tests.proofs.vectors.radii.Goals as goal
 
 -- the product grows with the number
@@ -31,44 +33,25 @@ radius_is : (gamma b r : ℕ) → leb r 4096 ≡ true → leb (r * r * 2 ^ (b - 
     → leb (suc r * suc r * 2 ^ (b - 1)) (gamma * gamma * b) ≡ false → radius_of_class 4096 gamma b ≡ r
 radius_is gamma b r within = greatest-is 4096 (2 ^ (b - 1)) (gamma * gamma * b) r (leb-true r 4096 within)
 
-same_heads : {x y : ℕ} {xs ys : List ℕ} → x ≡ y → xs ≡ ys → x ∷ xs ≡ y ∷ ys
-same_heads e f = cc
+abbrev radii_by : (gamma : ℕ) (classes radii : List ℕ) → Option (map (radius_of_class 4096 gamma) classes ≡ radii)
+radii_by gamma [] [] = Some refl
+radii_by gamma [] (r ∷ radii) = None
+radii_by gamma (b ∷ classes) [] = None
+radii_by gamma (b ∷ classes) (r ∷ radii) =
+    if_so (agree (leb r 4096) true) (λ within.
+    if_so (agree (leb (r * r * 2 ^ (b - 1)) (gamma * gamma * b)) true) (λ passes.
+    if_so (agree (leb (suc r * suc r * 2 ^ (b - 1)) (gamma * gamma * b)) false) (λ fails.
+    if_there (radii_by gamma classes radii) (λ rest.
+    Some (λ i. radius_is gamma b r within passes fails i ∷ rest i)))))
 
 pub returns : goal.returns
 returns c = record {
-  falling =
-      same_heads (radius_is 1000 1 1000 refl refl refl) (
-      same_heads (radius_is 1000 2 1000 refl refl refl) (
-      same_heads (radius_is 1000 3 866 refl refl refl) (
-      same_heads (radius_is 1000 4 707 refl refl refl) (
-      same_heads (radius_is 1000 5 559 refl refl refl) (
-      same_heads (radius_is 1000 6 433 refl refl refl) (
-      same_heads (radius_is 1000 7 330 refl refl refl) (
-      same_heads (radius_is 1000 8 250 refl refl refl) (
-      same_heads (radius_is 1000 9 187 refl refl refl) (
-      same_heads (radius_is 1000 10 139 refl refl refl) (
-      refl))))))))));
+  falling = value_of (radii_by 1000 first_classes (1000 ∷ 1000 ∷ 866 ∷ 707 ∷ 559 ∷ 433 ∷ 330 ∷ 250 ∷ 187 ∷ 139 ∷ [])) refl;
   bounded = refl;
-  none =
-      same_heads (radius_is 0 1 0 refl refl refl) (
-      same_heads (radius_is 0 2 0 refl refl refl) (
-      same_heads (radius_is 0 3 0 refl refl refl) (
-      same_heads (radius_is 0 4 0 refl refl refl) (
-      same_heads (radius_is 0 5 0 refl refl refl) (
-      same_heads (radius_is 0 6 0 refl refl refl) (
-      same_heads (radius_is 0 7 0 refl refl refl) (
-      same_heads (radius_is 0 8 0 refl refl refl) (
-      same_heads (radius_is 0 9 0 refl refl refl) (
-      same_heads (radius_is 0 10 0 refl refl refl) (
-      refl))))))))));
+  none = value_of (radii_by 0 first_classes (0 ∷ 0 ∷ 0 ∷ 0 ∷ 0 ∷ 0 ∷ 0 ∷ 0 ∷ 0 ∷ 0 ∷ [])) refl;
   classes = refl;
   least_gamma = refl;
   greatest_gamma = refl;
   no_class = radius_is 1000 0 0 refl refl refl;
-  of_nodes =
-      same_heads (radius_is 1000 2 1000 refl refl refl) (
-      same_heads (radius_is 1000 3 866 refl refl refl) (
-      same_heads (radius_is 1000 3 866 refl refl refl) (
-      same_heads (radius_is 1000 4 707 refl refl refl) (
-      refl))));
+  of_nodes = value_of (radii_by 1000 (2 ∷ 3 ∷ 3 ∷ 4 ∷ []) (1000 ∷ 866 ∷ 866 ∷ 707 ∷ [])) refl;
 }

@@ -1,5 +1,7 @@
 use Rattle.std.proofs.Common.{◌≡◌, ℕ, List, [], cond, refl, sym, ap, ◌∙◌}
-use Rattle.plan_model_tests.proofs.Common.{Point, Vertex, ConfigurationSpace, points_of_marks, rewired_run, rewired_records, rewired_tree}
+use Rattle.plan_model_tests.proofs.Common.{Point, Vertex, ConfigurationSpace, at, marks_to_rewire, open_setup, points_of_marks, rewired_records, rewired_tree}
+use Rattle.plan_model_tests.proofs.ComputedRuns.{IsTextbookRun-computed}
+use Rattle.plan_model_tests.proofs.OrderDecisions.{is_clear}
 use Rattle.plan_model_tests.proofs.vectors.same_inputs.Goals as goal
 
 abbrev space_with : Point → List Vertex → List (List Vertex) → ℕ → ConfigurationSpace
@@ -25,7 +27,7 @@ returns c = record {
   of_a_run = record {
     nodes = rewired_tree;
     records = rewired_records;
-    run = rewired_run;
+    run = IsTextbookRun-computed open_setup (is_clear (at 100 100)) marks_to_rewire rewired_tree rewired_records refl;
     same = record { points = λ n. refl; parents = λ n h. refl; costs = λ n h. refl; records = λ k. refl };
   };
 }

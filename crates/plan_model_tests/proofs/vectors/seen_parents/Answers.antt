@@ -1,4 +1,5 @@
-use Rattle.plan_model_tests.proofs.Words.{ℕ, arith, refl, ap, cost_2500}
+use Rattle.plan_model_tests.proofs.Words.{ℕ, arith, refl, ap}
+use Rattle.plan_model_tests.proofs.ComputedCosts.{cost_2500}
 use Rattle.plan_model_tests.proofs.vectors.seen_parents.Goals as goal
 
 pub returns : goal.returns

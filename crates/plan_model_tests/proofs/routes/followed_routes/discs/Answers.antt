@@ -1,5 +1,7 @@
 use Rattle.plan_model_tests.proofs.Words.{[], ◌∷◌, arith, refl, pos, negsuc, le_refl, ints, Point, Setup, Meets, Rational, at_lattice, great_triangle}
-use Rattle.plan_model_tests.proofs.Words.{point_body, small_square, at, two_is_positive, HasClearDisc, HasClearDisc-far, IsNeither, wide_setup}
+use Rattle.plan_model_tests.proofs.Words.{point_body, small_square, at, HasClearDisc, HasClearDisc-far, IsNeither, wide_setup}
+use Rattle.plan_model_tests.proofs.ComputedMeetings.{met_by}
+use Rattle.plan_model_tests.proofs.Decisions.{value_of}
 use Rattle.plan_model_tests.proofs.RouteExamples.WideTriangle.{KeepsBodyFar-wide}
 use Rattle.plan_model_tests.proofs.routes.followed_routes.discs.Goals as goal
 
@@ -12,47 +14,14 @@ past_wall : Rational
 past_wall = record { x = negsuc 0; y = pos 15; over = 1; positive = le_refl 1 }
 
 at_side : Meets 0 point_body (at_lattice (at 10 15)) great_triangle
-at_side = record {
-  total = 2;
-  on_obstacle = 1 ∷ 0 ∷ 1 ∷ [];
-  on_body = 2 ∷ [];
-  some_weight = two_is_positive;
-  obstacle_corners = refl;
-  body_corners = refl;
-  obstacle_total = refl;
-  body_total = refl;
-  horizontal = record { lowest = omega (arith, ints); highest = omega (arith, ints) };
-  vertical = record { lowest = omega (arith, ints); highest = omega (arith, ints) };
-}
+at_side = value_of (met_by 0 point_body (at_lattice (at 10 15)) great_triangle (1 ∷ 0 ∷ 1 ∷ []) (2 ∷ [])) refl
 
 one_beside_side : Meets 1 point_body (at_lattice (at 9 15)) great_triangle
-one_beside_side = record {
-  total = 2;
-  on_obstacle = 1 ∷ 0 ∷ 1 ∷ [];
-  on_body = 2 ∷ [];
-  some_weight = two_is_positive;
-  obstacle_corners = refl;
-  body_corners = refl;
-  obstacle_total = refl;
-  body_total = refl;
-  horizontal = record { lowest = omega (arith, ints); highest = omega (arith, ints) };
-  vertical = record { lowest = omega (arith, ints); highest = omega (arith, ints) };
-}
+one_beside_side = value_of (met_by 1 point_body (at_lattice (at 9 15)) great_triangle (1 ∷ 0 ∷ 1 ∷ []) (2 ∷ [])) refl
 
 -- the middle of the body's lower side
 wider_at_side : Meets 0 small_square (at_lattice (at 9 15)) great_triangle
-wider_at_side = record {
-  total = 2;
-  on_obstacle = 1 ∷ 0 ∷ 1 ∷ [];
-  on_body = 1 ∷ 1 ∷ 0 ∷ 0 ∷ [];
-  some_weight = two_is_positive;
-  obstacle_corners = refl;
-  body_corners = refl;
-  obstacle_total = refl;
-  body_total = refl;
-  horizontal = record { lowest = omega (arith, ints); highest = omega (arith, ints) };
-  vertical = record { lowest = omega (arith, ints); highest = omega (arith, ints) };
-}
+wider_at_side = value_of (met_by 0 small_square (at_lattice (at 9 15)) great_triangle (1 ∷ 0 ∷ 1 ∷ []) (1 ∷ 1 ∷ 0 ∷ 0 ∷ [])) refl
 
 pub returns : goal.returns
 unfolding past_wall
