@@ -55,7 +55,7 @@ pub use Rattle.plan_model.proofs.CostLaws.{cost_of-swap}
 pub use Rattle.plan_model.proofs.CountLaws.{numbers-closed}
 pub use Rattle.plan_model.proofs.CountsBelow.{count-all, count-first, count-found, count-longer, count-more, count-none, count-one_more, count-same}
 pub use Rattle.plan_model.proofs.CountsBelow.{count-single, count-some, count-wider, range-more}
-pub use Rattle.plan_model.proofs.DistinctPoints.{AreDistinct-placed, IsPresent-below, IsPresent-push, near-present, points_of-ends, within_present}
+pub use Rattle.plan_model.proofs.DistinctPoints.{IsPresent-below, IsPresent-push, near-present, points_of-ends, within_present}
 pub use Rattle.plan_model.proofs.EarlierNodes.{HaveSameEarlier, is_earlier-same, is_earlier-same_records}
 pub use Rattle.plan_model.proofs.EmptyRoomClearance.{AreInRoom-from_clear, Clear-empty_room}
 pub use Rattle.plan_model.proofs.FreePoints.{filter-none, is_near_free, same-from_distance}
@@ -72,7 +72,6 @@ pub use Rattle.plan_model.proofs.NewNodes.{Adds, Adds-push, AreDistinct-adds, Is
 pub use Rattle.plan_model.proofs.NewNodes.{node_count-some, point_at-same, point_of-stands, present_below}
 pub use Rattle.plan_model.proofs.NextRecords.{RecordsMark, new_or_recorded}
 pub use Rattle.plan_model.proofs.NodeCounts.{count-next, node_count-length, node_count-same}
-pub use Rattle.plan_model.proofs.OpenRoomMarks.{cost_2000, cost_2401, cost_2441, cost_2500, same_x, same_y}
 pub use Rattle.plan_model.proofs.OrderLaws.{Hangs-grows, HangsBelow-falls, KeepsOrder-falls, cost_of-short, most_cost_of-le, most_cost_of-more}
 pub use Rattle.plan_model.proofs.OrderLaws.{most_cost_of-within, parent-present, start-present}
 pub use Rattle.plan_model.proofs.OrderedTrees.{FallAlong-ordered, sum_in-le_cost, sum_in-parent, sum_in-start}
@@ -80,18 +79,17 @@ pub use Rattle.plan_model.proofs.ParentChanges.{AreTight-cheaper_parent, CostsFa
 pub use Rattle.plan_model.proofs.ParentChanges.{IsPresent-cheaper_parent, edge_from, parent_kept, parent_new, points_of-cheaper_parent}
 pub use Rattle.plan_model.proofs.ParentChoices.{IsFirstLeast-alone, IsFirstLeast-keeps, IsFirstLeast-takes}
 pub use Rattle.plan_model.proofs.PathLengths.{length_of_path-reverse}
-pub use Rattle.plan_model.proofs.PlacedNodes.{ArePlacedMarks-from, present-of_record, record-of_present}
+pub use Rattle.plan_model.proofs.PlacedNodes.{present-of_record, record-of_present}
 pub use Rattle.plan_model.proofs.QuotaLaws.{IsCutAt-quota}
 pub use Rattle.plan_model.proofs.RadiusLaws.{greatest-le, greatest-passes}
 pub use Rattle.plan_model.proofs.RecordLaws.{IsLawfulRecord-grows, class_of-le}
-pub use Rattle.plan_model.proofs.RewiredRun.{rewired_run, rewired_sum}
 pub use Rattle.plan_model.proofs.Ring.{Read, minus, var}
 pub use Rattle.plan_model.proofs.RootLaws.{root_ceiling-from_squares, root_ceiling-zero}
 pub use Rattle.plan_model.proofs.RunLaws.{HandlesAll-length, HandlesAll-nodes, HandlesAll-push}
-pub use Rattle.plan_model.proofs.SamePoints.{same_or_other, same_point-false, same_point-true}
+pub use Rattle.plan_model.proofs.SamePoints.{same_or_other, same_point-false, same_point-true, same_x}
 pub use Rattle.plan_model.proofs.SameReports.{AreSameRuns-textbook, best_node-same, report_text-same}
 pub use Rattle.plan_model.proofs.SameScenes.{Spells-one_scene, same_parts}
-pub use Rattle.plan_model.proofs.SameTrees.{AreSameRuns-trans, IsClosed-of_textbook, IsClosed-same_run, IsSettled-of_textbook, IsSettled-same, chain_in-same}
+pub use Rattle.plan_model.proofs.SameTrees.{AreSameRuns-trans, IsClosed-same_run, IsSettled-of_textbook, IsSettled-same, chain_in-same}
 pub use Rattle.plan_model.proofs.SameTrees.{sum_in-same}
 pub use Rattle.plan_model.proofs.SceneBatchLaws.{SpellsBatch-not_refused, SpellsBatch-one_batch}
 pub use Rattle.plan_model.proofs.SceneBounds.{All-goals_bounded, IsBounded-in_room, IsBounded-scene_start, goals-some, step-steers}
@@ -114,7 +112,6 @@ pub use Rattle.plan_model.proofs.TreeChanges.{points_of-push}
 pub use Rattle.plan_model.proofs.TreeStateLaws.{GrowsInto-refl, GrowsInto-trans, IsPresent-grows, cost-grows, node_count-grows, point_at-grows, point_of-grows}
 pub use Rattle.plan_model.proofs.TriangleLaw.{cost_of-triangle}
 pub use Rattle.plan_model.proofs.TrueSights.{AreDistinct-true, FollowSeenWays-true, IsOnWay-true, IsPresent-true, whole_pair}
-pub use Rattle.plan_model.proofs.TurnsFromZero.{AreTurns-counted}
 pub use Rattle.plan_model.proofs.EndingLaws.{Record-from_fields, reached-unskipped, record_of_ending-again}
 pub use Rattle.plan_model.proofs.WayLaws.{EndsBelow-free, IsOnWay-unique, earlier_step, last_step, not_empty, way_start, way_stops}
 pub use Rattle.plan_model.proofs.WayLinks.{AddsPoint-stands, FollowWays-links, FollowWays-start, IsOnWay-fills}
@@ -140,7 +137,7 @@ pub use Rattle.plan_model.specs.Runs.SameRuns.{HaveSameFields, IsOfTextbookRun}
 pub use Rattle.plan_model.specs.Runs.Textbook.{Ends, EndsBlocked, EndsPlaced, EndsSkipped, EndsSteered, Handles, HandlesAll, IsBestGoalNode, IsBestParent}
 pub use Rattle.plan_model.specs.Runs.Textbook.{IsCandidate, IsCheaperThrough, IsTextbookRun, MayBeCheaper, Nodes, Reaches, Rewires, RewiresOne, Setup, SteersTo}
 pub use Rattle.plan_model.specs.Runs.Textbook.{cost_through, mark_bound, near_new, setup_of, skipping_goals, start_alone, with_parent}
-pub use Rattle.plan_model.specs.Runs.Turns.{AreTurns, RunFromZero, is_of_turn, is_of_worker, once_if, times_of, turns_of}
+pub use Rattle.plan_model.specs.Runs.Turns.{AreTurns, is_of_turn, is_of_worker, once_if, times_of, turns_of}
 pub use Rattle.plan_model.specs.Scenes.Limits.{IsBetween, are_goals, are_obstacles, is_corner_between, is_goal, is_mark, is_obstacle, is_plan, most_goals}
 pub use Rattle.plan_model.specs.Scenes.Limits.{most_side}
 pub use Rattle.plan_model.specs.Scenes.MarkPoints.{is_claimed, mark_points, quota_of, strip_of_mark}
@@ -172,7 +169,7 @@ pub use Rattle.plan_model.specs.Trees.PointsByNumber.{AreDistinct, AreNumberedTo
 pub use Rattle.plan_model.specs.Trees.TreeStates.{AreSameRuns, ChangesCosts, GrowsInto, IsSettled, TreeState, chain_in, first_cost_of, recorded_or, state_of}
 pub use Rattle.plan_model.specs.Trees.TreeStates.{sum_in}
 pub use Rattle.plan_model.specs.Vectors.Records.{blocked_record, placed_by, placed_record, same_record}
-pub use Rattle.plan_model.specs.Vectors.Runs.{marks_to_rewire, node, open_setup, rewired_records, rewired_tree}
+pub use Rattle.plan_model.specs.Vectors.Runs.{marks_to_rewire, open_setup, rewired_records}
 pub use Rattle.plan_model.specs.Vectors.Shapes.{at}
 pub use Rattle.plan_model.specs.declared.configuration_spaces.ConfigurationSpace.{ConfigurationSpace}
 pub use Rattle.plan_model.specs.declared.errors.Memory.{Memory}

@@ -13,9 +13,6 @@ pub mod GoalBoundLaws
 pub mod DistinctPoints
 pub mod EndingLaws
 pub mod UniqueRuns
-pub mod OpenRoomMarks
-pub mod ThreeMarks
-pub mod RewiredRun
 pub mod RunLaws
 pub mod SceneBounds
 pub mod ConvertedRuns

@@ -1,5 +1,6 @@
 -- Whether two points are the same.
-use Rattle.plan_model.proofs.Words.{◌≡◌, ℕ, Bool, true, false, eqb, refl, ap, ◌∙◌, inl, inr, nat_eq, ◌&&◌, ◌≢◌, ◌⊎◌, both_true, cases_eq, eqb-true, Point}
+use Rattle.plan_model.proofs.Words.{◌≡◌, ℕ, Bool, true, false, Option, Some, eqb, refl, ap, ◌∙◌, inl, inr, unwrap_or, nat_eq, ◌&&◌, ◌≢◌, ◌⊎◌, both_true}
+use Rattle.plan_model.proofs.Words.{cases_eq, eqb-true, Point}
 use Rattle.std.proofs.Common.{eq-eqb}
 
 -- points with the same coordinates are the same
@@ -8,6 +9,14 @@ point_is a b x y =
     let horizontal : ℕ → Point = λ u. record { x = u; y = a.y } in
     let vertical : ℕ → Point = λ v. record { x = b.x; y = v } in
     ap horizontal x ∙ ap vertical y
+
+-- two nodes at one point have the same x
+pub same_x : (p q : Point) → Some p ≡ Some q → p.x ≡ q.x
+same_x p q e = ap (λ o. (unwrap_or o p).x) e
+
+-- and the same y
+pub same_y : (p q : Point) → Some p ≡ Some q → p.y ≡ q.y
+same_y p q e = ap (λ o. (unwrap_or o p).y) e
 
 -- a point is another, or the same
 pub same_or_other : (p q : Point) → (p ≡ q) ⊎ (p ≢ q)

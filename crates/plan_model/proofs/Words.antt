@@ -10,16 +10,16 @@ pub use Rattle.plan_model.specs.Reports.ReportText.{best_path, counts_line, head
 pub use Rattle.plan_model.specs.Reports.ReportText.{path_line, path_to, point_lines, report_text, short_report, summary}
 pub use Rattle.plan_model.specs.Runs.ClosedLaw.{ArePlacedMarks, AreRecordedBelow, IsClosed, has_outcome, mark_at, outcome_count}
 pub use Rattle.plan_model.specs.Runs.Endings.{Ending, FirstHanging, NewNode, NoWay, Reached, SameNode, SkippedBy, Steered, ending_as, ending_of, first_hanging}
-pub use Rattle.plan_model.specs.Runs.Endings.{record_of_ending, unplaced_record, zeros}
+pub use Rattle.plan_model.specs.Runs.Endings.{record_of_ending, unplaced_record}
 pub use Rattle.plan_model.specs.Runs.OrderLaw.{Hangs, HangsBelow, IsAllowedEdge, KeepsFirstCosts, KeepsOrder, most_cost_of}
 pub use Rattle.plan_model.specs.Runs.Outcomes.{is_blocked, is_placed, is_same, is_zero_unless_placed}
-pub use Rattle.plan_model.specs.Runs.RecordLaw.{HangsLawfully, HasLawfulEnding, IsBlockedLawfully, IsChosenLawfully, IsEarlier, IsLawfulRecord, IsNeighbour}
-pub use Rattle.plan_model.specs.Runs.RecordLaw.{IsPlacedLawfully, IsSkippedLawfully, IsSteeredLawfully, ReachesLawfully, earlier_count, first_cost_through}
-pub use Rattle.plan_model.specs.Runs.RecordLaw.{is_earlier, is_earlier_record}
+pub use Rattle.plan_model.specs.Runs.RecordLaw.{HangsLawfully, HasLawfulEnding, IsChosenLawfully, IsEarlier, IsLawfulRecord, IsNeighbour, IsPlacedLawfully}
+pub use Rattle.plan_model.specs.Runs.RecordLaw.{IsSkippedLawfully, IsSteeredLawfully, ReachesLawfully, earlier_count, first_cost_through, is_earlier}
+pub use Rattle.plan_model.specs.Runs.RecordLaw.{is_earlier_record}
 pub use Rattle.plan_model.specs.Runs.SameRuns.{HaveSameFields, HaveSameInputs, IsOfTextbookRun}
-pub use Rattle.plan_model.specs.Runs.Textbook.{Ends, EndsBlocked, EndsPlaced, EndsSkipped, EndsSteered, Handles, HandlesAll, IsBestParent, IsCandidate}
-pub use Rattle.plan_model.specs.Runs.Textbook.{IsCheaperThrough, IsTextbookRun, MayBeCheaper, Nodes, Reaches, Rewires, RewiresOne, Setup, SteersTo}
-pub use Rattle.plan_model.specs.Runs.Textbook.{cost_through, mark_bound, near_new, setup_of, skipping_goals, start_alone, with_parent}
+pub use Rattle.plan_model.specs.Runs.Textbook.{Ends, EndsBlocked, EndsPlaced, EndsSteered, Handles, HandlesAll, IsBestParent, IsCandidate, IsCheaperThrough}
+pub use Rattle.plan_model.specs.Runs.Textbook.{IsTextbookRun, MayBeCheaper, Nodes, Reaches, Rewires, RewiresOne, Setup, SteersTo, cost_through, near_new}
+pub use Rattle.plan_model.specs.Runs.Textbook.{setup_of, skipping_goals, start_alone, with_parent}
 pub use Rattle.plan_model.specs.Runs.Turns.{AreTurns, RunFromZero, is_of_turn, is_of_worker, once_if, times_of, turns_of}
 pub use Rattle.plan_model.specs.Scenes.ConvertedScenes.{IsConverted}
 pub use Rattle.plan_model.specs.Scenes.Limits.{IsBetween, are_goals, are_obstacles, by_version, is_body, is_corner_between, is_goal, is_mark, is_obstacle}
@@ -46,8 +46,8 @@ pub use Rattle.plan_model.specs.Texts.LineChecks.{AllMayStand, Format, Given, Ma
 pub use Rattle.plan_model.specs.Texts.LineChecks.{fault_at_end, fault_at_key, fault_of_statement, first_failing, given_by, has_corners, is_in_range}
 pub use Rattle.plan_model.specs.Texts.LineChecks.{is_inhabited, is_ordered, is_repeated, is_too_many, numbers_in, stands, version_of, version_within}
 pub use Rattle.plan_model.specs.Texts.LineChecks.{with_statement}
-pub use Rattle.plan_model.specs.Texts.SceneBatches.{AreSpelledBelow, FailsAtPart, IsRefusedPart, Part, RefusesBatch, SpellsBatch, lines_before, onto_first_part}
-pub use Rattle.plan_model.specs.Texts.SceneBatches.{part_text, parts_of, separator, text_of}
+pub use Rattle.plan_model.specs.Texts.SceneBatches.{AreSpelledBelow, FailsAtPart, IsRefusedPart, Part, RefusesBatch, SpellsBatch, lines_before}
+pub use Rattle.plan_model.specs.Texts.SceneBatches.{onto_first_part, part_text, parts_of, separator, text_of}
 pub use Rattle.plan_model.specs.Texts.SceneGrammar.{FailsAt, HasFields, IsSoundBelow, Refused, Spells, body_from, fault_of_end, fault_of_line, first_of}
 pub use Rattle.plan_model.specs.Texts.SceneGrammar.{given_after_version, goal_from, number_or, plan_from, point_from, version_given}
 pub use Rattle.plan_model.specs.Texts.Streams.{MemSourceState, counted_up, given_count, is_failing, read_into}
@@ -64,9 +64,6 @@ pub use Rattle.plan_model.specs.Trees.OpenNodes.{IsOpenTo}
 pub use Rattle.plan_model.specs.Trees.PointsByNumber.{AreDistinct, AreNumberedTo, IsFree, IsPresent, StandsAt, node_count, point_at, point_of}
 pub use Rattle.plan_model.specs.Trees.TreeStates.{AreSameRuns, ChangesCosts, GrowsInto, IsSettled, KeepsOrFalls, TreeState, chain_in, first_cost_of}
 pub use Rattle.plan_model.specs.Trees.TreeStates.{recorded_or, state_of, sum_in}
-pub use Rattle.plan_model.specs.Vectors.Records.{placed_record}
-pub use Rattle.plan_model.specs.Vectors.Runs.{marks_to_rewire, node, open_setup, open_setup_to, rewired_records, rewired_tree}
-pub use Rattle.plan_model.specs.Vectors.Shapes.{at}
 pub use Rattle.plan_model.specs.declared.configuration_spaces.ConfigurationSpace.{ConfigurationSpace}
 pub use Rattle.plan_model.specs.declared.geometry.Goal.{Goal}
 pub use Rattle.plan_model.specs.declared.geometry.Point.{Point}
@@ -92,8 +89,8 @@ pub use Rattle.std.proofs.Common.{Bool, FitsSigned, IfNone, List, None, Option, 
 pub use Rattle.std.proofs.Common.{get_or, inl, inr, int_le, leb, length, ltb, map, min, not, of_z, refl, reverse, rules, set, subst, suc, sym, take}
 pub use Rattle.std.proofs.Common.{take-append-drop, take-suc, to_z, true, w32, w64, zero, ℕ, ◌%◌, ◌*◌, ◌++◌, ◌+◌, ◌-◌, ◌/◌, ◌<◌, ◌^◌, ◌||◌, ◌∙◌, ◌∷◌, ◌≡◌, ◌≤◌}
 pub use Rattle.std.proofs.Math.ListN.{get_or-map}
-pub use Rattle.std.proofs.Math.Nat.{div-le_of_le-mul, div-le_self, div-mul-le_self, le_of_mul-le-mul_left, le_of_mul-le-mul_right, le_refl, mul-div_cancel_left}
-pub use Rattle.std.proofs.Math.Nat.{mul-pos, pow-le-pow_right, pow-suc}
+pub use Rattle.std.proofs.Math.Nat.{div-le_of_le-mul, div-le_self, div-mul-le_self, le_of_mul-le-mul_left, le_of_mul-le-mul_right, le_refl}
+pub use Rattle.std.proofs.Math.Nat.{mul-div_cancel_left, mul-pos, pow-le-pow_right, pow-suc}
 pub use Rattle.std.proofs.Math.Seq.{get_or-append_seam}
 pub use Rattle.std.proofs.Props.{props}
 pub use Rattle.std.proofs.lemmas.Bool.{and_from, and_left, and_parts, and_right, cases_Bool, cases_eq, cases_lt, cases_order, cond-false, cond-true, cond_both}

@@ -49,4 +49,4 @@ pub use Rattle.plan_model.specs.declared.geometry.Point.{Point}
 pub use Rattle.plan_model.specs.declared.geometry.Vertex.{Vertex}
 pub use Rattle.plan_model.specs.declared.records.Record.{Record}
 pub use Rattle.plan_model.specs.declared.scenes.Scene.{Scene}
-pub use Rattle.plan_model.proofs.OpenRoomMarks.{same_x, same_y}
+pub use Rattle.plan_model.proofs.SamePoints.{same_x, same_y}

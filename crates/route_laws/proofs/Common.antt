@@ -10,18 +10,16 @@ pub use Rattle.plan_model.proofs.EarlierNodes.{earlier-present}
 pub use Rattle.plan_model.proofs.EmptyRoomClearance.{AreInRoom-from_clear, Clear-empty_room, IsInRoom-from_clear_at, corner_in_box}
 pub use Rattle.plan_model.proofs.GoalBoundLaws.{bound_of-least}
 pub use Rattle.plan_model.proofs.GoalNodes.{MayBeCheaper-not_skipping, no_goal_node}
-pub use Rattle.plan_model.proofs.LeastPairLaws.{IsBelowPassing, IsFirstLeast-among, IsNotAbove-lesser, IsNotAbove-refl, first_least-some}
 pub use Rattle.plan_model.proofs.ListMembers.{Contains-after}
 pub use Rattle.plan_model.proofs.MeetingLaws.{Meets-shares_point, SharesPoint-meets}
 pub use Rattle.plan_model.proofs.NearNodes.{Contains-near, squared_distance-swap}
 pub use Rattle.plan_model.proofs.NewNodes.{IsPresent-stands, StandsAt-unique, node_count-some, point_of-stands, present_below}
-pub use Rattle.plan_model.proofs.OpenRoomMarks.{cost_2441, cost_2500, first_mark, same_y}
 pub use Rattle.plan_model.proofs.OrderLaws.{start-present}
 pub use Rattle.plan_model.proofs.OrderedTrees.{sum_in-le_cost}
 pub use Rattle.plan_model.proofs.PlacedNodes.{present-of_record, record-of_present}
 pub use Rattle.plan_model.proofs.RadiusLaws.{greatest-le, greatest-most, greatest-passes}
 pub use Rattle.plan_model.proofs.Ring.{minus, same, times, var}
-pub use Rattle.plan_model.proofs.RootLaws.{lt-from_squares, root_ceiling-from_squares, root_ceiling-zero}
+pub use Rattle.plan_model.proofs.RootLaws.{lt-from_squares, root_ceiling-zero}
 pub use Rattle.plan_model.proofs.SameTrees.{IsClosed-of_textbook, IsSettled-of_textbook}
 pub use Rattle.plan_model.proofs.SegmentLaws.{Clear-back, Clear-last, way_is}
 pub use Rattle.plan_model.proofs.SteeringLaws.{steered-near}
@@ -47,15 +45,15 @@ pub use Rattle.plan_model.specs.Spaces.EmptyRooms.{IsInRoom, empty_room}
 pub use Rattle.plan_model.specs.Spaces.Meeting.{Meets, weighted}
 pub use Rattle.plan_model.specs.Spaces.RoomOfConfigurations.{IsBetweenWalls, IsSamePoint, Rational, at_lattice, moved_by}
 pub use Rattle.plan_model.specs.Trees.BestNode.{IsGoalNode, best_node, goals_of, is_goal_point, lies_in_goals}
-pub use Rattle.plan_model.specs.Trees.LeastPairs.{IsNotAbove, first_least}
-pub use Rattle.plan_model.specs.Trees.Nearness.{IsNearest, distance_to, is_within, near}
+pub use Rattle.plan_model.specs.Trees.LeastPairs.{IsNotAbove}
+pub use Rattle.plan_model.specs.Trees.Nearness.{IsNearest, distance_to, is_within}
 pub use Rattle.plan_model.specs.Trees.NodeLists.{length_of_path, points_of, sum_of}
 pub use Rattle.plan_model.specs.Trees.PointsByNumber.{AreNumberedTo, IsFree, IsPresent, StandsAt, node_count, point_at, point_of}
 pub use Rattle.plan_model.specs.Trees.TreeStates.{IsSettled, TreeState, first_cost_of, recorded_or, state_of, sum_in}
 pub use Rattle.plan_model.specs.Vectors.Meetings.{great_triangle, point_body, small_square}
-pub use Rattle.plan_model.specs.Vectors.Overlaps.{early_record, overlapped}
+pub use Rattle.plan_model.specs.Vectors.Overlaps.{overlapped}
 pub use Rattle.plan_model.specs.Vectors.Records.{placed_by, placed_record, same_record}
-pub use Rattle.plan_model.specs.Vectors.Runs.{marks_to_rewire, node, open_setup, open_setup_to, rewired_tree}
+pub use Rattle.plan_model.specs.Vectors.Runs.{marks_to_rewire, open_setup, open_setup_to, rewired_tree}
 pub use Rattle.plan_model.specs.Vectors.Shapes.{at, corner, two_is_positive}
 pub use Rattle.plan_model.specs.declared.geometry.Goal.{Goal}
 pub use Rattle.plan_model.specs.declared.geometry.Point.{Point}
