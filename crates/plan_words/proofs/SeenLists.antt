@@ -40,9 +40,9 @@ chain_of-unseen zero = refl
 chain_of-unseen (suc n) = refl
 
 pub AreSeenFirst-none :
-    (nodes capacity : ℕ) (children : ChildIndex) → 0 < nodes → nodes ≤ capacity → FitsNumbers children nodes → IndexesChains 1 (λ n. 0) children
-    → AreSeenFirst nodes (0 ∷ []) capacity children
-AreSeenFirst-none nodes capacity children some room children_room index = record {
+    (nodes capacity : ℕ) (words : List ℕ) (children : ChildIndex) → words ≡ 0 ∷ [] → 0 < nodes → nodes ≤ capacity → FitsNumbers children nodes
+    → IndexesChains 1 (λ n. 0) children → AreSeenFirst nodes words capacity children
+AreSeenFirst-none nodes capacity words children none some room children_room index = rw none record {
   within = some;
   room = room;
   children_room = children_room;

@@ -28,7 +28,7 @@ pub use Rattle.plan_words.specs.Dealt.{IsPassOf, StandsFor, each_after}
 pub use Rattle.plan_words.specs.LoweredChildren.{CostsAtMostThrough, HasQueued, IsLoweredChild, IsOtherWord, IsSeenAbove, LooksOn, LowersChildren, PostsChanged}
 pub use Rattle.plan_words.specs.LoweredChildren.{SeesSamePoints, SitsAt}
 pub use Rattle.plan_words.specs.Nodes.{HasLinked, IsLinkedAt, LeadsOn, NamesChildOrPoint, NamesNode}
-pub use Rattle.plan_words.specs.Parents.{FindsLess, HasParentsBelow, HasParentsWithin, IsEdgeSeen, IsPairIn}
+pub use Rattle.plan_words.specs.Parents.{FindsLess, HasParentsBelow, IsEdgeSeen, IsPairIn}
 pub use Rattle.plan_words.specs.Plays.{Claims, Counts, FindsAsSeen, FindsCount, FindsPoint, FindsTree, FindsWholeCount, Finishes, Links, Loads, LoadsBest}
 pub use Rattle.plan_words.specs.Plays.{Lowers, Posts, Tells, TellsHand, WritesFirst, WritesPoint, WritesTree, exchanged_at}
 pub use Rattle.plan_words.specs.SearchLists.{SearchState, found_in, is_dearer, numbers_of, spot_in}

@@ -13,10 +13,7 @@ pub record IsPairIn (word : ℕ) (pair : ℕ × ℕ) : Type 0 where
   pub parent : pair.0 ≡ parent_in word
   pub cost : pair.1 ≡ cost_in word
 
--- each word that is written has its parent among the nodes up to the last
-abbrev pub HasParentsWithin : ℕ → (ℕ → ℕ) → Type 0
-HasParentsWithin last words = (n : ℕ) → n ≤ last → 2 ^ 63 ≤ words n → parent_in (words n) ≤ last
-
+-- each word that is written has its parent below so many nodes
 abbrev pub HasParentsBelow : ℕ → List ℕ → Type 0
 HasParentsBelow nodes words = (n : ℕ) → 2 ^ 63 ≤ slice_index words n → parent_in (slice_index words n) < nodes
 

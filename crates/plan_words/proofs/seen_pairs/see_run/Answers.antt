@@ -1,13 +1,13 @@
-use Rattle.plan_words.proofs.Words.{◌<◌, ◌≤◌, ◌^◌, ◌+◌, length, refl, sym, ap, ◌∙◌, subst, arith, inl, inr, cases_Bool, cases_eq, cases_lt, slice_index}
-use Rattle.plan_words.proofs.Words.{slice_set, get_or-set_other, get_or-set_same, has_node, length-set, node-held, node_present, none_past-held, parent-present}
+use Rattle.plan_words.proofs.Words.{ℕ, ◌<◌, ◌≤◌, ◌^◌, ◌+◌, length, refl, sym, ap, ◌∙◌, subst, arith, inl, inr, cases_Bool, cases_eq, cases_lt, slice_index}
+use Rattle.plan_words.proofs.Words.{get_or-set_other, get_or-set_same, has_node, length-set, node-held, node_present, none_past-held, parent-present}
 use Rattle.plan_words.proofs.Words.{parent_in, setup_of, sizes_in, state_of_grown, vec_capacity, words_in, words_of_grown, TreeOf, chain_of, seen_words, Grown}
-use Rattle.plan_words.proofs.Words.{sibling_chain_in, HasParentsWithin}
+use Rattle.plan_words.proofs.Words.{sibling_chain_in}
 use Rattle.plan_words.proofs.SeenLists.{StandFor-set, chain_of-unseen, chain_of-within, index-seen, index-zeros}
 use Rattle.plan_words.proofs.seen_pairs.see_run.Goals as goal
 
 -- a closed run has no parent past its limit
-HasParentsWithin-held : (grown : Grown) → HasParentsWithin grown.limit (λ n. words_of_grown grown (TreeOf n))
-HasParentsWithin-held grown n within written =
+parent-held : (grown : Grown) (n : ℕ) → 2 ^ 63 ≤ words_of_grown grown (TreeOf n) → parent_in (words_of_grown grown (TreeOf n)) ≤ grown.limit
+parent-held grown n written =
     let words = words_of_grown grown in
     let held = grown.hold_run in
     elim (cases_Bool (has_node words n)) [
@@ -58,15 +58,12 @@ relink-requires-clause-here c =
 pub relink-requires-clause-parent : goal.relink-requires-clause-parent
 relink-requires-clause-parent c =
     let node = c.loop-node.node in
-    let limit = c.args.grown.now.limit in
+    let grown = c.args.grown.now in
     let kept = c.loop-node.invariant in
     let word = c.tree-word.ensures ∙ ap (λ words. words_in words (TreeOf node)) c.words.ensures in
-    let low : node ≤ limit = omega (arith, c.limit-nodes.ensures, c.loop-node-test.true) in
     let chain =
-    chain_of-within node c.tree-word.result (limit + 1)
-    (λ written. (
-    let below = HasParentsWithin-held c.args.grown.now node low (subst (λ w. 2 ^ 63 ≤ w) word written) in
-    omega (arith, below, ap parent_in word))) in
+    chain_of-within node c.tree-word.result (grown.limit + 1)
+    (λ written. (let below = parent-held grown node (subst (λ w. 2 ^ 63 ≤ w) word written) in omega (arith, below, ap parent_in word))) in
     omega (arith, chain, c.chain_of.ensures, c.limit-nodes.ensures, kept.long, kept.first.index.firsts)
 
 pub loop-node-preserved : goal.loop-node-preserved
@@ -86,9 +83,7 @@ loop-node-preserved c =
       long = omega (arith, length-set words node x, kept.long);
       read = λ n below.
           elim (cases_eq n node) [
-            | inl e ↦
-                ap (slice_index (slice_set words node x)) e ∙ get_or-set_same words node x 0 within ∙ word
-                ∙ ap (λ i. words_of_grown c.args.grown.now (TreeOf i)) (sym e)
+            | inl e ↦ rw e (get_or-set_same words node x 0 within ∙ word)
             | inr apart ↦ get_or-set_other words node n x 0 apart ∙ kept.read n (omega (arith, below, apart))
           ];
       unseen = λ n past. get_or-set_other words node n x 0 (λ e. omega (arith, e, past)) ∙ kept.unseen n (omega (arith, past));

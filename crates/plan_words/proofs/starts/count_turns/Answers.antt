@@ -1,16 +1,14 @@
-use Rattle.plan_words.proofs.Words.{rules, ◌≡◌, ◌+◌, ◌<◌, length, replicate, sym, ap, ◌∙◌, subst, arith, get_or_default, length-replicate}
+use Rattle.plan_words.proofs.Words.{rules, ◌≡◌, ◌<◌, length, sym, ap, ◌∙◌, arith, get_or_default, length-replicate}
 use Rattle.plan_words.proofs.Words.{length-set, record_at, recorded-below, state_of_grown, turns_of, turns_of-longer, words_of_grown}
-use Rattle.plan_words.proofs.CountedTurns.{AreCounted, AreCounted-none, AreCounted-one, AreCounted-past, turns_of-few}
+use Rattle.plan_words.proofs.CountedTurns.{AreCounted-none, AreCounted-one, AreCounted-past, turns_of-few}
 use Rattle.plan_words.proofs.starts.count_turns.Goals as goal
 use Rattle.plan_words.proofs.starts.count_turns.Goals.{then-entry-workers, else-entry-workers}
 
 pub loop-mark-init : goal.loop-mark-init
 loop-mark-init c =
-    let records = record_at (words_of_grown c.args.grown.now) in
-    let none : c.in_ok-turns.turns.items ≡ replicate c.args.workers 0 = c.in_ok-turns.ensures.items_if_clones_equal (search rules) in
-    record {
-      sized = ap (λ l. length l) none ∙ length-replicate c.args.workers 0;
-      counted = subst (AreCounted records c.args.workers 0) (sym none) (AreCounted-none records c.args.workers);
+    rw (c.in_ok-turns.ensures.items_if_clones_equal (search rules)) record {
+      sized = length-replicate c.args.workers 0;
+      counted = AreCounted-none (record_at (words_of_grown c.args.grown.now)) c.args.workers;
     }
 
 pub index_mut-requires : goal.index_mut-requires
@@ -35,24 +33,17 @@ loop-mark-preserved c =
     elim c.if-entry-workers.branch [
       | then-entry-workers w ↦ (
           let within : entry.worker < length turns = omega (arith, w.if-entry-workers.true, kept.sized) in
-          let was = w.index_mut.ensures.value ∙ get_or_default turns entry.worker _ 0 within in
-          let items = ap (λ v. v.items) w.turns-is in
-          record {
-            sized = ap (λ l. length l) items ∙ length-set turns entry.worker _ ∙ kept.sized;
+          rw w.turns-is record {
+            sized = length-set turns entry.worker _ ∙ kept.sized;
             counted =
-                subst (AreCounted records c.args.workers (mark + 1)) (sym items)
-                (AreCounted-one records mark c.args.workers turns kept.counted entry c.record_of-entry.ensures w.if-entry-workers.true kept.sized
-                w.index_mut.result.now was);
+                AreCounted-one records mark c.args.workers turns kept.counted entry c.record_of-entry.ensures w.if-entry-workers.true kept.sized
+                w.index_mut.result.now (w.index_mut.ensures.value ∙ get_or_default turns entry.worker _ 0 within);
           })
-      | else-entry-workers w ↦ (
-          let items = ap (λ v. v.items) w.turns-is in
-          record {
-            sized = ap (λ l. length l) items ∙ kept.sized;
-            counted =
-                subst (AreCounted records c.args.workers (mark + 1)) (sym items)
-                (AreCounted-past records mark c.args.workers turns kept.counted entry c.record_of-entry.ensures
-                (omega (arith, w.if-entry-workers.false)));
-          })
+      | else-entry-workers w ↦ rw w.turns-is record {
+        sized = kept.sized;
+        counted =
+            AreCounted-past records mark c.args.workers turns kept.counted entry c.record_of-entry.ensures (omega (arith, w.if-entry-workers.false));
+      }
     ]
 
 pub returns-clause-count : goal.returns-clause-count
@@ -62,8 +53,7 @@ pub returns-clause-each : goal.returns-clause-each
 returns-clause-each c w low =
     let grown = c.args.grown.now in
     let records = record_at (words_of_grown grown) in
-    let limit = grown.limit in
-    let all : c.loop-mark.mark ≡ limit = omega (arith, c.loop-mark-test.false, c.loop-mark.auto.mark-end, c.limit-mark-end.ensures) in
-    c.loop-mark.invariant.counted w low
-    ∙ ap (λ n. turns_of records n w) all
-    ∙ sym (turns_of-longer records limit (length grown.task.marks) grown.hold_run.closed.within (recorded-below grown.task limit (state_of_grown grown) grown.hold_run.closed) w)
+    let all : c.loop-mark.mark ≡ grown.limit = omega (arith, c.loop-mark-test.false, c.loop-mark.auto.mark-end, c.limit-mark-end.ensures) in
+    let closed = grown.hold_run.closed in
+    c.loop-mark.invariant.counted w low ∙ ap (λ n. turns_of records n w) all
+    ∙ sym (turns_of-longer records grown.limit _ closed.within (recorded-below grown.task grown.limit (state_of_grown grown) closed) w)

@@ -1,19 +1,19 @@
-use Rattle.plan_words.proofs.Words.{◌≡◌, ℕ, ◌+◌, List, [], ◌∷◌, ◌++◌, length, sym, ap, ◌∙◌, subst, arith, vec_capacity, AreSeenFirst, FitsNumbers}
+use Rattle.plan_words.proofs.Words.{◌≡◌, ℕ, ◌+◌, [], ◌∷◌, ◌++◌, length, sym, ap, ◌∙◌, subst, arith, vec_capacity, AreSeenFirst, FitsNumbers}
 use Rattle.plan_words.proofs.SeenLists.{AreSeenFirst-none, index-seen, length-seen}
 use Rattle.plan_words.proofs.seen_pairs.SeenPairs.of_run.Goals as goal
 
-pub see_run-requires-clause-unseen : goal.see_run-requires-clause-unseen
-see_run-requires-clause-unseen c = c.push_reserved.ensures.items ∙ ap (λ l. l ++ 0 ∷ []) c.in_ok-words.ensures.items
-
-pub see_run-requires-clause-first : goal.see_run-requires-clause-first
-see_run-requires-clause-first c =
+pub see_run-requires : goal.see_run-requires
+see_run-requires c =
     let none : c.push_reserved.new.self.items ≡ 0 ∷ [] = c.push_reserved.ensures.items ∙ ap (λ l. l ++ 0 ∷ []) c.in_ok-words.ensures.items in
     let marks = c.len-nodes.ensures ∙ ap (λ task. length task.marks) c.task.ensures in
-    let nodes = length c.args.grown.now.task.marks + 1 in
-    subst (λ (l : List ℕ). AreSeenFirst nodes l (vec_capacity c.push_reserved.new.self) c.in_ok-children.children) (sym none)
-    (AreSeenFirst-none nodes (vec_capacity c.push_reserved.new.self) c.in_ok-children.children (omega arith)
-    (omega (arith, marks, c.push_reserved.ensures.capacity, c.in_ok-words.ensures.exact))
-    (subst (λ (n : ℕ). FitsNumbers c.in_ok-children.children (n + 1)) marks c.in_ok-children.ensures.room) c.in_ok-children.ensures.chains)
+    let children = c.in_ok-children.children in
+    record {
+      first =
+          AreSeenFirst-none _ _ _ children none (omega arith)
+          (omega (arith, marks, c.push_reserved.ensures.capacity, c.in_ok-words.ensures.exact))
+          (subst (λ (n : ℕ). FitsNumbers children (n + 1)) marks c.in_ok-children.ensures.room) c.in_ok-children.ensures.chains;
+      unseen = none;
+    }
 
 pub invariant_of-result : goal.invariant_of-result
 invariant_of-result c =
