@@ -89,8 +89,7 @@ pub use Rattle.plan_model.proofs.RunLaws.{HandlesAll-length, HandlesAll-nodes, H
 pub use Rattle.plan_model.proofs.SamePoints.{same_or_other, same_point-false, same_point-true, same_x}
 pub use Rattle.plan_model.proofs.SameReports.{AreSameRuns-textbook, best_node-same, report_text-same}
 pub use Rattle.plan_model.proofs.SameScenes.{Spells-one_scene, same_parts}
-pub use Rattle.plan_model.proofs.SameTrees.{AreSameRuns-trans, IsClosed-same_run, IsSettled-of_textbook, IsSettled-same, chain_in-same}
-pub use Rattle.plan_model.proofs.SameTrees.{sum_in-same}
+pub use Rattle.plan_model.proofs.SameTrees.{AreSameRuns-trans, IsClosed-same_run, IsSettled-of_textbook, IsSettled-same, chain_in-same, sum_in-same}
 pub use Rattle.plan_model.proofs.SceneBatchLaws.{SpellsBatch-not_refused, SpellsBatch-one_batch}
 pub use Rattle.plan_model.proofs.SceneBounds.{All-goals_bounded, IsBounded-in_room, IsBounded-scene_start, goals-some, step-steers}
 pub use Rattle.plan_model.proofs.SeenParentLaws.{AreSeenLawfully-either, AreSeenLawfully-grows, AreSeenLawfully-whole}
@@ -124,7 +123,8 @@ pub use Rattle.plan_model.specs.Geometry.Plane.{IsInBoxOf, orientation, squared_
 pub use Rattle.plan_model.specs.Geometry.Radius.{class_of, radius_of, radius_of_class}
 pub use Rattle.plan_model.specs.Geometry.Steering.{steered}
 pub use Rattle.plan_model.specs.Reports.ReportText.{best_path, counts_line, ending_words, full_report, head_line, line, mark_line_if_recorded, mark_lines}
-pub use Rattle.plan_model.specs.Reports.ReportText.{no_path_line, node_line_if_present, node_lines, path_to, point_lines, reached_words, short_report, skipped_words}
+pub use Rattle.plan_model.specs.Reports.ReportText.{no_path_line, node_line_if_present, node_lines, path_to, point_lines, reached_words, short_report}
+pub use Rattle.plan_model.specs.Reports.ReportText.{skipped_words}
 pub use Rattle.plan_model.specs.Runs.ClosedLaw.{IsClosed, has_outcome, mark_at, outcome_count}
 pub use Rattle.plan_model.specs.Runs.Endings.{Ending, FirstHanging, NewNode, NoWay, Reached, SameNode, SkippedBy, Steered, ending_as, ending_of, first_hanging}
 pub use Rattle.plan_model.specs.Runs.Endings.{record_of_ending, unplaced_record}

@@ -22,8 +22,8 @@ pub use Rattle.kd_shared.specs.Spots.{IsChildWithin, LeavesChild, Notes, Opens, 
 pub use Rattle.kd_shared.specs.WordStops.{IsShift, StopsAtWord, stop_of}
 pub use Rattle.plan_model.proofs.SamePoints.{same_point-false, same_point-true}
 pub use Rattle.plan_words.proofs.Common.{BelongsTo, BelongsTo-later, Contains-number, GoesOn, GoesOn-trans, HasLinked, HasLooked-loaded, HasLooked-refl}
-pub use Rattle.plan_words.proofs.Common.{HasWholeShare, IsBounded-hand, IsLinkedAt, IsLinkedAt-counted, LeadsOn, NamesChildOrPoint, NamesNode, NamesNode-child, PassState}
-pub use Rattle.plan_words.proofs.Common.{SearchLists, SeesAsBefore, SeesBestSince-trans, SharedState, eqb-swap, leads_seen, no_search, numbers_of}
+pub use Rattle.plan_words.proofs.Common.{HasWholeShare, IsBounded-hand, IsLinkedAt, IsLinkedAt-counted, LeadsOn, NamesChildOrPoint, NamesNode, NamesNode-child}
+pub use Rattle.plan_words.proofs.Common.{PassState, SearchLists, SeesAsBefore, SeesBestSince-trans, SharedState, eqb-swap, leads_seen, no_search, numbers_of}
 pub use Rattle.plan_words.proofs.Common.{point_of_spot, same_numbers, with_lists, with_view}
 pub use Rattle.plan_words.specs.SearchLists.{noted}
 pub use Rattle.plan_words.specs.declared.spots.Found.{Found}

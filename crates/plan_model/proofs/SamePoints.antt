@@ -1,5 +1,5 @@
 -- Whether two points are the same.
-use Rattle.plan_model.proofs.Words.{◌≡◌, ℕ, Bool, true, false, Option, Some, eqb, refl, ap, ◌∙◌, inl, inr, unwrap_or, nat_eq, ◌&&◌, ◌≢◌, ◌⊎◌, both_true}
+use Rattle.plan_model.proofs.Words.{◌≡◌, ℕ, Bool, true, false, Some, eqb, refl, ap, ◌∙◌, inl, inr, unwrap_or, nat_eq, ◌&&◌, ◌≢◌, ◌⊎◌, both_true}
 use Rattle.plan_model.proofs.Words.{cases_eq, eqb-true, Point}
 use Rattle.std.proofs.Common.{eq-eqb}
 

@@ -1,5 +1,5 @@
 -- Decisions of what was seen of small trees, of which nothing is said of number 6 and above.
-use Rattle.plan_model_tests.proofs.Words.{◌≡◌, ℕ, zero, suc, ◌<◌, ◌≤◌, Bool, true, false, Option, Some, None, List, length, refl, sym, ap, ◌∙◌, arith, inl, inr}
+use Rattle.plan_model_tests.proofs.Words.{◌≡◌, ℕ, zero, suc, ◌<◌, ◌≤◌, Bool, true, false, Option, Some, None, List, length, refl, sym, ap, arith, inl, inr}
 use Rattle.plan_model_tests.proofs.Words.{◌⊎◌, is_some, IsPresent-below, Point, Record, StandsAt, point_at}
 use Rattle.plan_model.specs.Seen.SeenTrees.{HasSeenAtLeast, IsSeen, KeepsOrLowers, SeenTree}
 use Rattle.plan_model.specs.Seen.Sights.{IsLaterMoment, KeepsOrFindsEmpty, Sight}

@@ -1,6 +1,6 @@
 -- What a search gathered are the near nodes, each once.
-use Rattle.plan_work.proofs.Words.{ℕ, ◌∙◌, List, ap, arith, sym, AreGathered, is_within-near, near-within, Contains-near, Sight, is_within, near, point_at, Point}
-use Rattle.plan_work.proofs.Words.{Contains-number, Found, AreOf}
+use Rattle.plan_work.proofs.Words.{ℕ, ◌∙◌, List, ap, arith, sym, AreGathered, is_within-near, near-within, Contains-near, Sight, is_within, near, point_at}
+use Rattle.plan_work.proofs.Words.{Point, Contains-number, Found, AreOf}
 
 pub AreOf-gathered : (before after : Sight) (p : Point) (r : ℕ) (found : List Found) → AreGathered before after p r found
     → AreOf found (near after.seen.points p r)

@@ -17,7 +17,8 @@ word_of f = tree_word f.node f.distance
 pub IsNextWord-found : (found : List Found) (i : ℕ) (f : Found) (last least then : ℕ) → slice_get found i ≡ Some f
     → IsNextWord (map word_of (take i found)) 0 last least → then ≡ min least (word_of f) → IsNextWord (map word_of (take (i + 1) found)) 0 last then
 IsNextWord-found found i f last least then read h is =
-    let more = ap (map word_of) (take_more found i f (slice_get_within found i f read) ∙ ap (λ x. take i found ++ x ∷ []) (get_or_from_slice_get found i f f read))
+    let more = ap (map word_of)
+    (take_more found i f (slice_get_within found i f read) ∙ ap (λ x. take i found ++ x ∷ []) (get_or_from_slice_get found i f f read))
     ∙ map-append word_of (take i found) (f ∷ []) in
     IsNextWord-more (map word_of (take i found)) (map word_of (take (i + 1) found)) 0 last least (word_of f) then more h
     (elim (cases_lt (word_of f) least) [

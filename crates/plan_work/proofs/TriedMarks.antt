@@ -1,9 +1,9 @@
 -- A mark whose point is written is hung by the nodes near it, and comes to its place.
 use Rattle.plan_work.proofs.Words.{◌≡◌, ℕ, ◌+◌, ◌*◌, ◌≤◌, List, arith, sym, ap, ◌∙◌, subst, All, Contains, IfSome, All-contains, cost_of, space_of, Clear}
 use Rattle.plan_work.proofs.Words.{ConfigurationSpace, mark_at, squared_distance, distance_to, point_of, class_of, radius_of_class, Point, IsPresent-stands}
-use Rattle.plan_work.proofs.Words.{point_of-stands, IsStep-steered, Count, Counter, RecordOf, numbers-weighed, AllWeighed-seen, IsMeasured, IsMeasured-later, IsWeighed}
-use Rattle.plan_work.proofs.Words.{GoesOnPlacing, KeepsShare, Placing, SweepsWithin, sight_in, sees, tree_seen, SharedRun, numbers_of, weighed, BelongsTo}
-use Rattle.plan_work.proofs.Words.{GoesOn, PassState, SharedState, Found, Hand, View, IsInReach-later, SeesPair-later, stands_later, IsInReach, cost_seen}
+use Rattle.plan_work.proofs.Words.{point_of-stands, IsStep-steered, Count, Counter, RecordOf, numbers-weighed, AllWeighed-seen, IsMeasured, IsMeasured-later}
+use Rattle.plan_work.proofs.Words.{IsWeighed, GoesOnPlacing, KeepsShare, Placing, SweepsWithin, sight_in, sees, tree_seen, SharedRun, numbers_of, weighed}
+use Rattle.plan_work.proofs.Words.{BelongsTo, GoesOn, PassState, SharedState, Found, Hand, View, IsInReach-later, SeesPair-later, IsInReach, cost_seen}
 use Rattle.plan_work.proofs.Words.{radius_in, HasCome, HasFilledNear, IsHung, IsSteeredTo, IsTried, KeepsRecords, MayPlace, hung_by, Hanging}
 use Rattle.plan_work.proofs.FilledNear.{looked_still}
 use Rattle.plan_work.proofs.KeptSights.{SweepsWithin-still, distance_still, point_still}

@@ -1,11 +1,11 @@
 -- The choice of a parent by the words of pairs.
-use Rattle.tree_rewire.proofs.Words.{◌≡◌, ◌≢◌, ◌⊎◌, ℕ, ◌+◌, ◌*◌, ◌^◌, ◌<◌, ◌≤◌, List, ◌∷◌, [], ◌++◌, Option, map, take, Some, arith, inl, inr, refl, sym, ap, ◌∙◌}
-use Rattle.tree_rewire.proofs.Words.{subst, All, Contains, slice_get, slice_index_or, cases_eq, cases_lt, All-contains, All-map, All-push, Contains-append_left}
-use Rattle.tree_rewire.proofs.Words.{Contains-get_or, Contains-push, cost_of-low, IsBounded, ConfigurationSpace, Point, cost_of, IsFirstLeast, IsNotAbove}
-use Rattle.tree_rewire.proofs.Words.{IsOpenTo, IsPresent, point_of, IsPresent-later, StandsAt-present, Contains-after, Contains-first, cost_in, parent_in, tree_word}
-use Rattle.tree_rewire.proofs.Words.{cost_in-tree_word, parent_in-tree_word, IsBounded-seen, IsLawfulView, tree_seen, Contains-cases, numbers_of, weighed}
-use Rattle.tree_rewire.proofs.Words.{GoesOn, Found, View, IsMeasured, IsWeighed, IsBlockedBelow, IsClearTo, IsNextOf, IsNextWord, IsOpenWord, word_through}
-use Rattle.tree_rewire.proofs.Words.{NamesNothing, SeesAnew, SeesPair, seen_cost_through, SeesKnot}
+use Rattle.tree_rewire.proofs.Words.{◌≡◌, ◌≢◌, ◌⊎◌, ℕ, ◌+◌, ◌*◌, ◌^◌, ◌<◌, ◌≤◌, List, ◌∷◌, [], ◌++◌, Option, map, take, Some, arith, inl, inr, refl, sym, ap}
+use Rattle.tree_rewire.proofs.Words.{◌∙◌, subst, All, Contains, slice_get, slice_index_or, cases_eq, cases_lt, All-contains, All-map, All-push}
+use Rattle.tree_rewire.proofs.Words.{Contains-append_left, Contains-get_or, Contains-push, cost_of-low, IsBounded, ConfigurationSpace, Point, cost_of}
+use Rattle.tree_rewire.proofs.Words.{IsFirstLeast, IsNotAbove, IsOpenTo, IsPresent, point_of, IsPresent-later, StandsAt-present, Contains-after, Contains-first}
+use Rattle.tree_rewire.proofs.Words.{cost_in, parent_in, tree_word, cost_in-tree_word, parent_in-tree_word, IsBounded-seen, IsLawfulView, tree_seen}
+use Rattle.tree_rewire.proofs.Words.{Contains-cases, numbers_of, weighed, GoesOn, Found, View, IsMeasured, IsWeighed, IsBlockedBelow, IsClearTo, IsNextOf}
+use Rattle.tree_rewire.proofs.Words.{IsNextWord, IsOpenWord, word_through, NamesNothing, SeesAnew, SeesPair, seen_cost_through, SeesKnot}
 use Rattle.plan_model.specs.Geometry.Roots.{root_ceiling}
 use Rattle.tree_rewire.proofs.ChosenParents.{points_later, take_read}
 use Rattle.tree_rewire.proofs.CostSteps.{seen_cost_through-same}

@@ -1,7 +1,7 @@
 -- The nodes on a list of a pass, and what is known of them.
-use Rattle.tree_rewire.proofs.Words.{◌≡◌, refl, sym, ap, ◌∙◌, All, All-map, Point, cost_of, squared_distance, SearchLists, numbers_of, GoesOn, Lists, PassState, with_lists}
-use Rattle.tree_rewire.proofs.Words.{with_view, Found, IsPresent-later, tree_seen, View, AreKnown, AreMeasured, IsMeasured, nodes_on, weighed_on, IsInReach, SeesPair, SeesKnot}
-use Rattle.tree_rewire.proofs.Words.{NearNodes, Listed, Searched}
+use Rattle.tree_rewire.proofs.Words.{◌≡◌, refl, sym, ap, ◌∙◌, All, All-map, Point, cost_of, squared_distance, SearchLists, numbers_of, GoesOn, Lists, PassState}
+use Rattle.tree_rewire.proofs.Words.{with_lists, with_view, Found, IsPresent-later, View, AreKnown, AreMeasured, IsMeasured, nodes_on, weighed_on, IsInReach}
+use Rattle.tree_rewire.proofs.Words.{SeesPair, SeesKnot, NearNodes, Listed, Searched}
 use Rattle.tree_rewire.proofs.ChosenFound.{AllWeighed-seen}
 use Rattle.tree_rewire.proofs.ChosenParents.{points_later}
 use Rattle.tree_rewire.proofs.FoundLists.{numbers-weighed}

@@ -46,7 +46,8 @@ pub use Rattle.step_core.specs.declared.views.View.{View}
 pub use Rattle.swept_check.proofs.BoundedSegments.{IsBounded-clear_in_scene}
 pub use Rattle.tree_rewire.specs.FoundNodes.{AreOf, IsMeasured, IsWeighed, with_found}
 pub use Rattle.tree_rewire.specs.Mirrors.{Mirrors}
-pub use Rattle.tree_rewire.specs.NearNodes.{AreKnown, AreMeasured, IsBlockedBelow, IsClearTo, IsNextOf, IsNextWord, IsOpenWord, nodes_on, weighed_on, word_through}
+pub use Rattle.tree_rewire.specs.NearNodes.{AreKnown, AreMeasured, IsBlockedBelow, IsClearTo, IsNextOf, IsNextWord, IsOpenWord, nodes_on, weighed_on}
+pub use Rattle.tree_rewire.specs.NearNodes.{word_through}
 pub use Rattle.tree_rewire.specs.Rewirings.{CostsLess, HangsElsewhere, HasPlaced, HasSpreadFalls, IsInFall, IsShortcut}
 pub use Rattle.tree_rewire.specs.SeenCosts.{IsInReach, IsLoadedSince, NamesLowered, NamesLoweredOrPoint, NamesNothing, NamesPoint, NamesTree, PassLowers}
 pub use Rattle.tree_rewire.specs.SeenCosts.{PassSees, SeesAnew, SeesPair, cost_seen, parent_seen, seen_cost_through}

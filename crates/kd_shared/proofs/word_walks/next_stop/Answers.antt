@@ -1,7 +1,6 @@
 use Rattle.kd_shared.proofs.Words.{◌≡◌, ◌≢◌, ◌+◌, ◌-◌, ◌<◌, ℕ, zero, suc, Some, sym, ap, ◌∙◌, subst, inl, inr, arith, refl, not, ◌==◌, MatchOption, Point}
-use Rattle.kd_shared.proofs.Words.{IsBounded, IsShift, StopsAt-below, StopsAt-fills, StopsAtWord, stop_of, PassLooks, PassLooks-fills, PassLooks-trans}
-use Rattle.kd_shared.proofs.Words.{ChildOf, PointOf, child_of_word, goes_right_by, point_in, point_word, x_in-point_word, y_in-point_word, sight_in, tree_seen}
-use Rattle.kd_shared.proofs.Words.{SeesNode}
+use Rattle.kd_shared.proofs.Words.{IsBounded, IsShift, StopsAt-below, StopsAt-fills, stop_of, PassLooks, PassLooks-fills, PassLooks-trans, ChildOf, PointOf}
+use Rattle.kd_shared.proofs.Words.{child_of_word, goes_right_by, point_in, point_word, x_in-point_word, y_in-point_word, sight_in, tree_seen, SeesNode}
 use Rattle.kd_shared.proofs.Looking.{OnlyLooks-refl}
 use Rattle.kd_shared.proofs.PassLooks.{PassLooks-load}
 use Rattle.kd_shared.proofs.word_walks.next_stop.Goals as goal

@@ -1,5 +1,5 @@
-use Rattle.kd_shared.proofs.Words.{◌<◌, sym, ap, subst, arith, inl, refl, point_in, PointOf, MOST_NODES, StopsAt, StopsAt-root, tree_seen, PassLooks-short}
-use Rattle.kd_shared.proofs.Words.{PassLooks-trans, Stop, ◌==◌}
+use Rattle.kd_shared.proofs.Words.{◌<◌, sym, subst, arith, inl, refl, point_in, PointOf, MOST_NODES, StopsAt, StopsAt-root, tree_seen, PassLooks-short}
+use Rattle.kd_shared.proofs.Words.{PassLooks-trans, ◌==◌}
 use Rattle.kd_shared.proofs.PassLooks.{PassLooks-load}
 use Rattle.kd_shared.proofs.word_walks.walk_by_words.Goals as goal
 
@@ -39,5 +39,10 @@ returns-clause-looks c =
 pub returns-clause-stops : goal.returns-clause-stops
 returns-clause-stops c =
     subst
-    (λ at. StopsAt (tree_seen c.next_stop.new.pass.view) c.args.p (record { depth = c.way.at.depth; node = c.way.at.node; by_rows = c.way.at.shift == 20; here = at }))
+    (λ at. StopsAt (tree_seen c.next_stop.new.pass.view) c.args.p (record {
+      depth = c.way.at.depth;
+      node = c.way.at.node;
+      by_rows = c.way.at.shift == 20;
+      here = at;
+    }))
     (sym c.point_in.ensures) c.in_default.ensures.none.stops

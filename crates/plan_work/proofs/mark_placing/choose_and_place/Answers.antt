@@ -1,4 +1,4 @@
-use Rattle.plan_work.proofs.Words.{ap, subst, sym, ◌∙◌, numbers_of, PassState, KeepsOthers, HasCome, IsHung, IsTried, Hanging}
+use Rattle.plan_work.proofs.Words.{ap, subst, numbers_of, PassState, KeepsOthers, HasCome, IsHung, IsTried, Hanging}
 use Rattle.plan_work.proofs.HeldMarks.{if_held, of_held}
 use Rattle.plan_work.proofs.KeptRecords.{KeepsRecords-trans}
 use Rattle.plan_work.proofs.TriedMarks.{IsTried-placing, KeepsRecords-placing, reach_of-steered}
@@ -32,7 +32,8 @@ returns-clause-tried g c =
     c.choose_and_write-parent.ensures.hung in
     if_held before.view (λ hand. IsTried before after hand c.place_and_post-placing.result hanging) may.hand may.held
     (IsTried-placing c.args.shared.now before hung_at after may.hand c.place_and_post-placing.result hanging c.choose_and_write-parent.ensures.keeps
-    c.place_and_post-placing.ensures.goes_on c.choose_and_write-parent.ensures.found (ap (λ (p : PassState). p.lists.search.found) c.place_and_post-placing.ensures.view_alone)
+    c.place_and_post-placing.ensures.goes_on c.choose_and_write-parent.ensures.found
+    (ap (λ (p : PassState). p.lists.search.found) c.place_and_post-placing.ensures.view_alone)
     c.choose_and_write-parent.ensures.count hung
     (of_held hung_at.view (λ hand. HasCome after.view hand c.place_and_post-placing.result) _ hung.held c.place_and_post-placing.ensures.placed))
 

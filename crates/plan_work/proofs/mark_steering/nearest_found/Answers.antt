@@ -1,5 +1,5 @@
 use Rattle.plan_work.proofs.Words.{List, map, ap, arith, subst, sym, ◌∙◌, take_all, All-at, FitsWord, Found, IsNextWord, IsNextWord-none, IsNearestOf, point_of}
-use Rattle.plan_work.proofs.Words.{numbers_of, tree_seen, ◌≡◌, min}
+use Rattle.plan_work.proofs.Words.{numbers_of, tree_seen, min}
 use Rattle.plan_work.proofs.NearestListed.{IsNearestOf-least, IsNextWord-found, word_of}
 use Rattle.plan_work.proofs.mark_steering.nearest_found.Goals as goal
 use Rattle.plan_work.proofs.mark_steering.nearest_found.Goals.{After-found-found}

@@ -9,7 +9,7 @@ use Rattle.plan_work.proofs.NearestListed.{FitsWord-measured, HasSteered-listed}
 use Rattle.plan_work.proofs.TriedMarks.{HasFilledNear-still}
 use Rattle.plan_work.proofs.WholeLists.{HasCounted-kept, HasWholeShare-kept, IsFilledWhole-still, SeesButCount-all, SeesButCount-trans}
 use Rattle.plan_work.proofs.mark_steering.steer_among_near.Goals as goal
-use Rattle.plan_work.proofs.mark_steering.steer_among_near.Goals.{After-find_near-class, After-point-from}
+use Rattle.plan_work.proofs.mark_steering.steer_among_near.Goals.{After-point-from}
 
 pub bounds-as_slice-k : goal.bounds-as_slice-k
 bounds-as_slice-k c =

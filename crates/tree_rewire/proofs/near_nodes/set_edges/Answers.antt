@@ -1,6 +1,6 @@
-use Rattle.tree_rewire.proofs.Words.{◌≡◌, ◌++◌, ◌*◌, ◌^◌, ◌<◌, ◌≤◌, Some, length, map, take, drop, set, ap, arith, refl, subst, sym, ◌∙◌, IfSome, slice_get, append-nil}
-use Rattle.tree_rewire.proofs.Words.{drop_all, take_all, map_over_more, get_or_from_slice_get, slice_get_within, weighed, PassState}
-use Rattle.tree_rewire.proofs.Words.{with_lists, Found, with_found}
+use Rattle.tree_rewire.proofs.Words.{◌≡◌, ◌++◌, ◌*◌, ◌^◌, ◌<◌, ◌≤◌, Some, length, map, take, drop, set, ap, arith, refl, subst, sym, ◌∙◌, IfSome, slice_get}
+use Rattle.tree_rewire.proofs.Words.{append-nil, drop_all, take_all, map_over_more, get_or_from_slice_get, slice_get_within, weighed, PassState, with_lists}
+use Rattle.tree_rewire.proofs.Words.{Found, with_found}
 use Rattle.plan_model.specs.Geometry.Roots.{root_ceiling}
 use Rattle.tree_rewire.proofs.FoundLists.{All-at, rest_read}
 use Rattle.tree_rewire.proofs.near_nodes.set_edges.Goals as goal

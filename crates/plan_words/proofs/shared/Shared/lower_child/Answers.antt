@@ -1,4 +1,4 @@
-use Rattle.plan_words.proofs.Words.{◌≡◌, ◌≢◌, ◌+◌, ◌<◌, ℕ, ap, arith, inl, inr, length, subst, sym, ◌∙◌, cond, cases_lt, ne_eqb, cost_of, PointOf, TreeOf}
+use Rattle.plan_words.proofs.Words.{◌≡◌, ◌≢◌, ◌+◌, ◌<◌, ℕ, ap, arith, length, subst, sym, ◌∙◌, cond, ne_eqb, cost_of, PointOf, TreeOf}
 use Rattle.plan_words.proofs.Words.{cost_in, tree_word, SeesPoint, sees}
 use Rattle.std.proofs.lemmas.Bool.{eq-eqb}
 use Rattle.plan_words.proofs.ChildCosts.{CostsAtMostThrough-kept, CostsAtMostThrough-looked, CostsAtMostThrough-lowered, HasSeenParent-kept}

@@ -1,4 +1,4 @@
-use Rattle.tree_rewire.proofs.Words.{ap, arith, subst, StandsAt-present, point_of, IsBounded-seen, squared_distance-low, tree_seen, AreMeasured}
+use Rattle.tree_rewire.proofs.Words.{arith, subst, StandsAt-present, point_of, IsBounded-seen, squared_distance-low, tree_seen, AreMeasured}
 use Rattle.tree_rewire.proofs.near_nodes.NearNodes.weigh.Goals as goal
 
 pub set_edges-requires : goal.set_edges-requires
@@ -9,4 +9,5 @@ set_edges-requires c =
     λ k d below.
     let own = measured k d below in
     let from = point_of (tree_seen view).points _ in
-    omega (arith, own.distance, squared_distance-low from p (IsBounded-seen view _ from (StandsAt-present (tree_seen view).points _ own.present)) c.requires.measured.1)
+    let bounded = IsBounded-seen view _ from (StandsAt-present (tree_seen view).points _ own.present) in
+    omega (arith, own.distance, squared_distance-low from p bounded c.requires.measured.1)
