@@ -1,8 +1,8 @@
 -- A node is added to a tree with kept costs: the tree keeps the order law, and grows.
 use Rattle.plan_model.proofs.Words.{◌≡◌, ℕ, suc, ◌+◌, ◌≤◌, Some, arith, sym, ap, ◌∙◌, subst, inl, inr, ◌≢◌, ◌⊎◌, is_some, cases_eq, Point, Record, cost_of}
-use Rattle.plan_model.proofs.Words.{point_at, StandsAt, IsPresent, point_of, IsFree, AreDistinct, node_count, TreeState, first_cost_of, GrowsInto, Hangs}
-use Rattle.plan_model.proofs.Words.{HangsBelow, most_cost_of, KeepsOrder, KeepsFirstCosts, Setup}
-use Rattle.plan_model.proofs.NewNodes.{IsPresent-stands, StandsAt-present, StandsAt-unique}
+use Rattle.plan_model.proofs.Words.{point_at, StandsAt, IsPresent, point_of, IsFree, node_count, TreeState, first_cost_of, GrowsInto, Hangs, HangsBelow}
+use Rattle.plan_model.proofs.Words.{most_cost_of, KeepsOrder, KeepsFirstCosts, Setup}
+use Rattle.plan_model.proofs.NewNodes.{IsPresent-stands, StandsAt-present, AreDistinct-one_more}
 use Rattle.plan_model.proofs.NodeCounts.{node_count-one_more}
 use Rattle.plan_model.proofs.OrderLaws.{most_cost_of-le, Hangs-later, Hangs-grows, HangsBelow-at, start-present}
 
@@ -34,14 +34,6 @@ module _ (setup : Setup) (before after : TreeState) (n f : ℕ) (p : Point) (cha
 
   still_stands : (i : ℕ) → IsPresent before.points i → StandsAt after.points i (point_of before.points i)
   still_stands i h = still_at i h ∙ StandsAt-present before.points i h
-
-  -- a node of the longer tree is the new one, or was there
-  new_or_old : (i : ℕ) (q : Point) → StandsAt after.points i q → ((i ≡ n) × (q ≡ p)) ⊎ StandsAt before.points i q
-  new_or_old i q h =
-      elim (cases_eq i n) [
-        | inl e ↦ inl (e, StandsAt-unique after.points n q p (ap (point_at after.points) (sym e) ∙ h) change.stands)
-        | inr apart ↦ inr (sym (change.elsewhere i apart) ∙ h)
-      ]
 
   new_or_present : (i : ℕ) → IsPresent after.points i → (i ≡ n) ⊎ IsPresent before.points i
   new_or_present i h = elim (cases_eq i n) [ inl e ↦ inl e | inr apart ↦ inr (ap is_some (sym (change.elsewhere i apart)) ∙ h) ]
@@ -86,7 +78,7 @@ module _ (setup : Setup) (before after : TreeState) (n f : ℕ) (p : Point) (cha
   -- the order law stays
   pub KeepsOrder-adds : KeepsOrder setup before → KeepsOrder setup after
   KeepsOrder-adds order = record {
-    distinct = distinct;
+    distinct = AreDistinct-one_more before.points after.points n p change.stands change.elsewhere change.free order.distinct;
     start_stands = still_at 0 (start-present setup before order) ∙ order.start_stands;
     start_clear = order.start_clear;
     start_parent = change.kept.parents 0 (start-present setup before order) ∙ order.start_parent;
@@ -102,19 +94,6 @@ module _ (setup : Setup) (before after : TreeState) (n f : ℕ) (p : Point) (cha
           | inr was ↦ omega (arith, change.kept.costs i was, order.bounded i was, bound_rises)
         ];
   }
-    where
-      distinct : AreDistinct after.points
-      distinct i j q one other =
-          elim (new_or_old i q one) [
-            | inl new ↦ elim (new_or_old j q other) [
-              | inl also ↦ new.0 ∙ sym also.0
-              | inr old ↦ absurd (change.free j (old ∙ ap Some new.1))
-            ]
-            | inr old ↦ elim (new_or_old j q other) [
-              | inl new ↦ absurd (change.free i (old ∙ ap Some new.1))
-              | inr also ↦ order.distinct i j q old also
-            ]
-          ]
 
   -- and no node costs more than it was placed at
   pub KeepsFirstCosts-adds : KeepsFirstCosts setup before → KeepsFirstCosts setup after

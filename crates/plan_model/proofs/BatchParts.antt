@@ -1,7 +1,7 @@
 -- The parts of a text: the first of them, its lines, and what comes after it.
-use Rattle.plan_model.proofs.Words.{◌≡◌, ℕ, zero, suc, ◌+◌, ◌<◌, ◌==◌, ◌&&◌, Bool, true, false, not, cond, List, [], ◌∷◌, ◌++◌, length, get_or, drop, refl, sym}
-use Rattle.plan_model.proofs.Words.{ap, subst, ◌∙◌, arith, add-one, bytes_eq, lines_of, onto_first, Part, separator, onto_first_part, parts_of, text_of}
-use Rattle.plan_model.proofs.Words.{lines_before}
+use Rattle.plan_model.proofs.Words.{◌≡◌, ℕ, zero, suc, ◌+◌, ◌<◌, ◌==◌, ◌&&◌, Bool, true, false, not, List, [], ◌∷◌, ◌++◌, length, get_or, drop, refl, sym, ap}
+use Rattle.plan_model.proofs.Words.{subst, ◌∙◌, arith, add-one, bytes_eq, lines_of, onto_first, Part, separator, onto_first_part, parts_of, text_of}
+use Rattle.plan_model.proofs.Words.{lines_before, and_parts, and_from, cond_both}
 
 -- ---- lines have no line feed
 
@@ -15,29 +15,16 @@ abbrev pub are_lines : List (List ℕ) → Bool
 are_lines [] = true
 are_lines (line ∷ lines) = is_line line && are_lines lines
 
-both : (a b : Bool) → a ≡ true → b ≡ true → (a && b) ≡ true
-both a b e f = cc
-
-first_true : (a b : Bool) → (a && b) ≡ true → a ≡ true
-first_true true b h = refl
-first_true false b h = absurd (cc)
-
-second_true : (a b : Bool) → (a && b) ≡ true → b ≡ true
-second_true true b h = h
-second_true false b h = absurd (cc)
-
 are_lines-onto : (b : ℕ) (lines : List (List ℕ)) → (b == 10) ≡ false → are_lines lines ≡ true → are_lines (onto_first b lines) ≡ true
 are_lines-onto b [] e h = rw e refl
 are_lines-onto b (first ∷ rest) e h = rw e h
 
-are_lines-cut : (feed : Bool) (b : ℕ) (lines : List (List ℕ)) → (b == 10) ≡ feed → are_lines lines ≡ true
-    → are_lines (cond feed ([] ∷ lines) (onto_first b lines)) ≡ true
-are_lines-cut true b lines e h = h
-are_lines-cut false b lines e h = are_lines-onto b lines e h
-
 pub are_lines-of_text : (text : List ℕ) → are_lines (lines_of text) ≡ true
 are_lines-of_text [] = refl
-are_lines-of_text (b ∷ text) = are_lines-cut (b == 10) b (lines_of text) refl (are_lines-of_text text)
+are_lines-of_text (b ∷ text) =
+    let rest = are_lines-of_text text in
+    cond_both (b == 10) ([] ∷ lines_of text) (onto_first b (lines_of text)) (λ lines. are_lines lines ≡ true) (λ e. rest)
+    (λ e. are_lines-onto b (lines_of text) e rest)
 
 -- ---- the lines of a part's text
 
@@ -46,7 +33,7 @@ lines_of-line : (line text : List ℕ) → is_line line ≡ true → lines_of (l
 lines_of-line [] text h = refl
 lines_of-line (b ∷ line) text h =
     let plain : (b == 10) ≡ false = plain_byte (b == 10) (is_line line) h in
-    let rest : is_line line ≡ true = second_true (not (b == 10)) (is_line line) h in
+    let rest : is_line line ≡ true = (and_parts (not (b == 10)) (is_line line) h).1 in
     rw plain (ap (onto_first b) (lines_of-line line text rest))
   where
     plain_byte : (feed rest : Bool) → (not feed && rest) ≡ true → feed ≡ false
@@ -57,8 +44,8 @@ lines_of-line (b ∷ line) text h =
 pub lines_of-text_of : (part : Part) → are_lines part ≡ true → lines_of (text_of part) ≡ part
 lines_of-text_of [] h = refl
 lines_of-text_of (line ∷ part) h =
-    lines_of-line line (text_of part) (first_true (is_line line) (are_lines part) h)
-    ∙ ap (λ lines. line ∷ lines) (lines_of-text_of part (second_true (is_line line) (are_lines part) h))
+    lines_of-line line (text_of part) (and_parts (is_line line) (are_lines part) h).0
+    ∙ ap (λ lines. line ∷ lines) (lines_of-text_of part (and_parts (is_line line) (are_lines part) h).1)
 
 -- ---- the first part
 
@@ -93,14 +80,12 @@ some_part-onto : (line : List ℕ) (parts : List Part) → 0 < length (onto_firs
 some_part-onto line [] = omega arith
 some_part-onto line (first ∷ rest) = omega arith
 
-some_part-cut : (next : Bool) (line : List ℕ) (parts : List Part) → 0 < length (cond next ([] ∷ parts) (onto_first_part line parts))
-some_part-cut true line parts = omega arith
-some_part-cut false line parts = some_part-onto line parts
-
 -- there is one part at least
 pub some_part : (lines : List (List ℕ)) → 0 < length (parts_of lines)
 some_part [] = omega arith
-some_part (line ∷ lines) = some_part-cut (bytes_eq line separator) line (parts_of lines)
+some_part (line ∷ lines) =
+    cond_both (bytes_eq line separator) ([] ∷ parts_of lines) (onto_first_part line (parts_of lines)) (λ parts. 0 < length parts)
+    (λ e. omega arith) (λ e. some_part-onto line (parts_of lines))
 
 -- the parts are the first one and the later ones
 pub parts_of-first : (lines : List (List ℕ)) → parts_of lines ≡ first_part lines ∷ later_parts lines
@@ -109,13 +94,13 @@ parts_of-first lines = parts-split (parts_of lines) (some_part lines)
 are_lines-first_of : (next : Bool) (line : List ℕ) (lines : List (List ℕ)) → bytes_eq line separator ≡ next → is_line line ≡ true
     → are_lines (first_part lines) ≡ true → are_lines (first_part (line ∷ lines)) ≡ true
 are_lines-first_of true line lines e h rest = rw e refl
-are_lines-first_of false line lines e h rest = subst (λ part. are_lines part ≡ true) (sym (first_part-line line lines e)) (both (is_line line) _ h rest)
+are_lines-first_of false line lines e h rest = subst (λ part. are_lines part ≡ true) (sym (first_part-line line lines e)) (and_from (is_line line) _ h rest)
 
 pub are_lines-first : (lines : List (List ℕ)) → are_lines lines ≡ true → are_lines (first_part lines) ≡ true
 are_lines-first [] h = refl
 are_lines-first (line ∷ lines) h =
-    are_lines-first_of (bytes_eq line separator) line lines refl (first_true (is_line line) (are_lines lines) h)
-    (are_lines-first lines (second_true (is_line line) (are_lines lines) h))
+    are_lines-first_of (bytes_eq line separator) line lines refl (and_parts (is_line line) (are_lines lines) h).0
+    (are_lines-first lines (and_parts (is_line line) (are_lines lines) h).1)
 
 -- the lines of the first part's text
 pub lines_of-first : (text : List ℕ) → lines_of (text_of (first_part (lines_of text))) ≡ first_part (lines_of text)

@@ -80,10 +80,10 @@ rank-some costs c k (o ∷ points) (suc i) p e f =
 
 -- ---- chains
 
--- a present number has a point
-present_point : (o : Option Point) → IsSome o → (p : Point) × (o ≡ Some p)
-present_point None h = cc
-present_point (Some p) h = (p, refl)
+-- what is there has a value
+pub some_value : {A : Type 0} (o : Option A) → IsSome o → (x : A) × (o ≡ Some x)
+some_value None h = cc
+some_value (Some x) h = (x, refl)
 
 module _ (costs : ℕ → ℕ) (points : List (Option Point)) (parents : ℕ → ℕ) (fall : FallAlong costs points parents) where
   -- how many present nodes cost at most what node n costs
@@ -93,13 +93,13 @@ module _ (costs : ℕ → ℕ) (points : List (Option Point)) (parents : ℕ →
   rank-parent : (n : ℕ) → IsPresent points (suc n) → rank (parents (suc n)) < rank (suc n)
   unfolding rank
   rank-parent n h =
-      let some = present_point (point_at points (suc n)) h in
+      let some = some_value (point_at points (suc n)) h in
       rank-falls costs (costs (parents (suc n))) (costs (suc n)) 0 points (suc n) some.0 (fall.falls n h) some.1 (ap costs (omega arith))
 
   rank-positive : (n : ℕ) → IsPresent points n → 0 < rank n
   unfolding rank
   rank-positive n h =
-      let some = present_point (point_at points n) h in
+      let some = some_value (point_at points n) h in
       rank-some costs (costs n) 0 points n some.0 some.1 (ap costs (omega arith))
 
   rank-le : (n : ℕ) → rank n ≤ node_count points

@@ -1,44 +1,25 @@
 -- No two nodes of a textbook run stand at one point: a node is placed at a free point alone, and rewiring moves none.
-use Rattle.plan_model.proofs.Words.{◌≡◌, ℕ, zero, suc, ◌+◌, ◌<◌, List, [], ◌∷◌, ◌++◌, length, set, Option, Some, None, refl, sym, ap, ◌∙◌, subst, arith, ◌⊎◌}
-use Rattle.plan_model.proofs.Words.{inl, inr, IsSome, is_some, All, true, option_map, range_with_len, cases_order, cases_lt, get_or_append_left, get_or_past}
-use Rattle.plan_model.proofs.Words.{length-map, map-set, set-get_or, All-head, All-tail, All-weaker, filter_passes, get_or-append_seam, Point, Twig, Record}
-use Rattle.plan_model.proofs.Words.{Ending, Steered, NewNode, SameNode, NoWay, SkippedBy, ending_of, ConfigurationSpace, point_at, StandsAt, IsPresent}
-use Rattle.plan_model.proofs.Words.{point_of, IsFree, AreDistinct, is_within, near, points_of, Nodes, Setup, start_alone, near_new, with_parent, RewiresOne}
-use Rattle.plan_model.proofs.Words.{Rewires, Ends, HandlesAll, IsTextbookRun}
+use Rattle.plan_model.proofs.Words.{◌≡◌, ℕ, zero, suc, ◌+◌, ◌<◌, List, [], ◌∷◌, ◌++◌, length, set, Option, Some, None, refl, sym, ap, ◌∙◌, subst, arith, inl}
+use Rattle.plan_model.proofs.Words.{inr, IsSome, is_some, All, true, option_map, range_with_len, cases_lt, get_or_append_left, get_or_past, length-map, map-set}
+use Rattle.plan_model.proofs.Words.{set-get_or, All-head, All-tail, All-weaker, filter_passes, get_or-append_seam, Point, Twig, Record, Ending, Steered}
+use Rattle.plan_model.proofs.Words.{NewNode, SameNode, NoWay, SkippedBy, ending_of, ConfigurationSpace, point_at, StandsAt, IsPresent, point_of, IsFree}
+use Rattle.plan_model.proofs.Words.{AreDistinct, is_within, near, points_of, Nodes, Setup, start_alone, near_new, with_parent, RewiresOne, Rewires, Ends}
+use Rattle.plan_model.proofs.Words.{HandlesAll, IsTextbookRun}
 use Rattle.std.proofs.lemmas.List.{length-append}
-use Rattle.plan_model.proofs.TreeChanges.{points_of-push}
-use Rattle.plan_model.proofs.NewNodes.{StandsAt-present}
+use Rattle.plan_model.proofs.TreeChanges.{points_of-push, get_or-push_other, get_or-push_absent}
+use Rattle.plan_model.proofs.NewNodes.{StandsAt-present, AreDistinct-one_more}
 
 -- ---- points with one number more
 
--- a node of the longer list is one of the others, or the new one
-push_cases :
-    (points : List (Option Point)) (o : Option Point) (i : ℕ) (p : Point) → StandsAt (points ++ o ∷ []) i p
-    → StandsAt points i p ⊎ ((i ≡ length points) × (o ≡ Some p))
-push_cases points o i p h =
-    elim (cases_order i (length points)) [
-      | inl e ↦ inr (e, sym (ap (point_at (points ++ o ∷ [])) e ∙ get_or-append_seam points o [] None) ∙ h)
-      | inr (inl before) ↦ inl (sym (get_or_append_left points (o ∷ []) None i before) ∙ h)
-      | inr (inr after) ↦ (
-          let past = get_or_past (points ++ o ∷ []) i None (omega (arith, length-append points (o ∷ []))) in
-          cc)
-    ]
-
 -- an absent number at the end leaves points distinct
 pub AreDistinct-absent : (points : List (Option Point)) → AreDistinct points → AreDistinct (points ++ None ∷ [])
-AreDistinct-absent points h = λ i j p a b.
-    elim (push_cases points None i p a) [
-      | inl f ↦ (elim (push_cases points None j p b) [ inl g ↦ h i j p f g | inr g ↦ (let e = g.1 in cc) ])
-      | inr f ↦ (let e = f.1 in cc)
-    ]
+AreDistinct-absent points h i j p a b = h i j p (sym (get_or-push_absent points i) ∙ a) (sym (get_or-push_absent points j) ∙ b)
 
 -- and so does a node at a free point
 pub AreDistinct-placed : (points : List (Option Point)) (q : Point) → IsFree points q → AreDistinct points → AreDistinct (points ++ Some q ∷ [])
-AreDistinct-placed points q free h = λ i j p a b.
-    elim (push_cases points (Some q) i p a) [
-      | inl f ↦ (elim (push_cases points (Some q) j p b) [ inl g ↦ h i j p f g | inr g ↦ absurd (free i (f ∙ sym g.1)) ])
-      | inr f ↦ (elim (push_cases points (Some q) j p b) [ inl g ↦ absurd (free j (g ∙ sym f.1)) | inr g ↦ f.0 ∙ sym g.0 ])
-    ]
+AreDistinct-placed points q =
+    AreDistinct-one_more points (points ++ Some q ∷ []) (length points) q (get_or-append_seam points (Some q) [] None)
+    (get_or-push_other points (Some q))
 
 -- ---- rewiring moves no node
 
@@ -101,14 +82,10 @@ near-present_beside setup tree p parent =
 
 -- ---- one mark
 
--- distinct points, said of an equal list
-AreDistinct-same_points : (one other : List (Option Point)) → other ≡ one → AreDistinct one → AreDistinct other
-AreDistinct-same_points one other e h = subst AreDistinct (sym e) h
-
 -- an absent number more leaves points distinct
 AreDistinct-unplaced : (tree after : Nodes) → after ≡ tree ++ None ∷ [] → AreDistinct (points_of tree) → AreDistinct (points_of after)
 AreDistinct-unplaced tree after e h =
-    AreDistinct-same_points (points_of tree ++ None ∷ []) (points_of after) (ap points_of e ∙ points_of-push tree None) (AreDistinct-absent (points_of tree) h)
+    subst AreDistinct (sym (ap points_of e ∙ points_of-push tree None)) (AreDistinct-absent (points_of tree) h)
 
 -- each mark leaves the points of all nodes, and one number more
 pub points_of-ends :
@@ -138,7 +115,7 @@ pub AreDistinct-ends :
     → Ends setup tree k mark ending after → AreDistinct (points_of tree) → AreDistinct (points_of after)
 unfolding points_of-ends
 AreDistinct-ends setup tree k mark (Steered m (NewNode first)) after e h =
-    AreDistinct-same_points (points_of tree ++ Some e.point ∷ []) (points_of after) (points_of-ends setup tree k mark (Steered m (NewNode first)) after e).1
+    subst AreDistinct (sym (points_of-ends setup tree k mark (Steered m (NewNode first)) after e).1)
     (AreDistinct-placed (points_of tree) e.point e.reaches.free h)
 AreDistinct-ends setup tree k mark (Steered m (SameNode j)) after e h = AreDistinct-unplaced tree after e.reaches.1 h
 AreDistinct-ends setup tree k mark (Steered m NoWay) after e h = AreDistinct-unplaced tree after e.reaches.1 h
@@ -158,7 +135,7 @@ AreDistinct-start start = λ i j p a b. alone i p a ∙ sym (alone j p b)
 AreDistinct-handles_all :
     (setup : Setup) (k : ℕ) (tree : Nodes) (marks : List Point) (entries : List Record) (after : Nodes)
     → HandlesAll setup k tree marks entries after → AreDistinct (points_of tree) → AreDistinct (points_of after)
-AreDistinct-handles_all setup k tree [] [] after run h = AreDistinct-same_points (points_of tree) (points_of after) (ap points_of run) h
+AreDistinct-handles_all setup k tree [] [] after run h = subst AreDistinct (sym (ap points_of run)) h
 AreDistinct-handles_all setup k tree [] (entry ∷ entries) after run h = absurd run
 AreDistinct-handles_all setup k tree (mark ∷ marks) [] after run h = absurd run
 AreDistinct-handles_all setup k tree (mark ∷ marks) (entry ∷ entries) after run h =

@@ -1,12 +1,8 @@
 -- The record of an ending has it, and each record is that of its ending.
-use Rattle.plan_model.proofs.Words.{◌≡◌, ℕ, refl, sym, subst, arith, Bool, IsTrue, ◌≢◌, ◌==◌, ◌&&◌, props, nat_tests, Outcome, Placed, Same, Blocked, Skipped}
-use Rattle.plan_model.proofs.Words.{Record, Ending, Steered, Reached, NewNode, SameNode, NoWay, SkippedBy, ending_as, ending_of, first_hanging}
-use Rattle.plan_model.proofs.Words.{record_of_ending, unplaced_record, is_zero_unless_placed, HaveSameFields}
+use Rattle.plan_model.proofs.Words.{◌≡◌, ℕ, refl, sym, subst, arith, IsTrue, ◌≢◌, ◌==◌, ◌&&◌, props, nat_tests, Outcome, Placed, Same, Blocked, Skipped, Record}
+use Rattle.plan_model.proofs.Words.{Ending, Steered, Reached, NewNode, SameNode, NoWay, SkippedBy, ending_as, ending_of, first_hanging, record_of_ending}
+use Rattle.plan_model.proofs.Words.{unplaced_record, is_zero_unless_placed, HaveSameFields}
 use mathlib.Core.HLevel.{is_prop→PathP}
-
--- a test has one proof at most
-test-prop : (b : Bool) → IsProp (IsTrue b)
-test-prop b = hlevel props
 
 -- records with the same fields are the same: the fact that they hold has one proof at most
 pub Record-from_fields : (one other : Record) → HaveSameFields one other → one ≡ other
@@ -21,7 +17,7 @@ Record-from_fields one other h = λ i. record {
   unplaced =
       is_prop→PathP
       (λ j. IsTrue (is_zero_unless_placed (h.outcome j) (h.first_parent j) (h.first_cost j) (h.class j)))
-      (λ j. test-prop (is_zero_unless_placed (h.outcome j) (h.first_parent j) (h.first_cost j) (h.class j)))
+      (λ j. hlevel props)
       one.unplaced other.unplaced i;
 }
 

@@ -1,10 +1,10 @@
 -- A text whose lines have no fault, and in which nothing is missing, spells a scene; any other is refused.
 use Rattle.plan_model.proofs.Words.{◌≡◌, ℕ, zero, suc, ◌+◌, ◌<◌, ◌≤◌, ◌&&◌, Bool, true, false, cond, eqb, leb, ℤ, Option, Some, None, ◌⊎◌, inl, inr, List, []}
 use Rattle.plan_model.proofs.Words.{◌∷◌, length, map, All, refl, sym, subst, arith, add-one, list_all, and_from, and_parts, le-leb, length-map, All-head, Scene}
-use Rattle.plan_model.proofs.Words.{Kind, by_version, is_obstacle, are_obstacles, may_be_informed, most_clearance, MOST_GAMMA, MOST_OBSTACLES, MOST_SEED}
-use Rattle.plan_model.proofs.Words.{MOST_STRIPS, lines_of, statements_of, Format, Given, is_inhabited, stands, corners_from, fault_at_end, MayStand}
-use Rattle.plan_model.proofs.Words.{AllMayStand, first_of, point_from, goal_from, number_or, body_from, plan_from, version_given, given_after_version}
-use Rattle.plan_model.proofs.Words.{fault_of_line, fault_of_end, IsSoundBelow, HasFields, Spells, Refused}
+use Rattle.plan_model.proofs.Words.{Kind, by_version, is_obstacle, are_obstacles, most_clearance, MOST_GAMMA, MOST_OBSTACLES, MOST_SEED, MOST_STRIPS, lines_of}
+use Rattle.plan_model.proofs.Words.{statements_of, Format, Given, is_inhabited, stands, corners_from, fault_at_end, MayStand, AllMayStand, first_of, point_from}
+use Rattle.plan_model.proofs.Words.{goal_from, number_or, body_from, plan_from, version_given, given_after_version, fault_of_line, fault_of_end, IsSoundBelow}
+use Rattle.plan_model.proofs.Words.{HasFields, Spells, Refused}
 use borrow.Author.Count.{below_more}
 use Rattle.plan_model.specs.declared.text_terms.Key.TheVariants as keys
 use Rattle.plan_model.specs.declared.text_terms.Kind.TheVariants as kinds
@@ -36,37 +36,11 @@ some_line : {A : Type 0} → (lists : List A) → is_inhabited lists ≡ true �
 some_line [] some = absurd (cc)
 some_line (x ∷ lists) some = omega arith
 
--- the number that holds without a line, or one that may stand after the key
-clearance-given : (version : ℕ) (lists : List (List ℤ)) → All (MayStand version keys.Clearance) lists
-    → number_or 0 (first_of lists) ≤ most_clearance version
-clearance-given version [] all = omega arith
-clearance-given version (zs ∷ lists) all =
-    clearance-within version zs (All-head (MayStand version keys.Clearance) zs lists all)
-
-gamma-given : (version : ℕ) (lists : List (List ℤ)) → All (MayStand version keys.Gamma) lists → number_or 0 (first_of lists) ≤ MOST_GAMMA
-gamma-given version [] all = omega arith
-gamma-given version (zs ∷ lists) all =
-    gamma-within version zs (All-head (MayStand version keys.Gamma) zs lists all)
-
-seed-given : (version : ℕ) (lists : List (List ℤ)) → All (MayStand version keys.Seed) lists → number_or 0 (first_of lists) ≤ MOST_SEED
-seed-given version [] all = omega arith
-seed-given version (zs ∷ lists) all =
-    seed-within version zs (All-head (MayStand version keys.Seed) zs lists all)
-
-strips-given : (version : ℕ) (lists : List (List ℤ)) → All (MayStand version keys.Strips) lists → IsWithin 1 MOST_STRIPS (number_or 1 (first_of lists))
-strips-given version [] all = record { above = omega arith; below = omega arith }
-strips-given version (zs ∷ lists) all =
-    strips-within version zs (All-head (MayStand version keys.Strips) zs lists all)
-
-informed_number : (version : ℕ) (lists : List (List ℤ)) → All (MayStand version keys.Informed) lists
-    → number_or 0 (first_of lists) ≤ by_version version 0 1
-informed_number version [] all = omega arith
-informed_number version (zs ∷ lists) all =
-    informed-within version zs (All-head (MayStand version keys.Informed) zs lists all)
-
-pub informed-given : (version : ℕ) (lists : List (List ℤ)) → All (MayStand version keys.Informed) lists
-    → may_be_informed version (eqb (number_or 0 (first_of lists)) 1) ≡ true
-informed-given version lists all = informed-by_number version (number_or 0 (first_of lists)) (informed_number version lists all)
+-- what holds of the number without a line, and of each that may stand after the key, holds of that of the lines
+number-given : (P : List ℤ → Type 0) (Q : ℕ → Type 0) (default : ℕ) (lists : List (List ℤ)) → Q default
+    → ((zs : List ℤ) → P zs → Q (number_or default zs)) → All P lists → Q (number_or default (first_of lists))
+number-given P Q default [] none each all = none
+number-given P Q default (zs ∷ lists) none each all = each zs (All-head P zs lists all)
 
 -- polygons that may stand are obstacles of a scene, if they are not too many
 pub obstacles-given : (version : ℕ) (lists : List (List ℤ)) → All (MayStand version keys.Obstacle) lists → length lists ≤ MOST_OBSTACLES
@@ -81,7 +55,10 @@ scene-given version given low high h needed =
     let start = first-given (MayStand version keys.Start) (given keys.Start) needed.start (h.stand keys.Start) in
     let step = step-within version (first_of (given keys.Step))
     (first-given (MayStand version keys.Step) (given keys.Step) needed.step (h.stand keys.Step)) in
-    let strips = strips-given version (given keys.Strips) (h.stand keys.Strips) in
+    let strips = number-given (MayStand version keys.Strips) (IsWithin 1 MOST_STRIPS) 1 (given keys.Strips)
+    (record { above = omega arith; below = omega arith }) (strips-within version) (h.stand keys.Strips) in
+    let informed = number-given (MayStand version keys.Informed) (λ n. n ≤ by_version version 0 1) 0 (given keys.Informed) (omega arith)
+    (informed-within version) (h.stand keys.Informed) in
     let scene : Scene = record {
       version = version;
       room = point_from (first_of (given keys.Room));
@@ -101,16 +78,19 @@ scene-given version given low high h needed =
       room_within = room-within version (first_of (given keys.Room)) room;
       body_within = body-within version (given keys.Body) (h.stand keys.Body);
       obstacles_within = obstacles-given version (given keys.Obstacle) (h.stand keys.Obstacle) (h.few keys.Obstacle);
-      clearance_high = clearance-given version (given keys.Clearance) (h.stand keys.Clearance);
+      clearance_high = number-given (MayStand version keys.Clearance) (λ n. n ≤ most_clearance version) 0 (given keys.Clearance) (omega arith)
+          (clearance-within version) (h.stand keys.Clearance);
       start_within = start-within version (first_of (given keys.Start)) start;
       goals_within = goals-within version (given keys.Goal) (h.stand keys.Goal) (some_line (given keys.Goal) needed.goal) (h.few keys.Goal);
       step_low = step.above;
       step_high = step.below;
-      gamma_high = gamma-given version (given keys.Gamma) (h.stand keys.Gamma);
-      seed_high = seed-given version (given keys.Seed) (h.stand keys.Seed);
+      gamma_high = number-given (MayStand version keys.Gamma) (λ n. n ≤ MOST_GAMMA) 0 (given keys.Gamma) (omega arith) (gamma-within version)
+          (h.stand keys.Gamma);
+      seed_high = number-given (MayStand version keys.Seed) (λ n. n ≤ MOST_SEED) 0 (given keys.Seed) (omega arith) (seed-within version)
+          (h.stand keys.Seed);
       strips_low = strips.above;
       strips_high = strips.below;
-      informed_within = informed-given version (given keys.Informed) (h.stand keys.Informed);
+      informed_within = informed-by_number version (number_or 0 (first_of (given keys.Informed))) informed;
       plan_within = plan-within version (given keys.Marks) (given keys.Mark) (h.stand keys.Marks) (h.stand keys.Mark) (h.few keys.Mark);
     } in (
       scene,
@@ -163,11 +143,6 @@ AreGiven-end (Some version) given e =
 abbrev Spelled : Format → List ℕ → Type 0
 Spelled format text = (scene : Scene) × Spells format text scene
 
--- a line at which the text is refused, and why
-abbrev Stopped : Format → List ℕ → Type 0
-Stopped format text =
-    (number : ℕ) × (kind : Kind) × Refused format text number kind
-
 spelled : (format : Format) (text : List ℕ) → IsSoundBelow format (lines_of text) (length (lines_of text))
     → fault_of_end format (statements_of (lines_of text)) ≡ None → Spelled format text
 spelled format text sound complete =
@@ -179,57 +154,34 @@ spelled format text sound complete =
     (AreGiven-end (version_given format.reads statements) given complete) in
     (scene.0, record { sound = sound; complete = complete; fields = subst (λ read. HasFields read given scene.0) (sym version.1) scene.1 })
 
--- what is missing after the last line decides, if no line has a fault
-at_end : (format : Format) (text : List ℕ) (fault : Option Kind) → fault_of_end format (statements_of (lines_of text)) ≡ fault
-    → IsSoundBelow format (lines_of text) (length (lines_of text)) → Spelled format text ⊎ Stopped format text
-at_end format text None e sound = inl (spelled format text sound e)
-at_end format text (Some kind) e sound =
-    inr (length (lines_of text) + 1, kind, (length (lines_of text), refl, sound, inr (refl, e)))
+-- P holds of all numbers below n, or of all before one of them of which Q does
+pub below_or_first : (P Q : ℕ → Type 0) → ((i : ℕ) → P i ⊎ Q i) → (n : ℕ)
+    → ((i : ℕ) → i < n → P i) ⊎ ((k : ℕ) × (k < n) × ((i : ℕ) → i < k → P i) × Q k)
+below_or_first P Q each zero = inl (λ i l. absurd (omega arith))
+below_or_first P Q each (suc n) =
+    elim (below_or_first P Q each n) [
+      | inl all ↦ elim (each n) [
+        | inl here ↦ inl (subst (λ m. (i : ℕ) → i < m → P i) (add-one n) (below_more P n all here))
+        | inr stop ↦ inr (n, omega arith, all, stop)
+      ]
+      | inr first ↦ inr (first.0, omega (arith, first.1), first.2, first.3)
+    ]
 
--- the first of n lines with a fault
-record HasFirst (format : Format) (lines : List (List ℕ)) (n : ℕ) : Type 0 where
-  number : ℕ
-  kind : Kind
-  here : number < n
-  before : IsSoundBelow format lines number
-  fault : fault_of_line format lines number ≡ Some kind
-
-one_more : (format : Format) (lines : List (List ℕ)) (n : ℕ) (fault : Option Kind) → fault_of_line format lines n ≡ fault → IsSoundBelow format lines n
-    → IsSoundBelow format lines (n + 1) ⊎ HasFirst format lines (n + 1)
-one_more format lines n None e sound =
-    inl (below_more (λ i. fault_of_line format lines i ≡ None) n sound e)
-one_more format lines n (Some kind) e sound = inr (record {
-  number = n;
-  kind = kind;
-  here = omega arith;
-  before = sound;
-  fault = e;
-})
-
-later : (format : Format) (lines : List (List ℕ)) (n : ℕ) → HasFirst format lines n → HasFirst format lines (n + 1)
-later format lines n first = record {
-  number = first.number;
-  kind = first.kind;
-  here = (let here = first.here in omega arith);
-  before = first.before;
-  fault = first.fault;
-}
-
-first_fault : (format : Format) (lines : List (List ℕ)) (n : ℕ) → IsSoundBelow format lines n ⊎ HasFirst format lines n
-first_fault format lines zero = inl (λ i l. absurd (omega arith))
-first_fault format lines (suc n) =
-    subst (λ m. IsSoundBelow format lines m ⊎ HasFirst format lines m) (add-one n)
-    (elim (first_fault format lines n) [
-      | inl sound ↦ one_more format lines n (fault_of_line format lines n) refl sound
-      | inr first ↦ inr
-          (later format lines n first)
-    ])
+-- a line has no fault, or one of a kind
+no_fault_or_some : (fault : Option Kind) → (fault ≡ None) ⊎ ((kind : Kind) × (fault ≡ Some kind))
+no_fault_or_some None = inl refl
+no_fault_or_some (Some kind) = inr (kind, refl)
 
 -- a text spells a scene, or it is refused
 pub decided : (format : Format) (text : List ℕ)
     → ((scene : Scene) × Spells format text scene) ⊎ ((number : ℕ) × (kind : Kind) × Refused format text number kind)
 decided format text =
-    elim (first_fault format (lines_of text) (length (lines_of text))) [
-      | inl sound ↦ at_end format text (fault_of_end format (statements_of (lines_of text))) refl sound
-      | inr first ↦ inr (first.number + 1, first.kind, (first.number, refl, first.before, inl (first.here, first.fault)))
+    let lines = lines_of text in
+    let stops : ℕ → Type 0 = λ i. (kind : Kind) × (fault_of_line format lines i ≡ Some kind) in
+    elim (below_or_first (λ i. fault_of_line format lines i ≡ None) stops (λ i. no_fault_or_some (fault_of_line format lines i)) (length lines)) [
+      | inl sound ↦ elim (no_fault_or_some (fault_of_end format (statements_of lines))) [
+        | inl complete ↦ inl (spelled format text sound complete)
+        | inr missing ↦ inr (length lines + 1, missing.0, (length lines, refl, sound, inr (refl, missing.1)))
+      ]
+      | inr first ↦ inr (first.0 + 1, first.3.0, (first.0, refl, first.2, inl (first.1, first.3.1)))
     ]

@@ -1,8 +1,8 @@
 -- The lattice points of goals, as a list: a point is one of them exactly if it lies in one of the boxes.
-use Rattle.plan_model.proofs.Words.{◌≡◌, ◌⊎◌, ℕ, zero, suc, ◌-◌, ◌<◌, ◌≤◌, Bool, List, [], ◌∷◌, map, true, false, refl, sym, ap, subst, arith, inl, inr}
-use Rattle.plan_model.proofs.Words.{Contains, IsTrue, ◌&&◌, ◌||◌, flat_map, and_parts, le-leb, leb-true, Contains-append_left, Contains-append_right}
-use Rattle.plan_model.proofs.Words.{Contains-append_cases, length-range_with_len, get_or-range_with_len, Goal, Point, is_in_goal, lies_in_goals}
-use Rattle.plan_model.proofs.Words.{numbers_between, points_of_goal}
+use Rattle.plan_model.proofs.Words.{◌≡◌, ◌⊎◌, ℕ, zero, suc, ◌-◌, ◌<◌, ◌≤◌, List, [], ◌∷◌, map, sym, ap, subst, arith, inl, inr, Contains, IsTrue, flat_map}
+use Rattle.plan_model.proofs.Words.{and_parts, le-leb, leb-true, Contains-append_left, Contains-append_right, Contains-append_cases, length-range_with_len}
+use Rattle.plan_model.proofs.Words.{get_or-range_with_len, Goal, Point, is_in_goal, lies_in_goals, numbers_between, points_of_goal, and_from, or_left, or_right}
+use Rattle.plan_model.proofs.Words.{or_cases}
 use Rattle.plan_model.proofs.ListMembers.{Contains-first, Contains-after}
 
 -- ---- lists made of lists
@@ -66,9 +66,6 @@ pub record IsInside (goal : Goal) (z : Point) : Type 0 where
   pub bottom : goal.low.y ≤ z.y
   pub top : z.y ≤ goal.high.y
 
-and_true : (a b : Bool) → a ≡ true → b ≡ true → (a && b) ≡ true
-and_true a b e f = cc
-
 -- which is what the test of a goal says
 pub in_goal_parts : (goal : Goal) (z : Point) → IsTrue (is_in_goal goal z) → IsInside goal z
 in_goal_parts goal z h =
@@ -84,7 +81,7 @@ in_goal_parts goal z h =
 
 pub is_in_goal-true : (goal : Goal) (z : Point) → IsInside goal z → IsTrue (is_in_goal goal z)
 is_in_goal-true goal z h =
-    and_true _ _ (and_true _ _ (le-leb _ _ h.left) (le-leb _ _ h.right)) (and_true _ _ (le-leb _ _ h.bottom) (le-leb _ _ h.top))
+    and_from _ _ (and_from _ _ (le-leb _ _ h.left) (le-leb _ _ h.right)) (and_from _ _ (le-leb _ _ h.bottom) (le-leb _ _ h.top))
 
 -- a lattice point lies in a box exactly if it is one of the points of the box
 pub Contains-in_goal : (goal : Goal) (z : Point) → IsTrue (is_in_goal goal z) → Contains (points_of_goal goal) z
@@ -109,17 +106,6 @@ in_goal-Contains goal z h =
     is_in_goal-true goal (at column.0 row.0) (record { left = across.0; right = across.1; bottom = up.0; top = up.1 }) in
     subst (λ p. IsTrue (is_in_goal goal p)) row.2 inside
 
-or_first : (a b : Bool) → a ≡ true → (a || b) ≡ true
-or_first a b e = ap (λ c. c || b) e
-
-or_second : (a b : Bool) → b ≡ true → (a || b) ≡ true
-or_second true b e = refl
-or_second false b e = e
-
-pub or_cases : (a b : Bool) → (a || b) ≡ true → (a ≡ true) ⊎ (b ≡ true)
-or_cases true b e = inl refl
-or_cases false b e = inr e
-
 -- it lies in one of the goals exactly if it is one of their points
 pub Contains-in_goals : (goals : List Goal) (z : Point) → IsTrue (lies_in_goals goals z) → Contains (flat_map points_of_goal goals) z
 Contains-in_goals [] z h = cc
@@ -133,6 +119,6 @@ pub in_goals-Contains : (goals : List Goal) (z : Point) → Contains (flat_map p
 in_goals-Contains [] z (k, l, is) = absurd (omega (arith, l))
 in_goals-Contains (goal ∷ goals) z h =
     elim (Contains-append_cases (points_of_goal goal) (flat_map points_of_goal goals) z h) [
-      | inl own ↦ or_first (is_in_goal goal z) (lies_in_goals goals z) (in_goal-Contains goal z own)
-      | inr rest ↦ or_second (is_in_goal goal z) (lies_in_goals goals z) (in_goals-Contains goals z rest)
+      | inl own ↦ or_left (is_in_goal goal z) (lies_in_goals goals z) (in_goal-Contains goal z own)
+      | inr rest ↦ or_right (is_in_goal goal z) (lies_in_goals goals z) (in_goals-Contains goals z rest)
     ]

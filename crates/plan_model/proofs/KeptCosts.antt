@@ -4,8 +4,8 @@ use Rattle.plan_model.proofs.Words.{mul-le, Point, Twig, squared_distance, cost_
 use Rattle.plan_model.proofs.Words.{parent_of, edge_of, CostsFall, AreTight}
 use Rattle.plan_model.proofs.RootLaws.{root_ceiling-is}
 use Rattle.plan_model.proofs.FreePoints.{same-from_distance}
-use Rattle.plan_model.proofs.NewNodes.{Adds, point_at-same, IsPresent-kept, point_of-kept, parent_of-kept}
-use Rattle.plan_model.proofs.NewNodes.{IsPresent-stands, point_of-stands, StandsAt-present, StandsAt-new, parent_of-new, new_or_kept}
+use Rattle.plan_model.proofs.NewNodes.{Adds, point_at-same, IsPresent-kept, point_of-kept, parent_of-kept, IsPresent-stands, point_of-stands, StandsAt-present}
+use Rattle.plan_model.proofs.NewNodes.{StandsAt-new, parent_of-new, new_or_kept}
 
 -- an edge between two points costs at least a lattice step
 pub cost_of-apart : (a b : Point) → a ≢ b → 256 ≤ cost_of a b
@@ -18,8 +18,6 @@ cost_of-apart a b apart =
         | inr high ↦ high
       ]
     ]
-
--- ---- the start alone
 
 -- ---- the same nodes
 
@@ -84,39 +82,32 @@ module _ (costs later : ℕ → ℕ) (tree after : List (Option Twig)) (number :
     cost : later n ≡ later (parent_of after n) + edge_of after n
     falls : later (parent_of after n) < later n
 
+  link_at : (n m : ℕ) (q : Point) → parent_of after n ≡ m → IsPresent (points_of tree) m → point_of (points_of after) n ≡ q
+      → later n ≡ costs m + cost_of (point_of (points_of tree) m) q → costs m < later n → IsLinked n
+  link_at n m q parent present here price less =
+      let above : point_of (points_of after) (parent_of after n) ≡ point_of (points_of tree) m =
+      ap (point_of (points_of after)) parent ∙ point_of-kept tree number node after more.adds m present in
+      let edge : edge_of after n ≡ cost_of (point_of (points_of tree) m) q =
+      ap (λ a. cost_of a (point_of (points_of after) n)) above ∙ ap (cost_of (point_of (points_of tree) m)) here in
+      let cost : later (parent_of after n) ≡ costs m = ap later parent ∙ more.keeps m present in
+      record {
+        parent = ap (λ i. is_some (point_at (points_of after) i)) parent ∙ IsPresent-kept tree number node after more.adds m present;
+        cost = omega (arith, price, cost, edge);
+        falls = omega (arith, less, cost);
+      }
+
   link_new : IsLinked number
   link_new =
-      let parent : parent_of after number ≡ node.parent = parent_of-new tree number node after more.adds in
-      let here : point_of (points_of after) number ≡ node.point =
-      point_of-stands (points_of after) number node.point (StandsAt-new tree number node after more.adds) in
-      let above : point_of (points_of after) (parent_of after number) ≡ point_of (points_of tree) node.parent =
-      ap (point_of (points_of after)) parent ∙ point_of-kept tree number node after more.adds node.parent more.priced.parent in
-      let edge : edge_of after number ≡ cost_of (point_of (points_of tree) node.parent) node.point =
-      ap (λ a. cost_of a (point_of (points_of after) number)) above ∙ ap (cost_of (point_of (points_of tree) node.parent)) here in
-      let cost : later (parent_of after number) ≡ costs node.parent = ap later parent ∙ more.keeps node.parent more.priced.parent in
+      let here = point_of-stands (points_of after) number node.point (StandsAt-new tree number node after more.adds) in
       let long = cost_of-apart (point_of (points_of tree) node.parent) node.point more.priced.apart in
-      record {
-        parent = ap (λ m. is_some (point_at (points_of after) m)) parent ∙ IsPresent-kept tree number node after more.adds node.parent more.priced.parent;
-        cost = omega (arith, more.priced.cost, cost, edge);
-        falls = omega (arith, more.priced.cost, cost, long);
-      }
+      link_at number node.parent node.point (parent_of-new tree number node after more.adds) more.priced.parent here more.priced.cost
+      (omega (arith, more.priced.cost, long))
 
   link_kept : CostsFall costs tree → AreTight costs tree → (n : ℕ) → IsPresent (points_of tree) (suc n) → IsLinked (suc n)
   link_kept fall tight n h =
-      let m : ℕ = parent_of tree (suc n) in
-      let parent : parent_of after (suc n) ≡ m = parent_of-kept tree number node after more.adds (suc n) h in
-      let present : IsPresent (points_of tree) m = fall.parent n h in
-      let above : point_of (points_of after) (parent_of after (suc n)) ≡ point_of (points_of tree) m =
-      ap (point_of (points_of after)) parent ∙ point_of-kept tree number node after more.adds m present in
-      let edge : edge_of after (suc n) ≡ edge_of tree (suc n) =
-      ap (λ a. cost_of a (point_of (points_of after) (suc n))) above
-      ∙ ap (cost_of (point_of (points_of tree) m)) (point_of-kept tree number node after more.adds (suc n) h) in
-      let cost : later (parent_of after (suc n)) ≡ costs m = ap later parent ∙ more.keeps m present in
-      record {
-        parent = ap (λ i. is_some (point_at (points_of after) i)) parent ∙ IsPresent-kept tree number node after more.adds m present;
-        cost = omega (arith, more.keeps (suc n) h, tight.edges n h, cost, edge);
-        falls = omega (arith, more.keeps (suc n) h, fall.falls n h, cost);
-      }
+      link_at (suc n) (parent_of tree (suc n)) (point_of (points_of tree) (suc n)) (parent_of-kept tree number node after more.adds (suc n) h)
+      (fall.parent n h) (point_of-kept tree number node after more.adds (suc n) h) (omega (arith, more.keeps (suc n) h, tight.edges n h))
+      (omega (arith, more.keeps (suc n) h, fall.falls n h))
 
   link : CostsFall costs tree → AreTight costs tree → (n : ℕ) → IsPresent (points_of after) (suc n) → IsLinked (suc n)
   link fall tight n h =

@@ -36,7 +36,6 @@ pub mod BatchParts
 pub mod CostLaws
 pub mod TriangleLaw
 pub mod StripLaws
-pub mod Differences
 pub mod Ring
 pub mod Tests
 pub mod RationalPoints

@@ -4,7 +4,7 @@ use Rattle.plan_model.proofs.Words.{cases_lt, Point, Record, cost_of, point_at, 
 use Rattle.plan_model.proofs.Words.{first_cost_of, KeepsOrFalls, GrowsInto, Hangs, HangsBelow, most_cost_of, KeepsOrder, KeepsFirstCosts, Setup}
 use Rattle.plan_model.proofs.NewNodes.{StandsAt-present}
 use Rattle.plan_model.proofs.NodeCounts.{node_count-same}
-use Rattle.plan_model.proofs.OrderLaws.{Hangs-later, HangsBelow-at, start-present, KeepsOrder-falls}
+use Rattle.plan_model.proofs.OrderLaws.{Hangs-later, HangsBelow-at, start-present}
 
 -- all nodes stay where they are with their first costs, and all records stand
 pub record StandsStill (before after : TreeState) : Type 0 where
@@ -195,10 +195,12 @@ pub LowersCosts-lowers :
 LowersCosts-lowers setup before after i order change = record {
   still = change.still;
   start = same_parent 0 (start-present setup before order);
-  none_rises = none_of_them_rises setup before after i change.others (λ h. change.not_dearer);
+  none_rises = none_rises;
   nodes = λ j h.
       elim (cases_eq (suc j) i) [
-        | inl e ↦ lowered j h e
+        | inl e ↦ (
+            subst (λ m. FallsWithParent before after m ⊎ HangsCheaper setup before after m) (sym e)
+            (lowered (subst (IsPresent before.points) e h) (subst (HangsBelow setup before) e (order.hangs j h))))
         | inr apart ↦ inl (others_fall setup before after i change.others (λ p. change.not_dearer) (suc j) apart h (order.hangs j h).present)
       ];
 }
@@ -210,51 +212,19 @@ LowersCosts-lowers setup before after i order change = record {
           | inr apart ↦ change.others.parents j apart h
         ]
 
-    below :
-        (j : ℕ) → suc j ≡ i
-        → before.cost (before.parent (suc j)) + cost_of (point_of before.points (before.parent (suc j))) (point_of before.points (suc j))
-        ≤ after.cost (suc j)
-    below j e =
-        subst
-        (λ m. before.cost (before.parent m) + cost_of (point_of before.points (before.parent m)) (point_of before.points m) ≤ after.cost m)
-        (sym e) change.above
+    none_rises : (m : ℕ) → IsPresent before.points m → after.cost m ≤ before.cost m
+    none_rises = none_of_them_rises setup before after i change.others (λ h. change.not_dearer)
 
-    cheaper : (j : ℕ) → IsPresent before.points (suc j) → suc j ≡ i → after.cost (suc j) < before.cost (suc j) → HangsCheaper setup before after (suc j)
-    cheaper j h e less =
-        let old = order.hangs j h in
-        let none_rises = none_of_them_rises setup before after i change.others (λ p. change.not_dearer) in
-        let at_less : Hangs setup before (suc j) (point_of before.points (suc j)) (before.parent (suc j)) (after.cost (suc j)) =
-        record { present = old.present; other = old.other; edge = old.edge; above = below j e } in
-        record {
-          hangs = HangsBelow-still setup before after change.still none_rises (suc j) (before.parent (suc j)) h (same_parent (suc j) h) at_less;
-          cheaper = less;
-        }
-
-    lowered : (j : ℕ) → IsPresent before.points (suc j) → suc j ≡ i → FallsWithParent before after (suc j) ⊎ HangsCheaper setup before after (suc j)
-    lowered j h e =
-        elim (cases_lt (after.cost (suc j)) (before.cost (suc j))) [
-          | inl less ↦ inr (cheaper j h e less)
-          | inr same ↦ (
-              let parent =
-              none_of_them_rises setup before after i change.others (λ p. change.not_dearer) (before.parent (suc j)) (order.hangs j h).present in
-              inl (record { parent = same_parent (suc j) h; falls = omega (arith, same, parent) }))
+    lowered : IsPresent before.points i → HangsBelow setup before i → FallsWithParent before after i ⊎ HangsCheaper setup before after i
+    lowered h old =
+        elim (cases_lt (after.cost i) (before.cost i)) [
+          | inl less ↦ inr (record {
+            hangs = HangsBelow-still setup before after change.still none_rises i (before.parent i) h change.kept
+                (record { present = old.present; other = old.other; edge = old.edge; above = change.above });
+            cheaper = less;
+          })
+          | inr same ↦ inl (record { parent = change.kept; falls = omega (arith, same, none_rises (before.parent i) old.present) })
         ]
-
--- ---- a branch
-
--- Node i is rewired with its branch: it gets node n as its parent, below which it may hang at its new cost, and costs less by `fall`,
--- and every other node less by as much as its parent does.
-pub record RewiresBranch (setup : Setup) (before after : TreeState) (i n fall : ℕ) : Type 0 where
-  pub still : StandsStill before after
-  pub present : IsPresent before.points i
-  pub exchanged : after.parent i ≡ n
-  pub hangs : Hangs setup before i (point_of before.points i) n (after.cost i)
-  pub parents : (j : ℕ) → j ≢ i → IsPresent before.points j → after.parent j ≡ before.parent j
-  pub some : 0 < fall
-  pub top : after.cost i + fall ≡ before.cost i
-  pub with_parent : (j : ℕ) → IsPresent before.points (suc j) → suc j ≢ i
-      → after.cost (suc j) + before.cost (before.parent (suc j)) ≡ before.cost (suc j) + after.cost (before.parent (suc j))
-  pub none_rises : (j : ℕ) → IsPresent before.points j → after.cost j ≤ before.cost j
 
 -- ---- a record more
 
@@ -307,55 +277,6 @@ LowersCosts-adds_record setup before after k entry order change = record {
               ap (recorded_or (after.written_cost (suc j))) (change.records j apart)
               ∙ ap (λ cost. recorded_or cost (before.record_of j)) (change.written_costs (suc j) h))
         ]
-
--- ---- settled costs
-
--- All nodes keep their parents, the start costs nothing, and every other node what its parent costs and the edge.
-pub record SettlesCosts (before after : TreeState) : Type 0 where
-  pub still : StandsStill before after
-  pub parents : (n : ℕ) → IsPresent before.points n → after.parent n ≡ before.parent n
-  pub start : after.cost 0 ≡ 0
-  pub edges : (n : ℕ) → IsPresent before.points (suc n)
-      → after.cost (suc n)
-      ≡ after.cost (before.parent (suc n)) + cost_of (point_of before.points (before.parent (suc n))) (point_of before.points (suc n))
-
--- Settling lowers costs.
-pub LowersCosts-settles :
-    (setup : Setup) (before after : TreeState) → KeepsOrder setup before → SettlesCosts before after → LowersCosts setup before after
-LowersCosts-settles setup before after order change = record {
-  still = change.still;
-  start = change.parents 0 (start-present setup before order);
-  none_rises = λ n h. none_rises (before.cost n) n h (omega arith);
-  nodes = λ n h.
-      elim (cases_lt (after.cost (suc n)) (before.cost (suc n))) [
-        | inl less ↦ inr (cheaper n h less)
-        | inr same ↦ (
-            let above = none_rises (before.cost (before.parent (suc n))) (before.parent (suc n)) (order.hangs n h).present (omega arith) in
-            inl (record { parent = change.parents (suc n) h; falls = omega (arith, same, above) }))
-      ];
-}
-  where
-    none_rises : (most n : ℕ) → IsPresent before.points n → before.cost n ≤ most → after.cost n ≤ before.cost n
-    none_rises most zero h l = omega (arith, change.start)
-    none_rises zero (suc n) h l = absurd (omega (arith, KeepsOrder-falls setup before order n h, l))
-    none_rises (suc most) (suc n) h l =
-        let old = order.hangs n h in
-        let above = none_rises most (before.parent (suc n)) old.present (omega (arith, KeepsOrder-falls setup before order n h, l)) in
-        omega (arith, above, change.edges n h, old.above)
-
-    cheaper : (n : ℕ) → IsPresent before.points (suc n) → after.cost (suc n) < before.cost (suc n) → HangsCheaper setup before after (suc n)
-    cheaper n h less =
-        let m : ℕ = before.parent (suc n) in
-        let p : Point = point_of before.points (suc n) in
-        let old = order.hangs n h in
-        let there = change.still.points m ∙ StandsAt-present before.points m old.present in
-        let enough : after.cost m + cost_of (point_of before.points m) p ≤ after.cost (suc n) = omega (arith, change.edges n h) in
-        record {
-          hangs =
-              HangsBelow-at setup after (suc n) p m (change.still.points (suc n) ∙ StandsAt-present before.points (suc n) h)
-              (change.parents (suc n) h) (Hangs-later setup before after (suc n) p m (before.cost (suc n)) (after.cost (suc n)) there enough old);
-          cheaper = less;
-        }
 
 -- ---- the same tree
 

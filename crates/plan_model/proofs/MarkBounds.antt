@@ -1,10 +1,10 @@
 -- The marks of a scene are few, and their distances can be taken: no coordinate is above the greatest one of such points.
-use Rattle.plan_model.proofs.Words.{◌≡◌, ℕ, ◌+◌, ◌-◌, ◌*◌, ◌/◌, ◌%◌, ◌^◌, ◌<◌, ◌≤◌, Bool, true, false, length, arith, refl, ap, inl, inr, IsTrue, All, ◌&&◌, ℤ}
-use Rattle.plan_model.proofs.Words.{pos, negsuc, int_le, list_all, range_with_len, mod_below, length-map, length-range_with_len, AllPass-from_list_all, All-map}
-use Rattle.plan_model.proofs.Words.{All-weaker, All-same, and_parts, leb-true, cases_lt, lt-ltb, Vertex, Scene, Marks, Drawn, Listed, Span, Task}
-use Rattle.plan_model.proofs.Words.{LEAST_BODY_COORDINATE, MOST_BODY_COORDINATE, MOST_COORDINATE, MOST_MARKS, IsBounded, is_corner_between, is_mark, is_plan}
-use Rattle.plan_model.proofs.Words.{mark_points, points_of_marks, drawn_mark, strip_of_mark, first_word, second_word, next_state, below_zero, above_zero, reach}
-use Rattle.plan_model.proofs.Words.{span_within, columns, rows, strip, picked}
+use Rattle.plan_model.proofs.Words.{◌≡◌, ℕ, ◌+◌, ◌-◌, ◌*◌, ◌/◌, ◌%◌, ◌^◌, ◌<◌, ◌≤◌, Bool, true, length, arith, ap, inl, inr, IsTrue, All, ℤ, pos, negsuc}
+use Rattle.plan_model.proofs.Words.{int_le, list_all, range_with_len, mod_below, length-map, length-range_with_len, AllPass-from_list_all, All-map, All-weaker}
+use Rattle.plan_model.proofs.Words.{All-same, and_parts, leb-true, cases_lt, lt-ltb, Vertex, Scene, Marks, Drawn, Listed, Span, Task, LEAST_BODY_COORDINATE}
+use Rattle.plan_model.proofs.Words.{MOST_BODY_COORDINATE, MOST_COORDINATE, MOST_MARKS, IsBounded, is_corner_between, is_mark, is_plan, mark_points}
+use Rattle.plan_model.proofs.Words.{points_of_marks, drawn_mark, strip_of_mark, first_word, second_word, next_state, below_zero, above_zero, reach, span_within}
+use Rattle.plan_model.proofs.Words.{columns, rows, strip, picked}
 use Rattle.plan_model.proofs.SceneBounds.{IsBounded-listed, IsBounded-room}
 use Rattle.plan_model.proofs.SpanLaws.{reach-bounded}
 use Rattle.plan_model.proofs.StripLaws.{strip-some, strip-within}
@@ -50,14 +50,6 @@ span_within-most side back forth low short = record { first = omega arith; end =
 abbrev is_body_corner : Vertex → Bool
 is_body_corner v = is_corner_between LEAST_BODY_COORDINATE MOST_BODY_COORDINATE v
 
-first_true : (a b : Bool) → (a && b) ≡ true → a ≡ true
-first_true true b h = refl
-first_true false b h = cc
-
-second_true : (a b : Bool) → (a && b) ≡ true → b ≡ true
-second_true true b h = h
-second_true false b h = cc
-
 -- a coordinate that is not below another is no further below 0
 below_zero-le : (low z : ℤ) → int_le low z ≡ true → below_zero z ≤ below_zero low
 below_zero-le low (pos n) h = omega arith
@@ -79,22 +71,16 @@ short_reach scene coordinate low =
           (AllPass-from_list_all is_body_corner scene.body own);
     })
 
-low_x : (v : Vertex) → is_body_corner v ≡ true → int_le LEAST_BODY_COORDINATE v.x ≡ true
-low_x v h = first_true _ _ h
-
-low_y : (v : Vertex) → is_body_corner v ≡ true → int_le LEAST_BODY_COORDINATE v.y ≡ true
-low_y v h = first_true _ _ (second_true _ _ (second_true _ _ h))
-
 -- no column and no row has a number above the greatest coordinate
 pub columns-within : (scene : Scene) → IsSpanWithin (columns scene.room scene.body)
 columns-within scene =
     span_within-most scene.room.x (reach (λ v. below_zero v.x) scene.body) (reach (λ v. above_zero v.x) scene.body) (IsBounded-room scene).right
-    (short_reach scene (λ v. v.x) low_x)
+    (short_reach scene (λ v. v.x) (λ v h. (and_parts _ _ h).0))
 
 pub rows-within : (scene : Scene) → IsSpanWithin (rows scene.room scene.body)
 rows-within scene =
     span_within-most scene.room.y (reach (λ v. below_zero v.y) scene.body) (reach (λ v. above_zero v.y) scene.body) (IsBounded-room scene).top
-    (short_reach scene (λ v. v.y) low_y)
+    (short_reach scene (λ v. v.y) (λ v h. (and_parts _ _ (and_parts _ _ (and_parts _ _ h).1).1).0))
 
 -- ---- marks
 
@@ -115,13 +101,13 @@ All-marks_within scene (Drawn n) h =
     All-map IsBounded (drawn_mark scene) (range_with_len 0 n) (λ k d l. drawn_within scene _)
 All-marks_within scene (Listed points) h =
     All-weaker (λ p. is_mark scene.version p ≡ true) IsBounded (IsBounded-listed scene.version) points
-    (AllPass-from_list_all (is_mark scene.version) points (second_true _ _ h))
+    (AllPass-from_list_all (is_mark scene.version) points (and_parts _ _ h).1)
 
 -- there are not too many marks
 pub length-points_of_marks : (scene : Scene) (plan : Marks) → IsTrue (is_plan scene.version plan) → length (points_of_marks scene plan) ≤ MOST_MARKS
 length-points_of_marks scene (Drawn n) h =
     omega (arith, length-map (range_with_len 0 n) (drawn_mark scene), length-range_with_len 0 n, leb-true n MOST_MARKS h)
-length-points_of_marks scene (Listed points) h = leb-true (length points) MOST_MARKS (first_true _ _ h)
+length-points_of_marks scene (Listed points) h = leb-true (length points) MOST_MARKS (and_parts _ _ h).0
 
 -- the marks of a task
 pub length-marks : (task : Task) → length task.marks ≤ MOST_MARKS

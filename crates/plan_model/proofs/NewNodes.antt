@@ -1,10 +1,9 @@
 -- A tree with one more node, at a number that had none: the other nodes stay as they are.
 use Rattle.plan_model.proofs.Words.{◌≡◌, ℕ, zero, suc, ◌<◌, ◌≤◌, List, [], ◌∷◌, ◌++◌, length, Option, Some, None, arith, refl, sym, ap, ◌∙◌, inl, inr, ◌≢◌, ◌⊎◌}
-use Rattle.plan_model.proofs.Words.{true, is_some, cond, option_map, unwrap_or, cases_lt, cases_order, Point, Twig, point_at, StandsAt, IsPresent, point_of}
-use Rattle.plan_model.proofs.Words.{IsFree, AreDistinct, node_count, node_at, points_of, parent_or_zero, parent_of}
-use Rattle.std.proofs.Common.{length-append}
+use Rattle.plan_model.proofs.Words.{true, is_some, cond, option_map, unwrap_or, cases_lt, Point, Twig, point_at, StandsAt, IsPresent, point_of, IsFree}
+use Rattle.plan_model.proofs.Words.{AreDistinct, node_count, node_at, points_of, parent_or_zero, parent_of, cases_eq}
 use Rattle.plan_model.proofs.ChainLaws.{node_count-cons}
-use Rattle.plan_model.proofs.TreeChanges.{point_at-points_of, node_at-push, node_at-push_new, node_at-past}
+use Rattle.plan_model.proofs.TreeChanges.{point_at-points_of, node_at-push_new, node_at-past, get_or-push_other}
 
 -- ---- points of present nodes
 
@@ -36,6 +35,34 @@ node_count-some (o ∷ points) zero h =
     omega (arith, here, node_count-cons o points)
 node_count-some (o ∷ points) (suc n) h = omega (arith, node_count-cons o points, node_count-some points n h)
 
+-- ---- one node more
+
+-- a node of the longer tree is the new one, or was there
+pub new_or_old :
+    (points later : List (Option Point)) (n : ℕ) (p : Point) → StandsAt later n p → ((i : ℕ) → i ≢ n → point_at later i ≡ point_at points i)
+    → (i : ℕ) (q : Point) → StandsAt later i q → ((i ≡ n) × (q ≡ p)) ⊎ StandsAt points i q
+new_or_old points later n p stands elsewhere i q h =
+    elim (cases_eq i n) [
+      | inl e ↦ inl (e, StandsAt-unique later n q p (ap (point_at later) (sym e) ∙ h) stands)
+      | inr apart ↦ inr (sym (elsewhere i apart) ∙ h)
+    ]
+
+-- no two nodes stand at the same point, if none stood at the new one's
+pub AreDistinct-one_more :
+    (points later : List (Option Point)) (n : ℕ) (p : Point) → StandsAt later n p → ((i : ℕ) → i ≢ n → point_at later i ≡ point_at points i)
+    → IsFree points p → AreDistinct points → AreDistinct later
+AreDistinct-one_more points later n p stands elsewhere free distinct i j q one other =
+    elim (new_or_old points later n p stands elsewhere i q one) [
+      | inl new ↦ elim (new_or_old points later n p stands elsewhere j q other) [
+        | inl also ↦ new.0 ∙ sym also.0
+        | inr old ↦ absurd (free j (old ∙ ap Some new.1))
+      ]
+      | inr old ↦ elim (new_or_old points later n p stands elsewhere j q other) [
+        | inl new ↦ absurd (free i (old ∙ ap Some new.1))
+        | inr also ↦ distinct i j q old also
+      ]
+    ]
+
 -- ---- by nodes
 
 -- the same node stands at the same point
@@ -62,7 +89,7 @@ present_below tree n h =
       | inr past ↦ absurd (not_present tree n (node_at-past tree n past) h)
     ]
 
--- ---- one more node
+-- ---- one more node of a tree
 
 -- after is the tree with this node at a number that had none
 pub record Adds (tree : List (Option Twig)) (number : ℕ) (node : Twig) (after : List (Option Twig)) : Type 0 where
@@ -75,13 +102,7 @@ pub Adds-push : (tree : List (Option Twig)) (node : Twig) → Adds tree (length 
 Adds-push tree node = record {
   absent = node_at-past tree (length tree) (omega arith);
   here = node_at-push_new tree (Some node);
-  elsewhere = λ n apart. elim (cases_order n (length tree)) [
-    | inl e ↦ absurd (apart e)
-    | inr (inl before) ↦ node_at-push tree (Some node) n before
-    | inr (inr past) ↦
-        node_at-past (tree ++ Some node ∷ []) n (omega (arith, length-append tree (Some node ∷ [])))
-        ∙ sym (node_at-past tree n (omega arith))
-  ];
+  elsewhere = get_or-push_other tree (Some node);
 }
 
 module _ (tree : List (Option Twig)) (number : ℕ) (node : Twig) (after : List (Option Twig)) (adds : Adds tree number node after) where
@@ -108,25 +129,14 @@ module _ (tree : List (Option Twig)) (number : ℕ) (node : Twig) (after : List 
   pub parent_of-new : parent_of after number ≡ node.parent
   parent_of-new = ap parent_or_zero adds.here
 
+  point_at-elsewhere : (n : ℕ) → n ≢ number → point_at (points_of after) n ≡ point_at (points_of tree) n
+  point_at-elsewhere n apart = point_at-same after tree n (adds.elsewhere n apart)
+
   -- a node of the longer tree is the new one, or was there
   pub new_or_kept : (n : ℕ) (p : Point) → StandsAt (points_of after) n p → ((n ≡ number) × (p ≡ node.point)) ⊎ StandsAt (points_of tree) n p
-  new_or_kept n p h =
-      elim (cases_order n number) [
-        | inl e ↦ inl (e, StandsAt-unique (points_of after) number p node.point (sym (ap (point_at (points_of after)) e) ∙ h) StandsAt-new)
-        | inr (inl before) ↦ inr (sym (point_at-same after tree n (adds.elsewhere n (λ e. omega arith))) ∙ h)
-        | inr (inr past) ↦ inr (sym (point_at-same after tree n (adds.elsewhere n (λ e. omega arith))) ∙ h)
-      ]
+  new_or_kept = new_or_old (points_of tree) (points_of after) number node.point StandsAt-new point_at-elsewhere
 
   -- no two nodes stand at the same point, if none stood at the new one's
   pub AreDistinct-adds : AreDistinct (points_of tree) → IsFree (points_of tree) node.point → AreDistinct (points_of after)
-  AreDistinct-adds distinct free = λ i j p one other.
-      elim (new_or_kept i p one) [
-        | inl new ↦ elim (new_or_kept j p other) [
-          | inl also ↦ new.0 ∙ sym also.0
-          | inr kept ↦ absurd (free j (kept ∙ ap Some new.1))
-        ]
-        | inr kept ↦ elim (new_or_kept j p other) [
-          | inl new ↦ absurd (free i (kept ∙ ap Some new.1))
-          | inr also ↦ distinct i j p kept also
-        ]
-      ]
+  AreDistinct-adds distinct free =
+      AreDistinct-one_more (points_of tree) (points_of after) number node.point StandsAt-new point_at-elsewhere free distinct

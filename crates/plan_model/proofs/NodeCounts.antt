@@ -1,8 +1,8 @@
 -- How many nodes are present: not fewer if each present node stays, and one more if one number more has a node.
 use Rattle.plan_model.proofs.Words.{◌≡◌, ℕ, zero, suc, ◌+◌, ◌≤◌, Bool, true, cond, List, [], ◌∷◌, length, Option, arith, refl, sym, ap, ◌∙◌, ◌≢◌, is_some}
-use Rattle.plan_model.proofs.Words.{count_by, range_with_len, false_from_ne_true, sum_by-cons, count_by-le-length, Point, point_at, IsPresent, node_count}
+use Rattle.plan_model.proofs.Words.{count_by, range_with_len, false_from_ne_true, count_by-le-length, Point, point_at, IsPresent, node_count}
 use Rattle.plan_model.proofs.ChainLaws.{node_count-cons}
-use Rattle.plan_model.proofs.CountsBelow.{one_or_none}
+use Rattle.plan_model.proofs.CountsBelow.{one_or_none, count-first}
 
 -- the points from number 1 on
 abbrev rest : List (Option Point) → List (Option Point)
@@ -52,47 +52,35 @@ node_count-one_more one other (suc n) absent here same =
     let first = ap (λ o. cond {A = ℕ} (is_some o) 1 0) (same 0 (λ e. omega arith)) in
     omega (arith, node_count-rest one, node_count-rest other, later, first)
 
--- of some numbers in a row no more pass a test than there are nodes, if all that pass are present
-count_from-le :
-    (points : List (Option Point)) (test : ℕ → Bool) (a n : ℕ) → ((i : ℕ) → test (a + i) ≡ true → IsPresent points i)
-    → count_by test (range_with_len a n) ≤ node_count points
-count_from-le points test a zero h = omega arith
-count_from-le points test a (suc n) h =
-    let first : a + 0 ≡ a = omega arith in
-    let here = one_or_none (test a) (is_some (point_at points 0)) (λ passes. h 0 (ap test first ∙ passes)) in
-    let later =
-    count_from-le (rest points) test (a + 1) n
-    (λ i passes. let next : a + suc i ≡ (a + 1) + i = omega arith in ap is_some (point_at-rest points i) ∙ h (suc i) (ap test next ∙ passes)) in
-    omega (arith, sum_by-cons (λ k. cond {A = ℕ} (test k) 1 0) a (range_with_len (a + 1) n), node_count-rest points, here, later)
-
+-- no more numbers pass a test than there are nodes, if all that pass are present
 pub count-le_node_count :
     (points : List (Option Point)) (test : ℕ → Bool) (n : ℕ) → ((i : ℕ) → test i ≡ true → IsPresent points i)
     → count_by test (range_with_len 0 n) ≤ node_count points
-count-le_node_count points test n h =
-    count_from-le points test 0 n (λ i passes. let e : 0 + i ≡ i = omega arith in h i (ap test (sym e) ∙ passes))
-
--- as many of some numbers in a row pass a test as there are nodes, if those pass that have a node
-count_from-same :
-    (points : List (Option Point)) (test : ℕ → Bool) (a n : ℕ) → length points ≤ n → ((i : ℕ) → test (a + i) ≡ is_some (point_at points i))
-    → count_by test (range_with_len a n) ≡ node_count points
-count_from-same [] test a zero l same = refl
-count_from-same (o ∷ points) test a zero l same = absurd (omega (arith, l))
-count_from-same points test a (suc n) l same =
-    let first : a + 0 ≡ a = omega arith in
-    let here = ap (λ t. cond {A = ℕ} t 1 0) (sym (ap test first) ∙ same 0) in
+count-le_node_count points test zero h = omega arith
+count-le_node_count points test (suc n) h =
+    let here = one_or_none (test 0) (is_some (point_at points 0)) (h 0) in
     let later =
-    count_from-same (rest points) test (a + 1) n (length-rest points n l)
-    (λ i. let next : (a + 1) + i ≡ a + suc i = omega arith in ap test next ∙ same (suc i) ∙ ap is_some (sym (point_at-rest points i))) in
-    omega (arith, sum_by-cons (λ k. cond {A = ℕ} (test k) 1 0) a (range_with_len (a + 1) n), node_count-rest points, here, later)
+    count-le_node_count (rest points) (λ k. test (suc k)) n (λ i passes. ap is_some (point_at-rest points i) ∙ h (suc i) passes) in
+    omega (arith, count-first test n, node_count-rest points, here, later)
+
+-- as many pass a test as there are nodes, if those pass that have a node
+count-present :
+    (points : List (Option Point)) (test : ℕ → Bool) (n : ℕ) → length points ≤ n → ((i : ℕ) → test i ≡ is_some (point_at points i))
+    → count_by test (range_with_len 0 n) ≡ node_count points
+count-present [] test zero l same = refl
+count-present (o ∷ points) test zero l same = absurd (omega (arith, l))
+count-present points test (suc n) l same =
+    let here = ap (λ t. cond {A = ℕ} t 1 0) (same 0) in
+    let later =
+    count-present (rest points) (λ k. test (suc k)) n (length-rest points n l) (λ i. same (suc i) ∙ ap is_some (sym (point_at-rest points i))) in
+    omega (arith, count-first test n, node_count-rest points, here, later)
 
 -- the nodes but node 0 are as many as the numbers that pass a test, if those pass whose next number has a node
 pub count-next :
     (points : List (Option Point)) (test : ℕ → Bool) (n : ℕ) → IsPresent points 0 → length points ≤ suc n
     → ((i : ℕ) → test i ≡ is_some (point_at points (suc i))) → node_count points ≡ suc (count_by test (range_with_len 0 n))
 count-next points test n start l same =
-    let others =
-    count_from-same (rest points) test 0 n (length-rest points n l)
-    (λ i. let e : 0 + i ≡ i = omega arith in ap test e ∙ same i ∙ ap is_some (sym (point_at-rest points i))) in
+    let others = count-present (rest points) test n (length-rest points n l) (λ i. same i ∙ ap is_some (sym (point_at-rest points i))) in
     let first : ◌≡◌ {A = ℕ} (cond (is_some (point_at points 0)) 1 0) 1 = ap (λ t. cond {A = ℕ} t 1 0) start in
     omega (arith, node_count-rest points, others, first)
 

@@ -1,6 +1,6 @@
 -- The version that statements give is one of the format, and one that is read.
 use Rattle.plan_model.proofs.Words.{◌≡◌, ℕ, ◌≤◌, Bool, true, false, cond, Option, Some, None, List, [], ◌∷◌, refl, subst, arith, bytes_eq, format_name}
-use Rattle.plan_model.proofs.Words.{version_word, every_version, version_among, Given, fault_at_end, version_of, version_within, version_given}
+use Rattle.plan_model.proofs.Words.{version_word, every_version, version_among, Given, fault_at_end, version_of, version_within, version_given, cond_both}
 
 -- a version of the format that is read
 pub record IsReadVersion (reads : ℕ → Bool) (version : ℕ) : Type 0 where
@@ -37,15 +37,13 @@ IsReadVersion-within : (reads : ℕ → Bool) (word : List ℕ) (found : Option 
 IsReadVersion-within reads word None version e f = absurd (cc)
 IsReadVersion-within reads word (Some found) version e f = read_by (reads found) reads found version refl f (IsVersion-among word found e)
 
-named_by : (named : Bool) (reads : ℕ → Bool) (second : List ℕ) (version : ℕ)
-    → cond named (version_within reads (version_among second every_version)) None ≡ Some version → IsReadVersion reads version
-named_by true reads second version e = IsReadVersion-within reads second (version_among second every_version) version refl e
-named_by false reads second version e = absurd (cc)
-
 pub IsReadVersion-of : (reads : ℕ → Bool) (words : List (List ℕ)) (version : ℕ) → version_of reads words ≡ Some version → IsReadVersion reads version
 IsReadVersion-of reads [] version e = absurd (cc)
 IsReadVersion-of reads (first ∷ []) version e = absurd (cc)
-IsReadVersion-of reads (first ∷ second ∷ []) version e = named_by (bytes_eq first format_name) reads second version e
+IsReadVersion-of reads (first ∷ second ∷ []) version e =
+    let among = version_among second every_version in
+    cond_both (bytes_eq first format_name) (version_within reads among) None (λ o. o ≡ Some version → IsReadVersion reads version)
+    (λ named. IsReadVersion-within reads second among version refl) (λ other f. absurd (cc)) e
 IsReadVersion-of reads (first ∷ second ∷ third ∷ words) version e = absurd (cc)
 
 pub IsReadVersion-given : (reads : ℕ → Bool) (statements : List (List (List ℕ))) (version : ℕ) → version_given reads statements ≡ Some version

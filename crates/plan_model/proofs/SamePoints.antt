@@ -1,6 +1,6 @@
 -- Whether two points are the same.
-use Rattle.plan_model.proofs.Words.{◌≡◌, ℕ, Bool, true, false, Some, eqb, refl, ap, ◌∙◌, inl, inr, unwrap_or, nat_eq, ◌&&◌, ◌≢◌, ◌⊎◌, both_true}
-use Rattle.plan_model.proofs.Words.{cases_eq, eqb-true, Point}
+use Rattle.plan_model.proofs.Words.{◌≡◌, ℕ, Bool, true, false, Some, eqb, refl, ap, ◌∙◌, inl, inr, unwrap_or, nat_eq, ◌&&◌, ◌≢◌, ◌⊎◌, both_true, cases_eq}
+use Rattle.plan_model.proofs.Words.{eqb-true, Point, and_parts}
 use Rattle.std.proofs.Common.{eq-eqb}
 
 -- points with the same coordinates are the same
@@ -35,16 +35,11 @@ same_or_other p q =
 abbrev pub same_point : Point → Point → Bool
 same_point a b = nat_eq a.x b.x && nat_eq a.y b.y
 
-both_parts : (a b c d : ℕ) (s t : Bool) → eqb a b ≡ s → eqb c d ≡ t → (s && t) ≡ true → (a ≡ b) × (c ≡ d)
-both_parts a b c d true true x y h = (eqb-true a b x, eqb-true c d y)
-both_parts a b c d true false x y h = cc
-both_parts a b c d false t x y h = cc
-
 -- points that pass the test are the same
 pub same_point-true : (a b : Point) → same_point a b ≡ true → a ≡ b
 same_point-true a b h =
-    let parts = both_parts a.x b.x a.y b.y (eqb a.x b.x) (eqb a.y b.y) refl refl h in
-    point_is a b parts.0 parts.1
+    let parts = and_parts (eqb a.x b.x) (eqb a.y b.y) h in
+    point_is a b (eqb-true a.x b.x parts.0) (eqb-true a.y b.y parts.1)
 
 -- points that fail it differ
 pub same_point-false : (a b : Point) → same_point a b ≡ false → a ≢ b

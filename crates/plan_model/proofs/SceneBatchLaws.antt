@@ -1,14 +1,12 @@
 -- A text spells the scenes of one batch, or is refused as a batch at one line and for one kind.
 use Rattle.plan_model.proofs.Words.{◌≡◌, ℕ, zero, suc, ◌+◌, ◌<◌, ◌≤◌, ◌⊎◌, inl, inr, List, [], ◌∷◌, ◌++◌, length, get_or, refl, sym, ap, subst, ◌∙◌, arith}
 use Rattle.plan_model.proofs.Words.{add-one, cases_order, cases_lt, ext_get_or, get_or_append_left, get_or-append_seam, MOST_SCENES, Scene, Kind, lines_of}
-use Rattle.plan_model.proofs.Words.{Format, Spells, Part, parts_of, part_text, lines_before, SpellsBatch, AreSpelledBelow, IsRefusedPart, FailsAtPart}
-use Rattle.plan_model.proofs.Words.{RefusesBatch}
+use Rattle.plan_model.proofs.Words.{Format, Spells, Part, parts_of, part_text, lines_before, SpellsBatch, AreSpelledBelow, FailsAtPart, RefusesBatch, Refused}
 use Rattle.std.proofs.lemmas.List.{length-append}
-use borrow.Author.Count.{below_more}
 use Rattle.plan_model.specs.declared.text_terms.Kind.TheVariants as kinds
 use Rattle.plan_model.proofs.Soundness.{Refused-one_line, Refused-one_kind, Spells-not_refused}
 use Rattle.plan_model.proofs.SameScenes.{Spells-one_scene}
-use Rattle.plan_model.proofs.GivenScenes.{decided}
+use Rattle.plan_model.proofs.GivenScenes.{decided, below_or_first}
 
 -- ---- one refusal
 
@@ -34,40 +32,32 @@ same_part format parts k j m n one other p q below_k below_j =
       | inr (inr more) ↦ absurd (not_before format parts j k n other q below_k more (at_most format parts k m one p))
     ]
 
-same_line : (format : Format) (parts : List Part) (k m n : ℕ) (one other : Kind) → FailsAtPart format parts k m one → FailsAtPart format parts k n other
-    → m ≡ n
-same_line format parts k m n one other (inl here) (inl there) =
+-- at one part it is refused at one line and for one kind
+same_refusal : (format : Format) (parts : List Part) (k m n : ℕ) (one other : Kind) → FailsAtPart format parts k m one
+    → FailsAtPart format parts k n other → (m ≡ n) × (one ≡ other)
+same_refusal format parts k m n one other (inl here) (inl there) =
     let a = here.1 in
     let b = there.1 in
     let e = Refused-one_line format (part_text parts k) a.0 b.0 one other a.2 b.2 in
-    a.1 ∙ (ap (λ line. lines_before parts k + line) e ∙ sym b.1)
-same_line format parts k m n one other (inl here) (inr many) = absurd (omega (arith, here.0, many.0))
-same_line format parts k m n one other (inr many) (inl there) = absurd (omega (arith, many.0, there.0))
-same_line format parts k m n one other (inr many) (inr more) = many.1 ∙ sym more.1
+    (a.1 ∙ (ap (λ line. lines_before parts k + line) e ∙ sym b.1), Refused-one_kind format (part_text parts k) a.0 b.0 one other a.2 b.2)
+same_refusal format parts k m n one other (inl here) (inr many) = absurd (omega (arith, here.0, many.0))
+same_refusal format parts k m n one other (inr many) (inl there) = absurd (omega (arith, many.0, there.0))
+same_refusal format parts k m n one other (inr many) (inr more) = (many.1 ∙ sym more.1, many.2 ∙ sym more.2)
 
-same_kind : (format : Format) (parts : List Part) (k m n : ℕ) (one other : Kind) → FailsAtPart format parts k m one → FailsAtPart format parts k n other
-    → one ≡ other
-same_kind format parts k m n one other (inl here) (inl there) =
-    let a = here.1 in
-    let b = there.1 in
-    Refused-one_kind format (part_text parts k) a.0 b.0 one other a.2 b.2
-same_kind format parts k m n one other (inl here) (inr many) = absurd (omega (arith, here.0, many.0))
-same_kind format parts k m n one other (inr many) (inl there) = absurd (omega (arith, many.0, there.0))
-same_kind format parts k m n one other (inr many) (inr more) = many.2 ∙ sym more.2
+one_refusal : (format : Format) (text : List ℕ) (m n : ℕ) (one other : Kind) → RefusesBatch format text m one
+    → RefusesBatch format text n other → (m ≡ n) × (one ≡ other)
+one_refusal format text m n one other p q =
+    let parts = parts_of (lines_of text) in
+    let e = same_part format parts p.0 q.0 m n one other p.3 q.3 p.2 q.2 in
+    same_refusal format parts q.0 m n one other (subst (λ k. FailsAtPart format parts k m one) e p.3) q.3
 
 pub RefusesBatch-one_line : (format : Format) (text : List ℕ) (m n : ℕ) (one other : Kind) → RefusesBatch format text m one
     → RefusesBatch format text n other → m ≡ n
-RefusesBatch-one_line format text m n one other p q =
-    let parts = parts_of (lines_of text) in
-    let e = same_part format parts p.0 q.0 m n one other p.3 q.3 p.2 q.2 in
-    same_line format parts q.0 m n one other (subst (λ k. FailsAtPart format parts k m one) e p.3) q.3
+RefusesBatch-one_line format text m n one other p q = (one_refusal format text m n one other p q).0
 
 pub RefusesBatch-one_kind : (format : Format) (text : List ℕ) (m n : ℕ) (one other : Kind) → RefusesBatch format text m one
     → RefusesBatch format text n other → one ≡ other
-RefusesBatch-one_kind format text m n one other p q =
-    let parts = parts_of (lines_of text) in
-    let e = same_part format parts p.0 q.0 m n one other p.3 q.3 p.2 q.2 in
-    same_kind format parts q.0 m n one other (subst (λ k. FailsAtPart format parts k m one) e p.3) q.3
+RefusesBatch-one_kind format text m n one other p q = (one_refusal format text m n one other p q).1
 
 -- ---- one batch
 
@@ -128,45 +118,12 @@ has_scenes format parts (suc n) sound =
     let last = sound n (omega arith) in
     subst (HasScenes format parts) (add-one n) (one_scene_more format parts n before last.0 last.1)
 
--- the first of n parts that is refused
-record HasFirst (format : Format) (parts : List Part) (n : ℕ) : Type 0 where
-  k : ℕ
-  number : ℕ
-  kind : Kind
-  here : k < n
-  before : AreSpelledBelow format parts k
-  refused : IsRefusedPart format parts k number kind
-
-one_part_more : (format : Format) (parts : List Part) (n : ℕ) → AreSpelledBelow format parts n
-    → AreSpelledBelow format parts (n + 1) ⊎ HasFirst format parts (n + 1)
-one_part_more format parts n sound =
-    elim (decided format (part_text parts n)) [
-      | inl spelled ↦ inl (below_more (λ k. (scene : Scene) × Spells format (part_text parts k) scene) n sound spelled)
-      | inr refused ↦ inr (record {
-        k = n;
-        number = lines_before parts n + refused.0;
-        kind = refused.1;
-        here = omega arith;
-        before = sound;
-        refused = (refused.0, refl, refused.2);
-      })
-    ]
-
-first_refused : (format : Format) (parts : List Part) (n : ℕ) → AreSpelledBelow format parts n ⊎ HasFirst format parts n
-first_refused format parts zero = inl (λ k l. absurd (omega arith))
-first_refused format parts (suc n) =
-    subst (λ m. AreSpelledBelow format parts m ⊎ HasFirst format parts m) (add-one n)
-    (elim (first_refused format parts n) [
-      | inl sound ↦ one_part_more format parts n sound
-      | inr first ↦ inr (record {
-        k = first.k;
-        number = first.number;
-        kind = first.kind;
-        here = (let here = first.here in omega arith);
-        before = first.before;
-        refused = first.refused;
-      })
-    ])
+-- the first of n parts that is refused, if one is
+first_refused : (format : Format) (parts : List Part) (n : ℕ) → AreSpelledBelow format parts n
+    ⊎ ((k : ℕ) × (k < n) × AreSpelledBelow format parts k × ((line : ℕ) × (kind : Kind) × Refused format (part_text parts k) line kind))
+first_refused format parts =
+    below_or_first (λ k. (scene : Scene) × Spells format (part_text parts k) scene)
+    (λ k. (line : ℕ) × (kind : Kind) × Refused format (part_text parts k) line kind) (λ k. decided format (part_text parts k))
 
 -- a text spells a batch, or it is refused as one
 pub batch_decided : (format : Format) (text : List ℕ)
@@ -177,9 +134,8 @@ batch_decided format text =
       | inl many ↦
           elim (first_refused format parts MOST_SCENES) [
             | inl sound ↦ inr (lines_before parts MOST_SCENES, kinds.Many, (MOST_SCENES, many, sound, inr (refl, refl, refl)))
-            | inr first ↦
-                let here = first.here in
-                inr (first.number, first.kind, (first.k, omega (arith, here, many), first.before, inl (here, first.refused)))
+            | inr (k, here, before, stop) ↦
+                inr (lines_before parts k + stop.0, stop.1, (k, omega (arith, here, many), before, inl (here, (stop.0, refl, stop.2))))
           ]
       | inr few ↦
           elim (first_refused format parts (length parts)) [
@@ -187,8 +143,7 @@ batch_decided format text =
                 let h = has_scenes format parts (length parts) sound in
                 let count = h.count in
                 inl (h.scenes, record { count = h.count; few = omega (arith, few, count); each = λ k d l. h.each k d (omega (arith, l, count)) })
-            | inr first ↦
-                let here = first.here in
-                inr (first.number, first.kind, (first.k, here, first.before, inl (omega (arith, here, few), first.refused)))
+            | inr (k, here, before, stop) ↦
+                inr (lines_before parts k + stop.0, stop.1, (k, here, before, inl (omega (arith, here, few), (stop.0, refl, stop.2))))
           ]
     ]

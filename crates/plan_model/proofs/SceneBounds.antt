@@ -1,46 +1,32 @@
 -- What a scene of either version may have is within what is counted on: distances of its points can be taken, points are steered by its
 -- step, and its obstacles go into Minkowski sums.
-use Rattle.plan_model.proofs.Words.{◌≡◌, ◌<◌, ◌≤◌, ◌&&◌, Bool, ℕ, true, false, eqb, cond, length, List, [], ◌∷◌, refl, sym, arith, All, ℤ, ◌≤ℤ◌, int_le, nat_le}
-use Rattle.plan_model.proofs.Words.{list_all, and_parts, and_from, leb-true, ints, All-weaker, AllPass-from_list_all, Goal, Point, Vertex, Scene}
-use Rattle.plan_model.proofs.Words.{LEAST_OBSTACLE_COORDINATE, LEAST_OBSTACLE_COORDINATE_OF_VERSION_2, LEAST_SUMMAND_COORDINATE, MOST_CLEARANCE}
-use Rattle.plan_model.proofs.Words.{MOST_COORDINATE, MOST_OBSTACLE_COORDINATE, MOST_OBSTACLE_COORDINATE_OF_VERSION_2, MOST_OBSTACLE_CORNERS, MOST_SIDE}
-use Rattle.plan_model.proofs.Words.{MOST_SIDE_OF_VERSION_2, MOST_STEERING_STEP, MOST_STEP, MOST_STEP_OF_VERSION_2, MOST_SUMMAND_COORDINATE, IsBounded}
-use Rattle.plan_model.proofs.Words.{IsBoundedBox, is_strictly_convex, IsInRoom, is_corner_between, is_goal, is_mark, is_obstacle, least_obstacle_coordinate}
-use Rattle.plan_model.proofs.Words.{most_obstacle_coordinate, most_side, most_goals, most_step}
+use Rattle.plan_model.proofs.Words.{◌≡◌, ◌<◌, ◌≤◌, ◌&&◌, Bool, ℕ, true, eqb, length, List, sym, arith, All, ℤ, ◌≤ℤ◌, int_le, nat_le, list_all, and_parts}
+use Rattle.plan_model.proofs.Words.{and_from, leb-true, ints, All-weaker, AllPass-from_list_all, Goal, Point, Vertex, Scene, LEAST_OBSTACLE_COORDINATE}
+use Rattle.plan_model.proofs.Words.{LEAST_OBSTACLE_COORDINATE_OF_VERSION_2, LEAST_SUMMAND_COORDINATE, MOST_CLEARANCE, MOST_COORDINATE, MOST_OBSTACLE_COORDINATE}
+use Rattle.plan_model.proofs.Words.{MOST_OBSTACLE_COORDINATE_OF_VERSION_2, MOST_OBSTACLE_CORNERS, MOST_SIDE, MOST_SIDE_OF_VERSION_2, MOST_STEERING_STEP}
+use Rattle.plan_model.proofs.Words.{MOST_STEP, MOST_STEP_OF_VERSION_2, MOST_SUMMAND_COORDINATE, IsBounded, IsBoundedBox, is_strictly_convex, IsInRoom}
+use Rattle.plan_model.proofs.Words.{is_corner_between, is_goal, is_mark, is_obstacle, least_obstacle_coordinate, most_obstacle_coordinate, most_side}
+use Rattle.plan_model.proofs.Words.{most_goals, most_step, cond_both, list_all-from_AllPass, most_clearance}
 
 -- ---- the limits of either version
 
-side_by : (first : Bool) → cond first MOST_SIDE MOST_SIDE_OF_VERSION_2 ≤ MOST_COORDINATE
-side_by true = omega arith
-side_by false = omega arith
-
 pub most_side-counted : (version : ℕ) → most_side version ≤ MOST_COORDINATE
-most_side-counted version = side_by (eqb version 1)
-
-step_by : (first : Bool) → cond first MOST_STEP MOST_STEP_OF_VERSION_2 ≤ MOST_STEERING_STEP
-step_by true = omega arith
-step_by false = omega arith
+most_side-counted version =
+    cond_both (eqb version 1) MOST_SIDE MOST_SIDE_OF_VERSION_2 (λ n. n ≤ MOST_COORDINATE) (λ e. omega arith) (λ e. omega arith)
 
 pub most_step-counted : (version : ℕ) → most_step version ≤ MOST_STEERING_STEP
-most_step-counted version = step_by (eqb version 1)
-
-least_by : (first : Bool) → LEAST_SUMMAND_COORDINATE ≤ℤ cond first LEAST_OBSTACLE_COORDINATE LEAST_OBSTACLE_COORDINATE_OF_VERSION_2
-least_by true = omega (arith, ints)
-least_by false = omega (arith, ints)
+most_step-counted version =
+    cond_both (eqb version 1) MOST_STEP MOST_STEP_OF_VERSION_2 (λ n. n ≤ MOST_STEERING_STEP) (λ e. omega arith) (λ e. omega arith)
 
 pub least_obstacle-counted : (version : ℕ) → LEAST_SUMMAND_COORDINATE ≤ℤ least_obstacle_coordinate version
-least_obstacle-counted version = least_by (eqb version 1)
-
-most_by : (first : Bool) → cond first MOST_OBSTACLE_COORDINATE MOST_OBSTACLE_COORDINATE_OF_VERSION_2 ≤ℤ MOST_SUMMAND_COORDINATE
-most_by true = omega (arith, ints)
-most_by false = omega (arith, ints)
+least_obstacle-counted version =
+    cond_both (eqb version 1) LEAST_OBSTACLE_COORDINATE LEAST_OBSTACLE_COORDINATE_OF_VERSION_2 (λ z. LEAST_SUMMAND_COORDINATE ≤ℤ z)
+    (λ e. omega (arith, ints)) (λ e. omega (arith, ints))
 
 pub most_obstacle-counted : (version : ℕ) → most_obstacle_coordinate version ≤ℤ MOST_SUMMAND_COORDINATE
-most_obstacle-counted version = most_by (eqb version 1)
-
-clearance_by : (first : Bool) → cond first 0 MOST_CLEARANCE ≤ MOST_CLEARANCE
-clearance_by true = omega arith
-clearance_by false = omega arith
+most_obstacle-counted version =
+    cond_both (eqb version 1) MOST_OBSTACLE_COORDINATE MOST_OBSTACLE_COORDINATE_OF_VERSION_2 (λ z. z ≤ℤ MOST_SUMMAND_COORDINATE)
+    (λ e. omega (arith, ints)) (λ e. omega (arith, ints))
 
 -- ---- points, steps and clearances
 
@@ -102,7 +88,10 @@ pub step-steers : (scene : Scene) → scene.step ≤ MOST_STEERING_STEP
 step-steers scene = omega (arith, scene.step_high, most_step-counted scene.version)
 
 pub clearance-counted : (scene : Scene) → scene.clearance ≤ MOST_CLEARANCE
-clearance-counted scene = omega (arith, scene.clearance_high, clearance_by (eqb scene.version 1))
+clearance-counted scene =
+    let most : most_clearance scene.version ≤ MOST_CLEARANCE =
+    cond_both (eqb scene.version 1) 0 MOST_CLEARANCE (λ n. n ≤ MOST_CLEARANCE) (λ e. omega arith) (λ e. omega arith) in
+    omega (arith, scene.clearance_high, most)
 
 -- ---- obstacles
 
@@ -123,13 +112,16 @@ widened_corner low high least most v f g h =
     let d : int_le v.y most ≡ true = sym (omega (arith, ints)) in
     and_from _ _ a (and_from _ _ b (and_from _ _ c d))
 
+-- what all members pass, they pass by a test that is no stricter
+pub list_all-wider : {A : Type 0} (one other : A → Bool) (xs : List A) → ((x : A) → one x ≡ true → other x ≡ true) → list_all one xs ≡ true
+    → list_all other xs ≡ true
+list_all-wider one other xs wider h =
+    list_all-from_AllPass other xs (All-weaker (λ x. one x ≡ true) (λ x. other x ≡ true) wider xs (AllPass-from_list_all one xs h))
+
 pub widened : (low high least most : ℤ) (corners : List Vertex) → least ≤ℤ low → high ≤ℤ most → list_all (is_corner_between low high) corners ≡ true
     → list_all (is_corner_between least most) corners ≡ true
-widened low high least most [] f g h = refl
-widened low high least most (v ∷ corners) f g h =
-    let parts = and_parts (is_corner_between low high v) (list_all (is_corner_between low high) corners) h in
-    and_from (is_corner_between least most v) (list_all (is_corner_between least most) corners)
-    (widened_corner low high least most v f g parts.0) (widened low high least most corners f g parts.1)
+widened low high least most corners f g =
+    list_all-wider (is_corner_between low high) (is_corner_between least most) corners (λ v. widened_corner low high least most v f g)
 
 -- each corner of an obstacle is in the range of a summand's
 pub corners-summands : (version : ℕ) (corners : List Vertex) → is_obstacle version corners ≡ true

@@ -181,20 +181,18 @@ polygon-of_obstacle version zs h =
 
 -- ---- lists of parts
 
+-- parts that numbers give pass a test, if each does whose numbers may stand
+list_all-given : {A : Type 0} (P : List ℤ → Type 0) (part : List ℤ → A) (test : A → Bool) (lists : List (List ℤ))
+    → ((zs : List ℤ) → P zs → test (part zs) ≡ true) → All P lists → list_all test (map part lists) ≡ true
+list_all-given P part test [] each h = refl
+list_all-given P part test (zs ∷ lists) each h =
+    and_from (test (part zs)) (list_all test (map part lists)) (each zs (All-head P zs lists h))
+    (list_all-given P part test lists each (All-tail P zs lists h))
+
 pub obstacles-within : (version : ℕ) (lists : List (List ℤ)) → All (MayStand version keys.Obstacle) lists
     → list_all (is_obstacle version) (map corners_from lists) ≡ true
-obstacles-within version [] h = refl
-obstacles-within version (zs ∷ lists) h =
-    let P = MayStand version keys.Obstacle in
-    and_from (is_obstacle version (corners_from zs)) (list_all (is_obstacle version) (map corners_from lists))
-    (polygon-of_obstacle version zs (All-head P zs lists h)) (obstacles-within version lists (All-tail P zs lists h))
-
-each_goal-within : (version : ℕ) (lists : List (List ℤ)) → All (MayStand version keys.Goal) lists → list_all (is_goal version) (map goal_from lists) ≡ true
-each_goal-within version [] h = refl
-each_goal-within version (zs ∷ lists) h =
-    let P = MayStand version keys.Goal in
-    and_from (is_goal version (goal_from zs)) (list_all (is_goal version) (map goal_from lists)) (goal-within version zs (All-head P zs lists h))
-    (each_goal-within version lists (All-tail P zs lists h))
+obstacles-within version lists =
+    list_all-given (MayStand version keys.Obstacle) corners_from (is_obstacle version) lists (polygon-of_obstacle version)
 
 pub goals-within : (version : ℕ) (lists : List (List ℤ)) → All (MayStand version keys.Goal) lists → 1 ≤ length lists → length lists ≤ most_goals version
     → are_goals version (map goal_from lists) ≡ true
@@ -205,15 +203,7 @@ goals-within version lists h some few =
     let most = le-leb count (most_goals version) (omega (arith, same, few)) in
     and_from (leb 1 count && leb count (most_goals version)) (list_all (is_goal version) (map goal_from lists))
     (and_from (leb 1 count) (leb count (most_goals version)) one most)
-    (each_goal-within version lists h)
-
-pub points-within : (version : ℕ) (lists : List (List ℤ)) → All (MayStand version keys.Mark) lists
-    → list_all (is_mark version) (map point_from lists) ≡ true
-points-within version [] h = refl
-points-within version (zs ∷ lists) h =
-    let P = MayStand version keys.Mark in
-    and_from (is_mark version (point_from zs)) (list_all (is_mark version) (map point_from lists)) (mark-within version zs (All-head P zs lists h))
-    (points-within version lists (All-tail P zs lists h))
+    (list_all-given (MayStand version keys.Goal) goal_from (is_goal version) lists (goal-within version) h)
 
 pub body-within : (version : ℕ) (lists : List (List ℤ)) → All (MayStand version keys.Body) lists → is_body (body_from lists) ≡ true
 body-within version [] h = refl
@@ -224,6 +214,7 @@ pub plan-within : (version : ℕ) (drawn listed : List (List ℤ)) → All (MayS
     → length listed ≤ MOST_MARKS → is_plan version (plan_from drawn listed) ≡ true
 plan-within version [] listed h g few =
     and_from (leb (length (map point_from listed)) MOST_MARKS) (list_all (is_mark version) (map point_from listed))
-    (le-leb (length (map point_from listed)) MOST_MARKS (omega (arith, length-map listed point_from))) (points-within version listed g)
+    (le-leb (length (map point_from listed)) MOST_MARKS (omega (arith, length-map listed point_from)))
+    (list_all-given (MayStand version keys.Mark) point_from (is_mark version) listed (mark-within version) g)
 plan-within version (zs ∷ drawn) listed h g few =
     le-leb (number_or 0 zs) MOST_MARKS (marks-within version zs (All-head (MayStand version keys.Marks) zs drawn h))

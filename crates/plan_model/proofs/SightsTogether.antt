@@ -1,20 +1,13 @@
 -- What a worker takes over from another: it has seen at least what both had, and it is a later moment of itself.
 use Rattle.plan_model.proofs.Words.{◌≡◌, ℕ, ◌<◌, Bool, true, false, Option, Some, None, arith, refl, sym, ap, ◌∙◌, subst, inl, inr, ◌⊎◌, nat_lt, cond, is_some}
-use Rattle.plan_model.proofs.Words.{IsSome, option_or, cases_lt, ltb-true, ltb-false, Point, point_at, point_of, StandsAt, FollowWays, SeenTree, IsSeen}
-use Rattle.plan_model.proofs.Words.{IsRooted, HasSeenAtLeast, SharedTree, IsTrueOf, Sight, KeepsSight, IsLaterMoment, cheaper_of, HaveSeenTogether, TakesOver}
-use Rattle.plan_model.proofs.Words.{AgreeOnParents}
+use Rattle.plan_model.proofs.Words.{option_or, cases_lt, ltb-true, ltb-false, Point, point_at, point_of, StandsAt, FollowWays, SeenTree, IsSeen, IsRooted}
+use Rattle.plan_model.proofs.Words.{HasSeenAtLeast, SharedTree, IsTrueOf, Sight, KeepsSight, IsLaterMoment, cheaper_of, HaveSeenTogether, TakesOver}
+use Rattle.plan_model.proofs.Words.{AgreeOnParents, same_Some}
 use Rattle.plan_model.proofs.NewNodes.{IsPresent-stands, StandsAt-present, StandsAt-unique}
 use Rattle.plan_model.proofs.SeenTreeLaws.{IsSeen-more}
 use Rattle.plan_model.proofs.TrueSights.{FollowSeenWays-true}
 use Rattle.plan_model.proofs.WayLaws.{same_child}
-
-some_same : {A : Type 0} (x y : A) → Some x ≡ Some y → x ≡ y
-some_same x y h = cc
-
--- what is there has a value
-is_there : {A : Type 0} (o : Option A) → IsSome o → (x : A) × (o ≡ Some x)
-is_there None h = cc
-is_there (Some x) h = (x, refl)
+use Rattle.plan_model.proofs.ChainLaws.{some_value}
 
 -- ---- of two the first that is there
 
@@ -42,7 +35,7 @@ KeepsPair both pair = (now : ℕ × ℕ) × (both ≡ Some now) × ((now ≡ pai
 cheaper_first : (one other : Option (ℕ × ℕ)) (pair : ℕ × ℕ) → one ≡ Some pair → KeepsPair (cheaper_of one other) pair
 cheaper_first None other pair h = cc
 cheaper_first (Some own) None pair h = (pair, h, inl refl)
-cheaper_first (Some own) (Some also) pair h = subst (KeepsPair (cheaper_of (Some own) (Some also))) (some_same own pair h) (pick (nat_lt also.1 own.1) refl)
+cheaper_first (Some own) (Some also) pair h = subst (KeepsPair (cheaper_of (Some own) (Some also))) (same_Some own pair h) (pick (nat_lt also.1 own.1) refl)
   where
     pick : (less : Bool) → nat_lt also.1 own.1 ≡ less → KeepsPair (cond less (Some also) (Some own)) own
     pick true e = (also, refl, inr (ltb-true also.1 own.1 e))
@@ -53,7 +46,7 @@ cheaper_second : (one other : Option (ℕ × ℕ)) (pair : ℕ × ℕ) → ((own
 cheaper_second None other pair agree h = (pair, h, inl refl)
 cheaper_second (Some own) None pair agree h = cc
 cheaper_second (Some own) (Some also) pair agree h =
-    let same = some_same also pair h in
+    let same = same_Some also pair h in
     subst (KeepsPair (cheaper_of (Some own) (Some also))) same
     (pick (nat_lt also.1 own.1) refl (λ e. agree own refl (e ∙ ap (λ (t : ℕ × ℕ). t.1) same) ∙ sym same))
   where
@@ -123,7 +116,7 @@ module _ (one other both : SeenTree) (together : HaveSeenTogether one other both
       records = λ k entry h.
           together.records k
           ∙ or_second (one.record_of k) (other.record_of k) entry
-          (λ own e. some_same own entry (sym (first.records k own e) ∙ second.records k entry h)) h;
+          (λ own e. same_Some own entry (sym (first.records k own e) ∙ second.records k entry h)) h;
       counters = λ strip. omega (arith, together.counters strip);
       count = omega (arith, together.count);
     }
@@ -181,7 +174,7 @@ module _ (one other both : SeenTree) (together : HaveSeenTogether one other both
             | inr e ↦ seen_second n (also.points n (ap is_some e))
           ];
       pairs = λ n h.
-          let pair = is_there (both.parent_and_cost n) h in
+          let pair = some_value (both.parent_and_cost n) h in
           elim (cheaper_either (one.parent_and_cost n) (other.parent_and_cost n) pair.0 (sym (together.pairs n) ∙ pair.1)) [
             | inl e ↦ seen_first n (own.pairs n (ap is_some e))
             | inr e ↦ seen_second n (also.pairs n (ap is_some e))

@@ -1,32 +1,25 @@
 -- Texts whose lines have no fault, by a test of each line; and a text is refused at one line and for one kind.
-use Rattle.plan_model.proofs.Words.{◌≡◌, ℕ, zero, suc, ◌+◌, ◌<◌, ◌≤◌, Bool, true, List, length, Option, Some, None, inl, inr, ◌∙◌, ap, refl, arith, ◌&&◌}
-use Rattle.plan_model.proofs.Words.{is_none, cases_order, Scene, Kind, lines_of, Format, fault_of_line, IsSoundBelow, FailsAt, Refused, Spells}
+use Rattle.plan_model.proofs.Words.{◌≡◌, ℕ, zero, suc, ◌+◌, ◌<◌, ◌≤◌, Bool, true, List, length, Option, Some, None, inl, inr, ap, refl, arith, ◌&&◌, is_none}
+use Rattle.plan_model.proofs.Words.{cases_order, Scene, Kind, lines_of, Format, fault_of_line, IsSoundBelow, FailsAt, Refused, Spells, add-one, below_more}
+use Rattle.plan_model.proofs.Words.{and_parts, subst}
 
 -- no line below line n has a fault
 unfoldable pub are_sound : Format → List (List ℕ) → ℕ → Bool
 are_sound format lines zero = true
 are_sound format lines (suc n) = is_none (fault_of_line format lines n) && are_sound format lines n
 
-none_first : (fault : Option Kind) (rest : Bool) → (is_none fault && rest) ≡ true → fault ≡ None
-none_first None rest h = refl
-none_first (Some kind) rest h = cc
-
-rest_true : (fault : Option Kind) (rest : Bool) → (is_none fault && rest) ≡ true → rest ≡ true
-rest_true None rest h = h
-rest_true (Some kind) rest h = cc
+none_if : (fault : Option Kind) → is_none fault ≡ true → fault ≡ None
+none_if None h = refl
+none_if (Some kind) h = cc
 
 pub IsSoundBelow-from_test : (format : Format) (lines : List (List ℕ)) (n : ℕ) → are_sound format lines n ≡ true → IsSoundBelow format lines n
 unfolding are_sound
 IsSoundBelow-from_test format lines zero h = λ i l. absurd (omega arith)
 IsSoundBelow-from_test format lines (suc n) h =
-    let last : fault_of_line format lines n ≡ None = none_first _ _ h in
-    let before : IsSoundBelow format lines n = IsSoundBelow-from_test format lines n (rest_true (fault_of_line format lines n) _ h) in
-    λ i l.
-    elim (cases_order i n) [
-      | inl e ↦ ap (fault_of_line format lines) e ∙ last
-      | inr (inl less) ↦ before i less
-      | inr (inr more) ↦ absurd (omega arith)
-    ]
+    let parts = and_parts (is_none (fault_of_line format lines n)) (are_sound format lines n) h in
+    let before = IsSoundBelow-from_test format lines n parts.1 in
+    subst (IsSoundBelow format lines) (add-one n)
+    (below_more (λ i. fault_of_line format lines i ≡ None) n before (none_if (fault_of_line format lines n) parts.0))
 
 -- no text is refused after a line with a fault
 not_later : (format : Format) (text : List ℕ) (i j : ℕ) (kind : Kind) → FailsAt format (lines_of text) i kind → j ≤ length (lines_of text)

@@ -1,7 +1,7 @@
 -- The grammar's words at one more statement and at one more line.
 use Rattle.plan_model.proofs.Words.{◌≡◌, ℕ, not, Bool, true, false, cond, Option, Some, None, List, [], ◌∷◌, ◌++◌, map, refl, sym, ap, ◌∙◌, bytes_eq}
 use Rattle.plan_model.proofs.Words.{map-append, append-nil, filter-append, bytes_eq-Decides, Key, words_of, statements_of, name_of, every_key, key_among}
-use Rattle.plan_model.proofs.Words.{is_key, key_within, key_of, begins_with, numbers_in, given_by, with_statement}
+use Rattle.plan_model.proofs.Words.{is_key, key_within, key_of, begins_with, numbers_in, given_by, with_statement, cond_both}
 use Rattle.std.proofs.Common.{filter}
 use mathlib.Core.Path.{fun_ext}
 use Rattle.plan_model.specs.declared.text_terms.Key.TheVariants as keys
@@ -9,27 +9,17 @@ use Rattle.plan_model.specs.Texts.TextLines.{is_skipped}
 
 -- ---- keys
 
-name-among_by : (b : Bool) (word : List ℕ) (k key : Key) (ks : List Key) → bytes_eq word (name_of k) ≡ b
-    → (key_among word ks ≡ Some key → word ≡ name_of key) → cond b (Some k) (key_among word ks) ≡ Some key → word ≡ name_of key
-name-among_by true word k key ks same rest e =
-    let named : word ≡ name_of k = (bytes_eq-Decides word (name_of k)).0 same in
-    let this : k ≡ key = cc in
-    named ∙ ap name_of this
-name-among_by false word k key ks same rest e = rest e
-
 -- a word is the name of the key that it names
 name-among : (word : List ℕ) (keys : List Key) (key : Key) → key_among word keys ≡ Some key → word ≡ name_of key
 name-among word [] key e = absurd (cc)
 name-among word (k ∷ ks) key e =
-    name-among_by (bytes_eq word (name_of k)) word k key ks refl (name-among word ks key) e
-
-within_by : (b : Bool) (found key : Key) → cond b (Some found) None ≡ Some key → Some found ≡ Some key
-within_by true found key e = e
-within_by false found key e = absurd (cc)
+    cond_both (bytes_eq word (name_of k)) (Some k) (key_among word ks) (λ found. found ≡ Some key → word ≡ name_of key)
+    (λ same f. let this : k ≡ key = cc in (bytes_eq-Decides word (name_of k)).0 same ∙ ap name_of this) (λ differ. name-among word ks key) e
 
 key_within-some : (version : ℕ) (found : Option Key) (key : Key) → key_within version found ≡ Some key → found ≡ Some key
 key_within-some version None key e = absurd (cc)
-key_within-some version (Some found) key e = within_by (is_key version found) found key e
+key_within-some version (Some found) key e =
+    cond_both (is_key version found) (Some found) None (λ o. o ≡ Some key → Some found ≡ Some key) (λ yes f. f) (λ no f. absurd (cc)) e
 
 pub name-key_of : (version : ℕ) (word : List ℕ) (key : Key) → key_of version word ≡ Some key → word ≡ name_of key
 name-key_of version word key e = name-among word every_key key (key_within-some version (key_among word every_key) key e)

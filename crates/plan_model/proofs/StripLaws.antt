@@ -9,24 +9,21 @@ div-le-div m n k some h =
       | inr fits ↦ fits
     ]
 
-enough_columns : (count strips : ℕ) → strips ≤ count → ltb count strips ≡ false
-enough_columns count strips h = le-ltb count strips h
-
 pub strip-first : (all : Span) (strips : ℕ) → strips ≤ all.count → (strip all strips 0).first ≡ all.first
 strip-first all strips enough =
     let low : (0 * all.count) / strips ≤ 0 = div-le_of_le-mul strips (omega arith) in
-    rw (enough_columns all.count strips enough) (omega arith)
+    rw (le-ltb all.count strips enough) (omega arith)
 
 pub strip-next :
     (all : Span) (strips g : ℕ) → 0 < strips → strips ≤ all.count → (strip all strips (g + 1)).first ≡ (strip all strips g).first + (strip all strips g).count
 strip-next all strips g some enough =
     let order : (g * all.count) / strips ≤ ((g + 1) * all.count) / strips = div-le-div (g * all.count) ((g + 1) * all.count) strips some (omega arith) in
-    rw (enough_columns all.count strips enough) (omega arith)
+    rw (le-ltb all.count strips enough) (omega arith)
 
 pub strip-last : (all : Span) (strips : ℕ) → 0 < strips → strips ≤ all.count → (strip all strips strips).first ≡ all.first + all.count
 strip-last all strips some enough =
     let whole : (strips * all.count) / strips ≡ all.count = mul-div_cancel_left all.count some in
-    rw (enough_columns all.count strips enough) (omega arith)
+    rw (le-ltb all.count strips enough) (omega arith)
 
 -- ---- strips with columns of their own
 -- a strip is the whole span or a part of it

@@ -1,7 +1,6 @@
 -- Tests of every member of a list, and of every number below another.
 use Rattle.plan_model.proofs.Words.{◌≡◌, ◌≢◌, ℕ, ◌<◌, Bool, true, false, ◌||◌, eqb, List, [], ◌∷◌, length, get_or, refl, zero, suc, arith, and_parts, and_from}
-use Rattle.plan_model.proofs.Words.{eqb-true, length-range_with_len, get_or-range_with_len, list_all_at, list_all, range_with_len}
-use Rattle.std.proofs.Common.{eq-eqb}
+use Rattle.plan_model.proofs.Words.{eqb-true, length-range_with_len, get_or-range_with_len, list_all_at, list_all, range_with_len, eqb-false}
 
 pub true_at : {X : Type 0} (p : X → Bool) (xs : List X) (i : ℕ) (d : X) → list_all p xs ≡ true → i < length xs → p (get_or xs i d) ≡ true
 true_at p [] i d h l = absurd (omega arith)
@@ -46,7 +45,4 @@ one_true k i j b h = by (eqb k i) (eqb k j) refl refl
     by : (s t : Bool) → eqb k i ≡ s → eqb k j ≡ t → (s || (t || b)) ≡ true
     by true t e f = refl
     by false true e f = refl
-    by false false e f = h (λ w. apart k i e w) (λ w. apart k j f w)
-      where
-        apart : (m n : ℕ) → eqb m n ≡ false → m ≢ n
-        apart m n e w = let t = eq-eqb m n w in cc
+    by false false e f = h (eqb-false k i e) (eqb-false k j f)

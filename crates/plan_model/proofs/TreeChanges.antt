@@ -1,42 +1,13 @@
 -- What a number at the end changes in a tree: nothing of the earlier nodes, and nothing at all if it is absent.
-use Rattle.std.proofs.Common.{
-  ◌≡◌,
-  ℕ,
-  zero,
-  suc,
-  ◌+◌,
-  ◌<◌,
-  ◌≤◌,
-  List,
-  [],
-  ◌∷◌,
-  ◌++◌,
-  length,
-  map,
-  Option,
-  None,
-  arith,
-  refl,
-  sym,
-  ap,
-  ◌∙◌,
-  inl,
-  inr,
-  subst,
-  length-append,
-  append_assoc,
-}
+use Rattle.std.proofs.Common.{◌≡◌, ℕ, zero, suc, ◌+◌, ◌≤◌, List, [], ◌∷◌, ◌++◌, length, map, Option, None, arith, refl, sym, ap, ◌∙◌, inl, inr, subst}
+use Rattle.std.proofs.Common.{length-append, append_assoc}
 use Rattle.plan_model.proofs.Words.{option_map, is_some, cond, replicate, append-nil, get_or_append_left, get_or_past, sum_by-append, cases_order}
 use Rattle.plan_model.proofs.Words.{get_or-append_seam, get_or-map, map-append, Point, Twig, point_at, point_of, node_count, node_at, points_of, parent_or_zero}
-use Rattle.plan_model.proofs.Words.{parent_of, chain_within, chain, length_of_path, sum_of}
+use Rattle.plan_model.proofs.Words.{parent_of, chain_within, chain, length_of_path, sum_of, cases_eq, get_or, ◌≢◌}
 
 -- where node n stands, by the node itself
 pub point_at-points_of : (tree : List (Option Twig)) (n : ℕ) → point_at (points_of tree) n ≡ option_map (λ node. node.point) (node_at tree n)
 point_at-points_of tree n = get_or-map (option_map (λ node. node.point)) tree n None
-
--- a number at the end leaves the earlier nodes as they are
-pub node_at-push : (tree : List (Option Twig)) (node : Option Twig) (n : ℕ) → n < length tree → node_at (tree ++ node ∷ []) n ≡ node_at tree n
-node_at-push tree node n l = get_or_append_left tree (node ∷ []) None n l
 
 pub node_at-push_new : (tree : List (Option Twig)) (node : Option Twig) → node_at (tree ++ node ∷ []) (length tree) ≡ node
 node_at-push_new tree node = get_or-append_seam tree node [] None
@@ -45,14 +16,26 @@ node_at-push_new tree node = get_or-append_seam tree node [] None
 pub node_at-past : (tree : List (Option Twig)) (n : ℕ) → length tree ≤ n → node_at tree n ≡ None
 node_at-past tree n l = get_or_past tree n None l
 
+-- one more at the end changes no other number
+pub get_or-push_other : {A : Type 0} (os : List (Option A)) (o : Option A) (n : ℕ) → n ≢ length os → get_or (os ++ o ∷ []) n None ≡ get_or os n None
+get_or-push_other os o n apart =
+    elim (cases_order n (length os)) [
+      | inl e ↦ absurd (apart e)
+      | inr (inl before) ↦ get_or_append_left os (o ∷ []) None n before
+      | inr (inr after) ↦ get_or_past (os ++ o ∷ []) n None (omega (arith, length-append os (o ∷ []))) ∙ sym (get_or_past os n None (omega arith))
+    ]
+
+-- and an absent one no number at all
+pub get_or-push_absent : {A : Type 0} (os : List (Option A)) (n : ℕ) → get_or (os ++ None ∷ []) n None ≡ get_or os n None
+get_or-push_absent os n =
+    elim (cases_eq n (length os)) [
+      | inl e ↦ ap (λ i. get_or (os ++ None ∷ []) i None) e ∙ get_or-append_seam os None [] None ∙ sym (get_or_past os n None (omega arith))
+      | inr apart ↦ get_or-push_other os None n apart
+    ]
+
 -- an absent number at the end changes no node
 pub node_at-absent : (tree : List (Option Twig)) (n : ℕ) → node_at (tree ++ None ∷ []) n ≡ node_at tree n
-node_at-absent tree n =
-    elim (cases_order n (length tree)) [
-      | inl e ↦ ap (node_at (tree ++ None ∷ [])) e ∙ node_at-push_new tree None ∙ sym (node_at-past tree n (omega arith))
-      | inr (inl before) ↦ node_at-push tree None n before
-      | inr (inr after) ↦ node_at-past (tree ++ None ∷ []) n (omega (arith, length-append tree (None ∷ []))) ∙ sym (node_at-past tree n (omega arith))
-    ]
+node_at-absent = get_or-push_absent
 
 -- ---- the points of a longer tree
 

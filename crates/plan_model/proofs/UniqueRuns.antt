@@ -79,33 +79,18 @@ module _ (setup : Setup) (tree : Nodes) (k m : ℕ) (p : Point) where
             after others e.rewired (subst rewired (sym same) f.rewired);
       }
 
-  -- a point where a node stands is not blocked
-  not_same_and_blocked : (j : ℕ) (after others : Nodes) → Reaches setup tree k m p (SameNode j) after → ¬ Reaches setup tree k m p NoWay others
-  not_same_and_blocked j after others e f = f.0.free j e.0
-
-  -- no node is placed there either
-  not_same_and_placed :
-      (j : ℕ) (first : FirstHanging) (after others : Nodes)
-      → Reaches setup tree k m p (SameNode j) after → ¬ Reaches setup tree k m p (NewNode first) others
-  not_same_and_placed j first after others e f = f.free j e.0
-
-  -- nor is one where it is blocked
-  not_blocked_and_placed :
-      (first : FirstHanging) (after others : Nodes) → Reaches setup tree k m p NoWay after → ¬ Reaches setup tree k m p (NewNode first) others
-  not_blocked_and_placed first after others e f = e.0.blocked f.clear
-
   -- one end is reached: no two nodes stand at one point
   Reaches-unique :
       (one other : Reached) (after others : Nodes) → AreDistinct (points_of tree)
       → Reaches setup tree k m p one after → Reaches setup tree k m p other others → EndAlike one other after others
   Reaches-unique (SameNode i) (SameNode j) after others distinct e f = record { ends = ap SameNode (distinct i j p e.0 f.0); trees = e.1 ∙ sym f.1 }
-  Reaches-unique (SameNode i) NoWay after others distinct e f = absurd (not_same_and_blocked i after others e f)
-  Reaches-unique (SameNode i) (NewNode first) after others distinct e f = absurd (not_same_and_placed i first after others e f)
-  Reaches-unique NoWay (SameNode j) after others distinct e f = absurd (not_same_and_blocked j others after f e)
+  Reaches-unique (SameNode i) NoWay after others distinct e f = absurd (f.0.free i e.0)
+  Reaches-unique (SameNode i) (NewNode first) after others distinct e f = absurd (f.free i e.0)
+  Reaches-unique NoWay (SameNode j) after others distinct e f = absurd (e.0.free j f.0)
   Reaches-unique NoWay NoWay after others distinct e f = record { ends = refl; trees = e.1 ∙ sym f.1 }
-  Reaches-unique NoWay (NewNode first) after others distinct e f = absurd (not_blocked_and_placed first after others e f)
-  Reaches-unique (NewNode one) (SameNode j) after others distinct e f = absurd (not_same_and_placed j one others after f e)
-  Reaches-unique (NewNode one) NoWay after others distinct e f = absurd (not_blocked_and_placed one others after f e)
+  Reaches-unique NoWay (NewNode first) after others distinct e f = absurd (e.0.blocked f.clear)
+  Reaches-unique (NewNode one) (SameNode j) after others distinct e f = absurd (e.free j f.0)
+  Reaches-unique (NewNode one) NoWay after others distinct e f = absurd (f.0.blocked e.clear)
   Reaches-unique (NewNode one) (NewNode other) after others distinct e f = EndsPlaced-unique one other after others e f
 
 module _ (setup : Setup) (tree : Nodes) (k : ℕ) (mark : Point) where
@@ -124,21 +109,21 @@ module _ (setup : Setup) (tree : Nodes) (k : ℕ) (mark : Point) where
       (m n j : ℕ) (after others : Nodes)
       → Ends setup tree k mark (Steered m (SameNode j)) after → ¬ Ends setup tree k mark (Steered n NoWay) others
   not_same_or_blocked m n j after others e f =
-      not_same_and_blocked setup tree k m e.point j after others e.reaches (Reaches-alike m n (SameNode j) NoWay after others e f)
+      (Reaches-alike m n (SameNode j) NoWay after others e f).0.free j e.reaches.0
 
   -- it is not placed either
   pub not_same_or_placed :
       (m n j : ℕ) (first : FirstHanging) (after others : Nodes)
       → Ends setup tree k mark (Steered m (SameNode j)) after → ¬ Ends setup tree k mark (Steered n (NewNode first)) others
   not_same_or_placed m n j first after others e f =
-      not_same_and_placed setup tree k m e.point j first after others e.reaches (Reaches-alike m n (SameNode j) (NewNode first) after others e f)
+      (Reaches-alike m n (SameNode j) (NewNode first) after others e f).free j e.reaches.0
 
   -- a mark that is blocked is not placed
   pub not_blocked_or_placed :
       (m n : ℕ) (first : FirstHanging) (after others : Nodes)
       → Ends setup tree k mark (Steered m NoWay) after → ¬ Ends setup tree k mark (Steered n (NewNode first)) others
   not_blocked_or_placed m n first after others e f =
-      not_blocked_and_placed setup tree k m e.point first after others e.reaches (Reaches-alike m n NoWay (NewNode first) after others e f)
+      e.reaches.0.blocked (Reaches-alike m n NoWay (NewNode first) after others e f).clear
 
   -- a mark that a node steers to is not skipped
   pub not_steered_or_skipped :

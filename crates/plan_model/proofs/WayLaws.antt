@@ -33,14 +33,12 @@ pub not_empty : (child : Children) (n m : ℕ) (side : Bool) → child n side �
 not_empty child n m side none some = let e = sym none ∙ some in cc
 
 module _ (child : Children) (points : List (Option Point)) (q : Point) where
-  -- two steps from the same node at the same depth are the same
-  step_child : (depth n k m : ℕ) (p : Point) (step : StepsTo child points q depth k) → step.node ≡ n → StandsAt points n p
-      → child n (goes_right depth p q) ≡ Some m → k ≡ m
-  step_child depth n k m p step same stands link =
+  -- a step from a node goes to its child on the side of q
+  step_link : (depth n k : ℕ) (p : Point) (step : StepsTo child points q depth k) → step.node ≡ n → StandsAt points n p
+      → child n (goes_right depth p q) ≡ Some k
+  step_link depth n k p step same stands =
       let point : step.point ≡ p = StandsAt-unique points n step.point p (ap (point_at points) (sym same) ∙ step.stands) stands in
-      let place : child step.node (goes_right depth step.point q) ≡ child n (goes_right depth p q) =
-      ap (λ a. child a (goes_right depth step.point q)) same ∙ ap (λ r. child n (goes_right depth r q)) point in
-      same_child child n k m (goes_right depth p q) (sym place ∙ step.link) link
+      sym (ap (λ a. child a (goes_right depth step.point q)) same ∙ ap (λ r. child n (goes_right depth r q)) point) ∙ step.link
 
   -- Two nodes on the way of q at the same depth are the same.
   pub IsOnWay-unique : (depth n m : ℕ) → IsOnWay child points q depth n → IsOnWay child points q depth m → n ≡ m
@@ -48,7 +46,8 @@ module _ (child : Children) (points : List (Option Point)) (q : Point) where
   IsOnWay-unique (suc depth) n m one other =
       let a = last_step child points q depth n one in
       let b = last_step child points q depth m other in
-      step_child depth b.node n m b.point a (IsOnWay-unique depth a.node b.node a.on_way b.on_way) b.stands b.link
+      let same = IsOnWay-unique depth a.node b.node a.on_way b.on_way in
+      same_child child b.node n m (goes_right depth b.point q) (step_link depth b.node n b.point a same b.stands) b.link
 
   -- a way that comes to a depth took a step at each lesser one
   pub earlier_step : (later m : ℕ) → IsOnWay child points q later m → (depth : ℕ) → depth < later → (k : ℕ) × StepsTo child points q depth k
@@ -75,10 +74,7 @@ module _ (child : Children) (points : List (Option Point)) (q : Point) where
       let found = earlier_step later m way depth below in
       let step = found.1 in
       let same : step.node ≡ n = IsOnWay-unique depth step.node n step.on_way ends.on_way in
-      let point : step.point ≡ p = StandsAt-unique points n step.point p (ap (point_at points) (sym same) ∙ step.stands) ends.stands in
-      let place : child step.node (goes_right depth step.point q) ≡ child n (goes_right depth p q) =
-      ap (λ a. child a (goes_right depth step.point q)) same ∙ ap (λ r. child n (goes_right depth r q)) point in
-      not_empty child n found.0 (goes_right depth p q) ends.empty (sym place ∙ step.link)
+      not_empty child n found.0 (goes_right depth p q) ends.empty (step_link depth n found.0 p step same ends.stands)
 
   -- A way has one end.
   pub EndsBelow-unique : (depth n other m : ℕ) (p r : Point) → EndsBelow child points q depth n p → EndsBelow child points q other m r

@@ -3,7 +3,7 @@ use Rattle.plan_model.proofs.Words.{◌≡◌, ℕ, zero, suc, Bool, true, false
 use Rattle.plan_model.proofs.Words.{cases_eq, Point, point_at, point_of, StandsAt, IsPresent, goes_right, Children, IsOnWay, EndsBelow, FollowWays, LinksAt}
 use Rattle.plan_model.proofs.Words.{AddsPoint, FillsPlaces}
 use Rattle.plan_model.specs.Seen.Ways.IsOnWay.{begins, goes_on}
-use Rattle.plan_model.proofs.NewNodes.{IsPresent-stands, StandsAt-present, StandsAt-unique}
+use Rattle.plan_model.proofs.NewNodes.{IsPresent-stands, StandsAt-present, new_or_old}
 use Rattle.plan_model.proofs.WayLaws.{way_start, last_step, same_child, not_empty, way_goes_on, IsOnWay-began}
 
 -- ---- ways in a tree that grows
@@ -63,14 +63,10 @@ FillsPlaces-trans child mid after points then later one two = record {
 pub AddsPoint-stands :
     (points later : List (Option Point)) (m : ℕ) (q : Point) → ¬ IsPresent points m → StandsAt later m q
     → ((i : ℕ) → i ≢ m → point_at later i ≡ point_at points i) → AddsPoint points later m q
-AddsPoint-stands points later m q absent here elsewhere = record { absent = absent; stands = λ k r. (new_or_old k r, is_there k r) }
+AddsPoint-stands points later m q absent here elsewhere = record { absent = absent; stands = λ k r. (old_or_new k r, is_there k r) }
   where
-    new_or_old : (k : ℕ) (r : Point) → StandsAt later k r → StandsAt points k r ⊎ ((k ≡ m) × (r ≡ q))
-    new_or_old k r h =
-        elim (cases_eq k m) [
-          | inl e ↦ inr (e, StandsAt-unique later m r q (ap (point_at later) (sym e) ∙ h) here)
-          | inr apart ↦ inl (sym (elsewhere k apart) ∙ h)
-        ]
+    old_or_new : (k : ℕ) (r : Point) → StandsAt later k r → StandsAt points k r ⊎ ((k ≡ m) × (r ≡ q))
+    old_or_new k r h = elim (new_or_old points later m q here elsewhere k r h) [ inl new ↦ inr new | inr old ↦ inl old ]
 
     is_there : (k : ℕ) (r : Point) → StandsAt points k r ⊎ ((k ≡ m) × (r ≡ q)) → StandsAt later k r
     is_there k r (inl old) =
