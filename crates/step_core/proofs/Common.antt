@@ -1,35 +1,32 @@
 -- The names that proofs of the crates above cite, passed on from one place. Declares nothing.
-pub use Rattle.step_core.proofs.OneView.KeptPoints.{point_at-kept}
-pub use Rattle.step_core.proofs.OneView.LaterSteps.{IsLater-counted, IsLater-half, IsLater-pointed, IsLater-treed}
-pub use Rattle.step_core.proofs.OneView.LaterViews.{HasLooked-trans, IsLater-claimed, IsLater-finished, IsLater-joined, IsLater-loaded, IsLater-refl}
-pub use Rattle.step_core.proofs.OneView.LaterViews.{IsLater-stepped, IsLater-trans, IsLawfulView-world}
+pub use Rattle.step_core.proofs.OneView.LaterViews.{IsLater-counted, IsLater-half, IsLater-pointed, IsLater-treed, HasLooked-trans, IsLater-claimed}
+pub use Rattle.step_core.proofs.OneView.LaterViews.{IsLater-finished, IsLater-joined, IsLater-loaded, IsLater-refl, IsLater-stepped, IsLater-trans}
+pub use Rattle.step_core.proofs.OneView.LaterViews.{IsLawfulView-world}
 pub use Rattle.step_core.proofs.OneView.LawfulSights.{IsBounded-seen, IsBounded-steered, IsLaterMoment-later, IsPresent-seen, KeepsSight-lawful}
 pub use Rattle.step_core.proofs.OneView.LinkedViews.{ShowsNode, sees-linked}
-pub use Rattle.step_core.proofs.OneView.RecordedNodes.{has_node-recorded, own_recorded, present_recorded}
-pub use Rattle.step_core.proofs.OneView.SeenStates.{linked_points-seen}
 pub use Rattle.step_core.proofs.OneView.SeenTreesOfViews.{SeesTree-apart, SeesTree-looker, SeesTree-parted, SeesTree-stepped}
-pub use Rattle.step_core.proofs.OneView.SeenViews.{HasSeenAtLeast-later, IsPresent-later, SeesPoint-later}
+pub use Rattle.step_core.proofs.OneView.SeenViews.{point_at-kept, has_node-recorded, own_recorded, present_recorded, linked_points-seen, HasSeenAtLeast-later}
+pub use Rattle.step_core.proofs.OneView.SeenViews.{IsPresent-later, SeesPoint-later}
 pub use Rattle.step_core.proofs.Parts.LawfulRecords.{is_own_node-earlier, own_count-most}
-pub use Rattle.step_core.proofs.Parts.LinkedStates.{linked-present, point_at-linked, record-unplaced}
-pub use Rattle.step_core.proofs.Parts.LinkedWays.{IsOnWayOf-found}
+pub use Rattle.step_core.proofs.Parts.LinkedStates.{linked-present, record-unplaced, IsOnWayOf-found}
+pub use Rattle.step_core.proofs.Parts.MarksInHand.{in_hand}
 pub use Rattle.step_core.proofs.Parts.ViewLists.{at-set}
-pub use Rattle.step_core.proofs.Parts.WorldNotes.{last_seen-table, zero-read}
 pub use Rattle.step_core.proofs.Parts.WorldHands.{IsWrittenFor}
 pub use Rattle.step_core.proofs.Parts.WorldLinks.{count-most}
+pub use Rattle.step_core.proofs.Parts.WorldNotes.{last_seen-table, zero-read}
 pub use Rattle.step_core.proofs.Parts.WorldPairs.{HasFirst, HasTree}
-pub use Rattle.step_core.proofs.Parts.WorldSeenPairs.{AreSeenLawfully-all}
+pub use Rattle.step_core.proofs.Parts.WorldRecords.{AreSeenLawfully-all}
 pub use Rattle.step_core.proofs.Seen.DistinctNumbers.{AreDifferent, AreDifferent-after, AreDifferent-few, AreDifferent-within, Contains-cases, Contains-none}
 pub use Rattle.step_core.proofs.Seen.DistinctNumbers.{Contains-within}
 pub use Rattle.step_core.proofs.Seen.LaterWords.{word_at-merged}
 pub use Rattle.step_core.proofs.Seen.Looks.{same_name}
 pub use Rattle.step_core.proofs.Seen.SeenByViews.{IsViewOf-best, WritesWord-look_best, WritesWord-looked, WritesWord-saw, WritesWord-zero}
 pub use Rattle.step_core.proofs.Seen.SeenWays.{IsFree-here, IsOnWay-later}
-pub use Rattle.step_core.proofs.Seen.SeenWords.{point_at-seen, seen-within}
-pub use Rattle.step_core.proofs.Seen.TrueWords.{linked-within}
+pub use Rattle.step_core.proofs.Seen.SeenWords.{point_at-seen, seen-within, linked-within, point_at-linked}
 pub use Rattle.step_core.proofs.Steps.FinishedMarks.{IsTurnWord-packed, IsWorld-recorded}
 pub use Rattle.step_core.proofs.Steps.WorldJoins.{AreBehind-nothing, IsWorld-joined}
-pub use Rattle.step_core.proofs.Steps.WorldLowers.{IsLater-lowered, IsWorld-lowered, lower-found, tree-written}
-pub use Rattle.step_core.proofs.Steps.WorldNodes.{IsLater-link, IsWorld-counted, IsWorld-half, IsWorld-linked, IsWorld-pointed, IsWorld-treed}
+pub use Rattle.step_core.proofs.Steps.WorldNodes.{IsLater-lowered, IsWorld-lowered, lower-found, tree-written, IsLater-link, IsWorld-counted, IsWorld-half}
+pub use Rattle.step_core.proofs.Steps.WorldNodes.{IsWorld-linked, IsWorld-pointed, IsWorld-treed}
 pub use Rattle.step_core.proofs.Steps.WorldPosts.{IsLater-best, IsWorld-best_loaded, IsWorld-posted}
 pub use Rattle.step_core.proofs.Steps.WorldSplits.{IsCut-looker, IsCut-parted, IsWorld-cut, goes_at, stays_at}
 pub use Rattle.step_core.proofs.Steps.WorldStarts.{IsWorld-started}
@@ -56,4 +53,3 @@ pub use Rattle.step_core.specs.Steps.{steps_by}
 pub use Rattle.step_core.specs.Views.{IsViewOf, last_look, last_zero, run_of, run_sizes, sees, setup_in, share, spent, times, took_over, tree_seen}
 pub use Rattle.step_core.specs.Views.{words_of_run}
 pub use Rattle.step_core.specs.Worlds.{Agree, EachView, IsMember, IsRecordWord, IsWorld, SeesBest, SomeSharer, Trees, counters, state_in}
-pub use Rattle.step_core.proofs.Parts.MarksInHand.{in_hand}

@@ -4,9 +4,7 @@ pub mod WorldParts
 pub mod MarksInHand
 pub mod HandsAt
 pub mod WorldLinks
-pub mod LinkedCounts
 pub mod LinkedStates
-pub mod LinkedWays
 pub mod WorldCopies
 pub mod Shifts
 pub mod WorldNotes
@@ -16,6 +14,5 @@ pub mod WorldHands
 pub mod WorldTrees
 pub mod WorldPairs
 pub mod HungNodes
-pub mod WorldSeenPairs
 pub mod WorldRecords
 pub mod LawfulRecords

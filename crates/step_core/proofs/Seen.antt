@@ -2,9 +2,6 @@
 pub mod DistinctNumbers
 pub mod SeenWays
 pub mod SeenWords
-pub mod TrueWords
 pub mod Looks
 pub mod LaterWords
-pub mod PlacedWords
-pub mod SawWords
 pub mod SeenByViews

@@ -2,11 +2,9 @@
 pub mod SteppedWorlds
 pub mod WorldSteps
 pub mod WorldNodes
-pub mod WorldLowers
 pub mod WorldPosts
 pub mod FinishedTurns
 pub mod FinishedMarks
 pub mod WorldSplits
 pub mod WorldJoins
-pub mod StartLinks
 pub mod WorldStarts

@@ -7,18 +7,18 @@ pub use Rattle.grown_runs.proofs.Common.{FollowSeenWays-true, FollowWays, Follow
 pub use Rattle.grown_runs.proofs.Common.{HasLawfulEnding, HasSeenAtLeast, HasSeenAtLeast-refl, HasWord, HasWord-true, HaveSameEarlier, HaveSameTree}
 pub use Rattle.grown_runs.proofs.Common.{HaveWholePairs, HoldRun, IsAllowedEdge, IsBlank, IsBlockedLawfully, IsBounded, IsBounded-stands, IsBounded-word}
 pub use Rattle.grown_runs.proofs.Common.{IsChosenLawfully, IsClosed, IsClosed-same_run, IsCutAt-quota, IsEarlier, IsFirstWord, IsFree, IsFree-ends, IsGoalNode}
-pub use Rattle.grown_runs.proofs.Common.{IsGoalNode-before, IsGoalNode-grows, IsInBoxOf, IsLaterMoment, IsLawfulRecord, IsLawfulRecord-grows, IsLeastBest}
-pub use Rattle.grown_runs.proofs.Common.{IsLinked, IsNeighbour, IsOnWay, IsOnWay-fills, IsOnWay-true, IsOnWay-unique, IsPlacedLawfully, IsPointWord}
-pub use Rattle.grown_runs.proofs.Common.{IsPointWord-packed, IsPresent, IsPresent-goal, IsPresent-grows, IsPresent-stands, IsPresent-true, IsRooted, IsSeen}
-pub use Rattle.grown_runs.proofs.Common.{IsSeen-more, IsSkippedLawfully, IsSteeredLawfully, IsStep-steered, IsTreeWord, IsTreeWord-packed, IsTrueOf, IsTurnWord}
-pub use Rattle.grown_runs.proofs.Common.{IsWritten, KeepsFirstCosts, KeepsFirstCosts-adds, KeepsFirstCosts-closed, KeepsFirstCosts-lowered, KeepsOrLowers}
-pub use Rattle.grown_runs.proofs.Common.{KeepsOrder, KeepsOrder-adds, KeepsOrder-lowered, KeepsSight, LooksAt, LowersCosts, LowersCosts-rewires}
-pub use Rattle.grown_runs.proofs.Common.{LowersCosts-same, MOST_NODES, MOST_WORKERS, MayBecome, MayBecome-both, MayBecome-refl, MayBecome-trans, MayLookAt}
-pub use Rattle.grown_runs.proofs.Common.{NewNode, NoWay, Once, Outcome, Placed, Point, PointOf, Reached, ReachesLawfully, Record, RecordOf, RecordsMark, Rising}
-pub use Rattle.grown_runs.proofs.Common.{Same, SameNode, SeenTree, SeenWords, Setup, SharedTree, Sight, Sizes, Skipped, StandsAt, StandsAt-present}
-pub use Rattle.grown_runs.proofs.Common.{StandsAt-unique, StandsStill, Task, TreeOf, TreeState, Word, WordKind, Words, WritesWord, WritesWord-set, below}
-pub use Rattle.grown_runs.proofs.Common.{best_cost_in, best_node_in, best_word, child_of_word, children_of_words, class_of, class_of-le, cleared, cost-grows}
-pub use Rattle.grown_runs.proofs.Common.{cost_in, cost_in-tree_word, cost_of, cost_of-short, count-all, count-first, count-longer, count-next, count-none}
+pub use Rattle.grown_runs.proofs.Common.{IsGoalNode-before, IsGoalNode-grows, IsLaterMoment, IsLawfulRecord, IsLawfulRecord-grows, IsLeastBest, IsLinked}
+pub use Rattle.grown_runs.proofs.Common.{IsNeighbour, IsOnWay, IsOnWay-fills, IsOnWay-true, IsOnWay-unique, IsPlacedLawfully, IsPointWord, IsPointWord-packed}
+pub use Rattle.grown_runs.proofs.Common.{IsPresent, IsPresent-goal, IsPresent-grows, IsPresent-stands, IsPresent-true, IsRooted, IsSeen, IsSeen-more}
+pub use Rattle.grown_runs.proofs.Common.{IsSkippedLawfully, IsSteeredLawfully, IsStep-steered, IsTreeWord, IsTreeWord-packed, IsTrueOf, IsTurnWord, IsWritten}
+pub use Rattle.grown_runs.proofs.Common.{KeepsFirstCosts, KeepsFirstCosts-adds, KeepsFirstCosts-closed, KeepsFirstCosts-lowered, KeepsOrLowers, KeepsOrder}
+pub use Rattle.grown_runs.proofs.Common.{KeepsOrder-adds, KeepsOrder-lowered, KeepsSight, LooksAt, LowersCosts, LowersCosts-rewires, LowersCosts-same}
+pub use Rattle.grown_runs.proofs.Common.{MOST_NODES, MOST_WORKERS, MayBecome, MayBecome-both, MayBecome-refl, MayBecome-trans, MayLookAt, NewNode, NoWay, Once}
+pub use Rattle.grown_runs.proofs.Common.{Outcome, Placed, Point, PointOf, Reached, ReachesLawfully, Record, RecordOf, RecordsMark, Rising, Same, SameNode}
+pub use Rattle.grown_runs.proofs.Common.{SeenTree, SeenWords, Setup, SharedTree, Sight, Sizes, Skipped, StandsAt, StandsAt-present, StandsAt-unique}
+pub use Rattle.grown_runs.proofs.Common.{StandsStill, Task, TreeOf, TreeState, Word, WordKind, Words, WritesWord, WritesWord-set, below, best_cost_in}
+pub use Rattle.grown_runs.proofs.Common.{best_node_in, best_word, child_of_word, children_of_words, class_of, class_of-le, cleared, cost-grows, cost_in}
+pub use Rattle.grown_runs.proofs.Common.{cost_in-tree_word, cost_of, cost_of-short, count-all, count-first, count-longer, count-next, count-none}
 pub use Rattle.grown_runs.proofs.Common.{count-one_more, count-same, count-single, count-wider, earlier_count, earlier_step, ending_as, first_cost_of}
 pub use Rattle.grown_runs.proofs.Common.{first_cost_through, first_hanging, goes_right, has_node, has_node-present, has_outcome, has_placed, has_word}
 pub use Rattle.grown_runs.proofs.Common.{if_written-set, in_child, is_claimed, is_claimed-below, is_claimed-now, is_claimed-other, is_claimed-past, is_earlier}
@@ -42,8 +42,8 @@ pub use Rattle.grown_runs.specs.declared.grown.Grown.{Grown}
 pub use Rattle.plan_model.proofs.ListMembers.{Contains-after}
 pub use Rattle.plan_model.proofs.SumsBelow.{sum-same}
 pub use Rattle.std.proofs.Common.{Bool, List, None, Option, Some, [], ap, arith, eqb, false, inl, inr, is_some, le_refl, le_trans, length, length-append, map}
-pub use Rattle.std.proofs.Common.{max, min, refl, set, subst, suc, sym, true, zero, zero-le, ℕ, ◌%◌, ◌*◌, ◌++◌, ◌+◌, ◌-◌, ◌/◌, ◌<◌, ◌^◌, ◌∙◌, ◌∷◌, ◌≡◌, ◌≢◌}
-pub use Rattle.std.proofs.Common.{◌≤◌, ◌⊎◌}
+pub use Rattle.std.proofs.Common.{max, refl, set, subst, suc, sym, true, zero, zero-le, ℕ, ◌%◌, ◌*◌, ◌++◌, ◌+◌, ◌-◌, ◌/◌, ◌<◌, ◌^◌, ◌∙◌, ◌∷◌, ◌≡◌, ◌≢◌, ◌≤◌}
+pub use Rattle.std.proofs.Common.{◌⊎◌}
 pub use Rattle.std.proofs.lemmas.Bool.{and_parts, cases_Bool, cases_eq, cases_lt, cases_order, eq-eqb, eqb-false, eqb-true, le-leb, le-ltb, leb-true, lt-leb}
 pub use Rattle.std.proofs.lemmas.Bool.{lt-ltb, ltb-true, ne_eqb}
 pub use Rattle.std.proofs.lemmas.List.{get_or_past, length-map, length-replicate, length-set}
@@ -79,9 +79,9 @@ pub use Rattle.step_core.specs.ViewTrees.{IsCostBelow, IsOnWayOf, IsSeenPair, Is
 pub use Rattle.step_core.specs.ViewTrees.{SeesPoint, SeesTree, sight_in}
 pub use Rattle.step_core.specs.Views.{IsSharedRun, IsViewOf, holds, last_look, last_zero, no_run, run_of, run_sizes, sees, setup_in, share, spent, times}
 pub use Rattle.step_core.specs.Views.{took_over, tree_seen, words_of_run}
-pub use Rattle.step_core.specs.Worlds.{Agree, BestCopy, BestWord, ClaimedMarks, Copies, EachView, Hands, HasCopy, IsBestWord, IsFirstOf, IsMember, IsRecordWord}
-pub use Rattle.step_core.specs.Worlds.{IsTold, IsWorld, LinkedTree, Pairs, Records, SeenBehind, SeenBests, SeenPairs, SeesBest, Shares, SomeSharer, Trees}
-pub use Rattle.step_core.specs.Worlds.{TreesSeen, Turns, counted_once, counters, greatest_limit, hands_at, holders, is_recorded, limit_of, maximum, state_in}
+pub use Rattle.step_core.specs.Worlds.{Agree, BestCopy, BestWord, ClaimedMarks, Copies, EachView, Hands, IsBestWord, IsFirstOf, IsMember, IsRecordWord, IsTold}
+pub use Rattle.step_core.specs.Worlds.{IsWorld, LinkedTree, Pairs, Records, SeenBehind, SeenBests, SeenPairs, SeesBest, Shares, SomeSharer, Trees, TreesSeen}
+pub use Rattle.step_core.specs.Worlds.{Turns, counted_once, counters, greatest_limit, hands_at, holders, is_recorded, limit_of, maximum, state_in}
 pub use Rattle.step_core.specs.declared.views.Hand.{Hand}
 pub use Rattle.step_core.specs.declared.views.Member.{Member}
 pub use Rattle.step_core.specs.declared.views.Note.{Note}

@@ -1,39 +1,81 @@
 -- A view after steps of its own is a later one, and the law of worlds says of each view alone what `IsLawfulView` says.
-use Rattle.step_core.proofs.Words.{◌≡◌, ◌+◌, ◌<◌, ◌≤◌, ◌^◌, ◌∙◌, ◌≢◌, ◌⊎◌, ℕ, suc, true, List, length, Some, refl, sym, ap, subst, inl, inr, arith, le_refl}
-use Rattle.step_core.proofs.Words.{le_trans, get_elem?, some, cases_Bool, cases_eq, IsPresent-goal, best_node_in, point_at, is_of_worker, turns_of, count-same}
-use Rattle.step_core.proofs.Words.{IsBounded, FollowWays, children_of_words, is_linked, record_at, point_word, record_of_word, AreBehind, MayBecome, WordKind}
-use Rattle.step_core.proofs.Words.{kind_of, Rising, Once, Falling, Apart, Word, Words, WritesWord, Best, ChildOf, Count, Counter, FirstOf, PointOf, RecordOf}
-use Rattle.step_core.proofs.Words.{TreeOf, HasWord, AreBehind-refl, AreBehind-trans, linked_points, MayLoad, SeesTree, HasLooked, IsLater, IsLawfulView}
-use Rattle.step_core.proofs.Words.{claimed, finished, joined, loaded, parted, saw, stepped, without_second, IsSharedRun, IsViewOf, last_look, last_zero}
-use Rattle.step_core.proofs.Words.{run_sizes, sees, share, IsWorld, greatest_limit, Hand, Member, SharedRun, View}
-use Rattle.step_core.proofs.Seen.Looks.{same_name}
-use Rattle.step_core.proofs.OneView.LawfulPairs.{IsSeenPair-lawful}
-use Rattle.step_core.proofs.OneView.LaterSteps.{IsLater-on}
-use Rattle.step_core.proofs.OneView.LawfulSights.{AreDistinct-seen, FollowSeenWays-seen, SeesNode-within, SeesPoint-start, is_linked-seen}
+use Rattle.step_core.proofs.Words.{◌<◌, ◌≤◌, ◌∷◌, ◌∙◌, ℕ, Bool, List, length, Option, Some, refl, ap, inl, inr, arith, Point, ChildOf, Count, AreBehind-refl}
+use Rattle.step_core.proofs.Words.{IsLater, counted, half, linked, place_in, pointed, stepped, treed, IsViewOf, last_look, last_zero, sees, Hand, Member, Note}
+use Rattle.step_core.proofs.Words.{SharedRun, Counted, Half, Pointed, Treed, View, ◌≡◌, ◌+◌, ◌^◌, ◌≢◌, ◌⊎◌, suc, true, sym, subst, le_refl, le_trans, get_elem?}
+use Rattle.step_core.proofs.Words.{some, cases_Bool, cases_eq, IsPresent-goal, best_node_in, point_at, is_of_worker, turns_of, count-same, IsBounded}
+use Rattle.step_core.proofs.Words.{FollowWays, children_of_words, is_linked, record_at, point_word, record_of_word, AreBehind, MayBecome, kind_of, Once, Apart}
+use Rattle.step_core.proofs.Words.{Word, Words, WritesWord, Best, Counter, FirstOf, RecordOf, HasWord, AreBehind-trans, linked_points, MayLoad, SeesTree}
+use Rattle.step_core.proofs.Words.{HasLooked, IsLawfulView, claimed, finished, joined, loaded, parted, saw, without_second, IsSharedRun, run_sizes, share}
+use Rattle.step_core.proofs.Words.{IsWorld, greatest_limit}
+use Rattle.step_core.proofs.OneView.LinkedViews.{AreBehind-shown, MayShow, WritesWord-look_linked, WritesWord-zero_linked, sees-linked}
+use Rattle.step_core.proofs.Seen.Looks.{same_name, AreBehind-write}
+use Rattle.step_core.proofs.OneView.LawfulSights.{IsSeenPair-lawful, AreDistinct-seen, FollowSeenWays-seen, SeesNode-within, SeesPoint-start, is_linked-seen}
 use Rattle.step_core.proofs.Parts.LinkedStates.{few_nodes, first_cost-linked, linked-present}
 use Rattle.step_core.proofs.Parts.MarksInHand.{greatest_limit-most, in_hand}
-use Rattle.step_core.proofs.Seen.SawWords.{AreBehind-write}
-use Rattle.step_core.proofs.Seen.TrueWords.{linked-within}
+use Rattle.step_core.proofs.Seen.SeenWords.{linked-within, told-own, MayBecome-zero}
 use Rattle.step_core.proofs.Seen.SeenByViews.{WritesWord-looked, WritesWord-saw, WritesWord-zero, last_zero-other}
 use Rattle.step_core.proofs.Parts.ViewLists.{sum-one}
-use Rattle.step_core.proofs.Whole.WholeShares.{turn-below, worker-below}
-use Rattle.step_core.proofs.Whole.WholeTrees.{KeepsOrder-whole}
-use Rattle.step_core.proofs.Parts.WorldParts.{quota-most, record_word-none, worker-own}
+use Rattle.step_core.proofs.Whole.WholeCopies.{turn-below, worker-below, KeepsOrder-whole}
+use Rattle.step_core.proofs.Parts.WorldParts.{quota-most, record_word-none}
 use Rattle.step_core.proofs.Steps.WorldJoins.{AreBehind-joined}
 use Rattle.step_core.proofs.Parts.WorldLinks.{count-most, unlinked-held}
 use Rattle.step_core.proofs.Steps.WorldSteps.{HasWord-load, follow, live, tree}
 
--- ---- later views
+-- ---- steps on the node in hand
 
--- only 0 may become 0
-pub MayBecome-zero : (kind : WordKind) → kind ≢ Apart → (word : ℕ) → MayBecome kind word 0 → word ≡ 0
-MayBecome-zero Rising told word may = omega (arith, may)
-MayBecome-zero Once told word (inl none) = none
-MayBecome-zero Once told word (inr none) = none
-MayBecome-zero Falling told word (inl none) = none
-MayBecome-zero Falling told word (inr (inl none)) = none
-MayBecome-zero Falling told word (inr (inr fell)) = absurd (omega (arith, fell.0))
-MayBecome-zero Apart told word may = absurd (told refl)
+-- a step that looks at no word, whatever it makes of the crew and the hand, and whatever it notes
+pub IsLater-on :
+    (view : View) (crew : List Member) (next : Option Hand) (notes : List Note)
+    → IsLater view (record (stepped view) { crew = crew; hand = next; notes = notes })
+IsLater-on view crew next notes = record {
+  run = refl;
+  seen = AreBehind-refl (sees view);
+  best = omega arith;
+  steps = omega arith;
+  looked = λ name. inl refl;
+  zero_found = λ name told. inl refl;
+}
+
+pub IsLater-pointed : (view : View) (hand : Hand) (m : ℕ) (p : Point) → IsLater view (pointed view hand m p)
+IsLater-pointed view hand m p = IsLater-on view view.crew (Some (record hand { stage = Pointed; nearest = m; point = p })) view.notes
+
+pub IsLater-half : (view : View) (hand : Hand) (parent cost : ℕ) → IsLater view (half view hand parent cost)
+IsLater-half view hand parent cost = IsLater-on view view.crew (Some (record hand { stage = Half; parent = parent; cost = cost })) view.notes
+
+pub IsLater-treed : (view : View) (hand : Hand) → IsLater view (treed view hand)
+IsLater-treed view hand = IsLater-on view view.crew (Some (record hand { stage = Treed })) view.notes
+
+pub IsLater-counted : (view : View) (hand : Hand) (count : ℕ) (steps : List ℕ) → IsLater view (counted view hand count steps)
+IsLater-counted view hand count steps =
+    let note : Note = record { place = place_in view Count; word = count; steps = steps } in
+    IsLater-on view view.crew (Some (record hand { stage = Counted })) (note ∷ view.notes)
+
+-- if no child was seen where the node is linked, and no other words of it
+pub IsLater-linked :
+    (run : SharedRun) (view : View) → IsViewOf run view → (hand : Hand) (n : ℕ) (side : Bool) → n ≤ length run.marks → hand.mark < length run.marks
+    → MayShow n side hand (sees view) → (noted : List ℕ) → IsLater view (linked view hand n side noted)
+IsLater-linked run view of_run hand n side within low may noted =
+    let then : View = linked view hand n side noted in
+    let looks = WritesWord-look_linked run view of_run hand n side within low in
+    let zeros = WritesWord-zero_linked run view of_run hand n side within low in
+    record {
+      run = refl;
+      seen = AreBehind-shown (sees-linked run view of_run hand n side within low) may;
+      best = omega arith;
+      steps = omega arith;
+      looked = λ name.
+          elim (same_name name (ChildOf n side)) [
+            | inl e ↦ inr (omega (arith, ap (last_look then) e, looks.here))
+            | inr apart ↦ inl (looks.others name apart)
+          ];
+      zero_found = λ name told.
+          elim (same_name name (ChildOf n side)) [
+            | inl e ↦ inr (omega (arith, ap (last_zero then) e, zeros.here), ap (sees view) e ∙ may.child)
+            | inr apart ↦ inl (zeros.others name apart)
+          ];
+    }
+
+-- ---- later views
 
 pub IsLater-refl : (view : View) → IsLater view view
 IsLater-refl view = record {
@@ -131,13 +173,7 @@ module _ (run : SharedRun) (words : Words) (views : List View) (id : ℕ) (view 
   -- the best word is loaded by a step of its own
   loads-kind : (loader : View) (name : Word) → MayLoad loader name → kind_of name ≢ Apart
   loads-kind loader Best may = absurd may
-  loads-kind loader Count may = λ e. cc
-  loads-kind loader (Counter g) may = λ e. cc
-  loads-kind loader (PointOf n) may = λ e. cc
-  loads-kind loader (ChildOf n side) may = λ e. cc
-  loads-kind loader (TreeOf n) may = λ e. cc
-  loads-kind loader (FirstOf n) may = λ e. cc
-  loads-kind loader (RecordOf k) may = λ e. cc
+  loads-kind loader name may = λ e. cc
 
   -- a load
   pub IsLater-loaded : (name : Word) → MayLoad view name → IsLater view (loaded view name (words name))
@@ -182,7 +218,7 @@ module _ (run : SharedRun) (words : Words) (views : List View) (id : ℕ) (view 
       elim (world.seen.behind id view at (RecordOf k)) [
         | inr same ↦
             ap (λ w. is_of_worker member.worker (record_of_word w (sees view (FirstOf (suc k))))) same
-            ∙ worker-own member.worker (words (RecordOf k)) (sees view (FirstOf (suc k))) (words (FirstOf (suc k)))
+            ∙ told-own (is_of_worker member.worker) (λ word first other. refl) (words (RecordOf k)) (sees view (FirstOf (suc k))) (words (FirstOf (suc k)))
         | inl unseen ↦
             ap (λ w. is_of_worker member.worker (record_of_word w (sees view (FirstOf (suc k))))) unseen
             ∙ elim (cases_Bool (is_of_worker member.worker (record_at words k))) [
@@ -219,7 +255,7 @@ module _ (run : SharedRun) (words : Words) (views : List View) (id : ℕ) (view 
     unseen = λ hand held not_yet seen.
         let here = is_linked-seen view words behind sees_tree ways (suc hand.mark) seen in
         let linked = subst (λ r. is_linked (run_sizes r) words (suc hand.mark) ≡ true) own here in
-        let no = sym (unlinked-held run words words views id view view at world.numbers world.links hand held not_yet) ∙ linked in
+        let no = sym (unlinked-held world id view at hand held not_yet) ∙ linked in
         cc;
     start = SeesPoint-start view words behind sees_tree ways (world.links.start ∙ sym (ap (λ r. point_word r.start) own))
         (subst (λ r. IsBounded r.start) (sym own) world.run_is.start);

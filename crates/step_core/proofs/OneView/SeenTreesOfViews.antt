@@ -1,34 +1,32 @@
 -- A view still sees its tree after a step of its own: from node 0 on, with the nodes that it has placed, and the node in its hand.
 use Rattle.step_core.proofs.Words.{◌≡◌, ◌≢◌, ◌+◌, ◌<◌, ◌≤◌, ◌^◌, [], ◌∙◌, ℕ, suc, Bool, true, List, length, Some, None, refl, sym, ap, subst, inl, inr, arith}
-use Rattle.step_core.proofs.Words.{is_some, same_Some, IsBounded, is_placed, IsPresent, IsRooted, Point, Record, child_of_word, has_node, has_placed, MayLookAt}
-use Rattle.step_core.proofs.Words.{AreBehind, MayBecome, Falling, Word, Words, WritesWord, Count, Best, Counter, PointOf, ChildOf, TreeOf, FirstOf, RecordOf}
-use Rattle.step_core.proofs.Words.{HasWord, FitsWord, point_of_word, point_word, record_of_word, record_word, tree_word, point_of_word-packed, AreBehind-refl}
-use Rattle.step_core.proofs.Words.{IsUnskipped, MayBeRecorded, has_link, has_point, claimed, finished, linked, loaded, looker, lowered, mark_of, new_hand}
-use Rattle.step_core.proofs.Words.{pair_in_hand, parted, pointed, second_alone, stepped, unlooked, without_second, worker_apart, SeesHand, IsSteered, LeadsTo}
-use Rattle.step_core.proofs.Words.{MayLoad, SeesNode, SeesPoint, SeesTree, IsViewOf, run_sizes, sees, tree_seen, Hand, Member, Note, SharedRun, Stage, Linked}
-use Rattle.step_core.proofs.Words.{Pointed, Posted, Treed, View}
-use Rattle.step_core.proofs.OneView.LinkedViews.{AreBehind-child, AreBehind-first, AreBehind-point, AreBehind-shown, AreBehind-tree, MayShow, ShowsNode}
-use Rattle.step_core.proofs.OneView.LinkedViews.{WritesWord-child, WritesWord-first, WritesWord-point, WritesWord-tree, child_shown, pair_shown, point_shown}
-use Rattle.step_core.proofs.OneView.LinkedViews.{sees-linked}
-use Rattle.step_core.proofs.Seen.Looks.{same_name}
-use Rattle.step_core.proofs.Seen.PlacedWords.{has_node-same, has_placed-record_word}
-use Rattle.step_core.proofs.Seen.SawWords.{AreBehind-write}
+use Rattle.step_core.proofs.Words.{is_some, same_Some, IsBounded, is_placed, IsPresent, Point, Record, has_node, has_placed, MayLookAt, AreBehind, MayBecome}
+use Rattle.step_core.proofs.Words.{Falling, Word, Words, WritesWord, Count, Best, Counter, PointOf, TreeOf, FirstOf, RecordOf, HasWord, FitsWord, point_of_word}
+use Rattle.step_core.proofs.Words.{record_of_word, record_word, tree_word, point_of_word-packed, AreBehind-refl, IsUnskipped, MayBeRecorded, has_link}
+use Rattle.step_core.proofs.Words.{has_point, claimed, finished, linked, loaded, looker, lowered, mark_of, new_hand, parted, pointed, second_alone, stepped}
+use Rattle.step_core.proofs.Words.{unlooked, without_second, worker_apart, SeesHand, IsSteered, LeadsTo, MayLoad, SeesNode, SeesTree, IsViewOf, run_sizes, sees}
+use Rattle.step_core.proofs.Words.{tree_seen, Hand, Member, Note, SharedRun, Stage, Linked, Pointed, Posted, Treed, View, ◌⊎◌, point_of, IsRooted, IsSeen}
+use Rattle.step_core.proofs.Words.{SeenTree, IsPresent-stands, StandsAt-present, IsSeen-more, child_of_word, seen_tree_of_words, kind_of, ChildOf, Sizes}
+use Rattle.step_core.proofs.Words.{tree_of_word, joined, words_of_run, zero, IsSome, cases_Bool, Task, IsOnWay, goes_right, last_step, not_empty, way_start}
+use Rattle.step_core.proofs.Words.{HoldRun, children_of_words, points_of_words, run_words, sizes_of, has_node-present, point_of_word-stands, present-within}
+use Rattle.step_core.proofs.Words.{node_present, newcomer, run_of}
+use Rattle.step_core.proofs.OneView.LinkedViews.{AreBehind-shown, MayShow, ShowsNode, sees-linked, IsRooted-shown}
+use Rattle.step_core.proofs.Seen.Looks.{same_name, AreBehind-write, IsRooted-write}
+use Rattle.step_core.proofs.Seen.SeenWords.{has_node-same, has_placed-record_word, point_at-seen, HasSeenAtLeast-words, seen-within}
 use Rattle.step_core.proofs.Seen.SeenByViews.{WritesWord-saw}
-use Rattle.step_core.proofs.OneView.SeenViews.{SeesHand-later, IsPresent-later, IsRooted-write, SeesPoint-later, first-later}
-use Rattle.step_core.proofs.Seen.SeenWords.{point_at-seen}
+use Rattle.step_core.proofs.OneView.SeenViews.{SeesHand-later, IsPresent-later, SeesPoint-later, first-later}
+use Rattle.step_core.proofs.Seen.LaterWords.{later_word-either, word_at-merged}
 
 -- ---- a step on one word
 
 -- what may be loaded may be looked at
 MayLookAt-load : (view : View) (name : Word) → MayLoad view name → MayLookAt (tree_seen view) name
 MayLookAt-load view Count may = tt
-MayLookAt-load view Best may = absurd may
 MayLookAt-load view (Counter g) may = tt
-MayLookAt-load view (PointOf n) may = may
-MayLookAt-load view (ChildOf n side) may = may
-MayLookAt-load view (TreeOf n) may = may
+MayLookAt-load view Best may = absurd may
 MayLookAt-load view (FirstOf n) may = absurd may
 MayLookAt-load view (RecordOf k) may = absurd may
+MayLookAt-load view name may = may
 
 -- no record may be loaded
 no_record : (view : View) (name : Word) → MayLoad view name → (k : ℕ) → RecordOf k ≢ name
@@ -195,10 +193,6 @@ SeesTree-finished run view of_run tree hand held low none entry fits may =
 
 -- ---- a link
 
--- the node is seen at its point
-point_shown_at : (view : View) (m : ℕ) (p : Point) → sees view (PointOf m) ≡ point_word p → IsBounded p → m ≤ length view.run.marks → SeesPoint view m p
-point_shown_at view m p is bounded within = point_at-seen (run_sizes view.run) (sees view) m within ∙ ap point_of_word is ∙ point_of_word-packed p bounded
-
 -- After a link the node is seen too, if what was seen allows it.
 pub SeesTree-linked :
     (run : SharedRun) (view : View) → IsViewOf run view → SeesTree view → (hand : Hand) → view.hand ≡ Some hand → hand.stage ≡ Treed
@@ -207,32 +201,11 @@ pub SeesTree-linked :
 SeesTree-linked run view of_run tree hand held stage low bounded n side within leads may noted =
     let then : View = linked view hand n side noted in
     let m : ℕ = suc hand.mark in
-    let one : View = child_shown run view of_run hand n side within low in
-    let two : View = point_shown run view of_run hand n side within low in
-    let three : View = pair_shown run view of_run hand n side within low in
     let shows : ShowsNode n side hand (sees view) (sees then) = sees-linked run view of_run hand n side within low in
-    let child : WritesWord (ChildOf n side) m (sees view) (sees one) = WritesWord-child run view of_run hand n side within low in
-    let point : WritesWord (PointOf m) (point_word hand.point) (sees one) (sees two) = WritesWord-point run view of_run hand n side within low in
-    let pair : WritesWord (TreeOf m) (pair_in_hand hand) (sees two) (sees three) = WritesWord-tree run view of_run hand n side within low in
-    let first : WritesWord (FirstOf m) (pair_in_hand hand) (sees three) (sees then) = WritesWord-first run view of_run hand n side within low in
-    let go = AreBehind-shown run view of_run hand n side within low may in
-    let above = tree.rooted.points n (ap is_some leads.stands) in
-    let rooted : IsRooted (tree_seen one) =
-    IsRooted-write (run_sizes view.run) (ChildOf n side) m (sees view) (sees one) child (AreBehind-child run view of_run hand n side within low may) above
-    tree.rooted in
-    let below : SeesNode one m = inr (n, side, ap child_of_word child.here) in
-    let rooted_too : IsRooted (tree_seen two) =
-    IsRooted-write (run_sizes view.run) (PointOf m) (point_word hand.point) (sees one) (sees two) point
-    (AreBehind-point run view of_run hand n side within low may) below rooted in
-    let below_too : SeesNode two m = inr (n, side, ap child_of_word (point.others (ChildOf n side) (λ e. cc) ∙ child.here)) in
-    let rooted_pair : IsRooted (tree_seen three) =
-    IsRooted-write (run_sizes view.run) (TreeOf m) (pair_in_hand hand) (sees two) (sees three) pair
-    (AreBehind-tree run view of_run hand n side within low may) below_too rooted_too in
+    let go = AreBehind-shown shows may in
     let node = SeesHand-later view then refl go hand (tree.holds hand held) in
     record {
-      rooted =
-          IsRooted-write (run_sizes view.run) (FirstOf m) (pair_in_hand hand) (sees three) (sees then) first
-          (AreBehind-first run view of_run hand n side within low may) tt rooted_pair;
+      rooted = IsRooted-shown shows (run_sizes view.run) go tree.rooted (tree.rooted.points n (ap is_some leads.stands));
       placed = λ k. placed_still view then refl go tree k (shows.others (RecordOf k) (λ e. cc) (λ e. cc) (λ e. cc) (λ e. cc));
       placed_first = λ k. first_still view then refl go tree k (shows.others (RecordOf k) (λ e. cc) (λ e. cc) (λ e. cc) (λ e. cc));
       holds = holds_one then (record hand { stage = Linked }) record {
@@ -242,7 +215,8 @@ SeesTree-linked run view of_run tree hand held stage low bounded n side within l
         other = λ on. node.other (ap has_point stage);
         unskipped = λ on. node.unskipped (ap has_point stage);
         shown = λ on.
-            point_shown_at then m hand.point shows.point bounded (subst (λ r. m ≤ length r.marks) (sym of_run.run_is) (omega (arith, low)));
+            point_at-seen (run_sizes then.run) (sees then) m (subst (λ r. m ≤ length r.marks) (sym of_run.run_is) (omega (arith, low)))
+            ∙ ap point_of_word shows.point ∙ point_of_word-packed hand.point bounded;
         first_shown = λ on. omega (arith, shows.first);
         posted = λ is. cc;
       };
@@ -274,3 +248,159 @@ module _ (view : View) (tree : SeesTree view) where
 
   pub SeesTree-apart : SeesTree (worker_apart view)
   SeesTree-apart = SeesTree-new view (second_alone view.crew) tree
+
+-- ---- what two views have seen
+
+-- each word is as the one or the other table has it
+abbrev pub AreOfEither : Words → Words → Words → Type 0
+AreOfEither one other both = (name : Word) → (both name ≡ one name) ⊎ (both name ≡ other name)
+
+module _ (sizes : Sizes) (one other both : Words) (first : AreBehind one both) (second : AreBehind other both) (either : AreOfEither one other both)
+    (own : IsRooted (seen_tree_of_words sizes one)) (also : IsRooted (seen_tree_of_words sizes other)) where
+  abbrev all : SeenTree
+  all = seen_tree_of_words sizes both
+
+  seen_first : (n : ℕ) → IsSeen (seen_tree_of_words sizes one) n → IsSeen all n
+  seen_first = IsSeen-more (seen_tree_of_words sizes one) all (HasSeenAtLeast-words sizes one both first)
+
+  seen_second : (n : ℕ) → IsSeen (seen_tree_of_words sizes other) n → IsSeen all n
+  seen_second = IsSeen-more (seen_tree_of_words sizes other) all (HasSeenAtLeast-words sizes other both second)
+
+  children_seen : (a n : ℕ) (side : Bool) → all.child a side ≡ Some n → IsSeen all a
+  children_seen a n side h =
+      elim (either (ChildOf a side)) [
+        | inl e ↦ seen_first a (own.children a n side (ap child_of_word (sym e) ∙ h))
+        | inr e ↦ seen_second a (also.children a n side (ap child_of_word (sym e) ∙ h))
+      ]
+
+  points_seen : (n : ℕ) → IsPresent all.points n → IsSeen all n
+  points_seen n h =
+      let within = seen-within sizes both n h in
+      let here = sym (ap is_some (point_at-seen sizes both n within)) ∙ h in
+      elim (either (PointOf n)) [
+        | inl e ↦ seen_first n (own.points n (ap is_some (point_at-seen sizes one n within) ∙ ap (λ w. is_some (point_of_word w)) (sym e) ∙ here))
+        | inr e ↦ seen_second n (also.points n (ap is_some (point_at-seen sizes other n within) ∙ ap (λ w. is_some (point_of_word w)) (sym e) ∙ here))
+      ]
+
+  -- What each saw from node 0 on, both see so.
+  IsRooted-either : IsRooted all
+  IsRooted-either = record {
+    start =
+        let was = (seen_tree_of_words sizes one).points in
+        IsPresent-stands all.points 0 (point_of was 0)
+        ((HasSeenAtLeast-words sizes one both first).places.nodes 0 (point_of was 0) (StandsAt-present was 0 own.start));
+    children = children_seen;
+    points = points_seen;
+    pairs = λ n h.
+        elim (either (TreeOf n)) [
+          | inl e ↦ seen_first n (own.pairs n (ap (λ w. is_some (tree_of_word w)) (sym e) ∙ h))
+          | inr e ↦ seen_second n (also.pairs n (ap (λ w. is_some (tree_of_word w)) (sym e) ∙ h))
+        ];
+  }
+
+module _ (view other : View) (same : other.run ≡ view.run) where
+  abbrev both : View
+  both = joined view other
+
+  pub sees-either : AreOfEither (sees view) (sees other) (sees both)
+  sees-either name =
+      let merged = word_at-merged (run_sizes view.run) view.seen other.seen name in
+      let theirs = ap (λ run. words_of_run run other.seen name) (sym same) in
+      elim (later_word-either (kind_of name) (sees view name) (words_of_run view.run other.seen name)) [
+        | inl e ↦ inl (merged ∙ e)
+        | inr e ↦ inr (merged ∙ e ∙ theirs)
+      ]
+
+  -- After a join, with no hand, a view sees what either saw, and so its tree.
+  pub SeesTree-joined : AreBehind (sees view) (sees both) → AreBehind (sees other) (sees both) → view.hand ≡ None → SeesTree view → SeesTree other
+      → SeesTree both
+  SeesTree-joined first second idle tree also = record {
+    rooted =
+        IsRooted-either (run_sizes view.run) (sees view) (sees other) (sees both) first second sees-either tree.rooted
+        (subst (λ run. IsRooted (seen_tree_of_words (run_sizes run) (sees other))) same also.rooted);
+    placed = λ k h.
+        elim (sees-either (RecordOf k)) [
+          | inl e ↦ IsPresent-later view both refl first (suc k) (tree.placed k (sym (has_node-same (sees view) (sees both) k e) ∙ h))
+          | inr e ↦ IsPresent-later other both (sym same) second (suc k) (also.placed k (sym (has_node-same (sees other) (sees both) k e) ∙ h))
+        ];
+    placed_first = λ k h.
+        elim (sees-either (RecordOf k)) [
+          | inl e ↦ first-later view both refl first (suc k) (tree.placed_first k (sym (has_node-same (sees view) (sees both) k e) ∙ h))
+          | inr e ↦ first-later other both (sym same) second (suc k) (also.placed_first k (sym (has_node-same (sees other) (sees both) k e) ∙ h))
+        ];
+    holds = λ hand held. (let none = sym idle ∙ held in cc);
+  }
+
+-- ---- the first view of a run
+
+module _ (task : Task) (limit : ℕ) (words : Words) (held : HoldRun task limit words) where
+  abbrev sizes : Sizes
+  sizes = sizes_of task
+
+  abbrev held_tree : SeenTree
+  held_tree = seen_tree_of_words sizes words
+
+  -- a node is shown at its point
+  point_held : (n : ℕ) → has_node words n ≡ true → IsPresent held_tree.points n
+  point_held n h =
+      let points = points_of_words sizes words in
+      let here = node_present task limit words held n h in
+      ap is_some (point_at-seen sizes words n (present-within sizes words n here)
+      ∙ point_of_word-stands sizes words n (point_of points n) (StandsAt-present points n here))
+
+  -- and is the child that its way comes to
+  seen_on_way : (q : Point) (depth n : ℕ) → IsOnWay (children_of_words words) (points_of_words sizes words) q depth n → IsSeen held_tree n
+  seen_on_way q zero n way = inl (way_start (children_of_words words) (points_of_words sizes words) q n way)
+  seen_on_way q (suc depth) n way =
+      let step = last_step (children_of_words words) (points_of_words sizes words) q depth n way in
+      inr (step.node, goes_right depth step.point q, step.link)
+
+  node_held : (n : ℕ) → has_node words n ≡ true → IsSeen held_tree n
+  node_held n h =
+      let points = points_of_words sizes words in
+      let way = held.ways.on_way n (point_of points n) (StandsAt-present points n (node_present task limit words held n h)) in
+      seen_on_way (point_of points n) way.0 n way.1
+
+  -- a number without a node has nothing to be seen
+  children_held : (a n : ℕ) (side : Bool) → held_tree.child a side ≡ Some n → IsSeen held_tree a
+  children_held a n side h =
+      elim (cases_Bool (has_node words a)) [
+        | inl node ↦ node_held a node
+        | inr gone ↦ (
+            let none = held.ways.empty a side (λ here. let no = sym gone ∙ has_node-present sizes words a here in cc) in
+            absurd (not_empty (children_of_words words) a n side none h))
+      ]
+
+  points_held : (n : ℕ) → IsPresent held_tree.points n → IsSeen held_tree n
+  points_held n h =
+      elim (cases_Bool (has_node words n)) [
+        | inl node ↦ node_held n node
+        | inr gone ↦ (
+            let none = point_at-seen sizes words n (seen-within sizes words n h) ∙ ap point_of_word (held.blank n gone).point in
+            let no = sym h ∙ ap is_some none in
+            cc)
+      ]
+
+  pairs_held : (n : ℕ) → IsSome (held_tree.parent_and_cost n) → IsSeen held_tree n
+  pairs_held n h =
+      elim (cases_Bool (has_node words n)) [
+        | inl node ↦ node_held n node
+        | inr gone ↦ (let no = sym h ∙ ap (λ w. is_some (tree_of_word w)) (held.blank n gone).tree in cc)
+      ]
+
+-- All of a closed run is seen from node 0 on, and so the first view sees its tree.
+pub SeesTree-started : (task : Task) (limit workers : ℕ) (items : List ℕ) → HoldRun task limit (run_words task items)
+    → SeesTree (newcomer (run_of task workers limit) items)
+SeesTree-started task limit workers items held =
+    let words : Words = run_words task items in
+    record {
+      rooted = record {
+        start = point_held task limit words held 0 refl;
+        children = children_held task limit words held;
+        points = points_held task limit words held;
+        pairs = pairs_held task limit words held;
+      };
+      placed = λ k. point_held task limit words held (suc k);
+      placed_first = λ k h. omega (arith, (held.written (suc k) (node_present task limit words held (suc k) h)).first);
+      holds = λ hand e. cc;
+    }

@@ -2,9 +2,9 @@
 use Rattle.step_core.proofs.Words.{◌≡◌, ◌≢◌, ◌+◌, ◌≤◌, [], ◌∷◌, ◌∙◌, ◌==◌, ◌&&◌, ℕ, Bool, true, false, List, set, Option, Some, None, refl, sym, ap, inl, inr}
 use Rattle.step_core.proofs.Words.{arith, cases_eq, eq-eqb, ne_eqb, sum_by-cons, some, get_elem?, is_claimed, once_if, Word, Words, holds_at, new_hand, holds}
 use Rattle.step_core.proofs.Words.{ClaimedMarks, counters, hands_at, holders, is_recorded, Hand, SharedRun, Stage, Claimed, View, IsMoment, Moment, PointOf}
-use Rattle.step_core.proofs.Words.{FirstOf, TreeOf, has_point, has_first, has_tree, suc}
-use Rattle.step_core.proofs.Parts.MarksInHand.{once_if-false, once_if-most}
-use Rattle.step_core.proofs.Parts.Shifts.{IsShift, Shift, at-then, later_views}
+use Rattle.step_core.proofs.Words.{FirstOf, TreeOf, has_point, has_first, has_tree, suc, is_some}
+use Rattle.step_core.proofs.Parts.MarksInHand.{once_if-false, once_if-most, in_hand}
+use Rattle.step_core.proofs.Parts.Shifts.{IsShift, Shift, at-then, later_views, sum-later}
 use Rattle.step_core.proofs.Parts.ViewLists.{sum-one, sum-set, sum-two}
 
 -- ---- one hand
@@ -55,6 +55,28 @@ hands_at-most test k (view ∷ views) =
       sum_by-cons (λ u. once_if (holds k u.hand)) view views,
     )
 
+-- As many have come so far by a test as by another that each stage passes which passes the one.
+pub hands_at-less :
+    (test more : Stage → Bool) → ((stage : Stage) → once_if (test stage) ≤ once_if (more stage)) → (k : ℕ) (views : List View)
+    → hands_at test k views ≤ hands_at more k views
+hands_at-less test more less k [] = omega arith
+hands_at-less test more less k (view ∷ views) =
+    omega (
+      arith,
+      by_hand view.hand,
+      hands_at-less test more less k views,
+      sum_by-cons (λ u. once_if (holds_at test k u.hand)) view views,
+      sum_by-cons (λ u. once_if (holds_at more k u.hand)) view views,
+    )
+  where
+    by_test : (stage : Stage) (b : Bool) → once_if (b && test stage) ≤ once_if (b && more stage)
+    by_test stage true = less stage
+    by_test stage false = omega arith
+
+    by_hand : (o : Option Hand) → once_if (holds_at test k o) ≤ once_if (holds_at more k o)
+    by_hand None = omega arith
+    by_hand (Some hand) = by_test hand.stage (hand.mark == k)
+
 module _ (run : SharedRun) (words : Words) (views : List View) (numbers : ClaimedMarks run words views) where
   -- a mark is in one hand at most, and then it is not recorded
   pub holders-most : (k : ℕ) → once_if (is_recorded words k) + holders k views ≤ 1
@@ -90,13 +112,7 @@ IsBlank test own words views = (k : ℕ) → is_recorded words k ≡ false → h
 module _ {now : Moment} (is : IsMoment now) {hand : Hand} (held : now.view.hand ≡ Some hand) where
   -- it is not recorded,
   pub unrecorded-held : is_recorded now.words hand.mark ≡ false
-  unrecorded-held =
-      once_if-false (is_recorded now.words hand.mark) (omega (
-        arith,
-        holders-most now.run now.words now.views is.world.numbers hand.mark,
-        sum-one (λ u. once_if (holds hand.mark u.hand)) now.views now.id now.view is.at,
-        ap once_if (ap (holds hand.mark) held ∙ eq-eqb hand.mark hand.mark refl),
-      ))
+  unrecorded-held = ap is_some (in_hand now.run now.words now.views now.id now.view is.world is.at hand held).absent
 
   -- and nobody else has it.
   pub alone-held : (i : ℕ) (other : View) (own : Hand) → i ≢ now.id → get_elem? now.views i ≡ some other → other.hand ≡ Some own → own.mark ≢ hand.mark
@@ -134,9 +150,8 @@ module _ {s : Shift} (is : IsShift s) (test : Stage → Bool) (own : ℕ → Wor
       → IsBlank test own s.after (later_views s)
   IsBlank-step stays recorded same k none no_hand =
       let none_before = sym (recorded k) ∙ none in
-      let no_hand_before : hands_at test k s.now.views ≡ 0 =
-      omega (arith, no_hand, sum-set (λ u. once_if (holds_at test k u.hand)) s.now.views s.now.id s.now.view s.then is.moment.at, ap once_if (same k)) in
-      stays k none_before no_hand_before ∙ blank k none_before no_hand_before
+      let none_held : hands_at test k s.now.views ≡ 0 = omega (arith, no_hand, sum-later is (λ u. once_if (holds_at test k u.hand)), ap once_if (same k)) in
+      stays k none_before none_held ∙ blank k none_before none_held
 
   module _ (hand : Hand) (held : s.now.view.hand ≡ Some hand) where
     -- a record of its mark
@@ -152,7 +167,7 @@ module _ {s : Shift} (is : IsShift s) (test : Stage → Bool) (own : ℕ → Wor
               let no_hand_before : hands_at test k s.now.views ≡ 0 = omega (
                 arith,
                 no_hand,
-                sum-set (λ u. once_if (holds_at test k u.hand)) s.now.views s.now.id s.now.view s.then is.moment.at,
+                sum-later is (λ u. once_if (holds_at test k u.hand)),
                 ap once_if (ap (holds_at test k) idle),
                 ap once_if (holds_at-other test k s.now.view.hand hand held apart),
               ) in
@@ -175,7 +190,7 @@ module _ {s : Shift} (is : IsShift s) (test : Stage → Bool) (own : ℕ → Wor
           | inr apart ↦ stays k apart ∙ blank k (sym (recorded k) ∙ none) (omega (
             arith,
             no_hand,
-            sum-set (λ u. once_if (holds_at test k u.hand)) s.now.views s.now.id s.now.view s.then is.moment.at,
+            sum-later is (λ u. once_if (holds_at test k u.hand)),
             ap once_if (holds_at-other test k s.then.hand next now (λ e. apart (e ∙ same))),
             ap once_if (holds_at-other test k s.now.view.hand hand held apart),
           ))

@@ -4,10 +4,16 @@ use Rattle.step_core.proofs.Words.{most_cost_of, IsPresent, StandsAt, node_count
 use Rattle.step_core.proofs.Words.{Point, MOST_NODES, IsPresent-stands, node_count-some, point_of-stands, Hangs-grows, cost_of-short, most_cost_of-le}
 use Rattle.step_core.proofs.Words.{most_cost_of-more, most_cost_of-within, IsPresent-grows, node_count-grows, point_of-grows, children_of_words, is_linked}
 use Rattle.step_core.proofs.Words.{AreBehind, Words, FirstOf, TreeOf, cost_in, parent_in, tree_word, linked_points, IsCostBelow, MayHang, MayLower, SeesCost}
-use Rattle.step_core.proofs.Words.{SeesTree, IsSharedRun, run_sizes, sees, setup_in, tree_seen, IsFirstOf, Trees, state_in, Hand, Half, View}
-use Rattle.step_core.proofs.OneView.LawfulPairs.{tree_of_word-written}
-use Rattle.step_core.proofs.OneView.LawfulSights.{IsTrueOf-seen, is_linked-seen}
-use Rattle.step_core.proofs.Seen.TrueWords.{linked-within}
+use Rattle.step_core.proofs.Words.{SeesTree, IsSharedRun, run_sizes, sees, setup_in, tree_seen, IsFirstOf, Trees, state_in, Hand, Half, View, SharedRun}
+use Rattle.step_core.proofs.OneView.LawfulSights.{tree_of_word-written, IsTrueOf-seen, is_linked-seen}
+use Rattle.step_core.proofs.Seen.SeenWords.{linked-within}
+
+-- a parent at a cost by which a node may be lowered now
+pub record IsLowered (run : SharedRun) (words : Words) (n parent cost : ℕ) : Type 0 where
+  pub linked : is_linked (run_sizes run) words n ≡ true
+  pub present : IsPresent (linked_points (run_sizes run) words) n
+  pub fits : (parent < 2 ^ 18) × (cost < 2 ^ 44)
+  pub hangs : Hangs (setup_in run) (state_in run words) n (point_of (linked_points (run_sizes run) words) n) parent cost
 
 module _ (view : View) (words : Words) (behind : AreBehind (sees view) words) (tree : SeesTree view)
     (follow : FollowWays (children_of_words words) (linked_points (run_sizes view.run) words)) (run_is : IsSharedRun view.run)
@@ -129,18 +135,16 @@ module _ (view : View) (words : Words) (behind : AreBehind (sees view) words) (t
 
   -- ---- a node that is lowered
 
-  module _ (n parent cost : ℕ) (may : MayLower view n parent cost) where
-    pub lowered-present : IsPresent now.points n
-    lowered-present = here n may.at may.old_cost may.seen
-
-    pub lowered-linked : is_linked (run_sizes view.run) words n ≡ true
-    lowered-linked = is_linked-seen view words behind tree follow n (tree.rooted.points n (ap is_some may.seen.stands))
-
-    -- its parent is another node, since that costs less
-    pub lowered-apart : parent ≢ n
-    lowered-apart e = omega (arith, may.cheaper, may.below.cost_is, may.below.seen.cost_is, may.seen.cost_is, ap (λ m. cost_in (sees view (TreeOf m))) e)
-
-    pub Hangs-lower : Hangs (setup_in view.run) now n (point_of now.points n) parent cost
-    Hangs-lower =
+  pub IsLowered-seen : (n parent cost : ℕ) → MayLower view n parent cost → IsLowered view.run words n parent cost
+  IsLowered-seen n parent cost may = record {
+    linked = is_linked-seen view words behind tree follow n (tree.rooted.points n (ap is_some may.seen.stands));
+    present = here n may.at may.old_cost may.seen;
+    fits = fits-below may.at parent cost may.below;
+    hangs =
         subst (λ q. Hangs (setup_in view.run) now n q parent cost) (sym (at n may.at may.old_cost may.seen))
-        (Hangs-below n may.at parent cost may.below lowered-apart)
+        (Hangs-below n may.at parent cost may.below apart);
+  }
+    where
+      -- its parent is another node, since that costs less
+      apart : parent ≢ n
+      apart e = omega (arith, may.cheaper, may.below.cost_is, may.below.seen.cost_is, may.seen.cost_is, ap (λ m. cost_in (sees view (TreeOf m))) e)

@@ -1,58 +1,26 @@
 -- From what a pass has seen to the record law: a record that the view allows is lawful in the tree now.
-use Rattle.step_core.proofs.Words.{◌≡◌, ◌≢◌, ◌+◌, ◌*◌, ◌/◌, ◌%◌, ◌<◌, ◌≤◌, ◌^◌, ◌∙◌, ◌==◌, ◌&&◌, ℕ, zero, suc, Bool, true, false, Option, Some, None, List}
-use Rattle.step_core.proofs.Words.{length, refl, sym, ap, subst, inl, inr, arith, IsTrue, cond, is_some, nat_lt, unwrap_or, count_by, range_with_len, sum_by}
-use Rattle.step_core.proofs.Words.{some, get_elem?, div-add-mod', mod_below, length-map-range_with_len, length-filter, Clear, mark_at, cost_of}
-use Rattle.step_core.proofs.Words.{squared_distance, IsGoalNode, is_goal_point, is_within, Hangs, is_placed, IsPresent, StandsAt, node_count, point_at}
-use Rattle.step_core.proofs.Words.{point_of, class_of, radius_of_class, HangsLawfully, HasLawfulEnding, ReachesLawfully, IsBlockedLawfully, IsChosenLawfully}
-use Rattle.step_core.proofs.Words.{IsEarlier, IsLawfulRecord, IsNeighbour, IsPlacedLawfully, IsSkippedLawfully, IsSteeredLawfully, earlier_count}
-use Rattle.step_core.proofs.Words.{first_cost_through, is_earlier, is_earlier_record, NewNode, NoWay, Reached, SameNode, ending_as, first_hanging, steered}
-use Rattle.step_core.proofs.Words.{Setup, mark_bound, TreeState, first_cost_of, is_of_worker, once_if, Point, Outcome, Blocked, Placed, Same, Skipped, Record}
-use Rattle.step_core.proofs.Words.{count-first, count-same, sum-le, no_goal_node, IsPresent-stands, StandsAt-present, class_of-le, has_node, has_placed}
-use Rattle.step_core.proofs.Words.{record_at, AreBehind, Words, Count, FirstOf, RecordOf, TreeOf, IsFirstWord, best_cost_in, best_word, cost_in, no_best}
-use Rattle.step_core.proofs.Words.{outcome_in, record_in, record_of_word, tree_word, unplaced_at, zeros, cost_in-tree_word, IsInformed, IsUnskipped}
-use Rattle.step_core.proofs.Words.{MayBeSkipped, IsOwnNeighbour, MayBeBlocked, MayBePlaced, MayEnd, MayReach, MaySteer, is_own_node, own_count, own_first_cost}
-use Rattle.step_core.proofs.Words.{linked_point, IsMoment, MayFinish, Moment, has_count, has_first, has_link, has_point, SeesHand, SeesPoint, SeesTree}
-use Rattle.step_core.proofs.Words.{run_sizes, sees, setup_in, tree_seen, IsFirstOf, IsWorld, counted_once, state_in, Hand, SharedRun, Stage, Claimed, Counted}
-use Rattle.step_core.proofs.Words.{Half, Linked, Pointed, Posted, Treed, View}
-use Rattle.step_core.proofs.OneView.LawfulSights.{IsTrueOf-seen}
-use Rattle.step_core.proofs.Parts.LinkedCounts.{count-most}
-use Rattle.step_core.proofs.Parts.LinkedStates.{first_cost-linked, linked-present, placed-linked}
-use Rattle.step_core.proofs.Seen.PlacedWords.{has_node-same}
-use Rattle.step_core.proofs.Seen.SeenWords.{seen-within}
-use Rattle.step_core.proofs.Seen.SawWords.{cost_in-falls}
-use Rattle.step_core.proofs.Parts.WorldRecords.{earlier-placed}
-
--- ---- pairs
-
--- what is at most a pair has a cost that is no greater
-best_cost-below : (word cost n : ℕ) → n < 2 ^ 18 → word ≤ best_word cost n → best_cost_in word ≤ cost
-best_cost-below word cost n small low =
-    let rest : word / 2 ^ 18 * 2 ^ 18 + word % 2 ^ 18 ≡ word = div-add-mod' word (2 ^ 18) in
-    omega (arith, rest, small, low)
-
--- and is one
-best_word-some : (word cost n : ℕ) → n < 2 ^ 18 → cost < 2 ^ 44 → word ≤ best_word cost n → word ≢ no_best
-best_word-some word cost n small few low none = omega (arith, none, small, few, low)
+use Rattle.step_core.proofs.Words.{◌≡◌, ◌≢◌, ◌+◌, ◌/◌, ◌<◌, ◌≤◌, ◌^◌, ◌∙◌, ◌==◌, ◌&&◌, ℕ, zero, suc, Bool, true, false, Option, Some, None, List, length, refl}
+use Rattle.step_core.proofs.Words.{sym, ap, subst, inl, inr, arith, IsTrue, is_some, nat_lt, unwrap_or, count_by, range_with_len, sum_by, some, get_elem?}
+use Rattle.step_core.proofs.Words.{div-add-mod', mod_below, length-map-range_with_len, length-filter, Clear, mark_at, cost_of, squared_distance, IsGoalNode}
+use Rattle.step_core.proofs.Words.{is_goal_point, is_within, Hangs, is_placed, IsPresent, StandsAt, node_count, point_at, point_of, class_of, radius_of_class}
+use Rattle.step_core.proofs.Words.{HangsLawfully, HasLawfulEnding, ReachesLawfully, IsBlockedLawfully, IsChosenLawfully, IsEarlier, IsLawfulRecord, IsNeighbour}
+use Rattle.step_core.proofs.Words.{IsPlacedLawfully, IsSkippedLawfully, IsSteeredLawfully, earlier_count, first_cost_through, is_earlier, is_earlier_record}
+use Rattle.step_core.proofs.Words.{NewNode, NoWay, Reached, SameNode, ending_as, first_hanging, steered, Setup, mark_bound, TreeState, first_cost_of}
+use Rattle.step_core.proofs.Words.{is_of_worker, once_if, Point, Outcome, Blocked, Placed, Same, Skipped, Record, count-first, count-same, sum-le, no_goal_node}
+use Rattle.step_core.proofs.Words.{IsPresent-stands, StandsAt-present, class_of-le, has_node, record_at, AreBehind, Words, Count, FirstOf, RecordOf, TreeOf}
+use Rattle.step_core.proofs.Words.{IsFirstWord, best_cost_in, cost_in, no_best, record_of_word, tree_word, unplaced_at, zeros, cost_in-tree_word, IsInformed}
+use Rattle.step_core.proofs.Words.{IsUnskipped, MayBeSkipped, IsOwnNeighbour, MayBeBlocked, MayBePlaced, MayEnd, MayReach, MaySteer, is_own_node, own_count}
+use Rattle.step_core.proofs.Words.{own_first_cost, linked_point, IsMoment, MayFinish, Moment, has_count, has_first, has_link, has_point, SeesHand, SeesPoint}
+use Rattle.step_core.proofs.Words.{SeesTree, run_sizes, sees, setup_in, tree_seen, IsFirstOf, IsWorld, counted_once, state_in, Hand, SharedRun, Stage, Counted}
+use Rattle.step_core.proofs.Words.{Posted, View}
+use Rattle.step_core.proofs.OneView.LawfulSights.{IsTrueOf-seen, first-now, node-now}
+use Rattle.step_core.proofs.Parts.LinkedStates.{count-most, first_cost-linked, linked-present}
+use Rattle.step_core.proofs.Seen.SeenWords.{told-own, seen-within}
+use Rattle.step_core.proofs.Seen.Looks.{cost_in-falls}
+use Rattle.step_core.proofs.OneView.SeenViews.{earlier-placed, own_recorded}
+use Rattle.step_core.proofs.Parts.WorldBests.{node-linked}
 
 -- ---- records
-
--- whether a record is an earlier one is in its own word
-earlier_same : (entry : Record) (number word first other : ℕ)
-    → is_earlier_record entry (Some (record_in number word first)) ≡ is_earlier_record entry (Some (record_in number word other))
-earlier_same entry zero word first other = refl
-earlier_same entry (suc zero) word first other = refl
-earlier_same entry (suc (suc zero)) word first other = refl
-earlier_same entry (suc (suc (suc n))) word first other = refl
-
-earlier-own : (entry : Record) (word first other : ℕ)
-    → is_earlier_record entry (record_of_word word first) ≡ is_earlier_record entry (record_of_word word other)
-earlier-own entry word first other = by_test (nat_lt word (2 ^ 63))
-  where
-    by_test :
-        (b : Bool) → is_earlier_record entry (cond b None (Some (record_in (outcome_in word) word first)))
-        ≡ is_earlier_record entry (cond b None (Some (record_in (outcome_in word) word other)))
-    by_test true = refl
-    by_test false = earlier_same entry (outcome_in word) word first other
 
 -- an earlier record is of the same worker
 earlier-worker : (entry : Record) (o : Option Record) → is_earlier_record entry o ≡ true → is_of_worker entry.worker o ≡ true
@@ -72,7 +40,7 @@ module _ (view : View) (words : Words) (entry : Record) (behind : AreBehind (see
       elim (behind (RecordOf k)) [
         | inr same ↦
             ap (λ w. is_earlier_record entry (record_of_word w (words (FirstOf (suc k))))) (sym same)
-            ∙ earlier-own entry (sees view (RecordOf k)) (words (FirstOf (suc k))) (sees view (FirstOf (suc k)))
+            ∙ told-own (is_earlier_record entry) (λ word first other. refl) (sees view (RecordOf k)) (words (FirstOf (suc k))) (sees view (FirstOf (suc k)))
         | inl unseen ↦ by_test (is_earlier_record entry (record_at words k)) refl unseen
       ]
     where
@@ -82,7 +50,7 @@ module _ (view : View) (words : Words) (entry : Record) (behind : AreBehind (see
       by_test true e unseen =
           let seen = own k (earlier-worker entry (record_at words k) e) in
           ap (λ w. is_earlier_record entry (record_of_word w (words (FirstOf (suc k))))) (sym seen)
-          ∙ earlier-own entry (sees view (RecordOf k)) (words (FirstOf (suc k))) (sees view (FirstOf (suc k)))
+          ∙ told-own (is_earlier_record entry) (λ word first other. refl) (sees view (RecordOf k)) (words (FirstOf (suc k))) (sees view (FirstOf (suc k)))
 
   pub is_own_node-earlier : (n : ℕ) → is_own_node view entry n ≡ is_earlier (state_in view.run words) entry n
   is_own_node-earlier zero = refl
@@ -109,18 +77,12 @@ own_count-most run words views id view world at own entry =
     by_test false b h = omega arith
     by_test true b h = omega (arith, ap once_if (h refl))
 
-    node_now : (k : ℕ) → has_node (sees view) (suc k) ≡ true → has_node words (suc k) ≡ true
-    node_now k placed =
-        elim (world.seen.behind id view at (RecordOf k)) [
-          | inr same ↦ has_node-same (sees view) words k (sym same) ∙ placed
-          | inl unseen ↦ (let no = ap (λ w. has_placed (record_of_word w (sees view (FirstOf (suc k))))) (sym unseen) ∙ placed in cc)
-        ]
-
     at_most : (k : ℕ) → once_if (is_own_node view entry (suc k)) ≤ counted_once words views k
     at_most k =
         omega (
           arith,
-          by_test (is_own_node view entry (suc k)) (has_node words (suc k)) (λ h. node_now k (earlier-placed entry (record_at (sees view) k) h)),
+          by_test (is_own_node view entry (suc k)) (has_node words (suc k))
+              (λ h. node-now words view (world.seen.behind id view at) (suc k) (earlier-placed entry (record_at (sees view) k) h)),
         )
 
 -- ---- stages
@@ -132,13 +94,9 @@ pub record HasCome (stage : Stage) : Type 0 where
   pub link : has_link stage ≡ true
 
 pub has_come : (stage : Stage) → has_count stage ≡ true → HasCome stage
-has_come Claimed e = cc
-has_come Pointed e = cc
-has_come Half e = cc
-has_come Treed e = cc
-has_come Linked e = cc
 has_come Counted e = record { point = refl; first = refl; link = refl }
 has_come Posted e = record { point = refl; first = refl; link = refl }
+has_come stage e = cc
 
 -- ---- what is seen against what is so
 
@@ -192,19 +150,11 @@ module _ (words : Words) (views : List View) (id : ℕ) (view : View) (world : I
   own_seen (suc k) h = tree.placed k (earlier-placed entry (record_at (sees view) k) h)
 
   own_cost : (n : ℕ) → IsTrue (is_own_node view entry n) → own_first_cost view n ≡ first_cost_of state n
-  own_cost zero h = refl
-  own_cost (suc k) h =
-      let placed = earlier-placed entry (record_at (sees view) k) h in
-      let written = tree.placed_first k placed in
-      let linked =
-      placed-linked own_run words views world.numbers world.links k (earlier-placed entry (record_at words k) (sym (same_own (suc k)) ∙ h)) in
-      let now : sees view (FirstOf (suc k)) ≡ words (FirstOf (suc k)) =
-      elim (behind (FirstOf (suc k))) [ inl unseen ↦ absurd (omega (arith, unseen, written)) | inr same ↦ same ] in
-      ap cost_in now ∙ sym (first_cost-linked own_run words views world.numbers world.links world.trees.start_first (suc k) linked)
-
-  -- what a node was seen to cost is no less than what it costs
-  cost_falls : (n : ℕ) → 2 ^ 63 ≤ sees view (TreeOf n) → state.cost n ≤ cost_in (sees view (TreeOf n))
-  cost_falls n written = cost_in-falls (sees view (TreeOf n)) (words (TreeOf n)) written (behind (TreeOf n))
+  own_cost n h =
+      let node = own_recorded view entry n h in
+      let linked = node-linked own_run words views world.numbers world.links n (node-now words view behind n node) in
+      sym (first-now words view behind tree world.links.ways world.trees.start_first n node)
+      ∙ sym (first_cost-linked own_run words views world.numbers world.links world.trees.start_first n linked)
 
   -- ---- placed marks
 
@@ -258,7 +208,7 @@ module _ (words : Words) (views : List View) (id : ℕ) (view : View) (world : I
               omega (
                 arith,
                 may.cost_is,
-                cost_falls i seen.0,
+                cost_in-falls (sees view (TreeOf i)) (words (TreeOf i)) seen.0 (behind (TreeOf i)),
                 seen.1,
                 ap (λ a. cost_of a hand.point) (same_point i (own_seen i own.own)),
               );
@@ -340,15 +290,10 @@ module _ (words : Words) (views : List View) (id : ℕ) (view : View) (world : I
       let here = own_seen i own in
       let seen = subst (λ o. IsTrue (is_goal_point own_run.goals o)) (same_at i here) goal in
       let within : i < 2 ^ 18 = omega (arith, seen-within (run_sizes own_run) (sees view) i here, world.run_is.marks) in
-      let least = ((world.bests id view at refl).taken hand word made.held taken).1 i (node_of i own) seen in
-      let low = best_cost-below word (own_first_cost view i) i within least in
-      let some_pair = best_word-some word (own_first_cost view i) i within (first_cost-small i) least in
-      omega (arith, above some_pair, low, own_cost i own)
+      let least = ((world.bests id view at refl).taken hand word made.held taken).1 i (own_recorded view entry i own) seen in
+      let some_pair : word ≢ no_best = λ none. omega (arith, none, within, first_cost-small i, least) in
+      omega (arith, above some_pair, div-add-mod' word (2 ^ 18), within, least, own_cost i own)
     where
-      node_of : (n : ℕ) → IsTrue (is_own_node view entry n) → has_node (sees view) n ≡ true
-      node_of zero h = refl
-      node_of (suc k) h = earlier-placed entry (record_at (sees view) k) h
-
       first_cost-small : (n : ℕ) → own_first_cost view n < 2 ^ 44
       first_cost-small zero = omega arith
       first_cost-small (suc k) = mod_below (sees view (FirstOf (suc k)) / 2 ^ 18) (2 ^ 44) (omega arith)

@@ -25,7 +25,7 @@ pub once_if-false : (b : Bool) → once_if b ≡ 0 → b ≡ false
 once_if-false true h = absurd (omega (arith, h))
 once_if-false false h = refl
 
-no_record : (o : Option Record) → is_some o ≡ false → o ≡ None
+pub no_record : (o : Option Record) → is_some o ≡ false → o ≡ None
 no_record None e = refl
 no_record (Some entry) e = cc
 
@@ -54,7 +54,7 @@ once_if-claimed strips before after g k enough strip up others =
 
 -- ---- a mark in hand
 
-limit_of-most : (view : View) → limit_of view ≤ view.most
+pub limit_of-most : (view : View) → limit_of view ≤ view.most
 limit_of-most view = by_test (share view == 0)
   where
     by_test : (b : Bool) → cond b 0 view.most ≤ view.most
@@ -98,3 +98,15 @@ pub in_hand :
     → (hand : Hand) → view.hand ≡ Some hand → IsInHand run words views world.run_is.strips.0 world.numbers hand.mark
 in_hand run words views id view world at hand held =
     IsInHand-held run words views world.run_is.strips.0 world.numbers id view hand.mark at (ap (holds hand.mark) held ∙ eq-eqb hand.mark hand.mark refl)
+
+-- a mark with a record is one of the marks
+pub recorded-below : {run : SharedRun} {words : Words} {views : List View} → IsWorld run words views → (k : ℕ) (entry : Record) → record_at words k ≡ Some entry
+    → k < length run.marks
+recorded-below {run} {words} {views} world k entry e =
+    let one : once_if (is_recorded words k) ≡ 1 = ap (λ o. once_if (is_some o)) e in
+    let claimed = once_if-true (is_claimed run.strips (counters words) k) (omega (arith, one, world.numbers.each_once k)) in
+    omega (
+      arith,
+      claimed-below run words views world.run_is.strips.0 world.numbers k claimed,
+      greatest_limit-most run words views world.run_is.strips.0 world.numbers,
+    )

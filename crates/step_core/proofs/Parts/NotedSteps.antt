@@ -13,11 +13,8 @@ pub record KeepsNotes (s : Shift) : Type 0 where
 
 -- Two that saw a word alike, and the best word alike, know as much of it.
 pub last_seen-same : (view then : View) (name : Word) → sees then name ≡ sees view name → then.best ≡ view.best → last_seen then name ≡ last_seen view name
-last_seen-same view then name seen best =
-    elim (same_name name Best) [
-      | inl is ↦ subst (λ m. last_seen then m ≡ last_seen view m) (sym is) best
-      | inr off ↦ last_seen-table then name off ∙ seen ∙ sym (last_seen-table view name off)
-    ]
+last_seen-same view then Best seen best = best
+last_seen-same view then name seen best = seen
 
 pub KnowsAsBefore-table : (view then : View) (name : Word) → last_look then name ≡ last_look view name → sees then name ≡ sees view name
     → then.best ≡ view.best → KnowsAsBefore view then name
@@ -43,11 +40,8 @@ module _ {s : Shift} (is : IsShift s) where
   pub shown-best :
       (look : ℕ) → WritesWord Best look (last_look s.now.view) (last_look s.then) → ((name : Word) → sees s.then name ≡ sees s.now.view name)
       → s.then.best ≡ s.after Best → (name : Word) → SeesAsItIs s name
-  shown-best look looks seen best name =
-      elim (same_name name Best) [
-        | inl is ↦ inr (subst (λ m. last_seen s.then m ≡ s.after m) (sym is) best)
-        | inr off ↦ inl (looks.others name off, last_seen-table s.then name off ∙ seen name ∙ sym (last_seen-table s.now.view name off))
-      ]
+  shown-best look looks seen best Best = inr best
+  shown-best look looks seen best name = inl (looks.others name (λ e. cc), seen name)
 
   -- A step that notes nothing, and changes no such word but a tree word that nobody has seen.
   pub LeavesNotes-none :

@@ -1,7 +1,7 @@
 -- A step of one view: the moment, what the view becomes, and the words afterwards.
 use Rattle.step_core.proofs.Words.{◌≡◌, ◌≢◌, ◌+◌, ◌≤◌, ◌∙◌, ℕ, List, set, sym, some, get_elem?, AreBehind, Words, Best, EachView, IsMoment, Moment, IsViewOf}
-use Rattle.step_core.proofs.Words.{SharedRun, View}
-use Rattle.step_core.proofs.Parts.ViewLists.{at-set, each-set}
+use Rattle.step_core.proofs.Words.{sum_by, SharedRun, View}
+use Rattle.step_core.proofs.Parts.ViewLists.{at-set, each-set, sum-set}
 
 pub record Shift : Type 0 where
   pub now : Moment
@@ -33,6 +33,10 @@ module _ {s : Shift} (is : IsShift s) where
   pub each-later :
       (has : View → Type 0) → ((i : ℕ) (u : View) → i ≢ s.now.id → get_elem? s.now.views i ≡ some u → has u) → has s.then → EachView (later_views s) has
   each-later has others own = each-set s.now.views s.now.id s.then has others own
+
+  -- of a sum over the views one number is another now
+  pub sum-later : (f : View → ℕ) → sum_by f (later_views s) + f s.now.view ≡ sum_by f s.now.views + f s.then
+  sum-later f = sum-set f s.now.views s.now.id s.now.view s.then is.moment.at
 
   pub same_run : s.then.run ≡ s.now.view.run
   same_run = is.of_run.run_is ∙ sym is.moment.own

@@ -1,15 +1,15 @@
 -- The parts of the law of worlds on the best word, after each kind of step.
-use Rattle.step_core.proofs.Words.{◌≡◌, ◌≤◌, ◌∙◌, ◌⊎◌, ◌≢◌, ℕ, zero, suc, true, List, set, Option, Some, None, refl, sym, ap, subst, inl, inr, arith, le_trans}
-use Rattle.step_core.proofs.Words.{IsTrue, same_Some, some, get_elem?, IsGoalNode, is_goal_point, IsPresent, point_at, point_of, GrowsInto, IsPresent-goal}
-use Rattle.step_core.proofs.Words.{StandsAt-present, IsGoalNode-before, IsGoalNode-grows, cost-grows, has_node, is_linked, AreBehind, Words, Best, FirstOf}
-use Rattle.step_core.proofs.Words.{RecordOf, best_node_in, best_word, cost_in, IsAtMostPlaced, SeesGoal, seen_first_cost, linked_points, new_hand, SeesTree}
-use Rattle.step_core.proofs.Words.{run_sizes, sees, tree_seen, BestWord, ClaimedMarks, IsBestWord, LinkedTree, SeenBests, SeesBest, Trees, state_in, Hand}
-use Rattle.step_core.proofs.Words.{SharedRun, Posted, View}
-use Rattle.step_core.proofs.Parts.LinkedCounts.{present-linked}
-use Rattle.step_core.proofs.Parts.LinkedStates.{placed-linked}
-use Rattle.step_core.proofs.Seen.PlacedWords.{has_node-same}
+use Rattle.step_core.proofs.Words.{◌≡◌, ◌≤◌, ◌∙◌, ◌⊎◌, ◌≢◌, ℕ, zero, suc, true, List, Option, Some, None, refl, sym, ap, subst, inl, inr, arith, le_trans}
+use Rattle.step_core.proofs.Words.{IsTrue, same_Some, IsGoalNode, is_goal_point, IsPresent, point_at, point_of, GrowsInto, IsPresent-goal, StandsAt-present}
+use Rattle.step_core.proofs.Words.{IsGoalNode-before, IsGoalNode-grows, cost-grows, has_node, is_linked, AreBehind, Words, Best, FirstOf, RecordOf}
+use Rattle.step_core.proofs.Words.{best_node_in, best_word, cost_in, IsAtMostPlaced, SeesGoal, seen_first_cost, linked_points, new_hand, SeesTree, run_sizes}
+use Rattle.step_core.proofs.Words.{sees, tree_seen, BestWord, ClaimedMarks, IsBestWord, LinkedTree, SeenBests, SeesBest, state_in, Hand, SharedRun, Posted}
+use Rattle.step_core.proofs.Words.{View}
+use Rattle.step_core.proofs.Parts.LinkedStates.{present-linked, placed-linked}
+use Rattle.step_core.proofs.Seen.SeenWords.{same_once, has_node-kept}
 use Rattle.step_core.proofs.OneView.SeenViews.{SeesPoint-later}
-use Rattle.step_core.proofs.Parts.ViewLists.{each-set}
+use Rattle.step_core.proofs.Parts.Shifts.{IsShift, Shift, each-later, later_views, same_run}
+use Rattle.step_core.proofs.Parts.WorldParts.{KeepsRecords}
 
 -- ---- words that go on
 
@@ -41,12 +41,13 @@ module _ (run : SharedRun) (before after : Words) (grows : GrowsInto (state_in r
     posted = saw.posted;
   }
 
-  -- of all views, where one view is another now
-  pub SeenBests-set :
-      (views : List View) (id : ℕ) (then : View) → after Best ≤ before Best → SeenBests run before views → (then.run ≡ run → SeesBest run after then)
-      → SeenBests run after (set views id then)
-  SeenBests-set views id then falls seen own =
-      each-set views id then (λ u. u.run ≡ run → SeesBest run after u) (λ i u apart e of. SeesBest-goes_on falls u (seen i u e of)) own
+-- of all views, where one view is another now
+pub SeenBests-step :
+    {s : Shift} → IsShift s → GrowsInto (state_in s.now.run s.now.words) (state_in s.now.run s.after) → SeesBest s.now.run s.after s.then
+    → SeenBests s.now.run s.after (later_views s)
+SeenBests-step {s} is grows own =
+    each-later is (λ u. u.run ≡ s.now.run → SeesBest s.now.run s.after u)
+    (λ i u apart e of. SeesBest-goes_on s.now.run s.now.words s.after grows is.best u (is.moment.world.bests i u e of)) (λ of. own)
 
 -- a node that is recorded as placed is linked
 pub node-linked :
@@ -55,41 +56,35 @@ pub node-linked :
 node-linked run words views numbers links zero h = refl
 node-linked run words views numbers links (suc k) h = placed-linked run words views numbers links k h
 
-module _ (run : SharedRun) (before after : Words) (views : List View) (numbers : ClaimedMarks run before views) (links : LinkedTree run before views)
-    (trees : Trees run before) (grows : GrowsInto (state_in run before) (state_in run after)) (go : AreBehind before after) where
-  -- what it was placed at stays
-  pub same_first : (n : ℕ) → has_node before n ≡ true → after (FirstOf n) ≡ before (FirstOf n)
-  same_first n h =
-      let linked = node-linked run before views numbers links n h in
-      elim (go (FirstOf n)) [ inl none ↦ absurd (omega (arith, none, (trees.written n linked).first)) | inr same ↦ sym same ]
-
+module _ {s : Shift} (is : IsShift s) (grows : GrowsInto (state_in s.now.run s.now.words) (state_in s.now.run s.after)) where
   -- The best word is as it must be if it has not risen and is a pair, and each new node is no less.
   pub BestWord-step :
-      BestWord run before → IsBestWord run after (after Best) → after Best ≤ before Best
-      → ((n : ℕ) → has_node after n ≡ true → IsGoalNode run.goals (linked_points (run_sizes run) after) n
-      → (has_node before n ≡ true) ⊎ (after Best ≤ best_word (cost_in (after (FirstOf n))) n)) → BestWord run after
-  BestWord-step best pair falls nodes = record {
+      IsBestWord s.now.run s.after (s.after Best)
+      → ((n : ℕ) → has_node s.after n ≡ true → IsGoalNode s.now.run.goals (linked_points (run_sizes s.now.run) s.after) n
+      → (has_node s.now.words n ≡ true) ⊎ (s.after Best ≤ best_word (cost_in (s.after (FirstOf n))) n)) → BestWord s.now.run s.after
+  BestWord-step pair nodes = record {
     pair = pair;
     placed = λ n node goal.
         elim (nodes n node goal) [
+          | inr is_new ↦ is_new
           | inl was ↦ (
-              let linked = node-linked run before views numbers links n was in
-              let here = present-linked run before views links trees n linked in
-              let old = best.placed n was (goal-before run before after grows n here goal) in
-              le_trans falls (subst (λ w. before Best ≤ best_word (cost_in w) n) (sym (same_first n was)) old))
-          | inr is ↦ is
+              let linked = node-linked s.now.run s.now.words s.now.views is.moment.world.numbers is.moment.world.links n was in
+              let here = present-linked s.now.run s.now.words s.now.views is.moment.world.links is.moment.world.trees n linked in
+              let old = is.moment.world.best.placed n was (goal-before s.now.run s.now.words s.after grows n here goal) in
+              le_trans is.best (subst (λ w. s.now.words Best ≤ best_word (cost_in w) n) (same_first n linked) old))
         ];
   }
+    where
+      -- what a node was placed at stays
+      same_first : (n : ℕ) → is_linked (run_sizes s.now.run) s.now.words n ≡ true → s.now.words (FirstOf n) ≡ s.after (FirstOf n)
+      same_first n linked = same_once (is.go (FirstOf n)) (omega (arith, (is.moment.world.trees.written n linked).first))
 
   -- so it is if it stays, and no mark is recorded
-  pub BestWord-kept : BestWord run before → after Best ≡ before Best → ((k : ℕ) → after (RecordOf k) ≡ before (RecordOf k)) → BestWord run after
-  BestWord-kept best same records =
-      BestWord-step best (subst (IsBestWord run after) (sym same) (IsBestWord-grows run before after grows (before Best) best.pair)) (omega (arith, same))
-      (λ n node goal. inl (was n node))
-    where
-      was : (n : ℕ) → has_node after n ≡ true → has_node before n ≡ true
-      was zero h = refl
-      was (suc k) h = sym (has_node-same before after k (records k)) ∙ h
+  pub BestWord-kept : s.after Best ≡ s.now.words Best → KeepsRecords s.now.words s.after → BestWord s.now.run s.after
+  BestWord-kept same records =
+      BestWord-step (subst (IsBestWord s.now.run s.after) (sym same)
+      (IsBestWord-grows s.now.run s.now.words s.after grows (s.now.words Best) is.moment.world.best.pair))
+      (λ n node goal. inl (sym (has_node-kept s.now.words s.after records n) ∙ node))
 
 -- ---- a step of a view
 
@@ -137,18 +132,12 @@ module _ (view then : View) (run : then.run ≡ view.run) (go : AreBehind (sees 
 
   pub same_first_cost : (n : ℕ) → has_node (sees view) n ≡ true → seen_first_cost then n ≡ seen_first_cost view n
   same_first_cost zero h = refl
-  same_first_cost (suc k) h =
-      let written = tree.placed_first k h in
-      elim (go (FirstOf (suc k))) [ inl none ↦ absurd (omega (arith, none, written)) | inr same ↦ ap cost_in (sym same) ]
+  same_first_cost (suc k) h = ap cost_in (sym (same_once (go (FirstOf (suc k))) (omega (arith, tree.placed_first k h))))
 
   pub IsAtMostPlaced-later : ((k : ℕ) → sees then (RecordOf k) ≡ sees view (RecordOf k)) → (word : ℕ) → IsAtMostPlaced view word → IsAtMostPlaced then word
   IsAtMostPlaced-later records word least n node goal =
-      let was = node_was n node in
+      let was = sym (has_node-kept (sees view) (sees then) records n) ∙ node in
       subst (λ c. word ≤ best_word c n) (sym (same_first_cost n was)) (least n was (goal-seen_before n was goal))
-    where
-      node_was : (n : ℕ) → has_node (sees then) n ≡ true → has_node (sees view) n ≡ true
-      node_was zero h = refl
-      node_was (suc k) h = sym (has_node-same (sees view) (sees then) k (records k)) ∙ h
 
   -- A view that keeps the best word and its hand knows as much of them.
   pub SeesBest-kept :
@@ -179,10 +168,10 @@ pub record KeepsBest (before after : Words) (view then : View) : Type 0 where
   pub hand : FollowsHand view.hand then.hand
 
 pub SeenBests-kept :
-    (run : SharedRun) (before after : Words) (views : List View) (id : ℕ) (view then : View) → get_elem? views id ≡ some view → view.run ≡ run
-    → then.run ≡ view.run → SeenBests run before views → GrowsInto (state_in run before) (state_in run after) → AreBehind (sees view) (sees then)
-    → SeesTree view → ((k : ℕ) → sees then (RecordOf k) ≡ sees view (RecordOf k)) → KeepsBest before after view then → SeenBests run after (set views id then)
-SeenBests-kept run before after views id view then at own same seen grows go tree records keeps =
-    let falls : after Best ≤ before Best = omega (arith, keeps.word) in
-    SeenBests-set run before after grows views id then falls seen (λ of. SeesBest-kept view then same go tree run after keeps.seen keeps.hand records
-    (SeesBest-goes_on run before after grows falls view (seen id view at own)))
+    {s : Shift} → IsShift s → GrowsInto (state_in s.now.run s.now.words) (state_in s.now.run s.after) → AreBehind (sees s.now.view) (sees s.then)
+    → ((k : ℕ) → sees s.then (RecordOf k) ≡ sees s.now.view (RecordOf k)) → KeepsBest s.now.words s.after s.now.view s.then
+    → SeenBests s.now.run s.after (later_views s)
+SeenBests-kept {s} is grows more records keeps =
+    SeenBests-step is grows (SeesBest-kept s.now.view s.then (same_run is) more (is.moment.world.sights s.now.id s.now.view is.moment.at is.moment.own)
+    s.now.run s.after keeps.seen keeps.hand records (SeesBest-goes_on s.now.run s.now.words s.after grows is.best s.now.view
+    (is.moment.world.bests s.now.id s.now.view is.moment.at is.moment.own)))

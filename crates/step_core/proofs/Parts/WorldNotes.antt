@@ -3,14 +3,14 @@ use Rattle.step_core.proofs.Words.{◌≡◌, ◌≢◌, ◌<◌, ◌≤◌, [],
 use Rattle.step_core.proofs.Words.{arith, cond, replicate, slice_index, cases_eq, some, some-ne-none, some-injective, get_elem?, Empties, GoesTo, HasMade}
 use Rattle.step_core.proofs.Words.{HasNoted, IsAmong, IsAsPlaced, IsLoaded, IsNoted, IsNoteOf, KnowsAsBefore, Notes, SomeNote, last_seen, steps_by, saw}
 use Rattle.step_core.proofs.Words.{stepped, steps_made, IsViewOf, last_look, last_zero, no_run, run_sizes, sees, spent, MayBecome, MayBecome-both}
-use Rattle.step_core.proofs.Words.{MayBecome-refl, MayBecome-trans, kind_of, Sizes, has_word, place_of, Word, Words, Best, ChildOf, Count, Counter, FirstOf}
-use Rattle.step_core.proofs.Words.{PointOf, RecordOf, TreeOf, HasWord, IsWorld, Note, SharedRun, View}
+use Rattle.step_core.proofs.Words.{MayBecome-refl, MayBecome-trans, kind_of, Sizes, has_word, place_of, Word, Words, Best, ChildOf, FirstOf, PointOf, RecordOf}
+use Rattle.step_core.proofs.Words.{TreeOf, HasWord, IsWorld, Note, SharedRun, View, Falling}
 use Rattle.grown_runs.specs.Table.WordPlaces.{word_at}
-use Rattle.step_core.proofs.Seen.Looks.{same_name}
 use Rattle.step_core.proofs.Seen.SeenByViews.{WritesWord-zero, last_zero-other}
 use Rattle.step_core.proofs.Parts.Shifts.{IsShift, Shift, at-then, later_views, same_run}
 use Rattle.step_core.proofs.Parts.ViewLists.{at-after_push, at-after_set, at-push, at-set, at-set_other, same-at}
 use Rattle.step_core.proofs.Parts.WorldParts.{of_run-step}
+use Rattle.step_core.proofs.Seen.SeenWords.{MayBecome-zero}
 
 -- ---- tables of 0
 
@@ -49,85 +49,46 @@ last_zero-saw run view of_run name here found left other apart =
 
 -- such a word is one of the run's
 pub HasWord-loaded : (run : SharedRun) (name : Word) → IsLoaded run name → HasWord (run_sizes run) name
-HasWord-loaded run Count may = tt
-HasWord-loaded run Best may = tt
-HasWord-loaded run (Counter g) may = may
 HasWord-loaded run (PointOf n) may = absurd may
-HasWord-loaded run (ChildOf n side) may = may
-HasWord-loaded run (TreeOf n) may = may
 HasWord-loaded run (FirstOf n) may = absurd may
 HasWord-loaded run (RecordOf k) may = absurd may
+HasWord-loaded run name may = may
 
 -- what is seen of any word but the best
 pub last_seen-table : (view : View) (name : Word) → name ≢ Best → last_seen view name ≡ sees view name
-last_seen-table view Count off = refl
 last_seen-table view Best off = absurd (off refl)
-last_seen-table view (Counter g) off = refl
-last_seen-table view (PointOf n) off = refl
-last_seen-table view (ChildOf n side) off = refl
-last_seen-table view (TreeOf n) off = refl
-last_seen-table view (FirstOf n) off = refl
-last_seen-table view (RecordOf k) off = refl
+last_seen-table view name off = refl
 
 -- what such a word may become
 pub GoesTo-of : (name : Word) (word later : ℕ) → MayBecome (kind_of name) word later → (name ≡ Best → later ≤ word) → GoesTo name word later
-GoesTo-of Count word later goes best = goes
 GoesTo-of Best word later goes best = best refl
-GoesTo-of (Counter g) word later goes best = goes
-GoesTo-of (PointOf n) word later goes best = goes
-GoesTo-of (ChildOf n side) word later goes best = goes
-GoesTo-of (TreeOf n) word later goes best = goes
-GoesTo-of (FirstOf n) word later goes best = goes
-GoesTo-of (RecordOf k) word later goes best = goes
+GoesTo-of name word later goes best = goes
 
 pub GoesTo-refl : (name : Word) (word : ℕ) → GoesTo name word word
 GoesTo-refl name word = GoesTo-of name word word (MayBecome-refl (kind_of name) word) (λ e. omega arith)
 
 pub GoesTo-trans : (name : Word) (word later last : ℕ) → GoesTo name word later → GoesTo name later last → GoesTo name word last
-GoesTo-trans Count word later last first next = MayBecome-trans (kind_of Count) word later last first next
 GoesTo-trans Best word later last first next = omega (arith, first, next)
-GoesTo-trans (Counter g) word later last first next = MayBecome-trans (kind_of (Counter g)) word later last first next
-GoesTo-trans (PointOf n) word later last first next = MayBecome-trans (kind_of (PointOf n)) word later last first next
-GoesTo-trans (ChildOf n side) word later last first next = MayBecome-trans (kind_of (ChildOf n side)) word later last first next
-GoesTo-trans (TreeOf n) word later last first next = MayBecome-trans (kind_of (TreeOf n)) word later last first next
-GoesTo-trans (FirstOf n) word later last first next = MayBecome-trans (kind_of (FirstOf n)) word later last first next
-GoesTo-trans (RecordOf k) word later last first next = MayBecome-trans (kind_of (RecordOf k)) word later last first next
+GoesTo-trans name word later last first next = MayBecome-trans (kind_of name) word later last first next
 
 -- two words that may become one another are one
 pub GoesTo-both : (name : Word) (word other : ℕ) → GoesTo name word other → GoesTo name other word → other ≡ word
-GoesTo-both Count word other on back = MayBecome-both (kind_of Count) (λ e. cc) word other on back
 GoesTo-both Best word other on back = omega (arith, on, back)
-GoesTo-both (Counter g) word other on back = MayBecome-both (kind_of (Counter g)) (λ e. cc) word other on back
-GoesTo-both (PointOf n) word other on back = MayBecome-both (kind_of (PointOf n)) (λ e. cc) word other on back
-GoesTo-both (ChildOf n side) word other on back = MayBecome-both (kind_of (ChildOf n side)) (λ e. cc) word other on back
-GoesTo-both (TreeOf n) word other on back = MayBecome-both (kind_of (TreeOf n)) (λ e. cc) word other on back
-GoesTo-both (FirstOf n) word other on back = MayBecome-both (kind_of (FirstOf n)) (λ e. cc) word other on back
-GoesTo-both (RecordOf k) word other on back = MayBecome-both (kind_of (RecordOf k)) (λ e. cc) word other on back
+GoesTo-both name word other on back = MayBecome-both (kind_of name) (λ e. cc) word other on back
 
 -- what a view saw of each word may become what it is
 pub GoesTo-now :
     (run : SharedRun) (words : Words) (views : List View) → IsWorld run words views → (i : ℕ) (view : View) → get_elem? views i ≡ some view
     → view.run ≡ run → (name : Word) → GoesTo name (last_seen view name) (words name)
-GoesTo-now run words views world i view at own name =
-    elim (same_name name Best) [
-      | inl is ↦ subst (λ m. GoesTo m (last_seen view m) (words m)) (sym is) (world.bests i view at own).falls
-      | inr off ↦
-          subst (λ w. GoesTo name w (words name)) (sym (last_seen-table view name off))
-          (GoesTo-of name (sees view name) (words name) (world.seen.behind i view at name) (λ e. absurd (off e)))
-    ]
+GoesTo-now run words views world i view at own Best = (world.bests i view at own).falls
+GoesTo-now run words views world i view at own name = world.seen.behind i view at name
 
 -- and what one view saw may become what another sees, if that is so of each word
 pub GoesTo-seen :
     (one other : View) (name : Word) → MayBecome (kind_of name) (sees one name) (sees other name) → other.best ≤ one.best
     → GoesTo name (last_seen one name) (last_seen other name)
-GoesTo-seen one other name goes falls =
-    elim (same_name name Best) [
-      | inl is ↦ subst (λ m. GoesTo m (last_seen one m) (last_seen other m)) (sym is) falls
-      | inr off ↦
-          subst (λ w. GoesTo name w (last_seen other name)) (sym (last_seen-table one name off))
-          (subst (GoesTo name (sees one name)) (sym (last_seen-table other name off))
-          (GoesTo-of name (sees one name) (sees other name) goes (λ e. absurd (off e))))
-    ]
+GoesTo-seen one other Best goes falls = falls
+GoesTo-seen one other name goes falls = goes
 
 -- ---- steps that views have made
 
@@ -249,7 +210,7 @@ module _ {s : Shift} (is : IsShift s) (step : LeavesNotes s) where
   -- each view is of the run, or spent: it has looked by none but steps that it has made
   looks_made : (i : ℕ) (u : View) → get_elem? later i ≡ some u → (name : Word) → (last_look u name ≤ u.steps) × (last_zero u name ≤ u.steps)
   looks_made i u e name =
-      elim (of_run-step run s.now.views s.now.id s.then world.of_run is.of_run i u e) [
+      elim (of_run-step is i u e) [
         | inr live ↦ (live.looks name, live.zero_looks name)
         | inl gone ↦ (
           omega (arith, ap (λ v. last_look v name) gone, last_look-spent name),
@@ -306,7 +267,8 @@ module _ {s : Shift} (is : IsShift s) (step : LeavesNotes s) where
               n,
               is_tree,
               subst (λ m. last_seen u m ≡ last_seen v m) is_tree seen
-                  ∙ unseen (sees v (TreeOf n)) (subst (MayBecome (kind_of (TreeOf n)) (sees v (TreeOf n))) none (world.seen.behind j v at (TreeOf n))),
+                  ∙ MayBecome-zero Falling (λ e. cc) (sees v (TreeOf n))
+                  (subst (MayBecome Falling (sees v (TreeOf n))) none (world.seen.behind j v at (TreeOf n))),
               placed,
             )
         | inl same ↦ elim (world.notes.noted j v at own name may (λ as_it_is. differs (seen ∙ as_it_is ∙ sym same))) [
@@ -323,11 +285,6 @@ module _ {s : Shift} (is : IsShift s) (step : LeavesNotes s) where
               inl (n, is_tree, seen_none, same_tree ∙ placed ∙ sym (step.firsts n (λ gone. apart (seen_none ∙ sym gone ∙ sym same_tree)))))
         ]
       ]
-    where
-      unseen : (word : ℕ) → MayBecome (kind_of (TreeOf 0)) word 0 → word ≡ 0
-      unseen word (inl none) = none
-      unseen word (inr (inl same)) = same
-      unseen word (inr (inr fell)) = absurd (omega (arith, fell.0))
 
   pub Notes-step : Notes run after later
   Notes-step = record { made = made; still = still_then; fresh = fresh_then; noted = noted_then }

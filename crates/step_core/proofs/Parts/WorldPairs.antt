@@ -1,10 +1,9 @@
 -- The part of the law of worlds on the first words and the tree words of nodes in hand, after each kind of step.
-use Rattle.step_core.proofs.Words.{◌≡◌, ◌≢◌, ◌≤◌, [], ◌∷◌, ◌∙◌, ◌==◌, ◌&&◌, ℕ, suc, Bool, true, false, List, Option, Some, None, refl, sym, ap, subst, arith}
-use Rattle.step_core.proofs.Words.{sum_by-cons, same_Some, some, get_elem?, cost_of, node_count, GrowsInto, TreeState, once_if, Hangs-grows, most_cost_of-le}
-use Rattle.step_core.proofs.Words.{IsPresent-grows, node_count-grows, point_of-grows, is_linked, Words, FirstOf, TreeOf, has_first, has_link, has_tree}
-use Rattle.step_core.proofs.Words.{holds_at, pair_in_hand, run_sizes, setup_in, EachView, IsFirstOf, Pairs, hands_at, is_recorded, state_in, Hand, SharedRun}
-use Rattle.step_core.proofs.Words.{Stage, Claimed, Counted, Half, Linked, Pointed, Posted, Treed, View}
-use Rattle.step_core.proofs.Parts.HandsAt.{IsBlank-hand, IsBlank-recorded, IsBlank-step, alone-held}
+use Rattle.step_core.proofs.Words.{◌≡◌, ◌≢◌, ◌≤◌, ◌∷◌, ◌∙◌, ℕ, suc, true, false, List, Option, Some, None, sym, ap, subst, arith, same_Some, some, get_elem?}
+use Rattle.step_core.proofs.Words.{cost_of, node_count, GrowsInto, TreeState, once_if, Hangs-grows, most_cost_of-le, IsPresent-grows, node_count-grows}
+use Rattle.step_core.proofs.Words.{point_of-grows, is_linked, Words, FirstOf, TreeOf, has_first, has_link, has_tree, holds_at, pair_in_hand, run_sizes}
+use Rattle.step_core.proofs.Words.{setup_in, EachView, IsFirstOf, Pairs, hands_at, is_recorded, state_in, Hand, SharedRun, Stage, View, Treed}
+use Rattle.step_core.proofs.Parts.HandsAt.{IsBlank-hand, IsBlank-recorded, IsBlank-step, alone-held, hands_at-less}
 use Rattle.step_core.proofs.Parts.MarksInHand.{once_if-false}
 use Rattle.step_core.proofs.Parts.Shifts.{IsShift, Shift, each-later, later_views}
 use Rattle.step_core.proofs.Parts.WorldLinks.{has_node-recorded, unlinked-held}
@@ -46,10 +45,10 @@ IsFirstOf-grows run before after hand grows same first =
           );
     }
 
--- It does not ask how far the hand has come.
-pub IsFirstOf-stage : (run : SharedRun) (words : Words) (hand : Hand) (stage : Stage) → IsFirstOf run words hand
-    → IsFirstOf run words (record hand { stage = stage })
-IsFirstOf-stage run words hand stage first = record {
+-- It does not ask how far the hand has come, nor for the best in it.
+pub IsFirstOf-stage : (run : SharedRun) (words : Words) (hand : Hand) (stage : Stage) (best : Option ℕ) → IsFirstOf run words hand
+    → IsFirstOf run words (record hand { stage = stage; best = best })
+IsFirstOf-stage run words hand stage best first = record {
   word = first.word;
   fits = first.fits;
   hangs = first.hangs;
@@ -89,41 +88,23 @@ Pairs-views run words views later pairs first tree firsts trees = record {
 }
 
 -- a node that is linked has its tree word
-linked_treed : (stage : Stage) → has_link stage ≡ true → has_tree stage ≡ true
-linked_treed Claimed h = cc
-linked_treed Pointed h = cc
-linked_treed Half h = cc
-linked_treed Treed h = cc
-linked_treed Linked h = refl
-linked_treed Counted h = refl
-linked_treed Posted h = refl
-
-linked_most : (k : ℕ) (o : Option Hand) → once_if (holds_at has_link k o) ≤ once_if (holds_at has_tree k o)
-linked_most k None = omega arith
-linked_most k (Some hand) = by_test (hand.mark == k) (has_link hand.stage) refl
-  where
-    by_test : (a b : Bool) → has_link hand.stage ≡ b → once_if (a && b) ≤ once_if (a && has_tree hand.stage)
-    by_test true true e = omega (arith, ap once_if (linked_treed hand.stage e))
-    by_test true false e = omega arith
-    by_test false b e = omega arith
-
-linked_hands : (k : ℕ) (views : List View) → hands_at has_link k views ≤ hands_at has_tree k views
-linked_hands k [] = omega arith
-linked_hands k (view ∷ views) =
-    omega (
-      arith,
-      linked_most k view.hand,
-      linked_hands k views,
-      sum_by-cons (λ u. once_if (holds_at has_link k u.hand)) view views,
-      sum_by-cons (λ u. once_if (holds_at has_tree k u.hand)) view views,
-    )
+linked_treed : (stage : Stage) → once_if (has_link stage) ≤ once_if (has_tree stage)
+linked_treed Treed = omega arith
+linked_treed stage = omega arith
 
 module _ {s : Shift} (is : IsShift s) (grows : GrowsInto (state_in s.now.run s.now.words) (state_in s.now.run s.after)) where
   -- a node in no hand that has its tree word, and of a mark without a record, is not linked
   not_linked : (k : ℕ) → is_recorded s.now.words k ≡ false → hands_at has_tree k s.now.views ≡ 0 → is_linked (run_sizes s.now.run) s.now.words (suc k) ≡ false
   not_linked k no_record no_hand =
       once_if-false (is_linked (run_sizes s.now.run) s.now.words (suc k))
-      (omega (arith, is.moment.world.links.linked k, linked_hands k s.now.views, no_hand, has_node-recorded s.now.words k, ap once_if no_record))
+      (omega (
+        arith,
+        is.moment.world.links.linked k,
+        hands_at-less has_link has_tree linked_treed k s.now.views,
+        no_hand,
+        has_node-recorded s.now.words k,
+        ap once_if no_record,
+      ))
 
   -- ---- steps that write no such word of a node in hand
 
@@ -136,8 +117,7 @@ module _ {s : Shift} (is : IsShift s) (grows : GrowsInto (state_in s.now.run s.n
 
     tree_kept : (i : ℕ) (u : View) → get_elem? s.now.views i ≡ some u → HasTree s.after u
     tree_kept i u e hand held far not_yet =
-        trees (suc hand.mark)
-        (unlinked-held s.now.run s.now.words s.after s.now.views i u u e is.moment.world.numbers is.moment.world.links hand held not_yet)
+        trees (suc hand.mark) (unlinked-held is.moment.world i u e hand held not_yet)
         ∙ is.moment.world.pairs.tree i u e hand held far not_yet
 
     -- of the hand it is asked that it has come no further

@@ -72,9 +72,7 @@ later_word-either Falling one other = by_test (one == 0) (nat_le (2 ^ 63) other 
 
 later-none : (kind : WordKind) → later_word kind 0 0 ≡ 0
 later-none Rising = refl
-later-none Once = refl
-later-none Falling = refl
-later-none Apart = refl
+later-none kind = refl
 
 -- it may become what both may
 pub MayBecome-later : (kind : WordKind) (one other now : ℕ) → MayBecome kind one now → MayBecome kind other now → MayBecome kind (later_word kind one other) now

@@ -3,53 +3,48 @@ use Rattle.step_core.proofs.Words.{◌≡◌, ◌*◌, ◌+◌, ◌/◌, ◌%◌
 use Rattle.step_core.proofs.Words.{sym, ap, subst, inl, inr, arith, le_refl, IsTrue, nat_lt, is_some, some, get_elem?, cases_eq, eq-eqb, ne_eqb, div-mul-add}
 use Rattle.step_core.proofs.Words.{mod-mul-add, is_claimed, ending_as, IsGoalNode, is_goal_point, StandsAt, point_at, GrowsInto, once_if, turns_of, Outcome}
 use Rattle.step_core.proofs.Words.{Blocked, Placed, Same, Skipped, Record, is_placed, has_node, has_placed, record_at, AreBehind, Words, WritesWord, Best}
-use Rattle.step_core.proofs.Words.{ChildOf, Counter, FirstOf, PointOf, RecordOf, TreeOf, HasWord, FitsWord, IsFirstWord, IsTurnWord, best_word, cost_in}
-use Rattle.step_core.proofs.Words.{last_field, number_of_outcome, record_of_word, record_word, turn_in, worker_in, record_of_word-packed, cost_in-tree_word}
-use Rattle.step_core.proofs.Words.{AreBehind-trans, IsLoaded, IsAtMostPlaced, SeesGoal, seen_first_cost, MayEnd, MayRecord, linked_points, MayBeRecorded}
-use Rattle.step_core.proofs.Words.{has_count, has_link, IsMoment, MayFinish, Moment, SeesPoint, SeesTree, finished, one_turn_more, saw, IsViewOf, holds}
-use Rattle.step_core.proofs.Words.{run_sizes, sees, share, tree_seen, BestWord, IsBestWord, IsRecordWord, IsWorld, Records, SeesBest, counters, is_recorded}
-use Rattle.step_core.proofs.Words.{limit_of, state_in, Hand, Member, SharedRun, Posted, View}
+use Rattle.step_core.proofs.Words.{ChildOf, Counter, FirstOf, PointOf, RecordOf, TreeOf, FitsWord, IsFirstWord, IsTurnWord, best_word, cost_in, last_field}
+use Rattle.step_core.proofs.Words.{number_of_outcome, record_of_word, record_word, turn_in, worker_in, record_of_word-packed, cost_in-tree_word, IsLoaded}
+use Rattle.step_core.proofs.Words.{IsAtMostPlaced, SeesGoal, seen_first_cost, MayEnd, MayRecord, linked_points, MayBeRecorded, has_count, has_link, MayFinish}
+use Rattle.step_core.proofs.Words.{SeesPoint, SeesTree, finished, one_turn_more, saw, holds, run_sizes, sees, share, tree_seen, BestWord, IsBestWord}
+use Rattle.step_core.proofs.Words.{IsRecordWord, IsWorld, Records, SeesBest, counters, is_recorded, state_in, Hand, Member, SharedRun, Posted, View}
 use Rattle.step_core.proofs.Steps.FinishedTurns.{Turns-finished, change}
-use Rattle.step_core.proofs.Parts.LinkedStates.{GrowsInto-behind}
 use Rattle.step_core.proofs.Parts.LawfulRecords.{HasCome, IsFirstWord-seen, IsLawfulRecord-seen, has_come}
 use Rattle.step_core.proofs.OneView.LawfulSights.{IsTrueOf-seen}
-use Rattle.step_core.proofs.Parts.MarksInHand.{IsInHand, claimed-below, greatest_limit-most, once_if-true, in_hand}
-use Rattle.step_core.proofs.Seen.PlacedWords.{has_node-same, has_placed-record_word}
-use Rattle.step_core.proofs.Seen.SawWords.{AreBehind-saw, AreBehind-seen, AreBehind-write, HaveWholePairs-saw, IsFair-saw}
+use Rattle.step_core.proofs.Parts.MarksInHand.{IsInHand, in_hand}
+use Rattle.step_core.proofs.Seen.SeenWords.{has_node-same, has_placed-record_word, same_once}
+use Rattle.step_core.proofs.Seen.Looks.{AreBehind-write, HaveWholePairs-write}
 use Rattle.step_core.proofs.Seen.SeenByViews.{IsViewOf-saw, WritesWord-looked, WritesWord-saw}
 use Rattle.step_core.proofs.OneView.SeenTreesOfViews.{SeesTree-finished}
 use Rattle.step_core.proofs.OneView.SeenViews.{SeesPoint-later}
-use Rattle.step_core.proofs.Parts.ViewLists.{maximum-set}
-use Rattle.step_core.proofs.Parts.WorldBests.{BestWord-step, IsBestWord-grows, SeenBests-set, SeesBest-goes_on, goal-seen_before, same_first_cost}
+use Rattle.step_core.proofs.Parts.WorldBests.{BestWord-step, IsBestWord-grows, SeesBest-goes_on, goal-seen_before, same_first_cost, SeenBests-step}
 use Rattle.step_core.proofs.Parts.NotedSteps.{KeepsNotes, KeepsNotes-kept, LeavesNotes-none, shown-one}
-use Rattle.step_core.proofs.Parts.Shifts.{IsShift, shift_at}
+use Rattle.step_core.proofs.Parts.Shifts.{IsShift, shift_at, Shift}
 use Rattle.step_core.proofs.Parts.WorldNotes.{last_zero-saw}
 use Rattle.step_core.proofs.Parts.WorldHands.{Hands-recorded}
 use Rattle.step_core.proofs.Parts.WorldCopies.{BestCopy-step, Copies-seen}
 use Rattle.step_core.proofs.Parts.WorldLinks.{KeepsLinks, LinkedTree-recorded}
 use Rattle.step_core.proofs.Parts.WorldPairs.{Pairs-recorded}
-use Rattle.step_core.proofs.Parts.WorldParts.{ClaimedMarks-step, record_word-none, SeenBehind-step, Shares-step, limit_of-up, of_run-step, quotas-kept}
-use Rattle.step_core.proofs.Parts.WorldSeenPairs.{AreSeenLawfully-own, SeenPairs-set}
-use Rattle.step_core.proofs.Steps.WorldSteps.{TreesSeen-set, follow, live, tree}
-use Rattle.step_core.proofs.Whole.WholeShares.{worker-below}
-use Rattle.step_core.proofs.Parts.WorldRecords.{Records-recorded}
-use Rattle.step_core.proofs.Parts.WorldTrees.{Trees-kept}
+use Rattle.step_core.proofs.Parts.WorldParts.{ClaimedMarks-step, record_word-none, SeenBehind-step, Shares-step, of_run-step, quotas-kept, SeesOn, SeesOn-saw}
+use Rattle.step_core.proofs.Parts.WorldParts.{TreesSeen-step, limit-up}
+use Rattle.step_core.proofs.Steps.WorldSteps.{follow, live, tree}
+use Rattle.step_core.proofs.Whole.WholeCopies.{worker-below}
+use Rattle.step_core.proofs.Parts.WorldRecords.{Records-recorded, SeenPairs-step}
+use Rattle.step_core.proofs.Parts.WorldTrees.{Trees-kept, GrowsInto-step}
 
 module _ (run : SharedRun) (words after : Words) (views : List View) (id : ℕ) (view : View) (world : IsWorld run words views)
     (at : get_elem? views id ≡ some view) (own : view.run ≡ run) (hand : Hand) (held : view.hand ≡ Some hand) (member : Member)
     (crew : List Member) (crew_is : view.crew ≡ member ∷ crew) (x : ℕ) (written : 2 ^ 63 ≤ x) (worker : worker_in x ≡ member.worker)
     (turn : turn_in x ≡ member.turn) (is_packed : IsRecordWord x) (writes : WritesWord (RecordOf hand.mark) x words after) (placed : Bool)
     (reads : (first : ℕ) → has_placed (record_of_word x first) ≡ placed) (linked : placed ≡ has_link hand.stage) (counted : placed ≡ has_count hand.stage)
-    (tree_then : SeesTree (finished view hand.mark x)) (records_then : GrowsInto (state_in run words) (state_in run after) → Records run after)
+    (tree_then : SeesTree (finished view hand.mark x)) (records_then : IsShift (shift_at run words views id view (finished view hand.mark x) after)
+    → GrowsInto (state_in run words) (state_in run after) → Records run after)
     (least : placed ≡ true → IsTrue (is_goal_point run.goals (Some hand.point)) → view.best ≤ best_word hand.cost (suc hand.mark)) where
   abbrev k : ℕ
   k = hand.mark
 
   abbrev then : View
   then = finished view k x
-
-  holds_it : (j : ℕ) → holds j view.hand ≡ (k == j)
-  holds_it j = ap (holds j) held
 
   mark : IsInHand run words views world.run_is.strips.0 world.numbers k
   mark = in_hand run words views id view world at hand held
@@ -65,7 +60,7 @@ module _ (run : SharedRun) (words after : Words) (views : List View) (id : ℕ) 
       (j : ℕ) → once_if (is_recorded after j) + once_if (holds j then.hand) + once_if (is_claimed run.strips (counters words) j)
       ≡ once_if (is_recorded words j) + once_if (holds j view.hand) + once_if (is_claimed run.strips (counters after) j)
   balance j =
-      let in_hand : once_if (holds j view.hand) ≡ once_if (k == j) = ap once_if (holds_it j) in
+      let in_hand : once_if (holds j view.hand) ≡ once_if (k == j) = ap once_if (ap (holds j) held) in
       let claims : once_if (is_claimed run.strips (counters after) j) ≡ once_if (is_claimed run.strips (counters words) j) =
       ap (λ n. once_if (nat_lt (j / run.strips) n)) (writes.others (Counter (j % run.strips)) (λ e. cc)) in
       let new = change run words after views id view member crew k x world.turns at crew_is mark.low mark.absent writes written worker turn in
@@ -88,73 +83,57 @@ module _ (run : SharedRun) (words after : Words) (views : List View) (id : ℕ) 
         | inr apart ↦ subst IsRecordWord (sym (writes.others (RecordOf j) (λ e. apart cc))) (world.numbers.packed j)
       ]
 
-  pairs : (n : ℕ) → (after (TreeOf n) ≡ 0) ⊎ (2 ^ 63 ≤ after (TreeOf n))
-  pairs n = subst (λ w. (w ≡ 0) ⊎ (2 ^ 63 ≤ w)) (sym (writes.others (TreeOf n) (λ e. cc))) (world.seen.pairs n)
+  abbrev s : Shift
+  s = shift_at run words views id view then after
 
-  by_fields : IsViewOf run (saw view (RecordOf k) x x) → IsViewOf run then
-  by_fields v = record { run_is = v.run_is; seen = v.seen; looked = v.looked; found_zero = v.found_zero; looks = v.looks; zero_looks = v.zero_looks }
+  shift : IsShift s
+  shift = record {
+    moment = record { world = world; at = at; own = own };
+    of_run =
+        let v = IsViewOf-saw run view (live run words views id view world at own) (RecordOf k) mark.low x x in
+        record { run_is = v.run_is; seen = v.seen; looked = v.looked; found_zero = v.found_zero; looks = v.looks; zero_looks = v.zero_looks };
+    one_more = refl;
+    go = go;
+    best = omega (arith, writes.others Best (λ e. cc));
+  }
 
   pub IsWorld-finished : IsWorld run after (set views id then)
   IsWorld-finished =
       let of_run = live run words views id view world at own in
-      let here : HasWord (run_sizes run) (RecordOf k) = mark.low in
-      let saw_it = WritesWord-saw run view of_run (RecordOf k) here x x in
-      let behind = AreBehind-trans (sees view) words after (world.seen.behind id view at) go in
-      let seen = AreBehind-seen (RecordOf k) x (sees view) (sees then) after saw_it writes.here behind in
-      let numbers = ClaimedMarks-step run words after views id view then at world.numbers
+      let saw_it = WritesWord-saw run view of_run (RecordOf k) mark.low x x in
+      let on : SeesOn s = SeesOn-saw shift (RecordOf k) x saw_it writes.here refl (HaveWholePairs-write writes (λ n e. cc) world.seen.pairs) in
+      let numbers = ClaimedMarks-step shift
       (quotas-kept run words after views (set views id then) world.numbers (λ g within. writes.others (Counter g) (λ e. cc))
-      (maximum-set limit_of views id view then at (limit_of-up view then same_share (le_refl view.most))))
-      balance (world.numbers.limits id view at) packed in
-      let links = LinkedTree-recorded run words after views id view then at world.numbers world.links hand held x placed reads linked counted writes refl in
-      let grows = GrowsInto-behind run words after views (set views id then) world.numbers world.links numbers links world.trees go in
-      let trees = Trees-kept run words after views (set views id then) world.numbers world.links numbers links world.trees go record {
-        links = record { children = λ n side. writes.others (ChildOf n side) (λ e. cc); points = λ n h. writes.others (PointOf n) (λ e. cc) };
-        trees = λ n h. writes.others (TreeOf n) (λ e. cc);
-        firsts = λ n h. writes.others (FirstOf n) (λ e. cc);
-      } in
-      let is : IsShift (shift_at run words views id view then after) = record {
-        moment = record { world = world; at = at; own = own };
-        of_run = by_fields (IsViewOf-saw run view of_run (RecordOf k) here x x);
-        one_more = refl;
-        go = go;
-        best = omega (arith, same_best);
-      } in
-      let kept : KeepsNotes (shift_at run words views id view then after) = KeepsNotes-kept is
-      (LeavesNotes-none is refl (λ name told. inl (writes.others name (λ e. subst (IsLoaded run) e told))) (λ n seen. writes.others (FirstOf n) (λ e. cc))
-      (shown-one is (RecordOf k) (λ e. cc) (view.steps + 1) x (WritesWord-looked run view of_run (RecordOf k) here x x) saw_it writes.here refl))
-      keeps_links.children (λ n side some_child. last_zero-saw run view of_run (RecordOf k) here x x (ChildOf n side) (λ e. cc)) in
+      (limit-up shift same_share (le_refl view.most))) balance (world.numbers.limits id view at) packed in
+      let links = LinkedTree-recorded shift held x placed reads linked counted writes refl in
+      let grows = GrowsInto-step shift numbers links in
+      let trees = Trees-kept shift numbers links keeps_links (λ n h. writes.others (TreeOf n) (λ e. cc)) (λ n h. writes.others (FirstOf n) (λ e. cc)) in
+      let kept : KeepsNotes s = KeepsNotes-kept shift
+      (LeavesNotes-none shift refl (λ name told. inl (writes.others name (λ e. subst (IsLoaded run) e told))) (λ n seen. writes.others (FirstOf n) (λ e. cc))
+      (shown-one shift (RecordOf k) (λ e. cc) (view.steps + 1) x (WritesWord-looked run view of_run (RecordOf k) mark.low x x) saw_it writes.here refl))
+      keeps_links.children (λ n side some_child. last_zero-saw run view of_run (RecordOf k) mark.low x x (ChildOf n side) (λ e. cc)) in
+      let stays : 0 < share view → 0 < share then = λ part. omega (arith, part, same_share) in
       record {
         run_is = world.run_is;
-        of_run = of_run-step run views id then world.of_run (by_fields (IsViewOf-saw run view of_run (RecordOf k) here x x));
+        of_run = of_run-step shift;
         numbers = numbers;
         turns = Turns-finished run words after views id view member crew k x world.turns at crew_is mark.low mark.absent writes written worker turn saw_it;
-        shares = Shares-step run words after views id view then at world.shares same_share (λ none. refl);
-        seen = SeenBehind-step words after views id view then at world.seen go
-            (AreBehind-saw (RecordOf k) x (sees view) (sees then) after saw_it writes.here behind)
-            (AreBehind-trans _ (sees view) (sees then) (world.seen.took id view at) seen) pairs
-            (HaveWholePairs-saw (RecordOf k) x (sees view) (sees then) after saw_it writes.here behind (world.seen.pairs_seen id view at) pairs)
-            (IsFair-saw (RecordOf k) x (sees view) (sees then) after saw_it writes.here behind);
+        shares = Shares-step shift same_share (λ none. refl);
+        seen = SeenBehind-step shift on;
         links = links;
         trees = trees;
-        hands = Hands-recorded is hand held refl (λ n. writes.others (PointOf n) (λ e. cc)) recorded others;
-        pairs = Pairs-recorded is grows (λ n. writes.others (FirstOf n) (λ e. cc))
-            (λ n h. writes.others (TreeOf n) (λ e. cc)) hand held refl recorded others;
-        seen_pairs = SeenPairs-set run words after views id then grows world.seen_pairs
-            (λ of. AreSeenLawfully-own run words after view then trees links.ways of grows own (world.seen_pairs id view at own)
-            (AreBehind-saw (RecordOf k) x (sees view) (sees then) after saw_it writes.here behind) tree_then
-            (IsFair-saw (RecordOf k) x (sees view) (sees then) after saw_it writes.here behind));
-        records = records_then grows;
-        sights = TreesSeen-set run words views id view world at own then (λ of. tree_then);
-        copies = Copies-seen run words after views id view then at own world.copies seen
-            (AreBehind-saw (RecordOf k) x (sees view) (sees then) after saw_it writes.here behind) (λ part. omega (arith, part, same_share))
-            (RecordOf k) x writes
-            keeps_links some_share saw_it.here;
-        best_copy = BestCopy-step run words after views id view then at own world.best_copy (λ part. omega (arith, part, same_share)) same_best
-            (λ saw. saw ∙ sym same_best);
+        hands = Hands-recorded shift hand held refl (λ n. writes.others (PointOf n) (λ e. cc)) recorded others;
+        pairs = Pairs-recorded shift grows (λ n. writes.others (FirstOf n) (λ e. cc)) (λ n h. writes.others (TreeOf n) (λ e. cc)) hand held refl recorded
+            others;
+        seen_pairs = SeenPairs-step shift on grows trees links tree_then;
+        records = records_then shift grows;
+        sights = TreesSeen-step shift tree_then;
+        copies = Copies-seen shift on stays (RecordOf k) x writes keeps_links some_share saw_it.here;
+        best_copy = BestCopy-step shift stays same_best (λ saw. saw ∙ sym same_best);
         notes = kept.notes;
         empties = kept.empties;
         best = best_then grows;
-        bests = SeenBests-set run words after grows views id then (omega (arith, same_best)) world.bests (λ of. knows_best grows seen saw_it);
+        bests = SeenBests-step shift grows (knows_best grows on.more saw_it);
       }
     where
       same_best : after Best ≡ words Best
@@ -189,8 +168,7 @@ module _ (run : SharedRun) (words after : Words) (views : List View) (id : ℕ) 
 
       best_then : GrowsInto (state_in run words) (state_in run after) → BestWord run after
       best_then grows =
-          BestWord-step run words after views world.numbers world.links world.trees grows go world.best
-          (subst (IsBestWord run after) (sym same_best) (IsBestWord-grows run words after grows (words Best) world.best.pair)) (omega (arith, same_best)) nodes
+          BestWord-step shift grows (subst (IsBestWord run after) (sym same_best) (IsBestWord-grows run words after grows (words Best) world.best.pair)) nodes
         where
           nodes : (n : ℕ) → has_node after n ≡ true → IsGoalNode run.goals (linked_points (run_sizes run) after) n
               → (has_node words n ≡ true) ⊎ (after Best ≤ best_word (cost_in (after (FirstOf n))) n)
@@ -234,9 +212,8 @@ module _ (run : SharedRun) (words after : Words) (views : List View) (id : ℕ) 
                     let at_point = ap (point_at (tree_seen then).points) (ap suc e) ∙ SeesPoint-later view then refl seen (suc k) hand.point (shown is) in
                     let low = least is (subst (λ r. IsTrue (is_goal_point r.goals (Some hand.point))) own
                     (subst (λ o. IsTrue (is_goal_point view.run.goals o)) at_point goal)) in
-                    let written = (sees_tree.holds hand held).first_shown (come is).link in
                     let now : sees view (FirstOf (suc k)) ≡ words (FirstOf (suc k)) =
-                    elim (world.seen.behind id view at (FirstOf (suc k))) [ inl unseen ↦ absurd (omega (arith, unseen, written)) | inr same ↦ same ] in
+                    same_once (world.seen.behind id view at (FirstOf (suc k))) (omega (arith, (sees_tree.holds hand held).first_shown (come is).link)) in
                     let first = ap (λ i. cost_in (sees then (FirstOf (suc i)))) e ∙ ap cost_in (saw_it.others (FirstOf (suc k)) (λ f. cc) ∙ now)
                     ∙ first_word is in
                     omega (arith, low, first, e))
@@ -257,19 +234,7 @@ module _ (run : SharedRun) (words after : Words) (views : List View) (id : ℕ) 
           ap is_some
           ((change run words after views id view member crew k x world.turns at crew_is mark.low mark.absent writes written worker turn).others j apart)
 
--- a mark with a record is one of the marks
-pub recorded-below : (run : SharedRun) (words : Words) (views : List View) → IsWorld run words views → (j : ℕ) (own : Record) → record_at words j ≡ Some own
-    → j < length run.marks
-recorded-below run words views world j own e =
-    let one : once_if (is_recorded words j) ≡ 1 = ap (λ o. once_if (is_some o)) e in
-    let claimed = once_if-true (is_claimed run.strips (counters words) j) (omega (arith, one, world.numbers.each_once j)) in
-    omega (
-      arith,
-      claimed-below run words views world.run_is.strips.0 world.numbers j claimed,
-      greatest_limit-most run words views world.run_is.strips.0 world.numbers,
-    )
-
--- and no record of it was seen
+-- no record of a mark in hand was seen
 pub none_seen :
     (run : SharedRun) (words : Words) (views : List View) (id : ℕ) (view : View) → IsWorld run words views → get_elem? views id ≡ some view
     → (hand : Hand) → view.hand ≡ Some hand → sees view (RecordOf hand.mark) ≡ 0
@@ -309,30 +274,28 @@ IsTurnWord-packed entry fits =
 
 -- the records with it
 Records-finished :
-    (run : SharedRun) (words after : Words) (views : List View) (id : ℕ) (view : View) → IsWorld run words views → get_elem? views id ≡ some view
-    → view.run ≡ run → (hand : Hand) (entry : Record) → MayFinish view hand entry → WritesWord (RecordOf hand.mark) (record_word entry) words after
-    → GrowsInto (state_in run words) (state_in run after) → Records run after
-Records-finished run words after views id view world at own hand entry made writes grows =
-    let now : Moment = record { run = run; words = words; views = views; id = id; view = view } in
-    let is : IsMoment now = record { world = world; at = at; own = own } in
+    {s : Shift} → IsShift s → (hand : Hand) (entry : Record) → MayFinish s.now.view hand entry
+    → WritesWord (RecordOf hand.mark) (record_word entry) s.now.words s.after → GrowsInto (state_in s.now.run s.now.words) (state_in s.now.run s.after)
+    → Records s.now.run s.after
+Records-finished {s} is hand entry made writes grows =
     let says = IsTurnWord-packed entry made.fits in
-    let mark = in_hand run words views id view world at hand made.held in
-    let stored = change run words after views id view made.member made.crew hand.mark (record_word entry) world.turns at made.first mark.low mark.absent writes
-    says.written (says.worker_is ∙ made.worker) (says.turn_is ∙ made.turn) in
-    let same_first : after (FirstOf (suc hand.mark)) ≡ words (FirstOf (suc hand.mark)) = writes.others (FirstOf (suc hand.mark)) (λ e. cc) in
-    let first = subst (IsFirstWord entry) (sym same_first) (IsFirstWord-seen is made) in
-    let mate : get_elem? view.crew 0 ≡ some made.member = ap (λ l. get_elem? l 0) made.first in
-    let is_member = world.turns.members id view at 0 made.member mate in
-    Records-recorded run words after views world.numbers world.links world.trees grows world.records hand.mark entry
+    let world = is.moment.world in
+    let mark = in_hand s.now.run s.now.words s.now.views s.now.id s.now.view world is.moment.at hand made.held in
+    let stored = change s.now.run s.now.words s.after s.now.views s.now.id s.now.view made.member made.crew hand.mark (record_word entry) world.turns
+    is.moment.at made.first mark.low mark.absent writes says.written (says.worker_is ∙ made.worker) (says.turn_is ∙ made.turn) in
+    let same_first : s.after (FirstOf (suc hand.mark)) ≡ s.now.words (FirstOf (suc hand.mark)) = writes.others (FirstOf (suc hand.mark)) (λ e. cc) in
+    let first = subst (IsFirstWord entry) (sym same_first) (IsFirstWord-seen is.moment made) in
+    let mate : get_elem? s.now.view.crew 0 ≡ some made.member = ap (λ l. get_elem? l 0) made.first in
+    Records-recorded is grows hand.mark entry
     record {
       absent = mark.absent;
-      recorded = ap (λ w. record_of_word w (after (FirstOf (suc hand.mark)))) writes.here
-          ∙ record_of_word-packed entry (after (FirstOf (suc hand.mark))) made.fits first;
+      recorded = ap (λ w. record_of_word w (s.after (FirstOf (suc hand.mark)))) writes.here
+          ∙ record_of_word-packed entry (s.after (FirstOf (suc hand.mark))) made.fits first;
       others = stored.others;
     }
-    world.run_is.workers.1 (recorded-below run words views world) world.turns.workers
-    (omega (arith, made.worker, worker-below run words views id view world at 0 made.member mate))
-    (made.turn ∙ is_member.turn ∙ ap (turns_of (record_at words) (length run.marks)) (sym made.worker)) (IsLawfulRecord-seen is made)
+    (omega (arith, made.worker, worker-below s.now.run s.now.words s.now.views s.now.id s.now.view world is.moment.at 0 made.member mate))
+    (made.turn ∙ (world.turns.members s.now.id s.now.view is.moment.at 0 made.member mate).turn
+    ∙ ap (turns_of (record_at s.now.words) (length s.now.run.marks)) (sym made.worker)) (IsLawfulRecord-seen is.moment made)
 
 -- the record of the mark in hand, by the first of the crew in its next turn, keeps the law
 pub IsWorld-recorded :
@@ -359,7 +322,7 @@ IsWorld-recorded run words after views id view world at own hand held member cre
     (λ first. has_placed-record_word entry first fits) stage.linked stage.counted
     (SeesTree-finished run view (live run words views id view world at own) (tree run words views id view world at own) hand held mark.low
     (none_seen run words views id view world at hand held) entry fits stage)
-    (Records-finished run words after views id view world at own hand entry made writes) (λ placed goal. (world.bests id view at own).posted hand held
+    (λ is. Records-finished is hand entry made writes) (λ placed goal. (world.bests id view at own).posted hand held
     (by_outcome entry.outcome may placed (subst (λ r. IsTrue (is_goal_point r.goals (Some hand.point))) (sym own) goal)))
   where
     -- a goal node was posted

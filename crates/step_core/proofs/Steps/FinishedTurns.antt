@@ -9,17 +9,10 @@ use Rattle.step_core.proofs.Parts.ViewLists.{each-set, sum-one, sum-set, sum-two
 
 -- ---- the record in a word
 
-worker_of_record : (number word first : ℕ) → (record_in number word first).worker ≡ worker_in word
-worker_of_record zero word first = refl
-worker_of_record (suc zero) word first = refl
-worker_of_record (suc (suc zero)) word first = refl
-worker_of_record (suc (suc (suc n))) word first = refl
-
-turn_of_record : (number word first : ℕ) → (record_in number word first).turn ≡ turn_in word
-turn_of_record zero word first = refl
-turn_of_record (suc zero) word first = refl
-turn_of_record (suc (suc zero)) word first = refl
-turn_of_record (suc (suc (suc n))) word first = refl
+of_record : (number word first : ℕ)
+    → ((record_in number word first).worker ≡ worker_in word) × ((record_in number word first).turn ≡ turn_in word)
+of_record (suc (suc zero)) word first = (refl, refl)
+of_record number word first = (refl, refl)
 
 -- ---- crews
 
@@ -44,10 +37,10 @@ module _ (run : SharedRun) (before after : Words) (views : List View) (id : ℕ)
   then = finished view k x
 
   entry_worker : entry.worker ≡ member.worker
-  entry_worker = worker_of_record (outcome_in x) x (after (FirstOf (suc k))) ∙ worker
+  entry_worker = (of_record (outcome_in x) x (after (FirstOf (suc k)))).0 ∙ worker
 
   entry_turn : entry.turn ≡ member.turn
-  entry_turn = turn_of_record (outcome_in x) x (after (FirstOf (suc k))) ∙ turn
+  entry_turn = (of_record (outcome_in x) x (after (FirstOf (suc k)))).1 ∙ turn
 
   pub recorded : record_at after k ≡ Some entry
   recorded = ap (λ w. record_of_word w (after (FirstOf (suc k)))) writes.here ∙ ap (λ b. cond b None (Some entry)) (le-ltb x (2 ^ 63) written)

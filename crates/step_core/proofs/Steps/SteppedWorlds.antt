@@ -3,17 +3,16 @@ use Rattle.step_core.proofs.Words.{◌∙◌, ◌+◌, ◌≤◌, refl, sym, ap,
 use Rattle.step_core.proofs.Words.{best_with, hand_with_best, hand_with_post, joined, looker, parted, posted, stepped, worker_apart, AreBehind, Words, Best}
 use Rattle.step_core.proofs.Words.{Count, AreBehind-refl, IsWorld}
 use Rattle.step_core.proofs.Steps.FinishedMarks.{AreBehind-finished, IsTurnWord-packed, IsWorld-recorded}
-use Rattle.step_core.proofs.OneView.LaterSteps.{IsLater-counted, IsLater-half, IsLater-pointed, IsLater-treed}
-use Rattle.step_core.proofs.OneView.LaterViews.{IsLater-claimed, IsLater-finished, IsLater-joined, IsLater-loaded, IsLater-parted, IsLater-stepped}
+use Rattle.step_core.proofs.OneView.LaterViews.{IsLater-counted, IsLater-half, IsLater-pointed, IsLater-treed, IsLater-claimed, IsLater-finished}
+use Rattle.step_core.proofs.OneView.LaterViews.{IsLater-joined, IsLater-loaded, IsLater-parted, IsLater-stepped}
 use Rattle.step_core.proofs.Parts.ViewLists.{at-set_other}
-use Rattle.step_core.proofs.Seen.SawWords.{AreBehind-write}
+use Rattle.step_core.proofs.Seen.Looks.{AreBehind-write}
 use Rattle.step_core.proofs.Steps.WorldJoins.{IsWorld-joined}
-use Rattle.step_core.proofs.Steps.WorldLowers.{AreBehind-lowered, IsLater-lowered, IsWorld-lowered}
-use Rattle.step_core.proofs.Steps.WorldNodes.{AreBehind-half, AreBehind-pointed, AreBehind-treed, IsLater-link, IsWorld-counted, IsWorld-half, IsWorld-linked}
-use Rattle.step_core.proofs.Steps.WorldNodes.{IsWorld-pointed, IsWorld-treed}
+use Rattle.step_core.proofs.Steps.WorldNodes.{AreBehind-lowered, IsLater-lowered, IsWorld-lowered, AreBehind-half, AreBehind-pointed, AreBehind-treed}
+use Rattle.step_core.proofs.Steps.WorldNodes.{IsLater-link, IsWorld-counted, IsWorld-half, IsWorld-linked, IsWorld-pointed, IsWorld-treed}
 use Rattle.step_core.proofs.Steps.WorldPosts.{IsLater-best, IsWorld-best_loaded, IsWorld-posted}
 use Rattle.step_core.proofs.Steps.WorldSplits.{IsCut-looker, IsCut-parted, IsWorld-cut}
-use Rattle.step_core.proofs.Steps.WorldSteps.{AreBehind-claimed, IsWorld-claimed, IsWorld-loaded, live}
+use Rattle.step_core.proofs.Steps.WorldSteps.{IsWorld-claimed, IsWorld-loaded, live}
 
 -- the law holds afterwards
 pub IsWorld-stepped :
@@ -64,7 +63,7 @@ IsWorld-stepped now is (Step.Join other taken) after made =
 
 -- what each word was may become what it is
 pub AreBehind-stepped : (now : Moment) → IsMoment now → (step : Step) (after : Words) → Steps now step after → AreBehind now.words after
-AreBehind-stepped now is (Step.Claim g limit) after made = AreBehind-claimed now.words after g _ refl made.leaves
+AreBehind-stepped now is (Step.Claim g limit) after made = AreBehind-write _ _ now.words after made.leaves (omega arith)
 AreBehind-stepped now is (Step.WritePoint hand nearest at) after made =
     AreBehind-pointed is made.may.0.held made.may.0.far at after made.leaves
 AreBehind-stepped now is (Step.WriteFirst hand parent cost) after made =
@@ -77,12 +76,8 @@ AreBehind-stepped now is (Step.Finish hand entry) after made =
     AreBehind-finished now.run now.words after now.views now.id now.view is.world is.at hand made.may.held _ made.leaves
 AreBehind-stepped now is (Step.Link hand node side) after made = AreBehind-write _ _ now.words after made.leaves (inl made.may.empty)
 AreBehind-stepped now is (Step.Add hand) after made = AreBehind-write _ _ now.words after made.leaves (omega arith)
-AreBehind-stepped now is (Step.Load name) after made = subst (AreBehind now.words) (sym made.leaves) (AreBehind-refl now.words)
-AreBehind-stepped now is Step.LoadBest after made = subst (AreBehind now.words) (sym made.leaves) (AreBehind-refl now.words)
 AreBehind-stepped now is (Step.Post n) after made = AreBehind-write _ _ now.words after made.leaves tt
-AreBehind-stepped now is Step.HandOn after made = subst (AreBehind now.words) (sym made.leaves) (AreBehind-refl now.words)
-AreBehind-stepped now is Step.Look after made = subst (AreBehind now.words) (sym made.leaves) (AreBehind-refl now.words)
-AreBehind-stepped now is (Step.Join other taken) after made = subst (AreBehind now.words) (sym made.leaves) (AreBehind-refl now.words)
+AreBehind-stepped now is step after made = subst (AreBehind now.words) (sym made.leaves) (AreBehind-refl now.words)
 
 -- the view that stepped is a later one
 pub IsLater-step : (now : Moment) → IsMoment now → (step : Step) (after : Words) → Steps now step after → IsLater now.view (view_after now step)
@@ -114,17 +109,10 @@ IsLater-step now is (Step.Join other taken) after made = IsLater-joined now.view
 
 -- the best word does not rise
 pub best-stepped : (now : Moment) → IsMoment now → (step : Step) (after : Words) → Steps now step after → after Best ≤ now.words Best
-best-stepped now is (Step.Claim g limit) after made = omega (arith, made.leaves.others Best (λ e. cc))
-best-stepped now is (Step.WritePoint hand nearest at) after made = omega (arith, made.leaves.others Best (λ e. cc))
-best-stepped now is (Step.WriteFirst hand parent cost) after made = omega (arith, made.leaves.others Best (λ e. cc))
-best-stepped now is (Step.WriteTree hand) after made = omega (arith, made.leaves.others Best (λ e. cc))
-best-stepped now is (Step.Link hand node side) after made = omega (arith, made.leaves.others Best (λ e. cc))
-best-stepped now is (Step.Add hand) after made = omega (arith, made.leaves.others Best (λ e. cc))
-best-stepped now is (Step.Lower node parent cost) after made = omega (arith, made.leaves.others Best (λ e. cc))
 best-stepped now is (Step.Post n) after made = omega (arith, made.leaves.here)
-best-stepped now is (Step.Finish hand entry) after made = omega (arith, made.leaves.others Best (λ e. cc))
 best-stepped now is (Step.Load name) after made = omega (arith, ap (λ w. w Best) made.leaves)
 best-stepped now is Step.LoadBest after made = omega (arith, ap (λ w. w Best) made.leaves)
 best-stepped now is Step.HandOn after made = omega (arith, ap (λ w. w Best) made.leaves)
 best-stepped now is Step.Look after made = omega (arith, ap (λ w. w Best) made.leaves)
 best-stepped now is (Step.Join other taken) after made = omega (arith, ap (λ w. w Best) made.leaves)
+best-stepped now is step after made = omega (arith, made.leaves.others Best (λ e. cc))

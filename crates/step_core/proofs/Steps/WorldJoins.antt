@@ -1,27 +1,26 @@
 -- A join keeps the law of worlds: shares are added, and what either has seen is seen.
-use Rattle.step_core.proofs.Words.{◌≡◌, ◌≢◌, ◌<◌, ◌≤◌, ◌^◌, [], ◌∷◌, ◌++◌, ◌∙◌, ◌⊎◌, ◌==◌, ℕ, zero, suc, max, Bool, true, false, List, min, length}
-use Rattle.step_core.proofs.Words.{length-append, set, Some, None, refl, sym, ap, subst, inl, inr, arith, zero-le, cond, cases_eq, eqb-true, eqb-false, ne_eqb}
-use Rattle.step_core.proofs.Words.{sum_by-append, some, some-ne-none, get_elem?, once_if, AreSeenLawfully, AreSeenLawfully-either, has_node, AreBehind}
-use Rattle.step_core.proofs.Words.{HaveWholePairs, MayBecome, WordKind, kind_of, later_word, Rising, Once, Falling, Apart, Word, Words, Count, Best, Counter}
-use Rattle.step_core.proofs.Words.{PointOf, ChildOf, TreeOf, FirstOf, RecordOf, Sizes, word_count, cost_in, tree_of_word, min-either, has_count, has_first}
-use Rattle.step_core.proofs.Words.{has_link, has_point, has_tree, holds_at, joined, last_seen, IsAtMostPlaced, SeesTree, IsViewOf, holds, no_run, run_sizes}
-use Rattle.step_core.proofs.Words.{sees, setup_in, share, spent, times, took_over, tree_seen, words_of_run, Agree, BestCopy, EachView, HasCopy, IsBestWord}
-use Rattle.step_core.proofs.Words.{IsMember, IsWorld, SeesBest, greatest_limit, hands_at, limit_of, state_in, Member, SharedRun, Stage, View}
+use Rattle.step_core.proofs.Words.{◌≡◌, ◌≢◌, ◌<◌, ◌≤◌, ◌^◌, [], ◌∷◌, ◌++◌, ◌∙◌, ◌⊎◌, ◌==◌, ℕ, zero, suc, max, Bool, true, false, List, length, length-append}
+use Rattle.step_core.proofs.Words.{set, Some, None, refl, sym, ap, subst, inl, inr, arith, zero-le, cond, cases_eq, eqb-true, eqb-false, ne_eqb, sum_by-append}
+use Rattle.step_core.proofs.Words.{some, some-ne-none, get_elem?, once_if, AreSeenLawfully, AreSeenLawfully-either, has_node, AreBehind, HaveWholePairs}
+use Rattle.step_core.proofs.Words.{MayBecome, WordKind, kind_of, later_word, Rising, Once, Falling, Apart, Word, Words, Best, TreeOf, RecordOf, Sizes}
+use Rattle.step_core.proofs.Words.{word_count, cost_in, tree_of_word, min-either, has_count, has_first, has_link, has_point, has_tree, holds_at, joined}
+use Rattle.step_core.proofs.Words.{last_seen, IsAtMostPlaced, SeesTree, IsViewOf, holds, no_run, run_sizes, sees, setup_in, share, spent, times, took_over}
+use Rattle.step_core.proofs.Words.{tree_seen, words_of_run, Agree, EachView, IsBestWord, IsMember, IsWorld, SeesBest, greatest_limit, hands_at, limit_of}
+use Rattle.step_core.proofs.Words.{state_in, Member, SharedRun, Stage, View, SomeSharer}
 use Rattle.grown_runs.specs.Table.WordPlaces.{word_at}
-use Rattle.step_core.proofs.Seen.LaterWords.{IsWholePair-later, MayBecome-later, later_word-either, MayBecome-other_to_later, MayBecome-to_later, length-merged}
-use Rattle.step_core.proofs.Seen.LaterWords.{word_at-merged}
+use Rattle.step_core.proofs.Seen.LaterWords.{IsWholePair-later, MayBecome-later, MayBecome-other_to_later, MayBecome-to_later, length-merged, word_at-merged}
 use Rattle.step_core.proofs.Parts.ViewLists.{at-set, at-set_other, each-set, maximum-most, maximum-one, same-at, sum-set}
-use Rattle.step_core.proofs.OneView.SeenTreesTogether.{SeesTree-joined}
-use Rattle.step_core.proofs.Seen.Looks.{same_name}
-use Rattle.step_core.proofs.Seen.PlacedWords.{has_node-same}
+use Rattle.step_core.proofs.OneView.SeenTreesOfViews.{SeesTree-joined, sees-either}
+use Rattle.step_core.proofs.Seen.SeenWords.{has_node-same}
 use Rattle.step_core.proofs.Parts.WorldBests.{goal-seen_before, same_first_cost}
 use Rattle.step_core.proofs.Parts.WorldCopies.{same-later, told-kind}
-use Rattle.step_core.proofs.Parts.WorldNotes.{Empties-joined, GoesTo-seen, Notes-joined, last_seen-table, zero-read}
+use Rattle.step_core.proofs.Parts.WorldNotes.{Empties-joined, GoesTo-seen, Notes-joined, zero-read}
 use Rattle.step_core.proofs.Parts.WorldHands.{Hands-views, IsWrittenFor}
 use Rattle.step_core.proofs.Parts.WorldLinks.{LinkedTree-views}
 use Rattle.step_core.proofs.Parts.WorldPairs.{HasFirst, HasFirst-none, HasTree, HasTree-none, Pairs-views}
 use Rattle.step_core.proofs.Parts.WorldParts.{agree-set, quotas-kept}
 use Rattle.step_core.proofs.Steps.WorldSteps.{live}
+use Rattle.step_core.proofs.Parts.MarksInHand.{limit_of-most}
 
 -- ---- nothing seen
 
@@ -42,9 +41,6 @@ sees-spent name = zero-read (run_sizes no_run) 0 name
 AreBehind-spent : (words : Words) → AreBehind (sees spent) words
 AreBehind-spent words = AreBehind-nothing (run_sizes no_run) words
 
-Agree-spent : (other : Words) → Agree (sees spent) other
-Agree-spent other n written also same = absurd (omega (arith, written, sees-spent (TreeOf n)))
-
 -- ---- limits
 
 limit_of-joined : (view other : View) → max (limit_of view) (limit_of other) ≤ limit_of (joined view other)
@@ -56,12 +52,8 @@ limit_of-joined view other =
           rw a (rw b (omega arith)))
       | inr some_share ↦
           subst (λ t. max (limit_of view) (limit_of other) ≤ cond t 0 (max view.most other.most)) (sym (ne_eqb (share (joined view other)) 0 some_share))
-          (omega (arith, top view (share view == 0), top other (share other == 0)))
+          (omega (arith, limit_of-most view, limit_of-most other))
     ]
-  where
-    top : (u : View) (b : Bool) → cond b 0 u.most ≤ u.most
-    top u true = omega arith
-    top u false = omega arith
 
 crew_at : (mine theirs : List Member) (i : ℕ) (member : Member) → get_elem? (mine ++ theirs) i ≡ some member
     → ((j : ℕ) × (get_elem? mine j ≡ some member)) ⊎ ((j : ℕ) × (get_elem? theirs j ≡ some member))
@@ -105,11 +97,6 @@ module _ (run : SharedRun) (words : Words) (views : List View) (id : ℕ) (view 
       subst (λ w. MayBecome (kind_of name) w (words name)) (sym (sees_both name))
       (MayBecome-later (kind_of name) (sees view name) (sees other name) (words name) (world.seen.behind id view at name) (world.seen.behind j other was name))
 
-  whole_both : HaveWholePairs (sees both)
-  whole_both n =
-      subst (λ w. (w ≡ 0) ⊎ (2 ^ 63 ≤ w)) (sym (sees_both (TreeOf n)))
-      (IsWholePair-later (sees view (TreeOf n)) (sees other (TreeOf n)) (world.seen.pairs_seen id view at n) (world.seen.pairs_seen j other was n))
-
   -- what the other had seen may become what both see
   plain :
       (name : Word) → (kind_of name ≡ Falling → ⊥) → MayBecome (kind_of name) (sees other name) (later_word (kind_of name) (sees view name) (sees other name))
@@ -122,39 +109,19 @@ module _ (run : SharedRun) (words : Words) (views : List View) (id : ℕ) (view 
       MayBecome-other_to_later Falling (sees view (TreeOf n)) (sees other (TreeOf n)) (words (TreeOf n)) (world.seen.behind id view at (TreeOf n))
       (world.seen.behind j other was (TreeOf n)) (λ e. world.seen.pairs_seen id view at n)
       (λ e written also same. world.seen.agree id view at j other was n written also same) (λ e. world.seen.pairs_seen j other was n)
-  to_later Count = plain Count (λ e. cc)
-  to_later Best = tt
-  to_later (Counter g) = plain (Counter g) (λ e. cc)
-  to_later (PointOf n) = plain (PointOf n) (λ e. cc)
-  to_later (ChildOf n side) = plain (ChildOf n side) (λ e. cc)
-  to_later (FirstOf n) = plain (FirstOf n) (λ e. cc)
-  to_later (RecordOf k) = plain (RecordOf k) (λ e. cc)
+  to_later name = plain name (λ e. cc)
 
   pub AreBehind-other : AreBehind (sees other) (sees both)
   AreBehind-other name = subst (MayBecome (kind_of name) (sees other name)) (sym (sees_both name)) (to_later name)
 
-  took_both : AreBehind (took_over both) (sees both)
-  took_both name = subst (λ w. MayBecome (kind_of name) w (sees both name)) (sym (sees_other name)) (AreBehind-other name)
-
   -- each word that both see is one that one of them saw,
   of_one : (name : Word) → (sees both name ≡ sees view name) ⊎ (sees both name ≡ sees other name)
-  of_one name =
-      elim (later_word-either (kind_of name) (sees view name) (sees other name)) [
-        | inl mine ↦ inl (sees_both name ∙ mine)
-        | inr theirs ↦ inr (sees_both name ∙ theirs)
-      ]
+  of_one = sees-either view other (own_too ∙ sym own)
 
   -- and so is the best word
   last_of_one : (name : Word) → (last_seen both name ≡ last_seen view name) ⊎ (last_seen both name ≡ last_seen other name)
-  last_of_one name =
-      elim (same_name name Best) [
-        | inl is ↦ subst (λ m. (last_seen both m ≡ last_seen view m) ⊎ (last_seen both m ≡ last_seen other m)) (sym is)
-            (min-either (λ best. (best ≡ view.best) ⊎ (best ≡ other.best)) view.best other.best (inl refl) (inr refl))
-        | inr off ↦ elim (of_one name) [
-          | inl mine ↦ inl (last_seen-table both name off ∙ mine ∙ sym (last_seen-table view name off))
-          | inr theirs ↦ inr (last_seen-table both name off ∙ theirs ∙ sym (last_seen-table other name off))
-        ]
-      ]
+  last_of_one Best = min-either (λ best. (best ≡ view.best) ⊎ (best ≡ other.best)) view.best other.best (inl refl) (inr refl)
+  last_of_one name = of_one name
 
   agree_both : (i : ℕ) (u : View) → get_elem? views i ≡ some u → Agree (sees both) (sees u)
   agree_both i u e n written also same =
@@ -271,10 +238,14 @@ module _ (run : SharedRun) (words : Words) (views : List View) (id : ℕ) (view 
       };
       seen = record {
         behind = each (λ u. AreBehind (sees u) words) world.seen.behind behind_both (AreBehind-spent words);
-        took = each (λ u. AreBehind (took_over u) (sees u)) world.seen.took took_both (AreBehind-spent (sees spent));
+        took = each (λ u. AreBehind (took_over u) (sees u)) world.seen.took
+            (λ name. subst (λ w. MayBecome (kind_of name) w (sees both name)) (sym (sees_other name)) (AreBehind-other name)) (AreBehind-spent (sees spent));
         pairs = world.seen.pairs;
-        pairs_seen = each (λ u. HaveWholePairs (sees u)) world.seen.pairs_seen whole_both (λ n. inl (sees-spent (TreeOf n)));
-        agree = agree-set middle j spent (agree-set views id both world.seen.agree (λ i u off e. agree_both i u e)) (λ i u off e. Agree-spent (sees u));
+        pairs_seen = each (λ u. HaveWholePairs (sees u)) world.seen.pairs_seen (λ n.
+            subst (λ w. (w ≡ 0) ⊎ (2 ^ 63 ≤ w)) (sym (sees_both (TreeOf n))) (IsWholePair-later (sees view (TreeOf n)) (sees other (TreeOf n))
+            (world.seen.pairs_seen id view at n) (world.seen.pairs_seen j other was n))) (λ n. inl (sees-spent (TreeOf n)));
+        agree = agree-set middle j spent (agree-set views id both world.seen.agree (λ i u off e. agree_both i u e))
+            (λ i u off e n written also same. absurd (omega (arith, written, sees-spent (TreeOf n))));
       };
       links = LinkedTree-views run words views after world.links (hands_both has_link) (hands_both has_count);
       hands = Hands-views words views after world.hands
@@ -291,8 +262,11 @@ module _ (run : SharedRun) (words : Words) (views : List View) (id : ℕ) (view 
       sights = each (λ u. u.run ≡ run → SeesTree u) world.sights
           (λ of. SeesTree-joined view other (own_too ∙ sym own) (AreBehind-joined view other) AreBehind-other idle_too (world.sights id view at own)
           (world.sights j other was own_too)) (λ of. absurd (live_spent of));
-      copies = λ name told. copy_after name (told-kind run words name told) (world.copies name told);
-      best_copy = best_after world.best_copy;
+      copies = λ name told. sharer_after (λ u. sees u name ≡ words name)
+          (same-later name (told-kind run words name told) (sees view) (sees both) words (AreBehind-joined view other) behind_both)
+          (same-later name (told-kind run words name told) (sees other) (sees both) words AreBehind-other behind_both) (world.copies name told);
+      best_copy = sharer_after (λ u. u.best ≡ words Best) (λ saw. omega (arith, saw, (world.bests j other was own_too).falls))
+          (λ saw. omega (arith, saw, (world.bests id view at own).falls)) world.best_copy;
       notes = Notes-joined run words views id view j other both at was apart there own own_too live_spent refl (omega arith) refl world.notes (λ name. refl)
           (λ name. GoesTo-seen view both name (AreBehind-joined view other name) (omega arith)) last_of_one;
       empties = Empties-joined run words views id view j other both at was apart there own own_too live_spent refl (omega arith) refl world.empties
@@ -301,30 +275,13 @@ module _ (run : SharedRun) (words : Words) (views : List View) (id : ℕ) (view 
       bests = each (λ u. u.run ≡ run → SeesBest run words u) world.bests (λ of. best_both) (λ of. absurd (live_spent of));
     }
       where
-        -- who saw a word as it is, is still there, or has come into both
-        copy_both :
-            (name : Word) → kind_of name ≢ Apart → (u : View) → 0 < share u → share u ≤ share both → AreBehind (sees u) (sees both)
-            → sees u name ≡ words name → HasCopy run words after name
-        copy_both name told u part below more same =
-            record {
-              id = id;
-              view = both;
-              at = here;
-              run_is = own;
-              part = omega (arith, part, below);
-              same = same-later name told (sees u) (sees both) words more behind_both same;
-            }
-
-        copy_after : (name : Word) → kind_of name ≢ Apart → HasCopy run words views name → HasCopy run words after name
-        copy_after name told copy =
+        -- who has something to tell is still there, or has come into both
+        sharer_after : (has : View → Type 0) → (has view → has both) → (has other → has both) → SomeSharer run views has → SomeSharer run after has
+        sharer_after has mine theirs copy =
             elim (same-at views copy.id id copy.view view copy.at at) [
-              | inl (same, is) ↦
-                  copy_both name told view (subst (λ u. 0 < share u) is copy.part) (omega (arith, length-append view.crew other.crew))
-                  (AreBehind-joined view other) (ap (λ u. sees u name) (sym is) ∙ copy.same)
+              | inl (same, is) ↦ of_both (omega (arith, ap share is, copy.part, length-append view.crew other.crew)) (mine (subst has is copy.same))
               | inr off ↦ elim (same-at views copy.id j copy.view other copy.at was) [
-                | inl (same, is) ↦
-                    copy_both name told other (subst (λ u. 0 < share u) is copy.part) (omega (arith, length-append view.crew other.crew)) AreBehind-other
-                    (ap (λ u. sees u name) (sym is) ∙ copy.same)
+                | inl (same, is) ↦ of_both (omega (arith, ap share is, copy.part, length-append view.crew other.crew)) (theirs (subst has is copy.same))
                 | inr off_too ↦ record {
                   id = copy.id;
                   view = copy.view;
@@ -335,31 +292,9 @@ module _ (run : SharedRun) (words : Words) (views : List View) (id : ℕ) (view 
                 }
               ]
             ]
-
-        -- so it is of the best word: neither knew a lesser one than that now
-        best_seen : min view.best other.best ≡ words Best → 0 < share both → BestCopy run words after
-        best_seen same part = record { id = id; view = both; at = here; run_is = own; part = part; same = same }
-
-        best_after : BestCopy run words views → BestCopy run words after
-        best_after copy =
-            let mine = (world.bests id view at own).falls in
-            let theirs = (world.bests j other was own_too).falls in
-            elim (same-at views copy.id id copy.view view copy.at at) [
-              | inl (same, is) ↦
-                  best_seen (omega (arith, ap (λ u. u.best) is, copy.same, theirs)) (omega (arith, ap share is, copy.part, length-append view.crew other.crew))
-              | inr off ↦ elim (same-at views copy.id j copy.view other copy.at was) [
-                | inl (same, is) ↦
-                    best_seen (omega (arith, ap (λ u. u.best) is, copy.same, mine)) (omega (arith, ap share is, copy.part, length-append view.crew other.crew))
-                | inr off_too ↦ record {
-                  id = copy.id;
-                  view = copy.view;
-                  at = at-set_other middle j copy.id spent off_too ∙ at-set_other views id copy.id both off ∙ copy.at;
-                  run_is = copy.run_is;
-                  part = copy.part;
-                  same = copy.same;
-                }
-              ]
-            ]
+          where
+            of_both : 0 < share both → has both → SomeSharer run after has
+            of_both part same = record { id = id; view = both; at = here; run_is = own; part = part; same = same }
 
         hands_both : (test : Stage → Bool) (k : ℕ) → hands_at test k after ≡ hands_at test k views
         hands_both test k =

@@ -1,24 +1,20 @@
 -- The best word is loaded, and a goal node is posted to it. Both steps keep the law of worlds.
-use Rattle.step_core.proofs.Words.{◌≡◌, ◌+◌, ◌<◌, ◌≤◌, ◌^◌, ◌∙◌, ◌⊎◌, ◌==◌, ◌&&◌, ℕ, zero, suc, Bool, true, false, List, set, Option, Some, None, refl, sym, ap}
+use Rattle.step_core.proofs.Words.{◌≡◌, ◌+◌, ◌<◌, ◌≤◌, ◌^◌, ◌∙◌, ◌⊎◌, ◌==◌, ◌&&◌, ℕ, suc, Bool, true, false, List, set, Option, Some, None, refl, sym, ap}
 use Rattle.step_core.proofs.Words.{subst, inl, inr, arith, le_refl, le_trans, IsTrue, cond, eqb-true, div-mul-add, mod-mul-add, same_Some, some, get_elem?}
-use Rattle.step_core.proofs.Words.{steered, mark_at, IsGoalNode, is_goal_point, IsPresent, StandsAt, point_at, Hangs, first_cost_through, GrowsInto}
-use Rattle.step_core.proofs.Words.{IsPresent-goal, GrowsInto-refl, has_node, Words, WritesWord, Best, ChildOf, Count, Counter, FirstOf, PointOf, RecordOf}
-use Rattle.step_core.proofs.Words.{TreeOf, best_cost_in, best_node_in, best_word, cost_in, point_word, tree_word, cost_in-tree_word, AreBehind-refl}
-use Rattle.step_core.proofs.Words.{AreBehind-trans, min-either, IsLater, IsAtMostPlaced, IsUnskipped, MayPost, SeesGoal, linked_points, has_count, has_first}
-use Rattle.step_core.proofs.Words.{has_link, has_point, has_tree, holds_at, best_loaded, best_taken, best_with, hand_with_best, hand_with_post, pair_in_hand}
-use Rattle.step_core.proofs.Words.{post_noted, posted, steps_then, with_best, IsSeenPair, SeesTree, IsViewOf, holds, last_look, run_sizes, sees, setup_in}
-use Rattle.step_core.proofs.Words.{tree_seen, BestCopy, BestWord, IsBestWord, IsFirstOf, IsWorld, LinkedTree, SeenBests, SeesBest, state_in, Hand, Note}
-use Rattle.step_core.proofs.Words.{SharedRun, Stage, Claimed, Counted, Half, Linked, Pointed, Posted, Treed, View}
-use Rattle.step_core.proofs.OneView.LawfulPairs.{IsSeenPair-lawful}
+use Rattle.step_core.proofs.Words.{IsGoalNode, is_goal_point, point_at, GrowsInto, IsPresent-goal, Words, WritesWord, Best, ChildOf, Count, Counter, FirstOf}
+use Rattle.step_core.proofs.Words.{PointOf, RecordOf, TreeOf, best_cost_in, best_node_in, best_word, cost_in, point_word, cost_in-tree_word, AreBehind-refl}
+use Rattle.step_core.proofs.Words.{min-either, IsLater, IsAtMostPlaced, IsUnskipped, MayPost, SeesGoal, linked_points, has_count, has_first, has_link}
+use Rattle.step_core.proofs.Words.{has_point, has_tree, holds_at, best_loaded, best_taken, best_with, hand_with_best, hand_with_post, pair_in_hand, post_noted}
+use Rattle.step_core.proofs.Words.{posted, steps_then, with_best, IsSeenPair, SeesTree, IsViewOf, holds, last_look, run_sizes, sees, tree_seen, BestCopy}
+use Rattle.step_core.proofs.Words.{IsBestWord, IsFirstOf, IsWorld, LinkedTree, SeesBest, state_in, Hand, Note, SharedRun, Stage, Claimed, Counted, Posted, View}
+use Rattle.step_core.proofs.Words.{SeesHand}
+use Rattle.step_core.proofs.OneView.LawfulSights.{IsSeenPair-lawful, goal-now, least-now}
 use Rattle.step_core.proofs.Parts.LinkedStates.{few_nodes, first_cost-linked, linked-present}
-use Rattle.step_core.proofs.Seen.PlacedWords.{has_node-same}
-use Rattle.step_core.proofs.Seen.Looks.{same_name}
-use Rattle.step_core.proofs.Seen.SawWords.{AreBehind-write, cost_in-falls}
+use Rattle.step_core.proofs.Seen.SeenWords.{linked-within, same_once, has_node-kept}
+use Rattle.step_core.proofs.Seen.Looks.{same_name, AreBehind-write, cost_in-falls, HaveWholePairs-write}
 use Rattle.step_core.proofs.Seen.SeenByViews.{IsViewOf-best, WritesWord-look_best}
-use Rattle.step_core.proofs.OneView.SeenGoals.{goal-now, least-now}
 use Rattle.step_core.proofs.OneView.SeenViews.{SeesHand-later}
-use Rattle.step_core.proofs.Seen.TrueWords.{linked-within}
-use Rattle.step_core.proofs.Parts.WorldBests.{BestWord-step, IsBestWord-grows, SeenBests-set, SeesBest-goes_on}
+use Rattle.step_core.proofs.Parts.WorldBests.{BestWord-step, IsBestWord-grows, SeesBest-goes_on, SeenBests-step}
 use Rattle.step_core.proofs.Parts.ViewLists.{at-set}
 use Rattle.step_core.proofs.Parts.WorldCopies.{BestCopy-step, Copies-untold}
 use Rattle.step_core.proofs.Parts.NotedSteps.{KeepsNotes, KeepsNotes-kept, LeavesNotes-none, LeavesNotes-one, shown-best}
@@ -26,8 +22,8 @@ use Rattle.step_core.proofs.Parts.Shifts.{IsShift, Shift, shift_at}
 use Rattle.step_core.proofs.Parts.WorldHands.{Hands-step}
 use Rattle.step_core.proofs.Parts.WorldLinks.{KeepsLinks, LinkedTree-kept}
 use Rattle.step_core.proofs.Steps.WorldSteps.{IsWorld-kept, KeepsMarks, grows_kept, numbers_kept, live, tree}
-use Rattle.step_core.proofs.Parts.WorldPairs.{IsFirstOf-grows, Pairs-step}
-use Rattle.step_core.proofs.Parts.WorldParts.{is_recorded-kept}
+use Rattle.step_core.proofs.Parts.WorldPairs.{IsFirstOf-grows, Pairs-step, IsFirstOf-stage}
+use Rattle.step_core.proofs.Parts.WorldParts.{is_recorded-kept, SeesOn, SeesOn-same}
 use Rattle.step_core.proofs.Parts.WorldTrees.{Trees-kept}
 
 -- ---- hands
@@ -36,141 +32,106 @@ use Rattle.step_core.proofs.Parts.WorldTrees.{Trees-kept}
 abbrev pub TellsSame : (Stage → Bool) → Type 0
 TellsSame test = test Posted ≡ test Counted
 
--- a hand with the same mark and words, that has come as far by all such tests
-pub record IsSameHand (was next : Hand) : Type 0 where
-  pub mark : next.mark ≡ was.mark
-  pub nearest : next.nearest ≡ was.nearest
-  pub point : next.point ≡ was.point
-  pub parent : next.parent ≡ was.parent
-  pub cost : next.cost ≡ was.cost
-  pub far : (test : Stage → Bool) → TellsSame test → test next.stage ≡ test was.stage
-  pub best : has_point was.stage ≡ true → next.best ≡ was.best
+-- A hand with the same mark and words, that has come as far by all such tests. A best in it that is new has the one property, and if it has
+-- posted its node now, it had the other.
+pub record IsSameHand (new : ℕ → Type 0) (now : Hand → Type 0) (was next : Hand) : Type 0 where
+  pub stage : Stage
+  pub best : Option ℕ
+  pub is : next ≡ record was { stage = stage; best = best }
+  pub far : (test : Stage → Bool) → TellsSame test → test stage ≡ test was.stage
+  pub kept : has_point was.stage ≡ true → best ≡ was.best
+  pub taken : (word : ℕ) → best ≡ Some word → new word ⊎ (was.best ≡ Some word)
+  pub posted : stage ≡ Posted → now was ⊎ (was.stage ≡ Posted)
 
-pub record KeepsHand (was next : Option Hand) : Type 0 where
-  pub old : (hand : Hand) → next ≡ Some hand → (old : Hand) × (was ≡ Some old) × IsSameHand old hand
+pub record KeepsHand (new : ℕ → Type 0) (now : Hand → Type 0) (was next : Option Hand) : Type 0 where
+  pub old : (hand : Hand) → next ≡ Some hand → (old : Hand) × (was ≡ Some old) × IsSameHand new now old hand
   pub holds : (k : ℕ) → holds k next ≡ holds k was
   pub at : (test : Stage → Bool) → TellsSame test → (k : ℕ) → holds_at test k next ≡ holds_at test k was
   pub none : was ≡ None → next ≡ None
 
-IsSameHand-refl : (hand : Hand) → IsSameHand hand hand
-IsSameHand-refl hand = record { mark = refl; nearest = refl; point = refl; parent = refl; cost = refl; far = λ test same. refl; best = λ on. refl }
+module _ {new : ℕ → Type 0} {now : Hand → Type 0} where
+  IsSameHand-refl : (hand : Hand) → IsSameHand new now hand hand
+  IsSameHand-refl hand = record {
+    stage = hand.stage;
+    best = hand.best;
+    is = refl;
+    far = λ test same. refl;
+    kept = λ on. refl;
+    taken = λ word has. inr has;
+    posted = λ on. inr on;
+  }
 
-KeepsHand-some : (was next : Hand) → IsSameHand was next → KeepsHand (Some was) (Some next)
-KeepsHand-some was next same = record {
-  old = λ hand e. (was, refl, subst (IsSameHand was) (same_Some next hand e) same);
-  holds = λ k. ap (λ m. m == k) same.mark;
-  at = λ test tells k. ap (λ m. (m == k) && test next.stage) same.mark ∙ ap (λ b. (was.mark == k) && b) (same.far test tells);
-  none = λ e. cc;
-}
+  KeepsHand-some : (was next : Hand) → IsSameHand new now was next → KeepsHand new now (Some was) (Some next)
+  KeepsHand-some was next same = record {
+    old = λ hand e. (was, refl, subst (IsSameHand new now was) (same_Some next hand e) same);
+    holds = λ k. ap (λ (h : Hand). h.mark == k) same.is;
+    at = λ test tells k. ap (λ (h : Hand). (h.mark == k) && test h.stage) same.is ∙ ap (λ b. (was.mark == k) && b) (same.far test tells);
+    none = λ e. cc;
+  }
 
-KeepsHand-none : KeepsHand None None
-KeepsHand-none = record { old = λ hand e. cc; holds = λ k. refl; at = λ test tells k. refl; none = λ e. refl }
+  KeepsHand-none : KeepsHand new now None None
+  KeepsHand-none = record { old = λ hand e. cc; holds = λ k. refl; at = λ test tells k. refl; none = λ e. refl }
 
 -- a load of the best word: a hand for whose mark nothing is written takes it
-taken-cases : (stage : Stage) (hand : Hand) (word : ℕ)
-    → ((stage ≡ Claimed) × (best_taken stage hand word ≡ record hand { best = Some word })) ⊎ (best_taken stage hand word ≡ hand)
-taken-cases Claimed hand word = inl (refl, refl)
-taken-cases Pointed hand word = inr refl
-taken-cases Half hand word = inr refl
-taken-cases Treed hand word = inr refl
-taken-cases Linked hand word = inr refl
-taken-cases Counted hand word = inr refl
-taken-cases Posted hand word = inr refl
+abbrev Nobody : Hand → Type 0
+Nobody hand = ⊥
 
-taken-same : (hand : Hand) (word : ℕ) → IsSameHand hand (best_taken hand.stage hand word)
-taken-same hand word =
-    elim (taken-cases hand.stage hand word) [
-      | inr is ↦ subst (IsSameHand hand) (sym is) (IsSameHand-refl hand)
-      | inl (far, is) ↦ subst (IsSameHand hand) (sym is) record {
-        mark = refl;
-        nearest = refl;
-        point = refl;
-        parent = refl;
-        cost = refl;
-        far = λ test same. refl;
-        best = λ on. let no = sym (ap has_point far) ∙ on in cc;
-      }
-    ]
+taken-same : (stage : Stage) (hand : Hand) (word : ℕ) → hand.stage ≡ stage → IsSameHand (λ w. w ≡ word) Nobody hand (best_taken stage hand word)
+taken-same Claimed hand word far = record {
+  stage = hand.stage;
+  best = Some word;
+  is = refl;
+  far = λ test same. refl;
+  kept = λ on. let no = sym (ap has_point far) ∙ on in cc;
+  taken = λ w has. inl (sym (same_Some word w has));
+  posted = λ on. inr on;
+}
+taken-same stage hand word far = IsSameHand-refl hand
 
-pub KeepsHand-best : (hand : Option Hand) (word : ℕ) → KeepsHand hand (hand_with_best hand word)
+KeepsHand-best : (hand : Option Hand) (word : ℕ) → KeepsHand (λ w. w ≡ word) Nobody hand (hand_with_best hand word)
 KeepsHand-best None word = KeepsHand-none
-KeepsHand-best (Some hand) word = KeepsHand-some hand (best_taken hand.stage hand word) (taken-same hand word)
+KeepsHand-best (Some hand) word = KeepsHand-some hand (best_taken hand.stage hand word) (taken-same hand.stage hand word refl)
 
 -- a post: a hand that has counted the node has posted it
-noted-cases : (stage : Stage) (hand : Hand) (n : ℕ)
-    → ((stage ≡ Counted) × (suc hand.mark ≡ n) × (post_noted stage hand n ≡ record hand { stage = Posted })) ⊎ (post_noted stage hand n ≡ hand)
-noted-cases Claimed hand n = inr refl
-noted-cases Pointed hand n = inr refl
-noted-cases Half hand n = inr refl
-noted-cases Treed hand n = inr refl
-noted-cases Linked hand n = inr refl
-noted-cases Posted hand n = inr refl
-noted-cases Counted hand n = by_test (suc hand.mark == n) refl
+abbrev HasCounted : ℕ → Hand → Type 0
+HasCounted n hand = (hand.stage ≡ Counted) × (suc hand.mark ≡ n)
+
+noted-same : (stage : Stage) (hand : Hand) (n : ℕ) → hand.stage ≡ stage → IsSameHand (λ w. ⊥) (HasCounted n) hand (post_noted stage hand n)
+noted-same Counted hand n far = by_test (suc hand.mark == n) refl
   where
-    by_test : (b : Bool) → (suc hand.mark == n) ≡ b
-        → ((Counted ≡ Counted) × (suc hand.mark ≡ n) × (cond b (record hand { stage = Posted }) hand ≡ record hand { stage = Posted }))
-        ⊎ (cond b (record hand { stage = Posted }) hand ≡ hand)
-    by_test true e = inl (refl, eqb-true (suc hand.mark) n e, refl)
-    by_test false e = inr refl
+    by_test : (b : Bool) → (suc hand.mark == n) ≡ b → IsSameHand (λ w. ⊥) (HasCounted n) hand (cond b (record hand { stage = Posted }) hand)
+    by_test false e = IsSameHand-refl hand
+    by_test true e = record {
+      stage = Posted;
+      best = hand.best;
+      is = refl;
+      far = λ test same. same ∙ sym (ap test far);
+      kept = λ on. refl;
+      taken = λ w has. inr has;
+      posted = λ on. inl (far, eqb-true (suc hand.mark) n e);
+    }
+noted-same stage hand n far = IsSameHand-refl hand
 
-noted-same : (hand : Hand) (n : ℕ) → IsSameHand hand (post_noted hand.stage hand n)
-noted-same hand n =
-    elim (noted-cases hand.stage hand n) [
-      | inr is ↦ subst (IsSameHand hand) (sym is) (IsSameHand-refl hand)
-      | inl (far, own, is) ↦ subst (IsSameHand hand) (sym is) record {
-        mark = refl;
-        nearest = refl;
-        point = refl;
-        parent = refl;
-        cost = refl;
-        far = λ test same. same ∙ sym (ap test far);
-        best = λ on. refl;
-      }
-    ]
-
-pub KeepsHand-post : (hand : Option Hand) (n : ℕ) → KeepsHand hand (hand_with_post hand n)
+KeepsHand-post : (hand : Option Hand) (n : ℕ) → KeepsHand (λ w. ⊥) (HasCounted n) hand (hand_with_post hand n)
 KeepsHand-post None n = KeepsHand-none
-KeepsHand-post (Some hand) n = KeepsHand-some hand (post_noted hand.stage hand n) (noted-same hand n)
+KeepsHand-post (Some hand) n = KeepsHand-some hand (post_noted hand.stage hand n) (noted-same hand.stage hand n refl)
 
 -- ---- a step on the best word
 
--- it holds what it held
-pub SeesTree-best :
-    (view : View) (best : ℕ) (next : Option Hand) (notes : List Note) → KeepsHand view.hand next
-    → ((hand : Hand) → next ≡ Some hand → hand.stage ≡ Posted → IsTrue (is_goal_point view.run.goals (Some hand.point))) → SeesTree view
-    → SeesTree (record (with_best view best next) { notes = notes })
-SeesTree-best view best next notes keeps goal tree = record {
-  rooted = tree.rooted;
-  placed = tree.placed;
-  placed_first = tree.placed_first;
-  holds = λ hand held.
-      let was = keeps.old hand held in
-      let same = was.2 in
-      let node = SeesHand-later view (record (with_best view best next) { notes = notes }) refl (AreBehind-refl (sees view)) was.0 (tree.holds was.0 was.1) in
-      record {
-        steered_from = λ on.
-            let step = node.steered_from (sym (same.far has_point refl) ∙ on) in
-            record {
-              from = step.from;
-              seen = subst (λ m. StandsAt (tree_seen view).points m step.from) (sym same.nearest) step.seen;
-              reached = same.point ∙ step.reached ∙ ap (λ m. steered step.from (mark_at view.run.marks m) view.run.step) (sym same.mark);
-            };
-        other = λ on e. node.other (sym (same.far has_point refl) ∙ on) (sym same.nearest ∙ e ∙ ap suc same.mark);
-        unskipped = λ on.
-            let far = sym (same.far has_point refl) ∙ on in
-            subst (λ m. IsUnskipped view (record hand { mark = m })) (sym same.mark)
-            (subst (λ b. IsUnskipped view (record was.0 { best = b })) (sym (same.best far)) (node.unskipped far));
-        shown = λ on.
-            subst (λ m. StandsAt (tree_seen view).points (suc m) hand.point) (sym same.mark)
-            (subst (StandsAt (tree_seen view).points (suc was.0.mark)) (sym same.point) (node.shown (sym (same.far has_link refl) ∙ on)));
-        first_shown = λ on. subst (λ m. 2 ^ 63 ≤ sees view (FirstOf (suc m))) (sym same.mark) (node.first_shown (sym (same.far has_link refl) ∙ on));
-        posted = goal hand held;
-      };
-}
+-- What is left there is a pair, and at most what the view knew. So it is of a best that the hand takes, and of the pair of a node that it posts,
+-- which is a goal node.
+record SeesLeast (run : SharedRun) (words : Words) (view : View) (best : ℕ) (new : ℕ → Type 0) (now : Hand → Type 0) : Type 0 where
+  less : best ≤ view.best
+  pair : IsBestWord run words best
+  placed : IsAtMostPlaced view best
+  taken : (word : ℕ) → new word → IsBestWord run words word × (best ≤ word) × IsAtMostPlaced view word
+  posted : (hand : Hand) → view.hand ≡ Some hand → now hand
+      → (best ≤ best_word hand.cost (suc hand.mark)) × IsTrue (is_goal_point view.run.goals (Some hand.point))
 
 module _ (run : SharedRun) (words after : Words) (views : List View) (id : ℕ) (view : View) (world : IsWorld run words views)
-    (at : get_elem? views id ≡ some view) (own : view.run ≡ run) (x : ℕ) (falls : x ≤ words Best) (writes : WritesWord Best x words after) (best : ℕ)
-    (next : Option Hand) (notes : List Note) (same_hand : KeepsHand view.hand next) where
+    (at : get_elem? views id ≡ some view) (own : view.run ≡ run) (best : ℕ) (falls : best ≤ words Best) (writes : WritesWord Best best words after)
+    (next : Option Hand) (notes : List Note) {new : ℕ → Type 0} {now : Hand → Type 0} (same_hand : KeepsHand new now view.hand next)
+    (least : SeesLeast run words view best new now) where
   abbrev then : View
   then = record (with_best view best next) { notes = notes }
 
@@ -182,98 +143,112 @@ module _ (run : SharedRun) (words after : Words) (views : List View) (id : ℕ) 
     moment = record { world = world; at = at; own = own };
     of_run = IsViewOf-best run view (live run words views id view world at own) best next notes;
     one_more = refl;
-    go = AreBehind-write Best x words after writes tt;
+    go = AreBehind-write Best best words after writes tt;
     best = omega (arith, writes.here, falls);
+  }
+
+  -- it holds what it held
+  SeesTree-best : SeesTree view → SeesTree then
+  SeesTree-best tree = record {
+    rooted = tree.rooted;
+    placed = tree.placed;
+    placed_first = tree.placed_first;
+    holds = λ hand held.
+        let was = same_hand.old hand held in
+        let same = was.2 in
+        let node = SeesHand-later view then refl (AreBehind-refl (sees view)) was.0 (tree.holds was.0 was.1) in
+        subst (SeesHand then) (sym same.is) record {
+          steered_from = λ on. node.steered_from (sym (same.far has_point refl) ∙ on);
+          other = λ on. node.other (sym (same.far has_point refl) ∙ on);
+          unskipped = λ on.
+              let far = sym (same.far has_point refl) ∙ on in
+              subst (λ b. IsUnskipped view (record was.0 { best = b })) (sym (same.kept far)) (node.unskipped far);
+          shown = λ on. node.shown (sym (same.far has_link refl) ∙ on);
+          first_shown = λ on. node.first_shown (sym (same.far has_link refl) ∙ on);
+          posted = λ on. elim (same.posted on) [ inl goal ↦ (least.posted was.0 was.1 goal).1 | inr had ↦ node.posted had ];
+        };
   }
 
   keeps : KeepsMarks s
   keeps = record {
     records = λ k. writes.others (RecordOf k) (λ e. cc);
     counters = λ g. writes.others (Counter g) (λ e. cc);
-    pairs = λ n. subst (λ w. (w ≡ 0) ⊎ (2 ^ 63 ≤ w)) (sym (writes.others (TreeOf n) (λ e. cc))) (world.seen.pairs n);
     crew = refl;
     most = refl;
     holds = same_hand.holds;
     idle = λ none. same_hand.none (world.shares.idle id view at none);
     seen_records = λ k. refl;
-    took = refl;
-    behind = AreBehind-trans (sees view) words after (world.seen.behind id view at) shift.go;
-    more = AreBehind-refl (sees view);
-    whole = world.seen.pairs_seen id view at;
-    fair = λ n. inl refl;
   }
+
+  on : SeesOn s
+  on = SeesOn-same shift refl refl (HaveWholePairs-write writes (λ n e. cc) world.seen.pairs)
 
   keeps_links : KeepsLinks (run_sizes run) words after
   keeps_links = record { children = λ n side. writes.others (ChildOf n side) (λ e. cc); points = λ n linked. writes.others (PointOf n) (λ e. cc) }
 
   links : LinkedTree run after (set views id then)
   links =
-      LinkedTree-kept run words after views id view then at world.links keeps_links keeps.records (writes.others Count (λ e. cc))
-      (same_hand.at has_link refl) (same_hand.at has_count refl)
+      LinkedTree-kept shift keeps_links keeps.records (writes.others Count (λ e. cc)) (same_hand.at has_link refl) (same_hand.at has_count refl)
 
-  pub grows_best : GrowsInto (state_in run words) (state_in run after)
-  grows_best = grows_kept shift keeps links
+  grows : GrowsInto (state_in run words) (state_in run after)
+  grows = grows_kept shift keeps on links
 
-  -- keeps the law if it leaves the best word as it must be
-  pub IsWorld-best :
-      ((hand : Hand) → next ≡ Some hand → hand.stage ≡ Posted → IsTrue (is_goal_point view.run.goals (Some hand.point)))
-      → (IsShift s → KeepsNotes s) → BestCopy run after (set views id then) → BestWord run after → SeenBests run after (set views id then)
-      → IsWorld run after (set views id then)
-  IsWorld-best goal kept best_copy best_then bests_then =
+  SeesBest-best : SeesBest run after then
+  SeesBest-best =
+      let saw = SeesBest-goes_on run words after grows shift.best view (world.bests id view at own) in
+      record {
+        pair = IsBestWord-grows run words after grows best least.pair;
+        falls = omega (arith, writes.here);
+        placed = least.placed;
+        taken_pair = λ hand word held has.
+            let was = same_hand.old hand held in
+            elim (was.2.taken word (sym (ap (λ (h : Hand). h.best) was.2.is) ∙ has)) [
+              | inl fresh ↦ IsBestWord-grows run words after grows word (least.taken word fresh).0
+              | inr had ↦ saw.taken_pair was.0 word was.1 had
+            ];
+        taken = λ hand word held has.
+            let was = same_hand.old hand held in
+            elim (was.2.taken word (sym (ap (λ (h : Hand). h.best) was.2.is) ∙ has)) [
+              | inl fresh ↦ ((least.taken word fresh).1, (least.taken word fresh).2)
+              | inr had ↦ (let low = saw.taken was.0 word was.1 had in (le_trans least.less low.0, low.1))
+            ];
+        posted = λ hand held far.
+            let was = same_hand.old hand held in
+            subst (λ (h : Hand). best ≤ best_word h.cost (suc h.mark)) (sym was.2.is) (elim (was.2.posted (sym (ap (λ (h : Hand). h.stage) was.2.is) ∙ far)) [
+              | inl counted ↦ (least.posted was.0 was.1 counted).0
+              | inr had ↦ le_trans least.less (saw.posted was.0 was.1 had)
+            ]);
+      }
+
+  -- It keeps the law, if some view with a share knows the best word.
+  IsWorld-best : (IsShift s → KeepsNotes s) → (IsShift s → BestCopy run after (set views id then)) → IsWorld run after (set views id then)
+  IsWorld-best kept best_copy =
       let recorded = is_recorded-kept words after keeps.records in
       let firsts : (n : ℕ) → after (FirstOf n) ≡ words (FirstOf n) = λ n. writes.others (FirstOf n) (λ e. cc) in
       let trees : (n : ℕ) → after (TreeOf n) ≡ words (TreeOf n) = λ n. writes.others (TreeOf n) (λ e. cc) in
-      IsWorld-kept shift keeps links
-      (Trees-kept run words after views (set views id then) world.numbers world.links (numbers_kept shift keeps)
-      links world.trees shift.go record {
-        links = keeps_links;
-        trees = λ n linked. trees n;
-        firsts = λ n linked. firsts n;
-      }) (Hands-step shift (λ n. writes.others (PointOf n) (λ e. cc)) recorded (λ hand held far.
+      IsWorld-kept shift keeps on links
+      (Trees-kept shift (numbers_kept shift keeps) links keeps_links (λ n linked. trees n) (λ n linked. firsts n))
+      (Hands-step shift (λ n. writes.others (PointOf n) (λ e. cc)) recorded (λ hand held far.
       let was = same_hand.old hand held in
-      let there = world.hands.written id view at was.0 was.1 (sym (was.2.far has_point refl) ∙ far) in
-      ap (λ m. words (PointOf (suc m))) was.2.mark ∙ there ∙ ap point_word (sym was.2.point)) (same_hand.at has_point refl))
-      (Pairs-step shift grows_best firsts (λ n linked. trees n) recorded (λ hand held far.
+      let there = world.hands.written id view at was.0 was.1 (back has_point refl was.2 far) in
+      subst (λ (h : Hand). words (PointOf (suc h.mark)) ≡ point_word h.point) (sym was.2.is) there) (same_hand.at has_point refl))
+      (Pairs-step shift grows firsts (λ n linked. trees n) recorded (λ hand held far.
       let was = same_hand.old hand held in
-      let first = world.pairs.first id view at was.0 was.1 (sym (was.2.far has_first refl) ∙ far) in
-      IsFirstOf-same was.0 hand was.2 (IsFirstOf-grows run words after was.0 grows_best (firsts (suc was.0.mark)) first)) (λ hand held far not_yet.
+      let first = world.pairs.first id view at was.0 was.1 (back has_first refl was.2 far) in
+      subst (IsFirstOf run after) (sym was.2.is) (IsFirstOf-stage run after was.0 was.2.stage was.2.best
+      (IsFirstOf-grows run words after was.0 grows (firsts (suc was.0.mark)) first))) (λ hand held far not_yet.
       let was = same_hand.old hand held in
-      let there = world.pairs.tree id view at was.0 was.1 (sym (was.2.far has_tree refl) ∙ far) (sym (was.2.far has_link refl) ∙ not_yet) in
-      trees (suc hand.mark) ∙ ap (λ m. words (TreeOf (suc m))) was.2.mark ∙ there
-      ∙ ap (λ p. tree_word p was.0.cost) (sym was.2.parent) ∙ ap (tree_word hand.parent) (sym was.2.cost))
+      let there = world.pairs.tree id view at was.0 was.1 (back has_tree refl was.2 far) (back has_link refl was.2 not_yet) in
+      subst (λ (h : Hand). after (TreeOf (suc h.mark)) ≡ pair_in_hand h) (sym was.2.is) (trees (suc was.0.mark) ∙ there))
       (same_hand.at has_first refl) (same_hand.at has_tree refl))
-      (SeesTree-best view best next notes same_hand goal (tree run words views id view world at own))
-      (Copies-untold run words after views id view then at own world.copies keeps.more keeps.behind
-      (λ part. part) Best x writes keeps_links (λ told. told))
-      best_copy (kept shift) best_then bests_then
+      (SeesTree-best (tree run words views id view world at own))
+      (Copies-untold shift on (λ part. part) Best best writes keeps_links (λ told. told)) (best_copy shift) (kept shift)
+      (BestWord-step shift grows (subst (IsBestWord run after) (sym writes.here) (IsBestWord-grows run words after grows best least.pair))
+      (λ n node goal. inl (sym (has_node-kept words after keeps.records n) ∙ node))) (SeenBests-step shift grows SeesBest-best)
     where
-      IsFirstOf-same : (was hand : Hand) → IsSameHand was hand → IsFirstOf run after was → IsFirstOf run after hand
-      IsFirstOf-same was hand same first = record {
-        word = ap (λ m. after (FirstOf (suc m))) same.mark ∙ first.word ∙ ap (λ p. tree_word p was.cost) (sym same.parent)
-            ∙ ap (tree_word hand.parent) (sym same.cost);
-        fits = (omega (arith, same.parent, first.fits.0), omega (arith, same.cost, first.fits.1));
-        hangs =
-            subst (λ m. Hangs (setup_in run) (state_in run after) (suc m) hand.point hand.parent hand.cost) (sym same.mark)
-            (subst (λ p. Hangs (setup_in run) (state_in run after) (suc was.mark) p hand.parent hand.cost) (sym same.point)
-            (subst (λ p. Hangs (setup_in run) (state_in run after) (suc was.mark) was.point p hand.cost) (sym same.parent)
-            (subst (Hangs (setup_in run) (state_in run after) (suc was.mark) was.point was.parent) (sym same.cost) first.hangs)));
-        below_first = omega (
-          arith,
-          same.cost,
-          first.below_first,
-          ap (λ p. first_cost_through (state_in run after) p was.parent) same.point,
-          ap (first_cost_through (state_in run after) hand.point) same.parent,
-        );
-        nearest = subst (IsPresent (linked_points (run_sizes run) after)) (sym same.nearest) first.nearest;
-        below_nearest = omega (
-          arith,
-          same.cost,
-          first.below_nearest,
-          ap (λ p. first_cost_through (state_in run after) p was.nearest) same.point,
-          ap (first_cost_through (state_in run after) hand.point) same.nearest,
-        );
-        bounded = omega (arith, same.cost, first.bounded);
-      }
+      -- what a test tells of the hand now it told before
+      back : (test : Stage → Bool) → TellsSame test → {was hand : Hand} {b : Bool} → IsSameHand new now was hand → test hand.stage ≡ b → test was.stage ≡ b
+      back test tells same far = sym (same.far test tells) ∙ ap (λ (h : Hand). test h.stage) (sym same.is) ∙ far
 
 -- ---- what is seen against what is so
 
@@ -295,9 +270,6 @@ module _ (words : Words) (views : List View) (id : ℕ) (view : View) (world : I
         (IsPresent-goal view.run.goals (point_at (linked_points (run_sizes view.run) words) n) (goal-so n may.goal)) in
         omega (arith, here, world.run_is.marks)
 
-    falls-now : cost_in (words (TreeOf n)) ≤ cost_in (sees view (TreeOf n))
-    falls-now = cost_in-falls (sees view (TreeOf n)) (words (TreeOf n)) may.written (world.seen.behind id view at (TreeOf n))
-
     pair_seen : IsSeenPair view n
     pair_seen =
         IsSeenPair-lawful view words (world.seen.behind id view at) sees_tree world.links.ways world.run_is world.trees (world.seen_pairs id view at refl)
@@ -308,9 +280,10 @@ module _ (words : Words) (views : List View) (id : ℕ) (view : View) (world : I
     IsBestWord-pair some_pair =
         let cost : ℕ = cost_in (sees view (TreeOf n)) in
         let node : best_node_in (best_word cost n) ≡ n = mod-mul-add cost (2 ^ 18) n low in
-        let paid : best_cost_in (best_word cost n) ≡ cost = div-mul-add cost (2 ^ 18) n low in (
+        let paid : best_cost_in (best_word cost n) ≡ cost = div-mul-add cost (2 ^ 18) n low in
+        let falls = cost_in-falls (sees view (TreeOf n)) (words (TreeOf n)) may.written (world.seen.behind id view at (TreeOf n)) in (
           subst (IsGoalNode view.run.goals (linked_points (run_sizes view.run) words)) (sym node) (goal-so n may.goal),
-          subst (λ m. cost_in (words (TreeOf m)) ≤ best_cost_in (best_word cost n)) (sym node) (omega (arith, paid, falls-now)),
+          subst (λ m. cost_in (words (TreeOf m)) ≤ best_cost_in (best_word cost n)) (sym node) (omega (arith, paid, falls)),
           omega (arith, paid, pair_seen.low),
         )
 
@@ -322,91 +295,33 @@ module _ (words : Words) (views : List View) (id : ℕ) (view : View) (world : I
         let own_first = world.pairs.first id view at hand held first in
         let shown = subst (λ m. 2 ^ 63 ≤ sees view (FirstOf m)) is ((sees_tree.holds hand held).first_shown linked) in
         let now : sees view (FirstOf n) ≡ pair_in_hand hand =
-        elim (behind (FirstOf n)) [
-          | inl unseen ↦ absurd (omega (arith, unseen, shown))
-          | inr same ↦ same ∙ ap (λ m. words (FirstOf m)) (sym is) ∙ own_first.word
-        ] in
+        same_once (behind (FirstOf n)) (omega (arith, shown)) ∙ ap (λ m. words (FirstOf m)) (sym is) ∙ own_first.word in
         let paid = ap cost_in now ∙ cost_in-tree_word hand.parent hand.cost own_first.fits.0 own_first.fits.1 in
         omega (arith, pair_seen.first shown, paid, is)
 
 -- ---- a load
-
--- the best in hand afterwards is the one that was found, or was there
-taken-either : (hand : Option Hand) (word taken : ℕ) (next : Hand) → hand_with_best hand word ≡ Some next → next.best ≡ Some taken
-    → (taken ≡ word) ⊎ ((old : Hand) × (hand ≡ Some old) × (old.best ≡ Some taken))
-taken-either None word taken next e has = cc
-taken-either (Some hand) word taken next e has =
-    let now : (best_taken hand.stage hand word).best ≡ Some taken =
-    ap (λ (h : Hand). h.best) (same_Some (best_taken hand.stage hand word) next e) ∙ has in
-    elim (taken-cases hand.stage hand word) [
-      | inl (far, is) ↦ inl (sym (same_Some word taken (sym (ap (λ (h : Hand). h.best) is) ∙ now)))
-      | inr is ↦ inr (hand, refl, sym (ap (λ (h : Hand). h.best) is) ∙ now)
-    ]
-
--- a hand that has posted its node had
-posted-before : (hand : Option Hand) (word : ℕ) (next : Hand) → hand_with_best hand word ≡ Some next → next.stage ≡ Posted
-    → (old : Hand) × (hand ≡ Some old) × (old.stage ≡ Posted) × (next.cost ≡ old.cost) × (next.mark ≡ old.mark) × (next.point ≡ old.point)
-posted-before None word next e far = cc
-posted-before (Some hand) word next e far =
-    let same = (KeepsHand-best (Some hand) word).old next e in
-    let now : (best_taken hand.stage hand word).stage ≡ Posted =
-    ap (λ (h : Hand). h.stage) (same_Some (best_taken hand.stage hand word) next e) ∙ far in
-    let is_own : hand ≡ same.0 = same_Some hand same.0 same.1 in (
-      same.0,
-      same.1,
-      ap (λ (h : Hand). h.stage) (sym is_own) ∙ elim (taken-cases hand.stage hand word) [
-        | inl (early, is) ↦ sym (ap (λ (h : Hand). h.stage) is) ∙ now
-        | inr is ↦ sym (ap (λ (h : Hand). h.stage) is) ∙ now
-      ],
-      same.2.cost,
-      same.2.mark,
-      same.2.point,
-    )
 
 module _ (run : SharedRun) (words : Words) (views : List View) (id : ℕ) (view : View) (world : IsWorld run words views)
     (at : get_elem? views id ≡ some view) (own : view.run ≡ run) where
   least-seen : IsAtMostPlaced view (words Best)
   least-seen = least-so words views id view (subst (λ r. IsWorld r words views) (sym own) world) at
 
-  SeesBest-loaded : SeesBest run words (best_loaded view (words Best))
-  SeesBest-loaded =
-      let saw = world.bests id view at own in
-      record {
-        pair = world.best.pair;
-        falls = le_refl (words Best);
-        placed = least-seen;
-        taken_pair = λ hand word held has.
-            elim (taken-either view.hand (words Best) word hand held has) [
-              | inl is ↦ subst (IsBestWord run words) (sym is) world.best.pair
-              | inr was ↦ saw.taken_pair was.0 word was.1 was.2
-            ];
-        taken = λ hand word held has.
-            elim (taken-either view.hand (words Best) word hand held has) [
-              | inl is ↦ (omega (arith, is), subst (IsAtMostPlaced view) (sym is) least-seen)
-              | inr was ↦ (let least = saw.taken was.0 word was.1 was.2 in (le_trans saw.falls least.0, least.1))
-            ];
-        posted = λ hand held far.
-            let was = posted-before view.hand (words Best) hand held far in
-            omega (arith, saw.falls, saw.posted was.0 was.1 was.2, was.3, was.4);
-      }
-
-  still : WritesWord Best (words Best) words words
-  still = record { here = refl; others = λ name apart. refl }
-
   pub IsWorld-best_loaded : IsWorld run words (set views id (best_loaded view (words Best)))
   IsWorld-best_loaded =
       let next : Option Hand = hand_with_best view.hand (words Best) in
-      let of_run = live run words views id view world at own in
-      IsWorld-best run words words views id view world at own (words Best) (le_refl (words Best)) still (words Best) next view.notes
-      (KeepsHand-best view.hand (words Best)) (λ hand held far.
-      let was = posted-before view.hand (words Best) hand held far in
-      subst (λ p. IsTrue (is_goal_point view.run.goals (Some p))) (sym was.5) (((tree run words views id view world at own).holds was.0 was.1).posted was.2))
+      let looks = WritesWord-look_best run view (live run words views id view world at own) (words Best) next view.notes in
+      IsWorld-best run words words views id view world at own (words Best) (le_refl (words Best)) (record { here = refl; others = λ name apart. refl })
+      next view.notes (KeepsHand-best view.hand (words Best)) record {
+        less = (world.bests id view at own).falls;
+        pair = world.best.pair;
+        placed = least-seen;
+        taken = λ word is.
+            subst (λ w. IsBestWord run words w × (words Best ≤ w) × IsAtMostPlaced view w) (sym is) (world.best.pair, le_refl (words Best), least-seen);
+        posted = λ hand held no. absurd no;
+      }
       (λ is. KeepsNotes-kept is (LeavesNotes-none is refl (λ name told. inl refl) (λ n seen. refl)
-      (shown-best is (view.steps + 1) (WritesWord-look_best run view of_run (words Best) next view.notes) (λ name. refl) refl)) (λ n side. refl)
-      (λ n side some_child. refl))
-      (BestCopy-step run words words views id view (best_loaded view (words Best)) at own world.best_copy (λ part. part) refl (λ saw. refl)) world.best
-      (SeenBests-set run words words (GrowsInto-refl (state_in run words)) views id (best_loaded view (words Best)) (le_refl (words Best)) world.bests
-      (λ of. SeesBest-loaded))
+      (shown-best is (view.steps + 1) looks (λ name. refl) refl)) (λ n side. refl) (λ n side some_child. refl))
+      (λ is. BestCopy-step is (λ part. part) refl (λ saw. refl))
 
 -- the view is a later one then
 pub IsLater-best :
@@ -429,25 +344,6 @@ IsLater-best run view of_run best next notes falls =
 
 -- ---- a post
 
--- the hand afterwards has the best that it had, and has posted its node if it had, or if that was counted and is the one
-noted-best : (hand : Option Hand) (n : ℕ) (next : Hand) → hand_with_post hand n ≡ Some next → (old : Hand) → hand ≡ Some old → next.best ≡ old.best
-noted-best None n next e old was = cc
-noted-best (Some hand) n next e old was =
-    let kept : (post_noted hand.stage hand n).best ≡ hand.best = elim (noted-cases hand.stage hand n) [
-      | inl (far, own, is) ↦ ap (λ (h : Hand). h.best) is
-      | inr is ↦ ap (λ (h : Hand). h.best) is
-    ] in
-    ap (λ (h : Hand). h.best) (sym (same_Some (post_noted hand.stage hand n) next e)) ∙ kept ∙ ap (λ (h : Hand). h.best) (same_Some hand old was)
-
-noted-posted : (hand : Option Hand) (n : ℕ) (next : Hand) → hand_with_post hand n ≡ Some next → (old : Hand) → hand ≡ Some old → next.stage ≡ Posted
-    → (old.stage ≡ Posted) ⊎ ((old.stage ≡ Counted) × (suc old.mark ≡ n))
-noted-posted None n next e old was far = cc
-noted-posted (Some hand) n next e old was far =
-    subst (λ h. (h.stage ≡ Posted) ⊎ ((h.stage ≡ Counted) × (suc h.mark ≡ n))) (same_Some hand old was) (elim (noted-cases hand.stage hand n) [
-      | inl (counted, own, is) ↦ inr (counted, own)
-      | inr is ↦ inl (ap (λ (h : Hand). h.stage) (sym is ∙ same_Some (post_noted hand.stage hand n) next e) ∙ far)
-    ])
-
 module _ (run : SharedRun) (words after : Words) (views : List View) (id : ℕ) (view : View) (world : IsWorld run words views)
     (at : get_elem? views id ≡ some view) (own : view.run ≡ run) (n : ℕ) (may : MayPost view n)
     (writes : WritesWord Best (best_with view n (words Best)) words after) where
@@ -465,72 +361,28 @@ module _ (run : SharedRun) (words after : Words) (views : List View) (id : ℕ) 
       min-either (IsBestWord run words) (words Best) (best_word (cost_in (sees view (TreeOf n))) n) world.best.pair
       (subst (λ r. IsBestWord r words (best_word (cost_in (sees view (TreeOf n))) n)) own (IsBestWord-pair words views id view here at n may))
 
-  pub best-falls : after Best ≤ words Best
-  best-falls = omega (arith, writes.here)
-
-  same : KeepsHand view.hand (hand_with_post view.hand n)
-  same = KeepsHand-post view.hand n
-
-  grows : GrowsInto (state_in run words) (state_in run after)
-  grows = grows_best run words after views id view world at own lesser (omega arith) writes lesser (hand_with_post view.hand n) later.notes same
-
-  SeesBest-posted : SeesBest run after later
-  SeesBest-posted =
-      let saw = SeesBest-goes_on run words after grows best-falls view (world.bests id view at own) in
+  least : SeesLeast run words view lesser (λ w. ⊥) (HasCounted n)
+  least =
       let was = world.bests id view at own in
       let less : lesser ≤ view.best = omega (arith, was.falls) in
       record {
-        pair = IsBestWord-grows run words after grows lesser pair-lesser;
-        falls = omega (arith, writes.here);
+        less = less;
+        pair = pair-lesser;
         placed = λ m node goal. le_trans less (was.placed m node goal);
-        taken_pair = λ hand word held has.
-            let old = same.old hand held in
-            saw.taken_pair old.0 word old.1 (sym (noted-best view.hand n hand held old.0 old.1) ∙ has);
-        taken = λ hand word held has.
-            let old = same.old hand held in
-            let least = was.taken old.0 word old.1 (sym (noted-best view.hand n hand held old.0 old.1) ∙ has) in
-            (le_trans less least.0, least.1);
-        posted = λ hand held far.
-            let old = same.old hand held in
-            elim (noted-posted view.hand n hand held old.0 old.1 far) [
-              | inl before ↦ omega (arith, less, was.posted old.0 old.1 before, old.2.cost, old.2.mark)
-              | inr now ↦ omega (
-                arith,
-                below-hand words views id view here at n may old.0 old.1 (ap has_link now.0) (ap has_first now.0) now.1,
-                old.2.cost,
-                old.2.mark,
-              )
-            ];
+        taken = λ word no. absurd no;
+        posted = λ hand held counted. (
+          omega (arith, below-hand words views id view here at n may hand held (ap has_link counted.0) (ap has_first counted.0) counted.1),
+          -- the node is the one that is posted
+          subst (λ o. IsTrue (is_goal_point view.run.goals o)) (ap (point_at (tree_seen view).points) (sym counted.1)
+              ∙ ((tree run words views id view world at own).holds hand held).shown (ap has_link counted.0)) may.goal,
+        );
       }
-
-  -- a hand that has posted its node had, or the node is the one that is posted now
-  goal-posted : (hand : Hand) → hand_with_post view.hand n ≡ Some hand → hand.stage ≡ Posted → IsTrue (is_goal_point view.run.goals (Some hand.point))
-  goal-posted hand held far =
-      let old = same.old hand held in
-      let node = (tree run words views id view world at own).holds old.0 old.1 in
-      subst (λ p. IsTrue (is_goal_point view.run.goals (Some p))) (sym old.2.point) (elim (noted-posted view.hand n hand held old.0 old.1 far) [
-        | inl before ↦ node.posted before
-        | inr now ↦ subst (λ o. IsTrue (is_goal_point view.run.goals o))
-            (ap (point_at (tree_seen view).points) (sym now.1) ∙ node.shown (ap has_link now.0)) may.goal
-      ])
 
   pub IsWorld-posted : IsWorld run after (set views id later)
   IsWorld-posted =
-      IsWorld-best run words after views id view world at own lesser (omega arith) writes lesser (hand_with_post view.hand n) later.notes same goal-posted
-      (λ is. KeepsNotes-kept is (LeavesNotes-one is Best tt lesser writes refl
-      (shown-best is (view.steps + 1)
-      (WritesWord-look_best run view (live run words views id view world at own) lesser (hand_with_post view.hand n) later.notes)
-      (λ name. refl) (sym writes.here))) (λ m side. writes.others (ChildOf m side) (λ e. cc)) (λ m side some_child. refl)) (record {
-        id = id;
-        view = later;
-        at = at-set views id view later at;
-        run_is = own;
-        part = may.part;
-        same = sym writes.here;
-      }) (BestWord-step run words after views world.numbers world.links world.trees grows (AreBehind-write Best lesser words after writes tt) world.best
-      (subst (IsBestWord run after) (sym writes.here) (IsBestWord-grows run words after grows lesser pair-lesser)) best-falls (λ m node goal. inl (was m node)))
-      (SeenBests-set run words after grows views id later best-falls world.bests (λ of. SeesBest-posted))
-    where
-      was : (m : ℕ) → has_node after m ≡ true → has_node words m ≡ true
-      was zero h = refl
-      was (suc k) h = sym (has_node-same words after k (writes.others (RecordOf k) (λ e. cc))) ∙ h
+      let looks = WritesWord-look_best run view (live run words views id view world at own) lesser (hand_with_post view.hand n) later.notes in
+      IsWorld-best run words after views id view world at own lesser (omega arith) writes (hand_with_post view.hand n) later.notes
+      (KeepsHand-post view.hand n) least
+      (λ is. KeepsNotes-kept is (LeavesNotes-one is Best tt lesser writes refl (shown-best is (view.steps + 1) looks (λ name. refl) (sym writes.here)))
+      (λ m side. writes.others (ChildOf m side) (λ e. cc)) (λ m side some_child. refl))
+      (λ is. record { id = id; view = later; at = at-set views id view later at; run_is = own; part = may.part; same = sym writes.here })

@@ -17,8 +17,8 @@ use Rattle.step_core.proofs.Parts.WorldNotes.{Empties-push, Notes-push, zero-rea
 use Rattle.step_core.proofs.Parts.WorldHands.{Hands-views, IsWrittenFor}
 use Rattle.step_core.proofs.Parts.WorldLinks.{LinkedTree-views}
 use Rattle.step_core.proofs.Parts.WorldPairs.{HasFirst, HasFirst-none, HasTree, HasTree-none, Pairs-views}
-use Rattle.step_core.proofs.Parts.WorldParts.{Agree-sym, agree-set, quotas-kept}
-use Rattle.step_core.proofs.Parts.WorldSeenPairs.{AreSeenLawfully-same}
+use Rattle.step_core.proofs.Parts.WorldParts.{Agree-sym, agree-set, quotas-kept, SeesOn-same}
+use Rattle.step_core.proofs.Parts.WorldRecords.{AreSeenLawfully-same}
 use Rattle.step_core.proofs.Steps.WorldSteps.{live, tree}
 
 -- The one view has seen the same words as the other, and has looked at none since.
@@ -179,11 +179,9 @@ module _ (run : SharedRun) (words : Words) (views : List View) (id : ℕ) (view 
         records = world.records;
         sights = each (λ u. u.run ≡ run → SeesTree u) world.sights (λ of. cut.tree_left (tree run words views id view world at own))
             (λ of. cut.tree_right (tree run words views id view world at own));
-        copies = Copies-push run words rest right (Copies-step run words words views id view left at (cut.tables_left.run ∙ own) world.copies
-            (subst (AreBehind (sees view)) (sym (sees-same view left cut.tables_left)) (AreBehind-refl (sees view)))
-            (subst (λ s. AreBehind s words) (sym (sees-same view left cut.tables_left)) (world.seen.behind id view at)) stays (λ name told. inl (refl, told)));
-        best_copy = BestCopy-push run words rest right
-            (BestCopy-step run words words views id view left at (cut.tables_left.run ∙ own) world.best_copy stays refl (λ saw. cut.tables_left.best ∙ saw));
+        copies = Copies-push run words rest right (Copies-step left_shift (SeesOn-same left_shift (sees-same view left cut.tables_left)
+            (took_over-same view left cut.tables_left) world.seen.pairs) stays (λ name told. inl (refl, told)));
+        best_copy = BestCopy-push run words rest right (BestCopy-step left_shift stays refl (λ saw. cut.tables_left.best ∙ saw));
         notes = Notes-push run words rest right cut.no_notes kept_left.notes (λ name. (cut.no_looks name).0) id left (at-set views id view left at)
             (cut.tables_left.run ∙ own) (λ name. last_seen-same left right name
             (ap (λ s. s name) (sees-same view right cut.tables_right ∙ sym (sees-same view left cut.tables_left)))
@@ -195,18 +193,20 @@ module _ (run : SharedRun) (words : Words) (views : List View) (id : ℕ) (view 
             (λ of. best_same right cut.tables_right (subst (FollowsHand view.hand) (sym cut.no_hand) (FollowsHand-none view.hand)));
       }
     where
+      left_shift : IsShift (shift_at run words views id view left words)
+      left_shift = record {
+        moment = record { world = world; at = at; own = own };
+        of_run = IsViewOf-same run view left cut.tables_left (live run words views id view world at own);
+        one_more = cut.one_more;
+        go = AreBehind-refl words;
+        best = omega arith;
+      }
+
       -- the left one has noted what the whole one had, and knows of each word what it did
       kept_left : KeepsNotes (shift_at run words views id view left words)
       kept_left =
-          let is : IsShift (shift_at run words views id view left words) = record {
-            moment = record { world = world; at = at; own = own };
-            of_run = IsViewOf-same run view left cut.tables_left (live run words views id view world at own);
-            one_more = cut.one_more;
-            go = AreBehind-refl words;
-            best = omega arith;
-          } in
-          KeepsNotes-kept is (LeavesNotes-none is cut.same_notes (λ name told. inl refl) (λ n seen. refl)
-          (shown-none is (λ name. (cut.same_looks name).0) (λ name. ap (λ s. s name) (sees-same view left cut.tables_left)) cut.tables_left.best))
+          KeepsNotes-kept left_shift (LeavesNotes-none left_shift cut.same_notes (λ name told. inl refl) (λ n seen. refl)
+          (shown-none left_shift (λ name. (cut.same_looks name).0) (λ name. ap (λ s. s name) (sees-same view left cut.tables_left)) cut.tables_left.best))
           (λ n side. refl) (λ n side some_child. (cut.same_looks (ChildOf n side)).1)
 
       -- both know as much of the best word

@@ -1,33 +1,102 @@
 -- A shared run that goes on from a closed run begins with a lawful world: one view, which has the whole share and has seen all words.
-use Rattle.step_core.proofs.Words.{◌≡◌, ◌+◌, ◌<◌, ◌≤◌, [], ◌∷◌, ◌/◌, ◌^◌, ◌∙◌, ◌⊎◌, ◌==◌, ℕ, zero, suc, Bool, true, false, List, length, map, Option, Some}
-use Rattle.step_core.proofs.Words.{None, refl, sym, ap, subst, inl, inr, arith, le_refl, nat_lt, cond, is_some, max, count_by, range_with_len, some}
-use Rattle.step_core.proofs.Words.{some-ne-none, some-injective, get_elem?, cases_Bool, cases_lt, eq-eqb, eqb-true, le-ltb, lt-ltb, ne_eqb, length-map}
-use Rattle.step_core.proofs.Words.{length-replicate, length-range_with_len, mod_below, same_Some, sum_by-cons, is_claimed, KeepsFirstCosts, KeepsOrder}
-use Rattle.step_core.proofs.Words.{AreSeenLawfully, skipping_goals, setup_of, point_at, first_cost_of, recorded_or, IsPresent-goal, once_if, turns_of, Record}
-use Rattle.step_core.proofs.Words.{Task, MOST_WORKERS, KeepsFirstCosts-closed, count-none, count-single, length-marks, step-steers, is_claimed-below}
-use Rattle.step_core.proofs.Words.{is_claimed-past, AreTurns-longer, IsLeastBest, HoldRun, has_node, has_placed, record_at, run_words, sizes_of, state_of_words}
-use Rattle.step_core.proofs.Words.{AreBehind, HaveWholePairs, Words, Best, ChildOf, FirstOf, RecordOf, word_count, FitsWord, cost_in, outcome_in, record_in}
-use Rattle.step_core.proofs.Words.{record_of_word, is_linked-closed, node_present, state_by-closed, AreBehind-refl, Word, TreeOf, best_node_in, linked_points}
-use Rattle.step_core.proofs.Words.{crew_from, member_of, newcomer, SeesTree, IsViewOf, last_zero, run_of, run_sizes, sees, setup_in, share, spent, times}
-use Rattle.step_core.proofs.Words.{took_over, tree_seen, Agree, BestWord, EachView, IsMember, IsRecordWord, IsWorld, SeesBest, counted_once, Trees, counters}
-use Rattle.step_core.proofs.Words.{greatest_limit, is_recorded, state_in, Member, SharedRun, View, sum-same, HasNoted, IsNoted, last_seen, Note, turn_in, ◌%◌}
-use Rattle.step_core.proofs.Words.{worker_in}
+use Rattle.step_core.proofs.Words.{◌≡◌, ◌+◌, ◌<◌, ◌∙◌, ℕ, zero, suc, true, false, length, map, Option, Some, None, refl, sym, ap, subst, inl, inr, arith}
+use Rattle.step_core.proofs.Words.{count_by, cond, is_some, range_with_len, sum_by, cases_lt, get_or_past, All-get_or, map-range_with_len_more, sum_by_push}
+use Rattle.step_core.proofs.Words.{IsBounded, has_outcome, mark_at, is_placed, once_if, FollowWays, Point, Record, Task, All-task_marks_within, HoldRun}
+use Rattle.step_core.proofs.Words.{children_of_words, has_node, has_placed, node_point, record_at, sizes_of, Words, Count, PointOf, Sizes, point_word}
+use Rattle.step_core.proofs.Words.{IsBounded-stands, point_at-words, start_present-held, start_stands-held, point_in-stands, state_by-closed, sum-more}
+use Rattle.step_core.proofs.Words.{linked_points, is_recorded, sum-same, ◌≤◌, [], ◌∷◌, ◌/◌, ◌^◌, ◌⊎◌, ◌==◌, Bool, List, le_refl, nat_lt, max, some}
+use Rattle.step_core.proofs.Words.{some-ne-none, some-injective, get_elem?, cases_Bool, eq-eqb, eqb-true, le-ltb, lt-ltb, ne_eqb, length-map, length-replicate}
+use Rattle.step_core.proofs.Words.{length-range_with_len, mod_below, same_Some, sum_by-cons, is_claimed, KeepsFirstCosts, KeepsOrder, AreSeenLawfully}
+use Rattle.step_core.proofs.Words.{skipping_goals, setup_of, point_at, first_cost_of, recorded_or, IsPresent-goal, turns_of, MOST_WORKERS}
+use Rattle.step_core.proofs.Words.{KeepsFirstCosts-closed, count-none, count-single, length-marks, step-steers, is_claimed-below, is_claimed-past}
+use Rattle.step_core.proofs.Words.{AreTurns-longer, IsLeastBest, run_words, state_of_words, AreBehind, HaveWholePairs, Best, ChildOf, FirstOf, RecordOf}
+use Rattle.step_core.proofs.Words.{word_count, FitsWord, cost_in, outcome_in, record_in, record_of_word, is_linked-closed, node_present, AreBehind-refl, Word}
+use Rattle.step_core.proofs.Words.{TreeOf, best_node_in, crew_from, member_of, newcomer, SeesTree, IsViewOf, last_zero, run_of, run_sizes, sees, setup_in}
+use Rattle.step_core.proofs.Words.{share, spent, times, took_over, tree_seen, Agree, BestWord, EachView, IsMember, IsRecordWord, IsWorld, SeesBest}
+use Rattle.step_core.proofs.Words.{counted_once, Trees, counters, greatest_limit, state_in, Member, SharedRun, View, HasNoted, IsNoted, last_seen, Note}
+use Rattle.step_core.proofs.Words.{turn_in, ◌%◌, worker_in}
 use Rattle.step_core.proofs.Steps.FinishedTurns.{times-cons}
 use Rattle.step_core.proofs.Parts.LinkedStates.{placed-first}
-use Rattle.step_core.proofs.OneView.SeenGoals.{least-now}
-use Rattle.step_core.proofs.OneView.LawfulSights.{IsPresent-seen}
+use Rattle.step_core.proofs.OneView.LawfulSights.{least-now, IsPresent-seen}
 use Rattle.step_core.proofs.Parts.MarksInHand.{once_if-false}
-use Rattle.step_core.proofs.OneView.SeenTreesAtStart.{SeesTree-started}
-use Rattle.step_core.proofs.Steps.StartLinks.{FollowWays-held, IsBounded-mark, IsBounded-start, blank-held, count-held, start-held}
-use Rattle.step_core.proofs.Parts.WorldNotes.{last_seen-table, zero-read}
-use Rattle.step_core.proofs.Seen.Looks.{same_name}
+use Rattle.step_core.proofs.OneView.SeenTreesOfViews.{SeesTree-started}
+use Rattle.step_core.proofs.Parts.WorldNotes.{zero-read}
 use Rattle.step_core.proofs.Parts.WorldHands.{IsWrittenFor}
 use Rattle.step_core.proofs.Parts.WorldLinks.{has_node-recorded}
 use Rattle.step_core.proofs.Parts.WorldPairs.{HasFirst, HasTree}
-use Rattle.step_core.proofs.Parts.WorldRecords.{Records-held}
-use Rattle.step_core.proofs.Parts.WorldSeenPairs.{AreSeenLawfully-all}
+use Rattle.step_core.proofs.Parts.WorldRecords.{Records-held, AreSeenLawfully-all}
 use Rattle.step_core.proofs.Steps.WorldJoins.{AreBehind-nothing}
 use Rattle.step_core.proofs.Parts.WorldParts.{quota-up}
+
+-- ---- marks
+
+-- the marks of a task are within bounds
+pub IsBounded-mark : (task : Task) (k : ℕ) → IsBounded (mark_at task.marks k)
+IsBounded-mark task k =
+    elim (cases_lt k (length task.marks)) [
+      | inl low ↦ All-get_or IsBounded task.marks k (record { x = 0; y = 0 }) low (All-task_marks_within task)
+      | inr past ↦ subst IsBounded (sym (get_or_past task.marks k (record { x = 0; y = 0 }) past)) (record { right = omega arith; top = omega arith })
+    ]
+
+-- ---- how many nodes
+
+-- beside the first, as many as there are numbers with one
+nodes_below : (f : ℕ → Option Point) (n : ℕ) → is_some (f 0) ≡ true
+    → count_by is_some (map f (range_with_len 0 (n + 1))) ≡ 1 + sum_by (λ k. once_if (is_some (f (suc k)))) (range_with_len 0 n)
+nodes_below f zero first = omega (arith, ap once_if first)
+nodes_below f (suc n) first =
+    let one : Option Point → ℕ = λ o. cond (is_some o) 1 0 in
+    let longer : suc n + 1 ≡ (n + 1) + 1 = omega arith in
+    let next : n + 1 ≡ suc n = omega arith in
+    omega (
+      arith,
+      ap (λ m. count_by is_some (map f (range_with_len 0 m))) longer,
+      ap (sum_by one) (map-range_with_len_more f 0 (n + 1) (n + 1) (omega arith)),
+      sum_by_push one (map f (range_with_len 0 (n + 1))) (f (n + 1)),
+      ap (λ m. one (f m)) next,
+      sum-more (λ k. once_if (is_some (f (suc k)))) n,
+      nodes_below f n first,
+    )
+
+module _ (task : Task) (limit : ℕ) (words : Words) (held : HoldRun task limit words) where
+  abbrev sizes : Sizes
+  sizes = sizes_of task
+
+  -- node 0 is at the start
+  pub start-held : words (PointOf 0) ≡ point_word task.scene.start
+  start-held =
+      (held.written 0 (start_present-held task limit words held)).point
+      ∙ ap point_word (point_in-stands sizes words 0 task.scene.start (start_stands-held task limit words held))
+
+  pub IsBounded-start : IsBounded task.scene.start
+  IsBounded-start = IsBounded-stands sizes words 0 task.scene.start (start_stands-held task limit words held)
+
+  pub FollowWays-held : FollowWays (children_of_words words) (linked_points sizes words)
+  FollowWays-held = subst (FollowWays (children_of_words words)) (sym (ap (λ state. state.points) (state_by-closed task limit words held))) held.ways
+
+  -- a node is there if its mark was placed
+  placed_node : (k : ℕ) → k < length task.marks → is_some (node_point words (suc k)) ≡ has_node words (suc k)
+  placed_node k low = ap is_some (sym (point_at-words sizes words (suc k) (omega (arith, low)))) ∙ held.closed.placed k ∙ by_record (record_at words k)
+    where
+      by_record : (o : Option Record) → has_outcome is_placed o ≡ has_placed o
+      by_record None = refl
+      by_record (Some entry) = refl
+
+  -- The count is 1, and 1 for each mark that is recorded as placed.
+  pub count-held : words Count ≡ 1 + sum_by (λ k. once_if (has_node words (suc k))) (range_with_len 0 (length task.marks))
+  count-held =
+      held.counted ∙ nodes_below (node_point words) (length task.marks)
+      (ap is_some (sym (point_at-words sizes words 0 (omega arith))) ∙ start_present-held task limit words held)
+      ∙ ap (λ n. 1 + n) (sum-same (λ k. once_if (is_some (node_point words (suc k)))) (λ k. once_if (has_node words (suc k))) (length task.marks)
+      (λ k low. ap once_if (placed_node k low)))
+
+  -- nothing is written for a mark without a record
+  pub blank-held : (k : ℕ) → is_recorded words k ≡ false → words (PointOf (suc k)) ≡ 0
+  blank-held k none = (held.blank (suc k) (by_record (record_at words k) none)).point
+    where
+      by_record : (o : Option Record) → is_some o ≡ false → has_placed o ≡ false
+      by_record None e = refl
+      by_record (Some entry) e = cc
 
 -- ---- crews
 
@@ -55,9 +124,6 @@ times-all run words worker =
           ∙ sym (ap once_if (le-ltb worker run.workers past))
     ]
 
-length-crew : (run : SharedRun) (words : Words) → length (crew_from run words 0 run.workers) ≡ run.workers
-length-crew run words = length-map (range_with_len 0 run.workers) (member_of run words) ∙ length-range_with_len 0 run.workers
-
 -- the member at a place
 crew-at : (run : SharedRun) (words : Words) (numbers : List ℕ) (i : ℕ) (member : Member) → get_elem? (map (member_of run words) numbers) i ≡ some member
     → (w : ℕ) × (member ≡ member_of run words w)
@@ -84,10 +150,8 @@ FitsWord-read number word first = by_number number
     last = mod_below (word / 2 ^ 44) (2 ^ 18) (omega arith)
 
     by_number : (n : ℕ) → FitsWord (record_in n word first)
-    by_number zero = record { worker = worker; turn = turn; nearest = nearest; last = last }
-    by_number (suc zero) = record { worker = worker; turn = turn; nearest = nearest; last = last }
     by_number (suc (suc zero)) = record { worker = worker; turn = turn; nearest = nearest; last = omega arith }
-    by_number (suc (suc (suc n))) = record { worker = worker; turn = turn; nearest = nearest; last = omega arith }
+    by_number n = record { worker = worker; turn = turn; nearest = nearest; last = omega (arith, last) }
 
 -- the record that a word holds is the one that is read
 record_in_word : (word first : ℕ) (entry : Record) → record_of_word word first ≡ Some entry → entry ≡ record_in (outcome_in word) word first
@@ -165,7 +229,7 @@ IsWorld-started task limit workers items sized held least some_worker few =
     let run : SharedRun = run_of task workers limit in
     let words : Words = run_words task items in
     let first : View = newcomer run items in
-    let all : share first ≡ workers = length-crew run words in
+    let all : share first ≡ workers = length-map (range_with_len 0 workers) (member_of run words) ∙ length-range_with_len 0 workers in
     let trees : Trees run words = Trees-held task limit words held workers in
     let sees_tree : SeesTree first = SeesTree-started task limit workers items held in
     record {
@@ -262,11 +326,8 @@ IsWorld-started task limit workers items sized held least some_worker few =
     none_noted note now = only (newcomer (run_of task workers limit) items) (λ v. ¬ HasNoted v note) (λ has. has) now.id now.view now.at now.has
 
     as_it_is : (name : Word) → last_seen (newcomer (run_of task workers limit) items) name ≡ run_words task items name
-    as_it_is name =
-        elim (same_name name Best) [
-          | inl is ↦ subst (λ m. last_seen (newcomer (run_of task workers limit) items) m ≡ run_words task items m) (sym is) refl
-          | inr off ↦ last_seen-table (newcomer (run_of task workers limit) items) name off
-        ]
+    as_it_is Best = refl
+    as_it_is name = refl
 
     -- the goal nodes are those of the run at rest, and none costs more than it was placed at
     best : Trees (run_of task workers limit) (run_words task items) → SeesTree (newcomer (run_of task workers limit) items)

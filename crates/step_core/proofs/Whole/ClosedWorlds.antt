@@ -9,13 +9,11 @@ use Rattle.step_core.proofs.Words.{TreeOf, Sizes, cost_in, parent_in, point_of_w
 use Rattle.step_core.proofs.Words.{if_written-set, StandsAsSeen, linked_point, linked_points, has_count, has_link, holds_at, SeesNode, run_of, run_sizes, sees}
 use Rattle.step_core.proofs.Words.{share, IsRecordWord, IsWorld, counted_once, counters, greatest_limit, hands_at, is_recorded, limit_of, state_in, SharedRun}
 use Rattle.step_core.proofs.Words.{Stage, View, sum-same}
-use Rattle.step_core.proofs.Parts.LinkedCounts.{node_count-linked, present-linked}
-use Rattle.step_core.proofs.Parts.LinkedStates.{linked-present, record-unplaced}
+use Rattle.step_core.proofs.Parts.LinkedStates.{node_count-linked, present-linked, linked-present, record-unplaced}
 use Rattle.step_core.proofs.Parts.ViewLists.{maximum-one, maximum-most, sum-zero, same-at}
-use Rattle.step_core.proofs.Whole.WholeShares.{is_recorded-whole, others_idle, others_shareless}
+use Rattle.step_core.proofs.Whole.WholeCopies.{is_recorded-whole, others_shareless, nodes-whole, points-whole, records-whole, sees-whole, no_hand}
 use Rattle.step_core.proofs.Parts.WorldParts.{quota-up, record_word-none}
-use Rattle.step_core.proofs.Parts.MarksInHand.{once_if-same}
-use Rattle.step_core.proofs.Whole.WholeCopies.{nodes-whole, points-whole, records-whole, sees-whole}
+use Rattle.step_core.proofs.Parts.MarksInHand.{once_if-same, no_record}
 use Rattle.step_core.proofs.Whole.GrownFromWords.{placed_mark}
 
 -- ---- cleared words
@@ -36,15 +34,8 @@ module _ (words : Words) where
   has_node-cleared (suc k) = ap has_placed (record_at-cleared k)
 
   -- A node keeps its words.
-  module _ (n : ℕ) (here : has_node words n ≡ true) where
-    point-cleared : cleared words (PointOf n) ≡ words (PointOf n)
-    point-cleared = ap (λ b. if b then words (PointOf n) else 0) here
-
-    tree-cleared : cleared words (TreeOf n) ≡ words (TreeOf n)
-    tree-cleared = ap (λ b. if b then words (TreeOf n) else 0) here
-
-    first-cleared : cleared words (FirstOf n) ≡ words (FirstOf n)
-    first-cleared = ap (λ b. if b then words (FirstOf n) else 0) here
+  tree-cleared : (n : ℕ) → has_node words n ≡ true → cleared words (TreeOf n) ≡ words (TreeOf n)
+  tree-cleared n here = ap (λ b. if b then words (TreeOf n) else 0) here
 
   IsBlank-cleared : (n : ℕ) → has_node words n ≡ false → IsBlank (cleared words) n
   IsBlank-cleared n none = record {
@@ -123,22 +114,13 @@ module _ (task : Task) (workers opening : ℕ) (words : Words) (views : List Vie
 
   none_past : (k : ℕ) → last ≤ k → record_at words k ≡ None
   none_past k past = no_record (record_at words k) (is_recorded-last k ∙ le-ltb k last past)
-    where
-      no_record : (o : Option Record) → is_some o ≡ false → o ≡ None
-      no_record None e = refl
-      no_record (Some entry) e = cc
 
   -- ---- nodes
 
   no_hands : (test : Stage → Bool) (k : ℕ) → hands_at test k views ≡ 0
-  no_hands test k = sum-zero (λ u. once_if (holds_at test k u.hand)) views none
-    where
-      none : (i : ℕ) (u : View) → get_elem? views i ≡ some u → once_if (holds_at test k u.hand) ≡ 0
-      none i u e =
-          elim (same-at views i id u view e at) [
-            | inl (same, is) ↦ ap (λ v. once_if (holds_at test k v.hand)) is ∙ ap (λ h. once_if (holds_at test k h)) idle
-            | inr apart ↦ ap (λ h. once_if (holds_at test k h)) (others_idle run words views id view world at whole i u apart e)
-          ]
+  no_hands test k =
+      sum-zero (λ u. once_if (holds_at test k u.hand)) views
+      (λ i u e. ap (λ h. once_if (holds_at test k h)) (no_hand run words views id view world at whole idle i u e))
 
   -- a node is linked if its mark was placed, and no other is
   is_linked-whole : (n : ℕ) → is_linked sizes words n ≡ has_node words n
@@ -230,9 +212,9 @@ module _ (task : Task) (workers opening : ℕ) (words : Words) (views : List Vie
         let node = sym (is_linked-whole n) ∙ linked in
         let words_of = world.trees.written n linked in
         record {
-          point = subst IsPointWord (sym (point-cleared words n node)) words_of.point;
+          point = subst IsPointWord (sym (ap (λ b. if b then words (PointOf n) else 0) node)) words_of.point;
           tree = subst IsTreeWord (sym (tree-cleared words n node)) words_of.tree;
-          first = subst IsTreeWord (sym (first-cleared words n node)) words_of.first;
+          first = subst IsTreeWord (sym (ap (λ b. if b then words (FirstOf n) else 0) node)) words_of.first;
         };
     recorded = λ k entry e. repacked k entry (sym (record_at-cleared words k) ∙ e) (world.numbers.packed k);
     unrecorded = λ k past. record_word-none (words (RecordOf k)) (words (FirstOf (suc k))) (world.numbers.packed k) (none_past k past);

@@ -1,19 +1,13 @@
 -- A state in which all stands that a view has seen has grown from a closed run, if the view has seen at least the words of that run.
-use Rattle.step_core.proofs.Words.{◌≡◌, ◌<◌, ◌≤◌, ◌^◌, ◌∙◌, ℕ, zero, suc, Bool, true, false, List, length, Option, Some, None, refl, sym, ap, subst, inl, inr}
-use Rattle.step_core.proofs.Words.{arith, is_some, has_outcome, is_placed, IsPresent, StandsAt, GrowsInto, TreeState, first_cost_of, recorded_or, Point, Record}
-use Rattle.step_core.proofs.Words.{Task, state_of_grown, words_of_grown, HoldRun, has_node, has_placed, points_of_words, record_at, sizes_of, state_of_words}
-use Rattle.step_core.proofs.Words.{AreBehind, Falls, MayBecome, Falling, Once, Words, FirstOf, PointOf, RecordOf, TreeOf, point_of_word, record_of_word}
-use Rattle.step_core.proofs.Words.{has_node-present, point_of_word-stands, present-within, HasOrFell, StandsAsSeen, SeesPoint, run_of, run_sizes, sees, Grown}
-use Rattle.step_core.proofs.Words.{View}
-use Rattle.step_core.proofs.Parts.LinkedStates.{record-unplaced, record-written}
-use Rattle.step_core.proofs.Seen.SeenWords.{point_at-seen}
+use Rattle.step_core.proofs.Words.{◌≡◌, ◌<◌, ◌≤◌, ◌^◌, ◌∙◌, ℕ, zero, suc, true, List, length, Option, Some, None, refl, sym, ap, subst, inl, inr, arith}
+use Rattle.step_core.proofs.Words.{is_some, has_outcome, is_placed, IsPresent, StandsAt, GrowsInto, TreeState, first_cost_of, recorded_or, Point, Record, Task}
+use Rattle.step_core.proofs.Words.{state_of_grown, words_of_grown, HoldRun, has_node, has_placed, points_of_words, record_at, sizes_of, state_of_words}
+use Rattle.step_core.proofs.Words.{AreBehind, Falls, MayBecome, Falling, Words, FirstOf, PointOf, RecordOf, TreeOf, point_of_word, has_node-present}
+use Rattle.step_core.proofs.Words.{point_of_word-stands, present-within, HasOrFell, StandsAsSeen, SeesPoint, run_of, run_sizes, sees, Grown, View}
+use Rattle.step_core.proofs.Seen.SeenWords.{point_at-seen, same_once}
+use Rattle.step_core.proofs.Parts.LinkedStates.{record-stays}
 
 -- ---- single words
-
--- a word that is written once is seen as it is
-same_once : (word seen : ℕ) → MayBecome Once word seen → 0 < word → seen ≡ word
-same_once word seen (inl none) written = absurd (omega (arith, none, written))
-same_once word seen (inr same) written = sym same
 
 -- a tree word is seen as it is, or at a lower cost
 falls-written : (word seen : ℕ) → MayBecome Falling word seen → 0 < word → Falls word seen
@@ -55,11 +49,11 @@ module _ (task : Task) (limit : ℕ) (words : Words) (held : HoldRun task limit 
 
   -- the point of a present node is seen
   same_point : (n : ℕ) → IsPresent points n → seen (PointOf n) ≡ words (PointOf n)
-  same_point n here = same_once (words (PointOf n)) (seen (PointOf n)) (behind (PointOf n)) (omega (arith, (held.written n here).point))
+  same_point n here = sym (same_once (behind (PointOf n)) (omega (arith, (held.written n here).point)))
 
   -- and what it was placed at
   same_first : (n : ℕ) → IsPresent points n → seen (FirstOf n) ≡ words (FirstOf n)
-  same_first n here = same_once (words (FirstOf n)) (seen (FirstOf n)) (behind (FirstOf n)) (omega (arith, (held.written n here).first))
+  same_first n here = sym (same_once (behind (FirstOf n)) (omega (arith, (held.written n here).first)))
 
   -- and its parent and its cost, or a lower cost
   falls-seen : (n : ℕ) → IsPresent points n → Falls (words (TreeOf n)) (seen (TreeOf n))
@@ -71,15 +65,7 @@ module _ (task : Task) (limit : ℕ) (words : Words) (held : HoldRun task limit 
 
   -- each record is seen
   record-seen : (k : ℕ) (entry : Record) → record_at words k ≡ Some entry → record_at seen k ≡ Some entry
-  record-seen k entry e =
-      let written = record-written (words (RecordOf k)) (words (FirstOf (suc k))) entry e in
-      let same = same_once (words (RecordOf k)) (seen (RecordOf k)) (behind (RecordOf k)) written in
-      ap (λ w. record_of_word w (seen (FirstOf (suc k)))) same ∙ by_test (has_node words (suc k)) refl ∙ e
-    where
-      by_test : (b : Bool) → has_node words (suc k) ≡ b
-          → record_of_word (words (RecordOf k)) (seen (FirstOf (suc k))) ≡ record_of_word (words (RecordOf k)) (words (FirstOf (suc k)))
-      by_test true placed = ap (record_of_word (words (RecordOf k))) (same_first (suc k) (present-placed k placed))
-      by_test false not_placed = record-unplaced (words (RecordOf k)) (words (FirstOf (suc k))) (seen (FirstOf (suc k))) not_placed
+  record-seen k entry = record-stays words seen k entry (behind (RecordOf k)) (λ placed. same_first (suc k) (present-placed k placed))
 
 -- ---- what a view has seen of them
 

@@ -1,31 +1,101 @@
--- A view with the whole share sees all words that tell of the run as they are, and so the whole tree.
-use Rattle.step_core.proofs.Words.{◌≡◌, ◌≢◌, ◌+◌, ◌≤◌, ◌∙◌, ◌↔◌, ◌==◌, ◌&&◌, ℕ, zero, suc, Bool, true, false, List, length, map, Option, Some, None, refl, sym}
-use Rattle.step_core.proofs.Words.{ap, subst, inl, inr, arith, if◌then◌else◌, range_with_len, some, get_elem?, cases_Bool, cases_lt, node_count, once_if}
-use Rattle.step_core.proofs.Words.{FollowWays, Record, child_of_word, children_of_words, has_node, is_linked, record_at, seen_point, AreBehind, Word, Words}
-use Rattle.step_core.proofs.Words.{Best, ChildOf, Count, FirstOf, PointOf, RecordOf, TreeOf, Sizes, cost_in, parent_in, point_of_word, record_of_word}
-use Rattle.step_core.proofs.Words.{tree_of_word, in_child, linked_point, linked_points, has_count, has_link, holds_at, SeesNode, SeesTree, run_sizes, sees}
-use Rattle.step_core.proofs.Words.{share, tree_seen, IsTold, IsWorld, counted_once, hands_at, Hand, SharedRun, Stage, Claimed, Counted, Half, Linked, Pointed}
-use Rattle.step_core.proofs.Words.{Posted, Treed, View, sum-same}
-use Rattle.step_core.proofs.Steps.FinishedMarks.{recorded-below}
-use Rattle.step_core.proofs.OneView.LawfulPairs.{tree_of_word-written}
-use Rattle.step_core.proofs.OneView.LawfulSights.{is_linked-seen}
-use Rattle.step_core.proofs.Parts.LinkedCounts.{node_count-linked}
-use Rattle.step_core.proofs.Parts.LinkedStates.{record-unplaced, unlinked-childless}
-use Rattle.step_core.proofs.Parts.MarksInHand.{once_if-true}
-use Rattle.step_core.proofs.Parts.ViewLists.{sum-each, same-at}
-use Rattle.step_core.proofs.Whole.WholeShares.{others_idle, others_shareless}
+-- A view with the whole share sees all words that tell of the run as they are, and so the whole tree, which keeps the order law.
+use Rattle.step_core.proofs.Words.{◌≡◌, ◌≢◌, ◌<◌, ◌∙◌, ◌==◌, ℕ, Bool, true, false, List, length, Some, None, refl, ap, inl, inr, arith, nat_lt, cond}
+use Rattle.step_core.proofs.Words.{if◌then◌else◌, count_by, range_with_len, some, get_elem?, cases_eq, eq-eqb, ltb-true, ne_eqb, is_claimed, is_of_worker}
+use Rattle.step_core.proofs.Words.{once_if, turns_of, count-all, count-one_more, count-wider, record_at, Words, holds, share, times, IsWorld, counters}
+use Rattle.step_core.proofs.Words.{is_recorded, Hand, Member, SharedRun, View, ◌+◌, ◌≤◌, ◌↔◌, ◌&&◌, zero, suc, map, Option, sym, subst, cases_Bool, cases_lt}
+use Rattle.step_core.proofs.Words.{node_count, FollowWays, Record, child_of_word, children_of_words, has_node, is_linked, seen_point, AreBehind, Word, Best}
+use Rattle.step_core.proofs.Words.{ChildOf, Count, FirstOf, PointOf, RecordOf, TreeOf, Sizes, cost_in, parent_in, point_of_word, record_of_word, tree_of_word}
+use Rattle.step_core.proofs.Words.{in_child, linked_point, linked_points, has_count, has_link, holds_at, SeesNode, SeesTree, run_sizes, sees, tree_seen, IsTold}
+use Rattle.step_core.proofs.Words.{counted_once, hands_at, Stage, Linked, sum-same, SomeSharer, ◌||◌, list_any, KeepsOrder, IsPresent, point_at, first_cost_of}
+use Rattle.step_core.proofs.Words.{recorded_or, HaveSameTree, KeepsOrder-lowered, LowersCosts-same, state_of_links, setup_in, state_in}
+use Rattle.step_core.proofs.Steps.FinishedTurns.{times-at}
+use Rattle.step_core.proofs.Parts.MarksInHand.{once_if-most, once_if-true, in_hand, once_if-same, recorded-below}
+use Rattle.step_core.proofs.Parts.ViewLists.{sum-one, sum-two, sum-zero, same-at, sum-each}
+use Rattle.step_core.proofs.OneView.LawfulSights.{tree_of_word-written, is_linked-seen}
+use Rattle.step_core.proofs.Parts.LinkedStates.{node_count-linked, record-unplaced, unlinked-childless, linked-present}
 use Rattle.step_core.proofs.Parts.WorldParts.{record_word-none}
-use Rattle.step_core.proofs.OneView.SeenStates.{seen_point-none}
+use Rattle.step_core.proofs.OneView.SeenViews.{seen_point-none}
+
+-- ---- members, and marks in hand
+
+-- fewer than all pass a test that one number fails
+count-missing : (test : ℕ → Bool) (n j : ℕ) → j < n → test j ≡ false → count_by test (range_with_len 0 n) < n
+count-missing test n j low fails =
+    let more = count-one_more test with_it n j low fails (ap (λ b. cond b true (test j)) (eq-eqb j j refl))
+    (λ i apart. ap (λ b. cond b true (test i)) (ne_eqb i j apart)) in
+    omega (arith, more, count-wider with_it (λ i. true) n (λ i h. refl), count-all (λ i. true) n (λ i h. refl))
+  where
+    with_it : ℕ → Bool
+    with_it i = if i == j then true else test i
+
+module _ (run : SharedRun) (words : Words) (views : List View) (id : ℕ) (view : View) (world : IsWorld run words views)
+    (at : get_elem? views id ≡ some view) where
+  -- ---- a member
+
+  -- the worker is one of the run's
+  pub worker-below : (i : ℕ) (member : Member) → get_elem? view.crew i ≡ some member → member.worker < run.workers
+  worker-below i member e =
+      let here = times-at view.crew i member e in
+      let all = sum-one (λ u. times member.worker u.crew) views id view at in
+      ltb-true member.worker run.workers (once_if-true (nat_lt member.worker run.workers) (omega (arith, here, all, world.turns.in_one_crew member.worker)))
+
+  -- While a mark is in hand, the next turn is below the number of marks.
+  pub turn-below : (hand : Hand) (i : ℕ) (member : Member) → view.hand ≡ Some hand → get_elem? view.crew i ≡ some member → member.turn < length run.marks
+  turn-below hand i member held e =
+      let mark = in_hand run words views id view world at hand held in
+      let own = world.turns.members id view at i member e in
+      omega (arith, own.turn, missing (length run.marks) mark.low (ap (is_of_worker member.worker) mark.absent))
+    where
+      missing : (n : ℕ) → hand.mark < n → is_of_worker member.worker (record_at words hand.mark) ≡ false → turns_of (record_at words) n member.worker < n
+      missing n low absent = count-missing (λ k. is_of_worker member.worker (record_at words k)) n hand.mark low absent
+
+  -- ---- the whole share
+
+  module _ (whole : share view ≡ run.workers) where
+    -- no other view has a share,
+    pub others_shareless : (i : ℕ) (u : View) → i ≢ id → get_elem? views i ≡ some u → share u ≡ 0
+    others_shareless i u apart e = omega (arith, sum-two share views i id u view apart e at, world.shares.add_up, whole)
+
+    -- and so none has a mark in hand
+    pub others_idle : (i : ℕ) (u : View) → i ≢ id → get_elem? views i ≡ some u → u.hand ≡ None
+    others_idle i u apart e = world.shares.idle i u e (others_shareless i u apart e)
+
+  module _ (whole : share view ≡ run.workers) (idle : view.hand ≡ None) where
+    pub no_hand : (i : ℕ) (u : View) → get_elem? views i ≡ some u → u.hand ≡ None
+    no_hand i u e =
+        elim (same-at views i id u view e at) [
+          | inl (same, is) ↦ ap (λ v. v.hand) is ∙ idle
+          | inr apart ↦ others_idle whole i u apart e
+        ]
+
+    -- Exactly the marks below the counters are recorded.
+    pub is_recorded-whole : (k : ℕ) → is_recorded words k ≡ is_claimed run.strips (counters words) k
+    is_recorded-whole k =
+        once_if-same (is_recorded words k) (is_claimed run.strips (counters words) k)
+        (omega (arith, world.numbers.each_once k, sum-zero (λ u. once_if (holds k u.hand)) views (λ i u e. ap (λ h. once_if (holds k h)) (no_hand i u e))))
+
+-- ---- one hand
+
+-- a mark is in one hand at most
+pub one_hand :
+    (run : SharedRun) (words : Words) (views : List View) (i j : ℕ) (one other : View) → IsWorld run words views → get_elem? views i ≡ some one
+    → get_elem? views j ≡ some other → (k : ℕ) → holds k one.hand ≡ true → holds k other.hand ≡ true → i ≡ j
+one_hand run words views i j one other world at there k here too =
+    elim (cases_eq i j) [
+      | inl same ↦ same
+      | inr apart ↦ (
+          let two = sum-two (λ u. once_if (holds k u.hand)) views i j one other apart at there in
+          let a : once_if (holds k one.hand) ≡ 1 = ap once_if here in
+          let b : once_if (holds k other.hand) ≡ 1 = ap once_if too in
+          absurd (omega (arith, two, a, b, world.numbers.each_once k, once_if-most (is_claimed run.strips (counters words) k))))
+    ]
+
+-- ---- words and nodes
 
 -- a hand that is not at the stage linked has counted its node if it has linked it
 counted-linked : (stage : Stage) → stage ≢ Linked → has_count stage ≡ has_link stage
-counted-linked Claimed other = refl
-counted-linked Pointed other = refl
-counted-linked Half other = refl
-counted-linked Treed other = refl
 counted-linked Linked other = absurd (other refl)
-counted-linked Counted other = refl
-counted-linked Posted other = refl
+counted-linked stage other = refl
 
 module _ (run : SharedRun) (words : Words) (views : List View) (id : ℕ) (view : View) (world : IsWorld run words views)
     (at : get_elem? views id ≡ some view) (whole : share view ≡ run.workers) where
@@ -40,23 +110,21 @@ module _ (run : SharedRun) (words : Words) (views : List View) (id : ℕ) (view 
         | inr of_run ↦ of_run.run_is
       ]
 
-  -- Who sees a word as it is has a share, and no other view has one.
-  pub sees-whole : (name : Word) → IsTold run words name → sees view name ≡ words name
-  sees-whole name told =
-      let copy = world.copies name told in
+  -- Who has a share is this view.
+  whole_sharer : (has : View → Type 0) → SomeSharer run views has → has view
+  whole_sharer has copy =
       elim (same-at views copy.id id copy.view view copy.at at) [
-        | inl (same, is) ↦ ap (λ u. sees u name) (sym is) ∙ copy.same
+        | inl (same, is) ↦ subst has is copy.same
         | inr apart ↦ absurd (omega (arith, copy.part, others_shareless run words views id view world at whole copy.id copy.view apart copy.at))
       ]
 
+  -- So it sees each word as it is that tells of the run,
+  pub sees-whole : (name : Word) → IsTold run words name → sees view name ≡ words name
+  sees-whole name told = whole_sharer (λ u. sees u name ≡ words name) (world.copies name told)
+
   -- and what it saw last of the best word is what that is
   pub best-whole : view.best ≡ words Best
-  best-whole =
-      let copy = world.best_copy in
-      elim (same-at views copy.id id copy.view view copy.at at) [
-        | inl (same, is) ↦ ap (λ u. u.best) (sym is) ∙ copy.same
-        | inr apart ↦ absurd (omega (arith, copy.part, others_shareless run words views id view world at whole copy.id copy.view apart copy.at))
-      ]
+  best-whole = whole_sharer (λ u. u.best ≡ words Best) world.best_copy
 
   behind : AreBehind (sees view) words
   behind = world.seen.behind id view at
@@ -136,7 +204,7 @@ module _ (run : SharedRun) (words : Words) (views : List View) (id : ℕ) (view 
     where
       none : (o : Option Record) → record_at words k ≡ o → length run.marks ≤ k → record_at words k ≡ None
       none None e past = e
-      none (Some entry) e past = absurd (omega (arith, past, recorded-below run words views world k entry e))
+      none (Some entry) e past = absurd (omega (arith, past, recorded-below world k entry e))
 
   -- Each record is seen as it is, of a placed mark with the first word of its node.
   pub records-whole : (k : ℕ) → record_at (sees view) k ≡ record_at words k
@@ -148,6 +216,50 @@ module _ (run : SharedRun) (words : Words) (views : List View) (id : ℕ) (view 
     where
       linked : has_node words (suc k) ≡ true → is_linked sizes words (suc k) ≡ true
       linked placed = once_if-true (is_linked sizes words (suc k)) (omega (arith, world.links.linked k, ap once_if placed))
+
+  -- ---- the tree in the words that it sees
+
+  -- the same nodes are linked
+  is_linked-whole : (n : ℕ) → is_linked sizes (sees view) n ≡ is_linked sizes words n
+  is_linked-whole n = ap (λ f. (n == 0) || list_any f (range_with_len 0 (sizes.marks + 1))) (λ t m. (child-whole m false t == n) || (child-whole m true t == n))
+
+  -- at the same points
+  linked_point-whole : (n : ℕ) → linked_point sizes (sees view) n ≡ linked_point sizes words n
+  linked_point-whole n =
+      ap (λ b. if b then point_of_word (sees view (PointOf n)) else None) (is_linked-whole n) ∙ elim (cases_Bool (is_linked sizes words n)) [
+        | inl linked ↦
+            ap (λ word. if is_linked sizes words n then point_of_word word else None) (sees-whole (PointOf n) linked)
+        | inr unlinked ↦
+            ap (λ b. if b then point_of_word (sees view (PointOf n)) else None) unlinked
+            ∙ sym (ap (λ b. if b then point_of_word (words (PointOf n)) else None) unlinked)
+      ]
+
+  -- with all else that is kept of them
+  HaveSameTree-whole : HaveSameTree (state_in run words) (state_of_links sizes (sees view))
+  HaveSameTree-whole = record {
+    still = record {
+      points = λ n. ap (λ f. point_at (map f (range_with_len 0 (sizes.marks + 1))) n) (λ t m. linked_point-whole m t);
+      first_costs = first_costs;
+      records = λ k entry h. records k ∙ h;
+    };
+    parents = λ n here. ap parent_in (sees-whole (TreeOf n) (linked-present sizes words n here));
+    costs = λ n here. ap cost_in (sees-whole (TreeOf n) (linked-present sizes words n here));
+  }
+    where
+      records : (k : ℕ) → record_at (sees view) k ≡ record_at words k
+      records = records-whole
+
+      first_costs : (n : ℕ) → IsPresent (linked_points sizes words) n
+          → first_cost_of (state_of_links sizes (sees view)) n ≡ first_cost_of (state_in run words) n
+      first_costs zero here = refl
+      first_costs (suc k) here =
+          let first = sees-whole (FirstOf (suc k)) (linked-present sizes words (suc k) here) in
+          ap (recorded_or (cost_in (sees view (FirstOf (suc k))))) (records k) ∙ ap (λ word. recorded_or (cost_in word) (record_at words k)) first
+
+  pub KeepsOrder-whole : KeepsOrder (setup_in run) (state_of_links sizes (sees view))
+  KeepsOrder-whole =
+      KeepsOrder-lowered (setup_in run) (state_in run words) (state_of_links sizes (sees view))
+      (LowersCosts-same (setup_in run) (state_in run words) (state_of_links sizes (sees view)) world.trees.order HaveSameTree-whole) world.trees.order
 
   -- ---- the count
 

@@ -1,5 +1,4 @@
-use Rattle.step_core.proofs.Seen.SeenWords.{HasSeenAtLeast-words}
-use Rattle.step_core.proofs.Seen.TrueWords.{IsTrueOf-words}
+use Rattle.step_core.proofs.Seen.SeenWords.{HasSeenAtLeast-words, IsTrueOf-words}
 use Rattle.step_core.proofs.seen_laws.seen_words_are_true.Goals as goal
 
 pub returns-clause-no_more : goal.returns-clause-no_more

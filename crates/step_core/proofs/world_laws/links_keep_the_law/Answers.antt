@@ -1,5 +1,5 @@
 use Rattle.step_core.specs.Views.{run_sizes}
-use Rattle.step_core.proofs.Parts.LinkedWays.{IsLinked-linked, IsOnWayOf-found, is_linked-reached}
+use Rattle.step_core.proofs.Parts.LinkedStates.{IsLinked-linked, IsOnWayOf-found, is_linked-reached}
 use Rattle.step_core.proofs.Steps.SteppedWorlds.{IsWorld-stepped}
 use Rattle.step_core.specs.Steps.{Step}
 use Rattle.step_core.proofs.world_laws.links_keep_the_law.Goals as goal

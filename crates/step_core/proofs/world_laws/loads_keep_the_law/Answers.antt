@@ -1,6 +1,6 @@
 use Rattle.std.proofs.Common.{refl}
-use Rattle.step_core.proofs.Parts.LinkedWays.{IsSome-seen_point}
-use Rattle.step_core.proofs.Steps.WorldLowers.{IsSome-seen_tree}
+use Rattle.step_core.proofs.Parts.LinkedStates.{IsSome-seen_point}
+use Rattle.step_core.proofs.Steps.WorldNodes.{IsSome-seen_tree}
 use Rattle.step_core.proofs.Steps.WorldSteps.{AreBehind-loaded, follow, tree}
 use Rattle.step_core.proofs.Steps.SteppedWorlds.{IsWorld-stepped}
 use Rattle.step_core.specs.Steps.{Step}

@@ -1,5 +1,4 @@
-use Rattle.step_core.proofs.Whole.Histories.{WasSo-looked}
-use Rattle.step_core.proofs.Whole.LookedWords.{best-not_stale, load-not_stale, seen-as_it_is}
+use Rattle.step_core.proofs.Whole.Histories.{WasSo-looked, best-not_stale, load-not_stale, seen-as_it_is}
 use Rattle.step_core.proofs.world_laws.looks_tell_what_words_are.Goals as goal
 
 pub returns-clause-as_it_is : goal.returns-clause-as_it_is

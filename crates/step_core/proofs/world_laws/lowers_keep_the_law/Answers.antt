@@ -1,4 +1,4 @@
-use Rattle.step_core.proofs.Steps.WorldLowers.{lower-found}
+use Rattle.step_core.proofs.Steps.WorldNodes.{lower-found}
 use Rattle.step_core.proofs.Steps.SteppedWorlds.{IsWorld-stepped}
 use Rattle.step_core.specs.Steps.{Step}
 use Rattle.step_core.proofs.world_laws.lowers_keep_the_law.Goals as goal

@@ -1,4 +1,4 @@
-use Rattle.step_core.proofs.Whole.WholeShares.{one_hand}
+use Rattle.step_core.proofs.Whole.WholeCopies.{one_hand}
 use Rattle.step_core.proofs.Parts.MarksInHand.{in_hand}
 use Rattle.step_core.proofs.world_laws.marks_in_hand_are_in_one_hand.Goals as goal
 

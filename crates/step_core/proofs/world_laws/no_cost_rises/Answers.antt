@@ -1,4 +1,4 @@
-use Rattle.step_core.proofs.Whole.FoundEmpty.{MayBecome-told, best-falls, cost-falls}
+use Rattle.step_core.proofs.Whole.Histories.{MayBecome-told, best-falls, cost-falls}
 use Rattle.step_core.proofs.world_laws.no_cost_rises.Goals as goal
 
 pub returns-clause-told : goal.returns-clause-told

@@ -1,4 +1,4 @@
-use Rattle.step_core.proofs.Whole.FoundEmpty.{IsFree-found, IsFree-since, LeadsTo-ends, empty-after, empty-before, filled-not_found}
+use Rattle.step_core.proofs.Whole.Histories.{IsFree-found, IsFree-since, LeadsTo-ends, empty-after, empty-before, filled-not_found}
 use Rattle.step_core.proofs.world_laws.what_was_found_empty_was_empty.Goals as goal
 
 pub returns-clause-before : goal.returns-clause-before

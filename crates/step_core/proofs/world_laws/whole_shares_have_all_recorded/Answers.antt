@@ -1,4 +1,4 @@
-use Rattle.step_core.proofs.Whole.WholeShares.{is_recorded-whole}
+use Rattle.step_core.proofs.Whole.WholeCopies.{is_recorded-whole}
 use Rattle.step_core.proofs.world_laws.whole_shares_have_all_recorded.Goals as goal
 
 pub returns : goal.returns
