@@ -506,9 +506,8 @@ IsIndex-alone = record {
 }
   where
     no_front : (l : ℕ) → front_in (0 ∷ []) l ≡ 0
-    no_front zero = refl
     no_front (suc zero) = refl
-    no_front (suc (suc l)) = refl
+    no_front l = refl
 
 -- ---- a move in two steps
 

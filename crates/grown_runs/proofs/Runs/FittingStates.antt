@@ -1,6 +1,6 @@
 -- The fields of a closed run fit their words: its numbers, costs and classes, the points of its nodes, and its records.
 use Rattle.grown_runs.proofs.Words.{◌≡◌, ℕ, zero, suc, ◌*◌, ◌<◌, ◌≤◌, ◌^◌, true, eqb, Some, length, arith, refl, sym, ◌∙◌, subst, inl, inr, ◌&&◌}
-use Rattle.grown_runs.proofs.Words.{range_with_len, cases_lt, and_parts, eqb-true, length-range_with_len, count_by-le-length, Outcome, Placed, Same, Blocked}
+use Rattle.grown_runs.proofs.Words.{range_with_len, cases_lt, and_parts, eqb-true, length-range_with_len, count_by-le-length, Outcome, Placed, Same}
 use Rattle.grown_runs.proofs.Words.{Skipped, Record, Task, IsBounded, ClearAt, IsClosed, has_outcome, mark_at, is_placed, space_of, most_cost_of}
 use Rattle.grown_runs.proofs.Words.{is_zero_unless_placed, IsPresent, point_at, point_of, node_count, class_of, HasLawfulEnding, ending_as, setup_of}
 use Rattle.grown_runs.proofs.Words.{skipping_goals, TreeState, IsPresent-goal, class_from_powers, node_count-closed, IsInRoom-from_clear_at, length-marks}
@@ -10,13 +10,7 @@ use Rattle.grown_runs.proofs.Words.{turn-below_limit, last_field, FitsRecord, re
 zero_unless_placed :
     (o : Outcome) (parent cost class : ℕ) → (o ≡ Placed → ⊥) → is_zero_unless_placed o parent cost class ≡ true → (parent ≡ 0) × (cost ≡ 0)
 zero_unless_placed Placed parent cost class apart h = absurd (apart refl)
-zero_unless_placed (Same j) parent cost class apart h =
-    let parts = and_parts (eqb parent 0) (eqb cost 0 && eqb class 0) h in
-    (eqb-true parent 0 parts.0, eqb-true cost 0 (and_parts (eqb cost 0) (eqb class 0) parts.1).0)
-zero_unless_placed Blocked parent cost class apart h =
-    let parts = and_parts (eqb parent 0) (eqb cost 0 && eqb class 0) h in
-    (eqb-true parent 0 parts.0, eqb-true cost 0 (and_parts (eqb cost 0) (eqb class 0) parts.1).0)
-zero_unless_placed Skipped parent cost class apart h =
+zero_unless_placed outcome parent cost class apart h =
     let parts = and_parts (eqb parent 0) (eqb cost 0 && eqb class 0) h in
     (eqb-true parent 0 parts.0, eqb-true cost 0 (and_parts (eqb cost 0) (eqb class 0) parts.1).0)
 
@@ -104,17 +98,13 @@ module _
   }
     where
       nearest : (o : Outcome) → HasLawfulEnding (setup_of task.scene) state k (mark_at task.marks k) entry (ending_as entry o) → entry.nearest < 2 ^ 18
-      nearest Placed h = small_number entry.nearest h.present
-      nearest (Same j) h = small_number entry.nearest h.present
-      nearest Blocked h = small_number entry.nearest h.present
-      nearest Skipped h =
-          small_number entry.nearest (IsPresent-goal (skipping_goals task.scene) (point_at state.points entry.nearest) h.goal)
+      nearest Skipped h = small_number entry.nearest (IsPresent-goal (skipping_goals task.scene) (point_at state.points entry.nearest) h.goal)
+      nearest outcome h = small_number entry.nearest h.present
 
       last : (o : Outcome) → HasLawfulEnding (setup_of task.scene) state k (mark_at task.marks k) entry (ending_as entry o) → last_field o entry.class < 2 ^ 18
       last Placed h = low_class entry.class h.outcome.by_worker.of_class.high
       last (Same j) h = small_number j (IsPresent-stands state.points j _ h.outcome)
-      last Blocked h = omega arith
-      last Skipped h = omega arith
+      last outcome h = omega arith
 
       zeros : (entry.outcome ≡ Placed → ⊥) → (entry.first_parent < 2 ^ 18) × (entry.first_cost < 2 ^ 44)
       zeros apart =
@@ -124,6 +114,4 @@ module _
       first : (o : Outcome) → entry.outcome ≡ o → HasLawfulEnding (setup_of task.scene) state k (mark_at task.marks k) entry (ending_as entry o)
           → (entry.first_parent < 2 ^ 18) × (entry.first_cost < 2 ^ 44)
       first Placed e h = (small_number entry.first_parent h.outcome.by_tree.hangs.present, low_cost entry.first_cost h.outcome.by_tree.bounded)
-      first (Same j) e h = zeros (λ placed. let gone = sym placed ∙ e in cc)
-      first Blocked e h = zeros (λ placed. let gone = sym placed ∙ e in cc)
-      first Skipped e h = zeros (λ placed. let gone = sym placed ∙ e in cc)
+      first outcome e h = zeros (λ placed. let gone = sym placed ∙ e in cc)

@@ -52,11 +52,6 @@ cleared-all sizes items last m all clears = λ t name. each name t
     kept_at name n here is = let gone = sym here ∙ is.1 in cc
 
     each : (name : Word) → word_at sizes last name ≡ cleared (word_at sizes items) name
-    each Count = clears.others Count (λ h. h)
-    each Best = clears.others Best (λ h. h)
-    each (Counter g) = clears.others (Counter g) (λ h. h)
-    each (ChildOf n side) = clears.others (ChildOf n side) (λ h. h)
-    each (RecordOf k) = clears.others (RecordOf k) (λ h. h)
     each (PointOf n) =
         kept_if (has_node (word_at sizes items) n) (word_at sizes items (PointOf n)) (word_at sizes last (PointOf n))
         (λ here. clears.others (PointOf n) (kept_at (PointOf n) n here)) (λ none. (blank_at n none).point)
@@ -66,6 +61,7 @@ cleared-all sizes items last m all clears = λ t name. each name t
     each (FirstOf n) =
         kept_if (has_node (word_at sizes items) n) (word_at sizes items (FirstOf n)) (word_at sizes last (FirstOf n))
         (λ here. clears.others (FirstOf n) (kept_at (FirstOf n) n here)) (λ none. (blank_at n none).first)
+    each name = clears.others name (λ h. h)
 
 -- The words of a closed run are cleared already.
 pub cleared-blank : (words : Words) → ((n : ℕ) → has_node words n ≡ false → IsBlank words n) → cleared words ≡ words

@@ -31,9 +31,7 @@ fields-packed last number nearest turn worker l o n t w =
 -- an outcome has one of four numbers
 number_of_outcome-few : (outcome : Outcome) → number_of_outcome outcome < 2 ^ 2
 number_of_outcome-few Placed = omega arith
-number_of_outcome-few (Same j) = omega arith
-number_of_outcome-few Blocked = omega arith
-number_of_outcome-few Skipped = omega arith
+number_of_outcome-few outcome = omega arith
 
 -- the fields of a record's word
 record_word-fields : (entry : Record) → FitsWord entry

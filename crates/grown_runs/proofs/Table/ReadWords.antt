@@ -1,5 +1,5 @@
 -- A word that is written holds its value, and a record outcome by outcome.
-use Rattle.grown_runs.proofs.Words.{◌≡◌, ℕ, zero, suc, ◌<◌, ◌≤◌, ◌/◌, ◌^◌, false, nat_lt, bit_and, refl, sym, ap, ◌∙◌, arith, if◌then◌else◌, Some, None}
+use Rattle.grown_runs.proofs.Words.{◌≡◌, ℕ, suc, ◌<◌, ◌≤◌, ◌/◌, ◌^◌, false, nat_lt, bit_and, refl, sym, ap, ◌∙◌, arith, if◌then◌else◌, Some, None}
 use Rattle.grown_runs.proofs.Words.{nat_tests, and_mask, Skipped, Record, if_written, outcome_in, record_in, record_of_word, unplaced_in}
 
 -- a written word holds its value
@@ -10,10 +10,8 @@ if_written-set word value set =
 
 -- a record with the last number of an outcome is that of a skipped mark
 pub record_in-skipped : (number word first : ℕ) → 2 < number → record_in number word first ≡ unplaced_in word Skipped
-record_in-skipped zero word first more = absurd (omega (arith, more))
-record_in-skipped (suc zero) word first more = absurd (omega (arith, more))
-record_in-skipped (suc (suc zero)) word first more = absurd (omega (arith, more))
 record_in-skipped (suc (suc (suc n))) word first more = refl
+record_in-skipped number word first more = absurd (omega (arith, more))
 
 -- what the code finds in bits 42 and 43 is the outcome
 pub outcome_in-mask : (word number : ℕ) → bit_and (word / 2 ^ 42) 3 ≡ number → outcome_in word ≡ number

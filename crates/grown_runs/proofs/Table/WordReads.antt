@@ -18,9 +18,6 @@ place_of-once sizes (ChildOf n true) (ChildOf m true) here there e = ap (λ i. C
 place_of-once sizes (TreeOf n) (TreeOf m) here there e = ap TreeOf (omega (arith, e))
 place_of-once sizes (FirstOf n) (FirstOf m) here there e = ap FirstOf (omega (arith, e))
 place_of-once sizes (RecordOf k) (RecordOf j) here there e = ap RecordOf (omega (arith, e))
-place_of-once sizes (ChildOf n false) other here there e = absurd (omega arith)
-place_of-once sizes (ChildOf n true) other here there e = absurd (omega arith)
-place_of-once sizes name (ChildOf m false) here there e = absurd (omega arith)
 place_of-once sizes name (ChildOf m true) here there e = absurd (omega arith)
 place_of-once sizes name other here there e = absurd (omega arith)
 
@@ -28,13 +25,8 @@ place_of-once sizes name other here there e = absurd (omega arith)
 pub place_of-within : (sizes : Sizes) (name : Word) → HasWord sizes name → place_of sizes name < word_count sizes
 place_of-within sizes Count here = omega arith
 place_of-within sizes Best here = omega arith
-place_of-within sizes (Counter g) here = omega (arith, here)
-place_of-within sizes (PointOf n) here = omega (arith, here)
-place_of-within sizes (ChildOf n false) here = omega (arith, here)
 place_of-within sizes (ChildOf n true) here = omega (arith, here)
-place_of-within sizes (TreeOf n) here = omega (arith, here)
-place_of-within sizes (FirstOf n) here = omega (arith, here)
-place_of-within sizes (RecordOf k) here = omega (arith, here)
+place_of-within sizes name here = omega (arith, here)
 
 -- ---- which words there are
 
@@ -42,21 +34,15 @@ has_word-has : (sizes : Sizes) (name : Word) → HasWord sizes name → has_word
 has_word-has sizes Count here = refl
 has_word-has sizes Best here = refl
 has_word-has sizes (Counter g) here = lt-ltb g sizes.strips here
-has_word-has sizes (PointOf n) here = le-leb n sizes.marks here
-has_word-has sizes (ChildOf n side) here = le-leb n sizes.marks here
-has_word-has sizes (TreeOf n) here = le-leb n sizes.marks here
-has_word-has sizes (FirstOf n) here = le-leb n sizes.marks here
 has_word-has sizes (RecordOf k) here = lt-ltb k sizes.marks here
+has_word-has sizes name here = le-leb _ sizes.marks here
 
 pub HasWord-true : (sizes : Sizes) (name : Word) → has_word sizes name ≡ true → HasWord sizes name
 HasWord-true sizes Count h = tt
 HasWord-true sizes Best h = tt
 HasWord-true sizes (Counter g) h = ltb-true g sizes.strips h
-HasWord-true sizes (PointOf n) h = leb-true n sizes.marks h
-HasWord-true sizes (ChildOf n side) h = leb-true n sizes.marks h
-HasWord-true sizes (TreeOf n) h = leb-true n sizes.marks h
-HasWord-true sizes (FirstOf n) h = leb-true n sizes.marks h
 HasWord-true sizes (RecordOf k) h = ltb-true k sizes.marks h
+HasWord-true sizes name h = leb-true _ sizes.marks h
 
 -- ---- reading
 
