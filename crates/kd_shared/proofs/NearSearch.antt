@@ -3,7 +3,7 @@ use Rattle.kd_shared.proofs.Words.{◌≡◌, ◌⊎◌, ℕ, suc, ◌+◌, ◌*
 use Rattle.kd_shared.proofs.Words.{inr, Contains, IsFalse, cases_eq, append-nil, length-map, map-append, Contains-append_left, Contains-push}
 use Rattle.kd_shared.proofs.Words.{Contains-push_cases, Point, squared_distance, point_at, AreDistinct, StandsAt, IsSeen, IsLaterMoment, KeepsSight, Sight}
 use Rattle.kd_shared.proofs.Words.{StandsAt-unique, IsFree-ends, IsLaterMoment-trans, Contains-after, Contains-first, KeepsPoints, LoadsPoint, AreGathered}
-use Rattle.kd_shared.proofs.Words.{LeavesChild, Notes, Opens, QueuesChild, QueuesWithin, side_distance, noted, numbers_of, point_of_spot, Found, Spot}
+use Rattle.kd_shared.proofs.Words.{LeavesChild, Opens, QueuesChild, QueuesWithin, side_distance, noted, numbers_of, point_of_spot, Found, Spot}
 use Rattle.kd_shared.proofs.Words.{AreDifferent, AreDifferent-few, AreDifferent-within, Contains-cases, IsDistinct-from_different, Contains-none}
 use Rattle.kd_shared.proofs.Words.{length-one_more}
 use Rattle.kd_shared.proofs.Searching.{GoesBelow, GoesTo, IsMet, IsSearch, IsSearch-begins, IsSearch-ends, IsSearch-leaves_first, IsSearch-leaves_last}
@@ -83,6 +83,11 @@ module _ (now after : Sight) (queue put : List Spot) (spot : Spot) (side : Bool)
 
 -- ---- a node is noted, if it is near
 
+-- the node of a spot at this squared distance is noted, if that is within the bound
+abbrev pub Notes : List Found → List Found → Spot → ℕ → ℕ → Type 0
+Notes found after spot distance bound =
+    ((distance ≤ bound) × (after ≡ found ++ noted spot.node distance ∷ [])) ⊎ ((bound < distance) × (after ≡ found))
+
 numbers_of-push : (found : List Found) (n distance : ℕ) → numbers_of (found ++ noted n distance ∷ []) ≡ numbers_of found ++ n ∷ []
 numbers_of-push found n distance = map-append (λ (f : Found). f.node) found (noted n distance ∷ [])
 
@@ -156,9 +161,10 @@ pub record IsHalfWay (before now half : Sight) (target : Point) (bound : ℕ) (m
   pub stand : AreSeenSpots half mid
   pub fresh : AreFreshFound before half target bound numbers mid
 
-begins_with : (before now : Sight) (target : Point) (r : ℕ) (spot : Spot) → LoadsPoint before now 0 (point_of_spot spot) → spot.node ≡ 0
+-- It begins at node 0.
+pub IsGathering-begins : (before now : Sight) (target : Point) (r : ℕ) (spot : Spot) → LoadsPoint before now 0 (point_of_spot spot) → spot.node ≡ 0
     → spot.by_rows ≡ false → IsGathering before now target r (spot ∷ []) [] 0
-begins_with before now target r spot load node by_rows = record {
+IsGathering-begins before now target r spot load node by_rows = record {
   search = IsSearch-begins before now target (r * r) (λ n q. Contains {X = ℕ} [] n) spot load.later node by_rows;
   visiting = IsVisiting-begins now spot node;
   stand = λ other k. elim (Contains-cases spot other [] k) [
@@ -175,14 +181,6 @@ begins_with before now target r spot load node by_rows = record {
     | inr apart ↦ inl (sym (load.others n apart) ∙ own)
   ];
 }
-
--- It begins at node 0.
-pub IsGathering-begins : (before now : Sight) (target : Point) (r : ℕ) (spot : Spot) (queue : List Spot) (found : List Found)
-    → LoadsPoint before now 0 (point_of_spot spot) → spot.node ≡ 0 → spot.by_rows ≡ false → queue ≡ spot ∷ [] → found ≡ []
-    → IsGathering before now target r queue found 0
-IsGathering-begins before now target r spot queue found load node by_rows only none =
-    subst (λ xs. IsGathering before now target r xs found 0) (sym only)
-    (subst (λ ns. IsGathering before now target r (spot ∷ []) ns 0) (sym none) (begins_with before now target r spot load node by_rows))
 
 module _ {before now : Sight} {target : Point} {r : ℕ} {queue : List Spot} {found : List Found} {visits : ℕ}
     (h : IsGathering before now target r queue found visits) where

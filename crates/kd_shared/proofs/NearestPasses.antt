@@ -1,7 +1,7 @@
 -- The walk of a pass to the nearest node: what its stack holds at each stage.
 use Rattle.kd_shared.proofs.Words.{◌≡◌, ℕ, suc, ◌+◌, ◌<◌, ◌≤◌, false, [], length, Some, None, arith, refl, sym, ap, ◌∙◌, subst, Contains, Point, MOST_NODES}
-use Rattle.kd_shared.proofs.Words.{IsBounded, squared_distance, KeepsSight, Contains-first, IsPresent-stands, no_search, point_of_spot, BelongsTo, PassState}
-use Rattle.kd_shared.proofs.Words.{SharedState, Spot, IsLawfulView, SeesNode, sight_in, tree_seen, IsBounded-seen, KeepsSight-lawful, StacksFar, WalksOn}
+use Rattle.kd_shared.proofs.Words.{squared_distance, KeepsSight, Contains-first, IsPresent-stands, no_search, point_of_spot, BelongsTo, PassState}
+use Rattle.kd_shared.proofs.Words.{SharedState, Spot, IsLawfulView, SeesNode, sight_in, tree_seen, KeepsSight-lawful, StacksFar, WalksOn}
 use Rattle.kd_shared.proofs.Words.{LoadsPoint, OnlyLooks-trans, KeepsLists, OnlyLooks, PassLooks, searched, IsNearestSeen}
 use Rattle.kd_shared.proofs.Looking.{SeesNode-later}
 use Rattle.kd_shared.proofs.NearPasses.{KeepsLists-looks, KeepsLists-searched}
@@ -49,9 +49,6 @@ module _ {shared : SharedState} {entry now : PassState} {p : Point} {distance be
   visits_low =
       let few = IsWalking-few (sight_in now.view) p (length now.view.run.marks) lawful_now.within here now.lists.search.spots visits h.seeks.walking in
       omega (arith, few, lawful_now.run.marks)
-
-  pub here_bounded : IsBounded (point_of_spot here)
-  here_bounded = IsBounded-seen now.view here.node (point_of_spot here) h.seeks.stands
 
   pub here_seen : SeesNode now.view here.node
   here_seen = h.seeks.search.seen here (Contains-first here [])

@@ -3,7 +3,7 @@ use Rattle.kd_shared.proofs.Words.{◌≡◌, ℕ, suc, ◌+◌, Bool, Option, S
 use Rattle.kd_shared.proofs.Words.{IsBounded, IsBounded-hand, IsLawfulView, Treed, has_point}
 use Rattle.kd_shared.proofs.Words.{ChildOf, Count, WritesWord, IsLinkedAt, LeadsOn, NamesNode, BelongsTo, GoesOn, PassState, SharedState, with_view}
 use Rattle.kd_shared.proofs.Words.{BelongsTo-later, GoesOn-trans, HasLinked, NamesNode-child, SeesBestSince-trans, last_look, note_before, place_in, LeadsTo}
-use Rattle.kd_shared.proofs.Words.{SeesPoint, sees, Hand, View, OnlyLooks, PassLooks, GoesOnPlacing, IsPlaced, IsSame, KeepsShare, WasLinkedSince}
+use Rattle.kd_shared.proofs.Words.{sees, Hand, View, OnlyLooks, PassLooks, GoesOnPlacing, IsPlaced, KeepsShare, WasLinkedSince}
 
 -- the hand of a pass that only looked
 pub IfSome-kept : (before after : View) (Holds : Hand → Type 0) → OnlyLooks before after → IfSome before.hand Holds → IfSome after.hand Holds
@@ -20,12 +20,6 @@ pub IfSome-leads : (now : View) (p : Point) (n : ℕ) (side : Bool) (held : Opti
     → IfSome held (λ hand. LeadsTo now hand.point n side)
 IfSome-leads now p n side None is leads = tt
 IfSome-leads now p n side (Some hand) is leads = subst (λ q. LeadsTo now q n side) is leads
-
--- another node stands there
-pub IfSome-same : (now : View) (p : Point) (n : ℕ) (held : Option Hand) → now.hand ≡ held → IfSome held (λ hand. p ≡ hand.point) → SeesPoint now n p
-    → IfSome held (λ hand. IsSame now hand n)
-IfSome-same now p n None kept is stands = tt
-IfSome-same now p n (Some hand) kept is stands = record { stands = subst (SeesPoint now n) is stands; unchanged = kept }
 
 -- or the node in hand is linked
 pub IfSome-placed : (now after : View) (p : Point) (n : ℕ) (side : Bool) (held : Option Hand) → now.hand ≡ held
@@ -66,14 +60,6 @@ IfSome-since before mid after n side (Some hand) goes_on kept links looked is =
     }
 
 -- ---- what it leaves
-
--- who has only looked has seen nothing anew but words of nodes
-pub GoesOnPlacing-looks : (before after : View) → OnlyLooks before after → GoesOnPlacing before after
-GoesOnPlacing-looks before after looks = record {
-  goes_on = looks.looks.goes_on;
-  others = λ name off. looks.looks.others name (λ h. off (NamesNode-child name h));
-  best = looks.looked Best;
-}
 
 -- A pass of this tree has placed its node: share and limit stay, and nothing but its view changes.
 pub record PassPlaces (shared : SharedState) (before after : PassState) : Type 0 where

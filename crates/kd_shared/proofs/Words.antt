@@ -18,32 +18,36 @@ pub use Rattle.kd_shared.specs.LookLaws.{OnlyLooks-trans, PassLooks-fills, PassL
 pub use Rattle.kd_shared.specs.Looking.{KeepsLists, OnlyLooks, PassLooks, searched}
 pub use Rattle.kd_shared.specs.Placings.{AddsHand, GoesOnPlacing, IsPlaced, IsSame, IsWordOfLink, KeepsShare, SeesLinked, WasLinkedSince, state_seen}
 pub use Rattle.kd_shared.specs.Searches.{AreGathered, AreNearSeen, IsNearestSeen, SweepsWithin}
-pub use Rattle.kd_shared.specs.Spots.{IsChildWithin, LeavesChild, Notes, Opens, Puts, QueuesChild, QueuesWithin, past_line, side_distance}
+pub use Rattle.kd_shared.specs.Spots.{IsChildWithin, LeavesChild, Opens, Puts, QueuesChild, QueuesWithin, past_line, side_distance}
 pub use Rattle.kd_shared.specs.WordStops.{IsShift, StopsAtWord, stop_of}
 pub use Rattle.plan_model.proofs.SamePoints.{same_point-false, same_point-true}
 pub use Rattle.plan_words.proofs.Common.{BelongsTo, BelongsTo-later, Contains-number, GoesOn, GoesOn-trans, HasLinked, HasLooked-loaded, HasLooked-refl}
 pub use Rattle.plan_words.proofs.Common.{HasWholeShare, IsBounded-hand, IsLinkedAt, IsLinkedAt-counted, LeadsOn, NamesChildOrPoint, NamesNode, NamesNode-child}
 pub use Rattle.plan_words.proofs.Common.{PassState, SearchLists, SeesAsBefore, SeesBestSince-trans, SharedState, eqb-swap, leads_seen, no_search, numbers_of}
 pub use Rattle.plan_words.proofs.Common.{point_of_spot, same_numbers, with_lists, with_view}
-pub use Rattle.plan_words.specs.SearchLists.{noted}
+pub use Rattle.plan_words.specs.SearchLists.{IsNoted, found_of_spot, noted, noted_spot}
 pub use Rattle.plan_words.specs.declared.spots.Found.{Found}
 pub use Rattle.plan_words.specs.declared.spots.Spot.{Spot}
-pub use Rattle.std.proofs.Common.{Bool, List, None, Option, Some, [], ap, arith, eqb, false, inl, inr, length, length-append, not, refl, subst, suc, sym, true}
-pub use Rattle.std.proofs.Common.{zero, ℕ, ◌*◌, ◌++◌, ◌+◌, ◌-◌, ◌<◌, ◌^◌, ◌∙◌, ◌∷◌, ◌≡◌, ◌≤◌, ◌⊎◌}
+pub use Rattle.std.proofs.Common.{Bool, List, None, Option, Some, [], ap, arith, drop, eqb, false, inl, inr, length, length-append, not, refl, set, subst}
+pub use Rattle.std.proofs.Common.{suc, sym, take, true, zero, ℕ, ◌*◌, ◌++◌, ◌+◌, ◌-◌, ◌<◌, ◌^◌, ◌∙◌, ◌∷◌, ◌≡◌, ◌≤◌, ◌⊎◌}
+pub use Rattle.std.proofs.Math.ListN.{drop_of_length-le}
+pub use Rattle.std.proofs.Math.Seq.{drop-cons}
 pub use Rattle.std.proofs.lemmas.Bool.{cases_eq, cases_lt, leb-false, leb-true, ltb-false, ltb-true, ne_eqb}
-pub use Rattle.std.proofs.lemmas.List.{append-nil, append_assoc, length-map, map-append}
-pub use Rattle.std.proofs.lemmas.List.Elements.{All-contains, Contains-append_cases, Contains-append_left, Contains-append_right, Contains-push}
-pub use Rattle.std.proofs.lemmas.List.Elements.{Contains-push_cases, filter_passes}
+pub use Rattle.std.proofs.lemmas.List.{append-nil, append_assoc, drop-append-le, drop-set-lt, length-drop, length-map, length-set, map-append, take-append-le}
+pub use Rattle.std.proofs.lemmas.List.{take-set, take_more_set}
+pub use Rattle.std.proofs.lemmas.List.Elements.{All-append, All-cons, All-contains, All-nil, Contains-append_cases, Contains-append_left}
+pub use Rattle.std.proofs.lemmas.List.Elements.{Contains-append_right, Contains-push, Contains-push_cases, filter_passes}
 pub use Rattle.std.proofs.lemmas.List.FromFn.{get_or-range_with_len, length-range_with_len}
 pub use Rattle.std.proofs.lemmas.List.Kept.{IsStrictlyIncreasing-filter}
 pub use Rattle.std.proofs.lemmas.List.Sorted.{Contains-permutation, IsPermutation-sym}
 pub use Rattle.std.proofs.lemmas.Map.Keys.{IsDistinct-IsPermutation, IsStrictlyIncreasing-from_distinct, sorted_from_strictly_increasing}
 pub use Rattle.std.proofs.lemmas.Nat.{mul-le}
+pub use Rattle.std.proofs.lemmas.Option.{get_or_from_slice_get, slice_get_cases, slice_get_within}
 pub use Rattle.std.specs.Int.{abs_diff}
 pub use Rattle.std.specs.List.{IsDistinct, range_with_len}
 pub use Rattle.std.specs.List.Sorted.{IsNonDecreasing, IsPermutation, IsStrictlyIncreasing, IsStrictlySortedBy}
 pub use Rattle.std.specs.Ordering.{nat_cmp}
-pub use Rattle.std.specs.Prelude.{Contains, IfSome, IsFalse, IsSome, MatchOption, if◌then◌else◌, map, nat_le, nat_lt, option_to_list, ◌==◌, ◌≢◌}
+pub use Rattle.std.specs.Prelude.{All, Contains, IfSome, IsFalse, IsSome, MatchOption, if◌then◌else◌, map, nat_le, nat_lt, option_to_list, slice_get, ◌==◌, ◌≢◌}
 pub use Rattle.step_core.proofs.Common.{AreDifferent-after, Contains-within, HasLooked, IsBounded-seen, IsFree-here, IsLater, IsLater-refl, IsLater-trans}
 pub use Rattle.step_core.proofs.Common.{IsLaterMoment-later, IsLawfulView, IsOnWay-later, KeepsSight-lawful, LeadsTo, SeesNode, SeesPoint, ShowsNode}
 pub use Rattle.step_core.proofs.Common.{WritesWord-saw, counted, has_first, has_link, last_look, linked, linked_points-seen, loaded, note_before, place_in}

@@ -1,14 +1,11 @@
--- What the steps of a search do to the nodes that wait to be visited, and to what it has found.
-use Rattle.std.specs.Prelude.{◌≡◌, ◌⊎◌, ℕ, ◌-◌, ◌<◌, ◌≤◌, ◌==◌, Bool, false, not, if◌then◌else◌, Some, List, [], ◌∷◌, ◌++◌}
+-- What the steps of a search do to the nodes that wait to be visited.
+use Rattle.std.specs.Prelude.{◌≡◌, ◌⊎◌, ℕ, ◌-◌, ◌==◌, Bool, false, not, if◌then◌else◌, Some, List, [], ◌∷◌, ◌++◌}
 use Rattle.plan_model.specs.declared.geometry.Point.{Point}
 use Rattle.plan_model.specs.Trees.PointsByNumber.{StandsAt}
 use Rattle.plan_model.specs.Seen.Sights.{IsLaterMoment, KeepsSight, Sight}
 use Rattle.kd_shared.specs.Loads.{FindsEmpty, KeepsOtherPoints, KeepsPoints}
-use Rattle.plan_words.specs.SearchLists.{noted, point_of_spot}
-use Rattle.plan_words.specs.declared.spots.Found.{Found}
+use Rattle.plan_words.specs.SearchLists.{point_of_spot}
 use Rattle.plan_words.specs.declared.spots.Spot.{Spot}
-
--- ---- what waits
 
 -- The node of a spot has a child on this side, which waits now, last.
 pub record Puts (after : Sight) (spots put : List Spot) (spot : Spot) (side : Bool) : Type 0 where
@@ -56,10 +53,3 @@ QueuesWithin before after queue put spot side within =
 abbrev pub IsChildWithin : Sight → Sight → Spot → Bool → Bool → Spot → Type 0
 IsChildWithin before after spot side within child =
     (queue put : List Spot) → put ≡ (if not (child.node == 0) then queue ++ child ∷ [] else queue) → QueuesWithin before after queue put spot side within
-
--- ---- what is found
-
--- the node of a spot at this squared distance is noted, if that is within the bound
-abbrev pub Notes : List Found → List Found → Spot → ℕ → ℕ → Type 0
-Notes found after spot distance bound =
-    ((distance ≤ bound) × (after ≡ found ++ noted spot.node distance ∷ [])) ⊎ ((bound < distance) × (after ≡ found))

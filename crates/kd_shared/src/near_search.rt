@@ -1,9 +1,9 @@
 //! The search for the nodes within a radius.
 
 ghost use Rattle.std.specs.Prelude.{◌≡◌, ◌+◌, ◌<◌, ◌≤◌, IsFalse, false, if◌then◌else◌, length, true};
-ghost use Rattle.kd_shared.specs.Looking.{KeepsLists, OnlyLooks, PassLooks, searched};
+ghost use Rattle.kd_shared.specs.Looking.{KeepsLists, OnlyLooks, PassLooks};
 ghost use Rattle.kd_shared.specs.Searches.{AreGathered, AreNearSeen};
-ghost use Rattle.kd_shared.specs.Spots.{IsChildWithin, Notes, side_distance};
+ghost use Rattle.kd_shared.specs.Spots.{IsChildWithin, side_distance};
 ghost use Rattle.plan_model.specs.Geometry.Bounds.{IsBounded};
 ghost use Rattle.plan_words.specs.States.{BelongsTo};
 ghost use Rattle.step_core.specs.ViewTrees.{SeesNode, sight_in};
@@ -67,25 +67,22 @@ pub fn gather(shared: &Shared, pass: &mut Pass, p: Point, r: u32)
         },
         true,
     );
-    'visits: while let Some(spot) = pass.take_spot() {
+    // These stay in registers; a field of the pass would be stored and loaded again around each load.
+    let mut taken = 0;
+    let mut count = 0;
+    'visits: while let Some(spot) = pass.spot(taken) {
+        taken += 1;
         let here = spot.point();
-        note(pass, spot, here.squared_distance(p), most);
+        let distance = here.squared_distance(p);
+        pass.note(count, spot.node, distance);
+        count += usize::from(distance <= most);
         let (left, right) = sides_within(spot.by_rows, here, p, r);
         let left_child = child_spot(shared, pass, spot, false, left);
         let right_child = child_spot(shared, pass, spot, true, right);
         pass.put_spot_if(left_child, left_child.node != 0);
         pass.put_spot_if(right_child, right_child.node != 0);
     }
-}
-
-/// Notes the node of a spot, if its squared distance is not above the most.
-#[inline]
-fn note(pass: &mut Pass, spot: Spot, distance: u64, most: u64)
-    requires room { length pass.old.lists.search.found < pass.old.lists.search.taken }
-    ensures others { pass.new ≡ searched pass.old pass.old.view (record pass.old.lists.search { found = pass.new.lists.search.found }) }
-    ensures notes { Notes pass.old.lists.search.found pass.new.lists.search.found spot distance most }
-{
-    pass.note_if(spot.node, distance, distance <= most);
+    pass.end_search(count);
 }
 
 /// Whether the left and the right of a node may hold points within the radius: a side is left out only if it is farther.

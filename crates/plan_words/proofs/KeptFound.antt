@@ -3,7 +3,8 @@ use Rattle.plan_words.proofs.Words.{◌≡◌, ℕ, ◌+◌, ◌<◌, ◌≤◌,
 use Rattle.plan_words.proofs.Words.{subst, arith, All, IsPermutation, filter, nat_lt, slice_get, length_permutation, cost_in, All-head, All-tail, take-set-lt}
 use Rattle.plan_words.proofs.Words.{drop-set-lt, get_or-drop, get_or-map, get_or-take, length-map, length-set, length-take-le, map-set, take-set-le, take_all}
 use Rattle.plan_words.proofs.Words.{slice_get-get_or, FiltersInPlace, FiltersInPlace-more_no, FiltersInPlace-more_set, IsNonDecreasing, IsNonDecreasingBy}
-use Rattle.plan_words.proofs.Words.{found_in, is_dearer, numbers_of, Cell, Found}
+use Rattle.plan_words.proofs.Words.{zero, suc, ◌==◌, eqb-true, not, drop-length, IsNoted, found_in, found_of_spot, is_dearer, lists_in, noted, numbers_of}
+use Rattle.plan_words.proofs.Words.{spot_in, Cell, Found, Spot}
 use mir.Val.{bool_byte}
 
 -- one more is written
@@ -61,6 +62,39 @@ found-set cells count i cell found below is =
     ap (map found_in) (take-set-lt count cells i cell below)
     ∙ map-set found_in (take count cells) i cell
     ∙ ap (set (map found_in (take count cells)) i) is
+
+-- a node is noted in the cell of a spot, before any is taken off
+pub lists-noted : (cells : List Cell) (taken count i : ℕ) (cell : Cell) (spot : Spot) → taken ≡ 0 → count ≤ taken → spot_in cell ≡ spot
+    → lists_in (set cells i cell) taken count ≡ record (lists_in cells taken count) { spots = set (lists_in cells taken count).spots i spot }
+lists-noted cells zero zero i cell spot none few is =
+    ap (λ spots. record { spots = spots; taken = 0; found = [] })
+    (map-set spot_in cells i cell ∙ ap (set (map spot_in cells) i) is)
+lists-noted cells zero (suc n) i cell spot none few is = absurd (omega (arith, few))
+lists-noted cells (suc n) count i cell spot none few is = absurd (omega (arith, none))
+
+-- the first cells are of found nodes, if they are of noted ones
+found-noted : (cells : List Cell) (n : ℕ) → All IsNoted (take n (map spot_in cells))
+    → map found_in (take n cells) ≡ map found_of_spot (take n (map spot_in cells))
+found-noted cells zero all = refl
+found-noted [] (suc n) all = refl
+found-noted (cell ∷ cells) (suc n) all =
+    ap (λ t. record { node = cell.node; edge = t; distance = cell.word } ∷ map found_in (take n cells))
+    (eqb-true cell.tag 0 (not_false (cell.tag == 0) (All-head IsNoted (spot_in cell) (take n (map spot_in cells)) all)))
+    ∙ ap (λ founds. noted cell.node cell.word ∷ founds) (found-noted cells n (All-tail IsNoted (spot_in cell) (take n (map spot_in cells)) all))
+  where
+    not_false : (b : Bool) → not b ≡ false → b ≡ true
+    not_false true same = refl
+    not_false false same = cc
+
+-- all spots were visited
+pub lists-ended : (cells : List Cell) (taken n : ℕ) → taken ≡ 0 → All IsNoted (take n (lists_in cells taken 0).spots)
+    → lists_in cells (length cells) n
+    ≡ record { spots = []; taken = length (lists_in cells taken 0).spots; found = map found_of_spot (take n (lists_in cells taken 0).spots) }
+lists-ended cells zero n none all =
+    ap (λ left. record { spots = map spot_in left; taken = length cells; found = map found_in (take n cells) }) (drop-length cells)
+    ∙ ap (λ long. record { spots = []; taken = long; found = map found_in (take n cells) }) (sym (length-map cells spot_in))
+    ∙ ap (λ found. record { spots = []; taken = length (map spot_in cells); found = found }) (found-noted cells n all)
+lists-ended cells (suc n) count none all = absurd (omega (arith, none))
 
 -- the cell that is read was there from the start, so its number is low
 pub low_at : (p : Cell → Bool) (xs ys : List Cell) (k i found nodes : ℕ) (x : Cell) → FiltersInPlace p xs ys k i → i < found → found ≤ length xs

@@ -1,5 +1,5 @@
 -- Goal nodes of which the best word is at most the pair: what steps of a pass leave of that.
-use Rattle.plan_words.proofs.Words.{◌≡◌, ◌≢◌, ℕ, ◌≤◌, [], arith, inl, inr, sym, ap, subst, IsTrue, cases_eq, is_goal_point, point_at, PointOf, TreeOf}
+use Rattle.plan_words.proofs.Words.{◌≡◌, ◌≢◌, ℕ, ◌≤◌, arith, inl, inr, sym, ap, subst, IsTrue, cases_eq, is_goal_point, point_at, PointOf, TreeOf}
 use Rattle.plan_words.proofs.Words.{best_word, cost_in, HasPostedGoals, SeesAsBefore, PostsChanged, SeesSamePoints, GoesOn, IsLater, SeesGoal, sees, tree_seen}
 use Rattle.plan_words.proofs.Words.{point_at-kept, SharedRun, View}
 

@@ -31,7 +31,7 @@ pub use Rattle.plan_words.specs.Nodes.{HasLinked, IsLinkedAt, LeadsOn, NamesChil
 pub use Rattle.plan_words.specs.Parents.{FindsLess, HasParentsBelow, IsEdgeSeen, IsPairIn}
 pub use Rattle.plan_words.specs.Plays.{Claims, Counts, FindsAsSeen, FindsCount, FindsPoint, FindsTree, FindsWholeCount, Finishes, Links, Loads, LoadsBest}
 pub use Rattle.plan_words.specs.Plays.{Lowers, Posts, Tells, TellsHand, WritesFirst, WritesPoint, WritesTree, exchanged_at}
-pub use Rattle.plan_words.specs.SearchLists.{SearchState, found_in, is_dearer, numbers_of, spot_in}
+pub use Rattle.plan_words.specs.SearchLists.{IsNoted, SearchState, found_in, found_of_spot, is_dearer, lists_in, noted, noted_spot, numbers_of, spot_in}
 pub use Rattle.plan_words.specs.SeenChains.{AreSeenFirst, Reaches, chain_of, seen_words, sibling_chain_in}
 pub use Rattle.plan_words.specs.States.{BelongsTo, GoesOn, HasFirstPairs, HasPairs, HasRoom, HasWholeShare, HoldsWorld, IsTableOf, IsTied, MayClaim, PassState}
 pub use Rattle.plan_words.specs.States.{SharedState, StartsAs, first_member, first_view, new_pass, run_in, run_of_opening, tree_words, turn_of, turned}
@@ -44,11 +44,12 @@ pub use Rattle.plan_words.specs.declared.openings.Aim.{Aim}
 pub use Rattle.plan_words.specs.declared.openings.Opening.{Opening}
 pub use Rattle.plan_words.specs.declared.spots.Cell.{Cell}
 pub use Rattle.plan_words.specs.declared.spots.Found.{Found}
+pub use Rattle.plan_words.specs.declared.spots.Spot.{Spot}
 pub use Rattle.std.proofs.Common.{Bool, List, None, Option, Some, [], ap, append-nil, arith, drop, eqb, false, get_or, inl, inr, le_trans, length, map, max}
 pub use Rattle.std.proofs.Common.{refl, replicate, rules, set, subst, suc, sym, take, true, zero, ℕ, ⊎_elim, ◌%◌, ◌*◌, ◌++◌, ◌+◌, ◌-◌, ◌/◌, ◌<◌, ◌^◌, ◌∙◌, ◌∷◌}
 pub use Rattle.std.proofs.Common.{◌≡◌, ◌≢◌, ◌≤◌, ◌⊎◌}
 pub use Rattle.std.proofs.Math.Nat.{suc-mod, zero-mod}
-pub use Rattle.std.proofs.Math.Seq.{take-set-lt}
+pub use Rattle.std.proofs.Math.Seq.{drop-length, take-set-lt}
 pub use Rattle.std.proofs.lemmas.Bool.{cases_Bool, cases_eq, cases_lt, eqb-false, eqb-true, le-ltb, lt-ltb, ltb-false, ltb-true, ne_eqb, true≢false}
 pub use Rattle.std.proofs.lemmas.List.{append_assoc, drop-set-lt, get_or-drop, get_or-map, get_or-replicate, get_or-set_other, get_or-set_same, get_or-take}
 pub use Rattle.std.proofs.lemmas.List.{get_or_append_left, get_or_default, get_or_past, length-map, length-replicate, length-set, length-take-le, map-append}

@@ -1,5 +1,5 @@
 -- What a search keeps in a pass: the nodes that wait, how many were taken off, and those that it found among these.
-use Rattle.std.specs.Prelude.{ℕ, ◌+◌, ◌*◌, ◌≤◌, ◌==◌, if◌then◌else◌, Bool, List, [], drop, length, map, nat_lt, take}
+use Rattle.std.specs.Prelude.{◌≡◌, ℕ, ◌+◌, ◌*◌, ◌≤◌, ◌==◌, false, not, if◌then◌else◌, Bool, List, [], drop, length, map, nat_lt, take}
 use Rattle.plan_model.specs.Geometry.Roots.{root_ceiling}
 use Rattle.plan_model.specs.declared.geometry.Point.{Point}
 use Rattle.grown_runs.specs.Table.Words.{cost_in, point_in}
@@ -32,7 +32,7 @@ abbrev pub cell_of : Spot → Cell
 cell_of spot = record { node = spot.node; tag = if spot.by_rows then 1 else 0; word = spot.word }
 
 abbrev pub spot_in : Cell → Spot
-spot_in cell = record { node = cell.node; by_rows = cell.tag == 1; word = cell.word }
+spot_in cell = record { node = cell.node; by_rows = not (cell.tag == 0); word = cell.word }
 
 abbrev pub noted_cell : ℕ → ℕ → Cell
 noted_cell node distance = record { node = node; tag = 0; word = distance }
@@ -54,6 +54,18 @@ pub record IsSearchStore (cells : List Cell) (taken count : ℕ) : Type 0 where
 -- the node, at this squared distance, as it is noted
 abbrev pub noted : ℕ → ℕ → Found
 noted node distance = record { node = node; edge = 0; distance = distance }
+
+-- the spot that its cell would be of
+abbrev pub noted_spot : ℕ → ℕ → Spot
+noted_spot node distance = record { node = node; by_rows = false; word = distance }
+
+-- a spot that such a cell may be of
+abbrev pub IsNoted : Spot → Type 0
+IsNoted spot = spot.by_rows ≡ false
+
+-- the node that is noted in its cell
+abbrev pub found_of_spot : Spot → Found
+found_of_spot spot = noted spot.node spot.word
 
 abbrev pub numbers_of : List Found → List ℕ
 numbers_of found = map (λ (f : Found). f.node) found

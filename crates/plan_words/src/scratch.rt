@@ -5,10 +5,10 @@
 //! spot that is not wanted is written, too, and dropped again, so there is room for one more.
 
 ghost use Rattle.std.specs.Prelude.{◌≡◌, ◌⊎◌, ℕ, ◌<◌, ◌≤◌, ◌+◌, ◌^◌, ◌++◌, ◌∷◌, [], if◌then◌else◌};
-ghost use Rattle.std.specs.Prelude.{All, IfOk, IfSome, IsPermutation, None, Some, filter, length, option_to_list, slice_get, slice_set};
+ghost use Rattle.std.specs.Prelude.{All, IfOk, IfSome, IsPermutation, None, Some, filter, length, map, option_to_list, slice_get, slice_set, take};
 ghost use Rattle.std.specs.List.Sorted.{IsNonDecreasing};
 ghost use Rattle.std.specs.Vec.{vec_capacity};
-ghost use Rattle.plan_words.specs.SearchLists.{is_dearer, no_search, noted, numbers_of};
+ghost use Rattle.plan_words.specs.SearchLists.{IsNoted, found_of_spot, is_dearer, no_search, noted_spot, numbers_of};
 ghost use Rattle.plan_words.specs.States.{tree_words, with_lists};
 ghost use Rattle.plan_words.specs.Waiting.{HasSeenParent, IsOn};
 ghost use Rattle.step_core.specs.LaterViews.{IsLawfulView};
@@ -72,23 +72,13 @@ impl Pass {
         self.lists.search.put_if(spot, wanted);
     }
 
-    /// Takes the first spot that waits; `None` exactly if none does. O(1).
+    /// The spot at this index of those that wait; `None` exactly if no more do. None was taken off. O(1).
     #[inline]
-    pub fn take_spot(&mut self) -> Option<Spot>
-        ensures others { self.new ≡ with_lists self.old self.new.lists }
-        ensures search { self.new.lists ≡ record self.old.lists {
-          search = record self.old.lists.search {
-            spots = self.new.lists.search.spots;
-            taken = self.new.lists.search.taken;
-          };
-        } }
-        ensures taken { self.old.lists.search.spots ≡ option_to_list result ++ self.new.lists.search.spots }
-        ensures none { result ≡ None → self.old.lists.search.spots ≡ [] }
-        ensures count { self.new.lists.search.taken ≡ self.old.lists.search.taken + length (option_to_list result) }
-        // no more are found than were taken before
-        ensures room { IfSome result (λ _. length self.new.lists.search.found < self.new.lists.search.taken) }
+    pub fn spot(&self, index: usize) -> Option<Spot>
+        requires { self.now.lists.search.taken ≡ 0 }
+        ensures { slice_get self.now.lists.search.spots index ≡ result }
     {
-        self.lists.search.take()
+        self.lists.search.spot(index)
     }
 
     /// Takes the last spot that waits; `None` exactly if none does. O(1).
@@ -106,19 +96,36 @@ impl Pass {
         self.lists.search.pop()
     }
 
-    /// Puts a node at this squared distance at the end of those found, if it is wanted; no branch depends on that. Fewer were found than
-    /// were taken. O(1).
+    /// Notes a node at this squared distance in place of the spot at this index, which was visited. None was taken off. O(1).
     #[inline]
-    pub fn note_if(&mut self, node: u32, distance: u64, wanted: bool)
-        requires { length self.old.lists.search.found < self.old.lists.search.taken }
+    pub fn note(&mut self, index: usize, node: u32, distance: u64)
+        requires untaken { self.old.lists.search.taken ≡ 0 }
+        requires within { index < length self.old.lists.search.spots }
         ensures others { self.new ≡ with_lists self.old self.new.lists }
         ensures noted { self.new.lists ≡ record self.old.lists {
-          search = record self.old.lists.search {
-            found = if wanted then self.old.lists.search.found ++ noted node distance ∷ [] else self.old.lists.search.found;
-          };
+          search = record self.old.lists.search { spots = slice_set self.old.lists.search.spots index (noted_spot node distance) };
         } }
     {
-        self.lists.search.note_if(node, distance, wanted);
+        self.lists.search.note(index, node, distance);
+    }
+
+    /// Ends a search that has visited all spots and noted what it found in place of the first so many. O(1).
+    pub fn end_search(&mut self, count: usize)
+        requires untaken { self.old.lists.search.taken ≡ 0 }
+        requires within { count ≤ length self.old.lists.search.spots }
+        requires noted { All IsNoted (take count self.old.lists.search.spots) }
+        ensures others { self.new ≡ with_lists self.old self.new.lists }
+        ensures ended { self.new.lists ≡ record self.old.lists {
+          search = record {
+            spots = [];
+            taken = length self.old.lists.search.spots;
+            found = map found_of_spot (take count self.old.lists.search.spots);
+          };
+        } }
+        // what the law says of a view holds of that of each pass
+        ensures lawful { IsLawfulView self.new.view }
+    {
+        self.lists.search.end(count);
     }
 
     /// How many nodes the search found. O(1).

@@ -1,10 +1,10 @@
 //! What a search keeps: the nodes that wait to be visited, and those that it found.
 
 ghost use Rattle.std.specs.Prelude.{◌≡◌, ◌<◌, ◌≤◌, ◌+◌, ◌++◌, ◌∷◌, [], if◌then◌else◌};
-ghost use Rattle.std.specs.Prelude.{◌^◌, All, IfOk, IfSome, IsPermutation, None, Some, filter, length, option_to_list, slice_get, slice_index, slice_set, take};
+ghost use Rattle.std.specs.Prelude.{◌^◌, All, IfOk, IfSome, IsPermutation, None, Some, filter, length, map, option_to_list, slice_get, slice_index, slice_set, take};
 ghost use Rattle.std.specs.List.Sorted.{IsNonDecreasing};
 ghost use Rattle.std.specs.Vec.{vec_capacity};
-ghost use Rattle.plan_words.specs.SearchLists.{found_in, is_dearer, no_search, noted, numbers_of};
+ghost use Rattle.plan_words.specs.SearchLists.{IsNoted, found_in, found_of_spot, is_dearer, no_search, noted_spot, numbers_of};
 
 use crate::seen_pairs::SeenPairs;
 use crate::spots::{Cell, Found, Spot};
@@ -13,7 +13,8 @@ use std::marker::Model;
 use step_core::pair_in;
 
 /// A plain list of cells of which so many were taken off; the rest are the spots that wait. In front, where cells were taken off, stand
-/// the nodes that were found, never more than were taken.
+/// the nodes that were found, never more than were taken. A search that visits spots in the order in which they came takes none off
+/// before it ends: it counts them itself, and notes what it finds in the cells of those that it has visited.
 #[derive(Drop)]
 pub(crate) struct SearchStore {
     cells: Vec<Cell>,
@@ -69,21 +70,13 @@ impl SearchStore {
         }
     }
 
-    /// Takes the first spot that waits.
-    pub(crate) fn take(&mut self) -> Option<Spot>
-        ensures others { self.new ≡ record self.old {
-          lists = record self.old.lists {
-            spots = self.new.lists.spots;
-            taken = self.new.lists.taken;
-          };
-        } }
-        ensures taken { self.old.lists.spots ≡ option_to_list result ++ self.new.lists.spots }
-        ensures none { result ≡ None → self.old.lists.spots ≡ [] }
-        ensures count { self.new.lists.taken ≡ self.old.lists.taken + length (option_to_list result) }
-        ensures room { IfSome result (λ _. length self.new.lists.found < self.new.lists.taken) }
+    /// The spot at this index of those that came, if none was taken off yet.
+    #[inline]
+    pub(crate) fn spot(&self, index: usize) -> Option<Spot>
+        requires { self.now.lists.taken ≡ 0 }
+        ensures { slice_get self.now.lists.spots index ≡ result }
     {
-        let cell = *self.cells.as_slice().get(self.taken)?;
-        self.taken += 1;
+        let cell = *self.cells.as_slice().get(index)?;
         Some(cell.spot())
     }
 
@@ -100,17 +93,31 @@ impl SearchStore {
         Some(cell.spot())
     }
 
-    /// Puts a node at this squared distance at the end of those found, if it is wanted. It is always written.
-    pub(crate) fn note_if(&mut self, node: u32, distance: u64, wanted: bool)
-        requires { length self.old.lists.found < self.old.lists.taken }
+    /// Notes a node at this squared distance in the cell of the spot at this index.
+    #[inline]
+    pub(crate) fn note(&mut self, index: usize, node: u32, distance: u64)
+        requires untaken { self.old.lists.taken ≡ 0 }
+        requires within { index < length self.old.lists.spots }
+        ensures { self.new ≡ record self.old { lists = record self.old.lists { spots = slice_set self.old.lists.spots index (noted_spot node distance) } } }
+    {
+        self.cells[index] = Cell::noted(node, distance);
+    }
+
+    /// Ends a search that has visited all spots and noted nodes in the first so many cells.
+    pub(crate) fn end(&mut self, count: usize)
+        requires untaken { self.old.lists.taken ≡ 0 }
+        requires within { count ≤ length self.old.lists.spots }
+        requires noted { All IsNoted (take count self.old.lists.spots) }
         ensures { self.new ≡ record self.old {
-          lists = record self.old.lists {
-            found = if wanted then self.old.lists.found ++ noted node distance ∷ [] else self.old.lists.found;
+          lists = record {
+            spots = [];
+            taken = length self.old.lists.spots;
+            found = map found_of_spot (take count self.old.lists.spots);
           };
         } }
     {
-        self.cells[self.count] = Cell::noted(node, distance);
-        self.count += usize::from(wanted);
+        self.taken = self.cells.len();
+        self.count = count;
     }
 
     /// Gives the one found at this index this cost of its edge.

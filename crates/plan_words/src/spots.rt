@@ -1,7 +1,7 @@
 //! The nodes of a search: those that wait, and those that it found.
 
 ghost use Rattle.std.specs.Prelude.{◌≡◌};
-ghost use Rattle.plan_words.specs.SearchLists.{cell_of, found_in, noted, noted_cell, point_of_spot, spot_in};
+ghost use Rattle.plan_words.specs.SearchLists.{cell_of, found_in, noted_cell, noted_spot, point_of_spot, spot_in};
 
 use plan_model::Point;
 use step_core::point_in;
@@ -66,7 +66,7 @@ impl Cell {
     #[inline]
     pub(crate) fn noted(node: u32, distance: u64) -> Cell
         ensures cell { result ≡ noted_cell node distance }
-        ensures found { found_in result ≡ noted node distance }
+        ensures spot { spot_in result ≡ noted_spot node distance }
     {
         Cell {
             node,
@@ -94,7 +94,7 @@ impl Cell {
     {
         Spot {
             node: self.node,
-            by_rows: self.tag == 1,
+            by_rows: self.tag != 0,
             word: self.word,
         }
     }

@@ -1,12 +1,12 @@
-use Rattle.kd_shared.proofs.Words.{◌≡◌, ◌<◌, ◌+◌, ◌*◌, List, [], ◌∷◌, ◌++◌, length, false, true, arith, refl, sym, ap, ◌∙◌, subst, IsFalse, option_to_list}
-use Rattle.kd_shared.proofs.Words.{point_of_spot, PassState, with_lists, Spot, IsBounded, squared_distance, PointOf, searched, Notes, side_distance}
+use Rattle.kd_shared.proofs.Words.{◌≡◌, ◌<◌, ◌+◌, ◌∷◌, ◌++◌, [], false, true, arith, refl, ap, ◌∙◌, subst, IsFalse, nat_le}
+use Rattle.kd_shared.proofs.Words.{point_of_spot, PassState, with_lists, Spot, squared_distance, PointOf, side_distance}
 use Rattle.kd_shared.proofs.Looking.{LoadsPoint-point, SeesNode-later}
-use Rattle.kd_shared.proofs.NearPasses.{ended_few, ended_gathered, fewer_left, IsGatheringPass-begins, IsGatheringPass-both, LoadsBoth}
-use Rattle.kd_shared.proofs.NearPasses.{noted_seen, room_first, room_last, spot_bounded, taken_both, TakesFirst, with_child}
+use Rattle.kd_shared.proofs.NearPasses.{fewer_left, IsGatheringPass-begins, IsGatheringPass-ends, IsGatheringPass-visits, LoadsBoth, note_within, noted_seen}
+use Rattle.kd_shared.proofs.NearPasses.{NotesSpot, one_more, room_first, room_last, with_child}
 use Rattle.kd_shared.proofs.PassLooks.{PassLooks-load}
 use Rattle.kd_shared.proofs.near_search.gather.Goals as goal
-use Rattle.kd_shared.proofs.near_search.gather.Goals.{After-child_spot-right_child, After-note, After-put_spot_if-in-Some, After-put_spot_if-in-Some-2}
-use Rattle.kd_shared.proofs.near_search.gather.Goals.{After-take_spot}
+use Rattle.kd_shared.proofs.near_search.gather.Goals.{After-child_spot-right_child, After-from-count, After-put_spot_if-in-Some}
+use mir.Val.{bool_byte}
 
 pub visits-init : goal.visits-init
 visits-init c =
@@ -28,63 +28,44 @@ visits-init c =
 
 -- ---- nothing waits
 
--- it is as it was
-untaken : (c : After-take_spot) → [] ≡ option_to_list c.take_spot.result → c.take_spot.new.self ≡ c.visits.pass
-untaken c none =
-    let spots = c.take_spot.ensures.taken ∙ ap (λ xs. xs ++ c.take_spot.new.self.lists.search.spots) (sym none) in
-    let count = c.take_spot.ensures.count ∙ ap (λ (xs : List Spot). c.visits.pass.lists.search.taken + length xs) (sym none) in
-    c.take_spot.ensures.others
-    ∙ ap (with_lists c.visits.pass) c.take_spot.ensures.search
-    ∙ ap
-    (λ xs. searched c.visits.pass c.visits.pass.view (record c.visits.pass.lists.search { spots = xs; taken = c.take_spot.new.self.lists.search.taken }))
-    (sym spots)
-    ∙ ap (λ n. searched c.visits.pass c.visits.pass.view (record c.visits.pass.lists.search { taken = n })) (omega (arith, count))
+pub returns : goal.returns
+returns c =
+    let ends = IsGatheringPass-ends c.visits.invariant.gathers (c.spot.ensures ∙ c.in_default.is)
+    (c.end_search.ensures.others ∙ ap (with_lists c.visits.pass) c.end_search.ensures.ended) in
+    record { belongs = ends.belongs; looks = ends.looks; lists = ends.lists; gathered = ends.gathered; few = ends.few }
 
-pub returns-clause-gathered : goal.returns-clause-gathered
-returns-clause-gathered c =
-    ended_gathered c.visits.invariant.gathers
-    (untaken (goal.at.returns-clause-gathered c).After-take_spot (ap option_to_list (sym c.in_default.is))) (c.take_spot.ensures.none c.in_default.is)
+-- ---- a spot is visited
 
-pub returns-clause-few : goal.returns-clause-few
-returns-clause-few c =
-    ended_few c.visits.invariant.gathers
-    (untaken (goal.at.returns-clause-few c).After-take_spot (ap option_to_list (sym c.in_default.is))) (c.take_spot.ensures.none c.in_default.is)
-
--- ---- a spot is taken
-
-pub squared_distance-requires-clause-from : goal.squared_distance-requires-clause-from
-squared_distance-requires-clause-from c =
-    subst IsBounded (sym c.point-here.ensures) (spot_bounded c.visits.invariant.gathers c.in-Some.ensures.taken)
+pub overflow_add-taken : goal.overflow_add-taken
+overflow_add-taken c =
+    let fewer = fewer_left c.visits.invariant.gathers (c.spot.ensures ∙ c.in-Some.is) in
+    omega (arith, fewer, c.visits.invariant.gathers.looks.looks.goes_on.was_lawful.run.marks)
 
 -- and noted if it is near
 
-notes : (c : After-note) → Notes c.visits.pass.lists.search.found c.note.new.pass.lists.search.found c.in-Some.spot c.squared_distance.result
-    (c.args.r * c.args.r)
-notes c =
-    subst (λ b. Notes c.visits.pass.lists.search.found c.note.new.pass.lists.search.found c.in-Some.spot c.squared_distance.result b)
-    c.visits.invariant.most_is
-    (subst (λ fs. Notes fs c.note.new.pass.lists.search.found c.in-Some.spot c.squared_distance.result c.square-most.result)
-    (ap (λ l. l.search.found) c.take_spot.ensures.search) c.note.ensures.notes)
+pub note-requires-clause-within : goal.note-requires-clause-within
+note-requires-clause-within c = note_within c.visits.invariant.gathers (c.spot.ensures ∙ c.in-Some.is)
 
-takes : (c : After-note) → TakesFirst c.visits.pass c.note.new.pass c.args.p c.args.r c.in-Some.spot
-takes c = record {
-  search = record {
-    spots = c.take_spot.new.self.lists.search.spots;
-    taken = c.take_spot.new.self.lists.search.taken;
-    found = c.note.new.pass.lists.search.found;
-  };
-  first = c.in-Some.ensures.taken;
-  more = omega (arith, c.in-Some.ensures.count);
-  same = c.note.ensures.others
-      ∙ ap (λ (s : PassState). searched s s.view (record s.lists.search { found = c.note.new.pass.lists.search.found }))
-      (c.take_spot.ensures.others ∙ ap (with_lists c.visits.pass) c.take_spot.ensures.search);
-  notes = subst (λ d. Notes c.visits.pass.lists.search.found c.note.new.pass.lists.search.found c.in-Some.spot d (c.args.r * c.args.r))
-      (c.squared_distance.ensures.value ∙ ap (λ p. squared_distance p c.args.p) c.point-here.ensures) (notes c);
+notes : (c : After-from-count) → NotesSpot c.visits.pass c.note.new.self c.in-Some.spot c.args.p c.args.r c.visits.count
+    (c.visits.count + c.from-count.result)
+notes c = record {
+  distance = c.squared_distance-distance.result;
+  distance_is = c.squared_distance-distance.ensures.value ∙ ap (λ p. squared_distance p c.args.p) c.point-here.ensures;
+  same = c.note.ensures.others ∙ ap (with_lists c.visits.pass) c.note.ensures.noted;
+  next_is = ap (λ n. c.visits.count + n) c.from-count.ensures
+      ∙ ap (λ m. c.visits.count + bool_byte (nat_le c.squared_distance-distance.result m)) c.visits.invariant.most_is;
 }
+
+pub overflow_add-count : goal.overflow_add-count
+overflow_add-count c =
+    let at = goal.at.overflow_add-count c in
+    let one = one_more c.visits.invariant.gathers (c.spot.ensures ∙ c.in-Some.is) (notes at.After-from-count) in
+    let fewer = fewer_left c.visits.invariant.gathers (c.spot.ensures ∙ c.in-Some.is) in
+    omega (arith, one, fewer, c.visits.invariant.gathers.behind, c.visits.invariant.gathers.looks.looks.goes_on.was_lawful.run.marks)
 
 -- its children are loaded, if their sides are within the radius
 
-loads : (c : After-child_spot-right_child) → LoadsBoth c.args.shared.now c.note.new.pass c.child_spot-right_child.new.pass c.args.p c.args.r
+loads : (c : After-child_spot-right_child) → LoadsBoth c.args.shared.now c.note.new.self c.child_spot-right_child.new.pass c.args.p c.args.r
     c.in-Some.spot c.child_spot-left_child.result c.child_spot-right_child.result
 loads c = record {
   one = c.child_spot-left_child.new.pass;
@@ -103,46 +84,43 @@ loads c = record {
 pub child_spot-left_child-requires-clause-seen : goal.child_spot-left_child-requires-clause-seen
 child_spot-left_child-requires-clause-seen c =
     let at = goal.at.child_spot-left_child-requires-clause-seen c in
-    noted_seen c.visits.invariant.gathers (takes at.After-note)
+    noted_seen c.visits.invariant.gathers (c.spot.ensures ∙ c.in-Some.is) (notes at.After-from-count)
 
 pub child_spot-right_child-requires-clause-seen : goal.child_spot-right_child-requires-clause-seen
 child_spot-right_child-requires-clause-seen c =
     let at = goal.at.child_spot-right_child-requires-clause-seen c in
-    SeesNode-later c.note.new.pass.view c.child_spot-left_child.new.pass.view c.in-Some.spot.node
+    SeesNode-later c.note.new.self.view c.child_spot-left_child.new.pass.view c.in-Some.spot.node
     c.child_spot-left_child.ensures.looks.looks.looks.goes_on.later
-    (noted_seen c.visits.invariant.gathers (takes at.After-note))
+    (noted_seen c.visits.invariant.gathers (c.spot.ensures ∙ c.in-Some.is) (notes at.After-from-count))
 
 -- and wait
 
 left_is : (c : After-put_spot_if-in-Some) → c.put_spot_if-in-Some.new.self ≡ with_child c.child_spot-left_child.result c.child_spot-right_child.new.pass
 left_is c = c.put_spot_if-in-Some.ensures.others ∙ ap (with_lists c.child_spot-right_child.new.pass) c.put_spot_if-in-Some.ensures.put
 
-right_is : (c : After-put_spot_if-in-Some-2) → c.put_spot_if-in-Some-2.new.self ≡ with_child c.child_spot-right_child.result c.put_spot_if-in-Some.new.self
-right_is c = c.put_spot_if-in-Some-2.ensures.others ∙ ap (with_lists c.put_spot_if-in-Some.new.self) c.put_spot_if-in-Some-2.ensures.put
-
 pub put_spot_if-requires-in-Some : goal.put_spot_if-requires-in-Some
 put_spot_if-requires-in-Some c =
     let at = goal.at.put_spot_if-requires-in-Some c in
-    room_first c.visits.invariant.gathers (takes at.After-note) (loads at.After-child_spot-right_child)
+    room_first c.visits.invariant.gathers (c.spot.ensures ∙ c.in-Some.is) (notes at.After-from-count)
+    (loads at.After-child_spot-right_child)
 
 pub put_spot_if-requires-in-Some-2 : goal.put_spot_if-requires-in-Some-2
 put_spot_if-requires-in-Some-2 c =
     let at = goal.at.put_spot_if-requires-in-Some-2 c in
-    room_last c.visits.invariant.gathers (takes at.After-note) (loads at.After-child_spot-right_child) (left_is at.After-put_spot_if-in-Some)
+    room_last c.visits.invariant.gathers (c.spot.ensures ∙ c.in-Some.is) (notes at.After-from-count)
+    (loads at.After-child_spot-right_child) (left_is at.After-put_spot_if-in-Some)
 
 pub visits-preserved : goal.visits-preserved
 visits-preserved c =
     let at = goal.at.visits-preserved c in
     record {
       most_is = c.visits.invariant.most_is;
-      gathers = IsGatheringPass-both c.visits.invariant.gathers (takes at.After-note) (loads at.After-child_spot-right_child)
-          (left_is at.After-put_spot_if-in-Some) (right_is at.After-put_spot_if-in-Some-2);
+      gathers = IsGatheringPass-visits c.visits.invariant.gathers (c.spot.ensures ∙ c.in-Some.is) (notes at.After-from-count)
+          (loads at.After-child_spot-right_child) (left_is at.After-put_spot_if-in-Some)
+          (c.put_spot_if-in-Some-2.ensures.others ∙ ap (with_lists c.put_spot_if-in-Some.new.self) c.put_spot_if-in-Some-2.ensures.put);
     }
 
 pub visits-smaller : goal.visits-smaller
 visits-smaller c =
-    let at = goal.at.visits-smaller c in
-    let fewer = fewer_left c.visits.invariant.gathers c.in-Some.ensures.taken in
-    let visited = taken_both c.visits.invariant.gathers (takes at.After-note) (loads at.After-child_spot-right_child)
-    (left_is at.After-put_spot_if-in-Some) (right_is at.After-put_spot_if-in-Some-2) in
-    omega (arith, fewer, visited)
+    let fewer = fewer_left c.visits.invariant.gathers (c.spot.ensures ∙ c.in-Some.is) in
+    omega (arith, fewer)

@@ -1,6 +1,6 @@
-use Rattle.kd_shared.proofs.Words.{false, arith, refl, sym, ap, ◌∙◌, subst, IsBounded, squared_distance, PointOf, point_of_spot, with_lists, Spot, MeasuredNode}
+use Rattle.kd_shared.proofs.Words.{false, arith, refl, sym, ap, ◌∙◌, subst, squared_distance, PointOf, point_of_spot, with_lists, Spot, MeasuredNode}
 use Rattle.kd_shared.proofs.Looking.{LoadsPoint-point}
-use Rattle.kd_shared.proofs.NearestPasses.{half_seen, half_seen_stack, here_bounded, here_seen, IsSeekingPass, IsSeekingPass-begins, IsSeekingPass-ends}
+use Rattle.kd_shared.proofs.NearestPasses.{half_seen, half_seen_stack, here_seen, IsSeekingPass, IsSeekingPass-begins, IsSeekingPass-ends}
 use Rattle.kd_shared.proofs.NearestPasses.{IsSeekingPass-walks, stack_room, visits_low, VisitsHere, walked_looks}
 use Rattle.kd_shared.proofs.NearestSearch.{IsNearer, IsNearer-of}
 use Rattle.kd_shared.proofs.PassLooks.{PassLooks-load}
@@ -22,9 +22,6 @@ visits-init c =
           (IsSeekingPass-begins c.args.shared.now c.args.pass.now c.point_word-start.new.pass c.clear_search.new.self c.args.p
           (squared_distance (point_of_spot here) c.args.p) here first load refl cleared refl refl);
     }
-
-pub new-requires-clause-at : goal.new-requires-clause-at
-new-requires-clause-at c = subst IsBounded (sym c.point-in-visits.ensures) (here_bounded c.visits.invariant.seeks)
 
 pub stack_far_side-requires-clause-seen : goal.stack_far_side-requires-clause-seen
 stack_far_side-requires-clause-seen c = here_seen c.visits.invariant.seeks

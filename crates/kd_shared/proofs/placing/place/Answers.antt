@@ -1,10 +1,10 @@
 use Rattle.kd_shared.proofs.Words.{◌≡◌, refl, sym, ap, subst, ◌∙◌, arith, IsSome, same_point-false, same_point-true, PointOf, StopsAt-below, LeadsTo, SeesPoint}
-use Rattle.kd_shared.proofs.Words.{tree_seen, Stop, Treed, PassLooks-fills, PassLooks-short, PassLooks-trans}
+use Rattle.kd_shared.proofs.Words.{tree_seen, Stop, PassLooks-fills, PassLooks-short, PassLooks-trans}
 use Rattle.kd_shared.proofs.Finding.{LeadsTo-stop}
 use Rattle.kd_shared.proofs.PassLooks.{PassLooks-load, PassLooks-met}
 use Rattle.kd_shared.proofs.LinkedSights.{IfSome-all, IfSome-free, IfSome-sees_linked}
-use Rattle.kd_shared.proofs.PlacedNodes.{GoesOnPlacing-looks, IsBounded-held, IfSome-kept, IfSome-leads, IfSome-placed}
-use Rattle.kd_shared.proofs.PlacedNodes.{IfSome-same, IfSome-since, PassPlaces, PassPlaces-links, PassPlaces-looks}
+use Rattle.kd_shared.proofs.PlacedNodes.{IsBounded-held, IfSome-kept, IfSome-leads, IfSome-placed}
+use Rattle.kd_shared.proofs.PlacedNodes.{IfSome-since, PassPlaces, PassPlaces-links, PassPlaces-looks}
 use Rattle.kd_shared.proofs.placing.place.Goals as goal
 
 pub walk_by_words-stop-requires-clause-bounded : goal.walk_by_words-stop-requires-clause-bounded
@@ -12,35 +12,7 @@ walk_by_words-stop-requires-clause-bounded c =
     IsBounded-held c.args.pass.now.view c.hand_point-p.result c.requires.belongs.lawful c.args.pass.now.view.hand refl c.requires.hand
     c.hand_point-p.ensures c.requires.treed
 
--- the walk before has only looked
-pub depths-init : goal.depths-init
-depths-init c = record { passes = c.walk_by_words-stop.ensures.looks; stops = c.walk_by_words-stop.ensures.stops }
-
 -- another node has the point
-pub returns-then-eq-clause-belongs : goal.returns-then-eq-clause-belongs
-returns-then-eq-clause-belongs c = c.depths.invariant.passes.belongs
-
-pub returns-then-eq-clause-goes_on : goal.returns-then-eq-clause-goes_on
-returns-then-eq-clause-goes_on c = GoesOnPlacing-looks c.args.pass.now.view c.depths.pass.view c.depths.invariant.passes.looks
-
-pub returns-then-eq-clause-share : goal.returns-then-eq-clause-share
-returns-then-eq-clause-share c =
-    let kept = c.depths.invariant.passes.looks.kept in
-    record { crew = kept.crew; most = kept.most }
-
-pub returns-then-eq-clause-view_alone : goal.returns-then-eq-clause-view_alone
-returns-then-eq-clause-view_alone c = c.depths.invariant.passes.view_alone
-
-pub returns-then-eq-clause-placed : goal.returns-then-eq-clause-placed
-returns-then-eq-clause-placed c =
-    IfSome-same c.depths.pass.view c.hand_point-p.result c.depths.stop.node c.args.pass.now.view.hand c.depths.invariant.passes.looks.kept.hand
-    c.hand_point-p.ensures
-    (subst (SeesPoint c.depths.pass.view c.depths.stop.node) (same_point-true c.depths.stop.here c.hand_point-p.result (sym c.eq.ensures ∙ c.if-eq.true))
-    c.depths.invariant.stops.stands)
-
-pub returns-then-eq-clause-since : goal.returns-then-eq-clause-since
-returns-then-eq-clause-since c = IfSome-all c.args.pass.now.view.hand (λ hand. c.depths.invariant.passes.looks.looked)
-
 pub returns-then-eq-clause-whole : goal.returns-then-eq-clause-whole
 returns-then-eq-clause-whole c = λ all.
     IfSome-free _ c.args.pass.now.view c.depths.pass.view c.hand_point-p.result c.depths.stop.node c.args.pass.now.view.hand all
@@ -52,16 +24,6 @@ pub returns-then-eq-clause-whole_seen : goal.returns-then-eq-clause-whole_seen
 returns-then-eq-clause-whole_seen c = λ all. IfSome-all c.args.pass.now.view.hand (λ hand. c.depths.invariant.passes.looks.whole all)
 
 -- the way leads to this node
-pub link-requires-clause-belongs : goal.link-requires-clause-belongs
-link-requires-clause-belongs c = c.depths.invariant.passes.belongs
-
-pub link-requires-clause-hand : goal.link-requires-clause-hand
-link-requires-clause-hand c = subst IsSome (sym c.depths.invariant.passes.looks.kept.hand) c.requires.hand
-
-pub link-requires-clause-treed : goal.link-requires-clause-treed
-link-requires-clause-treed c =
-    IfSome-kept c.args.pass.now.view c.depths.pass.view (λ hand. hand.stage ≡ Treed) c.depths.invariant.passes.looks c.requires.treed
-
 pub link-requires-clause-leads : goal.link-requires-clause-leads
 link-requires-clause-leads c =
     IfSome-leads c.depths.pass.view c.hand_point-p.result c.depths.stop.node c.leads_right.result c.depths.pass.view.hand
@@ -85,40 +47,26 @@ places_there c =
     (subst IsSome (sym c.depths.invariant.passes.looks.kept.hand) c.requires.hand) c.in_default.ensures.view c.link.ensures.goes_on
     c.link.ensures.others)
 
-pub returns-in_default-clause-belongs : goal.returns-in_default-clause-belongs
-returns-in_default-clause-belongs c = (places_there c).belongs
-
-pub returns-in_default-clause-goes_on : goal.returns-in_default-clause-goes_on
-returns-in_default-clause-goes_on c = (places_there c).goes_on
-
-pub returns-in_default-clause-share : goal.returns-in_default-clause-share
-returns-in_default-clause-share c = (places_there c).share
-
-pub returns-in_default-clause-view_alone : goal.returns-in_default-clause-view_alone
-returns-in_default-clause-view_alone c = (places_there c).view_alone
-
-pub returns-in_default-clause-placed : goal.returns-in_default-clause-placed
-returns-in_default-clause-placed c =
-    IfSome-placed c.depths.pass.view c.link.new.pass.view c.hand_point-p.result c.depths.stop.node c.leads_right.result
-    c.args.pass.now.view.hand c.depths.invariant.passes.looks.kept.hand c.hand_point-p.ensures c.in_default.ensures.linked
-    c.in_default.ensures.on_way (leads_there c)
-
-pub returns-in_default-clause-since : goal.returns-in_default-clause-since
-returns-in_default-clause-since c =
-    IfSome-since c.args.pass.now.view c.depths.pass c.link.new.pass c.depths.stop.node c.leads_right.result c.args.pass.now.view.hand
-    c.depths.invariant.passes.looks.looks.goes_on c.depths.invariant.passes.looks.kept.hand c.in_default.ensures.linked c.link.ensures.looked
-    c.in_default.ensures.view
-
-pub returns-in_default-clause-whole : goal.returns-in_default-clause-whole
-returns-in_default-clause-whole c = λ all. IfSome-all c.args.pass.now.view.hand (λ hand free. refl)
-
-pub returns-in_default-clause-whole_seen : goal.returns-in_default-clause-whole_seen
-returns-in_default-clause-whole_seen c = λ all.
-    IfSome-sees_linked c.args.pass.now.view c.depths.pass c.link.new.pass c.depths.stop.node c.leads_right.result c.args.pass.now.view.hand all
-    c.depths.invariant.passes.looks c.link.ensures.goes_on c.depths.invariant.passes.looks.kept.hand c.requires.treed
-    (IfSome-leads c.depths.pass.view c.hand_point-p.result c.depths.stop.node c.leads_right.result c.args.pass.now.view.hand c.hand_point-p.ensures
-    (leads_there c))
-    c.in_default.ensures.view
+pub returns-in_default : goal.returns-in_default
+returns-in_default c = record {
+  belongs = (places_there c).belongs;
+  goes_on = (places_there c).goes_on;
+  share = (places_there c).share;
+  view_alone = (places_there c).view_alone;
+  placed = IfSome-placed c.depths.pass.view c.link.new.pass.view c.hand_point-p.result c.depths.stop.node c.leads_right.result
+      c.args.pass.now.view.hand c.depths.invariant.passes.looks.kept.hand c.hand_point-p.ensures c.in_default.ensures.linked
+      c.in_default.ensures.on_way (leads_there c);
+  since = IfSome-since c.args.pass.now.view c.depths.pass c.link.new.pass c.depths.stop.node c.leads_right.result c.args.pass.now.view.hand
+      c.depths.invariant.passes.looks.looks.goes_on c.depths.invariant.passes.looks.kept.hand c.in_default.ensures.linked c.link.ensures.looked
+      c.in_default.ensures.view;
+  whole = λ all. IfSome-all c.args.pass.now.view.hand (λ hand free. refl);
+  whole_seen = λ all.
+      IfSome-sees_linked c.args.pass.now.view c.depths.pass c.link.new.pass c.depths.stop.node c.leads_right.result c.args.pass.now.view.hand all
+      c.depths.invariant.passes.looks c.link.ensures.goes_on c.depths.invariant.passes.looks.kept.hand c.requires.treed
+      (IfSome-leads c.depths.pass.view c.hand_point-p.result c.depths.stop.node c.leads_right.result c.args.pass.now.view.hand c.hand_point-p.ensures
+      (leads_there c))
+      c.in_default.ensures.view;
+}
 
 -- or a child is there
 pub point-here-requires-clause-belongs : goal.point-here-requires-clause-belongs

@@ -1,17 +1,6 @@
-use Rattle.kd_shared.proofs.Words.{sym, subst, ◌∙◌, same_point-false, same_point-true, SeesPoint}
-use Rattle.kd_shared.proofs.Finding.{EndsSince-stop, IsFree-before, IsFree-now}
+use Rattle.kd_shared.proofs.Words.{sym, ◌∙◌, same_point-false}
+use Rattle.kd_shared.proofs.Finding.{IsFree-before, IsFree-now}
 use Rattle.kd_shared.proofs.point_search.find.Goals as goal
-
-pub returns-then-eq-clause-found : goal.returns-then-eq-clause-found
-returns-then-eq-clause-found c =
-    subst (SeesPoint c.walk-stop.new.looks.view c.walk-stop.result.node) (same_point-true c.walk-stop.result.here c.args.p (sym c.eq.ensures ∙ c.if-eq.true))
-    c.walk-stop.ensures.stops.stands
-
-pub returns-clause-ends : goal.returns-clause-ends
-returns-clause-ends c =
-    let apart = same_point-false c.walk-stop.result.here c.args.p (sym c.eq.ensures ∙ c.if-eq.false) in
-    EndsSince-stop c.args.pass.now.view c.walk-stop.new.looks.view c.args.p c.walk-stop.result c.walk-stop.ensures.looks.looks c.walk-stop.ensures.stops
-    apart (c.walk-stop.ensures.empty apart)
 
 pub returns-clause-missed : goal.returns-clause-missed
 returns-clause-missed c =

@@ -1,7 +1,6 @@
 use Rattle.kd_shared.proofs.Words.{◌≡◌, ◌≢◌, ◌+◌, ◌-◌, ◌<◌, ℕ, zero, suc, Some, sym, ap, ◌∙◌, subst, inl, inr, arith, refl, not, ◌==◌, MatchOption, Point}
 use Rattle.kd_shared.proofs.Words.{IsBounded, IsShift, StopsAt-below, StopsAt-fills, stop_of, PassLooks, PassLooks-fills, PassLooks-trans, ChildOf, PointOf}
 use Rattle.kd_shared.proofs.Words.{child_of_word, goes_right_by, point_in, point_word, x_in-point_word, y_in-point_word, sight_in, tree_seen, SeesNode}
-use Rattle.kd_shared.proofs.Looking.{OnlyLooks-refl}
 use Rattle.kd_shared.proofs.PassLooks.{PassLooks-load}
 use Rattle.kd_shared.proofs.word_walks.next_stop.Goals as goal
 use Rattle.kd_shared.proofs.word_walks.next_stop.Goals.{After-child_or_start-child, After-point_word-word}
@@ -19,18 +18,11 @@ flipped : (s : ℕ) → IsShift s → IsShift (20 - s)
 flipped s (inl column) = inr (omega (arith, column))
 flipped s (inr row) = inl (omega (arith, row))
 
-pub returns-then-is_same-clause-looks : goal.returns-then-is_same-clause-looks
-returns-then-is_same-clause-looks c =
-    record { belongs = c.requires.belongs; looks = OnlyLooks-refl c.args.pass.now.view c.requires.belongs.lawful; view_alone = refl }
-
 load : (c : After-child_or_start-child) → PassLooks c.args.shared.now c.args.pass.now c.child_or_start-child.new.pass
 load c =
     PassLooks-load c.args.shared.now c.args.pass.now c.child_or_start-child.new.pass (ChildOf c.args.at.node c.leads_right-right.result) _ _
     c.requires.belongs tt c.child_or_start-child.ensures.view c.child_or_start-child.ensures.goes_on c.child_or_start-child.ensures.seen
     c.child_or_start-child.ensures.looked c.child_or_start-child.ensures.whole
-
-pub child_or_start-child-requires-clause-seen_node : goal.child_or_start-child-requires-clause-seen_node
-child_or_start-child-requires-clause-seen_node c = c.requires.stops.stops.seen
 
 -- ---- there is no child
 

@@ -1,5 +1,5 @@
-use Rattle.kd_shared.proofs.Words.{◌<◌, sym, subst, arith, inl, refl, point_in, PointOf, MOST_NODES, StopsAt, StopsAt-root, tree_seen, PassLooks-short}
-use Rattle.kd_shared.proofs.Words.{PassLooks-trans, ◌==◌}
+use Rattle.kd_shared.proofs.Words.{◌<◌, arith, inl, refl, point_in, PointOf, MOST_NODES, StopsAt-root, tree_seen, PassLooks-short}
+use Rattle.kd_shared.proofs.Words.{PassLooks-trans}
 use Rattle.kd_shared.proofs.PassLooks.{PassLooks-load}
 use Rattle.kd_shared.proofs.word_walks.walk_by_words.Goals as goal
 
@@ -12,9 +12,6 @@ way-init c = record {
     shift = inl refl;
   };
 }
-
-pub next_stop-requires-clause-belongs : goal.next_stop-requires-clause-belongs
-next_stop-requires-clause-belongs c = c.way.invariant.looks.belongs
 
 pub next_stop-requires-clause-short : goal.next_stop-requires-clause-short
 next_stop-requires-clause-short c =
@@ -35,14 +32,3 @@ way-smaller c =
 pub returns-clause-looks : goal.returns-clause-looks
 returns-clause-looks c =
     PassLooks-trans c.args.shared.now c.args.pass.now c.way.pass c.next_stop.new.pass c.way.invariant.looks c.in_default.ensures.looks
-
-pub returns-clause-stops : goal.returns-clause-stops
-returns-clause-stops c =
-    subst
-    (λ at. StopsAt (tree_seen c.next_stop.new.pass.view) c.args.p (record {
-      depth = c.way.at.depth;
-      node = c.way.at.node;
-      by_rows = c.way.at.shift == 20;
-      here = at;
-    }))
-    (sym c.point_in.ensures) c.in_default.ensures.none.stops
