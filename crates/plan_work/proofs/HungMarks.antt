@@ -1,22 +1,21 @@
 -- The node in hand gets its parent and its cost.
 use Rattle.plan_work.proofs.Words.{◌≡◌, ℕ, ◌≤◌, ◌∷◌, List, inl, refl, sym, ap, ◌∙◌, subst, arith, All, Contains, slice_index_or, All-contains, Contains-get_or}
-use Rattle.plan_work.proofs.Words.{Clear, ConfigurationSpace, cost_of, IsFirstLeast, IsOpenTo, IsPresent, point_at, point_of, Point, Contains-after}
+use Rattle.plan_work.proofs.Words.{Clear, ConfigurationSpace, cost_of, IsPresent, point_at, point_of, Point, Contains-after}
 use Rattle.plan_work.proofs.Words.{Contains-first, StandsAt-present, Counter, RecordOf, TreeOf, BelongsTo, GoesOn, PassState, SharedState, with_view}
 use Rattle.plan_work.proofs.Words.{BelongsTo-later, IsHung, IsPointed, KeepsRecords, half, treed, IsCostBelow, MayHang, sees, setup_in, tree_seen, Hand, Half}
-use Rattle.plan_work.proofs.Words.{View, IsLoadedSince, SeesPair, cost_seen, seen_cost_through}
+use Rattle.plan_work.proofs.Words.{View, IsBestParentSeen, IsLoadedSince, Parent, SeesPair, cost_seen, seen_cost_through}
 use Rattle.plan_work.proofs.FilledNear.{looked_since}
 
-module _ (space : ConfigurationSpace) (view : View) (hand : Hand) (p : Point) (nearest parent cost : ℕ) (near : List ℕ) (pointed : IsPointed hand nearest p)
-    (least : IsFirstLeast (seen_cost_through view p) (IsOpenTo space (tree_seen view).points p (nearest ∷ near)) parent)
-    (cost_is : cost ≡ seen_cost_through view p parent) where
+module _ (space : ConfigurationSpace) (view : View) (hand : Hand) (p : Point) (nearest : ℕ) (near : List ℕ) (parent : Parent)
+    (pointed : IsPointed hand nearest p) (best : IsBestParentSeen space view p (nearest ∷ near) parent) where
   -- the node may hang below the parent that was chosen
   pub MayHang-chosen : IsPresent (tree_seen view).points nearest → SeesPair view nearest → Clear space (point_of (tree_seen view).points nearest) p
-      → IsCostBelow view p parent cost → MayHang view hand parent cost
+      → IsCostBelow view p parent.node parent.cost → MayHang view hand parent.node parent.cost
   MayHang-chosen present pair clear below =
       let points = (tree_seen view).points in
-      let not_above = least.not_above nearest record { among = Contains-first nearest near; clear = clear } in
+      let not_above = best.least.not_above nearest record { among = Contains-first nearest near; clear = clear } in
       record {
-        below = subst (λ q. IsCostBelow view q parent cost) (sym pointed.point) below;
+        below = subst (λ q. IsCostBelow view q parent.node parent.cost) (sym pointed.point) below;
         nearest_at = point_of points nearest;
         nearest_cost = cost_seen view nearest;
         nearest = record {
@@ -25,23 +24,24 @@ module _ (space : ConfigurationSpace) (view : View) (hand : Hand) (p : Point) (n
           written = subst (SeesPair view) (sym pointed.nearest) pair;
           cost_is = ap (cost_seen view) (sym pointed.nearest);
         };
-        chosen = omega (arith, not_above.least, cost_is, ap (cost_of (point_of points nearest)) pointed.point);
+        chosen = omega (arith, not_above.least, best.cost, ap (cost_of (point_of points nearest)) pointed.point);
       }
 
   -- and costs no more than through any near node
-  pub chosen_near : (i : ℕ) → Contains near i → Clear space (point_of (tree_seen view).points i) p → cost ≤ seen_cost_through view p i
+  pub chosen_near : (i : ℕ) → Contains near i → Clear space (point_of (tree_seen view).points i) p → parent.cost ≤ seen_cost_through view p i
   chosen_near i among clear =
-      omega (arith, cost_is, (least.not_above i record { among = Contains-after nearest near i among; clear = clear }).least)
+      omega (arith, best.cost, (best.least.not_above i record { among = Contains-after nearest near i among; clear = clear }).least)
 
 -- After both words are written the node hangs.
 pub IsHung-written :
-    (space : ConfigurationSpace) (view : View) (own : Hand) (m : ℕ) (p : Point) (pair : ℕ × ℕ) (near : List ℕ) (then : View) → IsPointed own m p
-    → then ≡ treed (half view own pair.0 pair.1) (record own { stage = Half; parent = pair.0; cost = pair.1 }) → space ≡ (setup_in view.run).space
+    (space : ConfigurationSpace) (view : View) (own : Hand) (m : ℕ) (p : Point) (parent : Parent) (near : List ℕ) (then : View) → IsPointed own m p
+    → then ≡ treed (half view own parent.node parent.cost) (record own { stage = Half; parent = parent.node; cost = parent.cost })
+    → space ≡ (setup_in view.run).space
     → All (SeesPair view) (m ∷ near) → (steps : ℕ) → All (IsLoadedSince steps view) (m ∷ near) → GoesOn view then
-    → ((i : ℕ) → Contains near i → Clear space (point_of (tree_seen view).points i) p → pair.1 ≤ seen_cost_through view p i)
-    → IsHung steps then own pair near
-IsHung-written space view own m p pair near then pointed is same pairs steps loaded goes_on chosen =
-    subst (λ v. IsHung steps v own pair near) (sym is) record {
+    → ((i : ℕ) → Contains near i → Clear space (point_of (tree_seen view).points i) p → parent.cost ≤ seen_cost_through view p i)
+    → IsHung steps then own parent near
+IsHung-written space view own m p parent near then pointed is same pairs steps loaded goes_on chosen =
+    subst (λ v. IsHung steps v own parent near) (sym is) record {
       held = refl;
       pairs = λ k d below. All-contains (SeesPair view) (m ∷ near) _ pairs (Contains-after m near _ (Contains-get_or near k d below));
       loaded = λ k d below.

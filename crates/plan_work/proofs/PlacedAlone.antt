@@ -110,7 +110,7 @@ module _
   setup = setup_in before.view.run
 
   abbrev f : ℕ
-  f = hanging.parent
+  f = hanging.parent.node
 
   abbrev counted_hand : Hand
   counted_hand = placed_hand tried.view (hung_by may.hand hanging)
@@ -164,7 +164,7 @@ module _
   f_present : IsPresent (points_of tree) f
   f_present = (candidate-reachable setup (points_of tree) (mark_at before.view.run.marks k) m p f steers_tree parent.member).present
 
-  cost_is : hanging.cost ≡ cost_through tree p f
+  cost_is : hanging.parent.cost ≡ cost_through tree p f
   cost_is = whole.best.cost ∙ seen_cost_through-mirrored before.view tree book.nodes p f f_present
 
   clear_tree : Clear setup.space (point_of (points_of tree) m) p
@@ -187,13 +187,13 @@ module _
   new_node =
       let fits = keeps.goes_on.lawful.pair_fits counted_hand is_tried.came.counted
       (has_first-placed tried.view.run.goals may.hand.point) in
-      let word : sees tried.view (TreeOf (suc k)) ≡ tree_word f hanging.cost =
+      let word : sees tried.view (TreeOf (suc k)) ≡ tree_word f hanging.parent.cost =
       ap (λ n. sees tried.view (TreeOf (suc n))) (sym may.mark) ∙ is_tried.came.pair in
       record {
         stands = stands;
         written = omega (arith, word);
-        parent = ap parent_in word ∙ parent_in-tree_word f hanging.cost fits.0;
-        cost_is = ap cost_in word ∙ cost_in-tree_word f hanging.cost fits.0 fits.1 ∙ cost_is;
+        parent = ap parent_in word ∙ parent_in-tree_word f hanging.parent.cost fits.0;
+        cost_is = ap cost_in word ∙ cost_in-tree_word f hanging.parent.cost fits.0 fits.1 ∙ cost_is;
         points = λ n apart. point_kept before.view tried.view keeps.goes_on.later.run n (whole.others n apart).point;
         trees = λ n apart. (whole.others n apart).tree;
       }
@@ -202,7 +202,7 @@ module _
   below = omega (arith, keeps.goes_on.was_lawful.mark may.hand may.held, may.mark)
 
   -- the tree with the new node is mirrored
-  pub Mirrors-tried : Mirrors tried.view (book.tree ++ Some (record { point = p; parent = hanging.parent }) ∷ [])
+  pub Mirrors-tried : Mirrors tried.view (book.tree ++ Some (record { point = p; parent = hanging.parent.node }) ∷ [])
   Mirrors-tried =
       let entry : Record = own_placed before.view m hanging in
       let within : k ≤ length before.view.run.marks = omega (arith, below) in
@@ -216,23 +216,24 @@ module _
       HasPostedGoals-more before.view tried.view keeps.goes_on.later (suc k) (λ n apart. (whole.others n apart).point)
       (λ n apart. (whole.others n apart).tree) new_posted book.best
     where
-      fits : (hanging.parent < 2 ^ 18) × (hanging.cost < 2 ^ 44)
+      fits : (hanging.parent.node < 2 ^ 18) × (hanging.parent.cost < 2 ^ 44)
       fits = keeps.goes_on.lawful.pair_fits counted_hand is_tried.came.counted (has_first-placed tried.view.run.goals may.hand.point)
 
-      word : sees tried.view (TreeOf (suc k)) ≡ tree_word f hanging.cost
+      word : sees tried.view (TreeOf (suc k)) ≡ tree_word f hanging.parent.cost
       word = ap (λ n. sees tried.view (TreeOf (suc n))) (sym may.mark) ∙ is_tried.came.pair
 
       new_posted : SeesGoal tried.view (suc k) → tried.view.best ≤ best_word (cost_in (sees tried.view (TreeOf (suc k)))) (suc k)
       new_posted goal =
           let lies = lies-at tried.view (suc k) may.hand.point (subst (λ q. SeesPoint tried.view (suc k) q) (sym may.pointed.point) stands) goal in
-          let cost : cost_in (sees tried.view (TreeOf (suc k))) ≡ hanging.cost = ap cost_in word ∙ cost_in-tree_word f hanging.cost fits.0 fits.1 in
+          let cost : cost_in (sees tried.view (TreeOf (suc k))) ≡ hanging.parent.cost =
+          ap cost_in word ∙ cost_in-tree_word f hanging.parent.cost fits.0 fits.1 in
           omega (arith, is_tried.came.posted lies, cost, may.mark)
 
   -- ---- rewired and recorded
 
   module _
       (after done : PassState) (entry : Record) (seen : SeesAnew NamesLoweredOrPoint tried.view after.view) (now : Nodes)
-      (rewired : Rewires (space_of shared.task.scene) (book.tree ++ Some (record { point = p; parent = hanging.parent }) ∷ []) (suc k)
+      (rewired : Rewires (space_of shared.task.scene) (book.tree ++ Some (record { point = p; parent = hanging.parent.node }) ∷ []) (suc k)
       (near_new (setup_in before.view.run) (tree_seen before.view).points p) now)
       (mirrors : Mirrors after.view now) (recorded : HasRecorded shared after done entry) (is : entry ≡ own_placed after.view m hanging)
       (alone : WorksAlone before.view k) (cheaper : IsNotSkippedIn before.view k) (posted : HasPostedGoals after.view) where

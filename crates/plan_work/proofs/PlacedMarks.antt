@@ -63,7 +63,7 @@ pub Rewired-hand :
     → Clear (space_of shared.task.scene) hand.point (point_of (tree_seen tried.view).points i)
     → cost_seen after.view i ≤ hand.cost + cost_of hand.point (point_of (tree_seen tried.view).points i))
     → (i : ℕ) → Contains (numbers_of before.lists.search.found) i → Clear (space_of shared.task.scene) p (point_of (tree_seen tried.view).points i)
-    → cost_seen after.view i ≤ hanging.cost + cost_of p (point_of (tree_seen tried.view).points i)
+    → cost_seen after.view i ≤ hanging.parent.cost + cost_of p (point_of (tree_seen tried.view).points i)
 Rewired-hand shared before tried after k m p hanging may is_tried rewired i among clear =
     let points = (tree_seen tried.view).points in
     let all =
@@ -80,7 +80,7 @@ module _
     (is_tried : IsTried before tried may.hand Placed hanging)
     (seen : SeesAnew NamesLoweredOrPoint tried.view after.view) (pairs : All (SeesPair after.view) (numbers_of before.lists.search.found))
     (rewired : (i : ℕ) → Contains (numbers_of before.lists.search.found) i → Clear (space_of shared.task.scene) p (point_of (tree_seen tried.view).points i)
-    → cost_seen after.view i ≤ hanging.cost + cost_of p (point_of (tree_seen tried.view).points i)) where
+    → cost_seen after.view i ≤ hanging.parent.cost + cost_of p (point_of (tree_seen tried.view).points i)) where
   abbrev mid : View
   mid = is_tried.mid
 
@@ -135,7 +135,7 @@ module _
     space_mid = ap (λ (run : SharedRun). (setup_in run).space) (is_tried.begun.later.run ∙ may.belongs.run)
 
     -- It was no cheaper parent,
-    chosen_by : hanging.cost ≤ cost_seen mid i + cost_of q p
+    chosen_by : hanging.parent.cost ≤ cost_seen mid i + cost_of q p
     chosen_by =
         omega (
           arith,
@@ -148,7 +148,7 @@ module _
         )
 
     -- and is seen no dearer than through the new node.
-    rewired_by : cost_seen after.view i ≤ hanging.cost + cost_of q p
+    rewired_by : cost_seen after.view i ≤ hanging.parent.cost + cost_of q p
     rewired_by =
         omega (
           arith,
@@ -295,7 +295,7 @@ module _
       posted = λ lies.
           let here = subst (λ (r : SharedRun). lies_in_goals r.goals may.hand.point ≡ true) from_tried.later.run
           (subst (λ q. lies_in_goals done.view.run.goals q ≡ true) (sym may.pointed.point) lies) in
-          subst (λ n. tried.view.best ≤ best_word hanging.cost (suc n)) may.mark (is_tried.came.posted here);
+          subst (λ n. tried.view.best ≤ best_word hanging.parent.cost (suc n)) may.mark (is_tried.came.posted here);
       pairs = λ i was. SeesPair-later after.view done.view recorded.goes_on i (pair_after i was.at (close_neighbour i was));
       most = λ i was.
           let close = close_neighbour i was in

@@ -81,7 +81,7 @@ pub IsTried-placing :
     → KeepsRecords shared before hanging_at → GoesOnPlacing hanging_at.view after.view
     → hanging_at.lists.search.found ≡ weighed before.lists.search.found
     → after.lists.search.found ≡ hanging_at.lists.search.found → sees hanging_at.view Count ≡ sees before.view Count
-    → IsHung before.view.steps hanging_at.view hand (hanging.parent, hanging.cost) (numbers_of before.lists.search.found)
+    → IsHung before.view.steps hanging_at.view hand hanging.parent (numbers_of before.lists.search.found)
     → HasCome after.view (hung_by hand hanging) placing → IsTried before after hand placing hanging
 IsTried-placing shared before hanging_at after hand placing hanging keeps goes_on found last count hung came = record {
   mid = hanging_at.view;

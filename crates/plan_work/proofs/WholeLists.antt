@@ -1,8 +1,8 @@
 -- Near lists and nearest nodes of a pass with the share of all workers, while it is shown nothing new but the count.
-use Rattle.plan_work.proofs.Words.{◌≡◌, ℕ, ◌+◌, Some, List, ◌∷◌, length, sym, ap, ◌∙◌, subst, mark_at, ConfigurationSpace, cost_of, IsFirstLeast, near}
+use Rattle.plan_work.proofs.Words.{◌≡◌, ℕ, ◌+◌, Some, List, length, sym, ap, ◌∙◌, subst, mark_at, ConfigurationSpace, cost_of, IsLeastParent, Parent, near}
 use Rattle.plan_work.proofs.Words.{IsOpenTo, IsPresent, node_count, point_of, class_of, radius_of, radius_of_class, steered, SteersTo, near_new, Point}
 use Rattle.plan_work.proofs.Words.{IsPresent-stands, point_of-stands, PointOf, TreeOf, cost_in, SeesAsBefore, HasWholeShare, PassState, SharedState, Found}
-use Rattle.plan_work.proofs.Words.{AreOf, HasSteered, KeepsRecords, HasCounted, IsBestHanging, IsFilledWhole, IsSteeredWhole, SeesButCount, sees, setup_in}
+use Rattle.plan_work.proofs.Words.{AreOf, HasSteered, KeepsRecords, HasCounted, IsBestParentSeen, IsFilledWhole, IsSteeredWhole, SeesButCount, sees, setup_in}
 use Rattle.plan_work.proofs.Words.{tree_seen, Hand, SharedRun, Claimed, View, seen_cost_through}
 use Rattle.plan_work.proofs.MirroredTrees.{points_still}
 
@@ -77,16 +77,11 @@ module _ (before after : View) (run : after.run ≡ before.run) (same : (n : ℕ
 -- ---- parents
 
 -- the best parent by the costs seen now is the best by those seen before
-pub IsBestHanging-before :
-    (space : ConfigurationSpace) (before after : View) (p : Point) (nearest : ℕ) (found : List ℕ) (pair : ℕ × ℕ) → after.run ≡ before.run
-    → SeesAsBefore before after → IsFirstLeast (seen_cost_through after p) (IsOpenTo space (tree_seen after).points p (nearest ∷ found)) pair.0
-    → pair.1 ≡ seen_cost_through after p pair.0 → IsBestHanging space before p nearest found pair
-IsBestHanging-before space before after p nearest found pair run same least cost =
+pub IsBestParentSeen-before :
+    (space : ConfigurationSpace) (before after : View) (p : Point) (among : List ℕ) (parent : Parent) → after.run ≡ before.run
+    → SeesAsBefore before after → IsBestParentSeen space after p among parent → IsBestParentSeen space before p among parent
+IsBestParentSeen-before space before after p among parent run same best =
     let points = points_still before after run (λ n. same (PointOf n)) in
     let keys : seen_cost_through after p ≡ seen_cost_through before p = λ t. λ n. cost_in (same (TreeOf n) t) + cost_of (point_of (points t) n) p in
-    record {
-      least =
-          subst (λ key. IsFirstLeast key (IsOpenTo space (tree_seen before).points p (nearest ∷ found)) pair.0) keys
-          (subst (λ ps. IsFirstLeast (seen_cost_through after p) (IsOpenTo space ps p (nearest ∷ found)) pair.0) points least);
-      cost = cost ∙ ap (λ key. key pair.0) keys;
-    }
+    subst (λ key. IsLeastParent key (IsOpenTo space (tree_seen before).points p among) parent) keys
+    (subst (λ ps. IsLeastParent (seen_cost_through after p) (IsOpenTo space ps p among) parent) points best)

@@ -51,7 +51,7 @@ pub use Rattle.plan_work.specs.ExtensionSteps.{own_placed, own_unplaced, placed_
 pub use Rattle.plan_work.specs.Extensions.{EndsAsSeen, HandlesMark, HasSteered, IsBlockedAt, IsExtended, IsPlacedAt, IsWithinRadius, MayExtend, ReachesAsSeen}
 pub use Rattle.plan_work.specs.Extensions.{WasChosen, WasNeighbour, WasNotSkipped, WasRewired, WasSkipped, WasSteered, radius_in, steered_point}
 pub use Rattle.plan_work.specs.OneWorker.{HandlesRest, HasClaimed, HasHandled, IsNotSkippedIn, IsOfTextbook, SeesTextbook, WorksAlone}
-pub use Rattle.plan_work.specs.WholeShares.{HasCounted, IsBestHanging, IsFilledWhole, IsSteeredWhole, IsTriedWhole, KeepsNode, KeepsOthers, SeesButCount}
+pub use Rattle.plan_work.specs.WholeShares.{HasCounted, IsFilledWhole, IsSteeredWhole, IsTriedWhole, KeepsNode, KeepsOthers, SeesButCount}
 pub use Rattle.plan_work.specs.Workers.{AllExtended, HasDone, HasLeft, HasStopped, HasTakenOver, HasWorked, IsReady, left_by, left_of, shares_of, workers_with}
 pub use Rattle.plan_work.specs.declared.growing.Worker.{Worker}
 pub use Rattle.plan_work.specs.declared.growing.Worker.TheVariants.{Away, Stopped, Working}
@@ -92,7 +92,10 @@ pub use Rattle.tree_rewire.proofs.SpreadFalls.{HasSpreadFalls-still}
 pub use Rattle.tree_rewire.specs.FoundNodes.{AreOf, IsMeasured, IsWeighed}
 pub use Rattle.tree_rewire.specs.Mirrors.{Mirrors}
 pub use Rattle.tree_rewire.specs.Rewirings.{HasPlaced, HasSpreadFalls}
-pub use Rattle.tree_rewire.specs.SeenCosts.{IsInReach, IsLoadedSince, NamesLoweredOrPoint, NamesTree, SeesAnew, SeesPair, cost_seen, seen_cost_through}
+pub use Rattle.tree_rewire.specs.SeenCosts.{IsBestParentSeen, IsInReach, IsLoadedSince, NamesLoweredOrPoint, NamesTree, SeesAnew, SeesPair, cost_seen}
+pub use Rattle.tree_rewire.specs.SeenCosts.{seen_cost_through}
 pub use Rattle.edge_cost.proofs.CostBounds.{squared_distance-low}
+pub use Rattle.edge_cost.specs.LeastParents.{IsLeastParent}
+pub use Rattle.edge_cost.specs.declared.parents.Parent.{Parent}
 pub use Rattle.tree_rewire.proofs.NearLists.{IsMeasured-later}
 pub use Rattle.tree_rewire.specs.NearNodes.{IsNextWord}

@@ -1,5 +1,6 @@
 -- What the steps of the handling of one mark leave, by what the pass has seen.
 use Rattle.std.specs.Prelude.{◌≡◌, true, false, ℕ, suc, ◌*◌, ◌^◌, ◌<◌, ◌≤◌, if◌then◌else◌, All, Contains, IfSome, Some, List}
+use Rattle.edge_cost.specs.declared.parents.Parent.{Parent}
 use Rattle.edge_cost.specs.declared.radii.Radii.{Radii}
 use Rattle.kd_shared.specs.Searches.{SweepsWithin}
 use Rattle.kd_shared.specs.Placings.{IsSame}
@@ -134,12 +135,12 @@ pub record MayPlace (shared : SharedState) (pass : PassState) (k m : ℕ) (p : P
 
 -- The node in hand has a parent and a cost. By no near node with a clear edge would it cost less, as they are seen, each by a look after so many
 -- steps.
-pub record IsHung (steps : ℕ) (after : View) (hand : Hand) (pair : ℕ × ℕ) (near : List ℕ) : Type 0 where
-  pub held : after.hand ≡ Some (record hand { stage = Treed; parent = pair.0; cost = pair.1 })
+pub record IsHung (steps : ℕ) (after : View) (hand : Hand) (parent : Parent) (near : List ℕ) : Type 0 where
+  pub held : after.hand ≡ Some (record hand { stage = Treed; parent = parent.node; cost = parent.cost })
   pub pairs : All (SeesPair after) near
   pub loaded : All (IsLoadedSince steps after) near
   pub chosen : (i : ℕ) → Contains near i → Clear (setup_in after.run).space (point_of (tree_seen after).points i) hand.point
-      → pair.1 ≤ seen_cost_through after hand.point i
+      → parent.cost ≤ seen_cost_through after hand.point i
 
 -- how far a hand has come whose node is placed at p: in a goal by which marks are skipped it has been posted
 abbrev pub placed_stage : List Goal → Point → Stage
@@ -164,7 +165,7 @@ HasCome view hand (placings.Same j) = IsSame view hand j
 
 -- the hand with a parent and a cost
 abbrev pub hung_by : Hand → Hanging → Hand
-hung_by hand hanging = record hand { stage = Treed; parent = hanging.parent; cost = hanging.cost }
+hung_by hand hanging = record hand { stage = Treed; parent = hanging.parent.node; cost = hanging.parent.cost }
 
 -- The node in hand was hung by the nodes found, whose edges to it are worked out, and came to this place. The count is not seen anew.
 pub record IsTried (before after : PassState) (hand : Hand) (placing : Placing) (hanging : Hanging) : Type 0 where
@@ -172,7 +173,7 @@ pub record IsTried (before after : PassState) (hand : Hand) (placing : Placing) 
   pub begun : GoesOn before.view mid
   pub found : after.lists.search.found ≡ weighed before.lists.search.found
   pub counted : sees mid Count ≡ sees before.view Count
-  pub hung : IsHung before.view.steps mid hand (hanging.parent, hanging.cost) (numbers_of before.lists.search.found)
+  pub hung : IsHung before.view.steps mid hand hanging.parent (numbers_of before.lists.search.found)
   pub ended : GoesOn mid after.view
   pub count : sees after.view Count ≡ sees mid Count
   pub came : HasCome after.view (hung_by hand hanging) placing
@@ -191,7 +192,7 @@ own_unplaced view nearest outcome = unplaced_record (worker_of view.crew) (turn_
 
 -- what a node is given first that hangs so
 abbrev pub given_by : Hanging → FirstHanging
-given_by hanging = record { parent = hanging.parent; cost = hanging.cost; class = hanging.class }
+given_by hanging = record { parent = hanging.parent.node; cost = hanging.parent.cost; class = hanging.class }
 
 abbrev pub own_placed : View → ℕ → Hanging → Record
 own_placed view nearest hanging = record_of_ending (worker_of view.crew) (turn_of view.crew) (Steered nearest (NewNode (given_by hanging)))

@@ -4,8 +4,6 @@ use Rattle.kd_shared.specs.declared.placing.Placing.{Placing}
 use Rattle.kd_shared.specs.declared.placing.Placing.TheVariants.{Placed, Same}
 use Rattle.plan_model.specs.Runs.ClosedLaw.{mark_at}
 use Rattle.plan_model.specs.declared.configuration_spaces.ConfigurationSpace.{ConfigurationSpace}
-use Rattle.plan_model.specs.Trees.LeastPairs.{IsFirstLeast}
-use Rattle.plan_model.specs.Trees.OpenNodes.{IsOpenTo}
 use Rattle.plan_model.specs.Trees.PointsByNumber.{node_count}
 use Rattle.plan_model.specs.Geometry.Radius.{class_of}
 use Rattle.plan_model.specs.Runs.Textbook.{SteersTo, near_new}
@@ -19,7 +17,7 @@ use Rattle.step_core.specs.declared.views.Stage.TheVariants.{Linked}
 use Rattle.step_core.specs.declared.views.View.{View}
 use Rattle.plan_words.specs.declared.spots.Found.{Found}
 use Rattle.tree_rewire.specs.FoundNodes.{AreOf}
-use Rattle.tree_rewire.specs.SeenCosts.{seen_cost_through}
+use Rattle.tree_rewire.specs.SeenCosts.{IsBestParentSeen}
 
 -- no node in hand is linked and not counted yet
 abbrev pub HasCounted : View → Type 0
@@ -38,11 +36,6 @@ pub record IsFilledWhole (view : View) (p : Point) (class : ℕ) (found : List F
 abbrev pub IsSteeredWhole : View → ℕ → ℕ → Point → Type 0
 IsSteeredWhole view k m p = SteersTo (setup_in view.run) (tree_seen view).points (mark_at view.run.marks k) m p
 
--- The parent of a new node at p is the best by the costs seen, of the nearest node and the near ones with a clear edge.
-pub record IsBestHanging (space : ConfigurationSpace) (view : View) (p : Point) (nearest : ℕ) (near : List ℕ) (pair : ℕ × ℕ) : Type 0 where
-  pub least : IsFirstLeast (seen_cost_through view p) (IsOpenTo space (tree_seen view).points p (nearest ∷ near)) pair.0
-  pub cost : pair.1 ≡ seen_cost_through view p pair.0
-
 -- the point, the tree word and the first word of node n are seen as before
 pub record KeepsNode (before after : View) (n : ℕ) : Type 0 where
   pub point : sees after (PointOf n) ≡ sees before (PointOf n)
@@ -57,5 +50,5 @@ KeepsOthers before after k (Same j) = (n : ℕ) → KeepsNode before after n
 -- A node was hung by its best parent, and came to this place.
 pub record IsTriedWhole (space : ConfigurationSpace) (before after : View) (k : ℕ) (p : Point) (nearest : ℕ) (near : List ℕ) (placing : Placing)
     (hanging : Hanging) : Type 0 where
-  pub best : IsBestHanging space before p nearest near (hanging.parent, hanging.cost)
+  pub best : IsBestParentSeen space before p (nearest ∷ near) hanging.parent
   pub others : KeepsOthers before after k placing

@@ -1,7 +1,7 @@
 //! The place of a new node: its parent and its cost, its link in the kd-tree, its post if it lies in a goal by which marks are skipped,
 //! and the rewiring of the nodes near it.
 
-ghost use Rattle.std.specs.Prelude.{◌≡◌, ◌<◌, ◌≤◌, true, false, suc, All, IfSome, IsSome};
+ghost use Rattle.std.specs.Prelude.{◌≡◌, ◌∷◌, ◌<◌, ◌≤◌, true, false, suc, All, IfSome, IsSome};
 ghost use Rattle.kd_shared.specs.Placings.{GoesOnPlacing, IsPlaced, KeepsShare};
 ghost use Rattle.plan_model.specs.Trees.BestNode.{lies_in_goals};
 ghost use Rattle.plan_model.specs.Spaces.Clearance.{Clear};
@@ -13,7 +13,7 @@ ghost use Rattle.plan_words.specs.States.{BelongsTo, GoesOn, HasWholeShare, Pass
 ghost use Rattle.plan_work.specs.Extensions.{HandlesMark};
 ghost use Rattle.plan_work.specs.ExtensionSteps.{HasCome, HasReached, IsFilledSince, IsHung, IsPointed, IsTried, KeepsRecords, MayPlace};
 ghost use Rattle.plan_work.specs.OneWorker.{IsNotSkippedIn, SeesTextbook, WorksAlone};
-ghost use Rattle.plan_work.specs.WholeShares.{IsBestHanging, IsFilledWhole, IsSteeredWhole, IsTriedWhole, KeepsOthers};
+ghost use Rattle.plan_work.specs.WholeShares.{IsFilledWhole, IsSteeredWhole, IsTriedWhole, KeepsOthers};
 ghost use Rattle.step_core.specs.ViewSteps.{last_note, with_post};
 ghost use Rattle.step_core.specs.Views.{sees, share, tree_seen};
 ghost use Rattle.grown_runs.specs.Table.WordNames.Word.{Count, TreeOf};
@@ -21,11 +21,12 @@ ghost use Rattle.grown_runs.specs.Table.Words.{best_word, cost_in};
 ghost use Rattle.step_core.specs.declared.views.Hand.{Hand};
 ghost use Rattle.step_core.specs.declared.views.Stage.TheVariants.{Treed};
 ghost use Rattle.tree_rewire.specs.FoundNodes.{IsMeasured};
-ghost use Rattle.tree_rewire.specs.SeenCosts.{IsInReach};
+ghost use Rattle.tree_rewire.specs.SeenCosts.{IsBestParentSeen, IsInReach};
 ghost use Rattle.plan_model.specs.Trees.PointsByNumber.{point_of};
 
 use crate::mark_steering::Steering;
 use crate::recording::{record_placed, record_unplaced};
+use edge_cost::Parent;
 use kd_shared::{Placing, place};
 use plan_model::{Outcome, Point, Record};
 use plan_words::{Pass, Shared};
@@ -35,8 +36,7 @@ use tree_rewire::{choose_found, rewire_found};
 /// What a new node hangs by.
 #[derive(Clone, Copy)]
 pub(crate) struct Hanging {
-    pub(crate) parent: u32,
-    pub(crate) cost: u64,
+    pub(crate) parent: Parent,
     /// The class of the number of nodes.
     pub(crate) class: u32,
 }
@@ -49,7 +49,7 @@ fn choose_and_write<C: Clearing>(
     hall: &C,
     p: Point,
     nearest: u32,
-) -> (u32, u64)
+) -> Parent
     requires belongs { BelongsTo pass.old shared.now }
     requires hall { C.space hall.now ≡ space_of shared.now.task.scene }
     requires hand { IsSome pass.old.view.hand }
@@ -63,11 +63,11 @@ fn choose_and_write<C: Clearing>(
     ensures count { sees pass.new.view Count ≡ sees pass.old.view Count }
     ensures hung { IfSome pass.old.view.hand (λ hand. IsHung pass.old.view.steps pass.new.view hand result (numbers_of pass.old.lists.search.found)) }
     ensures whole { HasWholeShare pass.old.view → SeesAsBefore pass.old.view pass.new.view
-        × IsBestHanging (space_of shared.now.task.scene) pass.old.view p nearest (numbers_of pass.old.lists.search.found) result }
+        × IsBestParentSeen (space_of shared.now.task.scene) pass.old.view p (nearest ∷ numbers_of pass.old.lists.search.found) result }
 {
-    let (parent, cost) = choose_found(shared, pass, hall, p, nearest);
-    shared.write_tree(pass, parent, cost);
-    (parent, cost)
+    let parent = choose_found(shared, pass, hall, p, nearest);
+    shared.write_tree(pass, parent.node, parent.cost);
+    parent
 }
 
 /// Places the node of the mark in hand at its point p, and posts it if it lies in a goal by which marks are skipped: others may skip
@@ -134,16 +134,9 @@ fn choose_and_place<C: Clearing>(
         → IsTriedWhole (space_of shared.now.task.scene) pass.old.view pass.new.view k steering.point steering.nearest
         (numbers_of pass.old.lists.search.found) result.0 result.1 }
 {
-    let (parent, cost) = choose_and_write(shared, pass, hall, steering.point, steering.nearest);
+    let parent = choose_and_write(shared, pass, hall, steering.point, steering.nearest);
     let placing = place_and_post(shared, pass, k, steering.point);
-    (
-        placing,
-        Hanging {
-            parent,
-            cost,
-            class,
-        },
-    )
+    (placing, Hanging { parent, class })
 }
 
 /// Places the node of the mark in hand, rewires the nodes found, and records what became of it.

@@ -56,8 +56,8 @@ pub(crate) fn record_placed(
         turn: pass.turn(),
         nearest,
         outcome: Outcome::Placed,
-        first_parent: hanging.parent,
-        first_cost: hanging.cost,
+        first_parent: hanging.parent.node,
+        first_cost: hanging.parent.cost,
         class: hanging.class,
     };
     shared.finish(pass, entry);

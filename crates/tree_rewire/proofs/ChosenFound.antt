@@ -5,7 +5,7 @@ use Rattle.tree_rewire.proofs.Words.{Contains-append_left, Contains-get_or, Cont
 use Rattle.tree_rewire.proofs.Words.{IsFirstLeast, IsNotAbove, IsOpenTo, IsPresent, point_of, IsPresent-later, StandsAt-present, Contains-after, Contains-first}
 use Rattle.tree_rewire.proofs.Words.{cost_in, parent_in, tree_word, cost_in-tree_word, parent_in-tree_word, IsBounded-seen, IsLawfulView, tree_seen}
 use Rattle.tree_rewire.proofs.Words.{Contains-cases, numbers_of, weighed, GoesOn, Found, View, IsMeasured, IsWeighed, IsBlockedBelow, IsClearTo, IsNextOf}
-use Rattle.tree_rewire.proofs.Words.{IsNextWord, IsOpenWord, word_through, NamesNothing, SeesAnew, SeesPair, seen_cost_through, SeesKnot}
+use Rattle.tree_rewire.proofs.Words.{IsNextWord, IsOpenWord, word_through, IsBestParentSeen, NamesNothing, SeesAnew, SeesPair, seen_cost_through, SeesKnot}
 use Rattle.plan_model.specs.Geometry.Roots.{root_ceiling}
 use Rattle.tree_rewire.proofs.ChosenParents.{points_later, take_read}
 use Rattle.tree_rewire.proofs.CostSteps.{seen_cost_through-same}
@@ -217,18 +217,14 @@ module _ (space : ConfigurationSpace) (view : View) (p : Point) (near : List ℕ
           not_above = not_above;
         })
 
--- The word of the best candidate: its node and its cost.
-pub record IsChosenWord (space : ConfigurationSpace) (view : View) (p : Point) (nearest : ℕ) (near : List ℕ) (word : ℕ) : Type 0 where
-  pub least : IsFirstLeast (seen_cost_through view p) (IsOpenTo space (tree_seen view).points p (nearest ∷ near)) (parent_in word)
-  pub cost : cost_in word ≡ seen_cost_through view p (parent_in word)
-
-pub IsChosenWord-least :
+-- the word is of the best parent and the cost through it
+pub IsBestParentSeen-word :
     (space : ConfigurationSpace) (view : View) (p : Point) (near : List ℕ) (last word : ℕ) → IsLawfulView view → All (SeesKnot view) near
     → (nearest : ℕ) → IsBounded p → SeesPair view nearest → IsPresent (tree_seen view).points nearest
     → last ≡ word_through view p nearest → IsClearTo space view p nearest
     → (word ≡ last) ⊎ IsOpenWord space view p near word → word ≤ last → ((n : ℕ) → Contains near n → IsBlockedBelow space view p word n)
-    → IsChosenWord space view p nearest near word
-IsChosenWord-least space view p near last word lawful knots nearest bounded pair stands last_is clear one_of most blocked = record {
+    → IsBestParentSeen space view p (nearest ∷ near) (record { node = parent_in word; cost = cost_in word })
+IsBestParentSeen-word space view p near last word lawful knots nearest bounded pair stands last_is clear one_of most blocked = record {
   least = IsFirstLeast-word space view p near last word lawful knots nearest bounded pair stands last_is clear one_of most blocked;
   cost = cost_is space view p near last word lawful knots nearest bounded pair stands last_is clear one_of most blocked;
 }

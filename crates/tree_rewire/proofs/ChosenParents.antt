@@ -1,9 +1,9 @@
 -- The choice of the best parent among nodes whose costs were seen.
 use Rattle.tree_rewire.proofs.Words.{◌≡◌, ℕ, ◌+◌, ◌≤◌, ◌*◌, List, ◌∷◌, [], ◌++◌, Some, drop, take, arith, refl, sym, ap, ◌∙◌, subst, All, Contains, slice_get}
 use Rattle.tree_rewire.proofs.Words.{drop_more, take_more, All-contains, All-push, Contains-get_or, get_or_from_slice_get, slice_get_within, Point, Clear}
-use Rattle.tree_rewire.proofs.Words.{ConfigurationSpace, space_of, cost_of, squared_distance, IsFirstLeast, IsNotAbove, IsOpenTo, IsPresent, point_of}
+use Rattle.tree_rewire.proofs.Words.{ConfigurationSpace, space_of, cost_of, squared_distance, IsNotAbove, IsPresent, point_of}
 use Rattle.tree_rewire.proofs.Words.{StandsAt-present, GoesOn, SharedState, run_in, IsCostBelow, SeesPoint, setup_in, tree_seen, IsPresent-later, View}
-use Rattle.tree_rewire.proofs.Words.{IsInReach, NamesNothing, SeesAnew, SeesPair, cost_seen, seen_cost_through}
+use Rattle.tree_rewire.proofs.Words.{IsBestParentSeen, IsInReach, NamesNothing, SeesAnew, SeesPair, cost_seen, seen_cost_through, Parent}
 use Rattle.tree_rewire.proofs.CostSteps.{seen_cost_through-same, point_of-same}
 use Rattle.tree_rewire.proofs.SeenCosts.{point_later}
 
@@ -55,11 +55,15 @@ module _ (space : ConfigurationSpace) (before after : View) (same : SeesAnew Nam
   clear_after n = subst (λ q. Clear space q p) (sym (point_of-same before after same n))
 
   -- the best then is so still
-  pub IsFirstLeast-after : (among : List ℕ) (m : ℕ) → IsFirstLeast (seen_cost_through before p) (IsOpenTo space (tree_seen before).points p among) m
-      → IsFirstLeast (seen_cost_through after p) (IsOpenTo space (tree_seen after).points p among) m
-  IsFirstLeast-after among m h = record {
-    member = record { among = h.member.among; clear = clear_after m h.member.clear };
-    not_above = λ i own. IsNotAbove-after m i (h.not_above i (record { among = own.among; clear = clear_before i own.clear }));
+  pub IsBestParentSeen-after : (among : List ℕ) (parent : Parent) → IsBestParentSeen space before p among parent
+      → IsBestParentSeen space after p among parent
+  IsBestParentSeen-after among parent best = record {
+    least = record {
+      member = record { among = best.least.member.among; clear = clear_after parent.node best.least.member.clear };
+      not_above = λ i own.
+          IsNotAbove-after parent.node i (best.least.not_above i (record { among = own.among; clear = clear_before i own.clear }));
+    };
+    cost = best.cost ∙ sym (seen_cost_through-same before after same p parent.node);
   }
 
 -- ---- the new node may hang below the best
@@ -83,10 +87,12 @@ IsInReach-later before after p n goes_on h =
           (subst (λ r. squared_distance (point_of (tree_seen before).points n) p ≤ r.step * r.step) (sym goes_on.later.run) h.short);
     }
 
-pub IsCostBelow-best : (shared : SharedState) (before after : View) (p : Point) (among : List ℕ) (m cost : ℕ) → after.run ≡ run_in shared
+pub IsCostBelow-best : (shared : SharedState) (before after : View) (p : Point) (among : List ℕ) (parent : Parent) → after.run ≡ run_in shared
     → GoesOn before after → All (IsInReach before p) among → All (SeesPair after) among
-    → IsOpenTo (space_of shared.task.scene) (tree_seen after).points p among m → cost ≡ seen_cost_through after p m → IsCostBelow after p m cost
-IsCostBelow-best shared before after p among m cost own goes_on reach pairs is_open cost_is =
+    → IsBestParentSeen (space_of shared.task.scene) after p among parent → IsCostBelow after p parent.node parent.cost
+IsCostBelow-best shared before after p among parent own goes_on reach pairs best =
+    let m = parent.node in
+    let is_open = best.least.member in
     let here = IsInReach-later before after p m goes_on (All-contains (IsInReach before p) among m reach is_open.among) in
     record {
       from = point_of (tree_seen after).points m;
@@ -100,5 +106,5 @@ IsCostBelow-best shared before after p among m cost own goes_on reach pairs is_o
         clear = subst (λ r. Clear (setup_in r).space (point_of (tree_seen after).points m) p) (sym own) is_open.clear;
         short = here.short;
       };
-      cost_is = cost_is;
+      cost_is = best.cost;
     }

@@ -1,5 +1,6 @@
 -- The definitions and lemmas that proofs of this crate are about, passed on from one place. Declares nothing.
 pub use Rattle.edge_cost.proofs.CostBounds.{cost_of-low, squared_distance-low}
+pub use Rattle.edge_cost.specs.declared.parents.Parent.{Parent}
 pub use Rattle.grown_runs.proofs.Common.{AreDistinct, AreTight, AreTight-sums, Best, ChildOf, Clear, ConfigurationSpace, Contains-after, Contains-filter}
 pub use Rattle.grown_runs.proofs.Common.{Contains-first, CostsFall, CostsFall-cheaper_parent, CostsFall-tight, Count, Counter, FirstOf, HasCheaperParent}
 pub use Rattle.grown_runs.proofs.Common.{IsAllowedEdge, IsBounded, IsCheaperThrough, IsFirstLeast, IsNotAbove, IsOpenTo, IsPresent, IsPresent-cheaper_parent}
@@ -49,8 +50,8 @@ pub use Rattle.tree_rewire.specs.Mirrors.{Mirrors}
 pub use Rattle.tree_rewire.specs.NearNodes.{AreKnown, AreMeasured, IsBlockedBelow, IsClearTo, IsNextOf, IsNextWord, IsOpenWord, nodes_on, weighed_on}
 pub use Rattle.tree_rewire.specs.NearNodes.{word_through}
 pub use Rattle.tree_rewire.specs.Rewirings.{CostsLess, HangsElsewhere, HasPlaced, HasSpreadFalls, IsInFall, IsShortcut}
-pub use Rattle.tree_rewire.specs.SeenCosts.{IsInReach, IsLoadedSince, NamesLowered, NamesLoweredOrPoint, NamesNothing, NamesPoint, NamesTree, PassLowers}
-pub use Rattle.tree_rewire.specs.SeenCosts.{PassSees, SeesAnew, SeesPair, cost_seen, parent_seen, seen_cost_through}
+pub use Rattle.tree_rewire.specs.SeenCosts.{IsBestParentSeen, IsInReach, IsLoadedSince, NamesLowered, NamesLoweredOrPoint, NamesNothing, NamesPoint}
+pub use Rattle.tree_rewire.specs.SeenCosts.{NamesTree, PassLowers, PassSees, SeesAnew, SeesPair, cost_seen, parent_seen, seen_cost_through}
 pub use Rattle.tree_rewire.specs.Spreads.{AllTight, AllTightBut, HasSettledChanges, HasSpread, IsLooked, IsSource, IsSpreading, IsTight, IsWithinParent}
 pub use Rattle.tree_rewire.specs.Spreads.{IsWithinSeenParent, KeepsParents, NoneRises, OnlyAt, QueuesFallen, SeesKnot, SpreadsFrom}
 pub use Rattle.tree_rewire.specs.declared.near_nodes.NearNodes.{NearNodes}

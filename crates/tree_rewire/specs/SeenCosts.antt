@@ -1,8 +1,12 @@
 -- What a pass has seen of costs, and what calls that look at costs or lower them leave of it.
-use Rattle.std.specs.Prelude.{◌≡◌, ℕ, ◌*◌, ◌^◌, ◌<◌, ◌≤◌}
+use Rattle.std.specs.Prelude.{◌≡◌, ℕ, ◌*◌, ◌^◌, ◌<◌, ◌≤◌, List}
+use Rattle.edge_cost.specs.LeastParents.{IsLeastParent}
+use Rattle.edge_cost.specs.declared.parents.Parent.{Parent}
+use Rattle.plan_model.specs.declared.configuration_spaces.ConfigurationSpace.{ConfigurationSpace}
 use Rattle.plan_model.specs.declared.geometry.Point.{Point}
 use Rattle.plan_model.specs.Geometry.Plane.{squared_distance}
 use Rattle.plan_model.specs.Trees.NodeLists.{cost_through_by}
+use Rattle.plan_model.specs.Trees.OpenNodes.{IsOpenTo}
 use Rattle.plan_model.specs.Trees.PointsByNumber.{IsPresent, point_of}
 use Rattle.plan_words.specs.Bests.{KeepsOrPosts}
 use Rattle.plan_words.specs.States.{BelongsTo, GoesOn, PassState, SharedState, with_view}
@@ -34,6 +38,10 @@ IsLoadedSince steps view n = steps < last_look view (TreeOf n)
 -- what a node at p costs through node n, by what was seen of that
 abbrev pub seen_cost_through : View → Point → ℕ → ℕ
 seen_cost_through view p n = cost_through_by (cost_seen view) (tree_seen view).points p n
+
+-- of these nodes with a clear edge to p this is the best parent of a node there, by the costs that were seen last
+abbrev pub IsBestParentSeen : ConfigurationSpace → View → Point → List ℕ → Parent → Type 0
+IsBestParentSeen space view p among parent = IsLeastParent (seen_cost_through view p) (IsOpenTo space (tree_seen view).points p among) parent
 
 -- node n is seen with its point, which is at most a step from p
 pub record IsInReach (view : View) (p : Point) (n : ℕ) : Type 0 where

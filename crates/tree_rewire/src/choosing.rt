@@ -14,10 +14,11 @@ ghost use Rattle.step_core.specs.ViewTrees.{IsCostBelow};
 ghost use Rattle.step_core.specs.Views.{tree_seen};
 ghost use Rattle.tree_rewire.specs.FoundNodes.{IsMeasured, with_found};
 ghost use Rattle.tree_rewire.specs.NearNodes.{AreMeasured, nodes_on, weighed_on};
-ghost use Rattle.tree_rewire.specs.SeenCosts.{IsInReach, IsLoadedSince, NamesTree, PassSees, SeesAnew, SeesPair, seen_cost_through};
+ghost use Rattle.tree_rewire.specs.SeenCosts.{IsBestParentSeen, IsInReach, IsLoadedSince, NamesTree, PassSees, SeesAnew, SeesPair, seen_cost_through};
 
 use crate::near_nodes::NearNodes;
 use crate::open_words::best_open;
+use edge_cost::Parent;
 use plan_model::Point;
 use plan_words::{Pass, Shared};
 use swept_check::Clearing;
@@ -57,7 +58,8 @@ pub fn choose<C: Clearing>(
     // a pass with the whole share sees nothing new
     ensures whole { HasWholeShare pass.old.view → SeesAsBefore pass.old.view pass.new.view }
 {
-    choose_among(shared, pass, hall, p, nearest, NearNodes::Listed)
+    let parent = choose_among(shared, pass, hall, p, nearest, NearNodes::Listed);
+    (parent.node, parent.cost)
 }
 
 /// The same among the nearest node and the nodes that the last search of the pass found, in whatever order. The records of these have
@@ -68,7 +70,7 @@ pub fn choose_found<C: Clearing>(
     hall: &C,
     p: Point,
     nearest: u32,
-) -> (u32, u64)
+) -> Parent
     requires belongs { BelongsTo pass.old shared.now }
     requires hall { C.space hall.now ≡ space_of shared.now.task.scene }
     requires nearest { IsInReach pass.old.view p nearest }
@@ -81,11 +83,9 @@ pub fn choose_found<C: Clearing>(
     ensures pairs { All (SeesPair pass.new.view) (nearest ∷ numbers_of pass.old.lists.search.found) }
     // each cost was loaded in this call
     ensures loaded { All (IsLoadedSince pass.old.view.steps pass.new.view) (nearest ∷ numbers_of pass.old.lists.search.found) }
-    ensures least { IsFirstLeast (seen_cost_through pass.new.view p)
-        (IsOpenTo (space_of shared.now.task.scene) (tree_seen pass.new.view).points p (nearest ∷ numbers_of pass.old.lists.search.found)) result.0 }
-    ensures cost { result.1 ≡ seen_cost_through pass.new.view p result.0 }
+    ensures least { IsBestParentSeen (space_of shared.now.task.scene) pass.new.view p (nearest ∷ numbers_of pass.old.lists.search.found) result }
     // so the new node may hang below it
-    ensures below { IsCostBelow pass.new.view p result.0 result.1 }
+    ensures below { IsCostBelow pass.new.view p result.node result.cost }
     // a pass with the whole share sees nothing new
     ensures whole { HasWholeShare pass.old.view → SeesAsBefore pass.old.view pass.new.view }
 {
@@ -101,7 +101,7 @@ fn choose_among<C: Clearing>(
     p: Point,
     nearest: u32,
     among: NearNodes,
-) -> (u32, u64)
+) -> Parent
     requires belongs { BelongsTo pass.old shared.now }
     requires hall { C.space hall.now ≡ space_of shared.now.task.scene }
     requires nearest { IsInReach pass.old.view p nearest }
@@ -113,10 +113,8 @@ fn choose_among<C: Clearing>(
     ensures alone { pass.new ≡ with_lists (with_view pass.old pass.new.view) (weighed_on among pass.old.lists) }
     ensures pairs { All (SeesPair pass.new.view) (nearest ∷ nodes_on among pass.old.lists) }
     ensures loaded { All (IsLoadedSince pass.old.view.steps pass.new.view) (nearest ∷ nodes_on among pass.old.lists) }
-    ensures least { IsFirstLeast (seen_cost_through pass.new.view p)
-        (IsOpenTo (space_of shared.now.task.scene) (tree_seen pass.new.view).points p (nearest ∷ nodes_on among pass.old.lists)) result.0 }
-    ensures cost { result.1 ≡ seen_cost_through pass.new.view p result.0 }
-    ensures below { IsCostBelow pass.new.view p result.0 result.1 }
+    ensures least { IsBestParentSeen (space_of shared.now.task.scene) pass.new.view p (nearest ∷ nodes_on among pass.old.lists) result }
+    ensures below { IsCostBelow pass.new.view p result.node result.cost }
     ensures whole { HasWholeShare pass.old.view → SeesAsBefore pass.old.view pass.new.view }
 {
     load_costs(shared, pass, nearest, among);

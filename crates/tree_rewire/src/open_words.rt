@@ -2,19 +2,17 @@
 
 ghost use Rattle.std.specs.Prelude.{◌≡◌, ◌∷◌, ◌⊎◌, ℕ, ◌≢◌, ◌<◌, ◌≤◌, Contains, IsFalse, IsTrue, map};
 ghost use Rattle.plan_model.specs.Geometry.Bounds.{IsBounded};
-ghost use Rattle.plan_model.specs.Trees.LeastPairs.{IsFirstLeast};
-ghost use Rattle.plan_model.specs.Trees.OpenNodes.{IsOpenTo};
 ghost use Rattle.plan_model.specs.Trees.PointsByNumber.{IsPresent};
 ghost use Rattle.plan_words.specs.States.{BelongsTo};
 ghost use Rattle.step_core.specs.Views.{tree_seen};
 ghost use Rattle.grown_runs.specs.Table.Words.{parent_in};
 ghost use Rattle.tree_rewire.specs.NearNodes.{AreKnown, IsBlockedBelow, IsClearTo, IsNextOf, IsNextWord, IsOpenWord, nodes_on, word_through};
-ghost use Rattle.tree_rewire.specs.SeenCosts.{NamesNothing, PassSees, seen_cost_through};
+ghost use Rattle.tree_rewire.specs.SeenCosts.{IsBestParentSeen, NamesNothing, PassSees};
 ghost use Rattle.tree_rewire.specs.Spreads.{SeesKnot};
 
 use crate::near_nodes::NearNodes;
 use crate::seen_costs::seen_cost;
-use edge_cost::cost;
+use edge_cost::{Parent, cost};
 use plan_model::Point;
 use plan_words::{Pass, Shared};
 use step_core::{pack_tree, pair_in};
@@ -32,20 +30,19 @@ pub(crate) fn best_open<C: Clearing>(
     p: Point,
     nearest: u32,
     among: NearNodes,
-) -> (u32, u64)
+) -> Parent
     requires belongs { BelongsTo pass.old shared.now }
     requires bounded { IsBounded p }
     requires nearest { SeesKnot pass.old.view nearest }
     requires clear { IsClearTo (C.space hall.now) pass.old.view p nearest }
     requires known { AreKnown among pass.old.view p pass.old.lists }
     ensures steps { PassSees NamesNothing shared.now pass.old pass.new }
-    ensures least { IsFirstLeast (seen_cost_through pass.new.view p)
-        (IsOpenTo (C.space hall.now) (tree_seen pass.new.view).points p (nearest ∷ nodes_on among pass.old.lists)) result.0 }
-    ensures cost { result.1 ≡ seen_cost_through pass.new.view p result.0 }
+    ensures least { IsBestParentSeen (C.space hall.now) pass.new.view p (nearest ∷ nodes_on among pass.old.lists) result }
 {
     let last = word_of(shared, pass, p, nearest);
     let word = least_open(shared, pass, hall, p, among, last);
-    pair_in(word)
+    let (node, cost) = pair_in(word);
+    Parent { node, cost }
 }
 
 /// The word of a new node below a node that was seen with its cost.

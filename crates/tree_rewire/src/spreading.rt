@@ -10,7 +10,7 @@ ghost use Rattle.tree_rewire.specs.SeenCosts.{NamesPoint, NamesLoweredOrPoint, P
 ghost use Rattle.tree_rewire.specs.Spreads.{AllTight, AllTightBut, HasSettledChanges, HasSpread, IsWithinSeenParent, KeepsParents};
 ghost use Rattle.tree_rewire.specs.Spreads.{NoneRises, OnlyAt, QueuesFallen, SpreadsFrom};
 
-use edge_cost::{cost, costs_less_through};
+use edge_cost::{Parent, cost, costs_less_through};
 use plan_words::{Pass, Shared};
 
 /// Lowers the subtree of a node whose cost fell: each child that costs more than through its parent, both as the pass has seen them
@@ -74,19 +74,19 @@ fn settle(shared: &Shared, pass: &mut Pass, node: u32)
     ensures others { OnlyAt node pass.old.view pass.new.view }
     ensures settled { IsWithinSeenParent pass.new.view node }
 {
-    'lowers: while let Some((parent, cost)) = looser(shared, pass, node) {
+    'lowers: while let Some(parent) = looser(shared, pass, node) {
         // an exchange that fails finds a lower cost, with whatever parent
-        let _found = shared.lower(pass, node, parent, cost);
+        let _found = shared.lower(pass, node, parent.node, parent.cost);
     }
 }
 
 /// The parent of a node, and the cost through it, if that is less than the node's cost.
-pub(crate) fn looser(shared: &Shared, pass: &mut Pass, node: u32) -> Option<(u32, u64)>
+pub(crate) fn looser(shared: &Shared, pass: &mut Pass, node: u32) -> Option<Parent>
     requires belongs { BelongsTo pass.old shared.now }
     requires pair { SeesPair pass.old.view node }
     ensures steps { PassSees NamesPoint shared.now pass.old pass.new }
-    ensures some { IfSome result (λ lower. MayLower pass.new.view node lower.0 lower.1) }
-    ensures parent { IfSome result (λ lower. lower.0 ≡ parent_seen pass.new.view node) }
+    ensures some { IfSome result (λ lower. MayLower pass.new.view node lower.node lower.cost) }
+    ensures parent { IfSome result (λ lower. lower.node ≡ parent_seen pass.new.view node) }
     ensures none { IfNone result (IsWithinSeenParent pass.new.view node) }
     // a pass with the whole share finds nothing new
     ensures whole { HasWholeShare pass.old.view → SeesAsBefore pass.old.view pass.new.view }
@@ -96,7 +96,10 @@ pub(crate) fn looser(shared: &Shared, pass: &mut Pass, node: u32) -> Option<(u32
     let here = shared.point(pass, node);
     let there = shared.point(pass, parent);
     if costs_less_through(above, there, here, kept_cost) {
-        Some((parent, above + cost(there, here)))
+        Some(Parent {
+            node: parent,
+            cost: above + cost(there, here),
+        })
     } else {
         None
     }

@@ -1,6 +1,6 @@
-use Rattle.tree_rewire.proofs.Words.{◌∷◌, List, ℕ, ap, arith, subst, sym, ◌∙◌, All-cons, All-tail, IsFirstLeast, IsOpenTo, Clear, point_of, ConfigurationSpace}
+use Rattle.tree_rewire.proofs.Words.{◌∷◌, List, ℕ, ap, arith, subst, sym, ◌∙◌, All-cons, All-tail, Clear, point_of, ConfigurationSpace}
 use Rattle.tree_rewire.proofs.Words.{GoesOn-trans, PassState, with_lists, with_view, tree_seen, IsPresent-later, IsBounded-clear_in_scene, AreKnown, IsClearTo}
-use Rattle.tree_rewire.proofs.Words.{AreMeasured, nodes_on, weighed_on, IsInReach, NamesNothing, NamesTree, SeesAnew, SeesPair, seen_cost_through, SeesKnot}
+use Rattle.tree_rewire.proofs.Words.{AreMeasured, nodes_on, weighed_on, IsBestParentSeen, IsInReach, NamesNothing, NamesTree, SeesAnew, SeesPair, SeesKnot}
 use Rattle.tree_rewire.proofs.ChosenParents.{All-present, IsCostBelow-best, points_later}
 use Rattle.tree_rewire.proofs.CostSteps.{SeesAnew-more, SeesAnew-trans}
 use Rattle.tree_rewire.proofs.NearLists.{AreKnown-weighed, AreMeasured-later, nodes_on-then}
@@ -99,8 +99,7 @@ returns-clause-least g c =
     let after = c.best_open.new.pass.view in
     let near = nodes_on-then c.args.among c.args.pass.now c.load_costs.new.pass c.weigh.new.pass c.load_costs.ensures.steps.view_alone
     c.weigh.ensures in
-    let best = λ (space : ConfigurationSpace) (ns : List ℕ).
-    IsFirstLeast (seen_cost_through after c.args.p) (IsOpenTo space (tree_seen after).points c.args.p (c.args.nearest ∷ ns)) c.best_open.result.0 in
+    let best = λ (space : ConfigurationSpace) (ns : List ℕ). IsBestParentSeen space after c.args.p (c.args.nearest ∷ ns) c.best_open.result in
     subst (λ s. best s (nodes_on c.args.among c.args.pass.now.lists)) c.requires.hall
     (subst (best (g.C.Clearing.space c.args.hall.now)) near c.best_open.ensures.least)
 
@@ -110,12 +109,12 @@ returns-clause-below g c =
     let mid = c.load_costs.new.pass.view in
     let after = c.best_open.new.pass.view in
     let none = nothing g (goal.at.returns-clause-below g c).After-best_open in
-    IsCostBelow-best c.args.shared.now c.args.pass.now.view after c.args.p (c.args.nearest ∷ near) c.best_open.result.0 c.best_open.result.1
+    IsCostBelow-best c.args.shared.now c.args.pass.now.view after c.args.p (c.args.nearest ∷ near) c.best_open.result
     c.best_open.ensures.steps.belongs.run
     (GoesOn-trans c.args.pass.now.view mid after c.load_costs.ensures.steps.sees_anew.goes_on none.goes_on)
     (All-cons (IsInReach c.args.pass.now.view c.args.p) c.args.nearest near c.requires.nearest c.requires.near)
     (λ k d below. SeesPair-later mid after none.goes_on _ (c.load_costs.ensures.pairs k d below))
-    (returns-clause-least g c).member c.best_open.ensures.cost
+    (returns-clause-least g c)
 
 pub returns-clause-whole : goal.returns-clause-whole
 returns-clause-whole g c =

@@ -1,7 +1,7 @@
-use Rattle.tree_rewire.proofs.Words.{◌∷◌, List, ℕ, ap, subst, sym, ◌∙◌, IsFirstLeast, IsOpenTo, parent_in, tree_word, PassState, IsPresent-later, tree_seen}
-use Rattle.tree_rewire.proofs.Words.{AreKnown, nodes_on, NamesNothing, seen_cost_through}
-use Rattle.tree_rewire.proofs.ChosenFound.{IsChosenWord, IsChosenWord-least}
-use Rattle.tree_rewire.proofs.ChosenParents.{IsFirstLeast-after, clear_after}
+use Rattle.tree_rewire.proofs.Words.{◌∷◌, List, ℕ, ap, subst, sym, ◌∙◌, IsFirstLeast, IsOpenTo, cost_in, parent_in, tree_word, PassState, IsPresent-later}
+use Rattle.tree_rewire.proofs.Words.{tree_seen, AreKnown, nodes_on, IsBestParentSeen, NamesNothing, seen_cost_through, Parent}
+use Rattle.tree_rewire.proofs.ChosenFound.{IsBestParentSeen-word}
+use Rattle.tree_rewire.proofs.ChosenParents.{IsBestParentSeen-after, clear_after}
 use Rattle.tree_rewire.proofs.CostSteps.{PassSees-trans, seen_cost_through-same}
 use Rattle.tree_rewire.proofs.NearLists.{AllKnots-known, AreKnown-later}
 use Rattle.tree_rewire.proofs.SeenCosts.{SeesPair-later}
@@ -24,8 +24,9 @@ returns-clause-steps g c =
 
 -- what the word is of
 chosen : (g : Over) (c : After-least_open-word g)
-    → IsChosenWord (g.C.Clearing.space c.args.hall.now) c.word_of-last.new.pass.view c.args.p c.args.nearest
-    (nodes_on c.args.among c.word_of-last.new.pass.lists) c.least_open-word.result
+    → IsBestParentSeen (g.C.Clearing.space c.args.hall.now) c.word_of-last.new.pass.view c.args.p
+    (c.args.nearest ∷ nodes_on c.args.among c.word_of-last.new.pass.lists)
+    (record { node = parent_in c.least_open-word.result; cost = cost_in c.least_open-word.result })
 chosen g c =
     let before = c.args.pass.now.view in
     let then = c.word_of-last.new.pass in
@@ -33,7 +34,7 @@ chosen g c =
     let steps = c.word_of-last.ensures.steps in
     let goes_on = steps.sees_anew.goes_on in
     let own = c.requires.nearest in
-    IsChosenWord-least space then.view c.args.p (nodes_on c.args.among then.lists) c.word_of-last.result c.least_open-word.result steps.belongs.lawful
+    IsBestParentSeen-word space then.view c.args.p (nodes_on c.args.among then.lists) c.word_of-last.result c.least_open-word.result steps.belongs.lawful
     (AllKnots-known c.args.among then.view c.args.p then.lists
     (subst (λ (s : PassState). AreKnown c.args.among then.view c.args.p s.lists) (sym steps.view_alone)
     (AreKnown-later c.args.among before then.view c.args.p c.args.pass.now.lists goes_on c.requires.known)))
@@ -48,21 +49,14 @@ returns-clause-least g c =
     let then = c.word_of-last.new.pass in
     let after = c.least_open-word.new.pass.view in
     let space = g.C.Clearing.space c.args.hall.now in
-    let near = nodes_on c.args.among c.args.pass.now.lists in
-    let word = c.least_open-word.result in
-    let own = subst
-    (λ (ns : List ℕ). IsFirstLeast (seen_cost_through then.view c.args.p) (IsOpenTo space (tree_seen then.view).points c.args.p (c.args.nearest ∷ ns))
-    (parent_in word))
+    let among = c.args.nearest ∷ nodes_on c.args.among c.args.pass.now.lists in
+    let parent : Parent = record { node = parent_in c.least_open-word.result; cost = cost_in c.least_open-word.result } in
+    let best = IsBestParentSeen-after space then.view after c.least_open-word.ensures.steps.sees_anew c.args.p among parent
+    (subst (λ (ns : List ℕ). IsBestParentSeen space then.view c.args.p (c.args.nearest ∷ ns) parent)
     (ap (λ (s : PassState). nodes_on c.args.among s.lists) c.word_of-last.ensures.steps.view_alone)
-    (chosen g (goal.at.returns-clause-least g c).After-least_open-word).least in
-    subst (IsFirstLeast (seen_cost_through after c.args.p) (IsOpenTo space (tree_seen after).points c.args.p (c.args.nearest ∷ near)))
-    (sym c.pair_in.ensures.parent)
-    (IsFirstLeast-after space then.view after c.least_open-word.ensures.steps.sees_anew c.args.p (c.args.nearest ∷ near) (parent_in word) own)
-
-pub returns-clause-cost : goal.returns-clause-cost
-returns-clause-cost g c =
-    let then = c.word_of-last.new.pass.view in
-    let after = c.least_open-word.new.pass.view in
-    c.pair_in.ensures.cost ∙ (chosen g (goal.at.returns-clause-cost g c).After-least_open-word).cost
-    ∙ sym (seen_cost_through-same then after c.least_open-word.ensures.steps.sees_anew c.args.p (parent_in c.least_open-word.result))
-    ∙ ap (seen_cost_through after c.args.p) (sym c.pair_in.ensures.parent)
+    (chosen g (goal.at.returns-clause-least g c).After-least_open-word)) in
+    let node = sym c.pair_in-node.ensures.parent in
+    record {
+      least = subst (IsFirstLeast (seen_cost_through after c.args.p) (IsOpenTo space (tree_seen after).points c.args.p among)) node best.least;
+      cost = c.pair_in-node.ensures.cost ∙ best.cost ∙ ap (seen_cost_through after c.args.p) node;
+    }
