@@ -10,12 +10,12 @@ ghost use Rattle.plan_model.specs.Spaces.ConfigurationSpace.{space_of};
 ghost use Rattle.plan_model.specs.declared.limits.TheConstants.{MOST_WORKERS};
 ghost use Rattle.plan_model.specs.declared.scenes.Marks.TheVariants.{Listed};
 ghost use Rattle.plan_words.specs.States.{GoesOn, MayClaim, run_in};
-ghost use Rattle.step_core.specs.LaterViews.{IsLawfulView};
 ghost use Rattle.step_core.specs.ViewTrees.{SeesPoint};
 ghost use Rattle.step_core.specs.Views.{setup_in};
-ghost use Rattle.tree_rewire.specs.SeenCosts.{SeesPair, cost_seen};
+ghost use Rattle.tree_rewire.specs.SeenCosts.{SeesPair};
 ghost use Rattle.growing_tests.specs.LoweredNodes.HeldMarks.{IsAtWork};
 
+use crate::edges::{Edge, is_allowed, seen_cost};
 use edge_cost::cost;
 use kd_shared::find;
 use plan_model::{Goal, Memory, Point, SmallScene, Task};
@@ -25,7 +25,7 @@ use std::alloc::Global;
 use std::process::Abort;
 use std::thread::Threads;
 use step_core::Grown;
-use swept_check::{Clearing, Hall};
+use swept_check::Hall;
 use tree_rewire::spread;
 
 pub(crate) const START: Point = Point { x: 0, y: 0 };
@@ -216,51 +216,24 @@ pub(crate) fn expect_pairs<R: Abort>(
     }
 }
 
-/// Whether an edge is clear and no longer than the step.
-fn is_allowed(shared: &Shared, hall: &Hall, from: Point, at: Point) -> bool
-    requires hall { hall.now ≡ space_of shared.now.task.scene }
-    requires from { IsBounded from }
-    requires at { IsBounded at }
-    ensures { IsTrue result → IsAllowedEdge (setup_in (run_in shared.now)) from at }
-{
-    let step = u64::from(shared.task().scene.step);
-    hall.clear(from, at) && from.squared_distance(at) <= step * step
-}
-
-/// What a node was seen to cost last.
-fn seen_cost(pass: &Pass, node: u32) -> u64
-    requires lawful { IsLawfulView pass.now.view }
-    requires pair { SeesPair pass.now.view node }
-    ensures { result ≡ cost_seen pass.now.view node }
-{
-    pass.pair(node).unwrap().1
-}
-
-/// Lowers a node below another while it is dearer than through that, both as they were seen last.
-fn lower_while_dearer(
-    shared: &Shared,
-    pass: &mut Pass,
-    node: u32,
-    at: Point,
-    parent: u32,
-    from: Point,
-)
+/// Lowers the node of an edge below the parent while it is dearer than through that, both as they were seen last.
+fn lower_while_dearer(shared: &Shared, pass: &mut Pass, edge: Edge)
     requires works { IsAtWork shared.now pass.old }
-    requires node { SeesPoint pass.old.view node at }
-    requires pair { SeesPair pass.old.view node }
-    requires parent { SeesPoint pass.old.view parent from }
-    requires parent_pair { SeesPair pass.old.view parent }
-    requires apart { parent ≢ node }
-    requires edge { IsAllowedEdge (setup_in (run_in shared.now)) from at }
-    requires from { IsBounded from }
-    requires at { IsBounded at }
+    requires node { SeesPoint pass.old.view edge.node edge.at }
+    requires pair { SeesPair pass.old.view edge.node }
+    requires parent { SeesPoint pass.old.view edge.parent edge.from }
+    requires parent_pair { SeesPair pass.old.view edge.parent }
+    requires apart { edge.parent ≢ edge.node }
+    requires allowed { IsAllowedEdge (setup_in (run_in shared.now)) edge.from edge.at }
+    requires from { IsBounded edge.from }
+    requires at { IsBounded edge.at }
     ensures works { IsAtWork shared.now pass.new }
-    ensures pair { SeesPair pass.new.view node }
+    ensures pair { SeesPair pass.new.view edge.node }
 {
-    let most = seen_cost(pass, parent) + cost(from, at);
-    'lowers: while most < seen_cost(pass, node) {
+    let most = seen_cost(pass, edge.parent) + cost(edge.from, edge.at);
+    'lowers: while most < seen_cost(pass, edge.node) {
         // one that fails finds a lower cost, with whatever parent
-        let _found = shared.lower(pass, node, parent, most);
+        let _found = shared.lower(pass, edge.node, edge.parent, most);
     }
 }
 
@@ -282,10 +255,16 @@ pub(crate) fn lower_below(
 {
     let (parent, _) = load_at(shared, pass, from)?;
     let (node, _) = load_at(shared, pass, at)?;
-    if parent == node || !is_allowed(shared, hall, from, at) {
+    let edge = Edge {
+        parent,
+        from,
+        node,
+        at,
+    };
+    if parent == node || !is_allowed(shared, hall, edge) {
         return None;
     }
-    lower_while_dearer(shared, pass, node, at, parent, from);
+    lower_while_dearer(shared, pass, edge);
     Some(node)
 }
 

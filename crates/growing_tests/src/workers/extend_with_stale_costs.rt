@@ -1,24 +1,21 @@
 //! A cost that one pass lowers after another saw it, which then finds the lowered one.
 
-ghost use Rattle.std.specs.Prelude.{◌≡◌, ◌≢◌, ◌+◌, ◌<◌, IfSome, IsTrue, length};
+ghost use Rattle.std.specs.Prelude.{◌≡◌, length};
 ghost use Rattle.plan_model.specs.Geometry.Bounds.{IsBounded};
 ghost use Rattle.plan_model.specs.Spaces.ConfigurationSpace.{space_of};
-ghost use Rattle.plan_model.specs.Geometry.Cost.{cost_of};
-ghost use Rattle.plan_model.specs.Runs.OrderLaw.{IsAllowedEdge};
-ghost use Rattle.plan_words.specs.States.{GoesOn, run_in};
+ghost use Rattle.plan_words.specs.States.{GoesOn};
 ghost use Rattle.growing_tests.specs.Shares.Sharers.{HasShare};
-ghost use Rattle.step_core.specs.LaterViews.{IsLawfulView};
 ghost use Rattle.step_core.specs.ViewTrees.{SeesPoint};
-ghost use Rattle.step_core.specs.Views.{setup_in};
-ghost use Rattle.tree_rewire.specs.SeenCosts.{SeesPair, cost_seen};
+ghost use Rattle.tree_rewire.specs.SeenCosts.{SeesPair};
 
+use crate::edges::{Edge, is_allowed, seen_cost};
 use crate::workers::support::{Ending, assert_ending, assert_extended, task_to, two_passes};
 use edge_cost::cost;
 use kd_shared::find;
 use plan_model::{Outcome, Point};
 use plan_words::{Pass, Shared};
 use std::process::Abort;
-use swept_check::{Clearing, Hall};
+use swept_check::Hall;
 
 const START: Point = Point { x: 0, y: 0 };
 
@@ -68,35 +65,6 @@ fn load_two<R: Abort>(
     (first, second)
 }
 
-/// Whether an edge is clear and no longer than the step.
-fn is_allowed(shared: &Shared, hall: &Hall, from: Point, at: Point) -> bool
-    requires hall { hall.now ≡ space_of shared.now.task.scene }
-    requires from { IsBounded from }
-    requires at { IsBounded at }
-    ensures { IsTrue result → IsAllowedEdge (setup_in (run_in shared.now)) from at }
-{
-    let step = u64::from(shared.task().scene.step);
-    hall.clear(from, at) && from.squared_distance(at) <= step * step
-}
-
-/// What a node was seen to cost last.
-fn seen_cost(pass: &Pass, node: u32) -> u64
-    requires lawful { IsLawfulView pass.now.view }
-    requires pair { SeesPair pass.now.view node }
-    ensures { result ≡ cost_seen pass.now.view node }
-{
-    pass.pair(node).unwrap().1
-}
-
-/// An edge between two nodes, each with its point.
-#[derive(Clone, Copy)]
-struct Edge {
-    parent: u32,
-    from: Point,
-    node: u32,
-    at: Point,
-}
-
 /// Lowers the node of an edge below the parent, by what was seen of both, to this cost, and asserts what the exchange gives.
 fn assert_lowered<R: Abort>(
     rt: &R,
@@ -118,7 +86,7 @@ fn assert_lowered<R: Abort>(
 {
     let lowered = seen_cost(pass, edge.parent) + cost(edge.from, edge.at);
     assert!(rt; lowered == want.0);
-    if !is_allowed(shared, hall, edge.from, edge.at) || lowered >= seen_cost(pass, edge.node) {
+    if !is_allowed(shared, hall, edge) || lowered >= seen_cost(pass, edge.node) {
         panic!(rt; "it may not be lowered so");
     }
     let found = shared.lower(pass, edge.node, edge.parent, lowered);

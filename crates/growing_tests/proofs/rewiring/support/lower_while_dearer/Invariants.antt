@@ -6,10 +6,10 @@ abbrev pub invariant-lowers : goal.invariant-lowers
 invariant-lowers l = record {
   works : IsAtWork l.shared l.pass;
   goes_on : GoesOn l.fn.pass.view l.pass.view;
-  others : OnlyAt l.node l.fn.pass.view l.pass.view;
-  pair : SeesPair l.pass.view l.node;
+  others : OnlyAt l.edge.node l.fn.pass.view l.pass.view;
+  pair : SeesPair l.pass.view l.edge.node;
 }
 
 -- what the node is seen to cost
 abbrev pub decreases-lowers : goal.decreases-lowers
-decreases-lowers l = cost_seen l.pass.view l.node
+decreases-lowers l = cost_seen l.pass.view l.edge.node

@@ -1,10 +1,10 @@
 use Rattle.growing_tests.proofs.Words.{◌*◌, ap, arith, subst, leb-true, Clear, Task}
-use Rattle.growing_tests.proofs.rewiring.support.is_allowed.Goals as goal
+use Rattle.growing_tests.proofs.edges.is_allowed.Goals as goal
 
 pub returns-then-clear : goal.returns-then-clear
 returns-then-clear c close =
     record {
-      clear = subst (λ space. Clear space c.args.from c.args.at) c.requires.hall (c.clear.ensures.0 c.if-clear.true);
+      clear = subst (λ space. Clear space c.args.edge.from c.args.edge.at) c.requires.hall (c.clear.ensures.0 c.if-clear.true);
       short =
           omega (
             arith,
