@@ -24,6 +24,13 @@ pub(crate) enum NearNodes {
     Searched,
 }
 
+/// A node with the cost of its edge to a point, in 256ths of a lattice step.
+#[derive(Clone, Copy)]
+pub(crate) struct WeighedNode {
+    pub(crate) node: u32,
+    pub(crate) edge: u32,
+}
+
 impl NearNodes {
     /// How many there are.
     #[inline]
@@ -68,24 +75,30 @@ impl NearNodes {
         pass: &mut Pass,
         p: Point,
         index: usize,
-    ) -> (u32, u32)
+    ) -> WeighedNode
         requires belongs { BelongsTo pass.old shared.now }
         requires bounded { IsBounded p }
         requires known { AreKnown self pass.old.view p pass.old.lists }
         requires within { index < length (nodes_on self pass.old.lists) }
         ensures steps { PassSees NamesNothing shared.now pass.old pass.new }
-        ensures node { slice_get (nodes_on self pass.old.lists) index ≡ Some result.0 }
-        ensures edge { result.1 ≡ cost_of (point_of (tree_seen pass.old.view).points result.0) p }
+        ensures node { slice_get (nodes_on self pass.old.lists) index ≡ Some result.node }
+        ensures edge { result.edge ≡ cost_of (point_of (tree_seen pass.old.view).points result.node) p }
     {
         match self {
             NearNodes::Listed => {
                 let node = pass.near_node(index);
                 let from = shared.point(pass, node);
-                (node, cost(from, p) as u32)
+                WeighedNode {
+                    node,
+                    edge: cost(from, p) as u32,
+                }
             }
             NearNodes::Searched => {
                 let found = pass.found(index);
-                (found.node, found.edge)
+                WeighedNode {
+                    node: found.node,
+                    edge: found.edge,
+                }
             }
         }
     }

@@ -126,8 +126,8 @@ fn next_word(
     let mut next = last;
     let count = among.count(pass);
     'words: for index in 0..count {
-        let (node, edge) = among.weighed(shared, pass, p, index);
-        let word = pack_tree(node, seen_cost(pass, node) + u64::from(edge));
+        let near = among.weighed(shared, pass, p, index);
+        let word = pack_tree(near.node, seen_cost(pass, near.node) + u64::from(near.edge));
         next = next_of(low, word, next);
     }
     next

@@ -6,7 +6,7 @@ use Rattle.tree_rewire.proofs.CostSteps.{PassSees-refl, PassSees-trans, seen_cos
 use Rattle.tree_rewire.proofs.NearLists.{AllKnots-known, AreKnown-later}
 use Rattle.tree_rewire.proofs.SeenCosts.{SeesPair-later}
 use Rattle.tree_rewire.proofs.open_words.next_word.Goals as goal
-use Rattle.tree_rewire.proofs.open_words.next_word.Goals.{After-weighed-node}
+use Rattle.tree_rewire.proofs.open_words.next_word.Goals.{After-weighed-near}
 
 pub words-init : goal.words-init
 words-init c = record {
@@ -14,43 +14,43 @@ words-init c = record {
   next = IsNextWord-none c.args.low c.args.last c.requires.low;
 }
 
-pub weighed-node-requires-clause-known : goal.weighed-node-requires-clause-known
-weighed-node-requires-clause-known c =
+pub weighed-near-requires-clause-known : goal.weighed-near-requires-clause-known
+weighed-near-requires-clause-known c =
     let steps = c.words.invariant.steps in
     subst (λ (s : PassState). AreKnown c.args.among c.words.pass.view c.args.p s.lists) (sym steps.view_alone)
     (AreKnown-later c.args.among c.args.pass.now.view c.words.pass.view c.args.p c.args.pass.now.lists steps.sees_anew.goes_on c.requires.known)
 
 -- the node is seen with its cost
-knot : (c : After-weighed-node) → SeesKnot c.words.pass.view c.weighed-node.result.0
+knot : (c : After-weighed-near) → SeesKnot c.words.pass.view c.weighed-near.result.node
 knot c =
     let steps = c.words.invariant.steps in
     let view = c.words.pass.view in
-    All-read (SeesKnot view) (nodes_on c.args.among c.words.pass.lists) c.words.index c.weighed-node.result.0 c.weighed-node.ensures.node
+    All-read (SeesKnot view) (nodes_on c.args.among c.words.pass.lists) c.words.index c.weighed-near.result.node c.weighed-near.ensures.node
     (AllKnots-known c.args.among view c.args.p c.words.pass.lists
     (subst (λ (s : PassState). AreKnown c.args.among view c.args.p s.lists) (sym steps.view_alone)
     (AreKnown-later c.args.among c.args.pass.now.view view c.args.p c.args.pass.now.lists steps.sees_anew.goes_on c.requires.known)))
 
-pair : (c : After-weighed-node) → SeesPair c.weighed-node.new.pass.view c.weighed-node.result.0
+pair : (c : After-weighed-near) → SeesPair c.weighed-near.new.pass.view c.weighed-near.result.node
 pair c =
-    SeesPair-later c.words.pass.view c.weighed-node.new.pass.view c.weighed-node.ensures.steps.sees_anew.goes_on c.weighed-node.result.0 (knot c).written
+    SeesPair-later c.words.pass.view c.weighed-near.new.pass.view c.weighed-near.ensures.steps.sees_anew.goes_on c.weighed-near.result.node (knot c).written
 
 pub seen_cost-requires-clause-pair : goal.seen_cost-requires-clause-pair
-seen_cost-requires-clause-pair c = pair (goal.at.seen_cost-requires-clause-pair c).After-weighed-node
+seen_cost-requires-clause-pair c = pair (goal.at.seen_cost-requires-clause-pair c).After-weighed-near
 
 pub pack_tree-word-requires-clause-parent : goal.pack_tree-word-requires-clause-parent
 pack_tree-word-requires-clause-parent c =
-    number_low c.weighed-node.new.pass.view c.weighed-node.result.0 c.weighed-node.ensures.steps.belongs.lawful
-    (pair (goal.at.pack_tree-word-requires-clause-parent c).After-weighed-node)
+    number_low c.weighed-near.new.pass.view c.weighed-near.result.node c.weighed-near.ensures.steps.belongs.lawful
+    (pair (goal.at.pack_tree-word-requires-clause-parent c).After-weighed-near)
 
 pub pack_tree-word-requires-clause-cost : goal.pack_tree-word-requires-clause-cost
 pack_tree-word-requires-clause-cost c =
-    let here = (goal.at.pack_tree-word-requires-clause-cost c).After-weighed-node in
-    let n = c.weighed-node.result.0 in
+    let here = (goal.at.pack_tree-word-requires-clause-cost c).After-weighed-near in
+    let n = c.weighed-near.result.node in
     omega (
       arith,
-      (c.weighed-node.ensures.steps.belongs.lawful.pairs n (pair here)).low,
+      (c.weighed-near.ensures.steps.belongs.lawful.pairs n (pair here)).low,
       edge_low c.words.pass.view c.args.p n c.requires.bounded (knot here).stands,
-      c.weighed-node.ensures.edge,
+      c.weighed-near.ensures.edge,
       c.seen_cost.ensures,
       c.from.ensures,
     )
@@ -60,22 +60,22 @@ words-preserved c =
     let before = c.args.pass.now in
     let mid = c.words.pass in
     let h = c.words.invariant in
-    let now = c.weighed-node.ensures.steps in
-    let n = c.weighed-node.result.0 in
+    let now = c.weighed-near.ensures.steps in
+    let n = c.weighed-near.result.node in
     let near = nodes_on c.args.among before.lists in
     let word = word_through before.view c.args.p in
     let read : slice_get near c.words.index ≡ Some n =
-    ap (λ (s : PassState). slice_get (nodes_on c.args.among s.lists) c.words.index) (sym h.steps.view_alone) ∙ c.weighed-node.ensures.node in
+    ap (λ (s : PassState). slice_get (nodes_on c.args.among s.lists) c.words.index) (sym h.steps.view_alone) ∙ c.weighed-near.ensures.node in
     let through : c.seen_cost.result + c.from.result ≡ seen_cost_through before.view c.args.p n = omega (
       arith,
       ap cost_in (now.sees_anew.others (TreeOf n) (λ no. no)),
       c.seen_cost.ensures,
       c.from.ensures,
-      c.weighed-node.ensures.edge,
+      c.weighed-near.ensures.edge,
       seen_cost_through-same before.view mid.view h.steps.sees_anew c.args.p n,
     ) in
     record {
-      steps = PassSees-trans NamesNothing c.args.shared.now before mid c.weighed-node.new.pass h.steps now;
+      steps = PassSees-trans NamesNothing c.args.shared.now before mid c.weighed-near.new.pass h.steps now;
       next = IsNextWord-more (map word (take c.words.index near)) (map word (take (c.words.index + 1) near)) c.args.low c.args.last c.words.next (word n)
           c.next_of-next.result (words_read word near c.words.index n read) h.next
           (subst (λ w. IsNextOf c.args.low w c.words.next c.next_of-next.result) (c.pack_tree-word.ensures ∙ ap (tree_word n) through) c.next_of-next.ensures);
