@@ -2,11 +2,11 @@
 use Rattle.plan_work.proofs.Words.{◌≡◌, ℕ, ◌≤◌, Some, inl, refl, sym, ap, ◌∙◌, subst, arith, IfSome, IsSome, is_some, Clear, space_of, IsFree, point_of}
 use Rattle.plan_work.proofs.Words.{EndsSince, IsSwept, Point, Blocked, Record, point_of-stands, EndsSince-later, IsBounded, Count, Counter, PointOf, RecordOf}
 use Rattle.plan_work.proofs.Words.{point_of_word, Reached, SameNode, NoWay, Steered, ending_of, BelongsTo, GoesOn, PassState, SharedState, turn_of, with_view}
-use Rattle.plan_work.proofs.Words.{worker_of, BelongsTo-later, GoesOn-trans, SeesBestSince, SeesBestSince-trans, IsLaterMoment-later, KeepsSight-lawful}
+use Rattle.plan_work.proofs.Words.{worker_of, BelongsTo-later, GoesOn-trans, SeesBestSince-trans, IsLaterMoment-later, KeepsSight-lawful}
 use Rattle.plan_work.proofs.Words.{point_at-seen, seen-within, IsUnskipped, MayRecord, one_turn_more, pointed, IsSteered, SeesPoint, sight_in, run_sizes, sees}
 use Rattle.plan_work.proofs.Words.{setup_in, tree_seen, has_node-recorded, present_recorded, Hand, SharedRun, Pointed, View, stands_later, OnlyLooks}
 use Rattle.plan_work.proofs.Words.{HandlesMark, HasSteered, ReachesAsSeen, HasReached, HasFilledNear, HasRecorded, IsFilledSince, IsSteeredAndHandled}
-use Rattle.plan_work.proofs.Words.{IsSteeredTo, KeepsRecords, MayPlace, own_unplaced}
+use Rattle.plan_work.proofs.Words.{IsSteeredTo, KeepsRecords, MayPlace, own_unplaced, Steering}
 use Rattle.grown_runs.proofs.Common.{Same}
 use Rattle.plan_work.proofs.HeldMarks.{holding, if_held}
 use Rattle.plan_work.proofs.KeptRecords.{KeepsRecords-looks, KeepsRecords-trans}
@@ -17,19 +17,6 @@ use Rattle.plan_work.proofs.SteeredOutcomes.{WasSteered-to}
 use Rattle.plan_work.proofs.TriedMarks.{HasFilledNear-still}
 
 -- ---- one after another
-
--- an emptied list changes no view
-pub KeepsRecords-emptied : (shared : SharedState) (before emptied after : PassState) → emptied.view ≡ before.view → KeepsRecords shared emptied after
-    → KeepsRecords shared before after
-KeepsRecords-emptied shared before emptied after is keeps = record {
-  belongs = keeps.belongs;
-  goes_on = subst (λ v. GoesOn v after.view) is keeps.goes_on;
-  records = λ k. keeps.records k ∙ ap (λ v. sees v (RecordOf k)) is;
-  counters = λ g. keeps.counters g ∙ ap (λ v. sees v (Counter g)) is;
-  best = subst (λ v. SeesBestSince v after.view) is keeps.best;
-  crew = keeps.crew ∙ ap (λ v. v.crew) is;
-  most = keeps.most ∙ ap (λ v. v.most) is;
-}
 
 -- a mark is handled after calls that saw no record anew
 pub HandlesMark-after : (shared : SharedState) (before mid after : PassState) (k : ℕ) (entry : Record) → KeepsRecords shared before mid
@@ -59,8 +46,8 @@ IsSteeredTo-found shared before after k m from p keeps h = record {
       (present_recorded before.view keeps.goes_on.was_lawful n (sym (has_node-recorded before.view after.view keeps.records n) ∙ there));
 }
 
--- A search has found a node that steers mark k, which is in this hand, to p, and another has looked for p.
-pub record HasLooked (shared : SharedState) (before steering found : PassState) (k m : ℕ) (from p : Point) : Type 0 where
+-- A search has found a node that steers mark k, which is in this hand, and another has looked for the point.
+pub record HasLooked (shared : SharedState) (before steering found : PassState) (k : ℕ) (s : Steering) : Type 0 where
   pub hand : Hand
   pub held : found.view.hand ≡ Some hand
   pub was_held : before.view.hand ≡ Some hand
@@ -68,41 +55,36 @@ pub record HasLooked (shared : SharedState) (before steering found : PassState) 
   pub keeps : KeepsRecords shared before found
   pub begun : GoesOn before.view steering.view
   pub goes_on : GoesOn steering.view found.view
-  pub steers : HasSteered before.view found.view k m from p
+  pub steers : HasSteered before.view found.view k s.nearest s.from s.point
 
 pub HasLooked-looks :
-    (shared : SharedState) (before emptied steering found : PassState) (k m : ℕ) (from p : Point)
-    → emptied.view ≡ before.view
-    → IsSome before.view.hand → IfSome before.view.hand (λ hand. hand.mark ≡ k) → KeepsRecords shared emptied steering
-    → steering.view.hand ≡ emptied.view.hand → BelongsTo found shared → OnlyLooks steering.view found.view
-    → HasSteered emptied.view steering.view k m from p → HasLooked shared before steering found k m from p
-HasLooked-looks shared before emptied steering found k m from p is some mark one same still two steers =
-    let view = is in
+    (shared : SharedState) (before steering found : PassState) (k : ℕ) (s : Steering) → IsSome before.view.hand
+    → IfSome before.view.hand (λ hand. hand.mark ≡ k) → KeepsRecords shared before steering → steering.view.hand ≡ before.view.hand
+    → BelongsTo found shared → OnlyLooks steering.view found.view → HasSteered before.view steering.view k s.nearest s.from s.point
+    → HasLooked shared before steering found k s
+HasLooked-looks shared before steering found k s some mark one same still two steers =
     let own = holding before.view (λ hand. hand.mark ≡ k) some mark in
-    let begun = subst (λ v. GoesOn v steering.view) view one.goes_on in
     record {
       hand = own.hand;
-      held = two.kept.hand ∙ same ∙ ap (λ v. v.hand) view ∙ own.held;
+      held = two.kept.hand ∙ same ∙ own.held;
       was_held = own.held;
       mark = own.says;
-      keeps =
-          KeepsRecords-emptied shared before emptied found view
-          (KeepsRecords-trans shared emptied steering found one (KeepsRecords-looks shared steering found still two));
-      begun = begun;
+      keeps = KeepsRecords-trans shared before steering found one (KeepsRecords-looks shared steering found still two);
+      begun = one.goes_on;
       goes_on = two.looks.goes_on;
-      steers =
-          HasSteered-still before.view steering.view found.view begun two.looks.goes_on k m from p
-          (subst (λ v. HasSteered v steering.view k m from p) view steers);
+      steers = HasSteered-still before.view steering.view found.view one.goes_on two.looks.goes_on k s.nearest s.from s.point steers;
     }
 
 -- a segment from the node that was found is blocked, as the pass sees its point
 pub blocked_here :
-    (shared : SharedState) (before steering found : PassState) (k m : ℕ) (from p : Point) → HasLooked shared before steering found k m from p
-    → ¬ Clear (space_of shared.task.scene) from p → ¬ Clear (setup_in found.view.run).space (point_of (tree_seen found.view).points m) p
-blocked_here shared before steering found k m from p looked blocked clear =
+    (shared : SharedState) (before steering found : PassState) (k : ℕ) (s : Steering) → HasLooked shared before steering found k s
+    → ¬ Clear (space_of shared.task.scene) s.from s.point
+    → ¬ Clear (setup_in found.view.run).space (point_of (tree_seen found.view).points s.nearest) s.point
+blocked_here shared before steering found k s looked blocked clear =
+    let at = point_of-stands (tree_seen found.view).points s.nearest s.from looked.steers.stands in
     blocked
-    (subst (λ (r : SharedRun). Clear (setup_in r).space from p) looked.keeps.belongs.run
-    (subst (λ q. Clear (setup_in found.view.run).space q p) (point_of-stands (tree_seen found.view).points m from looked.steers.stands) clear))
+    (subst (λ (r : SharedRun). Clear (setup_in r).space s.from s.point) looked.keeps.belongs.run
+    (subst (λ q. Clear (setup_in found.view.run).space q s.point) at clear))
 
 -- ---- a point that no node is seen at
 
@@ -217,19 +199,14 @@ module _
     }
 
     -- the near list, filled by the search that steered, is filled still
-    pub IsFilledSince-written : (emptied steering : PassState) (class : ℕ) → emptied.view ≡ before.view
-        → KeepsRecords shared emptied steering
-        → HasFilledNear emptied.view steering.view p class steering.lists.search.found → GoesOn steering.view found.view
-        → sees found.view Count ≡ sees steering.view Count → found.lists.search.found ≡ steering.lists.search.found → IsFilledSince shared before written p
-        class
+    pub IsFilledSince-written : (class : ℕ) → HasFilledNear before.view found.view p class found.lists.search.found
+        → IsFilledSince shared before written p class
     unfolding KeepsRecords-written
-    IsFilledSince-written emptied steering class empty one filled two count near = record {
+    IsFilledSince-written class filled = record {
       keeps = KeepsRecords-written;
       filled =
-          subst (HasFilledNear before.view written.view p class) (sym (ap (λ (x : PassState). x.lists.search.found) is ∙ near))
-          (subst (λ v. HasFilledNear v written.view p class steering.lists.search.found) empty
-          (HasFilledNear-still emptied.view steering.view written.view p class steering.lists.search.found
-          (GoesOn-trans steering.view found.view written.view two goes_on) (ap (λ v. sees v Count) then ∙ count) filled));
+          subst (HasFilledNear before.view written.view p class) (sym (ap (λ (x : PassState). x.lists.search.found) is))
+          (HasFilledNear-still before.view found.view written.view p class found.lists.search.found goes_on (ap (λ v. sees v Count) then) filled);
     }
 
     pub MayPlace-written : IsUnskipped found.view hand → IsBounded p → Clear (space_of shared.task.scene) from p → MayPlace shared written k m p
@@ -252,17 +229,17 @@ module _
 
 -- Once its node was handled, the mark is handled from the first moment.
 pub IsExtended-written :
-    (shared : SharedState) (before steering found written done : PassState) (k m : ℕ) (from p : Point) (entry : Record)
-    → HasLooked shared before steering found k m from p → KeepsRecords shared before written → GoesOn found.view written.view
-    → HandlesMark shared written done k entry → HasReached before.view done.view k entry m p → IsSteeredAndHandled before.view done.view k entry
-IsExtended-written shared before steering found written done k m from p entry looked keeps goes_on handles ended = record {
+    (shared : SharedState) (before steering found written done : PassState) (k : ℕ) (s : Steering) (entry : Record)
+    → HasLooked shared before steering found k s → GoesOn found.view written.view → HandlesMark shared written done k entry
+    → HasReached before.view done.view k entry s.nearest s.point → IsSteeredAndHandled before.view done.view k entry
+IsExtended-written shared before steering found written done k s entry looked goes_on handles ended = record {
   stored = handles.stored;
-  nearest = m;
+  nearest = s.nearest;
   reached = ended.reached;
   ending = ended.ending;
   steered =
-      WasSteered-to before.view done.view k m from p ended.reached
+      WasSteered-to before.view done.view k s.nearest s.from s.point ended.reached
       (HasSteered-still before.view found.view done.view looked.keeps.goes_on
-      (GoesOn-trans found.view written.view done.view goes_on handles.goes_on) k m from p looked.steers)
+      (GoesOn-trans found.view written.view done.view goes_on handles.goes_on) k s.nearest s.from s.point looked.steers)
       ended.as_seen;
 }

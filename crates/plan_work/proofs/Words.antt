@@ -56,6 +56,7 @@ pub use Rattle.plan_work.specs.Workers.{AllExtended, HasDone, HasLeft, HasStoppe
 pub use Rattle.plan_work.specs.declared.growing.Worker.{Worker}
 pub use Rattle.plan_work.specs.declared.growing.Worker.TheVariants.{Away, Stopped, Working}
 pub use Rattle.plan_work.specs.declared.mark_placing.Hanging.{Hanging}
+pub use Rattle.plan_work.specs.declared.mark_steering.Steering.{Steering}
 pub use Rattle.std.proofs.Common.{Bool, List, None, Option, Some, [], ap, arith, cond, false, inl, inr, length, length-append, ltb, refl, subst, suc, sym, take}
 pub use Rattle.std.proofs.Common.{true, zero, ℕ, ◌%◌, ◌*◌, ◌++◌, ◌+◌, ◌-◌, ◌/◌, ◌<◌, ◌^◌, ◌∙◌, ◌∷◌, ◌≡◌, ◌≢◌, ◌≤◌}
 pub use Rattle.std.proofs.Math.Seq.{take-append_seam, take-suc}

@@ -7,7 +7,7 @@ ghost use Rattle.plan_work.specs.ExtensionSteps.{AreRadiiOf, MaySteerOn, Places}
 
 use crate::mark_placing::place_rewire_and_record;
 use crate::mark_skipping::skipper;
-use crate::mark_steering::steer_and_test;
+use crate::mark_steering::{Tested, steer_and_test};
 use crate::recording::record_unplaced;
 use edge_cost::Radii;
 use kd_shared::find;
@@ -47,7 +47,7 @@ fn steer_and_place<C: Clearing>(
     requires hall { C.space hall.now ≡ space_of shared.now.task.scene }
     ensures { Places shared.now pass.old pass.new k result }
 {
-    let (steering, class, is_clear) = steer_and_test(shared, pass, radii, hall, k);
+    let Tested { steering, is_clear } = steer_and_test(shared, pass, radii, hall, k);
     if steering.from == steering.point {
         let outcome = Outcome::Same(steering.nearest);
         return record_unplaced(shared, pass, steering.nearest, outcome);
@@ -59,7 +59,7 @@ fn steer_and_place<C: Clearing>(
         return record_unplaced(shared, pass, steering.nearest, Outcome::Blocked);
     }
     shared.write_point(pass, steering.nearest, steering.point);
-    place_rewire_and_record(shared, pass, hall, k, steering, class)
+    place_rewire_and_record(shared, pass, hall, k, steering)
 }
 
 /// Handles mark k, which is in hand with nothing written of it, as RRT* does (Karaman and Frazzoli, IJRR 2011), in a tree that

@@ -41,6 +41,13 @@ pub(crate) struct Hanging {
     pub(crate) class: u32,
 }
 
+/// A new node, hung and tried to be placed: where it came to, and what it hangs by.
+#[derive(Clone, Copy)]
+struct Tried {
+    placing: Placing,
+    hanging: Hanging,
+}
+
 /// Writes the parent and the cost of the node in hand: of the nearest node and of those found with a clear edge, the one through which
 /// it costs the least.
 fn choose_and_write<C: Clearing>(
@@ -120,23 +127,26 @@ fn choose_and_place<C: Clearing>(
     hall: &C,
     k: u32,
     steering: Steering,
-    class: u32,
-) -> (Placing, Hanging)
+) -> Tried
     requires may { MayPlace shared.now pass.old k steering.nearest steering.point }
     requires part { 0 < share pass.old.view }
     requires near { All (IsInReach pass.old.view steering.point) (numbers_of pass.old.lists.search.found) }
     requires measured { All (IsMeasured pass.old.view steering.point) pass.old.lists.search.found }
     requires hall { C.space hall.now ≡ space_of shared.now.task.scene }
     ensures keeps { KeepsRecords shared.now pass.old pass.new }
-    ensures tried { IfSome pass.old.view.hand (λ hand. IsTried pass.old pass.new hand result.0 result.1) }
-    ensures class { result.1.class ≡ class }
+    ensures tried { IfSome pass.old.view.hand (λ hand. IsTried pass.old pass.new hand result.placing result.hanging) }
+    ensures class { result.hanging.class ≡ steering.class }
     ensures whole { HasWholeShare pass.old.view
         → IsTriedWhole (space_of shared.now.task.scene) pass.old.view pass.new.view k steering.point steering.nearest
-        (numbers_of pass.old.lists.search.found) result.0 result.1 }
+        (numbers_of pass.old.lists.search.found) result.placing result.hanging }
 {
     let parent = choose_and_write(shared, pass, hall, steering.point, steering.nearest);
     let placing = place_and_post(shared, pass, k, steering.point);
-    (placing, Hanging { parent, class })
+    let hanging = Hanging {
+        parent,
+        class: steering.class,
+    };
+    Tried { placing, hanging }
 }
 
 /// Places the node of the mark in hand, rewires the nodes found, and records what became of it.
@@ -146,27 +156,26 @@ pub(crate) fn place_rewire_and_record<C: Clearing>(
     hall: &C,
     k: u32,
     steering: Steering,
-    class: u32,
 ) -> Record
     requires may { MayPlace shared.now pass.old k steering.nearest steering.point }
     requires part { 0 < share pass.old.view }
-    requires filled { (first : PassState) × IsFilledSince shared.now first pass.old steering.point class }
+    requires filled { (first : PassState) × IsFilledSince shared.now first pass.old steering.point steering.class }
     requires hall { C.space hall.now ≡ space_of shared.now.task.scene }
     ensures handled { HandlesMark shared.now pass.old pass.new k result }
     // of the time since any moment after which the near nodes were found
-    ensures ended { (first : PassState) → IsFilledSince shared.now first pass.old steering.point class
+    ensures ended { (first : PassState) → IsFilledSince shared.now first pass.old steering.point steering.class
         → HasReached first.view pass.new.view k result steering.nearest steering.point }
     // a pass that works alone does so as in the textbook
     ensures textbook { IsSteeredWhole pass.old.view k steering.nearest steering.point
-        → IsFilledWhole pass.old.view steering.point class pass.old.lists.search.found
+        → IsFilledWhole pass.old.view steering.point steering.class pass.old.lists.search.found
         → WorksAlone pass.old.view k → SeesTextbook pass.old.view k → IsNotSkippedIn pass.old.view k
         → WorksAlone pass.new.view (suc k) × SeesTextbook pass.new.view (suc k) }
 {
-    let (placing, hanging) = choose_and_place(shared, pass, hall, k, steering, class);
-    match placing {
+    let tried = choose_and_place(shared, pass, hall, k, steering);
+    match tried.placing {
         Placing::Placed => {
             rewire_found(shared, pass, hall, k);
-            record_placed(shared, pass, steering.nearest, hanging)
+            record_placed(shared, pass, steering.nearest, tried.hanging)
         }
         Placing::Same(node) => {
             record_unplaced(shared, pass, steering.nearest, Outcome::Same(node))

@@ -1,11 +1,9 @@
 //! The steering towards a mark: the nearest node, the nodes near the point that it steers to, and whether the segment is clear.
 
 ghost use Rattle.std.specs.Prelude.{◌≡◌, ◌↔◌, All, IfSome, IsSome, IsTrue};
-ghost use Rattle.kd_shared.specs.Looking.{OnlyLooks};
 ghost use Rattle.plan_model.specs.Geometry.Bounds.{IsBounded};
 ghost use Rattle.plan_model.specs.Spaces.Clearance.{Clear};
 ghost use Rattle.plan_model.specs.Trees.PointsByNumber.{point_of};
-ghost use Rattle.plan_words.specs.Claims.{SeesAsBefore};
 ghost use Rattle.plan_words.specs.SearchLists.{numbers_of};
 ghost use Rattle.plan_words.specs.States.{BelongsTo, HasWholeShare, PassState};
 ghost use Rattle.plan_work.specs.Extensions.{HasSteered};
@@ -21,7 +19,7 @@ use plan_words::{Pass, Shared};
 use step_core::{View, pack_tree, pair_in};
 use swept_check::Clearing;
 
-/// The node that steers towards a mark, and where to.
+/// The node that steers towards a mark, and where to. The nodes near that point were found.
 #[derive(Clone, Copy)]
 pub(crate) struct Steering {
     /// The nearest node's number.
@@ -30,28 +28,15 @@ pub(crate) struct Steering {
     pub(crate) from: Point,
     /// The point that it steers to.
     pub(crate) point: Point,
+    /// The class of the number of nodes, by which the radius goes within which they are near.
+    pub(crate) class: u32,
 }
 
-/// The steering towards the mark in hand.
-fn steer_from_nearest(shared: &Shared, pass: &mut Pass, k: u32) -> Steering
-    requires belongs { BelongsTo pass.old shared.now }
-    requires some { IsSome pass.old.view.hand }
-    requires hand { IfSome pass.old.view.hand (λ hand. hand.mark ≡ k) }
-    ensures belongs { BelongsTo pass.new shared.now }
-    ensures looks { OnlyLooks pass.old.view pass.new.view }
-    ensures steered { HasSteered pass.old.view pass.new.view k result.nearest result.from result.point }
-    ensures bounded { IsBounded result.point }
-    ensures whole { HasWholeShare pass.old.view → SeesAsBefore pass.old.view pass.new.view }
-{
-    let mark = shared.task().marks.as_slice()[k as usize];
-    let nearest = nearest(shared, pass, mark);
-    let from = shared.point(pass, nearest);
-    let point = steer(from, mark, shared.task().scene.step);
-    Steering {
-        nearest,
-        from,
-        point,
-    }
+/// A steering, and whether its segment is clear.
+#[derive(Clone, Copy)]
+pub(crate) struct Tested {
+    pub(crate) steering: Steering,
+    pub(crate) is_clear: bool,
 }
 
 /// Finds the nodes within the radius of a point, and returns the class of the number of nodes, by which that radius goes.
@@ -69,6 +54,33 @@ fn find_near(shared: &Shared, pass: &mut Pass, radii: &Radii, p: Point) -> u32
     let nodes = u64::from(shared.number(pass));
     gather(shared, pass, p, radii.at(nodes));
     class(nodes)
+}
+
+/// The steering towards the mark in hand from the nearest node, for which it searches the tree, as it does for the nodes near the point.
+fn steer_from_nearest(shared: &Shared, pass: &mut Pass, radii: &Radii, k: u32) -> Steering
+    requires belongs { BelongsTo pass.old shared.now }
+    requires some { IsSome pass.old.view.hand }
+    requires hand { IfSome pass.old.view.hand (λ hand. hand.mark ≡ k) }
+    requires radii { AreRadiiOf shared.now.task.scene radii.now }
+    ensures keeps { KeepsRecords shared.now pass.old pass.new }
+    ensures hand { pass.new.view.hand ≡ pass.old.view.hand }
+    ensures steered { HasSteered pass.old.view pass.new.view k result.nearest result.from result.point }
+    ensures filled { HasFilledNear pass.old.view pass.new.view result.point result.class pass.new.lists.search.found }
+    ensures bounded { IsBounded result.point }
+    ensures whole { HasWholeShare pass.old.view → HasCounted pass.old.view
+        → SeesButCount pass.old.view pass.new.view × IsFilledWhole pass.new.view result.point result.class pass.new.lists.search.found }
+{
+    let mark = shared.task().marks.as_slice()[k as usize];
+    let nearest = nearest(shared, pass, mark);
+    let from = shared.point(pass, nearest);
+    let point = steer(from, mark, shared.task().scene.step);
+    let class = find_near(shared, pass, radii, point);
+    Steering {
+        nearest,
+        from,
+        point,
+        class,
+    }
 }
 
 /// The node nearest to the point of the search among those that it found, of equally near ones that of the least number. `None` if it
@@ -92,39 +104,36 @@ fn nearest_found(pass: &Pass) -> Option<u32>
     Some(pair_in(least).0)
 }
 
-/// The steering towards the mark in hand, with the nodes found near the point that it comes to, and the class of the number of nodes, by
-/// which the radius of that search goes.
+/// The steering towards the mark in hand.
 ///
 /// It looks for near nodes of the mark first. The nearest of them is the nearest of all, and since no radius is longer than a step,
 /// the steered point is the mark itself. Only if there are none it takes a search for the nearest node, and one more for those near
 /// the point.
-fn steer_among_near(shared: &Shared, pass: &mut Pass, radii: &Radii, k: u32) -> (Steering, u32)
+fn steer_among_near(shared: &Shared, pass: &mut Pass, radii: &Radii, k: u32) -> Steering
     requires belongs { BelongsTo pass.old shared.now }
     requires some { IsSome pass.old.view.hand }
     requires hand { IfSome pass.old.view.hand (λ hand. hand.mark ≡ k) }
     requires radii { AreRadiiOf shared.now.task.scene radii.now }
     ensures keeps { KeepsRecords shared.now pass.old pass.new }
     ensures hand { pass.new.view.hand ≡ pass.old.view.hand }
-    ensures steered { HasSteered pass.old.view pass.new.view k result.0.nearest result.0.from result.0.point }
-    ensures filled { HasFilledNear pass.old.view pass.new.view result.0.point result.1 pass.new.lists.search.found }
-    ensures bounded { IsBounded result.0.point }
+    ensures steered { HasSteered pass.old.view pass.new.view k result.nearest result.from result.point }
+    ensures filled { HasFilledNear pass.old.view pass.new.view result.point result.class pass.new.lists.search.found }
+    ensures bounded { IsBounded result.point }
     ensures whole { HasWholeShare pass.old.view → HasCounted pass.old.view
-        → SeesButCount pass.old.view pass.new.view × IsFilledWhole pass.new.view result.0.point result.1 pass.new.lists.search.found }
+        → SeesButCount pass.old.view pass.new.view × IsFilledWhole pass.new.view result.point result.class pass.new.lists.search.found }
 {
     let mark = shared.task().marks.as_slice()[k as usize];
     let class = find_near(shared, pass, radii, mark);
     if let Some(nearest) = nearest_found(pass) {
         let from = shared.point(pass, nearest);
-        let steering = Steering {
+        return Steering {
             nearest,
             from,
             point: mark,
+            class,
         };
-        return (steering, class);
     }
-    let steering = steer_from_nearest(shared, pass, k);
-    let class = find_near(shared, pass, radii, steering.point);
-    (steering, class)
+    steer_from_nearest(shared, pass, radii, k)
 }
 
 /// Finds the near nodes anew, if by the number of nodes now the class is another one, and returns the class of that number.
@@ -145,7 +154,7 @@ fn renew_near(shared: &Shared, pass: &mut Pass, radii: &Radii, p: Point, old: u3
     find_near(shared, pass, radii, p)
 }
 
-/// The steering towards the mark in hand, the class by which near nodes were found, and whether the segment is clear.
+/// The steering towards the mark in hand, and whether the segment is clear.
 ///
 /// Nodes may come while the segment is tested, so the class is that of the number of nodes after it.
 pub(crate) fn steer_and_test<C: Clearing>(
@@ -154,22 +163,22 @@ pub(crate) fn steer_and_test<C: Clearing>(
     radii: &Radii,
     hall: &C,
     k: u32,
-) -> (Steering, u32, bool)
+) -> Tested
     requires belongs { BelongsTo pass.old shared.now }
     requires some { IsSome pass.old.view.hand }
     requires hand { IfSome pass.old.view.hand (λ hand. hand.mark ≡ k) }
     requires radii { AreRadiiOf shared.now.task.scene radii.now }
     ensures keeps { KeepsRecords shared.now pass.old pass.new }
     ensures hand { pass.new.view.hand ≡ pass.old.view.hand }
-    ensures steered { HasSteered pass.old.view pass.new.view k result.0.nearest result.0.from result.0.point }
-    ensures filled { HasFilledNear pass.old.view pass.new.view result.0.point result.1 pass.new.lists.search.found }
-    ensures bounded { IsBounded result.0.point }
+    ensures steered { HasSteered pass.old.view pass.new.view k result.steering.nearest result.steering.from result.steering.point }
+    ensures filled { HasFilledNear pass.old.view pass.new.view result.steering.point result.steering.class pass.new.lists.search.found }
+    ensures bounded { IsBounded result.steering.point }
     ensures whole { HasWholeShare pass.old.view → HasCounted pass.old.view
-        → SeesButCount pass.old.view pass.new.view × IsFilledWhole pass.new.view result.0.point result.1 pass.new.lists.search.found }
-    ensures clear { IsTrue result.2 ↔ Clear (C.space hall.now) result.0.from result.0.point }
+        → SeesButCount pass.old.view pass.new.view × IsFilledWhole pass.new.view result.steering.point result.steering.class pass.new.lists.search.found }
+    ensures clear { IsTrue result.is_clear ↔ Clear (C.space hall.now) result.steering.from result.steering.point }
 {
-    let (steering, begun) = steer_among_near(shared, pass, radii, k);
+    let mut steering = steer_among_near(shared, pass, radii, k);
     let is_clear = hall.clear(steering.from, steering.point);
-    let class = renew_near(shared, pass, radii, steering.point, begun);
-    (steering, class, is_clear)
+    steering.class = renew_near(shared, pass, radii, steering.point, steering.class);
+    Tested { steering, is_clear }
 }

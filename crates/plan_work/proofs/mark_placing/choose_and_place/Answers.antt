@@ -26,7 +26,7 @@ returns-clause-tried g c =
     let hung_at = c.choose_and_write-parent.new.pass in
     let after = c.place_and_post-placing.new.pass in
     let may = c.requires.may in
-    let hanging : Hanging = record { parent = c.choose_and_write-parent.result; class = c.args.class } in
+    let hanging : Hanging = record { parent = c.choose_and_write-parent.result; class = c.args.steering.class } in
     let hung = of_held before.view (λ hand. IsHung before.view.steps hung_at.view hand c.choose_and_write-parent.result
     (numbers_of before.lists.search.found)) may.hand may.held
     c.choose_and_write-parent.ensures.hung in

@@ -107,64 +107,42 @@ returns-in-Some-clause-whole c = λ whole counted.
     )
 
 -- no near node was found, so the nearest one is looked for
-pub steer_from_nearest-steering-requires-clause-some : goal.steer_from_nearest-steering-requires-clause-some
-steer_from_nearest-steering-requires-clause-some c = subst IsSome (sym c.find_near-class.ensures.hand) c.requires.some
+pub steer_from_nearest-requires-clause-some : goal.steer_from_nearest-requires-clause-some
+steer_from_nearest-requires-clause-some c = subst IsSome (sym c.find_near-class.ensures.hand) c.requires.some
 
-pub steer_from_nearest-steering-requires-clause-hand : goal.steer_from_nearest-steering-requires-clause-hand
-steer_from_nearest-steering-requires-clause-hand c =
+pub steer_from_nearest-requires-clause-hand : goal.steer_from_nearest-requires-clause-hand
+steer_from_nearest-requires-clause-hand c =
     subst (λ o. IfSome o (λ hand. hand.mark ≡ c.args.k)) (sym c.find_near-class.ensures.hand) c.requires.hand
 
 pub returns-clause-keeps : goal.returns-clause-keeps
 returns-clause-keeps c =
-    let shared = c.args.shared.now in
-    let first = c.find_near-class.new.pass in
-    let steering = c.steer_from_nearest-steering in
-    KeepsRecords-trans shared c.args.pass.now first c.find_near-class-2.new.pass c.find_near-class.ensures.keeps
-    (KeepsRecords-trans shared first steering.new.pass c.find_near-class-2.new.pass
-    (KeepsRecords-looks shared first steering.new.pass steering.ensures.belongs steering.ensures.looks) c.find_near-class-2.ensures.keeps)
+    KeepsRecords-trans c.args.shared.now c.args.pass.now c.find_near-class.new.pass c.steer_from_nearest.new.pass c.find_near-class.ensures.keeps
+    c.steer_from_nearest.ensures.keeps
 
 pub returns-clause-hand : goal.returns-clause-hand
-returns-clause-hand c =
-    c.find_near-class-2.ensures.hand ∙ c.steer_from_nearest-steering.ensures.looks.kept.hand ∙ c.find_near-class.ensures.hand
+returns-clause-hand c = c.steer_from_nearest.ensures.hand ∙ c.find_near-class.ensures.hand
 
 pub returns-clause-steered : goal.returns-clause-steered
 returns-clause-steered c =
-    let before = c.args.pass.now.view in
-    let first = c.find_near-class.new.pass.view in
-    let mid = c.steer_from_nearest-steering.new.pass.view in
-    let after = c.find_near-class-2.new.pass.view in
-    let steering = c.steer_from_nearest-steering.result in
-    HasSteered-begun before first after c.find_near-class.ensures.keeps.goes_on c.args.k steering.nearest steering.from steering.point
-    (HasSteered-still first mid after c.steer_from_nearest-steering.ensures.looks.looks.goes_on c.find_near-class-2.ensures.keeps.goes_on c.args.k
-    steering.nearest steering.from steering.point c.steer_from_nearest-steering.ensures.steered)
+    let steering = c.steer_from_nearest.result in
+    HasSteered-begun c.args.pass.now.view c.find_near-class.new.pass.view c.steer_from_nearest.new.pass.view c.find_near-class.ensures.keeps.goes_on
+    c.args.k steering.nearest steering.from steering.point c.steer_from_nearest.ensures.steered
 
 pub returns-clause-filled : goal.returns-clause-filled
 returns-clause-filled c =
-    let shared = c.args.shared.now in
-    let first = c.find_near-class.new.pass in
-    let mid = c.steer_from_nearest-steering.new.pass in
-    let keeps = KeepsRecords-trans shared c.args.pass.now first mid c.find_near-class.ensures.keeps
-    (KeepsRecords-looks shared first mid c.steer_from_nearest-steering.ensures.belongs c.steer_from_nearest-steering.ensures.looks) in
-    HasFilledNear-begun c.args.pass.now.view mid.view c.find_near-class-2.new.pass.view keeps.goes_on keeps.records
-    c.steer_from_nearest-steering.result.point c.find_near-class-2.result c.find_near-class-2.new.pass.lists.search.found
-    c.find_near-class-2.ensures.filled
+    let keeps = c.find_near-class.ensures.keeps in
+    let last = c.steer_from_nearest in
+    HasFilledNear-begun c.args.pass.now.view c.find_near-class.new.pass.view last.new.pass.view keeps.goes_on keeps.records last.result.point
+    last.result.class last.new.pass.lists.search.found last.ensures.filled
 
 -- ---- with the share of all workers
 
 pub returns-clause-whole : goal.returns-clause-whole
 returns-clause-whole c = λ whole counted.
-    let shared = c.args.shared.now in
     let before = c.args.pass.now in
-    let first = c.find_near-class.new.pass in
-    let mid = c.steer_from_nearest-steering.new.pass in
-    let after = c.find_near-class-2.new.pass in
-    let looks = c.steer_from_nearest-steering.ensures.looks in
-    let looked = KeepsRecords-looks shared first mid c.steer_from_nearest-steering.ensures.belongs looks in
-    let share = HasWholeShare-kept shared before first c.find_near-class.ensures.keeps whole in
-    let hand = looks.kept.hand ∙ c.find_near-class.ensures.hand in
-    let last = c.find_near-class-2.ensures.whole (HasWholeShare-kept shared first mid looked share) (HasCounted-kept before.view mid.view hand counted) in (
-      SeesButCount-trans before.view first.view after.view (c.find_near-class.ensures.whole whole counted).0
-          (SeesButCount-trans first.view mid.view after.view
-          (SeesButCount-all first.view mid.view (c.steer_from_nearest-steering.ensures.whole share)) last.0),
+    let first = c.find_near-class in
+    let share = HasWholeShare-kept c.args.shared.now before first.new.pass first.ensures.keeps whole in
+    let last = c.steer_from_nearest.ensures.whole share (HasCounted-kept before.view first.new.pass.view first.ensures.hand counted) in (
+      SeesButCount-trans before.view first.new.pass.view c.steer_from_nearest.new.pass.view (first.ensures.whole whole counted).0 last.0,
       last.1,
     )
