@@ -9,6 +9,15 @@ use crate::reading::mark_readers::read_mark;
 use plan_model::{Knot, Memory, Point, Record};
 use std::alloc::Global;
 
+/// The nodes at the front of a text.
+#[derive(Drop)]
+pub(crate) struct FrontNodes {
+    /// The nodes by number.
+    pub knots: Vec<Option<Knot>>,
+    /// How many they are.
+    pub count: u64,
+}
+
 /// The points of a path at the front of a text, at most so many, and what stands after their lines. O(n) for n bytes of them.
 ///
 /// # Errors
@@ -33,8 +42,8 @@ pub(crate) fn read_points(
     Ok((points, rest))
 }
 
-/// The nodes of a report over so many marks at the front of a text, at most so many: by number, how many they are, and what stands
-/// after their lines. O(n + m) for n bytes of them and m marks.
+/// The nodes of a report over so many marks at the front of a text, at most so many, and what stands after their lines. O(n + m) for n
+/// bytes of them and m marks.
 ///
 /// # Errors
 ///
@@ -44,25 +53,26 @@ pub(crate) fn read_nodes(
     text: &[u8],
     marks: u32,
     most: u64,
-) -> Result<(Vec<Option<Knot>>, u64, &[u8]), Memory>
+) -> Result<(FrontNodes, &[u8]), Memory>
     requires few { marks ≤ MOST_MARKS }
-    ensures { IfOk result (λ read. ReadsNodes marks most text.now read.0.items read.1 read.2.now) }
+    ensures { IfOk result (λ read. ReadsNodes marks most text.now read.0.knots.items read.0.count read.1.now) }
 {
     let mut knots = vec![in alloc; None; marks as usize + 1]?;
     let mut next = 0;
     let mut rest = text;
     for count in 0..most {
-        let Some((number, knot, after)) = read_node(rest, marks) else {
-            return Ok((knots, count, rest));
+        let Some((node, after)) = read_node(rest, marks) else {
+            return Ok((FrontNodes { knots, count }, rest));
         };
-        if !may_follow(number, next) {
-            return Ok((knots, count, rest));
+        if !may_follow(node.number, next) {
+            return Ok((FrontNodes { knots, count }, rest));
         }
-        knots[number as usize] = Some(knot);
-        next = number + 1;
+        knots[node.number as usize] = Some(node.knot);
+        next = node.number + 1;
         rest = after;
     }
-    Ok((knots, most, rest))
+    let nodes = FrontNodes { knots, count: most };
+    Ok((nodes, rest))
 }
 
 /// Whether a node may stand after nodes of lesser numbers than the next one's: the start if there is none yet.

@@ -17,6 +17,24 @@ const MOST_ORDINATE: u64 = MOST_COORDINATE as u64;
 /// The greatest cost of a report.
 pub(crate) const MOST_COST: u64 = (1 << 44) - 1;
 
+/// What the line of a path says.
+#[derive(Clone, Copy)]
+pub(crate) struct PathLine {
+    /// How many points it has.
+    pub points: u64,
+    /// What it costs.
+    pub cost: u64,
+}
+
+/// What the line of a node says.
+#[derive(Clone, Copy)]
+pub(crate) struct NumberedKnot {
+    /// Its number.
+    pub number: u32,
+    /// The node.
+    pub knot: Knot,
+}
+
 /// What stands after the line of a report without a path; `None` exactly if the text does not begin with that line. O(1).
 pub(crate) fn read_no_path(text: &[u8]) -> Option<&[u8]>
     ensures some { IfSome result (λ rest. text.now ≡ line_text NoPath ++ rest.now) }
@@ -27,15 +45,15 @@ pub(crate) fn read_no_path(text: &[u8]) -> Option<&[u8]>
 
 /// How many points a path has and what it costs, by its line, and what stands after the line; `None` exactly if the text does not begin
 /// with such a line. O(n) for n bytes of it.
-pub(crate) fn read_path(text: &[u8]) -> Option<(u64, u64, &[u8])>
-    ensures cost { IfSome result (λ read. read.1 < 2 ^ 44) }
-    ensures some { IfSome result (λ read. text.now ≡ line_text (PathOf read.0 read.1) ++ read.2.now) }
+pub(crate) fn read_path(text: &[u8]) -> Option<(PathLine, &[u8])>
+    ensures cost { IfSome result (λ read. read.0.cost < 2 ^ 44) }
+    ensures some { IfSome result (λ read. text.now ≡ line_text (PathOf read.0.points read.0.cost) ++ read.1.now) }
     ensures none { IfNone result ((points cost : ℕ) (rest : List ℕ) → points < 2 ^ 64 → cost < 2 ^ 44
         → ¬ (text.now ≡ line_text (PathOf points cost) ++ rest)) }
 {
     let (points, rest) = read_field(text, b"path ", b' ', u64::MAX)?;
     let (cost, rest) = read_field(rest, b"cost ", b'\n', MOST_COST)?;
-    Some((points, cost, rest))
+    Some((PathLine { points, cost }, rest))
 }
 
 /// A point of a path, and what stands after its line; `None` exactly if the text does not begin with such a line. O(n) for n bytes of it.
@@ -49,9 +67,10 @@ pub(crate) fn read_path_point(text: &[u8]) -> Option<(Point, &[u8])>
 
 /// A node's number and what its line says, and what stands after the line; `None` exactly if the text does not begin with such a line
 /// of a report over so many marks. O(n) for n bytes of it.
-pub(crate) fn read_node(text: &[u8], marks: u32) -> Option<(u32, Knot, &[u8])>
+pub(crate) fn read_node(text: &[u8], marks: u32) -> Option<(NumberedKnot, &[u8])>
     requires few { marks ≤ MOST_MARKS }
-    ensures some { IfSome result (λ read. FitsKnot marks read.0 read.1 × (text.now ≡ line_text (NodeLine read.0 read.1) ++ read.2.now)) }
+    ensures some { IfSome result (λ read. FitsKnot marks read.0.number read.0.knot
+        × (text.now ≡ line_text (NodeLine read.0.number read.0.knot) ++ read.1.now)) }
     ensures none { IfNone result ((n : ℕ) (knot : Knot) (rest : List ℕ) → FitsKnot marks n knot
         → ¬ (text.now ≡ line_text (NodeLine n knot) ++ rest)) }
 {
@@ -60,16 +79,13 @@ pub(crate) fn read_node(text: &[u8], marks: u32) -> Option<(u32, Knot, &[u8])>
     let (point, rest) = read_point(rest, b"at ", b' ')?;
     let (parent, rest) = read_field(rest, b"parent ", b' ', last)?;
     let (cost, rest) = read_field(rest, b"cost ", b'\n', MOST_COST)?;
-    let parent = parent as u32;
-    Some((
-        number as u32,
-        Knot {
-            point,
-            parent,
-            cost,
-        },
-        rest,
-    ))
+    let knot = Knot {
+        point,
+        parent: parent as u32,
+        cost,
+    };
+    let number = number as u32;
+    Some((NumberedKnot { number, knot }, rest))
 }
 
 /// A point within bounds, after a known word and before the byte that ends it, and what stands after that byte; `None` exactly if the text

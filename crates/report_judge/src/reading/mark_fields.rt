@@ -14,13 +14,36 @@ const MOST_WORKER: u64 = (1 << 6) - 1;
 /// The greatest turn and the greatest class that a record's word holds.
 const MOST_IN_WORD: u64 = (1 << 18) - 1;
 
+/// What the line of a mark begins with.
+#[derive(Clone, Copy)]
+pub(crate) struct MarkFront {
+    /// The number of the mark.
+    pub mark: u32,
+    /// The worker that handled it.
+    pub worker: u32,
+    /// In which of its turns.
+    pub turn: u32,
+}
+
+/// What a placed node was given first.
+#[derive(Clone, Copy)]
+pub(crate) struct FirstHanging {
+    /// Its parent.
+    pub parent: u32,
+    /// Its cost.
+    pub cost: u64,
+    /// The class of the number of nodes.
+    pub class: u32,
+}
+
 /// The mark, the worker and the turn of a line, and what stands after them; `None` exactly if the text does not begin so.
-pub(crate) fn read_turn(text: &[u8], marks: u32) -> Option<(u32, u32, u32, &[u8])>
+pub(crate) fn read_turn(text: &[u8], marks: u32) -> Option<(MarkFront, &[u8])>
     requires few { marks ≤ MOST_MARKS }
-    ensures fits { IfSome result (λ read. (read.0 ≤ marks) × (read.1 < 64) × (read.2 < 2 ^ 18)) }
-    ensures some { IfSome result (λ read. text.now ≡ mark_front read.0 read.1 read.2 read.3.now) }
+    ensures fits { IfSome result (λ read. (read.0.mark ≤ marks) × (read.0.worker < 64) × (read.0.turn < 2 ^ 18)) }
+    ensures some { IfSome result (λ read. text.now ≡ mark_front read.0.mark read.0.worker read.0.turn read.1.now) }
     ensures only { IfSome result (λ read. (number worker turn : ℕ) (rest : List ℕ) → number ≤ marks → worker < 64 → turn < 2 ^ 18
-        → text.now ≡ mark_front number worker turn rest → (read.0 ≡ number) × (read.1 ≡ worker) × (read.2 ≡ turn) × (read.3.now ≡ rest)) }
+        → text.now ≡ mark_front number worker turn rest
+        → (read.0.mark ≡ number) × (read.0.worker ≡ worker) × (read.0.turn ≡ turn) × (read.1.now ≡ rest)) }
     ensures none { IfNone result ((number worker turn : ℕ) (rest : List ℕ) → number ≤ marks → worker < 64 → turn < 2 ^ 18
         → ¬ (text.now ≡ mark_front number worker turn rest)) }
 {
@@ -28,7 +51,12 @@ pub(crate) fn read_turn(text: &[u8], marks: u32) -> Option<(u32, u32, u32, &[u8]
     let (number, rest) = read_field(text, b"mark ", b' ', last)?;
     let (worker, rest) = read_field(rest, b"worker ", b' ', MOST_WORKER)?;
     let (turn, rest) = read_field(rest, b"turn ", b' ', MOST_IN_WORD)?;
-    Some((number as u32, worker as u32, turn as u32, rest))
+    let front = MarkFront {
+        mark: number as u32,
+        worker: worker as u32,
+        turn: turn as u32,
+    };
+    Some((front, rest))
 }
 
 /// The nearest node of a mark, and what stands after it; `None` exactly if the line does not go on so.
@@ -44,11 +72,11 @@ pub(crate) fn read_nearest(text: &[u8], marks: u32) -> Option<(u32, &[u8])>
 
 /// After its nearest node, the class, the first parent and the first cost of a mark that was placed; `None` exactly if the line does not go
 /// on so.
-pub(crate) fn read_placed(text: &[u8], marks: u32) -> Option<(u32, u32, u64, &[u8])>
+pub(crate) fn read_placed(text: &[u8], marks: u32) -> Option<(FirstHanging, &[u8])>
     requires few { marks ≤ MOST_MARKS }
-    ensures fits { IfSome result (λ read. (read.0 < 2 ^ 18) × (read.1 ≤ marks) × (read.2 < 2 ^ 44)) }
-    ensures some { IfSome result (λ read. text.now
-        ≡ line (codes "placed" ∷ codes "class" ∷ decimal read.0 ∷ codes "first" ∷ decimal read.1 ∷ decimal read.2 ∷ []) ++ read.3.now) }
+    ensures fits { IfSome result (λ read. (read.0.class < 2 ^ 18) × (read.0.parent ≤ marks) × (read.0.cost < 2 ^ 44)) }
+    ensures some { IfSome result (λ read. text.now ≡ line
+        (codes "placed" ∷ codes "class" ∷ decimal read.0.class ∷ codes "first" ∷ decimal read.0.parent ∷ decimal read.0.cost ∷ []) ++ read.1.now) }
     ensures none { IfNone result ((class parent cost : ℕ) (rest : List ℕ) → class < 2 ^ 18 → parent ≤ marks → cost < 2 ^ 44
         → ¬ (text.now ≡ line (codes "placed" ∷ codes "class" ∷ decimal class ∷ codes "first" ∷ decimal parent ∷ decimal cost ∷ []) ++ rest)) }
 {
@@ -56,7 +84,12 @@ pub(crate) fn read_placed(text: &[u8], marks: u32) -> Option<(u32, u32, u64, &[u
     let (class, rest) = read_field(text, b"placed class ", b' ', MOST_IN_WORD)?;
     let (parent, rest) = read_field(rest, b"first ", b' ', last)?;
     let (cost, rest) = read_field(rest, b"", b'\n', MOST_COST)?;
-    Some((class as u32, parent as u32, cost, rest))
+    let first = FirstHanging {
+        parent: parent as u32,
+        cost,
+        class: class as u32,
+    };
+    Some((first, rest))
 }
 
 /// After its nearest node, the node at which a mark ended; `None` exactly if the line does not go on so.

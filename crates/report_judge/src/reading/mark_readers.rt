@@ -22,11 +22,11 @@ pub(crate) fn read_mark(text: &[u8], k: u32, marks: u32, informed: bool) -> Opti
     ensures none { IfNone result ((entry : Record) (rest : List ℕ) → FitsEntry (record { marks = marks; informed = informed }) entry
         → ¬ (text.now ≡ line_text (MarkLine k entry) ++ rest)) }
 {
-    let (number, worker, turn, rest) = read_turn(text, marks)?;
-    if number != k {
+    let (front, rest) = read_turn(text, marks)?;
+    if front.mark != k {
         return None;
     }
-    let (entry, rest) = read_outcome(rest, worker, turn, marks, informed)?;
+    let (entry, rest) = read_outcome(rest, front.worker, front.turn, marks, informed)?;
     Some((entry, rest))
 }
 
@@ -77,15 +77,15 @@ fn read_steered(
     ensures none { (informed : Bool) → IfNone result ((entry : Record) (rest : List ℕ) → FitsEntry (record { marks = marks; informed = informed }) entry
         → ¬ (field (codes "nearest ") nearest 32 text.now ≡ line (ending_words (ending_of entry)) ++ rest)) }
 {
-    if let Some((class, first_parent, first_cost, rest)) = read_placed(text, marks) {
+    if let Some((first, rest)) = read_placed(text, marks) {
         let entry = Record {
             worker,
             turn,
             nearest,
             outcome: Outcome::Placed,
-            first_parent,
-            first_cost,
-            class,
+            first_parent: first.parent,
+            first_cost: first.cost,
+            class: first.class,
         };
         return Some((entry, rest));
     }

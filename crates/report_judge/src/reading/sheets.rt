@@ -54,9 +54,9 @@ pub(crate) fn read_sheet(
     let Some((tally, rest)) = read_counts(rest, informed) else {
         return Ok(Err(counts_line));
     };
-    let (knots, nodes, rest) = read_nodes(alloc, rest, marks, tally.nodes)?;
-    let nodes_end = counts_line + nodes as usize;
-    if nodes == 0 || nodes < tally.nodes {
+    let (nodes, rest) = read_nodes(alloc, rest, marks, tally.nodes)?;
+    let nodes_end = counts_line + nodes.count as usize;
+    if nodes.count == 0 || nodes.count < tally.nodes {
         return Ok(Err(nodes_end + 1));
     }
     let (records, rest) = read_records(alloc, rest, marks, informed)?;
@@ -66,7 +66,7 @@ pub(crate) fn read_sheet(
     Ok(Ok(SheetRead {
         path,
         tally,
-        knots,
+        knots: nodes.knots,
         records,
     }))
 }
@@ -84,14 +84,18 @@ fn read_path_lines(
     if let Some(rest) = read_no_path(report) {
         return Ok(Ok((None, rest)));
     }
-    let Some((count, cost, rest)) = read_path(report) else {
+    let Some((line, rest)) = read_path(report) else {
         return Ok(Err(1));
     };
-    let (points, rest) = read_points(alloc, rest, count)?;
-    if (points.len() as u64) < count {
+    let (points, rest) = read_points(alloc, rest, line.points)?;
+    if (points.len() as u64) < line.points {
         return Ok(Err(points.len() + 2));
     }
-    Ok(Ok((Some(CostedPath { points, cost }), rest)))
+    let path = CostedPath {
+        points,
+        cost: line.cost,
+    };
+    Ok(Ok((Some(path), rest)))
 }
 
 /// How many lines a report has of its path. O(1).

@@ -38,22 +38,22 @@ returns-in_err-same-clause-none c =
     let placed = c.in_ok-placed.ensures.only tally.placed (from_same tally rest) (omega (arith, fits.placed)) nodes.1 in
     c.in_err-same.ensures.none tally.same (from_blocked tally rest) (omega (arith, fits.same)) placed.1)
 
-pub returns-in_err-blocked-clause-none : goal.returns-in_err-blocked-clause-none
-returns-in_err-blocked-clause-none c =
-    none_always c.from_residual-in_err-blocked.result (HasNoCounts c.args.informed c.args.text.now)
+pub returns-in_err-last-clause-none : goal.returns-in_err-last-clause-none
+returns-in_err-last-clause-none c =
+    none_always c.from_residual-in_err-last.result (HasNoCounts c.args.informed c.args.text.now)
     (λ tally rest fits e.
     let nodes = c.in_ok-nodes.ensures.only tally.nodes (from_placed tally rest) (omega (arith, fits.nodes)) (e ∙ parts-counts tally rest) in
     let placed = c.in_ok-placed.ensures.only tally.placed (from_same tally rest) (omega (arith, fits.placed)) nodes.1 in
     let same = c.in_ok-same.ensures.only tally.same (from_blocked tally rest) (omega (arith, fits.same)) placed.1 in
-    c.in_err-blocked.ensures.none tally.blocked tally.skipped rest fits.blocked fits.skipped same.1)
+    c.in_err-last.ensures.none tally.blocked tally.skipped rest fits.blocked fits.skipped same.1)
 
 pub returns-clause-fits : goal.returns-clause-fits
 returns-clause-fits c = record {
   nodes = omega (arith, c.in_ok-nodes.ensures.some.0);
   placed = omega (arith, c.in_ok-placed.ensures.some.0);
   same = omega (arith, c.in_ok-same.ensures.some.0);
-  blocked = c.in_ok-blocked.ensures.fits.0;
-  skipped = c.in_ok-blocked.ensures.fits.1;
+  blocked = c.in_ok-last.ensures.fits.0;
+  skipped = c.in_ok-last.ensures.fits.1;
 }
 
 pub returns-clause-some : goal.returns-clause-some
@@ -63,9 +63,9 @@ returns-clause-some c =
       nodes = c.in_ok-nodes.nodes;
       placed = c.in_ok-placed.placed;
       same = c.in_ok-same.same;
-      blocked = c.in_ok-blocked.blocked;
-      skipped = c.in_ok-blocked.skipped;
+      blocked = c.in_ok-last.last.blocked;
+      skipped = c.in_ok-last.last.skipped;
     } in
-    let from_sames = c.in_ok-same.ensures.some.1 ∙ ap (field (codes "same ") tally.same 32) c.in_ok-blocked.ensures.some in
+    let from_sames = c.in_ok-same.ensures.some.1 ∙ ap (field (codes "same ") tally.same 32) c.in_ok-last.ensures.some in
     let from_placeds = c.in_ok-placed.ensures.some.1 ∙ ap (field (codes "placed ") tally.placed 32) from_sames in
-    c.in_ok-nodes.ensures.some.1 ∙ ap (field (codes "nodes ") tally.nodes 32) from_placeds ∙ sym (parts-counts tally c.in_ok-blocked.rest.now)
+    c.in_ok-nodes.ensures.some.1 ∙ ap (field (codes "nodes ") tally.nodes 32) from_placeds ∙ sym (parts-counts tally c.in_ok-last.rest.now)

@@ -11,7 +11,7 @@ loop-count-init c =
 pub loop-count-preserved : goal.loop-count-preserved
 loop-count-preserved c =
     HasRead-more c.args.marks c.args.text.now c.loop-count.knots.items c.loop-count.count c.loop-count.next c.loop-count.rest.now c.in-Some.after.now
-    c.in-Some.number c.in-Some.knot c.loop-count.invariant (c.may_follow.ensures.follows c.if-not-may_follow.false) c.in-Some.ensures.some.0
+    c.in-Some.node.number c.in-Some.node.knot c.loop-count.invariant (c.may_follow.ensures.follows c.if-not-may_follow.false) c.in-Some.ensures.some.0
     c.in-Some.ensures.some.1
 
 pub returns-in_default : goal.returns-in_default
@@ -25,7 +25,7 @@ returns-then-not-may_follow c =
     c.loop-count.invariant (omega (arith, c.loop-count-test.true))
     (λ low n knot after next fits e.
     let few : c.args.marks < 2 ^ 64 = omega (arith, c.requires.few) in
-    let same = other_node c.args.marks few c.loop-count.rest.now c.in-Some.after.now c.in-Some.number c.in-Some.knot c.in-Some.ensures.some.0
+    let same = other_node c.args.marks few c.loop-count.rest.now c.in-Some.after.now c.in-Some.node.number c.in-Some.node.knot c.in-Some.ensures.some.0
     c.in-Some.ensures.some.1 n knot after fits e in
     c.may_follow.ensures.only c.if-not-may_follow.true (subst (IsNextNode c.loop-count.next) (sym same) next))
 

@@ -3,12 +3,12 @@ use Rattle.report_judge.proofs.Texts.FieldWords.{none_always}
 use Rattle.report_judge.proofs.Texts.MarkParts.{parts-mark}
 use Rattle.report_judge.proofs.reading.mark_readers.read_mark.Goals as goal
 
-pub returns-then-number-k-clause-none : goal.returns-then-number-k-clause-none
-returns-then-number-k-clause-none c = λ entry rest fits e.
+pub returns-then-front-k-clause-none : goal.returns-then-front-k-clause-none
+returns-then-front-k-clause-none c = λ entry rest fits e.
     let read =
-    c.in_ok-number.ensures.only c.args.k entry.worker entry.turn (line (ending_words (ending_of entry)) ++ rest)
+    c.in_ok-front.ensures.only c.args.k entry.worker entry.turn (line (ending_words (ending_of entry)) ++ rest)
     (omega (arith, c.requires.low)) fits.words.word.worker fits.words.word.turn (e ∙ parts-mark c.args.k entry rest) in
-    c.if-number-k.true read.0
+    c.if-front-k.true read.0
 
 pub returns-in_err-entry-clause-none : goal.returns-in_err-entry-clause-none
 returns-in_err-entry-clause-none c =
@@ -17,6 +17,6 @@ returns-in_err-entry-clause-none c =
     → c.args.text.now ≡ line_text (MarkLine c.args.k entry) ++ rest → ⊥)
     (λ entry rest fits e.
     let read =
-    c.in_ok-number.ensures.only c.args.k entry.worker entry.turn (line (ending_words (ending_of entry)) ++ rest)
+    c.in_ok-front.ensures.only c.args.k entry.worker entry.turn (line (ending_words (ending_of entry)) ++ rest)
     (omega (arith, c.requires.low)) fits.words.word.worker fits.words.word.turn (e ∙ parts-mark c.args.k entry rest) in
     c.in_err-entry.ensures.none entry rest fits read.3)

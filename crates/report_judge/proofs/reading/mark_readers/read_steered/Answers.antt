@@ -13,7 +13,7 @@ line_of nearest text first more rest entry is words =
 
 pub returns-in-Some-clause-some : goal.returns-in-Some-clause-some
 returns-in-Some-clause-some c =
-    let more = codes "class" ∷ decimal c.in-Some.class ∷ codes "first" ∷ decimal c.in-Some.first_parent ∷ decimal c.in-Some.first_cost ∷ [] in
+    let more = codes "class" ∷ decimal c.in-Some.first.class ∷ codes "first" ∷ decimal c.in-Some.first.parent ∷ decimal c.in-Some.first.cost ∷ [] in
     ap (field (codes "nearest ") c.args.nearest 32) c.in-Some.ensures.some ∙ sym (nearest_first c.args.nearest (codes "placed") more c.in-Some.rest.now)
 
 pub returns-in-Some-read_same-clause-some : goal.returns-in-Some-read_same-clause-some

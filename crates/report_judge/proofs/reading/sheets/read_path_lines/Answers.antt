@@ -6,11 +6,11 @@ pub returns-in_default-read_path-clause-broken : goal.returns-in_default-read_pa
 returns-in_default-read_path-clause-broken c =
     λ extent. breaks_first extent c.args.report.now c.in_default.ensures.none c.in_default-read_path.ensures.none
 
-pub returns-then-len-count-clause-broken : goal.returns-then-len-count-clause-broken
-returns-then-len-count-clause-broken c = λ extent.
+pub returns-then-len-line-clause-broken : goal.returns-then-len-line-clause-broken
+returns-then-len-line-clause-broken c = λ extent.
     let points : List Point = c.in_ok-points.points.items in
-    let number : length points + 2 ≡ c.len-then-len-count.result + 2 = omega (arith, c.len-then-len-count.ensures, c.in_ok-points.points.ok) in
+    let number : length points + 2 ≡ c.len-then-len-line.result + 2 = omega (arith, c.len-then-len-line.ensures, c.in_ok-points.points.ok) in
     subst (BreaksFormFirst extent c.args.report.now) number
-    (breaks_points extent c.args.report.now c.in-Some-read_path.rest.now c.in-Some-read_path.count c.in-Some-read_path.cost
+    (breaks_points extent c.args.report.now c.in-Some-read_path.rest.now c.in-Some-read_path.line.points c.in-Some-read_path.line.cost
     c.in-Some-read_path.ensures.some c.in-Some-read_path.ensures.cost (search rules) points c.in_ok-points.rest.now c.in_ok-points.ensures
-    (omega (arith, c.if-len-count.true, c.len.ensures, c.in_ok-points.points.ok)))
+    (omega (arith, c.if-len-line.true, c.len.ensures, c.in_ok-points.points.ok)))
