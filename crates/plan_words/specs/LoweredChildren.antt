@@ -9,6 +9,7 @@ use Rattle.plan_words.specs.Bests.{KeepsOrPosts}
 use Rattle.plan_words.specs.States.{GoesOn, SharedState, run_in}
 use Rattle.plan_words.specs.Waiting.{HasSeenParent}
 use Rattle.plan_words.specs.declared.lowered_children.Above.{Above}
+use Rattle.plan_words.specs.declared.lowered_children.FoundChild.{FoundChild}
 use Rattle.plan_words.specs.declared.openings.Aim.{Aim}
 use Rattle.step_core.specs.LaterViews.{HasLooked, IsLawfulView}
 use Rattle.step_core.specs.SeenBests.{SeesGoal}
@@ -73,9 +74,9 @@ abbrev pub IsFound : Option ℕ → ℕ → Type 0
 IsFound None n = ⊥
 IsFound (Some child) n = child ≡ n
 
-abbrev pub IsFoundPair : Option (ℕ × ℕ) → ℕ → Type 0
-IsFoundPair None n = ⊥
-IsFoundPair (Some found) n = found.0 ≡ n
+abbrev pub IsFoundChild : Option FoundChild → ℕ → Type 0
+IsFoundChild None n = ⊥
+IsFoundChild (Some found) n = found.node ≡ n
 
 -- Each node that is seen with another parent or cost is a child of node m that is lowered, unless it is one of these.
 abbrev pub LowersChildren : (ℕ → Type 0) → View → View → ℕ → Type 0

@@ -5,7 +5,7 @@ ghost use Rattle.std.specs.Prelude.{slice_index, slice_set};
 ghost use Rattle.std.specs.Vec.{vec_capacity};
 ghost use Rattle.plan_model.specs.Geometry.Bounds.{IsBounded};
 ghost use Rattle.plan_words.specs.Claims.{SeesAsBefore};
-ghost use Rattle.plan_words.specs.LoweredChildren.{CostsAtMostThrough, HasQueued, IsFound, IsFoundPair, IsSeenAbove, LooksOn, LowersChildren};
+ghost use Rattle.plan_words.specs.LoweredChildren.{CostsAtMostThrough, HasQueued, IsFound, IsFoundChild, IsSeenAbove, LooksOn, LowersChildren};
 ghost use Rattle.plan_words.specs.LoweredChildren.{PostsChanged, SeesSamePoints, SitsAt};
 ghost use Rattle.plan_words.specs.Parents.{FindsLess};
 ghost use Rattle.plan_words.specs.SeenChains.{sibling_chain_in};
@@ -42,6 +42,13 @@ pub(crate) struct Above {
 pub(crate) struct Lowering<'a> {
     pub(crate) shared: &'a Shared,
     pub(crate) above: Above,
+}
+
+/// A child that is not lowered, since another word was found at it, with that word.
+#[derive(Clone, Copy)]
+pub(crate) struct FoundChild {
+    pub(crate) node: u32,
+    pub(crate) word: u64,
 }
 
 impl Shared {
@@ -85,14 +92,14 @@ impl Shared {
             shared: self,
             above: Above { node, point, cost },
         };
-        let (child, word) = pass.pairs.lower_children(
+        let found = pass.pairs.lower_children(
             from,
             &mut pass.seat,
             &mut pass.hand,
             &mut pass.lists.waiting,
         )?;
-        pass.pairs.set(child, word);
-        Some(child)
+        pass.pairs.set(found.node, found.word);
+        Some(found.node)
     }
 
     /// Lowers a child to what it costs through its parent, if that is less, and posts it then if it lies in a goal by which marks are
@@ -176,7 +183,7 @@ pub(crate) fn lower_chain(
     seat: &mut Seat<Aim, View>,
     hand: &mut Option<Hand>,
     waiting: &mut Waiting,
-) -> Option<(u32, u64)>
+) -> Option<FoundChild>
     requires index { IndexesChains (length words.old.items) (sibling_chain_in words.old.items) children.now }
     requires sits { SitsAt from.shared.now seat.old.table_id seat.old.me }
     requires held { hand.old ≡ seat.old.me.0.hand }
@@ -192,15 +199,15 @@ pub(crate) fn lower_chain(
     ensures held { hand.new ≡ seat.new.me.0.hand }
     ensures looks { LooksOn seat.old.me.0 seat.new.me.0 }
     ensures pairs { IfNone result (HasFirstPairs seat.new.me.0 words.new.items) }
-    ensures pairs_found { IfSome result (λ found. (found.0 < length words.old.items)
-        × HasFirstPairs seat.new.me.0 (slice_set words.new.items found.0 found.1)) }
+    ensures pairs_found { IfSome result (λ found. (found.node < length words.old.items)
+        × HasFirstPairs seat.new.me.0 (slice_set words.new.items found.node found.word)) }
     ensures size { waiting.new ≡ record waiting.old { nodes = waiting.new.nodes } }
-    ensures lowered { LowersChildren (IsFoundPair result) seat.old.me.0 seat.new.me.0 from.entry.above.node }
-    ensures posted { PostsChanged (IsFoundPair result) seat.old.me.0 seat.new.me.0 }
+    ensures lowered { LowersChildren (IsFoundChild result) seat.old.me.0 seat.new.me.0 from.entry.above.node }
+    ensures posted { PostsChanged (IsFoundChild result) seat.old.me.0 seat.new.me.0 }
     ensures all { IfNone result ((n : ℕ) → HasSeenParent seat.new.me.0 from.entry.above.node n → CostsAtMostThrough seat.new.me.0 from.entry.above.node n) }
-    ensures found { IfSome result (λ found. HasSeenParent seat.old.me.0 from.entry.above.node found.0
-        × FindsLess (sees seat.old.me.0 (TreeOf found.0)) (sees seat.new.me.0 (TreeOf found.0))) }
-    ensures parents { (n m : ℕ) → ¬ IsFoundPair result n → ¬ IsFoundPair result m
+    ensures found { IfSome result (λ found. HasSeenParent seat.old.me.0 from.entry.above.node found.node
+        × FindsLess (sees seat.old.me.0 (TreeOf found.node)) (sees seat.new.me.0 (TreeOf found.node))) }
+    ensures parents { (n m : ℕ) → ¬ IsFoundChild result n → ¬ IsFoundChild result m
         → cost_in (sees seat.new.me.0 (TreeOf n)) < cost_in (sees seat.old.me.0 (TreeOf n)) → HasSeenParent seat.new.me.0 n m → IsOn waiting.new.nodes n }
     ensures keeps { (n : ℕ) → IsOn waiting.old.nodes n → IsOn waiting.new.nodes n }
     ensures only { (n : ℕ) → IsOn waiting.new.nodes n → IsOn waiting.old.nodes n ⊎ HasSeenParent seat.old.me.0 from.entry.above.node n }
@@ -216,7 +223,12 @@ pub(crate) fn lower_chain(
         let has_child = children.first_child(child) != 0;
         let word = match from.shared.lower_child(seat, hand, from.above, child, seen) {
             Ok(word) => word,
-            Err(found) => return Some((child, found)),
+            Err(found) => {
+                return Some(FoundChild {
+                    node: child,
+                    word: found,
+                });
+            }
         };
         write_down(words, has_child, waiting, child, word);
         child = next;

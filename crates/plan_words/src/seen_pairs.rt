@@ -2,7 +2,7 @@
 
 ghost use Rattle.std.specs.Prelude.{◌≡◌, ◌⊎◌, ℕ, suc, ◌<◌, ◌≤◌, ◌^◌, length, slice_index, slice_set, IfNone, IfOk, IfSome, IsTrue, None, [], ◌∷◌, ◌+◌};
 ghost use Rattle.std.specs.Vec.{vec_capacity};
-ghost use Rattle.plan_words.specs.LoweredChildren.{CostsAtMostThrough, HasQueued, IsFoundPair, IsSeenAbove, LooksOn, LowersChildren, PostsChanged};
+ghost use Rattle.plan_words.specs.LoweredChildren.{CostsAtMostThrough, HasQueued, IsFoundChild, IsSeenAbove, LooksOn, LowersChildren, PostsChanged};
 ghost use Rattle.plan_words.specs.LoweredChildren.{SeesSamePoints, SitsAt};
 ghost use Rattle.plan_words.specs.Parents.{FindsLess};
 ghost use Rattle.plan_words.specs.SeenChains.{AreSeenFirst, MayReach, Reaches, chain_of, sibling_chain_in};
@@ -13,7 +13,7 @@ ghost use Rattle.step_core.specs.Views.{sees, share};
 ghost use Rattle.grown_runs.specs.Table.WordNames.Word.{TreeOf};
 ghost use Rattle.grown_runs.specs.Table.Words.{cost_in, parent_in};
 
-use crate::lowered_children::{Lowering, lower_chain};
+use crate::lowered_children::{FoundChild, Lowering, lower_chain};
 use crate::openings::Aim;
 use crate::waiting::Waiting;
 use atomic_table::Seat;
@@ -141,7 +141,7 @@ impl SeenPairs {
         seat: &mut Seat<Aim, View>,
         hand: &mut Option<Hand>,
         waiting: &mut Waiting,
-    ) -> Option<(u32, u64)>
+    ) -> Option<FoundChild>
         requires sits { SitsAt from.shared.now seat.old.table_id seat.old.me }
         requires held { hand.old ≡ seat.old.me.0.hand }
         requires part { 0 < share seat.old.me.0 }
@@ -153,14 +153,14 @@ impl SeenPairs {
         ensures held { hand.new ≡ seat.new.me.0.hand }
         ensures looks { LooksOn seat.old.me.0 seat.new.me.0 }
         ensures pairs { IfNone result (HasPairs seat.new.me.0 self.new) }
-        ensures pairs_found { IfSome result (λ found. HasPairs seat.new.me.0 (slice_set self.new found.0 found.1)) }
+        ensures pairs_found { IfSome result (λ found. HasPairs seat.new.me.0 (slice_set self.new found.node found.word)) }
         ensures size { waiting.new ≡ record waiting.old { nodes = waiting.new.nodes } }
-        ensures lowered { LowersChildren (IsFoundPair result) seat.old.me.0 seat.new.me.0 from.entry.above.node }
-        ensures posted { PostsChanged (IsFoundPair result) seat.old.me.0 seat.new.me.0 }
+        ensures lowered { LowersChildren (IsFoundChild result) seat.old.me.0 seat.new.me.0 from.entry.above.node }
+        ensures posted { PostsChanged (IsFoundChild result) seat.old.me.0 seat.new.me.0 }
         ensures all { IfNone result ((n : ℕ) → HasSeenParent seat.new.me.0 from.entry.above.node n → CostsAtMostThrough seat.new.me.0 from.entry.above.node n) }
-        ensures found { IfSome result (λ found. HasSeenParent seat.old.me.0 from.entry.above.node found.0
-            × FindsLess (sees seat.old.me.0 (TreeOf found.0)) (sees seat.new.me.0 (TreeOf found.0))) }
-        ensures parents { (n m : ℕ) → ¬ IsFoundPair result n → ¬ IsFoundPair result m
+        ensures found { IfSome result (λ found. HasSeenParent seat.old.me.0 from.entry.above.node found.node
+            × FindsLess (sees seat.old.me.0 (TreeOf found.node)) (sees seat.new.me.0 (TreeOf found.node))) }
+        ensures parents { (n m : ℕ) → ¬ IsFoundChild result n → ¬ IsFoundChild result m
             → cost_in (sees seat.new.me.0 (TreeOf n)) < cost_in (sees seat.old.me.0 (TreeOf n)) → HasSeenParent seat.new.me.0 n m → IsOn waiting.new.nodes n }
         ensures keeps { (n : ℕ) → IsOn waiting.old.nodes n → IsOn waiting.new.nodes n }
         ensures only { (n : ℕ) → IsOn waiting.new.nodes n → IsOn waiting.old.nodes n ⊎ HasSeenParent seat.old.me.0 from.entry.above.node n }

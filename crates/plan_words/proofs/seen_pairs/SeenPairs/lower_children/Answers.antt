@@ -58,5 +58,5 @@ returns-clause-pairs_found c =
     let at = (goal.at.returns-clause-pairs_found c).After-lower_chain in
     IfSome_then c.lower_chain.result c.lower_chain.ensures.pairs_found
     (λ found has.
-    HasPairs-first_set c.lower_chain.new.seat.me.0 c.self.inside.nodes c.lower_chain.new.words.items found.0 found.1 (within at) (all at)
+    HasPairs-first_set c.lower_chain.new.seat.me.0 c.self.inside.nodes c.lower_chain.new.words.items found.node found.word (within at) (all at)
     (omega (arith, has.0, c.lower_chain.ensures.as_many)) has.1)

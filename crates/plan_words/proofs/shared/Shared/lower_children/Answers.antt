@@ -74,33 +74,33 @@ pub invariant_of-pass : goal.invariant_of-pass
 invariant_of-pass c =
     let kept = c.lower_children.ensures in
     Keeps-looked c.pass.inside.seat.me c.lower_children.new.seat.me _ _ _ _ _ _ _ _ c.pass.inside.pairs _ c.pass.invariant kept.looks.goes_on
-    kept.looks.kept.crew kept.sits.slots kept.held (ap (λ w. w.size) kept.size) c.in_err-child.ensures.pairs
+    kept.looks.kept.crew kept.sits.slots kept.held (ap (λ w. w.size) kept.size) c.in_err-found.ensures.pairs
 
-pub returns-in_err-child-clause-looks : goal.returns-in_err-child-clause-looks
-returns-in_err-child-clause-looks c = looks_at (goal.at.returns-in_err-child-clause-looks c).After-lower_children
+pub returns-in_err-found-clause-looks : goal.returns-in_err-found-clause-looks
+returns-in_err-found-clause-looks c = looks_at (goal.at.returns-in_err-found-clause-looks c).After-lower_children
 
-pub returns-in_err-child-clause-keeps : goal.returns-in_err-child-clause-keeps
-returns-in_err-child-clause-keeps c = keeps_at (goal.at.returns-in_err-child-clause-keeps c).After-lower_children
+pub returns-in_err-found-clause-keeps : goal.returns-in_err-found-clause-keeps
+returns-in_err-found-clause-keeps c = keeps_at (goal.at.returns-in_err-found-clause-keeps c).After-lower_children
 
-pub returns-in_err-child-clause-only : goal.returns-in_err-child-clause-only
-returns-in_err-child-clause-only c = only_at (goal.at.returns-in_err-child-clause-only c).After-lower_children
+pub returns-in_err-found-clause-only : goal.returns-in_err-found-clause-only
+returns-in_err-found-clause-only c = only_at (goal.at.returns-in_err-found-clause-only c).After-lower_children
 
-pub returns-in_err-child-clause-same : goal.returns-in_err-child-clause-same
-returns-in_err-child-clause-same c = same_waiting (goal.at.returns-in_err-child-clause-same c).After-lower_children
+pub returns-in_err-found-clause-same : goal.returns-in_err-found-clause-same
+returns-in_err-found-clause-same c = same_waiting (goal.at.returns-in_err-found-clause-same c).After-lower_children
 
 -- the child that was found is one of the list
 pub set-requires-clause-node : goal.set-requires-clause-node
 set-requires-clause-node c =
-    let within = within-written c.pass.inside.seat.me.0 c.in_ok-child.child c.in_ok-child.ensures.found.0.written in
+    let within = within-written c.pass.inside.seat.me.0 c.in_ok-found.found.node c.in_ok-found.ensures.found.0.written in
     omega (arith, within, c.pass.invariant.3.for_each, c.lower_children.ensures.as_many)
 
 pub set-requires-clause-parent : goal.set-requires-clause-parent
 set-requires-clause-parent c =
     let kept = c.lower_children.ensures in
-    let within = within-written c.pass.inside.seat.me.0 c.in_ok-child.child c.in_ok-child.ensures.found.0.written in
-    keeps_parent c.lower_children.new.seat.me _ _ _ _ _ _ c.lower_children.new.self c.in_ok-child.child c.in_ok-child.word
+    let within = within-written c.pass.inside.seat.me.0 c.in_ok-found.found.node c.in_ok-found.ensures.found.0.written in
+    keeps_parent c.lower_children.new.seat.me _ _ _ _ _ _ c.lower_children.new.self c.in_ok-found.found.node c.in_ok-found.found.word
     (Keeps-looked c.pass.inside.seat.me c.lower_children.new.seat.me _ _ _ _ _ _ _ c.lower_children.new.waiting.size c.pass.inside.pairs _ c.pass.invariant
-    kept.looks.goes_on kept.looks.kept.crew kept.sits.slots kept.held (ap (λ w. w.size) kept.size) c.in_ok-child.ensures.pairs_found)
+    kept.looks.goes_on kept.looks.kept.crew kept.sits.slots kept.held (ap (λ w. w.size) kept.size) c.in_ok-found.ensures.pairs_found)
     (omega (arith, within, c.pass.invariant.3.for_each, kept.as_many))
 
 pub invariant_of-pass-2 : goal.invariant_of-pass-2
@@ -108,7 +108,7 @@ invariant_of-pass-2 c =
     let kept = c.lower_children.ensures in
     rw c.set.ensures
     (Keeps-looked c.pass.inside.seat.me c.lower_children.new.seat.me _ _ _ _ _ _ _ _ c.pass.inside.pairs _ c.pass.invariant kept.looks.goes_on
-    kept.looks.kept.crew kept.sits.slots kept.held (ap (λ w. w.size) kept.size) c.in_ok-child.ensures.pairs_found)
+    kept.looks.kept.crew kept.sits.slots kept.held (ap (λ w. w.size) kept.size) c.in_ok-found.ensures.pairs_found)
 
 pub returns-clause-looks : goal.returns-clause-looks
 returns-clause-looks c = looks_at (goal.at.returns-clause-looks c).After-lower_children
@@ -117,7 +117,7 @@ pub returns-clause-lowered : goal.returns-clause-lowered
 returns-clause-lowered c =
     let at = (goal.at.returns-clause-lowered c).After-lower_children in
     LowersChildren-since c.args.pass.now.view c.pass.inside.seat.me.0 c.lower_children.new.seat.me.0 c.args.node (same_at at)
-    (λ n. c.in_ok-child.child ≡ n) c.in_ok-child.ensures.lowered
+    (λ n. c.in_ok-found.found.node ≡ n) c.in_ok-found.ensures.lowered
 
 at_point : (c : After-lower_children) → GoesOn c.args.pass.now.view c.pass.inside.seat.me.0
 at_point c = subst (λ p. GoesOn c.args.pass.now.view p.view) (sym c.pass.view_is) c.point-point.ensures.goes_on
@@ -126,18 +126,18 @@ pub returns-clause-posted : goal.returns-clause-posted
 returns-clause-posted c =
     let at = (goal.at.returns-clause-posted c).After-lower_children in
     PostsChanged-since c.args.pass.now.view c.pass.inside.seat.me.0 c.lower_children.new.seat.me.0 c.args.node (same_at at)
-    (λ n. c.in_ok-child.child ≡ n) (at_point at) c.in_ok-child.ensures.posted
+    (λ n. c.in_ok-found.found.node ≡ n) (at_point at) c.in_ok-found.ensures.posted
 
-pub returns-in_err-child-clause-posted : goal.returns-in_err-child-clause-posted
-returns-in_err-child-clause-posted c n off changed on_goal =
-    let at = (goal.at.returns-in_err-child-clause-posted c).After-lower_children in
+pub returns-in_err-found-clause-posted : goal.returns-in_err-found-clause-posted
+returns-in_err-found-clause-posted c n off changed on_goal =
+    let at = (goal.at.returns-in_err-found-clause-posted c).After-lower_children in
     PostsChanged-since c.args.pass.now.view c.pass.inside.seat.me.0 c.lower_children.new.seat.me.0 c.args.node (same_at at)
-    (λ n. ⊥) (at_point at) c.in_err-child.ensures.posted n (λ no. no) changed on_goal
+    (λ n. ⊥) (at_point at) c.in_err-found.ensures.posted n (λ no. no) changed on_goal
 
 pub returns-clause-parents : goal.returns-clause-parents
 returns-clause-parents c n m off off_too less own =
     let at = (goal.at.returns-clause-parents c).After-lower_children in
-    c.in_ok-child.ensures.parents n m off off_too (omega (arith, less, ap cost_in (same_at at n))) own
+    c.in_ok-found.ensures.parents n m off off_too (omega (arith, less, ap cost_in (same_at at n))) own
 
 pub returns-clause-keeps : goal.returns-clause-keeps
 returns-clause-keeps c = keeps_at (goal.at.returns-clause-keeps c).After-lower_children
@@ -162,19 +162,19 @@ points_at c all n =
       | inr apart ↦ c.point-point.ensures.seen.others (PointOf n) apart
     ]
 
-pub returns-in_err-child-clause-points : goal.returns-in_err-child-clause-points
-returns-in_err-child-clause-points c = points_at (goal.at.returns-in_err-child-clause-points c).After-lower_children
+pub returns-in_err-found-clause-points : goal.returns-in_err-found-clause-points
+returns-in_err-found-clause-points c = points_at (goal.at.returns-in_err-found-clause-points c).After-lower_children
 
 pub returns-clause-points : goal.returns-clause-points
 returns-clause-points c = points_at (goal.at.returns-clause-points c).After-lower_children
 
-pub returns-in_err-child-clause-lowered : goal.returns-in_err-child-clause-lowered
-returns-in_err-child-clause-lowered c n off changed =
-    let at = (goal.at.returns-in_err-child-clause-lowered c).After-lower_children in
+pub returns-in_err-found-clause-lowered : goal.returns-in_err-found-clause-lowered
+returns-in_err-found-clause-lowered c n off changed =
+    let at = (goal.at.returns-in_err-found-clause-lowered c).After-lower_children in
     LowersChildren-since c.args.pass.now.view c.pass.inside.seat.me.0 c.lower_children.new.seat.me.0 c.args.node (same_at at)
-    (λ n. ⊥) c.in_err-child.ensures.lowered n (λ no. no) changed
+    (λ n. ⊥) c.in_err-found.ensures.lowered n (λ no. no) changed
 
-pub returns-in_err-child-clause-parents : goal.returns-in_err-child-clause-parents
-returns-in_err-child-clause-parents c n m off off_too less own =
-    let at = (goal.at.returns-in_err-child-clause-parents c).After-lower_children in
-    c.in_err-child.ensures.parents n m (λ no. no) (λ no. no) (omega (arith, less, ap cost_in (same_at at n))) own
+pub returns-in_err-found-clause-parents : goal.returns-in_err-found-clause-parents
+returns-in_err-found-clause-parents c n m off off_too less own =
+    let at = (goal.at.returns-in_err-found-clause-parents c).After-lower_children in
+    c.in_err-found.ensures.parents n m (λ no. no) (λ no. no) (omega (arith, less, ap cost_in (same_at at n))) own
