@@ -5,7 +5,6 @@ pub mod LawfulSheets
 pub mod ReportsOfRuns
 pub mod OneVerdict
 pub mod BrokenLines
-pub mod PresentNodes
 pub mod FirstBreakLaws
 pub mod TurnBreaks
 pub mod NodeBreaks

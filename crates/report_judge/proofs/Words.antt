@@ -12,7 +12,7 @@ pub use Rattle.grown_runs.proofs.Common.{count-first, count-found, count-more, c
 pub use Rattle.grown_runs.proofs.Common.{distance_to, earlier_count, ending_as, ending_of, ending_words, first_cost_of, first_hanging, full_report, goals_of}
 pub use Rattle.grown_runs.proofs.Common.{has_outcome, head_line, is_blocked, is_earlier, is_earlier_record, is_goal_point, is_of_turn, is_of_worker, is_placed}
 pub use Rattle.grown_runs.proofs.Common.{is_same, is_skipped, is_within, kept-low, kept_cost_of, last_field, length-marks, length_of_path, lesser}
-pub use Rattle.grown_runs.proofs.Common.{lies_in_goals, line, lines_of, ltb-next, mark_at, mark_bound, mark_line_if_recorded, mark_lines, most_cost_of}
+pub use Rattle.grown_runs.proofs.Common.{lies_in_goals, line, lines_of, mark_at, mark_bound, mark_line_if_recorded, mark_lines, most_cost_of}
 pub use Rattle.grown_runs.proofs.Common.{no_path_line, node_count, node_count-length, node_count-lists, node_count-some, node_line_if_present, node_lines}
 pub use Rattle.grown_runs.proofs.Common.{numbers-closed, once_if-below, once_if-past, outcome_count, parent-present, parent_of-lists, path_to, pieces_of}
 pub use Rattle.grown_runs.proofs.Common.{point_at, point_at-lists, point_lines, point_of, point_of-stands, points_of, present-closed, present_below}
@@ -50,10 +50,12 @@ pub use Rattle.report_judge.specs.Workers.JudgedRuns.{KeepsRecordOf, run_of, set
 pub use Rattle.report_judge.specs.Workers.MarkLaws.{IsReachedLawfully}
 pub use Rattle.report_judge.specs.Workers.OwnMarks.{AreMarksBetween, HasNumber, IsFirstSeen, IsMarkBetween}
 pub use Rattle.report_judge.specs.Workers.OwnNodes.{AreNodesBefore, ArePresent, FitFirstCosts, HasNo, HasOne, IsNearerAt, IsNearestOfEarlier, IsNodeBefore}
-pub use Rattle.report_judge.specs.Workers.OwnNodes.{IsPassedOverAt, IsPlacedAt, IsPlacedMarkAt, IsTaken, IsUnlawfulAt, KeepsNear}
+pub use Rattle.report_judge.specs.Workers.OwnNodes.{IsPassedOverAt, IsPlacedAt, IsTaken, IsUnlawfulAt, KeepsNear}
 pub use Rattle.report_judge.specs.Workers.SeenNodes.{AreMarksByTurn, AreSeen, HaveOwnTurns, IsLeastGoalCost, IsLeastIfAny, IsMarkOfTurn, IsTurnOf, count_before}
 pub use Rattle.report_judge.specs.Workers.SeenNodes.{is_before, places_before}
 pub use Rattle.report_judge.specs.Workers.Standings.{AreStandings, no_standing, place_of, standing_at, standing_of, turns_to}
+pub use Rattle.report_judge.specs.declared.marks.judged.Judged.{Judged}
+pub use Rattle.report_judge.specs.declared.marks.judged.Marked.{Marked}
 pub use Rattle.report_judge.specs.declared.own.searches.NearerSearch.{NearerSearch}
 pub use Rattle.report_judge.specs.declared.own.searches.NeighbourSearch.{NeighbourSearch}
 pub use Rattle.report_judge.specs.declared.own.seen_nodes.Seen.{Seen}
@@ -66,23 +68,23 @@ pub use Rattle.settle_report.specs.OutcomeCounts.{AreCounts}
 pub use Rattle.std.proofs.Common.{Bool, Bor, List, None, Option, Some, [], ap, append-nil, append_assoc, arith, below_more, cond, decimal, drop, drop-cons, eqb}
 pub use Rattle.std.proofs.Common.{false, get_or, inl, inr, leb, length, length-append, length-drop, ltb, map, not, pos, refl, replicate, reverse, rules, set}
 pub use Rattle.std.proofs.Common.{subst, suc, sym, take, true, zero, ℕ, ◌%◌, ◌*◌, ◌++◌, ◌+◌, ◌-◌, ◌/◌, ◌<◌, ◌==◌, ◌^◌, ◌∙◌, ◌∷◌, ◌≡◌, ◌≤◌}
-pub use Rattle.std.proofs.Math.Bool.{beq}
 pub use Rattle.std.proofs.Math.Nat.{mul_assoc, mul_comm, pow-le-pow_right, pow-suc}
 pub use Rattle.std.proofs.Math.Seq.{take-append_seam}
-pub use Rattle.std.proofs.lemmas.Bool.{and_from, and_left, and_parts, and_right, both_ways, cases_Bool, cases_eq, cases_lt, cases_order, eq-eqb, eqb-true}
-pub use Rattle.std.proofs.lemmas.Bool.{false_from_ne_true, false≢true, le-leb, le-ltb, leb-false, leb-true, lt-ltb, ltb-true, ne_eqb, not-false, true≢false}
+pub use Rattle.std.proofs.lemmas.Bool.{and_from, and_parts, and_right, both_ways, cases_Bool, cases_eq, cases_lt, cases_order, eq-eqb, eqb-true}
+pub use Rattle.std.proofs.lemmas.Bool.{false_from_ne_true, false≢true, le-leb, le-ltb, leb-false, leb-true, lt-ltb, ltb-true, ne_eqb, not-false, not-true}
+pub use Rattle.std.proofs.lemmas.Bool.{true≢false}
 pub use Rattle.std.proofs.lemmas.Bool.Decides.{Decides-eqb, nat_tests}
 pub use Rattle.std.proofs.lemmas.Fmt.{decimal-digits_value, decimal_by_steps, decimal_digit, decimal_injective}
 pub use Rattle.std.proofs.lemmas.Grind.{flat_map-append, get_or-set_at}
 pub use Rattle.std.proofs.lemmas.List.{append_cancel_left, ext_get_or, get_or-replicate, get_or-reverse, get_or-set_other, get_or-take, get_or_append_left}
-pub use Rattle.std.proofs.lemmas.List.{get_or_at, get_or_default, get_or_past, get_or_push, length-map, length-replicate, length-reverse, length-take-le}
-pub use Rattle.std.proofs.lemmas.List.{map-append, nil_from_length, take-append-drop, take-append-le, take_all, take_more}
+pub use Rattle.std.proofs.lemmas.List.{get_or_default, get_or_past, get_or_push, length-map, length-replicate, length-reverse, length-take-le}
+pub use Rattle.std.proofs.lemmas.List.{map-append, nil_from_length, take-append-drop, take-append-le, take-take, take_all, take_more}
 pub use Rattle.std.proofs.lemmas.List.Elements.{All-head, All-map, All-push, All-tail, Contains-append_left, Contains-push}
 pub use Rattle.std.proofs.lemmas.List.Folds.{Any-from_list_any, flat_map-map, list_all-append, list_any_at, list_any_more}
 pub use Rattle.std.proofs.lemmas.List.FromFn.{get_or-map-range_with_len, length-map-range_with_len, length-range_with_len}
 pub use Rattle.std.proofs.lemmas.List.Kept.{AllPairs-from_increasing}
 pub use Rattle.std.proofs.lemmas.List.Sorted.{All-permutation, Contains-permutation, IsPermutation-sym}
-pub use Rattle.std.proofs.lemmas.List.Sums.{count_by-le-length, fold-append, length-filter, prefix_len_stops, sum_by-cons, sum_by-take-le, sum_by_push}
+pub use Rattle.std.proofs.lemmas.List.Sums.{count_by-le-length, fold-append, length-filter, prefix_len_stops, sum_by-take-le, sum_by_push}
 pub use Rattle.std.proofs.lemmas.Map.Keys.{IsDistinct-IsPermutation}
 pub use Rattle.std.proofs.lemmas.Map.Made.{AllPairs-from_IsDistinct, IsDistinct-from_AllPairs}
 pub use Rattle.std.proofs.lemmas.Nat.{mul-le}
@@ -90,6 +92,7 @@ pub use Rattle.std.proofs.lemmas.Option.{get_or_from_slice_get, slice_get-get_or
 pub use Rattle.std.proofs.lemmas.Slice.Eq.{bytes_eq-Decides, strip_prefix_is}
 pub use Rattle.std.proofs.lemmas.Str.Parse.{FoldsDigits, IsDigitsTest, numerals_by_fold}
 pub use Rattle.std.specs.BTreeSet.{contains}
+pub use Rattle.std.specs.Cmp.{booleans_Decides}
 pub use Rattle.std.specs.Int.{IsInRange, abs_diff}
 pub use Rattle.std.specs.List.{AllPairs, IsDistinct, flat_map, join_with_byte, list_all, list_any, position_or_len, prefix_len, range_with_len}
 pub use Rattle.std.specs.List.Sorted.{IsPermutation, IsStrictlyIncreasing}

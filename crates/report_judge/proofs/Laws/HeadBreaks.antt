@@ -54,8 +54,6 @@ module _ (points own : List Point) (tally counts : Tally) (long : length own ≡
       sym (counts_line points tally) ∙ same ∙ ap (slice_get (later own counts)) (sym long) ∙ counts_line own counts in
       cc
 
--- ---- heads without a path
-
 -- ---- two paths
 
 module _ (path own : PricedPath) (tally counts : Tally) where

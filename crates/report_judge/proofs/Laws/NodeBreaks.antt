@@ -1,41 +1,13 @@
 -- A node but the start keeps its law if its point is new and it hangs exactly below its parent.
-use Rattle.report_judge.proofs.Words.{◌≡◌, ℕ, zero, suc, ◌+◌, ◌*◌, ◌<◌, ◌≤◌, List, length, Option, Some, None, arith, sym, ap, ◌∙◌, subst, is_some, option_map}
-use Rattle.report_judge.proofs.Words.{slice_index_or, ConfigurationSpace, Point, Record, Knot, cost_of, squared_distance, Setup, Clear, IsPresent, StandsAt}
-use Rattle.report_judge.proofs.Words.{point_of, TreeState, IsPresent-stands, point_of-stands, kept_cost_of, state_of_lists, point_at-lists, parent_of-lists}
-use Rattle.report_judge.proofs.Words.{FitsEdges, KeepsEdges, IsFirstBreak, IsNewKey, KeepsNode, point_key, IsSoundNode}
+use Rattle.report_judge.proofs.Words.{◌≡◌, ℕ, zero, suc, ◌+◌, ◌*◌, ◌<◌, List, length, Option, Some, None, arith, sym, ap, ◌∙◌, slice_index_or}
+use Rattle.report_judge.proofs.Words.{ConfigurationSpace, Record, Knot, Setup, StandsAt, point_of, TreeState, IsPresent-stands, kept_cost_of, state_of_lists}
+use Rattle.report_judge.proofs.Words.{parent_of-lists, FitsEdges, KeepsEdges, IsFirstBreak, IsNewKey, KeepsNode, point_key, IsSoundNode}
 use Rattle.report_judge.proofs.Laws.FirstBreakLaws.{IsFirstBreak-same}
-
--- the point of a node of the list
-abbrev point_in : Option Knot → Option Point
-point_in o = option_map (λ (knot : Knot). knot.point) o
-
--- a present node is one of the list
-pub record IsListed (knots : List (Option Knot)) (n : ℕ) : Type 0 where
-  pub knot : Knot
-  pub at : slice_index_or knots n None ≡ Some knot
+use Rattle.report_judge.proofs.Laws.ListedNodes.{listed, point_of-listed, present-listed, same-listed, stands-listed}
 
 module _ (knots : List (Option Knot)) (records : List Record) where
   abbrev run : TreeState
   run = state_of_lists knots records
-
-  stands : (n : ℕ) (knot : Knot) → slice_index_or knots n None ≡ Some knot → StandsAt run.points n knot.point
-  stands n knot e = point_at-lists knots n ∙ ap point_in e
-
-  pub present : (n : ℕ) (knot : Knot) → slice_index_or knots n None ≡ Some knot → IsPresent run.points n
-  present n knot e = IsPresent-stands run.points n knot.point (stands n knot e)
-
-  pub own_point : (n : ℕ) (knot : Knot) → slice_index_or knots n None ≡ Some knot → point_of run.points n ≡ knot.point
-  own_point n knot e = point_of-stands run.points n knot.point (stands n knot e)
-
-  pub listed : (n : ℕ) → IsPresent run.points n → IsListed knots n
-  listed n h = by_knot (slice_index_or knots n None) refl_of
-    where
-      refl_of : slice_index_or knots n None ≡ slice_index_or knots n None
-      refl_of = λ i. slice_index_or knots n None
-
-      by_knot : (o : Option Knot) → slice_index_or knots n None ≡ o → IsListed knots n
-      by_knot None e = let gone = sym h ∙ ap is_some (point_at-lists knots n ∙ ap point_in e) in absurd (cc)
-      by_knot (Some knot) e = record { knot = knot; at = e }
 
   -- ---- the start
 
@@ -43,7 +15,7 @@ module _ (knots : List (Option Knot)) (records : List Record) where
   pub KeepsNode-start : (setup : Setup) (knot : Knot) → slice_index_or knots 0 None ≡ Some knot
       → knot ≡ record { point = setup.start; parent = 0; cost = 0 } → KeepsNode setup knots records 0
   KeepsNode-start setup knot e same = λ here. record {
-    stands = stands 0 knot e ∙ ap (λ (k : Knot). Some k.point) same;
+    stands = stands-listed knots records 0 knot e ∙ ap (λ (k : Knot). Some k.point) same;
     parent = parent_of-lists knots 0 knot e ∙ ap (λ (k : Knot). k.parent) same;
     cost = ap kept_cost_of e ∙ ap (λ (k : Knot). k.cost) same;
   }
@@ -61,30 +33,22 @@ module _ (knots : List (Option Knot)) (records : List Record) where
     sound n low new edges knot e =
         let h = edges (omega arith) knot e in
         let parent : run.parent (suc n) ≡ knot.parent = parent_of-lists knots (suc n) knot e in
-        let below : point_of run.points (suc n) ≡ knot.point = own_point (suc n) knot e in
-        let above : point_of run.points (run.parent (suc n)) ≡ h.up.point = ap (point_of run.points) parent ∙ own_point knot.parent h.up h.there in
-        let length : squared_distance h.up.point knot.point ≡ squared_distance (point_of run.points (run.parent (suc n))) (point_of run.points (suc n)) =
-        λ i. squared_distance (sym above i) (sym below i) in
+        let below : point_of run.points (suc n) ≡ knot.point = point_of-listed knots records (suc n) knot e in
+        let above : point_of run.points (run.parent (suc n)) ≡ h.up.point =
+        ap (point_of run.points) parent ∙ point_of-listed knots records knot.parent h.up h.there in
         let cost : run.cost (run.parent (suc n)) ≡ h.up.cost = ap (λ p. kept_cost_of (slice_index_or knots p None)) parent ∙ ap kept_cost_of h.there in
-        let edge : cost_of h.up.point knot.point ≡ cost_of (point_of run.points (run.parent (suc n))) (point_of run.points (suc n)) =
-        λ i. cost_of (sym above i) (sym below i) in
         record {
           alone = λ m before there. alone m before there;
-          present = subst (IsPresent run.points) (sym parent) (present knot.parent h.up h.there);
+          present = rw parent (present-listed knots records knot.parent h.up h.there);
           other = λ q. h.other (sym parent ∙ q);
-          edge = record {
-            clear = subst (λ (s : ConfigurationSpace). Clear s (point_of run.points (run.parent (suc n))) (point_of run.points (suc n))) (sym same_space)
-                (subst (λ p. Clear space p (point_of run.points (suc n))) (sym above) (subst (Clear space h.up.point) (sym below) h.edge.clear));
-            short = subst (λ q. q ≤ setup.step * setup.step) length (subst (λ q. squared_distance h.up.point knot.point ≤ q) (sym same_step) h.edge.short);
-          };
-          exact = ap kept_cost_of e ∙ h.edge.exact ∙ (λ i. sym cost i + edge i);
+          edge = record { clear = rw (same_space, above, below) h.edge.clear; short = rw (same_step, above, below) h.edge.short };
+          exact = rw (cost, above, below) (ap kept_cost_of e ∙ h.edge.exact);
         }
       where
         alone : (m : ℕ) → m < suc n → StandsAt run.points m (point_of run.points (suc n)) → ⊥
         alone m before there =
-            let other = listed m (IsPresent-stands run.points m (point_of run.points (suc n)) there) in
-            let both : Some other.knot.point ≡ Some knot.point = sym (stands m other.knot other.at) ∙ there ∙ ap Some (own_point (suc n) knot e) in
-            let point : other.knot.point ≡ knot.point = cc in
+            let other = listed knots records m (IsPresent-stands run.points m (point_of run.points (suc n)) there) in
+            let point = same-listed knots records m other.knot (point_of run.points (suc n)) other.at there ∙ point_of-listed knots records (suc n) knot e in
             new m before
             (told m (omega (arith, before, low))
             ∙ ap (point_key m) other.at
@@ -93,33 +57,26 @@ module _ (knots : List (Option Knot)) (records : List Record) where
 
     KeepsNode-next : (n : ℕ) → suc n < length knots → IsNewKey keys (suc n) × KeepsEdges space squared_step knots (suc n)
         → KeepsNode setup knots records (suc n)
-    KeepsNode-next n low both = λ here. let own = listed (suc n) here in sound n low both.0 both.1 own.knot own.at
+    KeepsNode-next n low both = λ here. let own = listed knots records (suc n) here in sound n low both.0 both.1 own.knot own.at
 
     -- a sound node has an exact edge
     edges-sound : (n : ℕ) (knot : Knot) → slice_index_or knots (suc n) None ≡ Some knot → IsSoundNode setup run (suc n)
         → KeepsEdges space squared_step knots (suc n)
     edges-sound n own_knot own_at sound_node = λ some knot e.
         let parent : run.parent (suc n) ≡ knot.parent = parent_of-lists knots (suc n) knot e in
-        let up = listed knot.parent (subst (IsPresent run.points) parent sound_node.present) in
-        let below : point_of run.points (suc n) ≡ knot.point = own_point (suc n) knot e in
-        let above : point_of run.points (run.parent (suc n)) ≡ up.knot.point = ap (point_of run.points) parent ∙ own_point knot.parent up.knot up.at in
-        let length : squared_distance (point_of run.points (run.parent (suc n))) (point_of run.points (suc n)) ≡ squared_distance up.knot.point knot.point =
-        λ i. squared_distance (above i) (below i) in
+        let up = listed knots records knot.parent (rw parent at sound_node.present) in
+        let below : point_of run.points (suc n) ≡ knot.point = point_of-listed knots records (suc n) knot e in
+        let above : point_of run.points (run.parent (suc n)) ≡ up.knot.point =
+        ap (point_of run.points) parent ∙ point_of-listed knots records knot.parent up.knot up.at in
         let cost : run.cost (run.parent (suc n)) ≡ up.knot.cost = ap (λ p. kept_cost_of (slice_index_or knots p None)) parent ∙ ap kept_cost_of up.at in
-        let edge : cost_of (point_of run.points (run.parent (suc n))) (point_of run.points (suc n)) ≡ cost_of up.knot.point knot.point =
-        λ i. cost_of (above i) (below i) in
         record {
           up = up.knot;
           there = up.at;
           other = λ q. sound_node.other (parent ∙ q);
           edge = record {
-            clear = subst (Clear space up.knot.point) below
-                (subst (λ p. Clear space p (point_of run.points (suc n))) above
-                (subst (λ (s : ConfigurationSpace). Clear s (point_of run.points (run.parent (suc n))) (point_of run.points (suc n))) same_space
-                sound_node.edge.clear));
-            short = subst (λ q. squared_distance up.knot.point knot.point ≤ q) same_step
-                (subst (λ q. q ≤ setup.step * setup.step) length sound_node.edge.short);
-            exact = sym (ap kept_cost_of e) ∙ sound_node.exact ∙ (λ i. cost i + edge i);
+            clear = rw (same_space, above, below) at sound_node.edge.clear;
+            short = rw (same_step, above, below) at sound_node.edge.short;
+            exact = sym (ap kept_cost_of e) ∙ (rw (cost, above, below) at sound_node.exact);
           };
         }
 
@@ -143,10 +100,10 @@ module _ (knots : List (Option Knot)) (records : List Record) where
       λ m before e.
           apart_keys m (suc n) (slice_index_or knots m None) (slice_index_or knots (suc n) None) (λ i. slice_index_or knots m None)
           (λ i. slice_index_or knots (suc n) None) before
-          (λ knot other at here point. (kept (present (suc n) knot here)).alone m before (
-          stands m other at ∙ ap Some (point ∙ sym (own_point (suc n) knot here))))
+          (λ knot other at here point. (kept (present-listed knots records (suc n) knot here)).alone m before
+          (stands-listed knots records m other at ∙ ap Some (point ∙ sym (point_of-listed knots records (suc n) knot here))))
           (sym (told m (omega (arith, before, low))) ∙ e ∙ told (suc n) low),
-      λ some knot here. edges-sound n knot here (kept (present (suc n) knot here)) some knot here,
+      λ some knot here. edges-sound n knot here (kept (present-listed knots records (suc n) knot here)) some knot here,
     )
 
     on : KeepsNode setup knots records 0 → (k : ℕ) → k < length knots → IsNewKey keys k × KeepsEdges space squared_step knots k

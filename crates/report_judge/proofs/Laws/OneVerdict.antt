@@ -133,17 +133,14 @@ module _ (task : Task) (report : List ℕ) where
   same_sheet sheet told one two =
       same_sheets (extent_of task) sheet told one.form two.form (same_lines (extent_of task) (few_marks task) report sheet told one two)
 
-  lawful_law : (law line : ℕ) → IsLawful task report → BreaksLawFirst task report law line → ⊥
-  lawful_law law line lawful broken =
-      broken.broken (subst (λ sheet. KeepsLawAt task sheet law line) (same_sheet lawful.sheet broken.sheet lawful.spelled broken.spelled)
-      (lawful.kept law line))
-
   -- Lawful bytes are not broken.
   pub not_both : (law line : ℕ) → IsLawful task report → IsBroken task report law line → ⊥
   not_both law line lawful broken =
       elim broken [
         | inl form ↦ in_form (extent_of task) (few_marks task) report line form.1 lawful.sheet lawful.spelled
-        | inr first ↦ lawful_law law line lawful first
+        | inr first ↦
+            first.broken (subst (λ sheet. KeepsLawAt task sheet law line) (same_sheet lawful.sheet first.sheet lawful.spelled first.spelled)
+            (lawful.kept law line))
       ]
 
   module _ (law line other_law other_line : ℕ) (one : BreaksLawFirst task report law line) (two : BreaksLawFirst task report other_law other_line) where

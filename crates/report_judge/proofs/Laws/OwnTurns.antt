@@ -1,8 +1,8 @@
 -- Turns below the number of a worker's records, none twice, leave no gap.
 use Rattle.report_judge.proofs.Words.{◌≡◌, ℕ, zero, suc, ◌+◌, ◌-◌, ◌<◌, ◌≤◌, Bool, true, false, cond, eqb, ltb, Option, Some, None, arith, refl, sym, ap, ◌∙◌}
-use Rattle.report_judge.proofs.Words.{inl, inr, ◌&&◌, count_by, range_with_len, cases_eq, cases_lt, cases_order, cases_Bool, and_from, and_left, and_right}
-use Rattle.report_judge.proofs.Words.{eq-eqb, ne_eqb, lt-ltb, le-ltb, Record, is_of_worker, turns_of, is_of_turn, times_of, AreTurns, count-more, count-same}
-use Rattle.report_judge.proofs.Words.{count-none, count-single, count-found, turn_of_record, ltb-next, once_if-below, once_if-past, HasOwnTurn}
+use Rattle.report_judge.proofs.Words.{inl, inr, ◌&&◌, count_by, range_with_len, cases_lt, cases_order, cases_Bool, and_right, le-ltb, Record, is_of_worker}
+use Rattle.report_judge.proofs.Words.{turns_of, is_of_turn, times_of, AreTurns, count-more, count-same, count-none, count-single, count-found, turn_of_record}
+use Rattle.report_judge.proofs.Words.{once_if-below, once_if-past, HasOwnTurn, nat_tests}
 
 -- ---- counts
 
@@ -45,34 +45,21 @@ abbrev one_if : Bool → ℕ
 one_if b = cond b 1 0
 
 -- a turn below a number and one is below the number, or is the number
+next_turn : (own worker turn t : ℕ)
+    → one_if (eqb own worker && ltb turn (suc t)) ≡ one_if (eqb own worker && ltb turn t) + one_if (eqb own worker && eqb turn t)
+next_turn own worker turn t = grind (arith, nat_tests)
+
 turn_parts : (worker t : ℕ) (o : Option Record) → one_if (is_turn_below worker (suc t) o) ≡ one_if (is_turn_below worker t o) + one_if (is_of_turn worker t o)
 turn_parts worker t None = refl
-turn_parts worker t (Some entry) =
-    elim (cases_eq entry.worker worker) [
-      | inl own ↦ (
-          let mine = eq-eqb entry.worker worker own in
-          elim (cases_eq entry.turn t) [
-            | inl e ↦ (
-                let now = ap one_if (and_from (eqb entry.worker worker) (ltb entry.turn (suc t)) mine (lt-ltb entry.turn (suc t) (omega (arith, e)))) in
-                let before = ap one_if (and_right (eqb entry.worker worker) (ltb entry.turn t) (le-ltb entry.turn t (omega (arith, e)))) in
-                let here = ap one_if (and_from (eqb entry.worker worker) (eqb entry.turn t) mine (eq-eqb entry.turn t e)) in
-                omega (arith, now, before, here))
-            | inr apart ↦ (
-                let now = ap (λ b. one_if (eqb entry.worker worker && b)) (ltb-next entry.turn t apart) in
-                let here = ap one_if (and_right (eqb entry.worker worker) (eqb entry.turn t) (ne_eqb entry.turn t apart)) in
-                omega (arith, now, here))
-          ])
-      | inr foreign ↦ (
-          let other = ne_eqb entry.worker worker foreign in
-          let now = ap one_if (and_left (eqb entry.worker worker) (ltb entry.turn (suc t)) other) in
-          let before = ap one_if (and_left (eqb entry.worker worker) (ltb entry.turn t) other) in
-          let here = ap one_if (and_left (eqb entry.worker worker) (eqb entry.turn t) other) in
-          omega (arith, now, before, here))
-    ]
+turn_parts worker t (Some entry) = next_turn entry.worker worker entry.turn t
 
 none_below_zero : (worker : ℕ) (o : Option Record) → is_turn_below worker 0 o ≡ false
 none_below_zero worker None = refl
 none_below_zero worker (Some entry) = and_right (eqb entry.worker worker) (ltb entry.turn 0) (le-ltb entry.turn 0 (omega arith))
+
+-- a test that passes wherever the first one does tells no more
+own_alone : (own worker turn t : ℕ) → (own ≡ worker → turn < t) → (eqb own worker && ltb turn t) ≡ eqb own worker
+own_alone own worker turn t low = grind (arith, nat_tests)
 
 -- ---- turns
 
@@ -127,17 +114,8 @@ module _
       → is_turn_below worker (turns_of record_of limit worker) o ≡ is_of_worker worker o
   own_test worker j None e = refl
   own_test worker j (Some entry) e =
-      elim (cases_eq entry.worker worker) [
-        | inl mine ↦ (
-            let test = eq-eqb entry.worker worker mine in
-            let low = (own j entry e).below in
-            and_from (eqb entry.worker worker) (ltb entry.turn (turns_of record_of limit worker)) test
-            (lt-ltb entry.turn (turns_of record_of limit worker) (omega (arith, low, ap (turns_of record_of limit) mine)))
-            ∙ sym test)
-        | inr foreign ↦ (
-            let test = ne_eqb entry.worker worker foreign in
-            and_left (eqb entry.worker worker) (ltb entry.turn (turns_of record_of limit worker)) test ∙ sym test)
-      ]
+      own_alone entry.worker worker entry.turn (turns_of record_of limit worker)
+      (λ mine. omega (arith, (own j entry e).below, ap (turns_of record_of limit) mine))
 
   below-all : (worker : ℕ) → below worker (turns_of record_of limit worker) ≡ turns_of record_of limit worker
   unfolding below

@@ -1,7 +1,7 @@
 -- The first mark of any worker that breaks the law of records is the first of those of each worker.
-use Rattle.report_judge.proofs.Words.{◌≡◌, ℕ, suc, ◌≤◌, List, length, Option, Some, None, arith, ap, inl, inr, slice_get, cases_lt, Record, Task, Knot}
-use Rattle.report_judge.proofs.Words.{turns_of, HasFewTurns, IsFirstBreak, earlier_of, HaveLowTurns, KeepsRecord, KeepsRecordOf, KeepsRecordBelow}
-use Rattle.report_judge.proofs.Words.{KeepsRecordBetween}
+use Rattle.report_judge.proofs.Words.{◌≡◌, ℕ, ◌≤◌, List, length, Option, Some, None, arith, ap, inl, inr, slice_get, cases_lt, Record, Task, Knot, turns_of}
+use Rattle.report_judge.proofs.Words.{HasFewTurns, IsFirstBreak, earlier_of, HaveLowTurns, KeepsRecord, KeepsRecordOf, KeepsRecordBelow, KeepsRecordBetween}
+use Rattle.report_judge.proofs.Words.{◌+◌}
 use Rattle.report_judge.proofs.Laws.FirstBreakLaws.{IsFirstBreak-earlier, IsFirstBreak-same}
 
 module _ (task : Task) (knots : List (Option Knot)) (records : List Record) where
@@ -16,9 +16,9 @@ module _ (task : Task) (knots : List (Option Knot)) (records : List Record) wher
 
   -- one worker more
   pub IsFirstBreak-worker : (worker : ℕ) (first broken : Option ℕ) → IsFirstBreak (Below worker) (length records) first
-      → IsFirstBreak (Of worker) (length records) broken → IsFirstBreak (Below (suc worker)) (length records) (earlier_of first broken)
+      → IsFirstBreak (Of worker) (length records) broken → IsFirstBreak (Below (worker + 1)) (length records) (earlier_of first broken)
   IsFirstBreak-worker worker first broken h own =
-      IsFirstBreak-same (λ k. Below worker k × Of worker k) (Below (suc worker)) (length records)
+      IsFirstBreak-same (λ k. Below worker k × Of worker k) (Below (worker + 1)) (length records)
       (λ k low both entry is less.
       elim (cases_lt entry.worker worker) [
         | inl before ↦ both.0 entry is before

@@ -1,19 +1,20 @@
 -- The full report of a settled run that is closed over all marks is a sheet that keeps every law.
-use Rattle.report_judge.proofs.Words.{◌≡◌, ℕ, zero, suc, ◌-◌, ◌<◌, ◌≤◌, ◌^◌, Bool, true, false, cond, List, [], length, map, get_or, Option, Some, None}
-use Rattle.report_judge.proofs.Words.{arith, refl, sym, ap, ◌∙◌, subst, inl, inr, All, count_by, is_some, option_map, unwrap_or, reverse, slice_get}
-use Rattle.report_judge.proofs.Words.{slice_index_or, range_with_len, cases_lt, length-map, length-reverse, get_or_past, get_or-reverse, All-map}
-use Rattle.report_judge.proofs.Words.{get_or-map-range_with_len, length-map-range_with_len, length-range_with_len, count_by-le-length, slice_get-get_or}
-use Rattle.report_judge.proofs.Words.{slice_get_past, slice_get_within, get_or_from_slice_get, Goal, Point, Blocked, Record, Ending, Steered, Reached, NewNode}
-use Rattle.report_judge.proofs.Words.{SameNode, NoWay, SkippedBy, ending_of, Task, Knot, Twig, IsBounded, full_report, path_to, IsClosed, has_outcome, mark_at}
-use Rattle.report_judge.proofs.Words.{is_placed, is_same, is_blocked, is_skipped, HasLawfulEnding, ReachesLawfully, Setup, setup_of, unplaced_record, best_node}
-use Rattle.report_judge.proofs.Words.{goals_of, is_goal_point, chain_within, without_costs, IsPresent, node_count, point_at, point_of, TreeState, AreSameRuns}
-use Rattle.report_judge.proofs.Words.{IsSettled, chain_in, IsPresent-goal, best_node-some, numbers-closed, length-marks, IsPresent-stands, StandsAt-present}
-use Rattle.report_judge.proofs.Words.{point_of-stands, node_count-length, sum_in-parent, start-present, parent-present, report_text-same, IsClosed-same_run}
-use Rattle.report_judge.proofs.Words.{IsSettled-same, times-once, turn-below, IsKnot, kept_cost_of, state_of_lists, FitsRecord-closed, IsBounded-closed}
-use Rattle.report_judge.proofs.Words.{kept-low, present-closed, point_at-lists, parent_of-lists, FitsKnot, FitsEntry, FitsTally, FitsSkipped, EndsWithin}
-use Rattle.report_judge.proofs.Words.{ReachesWithin, extent_of, Sheet, FitsOptionalPath, HasForm, HasOwnTurn, KeepsNodeLaw, KeepsLaw, best_priced_path, path_by}
-use Rattle.report_judge.proofs.Words.{skipped_of, tally_of, IsReportOfRun, IsLawful}
+use Rattle.report_judge.proofs.Words.{◌≡◌, ℕ, zero, suc, ◌-◌, ◌<◌, ◌≤◌, ◌^◌, Bool, true, false, List, length, map, get_or, Option, Some, None, arith, refl, sym}
+use Rattle.report_judge.proofs.Words.{ap, ◌∙◌, subst, inl, inr, All, count_by, is_some, option_map, unwrap_or, reverse, slice_get, slice_index_or}
+use Rattle.report_judge.proofs.Words.{range_with_len, cases_lt, length-map, length-reverse, get_or_past, get_or-reverse, All-map, get_or-map-range_with_len}
+use Rattle.report_judge.proofs.Words.{length-map-range_with_len, length-range_with_len, count_by-le-length, slice_get-get_or, slice_get_past, slice_get_within}
+use Rattle.report_judge.proofs.Words.{get_or_from_slice_get, Point, Blocked, Record, Ending, Steered, Reached, NewNode, SameNode, NoWay, SkippedBy, ending_of}
+use Rattle.report_judge.proofs.Words.{Task, Knot, Twig, IsBounded, full_report, path_to, IsClosed, has_outcome, mark_at, is_placed, is_same, is_blocked}
+use Rattle.report_judge.proofs.Words.{is_skipped, HasLawfulEnding, ReachesLawfully, Setup, setup_of, unplaced_record, best_node, goals_of, chain_within}
+use Rattle.report_judge.proofs.Words.{without_costs, IsPresent, node_count, point_at, point_of, TreeState, AreSameRuns, IsSettled, chain_in, IsPresent-goal}
+use Rattle.report_judge.proofs.Words.{best_node-some, numbers-closed, length-marks, IsPresent-stands, StandsAt-present, point_of-stands, node_count-length}
+use Rattle.report_judge.proofs.Words.{sum_in-parent, start-present, parent-present, report_text-same, IsClosed-same_run, IsSettled-same, times-once, turn-below}
+use Rattle.report_judge.proofs.Words.{IsKnot, kept_cost_of, state_of_lists, FitsRecord-closed, IsBounded-closed, kept-low, present-closed, point_at-lists}
+use Rattle.report_judge.proofs.Words.{parent_of-lists, FitsKnot, FitsEntry, FitsTally, FitsSkipped, EndsWithin, ReachesWithin, extent_of, Sheet}
+use Rattle.report_judge.proofs.Words.{FitsOptionalPath, HasForm, HasOwnTurn, KeepsNodeLaw, KeepsLaw, best_priced_path, path_by, skipped_of, tally_of}
+use Rattle.report_judge.proofs.Words.{IsReportOfRun, IsLawful}
 use Rattle.report_judge.proofs.Laws.LawfulSheets.{length-without_costs}
+use Rattle.report_judge.proofs.Laws.ListedNodes.{informed_by_goal}
 use Rattle.report_judge.proofs.Texts.SheetTexts.{lines_text-sheet}
 
 -- ---- any run as lists
@@ -22,12 +23,6 @@ use Rattle.report_judge.proofs.Texts.SheetTexts.{lines_text-sheet}
 some_unwrapped : (o : Option Record) (other : Record) → is_some o ≡ true → Some (unwrap_or o other) ≡ o
 some_unwrapped None other h = cc
 some_unwrapped (Some entry) other h = refl
-
--- a point lies in a goal by which marks are skipped only if the scene is informed
-informed_by_goal : (informed : Bool) (goals : List Goal) (o : Option Point) → is_goal_point (cond informed goals []) o ≡ true → informed ≡ true
-informed_by_goal true goals o h = refl
-informed_by_goal false goals None h = cc
-informed_by_goal false goals (Some p) h = cc
 
 -- a chain has at most so many members
 length-chain : (most : ℕ) (parents : ℕ → ℕ) (n : ℕ) → length (chain_within most parents n) ≤ most

@@ -3,8 +3,8 @@ use Rattle.report_judge.proofs.Words.{◌≡◌, ℕ, zero, suc, ◌<◌, true, 
 use Rattle.report_judge.proofs.Words.{◌&&◌, slice_get, slice_index_or, and_parts, cases_order, slice_get_within, MOST_MARKS, MOST_NODES, Record, Task, Knot}
 use Rattle.report_judge.proofs.Words.{is_placed, is_earlier_record, Setup, setup_of, ClearAt, IsPresent, TreeState, length-marks, KeepsOrder-falls}
 use Rattle.report_judge.proofs.Words.{parent-present, state_of_lists, IsKnot-at, FitsEdges, HasFewTurns, KeepsPresence, KeepsTurn, HaveLowTurns, IsSettledList}
-use Rattle.report_judge.proofs.Words.{ArePresent, FitFirstCosts, Extent, extent_of, Sheet, HasForm, number_of_mark_line, number_of_node_line, state_of_sheet}
-use Rattle.report_judge.proofs.Words.{HaveOwnTurns, HasOwnTurn, KeepsLaw, KeepsNodeLaw}
+use Rattle.report_judge.proofs.Words.{ArePresent, FitFirstCosts, Extent, extent_of, Sheet, HasForm, number_of_mark_line, number_of_node_line, HaveOwnTurns}
+use Rattle.report_judge.proofs.Words.{HasOwnTurn, KeepsLaw, KeepsNodeLaw}
 use Rattle.report_judge.proofs.Laws.SheetTrees.{IsSettled-sound, KeepsOrder-sound}
 
 -- ---- form
@@ -101,12 +101,3 @@ module _ (task : Task) (sheet : Sheet) (form : HasForm (extent_of task) sheet) w
 
   pub presence_of_law : KeepsLaw task sheet 4 → (k : ℕ) → k < length sheet.records → KeepsPresence sheet.knots sheet.records k
   presence_of_law kept k low entry is = (kept (number_of_mark_line sheet k)).presence refl k entry is refl
-
-  pub present_of_law : KeepsLaw task sheet 4 → ArePresent (state_of_sheet sheet)
-  present_of_law kept = ArePresent-kept sheet.knots sheet.records form.start (presence_of_law kept)
-
-  pub own_turns_of_law : KeepsLaw task sheet 3 → HaveOwnTurns sheet.records
-  own_turns_of_law kept = HaveOwnTurns-kept sheet.records (turns_of_law kept)
-
-  pub low_turns_of_law : KeepsLaw task sheet 3 → HaveLowTurns sheet.records
-  low_turns_of_law kept = HaveLowTurns-kept sheet.records (turns_of_law kept)

@@ -1,16 +1,14 @@
 -- The verdict on a sheet in form, by the first node, mark or line of the head that breaks a law.
 use Rattle.report_judge.proofs.Words.{◌≡◌, ℕ, suc, ◌-◌, ◌<◌, ◌≤◌, List, [], length, Option, Some, None, arith, refl, ap, length-append, ◌∙◌, subst, inl, inr}
-use Rattle.report_judge.proofs.Words.{is_some, slice_get, both_ways, cases_Bool, Record, Task, Knot, outcome_count, is_placed, is_same, is_blocked, Setup}
-use Rattle.report_judge.proofs.Words.{setup_of, ClearAt, space_of, best_node, goals_of, without_costs, IsPresent, node_count, point_at, present_below}
-use Rattle.report_judge.proofs.Words.{state_of_lists, Lawful, Broken, IsFirstBreak, KeepsHead, KeepsNode, KeepsPresence, KeepsTurn, IsVerdict, KeepsRecord}
-use Rattle.report_judge.proofs.Words.{Extent, lines_text, extent_of, PricedPath, Sheet, HasForm, SpellsSheet, head_lines, lines_of_sheet, state_of_sheet}
-use Rattle.report_judge.proofs.Words.{number_of_mark_line, number_of_node_line, HasOwnTurn, KeepsLaw, best_priced_path, path_by, skipped_of, tally_of, IsBroken}
-use Rattle.report_judge.proofs.Words.{BreaksFormFirst, Tally}
-use Rattle.report_judge.proofs.Laws.BrokenLines.{BreaksLawFirst-heads, BreaksLawFirst-nodes, BreaksLawFirst-presence, BreaksLawFirst-records}
-use Rattle.report_judge.proofs.Laws.BrokenLines.{BreaksLawFirst-turns, IsLawful-six, KeepsLaw-heads, KeepsLaw-nodes}
-use Rattle.report_judge.proofs.Laws.BrokenLines.{KeepsLaw-turns, KeepsTurns}
+use Rattle.report_judge.proofs.Words.{is_some, slice_get, both_ways, cases_Bool, Record, Task, Knot, outcome_count, is_placed, is_same, is_blocked, setup_of}
+use Rattle.report_judge.proofs.Words.{ClearAt, space_of, best_node, goals_of, without_costs, IsPresent, node_count, point_at, present_below, state_of_lists}
+use Rattle.report_judge.proofs.Words.{Lawful, Broken, IsFirstBreak, KeepsHead, KeepsNode, KeepsTurn, IsVerdict, Extent, lines_text, extent_of, PricedPath}
+use Rattle.report_judge.proofs.Words.{Sheet, HasForm, SpellsSheet, head_lines, lines_of_sheet, state_of_sheet, number_of_mark_line, number_of_node_line}
+use Rattle.report_judge.proofs.Words.{HasOwnTurn, KeepsLaw, best_priced_path, path_by, skipped_of, tally_of, IsBroken, BreaksFormFirst, Tally}
+use Rattle.report_judge.proofs.Laws.BrokenLines.{BreaksLawFirst-heads, BreaksLawFirst-marks, BreaksLawFirst-nodes, IsLawful-six, IsMarkLaw, KeepsHeads}
+use Rattle.report_judge.proofs.Laws.BrokenLines.{KeepsLaw-heads, KeepsLaw-nodes, KeepsTurns}
 use Rattle.report_judge.proofs.Laws.LawfulSheets.{IsReportOfRun-lawful, length-without_costs}
-use Rattle.report_judge.proofs.Laws.NodeBreaks.{listed}
+use Rattle.report_judge.proofs.Laws.ListedNodes.{listed}
 use Rattle.report_judge.proofs.Laws.OneVerdict.{not_both}
 use Rattle.report_judge.proofs.Laws.ReportsOfRuns.{IsLawful-report}
 use Rattle.report_judge.proofs.Texts.SheetLines.{lines_few, mark_line_low, node_line_low}
@@ -57,96 +55,41 @@ module _ (task : Task) (sheet : Sheet) (form : HasForm (extent_of task) sheet) w
       → IsVerdict task bytes (Broken (number_of_node_line sheet n) 2)
   broken_node n first = verdict 2 (number_of_node_line sheet n) (inr (BreaksLawFirst-nodes task sheet bytes spelled n first))
 
-  module _ (two : KeepsLaw task sheet 2) where
-    -- ---- turns
+  -- ---- marks
 
-    turns_by : (first : Option ℕ) → IsFirstBreak (KeepsTurn sheet.records) (length sheet.records) first
-        → IsFirstBreak (KeepsTurns task sheet) (length sheet.records) first
-    turns_by first h =
-        subst
-        (λ m. IsFirstBreak (λ k. (entry : Record) → slice_get sheet.records k ≡ Some entry → HasOwnTurn m (slice_get sheet.records) k entry)
-        (length sheet.records) first)
-        form.all_marks h
+  pub broken_by : {law : ℕ} {Keeps : ℕ → Type 0} → IsMarkLaw task sheet law Keeps → ((other : ℕ) → other < law → KeepsLaw task sheet other) → (k : ℕ)
+      → IsFirstBreak Keeps (length sheet.records) (Some k) → IsVerdict task bytes (Broken (number_of_mark_line sheet k) law)
+  broken_by {law} own lesser k first =
+      verdict law (number_of_mark_line sheet k) (inr (BreaksLawFirst-marks task sheet bytes spelled own lesser k first))
 
-    pub kept_turns : IsFirstBreak (KeepsTurn sheet.records) (length sheet.records) None → KeepsLaw task sheet 3
-    kept_turns none = KeepsLaw-turns task sheet (turns_by None none)
+  -- (there are as many records as marks)
+  pub turns_by : (first : Option ℕ) → IsFirstBreak (KeepsTurn sheet.records) (length sheet.records) first
+      → IsFirstBreak (KeepsTurns task sheet) (length sheet.records) first
+  turns_by first h =
+      subst
+      (λ m. IsFirstBreak (λ k. (entry : Record) → slice_get sheet.records k ≡ Some entry → HasOwnTurn m (slice_get sheet.records) k entry)
+      (length sheet.records) first)
+      form.all_marks h
 
-    pub broken_turn : (k : ℕ) → IsFirstBreak (KeepsTurn sheet.records) (length sheet.records) (Some k)
-        → IsVerdict task bytes (Broken (number_of_mark_line sheet k) 3)
-    broken_turn k first =
-        verdict 3 (number_of_mark_line sheet k) (inr (BreaksLawFirst-turns task sheet bytes spelled two k (turns_by (Some k) first)))
+  -- ---- the head
 
-    module _ (three : KeepsLaw task sheet 3) where
-      -- ---- presence
+  module _ (two : KeepsLaw task sheet 2) (three : KeepsLaw task sheet 3) (four : KeepsLaw task sheet 4) (five : KeepsLaw task sheet 5)
+      (path : Option PricedPath) (tally : Tally) (own_path : path ≡ best_priced_path task.scene (length task.marks) (state_of_sheet sheet))
+      (own_tally : tally ≡ tally_of task.scene (length task.marks) (state_of_sheet sheet)) where
+    heads_by : (first : Option ℕ) → IsFirstBreak (KeepsHead sheet.path sheet.tally path tally) (length (head_lines sheet.path sheet.tally)) first
+        → IsFirstBreak (KeepsHeads task sheet) (length (head_lines sheet.path sheet.tally)) first
+    heads_by first h = rw (← own_path, ← own_tally) h
 
-      pub broken_presence : (k : ℕ) → IsFirstBreak (KeepsPresence sheet.knots sheet.records) (length sheet.records) (Some k)
-          → IsVerdict task bytes (Broken (number_of_mark_line sheet k) 4)
-      broken_presence k first =
-          verdict 4 (number_of_mark_line sheet k) (inr (BreaksLawFirst-presence task sheet bytes spelled two three k first))
+    pub broken_head : (i : ℕ) → IsFirstBreak (KeepsHead sheet.path sheet.tally path tally) (length (head_lines sheet.path sheet.tally)) (Some i)
+        → IsVerdict task bytes (Broken (suc i) 6)
+    broken_head i first =
+        verdict 6 (suc i) (inr (BreaksLawFirst-heads task sheet bytes spelled two three four five i (heads_by (Some i) first)))
 
-      module _ (four : KeepsLaw task sheet 4) where
-        -- ---- records
-
-        pub broken_record : (k : ℕ) → IsFirstBreak (KeepsRecord task sheet.knots sheet.records) (length sheet.records) (Some k)
-            → IsVerdict task bytes (Broken (number_of_mark_line sheet k) 5)
-        broken_record k first =
-            verdict 5 (number_of_mark_line sheet k) (inr (BreaksLawFirst-records task sheet bytes spelled two three four k first))
-
-        -- ---- the head
-
-        module _ (five : KeepsLaw task sheet 5) (path : Option PricedPath) (tally : Tally)
-            (own_path : path ≡ best_priced_path task.scene (length task.marks) (state_of_sheet sheet))
-            (own_tally : tally ≡ tally_of task.scene (length task.marks) (state_of_sheet sheet)) where
-          heads_by : (first : Option ℕ) → IsFirstBreak (KeepsHead sheet.path sheet.tally path tally) (length (head_lines sheet.path sheet.tally)) first
-              → IsFirstBreak (KeepsHead sheet.path sheet.tally (best_priced_path task.scene (length task.marks) (state_of_sheet sheet))
-              (tally_of task.scene (length task.marks) (state_of_sheet sheet))) (length (head_lines sheet.path sheet.tally)) first
-          heads_by first h =
-              subst (λ t. IsFirstBreak (KeepsHead sheet.path sheet.tally (best_priced_path task.scene (length task.marks) (state_of_sheet sheet)) t)
-              (length (head_lines sheet.path sheet.tally)) first) own_tally
-              (subst (λ p. IsFirstBreak (KeepsHead sheet.path sheet.tally p tally) (length (head_lines sheet.path sheet.tally)) first) own_path h)
-
-          pub broken_head : (i : ℕ) → IsFirstBreak (KeepsHead sheet.path sheet.tally path tally) (length (head_lines sheet.path sheet.tally)) (Some i)
-              → IsVerdict task bytes (Broken (suc i) 6)
-          broken_head i first =
-              verdict 6 (suc i) (inr (BreaksLawFirst-heads task sheet bytes spelled two three four five i (heads_by (Some i) first)))
-
-          pub lawful_sheet : ClearAt (space_of task.scene) task.scene.start
-              → IsFirstBreak (KeepsHead sheet.path sheet.tally path tally) (length (head_lines sheet.path sheet.tally)) None
-              → IsVerdict task bytes Lawful
-          lawful_sheet clear none =
-              IsReportOfRun-lawful task bytes clear
-              (IsLawful-six task sheet bytes spelled two three four five (KeepsLaw-heads task sheet (heads_by None none)))
-
--- ---- slices of the lists
-
-pub node_by :
-    (setup : Setup) (knots slice : List (Option Knot)) (records : List Record) (first own : Option ℕ) → slice ≡ knots → first ≡ own
-    → ((others : List Record) → IsFirstBreak (KeepsNode setup slice others) (length slice) first)
-    → IsFirstBreak (KeepsNode setup knots records) (length knots) own
-node_by setup knots slice records first own same is told =
-    subst (IsFirstBreak (KeepsNode setup knots records) (length knots)) is
-    (subst (λ (ks : List (Option Knot)). IsFirstBreak (KeepsNode setup ks records) (length ks) first) same (told records))
-
-pub turn_by : (records slice : List Record) (first own : Option ℕ) → slice ≡ records → first ≡ own
-    → IsFirstBreak (KeepsTurn slice) (length slice) first → IsFirstBreak (KeepsTurn records) (length records) own
-turn_by records slice first own same is told =
-    subst (IsFirstBreak (KeepsTurn records) (length records)) is
-    (subst (λ (es : List Record). IsFirstBreak (KeepsTurn es) (length es) first) same told)
-
-pub presence_by :
-    (knots nodes : List (Option Knot)) (records slice : List Record) (first : Option ℕ) → nodes ≡ knots → slice ≡ records
-    → IsFirstBreak (KeepsPresence nodes slice) (length slice) first → IsFirstBreak (KeepsPresence knots records) (length records) first
-presence_by knots nodes records slice first same same_records told =
-    subst (λ (es : List Record). IsFirstBreak (KeepsPresence knots es) (length es) first) same_records
-    (subst (λ (ks : List (Option Knot)). IsFirstBreak (KeepsPresence ks slice) (length slice) first) same told)
-
-pub record_by :
-    (task : Task) (knots nodes : List (Option Knot)) (records slice : List Record) (first own : Option ℕ) → nodes ≡ knots → slice ≡ records
-    → first ≡ own → IsFirstBreak (KeepsRecord task nodes slice) (length slice) first → IsFirstBreak (KeepsRecord task knots records) (length records) own
-record_by task knots nodes records slice first own same same_records is told =
-    subst (IsFirstBreak (KeepsRecord task knots records) (length records)) is
-    (subst (λ (es : List Record). IsFirstBreak (KeepsRecord task knots es) (length es) first) same_records
-    (subst (λ (ks : List (Option Knot)). IsFirstBreak (KeepsRecord task ks slice) (length slice) first) same told))
+    pub lawful_sheet : ClearAt (space_of task.scene) task.scene.start
+        → IsFirstBreak (KeepsHead sheet.path sheet.tally path tally) (length (head_lines sheet.path sheet.tally)) None → IsVerdict task bytes Lawful
+    lawful_sheet clear none =
+        IsReportOfRun-lawful task bytes clear
+        (IsLawful-six task sheet bytes spelled two three four five (KeepsLaw-heads task sheet (heads_by None none)))
 
 -- ---- the own path
 

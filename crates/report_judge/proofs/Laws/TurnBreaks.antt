@@ -1,7 +1,13 @@
 -- A mark has a turn of its own if its worker and turn are new, and its turn is below the number of its worker's marks.
 use Rattle.report_judge.proofs.Words.{◌≡◌, ℕ, ◌+◌, ◌*◌, ◌<◌, List, length, get_or, Option, Some, arith, sym, ◌∙◌, slice_get, slice_index_or, slice_get-get_or}
 use Rattle.report_judge.proofs.Words.{Blocked, Record, unplaced_record, HasFewTurns, HasLowTurn, IsFirstBreak, IsNewKey, KeepsTurn, turn_key}
+use Rattle.report_judge.proofs.Words.{count_by-le-length, is_of_worker, length-range_with_len, range_with_len, turns_of, ◌≤◌}
 use Rattle.report_judge.proofs.Laws.FirstBreakLaws.{IsFirstBreak-same}
+
+-- a worker has handled at most as many marks as there are
+pub turns_at_most : (records : List Record) (i w : ℕ) → turns_of (slice_get records) i w ≤ i
+turns_at_most records i w =
+    omega (arith, count_by-le-length (λ k. is_of_worker w (slice_get records k)) (range_with_len 0 i), length-range_with_len 0 i)
 
 module _
     (records : List Record) (keys : List ℕ) (long : length keys ≡ length records)

@@ -4,7 +4,7 @@ use Rattle.report_judge.proofs.Words.{◌∷◌, ◌++◌, length, get_or, refl,
 use Rattle.report_judge.proofs.Words.{list_all, fold, IsInRange, mul-le, mul_assoc, mul_comm, pow-le-pow_right, pow-suc, decimal_by_steps, decimal_digit}
 use Rattle.report_judge.proofs.Words.{decimal-digits_value, IsDigitsTest, FoldsDigits, numerals_by_fold, list_all-append, fold-append, nat_tests}
 use Rattle.report_judge.proofs.Words.{bytes_eq-Decides, and_parts, and_from, eq-eqb, leb-true, ne_eqb, true≢false, is_digit, is_positive, is_number, magnitude}
-use Rattle.report_judge.proofs.Words.{value_of}
+use Rattle.report_judge.proofs.Words.{value_of, le-leb, not-true}
 use Rattle.std.specs.Prelude.{IfNone, IfSome}
 
 -- digits that stand for a number, with no leading zero
@@ -40,8 +40,11 @@ AreDigitsOf-more n digits h prefix =
       positive = λ some. is_positive-more digits (48 + n % 10) (prefix.positive many) last;
     }
 
-digits-decimal : (n : ℕ) → n < 2 ^ 64 → AreDigitsOf n (decimal n)
-digits-decimal n h = decimal_by_steps AreDigitsOf AreDigitsOf-one AreDigitsOf-more n h
+AreDigitsOf-decimal : (n : ℕ) → n < 2 ^ 64 → AreDigitsOf n (decimal n)
+AreDigitsOf-decimal n h = decimal_by_steps AreDigitsOf AreDigitsOf-one AreDigitsOf-more n h
+
+pub digits-decimal : (n : ℕ) → n < 2 ^ 64 → list_all is_digit (decimal n) ≡ true
+digits-decimal n h = (AreDigitsOf-decimal n h).digital
 
 positive-number : (digits : List ℕ) → is_positive digits ≡ true → is_number digits ≡ true
 positive-number [] h = absurd (cc)
@@ -50,7 +53,7 @@ positive-number (b ∷ digits) h = grind (arith, h)
 -- a number in decimal is a number,
 pub is_number-decimal : (n : ℕ) → n < 2 ^ 64 → is_number (decimal n) ≡ true
 is_number-decimal zero h = rw (decimal_digit 0 (omega arith)) refl
-is_number-decimal (suc n) h = positive-number (decimal (suc n)) ((digits-decimal (suc n) h).positive (omega arith))
+is_number-decimal (suc n) h = positive-number (decimal (suc n)) ((AreDigitsOf-decimal (suc n) h).positive (omega arith))
 
 value_of-digits : (digits : List ℕ) → list_all is_digit digits ≡ true → value_of digits ≡ pos (magnitude digits)
 value_of-digits [] h = refl
@@ -61,7 +64,7 @@ value_of-digits (b ∷ digits) h =
 
 -- and stands for itself
 pub value_of-decimal : (n : ℕ) → n < 2 ^ 64 → value_of (decimal n) ≡ pos n
-value_of-decimal n h = value_of-digits (decimal n) (digits-decimal n h).digital ∙ ap pos (digits-decimal n h).value
+value_of-decimal n h = value_of-digits (decimal n) (digits-decimal n h) ∙ ap pos (AreDigitsOf-decimal n h).value
 
 -- no number in decimal has a sign
 first_not_minus : (digits : List ℕ) → list_all is_digit digits ≡ true → get_or digits 0 0 ≡ 45 → ⊥
@@ -72,7 +75,7 @@ first_not_minus (b ∷ digits) h e =
     true≢false (sym (eq-eqb b 45 e) ∙ other)
 
 pub decimal-unsigned : (n : ℕ) → n < 2 ^ 64 → get_or (decimal n) 0 0 ≡ 45 → ⊥
-decimal-unsigned n h = first_not_minus (decimal n) (digits-decimal n h).digital
+decimal-unsigned n h = first_not_minus (decimal n) (digits-decimal n h)
 
 -- ---- back
 
@@ -82,21 +85,13 @@ AreDigital digits = list_all is_digit digits ≡ true
 in_range : (c : ℕ) → is_digit c ≡ true → IsInRange 48 57 c
 in_range c h =
     let parts = and_parts (leb 48 c) (leb c 57) h in
-    let low : 48 ≤ c = leb-true 48 c parts.0 in
-    let high : c ≤ 57 = leb-true c 57 parts.1 in
-    (low, high)
-
-digit_between : (c : ℕ) → 48 ≤ c → c ≤ 57 → is_digit c ≡ true
-digit_between c low high = grind (arith, nat_tests)
-
-digit_in_range : (c : ℕ) → IsInRange 48 57 c → is_digit c ≡ true
-digit_in_range c h = digit_between c h.0 h.1
+    (leb-true 48 c parts.0, leb-true c 57 parts.1)
 
 tells : IsDigitsTest AreDigital
 tells = record {
   empty = refl;
   parts = λ c cs h. (in_range c (and_parts (is_digit c) (list_all is_digit cs) h).0, (and_parts (is_digit c) (list_all is_digit cs) h).1);
-  more = λ c cs k h. and_from (is_digit c) (list_all is_digit cs) (digit_in_range c k) h;
+  more = λ c cs k h. and_from (is_digit c) (list_all is_digit cs) (and_from (leb 48 c) (leb c 57) (le-leb 48 c k.0) (le-leb c 57 k.1)) h;
 }
 
 abbrev read_after : ℕ → List ℕ → ℕ
@@ -155,17 +150,12 @@ decimal-positive (b ∷ digits) h low =
     let parts = and_parts (is_digit b && not (eqb b 48)) (list_all is_digit digits) h in
     let first = and_parts (is_digit b) (not (eqb b 48)) parts.0 in
     decimal-digits (b ∷ digits) (and_from (is_digit b) (list_all is_digit digits) first.0 parts.1) (omega arith)
-    (λ zero. absurd (true≢false (sym (eq-eqb b 48 zero) ∙ not_true (eqb b 48) first.1))) low
-  where
-    not_true : (p : Bool) → not p ≡ true → p ≡ false
-    not_true true h = absurd (cc)
-    not_true false h = refl
+    (λ zero. absurd (true≢false (sym (eq-eqb b 48 zero) ∙ not-true (eqb b 48) first.1))) low
 
 one_of_two : (a b c : Bool) → ((a || b) || c) ≡ true → c ≡ false → (a ≡ true) ⊎ (b ≡ true)
 one_of_two true b c h e = inl refl
 one_of_two false true c h e = inr refl
-one_of_two false false true h e = absurd (cc)
-one_of_two false false false h e = absurd (cc)
+one_of_two false false c h e = absurd (cc)
 
 -- A word that is a number without a sign is its number in decimal.
 pub word_is-decimal : (word : List ℕ) (n : ℕ) → is_number word ≡ true → (get_or word 0 0 ≡ 45 → ⊥) → value_of word ≡ pos n → n < 2 ^ 64 → word ≡ decimal n
@@ -188,9 +178,6 @@ word_is-decimal (b ∷ bytes) n h unsigned value low =
 
 -- ---- numbers below a bound
 
-leb-from : (a b : ℕ) → a ≤ b → leb a b ≡ true
-leb-from a b h = grind (arith, nat_tests)
-
 -- the number that is read below a bound is the word's
 pub found-decimal :
     (o : Option ℕ) (word : List ℕ) (most : ℕ) → most < 2 ^ 64 → is_number word ≡ true → (get_or word 0 0 ≡ 45 → ⊥)
@@ -211,4 +198,4 @@ no-decimal None word most few outside = λ n low e. none n low e
     none n low e =
         let value : value_of word ≡ pos n = ap value_of e ∙ value_of-decimal n (omega (arith, low, few)) in
         let fails = subst (λ z. (int_le (pos 0) z && int_le z (pos most)) ≡ false) value outside in
-        true≢false (sym (and_from (leb 0 n) (leb n most) (leb-from 0 n (omega arith)) (leb-from n most low)) ∙ fails)
+        true≢false (sym (and_from (leb 0 n) (leb n most) (le-leb 0 n (omega arith)) (le-leb n most low)) ∙ fails)

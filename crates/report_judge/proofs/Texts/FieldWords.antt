@@ -3,7 +3,7 @@ use Rattle.report_judge.proofs.Words.{◌≡◌, ℕ, suc, ◌+◌, ◌<◌, ◌
 use Rattle.report_judge.proofs.Words.{refl, sym, ap, ◌∙◌, decimal, length-append, MatchOption, Option, None, Some, list_all, prefix_len, and_parts, nat_tests}
 use Rattle.report_judge.proofs.Words.{decimal_injective, append_cancel_left, take-append-drop, take-append_seam, is_digit}
 use Rattle.std.specs.Option.{IfNone, IfSome}
-use Rattle.report_judge.proofs.Texts.LineWords.{digits-decimal}
+use Rattle.report_judge.proofs.Texts.DecimalWords.{digits-decimal}
 
 -- a byte below the digits is none of them
 no_digit : (e : ℕ) → e < 48 → is_digit e ≡ false
@@ -57,9 +57,9 @@ text_at text i low =
     ∙ ap (λ rest. take i text ++ rest) (drop-cons text i 0 low ∙ ap (λ n. get_or text i 0 ∷ drop n text) next)
 
 -- what holds in any case holds if there is no value
-pub none_always : {A : Type 0} → (o : Option A) (P : Type 0) → P → IfNone o P
-none_always None P p = p
-none_always (Some x) P p = tt
+pub no_value : {A P : Type 0} → (o : Option A) → P → IfNone o P
+no_value None p = p
+no_value (Some x) p = tt
 
 -- what holds of a value, and what holds if there is none
 pub some_of : {A : Type 0} → (o : Option A) (N : Type 0) (S : A → Type 0) → MatchOption o N S → IfSome o S

@@ -7,11 +7,11 @@ use Rattle.report_judge.proofs.Words.{AreBegun, BreaksFormFirst, ReportLine, Ext
 use Rattle.report_judge.proofs.Words.{PathPoint, Counts, NodeLine, MarkLine, PricedPath, Sheet, path_lines, head_lines, lines_of_knots, lines_of_records}
 use Rattle.report_judge.proofs.Words.{lines_of_sheet, FitsOptionalPath, SpellsSheet, state_of_sheet, Tally}
 use Rattle.report_judge.proofs.Texts.ListPlaces.{slice_get-right}
-use Rattle.report_judge.proofs.Laws.NodeBreaks.{present}
+use Rattle.report_judge.proofs.Laws.ListedNodes.{present-listed}
 use Rattle.report_judge.proofs.Texts.SheetLines.{lines_few}
 use Rattle.report_judge.proofs.Texts.SheetForms.{AreBegun-none, AreBegun-push, AreBegun-nodes, AreBegun-marks, BeginsForm, points_begun, path_begun, head_begun}
 use Rattle.report_judge.proofs.Texts.SheetForms.{own_place, some_path_lines, length-head_lines, length-lines_of_knots, counts_place-head, nodes_to_come-head}
-use Rattle.report_judge.proofs.Texts.SheetForms.{place-marks, come-marks, long-marks}
+use Rattle.report_judge.proofs.Texts.SheetForms.{counts_place-tree, nodes_to_come-tree, long-marks}
 
 -- a text that begins with some lines, and goes on with others, begins with both
 joined : (text x y : List ℕ) (lines others : List ReportLine) → text ≡ lines_text lines ++ x → x ≡ lines_text others ++ y
@@ -40,10 +40,7 @@ breaks_first extent report no_path no_cost = record {
     by_line : (next : ReportLine) (after : List ℕ) → MayStandNext [] next → FitsLine extent next → report ≡ line_text next ++ after → ⊥
     by_line NoPath after stands fits e = no_path after e
     by_line (PathOf points cost) after stands fits e = no_cost points cost after fits.0 fits.1 e
-    by_line (PathPoint p) after stands fits e = omega (arith, stands.0)
-    by_line (Counts tally) after stands fits e = omega (arith, stands.0)
-    by_line (NodeLine n knot) after stands fits e = omega (arith, stands.0)
-    by_line (MarkLine k entry) after stands fits e = omega (arith, stands.0)
+    by_line next after stands fits e = omega (arith, stands.0)
 
 module _ (extent : Extent) (report text : List ℕ) (count cost : ℕ) (is : report ≡ line_text (PathOf count cost) ++ text) (high : cost < 2 ^ 44) where
   -- a path with too few points breaks the form at the line after them
@@ -71,12 +68,8 @@ module _ (extent : Extent) (report text : List ℕ) (count cost : ℕ) (is : rep
       come = ap nodes_said (slice_get_past before (suc count) (omega (arith, long, low)))
 
       by_line : (next : ReportLine) (after : List ℕ) → MayStandNext before next → FitsLine extent next → rest ≡ line_text next ++ after → ⊥
-      by_line NoPath after stands fits e = omega (arith, stands, long)
-      by_line (PathOf points cost) after stands fits e = omega (arith, stands, long)
       by_line (PathPoint p) after stands fits e = read.ended low p after fits e
-      by_line (Counts tally) after stands fits e = omega (arith, stands.1, long, low)
-      by_line (NodeLine n knot) after stands fits e = omega (arith, stands.0, long, low)
-      by_line (MarkLine k entry) after stands fits e = omega (arith, stands.0, come)
+      by_line next after stands fits e = omega (arith, long, low, come)
 
 -- ---- the counts
 
@@ -102,12 +95,8 @@ breaks_counts extent report path rest fits is none = record {
     come = ap nodes_said (slice_get_past (path_lines path) (counts_place (path_lines path)) (omega (arith, place)))
 
     by_line : (next : ReportLine) (after : List ℕ) → MayStandNext (path_lines path) next → FitsLine extent next → rest ≡ line_text next ++ after → ⊥
-    by_line NoPath after stands fits e = omega (arith, stands, some_path_lines path)
-    by_line (PathOf points cost) after stands fits e = omega (arith, stands, some_path_lines path)
-    by_line (PathPoint p) after stands fits e = omega (arith, stands.1, place)
     by_line (Counts tally) after stands fits e = none tally after fits e
-    by_line (NodeLine n knot) after stands fits e = omega (arith, stands.0, place)
-    by_line (MarkLine k entry) after stands fits e = omega (arith, stands.0, come)
+    by_line next after stands fits e = omega (arith, some_path_lines path, place, come)
 
 -- ---- nodes and marks
 
@@ -153,7 +142,7 @@ module _
       by_start : (o : Option Knot) → slice_index_or knots 0 None ≡ o → IsSome o
           → IsPresent (state_of_sheet (record { path = path; tally = tally; knots = knots; records = records })).points 0
       by_start None e there = absurd (cc)
-      by_start (Some knot) e there = present knots records 0 knot e
+      by_start (Some knot) e there = present-listed knots records 0 knot e
 
   tree_begun : AreBegun extent before
   tree_begun = by_count count read.nodes.counted (begins_if)
@@ -209,13 +198,10 @@ module _
           ]
 
       by_line : (next : ReportLine) (after : List ℕ) → MayStandNext before next → FitsLine extent next → rest ≡ line_text next ++ after → ⊥
-      by_line NoPath after stands fits e = omega (arith, stands, long)
-      by_line (PathOf points cost) after stands fits e = omega (arith, stands, long)
-      by_line (PathPoint p) after stands fits e = omega (arith, stands.1, long, place)
-      by_line (Counts counts) after stands fits e = omega (arith, stands.1, long, place)
       by_line (NodeLine n knot) after stands fits e =
           read.nodes.ended (omega (arith, stands.1, long, place, come)) tally n knot after (subst (MayFollow n) last stands.2) fits e
       by_line (MarkLine k entry) after stands fits e = omega (arith, short (omega (arith, stands.0, come)), stands.1, long, place, come)
+      by_line next after stands fits e = omega (arith, long, place)
 
   module _ {records : List Record} {tail : List ℕ} (all : count ≡ tally.nodes) (some : 0 < count) (told : ReadsRecords extent rest records tail) where
     abbrev sheet : Sheet
@@ -263,21 +249,17 @@ module _
         long_all = long-marks extent sheet form full told.few
 
         place_all : counts_place (lines_of_sheet sheet) ≡ length (path_lines path)
-        place_all = place-marks extent sheet form full told.few
+        place_all = counts_place-tree path tally lines (lines_of_records records)
 
         come_all : nodes_to_come (lines_of_sheet sheet) ≡ tally.nodes
-        come_all = come-marks extent sheet form full told.few
+        come_all = nodes_to_come-tree path tally lines (lines_of_records records)
 
         by_line : (next : ReportLine) (after : List ℕ) → MayStandNext (lines_of_sheet sheet) next → FitsLine extent next
             → tail ≡ line_text next ++ after → ⊥
-        by_line NoPath after stands fits e = omega (arith, stands, long_all)
-        by_line (PathOf points cost) after stands fits e = omega (arith, stands, long_all)
-        by_line (PathPoint p) after stands fits e = omega (arith, stands.1, long_all, place_all)
-        by_line (Counts counts) after stands fits e = omega (arith, stands.1, long_all, place_all)
-        by_line (NodeLine n knot) after stands fits e = omega (arith, stands.1, long_all, place_all, come_all)
         by_line (MarkLine k entry) after stands fits e =
             let own : k ≡ length records = omega (arith, stands.1, long_all, place_all, come_all) in
             told.ended (omega (arith, fits.0, own)) entry after fits.1 (e ∙ ap (λ n. line_text (MarkLine n entry) ++ after) own)
+        by_line next after stands fits e = omega (arith, long_all, place_all, come_all)
 
     -- with a line for each mark, and nothing after them, the text spells a sheet in form
     pub spells_sheet : length records ≡ extent.marks → tail ≡ [] → SpellsSheet extent report sheet

@@ -1,10 +1,10 @@
 -- One more line is read at the front of a text.
-use Rattle.report_judge.proofs.Words.{◌≡◌, ℕ, zero, suc, ◌+◌, ◌-◌, ◌<◌, ◌≤◌, ◌^◌, false, List, [], ◌∷◌, ◌++◌, length, get_or, set, replicate, Option, Some}
-use Rattle.report_judge.proofs.Words.{None, arith, refl, sym, ap, ◌∙◌, subst, inl, inr, append_assoc, append-nil, length-append, ◌≢◌, ◌⊎◌, All, IsSome, is_some}
-use Rattle.report_judge.proofs.Words.{slice_get, slice_index_or, range_with_len, flat_map, cases_eq, cases_lt, flat_map-append, get_or-set_at, get_or-replicate}
-use Rattle.report_judge.proofs.Words.{get_or_past, get_or-set_other, get_or_append_left, get_or_at, length-replicate, get_or_from_slice_get, Record, Knot}
-use Rattle.report_judge.proofs.Words.{IsKnot, IsKnot-at, IsNextNode, ReadsNodes, MayFollow, ReportLine, line_text, lines_text, FitsKnot, Counts, NodeLine}
-use Rattle.report_judge.proofs.Words.{MarkLine, line_of_knot, line_of_record, lines_of_knots, lines_of_records, Tally}
+use Rattle.report_judge.proofs.Words.{◌≡◌, ℕ, zero, suc, ◌+◌, ◌-◌, ◌<◌, ◌≤◌, ◌^◌, false, List, [], ◌∷◌, ◌++◌, length, set, replicate, Option, Some, None, arith}
+use Rattle.report_judge.proofs.Words.{refl, sym, ap, ◌∙◌, subst, inl, inr, append_assoc, append-nil, length-append, ◌≢◌, ◌⊎◌, IsSome, is_some, slice_get}
+use Rattle.report_judge.proofs.Words.{slice_index_or, range_with_len, flat_map, cases_eq, cases_lt, flat_map-append, get_or-set_at, get_or-replicate}
+use Rattle.report_judge.proofs.Words.{get_or_past, get_or-set_other, length-replicate, get_or_from_slice_get, Record, Knot, IsKnot, IsKnot-at, IsNextNode}
+use Rattle.report_judge.proofs.Words.{ReadsNodes, MayFollow, ReportLine, line_text, lines_text, FitsKnot, Counts, NodeLine, MarkLine, line_of_knot}
+use Rattle.report_judge.proofs.Words.{line_of_record, lines_of_knots, lines_of_records, Tally}
 use Rattle.std.proofs.lemmas.List.{length-set}
 use Rattle.report_judge.proofs.Texts.LineWords.{same_first_lines}
 use Rattle.report_judge.proofs.Texts.SheetForms.{flat_map-more}
@@ -21,14 +21,6 @@ one_more text rest after lines next is goes =
     ∙ ap (λ x. x ++ after) (sym (flat_map-append line_text lines (next ∷ [])))
 
 -- ---- lists
-
-pub All-push : {A : Type 0} → (P : A → Type 0) (xs : List A) (x : A) → All P xs → P x → All P (xs ++ x ∷ [])
-All-push {A = A} P xs x all own = λ k d low. by_place k d low (cases_lt k (length xs))
-  where
-    by_place : (k : ℕ) (d : A) → k < length (xs ++ x ∷ []) → (k < length xs) ⊎ (length xs ≤ k) → P (get_or (xs ++ x ∷ []) k d)
-    by_place k d low (inl within) = subst P (sym (get_or_append_left xs (x ∷ []) d k within)) (all k d within)
-    by_place k d low (inr past) =
-        subst P (sym (get_or_at xs x [] d k (omega (arith, low, past, length-append xs (x ∷ []))))) own
 
 same_below : {A : Type 0} → (f g : ℕ → List A) (n : ℕ) → ((j : ℕ) → j < n → f j ≡ g j) → flat_map f (range_with_len 0 n) ≡ flat_map g (range_with_len 0 n)
 same_below f g zero h = refl
@@ -122,11 +114,11 @@ may_come (suc m) lines (before, knot, ends) tally n h =
     subst (MayFollow n) (ap (slice_get (Counts tally ∷ all)) long ∙ slice_get-seam before (NodeLine m knot) []) moved
 
 -- what was read is all if no node can stand next
-pub ReadsNodes-ended : (marks most : ℕ) (text : List ℕ) (knots : List (Option Knot)) (count next : ℕ) (rest : List ℕ)
+pub ReadsNodes-ended : {marks : ℕ} {text : List ℕ} {knots : List (Option Knot)} {count next : ℕ} {rest : List ℕ} (most : ℕ)
     → HasRead marks text knots count next rest → count ≤ most
     → (count < most → (n : ℕ) (knot : Knot) (after : List ℕ) → IsNextNode next n → FitsKnot marks n knot → rest ≡ line_text (NodeLine n knot) ++ after → ⊥)
     → ReadsNodes marks most text knots count rest
-ReadsNodes-ended marks most text knots count next rest read few ended = record {
+ReadsNodes-ended {knots} {next} most read few ended = record {
   numbers = read.numbers;
   text = read.text;
   counted = read.counted;
@@ -150,7 +142,7 @@ not_before zero n h = omega arith
 not_before (suc m) n h = omega (arith, h)
 
 module _
-    (marks : ℕ) (text : List ℕ) (knots : List (Option Knot)) (count next : ℕ) (rest after : List ℕ) (n : ℕ) (knot : Knot)
+    {marks : ℕ} {text : List ℕ} {knots : List (Option Knot)} {count next : ℕ} {rest : List ℕ} {n : ℕ} {knot : Knot}
     (read : HasRead marks text knots count next rest) (follows : IsNextNode next n) (fits : FitsKnot marks n knot) where
   within : n < length knots
   within = omega (arith, read.numbers, fits.number)
@@ -206,8 +198,8 @@ module _
           ap is_some (others 0 (λ e. omega (arith, e, low))) ∙ start some
 
   -- one node more is read
-  pub HasRead-more : rest ≡ line_text (NodeLine n knot) ++ after → HasRead marks text more (count + 1) (n + 1) after
-  HasRead-more goes =
+  pub HasRead-more : {after : List ℕ} → rest ≡ line_text (NodeLine n knot) ++ after → HasRead marks text more (count + 1) (n + 1) after
+  HasRead-more {after} goes =
       let next : suc n ≡ n + 1 = omega arith in
       record {
         numbers = length-set knots n (Some knot) ∙ read.numbers;

@@ -1,11 +1,12 @@
 -- What a line says is known by its words, and these by its bytes.
 use Rattle.report_judge.proofs.Words.{Bool, List, [], ap, append_assoc, arith, decimal, eqb, false, get_or, length, not, refl, sym, true, ℕ, ◌%◌, ◌&&◌, ◌++◌}
-use Rattle.report_judge.proofs.Words.{◌+◌, ◌/◌, ◌<◌, ◌^◌, ◌∙◌, ◌∷◌, ◌≡◌, ◌≤◌, None, Option, Some, codes, join_with_byte, list_all, and_parts, true≢false}
-use Rattle.report_judge.proofs.Words.{nat_tests, decimal_by_steps, decimal_injective, append_cancel_left, list_all-append, Blocked, Ending, NewNode, NoWay}
-use Rattle.report_judge.proofs.Words.{Outcome, Placed, Reached, Record, Same, SameNode, Skipped, SkippedBy, Steered, ending_as, ending_of, ending_words, line}
-use Rattle.report_judge.proofs.Words.{lines_of, reached_words, record_of_ending, record_of_ending-again, FitsRecord, is_digit, last_field, pieces_of, Extent}
-use Rattle.report_judge.proofs.Words.{FitsLine, FitsSkipped, ReportLine, line_text, line_words, skipped_count, Counts, MarkLine, NoPath, NodeLine, PathOf}
-use Rattle.report_judge.proofs.Words.{PathPoint}
+use Rattle.report_judge.proofs.Words.{◌+◌, ◌<◌, ◌^◌, ◌∙◌, ◌∷◌, ◌≡◌, ◌≤◌, None, Option, Some, codes, join_with_byte, list_all, and_parts, true≢false, nat_tests}
+use Rattle.report_judge.proofs.Words.{decimal_by_steps, decimal_injective, append_cancel_left, list_all-append, Blocked, Ending, NewNode, NoWay, Outcome}
+use Rattle.report_judge.proofs.Words.{Placed, Reached, Record, Same, SameNode, Skipped, SkippedBy, Steered, ending_as, ending_of, ending_words, line, lines_of}
+use Rattle.report_judge.proofs.Words.{reached_words, record_of_ending, record_of_ending-again, FitsRecord, is_digit, last_field, pieces_of, Extent, FitsLine}
+use Rattle.report_judge.proofs.Words.{FitsSkipped, ReportLine, line_text, line_words, skipped_count, Counts, MarkLine, NoPath, NodeLine, PathOf, PathPoint}
+use Rattle.report_judge.proofs.Words.{not-true}
+use Rattle.report_judge.proofs.Texts.DecimalWords.{digits-decimal}
 
 -- ---- bytes of words
 
@@ -20,45 +21,17 @@ is_uncut bytes = list_all is_inner bytes
 abbrev pub AreUncut : List (List ℕ) → Type 0
 AreUncut words = list_all is_uncut words ≡ true
 
-not-true : (p : Bool) → not p ≡ true → p ≡ false
-not-true true h = absurd (cc)
-not-true false h = refl
-
 inner-small : (n : ℕ) → n < 10 → is_inner (48 + n) ≡ true
 inner-small n h = grind (arith, nat_tests)
 
-digit-small : (n : ℕ) → n < 10 → is_digit (48 + n) ≡ true
-digit-small n h = grind (arith, nat_tests)
-
-abbrev IsUncut : ℕ → List ℕ → Type 0
-IsUncut n bytes = is_uncut bytes ≡ true
-
-uncut-one : (n : ℕ) → n < 10 → IsUncut n ((48 + n) ∷ [])
-uncut-one n h = rw (inner-small n h) refl
-
-uncut-more : (n : ℕ) (digits : List ℕ) → 10 ≤ n → IsUncut (n / 10) digits → IsUncut n (digits ++ (48 + n % 10) ∷ [])
+uncut-more : (n : ℕ) (digits : List ℕ) → 10 ≤ n → is_uncut digits ≡ true → is_uncut (digits ++ (48 + n % 10) ∷ []) ≡ true
 uncut-more n digits h before =
-    let last : is_inner (48 + n % 10) ≡ true = inner-small (n % 10) (omega arith) in
+    let last = inner-small (n % 10) (omega arith) in
     list_all-append is_inner digits ((48 + n % 10) ∷ []) ∙ rw (before, last) refl
 
 -- a number in decimal has neither
 pub uncut-decimal : (n : ℕ) → n < 2 ^ 64 → is_uncut (decimal n) ≡ true
-uncut-decimal n h = decimal_by_steps IsUncut uncut-one uncut-more n h
-
-abbrev AreDigits : ℕ → List ℕ → Type 0
-AreDigits n bytes = list_all is_digit bytes ≡ true
-
-digits-one : (n : ℕ) → n < 10 → AreDigits n ((48 + n) ∷ [])
-digits-one n h = rw (digit-small n h) refl
-
-digits-more : (n : ℕ) (digits : List ℕ) → 10 ≤ n → AreDigits (n / 10) digits → AreDigits n (digits ++ (48 + n % 10) ∷ [])
-digits-more n digits h before =
-    let last : is_digit (48 + n % 10) ≡ true = digit-small (n % 10) (omega arith) in
-    list_all-append is_digit digits ((48 + n % 10) ∷ []) ∙ rw (before, last) refl
-
--- it is made of digits
-pub digits-decimal : (n : ℕ) → n < 2 ^ 64 → list_all is_digit (decimal n) ≡ true
-digits-decimal n h = decimal_by_steps AreDigits digits-one digits-more n h
+uncut-decimal n h = decimal_by_steps (λ n bytes. is_uncut bytes ≡ true) (λ n low. rw (inner-small n low) refl) uncut-more n h
 
 -- ---- lines are cut at line feeds, and words at spaces
 
@@ -203,155 +176,89 @@ uncut-line extent few (MarkLine k entry) fits =
 
 pub some_words : (said : ReportLine) → 0 < length (line_words said)
 some_words NoPath = omega arith
-some_words (PathOf points cost) = omega arith
-some_words (PathPoint p) = omega arith
-some_words (Counts tally) = omega arith
-some_words (NodeLine n knot) = omega arith
-some_words (MarkLine k entry) = omega arith
+some_words said = omega arith
 
 -- ---- what words say
 
--- numbers with the same digits are the same
-same_number : (m n : ℕ) → m < 2 ^ 64 → n < 2 ^ 64 → decimal m ≡ decimal n → m ≡ n
-same_number m n one other h = decimal_injective m n one other h
-
 -- words that are the same begin with the same byte
-first_byte : (words others : List (List ℕ)) → words ≡ others → get_or (get_or words 0 []) 0 0 ≡ get_or (get_or others 0 []) 0 0
-first_byte words others h = ap (λ (ws : List (List ℕ)). get_or (get_or ws 0 []) 0 0) h
+first_byte : {words others : List (List ℕ)} → words ≡ others → get_or (get_or words 0 []) 0 0 ≡ get_or (get_or others 0 []) 0 0
+first_byte h = ap (λ (ws : List (List ℕ)). get_or (get_or ws 0 []) 0 0) h
 
 -- endings with the same words are the same
 same_reached : (one other : Reached) → FitsReached one → FitsReached other → reached_words one ≡ reached_words other → one ≡ other
 same_reached (NewNode first) (NewNode new) fits also h =
-    let a : decimal first.class ≡ decimal new.class = cc in
-    let b : decimal first.parent ≡ decimal new.parent = cc in
-    let c : decimal first.cost ≡ decimal new.cost = cc in
-    let class = same_number first.class new.class fits.2 also.2 a in
-    let parent = same_number first.parent new.parent fits.0 also.0 b in
-    let cost = same_number first.cost new.cost fits.1 also.1 c in
+    let class = decimal_injective first.class new.class fits.2 also.2 (cc) in
+    let parent = decimal_injective first.parent new.parent fits.0 also.0 (cc) in
+    let cost = decimal_injective first.cost new.cost fits.1 also.1 (cc) in
     λ i. NewNode (record { parent = parent i; cost = cost i; class = class i })
-same_reached (SameNode j) (SameNode i) fits also h = (let a : decimal j ≡ decimal i = cc in ap SameNode (same_number j i fits also a))
+same_reached (SameNode j) (SameNode i) fits also h = ap SameNode (decimal_injective j i fits also (cc))
 same_reached NoWay NoWay fits also h = refl
-same_reached (NewNode first) (SameNode i) fits also h = absurd (cc)
-same_reached (NewNode first) NoWay fits also h = absurd (cc)
-same_reached (SameNode j) (NewNode new) fits also h = absurd (cc)
-same_reached (SameNode j) NoWay fits also h = absurd (cc)
-same_reached NoWay (NewNode new) fits also h = absurd (cc)
-same_reached NoWay (SameNode i) fits also h = absurd (cc)
+same_reached one other fits also h = absurd (cc)
 
 same_endings : (one other : Ending) → FitsEnding one → FitsEnding other → ending_words one ≡ ending_words other → one ≡ other
 same_endings (Steered m one) (Steered n other) fits also h =
-    let a : decimal m ≡ decimal n = cc in
-    let b : reached_words one ≡ reached_words other = cc in
-    let nearest = same_number m n fits.0 also.0 a in
-    let reached = same_reached one other fits.1 also.1 b in
+    let nearest = decimal_injective m n fits.0 also.0 (cc) in
+    let reached = same_reached one other fits.1 also.1 (cc) in
     λ i. Steered (nearest i) (reached i)
-same_endings (SkippedBy g) (SkippedBy k) fits also h = (let a : decimal g ≡ decimal k = cc in ap SkippedBy (same_number g k fits also a))
-same_endings (Steered m one) (SkippedBy g) fits also h = absurd (omega (arith, first_byte (ending_words (Steered m one)) (ending_words (SkippedBy g)) h))
-same_endings (SkippedBy g) (Steered n other) fits also h = absurd (omega (arith, first_byte (ending_words (SkippedBy g)) (ending_words (Steered n other)) h))
+same_endings (SkippedBy g) (SkippedBy k) fits also h = ap SkippedBy (decimal_injective g k fits also (cc))
+same_endings (Steered m one) (SkippedBy g) fits also h = absurd (omega (arith, first_byte h))
+same_endings (SkippedBy g) (Steered n other) fits also h = absurd (omega (arith, first_byte h))
 
 -- counts of skipped marks with the same words are the same
 same_skipped : (informed : Bool) (one other : Option ℕ) → FitsSkipped informed one → FitsSkipped informed other
     → skipped_count one ≡ skipped_count other → one ≡ other
 same_skipped informed None None fits also h = refl
-same_skipped informed None (Some other) fits also h = absurd (cc)
-same_skipped informed (Some one) None fits also h = absurd (cc)
 same_skipped false (Some one) (Some other) fits also h = absurd fits
-same_skipped true (Some one) (Some other) fits also h =
-    let digits : decimal one ≡ decimal other = cc in
-    ap Some (same_number one other fits also digits)
+same_skipped true (Some one) (Some other) fits also h = ap Some (decimal_injective one other fits also (cc))
+same_skipped informed one other fits also h = absurd (cc)
 
 -- Lines with numbers in their ranges that have the same words say the same.
 pub same_said : (extent : Extent) → extent.marks < 2 ^ 64 → (one other : ReportLine) → FitsLine extent one → FitsLine extent other
     → line_words one ≡ line_words other → one ≡ other
 same_said extent few NoPath NoPath fits also h = refl
 same_said extent few (PathOf points cost) (PathOf others price) fits also h =
-    let a : decimal points ≡ decimal others = cc in
-    let b : decimal cost ≡ decimal price = cc in
-    let same = same_number points others fits.0 also.0 a in
-    let costs = same_number cost price (omega (arith, fits.1)) (omega (arith, also.1)) b in
+    let same = decimal_injective points others fits.0 also.0 (cc) in
+    let costs = decimal_injective cost price (omega (arith, fits.1)) (omega (arith, also.1)) (cc) in
     λ i. PathOf (same i) (costs i)
 same_said extent few (PathPoint p) (PathPoint q) fits also h =
-    let a : decimal p.x ≡ decimal q.x = cc in
-    let b : decimal p.y ≡ decimal q.y = cc in
-    let right = same_number p.x q.x (omega (arith, fits.right)) (omega (arith, also.right)) a in
-    let top = same_number p.y q.y (omega (arith, fits.top)) (omega (arith, also.top)) b in
+    let right = decimal_injective p.x q.x (omega (arith, fits.right)) (omega (arith, also.right)) (cc) in
+    let top = decimal_injective p.y q.y (omega (arith, fits.top)) (omega (arith, also.top)) (cc) in
     λ i. PathPoint (record { x = right i; y = top i })
 same_said extent few (Counts tally) (Counts counts) fits also h =
-    let a : decimal tally.nodes ≡ decimal counts.nodes = cc in
-    let b : decimal tally.placed ≡ decimal counts.placed = cc in
-    let c : decimal tally.same ≡ decimal counts.same = cc in
-    let d : decimal tally.blocked ≡ decimal counts.blocked = cc in
-    let e : skipped_count tally.skipped ≡ skipped_count counts.skipped = cc in
-    let nodes = same_number tally.nodes counts.nodes fits.nodes also.nodes a in
-    let placed = same_number tally.placed counts.placed fits.placed also.placed b in
-    let same = same_number tally.same counts.same fits.same also.same c in
-    let blocked = same_number tally.blocked counts.blocked fits.blocked also.blocked d in
-    let skipped = same_skipped extent.informed tally.skipped counts.skipped fits.skipped also.skipped e in
+    let nodes = decimal_injective tally.nodes counts.nodes fits.nodes also.nodes (cc) in
+    let placed = decimal_injective tally.placed counts.placed fits.placed also.placed (cc) in
+    let same = decimal_injective tally.same counts.same fits.same also.same (cc) in
+    let blocked = decimal_injective tally.blocked counts.blocked fits.blocked also.blocked (cc) in
+    let skipped = same_skipped extent.informed tally.skipped counts.skipped fits.skipped also.skipped (cc) in
     λ i. Counts (record { nodes = nodes i; placed = placed i; same = same i; blocked = blocked i; skipped = skipped i })
 same_said extent few (NodeLine n knot) (NodeLine m node) fits also h =
-    let a : decimal n ≡ decimal m = cc in
-    let b : decimal knot.point.x ≡ decimal node.point.x = cc in
-    let c : decimal knot.point.y ≡ decimal node.point.y = cc in
-    let d : decimal knot.parent ≡ decimal node.parent = cc in
-    let e : decimal knot.cost ≡ decimal node.cost = cc in
-    let number = same_number n m (omega (arith, few, fits.number)) (omega (arith, few, also.number)) a in
-    let right = same_number knot.point.x node.point.x (omega (arith, fits.point.right)) (omega (arith, also.point.right)) b in
-    let top = same_number knot.point.y node.point.y (omega (arith, fits.point.top)) (omega (arith, also.point.top)) c in
-    let parent = same_number knot.parent node.parent (omega (arith, few, fits.parent)) (omega (arith, few, also.parent)) d in
-    let cost = same_number knot.cost node.cost (omega (arith, fits.cost)) (omega (arith, also.cost)) e in
+    let number = decimal_injective n m (omega (arith, few, fits.number)) (omega (arith, few, also.number)) (cc) in
+    let right = decimal_injective knot.point.x node.point.x (omega (arith, fits.point.right)) (omega (arith, also.point.right)) (cc) in
+    let top = decimal_injective knot.point.y node.point.y (omega (arith, fits.point.top)) (omega (arith, also.point.top)) (cc) in
+    let parent = decimal_injective knot.parent node.parent (omega (arith, few, fits.parent)) (omega (arith, few, also.parent)) (cc) in
+    let cost = decimal_injective knot.cost node.cost (omega (arith, fits.cost)) (omega (arith, also.cost)) (cc) in
     λ i. NodeLine (number i) (record { point = record { x = right i; y = top i }; parent = parent i; cost = cost i })
 same_said extent few (MarkLine k entry) (MarkLine j other) fits also h =
     let own = fits.1 in
     let too = also.1 in
-    let a : decimal k ≡ decimal j = cc in
-    let b : decimal entry.worker ≡ decimal other.worker = cc in
-    let c : decimal entry.turn ≡ decimal other.turn = cc in
-    let d : ending_words (ending_of entry) ≡ ending_words (ending_of other) = cc in
-    let number = same_number k j (omega (arith, few, fits.0)) (omega (arith, few, also.0)) a in
-    let worker = same_number entry.worker other.worker (omega (arith, own.words.word.worker)) (omega (arith, too.words.word.worker)) b in
-    let turn = same_number entry.turn other.turn (omega (arith, own.words.word.turn)) (omega (arith, too.words.word.turn)) c in
-    let ending = same_endings (ending_of entry) (ending_of other) (FitsEnding-record entry own.words) (FitsEnding-record other too.words) d in
+    let number = decimal_injective k j (omega (arith, few, fits.0)) (omega (arith, few, also.0)) (cc) in
+    let worker = decimal_injective entry.worker other.worker (omega (arith, own.words.word.worker)) (omega (arith, too.words.word.worker)) (cc) in
+    let turn = decimal_injective entry.turn other.turn (omega (arith, own.words.word.turn)) (omega (arith, too.words.word.turn)) (cc) in
+    let ending = same_endings (ending_of entry) (ending_of other) (FitsEnding-record entry own.words) (FitsEnding-record other too.words) (cc) in
     let same : entry ≡ other =
     sym (record_of_ending-again entry) ∙ (λ i. record_of_ending (worker i) (turn i) (ending i)) ∙ record_of_ending-again other in
     λ i. MarkLine (number i) (same i)
-same_said extent few NoPath (PathOf others price) fits also h = absurd (cc)
 same_said extent few NoPath (PathPoint q) fits also h =
     let first : decimal q.x ≡ codes "no" = cc in
     absurd (true≢false (sym (digits-decimal q.x (omega (arith, also.right))) ∙ ap (list_all is_digit) first))
-same_said extent few NoPath (Counts counts) fits also h = absurd (cc)
-same_said extent few NoPath (NodeLine m node) fits also h = absurd (cc)
-same_said extent few NoPath (MarkLine j other) fits also h = absurd (cc)
-same_said extent few (PathOf points cost) NoPath fits also h = absurd (cc)
-same_said extent few (PathOf points cost) (PathPoint q) fits also h = absurd (cc)
-same_said extent few (PathOf points cost) (Counts counts) fits also h = absurd (cc)
-same_said extent few (PathOf points cost) (NodeLine m node) fits also h = absurd (cc)
-same_said extent few (PathOf points cost) (MarkLine j other) fits also h = absurd (cc)
 same_said extent few (PathPoint p) NoPath fits also h =
     let first : decimal p.x ≡ codes "no" = cc in
     absurd (true≢false (sym (digits-decimal p.x (omega (arith, fits.right))) ∙ ap (list_all is_digit) first))
-same_said extent few (PathPoint p) (PathOf others price) fits also h = absurd (cc)
-same_said extent few (PathPoint p) (Counts counts) fits also h = absurd (cc)
-same_said extent few (PathPoint p) (NodeLine m node) fits also h = absurd (cc)
-same_said extent few (PathPoint p) (MarkLine j other) fits also h = absurd (cc)
-same_said extent few (Counts tally) NoPath fits also h = absurd (cc)
-same_said extent few (Counts tally) (PathOf others price) fits also h = absurd (cc)
-same_said extent few (Counts tally) (PathPoint q) fits also h = absurd (cc)
-same_said extent few (Counts tally) (NodeLine m node) fits also h = absurd (cc)
-same_said extent few (Counts tally) (MarkLine j other) fits also h =
-    absurd (omega (arith, first_byte (line_words (Counts tally)) (line_words (MarkLine j other)) h))
-same_said extent few (NodeLine n knot) NoPath fits also h = absurd (cc)
-same_said extent few (NodeLine n knot) (PathOf others price) fits also h = absurd (cc)
-same_said extent few (NodeLine n knot) (PathPoint q) fits also h = absurd (cc)
-same_said extent few (NodeLine n knot) (Counts counts) fits also h = absurd (cc)
-same_said extent few (NodeLine n knot) (MarkLine j other) fits also h =
-    absurd (omega (arith, first_byte (line_words (NodeLine n knot)) (line_words (MarkLine j other)) h))
-same_said extent few (MarkLine k entry) NoPath fits also h = absurd (cc)
-same_said extent few (MarkLine k entry) (PathOf others price) fits also h = absurd (cc)
-same_said extent few (MarkLine k entry) (PathPoint q) fits also h = absurd (cc)
-same_said extent few (MarkLine k entry) (Counts counts) fits also h =
-    absurd (omega (arith, first_byte (line_words (MarkLine k entry)) (line_words (Counts counts)) h))
-same_said extent few (MarkLine k entry) (NodeLine m node) fits also h =
-    absurd (omega (arith, first_byte (line_words (MarkLine k entry)) (line_words (NodeLine m node)) h))
+same_said extent few (Counts tally) (MarkLine j other) fits also h = absurd (omega (arith, first_byte h))
+same_said extent few (NodeLine n knot) (MarkLine j other) fits also h = absurd (omega (arith, first_byte h))
+same_said extent few (MarkLine k entry) (Counts counts) fits also h = absurd (omega (arith, first_byte h))
+same_said extent few (MarkLine k entry) (NodeLine m node) fits also h = absurd (omega (arith, first_byte h))
+same_said extent few one other fits also h = absurd (cc)
 
 -- Texts that begin with lines whose numbers are in their ranges, and are the same, begin with the same line, and go on alike.
 pub same_first_lines : (extent : Extent) → extent.marks < 2 ^ 64 → (one other : ReportLine) (x y : List ℕ) → FitsLine extent one → FitsLine extent other

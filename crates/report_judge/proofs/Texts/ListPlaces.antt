@@ -1,6 +1,6 @@
 -- What stands at a place of a list that is made of two.
 use Rattle.report_judge.proofs.Words.{◌≡◌, ℕ, zero, suc, ◌+◌, ◌<◌, List, [], ◌∷◌, ◌++◌, length, length-append, Some, arith, refl, sym, ap, ◌∙◌, subst, inl, inr}
-use Rattle.report_judge.proofs.Words.{slice_get, cases_lt, slice_get_within}
+use Rattle.report_judge.proofs.Words.{slice_get, cases_lt, slice_get_within, below_more, get_or, get_or_append_left, get_or_push}
 
 pub slice_get-left : {A : Type 0} → (xs ys : List A) (i : ℕ) → i < length xs → slice_get (xs ++ ys) i ≡ slice_get xs i
 slice_get-left [] ys i h = absurd (omega (arith, h))
@@ -29,3 +29,11 @@ pushed_each P xs x each last i own is =
           let same : x ≡ own = cc in
           subst (P i) same (subst (λ n. P n x) (sym place) last))
     ]
+
+-- the same of numbers in place of members
+pub pushed_below : (P : ℕ → ℕ → Type 0) (keys : List ℕ) (own n : ℕ) → length keys ≡ n → ((k : ℕ) → k < n → P k (get_or keys k 0)) → P n own
+    → (k : ℕ) → k < n + 1 → P k (get_or (keys ++ own ∷ []) k 0)
+pushed_below P keys own n long each last =
+    below_more (λ k. P k (get_or (keys ++ own ∷ []) k 0)) n
+    (λ k low. subst (P k) (sym (get_or_append_left keys (own ∷ []) 0 k (omega (arith, low, long)))) (each k low))
+    (subst (P n) (sym (get_or_push keys own 0 n long)) last)

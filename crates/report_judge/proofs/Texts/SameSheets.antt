@@ -1,10 +1,10 @@
 -- Sheets in form with the same lines say the same.
 use Rattle.report_judge.proofs.Words.{◌≡◌, ℕ, zero, suc, ◌<◌, ◌≤◌, cond, eqb, List, [], ◌∷◌, ◌++◌, length, map, get_or, Option, Some, None, arith, refl, sym}
 use Rattle.report_judge.proofs.Words.{ap, ◌∙◌, inl, inr, append_assoc, ◌≢◌, slice_get, slice_index_or, range_with_len, flat_map, cases_lt, eq-eqb, ne_eqb}
-use Rattle.report_judge.proofs.Words.{ext_get_or, slice_get-get_or, Point, Blocked, Record, Knot, unplaced_record, counts_place, ReportLine, Extent, NoPath}
-use Rattle.report_judge.proofs.Words.{PathOf, PathPoint, Counts, NodeLine, MarkLine, PricedPath, Sheet, HasForm, path_lines, head_lines, line_of_knot}
-use Rattle.report_judge.proofs.Words.{line_of_record, lines_of_knots, lines_of_records, lines_of_sheet, Tally}
-use Rattle.report_judge.proofs.Texts.SheetForms.{counts_place-head, flat_map-more, length-nodes}
+use Rattle.report_judge.proofs.Words.{ext_get_or, slice_get-get_or, Point, Blocked, Record, Knot, unplaced_record, counts_place, ReportLine, Extent, PathPoint}
+use Rattle.report_judge.proofs.Words.{Counts, NodeLine, MarkLine, PricedPath, Sheet, HasForm, path_lines, head_lines, line_of_knot, line_of_record}
+use Rattle.report_judge.proofs.Words.{lines_of_knots, lines_of_records, lines_of_sheet, Tally}
+use Rattle.report_judge.proofs.Texts.SheetForms.{counts_place-tree, flat_map-more, length-nodes}
 
 -- ---- lists
 
@@ -85,21 +85,13 @@ module _
 
 -- the node that a line tells of, if it has this number
 abbrev knot_in : ℕ → ReportLine → Option Knot
-knot_in n NoPath = None
-knot_in n (PathOf points cost) = None
-knot_in n (PathPoint p) = None
-knot_in n (Counts tally) = None
 knot_in n (NodeLine m knot) = cond (eqb n m) (Some knot) None
-knot_in n (MarkLine k entry) = None
+knot_in n said = None
 
 -- the record that a line tells of, if it is of this mark
 abbrev record_in : ℕ → ReportLine → Option Record
-record_in n NoPath = None
-record_in n (PathOf points cost) = None
-record_in n (PathPoint p) = None
-record_in n (Counts tally) = None
-record_in n (NodeLine m knot) = None
 record_in n (MarkLine k entry) = cond (eqb n k) (Some entry) None
+record_in n said = None
 
 own_knot : (n : ℕ) (o : Option Knot) → found (knot_in n) (line_of_knot n o) ≡ o
 own_knot n None = refl
@@ -179,9 +171,7 @@ module _
       ∙ append_assoc (path_lines s.path) (Counts s.tally ∷ []) (rest_of s)
 
   place : (s : Sheet) → counts_place (lines_of_sheet s) ≡ length (path_lines s.path)
-  place s =
-      ap counts_place (append_assoc (head_lines s.path s.tally) (lines_of_knots s.knots) (lines_of_records s.records))
-      ∙ counts_place-head s.path s.tally (rest_of s)
+  place s = counts_place-tree s.path s.tally (lines_of_knots s.knots) (lines_of_records s.records)
 
   parts : (path_lines sheet.path ≡ path_lines told.path) × (Counts sheet.tally ∷ rest_of sheet ≡ Counts told.tally ∷ rest_of told)
   parts =

@@ -1,14 +1,14 @@
 -- The lines of a sheet in form stand one after another where they may, and are all the report.
 use Rattle.report_judge.proofs.Words.{◌≡◌, ℕ, zero, suc, ◌+◌, ◌-◌, ◌<◌, ◌≤◌, cond, List, [], ◌∷◌, ◌++◌, length, map, take, get_or, Option, Some, None, arith}
-use Rattle.report_judge.proofs.Words.{refl, sym, ap, ◌∙◌, subst, inl, inr, append_assoc, append-nil, length-append, is_some, option_map, count_by, slice_get}
-use Rattle.report_judge.proofs.Words.{slice_index_or, range_with_len, flat_map, cases_lt, true≢false, flat_map-append, length-map, map-append, take-append-le}
-use Rattle.report_judge.proofs.Words.{take_more, take_all, sum_by_push, sum_by-take-le, slice_get_within, slice_get-get_or, take-append_seam, Point, Blocked}
-use Rattle.report_judge.proofs.Words.{Record, Knot, IsBounded, unplaced_record, IsPresent, point_at, range-more, node_count-some, node_count-lists, IsKnot-at}
-use Rattle.report_judge.proofs.Words.{point_at-lists, IsKnot, nodes_said, counts_place, nodes_to_come, MayFollow, MayStandNext, AreBegun, AreAll, Tally}
-use Rattle.report_judge.proofs.Words.{ReportLine, Extent, FitsTally, FitsKnot, FitsEntry, FitsLine, NoPath, PathOf, PathPoint, Counts, NodeLine, MarkLine}
-use Rattle.report_judge.proofs.Words.{PricedPath, Sheet, path_lines, head_lines, line_of_knot, line_of_record, lines_of_knots, lines_of_records, lines_of_sheet}
-use Rattle.report_judge.proofs.Words.{FitsOptionalPath, HasForm, state_of_sheet}
-use Rattle.report_judge.proofs.Texts.ListPlaces.{slice_get-left, slice_get-seam}
+use Rattle.report_judge.proofs.Words.{refl, sym, ap, ◌∙◌, subst, append_assoc, append-nil, length-append, is_some, option_map, count_by, slice_get}
+use Rattle.report_judge.proofs.Words.{slice_index_or, range_with_len, flat_map, true≢false, flat_map-append, length-map, map-append, take-append-le, take_more}
+use Rattle.report_judge.proofs.Words.{take_all, sum_by_push, sum_by-take-le, slice_get_within, slice_get-get_or, take-append_seam, Point, Blocked, Record, Knot}
+use Rattle.report_judge.proofs.Words.{IsBounded, unplaced_record, IsPresent, point_at, range-more, node_count-some, node_count-lists, IsKnot-at, point_at-lists}
+use Rattle.report_judge.proofs.Words.{IsKnot, nodes_said, counts_place, nodes_to_come, MayFollow, MayStandNext, AreBegun, AreAll, Tally, ReportLine, Extent}
+use Rattle.report_judge.proofs.Words.{FitsTally, FitsKnot, FitsEntry, FitsLine, NoPath, PathOf, PathPoint, Counts, NodeLine, MarkLine, PricedPath, Sheet}
+use Rattle.report_judge.proofs.Words.{path_lines, head_lines, line_of_knot, line_of_record, lines_of_knots, lines_of_records, lines_of_sheet, FitsOptionalPath}
+use Rattle.report_judge.proofs.Words.{HasForm, state_of_sheet}
+use Rattle.report_judge.proofs.Texts.ListPlaces.{pushed_each, slice_get-seam}
 
 -- ---- lists
 
@@ -30,25 +30,12 @@ AreBegun-none extent = λ i own is. absurd (omega (arith, slice_get_within [] i 
 
 pub AreBegun-push : (extent : Extent) (lines : List ReportLine) (next : ReportLine) → AreBegun extent lines → MayStandNext lines next → FitsLine extent next
     → AreBegun extent (lines ++ next ∷ [])
-AreBegun-push extent lines next begun stands fits = λ i own is. by_place i own is
-  where
-    by_place : (i : ℕ) (own : ReportLine) → slice_get (lines ++ next ∷ []) i ≡ Some own
-        → MayStandNext (take i (lines ++ next ∷ [])) own × FitsLine extent own
-    by_place i own is =
-        elim (cases_lt i (length lines)) [
-          | inl low ↦ (
-              let here : slice_get lines i ≡ Some own = sym (slice_get-left lines (next ∷ []) i low) ∙ is in
-              let before : take i (lines ++ next ∷ []) ≡ take i lines = take-append-le i lines (next ∷ []) (omega (arith, low)) in
-              let found = begun i own here in
-              (subst (λ those. MayStandNext those own) (sym before) found.0, found.1))
-          | inr past ↦ (
-              let within = slice_get_within (lines ++ next ∷ []) i own is in
-              let place : i ≡ length lines = omega (arith, within, past, length-append lines (next ∷ [])) in
-              let last : Some next ≡ Some own = sym (slice_get-seam lines next []) ∙ ap (slice_get (lines ++ next ∷ [])) (sym place) ∙ is in
-              let same : next ≡ own = cc in
-              let before : lines ≡ take i (lines ++ next ∷ []) = sym (take-append_seam lines (next ∷ [])) ∙ ap (λ n. take n (lines ++ next ∷ [])) (sym place) in
-              (subst (λ those. MayStandNext those own) before (subst (MayStandNext lines) same stands), subst (FitsLine extent) same fits))
-        ]
+AreBegun-push extent lines next begun stands fits =
+    pushed_each (λ i own. MayStandNext (take i (lines ++ next ∷ [])) own × FitsLine extent own) lines next
+    (λ i own is.
+    let before = take-append-le i lines (next ∷ []) (omega (arith, slice_get_within lines i own is)) in
+    (subst (λ those. MayStandNext those own) (sym before) (begun i own is).0, (begun i own is).1))
+    (subst (λ those. MayStandNext those next) (sym (take-append_seam lines (next ∷ []))) stands, fits)
 
 -- ---- the head
 
@@ -67,6 +54,14 @@ module _ (path : Option PricedPath) (tally : Tally) (more : List ReportLine) whe
       ap (λ place. nodes_said (slice_get (head_lines path tally ++ more) place)) counts_place-head
       ∙ ap (λ lines. nodes_said (slice_get lines (length (path_lines path)))) (append_assoc (path_lines path) (Counts tally ∷ []) more)
       ∙ ap nodes_said (slice_get-seam (path_lines path) (Counts tally) more)
+
+-- the same before the lines of nodes and marks
+module _ (path : Option PricedPath) (tally : Tally) (nodes more : List ReportLine) where
+  pub counts_place-tree : counts_place ((head_lines path tally ++ nodes) ++ more) ≡ length (path_lines path)
+  counts_place-tree = ap counts_place (append_assoc (head_lines path tally) nodes more) ∙ counts_place-head path tally (nodes ++ more)
+
+  pub nodes_to_come-tree : nodes_to_come ((head_lines path tally ++ nodes) ++ more) ≡ tally.nodes
+  nodes_to_come-tree = ap nodes_to_come (append_assoc (head_lines path tally) nodes more) ∙ nodes_to_come-head path tally (nodes ++ more)
 
 pub length-head_lines : (path : Option PricedPath) (tally : Tally) → length (head_lines path tally) ≡ suc (length (path_lines path))
 length-head_lines path tally = omega (arith, length-append (path_lines path) (Counts tally ∷ []))
@@ -113,13 +108,9 @@ head_begun extent path tally fits counts =
 
 -- a node that may follow may not be followed by itself alone: the next number may follow too, if it is not the first
 MayFollow-more : (n : ℕ) (last : Option ReportLine) → 0 < n → MayFollow n last → MayFollow (suc n) last
-MayFollow-more n None some h = absurd h
-MayFollow-more n (Some NoPath) some h = absurd h
-MayFollow-more n (Some (PathOf points cost)) some h = absurd h
-MayFollow-more n (Some (PathPoint p)) some h = absurd h
 MayFollow-more n (Some (Counts tally)) some h = absurd (omega (arith, some, h))
 MayFollow-more n (Some (NodeLine m knot)) some h = omega (arith, h)
-MayFollow-more n (Some (MarkLine k entry)) some h = absurd h
+MayFollow-more n last some h = absurd h
 
 -- the last of some lines
 abbrev last_of : List ReportLine → Option ReportLine
@@ -276,16 +267,6 @@ module _ (extent : Extent) (sheet : Sheet) (form : BeginsForm extent sheet) wher
           full,
         )
 
-    place_before : (more : List ReportLine) → counts_place (before_marks ++ more) ≡ length (path_lines sheet.path)
-    place_before more =
-        ap counts_place (append_assoc head (lines_of_knots sheet.knots) more)
-        ∙ counts_place-head sheet.path sheet.tally (lines_of_knots sheet.knots ++ more)
-
-    come_before : (more : List ReportLine) → nodes_to_come (before_marks ++ more) ≡ sheet.tally.nodes
-    come_before more =
-        ap nodes_to_come (append_assoc head (lines_of_knots sheet.knots) more)
-        ∙ nodes_to_come-head sheet.path sheet.tally (lines_of_knots sheet.knots ++ more)
-
     pub some_nodes : 0 < sheet.tally.nodes
     some_nodes = omega (arith, full, node_count-lists sheet.knots, node_count-some (state_of_sheet sheet).points 0 form.start)
 
@@ -303,8 +284,8 @@ module _ (extent : Extent) (sheet : Sheet) (form : BeginsForm extent sheet) wher
         flat_map-more (λ j. line_of_record j (slice_get sheet.records j)) k ∙ ap (λ o. marks_below k ++ line_of_record k o) e in
         let same : lines ++ MarkLine k entry ∷ [] ≡ before_marks ++ marks_below (suc k) =
         append_assoc before_marks (marks_below k) (MarkLine k entry ∷ []) ∙ ap (λ those. before_marks ++ those) (sym more) in
-        let place = place_before (marks_below k) in
-        let come = come_before (marks_below k) in
+        let place = counts_place-tree sheet.path sheet.tally (lines_of_knots sheet.knots) (marks_below k) in
+        let come = nodes_to_come-tree sheet.path sheet.tally (lines_of_knots sheet.knots) (marks_below k) in
         let long = long_before (marks_below k) in
         let own = before.long in
         let stands : MayStandNext lines (MarkLine k entry) = (omega (arith, come, some_nodes), omega (arith, place, come, long, own)) in
@@ -324,14 +305,6 @@ module _ (extent : Extent) (sheet : Sheet) (form : BeginsForm extent sheet) wher
     -- The lines of the head, the nodes and the marks so far stand where they may,
     pub AreBegun-marks : AreBegun extent (lines_of_sheet sheet)
     AreBegun-marks = all_marks_begun.begun
-
-    -- the line of counts is where it was,
-    pub place-marks : counts_place (lines_of_sheet sheet) ≡ length (path_lines sheet.path)
-    place-marks = place_before (lines_of_records sheet.records)
-
-    -- says how many nodes there are,
-    pub come-marks : nodes_to_come (lines_of_sheet sheet) ≡ sheet.tally.nodes
-    come-marks = come_before (lines_of_records sheet.records)
 
     -- and there is a line for each mark so far.
     pub long-marks : length (lines_of_sheet sheet) ≡ suc (length (path_lines sheet.path)) + sheet.tally.nodes + length sheet.records
@@ -366,14 +339,10 @@ module _ (extent : Extent) (sheet : Sheet) (form : HasForm extent sheet) where
 
   -- and are all of the report.
   pub AreAll-sheet : AreAll extent (lines_of_sheet sheet)
-  AreAll-sheet = record {
-    some = omega (arith, come-marks extent sheet begins all_nodes all_marks, some_nodes extent sheet begins all_nodes all_marks);
-    long =
-        omega (
-          arith,
-          long-marks extent sheet begins all_nodes all_marks,
-          place-marks extent sheet begins all_nodes all_marks,
-          come-marks extent sheet begins all_nodes all_marks,
-          form.all_marks,
-        );
-  }
+  AreAll-sheet =
+      let place = counts_place-tree sheet.path sheet.tally (lines_of_knots sheet.knots) (lines_of_records sheet.records) in
+      let come = nodes_to_come-tree sheet.path sheet.tally (lines_of_knots sheet.knots) (lines_of_records sheet.records) in
+      record {
+        some = omega (arith, come, some_nodes extent sheet begins all_nodes all_marks);
+        long = omega (arith, long-marks extent sheet begins all_nodes all_marks, place, come, form.all_marks);
+      }

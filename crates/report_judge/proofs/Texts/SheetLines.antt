@@ -1,9 +1,9 @@
 -- The number of each line of a sheet is at most that of the bytes.
-use Rattle.report_judge.proofs.Words.{◌≡◌, ℕ, ◌+◌, ◌<◌, ◌≤◌, true, cond, List, [], ◌∷◌, ◌++◌, length, take, Option, Some, None, arith, sym, ap, ◌∙◌}
-use Rattle.report_judge.proofs.Words.{append_assoc, length-append, is_some, count_by, slice_index_or, join_with_byte, take_more, sum_by_push, sum_by-take-le}
-use Rattle.report_judge.proofs.Words.{Knot, counts_place, nodes_to_come, ReportLine, Extent, line_words, line_text, lines_text, Sheet, path_lines, head_lines}
-use Rattle.report_judge.proofs.Words.{lines_of_knots, lines_of_records, lines_of_sheet, SpellsSheet, number_of_node_line, number_of_mark_line}
-use Rattle.report_judge.proofs.Texts.SheetForms.{AreAll-sheet, counts_place-head, nodes_to_come-head, length-head_lines, length-lines_of_knots, length-nodes}
+use Rattle.report_judge.proofs.Words.{◌≡◌, ℕ, ◌+◌, ◌<◌, ◌≤◌, true, cond, List, [], ◌∷◌, length, take, Option, Some, None, arith, sym, ap, ◌∙◌, length-append}
+use Rattle.report_judge.proofs.Words.{is_some, count_by, slice_index_or, join_with_byte, take_more, sum_by_push, sum_by-take-le, Knot, ReportLine, Extent}
+use Rattle.report_judge.proofs.Words.{line_words, line_text, lines_text, Sheet, head_lines, lines_of_knots, lines_of_records, lines_of_sheet, SpellsSheet}
+use Rattle.report_judge.proofs.Words.{number_of_node_line, number_of_mark_line}
+use Rattle.report_judge.proofs.Texts.SheetForms.{AreAll-sheet, counts_place-tree, nodes_to_come-tree, length-head_lines, length-lines_of_knots, length-nodes}
 
 -- each line has a byte
 pub lines_few : (lines : List ReportLine) → length lines ≤ length (lines_text lines)
@@ -26,17 +26,13 @@ module _ (extent : Extent) (report : List ℕ) (sheet : Sheet) (spelled : Spells
   abbrev lines : List ReportLine
   lines = lines_of_sheet sheet
 
-  place : counts_place lines ≡ length (path_lines sheet.path)
-  place = ap counts_place (append_assoc (head_lines sheet.path sheet.tally) nodes marks) ∙ counts_place-head sheet.path sheet.tally (nodes ++ marks)
-
-  come : nodes_to_come lines ≡ sheet.tally.nodes
-  come = ap nodes_to_come (append_assoc (head_lines sheet.path sheet.tally) nodes marks) ∙ nodes_to_come-head sheet.path sheet.tally (nodes ++ marks)
-
   count : count_by is_some sheet.knots ≡ sheet.tally.nodes
   count = sym (length-lines_of_knots sheet.knots) ∙ length-nodes extent sheet spelled.form
 
   total : length lines ≡ length (head_lines sheet.path sheet.tally) + count_by is_some sheet.knots + length sheet.records
   total =
+      let place = counts_place-tree sheet.path sheet.tally nodes marks in
+      let come = nodes_to_come-tree sheet.path sheet.tally nodes marks in
       omega (arith, (AreAll-sheet extent sheet spelled.form).long, place, come, count, length-head_lines sheet.path sheet.tally, spelled.form.all_marks)
 
   few : length lines ≤ length report

@@ -1,6 +1,6 @@
 -- The marks of a worker between two of its turns, turn by turn; and the first of them that breaks a law.
-use Rattle.report_judge.proofs.Words.{◌≡◌, ℕ, suc, ◌+◌, ◌<◌, ◌≤◌, Bool, true, false, List, [], ◌∷◌, ◌++◌, length, length-append, Option, Some, None, arith}
-use Rattle.report_judge.proofs.Words.{refl, sym, ap, ◌∙◌, subst, inl, inr, ◌↔◌, IsTrue, IsPermutation, cases_lt, true≢false, get_or_append_left, get_or_default}
+use Rattle.report_judge.proofs.Words.{◌≡◌, ℕ, ◌+◌, ◌<◌, ◌≤◌, Bool, true, false, List, [], ◌∷◌, ◌++◌, length, length-append, Option, Some, None, arith, refl}
+use Rattle.report_judge.proofs.Words.{sym, ap, ◌∙◌, subst, inl, inr, ◌↔◌, IsTrue, IsPermutation, cases_lt, true≢false, get_or_append_left, get_or_default}
 use Rattle.report_judge.proofs.Words.{get_or_push, All-push, All-permutation, Contains-permutation, Point, Record, nowhere, numbered_at, Numbered, IsFirstBreak}
 use Rattle.report_judge.proofs.Words.{AreMarksBetween, HasNumber, IsFirstSeen, IsMarkBetween, HaveOwnTurns, IsMarkOfTurn}
 use Rattle.std.specs.Prelude.{IfNone, IfSome}
@@ -14,10 +14,10 @@ module _ (records : List Record) (worker from : ℕ) where
     only = λ i d low. absurd (omega (arith, low));
   }
 
-  later : (turn k : ℕ) → IsMarkBetween records worker from turn k → IsMarkBetween records worker from (suc turn) k
+  later : (turn k : ℕ) → IsMarkBetween records worker from turn k → IsMarkBetween records worker from (turn + 1) k
   later turn k h = record { entry = h.entry; at = h.at; worker = h.worker; past = h.past; before = omega (arith, h.before) }
 
-  sooner : (turn k : ℕ) (h : IsMarkBetween records worker from (suc turn) k) → h.entry.turn < turn → IsMarkBetween records worker from turn k
+  sooner : (turn k : ℕ) (h : IsMarkBetween records worker from (turn + 1) k) → h.entry.turn < turn → IsMarkBetween records worker from turn k
   sooner turn k h low = record { entry = h.entry; at = h.at; worker = h.worker; past = h.past; before = low }
 
   HasNumber-left : (marks rest : List Numbered) (k : ℕ) → HasNumber marks k → HasNumber (marks ++ rest) k
@@ -29,7 +29,7 @@ module _ (records : List Record) (worker from : ℕ) where
 
   pub AreMarksBetween-more : HaveOwnTurns records → (turn : ℕ) → from ≤ turn → (marks : List Numbered) (o : Option ℕ) (mark : ℕ) (p : Point)
       → AreMarksBetween records worker from turn marks → IsMarkOfTurn records worker turn o → o ≡ Some mark
-      → AreMarksBetween records worker from (suc turn) (marks ++ record { point = p; number = mark } ∷ [])
+      → AreMarksBetween records worker from (turn + 1) (marks ++ record { point = p; number = mark } ∷ [])
   AreMarksBetween-more own turn past marks o mark p h told is =
       let here : IsMarkOfTurn records worker turn (Some mark) = subst (IsMarkOfTurn records worker turn) is told in
       let added : Numbered = record { point = p; number = mark } in
@@ -48,13 +48,13 @@ module _ (records : List Record) (worker from : ℕ) where
                   })
             ];
         only =
-            All-push (λ (m : Numbered). IsMarkBetween records worker from (suc turn) m.number) marks added
+            All-push (λ (m : Numbered). IsMarkBetween records worker from (turn + 1) m.number) marks added
             (λ i d low. later turn _ (h.only i d low))
             (record { entry = here.0; at = here.1; worker = here.2.worker; past = omega (arith, past, here.2.turn); before = omega (arith, here.2.turn) });
       }
 
   pub AreMarksBetween-same : (turn : ℕ) (marks : List Numbered) (o : Option ℕ) → AreMarksBetween records worker from turn marks
-      → IsMarkOfTurn records worker turn o → o ≡ None → AreMarksBetween records worker from (suc turn) marks
+      → IsMarkOfTurn records worker turn o → o ≡ None → AreMarksBetween records worker from (turn + 1) marks
   AreMarksBetween-same turn marks o h told is =
       let none : IsMarkOfTurn records worker turn None = subst (IsMarkOfTurn records worker turn) is told in
       record {

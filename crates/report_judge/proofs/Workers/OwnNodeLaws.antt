@@ -1,14 +1,14 @@
 -- The nodes of a worker that stood before a turn, and searches among them by their places.
-use Rattle.report_judge.proofs.Words.{◌≡◌, ℕ, zero, suc, ◌+◌, ◌*◌, ◌<◌, ◌≤◌, Bool, true, false, not, eqb, ltb, List, [], ◌∷◌, ◌++◌, length, Option, Some, None}
-use Rattle.report_judge.proofs.Words.{arith, refl, sym, ap, ◌∙◌, subst, inl, inr, ◌&&◌, ◌⊎◌, Contains, slice_get, slice_index_or, IsPermutation, abs_diff}
-use Rattle.report_judge.proofs.Words.{and_parts, and_from, cases_eq, cases_lt, eq-eqb, eqb-true, le-leb, leb-true, lt-ltb, ltb-true, get_or_default, All-push}
-use Rattle.report_judge.proofs.Words.{Contains-append_left, Contains-push, All-permutation, Contains-permutation, ConfigurationSpace, Point, Record, Knot}
-use Rattle.report_judge.proofs.Words.{IsBounded, cost_of, squared_distance, is_placed, IsEarlier, Clear, distance_to, is_within, StandsAt, point_at, point_of}
-use Rattle.report_judge.proofs.Words.{TreeState, first_cost_of, same-from_distance, StandsAt-present, point_of-stands, state_of_lists, IsWithin, numbered_at}
-use Rattle.report_judge.proofs.Words.{nowhere, HasNoneBetween, IsStretchAfter, Numbered, Stretch, AreNodesBefore, ArePresent, HasNo, HasOne, IsPassedOverAt}
-use Rattle.report_judge.proofs.Words.{IsNearerAt, IsNodeBefore, IsPlacedAt, IsPlacedMarkAt, IsUnlawfulAt, IsNearestOfEarlier, IsTaken, KeepsNear, HaveOwnTurns}
-use Rattle.report_judge.proofs.Words.{IsMarkOfTurn, is_before, places_before, AreStandings, place_of, standing_at, standing_of, turns_to, NearerSearch}
-use Rattle.report_judge.proofs.Words.{NeighbourSearch, Standing, FitsEdges}
+use Rattle.report_judge.proofs.Words.{◌≡◌, ℕ, zero, suc, ◌+◌, ◌*◌, ◌<◌, ◌≤◌, Bool, true, eqb, ltb, List, [], ◌∷◌, ◌++◌, length, Option, Some, None, arith, refl}
+use Rattle.report_judge.proofs.Words.{sym, ap, ◌∙◌, subst, inl, inr, ◌&&◌, ◌⊎◌, Contains, slice_get, slice_index_or, IsPermutation, abs_diff, and_parts}
+use Rattle.report_judge.proofs.Words.{cases_eq, cases_lt, eqb-true, le-leb, leb-true, ltb-true, get_or_default, All-push, Contains-append_left, Contains-push}
+use Rattle.report_judge.proofs.Words.{All-permutation, Contains-permutation, ConfigurationSpace, Point, Record, Knot, Judged, IsJudged, run_of, IsBounded}
+use Rattle.report_judge.proofs.Words.{cost_of, squared_distance, is_placed, IsEarlier, Clear, distance_to, is_within, StandsAt, point_at, point_of, TreeState}
+use Rattle.report_judge.proofs.Words.{first_cost_of, same-from_distance, StandsAt-present, point_of-stands, state_of_lists, IsWithin, numbered_at, nowhere}
+use Rattle.report_judge.proofs.Words.{HasNoneBetween, IsStretchAfter, Numbered, Stretch, AreNodesBefore, HasNo, HasOne, IsPassedOverAt, IsNearerAt}
+use Rattle.report_judge.proofs.Words.{IsNodeBefore, IsPlacedAt, IsUnlawfulAt, IsNearestOfEarlier, IsTaken, KeepsNear, HaveOwnTurns, IsMarkOfTurn, is_before}
+use Rattle.report_judge.proofs.Words.{places_before, AreStandings, place_of, standing_at, standing_of, turns_to, NearerSearch, NeighbourSearch, Standing}
+use Rattle.report_judge.proofs.Words.{FitsEdges, nat_tests}
 use Rattle.report_judge.proofs.Laws.ListedNodes.{none-stands, same-listed}
 use Rattle.report_judge.proofs.Workers.SeenLaws.{is_before-earlier}
 
@@ -31,9 +31,7 @@ placed_before worker turn (Some entry) h =
 
 before_placed : (worker turn : ℕ) (entry : Record) → is_placed entry.outcome ≡ true → entry.worker ≡ worker → entry.turn < turn
     → places_before worker turn (Some entry) ≡ true
-before_placed worker turn entry placed mine low =
-    and_from (is_placed entry.outcome) (eqb entry.worker worker && ltb entry.turn turn) placed
-    (and_from (eqb entry.worker worker) (ltb entry.turn turn) (eq-eqb entry.worker worker mine) (lt-ltb entry.turn turn low))
+before_placed worker turn entry placed mine low = grind (arith, nat_tests)
 
 pub is_before-placed : (worker turn : ℕ) (record_of : ℕ → Option Record) (k : ℕ) (entry : Record) → record_of k ≡ Some entry
     → is_placed entry.outcome ≡ true → entry.worker ≡ worker → entry.turn < turn → is_before worker turn record_of (suc k) ≡ true
@@ -52,10 +50,6 @@ place_low worker turn record_of zero before = omega arith
 place_low worker turn record_of (suc k) before =
     let own = placed_before worker turn (record_of k) before in
     omega (arith, own.low, ap turns_to own.is)
-
-earlier_before : (state : TreeState) (entry : Record) (n : ℕ) → IsEarlier state entry n
-    → is_before entry.worker entry.turn state.record_of n ≡ true
-earlier_before state entry n h = sym (is_before-earlier state entry n) ∙ h
 
 before_earlier : (state : TreeState) (entry : Record) (turn n : ℕ) → is_before entry.worker turn state.record_of n ≡ true
     → place_of state.record_of n ≤ entry.turn → IsEarlier state entry n
@@ -256,32 +250,29 @@ module _ (Such : Numbered → Type 0) (center : Point) (square : ℕ) (within : 
   }
 
 -- a node of a search lies in its disc
-pub nearer_within : (standings : List Standing) (search : NearerSearch) (center : Point) (square : ℕ) → center ≡ search.point
+pub nearer_within : {standings : List Standing} {search : NearerSearch} {center : Point} {square : ℕ} → center ≡ search.point
     → square ≡ search.distance → (m : Numbered) → IsNearerAt standings search m → IsWithin center square m.point
-nearer_within standings search center square here is m h =
+nearer_within {search} {center} here is m h =
     let away : squared_distance m.point center ≡ squared_distance m.point search.point = ap (squared_distance m.point) here in
     elim h.nearer [
       | inl less ↦ omega (arith, away, is, less)
       | inr same ↦ omega (arith, away, is, same.0)
     ]
 
-pub unlawful_within : (space : ConfigurationSpace) (standings : List Standing) (search : NeighbourSearch) (center : Point) (square : ℕ)
+pub unlawful_within : {space : ConfigurationSpace} {standings : List Standing} {search : NeighbourSearch} {center : Point} {square : ℕ}
     → center ≡ search.nearer.point → square ≡ search.square → search.nearer.distance ≤ search.square → (m : Numbered)
     → IsUnlawfulAt space standings search m → IsWithin center square m.point
-unlawful_within space standings search center square here is low m (inr bad) =
+unlawful_within {search} {center} here is low m unlawful =
     let away : squared_distance m.point center ≡ squared_distance m.point search.nearer.point = ap (squared_distance m.point) here in
-    omega (arith, away, is, bad.cheaper.within)
-unlawful_within space standings search center square here is low m (inl near) =
-    let away : squared_distance m.point center ≡ squared_distance m.point search.nearer.point = ap (squared_distance m.point) here in
-    elim near.nearer [
-      | inl less ↦ omega (arith, away, is, low, less)
-      | inr same ↦ omega (arith, away, is, low, same.0)
+    elim unlawful [
+      | inr bad ↦ omega (arith, away, is, bad.cheaper.within)
+      | inl near ↦ omega (arith, away, low, nearer_within here refl m near, is)
     ]
 
 -- no node is nearer than at no distance
-pub none_nearer : (standings : List Standing) (turn : ℕ) (p : Point) (m : Numbered)
+pub none_nearer : {standings : List Standing} {turn : ℕ} {p : Point} {m : Numbered}
     → ¬ IsNearerAt standings (record { point = p; distance = 0; number = 0; turn = turn }) m
-none_nearer standings turn p m near =
+none_nearer near =
     elim near.nearer [
       | inl less ↦ omega (arith, less)
       | inr same ↦ omega (arith, same.1)
@@ -306,297 +297,158 @@ HasNo-more Such nodes from at before fine = λ j past below bad.
 
 -- ---- earlier nodes by place
 
--- where an earlier node stands in the list, and its standing
-pub record IsFound (state : TreeState) (turn : ℕ) (nodes : List Numbered) (standings : List Standing) (n : ℕ) (p : Point) : Type 0 where
-  pub position : ℕ
-  pub inside : position < length nodes
-  pub here : numbered_at nodes position ≡ record { point = p; number = place_of state.record_of n }
-  pub early : place_of state.record_of n ≤ turn
-  pub standing : standing_at standings (place_of state.record_of n) ≡ standing_of state n
+-- what is so of an earlier node, if no node of the list is such
+record IsOther (judged : Judged) (entry : Record) (Such : Numbered → Type 0) (n : ℕ) (p : Point) : Type 0 where
+  early : place_of (run_of judged).record_of n ≤ entry.turn
+  standing : standing_at judged.standings.now (place_of (run_of judged).record_of n) ≡ standing_of (run_of judged) n
+  other : ¬ Such (record { point = p; number = place_of (run_of judged).record_of n })
 
 -- which earlier node stands at a position of the list
-pub record IsNode (state : TreeState) (entry : Record) (standings : List Standing) (m : Numbered) : Type 0 where
-  pub node : ℕ
-  pub earlier : IsEarlier state entry node
-  pub stands : StandsAt state.points node m.point
-  pub standing : standing_at standings m.number ≡ standing_of state node
+record IsNode (judged : Judged) (entry : Record) (m : Numbered) : Type 0 where
+  node : ℕ
+  earlier : IsEarlier (run_of judged) entry node
+  stands : StandsAt (run_of judged).points node m.point
+  standing : standing_at judged.standings.now m.number ≡ standing_of (run_of judged) node
 
-module _ (state : TreeState) (entry : Record) (turns : ℕ) (low : entry.turn ≤ turns) (nodes : List Numbered) (standings : List Standing)
-    (own : AreNodesBefore state entry.worker turns nodes) (table : AreStandings state entry.worker turns standings) where
-  pub found : (n : ℕ) (p : Point) → IsEarlier state entry n → StandsAt state.points n p → IsFound state entry.turn nodes standings n p
-  found n p earlier stands =
-      let now = earlier_before state entry n earlier in
-      let before = is_before-later entry.worker entry.turn turns state.record_of n low now in
+zero_distance : (p : Point) → squared_distance p p ≡ 0
+zero_distance p =
+    let x : abs_diff p.x p.x ≡ 0 = omega arith in
+    let y : abs_diff p.y p.y ≡ 0 = omega arith in
+    omega (arith, ap (λ (g : ℕ). g * g) x, ap (λ (g : ℕ). g * g) y)
+
+module _ {judged : Judged} (entry : Record) (is : IsJudged entry.worker judged) (low : entry.turn ≤ judged.turns) where
+  abbrev state : TreeState
+  state = run_of judged
+
+  abbrev nodes : List Numbered
+  nodes = judged.own.now
+
+  other_than : (Such : Numbered → Type 0) → HasNo Such nodes 0 (length nodes) → (n : ℕ) (p : Point) → IsEarlier state entry n
+      → StandsAt state.points n p → IsOther judged entry Such n p
+  other_than Such none n p earlier stands =
+      let now = sym (is_before-earlier state entry n) ∙ earlier in
+      let before = is_before-later entry.worker entry.turn judged.turns state.record_of n low now in
       let node : Numbered = record { point = p; number = place_of state.record_of n } in
-      let there = own.each n p before stands in
+      let there = is.own.each n p before stands in
+      let here = get_or_default nodes there.0 nowhere node there.1 ∙ there.2 in
       record {
-        position = there.0;
-        inside = there.1;
-        here = get_or_default nodes there.0 nowhere node there.1 ∙ there.2;
         early = place_low entry.worker entry.turn state.record_of n now;
-        standing = table.each n before;
+        standing = is.standings.each n before;
+        other = λ bad. none there.0 (omega arith) there.1 (subst Such (sym here) bad);
       }
 
-  pub none_such : (Such : Numbered → Type 0) → HasNo Such nodes 0 (length nodes) → (n : ℕ) (p : Point) → IsEarlier state entry n
-      → StandsAt state.points n p → ¬ Such (record { point = p; number = place_of state.record_of n })
-  none_such Such none n p earlier stands bad =
-      let there = found n p earlier stands in
-      none there.position (omega arith) there.inside (subst Such (sym there.here) bad)
-
-  pub node_at : (position : ℕ) → position < length nodes → (numbered_at nodes position).number ≤ entry.turn
-      → IsNode state entry standings (numbered_at nodes position)
+  node_at : (position : ℕ) → position < length nodes → (numbered_at nodes position).number ≤ entry.turn
+      → IsNode judged entry (numbered_at nodes position)
   node_at position inside early =
-      let there = own.stand position nowhere inside in
+      let there = is.own.stand position nowhere inside in
       record {
         node = there.node;
-        earlier = before_earlier state entry turns there.node there.before (omega (arith, there.place, early));
+        earlier = before_earlier state entry judged.turns there.node there.before (omega (arith, there.place, early));
         stands = there.stands;
-        standing = ap (standing_at standings) (sym there.place) ∙ table.each there.node there.before;
+        standing = ap (standing_at judged.standings.now) (sym there.place) ∙ is.standings.each there.node there.before;
       }
 
--- an earlier node that is nearer to a mark than this distance, or has a lesser number (asked of nodes within that distance)
-abbrev pub IsNearer : TreeState → Record → Point → ℕ → Numbered → Type 0
-IsNearer state entry mark distance m =
-    IsEarlier state entry m.number × ((squared_distance m.point mark < distance) ⊎ (m.number < entry.nearest))
-
--- a node that stood already was by its costs a cheaper parent of a new node at p, or is dearer than by way of that
-pub record IsCheaperNear (state : TreeState) (entry : Record) (p : Point) (m : Numbered) : Type 0 where
-  pub earlier : IsEarlier state entry m.number
-  pub cheaper : (first_cost_of state m.number + cost_of m.point p < entry.first_cost) ⊎ (entry.first_cost + cost_of m.point p < state.cost m.number)
-
--- the same of a node with a clear segment to p
-pub record IsPassedOverNear (space : ConfigurationSpace) (state : TreeState) (entry : Record) (p : Point) (m : Numbered) : Type 0 where
-  pub cheaper : IsCheaperNear state entry p m
-  pub clear : Clear space m.point p
-
-module _ (state : TreeState) (entry : Record) where
-  -- ---- the nearest
-
-  module _ (mark : Point) (distance : ℕ) (is : distance ≡ distance_to mark state.points entry.nearest) where
-    pub nearest_of_all : ArePresent state
-        → ((n : ℕ) (p : Point) → IsEarlier state entry n → StandsAt state.points n p → IsWithin mark distance p
-        → ¬ IsNearer state entry mark distance (record { point = p; number = n }))
-        → IsNearestOfEarlier state entry mark
-    nearest_of_all present good = λ i earlier.
-        let p : Point = point_of state.points i in
-        let stands = StandsAt-present state.points i (present entry i earlier) in
-        elim (cases_lt distance (squared_distance p mark)) [
-          | inl far ↦ record { least = omega (arith, is, far); first = λ e. absurd (omega (arith, is, far, e)) }
-          | inr near ↦ (
-              let fine = good i p earlier stands near in
-              let least : distance ≤ squared_distance p mark =
-              elim (cases_lt (squared_distance p mark) distance) [
-                | inl less ↦ absurd (fine (earlier, inl less))
-                | inr more ↦ more
-              ] in
-              let first : entry.nearest ≤ i =
-              elim (cases_lt i entry.nearest) [
-                | inl less ↦ absurd (fine (earlier, inr less))
-                | inr more ↦ more
-              ] in
-              record { least = omega (arith, is, least); first = λ e. first })
-        ]
-
-    pub not_nearest : (m : Numbered) → StandsAt state.points m.number m.point → IsWithin mark distance m.point → IsNearer state entry mark distance m
-        → IsNearestOfEarlier state entry mark → ⊥
-    not_nearest m stands within bad all =
-        let above = all m.number bad.0 in
-        let here : distance_to mark state.points m.number ≡ squared_distance m.point mark =
-        ap (λ p. squared_distance p mark) (point_of-stands state.points m.number m.point stands) in
-        elim bad.1 [
-          | inl less ↦ omega (arith, is, here, less, above.least)
-          | inr lower ↦
-              elim (cases_lt (squared_distance m.point mark) distance) [
-                | inl less ↦ omega (arith, is, here, less, above.least)
-                | inr same ↦ omega (arith, lower, above.first (omega (arith, is, here, same, within)))
-              ]
-        ]
-
-  -- ---- taken points
-
-  zero_distance : (p : Point) → squared_distance p p ≡ 0
-  zero_distance p =
-      let x : abs_diff p.x p.x ≡ 0 = omega arith in
-      let y : abs_diff p.y p.y ≡ 0 = omega arith in
-      omega (arith, ap (λ (g : ℕ). g * g) x, ap (λ (g : ℕ). g * g) y)
-
-  pub not_taken : (p : Point) (square : ℕ)
-      → ((n : ℕ) (q : Point) → IsEarlier state entry n → StandsAt state.points n q → IsWithin p square q → ¬ IsEarlier state entry n)
-      → (i : ℕ) → IsEarlier state entry i → ¬ StandsAt state.points i p
-  not_taken p square good i earlier stands = good i p earlier stands (omega (arith, zero_distance p)) earlier
-
-  pub taken : (p : Point) (square : ℕ) (m : Numbered) → square ≡ 0 → StandsAt state.points m.number m.point → IsWithin p square m.point
-      → IsEarlier state entry m.number → IsTaken state entry p
-  taken p square m none stands within earlier = record {
-    node = m.number;
-    earlier = earlier;
-    stands = stands ∙ ap (λ (q : Point). Some q) (same-from_distance m.point p (omega (arith, within, none)));
-  }
-
-  -- ---- neighbours
-
-  module _ (space : ConfigurationSpace) (p : Point) (radius square : ℕ) (is : square ≡ radius * radius) where
-    near_point : (i : ℕ) (o : Option Point) → point_at state.points i ≡ o → is_within p radius o ≡ true
-        → (q : Point) × (StandsAt state.points i q) × (IsWithin p square q)
-    near_point i None e h = absurd (cc)
-    near_point i (Some q) e h = (q, e, omega (arith, is, leb-true (squared_distance q p) (radius * radius) h))
-
-    pub keeps_near : ((n : ℕ) (q : Point) → IsEarlier state entry n → StandsAt state.points n q → IsWithin p square q
-        → ¬ IsPassedOverNear space state entry p (record { point = q; number = n })) → KeepsNear space state entry p radius
-    keeps_near good = λ i earlier within clear.
-        let near = near_point i (point_at state.points i) refl within in
-        let q : Point = near.0 in
-        let here : point_of state.points i ≡ q = point_of-stands state.points i q near.1 in
-        let edge : cost_of (point_of state.points i) p ≡ cost_of q p = ap (λ a. cost_of a p) here in
-        let cleared : Clear space q p = subst (λ a. Clear space a p) here clear in
-        let fine = good i q earlier near.1 near.2 in
-        let chosen : entry.first_cost ≤ first_cost_of state i + cost_of q p =
-        elim (cases_lt (first_cost_of state i + cost_of q p) entry.first_cost) [
-          | inl less ↦ absurd (fine (record { cheaper = record { earlier = earlier; cheaper = inl less }; clear = cleared }))
-          | inr more ↦ more
-        ] in
-        let rewired : state.cost i ≤ entry.first_cost + cost_of q p =
-        elim (cases_lt (entry.first_cost + cost_of q p) (state.cost i)) [
-          | inl less ↦ absurd (fine (record { cheaper = record { earlier = earlier; cheaper = inr less }; clear = cleared }))
-          | inr more ↦ more
-        ] in
-        record { chosen = omega (arith, edge, chosen); rewired = omega (arith, edge, rewired) }
-
-    pub keeps_not : (m : Numbered) → StandsAt state.points m.number m.point → IsWithin p square m.point → IsPassedOverNear space state entry p m
-        → KeepsNear space state entry p radius → ⊥
-    keeps_not m stands within bad kept =
-        let here : point_of state.points m.number ≡ m.point = point_of-stands state.points m.number m.point stands in
-        let edge : cost_of (point_of state.points m.number) p ≡ cost_of m.point p = ap (λ a. cost_of a p) here in
-        let near : is_within p radius (point_at state.points m.number) ≡ true =
-        ap (is_within p radius) stands ∙ le-leb (squared_distance m.point p) (radius * radius) (omega (arith, is, within)) in
-        let both = kept m.number bad.cheaper.earlier near (subst (λ a. Clear space a p) (sym here) bad.clear) in
-        elim bad.cheaper.cheaper [
-          | inl less ↦ omega (arith, less, edge, both.chosen)
-          | inr less ↦ omega (arith, less, edge, both.rewired)
-        ]
-
--- ---- what the searches tell
-
-pub not_true : (b : Bool) → not b ≡ true → b ≡ false
-not_true true h = absurd (cc)
-not_true false h = refl
-
-pub not_false : (b : Bool) → not b ≡ false → b ≡ true
-not_false true h = refl
-not_false false h = absurd (cc)
-
-module _ (state : TreeState) (entry : Record) (turns : ℕ) (low : entry.turn ≤ turns) (nodes : List Numbered) (standings : List Standing)
-    (own : AreNodesBefore state entry.worker turns nodes) (table : AreStandings state entry.worker turns standings) where
   abbrev Nearer : Point → ℕ → ℕ → Numbered → Type 0
-  Nearer p distance number = IsNearerAt standings (record { point = p; distance = distance; number = number; turn = entry.turn })
+  Nearer p distance number = IsNearerAt judged.standings.now (record { point = p; distance = distance; number = number; turn = entry.turn })
 
-  module _ (mark : Point) (distance : ℕ) (is : distance ≡ distance_to mark state.points entry.nearest) where
-    no_nearer : HasNo (Nearer mark distance entry.nearest) nodes 0 (length nodes) → (n : ℕ) (p : Point) → IsEarlier state entry n
-        → StandsAt state.points n p → IsWithin mark distance p → ¬ IsNearer state entry mark distance (record { point = p; number = n })
-    no_nearer none n p earlier stands within bad =
-        let there = found state entry turns low nodes standings own table n p earlier stands in
-        let node : (standing_at standings (place_of state.record_of n)).node ≡ n = ap (λ (s : Standing). s.node) there.standing in
-        let nearer : (squared_distance p mark < distance)
-        ⊎ ((squared_distance p mark ≡ distance) × ((standing_at standings (place_of state.record_of n)).node < entry.nearest)) =
-        elim bad.1 [
-          | inl less ↦ inl less
-          | inr lower ↦
-              elim (cases_lt (squared_distance p mark) distance) [
-                | inl less ↦ inl less
-                | inr more ↦ inr (omega (arith, within, more), omega (arith, node, lower))
-              ]
-        ] in
-        none_such state entry turns low nodes standings own table (Nearer mark distance entry.nearest) none n p earlier stands
-        (record { earlier = there.early; nearer = nearer })
+  module _ (mark : Point) {distance : ℕ} (far : distance ≡ distance_to mark state.points entry.nearest) where
+    pub is_nearest_of_all : HasNo (Nearer mark distance entry.nearest) nodes 0 (length nodes) → IsNearestOfEarlier state entry mark
+    is_nearest_of_all none i earlier =
+        let p : Point = point_of state.points i in
+        let own = other_than (Nearer mark distance entry.nearest) none i p earlier (StandsAt-present state.points i (is.present entry i earlier)) in
+        let node : (standing_at judged.standings.now (place_of state.record_of i)).node ≡ i = ap (λ (s : Standing). s.node) own.standing in
+        elim (cases_lt (squared_distance p mark) distance) [
+          | inl less ↦ absurd (own.other (record { earlier = own.early; nearer = inl less }))
+          | inr more ↦ record {
+            least = omega (arith, far, more);
+            first = λ e. elim (cases_lt i entry.nearest) [
+              | inl lower ↦ absurd (own.other (record { earlier = own.early; nearer = inr (omega (arith, far, e), omega (arith, node, lower)) }))
+              | inr above ↦ above
+            ];
+          }
+        ]
 
-    pub is_nearest_of_all : ArePresent state → HasNo (Nearer mark distance entry.nearest) nodes 0 (length nodes)
-        → IsNearestOfEarlier state entry mark
-    is_nearest_of_all present none = nearest_of_all state entry mark distance is present (no_nearer none)
-
-    pub is_not_nearest : HasOne (Nearer mark distance entry.nearest) nodes 0 (length nodes) → ¬ IsNearestOfEarlier state entry mark
-    is_not_nearest one all =
-        let m = numbered_at nodes one.position in
-        let there = node_at state entry turns low nodes standings own table one.position one.before one.such.earlier in
-        let node : (standing_at standings m.number).node ≡ there.node = ap (λ (s : Standing). s.node) there.standing in
-        let both : (squared_distance m.point mark ≤ distance)
-        × ((squared_distance m.point mark < distance) ⊎ (there.node < entry.nearest)) =
-        elim one.such.nearer [
-          | inl less ↦ (omega (arith, less), inl less)
-          | inr same ↦ (omega (arith, same.0), inr (omega (arith, node, same.1)))
-        ] in
-        not_nearest state entry mark distance is (record { point = m.point; number = there.node }) there.stands both.0 (there.earlier, both.1) all
+    pub is_not_nearest : (position : ℕ) → position < length nodes → Nearer mark distance entry.nearest (numbered_at nodes position)
+        → ¬ IsNearestOfEarlier state entry mark
+    is_not_nearest position inside such all =
+        let m = numbered_at nodes position in
+        let there = node_at position inside such.earlier in
+        let node : (standing_at judged.standings.now m.number).node ≡ there.node = ap (λ (s : Standing). s.node) there.standing in
+        let here : distance_to mark state.points there.node ≡ squared_distance m.point mark =
+        ap (λ p. squared_distance p mark) (point_of-stands state.points there.node m.point there.stands) in
+        let above = all there.node there.earlier in
+        elim such.nearer [
+          | inl less ↦ omega (arith, far, here, less, above.least)
+          | inr same ↦ omega (arith, node, same.1, above.first (omega (arith, far, here, same.0)))
+        ]
 
   module _ (p : Point) (number : ℕ) where
     pub is_free : ((n : ℕ) (q : Point) → StandsAt state.points n q → n < number) → HasNo (Nearer p 0 number) nodes 0 (length nodes)
         → (i : ℕ) → IsEarlier state entry i → ¬ StandsAt state.points i p
-    is_free above none =
-        not_taken state entry p 0
-        (λ n q earlier stands within now.
-        let there = found state entry turns low nodes standings own table n q earlier stands in
-        let node : (standing_at standings (place_of state.record_of n)).node ≡ n = ap (λ (s : Standing). s.node) there.standing in
-        none_such state entry turns low nodes standings own table (Nearer p 0 number) none n q earlier stands
-        (record { earlier = there.early; nearer = inr (omega (arith, within), omega (arith, node, above n q stands)) }))
+    is_free above none i earlier stands =
+        let own = other_than (Nearer p 0 number) none i p earlier stands in
+        let node : (standing_at judged.standings.now (place_of state.record_of i)).node ≡ i = ap (λ (s : Standing). s.node) own.standing in
+        own.other (record { earlier = own.early; nearer = inr (zero_distance p, omega (arith, node, above i p stands)) })
 
     pub is_taken_by : HasOne (Nearer p 0 number) nodes 0 (length nodes) → IsTaken state entry p
     is_taken_by one =
         let m = numbered_at nodes one.position in
-        let there = node_at state entry turns low nodes standings own table one.position one.before one.such.earlier in
-        let within : squared_distance m.point p ≤ 0 =
+        let there = node_at one.position one.before one.such.earlier in
+        let here : squared_distance m.point p ≤ 0 =
         elim one.such.nearer [
           | inl less ↦ absurd (omega (arith, less))
           | inr same ↦ omega (arith, same.0)
         ] in
-        taken state entry p 0 (record { point = m.point; number = there.node }) refl there.stands within there.earlier
+        record { node = there.node; earlier = there.earlier; stands = there.stands ∙ ap Some (same-from_distance m.point p here) }
 
-  module _ (space : ConfigurationSpace) (p : Point) (radius square distance number : ℕ) (is : square ≡ radius * radius) where
+  module _ (space : ConfigurationSpace) (p : Point) (radius : ℕ) {square : ℕ} (distance number : ℕ) (whole : square ≡ radius * radius) where
     abbrev PassedOver : Numbered → Type 0
     PassedOver =
         let nearer : NearerSearch = record { point = p; distance = distance; number = number; turn = entry.turn } in
-        IsPassedOverAt space standings (record { nearer = nearer; square = square; first_cost = entry.first_cost })
+        IsPassedOverAt space judged.standings.now (record { nearer = nearer; square = square; first_cost = entry.first_cost })
 
     pub keeps_all_near : HasNo PassedOver nodes 0 (length nodes) → KeepsNear space state entry p radius
-    keeps_all_near none =
-        keeps_near state entry space p radius square is
-        (λ n q earlier stands within bad.
-        let there = found state entry turns low nodes standings own table n q earlier stands in
-        let standing : standing_at standings (place_of state.record_of n) ≡ standing_of state n = there.standing in
-        let first : (standing_at standings (place_of state.record_of n)).first_cost ≡ first_cost_of state n =
-        ap (λ (s : Standing). s.first_cost) standing in
-        let cost : (standing_at standings (place_of state.record_of n)).cost ≡ state.cost n = ap (λ (s : Standing). s.cost) standing in
-        let cheaper : ((standing_at standings (place_of state.record_of n)).first_cost + cost_of q p < entry.first_cost)
-        ⊎ (entry.first_cost + cost_of q p < (standing_at standings (place_of state.record_of n)).cost) =
-        elim bad.cheaper.cheaper [
-          | inl less ↦ inl (omega (arith, first, less))
-          | inr less ↦ inr (omega (arith, cost, less))
-        ] in
-        none_such state entry turns low nodes standings own table PassedOver none n q earlier stands
-        (record { cheaper = record { earlier = there.early; within = within; cheaper = cheaper }; clear = bad.clear }))
+    keeps_all_near none i earlier within clear =
+        let q : Point = point_of state.points i in
+        let stands = StandsAt-present state.points i (is.present entry i earlier) in
+        let near : squared_distance q p ≤ radius * radius =
+        leb-true (squared_distance q p) (radius * radius) (sym (ap (is_within p radius) stands) ∙ within) in
+        let own = other_than PassedOver none i q earlier stands in
+        let here : Standing = standing_at judged.standings.now (place_of state.record_of i) in
+        let first : here.first_cost ≡ first_cost_of state i = ap (λ (s : Standing). s.first_cost) own.standing in
+        let cost : here.cost ≡ state.cost i = ap (λ (s : Standing). s.cost) own.standing in
+        let fine = λ (bad : (here.first_cost + cost_of q p < entry.first_cost) ⊎ (entry.first_cost + cost_of q p < here.cost)).
+        own.other (record { cheaper = record { earlier = own.early; within = omega (arith, whole, near); cheaper = bad }; clear = clear }) in
+        record {
+          chosen = elim (cases_lt (here.first_cost + cost_of q p) entry.first_cost) [
+            | inl less ↦ absurd (fine (inl less))
+            | inr more ↦ omega (arith, first, more)
+          ];
+          rewired = elim (cases_lt (entry.first_cost + cost_of q p) here.cost) [
+            | inl less ↦ absurd (fine (inr less))
+            | inr more ↦ omega (arith, cost, more)
+          ];
+        }
 
-    pub keeps_not_near : HasOne PassedOver nodes 0 (length nodes) → ¬ KeepsNear space state entry p radius
-    keeps_not_near one kept =
-        let m = numbered_at nodes one.position in
-        let there = node_at state entry turns low nodes standings own table one.position one.before one.such.cheaper.earlier in
-        let first : (standing_at standings m.number).first_cost ≡ first_cost_of state there.node =
-        ap (λ (s : Standing). s.first_cost) there.standing in
-        let cost : (standing_at standings m.number).cost ≡ state.cost there.node = ap (λ (s : Standing). s.cost) there.standing in
-        let cheaper : (first_cost_of state there.node + cost_of m.point p < entry.first_cost)
-        ⊎ (entry.first_cost + cost_of m.point p < state.cost there.node) =
-        elim one.such.cheaper.cheaper [
-          | inl less ↦ inl (omega (arith, first, less))
-          | inr less ↦ inr (omega (arith, cost, less))
-        ] in
-        keeps_not state entry space p radius square is (record { point = m.point; number = there.node }) there.stands one.such.cheaper.within
-        (record { cheaper = record { earlier = there.earlier; cheaper = cheaper }; clear = one.such.clear }) kept
+    pub keeps_not_near : (position : ℕ) → position < length nodes → PassedOver (numbered_at nodes position) → ¬ KeepsNear space state entry p radius
+    keeps_not_near position inside such kept =
+        let m = numbered_at nodes position in
+        let there = node_at position inside such.cheaper.earlier in
+        let standing : Standing = standing_at judged.standings.now m.number in
+        let first : standing.first_cost ≡ first_cost_of state there.node = ap (λ (s : Standing). s.first_cost) there.standing in
+        let cost : standing.cost ≡ state.cost there.node = ap (λ (s : Standing). s.cost) there.standing in
+        let here : point_of state.points there.node ≡ m.point = point_of-stands state.points there.node m.point there.stands in
+        let edge : cost_of (point_of state.points there.node) p ≡ cost_of m.point p = ap (λ a. cost_of a p) here in
+        let near : is_within p radius (point_at state.points there.node) ≡ true =
+        ap (is_within p radius) there.stands
+        ∙ le-leb (squared_distance m.point p) (radius * radius) (omega (arith, whole, such.cheaper.within)) in
+        let both = kept there.node there.earlier near (subst (λ a. Clear space a p) (sym here) such.clear) in
+        elim such.cheaper.cheaper [
+          | inl less ↦ omega (arith, less, first, edge, both.chosen)
+          | inr less ↦ omega (arith, less, cost, edge, both.rewired)
+        ]
 
 -- ---- the mark's own node
-
-pub not_placed : (knots : List (Option Knot)) (records : List Record) (o : Option ℕ) (mark : ℕ) → o ≡ Some mark
-    → ((p : Point) → ¬ IsPlacedMarkAt knots records mark p) → IsPlacedAt knots records o None
-not_placed knots records o mark is none = subst (λ m. IsPlacedAt knots records m None) (sym is) none
-
-pub is_placed_at : (knots : List (Option Knot)) (records : List Record) (o : Option ℕ) (mark : ℕ) (p : Point) → o ≡ Some mark
-    → IsPlacedMarkAt knots records mark p → IsPlacedAt knots records o (Some p)
-is_placed_at knots records o mark p is placed = subst (λ m. IsPlacedAt knots records m (Some p)) (sym is) placed
 
 pub bounded_placed : (knots : List (Option Knot)) (records : List Record) (o : Option ℕ) (p : Point) → IsPlacedAt knots records o (Some p) → IsBounded p
 bounded_placed knots records None p placed = absurd placed

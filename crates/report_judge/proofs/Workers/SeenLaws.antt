@@ -1,10 +1,9 @@
 -- What stood before one turn more of a worker: a node more, if it placed the mark of that turn.
 use Rattle.report_judge.proofs.Words.{◌≡◌, ℕ, zero, suc, ◌+◌, ◌<◌, ◌≤◌, Bool, true, false, eqb, ltb, List, length, Option, Some, None, arith, refl, sym, ap}
-use Rattle.report_judge.proofs.Words.{◌∙◌, subst, inl, inr, ◌≢◌, ◌⊎◌, ◌&&◌, min, slice_get, range_with_len, and_from, and_left, and_right, cases_Bool, cases_eq}
-use Rattle.report_judge.proofs.Words.{cases_lt, eq-eqb, le-ltb, lt-ltb, ne_eqb, true≢false, length-filter, Goal, Record, Knot, is_placed, is_earlier}
-use Rattle.report_judge.proofs.Words.{is_earlier_record, earlier_count, IsGoalNode, TreeState, first_cost_of, recorded_or, count-one_more, count-same}
-use Rattle.report_judge.proofs.Words.{state_of_lists, IsTurnOf, IsMarkOfTurn, HaveOwnTurns, places_before, is_before, count_before, IsLeastGoalCost}
-use Rattle.report_judge.proofs.Words.{IsLeastIfAny, AreSeen, Seen}
+use Rattle.report_judge.proofs.Words.{◌∙◌, subst, inl, inr, ◌≢◌, ◌⊎◌, ◌&&◌, min, slice_get, range_with_len, cases_eq, cases_lt, true≢false, length-filter, Goal}
+use Rattle.report_judge.proofs.Words.{Record, Knot, is_placed, is_earlier, is_earlier_record, earlier_count, IsGoalNode, TreeState, first_cost_of, recorded_or}
+use Rattle.report_judge.proofs.Words.{count-one_more, count-same, state_of_lists, IsTurnOf, IsMarkOfTurn, HaveOwnTurns, places_before, is_before, count_before}
+use Rattle.report_judge.proofs.Words.{IsLeastGoalCost, IsLeastIfAny, AreSeen, Seen, nat_tests}
 use Rattle.std.specs.Prelude.{IfNone, IfSome}
 
 -- ---- earlier nodes are those before a turn
@@ -25,34 +24,24 @@ count_before-earlier state entry =
 
 -- ---- one turn more
 
--- a number but the next one is below both limits or neither
-same_low : (a t : ℕ) → a ≢ t → ltb a t ≡ ltb a (suc t)
-same_low a t apart =
-    elim (cases_lt a t) [
-      | inl low ↦ lt-ltb a t low ∙ sym (lt-ltb a (suc t) (omega (arith, low)))
-      | inr high ↦ le-ltb a t high ∙ sym (le-ltb a (suc t) (omega (arith, high, apart)))
-    ]
+-- the tests of a record, by its turn
+pub not_placed_yet : (placed : Bool) (own worker turn t : ℕ) → t ≤ turn → (placed && (eqb own worker && ltb turn t)) ≡ false
+not_placed_yet placed own worker turn t late = grind (arith, nat_tests)
+
+placed_now : (placed : Bool) (own worker turn t : ℕ) → placed ≡ true → own ≡ worker → turn ≡ t → (placed && (eqb own worker && ltb turn (suc t))) ≡ true
+placed_now placed own worker turn t is mine now = grind (arith, nat_tests)
+
+same_next : (placed : Bool) (own worker turn t : ℕ) → (placed ≡ true → own ≡ worker → turn ≢ t)
+    → (placed && (eqb own worker && ltb turn (suc t))) ≡ (placed && (eqb own worker && ltb turn t))
+same_next placed own worker turn t other = grind (arith, nat_tests)
 
 -- a record that is not of a placed mark of this turn stands before the next one as it does before this
 places_next : (worker turn : ℕ) (o : Option Record) → ((other : Record) → o ≡ Some other → IsTurnOf worker turn other → is_placed other.outcome ≡ false)
     → places_before worker (suc turn) o ≡ places_before worker turn o
 places_next worker turn None h = refl
-places_next worker turn (Some other) h = by_test (cases_Bool (is_placed other.outcome)) (cases_eq other.worker worker) (cases_eq other.turn turn)
-  where
-    by_test : (is_placed other.outcome ≡ true) ⊎ (is_placed other.outcome ≡ false) → (other.worker ≡ worker) ⊎ (other.worker ≢ worker)
-        → (other.turn ≡ turn) ⊎ (other.turn ≢ turn)
-        → (is_placed other.outcome && (eqb other.worker worker && ltb other.turn (suc turn)))
-        ≡ (is_placed other.outcome && (eqb other.worker worker && ltb other.turn turn))
-    by_test (inr unplaced) mine here =
-        and_left (is_placed other.outcome) (eqb other.worker worker && ltb other.turn (suc turn)) unplaced
-        ∙ sym (and_left (is_placed other.outcome) (eqb other.worker worker && ltb other.turn turn) unplaced)
-    by_test (inl placed) (inr foreign) here =
-        let apart : eqb other.worker worker ≡ false = ne_eqb other.worker worker foreign in
-        ap (λ b. is_placed other.outcome && b)
-        (and_left (eqb other.worker worker) (ltb other.turn (suc turn)) apart ∙ sym (and_left (eqb other.worker worker) (ltb other.turn turn) apart))
-    by_test (inl placed) (inl mine) (inl here) = let never = h other refl (record { worker = mine; turn = here }) in absurd (true≢false (sym placed ∙ never))
-    by_test (inl placed) (inl mine) (inr apart) =
-        ap (λ b. is_placed other.outcome && (eqb other.worker worker && b)) (sym (same_low other.turn turn apart))
+places_next worker turn (Some other) h =
+    same_next (is_placed other.outcome) other.worker worker other.turn turn
+    (λ placed mine now. true≢false (sym placed ∙ h other refl (record { worker = mine; turn = now })))
 
 before_next : (record_of : ℕ → Option Record) (worker turn : ℕ)
     → ((k : ℕ) (other : Record) → record_of k ≡ Some other → IsTurnOf worker turn other → is_placed other.outcome ≡ false)
@@ -123,21 +112,15 @@ module _ (goals : List Goal) (knots : List (Option Knot)) (records : List Record
       others_same (suc k) apart =
           places_next worker turn (slice_get records k) (λ other is own. absurd (apart (ap suc (only k other is own))))
 
-      before_by : (t : ℕ) → Before t (suc mark) ≡ (is_placed entry.outcome && (eqb entry.worker worker && ltb entry.turn t))
-      before_by t = ap (places_before worker t) at
-
       new_after : Before (suc turn) (suc mark) ≡ true
       new_after =
-          before_by (suc turn)
-          ∙ and_from (is_placed entry.outcome) (eqb entry.worker worker && ltb entry.turn (suc turn)) placed
-          (and_from (eqb entry.worker worker) (ltb entry.turn (suc turn)) (eq-eqb entry.worker worker of_turn.worker)
-          (lt-ltb entry.turn (suc turn) (omega (arith, of_turn.turn))))
+          ap (places_before worker (suc turn)) at
+          ∙ placed_now (is_placed entry.outcome) entry.worker worker entry.turn turn placed of_turn.worker of_turn.turn
 
       not_before : Before turn (suc mark) ≡ false
       not_before =
-          before_by turn
-          ∙ and_right (is_placed entry.outcome) (eqb entry.worker worker && ltb entry.turn turn)
-          (and_right (eqb entry.worker worker) (ltb entry.turn turn) (le-ltb entry.turn turn (omega (arith, of_turn.turn))))
+          ap (places_before worker turn) at
+          ∙ not_placed_yet (is_placed entry.outcome) entry.worker worker entry.turn turn (omega (arith, of_turn.turn))
 
       counted_more : (seen : Seen) → suc mark < length run.points → AreSeen goals run worker turn seen → seen.nodes + 1 ≡ count_before run worker (suc turn)
       counted_more seen low h =
@@ -196,11 +179,7 @@ module _ (goals : List Goal) (knots : List (Option Knot)) (records : List Record
             ];
       }
 
-      pub least_first : IsGoalNode goals run.points (suc mark) → IsLeastIfAny goals run worker turn None
-          → IsLeastIfAny goals run worker (suc turn) (Some entry.first_cost)
-      least_first inside h = least_new entry.first_cost refl inside (λ i before goal. absurd (h i before goal))
-
-      pub least_lesser : (cost least : ℕ) → least ≡ min cost entry.first_cost → IsGoalNode goals run.points (suc mark)
+      least_lesser : (cost least : ℕ) → least ≡ min cost entry.first_cost → IsGoalNode goals run.points (suc mark)
           → IsLeastIfAny goals run worker turn (Some cost) → IsLeastIfAny goals run worker (suc turn) (Some least)
       least_lesser cost least is inside h =
           elim (cases_lt entry.first_cost cost) [
@@ -220,7 +199,7 @@ module _ (goals : List Goal) (knots : List (Option Knot)) (records : List Record
 
       pub least_by : (cost : Option ℕ) (least : ℕ) → IfNone cost (least ≡ entry.first_cost) → IfSome cost (λ one. least ≡ min one entry.first_cost)
           → IsGoalNode goals run.points (suc mark) → IsLeastIfAny goals run worker turn cost → IsLeastIfAny goals run worker (suc turn) (Some least)
-      least_by None least alone both inside h = subst (λ c. IsLeastIfAny goals run worker (suc turn) (Some c)) (sym alone) (least_first inside h)
+      least_by None least alone both inside h = least_new least alone inside (λ i before goal. absurd (h i before goal))
       least_by (Some one) least alone both inside h = least_lesser one least both inside h
 
       pub AreSeen-outside : (seen after : Seen) → suc mark < length run.points → ¬ IsGoalNode goals run.points (suc mark)

@@ -1,16 +1,14 @@
 -- Before the first turn of a worker stood the start alone.
-use Rattle.report_judge.proofs.Words.{◌≡◌, ℕ, zero, suc, ◌-◌, ◌<◌, Bool, true, false, eqb, ltb, List, length, Option, Some, None, arith, refl, sym, ap, ◌∙◌}
-use Rattle.report_judge.proofs.Words.{◌&&◌, count_by, option_map, slice_get, range_with_len, and_right, le-ltb, true≢false, length-map, Goal, Record, Knot}
-use Rattle.report_judge.proofs.Words.{Twig, is_placed, IsGoalNode, points_of, without_costs, TreeState, count-first, count-none, state_of_lists, places_before}
-use Rattle.report_judge.proofs.Words.{is_before, count_before, AreSeen}
+use Rattle.report_judge.proofs.Words.{◌≡◌, ℕ, zero, suc, ◌-◌, ◌<◌, Bool, true, false, List, length, Option, Some, None, arith, refl, sym, ap, ◌∙◌, count_by}
+use Rattle.report_judge.proofs.Words.{option_map, slice_get, range_with_len, true≢false, length-map, Goal, Record, Knot, Twig, is_placed, IsGoalNode, points_of}
+use Rattle.report_judge.proofs.Words.{without_costs, TreeState, count-first, count-none, state_of_lists, places_before, is_before, count_before, AreSeen}
 use Rattle.report_judge.proofs.Laws.LawfulSheets.{length-without_costs}
+use Rattle.report_judge.proofs.Workers.SeenLaws.{not_placed_yet}
 
 -- nothing was placed before the first turn
 never_before : (worker : ℕ) (o : Option Record) → places_before worker 0 o ≡ false
 never_before worker None = refl
-never_before worker (Some other) =
-    and_right (is_placed other.outcome) (eqb other.worker worker && ltb other.turn 0)
-    (and_right (eqb other.worker worker) (ltb other.turn 0) (le-ltb other.turn 0 (omega arith)))
+never_before worker (Some other) = not_placed_yet (is_placed other.outcome) other.worker worker other.turn 0 (omega arith)
 
 pub length-points : (knots : List (Option Knot)) → length (points_of (without_costs knots)) ≡ length knots
 length-points knots = length-map (without_costs knots) (option_map (λ (node : Twig). node.point)) ∙ length-without_costs knots

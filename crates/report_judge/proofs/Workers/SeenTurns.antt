@@ -1,6 +1,7 @@
 -- The marks of a worker by its turns, one mark after another.
 use Rattle.report_judge.proofs.Words.{◌≡◌, ℕ, ◌+◌, ◌<◌, List, length, set, Option, Some, None, arith, sym, ap, ◌∙◌, subst, inl, inr, slice_get, slice_index_or}
-use Rattle.report_judge.proofs.Words.{cases_eq, cases_lt, get_or-set_at, get_or-set_other, slice_get_within, Record, IsTurnOf, IsMarkOfTurn}
+use Rattle.report_judge.proofs.Words.{cases_eq, cases_lt, get_or-set_at, get_or-set_other, slice_get_within, Record, IsTurnOf, IsMarkOfTurn, AreMarksByTurn}
+use Rattle.report_judge.proofs.Words.{get_or_default}
 use Rattle.std.specs.Prelude.{IfSome}
 
 module _ (records : List Record) (worker : ℕ) where
@@ -59,3 +60,9 @@ module _ (records : List Record) (worker : ℕ) where
 pub low_mark : (records : List Record) (worker turn : ℕ) (o : Option ℕ) → IsMarkOfTurn records worker turn o → IfSome o (λ m. m < length records)
 low_mark records worker turn None told = tt
 low_mark records worker turn (Some mark) told = slice_get_within records mark told.0 told.1
+
+-- what is read of the marks by turn is the mark of the turn
+pub mark_read : (records : List Record) (worker : ℕ) (order : List (Option ℕ)) (turn : ℕ) (o : Option ℕ) → turn < length order
+    → AreMarksByTurn records worker order → o ≡ slice_index_or order turn o → IsMarkOfTurn records worker turn o
+mark_read records worker order turn o low by_turn is =
+    subst (IsMarkOfTurn records worker turn) (get_or_default order turn None o low ∙ sym is) (by_turn turn low)

@@ -1,6 +1,6 @@
-use Rattle.report_judge.proofs.Words.{◌≡◌, ℕ, ◌+◌, ◌-◌, ◌<◌, eqb, length, get_or, arith, sym, ap, ◌∙◌, subst, inl, inr, ◌≢◌, AllPairs, IsDistinct}
-use Rattle.report_judge.proofs.Words.{IsStrictlyIncreasing, cases_eq, cases_lt, eq-eqb, ne_eqb, Decides-eqb, get_or_default, AllPairs-from_increasing}
-use Rattle.report_judge.proofs.Words.{IsPermutation-sym, IsDistinct-IsPermutation, AllPairs-from_IsDistinct, IsDistinct-from_AllPairs}
+use Rattle.report_judge.proofs.Words.{◌≡◌, ℕ, ◌+◌, ◌-◌, ◌<◌, eqb, length, get_or, arith, ap, ◌∙◌, subst, inl, inr, ◌≢◌, AllPairs, IsDistinct}
+use Rattle.report_judge.proofs.Words.{IsStrictlyIncreasing, cases_lt, Decides-eqb, get_or_default, AllPairs-from_increasing, IsPermutation-sym}
+use Rattle.report_judge.proofs.Words.{IsDistinct-IsPermutation, AllPairs-from_IsDistinct, IsDistinct-from_AllPairs, nat_tests}
 use Rattle.report_judge.proofs.repeats.are_different.Goals as goal
 
 pub loop-place-preserved : goal.loop-place-preserved
@@ -22,11 +22,7 @@ loop-place-preserved c = λ k low.
     ]
 
 flips : (x y : ℕ) → eqb x y ≡ eqb y x
-flips x y =
-    elim (cases_eq x y) [
-      | inl e ↦ eq-eqb x y e ∙ sym (eq-eqb y x (sym e))
-      | inr apart ↦ ne_eqb x y apart ∙ sym (ne_eqb y x (λ e. apart (sym e)))
-    ]
+flips x y = grind (arith, nat_tests)
 
 pub returns : goal.returns
 returns c = λ h k inside j before same.

@@ -1,15 +1,7 @@
-use Rattle.report_judge.proofs.Words.{◌≡◌, ℕ, Bool, true, false, cond, not, eqb, ltb, get_or, arith, refl, sym, ap, ◌∙◌, inl, inr, below_more, ◌||◌, nat_cmp}
-use Rattle.report_judge.proofs.Words.{is_eq, cases_order, eq-eqb, ne_eqb, lt-ltb, le-ltb, list_any_more}
+use Rattle.report_judge.proofs.Words.{◌≡◌, ℕ, Bool, true, false, cond, eqb, ltb, get_or, arith, refl, sym, ap, ◌∙◌, inl, inr, below_more, ◌||◌, nat_cmp, is_eq}
+use Rattle.report_judge.proofs.Words.{cases_order, eq-eqb, ne_eqb, lt-ltb, le-ltb, list_any_more, not-false, not-true}
 use Rattle.report_judge.proofs.Laws.FirstBreakLaws.{IsNewKey-none, IsNewKey-some}
 use Rattle.report_judge.proofs.repeats.first_repeat.Goals as goal
-
-not-false : (b : Bool) → not b ≡ false → b ≡ true
-not-false true h = refl
-not-false false h = absurd (cc)
-
-not-true : (b : Bool) → not b ≡ true → b ≡ false
-not-true true h = absurd (cc)
-not-true false h = refl
 
 -- whether a number is in a set after a key was added
 with_key : (key q : ℕ) (had : Bool) → cond (is_eq (nat_cmp key q)) true had ≡ (had || eqb q key)

@@ -1,6 +1,6 @@
-use Rattle.report_judge.proofs.Words.{◌≡◌, suc, ◌+◌, ◌-◌, ◌≤◌, [], List, Option, length, arith, refl, sym, ap, ◌∙◌, subst, MOST_NODES, Goal, Task, Knot}
-use Rattle.report_judge.proofs.Words.{best_node, state_of_lists, Broken, IsVerdict, bytes_of, IsSettledList, extent_of, best_priced_path, path_by, tally_of}
-use Rattle.report_judge.proofs.Words.{HasForm, head_lines, Sheet, state_of_sheet, priced_path, sheet_read}
+use Rattle.report_judge.proofs.Words.{◌≡◌, suc, ◌+◌, ◌≤◌, length, arith, refl, sym, ap, ◌∙◌, subst, Task, Broken, IsVerdict, bytes_of, extent_of}
+use Rattle.report_judge.proofs.Words.{best_priced_path, tally_of, HasForm, head_lines, Sheet, state_of_sheet, priced_path, sheet_read, Goal, Knot, List, Option}
+use Rattle.report_judge.proofs.Words.{[], best_node, path_by, state_of_lists, ◌-◌}
 use Rattle.report_judge.proofs.Laws.SheetFacts.{few_knots, few_records, settled_of_law}
 use Rattle.report_judge.proofs.Texts.SheetLines.{head_few}
 use Rattle.report_judge.proofs.Laws.SheetVerdicts.{best_path-listed, broken_head, lawful_sheet, tally-listed}
@@ -8,19 +8,14 @@ use Rattle.report_judge.proofs.verdicts.head_verdict.Goals as goal
 use Rattle.report_judge.proofs.verdicts.head_verdict.Goals.{After-first_wrong_head_line}
 
 pub best_path-requires-clause-few : goal.best_path-requires-clause-few
-best_path-requires-clause-few c =
-    subst (λ (ks : List (Option Knot)). length ks ≤ MOST_NODES) (sym c.deref.ensures.value)
-    (few_knots c.args.task.now (sheet_read c.args.sheet.now) c.requires.form)
+best_path-requires-clause-few c = rw c.deref.ensures.value (few_knots c.args.task.now (sheet_read c.args.sheet.now) c.requires.form)
 
 pub best_path-requires-clause-settled : goal.best_path-requires-clause-settled
 best_path-requires-clause-settled c =
-    subst IsSettledList (sym c.deref.ensures.value)
-    (settled_of_law c.args.task.now (sheet_read c.args.sheet.now) c.requires.form c.requires.start c.requires.nodes)
+    rw c.deref.ensures.value (settled_of_law c.args.task.now (sheet_read c.args.sheet.now) c.requires.form c.requires.start c.requires.nodes)
 
 pub present_count-nodes-requires : goal.present_count-nodes-requires
-present_count-nodes-requires c =
-    subst (λ (ks : List (Option Knot)). length ks ≤ MOST_NODES) (sym c.deref-2.ensures.value)
-    (few_knots c.args.task.now (sheet_read c.args.sheet.now) c.requires.form)
+present_count-nodes-requires c = rw c.deref-2.ensures.value (few_knots c.args.task.now (sheet_read c.args.sheet.now) c.requires.form)
 
 pub counted-tally-requires : goal.counted-tally-requires
 counted-tally-requires c =

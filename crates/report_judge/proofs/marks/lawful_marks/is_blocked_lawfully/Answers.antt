@@ -7,11 +7,6 @@ returns-then-is_clear_from_nearest-clause-only g c = λ h setup same bad.
     (subst (λ s. Clear s (point_of (run_of c.args.judged.now).points c.args.entry.nearest) c.args.p) (sym same)
     (c.is_clear_from_nearest.ensures.0 c.if-is_clear_from_nearest.true))
 
-pub returns-then-is_taken-clause-only : goal.returns-then-is_taken-clause-only
-returns-then-is_taken-clause-only g c = λ h setup same bad.
-    let found = c.is_taken.ensures.taken c.if-is_taken.true in
-    bad.free found.node found.earlier found.stands
-
 pub returns-clause-lawful : goal.returns-clause-lawful
 returns-clause-lawful g c = λ h setup same. record {
   blocked = λ cleared.

@@ -1,4 +1,4 @@
-use Rattle.report_judge.proofs.Words.{◌≡◌, suc, ◌+◌, arith, sym, subst, length, IsFirstBreak, KeepsRecordBelow}
+use Rattle.report_judge.proofs.Words.{arith, subst, length, IsFirstBreak, KeepsRecordBelow}
 use Rattle.report_judge.proofs.Laws.RecordBreaks.{IsFirstBreak-no_worker, IsFirstBreak-worker, IsFirstBreak-workers}
 use Rattle.report_judge.proofs.marks.lawful_records.first_unlawful.Goals as goal
 
@@ -7,13 +7,9 @@ loop-worker-init g c = IsFirstBreak-no_worker c.args.task.now c.args.knots.now c
 
 pub loop-worker-preserved : goal.loop-worker-preserved
 loop-worker-preserved g c =
-    let next : suc c.loop-worker.worker ≡ c.loop-worker.worker + 1 = omega arith in
-    subst
-    (λ w. IsFirstBreak (KeepsRecordBelow w c.args.task.now c.args.knots.now c.args.records.now) (length c.args.records.now) c.earlier-first.result) next
-    (subst (IsFirstBreak (KeepsRecordBelow (suc c.loop-worker.worker) c.args.task.now c.args.knots.now c.args.records.now) (length c.args.records.now))
-    (sym c.earlier-first.ensures)
+    rw c.earlier-first.ensures
     (IsFirstBreak-worker c.args.task.now c.args.knots.now c.args.records.now c.loop-worker.worker c.loop-worker.first c.in_ok-broken.broken
-    c.loop-worker.invariant c.in_ok-broken.ensures))
+    c.loop-worker.invariant c.in_ok-broken.ensures)
 
 pub returns : goal.returns
 returns g c =

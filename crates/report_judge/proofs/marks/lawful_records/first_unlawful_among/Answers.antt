@@ -22,18 +22,18 @@ loop-position-preserved g c =
     let is : mark ≡ (numbered_at marks position).number = ap (λ (m : Numbered). m.number) c.at-k.ensures.value in
     elim c.if-may_be_first.branch [
       | then-may_be_first+then-not-keeps_law w ↦
-          subst (IsFirstSeen Keeps marks (position + 1)) (sym w.first-is)
+          rw w.first-is
           (subst (λ n. IsFirstSeen Keeps marks (position + 1) (Some n)) (sym is)
           (IsFirstSeen-broken Keeps marks position c.loop-position.first c.loop-position.invariant
           (omega (arith, c.loop-position-test.true, c.len-position-end.ensures))
           (may_come_first Keeps marks position mark c.loop-position.first c.may_be_first.result is w.if-may_be_first.true c.may_be_first.ensures.some)
           (λ kept. w.keeps_law.ensures.only w.if-not-keeps_law.true (subst Keeps (sym is) kept))))
       | then-may_be_first+else-not-keeps_law w ↦
-          subst (IsFirstSeen Keeps marks (position + 1)) (sym w.first-is)
+          rw w.first-is
           (IsFirstSeen-kept Keeps marks position c.loop-position.first c.loop-position.invariant
           (subst Keeps is (w.keeps_law.ensures.keeps w.if-not-keeps_law.false)))
       | else-may_be_first w ↦
-          subst (IsFirstSeen Keeps marks (position + 1)) (sym w.first-is)
+          rw w.first-is
           (IsFirstSeen-past Keeps marks position mark c.loop-position.first c.may_be_first.result is w.if-may_be_first.false c.may_be_first.ensures.none
           c.may_be_first.ensures.some c.loop-position.invariant)
     ]

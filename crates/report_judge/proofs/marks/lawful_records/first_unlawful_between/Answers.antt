@@ -1,59 +1,7 @@
-use Rattle.report_judge.proofs.Words.{◌≡◌, Some, length, arith, ap, sym, ◌∙◌, subst, slice_get_within, Record, state_of_lists, KeepsRecord, KeepsRecordBetween}
-use Rattle.report_judge.proofs.Words.{AreStandings}
+use Rattle.report_judge.proofs.Words.{◌≡◌, Some, length, arith, ap, sym, ◌∙◌, slice_get_within, Record, state_of_lists, KeepsRecord, KeepsRecordBetween}
 use Rattle.report_judge.proofs.Workers.OwnMarkLaws.{IsFirstBreak-seen, mark_among, mark_of}
 use Rattle.report_judge.proofs.Workers.OwnNodeLaws.{AreStandings-earlier}
 use Rattle.report_judge.proofs.marks.lawful_records.first_unlawful_between.Goals as goal
-
-pub nodes_before-requires-clause-few : goal.nodes_before-requires-clause-few
-nodes_before-requires-clause-few g c = c.requires.listed.few
-
-pub nodes_before-requires-clause-fit : goal.nodes_before-requires-clause-fit
-nodes_before-requires-clause-fit g c = c.requires.listed.fit
-
-pub nodes_before-requires-clause-turns : goal.nodes_before-requires-clause-turns
-nodes_before-requires-clause-turns g c = c.requires.own.marks
-
-pub nodes_before-requires-clause-own : goal.nodes_before-requires-clause-own
-nodes_before-requires-clause-own g c = c.requires.listed.own
-
-pub nodes_before-requires-clause-limit : goal.nodes_before-requires-clause-limit
-nodes_before-requires-clause-limit g c = c.requires.to
-
-pub marks_between-requires-clause-few : goal.marks_between-requires-clause-few
-marks_between-requires-clause-few g c = c.requires.listed.few
-
-pub marks_between-requires-clause-marks : goal.marks_between-requires-clause-marks
-marks_between-requires-clause-marks g c = c.requires.listed.marks
-
-pub marks_between-requires-clause-turns : goal.marks_between-requires-clause-turns
-marks_between-requires-clause-turns g c = c.requires.own.marks
-
-pub marks_between-requires-clause-own : goal.marks_between-requires-clause-own
-marks_between-requires-clause-own g c = c.requires.listed.own
-
-pub marks_between-requires-clause-onward : goal.marks_between-requires-clause-onward
-marks_between-requires-clause-onward g c = c.requires.onward
-
-pub marks_between-requires-clause-to : goal.marks_between-requires-clause-to
-marks_between-requires-clause-to g c = c.requires.to
-
-pub first_unlawful_among-requires-clause-hall : goal.first_unlawful_among-requires-clause-hall
-first_unlawful_among-requires-clause-hall g c κs within = c.requires.hall
-
-pub first_unlawful_among-requires-clause-few : goal.first_unlawful_among-requires-clause-few
-first_unlawful_among-requires-clause-few g c κs within = c.requires.listed.few
-
-pub first_unlawful_among-requires-clause-marks : goal.first_unlawful_among-requires-clause-marks
-first_unlawful_among-requires-clause-marks g c κs within = c.requires.listed.marks
-
-pub first_unlawful_among-requires-clause-radii : goal.first_unlawful_among-requires-clause-radii
-first_unlawful_among-requires-clause-radii g c κs within = c.requires.listed.radii
-
-pub first_unlawful_among-requires-clause-own : goal.first_unlawful_among-requires-clause-own
-first_unlawful_among-requires-clause-own g c κs within = c.requires.own
-
-pub first_unlawful_among-requires-clause-turns : goal.first_unlawful_among-requires-clause-turns
-first_unlawful_among-requires-clause-turns g c κs within = c.requires.to
 
 pub first_unlawful_among-requires-clause-judged : goal.first_unlawful_among-requires-clause-judged
 first_unlawful_among-requires-clause-judged g c κs within =
@@ -68,7 +16,7 @@ first_unlawful_among-requires-clause-judged g c κs within =
       present = c.requires.listed.present;
       own = c.in_ok-nodes.ensures;
       standings =
-          subst (AreStandings run own.turns.worker c.args.to) (sym c.deref.ensures.value)
+          rw c.deref.ensures.value
           (AreStandings-earlier run own.turns.worker c.args.to (length own.turns.marks.items) own.standings.items c.requires.to c.requires.own.standings);
       count = c.requires.listed.count;
     }

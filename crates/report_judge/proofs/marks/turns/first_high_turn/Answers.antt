@@ -35,6 +35,3 @@ loop-k-preserved c =
     let both : Some entry ≡ Some other = sym at ∙ is in
     let same : entry ≡ other = cc in
     subst (λ (r : Record). r.turn < turns_of (slice_get records) (length records) r.worker) same low)
-
-pub returns : goal.returns
-returns c = λ k inside. c.loop-k.invariant k (omega (arith, inside, c.loop-k-test.false))

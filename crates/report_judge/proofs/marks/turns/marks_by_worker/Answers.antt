@@ -1,13 +1,9 @@
-use Rattle.report_judge.proofs.Words.{◌≡◌, ℕ, suc, ◌+◌, ◌<◌, ◌≤◌, cond, eqb, List, length, Some, arith, refl, sym, ap, ◌∙◌, inl, inr, slice_get, slice_index_or}
-use Rattle.report_judge.proofs.Words.{slice_set, range_with_len, cases_eq, eq-eqb, ne_eqb, get_or-set_at, get_or-replicate, get_or-set_other}
-use Rattle.report_judge.proofs.Words.{length-range_with_len, count_by-le-length, slice_get_read, Record, is_of_worker, turns_of, count-more}
+use Rattle.report_judge.proofs.Words.{◌≡◌, ℕ, suc, ◌+◌, ◌<◌, cond, eqb, List, length, Some, arith, refl, sym, ap, ◌∙◌, inl, inr, slice_get, slice_index_or}
+use Rattle.report_judge.proofs.Words.{slice_set, cases_eq, eq-eqb, ne_eqb, get_or-set_at, get_or-replicate, get_or-set_other, slice_get_read, Record}
+use Rattle.report_judge.proofs.Words.{is_of_worker, turns_of, count-more}
 use Rattle.std.proofs.lemmas.List.{length-set}
+use Rattle.report_judge.proofs.Laws.TurnBreaks.{turns_at_most}
 use Rattle.report_judge.proofs.marks.turns.marks_by_worker.Goals as goal
-
--- a worker has handled at most as many marks as there are
-turns_at_most : (records : List Record) (i w : ℕ) → turns_of (slice_get records) i w ≤ i
-turns_at_most records i w =
-    omega (arith, count_by-le-length (λ k. is_of_worker w (slice_get records k)) (range_with_len 0 i), length-range_with_len 0 i)
 
 -- one mark more is counted for its worker
 turns-more : (records : List Record) (i w : ℕ) (entry : Record) → slice_get records i ≡ Some entry
@@ -48,23 +44,20 @@ loop-entry-init c = record { long = refl; counted = λ w low. get_or-replicate 6
 
 pub bounds-counts-entry : goal.bounds-counts-entry
 bounds-counts-entry c =
-    let found =
-    slice_get_read c.args.records.now (length c.args.records.now) c.loop-entry.entry-index c.entry-item.result refl c.loop-entry-test.true
-    c.entry-item.is in
+    let records = c.args.records.now in
+    let found = slice_get_read records (length records) c.loop-entry.entry-index c.entry-item.result refl c.loop-entry-test.true c.entry-item.is in
     (c.requires.fit c.loop-entry.entry-index c.entry-item.result found).worker
 
 pub bounds-counts-entry-in-loop-entry : goal.bounds-counts-entry-in-loop-entry
 bounds-counts-entry-in-loop-entry c =
-    let found =
-    slice_get_read c.args.records.now (length c.args.records.now) c.loop-entry.entry-index c.entry-item.result refl c.loop-entry-test.true
-    c.entry-item.is in
+    let records = c.args.records.now in
+    let found = slice_get_read records (length records) c.loop-entry.entry-index c.entry-item.result refl c.loop-entry-test.true c.entry-item.is in
     (c.requires.fit c.loop-entry.entry-index c.entry-item.result found).worker
 
 pub overflow_add-counts : goal.overflow_add-counts
 overflow_add-counts c =
-    let found =
-    slice_get_read c.args.records.now (length c.args.records.now) c.loop-entry.entry-index c.entry-item.result refl c.loop-entry-test.true
-    c.entry-item.is in
+    let records = c.args.records.now in
+    let found = slice_get_read records (length records) c.loop-entry.entry-index c.entry-item.result refl c.loop-entry-test.true c.entry-item.is in
     let low = (c.requires.fit c.loop-entry.entry-index c.entry-item.result found).worker in
     omega (
       arith,
@@ -76,9 +69,8 @@ overflow_add-counts c =
 
 pub loop-entry-preserved : goal.loop-entry-preserved
 loop-entry-preserved c =
-    let found =
-    slice_get_read c.args.records.now (length c.args.records.now) c.loop-entry.entry-index c.entry-item.result refl c.loop-entry-test.true
-    c.entry-item.is in
+    let records = c.args.records.now in
+    let found = slice_get_read records (length records) c.loop-entry.entry-index c.entry-item.result refl c.loop-entry-test.true c.entry-item.is in
     let low = (c.requires.fit c.loop-entry.entry-index c.entry-item.result found).worker in
     record {
       long = length-set c.loop-entry.counts c.entry-item.result.worker _ ∙ c.loop-entry.invariant.long;

@@ -1,7 +1,6 @@
-use Rattle.report_judge.proofs.Words.{◌≡◌, suc, ◌+◌, ◌<◌, [], ◌∷◌, ◌++◌, length, arith, sym, ap, ◌∙◌, subst, All, None, slice_index_or, get_or_default}
-use Rattle.report_judge.proofs.Words.{All-push, Point, IsBounded, All-task_marks_within, Numbered, AreMarksBetween, IsMarkOfTurn}
-use Rattle.std.specs.Prelude.{IfSome}
-use Rattle.report_judge.proofs.Workers.SeenTurns.{low_mark}
+use Rattle.report_judge.proofs.Words.{◌≡◌, ◌<◌, [], ◌∷◌, ◌++◌, length, arith, sym, ap, ◌∙◌, subst, All, slice_index_or, All-push, Point, IsBounded}
+use Rattle.report_judge.proofs.Words.{All-task_marks_within, Numbered, AreMarksBetween}
+use Rattle.report_judge.proofs.Workers.SeenTurns.{low_mark, mark_read}
 use Rattle.report_judge.proofs.Workers.OwnMarkLaws.{AreMarksBetween-more, AreMarksBetween-none, AreMarksBetween-same, AreMarksBetween-sorted}
 use Rattle.report_judge.proofs.own.own_marks.marks_between.Goals as goal
 use Rattle.report_judge.proofs.own.own_marks.marks_between.Goals.{in-Some+in_ok-push, in_default}
@@ -19,16 +18,11 @@ bounds-points-number c =
     let records = c.args.records.now in
     let worker = c.args.turns.now.worker in
     let turn = c.loop-turn.turn in
-    let told : IsMarkOfTurn records worker turn c.index.result.now =
-    subst (IsMarkOfTurn records worker turn)
-    (get_or_default c.args.turns.now.marks.items turn None c.index.result.now (omega (arith, c.loop-turn-test.true, c.requires.to)) ∙ sym c.index.ensures)
-    (c.requires.turns turn (omega (arith, c.loop-turn-test.true, c.requires.to))) in
-    let inside : c.in-Some.number < length records =
-    subst (λ o. IfSome o (λ m. m < length records)) c.in-Some.is (low_mark records worker turn c.index.result.now told) in
+    let told =
+    mark_read records worker c.args.turns.now.marks.items turn c.index.result.now (omega (arith, c.loop-turn-test.true, c.requires.to)) c.requires.turns
+    c.index.ensures in
+    let inside : c.in-Some.number < length records = rw c.in-Some.is at (low_mark records worker turn c.index.result.now told) in
     omega (arith, inside, c.requires.marks, ap length c.as_slice-points.ensures)
-
-pub new-requires : goal.new-requires
-new-requires c = c.loop-turn.invariant.bounded
 
 pub loop-turn-preserved : goal.loop-turn-preserved
 loop-turn-preserved c =
@@ -36,11 +30,9 @@ loop-turn-preserved c =
     let worker = c.args.turns.now.worker in
     let turn = c.loop-turn.turn in
     let old = c.loop-turn.marks.items in
-    let next : suc turn ≡ turn + 1 = omega arith in
-    let told : IsMarkOfTurn records worker turn c.index.result.now =
-    subst (IsMarkOfTurn records worker turn)
-    (get_or_default c.args.turns.now.marks.items turn None c.index.result.now (omega (arith, c.loop-turn-test.true, c.requires.to)) ∙ sym c.index.ensures)
-    (c.requires.turns turn (omega (arith, c.loop-turn-test.true, c.requires.to))) in
+    let told =
+    mark_read records worker c.args.turns.now.marks.items turn c.index.result.now (omega (arith, c.loop-turn-test.true, c.requires.to)) c.requires.turns
+    c.index.ensures in
     elim c.match-index.branch [
       | in-Some+in_ok-push w ↦ (
           let number = w.in-Some.number in
@@ -48,29 +40,23 @@ loop-turn-preserved c =
           let p : Point = slice_index_or c.as_slice-points.result.now number origin in
           let added : Numbered = record { point = p; number = number } in
           let items : c.match-index.marks.items ≡ old ++ added ∷ [] = ap (λ v. v.items) w.marks-is ∙ w.in_ok-push.ensures.items in
-          let inside : number < length records =
-          subst (λ o. IfSome o (λ m. m < length records)) w.in-Some.is (low_mark records worker turn c.index.result.now told) in
+          let inside : number < length records = rw w.in-Some.is at (low_mark records worker turn c.index.result.now told) in
           let bounded : IsBounded p =
-          subst (λ ps. IsBounded (slice_index_or ps number origin)) (sym c.as_slice-points.ensures)
-          (All-task_marks_within c.args.task.now number origin (omega (arith, inside, c.requires.marks))) in
+          rw c.as_slice-points.ensures (All-task_marks_within c.args.task.now number origin (omega (arith, inside, c.requires.marks))) in
           record {
             between =
-                subst (AreMarksBetween records worker c.args.from (turn + 1)) (sym items)
-                (subst (λ t. AreMarksBetween records worker c.args.from t (old ++ added ∷ [])) next
+                rw items
                 (AreMarksBetween-more records worker c.args.from c.requires.own turn c.loop-turn.auto.turn old c.index.result.now number p
-                c.loop-turn.invariant.between told w.in-Some.is));
-            bounded =
-                subst (All (λ (m : Numbered). IsBounded m.point)) (sym items)
-                (All-push (λ (m : Numbered). IsBounded m.point) old added c.loop-turn.invariant.bounded bounded);
+                c.loop-turn.invariant.between told w.in-Some.is);
+            bounded = rw items (All-push (λ (m : Numbered). IsBounded m.point) old added c.loop-turn.invariant.bounded bounded);
           })
       | in_default w ↦ (
           let items : c.match-index.marks.items ≡ old = ap (λ v. v.items) w.marks-is in
           record {
             between =
-                subst (AreMarksBetween records worker c.args.from (turn + 1)) (sym items)
-                (subst (λ t. AreMarksBetween records worker c.args.from t old) next
-                (AreMarksBetween-same records worker c.args.from turn old c.index.result.now c.loop-turn.invariant.between told w.in_default.is));
-            bounded = subst (All (λ (m : Numbered). IsBounded m.point)) (sym items) c.loop-turn.invariant.bounded;
+                rw items
+                (AreMarksBetween-same records worker c.args.from turn old c.index.result.now c.loop-turn.invariant.between told w.in_default.is);
+            bounded = rw items c.loop-turn.invariant.bounded;
           })
     ]
 

@@ -1,9 +1,9 @@
-use Rattle.report_judge.proofs.Words.{◌≡◌, suc, ◌+◌, [], ◌∷◌, ◌++◌, Some, None, arith, sym, ap, ◌∙◌, subst, All, slice_index_or, get_or_default, All-push}
-use Rattle.report_judge.proofs.Words.{IsBounded, state_of_lists, Numbered, AreNodesBefore, IsPlacedAt, IsMarkOfTurn}
+use Rattle.report_judge.proofs.Words.{◌≡◌, suc, ◌+◌, [], ◌∷◌, ◌++◌, Some, None, arith, sym, ap, ◌∙◌, subst, slice_index_or, All-push, IsBounded, state_of_lists}
+use Rattle.report_judge.proofs.Words.{Numbered, AreNodesBefore, IsPlacedAt}
 use Rattle.report_judge.proofs.Laws.ListedNodes.{none-stands, stands-listed}
 use Rattle.report_judge.proofs.Workers.OwnNodeLaws.{AreNodesBefore-none, AreNodesBefore-placed, AreNodesBefore-sorted, AreNodesBefore-start}
-use Rattle.report_judge.proofs.Workers.OwnNodeLaws.{AreNodesBefore-unplaced}
-use Rattle.report_judge.proofs.Workers.OwnNodeLaws.{bounded_placed, bounded_points}
+use Rattle.report_judge.proofs.Workers.OwnNodeLaws.{AreNodesBefore-unplaced, bounded_placed, bounded_points}
+use Rattle.report_judge.proofs.Workers.SeenTurns.{mark_read}
 use Rattle.report_judge.proofs.own.own_nodes.nodes_before.Goals as goal
 use Rattle.report_judge.proofs.own.own_nodes.nodes_before.Goals.{in-Some+in_ok-push, in_default, in-Some-placed_at+in_ok-push-2, in_default-placed_at}
 
@@ -20,10 +20,9 @@ loop-turn-init c =
           ap (λ v. v.items) w.nodes-is ∙ w.in_ok-push.ensures.items ∙ ap (λ xs. xs ++ own ∷ []) c.new-nodes.ensures.items in
           record {
             before =
-                subst (AreNodesBefore (state_of_lists knots records) worker 0) (sym items)
-                (AreNodesBefore-start knots records worker w.in-Some.start.point (stands-listed knots records 0 w.in-Some.start at));
+                rw items (AreNodesBefore-start knots records worker w.in-Some.start.point (stands-listed knots records 0 w.in-Some.start at));
             bounded =
-                subst (All (λ (m : Numbered). IsBounded m.point)) (sym items)
+                rw items
                 (All-push (λ (m : Numbered). IsBounded m.point) [] own (λ i d low. absurd (omega (arith, low)))
                 (c.requires.fit 0 w.in-Some.start at).point);
           })
@@ -31,10 +30,10 @@ loop-turn-init c =
           let items : c.match-knot_at.nodes.items ≡ [] = ap (λ v. v.items) w.nodes-is ∙ c.new-nodes.ensures.items in
           record {
             before =
-                subst (AreNodesBefore (state_of_lists knots records) worker 0) (sym items)
+                rw items
                 (AreNodesBefore-none knots records worker
                 (λ p stands. none-stands knots records 0 p (sym c.knot_at.ensures ∙ w.in_default.is) stands));
-            bounded = subst (All (λ (m : Numbered). IsBounded m.point)) (sym items) (λ i d low. absurd (omega (arith, low)));
+            bounded = rw items (λ i d low. absurd (omega (arith, low)));
           })
     ]
 
@@ -47,10 +46,9 @@ loop-turn-preserved c =
     let turn = c.loop-turn.turn in
     let old = c.loop-turn.nodes.items in
     let next : suc turn ≡ turn + 1 = omega arith in
-    let told : IsMarkOfTurn records worker turn c.index.result.now =
-    subst (IsMarkOfTurn records worker turn)
-    (get_or_default c.args.turns.now.marks.items turn None c.index.result.now (omega (arith, c.loop-turn-test.true, c.requires.limit)) ∙ sym c.index.ensures)
-    (c.requires.turns turn (omega (arith, c.loop-turn-test.true, c.requires.limit))) in
+    let told =
+    mark_read records worker c.args.turns.now.marks.items turn c.index.result.now (omega (arith, c.loop-turn-test.true, c.requires.limit)) c.requires.turns
+    c.index.ensures in
     elim c.match-placed_at.branch [
       | in-Some-placed_at+in_ok-push-2 w ↦ (
           let p = w.in-Some-placed_at.point in
@@ -62,10 +60,10 @@ loop-turn-preserved c =
           AreNodesBefore-placed knots records worker c.requires.own turn old c.index.result.now p c.loop-turn.invariant.before told placed in
           record {
             before =
-                subst (AreNodesBefore run worker (turn + 1)) (sym items)
+                rw items
                 (subst (λ n. AreNodesBefore run worker n (old ++ record { point = p; number = n } ∷ [])) next grown);
             bounded =
-                subst (All (λ (m : Numbered). IsBounded m.point)) (sym items)
+                rw items
                 (All-push (λ (m : Numbered). IsBounded m.point) old own c.loop-turn.invariant.bounded
                 (bounded_placed knots records c.index.result.now p placed));
           })
@@ -73,12 +71,12 @@ loop-turn-preserved c =
           let items : c.match-placed_at.nodes.items ≡ old = ap (λ v. v.items) w.nodes-is in
           record {
             before =
-                subst (AreNodesBefore run worker (turn + 1)) (sym items)
+                rw items
                 (subst (λ n. AreNodesBefore run worker n old) next
                 (AreNodesBefore-unplaced knots records worker c.requires.own turn old c.index.result.now c.loop-turn.invariant.before told
                 (subst (IsPlacedAt knots records c.index.result.now) w.in_default-placed_at.is c.placed_at.ensures)
                 (bounded_points knots records c.requires.fit)));
-            bounded = subst (All (λ (m : Numbered). IsBounded m.point)) (sym items) c.loop-turn.invariant.bounded;
+            bounded = rw items c.loop-turn.invariant.bounded;
           })
     ]
 

@@ -1,14 +1,13 @@
 use Rattle.report_judge.proofs.Words.{◌+◌, ◌≡◌, Some, length, suc, arith, refl, sym, ap, ◌∙◌, None, slice_index_or, true≢false, slice_get_read}
 use Rattle.report_judge.proofs.Words.{slice_get_within, Record, is_placed}
 use Rattle.report_judge.proofs.Laws.ListedNodes.{none-stands, stands-listed}
-use Rattle.report_judge.proofs.Workers.OwnNodeLaws.{is_placed_at, not_placed}
 use Rattle.report_judge.proofs.own.own_nodes.placed_at.Goals as goal
 
 pub returns-then-k-records : goal.returns-then-k-records
 returns-then-k-records c =
     let records = c.args.records.now in
     let mark = c.in-Some.k in
-    not_placed c.args.knots.now records c.args.k mark c.in-Some.is
+    rw c.in-Some.is
     (λ p placed. omega (arith, slice_get_within records mark placed.entry placed.at, c.if-k-records.true))
 
 pub returns-then-not-is_placed : goal.returns-then-not-is_placed
@@ -17,7 +16,7 @@ returns-then-not-is_placed c =
     let mark = c.in-Some.k in
     let entry = c.index-records-k.result in
     let at = slice_get_read records (length records) mark entry refl (omega (arith, c.if-k-records.false)) c.index-records-k.is in
-    not_placed c.args.knots.now records c.args.k mark c.in-Some.is
+    rw c.in-Some.is
     (λ p placed.
     let both : Some placed.entry ≡ Some entry = sym placed.at ∙ at in
     let same : placed.entry ≡ entry = cc in
@@ -32,7 +31,7 @@ returns-in-Some-knot_at c =
     let next : mark + 1 ≡ suc mark = omega arith in
     let at : slice_index_or knots (suc mark) None ≡ Some c.in-Some-knot_at.knot =
     ap (λ n. slice_index_or knots n None) (sym next) ∙ sym c.in-Some-knot_at.ensures in
-    is_placed_at knots records c.args.k mark c.in-Some-knot_at.knot.point c.in-Some.is
+    rw c.in-Some.is
     (record {
       entry = c.index-records-k.result;
       at = slice_get_read records (length records) mark c.index-records-k.result refl (omega (arith, c.if-k-records.false)) c.index-records-k.is;
@@ -48,5 +47,5 @@ returns-in-None c =
     let next : mark + 1 ≡ suc mark = omega arith in
     let gone : slice_index_or knots (suc mark) None ≡ None =
     ap (λ n. slice_index_or knots n None) (sym next) ∙ sym c.knot_at.ensures ∙ c.in-None.is in
-    not_placed knots c.args.records.now c.args.k mark c.in-Some.is
+    rw c.in-Some.is
     (λ p placed. none-stands knots c.args.records.now (suc mark) p gone placed.stands)

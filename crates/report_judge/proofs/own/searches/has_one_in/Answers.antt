@@ -1,4 +1,3 @@
-use Rattle.std.proofs.Common.{sym, subst}
 use Rattle.report_judge.proofs.Workers.OwnNodeLaws.{HasNo-more}
 use Rattle.report_judge.proofs.own.searches.has_one_in.Goals as goal
 
@@ -7,13 +6,11 @@ returns-then-has-clause-some g c = λ h. record {
   position = c.loop-position.position;
   past = c.loop-position.auto.position;
   before = c.loop-position-test.true;
-  such =
-      subst (g.S.Search.finds c.args.search (g.C.Clearing.space c.args.hall.now) c.args.judged.now.standings.now) c.at.ensures.value
-      (c.has.ensures.found c.if-has.true);
+  such = rw c.at.ensures.value at (c.has.ensures.found c.if-has.true);
 }
 
 pub loop-position-preserved : goal.loop-position-preserved
 loop-position-preserved g c =
     let finds = g.S.Search.finds c.args.search (g.C.Clearing.space c.args.hall.now) c.args.judged.now.standings.now in
     HasNo-more finds c.args.judged.now.own.now c.args.stretch.start c.loop-position.position c.loop-position.invariant
-    (λ found. c.has.ensures.only c.if-has.false (subst finds (sym c.at.ensures.value) found))
+    (λ found. c.has.ensures.only c.if-has.false (rw c.at.ensures.value found))

@@ -4,27 +4,22 @@ use Rattle.report_judge.proofs.Workers.OwnNodeLaws.{is_free, is_taken_by, nearer
 use Rattle.report_judge.proofs.own.searches.is_taken.Goals as goal
 
 pub has_one-requires-clause-within : goal.has_one-requires-clause-within
-has_one-requires-clause-within g c κs within =
-    nearer_within c.args.judged.now.standings.now _ c.of_square.result.center c.of_square.result.square c.of_square.ensures.center
-    c.of_square.ensures.square
+has_one-requires-clause-within g c κs within = nearer_within c.of_square.ensures.center c.of_square.ensures.square
 
-pub returns-clause-taken : goal.returns-clause-taken
-returns-clause-taken g c = λ h.
-    let judged = c.args.judged.now in
-    is_taken_by (run_of judged) c.args.entry judged.turns c.requires.turn judged.own.now judged.standings.now c.requires.judged.own
-    c.requires.judged.standings c.args.p 4294967295 (c.has_one.ensures.some h)
-
-pub returns-clause-free : goal.returns-clause-free
-returns-clause-free g c = λ h.
+pub returns : goal.returns
+returns g c =
     let judged = c.args.judged.now in
     let knots = judged.knots.now in
-    is_free (run_of judged) c.args.entry judged.turns c.requires.turn judged.own.now judged.standings.now c.requires.judged.own
-    c.requires.judged.standings c.args.p 4294967295
-    (λ n q stands.
-    omega (
-      arith,
-      present_below (without_costs knots) n (IsPresent-stands (run_of judged).points n q stands),
-      length-without_costs knots,
-      c.requires.judged.numbers,
-      c.requires.judged.few,
-    )) (c.has_one.ensures.none h)
+    record {
+      taken = λ h. is_taken_by c.args.entry c.requires.judged c.requires.turn c.args.p 4294967295 (c.has_one.ensures.some h);
+      free = λ h.
+          is_free c.args.entry c.requires.judged c.requires.turn c.args.p 4294967295
+          (λ n q stands.
+          omega (
+            arith,
+            present_below (without_costs knots) n (IsPresent-stands (run_of judged).points n q stands),
+            length-without_costs knots,
+            c.requires.judged.numbers,
+            c.requires.judged.few,
+          )) (c.has_one.ensures.none h);
+    }

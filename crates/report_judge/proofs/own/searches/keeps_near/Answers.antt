@@ -1,30 +1,24 @@
-use Rattle.report_judge.proofs.Words.{◌≡◌, ◌*◌, ◌∙◌, arith, inl, inr, sym, run_of}
-use Rattle.report_judge.proofs.Workers.OwnNodeLaws.{keeps_all_near, keeps_not_near, none_nearer, not_false, not_true, unlawful_within}
+use Rattle.report_judge.proofs.Words.{◌≡◌, ◌*◌, ◌∙◌, arith, inl, inr, sym, not-false, not-true}
+use Rattle.report_judge.proofs.Workers.OwnNodeLaws.{keeps_all_near, keeps_not_near, none_nearer, unlawful_within}
 use Rattle.report_judge.proofs.own.searches.keeps_near.Goals as goal
 
 pub has_one-requires-clause-within : goal.has_one-requires-clause-within
 has_one-requires-clause-within g c κs within =
     let square : c.from.result * c.from-2.result ≡ c.args.radius * c.args.radius = λ i. c.from.ensures i * c.from-2.ensures i in
-    unlawful_within (g.C.Clearing.space c.args.hall.now) c.args.judged.now.standings.now _ c.of_radius.result.center
-    c.of_radius.result.square c.of_radius.ensures.center (c.of_radius.ensures.square ∙ sym square) (omega arith)
+    unlawful_within c.of_radius.ensures.center (c.of_radius.ensures.square ∙ sym square) (omega arith)
 
-pub returns-clause-kept : goal.returns-clause-kept
-returns-clause-kept g c = λ h.
-    let judged = c.args.judged.now in
-    let none = c.has_one.ensures.none (not_true c.has_one.result h) in
-    keeps_all_near (run_of judged) c.args.entry judged.turns c.requires.turn judged.own.now judged.standings.now c.requires.judged.own
-    c.requires.judged.standings (g.C.Clearing.space c.args.hall.now) c.args.p c.args.radius _ 0 0
-    (λ i. c.from.ensures i * c.from-2.ensures i) (λ j from to over. none j from to (inr over))
-
-pub returns-clause-only : goal.returns-clause-only
-returns-clause-only g c = λ h kept.
-    let judged = c.args.judged.now in
-    let one = c.has_one.ensures.some (not_false c.has_one.result h) in
-    elim one.such [
-      | inl near ↦ none_nearer judged.standings.now c.args.entry.turn c.args.p _ near
-      | inr over ↦
-          keeps_not_near (run_of judged) c.args.entry judged.turns c.requires.turn judged.own.now judged.standings.now c.requires.judged.own
-          c.requires.judged.standings (g.C.Clearing.space c.args.hall.now) c.args.p c.args.radius _ 0 0
-          (λ i. c.from.ensures i * c.from-2.ensures i)
-          (record { position = one.position; past = one.past; before = one.before; such = over }) kept
-    ]
+pub returns : goal.returns
+returns g c =
+    let space = g.C.Clearing.space c.args.hall.now in
+    let square : c.from.result * c.from-2.result ≡ c.args.radius * c.args.radius = λ i. c.from.ensures i * c.from-2.ensures i in
+    record {
+      kept = λ h.
+          let none = c.has_one.ensures.none (not-true c.has_one.result h) in
+          keeps_all_near c.args.entry c.requires.judged c.requires.turn space c.args.p c.args.radius 0 0 square (λ j from to over. none j from to (inr over));
+      only = λ h kept.
+          let one = c.has_one.ensures.some (not-false c.has_one.result h) in
+          elim one.such [
+            | inl near ↦ none_nearer near
+            | inr over ↦ keeps_not_near c.args.entry c.requires.judged c.requires.turn space c.args.p c.args.radius 0 0 square one.position one.before over kept
+          ];
+    }

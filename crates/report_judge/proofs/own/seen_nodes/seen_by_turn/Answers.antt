@@ -1,5 +1,5 @@
 use Rattle.report_judge.proofs.Words.{◌≡◌, suc, ◌+◌, [], ◌∷◌, length, length-append, arith, sym, ap, ◌∙◌, subst, None, slice_get, slice_index_or}
-use Rattle.report_judge.proofs.Words.{slice_get_within, state_of_lists, AreSeen, IsMarkOfTurn}
+use Rattle.report_judge.proofs.Words.{slice_get_within, state_of_lists, AreSeen}
 use Rattle.report_judge.proofs.Workers.SeenTurns.{low_mark}
 use Rattle.report_judge.proofs.Texts.ListPlaces.{pushed_each}
 use Rattle.report_judge.proofs.Workers.SeenStarts.{one_counted}
@@ -27,8 +27,7 @@ pub after-seen-requires-clause-low : goal.after-seen-requires-clause-low
 after-seen-requires-clause-low c =
     let index = c.loop-k.k-index in
     low_mark c.args.records.now c.args.turns.now.worker index (slice_index_or c.deref-k-items.result.now index None)
-    (subst (λ os. IsMarkOfTurn c.args.records.now c.args.turns.now.worker index (slice_index_or os index None)) (sym c.deref-k-items.ensures.value)
-    (c.requires.marks index (omega (arith, c.loop-k-test.true, ap length c.deref-k-items.ensures.value))))
+    (rw c.deref-k-items.ensures.value (c.requires.marks index (omega (arith, c.loop-k-test.true, ap length c.deref-k-items.ensures.value))))
 
 pub loop-k-preserved : goal.loop-k-preserved
 loop-k-preserved c =
@@ -43,8 +42,8 @@ loop-k-preserved c =
       now =
           subst (λ t. AreSeen c.args.goals.now run c.args.turns.now.worker t c.after-seen.result) next
           (c.after-seen.ensures.seen c.args.turns.now.worker index
-          (subst (λ os. IsMarkOfTurn c.args.records.now c.args.turns.now.worker index (slice_index_or os index None)) (sym c.deref-k-items.ensures.value)
-          (c.requires.marks index (omega (arith, c.loop-k-test.true, ap length c.deref-k-items.ensures.value)))) c.loop-k.invariant.now);
+          (rw c.deref-k-items.ensures.value (c.requires.marks index (omega (arith, c.loop-k-test.true, ap length c.deref-k-items.ensures.value))))
+          c.loop-k.invariant.now);
       each = λ turn own is.
           pushed_each (AreSeen c.args.goals.now run c.args.turns.now.worker) old c.loop-k.seen c.loop-k.invariant.each
           (subst (λ t. AreSeen c.args.goals.now run c.args.turns.now.worker t c.loop-k.seen) (sym c.loop-k.invariant.long)

@@ -1,4 +1,4 @@
-use Rattle.report_judge.proofs.Words.{◌≡◌, ℕ, suc, [], ◌∷◌, ◌++◌, ◌<◌, ◌≤◌, Option, Some, None, length, length-append, arith, sym, ap, ◌∙◌, subst, inl, inr}
+use Rattle.report_judge.proofs.Words.{◌≡◌, ℕ, suc, [], ◌∷◌, ◌++◌, ◌<◌, ◌≤◌, Option, Some, None, length, length-append, arith, ap, ◌∙◌, subst, inl, inr}
 use Rattle.report_judge.proofs.Words.{slice_index_or, state_of_lists, MOST_MARKS, cases_lt, get_or_push, IsMarkOfTurn, no_standing, standing_at, standing_of}
 use Rattle.std.specs.Prelude.{IfSome}
 use Rattle.report_judge.proofs.Workers.SeenTurns.{low_mark}
@@ -16,8 +16,7 @@ node_of-requires c =
     let index = c.loop-k.k-index in
     let mark = slice_index_or c.deref-k-items.result.now index None in
     let told : IsMarkOfTurn records worker index mark =
-    subst (λ os. IsMarkOfTurn records worker index (slice_index_or os index None)) (sym c.deref-k-items.ensures.value)
-    (c.requires.turns index (omega (arith, c.loop-k-test.true, ap length c.deref-k-items.ensures.value))) in
+    rw c.deref-k-items.ensures.value (c.requires.turns index (omega (arith, c.loop-k-test.true, ap length c.deref-k-items.ensures.value))) in
     low_node (length records) MOST_MARKS mark c.requires.few (low_mark records worker index mark told)
 
 pub loop-k-preserved : goal.loop-k-preserved

@@ -1,6 +1,6 @@
-use Rattle.report_judge.proofs.Words.{◌≡◌, ℕ, List, ◌++◌, arith, sym, ap, ◌∙◌, Bool, codes, FitsTally, field, line_text, Counts, Tally}
+use Rattle.report_judge.proofs.Words.{ℕ, List, arith, sym, ap, ◌∙◌, codes, field, Tally}
 use Rattle.report_judge.proofs.Texts.CountParts.{last_counts, parts-counts}
-use Rattle.report_judge.proofs.Texts.FieldWords.{none_always}
+use Rattle.report_judge.proofs.Texts.FieldWords.{no_value}
 use Rattle.report_judge.proofs.reading.count_readers.read_counts.Goals as goal
 
 -- the line from each of its numbers on
@@ -13,35 +13,27 @@ from_same tally rest = field (codes "same ") tally.same 32 (from_blocked tally r
 abbrev from_placed : Tally → List ℕ → List ℕ
 from_placed tally rest = field (codes "placed ") tally.placed 32 (from_same tally rest)
 
--- no line of counts stands first
-abbrev HasNoCounts : Bool → List ℕ → Type 0
-HasNoCounts informed text = (tally : Tally) (rest : List ℕ) → FitsTally informed tally → text ≡ line_text (Counts tally) ++ rest → ⊥
-
 pub returns-in_err-nodes-clause-none : goal.returns-in_err-nodes-clause-none
 returns-in_err-nodes-clause-none c =
-    none_always c.from_residual.result (HasNoCounts c.args.informed c.args.text.now)
-    (λ tally rest fits e.
+    no_value c.from_residual.result (λ tally rest fits e.
     c.in_err-nodes.ensures.none tally.nodes (from_placed tally rest) (omega (arith, fits.nodes)) (e ∙ parts-counts tally rest))
 
 pub returns-in_err-placed-clause-none : goal.returns-in_err-placed-clause-none
 returns-in_err-placed-clause-none c =
-    none_always c.from_residual-in_err-placed.result (HasNoCounts c.args.informed c.args.text.now)
-    (λ tally rest fits e.
+    no_value c.from_residual-in_err-placed.result (λ tally rest fits e.
     let nodes = c.in_ok-nodes.ensures.only tally.nodes (from_placed tally rest) (omega (arith, fits.nodes)) (e ∙ parts-counts tally rest) in
     c.in_err-placed.ensures.none tally.placed (from_same tally rest) (omega (arith, fits.placed)) nodes.1)
 
 pub returns-in_err-same-clause-none : goal.returns-in_err-same-clause-none
 returns-in_err-same-clause-none c =
-    none_always c.from_residual-in_err-same.result (HasNoCounts c.args.informed c.args.text.now)
-    (λ tally rest fits e.
+    no_value c.from_residual-in_err-same.result (λ tally rest fits e.
     let nodes = c.in_ok-nodes.ensures.only tally.nodes (from_placed tally rest) (omega (arith, fits.nodes)) (e ∙ parts-counts tally rest) in
     let placed = c.in_ok-placed.ensures.only tally.placed (from_same tally rest) (omega (arith, fits.placed)) nodes.1 in
     c.in_err-same.ensures.none tally.same (from_blocked tally rest) (omega (arith, fits.same)) placed.1)
 
 pub returns-in_err-last-clause-none : goal.returns-in_err-last-clause-none
 returns-in_err-last-clause-none c =
-    none_always c.from_residual-in_err-last.result (HasNoCounts c.args.informed c.args.text.now)
-    (λ tally rest fits e.
+    no_value c.from_residual-in_err-last.result (λ tally rest fits e.
     let nodes = c.in_ok-nodes.ensures.only tally.nodes (from_placed tally rest) (omega (arith, fits.nodes)) (e ∙ parts-counts tally rest) in
     let placed = c.in_ok-placed.ensures.only tally.placed (from_same tally rest) (omega (arith, fits.placed)) nodes.1 in
     let same = c.in_ok-same.ensures.only tally.same (from_blocked tally rest) (omega (arith, fits.same)) placed.1 in

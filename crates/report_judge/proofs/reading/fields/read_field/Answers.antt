@@ -1,18 +1,14 @@
-use Rattle.report_judge.proofs.Words.{◌≡◌, ℕ, ◌≤◌, List, ◌∷◌, ◌++◌, arith, sym, ap, ◌∙◌, decimal, append_cancel_left}
-use Rattle.report_judge.proofs.Texts.FieldWords.{none_always, same_fields}
+use Rattle.report_judge.proofs.Words.{◌∷◌, ◌++◌, arith, sym, ap, ◌∙◌, decimal, append_cancel_left}
+use Rattle.report_judge.proofs.Texts.FieldWords.{no_value, same_fields}
 use Rattle.report_judge.proofs.reading.fields.read_field.Goals as goal
 
 pub returns-in_err-rest-clause-none : goal.returns-in_err-rest-clause-none
 returns-in_err-rest-clause-none c =
-    none_always c.from_residual.result
-    ((n : ℕ) (after : List ℕ) → n ≤ c.args.most → c.args.text.now ≡ c.args.word.now ++ (decimal n ++ c.args.end ∷ after) → ⊥)
-    (λ n after low e. c.in_err-rest.ensures.none (decimal n ++ c.args.end ∷ after) e)
+    no_value c.from_residual.result (λ n after low e. c.in_err-rest.ensures.none (decimal n ++ c.args.end ∷ after) e)
 
 pub returns-in_err-number-clause-none : goal.returns-in_err-number-clause-none
 returns-in_err-number-clause-none c =
-    none_always c.from_residual-in_err-number.result
-    ((n : ℕ) (after : List ℕ) → n ≤ c.args.most → c.args.text.now ≡ c.args.word.now ++ (decimal n ++ c.args.end ∷ after) → ⊥)
-    (λ n after low e.
+    no_value c.from_residual-in_err-number.result (λ n after low e.
     c.in_err-number.ensures.none n after low
     (append_cancel_left c.args.word.now c.in_ok-rest.rest.now (decimal n ++ c.args.end ∷ after) (sym c.in_ok-rest.ensures.some ∙ e)))
 

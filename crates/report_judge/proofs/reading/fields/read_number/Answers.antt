@@ -1,5 +1,5 @@
-use Rattle.report_judge.proofs.Words.{◌≡◌, ℕ, ◌+◌, ◌-◌, ◌≤◌, List, ◌∷◌, ◌++◌, drop, length, length-drop, arith, sym, ap, ◌∙◌, decimal, take_all}
-use Rattle.report_judge.proofs.Texts.FieldWords.{BeginsWith-number, none_always, text_at}
+use Rattle.report_judge.proofs.Words.{ℕ, ◌+◌, ◌-◌, List, ◌∷◌, ◌++◌, drop, length, length-drop, arith, sym, ap, ◌∙◌, decimal, take_all}
+use Rattle.report_judge.proofs.Texts.FieldWords.{BeginsWith-number, no_value, text_at}
 use Rattle.report_judge.proofs.reading.fields.read_number.Goals as goal
 
 pub returns-then-digits-text-clause-none : goal.returns-then-digits-text-clause-none
@@ -18,9 +18,7 @@ returns-then-text-digits-clause-none c = λ n after low e.
 
 pub returns-in_err-number-clause-none : goal.returns-in_err-number-clause-none
 returns-in_err-number-clause-none c =
-    none_always c.from_residual.result
-    ((n : ℕ) (after : List ℕ) → n ≤ c.args.most → c.args.text.now ≡ decimal n ++ c.args.end ∷ after → ⊥)
-    (λ n after low e.
+    no_value c.from_residual.result (λ n after low e.
     let begins =
     BeginsWith-number c.args.text.now n c.args.end c.read_digits-digits.result.0 after (omega (arith, low, c.ranges.most.fits)) c.requires.end
     c.read_digits-digits.ensures.count e in

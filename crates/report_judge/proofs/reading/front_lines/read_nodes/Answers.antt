@@ -5,24 +5,20 @@ use Rattle.report_judge.proofs.reading.front_lines.read_nodes.Goals as goal
 pub loop-count-init : goal.loop-count-init
 loop-count-init c =
     let items = c.in_ok-knots.ensures.items_if_clones_equal (search rules) in
-    subst (λ knots. HasRead c.args.marks c.args.text.now knots 0 0 c.args.text.now) (sym items)
-    (HasRead-none c.args.marks (c.args.marks + 1) c.args.text.now (omega arith))
+    rw items (HasRead-none c.args.marks (c.args.marks + 1) c.args.text.now (omega arith))
 
 pub loop-count-preserved : goal.loop-count-preserved
 loop-count-preserved c =
-    HasRead-more c.args.marks c.args.text.now c.loop-count.knots.items c.loop-count.count c.loop-count.next c.loop-count.rest.now c.in-Some.after.now
-    c.in-Some.node.number c.in-Some.node.knot c.loop-count.invariant (c.may_follow.ensures.follows c.if-not-may_follow.false) c.in-Some.ensures.some.0
-    c.in-Some.ensures.some.1
+    HasRead-more c.loop-count.invariant (c.may_follow.ensures.follows c.if-not-may_follow.false) c.in-Some.ensures.some.0 c.in-Some.ensures.some.1
 
 pub returns-in_default : goal.returns-in_default
 returns-in_default c =
-    ReadsNodes-ended c.args.marks c.args.most c.args.text.now c.loop-count.knots.items c.loop-count.count c.loop-count.next c.loop-count.rest.now
-    c.loop-count.invariant (omega (arith, c.loop-count-test.true)) (λ low n knot after next fits. c.in_default.ensures.none n knot after fits)
+    ReadsNodes-ended c.args.most c.loop-count.invariant (omega (arith, c.loop-count-test.true))
+    (λ low n knot after next fits. c.in_default.ensures.none n knot after fits)
 
 pub returns-then-not-may_follow : goal.returns-then-not-may_follow
 returns-then-not-may_follow c =
-    ReadsNodes-ended c.args.marks c.args.most c.args.text.now c.loop-count.knots.items c.loop-count.count c.loop-count.next c.loop-count.rest.now
-    c.loop-count.invariant (omega (arith, c.loop-count-test.true))
+    ReadsNodes-ended c.args.most c.loop-count.invariant (omega (arith, c.loop-count-test.true))
     (λ low n knot after next fits e.
     let few : c.args.marks < 2 ^ 64 = omega (arith, c.requires.few) in
     let same = other_node c.args.marks few c.loop-count.rest.now c.in-Some.after.now c.in-Some.node.number c.in-Some.node.knot c.in-Some.ensures.some.0
@@ -31,7 +27,7 @@ returns-then-not-may_follow c =
 
 pub returns : goal.returns
 returns c =
-    ReadsNodes-ended c.args.marks c.args.most c.args.text.now c.loop-count.knots.items c.args.most c.loop-count.next c.loop-count.rest.now
+    ReadsNodes-ended c.args.most
     (subst (λ n. HasRead c.args.marks c.args.text.now c.loop-count.knots.items n c.loop-count.next c.loop-count.rest.now)
     (omega (arith, c.loop-count.auto.count-end, c.loop-count-test.false)) c.loop-count.invariant)
     (omega arith) (λ low. absurd (omega (arith, low)))

@@ -1,6 +1,6 @@
-use Rattle.report_judge.proofs.Words.{◌≡◌, List, [], ◌∷◌, ◌++◌, map, length-append, arith, sym, ap, subst, All, length, map-append, Point, IsBounded}
-use Rattle.report_judge.proofs.Words.{lines_text, PathPoint}
-use Rattle.report_judge.proofs.Texts.FrontLaws.{All-push, one_more}
+use Rattle.report_judge.proofs.Words.{◌≡◌, List, [], ◌∷◌, ◌++◌, map, length-append, arith, sym, ap, subst, length, map-append, Point, IsBounded, lines_text}
+use Rattle.report_judge.proofs.Words.{PathPoint, All-push}
+use Rattle.report_judge.proofs.Texts.FrontLaws.{one_more}
 use Rattle.report_judge.proofs.reading.front_lines.read_points.Goals as goal
 
 pub points-preserved : goal.points-preserved
@@ -12,9 +12,9 @@ points-preserved c =
     record {
       long = omega (arith, ap (λ (ps : List Point). length ps) c.in_ok-push.ensures.items, length-append points (point ∷ []), c.points.invariant.long);
       told =
-          subst (λ ps. c.args.text.now ≡ lines_text (map PathPoint ps) ++ c.in-Some.after.now) (sym c.in_ok-push.ensures.items)
+          rw c.in_ok-push.ensures.items
           (subst (λ lines. c.args.text.now ≡ lines_text lines ++ c.in-Some.after.now) (sym (map-append PathPoint points (point ∷ []))) more);
-      fit = subst (All IsBounded) (sym c.in_ok-push.ensures.items) (All-push IsBounded points point c.points.invariant.fit c.in-Some.ensures.some.0);
+      fit = rw c.in_ok-push.ensures.items (All-push IsBounded points point c.points.invariant.fit c.in-Some.ensures.some.0);
     }
 
 pub returns-in_default : goal.returns-in_default

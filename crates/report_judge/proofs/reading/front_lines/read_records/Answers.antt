@@ -1,5 +1,5 @@
-use Rattle.report_judge.proofs.Words.{◌≡◌, ◌<◌, List, [], ◌∷◌, ◌++◌, ℕ, Some, length-append, arith, sym, ap, subst, length, slice_get, Record, Extent}
-use Rattle.report_judge.proofs.Words.{ReportLine, line_text, lines_text, FitsEntry, MarkLine, lines_of_records}
+use Rattle.report_judge.proofs.Words.{◌≡◌, ◌<◌, List, [], ◌∷◌, ◌++◌, ℕ, length-append, arith, sym, ap, subst, length, Record, Extent, ReportLine, line_text}
+use Rattle.report_judge.proofs.Words.{lines_text, FitsEntry, MarkLine, lines_of_records}
 use Rattle.report_judge.proofs.Texts.FrontLaws.{lines_of_records-push, one_more}
 use Rattle.report_judge.proofs.Texts.ListPlaces.{pushed_each}
 use Rattle.report_judge.proofs.reading.front_lines.read_records.Goals as goal
@@ -20,7 +20,7 @@ loop-k-preserved c =
       long = omega (arith, ap (λ (rs : List Record). length rs) c.in_ok-push.ensures.items, length-append records (entry ∷ []), c.loop-k.invariant.long);
       told = subst (λ (rs : List Record). text ≡ lines_text (lines_of_records rs) ++ after) (sym c.in_ok-push.ensures.items) pushed;
       fit =
-          subst (λ (rs : List Record). (k : ℕ) (own : Record) → slice_get rs k ≡ Some own → FitsEntry extent own) (sym c.in_ok-push.ensures.items)
+          rw c.in_ok-push.ensures.items
           (pushed_each (λ k. FitsEntry extent) records entry c.loop-k.invariant.fit c.in-Some.ensures.fits);
     }
 

@@ -1,5 +1,5 @@
-use Rattle.report_judge.proofs.Words.{◌≡◌, ℕ, List, ◌++◌, arith, sym, ap, ◌∙◌, codes, Knot, FitsKnot, field, line_text, point_field, NodeLine}
-use Rattle.report_judge.proofs.Texts.FieldWords.{none_always}
+use Rattle.report_judge.proofs.Words.{ℕ, List, arith, sym, ap, ◌∙◌, codes, Knot, field, point_field}
+use Rattle.report_judge.proofs.Texts.FieldWords.{no_value}
 use Rattle.report_judge.proofs.Texts.LineParts.{parts-node}
 use Rattle.report_judge.proofs.reading.line_readers.read_node.Goals as goal
 
@@ -13,29 +13,22 @@ from_parent knot rest = field (codes "parent ") knot.parent 32 (from_cost knot r
 abbrev from_point : Knot → List ℕ → List ℕ
 from_point knot rest = point_field (codes "at ") knot.point 32 (from_parent knot rest)
 
--- no line of a node stands first
-abbrev HasNoNode : ℕ → List ℕ → Type 0
-HasNoNode marks text = (n : ℕ) (knot : Knot) (rest : List ℕ) → FitsKnot marks n knot → text ≡ line_text (NodeLine n knot) ++ rest → ⊥
-
 pub returns-in_err-point-clause-none : goal.returns-in_err-point-clause-none
 returns-in_err-point-clause-none c =
-    none_always c.from_residual-in_err-point.result (HasNoNode c.args.marks c.args.text.now)
-    (λ n knot rest fits e.
+    no_value c.from_residual-in_err-point.result (λ n knot rest fits e.
     let behind = c.in_ok-number.ensures.only n (from_point knot rest) (omega (arith, fits.number, c.from-last.ensures)) (e ∙ parts-node n knot rest) in
     c.in_err-point.ensures.none knot.point (from_parent knot rest) fits.point behind.1)
 
 pub returns-in_err-parent-clause-none : goal.returns-in_err-parent-clause-none
 returns-in_err-parent-clause-none c =
-    none_always c.from_residual-in_err-parent.result (HasNoNode c.args.marks c.args.text.now)
-    (λ n knot rest fits e.
+    no_value c.from_residual-in_err-parent.result (λ n knot rest fits e.
     let behind = c.in_ok-number.ensures.only n (from_point knot rest) (omega (arith, fits.number, c.from-last.ensures)) (e ∙ parts-node n knot rest) in
     c.in_err-parent.ensures.none knot.parent (from_cost knot rest) (omega (arith, fits.parent, c.from-last.ensures))
     (c.in_ok-point.ensures.only knot.point (from_parent knot rest) fits.point behind.1))
 
 pub returns-in_err-cost-clause-none : goal.returns-in_err-cost-clause-none
 returns-in_err-cost-clause-none c =
-    none_always c.from_residual-in_err-cost.result (HasNoNode c.args.marks c.args.text.now)
-    (λ n knot rest fits e.
+    no_value c.from_residual-in_err-cost.result (λ n knot rest fits e.
     let behind = c.in_ok-number.ensures.only n (from_point knot rest) (omega (arith, fits.number, c.from-last.ensures)) (e ∙ parts-node n knot rest) in
     let further = c.in_ok-point.ensures.only knot.point (from_parent knot rest) fits.point behind.1 in
     let last = c.in_ok-parent.ensures.only knot.parent (from_cost knot rest) (omega (arith, fits.parent, c.from-last.ensures)) further in

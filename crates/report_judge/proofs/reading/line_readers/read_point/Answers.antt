@@ -1,20 +1,14 @@
-use Rattle.report_judge.proofs.Words.{◌≡◌, ℕ, List, [], arith, ap, ◌∙◌, Point, IsBounded, field, point_field}
-use Rattle.report_judge.proofs.Texts.FieldWords.{none_always}
+use Rattle.report_judge.proofs.Words.{[], arith, ap, ◌∙◌, field}
+use Rattle.report_judge.proofs.Texts.FieldWords.{no_value}
 use Rattle.report_judge.proofs.reading.line_readers.read_point.Goals as goal
-
--- no such point stands first
-abbrev HasNone : List ℕ → List ℕ → ℕ → Type 0
-HasNone text word end = (p : Point) (rest : List ℕ) → IsBounded p → text ≡ point_field word p end rest → ⊥
 
 pub returns-in_err-x-clause-none : goal.returns-in_err-x-clause-none
 returns-in_err-x-clause-none c =
-    none_always c.from_residual.result (HasNone c.args.text.now c.args.word.now c.args.end)
-    (λ p rest fits e. c.in_err-x.ensures.none p.x (field [] p.y c.args.end rest) (omega (arith, fits.right)) e)
+    no_value c.from_residual.result (λ p rest fits e. c.in_err-x.ensures.none p.x (field [] p.y c.args.end rest) (omega (arith, fits.right)) e)
 
 pub returns-in_err-y-clause-none : goal.returns-in_err-y-clause-none
 returns-in_err-y-clause-none c =
-    none_always c.from_residual-in_err-y.result (HasNone c.args.text.now c.args.word.now c.args.end)
-    (λ p rest fits e.
+    no_value c.from_residual-in_err-y.result (λ p rest fits e.
     let behind = c.in_ok-x.ensures.only p.x (field [] p.y c.args.end rest) (omega (arith, fits.right)) e in
     c.in_err-y.ensures.none p.y rest (omega (arith, fits.top)) behind.1)
 

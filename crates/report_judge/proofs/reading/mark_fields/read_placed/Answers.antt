@@ -1,5 +1,5 @@
-use Rattle.report_judge.proofs.Words.{◌≡◌, ℕ, ◌<◌, ◌≤◌, ◌^◌, List, [], ◌∷◌, ◌++◌, arith, sym, ap, ◌∙◌, append_assoc, decimal, codes, line, field}
-use Rattle.report_judge.proofs.Texts.FieldWords.{none_always}
+use Rattle.report_judge.proofs.Words.{◌≡◌, ℕ, List, [], ◌∷◌, ◌++◌, arith, sym, ap, ◌∙◌, append_assoc, decimal, codes, line, field}
+use Rattle.report_judge.proofs.Texts.FieldWords.{no_value}
 use Rattle.report_judge.proofs.reading.mark_fields.read_placed.Goals as goal
 
 -- the line from each of its numbers on
@@ -17,38 +17,23 @@ spelled class parent cost =
 parts : (class parent cost : ℕ) (rest : List ℕ) → spelled class parent cost ++ rest ≡ field (codes "placed class ") class 32 (from_parent parent cost rest)
 parts class parent cost rest = simp append_assoc
 
--- no such line stands first
-abbrev HasNone : ℕ → List ℕ → Type 0
-HasNone marks text =
-    (class parent cost : ℕ) (rest : List ℕ) → class < 2 ^ 18 → parent ≤ marks → cost < 2 ^ 44 → text ≡ spelled class parent cost ++ rest → ⊥
-
 pub returns-in_err-class-clause-none : goal.returns-in_err-class-clause-none
 returns-in_err-class-clause-none c =
-    none_always c.from_residual.result (HasNone c.args.marks c.args.text.now)
-    (λ class parent cost rest low_class low_parent low_cost e.
+    no_value c.from_residual.result (λ class parent cost rest low_class low_parent low_cost e.
     c.in_err-class.ensures.none class (from_parent parent cost rest) (omega (arith, low_class)) (e ∙ parts class parent cost rest))
 
 pub returns-in_err-parent-clause-none : goal.returns-in_err-parent-clause-none
 returns-in_err-parent-clause-none c =
-    none_always c.from_residual-in_err-parent.result (HasNone c.args.marks c.args.text.now)
-    (λ class parent cost rest low_class low_parent low_cost e.
+    no_value c.from_residual-in_err-parent.result (λ class parent cost rest low_class low_parent low_cost e.
     let behind = c.in_ok-class.ensures.only class (from_parent parent cost rest) (omega (arith, low_class)) (e ∙ parts class parent cost rest) in
     c.in_err-parent.ensures.none parent (from_cost cost rest) (omega (arith, low_parent, c.from-last.ensures)) behind.1)
 
 pub returns-in_err-cost-clause-none : goal.returns-in_err-cost-clause-none
 returns-in_err-cost-clause-none c =
-    none_always c.from_residual-in_err-cost.result (HasNone c.args.marks c.args.text.now)
-    (λ class parent cost rest low_class low_parent low_cost e.
+    no_value c.from_residual-in_err-cost.result (λ class parent cost rest low_class low_parent low_cost e.
     let behind = c.in_ok-class.ensures.only class (from_parent parent cost rest) (omega (arith, low_class)) (e ∙ parts class parent cost rest) in
     let further = c.in_ok-parent.ensures.only parent (from_cost cost rest) (omega (arith, low_parent, c.from-last.ensures)) behind.1 in
     c.in_err-cost.ensures.none cost rest (omega (arith, low_cost)) further.1)
-
-pub returns-clause-fits : goal.returns-clause-fits
-returns-clause-fits c = (
-  omega (arith, c.in_ok-class.ensures.some.0),
-  omega (arith, c.in_ok-parent.ensures.some.0, c.from-last.ensures),
-  omega (arith, c.in_ok-cost.ensures.some.0),
-)
 
 pub returns-clause-some : goal.returns-clause-some
 returns-clause-some c =

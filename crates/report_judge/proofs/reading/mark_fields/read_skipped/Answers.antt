@@ -1,5 +1,5 @@
-use Rattle.report_judge.proofs.Words.{◌≡◌, ℕ, ◌≤◌, List, [], ◌∷◌, ◌++◌, arith, sym, ◌∙◌, append_assoc, decimal, codes, line, field}
-use Rattle.report_judge.proofs.Texts.FieldWords.{none_always}
+use Rattle.report_judge.proofs.Words.{◌≡◌, ℕ, List, [], ◌∷◌, ◌++◌, arith, sym, ◌∙◌, append_assoc, decimal, codes, line, field}
+use Rattle.report_judge.proofs.Texts.FieldWords.{no_value}
 use Rattle.report_judge.proofs.reading.mark_fields.read_skipped.Goals as goal
 
 -- the line
@@ -9,17 +9,9 @@ spelled goal = line (codes "skipped" ∷ codes "by" ∷ decimal goal ∷ [])
 parts : (goal : ℕ) (rest : List ℕ) → spelled goal ++ rest ≡ field (codes "skipped by ") goal 10 rest
 parts goal rest = simp append_assoc
 
--- no such line stands first
-abbrev HasNone : ℕ → List ℕ → Type 0
-HasNone marks text = (goal : ℕ) (rest : List ℕ) → goal ≤ marks → text ≡ spelled goal ++ rest → ⊥
-
 pub returns-in_err-goal-clause-none : goal.returns-in_err-goal-clause-none
 returns-in_err-goal-clause-none c =
-    none_always c.from_residual.result (HasNone c.args.marks c.args.text.now)
-    (λ goal rest low e. c.in_err-goal.ensures.none goal rest (omega (arith, low, c.from.ensures)) (e ∙ parts goal rest))
-
-pub returns-clause-fits : goal.returns-clause-fits
-returns-clause-fits c = omega (arith, c.in_ok-goal.ensures.some.0, c.from.ensures)
+    no_value c.from_residual.result (λ goal rest low e. c.in_err-goal.ensures.none goal rest (omega (arith, low, c.from.ensures)) (e ∙ parts goal rest))
 
 pub returns-clause-some : goal.returns-clause-some
 returns-clause-some c = c.in_ok-goal.ensures.some.1 ∙ sym (parts c.in_ok-goal.goal c.in_ok-goal.rest.now)

@@ -1,6 +1,5 @@
-use Rattle.report_judge.proofs.Words.{◌≡◌, ℕ, List, [], ◌∷◌, ◌++◌, sym, ap, ◌∙◌, decimal, codes, Record, line, ending_of, ending_words, Extent, FitsEntry}
-use Rattle.report_judge.proofs.Words.{field}
-use Rattle.report_judge.proofs.Texts.FieldWords.{none_always}
+use Rattle.report_judge.proofs.Words.{◌≡◌, ℕ, List, [], ◌∷◌, ◌++◌, sym, ap, ◌∙◌, decimal, codes, Record, line, ending_of, ending_words, Extent, field}
+use Rattle.report_judge.proofs.Texts.FieldWords.{no_value}
 use Rattle.report_judge.proofs.Texts.MarkParts.{nearest_first, no_ending}
 use Rattle.report_judge.proofs.reading.mark_readers.read_steered.Goals as goal
 
@@ -29,9 +28,7 @@ returns-clause-some c =
 pub returns-in_err-rest-clause-none : goal.returns-in_err-rest-clause-none
 returns-in_err-rest-clause-none c = λ informed.
     let extent : Extent = record { marks = c.args.marks; informed = informed } in
-    none_always c.from_residual.result
-    ((entry : Record) (rest : List ℕ) → FitsEntry extent entry
-    → field (codes "nearest ") c.args.nearest 32 c.args.text.now ≡ line (ending_words (ending_of entry)) ++ rest → ⊥)
+    no_value c.from_residual.result
     (no_ending extent c.args.nearest c.args.text.now c.requires.nearest c.requires.few (record {
       placed = c.in_default.ensures.none;
       same = c.in_default-read_same.ensures.none;

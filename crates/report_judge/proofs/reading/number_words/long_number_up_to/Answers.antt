@@ -11,11 +11,10 @@ pub returns-then-word-eq45-clause-none : goal.returns-then-word-eq45-clause-none
 returns-then-word-eq45-clause-none c = λ n low e.
     decimal-unsigned n (omega (arith, low, c.ranges.most.fits)) (sym (ap (λ (w : List ℕ). get_or w 0 0) e) ∙ c.if-word-eq45.true)
 
-pub returns-clause-some : goal.returns-clause-some
-returns-clause-some c =
-    found-decimal c.natural.result c.args.word.now c.args.most (omega (arith, c.ranges.most.fits))
-    (sym c.is_number.ensures ∙ c.if-not-is_number.false) c.if-word-eq45.false c.natural.ensures.value c.natural.ensures.within
-
-pub returns-clause-none : goal.returns-clause-none
-returns-clause-none c =
-    no-decimal c.natural.result c.args.word.now c.args.most (omega (arith, c.ranges.most.fits)) c.natural.ensures.outside
+pub returns : goal.returns
+returns c = record {
+  some =
+      found-decimal c.natural.result c.args.word.now c.args.most (omega (arith, c.ranges.most.fits))
+      (sym c.is_number.ensures ∙ c.if-not-is_number.false) c.if-word-eq45.false c.natural.ensures.value c.natural.ensures.within;
+  none = no-decimal c.natural.result c.args.word.now c.args.most (omega (arith, c.ranges.most.fits)) c.natural.ensures.outside;
+}

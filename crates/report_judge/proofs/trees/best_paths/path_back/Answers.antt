@@ -1,7 +1,6 @@
 use Rattle.report_judge.proofs.Words.{◌≡◌, [], ◌++◌, None, Some, arith, rules, sym, ap, ◌∙◌, append_assoc, slice_index_or, state_of_lists, parent_of-lists}
 use Rattle.report_judge.proofs.Words.{steps_up, points_up-start}
-use Rattle.report_judge.proofs.Laws.ListedNodes.{stands-listed}
-use Rattle.report_judge.proofs.Laws.NodeBreaks.{listed}
+use Rattle.report_judge.proofs.Laws.ListedNodes.{listed, stands-listed}
 use Rattle.report_judge.proofs.trees.best_paths.path_back.Goals as goal
 
 pub unwrap-knot-requires : goal.unwrap-knot-requires

@@ -1,32 +1,20 @@
 use Rattle.report_judge.proofs.Words.{◌≡◌, Some, None, sym, ◌∙◌, subst, slice_index_or, IsExactEdge}
 use Rattle.report_judge.proofs.trees.exact_edges.hangs_exactly.Goals as goal
 
-pub is_exact_edge-requires-clause-from : goal.is_exact_edge-requires-clause-from
-is_exact_edge-requires-clause-from g c κs within = (c.requires.fit c.args.knot.parent c.in-Some.parent (sym c.knot_at.ensures ∙ c.in-Some.is)).point
-
-pub is_exact_edge-requires-clause-to : goal.is_exact_edge-requires-clause-to
-is_exact_edge-requires-clause-to g c κs within = c.requires.own.point
-
-pub is_exact_edge-requires-clause-cost : goal.is_exact_edge-requires-clause-cost
-is_exact_edge-requires-clause-cost g c κs within = (c.requires.fit c.args.knot.parent c.in-Some.parent (sym c.knot_at.ensures ∙ c.in-Some.is)).cost
-
-pub returns-then-knot-node-clause-exact : goal.returns-then-knot-node-clause-exact
-returns-then-knot-node-clause-exact g c = λ h. record {
-  up = c.in-Some.parent;
-  there = sym c.knot_at.ensures ∙ c.in-Some.is;
-  other = c.if-knot-node.true;
-  edge = c.is_exact_edge.ensures.exact h;
+pub returns-then-knot-node : goal.returns-then-knot-node
+returns-then-knot-node g c = record {
+  exact = λ h. record {
+    up = c.in-Some.parent;
+    there = sym c.knot_at.ensures ∙ c.in-Some.is;
+    other = c.if-knot-node.true;
+    edge = c.is_exact_edge.ensures.exact h;
+  };
+  only = λ h bad.
+      let both : Some c.in-Some.parent ≡ Some bad.up = sym (sym c.knot_at.ensures ∙ c.in-Some.is) ∙ bad.there in
+      let same : c.in-Some.parent ≡ bad.up = cc in
+      c.is_exact_edge.ensures.only h
+      (subst (λ from. IsExactEdge (g.C.Clearing.space c.args.hall.now) c.args.squared_step from c.args.knot) (sym same) bad.edge);
 }
-
-pub returns-then-knot-node-clause-only : goal.returns-then-knot-node-clause-only
-returns-then-knot-node-clause-only g c = λ h bad.
-    let both : Some c.in-Some.parent ≡ Some bad.up = sym (sym c.knot_at.ensures ∙ c.in-Some.is) ∙ bad.there in
-    let same : c.in-Some.parent ≡ bad.up = cc in
-    c.is_exact_edge.ensures.only h
-    (subst (λ from. IsExactEdge (g.C.Clearing.space c.args.hall.now) c.args.squared_step from c.args.knot) (sym same) bad.edge)
-
-pub returns-else-knot-node-clause-only : goal.returns-else-knot-node-clause-only
-returns-else-knot-node-clause-only g c = λ h bad. bad.other c.if-knot-node.false
 
 pub returns-in-None-clause-only : goal.returns-in-None-clause-only
 returns-in-None-clause-only g c = λ h bad.

@@ -1,32 +1,20 @@
 use Rattle.report_judge.proofs.Words.{◌≡◌, Some, None, sym, ◌∙◌, subst, slice_index_or, IsHighEdge}
 use Rattle.report_judge.proofs.trees.hanging.may_hang.Goals as goal
 
-pub is_high_edge-requires-clause-from : goal.is_high_edge-requires-clause-from
-is_high_edge-requires-clause-from g c κs within = (c.requires.fit c.args.place.parent c.in-Some.parent (sym c.knot_at.ensures ∙ c.in-Some.is)).point
-
-pub is_high_edge-requires-clause-to : goal.is_high_edge-requires-clause-to
-is_high_edge-requires-clause-to g c κs within = c.requires.own.point
-
-pub is_high_edge-requires-clause-cost : goal.is_high_edge-requires-clause-cost
-is_high_edge-requires-clause-cost g c κs within = (c.requires.fit c.args.place.parent c.in-Some.parent (sym c.knot_at.ensures ∙ c.in-Some.is)).cost
-
-pub returns-then-place-node-clause-hangs : goal.returns-then-place-node-clause-hangs
-returns-then-place-node-clause-hangs g c = λ h. record {
-  up = c.in-Some.parent;
-  there = sym c.knot_at.ensures ∙ c.in-Some.is;
-  other = c.if-place-node.true;
-  edge = c.is_high_edge.ensures.high h;
+pub returns-then-place-node : goal.returns-then-place-node
+returns-then-place-node g c = record {
+  hangs = λ h. record {
+    up = c.in-Some.parent;
+    there = sym c.knot_at.ensures ∙ c.in-Some.is;
+    other = c.if-place-node.true;
+    edge = c.is_high_edge.ensures.high h;
+  };
+  only = λ h bad.
+      let both : Some c.in-Some.parent ≡ Some bad.up = sym (sym c.knot_at.ensures ∙ c.in-Some.is) ∙ bad.there in
+      let same : c.in-Some.parent ≡ bad.up = cc in
+      c.is_high_edge.ensures.only h
+      (subst (λ from. IsHighEdge (g.C.Clearing.space c.args.hall.now) c.args.squared_step from c.args.place) (sym same) bad.edge);
 }
-
-pub returns-then-place-node-clause-only : goal.returns-then-place-node-clause-only
-returns-then-place-node-clause-only g c = λ h bad.
-    let both : Some c.in-Some.parent ≡ Some bad.up = sym (sym c.knot_at.ensures ∙ c.in-Some.is) ∙ bad.there in
-    let same : c.in-Some.parent ≡ bad.up = cc in
-    c.is_high_edge.ensures.only h
-    (subst (λ from. IsHighEdge (g.C.Clearing.space c.args.hall.now) c.args.squared_step from c.args.place) (sym same) bad.edge)
-
-pub returns-else-place-node-clause-only : goal.returns-else-place-node-clause-only
-returns-else-place-node-clause-only g c = λ h bad. bad.other c.if-place-node.false
 
 pub returns-in-None-clause-only : goal.returns-in-None-clause-only
 returns-in-None-clause-only g c = λ h bad.

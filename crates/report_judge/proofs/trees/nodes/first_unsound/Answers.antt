@@ -1,4 +1,4 @@
-use Rattle.report_judge.proofs.Words.{◌*◌, length, refl, sym, subst, setup_of, KeepsEdges, IsFirstBreak, IsNewKey}
+use Rattle.report_judge.proofs.Words.{◌*◌, length, refl, sym, setup_of, KeepsEdges, IsNewKey}
 use Rattle.report_judge.proofs.Laws.FirstBreakLaws.{IsFirstBreak-earlier}
 use Rattle.report_judge.proofs.Laws.NodeBreaks.{IsFirstBreak-nodes, KeepsNode-start}
 use Rattle.report_judge.proofs.trees.nodes.first_unsound.Goals as goal
@@ -10,8 +10,7 @@ returns g c =
     let space = g.C.Clearing.space c.args.hall.now in
     let keys = c.in_ok-keys.keys.items in
     let first = c.in_ok-repeat.repeat in
-    let told = subst (λ ks. IsFirstBreak (IsNewKey ks) (length ks) first) c.deref.ensures.value c.in_ok-repeat.ensures in
-    let new = subst (λ n. IsFirstBreak (IsNewKey keys) n first) c.in_ok-keys.ensures.length told in
+    let new = rw (c.deref.ensures.value, c.in_ok-keys.ensures.length) at c.in_ok-repeat.ensures in
     let square = c.from.result * c.from-2.result in
     let edges = KeepsEdges space square knots in
     let both = IsFirstBreak-earlier (IsNewKey keys) edges (length knots) first c.first_loose-loose.result new c.first_loose-loose.ensures in
@@ -21,4 +20,4 @@ returns g c =
     c.requires.fit
     (KeepsNode-start knots records (setup_of scene) (record { point = scene.start; parent = 0; cost = 0 })
     (c.is_start.ensures.start c.if-not-is_start.false) refl) c.earlier.result
-    (subst (IsFirstBreak (λ k. IsNewKey keys k × edges k) (length knots)) (sym c.earlier.ensures) both)
+    (rw c.earlier.ensures both)
