@@ -58,7 +58,7 @@ pub use Rattle.plan_work.specs.declared.growing.Worker.TheVariants.{Away, Stoppe
 pub use Rattle.plan_work.specs.declared.mark_placing.Hanging.{Hanging}
 pub use Rattle.plan_work.specs.declared.mark_steering.Steering.{Steering}
 pub use Rattle.std.proofs.Common.{Bool, List, None, Option, Some, [], ap, arith, cond, false, inl, inr, length, length-append, ltb, refl, subst, suc, sym, take}
-pub use Rattle.std.proofs.Common.{true, zero, ℕ, ◌%◌, ◌*◌, ◌++◌, ◌+◌, ◌-◌, ◌/◌, ◌<◌, ◌^◌, ◌∙◌, ◌∷◌, ◌≡◌, ◌≢◌, ◌≤◌}
+pub use Rattle.std.proofs.Common.{rules, true, zero, ℕ, ◌%◌, ◌*◌, ◌++◌, ◌+◌, ◌-◌, ◌/◌, ◌<◌, ◌^◌, ◌∙◌, ◌∷◌, ◌≡◌, ◌≢◌, ◌≤◌}
 pub use Rattle.std.proofs.Math.Seq.{take-append_seam, take-suc}
 pub use Rattle.std.proofs.lemmas.Bool.{cases_Bool, cases_eq, cases_lt, eq-eqb, eqb-true, le-ltb, leb-true, lt-ltb, true≢false}
 pub use Rattle.std.proofs.lemmas.List.{append-nil, append_assoc, get_or_past, length-map, length-take-le, map-append, take_all, take_more}

@@ -12,9 +12,6 @@ record_unplaced-requires-clause-stage g c =
     if_held mid (λ hand. MayBeRecorded hand.stage Skipped) own.hand own.held
     (record { linked = sym (ap has_link own.says.claimed); counted = sym (ap has_count own.says.claimed) })
 
-pub record_unplaced-requires-clause-may : goal.record_unplaced-requires-clause-may
-record_unplaced-requires-clause-may g c = c.in-Some.ensures.skipped
-
 pub steer_and_place-requires-clause-may : goal.steer_and_place-requires-clause-may
 steer_and_place-requires-clause-may g c κs within = record { may = c.skipper.ensures.may; unskipped = c.in_default.ensures.unskipped }
 

@@ -2,16 +2,13 @@ use Rattle.plan_work.proofs.Words.{ap, arith, subst, ending_as, EndsAsSeen, View
 use Rattle.plan_work.proofs.SteeredOutcomes.{WasSteered-unskipped}
 use Rattle.plan_work.proofs.extension_laws.marks_are_skipped_by_the_best.Goals as goal
 
-pub returns-clause-skipped : goal.returns-clause-skipped
-returns-clause-skipped c = λ before after k entry extended is.
-    let was = subst (λ o. EndsAsSeen before after k entry (ending_as entry o)) is extended.outcome in
-    (was.informed, (was.word, was.some_node, was.node, was.within, was.steps))
-
-pub returns-clause-steps : goal.returns-clause-steps
-returns-clause-steps c = λ before after k entry extended is.
-    let was = subst (λ o. EndsAsSeen before after k entry (ending_as entry o)) is extended.outcome in
-    omega (arith, ap (λ (v : View). v.steps) was.steps)
-
-pub returns-clause-unskipped : goal.returns-clause-unskipped
-returns-clause-unskipped c = λ before after k entry extended other.
-    (WasSteered-unskipped before after k entry other extended.outcome).1
+pub returns : goal.returns
+returns c = record {
+  skipped = λ before after k entry extended is.
+      let was = subst (λ o. EndsAsSeen before after k entry (ending_as entry o)) is extended.outcome in
+      (was.informed, (was.word, was.some_node, was.node, was.within, was.steps));
+  steps = λ before after k entry extended is.
+      let was = subst (λ o. EndsAsSeen before after k entry (ending_as entry o)) is extended.outcome in
+      omega (arith, ap (λ (v : View). v.steps) was.steps);
+  unskipped = λ before after k entry extended other. (WasSteered-unskipped before after k entry other extended.outcome).1;
+}

@@ -1,5 +1,5 @@
 use Rattle.plan_work.proofs.Words.{◌≡◌, refl, sym, ap, ◌∙◌, subst, arith, ◌++◌, [], ◌∷◌, All, option_to_list, MayClaim, PassState, HasLeft, left_by, left_of}
-use Rattle.plan_work.proofs.Words.{Stopped}
+use Rattle.plan_work.proofs.Words.{rules, Stopped}
 use Rattle.plan_work.proofs.RetiredWorkers.{has_left, left_of-last, stopped-front, stopped-last}
 use Rattle.plan_work.proofs.TakenOver.{All-front, All-next, HasTakenOver-alone, HasTakenOver-more, not_alone, only, taken_next}
 use Rattle.plan_work.proofs.growing.take_over_all.Goals as goal
@@ -26,25 +26,21 @@ unreachable-requires-in_default-other c =
     let split : c.others.others.items ≡ rest ++ other ∷ [] = c.pop-in-others.ensures.items ∙ ap (λ o. rest ++ option_to_list o) c.in-Some.is in
     has_left other (stopped-last rest other (subst (All HasLeft) split c.others.invariant.stopped)) c.in_default-other.not-Stopped
 
-pub join_retired-requires-clause-belongs_too : goal.join_retired-requires-clause-belongs_too
-join_retired-requires-clause-belongs_too c =
+pub join_retired-requires : goal.join_retired-requires
+join_retired-requires c =
     let rest = c.pop-in-others.new.self.items in
     let left = c.in-Stopped.retired in
     let split : c.others.others.items ≡ rest ++ c.in-Some.other ∷ [] =
     c.pop-in-others.ensures.items ∙ ap (λ o. rest ++ option_to_list o) c.in-Some.is in
     let lefts : left_of c.others.others.items ≡ left_of rest ++ left ∷ [] =
     left_of-last c.others.others.items rest c.in-Some.other left split (ap left_by c.in-Stopped.is) in
-    (All-next (MayClaim c.args.shared.now) (left_of rest) left (subst (All (MayClaim c.args.shared.now)) lefts c.others.invariant.rest)).belongs
-
-pub join_retired-requires-clause-idle_too : goal.join_retired-requires-clause-idle_too
-join_retired-requires-clause-idle_too c =
-    let rest = c.pop-in-others.new.self.items in
-    let left = c.in-Stopped.retired in
-    let split : c.others.others.items ≡ rest ++ c.in-Some.other ∷ [] =
-    c.pop-in-others.ensures.items ∙ ap (λ o. rest ++ option_to_list o) c.in-Some.is in
-    let lefts : left_of c.others.others.items ≡ left_of rest ++ left ∷ [] =
-    left_of-last c.others.others.items rest c.in-Some.other left split (ap left_by c.in-Stopped.is) in
-    (All-next (MayClaim c.args.shared.now) (left_of rest) left (subst (All (MayClaim c.args.shared.now)) lefts c.others.invariant.rest)).idle
+    let claims = All-next (MayClaim c.args.shared.now) (left_of rest) left (subst (All (MayClaim c.args.shared.now)) lefts c.others.invariant.rest) in
+    record {
+      belongs = search rules;
+      idle = search rules;
+      belongs_too = claims.belongs;
+      idle_too = claims.idle;
+    }
 
 pub others-preserved : goal.others-preserved
 others-preserved c =

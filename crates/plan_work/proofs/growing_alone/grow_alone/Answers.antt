@@ -1,4 +1,4 @@
-use Rattle.plan_work.proofs.Words.{◌∙◌, arith, subst, sym, All, MayClaim, SeesTextbook, state_of_grown}
+use Rattle.plan_work.proofs.Words.{rules, ◌∙◌, arith, subst, sym, All, MayClaim, SeesTextbook, state_of_grown}
 use Rattle.plan_work.proofs.LoneRuns.{IsOfTextbook-seen}
 use Rattle.plan_work.proofs.WorkedAlone.{HasWorkedAlone-worked}
 use Rattle.plan_work.proofs.growing_alone.grow_alone.Goals as goal
@@ -17,35 +17,23 @@ end-requires-clause-none_left g c =
     started.task worked.goes_on worked.worked worked.none_left worked.textbook in
     alone.none_left
 
-pub returns-clause-limit : goal.returns-clause-limit
-returns-clause-limit g c =
+pub returns : goal.returns
+returns g c =
     let started = c.in_ok-shared.ensures in
     let worked = c.work.ensures in
     let alone = HasWorkedAlone-worked _ c.args.grown _ _ _ c.args.limit started.passes c.only_pass-pass.ensures c.requires.low started.workers
     started.task worked.goes_on worked.worked worked.none_left worked.textbook in
-    c.end.ensures.limit ∙ alone.reached (state_of_grown c.end.result) c.end.ensures.seen
-
-pub returns-clause-grows : goal.returns-clause-grows
-returns-clause-grows g c =
-    let started = c.in_ok-shared.ensures in
-    let worked = c.work.ensures in
-    let alone = HasWorkedAlone-worked _ c.args.grown _ _ _ c.args.limit started.passes c.only_pass-pass.ensures c.requires.low started.workers
-    started.task worked.goes_on worked.worked worked.none_left worked.textbook in
-    alone.grows (state_of_grown c.end.result) c.end.ensures.seen
-
-pub returns-clause-worker : goal.returns-clause-worker
-returns-clause-worker g c k entry is past =
-    omega (arith, c.end.ensures.workers k entry (omega (arith, c.in_ok-shared.ensures.opening, past)) is, c.in_ok-shared.ensures.workers)
-
-pub returns-clause-textbook : goal.returns-clause-textbook
-returns-clause-textbook g c = λ textbook.
-    let started = c.in_ok-shared.ensures in
-    let worked = c.work.ensures in
-    let shared = c.in_ok-shared.shared in
-    let view = c.work.new.pass.view in
-    let alone = HasWorkedAlone-worked _ c.args.grown _ _ _ c.args.limit started.passes c.only_pass-pass.ensures c.requires.low started.workers
-    started.task worked.goes_on worked.worked worked.none_left worked.textbook in
-    let reached = c.end.ensures.limit ∙ alone.reached (state_of_grown c.end.result) c.end.ensures.seen in
-    let handled = alone.textbook textbook in
-    IsOfTextbook-seen shared.task shared.workers shared.opening view c.end.result worked.goes_on.lawful worked.worked.may_claim.belongs.run
-    c.end.ensures.task (subst (SeesTextbook view) (sym reached) handled.textbook) c.end.ensures.same
+    record {
+      task = search rules;
+      limit = c.end.ensures.limit ∙ alone.reached (state_of_grown c.end.result) c.end.ensures.seen;
+      grows = alone.grows (state_of_grown c.end.result) c.end.ensures.seen;
+      worker = λ k entry is past.
+          omega (arith, c.end.ensures.workers k entry (omega (arith, c.in_ok-shared.ensures.opening, past)) is, c.in_ok-shared.ensures.workers);
+      textbook = λ textbook.
+          let shared = c.in_ok-shared.shared in
+          let view = c.work.new.pass.view in
+          let reached = c.end.ensures.limit ∙ alone.reached (state_of_grown c.end.result) c.end.ensures.seen in
+          let handled = alone.textbook textbook in
+          IsOfTextbook-seen shared.task shared.workers shared.opening view c.end.result worked.goes_on.lawful worked.worked.may_claim.belongs.run
+          c.end.ensures.task (subst (SeesTextbook view) (sym reached) handled.textbook) c.end.ensures.same;
+    }

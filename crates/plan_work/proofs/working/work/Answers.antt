@@ -1,4 +1,4 @@
-use Rattle.plan_work.proofs.Words.{suc, inr, length, ap, ◌∙◌, subst, arith, ◌-◌, ◌<◌, GoesOn-more, OwnsAllStrips-alone, turn_of, SharedRun}
+use Rattle.plan_work.proofs.Words.{rules, suc, inr, length, ap, ◌∙◌, subst, arith, ◌-◌, ◌<◌, GoesOn-more, OwnsAllStrips-alone, turn_of, SharedRun}
 use Rattle.plan_work.proofs.LoneMarks.{HasHandled-all, HasHandled-mark}
 use Rattle.plan_work.proofs.WorkedMarks.{AllExtended-last, AllExtendedSo-mark, AllLoaded-earlier, HasWorked-mark, fewer_turns}
 use Rattle.plan_work.proofs.working.work.Goals as goal
@@ -38,21 +38,17 @@ marks-preserved g c = record {
       );
 }
 
-pub returns-clause-goes_on : goal.returns-clause-goes_on
-returns-clause-goes_on g c =
-    GoesOn-more c.args.pass.now.view c.marks.pass.view c.claim.new.pass.view c.marks.invariant.goes_on c.claim.ensures.goes_on
-
-pub returns-clause-loaded : goal.returns-clause-loaded
-returns-clause-loaded g c =
-    AllLoaded-earlier c.args.pass.now.view c.marks.pass.view c.claim.new.pass.view c.marks.invariant.goes_on c.claim.ensures.loaded
-
-pub returns-clause-extended : goal.returns-clause-extended
-returns-clause-extended g c =
-    AllExtended-last c.args.pass.now.view c.marks.pass.view c.claim.new.pass.view c.claim.ensures.goes_on c.claim.ensures.others
-    c.marks.invariant.extended
-
-pub returns-clause-textbook : goal.returns-clause-textbook
-returns-clause-textbook g c = λ one k low handled.
-    let so_far = c.marks.invariant.textbook one k low handled in
-    HasHandled-all c.marks.pass.view c.claim.new.pass.view c.args.limit so_far.0 so_far.2 so_far.1 c.claim.ensures.goes_on c.claim.ensures.others
-    (c.in_default.ensures.whole_none so_far.2.alone.whole) c.in_default.ensures.none.0 c.in_default.ensures.none.1
+pub returns : goal.returns
+returns g c = record {
+  goes_on = GoesOn-more c.args.pass.now.view c.marks.pass.view c.claim.new.pass.view c.marks.invariant.goes_on c.claim.ensures.goes_on;
+  worked = search rules;
+  none_left = search rules;
+  loaded = AllLoaded-earlier c.args.pass.now.view c.marks.pass.view c.claim.new.pass.view c.marks.invariant.goes_on c.claim.ensures.loaded;
+  extended =
+      AllExtended-last c.args.pass.now.view c.marks.pass.view c.claim.new.pass.view c.claim.ensures.goes_on c.claim.ensures.others
+      c.marks.invariant.extended;
+  textbook = λ one k low handled.
+      let so_far = c.marks.invariant.textbook one k low handled in
+      HasHandled-all c.marks.pass.view c.claim.new.pass.view c.args.limit so_far.0 so_far.2 so_far.1 c.claim.ensures.goes_on c.claim.ensures.others
+      (c.in_default.ensures.whole_none so_far.2.alone.whole) c.in_default.ensures.none.0 c.in_default.ensures.none.1;
+}
