@@ -138,16 +138,7 @@ in_range corners bounds q convex box inside =
 pub in_box : (corners : List Vertex) (bounds : BoundingBox) (p : Point) → IsBoxed corners bounds → IsInside corners (at_lattice p) → IsInBox bounds p
 in_box corners bounds p h inside =
     let r = in_range corners bounds (at_lattice p) (IsConvex-from_test corners h.convex) h.bounding inside in
-    let left = r.left in
-    let right = r.right in
-    let bottom = r.bottom in
-    let top = r.top in
-    record {
-      left = omega (arith, ints);
-      right = omega (arith, ints);
-      bottom = omega (arith, ints);
-      top = omega (arith, ints);
-    }
+    record { left = omega (arith, ints); right = omega (arith, ints); bottom = omega (arith, ints); top = omega (arith, ints) }
 
 -- a point of the box is bounded as its corners are
 pub bounded_in_box : (corners : List Vertex) (bounds : BoundingBox) (p : Point) → IsBoxed corners bounds → IsInBox bounds p
@@ -160,21 +151,8 @@ bounded_in_box corners bounds p h b =
     let c = h.bounding.high_end.right_reached in
     let d = h.bounding.low_end.bottom_reached in
     let g = h.bounding.high_end.top_reached in
-    let a2 = a.2 in
-    let c2 = c.2 in
-    let d2 = d.2 in
-    let g2 = g.2 in
     let ab = each a.0 a.1 in
     let cb = each c.0 c.1 in
     let db = each d.0 d.1 in
     let gb = each g.0 g.1 in
-    let left = b.left in
-    let right = b.right in
-    let bottom = b.bottom in
-    let top = b.top in
-    record {
-      left = omega (arith, ints);
-      right = omega (arith, ints);
-      bottom = omega (arith, ints);
-      top = omega (arith, ints);
-    }
+    record { left = omega (arith, ints); right = omega (arith, ints); bottom = omega (arith, ints); top = omega (arith, ints) }

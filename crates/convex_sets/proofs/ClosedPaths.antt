@@ -23,23 +23,16 @@ module _ (a b : List Vertex) (first : IsOutline a) (second : IsOutline b) (zs : 
       rw (s.is, path.first) (rw (cross-sums start (corner_at a 0) (corner_at b 0) (corner_at a s.first) (corner_at b s.second)) (omega (arith, ints)))
 
   rises_first : pos 0 <ℤ rise (edge_at zs 0)
-  rises_first = by (path.rises_or_falls 0 (omega arith))
-    where
-      by : (pos 0 <ℤ rise (edge_at zs 0)) ⊎ (rise (edge_at zs 0) <ℤ pos 0) → pos 0 <ℤ rise (edge_at zs 0)
-      by (inl p) = p
-      by (inr p) = let l = low 1 (omega arith) in absurd (omega (arith, ints))
+  rises_first =
+      elim (path.rises_or_falls 0 (omega arith)) [ inl p ↦ p | inr p ↦ (let l = low 1 (omega arith) in absurd (omega (arith, ints))) ]
 
   falls_last : rise (edge_at zs m) <ℤ pos 0
-  falls_last = by (path.rises_or_falls m (omega arith))
+  falls_last = elim (path.rises_or_falls m (omega arith)) [ inl p ↦ absurd (omega (arith, ints, back)) | inr p ↦ p ]
     where
       back : rise (edge_at zs m) ≤ℤ pos 0
       back =
           let l = low m (omega arith) in
           rw closed (omega (arith, ints, cross-by_way start (corner_at zs 0) (corner_at zs m) (corner_at zs 0), zero_vector start (corner_at zs 0)))
-
-      by : (pos 0 <ℤ rise (edge_at zs m)) ⊎ (rise (edge_at zs m) <ℤ pos 0) → rise (edge_at zs m) <ℤ pos 0
-      by (inl p) = absurd (omega (arith, ints, back))
-      by (inr p) = p
 
   before_next : (u : ℕ) → suc (suc u) < length zs → IsBefore (edge_at zs u) (edge_at zs (suc u))
   before_next u h =
@@ -67,20 +60,20 @@ module _ (a b : List Vertex) (first : IsOutline a) (second : IsOutline b) (zs : 
       omega (arith, ints, cross-by_way (edge_at zs i) (corner_at zs i) (corner_at zs k) (corner_at zs (suc k)))
 
   never : (i k : ℕ) → i < suc m → k < suc m → k ≢ i → k ≢ next_corner (suc m) i → cross (edge_at zs i) (from_to (corner_at zs i) (corner_at zs k)) ≤ℤ pos 0 → ⊥
-  never i zero p q apart off h = by (cases_lt (suc i) (suc m))
+  never i zero p q apart off h =
+      elim (cases_lt (suc i) (suc m)) [
+        | inl r ↦
+            let some : 0 < i = omega (arith, apart) in
+            not_between (edge_at zs 0) (edge_at zs i) (edge_at zs m) (before 0 i some (omega arith)) (before i m (omega arith) (omega arith))
+            rises_first falls_last to_left to_right
+        | inr r ↦ off (sym (next_last (suc m) i (omega arith)))
+      ]
     where
       to_left : pos 0 ≤ℤ cross (edge_at zs i) (edge_at zs 0)
       to_left = leads_left i 0 (omega arith) (omega arith) h
 
       to_right : cross (edge_at zs i) (edge_at zs m) ≤ℤ pos 0
       to_right = leads_right i m (omega arith) (omega arith) (rw closed h)
-
-      by : (suc i < suc m) ⊎ (suc m ≤ suc i) → ⊥
-      by (inl r) =
-          let some : 0 < i = omega (arith, apart) in
-          not_between (edge_at zs 0) (edge_at zs i) (edge_at zs m) (before 0 i some (omega arith)) (before i m (omega arith) (omega arith))
-          rises_first falls_last to_left to_right
-      by (inr r) = off (sym (next_last (suc m) i (omega arith)))
   never i (suc k) p q apart off h = by (cases_lt i (suc k))
     where
       to_left : pos 0 ≤ℤ cross (edge_at zs i) (edge_at zs (suc k))

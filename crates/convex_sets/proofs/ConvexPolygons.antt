@@ -1,6 +1,6 @@
 -- Strictly convex polygons, corner by corner.
-use Rattle.convex_sets.proofs.Words.{◌≡◌, ◌≢◌, ◌⊎◌, inl, inr, ℕ, suc, ◌+◌, ◌<◌, ◌≤◌, Bool, true, false, ◌&&◌, nat_le, eqb, List, length, refl, sym, ◌∙◌, arith}
-use Rattle.convex_sets.proofs.Words.{cond, eq-eqb, pos, ◌<ℤ◌, int_lt, ints, and_parts, and_from, leb-true, eqb-true, cases_lt, list_all, range_with_len, Vertex}
+use Rattle.convex_sets.proofs.Words.{◌≡◌, ◌≢◌, inl, inr, ℕ, suc, ◌+◌, ◌<◌, ◌≤◌, Bool, true, false, ◌&&◌, nat_le, List, length, refl, sym, ◌∙◌, arith}
+use Rattle.convex_sets.proofs.Words.{eq-eqb, ne_eqb, pos, ◌<ℤ◌, int_lt, ints, and_parts, and_from, leb-true, cases_lt, list_all, range_with_len, Vertex}
 use Rattle.convex_sets.proofs.Words.{corner_at, next_corner, is_left_of_edge, is_strictly_convex, orientation, is_end_or_left, true_below, true_of_below}
 use Rattle.convex_sets.proofs.Words.{false_below, last_true, one_true}
 
@@ -57,11 +57,7 @@ test-from_IsConvex corners c =
     one_true k i next side (λ p q. let f = c.left i k l m p q in sym (omega (arith, ints)))))
 
 pub next_inside : (n i : ℕ) → i + 1 < n → next_corner n i ≡ i + 1
-next_inside n i h = by (eqb (i + 1) n) refl
-  where
-    by : (t : Bool) → eqb (i + 1) n ≡ t → cond t 0 (i + 1) ≡ i + 1
-    by true e = absurd (omega (arith, eqb-true (i + 1) n e))
-    by false e = refl
+next_inside n i h = let t = ne_eqb (i + 1) n (λ e. omega (arith, e)) in rw t
 
 pub next_suc : (n i : ℕ) → suc i < n → next_corner n i ≡ suc i
 next_suc n i h = next_inside n i (omega arith) ∙ omega arith
@@ -70,8 +66,5 @@ pub next_last : (n i : ℕ) → i + 1 ≡ n → next_corner n i ≡ 0
 next_last n i h = let t = eq-eqb (i + 1) n h in rw t
 
 pub next_within : (n i : ℕ) → i < n → next_corner n i < n
-next_within n i h = by (cases_lt (suc i) n)
-  where
-    by : (suc i < n) ⊎ (n ≤ suc i) → next_corner n i < n
-    by (inl l) = rw (next_suc n i l) l
-    by (inr l) = rw (next_last n i (omega arith)) (omega arith)
+next_within n i h =
+    elim (cases_lt (suc i) n) [ inl l ↦ rw (next_suc n i l) l | inr l ↦ rw (next_last n i (omega arith)) (omega arith) ]

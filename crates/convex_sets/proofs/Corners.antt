@@ -34,10 +34,6 @@ bounded_at corners i h l = true_at (is_corner_between LEAST_CORNER_COORDINATE MO
 
 pub of_within : (low high : ℤ) (v : Vertex) → IsWithin low high v → is_corner_between low high v ≡ true
 of_within low high v h =
-    let left = h.left in
-    let right = h.right in
-    let bottom = h.bottom in
-    let top = h.top in
     let a : int_le low v.x ≡ true = sym (omega (arith, ints)) in
     let b : int_le v.x high ≡ true = sym (omega (arith, ints)) in
     let c : int_le low v.y ≡ true = sym (omega (arith, ints)) in

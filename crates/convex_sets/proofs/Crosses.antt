@@ -5,6 +5,15 @@ use Rattle.convex_sets.proofs.Signs.{mul-not_negative, not_negative_factor}
 abbrev pub cross_is : (u v : Vertex) → Read (cross u v)
 cross_is u v = minus (times (var u.x) (var v.y)) (times (var u.y) (var v.x))
 
+-- of the vector from a to b
+abbrev pub seen_is : (e a b : Vertex) → Read (cross e (from_to a b))
+seen_is e a b = minus (times (var e.x) (minus (var b.y) (var a.y))) (times (var e.y) (minus (var b.x) (var a.x)))
+
+-- of the vectors from a to b and from a to c
+abbrev pub turn_is : (a b c : Vertex) → Read (cross (from_to a b) (from_to a c))
+turn_is a b c =
+    minus (times (minus (var b.x) (var a.x)) (minus (var c.y) (var a.y))) (times (minus (var b.y) (var a.y)) (minus (var c.x) (var a.x)))
+
 -- the three products of four vectors in two pairs
 pub exchange : (p q e o : Vertex) → cross p q *ℤ cross e o ≡ (cross e q *ℤ cross p o) +ℤ (cross p e *ℤ cross q o)
 exchange p q e o = same (times (cross_is p q) (cross_is e o)) (plus (times (cross_is e q) (cross_is p o)) (times (cross_is p e) (cross_is q o))) (omega arith)
@@ -32,10 +41,7 @@ both-cross u v e =
 
 -- from a by way of b to c
 pub cross-by_way : (e a b c : Vertex) → cross e (from_to a c) ≡ (cross e (from_to a b) +ℤ cross e (from_to b c))
-cross-by_way e a b c =
-    same (minus (times (var e.x) (minus (var c.y) (var a.y))) (times (var e.y) (minus (var c.x) (var a.x))))
-    (plus (minus (times (var e.x) (minus (var b.y) (var a.y))) (times (var e.y) (minus (var b.x) (var a.x))))
-    (minus (times (var e.x) (minus (var c.y) (var b.y))) (times (var e.y) (minus (var c.x) (var b.x))))) (omega arith)
+cross-by_way e a b c = same (seen_is e a c) (plus (seen_is e a b) (seen_is e b c)) (omega arith)
 
 -- w lies between u and v, so what lies to the left of u and v lies to the left of w
 pub between : (u v w x : Vertex) → pos 0 <ℤ cross u v → pos 0 ≤ℤ cross u w → pos 0 ≤ℤ cross w v → pos 0 ≤ℤ cross u x → pos 0 ≤ℤ cross v x → pos 0 ≤ℤ cross w x

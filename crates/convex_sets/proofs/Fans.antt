@@ -2,7 +2,7 @@
 use Rattle.convex_sets.proofs.Words.{◌≡◌, ℕ, ◌+◌, ◌-◌, ◌<◌, ◌≤◌, zero, suc, List, length, refl, ◌∙◌, arith, ℤ, pos, negsuc, ◌+ℤ◌, ◌-ℤ◌, ◌*ℤ◌, ◌<ℤ◌, ◌≤ℤ◌, ints}
 use Rattle.convex_sets.proofs.Words.{by_lt_z, Vertex, corner_at, next_corner, IsInside, side_of, Rational, at_corner, cross, from_to, Read, var, plus, minus}
 use Rattle.convex_sets.proofs.Words.{times, same, orientation}
-use Rattle.convex_sets.proofs.Crosses.{exchange_x, exchange_y, cross_opposite}
+use Rattle.convex_sets.proofs.Crosses.{exchange_x, exchange_y, cross_opposite, turn_is}
 use Rattle.convex_sets.proofs.Signs.{mul-positive}
 use Rattle.convex_sets.proofs.ConvexPolygons.{IsConvex, next_suc, next_last}
 
@@ -36,9 +36,7 @@ side_of_opposite a b q = same (side_is b a q) (minus (var (pos 0)) (side_is a b 
 areas : (a b c : Vertex) (q : Rational) → ((side_of b c q -ℤ side_of a c q) +ℤ side_of a b q) ≡ pos q.over *ℤ cross (from_to a b) (from_to a c)
 areas a b c q =
     same (plus (minus (side_is b c q) (side_is a c q)) (side_is a b q))
-    (times (var (pos q.over))
-    (minus (times (minus (var b.x) (var a.x)) (minus (var c.y) (var a.y))) (times (minus (var b.y) (var a.y)) (minus (var c.x) (var a.x)))))
-    (omega arith)
+    (times (var (pos q.over)) (turn_is a b c)) (omega arith)
 
 without_first : (d e v w a b c : ℤ)
     → d *ℤ (((((d *ℤ e) -ℤ v) -ℤ w) *ℤ a +ℤ (v *ℤ b)) +ℤ (w *ℤ c)) ≡ d *ℤ (((d *ℤ e) *ℤ a) +ℤ ((v *ℤ (b -ℤ a)) +ℤ (w *ℤ (c -ℤ a))))
@@ -62,10 +60,7 @@ mean d e u v w a b c q total at =
 
 -- the area of a triangle, from whichever corner
 pub around : (a b c : Vertex) → cross (from_to a b) (from_to a c) ≡ orientation b c a
-around a b c =
-    same (minus (times (minus (var b.x) (var a.x)) (minus (var c.y) (var a.y))) (times (minus (var b.y) (var a.y)) (minus (var c.x) (var a.x))))
-    (minus (times (minus (var c.x) (var b.x)) (minus (var a.y) (var b.y))) (times (minus (var c.y) (var b.y)) (minus (var a.x) (var b.x))))
-    (omega arith)
+around a b c = same (turn_is a b c) (turn_is b c a) (omega arith)
 
 weighed : (a b c : Vertex) (q : Rational) (u v w : ℕ) → side_of b c q ≡ pos u → (pos 0 -ℤ side_of a c q) ≡ pos v → side_of a b q ≡ pos w
     → pos 0 <ℤ cross (from_to a b) (from_to a c) → IsMeanOf a b c q
@@ -106,7 +101,6 @@ pub fan : (corners : List Vertex) (q : Rational) → IsConvex corners → IsInsi
     → (k : ℕ) × (suc (suc k) < length corners) × IsMeanOf (corner_at corners 0) (corner_at corners (suc k)) (corner_at corners (suc (suc k))) q
 fan corners q convex inside =
     let n = length corners in
-    let three = convex.three in
     let m = n - 3 in
     let c : ℕ → Vertex = corner_at corners in
     let edge : (i : ℕ) → suc i < n → pos 0 ≤ℤ side_of (c i) (c (suc i)) q = λ i l.
@@ -122,10 +116,7 @@ fan corners q convex inside =
     (k, small, triangle (c 0) (c (suc k)) (c (suc (suc k))) q found.2 found.3 (edge (suc k) small) (rw (around (c 0) (c (suc k)) (c (suc (suc k)))) left))
 
 pub side_at_corner : (a b v : Vertex) → side_of a b (at_corner v) ≡ orientation a b v
-side_at_corner a b v =
-    same (side_is a b (at_corner v))
-    (minus (times (minus (var b.x) (var a.x)) (minus (var v.y) (var a.y))) (times (minus (var b.y) (var a.y)) (minus (var v.x) (var a.x))))
-    (omega arith)
+side_at_corner a b v = same (side_is a b (at_corner v)) (turn_is a b v) (omega arith)
 
 pub not_inside : (corners : List Vertex) (v : Vertex) (i to : ℕ) → to ≡ next_corner (length corners) i → i < length corners
     → orientation (corner_at corners i) (corner_at corners to) v <ℤ pos 0 → ¬ IsInside corners (at_corner v)

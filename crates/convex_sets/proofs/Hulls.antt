@@ -3,6 +3,7 @@ use Rattle.convex_sets.proofs.Words.{◌≡◌, ℕ, ◌+◌, ◌<◌, zero, suc
 use Rattle.convex_sets.proofs.Words.{sum_by-cons, Vertex, corner_at, Meets, weighted, Rational, SharesPoint-meets, Meets-shares_point, cross, from_to, var}
 use Rattle.convex_sets.proofs.Words.{plus, minus, times, same}
 use Rattle.convex_sets.proofs.Signs.{mul-not_negative, not_negative_factor}
+use Rattle.convex_sets.proofs.Crosses.{seen_is}
 use Rattle.convex_sets.proofs.Fans.{out_to, IsMeanOf}
 
 -- the weighted sum of corners, seen from another corner
@@ -19,7 +20,7 @@ one_more : (e z c : Vertex) (w s : ℕ) (x y : ℤ)
 one_more e z c w s x y =
     same (minus (times (var e.x) (minus (plus (times (var (pos w)) (var c.y)) (var y)) (times (var (pos (w + s))) (var z.y))))
     (times (var e.y) (minus (plus (times (var (pos w)) (var c.x)) (var x)) (times (var (pos (w + s))) (var z.x)))))
-    (plus (times (var (pos w)) (minus (times (var e.x) (minus (var c.y) (var z.y))) (times (var e.y) (minus (var c.x) (var z.x)))))
+    (plus (times (var (pos w)) (seen_is e z c))
     (minus (times (var e.x) (minus (var y) (times (var (pos s)) (var z.y)))) (times (var e.y) (minus (var x) (times (var (pos s)) (var z.x))))))
     (omega arith)
 

@@ -1,8 +1,8 @@
 -- One step of merging two outlines by the order of their edges' angles.
 use Rattle.convex_sets.proofs.Words.{◌≡◌, ◌⊎◌, ℕ, suc, ◌<◌, ◌≤◌, List, length, ◌∙◌, inl, inr, arith, pos, negsuc, ◌*ℤ◌, ◌<ℤ◌, ◌≤ℤ◌, ints, by_lt_z, Vertex}
-use Rattle.convex_sets.proofs.Words.{corner_at, cross, from_to, both, edge_at, start, rise, IsOutline, cases_lt, var, minus, times, same}
+use Rattle.convex_sets.proofs.Words.{corner_at, cross, from_to, both, edge_at, start, rise, IsOutline, cases_lt, var, same}
 use Rattle.convex_sets.proofs.Signs.{mul-positive, mul-not_negative, mul-down_up, not_negative_factor, positive_factor}
-use Rattle.convex_sets.proofs.Crosses.{exchange, between, cross_opposite, cross_self, cross-both, both-cross, cross-by_way}
+use Rattle.convex_sets.proofs.Crosses.{exchange, between, cross_opposite, cross_self, cross-both, both-cross, cross-by_way, seen_is}
 
 -- v points to the left of e, and does not rise again after e has fallen
 pub record IsAhead (e v : Vertex) : Type 0 where
@@ -59,8 +59,7 @@ falls_after e p r h k left (inl up) falls =
         omega (arith, ints, exchange start e p r, one, two, three)
 
 pub zero_vector : (e v : Vertex) → cross e (from_to v v) ≡ pos 0
-zero_vector e v =
-    same (minus (times (var e.x) (minus (var v.y) (var v.y))) (times (var e.y) (minus (var v.x) (var v.x)))) (var (pos 0)) (omega arith)
+zero_vector e v = same (seen_is e v v) (var (pos 0)) (omega arith)
 
 -- what lies to the left of an edge, seen from its end
 pub from_end : (p a b c : Vertex) → cross p (from_to a b) ≡ pos 0 → cross p (from_to b c) ≡ cross p (from_to a c)
@@ -69,11 +68,15 @@ from_end p a b c none = omega (arith, ints, cross-by_way p a b c, none)
 -- The edge of the first outline comes first: the second outline lies to its left.
 other_left : (a b : List Vertex) (i j : ℕ) (e p : Vertex) → IsAt a b i j e → IsOutline b → IsAhead e p
     → (suc j < length b → pos 0 <ℤ cross p (edge_at b j)) → (l : ℕ) → l < length b → pos 0 ≤ℤ cross p (from_to (corner_at b j) (corner_at b l))
-other_left a b i j e p h outline ahead left l inside = by (cases_lt (suc j) (length b))
+other_left a b i j e p h outline ahead left l inside =
+    elim (cases_lt (suc j) (length b)) [
+      | inl next ↦
+          let turn = left next in
+          between e (edge_at b j) p (from_to (corner_at b j) (corner_at b l)) (h.next_b next).left (let f = ahead.left in omega (arith, ints))
+          (omega (arith, ints)) (h.left_b l inside) (outline.left j l next inside)
+      | inr last ↦ at_end (let w = h.within_b in omega arith)
+    ]
   where
-    x : Vertex
-    x = from_to (corner_at b j) (corner_at b l)
-
     at_end : (suc j ≡ length b) → pos 0 ≤ℤ cross p (from_to (corner_at b j) (corner_at b l))
     at_end last = by_length (cases_lt 1 (length b))
       where
@@ -88,13 +91,6 @@ other_left a b i j e p h outline ahead left l inside = by (cases_lt (suc j) (len
         by_length (inr one) =
             let same_place : l ≡ j = omega arith in
             rw (same_place, zero_vector p (corner_at b j)) (omega (arith, ints))
-
-    by : (suc j < length b) ⊎ (length b ≤ suc j) → pos 0 ≤ℤ cross p (from_to (corner_at b j) (corner_at b l))
-    by (inl next) =
-        let turn = left next in
-        between e (edge_at b j) p (from_to (corner_at b j) (corner_at b l)) (h.next_b next).left (let f = ahead.left in omega (arith, ints))
-        (omega (arith, ints)) (h.left_b l inside) (outline.left j l next inside)
-    by (inr last) = at_end (let w = h.within_b in omega arith)
 
 -- the step along the first outline
 pub record Step (a b : List Vertex) (i j k l : ℕ) (e f : Vertex) : Type 0 where
@@ -193,7 +189,7 @@ take_both a b i j e h first second more again parallel =
           left = rw (cross-both e p r) (omega (arith, ints, hp, hr));
           falls_on = λ falls. falls_both ((h.next_a more).falls_on falls);
         };
-        rises_or_falls = by_sign (first.rises_or_falls i more);
+        rises_or_falls = elim (first.rises_or_falls i more) [ inl up ↦ inl (rises_both up) | inr down ↦ inr (falls_both down) ];
         left_a = left_a;
         left_b = left_b;
       };
@@ -245,13 +241,5 @@ take_both a b i j e h first second more again parallel =
         rw (cross-both start (edge_at a i) (edge_at b j)) (omega (arith, ints))
 
     falls_p : rise (both (edge_at a i) (edge_at b j)) <ℤ pos 0 → rise (edge_at a i) <ℤ pos 0
-    falls_p falls = from_sign (first.rises_or_falls i more)
-      where
-        from_sign : (pos 0 <ℤ rise (edge_at a i)) ⊎ (rise (edge_at a i) <ℤ pos 0) → rise (edge_at a i) <ℤ pos 0
-        from_sign (inl up) = let rising = rises_both up in absurd (omega (arith, ints))
-        from_sign (inr down) = down
-
-    by_sign : (pos 0 <ℤ rise (edge_at a i)) ⊎ (rise (edge_at a i) <ℤ pos 0)
-        → (pos 0 <ℤ rise (both (edge_at a i) (edge_at b j))) ⊎ (rise (both (edge_at a i) (edge_at b j)) <ℤ pos 0)
-    by_sign (inl up) = inl (rises_both up)
-    by_sign (inr down) = inr (falls_both down)
+    falls_p falls =
+        elim (first.rises_or_falls i more) [ inl up ↦ (let rising = rises_both up in absurd (omega (arith, ints))) | inr down ↦ down ]

@@ -3,6 +3,7 @@ use Rattle.convex_sets.proofs.Words.{◌≡◌, ◌⊎◌, ℕ, suc, ◌+◌, �
 use Rattle.convex_sets.proofs.Words.{◌<ℤ◌, ◌≤ℤ◌, ints, cases_lt, length-append, get_or-append, get_or-append_seam, Vertex, corner_at, cross, from_to, both}
 use Rattle.convex_sets.proofs.Words.{edge_at, start, rise, IsOutline, IsSum, IsMergeStep, var, plus, minus, times, same}
 use Rattle.convex_sets.proofs.Corners.{same_vector}
+use Rattle.convex_sets.proofs.Crosses.{seen_is}
 use Rattle.convex_sets.proofs.MergeSteps.{IsAhead, IsAt, IsNext, Step, take_first, take_second, take_both}
 
 -- the corners so far, the current one last, and the last edge e
@@ -43,8 +44,7 @@ pub cross-sums : (f a b c d : Vertex) → cross f (from_to (both a b) (both c d)
 cross-sums f a b c d =
     same (minus (times (var f.x) (minus (plus (var c.y) (var d.y)) (plus (var a.y) (var b.y))))
     (times (var f.y) (minus (plus (var c.x) (var d.x)) (plus (var a.x) (var b.x)))))
-    (plus (minus (times (var f.x) (minus (var c.y) (var a.y))) (times (var f.y) (minus (var c.x) (var a.x))))
-    (minus (times (var f.x) (minus (var d.y) (var b.y))) (times (var f.y) (minus (var d.x) (var b.x))))) (omega arith)
+    (plus (seen_is f a c) (seen_is f b d)) (omega arith)
 
 ahead_by : (p q r s : Vertex) → q ≡ p → s ≡ r → IsAhead p r → IsAhead q s
 ahead_by p q r s e f h = rw (e, f) h
@@ -64,62 +64,45 @@ module _ (a b corners : List Vertex) (i j k l : ℕ) (e f z : Vertex) (path : Is
   new_edge u h = edge_end corners (both (corner_at a i) (corner_at b j)) z u h (last u h) ∙ edge
 
   push-turns : (u : ℕ) → suc (suc u) < length (corners ++ z ∷ []) → IsAhead (edge_at (corners ++ z ∷ []) u) (edge_at (corners ++ z ∷ []) (suc u))
-  push-turns u h = by (cases_lt (suc (suc u)) (length corners))
-    where
-      here : suc (suc u) ≤ length corners
-      here = omega (arith, pushed corners z)
-
-      by : (suc (suc u) < length corners) ⊎ (length corners ≤ suc (suc u)) → IsAhead (edge_at (corners ++ z ∷ []) u) (edge_at (corners ++ z ∷ []) (suc u))
-      by (inl m) =
-          ahead_by (edge_at corners u) _ (edge_at corners (suc u)) _ (edge_front corners z u (omega arith)) (edge_front corners z (suc u) m) (path.turns u m)
-      by (inr m) =
-          let is : suc (suc u) ≡ length corners = omega (arith, here) in
-          ahead_by e _ f _ (edge_front corners z u (omega arith) ∙ path.heading u is) (new_edge (suc u) is) next.ahead
+  push-turns u h =
+      elim (cases_lt (suc (suc u)) (length corners)) [
+        | inl m ↦
+            ahead_by (edge_at corners u) _ (edge_at corners (suc u)) _ (edge_front corners z u (omega arith)) (edge_front corners z (suc u) m) (path.turns u m)
+        | inr m ↦
+            let is : suc (suc u) ≡ length corners = omega (arith, pushed corners z) in
+            ahead_by e _ f _ (edge_front corners z u (omega arith) ∙ path.heading u is) (new_edge (suc u) is) next.ahead
+      ]
 
   push-rises_or_falls : (u : ℕ) → suc u < length (corners ++ z ∷ [])
       → (pos 0 <ℤ rise (edge_at (corners ++ z ∷ []) u)) ⊎ (rise (edge_at (corners ++ z ∷ []) u) <ℤ pos 0)
-  push-rises_or_falls u h = by (cases_lt (suc u) (length corners))
-    where
-      here : suc u ≤ length corners
-      here = omega (arith, pushed corners z)
-
-      by : (suc u < length corners) ⊎ (length corners ≤ suc u)
-          → (pos 0 <ℤ rise (edge_at (corners ++ z ∷ []) u)) ⊎ (rise (edge_at (corners ++ z ∷ []) u) <ℤ pos 0)
-      by (inl m) = sign_by (edge_at corners u) _ (edge_front corners z u m) (path.rises_or_falls u m)
-      by (inr m) = sign_by f _ (new_edge u (omega (arith, here))) next.rises_or_falls
+  push-rises_or_falls u h =
+      elim (cases_lt (suc u) (length corners)) [
+        | inl m ↦ sign_by (edge_at corners u) _ (edge_front corners z u m) (path.rises_or_falls u m)
+        | inr m ↦ sign_by f _ (new_edge u (omega (arith, pushed corners z))) next.rises_or_falls
+      ]
 
   push-supports : (u m n : ℕ) → suc u < length (corners ++ z ∷ []) → m < length a → n < length b
       → pos 0 ≤ℤ cross (edge_at (corners ++ z ∷ []) u) (from_to (corner_at (corners ++ z ∷ []) u) (both (corner_at a m) (corner_at b n)))
-  push-supports u m n h p q = by (cases_lt (suc u) (length corners))
-    where
-      x : Vertex
-      x = both (corner_at a m) (corner_at b n)
-
-      here : suc u ≤ length corners
-      here = omega (arith, pushed corners z)
-
-      by : (suc u < length corners) ⊎ (length corners ≤ suc u)
-          → pos 0 ≤ℤ cross (edge_at (corners ++ z ∷ []) u) (from_to (corner_at (corners ++ z ∷ []) u) (both (corner_at a m) (corner_at b n)))
-      by (inl r) =
-          left_by (edge_at corners u) _ (corner_at corners u) _ (both (corner_at a m) (corner_at b n)) (edge_front corners z u r)
-          (at_front corners z u (omega arith)) (path.supports u m n r p q)
-      by (inr r) =
-          let is : suc u ≡ length corners = omega (arith, here) in
-          let one = next.left_a m p in
-          let two = next.left_b n q in
-          left_by f _ (both (corner_at a i) (corner_at b j)) _ (both (corner_at a m) (corner_at b n)) (new_edge u is)
-          (at_front corners z u (omega arith) ∙ last u is)
-          (rw (cross-sums f (corner_at a i) (corner_at b j) (corner_at a m) (corner_at b n)) (omega (arith, ints)))
+  push-supports u m n h p q =
+      elim (cases_lt (suc u) (length corners)) [
+        | inl r ↦
+            left_by (edge_at corners u) _ (corner_at corners u) _ (both (corner_at a m) (corner_at b n)) (edge_front corners z u r)
+            (at_front corners z u (omega arith)) (path.supports u m n r p q)
+        | inr r ↦
+            let is : suc u ≡ length corners = omega (arith, pushed corners z) in
+            let one = next.left_a m p in
+            let two = next.left_b n q in
+            left_by f _ (both (corner_at a i) (corner_at b j)) _ (both (corner_at a m) (corner_at b n)) (new_edge u is)
+            (at_front corners z u (omega arith) ∙ last u is)
+            (rw (cross-sums f (corner_at a i) (corner_at b j) (corner_at a m) (corner_at b n)) (omega (arith, ints)))
+      ]
 
   push-sums : IsSum a b z → (u : ℕ) → u < length (corners ++ z ∷ []) → IsSum a b (corner_at (corners ++ z ∷ []) u)
-  push-sums s u h = by (cases_lt u (length corners))
-    where
-      here : u ≤ length corners
-      here = omega (arith, pushed corners z)
-
-      by : (u < length corners) ⊎ (length corners ≤ u) → IsSum a b (corner_at (corners ++ z ∷ []) u)
-      by (inl m) = rw (at_front corners z u m) (path.sums u m)
-      by (inr m) = rw (at_end corners z u (omega (arith, here))) s
+  push-sums s u h =
+      elim (cases_lt u (length corners)) [
+        | inl m ↦ rw (at_front corners z u m) (path.sums u m)
+        | inr m ↦ rw (at_end corners z u (omega (arith, pushed corners z))) s
+      ]
 
   IsPath-push : IsSum a b z → IsPath a b (corners ++ z ∷ []) f
   IsPath-push s =
@@ -139,8 +122,6 @@ step a b corners i j k l f m s small_a small_b edge =
     let y = both (corner_at a i) (corner_at b j) in
     let z = both (corner_at a k) (corner_at b l) in
     let sum : IsSum a b z = record { first = k; second = l; within_first = s.at.within_a; within_second = s.at.within_b; is = refl } in
-    let long = m.long_a in
-    let long' = m.long_b in
     record {
       heading = f;
       at = s.at;

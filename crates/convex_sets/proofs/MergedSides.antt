@@ -1,8 +1,15 @@
 -- Two polygons whose sum is merged lie to the left of each of its edges, each moved to where the edge begins.
-use Rattle.convex_sets.proofs.Words.{◌≡◌, ℕ, ◌<◌, List, length, ap, subst, arith, pos, ◌≤ℤ◌, ints, Vertex, corner_at, next_corner, cross, from_to, both}
+use Rattle.convex_sets.proofs.Words.{◌≡◌, ℕ, ◌<◌, List, length, arith, pos, ◌≤ℤ◌, ints, Vertex, corner_at, next_corner, cross, from_to, both}
 use Rattle.convex_sets.proofs.Words.{IsMerged, IsOutlineOf}
 use Rattle.convex_sets.proofs.MergeSteps.{zero_vector}
 use Rattle.convex_sets.proofs.MergedPaths.{cross-sums}
+
+-- seen from a sum, another sum that differs in one part lies where that part lies, seen from the first sum's
+first_seen : (e z a b k : Vertex) → z ≡ both a b → pos 0 ≤ℤ cross e (from_to z (both k b)) → pos 0 ≤ℤ cross e (from_to a k)
+first_seen e z a b k is f = let h = rw is at f in omega (arith, ints, h, cross-sums e a b k b, zero_vector e b)
+
+second_seen : (e z a b k : Vertex) → z ≡ both a b → pos 0 ≤ℤ cross e (from_to z (both a k)) → pos 0 ≤ℤ cross e (from_to b k)
+second_seen e z a b k is f = let h = rw is at f in omega (arith, ints, h, cross-sums e a b a k, zero_vector e a)
 
 -- the merged outline z of the outlines a and b of two polygons
 module _ (first_corners second_corners a b z : List Vertex) (first : IsOutlineOf first_corners a) (second : IsOutlineOf second_corners b)
@@ -14,19 +21,8 @@ module _ (first_corners second_corners a b z : List Vertex) (first : IsOutlineOf
       let s = merged.sums i p in
       let k = first.all t q in
       let e = from_to (corner_at z i) (corner_at z (next_corner (length z) i)) in
-      let f = merged.supports i k.0 s.second p k.1 s.within_second in
-      let g : from_to (corner_at z i) (both (corner_at a k.0) (corner_at b s.second)) ≡ from_to (both (corner_at a s.first) (corner_at b s.second))
-      (both (corner_at a k.0) (corner_at b s.second)) = ap (λ v. from_to v (both (corner_at a k.0) (corner_at b s.second))) s.is in
-      let h : pos 0 ≤ℤ cross e (from_to (both (corner_at a s.first) (corner_at b s.second)) (both (corner_at a k.0) (corner_at b s.second))) = subst
-      (λ (v : Vertex). pos 0 ≤ℤ cross e v) g f in
-      rw k.2 (omega (
-        arith,
-        ints,
-        h,
-        cross-sums e (corner_at a s.first) (corner_at b s.second) (corner_at a k.0) (corner_at b s.second),
-        zero_vector e
-            (corner_at b s.second),
-      ))
+      rw k.2 (first_seen e (corner_at z i) (corner_at a s.first) (corner_at b s.second) (corner_at a k.0) s.is
+      (merged.supports i k.0 s.second p k.1 s.within_second))
 
   pub second_left : (i : ℕ) (p : i < length z) (t : ℕ) → t < length second_corners
       → pos 0 ≤ℤ cross (from_to (corner_at z i) (corner_at z (next_corner (length z) i)))
@@ -35,16 +31,5 @@ module _ (first_corners second_corners a b z : List Vertex) (first : IsOutlineOf
       let s = merged.sums i p in
       let k = second.all t q in
       let e = from_to (corner_at z i) (corner_at z (next_corner (length z) i)) in
-      let f = merged.supports i s.first k.0 p s.within_first k.1 in
-      let g : from_to (corner_at z i) (both (corner_at a s.first) (corner_at b k.0)) ≡ from_to (both (corner_at a s.first) (corner_at b s.second))
-      (both (corner_at a s.first) (corner_at b k.0)) = ap (λ v. from_to v (both (corner_at a s.first) (corner_at b k.0))) s.is in
-      let h : pos 0 ≤ℤ cross e (from_to (both (corner_at a s.first) (corner_at b s.second)) (both (corner_at a s.first) (corner_at b k.0))) = subst
-      (λ (v : Vertex). pos 0 ≤ℤ cross e v) g f in
-      rw k.2 (omega (
-        arith,
-        ints,
-        h,
-        cross-sums e (corner_at a s.first) (corner_at b s.second) (corner_at a s.first) (corner_at b k.0),
-        zero_vector e
-            (corner_at a s.first),
-      ))
+      rw k.2 (second_seen e (corner_at z i) (corner_at a s.first) (corner_at b s.second) (corner_at b k.0) s.is
+      (merged.supports i s.first k.0 p s.within_first k.1))

@@ -5,6 +5,7 @@ use Rattle.convex_sets.proofs.Words.{corner, square}
 use Rattle.plan_model.specs.Spaces.Meeting as meeting
 use Rattle.convex_sets.proofs.ConvexPolygons.{test-from_IsConvex}
 use Rattle.convex_sets.proofs.Corners.{IsWithin}
+use Rattle.convex_sets.proofs.Crosses.{seen_is}
 use Rattle.convex_sets.proofs.Signs.{mul-positive, mul-not_negative, mul-up_down, mul-down_up, mul-both_negative, mul-both_not_positive}
 
 -- a corner to the left of an edge along an axis
@@ -84,8 +85,7 @@ past e a s n t u h f g =
         ((e.x *ℤ (u -ℤ (pos n *ℤ s.y))) +ℤ (e.y *ℤ ((pos n *ℤ s.x) -ℤ t)))
     parts =
         same (minus (times (var e.x) (minus (var u) (times (var (pos n)) (var a.y)))) (times (var e.y) (minus (var t) (times (var (pos n)) (var a.x)))))
-        (plus
-        (times (var (pos n)) (minus (times (var e.x) (minus (var s.y) (var a.y))) (times (var e.y) (minus (var s.x) (var a.x)))))
+        (plus (times (var (pos n)) (seen_is e a s))
         (plus (times (var e.x) (minus (var u) (times (var (pos n)) (var s.y)))) (times (var e.y) (minus (times (var (pos n)) (var s.x)) (var t)))))
         (omega arith)
 

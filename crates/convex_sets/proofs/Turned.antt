@@ -1,6 +1,6 @@
 -- The corners of a strictly convex polygon from the lowest on are an outline.
-use Rattle.convex_sets.proofs.Words.{◌≡◌, ◌≢◌, ◌⊎◌, ℕ, suc, ◌+◌, ◌-◌, ◌<◌, ◌≤◌, Bool, true, false, cond, ltb, ◌||◌, ◌==◌, List, [], ◌∷◌, ◌++◌, length, refl}
-use Rattle.convex_sets.proofs.Words.{sym, ap, ◌∙◌, inl, inr, arith, ℤ, pos, ◌<ℤ◌, ◌≤ℤ◌, ints, by_lt_z, cases_lt, cases_order, ltb-true, ltb-false, eqb-true}
+use Rattle.convex_sets.proofs.Words.{◌≡◌, ◌≢◌, ◌⊎◌, ℕ, suc, ◌+◌, ◌-◌, ◌<◌, ◌≤◌, Bool, true, false, ◌||◌, ◌==◌, List, [], ◌∷◌, ◌++◌, length, refl}
+use Rattle.convex_sets.proofs.Words.{sym, ap, ◌∙◌, inl, inr, arith, ℤ, pos, ◌<ℤ◌, ◌≤ℤ◌, ints, by_lt_z, cases_lt, cases_eq, lt-ltb, le-ltb, eqb-true}
 use Rattle.convex_sets.proofs.Words.{LEAST_CORNER_COORDINATE, MOST_CORNER_COORDINATE, Vertex, corner_at, next_corner, is_strictly_convex, orientation}
 use Rattle.convex_sets.proofs.Words.{AreBoundedCorners, IsBoundedCorner, cross, from_to, edge_at, start, rise, IsOutline, IsOutlineOf, IsTurned, places_after}
 use Rattle.convex_sets.proofs.Words.{true_of_all, is_corner_between}
@@ -12,25 +12,14 @@ use borrow.Author.Count.{below_more}
 use Rattle.convex_sets.proofs.ConvexPolygons.{IsConvex, IsConvex-from_test, next_suc, next_last}
 
 pub places_before : (n i k : ℕ) → i + k < n → places_after n i k ≡ i + k
-places_before n i k h = by (ltb (i + k) n) refl
-  where
-    by : (t : Bool) → ltb (i + k) n ≡ t → cond t (i + k) (i + k - n) ≡ i + k
-    by true e = refl
-    by false e = absurd (omega (arith, ltb-false (i + k) n e))
+places_before n i k h = let t = lt-ltb (i + k) n h in rw t
 
 pub places_round : (n i k : ℕ) → n ≤ i + k → places_after n i k ≡ i + k - n
-places_round n i k h = by (ltb (i + k) n) refl
-  where
-    by : (t : Bool) → ltb (i + k) n ≡ t → cond t (i + k) (i + k - n) ≡ i + k - n
-    by true e = absurd (omega (arith, ltb-true (i + k) n e))
-    by false e = refl
+places_round n i k h = let t = le-ltb (i + k) n h in rw t
 
 places_within : (n i k : ℕ) → i < n → k ≤ n → places_after n i k < n
-places_within n i k p q = by (cases_lt (i + k) n)
-  where
-    by : (i + k < n) ⊎ (n ≤ i + k) → places_after n i k < n
-    by (inl r) = rw (places_before n i k r) r
-    by (inr r) = rw (places_round n i k r) (omega arith)
+places_within n i k p q =
+    elim (cases_lt (i + k) n) [ inl r ↦ rw (places_before n i k r) r | inr r ↦ rw (places_round n i k r) (omega arith) ]
 
 places_next : (n i k : ℕ) → i < n → k < n → next_corner n (places_after n i k) ≡ places_after n i (suc k)
 places_next n i k p q = by (cases_lt (i + k) n)
@@ -59,42 +48,31 @@ places_apart n i k l p q r s e = by (cases_lt (i + k) n) (cases_lt (i + l) n)
 -- no corner lies to the right of an edge
 pub not_right : (corners : List Vertex) (i k : ℕ) → IsConvex corners → i < length corners → k < length corners
     → pos 0 ≤ℤ orientation (corner_at corners i) (corner_at corners (next_corner (length corners) i)) (corner_at corners k)
-not_right corners i k convex p q = by (cases_order k i) (cases_order k (next_corner (length corners) i))
+not_right corners i k convex p q = by (cases_eq k i) (cases_eq k (next_corner (length corners) i))
   where
-    e : Vertex
-    e = from_to (corner_at corners i) (corner_at corners (next_corner (length corners) i))
-
-    strictly : k ≢ i → k ≢ next_corner (length corners) i
-        → pos 0 ≤ℤ orientation (corner_at corners i) (corner_at corners (next_corner (length corners) i)) (corner_at corners k)
-    strictly a b = let f = convex.left i k p q a b in omega (arith, ints)
-
-    by : (k ≡ i) ⊎ ((k < i) ⊎ (i < k))
-        → (k ≡ next_corner (length corners) i) ⊎ ((k < next_corner (length corners) i) ⊎ (next_corner (length corners) i < k))
+    by : (k ≡ i) ⊎ (k ≢ i) → (k ≡ next_corner (length corners) i) ⊎ (k ≢ next_corner (length corners) i)
         → pos 0 ≤ℤ orientation (corner_at corners i) (corner_at corners (next_corner (length corners) i)) (corner_at corners k)
     by (inl a) b =
         rw a (omega (arith, ints, zero_vector (from_to (corner_at corners i) (corner_at corners (next_corner (length corners) i))) (corner_at corners i)))
     by (inr a) (inl b) =
         rw b (omega (arith, ints, cross_self (from_to (corner_at corners i) (corner_at corners (next_corner (length corners) i)))))
-    by (inr (inl a)) (inr (inl b)) = strictly (omega arith) (omega arith)
-    by (inr (inl a)) (inr (inr b)) = strictly (omega arith) (omega arith)
-    by (inr (inr a)) (inr (inl b)) = strictly (omega arith) (omega arith)
-    by (inr (inr a)) (inr (inr b)) = strictly (omega arith) (omega arith)
+    by (inr a) (inr b) = let f = convex.left i k p q a b in omega (arith, ints)
 
 next_of_next : (n i : ℕ) → 3 ≤ n → i < n → i ≢ next_corner n (next_corner n i)
-next_of_next n i three p e = by (cases_lt (suc i) n)
-  where
-    inside : suc i < n → (suc (suc i) < n) ⊎ (n ≤ suc (suc i)) → ⊥
-    inside r (inl m) = omega (arith, e ∙ ap (next_corner n) (next_suc n i r) ∙ next_suc n (suc i) m)
-    inside r (inr m) = omega (arith, e ∙ ap (next_corner n) (next_suc n i r) ∙ next_last n (suc i) (omega arith))
-
-    by : (suc i < n) ⊎ (n ≤ suc i) → ⊥
-    by (inl r) = inside r (cases_lt (suc (suc i)) n)
-    by (inr r) = omega (arith, e ∙ ap (next_corner n) (next_last n i (omega arith)) ∙ next_suc n 0 (omega arith))
+next_of_next n i three p e =
+    elim (cases_lt (suc i) n) [
+      | inl r ↦ elim (cases_lt (suc (suc i)) n) [
+        | inl m ↦ omega (arith, e ∙ ap (next_corner n) (next_suc n i r) ∙ next_suc n (suc i) m)
+        | inr m ↦ omega (arith, e ∙ ap (next_corner n) (next_suc n i r) ∙ next_last n (suc i) (omega arith))
+      ]
+      | inr r ↦ omega (arith, e ∙ ap (next_corner n) (next_last n i (omega arith)) ∙ next_suc n 0 (omega arith))
+    ]
 
 -- no two corners of a strictly convex polygon are at one point
 distinct : (corners : List Vertex) (i k : ℕ) → IsConvex corners → i < length corners → k < length corners → i ≢ k
     → corner_at corners i ≡ corner_at corners k → ⊥
-distinct corners i k convex p q apart same = by (cases_order k (next_corner (length corners) i))
+distinct corners i k convex p q apart same =
+    elim (cases_eq k (next_corner (length corners) i)) [ inl is ↦ next is | inr off ↦ other off ]
   where
     other : k ≢ next_corner (length corners) i → ⊥
     other off =
@@ -108,11 +86,6 @@ distinct corners i k convex p q apart same = by (cases_order k (next_corner (len
         let f = convex.left k i q p apart off in
         let g = rw same at f in
         omega (arith, ints, zero_vector (from_to (corner_at corners k) (corner_at corners (next_corner (length corners) k))) (corner_at corners k))
-
-    by : (k ≡ next_corner (length corners) i) ⊎ ((k < next_corner (length corners) i) ⊎ (next_corner (length corners) i < k)) → ⊥
-    by (inl is) = next is
-    by (inr (inl l)) = other (omega arith)
-    by (inr (inr l)) = other (omega arith)
 
 -- corners that are level with each other are at one point
 level_same : (u v : Vertex) → IsBoundedCorner u → IsBoundedCorner v → rise (from_to u v) ≡ pos 0 → u ≡ v
@@ -186,7 +159,6 @@ module _ (corners r : List Vertex) (first : ℕ) (convex : IsConvex corners) (bo
   round-turns : (i : ℕ) → suc (suc i) < length r → pos 0 <ℤ cross (edge_at r i) (edge_at r (suc i))
   round-turns i p =
       let n = length corners in
-      let three = convex.three in
       let j = places_after n first i in
       let k = places_after n first (suc (suc i)) in
       let far = places_apart n first i (suc (suc i)) inside (omega arith) (omega arith) (omega (arith, turned.number)) in
@@ -198,11 +170,10 @@ module _ (corners r : List Vertex) (first : ℕ) (convex : IsConvex corners) (bo
 
   round-rises_or_falls : (i : ℕ) → suc i < length r → (pos 0 <ℤ rise (edge_at r i)) ⊎ (rise (edge_at r i) <ℤ pos 0)
   round-rises_or_falls i p =
-      let three = convex.three in
       sign_of (rise (edge_at r i)) (differ i (suc i) (omega arith) p (omega arith))
 
   round-falls_on : (i : ℕ) → suc (suc i) < length r → rise (edge_at r i) <ℤ pos 0 → rise (edge_at r (suc i)) <ℤ pos 0
-  round-falls_on i p falls = by (round-rises_or_falls (suc i) p)
+  round-falls_on i p falls = elim (round-rises_or_falls (suc i) p) [ inl rises ↦ absurd (never rises) | inr down ↦ down ]
     where
       never : pos 0 <ℤ rise (edge_at r (suc i)) → ⊥
       never rises =
@@ -216,10 +187,6 @@ module _ (corners r : List Vertex) (first : ℕ) (convex : IsConvex corners) (bo
           let back = falls_back (suc i) (omega arith) (omega (arith, turned.number)) in
           omega (arith, ints)
 
-      by : (pos 0 <ℤ rise (edge_at r (suc i))) ⊎ (rise (edge_at r (suc i)) <ℤ pos 0) → rise (edge_at r (suc i)) <ℤ pos 0
-      by (inl rises) = absurd (never rises)
-      by (inr down) = down
-
   IsOutline-round : IsOutline r
   IsOutline-round =
       record {
@@ -231,21 +198,14 @@ module _ (corners r : List Vertex) (first : ℕ) (convex : IsConvex corners) (bo
         falls_on = round-falls_on;
         rises_first = λ h. let three = convex.three in strictly_low 1 (omega arith) (omega arith);
         falls_last = λ i h.
-            let three = convex.three in
             let last : suc i ≡ length corners = omega (arith, turned.number) in
             let back : corner_at r (suc i) ≡ corner_at r 0 = ap (corner_at r) last ∙ ends in
             rw back (falls_back i (omega arith) (omega arith));
         low = round-low;
       }
 
-pub IsOutline-polygon : (corners r : List Vertex) (first : ℕ) → IsConvex corners → AreBoundedCorners corners → first < length corners
-    → ((i : ℕ) → i < length corners → pos 0 ≤ℤ rise (from_to (corner_at corners first) (corner_at corners i)))
-    → IsTurned corners r first (length corners + 1) → IsOutline r
-IsOutline-polygon corners r first convex bounded inside lowest turned = IsOutline-round corners r first convex bounded inside lowest turned
-
-pub IsOutline-point : (corners r : List Vertex) (first : ℕ) → IsTurned corners r first 1 → IsOutline r
+IsOutline-point : (corners r : List Vertex) (first : ℕ) → IsTurned corners r first 1 → IsOutline r
 IsOutline-point corners r first turned =
-    let one = turned.number in
     record {
       some = omega arith;
       closed = λ i h. let z : i ≡ 0 = omega arith in rw z;
@@ -277,7 +237,6 @@ module _ (corners r : List Vertex) (first count : ℕ) (inside : first < length 
     (round : count ≤ length corners + 1) (closes : length corners ≢ 1 → length corners < count) (turned : IsTurned corners r first count) where
   from : (k : ℕ) → k < length r → (i : ℕ) × (i < length corners) × (corner_at r k ≡ corner_at corners i)
   from k h =
-      let number = turned.number in
       (places_after (length corners) first k, places_within (length corners) first k inside (omega arith), turned.at k (omega arith))
 
   all : (i : ℕ) → i < length corners → (k : ℕ) × (k < length r) × (corner_at corners i ≡ corner_at r k)
@@ -331,7 +290,7 @@ pub IsRound-polygon : (corners r : List Vertex) (first count : ℕ) → (length 
 IsRound-polygon corners r first count shape more is inside lowest bounded turned =
     let convex = IsConvex-from_test corners (second_of (length corners == 1) (is_strictly_convex corners) shape (λ e. more (eqb-true (length corners) 1 e))) in
     record {
-      outline = IsOutline-polygon corners r first convex bounded inside lowest (rw is at turned);
+      outline = IsOutline-round corners r first convex bounded inside lowest (rw is at turned);
       same_corners = IsOutlineOf-round corners r first count inside (omega arith) (omega arith) (λ m. omega arith) turned;
       bounded = bounded-round corners r first count inside (omega arith) (omega arith) (λ m. omega arith) turned bounded;
     }

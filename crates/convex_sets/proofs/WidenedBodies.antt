@@ -26,10 +26,6 @@ IsNear-sum clearance body a b z first second s =
     let f = first.from s.first s.within_first in
     let g = second.from s.second s.within_second in
     let w = square_within clearance f.0 f.1 in
-    let left = w.left in
-    let right = w.right in
-    let bottom = w.bottom in
-    let top = w.top in
     let is : z ≡ both (corner_at (square clearance) f.0) (corner_at body g.0) = s.is ∙ rw (f.2, g.2) in
     let across = ap (λ v. v.x) is in
     let up = ap (λ v. v.y) is in
@@ -44,8 +40,6 @@ IsNear-sum clearance body a b z first second s =
 
 near_times : (w distance : ℕ) (a b : ℤ) → IsWithin distance a b → IsWithin (distance * w) (pos w *ℤ a) (pos w *ℤ b)
 near_times w distance a b h =
-    let low = h.lowest in
-    let high = h.highest in
     let above = mul-not_negative (pos w) (a -ℤ (b -ℤ pos distance)) (omega (arith, ints)) (omega (arith, ints)) in
     let below = mul-not_negative (pos w) ((b +ℤ pos distance) -ℤ a) (omega (arith, ints)) (omega (arith, ints)) in
     record { lowest = omega (arith, ints, rw up_is at above); highest = omega (arith, ints, rw down_is at below) }
@@ -72,10 +66,6 @@ within_more : (clearance w s t : ℕ) (a b x y z : ℤ) → t ≡ w + s → z �
     → IsWithin (clearance * t) (a +ℤ x) z
 within_more clearance w s t a b x y z e f g h =
     let more : clearance * t ≡ clearance * w + clearance * s = rw e (omega arith) in
-    let one = g.lowest in
-    let two = g.highest in
-    let three = h.lowest in
-    let four = h.highest in
     record { lowest = omega (arith, ints); highest = omega (arith, ints) }
 
 near_weights : (clearance : ℕ) (body corners : List Vertex) (ws : List ℕ) → length ws ≡ length corners
@@ -113,8 +103,6 @@ nearer : (clearance d l s : ℕ) (o z b n : ℤ) → s ≡ l → pos d *ℤ (o -
     → IsWithin (clearance * d * l) (pos d *ℤ (o -ℤ b)) n
 nearer clearance d l s o z b n e f h =
     let far = near_times d (clearance * s) z b h in
-    let low = far.lowest in
-    let high = far.highest in
     let size : clearance * s * d ≡ clearance * d * l = rw e (omega arith) in
     let moved : (pos d *ℤ (o -ℤ b)) -ℤ (pos d *ℤ (o -ℤ z)) ≡ (pos d *ℤ z) -ℤ (pos d *ℤ b) = same
     (minus (times (var (pos d)) (minus (var o) (var b))) (times (var (pos d)) (minus (var o) (var z))))
@@ -197,8 +185,6 @@ two_parts e a b d l o p r s x y =
 
 within_zero : (clearance d l : ℕ) (a b : ℤ) → IsWithin (clearance * d * l) a b → IsWithin (clearance * (d * l)) (a -ℤ b) (pos 0)
 within_zero clearance d l a b h =
-    let low = h.lowest in
-    let high = h.highest in
     let size : clearance * d * l ≡ clearance * (d * l) = omega arith in
     record { lowest = omega (arith, ints, size); highest = omega (arith, ints, size) }
 
@@ -272,14 +258,8 @@ module _ (clearance : ℕ) (body a b z : List Vertex) (first : IsOutlineOf (squa
       let n = near i l in
       let w = within_of LEAST_BODY_COORDINATE MOST_BODY_COORDINATE (corner_at body n.on_body)
       (true_at (is_corner_between LEAST_BODY_COORDINATE MOST_BODY_COORDINATE) body n.on_body (record { x = pos 0; y = pos 0 }) h n.within) in
-      let across = n.horizontal in
-      let up = n.vertical in
-      of_within LEAST_SUMMAND_COORDINATE MOST_SUMMAND_COORDINATE (corner_at z i) (record {
-        left = omega (arith, ints, w.left, across.lowest);
-        right = omega (arith, ints, w.right, across.highest);
-        bottom = omega (arith, ints, w.bottom, up.lowest);
-        top = omega (arith, ints, w.top, up.highest);
-      }))
+      of_within LEAST_SUMMAND_COORDINATE MOST_SUMMAND_COORDINATE (corner_at z i)
+      (record { left = omega (arith, ints); right = omega (arith, ints); bottom = omega (arith, ints); top = omega (arith, ints) }))
 
 -- the zone of the wider body is that of the body with the clearance
 pub zone_of_wider : (clearance : ℕ) (body wider obstacle corners : List Vertex) → IsWidenedBy clearance body wider → IsZoneOf 0 wider obstacle corners

@@ -5,6 +5,7 @@ use Rattle.convex_sets.proofs.Words.{MOST_SUMMAND_COORDINATE, Vertex, corner_at,
 use Rattle.convex_sets.proofs.Words.{Meets, Rational, IsZoneOf, IsLowerOrLeft, AreBoundedCorners, cross, from_to, reflection, IsMerged, IsOutlineOf, IsSum, var}
 use Rattle.convex_sets.proofs.Words.{minus, times, opposite, same, true_at, true_of_all}
 use Rattle.convex_sets.proofs.Corners.{within_of, of_within, bounded_of, bounded_corner, bounded_at}
+use Rattle.convex_sets.proofs.Crosses.{turn_is}
 use Rattle.convex_sets.proofs.MergedSides.{first_left, second_left}
 use Rattle.convex_sets.proofs.ConvexPolygons.{IsConvex, IsConvex-from_test, test-from_IsConvex, next_within}
 use Rattle.convex_sets.proofs.Fans.{fan, out_to}
@@ -24,8 +25,7 @@ orientation-reflected : (a b c : Vertex) → orientation (reflection a) (reflect
 orientation-reflected a b c =
     same (minus (times (minus (opposite (var b.x)) (opposite (var a.x))) (minus (opposite (var c.y)) (opposite (var a.y))))
     (times (minus (opposite (var b.y)) (opposite (var a.y))) (minus (opposite (var c.x)) (opposite (var a.x)))))
-    (minus (times (minus (var b.x) (var a.x)) (minus (var c.y) (var a.y))) (times (minus (var b.y) (var a.y)) (minus (var c.x) (var a.x))))
-    (omega arith)
+    (turn_is a b c) (omega arith)
 
 IsConvex-reflected : (corners : List Vertex) → IsConvex corners → IsConvex (map reflection corners)
 IsConvex-reflected corners h =
@@ -52,16 +52,8 @@ pub between_wider : (low high least most : ℤ) (corners : List Vertex) → leas
 between_wider low high least most corners p q h =
     true_of_all (is_corner_between least most) corners (record { x = pos 0; y = pos 0 }) (λ i l.
     let w = within_of low high (corner_at corners i) (true_at (is_corner_between low high) corners i (record { x = pos 0; y = pos 0 }) h l) in
-    let left = w.left in
-    let right = w.right in
-    let bottom = w.bottom in
-    let top = w.top in
-    of_within least most (corner_at corners i) (record {
-      left = omega (arith, ints);
-      right = omega (arith, ints);
-      bottom = omega (arith, ints);
-      top = omega (arith, ints);
-    }))
+    of_within least most (corner_at corners i)
+    (record { left = omega (arith, ints); right = omega (arith, ints); bottom = omega (arith, ints); top = omega (arith, ints) }))
 
 -- a body or an obstacle has bounded corners
 pub bounded_corners : (low high : ℤ) (corners : List Vertex) → LEAST_CORNER_COORDINATE ≤ℤ low → high ≤ℤ MOST_CORNER_COORDINATE
@@ -73,16 +65,8 @@ bounded-reflected corners h =
     true_of_all (is_corner_between LEAST_CORNER_COORDINATE MOST_CORNER_COORDINATE) (map reflection corners) (record { x = pos 0; y = pos 0 }) (λ i l.
     let inside : i < length corners = omega (arith, length-reflected corners) in
     let w = bounded_corner (corner_at corners i) (bounded_at corners i h inside) in
-    let left = w.left in
-    let right = w.right in
-    let bottom = w.bottom in
-    let top = w.top in
-    rw (reflected-at corners i inside) (bounded_of (reflection (corner_at corners i)) (record {
-      left = omega (arith, ints);
-      right = omega (arith, ints);
-      bottom = omega (arith, ints);
-      top = omega (arith, ints);
-    })))
+    rw (reflected-at corners i inside) (bounded_of (reflection (corner_at corners i))
+    (record { left = omega (arith, ints); right = omega (arith, ints); bottom = omega (arith, ints); top = omega (arith, ints) })))
 
 -- a sum of corners of the two outlines is a corner of the obstacle less one of the body
 IsDifference-sum : (body obstacle a b : List Vertex) (z : Vertex) → IsOutlineOf obstacle a → IsOutlineOf (map reflection body) b → IsSum a b z
@@ -145,9 +129,9 @@ module _ (body obstacle a b z : List Vertex) (first : IsOutlineOf obstacle a) (s
       (IsDifference-sum body obstacle a b (corner_at z (suc (suc k))) first second (merged.sums (suc (suc k)) small))
 
   -- the zone of a body and an obstacle in the ranges of a sum has bounded corners
-  bounded : list_all (is_corner_between LEAST_SUMMAND_COORDINATE MOST_SUMMAND_COORDINATE) body ≡ true
+  pub zone_bounded : list_all (is_corner_between LEAST_SUMMAND_COORDINATE MOST_SUMMAND_COORDINATE) body ≡ true
       → list_all (is_corner_between LEAST_SUMMAND_COORDINATE MOST_SUMMAND_COORDINATE) obstacle ≡ true → AreBoundedCorners z
-  bounded p q =
+  zone_bounded p q =
       true_of_all (is_corner_between LEAST_CORNER_COORDINATE MOST_CORNER_COORDINATE) z (record { x = pos 0; y = pos 0 }) (λ i l.
       let d = IsDifference-sum body obstacle a b (corner_at z i) first second (merged.sums i l) in
       let o = within_of LEAST_SUMMAND_COORDINATE MOST_SUMMAND_COORDINATE (corner_at obstacle d.on_obstacle)
@@ -155,8 +139,6 @@ module _ (body obstacle a b z : List Vertex) (first : IsOutlineOf obstacle a) (s
       d.within_obstacle) in
       let c = within_of LEAST_SUMMAND_COORDINATE MOST_SUMMAND_COORDINATE (corner_at body d.on_body)
       (true_at (is_corner_between LEAST_SUMMAND_COORDINATE MOST_SUMMAND_COORDINATE) body d.on_body (record { x = pos 0; y = pos 0 }) p d.within_body) in
-      let horizontal = d.horizontal in
-      let vertical = d.vertical in
       bounded_of (corner_at z i) (record {
         left = omega (arith, ints, o.left, c.right);
         right = omega (arith, ints, o.right, c.left);
@@ -171,21 +153,9 @@ module _ (body obstacle a b z : List Vertex) (first : IsOutlineOf obstacle a) (s
       let r = merged.lowest i l in
       by_lt_z (corner_at z 0).y (corner_at z i).y (λ lower. inl lower) (λ not_lower. inr (omega (arith, ints), omega (arith, ints)))
 
-  IsZoneOf-merged : AreBoundedCorners z → IsZoneOf 0 body obstacle z
-  IsZoneOf-merged h = record { exact = λ q. (inside q, meets q); convex = merged.convex; first = lowest h }
-
-pub zone_is : (body obstacle a b z : List Vertex) → IsOutlineOf obstacle a → IsOutlineOf (map reflection body) b → IsMerged a b z
-    → list_all (is_corner_between LEAST_SUMMAND_COORDINATE MOST_SUMMAND_COORDINATE) body ≡ true
-    → list_all (is_corner_between LEAST_SUMMAND_COORDINATE MOST_SUMMAND_COORDINATE) obstacle ≡ true
-    → IsZoneOf 0 body obstacle z
-zone_is body obstacle a b z first second merged p q = IsZoneOf-merged body obstacle a b z first second merged
-    (bounded body obstacle a b z first second merged p q)
-
-pub zone_bounded : (body obstacle a b z : List Vertex) → IsOutlineOf obstacle a → IsOutlineOf (map reflection body) b → IsMerged a b z
-    → list_all (is_corner_between LEAST_SUMMAND_COORDINATE MOST_SUMMAND_COORDINATE) body ≡ true
-    → list_all (is_corner_between LEAST_SUMMAND_COORDINATE MOST_SUMMAND_COORDINATE) obstacle ≡ true
-    → AreBoundedCorners z
-zone_bounded body obstacle a b z first second merged p q = bounded body obstacle a b z first second merged p q
+  pub zone_is : list_all (is_corner_between LEAST_SUMMAND_COORDINATE MOST_SUMMAND_COORDINATE) body ≡ true
+      → list_all (is_corner_between LEAST_SUMMAND_COORDINATE MOST_SUMMAND_COORDINATE) obstacle ≡ true → IsZoneOf 0 body obstacle z
+  zone_is p q = record { exact = λ r. (inside r, meets r); convex = merged.convex; first = lowest (zone_bounded p q) }
 
 either : (a b c : Bool) → (a || b) ≡ true → (b ≡ true → c ≡ true) → (a || c) ≡ true
 either true b c h f = refl
@@ -195,9 +165,6 @@ either false b c h f = f h
 pub shape-reflected : (corners : List Vertex) → (length corners == 1 || is_strictly_convex corners) ≡ true
     → (length (map reflection corners) == 1 || is_strictly_convex (map reflection corners)) ≡ true
 shape-reflected corners h =
-    other (length corners == 1) (length (map reflection corners) == 1) (is_strictly_convex corners) (is_strictly_convex (map reflection corners))
-    (ap (λ n. n == 1) (length-reflected corners)) h
-    (λ convex. test-from_IsConvex (map reflection corners) (IsConvex-reflected corners (IsConvex-from_test corners convex)))
-  where
-    other : (a d b c : Bool) → d ≡ a → (a || b) ≡ true → (b ≡ true → c ≡ true) → (d || c) ≡ true
-    other a d b c e h f = rw e (either a b c h f)
+    subst (λ n. (n == 1 || is_strictly_convex (map reflection corners)) ≡ true) (sym (length-reflected corners))
+    (either (length corners == 1) (is_strictly_convex corners) (is_strictly_convex (map reflection corners)) h
+    (λ convex. test-from_IsConvex (map reflection corners) (IsConvex-reflected corners (IsConvex-from_test corners convex))))

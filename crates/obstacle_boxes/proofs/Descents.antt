@@ -171,7 +171,6 @@ tested-within nodes zones a b before now n leaf d h l is near =
     let rest = leaves_in (drop (n + 1) nodes) in
     let more = leaves_from-one nodes n leaf d l is in
     let count = leaves_met-cons (segment_box a b) leaf rest true near in
-    let tested = h.tested in
     let front = leaves_in (take n nodes) in
     let parts : leaves_in nodes ≡ front ++ leaves_in (drop n nodes)
     = subst (λ xs. leaves_in xs ≡ front ++ leaves_in (drop n nodes)) (take-append-drop n nodes) (leaves_in-append (take n nodes) (drop n nodes)) in

@@ -41,12 +41,4 @@ apart-inner p outer inner h apart = by (boxes_meet p inner) refl
 
 pub Holds-trans : (p q r : BoundingBox) → Holds p q → Holds q r → Holds p r
 Holds-trans p q r h g =
-    let a = h.left in
-    let b = h.right in
-    let c = h.bottom in
-    let d = h.top in
-    let e = g.left in
-    let f = g.right in
-    let i = g.bottom in
-    let j = g.top in
     record { left = omega (arith, ints); right = omega (arith, ints); bottom = omega (arith, ints); top = omega (arith, ints) }

@@ -20,9 +20,6 @@ leaves-among space nodes zones h g =
     let leaf = get_or h.leaves i no_leaf in
     let number = h.are_leaves.number i no_leaf l in
     let bounds = h.are_leaves.bounds i no_leaf l in
-    let long = h.are_leaves.count in
-    let count = h.are_zones.count in
-    let count2 = g.count in
     let at : i < length space.obstacles = omega arith in
     let one = h.are_zones.each i at in
     let two = g.each i at in
@@ -40,9 +37,6 @@ pub CrossesNone-leaves : (space : ConfigurationSpace) (nodes : List Node) (zones
 CrossesNone-leaves space nodes zones a b h g missed =
     let all = All-permutation (IsMissed zones a b) (leaves_in nodes) h.leaves (IsPermutation-sym h.leaves (leaves_in nodes) h.permutation) missed in
     All-from_get_or (λ zone. ¬ Crosses zone a b) zones [] (λ i l x. (
-    let long = h.are_leaves.count in
-    let count = h.are_zones.count in
-    let count2 = g.count in
     let at : i < length h.leaves = omega arith in
     let number = h.are_leaves.number i no_leaf at in
     all i no_leaf at (rw number x)))
@@ -56,10 +50,6 @@ leaves_met-near space nodes boxes a b h g =
   where
     same : leaves_met (segment_box a b) h.leaves ≡ near_count boxes a b
     same =
-        let long = h.are_leaves.count in
-        let count = h.are_zones.count in
-        let count2 = g.are_zones.count in
-        let long2 = g.count in
         count_by-agree (λ leaf. boxes_meet (segment_box a b) leaf.bounds) (boxes_meet (segment_box a b)) h.leaves boxes (omega arith) (λ i d e l. (
         let at : i < length space.obstacles = omega arith in
         let within : i < length g.zones = omega arith in

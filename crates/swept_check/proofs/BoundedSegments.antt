@@ -6,8 +6,6 @@ IsBounded-in_room : (space : ConfigurationSpace) (p : Point) → IsBounded space
 IsBounded-in_room space p bounded within =
     let right = bounded.right in
     let top = bounded.top in
-    let across = within.here.right in
-    let up = within.here.top in
     record { right = omega (arith, ints); top = omega (arith, ints) }
 
 pub IsBounded-clear : (space : ConfigurationSpace) (a b : Point) → IsBounded space.room → Clear space a b → IsBounded a × IsBounded b

@@ -10,7 +10,6 @@ CrossesNone zones a b = All (λ zone. ¬ Crosses zone a b) zones
 pub CrossesNone-clear : (space : ConfigurationSpace) (zones : List (List Vertex)) (a b : Point) → AreZonesOf space zones
     → Clear space a b → CrossesNone zones a b
 CrossesNone-clear space zones a b h clear =
-    let count = h.count in
     All-from_get_or (λ zone. ¬ Crosses zone a b) zones [] (λ i l x.
     let at : i < length space.obstacles = omega arith in
     let here = clear x.s x.d x.positive x.on_segment in
@@ -22,7 +21,6 @@ CrossesNone-clear space zones a b h clear =
 pub clear_of : (space : ConfigurationSpace) (zones : List (List Vertex)) (a b : Point) → AreZonesOf space zones
     → InRoom space (at_lattice a) → InRoom space (at_lattice b) → CrossesNone zones a b → Clear space a b
 clear_of space zones a b h first last none s d p l =
-    let count = h.count in
     let q = on_the_way a b s d p in
     record {
       in_room = InRoom-on_the_way space a b s d p l first last;

@@ -26,9 +26,7 @@ on_side : (a b c : ℤ) (m s d : ℕ) → s ≤ d → IsOnSide (pos m) (a +ℤ c
     → IsOnSide (pos (d * m)) (((pos d *ℤ a) +ℤ (pos s *ℤ (b -ℤ a))) +ℤ (pos d *ℤ c))
 on_side a b c m s d l f g =
     let f_low = f.low in
-    let f_high = f.high in
     let g_low = g.low in
-    let g_high = g.high in
     let low = IsAdmitted-inside (a +ℤ c) (b +ℤ c) s d f_low g_low l in
     let high = IsAdmitted-inside (pos m -ℤ (a +ℤ c)) (pos m -ℤ (b +ℤ c)) s d (omega (arith, ints)) (omega (arith, ints)) l in
     let left = rw (← moved_on_way a b c (pos d) (pos s)) at low in
@@ -39,10 +37,6 @@ on_side a b c m s d l f g =
 on_side_lattice : (a b : ℕ) (c : ℤ) (m s d : ℕ) → s ≤ d → IsOnSide (pos (1 * m)) (pos a +ℤ (pos 1 *ℤ c)) → IsOnSide (pos (1 * m)) (pos b +ℤ (pos 1 *ℤ c))
     → IsOnSide (pos (d * m)) (((pos d *ℤ pos a) +ℤ (pos s *ℤ (pos b -ℤ pos a))) +ℤ (pos d *ℤ c))
 on_side_lattice a b c m s d l f g =
-    let f_low = f.low in
-    let f_high = f.high in
-    let g_low = g.low in
-    let g_high = g.high in
     on_side (pos a) (pos b) c m s d l (record { low = omega (arith, ints); high = omega (arith, ints) })
     (record { low = omega (arith, ints); high = omega (arith, ints) })
 
@@ -50,10 +44,6 @@ on_side_lattice a b c m s d l f g =
 on_side_alone : (a b m s d : ℕ) → s ≤ d → IsOnSide (pos (1 * m)) (pos a) → IsOnSide (pos (1 * m)) (pos b)
     → IsOnSide (pos (d * m)) ((pos d *ℤ pos a) +ℤ (pos s *ℤ (pos b -ℤ pos a)))
 on_side_alone a b m s d l f g =
-    let f_low = f.low in
-    let f_high = f.high in
-    let g_low = g.low in
-    let g_high = g.high in
     let all = on_side (pos a) (pos b) (pos 0) m s d l (record { low = omega (arith, ints); high = omega (arith, ints) })
     (record { low = omega (arith, ints); high = omega (arith, ints) }) in
     let low = all.low in

@@ -1,9 +1,15 @@
-use Rattle.convex_sets.proofs.Words.{inl, inr, arith, ints, corner_at}
-use Rattle.convex_sets.proofs.Corners.{bounded_corner, bounded_at}
+use Rattle.convex_sets.proofs.Words.{ℕ, List, inl, inr, arith, ints, LEAST_CORNER_COORDINATE, MOST_CORNER_COORDINATE, Vertex, corner_at, AreBoundedCorners}
+use Rattle.convex_sets.proofs.Corners.{IsWithin, bounded_corner, bounded_at}
+use Rattle.convex_sets.proofs.MergeSteps.{IsAt}
 use Rattle.convex_sets.proofs.MergedPaths.{IsMergedTo-start, IsMergedTo-step, IsMergeStep-goes_on, pushed_is}
 use Rattle.convex_sets.proofs.ClosedPaths.{IsMerged-closed}
 use Rattle.convex_sets.proofs.merging.merged.Goals as goal
 use Rattle.convex_sets.proofs.merging.merged.Goals.{then-reached-a, else-reached-a+then-reached-b}
+
+-- the corners that were reached are bounded
+near : (a b : List Vertex) (i j : ℕ) (e : Vertex) → AreBoundedCorners a → AreBoundedCorners b → IsAt a b i j e
+    → IsWithin LEAST_CORNER_COORDINATE MOST_CORNER_COORDINATE (corner_at a i) × IsWithin LEAST_CORNER_COORDINATE MOST_CORNER_COORDINATE (corner_at b j)
+near a b i j e p q at = (bounded_corner (corner_at a i) (bounded_at a i p at.within_a), bounded_corner (corner_at b j) (bounded_at b j q at.within_b))
 
 pub loop-reached-init : goal.loop-reached-init
 loop-reached-init c =
@@ -11,20 +17,12 @@ loop-reached-init c =
 
 pub overflow_add-a : goal.overflow_add-a
 overflow_add-a c =
-    let a = c.args.a.now in
-    let b = c.args.b.now in
-    let at = c.loop-reached.invariant.at in
-    let f = bounded_corner (corner_at a c.loop-reached.reached.0) (bounded_at a c.loop-reached.reached.0 c.requires.first_bounded at.within_a) in
-    let g = bounded_corner (corner_at b c.loop-reached.reached.1) (bounded_at b c.loop-reached.reached.1 c.requires.second_bounded at.within_b) in
+    let at = near _ _ _ _ _ c.requires.first_bounded c.requires.second_bounded c.loop-reached.invariant.at in
     omega (arith, ints)
 
 pub overflow_add-a-in-loop-reached : goal.overflow_add-a-in-loop-reached
 overflow_add-a-in-loop-reached c =
-    let a = c.args.a.now in
-    let b = c.args.b.now in
-    let at = c.loop-reached.invariant.at in
-    let f = bounded_corner (corner_at a c.loop-reached.reached.0) (bounded_at a c.loop-reached.reached.0 c.requires.first_bounded at.within_a) in
-    let g = bounded_corner (corner_at b c.loop-reached.reached.1) (bounded_at b c.loop-reached.reached.1 c.requires.second_bounded at.within_b) in
+    let at = near _ _ _ _ _ c.requires.first_bounded c.requires.second_bounded c.loop-reached.invariant.at in
     omega (arith, ints)
 
 pub merge_step-reached-requires-clause-more : goal.merge_step-reached-requires-clause-more
@@ -35,9 +33,7 @@ pub loop-reached-preserved : goal.loop-reached-preserved
 loop-reached-preserved c =
     let a = c.args.a.now in
     let b = c.args.b.now in
-    let at = c.loop-reached.invariant.at in
-    let f = bounded_corner (corner_at a c.loop-reached.reached.0) (bounded_at a c.loop-reached.reached.0 c.requires.first_bounded at.within_a) in
-    let g = bounded_corner (corner_at b c.loop-reached.reached.1) (bounded_at b c.loop-reached.reached.1 c.requires.second_bounded at.within_b) in
+    let at = near _ _ _ _ _ c.requires.first_bounded c.requires.second_bounded c.loop-reached.invariant.at in
     let items = c.in_ok-push.ensures.items in
     let i = c.loop-reached.reached.0 in
     let j = c.loop-reached.reached.1 in
@@ -48,9 +44,6 @@ loop-reached-preserved c =
 pub returns : goal.returns
 returns c =
     let h = c.loop-reached.invariant in
-    let at = h.at in
-    let in_a = at.within_a in
-    let in_b = at.within_b in
     IsMerged-closed c.args.a.now c.args.b.now c.loop-reached.corners.items c.loop-reached.reached.0 c.loop-reached.reached.1 c.requires.first c.requires.second
     h (omega arith) (omega arith) c.requires.polygon
 

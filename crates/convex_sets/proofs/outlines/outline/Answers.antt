@@ -17,11 +17,10 @@ round c r turned =
           c.requires.bounded turned
     ]
 
-pub returns-clause-outline : goal.returns-clause-outline
-returns-clause-outline c = IfOk-map c.turned.result _ _ c.turned.ensures (λ v t. (round c v.items t).outline)
-
-pub returns-clause-corners : goal.returns-clause-corners
-returns-clause-corners c = IfOk-map c.turned.result _ _ c.turned.ensures (λ v t. (round c v.items t).same_corners)
-
-pub returns-clause-bounded : goal.returns-clause-bounded
-returns-clause-bounded c = IfOk-map c.turned.result _ _ c.turned.ensures (λ v t. (round c v.items t).bounded)
+pub returns : goal.returns
+returns c =
+    record {
+      outline = IfOk-map c.turned.result _ _ c.turned.ensures (λ v t. (round c v.items t).outline);
+      corners = IfOk-map c.turned.result _ _ c.turned.ensures (λ v t. (round c v.items t).same_corners);
+      bounded = IfOk-map c.turned.result _ _ c.turned.ensures (λ v t. (round c v.items t).bounded);
+    }

@@ -6,14 +6,6 @@ returns-then-is_between c = (
   λ t.
       let a = c.is_between.ensures.0 c.if-is_between.true in
       let b = c.is_between-then-is_between.ensures.0 t in
-      record {
-        left = omega (arith, ints, a.0);
-        right = omega (arith, ints, a.1);
-        bottom = omega (arith, ints, b.0);
-        top = omega (arith, ints, b.1);
-      },
-  λ h.
-      let bottom = h.bottom in
-      let top = h.top in
-      c.is_between-then-is_between.ensures.1 (omega (arith, ints), omega (arith, ints)),
+      record { left = omega (arith, ints); right = omega (arith, ints); bottom = omega (arith, ints); top = omega (arith, ints) },
+  λ h. c.is_between-then-is_between.ensures.1 (omega (arith, ints), omega (arith, ints)),
 )

@@ -18,7 +18,5 @@ returns c =
       room = rw (← c.self.view_is) room;
       bounded = λ t.
           let here = (room.0 t).here in
-          let across = here.right in
-          let up = here.top in
           record { right = omega (arith, ints); top = omega (arith, ints) };
     }
