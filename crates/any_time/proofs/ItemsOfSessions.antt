@@ -34,19 +34,16 @@ rested s t h = elim h [ inl pending ↦ once s t Pending pending | inr ended ↦
 -- the session of a number when another, or the same, gave an answer
 module _ (from : ℕ) (xs ys : List SessionState) (number : ℕ) (answer : Poll (Option (Result Better Memory))) (f : from ≤ length xs)
     (gave : Gave from xs ys number answer) (i : ℕ) (d : SessionState) (within : i < length xs) where
-  apart : place_of (length xs) from i < place_of (length xs) from number → i ≢ number
-  apart h e = let p : place_of (length xs) from i ≡ place_of (length xs) from number = ap (place_of (length xs) from) e in omega arith
-
-  later : place_of (length xs) from number < place_of (length xs) from i → i ≢ number
-  later h e = let p : place_of (length xs) from i ≡ place_of (length xs) from number = ap (place_of (length xs) from) e in omega arith
+  apart : place_of (length xs) from i ≢ place_of (length xs) from number → i ≢ number
+  apart other e = other (ap (place_of (length xs) from) e)
 
   of_gave : ((i ≡ number) × ArePolled (at xs i d) (betters_among (answer ∷ [])) (at ys i d)) ⊎ ((i ≢ number) × ArePolled (at xs i d) [] (at ys i d))
   of_gave =
       let n = length xs in
       elim (dec_lt (place_of n from i) (place_of n from number)) [
-        | yes before ↦ inr (apart before, rested _ _ (gave.rested i d within before))
+        | yes before ↦ inr (apart (omega (arith, before)), rested _ _ (gave.rested i d within before))
         | no not_before ↦ elim (dec_lt (place_of n from number) (place_of n from i)) [
-          | yes after ↦ inr (later after, not_polled _ _ (gave.same i d within after))
+          | yes after ↦ inr (apart (omega (arith, after)), not_polled _ _ (gave.same i d within after))
           | no not_after ↦
               let same : i ≡ number = place_once n from i number f within gave.within (omega arith) in
               let P : ℕ → Type 0 = λ m. ArePolled (at xs m d) (betters_among (answer ∷ [])) (at ys m d) in

@@ -37,11 +37,8 @@ module _ (from : ℕ) (before now : List SessionState) (place : ℕ) (p : Bool) 
   after_is : (d : SessionState) → at (set now j u) j d ≡ u
   after_is d = let w : j < length now = omega (arith, t.count) in get_or-set_same now j u d w
 
-  other_is : (i : ℕ) (d : SessionState) → i ≢ j → at (set now j u) i d ≡ at now i d
-  other_is i d ne = get_or-set_other now j i u d ne
-
-  apart : (i : ℕ) → place_of (length before) from i ≢ place → i ≢ j
-  apart i ne e = ne (ap (place_of (length before) from) e ∙ here)
+  other_is : (i : ℕ) (d : SessionState) → place_of (length before) from i ≢ place → at (set now j u) i d ≡ at now i d
+  other_is i d ne = get_or-set_other now j i u d (λ e. ne (ap (place_of (length before) from) e ∙ here))
 
   polled_as : (answer : Poll (Option (Result Better Memory))) → Polls s answer u → (d : SessionState)
       → Polls (at before j d) answer (at (set now j u) j d)
@@ -53,13 +50,11 @@ module _ (from : ℕ) (before now : List SessionState) (place : ℕ) (p : Bool) 
     within = within;
     rested = λ i d a b.
         let c : place_of (length before) from i < place = omega (arith, b, here) in
-        let ne : place_of (length before) from i ≢ place = omega (arith, c) in
-        rw (other_is i d (apart i ne)) (t.rested i d a c);
+        rw (other_is i d (omega (arith, c))) (t.rested i d a c);
     polled = polled_as answer h;
     same = λ i d a b.
         let c : place < place_of (length before) from i = omega (arith, b, here) in
-        let ne : place_of (length before) from i ≢ place = omega (arith, c) in
-        other_is i d (apart i ne) ∙ t.same i d a (omega (arith, c));
+        other_is i d (omega (arith, c)) ∙ t.same i d a (omega (arith, c));
   }
 
   rests_on : Rests s u → (i : ℕ) (d : SessionState) → i < length before → place_of (length before) from i < place + 1
@@ -69,8 +64,7 @@ module _ (from : ℕ) (before now : List SessionState) (place : ℕ) (p : Bool) 
       → Rests (at before k e) (at (set now j u) k e) in
       let lower : (q : ℕ) → q < place → P q = λ q lt k e within' is'.
       (let c : place_of (length before) from k < place = omega (arith, lt, is') in
-      let ne : place_of (length before) from k ≢ place = omega (arith, c) in
-      rw (other_is k e (apart k ne)) (t.rested k e within' c)) in
+      rw (other_is k e (omega (arith, c))) (t.rested k e within' c)) in
       let here' : P place = λ k e within' is'.
       (let same : k ≡ j = place_once (length before) from k j f within' within (is' ∙ sym here) in
       let Q : ℕ → Type 0 = λ m. Rests (at before m e) (at (set now j u) m e) in
@@ -89,9 +83,7 @@ module _ (from : ℕ) (before now : List SessionState) (place : ℕ) (p : Bool) 
       below_more P place lower' here' _ b i d a refl
 
   same_on : (i : ℕ) (d : SessionState) → i < length before → place + 1 ≤ place_of (length before) from i → at (set now j u) i d ≡ at before i d
-  same_on i d a b =
-      let ne : place_of (length before) from i ≢ place = omega (arith, b) in
-      other_is i d (apart i ne) ∙ t.same i d a (omega (arith, b))
+  same_on i d a b = other_is i d (omega (arith, b)) ∙ t.same i d a (omega (arith, b))
 
   module _ (cx' : Context) (on : Keeps cx cx') where
     keeps_on : Keeps first cx'
@@ -117,8 +109,7 @@ module _ (from : ℕ) (before now : List SessionState) (place : ℕ) (p : Bool) 
       over = λ e. over_on h.0 (t.over e);
       pending = λ e.
           let w = t.pending e in
-          let ne : place_of (length before) from w.0 ≢ place = omega (arith, w.2) in
-          (w.0, w.1, omega (arith, w.2), λ d. rw (other_is w.0 d (apart w.0 ne)) (w.3 d));
+          (w.0, w.1, omega (arith, w.2), λ d. rw (other_is w.0 d (omega (arith, w.2))) (w.3 d));
       kept = keeps_on;
     }
 

@@ -11,7 +11,7 @@ use crate::batches::Batch;
 use crate::betters::Better;
 use crate::growing::Growing;
 use crate::lists::{BetterLists, Betters, Growns};
-use crate::sessions::Session;
+use crate::sessions::{Session, put_back};
 use futures::executor::block_on;
 use futures::task::{Context, Poll};
 use futures::{Future, Stream};
@@ -69,14 +69,14 @@ impl<C: Growing + Drop, R: Threads + Sync + Drop> Future for GatherBatch<C, R> {
         };
         match gathered.batch.poll_next(cx) {
             Poll::Pending => {
-                self.state = Some(gathered);
+                put_back(&mut self.state, gathered);
                 Poll::Pending
             }
             Poll::Ready(Some(Ok((number, better)))) => {
                 if push_better(self.alloc, &mut gathered.lists, number as usize, better).is_err() {
                     return Poll::Ready(Err(Memory));
                 }
-                self.state = Some(gathered);
+                put_back(&mut self.state, gathered);
                 cx.yield_now()
             }
             Poll::Ready(Some(Err(_))) => Poll::Ready(Ok(gathered)),

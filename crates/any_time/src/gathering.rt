@@ -1,6 +1,6 @@
 //! Sessions that are taken to their end under an executor.
 
-ghost use Rattle.std.specs.Prelude.{◌≡◌, ◌≤◌, IfOk, Some};
+ghost use Rattle.std.specs.Prelude.{◌≡◌, ◌≤◌, ◌++◌, ◌∷◌, [], IfOk, OnOk, Some};
 ghost use Rattle.any_time.specs.BetterPaths.{AreBetterPaths};
 ghost use Rattle.any_time.specs.Items.{EndsWith};
 ghost use Rattle.plan_model.specs.Spaces.Clearance.{ClearAt};
@@ -10,7 +10,7 @@ ghost use Rattle.plan_model.specs.declared.limits.TheConstants.{MOST_WORKERS};
 use crate::betters::Better;
 use crate::growing::Growing;
 use crate::lists::Betters;
-use crate::sessions::Session;
+use crate::sessions::{Session, put_back};
 use futures::executor::block_on;
 use futures::task::{Context, Poll};
 use futures::{Future, Stream};
@@ -65,20 +65,28 @@ impl<C: Growing + Drop, R: Threads + Sync + Drop> Future for Gather<C, R> {
         };
         match gathered.session.poll_next(cx) {
             Poll::Pending => {
-                self.state = Some(gathered);
+                put_back(&mut self.state, gathered);
                 Poll::Pending
             }
             Poll::Ready(Some(Ok(item))) => {
-                if gathered.items.push(item).is_err() {
+                if push_item(&mut gathered.items, item).is_err() {
                     return Poll::Ready(Err(Memory));
                 }
-                self.state = Some(gathered);
+                put_back(&mut self.state, gathered);
                 cx.yield_now()
             }
             Poll::Ready(Some(Err(_))) => Poll::Ready(Ok(gathered)),
             Poll::Ready(None) => Poll::Ready(Ok(gathered)),
         }
     }
+}
+
+/// Adds an item to a list. It is a function so that what an error drops is proved once.
+fn push_item(items: &mut Vec<Better>, item: Better) -> Result<(), Memory>
+    ensures { OnOk result (items.new.items ≡ items.old.items ++ item ∷ []) }
+{
+    items.push(item)?;
+    Ok(())
 }
 
 /// A run that a session has brought to its end, and all that it gave on the way.

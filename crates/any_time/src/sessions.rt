@@ -157,11 +157,11 @@ fn fresh_run(alloc: Global, task: Task) -> Result<Grown, Memory>
     Ok(fresh)
 }
 
-/// Puts the run back to its place. It is a function so that what the assignment drops is proved once.
-fn put_back(place: &mut Option<Grown>, run: Grown)
-    ensures { place.new ≡ Some run }
+/// Puts a value back to its place. It is a function so that what the assignment drops is proved once.
+pub(crate) fn put_back<T: Drop>(place: &mut Option<T>, value: T)
+    ensures { place.new ≡ Some value }
 {
-    *place = Some(run);
+    *place = Some(value);
 }
 
 /// What a run gives: its better path, if it has one, which is then the last item, and else that the session is to be polled again. The run
