@@ -16,6 +16,7 @@ pub use Rattle.std.proofs.lemmas.Bool.{and_from, and_parts, cases_eq, cases_lt, 
 pub use Rattle.std.proofs.lemmas.List.{get_or_read}
 pub use Rattle.std.proofs.lemmas.List.Elements.{All-push, Contains-append_left, Contains-push}
 pub use Rattle.std.proofs.lemmas.List.Sorted.{All-permutation, Contains-permutation}
+pub use Rattle.std.proofs.lemmas.Result.{IfOk-weaker}
 pub use Rattle.std.specs.Int.{abs_diff}
 pub use Rattle.std.specs.List.{list_all}
 pub use Rattle.std.specs.List.Sorted.{IsPermutation}
@@ -24,6 +25,6 @@ pub use Rattle.twin_trees.specs.BridgeOrder.{IsMatched, IsNoWorse}
 pub use Rattle.twin_trees.specs.BridgeSearches.{AreNodes, IsMember, Matches, MatchesIn, MayBeBest, MayBeBestIn}
 pub use Rattle.twin_trees.specs.Bridges.{IsBridge, IsCandidate, IsTripleNotAbove, cost_over}
 pub use Rattle.twin_trees.specs.TurnedScenes.{IsTurnedRound, box_of, first_goal, goal_middle, start_boxes}
-pub use Rattle.twin_trees.specs.Twins.{IsTwin, IsWholeRun}
+pub use Rattle.twin_trees.specs.Twins.{IsTurnedRun, IsTwin, IsWholeRun}
 pub use Rattle.twin_trees.specs.declared.bridges.Bridge.{Bridge}
 pub use Rattle.twin_trees.specs.declared.twin_runs.Twin.{Twin}

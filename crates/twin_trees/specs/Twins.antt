@@ -25,6 +25,12 @@ pub record IsWholeRun (workers : ℕ) (scene : Scene) (grown : Grown) : Type 0 w
   pub by_workers : (k : ℕ) (entry : Record) → (state_of_grown grown).record_of k ≡ Some entry → entry.worker < workers
   pub textbook : workers ≡ 1 → IsOfTextbookRun (setup_of scene) (mark_points scene) (state_of_grown grown)
 
+-- a whole run of the scene from the other end
+pub record IsTurnedRun (workers : ℕ) (scene : Scene) (grown : Grown) : Type 0 where
+  pub turned : Scene
+  pub turned_round : IsTurnedRound scene turned
+  pub whole : IsWholeRun workers turned grown
+
 -- A whole run of the scene by so many workers at most, one of the scene from the other end, and the least bridge between the two, or none
 -- if there is none.
 pub record IsTwin (workers : ℕ) (scene : Scene) (twin : Twin) : Type 0 where

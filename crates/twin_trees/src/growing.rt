@@ -5,7 +5,7 @@ ghost use Rattle.plan_model.specs.Spaces.Clearance.{ClearAt};
 ghost use Rattle.plan_model.specs.Spaces.ConfigurationSpace.{space_of};
 ghost use Rattle.plan_model.specs.declared.limits.TheConstants.{MOST_WORKERS};
 ghost use Rattle.twin_trees.specs.TurnedScenes.{goal_middle};
-ghost use Rattle.twin_trees.specs.Twins.{IsTwin, IsWholeRun};
+ghost use Rattle.twin_trees.specs.Twins.{IsTurnedRun, IsTwin, IsWholeRun};
 
 use crate::bridging::least_bridge;
 use crate::turned_scenes::{middle_of_first_goal, turned_task};
@@ -68,15 +68,33 @@ fn twin_from<R: Threads + Sync, C: Clearing, G: Gate>(
     requires few { workers ≤ MOST_WORKERS }
     ensures { IfOk result (IsTwin workers task.scene) }
 {
-    let turned = turned_task(alloc, &task)?;
     let from_start = whole_run(rt, alloc, task, hall, workers, gate)?;
-    let from_goal = whole_run(rt, alloc, turned, hall, workers, gate)?;
+    let from_goal = turned_run(rt, alloc, from_start.task(), hall, workers, gate)?;
     let bridge = least_bridge(alloc, hall, &from_start, &from_goal)?;
     Ok(Twin {
         from_start,
         from_goal,
         bridge,
     })
+}
+
+/// A run over all marks of the task from the other end, settled.
+fn turned_run<R: Threads + Sync, C: Clearing, G: Gate>(
+    rt: &R,
+    alloc: Global,
+    task: &Task,
+    hall: &C,
+    workers: u32,
+    gate: &G,
+) -> Result<Grown, Memory>
+    requires hall { C.space hall.now ≡ space_of task.now.scene }
+    requires middle { ClearAt (space_of task.now.scene) (goal_middle task.now.scene) }
+    requires some { 1 ≤ workers }
+    requires few { workers ≤ MOST_WORKERS }
+    ensures { IfOk result (IsTurnedRun workers task.now.scene) }
+{
+    let turned = turned_task(alloc, task)?;
+    whole_run(rt, alloc, turned, hall, workers, gate)
 }
 
 /// A run over all marks of a task, settled.
