@@ -3,7 +3,7 @@ use Rattle.convex_sets.proofs.Words.{◌≡◌, ℕ, suc, ◌+◌, ◌*◌, ◌<
 use Rattle.convex_sets.proofs.Words.{◌*ℤ◌, ◌≤ℤ◌, sum, list_all, mul-pos, ints, LEAST_BODY_COORDINATE, LEAST_SUMMAND_COORDINATE, MOST_BODY_COORDINATE}
 use Rattle.convex_sets.proofs.Words.{MOST_CLEARANCE, MOST_SUMMAND_COORDINATE, Vertex, corner_at, next_corner, is_corner_between, IsInside, IsWithin, Meets}
 use Rattle.convex_sets.proofs.Words.{weighted, Rational, IsZoneOf, SharesPoint-meets, Meets-shares_point, var, plus, minus, times, same, true_at, true_of_all}
-use Rattle.convex_sets.proofs.Words.{cross, from_to, both, IsMerged, IsOutlineOf, IsSum, IsWidenedBy, square}
+use Rattle.convex_sets.proofs.Words.{length-map, cross, from_to, both, IsMerged, IsOutlineOf, IsSum, IsWidenedBy, square}
 use Rattle.convex_sets.proofs.ConvexPolygons.{IsConvex-from_test}
 use Rattle.convex_sets.proofs.Corners.{within_of, of_within}
 use Rattle.convex_sets.proofs.Fans.{fan, out_to}
@@ -133,13 +133,8 @@ Meets-nearer clearance body z q obstacle near meets =
 sum-scaled : (k s : ℕ) (ws : List ℕ) → sum ws ≡ s → sum (map (λ w. k * w) ws) ≡ k * s
 sum-scaled k s [] e = rw (← e) (omega arith)
 sum-scaled k s (w ∷ ws) e =
-    let rest = sum-scaled k (sum ws) ws refl in
     let whole : s ≡ w + sum ws = omega (arith, e, sum-cons w ws) in
-    rw whole (omega (arith, rest, sum-cons (k * w) (map (λ w. k * w) ws)))
-
-length-scaled : (k n : ℕ) (ws : List ℕ) → length ws ≡ n → length (map (λ w. k * w) ws) ≡ n
-length-scaled k n [] e = e
-length-scaled k n (w ∷ ws) e = rw (← e) (ap suc (length-scaled k (length ws) ws refl))
+    rw whole (omega (arith, sum-scaled k (sum ws) ws refl, sum-cons (k * w) (map (λ w. k * w) ws)))
 
 weighted-scaled : (f : Vertex → ℤ) (k : ℕ) (ws : List ℕ) (corners : List Vertex)
     → weighted f (map (λ w. k * w) ws) corners ≡ pos k *ℤ weighted f ws corners
@@ -238,8 +233,8 @@ module _ (clearance : ℕ) (body a b z : List Vertex) (first : IsOutlineOf (squa
           on_obstacle = map (λ w. t * w) m.on_obstacle;
           on_body = map (λ w. l * w) on.on;
           some_weight = mul-pos mean.some_weight m.some_weight;
-          obstacle_corners = length-scaled t (length obstacle) m.on_obstacle m.obstacle_corners;
-          body_corners = length-scaled l (length z) on.on on.corners_number;
+          obstacle_corners = length-map m.on_obstacle (λ w. t * w) ∙ m.obstacle_corners;
+          body_corners = length-map on.on (λ w. l * w) ∙ on.corners_number;
           obstacle_total = sum-scaled t l m.on_obstacle m.obstacle_total;
           body_total = let total = sum-scaled l t on.on on.total in omega (arith, total);
           horizontal = rw (weighted-scaled (λ v. v.x) t m.on_obstacle obstacle, weighted-scaled (λ v. v.x) l on.on z, on.sums (λ v. v.x))

@@ -19,7 +19,7 @@ pub use Rattle.plan_model.specs.declared.geometry.Point.{Point}
 pub use Rattle.plan_model.specs.declared.geometry.Vertex.{Vertex}
 pub use Rattle.plan_model.specs.declared.limits.TheConstants.{LEAST_BODY_COORDINATE, LEAST_CORNER_COORDINATE, LEAST_SUMMAND_COORDINATE, MOST_BODY_COORDINATE}
 pub use Rattle.plan_model.specs.declared.limits.TheConstants.{MOST_CLEARANCE, MOST_CORNER_COORDINATE, MOST_SUMMAND_COORDINATE}
-pub use Rattle.std.proofs.Common.{Bool, List, MatchBool, [], ap, arith, cond, eq-eqb, eqb, false, inl, inr, length, ltb, map, nat_le, of_z, refl, rules, subst, suc}
+pub use Rattle.std.proofs.Common.{Bool, List, MatchBool, [], ap, arith, cond, eq-eqb, false, inl, inr, length, map, nat_le, of_z, refl, rules, subst, suc}
 pub use Rattle.std.proofs.Common.{sym, take, to_z, true, w32, w64, zero, ℕ, ◌&&◌, ◌*◌, ◌++◌, ◌+◌, ◌-◌, ◌<◌, ◌==◌, ◌||◌, ◌∙◌, ◌∷◌, ◌≡◌, ◌≢◌, ◌≤◌, ◌⊎◌}
 pub use Rattle.std.proofs.Math.IntN.{*ℤ_comm}
 pub use Rattle.std.proofs.Math.ListN.{get_or-append, length-append}
@@ -28,6 +28,7 @@ pub use Rattle.std.proofs.Math.Seq.{get_or-append_seam}
 pub use Rattle.std.proofs.lemmas.Bool.{and_from, and_parts, cases_eq, cases_lt, eqb-true, le-ltb, leb-true, lt-ltb, ne_eqb}
 pub use Rattle.std.proofs.lemmas.Grind.{common_steps}
 pub use Rattle.std.proofs.lemmas.Int.{by_lt_z, clamps, ints}
+pub use Rattle.std.proofs.lemmas.List.{get_or-map, length-map}
 pub use Rattle.std.proofs.lemmas.List.Sums.{sum_by-cons}
 pub use Rattle.std.proofs.lemmas.Nat.{mul-le}
 pub use Rattle.std.specs.Int.{int_max, int_min}

@@ -1,9 +1,9 @@
 -- The merged outline of an obstacle and the reflected body is the zone: where the body meets the obstacle.
-use Rattle.convex_sets.proofs.Words.{◌≡◌, ℕ, zero, suc, ◌<◌, Bool, true, false, ◌||◌, ◌==◌, List, [], ◌∷◌, length, map, refl, sym, ap, subst, ◌∙◌, inl, inr}
+use Rattle.convex_sets.proofs.Words.{◌≡◌, ℕ, suc, ◌<◌, Bool, true, false, ◌||◌, ◌==◌, List, length, map, refl, sym, ap, subst, ◌∙◌, inl, inr}
 use Rattle.convex_sets.proofs.Words.{arith, ℤ, pos, ◌≤ℤ◌, list_all, ints, by_lt_z, LEAST_CORNER_COORDINATE, LEAST_SUMMAND_COORDINATE, MOST_CORNER_COORDINATE}
 use Rattle.convex_sets.proofs.Words.{MOST_SUMMAND_COORDINATE, Vertex, corner_at, next_corner, is_strictly_convex, orientation, IsInside, is_corner_between}
 use Rattle.convex_sets.proofs.Words.{Meets, Rational, IsZoneOf, IsLowerOrLeft, AreBoundedCorners, cross, from_to, reflection, IsMerged, IsOutlineOf, IsSum, var}
-use Rattle.convex_sets.proofs.Words.{minus, times, opposite, same, true_at, true_of_all}
+use Rattle.convex_sets.proofs.Words.{minus, times, opposite, same, true_at, true_of_all, get_or-map, length-map}
 use Rattle.convex_sets.proofs.Corners.{within_of, of_within, bounded_of, bounded_corner, bounded_at}
 use Rattle.convex_sets.proofs.Crosses.{turn_is}
 use Rattle.convex_sets.proofs.MergedSides.{first_left, second_left}
@@ -13,13 +13,10 @@ use Rattle.convex_sets.proofs.Hulls.{difference, turned_back, meets_left, IsDiff
 
 -- the corners of a reflected polygon
 pub reflected-at : (corners : List Vertex) (i : ℕ) → i < length corners → corner_at (map reflection corners) i ≡ reflection (corner_at corners i)
-reflected-at [] i h = absurd (omega arith)
-reflected-at (c ∷ cs) zero h = refl
-reflected-at (c ∷ cs) (suc i) h = reflected-at cs i (omega arith)
+reflected-at corners i h = get_or-map reflection corners i (record { x = pos 0; y = pos 0 }) (record { x = pos 0; y = pos 0 }) h
 
 pub length-reflected : (corners : List Vertex) → length (map reflection corners) ≡ length corners
-length-reflected [] = refl
-length-reflected (c ∷ cs) = ap suc (length-reflected cs)
+length-reflected corners = length-map corners reflection
 
 orientation-reflected : (a b c : Vertex) → orientation (reflection a) (reflection b) (reflection c) ≡ orientation a b c
 orientation-reflected a b c =
