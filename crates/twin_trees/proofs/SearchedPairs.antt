@@ -2,9 +2,14 @@
 use Rattle.twin_trees.proofs.Words.{◌≡◌, ℕ, ◌+◌, ◌*◌, ◌<◌, ◌≤◌, List, Option, Some, length, arith, ap, sym, subst, inl, inr, IsPermutation, cases_lt}
 use Rattle.twin_trees.proofs.Words.{get_or_read, All-permutation, Contains-permutation, cost_of, squared_distance, IsAllowedEdge, KeepsOrder, Setup, Clear}
 use Rattle.twin_trees.proofs.Words.{StandsAt, point_of, TreeState, sum_in, Point, squared_distance-swap, IsPresent-stands, point_of-stands, cost_of-triangle}
-use Rattle.twin_trees.proofs.Words.{IsWithin, HasNoneBetween, nowhere, numbered_at, Numbered, AreNodes, Matches, IsCandidate, cost_over, Bridge}
+use Rattle.twin_trees.proofs.Words.{Grown, IsBounded, IsBounded-stands, sizes_of, state_of_grown, words_of_grown, IsWithin, HasNoneBetween}
+use Rattle.twin_trees.proofs.Words.{nowhere, numbered_at, Numbered, AreNodes, Matches, IsCandidate, cost_over, Bridge}
 use Rattle.twin_trees.proofs.StraightWays.{line-le_sum}
 use Rattle.twin_trees.proofs.TripleOrder.{IsMatched-more}
+
+-- the point of a node of a run is bounded
+pub IsBounded-grown : (grown : Grown) (n : ℕ) (p : Point) → StandsAt (state_of_grown grown).points n p → IsBounded p
+IsBounded-grown grown n p stands = IsBounded-stands (sizes_of grown.task) (words_of_grown grown) n p stands
 
 -- nodes in another order
 pub AreNodes-permutation : (state : TreeState) (nodes others : List Numbered) → IsPermutation nodes others → AreNodes state nodes → AreNodes state others

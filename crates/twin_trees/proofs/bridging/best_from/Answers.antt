@@ -1,11 +1,9 @@
-use Rattle.twin_trees.proofs.Words.{◌*◌, ap, ◌∙◌, inl, inr, cases_lt, setup_of, Task, state_of_grown, words_of_grown, sizes_of, IsBounded-stands}
-use Rattle.twin_trees.proofs.SearchedPairs.{HasNoneBetween-same, Matches-walked}
+use Rattle.twin_trees.proofs.Words.{◌*◌, ap, ◌∙◌, inl, inr, cases_lt, setup_of, Task, state_of_grown}
+use Rattle.twin_trees.proofs.SearchedPairs.{HasNoneBetween-same, IsBounded-grown, Matches-walked}
 use Rattle.twin_trees.proofs.bridging.best_from.Goals as goal
 
 pub of_radius-disc-requires : goal.of_radius-disc-requires
-of_radius-disc-requires g c =
-    let first = c.args.runs.now.first.now in
-    IsBounded-stands (sizes_of first.task) (words_of_grown first) c.args.end.number c.args.end.point c.requires.stands
+of_radius-disc-requires g c = IsBounded-grown c.args.runs.now.first.now _ _ c.requires.stands
 
 pub walk-preserved : goal.walk-preserved
 walk-preserved g c =

@@ -1,13 +1,11 @@
 use Rattle.twin_trees.proofs.Words.{◌≡◌, ◌*◌, arith, refl, ap, sym, subst, ◌∙◌, inl, inr, cases_lt, true≢false, setup_of, StandsAt, Task, state_of_grown}
-use Rattle.twin_trees.proofs.Words.{words_of_grown, sizes_of, IsBounded-stands, IsWithin, nowhere, numbered_at, Numbered, IsMatched, Matches, MayBeBest}
-use Rattle.twin_trees.proofs.SearchedPairs.{IsWithin-same}
+use Rattle.twin_trees.proofs.Words.{IsWithin, nowhere, numbered_at, Numbered, IsMatched, Matches, MayBeBest}
+use Rattle.twin_trees.proofs.SearchedPairs.{IsBounded-grown, IsWithin-same}
 use Rattle.twin_trees.proofs.bridging.best_in_stretch.Goals as goal
 use Rattle.twin_trees.proofs.bridging.best_in_stretch.Goals.{then-has, else-has}
 
 pub of_radius-disc-requires : goal.of_radius-disc-requires
-of_radius-disc-requires g c =
-    let first = c.args.runs.now.first.now in
-    IsBounded-stands (sizes_of first.task) (words_of_grown first) c.args.end.number c.args.end.point c.requires.stands
+of_radius-disc-requires g c = IsBounded-grown c.args.runs.now.first.now _ _ c.requires.stands
 
 pub better-best-requires-clause-other : goal.better-best-requires-clause-other
 better-best-requires-clause-other g c κs within =

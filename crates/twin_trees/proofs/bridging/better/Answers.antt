@@ -1,29 +1,21 @@
-use Rattle.twin_trees.proofs.Words.{◌≡◌, ◌+◌, arith, sym, subst, IsPresent-stands, cost_of, setup_of, Clear, state_of_grown, words_of_grown, sizes_of, kept-low}
-use Rattle.twin_trees.proofs.Words.{IsBounded-stands, IsMatched, cost_over}
-use Rattle.twin_trees.proofs.SearchedPairs.{Clear-candidate, IsCandidate-clear, cost_over-stands}
+use Rattle.twin_trees.proofs.Words.{◌≡◌, ◌+◌, arith, sym, subst, IsPresent-stands, cost_of, setup_of, Clear, state_of_grown, kept-low}
+use Rattle.twin_trees.proofs.Words.{IsMatched, cost_over}
+use Rattle.twin_trees.proofs.SearchedPairs.{Clear-candidate, IsBounded-grown, IsCandidate-clear, cost_over-stands}
 use Rattle.twin_trees.proofs.bridging.better.Goals.{then-not-so_far_is_beaten-via-then-not-so_far_is_beaten}
 use Rattle.twin_trees.proofs.bridging.better.Goals.{then-not-so_far_is_beaten-via-else-not-so_far_is_beaten+then-not-clear}
 use Rattle.twin_trees.proofs.bridging.better.Goals as goal
 
 pub so_far_is_beaten-requires-clause-end : goal.so_far_is_beaten-requires-clause-end
-so_far_is_beaten-requires-clause-end g c =
-    let first = c.args.runs.now.first.now in
-    IsBounded-stands (sizes_of first.task) (words_of_grown first) c.args.end.number c.args.end.point c.requires.end
+so_far_is_beaten-requires-clause-end g c = IsBounded-grown c.args.runs.now.first.now _ _ c.requires.end
 
 pub so_far_is_beaten-requires-clause-other : goal.so_far_is_beaten-requires-clause-other
-so_far_is_beaten-requires-clause-other g c =
-    let second = c.args.runs.now.second.now in
-    IsBounded-stands (sizes_of second.task) (words_of_grown second) c.args.other.number c.args.other.point c.requires.other
+so_far_is_beaten-requires-clause-other g c = IsBounded-grown c.args.runs.now.second.now _ _ c.requires.other
 
 pub cost-requires-3-clause-from : goal.cost-requires-3-clause-from
-cost-requires-3-clause-from g c =
-    let first = c.args.runs.now.first.now in
-    IsBounded-stands (sizes_of first.task) (words_of_grown first) c.args.end.number c.args.end.point c.requires.end
+cost-requires-3-clause-from g c = IsBounded-grown c.args.runs.now.first.now _ _ c.requires.end
 
 pub cost-requires-3-clause-to : goal.cost-requires-3-clause-to
-cost-requires-3-clause-to g c =
-    let second = c.args.runs.now.second.now in
-    IsBounded-stands (sizes_of second.task) (words_of_grown second) c.args.other.number c.args.other.point c.requires.other
+cost-requires-3-clause-to g c = IsBounded-grown c.args.runs.now.second.now _ _ c.requires.other
 
 pub returns-then-not-so_far_is_beaten-clause-pair : goal.returns-then-not-so_far_is_beaten-clause-pair
 returns-then-not-so_far_is_beaten-clause-pair g c = λ candidate.

@@ -1,13 +1,11 @@
 use Rattle.twin_trees.proofs.Words.{◌+◌, ◌<◌, arith, ap, sym, subst, inl, inr, cases_lt, IsPresent-stands, point_of-stands, cost_of, setup_of, point_of, sum_in}
-use Rattle.twin_trees.proofs.Words.{Task, state_of_grown, words_of_grown, sizes_of, IsBounded-stands, Matches}
-use Rattle.twin_trees.proofs.SearchedPairs.{Matches-far}
+use Rattle.twin_trees.proofs.Words.{Task, state_of_grown, Matches}
+use Rattle.twin_trees.proofs.SearchedPairs.{IsBounded-grown, Matches-far}
 use Rattle.twin_trees.proofs.TripleOrder.{false_of_not}
 use Rattle.twin_trees.proofs.bridging.is_too_far.Goals as goal
 
 pub costs_less_through-requires-clause-from : goal.costs_less_through-requires-clause-from
-costs_less_through-requires-clause-from c =
-    let first = c.args.runs.now.first.now in
-    IsBounded-stands (sizes_of first.task) (words_of_grown first) c.args.end.number c.args.end.point c.requires.stands
+costs_less_through-requires-clause-from c = IsBounded-grown c.args.runs.now.first.now _ _ c.requires.stands
 
 pub returns-in-Some : goal.returns-in-Some
 returns-in-Some c = λ far d.

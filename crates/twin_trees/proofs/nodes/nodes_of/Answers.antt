@@ -1,5 +1,6 @@
-use Rattle.twin_trees.proofs.Words.{◌+◌, ap, sym, subst, ◌∙◌, is_some, state_of_grown, words_of_grown, sizes_of, IsBounded-stands}
+use Rattle.twin_trees.proofs.Words.{◌+◌, ap, sym, subst, ◌∙◌, is_some, state_of_grown}
 use Rattle.twin_trees.proofs.NumberedNodes.{AreNodesBelow, AreNodesBelow-push, AreNodesBelow-skip}
+use Rattle.twin_trees.proofs.SearchedPairs.{IsBounded-grown}
 use Rattle.twin_trees.proofs.nodes.nodes_of.Goals.{in-Some+in_ok-push, in_default}
 use Rattle.twin_trees.proofs.nodes.nodes_of.Goals as goal
 
@@ -15,7 +16,7 @@ loop-number-preserved c =
           let stands = sym c.point.ensures ∙ w.in-Some.is in
           subst (λ nodes. AreNodesBelow state nodes (number + 1)) (sym (ap (λ nodes. nodes.items) w.nodes-is ∙ w.in_ok-push.ensures.items))
           (AreNodesBelow-push state c.loop-number.nodes.items number below p stands
-          (IsBounded-stands (sizes_of grown.task) (words_of_grown grown) number p stands)))
+          (IsBounded-grown grown number p stands)))
       | in_default w ↦ (
           subst (λ nodes. AreNodesBelow state nodes.items (number + 1)) (sym w.nodes-is)
           (AreNodesBelow-skip state c.loop-number.nodes.items number below (λ here.
