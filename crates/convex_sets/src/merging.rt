@@ -8,6 +8,13 @@ use crate::orientations::{cross, edge};
 use plan_model::{Memory, Vertex};
 use std::alloc::Global;
 
+/// A corner of each of two outlines, by its index.
+#[derive(Clone, Copy)]
+struct CornerPair {
+    first: usize,
+    second: usize,
+}
+
 /// The corners of the sum of two outlines. O(n + m).
 pub(crate) fn merged(alloc: Global, a: &[Vertex], b: &[Vertex]) -> Result<Vec<Vertex>, Memory>
     requires first { IsOutline a.now }
@@ -18,38 +25,54 @@ pub(crate) fn merged(alloc: Global, a: &[Vertex], b: &[Vertex]) -> Result<Vec<Ve
     ensures { IfOk result (λ v. IsMerged a.now b.now v.items) }
 {
     let mut corners = Vec::new(alloc);
-    let mut reached = (0, 0);
-    while reached.0 + 1 < a.len() || reached.1 + 1 < b.len() {
+    let mut reached = CornerPair {
+        first: 0,
+        second: 0,
+    };
+    while reached.first + 1 < a.len() || reached.second + 1 < b.len() {
         corners.push(Vertex {
-            x: a[reached.0].x + b[reached.1].x,
-            y: a[reached.0].y + b[reached.1].y,
+            x: a[reached.first].x + b[reached.second].x,
+            y: a[reached.first].y + b[reached.second].y,
         })?;
-        reached = merge_step(a, b, reached.0, reached.1);
+        reached = merge_step(a, b, reached);
     }
     Ok(corners)
 }
 
 /// The corners after the edge that comes next in order of angle. Two parallel edges are one edge of the sum.
-fn merge_step(a: &[Vertex], b: &[Vertex], i: usize, j: usize) -> (usize, usize)
-    requires first { i < length a.now }
-    requires second { j < length b.now }
-    requires more { (i + 1 < length a.now) ⊎ (j + 1 < length b.now) }
+fn merge_step(a: &[Vertex], b: &[Vertex], reached: CornerPair) -> CornerPair
+    requires first { reached.first < length a.now }
+    requires second { reached.second < length b.now }
+    requires more { (reached.first + 1 < length a.now) ⊎ (reached.second + 1 < length b.now) }
     requires first_bounded { AreBoundedCorners a.now }
     requires second_bounded { AreBoundedCorners b.now }
-    ensures { IsMergeStep a.now b.now i j result.0 result.1 }
+    ensures { IsMergeStep a.now b.now reached.first reached.second result.first result.second }
 {
-    if j + 1 == b.len() {
-        return (i + 1, j);
+    let CornerPair { first, second } = reached;
+    let after_first = CornerPair {
+        first: first + 1,
+        second,
+    };
+    let after_second = CornerPair {
+        first,
+        second: second + 1,
+    };
+    let after_both = CornerPair {
+        first: first + 1,
+        second: second + 1,
+    };
+    if second + 1 == b.len() {
+        return after_first;
     }
-    if i + 1 == a.len() {
-        return (i, j + 1);
+    if first + 1 == a.len() {
+        return after_second;
     }
-    let turn = cross(edge(a[i], a[i + 1]), edge(b[j], b[j + 1]));
+    let turn = cross(edge(a[first], a[first + 1]), edge(b[second], b[second + 1]));
     if turn > 0 {
-        (i + 1, j)
+        after_first
     } else if turn < 0 {
-        (i, j + 1)
+        after_second
     } else {
-        (i + 1, j + 1)
+        after_both
     }
 }

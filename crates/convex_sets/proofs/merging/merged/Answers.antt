@@ -35,20 +35,20 @@ loop-reached-preserved c =
     let b = c.args.b.now in
     let at = near _ _ _ _ _ c.requires.first_bounded c.requires.second_bounded c.loop-reached.invariant.at in
     let items = c.in_ok-push.ensures.items in
-    let i = c.loop-reached.reached.0 in
-    let j = c.loop-reached.reached.1 in
-    IsMergedTo-step a b c.loop-reached.corners.items c.push.new.self.items i j c.merge_step-reached.result.0
-    c.merge_step-reached.result.1 c.loop-reached.invariant c.requires.first c.requires.second c.merge_step-reached.ensures
+    let i = c.loop-reached.reached.first in
+    let j = c.loop-reached.reached.second in
+    IsMergedTo-step a b c.loop-reached.corners.items c.push.new.self.items i j c.merge_step-reached.result.first
+    c.merge_step-reached.result.second c.loop-reached.invariant c.requires.first c.requires.second c.merge_step-reached.ensures
     (pushed_is c.loop-reached.corners.items c.push.new.self.items _ _ items (omega (arith, ints)) (omega (arith, ints)))
 
 pub returns : goal.returns
 returns c =
     let h = c.loop-reached.invariant in
-    IsMerged-closed c.args.a.now c.args.b.now c.loop-reached.corners.items c.loop-reached.reached.0 c.loop-reached.reached.1 c.requires.first c.requires.second
-    h (omega arith) (omega arith) c.requires.polygon
+    IsMerged-closed c.args.a.now c.args.b.now c.loop-reached.corners.items c.loop-reached.reached.first c.loop-reached.reached.second c.requires.first
+    c.requires.second h (omega arith) (omega arith) c.requires.polygon
 
 pub loop-reached-smaller : goal.loop-reached-smaller
 loop-reached-smaller c =
     let at = c.loop-reached.invariant.at in
-    IsMergeStep-goes_on c.args.a.now c.args.b.now c.loop-reached.reached.0 c.loop-reached.reached.1 c.merge_step-reached.result.0 c.merge_step-reached.result.1
-    c.merge_step-reached.ensures at.within_a at.within_b
+    IsMergeStep-goes_on c.args.a.now c.args.b.now c.loop-reached.reached.first c.loop-reached.reached.second c.merge_step-reached.result.first
+    c.merge_step-reached.result.second c.merge_step-reached.ensures at.within_a at.within_b
