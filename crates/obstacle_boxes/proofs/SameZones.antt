@@ -64,15 +64,11 @@ reaches clearance body obstacle z w p q h g bz bw =
     let b = bw.low_end.bottom_reached in
     let r = bw.high_end.right_reached in
     let t = bw.high_end.top_reached in
-    let l3 = (within l.0 l.1).left in
-    let b3 = (within b.0 b.1).bottom in
-    let r3 = (within r.0 r.1).right in
-    let t3 = (within t.0 t.1).top in
     record {
-      left = omega (arith, ints);
-      bottom = omega (arith, ints);
-      right = omega (arith, ints);
-      top = omega (arith, ints);
+      left = omega (arith, ints, l.2, (within l.0 l.1).left);
+      bottom = omega (arith, ints, b.2, (within b.0 b.1).bottom);
+      right = omega (arith, ints, r.2, (within r.0 r.1).right);
+      top = omega (arith, ints, t.2, (within t.0 t.1).top);
     }
 
 -- so both meet the same boxes
@@ -81,8 +77,8 @@ pub meets-other : (clearance : ℕ) (body obstacle z w : List Vertex) (p q s : B
 meets-other clearance body obstacle z w p q s h g bz bw =
     let one = reaches clearance body obstacle z w p q h g bz bw in
     let two = reaches clearance body obstacle w z q p g h bw bz in
-    let left : p.low.x ≡ q.low.x = omega (arith, ints) in
-    let bottom : p.low.y ≡ q.low.y = omega (arith, ints) in
-    let right : p.high.x ≡ q.high.x = omega (arith, ints) in
-    let top : p.high.y ≡ q.high.y = omega (arith, ints) in
+    let left : p.low.x ≡ q.low.x = omega (arith, ints, one.left, two.left) in
+    let bottom : p.low.y ≡ q.low.y = omega (arith, ints, one.bottom, two.bottom) in
+    let right : p.high.x ≡ q.high.x = omega (arith, ints, one.right, two.right) in
+    let top : p.high.y ≡ q.high.y = omega (arith, ints, one.top, two.top) in
     rw (left, bottom, right, top) refl

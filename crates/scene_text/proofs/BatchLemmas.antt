@@ -69,7 +69,7 @@ module _ (text : List ℕ) (scenes : List Scene) (before : ℕ) (rest : List ℕ
       )
 
   -- One more part is read, and its scene is kept. The rest after it is at its end, or begins with `next`.
-  pub HasRead-more : (scene : Scene) (count : ℕ) (left : List ℕ) → Spells supported (head_text rest) scene
+  HasRead-more : (scene : Scene) (count : ℕ) (left : List ℕ) → Spells supported (head_text rest) scene
       → count ≡ length (first_part (lines_of rest)) → parts_of (lines_of rest) ≡ first_part (lines_of rest) ∷ later_parts (lines_of left)
       → count + length left ≤ length rest → HasRead text (scenes ++ scene ∷ []) (before + (count + 1)) left
   HasRead-more scene count left spelled counted split shorter =
@@ -98,6 +98,15 @@ module _ (text : List ℕ) (scenes : List Scene) (before : ℕ) (rest : List ℕ
                   (subst (λ (own : List ℕ). Spells supported own scene) part spelled)
             ];
       }
+
+-- the same, once its scene is pushed
+pub HasRead-pushed : {text : List ℕ} {scenes : List Scene} {before : ℕ} {rest : List ℕ} {scene : Scene} {count : ℕ} (left : List ℕ) (items : List Scene)
+    → ReadsParts text scenes before rest → items ≡ scenes ++ scene ∷ [] → Spells supported (head_text rest) scene
+    → count ≡ length (first_part (lines_of rest)) → parts_of (lines_of rest) ≡ first_part (lines_of rest) ∷ later_parts (lines_of left)
+    → count + length left ≤ length rest → HasRead text items (before + (count + 1)) left
+HasRead-pushed {text} {scenes} {before} {rest} {scene} {count} left items h pushed spelled counted split shorter =
+    subst (λ (all : List Scene). HasRead text all (before + (count + 1)) left) (sym pushed)
+    (HasRead-more text scenes before rest h scene count left spelled counted split shorter)
 
 -- ---- after a part
 

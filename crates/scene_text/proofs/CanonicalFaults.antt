@@ -1,328 +1,310 @@
--- No statement of a scene's canonical text has a fault.
-use Rattle.scene_text.proofs.Words.{◌≡◌, ℕ, ◌+◌, ◌*◌, ◌≤◌, ◌&&◌, ◌||◌, not, Bool, true, false, cond, eqb, leb, ltb, zero, suc, ℤ, pos, Some, None, List, []}
-use Rattle.scene_text.proofs.Words.{◌∷◌, ◌++◌, length, map, refl, ap, ◌∙◌, arith, list_all, nat_tests, list_all-append, and_parts, leb-true, Goal, Point}
-use Rattle.scene_text.proofs.Words.{Vertex, Scene, Marks, Drawn, Listed, Key, MOST_MARKS, MOST_OBSTACLE_CORNERS, MOST_OBSTACLES, is_goal, is_mark, is_obstacle}
-use Rattle.scene_text.proofs.Words.{is_plan, most_goals, name_of, is_key, most_corners, most_lines, rival_of, version_word, Format, begins_with, given_by}
-use Rattle.scene_text.proofs.Words.{is_inhabited, version_of, is_repeated, is_too_many, fault_of_version, fault_of_statement, point_numbers, goal_numbers}
-use Rattle.scene_text.proofs.Words.{corner_numbers, statement, version_statement, obstacle_statement, goal_statement, mark_statement, clearance_statements}
-use Rattle.scene_text.proofs.Words.{informed_statements, plan_statements, search_statements, task_statements, canonical_statements, Covers, given_by-append}
+-- The statements of a scene's canonical text, by keys: a statement for each list of numbers that the scene has for the key. None has a fault.
+use Rattle.scene_text.proofs.Words.{◌≡◌, ℕ, ◌+◌, ◌≤◌, ◌&&◌, ◌||◌, not, Bool, true, false, cond, eqb, leb, zero, suc, ℤ, pos, Option, Some, None, List, [], ◌∷◌, ◌++◌}
+use Rattle.scene_text.proofs.Words.{length, map, refl, sym, ap, ap₂, ◌∙◌, arith, list_all, nat_tests, and_parts, leb-true, append-nil, append_assoc}
+use Rattle.scene_text.proofs.Words.{length-map, Goal, Scene, Marks, Drawn, Listed, Key, MOST_MARKS, MOST_OBSTACLES, is_goal, is_mark, is_obstacle, is_plan}
+use Rattle.scene_text.proofs.Words.{most_goals, name_of, every_key, is_key, most_lines, rival_of, version_word, Format, Given, MayStand, begins_with, given_by}
+use Rattle.scene_text.proofs.Words.{is_inhabited, stands_any, version_of, is_repeated, fault_of_version, fault_of_statement, value_of, signed_decimal}
+use Rattle.scene_text.proofs.Words.{point_numbers, goal_numbers, corner_numbers, statement, version_statement, goal_statement}
+use Rattle.scene_text.proofs.Words.{clearance_statements, informed_statements, plan_statements, search_statements, canonical_statements, has_key, Covers}
+use Rattle.scene_text.proofs.Words.{given_by-append}
 use Rattle.std.proofs.lemmas.List.{length-append}
 use Rattle.plan_model.specs.declared.text_terms.Key.TheVariants as keys
-use Rattle.scene_text.proofs.StatementTexts.{is_word, is_clean, AreSound, AreSoundAfter, AreSoundAfter-append, AreSound-after}
-use Rattle.scene_text.proofs.CanonicalWords.{IsFit, is_clean-statement, fault-none}
-use Rattle.scene_text.proofs.CanonicalNumbers.{fit-room, fit-body, few-body, fit-obstacle, small-obstacle, fit-clearance, fit-start, fit-goal, fit-step}
-use Rattle.scene_text.proofs.CanonicalNumbers.{fit-gamma, fit-seed, fit-strips, fit-informed, fit-marks, fit-mark}
+use Rattle.scene_text.proofs.StatementTexts.{is_word, is_clean, AreSound, AreSoundAfter, AreSound-after}
+use Rattle.scene_text.proofs.CanonicalWords.{is_clean-statement, fault-none, short-ranged, values-decimal}
+use Rattle.scene_text.proofs.CanonicalNumbers.{fit-room, fit-body, fit-obstacle, fit-clearance, fit-start, fit-goal, fit-step, fit-gamma, fit-seed, fit-strips}
+use Rattle.scene_text.proofs.CanonicalNumbers.{fit-informed, fit-marks, fit-mark}
 
--- ---- what the statements before one give
+-- ---- members
 
-none-append : (key : Key) (xs ys : List (List (List ℕ))) → given_by xs key ≡ [] → given_by ys key ≡ [] → given_by (xs ++ ys) key ≡ []
-none-append key xs ys e f = given_by-append xs ys key ∙ ap (λ lists. lists ++ given_by ys key) e ∙ f
+abbrev pub AreAll : {A : Type 0} → (A → Type 0) → List A → Type 0
+AreAll P [] = Unit {0}
+AreAll P (x ∷ xs) = P x × AreAll P xs
 
--- a key that does not stand before a statement with another key does not stand after it
-none-more : (key : Key) (before : List (List (List ℕ))) (words : List (List ℕ)) → given_by before key ≡ [] → given_by (words ∷ []) key ≡ []
-    → given_by (before ++ words ∷ []) key ≡ []
-none-more key before words e f = none-append key before (words ∷ []) e f
+AreAll-append : {A : Type 0} (P : A → Type 0) (xs ys : List A) → AreAll P xs → AreAll P ys → AreAll P (xs ++ ys)
+AreAll-append P [] ys h k = k
+AreAll-append P (x ∷ xs) ys h k = (h.0, AreAll-append P xs ys h.1 k)
 
-count-push : (key : Key) (before : List (List (List ℕ))) (words : List (List ℕ))
-    → length (given_by (before ++ words ∷ []) key) ≡ length (given_by before key) + length (given_by (words ∷ []) key)
-count-push key before words =
-    ap length (given_by-append before (words ∷ []) key) ∙ length-append (given_by before key) (given_by (words ∷ []) key)
+AreAll-tested : {A B : Type 0} (P : B → Type 0) (f : A → B) (test : A → Bool) → ((x : A) → test x ≡ true → P (f x)) → (xs : List A)
+    → list_all test xs ≡ true → AreAll P (map f xs)
+AreAll-tested P f test each [] h = tt
+AreAll-tested P f test each (x ∷ xs) h =
+    let parts = and_parts (test x) (list_all test xs) h in
+    (each x parts.0, AreAll-tested P f test each xs parts.1)
 
--- obstacles give no numbers to another key
-pub none-obstacles : (key : Key) (obstacles : List (List Vertex)) → begins_with key (name_of keys.Obstacle ∷ []) ≡ false
-    → given_by (map obstacle_statement obstacles) key ≡ []
-none-obstacles key [] other = refl
-none-obstacles key (corners ∷ obstacles) other = rw (other, none-obstacles key obstacles other) refl
+-- ---- the numbers of a scene
 
--- nor do a clearance, goals, and that a scene is informed
-clearance_by : (first : Bool) (key : Key) (zs : List ℤ) → begins_with key (name_of keys.Clearance ∷ []) ≡ false
-    → given_by (cond first [] (statement keys.Clearance zs ∷ [])) key ≡ []
-clearance_by true key zs other = refl
-clearance_by false key zs other = rw other refl
+abbrev pub drawn_of : Marks → List (List ℤ)
+drawn_of (Drawn n) = (pos n ∷ []) ∷ []
+drawn_of (Listed points) = []
 
-pub none-clearance : (key : Key) (scene : Scene) → begins_with key (name_of keys.Clearance ∷ []) ≡ false → given_by (clearance_statements scene) key ≡ []
-none-clearance key scene other = clearance_by (eqb scene.version 1) key (pos scene.clearance ∷ []) other
+abbrev pub listed_of : Marks → List (List ℤ)
+listed_of (Drawn n) = []
+listed_of (Listed points) = map point_numbers points
 
-pub none-goals : (key : Key) (goals : List Goal) → begins_with key (name_of keys.Goal ∷ []) ≡ false → given_by (map goal_statement goals) key ≡ []
-none-goals key [] other = refl
-none-goals key (goal ∷ goals) other = rw (other, none-goals key goals other) refl
-
-pub none-informed : (key : Key) (informed : Bool) → begins_with key (name_of keys.Informed ∷ []) ≡ false → given_by (informed_statements informed) key ≡ []
-none-informed key true other = rw other refl
-none-informed key false other = refl
-
--- ---- a statement whose key may stand once
-
--- the key stands at most once, and beside each other key
-record StandsOnce (version : ℕ) (key : Key) : Type 0 where
-  once : most_lines version key ≡ 1
-  alone : rival_of key ≡ None
-
--- the statement has no fault if its key does not stand yet
-fault-once : (built : Key → Bool) (version : ℕ) (key : Key) (zs : List ℤ) (before : List (List (List ℕ))) → is_key version key ≡ true
-    → built key ≡ true → StandsOnce version key → IsFit version key zs → ltb (2 * most_corners key) (length zs) ≡ false
-    → given_by before key ≡ [] → fault_of_statement built version (given_by before) (statement key zs) ≡ None
-fault-once built version key zs before known supported once fit few none =
-    let fresh : is_repeated version (given_by before) key ≡ false = rw (once.once, once.alone, none) refl in
-    let room : is_too_many version (given_by before) key (length zs) ≡ false = rw (few, once.once, none) refl in
-    fault-none built version key zs (given_by before) known supported fit fresh room
-
--- ---- statements whose key may stand often
-
-few-obstacles : (version : ℕ) (corners : List Vertex) (count left : ℕ) → is_obstacle version corners ≡ true → count + suc left ≤ MOST_OBSTACLES
-    → (ltb (2 * MOST_OBSTACLE_CORNERS) (length (corner_numbers corners)) || leb MOST_OBSTACLES count) ≡ false
-few-obstacles version corners count left h few =
-    let small = small-obstacle version corners h in
-    let below : leb MOST_OBSTACLES count ≡ false = grind (arith, nat_tests) in
-    rw (small, below) refl
-
-sound-obstacles : (built : Key → Bool) (version : ℕ) (before : List (List (List ℕ))) (obstacles : List (List Vertex)) → built keys.Obstacle ≡ true
-    → list_all (is_obstacle version) obstacles ≡ true → length (given_by before keys.Obstacle) + length obstacles ≤ MOST_OBSTACLES
-    → AreSoundAfter built version before (map obstacle_statement obstacles)
-sound-obstacles built version before [] supported h few = tt
-sound-obstacles built version before (corners ∷ obstacles) supported h few =
-    let parts = and_parts (is_obstacle version corners) (list_all (is_obstacle version) obstacles) h in
-    let count = count-push keys.Obstacle before (obstacle_statement corners) in (
-      fault-none built version keys.Obstacle (corner_numbers corners) (given_by before) refl supported (fit-obstacle version corners parts.0) refl
-          (few-obstacles version corners (length (given_by before keys.Obstacle)) (length obstacles) parts.0 few),
-      sound-obstacles built version (before ++ obstacle_statement corners ∷ []) obstacles supported parts.1 (omega arith),
-    )
-
--- a goal for which there is room is no repeated one
-fresh-goal : (most : ℕ) (lists : List (List ℤ)) (left : ℕ) → length lists + suc left ≤ most → ((eqb most 1 && is_inhabited lists) || false) ≡ false
-fresh-goal most [] left few = no_other (eqb most 1)
-  where
-    no_other : (b : Bool) → ((b && false) || false) ≡ false
-    no_other true = refl
-    no_other false = refl
-fresh-goal most (zs ∷ lists) left few =
-    let more : eqb most 1 ≡ false = grind (arith, nat_tests) in
-    rw more refl
-
-sound-goals : (built : Key → Bool) (version : ℕ) (before : List (List (List ℕ))) (goals : List Goal) → built keys.Goal ≡ true
-    → list_all (is_goal version) goals ≡ true → length (given_by before keys.Goal) + length goals ≤ most_goals version
-    → AreSoundAfter built version before (map goal_statement goals)
-sound-goals built version before [] supported h few = tt
-sound-goals built version before (goal ∷ goals) supported h few =
-    let parts = and_parts (is_goal version goal) (list_all (is_goal version) goals) h in
-    let count = count-push keys.Goal before (goal_statement goal) in
-    let below : leb (most_goals version) (length (given_by before keys.Goal)) ≡ false = grind (arith, nat_tests) in (
-      fault-none built version keys.Goal (goal_numbers goal) (given_by before) refl supported (fit-goal version goal parts.0)
-          (fresh-goal (most_goals version) (given_by before keys.Goal) (length goals) few) below,
-      sound-goals built version (before ++ goal_statement goal ∷ []) goals supported parts.1 (omega arith),
-    )
-
-sound-marks : (built : Key → Bool) (version : ℕ) (before : List (List (List ℕ))) (points : List Point) → built keys.Mark ≡ true
-    → list_all (is_mark version) points ≡ true → given_by before keys.Marks ≡ []
-    → length (given_by before keys.Mark) + length points ≤ MOST_MARKS → AreSoundAfter built version before (map mark_statement points)
-sound-marks built version before [] supported h none few = tt
-sound-marks built version before (p ∷ points) supported h none few =
-    let parts = and_parts (is_mark version p) (list_all (is_mark version) points) h in
-    let count = count-push keys.Mark before (mark_statement p) in
-    let below : leb MOST_MARKS (length (given_by before keys.Mark)) ≡ false = grind (arith, nat_tests) in (
-      fault-none built version keys.Mark (point_numbers p) (given_by before) refl supported (fit-mark version p parts.0) (ap is_inhabited none) below,
-      sound-marks built version (before ++ mark_statement p ∷ []) points supported parts.1 (none-more keys.Marks before (mark_statement p) none refl)
-          (omega arith),
-    )
-
--- ---- the parts of a scene, for a format that has its version and its keys
-
-sound-clearance : (format : Format) (scene : Scene) (before : List (List (List ℕ))) → Covers format scene → given_by before keys.Clearance ≡ []
-    → AreSoundAfter format.built scene.version before (clearance_statements scene)
-sound-clearance format scene before covers none = by (eqb scene.version 1) refl
-  where
-    by : (first : Bool) → eqb scene.version 1 ≡ first
-        → AreSoundAfter format.built scene.version before (cond first [] (statement keys.Clearance (pos scene.clearance ∷ []) ∷ []))
-    by true e = tt
-    by false e =
-        let known : not (eqb scene.version 1) ≡ true = rw e refl in (
-          fault-once format.built scene.version keys.Clearance (pos scene.clearance ∷ []) before known (covers.keys keys.Clearance known)
-              (record { once = refl; alone = refl }) (fit-clearance scene.version scene.clearance scene.clearance_high) refl none,
-          tt,
-        )
-
--- a scene that is informed has no first version
-second_of_informed : (informed first : Bool) → informed ≡ true → (not informed || not first) ≡ true → not first ≡ true
-second_of_informed true first e h = h
-second_of_informed false first e h = absurd (cc)
-
-sound-informed : (format : Format) (scene : Scene) (before : List (List (List ℕ))) → Covers format scene → given_by before keys.Informed ≡ []
-    → AreSoundAfter format.built scene.version before (informed_statements scene.informed)
-sound-informed format scene before covers none = by scene.informed refl
-  where
-    by : (informed : Bool) → scene.informed ≡ informed → AreSoundAfter format.built scene.version before (informed_statements informed)
-    by true e =
-        let known = second_of_informed scene.informed (eqb scene.version 1) e scene.informed_within in (
-          fault-once format.built scene.version keys.Informed (pos 1 ∷ []) before known (covers.keys keys.Informed e)
-              (record { once = refl; alone = refl }) (fit-informed scene.version known) refl none,
-          tt,
-        )
-    by false e = tt
-
-sound-plan : (format : Format) (scene : Scene) (before : List (List (List ℕ))) (plan : Marks) → Covers format scene
-    → is_plan scene.version plan ≡ true → given_by before keys.Marks ≡ [] → given_by before keys.Mark ≡ []
-    → AreSoundAfter format.built scene.version before (plan_statements plan)
-sound-plan format scene before (Drawn n) covers h none unlisted =
-    let fresh : is_repeated scene.version (given_by before) keys.Marks ≡ false = rw (none, unlisted) refl in
-    let room : is_too_many scene.version (given_by before) keys.Marks 1 ≡ false = rw none refl in (
-      fault-none format.built scene.version keys.Marks (pos n ∷ []) (given_by before) refl (covers.keys keys.Marks refl) (fit-marks scene.version n h)
-          fresh room,
-      tt,
-    )
-sound-plan format scene before (Listed points) covers h none unlisted =
-    let parts = and_parts (leb (length points) MOST_MARKS) (list_all (is_mark scene.version) points) h in
-    let count : length (given_by before keys.Mark) ≡ 0 = ap length unlisted in
-    sound-marks format.built scene.version before points (covers.keys keys.Mark refl) parts.1 none (grind (arith, nat_tests))
-
--- the key is one of how the goals are searched for, or of the plan
-abbrev is_late : Key → Bool
-is_late keys.Step = true
-is_late keys.Gamma = true
-is_late keys.Seed = true
-is_late keys.Strips = true
-is_late keys.Informed = true
-is_late keys.Marks = true
-is_late keys.Mark = true
-is_late key = false
-
--- no line before these has a key of theirs
-abbrev AreFirst : List (List (List ℕ)) → Type 0
-AreFirst before = (key : Key) → is_late key ≡ true → given_by before key ≡ []
-
-sound-search : (format : Format) (scene : Scene) (before : List (List (List ℕ))) → Covers format scene → AreFirst before
-    → AreSoundAfter format.built scene.version before (search_statements scene)
-sound-search format scene before covers none =
-    let version = scene.version in
-    let step = statement keys.Step (pos scene.step ∷ []) in
-    let gamma = statement keys.Gamma (pos scene.gamma ∷ []) in
-    let seed = statement keys.Seed (pos scene.seed ∷ []) in
-    let strips = statement keys.Strips (pos scene.strips ∷ []) in
-    let second = before ++ step ∷ [] in
-    let third = second ++ gamma ∷ [] in
-    let fourth = third ++ seed ∷ [] in
-    let once : (key : Key) → most_lines version key ≡ 1 → rival_of key ≡ None → StandsOnce version key = λ key e f. record { once = e; alone = f } in (
-      fault-once format.built version keys.Step (pos scene.step ∷ []) before refl (covers.keys keys.Step refl) (once keys.Step refl refl)
-          (fit-step version scene.step scene.step_low scene.step_high) refl (none keys.Step refl),
-      (
-        fault-once format.built version keys.Gamma (pos scene.gamma ∷ []) second refl (covers.keys keys.Gamma refl) (once keys.Gamma refl refl)
-            (fit-gamma version scene.gamma scene.gamma_high) refl (none-more keys.Gamma before step (none keys.Gamma refl) refl),
-        (
-          fault-once format.built version keys.Seed (pos scene.seed ∷ []) third refl (covers.keys keys.Seed refl) (once keys.Seed refl refl)
-              (fit-seed version scene.seed scene.seed_high) refl
-              (none-more keys.Seed second gamma (none-more keys.Seed before step (none keys.Seed refl) refl) refl),
-          (
-            fault-once format.built version keys.Strips (pos scene.strips ∷ []) fourth refl (covers.keys keys.Strips refl) (once keys.Strips refl refl)
-                (fit-strips version scene.strips scene.strips_low scene.strips_high) refl
-                (none-more keys.Strips third seed (none-more keys.Strips second gamma (none-more keys.Strips before step (none keys.Strips refl) refl) refl)
-                refl),
-            sound-informed format scene (fourth ++ strips ∷ []) covers
-                (none-more keys.Informed fourth strips (none-more keys.Informed third seed (none-more keys.Informed second gamma
-                (none-more keys.Informed before step (none keys.Informed refl) refl) refl) refl) refl),
-          ),
-        ),
-      ),
-    )
-
--- ---- the statements of a scene
-
--- the first statements: the room, the body and the obstacles
-abbrev obstacles_of : Scene → List (List (List ℕ))
-obstacles_of scene =
-    statement keys.Room (point_numbers scene.room) ∷ statement keys.Body (corner_numbers scene.body) ∷ map obstacle_statement scene.obstacles
-
--- those before the start
-abbrev space_statements : Scene → List (List (List ℕ))
-space_statements scene = obstacles_of scene ++ clearance_statements scene
-
--- those before how the goals are searched for
-abbrev goals_after : Scene → List (List (List ℕ))
-goals_after scene = (space_statements scene ++ statement keys.Start (point_numbers scene.start) ∷ []) ++ map goal_statement scene.goals
-
-none-space : (key : Key) (scene : Scene) → begins_with key (name_of keys.Obstacle ∷ []) ≡ false → begins_with key (name_of keys.Clearance ∷ []) ≡ false
-    → given_by (obstacles_of scene) key ≡ given_by (map obstacle_statement scene.obstacles) key → given_by (space_statements scene) key ≡ []
-none-space key scene o c same =
-    none-append key (obstacles_of scene) (clearance_statements scene) (same ∙ none-obstacles key scene.obstacles o) (none-clearance key scene c)
-
-none-goals_after : (key : Key) (scene : Scene) → begins_with key (name_of keys.Obstacle ∷ []) ≡ false
-    → begins_with key (name_of keys.Clearance ∷ []) ≡ false → begins_with key (name_of keys.Goal ∷ []) ≡ false
-    → given_by (statement keys.Start (point_numbers scene.start) ∷ []) key ≡ []
-    → given_by (obstacles_of scene) key ≡ given_by (map obstacle_statement scene.obstacles) key → given_by (goals_after scene) key ≡ []
-none-goals_after key scene o c g start same =
-    let before = space_statements scene ++ statement keys.Start (point_numbers scene.start) ∷ [] in
-    none-append key before (map goal_statement scene.goals)
-    (none-append key (space_statements scene) (statement keys.Start (point_numbers scene.start) ∷ []) (none-space key scene o c same) start)
-    (none-goals key scene.goals g)
-
-first-late : (scene : Scene) → AreFirst (goals_after scene)
-first-late scene keys.Step h = none-goals_after keys.Step scene refl refl refl refl refl
-first-late scene keys.Gamma h = none-goals_after keys.Gamma scene refl refl refl refl refl
-first-late scene keys.Seed h = none-goals_after keys.Seed scene refl refl refl refl refl
-first-late scene keys.Strips h = none-goals_after keys.Strips scene refl refl refl refl refl
-first-late scene keys.Informed h = none-goals_after keys.Informed scene refl refl refl refl refl
-first-late scene keys.Marks h = none-goals_after keys.Marks scene refl refl refl refl refl
-first-late scene keys.Mark h = none-goals_after keys.Mark scene refl refl refl refl refl
-first-late scene key h = absurd (cc)
+-- the numbers of each statement with the key
+abbrev pub table_of : Scene → Given
+table_of scene keys.Room = point_numbers scene.room ∷ []
+table_of scene keys.Body = corner_numbers scene.body ∷ []
+table_of scene keys.Obstacle = map corner_numbers scene.obstacles
+table_of scene keys.Clearance = cond (eqb scene.version 1) [] ((pos scene.clearance ∷ []) ∷ [])
+table_of scene keys.Start = point_numbers scene.start ∷ []
+table_of scene keys.Goal = map goal_numbers scene.goals
+table_of scene keys.Step = (pos scene.step ∷ []) ∷ []
+table_of scene keys.Gamma = (pos scene.gamma ∷ []) ∷ []
+table_of scene keys.Seed = (pos scene.seed ∷ []) ∷ []
+table_of scene keys.Strips = (pos scene.strips ∷ []) ∷ []
+table_of scene keys.Informed = cond scene.informed ((pos 1 ∷ []) ∷ []) []
+table_of scene keys.Marks = drawn_of scene.plan
+table_of scene keys.Mark = listed_of scene.plan
 
 obstacles-within : (scene : Scene) → (length scene.obstacles ≤ MOST_OBSTACLES) × (list_all (is_obstacle scene.version) scene.obstacles ≡ true)
 obstacles-within scene =
     let parts = and_parts (leb (length scene.obstacles) MOST_OBSTACLES) (list_all (is_obstacle scene.version) scene.obstacles) scene.obstacles_within in
     (leb-true (length scene.obstacles) MOST_OBSTACLES parts.0, parts.1)
 
-pub goals-within : (scene : Scene) → (length scene.goals ≤ most_goals scene.version) × (list_all (is_goal scene.version) scene.goals ≡ true)
+goals-within : (scene : Scene) → (length scene.goals ≤ most_goals scene.version) × (list_all (is_goal scene.version) scene.goals ≡ true)
 goals-within scene =
     let parts = and_parts (leb 1 (length scene.goals) && leb (length scene.goals) (most_goals scene.version)) (list_all (is_goal scene.version) scene.goals)
     scene.goals_within in
     let few = (and_parts (leb 1 (length scene.goals)) (leb (length scene.goals) (most_goals scene.version)) parts.0).1 in
     (leb-true (length scene.goals) (most_goals scene.version) few, parts.1)
 
-sound-task : (format : Format) (scene : Scene) → Covers format scene
-    → AreSoundAfter format.built scene.version (space_statements scene) (task_statements scene)
-sound-task format scene covers =
-    let version = scene.version in
+informed-fit : (version : ℕ) (informed : Bool) → (not informed || not (eqb version 1)) ≡ true
+    → AreAll (MayStand version keys.Informed) (cond informed ((pos 1 ∷ []) ∷ []) [])
+informed-fit version true h = (fit-informed version h, tt)
+informed-fit version false h = tt
+
+drawn-fit : (version : ℕ) (plan : Marks) → is_plan version plan ≡ true → AreAll (MayStand version keys.Marks) (drawn_of plan)
+drawn-fit version (Drawn n) h = (fit-marks version n h, tt)
+drawn-fit version (Listed points) h = tt
+
+listed-fit : (version : ℕ) (plan : Marks) → is_plan version plan ≡ true → AreAll (MayStand version keys.Mark) (listed_of plan)
+listed-fit version (Drawn n) h = tt
+listed-fit version (Listed points) h =
+    AreAll-tested (MayStand version keys.Mark) point_numbers (is_mark version) (fit-mark version) points
+    (and_parts (leb (length points) MOST_MARKS) (list_all (is_mark version) points) h).1
+
+-- the numbers may stand after the key
+pub table-fit : (scene : Scene) (key : Key) → AreAll (MayStand scene.version key) (table_of scene key)
+table-fit scene keys.Room = (fit-room scene.version scene.room scene.room_within, tt)
+table-fit scene keys.Body = (fit-body scene.version scene.body scene.body_within, tt)
+table-fit scene keys.Obstacle =
+    AreAll-tested (MayStand scene.version keys.Obstacle) corner_numbers (is_obstacle scene.version) (fit-obstacle scene.version) scene.obstacles
+    (obstacles-within scene).1
+table-fit scene keys.Clearance =
+    elim (eqb scene.version 1) as (λ first. AreAll (MayStand scene.version keys.Clearance) (cond first [] ((pos scene.clearance ∷ []) ∷ [])))
+    [ true ↦ tt | false ↦ (fit-clearance scene.version scene.clearance scene.clearance_high, tt) ]
+table-fit scene keys.Start = (fit-start scene.version scene.start scene.start_within, tt)
+table-fit scene keys.Goal =
+    AreAll-tested (MayStand scene.version keys.Goal) goal_numbers (is_goal scene.version) (fit-goal scene.version) scene.goals (goals-within scene).1
+table-fit scene keys.Step = (fit-step scene.version scene.step scene.step_low scene.step_high, tt)
+table-fit scene keys.Gamma = (fit-gamma scene.version scene.gamma scene.gamma_high, tt)
+table-fit scene keys.Seed = (fit-seed scene.version scene.seed scene.seed_high, tt)
+table-fit scene keys.Strips = (fit-strips scene.version scene.strips scene.strips_low scene.strips_high, tt)
+table-fit scene keys.Informed = informed-fit scene.version scene.informed scene.informed_within
+table-fit scene keys.Marks = drawn-fit scene.version scene.plan scene.plan_within
+table-fit scene keys.Mark = listed-fit scene.version scene.plan scene.plan_within
+
+drawn-few : (plan : Marks) → length (drawn_of plan) ≤ 1
+drawn-few (Drawn n) = omega arith
+drawn-few (Listed points) = omega arith
+
+listed-few : (version : ℕ) (plan : Marks) → is_plan version plan ≡ true → length (listed_of plan) ≤ MOST_MARKS
+listed-few version (Drawn n) h = omega arith
+listed-few version (Listed points) h =
+    let few = leb-true (length points) MOST_MARKS (and_parts (leb (length points) MOST_MARKS) (list_all (is_mark version) points) h).0 in
+    omega (arith, few, length-map points point_numbers)
+
+-- no key stands too often
+pub table-few : (scene : Scene) (key : Key) → length (table_of scene key) ≤ most_lines scene.version key
+table-few scene keys.Obstacle = omega (arith, (obstacles-within scene).0, length-map scene.obstacles corner_numbers)
+table-few scene keys.Goal = omega (arith, (goals-within scene).0, length-map scene.goals goal_numbers)
+table-few scene keys.Clearance =
+    elim (eqb scene.version 1) as (λ first. length (cond first [] ((pos scene.clearance ∷ []) ∷ [])) ≤ 1) [ true ↦ omega arith | false ↦ omega arith ]
+table-few scene keys.Informed =
+    elim scene.informed as (λ informed. length (cond informed ((pos 1 ∷ []) ∷ []) []) ≤ 1) [ true ↦ omega arith | false ↦ omega arith ]
+table-few scene keys.Marks = drawn-few scene.plan
+table-few scene keys.Mark = listed-few scene.version scene.plan scene.plan_within
+table-few scene key = omega arith
+
+second-clear : (first : Bool) (zs : List ℤ) → is_inhabited (cond first [] (zs ∷ [])) ≡ true → not first ≡ true
+second-clear true zs some = absurd (cc)
+second-clear false zs some = refl
+
+second-informed : (informed first : Bool) (zs : List ℤ) → (not informed || not first) ≡ true → is_inhabited (cond informed (zs ∷ []) []) ≡ true
+    → (informed ≡ true) × (not first ≡ true)
+second-informed true first zs h some = (refl, h)
+second-informed false first zs h some = absurd (cc)
+
+-- a key of which there are numbers is one of the version
+table-known : (scene : Scene) (key : Key) → is_inhabited (table_of scene key) ≡ true → (has_key scene key ≡ true) × (is_key scene.version key ≡ true)
+table-known scene keys.Clearance some =
+    let second = second-clear (eqb scene.version 1) (pos scene.clearance ∷ []) some in
+    (second, second)
+table-known scene keys.Informed some = second-informed scene.informed (eqb scene.version 1) (pos 1 ∷ []) scene.informed_within some
+table-known scene key some = (refl, refl)
+
+drawn-alone : (plan : Marks) → is_inhabited (drawn_of plan) ≡ true → is_inhabited (listed_of plan) ≡ false
+drawn-alone (Drawn n) some = refl
+drawn-alone (Listed points) some = absurd (cc)
+
+listed-alone : (plan : Marks) → is_inhabited (listed_of plan) ≡ true → is_inhabited (drawn_of plan) ≡ false
+listed-alone (Drawn n) some = absurd (cc)
+listed-alone (Listed points) some = refl
+
+table-alone : (scene : Scene) (key : Key) → is_inhabited (table_of scene key) ≡ true → stands_any (table_of scene) (rival_of key) ≡ false
+table-alone scene keys.Marks some = drawn-alone scene.plan some
+table-alone scene keys.Mark some = listed-alone scene.plan some
+table-alone scene key some = refl
+
+-- ---- the statements of a scene
+
+-- a statement for each list of numbers of these keys
+abbrev pub lines_for : Given → List Key → List (List (List ℕ))
+lines_for given [] = []
+lines_for given (key ∷ others) = map (statement key) (given key) ++ lines_for given others
+
+abbrev pub lines_of_scene : Scene → List (List (List ℕ))
+lines_of_scene scene = lines_for (table_of scene) every_key
+
+mapped : {A : Type 0} (key : Key) (numbers : A → List ℤ) (xs : List A) → map (statement key) (map numbers xs) ≡ map (λ x. statement key (numbers x)) xs
+mapped key numbers [] = refl
+mapped key numbers (x ∷ xs) = rw (mapped key numbers xs) refl
+
+plan-lines : (plan : Marks) → map (statement keys.Marks) (drawn_of plan) ++ (map (statement keys.Mark) (listed_of plan) ++ []) ≡ plan_statements plan
+plan-lines (Drawn n) = refl
+plan-lines (Listed points) = append-nil (map (statement keys.Mark) (map point_numbers points)) ∙ mapped keys.Mark point_numbers points
+
+-- they are those of the canonical text, after the version
+pub canonical-lines : (scene : Scene) → version_statement scene.version ∷ lines_of_scene scene ≡ canonical_statements scene
+canonical-lines scene =
+    let room = statement keys.Room (point_numbers scene.room) in
+    let body = statement keys.Body (corner_numbers scene.body) in
     let start = statement keys.Start (point_numbers scene.start) in
-    let first = space_statements scene in
-    let second = first ++ start ∷ [] in
-    let within = goals-within scene in
-    let count : length (given_by second keys.Goal)
-    ≡ 0 = ap length (none-more keys.Goal first start (none-space keys.Goal scene refl refl refl) refl) in (
-      fault-once format.built version keys.Start (point_numbers scene.start) first refl (covers.keys keys.Start refl) (record { once = refl; alone = refl })
-          (fit-start version scene.start scene.start_within) refl (none-space keys.Start scene refl refl refl),
-      AreSoundAfter-append format.built version second (map goal_statement scene.goals) (search_statements scene)
-          (sound-goals format.built version second scene.goals (covers.keys keys.Goal refl) within.1 (omega (arith, within.0, count)))
-          (sound-search format scene (goals_after scene) covers (first-late scene)),
-    )
+    let clearance : map (statement keys.Clearance) (table_of scene keys.Clearance) ≡ clearance_statements scene =
+    elim (eqb scene.version 1) as (λ first. map (statement keys.Clearance) (cond first [] ((pos scene.clearance ∷ []) ∷ []))
+    ≡ cond first [] (statement keys.Clearance (pos scene.clearance ∷ []) ∷ [])) [ true ↦ refl | false ↦ refl ] in
+    let informed : map (statement keys.Informed) (table_of scene keys.Informed) ≡ informed_statements scene.informed =
+    elim scene.informed as (λ b. map (statement keys.Informed) (cond b ((pos 1 ∷ []) ∷ []) []) ≡ informed_statements b) [ true ↦ refl | false ↦ refl ] in
+    let search = λ (rest : List (List (List ℕ))). statement keys.Step (pos scene.step ∷ []) ∷ statement keys.Gamma (pos scene.gamma ∷ [])
+    ∷ statement keys.Seed (pos scene.seed ∷ []) ∷ statement keys.Strips (pos scene.strips ∷ []) ∷ rest in
+    let late = ap search (ap₂ (λ xs ys. xs ++ ys) informed (plan-lines scene.plan)) in
+    let task = ap (λ rest. start ∷ rest) (ap₂ (λ xs ys. xs ++ ys) (mapped keys.Goal goal_numbers scene.goals) late
+    ∙ sym (append_assoc (map goal_statement scene.goals) (search_statements scene) (plan_statements scene.plan))) in
+    ap (λ rest. version_statement scene.version ∷ room ∷ body ∷ rest)
+    (ap₂ (λ xs ys. xs ++ ys) (mapped keys.Obstacle corner_numbers scene.obstacles) (ap₂ (λ xs ys. xs ++ ys) clearance task))
 
-none-search : (key : Key) (scene : Scene) → begins_with key (name_of keys.Informed ∷ []) ≡ false
-    → given_by (search_statements scene) key ≡ given_by (informed_statements scene.informed) key → given_by (search_statements scene) key ≡ []
-none-search key scene other same = same ∙ none-informed key scene.informed other
+-- ---- what they give
 
--- the statements before the plan
-none-before_plan : (key : Key) (scene : Scene) → is_late key ≡ true → begins_with key (name_of keys.Informed ∷ []) ≡ false
-    → begins_with key (name_of keys.Obstacle ∷ []) ≡ false → begins_with key (name_of keys.Clearance ∷ []) ≡ false
-    → begins_with key (name_of keys.Goal ∷ []) ≡ false → given_by (obstacles_of scene) key ≡ given_by (map obstacle_statement scene.obstacles) key
-    → given_by (task_statements scene) key ≡ given_by (map goal_statement scene.goals ++ search_statements scene) key
-    → given_by (search_statements scene) key ≡ given_by (informed_statements scene.informed) key
-    → given_by (space_statements scene ++ task_statements scene) key ≡ []
-none-before_plan key scene late i o c g same task search =
-    none-append key (space_statements scene) (task_statements scene) (none-space key scene o c same)
-    (task ∙ none-append key (map goal_statement scene.goals) (search_statements scene) (none-goals key scene.goals g) (none-search key scene i search))
+given-key : (version : ℕ) (key other : Key) (lists : List (List ℤ)) (same : Bool) → AreAll (MayStand version other) lists
+    → begins_with key (name_of other ∷ []) ≡ same → given_by (map (statement other) lists) key ≡ cond same lists []
+given-key version key other [] true h e = refl
+given-key version key other [] false h e = refl
+given-key version key other (zs ∷ lists) true h e =
+    rw (e, values-decimal zs (short-ranged version other zs h.0.ranged), given-key version key other lists true h.1 e) refl
+given-key version key other (zs ∷ lists) false h e = rw (e, given-key version key other lists false h.1 e) refl
 
-sound-after : (format : Format) (scene : Scene) → Covers format scene
-    → AreSoundAfter format.built scene.version (space_statements scene) (task_statements scene ++ plan_statements scene.plan)
-sound-after format scene covers =
-    AreSoundAfter-append format.built scene.version (space_statements scene) (task_statements scene) (plan_statements scene.plan)
-    (sound-task format scene covers)
-    (sound-plan format scene (space_statements scene ++ task_statements scene) scene.plan covers scene.plan_within
-    (none-before_plan keys.Marks scene refl refl refl refl refl refl refl refl) (none-before_plan keys.Mark scene refl refl refl refl refl refl refl refl))
+abbrev gathered : Given → List Key → Given
+gathered given [] key = []
+gathered given (other ∷ others) key = cond (begins_with key (name_of other ∷ [])) (given other) [] ++ gathered given others key
 
-sound-space : (format : Format) (scene : Scene) → Covers format scene
-    → AreSoundAfter format.built scene.version (obstacles_of scene) (clearance_statements scene ++ (task_statements scene ++ plan_statements scene.plan))
-sound-space format scene covers =
-    AreSoundAfter-append format.built scene.version (obstacles_of scene) (clearance_statements scene)
-    (task_statements scene ++ plan_statements scene.plan)
-    (sound-clearance format scene (obstacles_of scene) covers (none-obstacles keys.Clearance scene.obstacles refl)) (sound-after format scene covers)
+given-lines : (scene : Scene) (others : List Key) (key : Key) → given_by (lines_for (table_of scene) others) key ≡ gathered (table_of scene) others key
+given-lines scene [] key = refl
+given-lines scene (other ∷ others) key =
+    given_by-append (map (statement other) (table_of scene other)) (lines_for (table_of scene) others) key
+    ∙ ap₂ (λ xs ys. xs ++ ys) (given-key scene.version key other (table_of scene other) (begins_with key (name_of other ∷ [])) (table-fit scene other) refl)
+    (given-lines scene others key)
 
--- ---- the version
+gathered-all : (given : Given) (key : Key) → gathered given every_key key ≡ given key
+gathered-all given keys.Room = append-nil (given keys.Room)
+gathered-all given key = append-nil (given key)
+
+-- the numbers of the scene
+pub given-table : (scene : Scene) (key : Key) → given_by (lines_of_scene scene) key ≡ table_of scene key
+given-table scene key = given-lines scene every_key key ∙ gathered-all (table_of scene) key
+
+-- ---- each statement is one of a key
+
+pub record IsWritten (format : Format) (version : ℕ) (words : List (List ℕ)) : Type 0 where
+  pub key : Key
+  pub numbers : List ℤ
+  pub is : words ≡ statement key numbers
+  pub may : MayStand version key numbers
+  pub known : is_key version key ≡ true
+  pub built : format.built key ≡ true
+
+written-key : (format : Format) (version : ℕ) (key : Key) (lists : List (List ℤ)) → AreAll (MayStand version key) lists
+    → (is_inhabited lists ≡ true → (format.built key ≡ true) × (is_key version key ≡ true)) → AreAll (IsWritten format version) (map (statement key) lists)
+written-key format version key [] h known = tt
+written-key format version key (zs ∷ lists) h known = (
+  record { key = key; numbers = zs; is = refl; may = h.0; known = (known refl).1; built = (known refl).0 },
+  written-key format version key lists h.1 (λ some. known refl),
+)
+
+written-lines : (format : Format) (scene : Scene) (others : List Key) → Covers format scene
+    → AreAll (IsWritten format scene.version) (lines_for (table_of scene) others)
+written-lines format scene [] covers = tt
+written-lines format scene (key ∷ others) covers =
+    AreAll-append (IsWritten format scene.version) (map (statement key) (table_of scene key)) (lines_for (table_of scene) others)
+    (written-key format scene.version key (table_of scene key) (table-fit scene key)
+    (λ some. let known = table-known scene key some in (covers.keys key known.0, known.1))) (written-lines format scene others covers)
+
+-- ---- none has a fault
+
+is_own-name : (key : Key) → begins_with key (name_of key ∷ []) ≡ true
+is_own-name keys.Room = refl
+is_own-name key = refl
+
+some-seam : {A : Type 0} (xs ys : List A) (y : A) → is_inhabited (xs ++ y ∷ ys) ≡ true
+some-seam [] ys y = refl
+some-seam (x ∷ xs) ys y = refl
+
+none-before : {A : Type 0} (xs ys : List A) → is_inhabited (xs ++ ys) ≡ false → is_inhabited xs ≡ false
+none-before [] ys none = refl
+none-before (x ∷ xs) ys none = absurd (cc)
+
+-- a key for which there is room is no repeated one
+fresh-one : (most : ℕ) (lists : List (List ℤ)) (left : ℕ) → length lists + suc left ≤ most → ((eqb most 1 && is_inhabited lists) || false) ≡ false
+fresh-one most [] left few = elim (eqb most 1) as (λ one. ((one && false) || false) ≡ false) [ true ↦ refl | false ↦ refl ]
+fresh-one most (zs ∷ lists) left few =
+    let more : eqb most 1 ≡ false = grind (arith, nat_tests) in
+    rw more refl
+
+fault-between : (format : Format) (scene : Scene) (before rest : List (List (List ℕ))) (words : List (List ℕ))
+    → before ++ words ∷ rest ≡ lines_of_scene scene → IsWritten format scene.version words
+    → fault_of_statement format.built scene.version (given_by before) words ≡ None
+fault-between format scene before rest words whole h =
+    let key = h.key in
+    let after = map value_of (map signed_decimal h.numbers) ∷ given_by rest key in
+    let split = λ (other : Key). sym (given-table scene other) ∙ ap (λ lines. given_by lines other) (sym whole)
+    ∙ given_by-append before (words ∷ rest) other in
+    let next : given_by (statement key h.numbers ∷ rest) key ≡ after = rw (is_own-name key) refl in
+    let seam : table_of scene key ≡ given_by before key ++ after = split key
+    ∙ ap (λ lists. given_by before key ++ lists) (ap (λ ws. given_by (ws ∷ rest) key) h.is ∙ next) in
+    let some = ap is_inhabited seam ∙ some-seam (given_by before key) (given_by rest key) (map value_of (map signed_decimal h.numbers)) in
+    let count : length (table_of scene key) ≡ length (given_by before key) + suc (length (given_by rest key)) = ap length seam
+    ∙ length-append (given_by before key) after in
+    let few : length (given_by before key) + suc (length (given_by rest key)) ≤ most_lines scene.version key = omega (arith, count, table-few scene key) in
+    let room : leb (most_lines scene.version key) (length (given_by before key)) ≡ false = grind (arith, nat_tests) in
+    let alone = alone_before (rival_of key) split (table-alone scene key some) in
+    let fresh : is_repeated scene.version (given_by before) key ≡ false = rw alone
+    (fresh-one (most_lines scene.version key) (given_by before key) (length (given_by rest key)) few) in
+    ap (fault_of_statement format.built scene.version (given_by before)) h.is
+    ∙ fault-none format.built scene.version key h.numbers (given_by before) h.known h.built h.may fresh room
+  where
+    alone_before : (rival : Option Key) → ((other : Key) → table_of scene other ≡ given_by before other ++ given_by (words ∷ rest) other)
+        → stands_any (table_of scene) rival ≡ false → stands_any (given_by before) rival ≡ false
+    alone_before None split none = refl
+    alone_before (Some other) split none =
+        none-before (given_by before other) (given_by (words ∷ rest) other) (sym (ap is_inhabited (split other)) ∙ none)
+
+sound-rest : (format : Format) (scene : Scene) (before rest : List (List (List ℕ))) → before ++ rest ≡ lines_of_scene scene
+    → AreAll (IsWritten format scene.version) rest → AreSoundAfter format.built scene.version before rest
+sound-rest format scene before [] whole h = tt
+sound-rest format scene before (words ∷ rest) whole h = (
+  fault-between format scene before rest words whole h.0,
+  sound-rest format scene (before ++ words ∷ []) rest (append_assoc before (words ∷ []) rest ∙ whole) h.1,
+)
 
 named_by : (reads : ℕ → Bool) (version : ℕ) → 1 ≤ version → version ≤ 2 → reads version ≡ true
     → version_of reads (version_statement version) ≡ Some version
@@ -337,101 +319,26 @@ pub version_of-statement : (format : Format) (scene : Scene) → Covers format s
 version_of-statement format scene covers = named_by format.reads scene.version scene.version_low scene.version_high covers.version
 
 -- no statement of a scene has a fault
-pub sound-canonical : (format : Format) (scene : Scene) → Covers format scene → AreSound format [] (canonical_statements scene)
-sound-canonical format scene covers =
-    let version = scene.version in
-    let room = statement keys.Room (point_numbers scene.room) in
-    let body = statement keys.Body (corner_numbers scene.body) in
-    let within = obstacles-within scene in
-    let read = version_of-statement format scene covers in
-    let rest = clearance_statements scene ++ (task_statements scene ++ plan_statements scene.plan) in
-    let after : AreSoundAfter format.built version [] (room ∷ body ∷ (map obstacle_statement scene.obstacles ++ rest)) = (
-      fault-once format.built version keys.Room (point_numbers scene.room) [] refl (covers.keys keys.Room refl) (record { once = refl; alone = refl })
-          (fit-room version scene.room scene.room_within) refl refl,
-      (
-        fault-once format.built version keys.Body (corner_numbers scene.body) (room ∷ []) refl (covers.keys keys.Body refl)
-            (record { once = refl; alone = refl }) (fit-body version scene.body scene.body_within) (few-body scene.body scene.body_within) refl,
-        AreSoundAfter-append format.built version (room ∷ body ∷ []) (map obstacle_statement scene.obstacles) rest
-            (sound-obstacles format.built version (room ∷ body ∷ []) scene.obstacles (covers.keys keys.Obstacle refl) within.1
-            (let few = within.0 in omega arith)) (sound-space format scene covers),
-      ),
-    ) in (
+pub sound-lines : (format : Format) (scene : Scene) → Covers format scene → AreSound format [] (version_statement scene.version ∷ lines_of_scene scene)
+sound-lines format scene covers =
+    let read = version_of-statement format scene covers in (
       ap fault_of_version read,
-      AreSound-after format version (version_statement version) [] (room ∷ body ∷ (map obstacle_statement scene.obstacles ++ rest)) read after,
+      AreSound-after format scene.version (version_statement scene.version) [] (lines_of_scene scene) read
+          (sound-rest format scene [] (lines_of_scene scene) refl (written-lines format scene every_key covers)),
     )
 
 -- ---- words
 
-clean-obstacles : (version : ℕ) (obstacles : List (List Vertex)) → list_all (is_obstacle version) obstacles ≡ true
-    → list_all is_clean (map obstacle_statement obstacles) ≡ true
-clean-obstacles version [] h = refl
-clean-obstacles version (corners ∷ obstacles) h =
-    let parts = and_parts (is_obstacle version corners) (list_all (is_obstacle version) obstacles) h in
-    let here = is_clean-statement version keys.Obstacle (corner_numbers corners) (fit-obstacle version corners parts.0) in
-    rw (here, clean-obstacles version obstacles parts.1) refl
-
-clean-goals : (version : ℕ) (goals : List Goal) → list_all (is_goal version) goals ≡ true → list_all is_clean (map goal_statement goals) ≡ true
-clean-goals version [] h = refl
-clean-goals version (goal ∷ goals) h =
-    let parts = and_parts (is_goal version goal) (list_all (is_goal version) goals) h in
-    rw (is_clean-statement version keys.Goal (goal_numbers goal) (fit-goal version goal parts.0), clean-goals version goals parts.1) refl
-
-clean-marks : (version : ℕ) (points : List Point) → list_all (is_mark version) points ≡ true → list_all is_clean (map mark_statement points) ≡ true
-clean-marks version [] h = refl
-clean-marks version (p ∷ points) h =
-    let parts = and_parts (is_mark version p) (list_all (is_mark version) points) h in
-    rw (is_clean-statement version keys.Mark (point_numbers p) (fit-mark version p parts.0), clean-marks version points parts.1) refl
-
-clean-plan : (version : ℕ) (plan : Marks) → is_plan version plan ≡ true → list_all is_clean (plan_statements plan) ≡ true
-clean-plan version (Drawn n) h = rw (is_clean-statement version keys.Marks (pos n ∷ []) (fit-marks version n h)) refl
-clean-plan version (Listed points) h =
-    clean-marks version points (and_parts (leb (length points) MOST_MARKS) (list_all (is_mark version) points) h).1
-
-clean-append : (xs ys : List (List (List ℕ))) → list_all is_clean xs ≡ true → list_all is_clean ys ≡ true → list_all is_clean (xs ++ ys) ≡ true
-clean-append xs ys e f = list_all-append is_clean xs ys ∙ rw (e, f) refl
-
-clean-clearance : (scene : Scene) → list_all is_clean (clearance_statements scene) ≡ true
-clean-clearance scene = by (eqb scene.version 1)
-  where
-    by : (first : Bool) → list_all is_clean (cond first [] (statement keys.Clearance (pos scene.clearance ∷ []) ∷ [])) ≡ true
-    by true = refl
-    by false =
-        rw (is_clean-statement scene.version keys.Clearance (pos scene.clearance ∷ [])
-        (fit-clearance scene.version scene.clearance scene.clearance_high)) refl
-
-clean-informed : (informed : Bool) → list_all is_clean (informed_statements informed) ≡ true
-clean-informed true = rw (is_clean-statement 2 keys.Informed (pos 1 ∷ []) (fit-informed 2 refl)) refl
-clean-informed false = refl
-
-clean-search : (scene : Scene) → list_all is_clean (search_statements scene) ≡ true
-clean-search scene =
-    let version = scene.version in
-    let step = is_clean-statement version keys.Step (pos scene.step ∷ []) (fit-step version scene.step scene.step_low scene.step_high) in
-    let gamma = is_clean-statement version keys.Gamma (pos scene.gamma ∷ []) (fit-gamma version scene.gamma scene.gamma_high) in
-    let seed = is_clean-statement version keys.Seed (pos scene.seed ∷ []) (fit-seed version scene.seed scene.seed_high) in
-    let strips = is_clean-statement version keys.Strips (pos scene.strips ∷ []) (fit-strips version scene.strips scene.strips_low scene.strips_high) in
-    rw (step, gamma, seed, strips, clean-informed scene.informed) refl
-
-clean-task : (scene : Scene) → list_all is_clean (task_statements scene) ≡ true
-clean-task scene =
-    let start = is_clean-statement scene.version keys.Start (point_numbers scene.start) (fit-start scene.version scene.start scene.start_within) in
-    let rest = clean-append (map goal_statement scene.goals) (search_statements scene) (clean-goals scene.version scene.goals (goals-within scene).1)
-    (clean-search scene) in
-    rw (start, rest) refl
-
-clean-version : (first : Bool) → is_word (cond first (version_word 1) (version_word 2)) ≡ true
-clean-version true = refl
-clean-version false = refl
+clean-written : (format : Format) (version : ℕ) (statements : List (List (List ℕ))) → AreAll (IsWritten format version) statements
+    → list_all is_clean statements ≡ true
+clean-written format version [] h = refl
+clean-written format version (words ∷ statements) h =
+    let here : is_clean words ≡ true = ap is_clean h.0.is ∙ is_clean-statement version h.0.key h.0.numbers h.0.may in
+    rw (here, clean-written format version statements h.1) refl
 
 -- the words of a scene's statements are words
-pub clean-canonical : (scene : Scene) → list_all is_clean (canonical_statements scene) ≡ true
-clean-canonical scene =
-    let version = clean-version (eqb scene.version 1) in
-    let room = is_clean-statement scene.version keys.Room (point_numbers scene.room) (fit-room scene.version scene.room scene.room_within) in
-    let body = is_clean-statement scene.version keys.Body (corner_numbers scene.body) (fit-body scene.version scene.body scene.body_within) in
-    let late = clean-append (task_statements scene) (plan_statements scene.plan) (clean-task scene)
-    (clean-plan scene.version scene.plan scene.plan_within) in
-    let rest = clean-append (clearance_statements scene) (task_statements scene ++ plan_statements scene.plan) (clean-clearance scene) late in
-    let after = clean-append (map obstacle_statement scene.obstacles) (clearance_statements scene ++ (task_statements scene ++ plan_statements scene.plan))
-    (clean-obstacles scene.version scene.obstacles (obstacles-within scene).1) rest in
-    rw (version, room, body, after) refl
+pub clean-lines : (format : Format) (scene : Scene) → Covers format scene
+    → list_all is_clean (version_statement scene.version ∷ lines_of_scene scene) ≡ true
+clean-lines format scene covers =
+    let version = elim (eqb scene.version 1) as (λ first. is_word (cond first (version_word 1) (version_word 2)) ≡ true) [ true ↦ refl | false ↦ refl ] in
+    rw (version, clean-written format scene.version (lines_of_scene scene) (written-lines format scene every_key covers)) refl

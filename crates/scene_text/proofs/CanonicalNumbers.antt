@@ -1,12 +1,11 @@
 -- The numbers of a scene's parts may stand after their keys, and give the parts back.
-use Rattle.scene_text.proofs.Words.{◌≡◌, ℕ, ◌*◌, ◌%◌, ◌≤◌, Bool, true, false, cond, not, ◌&&◌, ◌||◌, eqb, leb, ltb, ℤ, pos, int_le, List, [], ◌∷◌, length, ◌⊎◌}
+use Rattle.scene_text.proofs.Words.{◌≡◌, ℕ, ◌*◌, ◌%◌, ◌≤◌, Bool, true, false, cond, not, ◌&&◌, ◌||◌, eqb, leb, ℤ, pos, int_le, List, [], ◌∷◌, length, ◌⊎◌}
 use Rattle.scene_text.proofs.Words.{inl, inr, refl, ap, ◌∙◌, arith, list_all, nat_tests, and_parts, leb-true, Point, Vertex, Goal, is_strictly_convex}
 use Rattle.scene_text.proofs.Words.{IsBetween, by_version, is_body, is_goal, is_obstacle, is_mark, least_obstacle_coordinate, most_clearance}
 use Rattle.scene_text.proofs.Words.{most_obstacle_coordinate, most_side, most_step, LEAST_BODY_COORDINATE, LEAST_CORNERS, LEAST_SIDE, LEAST_STEP}
 use Rattle.scene_text.proofs.Words.{MOST_BODY_COORDINATE, MOST_BODY_CORNERS, MOST_GAMMA, MOST_MARKS, MOST_OBSTACLE_CORNERS, MOST_SEED, MOST_STRIPS}
-use Rattle.scene_text.proofs.Words.{corners_from, point_numbers, goal_numbers, corner_numbers}
+use Rattle.scene_text.proofs.Words.{MayStand, corners_from, point_numbers, goal_numbers, corner_numbers}
 use Rattle.plan_model.specs.declared.text_terms.Key.TheVariants as keys
-use Rattle.scene_text.proofs.CanonicalWords.{IsFit}
 
 -- ---- one number
 
@@ -16,35 +15,36 @@ single low high n l h =
     let b : leb n high ≡ true = grind (arith, nat_tests) in
     rw (a, b) refl
 
-pub fit-step : (version n : ℕ) → LEAST_STEP ≤ n → n ≤ most_step version → IsFit version keys.Step (pos n ∷ [])
-fit-step version n low high = record { words = refl; ranged = single LEAST_STEP (most_step version) n low high; convex = refl }
+pub fit-step : (version n : ℕ) → LEAST_STEP ≤ n → n ≤ most_step version → MayStand version keys.Step (pos n ∷ [])
+fit-step version n low high = record { count = refl; few = refl; ranged = single LEAST_STEP (most_step version) n low high; corners = refl }
 
-pub fit-clearance : (version n : ℕ) → n ≤ most_clearance version → IsFit version keys.Clearance (pos n ∷ [])
-fit-clearance version n high = record { words = refl; ranged = single 0 (most_clearance version) n (omega arith) high; convex = refl }
+pub fit-clearance : (version n : ℕ) → n ≤ most_clearance version → MayStand version keys.Clearance (pos n ∷ [])
+fit-clearance version n high = record { count = refl; few = refl; ranged = single 0 (most_clearance version) n (omega arith) high; corners = refl }
 
-pub fit-gamma : (version n : ℕ) → n ≤ MOST_GAMMA → IsFit version keys.Gamma (pos n ∷ [])
-fit-gamma version n high = record { words = refl; ranged = single 0 MOST_GAMMA n (omega arith) high; convex = refl }
+pub fit-gamma : (version n : ℕ) → n ≤ MOST_GAMMA → MayStand version keys.Gamma (pos n ∷ [])
+fit-gamma version n high = record { count = refl; few = refl; ranged = single 0 MOST_GAMMA n (omega arith) high; corners = refl }
 
-pub fit-seed : (version n : ℕ) → n ≤ MOST_SEED → IsFit version keys.Seed (pos n ∷ [])
-fit-seed version n high = record { words = refl; ranged = single 0 MOST_SEED n (omega arith) high; convex = refl }
+pub fit-seed : (version n : ℕ) → n ≤ MOST_SEED → MayStand version keys.Seed (pos n ∷ [])
+fit-seed version n high = record { count = refl; few = refl; ranged = single 0 MOST_SEED n (omega arith) high; corners = refl }
 
-pub fit-strips : (version n : ℕ) → 1 ≤ n → n ≤ MOST_STRIPS → IsFit version keys.Strips (pos n ∷ [])
-fit-strips version n low high = record { words = refl; ranged = single 1 MOST_STRIPS n low high; convex = refl }
+pub fit-strips : (version n : ℕ) → 1 ≤ n → n ≤ MOST_STRIPS → MayStand version keys.Strips (pos n ∷ [])
+fit-strips version n low high = record { count = refl; few = refl; ranged = single 1 MOST_STRIPS n low high; corners = refl }
 
 -- in a version of which some scene is informed
 informed_by : (first : Bool) → not first ≡ true → 1 ≤ cond first 0 1
 informed_by true h = absurd (cc)
 informed_by false h = omega arith
 
-pub fit-informed : (version : ℕ) → not (eqb version 1) ≡ true → IsFit version keys.Informed (pos 1 ∷ [])
+pub fit-informed : (version : ℕ) → not (eqb version 1) ≡ true → MayStand version keys.Informed (pos 1 ∷ [])
 fit-informed version second = record {
-  words = refl;
+  count = refl;
+  few = refl;
   ranged = single 0 (by_version version 0 1) 1 (omega arith) (informed_by (eqb version 1) second);
-  convex = refl;
+  corners = refl;
 }
 
-pub fit-marks : (version n : ℕ) → leb n MOST_MARKS ≡ true → IsFit version keys.Marks (pos n ∷ [])
-fit-marks version n high = record { words = refl; ranged = single 0 MOST_MARKS n (omega arith) (grind (arith, nat_tests)); convex = refl }
+pub fit-marks : (version n : ℕ) → leb n MOST_MARKS ≡ true → MayStand version keys.Marks (pos n ∷ [])
+fit-marks version n high = record { count = refl; few = refl; ranged = single 0 MOST_MARKS n (omega arith) (grind (arith, nat_tests)); corners = refl }
 
 -- ---- points
 
@@ -56,20 +56,21 @@ pair low high x y a b c d =
     let s : leb y high ≡ true = grind (arith, nat_tests) in
     rw (p, q, r, s) refl
 
-pub fit-room : (version : ℕ) (p : Point) → IsBetween LEAST_SIDE (most_side version) p → IsFit version keys.Room (point_numbers p)
-fit-room version p h = record { words = refl; ranged = pair LEAST_SIDE (most_side version) p.x p.y h.left h.right h.bottom h.top; convex = refl }
+pub fit-room : (version : ℕ) (p : Point) → IsBetween LEAST_SIDE (most_side version) p → MayStand version keys.Room (point_numbers p)
+fit-room version p h = record { count = refl; few = refl; ranged = pair LEAST_SIDE (most_side version) p.x p.y h.left h.right h.bottom h.top; corners = refl }
 
-pub fit-start : (version : ℕ) (p : Point) → IsBetween 0 (most_side version) p → IsFit version keys.Start (point_numbers p)
-fit-start version p h = record { words = refl; ranged = pair 0 (most_side version) p.x p.y h.left h.right h.bottom h.top; convex = refl }
+pub fit-start : (version : ℕ) (p : Point) → IsBetween 0 (most_side version) p → MayStand version keys.Start (point_numbers p)
+fit-start version p h = record { count = refl; few = refl; ranged = pair 0 (most_side version) p.x p.y h.left h.right h.bottom h.top; corners = refl }
 
-pub fit-mark : (version : ℕ) (p : Point) → is_mark version p ≡ true → IsFit version keys.Mark (point_numbers p)
+pub fit-mark : (version : ℕ) (p : Point) → is_mark version p ≡ true → MayStand version keys.Mark (point_numbers p)
 fit-mark version p h =
     let most = most_side version in
     let parts = and_parts (leb p.x most) (leb p.y most) h in
     record {
-      words = refl;
+      count = refl;
+      few = refl;
       ranged = pair 0 most p.x p.y (omega arith) (leb-true p.x most parts.0) (omega arith) (leb-true p.y most parts.1);
-      convex = refl;
+      corners = refl;
     }
 
 -- both pairs in range, and in order
@@ -83,17 +84,18 @@ ordered most a b c d right top horizontal vertical =
     let q : leb b d ≡ true = grind (arith, nat_tests) in
     rw (bound a (omega arith), bound b (omega arith), bound c right, bound d top, none a, none b, none c, none d, p, q) refl
 
-pub fit-goal : (version : ℕ) (goal : Goal) → is_goal version goal ≡ true → IsFit version keys.Goal (goal_numbers goal)
+pub fit-goal : (version : ℕ) (goal : Goal) → is_goal version goal ≡ true → MayStand version keys.Goal (goal_numbers goal)
 fit-goal version goal h =
     let most = most_side version in
     let parts = and_parts (leb goal.high.x most && leb goal.high.y most) (leb goal.low.x goal.high.x && leb goal.low.y goal.high.y) h in
     let most_parts = and_parts (leb goal.high.x most) (leb goal.high.y most) parts.0 in
     let order = and_parts (leb goal.low.x goal.high.x) (leb goal.low.y goal.high.y) parts.1 in
     record {
-      words = refl;
+      count = refl;
+      few = refl;
       ranged = ordered most goal.low.x goal.low.y goal.high.x goal.high.y (leb-true goal.high.x most most_parts.0) (leb-true goal.high.y most most_parts.1)
           (leb-true goal.low.x goal.high.x order.0) (leb-true goal.low.y goal.high.y order.1);
-      convex = refl;
+      corners = refl;
     }
 
 -- ---- polygons
@@ -172,23 +174,19 @@ body-shaped corners h =
     IsShaped-one corners (shape (eqb (length corners) 1) (is_strictly_convex corners) (length corners)
     (and_parts (eqb (length corners) 1 || (leb (length corners) MOST_BODY_CORNERS && is_strictly_convex corners)) _ h).0 refl)
 
-pub fit-body : (version : ℕ) (corners : List Vertex) → is_body corners ≡ true → IsFit version keys.Body (corner_numbers corners)
+pub fit-body : (version : ℕ) (corners : List Vertex) → is_body corners ≡ true → MayStand version keys.Body (corner_numbers corners)
 fit-body version corners h =
     let shaped = body-shaped corners h in
     let count = length-corner_numbers corners in
+    let few = shaped.few in
     record {
-      words = body-words (length corners) (length (corner_numbers corners)) count shaped.many;
+      count = body-words (length corners) (length (corner_numbers corners)) count shaped.many;
+      few = grind (arith, nat_tests);
       ranged = corners-ranged LEAST_BODY_COORDINATE MOST_BODY_COORDINATE corners
           (and_parts (eqb (length corners) 1 || (leb (length corners) MOST_BODY_CORNERS && is_strictly_convex corners)) _ h).1;
-      convex = ap (λ vs. eqb (length (corner_numbers corners)) 2 || is_strictly_convex vs) (corners_from-numbers corners)
+      corners = ap (λ vs. eqb (length (corner_numbers corners)) 2 || is_strictly_convex vs) (corners_from-numbers corners)
           ∙ body-corners (length corners) (length (corner_numbers corners)) (is_strictly_convex corners) count shaped.convex;
     }
-
-pub few-body : (corners : List Vertex) → is_body corners ≡ true → ltb (2 * MOST_BODY_CORNERS) (length (corner_numbers corners)) ≡ false
-few-body corners h =
-    let few = (body-shaped corners h).few in
-    let count = length-corner_numbers corners in
-    grind (arith, nat_tests)
 
 obstacle-parts : (version : ℕ) (corners : List Vertex) → is_obstacle version corners ≡ true
     → (length corners ≤ MOST_OBSTACLE_CORNERS) × (is_strictly_convex corners ≡ true)
@@ -197,19 +195,15 @@ obstacle-parts version corners h =
     (and_parts (leb (length corners) MOST_OBSTACLE_CORNERS && is_strictly_convex corners) _ h).0 in
     (grind (arith, nat_tests), parts.1)
 
-pub fit-obstacle : (version : ℕ) (corners : List Vertex) → is_obstacle version corners ≡ true → IsFit version keys.Obstacle (corner_numbers corners)
+pub fit-obstacle : (version : ℕ) (corners : List Vertex) → is_obstacle version corners ≡ true → MayStand version keys.Obstacle (corner_numbers corners)
 fit-obstacle version corners h =
-    let convex = (obstacle-parts version corners h).1 in
+    let parts = obstacle-parts version corners h in
+    let few = parts.0 in
+    let count = length-corner_numbers corners in
     record {
-      words = words-many (length corners) (length (corner_numbers corners)) (length-corner_numbers corners) (convex-many corners convex);
+      count = words-many (length corners) (length (corner_numbers corners)) count (convex-many corners parts.1);
+      few = grind (arith, nat_tests);
       ranged = corners-ranged (least_obstacle_coordinate version) (most_obstacle_coordinate version) corners
           (and_parts (leb (length corners) MOST_OBSTACLE_CORNERS && is_strictly_convex corners) _ h).1;
-      convex = ap is_strictly_convex (corners_from-numbers corners) ∙ convex;
+      corners = ap is_strictly_convex (corners_from-numbers corners) ∙ parts.1;
     }
-
-pub small-obstacle : (version : ℕ) (corners : List Vertex) → is_obstacle version corners ≡ true
-    → ltb (2 * MOST_OBSTACLE_CORNERS) (length (corner_numbers corners)) ≡ false
-small-obstacle version corners h =
-    let few = (obstacle-parts version corners h).0 in
-    let count = length-corner_numbers corners in
-    grind (arith, nat_tests)

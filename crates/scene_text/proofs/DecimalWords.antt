@@ -2,7 +2,7 @@
 use Rattle.scene_text.proofs.Words.{◌≡◌, ℕ, ◌+◌, ◌-◌, ◌*◌, ◌/◌, ◌%◌, ◌^◌, ◌<◌, ◌≤◌, true, false, not, ◌&&◌, eqb, ltb, zero, suc, ℤ, pos, negsuc, List, [], ◌∷◌}
 use Rattle.scene_text.proofs.Words.{◌++◌, length, refl, ap, ◌∙◌, decimal, arith, signed_decimal, list_all, decimal_by_steps, decimal_nonempty, decimal_digit}
 use Rattle.scene_text.proofs.Words.{list_all-append, fold-append, nat_tests, and_parts, is_digit, is_positive, is_number, magnitude, value_of}
-use Rattle.scene_text.proofs.StatementTexts.{is_inner, is_word}
+use Rattle.scene_text.proofs.StatementTexts.{is_inner, is_word, list_all-weaker}
 
 -- the number has at most 64 bits
 abbrev pub IsShort : ℤ → Type 0
@@ -50,16 +50,10 @@ digits-decimal n h = decimal_by_steps AreDigitsOf AreDigitsOf-one AreDigitsOf-mo
 inner-digit : (b : ℕ) → is_digit b ≡ true → is_inner b ≡ true
 inner-digit b h = grind (arith, nat_tests)
 
-inner-digits : (digits : List ℕ) → list_all is_digit digits ≡ true → list_all is_inner digits ≡ true
-inner-digits [] h = refl
-inner-digits (b ∷ digits) h =
-    let parts = and_parts (is_digit b) (list_all is_digit digits) h in
-    rw (inner-digit b parts.0, inner-digits digits parts.1) refl
-
 is_word-decimal : (n : ℕ) → n < 2 ^ 64 → is_word (decimal n) ≡ true
 is_word-decimal n h =
     let some : ltb 0 (length (decimal n)) ≡ true = grind (arith, nat_tests, decimal_nonempty n h) in
-    rw (some, inner-digits (decimal n) (digits-decimal n h).digital) refl
+    rw (some, list_all-weaker is_digit is_inner inner-digit (decimal n) (digits-decimal n h).digital) refl
 
 is_word-minus : (digits : List ℕ) → is_word digits ≡ true → is_word (45 ∷ digits) ≡ true
 is_word-minus digits h =

@@ -1,8 +1,8 @@
 -- The scene that a draft gives: its fields are in their ranges, and are those of the lines.
-use Rattle.scene_text.proofs.Words.{◌≡◌, ℕ, ◌≤◌, true, ℤ, Option, Some, None, List, [], ◌∷◌, length, map, All, eqb, refl, sym, ap, ◌∙◌, subst, arith, unwrap_or}
-use Rattle.scene_text.proofs.Words.{length-map, All-head, Point, Vertex, Goal, Key, LEAST_SIDE, LEAST_STEP, MOST_GAMMA, MOST_STRIPS, IsBetween, are_goals}
+use Rattle.scene_text.proofs.Words.{◌≡◌, ℕ, ◌≤◌, true, ℤ, Option, Some, None, List, [], ◌∷◌, length, map, All, eqb, refl, sym, ap, ap₂, ◌∙◌, subst, arith, unwrap_or}
+use Rattle.scene_text.proofs.Words.{length-map, All-head, Point, Goal, Key, LEAST_SIDE, LEAST_STEP, MOST_GAMMA, MOST_STRIPS, IsBetween, are_goals}
 use Rattle.scene_text.proofs.Words.{are_obstacles, is_body, is_plan, may_be_informed, most_clearance, most_side, most_step, is_inhabited, corners_from}
-use Rattle.scene_text.proofs.Words.{fault_at_end, MayStand, AllMayStand, first_of, number_or, point_from, goal_from, body_from, plan_from, point_numbers}
+use Rattle.scene_text.proofs.Words.{fault_at_end, MayStand, AllMayStand, first_of, number_or, goal_from, body_from, plan_from, point_numbers}
 use Rattle.scene_text.proofs.Words.{goal_numbers, corner_numbers, IsWithin, room-within, body-within, start-within, goals-within, step-within, clearance-within}
 use Rattle.scene_text.proofs.Words.{gamma-within, informed-by_number, informed-within, strips-within, plan-within, obstacles-given, Draft, line_numbers}
 use Rattle.scene_text.proofs.Words.{amount_numbers, given_by_draft}
@@ -30,45 +30,16 @@ pub default-given : (default : ℕ) (field : Option ℕ) → unwrap_or field def
 default-given default None = refl
 default-given default (Some n) = refl
 
--- the points are read from their numbers
-pub points-given : (points : List Point) → points ≡ map point_from (map point_numbers points)
-points-given [] = refl
-points-given (p ∷ points) = ap (λ rest. p ∷ rest) (points-given points)
+-- what is read from the numbers of values are the values
+pub given_back : {A : Type 0} (numbers : A → List ℤ) (from : List ℤ → A) → ((x : A) → x ≡ from (numbers x)) → (xs : List A) → xs ≡ map from (map numbers xs)
+given_back numbers from each [] = refl
+given_back numbers from each (x ∷ xs) = ap₂ (λ y ys. y ∷ ys) (each x) (given_back numbers from each xs)
 
--- the goals are read from their numbers
-pub goals-given : (goals : List Goal) → goals ≡ map goal_from (map goal_numbers goals)
-goals-given [] = refl
-goals-given (goal ∷ goals) = ap (λ rest. goal ∷ rest) (goals-given goals)
-
--- the polygons are read from the numbers of their corners
-pub polygons-given : (polygons : List (List Vertex)) → polygons ≡ map corners_from (map corner_numbers polygons)
-polygons-given [] = refl
-polygons-given (corners ∷ polygons) =
-    ap (λ rest. corners ∷ rest) (polygons-given polygons)
-    ∙ ap (λ vs. vs ∷ map corners_from (map corner_numbers polygons)) (sym (corners_from-numbers corners))
-
-clearance-default : (version : ℕ) (field : Option ℕ) → All (MayStand version keys.Clearance) (line_numbers amount_numbers field)
-    → unwrap_or field 0 ≤ most_clearance version
-clearance-default version None all = omega arith
-clearance-default version (Some n) all =
-    clearance-within version (amount_numbers n) (All-head (MayStand version keys.Clearance) (amount_numbers n) [] all)
-
-gamma-default : (version : ℕ) (field : Option ℕ) → All (MayStand version keys.Gamma) (line_numbers amount_numbers field) → unwrap_or field 0 ≤ MOST_GAMMA
-gamma-default version None all = omega arith
-gamma-default version (Some n) all =
-    gamma-within version (amount_numbers n) (All-head (MayStand version keys.Gamma) (amount_numbers n) [] all)
-
-strips-default : (version : ℕ) (field : Option ℕ) → All (MayStand version keys.Strips) (line_numbers amount_numbers field)
-    → IsWithin 1 MOST_STRIPS (unwrap_or field 1)
-strips-default version None all = record { above = omega arith; below = omega arith }
-strips-default version (Some n) all =
-    strips-within version (amount_numbers n) (All-head (MayStand version keys.Strips) (amount_numbers n) [] all)
-
-informed-default : (version : ℕ) (field : Option ℕ) → All (MayStand version keys.Informed) (line_numbers amount_numbers field)
-    → may_be_informed version (eqb (unwrap_or field 0) 1) ≡ true
-informed-default version None all = informed-by_number version 0 (omega arith)
-informed-default version (Some n) all =
-    informed-by_number version n (informed-within version (amount_numbers n) (All-head (MayStand version keys.Informed) (amount_numbers n) [] all))
+-- what is so of numbers that may stand after the key, and of the number without its line, is so of a field
+default-stands : (Q : ℕ → Type 0) (version : ℕ) (key : Key) (default : ℕ) (field : Option ℕ) → Q default
+    → ((n : ℕ) → MayStand version key (amount_numbers n) → Q n) → All (MayStand version key) (line_numbers amount_numbers field) → Q (unwrap_or field default)
+default-stands Q version key default None without each all = without
+default-stands Q version key default (Some n) without each all = each n (All-head (MayStand version key) (amount_numbers n) [] all)
 
 -- ---- what is missing
 
@@ -106,16 +77,21 @@ AreWithin-draft version draft h =
     record {
       room = λ p known. room-within version (point_numbers p) (known-stands version keys.Room point_numbers draft.room p (h.stand keys.Room) known);
       body = body-within version (line_numbers corner_numbers draft.body) (h.stand keys.Body);
-      obstacles = ap (are_obstacles version) (polygons-given polygons)
+      obstacles = ap (are_obstacles version) (given_back corner_numbers corners_from (λ vs. sym (corners_from-numbers vs)) polygons)
           ∙ obstacles-given version (map corner_numbers polygons) (h.stand keys.Obstacle) (h.few keys.Obstacle);
-      clearance = clearance-default version draft.clearance (h.stand keys.Clearance);
+      clearance = default-stands (λ n. n ≤ most_clearance version) version keys.Clearance 0 draft.clearance (omega arith)
+          (λ n may. clearance-within version (amount_numbers n) may) (h.stand keys.Clearance);
       start = λ p known. start-within version (point_numbers p) (known-stands version keys.Start point_numbers draft.start p (h.stand keys.Start) known);
-      goals = λ some. ap (are_goals version) (goals-given boxes)
+      goals = λ some. ap (are_goals version) (given_back goal_numbers goal_from (λ goal. refl) boxes)
           ∙ goals-within version (map goal_numbers boxes) (h.stand keys.Goal) (omega (arith, some, length-map boxes goal_numbers)) (h.few keys.Goal);
       step = λ n known. step-within version (amount_numbers n) (known-stands version keys.Step amount_numbers draft.step n (h.stand keys.Step) known);
-      gamma = gamma-default version draft.gamma (h.stand keys.Gamma);
-      strips = strips-default version draft.strips (h.stand keys.Strips);
-      informed = informed-default version draft.informed (h.stand keys.Informed);
+      gamma = default-stands (λ n. n ≤ MOST_GAMMA) version keys.Gamma 0 draft.gamma (omega arith)
+          (λ n may. gamma-within version (amount_numbers n) may) (h.stand keys.Gamma);
+      strips = default-stands (IsWithin 1 MOST_STRIPS) version keys.Strips 1 draft.strips (record { above = omega arith; below = omega arith })
+          (λ n may. strips-within version (amount_numbers n) may) (h.stand keys.Strips);
+      informed = default-stands (λ n. may_be_informed version (eqb n 1) ≡ true) version keys.Informed 0 draft.informed
+          (informed-by_number version 0 (omega arith)) (λ n may. informed-by_number version n (informed-within version (amount_numbers n) may))
+          (h.stand keys.Informed);
       plan = plan-within version (line_numbers amount_numbers draft.drawn) (map point_numbers points) (h.stand keys.Marks) (h.stand keys.Mark)
           (h.few keys.Mark);
     }

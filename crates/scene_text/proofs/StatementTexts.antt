@@ -72,12 +72,15 @@ words_of-join (word ∷ words) h =
 abbrev pub line_of : List (List ℕ) → List ℕ
 line_of words = join_with_byte 32 words
 
+-- what is so of bytes that pass a test is so of each of a list of them
+pub list_all-weaker : (p q : ℕ → Bool) → ((b : ℕ) → p b ≡ true → q b ≡ true) → (bytes : List ℕ) → list_all p bytes ≡ true → list_all q bytes ≡ true
+list_all-weaker p q weaker [] h = refl
+list_all-weaker p q weaker (b ∷ bytes) h =
+    let parts = and_parts (p b) (list_all p bytes) h in
+    rw (weaker b parts.0, list_all-weaker p q weaker bytes parts.1) refl
+
 inner-word : (bytes : List ℕ) → list_all is_inner bytes ≡ true → list_all (λ b. not (eqb b 10)) bytes ≡ true
-inner-word [] h = refl
-inner-word (b ∷ bytes) h =
-    let parts = and_parts (is_inner b) (list_all is_inner bytes) h in
-    let inner = (and_parts (not (eqb b 32)) (not (eqb b 10)) parts.0).1 in
-    rw (inner, inner-word bytes parts.1) refl
+inner-word = list_all-weaker is_inner (λ b. not (eqb b 10)) (λ b h. (and_parts (not (eqb b 32)) (not (eqb b 10)) h).1)
 
 inner-line : (words : List (List ℕ)) → list_all is_word words ≡ true → list_all (λ b. not (eqb b 10)) (line_of words) ≡ true
 inner-line [] h = refl
@@ -157,15 +160,6 @@ abbrev pub AreSoundAfter : (Key → Bool) → ℕ → List (List (List ℕ)) →
 AreSoundAfter built version before [] = Unit {0}
 AreSoundAfter built version before (words ∷ statements) =
     (fault_of_statement built version (given_by before) words ≡ None) × AreSoundAfter built version (before ++ words ∷ []) statements
-
-pub AreSoundAfter-append : (built : Key → Bool) (version : ℕ) (before xs ys : List (List (List ℕ))) → AreSoundAfter built version before xs
-    → AreSoundAfter built version (before ++ xs) ys → AreSoundAfter built version before (xs ++ ys)
-AreSoundAfter-append built version before [] ys h k = subst (λ prefix. AreSoundAfter built version prefix ys) (append-nil before) k
-AreSoundAfter-append built version before (words ∷ xs) ys h k = (
-  h.0,
-  AreSoundAfter-append built version (before ++ words ∷ []) xs ys h.1
-      (subst (λ prefix. AreSoundAfter built version prefix ys) (sym (append_assoc before (words ∷ []) xs)) k),
-)
 
 -- the first statement gives the version
 pub AreSound-after : (format : Format) (version : ℕ) (first : List (List ℕ)) (before statements : List (List (List ℕ)))

@@ -21,12 +21,12 @@ pub use Rattle.plan_model.specs.Scenes.Limits.{is_plan, least_obstacle_coordinat
 pub use Rattle.plan_model.specs.Scenes.Limits.{most_side, most_step}
 pub use Rattle.plan_model.specs.Texts.CanonicalText.{Covers, canonical_statements, canonical_text, clearance_statements, corner_numbers, goal_numbers}
 pub use Rattle.plan_model.specs.Texts.CanonicalText.{goal_statement, informed_statements, mark_statement, obstacle_statement, plan_statements, point_numbers}
-pub use Rattle.plan_model.specs.Texts.CanonicalText.{search_statements, statement, task_statements, version_statement}
+pub use Rattle.plan_model.specs.Texts.CanonicalText.{has_key, search_statements, statement, task_statements, version_statement}
 pub use Rattle.plan_model.specs.Texts.Keys.{every_key, fits_words, format_name, is_key, key_among, key_of, least_of, most_corners, most_lines, most_of, name_of}
 pub use Rattle.plan_model.specs.Texts.Keys.{rival_of, version_word}
 pub use Rattle.plan_model.specs.Texts.LineChecks.{AllMayStand, Check, Format, Given, MayStand, are_between, begins_with, corners_from, fault_after}
 pub use Rattle.plan_model.specs.Texts.LineChecks.{fault_at_end, fault_at_key, fault_of_statement, fault_of_version, fault_of_words, first_failing, given_by}
-pub use Rattle.plan_model.specs.Texts.LineChecks.{has_corners, is_in_range, is_inhabited, is_ordered, is_repeated, is_too_many, stands, version_of}
+pub use Rattle.plan_model.specs.Texts.LineChecks.{has_corners, is_in_range, is_inhabited, is_ordered, is_repeated, is_too_many, stands, stands_any, version_of}
 pub use Rattle.plan_model.specs.Texts.LineChecks.{with_statement}
 pub use Rattle.plan_model.specs.Texts.SceneBatches.{AreSpelledBelow, Part, RefusesBatch, SpellsBatch, lines_before, part_text, parts_of, separator, text_of}
 pub use Rattle.plan_model.specs.Texts.SceneGrammar.{HasFields, IsSoundBelow, Refused, Spells, body_from, fault_of_end, fault_of_line, first_of}

@@ -25,9 +25,9 @@ pub record IsNext (tree : List (Option Twig)) (fall : ℕ) (costs : List ℕ) (m
 
 -- a node that is to be lowered is so
 pub IsNext-last :
-    (tree : List (Option Twig)) (node fall : ℕ) (entry : ℕ → ℕ) (costs before middle : List ℕ) (m : ℕ) → length costs ≡ length tree → fall ≤ entry node
+    {tree : List (Option Twig)} {node fall : ℕ} {entry : ℕ → ℕ} (costs before middle : List ℕ) (m : ℕ) → length costs ≡ length tree → fall ≤ entry node
     → IsUnderway tree node fall entry (λ n. get_or costs n 0) (times before) → before ≡ middle ++ m ∷ [] → IsNext tree fall costs m
-IsNext-last tree node fall entry costs before middle m each enough underway taken =
+IsNext-last {tree} costs before middle m each enough underway taken =
     let was = underway.pending m (times-taken before middle m taken) in
     record {
       present = was.1.present;

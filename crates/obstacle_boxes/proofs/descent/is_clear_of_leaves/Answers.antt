@@ -12,8 +12,7 @@ loop-low-preserved-then-meets g c =
     let more : c.loop-low.next ≡ n + 1 = omega arith in
     let h = subst (HasSearched c.args.nodes.now c.args.zones.now c.args.a c.args.b c.args.steps.now c.loop-low.steps) more c.loop-low.invariant.searched in
     record {
-      searched = HasSearched-into c.args.nodes.now c.args.zones.now c.args.a c.args.b c.args.steps.now c.loop-low.steps n _ _ _ _ _ h (omega arith)
-          c.in-Halves.is;
+      searched = HasSearched-into n _ _ _ _ _ h (omega arith) c.in-Halves.is;
       apart = elim c.if-first-low.branch [
         | then-first-low+then-not-meets w ↦
             rw w.low-is
@@ -30,8 +29,8 @@ loop-low-preserved-else-meets g c =
     let more : c.loop-low.next ≡ n + 1 = omega arith in
     let h = subst (HasSearched c.args.nodes.now c.args.zones.now c.args.a c.args.b c.args.steps.now c.loop-low.steps) more c.loop-low.invariant.searched in
     record {
-      searched = HasSearched-over c.args.nodes.now c.args.zones.now c.args.a c.args.b c.args.steps.now c.loop-low.steps n _ _ _ _ _ h (omega arith)
-          c.in-Halves.is c.requires.tree c.requires.leaves (rw c.of_segment-segment.ensures at (sym c.if-meets.ensures));
+      searched = HasSearched-over n _ _ _ _ _ h (omega arith) c.in-Halves.is c.requires.tree c.requires.leaves
+          (rw c.of_segment-segment.ensures at (sym c.if-meets.ensures));
       apart = elim c.if-first-low.branch [
         | then-first-low+then-not-meets w ↦
             rw w.low-is
@@ -67,8 +66,7 @@ returns-then-crosses-clause-few g c =
     let more : c.loop-low.next ≡ n + 1 = omega arith in
     let h = subst (HasSearched c.args.nodes.now c.args.zones.now c.args.a c.args.b c.args.steps.now c.loop-low.steps) more c.loop-low.invariant.searched in
     rw c.crosses.ensures.step
-    (tested-within c.args.nodes.now c.args.zones.now c.args.a c.args.b c.args.steps.now c.loop-low.steps n c.in-Zone.leaf _ h (omega arith) c.in-Zone.is
-    (rw c.of_segment-segment.ensures at (sym c.if-meets-2.ensures)))
+    (tested-within n c.in-Zone.leaf _ h (omega arith) c.in-Zone.is (rw c.of_segment-segment.ensures at (sym c.if-meets-2.ensures)))
 
 pub loop-low-preserved : goal.loop-low-preserved
 loop-low-preserved g c =
@@ -85,30 +83,24 @@ loop-low-preserved g c =
             let missed : ¬ Crosses (get_or c.args.zones.now zone []) c.args.a c.args.b = λ x.
             (let yes = w.crosses.ensures.crosses.1 (rw (← is) at x) in let no = w.if-crosses.false in cc) in
             rw (w.steps-is, w.crosses.ensures.step)
-            (HasSearched-tested c.args.nodes.now c.args.zones.now c.args.a c.args.b c.args.steps.now c.loop-low.steps n c.in-Zone.leaf _ h
-            (omega arith) c.in-Zone.is
-            (rw c.of_segment-segment.ensures at (sym w.if-meets-2.ensures)) missed))
+            (HasSearched-tested n c.in-Zone.leaf _ h (omega arith) c.in-Zone.is (rw c.of_segment-segment.ensures at (sym w.if-meets-2.ensures)) missed))
         | else-meets-2-via-else-meets-2 w ↦
             rw w.steps-is
-            (HasSearched-past c.args.nodes.now c.args.zones.now c.args.a c.args.b c.args.steps.now c.loop-low.steps n c.in-Zone.leaf _ h
-            (omega arith) c.in-Zone.is
-            c.requires.leaves (rw c.of_segment-segment.ensures at (sym w.if-meets-2.ensures)))
+            (HasSearched-past n c.in-Zone.leaf _ h (omega arith) c.in-Zone.is c.requires.leaves
+            (rw c.of_segment-segment.ensures at (sym w.if-meets-2.ensures)))
       ];
       apart = c.loop-low.invariant.apart;
     }
 
 pub returns-clause-missed : goal.returns-clause-missed
 returns-clause-missed g c = λ t.
-    (HasSearched-all c.args.nodes.now c.args.zones.now c.args.a c.args.b c.args.steps.now c.loop-low.steps c.loop-low.low c.loop-low.next
-    c.loop-low.invariant.searched c.loop-low.invariant.apart (omega arith) c.requires.leaves).missed
+    (HasSearched-all c.loop-low.low c.loop-low.next c.loop-low.invariant.searched c.loop-low.invariant.apart (omega arith) c.requires.leaves).missed
 
 pub returns-clause-all : goal.returns-clause-all
 returns-clause-all g c = λ t.
-    (HasSearched-all c.args.nodes.now c.args.zones.now c.args.a c.args.b c.args.steps.now c.loop-low.steps c.loop-low.low c.loop-low.next
-    c.loop-low.invariant.searched c.loop-low.invariant.apart (omega arith) c.requires.leaves).tested
+    (HasSearched-all c.loop-low.low c.loop-low.next c.loop-low.invariant.searched c.loop-low.invariant.apart (omega arith) c.requires.leaves).tested
 
 pub returns-clause-few : goal.returns-clause-few
 returns-clause-few g c =
-    let tested = (HasSearched-all c.args.nodes.now c.args.zones.now c.args.a c.args.b c.args.steps.now c.loop-low.steps c.loop-low.low c.loop-low.next
-    c.loop-low.invariant.searched c.loop-low.invariant.apart (omega arith) c.requires.leaves).tested in
-    omega (arith, tested)
+    let all = HasSearched-all c.loop-low.low c.loop-low.next c.loop-low.invariant.searched c.loop-low.invariant.apart (omega arith) c.requires.leaves in
+    omega (arith, all.tested)

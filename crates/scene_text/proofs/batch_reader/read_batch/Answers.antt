@@ -1,6 +1,5 @@
-use Rattle.scene_text.proofs.Words.{List, ◌≡◌, ◌≢◌, ◌+◌, [], ◌∷◌, ◌++◌, length, subst, sym, ◌∙◌, rules, arith, nat_tests, err_from_is_err_and, MOST_SCENES}
-use Rattle.scene_text.proofs.Words.{Scene}
-use Rattle.scene_text.proofs.BatchLemmas.{HasRead, HasRead-more, IsBatchRefusal-many, ReadsParts-more, ReadsParts-refused, SpellsBatch-read}
+use Rattle.scene_text.proofs.Words.{◌≡◌, ◌≢◌, ◌+◌, [], ◌∷◌, ◌++◌, length, ◌∙◌, rules, arith, nat_tests, err_from_is_err_and, MOST_SCENES}
+use Rattle.scene_text.proofs.BatchLemmas.{HasRead-pushed, IsBatchRefusal-many, ReadsParts-more, ReadsParts-refused, SpellsBatch-read}
 use Rattle.scene_text.proofs.batch_reader.read_batch.Goals as goal
 
 pub returns-in_err-part-clause-fault : goal.returns-in_err-part-clause-fault
@@ -15,9 +14,7 @@ returns-in_default-clause-scenes c =
     let part = c.in_ok-part.part in
     let is = c.in_ok-part.ensures in
     let pushed : c.push.new.self.items ≡ c.loop-scenes.scenes.items ++ part.scene ∷ [] = search rules in
-    let read = HasRead-more text c.loop-scenes.scenes.items c.loop-scenes.before c.loop-scenes.rest.now c.loop-scenes.invariant part.scene part.lines
-    part.rest.now is.scene is.lines is.rest is.shorter in
-    let kept = subst (λ (scenes : List Scene). HasRead text scenes (c.loop-scenes.before + (part.lines + 1)) part.rest.now) (sym pushed) read in
+    let kept = HasRead-pushed part.rest.now c.push.new.self.items c.loop-scenes.invariant pushed is.scene is.lines is.rest is.shorter in
     SpellsBatch-read text c.push.new.self.items _ part.rest.now kept c.in_default.ensures.none
 
 pub returns-then-len-eq-MOST_SCENES-clause-fault : goal.returns-then-len-eq-MOST_SCENES-clause-fault
@@ -26,9 +23,7 @@ returns-then-len-eq-MOST_SCENES-clause-fault c =
     let part = c.in_ok-part.part in
     let is = c.in_ok-part.ensures in
     let pushed : c.push.new.self.items ≡ c.loop-scenes.scenes.items ++ part.scene ∷ [] = search rules in
-    let read = HasRead-more text c.loop-scenes.scenes.items c.loop-scenes.before c.loop-scenes.rest.now c.loop-scenes.invariant part.scene part.lines
-    part.rest.now is.scene is.lines is.rest is.shorter in
-    let kept = subst (λ (scenes : List Scene). HasRead text scenes (c.loop-scenes.before + (part.lines + 1)) part.rest.now) (sym pushed) read in
+    let kept = HasRead-pushed part.rest.now c.push.new.self.items c.loop-scenes.invariant pushed is.scene is.lines is.rest is.shorter in
     let long = c.len.ensures ∙ c.push.new.self.ok.0 in
     let test = c.if-len-eq-MOST_SCENES.true in
     let most : length c.push.new.self.items ≡ MOST_SCENES = grind (arith, nat_tests, long, test) in
@@ -40,9 +35,7 @@ loop-scenes-preserved c =
     let part = c.in_ok-part.part in
     let is = c.in_ok-part.ensures in
     let pushed : c.push.new.self.items ≡ c.loop-scenes.scenes.items ++ part.scene ∷ [] = search rules in
-    let read = HasRead-more text c.loop-scenes.scenes.items c.loop-scenes.before c.loop-scenes.rest.now c.loop-scenes.invariant part.scene part.lines
-    part.rest.now is.scene is.lines is.rest is.shorter in
-    let kept = subst (λ (scenes : List Scene). HasRead text scenes (c.loop-scenes.before + (part.lines + 1)) part.rest.now) (sym pushed) read in
+    let kept = HasRead-pushed part.rest.now c.push.new.self.items c.loop-scenes.invariant pushed is.scene is.lines is.rest is.shorter in
     let long = c.len.ensures ∙ c.push.new.self.ok.0 in
     let test = c.if-len-eq-MOST_SCENES.false in
     let other : length c.push.new.self.items ≢ MOST_SCENES = grind (arith, nat_tests, long, test) in

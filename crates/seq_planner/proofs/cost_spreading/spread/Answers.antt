@@ -6,34 +6,23 @@ use Rattle.seq_planner.proofs.cost_spreading.spread.Goals as goal
 
 pub index_mut-requires : goal.index_mut-requires
 index_mut-requires c =
-    let costs = c.loop-number.costs.items in
-    let next =
-    IsNext-last c.args.tree.now c.args.node c.args.fall (λ n. get_or c.args.costs.now.items n 0) costs c.loop-number.pending.items c.pop.new.self.items
-    c.in-Some.number c.loop-number.invariant.each c.requires.enough c.loop-number.invariant.underway c.in-Some.ensures.items in
+    let next = IsNext-last _ _ _ _ c.loop-number.invariant.each c.requires.enough c.loop-number.invariant.underway c.in-Some.ensures.items in
     omega (arith, next.within)
 
 pub overflow_sub-index_mut : goal.overflow_sub-index_mut
 overflow_sub-index_mut c =
     let costs = c.loop-number.costs.items in
-    let next =
-    IsNext-last c.args.tree.now c.args.node c.args.fall (λ n. get_or c.args.costs.now.items n 0) costs c.loop-number.pending.items c.pop.new.self.items
-    c.in-Some.number c.loop-number.invariant.each c.requires.enough c.loop-number.invariant.underway c.in-Some.ensures.items in
+    let next = IsNext-last _ _ _ _ c.loop-number.invariant.each c.requires.enough c.loop-number.invariant.underway c.in-Some.ensures.items in
     omega (arith, get_or_default_zero costs c.in-Some.number c.index_mut.result.now next.within, c.index_mut.ensures.value, next.enough)
 
 pub push_children-requires : goal.push_children-requires
 push_children-requires c =
-    let costs = c.loop-number.costs.items in
-    let next =
-    IsNext-last c.args.tree.now c.args.node c.args.fall (λ n. get_or c.args.costs.now.items n 0) costs c.loop-number.pending.items c.pop.new.self.items
-    c.in-Some.number c.loop-number.invariant.each c.requires.enough c.loop-number.invariant.underway c.in-Some.ensures.items in
-    next.present
+    (IsNext-last _ _ _ _ c.loop-number.invariant.each c.requires.enough c.loop-number.invariant.underway c.in-Some.ensures.items).present
 
 pub loop-number-smaller : goal.loop-number-smaller
 loop-number-smaller c =
     let costs = c.loop-number.costs.items in
-    let next =
-    IsNext-last c.args.tree.now c.args.node c.args.fall (λ n. get_or c.args.costs.now.items n 0) costs c.loop-number.pending.items c.pop.new.self.items
-    c.in-Some.number c.loop-number.invariant.each c.requires.enough c.loop-number.invariant.underway c.in-Some.ensures.items in
+    let next = IsNext-last _ _ _ _ c.loop-number.invariant.each c.requires.enough c.loop-number.invariant.underway c.in-Some.ensures.items in
     let cost = get_or_default_zero costs c.in-Some.number c.index_mut.result.now next.within in
     sum-lowered costs c.in-Some.number (c.index_mut.result.now - c.args.fall) c.args.fall next.within c.requires.some
     (omega (arith, cost, c.index_mut.ensures.value, next.enough))
@@ -57,9 +46,7 @@ loop-number-preserved c =
     let lowered : ℕ = c.index_mut.result.now - c.args.fall in
     let before = c.loop-number.pending.items in
     let after = c.push_children.new.list.items in
-    let next =
-    IsNext-last tree c.args.node c.args.fall entry costs before c.pop.new.self.items number c.loop-number.invariant.each c.requires.enough
-    c.loop-number.invariant.underway c.in-Some.ensures.items in
+    let next = IsNext-last _ _ _ _ c.loop-number.invariant.each c.requires.enough c.loop-number.invariant.underway c.in-Some.ensures.items in
     let cost = get_or_default_zero costs number c.index_mut.result.now next.within in
     let turn =
     IsTurn-lists tree c.args.fall costs before c.pop.new.self.items after number lowered next.within

@@ -1,63 +1,33 @@
-use Rattle.scene_text.proofs.Words.{◌≤◌, eqb, length, refl, ap, ◌∙◌, arith, common_steps, point_from, number_or, point_numbers, amount_numbers}
-use Rattle.scene_text.proofs.DraftScenes.{AreWithin-draft, known-given, default-given, goals-given, polygons-given, complete-draft}
+use Rattle.scene_text.proofs.Words.{◌≤◌, eqb, length, refl, sym, ap, rules, corners_from, corner_numbers, goal_from, goal_numbers, ◌∙◌, arith, common_steps, point_from, number_or, point_numbers, amount_numbers}
+use Rattle.scene_text.proofs.DraftScenes.{AreWithin-draft, known-given, default-given, given_back, complete-draft}
+use Rattle.scene_text.proofs.CanonicalNumbers.{corners_from-numbers}
 use Rattle.scene_text.proofs.drafts.Draft.into_scene.Goals as goal
 
-pub invariant_of-result-clause-room_within : goal.invariant_of-result-clause-room_within
-invariant_of-result-clause-room_within c =
+pub invariant_of-result : goal.invariant_of-result
+invariant_of-result c =
+    let version = c.in-Some.version in
     let known = c.in-Some-Some-Some in
-    (AreWithin-draft c.in-Some.version c.args.self (c.requires.stand c.in-Some.version c.in-Some.is)).room known.room known.is-0
-
-pub invariant_of-result-clause-body_within : goal.invariant_of-result-clause-body_within
-invariant_of-result-clause-body_within c =
-    rw c.in_ok-body.ensures (AreWithin-draft c.in-Some.version c.args.self (c.requires.stand c.in-Some.version c.in-Some.is)).body
-
-pub invariant_of-result-clause-obstacles_within : goal.invariant_of-result-clause-obstacles_within
-invariant_of-result-clause-obstacles_within c =
-    rw c.from_vec.ensures (AreWithin-draft c.in-Some.version c.args.self (c.requires.stand c.in-Some.version c.in-Some.is)).obstacles
-
-pub invariant_of-result-clause-start_within : goal.invariant_of-result-clause-start_within
-invariant_of-result-clause-start_within c =
-    let known = c.in-Some-Some-Some in
-    (AreWithin-draft c.in-Some.version c.args.self (c.requires.stand c.in-Some.version c.in-Some.is)).start known.start known.is-1
-
-pub invariant_of-result-clause-clearance_high : goal.invariant_of-result-clause-clearance_high
-invariant_of-result-clause-clearance_high c =
-    rw c.unwrap_or.ensures (AreWithin-draft c.in-Some.version c.args.self (c.requires.stand c.in-Some.version c.in-Some.is)).clearance
-
-pub invariant_of-result-clause-goals_within : goal.invariant_of-result-clause-goals_within
-invariant_of-result-clause-goals_within c =
+    let within = AreWithin-draft version c.args.self (c.requires.stand version c.in-Some.is) in
+    let step = within.step known.step known.is-2 in
     let some : 1 ≤ length c.args.self.goals.items = grind (arith, common_steps) in
-    rw c.from_vec-2.ensures ((AreWithin-draft c.in-Some.version c.args.self (c.requires.stand c.in-Some.version c.in-Some.is)).goals some)
-
-pub invariant_of-result-clause-step_low : goal.invariant_of-result-clause-step_low
-invariant_of-result-clause-step_low c =
-    let known = c.in-Some-Some-Some in
-    ((AreWithin-draft c.in-Some.version c.args.self (c.requires.stand c.in-Some.version c.in-Some.is)).step known.step known.is-2).above
-
-pub invariant_of-result-clause-step_high : goal.invariant_of-result-clause-step_high
-invariant_of-result-clause-step_high c =
-    let known = c.in-Some-Some-Some in
-    ((AreWithin-draft c.in-Some.version c.args.self (c.requires.stand c.in-Some.version c.in-Some.is)).step known.step known.is-2).below
-
-pub invariant_of-result-clause-gamma_high : goal.invariant_of-result-clause-gamma_high
-invariant_of-result-clause-gamma_high c =
-    rw c.unwrap_or-2.ensures (AreWithin-draft c.in-Some.version c.args.self (c.requires.stand c.in-Some.version c.in-Some.is)).gamma
-
-pub invariant_of-result-clause-strips_low : goal.invariant_of-result-clause-strips_low
-invariant_of-result-clause-strips_low c =
-    rw c.unwrap_or-4.ensures (AreWithin-draft c.in-Some.version c.args.self (c.requires.stand c.in-Some.version c.in-Some.is)).strips.above
-
-pub invariant_of-result-clause-strips_high : goal.invariant_of-result-clause-strips_high
-invariant_of-result-clause-strips_high c =
-    rw c.unwrap_or-4.ensures (AreWithin-draft c.in-Some.version c.args.self (c.requires.stand c.in-Some.version c.in-Some.is)).strips.below
-
-pub invariant_of-result-clause-informed_within : goal.invariant_of-result-clause-informed_within
-invariant_of-result-clause-informed_within c =
-    rw c.unwrap_or-5.ensures (AreWithin-draft c.in-Some.version c.args.self (c.requires.stand c.in-Some.version c.in-Some.is)).informed
-
-pub invariant_of-result-clause-plan_within : goal.invariant_of-result-clause-plan_within
-invariant_of-result-clause-plan_within c =
-    rw c.plan_of.ensures (AreWithin-draft c.in-Some.version c.args.self (c.requires.stand c.in-Some.version c.in-Some.is)).plan
+    record {
+      version_low = c.requires.low version c.in-Some.is;
+      version_high = c.requires.high version c.in-Some.is;
+      room_within = within.room known.room known.is-0;
+      body_within = rw c.in_ok-body.ensures within.body;
+      obstacles_within = rw c.from_vec.ensures within.obstacles;
+      clearance_high = rw c.unwrap_or.ensures within.clearance;
+      start_within = within.start known.start known.is-1;
+      goals_within = rw c.from_vec-2.ensures (within.goals some);
+      step_low = step.above;
+      step_high = step.below;
+      gamma_high = rw c.unwrap_or-2.ensures within.gamma;
+      seed_high = search rules;
+      strips_low = rw c.unwrap_or-4.ensures within.strips.above;
+      strips_high = rw c.unwrap_or-4.ensures within.strips.below;
+      informed_within = rw c.unwrap_or-5.ensures within.informed;
+      plan_within = rw c.plan_of.ensures within.plan;
+    }
 
 pub returns-clause-complete : goal.returns-clause-complete
 returns-clause-complete c =
@@ -73,10 +43,10 @@ returns-clause-fields c =
       version = c.in-Some.is;
       room = known-given point_numbers point_from draft.room known.room known.is-0 refl;
       body = c.in_ok-body.ensures;
-      obstacles = c.from_vec.ensures ∙ polygons-given draft.obstacles.items;
+      obstacles = c.from_vec.ensures ∙ given_back corner_numbers corners_from (λ vs. sym (corners_from-numbers vs)) draft.obstacles.items;
       clearance = c.unwrap_or.ensures ∙ default-given 0 draft.clearance;
       start = known-given point_numbers point_from draft.start known.start known.is-1 refl;
-      goals = c.from_vec-2.ensures ∙ goals-given draft.goals.items;
+      goals = c.from_vec-2.ensures ∙ given_back goal_numbers goal_from (λ goal. refl) draft.goals.items;
       step = known-given amount_numbers (number_or 0) draft.step known.step known.is-2 refl;
       gamma = c.unwrap_or-2.ensures ∙ default-given 0 draft.gamma;
       seed = c.unwrap_or-3.ensures ∙ default-given 0 draft.seed;

@@ -6,37 +6,34 @@ use Rattle.seq_planner.proofs.PresentNumbers.{ArePlaced-bounded, ArePlaced-count
 use Rattle.seq_planner.proofs.SoundTrees.{some_present}
 use Rattle.seq_planner.proofs.search_tree.SearchTree.nearest.Goals as goal
 
-pub nearest-requires-clause-some : goal.nearest-requires-clause-some
-nearest-requires-clause-some c =
+pub nearest-requires : goal.nearest-requires
+nearest-requires c =
     let tree = c.args.self.now in
-    omega (
-      arith,
-      ArePlaced-count (points_of tree.nodes) tree.placed c.requires.sound.are_placed,
-      some_present tree.nodes tree.costs.items tree.placed c.requires.sound,
-    )
+    let placed = c.requires.sound.are_placed in
+    record {
+      some = omega (
+        arith,
+        ArePlaced-count (points_of tree.nodes) tree.placed placed,
+        some_present tree.nodes tree.costs.items tree.placed c.requires.sound,
+      );
+      numbered = ArePlaced-numbered (points_of tree.nodes) tree.placed placed;
+      nodes = ArePlaced-bounded (points_of tree.nodes) tree.placed placed c.requires.sound.bounded;
+      bounded = c.requires.bounded;
+    }
 
-pub nearest-requires-clause-numbered : goal.nearest-requires-clause-numbered
-nearest-requires-clause-numbered c = ArePlaced-numbered (points_of c.args.self.now.nodes) c.args.self.now.placed c.requires.sound.are_placed
-
-pub nearest-requires-clause-nodes : goal.nearest-requires-clause-nodes
-nearest-requires-clause-nodes c =
-    ArePlaced-bounded (points_of c.args.self.now.nodes) c.args.self.now.placed c.requires.sound.are_placed c.requires.sound.bounded
-
-pub nearest_listed-requires-clause-present : goal.nearest_listed-requires-clause-present
-nearest_listed-requires-clause-present c =
+pub nearest_listed-requires : goal.nearest_listed-requires
+nearest_listed-requires c =
     let points = points_of c.args.self.now.nodes in
     let r = c.requires.near.0 in
     let some : 0 < length c.args.near.now = search rules in
     let listed = near-listed points c.args.mark r c.args.near.now c.requires.near.1 some in
-    subst (All (IsPresent points)) (sym listed) (near-present points c.args.mark r)
-
-pub nearest_listed-requires-clause-rising : goal.nearest_listed-requires-clause-rising
-nearest_listed-requires-clause-rising c =
-    let points = points_of c.args.self.now.nodes in
-    let r = c.requires.near.0 in
-    let some : 0 < length c.args.near.now = search rules in
-    let listed = near-listed points c.args.mark r c.args.near.now c.requires.near.1 some in
-    subst IsStrictlyIncreasing (sym listed) (near-rising points c.args.mark r)
+    record {
+      some = some;
+      present = subst (All (IsPresent points)) (sym listed) (near-present points c.args.mark r);
+      rising = subst IsStrictlyIncreasing (sym listed) (near-rising points c.args.mark r);
+      sound = c.requires.sound;
+      bounded = c.requires.bounded;
+    }
 
 pub returns-else-is_empty : goal.returns-else-is_empty
 returns-else-is_empty c =

@@ -1,4 +1,4 @@
-use Rattle.seq_planner.proofs.Words.{arith, points_of-cheaper_parent, IsPresent-cheaper_parent, CostsFall-cheaper_parent}
+use Rattle.seq_planner.proofs.Words.{arith, rules, points_of-cheaper_parent, IsPresent-cheaper_parent, CostsFall-cheaper_parent}
 use Rattle.seq_planner.proofs.ReadCheaperNodes.{IsCheaper-read}
 use Rattle.seq_planner.proofs.RewiredNodes.{OnOk-two, child-cheaper, HasCheaperParent-cheaper, IsSound-rewired}
 use Rattle.seq_planner.proofs.search_tree.SearchTree.rewire_one.Goals as goal
@@ -17,35 +17,20 @@ set_parent-requires-clause-child g c =
     c.point.ensures c.parent-cost_through.ensures.cost c.index.ensures in
     child-cheaper is
 
-pub spread-requires-clause-child : goal.spread-requires-clause-child
-spread-requires-clause-child g c =
-    let is =
-    IsCheaper-read c.requires.sound c.requires.present c.requires.near (c.is_cheaper.ensures.0 c.if-not-is_cheaper.false)
-    c.point.ensures c.parent-cost_through.ensures.cost c.index.ensures in
-    child-cheaper is
-
-pub spread-requires-clause-present : goal.spread-requires-clause-present
-spread-requires-clause-present g c =
+pub spread-requires : goal.spread-requires
+spread-requires g c =
     let is =
     IsCheaper-read c.requires.sound c.requires.present c.requires.near (c.is_cheaper.ensures.0 c.if-not-is_cheaper.false)
     c.point.ensures c.parent-cost_through.ensures.cost c.index.ensures in
     let change = HasCheaperParent-cheaper is c.set_parent.ensures in
-    IsPresent-cheaper_parent _ _ _ _ _ _ change c.args.near_node c.requires.near
-
-pub spread-requires-clause-falling : goal.spread-requires-clause-falling
-spread-requires-clause-falling g c =
-    let is =
-    IsCheaper-read c.requires.sound c.requires.present c.requires.near (c.is_cheaper.ensures.0 c.if-not-is_cheaper.false)
-    c.point.ensures c.parent-cost_through.ensures.cost c.index.ensures in
-    let change = HasCheaperParent-cheaper is c.set_parent.ensures in
-    CostsFall-cheaper_parent _ _ _ _ _ _ change c.requires.sound.falling
-
-pub spread-requires-clause-some : goal.spread-requires-clause-some
-spread-requires-clause-some g c =
-    let is =
-    IsCheaper-read c.requires.sound c.requires.present c.requires.near (c.is_cheaper.ensures.0 c.if-not-is_cheaper.false)
-    c.point.ensures c.parent-cost_through.ensures.cost c.index.ensures in
-    omega (arith, is.less)
+    record {
+      child = child-cheaper is;
+      present = IsPresent-cheaper_parent _ _ _ _ _ _ change c.args.near_node c.requires.near;
+      each = search rules;
+      falling = CostsFall-cheaper_parent _ _ _ _ _ _ change c.requires.sound.falling;
+      some = omega (arith, is.less);
+      enough = search rules;
+    }
 
 pub returns-clause-sound : goal.returns-clause-sound
 returns-clause-sound g c =
