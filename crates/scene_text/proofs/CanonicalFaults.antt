@@ -1,12 +1,11 @@
 -- The statements of a scene's canonical text, by keys: a statement for each list of numbers that the scene has for the key. None has a fault.
-use Rattle.scene_text.proofs.Words.{◌≡◌, ℕ, ◌+◌, ◌≤◌, ◌&&◌, ◌||◌, not, Bool, true, false, cond, eqb, leb, zero, suc, ℤ, pos, Option, Some, None, List, [], ◌∷◌, ◌++◌}
-use Rattle.scene_text.proofs.Words.{length, map, refl, sym, ap, ap₂, ◌∙◌, arith, list_all, nat_tests, and_parts, leb-true, append-nil, append_assoc}
-use Rattle.scene_text.proofs.Words.{length-map, Goal, Scene, Marks, Drawn, Listed, Key, MOST_MARKS, MOST_OBSTACLES, is_goal, is_mark, is_obstacle, is_plan}
+use Rattle.scene_text.proofs.Words.{◌≡◌, ℕ, ◌+◌, ◌≤◌, ◌&&◌, ◌||◌, not, Bool, true, false, cond, eqb, leb, zero, suc, ℤ, pos, Option, Some, None, List, [], ◌∷◌}
+use Rattle.scene_text.proofs.Words.{◌++◌, length, map, refl, sym, ap, ap₂, ◌∙◌, arith, list_all, nat_tests, and_parts, leb-true, append-nil, append_assoc}
+use Rattle.scene_text.proofs.Words.{length-map, Scene, Marks, Drawn, Listed, Key, MOST_MARKS, MOST_OBSTACLES, is_goal, is_mark, is_obstacle, is_plan}
 use Rattle.scene_text.proofs.Words.{most_goals, name_of, every_key, is_key, most_lines, rival_of, version_word, Format, Given, MayStand, begins_with, given_by}
 use Rattle.scene_text.proofs.Words.{is_inhabited, stands_any, version_of, is_repeated, fault_of_version, fault_of_statement, value_of, signed_decimal}
-use Rattle.scene_text.proofs.Words.{point_numbers, goal_numbers, corner_numbers, statement, version_statement, goal_statement}
-use Rattle.scene_text.proofs.Words.{clearance_statements, informed_statements, plan_statements, search_statements, canonical_statements, has_key, Covers}
-use Rattle.scene_text.proofs.Words.{given_by-append}
+use Rattle.scene_text.proofs.Words.{point_numbers, goal_numbers, corner_numbers, statement, version_statement, goal_statement, clearance_statements}
+use Rattle.scene_text.proofs.Words.{informed_statements, plan_statements, search_statements, canonical_statements, has_key, Covers, given_by-append}
 use Rattle.std.proofs.lemmas.List.{length-append}
 use Rattle.plan_model.specs.declared.text_terms.Key.TheVariants as keys
 use Rattle.scene_text.proofs.StatementTexts.{is_word, is_clean, AreSound, AreSoundAfter, AreSound-after}

@@ -1,11 +1,10 @@
 -- The statements of canonical texts: their words are words, their numbers are numbers of the values written.
-use Rattle.scene_text.proofs.Words.{◌≡◌, ℕ, Bool, true, false, cond, not, ◌&&◌, eqb, leb, ℤ, pos, negsuc, int_le, None, List, [], ◌∷◌, length}
-use Rattle.scene_text.proofs.Words.{map, get_or, refl, ap, ◌∙◌, arith, signed_decimal, list_all, length-map, nat_tests, and_parts, Key}
-use Rattle.scene_text.proofs.Words.{LEAST_OBSTACLE_COORDINATE, LEAST_OBSTACLE_COORDINATE_OF_VERSION_2, MOST_CLEARANCE}
-use Rattle.scene_text.proofs.Words.{MOST_OBSTACLE_COORDINATE, MOST_OBSTACLE_COORDINATE_OF_VERSION_2, MOST_SIDE, MOST_SIDE_OF_VERSION_2, MOST_STEP}
-use Rattle.scene_text.proofs.Words.{MOST_STEP_OF_VERSION_2, is_number, value_of, name_of, is_key, least_of, most_of, fits_words, is_repeated}
-use Rattle.scene_text.proofs.Words.{is_too_many, is_in_range, is_ordered, are_between, has_corners, first_failing, fault_at_key, fault_of_statement, Given, MayStand, most_lines}
-use Rattle.scene_text.proofs.Words.{statement, key_of-name}
+use Rattle.scene_text.proofs.Words.{◌≡◌, ℕ, Bool, true, false, cond, not, ◌&&◌, eqb, leb, ℤ, pos, negsuc, int_le, None, List, [], ◌∷◌, length, map, get_or}
+use Rattle.scene_text.proofs.Words.{refl, ap, ◌∙◌, arith, signed_decimal, list_all, length-map, nat_tests, and_parts, Key, LEAST_OBSTACLE_COORDINATE}
+use Rattle.scene_text.proofs.Words.{LEAST_OBSTACLE_COORDINATE_OF_VERSION_2, MOST_CLEARANCE, MOST_OBSTACLE_COORDINATE, MOST_OBSTACLE_COORDINATE_OF_VERSION_2}
+use Rattle.scene_text.proofs.Words.{MOST_SIDE, MOST_SIDE_OF_VERSION_2, MOST_STEP, MOST_STEP_OF_VERSION_2, is_number, value_of, name_of, is_key, least_of}
+use Rattle.scene_text.proofs.Words.{most_of, fits_words, is_repeated, is_too_many, is_in_range, is_ordered, are_between, has_corners, first_failing}
+use Rattle.scene_text.proofs.Words.{fault_at_key, fault_of_statement, Given, MayStand, most_lines, statement, key_of-name}
 use Rattle.plan_model.specs.declared.text_terms.Key.TheVariants as keys
 use Rattle.plan_model.specs.declared.text_terms.Kind.TheVariants as kinds
 use Rattle.scene_text.proofs.StatementTexts.{is_word, is_clean}

@@ -1,11 +1,11 @@
 -- The scene that a draft gives: its fields are in their ranges, and are those of the lines.
-use Rattle.scene_text.proofs.Words.{◌≡◌, ℕ, ◌≤◌, true, ℤ, Option, Some, None, List, [], ◌∷◌, length, map, All, eqb, refl, sym, ap, ap₂, ◌∙◌, subst, arith, unwrap_or}
-use Rattle.scene_text.proofs.Words.{length-map, All-head, Point, Goal, Key, LEAST_SIDE, LEAST_STEP, MOST_GAMMA, MOST_STRIPS, IsBetween, are_goals}
+use Rattle.scene_text.proofs.Words.{◌≡◌, ℕ, ◌≤◌, true, ℤ, Option, Some, None, List, [], ◌∷◌, length, map, All, eqb, refl, sym, ap, ap₂, ◌∙◌, subst, arith}
+use Rattle.scene_text.proofs.Words.{unwrap_or, length-map, All-head, Point, Goal, Key, LEAST_SIDE, LEAST_STEP, MOST_GAMMA, MOST_STRIPS, IsBetween, are_goals}
 use Rattle.scene_text.proofs.Words.{are_obstacles, is_body, is_plan, may_be_informed, most_clearance, most_side, most_step, is_inhabited, corners_from}
-use Rattle.scene_text.proofs.Words.{fault_at_end, MayStand, AllMayStand, first_of, number_or, goal_from, body_from, plan_from, point_numbers}
-use Rattle.scene_text.proofs.Words.{goal_numbers, corner_numbers, IsWithin, room-within, body-within, start-within, goals-within, step-within, clearance-within}
-use Rattle.scene_text.proofs.Words.{gamma-within, informed-by_number, informed-within, strips-within, plan-within, obstacles-given, Draft, line_numbers}
-use Rattle.scene_text.proofs.Words.{amount_numbers, given_by_draft}
+use Rattle.scene_text.proofs.Words.{fault_at_end, MayStand, AllMayStand, first_of, number_or, goal_from, body_from, plan_from, point_numbers, goal_numbers}
+use Rattle.scene_text.proofs.Words.{corner_numbers, IsWithin, room-within, body-within, start-within, goals-within, step-within, clearance-within, gamma-within}
+use Rattle.scene_text.proofs.Words.{informed-by_number, informed-within, strips-within, plan-within, obstacles-given, Draft, line_numbers, amount_numbers}
+use Rattle.scene_text.proofs.Words.{given_by_draft}
 use Rattle.plan_model.specs.declared.text_terms.Key.TheVariants as keys
 use Rattle.scene_text.proofs.CanonicalNumbers.{corners_from-numbers}
 

@@ -1,8 +1,7 @@
 -- What came from a source.
 use Rattle.scene_text.proofs.Words.{◌≡◌, ℕ, ◌+◌, ◌-◌, ◌<◌, ◌≤◌, List, [], ◌++◌, length, take, Option, Result, Ok, Err, Vec, Some, None, IsErrOf, refl, sym, ap}
 use Rattle.scene_text.proofs.Words.{arith, length-take, Consumes-trans, Consumes-kept, Consumes, Keeps, MOST_TEXT_BYTES, FetchFault, Fetches, ReadsWithin}
-use Rattle.std.proofs.Common.{IsErrAnd}
-use Rattle.std.proofs.Common.{length-append}
+use Rattle.std.proofs.Common.{IsErrAnd, length-append}
 use Rattle.scene_text.specs.declared.fetching.FetchFault.TheVariants as faults
 
 pub ReadsWithin-fetched : {Z : Type 0} (before now : Option (List ℕ)) (result : Result (Vec ℕ Z) FetchFault)

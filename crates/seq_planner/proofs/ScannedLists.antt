@@ -91,47 +91,41 @@ filter-filter p q (n ∷ ns) h = by_tests (p n) (q n) (h n) (filter-filter p q n
     by_tests false true f e is = (let no = f refl in cc)
     by_tests false false f e is = e
 
--- one more point
-near_more :
-    (points : List (Option Point)) (placed : PlacedPoints) (p : Point) (r index : ℕ) (d : Point) → ArePlaced points placed
-    → index < length placed.points.items
-    → filter (λ i. is_within p r (point_at points i)) (take (index + 1) placed.numbers.items)
-    ≡ filter (λ i. is_within p r (point_at points i)) (take index placed.numbers.items)
-    ++ cond (leb (squared_distance (get_or placed.points.items index d) p) (r * r)) (get_or placed.numbers.items index 0 ∷ []) []
-near_more points placed p r index d h below =
-    let n : ℕ = get_or placed.numbers.items index 0 in
-    let test : ℕ → Bool = λ i. is_within p r (point_at points i) in
-    let point : Point = get_or placed.points.items index d in
-    let is : test n ≡ leb (squared_distance point p) (r * r) = ap (is_within p r) (StandsAt-index points placed index d h below) in
-    filter_more test placed.numbers.items index 0 (omega (arith, below, ArePlaced-numbered points placed h))
-    ∙ ap (λ b. filter test (take index placed.numbers.items) ++ cond b (n ∷ []) []) is
+-- the listed nodes below a index that lie near a point
+abbrev near_below : List (Option Point) → PlacedPoints → Point → ℕ → ℕ → List ℕ
+near_below points placed p r index = filter (λ i. is_within p r (point_at points i)) (take index placed.numbers.items)
 
--- it is near
-pub near_more_inside :
-    (points : List (Option Point)) (placed : PlacedPoints) (p : Point) (r index number : ℕ) (d : Point) → ArePlaced points placed
-    → index < length placed.points.items → number ≡ get_or placed.numbers.items index number
-    → squared_distance (get_or placed.points.items index d) p ≤ r * r
-    → filter (λ i. is_within p r (point_at points i)) (take (index + 1) placed.numbers.items)
-    ≡ filter (λ i. is_within p r (point_at points i)) (take index placed.numbers.items) ++ number ∷ []
-near_more_inside points placed p r index number d h below read close =
-    let numbers : List ℕ = placed.numbers.items in
-    let sofar : List ℕ = filter (λ i. is_within p r (point_at points i)) (take index numbers) in
-    near_more points placed p r index d h below
-    ∙ ap (λ b. sofar ++ cond b (get_or numbers index 0 ∷ []) []) (le-leb (squared_distance (get_or placed.points.items index d) p) (r * r) close)
-    ∙ ap (λ n. sofar ++ n ∷ []) (sym (get_or_read numbers index number (omega (arith, below, ArePlaced-numbered points placed h)) read 0))
+module _
+    (points : List (Option Point)) (placed : PlacedPoints) (p : Point) (r index : ℕ) (d : Point) (h : ArePlaced points placed)
+    (below : index < length placed.points.items) where
+  -- one more point
+  near_more :
+      near_below points placed p r (index + 1) ≡ near_below points placed p r index
+      ++ cond (leb (squared_distance (get_or placed.points.items index d) p) (r * r)) (get_or placed.numbers.items index 0 ∷ []) []
+  near_more =
+      filter_more (λ i. is_within p r (point_at points i)) placed.numbers.items index 0 (omega (arith, below, ArePlaced-numbered points placed h))
+      ∙ ap (λ b. near_below points placed p r index ++ cond b (get_or placed.numbers.items index 0 ∷ []) [])
+      (ap (is_within p r) (StandsAt-index points placed index d h below))
 
--- it is not
-pub near_more_outside :
-    (points : List (Option Point)) (placed : PlacedPoints) (p : Point) (r index : ℕ) (d : Point) → ArePlaced points placed
-    → index < length placed.points.items → r * r < squared_distance (get_or placed.points.items index d) p
-    → filter (λ i. is_within p r (point_at points i)) (take (index + 1) placed.numbers.items)
-    ≡ filter (λ i. is_within p r (point_at points i)) (take index placed.numbers.items)
-near_more_outside points placed p r index d h below far =
-    let numbers : List ℕ = placed.numbers.items in
-    let sofar : List ℕ = filter (λ i. is_within p r (point_at points i)) (take index numbers) in
-    near_more points placed p r index d h below
-    ∙ ap (λ b. sofar ++ cond b (get_or numbers index 0 ∷ []) []) (lt-leb (squared_distance (get_or placed.points.items index d) p) (r * r) far)
-    ∙ append-nil sofar
+  -- it is near
+  pub near_more_inside :
+      (number : ℕ) → number ≡ get_or placed.numbers.items index number → squared_distance (get_or placed.points.items index d) p ≤ r * r
+      → near_below points placed p r (index + 1) ≡ near_below points placed p r index ++ number ∷ []
+  near_more_inside number read close =
+      let numbers : List ℕ = placed.numbers.items in
+      let so_far = near_below points placed p r index in
+      near_more
+      ∙ ap (λ b. so_far ++ cond b (get_or numbers index 0 ∷ []) []) (le-leb (squared_distance (get_or placed.points.items index d) p) (r * r) close)
+      ∙ ap (λ n. so_far ++ n ∷ []) (sym (get_or_read numbers index number (omega (arith, below, ArePlaced-numbered points placed h)) read 0))
+
+  -- it is not
+  pub near_more_outside :
+      r * r < squared_distance (get_or placed.points.items index d) p → near_below points placed p r (index + 1) ≡ near_below points placed p r index
+  near_more_outside far =
+      let so_far = near_below points placed p r index in
+      near_more
+      ∙ ap (λ b. so_far ++ cond b (get_or placed.numbers.items index 0 ∷ []) [])
+      (lt-leb (squared_distance (get_or placed.points.items index d) p) (r * r) far) ∙ append-nil so_far
 
 -- the scan went over all slots
 pub near-all :

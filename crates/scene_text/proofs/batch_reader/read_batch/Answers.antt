@@ -1,4 +1,4 @@
-use Rattle.scene_text.proofs.Words.{◌≡◌, ◌≢◌, ◌+◌, [], ◌∷◌, ◌++◌, length, ◌∙◌, rules, arith, nat_tests, err_from_is_err_and, MOST_SCENES}
+use Rattle.scene_text.proofs.Words.{◌≡◌, ◌≢◌, [], ◌∷◌, ◌++◌, length, ◌∙◌, rules, arith, nat_tests, err_from_is_err_and, MOST_SCENES}
 use Rattle.scene_text.proofs.BatchLemmas.{HasRead-pushed, IsBatchRefusal-many, ReadsParts-more, ReadsParts-refused, SpellsBatch-read}
 use Rattle.scene_text.proofs.batch_reader.read_batch.Goals as goal
 

@@ -1,4 +1,5 @@
-use Rattle.scene_text.proofs.Words.{◌≤◌, eqb, length, refl, sym, ap, rules, corners_from, corner_numbers, goal_from, goal_numbers, ◌∙◌, arith, common_steps, point_from, number_or, point_numbers, amount_numbers}
+use Rattle.scene_text.proofs.Words.{◌≤◌, eqb, length, refl, sym, ap, rules, corners_from, corner_numbers, goal_from, goal_numbers, ◌∙◌, arith, common_steps}
+use Rattle.scene_text.proofs.Words.{point_from, number_or, point_numbers, amount_numbers}
 use Rattle.scene_text.proofs.DraftScenes.{AreWithin-draft, known-given, default-given, given_back, complete-draft}
 use Rattle.scene_text.proofs.CanonicalNumbers.{corners_from-numbers}
 use Rattle.scene_text.proofs.drafts.Draft.into_scene.Goals as goal

@@ -1,4 +1,4 @@
-use Rattle.seq_planner.proofs.Words.{◌≡◌, ℕ, ◌+◌, ◌-◌, false, true, [], None, get_or, length, ap, ◌∙◌, subst, sym, arith, skipping_goals, lies_in_goals}
+use Rattle.seq_planner.proofs.Words.{◌≡◌, ℕ, ◌+◌, ◌-◌, false, true, None, get_or, length, ap, ◌∙◌, subst, sym, arith, skipping_goals, lies_in_goals}
 use Rattle.seq_planner.proofs.Words.{points_of, AreGoalNodesBelow}
 use Rattle.seq_planner.proofs.GoalNodeLists.{AreGoalNodesBelow-absent, AreGoalNodesBelow-beside, AreGoalNodesBelow-in_goal, skipping_goals-by}
 use Rattle.seq_planner.proofs.goal_nodes.GoalNodes.look_at_last.Goals as goal

@@ -20,7 +20,7 @@ loop-index-preserved c = λ points h. (
     elim c.if-squared_distance-most.branch [
       | then-squared_distance-most+in_ok-push w ↦ (
           rw w.found-is (w.in_ok-push.ensures.items ∙ ap (λ found. found ++ w.index.result.now ∷ []) (l.invariant points h)
-          ∙ sym (near_more_inside points placed c.args.point c.args.radius l.index w.index.result.now origin h below w.index.ensures
+          ∙ sym (near_more_inside points placed c.args.point c.args.radius l.index origin h below w.index.result.now w.index.ensures
           (omega (arith, w.if-squared_distance-most.true, here, most)))))
       | else-squared_distance-most w ↦ (
           rw w.found-is (l.invariant points h

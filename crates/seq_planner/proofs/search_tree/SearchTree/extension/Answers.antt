@@ -53,19 +53,14 @@ returns-then-not-clear g c =
     cc))
     (record { node = c.blocked.ensures.node; cost = c.blocked.ensures.cost; recorded = c.blocked.ensures.entry })
 
-pub at-radius-requires-clause-some : goal.at-radius-requires-clause-some
-at-radius-requires-clause-some g c =
+pub at-radius-requires : goal.at-radius-requires
+at-radius-requires g c =
     let tree = c.args.self.now in
-    omega (
-      arith,
-      c.count-present.ensures (points_of tree.nodes) c.requires.sound.are_placed,
-      some_present tree.nodes tree.costs.items tree.placed c.requires.sound,
-    )
-
-pub at-radius-requires-clause-most : goal.at-radius-requires-clause-most
-at-radius-requires-clause-most g c =
-    let tree = c.args.self.now in
-    omega (arith, c.count-present.ensures (points_of tree.nodes) c.requires.sound.are_placed, few_present tree.nodes, c.requires.few)
+    let count = c.count-present.ensures (points_of tree.nodes) c.requires.sound.are_placed in
+    record {
+      some = omega (arith, count, some_present tree.nodes tree.costs.items tree.placed c.requires.sound);
+      most = omega (arith, count, few_present tree.nodes, c.requires.few);
+    }
 
 pub near-requires-clause-numbered : goal.near-requires-clause-numbered
 near-requires-clause-numbered g c = ArePlaced-numbered (points_of c.args.self.now.nodes) c.args.self.now.placed c.requires.sound.are_placed
@@ -112,11 +107,8 @@ choose-parent-requires-clause-near g c κs within =
 pub class-requires : goal.class-requires
 class-requires g c =
     let tree = c.args.self.now in
-    omega (
-      arith,
-      c.count-present.ensures (points_of tree.nodes) c.requires.sound.are_placed,
-      some_present tree.nodes tree.costs.items tree.placed c.requires.sound,
-    )
+    let count = c.count-present.ensures (points_of tree.nodes) c.requires.sound.are_placed in
+    omega (arith, count, some_present tree.nodes tree.costs.items tree.placed c.requires.sound)
 
 pub returns : goal.returns
 returns g c =
