@@ -1,10 +1,20 @@
 -- In a closed run no node of a chain in order was placed at more than the chain costs up to it, nor is the last one kept at more.
-use Rattle.route_laws.proofs.Words.{◌≡◌, ℕ, suc, ◌+◌, ◌≤◌, List, [], ◌∷◌, Option, Some, None, arith, refl, sym, ap, subst, inl, inr, ◌⊎◌, IsChain}
+use Rattle.route_laws.proofs.Words.{◌≡◌, ℕ, suc, ◌+◌, ◌≤◌, List, [], ◌∷◌, Option, Some, None, arith, refl, sym, ap, ◌∙◌, subst, inl, inr, IsChain}
 use Rattle.route_laws.proofs.Words.{IsChainInOrder, IsLinkInOrder, cost_of_chain}
-use Rattle.route_laws.proofs.Common.{Goal, Point, Placed, Record, first_hanging, cost_of, IsClosed, IsPlacedLawfully, Setup, IsGoalNode, best_node}
+use Rattle.route_laws.proofs.Common.{Goal, Point, first_hanging, cost_of, IsClosed, IsPlacedLawfully, Setup, IsGoalNode, best_node, AreNumberedTo}
 use Rattle.route_laws.proofs.Common.{IsPresent, point_of, TreeState, first_cost_of, recorded_or, sum_in, best_node-none, best_node-some, KeepsFirstCosts-closed}
 use Rattle.route_laws.proofs.Common.{IsPlacedLawfully-closed, cost_of-swap, numbers-closed, earlier-present, point_of-stands, start-present, sum_in-le_cost}
 use Rattle.route_laws.proofs.Common.{present-of_record}
+
+-- a run with a goal node whose sum is at most so much has a best one
+pub best_within :
+    (goals : List Goal) (limit : ℕ) (state : TreeState) → AreNumberedTo limit state.points → (n : ℕ) → IsGoalNode goals state.points n → (total : ℕ)
+    → sum_in state n ≤ total → (best : ℕ) × (best_node goals limit state ≡ Some best) × (sum_in state best ≤ total)
+best_within goals limit state numbered n goal total within = by_best (best_node goals limit state) refl
+  where
+    by_best : (o : Option ℕ) → best_node goals limit state ≡ o → (best : ℕ) × (best_node goals limit state ≡ Some best) × (sum_in state best ≤ total)
+    by_best None e = absurd (best_node-none goals limit state numbered e n goal)
+    by_best (Some best) e = (best, e, omega (arith, ((best_node-some goals limit state best numbered e).not_above n goal).least, within))
 
 module _ (setup : Setup) (marks : List Point) (limit : ℕ) (state : TreeState) (closed : IsClosed setup marks limit state) where
   abbrev point : ℕ → Point
@@ -12,25 +22,16 @@ module _ (setup : Setup) (marks : List Point) (limit : ℕ) (state : TreeState) 
 
   -- ---- one link
 
-  -- the law of a mark that was placed, said of the point at which its node stands
-  placed_at : (k : ℕ) (entry : Record) → state.record_of k ≡ Some entry → entry.outcome ≡ Placed
-      → IsPlacedLawfully setup state k entry entry.nearest (first_hanging entry) (point (suc k))
-  placed_at k entry h placed =
-      let own = IsPlacedLawfully-closed setup marks limit state closed k entry h placed in
-      subst (IsPlacedLawfully setup state k entry entry.nearest (first_hanging entry)) (sym (point_of-stands state.points (suc k) _ own.by_tree.stands)) own
-
-  first_cost_is : (k : ℕ) (entry : Record) → state.record_of k ≡ Some entry → first_cost_of state (suc k) ≡ entry.first_cost
-  first_cost_is k entry h = ap (recorded_or (state.written_cost (suc k))) h
-
   module _ (i n : ℕ) (link : IsLinkInOrder setup state i n) where
+    -- the law of a mark that was placed, said of the point at which its node stands
     own_law : IsPlacedLawfully setup state link.mark link.entry link.entry.nearest (first_hanging link.entry) (point n)
     own_law =
-        subst (λ m. IsPlacedLawfully setup state link.mark link.entry link.entry.nearest (first_hanging link.entry) (point m)) (sym link.number)
-        (placed_at link.mark link.entry link.recorded link.placed)
+        let own = IsPlacedLawfully-closed setup marks limit state closed link.mark link.entry link.recorded link.placed in
+        let here = ap point link.number ∙ point_of-stands state.points (suc link.mark) _ own.by_tree.stands in
+        subst (IsPlacedLawfully setup state link.mark link.entry link.entry.nearest (first_hanging link.entry)) (sym here) own
 
     own_first_cost : first_cost_of state n ≡ link.entry.first_cost
-    own_first_cost =
-        subst (λ m. first_cost_of state m ≡ link.entry.first_cost) (sym link.number) (first_cost_is link.mark link.entry link.recorded)
+    own_first_cost = ap (first_cost_of state) link.number ∙ ap (recorded_or (state.written_cost (suc link.mark))) link.recorded
 
     -- the later node is present
     later-present : IsPresent state.points n
@@ -79,16 +80,8 @@ module _ (setup : Setup) (marks : List Point) (limit : ℕ) (state : TreeState) 
   sum_in-chain n earlier chain =
       omega (arith, sum_in-le_cost setup state closed.order n (chain-present n earlier chain), cost-chain n earlier chain)
 
-  some_or_none : (o : Option ℕ) → (o ≡ None) ⊎ ((n : ℕ) × (o ≡ Some n))
-  some_or_none None = inl refl
-  some_or_none (Some n) = inr (n, refl)
-
   -- and that of the best node, if this one lies in a goal
   pub best_node-chain : (n : ℕ) (earlier : List ℕ) → IsChain setup state n earlier → (goals : List Goal) → IsGoalNode goals state.points n
       → (best : ℕ) × (best_node goals limit state ≡ Some best) × (sum_in state best ≤ cost_of_chain state (n ∷ earlier))
   best_node-chain n earlier chain goals in_goal =
-      let numbered = numbers-closed setup marks limit state closed in
-      elim (some_or_none (best_node goals limit state)) [
-        | inl none ↦ absurd (best_node-none goals limit state numbered none n in_goal)
-        | inr (best, e) ↦ (best, e, omega (arith, ((best_node-some goals limit state best numbered e).not_above n in_goal).least, sum_in-chain n earlier chain))
-      ]
+      best_within goals limit state (numbers-closed setup marks limit state closed) n in_goal _ (sum_in-chain n earlier chain)

@@ -1,12 +1,13 @@
 -- A run with a goal node that costs so much at most has a best node whose sum is no more: where a route of near links leads into a goal, and
 -- where a mark is skipped.
-use Rattle.route_laws.proofs.Words.{◌≡◌, inl, inr, ℕ, ◌≤◌, Bool, true, false, cond, List, [], length, map, Option, Some, None, arith, refl, sym, subst, IsTrue}
+use Rattle.route_laws.proofs.Words.{◌≡◌, inl, inr, ℕ, ◌≤◌, Bool, true, false, cond, List, [], length, map, Option, Some, arith, refl, sym, subst, IsTrue}
 use Rattle.route_laws.proofs.Words.{EndApart, IsNearLink, cost_of_route, end_of, IsRoute}
 use Rattle.route_laws.proofs.Common.{Goal, Point, Scene, Skipped, Record, ending_as, IsClosed, mark_at, HasLawfulEnding, IsOfTextbookRun, Setup, setup_of}
-use Rattle.route_laws.proofs.Common.{mark_points, ClearAt, space_of, IsGoalNode, best_node, goals_of, is_goal_point, lies_in_goals, AreNumberedTo, point_at}
-use Rattle.route_laws.proofs.Common.{IsSettled, TreeState, sum_in, IsPresent-goal, best_node-none, best_node-some, numbers-closed, no_goal_node}
+use Rattle.route_laws.proofs.Common.{mark_points, ClearAt, space_of, IsGoalNode, best_node, goals_of, is_goal_point, lies_in_goals, point_at}
+use Rattle.route_laws.proofs.Common.{IsSettled, TreeState, sum_in, IsPresent-goal, numbers-closed, no_goal_node}
 use Rattle.route_laws.proofs.Common.{IsClosed-of_textbook, IsSettled-of_textbook}
 use Rattle.plan_model.specs.Trees.GoalBounds.{bound_of}
+use Rattle.route_laws.proofs.ChainCosts.{best_within}
 use Rattle.route_laws.proofs.FollowedPaths.{IsGoalNode-skipping}
 use Rattle.route_laws.proofs.RouteCosts.{CostsWithin-route}
 
@@ -17,20 +18,13 @@ lies_to_skip true goals points z lies g goal = lies
 lies_to_skip false goals points z lies g goal = absurd (no_goal_node points g goal)
 
 -- a goal node that costs so much at most in a settled run, and the best one
-best_within :
+best_settled :
     (setup : Setup) (marks : List Point) (limit : ℕ) (state : TreeState) → IsClosed setup marks limit state → IsSettled state
     → (goals : List Goal) (n : ℕ) → IsGoalNode goals state.points n → (total : ℕ) → state.cost n ≤ total
     → (best : ℕ) × (best_node goals limit state ≡ Some best) × (sum_in state best ≤ total)
-best_within setup marks limit state closed settled goals n goal total within = by_best (best_node goals limit state) refl
-  where
-    numbered : AreNumberedTo limit state.points
-    numbered = numbers-closed setup marks limit state closed
-
-    by_best : (o : Option ℕ) → best_node goals limit state ≡ o → (best : ℕ) × (best_node goals limit state ≡ Some best) × (sum_in state best ≤ total)
-    by_best None e = absurd (best_node-none goals limit state numbered e n goal)
-    by_best (Some best) e =
-        let least = ((best_node-some goals limit state best numbered e).not_above n goal).least in
-        (best, e, omega (arith, least, settled n (IsPresent-goal goals (point_at state.points n) goal), within))
+best_settled setup marks limit state closed settled goals n goal total within =
+    best_within goals limit state (numbers-closed setup marks limit state closed) n goal total
+    (omega (arith, settled n (IsPresent-goal goals (point_at state.points n) goal), within))
 
 module _
     (scene : Scene) (state : TreeState) (numbers : List ℕ) (clear : ClearAt (space_of scene) scene.start)
@@ -58,7 +52,7 @@ module _
 
   pub best_within_route : (best : ℕ) × (best_node (goals_of scene) limit state ≡ Some best) × (sum_in state best ≤ total)
   best_within_route =
-      best_within (setup_of scene) (mark_points scene) limit state (IsClosed-of_textbook (setup_of scene) (mark_points scene) state clear of_run)
+      best_settled (setup_of scene) (mark_points scene) limit state (IsClosed-of_textbook (setup_of scene) (mark_points scene) state clear of_run)
       (IsSettled-of_textbook (setup_of scene) (mark_points scene) state clear of_run) (goals_of scene) cheap_goal_node.0 cheap_goal_node.1 total
       cheap_goal_node.2
 
@@ -80,5 +74,5 @@ best_within_bound scene limit state k entry closed settled recorded skipped =
     let lawful = subst (λ o. HasLawfulEnding (setup_of scene) state k mark entry (ending_as entry o)) skipped (closed.lawful k entry recorded) in
     let bound = bound_to_skip scene.informed scene.goals scene.start mark state.points entry.nearest lawful.goal in
     let in_goal = IsGoalNode-skipping scene.informed scene.goals state.points entry.nearest lawful.goal in
-    best_within (setup_of scene) (mark_points scene) limit state closed settled (goals_of scene) entry.nearest in_goal
+    best_settled (setup_of scene) (mark_points scene) limit state closed settled (goals_of scene) entry.nearest in_goal
     (bound_of scene.start (goals_of scene) mark) (omega (arith, lawful.within, bound))

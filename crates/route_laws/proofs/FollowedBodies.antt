@@ -79,12 +79,12 @@ module _ (room a b : Point) (steps : ℕ) (reach : squared_distance a b ≤ step
 
 -- a point moved by nothing
 IsBetweenWalls-origin : (room : Point) (q : Rational) → IsBetweenWalls room (moved_by q (record { x = pos 0; y = pos 0 })) → IsBetweenWalls room q
-IsBetweenWalls-origin room q h =
-    let left = h.left in
-    let right = h.right in
-    let bottom = h.bottom in
-    let top = h.top in
-    record { left = omega (arith, ints); right = omega (arith, ints); bottom = omega (arith, ints); top = omega (arith, ints) }
+IsBetweenWalls-origin room q h = record {
+  left = omega (arith, ints, h.left);
+  right = omega (arith, ints, h.right);
+  bottom = omega (arith, ints, h.bottom);
+  top = omega (arith, ints, h.top);
+}
 
 -- ---- both
 

@@ -4,18 +4,8 @@ use Rattle.route_laws.proofs.Words.{append_assoc, Contains, IsTrue, All-contains
 use Rattle.route_laws.proofs.Common.{Goal, Point, Scene, mark_at, IsOfTextbookRun, setup_of, mark_points, ClearAt, space_of, IsGoalNode, best_node, goals_of}
 use Rattle.route_laws.proofs.Common.{is_goal_point, lies_in_goals, AreNumberedTo, TreeState, sum_in, best_node-none, best_node-some, no_goal_node}
 use Rattle.route_laws.proofs.Common.{numbers-closed, IsClosed-of_textbook}
-use Rattle.plan_model.specs.Reports.ReportText.{
-  best_path,
-  counts_line,
-  head_line,
-  mark_lines,
-  node_lines,
-  path_line,
-  path_to,
-  point_lines,
-  report_text,
-  short_report,
-}
+use Rattle.plan_model.specs.Reports.ReportText.{best_path, counts_line, head_line, mark_lines, node_lines, path_line, path_to}
+use Rattle.plan_model.specs.Reports.ReportText.{point_lines, report_text, short_report}
 use Rattle.route_laws.proofs.FollowedRoutes.{IsReached-open_route}
 
 -- the goals to skip by are goals of the scene

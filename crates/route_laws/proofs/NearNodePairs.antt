@@ -2,8 +2,8 @@
 -- them was placed first.
 use Rattle.route_laws.proofs.Words.{◌≡◌, inl, inr, ℕ, zero, suc, ◌+◌, ◌*◌, ◌<◌, ◌≤◌, List, ◌∷◌, length, Some, arith, sym, ap, ◌∙◌, subst, IsTrue, slice_get}
 use Rattle.route_laws.proofs.Words.{cases_order, le-leb, range_with_len, length-append, length-range_with_len, count_by-le-length, mul-le, least_radius}
-use Rattle.route_laws.proofs.Common.{Point, Placed, Record, cost_of, squared_distance, class_of, radius_of, radius_of_class, IsClosed, has_outcome}
-use Rattle.route_laws.proofs.Common.{is_placed, ending_as, first_hanging, IsNeighbour, IsPlacedLawfully, IsOfTextbookRun, Ends, Handles, Nodes, Setup}
+use Rattle.route_laws.proofs.Common.{Point, Placed, Record, cost_of, squared_distance, radius_of, radius_of_class, IsClosed, has_outcome}
+use Rattle.route_laws.proofs.Common.{is_placed, ending_as, first_hanging, IsNeighbour, IsPlacedLawfully, IsOfTextbookRun, Ends, Setup}
 use Rattle.route_laws.proofs.Common.{start_alone, Clear, ClearAt, is_within, points_of, StandsAt, node_count, TreeState, first_cost_of, recorded_or}
 use Rattle.route_laws.proofs.Common.{state_of, KeepsFirstCosts-closed, IsPlacedLawfully-closed, node_count-closed, cost_of-swap, squared_distance-swap}
 use Rattle.route_laws.proofs.Common.{IsPresent-stands, StandsAt-unique, node_count-some, point_of-stands, record-of_present, Clear-back, IsClosed-textbook}
@@ -14,14 +14,6 @@ use Rattle.route_laws.proofs.PartsOfRuns.{ComesTo, ComesTo-each}
 -- a point within a shorter radius is within a longer one
 pub within_more : (p q : Point) (r s : ℕ) → squared_distance q p ≤ r * r → r ≤ s → IsTrue (is_within p s (Some q))
 within_more p q r s near h = le-leb (squared_distance q p) (s * s) (omega (arith, near, mul-le r r s s h h))
-
--- the class of a placed mark, by how the textbook handles it
-class_of_ends :
-    (setup : Setup) (tree : Nodes) (k : ℕ) (mark : Point) (entry : Record) (after : Nodes) → entry.outcome ≡ Placed
-    → Handles setup tree k mark entry after → entry.class ≡ class_of (node_count (points_of tree))
-class_of_ends setup tree k mark entry after e handled =
-    let placed = subst (λ o. Ends setup tree k mark (ending_as entry o) after) e handled.ends in
-    placed.reaches.of_class
 
 module _
     (setup : Setup) (marks : List Point) (state : TreeState) (clear : ClearAt setup.space setup.start) (of_run : IsOfTextbookRun setup marks state)
@@ -54,8 +46,8 @@ module _
       → least ≤ radius_of_class setup.step setup.gamma entry.class
   radius_of_mark k entry h placed =
       let part = part_of_run k entry h in
-      let class = class_of_ends setup part.tree (0 + k) part.mark entry part.after placed part.handled in
-      subst (λ c. least ≤ radius_of_class setup.step setup.gamma c) (sym class) (radius_in_part k entry part)
+      let ends = subst (λ o. Ends setup part.tree (0 + k) part.mark (ending_as entry o) part.after) placed part.handled.ends in
+      subst (λ c. least ≤ radius_of_class setup.step setup.gamma c) (sym ends.reaches.of_class) (radius_in_part k entry part)
 
   -- the record of the mark that gave a node
   record PlacesAt (j : ℕ) (p : Point) : Type 0 where

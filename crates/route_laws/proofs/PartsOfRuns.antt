@@ -1,18 +1,12 @@
 -- A textbook run up to one of its marks: the run over the marks before it, and how the mark is handled there.
 use Rattle.route_laws.proofs.Words.{◌≡◌, ℕ, zero, suc, ◌+◌, List, [], ◌∷◌, ◌++◌, length, Option, Some, arith, refl, sym, ap, ◌∙◌, subst, append_assoc}
 use Rattle.route_laws.proofs.Words.{slice_get, append-nil}
-use Rattle.route_laws.proofs.Common.{Point, Record, Ending, ending_of, Ends, Handles, HandlesAll, Nodes}
+use Rattle.route_laws.proofs.Common.{Point, Record, ending_of, Handles, HandlesAll, Nodes}
 use Rattle.route_laws.proofs.Common.{Setup, points_of, points_of-ends}
 
 -- no node moves, and numbers are added at the end
 abbrev AddsPoints : Nodes → Nodes → Type 0
 AddsPoints tree after = (more : List (Option Point)) × (points_of after ≡ points_of tree ++ more)
-
-AddsPoints-ends :
-    (setup : Setup) (tree : Nodes) (k : ℕ) (mark : Point) (ending : Ending) (after : Nodes) → Ends setup tree k mark ending after → AddsPoints tree after
-AddsPoints-ends setup tree k mark ending after e =
-    let more = points_of-ends setup tree k mark ending after e in
-    (more.0 ∷ [], more.1)
 
 AddsPoints-trans : (one mid other : Nodes) → AddsPoints one mid → AddsPoints mid other → AddsPoints one other
 AddsPoints-trans one mid other (more, e) (rest, f) = (more ++ rest, f ∙ ap (λ points. points ++ rest) e ∙ append_assoc (points_of one) more rest)
@@ -24,7 +18,8 @@ AddsPoints-all setup k tree [] [] after run = ([], ap points_of run ∙ sym (app
 AddsPoints-all setup k tree [] (entry ∷ entries) after run = absurd run
 AddsPoints-all setup k tree (mark ∷ marks) [] after run = absurd run
 AddsPoints-all setup k tree (mark ∷ marks) (entry ∷ entries) after run =
-    AddsPoints-trans tree run.0 after (AddsPoints-ends setup tree k mark (ending_of entry) run.0 run.1.ends)
+    let one = points_of-ends setup tree k mark (ending_of entry) run.0 run.1.ends in
+    AddsPoints-trans tree run.0 after (one.0 ∷ [], one.1)
     (AddsPoints-all setup (k + 1) run.0 marks entries after run.2)
 
 -- The run from mark k on comes to the i-th mark, which has this record: the marks and the records before it, and the tree there.

@@ -54,9 +54,6 @@ module _
 module _
     (setup : Setup) (marks : List Point) (state : TreeState) (clear : ClearAt setup.space setup.start) (of_run : IsOfTextbookRun setup marks state)
     (k : ℕ) (entry : Record) (part : ComesTo setup 0 (start_alone setup.start) marks of_run.records of_run.nodes k entry) where
-  abbrev there : TreeState
-  there = state_of part.tree part.records
-
   pub of_part : IsOfTextbookRun setup part.done (state_of part.tree part.records)
   of_part = record {
     nodes = part.tree;

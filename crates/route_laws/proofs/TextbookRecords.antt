@@ -30,9 +30,9 @@ in_turn_from setup k tree [] [] after run nodes i entry h = cc
 in_turn_from setup k tree [] (own ∷ entries) after run nodes i entry h = absurd run
 in_turn_from setup k tree (mark ∷ marks) [] after run nodes i entry h = absurd run
 in_turn_from setup k tree (mark ∷ marks) (own ∷ entries) after run nodes zero entry h =
-    let none : k ≡ k + 0 = omega arith in
-    let e : own ≡ entry = cc in
-    subst (λ r. IsInTurn (k + 0) r) e (subst (λ n. IsInTurn n own) none (IsInTurn-handled setup tree k mark own run.0 run.1 nodes))
+    let none : k + 0 ≡ k = omega arith in
+    let e : entry ≡ own = cc in
+    rw (none, e) (IsInTurn-handled setup tree k mark own run.0 run.1 nodes)
 in_turn_from setup k tree (mark ∷ marks) (own ∷ entries) after run nodes (suc i) entry h =
     let same : (k + 1) + i ≡ k + suc i = omega arith in
     let later : length run.0 ≡ suc (k + 1) = omega (arith, nodes, length-ends setup tree k mark (ending_of own) run.0 run.1.ends) in

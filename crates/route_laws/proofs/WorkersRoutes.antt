@@ -1,7 +1,7 @@
 -- One worker of several follows a route of open links, if each mark of it but the last ends at a node of its own that stood before.
 use Rattle.route_laws.proofs.Words.{◌≡◌, ◌⊎◌, inl, inr, ℕ, suc, List, [], ◌∷◌, map, Some, refl, sym, ◌∙◌, subst, All, All-cons, All-nil, AreLinks, HasGoalNode}
 use Rattle.route_laws.proofs.Words.{IsOpenLink, AreHandledInTurn, EndsAtNode, HasNodeAt, IsHandledAfter}
-use Rattle.route_laws.proofs.Common.{Point, Outcome, Placed, Same, Record, IsClosed, mark_at, Setup, StandsAt, TreeState}
+use Rattle.route_laws.proofs.Common.{Point, Outcome, Placed, Same, IsClosed, mark_at, Setup, StandsAt, TreeState}
 use Rattle.route_laws.proofs.FollowedLinks.{EndsThere-lawful}
 
 -- a mark has one outcome, and so ended at one node
@@ -24,7 +24,6 @@ module _ (setup : Setup) (marks : List Point) (limit : ℕ) (state : TreeState) 
   ends : (k n : ℕ) (a : Point) → StandsAt state.points n a → IsOpenLink setup a (mark_at marks k) → IsHandledAfter state n k
       → ((m : ℕ) × EndsAtNode state k m × StandsAt state.points m (mark_at marks k)) ⊎ HasGoalNode setup.goals state.points
   ends k n a stands link after =
-      let entry : Record = after.entry in
       elim (EndsThere-lawful setup marks limit state closed k n a (mark_at marks k) after.entry stands after.earlier link after.entry.outcome refl
       (closed.lawful k after.entry after.recorded)) [
         | inl there ↦ inl (there.0, record { entry = after.entry; recorded = after.recorded; ended = there.1 }, there.2)

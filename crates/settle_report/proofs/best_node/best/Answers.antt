@@ -1,11 +1,6 @@
-use Rattle.settle_report.proofs.Words.{◌≡◌, ℕ, ◌+◌, ◌-◌, Some, arith, sym, ap, ◌∙◌, goals_of, lesser, sum_in, length-marks, state_of_grown}
+use Rattle.settle_report.proofs.Words.{◌≡◌, ℕ, ◌+◌, ◌-◌, Some, arith, sym, ap, ◌∙◌, goals_of, lesser, sum_in, state_of_grown}
 use Rattle.settle_report.proofs.GoalNodes.{best_of, best_of-goal_node, best_of-other, best_of-all}
 use Rattle.settle_report.proofs.best_node.best.Goals as goal
-
-pub overflow_step-node : goal.overflow_step-node
-overflow_step-node c =
-    let grown = c.args.grown.now in
-    omega (arith, c.limit-node.ensures, grown.hold_run.closed.within, length-marks grown.task)
 
 pub loop-node-init : goal.loop-node-init
 loop-node-init c =

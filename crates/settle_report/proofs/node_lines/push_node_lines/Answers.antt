@@ -1,12 +1,7 @@
-use Rattle.settle_report.proofs.Words.{◌≡◌, suc, ◌++◌, string_bytes, arith, ap, ◌∙◌, range_with_len, flat_map, point_at, node_line_if_present, length-marks}
+use Rattle.settle_report.proofs.Words.{◌≡◌, suc, ◌++◌, string_bytes, arith, ap, ◌∙◌, range_with_len, flat_map, point_at, node_line_if_present}
 use Rattle.settle_report.proofs.Words.{state_of_grown}
 use Rattle.settle_report.proofs.NumberedLines.{lines-pushed}
 use Rattle.settle_report.proofs.node_lines.push_node_lines.Goals as goal
-
-pub overflow_add-node-end : goal.overflow_add-node-end
-overflow_add-node-end c =
-    let grown = c.args.grown.now in
-    omega (arith, c.limit-node-end.ensures, grown.hold_run.closed.within, length-marks grown.task)
 
 pub loop-node-preserved : goal.loop-node-preserved
 loop-node-preserved c =
