@@ -3,10 +3,9 @@ use Rattle.kd_shared.proofs.Words.{◌≡◌, ℕ, suc, ◌+◌, ◌*◌, ◌<�
 use Rattle.kd_shared.proofs.Words.{inl, inr, IsFalse, if◌then◌else◌, Some, None, drop, map, nat_le, set, slice_get, take, All, All-append, All-cons, All-nil}
 use Rattle.kd_shared.proofs.Words.{drop-append-le, drop-cons, drop-set-lt, drop_of_length-le, length-append, length-drop, length-set, map-append}
 use Rattle.kd_shared.proofs.Words.{take-append-le, take-set, take_more_set, get_or_from_slice_get, slice_get_cases, slice_get_within, leb-false, leb-true}
-use Rattle.kd_shared.proofs.Words.{Point, squared_distance, SearchLists, IsNoted, found_of_spot, noted_spot, point_of_spot, BelongsTo}
-use Rattle.kd_shared.proofs.Words.{PassState, SharedState, with_lists, with_view, Found, Spot, IsLawfulView, SeesNode, sight_in}
-use Rattle.kd_shared.proofs.Words.{KeepsSight-lawful, LoadsPoint, OnlyLooks-trans, KeepsLists, OnlyLooks, PassLooks, searched, AreGathered, IsChildWithin}
-use Rattle.kd_shared.proofs.Words.{side_distance}
+use Rattle.kd_shared.proofs.Words.{Point, squared_distance, SearchLists, IsNoted, found_of_spot, noted_spot, point_of_spot, BelongsTo, PassState, SharedState}
+use Rattle.kd_shared.proofs.Words.{with_lists, with_view, Found, Spot, IsLawfulView, SeesNode, sight_in, KeepsSight, KeepsSight-lawful, LoadsPoint}
+use Rattle.kd_shared.proofs.Words.{OnlyLooks-trans, KeepsLists, OnlyLooks, PassLooks, searched, AreGathered, IsChildWithin, side_distance}
 use Rattle.kd_shared.proofs.NearSearch.{IsGathering, IsGathering-begins, IsGathering-ends, IsGathering-few_found, IsGathering-room_first}
 use Rattle.kd_shared.proofs.NearSearch.{IsGathering-room_last, IsGathering-seen, IsGathering-visits, Notes}
 use mir.Val.{bool_byte}
@@ -140,6 +139,9 @@ module _ {shared : SharedState} {entry now : PassState} {p : Point} {r taken cou
   lawful_now : IsLawfulView now.view
   lawful_now = h.looks.looks.goes_on.lawful
 
+  keeps_now : KeepsSight (sight_in now.view)
+  keeps_now = KeepsSight-lawful now.view lawful_now
+
   abbrev spots : List Spot
   spots = now.lists.search.spots
 
@@ -157,7 +159,7 @@ module _ {shared : SharedState} {entry now : PassState} {p : Point} {r taken cou
       belongs = record { table = h.belongs.table; run = h.belongs.run; lawful = h.belongs.lawful };
       looks = h.looks;
       lists = record { table = h.lists.table; near = h.lists.near; around = h.lists.around; waiting = h.lists.waiting };
-      gathered = IsGathering-ends h.gathers none_left (KeepsSight-lawful entry.view h.looks.looks.goes_on.was_lawful) (KeepsSight-lawful now.view lawful_now) lawful_now.distinct;
+      gathered = IsGathering-ends h.gathers none_left (KeepsSight-lawful entry.view h.looks.looks.goes_on.was_lawful) keeps_now lawful_now.distinct;
       few = (let few = IsGathering-few_found h.gathers (length now.view.run.marks) lawful_now.within in omega (arith, few));
     })
 
@@ -168,8 +170,7 @@ module _ {shared : SharedState} {entry now : PassState} {p : Point} {r taken cou
 
     first : drop taken spots ≡ spot ∷ rest
     first =
-        drop-cons spots taken spot (slice_get_within spots taken spot here)
-        ∙ ap (λ s. s ∷ rest) (get_or_from_slice_get spots taken spot spot here)
+        drop-cons spots taken spot (slice_get_within spots taken spot here) ∙ ap (λ s. s ∷ rest) (get_or_from_slice_get spots taken spot spot here)
 
     pub note_within : count < length spots
     note_within = omega (arith, h.behind, slice_get_within spots taken spot here)
@@ -205,8 +206,7 @@ module _ {shared : SharedState} {entry now : PassState} {p : Point} {r taken cou
       rest_is : drop (taken + 1) noted_spots ≡ rest
       rest_is =
           let more : taken + 1 ≡ suc taken = omega arith in
-          ap (λ n. drop n noted_spots) more
-          ∙ drop-set-lt (suc taken) spots count (noted_spot spot.node v.distance) (omega (arith, h.behind))
+          ap (λ n. drop n noted_spots) more ∙ drop-set-lt (suc taken) spots count (noted_spot spot.node v.distance) (omega (arith, h.behind))
 
       pub noted_seen : SeesNode noted.view spot.node
       noted_seen = subst (λ (s : PassState). SeesNode s.view spot.node) (sym v.same) (IsGathering-seen h.gathers first)
@@ -246,7 +246,7 @@ module _ {shared : SharedState} {entry now : PassState} {p : Point} {r taken cou
           room_last =
               let room =
               IsGathering-room_last h.gathers first (sight_in both.one.view) (put left rest) (found_in_front next noted_spots) true
-              both.first_within (KeepsSight-lawful now.view lawful_now) notes_near both.first_is (both.first_child rest (put left rest) refl) (length both.one.view.run.marks)
+              both.first_within keeps_now notes_near both.first_is (both.first_child rest (put left rest) refl) (length both.one.view.run.marks)
               both.first_passes.looks.looks.goes_on.lawful.within in
               omega (
                 arith,
@@ -276,9 +276,9 @@ module _ {shared : SharedState} {entry now : PassState} {p : Point} {r taken cou
 
             visits : IsGathering (sight_in entry.view) (sight_in two.view) p r (put right (put left rest)) (found_in_front next noted_spots) (taken + 1)
             visits =
-                IsGathering-visits h.gathers first (sight_in both.one.view) (put left rest) (found_in_front next noted_spots) true both.first_within (KeepsSight-lawful now.view lawful_now)
-                notes_near both.first_is (both.first_child rest (put left rest) refl) (sight_in two.view) (put right (put left rest)) (taken + 1) (omega arith) both.last_within both.last_is
-                (both.last_child (put left rest) _ refl)
+                IsGathering-visits h.gathers first (sight_in both.one.view) (put left rest) (found_in_front next noted_spots) true both.first_within keeps_now
+                notes_near both.first_is (both.first_child rest (put left rest) refl) (sight_in two.view) (put right (put left rest)) (taken + 1)
+                (omega arith) both.last_within both.last_is (both.last_child (put left rest) _ refl)
 
             pub IsGatheringPass-visits : IsGatheringPass shared entry after p r (taken + 1) next
             IsGatheringPass-visits =

@@ -1,6 +1,6 @@
 -- The checks of a draft are those of the grammar over what the draft gives.
 use Rattle.scene_text.proofs.Words.{◌≡◌, ℕ, ◌||◌, not, Bool, true, false, Option, Some, None, List, [], ◌∷◌, ◌++◌, map, Result, Ok, Err, OnOk, refl, sym, ap}
-use Rattle.scene_text.proofs.Words.{◌∙◌, ℤ, true≢false, map-append, Goal, Point, Vertex, Key, is_skipped, value_of, name_of, Check, Given, with_statement}
+use Rattle.scene_text.proofs.Words.{◌∙◌, ℤ, true≢false, map-append, Goal, Point, Vertex, is_skipped, value_of, name_of, Check, Given, with_statement}
 use Rattle.scene_text.proofs.Words.{stands, is_inhabited, is_repeated, version_of, fault_of_statement, first_failing, is_supported, supported, point_numbers}
 use Rattle.scene_text.proofs.Words.{goal_numbers, corner_numbers, Draft, amount_numbers, line_numbers, given_by_draft, given_after, version_after, TakesLine}
 use mathlib.Core.Path.{fun_ext}
@@ -33,50 +33,44 @@ TakesLine-skipped draft words skipped = record {
 
 -- that the version was read gives no numbers
 pub given-version : (draft : Draft) (read : Option ℕ) → given_by_draft (record draft { version = read }) ≡ given_by_draft draft
-given-version draft read = fun_ext (λ key. same key)
-  where
-    same : (key : Key) → given_by_draft (record draft { version = read }) key ≡ given_by_draft draft key
-    same keys.Room = refl
-    same key = refl
+given-version draft read =
+    fun_ext (elim [ keys.Room ↦ refl | _ ↦ refl ])
 
 -- one more obstacle is what its line gives
 pub given-obstacle : (old new : Draft) (words : List (List ℕ)) (corners : List Vertex) → new.obstacles.items ≡ old.obstacles.items ++ corners ∷ []
     → map value_of words ≡ corner_numbers corners
     → given_by_draft (record old { obstacles = new.obstacles }) ≡ with_statement (given_by_draft old) (name_of keys.Obstacle ∷ words)
-given-obstacle old new words corners items value = fun_ext (λ key. same key)
-  where
-    same : (key : Key) → given_by_draft (record old { obstacles = new.obstacles }) key
-        ≡ with_statement (given_by_draft old) (name_of keys.Obstacle ∷ words) key
-    same keys.Obstacle =
-        ap (map corner_numbers) items ∙ map-append corner_numbers old.obstacles.items (corners ∷ [])
-        ∙ ap (λ zs. map corner_numbers old.obstacles.items ++ zs ∷ []) (sym value)
-    same key = refl
+given-obstacle old new words corners items value =
+    fun_ext (elim [
+      | keys.Obstacle ↦
+          ap (map corner_numbers) items ∙ map-append corner_numbers old.obstacles.items (corners ∷ [])
+          ∙ ap (λ zs. map corner_numbers old.obstacles.items ++ zs ∷ []) (sym value)
+      | _ ↦ refl
+    ])
 
 -- one more goal is what its line gives
 pub given-goal : (old new : Draft) (words : List (List ℕ)) (goal : Goal) → new.goals.items ≡ old.goals.items ++ goal ∷ []
     → map value_of words ≡ goal_numbers goal
     → given_by_draft (record old { goals = new.goals }) ≡ with_statement (given_by_draft old) (name_of keys.Goal ∷ words)
-given-goal old new words goal items value = fun_ext (λ key. same key)
-  where
-    same : (key : Key) → given_by_draft (record old { goals = new.goals }) key
-        ≡ with_statement (given_by_draft old) (name_of keys.Goal ∷ words) key
-    same keys.Goal =
-        ap (map goal_numbers) items ∙ map-append goal_numbers old.goals.items (goal ∷ [])
-        ∙ ap (λ zs. map goal_numbers old.goals.items ++ zs ∷ []) (sym value)
-    same key = refl
+given-goal old new words goal items value =
+    fun_ext (elim [
+      | keys.Goal ↦
+          ap (map goal_numbers) items ∙ map-append goal_numbers old.goals.items (goal ∷ [])
+          ∙ ap (λ zs. map goal_numbers old.goals.items ++ zs ∷ []) (sym value)
+      | _ ↦ refl
+    ])
 
 -- one more mark is what its line gives
 pub given-mark : (old new : Draft) (words : List (List ℕ)) (p : Point) → new.marks.items ≡ old.marks.items ++ p ∷ []
     → map value_of words ≡ point_numbers p
     → given_by_draft (record old { marks = new.marks }) ≡ with_statement (given_by_draft old) (name_of keys.Mark ∷ words)
-given-mark old new words p items value = fun_ext (λ key. same key)
-  where
-    same : (key : Key) → given_by_draft (record old { marks = new.marks }) key
-        ≡ with_statement (given_by_draft old) (name_of keys.Mark ∷ words) key
-    same keys.Mark =
-        ap (map point_numbers) items ∙ map-append point_numbers old.marks.items (p ∷ [])
-        ∙ ap (λ zs. map point_numbers old.marks.items ++ zs ∷ []) (sym value)
-    same key = refl
+given-mark old new words p items value =
+    fun_ext (elim [
+      | keys.Mark ↦
+          ap (map point_numbers) items ∙ map-append point_numbers old.marks.items (p ∷ [])
+          ∙ ap (λ zs. map point_numbers old.marks.items ++ zs ∷ []) (sym value)
+      | _ ↦ refl
+    ])
 
 -- ---- a field of one line
 
@@ -90,92 +84,62 @@ once numbers (Some known) field zs rest fresh value = absurd (true≢false fresh
 pub given-room : (version : ℕ) (old : Draft) (words : List (List ℕ)) (point : Point) → is_repeated version (given_by_draft old) keys.Room ≡ false
     → map value_of words ≡ point_numbers point
     → given_by_draft (record old { room = Some point }) ≡ with_statement (given_by_draft old) (name_of keys.Room ∷ words)
-given-room version old words point fresh value = fun_ext (λ key. same key)
-  where
-    same : (key : Key) → given_by_draft (record old { room = Some point }) key ≡ with_statement (given_by_draft old) (name_of keys.Room ∷ words) key
-    same keys.Room = once point_numbers old.room point (map value_of words) false fresh value
-    same key = refl
+given-room version old words point fresh value =
+    fun_ext (elim [ keys.Room ↦ once point_numbers old.room point (map value_of words) false fresh value | _ ↦ refl ])
 
 pub given-body : (version : ℕ) (old : Draft) (words : List (List ℕ)) (corners : List Vertex) → is_repeated version (given_by_draft old) keys.Body ≡ false
     → map value_of words ≡ corner_numbers corners
     → given_by_draft (record old { body = Some corners }) ≡ with_statement (given_by_draft old) (name_of keys.Body ∷ words)
-given-body version old words corners fresh value = fun_ext (λ key. same key)
-  where
-    same : (key : Key) → given_by_draft (record old { body = Some corners }) key ≡ with_statement (given_by_draft old) (name_of keys.Body ∷ words) key
-    same keys.Body = once corner_numbers old.body corners (map value_of words) false fresh value
-    same key = refl
+given-body version old words corners fresh value =
+    fun_ext (elim [ keys.Body ↦ once corner_numbers old.body corners (map value_of words) false fresh value | _ ↦ refl ])
 
 pub given-clearance : (version : ℕ) (old : Draft) (words : List (List ℕ)) (amount : ℕ) → is_repeated version (given_by_draft old) keys.Clearance ≡ false
     → map value_of words ≡ amount_numbers amount
     → given_by_draft (record old { clearance = Some amount }) ≡ with_statement (given_by_draft old) (name_of keys.Clearance ∷ words)
-given-clearance version old words amount fresh value = fun_ext (λ key. same key)
-  where
-    same : (key : Key) → given_by_draft (record old { clearance = Some amount }) key ≡ with_statement (given_by_draft old) (name_of keys.Clearance ∷ words) key
-    same keys.Clearance = once amount_numbers old.clearance amount (map value_of words) false fresh value
-    same key = refl
+given-clearance version old words amount fresh value =
+    fun_ext (elim [ keys.Clearance ↦ once amount_numbers old.clearance amount (map value_of words) false fresh value | _ ↦ refl ])
 
 pub given-start : (version : ℕ) (old : Draft) (words : List (List ℕ)) (point : Point) → is_repeated version (given_by_draft old) keys.Start ≡ false
     → map value_of words ≡ point_numbers point
     → given_by_draft (record old { start = Some point }) ≡ with_statement (given_by_draft old) (name_of keys.Start ∷ words)
-given-start version old words point fresh value = fun_ext (λ key. same key)
-  where
-    same : (key : Key) → given_by_draft (record old { start = Some point }) key ≡ with_statement (given_by_draft old) (name_of keys.Start ∷ words) key
-    same keys.Start = once point_numbers old.start point (map value_of words) false fresh value
-    same key = refl
+given-start version old words point fresh value =
+    fun_ext (elim [ keys.Start ↦ once point_numbers old.start point (map value_of words) false fresh value | _ ↦ refl ])
 
 pub given-step : (version : ℕ) (old : Draft) (words : List (List ℕ)) (amount : ℕ) → is_repeated version (given_by_draft old) keys.Step ≡ false
     → map value_of words ≡ amount_numbers amount
     → given_by_draft (record old { step = Some amount }) ≡ with_statement (given_by_draft old) (name_of keys.Step ∷ words)
-given-step version old words amount fresh value = fun_ext (λ key. same key)
-  where
-    same : (key : Key) → given_by_draft (record old { step = Some amount }) key ≡ with_statement (given_by_draft old) (name_of keys.Step ∷ words) key
-    same keys.Step = once amount_numbers old.step amount (map value_of words) false fresh value
-    same key = refl
+given-step version old words amount fresh value =
+    fun_ext (elim [ keys.Step ↦ once amount_numbers old.step amount (map value_of words) false fresh value | _ ↦ refl ])
 
 pub given-gamma : (version : ℕ) (old : Draft) (words : List (List ℕ)) (amount : ℕ) → is_repeated version (given_by_draft old) keys.Gamma ≡ false
     → map value_of words ≡ amount_numbers amount
     → given_by_draft (record old { gamma = Some amount }) ≡ with_statement (given_by_draft old) (name_of keys.Gamma ∷ words)
-given-gamma version old words amount fresh value = fun_ext (λ key. same key)
-  where
-    same : (key : Key) → given_by_draft (record old { gamma = Some amount }) key ≡ with_statement (given_by_draft old) (name_of keys.Gamma ∷ words) key
-    same keys.Gamma = once amount_numbers old.gamma amount (map value_of words) false fresh value
-    same key = refl
+given-gamma version old words amount fresh value =
+    fun_ext (elim [ keys.Gamma ↦ once amount_numbers old.gamma amount (map value_of words) false fresh value | _ ↦ refl ])
 
 pub given-seed : (version : ℕ) (old : Draft) (words : List (List ℕ)) (amount : ℕ) → is_repeated version (given_by_draft old) keys.Seed ≡ false
     → map value_of words ≡ amount_numbers amount
     → given_by_draft (record old { seed = Some amount }) ≡ with_statement (given_by_draft old) (name_of keys.Seed ∷ words)
-given-seed version old words amount fresh value = fun_ext (λ key. same key)
-  where
-    same : (key : Key) → given_by_draft (record old { seed = Some amount }) key ≡ with_statement (given_by_draft old) (name_of keys.Seed ∷ words) key
-    same keys.Seed = once amount_numbers old.seed amount (map value_of words) false fresh value
-    same key = refl
+given-seed version old words amount fresh value =
+    fun_ext (elim [ keys.Seed ↦ once amount_numbers old.seed amount (map value_of words) false fresh value | _ ↦ refl ])
 
 pub given-strips : (version : ℕ) (old : Draft) (words : List (List ℕ)) (amount : ℕ) → is_repeated version (given_by_draft old) keys.Strips ≡ false
     → map value_of words ≡ amount_numbers amount
     → given_by_draft (record old { strips = Some amount }) ≡ with_statement (given_by_draft old) (name_of keys.Strips ∷ words)
-given-strips version old words amount fresh value = fun_ext (λ key. same key)
-  where
-    same : (key : Key) → given_by_draft (record old { strips = Some amount }) key ≡ with_statement (given_by_draft old) (name_of keys.Strips ∷ words) key
-    same keys.Strips = once amount_numbers old.strips amount (map value_of words) false fresh value
-    same key = refl
+given-strips version old words amount fresh value =
+    fun_ext (elim [ keys.Strips ↦ once amount_numbers old.strips amount (map value_of words) false fresh value | _ ↦ refl ])
 
 pub given-informed : (version : ℕ) (old : Draft) (words : List (List ℕ)) (amount : ℕ) → is_repeated version (given_by_draft old) keys.Informed ≡ false
     → map value_of words ≡ amount_numbers amount
     → given_by_draft (record old { informed = Some amount }) ≡ with_statement (given_by_draft old) (name_of keys.Informed ∷ words)
-given-informed version old words amount fresh value = fun_ext (λ key. same key)
-  where
-    same : (key : Key) → given_by_draft (record old { informed = Some amount }) key ≡ with_statement (given_by_draft old) (name_of keys.Informed ∷ words) key
-    same keys.Informed = once amount_numbers old.informed amount (map value_of words) false fresh value
-    same key = refl
+given-informed version old words amount fresh value =
+    fun_ext (elim [ keys.Informed ↦ once amount_numbers old.informed amount (map value_of words) false fresh value | _ ↦ refl ])
 
 pub given-drawn : (version : ℕ) (old : Draft) (words : List (List ℕ)) (amount : ℕ) → is_repeated version (given_by_draft old) keys.Marks ≡ false
     → map value_of words ≡ amount_numbers amount
     → given_by_draft (record old { drawn = Some amount }) ≡ with_statement (given_by_draft old) (name_of keys.Marks ∷ words)
-given-drawn version old words amount fresh value = fun_ext (λ key. same key)
-  where
-    same : (key : Key) → given_by_draft (record old { drawn = Some amount }) key ≡ with_statement (given_by_draft old) (name_of keys.Marks ∷ words) key
-    same keys.Marks = once amount_numbers old.drawn amount (map value_of words) (stands (given_by_draft old) keys.Mark) fresh value
-    same key = refl
+given-drawn version old words amount fresh value =
+    fun_ext (elim [ keys.Marks ↦ once amount_numbers old.drawn amount (map value_of words) (stands (given_by_draft old) keys.Mark) fresh value | _ ↦ refl ])
 
 -- the version gives nothing but that it was read
 pub TakesLine-version : (old new : Draft) (words : List (List ℕ)) (version : ℕ) → is_skipped words ≡ false → old.version ≡ None

@@ -29,60 +29,53 @@ returns-in_ok-push-in-Mark-clause-given c =
 
 pub returns-in_ok-read_point-in-Room-clause-given : goal.returns-in_ok-read_point-in-Room-clause-given
 returns-in_ok-read_point-in-Room-clause-given c =
-    let read = c.in_ok-read_point-in-Room in
     rw c.in-Room.is
-    (given-room c.args.version c.args.self.now (words_of c.args.words.now) read.field-0 (rw c.in-Room.is at c.requires.fresh) read.ensures.value)
+    (given-room c.args.version c.args.self.now (words_of c.args.words.now) _ (rw c.in-Room.is at c.requires.fresh) c.in_ok-read_point-in-Room.ensures.value)
 
 pub returns-in_ok-read_body-in-Body-clause-given : goal.returns-in_ok-read_body-in-Body-clause-given
 returns-in_ok-read_body-in-Body-clause-given c =
-    let read = c.in_ok-read_body-in-Body in
     rw c.in-Body.is
-    (given-body c.args.version c.args.self.now (words_of c.args.words.now) read.field-0 (rw c.in-Body.is at c.requires.fresh) read.ensures.value)
+    (given-body c.args.version c.args.self.now (words_of c.args.words.now) _ (rw c.in-Body.is at c.requires.fresh) c.in_ok-read_body-in-Body.ensures.value)
 
 pub returns-in_ok-read_amount-in-Clearance-clause-given : goal.returns-in_ok-read_amount-in-Clearance-clause-given
 returns-in_ok-read_amount-in-Clearance-clause-given c =
-    let read = c.in_ok-read_amount-in-Clearance in
     rw c.in-Clearance.is
-    (given-clearance c.args.version c.args.self.now (words_of c.args.words.now) read.field-0 (rw c.in-Clearance.is at c.requires.fresh) read.ensures.value)
+    (given-clearance c.args.version c.args.self.now (words_of c.args.words.now) _ (rw c.in-Clearance.is at c.requires.fresh)
+    c.in_ok-read_amount-in-Clearance.ensures.value)
 
 pub returns-in_ok-read_point-in-Start-clause-given : goal.returns-in_ok-read_point-in-Start-clause-given
 returns-in_ok-read_point-in-Start-clause-given c =
-    let read = c.in_ok-read_point-in-Start in
     rw c.in-Start.is
-    (given-start c.args.version c.args.self.now (words_of c.args.words.now) read.field-0 (rw c.in-Start.is at c.requires.fresh) read.ensures.value)
+    (given-start c.args.version c.args.self.now (words_of c.args.words.now) _ (rw c.in-Start.is at c.requires.fresh) c.in_ok-read_point-in-Start.ensures.value)
 
 pub returns-in_ok-read_amount-in-Step-clause-given : goal.returns-in_ok-read_amount-in-Step-clause-given
 returns-in_ok-read_amount-in-Step-clause-given c =
-    let read = c.in_ok-read_amount-in-Step in
     rw c.in-Step.is
-    (given-step c.args.version c.args.self.now (words_of c.args.words.now) read.field-0 (rw c.in-Step.is at c.requires.fresh) read.ensures.value)
+    (given-step c.args.version c.args.self.now (words_of c.args.words.now) _ (rw c.in-Step.is at c.requires.fresh) c.in_ok-read_amount-in-Step.ensures.value)
 
 pub returns-in_ok-read_amount-in-Gamma-clause-given : goal.returns-in_ok-read_amount-in-Gamma-clause-given
 returns-in_ok-read_amount-in-Gamma-clause-given c =
-    let read = c.in_ok-read_amount-in-Gamma in
     rw c.in-Gamma.is
-    (given-gamma c.args.version c.args.self.now (words_of c.args.words.now) read.field-0 (rw c.in-Gamma.is at c.requires.fresh) read.ensures.value)
+    (given-gamma c.args.version c.args.self.now (words_of c.args.words.now) _ (rw c.in-Gamma.is at c.requires.fresh) c.in_ok-read_amount-in-Gamma.ensures.value)
 
 pub returns-in_ok-read_amount-in-Seed-clause-given : goal.returns-in_ok-read_amount-in-Seed-clause-given
 returns-in_ok-read_amount-in-Seed-clause-given c =
-    let read = c.in_ok-read_amount-in-Seed in
     rw c.in-Seed.is
-    (given-seed c.args.version c.args.self.now (words_of c.args.words.now) read.field-0 (rw c.in-Seed.is at c.requires.fresh) read.ensures.value)
+    (given-seed c.args.version c.args.self.now (words_of c.args.words.now) _ (rw c.in-Seed.is at c.requires.fresh) c.in_ok-read_amount-in-Seed.ensures.value)
 
 pub returns-in_ok-read_amount-in-Strips-clause-given : goal.returns-in_ok-read_amount-in-Strips-clause-given
 returns-in_ok-read_amount-in-Strips-clause-given c =
-    let read = c.in_ok-read_amount-in-Strips in
     rw c.in-Strips.is
-    (given-strips c.args.version c.args.self.now (words_of c.args.words.now) read.field-0 (rw c.in-Strips.is at c.requires.fresh) read.ensures.value)
+    (given-strips c.args.version c.args.self.now (words_of c.args.words.now) _ (rw c.in-Strips.is at c.requires.fresh)
+    c.in_ok-read_amount-in-Strips.ensures.value)
 
 pub returns-in_ok-read_amount-in-Informed-clause-given : goal.returns-in_ok-read_amount-in-Informed-clause-given
 returns-in_ok-read_amount-in-Informed-clause-given c =
-    let read = c.in_ok-read_amount-in-Informed in
     rw c.in-Informed.is
-    (given-informed c.args.version c.args.self.now (words_of c.args.words.now) read.field-0 (rw c.in-Informed.is at c.requires.fresh) read.ensures.value)
+    (given-informed c.args.version c.args.self.now (words_of c.args.words.now) _ (rw c.in-Informed.is at c.requires.fresh)
+    c.in_ok-read_amount-in-Informed.ensures.value)
 
 pub returns-in_ok-read_amount-in-Marks-clause-given : goal.returns-in_ok-read_amount-in-Marks-clause-given
 returns-in_ok-read_amount-in-Marks-clause-given c =
-    let read = c.in_ok-read_amount-in-Marks in
     rw c.in-Marks.is
-    (given-drawn c.args.version c.args.self.now (words_of c.args.words.now) read.field-0 (rw c.in-Marks.is at c.requires.fresh) read.ensures.value)
+    (given-drawn c.args.version c.args.self.now (words_of c.args.words.now) _ (rw c.in-Marks.is at c.requires.fresh) c.in_ok-read_amount-in-Marks.ensures.value)
