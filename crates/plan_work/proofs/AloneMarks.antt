@@ -21,17 +21,23 @@ record_still : (before after : View) (j : ℕ) → sees after (RecordOf j) ≡ s
 record_still before after j record_is first_is = λ t. record_of_word (record_is t) (first_is t)
 
 -- no word that tells of the tree or the records is seen anew
-pub SeesTextbook-still : (before after : View) (k : ℕ) → IsLater before after → SeesButCount before after → SeesTextbook before k → SeesTextbook after k
-SeesTextbook-still before after k later same book = record {
+pub SeesTextbook-kept :
+    (before after : View) (k : ℕ) → IsLater before after → ((n : ℕ) → sees after (PointOf n) ≡ sees before (PointOf n))
+    → ((n : ℕ) → sees after (TreeOf n) ≡ sees before (TreeOf n)) → ((j : ℕ) → sees after (RecordOf j) ≡ sees before (RecordOf j))
+    → ((j : ℕ) → sees after (FirstOf (suc j)) ≡ sees before (FirstOf (suc j))) → SeesTextbook before k → SeesTextbook after k
+SeesTextbook-kept before after k later points trees records firsts book = record {
   tree = book.tree;
   records = book.records;
   run = subst (λ (r : SharedRun). IsTextbookRun (setup_in r) (take k r.marks) book.tree book.records) (sym later.run) book.run;
-  nodes =
-      Mirrors-still before after later.run (λ n. same (PointOf n) (λ e. cc)) (λ n. same (TreeOf n) (λ e. cc)) book.tree book.nodes;
-  recorded = λ j. record_still before after j (same (RecordOf j) (λ e. cc)) (same (FirstOf (suc j)) (λ e. cc)) ∙ book.recorded j;
-  best =
-      HasPostedGoals-step before after later (λ n. same (PointOf n) (λ e. cc)) (λ n goal changed. absurd (changed (same (TreeOf n) (λ e. cc)))) book.best;
+  nodes = Mirrors-still before after later.run points trees book.tree book.nodes;
+  recorded = λ j. record_still before after j (records j) (firsts j) ∙ book.recorded j;
+  best = HasPostedGoals-step before after later points (λ n goal changed. absurd (changed (trees n))) book.best;
 }
+
+pub SeesTextbook-still : (before after : View) (k : ℕ) → IsLater before after → SeesButCount before after → SeesTextbook before k → SeesTextbook after k
+SeesTextbook-still before after k later same =
+    SeesTextbook-kept before after k later (λ n. same (PointOf n) (λ e. cc)) (λ n. same (TreeOf n) (λ e. cc)) (λ j. same (RecordOf j) (λ e. cc))
+    (λ j. same (FirstOf (suc j)) (λ e. cc))
 
 -- ---- the next mark
 

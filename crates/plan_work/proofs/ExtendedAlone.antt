@@ -12,37 +12,30 @@ use Rattle.plan_work.proofs.SkippedAlone.{IsNotSkippedIn-kept, MayBeCheaper-mirr
 use Rattle.plan_work.proofs.TextbookSteps.{Handles-steered}
 use Rattle.plan_work.proofs.WholeLists.{IsFilledWhole-still, IsSteeredWhole-found, IsSteeredWhole-still}
 
+-- the others are kept from one view to another if each of them that was kept is
+kept_others :
+    (one mid other after : View) (k : ℕ) (placing : Placing) → ((n : ℕ) → KeepsNode one mid n → KeepsNode other after n)
+    → KeepsOthers one mid k placing → KeepsOthers other after k placing
+kept_others one mid other after k Placed kept others = λ n apart. kept n (others n apart)
+kept_others one mid other after k (Same j) kept others = λ n. kept n (others n)
+
 -- nodes are kept by calls that show nothing new before
 pub KeepsOthers-after : (before mid after : View) (k : ℕ) (placing : Placing) → SeesAsBefore before mid → KeepsOthers mid after k placing
     → KeepsOthers before after k placing
-KeepsOthers-after before mid after k placing same others = by_place placing others
-  where
-    kept : (n : ℕ) → KeepsNode mid after n → KeepsNode before after n
-    kept n node = record {
-      point = node.point ∙ same (PointOf n);
-      tree = node.tree ∙ same (TreeOf n);
-      first = node.first ∙ same (FirstOf n);
-    }
-
-    by_place : (o : Placing) → KeepsOthers mid after k o → KeepsOthers before after k o
-    by_place Placed h = λ n apart. kept n (h n apart)
-    by_place (Same j) h = λ n. kept n (h n)
+KeepsOthers-after before mid after k placing same = kept_others mid after before after k placing (λ n node. record {
+  point = node.point ∙ same (PointOf n);
+  tree = node.tree ∙ same (TreeOf n);
+  first = node.first ∙ same (FirstOf n);
+})
 
 -- and by calls that show nothing new then
 pub KeepsOthers-then : (before mid after : View) (k : ℕ) (placing : Placing) → KeepsOthers before mid k placing → SeesAsBefore mid after
     → KeepsOthers before after k placing
-KeepsOthers-then before mid after k placing others same = by_place placing others
-  where
-    kept : (n : ℕ) → KeepsNode before mid n → KeepsNode before after n
-    kept n node = record {
-      point = same (PointOf n) ∙ node.point;
-      tree = same (TreeOf n) ∙ node.tree;
-      first = same (FirstOf n) ∙ node.first;
-    }
-
-    by_place : (o : Placing) → KeepsOthers before mid k o → KeepsOthers before after k o
-    by_place Placed h = λ n apart. kept n (h n apart)
-    by_place (Same j) h = λ n. kept n (h n)
+KeepsOthers-then before mid after k placing others same = kept_others before mid before after k placing (λ n node. record {
+  point = same (PointOf n) ∙ node.point;
+  tree = same (TreeOf n) ∙ node.tree;
+  first = same (FirstOf n) ∙ node.first;
+}) others
 
 -- of a placing that a pass with the share of all workers makes
 pub KeepsOthers-placing : (before after : View) (hand : Hand) (placing : Placing) → SeesPlacing before after hand placing

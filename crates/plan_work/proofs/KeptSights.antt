@@ -35,26 +35,34 @@ module _ (mid after : View) (goes_on : GoesOn mid after) where
       SweepsWithin-later (sight_in before) (sight_in mid) (sight_in after) p bound (IsLaterMoment-later mid after goes_on.later)
       (KeepsSight-lawful mid goes_on.was_lawful) swept
 
+-- Node m was not above any other node, by a search that this step came after, and steers to p.
+HasSteered-since :
+    (before mid after : View) → GoesOn before mid → GoesOn mid after → (k m : ℕ) (from p : Point) → IsPresent (tree_seen mid).points m
+    → ((n : ℕ) → IsPresent (tree_seen before).points n → IsNotAbove (distance_to (mark_at mid.run.marks k) (tree_seen mid).points) m n)
+    → SweepsWithin (sight_in before) (sight_in mid) (mark_at mid.run.marks k) (distance_to (mark_at mid.run.marks k) (tree_seen mid).points m)
+    → SeesPoint after m from → p ≡ steered from (mark_at after.run.marks k) after.run.step → HasSteered before after k m from p
+HasSteered-since before mid after one other k m from p here not_above swept stands is =
+    let mark = mark_at mid.run.marks k in
+    let same_mark : mark_at after.run.marks k ≡ mark = ap (λ r. mark_at r.marks k) other.later.run in
+    record {
+      stands = stands;
+      point_is = is;
+      not_above = λ n there.
+          subst (λ q. IsNotAbove (distance_to q (tree_seen after).points) m n) (sym same_mark)
+          (IsNotAbove-still mid after other mark m n here (present_still before mid one n there) (not_above n there));
+      swept =
+          subst (λ q. SweepsWithin (sight_in before) (sight_in after) q (distance_to q (tree_seen after).points m)) (sym same_mark)
+          (subst (SweepsWithin (sight_in before) (sight_in after) mark) (sym (distance_still mid after other mark m here))
+          (SweepsWithin-still mid after other before mark (distance_to mark (tree_seen mid).points m) swept));
+    }
+
 -- Node m steered to p; it has, still.
 pub HasSteered-still :
     (before mid after : View) → GoesOn before mid → GoesOn mid after → (k m : ℕ) (from p : Point) → HasSteered before mid k m from p
     → HasSteered before after k m from p
 HasSteered-still before mid after one other k m from p h =
-    let run = other.later.run in
-    let mark = mark_at mid.run.marks k in
-    let same_mark : mark_at after.run.marks k ≡ mark = ap (λ r. mark_at r.marks k) run in
-    let here = IsPresent-stands (tree_seen mid).points m from h.stands in
-    record {
-      stands = stands_later mid after other m from h.stands;
-      point_is = h.point_is ∙ ap (λ r. steered from (mark_at r.marks k) r.step) (sym run);
-      not_above = λ n there.
-          subst (λ q. IsNotAbove (distance_to q (tree_seen after).points) m n) (sym same_mark)
-          (IsNotAbove-still mid after other mark m n here (present_still before mid one n there) (h.not_above n there));
-      swept =
-          subst (λ q. SweepsWithin (sight_in before) (sight_in after) q (distance_to q (tree_seen after).points m)) (sym same_mark)
-          (subst (SweepsWithin (sight_in before) (sight_in after) mark) (sym (distance_still mid after other mark m here))
-          (SweepsWithin-still mid after other before mark (distance_to mark (tree_seen mid).points m) h.swept));
-    }
+    HasSteered-since before mid after one other k m from p (IsPresent-stands (tree_seen mid).points m from h.stands) h.not_above h.swept
+    (stands_later mid after other m from h.stands) (h.point_is ∙ ap (λ r. steered from (mark_at r.marks k) r.step) (sym other.later.run))
 
 -- so it has for a call that began earlier
 pub HasSteered-begun : (first before after : View) → GoesOn first before → (k m : ℕ) (from p : Point) → HasSteered before after k m from p
@@ -73,18 +81,5 @@ pub HasSteered-found :
     (before mid after : View) → GoesOn before mid → GoesOn mid after → (k m : ℕ) (from p : Point)
     → IsNearestSeen (sight_in before) (sight_in mid) (mark_at mid.run.marks k) m → SeesPoint after m from
     → p ≡ steered from (mark_at after.run.marks k) after.run.step → HasSteered before after k m from p
-HasSteered-found before mid after one other k m from p found stands is =
-    let mark = mark_at mid.run.marks k in
-    let same_mark : mark_at after.run.marks k ≡ mark = ap (λ r. mark_at r.marks k) other.later.run in
-    let here = found.nearest.member in
-    record {
-      stands = stands;
-      point_is = is;
-      not_above = λ n there.
-          subst (λ q. IsNotAbove (distance_to q (tree_seen after).points) m n) (sym same_mark)
-          (IsNotAbove-still mid after other mark m n here (present_still before mid one n there) (found.not_above n there));
-      swept =
-          subst (λ q. SweepsWithin (sight_in before) (sight_in after) q (distance_to q (tree_seen after).points m)) (sym same_mark)
-          (subst (SweepsWithin (sight_in before) (sight_in after) mark) (sym (distance_still mid after other mark m here))
-          (SweepsWithin-still mid after other before mark (distance_to mark (tree_seen mid).points m) found.swept));
-    }
+HasSteered-found before mid after one other k m from p found =
+    HasSteered-since before mid after one other k m from p found.nearest.member found.not_above found.swept

@@ -1,54 +1,18 @@
 -- One worker alone goes from mark to mark, each the least that is not claimed, and handles each as the textbook does.
-use Rattle.plan_work.proofs.Words.{◌≡◌, ℕ, suc, ◌+◌, ◌*◌, ◌/◌, ◌%◌, ◌<◌, ◌≤◌, ◌^◌, true, length, take, sym, ap, ◌∙◌, subst, inl, inr, arith, ◌≢◌, map}
-use Rattle.plan_work.proofs.Words.{range_with_len, cases_eq, cases_lt, le-ltb, lt-ltb, is_claimed, strip_of_mark, point_at, IsTextbookRun, Record, IsMarkOf-own}
-use Rattle.plan_work.proofs.Words.{is_claimed-now, is_claimed-other, ltb-next, record_at, seen_point, ChangesOnly, IsCounter, Counter, FirstOf, PointOf}
-use Rattle.plan_work.proofs.Words.{RecordOf, TreeOf, cost_in, parent_in, point_of_word, record_of_word, AllFull, IsClaimed, IsLeastOpen, KeepsHand}
-use Rattle.plan_work.proofs.Words.{RaisesCounter, SeesAsBefore, GoesOn, PassState, SharedState, HasPostedGoals-step, IsLater, mark_of, sees, setup_in}
-use Rattle.plan_work.proofs.Words.{tree_seen, counters, SharedRun, View, HandlesMark, HasClaimed, HasHandled, SeesTextbook, WorksAlone}
+use Rattle.plan_work.proofs.Words.{◌≡◌, ℕ, suc, ◌+◌, ◌*◌, ◌/◌, ◌%◌, ◌<◌, ◌≤◌, true, sym, ap, ◌∙◌, subst, inl, inr, arith, ◌≢◌}
+use Rattle.plan_work.proofs.Words.{cases_eq, cases_lt, le-ltb, lt-ltb, is_claimed, strip_of_mark, Record, IsMarkOf-own}
+use Rattle.plan_work.proofs.Words.{is_claimed-now, is_claimed-other, ltb-next, ChangesOnly, IsCounter, Counter, FirstOf, PointOf}
+use Rattle.plan_work.proofs.Words.{RecordOf, TreeOf, AllFull, IsClaimed, IsLeastOpen, KeepsHand}
+use Rattle.plan_work.proofs.Words.{RaisesCounter, SeesAsBefore, GoesOn, PassState, SharedState, IsLater, mark_of, sees}
+use Rattle.plan_work.proofs.Words.{counters, SharedRun, View, HandlesMark, HasClaimed, HasHandled, SeesTextbook, WorksAlone}
+use Rattle.plan_work.proofs.AloneMarks.{SeesTextbook-kept, WorksAlone-still}
 
--- ---- while only counters are seen anew
-
-module _ (before after : View) (later : IsLater before after) (others : ChangesOnly IsCounter (sees before) (sees after)) where
-  run : after.run ≡ before.run
-  run = later.run
-
-  point-same : (n : ℕ) → seen_point (sees after) n ≡ seen_point (sees before) n
-  point-same n = ap point_of_word (others (PointOf n) (λ no. no))
-
-  points-same : (tree_seen after).points ≡ (tree_seen before).points
-  points-same =
-      ap (λ (r : SharedRun). map (seen_point (sees after)) (range_with_len 0 (length r.marks + 1))) run
-      ∙ ap (λ f. map f (range_with_len 0 (length before.run.marks + 1))) (λ t n. point-same n t)
-
-  record-same : (j : ℕ) → record_at (sees after) j ≡ record_at (sees before) j
-  record-same j =
-      ap (λ w. record_of_word w (sees after (FirstOf (suc j)))) (others (RecordOf j) (λ no. no))
-      ∙ ap (record_of_word (sees before (RecordOf j))) (others (FirstOf (suc j)) (λ no. no))
-
-  -- the same tree and the same records are seen
-  pub SeesTextbook-counted : (k : ℕ) → SeesTextbook before k → SeesTextbook after k
-  SeesTextbook-counted k seen = record {
-    tree = seen.tree;
-    records = seen.records;
-    run = subst (λ (r : SharedRun). IsTextbookRun (setup_in r) (take k r.marks) seen.tree seen.records) (sym run) seen.run;
-    nodes = record {
-      points = λ n. ap (λ ps. point_at ps n) points-same ∙ seen.nodes.points n;
-      written = λ n here. subst (λ w. 2 ^ 63 ≤ w) (sym (others (TreeOf n) (λ no. no))) (seen.nodes.written n here);
-      parents = λ n here. ap parent_in (others (TreeOf n) (λ no. no)) ∙ seen.nodes.parents n here;
-      costs = λ n here. ap cost_in (others (TreeOf n) (λ no. no)) ∙ seen.nodes.costs n here;
-    };
-    recorded = λ j. record-same j ∙ seen.recorded j;
-    best =
-        HasPostedGoals-step before after later (λ n. others (PointOf n) (λ no. no)) (λ n goal changed. absurd (changed (others (TreeOf n) (λ no. no))))
-        seen.best;
-  }
-
-  -- and the worker is the only one still
-  pub WorksAlone-counted : (k : ℕ) → after.crew ≡ before.crew → WorksAlone before k → WorksAlone after k
-  WorksAlone-counted k crew alone = record {
-    whole = ap length crew ∙ alone.whole ∙ ap (λ (r : SharedRun). r.workers) (sym run);
-    crew = crew ∙ alone.crew;
-  }
+-- while only counters are seen anew, the same tree and the same records are seen
+SeesTextbook-counted :
+    (before after : View) (k : ℕ) → IsLater before after → ChangesOnly IsCounter (sees before) (sees after) → SeesTextbook before k → SeesTextbook after k
+SeesTextbook-counted before after k later others =
+    SeesTextbook-kept before after k later (λ n. others (PointOf n) (λ no. no)) (λ n. others (TreeOf n) (λ no. no))
+    (λ j. others (RecordOf j) (λ no. no)) (λ j. others (FirstOf (suc j)) (λ no. no))
 
 -- ---- the least mark
 
@@ -111,8 +75,8 @@ pub HasHandled-mark :
 HasHandled-mark shared now claimed after limit k m entry handled goes_on others claims raises least handles extended =
     let here : HasHandled now.view k = subst (HasHandled now.view) (sym (least-is now.view k m handled.claimed least)) handled in
     let run = goes_on.later.run in
-    let both = extended (WorksAlone-counted now.view claimed.view goes_on.later others k claims.crew here.alone)
-    (SeesTextbook-counted now.view claimed.view goes_on.later others k here.textbook) in
+    let both = extended (WorksAlone-still now.view claimed.view k run claims.crew here.alone)
+    (SeesTextbook-counted now.view claimed.view k goes_on.later others here.textbook) in
     let was = HasClaimed-claims now.view claimed.view limit k goes_on.was_lawful.run.strips.0 run claims raises here.claimed in
     record {
       alone = both.0;
@@ -144,8 +108,8 @@ HasHandled-all now after limit m handled low goes_on others as_before kept full 
     still =
         let run = goes_on.later.run in
         record {
-          alone = WorksAlone-counted now after goes_on.later others m kept.crew handled.alone;
-          textbook = SeesTextbook-counted now after goes_on.later others m handled.textbook;
+          alone = WorksAlone-still now after m run kept.crew handled.alone;
+          textbook = SeesTextbook-counted now after m goes_on.later others handled.textbook;
           claimed = λ j.
               ap (λ (r : SharedRun). is_claimed r.strips (counters (sees after)) j) run
               ∙ ap (λ f. is_claimed now.run.strips f j) (λ t g. as_before (Counter g) t)

@@ -1,7 +1,7 @@
 -- One worker alone begins with what a run of the textbook has come to, and ends with such a run.
 use Rattle.plan_work.proofs.Words.{◌≡◌, ℕ, ◌+◌, ◌<◌, ◌≤◌, ◌^◌, true, cond, ltb, List, [], ◌∷◌, length, take, Option, Some, None, refl, sym, ap, ◌∙◌, subst, inl}
 use Rattle.plan_work.proofs.Words.{inr, arith, IsTrue, is_some, cases_Bool, cases_lt, le-ltb, lt-ltb, get_or_past, length-map-range_with_len, is_claimed}
-use Rattle.plan_work.proofs.Words.{IsGoalNode, is_goal_point, IsPresent, point_at, IsSeen, IsTextbookRun, setup_of, skipping_goals, start_alone, AreSameRuns}
+use Rattle.plan_work.proofs.Words.{IsGoalNode, is_goal_point, IsPresent, point_at, IsTextbookRun, setup_of, skipping_goals, start_alone, AreSameRuns}
 use Rattle.plan_work.proofs.Words.{state_of, points_of, Point, Task, AreSameRuns-trans, is_claimed-below, is_claimed-past, state_of_grown, words_of_grown}
 use Rattle.plan_work.proofs.Words.{HoldRun, has_node, is_linked, points_of_words, record_at, sizes_of, seen_point, seen_tree_of_words, Words, PointOf, TreeOf}
 use Rattle.plan_work.proofs.Words.{Sizes, best_word, cost_in, parent_in, point_of_word, node_point-here, point_at-past, point_at-words, is_linked-child}
@@ -14,7 +14,7 @@ use Rattle.plan_work.proofs.TextbookTurns.{turns-textbook}
 -- ---- the start
 
 -- no number past the last mark's is seen
-point_at-seen_past : (sizes : Sizes) (seen : Words) (n : ℕ) → sizes.marks < n → point_at (seen_tree_of_words sizes seen).points n ≡ None
+pub point_at-seen_past : (sizes : Sizes) (seen : Words) (n : ℕ) → sizes.marks < n → point_at (seen_tree_of_words sizes seen).points n ≡ None
 point_at-seen_past sizes seen n past =
     get_or_past (seen_tree_of_words sizes seen).points n None
     (omega (arith, past, length-map-range_with_len (seen_point seen) 0 (sizes.marks + 1)))
@@ -133,12 +133,10 @@ module _ (view : View) (lawful : IsLawfulView view) where
   sizes = run_sizes view.run
 
   linked-seen : (n : ℕ) → IsPresent (tree_seen view).points n → is_linked sizes (sees view) n ≡ true
-  linked-seen n here = by_seen (lawful.tree.rooted.points n here)
-    where
-      by_seen : IsSeen (tree_seen view) n → is_linked sizes (sees view) n ≡ true
-      by_seen (inl start) = ap (is_linked sizes (sees view)) start ∙ is_linked-start sizes (sees view)
-      by_seen (inr (a, side, link)) =
-          is_linked-child sizes (sees view) a n side (lawful.within a (lawful.tree.rooted.children a n side link)) link
+  linked-seen n here = elim (lawful.tree.rooted.points n here) [
+    | inl start ↦ ap (is_linked sizes (sees view)) start ∙ is_linked-start sizes (sees view)
+    | inr (a, side, link) ↦ is_linked-child sizes (sees view) a n side (lawful.within a (lawful.tree.rooted.children a n side link)) link
+  ]
 
   point_at-seen_linked : (n : ℕ) → point_at (linked_points sizes (sees view)) n ≡ point_at (tree_seen view).points n
   point_at-seen_linked n = by_seen (point_at (tree_seen view).points n) refl (point_at (linked_points sizes (sees view)) n) refl

@@ -1,10 +1,10 @@
 -- A pass that works alone places a node, or finds one at its point: the mark is handled as in the textbook.
 use Rattle.plan_work.proofs.Words.{◌≡◌, ℕ, suc, ◌+◌, ◌<◌, ◌≤◌, ◌^◌, Some, None, [], ◌∷◌, ◌++◌, length, arith, refl, sym, ap, ◌∙◌, subst, inl, inr, All}
-use Rattle.plan_work.proofs.Words.{Contains, List, Option, cases_lt, get_or_past, All-cons, All-contains, Contains-get_or, length-map-range_with_len, Clear}
+use Rattle.plan_work.proofs.Words.{Contains, List, Option, cases_lt, All-cons, All-contains, Contains-get_or, Clear}
 use Rattle.plan_work.proofs.Words.{ClearAt, mark_at, space_of, IsFirstLeast, IsOpenTo, IsFree, IsPresent, node_count, point_at, point_of, class_of, Handles}
 use Rattle.plan_work.proofs.Words.{IsBestParent, Nodes, Rewires, Setup, SteersTo, near_new, cost_through, points_of, NewNode, SameNode, ending_of, Point}
 use Rattle.plan_work.proofs.Words.{Record, candidate-reachable, IsPresent-stands, PlacesNode, Contains-after, Contains-first, ConfigurationSpace}
-use Rattle.plan_work.proofs.Words.{cost_in-tree_word, parent_in-tree_word, seen_point, FirstOf, PointOf, RecordOf, TreeOf, best_word, cost_in, parent_in}
+use Rattle.plan_work.proofs.Words.{cost_in-tree_word, parent_in-tree_word, FirstOf, PointOf, RecordOf, TreeOf, best_word, cost_in, parent_in}
 use Rattle.plan_work.proofs.Words.{point_of_word, tree_word, numbers_of, HasPostedGoals-more, HasPostedGoals-step, lies-at, HasPostedGoals, PassState}
 use Rattle.plan_work.proofs.Words.{SharedState, turn_of, worker_of, Contains-cases, point_at-seen, has_link, SeesPoint, run_sizes, sees, setup_in, tree_seen}
 use Rattle.plan_work.proofs.Words.{SeesGoal, HasRecorded, IsTried, KeepsRecords, MayPlace, hung_by, given_by, own_placed, own_unplaced, placed_hand}
@@ -14,6 +14,7 @@ use Rattle.kd_shared.specs.declared.placing.Placing.TheVariants.{Placed, Same}
 use Rattle.plan_model.specs.declared.records.Outcome.TheVariants.{Same as SameMark}
 use Rattle.plan_work.proofs.AloneMarks.{KeepsRun, SeesTextbook-recorded, WorksAlone-recorded}
 use Rattle.plan_work.proofs.EqualPoints.{count-same, near_new-same}
+use Rattle.plan_work.proofs.LoneRuns.{point_at-seen_past}
 use Rattle.plan_work.proofs.MirroredTrees.{IsBestParent-mirrored, Mirrors-absent, Mirrors-placed, Mirrors-still, SeesNewNode, SteersTo-mirrored}
 use Rattle.plan_work.proofs.MirroredTrees.{seen_cost_through-mirrored, point_of-mirrored}
 use Rattle.plan_work.proofs.TextbookSteps.{Handles-steered, KeepsOrder-run, RecordsNext-run}
@@ -30,11 +31,8 @@ point_kept before after run n same =
           point_at-seen (run_sizes after.run) (sees after) n (omega (arith, within, marks)) ∙ ap point_of_word same
           ∙ sym (point_at-seen (run_sizes before.run) (sees before) n within)
       | inl past ↦
-          get_or_past (tree_seen after).points n None
-          (omega (arith, past, marks, length-map-range_with_len (seen_point (sees after)) 0 ((run_sizes after.run).marks + 1)))
-          ∙ sym
-          (get_or_past (tree_seen before).points n None
-          (omega (arith, past, length-map-range_with_len (seen_point (sees before)) 0 ((run_sizes before.run).marks + 1))))
+          point_at-seen_past (run_sizes after.run) (sees after) n (omega (arith, past, marks))
+          ∙ sym (point_at-seen_past (run_sizes before.run) (sees before) n past)
     ]
 
 -- ---- a node at the point

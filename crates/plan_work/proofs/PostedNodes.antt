@@ -23,12 +23,16 @@ module _ (mid after : PassState) (p : Point) (n : ℕ) (posts : PostsGoalNode mi
   still : lies_in_goals mid.view.run.goals p ≡ false → after.view ≡ mid.view
   still off = ap (λ (q : PassState). q.view) (posts.elsewhere off)
 
-  -- no word is seen anew
-  pub same_words : SeesAsBefore mid.view after.view
-  same_words name = elim cases [
-    | inl lies ↦ ap (λ v. sees v name) (then lies)
-    | inr off ↦ ap (λ v. sees v name) (still off)
+  -- what no post changes is kept,
+  kept : {T : Type 0} (f : View → T) → f (with_post mid.view n after.view.best (last_note after.view)) ≡ f mid.view → f after.view ≡ f mid.view
+  kept f same = elim cases [
+    | inl lies ↦ ap f (then lies) ∙ same
+    | inr off ↦ ap f (still off)
   ]
+
+  -- so no word is seen anew
+  pub same_words : SeesAsBefore mid.view after.view
+  same_words name = kept (λ v. sees v name) refl
 
   pub view_alone : after ≡ with_view mid after.view
   view_alone = elim cases [
@@ -37,16 +41,7 @@ module _ (mid after : PassState) (p : Point) (n : ℕ) (posts : PostsGoalNode mi
   ]
 
   pub KeepsShare-posted : KeepsShare mid.view after.view
-  KeepsShare-posted = record {
-    crew = elim cases [
-      | inl lies ↦ ap (λ (v : View). v.crew) (then lies)
-      | inr off ↦ ap (λ (v : View). v.crew) (still off)
-    ];
-    most = elim cases [
-      | inl lies ↦ ap (λ (v : View). v.most) (then lies)
-      | inr off ↦ ap (λ (v : View). v.most) (still off)
-    ];
-  }
+  KeepsShare-posted = record { crew = kept (λ v. v.crew) refl; most = kept (λ v. v.most) refl }
 
   module _ (hand : Hand) (placed : IsPlaced mid.view hand) (at : hand.point ≡ p) (node : suc hand.mark ≡ n) where
     abbrev counted : Hand

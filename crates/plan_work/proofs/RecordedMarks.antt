@@ -5,7 +5,7 @@ use Rattle.plan_work.proofs.Words.{ending_as, IsPresent-stands, point_of-stands,
 use Rattle.plan_work.proofs.Words.{RecordOf, IsFirstWord, record_of_word, record_word, GoesOn, MayClaim, PassState, SharedState, turn_of, with_view, worker_of}
 use Rattle.plan_work.proofs.Words.{GoesOn-trans, SeesBestSince-trans, entry_fits, is_own_node-earlier, has_node-recorded, own_recorded, present_recorded}
 use Rattle.plan_work.proofs.Words.{WritesWord-saw, IsLawfulView, MayEnd, MayReach, MayRecord, MaySteer, is_own_node, own_count, has_count, has_first, finished}
-use Rattle.plan_work.proofs.Words.{one_turn_more, pair_in_hand, sees, tree_seen, Hand, SharedRun, Stage, Claimed, Counted, Half, Linked, Pointed, Posted, Treed}
+use Rattle.plan_work.proofs.Words.{one_turn_more, pair_in_hand, sees, tree_seen, Hand, SharedRun, Stage, Claimed, Pointed}
 use Rattle.plan_work.proofs.Words.{View, stands_later, HandlesMark, HasRecorded, IsSteeredTo, KeepsRecords, own_unplaced}
 use Rattle.std.specs.List.{filter}
 use Rattle.grown_runs.proofs.Common.{Placed}
@@ -83,11 +83,7 @@ IsFirstWord-unplaced view nearest outcome first unplaced = record {
 has_first-counted : (stage : Stage) → has_count stage ≡ true → has_first stage ≡ true
 has_first-counted Claimed counted = cc
 has_first-counted Pointed counted = cc
-has_first-counted Half counted = refl
-has_first-counted Treed counted = refl
-has_first-counted Linked counted = refl
-has_first-counted Counted counted = refl
-has_first-counted Posted counted = refl
+has_first-counted stage counted = refl
 
 -- That of a placed one has the parent and the cost in hand, as the first word has.
 pub IsFirstWord-placed :

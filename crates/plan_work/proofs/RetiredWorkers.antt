@@ -1,7 +1,8 @@
 -- What is left of the passes of workers, once these have worked.
-use Rattle.plan_work.proofs.Words.{◌≡◌, ℕ, zero, suc, ◌<◌, List, length, ap, ◌∙◌, sym, subst, arith, refl, Some, ◌++◌, [], ◌∷◌, All, IsSome, option_to_list}
-use Rattle.plan_work.proofs.Words.{slice_index_or, take-append_seam, AllFull, GoesOn, MayClaim, PassState, SharedState, new_pass, HandlesRest, HasDone, HasLeft}
-use Rattle.plan_work.proofs.Words.{HasStopped, HasWorked, IsReady, left_by, left_of, workers_with, Worker, Away, Stopped, Working}
+use Rattle.plan_work.proofs.Words.{◌≡◌, ℕ, zero, suc, ◌<◌, List, length, ap, ◌∙◌, sym, subst, arith, refl, Some, ◌++◌, [], ◌∷◌, All, All-cons, IsSome}
+use Rattle.plan_work.proofs.Words.{append_assoc, option_to_list, slice_index_or, take-append_seam, AllFull, GoesOn, MayClaim, PassState, SharedState}
+use Rattle.plan_work.proofs.Words.{new_pass, HandlesRest, HasDone, HasLeft, HasStopped, HasWorked, IsReady, left_by, left_of, workers_with}
+use Rattle.plan_work.proofs.Words.{Worker, Away, Stopped, Working}
 use lib.ListN.{drop, take}
 
 MayClaim-left : (shared : SharedState) (pass : PassState) → MayClaim shared pass → MayClaim shared (new_pass pass.table pass.view)
@@ -48,14 +49,13 @@ record IsLeftBy (shared : SharedState) (limit : ℕ) (pass : PassState) (after :
 IsLeftBy-stopped :
     (shared : SharedState) (limit : ℕ) (pass : PassState) (after : Worker)
     → HasStopped shared limit (Working pass) after → IsLeftBy shared limit pass after
-IsLeftBy-stopped shared limit pass after stopped = record {
-  left = stopped.left;
-  has = ap left_by stopped.has;
-  done = subst (λ p. HasDone shared limit p stopped.left) (sym (same_pass pass stopped.pass stopped.had)) stopped.done;
-}
-  where
-    same_pass : (one other : PassState) → Working one ≡ Working other → one ≡ other
-    same_pass one other same = cc
+IsLeftBy-stopped shared limit pass after stopped =
+    let same : stopped.pass ≡ pass = (let had = stopped.had in cc) in
+    record {
+      left = stopped.left;
+      has = ap left_by stopped.has;
+      done = subst (λ p. HasDone shared limit p stopped.left) same stopped.done;
+    }
 
 -- Of as many workers as passes, each of which has stopped, as much is left, and that of each has done its part.
 pub record HaveStopped (shared : SharedState) (limit : ℕ) (passes : List PassState) (crew : List Worker) : Type 0 where
@@ -80,16 +80,12 @@ have_stopped shared limit (pass ∷ passes) (worker ∷ crew) same each =
     let here : option_to_list (left_by worker) ≡ first.left ∷ [] = ap (λ o. option_to_list o) first.has in
     let all : left_of (worker ∷ crew) ≡ first.left ∷ left_of crew = ap (λ l. l ++ left_of crew) here in
     record {
-      stopped = all_left first.left first.has rest.stopped;
+      stopped = All-cons HasLeft worker crew (subst (λ o. IsSome o) (sym first.has) refl) rest.stopped;
       count = omega (arith, ap (λ (l : List PassState). length l) all, rest.count);
       done = λ k d low. subst (λ l. HasDone shared limit (slice_index_or (pass ∷ passes) k d) (slice_index_or l k d)) (sym all)
           (each_done first.left first.done rest.done k d low);
     }
   where
-    all_left : (left : PassState) → left_by worker ≡ Some left → All HasLeft crew → All HasLeft (worker ∷ crew)
-    all_left left has others zero d low = subst (λ o. IsSome o) (sym has) refl
-    all_left left has others (suc k) d low = others k d (omega (arith, low))
-
     each_done :
         (left : PassState) → HasDone shared limit pass left
         → ((k : ℕ) (d : PassState) → k < length passes → HasDone shared limit (slice_index_or passes k d) (slice_index_or (left_of crew) k d))
@@ -119,11 +115,8 @@ whole_list size worked made same =
 pub left_of-append : (front back : List Worker) → left_of (front ++ back) ≡ left_of front ++ left_of back
 left_of-append [] back = cc
 left_of-append (worker ∷ front) back =
-    ap (λ l. option_to_list (left_by worker) ++ l) (left_of-append front back) ∙ sym_append (option_to_list (left_by worker)) (left_of front) (left_of back)
-  where
-    sym_append : (one two three : List PassState) → one ++ (two ++ three) ≡ (one ++ two) ++ three
-    sym_append [] two three = cc
-    sym_append (x ∷ one) two three = ap (λ l. x ∷ l) (sym_append one two three)
+    ap (λ l. option_to_list (left_by worker) ++ l) (left_of-append front back)
+    ∙ sym (append_assoc (option_to_list (left_by worker)) (left_of front) (left_of back))
 
 pub left_of-last :
     (all rest : List Worker) (last : Worker) (left : PassState) → all ≡ rest ++ last ∷ [] → left_by last ≡ Some left
@@ -136,13 +129,3 @@ pub has_left : (worker : Worker) → HasLeft worker → ((left : PassState) → 
 has_left (Working pass) has not = cc
 has_left (Stopped left) has not = not left refl
 has_left Away has not = cc
-
--- the last of some that have stopped has, and so have those before it
-pub stopped-front : (rest : List Worker) (last : Worker) → All HasLeft (rest ++ last ∷ []) → All HasLeft rest
-stopped-front [] last all k d low = absurd (omega (arith, low))
-stopped-front (x ∷ rest) last all zero d low = all 0 d (omega arith)
-stopped-front (x ∷ rest) last all (suc k) d low = stopped-front rest last (λ j e below. all (suc j) e (omega (arith, below))) k d (omega (arith, low))
-
-pub stopped-last : (rest : List Worker) (last : Worker) → All HasLeft (rest ++ last ∷ []) → HasLeft last
-stopped-last [] last all = all 0 last (omega arith)
-stopped-last (x ∷ rest) last all = stopped-last rest last (λ j e below. all (suc j) e (omega (arith, below)))

@@ -1,7 +1,7 @@
 -- A shared run that several workers have gone on with: what the passes have seen, once one has taken over all.
-use Rattle.plan_work.proofs.Words.{◌≡◌, ℕ, zero, suc, ◌<◌, ◌≤◌, List, length, inl, inr, refl, sym, ap, ◌∙◌, subst, arith, ◌⊎◌, [], ◌∷◌, All, slice_index_or}
-use Rattle.plan_work.proofs.Words.{quota_of, quotas-add_up, AreBehind-trans, sum-le, AreBehind, MayBecome, kind_of, Words, Best, ChildOf, Count, Counter}
-use Rattle.plan_work.proofs.Words.{FirstOf, PointOf, RecordOf, TreeOf, state_of_grown, words_of_grown, GrowsInto, TreeState, AllFull, HasNoneLeft, MayClaim}
+use Rattle.plan_work.proofs.Words.{◌≡◌, ℕ, zero, suc, ◌<◌, ◌≤◌, List, length, inl, inr, refl, sym, ap, ◌∙◌, subst, arith, [], ◌∷◌, All, slice_index_or}
+use Rattle.plan_work.proofs.Words.{quota_of, quotas-add_up, AreBehind-trans, sum-le, AreBehind, MayBecome, kind_of, Words, Best, Counter}
+use Rattle.plan_work.proofs.Words.{state_of_grown, words_of_grown, GrowsInto, TreeState, AllFull, HasNoneLeft, MayClaim}
 use Rattle.plan_work.proofs.Words.{PassState, SharedState, StartsAs, without_best, run_of, sees, share, StandsAsSeen, GrowsInto-seen, Grown, HasHandled}
 use Rattle.plan_work.proofs.Words.{IsOfTextbook, HasDone, HasTakenOver, shares_of}
 use lib.ListN.{get_elem?}
@@ -24,19 +24,7 @@ there (x ∷ passes) (suc i) d low = there passes i d (omega (arith, low))
 -- of the best word it is not said what becomes of it
 behind_same : (words other later : Words) → without_best words ≡ without_best other → AreBehind words later → AreBehind other later
 behind_same words other later same behind Best = tt
-behind_same words other later same behind Count = subst (λ w. MayBecome (kind_of Count) (w Count) (later Count)) same (behind Count)
-behind_same words other later same behind (Counter g) =
-    subst (λ w. MayBecome (kind_of (Counter g)) (w (Counter g)) (later (Counter g))) same (behind (Counter g))
-behind_same words other later same behind (PointOf n) =
-    subst (λ w. MayBecome (kind_of (PointOf n)) (w (PointOf n)) (later (PointOf n))) same (behind (PointOf n))
-behind_same words other later same behind (ChildOf n side) =
-    subst (λ w. MayBecome (kind_of (ChildOf n side)) (w (ChildOf n side)) (later (ChildOf n side))) same (behind (ChildOf n side))
-behind_same words other later same behind (TreeOf n) =
-    subst (λ w. MayBecome (kind_of (TreeOf n)) (w (TreeOf n)) (later (TreeOf n))) same (behind (TreeOf n))
-behind_same words other later same behind (FirstOf n) =
-    subst (λ w. MayBecome (kind_of (FirstOf n)) (w (FirstOf n)) (later (FirstOf n))) same (behind (FirstOf n))
-behind_same words other later same behind (RecordOf k) =
-    subst (λ w. MayBecome (kind_of (RecordOf k)) (w (RecordOf k)) (later (RecordOf k))) same (behind (RecordOf k))
+behind_same words other later same behind name = subst (λ w. MayBecome (kind_of name) (w name) (later name)) same (behind name)
 
 -- a list of one has its first element alone
 pub one_of : (passes : List PassState) (d : PassState) → length passes ≡ 1 → passes ≡ slice_index_or passes 0 d ∷ []
@@ -73,12 +61,10 @@ module _
   within : All (λ pass. pass.view.most ≤ limit) after
   within k d below =
       let here : k < length before = omega (arith, below, count) in
-      by_most (slice_index_or after k d) (started k d here).most (done k d here).worked.most
-    where
-      by_most : (pass : PassState) → (slice_index_or before k d).view.most ≡ grown.limit
-          → (pass.view.most ≡ (slice_index_or before k d).view.most) ⊎ (pass.view.most ≡ limit) → pass.view.most ≤ limit
-      by_most pass was (inl same) = omega (arith, was, same, low)
-      by_most pass was (inr same) = omega (arith, same)
+      elim (done k d here).worked.most [
+        | inl same ↦ omega (arith, (started k d here).most, same, low)
+        | inr same ↦ omega (arith, same)
+      ]
 
   -- One worker alone has handled all marks below the limit as the textbook does.
   pub HasHandled-alone :

@@ -1,6 +1,6 @@
 -- A pass that works alone loads the best word: it is the best goal node of the textbook tree that it sees, and by it marks are skipped or not.
 use Rattle.plan_work.proofs.Words.{◌≢◌, ℕ, ◌<◌, ◌≤◌, ◌^◌, arith, sym, ap, subst, IsTrue, mark_at, IsBestGoalNode, MayBeCheaper, Nodes, mark_bound, IsGoalNode}
-use Rattle.plan_work.proofs.Words.{is_goal_point, IsNotAbove, points_of, sum_of, IsPresent, point_at, IsPresent-goal, PointOf, TreeOf, best_cost_in}
+use Rattle.plan_work.proofs.Words.{is_goal_point, points_of, sum_of, IsPresent, point_at, IsPresent-goal, PointOf, TreeOf, best_cost_in}
 use Rattle.plan_work.proofs.Words.{best_node_in, best_word, cost_in, no_best, SeesGoal-kept, FindsGoalNode, HasPostedGoals, IsNotSkippedIn, SeesButCount}
 use Rattle.plan_work.proofs.Words.{IsLater, IsLawfulView, SeesGoal, setup_in, tree_seen, SharedRun, View, Mirrors, cost_seen}
 
@@ -54,18 +54,15 @@ module _ (view : View) (tree : Nodes) (mirrors : Mirrors view tree) where
       pub IsBestGoalNode-found : IsBestGoalNode (setup_in view.run) tree (best_node_in view.best)
       IsBestGoalNode-found = record {
         member = tree_goal (best_node_in view.best) found.goal;
-        not_above = not_above;
+        not_above = λ n goal.
+            let low = low_pair n goal in
+            let cost = mirrors.costs n (here n goal) in
+            let own = mirrors.costs (best_node_in view.best) (here (best_node_in view.best) (tree_goal (best_node_in view.best) found.goal)) in
+            record {
+              least = omega (arith, low.0, low.2, cost, own, found.paid);
+              first = λ same. omega (arith, low.0, low.2, cost, own, found.paid, same);
+            };
       }
-        where
-          not_above : (n : ℕ) → IsGoalNode view.run.goals (points_of tree) n → IsNotAbove (sum_of tree) (best_node_in view.best) n
-          not_above n goal =
-              let low = low_pair n goal in
-              let cost = mirrors.costs n (here n goal) in
-              let own = mirrors.costs (best_node_in view.best) (here (best_node_in view.best) (tree_goal (best_node_in view.best) found.goal)) in
-              record {
-                least = omega (arith, low.0, low.2, cost, own, found.paid);
-                first = λ same. omega (arith, low.0, low.2, cost, own, found.paid, same);
-              }
 
       pub within-found : (bound : ℕ) → best_cost_in view.best ≤ bound → sum_of tree (best_node_in view.best) ≤ bound
       within-found bound low =

@@ -19,18 +19,10 @@ IsUnskipped-kept before after hand now run best mark unskipped informed =
 
 -- a placed node is counted, and has its first word
 pub has_count-placed : (goals : List Goal) (p : Point) → has_count (placed_stage goals p) ≡ true
-has_count-placed goals p = by_test (lies_in_goals goals p)
-  where
-    by_test : (lies : Bool) → has_count (cond lies Posted Counted) ≡ true
-    by_test true = refl
-    by_test false = refl
+has_count-placed goals p = elim (lies_in_goals goals p) as (λ lies. has_count (cond lies Posted Counted) ≡ true) [ true ↦ refl | false ↦ refl ]
 
 pub has_first-placed : (goals : List Goal) (p : Point) → has_first (placed_stage goals p) ≡ true
-has_first-placed goals p = by_test (lies_in_goals goals p)
-  where
-    by_test : (lies : Bool) → has_first (cond lies Posted Counted) ≡ true
-    by_test true = refl
-    by_test false = refl
+has_first-placed goals p = elim (lies_in_goals goals p) as (λ lies. has_first (cond lies Posted Counted) ≡ true) [ true ↦ refl | false ↦ refl ]
 
 -- one in a goal by which marks are skipped is posted
 pub placed_stage-goal : (goals : List Goal) (p : Point) → lies_in_goals goals p ≡ true → placed_stage goals p ≡ Posted

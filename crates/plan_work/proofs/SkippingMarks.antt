@@ -1,13 +1,13 @@
 -- The best word was loaded, or the scene is not informed: what that leaves of a pass, and of what is said of the mark since.
-use Rattle.plan_work.proofs.Words.{◌≡◌, ◌≢◌, ◌⊎◌, ℕ, suc, ◌<◌, ◌≤◌, ◌^◌, Bool, true, false, cond, inl, inr, Some, None, [], ◌∷◌, ◌++◌, length, ◌+◌, refl, sym}
-use Rattle.plan_work.proofs.Words.{ap, ◌∙◌, subst, arith, ◌==◌, IfSome, IsSome, Option, cases_Bool, eq-eqb, eqb-true, same_Some, mark_at, Ends, Handles}
+use Rattle.plan_work.proofs.Words.{◌≡◌, ◌≢◌, ◌⊎◌, ℕ, suc, ◌<◌, ◌≤◌, ◌^◌, true, false, cond, inl, inr, Some, None, [], ◌∷◌, ◌++◌, length, ◌+◌, refl, sym}
+use Rattle.plan_work.proofs.Words.{ap, ◌∙◌, subst, arith, IfSome, IsSome, Option, cases_Bool, same_Some, mark_at, Ends, Handles}
 use Rattle.plan_work.proofs.Words.{IsBestGoalNode, mark_bound, IsSwept, sum_of, Point, FirstHanging, Reached, NewNode, SameNode, NoWay, ending_of, Skipped}
 use Rattle.plan_work.proofs.Words.{Record, MayBeCheaper-not_skipping, goals-some, record_at, Counter, RecordOf, TreeOf, best_cost_in, WritesWord, Best}
 use Rattle.plan_work.proofs.Words.{best_node_in, best_of_word, cost_in, no_best, record_word, FindsGoalNode, SeesAsBefore, BelongsTo-later, GoesOn-trans}
 use Rattle.plan_work.proofs.Words.{no_goals, BelongsTo, GoesOn, PassState, SharedState, run_in, SeesBestSince, turn_of, with_view, worker_of, EndsAsSeen}
 use Rattle.plan_work.proofs.Words.{ReachesAsSeen, HandlesMark, IsExtended, IsPlacedAt, MayExtend, WasNeighbour, WasNotSkipped, WasSkipped, WasSteered}
 use Rattle.plan_work.proofs.Words.{steered_point, HasLoadedBest, HasRecorded, KeepsRecords, own_unplaced, IsNotSkippedIn, SeesTextbook, WorksAlone}
-use Rattle.plan_work.proofs.Words.{IsLawfulView, IsInformed, IsUnskipped, MayBeSkipped, SeesGoal, best_loaded, best_taken, finished, hand_with_best}
+use Rattle.plan_work.proofs.Words.{IsLawfulView, IsInformed, IsUnskipped, MayBeSkipped, SeesGoal, best_loaded, best_taken, finished, hand_with_best, nat_tests}
 use Rattle.plan_work.proofs.Words.{last_look, sight_in, sees, setup_in, tree_seen, Hand, SharedRun, Stage, Claimed, View, cost_seen}
 use Rattle.plan_model.specs.Trees.GoalBounds.{bound_of}
 use Rattle.plan_work.proofs.AloneMarks.{KeepsRun-refl, SeesTextbook-recorded, SeesTextbook-still, WorksAlone-recorded, WorksAlone-still}
@@ -88,28 +88,10 @@ mark_bound-informed shared view mark run informed =
 -- ---- what was found
 
 none_found : (word : ℕ) → best_of_word word ≡ None → word ≡ no_best
-none_found word told = by_test (word == no_best) refl
-  where
-    by_test : (b : Bool) → (word == no_best) ≡ b → word ≡ no_best
-    by_test true t = eqb-true word no_best t
-    by_test false t = let no = sym (ap (λ b. cond b None (Some (best_node_in word, best_cost_in word))) t) ∙ told in cc
+none_found word told = grind (arith, nat_tests)
 
 some_found : (word g cost : ℕ) → best_of_word word ≡ Some (g, cost) → (word ≢ no_best) × (g ≡ best_node_in word) × (cost ≡ best_cost_in word)
-some_found word g cost told = by_test (word == no_best) refl
-  where
-    found : ℕ × ℕ
-    found = (best_node_in word, best_cost_in word)
-
-    by_test : (b : Bool) → (word == no_best) ≡ b → (word ≢ no_best) × (g ≡ best_node_in word) × (cost ≡ best_cost_in word)
-    by_test true t = absurd (let no = sym (ap (λ b. cond b None (Some (best_node_in word, best_cost_in word))) t) ∙ told in cc)
-    by_test false t =
-        let same : (best_node_in word, best_cost_in word) ≡ (g, cost) =
-        same_Some (best_node_in word, best_cost_in word) (g, cost)
-        (sym (ap (λ b. cond b None (Some (best_node_in word, best_cost_in word))) t) ∙ told) in (
-          λ none. (let no = sym (eq-eqb word no_best none) ∙ t in cc),
-          sym (ap (λ (pair : ℕ × ℕ). pair.0) same),
-          sym (ap (λ (pair : ℕ × ℕ). pair.1) same),
-        )
+some_found word g cost told = (λ none. grind (arith, nat_tests), grind (arith, nat_tests), grind (arith, nat_tests))
 
 module _
     (shared : SharedState) (before after : PassState) (k bound : ℕ) (may : MayExtend shared before k) (informed : shared.task.scene.informed ≡ true)
@@ -170,15 +152,13 @@ FindsGoalNode-found view word g cost told finds = record {
 }
 
 -- in a scene that is not informed no mark is skipped
-pub IsUnskipped-plain : (shared : SharedState) (pass : PassState) → BelongsTo pass shared → IsSome pass.view.hand → shared.task.scene.informed ≡ false
+pub IsUnskipped-plain : (shared : SharedState) (pass : PassState) → BelongsTo pass shared → shared.task.scene.informed ≡ false
     → IfSome pass.view.hand (IsUnskipped pass.view)
-IsUnskipped-plain shared pass belongs some plain =
-    let own = holding pass.view (λ hand. hand ≡ hand) some (refl_hand pass.view.hand some) in
-    if_held pass.view (IsUnskipped pass.view) own.hand own.held (λ informed. absurd (informed (no_goals shared pass.view belongs.run plain)))
+IsUnskipped-plain shared pass belongs plain = of_any pass.view.hand
   where
-    refl_hand : (o : Option Hand) → IsSome o → IfSome o (λ hand. hand ≡ hand)
-    refl_hand None none = tt
-    refl_hand (Some hand) some = refl
+    of_any : (o : Option Hand) → IfSome o (IsUnskipped pass.view)
+    of_any None = tt
+    of_any (Some hand) = λ informed. absurd (informed (no_goals shared pass.view belongs.run plain))
 
 -- ---- what is said since the load is said since the entry
 

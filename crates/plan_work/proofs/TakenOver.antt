@@ -4,12 +4,12 @@ use Rattle.plan_work.proofs.Words.{slice_index_or, cases_lt, append_assoc, MayCl
 use Rattle.plan_work.proofs.Words.{share, HasTakenOver}
 
 -- what holds of all of two lists holds of the first, and of the one that comes next
-pub All-front : (P : PassState → Type 0) (xs ys : List PassState) → All P (xs ++ ys) → All P xs
+pub All-front : {X : Type 0} (P : X → Type 0) (xs ys : List X) → All P (xs ++ ys) → All P xs
 All-front P [] ys all k d low = absurd (omega (arith, low))
 All-front P (x ∷ xs) ys all zero d low = all 0 d (omega arith)
 All-front P (x ∷ xs) ys all (suc k) d low = All-front P xs ys (λ j e below. all (suc j) e (omega (arith, below))) k d (omega (arith, low))
 
-pub All-next : (P : PassState → Type 0) (xs : List PassState) (y : PassState) → All P (xs ++ y ∷ []) → P y
+pub All-next : {X : Type 0} (P : X → Type 0) (xs : List X) (y : X) → All P (xs ++ y ∷ []) → P y
 All-next P [] y all = all 0 y (omega arith)
 All-next P (x ∷ xs) y all = All-next P xs y (λ j e below. all (suc j) e (omega (arith, below)))
 

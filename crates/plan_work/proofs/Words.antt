@@ -61,6 +61,7 @@ pub use Rattle.std.proofs.Common.{Bool, List, None, Option, Some, [], ap, arith,
 pub use Rattle.std.proofs.Common.{rules, true, zero, ℕ, ◌%◌, ◌*◌, ◌++◌, ◌+◌, ◌-◌, ◌/◌, ◌<◌, ◌^◌, ◌∙◌, ◌∷◌, ◌≡◌, ◌≢◌, ◌≤◌}
 pub use Rattle.std.proofs.Math.Seq.{take-append_seam, take-suc}
 pub use Rattle.std.proofs.lemmas.Bool.{cases_Bool, cases_eq, cases_lt, eq-eqb, eqb-true, le-ltb, leb-true, lt-ltb, true≢false}
+pub use Rattle.std.proofs.lemmas.Bool.Decides.{nat_tests}
 pub use Rattle.std.proofs.lemmas.List.{append-nil, append_assoc, get_or_past, length-map, length-take-le, map-append, take_all, take_more}
 pub use Rattle.std.proofs.lemmas.List.Elements.{All-cons, All-contains, All-contains_itself, All-map, All-nil, Contains-get_or, filter-append, filter_agree}
 pub use Rattle.std.proofs.lemmas.List.FromFn.{length-map-range_with_len}

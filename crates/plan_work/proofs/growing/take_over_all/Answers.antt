@@ -1,6 +1,6 @@
 use Rattle.plan_work.proofs.Words.{◌≡◌, refl, sym, ap, ◌∙◌, subst, arith, ◌++◌, [], ◌∷◌, All, option_to_list, MayClaim, PassState, HasLeft, left_by, left_of}
 use Rattle.plan_work.proofs.Words.{rules, Stopped}
-use Rattle.plan_work.proofs.RetiredWorkers.{has_left, left_of-last, stopped-front, stopped-last}
+use Rattle.plan_work.proofs.RetiredWorkers.{has_left, left_of-last}
 use Rattle.plan_work.proofs.TakenOver.{All-front, All-next, HasTakenOver-alone, HasTakenOver-more, not_alone, only, taken_next}
 use Rattle.plan_work.proofs.growing.take_over_all.Goals as goal
 
@@ -13,7 +13,7 @@ others-init c =
     let lefts : left_of c.args.all.items ≡ left_of rest ++ left ∷ [] = left_of-last c.args.all.items rest (Stopped left) left split refl in
     let all = subst (All (MayClaim c.args.shared.now)) lefts c.requires.may_claim in
     record {
-      stopped = stopped-front rest (Stopped left) (subst (All HasLeft) split c.requires.stopped);
+      stopped = All-front HasLeft rest (Stopped left ∷ []) (subst (All HasLeft) split c.requires.stopped);
       rest = All-front (MayClaim c.args.shared.now) (left_of rest) (left ∷ []) all;
       taken = (left ∷ [], lefts, HasTakenOver-alone c.args.shared.now left (All-next (MayClaim c.args.shared.now) (left_of rest) left all));
       one = λ own is. only (left_of rest) left own (sym lefts ∙ is);
@@ -24,7 +24,7 @@ unreachable-requires-in_default-other c =
     let rest = c.pop-in-others.new.self.items in
     let other = c.in-Some.other in
     let split : c.others.others.items ≡ rest ++ other ∷ [] = c.pop-in-others.ensures.items ∙ ap (λ o. rest ++ option_to_list o) c.in-Some.is in
-    has_left other (stopped-last rest other (subst (All HasLeft) split c.others.invariant.stopped)) c.in_default-other.not-Stopped
+    has_left other (All-next HasLeft rest other (subst (All HasLeft) split c.others.invariant.stopped)) c.in_default-other.not-Stopped
 
 pub join_retired-requires : goal.join_retired-requires
 join_retired-requires c =
@@ -60,7 +60,7 @@ others-preserved c =
       idle = c.join_retired.ensures.idle;
     } in
     record {
-      stopped = stopped-front rest other (subst (All HasLeft) split c.others.invariant.stopped);
+      stopped = All-front HasLeft rest (other ∷ []) (subst (All HasLeft) split c.others.invariant.stopped);
       rest = All-front (MayClaim shared) (left_of rest) (left ∷ []) all;
       taken = (
         left ∷ taken,

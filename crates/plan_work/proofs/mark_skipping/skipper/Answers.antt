@@ -36,7 +36,7 @@ returns-then-not-task-clause-loaded c =
 
 pub returns-then-not-task-clause-unskipped : goal.returns-then-not-task-clause-unskipped
 returns-then-not-task-clause-unskipped c =
-    IsUnskipped-plain c.args.shared.now c.args.pass.now c.requires.belongs c.requires.hand
+    IsUnskipped-plain c.args.shared.now c.args.pass.now c.requires.belongs
     (ap (λ (t : Task). t.scene.informed) (sym c.task.ensures) ∙ c.if-not-task.true)
 
 -- ---- the best was loaded
