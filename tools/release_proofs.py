@@ -5,8 +5,8 @@ Usage: release_proofs.py FOLDER WAY.. A way is `anew`, `kept` or `user`, and a n
 proves from nothing by four, by `kept2` it takes what this machine kept of earlier proofs, by two. By `user2` nothing but
 the launcher and `rt lib` proves, on two processors, with an empty folder in place of what this machine kept: for root.
 Each way has a clone of its own in FOLDER, the path of which has another length, and which is removed once it is proved.
-FOLDER/WAY keeps the programs and the static library, FOLDER/WAY.log what was written. A way that FOLDER has already is
-not gone again: they can be gone one at a time.
+FOLDER/WAY keeps the programs and the static library, FOLDER/WAY.log what was written, FOLDER/WAY.commit which commit it
+was and how it was proved. A way that FOLDER has already is not gone again: they can be gone one at a time.
 
 It prints a line for each way and each file that differs, and ends with 1 if one does, or if a proof failed.
 """
@@ -29,7 +29,7 @@ from usage import words_or_usage
 TOP = top_of(__file__)
 KINDS = ["kept", "anew", "user"]
 WAY = re.compile(rf"({'|'.join(KINDS)})([1-9]\d?)")
-COMMIT, GATE = "commit", "gate.log"
+GATE = "gate.log"
 
 # What a user does who has a checkout and the toolchain.
 AS_A_USER = """
@@ -75,7 +75,7 @@ def go(folder, way):
     for name in (*PROGRAMS, LIBRARY):
         shutil.copy2(built(clone, name), made / Path(name).name)
     shutil.copy2(folder_of(clone) / GATE, folder / f"{way}.log")
-    (made / COMMIT).write_text("".join(f"{it}\n" for it in told))
+    (folder / f"{way}.commit").write_text("".join(f"{it}\n" for it in told))
     made.rename(folder / way)
     shutil.rmtree(clone)
     print(f"{way}: {told[-1]}, in {round(time.monotonic() - begun)} s, at a path of {len(str(clone))} characters")
@@ -91,7 +91,7 @@ def main(folder, *ways):
     for way in ways:
         if not (folder / way).is_dir():
             go(folder, way)
-        if (folder / way / COMMIT).read_text().splitlines()[0] != commit_of(TOP):
+        if (folder / f"{way}.commit").read_text().splitlines()[0] != commit_of(TOP):
             raise NoRelease(f"{folder / way} is of another commit: remove it")
     return show_all(folder, ways)
 
