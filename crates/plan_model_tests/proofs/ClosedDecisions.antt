@@ -1,11 +1,12 @@
 -- Decisions of the closed law.
-use Rattle.plan_model_tests.proofs.Words.{◌≡◌, ℕ, zero, suc, ◌<◌, ◌≤◌, Option, Some, None, List, length, refl, sym, ap, ◌∙◌, subst, arith, inl, inr}
-use Rattle.plan_model_tests.proofs.Words.{IsSome, is_some, max, slice_get, cases_lt, le_refl, get_or_past, same_Some, slice_get-get_or, slice_get_past}
+use Rattle.plan_model_tests.proofs.Words.{◌≡◌, ℕ, zero, suc, ◌<◌, ◌≤◌, Option, Some, None, List, length, refl, sym, ap, ◌∙◌, subst, arith, inl, inr, IsSome}
+use Rattle.plan_model_tests.proofs.Words.{is_some, max, slice_get, cases_lt, le_refl, get_or_past, same_Some, slice_get-get_or, slice_get_past}
 use Rattle.plan_model_tests.proofs.Words.{slice_get_within, AreTurns-counted, RunFromZero-counts, Point, MOST_WORKERS, Record, ArePlacedMarks, AreRecordedBelow}
 use Rattle.plan_model_tests.proofs.Words.{IsClosed, has_outcome, mark_at, is_placed, IsLawfulRecord, Setup, skipped_record, AreTurns, RunFromZero, ClearAt}
-use Rattle.plan_model_tests.proofs.Words.{point_at, TreeState}
-use Rattle.plan_model_tests.proofs.Decisions.{agree, are_equal, each_below, given, implied, in_option, is_absent, is_at_most, is_true, like, some_below}
-use Rattle.plan_model_tests.proofs.OrderDecisions.{Clears, keeps_order}
+use Rattle.plan_model_tests.proofs.Words.{point_at, TreeState, at, open_setup, true, false}
+use Rattle.plan_model_tests.proofs.Decisions.{agree, are_equal, each_below, given, holds, implied, in_option, is_absent, is_at_most, is_true, like}
+use Rattle.plan_model_tests.proofs.Decisions.{refuted, shown, some_below}
+use Rattle.plan_model_tests.proofs.OrderDecisions.{Clears, is_clear, is_clear_at, keeps_order}
 use Rattle.plan_model_tests.proofs.RecordDecisions.{is_lawful_record}
 
 module _ (record_of : ℕ → Option Record) (records : List Record) (is : record_of ≡ slice_get records) where
@@ -132,3 +133,15 @@ module _ (setup : Setup) (clears : Clears setup.space) (state : TreeState) (reco
       (λ k entry. is_lawful_record setup clears state records is k (mark_at marks k) entry)) (λ h. h.lawful) (λ f.
       given are_placed_marks (λ h. h.placed) (λ g.
       yes (record { order = a; within = b; records = c; workers = d; turns = e; lawful = f; placed = g }))))))))
+
+-- ---- in the room of the worked runs
+
+module _ (state : TreeState) (records : List Record) (is : state.record_of ≡ slice_get records) (marks : List Point) (limit : ℕ) where
+  abbrev pub closes : Dec (IsClosed open_setup marks limit state)
+  closes = is_closed open_setup (is_clear (at 100 100)) state records is (is_clear_at (at 100 100) (at 0 0)) marks limit
+
+  pub closed : holds closes ≡ true → IsClosed open_setup marks limit state
+  closed = shown closes
+
+  pub unclosed : holds closes ≡ false → ¬ IsClosed open_setup marks limit state
+  unclosed = refuted closes

@@ -1,7 +1,7 @@
 -- Roots and costs that compute.
-use Rattle.plan_model_tests.proofs.Words.{◌≡◌, ℕ, zero, suc, ◌+◌, ◌-◌, ◌*◌, ◌/◌, Bool, true, false, Option, List, [], ◌∷◌, refl, ◌&&◌, cond, map}
-use Rattle.plan_model_tests.proofs.Words.{if◌then◌else◌, nat_le, flat_map, and_parts, ltb-true, root_ceiling-from_squares, root_ceiling-zero, Goal, Point}
-use Rattle.plan_model_tests.proofs.Words.{cost_of, squared_distance, advanced, steered, Twig, chain, length_of_path, points_of, sum_of, point_of, least_of}
+use Rattle.plan_model_tests.proofs.Words.{◌≡◌, ℕ, zero, suc, ◌+◌, ◌-◌, ◌*◌, ◌/◌, Bool, true, false, Option, List, [], ◌∷◌, refl, ◌&&◌, cond, map, if◌then◌else◌}
+use Rattle.plan_model_tests.proofs.Words.{nat_le, flat_map, and_parts, ltb-true, root_ceiling-from_squares, root_ceiling-zero, Goal, Point, cost_of}
+use Rattle.plan_model_tests.proofs.Words.{squared_distance, advanced, steered, Twig, chain, length_of_path, points_of, sum_of, point_of, least_of}
 use Rattle.plan_model_tests.proofs.Words.{points_of_goal}
 use Rattle.std.proofs.lemmas.Bool.{leb-true}
 use lib.Dec.{leb, ltb}

@@ -4,10 +4,10 @@ use Rattle.plan_model_tests.proofs.Words.{is_some, IsPresent-goal, IsPresent-bel
 use Rattle.plan_model_tests.proofs.Words.{IsCandidate, IsCheaperThrough, IsTextbookRun, MayBeCheaper, Nodes, Rewires, RewiresOne, Setup, SteersTo, cost_through}
 use Rattle.plan_model_tests.proofs.Words.{mark_bound, near_new, start_alone, with_parent, Clear, IsGoalNode, is_goal_point, IsFirstLeast, IsNotAbove, IsNearest}
 use Rattle.plan_model_tests.proofs.Words.{distance_to, points_of, sum_of, IsFree, StandsAt, node_count, point_at, point_of, Reached, NewNode, SameNode, NoWay}
-use Rattle.plan_model_tests.proofs.Words.{Ending, Steered, SkippedBy, ending_of, Ends, Reaches, same_Some}
+use Rattle.plan_model_tests.proofs.Words.{Ending, Steered, SkippedBy, ending_of, Ends, Reaches, same_Some, Goal, empty_room}
 use Rattle.plan_model_tests.proofs.Decisions.{are_equal, as_of, contains, denied, each_member, each_of, given, if_so, if_there, implied}
 use Rattle.plan_model_tests.proofs.Decisions.{is_at_most, is_point, is_true}
-use Rattle.plan_model_tests.proofs.OrderDecisions.{Clears, StandsAt-below, of_nodes}
+use Rattle.plan_model_tests.proofs.OrderDecisions.{Clears, StandsAt-below, is_clear, of_nodes}
 use Rattle.plan_model_tests.proofs.RecordDecisions.{is_not_above}
 use Rattle.plan_model_tests.proofs.ComputedCosts.{bound, bound-is, cost, cost-is, steered-is, steered_to, sum, sum-is}
 
@@ -172,3 +172,12 @@ module _ (setup : Setup) (clears : Clears setup.space) where
   pub IsTextbookRun-computed : (marks : List Point) (tree : Nodes) (records : List Record)
       → last_tree marks records (handled_all 0 (start_alone setup.start) marks records) ≡ Some tree → IsTextbookRun setup marks tree records
   IsTextbookRun-computed marks tree records e = run-of_tree marks records tree (handled_all 0 (start_alone setup.start) marks records) e
+
+-- of setups in empty rooms
+module _ (room start : Point) (step gamma : ℕ) (goals : List Goal) (marks : List Point) (tree : Nodes) (records : List Record) where
+  abbrev pub in_room : Setup
+  in_room = record { space = empty_room room; start = start; step = step; gamma = gamma; goals = goals }
+
+  pub runs : last_tree in_room (is_clear room) marks records (handled_all in_room (is_clear room) 0 (start_alone start) marks records) ≡ Some tree
+      → IsTextbookRun in_room marks tree records
+  runs = IsTextbookRun-computed in_room (is_clear room) marks tree records

@@ -1,7 +1,7 @@
 -- Decisions of what is said of numbers, lists and points: whether a worked value is as it says is computed.
-use Rattle.plan_model_tests.proofs.Words.{◌≡◌, ℕ, zero, suc, ◌<◌, ◌≤◌, Bool, true, false, Option, Some, None, List, length, refl, sym, ap, ◌∙◌}
-use Rattle.plan_model_tests.proofs.Words.{arith, subst, inl, inr, ◌⊎◌, Contains, IsTrue, slice_index_or, eqb-true, eqb-false, cases_eq, true≢false}
-use Rattle.plan_model_tests.proofs.Words.{get_or_default, is_some, Point}
+use Rattle.plan_model_tests.proofs.Words.{◌≡◌, ℕ, zero, suc, ◌<◌, ◌≤◌, Bool, true, false, Option, Some, None, List, length, refl, sym, ap, ◌∙◌, arith, subst}
+use Rattle.plan_model_tests.proofs.Words.{inl, inr, ◌⊎◌, Contains, IsTrue, slice_index_or, eqb-true, eqb-false, cases_eq, true≢false, get_or_default, is_some}
+use Rattle.plan_model_tests.proofs.Words.{Point}
 use Rattle.std.proofs.lemmas.Bool.{leb-true, leb-false}
 use lib.Dec.{leb, eqb}
 

@@ -10,9 +10,7 @@ pub mod RecordDecisions
 pub mod ClosedDecisions
 pub mod ComputedRuns
 pub mod LawfulRecords
-pub mod ClosedRuns
 pub mod SpelledTexts
 pub mod ComputedMeetings
-pub mod Common
 pub mod RouteExamples
 mod Words

@@ -2,9 +2,9 @@
 use Rattle.plan_model_tests.proofs.Words.{◌≡◌, ℕ, suc, ◌+◌, ◌*◌, ◌<◌, ◌≤◌, Option, List, length, ap, arith, is_some, IsPresent-below, AreInRoom-from_clear}
 use Rattle.plan_model_tests.proofs.Words.{Clear-empty_room, IsInRoom-from_clear_at, Clear-first, ConfigurationSpace, Point, squared_distance, Hangs, HangsBelow}
 use Rattle.plan_model_tests.proofs.Words.{IsAllowedEdge, KeepsOrder, most_cost_of, Setup, mark_at, Clear, ClearAt, IsInRoom, empty_room, AreDistinct, IsPresent}
-use Rattle.plan_model_tests.proofs.Words.{StandsAt, node_count, point_at, point_of, TreeState, IsReached}
+use Rattle.plan_model_tests.proofs.Words.{StandsAt, node_count, point_at, point_of, TreeState, IsReached, true, false}
 use Rattle.plan_model_tests.proofs.Decisions.{are_equal, as_of, both, denied, each_below, each_of, given, implied, in_option, is_at_most}
-use Rattle.plan_model_tests.proofs.Decisions.{is_point, is_true, like, some_below}
+use Rattle.plan_model_tests.proofs.Decisions.{holds, is_point, is_true, like, refuted, shown, some_below}
 use Rattle.plan_model_tests.proofs.ComputedCosts.{cost-is, cost}
 
 -- ---- points
@@ -33,6 +33,12 @@ abbrev pub is_reached : (marks : List Point) (points : List (Option Point)) (k :
 is_reached marks points k =
     like (λ h. (h.0, by-reached k h.0 h.1, h.2)) (λ h. (h.0, reached-by k h.0 h.1, h.2))
     (some_below (λ n. StandsAt points n (mark_at marks k)) (λ n. is_point (point_at points n) (mark_at marks k)) (suc (suc k)))
+
+pub reached : (marks : List Point) (points : List (Option Point)) (k : ℕ) → holds (is_reached marks points k) ≡ true → IsReached marks points k
+reached marks points k = shown (is_reached marks points k)
+
+pub unreached : (marks : List Point) (points : List (Option Point)) (k : ℕ) → holds (is_reached marks points k) ≡ false → ¬ IsReached marks points k
+unreached marks points k = refuted (is_reached marks points k)
 
 -- what is said of each present node
 abbrev pub of_nodes : (P : ℕ → Type 0) (points : List (Option Point)) → ((n : ℕ) → Dec (P n)) → Dec ((n : ℕ) → IsPresent points n → P n)

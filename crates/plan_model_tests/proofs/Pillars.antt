@@ -1,6 +1,6 @@
 -- A point body to the left of a pillar or above it, beyond the clearance, does not meet it.
-use Rattle.plan_model_tests.proofs.Words.{◌≡◌, ℕ, ◌+◌, ◌*◌, ◌<◌, [], ◌∷◌, arith, ap, pos, ◌-ℤ◌, ◌*ℤ◌, sum, ints, mul-le}
-use Rattle.plan_model_tests.proofs.Common.{Rational, weighted, IsWithin, Meets, point_body, pillar}
+use Rattle.plan_model_tests.proofs.Words.{◌≡◌, ℕ, ◌+◌, ◌*◌, ◌<◌, [], ◌∷◌, arith, ap, pos, ◌-ℤ◌, ◌*ℤ◌, sum, ints, mul-le, Rational, weighted, IsWithin, Meets}
+use Rattle.plan_model_tests.proofs.Words.{point_body, pillar}
 use Rattle.plan_model_tests.proofs.ShortLists.{one, four}
 
 -- the point (x / n, y / n)

@@ -1,10 +1,10 @@
 -- What a worker has seen of a kd-tree of five nodes, and which points a call has swept.
-use Rattle.std.proofs.Common.{◌≡◌, ℕ, zero, suc, ◌<◌, ◌≤◌, Bool, true, false, None, Some, arith, refl, sym, ap, ◌∙◌, subst, inl, inr}
-use Rattle.std.specs.Prelude.{◌≢◌, ◌/◌, ◌%◌, ◌==◌, IsSome, is_some, unwrap_or}
-use Rattle.plan_model_tests.proofs.Common.{HasSeenAtLeast, Point, point_at, StandsAt, IsFree, goes_right, IsOnWay, begins, goes_on, IsSeen, HasSeenWay}
-use Rattle.plan_model_tests.proofs.Common.{KeepsSight, IsLaterMoment, IsSwept, at, at_entry, at_return, four_children}
-use Rattle.plan_model_tests.proofs.Common.{found_at_return, three_points, StandsAt-unique, same_x, same_y, over_seen_points, way_start}
-use Rattle.plan_model_tests.proofs.Common.{way_ends}
+use Rattle.plan_model_tests.proofs.Words.{◌≡◌, ℕ, zero, suc, ◌<◌, ◌≤◌, Bool, true, false, None, Some, arith, refl, sym, ap, ◌∙◌, subst, inl, inr, ◌≢◌, ◌/◌, ◌%◌}
+use Rattle.plan_model_tests.proofs.Words.{◌==◌, IsSome, is_some, unwrap_or, HasSeenAtLeast, Point, point_at, StandsAt, goes_right, IsOnWay, begins}
+use Rattle.plan_model_tests.proofs.Words.{goes_on, IsSeen, HasSeenWay, KeepsSight, IsLaterMoment, IsSwept, at, at_entry, at_return, four_children}
+use Rattle.plan_model_tests.proofs.Words.{found_at_return, StandsAt-unique, over_seen_points, way_start, way_ends}
+use Rattle.plan_model.specs.Vectors.Ways.{three_points}
+use Rattle.plan_model_tests.proofs.ComputedRuns.{is_free}
 use Rattle.plan_model_tests.proofs.Decisions.{implied, is_at_most, is_true, refuted, shown}
 use Rattle.plan_model_tests.proofs.OrderDecisions.{of_nodes}
 use Rattle.plan_model_tests.proofs.SightDecisions.{IsSmall, by-side, counted, each_number, each_side, has_seen_at_least, is_later, is_seen, no_records, past_5}
@@ -158,18 +158,6 @@ swept_beside_node_0 free = record {
   empty = omega arith;
 }
 
-free_9_9 : IsFree three_points (at 9 9)
-free_9_9 zero h = absurd (omega (arith, same_x (at 5 5) (at 9 9) h))
-free_9_9 (suc zero) h = absurd (omega (arith, same_x (at 5 3) (at 9 9) h))
-free_9_9 (suc (suc zero)) h = absurd (omega (arith, same_y (at 9 2) (at 9 9) h))
-free_9_9 (suc (suc (suc n))) h = cc
-
-free_4_3 : IsFree three_points (at 4 3)
-free_4_3 zero h = absurd (omega (arith, same_x (at 5 5) (at 4 3) h))
-free_4_3 (suc zero) h = absurd (omega (arith, same_x (at 5 3) (at 4 3) h))
-free_4_3 (suc (suc zero)) h = absurd (omega (arith, same_x (at 9 2) (at 4 3) h))
-free_4_3 (suc (suc (suc n))) h = cc
-
 -- the way of a point to the left of node 0 ends there, at what step 3 found
 ends_left : (depth n : ℕ) (p : Point) → IsOnWay four_children three_points (at 4 3) depth n → StandsAt three_points n p
     → ¬ (6 < found_at_return n (goes_right depth p (at 4 3)))
@@ -186,10 +174,10 @@ ends_left (suc depth) n p way stands since =
 
 pub found_before_6 : ¬ IsSwept at_return 6 (at 4 3)
 found_before_6 swept =
-    let ends = swept free_4_3 in
+    let ends = swept (shown (is_free three_points (at 4 3)) refl) in
     ends_left ends.depth ends.node ends.point ends.on_way ends.stands ends.empty
 
 pub none_after_8 : ¬ IsSwept at_return 8 (at 9 9)
 none_after_8 swept =
-    let ends = swept free_9_9 in
+    let ends = swept (shown (is_free three_points (at 9 9)) refl) in
     omega (arith, ends.empty, found_by_8 ends.node (goes_right ends.depth ends.point (at 9 9)))

@@ -1,11 +1,11 @@
 -- What two workers have seen of a kd-tree of five nodes is true of the tree, and the one takes it over from the other.
-use Rattle.plan_model_tests.proofs.Words.{◌≡◌, ℕ, zero, suc, Bool, true, false, None, refl, option_or}
-use Rattle.plan_model_tests.proofs.Common.{point_at, HasSeenAtLeast, IsTrueOf, seen_whole, IsLaterMoment, TakesOver, cheaper_of}
-use Rattle.plan_model_tests.proofs.Common.{at_entry, at_return, of_other, of_both, tree_now, tree_before, four_children, five_children, others_children}
-use Rattle.plan_model_tests.proofs.Common.{others_points, three_points, IsLaterMoment-takes}
+use Rattle.plan_model_tests.proofs.Words.{◌≡◌, ℕ, zero, suc, Bool, true, false, None, refl, option_or, point_at, HasSeenAtLeast, IsTrueOf, seen_whole}
+use Rattle.plan_model_tests.proofs.Words.{IsLaterMoment, TakesOver, cheaper_of, at_entry, at_return, of_other, of_both, tree_now, tree_before, four_children}
+use Rattle.plan_model_tests.proofs.Words.{five_children, others_children, others_points, IsLaterMoment-takes}
+use Rattle.plan_model.specs.Vectors.Ways.{three_points}
 use Rattle.plan_model_tests.proofs.Decisions.{refuted, shown}
 use Rattle.plan_model_tests.proofs.SeenByOne.{small_entry, small_return}
-use Rattle.plan_model_tests.proofs.SightDecisions.{counted, has_seen_at_least, keeps_or_finds_empty, no_records}
+use Rattle.plan_model_tests.proofs.SightDecisions.{by-numbers, counted, has_seen_at_least, keeps_or_finds_empty, no_records}
 
 -- ---- true of the tree
 
@@ -31,20 +31,13 @@ children_of_both (suc (suc n)) false = refl
 children_of_both (suc (suc n)) true = refl
 
 points_by_both : (n : ℕ) → point_at of_both.seen.points n ≡ option_or (point_at three_points n) (point_at others_points n)
-points_by_both zero = refl
-points_by_both (suc zero) = refl
-points_by_both (suc (suc zero)) = refl
-points_by_both (suc (suc (suc zero))) = refl
-points_by_both (suc (suc (suc (suc zero)))) = refl
-points_by_both (suc (suc (suc (suc (suc n))))) = refl
+points_by_both =
+    by-numbers (λ n. point_at of_both.seen.points n ≡ option_or (point_at three_points n) (point_at others_points n)) (λ n. refl) refl refl refl refl refl refl
 
 pairs_of_both : (n : ℕ) → of_both.seen.parent_and_cost n ≡ cheaper_of (at_return.seen.parent_and_cost n) (of_other.seen.parent_and_cost n)
-pairs_of_both zero = refl
-pairs_of_both (suc zero) = refl
-pairs_of_both (suc (suc zero)) = refl
-pairs_of_both (suc (suc (suc zero))) = refl
-pairs_of_both (suc (suc (suc (suc zero)))) = refl
-pairs_of_both (suc (suc (suc (suc (suc n))))) = refl
+pairs_of_both =
+    by-numbers (λ n. of_both.seen.parent_and_cost n ≡ cheaper_of (at_return.seen.parent_and_cost n) (of_other.seen.parent_and_cost n)) (λ n. refl)
+    refl refl refl refl refl refl
 
 pub taken_over : TakesOver at_return of_other.seen of_both
 taken_over = record {

@@ -1,9 +1,7 @@
 -- Decisions of what was seen of small trees, of which nothing is said of number 6 and above.
-use Rattle.plan_model_tests.proofs.Words.{◌≡◌, ℕ, zero, suc, ◌<◌, ◌≤◌, Bool, true, false, Option, Some, None, List, length, refl, sym, ap, arith, inl, inr}
-use Rattle.plan_model_tests.proofs.Words.{◌⊎◌, is_some, IsPresent-below, Point, Record, StandsAt, point_at}
-use Rattle.plan_model.specs.Seen.SeenTrees.{HasSeenAtLeast, IsSeen, KeepsOrLowers, SeenTree}
-use Rattle.plan_model.specs.Seen.Sights.{IsLaterMoment, KeepsOrFindsEmpty, Sight}
-use Rattle.plan_model.specs.Seen.Ways.{Children, FillsPlaces}
+use Rattle.plan_model_tests.proofs.Words.{◌≡◌, ℕ, zero, suc, ◌<◌, ◌≤◌, Bool, true, false, Option, Some, None, List, length, refl, sym, ap, arith, inl, inr, ◌⊎◌}
+use Rattle.plan_model_tests.proofs.Words.{is_some, IsPresent-below, Point, Record, StandsAt, point_at, HasSeenAtLeast, IsSeen, KeepsOrLowers, SeenTree}
+use Rattle.plan_model_tests.proofs.Words.{IsLaterMoment, KeepsOrFindsEmpty, Sight, Children, FillsPlaces}
 use Rattle.plan_model_tests.proofs.Decisions.{are_equal, both, each_below, either, given, in_option, is_absent, is_at_most, is_point, like, of-none, of-some}
 use Rattle.plan_model_tests.proofs.Decisions.{some_below}
 
@@ -13,14 +11,17 @@ abbrev pub past_5 : ℕ → ℕ
 past_5 n = suc (suc (suc (suc (suc (suc n)))))
 
 module _ (P : ℕ → Type 0) (past : (n : ℕ) → P (past_5 n)) where
+  pub by-numbers : P 0 → P 1 → P 2 → P 3 → P 4 → P 5 → (n : ℕ) → P n
+  by-numbers a b c d e f zero = a
+  by-numbers a b c d e f (suc zero) = b
+  by-numbers a b c d e f (suc (suc zero)) = c
+  by-numbers a b c d e f (suc (suc (suc zero))) = d
+  by-numbers a b c d e f (suc (suc (suc (suc zero)))) = e
+  by-numbers a b c d e f (suc (suc (suc (suc (suc zero))))) = f
+  by-numbers a b c d e f (suc (suc (suc (suc (suc (suc n)))))) = past n
+
   pub by-number : ((n : ℕ) → n < 6 → P n) → (n : ℕ) → P n
-  by-number h zero = h 0 (omega arith)
-  by-number h (suc zero) = h 1 (omega arith)
-  by-number h (suc (suc zero)) = h 2 (omega arith)
-  by-number h (suc (suc (suc zero))) = h 3 (omega arith)
-  by-number h (suc (suc (suc (suc zero)))) = h 4 (omega arith)
-  by-number h (suc (suc (suc (suc (suc zero))))) = h 5 (omega arith)
-  by-number h (suc (suc (suc (suc (suc (suc n)))))) = past n
+  by-number h = by-numbers (h 0 (omega arith)) (h 1 (omega arith)) (h 2 (omega arith)) (h 3 (omega arith)) (h 4 (omega arith)) (h 5 (omega arith))
 
   abbrev pub each_number : ((n : ℕ) → Dec (P n)) → Dec ((n : ℕ) → P n)
   each_number test = like by-number (λ h n _. h n) (each_below P test 6)

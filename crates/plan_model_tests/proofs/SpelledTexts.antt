@@ -1,11 +1,11 @@
 -- The scene that a text spells, computed with what shows that it does.
-use Rattle.plan_model_tests.proofs.Words.{◌≡◌, ℕ, Option, Some, None, List, refl, length, ◌==◌, map, Point, LEAST_SIDE, LEAST_STEP, LEAST_STRIPS}
-use Rattle.plan_model_tests.proofs.Words.{MOST_GAMMA, MOST_SEED, MOST_STRIPS, Scene, IsBetween, are_goals, are_obstacles, is_body, is_plan, may_be_informed}
-use Rattle.plan_model_tests.proofs.Words.{most_clearance, most_side, most_step, Format, Given, corners_from, Spells, body_from, fault_of_end, fault_of_line}
-use Rattle.plan_model_tests.proofs.Words.{first_of, given_after_version, goal_from, number_or, plan_from, point_from, version_given, lines_of, statements_of}
+use Rattle.plan_model_tests.proofs.Words.{◌≡◌, ℕ, Option, Some, None, List, refl, length, ◌==◌, map, Point, LEAST_SIDE, LEAST_STEP, LEAST_STRIPS, MOST_GAMMA}
+use Rattle.plan_model_tests.proofs.Words.{MOST_SEED, MOST_STRIPS, Scene, IsBetween, are_goals, are_obstacles, is_body, is_plan, may_be_informed, most_clearance}
+use Rattle.plan_model_tests.proofs.Words.{most_side, most_step, Format, Given, corners_from, Spells, body_from, fault_of_end, fault_of_line, first_of}
+use Rattle.plan_model_tests.proofs.Words.{given_after_version, goal_from, number_or, plan_from, point_from, version_given, lines_of, statements_of, is_some}
+use Rattle.plan_model_tests.proofs.Words.{true}
 use Rattle.plan_model.specs.declared.text_terms.Key.TheVariants as keys
-use Rattle.plan_model_tests.proofs.Decisions.{each_below, given, is_absent, is_at_most, is_true}
-use Rattle.plan_model_tests.proofs.Decisions.{if_so}
+use Rattle.plan_model_tests.proofs.Decisions.{each_below, given, if_so, is_absent, is_at_most, is_true, value_of}
 
 abbrev pub is_between : (low high : ℕ) (p : Point) → Dec (IsBetween low high p)
 is_between low high p =
@@ -115,3 +115,6 @@ module _ (format : Format) (text : List ℕ) where
 
   abbrev pub spelling : Option ((scene : Scene) × Spells format text scene)
   spelling = spelled_if (version_given format.reads (statements_of (lines_of text))) refl
+
+  abbrev pub spelled : is_some spelling ≡ true → (scene : Scene) × Spells format text scene
+  spelled = value_of spelling

@@ -1,37 +1,64 @@
 -- The definitions and lemmas that proofs of this crate are about, passed on from one place. Declares nothing.
 pub use Rattle.plan_model.proofs.BestNodeLaws.{IsPresent-goal}
+pub use Rattle.plan_model.proofs.NewNodes.{StandsAt-unique}
 pub use Rattle.plan_model.proofs.PlacedNodes.{is_placed-true}
-pub use Rattle.plan_model.proofs.RootLaws.{root_ceiling-from_squares, root_ceiling-zero}
-pub use Rattle.plan_model.proofs.SegmentLaws.{Clear-first}
+pub use Rattle.plan_model.proofs.RadiusLaws.{greatest-unique}
+pub use Rattle.plan_model.proofs.RationalPoints.{IsClear-same}
+pub use Rattle.plan_model.proofs.RootLaws.{root_ceiling-from_squares, root_ceiling-is, root_ceiling-zero}
+pub use Rattle.plan_model.proofs.SamePoints.{same_y}
+pub use Rattle.plan_model.proofs.SeenTreeLaws.{over_seen_points}
+pub use Rattle.plan_model.proofs.SegmentLaws.{Clear-first, part_and_rest, way_is}
+pub use Rattle.plan_model.proofs.SightsTogether.{IsLaterMoment-takes}
+pub use Rattle.plan_model.proofs.Soundness.{IsSoundBelow-from_test, refused_at_line}
 pub use Rattle.plan_model.proofs.TurnsFromZero.{AreTurns-counted, RunFromZero-counts}
+pub use Rattle.plan_model.proofs.WayLaws.{way_ends, way_start, way_stops}
 pub use Rattle.plan_model.specs.Geometry.Cost.{cost_of}
-pub use Rattle.plan_model.specs.Geometry.Radius.{radius_of_class}
+pub use Rattle.plan_model.specs.Geometry.Radius.{greatest, radius_of_class}
+pub use Rattle.plan_model.specs.Geometry.Roots.{IsRootCeiling}
 pub use Rattle.plan_model.specs.Runs.ClosedLaw.{ArePlacedMarks, AreRecordedBelow, IsClosed, has_outcome, mark_at}
 pub use Rattle.plan_model.specs.Runs.Endings.{Ending, FirstHanging, NewNode, NoWay, Reached, SameNode, SkippedBy, Steered, ending_of}
 pub use Rattle.plan_model.specs.Runs.OrderLaw.{Hangs, HangsBelow, IsAllowedEdge, KeepsOrder, most_cost_of}
 pub use Rattle.plan_model.specs.Runs.Outcomes.{is_placed}
-pub use Rattle.plan_model.specs.Runs.RecordLaw.{HangsLawfully, HasClass, HasLawfulEnding, IsBlockedLawfully, IsChosenLawfully, IsLawfulRecord}
-pub use Rattle.plan_model.specs.Runs.RecordLaw.{IsPlacedLawfully, IsSkippedLawfully, IsSteeredLawfully, ReachesLawfully, earlier_count, first_cost_through}
-pub use Rattle.plan_model.specs.Runs.RecordLaw.{is_earlier}
+pub use Rattle.plan_model.specs.Runs.RecordLaw.{HangsLawfully, HasClass, HasLawfulEnding, IsBlockedLawfully, IsChosenLawfully, IsLawfulRecord, IsPlacedLawfully}
+pub use Rattle.plan_model.specs.Runs.RecordLaw.{IsSkippedLawfully, IsSteeredLawfully, ReachesLawfully, earlier_count, first_cost_through, is_earlier}
 pub use Rattle.plan_model.specs.Runs.Textbook.{Ends, IsBestGoalNode, IsBestParent, IsCandidate, MayBeCheaper, Reaches, RewiresOne, SteersTo, mark_bound}
 pub use Rattle.plan_model.specs.Runs.Textbook.{start_alone, with_parent}
 pub use Rattle.plan_model.specs.Runs.Turns.{AreTurns, RunFromZero}
 pub use Rattle.plan_model.specs.Scenes.Limits.{IsBetween, are_goals, are_obstacles, is_body, is_plan, may_be_informed, most_clearance, most_side, most_step}
 pub use Rattle.plan_model.specs.Scenes.MarkPoints.{points_of_marks}
-pub use Rattle.plan_model.specs.Spaces.ClearPaths.{IsClearPath}
+pub use Rattle.plan_model.specs.Seen.SeenTrees.{HasSeenAtLeast, HasSeenWay, IsSeen, IsTrueOf, KeepsOrLowers, SeenTree, seen_whole}
+pub use Rattle.plan_model.specs.Seen.Sights.{IsLaterMoment, IsSwept, KeepsOrFindsEmpty, KeepsSight, Sight, TakesOver, cheaper_of}
+pub use Rattle.plan_model.specs.Seen.Ways.{Children, FillsPlaces, IsOnWay, goes_right}
+pub use Rattle.plan_model.specs.Seen.Ways.IsOnWay.{begins, goes_on}
+pub use Rattle.plan_model.specs.Spaces.ClearPaths.{IsClearPath, path_point}
+pub use Rattle.plan_model.specs.Spaces.Clearance.{IsClear}
 pub use Rattle.plan_model.specs.Spaces.Meeting.{IsWithin}
+pub use Rattle.plan_model.specs.Spaces.RoomOfConfigurations.{InRoom, IsSamePoint}
 pub use Rattle.plan_model.specs.Texts.LineChecks.{Format, Given, corners_from}
 pub use Rattle.plan_model.specs.Texts.SceneGrammar.{Spells, body_from, fault_of_end, fault_of_line, first_of, given_after_version, goal_from, number_or}
-pub use Rattle.plan_model.specs.Texts.SceneGrammar.{plan_from, point_from, version_given}
+pub use Rattle.plan_model.specs.Texts.SceneGrammar.{plan_from, point_from, supported, version_given, whole_format}
 pub use Rattle.plan_model.specs.Texts.TextLines.{lines_of, statements_of}
 pub use Rattle.plan_model.specs.Trees.BestNode.{is_goal_point}
 pub use Rattle.plan_model.specs.Trees.GoalBounds.{least_of, points_of_goal}
 pub use Rattle.plan_model.specs.Trees.LeastPairs.{IsFirstLeast}
-pub use Rattle.plan_model.specs.Trees.NodeLists.{chain, length_of_path}
+pub use Rattle.plan_model.specs.Trees.NodeLists.{chain, edge_by, length_of_path, parent_of}
 pub use Rattle.plan_model.specs.Trees.OpenNodes.{IsOpenTo}
 pub use Rattle.plan_model.specs.Trees.PointsByNumber.{AreDistinct}
 pub use Rattle.plan_model.specs.Trees.TreeStates.{first_cost_of}
-pub use Rattle.plan_model.specs.Vectors.Records.{blocked_record, skipped_record}
+pub use Rattle.plan_model.specs.Vectors.Clearances.{apart_from_pillar, beside_square, square}
+pub use Rattle.plan_model.specs.Vectors.Meetings.{far_square, great_square, pillar, small_triangle}
+pub use Rattle.plan_model.specs.Vectors.Overlaps.{early_record, overlapping_records}
+pub use Rattle.plan_model.specs.Vectors.Radii.{first_classes}
+pub use Rattle.plan_model.specs.Vectors.Records.{blocked_record, same_record, skipped_record}
+pub use Rattle.plan_model.specs.Vectors.Rooms.{ten_by_ten, triangle}
+pub use Rattle.plan_model.specs.Vectors.Runs.{kept_records, kept_tree, marks_to_keep, rewired_records}
+pub use Rattle.plan_model.specs.Vectors.SecondVersion.{goals_and, small_text, wide_text}
+pub use Rattle.plan_model.specs.Vectors.SeenTrees.{at_entry, at_return, five_children, five_points, found_at_return, four_children, of_both, of_other}
+pub use Rattle.plan_model.specs.Vectors.SeenTrees.{others_children, others_points, tree_before, tree_now, trees_at_entry}
+pub use Rattle.plan_model.specs.Vectors.Shapes.{halves}
+pub use Rattle.plan_model.specs.Vectors.Texts.{sound_text, text_of_every_field, text_with_polygons, without_keys}
+pub use Rattle.plan_model.specs.Vectors.Trees.{gapped}
+pub use Rattle.plan_model.specs.Vectors.Ways.{three_children}
 pub use Rattle.plan_model.specs.declared.configuration_spaces.ConfigurationSpace.{ConfigurationSpace}
 pub use Rattle.plan_model.specs.declared.limits.TheConstants.{LEAST_SIDE, LEAST_STEP, LEAST_STRIPS, MOST_GAMMA, MOST_SEED, MOST_STRIPS, MOST_WORKERS}
 pub use Rattle.plan_model.specs.declared.records.Outcome.{Outcome}
@@ -40,15 +67,14 @@ pub use Rattle.plan_model.specs.declared.trees.Twig.{Twig}
 pub use Rattle.plan_model_tests.specs.GrownTrees.{after_with, before, both_records, costs_of, first_by, four_points}
 pub use Rattle.plan_model_tests.specs.LesserSights.{child_of_none, found_filled, found_with, known, one_record, seen_by, sight_of, trees_with}
 pub use Rattle.plan_model_tests.specs.LinkedNodes.{two_children, two_points}
-pub use Rattle.plan_model_tests.specs.NarrowRuns.{falling_marks, falling_records, falling_tree, marks_in_line, records_in_line, tree_in_line}
 pub use Rattle.plan_model_tests.specs.OpenPaths.{low_room}
 pub use Rattle.plan_model_tests.specs.RouteExamples.ChainRuns.{late, late_marks, late_records, late_tree, low_setup, small_setup}
-pub use Rattle.plan_model_tests.specs.RouteExamples.FollowedRuns.{goal_at_start, late_points, no_node, short_of_mark}
+pub use Rattle.plan_model_tests.specs.RouteExamples.FollowedRuns.{goal_at_start, no_node, short_of_mark}
 pub use Rattle.plan_model_tests.specs.RouteExamples.Links.{IsNeither, thin_setup, thin_space, thin_triangle, wide_setup}
 pub use Rattle.plan_model_tests.specs.RouteExamples.WorkersTurns.{two_workers}
 pub use Rattle.plan_model_tests.specs.SkippedMarks.{goal_of_2, marks_to_skip, skipped_records, skipped_tree}
 pub use Rattle.plan_model_tests.specs.UnclosedRuns.{ended_at_start, one_node_more, overlapped_with, start_below_a_node}
-pub use Rattle.plan_model_tests.specs.UnlawfulRecords.{nodes_with, room_by}
+pub use Rattle.plan_model_tests.specs.UnlawfulRecords.{nodes_with}
 pub use Rattle.plan_model_tests.specs.UnlawfulTrees.{room_to, three_points}
 pub use Rattle.route_laws.proofs.Common.{AreInRoom-from_clear, Clear, Clear-empty_room, ClearAt, Goal, Handles, HandlesAll, IsBetweenWalls, IsCheaperThrough}
 pub use Rattle.route_laws.proofs.Common.{IsEarlier, IsFree, IsGoalNode, IsInRoom, IsInRoom-from_clear_at, IsNearest, IsNeighbour, IsNotAbove, IsPresent}
@@ -80,4 +106,4 @@ pub use Rattle.std.specs.Int.{abs_diff}
 pub use Rattle.std.specs.List.{flat_map}
 pub use Rattle.std.specs.Option.{option_or}
 pub use Rattle.std.specs.Prelude.{Contains, IsSome, IsTrue, T, codes, cond, if◌then◌else◌, is_some, map, max, nat_le, negsuc, pos, slice_get, slice_index_or}
-pub use Rattle.std.specs.Prelude.{sum, unsigned_abs, unwrap_or, ℤ, ◌&&◌, ◌*ℤ◌, ◌+ℤ◌, ◌-ℤ◌, ◌/◌, ◌==◌, ◌≢◌, ◌≤ℤ◌, ◌⊎◌}
+pub use Rattle.std.specs.Prelude.{sum, unsigned_abs, unwrap_or, ℤ, ◌%◌, ◌&&◌, ◌*ℤ◌, ◌+ℤ◌, ◌-ℤ◌, ◌/◌, ◌==◌, ◌≢◌, ◌≤ℤ◌, ◌⊎◌}

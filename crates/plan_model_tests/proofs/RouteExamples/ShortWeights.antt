@@ -1,6 +1,6 @@
 -- A point body that meets nothing between the walls.
-use Rattle.plan_model_tests.proofs.Words.{◌≤◌, List, [], ◌∷◌, arith, ints, All-cons, All-nil, Point, Vertex, ClearAt, space_among, Meets}
-use Rattle.plan_model_tests.proofs.Words.{IsBetweenWalls, at_lattice, moved_by, point_body, corner, corner_in_box}
+use Rattle.plan_model_tests.proofs.Words.{◌≤◌, List, [], ◌∷◌, arith, ints, All-cons, All-nil, Point, Vertex, ClearAt, space_among, Meets, IsBetweenWalls}
+use Rattle.plan_model_tests.proofs.Words.{at_lattice, moved_by, point_body, corner, corner_in_box}
 
 -- a point body is clear at a lattice point between the walls at which it does not meet the only obstacle
 pub ClearAt-apart : (room p : Point) (obstacle : List Vertex) → p.x ≤ room.x → p.y ≤ room.y → ¬ Meets 0 point_body (at_lattice p) obstacle

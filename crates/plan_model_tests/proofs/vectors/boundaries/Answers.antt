@@ -1,5 +1,4 @@
-use Rattle.std.proofs.Common.{arith, subst}
-use Rattle.plan_model_tests.proofs.Common.{IsRootCeiling, root_ceiling-from_squares, root_ceiling-is}
+use Rattle.plan_model_tests.proofs.Words.{arith, subst, IsRootCeiling, root_ceiling-from_squares, root_ceiling-is}
 use Rattle.plan_model_tests.proofs.vectors.boundaries.Goals as goal
 
 pub returns : goal.returns

@@ -1,7 +1,7 @@
 use Rattle.plan_model_tests.proofs.Words.{◌≡◌, ℕ, ◌+◌, ◌-◌, ◌*◌, ◌<◌, ◌≤◌, List, [], ◌∷◌, arith, refl, pos, ◌-ℤ◌, ◌*ℤ◌, sum, ints, mul-le, All-cons, All-nil}
-use Rattle.plan_model_tests.proofs.Common.{Vertex, Point, ConfigurationSpace, Rational, IsSamePoint, at_lattice, moved_by, IsBetweenWalls, weighted, Meets}
-use Rattle.plan_model_tests.proofs.Common.{IsClear, on_the_way, Clear, at, corner, two_is_positive, point_body, pillar, square, beside_square}
-use Rattle.plan_model_tests.proofs.Common.{apart_from_pillar, corner_in_box, part_and_rest, way_is, IsClear-same, SharesPoint-meets, Meets-shares_point}
+use Rattle.plan_model_tests.proofs.Words.{Vertex, Point, ConfigurationSpace, Rational, IsSamePoint, at_lattice, moved_by, IsBetweenWalls, weighted, Meets}
+use Rattle.plan_model_tests.proofs.Words.{IsClear, on_the_way, Clear, at, corner, two_is_positive, point_body, pillar, square, beside_square, apart_from_pillar}
+use Rattle.plan_model_tests.proofs.Words.{corner_in_box, part_and_rest, way_is, IsClear-same, SharesPoint-meets, Meets-shares_point}
 use Rattle.plan_model_tests.proofs.ComputedMeetings.{met_by}
 use Rattle.plan_model_tests.proofs.Decisions.{value_of}
 use Rattle.plan_model_tests.proofs.ShortLists.{one, four}

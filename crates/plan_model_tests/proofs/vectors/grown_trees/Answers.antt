@@ -1,7 +1,5 @@
 use Rattle.plan_model_tests.proofs.Words.{◌≡◌, ℕ, zero, suc, ◌<◌, Some, None, [], ◌∷◌, arith, refl, ap, inl, inr, ◌⊎◌, unwrap_or, before, after_with}
-use Rattle.plan_model_tests.proofs.Words.{both_records, first_by, four_points, three_points}
-use Rattle.plan_model_tests.proofs.Common.{Point, Record, StandsAt, point_at, TreeState, at}
-use Rattle.plan_model_tests.proofs.Common.{same_y}
+use Rattle.plan_model_tests.proofs.Words.{both_records, first_by, four_points, three_points, Point, Record, StandsAt, point_at, TreeState, at, same_y}
 use Rattle.plan_model_tests.proofs.Decisions.{are_equal, both, either, is_at_most, shown}
 use Rattle.plan_model_tests.proofs.OrderDecisions.{of_nodes}
 use Rattle.plan_model_tests.proofs.vectors.grown_trees.Goals as goal

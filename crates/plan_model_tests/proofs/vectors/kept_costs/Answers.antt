@@ -1,5 +1,5 @@
-use Rattle.plan_model_tests.proofs.Words.{◌≡◌, ℕ, zero, suc, ◌+◌, ◌≤◌, [], ◌∷◌, arith, refl, costs_of, three_points}
-use Rattle.plan_model_tests.proofs.Common.{IsPresent, edge_by, parent_of, points_of, gapped}
+use Rattle.plan_model_tests.proofs.Words.{◌≡◌, ℕ, zero, suc, ◌+◌, ◌≤◌, [], ◌∷◌, arith, refl, costs_of, three_points, IsPresent, edge_by, parent_of, points_of}
+use Rattle.plan_model_tests.proofs.Words.{gapped}
 use Rattle.plan_model_tests.proofs.ComputedCosts.{cost_2500}
 use Rattle.plan_model_tests.proofs.Decisions.{are_equal, denied, implied, is_at_most, is_true, shown}
 use Rattle.plan_model_tests.proofs.OrderDecisions.{of_later_nodes}

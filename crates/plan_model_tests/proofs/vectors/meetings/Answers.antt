@@ -1,6 +1,5 @@
-use Rattle.plan_model_tests.proofs.Words.{◌≡◌, ℕ, ◌<◌, [], ◌∷◌, arith, refl, pos, ◌-ℤ◌, ◌*ℤ◌, sum, ints}
-use Rattle.plan_model_tests.proofs.Common.{at_lattice, weighted, at, halves, small_triangle, great_triangle, small_square, great_square, far_square, point_body}
-use Rattle.plan_model_tests.proofs.Common.{pillar, SharesPoint-meets}
+use Rattle.plan_model_tests.proofs.Words.{◌≡◌, ℕ, ◌<◌, [], ◌∷◌, arith, refl, pos, ◌-ℤ◌, ◌*ℤ◌, sum, ints, at_lattice, weighted, at, halves, small_triangle}
+use Rattle.plan_model_tests.proofs.Words.{great_triangle, small_square, great_square, far_square, point_body, pillar, SharesPoint-meets}
 use Rattle.plan_model_tests.proofs.ComputedMeetings.{met_by}
 use Rattle.plan_model_tests.proofs.Decisions.{value_of}
 use Rattle.plan_model_tests.proofs.ShortLists.{three, four}

@@ -1,5 +1,5 @@
-use Rattle.plan_model_tests.proofs.Words.{◌≡◌, ℕ, suc, ◌<◌, List, Option, true, false, arith, length, low_room, IsClearPath, IsOpenTo}
-use Rattle.plan_model_tests.proofs.Common.{Clear, Point, at, path_point, point_of}
+use Rattle.plan_model_tests.proofs.Words.{◌≡◌, ℕ, suc, ◌<◌, List, Option, true, false, arith, length, low_room, IsClearPath, IsOpenTo, Clear, Point, at}
+use Rattle.plan_model_tests.proofs.Words.{path_point, point_of}
 use Rattle.plan_model_tests.proofs.Decisions.{contains, each_below, given, holds, implied, is_at_most, like, refuted, shown}
 use Rattle.plan_model_tests.proofs.OrderDecisions.{is_clear}
 use Rattle.plan_model_tests.proofs.vectors.open_paths.Goals as goal

@@ -1,6 +1,5 @@
-use Rattle.plan_model_tests.proofs.Words.{refl}
-use Rattle.plan_model_tests.proofs.Common.{marks_to_rewire, overlapped, overlapping_records}
-use Rattle.plan_model_tests.proofs.ClosedRuns.{closed}
+use Rattle.plan_model_tests.proofs.Words.{refl, marks_to_rewire, overlapped, overlapping_records}
+use Rattle.plan_model_tests.proofs.ClosedDecisions.{closed}
 use Rattle.plan_model_tests.proofs.vectors.overlapping_marks.Goals as goal
 
 pub returns : goal.returns

@@ -1,10 +1,8 @@
 -- A radius passes its test and the number after it does not, so that no number above has to be tried.
-use Rattle.plan_model_tests.proofs.Words.{◌≡◌, ℕ, suc, ◌-◌, ◌*◌, ◌^◌, ◌≤◌, Option, Some, None, List, [], ◌∷◌, map, leb, le-leb, true, false, refl, sym}
-use Rattle.plan_model_tests.proofs.Words.{arith, inl, inr, cases_order, mul-le}
+use Rattle.plan_model_tests.proofs.Words.{◌≡◌, ℕ, suc, ◌-◌, ◌*◌, ◌^◌, ◌≤◌, Option, Some, None, List, [], ◌∷◌, map, leb, le-leb, true, false, refl, sym, arith}
+use Rattle.plan_model_tests.proofs.Words.{inl, inr, cases_order, mul-le, greatest, radius_of_class, greatest-unique, first_classes}
 use Rattle.std.proofs.Common.{leb-true, leb-false}
-use Rattle.plan_model_tests.proofs.Common.{greatest, radius_of_class, greatest-unique}
 use Rattle.plan_model_tests.proofs.Decisions.{agree, if_so, if_there, value_of}
-use Rattle.plan_model.specs.Vectors.Radii.{first_classes}
 use Rattle.plan_model_tests.proofs.vectors.radii.Goals as goal
 
 -- the product grows with the number

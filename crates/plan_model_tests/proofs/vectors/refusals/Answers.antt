@@ -1,5 +1,4 @@
-use Rattle.plan_model_tests.proofs.Words.{arith, refl, inr, codes}
-use Rattle.plan_model_tests.proofs.Common.{lines_of, supported, without_keys, IsSoundBelow-from_test, refused_at_line}
+use Rattle.plan_model_tests.proofs.Words.{arith, refl, inr, codes, lines_of, supported, without_keys, IsSoundBelow-from_test, refused_at_line}
 use Rattle.plan_model.specs.declared.text_terms.Kind.TheVariants as kinds
 use Rattle.plan_model.proofs.Soundness.{are_sound}
 use Rattle.plan_model_tests.proofs.vectors.refusals.Goals as goal

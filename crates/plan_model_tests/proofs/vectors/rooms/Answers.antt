@@ -1,5 +1,5 @@
-use Rattle.plan_model_tests.proofs.Words.{arith, ap, refl, [], ◌∷◌, pos, le_prop, ints, All-cons, All-nil}
-use Rattle.plan_model_tests.proofs.Common.{Vertex, Rational, at_lattice, moved_by, IsBetweenWalls, InRoom, triangle, ten_by_ten, at, corner, halves}
+use Rattle.plan_model_tests.proofs.Words.{arith, ap, refl, [], ◌∷◌, pos, le_prop, ints, All-cons, All-nil, Vertex, Rational, at_lattice, moved_by}
+use Rattle.plan_model_tests.proofs.Words.{IsBetweenWalls, InRoom, triangle, ten_by_ten, at, corner, halves}
 use Rattle.plan_model_tests.proofs.vectors.rooms.Goals as goal
 
 -- the triangle is in the room if its corners are

@@ -1,5 +1,4 @@
-use Rattle.plan_model_tests.proofs.Words.{refl, digits}
-use Rattle.plan_model_tests.proofs.Common.{at, kept_records, kept_tree, marks_to_keep, marks_to_rewire, open_setup, rewired_records, rewired_tree}
+use Rattle.plan_model_tests.proofs.Words.{refl, digits, at, kept_records, kept_tree, marks_to_keep, marks_to_rewire, open_setup, rewired_records, rewired_tree}
 use Rattle.plan_model_tests.proofs.ComputedCosts.{root-is, sum-is}
 use Rattle.plan_model_tests.proofs.ComputedRuns.{IsTextbookRun-computed}
 use Rattle.plan_model_tests.proofs.OrderDecisions.{is_clear}

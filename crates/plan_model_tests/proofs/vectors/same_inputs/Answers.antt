@@ -1,5 +1,5 @@
 use Rattle.std.proofs.Common.{◌≡◌, ℕ, List, [], cond, refl, sym, ap, ◌∙◌}
-use Rattle.plan_model_tests.proofs.Common.{Point, Vertex, ConfigurationSpace, at, marks_to_rewire, open_setup, points_of_marks, rewired_records, rewired_tree}
+use Rattle.plan_model_tests.proofs.Words.{Point, Vertex, ConfigurationSpace, at, marks_to_rewire, open_setup, points_of_marks, rewired_records, rewired_tree}
 use Rattle.plan_model_tests.proofs.ComputedRuns.{IsTextbookRun-computed}
 use Rattle.plan_model_tests.proofs.OrderDecisions.{is_clear}
 use Rattle.plan_model_tests.proofs.vectors.same_inputs.Goals as goal

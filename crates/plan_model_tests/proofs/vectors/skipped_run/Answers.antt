@@ -1,5 +1,4 @@
-use Rattle.plan_model_tests.proofs.Words.{refl, digits, goal_of_2, marks_to_skip, skipped_records, skipped_tree}
-use Rattle.plan_model_tests.proofs.Common.{at, open_setup_to}
+use Rattle.plan_model_tests.proofs.Words.{refl, digits, goal_of_2, marks_to_skip, skipped_records, skipped_tree, at, open_setup_to}
 use Rattle.plan_model_tests.proofs.ComputedCosts.{root-is}
 use Rattle.plan_model_tests.proofs.ComputedRuns.{IsTextbookRun-computed}
 use Rattle.plan_model_tests.proofs.OrderDecisions.{is_clear}

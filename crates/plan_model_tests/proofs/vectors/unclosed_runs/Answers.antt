@@ -1,6 +1,6 @@
-use Rattle.plan_model_tests.proofs.Words.{◌≡◌, [], ◌∷◌, false, refl, ended_at_start, one_node_more, overlapped_with, start_below_a_node}
-use Rattle.plan_model_tests.proofs.Common.{IsClosed, Record, at, early_record, marks_to_rewire, open_setup, overlapped, overlapping_records, same_record}
-use Rattle.plan_model_tests.proofs.ClosedRuns.{closed, closes, unclosed}
+use Rattle.plan_model_tests.proofs.Words.{◌≡◌, [], ◌∷◌, false, refl, ended_at_start, one_node_more, overlapped_with, start_below_a_node, IsClosed, Record, at}
+use Rattle.plan_model_tests.proofs.Words.{early_record, marks_to_rewire, open_setup, overlapped, overlapping_records, same_record}
+use Rattle.plan_model_tests.proofs.ClosedDecisions.{closed, closes, unclosed}
 use Rattle.plan_model_tests.proofs.Decisions.{holds}
 use Rattle.plan_model_tests.proofs.vectors.unclosed_runs.Goals as goal
 

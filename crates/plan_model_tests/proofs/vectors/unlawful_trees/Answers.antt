@@ -1,5 +1,4 @@
-use Rattle.plan_model_tests.proofs.Words.{◌≡◌, ℕ, true, false, room_to}
-use Rattle.plan_model_tests.proofs.Common.{KeepsOrder, Point, TreeState, at}
+use Rattle.plan_model_tests.proofs.Words.{◌≡◌, ℕ, true, false, room_to, KeepsOrder, Point, TreeState, at}
 use Rattle.plan_model_tests.proofs.Decisions.{holds, refuted, shown}
 use Rattle.plan_model_tests.proofs.OrderDecisions.{is_clear, is_clear_at, keeps_order}
 use Rattle.plan_model_tests.proofs.vectors.unlawful_trees.Goals as goal

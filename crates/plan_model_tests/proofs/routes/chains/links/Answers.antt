@@ -1,5 +1,4 @@
-use Rattle.plan_model_tests.proofs.Words.{ℕ, refl, IsLinkInOrder, at, late, late_records, low_setup, open_setup, overlapped, small_setup}
-use Rattle.plan_model_tests.proofs.Common.{overlapping_records}
+use Rattle.plan_model_tests.proofs.Words.{ℕ, refl, IsLinkInOrder, at, late, late_records, low_setup, open_setup, overlapped, small_setup, overlapping_records}
 use Rattle.plan_model_tests.proofs.Decisions.{refuted, shown}
 use Rattle.plan_model_tests.proofs.OrderDecisions.{is_clear}
 use Rattle.plan_model_tests.proofs.RouteExamples.ChainLinks.{is_link}
