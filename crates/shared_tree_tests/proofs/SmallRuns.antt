@@ -1,2 +1,3 @@
 -- A shared run at its begin.
 pub mod BegunWorld
+pub mod MarkEdge

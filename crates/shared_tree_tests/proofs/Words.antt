@@ -1,14 +1,14 @@
 -- The definitions and lemmas that proofs of this crate are about, passed on from one place. Declares nothing.
 pub use Rattle.grown_runs.proofs.Common.{Apart, AreBehind, AreBehind-refl, AreInRoom-from_clear, AreSeenLawfully, Best, Blocked, ChildOf, Clear}
 pub use Rattle.grown_runs.proofs.Common.{Clear-empty_room, Clear-first, ClearAt, Count, Counter, FirstOf, FollowWays, FollowWays-start, HasWord, HaveWholePairs}
-pub use Rattle.grown_runs.proofs.Common.{IsAllowedEdge, IsBounded, IsGoalNode, IsNotAbove, IsNotAbove-refl, IsPresent, IsPresent-stands, IsRooted, IsSeen}
+pub use Rattle.grown_runs.proofs.Common.{IsAllowedEdge, IsBounded, IsNotAbove, IsPresent, IsPresent-stands, IsRooted, IsSeen}
 pub use Rattle.grown_runs.proofs.Common.{IsStartWord, IsWritten, Listed, MOST_MARKS, MOST_SIDE, NewNode, Outcome, Point, PointOf, Reached, Record, RecordOf}
 pub use Rattle.grown_runs.proofs.Common.{SameNode, Sizes, StandsAt, StandsAt-present, TreeOf, Word, Words, WritesWord, WritesWord-set, at, begins, below_digits}
 pub use Rattle.grown_runs.proofs.Common.{best_cost_in, best_of_word, best_word, child_of_word, children_of_words, class_from_powers, class_of, class_of-le}
-pub use Rattle.grown_runs.proofs.Common.{cost_in, cost_of, count-single, distance_to, empty_room, ending_as, first_cost_of, first_hanging, goals-some, goes_on}
+pub use Rattle.grown_runs.proofs.Common.{cost_in, cost_of, count-single, distance_to, empty_room, ending_as, first_hanging, goals-some, goes_on}
 pub use Rattle.grown_runs.proofs.Common.{goes_right, greatest-passes, has_node, has_placed, in_child, is_claimed, is_claimed-past, is_earlier_record}
 pub use Rattle.grown_runs.proofs.Common.{is_goal_point, is_linked, is_mark, is_placed, is_plan, is_within, kind_of, lies_in_goals, mark_at, mark_bound}
-pub use Rattle.grown_runs.proofs.Common.{most_cost_of, no_best, no_goal_node, node_count, once_if, place_of, placed_by, point_at, point_of, point_of-stands}
+pub use Rattle.grown_runs.proofs.Common.{no_best, no_goal_node, once_if, place_of, placed_by, point_at, point_of, point_of-stands}
 pub use Rattle.grown_runs.proofs.Common.{point_of_word, point_word, quota_of, radius_of_class, record_at, record_at-past, record_at-unwritten}
 pub use Rattle.grown_runs.proofs.Common.{root_ceiling-from_squares, root_ceiling-zero, same-from_distance, same_x, seen_tree_of_words, space_of}
 pub use Rattle.grown_runs.proofs.Common.{squared_distance, steered, steered-near, times_of, tree_of_word, tree_word, turns_of, unplaced_record, word_at-none}
@@ -41,9 +41,9 @@ pub use Rattle.std.specs.List.{filter, list_all, range_with_len, sum_by}
 pub use Rattle.std.specs.Prelude.{All, Err, IfErr, IfNone, IfOk, IfSome, IsSome, IsTrue, Ok, Result, if◌then◌else◌, is_some, nat_le, nat_lt, not, replicate}
 pub use Rattle.std.specs.Prelude.{slice_index, slice_index_or, slice_set, ◌&&◌, ◌==◌, ◌≢◌, ◌⊎◌}
 pub use Rattle.step_core.proofs.Common.{Agree, AreBehind-nothing, AreSeenLawfully-all, EachView, HasFirst, HasMade, HasNoted, HasSeenAtLeast-later, HasTree}
-pub use Rattle.step_core.proofs.Common.{IsInformed, IsLater, IsLater-trans, IsLawfulView, IsLoaded, IsMember, IsOwnNeighbour, IsPresent-seen, IsRecordWord}
+pub use Rattle.step_core.proofs.Common.{IsInformed, IsLater, IsLater-trans, IsLawfulView, IsLoaded, IsMember, IsOwnNeighbour, IsPresent-seen}
 pub use Rattle.step_core.proofs.Common.{IsUnskipped, IsViewOf, IsWorld, IsWrittenFor, LeadsTo, MayBePlaced, MayEnd, MayHang, MayPost, MayReach, MayRecord}
-pub use Rattle.step_core.proofs.Common.{MaySteer, SeesBest, SeesCost, SeesNode, SeesPoint, SeesPoint-later, SeesTree, SomeSharer, Trees, best_loaded}
+pub use Rattle.step_core.proofs.Common.{MaySteer, SeesBest, SeesCost, SeesNode, SeesPoint, SeesPoint-later, SeesTree, Trees, best_loaded}
 pub use Rattle.step_core.proofs.Common.{best_taken, counters, half, hand_with_best, hand_with_post, has_link, has_node-recorded, has_point, is_own_node}
 pub use Rattle.step_core.proofs.Common.{is_own_node-earlier, last_note, last_seen, last_seen-table, linked-present, linked_points, new_hand, own_count}
 pub use Rattle.step_core.proofs.Common.{own_first_cost, own_recorded, point_at-linked, point_at-seen, pointed, post_noted, present_recorded, run_sizes}

@@ -1,27 +1,11 @@
-use Rattle.shared_tree_tests.proofs.Words.{◌≡◌, true, arith, refl, ap, inr, ◌≢◌, IsAllowedEdge, mark_bound, begins, goes_on, at, Point, Clear-empty_room}
-use Rattle.shared_tree_tests.proofs.Words.{root_ceiling-from_squares, root_ceiling-zero, best_word, no_best, setup_in, goal_run, small_run}
-use Rattle.plan_model.specs.Geometry.Roots.{root_ceiling}
-use Rattle.plan_model.specs.Trees.GoalBounds.{bound_of}
+use Rattle.shared_tree_tests.proofs.Words.{◌≡◌, true, arith, refl, ap, inr, IsAllowedEdge, begins, goes_on, at, Point}
+use Rattle.shared_tree_tests.proofs.SmallRuns.MarkEdge.{bound, clear, edge}
+use Rattle.shared_tree_tests.proofs.Words.{best_word, no_best, setup_in, small_run}
 use Rattle.grown_runs.specs.Table.WordPlaces.{word_at}
 use Rattle.shared_tree_tests.proofs.worlds.vectors.allowed_steps.Goals as goal
 
-edge : root_ceiling 1638400 ≡ 1280
-edge = root_ceiling-from_squares 1638400 1280 (omega arith) (omega arith)
-
-other_table : (p q : Point) → p.y ≢ q.y → p ≢ q
-other_table p q apart e = apart (ap (λ (r : Point). r.y) e)
-
 allowed : IsAllowedEdge (setup_in small_run) (at 5 5) (at 8 9)
-allowed = record {
-  clear = Clear-empty_room (at 100 100) (at 5 5) (at 8 9) (record { horizontal = omega arith; vertical = omega arith })
-      (record { horizontal = omega arith; vertical = omega arith });
-  short = omega arith;
-}
-
--- the edge to the mark, and on to it
-bound : mark_bound (setup_in goal_run) (at 8 9) ≡ 1280
-unfolding bound_of
-bound = omega (arith, edge, root_ceiling-zero)
+allowed = record { clear = clear; short = omega arith }
 
 pub returns : goal.returns
 unfolding word_at
@@ -64,13 +48,13 @@ returns c = record {
     at = at 5 5;
     on_way = begins;
     stands = refl;
-    apart = other_table (at 5 5) (at 8 9) (λ e. omega (arith, e));
+    apart = λ e. (let x : 5 ≡ 8 = ap (λ (r : Point). r.x) e in omega (arith, x));
     side_is = refl;
   };
   leads_to_a_place_below = record {
     depth = 1;
     at = at 8 9;
-    on_way = goes_on 0 0 1 (at 5 5) begins refl (other_table (at 5 5) (at 5 9) (λ e. omega (arith, e))) refl;
+    on_way = goes_on 0 0 1 (at 5 5) begins refl (λ e. (let y : 5 ≡ 9 = ap (λ (r : Point). r.y) e in omega (arith, y))) refl;
     stands = refl;
     apart = λ e. (let x : 8 ≡ 5 = ap (λ (r : Point). r.x) e in omega (arith, x));
     side_is = refl;

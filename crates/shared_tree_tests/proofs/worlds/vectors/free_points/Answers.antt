@@ -1,13 +1,8 @@
-use Rattle.shared_tree_tests.proofs.Words.{◌≡◌, ℕ, ◌≤◌, true, List, None, arith, sym, ap, ◌∙◌, inl, inr, ◌⊎◌, if◌then◌else◌, StandsAt, at, child_of_word, Words}
+use Rattle.shared_tree_tests.proofs.Words.{◌≡◌, ◌≤◌, true, List, None, arith, ap, ◌∙◌, if◌then◌else◌, StandsAt, at, child_of_word, Words}
 use Rattle.shared_tree_tests.proofs.Words.{ChildOf, Count, PointOf, Sizes, point_of_word, point_word, linked_points, run_sizes, IsWorld, linked-present}
 use Rattle.shared_tree_tests.proofs.Words.{point_at-linked, View, small_run}
 use Rattle.grown_runs.specs.Table.WordPlaces.{word_at}
 use Rattle.shared_tree_tests.proofs.worlds.vectors.free_points.Goals as goal
-
--- a word that is there and stays
-stays : (word later : ℕ) → ¬ (word ≡ 0) → (word ≡ 0) ⊎ (word ≡ later) → later ≡ word
-stays word later some (inl none) = absurd (some none)
-stays word later some (inr same) = sym same
 
 -- node 1 stands at the mark
 stands : (words : Words) (views : List View) → IsWorld small_run words views → words (ChildOf 0 true) ≡ 1 → words (PointOf 1) ≡ point_word (at 8 9)
@@ -20,8 +15,7 @@ stands words views world child point =
 pub returns : goal.returns
 unfolding word_at
 returns c = record {
-  not_free_since = λ h.
-      h.free 1 (stands h.words h.views h.world (stays 1 (h.words (ChildOf 0 true)) (λ e. omega (arith, e)) (h.since (ChildOf 0 true)))
-      (stays (point_word (at 8 9)) (h.words (PointOf 1)) (λ e. omega (arith, e)) (h.since (PointOf 1))));
+  not_free_since =
+      λ h. h.free 1 (stands h.words h.views h.world (omega (arith, h.since (ChildOf 0 true))) (omega (arith, h.since (PointOf 1))));
   no_world_before = λ h. (let e : h.words Count ≤ 0 = h.until Count in omega (arith, e, h.world.links.count));
 }

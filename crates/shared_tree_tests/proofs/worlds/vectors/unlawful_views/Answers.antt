@@ -1,22 +1,10 @@
-use Rattle.shared_tree_tests.proofs.Words.{◌≡◌, ℕ, ◌+◌, ◌<◌, ◌≤◌, ◌^◌, true, false, Some, None, arith, refl, sym, ap, subst, inl, inr, ◌⊎◌, same_Some}
-use Rattle.shared_tree_tests.proofs.Words.{mark_bound, steered, at, Point, same_x, root_ceiling-from_squares, root_ceiling-zero, ChildOf, best_cost_in}
+use Rattle.shared_tree_tests.proofs.Words.{◌≡◌, ◌+◌, ◌<◌, ◌≤◌, ◌^◌, true, false, Some, None, arith, refl, sym, ap, subst, inr, same_Some}
+use Rattle.shared_tree_tests.proofs.Words.{mark_bound, steered, at, Point, same_x, ChildOf, best_cost_in}
 use Rattle.shared_tree_tests.proofs.Words.{best_word, setup_in, new_hand, Half, Linked, Pointed, Posted, Treed, goal_run, hand_at, took_best}
 use Rattle.plan_model.specs.Geometry.Roots.{root_ceiling}
-use Rattle.plan_model.specs.Trees.GoalBounds.{bound_of}
+use Rattle.shared_tree_tests.proofs.SmallRuns.MarkEdge.{bound, edge}
 use Rattle.grown_runs.specs.Table.WordPlaces.{word_at}
 use Rattle.shared_tree_tests.proofs.worlds.vectors.unlawful_views.Goals as goal
-
-edge : root_ceiling 1638400 ≡ 1280
-edge = root_ceiling-from_squares 1638400 1280 (omega arith) (omega arith)
-
-neither : (a b : ℕ) → ¬ (a ≡ b) → ¬ ((a ≡ b) ⊎ (a ≡ b))
-neither a b apart (inl e) = apart e
-neither a b apart (inr e) = apart e
-
--- the edge to the mark, and on to it
-bound : mark_bound (setup_in goal_run) (at 8 9) ≡ 1280
-unfolding bound_of
-bound = omega (arith, edge, root_ceiling-zero)
 
 pub returns : goal.returns
 unfolding word_at
@@ -32,7 +20,7 @@ returns c = record {
   no_turn_left = λ h. (let e : 1 < 1 = h.turn (hand_at Linked 0 1280) 0 _ refl refl in omega (arith, e));
   turn_not_seen = λ h. (let e : 1 ≡ 0 = h.own_turn 0 _ refl in omega (arith, e));
   turn_of_another = λ h. (let e : 1 ≡ 0 = h.own_turn 0 _ refl in omega (arith, e));
-  took_more_than_it_sees = λ h. neither 1 0 (λ e. omega (arith, e)) (h.took (ChildOf 0 true));
+  took_more_than_it_sees = λ h. omega (arith, h.took (ChildOf 0 true));
   no_start = λ h. (let e : false ≡ true = h.tree.rooted.start in cc);
   start_elsewhere = λ h. (let e : 6 ≡ 5 = same_x (at 6 5) (at 5 5) h.start in omega (arith, e));
   placed_without_point = λ h. (let e : false ≡ true = h.tree.placed 0 refl in cc);
@@ -41,11 +29,9 @@ returns c = record {
   two_at_one_point = λ h. (let e : 0 ≡ 1 = h.distinct 0 1 (at 5 5) refl refl in omega (arith, e));
   number_past_the_marks = λ h. (let e : 2 ≤ 1 = h.within 2 (inr (0, true, refl)) in omega (arith, e));
   not_steered_there = λ h. (
-      let steered_from = (h.tree.holds (record (hand_at Pointed 0 0) { point = at 9 8 }) refl).steered_from refl in
-      let start : at 5 5 ≡ steered_from.from = same_Some (at 5 5) steered_from.from steered_from.seen in
-      let e : at 9 8 ≡ at 8 9 = subst (λ p. at 9 8 ≡ steered p (at 8 9) 50) (sym start) steered_from.reached in
-      let x : 9 ≡ 8 = ap (λ (p : Point). p.x) e in
-      omega (arith, x));
+      let from = (h.tree.holds (record (hand_at Pointed 0 0) { point = at 9 8 }) refl).steered_from refl in
+      let e : at 9 8 ≡ at 8 9 = subst (λ p. at 9 8 ≡ steered p (at 8 9) 50) (sym (same_Some (at 5 5) from.from from.seen)) from.reached in
+      (let x : 9 ≡ 8 = ap (λ (p : Point). p.x) e in omega (arith, x)));
   steered_from_itself = λ h. (h.tree.holds (record (hand_at Linked 0 1280) { nearest = 1 }) refl).other refl refl;
   linked_not_seen = λ h. (let e : None ≡ Some (at 8 9) = (h.tree.holds (hand_at Linked 0 1280) refl).shown refl in cc);
   linked_without_first_word = λ h. (let e : 2 ^ 63 ≤ 0 = (h.tree.holds (hand_at Linked 0 1280) refl).first_shown refl in omega (arith, e));
@@ -69,7 +55,6 @@ returns c = record {
   counter_past_the_marks = λ h. (let e : 2 ≤ 1 = h.counter 0 (omega arith) in omega (arith, e));
   best_past_a_recorded_goal_node = λ h. (let e : best_word 1281 1 ≤ best_word 1280 1 = h.best 1 refl refl in omega (arith, e));
   best_past_the_marks = λ h. (let e : 2 ≤ 1 = h.best_node (λ none. omega (arith, none)) in omega (arith, e));
-  took_less_than_the_best =
-      λ h. (let e : best_word 1280 1 ≤ best_word 1279 1 = (h.taken (took_best (best_word 1279 1)) (best_word 1279 1) refl refl).0 in omega (arith, e));
+  took_less_than_the_best = λ h. omega (arith, (h.taken (took_best (best_word 1279 1)) (best_word 1279 1) refl refl).0);
   whole_below_its_edge = λ h. (let e : 0 + root_ceiling 1638400 ≤ 1279 = ((h.order refl).hangs 0 refl).above in omega (arith, e, edge));
 }
