@@ -1,4 +1,4 @@
-use Rattle.shared_tree_tests.proofs.Words.{◌≡◌, ℕ, zero, ◌+◌, ◌<◌, ◌≤◌, ◌^◌, true, false, List, Some, None, [], ◌∷◌, arith, refl, sym, ap, subst, inl, inr}
+use Rattle.shared_tree_tests.proofs.Words.{◌≡◌, ℕ, ◌+◌, ◌<◌, ◌≤◌, ◌^◌, true, false, List, Some, None, [], ◌∷◌, arith, refl, sym, ap, subst, inl, inr}
 use Rattle.shared_tree_tests.proofs.Words.{◌⊎◌, slice_index, slice_set, placed_by, at, Word, Best, ChildOf, Count, Counter, TreeOf}
 use Rattle.shared_tree_tests.proofs.Words.{place_of, best_word, no_best, point_word, tree_word, new_hand, IsViewOf, last_look, last_seen, run_sizes, sees}
 use Rattle.shared_tree_tests.proofs.Words.{share, spent, HasMade, IsLoaded, GoesTo, IsAmong, IsNoted, Hand, Note, Half, Linked}
