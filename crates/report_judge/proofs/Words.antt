@@ -71,8 +71,8 @@ pub use Rattle.std.proofs.Common.{subst, suc, sym, take, true, zero, ℕ, ◌%�
 pub use Rattle.std.proofs.Math.Nat.{mul_assoc, mul_comm, pow-le-pow_right, pow-suc}
 pub use Rattle.std.proofs.Math.Seq.{take-append_seam}
 pub use Rattle.std.proofs.lemmas.Bool.{and_from, and_parts, and_right, both_ways, cases_Bool, cases_eq, cases_lt, cases_order, eq-eqb, eqb-true}
-pub use Rattle.std.proofs.lemmas.Bool.{false_from_ne_true, false≢true, le-leb, le-ltb, leb-false, leb-true, lt-ltb, ltb-true, ne_eqb, not-false, not-true}
-pub use Rattle.std.proofs.lemmas.Bool.{true≢false}
+pub use Rattle.std.proofs.lemmas.Bool.{false_from_ne_true, false≢true, iff_false, le-leb, le-ltb, leb-false, leb-true, lt-ltb, ltb-true, ne_eqb, not-false}
+pub use Rattle.std.proofs.lemmas.Bool.{not-true, true≢false}
 pub use Rattle.std.proofs.lemmas.Bool.Decides.{Decides-eqb, nat_tests}
 pub use Rattle.std.proofs.lemmas.Fmt.{decimal-digits_value, decimal_by_steps, decimal_digit, decimal_injective}
 pub use Rattle.std.proofs.lemmas.Grind.{flat_map-append, get_or-set_at}

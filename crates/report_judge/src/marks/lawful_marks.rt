@@ -39,8 +39,7 @@ pub(crate) fn is_lawful<C: Clearing>(
     requires asked { IsAsked (C.space hall.now) judged.now marked.entry marked.mark }
     requires low { marked.k < MOST_MARKS }
     requires seen { AreSeen (skipping_goals judged.now.task.now.scene) (run_of judged.now) marked.entry.worker marked.entry.turn seen }
-    ensures lawful { IsTrue result → IsLawfulRecord (setup_by judged.now) (run_of judged.now) marked.k marked.mark marked.entry }
-    ensures only { IsFalse result → ¬ IsLawfulRecord (setup_by judged.now) (run_of judged.now) marked.k marked.mark marked.entry }
+    ensures { IsTrue result ↔ IsLawfulRecord (setup_by judged.now) (run_of judged.now) marked.k marked.mark marked.entry }
 {
     match marked.entry.outcome {
         Outcome::Skipped => {
@@ -53,8 +52,7 @@ pub(crate) fn is_lawful<C: Clearing>(
 /// Whether a mark was skipped by a goal node that costs no more than the bound of the mark.
 fn is_skipped_lawfully(scene: &Scene, judged: &Judged<'_>, entry: Record, point: Point) -> bool
     requires point { IsBounded point }
-    ensures lawful { IsTrue result → IsSkippedLawfully (setup_of scene.now) (run_of judged.now) point entry.nearest }
-    ensures only { IsFalse result → ¬ IsSkippedLawfully (setup_of scene.now) (run_of judged.now) point entry.nearest }
+    ensures { IsTrue result ↔ IsSkippedLawfully (setup_of scene.now) (run_of judged.now) point entry.nearest }
 {
     if !scene.informed {
         return false;
@@ -118,10 +116,8 @@ fn ends_lawfully<C: Clearing>(
     requires low { marked.k < MOST_MARKS }
     requires seen { AreSeen (skipping_goals judged.now.task.now.scene) (run_of judged.now) marked.entry.worker marked.entry.turn seen }
     requires nearest { IsPresent (run_of judged.now).points marked.entry.nearest }
-    ensures lawful { IsTrue result → IsReachedLawfully (setup_by judged.now) (run_of judged.now) marked.k marked.entry p }
-    ensures nearest { IsTrue result → IsNearestOfEarlier (run_of judged.now) marked.entry marked.mark }
-    ensures only { IsFalse result → IsNearestOfEarlier (run_of judged.now) marked.entry marked.mark
-        → ¬ IsReachedLawfully (setup_by judged.now) (run_of judged.now) marked.k marked.entry p }
+    ensures { IsTrue result ↔ (IsNearestOfEarlier (run_of judged.now) marked.entry marked.mark
+        × IsReachedLawfully (setup_by judged.now) (run_of judged.now) marked.k marked.entry p) }
 {
     let entry = marked.entry;
     match entry.outcome {
@@ -145,8 +141,7 @@ fn is_blocked_lawfully<C: Clearing>(hall: &C, judged: &Judged<'_>, entry: Record
     requires turn { entry.turn ≤ judged.now.turns }
     requires p { IsBounded p }
     requires nearest { IsPresent (run_of judged.now).points entry.nearest }
-    ensures lawful { IsTrue result → (setup : Setup) → setup.space ≡ C.space hall.now → IsBlockedLawfully setup (run_of judged.now) entry entry.nearest p }
-    ensures only { IsFalse result → (setup : Setup) → setup.space ≡ C.space hall.now → ¬ IsBlockedLawfully setup (run_of judged.now) entry entry.nearest p }
+    ensures { (setup : Setup) → setup.space ≡ C.space hall.now → (IsTrue result ↔ IsBlockedLawfully setup (run_of judged.now) entry entry.nearest p) }
 {
     if is_clear_from_nearest(hall, judged, entry, p) {
         return false;
@@ -187,12 +182,9 @@ fn is_chosen_lawfully<C: Clearing>(
     requires point { IsBounded marked.mark }
     requires seen { AreSeen (skipping_goals judged.now.task.now.scene) (run_of judged.now) marked.entry.worker marked.entry.turn seen }
     requires nearest { IsPresent (run_of judged.now).points marked.entry.nearest }
-    ensures lawful { IsTrue result → IsChosenLawfully (setup_by judged.now) (run_of judged.now) marked.entry marked.entry.nearest
-        (first_hanging marked.entry) p (node_count (run_of judged.now).points) }
-    ensures nearest { IsTrue result → IsNearestOfEarlier (run_of judged.now) marked.entry marked.mark }
-    ensures only { IsFalse result → IsNearestOfEarlier (run_of judged.now) marked.entry marked.mark
-        → ¬ IsChosenLawfully (setup_by judged.now) (run_of judged.now) marked.entry marked.entry.nearest (first_hanging marked.entry) p
-        (node_count (run_of judged.now).points) }
+    ensures { IsTrue result ↔ (IsNearestOfEarlier (run_of judged.now) marked.entry marked.mark
+        × IsChosenLawfully (setup_by judged.now) (run_of judged.now) marked.entry marked.entry.nearest (first_hanging marked.entry) p
+        (node_count (run_of judged.now).points)) }
 {
     if !has_class(judged, seen, marked.entry) {
         return false;
@@ -208,8 +200,7 @@ fn is_chosen_lawfully<C: Clearing>(
 fn has_class(judged: &Judged<'_>, seen: Seen, entry: Record) -> bool
     requires judged { IsJudged entry.worker judged.now }
     requires seen { seen.nodes ≡ earlier_count (run_of judged.now) entry }
-    ensures class { IsTrue result → HasClass (run_of judged.now) entry entry.class (node_count (run_of judged.now).points) }
-    ensures only { IsFalse result → ¬ HasClass (run_of judged.now) entry entry.class (node_count (run_of judged.now).points) }
+    ensures class { IsTrue result ↔ HasClass (run_of judged.now) entry entry.class (node_count (run_of judged.now).points) }
     ensures range { IsTrue result → (1 ≤ entry.class) × (entry.class ≤ 19) }
 {
     class(u64::from(seen.nodes)) <= entry.class && entry.class <= class(u64::from(judged.nodes))

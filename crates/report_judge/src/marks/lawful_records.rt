@@ -1,6 +1,6 @@
 //! Whether each mark keeps the law of records.
 
-ghost use Rattle.std.specs.Prelude.{◌≡◌, ◌<◌, ◌≤◌, ◌↔◌, ℕ, suc, IfNone, IfOk, IfSome, IsFalse, IsTrue, List, None, Some, length, slice_get, slice_index_or};
+ghost use Rattle.std.specs.Prelude.{◌≡◌, ◌<◌, ◌≤◌, ◌↔◌, ℕ, suc, IfNone, IfOk, IfSome, IsTrue, List, None, Some, length, slice_get, slice_index_or};
 ghost use Rattle.plan_model.specs.Runs.Textbook.{skipping_goals};
 ghost use Rattle.plan_model.specs.Runs.Turns.{turns_of};
 ghost use Rattle.plan_model.specs.Spaces.ConfigurationSpace.{space_of};
@@ -218,8 +218,7 @@ fn keeps_law<C: Clearing>(hall: &C, judged: &Judged<'_>, own: &OwnHistory, k: u3
         (length own.now.turns.marks.items) own.now }
     requires turns { judged.now.turns ≤ length own.now.turns.marks.items }
     requires between { IsMarkBetween judged.now.records.now own.now.turns.worker 0 judged.now.turns k }
-    ensures keeps { IsTrue result → KeepsRecord judged.now.task.now judged.now.knots.now judged.now.records.now k }
-    ensures only { IsFalse result → ¬ KeepsRecord judged.now.task.now judged.now.knots.now judged.now.records.now k }
+    ensures { IsTrue result ↔ KeepsRecord judged.now.task.now judged.now.knots.now judged.now.records.now k }
 {
     let entry = judged.records[k as usize];
     let seen = own.seen[entry.turn as usize];

@@ -1,6 +1,6 @@
 //! Whether what the record of a placed mark says is borne out by the tree.
 
-ghost use Rattle.std.specs.Prelude.{◌<◌, IsFalse, IsTrue, List};
+ghost use Rattle.std.specs.Prelude.{◌↔◌, ◌<◌, IsTrue, List};
 ghost use Rattle.plan_model.specs.Geometry.Bounds.{IsBounded};
 ghost use Rattle.plan_model.specs.Runs.Endings.{first_hanging};
 ghost use Rattle.plan_model.specs.Runs.RecordLaw.{HangsLawfully};
@@ -31,8 +31,7 @@ pub(crate) fn hangs_lawfully<C: Clearing>(
     requires asked { IsAsked (C.space hall.now) judged.now marked.entry p }
     requires low { marked.k < MOST_MARKS }
     requires nearest { IsPresent (run_of judged.now).points marked.entry.nearest }
-    ensures lawful { IsTrue result → HangsLawfully (setup_by judged.now) (run_of judged.now) marked.k marked.entry.nearest (first_hanging marked.entry) p }
-    ensures only { IsFalse result → ¬ HangsLawfully (setup_by judged.now) (run_of judged.now) marked.k marked.entry.nearest (first_hanging marked.entry) p }
+    ensures { IsTrue result ↔ HangsLawfully (setup_by judged.now) (run_of judged.now) marked.k marked.entry.nearest (first_hanging marked.entry) p }
 {
     let scene = &judged.task.scene;
     let entry = marked.entry;
@@ -66,8 +65,7 @@ pub(crate) fn hangs_lawfully<C: Clearing>(
 
 /// Whether a node is present and stands at a point.
 pub(crate) fn stands_at(knots: &[Option<Knot>], node: u32, p: Point) -> bool
-    ensures stands { IsTrue result → (records : List Record) → StandsAt (state_of_lists knots.now records).points node p }
-    ensures only { IsFalse result → (records : List Record) → ¬ StandsAt (state_of_lists knots.now records).points node p }
+    ensures { (records : List Record) → (IsTrue result ↔ StandsAt (state_of_lists knots.now records).points node p) }
 {
     match knot_at(knots, node) {
         Some(knot) => knot.point == p,
@@ -79,8 +77,7 @@ pub(crate) fn stands_at(knots: &[Option<Knot>], node: u32, p: Point) -> bool
 fn is_within_first(judged: &Judged<'_>, entry: Record, node: u32, p: Point) -> bool
     requires judged { IsJudged entry.worker judged.now }
     requires p { IsBounded p }
-    ensures within { IsTrue result → IsWithinFirst (run_of judged.now) entry.first_cost node p }
-    ensures only { IsFalse result → ¬ IsWithinFirst (run_of judged.now) entry.first_cost node p }
+    ensures { IsTrue result ↔ IsWithinFirst (run_of judged.now) entry.first_cost node p }
 {
     match knot_at(judged.knots, node) {
         Some(knot) => entry.first_cost <= first_cost(judged.records, node) + cost(knot.point, p),

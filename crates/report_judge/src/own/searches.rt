@@ -1,6 +1,6 @@
 //! Searches among the nodes of a worker for those that stood already when it handled a mark.
 
-ghost use Rattle.std.specs.Prelude.{◌≡◌, ◌*◌, ◌<◌, ◌≤◌, ℕ, IsFalse, IsTrue, length};
+ghost use Rattle.std.specs.Prelude.{◌≡◌, ◌↔◌, ◌*◌, ◌<◌, ◌≤◌, ℕ, IsFalse, IsTrue, length};
 ghost use Rattle.plan_model.specs.Geometry.Bounds.{IsBounded};
 ghost use Rattle.plan_model.specs.Runs.RecordLaw.{IsEarlier};
 ghost use Rattle.plan_model.specs.Trees.Nearness.{distance_to};
@@ -36,8 +36,7 @@ trait Search: Copy {
     fn has<C: Clearing>(self, hall: &C, standings: &[Standing], node: Numbered) -> bool
         requires may { may_look self standings.now }
         requires bounded { IsBounded node.point }
-        ensures found { IsTrue result → finds self (C.space hall.now) standings.now node }
-        ensures only { IsFalse result → ¬ finds self (C.space hall.now) standings.now node };
+        ensures { IsTrue result ↔ finds self (C.space hall.now) standings.now node };
 }
 
 /// A search for a node that stood before a turn, and is nearer to a point than at a distance, or as near with a number below a number.
@@ -77,8 +76,7 @@ pub(crate) fn is_nearest<C: Clearing>(
     requires judged { IsJudged entry.worker judged.now }
     requires turn { entry.turn ≤ judged.now.turns }
     requires nearest { IsPresent (run_of judged.now).points entry.nearest }
-    ensures nearest { IsTrue result → IsNearestOfEarlier (run_of judged.now) entry mark }
-    ensures only { IsFalse result → ¬ IsNearestOfEarlier (run_of judged.now) entry mark }
+    ensures { IsTrue result ↔ IsNearestOfEarlier (run_of judged.now) entry mark }
 {
     let search = NearerSearch {
         point: mark,
@@ -136,9 +134,7 @@ pub(crate) fn is_nearest_and_keeps_near<C: Clearing>(
     requires judged { IsJudged entry.worker judged.now }
     requires turn { entry.turn ≤ judged.now.turns }
     requires nearest { IsPresent (run_of judged.now).points entry.nearest }
-    ensures nearest { IsTrue result → IsNearestOfEarlier (run_of judged.now) entry mark }
-    ensures kept { IsTrue result → KeepsNear (C.space hall.now) (run_of judged.now) entry p radius }
-    ensures only { IsFalse result → IsNearestOfEarlier (run_of judged.now) entry mark → ¬ KeepsNear (C.space hall.now) (run_of judged.now) entry p radius }
+    ensures { IsTrue result ↔ (IsNearestOfEarlier (run_of judged.now) entry mark × KeepsNear (C.space hall.now) (run_of judged.now) entry p radius) }
 {
     if p == mark {
         let distance = nearest_distance(judged, entry, mark);
@@ -166,9 +162,7 @@ fn is_least_near<C: Clearing>(
     requires turn { entry.turn ≤ judged.now.turns }
     requires distance { distance ≡ distance_to mark (run_of judged.now).points entry.nearest }
     requires within { distance ≤ radius * radius }
-    ensures nearest { IsTrue result → IsNearestOfEarlier (run_of judged.now) entry mark }
-    ensures kept { IsTrue result → KeepsNear (C.space hall.now) (run_of judged.now) entry mark radius }
-    ensures only { IsFalse result → IsNearestOfEarlier (run_of judged.now) entry mark → ¬ KeepsNear (C.space hall.now) (run_of judged.now) entry mark radius }
+    ensures { IsTrue result ↔ (IsNearestOfEarlier (run_of judged.now) entry mark × KeepsNear (C.space hall.now) (run_of judged.now) entry mark radius) }
 {
     let search = NeighbourSearch {
         nearer: NearerSearch {
@@ -195,8 +189,7 @@ fn keeps_near<C: Clearing>(
     requires bounded { IsBounded p }
     requires judged { IsJudged entry.worker judged.now }
     requires turn { entry.turn ≤ judged.now.turns }
-    ensures kept { IsTrue result → KeepsNear (C.space hall.now) (run_of judged.now) entry p radius }
-    ensures only { IsFalse result → ¬ KeepsNear (C.space hall.now) (run_of judged.now) entry p radius }
+    ensures { IsTrue result ↔ KeepsNear (C.space hall.now) (run_of judged.now) entry p radius }
 {
     let search = NeighbourSearch {
         nearer: NearerSearch {
@@ -294,8 +287,7 @@ fn is_cheaper(search: NeighbourSearch, standings: &[Standing], node: Numbered) -
     requires bounded { IsBounded search.nearer.point }
     requires node { IsBounded node.point }
     requires turn { search.nearer.turn < length standings.now }
-    ensures cheaper { IsTrue result → IsCheaperAt standings.now search node }
-    ensures only { IsFalse result → ¬ IsCheaperAt standings.now search node }
+    ensures { IsTrue result ↔ IsCheaperAt standings.now search node }
 {
     if node.number > search.nearer.turn {
         return false;

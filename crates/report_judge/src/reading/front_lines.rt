@@ -1,6 +1,6 @@
 //! The lines of one kind at the front of a text, read as far as they go.
 
-ghost use Rattle.std.specs.Prelude.{◌≤◌, IfOk, IsFalse, IsTrue};
+ghost use Rattle.std.specs.Prelude.{◌↔◌, ◌≤◌, IfOk, IsTrue};
 ghost use Rattle.plan_model.specs.declared.limits.TheConstants.{MOST_MARKS};
 ghost use Rattle.report_judge.specs.Texts.FrontLines.{IsNextNode, ReadsNodes, ReadsPoints, ReadsRecords};
 
@@ -77,8 +77,7 @@ pub(crate) fn read_nodes(
 
 /// Whether a node may stand after nodes of lesser numbers than the next one's: the start if there is none yet.
 fn may_follow(number: u32, next: u32) -> bool
-    ensures follows { IsTrue result → IsNextNode next number }
-    ensures only { IsFalse result → ¬ IsNextNode next number }
+    ensures { IsTrue result ↔ IsNextNode next number }
 {
     if next == 0 {
         number == 0

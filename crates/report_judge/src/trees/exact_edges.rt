@@ -1,6 +1,6 @@
 //! Whether the cost of a node is exactly that of its parent and the edge.
 
-ghost use Rattle.std.specs.Prelude.{◌≡◌, ◌^◌, ◌<◌, ℕ, ◌≤◌, IsFalse, IsTrue, length, slice_index_or};
+ghost use Rattle.std.specs.Prelude.{◌≡◌, ◌↔◌, ◌^◌, ◌<◌, ℕ, ◌≤◌, IsFalse, IsTrue, length, slice_index_or};
 ghost use Rattle.plan_model.specs.Geometry.Bounds.{IsBounded};
 ghost use Rattle.plan_model.specs.declared.trees.Knot.{Knot};
 ghost use Rattle.report_judge.specs.Laws.ExactEdges.{FitsEdges, HangsExactly, IsExactEdge, KeepsEdges};
@@ -17,8 +17,7 @@ pub(crate) fn is_exact_edge<C: Clearing>(hall: &C, squared_step: u64, from: Knot
     requires from { IsBounded from.point }
     requires to { IsBounded to.point }
     requires cost { from.cost < 2 ^ 44 }
-    ensures exact { IsTrue result → IsExactEdge (C.space hall.now) squared_step from to }
-    ensures only { IsFalse result → ¬ IsExactEdge (C.space hall.now) squared_step from to }
+    ensures { IsTrue result ↔ IsExactEdge (C.space hall.now) squared_step from to }
 {
     if from.point.squared_distance(to.point) > squared_step {
         return false;
@@ -37,8 +36,7 @@ pub(crate) fn hangs_exactly<C: Clearing>(
 ) -> bool
     requires fit { (n : ℕ) (other : Knot) → slice_index_or knots.now n None ≡ Some other → FitsEdges other }
     requires own { FitsEdges knot }
-    ensures exact { IsTrue result → HangsExactly (C.space hall.now) squared_step knots.now node knot }
-    ensures only { IsFalse result → ¬ HangsExactly (C.space hall.now) squared_step knots.now node knot }
+    ensures { IsTrue result ↔ HangsExactly (C.space hall.now) squared_step knots.now node knot }
 {
     match knot_at(knots, knot.parent) {
         Some(parent) => knot.parent != node && is_exact_edge(hall, squared_step, parent, knot),

@@ -1,6 +1,6 @@
 //! What the record of a placed mark says of its node's first parent.
 
-ghost use Rattle.std.specs.Prelude.{◌≡◌, ◌^◌, ◌<◌, ℕ, IsFalse, IsTrue, List, None, Option, Some, slice_index_or};
+ghost use Rattle.std.specs.Prelude.{◌≡◌, ◌↔◌, ◌^◌, ◌<◌, ℕ, IsTrue, List, None, Option, Some, slice_index_or};
 ghost use Rattle.plan_model.specs.Geometry.Bounds.{IsBounded};
 ghost use Rattle.plan_model.specs.Trees.TreeStates.{first_cost_of};
 ghost use Rattle.plan_model.specs.declared.trees.Knot.{Knot};
@@ -38,8 +38,7 @@ pub(crate) fn may_hang<C: Clearing>(
 ) -> bool
     requires fit { (n : ℕ) (other : Knot) → slice_index_or knots.now n None ≡ Some other → FitsEdges other }
     requires own { FitsEdges place }
-    ensures hangs { IsTrue result → MayHang (C.space hall.now) squared_step knots.now node place }
-    ensures only { IsFalse result → ¬ MayHang (C.space hall.now) squared_step knots.now node place }
+    ensures { IsTrue result ↔ MayHang (C.space hall.now) squared_step knots.now node place }
 {
     match knot_at(knots, place.parent) {
         Some(parent) => place.parent != node && is_high_edge(hall, squared_step, parent, place),
@@ -53,8 +52,7 @@ fn is_high_edge<C: Clearing>(hall: &C, squared_step: u64, from: Knot, to: Knot) 
     requires from { IsBounded from.point }
     requires to { IsBounded to.point }
     requires cost { from.cost < 2 ^ 44 }
-    ensures high { IsTrue result → IsHighEdge (C.space hall.now) squared_step from to }
-    ensures only { IsFalse result → ¬ IsHighEdge (C.space hall.now) squared_step from to }
+    ensures { IsTrue result ↔ IsHighEdge (C.space hall.now) squared_step from to }
 {
     if from.point.squared_distance(to.point) > squared_step {
         return false;

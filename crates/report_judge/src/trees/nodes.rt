@@ -1,6 +1,6 @@
 //! Whether each node of a report keeps the law of nodes.
 
-ghost use Rattle.std.specs.Prelude.{◌≡◌, ◌*◌, ◌<◌, ◌≤◌, ℕ, IfOk, IsSome, IsTrue, IsFalse, IfSome, List, None, Some, length, slice_index_or};
+ghost use Rattle.std.specs.Prelude.{◌≡◌, ◌↔◌, ◌*◌, ◌<◌, ◌≤◌, ℕ, IfOk, IsSome, IsTrue, IfSome, List, None, Some, length, slice_index_or};
 ghost use Rattle.plan_model.specs.Geometry.Bounds.{IsBounded};
 ghost use Rattle.plan_model.specs.Runs.Textbook.{setup_of};
 ghost use Rattle.plan_model.specs.Spaces.ConfigurationSpace.{space_of};
@@ -49,8 +49,7 @@ pub(crate) fn first_unsound<C: Clearing>(
 /// Whether node 0 stands at the start, is its own parent and costs nothing.
 fn is_start(knots: &[Option<Knot>], start: Point) -> bool
     requires { IsSome (slice_index_or knots.now 0 None) }
-    ensures start { IsTrue result → slice_index_or knots.now 0 None ≡ Some (record { point = start; parent = 0; cost = 0 }) }
-    ensures other { IsFalse result → ¬ (slice_index_or knots.now 0 None ≡ Some (record { point = start; parent = 0; cost = 0 })) }
+    ensures { IsTrue result ↔ slice_index_or knots.now 0 None ≡ Some (record { point = start; parent = 0; cost = 0 }) }
 {
     knots[0]
         == Some(Knot {

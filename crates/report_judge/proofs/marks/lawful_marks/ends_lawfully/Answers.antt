@@ -1,5 +1,5 @@
 use Rattle.report_judge.proofs.Words.{◌≡◌, ℕ, sym, ap, ◌∙◌, subst, Point, Record, Ending, Steered, Reached, NewNode, SameNode, NoWay, SkippedBy, ending_as}
-use Rattle.report_judge.proofs.Words.{ending_of, first_hanging, ReachesLawfully, Setup, TreeState, setup_by, IsReachedLawfully}
+use Rattle.report_judge.proofs.Words.{true≢false, ending_of, first_hanging, ReachesLawfully, Setup, TreeState, setup_by, IsReachedLawfully}
 use Rattle.report_judge.proofs.marks.lawful_marks.ends_lawfully.Goals as goal
 
 -- what was reached, if a node steered
@@ -17,52 +17,43 @@ reached_as {setup} {state} {k} {entry} {p} is h =
 
 pub returns-then-is_chosen_lawfully : goal.returns-then-is_chosen_lawfully
 returns-then-is_chosen_lawfully g c =
-    let entry = c.args.marked.entry in
-    record {
-      lawful = λ h. record {
-        reached = NewNode (first_hanging entry);
-        ending = ap (ending_as entry) c.in-Placed.is;
-        lawful = record { by_worker = c.is_chosen_lawfully.ensures.lawful c.if-is_chosen_lawfully.true; by_tree = c.hangs_lawfully.ensures.lawful h };
-      };
-      nearest = λ h. c.is_chosen_lawfully.ensures.nearest c.if-is_chosen_lawfully.true;
-      only = λ h all bad.
-          let placed = reached_as {reached = NewNode (first_hanging entry)} (ap (ending_as entry) c.in-Placed.is) bad in
-          c.hangs_lawfully.ensures.only h placed.by_tree;
-    }
+    let ending = ap (ending_as c.args.marked.entry) c.in-Placed.is in
+    let chosen = c.is_chosen_lawfully.ensures.0 c.if-is_chosen_lawfully.true in (
+      λ h. (
+        chosen.0,
+        record {
+          reached = NewNode (first_hanging c.args.marked.entry);
+          ending = ending;
+          lawful = record { by_worker = chosen.1; by_tree = c.hangs_lawfully.ensures.0 h };
+        },
+      ),
+      λ both. c.hangs_lawfully.ensures.1 (reached_as {reached = NewNode (first_hanging c.args.marked.entry)} ending both.1).by_tree,
+    )
 
-pub returns-else-is_chosen_lawfully-clause-only : goal.returns-else-is_chosen_lawfully-clause-only
-returns-else-is_chosen_lawfully-clause-only g c = λ h all bad.
-    let entry = c.args.marked.entry in
-    let placed = reached_as {reached = NewNode (first_hanging entry)} (ap (ending_as entry) c.in-Placed.is) bad in
-    c.is_chosen_lawfully.ensures.only h all placed.by_worker
+pub returns-else-is_chosen_lawfully : goal.returns-else-is_chosen_lawfully
+returns-else-is_chosen_lawfully g c = (
+  λ h. absurd (true≢false (sym h ∙ c.if-is_chosen_lawfully.false)),
+  λ both.
+      let entry = c.args.marked.entry in
+      let placed = reached_as {reached = NewNode (first_hanging entry)} (ap (ending_as entry) c.in-Placed.is) both.1 in
+      c.is_chosen_lawfully.ensures.1 (both.0, placed.by_worker),
+)
 
-pub returns-in-Skipped-clause-only : goal.returns-in-Skipped-clause-only
-returns-in-Skipped-clause-only g c = λ h all bad.
-    let skipped = sym (ap (ending_as c.args.marked.entry) c.in-Skipped.is) ∙ bad.ending in
-    cc
+pub returns-in-Skipped : goal.returns-in-Skipped
+returns-in-Skipped g c = (λ h. cc, λ both. absurd (let skipped = sym (ap (ending_as c.args.marked.entry) c.in-Skipped.is) ∙ both.1.ending in cc))
 
 pub returns-then-is_nearest : goal.returns-then-is_nearest
-returns-then-is_nearest g c = record {
-  lawful = λ h. record {
-    reached = SameNode c.in-Same.node;
-    ending = ap (ending_as c.args.marked.entry) c.in-Same.is;
-    lawful = c.stands_at.ensures.stands h c.args.judged.now.records.now;
-  };
-  nearest = λ h. c.is_nearest.ensures.nearest c.if-is_nearest.true;
-  only = λ h all bad.
-      c.stands_at.ensures.only h c.args.judged.now.records.now
-      (reached_as {reached = SameNode c.in-Same.node} (ap (ending_as c.args.marked.entry) c.in-Same.is) bad);
-}
+returns-then-is_nearest g c =
+    let ending = ap (ending_as c.args.marked.entry) c.in-Same.is in
+    let stands = c.stands_at.ensures c.args.judged.now.records.now in (
+      λ h. (c.is_nearest.ensures.0 c.if-is_nearest.true, record { reached = SameNode c.in-Same.node; ending = ending; lawful = stands.0 h }),
+      λ both. stands.1 (reached_as {reached = SameNode c.in-Same.node} ending both.1),
+    )
 
 pub returns-then-is_nearest-2 : goal.returns-then-is_nearest-2
-returns-then-is_nearest-2 g c = record {
-  lawful = λ h. record {
-    reached = NoWay;
-    ending = ap (ending_as c.args.marked.entry) c.in-Blocked.is;
-    lawful = c.is_blocked_lawfully.ensures.lawful h (setup_by c.args.judged.now) (sym c.requires.asked.space_is);
-  };
-  nearest = λ h. c.is_nearest-in-Blocked.ensures.nearest c.if-is_nearest-2.true;
-  only = λ h all bad.
-      c.is_blocked_lawfully.ensures.only h (setup_by c.args.judged.now) (sym c.requires.asked.space_is)
-      (reached_as {reached = NoWay} (ap (ending_as c.args.marked.entry) c.in-Blocked.is) bad);
-}
+returns-then-is_nearest-2 g c =
+    let ending = ap (ending_as c.args.marked.entry) c.in-Blocked.is in
+    let blocked = c.is_blocked_lawfully.ensures (setup_by c.args.judged.now) (sym c.requires.asked.space_is) in (
+      λ h. (c.is_nearest-in-Blocked.ensures.0 c.if-is_nearest-2.true, record { reached = NoWay; ending = ending; lawful = blocked.0 h }),
+      λ both. blocked.1 (reached_as {reached = NoWay} ending both.1),
+    )

@@ -1,4 +1,4 @@
-use Rattle.report_judge.proofs.Words.{◌≡◌, ◌≢◌, arith, sym, ap, ◌∙◌, subst, true≢false, Skipped, Reached, Steered, ending_of, reached-unskipped, steered}
+use Rattle.report_judge.proofs.Words.{◌≡◌, ◌≢◌, arith, sym, ap, ◌∙◌, subst, iff_false, Skipped, Reached, Steered, ending_of, reached-unskipped, steered}
 use Rattle.report_judge.proofs.Words.{point_of, Setup, TreeState, HasLawfulEnding, IsLawfulRecord, IsSteeredLawfully, ReachesLawfully, run_of, setup_by, Marked}
 use Rattle.report_judge.proofs.Laws.ListedNodes.{none-present, point_of-listed, present-listed}
 use Rattle.report_judge.proofs.marks.lawful_marks.is_steered_lawfully.Goals as goal
@@ -20,7 +20,7 @@ returns-in_default-clause-only g c = λ h other bad.
 pub returns-then-not-may_be_cheaper-clause-only : goal.returns-then-not-may_be_cheaper-clause-only
 returns-then-not-may_be_cheaper-clause-only g c = λ h other bad.
     let own = steered_of (setup_by c.args.judged.now) (run_of c.args.judged.now) c.args.marked other bad in
-    true≢false (sym ((c.may_be_cheaper.ensures c.args.judged.now c.args.marked.entry c.requires.seen).1 own.2.cheaper) ∙ c.if-not-may_be_cheaper.true)
+    iff_false (c.may_be_cheaper.ensures c.args.judged.now c.args.marked.entry c.requires.seen) c.if-not-may_be_cheaper.true own.2.cheaper
 
 pub ends_lawfully-requires-clause-asked : goal.ends_lawfully-requires-clause-asked
 ends_lawfully-requires-clause-asked g c = λ κs within.
@@ -52,18 +52,21 @@ returns g c =
     c.steer-p.ensures.value ∙ ap (λ q. steered q marked.mark judged.task.now.scene.step) (sym here) in
     record {
       lawful = λ h.
-          let came = c.ends_lawfully.ensures.lawful h in
+          let came = (c.ends_lawfully.ensures.0 h).1 in
           subst (HasLawfulEnding (setup_by judged) run marked.k marked.mark entry) (sym came.ending) record {
             cheaper = (c.may_be_cheaper.ensures judged entry c.requires.seen).0 c.if-not-may_be_cheaper.false;
             present = present-listed judged.knots.now judged.records.now entry.nearest c.in-Some.nearest (sym c.in-Some.ensures);
-            nearest = c.ends_lawfully.ensures.nearest h;
+            nearest = (c.ends_lawfully.ensures.0 h).0;
             outcome = subst (ReachesLawfully (setup_by judged) run marked.k entry entry.nearest came.reached) reached came.lawful;
           };
       only = λ h other bad.
           let own = steered_of (setup_by judged) run marked other bad in
-          c.ends_lawfully.ensures.only h own.2.nearest record {
-            reached = own.0;
-            ending = own.1;
-            lawful = subst (ReachesLawfully (setup_by judged) run marked.k entry entry.nearest own.0) (sym reached) own.2.outcome;
-          };
+          iff_false c.ends_lawfully.ensures h (
+            own.2.nearest,
+            record {
+              reached = own.0;
+              ending = own.1;
+              lawful = subst (ReachesLawfully (setup_by judged) run marked.k entry entry.nearest own.0) (sym reached) own.2.outcome;
+            },
+          );
     }

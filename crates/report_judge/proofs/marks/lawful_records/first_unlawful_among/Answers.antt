@@ -1,4 +1,4 @@
-use Rattle.report_judge.proofs.Words.{◌≡◌, ◌+◌, Some, length, arith, ap, sym, subst, numbered_at, Numbered, KeepsRecord, IsFirstSeen}
+use Rattle.report_judge.proofs.Words.{◌≡◌, ◌+◌, Some, length, arith, ap, sym, subst, iff_false, numbered_at, Numbered, KeepsRecord, IsFirstSeen}
 use Rattle.report_judge.proofs.Workers.OwnMarkLaws.{IsFirstSeen-broken, IsFirstSeen-kept, IsFirstSeen-past, may_come_first}
 use Rattle.report_judge.proofs.marks.lawful_records.first_unlawful_among.Goals as goal
 use Rattle.report_judge.proofs.marks.lawful_records.first_unlawful_among.Goals.{then-may_be_first+then-not-keeps_law}
@@ -27,11 +27,11 @@ loop-position-preserved g c =
           (IsFirstSeen-broken Keeps marks position c.loop-position.first c.loop-position.invariant
           (omega (arith, c.loop-position-test.true, c.len-position-end.ensures))
           (may_come_first Keeps marks position mark c.loop-position.first c.may_be_first.result is w.if-may_be_first.true c.may_be_first.ensures.some)
-          (λ kept. w.keeps_law.ensures.only w.if-not-keeps_law.true (subst Keeps (sym is) kept))))
+          (λ kept. iff_false w.keeps_law.ensures w.if-not-keeps_law.true (subst Keeps (sym is) kept))))
       | then-may_be_first+else-not-keeps_law w ↦
           rw w.first-is
           (IsFirstSeen-kept Keeps marks position c.loop-position.first c.loop-position.invariant
-          (subst Keeps is (w.keeps_law.ensures.keeps w.if-not-keeps_law.false)))
+          (subst Keeps is (w.keeps_law.ensures.0 w.if-not-keeps_law.false)))
       | else-may_be_first w ↦
           rw w.first-is
           (IsFirstSeen-past Keeps marks position mark c.loop-position.first c.may_be_first.result is w.if-may_be_first.false c.may_be_first.ensures.none

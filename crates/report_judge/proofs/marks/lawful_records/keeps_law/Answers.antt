@@ -61,13 +61,12 @@ is_lawful-requires-clause-seen g c κs within =
 pub returns : goal.returns
 returns g c =
     let judged = c.args.judged.now in
-    let Kept : Record → Type 0 = λ r. IsLawfulRecord (setup_by judged) (run_of judged) c.args.k (mark_at judged.task.now.marks c.args.k) r in
-    record {
-      keeps = λ h entry is.
+    let Kept : Record → Type 0 = λ r. IsLawfulRecord (setup_by judged) (run_of judged) c.args.k (mark_at judged.task.now.marks c.args.k) r in (
+      λ h entry is.
           subst Kept (get_or_from_slice_get judged.records.now c.args.k entry c.index-judged-k.result is)
-          (rw c.as_slice.ensures at (c.is_lawful.ensures.lawful h));
-      only = λ h kept.
+          (rw c.as_slice.ensures at (c.is_lawful.ensures.0 h)),
+      λ kept.
           let b = c.requires.between in
           let same = get_or_from_slice_get judged.records.now c.args.k b.entry c.index-judged-k.result b.at in
-          (rw c.as_slice.ensures at (c.is_lawful.ensures.only h)) (subst Kept (sym same) (kept b.entry b.at));
-    }
+          (rw c.as_slice.ensures at c.is_lawful.ensures.1) (subst Kept (sym same) (kept b.entry b.at)),
+    )

@@ -1,4 +1,4 @@
-use Rattle.report_judge.proofs.Words.{◌+◌, arith, sym, ap, leb-false, leb-true, cost_of}
+use Rattle.report_judge.proofs.Words.{◌+◌, arith, sym, ap, le-leb, leb-true, cost_of}
 use Rattle.report_judge.proofs.Workers.FirstCosts.{first_cost_low}
 use Rattle.report_judge.proofs.Laws.ListedNodes.{none-present, point_of-listed, present-listed}
 use Rattle.report_judge.proofs.marks.placed_marks.is_within_first.Goals as goal
@@ -18,16 +18,16 @@ returns-in-Some c =
     let knots = c.args.judged.now.knots.now in
     let records = c.args.judged.now.records.now in
     let edge = ap (λ q. cost_of q c.args.p) (point_of-listed knots records c.args.node c.in-Some.knot (sym c.in-Some.ensures)) in
-    let cost = c.first_cost.result + c.cost.result in
-    record {
-      within = λ h. record {
+    let cost = c.first_cost.result + c.cost.result in (
+      λ h. record {
         present = present-listed knots records c.args.node c.in-Some.knot (sym c.in-Some.ensures);
         within = omega (arith, leb-true c.args.entry.first_cost cost h, c.first_cost.ensures knots, c.cost.ensures.value, edge);
-      };
-      only = λ h bad.
-          omega (arith, bad.within, leb-false c.args.entry.first_cost cost h, c.first_cost.ensures knots, c.cost.ensures.value, edge);
-    }
+      },
+      λ way. le-leb c.args.entry.first_cost cost (omega (arith, way.within, c.first_cost.ensures knots, c.cost.ensures.value, edge)),
+    )
 
-pub returns-in-None-clause-only : goal.returns-in-None-clause-only
-returns-in-None-clause-only c = λ h bad.
-    none-present c.args.judged.now.knots.now c.args.judged.now.records.now c.args.node (sym c.in-None.ensures) bad.present
+pub returns-in-None : goal.returns-in-None
+returns-in-None c = (
+  λ h. cc,
+  λ way. absurd (none-present c.args.judged.now.knots.now c.args.judged.now.records.now c.args.node (sym c.in-None.ensures) way.present),
+)

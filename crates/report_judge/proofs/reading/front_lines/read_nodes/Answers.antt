@@ -1,4 +1,4 @@
-use Rattle.report_judge.proofs.Words.{◌+◌, ◌<◌, ◌^◌, arith, rules, sym, subst, IsNextNode}
+use Rattle.report_judge.proofs.Words.{◌+◌, ◌<◌, ◌^◌, arith, rules, sym, subst, iff_false, IsNextNode}
 use Rattle.report_judge.proofs.Texts.FrontLaws.{HasRead, HasRead-none, HasRead-more, ReadsNodes-ended, other_node}
 use Rattle.report_judge.proofs.reading.front_lines.read_nodes.Goals as goal
 
@@ -9,7 +9,7 @@ loop-count-init c =
 
 pub loop-count-preserved : goal.loop-count-preserved
 loop-count-preserved c =
-    HasRead-more c.loop-count.invariant (c.may_follow.ensures.follows c.if-not-may_follow.false) c.in-Some.ensures.some.0 c.in-Some.ensures.some.1
+    HasRead-more c.loop-count.invariant (c.may_follow.ensures.0 c.if-not-may_follow.false) c.in-Some.ensures.some.0 c.in-Some.ensures.some.1
 
 pub returns-in_default : goal.returns-in_default
 returns-in_default c =
@@ -23,7 +23,7 @@ returns-then-not-may_follow c =
     let few : c.args.marks < 2 ^ 64 = omega (arith, c.requires.few) in
     let same = other_node c.args.marks few c.loop-count.rest.now c.in-Some.after.now c.in-Some.node.number c.in-Some.node.knot c.in-Some.ensures.some.0
     c.in-Some.ensures.some.1 n knot after fits e in
-    c.may_follow.ensures.only c.if-not-may_follow.true (subst (IsNextNode c.loop-count.next) (sym same) next))
+    iff_false c.may_follow.ensures c.if-not-may_follow.true (subst (IsNextNode c.loop-count.next) (sym same) next))
 
 pub returns : goal.returns
 returns c =

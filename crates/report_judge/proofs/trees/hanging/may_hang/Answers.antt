@@ -1,23 +1,20 @@
-use Rattle.report_judge.proofs.Words.{◌≡◌, Some, None, sym, ◌∙◌, subst, slice_index_or, IsHighEdge}
+use Rattle.report_judge.proofs.Words.{◌≡◌, Some, None, sym, ◌∙◌, subst, IsHighEdge}
 use Rattle.report_judge.proofs.trees.hanging.may_hang.Goals as goal
 
 pub returns-then-place-node : goal.returns-then-place-node
-returns-then-place-node g c = record {
-  hangs = λ h. record {
+returns-then-place-node g c = (
+  λ h. record {
     up = c.in-Some.parent;
     there = sym c.knot_at.ensures ∙ c.in-Some.is;
     other = c.if-place-node.true;
-    edge = c.is_high_edge.ensures.high h;
-  };
-  only = λ h bad.
-      let both : Some c.in-Some.parent ≡ Some bad.up = sym (sym c.knot_at.ensures ∙ c.in-Some.is) ∙ bad.there in
-      let same : c.in-Some.parent ≡ bad.up = cc in
-      c.is_high_edge.ensures.only h
-      (subst (λ from. IsHighEdge (g.C.Clearing.space c.args.hall.now) c.args.squared_step from c.args.place) (sym same) bad.edge);
-}
+    edge = c.is_high_edge.ensures.0 h;
+  },
+  λ hangs.
+      let both : Some c.in-Some.parent ≡ Some hangs.up = sym (sym c.knot_at.ensures ∙ c.in-Some.is) ∙ hangs.there in
+      let same : c.in-Some.parent ≡ hangs.up = cc in
+      c.is_high_edge.ensures.1
+      (subst (λ from. IsHighEdge (g.C.Clearing.space c.args.hall.now) c.args.squared_step from c.args.place) (sym same) hangs.edge),
+)
 
-pub returns-in-None-clause-only : goal.returns-in-None-clause-only
-returns-in-None-clause-only g c = λ h bad.
-    let gone : slice_index_or c.args.knots.now c.args.place.parent None ≡ None = sym c.knot_at.ensures ∙ c.in-None.is in
-    let both : Some bad.up ≡ None = sym bad.there ∙ gone in
-    absurd (cc)
+pub returns-in-None : goal.returns-in-None
+returns-in-None g c = (λ h. cc, λ hangs. absurd (let both : Some hangs.up ≡ None = sym hangs.there ∙ sym c.knot_at.ensures ∙ c.in-None.is in cc))

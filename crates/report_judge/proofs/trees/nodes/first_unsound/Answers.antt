@@ -19,5 +19,5 @@ returns g c =
     (λ i. sym c.from.ensures i * sym c.from-2.ensures i) keys c.in_ok-keys.ensures.keys
     c.requires.fit
     (KeepsNode-start knots records (setup_of scene) (record { point = scene.start; parent = 0; cost = 0 })
-    (c.is_start.ensures.start c.if-not-is_start.false) refl) c.earlier.result
+    (c.is_start.ensures.0 c.if-not-is_start.false) refl) c.earlier.result
     (rw c.earlier.ensures both)
