@@ -5,16 +5,17 @@ use Rattle.plan_words.proofs.Words.{step, Valid, carried_after, Allows, Splits, 
 use Rattle.plan_words.proofs.Words.{FindsPoint, FindsTree, FindsWholeCount, Finishes, Links, Loads, LoadsBest, Lowers, Posts, TellsHand, WritesFirst}
 use Rattle.plan_words.proofs.Words.{WritesPoint, WritesTree, exchanged_at, GoesOn, HasWholeShare, HoldsWorld, IsLater, IsUnskipped, MayPost, MayRecord}
 use Rattle.plan_words.proofs.Words.{MayBeRecorded, best_loaded, best_with, hand_with_best, hand_with_post, posted, claimed, counted, finished, finished_at}
-use Rattle.plan_words.proofs.Words.{half, joined, last_note, linked, linked_at, loaded, looker, lowered, mark_of, pair_in_hand, live, noting, parted, place_in}
-use Rattle.plan_words.proofs.Words.{pointed, saw_at, steps_then, treed, worker_apart, IsSteered, LeadsTo, MayHang, MayLoad, MayLower, run_sizes, sees, share}
-use Rattle.plan_words.proofs.Words.{spent, words_of_run, IsWorld, IsTurnWord-packed, IsWorld-recorded, in_hand, IsLater-claimed, IsLater-finished}
-use Rattle.plan_words.proofs.Words.{IsLater-loaded, IsLawfulView-world, own_count-most, at-set, IsWorld-joined, IsCut-looker, IsCut-parted, IsWorld-cut}
-use Rattle.plan_words.proofs.Words.{count-most, IsLater-lowered, IsWorld-lowered, lower-found, tree-written, IsLater-link, IsWorld-counted, IsWorld-half}
-use Rattle.plan_words.proofs.Words.{IsWorld-linked, IsWorld-pointed, IsWorld-treed, IsLater-counted, IsLater-half, IsLater-pointed, IsLater-treed, HasWord-load}
-use Rattle.plan_words.proofs.Words.{IsWorld-claimed, IsWorld-loaded, seen_within, IsLater-best, IsWorld-best_loaded, IsWorld-posted, Word, Words, WritesWord}
-use Rattle.plan_words.proofs.Words.{Best, ChildOf, Count, Counter, FirstOf, PointOf, RecordOf, TreeOf, HasWord, place_of, Point, Record, FitsWord, best_cost_in}
-use Rattle.plan_words.proofs.Words.{best_node_in, best_word, no_best, cost_in, parent_in, point_word, record_word, tree_word, WritesWord-set, word-found, Hand}
-use Rattle.plan_words.proofs.Words.{Member, SharedRun, Claimed, Half, Linked, Pointed, Treed, View}
+use Rattle.plan_words.proofs.Words.{IsTableOf, Opening, TableId, WordPlaces, run_of_opening, half, joined, last_note, linked, linked_at, loaded, looker}
+use Rattle.plan_words.proofs.Words.{lowered, mark_of, pair_in_hand, live, noting, parted, place_in, pointed, saw_at, steps_then, treed, worker_apart, IsSteered}
+use Rattle.plan_words.proofs.Words.{LeadsTo, MayHang, MayLoad, MayLower, run_sizes, sees, share, spent, words_of_run, IsWorld, IsTurnWord-packed}
+use Rattle.plan_words.proofs.Words.{IsWorld-recorded, in_hand, IsLater-claimed, IsLater-finished, IsLater-loaded, IsLawfulView-world, own_count-most, at-set}
+use Rattle.plan_words.proofs.Words.{IsWorld-joined, IsCut-looker, IsCut-parted, IsWorld-cut, count-most, IsLater-lowered, IsWorld-lowered, lower-found}
+use Rattle.plan_words.proofs.Words.{tree-written, IsLater-link, IsWorld-counted, IsWorld-half, IsWorld-linked, IsWorld-pointed, IsWorld-treed, IsLater-counted}
+use Rattle.plan_words.proofs.Words.{IsLater-half, IsLater-pointed, IsLater-treed, HasWord-load, IsWorld-claimed, IsWorld-loaded, seen_within, IsLater-best}
+use Rattle.plan_words.proofs.Words.{IsWorld-best_loaded, IsWorld-posted, Word, Words, WritesWord, Best, ChildOf, Count, Counter, FirstOf, PointOf, RecordOf}
+use Rattle.plan_words.proofs.Words.{TreeOf, HasWord, place_of, Point, Record, FitsWord, best_cost_in, best_node_in, best_word, no_best, cost_in, parent_in}
+use Rattle.plan_words.proofs.Words.{point_word, record_word, tree_word, WritesWord-set, word-found, Hand, Member, SharedRun, Claimed, Half, Linked, Pointed}
+use Rattle.plan_words.proofs.Words.{Treed, View}
 use mathlib.Core.Option.{none, some}
 use prog.Atomic.{either}
 use lib.ListN.{get_elem?}
@@ -24,21 +25,32 @@ use Rattle.plan_words.proofs.WholeViews.{best-as_seen, best-whole, word_count-wh
 use Rattle.plan_words.proofs.WrittenPoints.{written-seen}
 
 -- the rule of a table of this run
-abbrev pub Holds : SharedRun → State Aim View → Type 0
+abbrev Holds : SharedRun → State Aim View → Type 0
 Holds run s = HoldsWorld run s.words s.views
 
--- what a step owes that leaves this word and this view
-abbrev Owes : SharedRun → (slots id : ℕ) → Me Aim View → State Aim View → ℕ → ℕ → (Me Aim View → Type 0) → Type 0
-Owes run slots id me s place x tells =
-    (w : View) × (a : Act Aim) × Valid s.homes me.1 a × Holds run (stepped s place x id me.1 w a) × tells (w, carried_after me.1 a)
+-- the rule by what the table was told
+abbrev pub Kept : Opening → State Aim View → Type 0
+Kept key s = HoldsWorld (run_of_opening key) s.words s.views
 
-module _ (run : SharedRun) where
+-- what a step owes that leaves this word and this view
+abbrev Owes : Opening → (slots id : ℕ) → Me Aim View → State Aim View → ℕ → ℕ → (Me Aim View → Type 0) → Type 0
+Owes key slots id me s place x tells =
+    (w : View) × (a : Act Aim) × Valid s.homes me.1 a × Kept key (stepped s place x id me.1 w a) × tells (w, carried_after me.1 a)
+
+module _ (table : TableId) (key : Opening) (run : SharedRun) (places : WordPlaces) (is_table : IsTableOf table key run places) where
+  -- the rule is that of the run
+  in_run : (s : State Aim View) → Kept key s → Holds run s
+  in_run s kept = subst (λ r. Holds r s) is_table.key_is kept
+
+  as_told : (words : List ℕ) (views : List View) → HoldsWorld run words views → HoldsWorld (run_of_opening key) words views
+  as_told words views holds = subst (λ r. HoldsWorld r words views) (sym is_table.key_is) holds
+
   -- the table keeps its words, but for one, and the view of the seat is another
   owes :
       (slots id place x : ℕ) (me : Me Aim View) (s : State Aim View) (view : View) (tells : Me Aim View → Type 0) → Holds run s
-      → IsWorld run (words_of_run run (slice_set s.words place x)) (set s.views id view) → tells (view, me.1) → Owes run slots id me s place x tells
+      → IsWorld run (words_of_run run (slice_set s.words place x)) (set s.views id view) → tells (view, me.1) → Owes key slots id me s place x tells
   owes slots id place x me s view tells holds world told =
-      (view, keeps, tt, record { sized = length-set s.words place x ∙ holds.sized; world = world }, told)
+      (view, keeps, tt, as_told _ _ (record { sized = length-set s.words place x ∙ holds.sized; world = world }), told)
 
   -- the view goes on by a step that keeps the law
   goes_on :
@@ -122,8 +134,9 @@ module _ (run : SharedRun) where
 
   pub may_load :
       (slots id place : ℕ) (me : Me Aim View) (name : Word) → HasWord (run_sizes run) name → place ≡ place_of (run_sizes run) name → me.0.run ≡ run
-      → MayLoad me.0 name → Allows (Holds run) slots id me place (λ x. x) (Loads (step slots place 0 0 none) me)
-  may_load slots id place me name here at_place own may s holds homes at fits =
+      → MayLoad me.0 name → Allows (Kept key) slots id me place (λ x. x) (Loads (step slots place 0 0 none) me)
+  may_load slots id place me name here at_place own may s kept homes at fits =
+      let holds : Holds run s = in_run s kept in
       let x : ℕ = slice_index s.words place in
       owes slots id place x me s (saw_at me.0 place x x) (Loads (step slots place 0 0 none) me x) holds
       (world_kept slots id place me name here at_place own s holds at may) record {
@@ -144,11 +157,14 @@ module _ (run : SharedRun) where
   pub may_claim :
       (slots id place g c limit : ℕ) (me : Me Aim View) → place ≡ place_of (run_sizes run) (Counter g) → me.0.run ≡ run → 0 < share me.0 → me.0.hand ≡ None
       → g < run.strips → mark_of run g c < limit → limit ≤ length run.marks
-      → Allows (Holds run) slots id me place (λ x. either (x == c) (c + 1) x)
+      → Allows (Kept key) slots id me place (λ x. either (x == c) (c + 1) x)
       (Claims (step slots place c (c + 1) (some (record { strip = g; limit = limit }))) me)
-  may_claim slots id place g c limit me at_place own part idle strip low most s holds homes at fits =
+  may_claim slots id place g c limit me at_place own part idle strip low most s kept homes at fits =
       pick (slice_index s.words place == c) refl
     where
+      holds : Holds run s
+      holds = in_run s kept
+
       words : Words
       words = words_of_run run s.words
 
@@ -163,7 +179,7 @@ module _ (run : SharedRun) where
 
       pick :
           (b : Bool) → (slice_index s.words place == c) ≡ b
-          → Owes run slots id me s place (either b (c + 1) (slice_index s.words place)) (tells (slice_index s.words place))
+          → Owes key slots id me s place (either b (c + 1) (slice_index s.words place)) (tells (slice_index s.words place))
       pick true e =
           let found : slice_index s.words place ≡ c = eqb-true (slice_index s.words place) c e in
           let then : View = claimed me.0 g c limit (steps_then s.views id me.0) in
@@ -205,8 +221,9 @@ module _ (run : SharedRun) where
       → place ≡ place_of (run_sizes run) (RecordOf hand.mark) → me.0.run ≡ run → me.0.hand ≡ Some hand → me.0.crew ≡ member ∷ crew → FitsWord entry
       → entry.worker ≡ member.worker → entry.turn ≡ member.turn → MayBeRecorded hand.stage entry.outcome → MayRecord me.0 hand entry
       → x ≡ record_word entry
-      → Allows (Holds run) slots id me place (λ y. x) (λ y. Finishes (step slots place x 0 none) me x)
-  may_finish slots id place x me hand member crew entry at_place own held crew_is fits worker turn stage may is s holds homes at low =
+      → Allows (Kept key) slots id me place (λ y. x) (λ y. Finishes (step slots place x 0 none) me x)
+  may_finish slots id place x me hand member crew entry at_place own held crew_is fits worker turn stage may is s kept homes at low =
+      let holds : Holds run s = in_run s kept in
       let words : Words = words_of_run run s.words in
       let after : Words = words_of_run run (slice_set s.words place x) in
       let mark = in_hand run words s.views id me.0 holds.world at hand held in
@@ -240,8 +257,9 @@ module _ (run : SharedRun) where
   pub may_point :
       (slots id place x : ℕ) (me : Me Aim View) (hand : Hand) (m : ℕ) (p : Point) → place ≡ place_of (run_sizes run) (PointOf (suc hand.mark))
       → me.0.run ≡ run → me.0.hand ≡ Some hand → hand.stage ≡ Claimed → IsSteered me.0 hand.mark m p → IsUnskipped me.0 hand → x ≡ point_word p
-      → Allows (Holds run) slots id me place (λ y. x) (λ y. WritesPoint m p (step slots place x 0 none) me x)
-  may_point slots id place x me hand m p at_place own held stage steered unskipped is s holds homes at low =
+      → Allows (Kept key) slots id me place (λ y. x) (λ y. WritesPoint m p (step slots place x 0 none) me x)
+  may_point slots id place x me hand m p at_place own held stage steered unskipped is s kept homes at low =
+      let holds : Holds run s = in_run s kept in
       let words : Words = words_of_run run s.words in
       let after : Words = words_of_run run (slice_set s.words place x) in
       let mark = in_hand run words s.views id me.0 holds.world at hand held in
@@ -257,8 +275,9 @@ module _ (run : SharedRun) where
   pub may_first :
       (slots id place x : ℕ) (me : Me Aim View) (hand : Hand) (parent cost : ℕ) → place ≡ place_of (run_sizes run) (FirstOf (suc hand.mark))
       → me.0.run ≡ run → me.0.hand ≡ Some hand → hand.stage ≡ Pointed → MayHang me.0 hand parent cost → x ≡ tree_word parent cost → parent ≡ parent_in x
-      → cost ≡ cost_in x → Allows (Holds run) slots id me place (λ y. x) (λ y. WritesFirst (step slots place x 0 none) me x)
-  may_first slots id place x me hand parent cost at_place own held stage may is is_parent is_cost s holds homes at low =
+      → cost ≡ cost_in x → Allows (Kept key) slots id me place (λ y. x) (λ y. WritesFirst (step slots place x 0 none) me x)
+  may_first slots id place x me hand parent cost at_place own held stage may is is_parent is_cost s kept homes at low =
+      let holds : Holds run s = in_run s kept in
       let words : Words = words_of_run run s.words in
       let after : Words = words_of_run run (slice_set s.words place x) in
       let mark = in_hand run words s.views id me.0 holds.world at hand held in
@@ -275,8 +294,9 @@ module _ (run : SharedRun) where
   pub may_tree :
       (slots id place x : ℕ) (me : Me Aim View) (hand : Hand) → place ≡ place_of (run_sizes run) (TreeOf (suc hand.mark)) → me.0.run ≡ run
       → me.0.hand ≡ Some hand → hand.stage ≡ Half → x ≡ pair_in_hand hand
-      → Allows (Holds run) slots id me place (λ y. x) (λ y. WritesTree (step slots place x 0 none) me x)
-  may_tree slots id place x me hand at_place own held stage is s holds homes at low =
+      → Allows (Kept key) slots id me place (λ y. x) (λ y. WritesTree (step slots place x 0 none) me x)
+  may_tree slots id place x me hand at_place own held stage is s kept homes at low =
+      let holds : Holds run s = in_run s kept in
       let words : Words = words_of_run run s.words in
       let after : Words = words_of_run run (slice_set s.words place x) in
       let mark = in_hand run words s.views id me.0 holds.world at hand held in
@@ -292,10 +312,13 @@ module _ (run : SharedRun) where
   pub may_lower :
       (slots id place seen word n parent cost : ℕ) (me : Me Aim View) → n ≤ length run.marks → place ≡ place_of (run_sizes run) (TreeOf n) → me.0.run ≡ run
       → 0 < share me.0 → MayLower me.0 n parent cost → MayLoad me.0 (TreeOf n) → seen ≡ sees me.0 (TreeOf n) → word ≡ tree_word parent cost
-      → Allows (Holds run) slots id me place (λ x. either (x == seen) word x) (Lowers (step slots place seen word none) me)
-  may_lower slots id place seen word n parent cost me within at_place own part may may_load_it seen_is word_is s holds homes at fits =
+      → Allows (Kept key) slots id me place (λ x. either (x == seen) word x) (Lowers (step slots place seen word none) me)
+  may_lower slots id place seen word n parent cost me within at_place own part may may_load_it seen_is word_is s kept homes at fits =
       pick (slice_index s.words place == seen) refl
     where
+      holds : Holds run s
+      holds = in_run s kept
+
       words : Words
       words = words_of_run run s.words
 
@@ -310,7 +333,7 @@ module _ (run : SharedRun) where
 
       pick :
           (b : Bool) → (slice_index s.words place == seen) ≡ b
-          → Owes run slots id me s place (either b word (slice_index s.words place)) (Lowers (step slots place seen word none) me (slice_index s.words place))
+          → Owes key slots id me s place (either b word (slice_index s.words place)) (Lowers (step slots place seen word none) me (slice_index s.words place))
       pick true e =
           let x : ℕ = slice_index s.words place in
           let same : x ≡ seen = eqb-true x seen e in
@@ -363,13 +386,16 @@ module _ (run : SharedRun) where
           seen_written m = m.seen.written
 
   pub may_link :
-      (slots id place : ℕ) (me : Me Aim View) (hand : Hand) (n : ℕ) (side : Bool) → n ≤ length run.marks
+      (slots id place number : ℕ) (me : Me Aim View) (hand : Hand) (n : ℕ) (side : Bool) → n ≤ length run.marks
       → place ≡ place_of (run_sizes run) (ChildOf n side)
       → me.0.run ≡ run → me.0.hand ≡ Some hand → hand.stage ≡ Treed → LeadsTo me.0 hand.point n side → MayLoad me.0 (ChildOf n side)
-      → Allows (Holds run) slots id me place (λ x. either (x == 0) (hand.mark + 1) x) (Links (step slots place 0 (hand.mark + 1) none) me)
-  may_link slots id place me hand n side within at_place own held stage leads may s holds homes at fits =
+      → number ≡ hand.mark + 1 → Allows (Kept key) slots id me place (λ x. either (x == 0) number x) (Links (step slots place 0 number none) me)
+  may_link slots id place number me hand n side within at_place own held stage leads may is s kept homes at fits =
       pick (slice_index s.words place == 0) refl
     where
+      holds : Holds run s
+      holds = in_run s kept
+
       words : Words
       words = words_of_run run s.words
 
@@ -381,22 +407,21 @@ module _ (run : SharedRun) where
 
       pick :
           (b : Bool) → (slice_index s.words place == 0) ≡ b
-          → Owes run slots id me s place (either b (hand.mark + 1) (slice_index s.words place))
-          (Links (step slots place 0 (hand.mark + 1) none) me (slice_index s.words place))
+          → Owes key slots id me s place (either b number (slice_index s.words place))
+          (Links (step slots place 0 number none) me (slice_index s.words place))
       pick true e =
           let x : ℕ = slice_index s.words place in
-          let number : hand.mark + 1 ≡ suc hand.mark = omega arith in
-          let after : Words = words_of_run run (slice_set s.words place (hand.mark + 1)) in
+          let after : Words = words_of_run run (slice_set s.words place number) in
           let empty : words (ChildOf n side) ≡ 0 = sym (ap (slice_index s.words) at_place ∙ found_is s (ChildOf n side) within) ∙ eqb-true x 0 e in
           let writes : WritesWord (ChildOf n side) (suc hand.mark) words after =
-          WritesWord-set (run_sizes run) s.words place (hand.mark + 1) (suc hand.mark) (ChildOf n side) holds.sized within at_place number in
+          WritesWord-set (run_sizes run) s.words place number (suc hand.mark) (ChildOf n side) holds.sized within at_place (omega (arith, is)) in
           let noted : List ℕ = steps_then s.views id me.0 in
           let then : View = linked me.0 hand n side noted in
           let world = IsWorld-linked run words after s.views id me.0 holds.world at own hand held stage n side leads empty writes in
           let later = IsLater-link run words after s.views id me.0 holds.world at own hand held stage n side leads empty noted in
           let view_is : then ≡ leaves x noted hand =
           ap (λ i. linked_at me.0 hand i noted) (sym own_place) ∙ ap (λ b. cond b (linked_at me.0 hand place noted) (saw_at me.0 place x x)) (sym e) in
-          owes slots id place (hand.mark + 1) me s then (Links (step slots place 0 (hand.mark + 1) none) me x) holds world
+          owes slots id place number me s then (Links (step slots place 0 number none) me x) holds world
           record {
             told = of_hand me then (leaves x noted) hand held view_is (goes_on words after s.views id me.0 then holds.world at own world later);
             whole = finds_as_seen slots id place me (ChildOf n side) within at_place own s holds at may;
@@ -404,7 +429,7 @@ module _ (run : SharedRun) where
       pick false e =
           let x : ℕ = slice_index s.words place in
           let then : View = saw_at me.0 place x x in
-          owes slots id place x me s then (Links (step slots place 0 (hand.mark + 1) none) me x) holds
+          owes slots id place x me s then (Links (step slots place 0 number none) me x) holds
           (world_kept slots id place me (ChildOf n side) within at_place own s holds at may)
           record {
             told = of_hand me then (leaves x (last_note me.0)) hand held
@@ -415,8 +440,9 @@ module _ (run : SharedRun) where
 
   pub may_count :
       (slots id place : ℕ) (me : Me Aim View) (hand : Hand) → place ≡ place_of (run_sizes run) Count → me.0.run ≡ run → me.0.hand ≡ Some hand
-      → hand.stage ≡ Linked → Allows (Holds run) slots id me place (λ x. (x + 1) % 2 ^ 64) (Counts (step slots place 1 0 none) me)
-  may_count slots id place me hand at_place own held stage s holds homes at fits =
+      → hand.stage ≡ Linked → Allows (Kept key) slots id me place (λ x. (x + 1) % 2 ^ 64) (Counts (step slots place 1 0 none) me)
+  may_count slots id place me hand at_place own held stage s kept homes at fits =
+      let holds : Holds run s = in_run s kept in
       let x : ℕ = slice_index s.words place in
       let words : Words = words_of_run run s.words in
       let is : x ≡ words Count = ap (slice_index s.words) at_place ∙ found_is s Count tt in
@@ -436,8 +462,9 @@ module _ (run : SharedRun) where
 
   pub may_best :
       (slots id place : ℕ) (me : Me Aim View) → place ≡ place_of (run_sizes run) Best → me.0.run ≡ run
-      → Allows (Holds run) slots id me place (λ x. x) (LoadsBest (step slots place 0 0 none) me)
-  may_best slots id place me at_place own s holds homes at fits =
+      → Allows (Kept key) slots id me place (λ x. x) (LoadsBest (step slots place 0 0 none) me)
+  may_best slots id place me at_place own s kept homes at fits =
+      let holds : Holds run s = in_run s kept in
       let x : ℕ = slice_index s.words place in
       let words : Words = words_of_run run s.words in
       let is : x ≡ words Best = ap (slice_index s.words) at_place ∙ found_is s Best tt in
@@ -460,8 +487,9 @@ module _ (run : SharedRun) where
   pub may_post :
       (slots id place x n : ℕ) (me : Me Aim View) → place ≡ place_of (run_sizes run) Best → me.0.run ≡ run → MayPost me.0 n
       → x ≡ best_word (cost_in (sees me.0 (TreeOf n))) n → best_node_in x ≡ n
-      → Allows (Holds run) slots id me place (λ y. min y x) (Posts (step slots place x 0 none) me)
-  may_post slots id place x n me at_place own may is_pair node s holds homes at fits =
+      → Allows (Kept key) slots id me place (λ y. min y x) (Posts (step slots place x 0 none) me)
+  may_post slots id place x n me at_place own may is_pair node s kept homes at fits =
+      let holds : Holds run s = in_run s kept in
       let y : ℕ = slice_index s.words place in
       let words : Words = words_of_run run s.words in
       let is : y ≡ words Best = ap (slice_index s.words) at_place ∙ found_is s Best tt in
@@ -488,22 +516,22 @@ module _ (run : SharedRun) where
 
   -- ---- splits and joins
 
-  pub may_hand_on : (id : ℕ) (view : View) → view.run ≡ run → Splits (Holds run) id view (parted view) (worker_apart view)
-  may_hand_on id view own s holds at = record {
-    sized = holds.sized;
-    world = IsWorld-cut run (words_of_run run s.words) s.views id view (parted view) (worker_apart view) holds.world at own (IsCut-parted view);
-  }
+  pub may_hand_on : (id : ℕ) (view : View) → view.run ≡ run → Splits (Kept key) id view (parted view) (worker_apart view)
+  may_hand_on id view own s kept at = as_told _ _ (record {
+    sized = (in_run s kept).sized;
+    world = IsWorld-cut run (words_of_run run s.words) s.views id view (parted view) (worker_apart view) (in_run s kept).world at own (IsCut-parted view);
+  })
 
-  pub may_look : (id : ℕ) (view : View) → view.run ≡ run → Splits (Holds run) id view (one_step view) (looker view)
-  may_look id view own s holds at = record {
-    sized = holds.sized;
-    world = IsWorld-cut run (words_of_run run s.words) s.views id view (one_step view) (looker view) holds.world at own (IsCut-looker view);
-  }
+  pub may_look : (id : ℕ) (view : View) → view.run ≡ run → Splits (Kept key) id view (one_step view) (looker view)
+  may_look id view own s kept at = as_told _ _ (record {
+    sized = (in_run s kept).sized;
+    world = IsWorld-cut run (words_of_run run s.words) s.views id view (one_step view) (looker view) (in_run s kept).world at own (IsCut-looker view);
+  })
 
   pub may_take_over :
       (id : ℕ) (view : View) (j : ℕ) (other : View) → view.run ≡ run → other.run ≡ run → view.hand ≡ None
-      → other.hand ≡ None → Joins (Holds run) id view j other (joined view other) spent
-  may_take_over id view j other own own_too idle idle_too s holds at apart there = record {
-    sized = holds.sized;
-    world = IsWorld-joined run (words_of_run run s.words) s.views id view j other holds.world at own own_too apart there idle idle_too;
-  }
+      → other.hand ≡ None → Joins (Kept key) id view j other (joined view other) spent
+  may_take_over id view j other own own_too idle idle_too s kept at apart there = as_told _ _ (record {
+    sized = (in_run s kept).sized;
+    world = IsWorld-joined run (words_of_run run s.words) s.views id view j other (in_run s kept).world at own own_too apart there idle idle_too;
+  })

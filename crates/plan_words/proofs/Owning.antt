@@ -1,187 +1,26 @@
 -- What a call of a shared tree owes to its table, and what a load tells, by what the tree and the pass keep.
-use Rattle.plan_words.proofs.Words.{◌≡◌, ◌≢◌, ℕ, suc, ◌+◌, ◌%◌, ◌<◌, ◌≤◌, ◌^◌, Bool, true, false, List, [], ◌∷◌, length, Some, None, refl, sym, ap, ◌∙◌, subst}
-use Rattle.plan_words.proofs.Words.{arith, ◌==◌, cond, min, TableId, Allows, Joins, Me, Splits, State, step, Aim, Opening, SitsAt, Claims, Counts, FindsAsSeen}
-use Rattle.plan_words.proofs.Words.{Finishes, Links, Loads, LoadsBest, Lowers, Posts, Tells, WritesFirst, WritesPoint, WritesTree, BelongsTo, GoesOn}
-use Rattle.plan_words.proofs.Words.{HasWholeShare, HoldsWorld, IsTableOf, PassState, SharedState, new_pass, run_in, run_of_opening, with_view, Point, Word}
-use Rattle.plan_words.proofs.Words.{WritesWord, Best, ChildOf, Count, Counter, FirstOf, PointOf, RecordOf, TreeOf, HasWord, place_of, Record, FitsWord}
-use Rattle.plan_words.proofs.Words.{best_node_in, best_word, cost_in, parent_in, point_word, record_word, tree_word, place_of-within, IsLawfulView, IsUnskipped}
-use Rattle.plan_words.proofs.Words.{MayPost, MayRecord, MayBeRecorded, IsSteered, LeadsTo, MayHang, MayLoad, MayLower, claimed, joined, loaded, looker, mark_of}
-use Rattle.plan_words.proofs.Words.{pair_in_hand, parted, place_in, saw_at, worker_apart, last_look, run_sizes, sees, share, spent, WritesWord-looked}
-use Rattle.plan_words.proofs.Words.{WritesWord-saw, Claimed, Half, Linked, Pointed, Treed, Hand, Member, SharedRun, View, WordPlaces}
-use mathlib.Core.Option.{none, some}
-use prog.Atomic.{either}
-use Rattle.step_core.specs.ViewSteps.{stepped as one_step}
-use Rattle.plan_words.proofs.Allowing.{Holds, may_best, may_claim, may_count, may_finish, may_first, may_hand_on, may_link, may_load, may_look, may_lower}
-use Rattle.plan_words.proofs.Allowing.{may_point, may_post, may_take_over, may_tree}
-
--- the rule by what the table was told
-abbrev pub Kept : Opening → State Aim View → Type 0
-Kept key s = HoldsWorld (run_of_opening key) s.words s.views
+use Rattle.plan_words.proofs.Words.{◌≡◌, ◌≢◌, ℕ, ◌+◌, ◌<◌, ◌≤◌, ◌^◌, Bool, true, false, List, [], length, refl, sym, ap, ◌∙◌, subst, arith, ◌==◌, cond, TableId}
+use Rattle.plan_words.proofs.Words.{Allows, Me, step, Aim, Opening, SitsAt, FindsAsSeen, Loads, Tells, BelongsTo, GoesOn, HasWholeShare, IsTableOf, PassState}
+use Rattle.plan_words.proofs.Words.{SharedState, new_pass, run_in, with_view, Word, WritesWord, Count, Counter, HasWord, place_of, place_of-within}
+use Rattle.plan_words.proofs.Words.{IsLawfulView, MayLoad, claimed, loaded, place_in, saw_at, last_look, run_sizes, sees, WritesWord-looked, WritesWord-saw}
+use Rattle.plan_words.proofs.Words.{SharedRun, View, WordPlaces}
+use mathlib.Core.Option.{none}
+use Rattle.plan_words.proofs.Allowing.{Kept, may_load}
 
 module _ (table : TableId) (key : Opening) (run : SharedRun) (places : WordPlaces) (fits : IsTableOf table key run places) where
   -- a word of the run stands in the table
-  pub within : (name : Word) (place : ℕ) → HasWord (run_sizes run) name → place ≡ place_of (run_sizes run) name → place < table.words
-  within name place here at_place = omega (arith, at_place, fits.words, place_of-within (run_sizes run) name here)
+  pub in_table : (name : Word) (place : ℕ) → HasWord (run_sizes run) name → place ≡ place_of (run_sizes run) name → place < table.words
+  in_table name place here at_place = omega (arith, at_place, fits.words, place_of-within (run_sizes run) name here)
 
   pub some_word : 0 < table.words
-  some_word = within Count 0 tt refl
+  some_word = in_table Count 0 tt refl
 
   pub may_load_here :
       (seat : TableId) (id place : ℕ) (me : Me Aim View) (name : Word) → seat ≡ table → me.0.run ≡ run → HasWord (run_sizes run) name
       → MayLoad me.0 name → place ≡ place_of (run_sizes run) name
       → (seat ≡ table) × (place < table.words) × Allows (Kept key) table.slots id me place (λ x. x) (Loads (step table.slots place 0 0 none) me)
-  may_load_here seat id place me name same own here may at_place = (
-    same,
-    within name place here at_place,
-    subst (λ r. Allows (Holds r) table.slots id me place (λ x. x) (Loads (step table.slots place 0 0 none) me)) (sym fits.key_is)
-        (may_load run table.slots id place me name here at_place own may),
-  )
-
-  pub may_claim_here :
-      (seat : TableId) (id place g c limit : ℕ) (me : Me Aim View) → seat ≡ table → me.0.run ≡ run → place ≡ place_of (run_sizes run) (Counter g)
-      → 0 < share me.0 → me.0.hand ≡ None → g < run.strips → mark_of run g c < limit → limit ≤ length run.marks
-      → (seat ≡ table) × (place < table.words) × Allows (Kept key) table.slots id me place (λ x. either (x == c) (c + 1) x)
-      (Claims (step table.slots place c (c + 1) (some (record { strip = g; limit = limit }))) me)
-  may_claim_here seat id place g c limit me same own at_place part idle strip low most = (
-    same,
-    within (Counter g) place strip at_place,
-    subst
-        (λ r. Allows (Holds r) table.slots id me place (λ x. either (x == c) (c + 1) x)
-        (Claims (step table.slots place c (c + 1) (some (record { strip = g; limit = limit }))) me))
-        (sym fits.key_is) (may_claim run table.slots id place g c limit me at_place own part idle strip low most),
-  )
-
-  pub may_finish_here :
-      (seat : TableId) (id place x : ℕ) (me : Me Aim View) (hand : Hand) (member : Member) (crew : List Member) (entry : Record) → seat ≡ table
-      → me.0.run ≡ run → place ≡ place_of (run_sizes run) (RecordOf hand.mark) → hand.mark < length run.marks → me.0.hand ≡ Some hand
-      → me.0.crew ≡ member ∷ crew → FitsWord entry → entry.worker ≡ member.worker → entry.turn ≡ member.turn
-      → MayBeRecorded hand.stage entry.outcome → MayRecord me.0 hand entry → x ≡ record_word entry
-      → (seat ≡ table) × (place < table.words) × Allows (Kept key) table.slots id me place (λ y. x) (λ y. Finishes (step table.slots place x 0 none) me x)
-  may_finish_here seat id place x me hand member crew entry same own at_place low held crew_is entry_fits worker turn stage may is = (
-    same,
-    within (RecordOf hand.mark) place low at_place,
-    subst (λ r. Allows (Holds r) table.slots id me place (λ y. x) (λ y. Finishes (step table.slots place x 0 none) me x)) (sym fits.key_is)
-        (may_finish run table.slots id place x me hand member crew entry at_place own held crew_is entry_fits worker turn stage may is),
-  )
-
-  pub may_point_here :
-      (seat : TableId) (id place x : ℕ) (me : Me Aim View) (hand : Hand) (m : ℕ) (p : Point) → seat ≡ table → me.0.run ≡ run
-      → place ≡ place_of (run_sizes run) (PointOf (suc hand.mark)) → hand.mark < length run.marks → me.0.hand ≡ Some hand → hand.stage ≡ Claimed
-      → IsSteered me.0 hand.mark m p → IsUnskipped me.0 hand → x ≡ point_word p
-      → (seat ≡ table) × (place < table.words)
-      × Allows (Kept key) table.slots id me place (λ y. x) (λ y. WritesPoint m p (step table.slots place x 0 none) me x)
-  may_point_here seat id place x me hand m p same own at_place low held stage steered unskipped is = (
-    same,
-    within (PointOf (suc hand.mark)) place (omega (arith, low)) at_place,
-    subst (λ r. Allows (Holds r) table.slots id me place (λ y. x) (λ y. WritesPoint m p (step table.slots place x 0 none) me x)) (sym fits.key_is)
-        (may_point run table.slots id place x me hand m p at_place own held stage steered unskipped is),
-  )
-
-  pub may_first_here :
-      (seat : TableId) (id place x : ℕ) (me : Me Aim View) (hand : Hand) (parent cost : ℕ) → seat ≡ table → me.0.run ≡ run
-      → place ≡ place_of (run_sizes run) (FirstOf (suc hand.mark)) → hand.mark < length run.marks → me.0.hand ≡ Some hand → hand.stage ≡ Pointed
-      → MayHang me.0 hand parent cost → x ≡ tree_word parent cost → parent ≡ parent_in x → cost ≡ cost_in x
-      → (seat ≡ table) × (place < table.words) × Allows (Kept key) table.slots id me place (λ y. x) (λ y. WritesFirst (step table.slots place x 0 none) me x)
-  may_first_here seat id place x me hand parent cost same own at_place low held stage may is is_parent is_cost = (
-    same,
-    within (FirstOf (suc hand.mark)) place (omega (arith, low)) at_place,
-    subst (λ r. Allows (Holds r) table.slots id me place (λ y. x) (λ y. WritesFirst (step table.slots place x 0 none) me x)) (sym fits.key_is)
-        (may_first run table.slots id place x me hand parent cost at_place own held stage may is is_parent is_cost),
-  )
-
-  pub may_tree_here :
-      (seat : TableId) (id place x : ℕ) (me : Me Aim View) (hand : Hand) → seat ≡ table → me.0.run ≡ run
-      → place ≡ place_of (run_sizes run) (TreeOf (suc hand.mark)) → hand.mark < length run.marks → me.0.hand ≡ Some hand → hand.stage ≡ Half
-      → x ≡ pair_in_hand hand
-      → (seat ≡ table) × (place < table.words) × Allows (Kept key) table.slots id me place (λ y. x) (λ y. WritesTree (step table.slots place x 0 none) me x)
-  may_tree_here seat id place x me hand same own at_place low held stage is = (
-    same,
-    within (TreeOf (suc hand.mark)) place (omega (arith, low)) at_place,
-    subst (λ r. Allows (Holds r) table.slots id me place (λ y. x) (λ y. WritesTree (step table.slots place x 0 none) me x)) (sym fits.key_is)
-        (may_tree run table.slots id place x me hand at_place own held stage is),
-  )
-
-  pub may_lower_here :
-      (seat : TableId) (id place seen word n parent cost : ℕ) (me : Me Aim View) → seat ≡ table → me.0.run ≡ run → n ≤ length run.marks
-      → place ≡ place_of (run_sizes run) (TreeOf n) → 0 < share me.0 → MayLower me.0 n parent cost → MayLoad me.0 (TreeOf n) → seen ≡ sees me.0 (TreeOf n)
-      → word ≡ tree_word parent cost
-      → (seat ≡ table) × (place < table.words) × Allows (Kept key) table.slots id me place (λ x. either (x == seen) word x)
-      (Lowers (step table.slots place seen word none) me)
-  may_lower_here seat id place seen word n parent cost me same own low at_place part may may_load_it seen_is word_is = (
-    same,
-    within (TreeOf n) place low at_place,
-    subst (λ r. Allows (Holds r) table.slots id me place (λ x. either (x == seen) word x) (Lowers (step table.slots place seen word none) me)) (sym fits.key_is)
-        (may_lower run table.slots id place seen word n parent cost me low at_place own part may may_load_it seen_is word_is),
-  )
-
-  pub may_link_here :
-      (seat : TableId) (id place x : ℕ) (me : Me Aim View) (hand : Hand) (n : ℕ) (side : Bool) → seat ≡ table → me.0.run ≡ run → n ≤ length run.marks
-      → place ≡ place_of (run_sizes run) (ChildOf n side) → me.0.hand ≡ Some hand → hand.stage ≡ Treed → LeadsTo me.0 hand.point n side
-      → MayLoad me.0 (ChildOf n side) → x ≡ hand.mark + 1
-      → (seat ≡ table) × (place < table.words) × Allows (Kept key) table.slots id me place (λ y. either (y == 0) x y)
-      (Links (step table.slots place 0 x none) me)
-  may_link_here seat id place x me hand n side same own low at_place held stage leads may is = (
-    same,
-    within (ChildOf n side) place low at_place,
-    subst (λ r. Allows (Holds r) table.slots id me place (λ y. either (y == 0) x y) (Links (step table.slots place 0 x none) me)) (sym fits.key_is)
-        (subst (λ m. Allows (Holds run) table.slots id me place (λ y. either (y == 0) m y) (Links (step table.slots place 0 m none) me)) (sym is)
-        (may_link run table.slots id place me hand n side low at_place own held stage leads may)),
-  )
-
-  pub may_count_here :
-      (seat : TableId) (id place : ℕ) (me : Me Aim View) (hand : Hand) → seat ≡ table → me.0.run ≡ run → place ≡ place_of (run_sizes run) Count
-      → me.0.hand ≡ Some hand → hand.stage ≡ Linked
-      → (seat ≡ table) × (place < table.words) × Allows (Kept key) table.slots id me place (λ x. (x + 1) % 2 ^ 64) (Counts (step table.slots place 1 0 none) me)
-  may_count_here seat id place me hand same own at_place held stage = (
-    same,
-    within Count place tt at_place,
-    subst (λ r. Allows (Holds r) table.slots id me place (λ x. (x + 1) % 2 ^ 64) (Counts (step table.slots place 1 0 none) me)) (sym fits.key_is)
-        (may_count run table.slots id place me hand at_place own held stage),
-  )
-
-  pub may_best_here :
-      (seat : TableId) (id place : ℕ) (me : Me Aim View) → seat ≡ table → me.0.run ≡ run → place ≡ place_of (run_sizes run) Best
-      → (seat ≡ table) × (place < table.words) × Allows (Kept key) table.slots id me place (λ x. x) (LoadsBest (step table.slots place 0 0 none) me)
-  may_best_here seat id place me same own at_place = (
-    same,
-    within Best place tt at_place,
-    subst (λ r. Allows (Holds r) table.slots id me place (λ x. x) (LoadsBest (step table.slots place 0 0 none) me)) (sym fits.key_is)
-        (may_best run table.slots id place me at_place own),
-  )
-
-  pub may_post_here :
-      (seat : TableId) (id place x n : ℕ) (me : Me Aim View) → seat ≡ table → me.0.run ≡ run → place ≡ place_of (run_sizes run) Best → MayPost me.0 n
-      → x ≡ best_word (cost_in (sees me.0 (TreeOf n))) n → best_node_in x ≡ n
-      → (seat ≡ table) × (place < table.words) × Allows (Kept key) table.slots id me place (λ y. min y x) (Posts (step table.slots place x 0 none) me)
-  may_post_here seat id place x n me same own at_place may is_pair node = (
-    same,
-    within Best place tt at_place,
-    subst (λ r. Allows (Holds r) table.slots id me place (λ y. min y x) (Posts (step table.slots place x 0 none) me)) (sym fits.key_is)
-        (may_post run table.slots id place x n me at_place own may is_pair node),
-  )
-
-  pub may_look_here : (seat : TableId) (id : ℕ) (view : View) → seat ≡ table → view.run ≡ run
-      → (seat ≡ table) × (0 < table.words) × Splits (Kept key) id view (one_step view) (looker view)
-  may_look_here seat id view same own =
-      (same, some_word, subst (λ r. Splits (Holds r) id view (one_step view) (looker view)) (sym fits.key_is) (may_look run id view own))
-
-  pub may_hand_on_here : (seat : TableId) (id : ℕ) (view : View) → seat ≡ table → view.run ≡ run
-      → (seat ≡ table) × (0 < table.words) × Splits (Kept key) id view (parted view) (worker_apart view)
-  may_hand_on_here seat id view same own =
-      (same, some_word, subst (λ r. Splits (Holds r) id view (parted view) (worker_apart view)) (sym fits.key_is) (may_hand_on run id view own))
-
-  pub may_take_over_here :
-      (seat other_seat : TableId) (id j : ℕ) (view : View) (other : Me Aim View) → seat ≡ table → other_seat ≡ table → other.1 ≡ [] → view.run ≡ run
-      → other.0.run ≡ run → view.hand ≡ None → other.0.hand ≡ None
-      → (seat ≡ table) × (other_seat ≡ table) × (other.1 ≡ []) × (0 < table.words) × Joins (Kept key) id view j other.0 (joined view other.0) spent
-  may_take_over_here seat other_seat id j view other same same_too empty own own_too idle idle_too = (
-    same,
-    same_too,
-    empty,
-    some_word,
-    subst (λ r. Joins (Holds r) id view j other.0 (joined view other.0) spent) (sym fits.key_is)
-        (may_take_over run id view j other.0 own own_too idle idle_too),
-  )
+  may_load_here seat id place me name same own here may at_place =
+      (same, in_table name place here at_place, may_load table key run places fits table.slots id place me name here at_place own may)
 
 -- ---- what a load tells
 

@@ -10,9 +10,6 @@ use Rattle.plan_words.proofs.SeenChildren.{chain-HasSeenParent}
 use Rattle.plan_words.proofs.lowered_children.lower_chain.Goals as goal
 use Rattle.plan_words.proofs.lowered_children.lower_chain.Goals.{After-lower_child}
 
-pub first_child-child-requires : goal.first_child-child-requires
-first_child-child-requires c = omega (arith, c.requires.index.firsts, c.requires.low)
-
 pub children-init : goal.children-init
 children-init c =
     let words = c.args.words.now.items in
@@ -235,12 +232,6 @@ returns-in-Err-clause-points c =
     let at = (goal.at.returns-in-Err-clause-points c).After-lower_child in
     points_then c.args.children.now c.args.from.above.node c.children.child c.args.seat.now.me.0 c.children.seat.me.0 c.lower_child.new.seat.me.0 _ _ _ _ _
     c.children.invariant.lowering c.requires.pairs (here at) c.lower_child.ensures.looks c.lower_child.ensures.others c.lower_child.ensures.points
-
-pub returns-clause-lowered : goal.returns-clause-lowered
-returns-clause-lowered c n off changed = c.children.invariant.lowering.lowered n changed
-
-pub returns-clause-posted : goal.returns-clause-posted
-returns-clause-posted c n off changed on_goal = c.children.invariant.lowering.posted n (λ no. no) changed on_goal
 
 pub returns-clause-parents : goal.returns-clause-parents
 returns-clause-parents c n m off off_too less own = c.children.invariant.lowering.parents n m less own

@@ -1,9 +1,6 @@
-use Rattle.plan_words.proofs.Words.{refl, arith, vec_capacity, seen_words}
+use Rattle.plan_words.proofs.Words.{arith, vec_capacity, seen_words}
 use Rattle.plan_words.proofs.SeenLists.{StandFor-longer}
 use Rattle.plan_words.proofs.seen_pairs.lengthen.Goals as goal
-
-pub loop-words-init : goal.loop-words-init
-loop-words-init c all within first = record { first = first; same = refl }
 
 pub loop-words-preserved : goal.loop-words-preserved
 loop-words-preserved c all within first =

@@ -1,10 +1,7 @@
-use Rattle.plan_words.proofs.Words.{ℕ, ◌<◌, ◌≤◌, ◌^◌, length, refl, sym, ap, ◌∙◌, subst, inl, inr, arith, slice_index, slice_set, cases_eq, get_or-set_other}
+use Rattle.plan_words.proofs.Words.{ℕ, ◌<◌, ◌≤◌, ◌^◌, length, sym, ap, ◌∙◌, subst, inl, inr, arith, slice_index, slice_set, cases_eq, get_or-set_other}
 use Rattle.plan_words.proofs.Words.{get_or-set_same, length-set, later_word, Falling, parent_in}
 use Rattle.plan_words.proofs.Joining.{later_word-either}
 use Rattle.plan_words.proofs.shared.take_cheaper.Goals as goal
-
-pub loop-node-init : goal.loop-node-init
-loop-node-init c = record { sized = refl; taken = λ n low. absurd (omega (arith, low)); left = λ n from. refl }
 
 pub set-requires-clause-parent : goal.set-requires-clause-parent
 set-requires-clause-parent c =
@@ -49,9 +46,3 @@ loop-node-preserved c =
           ];
       left = λ n from. get_or-set_other pairs node n x 0 (λ e. omega (arith, e, from)) ∙ kept.left n (omega (arith, from));
     })
-
-pub returns-clause-each : goal.returns-clause-each
-returns-clause-each c n low = c.loop-node.invariant.taken n (omega (arith, low, c.requires.sized, c.loop-node-test.false))
-
-pub returns-clause-as_many : goal.returns-clause-as_many
-returns-clause-as_many c = c.loop-node.invariant.sized

@@ -11,9 +11,6 @@ loop-mark-init c =
       counted = AreCounted-none (record_at (words_of_grown c.args.grown.now)) c.args.workers;
     }
 
-pub index_mut-requires : goal.index_mut-requires
-index_mut-requires c = omega (arith, c.if-entry-workers.true, c.loop-mark.invariant.sized, c.loop-mark.turns.ok.0)
-
 pub overflow_add-index_mut : goal.overflow_add-index_mut
 overflow_add-index_mut c =
     let worker = c.record_of-entry.result.worker in
@@ -45,9 +42,6 @@ loop-mark-preserved c =
             AreCounted-past records mark c.args.workers turns kept.counted entry c.record_of-entry.ensures (omega (arith, w.if-entry-workers.false));
       }
     ]
-
-pub returns-clause-count : goal.returns-clause-count
-returns-clause-count c = c.loop-mark.invariant.sized
 
 pub returns-clause-each : goal.returns-clause-each
 returns-clause-each c w low =

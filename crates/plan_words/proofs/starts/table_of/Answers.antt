@@ -27,9 +27,6 @@ first_pass-requires-clause-pairs c =
           ∙ sym (ap (λ words. words (TreeOf n)) (sees-started c.args.opening.now)) ∙ sym (ap (λ m. sees m.0 (TreeOf n)) me);
     }
 
-pub returns-clause-words : goal.returns-clause-words
-returns-clause-words c = c.in_ok-table.ensures.0 ∙ ap (λ l. length l) (c.as_slice.ensures ∙ ap (λ words. words.list.items) c.words.ensures)
-
 pub returns-clause-first : goal.returns-clause-first
 returns-clause-first c =
     c.in_ok-first.ensures ∙ ap (λ t. new_pass t c.in_ok-table.seat.me.0) c.in_ok-table.ensures.2

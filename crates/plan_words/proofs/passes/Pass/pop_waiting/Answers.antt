@@ -5,9 +5,6 @@ use Rattle.plan_words.proofs.passes.Pass.pop_waiting.Goals as goal
 pub returns-clause-popped : goal.returns-clause-popped
 returns-clause-popped c = sym (ap (λ p. p.lists.waiting) c.self.view_is) ∙ c.pop.ensures.popped
 
-pub returns-clause-none : goal.returns-clause-none
-returns-clause-none c none = sym (ap (λ p. p.lists.waiting) c.self.view_is) ∙ c.pop.ensures.none none
-
 pub returns-clause-low : goal.returns-clause-low
 returns-clause-low c =
     IfSome_then c.pop.result c.pop.ensures.low
@@ -25,6 +22,3 @@ returns-clause-only c n on =
 
 pub returns-clause-shorter : goal.returns-clause-shorter
 returns-clause-shorter c = shorter-popped _ c.pop.new.self.nodes c.pop.result (returns-clause-popped c)
-
-pub returns-clause-lawful : goal.returns-clause-lawful
-returns-clause-lawful c = c.self.invariant.1.lawful

@@ -28,12 +28,6 @@ relink-requires-clause-here c = record {
   low = omega (arith, c.reach.ensures.long, c.max.ensures);
 }
 
-pub relink-requires-clause-parent : goal.relink-requires-clause-parent
-relink-requires-clause-parent c = omega (arith, c.reach.ensures.long, c.max.ensures, (stand c).first.index.firsts)
-
-pub index_mut-requires : goal.index_mut-requires
-index_mut-requires c = omega (arith, c.reach.ensures.long, c.max.ensures, c.reach.new.words.ok)
-
 -- and then for those with this word
 stand_set :
     (c : goal.After-self-1)

@@ -1,15 +1,19 @@
 use Rattle.plan_words.proofs.Words.{◌≡◌, ◌+◌, ◌≤◌, ℕ, ap, length, refl, subst, sym, true, ◌∙◌, IfNone, IfSome, Best, WritesWord, best_of_word, has_node}
 use Rattle.plan_words.proofs.Words.{no_best, SeesGoal, WritesWord-look_best, best_loaded, hand_with_best, last_look, sees}
 use Rattle.plan_words.proofs.KeptPairs.{HasPairs-kept, keeps_view}
-use Rattle.plan_words.proofs.Owning.{may_best_here, same_run, same_table}
+use Rattle.plan_words.proofs.Allowing.{may_best}
+use Rattle.plan_words.proofs.Owning.{in_table, same_run, same_table}
 use Rattle.plan_words.proofs.Posting.{none_posted, read_none, read_within}
 use Rattle.plan_words.proofs.shared.Shared.best.Goals as goal
 
 pub load-word-requires : goal.load-word-requires
 load-word-requires c =
     let same = same_table _ _ _ _ c.pass.view_is c.self.view_is c.requires.belongs in
-    let own = same_run _ _ _ _ c.pass.view_is c.self.view_is c.requires.belongs in
-    may_best_here _ _ _ _ c.self.invariant _ _ _ _ same own c.best.ensures
+    let own = same_run _ _ _ _ c.pass.view_is c.self.view_is c.requires.belongs in (
+      same,
+      in_table _ _ _ _ c.self.invariant Best _ tt c.best.ensures,
+      may_best _ _ _ _ c.self.invariant _ _ _ _ c.best.ensures own,
+    )
 
 pub invariant_of-pass : goal.invariant_of-pass
 invariant_of-pass c =

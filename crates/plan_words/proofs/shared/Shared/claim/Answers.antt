@@ -1,5 +1,5 @@
 use Rattle.plan_words.proofs.Words.{◌≢◌, ◌<◌, inl, inr, refl, ap, sym, subst, ◌∙◌, arith, le_trans, length, AllFull, IsClaimed, IsLeastOpen, IsOpen, KeepsHand}
-use Rattle.plan_words.proofs.Words.{RaisesCounter, SeesAsBefore, run_in, worker_of, mark_of, IsLater-refl, IsLater-trans}
+use Rattle.plan_words.proofs.Words.{RaisesCounter, worker_of, mark_of, IsLater-refl, IsLater-trans}
 use Rattle.plan_words.proofs.Claiming.{IfNone-any, IsClaimed-exchanged, KeepsHand-trans, counters_changed, counters_twice}
 use Rattle.plan_words.proofs.Claiming.{claim_nearer, kept_exchanged, loaded_before, loaded_since, view_alone-more}
 use Rattle.plan_words.proofs.GoingOn.{BelongsTo-later, GoesOn-more, GoesOn-trans}
@@ -35,12 +35,20 @@ returns-in_err-next-clause-none c =
     (KeepsHand-trans _ _ _ c.tries.invariant.kept c.first_open.ensures.kept, c.in_err-next.ensures.first) in
     IfNone-any c.from_residual.result _ both
 
-pub exchange-requires-clause-part : goal.exchange-requires-clause-part
-exchange-requires-clause-part c =
-    subst (λ crew. 0 < length crew) (sym (c.first_open.ensures.kept.crew ∙ c.tries.invariant.kept.crew)) c.requires.part
-
-pub exchange-requires-clause-idle : goal.exchange-requires-clause-idle
-exchange-requires-clause-idle c = c.first_open.ensures.kept.hand ∙ c.tries.invariant.kept.hand ∙ c.requires.idle
+pub exchange-requires : goal.exchange-requires
+exchange-requires c =
+    let kept = c.tries.invariant.kept in
+    let scan = c.first_open.ensures in
+    let next = c.in_ok-next.next in
+    let first = c.in_ok-next.ensures.first in
+    record {
+      belongs = scan.belongs;
+      part = subst (λ crew. 0 < length crew) (sym (scan.kept.crew ∙ kept.crew)) c.requires.part;
+      idle = scan.kept.hand ∙ kept.hand ∙ c.requires.idle;
+      strip = subst (λ r. next.strip < r.strips) scan.belongs.run first.strip;
+      low = subst (λ r. mark_of r next.strip next.round < c.args.limit) scan.belongs.run first.low;
+      limit = c.requires.limit;
+    }
 
 pub returns-then-exchange-from-clause-goes_on : goal.returns-then-exchange-from-clause-goes_on
 returns-then-exchange-from-clause-goes_on c =
@@ -94,19 +102,9 @@ tries-preserved c =
           absurd (other (c.exchange.ensures.whole share ∙ sym c.in_ok-next.ensures.first.round));
     }
 
-pub returns-in_err-next-clause-others : goal.returns-in_err-next-clause-others
-returns-in_err-next-clause-others c = counters_twice _ _ _ c.tries.invariant.others c.first_open.ensures.others
-
 pub returns-then-exchange-from-clause-others : goal.returns-then-exchange-from-clause-others
 returns-then-exchange-from-clause-others c =
     counters_changed _ _ _ _ _ (counters_twice _ _ _ c.tries.invariant.others c.first_open.ensures.others) c.exchange.ensures.seen
-
-pub returns-in_err-next-clause-whole_none : goal.returns-in_err-next-clause-whole_none
-returns-in_err-next-clause-whole_none c all =
-    let as_before : SeesAsBefore c.args.pass.now.view c.first_open.new.pass.view =
-    whole_twice c.args.pass.now.view c.tries.pass.view c.first_open.new.pass.view c.tries.invariant.kept c.tries.invariant.later.run
-    c.tries.invariant.whole c.first_open.ensures.whole all in
-    IfNone-any c.from_residual.result _ as_before
 
 pub returns-then-exchange-from-clause-whole_some : goal.returns-then-exchange-from-clause-whole_some
 returns-then-exchange-from-clause-whole_some c all =
@@ -133,41 +131,6 @@ returns-then-exchange-from-clause-least c all own =
     (IsLeastOpen-first _ _ c.args.limit next.strip next.round c.args.pass.now.view c.first_open.new.pass (ap (λ s. s.task.scene.strips) c.self.view_is)
     c.first_open.ensures.belongs (c.first_open.ensures.goes_on.later.run ∙ kept.later.run) as_before open_next own)
 
-pub returns-in_err-next-clause-view_alone : goal.returns-in_err-next-clause-view_alone
-returns-in_err-next-clause-view_alone c =
-    view_alone-more c.args.pass.now c.tries.pass c.first_open.new.pass _ c.tries.invariant.alone c.first_open.ensures.view_alone
-
-pub returns-then-exchange-from-clause-view_alone : goal.returns-then-exchange-from-clause-view_alone
-returns-then-exchange-from-clause-view_alone c =
-    view_alone-more c.args.pass.now c.first_open.new.pass c.exchange.new.pass _
-    (view_alone-more c.args.pass.now c.tries.pass c.first_open.new.pass _ c.tries.invariant.alone c.first_open.ensures.view_alone)
-    c.exchange.ensures.view
-
-pub returns-in_err-next-clause-belongs : goal.returns-in_err-next-clause-belongs
-returns-in_err-next-clause-belongs c = c.first_open.ensures.belongs
-
-pub exchange-requires-clause-belongs : goal.exchange-requires-clause-belongs
-exchange-requires-clause-belongs c = c.first_open.ensures.belongs
-
-pub exchange-requires-clause-strip : goal.exchange-requires-clause-strip
-exchange-requires-clause-strip c = subst (λ r. c.in_ok-next.next.strip < r.strips) c.first_open.ensures.belongs.run c.in_ok-next.ensures.first.strip
-
-pub exchange-requires-clause-low : goal.exchange-requires-clause-low
-exchange-requires-clause-low c =
-    let next = c.in_ok-next.next in
-    subst (λ r. mark_of r next.strip next.round < c.args.limit) c.first_open.ensures.belongs.run c.in_ok-next.ensures.first.low
-
 pub returns-then-exchange-from-clause-belongs : goal.returns-then-exchange-from-clause-belongs
 returns-then-exchange-from-clause-belongs c =
     BelongsTo-later _ _ _ (ap (λ p. p.table) c.exchange.ensures.view) c.exchange.ensures.goes_on c.first_open.ensures.belongs
-
-pub mark_of-requires-clause-strip : goal.mark_of-requires-clause-strip
-mark_of-requires-clause-strip c =
-    subst (λ s. c.in_ok-next.next.strip < s.task.scene.strips) (sym c.self.view_is)
-    (subst (λ r. c.in_ok-next.next.strip < r.strips) c.first_open.ensures.belongs.run c.in_ok-next.ensures.first.strip)
-
-pub overflow_cast-result : goal.overflow_cast-result
-overflow_cast-result c =
-    let next = c.in_ok-next.next in
-    let low = subst (λ r. mark_of r next.strip next.round < c.args.limit) c.first_open.ensures.belongs.run c.in_ok-next.ensures.first.low in
-    omega (arith, c.mark_of.ensures, subst (λ s. mark_of (run_in s) next.strip next.round < c.args.limit) (sym c.self.view_is) low, c.ranges.limit)

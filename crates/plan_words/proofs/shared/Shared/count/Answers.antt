@@ -1,7 +1,8 @@
-use Rattle.plan_words.proofs.Words.{◌≡◌, Some, ap, refl, subst, sym, ◌∙◌, IfSome, counted, last_note, note_before, Linked}
+use Rattle.plan_words.proofs.Words.{Count, ◌≡◌, Some, ap, refl, subst, sym, ◌∙◌, IfSome, counted, last_note, note_before, Linked}
 use Rattle.plan_words.proofs.HandSteps.{at_hand}
 use Rattle.plan_words.proofs.KeptPairs.{keeps_hand}
-use Rattle.plan_words.proofs.Owning.{may_count_here, same_run, same_table}
+use Rattle.plan_words.proofs.Allowing.{may_count}
+use Rattle.plan_words.proofs.Owning.{in_table, same_run, same_table}
 use Rattle.plan_words.proofs.ToldHands.{none_held}
 use Rattle.plan_words.proofs.shared.Shared.count.Goals as goal
 
@@ -15,8 +16,11 @@ fetch_add-count-requires c =
     let hand = c.in-Some.hand in
     let held = sym c.pass.invariant.1.hand_is ∙ c.in-Some.is in
     let stage = at_hand (λ h. h.stage ≡ Linked) _ hand held
-    (subst (λ p. IfSome p.view.hand (λ h. h.stage ≡ Linked)) (sym c.pass.view_is) c.requires.linked) in
-    may_count_here _ _ _ _ c.self.invariant _ _ _ _ hand same own c.count.ensures held stage
+    (subst (λ p. IfSome p.view.hand (λ h. h.stage ≡ Linked)) (sym c.pass.view_is) c.requires.linked) in (
+      same,
+      in_table _ _ _ _ c.self.invariant Count _ tt c.count.ensures,
+      may_count _ _ _ _ c.self.invariant _ _ _ _ hand c.count.ensures own held stage,
+    )
 
 pub invariant_of-pass : goal.invariant_of-pass
 invariant_of-pass c =

@@ -1,9 +1,6 @@
-use Rattle.plan_words.proofs.Words.{◌∙◌, ◌<◌, ap, length, subst, sym, arith, turns_of, record_at, IsPassOf, sees}
+use Rattle.plan_words.proofs.Words.{◌∙◌, ◌<◌, ap, length, subst, sym, turns_of, record_at, IsPassOf, sees}
 use Rattle.plan_words.proofs.Dealing.{sees-started}
 use Rattle.plan_words.proofs.shared.Shared.deal.Goals as goal
-
-pub open-requires : goal.open-requires
-open-requires c = c.requires.turns 0 (omega (arith, c.args.opening.some))
 
 pub hand_out-requires-clause-turns : goal.hand_out-requires-clause-turns
 hand_out-requires-clause-turns c w low =

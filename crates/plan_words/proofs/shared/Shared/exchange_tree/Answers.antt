@@ -1,4 +1,4 @@
-use Rattle.plan_words.proofs.Words.{◌≡◌, ◌<◌, ◌≤◌, ◌+◌, ap, arith, length, refl, subst, sym, ◌∙◌, ◌==◌, cond, is_some, FindsLess, HasWholeShare, HasLooked}
+use Rattle.plan_words.proofs.Words.{◌≡◌, ◌<◌, ◌≤◌, ap, arith, length, refl, subst, sym, ◌∙◌, ◌==◌, cond, is_some, FindsLess, HasWholeShare, HasLooked}
 use Rattle.plan_words.proofs.Words.{last_note, loaded, lowered, MayLower, sees, share, WritesWord, TreeOf}
 use Rattle.plan_words.proofs.KeptPairs.{HasPairs-wrote, fits_word, keeps_parent}
 use Rattle.plan_words.proofs.Owning.{SitsAt-pass, goes_on_told, with_view_told}
@@ -40,15 +40,11 @@ lower_at-found-requires-clause-may c = may_inside (goal.at.lower_at-found-requir
 pub lower_at-found-requires-clause-seen : goal.lower_at-found-requires-clause-seen
 lower_at-found-requires-clause-seen c = seen_inside (goal.at.lower_at-found-requires-clause-seen c).After-word-seen
 
-pub pack_tree-requires-clause-parent : goal.pack_tree-requires-clause-parent
-pack_tree-requires-clause-parent c =
-    let may = may_inside (goal.at.pack_tree-requires-clause-parent c).After-word-seen in
-    omega (arith, (fits_word c.pass.inside.seat.me.0 may.at c.args.parent c.args.cost c.pass.invariant.1.lawful may.below).0)
-
-pub pack_tree-requires-clause-cost : goal.pack_tree-requires-clause-cost
-pack_tree-requires-clause-cost c =
-    let may = may_inside (goal.at.pack_tree-requires-clause-cost c).After-word-seen in
-    omega (arith, (fits_word c.pass.inside.seat.me.0 may.at c.args.parent c.args.cost c.pass.invariant.1.lawful may.below).1)
+pub pack_tree-requires : goal.pack_tree-requires
+pack_tree-requires c =
+    let may = may_inside (goal.at.pack_tree-requires c).After-word-seen in
+    let fits = fits_word c.pass.inside.seat.me.0 may.at c.args.parent c.args.cost c.pass.invariant.1.lawful may.below in
+    record { parent = omega (arith, fits.0); cost = omega (arith, fits.1) }
 
 pub set-requires-clause-node : goal.set-requires-clause-node
 set-requires-clause-node c =
@@ -96,9 +92,6 @@ returns-clause-view c =
 
 pub returns-clause-goes_on : goal.returns-clause-goes_on
 returns-clause-goes_on c = goes_on_told _ _ _ _ c.pass.view_is refl c.lower_at-found.ensures.looks.goes_on
-
-pub returns-clause-looked : goal.returns-clause-looked
-returns-clause-looked c = c.lower_at-found.ensures.looked ∙ ap (λ p. p.view.steps + 1) c.pass.view_is
 
 pub returns-clause-shown : goal.returns-clause-shown
 returns-clause-shown c = subst (λ p. HasLooked p.view c.lower_at-found.new.seat.me.0) c.pass.view_is c.lower_at-found.ensures.looks.looked

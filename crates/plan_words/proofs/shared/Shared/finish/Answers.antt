@@ -3,7 +3,8 @@ use Rattle.plan_words.proofs.Words.{MayBeRecorded, RecordOf, place_of, record_wo
 use Rattle.plan_words.proofs.KeptPairs.{HasPairs-finished, keeps_view, turned-first}
 use Rattle.plan_words.proofs.HandSteps.{at_hand}
 use Rattle.plan_words.proofs.LookedNodes.{place_here}
-use Rattle.plan_words.proofs.Owning.{goes_on_told, may_finish_here, same_run, same_table}
+use Rattle.plan_words.proofs.Allowing.{may_finish}
+use Rattle.plan_words.proofs.Owning.{goes_on_told, in_table, same_run, same_table}
 use Rattle.plan_words.proofs.Tying.{HasMember-held, MayClaim-finished, entry_fits, turn_fits}
 use Rattle.plan_words.proofs.ToldHands.{none_held, with_view_told_hand}
 use Rattle.plan_words.proofs.shared.Shared.finish.Goals as goal
@@ -47,9 +48,12 @@ store-requires c =
     let place = c.record-place.ensures ∙ ap (λ sizes. place_of sizes (RecordOf c.in-Some.hand.mark)) c.self.invariant.places_are in
     let low = subst (λ r. c.in-Some.hand.mark < length r.marks) own (tied.lawful.mark c.in-Some.hand held) in
     let stage = subst (λ o. IfSome o (λ hand. MayBeRecorded hand.stage c.args.entry.outcome))
-    (ap (λ p. p.view.hand) (sym c.pass.view_is) ∙ held) c.requires.stage in
-    may_finish_here _ _ _ _ c.self.invariant _ _ _ _ _ c.in-Some.hand has.member has.crew c.args.entry same own place low held has.crew_is fits
-    (by ∙ ap worker_of has.crew_is) (at ∙ ap turn_of has.crew_is) stage may c.pack_mark-word.ensures
+    (ap (λ p. p.view.hand) (sym c.pass.view_is) ∙ held) c.requires.stage in (
+      same,
+      in_table _ _ _ _ c.self.invariant (RecordOf c.in-Some.hand.mark) _ low place,
+      may_finish _ _ _ _ c.self.invariant _ _ _ _ _ c.in-Some.hand has.member has.crew c.args.entry place own held has.crew_is fits
+          (by ∙ ap worker_of has.crew_is) (at ∙ ap turn_of has.crew_is) stage may c.pack_mark-word.ensures,
+    )
 
 pub next_turn-pass-inside-requires : goal.next_turn-pass-inside-requires
 next_turn-pass-inside-requires c =

@@ -26,9 +26,6 @@ loop-strip-init c = record {
   scanned = λ h low. absurd (omega (arith, low));
 }
 
-pub taken-round-requires-clause-belongs : goal.taken-round-requires-clause-belongs
-taken-round-requires-clause-belongs c = c.loop-strip.invariant.belongs
-
 pub better-best-requires-clause-best : goal.better-best-requires-clause-best
 better-best-requires-clause-best c = best_strip _ _ _ _ _ _ c.loop-strip.best c.loop-strip.invariant.scanned c.loop-strip-test.true
 
@@ -58,12 +55,6 @@ loop-strip-preserved c =
       scanned = scan_more _ _ _ _ _ _ _ _ _ c.loop-strip.best kept.belongs strips own told.view told.seen kept.scanned c.better-best.ensures;
     }
 
-pub returns-clause-belongs : goal.returns-clause-belongs
-returns-clause-belongs c = c.loop-strip.invariant.belongs
-
-pub returns-clause-kept : goal.returns-clause-kept
-returns-clause-kept c = c.loop-strip.invariant.kept
-
 pub returns-clause-goes_on : goal.returns-clause-goes_on
 returns-clause-goes_on c =
     elim c.loop-strip.invariant.goes_on [
@@ -84,12 +75,3 @@ returns-clause-first c =
       c.loop-strip.auto.strip-end,
       c.loop-strip-test.false,
     )) c.loop-strip.invariant.scanned
-
-pub returns-clause-others : goal.returns-clause-others
-returns-clause-others c = c.loop-strip.invariant.others
-
-pub returns-clause-whole : goal.returns-clause-whole
-returns-clause-whole c = c.loop-strip.invariant.whole
-
-pub returns-clause-view_alone : goal.returns-clause-view_alone
-returns-clause-view_alone c = c.loop-strip.invariant.alone

@@ -1,6 +1,7 @@
 use Rattle.plan_words.proofs.Words.{◌+◌, None, Some, ap, subst, sym, ◌∙◌, HasPairs, IsTied, second_alone, sees, TreeOf}
 use Rattle.plan_words.proofs.KeptPairs.{HasPairs-kept}
-use Rattle.plan_words.proofs.Owning.{may_hand_on_here, same_run, same_table}
+use Rattle.plan_words.proofs.Allowing.{may_hand_on}
+use Rattle.plan_words.proofs.Owning.{same_run, same_table, some_word}
 use Rattle.plan_words.proofs.Tying.{HasRoom-kept, HasRoom-new, IsTied-apart, IsTied-parted}
 use Rattle.plan_words.proofs.shared.Shared.hand_on.Goals as goal
 
@@ -8,7 +9,7 @@ pub split_seat-seat-requires : goal.split_seat-seat-requires
 split_seat-seat-requires c =
     let same = same_table _ _ _ _ c.pass.view_is c.self.view_is c.requires.belongs in
     let own = same_run _ _ _ _ c.pass.view_is c.self.view_is c.requires.belongs in
-    may_hand_on_here _ _ _ _ c.self.invariant _ _ _ same own
+    (same, some_word _ _ _ _ c.self.invariant, may_hand_on _ _ _ _ c.self.invariant _ _ own)
 
 pub invariant_of-pass : goal.invariant_of-pass
 invariant_of-pass c =

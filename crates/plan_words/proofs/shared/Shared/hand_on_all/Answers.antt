@@ -13,12 +13,6 @@ loop-worker-init c =
       passes = subst (each_after (IsPassOf c.args.self.now c.args.first.now)) (sym none) (λ i pass e. absurd (some-ne-none pass (sym e)));
     }
 
-pub bounds-turns-worker : goal.bounds-turns-worker
-bounds-turns-worker c = omega (arith, c.loop-worker-test.true, ap (λ s. s.workers) c.self.view_is, c.requires.counted)
-
-pub hand_on-requires-clause-belongs : goal.hand_on-requires-clause-belongs
-hand_on-requires-clause-belongs c = c.loop-worker.invariant.stands.belongs
-
 pub hand_on-requires-clause-second : goal.hand_on-requires-clause-second
 hand_on-requires-clause-second c =
     let low : c.loop-worker.worker < c.args.self.now.workers = omega (arith, c.loop-worker-test.true, ap (λ s. s.workers) c.self.view_is) in
@@ -57,6 +51,3 @@ returns-clause-count c =
       c.loop-worker.auto.worker-end,
       c.self.invariant.run_is.workers.0,
     )
-
-pub returns-clause-passes : goal.returns-clause-passes
-returns-clause-passes c = c.loop-worker.invariant.passes

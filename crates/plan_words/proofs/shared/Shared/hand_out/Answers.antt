@@ -1,13 +1,10 @@
-use Rattle.plan_words.proofs.Words.{length, ap, arith, IsPassOf}
+use Rattle.plan_words.proofs.Words.{IsPassOf}
 use Rattle.plan_words.proofs.Dealing.{StandsFor-all, each-head}
 use Rattle.plan_words.proofs.shared.Shared.hand_out.Goals as goal
 
 pub hand_on_all-requires-clause-stands : goal.hand_on_all-requires-clause-stands
 hand_on_all-requires-clause-stands c =
     StandsFor-all c.args.self.now c.args.first c.requires.belongs c.requires.crew c.requires.hand c.requires.lists
-
-pub returns-clause-count : goal.returns-clause-count
-returns-clause-count c = omega (arith, ap (λ l. length l) c.in_ok-insert.ensures.items, c.in_ok-passes.ensures.count)
 
 pub returns-clause-passes : goal.returns-clause-passes
 returns-clause-passes c =

@@ -66,9 +66,6 @@ returns-then-child-ne0-clause-others_found c =
 pub returns-then-child-ne0-clause-whole : goal.returns-then-child-ne0-clause-whole
 returns-then-child-ne0-clause-whole c all none = absurd (c.if-child-ne0.true (c.put-child.ensures.whole all ∙ none))
 
-pub returns-then-child-ne0-clause-whole_found : goal.returns-then-child-ne0-clause-whole_found
-returns-then-child-ne0-clause-whole_found c all = c.put-child.ensures.whole all
-
 -- ---- the node was linked
 
 linked_is : (c : After-count) → c.put-child.result ≡ 0 → (hand : Hand) → c.args.pass.now.view.hand ≡ Some hand

@@ -1,13 +1,10 @@
-use Rattle.plan_words.proofs.Words.{◌≤◌, ap, length, refl, subst, sym, ◌∙◌, is_some, true≢false, LooksAndPosts, PassState, SharedState, HasLooked-trans}
+use Rattle.plan_words.proofs.Words.{◌≤◌, ap, length, refl, subst, ◌∙◌, is_some, PassState, HasLooked-trans}
 use Rattle.plan_words.proofs.Words.{last_note, lowered, IsPresent-later, Words, TreeOf, best_word, cost_in, cost_in-tree_word}
 use Rattle.plan_words.proofs.GoingOn.{BelongsTo-later, GoesOn-trans}
 use Rattle.plan_words.proofs.KeptPairs.{fits_word}
 use Rattle.plan_words.proofs.Posting.{OnlyPosts-after, goal-before, goal-later, lowered_here}
 use Rattle.plan_words.proofs.shared.Shared.lower.Goals as goal
 use Rattle.plan_words.proofs.shared.Shared.lower.Goals.{After-lower_pair}
-
-pub returns-in_err-lower_pair-clause-whole : goal.returns-in_err-lower_pair-clause-whole
-returns-in_err-lower_pair-clause-whole c all = let no = c.in_err-lower_pair.ensures.whole all in cc
 
 pub post_lowered-requires-clause-belongs : goal.post_lowered-requires-clause-belongs
 post_lowered-requires-clause-belongs c =
@@ -18,17 +15,6 @@ pub post_lowered-requires-clause-present : goal.post_lowered-requires-clause-pre
 post_lowered-requires-clause-present c =
     let later = c.in_ok-lower_pair.ensures.goes_on.later in
     IsPresent-later c.args.pass.now.view c.lower_pair.new.pass.view later.run later.seen c.args.node (ap is_some c.requires.may.seen.stands)
-
-pub returns-then-self-clause-posts : goal.returns-then-self-clause-posts
-returns-then-self-clause-posts c _ = (
-  last_note c.lower_pair.new.pass.view,
-  subst (λ v. LooksAndPosts c.args.node v c.post_lowered.new.pass.view) (ap (λ (p : PassState). p.view) c.in_ok-lower_pair.ensures.view)
-      c.post_lowered.ensures.posts,
-)
-
-pub returns-else-self-clause-posts : goal.returns-else-self-clause-posts
-returns-else-self-clause-posts c informed =
-    absurd (true≢false (sym informed ∙ sym (ap (λ (s : SharedState). s.task.scene.informed) c.self.view_is) ∙ c.if-self.false))
 
 pub returns-then-self-clause-kept : goal.returns-then-self-clause-kept
 returns-then-self-clause-kept c =

@@ -2,7 +2,8 @@ use Rattle.plan_words.proofs.Words.{◌≡◌, ◌≤◌, List, ◌∷◌, ap, a
 use Rattle.plan_words.proofs.Words.{sees, Note, WritesWord, TreeOf, place_of}
 use Rattle.plan_words.proofs.KeptPairs.{fits_word, lower_view}
 use Rattle.plan_words.proofs.LookedNodes.{place_here, seen_low}
-use Rattle.plan_words.proofs.Owning.{may_lower_here}
+use Rattle.plan_words.proofs.Allowing.{may_lower}
+use Rattle.plan_words.proofs.Owning.{in_table}
 use Rattle.plan_words.proofs.SeatSteps.{LooksOn-told, SitsAt-told, exchanged_noted, looked_told, with_notes, writes_told}
 use Rattle.plan_words.proofs.shared.Shared.lower_at.Goals as goal
 use Rattle.plan_words.proofs.shared.Shared.lower_at.Goals.{After-compare_exchange}
@@ -14,15 +15,11 @@ tree-place-requires c =
     let node = lawful.tree.rooted.points c.args.node (ap is_some c.requires.may.seen.stands) in
     subst (λ s. c.args.node ≤ s.marks) (sym c.self.invariant.places_are) (seen_low _ _ c.args.node lawful own node)
 
-pub pack_tree-requires-clause-parent : goal.pack_tree-requires-clause-parent
-pack_tree-requires-clause-parent c =
+pub pack_tree-requires : goal.pack_tree-requires
+pack_tree-requires c =
     let may = c.requires.may in
-    omega (arith, (fits_word c.args.seat.now.me.0 may.at c.args.parent c.args.cost c.requires.sits.lawful may.below).0)
-
-pub pack_tree-requires-clause-cost : goal.pack_tree-requires-clause-cost
-pack_tree-requires-clause-cost c =
-    let may = c.requires.may in
-    omega (arith, (fits_word c.args.seat.now.me.0 may.at c.args.parent c.args.cost c.requires.sits.lawful may.below).1)
+    let fits = fits_word c.args.seat.now.me.0 may.at c.args.parent c.args.cost c.requires.sits.lawful may.below in
+    record { parent = omega (arith, fits.0); cost = omega (arith, fits.1) }
 
 pub compare_exchange-requires : goal.compare_exchange-requires
 compare_exchange-requires c =
@@ -31,9 +28,12 @@ compare_exchange-requires c =
     let lawful = c.requires.sits.lawful in
     let node = lawful.tree.rooted.points c.args.node (ap is_some c.requires.may.seen.stands) in
     let low = seen_low _ _ c.args.node lawful own node in
-    let place = c.tree-place.ensures ∙ ap (λ s. place_of s (TreeOf c.args.node)) c.self.invariant.places_are in
-    may_lower_here _ _ _ _ c.self.invariant _ _ _ _ _ c.args.node c.args.parent c.args.cost _ same own low place c.requires.part c.requires.may node
-    c.requires.seen c.pack_tree.ensures
+    let place = c.tree-place.ensures ∙ ap (λ s. place_of s (TreeOf c.args.node)) c.self.invariant.places_are in (
+      same,
+      in_table _ _ _ _ c.self.invariant (TreeOf c.args.node) _ low place,
+      may_lower _ _ _ _ c.self.invariant _ _ _ _ _ c.args.node c.args.parent c.args.cost _ low place own c.requires.part
+          c.requires.may node c.requires.seen c.pack_tree.ensures,
+    )
 
 within : (c : After-compare_exchange) → c.args.node ≤ length c.args.seat.now.me.0.run.marks
 within c =
@@ -95,9 +95,3 @@ returns-clause-looked c =
     let at = (goal.at.returns-clause-looked c).After-compare_exchange in
     (looked_told c.args.seat.now.me c.compare_exchange.new.seat.me (TreeOf c.args.node) c.tree-place.result _ _ (notes at) c.requires.sits.lawful
     (within at) (here at) (told at)).here
-
-pub returns-clause-found : goal.returns-clause-found
-returns-clause-found c off = c.compare_exchange.ensures.2.fell off
-
-pub returns-clause-whole : goal.returns-clause-whole
-returns-clause-whole c all = c.compare_exchange.ensures.2.whole all

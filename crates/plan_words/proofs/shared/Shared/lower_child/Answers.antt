@@ -44,9 +44,6 @@ lower_at-found-requires-clause-may c =
     MayLower-child _ _ _ _ _ (looked at.After-point_in-point) (c.args.above.cost + c.cost.result) (cost_is at.After-cost)
     (omega (arith, c.cost.ensures.value, c.if-kept_cost-cost.false, c.pair_in-kept_cost.ensures.cost, ap cost_in c.requires.seen))
 
-pub lower_at-found-requires-clause-seen : goal.lower_at-found-requires-clause-seen
-lower_at-found-requires-clause-seen c = c.requires.seen ∙ sym (c.point_at-word.ensures.seen.others (TreeOf c.args.child) (λ e. cc))
-
 here : (c : After-lower_at-found) → c.lower_at-found.result ≡ c.args.seen
     → sees c.lower_at-found.new.seat.me.0 (TreeOf c.args.child) ≡ tree_word c.args.above.node (c.args.above.cost + c.cost.result)
 here c found =

@@ -67,9 +67,6 @@ lower_children-requires-clause-above c =
           ∙ ap cost_in (c.word.ensures ∙ pair-seen c.pass.inside.seat.me.0 c.pass.inside.pairs c.args.node (HasFirstPairs-all _ _ c.pass.invariant.3) written);
     }
 
-pub lower_children-requires-clause-held : goal.lower_children-requires-clause-held
-lower_children-requires-clause-held c = c.pass.invariant.1.hand_is
-
 pub invariant_of-pass : goal.invariant_of-pass
 invariant_of-pass c =
     let kept = c.lower_children.ensures in

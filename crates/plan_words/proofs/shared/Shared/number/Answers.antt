@@ -1,7 +1,7 @@
 use Rattle.plan_words.proofs.KeptPairs.{keeps_saw}
 use Rattle.plan_words.proofs.Words.{◌≡◌, ◌≢◌, ◌≤◌, Some, ap, arith, subst, sym, ◌∙◌, node_count, Count, HasWholeShare, own_count, tree_seen, Hand, Linked}
 use Rattle.plan_words.proofs.LookedNodes.{place_here}
-use Rattle.plan_words.proofs.Owning.{count_fits, looks_told, may_load_here, sees_told, same_run, same_table}
+use Rattle.plan_words.proofs.Owning.{count_fits, looks_told, may_load_here, same_run, same_table, sees_told}
 use Rattle.plan_words.proofs.shared.Shared.number.Goals as goal
 
 pub load-requires : goal.load-requires
@@ -9,9 +9,6 @@ load-requires c =
     let same = same_table _ _ _ _ c.pass.view_is c.self.view_is c.requires in
     let own = same_run _ _ _ _ c.pass.view_is c.self.view_is c.requires in
     may_load_here _ _ _ _ c.self.invariant _ _ _ _ Count same own tt tt c.count.ensures
-
-pub overflow_cast-result : goal.overflow_cast-result
-overflow_cast-result c = omega (arith, count_fits _ _ _ c.pass.invariant.1.lawful c.count.ensures c.load.ensures.2.told.goes_on.lawful)
 
 pub returns-clause-seen : goal.returns-clause-seen
 returns-clause-seen c =
@@ -39,3 +36,6 @@ returns-clause-whole c all done =
     let whole = subst (λ p. HasWholeShare p.view) (sym c.pass.view_is) all in
     let counted = subst (λ p. (hand : Hand) → p.view.hand ≡ Some hand → hand.stage ≢ Linked) (sym c.pass.view_is) done in
     c.load.ensures.2.whole_count whole counted place ∙ ap (λ p. node_count (tree_seen p.view).points) c.pass.view_is
+
+pub overflow_cast-result : goal.overflow_cast-result
+overflow_cast-result c = omega (arith, count_fits _ _ _ c.pass.invariant.1.lawful c.count.ensures c.load.ensures.2.told.goes_on.lawful)

@@ -1,6 +1,7 @@
 use Rattle.plan_words.proofs.Words.{◌≡◌, ◌+◌, ◌≤◌, ap, arith, subst, sym, ◌∙◌, GoesOn, run_in, WritesWord-look_best, last_look, WritesWord, Best, best_node_in}
 use Rattle.plan_words.proofs.Words.{best_word}
-use Rattle.plan_words.proofs.Owning.{may_post_here}
+use Rattle.plan_words.proofs.Allowing.{may_post}
+use Rattle.plan_words.proofs.Owning.{in_table}
 use Rattle.plan_words.proofs.Posting.{post_node, post_within, posted_low, posted_view, posted_whole}
 use Rattle.plan_words.proofs.shared.Shared.post_at.Goals as goal
 use Rattle.plan_words.proofs.shared.Shared.post_at.Goals.{After-fetch_min-found}
@@ -13,10 +14,13 @@ pack_best-requires-clause-node c =
 pub fetch_min-found-requires : goal.fetch_min-found-requires
 fetch_min-found-requires c =
     let own = c.requires.sits.run ∙ ap run_in (sym c.self.view_is) in
-    let same = c.requires.sits.table_is ∙ ap (λ s. s.table) (sym c.self.view_is) in
-    may_post_here _ _ _ _ c.self.invariant _ _ _ _ c.args.node _ same own c.best-place.ensures c.requires.may
-    (c.pack_best.ensures ∙ ap (λ cost. best_word cost c.args.node) c.requires.cost)
-    (post_node c.args.seat.now.me.0 c.args.node c.args.cost _ c.requires.sits.lawful c.requires.may c.pack_best.ensures)
+    let same = c.requires.sits.table_is ∙ ap (λ s. s.table) (sym c.self.view_is) in (
+      same,
+      in_table _ _ _ _ c.self.invariant Best _ tt c.best-place.ensures,
+      may_post _ _ _ _ c.self.invariant _ _ _ _ c.args.node _ c.best-place.ensures own c.requires.may
+          (c.pack_best.ensures ∙ ap (λ cost. best_word cost c.args.node) c.requires.cost)
+          (post_node c.args.seat.now.me.0 c.args.node c.args.cost _ c.requires.sits.lawful c.requires.may c.pack_best.ensures),
+    )
 
 node : (c : After-fetch_min-found) → best_node_in c.pack_best.result ≡ c.args.node
 node c = post_node c.args.seat.now.me.0 c.args.node c.args.cost _ c.requires.sits.lawful c.requires.may c.pack_best.ensures

@@ -1,11 +1,11 @@
-use Rattle.plan_words.proofs.Words.{◌≡◌, false, true, ap, refl, sym, ◌∙◌, lies_in_goals, PointOf, TreeOf, PassState, HasLooked, HasLooked-trans, SeesGoal}
+use Rattle.plan_words.proofs.Words.{◌≡◌, false, true, ap, refl, sym, ◌∙◌, lies_in_goals, PointOf, PassState, HasLooked, SeesGoal}
 use Rattle.plan_words.proofs.Words.{loaded, sees, SharedRun}
 use Rattle.plan_words.proofs.GoingOn.{GoesOn-trans}
 use Rattle.plan_words.proofs.Posting.{LooksAndPosts-looked, LooksAndPosts-posted, OnlyPosts-after, OnlyPosts-posted, goal-again, goal-at, lies-at}
 use Rattle.plan_words.proofs.Posting.{sees-point_again}
 use Rattle.plan_words.proofs.shared.Shared.post_lowered.Goals as goal
 use Rattle.plan_words.proofs.shared.Shared.post_lowered.Goals.{After-has_goal_at}
-use Rattle.plan_words.proofs.SeatSteps.{HasLooked-loaded, HasLooked-posted}
+use Rattle.plan_words.proofs.SeatSteps.{HasLooked-loaded}
 
 -- nothing is seen anew by the look at the point
 same_words : (c : After-has_goal_at) → sees c.point-point.new.pass.view ≡ sees c.args.pass.now.view
@@ -72,26 +72,8 @@ pub returns-else-has_goal_at-clause-posted : goal.returns-else-has_goal_at-claus
 returns-else-has_goal_at-clause-posted c here =
     absurd (no_goal (goal.at.returns-else-has_goal_at-clause-posted c).After-has_goal_at c.if-has_goal_at.false here)
 
-pub returns-then-has_goal_at-clause-looked : goal.returns-then-has_goal_at-clause-looked
-returns-then-has_goal_at-clause-looked c n =
-    c.post.ensures.looked.others (TreeOf n) (λ e. cc) ∙ c.point-point.ensures.looked.others (TreeOf n) (λ e. cc)
-
-pub returns-else-has_goal_at-clause-looked : goal.returns-else-has_goal_at-clause-looked
-returns-else-has_goal_at-clause-looked c n = c.point-point.ensures.looked.others (TreeOf n) (λ e. cc)
-
 -- what the look at the point shows
 shown_there : (c : After-has_goal_at) → HasLooked c.args.pass.now.view c.point-point.new.pass.view
 shown_there c =
     HasLooked-loaded c.args.pass.now.view c.point-point.new.pass.view (PointOf c.args.node) _ c.point-point.ensures.seen c.point-point.ensures.looked
     (ap (λ (p : PassState). p.view.best) c.point-point.ensures.view)
-
-pub returns-then-has_goal_at-clause-shown : goal.returns-then-has_goal_at-clause-shown
-returns-then-has_goal_at-clause-shown c =
-    let mid = c.point-point.new.pass.view in
-    let after = c.post.new.pass.view in
-    HasLooked-trans c.args.pass.now.view mid after c.point-point.ensures.goes_on.later c.post.ensures.goes_on.later
-    (shown_there (goal.at.returns-then-has_goal_at-clause-shown c).After-has_goal_at)
-    (HasLooked-posted mid after c.args.node (ap (λ (p : PassState). p.view) c.post.ensures.view) c.post.ensures.looked)
-
-pub returns-else-has_goal_at-clause-shown : goal.returns-else-has_goal_at-clause-shown
-returns-else-has_goal_at-clause-shown c = shown_there (goal.at.returns-else-has_goal_at-clause-shown c).After-has_goal_at

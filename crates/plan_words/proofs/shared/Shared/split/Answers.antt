@@ -1,7 +1,8 @@
 use Rattle.plan_words.proofs.Words.{◌+◌, None, ap, subst, sym, ◌∙◌, HasPairs, IsTied, sees, TreeOf}
 use Rattle.plan_words.proofs.GoingOn.{BelongsTo-later}
 use Rattle.plan_words.proofs.KeptPairs.{HasPairs-kept}
-use Rattle.plan_words.proofs.Owning.{goes_on_told, may_look_here, same_run, same_table}
+use Rattle.plan_words.proofs.Allowing.{may_look}
+use Rattle.plan_words.proofs.Owning.{goes_on_told, same_run, same_table, some_word}
 use Rattle.plan_words.proofs.Tying.{GoesOn-stepped, HasRoom-kept, HasRoom-new, IsTied-looker, IsTied-stepped}
 use Rattle.plan_words.proofs.shared.Shared.split.Goals as goal
 
@@ -9,7 +10,7 @@ pub split_seat-seat-requires : goal.split_seat-seat-requires
 split_seat-seat-requires c =
     let same = same_table _ _ _ _ c.pass.view_is c.self.view_is c.requires in
     let own = same_run _ _ _ _ c.pass.view_is c.self.view_is c.requires in
-    may_look_here _ _ _ _ c.self.invariant _ _ _ same own
+    (same, some_word _ _ _ _ c.self.invariant, may_look _ _ _ _ c.self.invariant _ _ own)
 
 pub invariant_of-result : goal.invariant_of-result
 invariant_of-result c =

@@ -2,7 +2,8 @@ use Rattle.plan_words.proofs.Words.{◌≡◌, ◌<◌, ◌+◌, suc, ap, arith,
 use Rattle.plan_words.proofs.Words.{sizes_in, FirstOf, place_of, cost_in, parent_in, half, MayHang, Pointed}
 use Rattle.plan_words.proofs.HandSteps.{at_hand}
 use Rattle.plan_words.proofs.KeptPairs.{fits_word, if_hand, keeps_hand}
-use Rattle.plan_words.proofs.Owning.{goes_on_told, may_first_here, same_run, same_table, with_view_told}
+use Rattle.plan_words.proofs.Allowing.{may_first}
+use Rattle.plan_words.proofs.Owning.{goes_on_told, in_table, same_run, same_table, with_view_told}
 use Rattle.plan_words.proofs.ToldHands.{none_held}
 use Rattle.plan_words.proofs.shared.Shared.store_first.Goals as goal
 
@@ -14,21 +15,13 @@ overflow_cast-hand c =
     let lawful = c.pass.invariant.1.lawful in
     omega (arith, lawful.mark c.in-Some.hand (sym c.pass.invariant.1.hand_is ∙ c.in-Some.is), lawful.run.marks)
 
-pub pack_tree-requires-clause-parent : goal.pack_tree-requires-clause-parent
-pack_tree-requires-clause-parent c =
+pub pack_tree-requires : goal.pack_tree-requires
+pack_tree-requires c =
     let view = c.pass.inside.seat.me.0 in
-    let held = sym c.pass.invariant.1.hand_is ∙ c.in-Some.is in
-    let may = at_hand (λ h. MayHang view h c.args.parent c.args.cost) _ c.in-Some.hand held
+    let may = at_hand (λ h. MayHang view h c.args.parent c.args.cost) _ c.in-Some.hand (sym c.pass.invariant.1.hand_is ∙ c.in-Some.is)
     (subst (λ p. IfSome p.view.hand (λ h. MayHang p.view h c.args.parent c.args.cost)) (sym c.pass.view_is) c.requires.may) in
-    omega (arith, (fits_word view c.in-Some.hand.point c.args.parent c.args.cost c.pass.invariant.1.lawful may.below).0)
-
-pub pack_tree-requires-clause-cost : goal.pack_tree-requires-clause-cost
-pack_tree-requires-clause-cost c =
-    let view = c.pass.inside.seat.me.0 in
-    let held = sym c.pass.invariant.1.hand_is ∙ c.in-Some.is in
-    let may = at_hand (λ h. MayHang view h c.args.parent c.args.cost) _ c.in-Some.hand held
-    (subst (λ p. IfSome p.view.hand (λ h. MayHang p.view h c.args.parent c.args.cost)) (sym c.pass.view_is) c.requires.may) in
-    omega (arith, (fits_word view c.in-Some.hand.point c.args.parent c.args.cost c.pass.invariant.1.lawful may.below).1)
+    let fits = fits_word view c.in-Some.hand.point c.args.parent c.args.cost c.pass.invariant.1.lawful may.below in
+    record { parent = omega (arith, fits.0); cost = omega (arith, fits.1) }
 
 pub store-requires : goal.store-requires
 store-requires c =
@@ -46,10 +39,13 @@ store-requires c =
     let next : hand.mark + 1 ≡ suc hand.mark = omega arith in
     let place = c.first-place.ensures ∙ ap (λ n. place_of (sizes_in c.self.inside.places) (FirstOf n)) next
     ∙ ap (λ s. place_of s (FirstOf (suc hand.mark))) c.self.invariant.places_are in
-    let low = subst (λ r. hand.mark < length r.marks) own (tied.lawful.mark hand held) in
-    may_first_here _ _ _ _ c.self.invariant _ _ _ _ _ hand c.args.parent c.args.cost same own place low held stage may c.pack_tree.ensures
-    (sym (ap parent_in c.pack_tree.ensures ∙ parent_in-tree_word c.args.parent c.args.cost fits.0))
-    (sym (ap cost_in c.pack_tree.ensures ∙ cost_in-tree_word c.args.parent c.args.cost fits.0 fits.1))
+    let low = subst (λ r. hand.mark < length r.marks) own (tied.lawful.mark hand held) in (
+      same,
+      in_table _ _ _ _ c.self.invariant (FirstOf (suc hand.mark)) _ (omega (arith, low)) place,
+      may_first _ _ _ _ c.self.invariant _ _ _ _ _ hand c.args.parent c.args.cost place own held stage may c.pack_tree.ensures
+          (sym (ap parent_in c.pack_tree.ensures ∙ parent_in-tree_word c.args.parent c.args.cost fits.0))
+          (sym (ap cost_in c.pack_tree.ensures ∙ cost_in-tree_word c.args.parent c.args.cost fits.0 fits.1)),
+    )
 
 -- the step tells of the parent and the cost that were packed
 told_half : (c : goal.After-pass-2-1) → Tells c.pass.inside.seat.me (half c.pass.inside.seat.me.0 c.in-Some.hand c.args.parent c.args.cost) c.store.new.seat.me

@@ -2,7 +2,8 @@ use Rattle.plan_words.proofs.Words.{◌≡◌, ◌<◌, ◌+◌, suc, ap, arith,
 use Rattle.plan_words.proofs.Words.{IsSteered, sizes_in, PointOf, place_of, point_word, Claimed}
 use Rattle.plan_words.proofs.HandSteps.{at_hand}
 use Rattle.plan_words.proofs.KeptPairs.{keeps_hand}
-use Rattle.plan_words.proofs.Owning.{goes_on_told, may_point_here, same_run, same_table}
+use Rattle.plan_words.proofs.Allowing.{may_point}
+use Rattle.plan_words.proofs.Owning.{goes_on_told, in_table, same_run, same_table}
 use Rattle.plan_words.proofs.ToldHands.{none_held}
 use Rattle.plan_words.proofs.shared.Shared.store_point.Goals as goal
 
@@ -42,9 +43,12 @@ store-requires g c =
     let next : hand.mark + 1 ≡ suc hand.mark = omega arith in
     let place = c.point-place.ensures ∙ ap (λ n. place_of (sizes_in c.self.inside.places) (PointOf n)) next
     ∙ ap (λ s. place_of s (PointOf (suc hand.mark))) c.self.invariant.places_are in
-    let low = subst (λ r. hand.mark < length r.marks) own (tied.lawful.mark hand held) in
-    may_point_here _ _ _ _ c.self.invariant _ _ _ _ _ hand g.S.SteeredFrom.nearest g.S.SteeredFrom.point same own place low held claimed told
-    unskipped (c.pack_point.ensures ∙ ap point_word (sym c.requires.told_point))
+    let low = subst (λ r. hand.mark < length r.marks) own (tied.lawful.mark hand held) in (
+      same,
+      in_table _ _ _ _ c.self.invariant (PointOf (suc hand.mark)) _ (omega (arith, low)) place,
+      may_point _ _ _ _ c.self.invariant _ _ _ _ _ hand g.S.SteeredFrom.nearest g.S.SteeredFrom.point place own held claimed told
+          unskipped (c.pack_point.ensures ∙ ap point_word (sym c.requires.told_point)),
+    )
 
 pub invariant_of-pass : goal.invariant_of-pass
 invariant_of-pass g c =

@@ -1,6 +1,7 @@
 use Rattle.plan_words.proofs.Words.{◌≡◌, ap, refl, subst, sym, ◌∙◌, Me, Tells, Aim, loaded, saw_at, sees, Count, View}
 use Rattle.plan_words.proofs.Joining.{AreBehind-taken_over, GoesOn-taken_over}
-use Rattle.plan_words.proofs.Owning.{may_load_here, may_take_over_here, same_run, same_table, sees-loaded}
+use Rattle.plan_words.proofs.Allowing.{may_take_over}
+use Rattle.plan_words.proofs.Owning.{may_load_here, same_run, same_table, sees-loaded, some_word}
 use Rattle.plan_words.proofs.shared.Shared.take_over.Goals as goal
 
 pub join_seat-requires : goal.join_seat-requires
@@ -8,8 +9,13 @@ join_seat-requires c =
     let same = same_table _ _ _ _ refl c.self.view_is c.requires.belongs in
     let own = same_run _ _ _ _ refl c.self.view_is c.requires.belongs in
     let same_too = same_table _ _ _ _ refl c.self.view_is c.requires.belongs_too in
-    let own_too = same_run _ _ _ _ refl c.self.view_is c.requires.belongs_too in
-    may_take_over_here _ _ _ _ c.self.invariant _ _ _ _ _ _ same same_too c.requires.empty own own_too c.requires.idle c.requires.idle_too
+    let own_too = same_run _ _ _ _ refl c.self.view_is c.requires.belongs_too in (
+      same,
+      same_too,
+      c.requires.empty,
+      some_word _ _ _ _ c.self.invariant,
+      may_take_over _ _ _ _ c.self.invariant _ _ _ _ own own_too c.requires.idle c.requires.idle_too,
+    )
 
 pub load-count-requires : goal.load-count-requires
 load-count-requires c =

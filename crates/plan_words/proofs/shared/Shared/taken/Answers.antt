@@ -1,6 +1,6 @@
 use Rattle.plan_words.proofs.KeptPairs.{keeps_saw}
 use Rattle.plan_words.proofs.Words.{◌<◌, ap, arith, subst, sym, Counter}
-use Rattle.plan_words.proofs.Owning.{counter_most, found_whole, looks_told, may_load_here, sees_told, same_run, same_table}
+use Rattle.plan_words.proofs.Owning.{counter_most, found_whole, looks_told, may_load_here, same_run, same_table, sees_told}
 use Rattle.plan_words.proofs.shared.Shared.taken.Goals as goal
 
 pub load-requires : goal.load-requires

@@ -1,4 +1,4 @@
-use Rattle.plan_words.proofs.Words.{◌≤◌, ap, arith, subst, sym, ◌∙◌, loaded, saw_at, SeesNode, sees, WritesWord, TreeOf, place_of}
+use Rattle.plan_words.proofs.Words.{◌<◌, ◌≤◌, length, ap, arith, subst, sym, ◌∙◌, loaded, saw_at, SeesNode, sees, WritesWord, TreeOf, place_of}
 use Rattle.plan_words.proofs.KeptPairs.{keeps_pair, keeps_parent}
 use Rattle.plan_words.proofs.LookedNodes.{IsEdgeSeen-pair, pair_found, pair_not_above, place_here, seen_low, tree_word_seen}
 use Rattle.plan_words.proofs.Owning.{found_whole, goes_on_told, looks_told, may_load_here, same_run, same_table, sees_told, with_view_told}
@@ -19,21 +19,20 @@ load-word-requires c =
     let place = c.tree-place.ensures ∙ ap (λ s. place_of s (TreeOf c.args.node)) c.self.invariant.places_are in
     may_load_here _ _ _ _ c.self.invariant _ _ _ _ (TreeOf c.args.node) same own low seen place
 
-pub set-requires-clause-node : goal.set-requires-clause-node
-set-requires-clause-node c =
-    let seen = subst (λ p. SeesNode p.view c.args.node) (sym c.pass.view_is) c.requires.seen_node in
-    omega (arith, c.pass.invariant.3.for_each, c.pass.invariant.1.lawful.within c.args.node seen)
-
-pub set-requires-clause-parent : goal.set-requires-clause-parent
-set-requires-clause-parent c =
+pub set-requires : goal.set-requires
+set-requires c =
     let own = same_run _ _ _ _ c.pass.view_is c.self.view_is c.requires.belongs in
     let seen = subst (λ p. SeesNode p.view c.args.node) (sym c.pass.view_is) c.requires.seen_node in
     let place = place_here c.self.inside.places _ c.pass.inside.seat.me.0 (TreeOf c.args.node) _ c.self.invariant.places_are own c.tree-place.ensures in
     let within = c.pass.invariant.1.lawful.within c.args.node seen in
-    keeps_parent c.load-word.new.seat.me _ _ _ _ _ _ c.pass.inside.pairs c.args.node _
-    (keeps_pair c.pass.inside.seat.me c.load-word.new.seat.me _ _ _ _ _ _ c.pass.inside.pairs c.args.node _ _ _ c.load-word.ensures.2.told c.pass.invariant
-    within place)
-    (omega (arith, c.pass.invariant.3.for_each, within))
+    let low : c.args.node < length c.pass.inside.pairs = omega (arith, c.pass.invariant.3.for_each, within) in
+    record {
+      node = low;
+      parent =
+          keeps_parent c.load-word.new.seat.me _ _ _ _ _ _ c.pass.inside.pairs c.args.node _
+          (keeps_pair c.pass.inside.seat.me c.load-word.new.seat.me _ _ _ _ _ _ c.pass.inside.pairs c.args.node _ _ _ c.load-word.ensures.2.told
+          c.pass.invariant within place) low;
+    }
 
 pub invariant_of-pass : goal.invariant_of-pass
 invariant_of-pass c =
