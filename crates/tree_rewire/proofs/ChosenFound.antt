@@ -95,7 +95,7 @@ pub words-same : (before after : View) → SeesAnew NamesNothing before after �
     → map (word_through after p) near ≡ map (word_through before p) near
 words-same before after same p [] = refl
 words-same before after same p (n ∷ near) =
-    ap (λ w. tree_word n w ∷ map (word_through after p) near) (seen_cost_through-same before after same p n)
+    ap (λ w. tree_word n w ∷ map (word_through after p) near) (seen_cost_through-same same p n)
     ∙ ap (λ ws. word_through before p n ∷ ws) (words-same before after same p near)
 
 -- those below the first of the words are none
@@ -210,24 +210,15 @@ module _ (space : ConfigurationSpace) (view : View) (p : Point) (near : List ℕ
           ])
     ]
 
-    pub IsFirstLeast-word : IsFirstLeast (seen_cost_through view p) (IsOpenTo space points p (nearest ∷ near)) (parent_in word)
-    IsFirstLeast-word =
-        subst (IsFirstLeast (seen_cost_through view p) (IsOpenTo space points p (nearest ∷ near))) (sym parent_is) (record {
-          member = record { among = chosen.1.candidate; clear = chosen.1.edge };
-          not_above = not_above;
-        })
-
--- the word is of the best parent and the cost through it
-pub IsBestParentSeen-word :
-    (space : ConfigurationSpace) (view : View) (p : Point) (near : List ℕ) (last word : ℕ) → IsLawfulView view → All (SeesKnot view) near
-    → (nearest : ℕ) → IsBounded p → SeesPair view nearest → IsPresent (tree_seen view).points nearest
-    → last ≡ word_through view p nearest → IsClearTo space view p nearest
-    → (word ≡ last) ⊎ IsOpenWord space view p near word → word ≤ last → ((n : ℕ) → Contains near n → IsBlockedBelow space view p word n)
-    → IsBestParentSeen space view p (nearest ∷ near) (record { node = parent_in word; cost = cost_in word })
-IsBestParentSeen-word space view p near last word lawful knots nearest bounded pair stands last_is clear one_of most blocked = record {
-  least = IsFirstLeast-word space view p near last word lawful knots nearest bounded pair stands last_is clear one_of most blocked;
-  cost = cost_is space view p near last word lawful knots nearest bounded pair stands last_is clear one_of most blocked;
-}
+    -- the word is of the best parent and the cost through it
+    pub IsBestParentSeen-word : IsBestParentSeen space view p (nearest ∷ near) (record { node = parent_in word; cost = cost_in word })
+    IsBestParentSeen-word = record {
+      least = subst (IsFirstLeast (seen_cost_through view p) (IsOpenTo space points p (nearest ∷ near))) (sym parent_is) (record {
+        member = record { among = chosen.1.candidate; clear = chosen.1.edge };
+        not_above = not_above;
+      });
+      cost = cost_is;
+    }
 
 -- ---- weighed records
 

@@ -41,18 +41,18 @@ read_through before after p from n cost goes_on present found cost_is =
 
 -- ---- if no word is seen anew, all is as it was
 
-module _ (space : ConfigurationSpace) (before after : View) (same : SeesAnew NamesNothing before after) (p : Point) where
+module _ (space : ConfigurationSpace) {before after : View} (same : SeesAnew NamesNothing before after) (p : Point) where
   IsNotAbove-after : (m n : ℕ) → IsNotAbove (seen_cost_through before p) m n → IsNotAbove (seen_cost_through after p) m n
   IsNotAbove-after m n h = record {
-    least = omega (arith, h.least, seen_cost_through-same before after same p m, seen_cost_through-same before after same p n);
-    first = λ e. h.first (omega (arith, e, seen_cost_through-same before after same p m, seen_cost_through-same before after same p n));
+    least = omega (arith, h.least, seen_cost_through-same same p m, seen_cost_through-same same p n);
+    first = λ e. h.first (omega (arith, e, seen_cost_through-same same p m, seen_cost_through-same same p n));
   }
 
   pub clear_before : (n : ℕ) → Clear space (point_of (tree_seen after).points n) p → Clear space (point_of (tree_seen before).points n) p
-  clear_before n = subst (λ q. Clear space q p) (point_of-same before after same n)
+  clear_before n = subst (λ q. Clear space q p) (point_of-same same n)
 
   pub clear_after : (n : ℕ) → Clear space (point_of (tree_seen before).points n) p → Clear space (point_of (tree_seen after).points n) p
-  clear_after n = subst (λ q. Clear space q p) (sym (point_of-same before after same n))
+  clear_after n = subst (λ q. Clear space q p) (sym (point_of-same same n))
 
   -- the best then is so still
   pub IsBestParentSeen-after : (among : List ℕ) (parent : Parent) → IsBestParentSeen space before p among parent
@@ -63,7 +63,7 @@ module _ (space : ConfigurationSpace) (before after : View) (same : SeesAnew Nam
       not_above = λ i own.
           IsNotAbove-after parent.node i (best.least.not_above i (record { among = own.among; clear = clear_before i own.clear }));
     };
-    cost = best.cost ∙ sym (seen_cost_through-same before after same p parent.node);
+    cost = best.cost ∙ sym (seen_cost_through-same same p parent.node);
   }
 
 -- ---- the new node may hang below the best

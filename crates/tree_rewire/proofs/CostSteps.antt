@@ -1,6 +1,6 @@
 -- What steps leave of a pass that show some words anew, one after another.
 use Rattle.tree_rewire.proofs.Words.{◌≡◌, ℕ, ◌+◌, refl, sym, ap, ◌∙◌, subst, arith, inl, inr, Err, IfErr, IfOk, Ok, Result, unwrap_or, Point, cost_of}
-use Rattle.tree_rewire.proofs.Words.{IsPresent, point_of, Word, WritesWord, Best, ChildOf, Count, Counter, FirstOf, PointOf, RecordOf, TreeOf, cost_in}
+use Rattle.tree_rewire.proofs.Words.{IsPresent, point_of, Word, WritesWord, Best, PointOf, TreeOf, cost_in}
 use Rattle.tree_rewire.proofs.Words.{OnlyPosts, BelongsTo, GoesOn, PassState, SharedState, with_view, HasLooked-loaded, HasLooked-refl, KeepsOrPosts-trans}
 use Rattle.tree_rewire.proofs.Words.{BelongsTo-later, GoesOn-refl, GoesOn-trans, HasLooked, HasLooked-trans, IsLawfulView, last_look, loaded, saw, sees}
 use Rattle.tree_rewire.proofs.Words.{tree_seen, point_at-kept, View, NamesLowered, NamesLoweredOrPoint, NamesNothing, NamesPoint, NamesTree, PassLowers}
@@ -18,9 +18,9 @@ SeesAnew-refl which view lawful = record {
   held = λ off. refl;
 }
 
-pub SeesAnew-trans : (which : Word → Type 0) (before mid after : View) → SeesAnew which before mid → SeesAnew which mid after
+pub SeesAnew-trans : {which : Word → Type 0} {before mid after : View} → SeesAnew which before mid → SeesAnew which mid after
     → SeesAnew which before after
-SeesAnew-trans which before mid after one other = record {
+SeesAnew-trans {which} {before} {mid} {after} one other = record {
   goes_on = GoesOn-trans before mid after one.goes_on other.goes_on;
   others = λ name off. other.others name off ∙ one.others name off;
   looked = HasLooked-trans before mid after one.goes_on.later other.goes_on.later one.looked other.looked;
@@ -28,9 +28,9 @@ SeesAnew-trans which before mid after one other = record {
   held = λ off. other.held off ∙ one.held off;
 }
 
-pub SeesAnew-more : (few more : Word → Type 0) (before after : View) → ((name : Word) → few name → more name) → SeesAnew few before after
+pub SeesAnew-more : {few more : Word → Type 0} {before after : View} → ((name : Word) → few name → more name) → SeesAnew few before after
     → SeesAnew more before after
-SeesAnew-more few more before after within one = record {
+SeesAnew-more within one = record {
   goes_on = one.goes_on;
   others = λ name off. one.others name (λ h. off (within name h));
   looked = one.looked;
@@ -44,19 +44,19 @@ pub PassSees-refl : (which : Word → Type 0) (shared : SharedState) (pass : Pas
 PassSees-refl which shared pass belongs =
     record { belongs = belongs; sees_anew = SeesAnew-refl which pass.view belongs.lawful; view_alone = refl }
 
-pub PassSees-trans : (which : Word → Type 0) (shared : SharedState) (before mid after : PassState) → PassSees which shared before mid
+pub PassSees-trans : {which : Word → Type 0} {shared : SharedState} {before mid after : PassState} → PassSees which shared before mid
     → PassSees which shared mid after → PassSees which shared before after
-PassSees-trans which shared before mid after one other = record {
+PassSees-trans {which} {shared} {before} {mid} {after} one other = record {
   belongs = other.belongs;
-  sees_anew = SeesAnew-trans which before.view mid.view after.view one.sees_anew other.sees_anew;
+  sees_anew = SeesAnew-trans one.sees_anew other.sees_anew;
   view_alone = other.view_alone ∙ ap (λ p. with_view p after.view) one.view_alone;
 }
 
-pub PassSees-more : (few more : Word → Type 0) (shared : SharedState) (before after : PassState) → ((name : Word) → few name → more name)
+pub PassSees-more : {few more : Word → Type 0} {shared : SharedState} {before after : PassState} → ((name : Word) → few name → more name)
     → PassSees few shared before after → PassSees more shared before after
-PassSees-more few more shared before after within one = record {
+PassSees-more within one = record {
   belongs = one.belongs;
-  sees_anew = SeesAnew-more few more before.view after.view within one.sees_anew;
+  sees_anew = SeesAnew-more within one.sees_anew;
   view_alone = one.view_alone;
 }
 
@@ -141,39 +141,22 @@ PassSees-lower shared before after n word value (Err pair) belongs posts found g
 
 -- words of one kind are of another
 pub Lowered-tree : (name : Word) → NamesTree name → NamesLowered name
-Lowered-tree Count h = absurd h
-Lowered-tree Best h = absurd h
-Lowered-tree (Counter g) h = absurd h
-Lowered-tree (PointOf n) h = absurd h
-Lowered-tree (ChildOf n side) h = absurd h
 Lowered-tree (TreeOf n) h = h
-Lowered-tree (FirstOf n) h = absurd h
-Lowered-tree (RecordOf k) h = absurd h
+Lowered-tree _ h = absurd h
 
 pub LoweredOrPoint-lowered : (name : Word) → NamesLowered name → NamesLoweredOrPoint name
-LoweredOrPoint-lowered Count h = absurd h
 LoweredOrPoint-lowered Best h = h
-LoweredOrPoint-lowered (Counter g) h = absurd h
-LoweredOrPoint-lowered (PointOf n) h = absurd h
-LoweredOrPoint-lowered (ChildOf n side) h = absurd h
 LoweredOrPoint-lowered (TreeOf n) h = h
-LoweredOrPoint-lowered (FirstOf n) h = absurd h
-LoweredOrPoint-lowered (RecordOf k) h = absurd h
+LoweredOrPoint-lowered _ h = absurd h
 
 pub LoweredOrPoint-point : (name : Word) → NamesPoint name → NamesLoweredOrPoint name
-LoweredOrPoint-point Count h = absurd h
-LoweredOrPoint-point Best h = absurd h
-LoweredOrPoint-point (Counter g) h = absurd h
 LoweredOrPoint-point (PointOf n) h = h
-LoweredOrPoint-point (ChildOf n side) h = absurd h
-LoweredOrPoint-point (TreeOf n) h = absurd h
-LoweredOrPoint-point (FirstOf n) h = absurd h
-LoweredOrPoint-point (RecordOf k) h = absurd h
+LoweredOrPoint-point _ h = absurd h
 
 -- ---- passes that lower costs
 
-pub PassLowers-sees : (shared : SharedState) (before after : PassState) → PassSees NamesLoweredOrPoint shared before after → PassLowers shared before after
-PassLowers-sees shared before after one = record {
+pub PassLowers-sees : {shared : SharedState} {before after : PassState} → PassSees NamesLoweredOrPoint shared before after → PassLowers shared before after
+PassLowers-sees one = record {
   belongs = one.belongs;
   sees_anew = one.sees_anew;
   near = ap (λ p. p.lists.near) one.view_alone;
@@ -181,11 +164,11 @@ PassLowers-sees shared before after one = record {
   search = ap (λ p. p.lists.search) one.view_alone;
 }
 
-pub PassLowers-trans : (shared : SharedState) (before mid after : PassState) → PassLowers shared before mid → PassLowers shared mid after
+pub PassLowers-trans : {shared : SharedState} {before mid after : PassState} → PassLowers shared before mid → PassLowers shared mid after
     → PassLowers shared before after
-PassLowers-trans shared before mid after one other = record {
+PassLowers-trans one other = record {
   belongs = other.belongs;
-  sees_anew = SeesAnew-trans NamesLoweredOrPoint before.view mid.view after.view one.sees_anew other.sees_anew;
+  sees_anew = SeesAnew-trans one.sees_anew other.sees_anew;
   near = other.near ∙ one.near;
   around = other.around ∙ one.around;
   search = other.search ∙ one.search;
@@ -207,7 +190,7 @@ PassLowers-lists shared before after belongs table view near around search =
 
 -- ---- if no word is seen anew, costs and points are the same
 
-module _ (before after : View) (same : SeesAnew NamesNothing before after) where
+module _ {before after : View} (same : SeesAnew NamesNothing before after) where
   pub point_of-same : (n : ℕ) → point_of (tree_seen after).points n ≡ point_of (tree_seen before).points n
   point_of-same n =
       ap (λ o. unwrap_or o (record { x = 0; y = 0 })) (point_at-kept before after n same.goes_on.later (same.others (PointOf n) (λ no. no)))

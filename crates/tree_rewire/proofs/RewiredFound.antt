@@ -6,7 +6,8 @@ use Rattle.tree_rewire.proofs.Words.{IsPermutation-map, IsPermutation-sym, IsDis
 use Rattle.tree_rewire.proofs.Words.{sorted_from_strictly_increasing, Point, cost_of, Nodes, Rewires, ConfigurationSpace, CostsFall, parent_of, points_of}
 use Rattle.tree_rewire.proofs.Words.{sum_of, AreDistinct, IsPresent, point_of, cost_of-swap, Contains-filter, point_of-stands, is_dearer, numbers_of}
 use Rattle.tree_rewire.proofs.Words.{HasWholeShare, tree_words, Contains-number, distinct_numbers, eqb-swap, same_numbers, if_hand, Found, IsLawfulView}
-use Rattle.tree_rewire.proofs.Words.{tree_seen, SeesPoint, View, AreOf, IsWeighed, Mirrors, HasPlaced, IsInReach, cost_seen, Hand}
+use Rattle.tree_rewire.proofs.Words.{tree_seen, SeesPoint, View, AreOf, IsWeighed, Mirrors, HasPlaced, IsInReach, cost_seen, Hand, at_hand, some_hand}
+use Rattle.tree_rewire.proofs.Words.{IfSome, IsSome}
 use Rattle.tree_rewire.proofs.RewiredNodes.{placed_cost}
 use Rattle.tree_rewire.proofs.FoundLists.{Contains-image, Contains-kept, kept_passes}
 use Rattle.tree_rewire.proofs.MirroredTrees.{CostsFall-seen}
@@ -45,6 +46,11 @@ module _ (view : View) (from : Point) (cost : ℕ) (found few : List Found) (wei
       (IsPermutation-sym (filter (is_dearer (tree_words view) cost) found) few same) on) in
       (own.0, sym (test_is f own.0) ∙ own.1)
 
+  pub few_in : (i : ℕ) → Contains (numbers_of few) i → Contains (numbers_of found) i
+  few_in i on =
+      let f = Contains-number few i on in
+      subst (Contains (numbers_of found)) f.2 (Contains-image (λ (g : Found). g.node) found f.0 (few_found f.0 f.1).0)
+
   -- and who is found and dearer is one of them
   pub few_all : (n : ℕ) → Contains (numbers_of found) n → test n ≡ true → Contains (numbers_of few) n
   few_all n on dearer =
@@ -66,9 +72,7 @@ module _ (view : View) (from : Point) (cost : ℕ) (found few : List Found) (wei
       (IsStrictlySortedBy-filter nat_cmp test near (sorted_from_strictly_increasing near rising))
       (λ n on.
       let f = Contains-number few n on in
-      let own = few_found f.0 f.1 in
-      Contains-filter test near n (sym (ap test f.2) ∙ own.1)
-      (of.only n (subst (Contains (numbers_of found)) f.2 (Contains-image (λ (g : Found). g.node) found f.0 own.0))))
+      Contains-filter test near n (sym (ap test f.2) ∙ (few_found f.0 f.1).1) (of.only n (few_in n on)))
       (λ n on. few_all n (of.all n (unfiltered test near n on)) (filtered test near n on))
 
 -- ---- the tree that is seen
@@ -141,6 +145,19 @@ pub record Holding (view : View) (k : ℕ) (found : List Found) : Type 0 where
   pub placed : HasPlaced view k hand
   pub near : All (IsInReach view hand.point) (numbers_of found)
   pub weighed : All (IsWeighed view hand.point) found
+
+pub held_hand : (view : View) (k : ℕ) (found : List Found) → IsSome view.hand → IfSome view.hand (HasPlaced view k)
+    → IfSome view.hand (λ h. All (IsInReach view h.point) (numbers_of found)) → IfSome view.hand (λ h. All (IsWeighed view h.point) found)
+    → Holding view k found
+held_hand view k found some placed near weighed =
+    let held = some_hand view.hand some in
+    record {
+      hand = held.0;
+      held = held.1;
+      placed = at_hand (HasPlaced view k) view.hand held.0 held.1 placed;
+      near = at_hand (λ h. All (IsInReach view h.point) (numbers_of found)) view.hand held.0 held.1 near;
+      weighed = at_hand (λ h. All (IsWeighed view h.point) found) view.hand held.0 held.1 weighed;
+    }
 
 -- the new node costs at most what it was placed at
 pub placed_cost_of : (view : View) (k : ℕ) (hand : Hand) → view.hand ≡ Some hand → HasPlaced view k hand → IsLawfulView view

@@ -5,9 +5,8 @@ use Rattle.tree_rewire.proofs.Words.{Count, Counter, FirstOf, PointOf, RecordOf,
 use Rattle.tree_rewire.proofs.Words.{SeesPair, cost_seen, parent_seen, KeepsParents}
 
 -- the share stays whole
-pub HasWholeShare-later : (which : Word → Type 0) (before after : View) → SeesAnew which before after → HasWholeShare before → HasWholeShare after
-HasWholeShare-later which before after steps whole =
-    ap length steps.kept.crew ∙ whole ∙ sym (ap (λ (r : SharedRun). r.workers) steps.goes_on.later.run)
+pub HasWholeShare-later : {which : Word → Type 0} {before after : View} → SeesAnew which before after → HasWholeShare before → HasWholeShare after
+HasWholeShare-later steps whole = ap length steps.kept.crew ∙ whole ∙ sym (ap (λ (r : SharedRun). r.workers) steps.goes_on.later.run)
 
 -- what follows of a success follows, as there is one
 pub on_ok : {T E : Type 0} (result : Result T E) (P : Type 0) → IsOk result → IfOk result (λ x. P) → P
@@ -28,8 +27,8 @@ SeesAsBefore-loaded before after name value writes same other =
       | inr apart ↦ writes.others other apart
     ]
 
-pub SeesAsBefore-none : (before after : View) → SeesAnew NamesNothing before after → SeesAsBefore before after
-SeesAsBefore-none before after steps name = steps.others name (λ no. no)
+pub SeesAsBefore-none : {before after : View} → SeesAnew NamesNothing before after → SeesAsBefore before after
+SeesAsBefore-none steps name = steps.others name (λ no. no)
 
 -- ---- parents are kept
 
@@ -41,8 +40,8 @@ KeepsParents-same before after same = record {
   others = λ name off. same name;
 }
 
-pub KeepsParents-trans : (before mid after : View) → KeepsParents before mid → KeepsParents mid after → KeepsParents before after
-KeepsParents-trans before mid after one other = record {
+pub KeepsParents-trans : {before mid after : View} → KeepsParents before mid → KeepsParents mid after → KeepsParents before after
+KeepsParents-trans one other = record {
   parents = λ n. other.parents n ∙ one.parents n;
   costs = λ n. omega (arith, other.costs n, one.costs n);
   written = λ n h. one.written n (other.written n h);

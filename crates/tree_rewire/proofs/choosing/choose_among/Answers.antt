@@ -1,14 +1,12 @@
-use Rattle.tree_rewire.proofs.Words.{◌∷◌, List, ℕ, ap, arith, subst, sym, ◌∙◌, All-cons, All-tail, Clear, point_of, ConfigurationSpace}
+use Rattle.tree_rewire.proofs.Words.{◌∷◌, List, ℕ, ap, arith, subst, sym, ◌∙◌, All, All-cons, All-tail, Clear, point_of, ConfigurationSpace}
 use Rattle.tree_rewire.proofs.Words.{GoesOn-trans, PassState, with_lists, with_view, tree_seen, IsPresent-later, IsBounded-clear_in_scene, AreKnown, IsClearTo}
-use Rattle.tree_rewire.proofs.Words.{AreMeasured, nodes_on, weighed_on, IsBestParentSeen, IsInReach, NamesNothing, NamesTree, SeesAnew, SeesPair, SeesKnot}
+use Rattle.tree_rewire.proofs.Words.{AreMeasured, nodes_on, weighed_on, IsBestParentSeen, IsInReach, NamesNothing, SeesAnew, SeesPair, SeesKnot}
 use Rattle.tree_rewire.proofs.ChosenParents.{All-present, IsCostBelow-best, points_later}
 use Rattle.tree_rewire.proofs.CostSteps.{SeesAnew-more, SeesAnew-trans}
 use Rattle.tree_rewire.proofs.NearLists.{AreKnown-weighed, AreMeasured-later, nodes_on-then}
 use Rattle.tree_rewire.proofs.SeenCosts.{IsLoadedSince-later, SeesPair-later}
 use Rattle.tree_rewire.proofs.WholeShares.{SeesAsBefore-none, SeesAsBefore-trans}
-use Rattle.tree_rewire.proofs.choosing.choose_among.Given.{Over}
 use Rattle.tree_rewire.proofs.choosing.choose_among.Goals as goal
-use Rattle.tree_rewire.proofs.choosing.choose_among.Goals.{After-best_open}
 
 pub load_costs-requires-clause-near : goal.load_costs-requires-clause-near
 load_costs-requires-clause-near g c = All-present c.args.pass.now.view c.args.p (nodes_on c.args.among c.args.pass.now.lists) c.requires.near
@@ -63,62 +61,32 @@ best_open-requires-clause-known g c κs within =
 
 -- ---- what is answered
 
--- nothing is seen anew but what was loaded
-nothing : (g : Over) (c : After-best_open g) → SeesAnew NamesNothing c.load_costs.new.pass.view c.best_open.new.pass.view
-nothing g c =
-    subst (λ (s : PassState). SeesAnew NamesNothing s.view c.best_open.new.pass.view) c.weigh.ensures c.best_open.ensures.steps.sees_anew
-
-pub returns-clause-seen : goal.returns-clause-seen
-returns-clause-seen g c =
+pub returns : goal.returns
+returns g c =
+    let p = c.args.p in
+    let nearest = c.args.nearest in
+    let before = c.args.pass.now.view in
     let mid = c.load_costs.new.pass.view in
     let after = c.best_open.new.pass.view in
-    SeesAnew-trans NamesTree c.args.pass.now.view mid after c.load_costs.ensures.steps.sees_anew
-    (SeesAnew-more NamesNothing NamesTree mid after (λ name no. absurd no) (nothing g (goal.at.returns-clause-seen g c).After-best_open))
-
-pub returns-clause-alone : goal.returns-clause-alone
-returns-clause-alone g c =
-    let after = c.best_open.new.pass.view in
-    c.best_open.ensures.steps.view_alone ∙ ap (λ s. with_view s after) c.weigh.ensures
-    ∙ ap (λ (s : PassState). with_view (with_lists s (weighed_on c.args.among s.lists)) after) c.load_costs.ensures.steps.view_alone
-
-pub returns-clause-pairs : goal.returns-clause-pairs
-returns-clause-pairs g c =
-    let none = nothing g (goal.at.returns-clause-pairs g c).After-best_open in
-    λ k d below. SeesPair-later c.load_costs.new.pass.view c.best_open.new.pass.view none.goes_on _ (c.load_costs.ensures.pairs k d below)
-
-pub returns-clause-loaded : goal.returns-clause-loaded
-returns-clause-loaded g c =
-    let none = nothing g (goal.at.returns-clause-loaded g c).After-best_open in
-    let begun = c.load_costs.ensures.steps.sees_anew.goes_on.later.steps in
-    λ k d below.
-    IsLoadedSince-later c.load_costs.new.pass.view c.best_open.new.pass.view none.goes_on c.args.pass.now.view.steps _ begun
-    (c.load_costs.ensures.loaded k d below)
-
-pub returns-clause-least : goal.returns-clause-least
-returns-clause-least g c =
-    let after = c.best_open.new.pass.view in
-    let near = nodes_on-then c.args.among c.args.pass.now c.load_costs.new.pass c.weigh.new.pass c.load_costs.ensures.steps.view_alone
-    c.weigh.ensures in
-    let best = λ (space : ConfigurationSpace) (ns : List ℕ). IsBestParentSeen space after c.args.p (c.args.nearest ∷ ns) c.best_open.result in
-    subst (λ s. best s (nodes_on c.args.among c.args.pass.now.lists)) c.requires.hall
-    (subst (best (g.C.Clearing.space c.args.hall.now)) near c.best_open.ensures.least)
-
-pub returns-clause-below : goal.returns-clause-below
-returns-clause-below g c =
     let near = nodes_on c.args.among c.args.pass.now.lists in
-    let mid = c.load_costs.new.pass.view in
-    let after = c.best_open.new.pass.view in
-    let none = nothing g (goal.at.returns-clause-below g c).After-best_open in
-    IsCostBelow-best c.args.shared.now c.args.pass.now.view after c.args.p (c.args.nearest ∷ near) c.best_open.result
-    c.best_open.ensures.steps.belongs.run
-    (GoesOn-trans c.args.pass.now.view mid after c.load_costs.ensures.steps.sees_anew.goes_on none.goes_on)
-    (All-cons (IsInReach c.args.pass.now.view c.args.p) c.args.nearest near c.requires.nearest c.requires.near)
-    (λ k d below. SeesPair-later mid after none.goes_on _ (c.load_costs.ensures.pairs k d below))
-    (returns-clause-least g c)
-
-pub returns-clause-whole : goal.returns-clause-whole
-returns-clause-whole g c =
-    let none = nothing g (goal.at.returns-clause-whole g c).After-best_open in
-    let mid = c.load_costs.new.pass.view in
-    let after = c.best_open.new.pass.view in
-    λ all. SeesAsBefore-trans c.args.pass.now.view mid after (c.load_costs.ensures.whole all) (SeesAsBefore-none mid after none)
+    let loads = c.load_costs.ensures.steps in
+    -- nothing is seen anew but what was loaded
+    let none = subst (λ (s : PassState). SeesAnew NamesNothing s.view after) c.weigh.ensures c.best_open.ensures.steps.sees_anew in
+    let same = nodes_on-then c.args.among c.args.pass.now c.load_costs.new.pass c.weigh.new.pass loads.view_alone c.weigh.ensures in
+    let best = λ (space : ConfigurationSpace) (ns : List ℕ). IsBestParentSeen space after p (nearest ∷ ns) c.best_open.result in
+    let least = subst (λ s. best s near) c.requires.hall (subst (best (g.C.Clearing.space c.args.hall.now)) same c.best_open.ensures.least) in
+    let pairs : All (SeesPair after) (nearest ∷ near) = λ k d below. SeesPair-later mid after none.goes_on _ (c.load_costs.ensures.pairs k d below) in
+    record {
+      belongs = c.best_open.ensures.steps.belongs;
+      seen = SeesAnew-trans loads.sees_anew (SeesAnew-more (λ name no. absurd no) none);
+      alone = c.best_open.ensures.steps.view_alone ∙ ap (λ s. with_view s after) c.weigh.ensures
+          ∙ ap (λ (s : PassState). with_view (with_lists s (weighed_on c.args.among s.lists)) after) loads.view_alone;
+      pairs = pairs;
+      loaded = λ k d below.
+          IsLoadedSince-later mid after none.goes_on before.steps _ loads.sees_anew.goes_on.later.steps (c.load_costs.ensures.loaded k d below);
+      least = least;
+      below = IsCostBelow-best c.args.shared.now before after p (nearest ∷ near) c.best_open.result c.best_open.ensures.steps.belongs.run
+          (GoesOn-trans before mid after loads.sees_anew.goes_on none.goes_on)
+          (All-cons (IsInReach before p) nearest near c.requires.nearest c.requires.near) pairs least;
+      whole = λ all. SeesAsBefore-trans before mid after (c.load_costs.ensures.whole all) (SeesAsBefore-none none);
+    }

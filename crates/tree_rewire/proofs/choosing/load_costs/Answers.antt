@@ -1,5 +1,5 @@
 use Rattle.tree_rewire.proofs.Words.{◌≡◌, Some, take, ap, arith, refl, subst, sym, ◌∙◌, All, slice_get, take_all, All-cons, All-nil, IsPresent, TreeOf}
-use Rattle.tree_rewire.proofs.Words.{PassState, SeesNode, tree_seen, IsPresent-later, nodes_on, IsLoadedSince, NamesTree, SeesPair}
+use Rattle.tree_rewire.proofs.Words.{PassState, SeesNode, tree_seen, IsPresent-later, nodes_on, IsLoadedSince, SeesPair}
 use Rattle.tree_rewire.proofs.ChosenParents.{All-more, All-read, take_read}
 use Rattle.tree_rewire.proofs.CostSteps.{PassSees-trans, PassSees-tree}
 use Rattle.tree_rewire.proofs.SeenCosts.{IsLoadedSince-later, SeesNode-present, SeesPair-later}
@@ -48,7 +48,7 @@ loads-preserved c =
     let near = nodes_on c.args.among before.lists in
     let one_more = take_read near near c.loads.index n refl (read here) in
     record {
-      steps = PassSees-trans NamesTree c.args.shared.now before c.loads.pass then steps step;
+      steps = PassSees-trans steps step;
       first = SeesPair-later c.loads.pass.view then.view load.goes_on c.args.nearest c.loads.invariant.first;
       first_loaded = IsLoadedSince-later c.loads.pass.view then.view load.goes_on before.view.steps c.args.nearest later.steps
           c.loads.invariant.first_loaded;
@@ -59,20 +59,19 @@ loads-preserved c =
           (c.loads.invariant.earlier_loaded k d below)) (omega (arith, load.looked.here, later.steps));
       whole = λ all.
           SeesAsBefore-trans before.view c.loads.pass.view then.view (c.loads.invariant.whole all)
-          (SeesAsBefore-loaded c.loads.pass.view then.view (TreeOf n) _ load.seen
-          (load.whole (HasWholeShare-later NamesTree before.view c.loads.pass.view steps.sees_anew all)));
+          (SeesAsBefore-loaded c.loads.pass.view then.view (TreeOf n) _ load.seen (load.whole (HasWholeShare-later steps.sees_anew all)));
     }
 
-pub returns-clause-pairs : goal.returns-clause-pairs
-returns-clause-pairs c =
+pub returns : goal.returns
+returns c =
+    let h = c.loads.invariant in
+    let view = c.loads.pass.view in
     let near = nodes_on c.args.among c.args.pass.now.lists in
+    let since = IsLoadedSince c.args.pass.now.view.steps view in
     let all = take_all c.loads.index near (omega (arith, c.loads-test.false, c.count-count.ensures)) in
-    All-cons (SeesPair c.loads.pass.view) c.args.nearest near c.loads.invariant.first
-    (subst (All (SeesPair c.loads.pass.view)) all c.loads.invariant.earlier)
-
-pub returns-clause-loaded : goal.returns-clause-loaded
-returns-clause-loaded c =
-    let near = nodes_on c.args.among c.args.pass.now.lists in
-    let since = IsLoadedSince c.args.pass.now.view.steps c.loads.pass.view in
-    let all = take_all c.loads.index near (omega (arith, c.loads-test.false, c.count-count.ensures)) in
-    All-cons since c.args.nearest near c.loads.invariant.first_loaded (subst (All since) all c.loads.invariant.earlier_loaded)
+    record {
+      steps = h.steps;
+      pairs = All-cons (SeesPair view) c.args.nearest near h.first (subst (All (SeesPair view)) all h.earlier);
+      loaded = All-cons since c.args.nearest near h.first_loaded (subst (All since) all h.earlier_loaded);
+      whole = h.whole;
+    }

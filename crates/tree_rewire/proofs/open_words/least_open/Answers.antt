@@ -37,12 +37,11 @@ closed g c on =
     let own = c.is_blocked.ensures.blocked on in
     let same = c.blocked.invariant.steps.sees_anew in (
       own.0,
-      λ clear. own.1 (clear_after (g.C.Clearing.space c.args.hall.now) c.args.pass.now.view c.blocked.pass.view same c.args.p (parent_in c.blocked.word) clear),
+      λ clear. own.1 (clear_after (g.C.Clearing.space c.args.hall.now) same c.args.p (parent_in c.blocked.word) clear),
     )
 
 steps_then : (g : Over) (c : After-is_blocked g) → PassSees NamesNothing c.args.shared.now c.args.pass.now c.is_blocked.new.pass
-steps_then g c =
-    PassSees-trans NamesNothing c.args.shared.now c.args.pass.now c.blocked.pass c.is_blocked.new.pass c.blocked.invariant.steps c.is_blocked.ensures.steps
+steps_then g c = PassSees-trans c.blocked.invariant.steps c.is_blocked.ensures.steps
 
 pub next_word-word-requires-in-blocked-clause-known : goal.next_word-word-requires-in-blocked-clause-known
 next_word-word-requires-in-blocked-clause-known g c =
@@ -71,7 +70,7 @@ blocked-preserved g c =
     let last = c.next_word-word-in-blocked.ensures in
     let next = subst (λ ws. IsNextWord ws c.blocked.word c.args.last word) words last.next in
     record {
-      steps = PassSees-trans NamesNothing c.args.shared.now before now c.next_word-word-in-blocked.new.pass steps last.steps;
+      steps = PassSees-trans steps last.steps;
       of_near = IsWordOf-next before.view c.args.p near c.blocked.word c.args.last word next;
       most = next.most;
       earlier = blocked-next (g.C.Clearing.space c.args.hall.now) before.view c.args.p near c.args.last c.blocked.word c.requires.belongs.lawful
@@ -91,5 +90,5 @@ returns-clause-one_of g c =
       | inr clear ↦
           open_word space before.view c.args.p (nodes_on c.args.among before.lists) c.args.last c.blocked.word c.requires.belongs.lawful
           (AllKnots-known c.args.among before.view c.args.p before.lists c.requires.known) h.of_near
-          (clear_before space before.view c.blocked.pass.view h.steps.sees_anew c.args.p (parent_in c.blocked.word) clear)
+          (clear_before space h.steps.sees_anew c.args.p (parent_in c.blocked.word) clear)
     ]

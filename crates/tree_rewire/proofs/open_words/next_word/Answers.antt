@@ -72,10 +72,10 @@ words-preserved c =
       c.seen_cost.ensures,
       c.from.ensures,
       c.weighed-near.ensures.edge,
-      seen_cost_through-same before.view mid.view h.steps.sees_anew c.args.p n,
+      seen_cost_through-same h.steps.sees_anew c.args.p n,
     ) in
     record {
-      steps = PassSees-trans NamesNothing c.args.shared.now before mid c.weighed-near.new.pass h.steps now;
+      steps = PassSees-trans h.steps now;
       next = IsNextWord-more (map word (take c.words.index near)) (map word (take (c.words.index + 1) near)) c.args.low c.args.last c.words.next (word n)
           c.next_of-next.result (words_read word near c.words.index n read) h.next
           (subst (λ w. IsNextOf c.args.low w c.words.next c.next_of-next.result) (c.pack_tree-word.ensures ∙ ap (tree_word n) through) c.next_of-next.ensures);

@@ -38,7 +38,7 @@ lowers-preserved c =
     let h = c.lowers.invariant in
     let lower = c.lower-found.ensures in
     record {
-      steps = PassSees-trans NamesLowered c.args.shared.now c.args.pass.now c.lowers.pass c.lower-found.new.pass h.steps
+      steps = PassSees-trans h.steps
           (PassSees-lower c.args.shared.now c.lowers.pass c.lower-found.new.pass c.args.node _ _ c.lower-found.result h.steps.belongs
           lower.kept lower.view_found lower.goes_on lower.seen lower.shown);
       others = λ m apart. lower.seen.others (TreeOf m) (λ e. apart (let own : m ≡ c.args.node = cc in own)) ∙ h.others m apart;
@@ -48,8 +48,7 @@ lowers-preserved c =
           HasPostedGoals-lower c.lowers.pass.view c.lower-found.new.pass.view c.args.node c.args.parent _ _ c.lower-found.result
           (omega (arith, pair_low c.args.pass.now.view c.args.parent c.requires.belongs.lawful c.requires.parent_pair, c.requires.belongs.lawful.run.marks))
           (omega (arith, c.lowers-test.true, c.seen_cost-in-lowers.ensures, (lawful.pairs c.args.node h.pair).low)) lower.goes_on lower.seen
-          (lower.whole (HasWholeShare-later NamesLowered c.args.pass.now.view c.lowers.pass.view h.steps.sees_anew all)) lower.lowered lower.posted
-          (h.goals all posted);
+          (lower.whole (HasWholeShare-later h.steps.sees_anew all)) lower.lowered lower.posted (h.goals all posted);
       whole = λ all.
           let before = c.args.pass.now.view in
           let now = c.lowers.pass.view in
@@ -59,7 +58,7 @@ lowers-preserved c =
           elim (h.whole all) [
             | inl same ↦
                 let here = on_ok c.lower-found.result (sees c.lower-found.new.pass.view (TreeOf c.args.node) ≡ tree_word c.args.parent most)
-                (lower.whole (HasWholeShare-later NamesLowered before now h.steps.sees_anew all)) lower.lowered in
+                (lower.whole (HasWholeShare-later h.steps.sees_anew all)) lower.lowered in
                 inr (record {
                   here = here ∙ ap (tree_word c.args.parent) most_is;
                   others = λ name off. lower.seen.others name off ∙ same name;

@@ -1,5 +1,5 @@
-use Rattle.tree_rewire.proofs.Words.{◌+◌, ◌≡◌, ℕ, List, [], ap, arith, drop, is_some, refl, subst, suc, sym, take, All, Contains, drop_all, take_all}
-use Rattle.tree_rewire.proofs.Words.{All-contains_itself, All-nil, space_of, Rewires, some_hand, nodes_on, HasSpreadFalls, IsInReach, NamesLoweredOrPoint}
+use Rattle.tree_rewire.proofs.Words.{◌+◌, ◌≡◌, ◌≤◌, ℕ, List, length, ap, arith, drop, is_some, refl, subst, suc, sym, take, All, Contains, drop_all, take_all}
+use Rattle.tree_rewire.proofs.Words.{All-contains_itself, All-nil, space_of, Rewires, some_hand, nodes_on, HasSpreadFalls, IsInReach}
 use Rattle.tree_rewire.proofs.Words.{SeesPair, cost_seen}
 use Rattle.tree_rewire.proofs.NearLists.{nodes_on-kept}
 use Rattle.tree_rewire.proofs.ChosenParents.{All-more, IsInReach-later, drop_read, near_read, take_read}
@@ -71,7 +71,7 @@ nodes-preserved g c =
     let held = some_hand before.hand c.requires.hand in
     let same = kept g (goal.at.nodes-preserved g c).After-node-node in
     record {
-      steps = PassLowers-trans c.args.shared.now c.args.pass.now c.nodes.pass new h.steps done.steps;
+      steps = PassLowers-trans h.steps done.steps;
       earlier = All-more (IsRewired space before new.view from (cost_seen before (c.args.k + 1))) (take c.nodes.index near) _ n
           (take_read near now c.nodes.index n same c.node-node.ensures)
           (λ k d below. IsRewired-later space before c.nodes.pass.view new.view from _ _ done.steps.sees_anew.goes_on (h.earlier k d below))
@@ -87,49 +87,41 @@ nodes-preserved g c =
           (ap is_some (placed_stands before c.args.k from held.0 held.1 c.requires.placed c.hand_point-from.ensures))
           (placed_pair before c.args.k from held.0 held.1 c.requires.placed c.hand_point-from.ensures) h.spread done.spread;
       goals = λ all posted.
-          done.goals (HasWholeShare-later NamesLoweredOrPoint before c.nodes.pass.view h.steps.sees_anew all) (h.goals all posted);
+          done.goals (HasWholeShare-later h.steps.sees_anew all) (h.goals all posted);
       whole = λ all tree mirrors.
           let was = h.whole all tree mirrors in
           IsRewiring-more space tree (c.args.k + 1) n near (drop c.nodes.index near)
           (drop (c.nodes.index + 1) near) c.nodes.pass.view new.view
-          (drop_read near now c.nodes.index n same c.node-node.ensures) was
-          (done.whole (HasWholeShare-later NamesLoweredOrPoint before c.nodes.pass.view h.steps.sees_anew all) was.now was.mirrors);
+          (drop_read near now c.nodes.index n same c.node-node.ensures) was (done.whole (HasWholeShare-later h.steps.sees_anew all) was.now was.mirrors);
     }
 
-pub returns-clause-pairs : goal.returns-clause-pairs
-returns-clause-pairs g c =
-    let near = nodes_on c.args.among c.args.pass.now.lists in
-    let all = take_all c.nodes.index near (omega (arith, c.nodes-test.false, c.count-count.ensures)) in
-    subst (All (SeesPair c.nodes.pass.view)) all (λ k d below. (c.nodes.invariant.earlier k d below).pair)
-
-pub returns-clause-rewired : goal.returns-clause-rewired
-returns-clause-rewired g c =
-    let near = nodes_on c.args.among c.args.pass.now.lists in
+pub returns : goal.returns
+returns g c =
+    let h = c.nodes.invariant in
     let before = c.args.pass.now.view in
+    let new = c.nodes.pass.view in
     let from = c.hand_point-from.result in
-    let all = take_all c.nodes.index near (omega (arith, c.nodes-test.false, c.count-count.ensures)) in
+    let space = space_of c.args.shared.now.task.scene in
+    let near = nodes_on c.args.among c.args.pass.now.lists in
+    let ended : length near ≤ c.nodes.index = omega (arith, c.nodes-test.false, c.count-count.ensures) in
+    let all = take_all c.nodes.index near ended in
     let held = some_hand before.hand c.requires.hand in
-    let own = subst (λ s. All (IsRewired s before c.nodes.pass.view from (cost_seen before (c.args.k + 1))) (take c.nodes.index near))
-    c.requires.hall c.nodes.invariant.earlier in
-    all_rewired before c.args.k from held.0 held.1 c.requires.placed c.hand_point-from.ensures (space_of c.args.shared.now.task.scene)
-    c.nodes.pass.view near c.requires.belongs.lawful
-    (subst (All (IsRewired (space_of c.args.shared.now.task.scene) before c.nodes.pass.view from (cost_seen before (c.args.k + 1)))) all own)
-
-pub returns-clause-spread : goal.returns-clause-spread
-returns-clause-spread g c =
-    let near = nodes_on c.args.among c.args.pass.now.lists in
     let next : c.args.k + 1 ≡ suc c.args.k = omega arith in
-    subst (λ s. HasSpreadFalls s (Contains near) (suc c.args.k) c.args.pass.now.view c.nodes.pass.view) c.requires.hall
-    (subst (λ n. HasSpreadFalls (g.C.Clearing.space c.args.hall.now) (Contains near) n c.args.pass.now.view c.nodes.pass.view) next
-    c.nodes.invariant.spread)
-
-pub returns-clause-whole : goal.returns-clause-whole
-returns-clause-whole g c =
-    let near = nodes_on c.args.among c.args.pass.now.lists in
-    let none : drop c.nodes.index near ≡ [] = drop_all c.nodes.index near (omega (arith, c.nodes-test.false, c.count-count.ensures)) in
-    let next : c.args.k + 1 ≡ suc c.args.k = omega arith in
-    λ all tree mirrors.
-    let was = c.nodes.invariant.whole all tree mirrors in
-    let rest = subst (λ (ns : List ℕ). Rewires (g.C.Clearing.space c.args.hall.now) was.now (c.args.k + 1) ns was.now) (sym none) refl in
-    let rewired = subst (λ s. Rewires s tree (c.args.k + 1) near was.now) c.requires.hall (was.leads was.now rest) in
-    (was.now, subst (λ n. Rewires (space_of c.args.shared.now.task.scene) tree n near was.now) next rewired, was.mirrors)
+    record {
+      belongs = h.steps.belongs;
+      seen = h.steps.sees_anew;
+      lists = (h.steps.near, h.steps.around, h.steps.search);
+      pairs = subst (All (SeesPair new)) all (λ k d below. (h.earlier k d below).pair);
+      rewired = all_rewired before c.args.k from held.0 held.1 c.requires.placed c.hand_point-from.ensures space new near c.requires.belongs.lawful
+          (subst (All (IsRewired space before new from (cost_seen before (c.args.k + 1)))) all
+          (subst (λ s. All (IsRewired s before new from (cost_seen before (c.args.k + 1))) (take c.nodes.index near)) c.requires.hall h.earlier));
+      spread = subst (λ s. HasSpreadFalls s (Contains near) (suc c.args.k) before new) c.requires.hall
+          (subst (λ n. HasSpreadFalls (g.C.Clearing.space c.args.hall.now) (Contains near) n before new) next h.spread);
+      goals = h.goals;
+      whole = λ all tree mirrors.
+          let was = h.whole all tree mirrors in
+          let rest = subst (λ (ns : List ℕ). Rewires (g.C.Clearing.space c.args.hall.now) was.now (c.args.k + 1) ns was.now)
+          (sym (drop_all c.nodes.index near ended)) refl in
+          let rewired = subst (λ s. Rewires s tree (c.args.k + 1) near was.now) c.requires.hall (was.leads was.now rest) in
+          (was.now, subst (λ n. Rewires space tree n near was.now) next rewired, was.mirrors);
+    }

@@ -1,7 +1,7 @@
 use Rattle.tree_rewire.proofs.Words.{◌≡◌, ◌≢◌, ℕ, ◌∙◌, ◌+◌, ◌*◌, ◌<◌, ◌≤◌, ap, arith, inl, inr, refl, subst, sym, cases_lt, Clear, cost_of, squared_distance}
 use Rattle.tree_rewire.proofs.Words.{point_of, IsCheaperThrough, with_parent, squared_distance-swap, TreeOf, cost_in, HasPostedGoals, SeesAsBefore}
-use Rattle.tree_rewire.proofs.Words.{HasWholeShare, GoesOn-trans, HasPostedGoals-same, sees, setup_in, tree_seen, IsBounded-seen, IsPresent-later, NamesLowered}
-use Rattle.tree_rewire.proofs.Words.{NamesLoweredOrPoint, NamesNothing, NamesTree, PassLowers, PassSees, SeesPair, cost_seen}
+use Rattle.tree_rewire.proofs.Words.{HasWholeShare, GoesOn-trans, HasPostedGoals-same, sees, setup_in, tree_seen, IsBounded-seen, IsPresent-later}
+use Rattle.tree_rewire.proofs.Words.{NamesNothing, NamesTree, PassLowers, PassSees, SeesPair, cost_seen}
 use Rattle.tree_rewire.proofs.CostSteps.{PassLowers-sees, PassLowers-trans}
 use Rattle.tree_rewire.proofs.CostSteps.{PassSees-more, PassSees-point, PassSees-trans, Lowered-tree, LoweredOrPoint-lowered}
 use Rattle.tree_rewire.proofs.LoweredCosts.{IsWithinParent-below}
@@ -33,14 +33,13 @@ loads_point g c =
 -- its cost is known, and its point is loaded
 loads : (g : Over) (c : After-seen_cost g) → PassSees NamesTree c.args.shared.now c.args.pass.now c.point-to.new.pass
 loads g c =
-    PassSees-trans NamesTree c.args.shared.now c.args.pass.now c.known_cost-kept_cost.new.pass c.point-to.new.pass c.known_cost-kept_cost.ensures.steps
-    (PassSees-more NamesNothing NamesTree c.args.shared.now c.known_cost-kept_cost.new.pass c.point-to.new.pass (λ name no. absurd no) (loads_point g c))
+    PassSees-trans c.known_cost-kept_cost.ensures.steps (PassSees-more (λ name no. absurd no) (loads_point g c))
 
 -- a pass with the whole share sees nothing new by that
 loads_whole : (g : Over) (c : After-seen_cost g) → HasWholeShare c.args.pass.now.view → SeesAsBefore c.args.pass.now.view c.point-to.new.pass.view
 loads_whole g c all =
     SeesAsBefore-trans c.args.pass.now.view c.known_cost-kept_cost.new.pass.view c.point-to.new.pass.view (c.known_cost-kept_cost.ensures.whole all)
-    (SeesAsBefore-none c.known_cost-kept_cost.new.pass.view c.point-to.new.pass.view (loads_point g c).sees_anew)
+    (SeesAsBefore-none (loads_point g c).sees_anew)
 
 -- and what was seen with a cost is seen as before
 loads_kept : (g : Over) (c : After-seen_cost g) → (n : ℕ) → SeesPair c.args.pass.now.view n
@@ -55,6 +54,20 @@ to_is g c =
 
 pub costs_less_through-requires-clause-from : goal.costs_less_through-requires-clause-from
 costs_less_through-requires-clause-from g c = IsBounded-seen c.args.pass.now.view c.args.parent c.args.from c.requires.parent
+
+-- a pass with the whole share keeps its goal nodes posted
+loads_goals : (g : Over) (c : After-seen_cost g) → HasWholeShare c.args.pass.now.view → HasPostedGoals c.args.pass.now.view
+    → HasPostedGoals c.point-to.new.pass.view
+loads_goals g c all =
+    HasPostedGoals-same c.args.pass.now.view c.point-to.new.pass.view (loads g c).sees_anew.goes_on (loads_whole g c all)
+
+-- and what the node was seen to cost is what it is seen to cost still
+kept_is : (g : Over) (c : After-seen_cost g) → c.known_cost-kept_cost.result ≡ cost_seen c.point-to.new.pass.view c.args.node
+kept_is g c = omega (arith, c.known_cost-kept_cost.ensures.cost, ap cost_in ((loads_point g c).sees_anew.others (TreeOf c.args.node) (λ no. no)))
+
+pair_then : (g : Over) (c : After-seen_cost g) → SeesPair c.point-to.new.pass.view c.args.node
+pair_then g c =
+    SeesPair-later c.known_cost-kept_cost.new.pass.view c.point-to.new.pass.view c.point-to.ensures.goes_on c.args.node c.known_cost-kept_cost.ensures.pair
 
 pub improve-requires-clause-belongs : goal.improve-requires-clause-belongs
 improve-requires-clause-belongs g c = (loads g (goal.at.improve-requires-clause-belongs g c).After-seen_cost).belongs
@@ -90,210 +103,137 @@ pub improve-requires-clause-from : goal.improve-requires-clause-from
 improve-requires-clause-from g c = IsBounded-seen c.args.pass.now.view c.args.parent c.args.from c.requires.parent
 
 pub improve-requires-clause-pair : goal.improve-requires-clause-pair
-improve-requires-clause-pair g c =
-    SeesPair-later c.known_cost-kept_cost.new.pass.view c.point-to.new.pass.view c.point-to.ensures.goes_on c.args.node c.known_cost-kept_cost.ensures.pair
+improve-requires-clause-pair g c = pair_then g (goal.at.improve-requires-clause-pair g c).After-seen_cost
 
 pub spread-requires-clause-pair : goal.spread-requires-clause-pair
 spread-requires-clause-pair g c =
     SeesPair-later c.point-to.new.pass.view c.improve.new.pass.view c.improve.ensures.steps.sees_anew.goes_on c.args.node
-    (SeesPair-later c.known_cost-kept_cost.new.pass.view c.point-to.new.pass.view c.point-to.ensures.goes_on c.args.node c.known_cost-kept_cost.ensures.pair)
+    (pair_then g (goal.at.spread-requires-clause-pair g c).After-seen_cost)
 
-pub returns-then-clear-clause-steps : goal.returns-then-clear-clause-steps
-returns-then-clear-clause-steps g c =
-    let to = (goal.at.returns-then-clear-clause-steps g c).After-seen_cost in
-    let shared = c.args.shared.now in
-    let lowers = PassSees-trans NamesLowered shared c.args.pass.now c.point-to.new.pass c.improve.new.pass
-    (PassSees-more NamesTree NamesLowered shared c.args.pass.now c.point-to.new.pass Lowered-tree (loads g to)) c.improve.ensures.steps in
-    let spreads : PassLowers shared c.improve.new.pass c.spread.new.pass = record {
+-- ---- what is answered
+
+pub returns-then-clear : goal.returns-then-clear
+returns-then-clear g c =
+    let here = (goal.at.returns-then-clear g c).After-seen_cost in
+    let space = g.C.Clearing.space c.args.hall.now in
+    let start = c.args.pass.now.view in
+    let before = c.point-to.new.pass.view in
+    let mid = c.improve.new.pass.view in
+    let after = c.spread.new.pass.view in
+    let n = c.args.parent in
+    let i = c.args.node in
+    let from = c.args.from in
+    let at = c.point-to.result in
+    let loads = loads g here in
+    let loaded = loads.sees_anew.goes_on in
+    let improves = c.improve.ensures.steps in
+    let improved = improves.sees_anew.goes_on in
+    let spread = c.spread.ensures.seen in
+    let spreads : PassLowers c.args.shared.now c.improve.new.pass c.spread.new.pass = record {
       belongs = c.spread.ensures.belongs;
-      sees_anew = c.spread.ensures.seen;
+      sees_anew = spread;
       near = c.spread.ensures.lists.0;
       around = c.spread.ensures.lists.1;
       search = c.spread.ensures.lists.2;
     } in
-    PassLowers-trans shared c.args.pass.now c.improve.new.pass c.spread.new.pass
-    (PassLowers-sees shared c.args.pass.now c.improve.new.pass
-    (PassSees-more NamesLowered NamesLoweredOrPoint shared c.args.pass.now c.improve.new.pass LoweredOrPoint-lowered lowers))
-    spreads
-
-pub returns-then-clear-clause-pair : goal.returns-then-clear-clause-pair
-returns-then-clear-clause-pair g c =
-    SeesPair-later c.improve.new.pass.view c.spread.new.pass.view c.spread.ensures.seen.goes_on c.args.node
-    (SeesPair-later c.point-to.new.pass.view c.improve.new.pass.view c.improve.ensures.steps.sees_anew.goes_on c.args.node
-    (SeesPair-later c.known_cost-kept_cost.new.pass.view c.point-to.new.pass.view c.point-to.ensures.goes_on c.args.node c.known_cost-kept_cost.ensures.pair))
-
-pub returns-then-clear-clause-rewired : goal.returns-then-clear-clause-rewired
-returns-then-clear-clause-rewired g c =
-    let to = (goal.at.returns-then-clear-clause-rewired g c).After-seen_cost in
-    let pair = SeesPair-later c.point-to.new.pass.view c.improve.new.pass.view c.improve.ensures.steps.sees_anew.goes_on c.args.node
-    (SeesPair-later c.known_cost-kept_cost.new.pass.view c.point-to.new.pass.view c.point-to.ensures.goes_on c.args.node c.known_cost-kept_cost.ensures.pair) in
-    λ clear.
-    omega (
-      arith,
-      c.improve.ensures.most,
-      cost_seen-later c.improve.new.pass.view c.spread.new.pass.view c.spread.ensures.seen.goes_on c.args.node pair,
-      cost_seen-later c.args.pass.now.view c.point-to.new.pass.view (loads g to).sees_anew.goes_on c.args.parent c.requires.parent_pair,
-      ap (cost_of c.args.from) (to_is g to),
-    )
-
-pub returns-then-clear-clause-spread : goal.returns-then-clear-clause-spread
-returns-then-clear-clause-spread g c =
-    let to = (goal.at.returns-then-clear-clause-spread g c).After-seen_cost in
-    let space = g.C.Clearing.space c.args.hall.now in
-    let start = c.args.pass.now.view in
-    let before = c.point-to.new.pass.view in
-    let mid = c.improve.new.pass.view in
-    let after = c.spread.new.pass.view in
-    let n = c.args.parent in
-    let i = c.args.node in
-    let from = c.args.from in
-    let at = c.point-to.result in
-    let improved = c.improve.ensures.steps.sees_anew.goes_on in
-    let spread = c.spread.ensures.seen.goes_on in
-    let to_mid = GoesOn-trans start before mid (loads g to).sees_anew.goes_on improved in
-    let kept_is : c.known_cost-kept_cost.result ≡ cost_seen before i =
-    omega (arith, c.known_cost-kept_cost.ensures.cost, ap cost_in ((loads_point g to).sees_anew.others (TreeOf i) (λ no. no))) in
+    let pair = SeesPair-later before mid improved i (pair_then g here) in
+    let to_mid = GoesOn-trans start before mid loaded improved in
     let less : cost_seen before n + cost_of from at < cost_seen before i =
-    omega (arith, c.costs_less_through.ensures.0 c.if-costs_less_through.true, c.seen_cost.ensures, kept_is) in
+    omega (arith, c.costs_less_through.ensures.0 c.if-costs_less_through.true, c.seen_cost.ensures, kept_is g here) in
+    let clear = c.clear.ensures.0 c.if-clear.true in
     let apart : n ≢ i = λ e. omega (arith, less, ap (cost_seen before) e) in
-    HasSpreadFalls-turn space n i start mid after to_mid spread (λ m pair other. c.improve.ensures.others m other ∙ loads_kept g to m pair)
-    (λ pair. IsShortcut-seen space start after n i from at (GoesOn-trans start mid after to_mid spread) c.requires.parent (to_is g to)
-    (c.clear.ensures.0 c.if-clear.true)
-    (omega (
-      arith,
-      less,
-      cost_seen-later start before (loads g to).sees_anew.goes_on i pair,
-      ap cost_in (c.improve.ensures.others n apart),
-      cost_seen-later mid after spread n (SeesPair-later start mid to_mid n c.requires.parent_pair),
-    )))
-    (λ own. IsWithinParent-below mid i n at from own (stands_later before mid improved i at c.point-to.ensures.found)
-    (stands_later start mid to_mid n from c.requires.parent) (omega (arith, c.improve.ensures.most, ap cost_in (c.improve.ensures.others n apart))))
-    c.spread.ensures.spread c.spread.ensures.settled
-
-pub returns-else-costs_less_through-clause-spread : goal.returns-else-costs_less_through-clause-spread
-returns-else-costs_less_through-clause-spread g c =
-    HasSpreadFalls-none (g.C.Clearing.space c.args.hall.now) (λ n. n ≡ c.args.node) c.args.parent c.args.pass.now.view c.point-to.new.pass.view
-    (loads_kept g (goal.at.returns-else-costs_less_through-clause-spread g c).After-seen_cost)
-
-pub returns-else-costs_less_through-clause-steps : goal.returns-else-costs_less_through-clause-steps
-returns-else-costs_less_through-clause-steps g c =
-    let to = (goal.at.returns-else-costs_less_through-clause-steps g c).After-seen_cost in
-    PassLowers-sees c.args.shared.now c.args.pass.now c.point-to.new.pass
-    (PassSees-more NamesTree NamesLoweredOrPoint c.args.shared.now c.args.pass.now c.point-to.new.pass
-    (λ name h. LoweredOrPoint-lowered name (Lowered-tree name h)) (loads g to))
-
-pub returns-else-costs_less_through-clause-pair : goal.returns-else-costs_less_through-clause-pair
-returns-else-costs_less_through-clause-pair g c =
-    SeesPair-later c.known_cost-kept_cost.new.pass.view c.point-to.new.pass.view c.point-to.ensures.goes_on c.args.node c.known_cost-kept_cost.ensures.pair
-
-pub returns-else-costs_less_through-clause-rewired : goal.returns-else-costs_less_through-clause-rewired
-returns-else-costs_less_through-clause-rewired g c =
-    let to = (goal.at.returns-else-costs_less_through-clause-rewired g c).After-seen_cost in
-    let to_is = to_is g to in
-    λ clear. elim c.else-costs_less_through.branch [
-      | else-costs_less_through-via-then-costs_less_through+else-clear w ↦
-          absurd (let yes = w.clear.ensures.1 (subst (Clear (g.C.Clearing.space c.args.hall.now) c.args.from) (sym to_is) clear) in cc)
-      | else-costs_less_through-via-else-costs_less_through w ↦
-          elim (cases_lt (c.seen_cost.result + cost_of c.args.from c.point-to.result) c.known_cost-kept_cost.result) [
-            | inl less ↦ absurd (let yes = c.costs_less_through.ensures.1 less in let no = w.if-costs_less_through.false in cc)
-            | inr most ↦
-                omega (
-                  arith,
-                  most,
-                  c.known_cost-kept_cost.ensures.cost,
-                  ap cost_in ((loads_point g to).sees_anew.others (TreeOf c.args.node) (λ no. no)),
-                  c.seen_cost.ensures,
-                  cost_seen-later c.args.pass.now.view c.point-to.new.pass.view (loads g to).sees_anew.goes_on c.args.parent c.requires.parent_pair,
-                  ap (cost_of c.args.from) to_is,
-                )
-          ]
-    ]
-
-pub returns-then-clear-clause-whole : goal.returns-then-clear-clause-whole
-returns-then-clear-clause-whole g c =
-    let to = (goal.at.returns-then-clear-clause-whole g c).After-seen_cost in
-    let start = c.args.pass.now.view in
-    let before = c.point-to.new.pass.view in
-    let mid = c.improve.new.pass.view in
-    let after = c.spread.new.pass.view in
-    let n = c.args.parent in
-    let i = c.args.node in
-    let from = c.args.from in
-    let at = c.point-to.result in
-    let loads = loads g to in
-    let improved = c.improve.ensures.steps.sees_anew in
-    let spread = c.spread.ensures.seen in
-    let parent_stands = stands_later start before loads.sees_anew.goes_on n from c.requires.parent in
+    let most : cost_seen mid i ≤ cost_seen mid n + cost_of from at =
+    omega (arith, c.improve.ensures.most, ap cost_in (c.improve.ensures.others n apart)) in
+    let parent_stands = stands_later start before loaded n from c.requires.parent in
     let stands = c.point-to.ensures.found in
-    let less : cost_seen before n + cost_of from at < cost_seen before i =
-    omega (
-      arith,
-      c.costs_less_through.ensures.0 c.if-costs_less_through.true,
-      c.seen_cost.ensures,
-      c.known_cost-kept_cost.ensures.cost,
-      ap cost_in ((loads_point g to).sees_anew.others (TreeOf i) (λ no. no)),
-    ) in
-    let lawful = loads.sees_anew.goes_on.lawful in
-    λ all tree mirrors.
-    let all_before = HasWholeShare-later NamesTree start before loads.sees_anew all in
-    let all_mid = HasWholeShare-later NamesLowered before mid improved all_before in
-    let all_after = HasWholeShare-later NamesLoweredOrPoint mid after spread all_mid in
-    let same = Mirrors-same start before tree loads.sees_anew.goes_on.later (loads_whole g to all) mirrors in
-    let writes = c.improve.ensures.whole all_before less in
-    let tight = c.spread.ensures.whole_tight all_mid
-    (AllTightBut-lowered before mid tree n i from at lawful all_before same parent_stands stands less improved.goes_on.later writes) in (
-      with_parent tree i n,
-      inl (
-        IsCheaperThrough-seen before tree n i from at same parent_stands stands (g.C.Clearing.space c.args.hall.now) less (c.clear.ensures.0 c.if-clear.true),
-        refl,
-      ),
-      Mirrors-rewired before mid tree n i from at lawful all_before same parent_stands stands less improved.goes_on.later writes after
-          (GoesOn-trans before mid after improved.goes_on spread.goes_on) all_after spread.goes_on.later (c.spread.ensures.whole all_mid) tight,
-    )
+    let whole_before : HasWholeShare start → HasWholeShare before = HasWholeShare-later loads.sees_anew in
+    let whole_mid : HasWholeShare start → HasWholeShare mid = λ all. HasWholeShare-later improves.sees_anew (whole_before all) in
+    record {
+      steps = PassLowers-trans
+          (PassLowers-sees (PassSees-more LoweredOrPoint-lowered (PassSees-trans (PassSees-more Lowered-tree loads) improves))) spreads;
+      pair = SeesPair-later mid after spread.goes_on i pair;
+      rewired = λ clear.
+          omega (
+            arith,
+            c.improve.ensures.most,
+            cost_seen-later mid after spread.goes_on i pair,
+            cost_seen-later start before loaded n c.requires.parent_pair,
+            ap (cost_of from) (to_is g here),
+          );
+      spread = HasSpreadFalls-turn space n i start mid after to_mid spread.goes_on
+          (λ m pair other. c.improve.ensures.others m other ∙ loads_kept g here m pair)
+          (λ pair. IsShortcut-seen space start after n i from at (GoesOn-trans start mid after to_mid spread.goes_on) c.requires.parent (to_is g here) clear
+          (omega (
+            arith,
+            less,
+            cost_seen-later start before loaded i pair,
+            ap cost_in (c.improve.ensures.others n apart),
+            cost_seen-later mid after spread.goes_on n (SeesPair-later start mid to_mid n c.requires.parent_pair),
+          )))
+          (λ own. IsWithinParent-below mid i n at from own (stands_later before mid improved i at stands)
+          (stands_later start mid to_mid n from c.requires.parent) most)
+          c.spread.ensures.spread c.spread.ensures.settled;
+      goals = λ all posted. c.spread.ensures.goals (whole_mid all) (c.improve.ensures.goals (whole_before all) (loads_goals g here all posted));
+      whole = λ all tree mirrors.
+          let same = Mirrors-same start before tree loaded.later (loads_whole g here all) mirrors in
+          let writes = c.improve.ensures.whole (whole_before all) less in
+          let tight = c.spread.ensures.whole_tight (whole_mid all)
+          (AllTightBut-lowered before mid tree n i from at loaded.lawful (whole_before all) same parent_stands stands less improved.later writes) in (
+            with_parent tree i n,
+            inl (IsCheaperThrough-seen before tree n i from at same parent_stands stands space less clear, refl),
+            Mirrors-rewired before mid tree n i from at loaded.lawful (whole_before all) same parent_stands stands less improved.later writes after
+                (GoesOn-trans before mid after improved spread.goes_on) (HasWholeShare-later spread (whole_mid all)) spread.goes_on.later
+                (c.spread.ensures.whole (whole_mid all)) tight,
+          );
+    }
 
-pub returns-else-costs_less_through-clause-whole : goal.returns-else-costs_less_through-clause-whole
-returns-else-costs_less_through-clause-whole g c =
-    let to = (goal.at.returns-else-costs_less_through-clause-whole g c).After-seen_cost in
-    let start = c.args.pass.now.view in
-    let before = c.point-to.new.pass.view in
-    let n = c.args.parent in
-    let i = c.args.node in
-    let from = c.args.from in
-    let at = c.point-to.result in
+pub returns-else-costs_less_through : goal.returns-else-costs_less_through
+returns-else-costs_less_through g c =
+    let here = (goal.at.returns-else-costs_less_through g c).After-seen_cost in
     let space = g.C.Clearing.space c.args.hall.now in
-    let loads = loads g to in
-    let parent_stands = stands_later start before loads.sees_anew.goes_on n from c.requires.parent in
+    let start = c.args.pass.now.view in
+    let before = c.point-to.new.pass.view in
+    let n = c.args.parent in
+    let i = c.args.node in
+    let from = c.args.from in
+    let at = c.point-to.result in
+    let loads = loads g here in
+    let loaded = loads.sees_anew.goes_on in
+    let parent_stands = stands_later start before loaded n from c.requires.parent in
     let stands = c.point-to.ensures.found in
-    let kept_is : c.known_cost-kept_cost.result ≡ cost_seen before i =
-    omega (arith, c.known_cost-kept_cost.ensures.cost, ap cost_in ((loads_point g to).sees_anew.others (TreeOf i) (λ no. no))) in
-    λ all tree mirrors.
-    let same = Mirrors-same start before tree loads.sees_anew.goes_on.later (loads_whole g to all) mirrors in
-    let not : ¬ IsCheaperThrough space tree n i =
-    λ h. elim c.else-costs_less_through.branch [
-      | else-costs_less_through-via-then-costs_less_through+else-clear w ↦
-          (let yes = w.clear.ensures.1 (Clear-cheaper_through before tree n i from at same parent_stands stands space h) in cc)
-      | else-costs_less_through-via-else-costs_less_through w ↦
-          (let less = less-cheaper_through before tree n i from at same parent_stands stands space h in
-          let yes = c.costs_less_through.ensures.1 (omega (arith, less, kept_is, c.seen_cost.ensures)) in
-          let no = w.if-costs_less_through.false in
-          cc)
-    ] in
-    (tree, inr (not, refl), same)
-
--- ---- goal nodes
-
--- by the looks at the node nothing is seen anew
-loads_goals : (g : Over) (c : After-seen_cost g) → HasWholeShare c.args.pass.now.view → HasPostedGoals c.args.pass.now.view
-    → HasPostedGoals c.point-to.new.pass.view
-loads_goals g c all =
-    HasPostedGoals-same c.args.pass.now.view c.point-to.new.pass.view (loads g c).sees_anew.goes_on (loads_whole g c all)
-
-pub returns-then-clear-clause-goals : goal.returns-then-clear-clause-goals
-returns-then-clear-clause-goals g c all posted =
-    let to = (goal.at.returns-then-clear-clause-goals g c).After-seen_cost in
-    let all_before = HasWholeShare-later NamesTree c.args.pass.now.view c.point-to.new.pass.view (loads g to).sees_anew all in
-    let all_mid = HasWholeShare-later NamesLowered c.point-to.new.pass.view c.improve.new.pass.view c.improve.ensures.steps.sees_anew all_before in
-    c.spread.ensures.goals all_mid (c.improve.ensures.goals all_before (loads_goals g to all posted))
-
-pub returns-else-costs_less_through-clause-goals : goal.returns-else-costs_less_through-clause-goals
-returns-else-costs_less_through-clause-goals g c = loads_goals g (goal.at.returns-else-costs_less_through-clause-goals g c).After-seen_cost
+    record {
+      steps = PassLowers-sees (PassSees-more (λ name h. LoweredOrPoint-lowered name (Lowered-tree name h)) loads);
+      pair = pair_then g here;
+      rewired = λ clear. elim c.else-costs_less_through.branch [
+        | else-costs_less_through-via-then-costs_less_through+else-clear w ↦
+            absurd (let yes = w.clear.ensures.1 (subst (Clear space from) (sym (to_is g here)) clear) in cc)
+        | else-costs_less_through-via-else-costs_less_through w ↦
+            elim (cases_lt (c.seen_cost.result + cost_of from at) c.known_cost-kept_cost.result) [
+              | inl less ↦ absurd (let yes = c.costs_less_through.ensures.1 less in let no = w.if-costs_less_through.false in cc)
+              | inr most ↦
+                  omega (
+                    arith,
+                    most,
+                    kept_is g here,
+                    c.seen_cost.ensures,
+                    cost_seen-later start before loaded n c.requires.parent_pair,
+                    ap (cost_of from) (to_is g here),
+                  )
+            ]
+      ];
+      spread = HasSpreadFalls-none space (λ m. m ≡ i) n start before (loads_kept g here);
+      goals = loads_goals g here;
+      whole = λ all tree mirrors.
+          let same = Mirrors-same start before tree loaded.later (loads_whole g here all) mirrors in
+          let not : ¬ IsCheaperThrough space tree n i =
+          λ h. elim c.else-costs_less_through.branch [
+            | else-costs_less_through-via-then-costs_less_through+else-clear w ↦
+                (let yes = w.clear.ensures.1 (Clear-cheaper_through before tree n i from at same parent_stands stands space h) in cc)
+            | else-costs_less_through-via-else-costs_less_through w ↦
+                (let less = less-cheaper_through before tree n i from at same parent_stands stands space h in
+                let yes = c.costs_less_through.ensures.1 (omega (arith, less, kept_is g here, c.seen_cost.ensures)) in
+                let no = w.if-costs_less_through.false in
+                cc)
+          ] in
+          (tree, inr (not, refl), same);
+    }

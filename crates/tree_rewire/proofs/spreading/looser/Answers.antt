@@ -17,7 +17,7 @@ loads c =
     c.point-here.ensures.goes_on c.point-here.ensures.seen c.point-here.ensures.looked in
     let other = PassSees-any_point c.args.shared.now c.point-here.new.pass c.point-there.new.pass c.unwrap-parent.result.0 _ _ one.belongs
     c.point-there.ensures.view c.point-there.ensures.goes_on c.point-there.ensures.seen c.point-there.ensures.looked in
-    PassSees-trans NamesPoint c.args.shared.now c.args.pass.now c.point-here.new.pass c.point-there.new.pass one other
+    PassSees-trans one other
 
 -- with the whole share they are found as they were seen
 wholes : (c : After-costs_less_through) → HasWholeShare c.args.pass.now.view → SeesAsBefore c.args.pass.now.view c.point-there.new.pass.view
@@ -30,47 +30,45 @@ wholes c all =
     SeesAsBefore-trans old mid new
     (SeesAsBefore-loaded old mid (PointOf c.args.node) _ c.point-here.ensures.seen (c.point-here.ensures.whole all))
     (SeesAsBefore-loaded mid new (PointOf c.unwrap-parent.result.0) _ c.point-there.ensures.seen
-    (c.point-there.ensures.whole (HasWholeShare-later NamesPoint old mid one.sees_anew all)))
+    (c.point-there.ensures.whole (HasWholeShare-later one.sees_anew all)))
 
-pub returns-then-costs_less_through-clause-whole : goal.returns-then-costs_less_through-clause-whole
-returns-then-costs_less_through-clause-whole c all = wholes (goal.at.returns-then-costs_less_through-clause-whole c).After-costs_less_through all
-
-pub returns-else-costs_less_through-clause-whole : goal.returns-else-costs_less_through-clause-whole
-returns-else-costs_less_through-clause-whole c all = wholes (goal.at.returns-else-costs_less_through-clause-whole c).After-costs_less_through all
-
-pub returns-then-costs_less_through-clause-parent : goal.returns-then-costs_less_through-clause-parent
-returns-then-costs_less_through-clause-parent c =
-    let steps = loads (goal.at.returns-then-costs_less_through-clause-parent c).After-costs_less_through in
-    let pair = subst (λ o. IfSome o (IsPairIn (sees c.args.pass.now.view (TreeOf c.args.node)))) c.unwrap-parent.ensures c.pair.ensures.found in
-    pair.parent ∙ ap parent_in (sym (steps.sees_anew.others (TreeOf c.args.node) (λ no. no)))
-
-pub returns-then-costs_less_through-clause-steps : goal.returns-then-costs_less_through-clause-steps
-returns-then-costs_less_through-clause-steps c = loads (goal.at.returns-then-costs_less_through-clause-steps c).After-costs_less_through
-
-pub returns-then-costs_less_through-clause-some : goal.returns-then-costs_less_through-clause-some
-returns-then-costs_less_through-clause-some c =
-    let steps = loads (goal.at.returns-then-costs_less_through-clause-some c).After-costs_less_through in
+pub returns-then-costs_less_through : goal.returns-then-costs_less_through
+returns-then-costs_less_through c =
+    let here = (goal.at.returns-then-costs_less_through c).After-costs_less_through in
+    let steps = loads here in
+    let seen = steps.sees_anew in
     let new = c.point-there.new.pass.view in
     let pair = subst (λ o. IfSome o (IsPairIn (sees c.args.pass.now.view (TreeOf c.args.node)))) c.unwrap-parent.ensures c.pair.ensures.found in
-    MayLower-parent c.args.pass.now.view new c.args.node c.unwrap-parent.result.0 c.unwrap-parent.result.1 c.in_ok-above.above _ c.point-here.result
-    c.point-there.result steps.sees_anew.goes_on.lawful (λ m. steps.sees_anew.others (TreeOf m) (λ no. no)) pair c.in_ok-above.ensures.found
-    (stands_later c.point-here.new.pass.view new c.point-there.ensures.goes_on c.args.node c.point-here.result c.point-here.ensures.found)
-    c.point-there.ensures.found (c.in_ok-above.above + c.cost.result) (omega (arith, c.cost.ensures.value))
-    (omega (arith, c.cost.ensures.value, c.costs_less_through.ensures.0 c.if-costs_less_through.true))
+    record {
+      steps = steps;
+      some = MayLower-parent c.args.pass.now.view new c.args.node c.unwrap-parent.result.0 c.unwrap-parent.result.1 c.in_ok-above.above _
+          c.point-here.result c.point-there.result seen.goes_on.lawful (λ m. seen.others (TreeOf m) (λ no. no)) pair c.in_ok-above.ensures.found
+          (stands_later c.point-here.new.pass.view new c.point-there.ensures.goes_on c.args.node c.point-here.result c.point-here.ensures.found)
+          c.point-there.ensures.found (c.in_ok-above.above + c.cost.result) (omega (arith, c.cost.ensures.value))
+          (omega (arith, c.cost.ensures.value, c.costs_less_through.ensures.0 c.if-costs_less_through.true));
+      parent = pair.parent ∙ ap parent_in (sym (seen.others (TreeOf c.args.node) (λ no. no)));
+      none = tt;
+      whole = wholes here;
+    }
 
-pub returns-else-costs_less_through-clause-steps : goal.returns-else-costs_less_through-clause-steps
-returns-else-costs_less_through-clause-steps c = loads (goal.at.returns-else-costs_less_through-clause-steps c).After-costs_less_through
-
-pub returns-else-costs_less_through-clause-none : goal.returns-else-costs_less_through-clause-none
-returns-else-costs_less_through-clause-none c =
-    let steps = loads (goal.at.returns-else-costs_less_through-clause-none c).After-costs_less_through in
+pub returns-else-costs_less_through : goal.returns-else-costs_less_through
+returns-else-costs_less_through c =
+    let here = (goal.at.returns-else-costs_less_through c).After-costs_less_through in
+    let steps = loads here in
+    let seen = steps.sees_anew in
     let new = c.point-there.new.pass.view in
     let pair = subst (λ o. IfSome o (IsPairIn (sees c.args.pass.now.view (TreeOf c.args.node)))) c.unwrap-parent.ensures c.pair.ensures.found in
-    IsWithinSeenParent-parent c.args.pass.now.view new c.args.node c.unwrap-parent.result.0 c.unwrap-parent.result.1 c.in_ok-above.above _ c.point-here.result
-    c.point-there.result steps.sees_anew.goes_on.lawful (λ m. steps.sees_anew.others (TreeOf m) (λ no. no)) pair c.in_ok-above.ensures.found
-    (stands_later c.point-here.new.pass.view new c.point-there.ensures.goes_on c.args.node c.point-here.result c.point-here.ensures.found)
-    c.point-there.ensures.found
-    (elim (cases_lt (c.in_ok-above.above + cost_of c.point-there.result c.point-here.result) c.unwrap-parent.result.1) [
-      | inl less ↦ absurd (let yes = c.costs_less_through.ensures.1 less in cc)
-      | inr most ↦ most
-    ])
+    record {
+      steps = steps;
+      some = tt;
+      parent = tt;
+      none = IsWithinSeenParent-parent c.args.pass.now.view new c.args.node c.unwrap-parent.result.0 c.unwrap-parent.result.1 c.in_ok-above.above _
+          c.point-here.result c.point-there.result seen.goes_on.lawful (λ m. seen.others (TreeOf m) (λ no. no)) pair c.in_ok-above.ensures.found
+          (stands_later c.point-here.new.pass.view new c.point-there.ensures.goes_on c.args.node c.point-here.result c.point-here.ensures.found)
+          c.point-there.ensures.found
+          (elim (cases_lt (c.in_ok-above.above + cost_of c.point-there.result c.point-here.result) c.unwrap-parent.result.1) [
+            | inl less ↦ absurd (let yes = c.costs_less_through.ensures.1 less in cc)
+            | inr most ↦ most
+          ]);
+      whole = wholes here;
+    }

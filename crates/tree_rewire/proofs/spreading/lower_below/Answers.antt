@@ -1,5 +1,5 @@
 use Rattle.tree_rewire.proofs.Words.{◌≡◌, ◌⊎◌, ◌+◌, ◌<◌, ◌≤◌, Some, None, ap, arith, inl, inr, length, refl, subst, sym, ◌∙◌, HasWholeShare, with_lists, IsOn}
-use Rattle.tree_rewire.proofs.Words.{HasPostedGoals-children, SharedRun, NamesLoweredOrPoint, PassLowers, cost_seen, IsSpreading, NoneRises, QueuesFallen}
+use Rattle.tree_rewire.proofs.Words.{HasPostedGoals-children, SharedRun, PassLowers, cost_seen, IsSpreading, NoneRises, QueuesFallen}
 use Rattle.tree_rewire.proofs.CostSteps.{PassLowers-lists, PassLowers-sees, PassLowers-trans}
 use Rattle.tree_rewire.proofs.LoweredBelow.{IsSpreading-found, NoneRises-children, NoneRises-settled, NoneRises-trans, PassLowers-looks}
 use Rattle.tree_rewire.proofs.LoweredBelow.{QueuesFallen-same, QueuesFallen-then, SpreadsFrom-all}
@@ -7,16 +7,7 @@ use Rattle.tree_rewire.proofs.SeenCosts.{cost_seen-later, pair_low}
 use Rattle.tree_rewire.proofs.SpreadCosts.{fallen_low, weigh, weigh-less}
 use Rattle.tree_rewire.proofs.WholeShares.{HasWholeShare-later, KeepsParents-children, KeepsParents-trans}
 use Rattle.tree_rewire.proofs.spreading.lower_below.Goals as goal
-use Rattle.tree_rewire.proofs.spreading.lower_below.Goals.{After-lower_children, After-queue_parent}
-
--- the children are lowered
-lowers : (c : After-lower_children) → PassLowers c.args.shared.now c.tries.pass c.lower_children.new.pass
-lowers c =
-    let done = c.lower_children.ensures in
-    PassLowers-looks c.args.shared.now c.tries.pass c.lower_children.new.pass done.belongs done.looks done.lists.0 done.lists.1 done.lists.2
-
-whole_now : (c : After-lower_children) → HasWholeShare c.args.pass.now.view → HasWholeShare c.tries.pass.view
-whole_now c all = HasWholeShare-later NamesLoweredOrPoint c.args.pass.now.view c.tries.pass.view c.tries.invariant.steps.sees_anew all
+use Rattle.tree_rewire.proofs.spreading.lower_below.Goals.{After-queue_parent}
 
 pub queue_parent-requires : goal.queue_parent-requires
 queue_parent-requires c =
@@ -30,9 +21,8 @@ queue_parent-requires c =
 settles : (c : After-queue_parent) → PassLowers c.args.shared.now c.tries.pass c.settle.new.pass
 settles c =
     let done = c.lower_children.ensures in
-    PassLowers-trans c.args.shared.now c.tries.pass c.lower_children.new.pass c.settle.new.pass
-    (PassLowers-looks c.args.shared.now c.tries.pass c.lower_children.new.pass done.belongs done.looks done.lists.0 done.lists.1 done.lists.2)
-    (PassLowers-sees c.args.shared.now c.lower_children.new.pass c.settle.new.pass c.settle.ensures.steps)
+    PassLowers-trans (PassLowers-looks c.args.shared.now c.tries.pass c.lower_children.new.pass done.belongs done.looks done.lists.0 done.lists.1 done.lists.2)
+    (PassLowers-sees c.settle.ensures.steps)
 
 queues : (c : After-queue_parent) → PassLowers c.args.shared.now c.settle.new.pass c.queue_parent.new.self
 queues c =
@@ -107,10 +97,10 @@ tries-preserved c =
     let found = c.in-Some.ensures in
     let queue = c.queue_parent.ensures in
     let more : NoneRises now.view new.view = subst (NoneRises now.view) (sym view_is) (rises at) in
-    let step = PassLowers-trans c.args.shared.now now set new (settles at) (queues at) in
+    let step = PassLowers-trans (settles at) (queues at) in
     let run = h.steps.sees_anew.goes_on.later.run in
     record {
-      steps = PassLowers-trans c.args.shared.now old now new h.steps step;
+      steps = PassLowers-trans h.steps step;
       spreads = λ node first start.
           subst (λ v. IsSpreading node first v (λ p. IsOn new.lists.waiting p ⊎ (p ≡ c.args.node))) (sym view_is)
           (IsSpreading-found c.args.node c.in-Some.child now mid set (IsOn new.lists.waiting) c.lower_children.ensures.looks.goes_on
@@ -124,44 +114,29 @@ tries-preserved c =
           queue.parent node first (h.spreads node first start));
       falls = NoneRises-trans old.view now.view new.view h.falls more;
       queued = QueuesFallen-then old now new h.queued h.falls more (step.sees_anew.goes_on.later.run ∙ run) (queued_then at) run;
-      goals = λ all.
-          absurd (let none = found.whole (HasWholeShare-later NamesLoweredOrPoint old.view now.view h.steps.sees_anew all) in cc);
-      whole = λ all.
-          absurd (let none = found.whole (HasWholeShare-later NamesLoweredOrPoint old.view now.view h.steps.sees_anew all) in cc);
+      goals = λ all. absurd (let none = found.whole (HasWholeShare-later h.steps.sees_anew all) in cc);
+      whole = λ all. absurd (let none = found.whole (HasWholeShare-later h.steps.sees_anew all) in cc);
     }
 
-pub returns-clause-steps : goal.returns-clause-steps
-returns-clause-steps c =
-    PassLowers-trans c.args.shared.now c.args.pass.now c.tries.pass c.lower_children.new.pass c.tries.invariant.steps
-    (lowers (goal.at.returns-clause-steps c).After-lower_children)
-
-pub returns-clause-spreads : goal.returns-clause-spreads
-returns-clause-spreads c node first start =
-    let done = c.in_default.ensures in
-    SpreadsFrom-all c.args.node c.tries.pass c.lower_children.new.pass c.lower_children.ensures.looks.goes_on done.lowered done.all done.parents
-    c.lower_children.ensures.keeps c.lower_children.ensures.only node first (c.tries.invariant.spreads node first start)
-
-pub returns-clause-queued : goal.returns-clause-queued
-returns-clause-queued c =
+pub returns : goal.returns
+returns c =
     let h = c.tries.invariant in
     let now = c.tries.pass in
     let mid = c.lower_children.new.pass in
+    let lower = c.lower_children.ensures in
+    let done = c.in_default.ensures in
     let run = h.steps.sees_anew.goes_on.later.run in
-    QueuesFallen-then c.args.pass.now now mid h.queued h.falls
-    (NoneRises-children now.view mid.view c.args.node None c.in_default.ensures.lowered (λ n no. absurd no))
-    (c.lower_children.ensures.looks.goes_on.later.run ∙ run) (QueuesFallen-same now mid (length now.view.run.marks + 1) refl c.lower_children.ensures.same) run
-
-pub returns-clause-whole : goal.returns-clause-whole
-returns-clause-whole c =
-    let at = (goal.at.returns-clause-whole c).After-lower_children in
-    λ all.
-    KeepsParents-trans c.args.pass.now.view c.tries.pass.view c.lower_children.new.pass.view (c.tries.invariant.whole all)
-    (KeepsParents-children c.tries.pass.view c.lower_children.new.pass.view c.args.node c.lower_children.ensures.looks
-    (c.lower_children.ensures.points (whole_now at all)) c.in_default.ensures.lowered)
-
-pub returns-clause-goals : goal.returns-clause-goals
-returns-clause-goals c =
-    let at = (goal.at.returns-clause-goals c).After-lower_children in
-    λ all posted.
-    HasPostedGoals-children c.tries.pass.view c.lower_children.new.pass.view c.lower_children.ensures.looks.goes_on
-    (c.lower_children.ensures.points (whole_now at all)) c.in_default.ensures.posted (c.tries.invariant.goals all posted)
+    let falls = NoneRises-children now.view mid.view c.args.node None done.lowered (λ n no. absurd no) in
+    let points = λ (all : HasWholeShare c.args.pass.now.view). lower.points (HasWholeShare-later h.steps.sees_anew all) in
+    record {
+      steps = PassLowers-trans h.steps
+          (PassLowers-looks c.args.shared.now now mid lower.belongs lower.looks lower.lists.0 lower.lists.1 lower.lists.2);
+      spreads = λ node first start.
+          SpreadsFrom-all c.args.node now mid lower.looks.goes_on done.lowered done.all done.parents lower.keeps lower.only node first
+          (h.spreads node first start);
+      falls = NoneRises-trans c.args.pass.now.view now.view mid.view h.falls falls;
+      queued = QueuesFallen-then c.args.pass.now now mid h.queued h.falls falls (lower.looks.goes_on.later.run ∙ run)
+          (QueuesFallen-same now mid (length now.view.run.marks + 1) refl lower.same) run;
+      goals = λ all posted. HasPostedGoals-children now.view mid.view lower.looks.goes_on (points all) done.posted (h.goals all posted);
+      whole = λ all. KeepsParents-trans (h.whole all) (KeepsParents-children now.view mid.view c.args.node lower.looks (points all) done.lowered);
+    }

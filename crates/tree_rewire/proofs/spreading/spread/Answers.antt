@@ -1,5 +1,5 @@
 use Rattle.tree_rewire.proofs.Words.{◌≡◌, ◌⊎◌, ◌≤◌, ◌+◌, [], ap, arith, inl, inr, length, refl, subst, sym, ◌∙◌, HasPostedGoals, HasWholeShare, with_lists}
-use Rattle.tree_rewire.proofs.Words.{HasSeenParent, IsOn, SharedRun, View, NamesLoweredOrPoint, PassLowers, SeesPair, IsSpreading, KeepsParents}
+use Rattle.tree_rewire.proofs.Words.{HasSeenParent, IsOn, SharedRun, View, SeesPair, IsSpreading, KeepsParents}
 use Rattle.tree_rewire.proofs.CostSteps.{PassLowers-lists, PassLowers-trans}
 use Rattle.tree_rewire.proofs.LoweredBelow.{measure_falls}
 use Rattle.tree_rewire.proofs.SeenCosts.{pair_low}
@@ -7,7 +7,6 @@ use Rattle.tree_rewire.proofs.SpreadCosts.{HasSettledChanges-ends, HasSpread-end
 use Rattle.tree_rewire.proofs.TightCosts.{AllTight-spread}
 use Rattle.tree_rewire.proofs.WholeShares.{HasWholeShare-later, KeepsParents-same, KeepsParents-trans}
 use Rattle.tree_rewire.proofs.spreading.spread.Goals as goal
-use Rattle.tree_rewire.proofs.spreading.spread.Goals.{After-pop_waiting}
 
 pub queue_parent-requires : goal.queue_parent-requires
 queue_parent-requires c =
@@ -30,7 +29,7 @@ falls-init c =
     let other = PassLowers-lists c.args.shared.now mid new one.belongs (ap (λ p. p.table) queue)
     (ap (λ p. p.view) queue) (ap (λ p. p.lists.near) queue) (ap (λ p. p.lists.around) queue) (ap (λ p. p.lists.search) queue) in
     record {
-      steps = PassLowers-trans c.args.shared.now old mid new one other;
+      steps = PassLowers-trans one other;
       spreads = subst (λ v. IsSpreading c.args.node old.view v (IsOn new.lists.waiting)) (sym (ap (λ p. p.view) queue ∙ view_is))
           (IsSpreading-begins c.args.node old.view new.lists.waiting c.requires.belongs.lawful c.requires.pair
           (λ n own. c.queue_parent.ensures.parent n (subst (λ v. HasSeenParent v c.args.node n) (sym view_is) own))
@@ -38,13 +37,6 @@ falls-init c =
       goals = λ all. subst (λ v. HasPostedGoals old.view → HasPostedGoals v) (sym (ap (λ p. p.view) queue ∙ view_is)) (λ posted. posted);
       whole = λ all. subst (KeepsParents old.view) (sym (ap (λ p. p.view) queue ∙ view_is)) (KeepsParents-same old.view old.view (λ name. refl));
     }
-
--- a node is taken off the list
-pops : (c : After-pop_waiting) → PassLowers c.args.shared.now c.falls.pass c.pop_waiting.new.self
-pops c =
-    let is = c.pop_waiting.ensures.others ∙ ap (with_lists c.falls.pass) c.pop_waiting.ensures.waiting in
-    PassLowers-lists c.args.shared.now c.falls.pass c.pop_waiting.new.self c.falls.invariant.steps.belongs (ap (λ p. p.table) is)
-    (ap (λ p. p.view) is) (ap (λ p. p.lists.near) is) (ap (λ p. p.lists.around) is) (ap (λ p. p.lists.search) is)
 
 pub lower_below-requires-clause-pair : goal.lower_below-requires-clause-pair
 lower_below-requires-clause-pair c =
@@ -73,7 +65,7 @@ falls-preserved c =
     let pop = PassLowers-lists c.args.shared.now now popped h.steps.belongs (ap (λ p. p.table) is) view_is (ap (λ p. p.lists.near) is)
     (ap (λ p. p.lists.around) is) (ap (λ p. p.lists.search) is) in
     record {
-      steps = PassLowers-trans c.args.shared.now old now new h.steps (PassLowers-trans c.args.shared.now now popped new pop c.lower_below.ensures.steps);
+      steps = PassLowers-trans h.steps (PassLowers-trans pop c.lower_below.ensures.steps);
       spreads =
           c.lower_below.ensures.spreads c.args.node old.view
           (subst (λ v. IsSpreading c.args.node old.view v (λ p. IsOn popped.lists.waiting p ⊎ (p ≡ fallen))) (sym view_is)
@@ -89,55 +81,39 @@ falls-preserved c =
           h.spreads));
       goals = λ all posted.
           subst (λ v. HasWholeShare v → HasPostedGoals v → HasPostedGoals new.view) view_is c.lower_below.ensures.goals
-          (HasWholeShare-later NamesLoweredOrPoint old.view now.view h.steps.sees_anew all) (h.goals all posted);
+          (HasWholeShare-later h.steps.sees_anew all) (h.goals all posted);
       whole = λ all.
-          KeepsParents-trans old.view now.view new.view (h.whole all)
-          (subst (λ v. HasWholeShare v → KeepsParents v new.view) view_is c.lower_below.ensures.whole
-          (HasWholeShare-later NamesLoweredOrPoint old.view now.view h.steps.sees_anew all));
+          KeepsParents-trans (h.whole all) (subst (λ v. HasWholeShare v → KeepsParents v new.view) view_is c.lower_below.ensures.whole
+          (HasWholeShare-later h.steps.sees_anew all));
     }
 
--- at last none waits
-ends : (c : After-pop_waiting) → c.falls.pass.lists.waiting ≡ []
-    → IsSpreading c.args.node c.args.pass.now.view c.pop_waiting.new.self.view (IsOn [])
-ends c none =
-    subst (λ v. IsSpreading c.args.node c.args.pass.now.view v (IsOn [])) (sym (ap (λ p. p.view) c.pop_waiting.ensures.others))
-    (subst (λ l. IsSpreading c.args.node c.args.pass.now.view c.falls.pass.view (IsOn l)) none c.falls.invariant.spreads)
-
-whole_at : (c : After-pop_waiting) → HasWholeShare c.args.pass.now.view → KeepsParents c.args.pass.now.view c.pop_waiting.new.self.view
-whole_at c all = subst (KeepsParents c.args.pass.now.view) (sym (ap (λ p. p.view) c.pop_waiting.ensures.others)) (c.falls.invariant.whole all)
-
-pub returns-clause-seen : goal.returns-clause-seen
-returns-clause-seen c =
-    (PassLowers-trans c.args.shared.now c.args.pass.now c.falls.pass c.pop_waiting.new.self c.falls.invariant.steps
-    (pops (goal.at.returns-clause-seen c).After-pop_waiting)).sees_anew
-
-pub returns-clause-spread : goal.returns-clause-spread
-returns-clause-spread c =
-    HasSpread-ends c.args.node c.args.pass.now.view c.pop_waiting.new.self.view
-    (ends (goal.at.returns-clause-spread c).After-pop_waiting (c.pop_waiting.ensures.none c.in_default.is))
-
-pub returns-clause-settled : goal.returns-clause-settled
-returns-clause-settled c =
-    HasSettledChanges-ends c.args.node c.args.pass.now.view c.pop_waiting.new.self.view
-    (ends (goal.at.returns-clause-settled c).After-pop_waiting (c.pop_waiting.ensures.none c.in_default.is))
-
-pub returns-clause-whole : goal.returns-clause-whole
-returns-clause-whole c = λ all. whole_at (goal.at.returns-clause-whole c).After-pop_waiting all
-
-pub returns-clause-whole_tight : goal.returns-clause-whole_tight
-returns-clause-whole_tight c =
-    let at = (goal.at.returns-clause-whole_tight c).After-pop_waiting in
-    let old = c.args.pass.now in
+pub returns : goal.returns
+returns c =
+    let node = c.args.node in
+    let old = c.args.pass.now.view in
+    let last = c.falls.pass in
     let new = c.pop_waiting.new.self in
-    let steps = PassLowers-trans c.args.shared.now old c.falls.pass new c.falls.invariant.steps (pops at) in
+    let h = c.falls.invariant in
+    let is = c.pop_waiting.ensures.others ∙ ap (with_lists last) c.pop_waiting.ensures.waiting in
+    let view_is = ap (λ p. p.view) is in
+    let pops = PassLowers-lists c.args.shared.now last new h.steps.belongs (ap (λ p. p.table) is) view_is (ap (λ p. p.lists.near) is)
+    (ap (λ p. p.lists.around) is) (ap (λ p. p.lists.search) is) in
+    let steps = PassLowers-trans h.steps pops in
     let goes_on = steps.sees_anew.goes_on in
-    let spread = HasSpread-ends c.args.node old.view new.view (ends at (c.pop_waiting.ensures.none c.in_default.is)) in
-    λ all tight.
-    AllTight-spread c.args.node old.view new.view goes_on.lawful
-    (goes_on.lawful.order (HasWholeShare-later NamesLoweredOrPoint old.view new.view steps.sees_anew all)) goes_on.later (whole_at at all) spread tight
-
-pub returns-clause-goals : goal.returns-clause-goals
-returns-clause-goals c all posted = subst HasPostedGoals (sym (ap (λ p. p.view) c.pop_waiting.ensures.others)) (c.falls.invariant.goals all posted)
-
-pub returns-clause-belongs : goal.returns-clause-belongs
-returns-clause-belongs c = (pops (goal.at.returns-clause-belongs c).After-pop_waiting).belongs
+    -- at last none waits
+    let ends = subst (λ v. IsSpreading node old v (IsOn [])) (sym view_is)
+    (subst (λ l. IsSpreading node old last.view (IsOn l)) (c.pop_waiting.ensures.none c.in_default.is) h.spreads) in
+    let spread = HasSpread-ends node old new.view ends in
+    let whole : HasWholeShare old → KeepsParents old new.view = λ all. subst (KeepsParents old) (sym view_is) (h.whole all) in
+    record {
+      belongs = pops.belongs;
+      seen = steps.sees_anew;
+      lists = (steps.near, steps.around, steps.search);
+      spread = spread;
+      settled = HasSettledChanges-ends node old new.view ends;
+      goals = λ all posted. subst HasPostedGoals (sym view_is) (h.goals all posted);
+      whole = whole;
+      whole_tight = λ all tight.
+          AllTight-spread node old new.view goes_on.lawful (goes_on.lawful.order (HasWholeShare-later steps.sees_anew all)) goes_on.later (whole all)
+          spread tight;
+    }

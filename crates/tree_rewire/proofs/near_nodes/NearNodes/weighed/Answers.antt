@@ -5,23 +5,19 @@ use Rattle.tree_rewire.proofs.FoundLists.{All-at, number_read}
 use Rattle.tree_rewire.proofs.SeenCosts.{point_later}
 use Rattle.tree_rewire.proofs.near_nodes.NearNodes.weighed.Goals as goal
 
-pub returns-in-Listed-clause-steps : goal.returns-in-Listed-clause-steps
-returns-in-Listed-clause-steps c =
+pub returns-in-Listed : goal.returns-in-Listed
+returns-in-Listed c =
     let pass = c.args.pass.now in
+    let n = c.near_node-node.result in
+    let load = c.point-from.ensures in
     let known = subst (λ m. AreKnown m pass.view c.args.p pass.lists) c.in-Listed.is c.requires.known in
-    PassSees-point c.args.shared.now pass c.point-from.new.pass c.near_node-node.result _ _ c.requires.belongs
-    (All-read (SeesKnot pass.view) pass.lists.near c.args.index c.near_node-node.result c.near_node-node.ensures known).stands
-    c.point-from.ensures.view c.point-from.ensures.goes_on c.point-from.ensures.seen c.point-from.ensures.looked
-
-pub returns-in-Listed-clause-edge : goal.returns-in-Listed-clause-edge
-returns-in-Listed-clause-edge c =
-    let pass = c.args.pass.now in
-    let known = subst (λ m. AreKnown m pass.view c.args.p pass.lists) c.in-Listed.is c.requires.known in
-    c.cost.ensures.value
-    ∙ ap (λ q. cost_of q c.args.p)
-    (point_later pass.view c.point-from.new.pass.view c.point-from.ensures.goes_on c.near_node-node.result c.point-from.result
-    (All-read (SeesKnot pass.view) pass.lists.near c.args.index c.near_node-node.result c.near_node-node.ensures known).stands
-    c.point-from.ensures.found)
+    let stands = (All-read (SeesKnot pass.view) pass.lists.near c.args.index n c.near_node-node.ensures known).stands in
+    record {
+      steps = PassSees-point c.args.shared.now pass c.point-from.new.pass n _ _ c.requires.belongs stands load.view load.goes_on load.seen load.looked;
+      node = subst (λ m. slice_get (nodes_on m pass.lists) c.args.index ≡ Some n) (sym c.in-Listed.is) c.near_node-node.ensures;
+      edge = c.cost.ensures.value
+          ∙ ap (λ q. cost_of q c.args.p) (point_later pass.view c.point-from.new.pass.view load.goes_on n c.point-from.result stands load.found);
+    }
 
 pub returns-in-Searched-clause-node : goal.returns-in-Searched-clause-node
 returns-in-Searched-clause-node c =
