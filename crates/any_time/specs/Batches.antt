@@ -38,8 +38,7 @@ place_of count from number = if nat_lt number from then count + number - from el
 abbrev pub Rests : SessionState → SessionState → Type 0
 Rests s t = Polls s Pending t ⊎ Polls s (Ready None) t
 
--- The session with this number was polled once and gave this answer. Those before it in the order gave no item, and those after it were
--- not polled.
+-- The session with this number was polled once and gave this answer. Those before it in the order gave no item, and those after it were not polled.
 pub record Gave (from : ℕ) (before after : List SessionState) (number : ℕ) (answer : Poll (Option (Result Better Memory))) : Type 0 where
   pub count : length after ≡ length before
   pub within : number < length before

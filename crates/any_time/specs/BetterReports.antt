@@ -28,6 +28,5 @@ scene_report number items run = scene_line number ++ better_report items run.tas
 
 -- that of each run, from this number on, with its list of better paths
 abbrev pub batch_report : ℕ → List (List Better) → List Grown → List ℕ
-batch_report number [] runs = []
-batch_report number (items ∷ lists) [] = []
 batch_report number (items ∷ lists) (run ∷ runs) = scene_report number items run ++ batch_report (suc number) lists runs
+batch_report number lists runs = []

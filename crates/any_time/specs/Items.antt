@@ -1,8 +1,8 @@
 -- What the items of a session are, however often it is polled.
-use Rattle.std.specs.Prelude.{◌≡◌, ◌<◌, ◌≤◌, ◌*◌, ◌⊎◌, ℕ, List, [], ◌∷◌, All, Option, Some, None, Result, Ok, Err, IfSome, filter, length, nat_le, option_map}
+use Rattle.std.specs.Prelude.{◌≡◌, ◌<◌, ◌≤◌, ◌*◌, ◌⊎◌, ℕ, List, [], ◌∷◌, All, Option, Some, None, Result, Ok, IfSome, filter, length, nat_le, option_map}
 use Rattle.std.specs.List.{FoldsTo}
 use Rattle.futures.specs.declared.task.Poll.{Poll}
-use Rattle.futures.specs.declared.task.Poll.TheVariants.{Ready, Pending}
+use Rattle.futures.specs.declared.task.Poll.TheVariants.{Ready}
 use Rattle.plan_model.specs.Runs.ClosedLaw.{IsClosed}
 use Rattle.plan_model.specs.Runs.Textbook.{setup_of}
 use Rattle.plan_model.specs.Trees.BestNode.{IsGoalNode, goals_of}
@@ -26,9 +26,7 @@ Answers = List (Poll (Option (Result Better Memory)))
 abbrev pub betters_among : Answers → List Better
 betters_among [] = []
 betters_among (Ready (Some (Ok better)) ∷ answers) = better ∷ betters_among answers
-betters_among (Ready (Some (Err e)) ∷ answers) = betters_among answers
-betters_among (Ready None ∷ answers) = betters_among answers
-betters_among (Pending ∷ answers) = betters_among answers
+betters_among (answer ∷ answers) = betters_among answers
 
 -- what a session keeps of an item
 abbrev pub last_of : Better → Last
@@ -124,6 +122,5 @@ pub record MissesNoFall (task : Task) (workers slice : ℕ) (items : List Better
 -- however often a session is polled, and if it is at its end and has its run
 abbrev pub ItemsFall : Type 0
 ItemsFall = (task : Task) (workers slice : ℕ) (s t : SessionState) (answers : Answers)
-    → IsFresh task workers slice s → FoldsTo Polls s answers t
-    → HasGiven task workers slice (betters_among answers) t.run
+    → IsFresh task workers slice s → FoldsTo Polls s answers t → HasGiven task workers slice (betters_among answers) t.run
     × (IsOver t → IfSome t.run (λ run. EndsWith task workers run × MissesNoFall task workers slice (betters_among answers) run))

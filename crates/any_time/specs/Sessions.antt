@@ -77,11 +77,9 @@ pub record IsFresh (task : Task) (workers slice : ℕ) (s : SessionState) : Type
 
 -- a poll of s gave this answer and left t
 abbrev pub Polls : SessionState → Poll (Option (Result Better Memory)) → SessionState → Type 0
-Polls s Pending t = KeepsOrders s t × (t.last ≡ s.last)
-    × IsSomeAnd s.run (λ before. IsSomeAnd t.run (λ after.
+Polls s Pending t = KeepsOrders s t × (t.last ≡ s.last) × IsSomeAnd s.run (λ before. IsSomeAnd t.run (λ after.
     ¬ IsBetter (best_sum before) s.last × Handles s.workers s.slice before after × ¬ IsBetter (best_sum after) s.last))
 Polls s (Ready None) t = IsOver s × (t ≡ s)
 Polls s (Ready (Some (Ok item))) t = KeepsOrders s t × (t.last ≡ Some (record { cost = item.cost; marks = item.marks }))
-    × IsSomeAnd s.run (λ before. IsSomeAnd t.run (λ after.
-    Moves s before after × IsBetter (best_sum after) s.last × Shows after item))
+    × IsSomeAnd s.run (λ before. IsSomeAnd t.run (λ after. Moves s before after × IsBetter (best_sum after) s.last × Shows after item))
 Polls s (Ready (Some (Err e))) t = KeepsOrders s t × (t.last ≡ s.last) × (t.run ≡ None) × ¬ IsOver s

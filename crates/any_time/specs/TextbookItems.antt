@@ -24,8 +24,7 @@ pub record IsTextbookPath (task : Task) (item : Better) : Type 0 where
 pub record IsTextbookItem (task : Task) (slice : ℕ) (item : Better) : Type 0 where
   pub slices : AreSlices slice (length task.marks) item.marks
   pub best : IsTextbookPath task item
-  pub cheaper :
-      (other : Better) → AreSlices slice (length task.marks) other.marks → other.marks < item.marks → IsTextbookPath task other
+  pub cheaper : (other : Better) → AreSlices slice (length task.marks) other.marks → other.marks < item.marks → IsTextbookPath task other
       → item.cost < other.cost
 
 -- these are all such items
@@ -35,6 +34,5 @@ pub record AreTextbookItems (task : Task) (slice : ℕ) (items : List Better) : 
 
 -- a session by one worker that is at its end, and has its run, has given just the items of the textbook's runs
 abbrev pub GivesTextbookItems : Type 0
-GivesTextbookItems = (task : Task) (slice : ℕ) (s t : SessionState) (answers : Answers)
-    → IsFresh task 1 slice s → FoldsTo Polls s answers t → IsOver t → IsSome t.run
-    → AreTextbookItems task slice (betters_among answers)
+GivesTextbookItems = (task : Task) (slice : ℕ) (s t : SessionState) (answers : Answers) → IsFresh task 1 slice s → FoldsTo Polls s answers t
+    → IsOver t → IsSome t.run → AreTextbookItems task slice (betters_among answers)

@@ -42,16 +42,14 @@ pub record IsInBox (bounds : BoundingBox) (p : Point) : Type 0 where
 
 -- the least box round the segment between two points
 abbrev pub segment_box : Point → Point → BoundingBox
-segment_box a b =
-    record {
-      low = record { x = pos (min a.x b.x); y = pos (min a.y b.y) };
-      high = record { x = pos (max a.x b.x); y = pos (max a.y b.y) };
-    }
+segment_box a b = record {
+  low = record { x = pos (min a.x b.x); y = pos (min a.y b.y) };
+  high = record { x = pos (max a.x b.x); y = pos (max a.y b.y) };
+}
 
 -- Two boxes have a point in common. They are closed, so boxes that touch meet.
 abbrev pub boxes_meet : BoundingBox → BoundingBox → Bool
-boxes_meet p q =
-    (int_le p.low.x q.high.x && int_le q.low.x p.high.x) && (int_le p.low.y q.high.y && int_le q.low.y p.high.y)
+boxes_meet p q = (int_le p.low.x q.high.x && int_le q.low.x p.high.x) && (int_le p.low.y q.high.y && int_le q.low.y p.high.y)
 
 -- a point as a corner
 abbrev pub corner_of : Point → Vertex

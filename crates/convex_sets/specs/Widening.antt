@@ -10,8 +10,7 @@ corner x y = record { x = x; y = y }
 
 -- the corners of the square from minus the clearance to the clearance on both axes
 abbrev pub square : ℕ → List Vertex
-square clearance =
-    let far = pos clearance in corner (neg_ℤ far) (neg_ℤ far) ∷ corner far (neg_ℤ far) ∷ corner far far ∷ corner (neg_ℤ far) far ∷ []
+square clearance = let far = pos clearance in corner (neg_ℤ far) (neg_ℤ far) ∷ corner far (neg_ℤ far) ∷ corner far far ∷ corner (neg_ℤ far) far ∷ []
 
 -- wherever it stands, and whatever the obstacle is
 abbrev pub IsWidenedBy : ℕ → List Vertex → List Vertex → Type 0

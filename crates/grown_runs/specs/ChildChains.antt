@@ -73,9 +73,8 @@ OnlyMoves node before after = (n : ℕ) → n ≢ node → after n ≡ before n
 
 -- whatever was indexed before is indexed after the number moved from one chain to another
 abbrev pub MovesNode : ℕ → ℕ → ℕ → ChildIndex → ChildIndex → Type 0
-MovesNode node from to before after =
-    (nodes : ℕ) (chain now : ℕ → ℕ) → IndexesChains nodes chain before → chain node ≡ from → now node ≡ to → OnlyMoves node chain now
-    → IndexesChains nodes now after
+MovesNode node from to before after = (nodes : ℕ) (chain now : ℕ → ℕ) → IndexesChains nodes chain before → chain node ≡ from → now node ≡ to
+    → OnlyMoves node chain now → IndexesChains nodes now after
 
 -- whatever was indexed before still is
 abbrev pub HasSameChains : ChildIndex → ChildIndex → Type 0

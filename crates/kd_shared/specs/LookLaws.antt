@@ -30,11 +30,7 @@ pub OnlyLooks-trans : (before mid after : View) → OnlyLooks before mid → Onl
 OnlyLooks-trans before mid after one other = record {
   looks = GoesOnLooking-trans before mid after one.looks other.looks;
   looked = HasLooked-trans before mid after one.looks.goes_on.later other.looks.goes_on.later one.looked other.looked;
-  kept = record {
-    crew = other.kept.crew ∙ one.kept.crew;
-    most = other.kept.most ∙ one.kept.most;
-    hand = other.kept.hand ∙ one.kept.hand;
-  };
+  kept = record { crew = other.kept.crew ∙ one.kept.crew; most = other.kept.most ∙ one.kept.most; hand = other.kept.hand ∙ one.kept.hand };
   whole = λ all name. other.whole (HasWholeShare-looks before mid one all) name ∙ one.whole all name;
 }
 

@@ -20,9 +20,8 @@ Opens before after spots put spot side = (FindsEmpty before after spot.node side
 
 -- A child waits with its point, which was loaded too.
 abbrev pub PutsWithPoint : Sight → Sight → List Spot → List Spot → Spot → Bool → Type 0
-PutsWithPoint before after queue put spot side =
-    (new : Puts after queue put spot side) × StandsAt after.seen.points new.child.node (point_of_spot new.child)
-    × KeepsOtherPoints before after new.child.node
+PutsWithPoint before after queue put spot side = (new : Puts after queue put spot side)
+    × StandsAt after.seen.points new.child.node (point_of_spot new.child) × KeepsOtherPoints before after new.child.node
 
 pub record QueuesChild (before after : Sight) (queue put : List Spot) (spot : Spot) (side : Bool) : Type 0 where
   pub later : IsLaterMoment before after

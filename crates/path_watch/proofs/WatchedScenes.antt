@@ -54,7 +54,7 @@ module _ (asked : Option Orders) (before now : SourceState) (k l : SinkState) wh
 
   watched_decides : (ending : Ending) → WatchesScene asked before now k l ending → Decides ending
   watched_decides (endings.Ended run has_path) h sure written =
-      let by = h.watched.ends.0 in
+      let by = h.watched.ends.0.whole in
       let done : Done = record { status = status_of_report has_path; run = Some run; twin = None; batch = []; better = [] } in
       inr (success_decided (as_plan asked) before now done (report_text false h.scene run.limit (state_of_grown run)) (record {
         command = commands.Plan h.orders.workers false;
@@ -69,12 +69,12 @@ module _ (asked : Option Orders) (before now : SourceState) (k l : SinkState) wh
             grown = run;
             reported = record {
               given = refl;
-              of_scene = by.of_scene;
+              of_scene = by.scene_is;
               all_marks = by.all_marks;
               closed = by.closed;
               settled = by.settled;
               best = ap status_of_report h.watched.ends.1
-                  ∙ ap (λ s. status_of_report (is_some (best_node (goals_of s) run.limit (state_of_grown run)))) by.of_scene;
+                  ∙ ap (λ s. status_of_report (is_some (best_node (goals_of s) run.limit (state_of_grown run)))) by.scene_is;
               written = refl;
             };
             by_workers = by.by_workers;

@@ -143,7 +143,7 @@ module _ (workers slice : ℕ) (scene : Scene) (s : SessionState) (session : IsS
   settled : (there : Option Grown) (items : List Better) (u : SessionState) → u.run ≡ there → IsSome there → ArePolled s items u → IsOver u
       → IsSomeAnd there (λ run. IsSettled (state_of_grown run))
   settled None items u is some polled over = cc
-  settled (Some run) items u is some polled over = (IsRunBySlices-polled items u run polled over is).settled
+  settled (Some run) items u is some polled over = (IsRunBySlices-polled items u run polled over is).whole.settled
 
   pub settled_at_end : (k mid : SinkState) (items : List Better) (t u : SessionState) → Reached s k items (t, mid) → Comes t None u
       → IsSomeAnd u.run (λ run. IsSettled (state_of_grown run))

@@ -18,10 +18,9 @@ orders_by_two word second =
 
 -- what the words ask for
 abbrev pub orders_of : List (List ℕ) → Option Orders
-orders_of [] = None
 orders_of (word ∷ []) = orders_by word
 orders_of (word ∷ second ∷ []) = orders_by_two word second
-orders_of (word ∷ second ∷ third ∷ words) = None
+orders_of words = None
 
 -- a twentieth of so many marks, rounded up, and 1 at least
 abbrev pub twentieth : ℕ → ℕ

@@ -34,8 +34,7 @@ pub record IsAskedSession (orders : Orders) (before now : SourceState) (session 
   pub fresh : IsSessionOf orders.workers (slice_by orders.slice (length (mark_points scene))) scene session
 
 -- the words ask to watch, and a session of the scene that was read, whose start is clear, was watched as they say
-pub record WatchesScene
-    (asked : Option Orders) (before now : SourceState) (sink_before sink_now : SinkState) (ending : Ending) : Type 0 where
+pub record WatchesScene (asked : Option Orders) (before now : SourceState) (sink_before sink_now : SinkState) (ending : Ending) : Type 0 where
   pub orders : Orders
   pub asks : asked ≡ Some orders
   pub scene : Scene
@@ -49,12 +48,10 @@ IsRefused asked before now sink_before sink_now ending =
     (refusal : Refusal) × IsCaused (as_plan asked) before now refusal × Refuses sink_before sink_now refusal ending
 
 -- A call has done what the words ask for, over a source and a sink that are known before it and after it.
-pub record HasWatched
-    (asked : Option Orders) (before now : SourceState) (sink_before sink_now : SinkState) (ending : Ending) : Type 0 where
+pub record HasWatched (asked : Option Orders) (before now : SourceState) (sink_before sink_now : SinkState) (ending : Ending) : Type 0 where
   pub done : IsRefused asked before now sink_before sink_now ending ⊎ WatchesScene asked before now sink_before sink_now ending
   -- if no count of faults rose, the bytes decide the status, or the program is out of memory
-  pub decided :
-      (¬ ReadFailed before now) → (¬ WriteFailed sink_before sink_now)
+  pub decided : (¬ ReadFailed before now) → (¬ WriteFailed sink_before sink_now)
       → (status_of_ending ending ≡ NO_MEMORY) ⊎ IfSome (as_plan asked) (λ command. IsDecided before.bytes_left command (status_of_ending ending))
   -- unless the words ask to watch, nothing is read
   pub unread : asked ≡ None → IsUnread before now

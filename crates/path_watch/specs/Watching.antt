@@ -21,10 +21,9 @@ use Rattle.path_watch.specs.declared.watching.Ending.TheVariants as endings
 
 -- the line of the refusal was handed to the sink, which took it or cut it
 abbrev pub Refuses : SinkState → SinkState → Refusal → Ending → Type 0
-Refuses before now refusal (endings.Ended run has_path) = ⊥
-Refuses before now refusal (endings.Cut run) = ⊥
 Refuses before now refusal (endings.Refused it) = (it ≡ refusal) × Takes before (line_of it) now
 Refuses before now refusal (endings.CutRefusal it) = (it ≡ refusal) × Cuts before (line_of it) now
+Refuses before now refusal ending = ⊥
 
 -- the end was handed to the sink, which took it or cut it; or the line that memory was out
 abbrev pub HandsEnd : SinkState → SinkState → Grown → Ending → Type 0

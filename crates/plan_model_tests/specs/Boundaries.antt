@@ -1,11 +1,6 @@
 -- Points, roots, costs and steps at the limit of a definition, and just beyond it.
 use Rattle.std.specs.Prelude.{}
-use Rattle.plan_model.specs.Geometry.Bounds.{IsBounded}
-use Rattle.plan_model.specs.Geometry.Cost.{IsCost}
-use Rattle.plan_model.specs.Spaces.EmptyRooms.{IsInRoom}
-use Rattle.plan_model.specs.Geometry.Roots.{IsRootCeiling}
-use Rattle.plan_model.specs.Geometry.Steering.{IsStep}
-use Rattle.plan_model.specs.Vectors.Shapes.{at}
+use Rattle.plan_model_tests.specs.Terms.{IsBounded, IsCost, IsInRoom, IsRootCeiling, IsStep, at}
 
 pub record BoundaryVectors : Type 0 where
   pub bounded : IsBounded (at 1048575 1048575)

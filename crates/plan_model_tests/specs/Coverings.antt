@@ -1,11 +1,7 @@
 -- Which formats cover the canonical text of a scene, and which do not.
 use Rattle.std.specs.Prelude.{◌≡◌, ◌==◌, Bool, true, false}
-use Rattle.plan_model.specs.declared.scenes.Scene.{Scene}
-use Rattle.plan_model.specs.declared.text_terms.Key.{Key}
+use Rattle.plan_model_tests.specs.Terms.{Covers, Format, Key, Scene, whole_format}
 use Rattle.plan_model.specs.declared.text_terms.Key.TheVariants as keys
-use Rattle.plan_model.specs.Texts.CanonicalText.{Covers}
-use Rattle.plan_model.specs.Texts.LineChecks.{Format}
-use Rattle.plan_model.specs.Texts.SceneGrammar.{whole_format}
 
 -- version 1 alone, with every key
 abbrev pub first_version : Format

@@ -4,8 +4,7 @@ use Rattle.plan_model.specs.declared.text_terms.Kind.TheVariants as kinds
 use Rattle.plan_model.specs.Texts.KindNames.{fault_words}
 
 pub record FaultWordVectors : Type 0 where
-  pub of_each_kind :
-      map (fault_words 20)
+  pub of_each_kind : map (fault_words 20)
       (kinds.Version ∷ kinds.Key ∷ kinds.Words ∷ kinds.Number ∷ kinds.Range ∷ kinds.Repeat ∷ kinds.Corners ∷ kinds.Many ∷ kinds.Missing ∷ kinds.Unbuilt ∷ [])
       ≡ (codes "line" ∷ codes "20" ∷ codes "kind" ∷ codes "1" ∷ codes "Version" ∷ [])
       ∷ (codes "line" ∷ codes "20" ∷ codes "kind" ∷ codes "2" ∷ codes "Key" ∷ [])

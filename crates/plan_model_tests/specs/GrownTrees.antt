@@ -1,28 +1,18 @@
 -- A tree at two moments, trees that differ in one thing and are no later moment, or not the same run, and kept costs along parents.
 use Rattle.std.specs.Prelude.{◌≡◌, ℕ, Option, Some, None, List, [], ◌∷◌, slice_get, slice_index_or}
-use Rattle.plan_model.specs.declared.geometry.Point.{Point}
-use Rattle.plan_model.specs.declared.records.Record.{Record}
-use Rattle.plan_model.specs.declared.trees.Twig.{Twig}
-use Rattle.plan_model.specs.Trees.Branches.{IsBranchLowered}
-use Rattle.plan_model.specs.Runs.OrderLaw.{KeepsFirstCosts}
-use Rattle.plan_model.specs.Trees.NodeLists.{AreTight, CostsFall, without_costs}
-use Rattle.plan_model.specs.Trees.TreeStates.{AreSameRuns, ChangesCosts, GrowsInto, TreeState}
-use Rattle.plan_model.specs.Vectors.Records.{placed_by}
-use Rattle.plan_model.specs.Vectors.Shapes.{at}
-use Rattle.plan_model.specs.Vectors.Trees.{gapped}
+use Rattle.plan_model_tests.specs.Terms.{AreSameRuns, AreTight, ChangesCosts, CostsFall, GrowsInto, IsBranchLowered, KeepsFirstCosts, Point, Record, TreeState}
+use Rattle.plan_model_tests.specs.Terms.{Twig, at, gapped, placed_by, without_costs}
 use Rattle.plan_model_tests.specs.UnlawfulTrees.{room_to, three_points}
 
--- nodes with these parents and costs, which are 0 past the lists; each was written with this cost when it was placed; the records of the
--- marks
+-- nodes with these parents and costs, which are 0 past the lists; each was written with this cost when it was placed; the records of the marks
 abbrev pub moment_of : List (Option Point) → List ℕ → List ℕ → ℕ → List Record → TreeState
-moment_of points parents costs written records =
-    record {
-      points = points;
-      parent = λ n. slice_index_or parents n 0;
-      cost = λ n. slice_index_or costs n 0;
-      written_cost = λ n. written;
-      record_of = slice_get records;
-    }
+moment_of points parents costs written records = record {
+  points = points;
+  parent = λ n. slice_index_or parents n 0;
+  cost = λ n. slice_index_or costs n 0;
+  written_cost = λ n. written;
+  record_of = slice_get records;
+}
 
 -- the record of node 1, by its worker and its first cost
 abbrev pub first_by : ℕ → ℕ → Record
@@ -49,8 +39,7 @@ both_records = first_by 0 12803 ∷ second_at 23043 ∷ []
 pub record GrownTreeVectors : Type 0 where
   pub later : GrowsInto before (after_with four_points [] (0 ∷ 12803 ∷ 2560 ∷ 10240 ∷ []) both_records)
   pub node_gone : ¬ GrowsInto before (after_with (Some (at 0 0) ∷ Some (at 0 50) ∷ []) [] (0 ∷ 12803 ∷ 2560 ∷ []) both_records)
-  pub node_elsewhere :
-      ¬ GrowsInto before (after_with (Some (at 0 0) ∷ Some (at 0 50) ∷ Some (at 0 11) ∷ []) [] (0 ∷ 12803 ∷ 2560 ∷ []) both_records)
+  pub node_elsewhere : ¬ GrowsInto before (after_with (Some (at 0 0) ∷ Some (at 0 50) ∷ Some (at 0 11) ∷ []) [] (0 ∷ 12803 ∷ 2560 ∷ []) both_records)
   pub other_first_cost : ¬ GrowsInto before (after_with four_points [] (0 ∷ 12803 ∷ 2560 ∷ []) (first_by 0 12803 ∷ second_at 23042 ∷ []))
   pub cost_rose : ¬ GrowsInto before (after_with four_points [] (0 ∷ 12804 ∷ 2560 ∷ []) both_records)
   pub moved_at_the_same_cost : ¬ GrowsInto before (after_with four_points [] (0 ∷ 12803 ∷ 23043 ∷ []) both_records)
@@ -62,8 +51,7 @@ pub record GrownTreeVectors : Type 0 where
   pub written_cost_too : ¬ ChangesCosts before (moment_of three_points (0 ∷ 0 ∷ 1 ∷ []) (0 ∷ 12803 ∷ 23043 ∷ []) 23042 (first_by 0 12803 ∷ []))
   pub record_too : ¬ ChangesCosts before (moment_of three_points (0 ∷ 0 ∷ 1 ∷ []) (0 ∷ 12803 ∷ 23043 ∷ []) 23043 [])
   -- the same run, whatever is said of a number without a node, and of written costs
-  pub same :
-      AreSameRuns before
+  pub same : AreSameRuns before
       (moment_of (Some (at 0 0) ∷ Some (at 0 50) ∷ Some (at 0 10) ∷ None ∷ []) (0 ∷ 0 ∷ 1 ∷ 2 ∷ []) (0 ∷ 12803 ∷ 23043 ∷ 7 ∷ []) 0
       (first_by 0 12803 ∷ []))
   pub one_node_more : ¬ AreSameRuns before (moment_of four_points (0 ∷ 0 ∷ 1 ∷ []) (0 ∷ 12803 ∷ 23043 ∷ []) 23043 (first_by 0 12803 ∷ []))
@@ -105,6 +93,5 @@ pub record KeptCostVectors : Type 0 where
   pub no_fall : ¬ CostsFall (costs_of (6 ∷ 0 ∷ 6 ∷ [])) gapped
   pub no_start : ¬ CostsFall (costs_of []) []
   pub no_parent : ¬ CostsFall (costs_of (0 ∷ 6 ∷ [])) below_none
-  pub nodes_alone :
-      without_costs (Some (record { point = at 3 4; parent = 7; cost = 1280 }) ∷ None ∷ [])
+  pub nodes_alone : without_costs (Some (record { point = at 3 4; parent = 7; cost = 1280 }) ∷ None ∷ [])
       ≡ Some (record { point = at 3 4; parent = 7 }) ∷ None ∷ []

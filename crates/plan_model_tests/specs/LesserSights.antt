@@ -1,14 +1,9 @@
 -- What has been seen at least, later moments and sights that are kept, and what differs from these in one thing; parents that two have
 -- seen, and seen parents that are not lawful.
 use Rattle.std.specs.Prelude.{ℕ, zero, suc, Bool, true, false, Option, Some, None, List, [], ◌∷◌, slice_get, slice_index_or}
-use Rattle.plan_model.specs.declared.geometry.Point.{Point}
-use Rattle.plan_model.specs.declared.records.Record.{Record}
-use Rattle.plan_model.specs.Seen.SeenParents.{AreSeenLawfully}
-use Rattle.plan_model.specs.Seen.SeenTrees.{FollowSeenWays, HasSeenAtLeast, IsRooted, SeenTree, TreeGrows}
-use Rattle.plan_model.specs.Seen.Sights.{AgreeOnParents, IsLaterMoment, KeepsSight, Sight}
-use Rattle.plan_model.specs.Vectors.Records.{placed_by}
-use Rattle.plan_model.specs.Vectors.SeenTrees.{at_entry, at_return, found_at_entry, found_at_return, tree_before, tree_now, trees_at_entry}
-use Rattle.plan_model.specs.Vectors.Shapes.{at}
+use Rattle.plan_model_tests.specs.Terms.{AgreeOnParents, AreSeenLawfully, FollowSeenWays, HasSeenAtLeast, IsLaterMoment, IsRooted, KeepsSight, Point, Record}
+use Rattle.plan_model_tests.specs.Terms.{SeenTree, Sight, TreeGrows, at, at_entry, at_return, found_at_entry, found_at_return, placed_by, tree_before, tree_now}
+use Rattle.plan_model_tests.specs.Terms.{trees_at_entry}
 use Rattle.plan_model.specs.Vectors.Ways.{three_children, three_points}
 use Rattle.plan_model_tests.specs.GrownTrees.{before}
 use Rattle.plan_model_tests.specs.LinkedNodes.{two_children, two_points}
@@ -17,14 +12,7 @@ use Rattle.plan_model_tests.specs.UnlawfulTrees.{room_to}
 -- children, points, parents with costs and records that were seen, one number of all counters, and the count
 abbrev pub seen_by : (ℕ → Bool → Option ℕ) → List (Option Point) → (ℕ → Option (ℕ × ℕ)) → List Record → ℕ → ℕ → SeenTree
 seen_by child points pairs records counter count =
-    record {
-      child = child;
-      points = points;
-      parent_and_cost = pairs;
-      record_of = slice_get records;
-      counter = λ strip. counter;
-      count = count;
-    }
+    record { child = child; points = points; parent_and_cost = pairs; record_of = slice_get records; counter = λ strip. counter; count = count }
 
 abbrev pub one_record : List Record
 one_record = placed_by 0 0 0 0 512 1 ∷ []

@@ -1,3 +1,4 @@
+pub mod Terms
 pub mod Boundaries
 pub mod FaultWords
 pub mod LinkedNodes

@@ -1,9 +1,6 @@
 -- A node that is linked into a kd-tree of two nodes, and changes that are not that link or not that node alone.
 use Rattle.std.specs.Prelude.{ℕ, zero, Bool, true, false, Option, Some, None, List, [], ◌∷◌}
-use Rattle.plan_model.specs.declared.geometry.Point.{Point}
-use Rattle.plan_model.specs.Seen.Ways.{AddsPoint, LinksAt}
-use Rattle.plan_model.specs.Vectors.SeenTrees.{four_children}
-use Rattle.plan_model.specs.Vectors.Shapes.{at}
+use Rattle.plan_model_tests.specs.Terms.{AddsPoint, LinksAt, Point, at, four_children}
 use Rattle.plan_model.specs.Vectors.Ways.{three_points, three_children}
 
 -- the tree of three nodes before node 2 came

@@ -1,15 +1,7 @@
 -- Textbook runs of four marks whose radius is below the step: one in which it falls, and one in which the first near node that is
 -- rewired decides that the next one stays.
 use Rattle.std.specs.Prelude.{◌≡◌, List, [], ◌∷◌, map}
-use Rattle.plan_model.specs.declared.geometry.Point.{Point}
-use Rattle.plan_model.specs.declared.records.Record.{Record}
-use Rattle.plan_model.specs.Spaces.EmptyRooms.{empty_room}
-use Rattle.plan_model.specs.Geometry.Radius.{radius_of}
-use Rattle.plan_model.specs.Runs.Textbook.{Nodes, Setup, IsTextbookRun}
-use Rattle.plan_model.specs.Vectors.Records.{placed_record}
-use Rattle.plan_model.specs.Trees.NodeLists.{sum_of}
-use Rattle.plan_model.specs.Vectors.Runs.{node}
-use Rattle.plan_model.specs.Vectors.Shapes.{at}
+use Rattle.plan_model_tests.specs.Terms.{IsTextbookRun, Nodes, Point, Record, Setup, at, empty_room, node, placed_record, radius_of, sum_of}
 
 -- a point body in the corner of an empty room; with this gamma the radius is 40 before the fourth mark, and 34 at it
 abbrev pub narrow_setup : Setup
@@ -25,8 +17,7 @@ abbrev pub falling_tree : Nodes
 falling_tree = node (at 0 0) 0 ∷ node (at 45 5) 0 ∷ node (at 50 50) 1 ∷ node (at 35 10) 0 ∷ node (at 30 20) 3 ∷ []
 
 abbrev pub falling_records : List Record
-falling_records =
-    placed_record 0 0 0 11591 1 ∷ placed_record 1 1 1 23182 2 ∷ placed_record 2 1 0 9319 2 ∷ placed_record 3 3 3 12182 3 ∷ []
+falling_records = placed_record 0 0 0 11591 1 ∷ placed_record 1 1 1 23182 2 ∷ placed_record 2 1 0 9319 2 ∷ placed_record 3 3 3 12182 3 ∷ []
 
 -- Node 3 hangs below node 2, and node 4 stands on their line. Node 2 moves below node 4. Then the way of node 3, through node 2, costs as
 -- much as that through node 4, so it stays, though its sum before the mark was greater.
@@ -37,8 +28,7 @@ abbrev pub tree_in_line : Nodes
 tree_in_line = node (at 0 0) 0 ∷ node (at 0 45) 0 ∷ node (at 35 25) 4 ∷ node (at 45 25) 2 ∷ node (at 20 25) 0 ∷ []
 
 abbrev pub records_in_line : List Record
-records_in_line =
-    placed_record 0 0 0 11520 1 ∷ placed_record 1 1 1 21840 2 ∷ placed_record 2 2 2 24400 2 ∷ placed_record 3 2 0 8196 3 ∷ []
+records_in_line = placed_record 0 0 0 11520 1 ∷ placed_record 1 1 1 21840 2 ∷ placed_record 2 2 2 24400 2 ∷ placed_record 3 2 0 8196 3 ∷ []
 
 pub record FallingRadiusVectors : Type 0 where
   pub radii : map (radius_of 50 40) (1 ∷ 2 ∷ 3 ∷ 4 ∷ []) ≡ 40 ∷ 40 ∷ 40 ∷ 34 ∷ []

@@ -1,16 +1,7 @@
 -- Nodes with and without a clear edge to a point, paths whose edges are clear and paths with one that is not; and scenes with the same run.
 use Rattle.std.specs.Prelude.{◌≡◌, Option, Some, List, [], ◌∷◌, false}
-use Rattle.plan_model.specs.declared.configuration_spaces.ConfigurationSpace.{ConfigurationSpace}
-use Rattle.plan_model.specs.declared.geometry.Point.{Point}
-use Rattle.plan_model.specs.declared.scenes.Marks.TheVariants.{Drawn, Listed}
-use Rattle.plan_model.specs.declared.scenes.Scene.{Scene}
-use Rattle.plan_model.specs.Spaces.ClearPaths.{IsClearPath}
-use Rattle.plan_model.specs.Spaces.EmptyRooms.{empty_room}
-use Rattle.plan_model.specs.Trees.OpenNodes.{IsOpenTo}
-use Rattle.plan_model.specs.Runs.SameRuns.{HaveSameInputs, IsOfTextbookRun}
-use Rattle.plan_model.specs.Trees.TreeStates.{state_of}
-use Rattle.plan_model.specs.Vectors.Runs.{marks_to_rewire, open_setup, rewired_records, rewired_tree}
-use Rattle.plan_model.specs.Vectors.Shapes.{at}
+use Rattle.plan_model_tests.specs.Terms.{ConfigurationSpace, Drawn, HaveSameInputs, IsClearPath, IsOfTextbookRun, IsOpenTo, Listed, Point, Scene, at}
+use Rattle.plan_model_tests.specs.Terms.{empty_room, marks_to_rewire, open_setup, rewired_records, rewired_tree, state_of}
 
 -- 100 wide and 50 high
 abbrev pub low_room : ConfigurationSpace
@@ -32,8 +23,7 @@ pub record OpenPathVectors : Type 0 where
 
 pub record SameInputVectors : Type 0 where
   -- of scenes that are not informed nothing is asked of the goals, and of none of the seed and the strips, nor how a plan without marks is given
-  pub without_marks :
-      (one other : Scene) → one.room ≡ other.room → one.body ≡ other.body → one.obstacles ≡ other.obstacles → one.clearance ≡ other.clearance
-      → one.start ≡ other.start → one.step ≡ other.step → one.gamma ≡ other.gamma → one.informed ≡ false
+  pub without_marks : (one other : Scene) → one.room ≡ other.room → one.body ≡ other.body → one.obstacles ≡ other.obstacles
+      → one.clearance ≡ other.clearance → one.start ≡ other.start → one.step ≡ other.step → one.gamma ≡ other.gamma → one.informed ≡ false
       → other.informed ≡ false → one.plan ≡ Listed [] → other.plan ≡ Drawn 0 → HaveSameInputs one other
   pub of_a_run : IsOfTextbookRun open_setup marks_to_rewire (state_of rewired_tree rewired_records)

@@ -1,24 +1,8 @@
 -- Bounds, records of skipped marks and beside goal nodes, each lawful or breaking one clause, and a run of which the last mark is skipped.
 use Rattle.std.specs.Prelude.{◌≡◌, ℕ, true, Some, None, List, [], ◌∷◌, ◌++◌, codes}
-use Rattle.plan_model.specs.declared.geometry.Goal.{Goal}
-use Rattle.plan_model.specs.declared.geometry.Point.{Point}
-use Rattle.plan_model.specs.declared.records.Outcome.TheVariants.{Same, Skipped}
-use Rattle.plan_model.specs.declared.records.Record.{Record}
-use Rattle.plan_model.specs.declared.scenes.Scene.{Scene}
-use Rattle.plan_model.specs.Reports.ReportText.{full_report}
-use Rattle.plan_model.specs.Runs.RecordLaw.{IsLawfulRecord}
-use Rattle.plan_model.specs.Runs.Textbook.{IsTextbookRun, Nodes}
-use Rattle.plan_model.specs.Vectors.Records.{skipped_record}
-use Rattle.plan_model.specs.Runs.Endings.{unplaced_record}
-use Rattle.plan_model.specs.Trees.GoalBounds.{bound_of}
-use Rattle.plan_model.specs.Trees.TreeStates.{TreeState, state_of}
-use Rattle.plan_model.specs.Vectors.Records.{placed_by}
-use Rattle.plan_model.specs.Vectors.Reports.{box}
-use Rattle.plan_model.specs.Vectors.Runs.{open_setup_to, rewired_records, rewired_tree}
-use Rattle.plan_model.specs.Vectors.Shapes.{at}
+use Rattle.plan_model_tests.specs.Terms.{Goal, IsLawfulRecord, IsTextbookRun, Nodes, Point, Record, Same, Scene, Skipped, TreeState, at, bound_of, box}
+use Rattle.plan_model_tests.specs.Terms.{full_report, open_setup_to, placed_by, rewired_records, rewired_tree, skipped_record, state_of, unplaced_record}
 use Rattle.plan_model_tests.specs.UnlawfulRecords.{nodes_with}
-
--- ---- bounds
 
 pub record BoundVectors : Type 0 where
   pub to_a_point : bound_of (at 0 0) (box 40 79 40 79 ∷ []) (at 40 30) ≡ 25344
@@ -39,9 +23,8 @@ goal_of_2 = box 40 79 40 79 ∷ []
 -- Worker 0 placed node 1. Node 2 lies in the goal: this worker placed it at this first cost, and it costs this much now. Worker 1 placed node
 -- 3 where mark 3 is, of which worker 0 has this record.
 abbrev pub goal_reached : ℕ → ℕ → ℕ → Record → TreeState
-goal_reached worker first kept entry =
-    nodes_with (Some (at 0 0) ∷ Some (at 0 50) ∷ Some (at 40 79) ∷ Some (at 40 30) ∷ []) (0 ∷ 12800 ∷ kept ∷ 12800 ∷ [])
-    (placed_by 0 0 0 0 12800 1 ∷ placed_by worker 1 1 1 first 2 ∷ placed_by 1 0 0 0 12800 1 ∷ entry ∷ [])
+goal_reached worker first kept entry = nodes_with (Some (at 0 0) ∷ Some (at 0 50) ∷ Some (at 40 79) ∷ Some (at 40 30) ∷ [])
+    (0 ∷ 12800 ∷ kept ∷ 12800 ∷ []) (placed_by 0 0 0 0 12800 1 ∷ placed_by worker 1 1 1 first 2 ∷ placed_by 1 0 0 0 12800 1 ∷ entry ∷ [])
 
 -- the record is lawful for mark 3, with these goals to skip by; the bound of the mark is 25344 by the goal of node 2
 abbrev pub IsFourth : List Goal → (Record → TreeState) → Record → Type 0
@@ -84,8 +67,7 @@ skipped_records = rewired_records ++ skipped_record 3 2 ∷ []
 
 -- its report in full
 abbrev pub skipped_text : List ℕ
-skipped_text =
-    codes "path 3 cost 25344\n0 0\n40 30\n40 79\nnodes 4 placed 3 same 0 blocked 0 skipped 1\n"
+skipped_text = codes "path 3 cost 25344\n0 0\n40 30\n40 79\nnodes 4 placed 3 same 0 blocked 0 skipped 1\n"
     ++ (codes "node 0 at 0 0 parent 0 cost 0\nnode 1 at 0 50 parent 0 cost 12800\n"
     ++ (codes "node 2 at 40 79 parent 3 cost 25344\nnode 3 at 40 30 parent 0 cost 12800\n"
     ++ (codes "mark 0 worker 0 turn 0 nearest 0 placed class 1 first 0 12800\n"

@@ -1,16 +1,7 @@
 -- A record that is lawful, and records that differ from a lawful one in one number, of the record or of its tree, and break one clause
 -- of the record law.
 use Rattle.std.specs.Prelude.{ℕ, Option, Some, List, [], ◌∷◌, slice_get, slice_index_or}
-use Rattle.plan_model.specs.declared.geometry.Point.{Point}
-use Rattle.plan_model.specs.declared.records.Outcome.TheVariants.{Same, Blocked}
-use Rattle.plan_model.specs.declared.records.Record.{Record}
-use Rattle.plan_model.specs.Spaces.EmptyRooms.{empty_room}
-use Rattle.plan_model.specs.Runs.RecordLaw.{IsLawfulRecord}
-use Rattle.plan_model.specs.Runs.Textbook.{Setup}
-use Rattle.plan_model.specs.Runs.Endings.{unplaced_record}
-use Rattle.plan_model.specs.Trees.TreeStates.{TreeState}
-use Rattle.plan_model.specs.Vectors.Records.{placed_by}
-use Rattle.plan_model.specs.Vectors.Shapes.{at}
+use Rattle.plan_model_tests.specs.Terms.{Blocked, IsLawfulRecord, Point, Record, Same, Setup, TreeState, at, empty_room, placed_by, unplaced_record}
 
 -- a point body in an empty room that is 100 wide and so high, with this step and gamma
 abbrev pub room_by : ℕ → ℕ → ℕ → Setup
@@ -19,22 +10,15 @@ room_by height step gamma = record { space = empty_room (at 100 height); start =
 -- nodes at these points and costs, each below the start, and the records of the marks
 abbrev pub nodes_with : List (Option Point) → List ℕ → List Record → TreeState
 nodes_with points costs records =
-    record {
-      points = points;
-      parent = λ n. 0;
-      cost = λ n. slice_index_or costs n 0;
-      written_cost = λ n. 0;
-      record_of = slice_get records;
-    }
+    record { points = points; parent = λ n. 0; cost = λ n. slice_index_or costs n 0; written_cost = λ n. 0; record_of = slice_get records }
 
 -- ---- placed marks
 
 -- Worker 0 placed mark 0 as node 1, at 12800; node 1 stands here, and costs this much now. Worker 1 placed mark 1 as node 2, at this cost.
 -- Then worker 0 placed mark 2 as node 3, with this record; node 3 costs this much now. So the start and node 1 are earlier nodes.
 abbrev pub third_with : Point → ℕ → ℕ → ℕ → Record → TreeState
-third_with first cost first_cost_of_other last_cost entry =
-    nodes_with (Some (at 0 0) ∷ Some first ∷ Some (at 22 44) ∷ Some (at 40 30) ∷ []) (0 ∷ cost ∷ 12594 ∷ last_cost ∷ [])
-    (placed_by 0 0 0 0 12800 2 ∷ placed_by 1 0 0 0 first_cost_of_other 1 ∷ entry ∷ [])
+third_with first cost first_cost_of_other last_cost entry = nodes_with (Some (at 0 0) ∷ Some first ∷ Some (at 22 44) ∷ Some (at 40 30) ∷ [])
+    (0 ∷ cost ∷ 12594 ∷ last_cost ∷ []) (placed_by 0 0 0 0 12800 2 ∷ placed_by 1 0 0 0 first_cost_of_other 1 ∷ entry ∷ [])
 
 -- With no number changed, node 3 costs 12800 by way of the start, 24249 by way of node 1, and 18432 by way of node 2. Node 2 is the
 -- nearest of all to its mark, and node 1 that of the earlier ones.
@@ -70,8 +54,7 @@ pub record UnlawfulRecordVectors : Type 0 where
   pub as_dear_as_before : IsThird 100 50 (third_with (at 0 50) 24249 12594 12800) (entry_by 2 0 12800 2)
   pub stays_dearer : ¬ IsThird 100 50 (third_with (at 0 50) 24250 12594 12800) (entry_by 2 0 12800 2)
   -- the mark is as far from the start as node 3, and not at it
-  pub not_at_its_node :
-      ¬ IsLawfulRecord (room_by 100 50 50) (third (entry_by 2 0 12800 2)) 2 (at 30 40) (entry_by 2 0 12800 2)
+  pub not_at_its_node : ¬ IsLawfulRecord (room_by 100 50 50) (third (entry_by 2 0 12800 2)) 2 (at 30 40) (entry_by 2 0 12800 2)
   -- number 4 is absent, so that its point is the origin
   pub first_parent_absent : ¬ IsThird 100 50 third (entry_by 2 4 12800 2)
   pub first_parent_is_itself : ¬ IsThird 100 50 third (entry_by 2 3 12800 2)
@@ -101,8 +84,7 @@ ended entry = nodes_with (Some (at 5 5) ∷ Some (at 0 0) ∷ []) (0 ∷ 1811 �
 
 -- worker 0 placed mark 0 at (20, 0), and worker 1 mark 1 halfway, where worker 0 then ends with mark 2
 abbrev pub halfway : Record → TreeState
-halfway entry =
-    nodes_with (Some (at 0 0) ∷ Some (at 20 0) ∷ Some (at 10 0) ∷ []) (0 ∷ 5120 ∷ 2560 ∷ [])
+halfway entry = nodes_with (Some (at 0 0) ∷ Some (at 20 0) ∷ Some (at 10 0) ∷ []) (0 ∷ 5120 ∷ 2560 ∷ [])
     (placed_by 0 0 0 0 5120 1 ∷ placed_by 1 0 0 0 2560 1 ∷ entry ∷ [])
 
 -- no mark was placed

@@ -18,8 +18,7 @@ pub record FindsGoalNode (view : View) (best : ℕ × ℕ) : Type 0 where
 -- The point of node n is looked at again, and a goal node is posted then: nothing else is done.
 pub record LooksAndPosts (n : ℕ) (before after : View) : Type 0 where
   pub looked : ¬ SeesGoal before n → after ≡ loaded before (PointOf n) (sees after (PointOf n))
-  pub posted : SeesGoal before n
-      → after ≡ with_post (loaded before (PointOf n) (sees after (PointOf n))) n after.best (last_note after)
+  pub posted : SeesGoal before n → after ≡ with_post (loaded before (PointOf n) (sees after (PointOf n))) n after.best (last_note after)
 
 -- Of the pass only its view is another. Share, limit and hand stay, but that the hand may note a post of node n, a goal node.
 pub record OnlyPosts (n : ℕ) (before after : PassState) : Type 0 where
@@ -44,5 +43,4 @@ SeesBestSince before after = (after.best ≡ before.best) ⊎ (before.steps < la
 
 -- Of each goal node that is seen with its parent and its cost, the best word seen is at most the pair of this cost and its number.
 abbrev pub HasPostedGoals : View → Type 0
-HasPostedGoals view =
-    (n : ℕ) → SeesGoal view n → 2 ^ 63 ≤ sees view (TreeOf n) → view.best ≤ best_word (cost_in (sees view (TreeOf n))) n
+HasPostedGoals view = (n : ℕ) → SeesGoal view n → 2 ^ 63 ≤ sees view (TreeOf n) → view.best ≤ best_word (cost_in (sees view (TreeOf n))) n

@@ -20,16 +20,14 @@ next_mark view g = mark_of view.run g (sees view (Counter g))
 abbrev pub is_own : SharedRun → ℕ → ℕ → Bool
 is_own run worker g = g % run.workers == worker
 
--- For the worker, mark k of strip g goes before mark m of strip h: its own strips go before the others, and of two marks of either the
--- lesser number.
+-- For the worker, mark k of strip g goes before mark m of strip h: its own strips go before the others, and of two marks of either the lesser number.
 abbrev pub GoesBefore : SharedRun → ℕ → ℕ → ℕ → ℕ → ℕ → Type 0
 GoesBefore run worker g k h m =
     ((is_own run worker g ≡ true) × (is_own run worker h ≡ false)) ⊎ ((is_own run worker g ≡ is_own run worker h) × (k ≤ m))
 
 -- mark k of strip g goes before the next mark of each other strip that has one below the limit
 abbrev pub IsFirst : View → ℕ → ℕ → ℕ → ℕ → Type 0
-IsFirst view worker limit g k =
-    (h : ℕ) → h < view.run.strips → h ≢ g → next_mark view h < limit → GoesBefore view.run worker g k h (next_mark view h)
+IsFirst view worker limit g k = (h : ℕ) → h < view.run.strips → h ≢ g → next_mark view h < limit → GoesBefore view.run worker g k h (next_mark view h)
 
 -- each strip's counter was looked at after the first so many steps of the pass
 abbrev pub AllLoaded : View → ℕ → Type 0
@@ -95,8 +93,7 @@ mark_in order next = mark_by_strips order.strips next.strip next.round
 
 -- the one mark goes strictly before the other
 abbrev pub goes_first : ClaimOrder → Next → Next → Bool
-goes_first order one other =
-    if one.own then (if other.own then nat_lt (mark_in order one) (mark_in order other) else true) else
+goes_first order one other = if one.own then (if other.own then nat_lt (mark_in order one) (mark_in order other) else true) else
     (if other.own then false else nat_lt (mark_in order one) (mark_in order other))
 
 -- the better of the best so far and one below the limit

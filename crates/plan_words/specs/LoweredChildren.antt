@@ -80,8 +80,7 @@ IsFoundChild (Some found) n = found.node ≡ n
 
 -- Each node that is seen with another parent or cost is a child of node m that is lowered, unless it is one of these.
 abbrev pub LowersChildren : (ℕ → Type 0) → View → View → ℕ → Type 0
-LowersChildren but before after m =
-    (n : ℕ) → ¬ but n → sees after (TreeOf n) ≢ sees before (TreeOf n) → IsLoweredChild before after m n
+LowersChildren but before after m = (n : ℕ) → ¬ but n → sees after (TreeOf n) ≢ sees before (TreeOf n) → IsLoweredChild before after m n
 
 -- Of each goal node that is seen with another parent or cost, the best word is at most its pair, as it is seen then, unless it is one of these.
 abbrev pub PostsChanged : (ℕ → Type 0) → View → View → Type 0

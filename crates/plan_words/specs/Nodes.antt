@@ -27,9 +27,8 @@ NamesNode _ = ⊥
 
 -- The pass has linked the node of this hand as the child of node n on this side, and counted it, and did nothing else: these are its last two notes.
 abbrev pub HasLinked : PassState → PassState → ℕ → Bool → Hand → Type 0
-HasLinked before after n side hand =
-    after ≡ with_view before (counted (linked before.view hand n side (note_before after.view 1).steps) hand (note_before after.view 0).word
-    (last_note after.view))
+HasLinked before after n side hand = after ≡ with_view before
+    (counted (linked before.view hand n side (note_before after.view 1).steps) hand (note_before after.view 0).word (last_note after.view))
 
 -- The node of this hand is seen as the child of node n on this side, at its point, with its parent and its cost. It is counted.
 pub record IsLinkedAt (view : View) (n : ℕ) (side : Bool) (hand : Hand) : Type 0 where

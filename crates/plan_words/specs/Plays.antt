@@ -52,9 +52,8 @@ FindsAsSeen view place found = HasWholeShare view → (name : Word) → name ≢
 
 -- and the count is that of the nodes that it sees, if it has counted what it has linked
 abbrev pub FindsWholeCount : View → ℕ → ℕ → Type 0
-FindsWholeCount view place found =
-    HasWholeShare view → ((hand : Hand) → view.hand ≡ Some hand → hand.stage ≢ Linked) → place ≡ place_in view Count
-    → found ≡ node_count (tree_seen view).points
+FindsWholeCount view place found = HasWholeShare view → ((hand : Hand) → view.hand ≡ Some hand → hand.stage ≢ Linked)
+    → place ≡ place_in view Count → found ≡ node_count (tree_seen view).points
 
 -- ---- claims and loads
 

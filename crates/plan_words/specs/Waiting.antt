@@ -40,8 +40,6 @@ pub record IsWaitingList (nodes : List ℕ) (marked : List Bool) (capacity : ℕ
   pub room : length marked ≤ capacity
   pub marks : AreMarked nodes marked
 
--- ---- children that a pass has seen
-
 -- by the tree word that the view saw last, the one is the parent of the other; node 0 has none
 pub record HasSeenParent (view : View) (m n : ℕ) : Type 0 where
   pub child : 0 < n

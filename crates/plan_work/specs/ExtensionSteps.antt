@@ -112,8 +112,7 @@ pub record IsSteeredTo (view : View) (k m : ℕ) (p : Point) : Type 0 where
   pub from : Point
   pub stands : SeesPoint view m from
   pub point_is : p ≡ steered from (mark_at view.run.marks k) view.run.step
-  pub not_above : (n : ℕ) → has_node (sees view) n ≡ true
-      → IsNotAbove (distance_to (mark_at view.run.marks k) (tree_seen view).points) m n
+  pub not_above : (n : ℕ) → has_node (sees view) n ≡ true → IsNotAbove (distance_to (mark_at view.run.marks k) (tree_seen view).points) m n
 
 -- The point in hand is p, steered from node m, and no more is written.
 pub record IsPointed (hand : Hand) (m : ℕ) (p : Point) : Type 0 where

@@ -76,10 +76,9 @@ pub record WasChosen (before chosen_at after : View) (first : FirstHanging) (p :
 abbrev pub IsWithinRadius : View → ℕ → Point → ℕ → Type 0
 IsWithinRadius view class p i = distance_to p (tree_seen view).points i ≤ radius_in view class * radius_in view class
 
--- By this moment the node of mark k was linked, with its first parent and its first cost, and posted if it lies in a goal by which marks are skipped; no
--- other was rewired by then. At the end no neighbour is seen dearer than through it.
--- Each node whose seen cost fell since, or whose parent's did, is within its parent, but for a node within the radius to which the new one is a
--- shortcut and which hangs elsewhere.
+-- By this moment the node of mark k was linked, with its first parent and its first cost, and posted if it lies in a goal by which marks are skipped;
+-- no other was rewired by then. At the end no neighbour is seen dearer than through it. Each node whose seen cost fell since, or whose parent's did,
+-- is within its parent, but for a node within the radius to which the new one is a shortcut and which hangs elsewhere.
 pub record WasRewired (before linked_at after : View) (k : ℕ) (first : FirstHanging) (p : Point) : Type 0 where
   pub until : GoesOn linked_at after
   pub stood : SeesPoint linked_at (suc k) p
@@ -108,8 +107,7 @@ pub record IsPlacedAt (before after : View) (k : ℕ) (first : FirstHanging) (p 
 pub record HasSteered (before after : View) (k m : ℕ) (from p : Point) : Type 0 where
   pub stands : SeesPoint after m from
   pub point_is : p ≡ steered from (mark_at after.run.marks k) after.run.step
-  pub not_above : (n : ℕ) → IsPresent (tree_seen before).points n
-      → IsNotAbove (distance_to (mark_at after.run.marks k) (tree_seen after).points) m n
+  pub not_above : (n : ℕ) → IsPresent (tree_seen before).points n → IsNotAbove (distance_to (mark_at after.run.marks k) (tree_seen after).points) m n
   pub swept : SweepsWithin (sight_in before) (sight_in after) (mark_at after.run.marks k)
       (distance_to (mark_at after.run.marks k) (tree_seen after).points m)
 

@@ -41,9 +41,8 @@ pub record IsReady (shared : SharedState) (worker : Worker) : Type 0 where
 
 -- what is left of the pass of a worker that has stopped
 abbrev pub left_by : Worker → Option PassState
-left_by (Working pass) = None
 left_by (Stopped left) = Some left
-left_by Away = None
+left_by status = None
 
 -- it is there
 abbrev pub HasLeft : Worker → Type 0

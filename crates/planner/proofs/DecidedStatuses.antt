@@ -30,40 +30,32 @@ same_front bytes a b s t =
 not_faulty : (input : Input) (bytes : List ℕ) (scenes : List Scene) (number : ℕ) (kind : Kind) → SpellsInput input bytes scenes →
     RefusesInput input number kind bytes → ⊥
 not_faulty nothing bytes scenes number kind t f = f
-not_faulty one_scene bytes [] number kind t f = t
 not_faulty one_scene bytes (scene ∷ []) number kind t f = Spells-not_refused supported bytes scene number kind t.spelled f.refused
-not_faulty one_scene bytes (scene ∷ second ∷ scenes) number kind t f = t
+not_faulty one_scene bytes scenes number kind t f = t
 not_faulty several_scenes bytes scenes number kind t f = SpellsBatch-not_refused supported bytes scenes number kind t.spelled f.refused
-not_faulty scene_and_report bytes [] number kind t f = t
 not_faulty scene_and_report bytes (scene ∷ []) number kind t f = not_faulty_front bytes scene number kind t f.refused
-not_faulty scene_and_report bytes (scene ∷ second ∷ scenes) number kind t f = t
+not_faulty scene_and_report bytes scenes number kind t f = t
 
 -- and has a permitted length
 short_input : (input : Input) (bytes : List ℕ) (scenes : List Scene) → SpellsInput input bytes scenes → length bytes ≤ MOST_TEXT_BYTES
 short_input nothing bytes scenes t = omega (arith, ap length t.0)
-short_input one_scene bytes [] t = absurd t
 short_input one_scene bytes (scene ∷ []) t = t.short
-short_input one_scene bytes (scene ∷ second ∷ scenes) t = absurd t
+short_input one_scene bytes scenes t = absurd t
 short_input several_scenes bytes scenes t = t.short
-short_input scene_and_report bytes [] t = absurd t
 short_input scene_and_report bytes (scene ∷ []) t = t.short
-short_input scene_and_report bytes (scene ∷ second ∷ scenes) t = absurd t
+short_input scene_and_report bytes scenes t = absurd t
 
 -- in one way
 one_input : (input : Input) (bytes : List ℕ) (scenes others : List Scene) → SpellsInput input bytes scenes → SpellsInput input bytes others →
     scenes ≡ others
 one_input nothing bytes scenes others s t = s.1 ∙ sym t.1
-one_input one_scene bytes [] others s t = absurd s
-one_input one_scene bytes (a ∷ c ∷ scenes) others s t = absurd s
-one_input one_scene bytes (a ∷ []) [] s t = absurd t
-one_input one_scene bytes (a ∷ []) (b ∷ d ∷ others) s t = absurd t
 one_input one_scene bytes (a ∷ []) (b ∷ []) s t = ap (λ scene. scene ∷ []) (Spells-one_scene supported bytes a b s.spelled t.spelled)
+one_input one_scene bytes (a ∷ []) others s t = absurd t
+one_input one_scene bytes scenes others s t = absurd s
 one_input several_scenes bytes scenes others s t = SpellsBatch-one_batch supported bytes scenes others s.spelled t.spelled
-one_input scene_and_report bytes [] others s t = absurd s
-one_input scene_and_report bytes (a ∷ c ∷ scenes) others s t = absurd s
-one_input scene_and_report bytes (a ∷ []) [] s t = absurd t
-one_input scene_and_report bytes (a ∷ []) (b ∷ d ∷ others) s t = absurd t
 one_input scene_and_report bytes (a ∷ []) (b ∷ []) s t = ap (λ scene. scene ∷ []) (same_front bytes a b s t)
+one_input scene_and_report bytes (a ∷ []) others s t = absurd t
+one_input scene_and_report bytes scenes others s t = absurd s
 
 module _ (bytes : List ℕ) (command : Command) (status : ℕ) where
   -- what holds of the scenes that the bytes spell holds of whatever scenes they spell

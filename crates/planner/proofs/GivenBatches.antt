@@ -107,13 +107,15 @@ IsRunBySlices-finished workers slice scene task items run of_scene h =
     let marks_are : task.marks ≡ mark_points scene = task.of_scene ∙ ap mark_points of_scene in
     let all_marks : run.limit ≡ length (mark_points scene) = end.all_marks ∙ ap length marks_are in
     record {
-      of_scene = scene_is;
-      all_marks = all_marks;
-      closed = subst (λ (marks : List Point). IsClosed (setup_of scene) marks (length marks) (state_of_grown run)) marks_are
-          (subst (λ (s : Scene). IsClosed (setup_of s) task.marks (length task.marks) (state_of_grown run)) of_scene end.closed);
-      settled = end.settled;
-      by_workers = end.by_workers;
-      textbook = λ one. IsOfTextbookRun-whole scene run scene_is all_marks (end.textbook one);
+      whole = record {
+        scene_is = scene_is;
+        all_marks = all_marks;
+        closed = subst (λ (marks : List Point). IsClosed (setup_of scene) marks (length marks) (state_of_grown run)) marks_are
+            (subst (λ (s : Scene). IsClosed (setup_of s) task.marks (length task.marks) (state_of_grown run)) of_scene end.closed);
+        settled = end.settled;
+        by_workers = end.by_workers;
+        textbook = λ one. IsOfTextbookRun-whole scene run scene_is all_marks (end.textbook one);
+      };
       better = h.better;
     }
 
@@ -154,4 +156,4 @@ pub settled_runs : (workers slice : ℕ) (scenes : List Scene) (sessions : List 
     → length runs ≡ length sessions → (k : ℕ) (d : Grown) → k < length runs → IsSettled (state_of_grown (get_or runs k d))
 settled_runs workers slice [] sessions runs better count made finished many k d within = absurd (omega (arith, within, count, many))
 settled_runs workers slice (scene ∷ scenes) sessions runs better count made finished many k d within =
-    (come_of workers slice (scene ∷ scenes) sessions runs better count made finished k scene d (omega (arith, within, count, many))).settled
+    (come_of workers slice (scene ∷ scenes) sessions runs better count made finished k scene d (omega (arith, within, count, many))).whole.settled

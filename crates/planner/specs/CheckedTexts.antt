@@ -25,30 +25,20 @@ abbrev pub RefusesSceneText : List ℕ → Refusal → Type 0
 RefusesSceneText text (refusals.Text number kind) = Refused supported text number kind
 RefusesSceneText text refusals.StartBlocked = SpellsBlocked text
 RefusesSceneText text refusals.Memory = Unit {0}
-RefusesSceneText text refusals.Words = ⊥
-RefusesSceneText text refusals.TooLong = ⊥
-RefusesSceneText text refusals.GoalBlocked = ⊥
-RefusesSceneText text refusals.ReadFault = ⊥
+RefusesSceneText text refusal = ⊥
 
 -- of bytes without a line `report`
 abbrev pub RefusesWithoutReport : List ℕ → Refusal → Type 0
 RefusesWithoutReport bytes (refusals.Text number kind) = RefusesWhole number kind bytes
-RefusesWithoutReport bytes refusals.StartBlocked = ⊥
 RefusesWithoutReport bytes refusals.Memory = Unit {0}
-RefusesWithoutReport bytes refusals.Words = ⊥
-RefusesWithoutReport bytes refusals.TooLong = ⊥
-RefusesWithoutReport bytes refusals.GoalBlocked = ⊥
-RefusesWithoutReport bytes refusals.ReadFault = ⊥
+RefusesWithoutReport bytes refusal = ⊥
 
 -- of all bytes
 abbrev pub RefusesCheck : List ℕ → Refusal → Type 0
 RefusesCheck bytes (refusals.Text number kind) = RefusesInput scene_and_report number kind bytes
 RefusesCheck bytes refusals.StartBlocked = BlocksStart commands.Check bytes
 RefusesCheck bytes refusals.Memory = Unit {0}
-RefusesCheck bytes refusals.Words = ⊥
-RefusesCheck bytes refusals.TooLong = ⊥
-RefusesCheck bytes refusals.GoalBlocked = ⊥
-RefusesCheck bytes refusals.ReadFault = ⊥
+RefusesCheck bytes refusal = ⊥
 
 -- the verdict is that on what stands after the line `report`, as a report of the scene before it, whose start is clear
 pub record Judges (bytes : List ℕ) (verdict : Verdict) : Type 0 where

@@ -19,8 +19,7 @@ command_of_word word =
 
 -- The number that a word stands for, if it is one from `least` to `most`: spelled as the numbers of a scene text are.
 abbrev pub number_in : ℕ → ℕ → List ℕ → Option ℕ
-number_in least most word =
-    if is_number word && (int_le (pos least) (value_of word) && int_le (value_of word) (pos most))
+number_in least most word = if is_number word && (int_le (pos least) (value_of word) && int_le (value_of word) (pos most))
     then Some (unsigned_abs (value_of word)) else None
 
 -- the command to plan by so many workers, which a word says, with a full report or a short one
@@ -33,9 +32,8 @@ smooth_by word = option_and_then (λ workers. Some (commands.Smooth workers)) (n
 
 -- the command to grow a run by so many workers, so many marks at a time, which two words say
 abbrev pub anytime_by : List ℕ → List ℕ → Option Command
-anytime_by second third =
-    option_and_then (λ workers. option_and_then (λ slice. Some (commands.Anytime workers slice)) (number_in 1 MOST_MARKS third))
-    (number_in 1 MOST_WORKERS second)
+anytime_by second third = option_and_then
+    (λ workers. option_and_then (λ slice. Some (commands.Anytime workers slice)) (number_in 1 MOST_MARKS third)) (number_in 1 MOST_WORKERS second)
 
 -- the command to plan from both ends by so many workers, which a word says
 abbrev pub twin_by : List ℕ → Option Command
@@ -43,8 +41,7 @@ twin_by word = option_and_then (λ workers. Some (commands.Twin workers)) (numbe
 
 -- the command to grow a run of each of several scenes in that way
 abbrev pub batch_by : List ℕ → List ℕ → Option Command
-batch_by second third =
-    option_and_then (λ workers. option_and_then (λ slice. Some (commands.Batch workers slice)) (number_in 1 MOST_MARKS third))
+batch_by second third = option_and_then (λ workers. option_and_then (λ slice. Some (commands.Batch workers slice)) (number_in 1 MOST_MARKS third))
     (number_in 1 MOST_WORKERS second)
 
 -- the command of a word about the generated scene of a number
@@ -72,11 +69,10 @@ command_of_three word second third =
 
 -- the command that the words ask for, if they ask for one
 abbrev pub command_of : List (List ℕ) → Option Command
-command_of [] = None
 command_of (word ∷ []) = command_of_word word
 command_of (word ∷ second ∷ []) = command_of_two word second
 command_of (word ∷ second ∷ third ∷ []) = command_of_three word second third
-command_of (word ∷ second ∷ third ∷ fourth ∷ words) = None
+command_of words = None
 
 -- if the command is about a generated scene, there is one of its number; a slice has a mark at least
 abbrev pub IsNumbered : Command → Type 0

@@ -30,7 +30,7 @@ use Rattle.any_time.specs.BetterReports.{batch_report, better_report}
 use Rattle.any_time.specs.declared.betters.Better.{Better}
 use Rattle.twin_trees.specs.declared.twin_runs.Twin.{Twin}
 use Rattle.twin_trees.specs.TwinReports.{twin_text}
-use Rattle.twin_trees.specs.Twins.{IsTwin}
+use Rattle.twin_trees.specs.Twins.{IsTwin, IsWholeRun}
 use Rattle.planner.specs.declared.answers.Answer.{Answer}
 use Rattle.planner.specs.declared.commands.Command.{Command}
 use Rattle.planner.specs.declared.commands.Command.TheVariants as commands
@@ -126,15 +126,9 @@ pub record ReportsTwin (workers : ℕ) (scene : Scene) (done : Done) (text : Lis
   pub written : text ≡ twin_text both
   pub alone : HandsOutNothing (record done { twin = None })
 
--- The run is of the scene, over all its marks, closed and settled, and these are its better paths. Its marks were handled by so many
--- workers at most, so many at a time. By one worker it is the textbook run of the scene.
+-- a whole run of the scene by so many workers at most, so many marks at a time, and its better paths
 pub record IsRunBySlices (workers slice : ℕ) (scene : Scene) (grown : Grown) (items : List Better) : Type 0 where
-  pub of_scene : grown.task.scene ≡ scene
-  pub all_marks : grown.limit ≡ length (mark_points scene)
-  pub closed : IsClosed (setup_of scene) (mark_points scene) (length (mark_points scene)) (state_of_grown grown)
-  pub settled : IsSettled (state_of_grown grown)
-  pub by_workers : (k : ℕ) (entry : Record) → (state_of_grown grown).record_of k ≡ Some entry → entry.worker < workers
-  pub textbook : workers ≡ 1 → IsOfTextbookRun (setup_of scene) (mark_points scene) (state_of_grown grown)
+  pub whole : IsWholeRun workers scene grown
   pub better : AreBetterPaths workers slice grown items
 
 -- A run of each of the scenes is handed out, and a list of its better paths, in the order of the scenes, and the text reports them in that

@@ -13,11 +13,9 @@ use Rattle.planner.specs.Inputs.{AreGoalsClear, AreStartsClear, RefusesInput, Sp
 pub record IsDecidedBy (bytes : List ℕ) (command : Command) (status : ℕ) : Type 0 where
   pub done : (scenes : List Scene) → SpellsInput (input_of command) bytes scenes → MayStart command scenes → MayReach command scenes
       → status ≤ greatest_success command
-  pub blocked :
-      (scenes : List Scene) → SpellsInput (input_of command) bytes scenes → IsTrue (tests_start command) → (¬ AreStartsClear scenes)
+  pub blocked : (scenes : List Scene) → SpellsInput (input_of command) bytes scenes → IsTrue (tests_start command) → (¬ AreStartsClear scenes)
       → status ≡ START_BLOCKED
-  pub goal_blocked :
-      (scenes : List Scene) → SpellsInput (input_of command) bytes scenes → IsTrue (tests_goal command) → AreStartsClear scenes
+  pub goal_blocked : (scenes : List Scene) → SpellsInput (input_of command) bytes scenes → IsTrue (tests_goal command) → AreStartsClear scenes
       → (¬ AreGoalsClear scenes) → status ≡ GOAL_BLOCKED
   pub refused : (number : ℕ) (kind : Kind) → RefusesInput (input_of command) number kind bytes → status ≡ TEXT_REFUSED
   pub long : MOST_TEXT_BYTES < length bytes → status ≡ TEXT_REFUSED

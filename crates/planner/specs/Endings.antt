@@ -11,18 +11,14 @@ use Rattle.planner.specs.Decisions.{IsDecided}
 use Rattle.planner.specs.Exchanges.{ReadFailed, WriteFailed, IsUnread, IsWrittenWhole, IsCutShort}
 
 -- A call has done what the words ask for, over a source and a sink that are known before it and after it.
-pub record HasConcluded
-    (asked : Option Command) (before now : SourceState) (sink_before sink_now : SinkState) (result : Done) : Type 0 where
+pub record HasConcluded (asked : Option Command) (before now : SourceState) (sink_before sink_now : SinkState) (result : Done) : Type 0 where
   -- a success by the command, or a refusal by its cause; the whole text is written
-  pub done :
-      result.status ≢ WRITE_FAULT → (text : List ℕ) × IsAnswer asked before now result text × IsWrittenWhole sink_before sink_now text
+  pub done : result.status ≢ WRITE_FAULT → (text : List ℕ) × IsAnswer asked before now result text × IsWrittenWhole sink_before sink_now text
   -- the sink failed, and took a proper prefix of the text of such an answer
-  pub cut :
-      result.status ≡ WRITE_FAULT → (status : ℕ) × (text : List ℕ) × IsAnswer asked before now (record result { status = status }) text
+  pub cut : result.status ≡ WRITE_FAULT → (status : ℕ) × (text : List ℕ) × IsAnswer asked before now (record result { status = status }) text
       × IsCutShort sink_before sink_now text
   -- if no count of faults rose, the bytes decide the status, or the program is out of memory
-  pub decided :
-      (¬ ReadFailed before now) → (¬ WriteFailed sink_before sink_now)
+  pub decided : (¬ ReadFailed before now) → (¬ WriteFailed sink_before sink_now)
       → (result.status ≡ NO_MEMORY) ⊎ IfSome asked (λ command. IsDecided before.bytes_left command result.status)
   -- words that ask for no command are refused
   pub words : asked ≡ None → (result.status ≡ WORDS_REFUSED) ⊎ (result.status ≡ WRITE_FAULT)

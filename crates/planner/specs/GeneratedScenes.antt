@@ -15,12 +15,8 @@ lattice_corner x y = record { x = pos x; y = pos y }
 
 -- the square with this lower left corner
 abbrev pub square_at : Point → ℕ → List Vertex
-square_at at side =
-    lattice_corner at.x at.y
-    ∷ lattice_corner (at.x + side) at.y
-    ∷ lattice_corner (at.x + side) (at.y + side)
-    ∷ lattice_corner at.x (at.y + side)
-    ∷ []
+square_at at side = lattice_corner at.x at.y ∷ lattice_corner (at.x + side) at.y
+    ∷ lattice_corner (at.x + side) (at.y + side) ∷ lattice_corner at.x (at.y + side) ∷ []
 
 -- the lower left half of that square
 abbrev pub triangle_at : Point → ℕ → List Vertex
@@ -29,8 +25,7 @@ triangle_at at side = lattice_corner at.x at.y ∷ lattice_corner (at.x + side) 
 -- The lower left corner of an obstacle: the cells are 1,250 wide and high and are numbered row by row, and in its cell the
 -- corner stands at 200 and as much as two words say, up to 511.
 abbrev pub place_in_cell : ℕ → ℕ → ℕ → Point
-place_in_cell cell u v =
-    record { x = (1250 * (cell % 8) + 200) + u % 512; y = (1250 * (cell / 8) + 200) + v % 512 }
+place_in_cell cell u v = record { x = (1250 * (cell % 8) + 200) + u % 512; y = (1250 * (cell / 8) + 200) + v % 512 }
 
 -- the side of an obstacle, 100 to 355
 abbrev pub side_by : ℕ → ℕ
@@ -38,8 +33,7 @@ side_by u = 100 + (u / 512) % 256
 
 -- the obstacle of a cell by two words: a square in a cell of even number, a triangle in one of odd number
 abbrev pub obstacle_by : ℕ → ℕ → ℕ → List Vertex
-obstacle_by cell u v =
-    if cell % 2 == 0 then square_at (place_in_cell cell u v) (side_by u) else triangle_at (place_in_cell cell u v) (side_by u)
+obstacle_by cell u v = if cell % 2 == 0 then square_at (place_in_cell cell u v) (side_by u) else triangle_at (place_in_cell cell u v) (side_by u)
 
 -- the state of the generator that an obstacle is drawn from
 abbrev pub generator_state : ℕ → ℕ → ℕ
@@ -47,8 +41,7 @@ generator_state number cell = 64 * number + cell
 
 -- the obstacle of a cell
 abbrev pub generated_obstacle : ℕ → ℕ → List Vertex
-generated_obstacle number cell =
-    obstacle_by cell (first_word (generator_state number cell)) (second_word (generator_state number cell))
+generated_obstacle number cell = obstacle_by cell (first_word (generator_state number cell)) (second_word (generator_state number cell))
 
 -- the obstacles, in the order of the cells
 abbrev pub generated_obstacles : ℕ → List (List Vertex)

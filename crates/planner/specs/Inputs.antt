@@ -37,12 +37,6 @@ pub record IsFaultyText (number : ℕ) (kind : Kind) (bytes : List ℕ) : Type 0
   pub short : length bytes ≤ MOST_TEXT_BYTES
   pub refused : Refused supported bytes number kind
 
--- the bytes are the text of the scene that is alone in the list
-abbrev pub SpellsOne : List ℕ → List Scene → Type 0
-SpellsOne bytes [] = ⊥
-SpellsOne bytes (scene ∷ []) = IsTextOf scene bytes
-SpellsOne bytes (scene ∷ second ∷ scenes) = ⊥
-
 -- the bytes are a text of a permitted length that spells the scenes, in their order
 pub record IsBatchOf (scenes : List Scene) (bytes : List ℕ) : Type 0 where
   pub short : length bytes ≤ MOST_TEXT_BYTES
@@ -85,18 +79,17 @@ pub record IsFaultyBeforeReport (number : ℕ) (kind : Kind) (bytes : List ℕ) 
   pub short : length bytes ≤ MOST_TEXT_BYTES
   pub refused : RefusesFront number kind bytes ⊎ RefusesWhole number kind bytes
 
--- the bytes are the text of the scene that is alone in the list, and a report after it
-abbrev pub SpellsOneBeforeReport : List ℕ → List Scene → Type 0
-SpellsOneBeforeReport bytes [] = ⊥
-SpellsOneBeforeReport bytes (scene ∷ []) = IsTextBeforeReport scene bytes
-SpellsOneBeforeReport bytes (scene ∷ second ∷ scenes) = ⊥
+-- there is one scene alone, of which something is said
+abbrev pub IsOneScene : (Scene → Type 0) → List Scene → Type 0
+IsOneScene P (scene ∷ []) = P scene
+IsOneScene P scenes = ⊥
 
 -- the bytes spell these scenes, in their order
 abbrev pub SpellsInput : Input → List ℕ → List Scene → Type 0
 SpellsInput nothing bytes scenes = (bytes ≡ []) × (scenes ≡ [])
-SpellsInput one_scene bytes scenes = SpellsOne bytes scenes
+SpellsInput one_scene bytes scenes = IsOneScene (λ scene. IsTextOf scene bytes) scenes
 SpellsInput several_scenes bytes scenes = IsBatchOf scenes bytes
-SpellsInput scene_and_report bytes scenes = SpellsOneBeforeReport bytes scenes
+SpellsInput scene_and_report bytes scenes = IsOneScene (λ scene. IsTextBeforeReport scene bytes) scenes
 
 -- the bytes are refused at this line, by this kind of fault
 abbrev pub RefusesInput : Input → ℕ → Kind → List ℕ → Type 0

@@ -27,8 +27,7 @@ IsChainInOrder setup state (n ∷ i ∷ earlier) = IsLinkInOrder setup state i n
 -- A chain that ends with node n: the nodes before it are in order, and the last link is in order in one of its two directions.
 abbrev pub IsChain : Setup → TreeState → ℕ → List ℕ → Type 0
 IsChain setup state n [] = n ≡ 0
-IsChain setup state n (i ∷ earlier) =
-    (IsLinkInOrder setup state i n ⊎ IsLinkInOrder setup state n i) × IsChainInOrder setup state (i ∷ earlier)
+IsChain setup state n (i ∷ earlier) = (IsLinkInOrder setup state i n ⊎ IsLinkInOrder setup state n i) × IsChainInOrder setup state (i ∷ earlier)
 
 -- the edge costs along a chain, added up
 abbrev pub cost_of_chain : TreeState → List ℕ → ℕ

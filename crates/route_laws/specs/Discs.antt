@@ -16,8 +16,7 @@ gap_from over x b = unsigned_abs (x -ℤ pos (over * b))
 
 -- q lies in the closed disc around b on whose rim a lies
 abbrev pub IsInDisc : Point → Point → Rational → Type 0
-IsInDisc a b q =
-    gap_from q.over q.x b.x * gap_from q.over q.x b.x + gap_from q.over q.y b.y * gap_from q.over q.y b.y
+IsInDisc a b q = gap_from q.over q.x b.x * gap_from q.over q.x b.x + gap_from q.over q.y b.y * gap_from q.over q.y b.y
     ≤ (q.over * q.over) * squared_distance a b
 
 -- The link from a to b is at most a step long, and each rational point that is no farther from b than a is, is clear.
@@ -29,13 +28,12 @@ pub record HasClearDisc (setup : Setup) (a b : Point) : Type 0 where
 
 -- a point of the obstacle less a point of the body: corners under weights of the same total
 abbrev pub obstacle_less_body : List ℕ → List Vertex → List ℕ → List Vertex → (total : ℕ) → 0 < total → Rational
-obstacle_less_body on_obstacle obstacle on_body body total positive =
-    record {
-      x = weighted (λ v. v.x) on_obstacle obstacle -ℤ weighted (λ v. v.x) on_body body;
-      y = weighted (λ v. v.y) on_obstacle obstacle -ℤ weighted (λ v. v.y) on_body body;
-      over = total;
-      positive = positive;
-    }
+obstacle_less_body on_obstacle obstacle on_body body total positive = record {
+  x = weighted (λ v. v.x) on_obstacle obstacle -ℤ weighted (λ v. v.x) on_body body;
+  y = weighted (λ v. v.y) on_obstacle obstacle -ℤ weighted (λ v. v.y) on_body body;
+  over = total;
+  positive = positive;
+}
 
 -- Each point of the obstacle is farther from each point of the body, placed at b, than a is from b.
 abbrev pub IsFartherFrom : List Vertex → Point → Point → List Vertex → Type 0

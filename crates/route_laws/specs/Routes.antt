@@ -9,7 +9,7 @@ use Rattle.plan_model.specs.Spaces.Clearance.{Clear, ClearAt}
 use Rattle.plan_model.specs.Trees.BestNode.{IsGoalNode}
 use Rattle.plan_model.specs.Trees.PointsByNumber.{StandsAt}
 
--- ---- routes
+-- ---- routes and links
 
 -- numbers that rise, none below the first one allowed, and all below the limit
 abbrev pub Rise : ℕ → ℕ → List ℕ → Type 0
@@ -25,8 +25,6 @@ AreLinks IsLink a (b ∷ points) = IsLink a b × AreLinks IsLink b points
 pub record IsRoute (setup : Setup) (marks : List Point) (IsLink : Point → Point → Type 0) (numbers : List ℕ) : Type 0 where
   pub rise : Rise 0 (length marks) numbers
   pub links : AreLinks IsLink setup.start (map (mark_at marks) numbers)
-
--- ---- links
 
 -- The link from a to b is open: it is at most a step long, and from every clear lattice point that is no farther from b than a is, the
 -- segment to b is clear.

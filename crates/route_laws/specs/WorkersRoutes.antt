@@ -23,8 +23,7 @@ pub record IsHandledAfter (state : TreeState) (n k : ℕ) : Type 0 where
 abbrev pub AreHandledInTurn : TreeState → ℕ → List ℕ → Type 0
 AreHandledInTurn state n [] = Unit {0}
 AreHandledInTurn state n (k ∷ []) = IsHandledAfter state n k
-AreHandledInTurn state n (k ∷ l ∷ numbers) =
-    IsHandledAfter state n k × ((m : ℕ) × EndsAtNode state k m × AreHandledInTurn state m (l ∷ numbers))
+AreHandledInTurn state n (k ∷ l ∷ numbers) = IsHandledAfter state n k × ((m : ℕ) × EndsAtNode state k m × AreHandledInTurn state m (l ∷ numbers))
 
 -- some node stands at p
 abbrev pub HasNodeAt : List (Option Point) → Point → Type 0

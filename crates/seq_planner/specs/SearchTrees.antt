@@ -52,12 +52,8 @@ with_costs nodes costs = map (λ kept. with_cost kept.0 kept.1) (zip nodes costs
 -- through that; and at no cost if there is none.
 abbrev pub Fits : Nodes → Option Twig → ℕ → Type 0
 Fits nodes None cost = cost ≡ 0
-Fits nodes (Some node) cost =
-    IsPresent (points_of nodes) node.parent
-    × IsFree (points_of nodes) node.point
-    × IsBounded node.point
-    × (cost ≡ cost_through nodes node.point node.parent)
-    × (cost ≤ node_count (points_of nodes) * 2 ^ 29)
+Fits nodes (Some node) cost = IsPresent (points_of nodes) node.parent × IsFree (points_of nodes) node.point × IsBounded node.point
+    × (cost ≡ cost_through nodes node.point node.parent) × (cost ≤ node_count (points_of nodes) * 2 ^ 29)
 
 -- The tree after a mark: near nodes are rewired to the node that is added, if there is one.
 abbrev pub AddsRewired : ConfigurationSpace → Nodes → Option Twig → List ℕ → Nodes → Type 0
@@ -67,8 +63,7 @@ AddsRewired space tree (Some node) near after = Rewires space (tree ++ Some node
 -- The next mark is handled by adding this node and this record, and by rewiring these near nodes.
 pub record IsExtensionOf (scene : Scene) (tree : SearchTree) (mark : Point) (extension : Extension) (near : List ℕ) : Type 0 where
   pub fits : Fits tree.nodes extension.node extension.cost
-  pub handles :
-      (after : Nodes) → AddsRewired (space_of scene) tree.nodes extension.node near after
+  pub handles : (after : Nodes) → AddsRewired (space_of scene) tree.nodes extension.node near after
       → Handles (setup_of scene) tree.nodes (length tree.records.items) mark extension.entry after
   pub present : All (IsPresent (points_of tree.nodes)) near
 

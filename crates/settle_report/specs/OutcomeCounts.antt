@@ -8,13 +8,12 @@ use Rattle.settle_report.specs.declared.outcome_counts.OutcomeCounts.{OutcomeCou
 
 -- the counts with one mark more, which had this outcome
 abbrev pub with_outcome : OutcomeCounts → Outcome → OutcomeCounts
-with_outcome counts outcome =
-    record {
-      placed = counts.placed + cond (is_placed outcome) 1 0;
-      same = counts.same + cond (is_same outcome) 1 0;
-      blocked = counts.blocked + cond (is_blocked outcome) 1 0;
-      skipped = counts.skipped + cond (is_skipped outcome) 1 0;
-    }
+with_outcome counts outcome = record {
+  placed = counts.placed + cond (is_placed outcome) 1 0;
+  same = counts.same + cond (is_same outcome) 1 0;
+  blocked = counts.blocked + cond (is_blocked outcome) 1 0;
+  skipped = counts.skipped + cond (is_skipped outcome) 1 0;
+}
 
 -- The counts are those of the marks below a limit, each of which has a record.
 pub record AreCounts (record_of : ℕ → Option Record) (limit : ℕ) (counts : OutcomeCounts) : Type 0 where

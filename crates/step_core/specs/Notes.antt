@@ -19,11 +19,9 @@ abbrev pub IsLoaded : SharedRun → Word → Type 0
 IsLoaded run Count = Unit {0}
 IsLoaded run Best = Unit {0}
 IsLoaded run (Counter g) = g < run.strips
-IsLoaded run (PointOf n) = ⊥
 IsLoaded run (ChildOf n side) = n ≤ length run.marks
 IsLoaded run (TreeOf n) = n ≤ length run.marks
-IsLoaded run (FirstOf n) = ⊥
-IsLoaded run (RecordOf k) = ⊥
+IsLoaded run name = ⊥
 
 -- each word as a view last saw it, the best word too
 abbrev pub last_seen : View → Words
@@ -84,8 +82,7 @@ HasMade run views i steps = (steps ≡ 0) ⊎ ((view : View) × (get_elem? views
 
 -- The tree word of a node, which the view has not seen, is as the node was placed: that was written before the node could be seen.
 abbrev pub IsAsPlaced : Words → View → Word → Type 0
-IsAsPlaced words view name =
-    (n : ℕ) × (name ≡ TreeOf n) × (last_seen view (TreeOf n) ≡ 0) × (words (TreeOf n) ≡ words (FirstOf n))
+IsAsPlaced words view name = (n : ℕ) × (name ≡ TreeOf n) × (last_seen view (TreeOf n) ≡ 0) × (words (TreeOf n) ≡ words (FirstOf n))
 
 -- No note tells of more steps of a view than it has made, and none of a view that is not there. What was left in a word may become what it is now.
 -- Whoever has looked at the word since, by steps of its own, has seen at least that. If a view sees a word otherwise than it is, what it is was
@@ -108,13 +105,11 @@ Empties run words views =
 
 -- The view notes no place of a child that it did not note before.
 abbrev pub FillsNoPlace : View → View → Type 0
-FillsNoPlace view then =
-    (n : ℕ) (side : Bool) (note : Note) → HasNoted then note → IsNoteOf view.run (ChildOf n side) note → HasNoted view note
+FillsNoPlace view then = (n : ℕ) (side : Bool) (note : Note) → HasNoted then note → IsNoteOf view.run (ChildOf n side) note → HasNoted view note
 
 -- Of this word it notes nothing but what it sees then.
 abbrev pub NotesAsSeen : View → View → Word → Type 0
-NotesAsSeen view then name =
-    (note : Note) → HasNoted then note → IsNoteOf view.run name note → HasNoted view note ⊎ (note.word ≡ last_seen then name)
+NotesAsSeen view then name = (note : Note) → HasNoted then note → IsNoteOf view.run name note → HasNoted view note ⊎ (note.word ≡ last_seen then name)
 
 -- It has seen something of this word, if that is a tree word.
 abbrev pub SeesSome : View → Word → Type 0

@@ -32,8 +32,7 @@ IsAtMostPlaced view word = (n : ℕ) → has_node (sees view) n ≡ true → See
 -- Marks are not skipped, or the best was loaded for the mark in hand, and the bound of the mark is below its cost: a path over the mark may be
 -- cheaper.
 abbrev pub IsUnskipped : View → Hand → Type 0
-IsUnskipped view hand =
-    IsInformed view.run → (word : ℕ) × (hand.best ≡ Some word)
+IsUnskipped view hand = IsInformed view.run → (word : ℕ) × (hand.best ≡ Some word)
     × (word ≢ no_best → mark_bound (setup_in view.run) (mark_at view.run.marks hand.mark) < best_cost_in word)
 
 -- Nothing is written for the mark in hand, and the best that was loaded for it is this goal node, at a cost of at most the bound of the mark.

@@ -77,10 +77,8 @@ MayReach view hand entry m NoWay p = IsUnskipped view hand × MayBeBlocked view 
 -- The nearest node m is seen, no own node is nearer to the mark, and this may be reached at the point to which it steers.
 pub record MaySteer (view : View) (hand : Hand) (entry : Record) (m : ℕ) (reached : Reached) : Type 0 where
   pub present : IsPresent (tree_seen view).points m
-  pub nearest : (i : ℕ) → IsTrue (is_own_node view entry i)
-      → IsNotAbove (distance_to (mark_at view.run.marks hand.mark) (tree_seen view).points) m i
-  pub outcome : MayReach view hand entry m reached
-      (steered (point_of (tree_seen view).points m) (mark_at view.run.marks hand.mark) view.run.step)
+  pub nearest : (i : ℕ) → IsTrue (is_own_node view entry i) → IsNotAbove (distance_to (mark_at view.run.marks hand.mark) (tree_seen view).points) m i
+  pub outcome : MayReach view hand entry m reached (steered (point_of (tree_seen view).points m) (mark_at view.run.marks hand.mark) view.run.step)
 
 -- What is asked of the mark in hand, by what became of it.
 abbrev pub MayEnd : View → Hand → Record → Ending → Type 0

@@ -23,9 +23,4 @@ state_of_links sizes words = state_by (is_linked sizes words) sizes words
 -- the whole, with children, counters and count
 abbrev pub shared_tree_of_words : Sizes → Words → SharedTree
 shared_tree_of_words sizes words =
-    record {
-      state = state_of_links sizes words;
-      child = children_of_words words;
-      counter = λ strip. words (Counter strip);
-      count = words Count;
-    }
+    record { state = state_of_links sizes words; child = children_of_words words; counter = λ strip. words (Counter strip); count = words Count }

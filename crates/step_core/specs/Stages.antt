@@ -18,43 +18,33 @@ has_point Posted = true
 
 -- the first word of its node is written
 abbrev pub has_first : Stage → Bool
-has_first Claimed = false
-has_first Pointed = false
 has_first Half = true
 has_first Treed = true
 has_first Linked = true
 has_first Counted = true
 has_first Posted = true
+has_first stage = false
 
 -- the tree word of its node is written
 abbrev pub has_tree : Stage → Bool
-has_tree Claimed = false
-has_tree Pointed = false
-has_tree Half = false
 has_tree Treed = true
 has_tree Linked = true
 has_tree Counted = true
 has_tree Posted = true
+has_tree stage = false
 
 -- its node stands in a child word
 abbrev pub has_link : Stage → Bool
-has_link Claimed = false
-has_link Pointed = false
-has_link Half = false
-has_link Treed = false
 has_link Linked = true
 has_link Counted = true
 has_link Posted = true
+has_link stage = false
 
 -- its node is counted
 abbrev pub has_count : Stage → Bool
-has_count Claimed = false
-has_count Pointed = false
-has_count Half = false
-has_count Treed = false
-has_count Linked = false
 has_count Counted = true
 has_count Posted = true
+has_count stage = false
 
 -- mark k is in this hand, at a stage that passes the test
 abbrev pub holds_at : (Stage → Bool) → ℕ → Option Hand → Bool

@@ -23,7 +23,7 @@ use Rattle.step_core.specs.declared.views.Stage.{Stage}
 use Rattle.step_core.specs.declared.views.Stage.TheVariants as stages
 use Rattle.step_core.specs.declared.views.View.{View}
 
--- ---- moments
+-- ---- moments and steps
 
 -- A moment between two steps: the run, its words, the views of its passes, and the view at an index, which steps next.
 pub record Moment : Type 0 where
@@ -42,8 +42,6 @@ pub record IsMoment (now : Moment) : Type 0 where
 -- how many steps each view has made when this one has stepped
 abbrev pub steps_by : Moment → List ℕ
 steps_by now = steps_then now.views now.id now.view
-
--- ---- kinds
 
 -- A claim of the next mark of a strip below a limit; a load of a word; for the mark in hand the point of its node, steered from another, its
 -- first word, its tree word, its link as a child on one side, and its count; a lower of the cost of a node; a load of the best word, and a post

@@ -20,17 +20,16 @@ crew_from run words w count = map (member_of run words) (range_with_len w count)
 
 -- the first view, over the list of all words
 abbrev pub newcomer : SharedRun → List ℕ → View
-newcomer run items =
-    record {
-      run = run;
-      crew = crew_from run (words_of_run run items) 0 run.workers;
-      most = run.opening;
-      hand = None;
-      seen = items;
-      best = words_of_run run items Best;
-      took = [];
-      steps = 0;
-      looked = replicate (length items) 0;
-      found_zero = replicate (length items) 0;
-      notes = [];
-    }
+newcomer run items = record {
+  run = run;
+  crew = crew_from run (words_of_run run items) 0 run.workers;
+  most = run.opening;
+  hand = None;
+  seen = items;
+  best = words_of_run run items Best;
+  took = [];
+  steps = 0;
+  looked = replicate (length items) 0;
+  found_zero = replicate (length items) 0;
+  notes = [];
+}

@@ -26,13 +26,12 @@ place_in view name = place_of (run_sizes view.run) name
 
 -- One step more, on the word at this place: it was found so, and is left so.
 abbrev pub saw_at : View → ℕ → ℕ → ℕ → View
-saw_at view place found left =
-    record view {
-      seen = slice_set view.seen place left;
-      steps = view.steps + 1;
-      looked = slice_set view.looked place (view.steps + 1);
-      found_zero = if found == 0 then slice_set view.found_zero place (view.steps + 1) else view.found_zero;
-    }
+saw_at view place found left = record view {
+  seen = slice_set view.seen place left;
+  steps = view.steps + 1;
+  looked = slice_set view.looked place (view.steps + 1);
+  found_zero = if found == 0 then slice_set view.found_zero place (view.steps + 1) else view.found_zero;
+}
 
 -- the same on the word of this name
 abbrev pub saw : View → Word → ℕ → ℕ → View
@@ -89,11 +88,10 @@ new_hand k = record { mark = k; stage = Claimed; best = None; nearest = 0; point
 
 -- The counter of strip g went from c to c + 1, which is noted, and the mark is in hand.
 abbrev pub claimed : View → ℕ → ℕ → ℕ → List ℕ → View
-claimed view g c limit steps =
-    record (noting (saw view (Counter g) c (c + 1)) (place_in view (Counter g)) (c + 1) steps) {
-      hand = Some (new_hand (mark_of view.run g c));
-      most = max view.most limit;
-    }
+claimed view g c limit steps = record (noting (saw view (Counter g) c (c + 1)) (place_in view (Counter g)) (c + 1) steps) {
+  hand = Some (new_hand (mark_of view.run g c));
+  most = max view.most limit;
+}
 
 -- ---- the best word
 
@@ -108,8 +106,7 @@ hand_with_best (Some hand) word = Some (best_taken hand.stage hand word)
 
 -- a view with one step more, by which it looked at the best word and left it so, and this in hand
 abbrev pub with_best : View → ℕ → Option Hand → View
-with_best view best hand =
-    record (stepped view) { best = best; looked = slice_set view.looked (place_in view Best) (view.steps + 1); hand = hand }
+with_best view best hand = record (stepped view) { best = best; looked = slice_set view.looked (place_in view Best) (view.steps + 1); hand = hand }
 
 -- The best word was found so.
 abbrev pub best_loaded : View → ℕ → View
@@ -165,8 +162,7 @@ with_node_words run hand seen =
 -- The node in hand stands in the child word at this place, which was found empty: this is noted. It is seen there, with its point, its parent
 -- and its cost.
 abbrev pub linked_at : View → Hand → ℕ → List ℕ → View
-linked_at view hand place steps =
-    let shown = noting (saw_at view place 0 (suc hand.mark)) place (suc hand.mark) steps in
+linked_at view hand place steps = let shown = noting (saw_at view place 0 (suc hand.mark)) place (suc hand.mark) steps in
     record shown { seen = with_node_words view.run hand shown.seen; hand = Some (record hand { stage = Linked }) }
 
 -- it stands in the child word of node n on this side
@@ -207,14 +203,12 @@ without_second (member ∷ []) = member ∷ []
 without_second (member ∷ second ∷ crew) = member ∷ crew
 
 abbrev pub second_alone : List Member → List Member
-second_alone [] = []
-second_alone (member ∷ []) = []
 second_alone (member ∷ second ∷ crew) = second ∷ []
+second_alone crew = []
 
 -- What a new pass has of a view: it has seen as much, has looked at no word itself, and has changed none.
 abbrev pub unlooked : View → View
-unlooked view =
-    record view { looked = replicate (length view.looked) 0; found_zero = replicate (length view.found_zero) 0; notes = [] }
+unlooked view = record view { looked = replicate (length view.looked) 0; found_zero = replicate (length view.found_zero) 0; notes = [] }
 
 -- The second worker gets a pass of its own, which has seen as much.
 abbrev pub parted : View → View
@@ -236,12 +230,11 @@ merged sizes one other =
 
 -- Both shares, the greater limit, what either has seen, the lesser best word, and the notes of both. The steps stay its own.
 abbrev pub joined : View → View → View
-joined view other =
-    record (stepped view) {
-      crew = view.crew ++ other.crew;
-      most = max view.most other.most;
-      seen = merged (run_sizes view.run) view.seen other.seen;
-      best = min view.best other.best;
-      took = other.seen;
-      notes = view.notes ++ other.notes;
-    }
+joined view other = record (stepped view) {
+  crew = view.crew ++ other.crew;
+  most = max view.most other.most;
+  seen = merged (run_sizes view.run) view.seen other.seen;
+  best = min view.best other.best;
+  took = other.seen;
+  notes = view.notes ++ other.notes;
+}

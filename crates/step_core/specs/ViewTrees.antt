@@ -114,13 +114,11 @@ pub record IsSeenPair (view : View) (n : ℕ) : Type 0 where
 -- It may load the count, the counters, and of the nodes that it has seen their points, children and tree words.
 abbrev pub MayLoad : View → Word → Type 0
 MayLoad view Count = Unit {0}
-MayLoad view Best = ⊥
 MayLoad view (Counter g) = g < view.run.strips
 MayLoad view (PointOf n) = SeesNode view n
 MayLoad view (ChildOf n side) = SeesNode view n
 MayLoad view (TreeOf n) = SeesNode view n
-MayLoad view (FirstOf n) = ⊥
-MayLoad view (RecordOf k) = ⊥
+MayLoad view name = ⊥
 
 -- The way of p over what is seen comes to node n, and leads on to the place of its child on this side. No node on it is at p.
 pub record LeadsTo (view : View) (p : Point) (n : ℕ) (side : Bool) : Type 0 where

@@ -20,23 +20,21 @@ use Rattle.step_core.specs.declared.views.View.{View}
 
 -- what those are told who work on a task, from a run at this limit
 abbrev pub run_of : Task → ℕ → ℕ → SharedRun
-run_of task workers opening =
-    record {
-      space = space_of task.scene;
-      start = task.scene.start;
-      step = task.scene.step;
-      gamma = task.scene.gamma;
-      goals = skipping_goals task.scene;
-      strips = task.scene.strips;
-      marks = task.marks;
-      workers = workers;
-      opening = opening;
-    }
+run_of task workers opening = record {
+  space = space_of task.scene;
+  start = task.scene.start;
+  step = task.scene.step;
+  gamma = task.scene.gamma;
+  goals = skipping_goals task.scene;
+  strips = task.scene.strips;
+  marks = task.marks;
+  workers = workers;
+  opening = opening;
+}
 
 -- what the tree depends on besides the marks
 abbrev pub setup_in : SharedRun → Setup
-setup_in run =
-    record { space = run.space; start = run.start; step = run.step; gamma = run.gamma; goals = run.goals }
+setup_in run = record { space = run.space; start = run.start; step = run.step; gamma = run.gamma; goals = run.goals }
 
 -- how many strips and marks it has
 abbrev pub run_sizes : SharedRun → Sizes
@@ -97,8 +95,7 @@ seen_words view = record { seen = sees view; steps = view.steps; found_zero = la
 abbrev pub tree_seen : View → SeenTree
 tree_seen view = seen_tree_of_words (run_sizes view.run) (sees view)
 
--- The view is of this run. Its tables of what it has seen, and when, have a place for each word, and all its looks are by steps that it
--- has made.
+-- The view is of this run. Its tables of what it has seen, and when, have a place for each word, and all its looks are by steps that it has made.
 pub record IsViewOf (run : SharedRun) (view : View) : Type 0 where
   pub run_is : view.run ≡ run
   pub seen : length view.seen ≡ word_count (run_sizes run)
@@ -111,18 +108,17 @@ pub record IsViewOf (run : SharedRun) (view : View) : Type 0 where
 
 -- no run
 abbrev pub no_run : SharedRun
-no_run =
-    record {
-      space = space_among (record { x = 0; y = 0 }) [] [];
-      start = record { x = 0; y = 0 };
-      step = 0;
-      gamma = 0;
-      goals = [];
-      strips = 0;
-      marks = [];
-      workers = 0;
-      opening = 0;
-    }
+no_run = record {
+  space = space_among (record { x = 0; y = 0 }) [] [];
+  start = record { x = 0; y = 0 };
+  step = 0;
+  gamma = 0;
+  goals = [];
+  strips = 0;
+  marks = [];
+  workers = 0;
+  opening = 0;
+}
 
 -- what is left of a view that was taken over
 abbrev pub spent : View

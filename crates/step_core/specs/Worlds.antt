@@ -81,7 +81,7 @@ pub record ClaimedMarks (run : SharedRun) (words : Words) (views : List View) : 
   pub limits : EachView views (λ view. view.most ≤ length run.marks)
   pub packed : (k : ℕ) → IsRecordWord (words (RecordOf k))
 
--- ---- turns
+-- ---- turns and shares
 
 -- The member's next turn is the number of its worker's records, and the view has seen them all.
 pub record IsMember (run : SharedRun) (words : Words) (view : View) (member : Member) : Type 0 where
@@ -94,14 +94,12 @@ pub record Turns (run : SharedRun) (words : Words) (views : List View) : Type 0 
   pub members : EachView views (λ view. (i : ℕ) (member : Member) → get_elem? view.crew i ≡ some member → IsMember run words view member)
   pub in_one_crew : (w : ℕ) → sum_by (λ view. times w view.crew) views ≡ once_if (nat_lt w run.workers)
 
--- ---- shares
-
 -- The shares add up to the number of workers, and a view without a share has nothing in hand.
 pub record Shares (run : SharedRun) (views : List View) : Type 0 where
   pub add_up : sum_by share views ≡ run.workers
   pub idle : EachView views (λ view. share view ≡ 0 → view.hand ≡ None)
 
--- ---- the linked tree
+-- ---- the linked tree and hands
 
 -- how many views have mark k in hand, at a stage that passes the test
 abbrev pub hands_at : (Stage → Bool) → ℕ → List View → ℕ
@@ -120,15 +118,13 @@ pub record LinkedTree (run : SharedRun) (words : Words) (views : List View) : Ty
   pub linked : (k : ℕ) → once_if (is_linked (run_sizes run) words (suc k)) ≡ once_if (has_node words (suc k)) + hands_at has_link k views
   pub count : words Count ≡ 1 + sum_by (counted_once words views) (range_with_len 0 (length run.marks))
 
--- ---- hands
-
 -- The point of a mark's node is written by the hand that has the mark, and is not written before.
 pub record Hands (words : Words) (views : List View) : Type 0 where
   pub written : EachView views (λ view. (hand : Hand) → view.hand ≡ Some hand → has_point hand.stage ≡ true
       → words (PointOf (suc hand.mark)) ≡ point_word hand.point)
   pub blank : (k : ℕ) → is_recorded words k ≡ false → hands_at has_point k views ≡ 0 → words (PointOf (suc k)) ≡ 0
 
--- ---- parents and costs
+-- ---- parents, costs and records
 
 -- the linked nodes with their costs and records
 abbrev pub state_in : SharedRun → Words → TreeState
@@ -161,8 +157,6 @@ pub record Pairs (run : SharedRun) (words : Words) (views : List View) : Type 0 
   pub no_first : (k : ℕ) → is_recorded words k ≡ false → hands_at has_first k views ≡ 0 → words (FirstOf (suc k)) ≡ 0
   pub no_tree : (k : ℕ) → is_recorded words k ≡ false → hands_at has_tree k views ≡ 0 → words (TreeOf (suc k)) ≡ 0
 
--- ---- records
-
 -- Each record is borne out by the linked nodes. Its worker is one of the run's, if it was made in this run, or else within the limit.
 pub record Records (run : SharedRun) (words : Words) : Type 0 where
   pub lawful : (k : ℕ) (entry : Record) → record_at words k ≡ Some entry
@@ -176,8 +170,7 @@ pub record Records (run : SharedRun) (words : Words) : Type 0 where
 abbrev pub SeenPairs : SharedRun → Words → List View → Type 0
 SeenPairs run words views = EachView views (λ view. view.run ≡ run → AreSeenLawfully (setup_in run) (tree_seen view) (state_in run words))
 
--- Each view that is not spent sees its tree from node 0 on, and with their points and first words the nodes that it has seen recorded as
--- placed.
+-- Each view that is not spent sees its tree from node 0 on, and with their points and first words the nodes that it has seen recorded as placed.
 abbrev pub TreesSeen : SharedRun → List View → Type 0
 TreesSeen run views = EachView views (λ view. view.run ≡ run → SeesTree view)
 
@@ -199,10 +192,8 @@ pub record SeenBehind (words : Words) (views : List View) : Type 0 where
 
 -- There is no best, or it is a linked goal node, with a cost that fits its bits and is no less than that which the node has now.
 abbrev pub IsBestWord : SharedRun → Words → ℕ → Type 0
-IsBestWord run words word =
-    word ≢ no_best
-    → IsGoalNode run.goals (linked_points (run_sizes run) words) (best_node_in word) × (cost_in (words (TreeOf (best_node_in word))) ≤ best_cost_in word)
-    × (best_cost_in word < 2 ^ 44)
+IsBestWord run words word = word ≢ no_best → IsGoalNode run.goals (linked_points (run_sizes run) words) (best_node_in word)
+    × (cost_in (words (TreeOf (best_node_in word))) ≤ best_cost_in word) × (best_cost_in word < 2 ^ 44)
 
 -- It is so of the best word, which is at most the pair of first cost and number of each goal node that is the start or recorded as placed.
 pub record BestWord (run : SharedRun) (words : Words) : Type 0 where
@@ -223,19 +214,18 @@ pub record SeesBest (run : SharedRun) (words : Words) (view : View) : Type 0 whe
 abbrev pub SeenBests : SharedRun → Words → List View → Type 0
 SeenBests run words views = EachView views (λ view. view.run ≡ run → SeesBest run words view)
 
--- ---- copies
+-- ---- copies, and the law
 
 -- The words that tell of the run: its counters, its records, and the words of its linked nodes. The count is not among them: it follows from
 -- the rest. Nor is the best word, which views keep apart.
 abbrev pub IsTold : SharedRun → Words → Word → Type 0
-IsTold run words Count = ⊥
-IsTold run words Best = ⊥
 IsTold run words (Counter g) = g < run.strips
 IsTold run words (PointOf n) = is_linked (run_sizes run) words n ≡ true
 IsTold run words (ChildOf n side) = is_linked (run_sizes run) words n ≡ true
 IsTold run words (TreeOf n) = is_linked (run_sizes run) words n ≡ true
 IsTold run words (FirstOf n) = is_linked (run_sizes run) words n ≡ true
 IsTold run words (RecordOf k) = k < length run.marks
+IsTold run words name = ⊥
 
 -- A view of the run with a share has the property.
 pub record SomeSharer (run : SharedRun) (views : List View) (has : View → Type 0) : Type 0 where
@@ -257,8 +247,6 @@ Copies run words views = (name : Word) → IsTold run words name → HasCopy run
 -- So is the best word: what a view with a share saw last of it is what it is.
 abbrev pub BestCopy : SharedRun → Words → List View → Type 0
 BestCopy run words views = SomeSharer run views (λ view. view.best ≡ words Best)
-
--- ---- the law
 
 -- All parts. A view is spent once its pass was taken over: it has no share, no hand, and has seen nothing.
 pub record IsWorld (run : SharedRun) (words : Words) (views : List View) : Type 0 where

@@ -48,8 +48,7 @@ pub record IsNextWord (words : List ℕ) (low last next : ℕ) : Type 0 where
 
 -- the word, if it lies between the two, else the next one
 abbrev pub IsNextOf : ℕ → ℕ → ℕ → ℕ → Type 0
-IsNextOf low word next result =
-    ((low < word) × (word < next) × (result ≡ word)) ⊎ ((low < word → next ≤ word) × (result ≡ next))
+IsNextOf low word next result = ((low < word) × (word < next) × (result ≡ word)) ⊎ ((low < word → next ≤ word) × (result ≡ next))
 
 -- ---- edges
 

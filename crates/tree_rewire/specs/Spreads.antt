@@ -26,14 +26,13 @@ IsSource node before after n = (n ≡ node) ⊎ (cost_seen after n < cost_seen b
 
 -- The children of the sources are within their parents, of all nodes that were seen with their parents before. The start is its own.
 abbrev pub HasSpread : ℕ → View → View → Type 0
-HasSpread node before after =
-    (c : ℕ) → SeesPair before c → IsSource node before after (parent_seen after c) → IsWithinParent after c
+HasSpread node before after = (c : ℕ) → SeesPair before c → IsSource node before after (parent_seen after c) → IsWithinParent after c
 
 -- each node that is seen with another parent or cost is settled
 abbrev pub HasSettledChanges : View → View → Type 0
 HasSettledChanges before after = (n : ℕ) → sees after (TreeOf n) ≢ sees before (TreeOf n) → IsWithinSeenParent after n
 
--- ---- exact costs
+-- ---- exact costs, and steps that change one
 
 -- node n is seen with its point, its parent and its cost
 pub record SeesKnot (view : View) (n : ℕ) : Type 0 where
@@ -59,8 +58,6 @@ pub record KeepsParents (before after : View) : Type 0 where
   pub written : (n : ℕ) → SeesPair after n → SeesPair before n
   pub others : ChangesOnly NamesTree (sees before) (sees after)
 
--- ---- steps
-
 -- no other node is seen with another parent or cost
 abbrev pub OnlyAt : ℕ → View → View → Type 0
 OnlyAt n before after = (m : ℕ) → m ≢ n → sees after (TreeOf m) ≡ sees before (TreeOf m)
@@ -78,15 +75,13 @@ pub record IsLooked (now : View) (waits : ℕ → Type 0) (c : ℕ) : Type 0 whe
 pub record IsSpreading (node : ℕ) (before now : View) (waits : ℕ → Type 0) : Type 0 where
   pub goes_on : GoesOn before now
   pub given : SeesPair before node
-  pub loose : (c : ℕ) → 0 < c → SeesPair before c → IsSource node before now (parent_seen now c)
-      → IsWithinParent now c ⊎ waits (parent_seen now c)
+  pub loose : (c : ℕ) → 0 < c → SeesPair before c → IsSource node before now (parent_seen now c) → IsWithinParent now c ⊎ waits (parent_seen now c)
   pub changed : (c : ℕ) → sees now (TreeOf c) ≢ sees before (TreeOf c) → IsLooked now waits c
   pub pairs : (n : ℕ) → waits n → SeesPair now n
 
 -- whatever spread goes on while this node and those on the list wait goes on then, while those on the list wait
 abbrev pub SpreadsFrom : ℕ → PassState → PassState → Type 0
-SpreadsFrom n before after =
-    (node : ℕ) (first : View) → IsSpreading node first before.view (λ p. IsOn before.lists.waiting p ⊎ (p ≡ n))
+SpreadsFrom n before after = (node : ℕ) (first : View) → IsSpreading node first before.view (λ p. IsOn before.lists.waiting p ⊎ (p ≡ n))
     → IsSpreading node first after.view (IsOn after.lists.waiting)
 
 -- no node is seen to cost more

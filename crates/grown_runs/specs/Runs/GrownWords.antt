@@ -60,14 +60,13 @@ points_by present sizes words = map (node_point_by present words) (range_with_le
 
 -- their tree with its costs and records: parent and kept cost by the tree word of a node, what it was placed at by its first word
 abbrev pub state_by : (ℕ → Bool) → Sizes → Words → TreeState
-state_by present sizes words =
-    record {
-      points = points_by present sizes words;
-      parent = λ n. parent_in (words (TreeOf n));
-      cost = λ n. cost_in (words (TreeOf n));
-      written_cost = λ n. cost_in (words (FirstOf n));
-      record_of = record_at words;
-    }
+state_by present sizes words = record {
+  points = points_by present sizes words;
+  parent = λ n. parent_in (words (TreeOf n));
+  cost = λ n. cost_in (words (TreeOf n));
+  written_cost = λ n. cost_in (words (FirstOf n));
+  record_of = record_at words;
+}
 
 -- the same of the nodes that are present by their records, as in a closed run
 abbrev pub node_point : Words → ℕ → Option Point

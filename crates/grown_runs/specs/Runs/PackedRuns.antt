@@ -22,14 +22,13 @@ kept_cost_of (Some knot) = knot.cost
 
 -- the tree of these nodes, with their kept costs and the records of the marks
 abbrev pub state_of_lists : List (Option Knot) → List Record → TreeState
-state_of_lists knots records =
-    record {
-      points = points_of (without_costs knots);
-      parent = parent_of (without_costs knots);
-      cost = λ n. kept_cost_of (slice_index_or knots n None);
-      written_cost = λ n. 0;
-      record_of = slice_get records;
-    }
+state_of_lists knots records = record {
+  points = points_of (without_costs knots);
+  parent = parent_of (without_costs knots);
+  cost = λ n. kept_cost_of (slice_index_or knots n None);
+  written_cost = λ n. 0;
+  record_of = slice_get records;
+}
 
 -- node n of the list
 abbrev pub IsKnot : List (Option Knot) → ℕ → Knot → Type 0
@@ -94,7 +93,6 @@ pub record WritesNodes (knots : List (Option Knot)) (m : ℕ) (before after : Wo
 -- the words of the records below mark m
 abbrev pub IsWordOfRecords : List Record → ℕ → Word → Type 0
 IsWordOfRecords records m (RecordOf mark) = mark < m
-IsWordOfRecords records m (FirstOf zero) = ⊥
 IsWordOfRecords records m (FirstOf (suc k)) = (k < m) × (entry : Record) × (slice_get records k ≡ Some entry) × (entry.outcome ≡ Placed)
 IsWordOfRecords records m _ = ⊥
 

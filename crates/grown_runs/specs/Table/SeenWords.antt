@@ -23,15 +23,14 @@ whole_record word first = if has_placed (record_of_word word first) && nat_lt fi
 
 -- the tree as far as it was seen
 abbrev pub seen_tree_of_words : Sizes → Words → SeenTree
-seen_tree_of_words sizes seen =
-    record {
-      child = children_of_words seen;
-      points = map (seen_point seen) (range_with_len 0 (sizes.marks + 1));
-      parent_and_cost = λ n. tree_of_word (seen (TreeOf n));
-      record_of = λ k. whole_record (seen (RecordOf k)) (seen (FirstOf (suc k)));
-      counter = λ strip. seen (Counter strip);
-      count = seen Count;
-    }
+seen_tree_of_words sizes seen = record {
+  child = children_of_words seen;
+  points = map (seen_point seen) (range_with_len 0 (sizes.marks + 1));
+  parent_and_cost = λ n. tree_of_word (seen (TreeOf n));
+  record_of = λ k. whole_record (seen (RecordOf k)) (seen (FirstOf (suc k)));
+  counter = λ strip. seen (Counter strip);
+  count = seen Count;
+}
 
 -- What a worker has looked at: each word as it last saw it, and 0 if it did not. How many steps it has made, and for each word the number
 -- of the last of them that found it 0; steps are numbered from 1, and 0 is none.
@@ -43,11 +42,7 @@ pub record SeenWords : Type 0 where
 -- the same as a sight: a place of a child is empty if its word is 0
 abbrev pub sight_of_words : Sizes → SeenWords → Sight
 sight_of_words sizes table =
-    record {
-      seen = seen_tree_of_words sizes table.seen;
-      steps = table.steps;
-      found_empty = λ n side. table.found_zero (ChildOf n side);
-    }
+    record { seen = seen_tree_of_words sizes table.seen; steps = table.steps; found_empty = λ n side. table.found_zero (ChildOf n side) }
 
 -- ---- looks
 

@@ -72,8 +72,7 @@ best_of_word word = if word == no_best then None else Some (best_node_in word, b
 abbrev pub last_field : Outcome → ℕ → ℕ
 last_field Placed class = class
 last_field (Same j) class = j
-last_field Blocked class = 0
-last_field Skipped class = 0
+last_field outcome class = 0
 
 -- the number of an outcome
 abbrev pub number_of_outcome : Outcome → ℕ
@@ -84,9 +83,8 @@ number_of_outcome Skipped = 3
 
 -- a record as a word, without its first parent and first cost
 abbrev pub record_word : Record → ℕ
-record_word entry =
-    2 ^ 63 + last_field entry.outcome entry.class * 2 ^ 44 + number_of_outcome entry.outcome * 2 ^ 42 + entry.nearest * 2 ^ 24 + entry.turn * 2 ^ 6
-    + entry.worker
+record_word entry = 2 ^ 63 + last_field entry.outcome entry.class * 2 ^ 44 + number_of_outcome entry.outcome * 2 ^ 42 + entry.nearest * 2 ^ 24
+    + entry.turn * 2 ^ 6 + entry.worker
 
 -- each field of the record fits its part of the word
 pub record FitsWord (entry : Record) : Type 0 where
@@ -124,8 +122,7 @@ last_in word = word / 2 ^ 44 % 2 ^ 18
 
 -- the record of a placed mark in a word: its first parent and first cost are in the first word of its node
 abbrev pub placed_in : ℕ → ℕ → Record
-placed_in word first =
-    record_of_ending (worker_in word) (turn_in word)
+placed_in word first = record_of_ending (worker_in word) (turn_in word)
     (Steered (nearest_in word) (NewNode (record { parent = parent_in first; cost = cost_in first; class = last_in word })))
 
 -- the record in a word of a mark of which no node was placed, with this outcome

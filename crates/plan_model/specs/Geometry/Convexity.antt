@@ -14,13 +14,10 @@ next_corner n i = if i + 1 == n then 0 else i + 1
 
 -- every other corner lies strictly to the left of the edge from corner i to the next
 abbrev pub is_left_of_edge : List Vertex → ℕ → Bool
-is_left_of_edge corners i =
-    list_all
-    (λ k. k == i || (k == next_corner (length corners) i
+is_left_of_edge corners i = list_all (λ k. k == i || (k == next_corner (length corners) i
     || int_lt (pos 0) (orientation (corner_at corners i) (corner_at corners (next_corner (length corners) i)) (corner_at corners k))))
     (range_with_len 0 (length corners))
 
 -- three corners at least, and every edge has all other corners strictly to its left
 abbrev pub is_strictly_convex : List Vertex → Bool
-is_strictly_convex corners =
-    nat_le 3 (length corners) && list_all (is_left_of_edge corners) (range_with_len 0 (length corners))
+is_strictly_convex corners = nat_le 3 (length corners) && list_all (is_left_of_edge corners) (range_with_len 0 (length corners))

@@ -11,8 +11,7 @@ pub record IsStep (a b : Point) (step : ℕ) (p : Point) : Type 0 where
 
 -- from a coordinate by step / length of the way to another, truncated towards zero
 abbrev pub advanced : ℕ → ℕ → ℕ → ℕ → ℕ
-advanced from to step length_up =
-    unsigned_abs (pos from +ℤ int_div ((pos to -ℤ pos from) *ℤ pos step) (pos length_up))
+advanced from to step length_up = unsigned_abs (pos from +ℤ int_div ((pos to -ℤ pos from) *ℤ pos step) (pos length_up))
 
 -- b if it is at most a step away, otherwise a step towards it, whose length is rounded up before the division
 abbrev pub steered : Point → Point → ℕ → Point

@@ -57,22 +57,17 @@ skipped_words true limit record_of = codes "skipped" ∷ decimal (outcome_count 
 -- How many nodes are present, and how many of the marks below the limit were placed, on a node already, and blocked, and in an informed
 -- scene skipped.
 abbrev pub counts_line : Scene → ℕ → TreeState → List ℕ
-counts_line scene limit state =
-    line (
+counts_line scene limit state = line (
     codes "nodes" ∷ decimal (node_count state.points) ∷ codes "placed" ∷ decimal (outcome_count state.record_of limit is_placed)
     ∷ codes "same" ∷ decimal (outcome_count state.record_of limit is_same)
-    ∷ codes "blocked" ∷ decimal (outcome_count state.record_of limit is_blocked) ∷ skipped_words scene.informed limit state.record_of
-    )
+    ∷ codes "blocked" ∷ decimal (outcome_count state.record_of limit is_blocked) ∷ skipped_words scene.informed limit state.record_of)
 
 -- ---- nodes and marks
 
 -- node n at p with its parent and its sum
 abbrev pub node_line : TreeState → ℕ → Point → List ℕ
-node_line state n p =
-    line (
-    codes "node" ∷ decimal n ∷ codes "at" ∷ decimal p.x ∷ decimal p.y
-    ∷ codes "parent" ∷ decimal (state.parent n) ∷ codes "cost" ∷ decimal (sum_in state n) ∷ []
-    )
+node_line state n p = line (codes "node" ∷ decimal n ∷ codes "at" ∷ decimal p.x ∷ decimal p.y
+    ∷ codes "parent" ∷ decimal (state.parent n) ∷ codes "cost" ∷ decimal (sum_in state n) ∷ [])
 
 -- the line of a node, if it is present
 abbrev pub node_line_if_present : TreeState → ℕ → Option Point → List ℕ
@@ -85,8 +80,7 @@ node_lines limit state = flat_map (λ n. node_line_if_present state n (point_at 
 
 -- what came of the point to which the nearest node of a mark steered, in words
 abbrev pub reached_words : Reached → List (List ℕ)
-reached_words (NewNode first) =
-    codes "placed" ∷ codes "class" ∷ decimal first.class ∷ codes "first" ∷ decimal first.parent ∷ decimal first.cost ∷ []
+reached_words (NewNode first) = codes "placed" ∷ codes "class" ∷ decimal first.class ∷ codes "first" ∷ decimal first.parent ∷ decimal first.cost ∷ []
 reached_words (SameNode j) = codes "same" ∷ decimal j ∷ []
 reached_words NoWay = codes "blocked" ∷ []
 
@@ -97,11 +91,9 @@ ending_words (SkippedBy goal_node) = codes "skipped" ∷ codes "by" ∷ decimal 
 
 -- mark k and its record
 abbrev pub mark_line : ℕ → Record → List ℕ
-mark_line k entry =
-    line (
+mark_line k entry = line (
     (codes "mark" ∷ decimal k ∷ codes "worker" ∷ decimal entry.worker ∷ codes "turn" ∷ decimal entry.turn ∷ [])
-    ++ ending_words (ending_of entry)
-    )
+    ++ ending_words (ending_of entry))
 
 -- the line of a mark, if it has a record
 abbrev pub mark_line_if_recorded : ℕ → Option Record → List ℕ

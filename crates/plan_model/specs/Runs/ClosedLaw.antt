@@ -41,8 +41,6 @@ pub record IsClosed (setup : Setup) (marks : List Point) (limit : ℕ) (state : 
   pub lawful : (k : ℕ) (entry : Record) → state.record_of k ≡ Some entry → IsLawfulRecord setup state k (mark_at marks k) entry
   pub placed : ArePlacedMarks state
 
--- ---- counts
-
 -- how many marks below the limit have an outcome that passes the test
 abbrev pub outcome_count : (ℕ → Option Record) → ℕ → (Outcome → Bool) → ℕ
 outcome_count record_of limit test = count_by (λ k. has_outcome test (record_of k)) (range_with_len 0 limit)

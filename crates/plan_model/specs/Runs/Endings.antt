@@ -50,30 +50,20 @@ zeros Skipped = refl
 -- the record of a mark for which no node is placed, by its worker, the worker's turn, the nearest node and the outcome
 abbrev pub unplaced_record : ℕ → ℕ → ℕ → Outcome → Record
 unplaced_record worker turn nearest outcome =
-    record {
-      worker = worker;
-      turn = turn;
-      nearest = nearest;
-      outcome = outcome;
-      first_parent = 0;
-      first_cost = 0;
-      class = 0;
-      unplaced = zeros outcome;
-    }
+    record { worker = worker; turn = turn; nearest = nearest; outcome = outcome; first_parent = 0; first_cost = 0; class = 0; unplaced = zeros outcome }
 
 -- the record of a mark that this worker handled in this turn, by what became of it
 abbrev pub record_of_ending : ℕ → ℕ → Ending → Record
-record_of_ending worker turn (Steered nearest (NewNode first)) =
-    record {
-      worker = worker;
-      turn = turn;
-      nearest = nearest;
-      outcome = Placed;
-      first_parent = first.parent;
-      first_cost = first.cost;
-      class = first.class;
-      unplaced = refl;
-    }
+record_of_ending worker turn (Steered nearest (NewNode first)) = record {
+  worker = worker;
+  turn = turn;
+  nearest = nearest;
+  outcome = Placed;
+  first_parent = first.parent;
+  first_cost = first.cost;
+  class = first.class;
+  unplaced = refl;
+}
 record_of_ending worker turn (Steered nearest (SameNode j)) = unplaced_record worker turn nearest (Same j)
 record_of_ending worker turn (Steered nearest NoWay) = unplaced_record worker turn nearest Blocked
 record_of_ending worker turn (SkippedBy g) = unplaced_record worker turn g Skipped

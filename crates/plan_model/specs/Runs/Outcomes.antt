@@ -6,34 +6,24 @@ use Rattle.plan_model.specs.declared.records.Outcome.TheVariants.{Placed, Same, 
 -- a node was placed for the mark
 abbrev pub is_placed : Outcome → Bool
 is_placed Placed = true
-is_placed (Same j) = false
-is_placed Blocked = false
-is_placed Skipped = false
+is_placed outcome = false
 
 -- the mark ended where a node stood already
 abbrev pub is_same : Outcome → Bool
-is_same Placed = false
 is_same (Same j) = true
-is_same Blocked = false
-is_same Skipped = false
+is_same outcome = false
 
 -- the segment to where the mark ended was not clear
 abbrev pub is_blocked : Outcome → Bool
-is_blocked Placed = false
-is_blocked (Same j) = false
 is_blocked Blocked = true
-is_blocked Skipped = false
+is_blocked outcome = false
 
 -- no way over the mark could be cheaper than one that was known
 abbrev pub is_skipped : Outcome → Bool
-is_skipped Placed = false
-is_skipped (Same j) = false
-is_skipped Blocked = false
 is_skipped Skipped = true
+is_skipped outcome = false
 
 -- only a placed mark has a first parent, a first cost and a class; otherwise all three are 0
 abbrev pub is_zero_unless_placed : Outcome → ℕ → ℕ → ℕ → Bool
 is_zero_unless_placed Placed parent cost class = true
-is_zero_unless_placed (Same j) parent cost class = parent == 0 && (cost == 0 && class == 0)
-is_zero_unless_placed Blocked parent cost class = parent == 0 && (cost == 0 && class == 0)
-is_zero_unless_placed Skipped parent cost class = parent == 0 && (cost == 0 && class == 0)
+is_zero_unless_placed outcome parent cost class = parent == 0 && (cost == 0 && class == 0)

@@ -23,8 +23,7 @@ use Rattle.plan_model.specs.Runs.Textbook.{Setup, mark_bound}
 -- a record of a placed mark that the same worker handled in an earlier turn
 abbrev pub is_earlier_record : Record → Option Record → Bool
 is_earlier_record entry None = false
-is_earlier_record entry (Some other) =
-    is_placed other.outcome && (other.worker == entry.worker && nat_lt other.turn entry.turn)
+is_earlier_record entry (Some other) = is_placed other.outcome && (other.worker == entry.worker && nat_lt other.turn entry.turn)
 
 -- node n stood already when the worker of this record handled its mark, by its own records: the start, or a node that it placed
 abbrev pub is_earlier : TreeState → Record → ℕ → Bool

@@ -39,8 +39,7 @@ skipping_goals scene = if scene.informed then scene.goals else []
 
 -- what a run of a scene depends on besides its marks
 abbrev pub setup_of : Scene → Setup
-setup_of scene =
-    record { space = space_of scene; start = scene.start; step = scene.step; gamma = scene.gamma; goals = skipping_goals scene }
+setup_of scene = record { space = space_of scene; start = scene.start; step = scene.step; gamma = scene.gamma; goals = skipping_goals scene }
 
 -- the tree of the start alone
 abbrev pub start_alone : Point → Nodes
@@ -62,8 +61,7 @@ IsCandidate setup points nearest p i = IsOpenTo setup.space points p (nearest �
 
 -- f is the candidate with the least pair of cost through it and number
 abbrev pub IsBestParent : Setup → Nodes → ℕ → Point → ℕ → Type 0
-IsBestParent setup tree nearest p f =
-    IsFirstLeast (cost_through tree p) (IsCandidate setup (points_of tree) nearest p) f
+IsBestParent setup tree nearest p f = IsFirstLeast (cost_through tree p) (IsCandidate setup (points_of tree) nearest p) f
 
 -- ---- rewiring
 
@@ -78,15 +76,13 @@ with_parent tree i n = slice_set tree i (Some (record { point = point_of (points
 
 -- One near node is looked at: it gets the new node n as its parent exactly if that is cheaper.
 abbrev pub RewiresOne : ConfigurationSpace → Nodes → ℕ → ℕ → Nodes → Type 0
-RewiresOne space tree n i after =
-    (IsCheaperThrough space tree n i × (after ≡ with_parent tree i n))
+RewiresOne space tree n i after = (IsCheaperThrough space tree n i × (after ≡ with_parent tree i n))
     ⊎ ((¬ IsCheaperThrough space tree n i) × (after ≡ tree))
 
 -- the near nodes are looked at one after another, each by the sums as they then stand
 abbrev pub Rewires : ConfigurationSpace → Nodes → ℕ → List ℕ → Nodes → Type 0
 Rewires space tree n [] after = after ≡ tree
-Rewires space tree n (i ∷ near) after =
-    (between : Nodes) × RewiresOne space tree n i between × Rewires space between n near after
+Rewires space tree n (i ∷ near) after = (between : Nodes) × RewiresOne space tree n i between × Rewires space between n near after
 
 -- ---- skipping
 
@@ -160,8 +156,7 @@ abbrev pub HandlesAll : Setup → ℕ → Nodes → List Point → List Record �
 HandlesAll setup k tree [] [] after = after ≡ tree
 HandlesAll setup k tree (mark ∷ marks) (entry ∷ entries) after =
     (between : Nodes) × Handles setup tree k mark entry between × HandlesAll setup (k + 1) between marks entries after
-HandlesAll setup k tree [] (entry ∷ entries) after = ⊥
-HandlesAll setup k tree (mark ∷ marks) [] after = ⊥
+HandlesAll setup k tree marks entries after = ⊥
 
 -- The textbook run over these marks, from the start alone, ends with this tree and these records.
 abbrev pub IsTextbookRun : Setup → List Point → Nodes → List Record → Type 0

@@ -53,30 +53,25 @@ pub record IsBetween (low high : ℕ) (p : Point) : Type 0 where
 
 -- both corners are within the greatest side of a room, and the low one is not above the high one
 abbrev pub is_goal : ℕ → Goal → Bool
-is_goal version goal =
-    (nat_le goal.high.x (most_side version) && nat_le goal.high.y (most_side version))
+is_goal version goal = (nat_le goal.high.x (most_side version) && nat_le goal.high.y (most_side version))
     && (nat_le goal.low.x goal.high.x && nat_le goal.low.y goal.high.y)
 
 -- one goal at least, and not too many
 abbrev pub are_goals : ℕ → List Goal → Bool
-are_goals version goals =
-    (nat_le 1 (length goals) && nat_le (length goals) (most_goals version)) && list_all (is_goal version) goals
+are_goals version goals = (nat_le 1 (length goals) && nat_le (length goals) (most_goals version)) && list_all (is_goal version) goals
 
 -- both coordinates of the corner are between two numbers
 abbrev pub is_corner_between : ℤ → ℤ → Vertex → Bool
-is_corner_between low high v =
-    int_le low v.x && (int_le v.x high && (int_le low v.y && int_le v.y high))
+is_corner_between low high v = int_le low v.x && (int_le v.x high && (int_le low v.y && int_le v.y high))
 
 -- one corner, or a strictly convex polygon of not too many, with coordinates in the range of a body's
 abbrev pub is_body : List Vertex → Bool
-is_body corners =
-    (length corners == 1 || (nat_le (length corners) MOST_BODY_CORNERS && is_strictly_convex corners))
+is_body corners = (length corners == 1 || (nat_le (length corners) MOST_BODY_CORNERS && is_strictly_convex corners))
     && list_all (is_corner_between LEAST_BODY_COORDINATE MOST_BODY_COORDINATE) corners
 
 -- a strictly convex polygon of not too many corners, with coordinates in the range of an obstacle's
 abbrev pub is_obstacle : ℕ → List Vertex → Bool
-is_obstacle version corners =
-    (nat_le (length corners) MOST_OBSTACLE_CORNERS && is_strictly_convex corners)
+is_obstacle version corners = (nat_le (length corners) MOST_OBSTACLE_CORNERS && is_strictly_convex corners)
     && list_all (is_corner_between (least_obstacle_coordinate version) (most_obstacle_coordinate version)) corners
 
 -- not too many obstacles

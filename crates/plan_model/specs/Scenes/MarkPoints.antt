@@ -19,8 +19,7 @@ mixed k factor z = (bit_xor z (z / 2 ^ k) * factor) % 2 ^ 64
 
 -- the word that a state gives
 abbrev pub word_of_state : ℕ → ℕ
-word_of_state state =
-    let z = mixed 27 0x94D049BB133111EB (mixed 30 0xBF58476D1CE4E5B9 state) in bit_xor z (z / 2 ^ 31)
+word_of_state state = let z = mixed 27 0x94D049BB133111EB (mixed 30 0xBF58476D1CE4E5B9 state) in bit_xor z (z / 2 ^ 31)
 
 -- the first word drawn from a state
 abbrev pub first_word : ℕ → ℕ
@@ -68,12 +67,10 @@ pub record BodyFits (room : Point) (body : List Vertex) : Type 0 where
 
 -- Strip g of the strips that the columns are cut into; if there are fewer columns than strips, all columns.
 abbrev pub strip : Span → ℕ → ℕ → Span
-strip all strips g =
-    if nat_lt all.count strips then all else
-    record {
-      first = all.first + (g * all.count) / strips;
-      count = ((g + 1) * all.count) / strips - (g * all.count) / strips;
-    }
+strip all strips g = if nat_lt all.count strips then all else record {
+  first = all.first + (g * all.count) / strips;
+  count = ((g + 1) * all.count) / strips - (g * all.count) / strips;
+}
 
 -- the coordinate of a span that the upper half of a word picks
 abbrev pub picked : Span → ℕ → ℕ

@@ -6,8 +6,7 @@ use Rattle.plan_model.specs.declared.scenes.Scene.{Scene}
 use Rattle.plan_model.specs.Scenes.Limits.{IsBetween, are_goals, most_side}
 
 -- the scene, but for its start and its goals, which are these
-abbrev pub with_ends :
-    (scene : Scene) (start : Point) → IsBetween 0 (most_side scene.version) start
+abbrev pub with_ends : (scene : Scene) (start : Point) → IsBetween 0 (most_side scene.version) start
     → (goals : List Goal) → IsTrue (are_goals scene.version goals) → Scene
 with_ends scene start start_within goals goals_within =
     record scene { start = start; goals = goals; start_within = start_within; goals_within = goals_within }

@@ -60,8 +60,7 @@ pub record FollowSeenWays (seen : SeenTree) : Type 0 where
 
 -- what was seen of the parent and the cost of a node stays, or gives way to a lower cost
 abbrev pub KeepsOrLowers : SeenTree → SeenTree → ℕ → Type 0
-KeepsOrLowers before after n =
-    (pair : ℕ × ℕ) → before.parent_and_cost n ≡ Some pair
+KeepsOrLowers before after n = (pair : ℕ × ℕ) → before.parent_and_cost n ≡ Some pair
     → (now : ℕ × ℕ) × (after.parent_and_cost n ≡ Some now) × ((now ≡ pair) ⊎ (now.1 < pair.1))
 
 -- The second has seen at least what the first has: the same children, points and records, the same parents and costs or lower costs,
@@ -92,15 +91,14 @@ pub record TreeGrows (before after : SharedTree) : Type 0 where
 
 -- all of a tree, as one has it who sees the whole at this moment
 abbrev pub seen_whole : SharedTree → SeenTree
-seen_whole tree =
-    record {
-      child = tree.child;
-      points = tree.state.points;
-      parent_and_cost = λ n. option_map (λ p. (tree.state.parent n, tree.state.cost n)) (point_at tree.state.points n);
-      record_of = tree.state.record_of;
-      counter = tree.counter;
-      count = tree.count;
-    }
+seen_whole tree = record {
+  child = tree.child;
+  points = tree.state.points;
+  parent_and_cost = λ n. option_map (λ p. (tree.state.parent n, tree.state.cost n)) (point_at tree.state.points n);
+  record_of = tree.state.record_of;
+  counter = tree.counter;
+  count = tree.count;
+}
 
 -- What was seen is true of the tree now: each child, point and record is that of the tree, each parent with its cost is too or costs more
 -- than now, and each counter and the count is at most the one now.

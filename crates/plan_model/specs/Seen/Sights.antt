@@ -1,5 +1,4 @@
--- What a worker has seen of a tree, and by which of its steps: its later moments, what it takes over from another, and which points a
--- call has swept.
+-- What a worker has seen of a tree, and by which of its steps: its later moments, what it takes over from another, and which points a call has swept.
 use Rattle.std.specs.Prelude.{◌≡◌, ◌≢◌, ◌⊎◌, ℕ, ◌<◌, ◌≤◌, nat_lt, max, Bool, Option, Some, None, if◌then◌else◌}
 use Rattle.std.specs.Option.{option_or}
 use Rattle.plan_model.specs.declared.geometry.Point.{Point}
@@ -24,8 +23,7 @@ pub record KeepsSight (sight : Sight) : Type 0 where
 
 -- the step that last found a place empty is the same, or one since then, and no child was seen there before
 abbrev pub KeepsOrFindsEmpty : Sight → Sight → ℕ → Bool → Type 0
-KeepsOrFindsEmpty before after n side =
-    (after.found_empty n side ≡ before.found_empty n side)
+KeepsOrFindsEmpty before after n side = (after.found_empty n side ≡ before.found_empty n side)
     ⊎ ((before.steps < after.found_empty n side) × (before.seen.child n side ≡ None))
 
 -- The second is a later moment of the same worker, or the same: it has seen at least as much, and made no fewer steps, and these alone
@@ -75,7 +73,6 @@ pub record EndsSince (sight : Sight) (steps : ℕ) (q : Point) : Type 0 where
   pub other : point ≢ q
   pub empty : steps < sight.found_empty node (goes_right depth point q)
 
--- A call that began after so many steps has swept q: a node is seen at q, or the way of q so ends. It has swept a set of points if
--- it has swept each.
+-- A call that began after so many steps has swept q: a node is seen at q, or the way of q so ends. It has swept a set of points if it has swept each.
 abbrev pub IsSwept : Sight → ℕ → Point → Type 0
 IsSwept sight steps q = IsFree sight.seen.points q → EndsSince sight steps q

@@ -16,13 +16,12 @@ ClearAt space p = IsClear space (at_lattice p)
 
 -- the point s / d of the way from a to b
 abbrev pub on_the_way : Point → Point → ℕ → (d : ℕ) → 0 < d → Rational
-on_the_way a b s d positive =
-    record {
-      x = (pos d *ℤ pos a.x) +ℤ (pos s *ℤ (pos b.x -ℤ pos a.x));
-      y = (pos d *ℤ pos a.y) +ℤ (pos s *ℤ (pos b.y -ℤ pos a.y));
-      over = d;
-      positive = positive;
-    }
+on_the_way a b s d positive = record {
+  x = (pos d *ℤ pos a.x) +ℤ (pos s *ℤ (pos b.x -ℤ pos a.x));
+  y = (pos d *ℤ pos a.y) +ℤ (pos s *ℤ (pos b.y -ℤ pos a.y));
+  over = d;
+  positive = positive;
+}
 
 -- clear along the segment from a to b
 abbrev pub Clear : ConfigurationSpace → Point → Point → Type 0

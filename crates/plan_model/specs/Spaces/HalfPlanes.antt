@@ -7,8 +7,7 @@ use Rattle.plan_model.specs.Spaces.RoomOfConfigurations.{Rational}
 -- Twice the signed area of the triangle a b q, times the denominator of q: not below 0 exactly if q lies to the left of
 -- the line from a to b, or on it.
 abbrev pub side_of : Vertex → Vertex → Rational → ℤ
-side_of a b q =
-    ((b.x -ℤ a.x) *ℤ (q.y -ℤ (pos q.over *ℤ a.y))) -ℤ ((b.y -ℤ a.y) *ℤ (q.x -ℤ (pos q.over *ℤ a.x)))
+side_of a b q = ((b.x -ℤ a.x) *ℤ (q.y -ℤ (pos q.over *ℤ a.y))) -ℤ ((b.y -ℤ a.y) *ℤ (q.x -ℤ (pos q.over *ℤ a.x)))
 
 -- the same for edge i, from corner i to the next
 abbrev pub side_of_edge : List Vertex → ℕ → Rational → ℤ

@@ -1,5 +1,4 @@
--- Where the body meets an obstacle, with a clearance or without. Both are closed convex hulls of their corners, so touching is
--- meeting.
+-- Where the body meets an obstacle, with a clearance or without. Both are closed convex hulls of their corners, so touching is meeting.
 use Rattle.std.specs.Prelude.{◌≡◌, ℕ, ◌*◌, ◌<◌, ℤ, pos, ◌+ℤ◌, ◌-ℤ◌, ◌*ℤ◌, ◌≤ℤ◌, List, [], ◌∷◌, length, sum}
 use Rattle.plan_model.specs.declared.geometry.Vertex.{Vertex}
 use Rattle.plan_model.specs.Spaces.RoomOfConfigurations.{Rational}
@@ -8,8 +7,7 @@ use Rattle.plan_model.specs.Spaces.RoomOfConfigurations.{Rational}
 abbrev pub weighted : (Vertex → ℤ) → List ℕ → List Vertex → ℤ
 weighted coordinate [] corners = pos 0
 weighted coordinate (w ∷ ws) [] = pos 0
-weighted coordinate (w ∷ ws) (corner ∷ corners) =
-    (pos w *ℤ coordinate corner) +ℤ weighted coordinate ws corners
+weighted coordinate (w ∷ ws) (corner ∷ corners) = (pos w *ℤ coordinate corner) +ℤ weighted coordinate ws corners
 
 -- a is at most this far from b
 pub record IsWithin (distance : ℕ) (a b : ℤ) : Type 0 where

@@ -23,18 +23,11 @@ pub record IsSamePoint (q r : Rational) : Type 0 where
 
 -- the point with k times its denominator
 abbrev pub scaled : (k : ℕ) → 0 < k → Rational → Rational
-scaled k positive q =
-    record { x = pos k *ℤ q.x; y = pos k *ℤ q.y; over = k * q.over; positive = mul-pos positive q.positive }
+scaled k positive q = record { x = pos k *ℤ q.x; y = pos k *ℤ q.y; over = k * q.over; positive = mul-pos positive q.positive }
 
 -- the point moved by a corner of the body
 abbrev pub moved_by : Rational → Vertex → Rational
-moved_by q corner =
-    record {
-      x = q.x +ℤ (pos q.over *ℤ corner.x);
-      y = q.y +ℤ (pos q.over *ℤ corner.y);
-      over = q.over;
-      positive = q.positive;
-    }
+moved_by q corner = record { x = q.x +ℤ (pos q.over *ℤ corner.x); y = q.y +ℤ (pos q.over *ℤ corner.y); over = q.over; positive = q.positive }
 
 -- a point whose coordinates lie between 0 and the room's sides
 pub record IsBetweenWalls (room : Point) (q : Rational) : Type 0 where

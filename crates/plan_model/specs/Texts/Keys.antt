@@ -45,21 +45,8 @@ name_of keys.Mark = codes "mark"
 
 -- all keys of all versions, in the order in which a word is compared with them
 abbrev pub every_key : List Key
-every_key =
-    keys.Room
-    ∷ keys.Body
-    ∷ keys.Obstacle
-    ∷ keys.Clearance
-    ∷ keys.Start
-    ∷ keys.Goal
-    ∷ keys.Step
-    ∷ keys.Gamma
-    ∷ keys.Seed
-    ∷ keys.Strips
-    ∷ keys.Informed
-    ∷ keys.Marks
-    ∷ keys.Mark
-    ∷ []
+every_key = keys.Room ∷ keys.Body ∷ keys.Obstacle ∷ keys.Clearance ∷ keys.Start ∷ keys.Goal ∷ keys.Step ∷ keys.Gamma ∷ keys.Seed
+    ∷ keys.Strips ∷ keys.Informed ∷ keys.Marks ∷ keys.Mark ∷ []
 
 -- the first of the keys with this name
 abbrev pub key_among : List ℕ → List Key → Option Key

@@ -13,8 +13,6 @@ use Rattle.plan_model.specs.Texts.TextNumbers.{is_number, value_of}
 use Rattle.plan_model.specs.Texts.Keys.{format_name, every_version, version_among, name_of, key_of, fits_words, most_corners, most_lines, rival_of, least_of}
 use Rattle.plan_model.specs.Texts.Keys.{most_of}
 
--- ---- what is read
-
 -- Which versions are read, and which of their keys are supported.
 pub record Format : Type 0 where
   pub reads : ℕ → Bool
@@ -82,9 +80,8 @@ is_in_range version key zs = is_ordered key zs && are_between (least_of version 
 
 -- the corners that a list of coordinates gives
 abbrev pub corners_from : List ℤ → List Vertex
-corners_from [] = []
-corners_from (x ∷ []) = []
 corners_from (x ∷ y ∷ zs) = record { x = x; y = y } ∷ corners_from zs
+corners_from zs = []
 
 -- an obstacle, and a body of three or more corners, is strictly convex and counterclockwise
 abbrev pub has_corners : Key → List ℤ → Bool

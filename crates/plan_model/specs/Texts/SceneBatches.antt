@@ -61,8 +61,7 @@ IsRefusedPart format parts k number kind = (line : ℕ) × (number ≡ lines_bef
 
 -- Part k is refused, or it is the first one too many: then the line before it is.
 abbrev pub FailsAtPart : Format → List Part → ℕ → ℕ → Kind → Type 0
-FailsAtPart format parts k number kind =
-    ((k < MOST_SCENES) × IsRefusedPart format parts k number kind)
+FailsAtPart format parts k number kind = ((k < MOST_SCENES) × IsRefusedPart format parts k number kind)
     ⊎ ((k ≡ MOST_SCENES) × (number ≡ lines_before parts k) × (kind ≡ kinds.Many))
 
 -- The text is refused at a line, counted from 1, for the first check that the line fails: it is that of the first part that is refused,

@@ -26,8 +26,7 @@ given_after_version statements = given_by (drop 1 statements)
 
 -- the fault of line i, counted from 0, against the statements of the lines before it
 abbrev pub fault_of_line : Format → List (List ℕ) → ℕ → Option Kind
-fault_of_line format lines i =
-    let before = statements_of (take i lines) in
+fault_of_line format lines i = let before = statements_of (take i lines) in
     fault_of_words format (version_given format.reads before) (given_after_version before) (words_of (get_or lines i []))
 
 -- what is missing after the last line
@@ -94,15 +93,13 @@ pub record Spells (format : Format) (text : List ℕ) (scene : Scene) : Type 0 w
 
 -- the check that line i fails, counted from 0, or what is missing after the last line
 abbrev pub FailsAt : Format → List (List ℕ) → ℕ → Kind → Type 0
-FailsAt format lines i kind =
-    ((i < length lines) × (fault_of_line format lines i ≡ Some kind))
+FailsAt format lines i kind = ((i < length lines) × (fault_of_line format lines i ≡ Some kind))
     ⊎ ((i ≡ length lines) × (fault_of_end format (statements_of lines) ≡ Some kind))
 
 -- The text is refused at a line, counted from 1, for the first check that the line fails: it is the first line with a
 -- fault, or the one after the last, if something is missing.
 abbrev pub Refused : Format → List ℕ → ℕ → Kind → Type 0
-Refused format text number kind =
-    (i : ℕ) × (number ≡ i + 1) × IsSoundBelow format (lines_of text) i × FailsAt format (lines_of text) i kind
+Refused format text number kind = (i : ℕ) × (number ≡ i + 1) × IsSoundBelow format (lines_of text) i × FailsAt format (lines_of text) i kind
 
 -- ---- what is supported
 

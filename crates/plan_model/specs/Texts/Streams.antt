@@ -56,8 +56,7 @@ counted_up n = min (n + 1) (2 ^ 64 - 1)
 
 -- the next write of at least one byte fails: its number is listed, or the room is full
 abbrev pub is_refused : MemSinkState → Bool
-is_refused sink =
-    list_any (λ number. number == counted_up sink.calls) sink.fails || sink.room == length sink.bytes
+is_refused sink = list_any (λ number. number == counted_up sink.calls) sink.fails || sink.room == length sink.bytes
 
 -- how many bytes a write takes that does not fail
 abbrev pub taken_count : MemSinkState → List ℕ → ℕ
@@ -65,8 +64,7 @@ taken_count sink piece = moved_count (length piece) sink.most (sink.room - lengt
 
 -- What a write of these bytes returns. A write of no byte is not numbered and changes nothing.
 abbrev pub write_result : MemSinkState → List ℕ → Result ℕ Failed
-write_result sink piece =
-    if length piece == 0 then Ok 0 else (if is_refused sink then Err (record {}) else Ok (taken_count sink piece))
+write_result sink piece = if length piece == 0 then Ok 0 else (if is_refused sink then Err (record {}) else Ok (taken_count sink piece))
 
 -- what a write of these bytes leaves
 abbrev pub after_write : MemSinkState → List ℕ → MemSinkState
@@ -95,13 +93,11 @@ given_count source len = moved_count len source.most (length source.left)
 
 -- What a read into a slice of so many places returns. A read into an empty slice is not numbered and changes nothing.
 abbrev pub read_result : MemSourceState → ℕ → Result ℕ Failed
-read_result source len =
-    if len == 0 then Ok 0 else (if is_failing source then Err (record {}) else Ok (given_count source len))
+read_result source len = if len == 0 then Ok 0 else (if is_failing source then Err (record {}) else Ok (given_count source len))
 
 -- what a read into a slice of so many places leaves
 abbrev pub after_read : MemSourceState → ℕ → MemSourceState
-after_read source len =
-    if len == 0 then source else
+after_read source len = if len == 0 then source else
     (if is_failing source then record source { calls = counted_up source.calls; faults = counted_up source.faults } else
     record source {
       left = drop (given_count source len) source.left;

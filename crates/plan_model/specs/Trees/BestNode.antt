@@ -10,8 +10,7 @@ use Rattle.plan_model.specs.Trees.TreeStates.{TreeState, sum_in}
 
 -- the point lies in the closed box
 abbrev pub is_in_goal : Goal → Point → Bool
-is_in_goal goal p =
-    (nat_le goal.low.x p.x && nat_le p.x goal.high.x) && (nat_le goal.low.y p.y && nat_le p.y goal.high.y)
+is_in_goal goal p = (nat_le goal.low.x p.x && nat_le p.x goal.high.x) && (nat_le goal.low.y p.y && nat_le p.y goal.high.y)
 
 -- the point lies in one of the closed boxes
 abbrev pub lies_in_goals : List Goal → Point → Bool

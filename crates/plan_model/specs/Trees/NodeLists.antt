@@ -1,5 +1,4 @@
--- Trees, as lists by number: at each number a point with its parent, or nothing. The start has number 0; the node that mark k gives has
--- number k + 1.
+-- Trees, as lists by number: at each number a point with its parent, or nothing. The start has number 0; the node that mark k gives has number k + 1.
 use Rattle.std.specs.Prelude.{◌≡◌, ℕ, zero, suc, ◌+◌, ◌<◌, Option, Some, None, List, [], ◌∷◌, map, slice_index_or, option_map}
 use Rattle.plan_model.specs.declared.geometry.Point.{Point}
 use Rattle.plan_model.specs.declared.trees.Twig.{Twig}
@@ -36,9 +35,8 @@ chain_by points parents n = chain_within (node_count points) parents n
 
 -- the edge costs along a list of points, added up
 abbrev pub length_of_path : List Point → ℕ
-length_of_path [] = 0
-length_of_path (p ∷ []) = 0
 length_of_path (p ∷ q ∷ path) = cost_of q p + length_of_path (q ∷ path)
+length_of_path path = 0
 
 -- the cost-to-come of a node, by its chain
 abbrev pub sum_by : List (Option Point) → (ℕ → ℕ) → ℕ → ℕ

@@ -27,8 +27,7 @@ first_cost_of state (suc k) = recorded_or (state.written_cost (suc k)) (state.re
 
 -- a node keeps its parent and its cost, or its cost fell
 abbrev pub KeepsOrFalls : TreeState → TreeState → ℕ → Type 0
-KeepsOrFalls before after n =
-    ((after.cost n ≡ before.cost n) × (after.parent n ≡ before.parent n)) ⊎ (after.cost n < before.cost n)
+KeepsOrFalls before after n = ((after.cost n ≡ before.cost n) × (after.parent n ≡ before.parent n)) ⊎ (after.cost n < before.cost n)
 
 -- What stays from one moment to a later one: nodes, first costs and records stand, and no cost rises.
 pub record GrowsInto (before after : TreeState) : Type 0 where
@@ -40,13 +39,7 @@ pub record GrowsInto (before after : TreeState) : Type 0 where
 -- The state of a tree and the records of its marks, in which each node costs its sum.
 abbrev pub state_of : List (Option Twig) → List Record → TreeState
 state_of tree records =
-    record {
-      points = points_of tree;
-      parent = parent_of tree;
-      cost = sum_of tree;
-      written_cost = λ n. 0;
-      record_of = slice_get records;
-    }
+    record { points = points_of tree; parent = parent_of tree; cost = sum_of tree; written_cost = λ n. 0; record_of = slice_get records }
 
 -- ---- chains and sums
 

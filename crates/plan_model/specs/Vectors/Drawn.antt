@@ -12,8 +12,7 @@ pub record DrawnVectors : Type 0 where
   -- in a room of 100 columns and 100 rows, a point body, one strip and the seed 0
   pub mark : (scene : Scene) → scene.room ≡ at 99 99 → scene.body ≡ corner 0 0 ∷ [] → scene.strips ≡ 1 → scene.seed ≡ 0 → drawn_mark scene 0 ≡ at 88 43
   -- the same state again: seed and mark are added modulo 2 ^ 64
-  pub wrapped :
-      (scene : Scene) → scene.room ≡ at 99 99 → scene.body ≡ corner 0 0 ∷ [] → scene.strips ≡ 1
+  pub wrapped : (scene : Scene) → scene.room ≡ at 99 99 → scene.body ≡ corner 0 0 ∷ [] → scene.strips ≡ 1
       → scene.seed ≡ 18446744073709551615 → drawn_mark scene 1 ≡ at 88 43
   -- the least and the greatest word pick the first and the last of ten columns; of no column the first is picked
   pub least_word : picked (record { first = 5; count = 10 }) 0 ≡ 5

@@ -17,14 +17,13 @@ overlapping_records = early_record ∷ placed_by 1 0 0 0 12594 1 ∷ placed_by 0
 
 -- node 2 is a step from the start towards its mark
 abbrev pub overlapped : TreeState
-overlapped =
-    record {
-      points = Some (at 0 0) ∷ Some (at 0 50) ∷ Some (at 22 44) ∷ Some (at 40 30) ∷ [];
-      parent = λ n. 0;
-      cost = λ n. slice_index_or (0 ∷ 12800 ∷ 12594 ∷ 12800 ∷ []) n 0;
-      written_cost = λ n. 0;
-      record_of = slice_get overlapping_records;
-    }
+overlapped = record {
+  points = Some (at 0 0) ∷ Some (at 0 50) ∷ Some (at 22 44) ∷ Some (at 40 30) ∷ [];
+  parent = λ n. 0;
+  cost = λ n. slice_index_or (0 ∷ 12800 ∷ 12594 ∷ 12800 ∷ []) n 0;
+  written_cost = λ n. 0;
+  record_of = slice_get overlapping_records;
+}
 
 pub record OverlapVectors : Type 0 where
   pub closed : IsClosed open_setup marks_to_rewire 3 overlapped

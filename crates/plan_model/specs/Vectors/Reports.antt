@@ -20,14 +20,12 @@ one_placed = placed_record 0 0 0 12800 1 ∷ []
 
 -- two nodes as far from the start, and none between them
 abbrev pub two_branches : List (Option Twig)
-two_branches =
-    Some (record { point = at 0 0; parent = 0 }) ∷ Some (record { point = at 30 40; parent = 0 })
+two_branches = Some (record { point = at 0 0; parent = 0 }) ∷ Some (record { point = at 30 40; parent = 0 })
     ∷ None ∷ Some (record { point = at 40 30; parent = 0 }) ∷ []
 
 -- a node for the first of three marks
 abbrev pub one_of_three : List (Option Twig)
-one_of_three =
-    Some (record { point = at 0 0; parent = 0 }) ∷ Some (record { point = at 30 40; parent = 0 }) ∷ None ∷ None ∷ []
+one_of_three = Some (record { point = at 0 0; parent = 0 }) ∷ Some (record { point = at 30 40; parent = 0 }) ∷ None ∷ None ∷ []
 
 -- a mark of each outcome
 abbrev pub three_records : List Record

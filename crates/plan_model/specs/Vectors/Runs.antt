@@ -14,8 +14,7 @@ use Rattle.plan_model.specs.Reports.ReportText.{short_report, full_report}
 use Rattle.plan_model.specs.Vectors.Shapes.{at}
 use Rattle.plan_model.specs.Vectors.Reports.{box}
 
--- a point body in the corner of an empty room, and goals by which marks are skipped; with this gamma the radius is the step for the first
--- three nodes
+-- a point body in the corner of an empty room, and goals by which marks are skipped; with this gamma the radius is the step for the first three nodes
 abbrev pub open_setup_to : List Goal → Setup
 open_setup_to goals = record { space = empty_room (at 100 100); start = at 0 0; step = 50; gamma = 1000; goals = goals }
 
@@ -49,8 +48,7 @@ kept_records = placed_record 0 0 0 12800 1 ∷ placed_record 1 1 1 25600 2 ∷ p
 
 -- the full report of the first run, if the goal is where node 2 stands
 abbrev pub rewired_text : List ℕ
-rewired_text =
-    codes "path 3 cost 25344\n0 0\n40 30\n40 79\nnodes 4 placed 3 same 0 blocked 0\n"
+rewired_text = codes "path 3 cost 25344\n0 0\n40 30\n40 79\nnodes 4 placed 3 same 0 blocked 0\n"
     ++ (codes "node 0 at 0 0 parent 0 cost 0\nnode 1 at 0 50 parent 0 cost 12800\n"
     ++ (codes "node 2 at 40 79 parent 3 cost 25344\nnode 3 at 40 30 parent 0 cost 12800\n"
     ++ (codes "mark 0 worker 0 turn 0 nearest 0 placed class 1 first 0 12800\n"

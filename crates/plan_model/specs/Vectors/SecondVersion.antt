@@ -29,8 +29,7 @@ pub record SecondVersionVectors : Type 0 where
   pub goal_missing : Refused supported (codes "prrt 2\nroom 9 9\nstart 0 0\nstep 4\n") 5 kinds.Missing
 
 abbrev pub small_text : List ℕ
-small_text =
-    codes "prrt 2\nroom 9 9\nstart 0 0\ngoal 1 1 2 2\nstep 4\n"
+small_text = codes "prrt 2\nroom 9 9\nstart 0 0\ngoal 1 1 2 2\nstep 4\n"
 
 -- a text of version 2 with what each scene needs, and no more
 pub record SecondVersionSpelling : Type 0 where
@@ -40,13 +39,10 @@ pub record SecondVersionSpelling : Type 0 where
   pub goals : scene.goals ≡ record { low = at 1 1; high = at 2 2 } ∷ []
   pub clearance : scene.clearance ≡ 0
   pub informed : scene.informed ≡ false
-  pub canonical :
-      canonical_text scene
-      ≡ codes "prrt 2\nroom 9 9\nbody 0 0\nclearance 0\nstart 0 0\ngoal 1 1 2 2\nstep 4\ngamma 0\nseed 0\nstrips 1\n"
+  pub canonical : canonical_text scene ≡ codes "prrt 2\nroom 9 9\nbody 0 0\nclearance 0\nstart 0 0\ngoal 1 1 2 2\nstep 4\ngamma 0\nseed 0\nstrips 1\n"
 
 abbrev pub wide_text : List ℕ
-wide_text =
-    codes "prrt 2\ngoal 8 8 9 9\ninformed 1\nstep 65536\nclearance 3\nroom 1048575 9\n"
+wide_text = codes "prrt 2\ngoal 8 8 9 9\ninformed 1\nstep 65536\nclearance 3\nroom 1048575 9\n"
     ++ codes "goal 1 1 2 2\nobstacle 4 4 6 4 5 7\nstart 0 0\nmarks 5\n"
 
 -- a text of version 2 with every field: the goals are in the order of their lines
@@ -56,7 +52,6 @@ pub record WideSpelling : Type 0 where
   pub goals : scene.goals ≡ record { low = at 8 8; high = at 9 9 } ∷ record { low = at 1 1; high = at 2 2 } ∷ []
   pub clearance : scene.clearance ≡ 3
   pub informed : scene.informed ≡ true
-  pub canonical :
-      canonical_text scene
+  pub canonical : canonical_text scene
       ≡ codes "prrt 2\nroom 1048575 9\nbody 0 0\nobstacle 4 4 6 4 5 7\nclearance 3\nstart 0 0\ngoal 8 8 9 9\ngoal 1 1 2 2\n"
       ++ codes "step 65536\ngamma 0\nseed 0\nstrips 1\ninformed 1\nmarks 5\n"

@@ -35,35 +35,19 @@ trees_at_return (suc (suc zero)) = Some (0, 1280)
 trees_at_return n = trees_at_entry n
 
 abbrev pub at_entry : Sight
-at_entry =
-    record {
-      seen = record {
-        child = three_children;
-        points = three_points;
-        parent_and_cost = trees_at_entry;
-        record_of = λ k. None;
-        counter = λ strip. 2;
-        count = 3;
-      };
-      steps = 6;
-      found_empty = found_at_entry;
-    }
+at_entry = record {
+  seen = record { child = three_children; points = three_points; parent_and_cost = trees_at_entry; record_of = λ k. None; counter = λ strip. 2; count = 3 };
+  steps = 6;
+  found_empty = found_at_entry;
+}
 
 -- step 7 finds a count of 4
 abbrev pub at_return : Sight
-at_return =
-    record {
-      seen = record {
-        child = four_children;
-        points = three_points;
-        parent_and_cost = trees_at_return;
-        record_of = λ k. None;
-        counter = λ strip. 2;
-        count = 4;
-      };
-      steps = 10;
-      found_empty = found_at_return;
-    }
+at_return = record {
+  seen = record { child = four_children; points = three_points; parent_and_cost = trees_at_return; record_of = λ k. None; counter = λ strip. 2; count = 4 };
+  steps = 10;
+  found_empty = found_at_return;
+}
 
 -- ---- another worker
 
@@ -85,19 +69,11 @@ others_trees (suc (suc (suc (suc zero)))) = Some (0, 573)
 others_trees n = trees_at_entry n
 
 abbrev pub of_other : Sight
-of_other =
-    record {
-      seen = record {
-        child = others_children;
-        points = others_points;
-        parent_and_cost = others_trees;
-        record_of = λ k. None;
-        counter = λ strip. 3;
-        count = 4;
-      };
-      steps = 7;
-      found_empty = found_by_other;
-    }
+of_other = record {
+  seen = record { child = others_children; points = others_points; parent_and_cost = others_trees; record_of = λ k. None; counter = λ strip. 3; count = 4 };
+  steps = 7;
+  found_empty = found_by_other;
+}
 
 -- ---- both
 
@@ -115,19 +91,11 @@ trees_of_both n = trees_at_return n
 
 -- the first worker, when it has taken over what the other has seen
 abbrev pub of_both : Sight
-of_both =
-    record {
-      seen = record {
-        child = five_children;
-        points = points_of_both;
-        parent_and_cost = trees_of_both;
-        record_of = λ k. None;
-        counter = λ strip. 3;
-        count = 4;
-      };
-      steps = 10;
-      found_empty = found_at_return;
-    }
+of_both = record {
+  seen = record { child = five_children; points = points_of_both; parent_and_cost = trees_of_both; record_of = λ k. None; counter = λ strip. 3; count = 4 };
+  steps = 10;
+  found_empty = found_at_return;
+}
 
 -- ---- the tree
 
@@ -148,19 +116,12 @@ parents_with parent (suc (suc zero)) = parent
 parents_with parent _ = 0
 
 abbrev pub tree_with : ℕ → ℕ → SharedTree
-tree_with parent cost =
-    record {
-      state = record {
-        points = five_points;
-        parent = parents_with parent;
-        cost = costs_with cost;
-        written_cost = λ n. 0;
-        record_of = λ k. None;
-      };
-      child = five_children;
-      counter = λ strip. 3;
-      count = 5;
-    }
+tree_with parent cost = record {
+  state = record { points = five_points; parent = parents_with parent; cost = costs_with cost; written_cost = λ n. 0; record_of = λ k. None };
+  child = five_children;
+  counter = λ strip. 3;
+  count = 5;
+}
 
 -- node 2 hangs below node 0 now
 abbrev pub tree_now : SharedTree

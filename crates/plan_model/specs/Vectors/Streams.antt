@@ -5,13 +5,11 @@ use Rattle.plan_model.specs.Texts.Streams.{write_result, after_write, read_resul
 
 -- room for so many bytes, of which one is taken; the third call fails
 abbrev pub sink_with : ℕ → ℕ → MemSinkState
-sink_with room calls =
-    record { bytes = 65 ∷ []; room = room; most = 2; fails = 3 ∷ []; calls = calls; faults = 0 }
+sink_with room calls = record { bytes = 65 ∷ []; room = room; most = 2; fails = 3 ∷ []; calls = calls; faults = 0 }
 
 -- a source of these bytes that gives two of them at most in one call; the third call fails
 abbrev pub source_of : List ℕ → ℕ → MemSourceState
-source_of left calls =
-    record { left = left; ended = false; most = 2; fails = 3 ∷ []; calls = calls; faults = 0 }
+source_of left calls = record { left = left; ended = false; most = 2; fails = 3 ∷ []; calls = calls; faults = 0 }
 
 pub record StreamVectors : Type 0 where
   pub risen : FaultsRose 0 1

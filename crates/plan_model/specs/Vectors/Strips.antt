@@ -30,8 +30,7 @@ pub record StripVectors : Type 0 where
   pub before_second_mark : quota_of 3 2 5 ≡ 1
   pub with_second_mark : quota_of 3 2 6 ≡ 2
   -- marks 0 and 3 of the first strip are claimed, none of the second, and mark 2 of the third
-  pub claimed :
-      map (is_claimed 3 (λ g. slice_index_or (2 ∷ 0 ∷ 1 ∷ []) g 0)) (0 ∷ 1 ∷ 2 ∷ 3 ∷ 4 ∷ 5 ∷ 6 ∷ [])
+  pub claimed : map (is_claimed 3 (λ g. slice_index_or (2 ∷ 0 ∷ 1 ∷ []) g 0)) (0 ∷ 1 ∷ 2 ∷ 3 ∷ 4 ∷ 5 ∷ 6 ∷ [])
       ≡ true ∷ false ∷ true ∷ true ∷ false ∷ false ∷ false ∷ []
   -- a point body, a body as wide as the side, and a wider one
   pub all_columns : span_within 10 0 0 ≡ record { first = 0; count = 11 }

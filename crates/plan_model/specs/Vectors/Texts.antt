@@ -37,8 +37,7 @@ pub record RefusalVectors : Type 0 where
   pub first_of_two_faults : Refused supported (codes "prrt 1\nroom 0 1\nstar\n") 2 kinds.Range
 
 abbrev pub sound_text : List ℕ
-sound_text =
-    codes "prrt 1\n# a scene\nroom 10 10\nstart 5 5\n\ngoal 8 8 9 9\nstep 4\nmark 7 7\n"
+sound_text = codes "prrt 1\n# a scene\nroom 10 10\nstart 5 5\n\ngoal 8 8 9 9\nstep 4\nmark 7 7\n"
 
 -- the text spells a scene, and this is the scene
 pub record SpellingVector : Type 0 where
@@ -61,8 +60,7 @@ pub record SpellingVector : Type 0 where
   pub canonical : canonical_text scene ≡ codes "prrt 1\nroom 10 10\nbody 0 0\nstart 5 5\ngoal 8 8 9 9\nstep 4\ngamma 0\nseed 0\nstrips 1\nmark 7 7\n"
 
 abbrev pub text_with_polygons : List ℕ
-text_with_polygons =
-    codes "prrt 1\nobstacle 4 4 6 4 5 7\nroom 9 9\nbody -1 -2 3 0 0 4\nstart 0 0\nobstacle -9 -2 3 2 3 3\ngoal 1 1 2 2\nstep 4\n"
+text_with_polygons = codes "prrt 1\nobstacle 4 4 6 4 5 7\nroom 9 9\nbody -1 -2 3 0 0 4\nstart 0 0\nobstacle -9 -2 3 2 3 3\ngoal 1 1 2 2\nstep 4\n"
 
 -- the text has a body and two obstacles, and the scene has their corners, in the order of the lines
 pub record PolygonSpellingVector : Type 0 where
@@ -72,8 +70,7 @@ pub record PolygonSpellingVector : Type 0 where
   pub obstacles : scene.obstacles ≡ (corner 4 4 ∷ corner 6 4 ∷ corner 5 7 ∷ []) ∷ (corner_below 9 2 ∷ corner 3 2 ∷ corner 3 3 ∷ []) ∷ []
 
 abbrev pub text_of_every_field : List ℕ
-text_of_every_field =
-    codes "prrt 1\nstrips 64\nseed 18446744073709551615\ngamma 16777215\nstep 4096\n"
+text_of_every_field = codes "prrt 1\nstrips 64\nseed 18446744073709551615\ngamma 16777215\nstep 4096\n"
     ++ codes "body 1 2\nobstacle 4 4 6 4 5 7\nroom 9 9\nstart 0 0\ngoal 1 1 2 2\nmarks 262143\n"
 
 -- the text gives every field, some of them the greatest number that may stand there
@@ -84,7 +81,6 @@ pub record FieldSpellingVector : Type 0 where
   pub seed : scene.seed ≡ 18446744073709551615
   pub strips : scene.strips ≡ 64
   pub plan : scene.plan ≡ Drawn 262143
-  pub canonical :
-      canonical_text scene
+  pub canonical : canonical_text scene
       ≡ codes "prrt 1\nroom 9 9\nbody 1 2\nobstacle 4 4 6 4 5 7\nstart 0 0\ngoal 1 1 2 2\n"
       ++ codes "step 4096\ngamma 16777215\nseed 18446744073709551615\nstrips 64\nmarks 262143\n"

@@ -8,16 +8,14 @@ use Rattle.plan_model.specs.Vectors.Shapes.{at}
 
 -- the start, an absent node, and a node below the start
 abbrev pub gapped : List (Option Twig)
-gapped =
-    Some (record { point = at 0 0; parent = 0 }) ∷ None ∷ Some (record { point = at 30 40; parent = 0 }) ∷ []
+gapped = Some (record { point = at 0 0; parent = 0 }) ∷ None ∷ Some (record { point = at 30 40; parent = 0 }) ∷ []
 
 abbrev pub gapped_further : List (Option Twig)
 gapped_further = gapped ++ None ∷ None ∷ []
 
 -- the start, and a node that is its own parent; no run makes one
 abbrev pub circular : List (Option Twig)
-circular =
-    Some (record { point = at 0 0; parent = 0 }) ∷ Some (record { point = at 5 5; parent = 1 }) ∷ []
+circular = Some (record { point = at 0 0; parent = 0 }) ∷ Some (record { point = at 5 5; parent = 1 }) ∷ []
 
 pub record TreeVectors : Type 0 where
   pub start : chain gapped 0 ≡ 0 ∷ []

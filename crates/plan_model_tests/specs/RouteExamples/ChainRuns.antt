@@ -1,17 +1,8 @@
 -- A textbook run in which a node moves below a later one, and then two marks end at older nodes: chains of its nodes that are in order,
 -- and chains that are not and cost less than their last node.
 use Rattle.std.specs.Prelude.{◌≡◌, None, List, [], ◌∷◌}
-use Rattle.plan_model.specs.declared.geometry.Point.{Point}
-use Rattle.plan_model.specs.declared.records.Record.{Record}
-use Rattle.plan_model.specs.Runs.Textbook.{IsTextbookRun, Nodes, Setup}
-use Rattle.plan_model.specs.Vectors.Records.{placed_record, same_record}
-use Rattle.plan_model.specs.Spaces.EmptyRooms.{empty_room}
-use Rattle.plan_model.specs.Trees.NodeLists.{sum_of}
-use Rattle.plan_model.specs.Trees.TreeStates.{TreeState, state_of}
-use Rattle.plan_model.specs.Vectors.Overlaps.{overlapped}
-use Rattle.plan_model.specs.Vectors.Runs.{node, open_setup}
-use Rattle.plan_model.specs.Vectors.Shapes.{at}
-use Rattle.route_laws.specs.Chains.{IsChain, IsChainInOrder, IsLinkInOrder, cost_of_chain}
+use Rattle.plan_model_tests.specs.Terms.{IsChain, IsChainInOrder, IsLinkInOrder, IsTextbookRun, Nodes, Point, Record, Setup, TreeState, at, cost_of_chain}
+use Rattle.plan_model_tests.specs.Terms.{empty_room, node, open_setup, overlapped, placed_record, same_record, state_of, sum_of}
 
 -- a point body in the corner of an empty room; with this gamma the radius of each class of so few nodes is the step
 abbrev pub small_setup : Setup
@@ -26,8 +17,7 @@ abbrev pub late_tree : Nodes
 late_tree = node (at 0 3) 0 ∷ node (at 4 3) 0 ∷ node (at 5 5) 4 ∷ node (at 7 5) 1 ∷ node (at 1 3) 0 ∷ None ∷ None ∷ []
 
 abbrev pub late_records : List Record
-late_records =
-    placed_record 0 0 0 1024 1 ∷ placed_record 1 1 1 1597 2 ∷ placed_record 2 2 1 1948 2 ∷ placed_record 3 0 0 256 3
+late_records = placed_record 0 0 0 1024 1 ∷ placed_record 1 1 1 1597 2 ∷ placed_record 2 2 1 1948 2 ∷ placed_record 3 0 0 256 3
     ∷ same_record 4 2 2 ∷ same_record 5 3 3 ∷ []
 
 abbrev pub late : TreeState

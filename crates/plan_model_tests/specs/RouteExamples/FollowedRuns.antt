@@ -1,14 +1,7 @@
 -- Routes of the worked run with a node that is rewired, points that are reached, and runs that do not reach their only mark.
 use Rattle.std.specs.Prelude.{ℕ, All, Option, Some, None, List, [], ◌∷◌}
-use Rattle.plan_model.specs.declared.geometry.Goal.{Goal}
-use Rattle.plan_model.specs.declared.geometry.Point.{Point}
-use Rattle.plan_model.specs.Runs.Textbook.{IsTextbookRun, Nodes}
-use Rattle.plan_model.specs.Vectors.Records.{blocked_record, placed_record, skipped_record}
-use Rattle.plan_model.specs.Trees.NodeLists.{points_of}
-use Rattle.plan_model.specs.Vectors.Reports.{box}
-use Rattle.plan_model.specs.Vectors.Runs.{marks_to_rewire, node, open_setup, open_setup_to, rewired_tree}
-use Rattle.plan_model.specs.Vectors.Shapes.{at}
-use Rattle.route_laws.specs.Routes.{HasGoalNode, IsOpenLink, IsReached, IsRoute}
+use Rattle.plan_model_tests.specs.Terms.{Goal, HasGoalNode, IsOpenLink, IsReached, IsRoute, IsTextbookRun, Nodes, Point, at, blocked_record, box}
+use Rattle.plan_model_tests.specs.Terms.{marks_to_rewire, node, open_setup, open_setup_to, placed_record, points_of, rewired_tree, skipped_record}
 use Rattle.plan_model_tests.specs.RouteExamples.Links.{thin_setup}
 
 -- ---- routes

@@ -1,17 +1,7 @@
 -- Links beside a thin triangle, in an empty room, and beside a wide triangle.
 use Rattle.std.specs.Prelude.{ℕ, ◌≤◌, List, [], ◌∷◌}
-use Rattle.plan_model.specs.declared.configuration_spaces.ConfigurationSpace.{ConfigurationSpace}
-use Rattle.plan_model.specs.declared.geometry.Point.{Point}
-use Rattle.plan_model.specs.declared.geometry.Vertex.{Vertex}
-use Rattle.plan_model.specs.Geometry.Plane.{squared_distance}
-use Rattle.plan_model.specs.Runs.Textbook.{Setup}
-use Rattle.plan_model.specs.Spaces.Clearance.{ClearAt}
-use Rattle.plan_model.specs.Spaces.ConfigurationSpace.{space_among}
-use Rattle.plan_model.specs.Vectors.Meetings.{great_triangle, point_body, small_square}
-use Rattle.plan_model.specs.Vectors.Runs.{open_setup}
-use Rattle.plan_model.specs.Vectors.Shapes.{at, corner}
-use Rattle.route_laws.specs.Discs.{HasClearDisc, KeepsBodyFar}
-use Rattle.route_laws.specs.Routes.{IsOpenLink}
+use Rattle.plan_model_tests.specs.Terms.{ClearAt, ConfigurationSpace, HasClearDisc, IsOpenLink, KeepsBodyFar, Point, Setup, Vertex, at, corner, great_triangle}
+use Rattle.plan_model_tests.specs.Terms.{open_setup, point_body, small_square, space_among, squared_distance}
 
 -- ---- open links
 
@@ -41,14 +31,13 @@ pub record OpenLinkVectors : Type 0 where
 
 -- a body beside a wide triangle, at such a clearance
 abbrev pub wide_setup : List Vertex → ℕ → Setup
-wide_setup body clearance =
-    record {
-      space = record { room = at 30 30; body = body; obstacles = great_triangle ∷ []; clearance = clearance };
-      start = at 0 0;
-      step = 4;
-      gamma = 0;
-      goals = [];
-    }
+wide_setup body clearance = record {
+  space = record { room = at 30 30; body = body; obstacles = great_triangle ∷ []; clearance = clearance };
+  start = at 0 0;
+  step = 4;
+  gamma = 0;
+  goals = [];
+}
 
 -- its disc is not clear, and the body does not keep far enough away
 pub record IsNeither (setup : Setup) (a b : Point) : Type 0 where

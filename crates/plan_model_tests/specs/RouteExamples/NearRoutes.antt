@@ -1,18 +1,8 @@
 -- Routes of near links: the least radius of a run, what routes cost, and marks that end at older nodes.
 use Rattle.std.specs.Prelude.{◌≡◌, ℕ, List, [], ◌∷◌, slice_get}
-use Rattle.plan_model.specs.declared.geometry.Point.{Point}
-use Rattle.plan_model.specs.declared.records.Record.{Record}
-use Rattle.plan_model.specs.Runs.Textbook.{Setup}
-use Rattle.plan_model.specs.Vectors.Records.{blocked_record, placed_record, same_record}
-use Rattle.plan_model.specs.Spaces.EmptyRooms.{empty_room}
-use Rattle.plan_model.specs.Vectors.Runs.{marks_to_rewire, open_setup, rewired_records}
-use Rattle.plan_model.specs.Vectors.Shapes.{at}
-use Rattle.route_laws.specs.RouteCosts.{EndApart, IsNearLink, cost_of_route, end_of, least_radius}
-use Rattle.route_laws.specs.Routes.{IsRoute}
-
--- the radius is 40 at two and three nodes, and 34 at four
-abbrev pub narrow_setup : Setup
-narrow_setup = record { space = empty_room (at 100 100); start = at 0 0; step = 50; gamma = 40; goals = [] }
+use Rattle.plan_model_tests.specs.Terms.{EndApart, IsNearLink, IsRoute, Point, Record, at, blocked_record, cost_of_route, end_of}
+use Rattle.plan_model_tests.specs.Terms.{least_radius, marks_to_rewire, open_setup, placed_record, rewired_records, same_record}
+use Rattle.plan_model_tests.specs.NarrowRuns.{narrow_setup}
 
 abbrev pub two_marks : List Point
 two_marks = at 0 40 ∷ at 40 40 ∷ []

@@ -1,8 +1,6 @@
 -- Marks of a route that one worker handled in turn, and marks that two handled, or one out of turn.
 use Rattle.std.specs.Prelude.{[], ◌∷◌}
-use Rattle.plan_model.specs.Trees.TreeStates.{TreeState, state_of}
-use Rattle.plan_model.specs.Vectors.Records.{placed_by}
-use Rattle.route_laws.specs.WorkersRoutes.{AreHandledInTurn}
+use Rattle.plan_model_tests.specs.Terms.{AreHandledInTurn, TreeState, placed_by, state_of}
 
 -- worker 0 placed the nodes of marks 0 and 2, in this order, and worker 1 that of mark 1
 abbrev pub two_workers : TreeState

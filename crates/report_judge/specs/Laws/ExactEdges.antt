@@ -27,8 +27,7 @@ pub record HangsExactly (space : ConfigurationSpace) (squared_step : ℕ) (knots
 
 -- node n, if it is there and is not the start, hangs exactly below its parent
 abbrev pub KeepsEdges : ConfigurationSpace → ℕ → List (Option Knot) → ℕ → Type 0
-KeepsEdges space squared_step knots n =
-    0 < n → (knot : Knot) → slice_index_or knots n None ≡ Some knot → HangsExactly space squared_step knots n knot
+KeepsEdges space squared_step knots n = 0 < n → (knot : Knot) → slice_index_or knots n None ≡ Some knot → HangsExactly space squared_step knots n knot
 
 -- ---- first parents
 

@@ -40,14 +40,13 @@ turn_key entry = entry.worker * 262144 + entry.turn
 
 -- the turn of mark k is below the number of its worker's marks
 abbrev pub HasLowTurn : List Record → ℕ → Type 0
-HasLowTurn records k = (entry : Record) → slice_get records k ≡ Some entry
-    → entry.turn < turns_of (slice_get records) (length records) entry.worker
+HasLowTurn records k = (entry : Record) → slice_get records k ≡ Some entry → entry.turn < turns_of (slice_get records) (length records) entry.worker
 
 -- mark k has a turn of its own
 abbrev pub KeepsTurn : List Record → ℕ → Type 0
 KeepsTurn records k = (entry : Record) → slice_get records k ≡ Some entry → HasOwnTurn (length records) (slice_get records) k entry
 
--- ---- nodes
+-- ---- nodes, and which marks have one
 
 -- Where a node stands, as one number; if there is none, a greater one that is its own.
 abbrev pub point_key : ℕ → Option Knot → ℕ
@@ -57,8 +56,6 @@ point_key n (Some knot) = knot.point.x * 1048576 + knot.point.y
 -- node n, if it is present, keeps the law of nodes
 abbrev pub KeepsNode : Setup → List (Option Knot) → List Record → ℕ → Type 0
 KeepsNode setup knots records n = IsPresent (state_of_lists knots records).points n → KeepsNodeLaw setup (state_of_lists knots records) n
-
--- ---- presence
 
 -- mark k has a node exactly if it was placed
 abbrev pub KeepsPresence : List (Option Knot) → List Record → ℕ → Type 0

@@ -13,8 +13,6 @@ abbrev pub IsVerdict : Task → List ℕ → Verdict → Type 0
 IsVerdict task report Lawful = IsReportOfRun task report
 IsVerdict task report (Broken line law) = IsBroken task report law line × ¬ IsReportOfRun task report
 
--- ---- sheets
-
 -- the bytes that a sheet's lines have
 abbrev pub bytes_of : Sheet → List ℕ
 bytes_of sheet = lines_text (lines_of_sheet sheet)

@@ -17,7 +17,7 @@ use Rattle.plan_model.specs.Trees.TreeStates.{TreeState, sum_in}
 use Rattle.report_judge.specs.Texts.ReportLines.{Tally}
 use Rattle.report_judge.specs.Texts.ReportSheets.{PricedPath, Sheet, head_lines, state_of_sheet, number_of_node_line, number_of_mark_line}
 
--- ---- nodes
+-- ---- nodes and turns
 
 -- node 0 is the start, its own parent, and costs nothing
 pub record IsStartNode (setup : Setup) (state : TreeState) : Type 0 where
@@ -25,8 +25,7 @@ pub record IsStartNode (setup : Setup) (state : TreeState) : Type 0 where
   pub parent : state.parent 0 ≡ 0
   pub cost : state.cost 0 ≡ 0
 
--- Node n stands where no earlier one does, below another node that is present, by an allowed edge, and costs what its parent does and
--- the edge.
+-- Node n stands where no earlier one does, below another node that is present, by an allowed edge, and costs what its parent does and the edge.
 pub record IsSoundNode (setup : Setup) (state : TreeState) (n : ℕ) : Type 0 where
   pub alone : (m : ℕ) → m < n → ¬ StandsAt state.points m (point_of state.points n)
   pub present : IsPresent state.points (state.parent n)
@@ -38,8 +37,6 @@ pub record IsSoundNode (setup : Setup) (state : TreeState) (n : ℕ) : Type 0 wh
 abbrev pub KeepsNodeLaw : Setup → TreeState → ℕ → Type 0
 KeepsNodeLaw setup state zero = IsStartNode setup state
 KeepsNodeLaw setup state (suc n) = IsSoundNode setup state (suc n)
-
--- ---- turns
 
 -- The turn of mark k is that of no earlier mark of its worker, and below the number of its worker's marks.
 pub record HasOwnTurn (limit : ℕ) (record_of : ℕ → Option Record) (k : ℕ) (entry : Record) : Type 0 where
@@ -64,14 +61,13 @@ skipped_of true limit state = Some (outcome_count state.record_of limit is_skipp
 
 -- the counts that the report of a run has
 abbrev pub tally_of : Scene → ℕ → TreeState → Tally
-tally_of scene limit state =
-    record {
-      nodes = node_count state.points;
-      placed = outcome_count state.record_of limit is_placed;
-      same = outcome_count state.record_of limit is_same;
-      blocked = outcome_count state.record_of limit is_blocked;
-      skipped = skipped_of scene.informed limit state;
-    }
+tally_of scene limit state = record {
+  nodes = node_count state.points;
+  placed = outcome_count state.record_of limit is_placed;
+  same = outcome_count state.record_of limit is_same;
+  blocked = outcome_count state.record_of limit is_blocked;
+  skipped = skipped_of scene.informed limit state;
+}
 
 -- ---- the laws by their numbers
 

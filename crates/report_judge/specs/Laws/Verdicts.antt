@@ -33,5 +33,4 @@ pub record BreaksLawFirst (task : Task) (report : List ℕ) (law line : ℕ) : T
 
 -- The verdict that a law is broken, and a line: the least law that is broken, and the first line that breaks it. Law 1 is the form.
 abbrev pub IsBroken : Task → List ℕ → ℕ → ℕ → Type 0
-IsBroken task report law line =
-    ((law ≡ 1) × BreaksFormFirst (extent_of task) report line) ⊎ BreaksLawFirst task report law line
+IsBroken task report law line = ((law ≡ 1) × BreaksFormFirst (extent_of task) report line) ⊎ BreaksLawFirst task report law line

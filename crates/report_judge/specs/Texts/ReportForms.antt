@@ -34,11 +34,9 @@ MayStandNext before NoPath = length before ≡ 0
 MayStandNext before (PathOf points cost) = length before ≡ 0
 MayStandNext before (PathPoint p) = (0 < length before) × (length before < counts_place before)
 MayStandNext before (Counts tally) = (0 < length before) × (length before ≡ counts_place before)
-MayStandNext before (NodeLine n knot) =
-    (counts_place before < length before) × (length before ≤ counts_place before + nodes_to_come before)
+MayStandNext before (NodeLine n knot) = (counts_place before < length before) × (length before ≤ counts_place before + nodes_to_come before)
     × MayFollow n (slice_get before (length before - 1))
-MayStandNext before (MarkLine k entry) =
-    (0 < nodes_to_come before) × (length before ≡ suc (counts_place before) + nodes_to_come before + k)
+MayStandNext before (MarkLine k entry) = (0 < nodes_to_come before) × (length before ≡ suc (counts_place before) + nodes_to_come before + k)
 
 -- each line may stand where it does, with its numbers in their ranges
 abbrev pub AreBegun : Extent → List ReportLine → Type 0

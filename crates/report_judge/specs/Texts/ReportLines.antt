@@ -44,14 +44,11 @@ abbrev pub line_words : ReportLine → List (List ℕ)
 line_words NoPath = codes "no" ∷ codes "path" ∷ []
 line_words (PathOf points cost) = codes "path" ∷ decimal points ∷ codes "cost" ∷ decimal cost ∷ []
 line_words (PathPoint p) = decimal p.x ∷ decimal p.y ∷ []
-line_words (Counts tally) =
-    codes "nodes" ∷ decimal tally.nodes ∷ codes "placed" ∷ decimal tally.placed ∷ codes "same" ∷ decimal tally.same
+line_words (Counts tally) = codes "nodes" ∷ decimal tally.nodes ∷ codes "placed" ∷ decimal tally.placed ∷ codes "same" ∷ decimal tally.same
     ∷ codes "blocked" ∷ decimal tally.blocked ∷ skipped_count tally.skipped
-line_words (NodeLine n knot) =
-    codes "node" ∷ decimal n ∷ codes "at" ∷ decimal knot.point.x ∷ decimal knot.point.y
+line_words (NodeLine n knot) = codes "node" ∷ decimal n ∷ codes "at" ∷ decimal knot.point.x ∷ decimal knot.point.y
     ∷ codes "parent" ∷ decimal knot.parent ∷ codes "cost" ∷ decimal knot.cost ∷ []
-line_words (MarkLine k entry) =
-    (codes "mark" ∷ decimal k ∷ codes "worker" ∷ decimal entry.worker ∷ codes "turn" ∷ decimal entry.turn ∷ [])
+line_words (MarkLine k entry) = (codes "mark" ∷ decimal k ∷ codes "worker" ∷ decimal entry.worker ∷ codes "turn" ∷ decimal entry.turn ∷ [])
     ++ ending_words (ending_of entry)
 
 -- how a line is spelled: its words with a space between each two, and a line feed
@@ -76,9 +73,8 @@ extent_of task = record { marks = length task.marks; informed = task.scene.infor
 -- skipped marks are counted exactly if any may be skipped
 abbrev pub FitsSkipped : Bool → Option ℕ → Type 0
 FitsSkipped false None = Unit {0}
-FitsSkipped false (Some count) = ⊥
-FitsSkipped true None = ⊥
 FitsSkipped true (Some count) = count < 2 ^ 64
+FitsSkipped informed count = ⊥
 
 -- a count fits 64 bits
 pub record FitsTally (informed : Bool) (tally : Tally) : Type 0 where

@@ -74,8 +74,7 @@ FitsOptionalPath (Some path) = FitsPath path
 abbrev pub state_of_sheet : Sheet → TreeState
 state_of_sheet sheet = state_of_lists sheet.knots sheet.records
 
--- The form of a full report: as many node lines as its head says, the start's among them, a line for each mark,
--- and each number in its range.
+-- The form of a full report: as many node lines as its head says, the start's among them, a line for each mark, and each number in its range.
 pub record HasForm (extent : Extent) (sheet : Sheet) : Type 0 where
   pub numbers : length sheet.knots ≡ suc extent.marks
   pub start : IsPresent (state_of_sheet sheet).points 0

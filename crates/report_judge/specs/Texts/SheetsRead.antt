@@ -10,5 +10,4 @@ priced_path path = option_map (λ (p : CostedPath). record { points = p.points.i
 
 -- what the lists that were read say
 abbrev pub sheet_read : SheetRead → Sheet
-sheet_read read =
-    record { path = priced_path read.path; tally = read.tally; knots = read.knots.items; records = read.records.items }
+sheet_read read = record { path = priced_path read.path; tally = read.tally; knots = read.knots.items; records = read.records.items }

@@ -39,18 +39,17 @@ pub record AllowedRecordVectors : Type 0 where
   -- the radius of class 12 is 3, so the start is no neighbour
   pub dearer_past_the_radius : MayRecord (counter_of 2000 2048) (hand_at Counted 0 2000) (placed_by 0 0 0 0 2000 12)
 
--- ---- one cost
+-- ---- one cost, and free points
 
 -- parents, costs, the cost that was written of each, and records
 abbrev pub tree_by : List (Option Point) → List ℕ → List ℕ → ℕ → List Record → TreeState
-tree_by points parents costs written entries =
-    record {
-      points = points;
-      parent = λ n. slice_index_or parents n 0;
-      cost = λ n. slice_index_or costs n 0;
-      written_cost = λ n. written;
-      record_of = slice_get entries;
-    }
+tree_by points parents costs written entries = record {
+  points = points;
+  parent = λ n. slice_index_or parents n 0;
+  cost = λ n. slice_index_or costs n 0;
+  written_cost = λ n. written;
+  record_of = slice_get entries;
+}
 
 abbrev pub two_nodes : List (Option Point)
 two_nodes = Some (at 5 5) ∷ Some (at 8 9) ∷ []
@@ -70,8 +69,6 @@ pub record LoweredCostVectors : Type 0 where
   pub parent_too : ¬ CostsInstead dearer (tree_by two_nodes (0 ∷ 1 ∷ []) (0 ∷ 1280 ∷ []) 1281 entries) 1 1280
   pub written_cost_too : ¬ CostsInstead dearer (tree_by two_nodes (0 ∷ 0 ∷ []) (0 ∷ 1280 ∷ []) 1280 entries) 1 1280
   pub record_gone : ¬ CostsInstead dearer (tree_by two_nodes (0 ∷ 0 ∷ []) (0 ∷ 1280 ∷ []) 1281 []) 1 1280
-
--- ---- free points
 
 pub record FreePointVectors : Type 0 where
   -- node 1 stood there already

@@ -52,7 +52,7 @@ pub record AllowedStepVectors : Type 0 where
   pub goes_on_with_no_best : IsUnskipped (with_goal no_best (idle claimed_table)) (took_best no_best)
   pub goes_on_where_none_is_skipped : IsUnskipped (idle claimed_table) (new_hand 0)
 
--- ---- what steps leave
+-- ---- what steps leave, and later views
 
 -- two steps later, the third of which found the place to the right of node 0 empty
 abbrev pub waited : View
@@ -63,55 +63,37 @@ abbrev pub looked_best : List ℕ
 looked_best = 0 ∷ 4 ∷ replicate 12 0
 
 abbrev pub left_best : ℕ → View → View
-left_best best view =
-    record view { steps = 4; best = best; looked = looked_best; notes = record { place = 1; word = best; steps = 4 ∷ [] } ∷ [] }
+left_best best view = record view { steps = 4; best = best; looked = looked_best; notes = record { place = 1; word = best; steps = 4 ∷ [] } ∷ [] }
 
 pub record StepVectors : Type 0 where
   -- a load of the child to the right of node 0, which is there, and of one that is not
-  pub load_of_a_child :
-      loaded (idle claimed_table) (ChildOf 0 true) 1
+  pub load_of_a_child : loaded (idle claimed_table) (ChildOf 0 true) 1
       ≡ record (idle (table 1 1 (start_above 1) no_node 0)) { steps = 4; looked = found_right 4 }
-  pub load_of_no_child :
-      loaded (idle claimed_table) (ChildOf 0 true) 0
-      ≡ record (idle claimed_table) {
-        steps = 4;
-        looked = found_right 4;
-        found_zero = found_right 4;
-      }
-  pub claim :
-      claimed (idle (table 1 0 (start_above 0) no_node 0)) 0 0 1 (3 ∷ 4 ∷ [])
+  pub load_of_no_child : loaded (idle claimed_table) (ChildOf 0 true) 0
+      ≡ record (idle claimed_table) { steps = 4; looked = found_right 4; found_zero = found_right 4 }
+  pub claim : claimed (idle (table 1 0 (start_above 0) no_node 0)) 0 0 1 (3 ∷ 4 ∷ [])
       ≡ record (view_with (worker_at 1 0) 1 (Some (new_hand 0)) claimed_table (0 ∷ 0 ∷ 4 ∷ replicate 11 0) []) {
         steps = 4;
         looked = 0 ∷ 0 ∷ 4 ∷ replicate 11 0;
         notes = record { place = 2; word = 1; steps = 3 ∷ 4 ∷ [] } ∷ [];
       }
   -- of the mark that worker 0 has in hand, one that the other has linked
-  pub join :
-      joined (view_with (worker_at 0 0) 1 None claimed_table never []) (idle linked_table)
+  pub join : joined (view_with (worker_at 0 0) 1 None claimed_table never []) (idle linked_table)
       ≡ record (view_with (worker_at 0 0 ++ worker_at 1 0) 1 None linked_table never []) { took = linked_table; steps = 4 }
   -- a load of the best word, and that of one with a node of its own in hand
-  pub load_of_the_best :
-      best_loaded (handling (new_hand 0) claimed_table) (best_word 9 7)
+  pub load_of_the_best : best_loaded (handling (new_hand 0) claimed_table) (best_word 9 7)
       ≡ record (handling (took_best (best_word 9 7)) claimed_table) { steps = 4; best = best_word 9 7; looked = looked_best }
-  pub load_that_is_not_taken :
-      best_loaded (handling (hand_at Pointed 0 0) claimed_table) (best_word 9 7)
+  pub load_that_is_not_taken : best_loaded (handling (hand_at Pointed 0 0) claimed_table) (best_word 9 7)
       ≡ record (handling (hand_at Pointed 0 0) claimed_table) { steps = 4; best = best_word 9 7; looked = looked_best }
   -- a post of node 1 at the cost 1280, where the best cost was greater and where it was less
-  pub post_of_the_node_in_hand :
-      posted (handling (hand_at Counted 0 1280) linked_table) 1 (best_word 1281 0) (4 ∷ [])
+  pub post_of_the_node_in_hand : posted (handling (hand_at Counted 0 1280) linked_table) 1 (best_word 1281 0) (4 ∷ [])
       ≡ left_best (best_word 1280 1) (handling (hand_at Posted 0 1280) linked_table)
-  pub post_of_a_dearer_node :
-      posted (handling (hand_at Linked 0 1280) linked_table) 1 (best_word 1280 0) (4 ∷ [])
+  pub post_of_a_dearer_node : posted (handling (hand_at Linked 0 1280) linked_table) 1 (best_word 1280 0) (4 ∷ [])
       ≡ left_best (best_word 1280 0) (handling (hand_at Linked 0 1280) linked_table)
-  pub post_of_another_node :
-      posted (handling (hand_at Counted 0 1280) linked_table) 0 no_best (4 ∷ [])
+  pub post_of_another_node : posted (handling (hand_at Counted 0 1280) linked_table) 0 no_best (4 ∷ [])
       ≡ left_best (best_word 0 0) (handling (hand_at Counted 0 1280) linked_table)
   pub new_looker : looker waited ≡ record waited { crew = []; looked = never; found_zero = never }
-  pub first_view :
-      newcomer small_run claimed_table
-      ≡ record (view_with (worker_at 0 0 ++ worker_at 1 0) 0 None claimed_table never []) { steps = 0 }
-
--- ---- later views
+  pub first_view : newcomer small_run claimed_table ≡ record (view_with (worker_at 0 0 ++ worker_at 1 0) 0 None claimed_table never []) { steps = 0 }
 
 pub record LaterViewVectors : Type 0 where
   pub looked_and_found : IsLater (idle claimed_table) waited
@@ -150,10 +132,8 @@ pub record UnlawfulViewVectors : Type 0 where
       ¬ IsLawfullySeen (table 2 1 (start_above 1) (node_by 0 0 (tree_word 0 1280) (tree_word 0 1280)) (record_word (placed_by 0 0 0 0 1280 1)))
   pub placed_without_first_word :
       ¬ IsLawfullySeen (table 2 1 (start_above 1) (node_by (point_word (at 8 9)) 0 (tree_word 0 1280) 0) (record_word (placed_by 0 0 0 0 1280 1)))
-  pub child_twice :
-      ¬ IsLawfullySeen (table 1 1 (point_word (at 5 5) ∷ 1 ∷ 1 ∷ tree_word 0 0 ∷ tree_word 0 0 ∷ []) mark_node 0)
-  pub two_at_one_point :
-      ¬ IsLawfullySeen (table 1 1 (start_above 1) (node_by (point_word (at 5 5)) 0 (tree_word 0 0) (tree_word 0 0)) 0)
+  pub child_twice : ¬ IsLawfullySeen (table 1 1 (point_word (at 5 5) ∷ 1 ∷ 1 ∷ tree_word 0 0 ∷ tree_word 0 0 ∷ []) mark_node 0)
+  pub two_at_one_point : ¬ IsLawfullySeen (table 1 1 (start_above 1) (node_by (point_word (at 5 5)) 0 (tree_word 0 0) (tree_word 0 0)) 0)
   pub number_past_the_marks : ¬ IsLawfullySeen (table 1 1 (start_above 2) no_node 0)
   -- its hand
   pub not_steered_there : ¬ IsLawfulView (handling (record (hand_at Pointed 0 0) { point = at 9 8 }) claimed_table)
@@ -168,16 +148,13 @@ pub record UnlawfulViewVectors : Type 0 where
   pub parent_fits_no_word : ¬ IsLawfulView (handling (hand_at Half (2 ^ 18) 1280) claimed_table)
   pub cost_fits_no_word : ¬ IsLawfulView (handling (hand_at Half 0 (2 ^ 44)) claimed_table)
   -- parents, costs and numbers
-  pub cost_of_no_tree :
-      ¬ IsLawfullySeen (table 1 1 (start_above 1) (node_by (point_word (at 8 9)) 0 (tree_word 0 (2 ^ 42)) (tree_word 0 (2 ^ 42))) 0)
-  pub parent_past_the_marks :
-      ¬ IsLawfullySeen (table 1 1 (start_above 1) (node_by (point_word (at 8 9)) 0 (tree_word 2 1280) (tree_word 0 1280)) 0)
+  pub cost_of_no_tree : ¬ IsLawfullySeen (table 1 1 (start_above 1) (node_by (point_word (at 8 9)) 0 (tree_word 0 (2 ^ 42)) (tree_word 0 (2 ^ 42))) 0)
+  pub parent_past_the_marks : ¬ IsLawfullySeen (table 1 1 (start_above 1) (node_by (point_word (at 8 9)) 0 (tree_word 2 1280) (tree_word 0 1280)) 0)
   pub start_costs : ¬ IsLawfullySeen (table 1 1 (node_by (point_word (at 5 5)) 0 (tree_word 0 5) (tree_word 0 0)) no_node 0)
   pub start_below_another : ¬ IsLawfullySeen (table 1 1 (node_by (point_word (at 5 5)) 0 (tree_word 1 0) (tree_word 0 0)) no_node 0)
   pub below_itself : ¬ IsLawfullySeen (table 1 1 (start_above 1) (node_by (point_word (at 8 9)) 0 (tree_word 1 1280) (tree_word 0 1280)) 0)
   pub edge_too_long : ¬ IsLawfulView (record (idle linked_table) { run = record small_run { step = 4 } })
-  pub above_its_first_cost :
-      ¬ IsLawfullySeen (table 1 1 (start_above 1) (node_by (point_word (at 8 9)) 0 (tree_word 0 1281) (tree_word 0 1280)) 0)
+  pub above_its_first_cost : ¬ IsLawfullySeen (table 1 1 (start_above 1) (node_by (point_word (at 8 9)) 0 (tree_word 0 1281) (tree_word 0 1280)) 0)
   pub count_past_the_marks : ¬ IsLawfullySeen (table 3 1 (start_above 0) no_node 0)
   pub counter_past_the_marks : ¬ IsLawfullySeen (table 1 2 (start_above 0) no_node 0)
   -- the best word
@@ -185,8 +162,7 @@ pub record UnlawfulViewVectors : Type 0 where
   pub best_past_the_marks : ¬ IsLawfulView (with_goal (best_word 1280 2) (idle claimed_table))
   pub took_less_than_the_best : ¬ IsLawfulView (with_goal (best_word 1280 1) (handling (took_best (best_word 1279 1)) claimed_table))
   -- with the share of both workers
-  pub whole_below_its_edge :
-      ¬ IsLawfulView (view_with (worker_at 0 0 ++ worker_at 1 0) 1 None
+  pub whole_below_its_edge : ¬ IsLawfulView (view_with (worker_at 0 0 ++ worker_at 1 0) 1 None
       (table 1 1 (start_above 1) (node_by (point_word (at 8 9)) 0 (tree_word 0 1279) (tree_word 0 1280)) 0) never [])
 
 -- ---- runs that are as was seen

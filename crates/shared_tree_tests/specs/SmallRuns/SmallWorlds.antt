@@ -20,17 +20,7 @@ use Rattle.step_core.specs.declared.views.View.{View}
 -- a run of two workers from limit 0: a point body that starts at (5, 5) in an empty room, and one mark at (8, 9), whose edge costs 1280
 abbrev pub small_run : SharedRun
 small_run =
-    record {
-      space = empty_room (at 100 100);
-      start = at 5 5;
-      step = 50;
-      gamma = 50;
-      goals = [];
-      strips = 1;
-      marks = at 8 9 ∷ [];
-      workers = 2;
-      opening = 0;
-    }
+    record { space = empty_room (at 100 100); start = at 5 5; step = 50; gamma = 50; goals = []; strips = 1; marks = at 8 9 ∷ []; workers = 2; opening = 0 }
 
 -- marks are skipped by a goal at the mark, where node 1 is placed
 abbrev pub goal_run : SharedRun
@@ -89,20 +79,19 @@ abbrev pub never : List ℕ
 never = replicate 14 0
 
 abbrev pub view_with : List Member → ℕ → Option Hand → List ℕ → List ℕ → List Note → View
-view_with crew most hand seen found_zero notes =
-    record {
-      run = small_run;
-      crew = crew;
-      most = most;
-      hand = hand;
-      seen = seen;
-      best = no_best;
-      took = [];
-      steps = 3;
-      looked = never;
-      found_zero = found_zero;
-      notes = notes;
-    }
+view_with crew most hand seen found_zero notes = record {
+  run = small_run;
+  crew = crew;
+  most = most;
+  hand = hand;
+  seen = seen;
+  best = no_best;
+  took = [];
+  steps = 3;
+  looked = never;
+  found_zero = found_zero;
+  notes = notes;
+}
 
 abbrev pub worker_at : ℕ → ℕ → List Member
 worker_at worker turn = record { worker = worker; turn = turn } ∷ []
@@ -165,8 +154,7 @@ linked_with best = table_with best 1 1 (start_above 1) mark_node 0
 
 -- a world of the run with a goal, where the views of both workers saw these best words last
 abbrev pub AreLawfulBests : List ℕ → ℕ → ℕ → Type 0
-AreLawfulBests items best other =
-    IsWorld goal_run (words_of_run goal_run items)
+AreLawfulBests items best other = IsWorld goal_run (words_of_run goal_run items)
     (with_goal best (view_with (worker_at 0 1) 1 None items never []) ∷ with_goal other (idle items) ∷ [])
 
 -- so it is where worker 0 has this in hand, and neither saw a best word
@@ -198,27 +186,22 @@ pub record UnlawfulWorldVectors : Type 0 where
   pub point_elsewhere : ¬ AreLawfulInHand (hand_at Pointed 0 0) (table 1 1 (start_above 0) (node_by (point_word (at 9 8)) 0 0 0) 0)
   pub point_too_early : ¬ AreLawfulWords (table 1 1 (start_above 0) (node_by (point_word (at 8 9)) 0 0 0) 0)
   pub first_not_written : ¬ AreLawfulInHand (hand_at Half 0 1280) (table 1 1 (start_above 0) (node_by (point_word (at 8 9)) 0 0 0) 0)
-  pub first_too_early :
-      ¬ AreLawfulInHand (hand_at Pointed 0 0) (table 1 1 (start_above 0) (node_by (point_word (at 8 9)) 0 0 (tree_word 0 1280)) 0)
-  pub tree_not_written :
-      ¬ AreLawfulInHand (hand_at Treed 0 1280) (table 1 1 (start_above 0) (node_by (point_word (at 8 9)) 0 0 (tree_word 0 1280)) 0)
+  pub first_too_early : ¬ AreLawfulInHand (hand_at Pointed 0 0) (table 1 1 (start_above 0) (node_by (point_word (at 8 9)) 0 0 (tree_word 0 1280)) 0)
+  pub tree_not_written : ¬ AreLawfulInHand (hand_at Treed 0 1280) (table 1 1 (start_above 0) (node_by (point_word (at 8 9)) 0 0 (tree_word 0 1280)) 0)
   pub tree_too_early : ¬ AreLawfulInHand (hand_at Half 0 1280) (table 1 1 (start_above 0) mark_node 0)
   pub cost_below_the_edge :
       ¬ AreLawfulInHand (hand_at Half 0 1279) (table 1 1 (start_above 0) (node_by (point_word (at 8 9)) 0 0 (tree_word 0 1279)) 0)
   pub cost_above_the_edge :
       ¬ AreLawfulInHand (hand_at Half 0 1281) (table 1 1 (start_above 0) (node_by (point_word (at 8 9)) 0 0 (tree_word 0 1281)) 0)
-  pub below_itself :
-      ¬ AreLawfulInHand (hand_at Half 1 1280) (table 1 1 (start_above 0) (node_by (point_word (at 8 9)) 0 0 (tree_word 1 1280)) 0)
+  pub below_itself : ¬ AreLawfulInHand (hand_at Half 1 1280) (table 1 1 (start_above 0) (node_by (point_word (at 8 9)) 0 0 (tree_word 1 1280)) 0)
   -- parents and costs
   pub start_costs : ¬ AreLawfulWords (table 1 1 (node_by (point_word (at 5 5)) 0 (tree_word 0 5) (tree_word 0 0)) no_node 0)
   pub start_below_another : ¬ AreLawfulWords (table 1 1 (node_by (point_word (at 5 5)) 0 (tree_word 1 0) (tree_word 0 0)) no_node 0)
   pub other_bit_set : ¬ AreLawfulWords (table 1 1 (node_by (point_word (at 5 5)) 0 (tree_word 0 0 + 2 ^ 62) (tree_word 0 0)) no_node 0)
   pub no_first_word_of_start : ¬ AreLawfulWords (table 1 1 (node_by (point_word (at 5 5)) 0 (tree_word 0 0) 0) no_node 0)
-  pub costs_less_than_its_edge :
-      ¬ AreLawfulInHand (hand_at Linked 0 1280)
+  pub costs_less_than_its_edge : ¬ AreLawfulInHand (hand_at Linked 0 1280)
       (table 1 1 (start_above 1) (node_by (point_word (at 8 9)) 0 (tree_word 0 1279) (tree_word 0 1280)) 0)
-  pub costs_more_than_at_first :
-      ¬ AreLawfulInHand (hand_at Linked 0 1280)
+  pub costs_more_than_at_first : ¬ AreLawfulInHand (hand_at Linked 0 1280)
       (table 1 1 (start_above 1) (node_by (point_word (at 8 9)) 0 (tree_word 0 1281) (tree_word 0 1280)) 0)
   -- turns and shares
   pub turn_ahead : ¬ AreLawful claimed_table claimer (view_with (worker_at 1 1) 0 None claimed_table never [])
@@ -226,8 +209,7 @@ pub record UnlawfulWorldVectors : Type 0 where
   pub worker_of_no_run : ¬ AreLawful claimed_table claimer (view_with (worker_at 2 0) 0 None claimed_table never [])
   pub share_lost : ¬ AreLawful claimed_table claimer (view_with [] 0 None claimed_table never [])
   pub share_too_many : ¬ AreLawful claimed_table claimer (view_with (worker_at 1 0 ++ worker_at 2 0) 0 None claimed_table never [])
-  pub hand_without_share :
-      ¬ AreLawful claimed_table (view_with [] 1 (Some (new_hand 0)) claimed_table never [])
+  pub hand_without_share : ¬ AreLawful claimed_table (view_with [] 1 (Some (new_hand 0)) claimed_table never [])
       (view_with (worker_at 0 0 ++ worker_at 1 0) 1 None claimed_table never [])
   -- what was seen
   pub saw_a_greater_count : ¬ AreLawful claimed_table claimer (idle (table 2 1 (start_above 0) no_node 0))
@@ -245,20 +227,17 @@ pub record UnlawfulWorldVectors : Type 0 where
   pub found_empty_when_filled :
       ¬ AreLawful linked_table (view_with (worker_at 0 0) 1 (Some (hand_at Linked 0 1280)) linked_table never (filled_at (3 ∷ 2 ∷ [])))
       (view_with (worker_at 1 0) 0 None linked_table (found_right 3) [])
-  pub noted_too_many_steps :
-      ¬ AreLawful linked_table (view_with (worker_at 0 0) 1 (Some (hand_at Linked 0 1280)) linked_table never (filled_at (3 ∷ 4 ∷ [])))
-      (idle linked_table)
+  pub noted_too_many_steps : ¬ AreLawful linked_table
+      (view_with (worker_at 0 0) 1 (Some (hand_at Linked 0 1280)) linked_table never (filled_at (3 ∷ 4 ∷ []))) (idle linked_table)
   -- stale looks, and a change that nobody notes
   pub saw_a_stale_counter : ¬ AreLawfulLooks claimed_table (new_hand 0) 2 1 start_table
   pub saw_a_stale_count : ¬ AreLawfulLooks (table 2 1 (start_above 1) mark_node 0) (hand_at Counted 0 1280) 0 2 linked_table
   pub saw_no_child_where_one_was : ¬ AreLawfulLooks linked_table (hand_at Linked 0 1280) 5 1 claimed_table
-  pub saw_a_stale_tree_word :
-      ¬ AreLawfulLooks linked_table (hand_at Linked 0 1280) 11 (tree_word 0 1280)
+  pub saw_a_stale_tree_word : ¬ AreLawfulLooks linked_table (hand_at Linked 0 1280) 11 (tree_word 0 1280)
       (table 1 1 (start_above 1) (node_by (point_word (at 8 9)) 0 (tree_word 0 1281) (tree_word 0 1280)) 0)
   pub saw_a_stale_best : ¬ AreLawfulLooks (linked_with (best_word 1280 1)) (hand_at Linked 0 1280) 1 (best_word 1280 1) linked_table
   pub claim_not_noted : ¬ AreLawful claimed_table claimer (idle start_table)
-  pub recorded_by_no_worker :
-      ¬ AreLawful (recorded_table 2) (view_with (worker_at 0 0) 1 None (recorded_table 2) never []) (idle (recorded_table 2))
+  pub recorded_by_no_worker : ¬ AreLawful (recorded_table 2) (view_with (worker_at 0 0) 1 None (recorded_table 2) never []) (idle (recorded_table 2))
   -- the best word
   pub best_of_no_goal_node : ¬ AreLawfulBests (recorded_with (best_word 0 0)) no_best no_best
   pub best_of_no_node : ¬ AreLawfulTaken (new_hand 0) (table_with (best_word 1280 1) 1 1 (start_above 0) no_node 0) no_best

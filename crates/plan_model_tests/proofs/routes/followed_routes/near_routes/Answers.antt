@@ -1,7 +1,7 @@
 use Rattle.plan_model_tests.proofs.Words.{[], arith, refl, marks_to_rewire, open_setup, at, Clear-empty_room, IsInRoom-from_clear_at, IsNearLink}
 use Rattle.plan_model_tests.proofs.ComputedCosts.{root-is}
 use Rattle.plan_model_tests.proofs.Decisions.{is_at_most, refuted, shown}
-use Rattle.plan_model_tests.specs.RouteExamples.NearRoutes.{narrow_setup}
+use Rattle.plan_model_tests.specs.NarrowRuns.{narrow_setup}
 use Rattle.plan_model_tests.proofs.RouteExamples.OpenRoomLinks.{IsOpenLink-short}
 use Rattle.plan_model_tests.proofs.routes.followed_routes.near_routes.Goals as goal
 
