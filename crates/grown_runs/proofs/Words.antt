@@ -1,6 +1,6 @@
 -- The definitions and lemmas that proofs of this crate are about, passed on from one place. Declares nothing.
-pub use Rattle.grown_runs.specs.ChildChains.{AreChained, AreMembers, HasInChain, IndexesChains, IsIndex, MovesNode, OnlyMoves, front_in, siblings_from, times}
-pub use Rattle.grown_runs.specs.ChildChains.{walk_from}
+pub use Rattle.grown_runs.specs.ChildChains.{AreChained, AreMembers, HasInChain, IndexesChains, IsIndex, MovesNode, OnlyMoves, firsts_of, front_in, nexts_of}
+pub use Rattle.grown_runs.specs.ChildChains.{previouses_of, siblings_from, times, walk_from}
 pub use Rattle.grown_runs.specs.Runs.GrownRuns.{CostsInstead, MayCost, state_of_grown, words_of_grown}
 pub use Rattle.grown_runs.specs.Runs.GrownWords.{HoldRun, IsBlank, IsLinked, IsPointWord, IsTreeWord, IsWritten, child_of_word, children_of_words, cleared}
 pub use Rattle.grown_runs.specs.Runs.GrownWords.{has_node, has_placed, is_child_of, is_linked, node_point, points_of_words, record_at, sizes_of, state_by}
@@ -23,6 +23,7 @@ pub use Rattle.grown_runs.specs.Ways.KdLinks.{AreLinkedBelow, AreUnlinked, Chang
 pub use Rattle.grown_runs.specs.Ways.KdSides.{goes_right_by, is_by_rows, split_distance}
 pub use Rattle.grown_runs.specs.Ways.KdWalks.{StopsAt, side_of}
 pub use Rattle.grown_runs.specs.declared.child_index.ChildIndex.{ChildIndex}
+pub use Rattle.grown_runs.specs.declared.child_index.Links.{Links}
 pub use Rattle.grown_runs.specs.declared.kd_walks.Stop.{Stop}
 pub use Rattle.plan_model.proofs.BestNodeLaws.{IsPresent-goal}
 pub use Rattle.plan_model.proofs.ChainLaws.{node_count-cons}
@@ -84,7 +85,7 @@ pub use Rattle.std.proofs.lemmas.Bool.{and_parts, cases_Bool, cases_eq, cases_lt
 pub use Rattle.std.proofs.lemmas.Bool.{ltb-true, ne_eqb}
 pub use Rattle.std.proofs.lemmas.Bool.Decides.{nat_tests}
 pub use Rattle.std.proofs.lemmas.List.{get_or-replicate, get_or-set_other, get_or-set_same, get_or_default, get_or_past, length-append, length-replicate}
-pub use Rattle.std.proofs.lemmas.List.{length-set}
+pub use Rattle.std.proofs.lemmas.List.{length-map, length-set, map-append, map-set, set-get_or}
 pub use Rattle.std.proofs.lemmas.List.Folds.{list_any_at}
 pub use Rattle.std.proofs.lemmas.List.FromFn.{get_or-map-range_with_len, get_or-range_with_len, length-map-range_with_len, length-range_with_len}
 pub use Rattle.std.proofs.lemmas.List.Sums.{count_by-le-length, sum_by-cons}

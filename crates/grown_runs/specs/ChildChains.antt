@@ -1,5 +1,5 @@
 -- The children of each number, in chains that are linked both ways.
-use Rattle.std.specs.Prelude.{◌≡◌, ◌≢◌, ℕ, zero, suc, ◌+◌, ◌<◌, ◌≤◌, ◌==◌, List, [], ◌∷◌, length, slice_index, count_by}
+use Rattle.std.specs.Prelude.{◌≡◌, ◌≢◌, ℕ, zero, suc, ◌+◌, ◌<◌, ◌≤◌, ◌==◌, List, [], ◌∷◌, length, slice_index, count_by, map}
 use Rattle.std.specs.Vec.{vec_capacity}
 use Rattle.grown_runs.specs.declared.child_index.ChildIndex.{ChildIndex}
 
@@ -34,19 +34,27 @@ pub record IsIndex (nodes : ℕ) (chain : ℕ → ℕ) (first next previous : Li
   pub rank : ℕ → ℕ
   pub chained : AreChained nodes chain (front_in first) (slice_index next) (slice_index previous) rank
 
+-- the first children of all numbers, and the neighbours of each
+abbrev pub firsts_of : ChildIndex → List ℕ
+firsts_of index = map (λ links. links.first) index.links.items
+
+abbrev pub nexts_of : ChildIndex → List ℕ
+nexts_of index = map (λ links. links.next) index.links.items
+
+abbrev pub previouses_of : ChildIndex → List ℕ
+previouses_of index = map (λ links. links.previous) index.links.items
+
 -- the index has so many numbers, in these chains
 abbrev pub IndexesChains : ℕ → (ℕ → ℕ) → ChildIndex → Type 0
-IndexesChains nodes chain index = IsIndex nodes chain index.first.items index.next.items index.previous.items
+IndexesChains nodes chain index = IsIndex nodes chain (firsts_of index) (nexts_of index) (previouses_of index)
 
 -- how many numbers an index has
 abbrev pub size_of : ChildIndex → ℕ
-size_of index = length index.first.items
+size_of index = length (firsts_of index)
 
 -- so many numbers fit the index in the room that it has
-pub record FitsNumbers (index : ChildIndex) (numbers : ℕ) : Type 0 where
-  pub first : numbers ≤ vec_capacity index.first
-  pub next : numbers ≤ vec_capacity index.next
-  pub previous : numbers ≤ vec_capacity index.previous
+abbrev pub FitsNumbers : ChildIndex → ℕ → Type 0
+FitsNumbers index numbers = numbers ≤ vec_capacity index.links
 
 -- one number more fits the index
 pub record FitsOneMore (index : ChildIndex) : Type 0 where
@@ -94,7 +102,7 @@ walk_from (suc most) next (suc n) = suc n ∷ walk_from most next (slice_index n
 
 -- a number and its siblings after it; none for 0
 abbrev pub siblings_from : ChildIndex → ℕ → List ℕ
-siblings_from index n = walk_from (length index.next.items) index.next.items n
+siblings_from index n = walk_from (length (nexts_of index)) (nexts_of index) n
 
 -- how often a number stands in a list
 abbrev pub times : List ℕ → ℕ → ℕ

@@ -1,12 +1,21 @@
 //! An index from each number to its children: first child and next sibling (Knuth, The Art of Computer Programming, volume 1,
 //! section 2.3.2), with the sibling before besides.
 
-ghost use Rattle.std.specs.Prelude.{◌≡◌, ℕ, suc, [], ◌∷◌, ◌<◌, ◌≤◌, IfOk, OnErr, OnOk};
+ghost use Rattle.std.specs.Prelude.{◌≡◌, ℕ, suc, ◌∷◌, ◌<◌, ◌≤◌, IfOk, OnErr, OnOk, slice_set};
 ghost use Rattle.std.specs.Vec.{vec_capacity, vec_len};
 ghost use Rattle.grown_runs.specs.ChildChains.{AreMembers, FitsNumbers, FitsOneMore, HasInChain, HasOneMore, HasSameChains};
-ghost use Rattle.grown_runs.specs.ChildChains.{IndexesChains, KeepsRoom, MovesNode, siblings_from, size_of};
+ghost use Rattle.grown_runs.specs.ChildChains.{IndexesChains, KeepsRoom, MovesNode, firsts_of, nexts_of, previouses_of};
+ghost use Rattle.grown_runs.specs.ChildChains.{siblings_from, size_of};
 
 use std::alloc::{AllocError, Global};
+
+/// The first child of a number, and its neighbours among the children of its parent.
+#[derive(Clone, Copy)]
+struct Links {
+    first: u32,
+    next: u32,
+    previous: u32,
+}
 
 /// The children of each number, as a chain that is linked both ways: per number its first child, and its neighbours among the
 /// children of its parent. 0 is no child, as number 0 is nobody's; so the neighbours of 0 mean nothing, and are written where
@@ -16,9 +25,7 @@ use std::alloc::{AllocError, Global};
 /// A chain has the number of its parent and 1; 0 is that of a number that is nobody's child.
 #[derive(Drop)]
 pub struct ChildIndex {
-    first: Vec<u32>,
-    next: Vec<u32>,
-    previous: Vec<u32>,
+    links: Vec<Links>,
 }
 
 impl ChildIndex {
@@ -32,11 +39,13 @@ impl ChildIndex {
         ensures chains { IfOk result (λ r. IndexesChains 1 (λ n. 0) r) }
         ensures room { IfOk result (λ r. FitsNumbers r room) }
     {
-        Ok(ChildIndex {
-            first: one_number(alloc, room)?,
-            next: one_number(alloc, room)?,
-            previous: one_number(alloc, room)?,
-        })
+        let mut links = Vec::with_capacity(alloc, room)?;
+        links.push_reserved(Links {
+            first: 0,
+            next: 0,
+            previous: 0,
+        });
+        Ok(ChildIndex { links })
     }
 
     /// The same index again, with room for `room` numbers. O(n) for n numbers.
@@ -48,11 +57,9 @@ impl ChildIndex {
         ensures chains { IfOk result (λ r. HasSameChains self.now r) }
         ensures room { IfOk result (λ r. FitsNumbers r room) }
     {
-        Ok(ChildIndex {
-            first: copy_numbers(alloc, self.first.as_slice(), room)?,
-            next: copy_numbers(alloc, self.next.as_slice(), room)?,
-            previous: copy_numbers(alloc, self.previous.as_slice(), room)?,
-        })
+        let mut links = Vec::with_capacity(alloc, room)?;
+        links.extend_from_slice(self.links.as_slice())?;
+        Ok(ChildIndex { links })
     }
 
     /// Adds the next number, which has no child and is nobody's. O(1), amortized over many.
@@ -64,9 +71,7 @@ impl ChildIndex {
         ensures more { OnOk result (HasOneMore self.old self.new) }
         ensures unchanged { OnErr result (HasSameChains self.old self.new) }
     {
-        self.first.reserve(1)?;
-        self.next.reserve(1)?;
-        self.previous.reserve(1)?;
+        self.links.reserve(1)?;
         self.append();
         Ok(())
     }
@@ -101,7 +106,7 @@ impl ChildIndex {
         requires { parent < size_of self.now }
         ensures { (nodes : ℕ) (chain : ℕ → ℕ) → IndexesChains nodes chain self.now → AreMembers chain (suc parent) (siblings_from self.now result) }
     {
-        self.first[parent as usize]
+        self.links[parent as usize].first
     }
 
     /// The next child of the same parent on such a walk; 0 if there is no other. O(1).
@@ -110,20 +115,20 @@ impl ChildIndex {
         requires { (l : ℕ) × (0 < l) × HasInChain self.now node l }
         ensures { siblings_from self.now node ≡ node ∷ siblings_from self.now result }
     {
-        self.next[node as usize]
+        self.links[node as usize].next
     }
 
-    /// Makes each of the lists longer by a number.
+    /// Makes the list longer by a number.
     fn append(&mut self)
-        requires first { vec_len self.old.first < vec_capacity self.old.first }
-        requires next { vec_len self.old.next < vec_capacity self.old.next }
-        requires previous { vec_len self.old.previous < vec_capacity self.old.previous }
+        requires room { vec_len self.old.links < vec_capacity self.old.links }
         ensures more { HasOneMore self.old self.new }
         ensures room { KeepsRoom self.old self.new }
     {
-        self.first.push_reserved(0);
-        self.next.push_reserved(0);
-        self.previous.push_reserved(0);
+        self.links.push_reserved(Links {
+            first: 0,
+            next: 0,
+            previous: 0,
+        });
     }
 
     /// Takes a number out of the chain that it is in, if it is in one.
@@ -135,12 +140,12 @@ impl ChildIndex {
         if from == 0 {
             return;
         }
-        let before = self.previous[node as usize];
-        let after = self.next[node as usize];
-        self.next[before as usize] = after;
-        self.previous[after as usize] = before;
+        let before = self.links[node as usize].previous;
+        let after = self.links[node as usize].next;
+        self.set_next(before, after);
+        self.set_previous(after, before);
         if before == 0 {
-            self.first[from as usize - 1] = after;
+            self.set_first(from - 1, after);
         }
     }
 
@@ -155,32 +160,47 @@ impl ChildIndex {
         if to == 0 {
             return;
         }
-        let parent = to as usize - 1;
-        let front = self.first[parent];
-        self.next[node as usize] = front;
-        self.previous[front as usize] = node;
-        self.previous[node as usize] = 0;
-        self.first[parent] = node;
+        let parent = to - 1;
+        let front = self.links[parent as usize].first;
+        self.set_next(node, front);
+        self.set_previous(front, node);
+        self.set_previous(node, 0);
+        self.set_first(parent, node);
     }
-}
 
-/// A list for number 0 alone, with room for so many numbers.
-fn one_number(alloc: Global, room: usize) -> Result<Vec<u32>, AllocError>
-    requires { 0 < room }
-    ensures items { IfOk result (λ list. list.items ≡ 0 ∷ []) }
-    ensures room { IfOk result (λ list. room ≤ vec_capacity list) }
-{
-    let mut list = Vec::with_capacity(alloc, room)?;
-    list.push_reserved(0);
-    Ok(list)
-}
+    /// Sets the first child of a number.
+    #[tactic(auto, using(crate::proofs::Children::MovedChildren::written_links))]
+    fn set_first(&mut self, node: u32, first: u32)
+        requires { node < size_of self.old }
+        ensures firsts { firsts_of self.new ≡ slice_set (firsts_of self.old) node first }
+        ensures nexts { nexts_of self.new ≡ nexts_of self.old }
+        ensures previouses { previouses_of self.new ≡ previouses_of self.old }
+        ensures room { KeepsRoom self.old self.new }
+    {
+        self.links[node as usize].first = first;
+    }
 
-/// The same list again, with room for so many numbers.
-fn copy_numbers(alloc: Global, numbers: &[u32], room: usize) -> Result<Vec<u32>, AllocError>
-    ensures items { IfOk result (λ list. list.items ≡ numbers.now) }
-    ensures room { IfOk result (λ list. room ≤ vec_capacity list) }
-{
-    let mut list = Vec::with_capacity(alloc, room)?;
-    list.extend_from_slice(numbers)?;
-    Ok(list)
+    /// Sets the next sibling of a number.
+    #[tactic(auto, using(crate::proofs::Children::MovedChildren::written_links))]
+    fn set_next(&mut self, node: u32, next: u32)
+        requires { node < size_of self.old }
+        ensures firsts { firsts_of self.new ≡ firsts_of self.old }
+        ensures nexts { nexts_of self.new ≡ slice_set (nexts_of self.old) node next }
+        ensures previouses { previouses_of self.new ≡ previouses_of self.old }
+        ensures room { KeepsRoom self.old self.new }
+    {
+        self.links[node as usize].next = next;
+    }
+
+    /// Sets the sibling before of a number.
+    #[tactic(auto, using(crate::proofs::Children::MovedChildren::written_links))]
+    fn set_previous(&mut self, node: u32, previous: u32)
+        requires { node < size_of self.old }
+        ensures firsts { firsts_of self.new ≡ firsts_of self.old }
+        ensures nexts { nexts_of self.new ≡ nexts_of self.old }
+        ensures previouses { previouses_of self.new ≡ slice_set (previouses_of self.old) node previous }
+        ensures room { KeepsRoom self.old self.new }
+    {
+        self.links[node as usize].previous = previous;
+    }
 }

@@ -1,7 +1,8 @@
 -- A node goes out of its chain of children, and comes to the front of another.
 use Rattle.grown_runs.proofs.Words.{◌≡◌, ◌≢◌, ℕ, zero, suc, ◌<◌, ◌≤◌, List, [], ◌∷◌, length, refl, sym, ap, ◌∙◌, subst, ⊎_elim, arith, le_refl, ◌==◌, Bool}
 use Rattle.grown_runs.proofs.Words.{cond, slice_index, slice_set, cases_eq, ne_eqb, get_or-set_other, get_or-set_same, length-set, AreChained, HasInChain}
-use Rattle.grown_runs.proofs.Words.{IsIndex, MovesNode, OnlyMoves, front_in, ChildIndex}
+use Rattle.grown_runs.proofs.Words.{IsIndex, MovesNode, OnlyMoves, firsts_of, front_in, get_or, map, map-set, set-get_or}
+use Rattle.grown_runs.proofs.Words.{get_or-map, get_or_default, ChildIndex, Links}
 use Rattle.std.proofs.Common.{eq-eqb}
 
 -- the node c has gone out of its chain
@@ -330,11 +331,23 @@ AreChained-put_in n chain front next previous rank new_chain new_front new_next 
 
 -- ---- the lists
 
+-- what is the same in the links that are written is the same in all
+pub map_set_kept :
+    (f : Links → ℕ) (links : List Links) (i : ℕ) (x d : Links) → f x ≡ f (get_or links i d) → map f (slice_set links i x) ≡ map f links
+map_set_kept f links i x d same =
+    map-set f links i x ∙ ap (slice_set (map f links) i) same ∙ sym (map-set f links i (get_or links i d)) ∙ ap (map f) (set-get_or links i d)
+
 at_set : (items : List ℕ) (i x : ℕ) → i < length items → slice_index (slice_set items i x) i ≡ x
 at_set items i x low = get_or-set_same items i x 0 low
 
 at_else : (items : List ℕ) (i j x : ℕ) → j ≢ i → slice_index (slice_set items i x) j ≡ slice_index items j
 at_else items i j x apart = get_or-set_other items i j x 0 apart
+
+-- a link that was read is the one on its list
+pub read_link : (f : Links → ℕ) (links : List Links) (i : ℕ) (x : Links) → i < length (map f links) → x ≡ get_or links i x → f x ≡ slice_index (map f links) i
+read_link f links i x low read = ap f read ∙ sym (get_or-map f links i x) ∙ get_or_default (map f links) i (f x) 0 low
+
+pub ruleset written_links = (map-set, map_set_kept)
 
 -- the neighbours of a node that is in a chain, and the front of a chain
 pub before_within :
@@ -549,7 +562,7 @@ HasInChain-out node from before between has out = record {
 
 pub length-out :
     (node from : ℕ) (before between : ChildIndex) → HasInChain before node from → MovesNode node from 0 before between
-    → length between.first.items ≡ length before.first.items
+    → length (firsts_of between) ≡ length (firsts_of before)
 length-out node from before between has out =
     (out has.nodes has.chain (without node has.chain) has.chains has.here (without-here node has.chain) (without-else node has.chain)).firsts
     ∙ sym has.chains.firsts

@@ -1,8 +1,8 @@
 -- A walk along a chain of children meets each of them once, and ends.
 use Rattle.grown_runs.proofs.Words.{◌≡◌, ◌≢◌, ◌==◌, ℕ, zero, suc, ◌+◌, ◌<◌, ◌≤◌, true, false, cond, eqb, List, [], ◌∷◌, length, refl, sym, ap, ◌∙◌, subst, inl}
 use Rattle.grown_runs.proofs.Words.{inr, arith, ◌||◌, slice_index, AllByRecursion, IsDistinct, list_any, cases_eq, cases_lt, ne_eqb, sum_by-cons}
-use Rattle.grown_runs.proofs.Words.{length-le_from_distinct_below, AreMembers, HasInChain, IndexesChains, IsIndex, front_in, siblings_from, times, walk_from}
-use Rattle.grown_runs.proofs.Words.{ChildIndex}
+use Rattle.grown_runs.proofs.Words.{length-le_from_distinct_below, AreMembers, HasInChain, IndexesChains, IsIndex, firsts_of, front_in, nexts_of}
+use Rattle.grown_runs.proofs.Words.{ChildIndex, previouses_of, siblings_from, times, walk_from}
 use Rattle.std.proofs.lemmas.Bool.{eq-eqb}
 
 -- ---- how often a number stands in a list
@@ -147,40 +147,40 @@ walk_from-leads (suc most) next n (suc m ∷ rest) leads short =
 
 siblings_from-rest :
     (nodes : ℕ) (chain : ℕ → ℕ) (index : ChildIndex) (n : ℕ) (chains : IndexesChains nodes chain index) → 0 < chain n
-    → (has : HasRest nodes chain index.first.items index.next.items index.previous.items n chains) → siblings_from index n ≡ n ∷ has.rest
+    → (has : HasRest nodes chain (firsts_of index) (nexts_of index) (previouses_of index) n chains) → siblings_from index n ≡ n ∷ has.rest
 siblings_from-rest nodes chain index n chains some has =
-    walk_from-leads (length index.next.items) index.next.items n (n ∷ has.rest) (refl, child, has.leads) (omega (arith, chains.nexts, short))
+    walk_from-leads (length (nexts_of index)) (nexts_of index) n (n ∷ has.rest) (refl, child, has.leads) (omega (arith, chains.nexts, short))
   where
     short : length (n ∷ has.rest) ≤ nodes
-    short = rest-short nodes chain index.first.items index.next.items index.previous.items n chains some has
+    short = rest-short nodes chain (firsts_of index) (nexts_of index) (previouses_of index) n chains some has
 
     child : 0 < n
     child = elim (cases_eq n 0) [ inl e ↦ absurd (omega (arith, ap chain e, chains.chained.none, some)) | inr apart ↦ omega (arith, apart) ]
 
 -- a number comes before its siblings after it
 pub siblings_from-next :
-    (index : ChildIndex) (n l : ℕ) → HasInChain index n l → 0 < l → siblings_from index n ≡ n ∷ siblings_from index (slice_index index.next.items n)
+    (index : ChildIndex) (n l : ℕ) → HasInChain index n l → 0 < l → siblings_from index n ≡ n ∷ siblings_from index (slice_index (nexts_of index) n)
 siblings_from-next index n l has some =
-    let next = index.next.items in
+    let next = nexts_of index in
     let in_chain : 0 < has.chain n = omega (arith, has.here, some) in
-    let rest = rest_of (suc (has.chains.rank n)) has.nodes has.chain index.first.items next index.previous.items n has.chains in_chain (omega arith) in
-    let short = rest-short has.nodes has.chain index.first.items next index.previous.items n has.chains in_chain rest in
+    let rest = rest_of (suc (has.chains.rank n)) has.nodes has.chain (firsts_of index) next (previouses_of index) n has.chains in_chain (omega arith) in
+    let short = rest-short has.nodes has.chain (firsts_of index) next (previouses_of index) n has.chains in_chain rest in
     siblings_from-rest has.nodes has.chain index n has.chains in_chain rest
     ∙ ap (λ after. n ∷ after) (sym (walk_from-leads (length next) next (slice_index next n) rest.rest rest.leads (omega (arith, has.chains.nexts, short))))
 
 -- from the first child of a number these are all its children
 pub AreMembers-first :
     (nodes : ℕ) (chain : ℕ → ℕ) (index : ChildIndex) (parent : ℕ) → IndexesChains nodes chain index
-    → AreMembers chain (suc parent) (siblings_from index (slice_index index.first.items parent))
+    → AreMembers chain (suc parent) (siblings_from index (slice_index (firsts_of index) parent))
 AreMembers-first nodes chain index parent chains =
     elim (cases_eq front 0) [ inl none ↦ subst (λ n. AreMembers chain (suc parent) (siblings_from index n)) (sym none) (childless none) | inr some ↦ all some ]
   where
     front : ℕ
-    front = slice_index index.first.items parent
+    front = slice_index (firsts_of index) parent
 
     top : (m : ℕ) → chain m ≡ suc parent → (0 < front) × (chains.rank m ≤ chains.rank front)
     top m here =
-        subst (λ l. (0 < front_in index.first.items l) × (chains.rank m ≤ chains.rank (front_in index.first.items l))) here
+        subst (λ l. (0 < front_in (firsts_of index) l) × (chains.rank m ≤ chains.rank (front_in (firsts_of index) l))) here
         (chains.chained.top m (omega (arith, here)))
 
     childless : front ≡ 0 → AreMembers chain (suc parent) []
@@ -191,7 +191,7 @@ AreMembers-first nodes chain index parent chains =
         let head : chain front ≡ suc parent = (chains.chained.head (suc parent) (omega (arith, some))).1 in
         let in_chain : 0 < chain front = omega (arith, head) in
         let has =
-        rest_of (suc (chains.rank front)) nodes chain index.first.items index.next.items index.previous.items front chains in_chain (omega arith) in
+        rest_of (suc (chains.rank front)) nodes chain (firsts_of index) (nexts_of index) (previouses_of index) front chains in_chain (omega arith) in
         subst (AreMembers chain (suc parent)) (sym (siblings_from-rest nodes chain index front chains in_chain has))
         (record {
           each = λ m here. has.members.each m (here ∙ sym head) (top m here).1;
@@ -199,14 +199,14 @@ AreMembers-first nodes chain index parent chains =
         })
 
 -- a child stands before its siblings after it
-pub siblings_from-here : (index : ChildIndex) (n : ℕ) → 0 < n → 0 < length index.next.items → 0 < times (siblings_from index n) n
-siblings_from-here index n some room = starts (length index.next.items) n some room
+pub siblings_from-here : (index : ChildIndex) (n : ℕ) → 0 < n → 0 < length (nexts_of index) → 0 < times (siblings_from index n) n
+siblings_from-here index n some room = starts (length (nexts_of index)) n some room
   where
-    starts : (most n : ℕ) → 0 < n → 0 < most → 0 < times (walk_from most index.next.items n) n
+    starts : (most n : ℕ) → 0 < n → 0 < most → 0 < times (walk_from most (nexts_of index) n) n
     starts zero n some room = absurd (omega (arith, room))
     starts (suc most) zero some room = absurd (omega (arith, some))
     starts (suc most) (suc n) some room =
-        omega (arith, times-here (walk_from most index.next.items (slice_index index.next.items (suc n))) (suc n) (suc n) refl)
+        omega (arith, times-here (walk_from most (nexts_of index) (slice_index (nexts_of index) (suc n))) (suc n) (suc n) refl)
 
 -- who stands on the list is of the chain
 pub AreMembers-chain : (chain : ℕ → ℕ) (l : ℕ) (members : List ℕ) (n : ℕ) → AreMembers chain l members → 0 < times members n → chain n ≡ l

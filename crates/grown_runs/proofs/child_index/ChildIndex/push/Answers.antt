@@ -1,5 +1,4 @@
 use Rattle.grown_runs.proofs.child_index.ChildIndex.push.Goals as goal
 
 pub returns-clause-more : goal.returns-clause-more
-returns-clause-more c nodes chain index =
-    c.append.ensures.more nodes chain (rw (c.reserve.ensures.items, c.reserve-2.ensures.items, c.reserve-3.ensures.items) index)
+returns-clause-more c nodes chain index = c.append.ensures.more nodes chain (rw c.reserve.ensures.items index)
