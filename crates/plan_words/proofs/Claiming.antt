@@ -1,11 +1,13 @@
--- The scan of a claim over the views of its pass, and what a claim leaves.
-use Rattle.plan_words.proofs.Words.{◌≡◌, ◌≢◌, ℕ, ◌+◌, ◌-◌, ◌*◌, ◌%◌, ◌<◌, ◌≤◌, Bool, max, true, Option, Some, None, refl, sym, ap, ◌∙◌, subst, inl, inr, arith}
-use Rattle.plan_words.proofs.Words.{◌==◌, cond, MatchOption, IfNone, IfSome, cases_eq, ne_eqb, mod-mul-add, mul-le, sum-le, ChangesOnly, IsCounter, Words}
-use Rattle.plan_words.proofs.Words.{WritesWord, Counter, AllFull, AllLoaded, GoesBefore, IsClaimed, IsFirst, IsOpen, KeepsHand, better_of, is_own, next_mark}
-use Rattle.plan_words.proofs.Words.{BelongsTo, PassState, SharedState, with_view, worker_of, ClaimOrder, Next, IsLater, claimed, last_note, loaded, mark_of}
-use Rattle.plan_words.proofs.Words.{new_hand, last_look, sees, SharedRun, View}
+-- What the loads of a claim leave of a pass, and what a claim leaves.
+use Rattle.plan_words.proofs.Words.{◌≡◌, ◌≢◌, ℕ, ◌+◌, ◌-◌, ◌*◌, ◌%◌, ◌<◌, ◌≤◌, max, true, Option, Some, None, refl, sym, ap, ◌∙◌, subst, inl, inr, arith}
+use Rattle.plan_words.proofs.Words.{◌==◌, cond, IfNone, ne_eqb, mod-mul-add, mul-le, sum-le, ChangesOnly, IsCounter, Words}
+use Rattle.plan_words.proofs.Words.{WritesWord, Counter, AllLoaded, GoesBefore, IsClaimed, IsFirst, IsOpen, KeepsHand, LoadsCounters, next_mark}
+use Rattle.plan_words.proofs.Words.{BelongsTo, GoesOn, HasWholeShare, PassState, SharedState, with_view, worker_of, IsLater, claimed, last_note, loaded}
+use Rattle.plan_words.proofs.Words.{mark_of, new_hand, sees, SharedRun, View}
 use Rattle.std.proofs.lemmas.Bool.{eq-eqb}
-use Rattle.plan_words.proofs.Scanning.{Scanned, Scanned-all, Scanned-more, left_over, sum_less}
+use Rattle.plan_words.proofs.GoingOn.{BelongsTo-later, GoesOn-refl, GoesOn-trans}
+use Rattle.plan_words.proofs.Scanning.{left_over, sum_less}
+use Rattle.plan_words.proofs.WholeClaims.{same_counter, whole_twice}
 
 -- ---- one load of the scan
 
@@ -13,15 +15,8 @@ pub kept_loaded : (old : View) (pass after : PassState) (g x : ℕ) → after �
     → KeepsHand old after.view
 kept_loaded old pass after g x is kept = subst (λ p. KeepsHand old p.view) (sym is) (record { crew = kept.crew; most = kept.most; hand = kept.hand })
 
-pub loaded_more :
-    (n steps : ℕ) (view then : View) → ((g : ℕ) → g < n → steps < last_look view (Counter g))
-    → WritesWord (Counter n) (view.steps + 1) (last_look view) (last_look then) → steps ≤ view.steps → IsLater view then
-    → (g : ℕ) → g < n + 1 → steps < last_look then (Counter g)
-loaded_more n steps view then loaded looked order later g low =
-    elim (cases_eq g n) [
-      | inl e ↦ omega (arith, ap (λ h. last_look then (Counter h)) e, looked.here, order)
-      | inr apart ↦ omega (arith, looked.others (Counter g) (λ e. apart cc), loaded g (omega (arith, low, apart)))
-    ]
+pub KeepsHand-trans : (before mid after : View) → KeepsHand before mid → KeepsHand mid after → KeepsHand before after
+KeepsHand-trans before mid after first then = record { crew = then.crew ∙ first.crew; most = then.most ∙ first.most; hand = then.hand ∙ first.hand }
 
 -- no word but counters is seen anew
 pub counters_twice : (before mid after : Words) → ChangesOnly IsCounter before mid → ChangesOnly IsCounter mid after → ChangesOnly IsCounter before after
@@ -37,37 +32,40 @@ pub view_alone-more : (before mid after : PassState) (view : View) → mid ≡ w
 view_alone-more before mid after view alone is =
     is ∙ ap (λ (p : PassState). with_view p view) alone ∙ ap (with_view before) (sym (ap (λ (p : PassState). p.view) is))
 
--- the best strip so far is one of those gone through
-pub best_strip :
-    (run : SharedRun) (w limit : ℕ) (counters : ℕ → ℕ) (n strips : ℕ) (best : Option Next) → Scanned run w limit counters n best → n < strips
-    → IfSome best (λ b. b.strip < strips)
-best_strip run w limit counters n strips None scanned low = tt
-best_strip run w limit counters n strips (Some b) scanned low = omega (arith, scanned.strip, low)
+-- nothing was loaded yet
+pub LoadsCounters-none : (shared : SharedState) (pass : PassState) → BelongsTo pass shared → LoadsCounters shared pass pass
+LoadsCounters-none shared pass belongs = record {
+  belongs = belongs;
+  goes_on = GoesOn-refl pass.view belongs.lawful;
+  kept = record { crew = refl; most = refl; hand = refl };
+  others = λ name apart. refl;
+  view_alone = refl;
+  whole = λ all name. refl;
+}
 
-pub scan_more :
-    (shared : SharedState) (strips limit n x w : ℕ) (own : Bool) (pass after : PassState) (best : Option Next) {then : Option Next} → BelongsTo pass shared
-    → strips ≡ shared.task.scene.strips → own ≡ is_own pass.view.run w n → after ≡ with_view pass (loaded pass.view (Counter n) x)
-    → WritesWord (Counter n) x (sees pass.view) (sees after.view) → Scanned pass.view.run w limit (λ g. sees pass.view (Counter g)) n best
-    → then ≡ better_of (record { strips = strips; limit = limit }) best (record { strip = n; round = x; own = own })
-    → Scanned after.view.run w limit (λ g. sees after.view (Counter g)) (n + 1) then
-scan_more shared strips limit n x w own pass after best {then} belongs strips_are own_is is seen scanned better =
-    let order : ClaimOrder = record { strips = strips; limit = limit } in
-    let run : SharedRun = pass.view.run in
-    let of_run = ap (λ r. r.strips) belongs.run in
-    let more = Scanned-more order run w limit (record { strips = strips_are ∙ sym of_run; limit_is = refl }) (λ g. sees pass.view (Counter g))
-    (λ g. sees after.view (Counter g)) n x own own_is seen.here (λ h apart. seen.others (Counter h) (λ e. apart cc)) best scanned in
-    subst (λ r. Scanned r w limit (λ g. sees after.view (Counter g)) (n + 1) then) (sym (ap (λ p. p.view.run) is))
-    (subst (Scanned run w limit (λ g. sees after.view (Counter g)) (n + 1)) (sym better) more)
+pub LoadsCounters-one :
+    (shared : SharedState) (pass after : PassState) (g x : ℕ) → BelongsTo pass shared → after ≡ with_view pass (loaded pass.view (Counter g) x)
+    → GoesOn pass.view after.view → WritesWord (Counter g) x (sees pass.view) (sees after.view)
+    → (HasWholeShare pass.view → x ≡ sees pass.view (Counter g)) → LoadsCounters shared pass after
+LoadsCounters-one shared pass after g x belongs is goes_on seen found = record {
+  belongs = BelongsTo-later shared pass after (ap (λ (p : PassState). p.table) is) goes_on belongs;
+  goes_on = goes_on;
+  kept = kept_loaded pass.view pass after g x is (record { crew = refl; most = refl; hand = refl });
+  others = λ name apart. seen.others name (λ e. apart (subst IsCounter (sym e) tt));
+  view_alone = view_alone-more pass pass after (loaded pass.view (Counter g) x) refl is;
+  whole = λ all. same_counter g x (sees pass.view) (sees after.view) seen (found all);
+}
 
--- all strips were gone through
-pub scan_ends :
-    (shared : SharedState) (strips limit n w : ℕ) {pass : PassState} (best : Option Next) → BelongsTo pass shared → strips ≡ shared.task.scene.strips
-    → n ≡ strips
-    → Scanned pass.view.run w limit (λ g. sees pass.view (Counter g)) n best
-    → MatchOption best (AllFull pass.view limit) (λ next. IsOpen pass.view w limit next.strip next.round)
-scan_ends shared strips limit n w {pass} best belongs strips_are all scanned =
-    Scanned-all pass.view w limit best
-    (subst (λ m. Scanned pass.view.run w limit (λ g. sees pass.view (Counter g)) m best) (all ∙ strips_are ∙ sym (ap (λ r. r.strips) belongs.run)) scanned)
+pub LoadsCounters-both : (shared : SharedState) (before mid after : PassState) → LoadsCounters shared before mid → LoadsCounters shared mid after
+    → LoadsCounters shared before after
+LoadsCounters-both shared before mid after first then = record {
+  belongs = then.belongs;
+  goes_on = GoesOn-trans before.view mid.view after.view first.goes_on then.goes_on;
+  kept = KeepsHand-trans before.view mid.view after.view first.kept then.kept;
+  others = counters_twice (sees before.view) (sees mid.view) (sees after.view) first.others then.others;
+  view_alone = view_alone-more before mid after after.view first.view_alone then.view_alone;
+  whole = whole_twice before.view mid.view after.view first.kept first.goes_on.later.run first.whole then.whole;
+}
 
 -- ---- a claim
 
@@ -82,9 +80,6 @@ loaded_since steps view then loaded later order g strip =
 -- and so it is by fewer steps
 pub loaded_before : (steps more : ℕ) (view : View) → AllLoaded view more → steps ≤ more → AllLoaded view steps
 loaded_before steps more view loaded order g strip = omega (arith, loaded g strip, order)
-
-pub KeepsHand-trans : (before mid after : View) → KeepsHand before mid → KeepsHand mid after → KeepsHand before after
-KeepsHand-trans before mid after first then = record { crew = then.crew ∙ first.crew; most = then.most ∙ first.most; hand = then.hand ∙ first.hand }
 
 -- the mark of an open strip is claimed by an exchange that finds its round
 pub IsClaimed-exchanged :

@@ -1,200 +1,243 @@
--- The strips are gone through one by one: of those below a number, the best next mark is known. A claim that fails has seen more.
-use Rattle.plan_words.proofs.Words.{◌≡◌, ◌≢◌, ℕ, zero, suc, ◌+◌, ◌-◌, ◌*◌, ◌<◌, ◌≤◌, Bool, true, false, Option, Some, None, refl, sym, ap, ◌∙◌, subst, inl, inr}
-use Rattle.plan_words.proofs.Words.{arith, nat_lt, cond, MatchOption, range_with_len, sum_by, cases_Bool, cases_eq, cases_lt, le-ltb, lt-ltb, ltb-true}
-use Rattle.plan_words.proofs.Words.{quota_of, IsCutAt-quota, sum-le, sum-more, Counter, AllFull, GoesBefore, IsOpen, better_of, better_open, goes_first, is_own}
-use Rattle.plan_words.proofs.Words.{mark_in, ClaimOrder, Next, mark_of, sees, SharedRun, View}
+-- The least next mark of the strips of a kind, by the counters that a pass loads one after another.
+use Rattle.plan_words.proofs.Words.{◌≡◌, ◌≢◌, ℕ, ◌+◌, ◌-◌, ◌*◌, ◌/◌, ◌%◌, ◌<◌, ◌≤◌, ◌⊎◌, zero, suc, refl, sym, ap, ◌∙◌, subst, inl, inr, arith}
+use Rattle.plan_words.proofs.Words.{cases_eq, cases_lt, min, ne_eqb, range_with_len, sum_by, sum-le, sum-more, true, false, div-add-mod', div-mul-add}
+use Rattle.plan_words.proofs.Words.{mod-mul-add, mod_below, mul-le, WritesWord, Counter, IsCutAt-quota, quota_of, AllFull, AllLoaded, GoesBefore}
+use Rattle.plan_words.proofs.Words.{IsLeastNext, IsOpen, is_own, next_mark, IsLater, last_look, mark_of, sees, View}
+use Rattle.std.proofs.lemmas.Bool.{eq-eqb}
 
--- ---- which goes before
+-- ---- one load after another
 
-pub GoesBefore-trans :
-    (run : SharedRun) (w g k h m i p : ℕ) → GoesBefore run w g k h m → GoesBefore run w h m i p → GoesBefore run w g k i p
-GoesBefore-trans run w g k h m i p (inl first) (inl then) = (let no = sym first.1 ∙ then.0 in cc)
-GoesBefore-trans run w g k h m i p (inl first) (inr then) = inl (first.0, sym then.0 ∙ first.1)
-GoesBefore-trans run w g k h m i p (inr first) (inl then) = inl (first.0 ∙ then.0, then.1)
-GoesBefore-trans run w g k h m i p (inr first) (inr then) = inr (first.0 ∙ then.0, omega (arith, first.1, then.1))
+-- no strip was looked at yet
+pub IsLeastNext-none : (view : View) (kind : ℕ → Type 0) (most least : ℕ) → least ≡ most → ((g : ℕ) → kind g → ⊥) → IsLeastNext view view kind most least
+IsLeastNext-none view kind most least is none = record {
+  loaded = λ g low here. absurd (none g here);
+  apart = λ g other. refl;
+  at_most = omega (arith, is);
+  below = λ g low here. absurd (none g here);
+  held = inl is;
+}
 
--- the order is that of a worker of the run
-pub record IsOrderOf (order : ClaimOrder) (run : SharedRun) (w limit : ℕ) : Type 0 where
-  pub strips : order.strips ≡ run.strips
-  pub limit_is : order.limit ≡ limit
+-- one strip is looked at
+pub IsLeastNext-one :
+    (before after : View) (n x least then : ℕ) → n < after.run.strips → WritesWord (Counter n) x (sees before) (sees after)
+    → WritesWord (Counter n) (before.steps + 1) (last_look before) (last_look after) → then ≡ min least (mark_of after.run n x)
+    → IsLeastNext before after (λ g. g ≡ n) least then
+IsLeastNext-one before after n x least then low seen looked is =
+    let here : next_mark after n ≡ mark_of after.run n x = ap (mark_of after.run n) seen.here in
+    record {
+      loaded = λ g in_run e. omega (arith, ap (λ h. last_look after (Counter h)) e, looked.here);
+      apart = λ g other. seen.others (Counter g) (λ e. other cc);
+      at_most = omega (arith, is);
+      below = λ g in_run e. omega (arith, ap (next_mark after) e, here, is);
+      held = elim (cases_lt (mark_of after.run n x) least) [
+        | inl less ↦ inr (record { strip = n; within = low; here = refl; next = here ∙ omega (arith, is, less) })
+        | inr enough ↦ inl (omega (arith, is, enough))
+      ];
+    }
 
-module _ (order : ClaimOrder) (run : SharedRun) (w limit : ℕ) (of_run : IsOrderOf order run w limit) where
-  mark_is : (next : Next) → mark_in order next ≡ mark_of run next.strip next.round
-  mark_is next = ap (λ s. next.round * s + next.strip) of_run.strips
+-- strips of another kind are looked at next
+pub IsLeastNext-both :
+    (before mid after : View) (P Q R : ℕ → Type 0) (most least then : ℕ) → IsLater before mid → IsLater mid after → IsLeastNext before mid P most least
+    → IsLeastNext mid after Q least then → ((g : ℕ) → g < after.run.strips → R g → P g ⊎ Q g) → ((g : ℕ) → P g → R g) → ((g : ℕ) → Q g → R g)
+    → ((g : ℕ) → P g → Q g → ⊥) → IsLeastNext before after R most then
+IsLeastNext-both before mid after P Q R most least then to_mid to_after first second split of_first of_second apart = record {
+  loaded = λ g low is. elim (split g low is) [
+    | inl p ↦ (elim (to_after.looked (Counter g)) [
+      | inl same ↦ omega (arith, same, first.loaded g (in_mid g low) p)
+      | inr since ↦ omega (arith, since, to_mid.steps)
+    ])
+    | inr q ↦ omega (arith, to_mid.steps, second.loaded g low q)
+  ];
+  apart = λ g other. second.apart g (λ q. other (of_second g q)) ∙ first.apart g (λ p. other (of_first g p));
+  at_most = omega (arith, first.at_most, second.at_most);
+  below = λ g low is. elim (split g low is) [
+    | inl p ↦ omega (arith, first.below g (in_mid g low) p, next_stays g p, second.at_most)
+    | inr q ↦ second.below g low q
+  ];
+  held = elim second.held [
+    | inl same ↦ (elim first.held [
+      | inl none ↦ inl (same ∙ none)
+      | inr held ↦ inr (record {
+        strip = held.strip;
+        within = subst (λ r. held.strip < r.strips) (sym to_after.run) held.within;
+        here = of_first held.strip held.here;
+        next = next_stays held.strip held.here ∙ held.next ∙ sym same;
+      })
+    ])
+    | inr held ↦ inr (record { strip = held.strip; within = held.within; here = of_second held.strip held.here; next = held.next })
+  ];
+}
+  where
+    in_mid : (g : ℕ) → g < after.run.strips → g < mid.run.strips
+    in_mid g low = subst (λ r. g < r.strips) to_after.run low
 
-  -- what the test says
-  pub GoesBefore-first : (one other : Next) → one.own ≡ is_own run w one.strip → other.own ≡ is_own run w other.strip
-      → goes_first order one other ≡ true
-      → GoesBefore run w one.strip (mark_of run one.strip one.round) other.strip (mark_of run other.strip other.round)
-  GoesBefore-first one other one_is other_is e = by_test one.own refl other.own refl e
-    where
-      by_test :
-          (a : Bool) → one.own ≡ a → (b : Bool) → other.own ≡ b
-          → cond a (cond b (nat_lt (mark_in order one) (mark_in order other)) true)
-          (cond b false (nat_lt (mark_in order one) (mark_in order other))) ≡ true
-          → GoesBefore run w one.strip (mark_of run one.strip one.round) other.strip (mark_of run other.strip other.round)
-      by_test true p true q h =
-          inr (
-            sym one_is ∙ p ∙ sym q ∙ other_is,
-            omega (arith, ltb-true (mark_in order one) (mark_in order other) h, mark_is one, mark_is other),
-          )
-      by_test true p false q h = inl (sym one_is ∙ p, sym other_is ∙ q)
-      by_test false p true q h = cc
-      by_test false p false q h =
-          inr (
-            sym one_is ∙ p ∙ sym q ∙ other_is,
-            omega (arith, ltb-true (mark_in order one) (mark_in order other) h, mark_is one, mark_is other),
-          )
+    next_stays : (g : ℕ) → P g → next_mark after g ≡ next_mark mid g
+    next_stays g p = ap (λ r. mark_of r g (sees after (Counter g))) to_after.run ∙ ap (mark_of mid.run g) (second.apart g (apart g p))
 
-  pub GoesBefore-other : (one other : Next) → one.own ≡ is_own run w one.strip → other.own ≡ is_own run w other.strip
-      → goes_first order one other ≡ false
-      → GoesBefore run w other.strip (mark_of run other.strip other.round) one.strip (mark_of run one.strip one.round)
-  GoesBefore-other one other one_is other_is e = by_test one.own refl other.own refl e
-    where
-      not_less : nat_lt (mark_in order one) (mark_in order other) ≡ false → mark_of run other.strip other.round ≤ mark_of run one.strip one.round
-      not_less h = elim (cases_lt (mark_in order one) (mark_in order other)) [
-        | inl less ↦ (let yes = sym (lt-ltb (mark_in order one) (mark_in order other) less) ∙ h in cc)
-        | inr enough ↦ omega (arith, enough, mark_is one, mark_is other)
-      ]
+-- the same strips, told in another way
+pub IsLeastNext-same : (before after : View) (P Q : ℕ → Type 0) (most least : ℕ) → IsLeastNext before after P most least
+    → ((g : ℕ) → g < after.run.strips → Q g → P g) → ((g : ℕ) → P g → Q g) → IsLeastNext before after Q most least
+IsLeastNext-same before after P Q most least scanned to from = record {
+  loaded = λ g low is. scanned.loaded g low (to g low is);
+  apart = λ g other. scanned.apart g (λ p. other (from g p));
+  at_most = scanned.at_most;
+  below = λ g low is. scanned.below g low (to g low is);
+  held = elim scanned.held [
+    | inl none ↦ inl none
+    | inr held ↦ inr (record { strip = held.strip; within = held.within; here = from held.strip held.here; next = held.next })
+  ];
+}
 
-      by_test :
-          (a : Bool) → one.own ≡ a → (b : Bool) → other.own ≡ b
-          → cond a (cond b (nat_lt (mark_in order one) (mark_in order other)) true)
-          (cond b false (nat_lt (mark_in order one) (mark_in order other))) ≡ false
-          → GoesBefore run w other.strip (mark_of run other.strip other.round) one.strip (mark_of run one.strip one.round)
-      by_test true p true q h = inr (sym other_is ∙ q ∙ sym p ∙ one_is, not_less h)
-      by_test true p false q h = cc
-      by_test false p true q h = inl (sym other_is ∙ q, sym one_is ∙ p)
-      by_test false p false q h = inr (sym other_is ∙ q ∙ sym p ∙ one_is, not_less h)
+-- ---- the strips of one worker, each so many after the last
 
--- ---- the scan, by the counters seen
+mod_most : (n w : ℕ) → n % w ≤ n
+mod_most n w = omega (arith, div-add-mod' n w)
 
--- the next mark of strip h by these counters
-abbrev pub next_by : SharedRun → (ℕ → ℕ) → ℕ → ℕ
-next_by run counters h = mark_of run h (counters h)
+pub none_before : (owner w g : ℕ) → owner < w → g < owner → g % w ≢ owner
+none_before owner w g low under is = omega (arith, mod_most g w, is, under)
 
--- of the strips below n, this next mark goes first
-pub record IsBest (run : SharedRun) (w limit : ℕ) (counters : ℕ → ℕ) (n : ℕ) (b : Next) : Type 0 where
-  pub strip : b.strip < n
-  pub round : b.round ≡ counters b.strip
-  pub own : b.own ≡ is_own run w b.strip
-  pub low : mark_of run b.strip b.round < limit
-  pub first : (h : ℕ) → h < n → next_by run counters h < limit → GoesBefore run w b.strip (mark_of run b.strip b.round) h (next_by run counters h)
+pub own_turn : (owner w : ℕ) → owner < w → owner % w ≡ owner
+own_turn owner w low =
+    let same : owner ≡ 0 * w + owner = omega arith in
+    ap (λ n. n % w) same ∙ mod-mul-add 0 w owner low
 
--- none of the strips below n has a next mark below the limit
-abbrev pub NoneOpen : SharedRun → ℕ → (ℕ → ℕ) → ℕ → Type 0
-NoneOpen run limit counters n = (h : ℕ) → h < n → limit ≤ next_by run counters h
+pub turn_stays : (strip w owner : ℕ) → 0 < w → strip % w ≡ owner → (strip + w) % w ≡ owner
+turn_stays strip w owner some is =
+    let more : strip + w ≡ (strip / w + 1) * w + strip % w = omega (arith, div-add-mod' strip w) in
+    ap (λ n. n % w) more ∙ mod-mul-add (strip / w + 1) w (strip % w) (mod_below strip w some) ∙ is
 
-abbrev pub Scanned : SharedRun → ℕ → ℕ → (ℕ → ℕ) → ℕ → Option Next → Type 0
-Scanned run w limit counters n best = MatchOption best (NoneOpen run limit counters n) (IsBest run w limit counters n)
-
-module _ (order : ClaimOrder) (run : SharedRun) (w limit : ℕ) (of_run : IsOrderOf order run w limit) (before after : ℕ → ℕ) (n round : ℕ)
-    (own : Bool) (own_is : own ≡ is_own run w n) (here : after n ≡ round) (others : (h : ℕ) → h ≢ n → after h ≡ before h) where
-  abbrev next : Next
-  next = record { strip = n; round = round; own = own }
-
-  next_here : next_by run after n ≡ mark_of run n round
-  next_here = ap (mark_of run n) here
-
-  next_other : (h : ℕ) → h < n → next_by run after h ≡ next_by run before h
-  next_other h low = ap (mark_of run h) (others h (λ e. omega (arith, low, e)))
-
-  -- a best strip below n stays the best, where strip n has none better
-  still_best :
-      (b : Next) → IsBest run w limit before n b
-      → (next_by run after n < limit → GoesBefore run w b.strip (mark_of run b.strip b.round) n (next_by run after n)) → IsBest run w limit after (n + 1) b
-  still_best b best over = record {
-    strip = omega (arith, best.strip);
-    round = best.round ∙ sym (others b.strip (λ e. omega (arith, best.strip, e)));
-    own = best.own;
-    low = best.low;
-    first = λ h low open_h.
-        elim (cases_eq h n) [
-          | inl e ↦
-              subst (λ g. GoesBefore run w b.strip (mark_of run b.strip b.round) g (next_by run after g)) (sym e)
-              (over (subst (λ g. next_by run after g < limit) e open_h))
-          | inr apart ↦ (
-              let below : h < n = omega (arith, low, apart) in
-              let same = next_other h below in
-              subst (λ m. GoesBefore run w b.strip (mark_of run b.strip b.round) h m) (sym same) (best.first h below (omega (arith, open_h, same))))
-        ];
-  }
-
-  -- strip n is the best, where it goes before all that are open below
-  new_best :
-      mark_of run n round < limit
-      → ((h : ℕ) → h < n → next_by run before h < limit → GoesBefore run w n (mark_of run n round) h (next_by run before h))
-      → IsBest run w limit after (n + 1) next
-  new_best low over = record {
-    strip = omega arith;
-    round = sym here;
-    own = own_is;
-    low = low;
-    first = λ h below open_h.
-        elim (cases_eq h n) [
-          | inl e ↦
-              subst (λ g. GoesBefore run w n (mark_of run n round) g (next_by run after g)) (sym e)
-              (inr (refl, omega (arith, next_here)))
-          | inr apart ↦ (
-              let under : h < n = omega (arith, below, apart) in
-              let same = next_other h under in
-              subst (λ m. GoesBefore run w n (mark_of run n round) h m) (sym same) (over h under (omega (arith, open_h, same))))
-        ];
-  }
-
-  none_open : NoneOpen run limit before n → limit ≤ mark_of run n round → NoneOpen run limit after (n + 1)
-  none_open none high h low =
-      elim (cases_eq h n) [
-        | inl e ↦ subst (λ g. limit ≤ next_by run after g) (sym e) (omega (arith, next_here, high))
-        | inr apart ↦ omega (arith, next_other h (omega (arith, low, apart)), none h (omega (arith, low, apart)))
-      ]
-
-  pub Scanned-more : (best : Option Next) → Scanned run w limit before n best → Scanned run w limit after (n + 1) (better_of order best next)
-  Scanned-more best scanned =
-      let mark : mark_in order next ≡ mark_of run n round = ap (λ s. round * s + n) of_run.strips in
-      elim (cases_lt (mark_of run n round) limit) [
-        | inl low ↦ (
-            let test : nat_lt (mark_in order next) order.limit ≡ true =
-            lt-ltb (mark_in order next) order.limit (omega (arith, low, mark, of_run.limit_is)) in
-            subst (Scanned run w limit after (n + 1)) (sym (ap (λ b. cond b (better_open order best next) best) test)) (open_more best scanned low))
-        | inr high ↦ (
-            let test : nat_lt (mark_in order next) order.limit ≡ false =
-            le-ltb (mark_in order next) order.limit (omega (arith, high, mark, of_run.limit_is)) in
-            subst (Scanned run w limit after (n + 1)) (sym (ap (λ b. cond b (better_open order best next) best) test)) (full_more best scanned high))
-      ]
-    where
-      full_more : (b : Option Next) → Scanned run w limit before n b → limit ≤ mark_of run n round → Scanned run w limit after (n + 1) b
-      full_more None none high = none_open none high
-      full_more (Some b) best high = still_best b best (λ open_n. absurd (omega (arith, next_here, high, open_n)))
-
-      open_more : (b : Option Next) → Scanned run w limit before n b → mark_of run n round < limit
-          → Scanned run w limit after (n + 1) (better_open order b next)
-      open_more None none low = new_best low (λ h below open_h. absurd (omega (arith, none h below, open_h)))
-      open_more (Some b) best low =
-          elim (cases_Bool (goes_first order next b)) [
-            | inl e ↦ (
-                let over = GoesBefore-first order run w limit of_run next b own_is best.own e in
-                subst (Scanned run w limit after (n + 1)) (sym (ap (λ t. cond t (Some next) (Some b)) e))
-                (new_best low (λ h below open_h. GoesBefore-trans run w n (mark_of run n round) b.strip (mark_of run b.strip b.round) h
-                (next_by run before h) over (best.first h below open_h))))
-            | inr e ↦ (
-                let under = GoesBefore-other order run w limit of_run next b own_is best.own e in
-                subst (Scanned run w limit after (n + 1)) (sym (ap (λ t. cond t (Some next) (Some b)) e))
-                (still_best b best (λ open_n. subst (λ m. GoesBefore run w b.strip (mark_of run b.strip b.round) n m) (sym next_here) under)))
-          ]
-
--- all strips were gone through
-pub Scanned-all :
-    (view : View) (w limit : ℕ) (best : Option Next) → Scanned view.run w limit (λ g. sees view (Counter g)) view.run.strips best
-    → MatchOption best (AllFull view limit) (λ next. IsOpen view w limit next.strip next.round)
-Scanned-all view w limit None none = λ g strip.
-    let cut = IsCutAt-quota view.run.strips g limit strip in
-    elim (cases_lt (sees view (Counter g)) (quota_of view.run.strips g limit)) [
-      | inl less ↦ absurd (omega (arith, cut.below_limit (sees view (Counter g)) less, none g strip))
-      | inr enough ↦ enough
+pub next_turn : (g strip w owner : ℕ) → strip % w ≡ owner → g % w ≡ owner → g < strip + w → (g < strip) ⊎ (g ≡ strip)
+next_turn g strip w owner strip_is g_is below =
+    let of_g = div-add-mod' g w in
+    let of_strip = div-add-mod' strip w in
+    elim (cases_lt (strip / w) (g / w)) [
+      | inl less ↦ (
+          let rows = mul-le (strip / w + 1) w (g / w) w (omega (arith, less)) (omega arith) in
+          absurd (omega (arith, rows, of_g, of_strip, strip_is, g_is, below)))
+      | inr enough ↦ (
+          let rows = mul-le (g / w) w (strip / w) w enough (omega arith) in
+          elim (cases_eq g strip) [
+            | inl e ↦ inr e
+            | inr other ↦ inl (omega (arith, rows, of_g, of_strip, strip_is, g_is, other))
+          ])
     ]
-Scanned-all view w limit (Some b) best =
-    record { strip = best.strip; round = best.round; low = best.low; first = λ h strip apart open_h. best.first h strip open_h }
+
+-- one strip more of the same worker
+pub IsLeastNext-turn :
+    (before mid after : View) (n x w owner most least then : ℕ) → IsLater before mid → IsLater mid after → 0 < w → n % w ≡ owner → n < after.run.strips
+    → WritesWord (Counter n) x (sees mid) (sees after) → WritesWord (Counter n) (mid.steps + 1) (last_look mid) (last_look after)
+    → then ≡ min least (mark_of after.run n x) → IsLeastNext before mid (λ g. (g < n) × (g % w ≡ owner)) most least
+    → IsLeastNext before after (λ g. (g < n + w) × (g % w ≡ owner)) most then
+IsLeastNext-turn before mid after n x w owner most least then to_mid to_after some turn low seen looked is scanned =
+    IsLeastNext-both before mid after (λ g. (g < n) × (g % w ≡ owner)) (λ g. g ≡ n) (λ g. (g < n + w) × (g % w ≡ owner)) most least then to_mid to_after
+    scanned (IsLeastNext-one mid after n x least then low seen looked is)
+    (λ g in_run here. elim (next_turn g n w owner turn here.1 here.0) [ inl less ↦ inl (less, here.1) | inr e ↦ inr e ])
+    (λ g here. (omega (arith, here.0), here.1)) (λ g e. (omega (arith, e, some), ap (λ k. k % w) e ∙ turn)) (λ g here e. omega (arith, here.0, e))
+
+-- ---- the other workers, one after another
+
+pub IsLeastNext-owner :
+    (before mid after : View) (w n worker most least then : ℕ) → IsLater before mid → IsLater mid after → n ≢ worker
+    → IsLeastNext before mid (λ g. (g % w < n) × (g % w ≢ worker)) most least → IsLeastNext mid after (λ g. g % w ≡ n) least then
+    → IsLeastNext before after (λ g. (g % w < n + 1) × (g % w ≢ worker)) most then
+IsLeastNext-owner before mid after w n worker most least then to_mid to_after other first second =
+    IsLeastNext-both before mid after (λ g. (g % w < n) × (g % w ≢ worker)) (λ g. g % w ≡ n) (λ g. (g % w < n + 1) × (g % w ≢ worker)) most least then
+    to_mid to_after first second
+    (λ g low here. elim (cases_eq (g % w) n) [ inl e ↦ inr e | inr apart ↦ inl (omega (arith, here.0, apart), here.1) ])
+    (λ g here. (omega (arith, here.0), here.1)) (λ g e. (omega (arith, e), λ own. other (sym e ∙ own))) (λ g here e. omega (arith, here.0, e))
+
+-- its own strips are looked at already
+pub IsLeastNext-own :
+    (before after : View) (w n worker most least : ℕ) → n ≡ worker → IsLeastNext before after (λ g. (g % w < n) × (g % w ≢ worker)) most least
+    → IsLeastNext before after (λ g. (g % w < n + 1) × (g % w ≢ worker)) most least
+IsLeastNext-own before after w n worker most least own scanned =
+    IsLeastNext-same before after (λ g. (g % w < n) × (g % w ≢ worker)) (λ g. (g % w < n + 1) × (g % w ≢ worker)) most least scanned
+    (λ g low here. (omega (arith, here.0, here.1, own), here.1)) (λ g here. (omega (arith, here.0), here.1))
+
+-- ---- the mark that goes first
+
+-- Of the worker's own strips and of the others the least next marks are known.
+module _ (before mid after : View) (n w limit own other : ℕ) (n_is : after.run.workers ≡ n) (to_mid : IsLater before mid) (to_after : IsLater mid after)
+    (of_own : IsLeastNext before mid (λ g. g % n ≡ w) limit own)
+    (of_others : IsLeastNext mid after (λ g. g % n ≢ w) limit other) where
+  in_mid : (g : ℕ) → g < after.run.strips → g < mid.run.strips
+  in_mid g low = subst (λ r. g < r.strips) to_after.run low
+
+  own_is : (g : ℕ) → g % n ≡ w → is_own after.run w g ≡ true
+  own_is g is = eq-eqb (g % after.run.workers) w (ap (λ m. g % m) n_is ∙ is)
+
+  other_is : (g : ℕ) → g % n ≢ w → is_own after.run w g ≡ false
+  other_is g not = ne_eqb (g % after.run.workers) w (λ is. not (ap (λ m. g % m) (sym n_is) ∙ is))
+
+  own_stays : (g : ℕ) → g % n ≡ w → next_mark after g ≡ next_mark mid g
+  own_stays g is =
+      ap (λ r. mark_of r g (sees after (Counter g))) to_after.run ∙ ap (mark_of mid.run g) (of_others.apart g (λ apart. apart is))
+
+  pub AllLoaded-both : AllLoaded after before.steps
+  AllLoaded-both g low =
+      elim (cases_eq (g % n) w) [
+        | inl is ↦ (elim (to_after.looked (Counter g)) [
+          | inl same ↦ omega (arith, same, of_own.loaded g (in_mid g low) is)
+          | inr since ↦ omega (arith, since, to_mid.steps)
+        ])
+        | inr not ↦ omega (arith, to_mid.steps, of_others.loaded g low not)
+      ]
+
+  pub AllFull-both : limit ≤ own → limit ≤ other → AllFull after limit
+  AllFull-both own_full other_full g low =
+      let cut = IsCutAt-quota after.run.strips g limit low in
+      let past : limit ≤ next_mark after g = elim (cases_eq (g % n) w) [
+        | inl is ↦ omega (arith, own_stays g is, of_own.below g (in_mid g low) is, own_full)
+        | inr not ↦ omega (arith, of_others.below g low not, other_full)
+      ] in
+      elim (cases_lt (sees after (Counter g)) (quota_of after.run.strips g limit)) [
+        | inl less ↦ absurd (omega (arith, cut.below_limit (sees after (Counter g)) less, past))
+        | inr enough ↦ enough
+      ]
+
+  -- a next mark of strip g is told by its strip and its round
+  open_at : (g first : ℕ) → g < after.run.strips → next_mark after g ≡ first → first < limit
+      → ((h : ℕ) → h < after.run.strips → h ≢ g → next_mark after h < limit → GoesBefore after.run w g first h (next_mark after h))
+      → IsOpen after w limit (first % after.run.strips) (first / after.run.strips)
+  open_at g first low is below goes =
+      let c : ℕ = sees after (Counter g) in
+      let strip : first % after.run.strips ≡ g = ap (λ n. n % after.run.strips) (sym is) ∙ mod-mul-add c after.run.strips g low in
+      let round : first / after.run.strips ≡ c = ap (λ n. n / after.run.strips) (sym is) ∙ div-mul-add c after.run.strips g low in
+      subst (λ s. IsOpen after w limit s (first / after.run.strips)) (sym strip) (subst (IsOpen after w limit g) (sym round) (record {
+        strip = low;
+        round = refl;
+        low = omega (arith, is, below);
+        first = λ h in_run apart open_h. subst (λ k. GoesBefore after.run w g k h (next_mark after h)) (sym is) (goes h in_run apart open_h);
+      }))
+
+  pub IsOpen-own : own < limit → IsOpen after w limit (own % after.run.strips) (own / after.run.strips)
+  IsOpen-own below =
+      elim of_own.held [
+        | inl none ↦ absurd (omega (arith, none, below))
+        | inr held ↦ open_at held.strip own (subst (λ r. held.strip < r.strips) (sym to_after.run) held.within)
+            (own_stays held.strip held.here ∙ held.next) below
+            (λ h low apart open_h. elim (cases_eq (h % n) w) [
+              | inl is ↦ inr (
+                own_is held.strip held.here ∙ sym (own_is h is),
+                omega (arith, own_stays h is, of_own.below h (in_mid h low) is),
+              )
+              | inr not ↦ inl (own_is held.strip held.here, other_is h not)
+            ])
+      ]
+
+  pub IsOpen-other : limit ≤ own → other < limit → IsOpen after w limit (other % after.run.strips) (other / after.run.strips)
+  IsOpen-other full below =
+      elim of_others.held [
+        | inl none ↦ absurd (omega (arith, none, below))
+        | inr held ↦ open_at held.strip other held.within held.next below
+            (λ h low apart open_h. elim (cases_eq (h % n) w) [
+              | inl is ↦ absurd (omega (arith, own_stays h is, of_own.below h (in_mid h low) is, full, open_h))
+              | inr not ↦ inr (
+                other_is held.strip held.here ∙ sym (other_is h not),
+                of_others.below h low not,
+              )
+            ])
+      ]
 
 -- ---- that a claim ends
 

@@ -22,8 +22,8 @@ pub use Rattle.grown_runs.specs.declared.run_words.RunWords.{RunWords}
 pub use Rattle.grown_runs.specs.declared.word_places.WordPlaces.{WordPlaces}
 pub use Rattle.plan_model.proofs.ListMembers.{Contains-after, Contains-first}
 pub use Rattle.plan_words.specs.Bests.{FindsGoalNode, HasPostedGoals, IsOrPosted, KeepsOrPosts, LooksAndPosts, OnlyPosts, SeesBestSince}
-pub use Rattle.plan_words.specs.Claims.{AllFull, AllLoaded, GoesBefore, HasNoneLeft, IsClaimed, IsFirst, IsLeastOpen, IsOpen, KeepsHand, OwnsAllStrips}
-pub use Rattle.plan_words.specs.Claims.{RaisesCounter, SeesAsBefore, better_of, better_open, goes_first, is_own, mark_in, next_mark}
+pub use Rattle.plan_words.specs.Claims.{AllFull, AllLoaded, GoesBefore, HasNoneLeft, IsClaimed, IsFirst, IsLeastNext, IsLeastOpen, IsNextOf, IsOpen}
+pub use Rattle.plan_words.specs.Claims.{KeepsHand, LoadsCounters, OwnsAllStrips, RaisesCounter, SeesAsBefore, is_own, next_mark}
 pub use Rattle.plan_words.specs.Dealt.{IsPassOf, StandsFor, each_after}
 pub use Rattle.plan_words.specs.LoweredChildren.{CostsAtMostThrough, HasQueued, IsLoweredChild, IsOtherWord, IsSeenAbove, LooksOn, LowersChildren, PostsChanged}
 pub use Rattle.plan_words.specs.LoweredChildren.{SeesSamePoints, SitsAt}
@@ -37,7 +37,6 @@ pub use Rattle.plan_words.specs.States.{BelongsTo, GoesOn, HasFirstPairs, HasPai
 pub use Rattle.plan_words.specs.States.{SharedState, StartsAs, first_member, first_view, new_pass, run_in, run_of_opening, tree_words, turn_of, turned}
 pub use Rattle.plan_words.specs.States.{with_view, without_best, worker_of}
 pub use Rattle.plan_words.specs.Waiting.{AreMarked, HasSeenParent, IsOn, NoneMarked, WaitingState, count_marked, is_marked}
-pub use Rattle.plan_words.specs.declared.claims.ClaimOrder.{ClaimOrder}
 pub use Rattle.plan_words.specs.declared.claims.Next.{Next}
 pub use Rattle.plan_words.specs.declared.lowered_children.Above.{Above}
 pub use Rattle.plan_words.specs.declared.openings.Aim.{Aim}

@@ -1,12 +1,10 @@
 -- Which mark a claim takes, by the counters that the pass has seen.
-use Rattle.std.specs.Prelude.{◌≡◌, ◌≢◌, ℕ, ◌+◌, ◌%◌, ◌<◌, ◌≤◌, ◌⊎◌, ◌==◌, nat_lt, max, Bool, true, false, Option, Some, None, if◌then◌else◌}
-use Rattle.plan_model.specs.Scenes.MarkPoints.{is_claimed, mark_of as mark_by_strips, quota_of, strip_of_mark}
-use Rattle.plan_words.specs.States.{worker_of}
-use Rattle.plan_words.specs.declared.claims.ClaimOrder.{ClaimOrder}
-use Rattle.plan_words.specs.declared.claims.Next.{Next}
+use Rattle.std.specs.Prelude.{◌≡◌, ◌≢◌, ℕ, ◌+◌, ◌%◌, ◌<◌, ◌≤◌, ◌⊎◌, ◌==◌, max, Bool, true, false, Some}
+use Rattle.plan_model.specs.Scenes.MarkPoints.{is_claimed, quota_of, strip_of_mark}
+use Rattle.plan_words.specs.States.{worker_of, BelongsTo, GoesOn, HasWholeShare, PassState, SharedState, with_view}
 use Rattle.step_core.specs.ViewSteps.{mark_of, new_hand}
 use Rattle.step_core.specs.Views.{last_look, sees}
-use Rattle.grown_runs.specs.Table.WordNames.{Word, WritesWord}
+use Rattle.grown_runs.specs.Table.WordNames.{Word, WritesWord, ChangesOnly, IsCounter}
 use Rattle.grown_runs.specs.Table.WordNames.Word.{Counter}
 use Rattle.step_core.specs.Worlds.{counters}
 use Rattle.step_core.specs.declared.views.SharedRun.{SharedRun}
@@ -88,19 +86,26 @@ pub record IsLeastOpen (view : View) (k : ℕ) : Type 0 where
 
 -- ---- how a claim finds it
 
-abbrev pub mark_in : ClaimOrder → Next → ℕ
-mark_in order next = mark_by_strips order.strips next.strip next.round
+-- Counters were loaded, and nothing else was done.
+pub record LoadsCounters (shared : SharedState) (before after : PassState) : Type 0 where
+  pub belongs : BelongsTo after shared
+  pub goes_on : GoesOn before.view after.view
+  pub kept : KeepsHand before.view after.view
+  pub others : ChangesOnly IsCounter (sees before.view) (sees after.view)
+  pub view_alone : after ≡ with_view before after.view
+  pub whole : HasWholeShare before.view → SeesAsBefore before.view after.view
 
--- the one mark goes strictly before the other
-abbrev pub goes_first : ClaimOrder → Next → Next → Bool
-goes_first order one other = if one.own then (if other.own then nat_lt (mark_in order one) (mark_in order other) else true) else
-    (if other.own then false else nat_lt (mark_in order one) (mark_in order other))
+-- This number is the next mark of a strip of this kind.
+pub record IsNextOf (view : View) (kind : ℕ → Type 0) (mark : ℕ) : Type 0 where
+  pub strip : ℕ
+  pub within : strip < view.run.strips
+  pub here : kind strip
+  pub next : next_mark view strip ≡ mark
 
--- the better of the best so far and one below the limit
-abbrev pub better_open : ClaimOrder → Option Next → Next → Option Next
-better_open order None next = Some next
-better_open order (Some first) next = if goes_first order next first then Some next else Some first
-
--- the better of the best so far and one more
-abbrev pub better_of : ClaimOrder → Option Next → Next → Option Next
-better_of order best next = if nat_lt (mark_in order next) order.limit then better_open order best next else best
+-- The counters of the strips of a kind, and of no others, were loaded, and this is the least of their next marks and of one number more.
+pub record IsLeastNext (before after : View) (kind : ℕ → Type 0) (most least : ℕ) : Type 0 where
+  pub loaded : (g : ℕ) → g < after.run.strips → kind g → before.steps < last_look after (Counter g)
+  pub apart : (g : ℕ) → (kind g → ⊥) → sees after (Counter g) ≡ sees before (Counter g)
+  pub at_most : least ≤ most
+  pub below : (g : ℕ) → g < after.run.strips → kind g → least ≤ next_mark after g
+  pub held : (least ≡ most) ⊎ IsNextOf after kind least

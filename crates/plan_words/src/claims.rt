@@ -1,8 +1,8 @@
 //! Claims: the next mark of a strip is put into the hand of one pass.
 
-ghost use Rattle.std.specs.Prelude.{◌≡◌, ℕ, ◌+◌, ◌%◌, ◌<◌, ◌≤◌, ◌==◌, if◌then◌else◌, length, None, IfNone, IfSome, MatchOption};
-ghost use Rattle.plan_words.specs.Claims.{AllFull, AllLoaded, IsClaimed, IsLeastOpen, IsOpen, KeepsHand, OwnsAllStrips, RaisesCounter, SeesAsBefore};
-ghost use Rattle.plan_words.specs.Claims.{better_of, goes_first};
+ghost use Rattle.std.specs.Prelude.{◌≡◌, ◌≢◌, ℕ, ◌+◌, ◌%◌, ◌<◌, ◌≤◌, ◌==◌, if◌then◌else◌, length, None, IfNone, IfSome, MatchOption};
+ghost use Rattle.plan_words.specs.Claims.{AllFull, AllLoaded, IsClaimed, IsLeastNext, IsLeastOpen, IsOpen, KeepsHand, LoadsCounters};
+ghost use Rattle.plan_words.specs.Claims.{OwnsAllStrips, RaisesCounter, SeesAsBefore};
 ghost use Rattle.plan_words.specs.States.{BelongsTo, GoesOn, HasWholeShare, run_in, with_view, worker_of};
 ghost use Rattle.step_core.specs.ViewSteps.{claimed, last_note, loaded, mark_of};
 ghost use Rattle.step_core.specs.Views.{sees, share};
@@ -16,27 +16,19 @@ use crate::shared::Shared;
 use plan_model::{Point, mark_of};
 use step_core::{Hand, Stage};
 
-/// The next mark of a strip: how many of its marks come before it, and whether the strip is one of the worker's own.
+/// The next mark of a strip: how many of its marks come before it.
 #[derive(Clone, Copy)]
 pub(crate) struct Next {
     pub(crate) strip: u32,
     pub(crate) round: u32,
-    pub(crate) own: bool,
-}
-
-/// Which of two next marks a worker takes.
-#[derive(Clone, Copy)]
-pub(crate) struct ClaimOrder {
-    pub(crate) strips: u32,
-    pub(crate) limit: u32,
 }
 
 impl Shared {
     /// Claims a mark below the limit: it is in this pass's hand from now on. By the counters that this call loads, a
     /// worker's own strips go before the others, and among either the least number goes first. Worker w of W owns the
     /// strips whose number leaves w when divided by W. `None` only if this call has seen each strip's counter at or above
-    /// its quota below the limit; the pass then has nothing in hand, as before. O(s) for s strips, and O(s) more for each
-    /// claim of another pass that comes between.
+    /// its quota below the limit; the pass then has nothing in hand, as before. O(s + w) for s strips and w workers, and as
+    /// much more for each claim of another pass that comes between.
     ///
     /// The pass has a share and nothing in hand. The limit is at least that of the opening run, whose marks all have records,
     /// and at most the number of marks.
@@ -72,30 +64,56 @@ impl Shared {
     fn first_open(&self, pass: &mut Pass, limit: u32) -> Option<Next>
         requires belongs { BelongsTo pass.old self.now }
         requires part { 0 < share pass.old.view }
-        ensures belongs { BelongsTo pass.new self.now }
-        ensures kept { KeepsHand pass.old.view pass.new.view }
-        ensures goes_on { GoesOn pass.old.view pass.new.view }
-        ensures others { ChangesOnly IsCounter (sees pass.old.view) (sees pass.new.view) }
-        ensures view_alone { pass.new ≡ with_view pass.old pass.new.view }
+        ensures loads { LoadsCounters self.now pass.old pass.new }
         ensures loaded { AllLoaded pass.new.view pass.old.view.steps }
         ensures first { MatchOption result (AllFull pass.new.view limit)
             (λ next. IsOpen pass.new.view (worker_of pass.old.view.crew) limit next.strip next.round) }
-        ensures whole { HasWholeShare pass.old.view → SeesAsBefore pass.old.view pass.new.view }
     {
-        let order = ClaimOrder {
-            strips: self.task.scene.strips,
-            limit,
-        };
+        let strips = self.task.scene.strips;
         let worker = pass.worker();
-        let mut owner = 0;
-        let mut best = None;
-        for strip in 0..order.strips {
-            let round = self.taken(pass, strip);
-            let own = owner == worker;
-            best = order.better(best, Next { strip, round, own });
-            owner = next_owner(owner, self.workers);
+        let own = self.least_of(pass, worker, limit);
+        let other = self.least_of_others(pass, worker, limit);
+        let first = if own < limit { own } else { other };
+        if first >= limit {
+            return None;
         }
-        best
+        Some(Next {
+            strip: first % strips,
+            round: first / strips,
+        })
+    }
+
+    /// Loads the counters of a worker's own strips, and returns the least of their next marks; or this one, if none is less.
+    fn least_of(&self, pass: &mut Pass, owner: u32, most: u32) -> u32
+        requires belongs { BelongsTo pass.old self.now }
+        requires owner { owner < self.now.workers }
+        ensures loads { LoadsCounters self.now pass.old pass.new }
+        ensures least { IsLeastNext pass.old.view pass.new.view (λ g. g % self.now.workers ≡ owner) most result }
+    {
+        let strips = self.task.scene.strips;
+        let mut least = u64::from(most);
+        let mut strip = owner;
+        'turns: while strip < strips {
+            least = least.min(mark_of(strips, strip, self.taken(pass, strip)));
+            strip += self.workers;
+        }
+        least as u32
+    }
+
+    /// The same for the strips of all other workers.
+    fn least_of_others(&self, pass: &mut Pass, worker: u32, most: u32) -> u32
+        requires belongs { BelongsTo pass.old self.now }
+        requires worker { worker < self.now.workers }
+        ensures loads { LoadsCounters self.now pass.old pass.new }
+        ensures least { IsLeastNext pass.old.view pass.new.view (λ g. g % self.now.workers ≢ worker) most result }
+    {
+        let mut least = most;
+        for owner in 0..self.workers {
+            if owner != worker {
+                least = self.least_of(pass, owner, least);
+            }
+        }
+        least
     }
 
     /// Adds 1 to the counter of a strip if it is at this round, and then the mark is in hand. Returns what the counter was.
@@ -136,62 +154,4 @@ impl Shared {
         }
         found
     }
-}
-
-impl ClaimOrder {
-    ghost use Rattle.plan_model.specs.declared.limits.TheConstants.{MOST_STRIPS};
-    ghost use Rattle.plan_words.specs.Claims.{mark_in};
-
-    /// The better of the best so far and one more.
-    fn better(self, best: Option<Next>, next: Next) -> Option<Next>
-        requires strips { self.strips ≤ MOST_STRIPS }
-        requires strip { next.strip < self.strips }
-        requires best { IfSome best (λ b. b.strip < self.strips) }
-        ensures { result ≡ better_of self best next }
-    {
-        if self.mark(next) >= u64::from(self.limit) {
-            return best;
-        }
-        match best {
-            None => Some(next),
-            Some(first) => {
-                if self.goes_first(next, first) {
-                    Some(next)
-                } else {
-                    Some(first)
-                }
-            }
-        }
-    }
-
-    /// The number of a next mark.
-    fn mark(self, next: Next) -> u64
-        requires strips { self.strips ≤ MOST_STRIPS }
-        requires strip { next.strip < self.strips }
-        ensures { result ≡ mark_in self next }
-    {
-        mark_of(self.strips, next.strip, next.round)
-    }
-
-    /// Whether the one mark goes before the other.
-    fn goes_first(self, one: Next, other: Next) -> bool
-        requires strips { self.strips ≤ MOST_STRIPS }
-        requires strip { one.strip < self.strips }
-        requires strip_too { other.strip < self.strips }
-        ensures { result ≡ goes_first self one other }
-    {
-        match (one.own, other.own) {
-            (true, false) => true,
-            (false, true) => false,
-            _ => self.mark(one) < self.mark(other),
-        }
-    }
-}
-
-/// The worker that owns the next strip: strips are dealt out to the workers in turns.
-fn next_owner(owner: u32, workers: u32) -> u32
-    requires { owner < workers }
-    ensures { result ≡ (owner + 1) % workers }
-{
-    if owner + 1 == workers { 0 } else { owner + 1 }
 }
