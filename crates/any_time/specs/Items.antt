@@ -1,23 +1,9 @@
--- What the items of a session are, however often it is polled.
+-- What the items of a session are, however often it is polled. The items of a session by one worker: the best paths of the textbook's runs.
 use Rattle.std.specs.Prelude.{◌≡◌, ◌<◌, ◌≤◌, ◌*◌, ◌⊎◌, ℕ, List, [], ◌∷◌, All, Option, Some, None, Result, Ok, IfSome, filter, length, nat_le, option_map}
-use Rattle.std.specs.List.{FoldsTo}
-use Rattle.futures.specs.declared.task.Poll.{Poll}
-use Rattle.futures.specs.declared.task.Poll.TheVariants.{Ready}
-use Rattle.plan_model.specs.Runs.ClosedLaw.{IsClosed}
-use Rattle.plan_model.specs.Runs.Textbook.{setup_of}
-use Rattle.plan_model.specs.Trees.BestNode.{IsGoalNode, goals_of}
-use Rattle.plan_model.specs.Trees.TreeStates.{GrowsInto, IsSettled}
-use Rattle.plan_model.specs.declared.errors.Memory.{Memory}
-use Rattle.plan_model.specs.declared.records.Record.{Record}
-use Rattle.plan_model.specs.declared.tasks.Task.{Task}
-use Rattle.plan_work.specs.OneWorker.{IsOfTextbook}
-use Rattle.grown_runs.specs.Runs.GrownRuns.{state_of_grown}
-use Rattle.grown_runs.specs.declared.grown.Grown.{Grown}
-use Rattle.any_time.specs.BestPaths.{Shows, best_sum}
-use Rattle.any_time.specs.Paths.{LeadsIntoGoal}
-use Rattle.any_time.specs.Sessions.{Handles, IsFresh, IsNew, IsOver, Polls, SessionState}
-use Rattle.any_time.specs.declared.betters.Better.{Better}
-use Rattle.any_time.specs.declared.betters.Last.{Last}
+use Rattle.std.specs.Prelude.{Contains, IsSome, take}
+use Rattle.any_time.specs.Terms.{Better, FoldsTo, Grown, GrowsInto, IsClosed, IsGoalNode, IsOfTextbook, IsOfTextbookRun, IsSettled, Last, Memory, Poll, Ready}
+use Rattle.any_time.specs.Terms.{Record, Task, TreeState, best_node, goals_of, path_to, setup_of, state_of_grown, sum_in}
+use Rattle.any_time.specs.Sessions.{Shows, best_sum, LeadsIntoGoal, Handles, IsFresh, IsNew, IsOver, Polls, SessionState}
 
 -- the answers of polls, and the paths among them
 abbrev pub Answers : Type 0
@@ -124,3 +110,29 @@ abbrev pub ItemsFall : Type 0
 ItemsFall = (task : Task) (workers slice : ℕ) (s t : SessionState) (answers : Answers)
     → IsFresh task workers slice s → FoldsTo Polls s answers t → HasGiven task workers slice (betters_among answers) t.run
     × (IsOver t → IfSome t.run (λ run. EndsWith task workers run × MissesNoFall task workers slice (betters_among answers) run))
+
+-- The item is the best path of the textbook's run over the first marks of the task, as many as it says.
+pub record IsTextbookPath (task : Task) (item : Better) : Type 0 where
+  pub state : TreeState
+  pub run : IsOfTextbookRun (setup_of task.scene) (take item.marks task.marks) state
+  pub node : ℕ
+  pub best : best_node (goals_of task.scene) item.marks state ≡ Some node
+  pub path : item.path ≡ path_to state node
+  pub cost : item.cost ≡ sum_in state node
+
+-- It is so after a number of whole slices or all marks, and cheaper than the best path after any lesser such number.
+pub record IsTextbookItem (task : Task) (slice : ℕ) (item : Better) : Type 0 where
+  pub slices : AreSlices slice (length task.marks) item.marks
+  pub best : IsTextbookPath task item
+  pub cheaper : (other : Better) → AreSlices slice (length task.marks) other.marks → other.marks < item.marks → IsTextbookPath task other
+      → item.cost < other.cost
+
+-- these are all such items
+pub record AreTextbookItems (task : Task) (slice : ℕ) (items : List Better) : Type 0 where
+  pub each : All (IsTextbookItem task slice) items
+  pub all : (item : Better) → IsTextbookItem task slice item → Contains items item
+
+-- a session by one worker that is at its end, and has its run, has given just the items of the textbook's runs
+abbrev pub GivesTextbookItems : Type 0
+GivesTextbookItems = (task : Task) (slice : ℕ) (s t : SessionState) (answers : Answers) → IsFresh task 1 slice s → FoldsTo Polls s answers t
+    → IsOver t → IsSome t.run → AreTextbookItems task slice (betters_among answers)

@@ -1,11 +1,5 @@
-pub mod BestPaths
+pub mod Terms
 pub mod Sessions
-pub mod Paths
 pub mod Items
 pub mod Batches
-pub mod BatchItems
-pub mod TextbookItems
 pub mod BetterPaths
-pub mod Gathering
-pub mod BatchGathering
-pub mod BetterReports

@@ -1,20 +1,50 @@
--- What a poll of a session does.
-use Rattle.std.specs.Prelude.{◌≡◌, ◌<◌, ◌≤◌, ◌+◌, ℕ, min, Option, Some, None, Result, Ok, Err, IsSomeAnd, MatchOption, length}
-use Rattle.futures.specs.declared.task.Poll.{Poll}
-use Rattle.futures.specs.declared.task.Poll.TheVariants.{Ready, Pending}
-use Rattle.plan_model.specs.Trees.TreeStates.{GrowsInto, IsSettled}
-use Rattle.plan_model.specs.declared.errors.Memory.{Memory}
-use Rattle.plan_model.specs.declared.records.Record.{Record}
-use Rattle.plan_model.specs.declared.tasks.Task.{Task}
-use Rattle.plan_work.specs.OneWorker.{IsOfTextbook}
-use Rattle.grown_runs.specs.Runs.GrownRuns.{state_of_grown}
-use Rattle.grown_runs.specs.declared.grown.Grown.{Grown}
-use Rattle.any_time.specs.BestPaths.{Shows, best_sum}
-use Rattle.any_time.specs.declared.betters.Better.{Better}
-use Rattle.any_time.specs.declared.betters.Last.{Last}
+-- Paths over the nodes of a run. The best path of a run. What a poll of a session does.
+use Rattle.std.specs.Prelude.{◌≡◌, ◌<◌, ◌≤◌, ◌-◌, ℕ, suc, IsTrue, List, length, Bool, Option, Some, option_map, is_some, ◌+◌, min, None, Result, Ok, Err}
+use Rattle.std.specs.Prelude.{IsSomeAnd, MatchOption}
+use Rattle.any_time.specs.Terms.{Better, Grown, GrowsInto, IsAllowedEdge, IsOfTextbook, IsSettled, Last, Memory, Pending, Point, Poll, Ready, Record}
+use Rattle.any_time.specs.Terms.{StandsAt, Task, best_node, goals_of, length_of_path, lies_in_goals, path_point, path_to, setup_of, state_of_grown, sum_in}
 
--- A session by its run, which is gone after an item `Memory`, the workers that grow it, the marks that a poll handles, and what it
--- keeps of its last item.
+-- The path goes from the first point to the last by edges of a kind, over points of a kind.
+pub record Leads (Edge : Point → Point → Type 0) (Node : Point → Type 0) (first last : Point) (path : List Point) : Type 0 where
+  pub some : 0 < length path
+  pub first_is : path_point path 0 ≡ first
+  pub last_is : path_point path (length path - 1) ≡ last
+  pub edges : (i : ℕ) → suc i < length path → Edge (path_point path i) (path_point path (suc i))
+  pub nodes : (i : ℕ) → i < length path → Node (path_point path i)
+
+-- some node of the run with a number up to this one stands at the point
+abbrev pub IsOfFirstNodes : Grown → ℕ → Point → Type 0
+IsOfFirstNodes run most p = (n : ℕ) × (n ≤ most) × StandsAt (state_of_grown run).points n p
+
+-- The item's path goes from the start into a goal by allowed edges (clear, and no longer than the step), over nodes of the run that the
+-- marks handled then have given; its cost is theirs.
+pub record LeadsIntoGoal (run : Grown) (item : Better) : Type 0 where
+  pub last : Point
+  pub goal : IsTrue (lies_in_goals (goals_of run.task.scene) last)
+  pub leads : Leads (IsAllowedEdge (setup_of run.task.scene)) (IsOfFirstNodes run item.marks) run.task.scene.start last item.path
+  pub cost : item.cost ≡ length_of_path item.path
+
+-- the best node of a run, if a node lies in a goal
+abbrev pub best_of : Grown → Option ℕ
+best_of run = best_node (goals_of run.task.scene) run.limit (state_of_grown run)
+
+-- whether there is one
+abbrev pub has_path : Grown → Bool
+has_path run = is_some (best_of run)
+
+-- its sum
+abbrev pub best_sum : Grown → Option ℕ
+best_sum run = option_map (sum_in (state_of_grown run)) (best_of run)
+
+-- the item is the path to the best node, with its sum, after the marks that the run has handled
+pub record Shows (run : Grown) (item : Better) : Type 0 where
+  pub node : ℕ
+  pub best : best_of run ≡ Some node
+  pub path : item.path ≡ path_to (state_of_grown run) node
+  pub cost : item.cost ≡ sum_in (state_of_grown run) node
+  pub marks : item.marks ≡ run.limit
+
+-- A session by its run, which is gone after an item `Memory`, the workers that grow it, the marks that a poll handles, and what it keeps of its last item.
 pub record SessionState : Type 0 where
   pub run : Option Grown
   pub workers : ℕ

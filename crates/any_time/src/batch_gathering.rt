@@ -1,7 +1,7 @@
 //! Batches that are taken to their end under an executor.
 
 ghost use Rattle.std.specs.Prelude.{◌≡◌, ◌≤◌, ◌<◌, ◌++◌, ◌∷◌, [], ℕ, All, IfOk, IsSome, OnOk, Some, get_or, length, set, slice_index_or};
-ghost use Rattle.any_time.specs.BatchGathering.{AllEmpty, HasFinished};
+ghost use Rattle.any_time.specs.Batches.{AllEmpty, HasFinished};
 ghost use Rattle.any_time.specs.Sessions.{IsFresh, SessionState};
 ghost use Rattle.any_time.specs.declared.batches.TheConstants.{MOST_SESSIONS};
 ghost use Rattle.plan_model.specs.declared.tasks.Task.{Task};
@@ -54,7 +54,7 @@ impl<C: Clearing, R> GatherBatch<C, R> {
 impl<C: Growing + Drop, R: Threads + Sync + Drop> Future for GatherBatch<C, R> {
     ghost use denote.Param.Send.{IsSync};
     ghost use Rattle.std.specs.Prelude.{◌≡◌, IfOk, IfSome, IsSomeAnd, length};
-    ghost use Rattle.any_time.specs.BatchGathering.{GathersBatch};
+    ghost use Rattle.any_time.specs.Batches.{GathersBatch};
 
     type Output = Result<GatheredBatch<C, R>, Memory>;
 

@@ -2,8 +2,8 @@
 
 ghost use Rattle.std.specs.Prelude.{◌≡◌, ◌≤◌, ◌<◌, ◌++◌, All, IfOk, length};
 ghost use Rattle.std.specs.List.{list_all};
-ghost use Rattle.any_time.specs.BestPaths.{has_path};
-ghost use Rattle.any_time.specs.BetterReports as spec;
+ghost use Rattle.any_time.specs.Sessions.{has_path};
+ghost use Rattle.any_time.specs.BetterPaths as spec;
 ghost use Rattle.plan_model.specs.Trees.TreeStates.{IsSettled};
 ghost use Rattle.grown_runs.specs.Runs.GrownRuns.{state_of_grown};
 

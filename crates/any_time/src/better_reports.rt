@@ -1,7 +1,7 @@
 //! The report of a run that was polled for better paths.
 
 ghost use Rattle.std.specs.Prelude.{◌≡◌, ◌++◌, IfOk, OnOk, string_bytes};
-ghost use Rattle.any_time.specs.BetterReports as spec;
+ghost use Rattle.any_time.specs.BetterPaths as spec;
 ghost use Rattle.plan_model.specs.Trees.BestNode.{best_node, goals_of};
 ghost use Rattle.plan_model.specs.Trees.TreeStates.{IsSettled};
 ghost use Rattle.grown_runs.specs.Runs.GrownRuns.{state_of_grown};

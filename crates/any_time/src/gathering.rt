@@ -50,7 +50,7 @@ impl<C: Clearing, R> Gather<C, R> {
 impl<C: Growing + Drop, R: Threads + Sync + Drop> Future for Gather<C, R> {
     ghost use denote.Param.Send.{IsSync};
     ghost use Rattle.std.specs.Prelude.{◌≡◌, IfOk, IfSome, IsSome};
-    ghost use Rattle.any_time.specs.Gathering.{Gathers};
+    ghost use Rattle.any_time.specs.Batches.{Gathers};
 
     type Output = Result<Gathered<C, R>, Memory>;
 

@@ -1,8 +1,7 @@
 //! Laws of sessions and of batches, each the contract of a function that does nothing.
 
-ghost use Rattle.any_time.specs.BatchItems.{BatchItemsFall, EndsWithSessions, FailsByMemory, ItemsAreOfSessions};
-ghost use Rattle.any_time.specs.Items.{ItemsFall};
-ghost use Rattle.any_time.specs.TextbookItems.{GivesTextbookItems};
+ghost use Rattle.any_time.specs.Batches.{BatchItemsFall, EndsWithSessions, FailsByMemory, ItemsAreOfSessions};
+ghost use Rattle.any_time.specs.Items.{ItemsFall, GivesTextbookItems};
 
 /// However often a session is polled: costs of the items strictly fall and their marks strictly rise, and each is the best path of the
 /// settled run after so many marks. Each is a path of the run at any later time too, though parents may have changed since, and the

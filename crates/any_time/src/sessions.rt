@@ -1,8 +1,7 @@
 //! Sessions: runs that grow by a slice of marks a poll.
 
 ghost use Rattle.std.specs.Prelude.{◌≡◌, ◌≤◌, None, IfOk, IfErr, IfSome, IfNone, Some, true};
-ghost use Rattle.any_time.specs.BestPaths.{Shows, best_of, best_sum};
-ghost use Rattle.any_time.specs.Sessions.{HasShown, IsBetter, Looks};
+ghost use Rattle.any_time.specs.Sessions.{Shows, best_of, best_sum, HasShown, IsBetter, Looks};
 ghost use Rattle.futures.specs.Poll.{OnPending};
 ghost use Rattle.futures.specs.Task.{Covers, Keeps};
 ghost use Rattle.plan_work.specs.OneWorker.{IsOfTextbook};

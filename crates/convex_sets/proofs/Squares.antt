@@ -2,7 +2,7 @@
 use Rattle.convex_sets.proofs.Words.{◌≡◌, ◌≢◌, ℕ, zero, suc, ◌*◌, ◌<◌, true, refl, arith, ℤ, pos, neg_ℤ, ◌+ℤ◌, ◌-ℤ◌, ◌*ℤ◌, ◌<ℤ◌, ◌≤ℤ◌, ints, by_lt_z}
 use Rattle.convex_sets.proofs.Words.{Vertex, corner_at, next_corner, is_strictly_convex, orientation, var, plus, minus, times, opposite, same, cross, from_to}
 use Rattle.convex_sets.proofs.Words.{corner, square}
-use Rattle.plan_model.specs.Spaces.Meeting as meeting
+use Rattle.plan_model.specs.Spaces.Zones as meeting
 use Rattle.convex_sets.proofs.ConvexPolygons.{test-from_IsConvex}
 use Rattle.convex_sets.proofs.Corners.{IsWithin}
 use Rattle.convex_sets.proofs.Crosses.{seen_is}

@@ -1,20 +1,16 @@
 -- The definitions and lemmas that proofs of this crate are about, passed on from one place. Declares nothing.
-pub use Rattle.convex_sets.specs.Bounds.{AreBoundedCorners, IsBoundedCorner}
-pub use Rattle.convex_sets.specs.Boxes.{IsBoundingBox, IsBoxed, IsInBox, at_corner, corner_of}
-pub use Rattle.convex_sets.specs.Edges.{cross, from_to, is_end_or_left}
-pub use Rattle.convex_sets.specs.Outlines.{IsMergeStep, IsMerged, IsOutline, IsOutlineOf, IsSum, IsTurned, both, edge_at, places_after, reflection, rise, start}
-pub use Rattle.convex_sets.specs.Widening.{IsWidenedBy, corner, square}
+pub use Rattle.convex_sets.specs.Boxes.{AreBoundedCorners, IsBoundedCorner, IsBoundingBox, IsBoxed, IsInBox, IsWidenedBy, at_corner, corner, corner_of}
+pub use Rattle.convex_sets.specs.Boxes.{square}
+pub use Rattle.convex_sets.specs.Outlines.{IsMergeStep, IsMerged, IsOutline, IsOutlineOf, IsSum, IsTurned, both, cross, edge_at, from_to, is_end_or_left}
+pub use Rattle.convex_sets.specs.Outlines.{places_after, reflection, rise, start}
 pub use Rattle.convex_sets.specs.declared.bounding_boxes.BoundingBox.{BoundingBox}
 pub use Rattle.plan_model.proofs.MeetingLaws.{Meets-shares_point, SharesPoint-meets}
 pub use Rattle.plan_model.proofs.Ring.{Read, minus, opposite, plus, same, times, var}
 pub use Rattle.plan_model.proofs.Tests.{false_below, last_true, one_true, true_at, true_below, true_of_all, true_of_below}
-pub use Rattle.plan_model.specs.Geometry.Convexity.{corner_at, is_left_of_edge, is_strictly_convex, next_corner}
-pub use Rattle.plan_model.specs.Geometry.Plane.{orientation}
+pub use Rattle.plan_model.specs.Geometry.Plane.{corner_at, is_left_of_edge, is_strictly_convex, next_corner, orientation}
 pub use Rattle.plan_model.specs.Scenes.Limits.{is_corner_between}
-pub use Rattle.plan_model.specs.Spaces.HalfPlanes.{IsInside, side_of}
-pub use Rattle.plan_model.specs.Spaces.Meeting.{IsWithin, Meets, weighted}
-pub use Rattle.plan_model.specs.Spaces.RoomOfConfigurations.{Rational, at_lattice}
-pub use Rattle.plan_model.specs.Spaces.Zones.{IsLowerOrLeft, IsZoneOf}
+pub use Rattle.plan_model.specs.Spaces.Zones.{IsInside, IsLowerOrLeft, IsWithin, IsZoneOf, Meets, side_of, weighted}
+pub use Rattle.plan_model.specs.Spaces.ConfigurationSpace.{Rational, at_lattice}
 pub use Rattle.plan_model.specs.declared.geometry.Point.{Point}
 pub use Rattle.plan_model.specs.declared.geometry.Vertex.{Vertex}
 pub use Rattle.plan_model.specs.declared.limits.TheConstants.{LEAST_BODY_COORDINATE, LEAST_CORNER_COORDINATE, LEAST_SUMMAND_COORDINATE, MOST_BODY_COORDINATE}

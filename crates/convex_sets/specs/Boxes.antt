@@ -1,12 +1,16 @@
--- The bounding boxes of polygons and segments, and boxes that meet.
-use Rattle.std.specs.Prelude.{◌≡◌, ℕ, ◌<◌, pos, ◌≤ℤ◌, int_le, min, max, Bool, true, ◌&&◌, List, length}
-use Rattle.std.proofs.Math.Nat.{le_refl}
-use Rattle.plan_model.specs.declared.geometry.Point.{Point}
-use Rattle.plan_model.specs.declared.geometry.Vertex.{Vertex}
-use Rattle.plan_model.specs.Geometry.Convexity.{corner_at, is_strictly_convex}
-use Rattle.plan_model.specs.Spaces.RoomOfConfigurations.{Rational}
-use Rattle.convex_sets.specs.declared.bounding_boxes.BoundingBox.{BoundingBox}
-use Rattle.convex_sets.specs.Bounds.{AreBoundedCorners}
+-- Corners whose coordinates are so small that 64 bits hold their orientations. The bounding boxes of polygons and segments, and boxes that meet.
+-- Bodies widened by a clearance: what a body meets with the clearance, the wider one meets without.
+use Rattle.convex_sets.specs.Terms.{BoundingBox, IsTrue, LEAST_CORNER_COORDINATE, List, MOST_CORNER_COORDINATE, Meets, Point, Rational, Vertex, corner_at}
+use Rattle.convex_sets.specs.Terms.{is_corner_between, is_strictly_convex, le_refl, list_all}
+use Rattle.std.specs.Prelude.{◌≡◌, ℕ, ◌<◌, pos, ◌≤ℤ◌, int_le, min, max, Bool, true, ◌&&◌, List, length, ◌↔◌, ℤ, neg_ℤ, [], ◌∷◌}
+
+-- both coordinates are between the least and the greatest of a corner
+abbrev pub IsBoundedCorner : Vertex → Type 0
+IsBoundedCorner v = IsTrue (is_corner_between LEAST_CORNER_COORDINATE MOST_CORNER_COORDINATE v)
+
+-- every corner is
+abbrev pub AreBoundedCorners : List Vertex → Type 0
+AreBoundedCorners corners = IsTrue (list_all (is_corner_between LEAST_CORNER_COORDINATE MOST_CORNER_COORDINATE) corners)
 
 -- no corner is further left or lower, and its coordinates are those of corners: the box's lower left corner
 pub record IsLowEnd (corners : List Vertex) (low : Vertex) : Type 0 where
@@ -58,3 +62,15 @@ corner_of p = record { x = pos p.x; y = pos p.y }
 -- a corner as a point
 abbrev pub at_corner : Vertex → Rational
 at_corner v = record { x = v.x; y = v.y; over = 1; positive = le_refl 1 }
+
+-- the corner with these coordinates
+abbrev pub corner : ℤ → ℤ → Vertex
+corner x y = record { x = x; y = y }
+
+-- the corners of the square from minus the clearance to the clearance on both axes
+abbrev pub square : ℕ → List Vertex
+square clearance = let far = pos clearance in corner (neg_ℤ far) (neg_ℤ far) ∷ corner far (neg_ℤ far) ∷ corner far far ∷ corner (neg_ℤ far) far ∷ []
+
+-- wherever it stands, and whatever the obstacle is
+abbrev pub IsWidenedBy : ℕ → List Vertex → List Vertex → Type 0
+IsWidenedBy clearance body wider = (q : Rational) (obstacle : List Vertex) → Meets clearance body q obstacle ↔ Meets 0 wider q obstacle

@@ -1,5 +1,3 @@
-pub mod Bounds
-pub mod Edges
-pub mod Boxes
+pub mod Terms
 pub mod Outlines
-pub mod Widening
+pub mod Boxes

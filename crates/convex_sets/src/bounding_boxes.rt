@@ -15,7 +15,7 @@ pub struct BoundingBox {
 
 impl BoundingBox {
     ghost use Rattle.std.specs.Prelude.{◌<◌, length};
-    ghost use Rattle.plan_model.specs.Geometry.Bounds.{IsBounded};
+    ghost use Rattle.plan_model.specs.Geometry.Plane.{IsBounded};
     ghost use Rattle.convex_sets.specs.Boxes.{IsBoundingBox, IsInBox, boxes_meet, segment_box};
 
     /// The least box round one or more corners; round one it is that point. O(n); no memory.

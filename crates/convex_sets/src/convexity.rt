@@ -1,9 +1,9 @@
 //! Whether a polygon is strictly convex.
 
 ghost use Rattle.std.specs.Prelude.{◌≡◌, ◌<◌, length};
-ghost use Rattle.convex_sets.specs.Edges.{is_end_or_left};
-ghost use Rattle.convex_sets.specs.Bounds.{AreBoundedCorners};
-ghost use Rattle.plan_model.specs.Geometry.Convexity.{is_left_of_edge, is_strictly_convex};
+ghost use Rattle.convex_sets.specs.Outlines.{is_end_or_left};
+ghost use Rattle.convex_sets.specs.Boxes.{AreBoundedCorners};
+ghost use Rattle.plan_model.specs.Geometry.Plane.{is_left_of_edge, is_strictly_convex};
 
 use crate::orientations::orientation;
 use crate::polygon_corners::next_corner;

@@ -1,9 +1,8 @@
 //! Points on the inner side of every edge of a polygon.
 
 ghost use Rattle.std.specs.Prelude.{◌↔◌, IsTrue};
-ghost use Rattle.convex_sets.specs.Bounds.{AreBoundedCorners, IsBoundedCorner};
-ghost use Rattle.convex_sets.specs.Boxes.{at_corner};
-ghost use Rattle.plan_model.specs.Spaces.HalfPlanes.{IsInside};
+ghost use Rattle.convex_sets.specs.Boxes.{AreBoundedCorners, IsBoundedCorner, at_corner};
+ghost use Rattle.plan_model.specs.Spaces.Zones.{IsInside};
 
 use crate::orientations::orientation;
 use crate::polygon_corners::next_corner;

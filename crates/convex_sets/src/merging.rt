@@ -1,7 +1,7 @@
 //! The Minkowski sum of two convex polygons, by merging their edges in order of angle.
 
 ghost use Rattle.std.specs.Prelude.{◌≡◌, ◌+◌, ◌<◌, ◌≤◌, ◌⊎◌, IfOk, length};
-ghost use Rattle.convex_sets.specs.Bounds.{AreBoundedCorners};
+ghost use Rattle.convex_sets.specs.Boxes.{AreBoundedCorners};
 ghost use Rattle.convex_sets.specs.Outlines.{IsMerged, IsOutline, IsMergeStep};
 
 use crate::orientations::{cross, edge};

@@ -1,8 +1,8 @@
 //! On which side of a line a corner lies.
 
 ghost use Rattle.std.specs.Prelude.{◌≡◌};
-ghost use Rattle.convex_sets.specs.Bounds.{IsBoundedCorner};
-ghost use Rattle.convex_sets.specs.Edges.{IsShort, cross, from_to};
+ghost use Rattle.convex_sets.specs.Boxes.{IsBoundedCorner};
+ghost use Rattle.convex_sets.specs.Outlines.{IsShort, cross, from_to};
 ghost use Rattle.plan_model.specs.Geometry.Plane.{orientation};
 
 use plan_model::Vertex;

@@ -1,10 +1,9 @@
 //! Outlines: the corners of a polygon in order from the lowest and of these the leftmost.
 
 ghost use Rattle.std.specs.Prelude.{◌≡◌, ℕ, ◌+◌, ◌<◌, ◌≤◌, ◌^◌, ◌≤ℤ◌, ◌||◌, ◌==◌, IfOk, IsTrue, MatchBool, length, map, pos};
-ghost use Rattle.convex_sets.specs.Bounds.{AreBoundedCorners, IsBoundedCorner};
-ghost use Rattle.convex_sets.specs.Edges.{from_to};
-ghost use Rattle.convex_sets.specs.Outlines.{IsOutline, IsOutlineOf, IsTurned, places_after, reflection, rise};
-ghost use Rattle.plan_model.specs.Geometry.Convexity.{corner_at, is_strictly_convex};
+ghost use Rattle.convex_sets.specs.Boxes.{AreBoundedCorners, IsBoundedCorner};
+ghost use Rattle.convex_sets.specs.Outlines.{from_to, IsOutline, IsOutlineOf, IsTurned, places_after, reflection, rise};
+ghost use Rattle.plan_model.specs.Geometry.Plane.{corner_at, is_strictly_convex};
 
 use plan_model::{Memory, Vertex};
 use std::alloc::Global;

@@ -1,9 +1,8 @@
 //! Corners of polygons, by number, and points as corners.
 
 ghost use Rattle.std.specs.Prelude.{◌≡◌, ◌<◌};
-ghost use Rattle.convex_sets.specs.Bounds.{IsBoundedCorner};
-ghost use Rattle.convex_sets.specs.Boxes.{corner_of};
-ghost use Rattle.plan_model.specs.Geometry.Convexity.{next_corner};
+ghost use Rattle.convex_sets.specs.Boxes.{IsBoundedCorner, corner_of};
+ghost use Rattle.plan_model.specs.Geometry.Plane.{next_corner};
 
 use plan_model::{Point, Vertex};
 

@@ -4,9 +4,9 @@ ghost use Rattle.std.specs.Prelude.{◌≡◌, ◌==◌, ◌||◌, ◌<◌, ◌�
 ghost use Rattle.std.specs.List.{list_all};
 ghost use Rattle.plan_model.specs.declared.limits.TheConstants.{LEAST_BODY_COORDINATE, LEAST_SUMMAND_COORDINATE};
 ghost use Rattle.plan_model.specs.declared.limits.TheConstants.{MOST_BODY_COORDINATE, MOST_CLEARANCE, MOST_SUMMAND_COORDINATE};
-ghost use Rattle.plan_model.specs.Geometry.Convexity.{is_strictly_convex};
+ghost use Rattle.plan_model.specs.Geometry.Plane.{is_strictly_convex};
 ghost use Rattle.plan_model.specs.Scenes.Limits.{is_corner_between};
-ghost use Rattle.convex_sets.specs.Widening.{IsWidenedBy, square};
+ghost use Rattle.convex_sets.specs.Boxes.{IsWidenedBy, square};
 
 use crate::merging::merged;
 use crate::outlines::outline;

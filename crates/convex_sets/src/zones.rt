@@ -53,11 +53,11 @@ impl Zone {
     ghost use Rattle.plan_model.specs.declared.limits.TheConstants.{MOST_BODY_COORDINATE, MOST_CLEARANCE, MOST_SUMMAND_COORDINATE};
     ghost use Rattle.plan_model.specs.Scenes.Limits.{is_corner_between};
     ghost use Rattle.plan_model.specs.Spaces.Zones.{IsZoneOf};
-    ghost use Rattle.convex_sets.specs.Bounds.{AreBoundedCorners};
+    ghost use Rattle.convex_sets.specs.Boxes.{AreBoundedCorners};
     ghost use Rattle.convex_sets.specs.Boxes.{IsBoundingBox};
-    ghost use Rattle.plan_model.specs.Geometry.Convexity.{is_strictly_convex};
-    ghost use Rattle.plan_model.specs.Spaces.HalfPlanes.{IsInside};
-    ghost use Rattle.plan_model.specs.Spaces.RoomOfConfigurations.{at_lattice};
+    ghost use Rattle.plan_model.specs.Geometry.Plane.{is_strictly_convex};
+    ghost use Rattle.plan_model.specs.Spaces.Zones.{IsInside};
+    ghost use Rattle.plan_model.specs.Spaces.ConfigurationSpace.{at_lattice};
 
     /// The zone of a body and an obstacle with a clearance: the Minkowski sum of the obstacle, the reflected body and the square
     /// from minus the clearance to the clearance on both axes, made of the edges of all three, sorted by angle. Parallel edges

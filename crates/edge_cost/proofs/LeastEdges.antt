@@ -2,8 +2,8 @@
 use Rattle.edge_cost.proofs.Words.{◌≡◌, ℕ, ◌+◌, ◌*◌, ◌<◌, ◌≤◌, List, get_or, length, take, arith, sym, ap, ◌∙◌, subst, inl, inr, All, IsTrue, min, max}
 use Rattle.edge_cost.proofs.Words.{abs_diff, cases_lt, take_all, All-more, All-weaker, Any-from_list_any, list_any_at, Goal, Point, IsBoundedBox, cost_of}
 use Rattle.edge_cost.proofs.Words.{squared_distance, is_in_goal, lies_in_goals, bound_of-is, cost_of-le, squared_distance-le, in_goal_parts}
-use Rattle.plan_model.specs.Geometry.Roots.{root_ceiling}
-use Rattle.plan_model.specs.Trees.GoalBounds.{bound_of}
+use Rattle.plan_model.specs.Geometry.Lengths.{root_ceiling}
+use Rattle.plan_model.specs.Trees.BestNode.{bound_of}
 
 -- ---- one goal
 

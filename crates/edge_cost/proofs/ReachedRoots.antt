@@ -1,6 +1,6 @@
 -- A root, rounded up, is within a bound exactly if the square of a number within the bound reaches.
 use Rattle.edge_cost.proofs.Words.{ℕ, ◌*◌, ◌≤◌, min, arith, mul-le, root_ceiling-is}
-use Rattle.plan_model.specs.Geometry.Roots.{root_ceiling}
+use Rattle.plan_model.specs.Geometry.Lengths.{root_ceiling}
 
 pub within_if_reached : (n bound most : ℕ) → most ≤ bound → n ≤ most * most → root_ceiling n ≤ bound
 within_if_reached n bound most within reaches = omega (arith, (root_ceiling-is n).least most reaches)

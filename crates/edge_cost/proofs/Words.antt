@@ -5,11 +5,8 @@ pub use Rattle.plan_model.proofs.GoalPoints.{in_goal_parts}
 pub use Rattle.plan_model.proofs.RadiusLaws.{greatest-unique}
 pub use Rattle.plan_model.proofs.RootLaws.{lt-from_squares, root_ceiling-from_squares, root_ceiling-is, root_ceiling-unique}
 pub use Rattle.plan_model.proofs.SteeringLaws.{IsStep-partial}
-pub use Rattle.plan_model.specs.Geometry.Bounds.{IsBounded, IsBoundedBox}
-pub use Rattle.plan_model.specs.Geometry.Cost.{cost_of}
-pub use Rattle.plan_model.specs.Geometry.Plane.{squared_distance}
-pub use Rattle.plan_model.specs.Geometry.Radius.{radius_of_class}
-pub use Rattle.plan_model.specs.Geometry.Roots.{IsRootCeiling}
+pub use Rattle.plan_model.specs.Geometry.Plane.{IsBounded, IsBoundedBox, squared_distance}
+pub use Rattle.plan_model.specs.Geometry.Lengths.{IsRootCeiling, cost_of, radius_of_class}
 pub use Rattle.plan_model.specs.Trees.BestNode.{is_in_goal, lies_in_goals}
 pub use Rattle.plan_model.specs.declared.geometry.Goal.{Goal}
 pub use Rattle.plan_model.specs.declared.geometry.Point.{Point}

@@ -2,10 +2,8 @@
 
 ghost use Rattle.std.specs.Prelude.{◌≡◌, ◌^◌, ◌<◌, ◌≤◌, All, IsTrue, length};
 ghost use Rattle.plan_model.specs.declared.geometry.Point.{Point};
-ghost use Rattle.plan_model.specs.Geometry.Bounds.{IsBounded, IsBoundedBox};
-ghost use Rattle.plan_model.specs.Geometry.Plane.{squared_distance};
-ghost use Rattle.plan_model.specs.Trees.BestNode.{is_in_goal};
-ghost use Rattle.plan_model.specs.Trees.GoalBounds.{bound_of};
+ghost use Rattle.plan_model.specs.Geometry.Plane.{IsBounded, IsBoundedBox, squared_distance};
+ghost use Rattle.plan_model.specs.Trees.BestNode.{is_in_goal, bound_of};
 
 use crate::costs::{cost, cost_of_square};
 use plan_model::{Goal, Point};

@@ -1,7 +1,7 @@
 //! The class of a number of nodes.
 
 ghost use Rattle.std.specs.Prelude.{◌≡◌, ◌-◌, ◌^◌, ◌<◌, ◌≤◌};
-ghost use Rattle.plan_model.specs.Geometry.Radius.{class_of};
+ghost use Rattle.plan_model.specs.Geometry.Lengths.{class_of};
 
 /// The class of `n` nodes, of which there is one at least: the number of binary digits of `n`, so that class b holds the
 /// numbers from 2 ^ (b - 1) to 2 ^ b - 1. The class of 1 is 1, of 2 and 3 it is 2, and of 262,144 it is 19. O(1).

@@ -1,8 +1,8 @@
 //! Costs by way of a node, against a bound.
 
 ghost use Rattle.std.specs.Prelude.{◌↔◌, ◌+◌, ◌<◌, ◌≤◌, IsTrue};
-ghost use Rattle.plan_model.specs.Geometry.Cost.{cost_of};
-ghost use Rattle.plan_model.specs.Geometry.Bounds.{IsBounded};
+ghost use Rattle.plan_model.specs.Geometry.Lengths.{cost_of};
+ghost use Rattle.plan_model.specs.Geometry.Plane.{IsBounded};
 
 use crate::costs::SQUARED_UNITS;
 use plan_model::Point;

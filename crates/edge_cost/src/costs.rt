@@ -1,9 +1,8 @@
 //! What an edge costs.
 
 ghost use Rattle.std.specs.Prelude.{◌≡◌, ◌^◌, ◌*◌, ◌<◌};
-ghost use Rattle.plan_model.specs.Geometry.Cost.{IsCost, cost_of};
-ghost use Rattle.plan_model.specs.Geometry.Bounds.{IsBounded};
-ghost use Rattle.plan_model.specs.Geometry.Roots.{IsRootCeiling, root_ceiling};
+ghost use Rattle.plan_model.specs.Geometry.Lengths.{IsCost, cost_of, IsRootCeiling, root_ceiling};
+ghost use Rattle.plan_model.specs.Geometry.Plane.{IsBounded};
 
 use crate::roots::root_ceiling;
 use plan_model::Point;

@@ -1,9 +1,9 @@
 //! The choice of a new node's parent.
 
 ghost use Rattle.std.specs.Prelude.{◌≡◌, ◌+◌, ◌^◌, ◌<◌, ℕ, IsFalse, IsTrue};
-ghost use Rattle.plan_model.specs.Geometry.Bounds.{IsBounded};
-ghost use Rattle.plan_model.specs.Geometry.Cost.{cost_of};
-ghost use Rattle.plan_model.specs.Trees.LeastPairs.{IsNotAbove};
+ghost use Rattle.plan_model.specs.Geometry.Plane.{IsBounded};
+ghost use Rattle.plan_model.specs.Geometry.Lengths.{cost_of};
+ghost use Rattle.plan_model.specs.Trees.Nearness.{IsNotAbove};
 
 use crate::cost_bounds::{costs_at_most_through, costs_less_through};
 use crate::costs::cost;

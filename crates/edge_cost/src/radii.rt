@@ -1,7 +1,7 @@
 //! The radii within which nodes are near.
 
 ghost use Rattle.std.specs.Prelude.{◌≡◌, ℕ, ◌<◌, ◌≤◌, slice_index};
-ghost use Rattle.plan_model.specs.Geometry.Radius.{radius_of, radius_of_class};
+ghost use Rattle.plan_model.specs.Geometry.Lengths.{radius_of, radius_of_class};
 ghost use Rattle.edge_cost.specs.declared.radii.TheConstants.{CLASSES};
 
 use crate::classes::class;

@@ -1,7 +1,7 @@
 //! Square roots of whole numbers, rounded up.
 
 ghost use Rattle.std.specs.Prelude.{◌≡◌, ◌*◌, ◌≤◌};
-ghost use Rattle.plan_model.specs.Geometry.Roots.{IsRootCeiling, root_ceiling};
+ghost use Rattle.plan_model.specs.Geometry.Lengths.{IsRootCeiling, root_ceiling};
 
 use std::num::{f64_to_bits_with_nan, nearest_u64_to_f64};
 

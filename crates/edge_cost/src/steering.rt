@@ -1,9 +1,8 @@
 //! Steering from a node towards a mark.
 
 ghost use Rattle.std.specs.Prelude.{◌≡◌, ◌*◌, ◌≤◌, min, max};
-ghost use Rattle.plan_model.specs.Geometry.Plane.{squared_distance};
-ghost use Rattle.plan_model.specs.Geometry.Steering.{IsStep, advanced, steered};
-ghost use Rattle.plan_model.specs.Geometry.Bounds.{IsBounded};
+ghost use Rattle.plan_model.specs.Geometry.Plane.{squared_distance, IsBounded};
+ghost use Rattle.plan_model.specs.Geometry.Lengths.{IsStep, advanced, steered};
 
 use crate::roots::root_ceiling;
 use plan_model::{LEAST_STEP, MOST_COORDINATE, MOST_STEERING_STEP, Point};

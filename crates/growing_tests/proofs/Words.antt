@@ -10,7 +10,7 @@ pub use Rattle.kd_shared.specs.Searches.{AreNearSeen}
 pub use Rattle.kd_shared.specs.declared.placing.Placing.{Placing}
 pub use Rattle.kd_shared.specs.declared.placing.Placing.TheVariants.{Placed, Same}
 pub use Rattle.plan_model.proofs.SceneBounds.{goals-some}
-pub use Rattle.plan_model.specs.Geometry.Bounds.{IsBounded}
+pub use Rattle.plan_model.specs.Geometry.Plane.{IsBounded}
 pub use Rattle.plan_words.proofs.Common.{AllFull, BelongsTo, BelongsTo-later, GoesOn, IsBounded-hand, IsOrPosted, PassState, SharedState, at_hand, if_hand}
 pub use Rattle.plan_words.proofs.Common.{no_goals, run_in, with_view}
 pub use Rattle.plan_words.proofs.GoingOn.{GoesOn-trans}

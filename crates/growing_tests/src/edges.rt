@@ -1,11 +1,11 @@
 //! Edges between nodes that a pass sees, by which a test lowers a node below another.
 
 ghost use Rattle.std.specs.Prelude.{◌≡◌, IsTrue};
-ghost use Rattle.plan_model.specs.Geometry.Bounds.{IsBounded};
+ghost use Rattle.plan_model.specs.Geometry.Plane.{IsBounded};
 ghost use Rattle.plan_model.specs.Runs.OrderLaw.{IsAllowedEdge};
 ghost use Rattle.plan_model.specs.Spaces.ConfigurationSpace.{space_of};
 ghost use Rattle.plan_words.specs.States.{run_in};
-ghost use Rattle.step_core.specs.LaterViews.{IsLawfulView};
+ghost use Rattle.step_core.specs.Histories.{IsLawfulView};
 ghost use Rattle.step_core.specs.Views.{setup_in};
 ghost use Rattle.tree_rewire.specs.SeenCosts.{SeesPair, cost_seen};
 

@@ -29,8 +29,7 @@ pub use Rattle.grown_runs.specs.Runs.GrownWords.{HoldRun, IsBlank, IsLinked, IsP
 pub use Rattle.grown_runs.specs.Runs.GrownWords.{has_node, has_placed, is_linked, node_point, node_point_by, points_of_words, record_at, run_words, sizes_of}
 pub use Rattle.grown_runs.specs.Runs.GrownWords.{state_of_words}
 pub use Rattle.grown_runs.specs.Runs.GrownWords.IsLinked.{below, start}
-pub use Rattle.grown_runs.specs.Runs.LeastBests.{IsLeastBest}
-pub use Rattle.grown_runs.specs.Runs.PackedRuns.{IsKnot, kept_cost_of, state_of_lists}
+pub use Rattle.grown_runs.specs.Runs.PackedRuns.{IsLeastBest, IsKnot, kept_cost_of, state_of_lists}
 pub use Rattle.grown_runs.specs.Table.PlacesOfWords.{sizes_in}
 pub use Rattle.grown_runs.specs.Table.RunWords.{words_in}
 pub use Rattle.grown_runs.specs.Table.SeenWords.{LooksAt, MayLookAt, SeenWords, seen_point, seen_tree_of_words, sight_of_words, whole_record}
@@ -42,9 +41,7 @@ pub use Rattle.grown_runs.specs.Table.WordPlaces.{HasWord, Sizes, has_word, node
 pub use Rattle.grown_runs.specs.Table.Words.{FitsWord, IsFirstWord, IsTurnWord, best_cost_in, best_node_in, best_of_word, best_word, cost_in, last_field}
 pub use Rattle.grown_runs.specs.Table.Words.{no_best, number_of_outcome, outcome_in, parent_in, point_in, point_of_word, point_word, record_in, record_of_word}
 pub use Rattle.grown_runs.specs.Table.Words.{record_word, tree_of_word, tree_word, turn_in, worker_in}
-pub use Rattle.grown_runs.specs.Ways.KdSides.{goes_right_by, is_by_rows}
-pub use Rattle.grown_runs.specs.Ways.KdWalks.{StopsAt, side_of}
-pub use Rattle.grown_runs.specs.Ways.MeasuredNodes.{IsNearerOf}
+pub use Rattle.grown_runs.specs.Ways.KdLinks.{goes_right_by, is_by_rows, StopsAt, side_of, IsNearerOf}
 pub use Rattle.plan_model.proofs.AddedNodes.{AddsNode, KeepsFirstCosts-adds, KeepsOrder-adds}
 pub use Rattle.plan_model.proofs.BestNodeLaws.{IsPresent-goal, best_node-none, best_node-some}
 pub use Rattle.plan_model.proofs.ChainLaws.{AreTight-sums, chain-parent, chain-start, sum-parent, sums-tight}
@@ -116,61 +113,47 @@ pub use Rattle.plan_model.proofs.WayLaws.{EndsBelow-free, IsOnWay-unique, earlie
 pub use Rattle.plan_model.proofs.WayLinks.{AddsPoint-stands, FollowWays-links, FollowWays-start, IsOnWay-fills}
 pub use Rattle.plan_model.proofs.WorkerTurns.{AreTurns-longer, AreTurns-recorded, ltb-next, once_if-below, once_if-past, times-once, turn-below, turn_of_record}
 pub use Rattle.plan_model.proofs.WorkerTurns.{turns_of-recorded, turns_of-recorded_by_other}
-pub use Rattle.plan_model.specs.Geometry.Bounds.{IsBounded, IsBoundedBox}
-pub use Rattle.plan_model.specs.Geometry.Convexity.{is_strictly_convex}
-pub use Rattle.plan_model.specs.Geometry.Cost.{cost_of}
-pub use Rattle.plan_model.specs.Geometry.Plane.{IsInBoxOf, orientation, squared_distance}
-pub use Rattle.plan_model.specs.Geometry.Radius.{class_of, radius_of, radius_of_class}
-pub use Rattle.plan_model.specs.Geometry.Steering.{steered}
+pub use Rattle.plan_model.specs.Geometry.Plane.{IsBounded, IsBoundedBox, is_strictly_convex, IsInBoxOf, orientation, squared_distance}
+pub use Rattle.plan_model.specs.Geometry.Lengths.{cost_of, class_of, radius_of, radius_of_class, steered}
 pub use Rattle.plan_model.specs.Reports.ReportText.{best_path, counts_line, ending_words, full_report, head_line, line, mark_line_if_recorded, mark_lines}
 pub use Rattle.plan_model.specs.Reports.ReportText.{no_path_line, node_line_if_present, node_lines, path_to, point_lines, reached_words, short_report}
 pub use Rattle.plan_model.specs.Reports.ReportText.{skipped_words}
-pub use Rattle.plan_model.specs.Runs.ClosedLaw.{IsClosed, has_outcome, mark_at, outcome_count}
+pub use Rattle.plan_model.specs.Runs.ClosedLaw.{IsClosed, has_outcome, mark_at, outcome_count, HangsLawfully, HasLawfulEnding, IsBlockedLawfully}
+pub use Rattle.plan_model.specs.Runs.ClosedLaw.{IsChosenLawfully, IsEarlier, IsLawfulRecord, IsNeighbour, IsPlacedLawfully, IsSkippedLawfully}
+pub use Rattle.plan_model.specs.Runs.ClosedLaw.{IsSteeredLawfully, ReachesLawfully, earlier_count, first_cost_through, is_earlier, is_earlier_record}
 pub use Rattle.plan_model.specs.Runs.Endings.{Ending, FirstHanging, NewNode, NoWay, Reached, SameNode, SkippedBy, Steered, ending_as, ending_of, first_hanging}
 pub use Rattle.plan_model.specs.Runs.Endings.{record_of_ending, unplaced_record}
-pub use Rattle.plan_model.specs.Runs.OrderLaw.{Hangs, HangsBelow, IsAllowedEdge, KeepsFirstCosts, KeepsOrder, most_cost_of}
+pub use Rattle.plan_model.specs.Runs.OrderLaw.{Hangs, HangsBelow, IsAllowedEdge, KeepsFirstCosts, KeepsOrder, most_cost_of, AreTurns, is_of_turn}
+pub use Rattle.plan_model.specs.Runs.OrderLaw.{is_of_worker, once_if, times_of, turns_of}
 pub use Rattle.plan_model.specs.Runs.Outcomes.{is_blocked, is_placed, is_same, is_skipped, is_zero_unless_placed}
-pub use Rattle.plan_model.specs.Runs.RecordLaw.{HangsLawfully, HasLawfulEnding, IsBlockedLawfully, IsChosenLawfully, IsEarlier, IsLawfulRecord, IsNeighbour}
-pub use Rattle.plan_model.specs.Runs.RecordLaw.{IsPlacedLawfully, IsSkippedLawfully, IsSteeredLawfully, ReachesLawfully, earlier_count, first_cost_through}
-pub use Rattle.plan_model.specs.Runs.RecordLaw.{is_earlier, is_earlier_record}
-pub use Rattle.plan_model.specs.Runs.SameRuns.{HaveSameFields, IsOfTextbookRun}
-pub use Rattle.plan_model.specs.Runs.Textbook.{Ends, EndsBlocked, EndsPlaced, EndsSkipped, EndsSteered, Handles, HandlesAll, IsBestGoalNode, IsBestParent}
-pub use Rattle.plan_model.specs.Runs.Textbook.{IsCandidate, IsCheaperThrough, IsTextbookRun, MayBeCheaper, Nodes, Reaches, Rewires, RewiresOne, Setup, SteersTo}
-pub use Rattle.plan_model.specs.Runs.Textbook.{cost_through, mark_bound, near_new, setup_of, skipping_goals, start_alone, with_parent}
-pub use Rattle.plan_model.specs.Runs.Turns.{AreTurns, is_of_turn, is_of_worker, once_if, times_of, turns_of}
+pub use Rattle.plan_model.specs.Runs.Textbook.{HaveSameFields, IsOfTextbookRun, Ends, EndsBlocked, EndsPlaced, EndsSkipped, EndsSteered, Handles, HandlesAll}
+pub use Rattle.plan_model.specs.Runs.Textbook.{IsBestGoalNode, IsBestParent, IsCandidate, IsCheaperThrough, IsTextbookRun, MayBeCheaper, Nodes, Reaches}
+pub use Rattle.plan_model.specs.Runs.Textbook.{Rewires, RewiresOne, Setup, SteersTo, cost_through, mark_bound, near_new, setup_of, skipping_goals}
+pub use Rattle.plan_model.specs.Runs.Textbook.{start_alone, with_parent}
 pub use Rattle.plan_model.specs.Scenes.Limits.{IsBetween, are_goals, are_obstacles, is_corner_between, is_goal, is_mark, is_obstacle, is_plan, most_goals}
 pub use Rattle.plan_model.specs.Scenes.Limits.{most_side}
 pub use Rattle.plan_model.specs.Scenes.MarkPoints.{is_claimed, mark_points, quota_of, strip_of_mark}
-pub use Rattle.plan_model.specs.Scenes.SceneEnds.{with_ends}
-pub use Rattle.plan_model.specs.Seen.SeenParents.{AreSeenLawfully}
-pub use Rattle.plan_model.specs.Seen.SeenTrees.{FollowSeenWays, HasSeenAtLeast, IsRooted, IsSeen, IsTrueOf, KeepsOrLowers, SeenTree, SharedTree, seen_whole}
+pub use Rattle.plan_model.specs.Scenes.ChangedScenes.{with_ends}
+pub use Rattle.plan_model.specs.Seen.SeenTrees.{AreSeenLawfully, FollowSeenWays, HasSeenAtLeast, IsRooted, IsSeen, IsTrueOf, KeepsOrLowers, SeenTree}
+pub use Rattle.plan_model.specs.Seen.SeenTrees.{SharedTree, seen_whole, Children, EndsBelow, FillsPlaces, FollowWays, IsOnWay, goes_right}
 pub use Rattle.plan_model.specs.Seen.Sights.{EndsSince, IsLaterMoment, IsSwept, KeepsSight, Sight}
-pub use Rattle.plan_model.specs.Seen.Ways.{Children, EndsBelow, FillsPlaces, FollowWays, IsOnWay, goes_right}
-pub use Rattle.plan_model.specs.Seen.Ways.IsOnWay.{begins, goes_on}
-pub use Rattle.plan_model.specs.Spaces.ClearPaths.{IsClearPath, path_point}
-pub use Rattle.plan_model.specs.Spaces.Clearance.{Clear, ClearAt}
-pub use Rattle.plan_model.specs.Spaces.ConfigurationSpace.{space_among, space_of}
-pub use Rattle.plan_model.specs.Spaces.EmptyRooms.{IsInRoom, empty_room}
-pub use Rattle.plan_model.specs.Spaces.Meeting.{Meets, weighted}
-pub use Rattle.plan_model.specs.Spaces.PathChoices.{RiseToLast, cost_of_choice, kept_points}
-pub use Rattle.plan_model.specs.Spaces.RoomOfConfigurations.{InRoom, IsBetweenWalls, at_lattice, moved_by}
+pub use Rattle.plan_model.specs.Seen.SeenTrees.IsOnWay.{begins, goes_on}
+pub use Rattle.plan_model.specs.Spaces.Clearance.{IsClearPath, path_point, Clear, ClearAt, RiseToLast, cost_of_choice, kept_points}
+pub use Rattle.plan_model.specs.Spaces.ConfigurationSpace.{space_among, space_of, IsInRoom, empty_room, InRoom, IsBetweenWalls, at_lattice, moved_by}
+pub use Rattle.plan_model.specs.Spaces.Zones.{Meets, weighted}
 pub use Rattle.plan_model.specs.Texts.SceneGrammar.{Spells, supported}
 pub use Rattle.plan_model.specs.Texts.Streams.{SourceState, counted_up}
-pub use Rattle.plan_model.specs.Texts.TextLines.{lines_of, pieces_of}
-pub use Rattle.plan_model.specs.Texts.TextNumbers.{is_digit}
-pub use Rattle.plan_model.specs.Trees.BestNode.{IsBestNode, IsGoalNode, best_node, goals_of, is_goal_point, lies_in_goals}
-pub use Rattle.plan_model.specs.Trees.Branches.{IsBranchLowered}
-pub use Rattle.plan_model.specs.Trees.LeastPairs.{IsFirstLeast, IsNotAbove, IsPairNotAbove, first_least, lesser}
-pub use Rattle.plan_model.specs.Trees.Nearness.{IsNearest, distance_to, is_within, near}
+pub use Rattle.plan_model.specs.Texts.TextLines.{lines_of, pieces_of, is_digit}
+pub use Rattle.plan_model.specs.Trees.BestNode.{IsBestNode, IsGoalNode, best_node, goals_of, is_goal_point, lies_in_goals, IsOpenTo}
+pub use Rattle.plan_model.specs.Trees.TreeStates.{IsBranchLowered, AreSameRuns, ChangesCosts, GrowsInto, IsSettled, TreeState, chain_in, first_cost_of}
+pub use Rattle.plan_model.specs.Trees.TreeStates.{recorded_or, state_of, sum_in}
+pub use Rattle.plan_model.specs.Trees.Nearness.{IsFirstLeast, IsNotAbove, IsPairNotAbove, first_least, lesser, IsNearest, distance_to, is_within, near}
 pub use Rattle.plan_model.specs.Trees.NodeLists.{AreTight, AreTightAlong, CostsFall, FallAlong, chain_within, edge_by, edge_of, length_of_path, node_at}
-pub use Rattle.plan_model.specs.Trees.NodeLists.{parent_of, parent_or_zero, points_of, sum_by, sum_of, without_costs}
-pub use Rattle.plan_model.specs.Trees.OpenNodes.{IsOpenTo}
-pub use Rattle.plan_model.specs.Trees.PointsByNumber.{AreDistinct, AreNumberedTo, IsFree, IsPresent, StandsAt, node_count, point_at, point_of}
-pub use Rattle.plan_model.specs.Trees.TreeStates.{AreSameRuns, ChangesCosts, GrowsInto, IsSettled, TreeState, chain_in, first_cost_of, recorded_or, state_of}
-pub use Rattle.plan_model.specs.Trees.TreeStates.{sum_in}
-pub use Rattle.plan_model.specs.Vectors.Records.{blocked_record, placed_by, placed_record, same_record}
+pub use Rattle.plan_model.specs.Trees.NodeLists.{parent_of, parent_or_zero, points_of, sum_by, sum_of, without_costs, AreDistinct, AreNumberedTo, IsFree}
+pub use Rattle.plan_model.specs.Trees.NodeLists.{IsPresent, StandsAt, node_count, point_at, point_of}
+pub use Rattle.plan_model.specs.Vectors.Reports.{blocked_record, placed_by, placed_record, same_record}
 pub use Rattle.plan_model.specs.Vectors.Runs.{marks_to_rewire, open_setup, rewired_records}
-pub use Rattle.plan_model.specs.Vectors.Shapes.{at}
+pub use Rattle.plan_model.specs.Vectors.Geometry.{at}
 pub use Rattle.plan_model.specs.declared.configuration_spaces.ConfigurationSpace.{ConfigurationSpace}
 pub use Rattle.plan_model.specs.declared.errors.Memory.{Memory}
 pub use Rattle.plan_model.specs.declared.geometry.Goal.{Goal}

@@ -1,16 +1,16 @@
 -- The definitions and lemmas that proofs of this crate are about, passed on from one place. Declares nothing.
-pub use Rattle.grown_runs.specs.ChildChains.{AreChained, AreMembers, HasInChain, IndexesChains, IsIndex, MovesNode, OnlyMoves, firsts_of, front_in, nexts_of}
-pub use Rattle.grown_runs.specs.ChildChains.{previouses_of, siblings_from, times, walk_from}
+pub use Rattle.grown_runs.specs.ChildChains.{AreChained, AreMembers, HasInChain, IndexesChains, IsIndex, MovesNode, OnlyMoves, front_in, siblings_from, times}
+pub use Rattle.grown_runs.specs.ChildChains.{firsts_of, nexts_of, previouses_of, walk_from}
 pub use Rattle.grown_runs.specs.Runs.GrownRuns.{CostsInstead, MayCost, state_of_grown, words_of_grown}
 pub use Rattle.grown_runs.specs.Runs.GrownWords.{HoldRun, IsBlank, IsLinked, IsPointWord, IsTreeWord, IsWritten, child_of_word, children_of_words, cleared}
 pub use Rattle.grown_runs.specs.Runs.GrownWords.{has_node, has_placed, is_child_of, is_linked, node_point, points_of_words, record_at, sizes_of, state_by}
 pub use Rattle.grown_runs.specs.Runs.GrownWords.{state_of_words}
 pub use Rattle.grown_runs.specs.Runs.GrownWords.IsLinked.{below}
 pub use Rattle.grown_runs.specs.Runs.PackedRuns.{ChangesNode, ChangesRecord, CountsMarks, FitWords, FitsNode, FitsRecord, HasKnot, HoldLists, HoldsNode}
-pub use Rattle.grown_runs.specs.Runs.PackedRuns.{HoldsRecord, IsKnot, IsWholeRecord, IsWordOfRecords, WritesNodes, WritesRecords, kept_cost_of, state_of_lists}
-pub use Rattle.grown_runs.specs.Table.ClearedWords.{ClearsNode, ClearsNodes, IsNodeWord}
+pub use Rattle.grown_runs.specs.Runs.PackedRuns.{HoldsRecord, IsKnot, IsWholeRecord, IsWordOfRecords, WritesNodes, WritesRecords, kept_cost_of}
+pub use Rattle.grown_runs.specs.Runs.PackedRuns.{state_of_lists}
+pub use Rattle.grown_runs.specs.Table.RunWords.{ClearsNode, ClearsNodes, IsNodeWord, words_in}
 pub use Rattle.grown_runs.specs.Table.PlacesOfWords.{sizes_in}
-pub use Rattle.grown_runs.specs.Table.RunWords.{words_in}
 pub use Rattle.grown_runs.specs.Table.WordKinds.{AreBehind, MayBecome, WordKind, kind_of}
 pub use Rattle.grown_runs.specs.Table.WordKinds.WordKind.{Apart, Falling, Once, Rising}
 pub use Rattle.grown_runs.specs.Table.WordNames.{ChangesOnly, IsChildWord, IsCounter, IsKnotWord, Word, Words, WritesWord}
@@ -19,11 +19,9 @@ pub use Rattle.grown_runs.specs.Table.WordPlaces.{HasWord, Sizes, has_word, plac
 pub use Rattle.grown_runs.specs.Table.Words.{FitsWord, IsFirstWord, best_cost_in, best_node_in, best_word, cost_in, if_written, last_field, last_in, nearest_in}
 pub use Rattle.grown_runs.specs.Table.Words.{no_best, number_of_outcome, outcome_in, parent_in, placed_in, point_in, point_of_word, point_word, record_in}
 pub use Rattle.grown_runs.specs.Table.Words.{record_of_word, record_word, tree_of_word, tree_word, turn_in, unplaced_in, worker_in}
-pub use Rattle.grown_runs.specs.Ways.KdLinks.{AreLinkedBelow, AreUnlinked, ChangesChildren, LinksRise, MayLink, points_below, tree_below}
-pub use Rattle.grown_runs.specs.Ways.KdSides.{goes_right_by, is_by_rows, split_distance}
-pub use Rattle.grown_runs.specs.Ways.KdWalks.{StopsAt, side_of}
+pub use Rattle.grown_runs.specs.Ways.KdLinks.{AreLinkedBelow, AreUnlinked, ChangesChildren, LinksRise, MayLink, StopsAt, goes_right_by, is_by_rows}
+pub use Rattle.grown_runs.specs.Ways.KdLinks.{points_below, side_of, split_distance, tree_below}
 pub use Rattle.grown_runs.specs.declared.child_index.ChildIndex.{ChildIndex}
-pub use Rattle.grown_runs.specs.declared.child_index.Links.{Links}
 pub use Rattle.grown_runs.specs.declared.kd_walks.Stop.{Stop}
 pub use Rattle.plan_model.proofs.BestNodeLaws.{IsPresent-goal}
 pub use Rattle.plan_model.proofs.ChainLaws.{node_count-cons}
@@ -49,24 +47,21 @@ pub use Rattle.plan_model.proofs.TreeChanges.{node_at-past, point_at-points_of}
 pub use Rattle.plan_model.proofs.WayLinks.{AddsPoint-stands, FillsPlaces-trans, FollowWays-links, FollowWays-same, FollowWays-start, IsOnWay-fills}
 pub use Rattle.plan_model.proofs.WayLinks.{new_or_old_child}
 pub use Rattle.plan_model.proofs.WorkerTurns.{turn-below_limit}
-pub use Rattle.plan_model.specs.Geometry.Bounds.{IsBounded}
-pub use Rattle.plan_model.specs.Geometry.Plane.{squared_distance}
-pub use Rattle.plan_model.specs.Geometry.Radius.{class_of}
-pub use Rattle.plan_model.specs.Runs.ClosedLaw.{IsClosed, has_outcome, mark_at}
+pub use Rattle.plan_model.specs.Geometry.Plane.{IsBounded, squared_distance}
+pub use Rattle.plan_model.specs.Geometry.Lengths.{class_of}
+pub use Rattle.plan_model.specs.Runs.ClosedLaw.{HasLawfulEnding, IsClosed, has_outcome, mark_at}
 pub use Rattle.plan_model.specs.Runs.Endings.{ending_as}
 pub use Rattle.plan_model.specs.Runs.OrderLaw.{most_cost_of}
 pub use Rattle.plan_model.specs.Runs.Outcomes.{is_placed, is_zero_unless_placed}
-pub use Rattle.plan_model.specs.Runs.RecordLaw.{HasLawfulEnding}
 pub use Rattle.plan_model.specs.Runs.Textbook.{Setup, setup_of, skipping_goals, start_alone}
 pub use Rattle.plan_model.specs.Scenes.MarkPoints.{quota_of, strip_of_mark}
-pub use Rattle.plan_model.specs.Seen.SeenTrees.{IsSeen, SeenTree}
-pub use Rattle.plan_model.specs.Seen.Ways.{AddsPoint, EndsBelow, FillsPlaces, FollowWays, IsOnWay, LinksAt, goes_right}
-pub use Rattle.plan_model.specs.Seen.Ways.IsOnWay.{begins, goes_on}
+pub use Rattle.plan_model.specs.Seen.SeenTrees.{AddsPoint, EndsBelow, FillsPlaces, FollowWays, IsOnWay, IsSeen, LinksAt, SeenTree, goes_right}
+pub use Rattle.plan_model.specs.Seen.SeenTrees.IsOnWay.{begins, goes_on}
 pub use Rattle.plan_model.specs.Spaces.Clearance.{ClearAt}
 pub use Rattle.plan_model.specs.Spaces.ConfigurationSpace.{space_of}
 pub use Rattle.plan_model.specs.Trees.BestNode.{IsGoalNode, is_goal_point}
-pub use Rattle.plan_model.specs.Trees.NodeLists.{parent_of, parent_or_zero, points_of, sum_of, without_costs}
-pub use Rattle.plan_model.specs.Trees.PointsByNumber.{IsFree, IsPresent, StandsAt, node_count, point_at, point_of}
+pub use Rattle.plan_model.specs.Trees.NodeLists.{IsFree, IsPresent, StandsAt, node_count, parent_of, parent_or_zero, point_at, point_of, points_of, sum_of}
+pub use Rattle.plan_model.specs.Trees.NodeLists.{without_costs}
 pub use Rattle.plan_model.specs.Trees.TreeStates.{AreSameRuns, TreeState, first_cost_of, recorded_or, state_of}
 pub use Rattle.plan_model.specs.declared.geometry.Goal.{Goal}
 pub use Rattle.plan_model.specs.declared.geometry.Point.{Point}
@@ -97,3 +92,4 @@ pub use Rattle.std.specs.List.{AllByRecursion, list_any, range_with_len}
 unfoldable pub use Rattle.std.specs.List.{IsDistinct}
 pub use Rattle.std.specs.Prelude.{IsTrue, count_by, if◌then◌else◌, is_some, nat_lt, option_map, replicate, slice_get, slice_index, slice_index_or, slice_set}
 pub use Rattle.std.specs.Prelude.{unwrap_or, ◌&&◌, ◌==◌, ◌||◌, ◌≢◌, ◌⊎◌}
+pub use Rattle.grown_runs.specs.declared.child_index.Links.{Links}

@@ -1,7 +1,6 @@
 -- The children of each number, in chains that are linked both ways.
 use Rattle.std.specs.Prelude.{◌≡◌, ◌≢◌, ℕ, zero, suc, ◌+◌, ◌<◌, ◌≤◌, ◌==◌, List, [], ◌∷◌, length, slice_index, count_by, map}
-use Rattle.std.specs.Vec.{vec_capacity}
-use Rattle.grown_runs.specs.declared.child_index.ChildIndex.{ChildIndex}
+use Rattle.grown_runs.specs.Terms.{ChildIndex, vec_capacity}
 
 -- Each number is in one chain, or in none, which is chain 0; the chain of the children of a number is 1 more than that. A chain begins with its
 -- front, and next and previous are the neighbours there; 0 is no child. The rank falls along a chain, and no number of the chain lies between two

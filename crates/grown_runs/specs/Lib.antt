@@ -1,3 +1,4 @@
+pub mod Terms
 pub mod Table
 pub mod Runs
 pub mod Ways

@@ -5,5 +5,4 @@ pub mod WordKinds
 pub mod WordPlaces
 pub mod PlacesOfWords
 pub mod RunWords
-pub mod ClearedWords
 pub mod SeenWords

@@ -1,10 +1,9 @@
 //! Words that a mark which came to nothing has left for its number, cleared.
 
 ghost use Rattle.std.specs.Prelude.{◌≡◌, ◌≤◌};
-ghost use Rattle.grown_runs.specs.Table.ClearedWords.{ClearsNode};
+ghost use Rattle.grown_runs.specs.Table.RunWords.{ClearsNode, words_in};
 ghost use Rattle.grown_runs.specs.Runs.GrownWords.{cleared};
 ghost use Rattle.grown_runs.specs.Table.PlacesOfWords.{sizes_in};
-ghost use Rattle.grown_runs.specs.Table.RunWords.{words_in};
 
 use crate::run_words::RunWords;
 

@@ -4,16 +4,14 @@ ghost use Rattle.std.specs.Prelude.{◌≡◌, ◌<◌, ◌≤◌, ℕ, Bool, []
 ghost use Rattle.plan_model.specs.Spaces.Clearance.{ClearAt};
 ghost use Rattle.plan_model.specs.Runs.ClosedLaw.{IsClosed};
 ghost use Rattle.plan_model.specs.Spaces.ConfigurationSpace.{space_of};
-ghost use Rattle.plan_model.specs.Trees.PointsByNumber.{IsPresent, node_count, point_at};
+ghost use Rattle.plan_model.specs.Trees.NodeLists.{IsPresent, node_count, point_at};
 ghost use Rattle.plan_model.specs.Runs.Textbook.{setup_of, skipping_goals, start_alone};
-ghost use Rattle.grown_runs.specs.Runs.HoldRunProps.{HoldRun-prop, Sizes-set};
+ghost use Rattle.grown_runs.specs.Runs.PackedRuns.{HoldRun-prop, Sizes-set, state_of_lists, IsLeastBest};
 ghost use Rattle.grown_runs.specs.Runs.GrownWords.{HoldRun, cleared, sizes_of};
 ghost use Rattle.plan_model.specs.Trees.TreeStates.{AreSameRuns, state_of};
 ghost use Rattle.grown_runs.specs.Ways.KdLinks.{LinksRise};
-ghost use Rattle.grown_runs.specs.Runs.PackedRuns.{state_of_lists};
 ghost use Rattle.grown_runs.specs.Table.PlacesOfWords.{sizes_in};
 ghost use Rattle.grown_runs.specs.Table.RunWords.{words_in};
-ghost use Rattle.grown_runs.specs.Runs.LeastBests.{IsLeastBest};
 ghost use Rattle.grown_runs.specs.Table.WordNames.{WritesWord};
 ghost use Rattle.grown_runs.specs.Table.WordNames.Word.{Best};
 

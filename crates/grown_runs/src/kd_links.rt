@@ -1,9 +1,8 @@
 //! The kd-tree (Bentley, CACM 1975) of a run's nodes, in their child words: a node is linked at the end of the way of its point.
 
 ghost use Rattle.std.specs.Prelude.{◌≡◌, ◌+◌, IfNone, None, is_some, slice_index_or};
-ghost use Rattle.plan_model.specs.Seen.Ways.{FollowWays};
-ghost use Rattle.plan_model.specs.Seen.SeenTrees.{IsSeen};
-ghost use Rattle.plan_model.specs.Trees.PointsByNumber.{StandsAt};
+ghost use Rattle.plan_model.specs.Seen.SeenTrees.{FollowWays, IsSeen};
+ghost use Rattle.plan_model.specs.Trees.NodeLists.{StandsAt};
 ghost use Rattle.grown_runs.specs.Runs.GrownWords.{children_of_words, points_of_words};
 ghost use Rattle.grown_runs.specs.Ways.KdLinks.{AreLinkedBelow, AreUnlinked, ChangesChildren, LinksRise, MayLink};
 ghost use Rattle.grown_runs.specs.Table.PlacesOfWords.{sizes_in};
@@ -54,7 +53,7 @@ struct LinkedNodes<'a> {
 impl KdTree for LinkedNodes<'_> {
     ghost use Rattle.std.specs.Prelude.{◌≡◌, None};
     ghost use Rattle.grown_runs.specs.Ways.KdLinks.{AreLinkedBelow, tree_below};
-    ghost use Rattle.grown_runs.specs.Ways.KdLinkLaws.{linked_ways_are_short};
+    ghost use Rattle.grown_runs.specs.Ways.KdLinks.{linked_ways_are_short};
     ghost use Rattle.grown_runs.specs.Table.PlacesOfWords.{sizes_in};
     ghost use Rattle.grown_runs.specs.Table.RunWords.{words_in};
 

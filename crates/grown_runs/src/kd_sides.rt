@@ -2,7 +2,7 @@
 //! by row, and equal coordinates go right.
 
 ghost use Rattle.std.specs.Prelude.{◌≡◌};
-ghost use Rattle.grown_runs.specs.Ways.KdSides.{goes_right_by, split_distance};
+ghost use Rattle.grown_runs.specs.Ways.KdLinks.{goes_right_by, split_distance};
 
 use plan_model::Point;
 

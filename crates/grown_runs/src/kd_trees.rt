@@ -1,7 +1,7 @@
 //! Kd-trees, as a walk sees them.
 
 ghost use Rattle.std.specs.Prelude.{◌≡◌, IfNone};
-ghost use Rattle.plan_model.specs.Trees.PointsByNumber.{StandsAt};
+ghost use Rattle.plan_model.specs.Trees.NodeLists.{StandsAt};
 ghost use Rattle.plan_model.specs.Seen.SeenTrees.{IsSeen};
 
 use plan_model::Point;
@@ -13,7 +13,7 @@ pub trait KdTree {
     ghost use Rattle.plan_model.specs.declared.geometry.Point.{Point};
     ghost use Rattle.plan_model.specs.declared.limits.TheConstants.{MOST_NODES};
     ghost use Rattle.plan_model.specs.Seen.SeenTrees.{SeenTree};
-    ghost use Rattle.plan_model.specs.Seen.Ways.{FillsPlaces, IsOnWay};
+    ghost use Rattle.plan_model.specs.Seen.SeenTrees.{FillsPlaces, IsOnWay};
 
     /// What a look changes, as what was seen so far.
     type Looks;

@@ -2,8 +2,7 @@
 
 ghost use Rattle.std.specs.Prelude.{◌≡◌, ◌≢◌, ◌+◌, ◌<◌, None, not, false};
 ghost use Rattle.plan_model.specs.declared.limits.TheConstants.{MOST_NODES};
-ghost use Rattle.grown_runs.specs.Ways.KdSides.{goes_right_by};
-ghost use Rattle.grown_runs.specs.Ways.KdWalks.{StopsAt, side_of};
+ghost use Rattle.grown_runs.specs.Ways.KdLinks.{goes_right_by, StopsAt, side_of};
 
 use crate::kd_sides::goes_right;
 use crate::kd_trees::KdTree;

@@ -1,9 +1,8 @@
 //! Nodes with their distances from a point, of which a search keeps the nearest.
 
 ghost use Rattle.std.specs.Prelude.{◌≡◌};
-ghost use Rattle.plan_model.specs.Geometry.Bounds.{IsBounded};
-ghost use Rattle.plan_model.specs.Geometry.Plane.{squared_distance};
-ghost use Rattle.grown_runs.specs.Ways.MeasuredNodes.{IsNearerOf};
+ghost use Rattle.plan_model.specs.Geometry.Plane.{IsBounded, squared_distance};
+ghost use Rattle.grown_runs.specs.Ways.KdLinks.{IsNearerOf};
 
 use plan_model::Point;
 

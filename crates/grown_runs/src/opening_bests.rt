@@ -3,9 +3,9 @@
 ghost use Rattle.std.specs.Prelude.{◌≡◌, ◌<◌, ◌≤◌, ◌^◌, if◌then◌else◌};
 ghost use Rattle.plan_model.specs.Runs.Textbook.{skipping_goals};
 ghost use Rattle.plan_model.specs.Trees.BestNode.{is_goal_point, lies_in_goals};
-ghost use Rattle.plan_model.specs.Trees.PointsByNumber.{point_at};
+ghost use Rattle.plan_model.specs.Trees.NodeLists.{point_at};
 ghost use Rattle.grown_runs.specs.Runs.GrownRuns.{state_of_grown};
-ghost use Rattle.grown_runs.specs.Runs.LeastBests.{IsLeastBest};
+ghost use Rattle.grown_runs.specs.Runs.PackedRuns.{IsLeastBest};
 ghost use Rattle.grown_runs.specs.Table.Words.{best_word, no_best};
 
 use crate::best_words::pack_best;

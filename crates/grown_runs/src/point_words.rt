@@ -1,7 +1,7 @@
 //! Points as words: bit 63 set, y in bits 20 to 39, x in bits 0 to 19. A word is 0 until its point is written.
 
 ghost use Rattle.std.specs.Prelude.{◌≡◌};
-ghost use Rattle.plan_model.specs.Geometry.Bounds.{IsBounded};
+ghost use Rattle.plan_model.specs.Geometry.Plane.{IsBounded};
 ghost use Rattle.grown_runs.specs.Table.Words.{point_in, point_of_word, point_word};
 
 use crate::layout::{COORDINATE_MASK, WRITTEN, Y_SHIFT};

@@ -12,14 +12,12 @@ pub use Rattle.grown_runs.proofs.Ways.WalkStops.{StopsAt-fills, StopsAt-root}
 pub use Rattle.grown_runs.specs.Table.Words.{point_word}
 pub use Rattle.grown_runs.specs.declared.kd_walks.Stop.{Stop}
 pub use Rattle.grown_runs.specs.declared.measured_nodes.MeasuredNode.{MeasuredNode}
-pub use Rattle.kd_shared.specs.FarSides.{IsChildSpot, IsFinished, LoadsFar, LoadsSpot, PopsFar, StacksFar, WalksOn, far_side, line_square, near_side}
-pub use Rattle.kd_shared.specs.Loads.{FindsChild, FindsEmpty, KeepsPoints, LoadsChild, LoadsPoint}
-pub use Rattle.kd_shared.specs.LookLaws.{OnlyLooks-trans, PassLooks-fills, PassLooks-short, PassLooks-trans}
-pub use Rattle.kd_shared.specs.Looking.{KeepsLists, OnlyLooks, PassLooks, searched}
-pub use Rattle.kd_shared.specs.Placings.{AddsHand, GoesOnPlacing, IsPlaced, IsSame, IsWordOfLink, KeepsShare, SeesLinked, WasLinkedSince, state_seen}
-pub use Rattle.kd_shared.specs.Searches.{AreGathered, AreNearSeen, IsNearestSeen, SweepsWithin}
-pub use Rattle.kd_shared.specs.Spots.{IsChildWithin, LeavesChild, Opens, Puts, QueuesChild, QueuesWithin, past_line, side_distance}
-pub use Rattle.kd_shared.specs.WordStops.{IsShift, StopsAtWord, stop_of}
+pub use Rattle.kd_shared.specs.Searches.{AreGathered, AreNearSeen, IsChildSpot, IsChildWithin, IsFinished, IsNearestSeen, IsShift, LeavesChild, LoadsFar}
+pub use Rattle.kd_shared.specs.Searches.{LoadsSpot, Opens, PopsFar, Puts, QueuesChild, QueuesWithin, StacksFar, StopsAtWord, SweepsWithin, WalksOn, far_side}
+pub use Rattle.kd_shared.specs.Searches.{line_square, near_side, past_line, side_distance, stop_of}
+pub use Rattle.kd_shared.specs.Looking.{FindsChild, FindsEmpty, KeepsLists, KeepsPoints, LoadsChild, LoadsPoint, OnlyLooks, OnlyLooks-trans, PassLooks}
+pub use Rattle.kd_shared.specs.Looking.{PassLooks-fills, PassLooks-short, PassLooks-trans, searched}
+pub use Rattle.kd_shared.specs.Placings.{AddsHand, GoesOnPlacing, IsPlaced, IsWordOfLink, KeepsShare, SeesLinked, WasLinkedSince, state_seen}
 pub use Rattle.plan_model.proofs.SamePoints.{same_point-false, same_point-true}
 pub use Rattle.plan_words.proofs.Common.{BelongsTo, BelongsTo-later, Contains-number, GoesOn, GoesOn-trans, HasLinked, HasLooked-loaded, HasLooked-refl}
 pub use Rattle.plan_words.proofs.Common.{HasWholeShare, IsBounded-hand, IsLinkedAt, IsLinkedAt-counted, LeadsOn, NamesChildOrPoint, NamesNode, NamesNode-child}
@@ -47,8 +45,8 @@ pub use Rattle.std.specs.Int.{abs_diff}
 pub use Rattle.std.specs.List.{IsDistinct, range_with_len}
 pub use Rattle.std.specs.List.Sorted.{IsNonDecreasing, IsPermutation, IsStrictlyIncreasing, IsStrictlySortedBy}
 pub use Rattle.std.specs.Ordering.{nat_cmp}
-pub use Rattle.std.specs.Prelude.{All, Contains, IfSome, IsFalse, IsSome, MatchOption, if◌then◌else◌, map, nat_le, nat_lt, option_to_list, slice_get, ◌==◌, ◌≢◌}
-pub use Rattle.step_core.proofs.Common.{AreDifferent-after, Contains-within, HasLooked, IsBounded-seen, IsFree-here, IsLater, IsLater-refl, IsLater-trans}
+pub use Rattle.std.specs.Prelude.{All, Contains, IfSome, IsFalse, IsSome, MatchOption, if◌then◌else◌, map, nat_le, nat_lt, slice_get, ◌==◌, ◌≢◌}
+pub use Rattle.step_core.proofs.Common.{AreDifferent-after, Contains-within, HasLooked, IsFree-here, IsLater, IsLater-refl, IsLater-trans}
 pub use Rattle.step_core.proofs.Common.{IsLaterMoment-later, IsLawfulView, IsOnWay-later, KeepsSight-lawful, LeadsTo, SeesNode, SeesPoint, ShowsNode}
 pub use Rattle.step_core.proofs.Common.{WritesWord-saw, counted, has_first, has_link, last_look, linked, linked_points-seen, loaded, note_before, place_in}
 pub use Rattle.step_core.proofs.Common.{point_at-kept, record-unplaced, run_sizes, same_name, sees, sees-linked, sight_in, tree_seen}

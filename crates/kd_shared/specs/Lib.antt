@@ -1,8 +1,4 @@
-pub mod Loads
-pub mod Spots
-pub mod FarSides
+pub mod Terms
 pub mod Searches
-pub mod Looking
 pub mod Placings
-pub mod LookLaws
-pub mod WordStops
+pub mod Looking

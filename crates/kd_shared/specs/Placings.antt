@@ -1,25 +1,8 @@
 -- Where the node in hand came to.
 use Rattle.std.specs.Prelude.{◌≡◌, ◌≢◌, ℕ, suc, ◌+◌, ◌<◌, Bool, Some}
-use Rattle.kd_shared.specs.declared.placing.Placing.{Placing}
-use Rattle.kd_shared.specs.declared.placing.Placing.TheVariants.{Placed, Same}
-use Rattle.plan_model.specs.Trees.PointsByNumber.{IsPresent, StandsAt, point_at}
-use Rattle.plan_model.specs.Trees.TreeStates.{TreeState}
-use Rattle.plan_model.specs.Seen.Ways.{IsOnWay}
-use Rattle.plan_words.specs.Bests.{SeesBestSince}
-use Rattle.plan_words.specs.Claims.{SeesAsBefore}
-use Rattle.plan_words.specs.Nodes.{NamesNode}
-use Rattle.plan_words.specs.States.{GoesOn}
-use Rattle.step_core.specs.LaterViews.{HasLooked}
-use Rattle.step_core.specs.SharedWords.{state_of_links}
-use Rattle.step_core.specs.ViewSteps.{note_before, pair_in_hand, place_in}
-use Rattle.step_core.specs.ViewTrees.{LeadsTo, SeesPoint}
-use Rattle.step_core.specs.Views.{last_look, run_sizes, sees, tree_seen}
-use Rattle.grown_runs.specs.Table.WordNames.{ChangesOnly, Word}
-use Rattle.grown_runs.specs.Table.WordNames.Word.{ChildOf, Count, FirstOf, PointOf, TreeOf}
-use Rattle.grown_runs.specs.Table.Words.{point_word}
-use Rattle.step_core.specs.declared.views.Hand.{Hand}
-use Rattle.step_core.specs.declared.views.Stage.TheVariants.{Counted}
-use Rattle.step_core.specs.declared.views.View.{View}
+use Rattle.kd_shared.specs.Terms.{ChangesOnly, ChildOf, Count, Counted, FirstOf, GoesOn, Hand, HasLooked, IsOnWay, IsPresent, LeadsTo, NamesNode, Placed}
+use Rattle.kd_shared.specs.Terms.{Placing, PointOf, Same, SeesAsBefore, SeesBestSince, SeesPoint, StandsAt, TreeOf, TreeState, View, Word, last_look}
+use Rattle.kd_shared.specs.Terms.{note_before, pair_in_hand, place_in, point_at, point_word, run_sizes, sees, state_of_links, tree_seen}
 
 -- What was seen stays seen, and of all words none is seen anew but words of nodes; the best word only by a look.
 pub record GoesOnPlacing (before after : View) : Type 0 where

@@ -2,9 +2,8 @@
 
 ghost use Rattle.std.specs.Prelude.{◌≡◌, ◌+◌, ◌<◌, ◌≤◌, IsFalse, false, if◌then◌else◌, length, true};
 ghost use Rattle.kd_shared.specs.Looking.{KeepsLists, OnlyLooks, PassLooks};
-ghost use Rattle.kd_shared.specs.Searches.{AreGathered, AreNearSeen};
-ghost use Rattle.kd_shared.specs.Spots.{IsChildWithin, side_distance};
-ghost use Rattle.plan_model.specs.Geometry.Bounds.{IsBounded};
+ghost use Rattle.kd_shared.specs.Searches.{AreGathered, AreNearSeen, IsChildWithin, side_distance};
+ghost use Rattle.plan_model.specs.Geometry.Plane.{IsBounded};
 ghost use Rattle.plan_words.specs.States.{BelongsTo};
 ghost use Rattle.step_core.specs.ViewTrees.{SeesNode, sight_in};
 

@@ -1,10 +1,9 @@
 //! The search for the nearest node of those that are seen.
 
 ghost use Rattle.std.specs.Prelude.{◌≡◌, ◌⊎◌, ◌<◌, ◌≤◌, ◌+◌, Contains, IsFalse, length, nat_le};
-ghost use Rattle.kd_shared.specs.FarSides.{LoadsFar, LoadsSpot, PopsFar, StacksFar, WalksOn, line_square, near_side};
+ghost use Rattle.kd_shared.specs.Searches.{LoadsFar, LoadsSpot, PopsFar, StacksFar, WalksOn, line_square, near_side, IsNearestSeen};
 ghost use Rattle.kd_shared.specs.Looking.{KeepsLists, OnlyLooks, searched};
-ghost use Rattle.kd_shared.specs.Searches.{IsNearestSeen};
-ghost use Rattle.plan_model.specs.Geometry.Bounds.{IsBounded};
+ghost use Rattle.plan_model.specs.Geometry.Plane.{IsBounded};
 ghost use Rattle.plan_words.specs.States.{BelongsTo, with_view};
 ghost use Rattle.plan_words.specs.declared.spots.Spot.{Spot as SpotState};
 ghost use Rattle.step_core.specs.ViewTrees.{SeesNode, sight_in};

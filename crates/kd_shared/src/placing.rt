@@ -3,7 +3,7 @@
 ghost use Rattle.std.specs.Prelude.{◌≡◌, IfSome, IsSome};
 ghost use Rattle.kd_shared.specs.Placings.{GoesOnPlacing, IsPlacing, KeepsShare, SeesPlacing, WasPlacedSince};
 ghost use Rattle.kd_shared.specs.declared.placing.Placing.TheVariants.{Placed};
-ghost use Rattle.plan_model.specs.Trees.PointsByNumber.{IsFree};
+ghost use Rattle.plan_model.specs.Trees.NodeLists.{IsFree};
 ghost use Rattle.plan_words.specs.States.{BelongsTo, HasWholeShare, with_view};
 ghost use Rattle.step_core.specs.Views.{tree_seen};
 ghost use Rattle.step_core.specs.declared.views.Stage.TheVariants.{Treed};

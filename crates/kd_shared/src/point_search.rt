@@ -2,7 +2,7 @@
 
 ghost use Rattle.std.specs.Prelude.{◌≡◌, IfNone, IfSome};
 ghost use Rattle.kd_shared.specs.Looking.{OnlyLooks};
-ghost use Rattle.plan_model.specs.Trees.PointsByNumber.{IsFree};
+ghost use Rattle.plan_model.specs.Trees.NodeLists.{IsFree};
 ghost use Rattle.plan_model.specs.Seen.Sights.{EndsSince};
 ghost use Rattle.plan_words.specs.States.{BelongsTo, with_view};
 ghost use Rattle.step_core.specs.ViewTrees.{SeesPoint, sight_in};

@@ -5,7 +5,7 @@ ghost use lib.ListN.{get_elem?};
 ghost use mathlib.Core.Option.{some};
 ghost use Rattle.kd_shared.specs.Searches.{SweepsWithin};
 ghost use Rattle.plan_model.specs.Geometry.Plane.{squared_distance};
-ghost use Rattle.plan_model.specs.Trees.PointsByNumber.{IsFree};
+ghost use Rattle.plan_model.specs.Trees.NodeLists.{IsFree};
 ghost use Rattle.plan_model.specs.declared.geometry.Point.{Point};
 ghost use Rattle.step_core.specs.Histories.{HasCome, WasFree};
 ghost use Rattle.step_core.specs.ViewTrees.{sight_in};

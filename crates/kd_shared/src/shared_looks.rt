@@ -1,9 +1,8 @@
 //! The shared tree as a walk looks at it: by steps of a pass.
 
 ghost use Rattle.std.specs.Prelude.{◌≡◌, IfNone};
-ghost use Rattle.kd_shared.specs.Loads.{FindsEmpty};
-ghost use Rattle.kd_shared.specs.Looking.{PassLooks};
-ghost use Rattle.plan_model.specs.Trees.PointsByNumber.{StandsAt};
+ghost use Rattle.kd_shared.specs.Looking.{FindsEmpty, PassLooks};
+ghost use Rattle.plan_model.specs.Trees.NodeLists.{StandsAt};
 ghost use Rattle.plan_words.specs.States.{BelongsTo};
 ghost use Rattle.step_core.specs.ViewTrees.{SeesNode, sight_in};
 ghost use Rattle.step_core.specs.Views.{tree_seen};
@@ -19,7 +18,7 @@ pub(crate) struct SharedTree<'a> {
 }
 
 impl KdTree for SharedTree<'_> {
-    ghost use Rattle.kd_shared.specs.LookLaws.{PassLooks-empty, PassLooks-fills, PassLooks-short, PassLooks-trans};
+    ghost use Rattle.kd_shared.specs.Looking.{PassLooks-empty, PassLooks-fills, PassLooks-short, PassLooks-trans};
 
     type Looks = Pass;
 

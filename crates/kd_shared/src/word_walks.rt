@@ -2,14 +2,13 @@
 
 ghost use Rattle.std.specs.Prelude.{◌≡◌, ◌≢◌, ◌+◌, ◌-◌, ◌<◌, ◌==◌, IfNone, IfSome, IsFalse};
 ghost use Rattle.kd_shared.specs.Looking.{PassLooks};
-ghost use Rattle.kd_shared.specs.WordStops.{IsShift, StopsAtWord};
-ghost use Rattle.plan_model.specs.Geometry.Bounds.{IsBounded};
+ghost use Rattle.kd_shared.specs.Searches.{IsShift, StopsAtWord};
+ghost use Rattle.plan_model.specs.Geometry.Plane.{IsBounded};
 ghost use Rattle.plan_model.specs.declared.limits.TheConstants.{MOST_NODES};
 ghost use Rattle.plan_words.specs.States.{BelongsTo};
 ghost use Rattle.step_core.specs.Views.{tree_seen};
 ghost use Rattle.grown_runs.specs.Table.Words.{point_in};
-ghost use Rattle.grown_runs.specs.Ways.KdSides.{goes_right_by};
-ghost use Rattle.grown_runs.specs.Ways.KdWalks.{StopsAt};
+ghost use Rattle.grown_runs.specs.Ways.KdLinks.{goes_right_by, StopsAt};
 
 use plan_model::Point;
 use plan_words::{Pass, Shared};

@@ -4,20 +4,16 @@ pub use Rattle.convex_sets.proofs.ConvexPolygons.{IsConvex, IsConvex-from_test}
 pub use Rattle.convex_sets.proofs.Fans.{inside_at}
 pub use Rattle.convex_sets.specs.Boxes.{IsBoundingBox, at_corner, boxes_meet, segment_box}
 pub use Rattle.convex_sets.specs.declared.bounding_boxes.BoundingBox.{BoundingBox}
-pub use Rattle.obstacle_boxes.specs.LeafBoxes.{AreLeavesOf, Holds, HoldsAll, IsLeafAmong, IsMissed, leaves_met}
-pub use Rattle.obstacle_boxes.specs.NearZones.{AreZoneBoxes, near_count}
-pub use Rattle.obstacle_boxes.specs.Searches.{AreApartBelow, CrossesSome, HasSearched}
-pub use Rattle.obstacle_boxes.specs.Trees.{Adds, IsAbove, IsTree, IsTreeOver, leaf_of, leaves_in}
+pub use Rattle.obstacle_boxes.specs.Trees.{Adds, AreApartBelow, AreLeavesOf, AreZoneBoxes, CrossesSome, HasSearched, Holds, HoldsAll, IsAbove, IsLeafAmong}
+pub use Rattle.obstacle_boxes.specs.Trees.{IsMissed, IsTree, IsTreeOver, leaf_of, leaves_in, leaves_met, near_count}
 pub use Rattle.obstacle_boxes.specs.declared.box_nodes.Node.{Node}
 pub use Rattle.obstacle_boxes.specs.declared.box_nodes.Node.TheVariants.{Halves, Zone}
 pub use Rattle.obstacle_boxes.specs.declared.leaves.Leaf.{Leaf}
 pub use Rattle.plan_model.proofs.Ring.{minus, same, times, var}
-pub use Rattle.plan_model.specs.Geometry.Convexity.{corner_at, next_corner}
-pub use Rattle.plan_model.specs.Geometry.Plane.{orientation}
+pub use Rattle.plan_model.specs.Geometry.Plane.{corner_at, next_corner, orientation}
 pub use Rattle.plan_model.specs.Spaces.Clearance.{Clear, on_the_way}
-pub use Rattle.plan_model.specs.Spaces.HalfPlanes.{IsInside}
-pub use Rattle.plan_model.specs.Spaces.RoomOfConfigurations.{InRoom, at_lattice}
-pub use Rattle.plan_model.specs.Spaces.Zones.{IsZoneOf}
+pub use Rattle.plan_model.specs.Spaces.Zones.{IsInside, IsZoneOf}
+pub use Rattle.plan_model.specs.Spaces.ConfigurationSpace.{InRoom, at_lattice}
 pub use Rattle.plan_model.specs.declared.configuration_spaces.ConfigurationSpace.{ConfigurationSpace}
 pub use Rattle.plan_model.specs.declared.geometry.Point.{Point}
 pub use Rattle.plan_model.specs.declared.geometry.Vertex.{Vertex}
@@ -34,5 +30,4 @@ pub use Rattle.std.proofs.lemmas.List.Sums.{sum_by-append, sum_by-cons}
 pub use Rattle.std.specs.Prelude.{All, IsPermutation, IsTrue, count_by, int_le, pos, ℤ, ◌≤ℤ◌}
 pub use Rattle.swept_check.proofs.BoxRejects.{meets-crossed}
 pub use Rattle.swept_check.proofs.HallLaws.{CrossesNone, CrossesNone-clear, clear_of, first_in_room, last_in_room}
-pub use Rattle.swept_check.specs.Crossings.{Crosses}
-pub use Rattle.swept_check.specs.Halls.{AreZonesOf}
+pub use Rattle.swept_check.specs.Crossings.{AreZonesOf, Crosses}

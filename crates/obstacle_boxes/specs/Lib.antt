@@ -1,4 +1,2 @@
-pub mod NearZones
-pub mod LeafBoxes
+pub mod Terms
 pub mod Trees
-pub mod Searches

@@ -2,7 +2,7 @@
 
 ghost use Rattle.std.specs.Prelude.{◌≡◌, ◌↔◌, ◌+◌, ◌<◌, ◌≤◌, IfOk, IsTrue, List, false};
 ghost use Rattle.plan_model.specs.Spaces.Clearance.{Clear};
-ghost use Rattle.plan_model.specs.Spaces.RoomOfConfigurations.{InRoom, at_lattice};
+ghost use Rattle.plan_model.specs.Spaces.ConfigurationSpace.{InRoom, at_lattice};
 ghost use Rattle.convex_sets.specs.declared.bounding_boxes.BoundingBox.{BoundingBox};
 
 use crate::box_nodes::{Node, push_tree};
@@ -41,8 +41,8 @@ impl Model for Boxes {
 }
 
 impl Boxes {
-    ghost use Rattle.obstacle_boxes.specs.NearZones.{AreZoneBoxes, near_count};
-    ghost use Rattle.swept_check.specs.Halls.{AreZonesOf};
+    ghost use Rattle.obstacle_boxes.specs.Trees.{AreZoneBoxes, near_count};
+    ghost use Rattle.swept_check.specs.Crossings.{AreZonesOf};
 
     /// The collision checker that returns what a hall returns, also without an obstacle. O(n log² n) for n obstacles.
     ///

@@ -1,11 +1,9 @@
 //! The descent of the tree that tests the zones near a segment.
 
 ghost use Rattle.std.specs.Prelude.{◌≡◌, ℕ, ◌+◌, ◌<◌, ◌≤◌, All, IsTrue, false, length, slice_index_or};
-ghost use Rattle.plan_model.specs.Geometry.Bounds.{IsBounded};
+ghost use Rattle.plan_model.specs.Geometry.Plane.{IsBounded};
 ghost use Rattle.convex_sets.specs.Boxes.{segment_box};
-ghost use Rattle.obstacle_boxes.specs.LeafBoxes.{IsLeafAmong, IsMissed, leaves_met};
-ghost use Rattle.obstacle_boxes.specs.Searches.{CrossesSome, HasSearched};
-ghost use Rattle.obstacle_boxes.specs.Trees.{IsTree, leaves_in};
+ghost use Rattle.obstacle_boxes.specs.Trees.{IsLeafAmong, IsMissed, leaves_met, IsTree, leaves_in, CrossesSome, HasSearched};
 
 use crate::box_nodes::Node;
 use convex_sets::{BoundingBox, Zone};

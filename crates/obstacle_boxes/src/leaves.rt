@@ -1,7 +1,7 @@
 //! Zones with their boxes, and the order in which a tree holds them.
 
 ghost use Rattle.std.specs.Prelude.{◌≡◌, ◌<◌, IfOk, IsPermutation, length};
-ghost use Rattle.obstacle_boxes.specs.LeafBoxes.{AreLeavesOf, Holds, HoldsAll};
+ghost use Rattle.obstacle_boxes.specs.Trees.{AreLeavesOf, Holds, HoldsAll};
 
 use convex_sets::{BoundingBox, Zone};
 use plan_model::{Memory, Vertex};

@@ -2,8 +2,7 @@
 use Rattle.std.proofs.Common.{◌≡◌, ℕ, zero, suc, ◌<◌, List, [], ◌∷◌, length, arith, refl, sym, subst}
 use Rattle.grown_runs.proofs.Common.{Point, ConfigurationSpace, IsBounded, Clear, path_point, IsClearPath, RiseToLast, kept_points}
 use Rattle.swept_check.proofs.BoundedSegments.{IsBounded-clear}
-use Rattle.path_tools.specs.SmoothPaths.{IsClearChoice, IsLeastChoice, IsChoiceNotAbove}
-use Rattle.path_tools.specs.Rests.{IsClearRest, IsLeastRest}
+use Rattle.path_tools.specs.SmoothPaths.{IsClearChoice, IsLeastChoice, IsChoiceNotAbove, IsClearRest, IsLeastRest}
 use Rattle.path_tools.proofs.RestLaws.{BeginsBelow-inside}
 
 module _ (space : ConfigurationSpace) where

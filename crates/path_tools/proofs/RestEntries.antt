@@ -4,7 +4,7 @@ use Rattle.std.proofs.lemmas.Bool.{cases_lt}
 use Rattle.std.proofs.lemmas.List.{get_or-replicate, length-replicate}
 use Rattle.grown_runs.proofs.Common.{Point, ConfigurationSpace, cost_of, Clear, path_point, IsClearPath, cost_of_choice}
 use Rattle.path_tools.specs.declared.rests.Rest.{Rest}
-use Rattle.path_tools.specs.Rests.{HasRoom, IsLeastRest, IsRestBelow, rest_at, AreRestsFrom}
+use Rattle.path_tools.specs.SmoothPaths.{HasRoom, IsLeastRest, IsRestBelow, rest_at, AreRestsFrom}
 use Rattle.path_tools.proofs.RestLaws.{IsClearRest-inside, IsLeastRest-last, IsLeastRest-straight, IsLeastRest-first, IsLeastRest-takes}
 use Rattle.path_tools.proofs.RestLaws.{IsLeastRest-keeps, IsLeastRest-blocked}
 

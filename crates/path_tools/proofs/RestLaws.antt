@@ -2,8 +2,7 @@
 use Rattle.std.proofs.Common.{◌≡◌, ℕ, suc, ◌<◌, ◌≤◌, ◌⊎◌, inl, inr, List, [], ◌∷◌, length, arith, refl, sym, ap, ◌∙◌, subst}
 use Rattle.std.proofs.lemmas.Bool.{cases_lt}
 use Rattle.grown_runs.proofs.Common.{Point, ConfigurationSpace, cost_of, Clear, path_point, cost_of_choice, cost_of-triangle}
-use Rattle.path_tools.specs.SmoothPaths.{IsNotAfter, IsChoiceNotAbove}
-use Rattle.path_tools.specs.Rests.{IsClearRest, BeginsBelow, IsLeastRest}
+use Rattle.path_tools.specs.SmoothPaths.{IsNotAfter, IsChoiceNotAbove, IsClearRest, BeginsBelow, IsLeastRest}
 
 -- ---- positions from the front
 

@@ -3,8 +3,7 @@ use Rattle.std.proofs.Common.{◌≡◌, ℕ, suc, ◌-◌, ◌<◌, List, [], �
 use Rattle.std.proofs.lemmas.List.{map-append, append-nil, get_or_read}
 use Rattle.grown_runs.proofs.Common.{Point, ConfigurationSpace, path_point, kept_points, cost_of_choice, length_of_path}
 use Rattle.path_tools.specs.declared.rests.Rest.{Rest}
-use Rattle.path_tools.specs.SmoothPaths.{IsLeastChoice, IsSmoothed}
-use Rattle.path_tools.specs.Rests.{BeginsWith, IsLeastRest, IsRestBelow, AreRestsFrom}
+use Rattle.path_tools.specs.SmoothPaths.{IsLeastChoice, IsSmoothed, BeginsWith, IsLeastRest, IsRestBelow, AreRestsFrom}
 use Rattle.path_tools.proofs.RestLaws.{IsClearRest-inside, IsLeastRest-same, IsLeastRest-next}
 use Rattle.path_tools.proofs.ClearRests.{IsLeastChoice-rest}
 

@@ -1,3 +1,2 @@
+pub mod Terms
 pub mod SmoothPaths
-pub mod Rests
-pub mod SmoothedReports

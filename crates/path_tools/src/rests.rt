@@ -1,9 +1,9 @@
 //! The ways on from a position of a path to its end, over some of the points that follow.
 
 ghost use Rattle.std.specs.Prelude.{◌≡◌, ◌↔◌, ◌⊎◌, ◌+◌, ◌<◌, IsTrue};
-ghost use Rattle.plan_model.specs.Geometry.Bounds.{IsBounded};
-ghost use Rattle.plan_model.specs.Geometry.Cost.{cost_of};
-ghost use Rattle.path_tools.specs.Rests.{HasRoom};
+ghost use Rattle.plan_model.specs.Geometry.Plane.{IsBounded};
+ghost use Rattle.plan_model.specs.Geometry.Lengths.{cost_of};
+ghost use Rattle.path_tools.specs.SmoothPaths.{HasRoom};
 
 use edge_cost::{cost, costs_less_through};
 use plan_model::Point;

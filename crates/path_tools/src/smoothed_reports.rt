@@ -3,9 +3,9 @@
 ghost use Rattle.std.specs.Prelude.{◌≡◌, IfOk};
 ghost use Rattle.plan_model.specs.Spaces.ConfigurationSpace.{space_of};
 ghost use Rattle.plan_model.specs.Trees.BestNode.{best_node, goals_of};
-ghost use Rattle.plan_model.specs.Trees.PointsByNumber.{IsPresent};
+ghost use Rattle.plan_model.specs.Trees.NodeLists.{IsPresent};
 ghost use Rattle.plan_model.specs.Trees.TreeStates.{IsSettled};
-ghost use Rattle.path_tools.specs.SmoothedReports.{IsSmoothedReport, ReportsSmoothed};
+ghost use Rattle.path_tools.specs.SmoothPaths.{IsSmoothedReport, ReportsSmoothed};
 ghost use Rattle.grown_runs.specs.Runs.GrownRuns.{state_of_grown};
 
 use crate::smoothing::cheapest_path;

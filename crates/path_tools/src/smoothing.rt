@@ -1,10 +1,9 @@
 //! Path smoothing: the cheapest way over some of the points of a path.
 
 ghost use Rattle.std.specs.Prelude.{◌≡◌, suc, ◌<◌, ◌≤◌, length, IfOk};
-ghost use Rattle.plan_model.specs.Spaces.ClearPaths.{IsClearPath};
+ghost use Rattle.plan_model.specs.Spaces.Clearance.{IsClearPath};
 ghost use Rattle.plan_model.specs.Trees.NodeLists.{length_of_path};
-ghost use Rattle.path_tools.specs.Rests.{AreRestsFrom, IsRestBelow};
-ghost use Rattle.path_tools.specs.SmoothPaths.{IsSmoothed};
+ghost use Rattle.path_tools.specs.SmoothPaths.{AreRestsFrom, IsRestBelow, IsSmoothed};
 
 use crate::rests::Rest;
 use plan_model::{Memory, Point, Points};

@@ -1,7 +1,7 @@
 //! What it means that a path is smoothed. Each law is the contract of a function that does nothing.
 
 ghost use Rattle.std.specs.Prelude.{◌≡◌, List};
-ghost use Rattle.plan_model.specs.Spaces.ClearPaths.{IsClearPath};
+ghost use Rattle.plan_model.specs.Spaces.Clearance.{IsClearPath};
 ghost use Rattle.plan_model.specs.declared.configuration_spaces.ConfigurationSpace.{ConfigurationSpace};
 ghost use Rattle.plan_model.specs.declared.geometry.Point.{Point};
 ghost use Rattle.path_tools.specs.SmoothPaths.{IsSmoothed};

@@ -2,22 +2,18 @@
 pub use Rattle.any_time.proofs.EachSlice.{items_fall_on}
 pub use Rattle.any_time.proofs.GatheredItems.{AreBetterPaths-gathered, EndsWith-gathered}
 pub use Rattle.any_time.proofs.KnownOptions.{there_some}
-pub use Rattle.any_time.specs.BatchItems.{ArePolled}
-pub use Rattle.any_time.specs.BestPaths.{Shows, best_sum}
-pub use Rattle.any_time.specs.Gathering.{Gathers}
+pub use Rattle.any_time.specs.Batches.{ArePolled, Gathers}
+pub use Rattle.any_time.specs.Sessions.{IsBetter, IsNew, IsOver, Moves, Polls, SessionState, Shows, best_sum}
 pub use Rattle.any_time.specs.Items.{Answers, HasGiven, betters_among}
-pub use Rattle.any_time.specs.Sessions.{IsBetter, IsNew, IsOver, Moves, Polls, SessionState}
 pub use Rattle.any_time.specs.declared.betters.Better.{Better}
 pub use Rattle.futures.specs.declared.task.Poll.{Poll}
 pub use Rattle.futures.specs.declared.task.Poll.TheVariants.{Pending, Ready}
 pub use Rattle.grown_runs.proofs.Common.{MOST_TEXT_BYTES, length-points_of_marks}
 pub use Rattle.grown_runs.specs.Runs.GrownRuns.{state_of_grown}
 pub use Rattle.grown_runs.specs.declared.grown.Grown.{Grown}
-pub use Rattle.path_watch.specs.Blocks.{block, end_text}
-pub use Rattle.path_watch.specs.Handing.{Comes, Cuts, Hands, Takes, pendings}
+pub use Rattle.path_watch.specs.Watching.{Comes, Cuts, EndsAfter, Hands, HandsEnd, HasWatched, IsAfter, IsAskedSession, IsRefused, Refuses, Takes}
+pub use Rattle.path_watch.specs.Watching.{TakesBlocks, Watches, WatchesScene, block, end_text, pendings, status_of_ending}
 pub use Rattle.path_watch.specs.WatchWords.{as_plan, orders_of}
-pub use Rattle.path_watch.specs.WatchedCalls.{HasWatched, IsAskedSession, IsRefused, WatchesScene, status_of_ending}
-pub use Rattle.path_watch.specs.Watching.{EndsAfter, HandsEnd, IsAfter, Refuses, TakesBlocks, Watches}
 pub use Rattle.path_watch.specs.declared.watch_words.Orders.{Orders}
 pub use Rattle.path_watch.specs.declared.watching.Ending.{Ending}
 pub use Rattle.plan_model.specs.Reports.ReportText.{report_text}
@@ -30,11 +26,10 @@ pub use Rattle.plan_model.specs.declared.scenes.Scene.{Scene}
 pub use Rattle.planner.proofs.Causes.{IfErr-only, IsReadWhole-fetched}
 pub use Rattle.planner.proofs.DecidedStatuses.{refusal_decided, success_decided}
 pub use Rattle.planner.proofs.GivenBatches.{IsRunBySlices-finished}
-pub use Rattle.planner.specs.BatchSessions.{IsSessionOf}
+pub use Rattle.planner.specs.Endings.{IsDecided, IsSessionOf}
 pub use Rattle.planner.specs.CheckedTexts.{RefusesSceneText}
 pub use Rattle.planner.specs.Conclusions.{IsCaused, IsRunBySlices, status_of_report}
-pub use Rattle.planner.specs.Decisions.{IsDecided}
-pub use Rattle.planner.specs.Exchanges.{IsReadWhole, IsUnread, ReadFailed, WriteFailed}
+pub use Rattle.planner.specs.Inputs.{IsReadWhole, IsUnread, ReadFailed, WriteFailed}
 pub use Rattle.planner.specs.Refusals.{status_of}
 pub use Rattle.planner.specs.declared.refusals.Refusal.{Refusal}
 pub use Rattle.planner.specs.declared.statuses.TheConstants.{NO_MEMORY}

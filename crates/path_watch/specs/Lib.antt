@@ -1,5 +1,3 @@
-pub mod Blocks
-pub mod Handing
+pub mod Terms
 pub mod WatchWords
 pub mod Watching
-pub mod WatchedCalls

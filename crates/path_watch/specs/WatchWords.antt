@@ -1,10 +1,7 @@
 -- What the words of the command line ask for.
 use Rattle.std.specs.Prelude.{ℕ, ◌+◌, ◌/◌, max, false, Option, Some, None, option_map, option_and_then, List, [], ◌∷◌}
-use Rattle.plan_model.specs.declared.limits.TheConstants.{MOST_MARKS, MOST_WORKERS}
-use Rattle.planner.specs.Commands.{number_in}
-use Rattle.planner.specs.declared.commands.Command.{Command}
+use Rattle.path_watch.specs.Terms.{Command, MOST_MARKS, MOST_WORKERS, Orders, number_in}
 use Rattle.planner.specs.declared.commands.Command.TheVariants as commands
-use Rattle.path_watch.specs.declared.watch_words.Orders.{Orders}
 
 -- the word asks for so many workers
 abbrev pub orders_by : List ℕ → Option Orders

@@ -1,9 +1,9 @@
 //! The texts that are written while a session is watched.
 
 ghost use Rattle.std.specs.Prelude.{◌≡◌, ◌++◌, IfOk, OnOk, string_bytes};
-ghost use Rattle.any_time.specs.BetterReports.{better_line};
-ghost use Rattle.any_time.specs.BestPaths.{best_of};
-ghost use Rattle.path_watch.specs.Blocks as spec;
+ghost use Rattle.any_time.specs.BetterPaths.{better_line};
+ghost use Rattle.any_time.specs.Sessions.{best_of};
+ghost use Rattle.path_watch.specs.Watching as spec;
 
 use any_time::Better;
 use settle_report::{push_counts_line, push_path_line, push_point_lines};

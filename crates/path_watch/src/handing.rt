@@ -1,7 +1,7 @@
 //! One step of a session that is watched: to its next item, whose block is handed to a sink.
 
 ghost use Rattle.std.specs.Prelude.{◌≡◌, IfOk, OnErr, Ok, Some};
-ghost use Rattle.path_watch.specs.Handing.{Steps, TakesBlock, given_in};
+ghost use Rattle.path_watch.specs.Watching.{Steps, TakesBlock, given_in};
 
 use crate::blocks::block;
 use crate::progress::Progress;
@@ -48,7 +48,7 @@ impl<'a, C: Growing + Drop, R: Threads + Sync + Drop, P: Progress> Future
     for NextItem<'a, C, R, P> {
     ghost use denote.Param.Send.{IsSync};
     ghost use Rattle.std.specs.Prelude.{◌≡◌, IfSome, IsSome};
-    ghost use Rattle.path_watch.specs.Handing.{Comes};
+    ghost use Rattle.path_watch.specs.Watching.{Comes};
 
     type Output = Given<C, R>;
 

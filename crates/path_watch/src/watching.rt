@@ -1,9 +1,8 @@
 //! A session that is watched until its end.
 
 ghost use Rattle.std.specs.Prelude.{◌≡◌, ℕ, IfSome, IsSome, IsSomeAnd};
-ghost use Rattle.path_watch.specs.Watching.{HandsEnd, Refuses, Watches};
-ghost use Rattle.path_watch.specs.WatchedCalls.{status_of_ending};
-ghost use Rattle.planner.specs.BatchSessions.{IsSessionOf};
+ghost use Rattle.path_watch.specs.Watching.{HandsEnd, Refuses, Watches, status_of_ending};
+ghost use Rattle.planner.specs.Endings.{IsSessionOf};
 ghost use Rattle.plan_model.specs.Trees.TreeStates.{IsSettled};
 ghost use Rattle.plan_model.specs.declared.scenes.Scene.{Scene};
 ghost use Rattle.grown_runs.specs.Runs.GrownRuns.{state_of_grown};

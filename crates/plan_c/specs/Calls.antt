@@ -1,24 +1,15 @@
--- What a call answers to the bytes that it is given: what the program answers by one worker.
-use Rattle.std.specs.Prelude.{◌≡◌, ℕ, ◌<◌, ◌≤◌, ◌⊎◌, List, length, IfErr, IfOk, Result}
-use Rattle.plan_model.specs.Spaces.Clearance.{ClearAt}
-use Rattle.plan_model.specs.Spaces.ConfigurationSpace.{space_of}
-use Rattle.plan_model.specs.Texts.KindNames.{number_of_kind}
-use Rattle.plan_model.specs.Texts.SceneGrammar.{Spells, supported}
-use Rattle.plan_model.specs.declared.limits.TheConstants.{MOST_TEXT_BYTES}
-use Rattle.plan_model.specs.declared.tasks.Task.{Task}
-use Rattle.planner.specs.CheckedTexts.{RefusesSceneText}
-use Rattle.planner.specs.Conclusions.{Succeeds}
-use Rattle.planner.specs.Refusals.{status_of}
-use Rattle.planner.specs.VerdictLines.{status_of_verdict}
-use Rattle.planner.specs.declared.answers.Answer.{Answer}
-use Rattle.planner.specs.declared.commands.Command.{Command}
-use Rattle.planner.specs.declared.refusals.Refusal.{Refusal}
+-- What is written into the room of a caller. What a call answers to the bytes that it is given: what the program answers by one worker.
+use Rattle.std.specs.Prelude.{◌≡◌, ℕ, ◌<◌, ◌≤◌, ◌++◌, List, length, ◌⊎◌, IfErr, IfOk, Result}
+use Rattle.plan_c.specs.Terms.{Answer, Broken, ClearAt, Command, IsVerdict, Lawful, MOST_REPORT_BYTES, MOST_TEXT_BYTES, NO_ROOM, Refusal, RefusesSceneText}
+use Rattle.plan_c.specs.Terms.{Spells, Succeeds, Task, Verdict, drop, number_of_kind, space_of, status_of, status_of_verdict, supported}
 use Rattle.planner.specs.declared.refusals.Refusal.TheVariants as refusals
-use Rattle.report_judge.specs.Laws.Judgements.{IsVerdict}
-use Rattle.report_judge.specs.declared.verdicts.Verdict.{Verdict}
-use Rattle.report_judge.specs.declared.verdicts.Verdict.TheVariants.{Broken, Lawful}
-use Rattle.plan_c.specs.Rooms.{HandsOut}
-use Rattle.plan_c.specs.declared.answers.TheConstants.{MOST_REPORT_BYTES}
+
+-- The bytes of a text are counted. If there is room for them, they stand at its front, the rest of it is as it was, and the status is the
+-- one that is given; otherwise all of it is as it was.
+pub record HandsOut (text : List ℕ) (given : ℕ) (before after : List ℕ) (count status : ℕ) : Type 0 where
+  pub counted : count ≡ length text
+  pub written : length text ≤ length before → (status ≡ given) × (after ≡ text ++ drop (length text) before)
+  pub no_room : length before < length text → (status ≡ NO_ROOM) × (after ≡ before)
 
 -- ---- causes
 

@@ -2,8 +2,7 @@
 
 ghost use Rattle.std.specs.Prelude.{◌≡◌, ◌<◌, ◌≤◌, IfErr, IfOk, Some, length, ℕ};
 ghost use Rattle.plan_c.specs.Calls.{AnswersText, JudgesReport, RefusesText};
-ghost use Rattle.plan_model.specs.Runs.SameRuns.{IsOfTextbookRun};
-ghost use Rattle.plan_model.specs.Runs.Textbook.{setup_of};
+ghost use Rattle.plan_model.specs.Runs.Textbook.{IsOfTextbookRun, setup_of};
 ghost use Rattle.plan_model.specs.Scenes.MarkPoints.{mark_points};
 ghost use Rattle.plan_model.specs.Spaces.Clearance.{ClearAt};
 ghost use Rattle.plan_model.specs.Spaces.ConfigurationSpace.{space_of};

@@ -1,8 +1,7 @@
 //! What other languages call.
 
 ghost use Rattle.std.specs.Prelude.{◌≡◌, codes};
-ghost use Rattle.plan_c.specs.Calls.{HasAnswered, HasJudged};
-ghost use Rattle.plan_c.specs.Rooms.{HandsOut};
+ghost use Rattle.plan_c.specs.Calls.{HasAnswered, HasJudged, HandsOut};
 ghost use Rattle.planner.specs.declared.commands.Command.{Command};
 
 use crate::answers::{judge_alone, plan_alone, smooth_alone};

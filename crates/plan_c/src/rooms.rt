@@ -1,8 +1,7 @@
 //! What is written into the room of a caller.
 
 ghost use Rattle.std.specs.Prelude.{◌≡◌, IfErr, IfOk};
-ghost use Rattle.plan_c.specs.Rooms.{HandsOut};
-ghost use Rattle.plan_c.specs.Calls.{HandsOutAnswer};
+ghost use Rattle.plan_c.specs.Calls.{HandsOut, HandsOutAnswer};
 
 use crate::exports::NO_ROOM;
 use crate::told_causes::tell_refusal;

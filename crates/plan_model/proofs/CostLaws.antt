@@ -1,6 +1,6 @@
 -- Costs are the same in both directions, and only an edge without length costs nothing.
 use Rattle.plan_model.proofs.Words.{◌≡◌, ℕ, ◌*◌, ap, arith, Point, squared_distance, cost_of, abs_diff}
-use Rattle.plan_model.specs.Geometry.Roots.{root_ceiling}
+use Rattle.plan_model.specs.Geometry.Lengths.{root_ceiling}
 use Rattle.plan_model.proofs.RootLaws.{root_ceiling-is}
 use Rattle.plan_model.proofs.FreePoints.{same-from_distance}
 

@@ -3,8 +3,8 @@
 use Rattle.plan_model.proofs.Words.{◌≡◌, ℕ, zero, suc, ◌+◌, ◌-◌, ◌*◌, ◌<◌, ◌≤◌, List, [], ◌∷◌, map, length, refl, ap, ◌∙◌, arith, inl, inr, Contains, IsTrue}
 use Rattle.plan_model.proofs.Words.{min, flat_map, abs_diff, cases_lt, mul-le, Goal, Point, cost_of, squared_distance, path_point, lies_in_goals, least_of}
 use Rattle.plan_model.proofs.Words.{points_of_goal, length_of_path}
-use Rattle.plan_model.specs.Geometry.Roots.{root_ceiling}
-use Rattle.plan_model.specs.Trees.GoalBounds.{bound_of}
+use Rattle.plan_model.specs.Geometry.Lengths.{root_ceiling}
+use Rattle.plan_model.specs.Trees.BestNode.{bound_of}
 use Rattle.plan_model.proofs.CostLaws.{cost_of-swap}
 use Rattle.plan_model.proofs.GoalPoints.{Contains-in_goals, in_goals-Contains, Contains-map, from_map}
 use Rattle.plan_model.proofs.ListMembers.{Contains-first, Contains-after}

@@ -1,6 +1,6 @@
 -- The root of a number is the least whose square reaches it, and there is only one.
 use Rattle.plan_model.proofs.Words.{◌≡◌, ℕ, zero, suc, ◌-◌, ◌*◌, ◌<◌, ◌≤◌, ltb, cond, Bool, true, false, refl, arith, mul-le, nat_tests, IsRootCeiling}
-use Rattle.plan_model.specs.Geometry.Roots.{root_ceiling}
+use Rattle.plan_model.specs.Geometry.Lengths.{root_ceiling}
 
 -- a number with a greater square is greater
 pub lt-from_squares : (r s n : ℕ) → r * r ≤ n → n < s * s → r < s

@@ -3,7 +3,7 @@ use Rattle.plan_model.proofs.Words.{◌≡◌, ℕ, zero, suc, ◌+◌, ◌-◌,
 use Rattle.plan_model.proofs.Words.{inr, ℤ, pos, neg_ℤ, ◌+ℤ◌, ◌-ℤ◌, ◌*ℤ◌, int_div, unsigned_abs, min, max, abs_diff, div-le_of_le-mul, div-mul-le_self}
 use Rattle.plan_model.proofs.Words.{le_of_mul-le-mul_right, cases_lt, le-leb, lt-leb, leb-true, leb-false, ints, mul-le, mod_below, div-add-mod', Point}
 use Rattle.plan_model.proofs.Words.{squared_distance, IsInBoxOf, IsRootCeiling, IsStep, advanced, steered}
-use Rattle.plan_model.specs.Geometry.Roots.{root_ceiling}
+use Rattle.plan_model.specs.Geometry.Lengths.{root_ceiling}
 use Rattle.plan_model.proofs.RootLaws.{root_ceiling-is, lt-from_squares}
 use Rattle.plan_model.proofs.SamePoints.{point_is}
 

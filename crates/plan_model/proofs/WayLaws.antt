@@ -2,7 +2,7 @@
 use Rattle.plan_model.proofs.Words.{◌≡◌, ℕ, zero, suc, ◌<◌, Bool, List, Option, Some, None, arith, refl, sym, ap, ◌∙◌, subst, inl, inr, ◌≢◌, ◌⊎◌, unwrap_or}
 use Rattle.plan_model.proofs.Words.{cases_order, cases_eq, Point, point_at, StandsAt, IsPresent, IsFree, AreDistinct, goes_right, Children, IsOnWay, EndsBelow}
 use Rattle.plan_model.proofs.Words.{FollowWays}
-use Rattle.plan_model.specs.Seen.Ways.IsOnWay.{begins, goes_on}
+use Rattle.plan_model.specs.Seen.SeenTrees.IsOnWay.{begins, goes_on}
 use Rattle.plan_model.proofs.NewNodes.{IsPresent-stands, StandsAt-unique}
 
 -- the last step of a way that comes to node m after this depth

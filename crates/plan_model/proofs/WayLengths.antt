@@ -2,7 +2,7 @@
 use Rattle.plan_model.proofs.Words.{◌≡◌, ℕ, zero, suc, ◌+◌, ◌<◌, ◌≤◌, List, set, Option, Some, None, arith, sym, ap, ◌∙◌, subst, inl, inr, ◌⊎◌, is_some}
 use Rattle.plan_model.proofs.Words.{get_or-set_same, get_or-set_other, Point, point_at, point_of, StandsAt, IsPresent, IsFree, node_count, Children, IsOnWay}
 use Rattle.plan_model.proofs.Words.{EndsBelow, FollowWays}
-use Rattle.plan_model.specs.Seen.Ways.IsOnWay.{begins}
+use Rattle.plan_model.specs.Seen.SeenTrees.IsOnWay.{begins}
 use Rattle.plan_model.proofs.NewNodes.{StandsAt-present}
 use Rattle.plan_model.proofs.NodeCounts.{node_count-one_more}
 use Rattle.plan_model.proofs.SamePoints.{same_or_other}

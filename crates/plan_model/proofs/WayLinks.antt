@@ -2,7 +2,7 @@
 use Rattle.plan_model.proofs.Words.{◌≡◌, ℕ, zero, suc, Bool, true, false, List, Option, Some, None, refl, sym, ap, ◌∙◌, subst, inl, inr, ◌≢◌, ◌⊎◌, is_some}
 use Rattle.plan_model.proofs.Words.{cases_eq, Point, point_at, point_of, StandsAt, IsPresent, goes_right, Children, IsOnWay, EndsBelow, FollowWays, LinksAt}
 use Rattle.plan_model.proofs.Words.{AddsPoint, FillsPlaces}
-use Rattle.plan_model.specs.Seen.Ways.IsOnWay.{begins, goes_on}
+use Rattle.plan_model.specs.Seen.SeenTrees.IsOnWay.{begins, goes_on}
 use Rattle.plan_model.proofs.NewNodes.{IsPresent-stands, StandsAt-present, new_or_old}
 use Rattle.plan_model.proofs.WayLaws.{way_start, last_step, same_child, not_empty, way_goes_on, IsOnWay-began}
 

@@ -2,7 +2,7 @@
 use Rattle.plan_model.proofs.Words.{◌≡◌, ℕ, zero, suc, List, Option, Some, refl, sym, ◌∙◌, inl, inr, arith, ◌≢◌, props, cases_eq, cases_lt, same_Some, Point}
 use Rattle.plan_model.proofs.Words.{point_at, StandsAt, Children, goes_right, IsOnWay, FollowWays}
 use mathlib.Core.HLevel.{is_prop→PathP}
-use Rattle.plan_model.specs.Seen.Ways.IsOnWay.{begins, goes_on}
+use Rattle.plan_model.specs.Seen.SeenTrees.IsOnWay.{begins, goes_on}
 use Rattle.plan_model.proofs.WayLaws.{IsOnWay-unique, way_stops}
 
 -- a node is at a depth of a way in one way at most

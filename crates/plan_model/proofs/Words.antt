@@ -1,69 +1,55 @@
 -- The definitions and lemmas that proofs of this crate are about, passed on from one place. Declares nothing.
-pub use Rattle.plan_model.specs.Geometry.Bounds.{IsBounded, IsBoundedBox}
-pub use Rattle.plan_model.specs.Geometry.Convexity.{is_strictly_convex}
-pub use Rattle.plan_model.specs.Geometry.Cost.{cost_of}
-pub use Rattle.plan_model.specs.Geometry.Plane.{IsInBoxOf, squared_distance}
-pub use Rattle.plan_model.specs.Geometry.Radius.{class_of, greatest, radius_of, radius_of_class}
-pub use Rattle.plan_model.specs.Geometry.Roots.{IsRootCeiling}
-pub use Rattle.plan_model.specs.Geometry.Steering.{IsStep, advanced, steered}
+pub use Rattle.plan_model.specs.Geometry.Plane.{IsBounded, IsBoundedBox, IsInBoxOf, is_strictly_convex, squared_distance}
+pub use Rattle.plan_model.specs.Geometry.Lengths.{IsRootCeiling, IsStep, advanced, class_of, cost_of, greatest, radius_of, radius_of_class, steered}
 pub use Rattle.plan_model.specs.Reports.ReportText.{best_path, counts_line, head_line, mark_line_if_recorded, mark_lines, node_line_if_present, node_lines}
 pub use Rattle.plan_model.specs.Reports.ReportText.{path_line, path_to, point_lines, report_text, short_report, summary}
-pub use Rattle.plan_model.specs.Runs.ClosedLaw.{ArePlacedMarks, AreRecordedBelow, IsClosed, has_outcome, mark_at, outcome_count}
+pub use Rattle.plan_model.specs.Runs.ClosedLaw.{ArePlacedMarks, AreRecordedBelow, HangsLawfully, HasLawfulEnding, IsChosenLawfully, IsClosed, IsEarlier}
+pub use Rattle.plan_model.specs.Runs.ClosedLaw.{IsLawfulRecord, IsNeighbour, IsPlacedLawfully, IsSkippedLawfully, IsSteeredLawfully, ReachesLawfully}
+pub use Rattle.plan_model.specs.Runs.ClosedLaw.{earlier_count, first_cost_through, has_outcome, is_earlier, is_earlier_record, mark_at, outcome_count}
 pub use Rattle.plan_model.specs.Runs.Endings.{Ending, FirstHanging, NewNode, NoWay, Reached, SameNode, SkippedBy, Steered, ending_as, ending_of, first_hanging}
 pub use Rattle.plan_model.specs.Runs.Endings.{record_of_ending, unplaced_record}
-pub use Rattle.plan_model.specs.Runs.OrderLaw.{Hangs, HangsBelow, IsAllowedEdge, KeepsFirstCosts, KeepsOrder, most_cost_of}
+pub use Rattle.plan_model.specs.Runs.OrderLaw.{AreTurns, Hangs, HangsBelow, IsAllowedEdge, KeepsFirstCosts, KeepsOrder, RunFromZero, is_of_turn, is_of_worker}
+pub use Rattle.plan_model.specs.Runs.OrderLaw.{most_cost_of, once_if, times_of, turns_of}
 pub use Rattle.plan_model.specs.Runs.Outcomes.{is_blocked, is_placed, is_same, is_zero_unless_placed}
-pub use Rattle.plan_model.specs.Runs.RecordLaw.{HangsLawfully, HasLawfulEnding, IsChosenLawfully, IsEarlier, IsLawfulRecord, IsNeighbour, IsPlacedLawfully}
-pub use Rattle.plan_model.specs.Runs.RecordLaw.{IsSkippedLawfully, IsSteeredLawfully, ReachesLawfully, earlier_count, first_cost_through, is_earlier}
-pub use Rattle.plan_model.specs.Runs.RecordLaw.{is_earlier_record}
-pub use Rattle.plan_model.specs.Runs.SameRuns.{HaveSameFields, HaveSameInputs, IsOfTextbookRun}
-pub use Rattle.plan_model.specs.Runs.Textbook.{Ends, EndsBlocked, EndsPlaced, EndsSteered, Handles, HandlesAll, IsBestParent, IsCandidate, IsCheaperThrough}
-pub use Rattle.plan_model.specs.Runs.Textbook.{IsTextbookRun, MayBeCheaper, Nodes, Reaches, Rewires, RewiresOne, Setup, SteersTo, cost_through, near_new}
-pub use Rattle.plan_model.specs.Runs.Textbook.{setup_of, skipping_goals, start_alone, with_parent}
-pub use Rattle.plan_model.specs.Runs.Turns.{AreTurns, RunFromZero, is_of_turn, is_of_worker, once_if, times_of, turns_of}
-pub use Rattle.plan_model.specs.Scenes.ConvertedScenes.{IsConverted}
+pub use Rattle.plan_model.specs.Runs.Textbook.{Ends, EndsBlocked, EndsPlaced, EndsSteered, Handles, HandlesAll, HaveSameFields, HaveSameInputs, IsBestParent}
+pub use Rattle.plan_model.specs.Runs.Textbook.{IsCandidate, IsCheaperThrough, IsOfTextbookRun, IsTextbookRun, MayBeCheaper, Nodes, Reaches, Rewires}
+pub use Rattle.plan_model.specs.Runs.Textbook.{RewiresOne, Setup, SteersTo, cost_through, near_new, setup_of, skipping_goals, start_alone, with_parent}
+pub use Rattle.plan_model.specs.Scenes.ChangedScenes.{IsConverted}
 pub use Rattle.plan_model.specs.Scenes.Limits.{IsBetween, are_goals, are_obstacles, by_version, is_body, is_corner_between, is_goal, is_mark, is_obstacle}
 pub use Rattle.plan_model.specs.Scenes.Limits.{is_plan, least_obstacle_coordinate, may_be_informed, most_clearance, most_goals, most_obstacle_coordinate}
 pub use Rattle.plan_model.specs.Scenes.Limits.{most_side, most_step}
 pub use Rattle.plan_model.specs.Scenes.MarkPoints.{BodyFits, IsInSpan, IsMarkOf, above_zero, below_zero, columns, drawn_mark, first_word, is_claimed}
 pub use Rattle.plan_model.specs.Scenes.MarkPoints.{mark_points, mixed, next_state, picked, points_of_marks, quota_of, reach, rows, second_word, span_within}
 pub use Rattle.plan_model.specs.Scenes.MarkPoints.{strip, strip_of_mark, word_of_state}
-pub use Rattle.plan_model.specs.Seen.SeenParents.{AreSeenLawfully}
-pub use Rattle.plan_model.specs.Seen.SeenTrees.{FollowSeenWays, HasSeenAtLeast, HasSeenWay, IsOnSeenWay, IsRooted, IsSeen, IsTrueOf, KeepsOrLowers, SeenTree}
-pub use Rattle.plan_model.specs.Seen.SeenTrees.{SharedTree, TreeGrows, seen_whole}
+pub use Rattle.plan_model.specs.Seen.SeenTrees.{AddsPoint, AreSeenLawfully, Children, EndsBelow, FillsPlaces, FollowSeenWays, FollowWays, HasSeenAtLeast}
+pub use Rattle.plan_model.specs.Seen.SeenTrees.{HasSeenWay, IsOnSeenWay, IsOnWay, IsRooted, IsSeen, IsTrueOf, KeepsOrLowers, LinksAt, SeenTree, SharedTree}
+pub use Rattle.plan_model.specs.Seen.SeenTrees.{TreeGrows, goes_right, seen_whole}
 pub use Rattle.plan_model.specs.Seen.Sights.{AgreeOnParents, EndsSince, HaveSeenTogether, IsLaterMoment, IsSwept, KeepsOrFindsEmpty, KeepsSight, Sight}
 pub use Rattle.plan_model.specs.Seen.Sights.{TakesOver, cheaper_of}
-pub use Rattle.plan_model.specs.Seen.Ways.{AddsPoint, Children, EndsBelow, FillsPlaces, FollowWays, IsOnWay, LinksAt, goes_right}
-pub use Rattle.plan_model.specs.Spaces.ClearPaths.{IsClearPath, path_point}
-pub use Rattle.plan_model.specs.Spaces.Clearance.{Clear, ClearAt, IsClear, on_the_way}
+pub use Rattle.plan_model.specs.Spaces.Clearance.{Clear, ClearAt, IsClear, IsClearPath, on_the_way, path_point}
+pub use Rattle.plan_model.specs.Spaces.ConfigurationSpace.{InRoom, IsBetweenWalls, IsInRoom, IsSamePoint, Rational, at_lattice, empty_room, moved_by, scaled}
 pub use Rattle.plan_model.specs.Spaces.ConfigurationSpace.{space_among, space_of}
-pub use Rattle.plan_model.specs.Spaces.EmptyRooms.{IsInRoom, empty_room}
-pub use Rattle.plan_model.specs.Spaces.Meeting.{IsWithin, Meets, SharesPoint, weighted}
-pub use Rattle.plan_model.specs.Spaces.RoomOfConfigurations.{InRoom, IsBetweenWalls, IsSamePoint, Rational, at_lattice, moved_by, scaled}
-pub use Rattle.plan_model.specs.Texts.Keys.{every_key, every_version, fits_words, format_name, is_key, key_among, key_of, key_within, most_corners, most_lines}
-pub use Rattle.plan_model.specs.Texts.Keys.{name_of, version_among, version_word}
+pub use Rattle.plan_model.specs.Spaces.Zones.{IsWithin, Meets, SharesPoint, weighted}
+pub use Rattle.plan_model.specs.Texts.Keys.{every_key, every_version, fits_words, format_name, is_key, key_among, key_of, key_within, most_corners}
+pub use Rattle.plan_model.specs.Texts.Keys.{most_lines, name_of, version_among, version_word}
 pub use Rattle.plan_model.specs.Texts.LineChecks.{AllMayStand, Format, Given, MayStand, are_between, begins_with, checks_of, corners_from, fault_after}
 pub use Rattle.plan_model.specs.Texts.LineChecks.{fault_at_end, fault_at_key, fault_of_statement, first_failing, given_by, has_corners, is_in_range}
 pub use Rattle.plan_model.specs.Texts.LineChecks.{is_inhabited, is_ordered, is_repeated, is_too_many, numbers_in, stands, version_of, version_within}
 pub use Rattle.plan_model.specs.Texts.LineChecks.{with_statement}
-pub use Rattle.plan_model.specs.Texts.SceneBatches.{AreSpelledBelow, FailsAtPart, IsRefusedPart, Part, RefusesBatch, SpellsBatch, lines_before}
-pub use Rattle.plan_model.specs.Texts.SceneBatches.{onto_first_part, part_text, parts_of, separator, text_of}
-pub use Rattle.plan_model.specs.Texts.SceneGrammar.{FailsAt, HasFields, IsSoundBelow, Refused, Spells, body_from, fault_of_end, fault_of_line, first_of}
-pub use Rattle.plan_model.specs.Texts.SceneGrammar.{given_after_version, goal_from, number_or, plan_from, point_from, version_given}
+pub use Rattle.plan_model.specs.Texts.SceneGrammar.{AreSpelledBelow, FailsAt, FailsAtPart, HasFields, IsRefusedPart, IsSoundBelow, Part, Refused}
+pub use Rattle.plan_model.specs.Texts.SceneGrammar.{RefusesBatch, Spells, SpellsBatch, body_from, fault_of_end, fault_of_line, first_of, given_after_version}
+pub use Rattle.plan_model.specs.Texts.SceneGrammar.{goal_from, lines_before, number_or, onto_first_part, part_text, parts_of, plan_from, point_from}
+pub use Rattle.plan_model.specs.Texts.SceneGrammar.{separator, text_of, version_given}
 pub use Rattle.plan_model.specs.Texts.Streams.{MemSourceState, counted_up, given_count, is_failing, read_into}
-pub use Rattle.plan_model.specs.Texts.TextLines.{lines_of, onto_first, pieces_of, statements_of, words_of}
-pub use Rattle.plan_model.specs.Texts.TextNumbers.{is_number, is_positive, magnitude, value_of}
-pub use Rattle.plan_model.specs.Trees.BestNode.{IsBestNode, IsGoalNode, best_node, goals_of, is_goal_point, is_in_goal, lies_in_goals}
-pub use Rattle.plan_model.specs.Trees.Branches.{IsBranchLowered}
-pub use Rattle.plan_model.specs.Trees.GoalBounds.{least_of, numbers_between, points_of_goal}
-pub use Rattle.plan_model.specs.Trees.LeastPairs.{IsFirstLeast, IsNotAbove, first_least, lesser}
-pub use Rattle.plan_model.specs.Trees.Nearness.{IsNearest, distance_to, is_within, near}
-pub use Rattle.plan_model.specs.Trees.NodeLists.{AreTight, AreTightAlong, CostsFall, FallAlong, chain, chain_by, chain_within, cost_through_by, edge_by}
-pub use Rattle.plan_model.specs.Trees.NodeLists.{edge_of, length_of_path, node_at, parent_of, parent_or_zero, points_of, sum_by, sum_of}
-pub use Rattle.plan_model.specs.Trees.OpenNodes.{IsOpenTo}
-pub use Rattle.plan_model.specs.Trees.PointsByNumber.{AreDistinct, AreNumberedTo, IsFree, IsPresent, StandsAt, node_count, point_at, point_of}
-pub use Rattle.plan_model.specs.Trees.TreeStates.{AreSameRuns, ChangesCosts, GrowsInto, IsSettled, KeepsOrFalls, TreeState, chain_in, first_cost_of}
-pub use Rattle.plan_model.specs.Trees.TreeStates.{recorded_or, state_of, sum_in}
+pub use Rattle.plan_model.specs.Texts.TextLines.{is_number, is_positive, lines_of, magnitude, onto_first, pieces_of, statements_of, value_of, words_of}
+pub use Rattle.plan_model.specs.Trees.BestNode.{IsBestNode, IsGoalNode, IsOpenTo, best_node, goals_of, is_goal_point, is_in_goal, least_of, lies_in_goals}
+pub use Rattle.plan_model.specs.Trees.BestNode.{numbers_between, points_of_goal}
+pub use Rattle.plan_model.specs.Trees.TreeStates.{AreSameRuns, ChangesCosts, GrowsInto, IsBranchLowered, IsSettled, KeepsOrFalls, TreeState, chain_in}
+pub use Rattle.plan_model.specs.Trees.TreeStates.{first_cost_of, recorded_or, state_of, sum_in}
+pub use Rattle.plan_model.specs.Trees.Nearness.{IsFirstLeast, IsNearest, IsNotAbove, distance_to, first_least, is_within, lesser, near}
+pub use Rattle.plan_model.specs.Trees.NodeLists.{AreDistinct, AreNumberedTo, AreTight, AreTightAlong, CostsFall, FallAlong, IsFree, IsPresent, StandsAt}
+pub use Rattle.plan_model.specs.Trees.NodeLists.{chain, chain_by, chain_within, cost_through_by, edge_by, edge_of, length_of_path, node_at, node_count}
+pub use Rattle.plan_model.specs.Trees.NodeLists.{parent_of, parent_or_zero, point_at, point_of, points_of, sum_by, sum_of}
 pub use Rattle.plan_model.specs.declared.configuration_spaces.ConfigurationSpace.{ConfigurationSpace}
 pub use Rattle.plan_model.specs.declared.geometry.Goal.{Goal}
 pub use Rattle.plan_model.specs.declared.geometry.Point.{Point}

@@ -1,3 +1,4 @@
+pub mod Terms
 pub mod Geometry
 pub mod Scenes
 pub mod Spaces

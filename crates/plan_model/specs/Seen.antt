@@ -1,5 +1,3 @@
 -- What is seen of a tree that others grow.
-pub mod Ways
-pub mod SeenTrees
 pub mod Sights
-pub mod SeenParents
+pub mod SeenTrees

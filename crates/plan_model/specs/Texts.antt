@@ -1,10 +1,7 @@
 -- Texts of scenes, and the streams that they come from.
 pub mod TextLines
-pub mod TextNumbers
 pub mod Keys
 pub mod LineChecks
 pub mod SceneGrammar
-pub mod SceneBatches
-pub mod KindNames
 pub mod CanonicalText
 pub mod Streams

@@ -16,7 +16,7 @@ pub struct Point {
 impl Point {
     ghost use Rattle.std.specs.Prelude.{◌≡◌, ◌^◌, ◌<◌};
     ghost use Rattle.plan_model.specs.Geometry.Plane.{squared_distance};
-    ghost use Rattle.plan_model.specs.Geometry.Bounds.{IsBounded};
+    ghost use Rattle.plan_model.specs.Geometry.Plane.{IsBounded};
 
     /// The square of the distance to another point, in square lattice steps. No coordinate is above `MOST_COORDINATE`. O(1).
     pub fn squared_distance(self, other: Point) -> u64

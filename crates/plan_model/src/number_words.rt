@@ -2,7 +2,7 @@
 
 ghost use Rattle.std.specs.Prelude.{◌≡◌, ◌≤◌, ◌+◌, ◌-◌, ◌*◌, ◌^◌, ◌&&◌, false, pos, unsigned_abs, int_le, IfNone, IfSome, IsTrue};
 ghost use Rattle.std.specs.List.{list_all};
-ghost use Rattle.plan_model.specs.Texts.TextNumbers.{is_digit, is_positive, is_number as is_number_word, magnitude, value_of};
+ghost use Rattle.plan_model.specs.Texts.TextLines.{is_digit, is_positive, is_number as is_number_word, magnitude, value_of};
 
 /// Whether a word is a number: `0`, or digits of which the first is not `0`, and these also after a `-`. A word without a byte
 /// is none. O(n) for n bytes.

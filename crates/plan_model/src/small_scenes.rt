@@ -2,8 +2,7 @@
 
 ghost use Rattle.std.specs.Prelude.{◌≡◌, ◌≤◌, false, [], ◌∷◌, IfOk, IsTrue};
 ghost use Rattle.plan_model.specs.Spaces.Clearance.{ClearAt};
-ghost use Rattle.plan_model.specs.Spaces.ConfigurationSpace.{space_among, space_of};
-ghost use Rattle.plan_model.specs.Spaces.EmptyRooms.{IsInRoom, empty_room};
+ghost use Rattle.plan_model.specs.Spaces.ConfigurationSpace.{space_among, space_of, IsInRoom, empty_room};
 ghost use Rattle.plan_model.specs.Scenes.Limits.{IsBetween, are_obstacles, is_body, is_goal, is_plan};
 ghost use Rattle.plan_model.specs.Runs.Textbook.{setup_of};
 ghost use Rattle.plan_model.specs.declared.scenes.Marks.TheVariants.{Listed};

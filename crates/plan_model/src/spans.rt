@@ -1,8 +1,7 @@
 //! The columns and the rows of the room of configurations.
 
 ghost use Rattle.std.specs.Prelude.{◌≡◌, ◌↔◌, ◌≤◌, IsTrue, List};
-ghost use Rattle.plan_model.specs.Scenes.MarkPoints.{IsInSpan, above_zero, below_zero, reach, span_within};
-ghost use Rattle.plan_model.specs.Scenes.SpansOfRooms.{AreSpansOf};
+ghost use Rattle.plan_model.specs.Scenes.MarkPoints.{IsInSpan, above_zero, below_zero, reach, span_within, AreSpansOf};
 ghost use Rattle.plan_model.specs.declared.limits.TheConstants.{MOST_COORDINATE};
 
 use crate::geometry::{Point, Vertex};

@@ -63,7 +63,7 @@ pub enum Kind {
 }
 
 impl Kind {
-    ghost use Rattle.plan_model.specs.Texts.KindNames.{number_of_kind, name_of_kind};
+    ghost use Rattle.plan_model.specs.Texts.Keys.{number_of_kind, name_of_kind};
 
     /// The number of the kind, 1 to 10.
     pub fn number(self) -> u32
@@ -94,7 +94,7 @@ impl Kind {
 
 impl fmt::Display for Kind {
     ghost use Rattle.std.specs.Prelude.{Some};
-    ghost use Rattle.plan_model.specs.Texts.KindNames.{name_of_kind};
+    ghost use Rattle.plan_model.specs.Texts.Keys.{name_of_kind};
 
     ghost output = { λ kind. Some (name_of_kind kind) };
 

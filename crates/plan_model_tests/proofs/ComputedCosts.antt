@@ -5,8 +5,8 @@ use Rattle.plan_model_tests.proofs.Words.{squared_distance, advanced, steered, T
 use Rattle.plan_model_tests.proofs.Words.{points_of_goal}
 use Rattle.std.proofs.lemmas.Bool.{leb-true}
 use lib.Dec.{leb, ltb}
-use Rattle.plan_model.specs.Geometry.Roots.{root_ceiling}
-use Rattle.plan_model.specs.Trees.GoalBounds.{bound_of}
+use Rattle.plan_model.specs.Geometry.Lengths.{root_ceiling}
+use Rattle.plan_model.specs.Trees.BestNode.{bound_of}
 
 -- the greatest number whose square is at most n, by digits in base 4
 abbrev pub floor_root : ℕ → ℕ → ℕ

@@ -3,7 +3,7 @@ use Rattle.plan_model_tests.proofs.Words.{◌≡◌, ℕ, zero, suc, ◌<◌, �
 use Rattle.plan_model_tests.proofs.Words.{◌==◌, IsSome, is_some, unwrap_or, HasSeenAtLeast, Point, point_at, StandsAt, goes_right, IsOnWay, begins}
 use Rattle.plan_model_tests.proofs.Words.{goes_on, IsSeen, HasSeenWay, KeepsSight, IsLaterMoment, IsSwept, at, at_entry, at_return, four_children}
 use Rattle.plan_model_tests.proofs.Words.{found_at_return, StandsAt-unique, over_seen_points, way_start, way_ends}
-use Rattle.plan_model.specs.Vectors.Ways.{three_points}
+use Rattle.plan_model.specs.Vectors.SeenTrees.{three_points}
 use Rattle.plan_model_tests.proofs.ComputedRuns.{is_free}
 use Rattle.plan_model_tests.proofs.Decisions.{implied, is_at_most, is_true, refuted, shown}
 use Rattle.plan_model_tests.proofs.OrderDecisions.{of_nodes}

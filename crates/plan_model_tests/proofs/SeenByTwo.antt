@@ -2,7 +2,7 @@
 use Rattle.plan_model_tests.proofs.Words.{◌≡◌, ℕ, zero, suc, Bool, true, false, None, refl, option_or, point_at, HasSeenAtLeast, IsTrueOf, seen_whole}
 use Rattle.plan_model_tests.proofs.Words.{IsLaterMoment, TakesOver, cheaper_of, at_entry, at_return, of_other, of_both, tree_now, tree_before, four_children}
 use Rattle.plan_model_tests.proofs.Words.{five_children, others_children, others_points, IsLaterMoment-takes}
-use Rattle.plan_model.specs.Vectors.Ways.{three_points}
+use Rattle.plan_model.specs.Vectors.SeenTrees.{three_points}
 use Rattle.plan_model_tests.proofs.Decisions.{refuted, shown}
 use Rattle.plan_model_tests.proofs.SeenByOne.{small_entry, small_return}
 use Rattle.plan_model_tests.proofs.SightDecisions.{by-numbers, counted, has_seen_at_least, keeps_or_finds_empty, no_records}

@@ -1,8 +1,8 @@
 -- A tree at two moments, trees that differ in one thing and are no later moment, or not the same run, and kept costs along parents.
 use Rattle.std.specs.Prelude.{◌≡◌, ℕ, Option, Some, None, List, [], ◌∷◌, slice_get, slice_index_or}
-use Rattle.plan_model_tests.specs.Terms.{AreSameRuns, AreTight, ChangesCosts, CostsFall, GrowsInto, IsBranchLowered, KeepsFirstCosts, Point, Record, TreeState}
-use Rattle.plan_model_tests.specs.Terms.{Twig, at, gapped, placed_by, without_costs}
-use Rattle.plan_model_tests.specs.UnlawfulTrees.{room_to, three_points}
+use Rattle.plan_model_tests.specs.Terms.{AreSameRuns, AreTight, ChangesCosts, CostsFall, GrowsInto, IsBranchLowered, KeepsFirstCosts, Point, Record}
+use Rattle.plan_model_tests.specs.Terms.{TreeState, Twig, at, gapped, placed_by, without_costs}
+use Rattle.plan_model_tests.specs.UnlawfulRecords.{room_to, three_points}
 
 -- nodes with these parents and costs, which are 0 past the lists; each was written with this cost when it was placed; the records of the marks
 abbrev pub moment_of : List (Option Point) → List ℕ → List ℕ → ℕ → List Record → TreeState

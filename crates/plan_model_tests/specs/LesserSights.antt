@@ -1,13 +1,34 @@
--- What has been seen at least, later moments and sights that are kept, and what differs from these in one thing; parents that two have
--- seen, and seen parents that are not lawful.
-use Rattle.std.specs.Prelude.{ℕ, zero, suc, Bool, true, false, Option, Some, None, List, [], ◌∷◌, slice_get, slice_index_or}
-use Rattle.plan_model_tests.specs.Terms.{AgreeOnParents, AreSeenLawfully, FollowSeenWays, HasSeenAtLeast, IsLaterMoment, IsRooted, KeepsSight, Point, Record}
-use Rattle.plan_model_tests.specs.Terms.{SeenTree, Sight, TreeGrows, at, at_entry, at_return, found_at_entry, found_at_return, placed_by, tree_before, tree_now}
-use Rattle.plan_model_tests.specs.Terms.{trees_at_entry}
-use Rattle.plan_model.specs.Vectors.Ways.{three_children, three_points}
+-- A node that is linked into a kd-tree of two nodes, and changes that are not that link or not that node alone. What has been seen at least, later
+-- moments and sights that are kept, and what differs from these in one thing; parents that two have seen, and seen parents that are not lawful.
+use Rattle.std.specs.Prelude.{ℕ, zero, Bool, true, false, Option, Some, None, List, [], ◌∷◌, suc, slice_get, slice_index_or}
+use Rattle.plan_model_tests.specs.Terms.{AddsPoint, AgreeOnParents, AreSeenLawfully, FollowSeenWays, HasSeenAtLeast, IsLaterMoment, IsRooted, KeepsSight}
+use Rattle.plan_model_tests.specs.Terms.{LinksAt, Point, Record, SeenTree, Sight, TreeGrows, at, at_entry, at_return, found_at_entry, found_at_return}
+use Rattle.plan_model_tests.specs.Terms.{four_children, placed_by, three_children, three_points, tree_before, tree_now, trees_at_entry}
 use Rattle.plan_model_tests.specs.GrownTrees.{before}
-use Rattle.plan_model_tests.specs.LinkedNodes.{two_children, two_points}
-use Rattle.plan_model_tests.specs.UnlawfulTrees.{room_to}
+use Rattle.plan_model_tests.specs.UnlawfulRecords.{room_to}
+
+-- the tree of three nodes before node 2 came
+abbrev pub two_points : List (Option Point)
+two_points = Some (at 5 5) ∷ Some (at 5 3) ∷ []
+
+abbrev pub two_children : ℕ → Bool → Option ℕ
+two_children zero true = Some 1
+two_children _ _ = None
+
+pub record LinkVectors : Type 0 where
+  pub linked : LinksAt two_children three_children 1 false 2
+  pub linked_before : ¬ LinksAt three_children three_children 1 false 2
+  pub not_linked : ¬ LinksAt two_children two_children 1 false 2
+  pub other_number : ¬ LinksAt two_children three_children 1 false 3
+  pub other_side : ¬ LinksAt two_children three_children 1 true 2
+  -- number 3 is linked too
+  pub two_links : ¬ LinksAt two_children four_children 1 false 2
+  pub added : AddsPoint two_points three_points 2 (at 9 2)
+  pub present_before : ¬ AddsPoint three_points three_points 2 (at 9 2)
+  pub not_added : ¬ AddsPoint two_points two_points 2 (at 9 2)
+  pub added_elsewhere : ¬ AddsPoint two_points three_points 2 (at 9 3)
+  pub other_node_gone : ¬ AddsPoint two_points (Some (at 5 5) ∷ None ∷ Some (at 9 2) ∷ []) 2 (at 9 2)
+  pub other_node_too : ¬ AddsPoint two_points (Some (at 5 5) ∷ Some (at 5 3) ∷ Some (at 9 2) ∷ Some (at 1 1) ∷ []) 2 (at 9 2)
 
 -- children, points, parents with costs and records that were seen, one number of all counters, and the count
 abbrev pub seen_by : (ℕ → Bool → Option ℕ) → List (Option Point) → (ℕ → Option (ℕ × ℕ)) → List Record → ℕ → ℕ → SeenTree

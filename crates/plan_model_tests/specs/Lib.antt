@@ -1,14 +1,8 @@
 pub mod Terms
-pub mod Boundaries
-pub mod FaultWords
-pub mod LinkedNodes
-pub mod NarrowRuns
-pub mod UnlawfulTrees
 pub mod UnlawfulRecords
 pub mod SkippedMarks
-pub mod UnclosedRuns
+pub mod NarrowRuns
 pub mod GrownTrees
 pub mod LesserSights
 pub mod OpenPaths
-pub mod Coverings
 pub mod RouteExamples

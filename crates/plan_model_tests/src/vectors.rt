@@ -1,39 +1,21 @@
 //! Worked examples of the definitions, each the contract of a function that does nothing.
 
-ghost use Rattle.plan_model.specs.Vectors.Choices.{ChoiceVectors};
-ghost use Rattle.plan_model.specs.Vectors.Clearances.{ClearanceVectors};
-ghost use Rattle.plan_model.specs.Vectors.Costs.{CostVectors};
-ghost use Rattle.plan_model.specs.Vectors.Drawn.{DrawnVectors};
-ghost use Rattle.plan_model.specs.Vectors.Limits.{ConstantVectors, LimitVectors};
-ghost use Rattle.plan_model.specs.Vectors.Meetings.{MeetingVectors};
-ghost use Rattle.plan_model.specs.Vectors.Overlaps.{OverlapVectors};
-ghost use Rattle.plan_model.specs.Vectors.Polygons.{ConvexityVectors};
-ghost use Rattle.plan_model.specs.Vectors.Radii.{RadiusVectors};
-ghost use Rattle.plan_model.specs.Vectors.Ranges.{RangeVectors};
+ghost use Rattle.plan_model.specs.Vectors.Runs.{ChoiceVectors, RunVectors, TreeVectors};
+ghost use Rattle.plan_model.specs.Vectors.Spaces.{ClearanceVectors, MeetingVectors, OverlapVectors, RoomVectors};
+ghost use Rattle.plan_model.specs.Vectors.Geometry.{CostVectors, ConvexityVectors, RadiusVectors, SteeringVectors};
+ghost use Rattle.plan_model.specs.Vectors.Marks.{DrawnVectors, StripVectors};
+ghost use Rattle.plan_model.specs.Vectors.Limits.{ConstantVectors, LimitVectors, RangeVectors};
 ghost use Rattle.plan_model.specs.Vectors.Reports.{ReportVectors};
-ghost use Rattle.plan_model.specs.Vectors.Rooms.{RoomVectors};
-ghost use Rattle.plan_model.specs.Vectors.Runs.{RunVectors};
 ghost use Rattle.plan_model.specs.Vectors.SecondVersion.{SecondVersionSpelling, SecondVersionVectors, WideSpelling};
-ghost use Rattle.plan_model.specs.Vectors.SeenTrees.{SeenTreeVectors};
-ghost use Rattle.plan_model.specs.Vectors.Steps.{SteeringVectors};
-ghost use Rattle.plan_model.specs.Vectors.Streams.{StreamVectors};
-ghost use Rattle.plan_model.specs.Vectors.Strips.{StripVectors};
-ghost use Rattle.plan_model.specs.Vectors.Texts.{FieldSpellingVector, PolygonSpellingVector, RefusalVectors, SpellingVector};
-ghost use Rattle.plan_model.specs.Vectors.Trees.{TreeVectors};
-ghost use Rattle.plan_model.specs.Vectors.Ways.{WayVectors};
-ghost use Rattle.plan_model.specs.Vectors.Words.{LineVectors, NumberVectors};
-ghost use Rattle.plan_model_tests.specs.Boundaries.{BoundaryVectors};
-ghost use Rattle.plan_model_tests.specs.FaultWords.{FaultWordVectors};
+ghost use Rattle.plan_model.specs.Vectors.SeenTrees.{SeenTreeVectors, WayVectors};
+ghost use Rattle.plan_model.specs.Vectors.Texts.{StreamVectors, FieldSpellingVector, PolygonSpellingVector, RefusalVectors, SpellingVector, LineVectors};
+ghost use Rattle.plan_model.specs.Vectors.Texts.{NumberVectors};
+ghost use Rattle.plan_model_tests.specs.OpenPaths.{BoundaryVectors, FaultWordVectors, OpenPathVectors, SameInputVectors, CoveringVectors};
 ghost use Rattle.plan_model_tests.specs.GrownTrees.{GrownTreeVectors, KeptCostVectors};
-ghost use Rattle.plan_model_tests.specs.LesserSights.{LaterSightVectors, SeenAtLeastVectors, SeenParentVectors};
-ghost use Rattle.plan_model_tests.specs.LinkedNodes.{LinkVectors};
-ghost use Rattle.plan_model_tests.specs.NarrowRuns.{FallingRadiusVectors, RewiredInTurnVectors};
-ghost use Rattle.plan_model_tests.specs.OpenPaths.{OpenPathVectors, SameInputVectors};
+ghost use Rattle.plan_model_tests.specs.LesserSights.{LaterSightVectors, SeenAtLeastVectors, SeenParentVectors, LinkVectors};
+ghost use Rattle.plan_model_tests.specs.NarrowRuns.{FallingRadiusVectors, RewiredInTurnVectors, UnclosedRunVectors};
 ghost use Rattle.plan_model_tests.specs.SkippedMarks.{BoundVectors, SkippedRecordVectors, SkippedRunVectors};
-ghost use Rattle.plan_model_tests.specs.UnclosedRuns.{UnclosedRunVectors};
-ghost use Rattle.plan_model_tests.specs.UnlawfulRecords.{UnlawfulRecordVectors, UnplacedRecordVectors};
-ghost use Rattle.plan_model_tests.specs.UnlawfulTrees.{CostBoundVectors, UnlawfulTreeVectors};
-ghost use Rattle.plan_model_tests.specs.Coverings.{CoveringVectors};
+ghost use Rattle.plan_model_tests.specs.UnlawfulRecords.{UnlawfulRecordVectors, UnplacedRecordVectors, CostBoundVectors, UnlawfulTreeVectors};
 
 /// What edges cost.
 pub fn costs()

@@ -12,12 +12,10 @@ pub use Rattle.plan_words.proofs.Tying.{HasMember-held, entry_fits}
 pub use Rattle.plan_words.proofs.WholeClaims.{OwnsAllStrips-alone}
 pub use Rattle.plan_words.proofs.SeatSteps.{HasLooked-loaded, HasLooked-one, HasLooked-refl, IsOrPosted-trans, KeepsOrPosts-trans}
 pub use Rattle.plan_words.proofs.SeatSteps.{SeesBestSince-trans}
-pub use Rattle.plan_words.specs.Bests.{FindsGoalNode, HasPostedGoals, IsOrPosted, KeepsOrPosts, OnlyPosts, SeesBestSince}
+pub use Rattle.plan_words.specs.Nodes.{FindsGoalNode, HasPostedGoals, IsOrPosted, KeepsOrPosts, OnlyPosts, SeesBestSince, HasLinked, IsLinkedAt, LeadsOn}
+pub use Rattle.plan_words.specs.Nodes.{NamesChildOrPoint, NamesNode, IsPairIn}
 pub use Rattle.plan_words.specs.Claims.{AllFull, AllLoaded, HasNoneLeft, IsClaimed, IsLeastOpen, KeepsHand, RaisesCounter, SeesAsBefore}
 pub use Rattle.plan_words.specs.LoweredChildren.{CostsAtMostThrough, HasQueued, IsFound, IsLoweredChild, LooksOn, LowersChildren, SeesSamePoints}
-pub use Rattle.plan_words.specs.Nodes.{HasLinked, IsLinkedAt, LeadsOn, NamesChildOrPoint, NamesNode}
-pub use Rattle.plan_words.specs.Parents.{IsPairIn}
-pub use Rattle.plan_words.specs.SearchLists.{SearchLists, is_dearer, no_search, numbers_of, point_of_spot, weighed}
+pub use Rattle.plan_words.specs.SearchLists.{SearchLists, is_dearer, no_search, numbers_of, point_of_spot, weighed, HasSeenParent, IsOn}
 pub use Rattle.plan_words.specs.States.{BelongsTo, GoesOn, HasWholeShare, Lists, MayClaim, PassState, SharedState, StartsAs, new_pass, run_in, tree_words}
 pub use Rattle.plan_words.specs.States.{turn_of, with_lists, with_view, without_best, worker_of}
-pub use Rattle.plan_words.specs.Waiting.{HasSeenParent, IsOn}

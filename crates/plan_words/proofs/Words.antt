@@ -21,22 +21,19 @@ pub use Rattle.grown_runs.specs.declared.grown.Grown.{Grown}
 pub use Rattle.grown_runs.specs.declared.run_words.RunWords.{RunWords}
 pub use Rattle.grown_runs.specs.declared.word_places.WordPlaces.{WordPlaces}
 pub use Rattle.plan_model.proofs.ListMembers.{Contains-after, Contains-first}
-pub use Rattle.plan_words.specs.Bests.{FindsGoalNode, HasPostedGoals, IsOrPosted, KeepsOrPosts, LooksAndPosts, OnlyPosts, SeesBestSince}
-pub use Rattle.plan_words.specs.Claims.{AllFull, AllLoaded, GoesBefore, HasNoneLeft, IsClaimed, IsFirst, IsLeastNext, IsLeastOpen, IsNextOf, IsOpen}
-pub use Rattle.plan_words.specs.Claims.{KeepsHand, LoadsCounters, OwnsAllStrips, RaisesCounter, SeesAsBefore, is_own, next_mark}
-pub use Rattle.plan_words.specs.Dealt.{IsPassOf, StandsFor, each_after}
-pub use Rattle.plan_words.specs.LoweredChildren.{CostsAtMostThrough, HasQueued, IsLoweredChild, IsOtherWord, IsSeenAbove, LooksOn, LowersChildren, PostsChanged}
-pub use Rattle.plan_words.specs.LoweredChildren.{SeesSamePoints, SitsAt}
-pub use Rattle.plan_words.specs.Nodes.{HasLinked, IsLinkedAt, LeadsOn, NamesChildOrPoint, NamesNode}
-pub use Rattle.plan_words.specs.Parents.{FindsLess, HasParentsBelow, IsEdgeSeen, IsPairIn}
+pub use Rattle.plan_words.specs.Nodes.{FindsGoalNode, FindsLess, HasLinked, HasParentsBelow, HasPostedGoals, IsEdgeSeen, IsLinkedAt, IsOrPosted, IsPairIn}
+pub use Rattle.plan_words.specs.Nodes.{KeepsOrPosts, LeadsOn, LooksAndPosts, NamesChildOrPoint, NamesNode, OnlyPosts, SeesBestSince}
+pub use Rattle.plan_words.specs.Claims.{AllFull, AllLoaded, GoesBefore, HasNoneLeft, IsClaimed, IsFirst, IsLeastNext, IsLeastOpen, IsNextOf, IsOpen, IsPassOf}
+pub use Rattle.plan_words.specs.Claims.{KeepsHand, LoadsCounters, OwnsAllStrips, RaisesCounter, SeesAsBefore, StandsFor, each_after, is_own, next_mark}
+pub use Rattle.plan_words.specs.LoweredChildren.{AreSeenFirst, CostsAtMostThrough, HasQueued, IsLoweredChild, IsOtherWord, IsSeenAbove, LooksOn}
+pub use Rattle.plan_words.specs.LoweredChildren.{LowersChildren, PostsChanged, Reaches, SeesSamePoints, SitsAt, chain_of, seen_words, sibling_chain_in}
 pub use Rattle.plan_words.specs.Plays.{Claims, Counts, FindsAsSeen, FindsCount, FindsPoint, FindsTree, FindsWholeCount, Finishes, Links, Loads, LoadsBest}
 pub use Rattle.plan_words.specs.Plays.{Lowers, Posts, Tells, TellsHand, WritesFirst, WritesPoint, WritesTree, exchanged_at}
-pub use Rattle.plan_words.specs.SearchLists.{IsNoted, SearchState, found_in, found_of_spot, is_dearer, lists_in, noted, noted_spot, numbers_of, spot_in}
-pub use Rattle.plan_words.specs.SeenChains.{AreSeenFirst, Reaches, chain_of, seen_words, sibling_chain_in}
+pub use Rattle.plan_words.specs.SearchLists.{AreMarked, HasSeenParent, IsNoted, IsOn, NoneMarked, SearchState, WaitingState, count_marked, found_in}
+pub use Rattle.plan_words.specs.SearchLists.{found_of_spot, is_dearer, is_marked, lists_in, noted, noted_spot, numbers_of, spot_in}
 pub use Rattle.plan_words.specs.States.{BelongsTo, GoesOn, HasFirstPairs, HasPairs, HasRoom, HasWholeShare, HoldsWorld, IsTableOf, IsTied, MayClaim, PassState}
 pub use Rattle.plan_words.specs.States.{SharedState, StartsAs, first_member, first_view, new_pass, run_in, run_of_opening, tree_words, turn_of, turned}
 pub use Rattle.plan_words.specs.States.{with_view, without_best, worker_of}
-pub use Rattle.plan_words.specs.Waiting.{AreMarked, HasSeenParent, IsOn, NoneMarked, WaitingState, count_marked, is_marked}
 pub use Rattle.plan_words.specs.declared.claims.Next.{Next}
 pub use Rattle.plan_words.specs.declared.lowered_children.Above.{Above}
 pub use Rattle.plan_words.specs.declared.openings.Aim.{Aim}

@@ -1,14 +1,8 @@
--- Which mark a claim takes, by the counters that the pass has seen.
-use Rattle.std.specs.Prelude.{◌≡◌, ◌≢◌, ℕ, ◌+◌, ◌%◌, ◌<◌, ◌≤◌, ◌⊎◌, ◌==◌, max, Bool, true, false, Some}
-use Rattle.plan_model.specs.Scenes.MarkPoints.{is_claimed, quota_of, strip_of_mark}
-use Rattle.plan_words.specs.States.{worker_of, BelongsTo, GoesOn, HasWholeShare, PassState, SharedState, with_view}
-use Rattle.step_core.specs.ViewSteps.{mark_of, new_hand}
-use Rattle.step_core.specs.Views.{last_look, sees}
-use Rattle.grown_runs.specs.Table.WordNames.{Word, WritesWord, ChangesOnly, IsCounter}
-use Rattle.grown_runs.specs.Table.WordNames.Word.{Counter}
-use Rattle.step_core.specs.Worlds.{counters}
-use Rattle.step_core.specs.declared.views.SharedRun.{SharedRun}
-use Rattle.step_core.specs.declared.views.View.{View}
+-- Which mark a claim takes, by the counters that the pass has seen. The passes of all workers, made one by one from the pass that stands for them all.
+use Rattle.std.specs.Prelude.{◌≡◌, ◌≢◌, ℕ, ◌+◌, ◌%◌, ◌<◌, ◌≤◌, ◌⊎◌, ◌==◌, max, Bool, true, false, Some, ◌-◌, List, [], ◌∷◌, None}
+use Rattle.plan_words.specs.Terms.{ChangesOnly, Counter, IsCounter, SharedRun, View, Word, WritesWord, counters, crew_from, get_elem?, is_claimed, last_look}
+use Rattle.plan_words.specs.Terms.{mark_of, member_of, new_hand, quota_of, sees, some, strip_of_mark}
+use Rattle.plan_words.specs.States.{worker_of, BelongsTo, GoesOn, HasWholeShare, PassState, SharedState, with_view, new_pass, run_in}
 
 -- the next mark of strip g that is not claimed, by the counter seen
 abbrev pub next_mark : View → ℕ → ℕ
@@ -109,3 +103,23 @@ pub record IsLeastNext (before after : View) (kind : ℕ → Type 0) (most least
   pub at_most : least ≤ most
   pub below : (g : ℕ) → g < after.run.strips → kind g → least ≤ next_mark after g
   pub held : (least ≡ most) ⊎ IsNextOf after kind least
+
+-- the pass stands for worker w alone, and has seen what the first pass had
+abbrev pub IsPassOf : SharedState → PassState → ℕ → PassState → Type 0
+IsPassOf shared first w pass =
+    BelongsTo pass shared × (pass.view.crew ≡ member_of (run_in shared) (sees first.view) w ∷ []) × (pass.view.most ≡ first.view.most)
+    × (pass.view.hand ≡ None) × (sees pass.view ≡ sees first.view) × (pass.view.best ≡ first.view.best) × (pass ≡ new_pass pass.table pass.view)
+
+-- Before worker w has a pass of its own, the first pass stands for worker 0 and for those from w on.
+pub record StandsFor (shared : SharedState) (first : PassState) (w : ℕ) (pass : PassState) : Type 0 where
+  pub belongs : BelongsTo pass shared
+  pub crew : pass.view.crew ≡ member_of (run_in shared) (sees first.view) 0 ∷ crew_from (run_in shared) (sees first.view) w (shared.workers - w)
+  pub most : pass.view.most ≡ first.view.most
+  pub hand : pass.view.hand ≡ None
+  pub seen : sees pass.view ≡ sees first.view
+  pub best : pass.view.best ≡ first.view.best
+  pub lists : pass ≡ new_pass pass.table pass.view
+
+-- each pass of a list has it for the number after its place
+abbrev pub each_after : (ℕ → PassState → Type 0) → List PassState → Type 0
+each_after has passes = (i : ℕ) (pass : PassState) → get_elem? passes i ≡ some pass → has (i + 1) pass

@@ -1,12 +1,8 @@
+pub mod Terms
 pub mod OpeningBests
 pub mod States
-pub mod Bests
-pub mod Dealt
-pub mod Plays
-pub mod Claims
 pub mod Nodes
-pub mod Parents
-pub mod SeenChains
-pub mod Waiting
+pub mod Claims
+pub mod Plays
 pub mod SearchLists
 pub mod LoweredChildren

@@ -1,24 +1,42 @@
--- What steps by the seat of a pass leave, and what a node costs through another, as both were seen last.
-use Rattle.std.specs.Prelude.{◌≡◌, ◌≢◌, ℕ, ◌+◌, ◌<◌, ◌≤◌, ◌^◌, List, [], Option, None, Some, length}
-use Rattle.atomic_table.specs.Seated.{TableId}
-use Rattle.atomic_table.specs.Table.{Me}
-use Rattle.plan_model.specs.declared.geometry.Point.{Point}
-use Rattle.plan_model.specs.Geometry.Bounds.{IsBounded}
-use Rattle.plan_model.specs.Geometry.Cost.{cost_of}
-use Rattle.plan_words.specs.Bests.{KeepsOrPosts}
+-- The tree words that a pass saw, and which chain of an index of children a node is in by them. What steps by the seat of a pass leave, and what a
+-- node costs through another, as both were seen last.
+use Rattle.std.specs.Prelude.{◌≡◌, ℕ, zero, suc, ◌+◌, ◌-◌, ◌≤◌, ◌^◌, List, ◌++◌, if◌then◌else◌, length, nat_lt, replicate, slice_index, ◌≢◌, ◌<◌, [], Option}
+use Rattle.std.specs.Prelude.{None, Some}
+use Rattle.plan_words.specs.Terms.{Above, Aim, ChildIndex, FitsNumbers, FoundChild, HasLooked, IndexesChains, IsBounded, IsLawfulView, Me, Point, PointOf}
+use Rattle.plan_words.specs.Terms.{SeesGoal, SeesPoint, TableId, TreeOf, View, Word, best_word, cost_in, cost_of, parent_in, sees}
+use Rattle.plan_words.specs.Nodes.{KeepsOrPosts}
 use Rattle.plan_words.specs.States.{GoesOn, SharedState, run_in}
-use Rattle.plan_words.specs.Waiting.{HasSeenParent}
-use Rattle.plan_words.specs.declared.lowered_children.Above.{Above}
-use Rattle.plan_words.specs.declared.lowered_children.FoundChild.{FoundChild}
-use Rattle.plan_words.specs.declared.openings.Aim.{Aim}
-use Rattle.step_core.specs.LaterViews.{HasLooked, IsLawfulView}
-use Rattle.step_core.specs.SeenBests.{SeesGoal}
-use Rattle.step_core.specs.ViewTrees.{SeesPoint}
-use Rattle.step_core.specs.Views.{sees}
-use Rattle.grown_runs.specs.Table.WordNames.{Word}
-use Rattle.grown_runs.specs.Table.WordNames.Word.{PointOf, TreeOf}
-use Rattle.grown_runs.specs.Table.Words.{best_word, cost_in}
-use Rattle.step_core.specs.declared.views.View.{View}
+use Rattle.plan_words.specs.SearchLists.{HasSeenParent}
+
+-- 1 more than the number of its parent, or 0 if it is nobody's child; node 0 is never one
+abbrev pub chain_of : ℕ → ℕ → ℕ
+chain_of zero word = 0
+chain_of (suc n) word = if nat_lt word (2 ^ 63) then 0 else parent_in word + 1
+
+-- the same by the tree words of all nodes
+abbrev pub sibling_chain_in : List ℕ → ℕ → ℕ
+sibling_chain_in words n = chain_of n (slice_index words n)
+
+-- the words of so many nodes, of which those past the end of a list are not seen
+abbrev pub seen_words : ℕ → List ℕ → List ℕ
+seen_words nodes words = words ++ replicate (nodes - length words) 0
+
+-- The list has the words of the first of so many nodes, and the index their children. Both have room for the words of all.
+pub record AreSeenFirst (nodes : ℕ) (words : List ℕ) (capacity : ℕ) (children : ChildIndex) : Type 0 where
+  pub within : length words ≤ nodes
+  pub room : nodes ≤ capacity
+  pub children_room : FitsNumbers children nodes
+  pub index : IndexesChains (length words) (sibling_chain_in (seen_words nodes words)) children
+
+-- they may get as long as so many nodes need
+abbrev pub MayReach : ℕ → List ℕ → ℕ → ChildIndex → Type 0
+MayReach nodes words capacity children = (all : ℕ) × (nodes ≤ all) × AreSeenFirst all words capacity children
+
+-- The lists are as long as so many nodes need, and stand for the words that the shorter ones stood for.
+pub record Reaches (nodes : ℕ) (words : List ℕ) (capacity : ℕ) (children : ChildIndex) (longer : List ℕ) (room : ℕ) (more : ChildIndex) : Type 0 where
+  pub long : nodes ≤ length longer
+  pub first : (all : ℕ) → nodes ≤ all → AreSeenFirst all words capacity children → AreSeenFirst all longer room more
+  pub same : (all : ℕ) → nodes ≤ all → AreSeenFirst all words capacity children → seen_words all longer ≡ seen_words all words
 
 -- ---- seats
 

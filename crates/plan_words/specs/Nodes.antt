@@ -1,15 +1,9 @@
--- What a link leaves, and what one finds that fails.
-use Rattle.std.specs.Prelude.{◌≡◌, ℕ, suc, Bool, Some}
-use Rattle.plan_model.specs.declared.geometry.Point.{Point}
+-- What a link leaves, and what one finds that fails. Parents and costs in tree words, and what a pass is told of them. What a pass finds in the best word.
+use Rattle.std.specs.Prelude.{◌≡◌, ℕ, suc, Bool, Some, ◌<◌, ◌≤◌, ◌^◌, List, slice_index, ◌⊎◌, Option}
+use Rattle.plan_words.specs.Terms.{Best, ChildOf, Counted, FirstOf, Hand, IsAllowedEdge, IsOnWayOf, LeadsTo, Point, PointOf, SeesGoal, SeesPoint, TreeOf}
+use Rattle.plan_words.specs.Terms.{View, Word, best_word, cost_in, counted, hand_with_post, last_look, last_note, linked, loaded, note_before, pair_in_hand}
+use Rattle.plan_words.specs.Terms.{parent_in, sees, setup_in, tree_seen, with_post}
 use Rattle.plan_words.specs.States.{PassState, with_view}
-use Rattle.step_core.specs.ViewSteps.{counted, last_note, linked, note_before, pair_in_hand}
-use Rattle.step_core.specs.ViewTrees.{IsOnWayOf, LeadsTo, SeesPoint}
-use Rattle.step_core.specs.Views.{sees, tree_seen}
-use Rattle.grown_runs.specs.Table.WordNames.{Word}
-use Rattle.grown_runs.specs.Table.WordNames.Word.{ChildOf, FirstOf, PointOf, TreeOf}
-use Rattle.step_core.specs.declared.views.Hand.{Hand}
-use Rattle.step_core.specs.declared.views.Stage.TheVariants.{Counted}
-use Rattle.step_core.specs.declared.views.View.{View}
 
 -- the words of children and points
 abbrev pub NamesChildOrPoint : Word → Type 0
@@ -41,3 +35,58 @@ pub record IsLinkedAt (view : View) (n : ℕ) (side : Bool) (hand : Hand) : Type
 -- The way of p led to the place of node n's child on this side, and leads on to node c there, a step deeper.
 abbrev pub LeadsOn : View → View → Point → ℕ → Bool → ℕ → Type 0
 LeadsOn before after p n side c = (leads : LeadsTo before p n side) → IsOnWayOf after p (suc leads.depth) c
+
+-- the word is written, with this parent and this cost
+pub record IsPairIn (word : ℕ) (pair : ℕ × ℕ) : Type 0 where
+  pub written : 2 ^ 63 ≤ word
+  pub parent : pair.0 ≡ parent_in word
+  pub cost : pair.1 ≡ cost_in word
+
+-- each word that is written has its parent below so many nodes
+abbrev pub HasParentsBelow : ℕ → List ℕ → Type 0
+HasParentsBelow nodes words = (n : ℕ) → 2 ^ 63 ≤ slice_index words n → parent_in (slice_index words n) < nodes
+
+-- the other word has a lower cost
+pub record FindsLess (word found : ℕ) : Type 0 where
+  pub written : 2 ^ 63 ≤ found
+  pub less : cost_in found < cost_in word
+
+-- if the node and the parent are seen with their points, the edge between them is allowed
+abbrev pub IsEdgeSeen : View → ℕ → ℕ → Type 0
+IsEdgeSeen view node parent = (at from : Point) → SeesPoint view node at → SeesPoint view parent from → IsAllowedEdge (setup_in view.run) from at
+
+-- The node is seen as a goal node, and costs no more, as it was seen last.
+pub record FindsGoalNode (view : View) (best : ℕ × ℕ) : Type 0 where
+  pub goal : SeesGoal view best.0
+  pub written : 2 ^ 63 ≤ sees view (TreeOf best.0)
+  pub paid : cost_in (sees view (TreeOf best.0)) ≤ best.1
+
+-- The point of node n is looked at again, and a goal node is posted then: nothing else is done.
+pub record LooksAndPosts (n : ℕ) (before after : View) : Type 0 where
+  pub looked : ¬ SeesGoal before n → after ≡ loaded before (PointOf n) (sees after (PointOf n))
+  pub posted : SeesGoal before n → after ≡ with_post (loaded before (PointOf n) (sees after (PointOf n))) n after.best (last_note after)
+
+-- Of the pass only its view is another. Share, limit and hand stay, but that the hand may note a post of node n, a goal node.
+pub record OnlyPosts (n : ℕ) (before after : PassState) : Type 0 where
+  pub pass : after ≡ with_view before after.view
+  pub crew : after.view.crew ≡ before.view.crew
+  pub most : after.view.most ≡ before.view.most
+  pub hand : (after.view.hand ≡ before.view.hand) ⊎ (SeesGoal before.view n × (after.view.hand ≡ hand_with_post before.view.hand n))
+
+-- The hand stays, but that it may have noted a post of its node.
+abbrev pub IsOrPosted : Option Hand → Option Hand → Type 0
+IsOrPosted before after = (after ≡ before) ⊎ ((n : ℕ) × (after ≡ hand_with_post before n))
+
+-- Share and limit stay, and the hand does but for that.
+pub record KeepsOrPosts (before after : View) : Type 0 where
+  pub crew : after.crew ≡ before.crew
+  pub most : after.most ≡ before.most
+  pub hand : IsOrPosted before.hand after.hand
+
+-- The best word is seen as before, or was looked at since.
+abbrev pub SeesBestSince : View → View → Type 0
+SeesBestSince before after = (after.best ≡ before.best) ⊎ (before.steps < last_look after Best)
+
+-- Of each goal node that is seen with its parent and its cost, the best word seen is at most the pair of this cost and its number.
+abbrev pub HasPostedGoals : View → Type 0
+HasPostedGoals view = (n : ℕ) → SeesGoal view n → 2 ^ 63 ≤ sees view (TreeOf n) → view.best ≤ best_word (cost_in (sees view (TreeOf n))) n

@@ -1,10 +1,5 @@
 -- The best word of a run that workers go on from.
-use Rattle.plan_model.specs.Runs.Textbook.{skipping_goals}
-use Rattle.grown_runs.specs.Runs.GrownRuns.{state_of_grown, words_of_grown}
-use Rattle.grown_runs.specs.Runs.HoldRunProps.{IsLeastBest-prop}
-use Rattle.grown_runs.specs.Runs.LeastBests.{IsLeastBest}
-use Rattle.grown_runs.specs.Table.WordNames.Word.{Best}
-use Rattle.grown_runs.specs.declared.grown.Grown.{Grown}
+use Rattle.plan_words.specs.Terms.{Best, Grown, IsLeastBest, IsLeastBest-prop, skipping_goals, state_of_grown, words_of_grown}
 
 -- it is the least pair of kept cost and number of the run's goal nodes
 abbrev pub HasLeastBest : Grown → Type 0

@@ -1,26 +1,12 @@
 -- What each kind of step tells the pass that makes it: its view then, and that its steps go on to that. What a step notes of the steps of all passes
 -- no view before tells.
 use Rattle.std.specs.Prelude.{◌≡◌, ◌≢◌, ℕ, ◌≤◌, ◌==◌, ◌^◌, List, Some, if◌then◌else◌}
+use Rattle.plan_words.specs.Terms.{Aim, Count, Hand, Linked, MayLoad, Me, Point, PointOf, Record, SeesNode, Step, TreeOf, View, Word, best_cost_in}
+use Rattle.plan_words.specs.Terms.{best_loaded, best_node_in, claimed, cost_in, counted, finished_at, half, last_note, linked_at, no_best, node_count}
+use Rattle.plan_words.specs.Terms.{note_before, noting, own_count, parent_in, place_in, pointed, posted, saw_at, sees, tree_seen, treed}
 use mathlib.Core.Option.{Option, some, none}
-use Rattle.atomic_table.specs.Table.{Me, Step}
-use Rattle.plan_model.specs.Trees.PointsByNumber.{node_count}
-use Rattle.plan_model.specs.declared.geometry.Point.{Point}
-use Rattle.plan_model.specs.declared.records.Record.{Record}
-use Rattle.plan_words.specs.declared.openings.Aim.{Aim}
-use Rattle.plan_words.specs.Bests.{FindsGoalNode}
-use Rattle.plan_words.specs.Parents.{FindsLess}
+use Rattle.plan_words.specs.Nodes.{FindsGoalNode, FindsLess}
 use Rattle.plan_words.specs.States.{GoesOn, HasWholeShare}
-use Rattle.step_core.specs.SeenRecords.{own_count}
-use Rattle.step_core.specs.ViewSteps.{best_loaded, claimed, counted, finished_at, half, last_note, linked_at, note_before, noting, place_in, pointed, posted}
-use Rattle.step_core.specs.ViewSteps.{saw_at, treed}
-use Rattle.step_core.specs.ViewTrees.{MayLoad, SeesNode}
-use Rattle.step_core.specs.Views.{sees, tree_seen}
-use Rattle.grown_runs.specs.Table.WordNames.{Word}
-use Rattle.grown_runs.specs.Table.WordNames.Word.{Count, PointOf, TreeOf}
-use Rattle.grown_runs.specs.Table.Words.{best_cost_in, best_node_in, cost_in, no_best, parent_in}
-use Rattle.step_core.specs.declared.views.Hand.{Hand}
-use Rattle.step_core.specs.declared.views.Stage.TheVariants.{Linked}
-use Rattle.step_core.specs.declared.views.View.{View}
 
 -- what any step tells: the view then, to which the steps go on; no slot is taken
 pub record Tells (before : Me Aim View) (view : View) (after : Me Aim View) : Type 0 where

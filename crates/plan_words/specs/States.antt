@@ -1,26 +1,10 @@
 -- What contracts see of a shared tree and of a pass, and what a table of words keeps.
 use Rattle.std.specs.Prelude.{◌≡◌, ℕ, ◌+◌, ◌<◌, ◌≤◌, Option, Some, None, List, [], ◌∷◌, length, slice_index}
-use Rattle.atomic_table.specs.Seated.{TableId}
-use Rattle.plan_model.specs.Runs.Textbook.{skipping_goals}
-use Rattle.plan_model.specs.declared.tasks.Task.{Task}
+use Rattle.plan_words.specs.Terms.{Best, Grown, Hand, IsLater, IsLawfulView, IsLeastBest, IsSharedRun, IsWorld, Member, SharedRun, TableId, Task, TreeOf}
+use Rattle.plan_words.specs.Terms.{View, WordPlaces, Words, member_of, newcomer, run_of, run_sizes, sees, share, sizes_in, skipping_goals, state_of_grown}
+use Rattle.plan_words.specs.Terms.{word_count, words_of_grown, words_of_run}
 use Rattle.plan_words.specs.declared.openings.Opening.{Opening}
 use Rattle.plan_words.specs.SearchLists.{SearchLists, no_search}
-use Rattle.grown_runs.specs.Runs.GrownRuns.{state_of_grown, words_of_grown}
-use Rattle.step_core.specs.LaterViews.{IsLater, IsLawfulView}
-use Rattle.grown_runs.specs.Table.PlacesOfWords.{sizes_in}
-use Rattle.grown_runs.specs.Runs.LeastBests.{IsLeastBest}
-use Rattle.step_core.specs.ViewStarts.{member_of, newcomer}
-use Rattle.step_core.specs.Views.{IsSharedRun, run_of, run_sizes, sees, share, words_of_run}
-use Rattle.grown_runs.specs.Table.WordNames.{Words}
-use Rattle.grown_runs.specs.Table.WordNames.Word.{Best, TreeOf}
-use Rattle.grown_runs.specs.Table.WordPlaces.{word_count}
-use Rattle.step_core.specs.Worlds.{IsWorld}
-use Rattle.grown_runs.specs.declared.grown.Grown.{Grown}
-use Rattle.step_core.specs.declared.views.Hand.{Hand}
-use Rattle.step_core.specs.declared.views.Member.{Member}
-use Rattle.step_core.specs.declared.views.SharedRun.{SharedRun}
-use Rattle.step_core.specs.declared.views.View.{View}
-use Rattle.grown_runs.specs.declared.word_places.WordPlaces.{WordPlaces}
 
 -- ---- a shared tree and its passes
 
@@ -160,8 +144,7 @@ abbrev pub without_best : Words → Words
 without_best words Best = 0
 without_best words name = words name
 
--- The pass of worker w begins with its worker's turns, has seen all words, of the best the least pair of the run's goal nodes, and its lists
--- are empty.
+-- The pass of worker w begins with its worker's turns, has seen all words, of the best the least pair of the run's goal nodes, and its lists are empty.
 pub record StartsAs (shared : SharedState) (grown : Grown) (w : ℕ) (pass : PassState) : Type 0 where
   pub belongs : BelongsTo pass shared
   pub crew : pass.view.crew ≡ member_of (run_in shared) (words_of_grown grown) w ∷ []

@@ -3,7 +3,7 @@
 ghost use Rattle.std.specs.Prelude.{◌≡◌, ◌≢◌, ℕ, suc, ◌+◌, ◌<◌, ◌≤◌, ◌^◌, ◌==◌, if◌then◌else◌, length, true, IfNone, IfSome};
 ghost use Rattle.plan_model.specs.Runs.Textbook.{skipping_goals};
 ghost use Rattle.plan_model.specs.Trees.BestNode.{lies_in_goals};
-ghost use Rattle.plan_words.specs.Bests.{FindsGoalNode};
+ghost use Rattle.plan_words.specs.Nodes.{FindsGoalNode};
 ghost use Rattle.plan_words.specs.States.{BelongsTo, GoesOn, HasWholeShare, with_view};
 ghost use Rattle.grown_runs.specs.Runs.GrownWords.{has_node};
 ghost use Rattle.step_core.specs.SeenBests.{IsInformed, MayPost, SeesGoal, seen_first_cost};

@@ -2,7 +2,7 @@
 
 ghost use Rattle.std.specs.Prelude.{ℕ, ◌<◌};
 ghost use Rattle.plan_words.specs.Claims.{AllLoaded};
-ghost use Rattle.step_core.specs.LaterViews.{IsLawfulView};
+ghost use Rattle.step_core.specs.Histories.{IsLawfulView};
 ghost use Rattle.step_core.specs.Views.{last_look};
 ghost use Rattle.grown_runs.specs.Table.WordNames.Word.{Counter};
 ghost use Rattle.step_core.specs.declared.views.View.{View};

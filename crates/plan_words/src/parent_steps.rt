@@ -2,11 +2,10 @@
 //! word of the node in its hand, and lowers the cost of a node below a parent by which it is cheaper.
 
 ghost use Rattle.std.specs.Prelude.{◌≡◌, ◌≢◌, ℕ, ◌+◌, ◌<◌, ◌≤◌, ◌^◌, ◌==◌, if◌then◌else◌, false, IfErr, IfOk, IfSome, IsOk, IsSome, List, true};
-ghost use Rattle.plan_model.specs.Trees.PointsByNumber.{IsPresent};
-ghost use Rattle.plan_words.specs.Bests.{LooksAndPosts, OnlyPosts};
-ghost use Rattle.plan_words.specs.Parents.{FindsLess, IsEdgeSeen, IsPairIn};
+ghost use Rattle.plan_model.specs.Trees.NodeLists.{IsPresent};
+ghost use Rattle.plan_words.specs.Nodes.{LooksAndPosts, OnlyPosts, FindsLess, IsEdgeSeen, IsPairIn};
 ghost use Rattle.plan_words.specs.States.{BelongsTo, GoesOn, HasWholeShare, with_view};
-ghost use Rattle.step_core.specs.LaterViews.{HasLooked};
+ghost use Rattle.step_core.specs.Histories.{HasLooked};
 ghost use Rattle.step_core.specs.SeenBests.{SeesGoal};
 ghost use Rattle.step_core.specs.ViewSteps.{half, last_note, loaded, lowered, pair_in_hand, treed};
 ghost use Rattle.step_core.specs.ViewTrees.{MayHang, MayLower, SeesNode};

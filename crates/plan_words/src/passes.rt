@@ -6,7 +6,7 @@ ghost use Rattle.step_core.specs.Stages.{has_point};
 ghost use Rattle.step_core.specs.Views.{sees, share};
 ghost use Rattle.grown_runs.specs.Table.WordNames.Word.{TreeOf};
 ghost use Rattle.grown_runs.specs.Table.Words.{tree_of_word};
-ghost use Rattle.plan_words.specs.Parents.{IsPairIn};
+ghost use Rattle.plan_words.specs.Nodes.{IsPairIn};
 ghost use Rattle.plan_words.specs.States.{turn_of, worker_of};
 
 use crate::openings::Aim;

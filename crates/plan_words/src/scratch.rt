@@ -8,10 +8,9 @@ ghost use Rattle.std.specs.Prelude.{◌≡◌, ◌⊎◌, ℕ, ◌<◌, ◌≤�
 ghost use Rattle.std.specs.Prelude.{All, IfOk, IfSome, IsPermutation, None, Some, filter, length, map, option_to_list, slice_get, slice_set, take};
 ghost use Rattle.std.specs.List.Sorted.{IsNonDecreasing};
 ghost use Rattle.std.specs.Vec.{vec_capacity};
-ghost use Rattle.plan_words.specs.SearchLists.{IsNoted, found_of_spot, is_dearer, no_search, noted_spot, numbers_of};
+ghost use Rattle.plan_words.specs.SearchLists.{IsNoted, found_of_spot, is_dearer, no_search, noted_spot, numbers_of, HasSeenParent, IsOn};
 ghost use Rattle.plan_words.specs.States.{tree_words, with_lists};
-ghost use Rattle.plan_words.specs.Waiting.{HasSeenParent, IsOn};
-ghost use Rattle.step_core.specs.LaterViews.{IsLawfulView};
+ghost use Rattle.step_core.specs.Histories.{IsLawfulView};
 
 use crate::passes::Pass;
 use crate::search_store::SearchStore;

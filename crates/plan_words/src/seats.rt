@@ -3,7 +3,7 @@
 
 ghost use Rattle.std.specs.Prelude.{◌≡◌, ◌≢◌, ◌+◌, ◌<◌, ◌≤◌, ◌==◌, if◌then◌else◌};
 ghost use Rattle.plan_words.specs.LoweredChildren.{LooksOn, SitsAt};
-ghost use Rattle.plan_words.specs.Parents.{FindsLess};
+ghost use Rattle.plan_words.specs.Nodes.{FindsLess};
 ghost use Rattle.plan_words.specs.States.{GoesOn, HasWholeShare};
 ghost use Rattle.step_core.specs.SeenBests.{MayPost};
 ghost use Rattle.step_core.specs.ViewSteps.{best_with, last_note, loaded, lowered, with_post};

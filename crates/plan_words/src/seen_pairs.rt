@@ -3,11 +3,10 @@
 ghost use Rattle.std.specs.Prelude.{◌≡◌, ◌⊎◌, ℕ, suc, ◌<◌, ◌≤◌, ◌^◌, length, slice_index, slice_set, IfNone, IfOk, IfSome, IsTrue, None, [], ◌∷◌, ◌+◌};
 ghost use Rattle.std.specs.Vec.{vec_capacity};
 ghost use Rattle.plan_words.specs.LoweredChildren.{CostsAtMostThrough, HasQueued, IsFoundChild, IsSeenAbove, LooksOn, LowersChildren, PostsChanged};
-ghost use Rattle.plan_words.specs.LoweredChildren.{SeesSamePoints, SitsAt};
-ghost use Rattle.plan_words.specs.Parents.{FindsLess};
-ghost use Rattle.plan_words.specs.SeenChains.{AreSeenFirst, MayReach, Reaches, chain_of, sibling_chain_in};
+ghost use Rattle.plan_words.specs.LoweredChildren.{SeesSamePoints, SitsAt, AreSeenFirst, MayReach, Reaches, chain_of, sibling_chain_in};
+ghost use Rattle.plan_words.specs.Nodes.{FindsLess};
 ghost use Rattle.plan_words.specs.States.{HasPairs, HasWholeShare};
-ghost use Rattle.plan_words.specs.Waiting.{HasSeenParent, IsOn};
+ghost use Rattle.plan_words.specs.SearchLists.{HasSeenParent, IsOn};
 ghost use Rattle.grown_runs.specs.Runs.GrownRuns.{words_of_grown};
 ghost use Rattle.step_core.specs.Views.{sees, share};
 ghost use Rattle.grown_runs.specs.Table.WordNames.Word.{TreeOf};
@@ -37,7 +36,7 @@ pub(crate) struct SeenPairs {
 impl Model for SeenPairs {
     ghost use Rattle.std.specs.Prelude.{ℕ, List};
     ghost use Rattle.std.specs.Vec.{vec_capacity};
-    ghost use Rattle.plan_words.specs.SeenChains.{AreSeenFirst, seen_words};
+    ghost use Rattle.plan_words.specs.LoweredChildren.{AreSeenFirst, seen_words};
 
     ghost Value = { List ℕ };
 

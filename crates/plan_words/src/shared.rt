@@ -1,13 +1,13 @@
 //! The shared words, and the steps that look at a number, record a mark, split a pass and join two.
 
 ghost use Rattle.std.specs.Prelude.{◌≡◌, ◌≢◌, ℕ, ◌+◌, ◌<◌, ◌≤◌, [], length, slice_index, IfOk, None, OnErr, OnOk, IsSome, IfSome, Some};
-ghost use Rattle.plan_model.specs.Trees.PointsByNumber.{node_count};
+ghost use Rattle.plan_model.specs.Trees.NodeLists.{node_count};
 ghost use Rattle.plan_model.specs.declared.limits.TheConstants.{MOST_MARKS};
 ghost use Rattle.plan_model.specs.declared.records.Record.{Record};
-ghost use Rattle.plan_words.specs.Parents.{HasParentsBelow};
+ghost use Rattle.plan_words.specs.Nodes.{HasParentsBelow};
 ghost use Rattle.plan_words.specs.Plays.{Tells};
 ghost use Rattle.plan_words.specs.States.{BelongsTo, GoesOn, HasWholeShare, MayClaim, new_pass, turn_of, turned, with_view, worker_of};
-ghost use Rattle.grown_runs.specs.Runs.HoldRunProps.{Sizes-set};
+ghost use Rattle.grown_runs.specs.Runs.PackedRuns.{Sizes-set};
 ghost use Rattle.grown_runs.specs.Table.PlacesOfWords.{sizes_in};
 ghost use Rattle.step_core.specs.SeenRecords.{MayRecord, own_count};
 ghost use Rattle.step_core.specs.Stages.{MayBeRecorded};

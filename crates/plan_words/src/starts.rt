@@ -3,15 +3,14 @@
 ghost use Rattle.std.specs.Prelude.{◌≡◌, ℕ, ◌+◌, ◌≤◌, ◌<◌, None, Some, [], ◌∷◌, All, length, IfOk, OnOk, slice_index};
 ghost use lib.ListN.{get_elem?};
 ghost use mathlib.Core.Option.{some};
-ghost use Rattle.plan_model.specs.Runs.Turns.{turns_of};
+ghost use Rattle.plan_model.specs.Runs.OrderLaw.{turns_of};
 ghost use Rattle.plan_model.specs.declared.limits.TheConstants.{MOST_WORKERS};
-ghost use Rattle.plan_words.specs.Dealt.{IsPassOf, StandsFor, each_after};
+ghost use Rattle.plan_words.specs.Claims.{IsPassOf, StandsFor, each_after};
 ghost use Rattle.plan_words.specs.States.{BelongsTo, HasPairs, IsTied, MayClaim, PassState, StartsAs, first_view, new_pass, run_in, with_view};
 ghost use Rattle.grown_runs.specs.Runs.GrownRuns.{words_of_grown};
 ghost use Rattle.grown_runs.specs.Runs.GrownWords.{record_at};
 ghost use Rattle.step_core.specs.ViewSteps.{parted, second_alone, worker_apart};
-ghost use Rattle.step_core.specs.ViewStarts.{crew_from};
-ghost use Rattle.step_core.specs.Views.{sees};
+ghost use Rattle.step_core.specs.Views.{crew_from, sees};
 
 use crate::openings::{Aim, Opening};
 use crate::passes::Pass;

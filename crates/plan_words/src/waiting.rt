@@ -1,7 +1,7 @@
 //! A list of nodes that wait to be looked at. No node is on it twice.
 
 ghost use Rattle.std.specs.Prelude.{◌≡◌, ◌⊎◌, ℕ, ◌<◌, ◌≤◌, ◌++◌, [], length, option_to_list, IfOk, IfSome, None};
-ghost use Rattle.plan_words.specs.Waiting.{AreMarked, IsOn, NoneMarked};
+ghost use Rattle.plan_words.specs.SearchLists.{AreMarked, IsOn, NoneMarked};
 
 use std::alloc::{AllocError, Global};
 use std::marker::Model;
@@ -15,7 +15,7 @@ pub(crate) struct Waiting {
 
 impl Model for Waiting {
     ghost use Rattle.std.specs.Prelude.{length, vec_capacity};
-    ghost use Rattle.plan_words.specs.Waiting.{IsWaitingList, WaitingState};
+    ghost use Rattle.plan_words.specs.SearchLists.{IsWaitingList, WaitingState};
 
     ghost Value = { WaitingState };
 

@@ -9,7 +9,7 @@ use Rattle.plan_work.proofs.Words.{ReachesAsSeen, HandlesMark, IsExtended, IsPla
 use Rattle.plan_work.proofs.Words.{steered_point, HasLoadedBest, HasRecorded, KeepsRecords, own_unplaced, IsNotSkippedIn, SeesTextbook, WorksAlone}
 use Rattle.plan_work.proofs.Words.{IsLawfulView, IsInformed, IsUnskipped, MayBeSkipped, SeesGoal, best_loaded, best_taken, finished, hand_with_best, nat_tests}
 use Rattle.plan_work.proofs.Words.{last_look, sight_in, sees, setup_in, tree_seen, Hand, SharedRun, Stage, Claimed, View, cost_seen}
-use Rattle.plan_model.specs.Trees.GoalBounds.{bound_of}
+use Rattle.plan_model.specs.Trees.BestNode.{bound_of}
 use Rattle.plan_work.proofs.AloneMarks.{KeepsRun-refl, SeesTextbook-recorded, SeesTextbook-still, WorksAlone-recorded, WorksAlone-still}
 use Rattle.plan_work.proofs.HeldMarks.{Holding, holding, if_held, of_held}
 use Rattle.plan_work.proofs.MirroredTrees.{Mirrors-absent}

@@ -1,12 +1,12 @@
 -- The definitions and lemmas that proofs of this crate are about, passed on from one place. Declares nothing.
 pub use Rattle.grown_runs.proofs.Common.{AddsNode, AddsNode-placed, All-goals_bounded, AreBehind, AreBehind-refl, AreBehind-trans, AreSameRuns}
-pub use Rattle.grown_runs.proofs.Common.{AreSameRuns-trans, Best, Blocked, ChangesOnly, ChildOf, Clear, Clear-back, ClearAt, ConfigurationSpace, Contains-after}
+pub use Rattle.grown_runs.proofs.Common.{AreSameRuns-trans, Best, Blocked, ChangesOnly, Clear, Clear-back, ClearAt, ConfigurationSpace, Contains-after}
 pub use Rattle.grown_runs.proofs.Common.{Contains-first, Contains-near, Count, Counter, Ends, EndsSince, EndsSince-later, FirstHanging, FirstOf, Goal}
 pub use Rattle.grown_runs.proofs.Common.{GrowsInto, Handles, HandlesAll, HandlesAll-length, HandlesAll-nodes, HandlesAll-push, HaveSameNodes-absent, HoldRun}
 pub use Rattle.grown_runs.proofs.Common.{IsBestGoalNode, IsBestParent, IsBounded, IsBounded-scene_start, IsBoundedBox, IsClosed-textbook, IsCounter}
-pub use Rattle.grown_runs.proofs.Common.{IsFirstLeast, IsFirstWord, IsFree, IsGoalNode, IsMarkOf-own, IsNearerOf, IsNotAbove, IsNotAbove-lesser}
-pub use Rattle.grown_runs.proofs.Common.{IsNotAbove-refl, IsNotAbove-trans, IsOfTextbookRun, IsOpenTo, IsPairNotAbove, IsPresent, IsPresent-goal}
-pub use Rattle.grown_runs.proofs.Common.{IsPresent-stands, IsSeen, IsStep-steered, IsSwept, IsTextbookRun, KeepsOrder, MayBeCheaper, MayBeCheaper-not_skipping}
+pub use Rattle.grown_runs.proofs.Common.{IsFirstLeast, IsFirstWord, IsFree, IsGoalNode, IsMarkOf-own, IsNotAbove, IsNotAbove-lesser}
+pub use Rattle.grown_runs.proofs.Common.{IsOfTextbookRun, IsOpenTo, IsPresent, IsPresent-goal}
+pub use Rattle.grown_runs.proofs.Common.{IsPresent-stands, IsStep-steered, IsSwept, IsTextbookRun, KeepsOrder, MayBeCheaper, MayBeCheaper-not_skipping}
 pub use Rattle.grown_runs.proofs.Common.{MayBecome, NewNode, NoWay, Nodes, Outcome, PlacesNode, Point, PointOf, Reached, Reaches, Record, Record-from_fields}
 pub use Rattle.grown_runs.proofs.Common.{RecordOf, RecordsMark-push, RecordsNext, Rewires, SameNode, Scene, Setup, Sight, Sizes, Skipped, StandsAt-present}
 pub use Rattle.grown_runs.proofs.Common.{Steered, SteersTo, Task, TreeOf, TreeState, Word, Words, WritesWord, best_cost_in, best_node_in, best_of_word}
@@ -23,13 +23,11 @@ pub use Rattle.grown_runs.proofs.Common.{state_of_grown, steered, steered-near, 
 pub use Rattle.grown_runs.proofs.Common.{words_of_grown}
 pub use Rattle.grown_runs.proofs.Runs.GrownPoints.{point_at-absent}
 pub use Rattle.grown_runs.specs.declared.grown.Grown.{Grown}
-pub use Rattle.grown_runs.specs.declared.measured_nodes.MeasuredNode.{MeasuredNode}
 pub use Rattle.kd_shared.proofs.Looking.{OnlyLooks-refl}
 pub use Rattle.kd_shared.proofs.PassLooks.{PassLooks-load}
 pub use Rattle.kd_shared.proofs.SearchResults.{SweepsWithin-begun, SweepsWithin-later, SweepsWithin-less}
 pub use Rattle.kd_shared.proofs.SortedNear.{is_within-near, near-increases, near-within}
-pub use Rattle.kd_shared.specs.LookLaws.{OnlyLooks-trans}
-pub use Rattle.kd_shared.specs.Looking.{OnlyLooks, PassLooks}
+pub use Rattle.kd_shared.specs.Looking.{OnlyLooks, OnlyLooks-trans, PassLooks}
 pub use Rattle.kd_shared.specs.Placings.{GoesOnPlacing, IsPlaced, IsPlacing, KeepsShare, SeesPlacing}
 pub use Rattle.kd_shared.specs.Searches.{AreGathered, IsNearestSeen, SweepsWithin}
 pub use Rattle.kd_shared.specs.declared.placing.Placing.{Placing}
@@ -48,10 +46,10 @@ pub use Rattle.plan_words.specs.declared.spots.Found.{Found}
 pub use Rattle.plan_work.specs.ExtensionSteps.{FitsWord, HasBeenPlaced, HasCome, HasFilledNear, HasLoadedBest, HasReached, HasRecorded, IsFilledSince, IsHung}
 pub use Rattle.plan_work.specs.ExtensionSteps.{IsNearestOf, IsPointed, IsSteeredAndHandled, IsSteeredTo, IsTried, KeepsRecords, MayPlace, given_by, hung_by}
 pub use Rattle.plan_work.specs.ExtensionSteps.{own_placed, own_unplaced, placed_hand, placed_stage}
-pub use Rattle.plan_work.specs.Extensions.{EndsAsSeen, HandlesMark, HasSteered, IsBlockedAt, IsExtended, IsPlacedAt, IsWithinRadius, MayExtend, ReachesAsSeen}
+pub use Rattle.plan_work.specs.Extensions.{EndsAsSeen, HandlesMark, HasSteered, IsExtended, IsPlacedAt, IsWithinRadius, MayExtend, ReachesAsSeen}
 pub use Rattle.plan_work.specs.Extensions.{WasChosen, WasNeighbour, WasNotSkipped, WasRewired, WasSkipped, WasSteered, radius_in, steered_point}
-pub use Rattle.plan_work.specs.OneWorker.{HandlesRest, HasClaimed, HasHandled, IsNotSkippedIn, IsOfTextbook, SeesTextbook, WorksAlone}
-pub use Rattle.plan_work.specs.WholeShares.{HasCounted, IsFilledWhole, IsSteeredWhole, IsTriedWhole, KeepsNode, KeepsOthers, SeesButCount}
+pub use Rattle.plan_work.specs.OneWorker.{HandlesRest, HasClaimed, HasCounted, HasHandled, IsFilledWhole, IsNotSkippedIn, IsOfTextbook, IsSteeredWhole}
+pub use Rattle.plan_work.specs.OneWorker.{IsTriedWhole, KeepsNode, KeepsOthers, SeesButCount, SeesTextbook, WorksAlone}
 pub use Rattle.plan_work.specs.Workers.{AllExtended, HasDone, HasLeft, HasStopped, HasTakenOver, HasWorked, IsReady, left_by, left_of, shares_of, workers_with}
 pub use Rattle.plan_work.specs.declared.growing.Worker.{Worker}
 pub use Rattle.plan_work.specs.declared.growing.Worker.TheVariants.{Away, Stopped, Working}
@@ -60,10 +58,10 @@ pub use Rattle.plan_work.specs.declared.mark_steering.Steering.{Steering}
 pub use Rattle.std.proofs.Common.{Bool, List, None, Option, Some, [], ap, arith, cond, false, inl, inr, length, length-append, ltb, refl, subst, suc, sym, take}
 pub use Rattle.std.proofs.Common.{rules, true, zero, ℕ, ◌%◌, ◌*◌, ◌++◌, ◌+◌, ◌-◌, ◌/◌, ◌<◌, ◌^◌, ◌∙◌, ◌∷◌, ◌≡◌, ◌≢◌, ◌≤◌}
 pub use Rattle.std.proofs.Math.Seq.{take-append_seam, take-suc}
-pub use Rattle.std.proofs.lemmas.Bool.{cases_Bool, cases_eq, cases_lt, eq-eqb, eqb-true, le-ltb, leb-true, lt-ltb, true≢false}
+pub use Rattle.std.proofs.lemmas.Bool.{cases_Bool, cases_eq, cases_lt, eq-eqb, le-ltb, leb-true, lt-ltb, true≢false}
 pub use Rattle.std.proofs.lemmas.Bool.Decides.{nat_tests}
-pub use Rattle.std.proofs.lemmas.List.{append-nil, append_assoc, get_or_past, length-map, length-take-le, map-append, take_all, take_more}
-pub use Rattle.std.proofs.lemmas.List.Elements.{All-cons, All-contains, All-contains_itself, All-map, All-nil, Contains-get_or, filter-append, filter_agree}
+pub use Rattle.std.proofs.lemmas.List.{append-nil, append_assoc, get_or_past, length-take-le, map-append, take_all, take_more}
+pub use Rattle.std.proofs.lemmas.List.Elements.{All-cons, All-contains, All-map, Contains-get_or, filter-append, filter_agree}
 pub use Rattle.std.proofs.lemmas.List.FromFn.{length-map-range_with_len}
 pub use Rattle.std.proofs.lemmas.List.Sums.{length-filter}
 pub use Rattle.std.proofs.lemmas.Nat.{mul-le}
@@ -83,21 +81,19 @@ pub use Rattle.step_core.specs.declared.views.Hand.{Hand}
 pub use Rattle.step_core.specs.declared.views.Member.{Member}
 pub use Rattle.step_core.specs.declared.views.SharedRun.{SharedRun}
 pub use Rattle.step_core.specs.declared.views.Stage.{Stage}
-pub use Rattle.step_core.specs.declared.views.Stage.TheVariants.{Claimed, Counted, Half, Linked, Pointed, Posted, Treed}
+pub use Rattle.step_core.specs.declared.views.Stage.TheVariants.{Claimed, Counted, Half, Pointed, Posted}
 pub use Rattle.step_core.specs.declared.views.View.{View}
 pub use Rattle.tree_rewire.proofs.ChosenFound.{AllWeighed-seen, IsNextWord-more, IsNextWord-none}
-pub use Rattle.tree_rewire.proofs.ChosenParents.{All-more, IsInReach-later, near_read, take_read}
+pub use Rattle.tree_rewire.proofs.ChosenParents.{IsInReach-later}
 pub use Rattle.tree_rewire.proofs.CostSteps.{PassSees-point}
 pub use Rattle.tree_rewire.proofs.FoundLists.{All-at, AreOf-weighed, Contains-image, Contains-source, numbers-weighed}
 pub use Rattle.tree_rewire.proofs.SeenCosts.{SeesPair-later, cost_seen-later, point_later, stands_later}
 pub use Rattle.tree_rewire.proofs.SpreadFalls.{HasSpreadFalls-still}
-pub use Rattle.tree_rewire.specs.FoundNodes.{AreOf, IsMeasured, IsWeighed}
-pub use Rattle.tree_rewire.specs.Mirrors.{Mirrors}
-pub use Rattle.tree_rewire.specs.Rewirings.{HasPlaced, HasSpreadFalls}
+pub use Rattle.tree_rewire.specs.NearNodes.{AreOf, IsMeasured, IsNextWord, IsWeighed}
+pub use Rattle.tree_rewire.specs.Spreads.{HasPlaced, HasSpreadFalls, Mirrors}
 pub use Rattle.tree_rewire.specs.SeenCosts.{IsBestParentSeen, IsInReach, IsLoadedSince, NamesLoweredOrPoint, NamesTree, SeesAnew, SeesPair, cost_seen}
 pub use Rattle.tree_rewire.specs.SeenCosts.{seen_cost_through}
 pub use Rattle.edge_cost.proofs.CostBounds.{squared_distance-low}
 pub use Rattle.edge_cost.specs.LeastParents.{IsLeastParent}
 pub use Rattle.edge_cost.specs.declared.parents.Parent.{Parent}
 pub use Rattle.tree_rewire.proofs.NearLists.{IsMeasured-later}
-pub use Rattle.tree_rewire.specs.NearNodes.{IsNextWord}

@@ -1,49 +1,15 @@
 -- What the steps of the handling of one mark leave, by what the pass has seen.
 use Rattle.std.specs.Prelude.{◌≡◌, true, false, ℕ, suc, ◌*◌, ◌^◌, ◌<◌, ◌≤◌, if◌then◌else◌, All, Contains, IfSome, Some, List}
-use Rattle.edge_cost.specs.declared.parents.Parent.{Parent}
-use Rattle.edge_cost.specs.declared.radii.Radii.{Radii}
-use Rattle.kd_shared.specs.Searches.{SweepsWithin}
-use Rattle.kd_shared.specs.Placings.{IsSame}
-use Rattle.kd_shared.specs.declared.placing.Placing.{Placing}
+use Rattle.plan_work.specs.Terms.{BelongsTo, Clear, Count, Counted, Counter, FirstHanging, FirstOf, Found, Goal, GoesOn, Hand, Hanging, IsBounded, IsInReach}
+use Rattle.plan_work.specs.Terms.{IsLoadedSince, IsMeasured, IsNotAbove, IsSame, IsUnskipped, MayClaim, NewNode, Outcome, Parent, PassState, Placing, Point}
+use Rattle.plan_work.specs.Terms.{Pointed, Posted, Radii, Reached, Record, RecordOf, Scene, SeesBestSince, SeesPair, SeesPoint, SharedState, Stage, Steered}
+use Rattle.plan_work.specs.Terms.{SweepsWithin, TreeOf, Treed, View, best_loaded, best_word, class_of, distance_to, ending_of, finished, has_node, last_look}
+use Rattle.plan_work.specs.Terms.{lies_in_goals, mark_at, numbers_of, own_count, pair_in_hand, point_of, record_at, record_of_ending, record_word}
+use Rattle.plan_work.specs.Terms.{seen_cost_through, sees, setup_in, sight_in, space_of, squared_distance, steered, tree_seen, turn_of, unplaced_record}
+use Rattle.plan_work.specs.Terms.{weighed, with_view, worker_of}
 use Rattle.kd_shared.specs.declared.placing.Placing.TheVariants as placings
-use Rattle.plan_model.specs.Geometry.Bounds.{IsBounded}
-use Rattle.plan_model.specs.Spaces.Clearance.{Clear}
-use Rattle.plan_model.specs.Spaces.ConfigurationSpace.{space_of}
-use Rattle.plan_model.specs.Runs.ClosedLaw.{mark_at}
-use Rattle.plan_model.specs.Geometry.Plane.{squared_distance}
-use Rattle.plan_model.specs.Trees.BestNode.{lies_in_goals}
-use Rattle.plan_model.specs.Trees.LeastPairs.{IsNotAbove}
-use Rattle.plan_model.specs.Trees.Nearness.{distance_to}
-use Rattle.plan_model.specs.Trees.PointsByNumber.{point_of}
-use Rattle.plan_model.specs.Geometry.Radius.{class_of}
-use Rattle.plan_model.specs.Geometry.Steering.{steered}
-use Rattle.plan_model.specs.declared.geometry.Goal.{Goal}
-use Rattle.plan_model.specs.declared.geometry.Point.{Point}
-use Rattle.plan_model.specs.declared.records.Outcome.{Outcome}
-use Rattle.plan_model.specs.declared.records.Record.{Record}
-use Rattle.plan_model.specs.declared.scenes.Scene.{Scene}
-use Rattle.plan_model.specs.Runs.Endings.{FirstHanging, Reached, NewNode, Steered, ending_of, record_of_ending, unplaced_record}
-use Rattle.plan_words.specs.Bests.{SeesBestSince}
-use Rattle.plan_words.specs.SearchLists.{numbers_of, weighed}
-use Rattle.plan_words.specs.declared.spots.Found.{Found}
-use Rattle.plan_words.specs.States.{BelongsTo, GoesOn, MayClaim, PassState, SharedState, turn_of, with_view, worker_of}
-use Rattle.step_core.specs.SeenBests.{IsUnskipped}
-use Rattle.step_core.specs.SeenRecords.{own_count}
-use Rattle.grown_runs.specs.Runs.GrownWords.{has_node, record_at}
-use Rattle.step_core.specs.ViewSteps.{best_loaded, finished, pair_in_hand}
-use Rattle.step_core.specs.ViewTrees.{SeesPoint, sight_in}
-use Rattle.step_core.specs.Views.{last_look, sees, setup_in, tree_seen}
-use Rattle.grown_runs.specs.Table.WordNames.Word.{Count, Counter, FirstOf, RecordOf, TreeOf}
-use Rattle.grown_runs.specs.Table.Words.{best_word, record_word}
-use Rattle.step_core.specs.declared.views.Hand.{Hand}
-use Rattle.step_core.specs.declared.views.Stage.{Stage}
-use Rattle.step_core.specs.declared.views.Stage.TheVariants.{Counted, Pointed, Posted, Treed}
-use Rattle.step_core.specs.declared.views.View.{View}
-use Rattle.tree_rewire.specs.SeenCosts.{IsInReach, IsLoadedSince, SeesPair, seen_cost_through}
-use Rattle.plan_work.specs.declared.mark_placing.Hanging.{Hanging}
 use Rattle.plan_work.specs.Extensions.{HandlesMark, MayExtend, ReachesAsSeen, WasSteered, radius_in}
 use Rattle.plan_work.specs.OneWorker.{IsNotSkippedIn, SeesTextbook, WorksAlone}
-use Rattle.tree_rewire.specs.FoundNodes.{IsMeasured}
 
 -- the radii are those of the scene's step and gamma
 pub record AreRadiiOf (scene : Scene) (radii : Radii) : Type 0 where

@@ -1,34 +1,11 @@
 -- What the handling of one mark leaves, by what the pass has seen.
 use Rattle.std.specs.Prelude.{◌≡◌, ◌≢◌, ℕ, suc, ◌+◌, ◌*◌, ◌<◌, ◌≤◌, true, Some, IsSome, IfSome}
-use Rattle.kd_shared.specs.Searches.{SweepsWithin}
-use Rattle.plan_model.specs.Spaces.Clearance.{Clear}
-use Rattle.plan_model.specs.Runs.ClosedLaw.{mark_at}
-use Rattle.plan_model.specs.Runs.Endings.{FirstHanging, Reached, NewNode, SameNode, NoWay, Ending, Steered, SkippedBy, ending_of}
-use Rattle.plan_model.specs.Geometry.Cost.{cost_of}
-use Rattle.plan_model.specs.Geometry.Plane.{squared_distance}
-use Rattle.plan_model.specs.Trees.BestNode.{lies_in_goals}
-use Rattle.plan_model.specs.Trees.LeastPairs.{IsNotAbove}
-use Rattle.plan_model.specs.Trees.Nearness.{distance_to}
-use Rattle.plan_model.specs.Trees.PointsByNumber.{IsFree, IsPresent, point_of}
-use Rattle.plan_model.specs.Geometry.Radius.{class_of, radius_of_class}
-use Rattle.plan_model.specs.Seen.Sights.{IsSwept}
-use Rattle.plan_model.specs.Geometry.Steering.{steered}
-use Rattle.plan_model.specs.Runs.Textbook.{mark_bound}
-use Rattle.plan_model.specs.declared.geometry.Point.{Point}
-use Rattle.plan_model.specs.declared.records.Record.{Record}
-use Rattle.plan_words.specs.Bests.{SeesBestSince}
-use Rattle.plan_words.specs.States.{BelongsTo, GoesOn, MayClaim, PassState, SharedState, turn_of, worker_of}
-use Rattle.grown_runs.specs.Runs.GrownWords.{record_at}
-use Rattle.step_core.specs.SeenBests.{IsInformed}
-use Rattle.step_core.specs.ViewSteps.{best_loaded, finished, one_turn_more}
-use Rattle.step_core.specs.ViewTrees.{SeesPoint, sight_in}
-use Rattle.step_core.specs.Views.{last_look, sees, setup_in, tree_seen}
-use Rattle.grown_runs.specs.Table.WordNames.Word.{Count, Counter, RecordOf, TreeOf}
-use Rattle.grown_runs.specs.Table.Words.{best_cost_in, best_node_in, best_word, no_best, record_word, tree_word}
-use Rattle.step_core.specs.declared.views.Stage.TheVariants.{Claimed}
-use Rattle.step_core.specs.declared.views.View.{View}
-use Rattle.tree_rewire.specs.Rewirings.{HasSpreadFalls}
-use Rattle.tree_rewire.specs.SeenCosts.{IsLoadedSince, SeesPair, cost_seen}
+use Rattle.plan_work.specs.Terms.{BelongsTo, Claimed, Clear, Count, Counter, Ending, FirstHanging, GoesOn, HasSpreadFalls, IsFree, IsInformed, IsLoadedSince}
+use Rattle.plan_work.specs.Terms.{IsNotAbove, IsPresent, IsSwept, MayClaim, NewNode, NoWay, PassState, Point, Reached, Record, RecordOf, SameNode}
+use Rattle.plan_work.specs.Terms.{SeesBestSince, SeesPair, SeesPoint, SharedState, SkippedBy, Steered, SweepsWithin, TreeOf, View, best_cost_in, best_loaded}
+use Rattle.plan_work.specs.Terms.{best_node_in, best_word, class_of, cost_of, cost_seen, distance_to, ending_of, finished, last_look, lies_in_goals, mark_at}
+use Rattle.plan_work.specs.Terms.{mark_bound, no_best, one_turn_more, point_of, radius_of_class, record_at, record_word, sees, setup_in, sight_in}
+use Rattle.plan_work.specs.Terms.{squared_distance, steered, tree_seen, tree_word, turn_of, worker_of}
 use Rattle.plan_work.specs.OneWorker.{SeesTextbook, WorksAlone}
 
 -- Mark k is in hand, and nothing is written of it.

@@ -1,5 +1,5 @@
+pub mod Terms
 pub mod Extensions
 pub mod ExtensionSteps
 pub mod OneWorker
-pub mod WholeShares
 pub mod Workers

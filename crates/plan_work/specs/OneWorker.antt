@@ -1,20 +1,44 @@
--- One worker that works alone: what it sees is the textbook run over the marks that it has handled.
-use Rattle.std.specs.Prelude.{◌≡◌, ℕ, ◌≤◌, nat_lt, List, [], ◌∷◌, slice_get, take}
-use Rattle.plan_model.specs.declared.records.Record.{Record}
-use Rattle.plan_model.specs.Scenes.MarkPoints.{is_claimed}
-use Rattle.plan_model.specs.Runs.ClosedLaw.{mark_at}
-use Rattle.plan_model.specs.Runs.SameRuns.{IsOfTextbookRun}
-use Rattle.plan_model.specs.Runs.Textbook.{IsTextbookRun, MayBeCheaper, Nodes, setup_of}
-use Rattle.plan_words.specs.Bests.{HasPostedGoals}
-use Rattle.plan_words.specs.States.{HasWholeShare}
-use Rattle.grown_runs.specs.Runs.GrownRuns.{state_of_grown}
-use Rattle.grown_runs.specs.Runs.GrownWords.{record_at}
-use Rattle.step_core.specs.Views.{sees, setup_in, tree_seen}
-use Rattle.step_core.specs.Worlds.{counters}
-use Rattle.grown_runs.specs.declared.grown.Grown.{Grown}
-use Rattle.step_core.specs.declared.views.View.{View}
-use Rattle.tree_rewire.specs.Mirrors.{Mirrors}
-use Rattle.tree_rewire.specs.SeenCosts.{cost_seen}
+-- What the steps of one mark leave of a pass with the share of all workers: it is shown nothing new but the count of nodes. One worker that works
+-- alone: what it sees is the textbook run over the marks that it has handled.
+use Rattle.std.specs.Prelude.{◌≡◌, ◌≢◌, ℕ, suc, ◌∷◌, Some, List, ◌≤◌, nat_lt, [], slice_get, take}
+use Rattle.plan_work.specs.Terms.{AreOf, ConfigurationSpace, Count, FirstOf, Found, Grown, Hand, Hanging, HasPostedGoals, HasWholeShare, IsBestParentSeen}
+use Rattle.plan_work.specs.Terms.{IsOfTextbookRun, IsTextbookRun, Linked, MayBeCheaper, Mirrors, Nodes, Placed, Placing, Point, PointOf, Record, Same}
+use Rattle.plan_work.specs.Terms.{SteersTo, TreeOf, View, Word, class_of, cost_seen, counters, is_claimed, mark_at, near_new, node_count, record_at, sees}
+use Rattle.plan_work.specs.Terms.{setup_in, setup_of, state_of_grown, tree_seen}
+
+-- no node in hand is linked and not counted yet
+abbrev pub HasCounted : View → Type 0
+HasCounted view = (hand : Hand) → view.hand ≡ Some hand → hand.stage ≢ Linked
+
+-- every word but the count is seen as before
+abbrev pub SeesButCount : View → View → Type 0
+SeesButCount before after = (name : Word) → name ≢ Count → sees after name ≡ sees before name
+
+-- The class is that of the number of nodes seen, and the nodes found are those near a new one at p in the textbook, in the tree seen.
+pub record IsFilledWhole (view : View) (p : Point) (class : ℕ) (found : List Found) : Type 0 where
+  pub class_is : class ≡ class_of (node_count (tree_seen view).points)
+  pub found_is : AreOf found (near_new (setup_in view.run) (tree_seen view).points p)
+
+-- node m is the nearest one seen to mark k, and steers towards it to p
+abbrev pub IsSteeredWhole : View → ℕ → ℕ → Point → Type 0
+IsSteeredWhole view k m p = SteersTo (setup_in view.run) (tree_seen view).points (mark_at view.run.marks k) m p
+
+-- the point, the tree word and the first word of node n are seen as before
+pub record KeepsNode (before after : View) (n : ℕ) : Type 0 where
+  pub point : sees after (PointOf n) ≡ sees before (PointOf n)
+  pub tree : sees after (TreeOf n) ≡ sees before (TreeOf n)
+  pub first : sees after (FirstOf n) ≡ sees before (FirstOf n)
+
+-- where the node of mark k is placed, all other nodes are kept, and else all
+abbrev pub KeepsOthers : View → View → ℕ → Placing → Type 0
+KeepsOthers before after k Placed = (n : ℕ) → n ≢ suc k → KeepsNode before after n
+KeepsOthers before after k (Same j) = (n : ℕ) → KeepsNode before after n
+
+-- A node was hung by its best parent, and came to this place.
+pub record IsTriedWhole (space : ConfigurationSpace) (before after : View) (k : ℕ) (p : Point) (nearest : ℕ) (near : List ℕ) (placing : Placing)
+    (hanging : Hanging) : Type 0 where
+  pub best : IsBestParentSeen space before p (nearest ∷ near) hanging.parent
+  pub others : KeepsOthers before after k placing
 
 -- The pass has the share of all workers, as worker 0, whose next turn is k.
 pub record WorksAlone (view : View) (k : ℕ) : Type 0 where

@@ -1,16 +1,9 @@
 -- What a worker leaves.
 use Rattle.std.specs.Prelude.{◌≡◌, ◌≢◌, ◌+◌, ◌≤◌, ◌⊎◌, ◌++◌, ℕ, [], ◌∷◌, All, IsSome, List, None, Option, Some, map, option_to_list}
-use Rattle.plan_model.specs.declared.records.Record.{Record}
-use Rattle.plan_words.specs.Claims.{AllFull}
-use Rattle.plan_words.specs.States.{GoesOn, MayClaim, PassState, SharedState, worker_of}
+use Rattle.plan_work.specs.Terms.{AllFull, AreBehind, Away, GoesOn, MayClaim, PassState, Record, RecordOf, SharedState, Stopped, View, Worker, Working, sees}
+use Rattle.plan_work.specs.Terms.{share, worker_of}
 use Rattle.plan_work.specs.Extensions.{IsExtended}
-use Rattle.plan_work.specs.declared.growing.Worker.{Worker}
-use Rattle.plan_work.specs.declared.growing.Worker.TheVariants.{Away, Stopped, Working}
 use Rattle.plan_work.specs.OneWorker.{HandlesRest}
-use Rattle.step_core.specs.Views.{sees, share}
-use Rattle.grown_runs.specs.Table.WordKinds.{AreBehind}
-use Rattle.grown_runs.specs.Table.WordNames.Word.{RecordOf}
-use Rattle.step_core.specs.declared.views.View.{View}
 
 -- What a pass keeps that has worked up to a limit: it may claim, has its share, and works as the same worker. The greatest limit that it
 -- knows of is the one from before, or this one.

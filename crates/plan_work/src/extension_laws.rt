@@ -3,13 +3,11 @@
 ghost use Rattle.std.specs.Prelude.{◌≡◌, ◌≢◌, ◌⊎◌, ℕ, suc, ◌+◌, ◌*◌, ◌<◌, ◌≤◌, true};
 ghost use Rattle.plan_model.specs.Spaces.Clearance.{Clear};
 ghost use Rattle.plan_model.specs.Runs.ClosedLaw.{mark_at};
-ghost use Rattle.plan_model.specs.Geometry.Cost.{cost_of};
+ghost use Rattle.plan_model.specs.Geometry.Lengths.{cost_of, class_of};
 ghost use Rattle.plan_model.specs.Geometry.Plane.{squared_distance};
 ghost use Rattle.plan_model.specs.Trees.BestNode.{lies_in_goals};
-ghost use Rattle.plan_model.specs.Trees.LeastPairs.{IsNotAbove};
-ghost use Rattle.plan_model.specs.Trees.Nearness.{distance_to};
-ghost use Rattle.plan_model.specs.Trees.PointsByNumber.{IsFree, IsPresent, point_of};
-ghost use Rattle.plan_model.specs.Geometry.Radius.{class_of};
+ghost use Rattle.plan_model.specs.Trees.Nearness.{IsNotAbove, distance_to};
+ghost use Rattle.plan_model.specs.Trees.NodeLists.{IsFree, IsPresent, point_of};
 ghost use Rattle.plan_model.specs.Runs.Textbook.{mark_bound};
 ghost use Rattle.plan_model.specs.Seen.Sights.{IsSwept};
 ghost use Rattle.plan_model.specs.declared.geometry.Point.{Point};
@@ -25,9 +23,8 @@ ghost use Rattle.step_core.specs.Views.{last_look, sees, setup_in, tree_seen};
 ghost use Rattle.grown_runs.specs.Table.WordNames.Word.{Best, Count, RecordOf, TreeOf};
 ghost use Rattle.grown_runs.specs.Table.Words.{best_cost_in, best_node_in, best_word, no_best, record_word, tree_word};
 ghost use Rattle.step_core.specs.declared.views.View.{View};
-ghost use Rattle.tree_rewire.specs.Rewirings.{IsInFall};
+ghost use Rattle.tree_rewire.specs.Spreads.{IsInFall, IsWithinParent};
 ghost use Rattle.tree_rewire.specs.SeenCosts.{SeesPair, cost_seen, parent_seen};
-ghost use Rattle.tree_rewire.specs.Spreads.{IsWithinParent};
 
 /// No node that the pass had seen with its point is nearer to a mark that was handled, and not skipped, than its nearest node. The outcome
 /// is `Same` with a node seen at the steered point, and `Blocked` if none is seen there at return; then the segment is not clear.

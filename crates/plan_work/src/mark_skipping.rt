@@ -1,10 +1,10 @@
 //! The skipping of a mark: no path over it is cheaper than the best that is known.
 
 ghost use Rattle.std.specs.Prelude.{◌≡◌, ◌<◌, true, IfNone, IfSome, length};
-ghost use Rattle.plan_model.specs.Geometry.Bounds.{IsBounded};
+ghost use Rattle.plan_model.specs.Geometry.Plane.{IsBounded};
 ghost use Rattle.plan_model.specs.Runs.ClosedLaw.{mark_at};
-ghost use Rattle.plan_model.specs.Trees.GoalBounds.{bound_of};
-ghost use Rattle.plan_words.specs.Bests.{FindsGoalNode};
+ghost use Rattle.plan_model.specs.Trees.BestNode.{bound_of};
+ghost use Rattle.plan_words.specs.Nodes.{FindsGoalNode};
 ghost use Rattle.plan_words.specs.States.{HasWholeShare};
 ghost use Rattle.plan_work.specs.Extensions.{MayExtend};
 ghost use Rattle.plan_work.specs.ExtensionSteps.{HasLoadedBest};

@@ -1,16 +1,16 @@
 //! The steering towards a mark: the nearest node, the nodes near the point that it steers to, and whether the segment is clear.
 
 ghost use Rattle.std.specs.Prelude.{◌≡◌, ◌↔◌, All, IfSome, IsSome, IsTrue};
-ghost use Rattle.plan_model.specs.Geometry.Bounds.{IsBounded};
+ghost use Rattle.plan_model.specs.Geometry.Plane.{IsBounded};
 ghost use Rattle.plan_model.specs.Spaces.Clearance.{Clear};
-ghost use Rattle.plan_model.specs.Trees.PointsByNumber.{point_of};
+ghost use Rattle.plan_model.specs.Trees.NodeLists.{point_of};
 ghost use Rattle.plan_words.specs.SearchLists.{numbers_of};
 ghost use Rattle.plan_words.specs.States.{BelongsTo, HasWholeShare, PassState};
 ghost use Rattle.plan_work.specs.Extensions.{HasSteered};
 ghost use Rattle.plan_work.specs.ExtensionSteps.{AreRadiiOf, FitsWord, HasFilledNear, IsFilledSince, IsNearestOf, KeepsRecords};
-ghost use Rattle.plan_work.specs.WholeShares.{HasCounted, IsFilledWhole, SeesButCount};
+ghost use Rattle.plan_work.specs.OneWorker.{HasCounted, IsFilledWhole, SeesButCount};
 ghost use Rattle.step_core.specs.Views.{tree_seen};
-ghost use Rattle.tree_rewire.specs.FoundNodes.{IsMeasured};
+ghost use Rattle.tree_rewire.specs.NearNodes.{IsMeasured};
 
 use edge_cost::{Radii, class, steer};
 use kd_shared::{gather, nearest};

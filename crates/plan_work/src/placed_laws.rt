@@ -4,7 +4,7 @@ ghost use Rattle.std.specs.Prelude.{◌≡◌, ℕ, IfSome, IsSome};
 ghost use Rattle.kd_shared.specs.Placings.{IsPlaced};
 ghost use Rattle.step_core.specs.declared.views.Hand.{Hand};
 ghost use Rattle.step_core.specs.declared.views.View.{View};
-ghost use Rattle.tree_rewire.specs.Rewirings.{HasPlaced};
+ghost use Rattle.tree_rewire.specs.Spreads.{HasPlaced};
 
 /// Once `place` of `kd_shared` has placed the node of mark k, `rewire` of `tree_rewire` may follow: the mark is still in hand, and its
 /// node is linked and counted, and seen at its point, with its parent and its cost.

@@ -1,8 +1,7 @@
 -- The definitions and lemmas that proofs of this crate are about, passed on from one place. Declares nothing.
-pub use Rattle.any_time.specs.BatchGathering.{HasFinished}
-pub use Rattle.any_time.specs.BestPaths.{has_path}
-pub use Rattle.any_time.specs.BetterReports.{batch_report, better_report}
-pub use Rattle.any_time.specs.Sessions.{IsFresh, SessionState}
+pub use Rattle.any_time.specs.Batches.{HasFinished}
+pub use Rattle.any_time.specs.Sessions.{IsFresh, SessionState, has_path}
+pub use Rattle.any_time.specs.BetterPaths.{batch_report, better_report}
 pub use Rattle.any_time.specs.declared.betters.Better.{Better}
 pub use Rattle.grown_runs.proofs.Common.{ClearAt, ConfigurationSpace, InRoom, IsBetweenWalls, IsClosed, IsOfTextbookRun, IsOfTextbookRun-settled, IsPresent}
 pub use Rattle.grown_runs.proofs.Common.{IsSettled, Kind, LEAST_OBSTACLE_COORDINATE, MOST_OBSTACLES, MOST_OBSTACLE_COORDINATE, MOST_TEXT_BYTES, Meets, Point}
@@ -11,30 +10,25 @@ pub use Rattle.grown_runs.proofs.Common.{SpellsBatch-not_refused, SpellsBatch-on
 pub use Rattle.grown_runs.proofs.Common.{counted_up, goals_of, is_corner_between, is_obstacle, is_strictly_convex, length-points_of_marks, mark_points, minus}
 pub use Rattle.grown_runs.proofs.Common.{moved_by, orientation, setup_of, space_among, space_of, state_of_grown, supported, true_of_below, var, weighted}
 pub use Rattle.grown_runs.specs.declared.grown.Grown.{Grown}
-pub use Rattle.path_tools.specs.SmoothedReports.{IsSmoothedReport}
+pub use Rattle.path_tools.specs.SmoothPaths.{IsSmoothedReport}
 pub use Rattle.plan_model.proofs.Ring.{times}
-pub use Rattle.plan_model.specs.Texts.SceneBatches.{text_of}
+pub use Rattle.plan_model.specs.Texts.SceneGrammar.{text_of}
 pub use Rattle.plan_model.specs.Texts.Streams.{SinkState}
 pub use Rattle.plan_model.specs.Texts.TextLines.{lines_of}
 pub use Rattle.plan_model.specs.declared.limits.TheConstants.{MOST_MARKS}
 pub use Rattle.plan_work.proofs.TextbookEnds.{IsOfTextbook-new, IsOfTextbookRun-whole}
-pub use Rattle.planner.specs.BatchSessions.{HaveSessions, IsSessionOf}
+pub use Rattle.planner.specs.Endings.{HasConcluded, HaveSessions, IsDecided, IsDecidedBy, IsSessionOf}
 pub use Rattle.planner.specs.CheckedTexts.{Judges, RefusesCheck, RefusesSceneText, RefusesWithoutReport}
-pub use Rattle.planner.specs.CommandLines.{AreNoText, words_after_name}
-pub use Rattle.planner.specs.Commands.{command_of, greatest_success, input_of, plans, reads_text, tests_goal, tests_start}
+pub use Rattle.planner.specs.Commands.{AreNoText, command_of, greatest_success, input_of, plans, reads_text, tests_goal, tests_start, words_after_name}
 pub use Rattle.planner.specs.Conclusions.{Answers, Asks, BlocksGoal, BlocksStart, HandsOutNothing, HandsOutRunAlone, HasBatch, HasScene, IsAnswer}
 pub use Rattle.planner.specs.Conclusions.{IsBetterReport, IsCaused, IsReport, IsRunBySlices, IsSceneOf, IsSuccess, IsSummary, MayReach, MayStart, OfScene}
 pub use Rattle.planner.specs.Conclusions.{Report, ReportsBatch, ReportsGrown, ReportsScene, ReportsTwin, Succeeds, status_of_report}
-pub use Rattle.planner.specs.Decisions.{IsDecided, IsDecidedBy}
-pub use Rattle.planner.specs.Endings.{HasConcluded}
-pub use Rattle.planner.specs.Exchanges.{CameShort, IsCutShort, IsReadWhole, IsUnread, IsWrittenWhole, ReadFailed}
-pub use Rattle.planner.specs.Faults.{refusal_of_fetch, refusal_of_scene, refusal_of_twin}
+pub use Rattle.planner.specs.Inputs.{AreGoalsClear, AreStartsClear, CameShort, Input, IsCutShort, IsReadWhole, IsTextBeforeReport, IsUnread, IsWrittenWhole}
+pub use Rattle.planner.specs.Inputs.{ReadFailed, RefusesFront, RefusesInput, RefusesWhole, SpellsInput, nothing, one_scene, reads_bytes, scene_and_report}
+pub use Rattle.planner.specs.Inputs.{several_scenes}
+pub use Rattle.planner.specs.Refusals.{refusal_of_fetch, refusal_of_scene, refusal_of_twin, status_of, status_of_verdict}
 pub use Rattle.planner.specs.GeneratedScenes.{generated_obstacle, generated_obstacles, lattice_corner, obstacle_by, place_in_cell, side_by, square_at}
 pub use Rattle.planner.specs.GeneratedScenes.{triangle_at}
-pub use Rattle.planner.specs.Inputs.{AreGoalsClear, AreStartsClear, Input, IsTextBeforeReport, RefusesFront, RefusesInput, RefusesWhole, SpellsInput, nothing}
-pub use Rattle.planner.specs.Inputs.{one_scene, reads_bytes, scene_and_report, several_scenes}
-pub use Rattle.planner.specs.Refusals.{status_of}
-pub use Rattle.planner.specs.VerdictLines.{status_of_verdict}
 pub use Rattle.planner.specs.declared.answers.Answer.{Answer}
 pub use Rattle.planner.specs.declared.commands.Command.{Command}
 pub use Rattle.planner.specs.declared.refusals.Refusal.{Refusal}
@@ -43,9 +37,8 @@ pub use Rattle.planner.specs.declared.top_call.Done.{Done}
 pub use Rattle.report_judge.specs.Texts.ReportCuts.{HasNoReportLine, IsCutAtReport, IsOtherLine, has_no_feed, report_line}
 pub use Rattle.report_judge.specs.declared.verdicts.Verdict.{Verdict}
 pub use Rattle.report_judge.specs.declared.verdicts.Verdict.TheVariants.{Broken, Lawful}
-pub use Rattle.scene_text.specs.Batches.{IsBatchRefusal}
-pub use Rattle.scene_text.specs.Fetching.{CameTooLong, Fetches, IsAllOf, ReadsWithin}
-pub use Rattle.scene_text.specs.Refusals.{IsSceneRefusal}
+pub use Rattle.scene_text.specs.Fetching.{CameTooLong, Fetches, IsAllOf, IsBatchRefusal, ReadsWithin}
+pub use Rattle.scene_text.specs.Drafts.{IsSceneRefusal}
 pub use Rattle.scene_text.specs.declared.fetching.FetchFault.{FetchFault}
 pub use Rattle.scene_text.specs.declared.refusals.SceneRefusal.{SceneRefusal}
 pub use Rattle.std.proofs.Common.{Bool, Err, IfErr, IfNone, IfSome, IsErrAnd, IsErrOf, IsSome, IsSomeAnd, IsTrue, List, MatchBool, None, Ok, Option, Result}
@@ -75,7 +68,5 @@ pub use Rattle.std.specs.Vec.Iter.{into_iter_items}
 pub use Rattle.std.specs.declared.io.Error.{Error}
 pub use Rattle.std.specs.declared.vec.IntoIter.{IntoIter}
 pub use Rattle.twin_trees.proofs.TurnedRuns.{ClearAt-middle}
-pub use Rattle.twin_trees.specs.Bridges.{IsBridge}
-pub use Rattle.twin_trees.specs.TurnedScenes.{goal_middle}
-pub use Rattle.twin_trees.specs.Twins.{IsTwin}
+pub use Rattle.twin_trees.specs.Twins.{IsBridge, IsTwin, goal_middle}
 pub use Rattle.twin_trees.specs.declared.twin_runs.TwinFault.{TwinFault}

@@ -1,17 +1,8 @@
 -- What a refusal to check a report says of the bytes that were read.
-use Rattle.std.specs.Prelude.{ℕ, List}
-use Rattle.plan_model.specs.Texts.SceneGrammar.{Refused, Spells, supported}
-use Rattle.plan_model.specs.Spaces.Clearance.{ClearAt}
-use Rattle.plan_model.specs.Spaces.ConfigurationSpace.{space_of}
-use Rattle.plan_model.specs.declared.scenes.Scene.{Scene}
-use Rattle.plan_model.specs.declared.tasks.Task.{Task}
-use Rattle.report_judge.specs.Laws.Judgements.{IsVerdict}
-use Rattle.report_judge.specs.Texts.ReportCuts.{IsCutAtReport}
-use Rattle.report_judge.specs.declared.verdicts.Verdict.{Verdict}
+use Rattle.planner.specs.Terms.{ClearAt, IsCutAtReport, IsVerdict, List, Refusal, Refused, Scene, Spells, Task, Verdict, space_of, supported, ℕ}
 use Rattle.planner.specs.Conclusions.{BlocksStart}
 use Rattle.planner.specs.Inputs.{RefusesWhole, RefusesInput, scene_and_report}
 use Rattle.planner.specs.declared.commands.Command.TheVariants as commands
-use Rattle.planner.specs.declared.refusals.Refusal.{Refusal}
 use Rattle.planner.specs.declared.refusals.Refusal.TheVariants as refusals
 
 -- the text spells a scene whose start is not clear

@@ -1,13 +1,28 @@
--- The commands of the program, and the tables of what they read, what they test, and how they succeed.
-use Rattle.std.specs.Prelude.{ℕ, ◌≤◌, ◌&&◌, Bool, true, false, Option, Some, None, option_and_then, List, [], ◌∷◌, codes, bytes_eq, if◌then◌else◌}
-use Rattle.std.specs.Prelude.{pos, int_le, unsigned_abs}
-use Rattle.plan_model.specs.declared.limits.TheConstants.{MOST_MARKS, MOST_WORKERS}
-use Rattle.plan_model.specs.Texts.TextNumbers.{is_number, value_of}
-use Rattle.planner.specs.declared.commands.Command.{Command}
-use Rattle.planner.specs.declared.commands.Command.TheVariants as commands
-use Rattle.planner.specs.declared.generated_scenes.TheConstants.{MOST_GENERATED}
-use Rattle.planner.specs.declared.statuses.TheConstants.{DONE, NO_PATH}
+-- The words of the command line, from the arguments that the library gives. The commands of the program, and the tables of what they read, what they
+-- test, and how they succeed.
+use Rattle.std.specs.Prelude.{◌≡◌, ◌≢◌, ℕ, List, [], drop, map, string_bytes, Result, Ok, Err, IsErrAnd, String, ◌≤◌, ◌&&◌, Bool, true, false, Option, Some}
+use Rattle.std.specs.Prelude.{None, option_and_then, ◌∷◌, codes, bytes_eq, if◌then◌else◌, pos}
+use Rattle.planner.specs.Terms.{Command, DONE, Error, Global, IntoIter, MOST_GENERATED, MOST_MARKS, MOST_WORKERS, NO_PATH, OutOfMemory, error_kind, int_le}
+use Rattle.planner.specs.Terms.{into_iter_items, is_number, unsigned_abs, value_of}
 use Rattle.planner.specs.Inputs.{Input, nothing, one_scene, scene_and_report, several_scenes, reads_bytes}
+use Rattle.planner.specs.declared.commands.Command.TheVariants as commands
+
+-- the arguments after the program's name; none if they are no text
+abbrev pub given : Result (IntoIter (String Global) Global) Error → List (String Global)
+given (Ok args) = drop 1 (into_iter_items args)
+given (Err error) = []
+
+-- the words after the program's name, as bytes
+abbrev pub words_after_name : Result (IntoIter (String Global) Global) Error → List (List ℕ)
+words_after_name args = map string_bytes (given args)
+
+-- there was no memory for the arguments
+abbrev pub IsOutOfMemory : Result (IntoIter (String Global) Global) Error → Type 0
+IsOutOfMemory args = IsErrAnd args (λ error. error_kind error ≡ OutOfMemory)
+
+-- the arguments are no text: they are an error, and memory is not what is missing
+abbrev pub AreNoText : Result (IntoIter (String Global) Global) Error → Type 0
+AreNoText args = IsErrAnd args (λ error. error_kind error ≢ OutOfMemory)
 
 -- the command that one word asks for, if it asks for one
 abbrev pub command_of_word : List ℕ → Option Command

@@ -1,49 +1,16 @@
 -- What the program may answer: a success with its text, or a refusal with its cause and its line.
-use Rattle.std.specs.Prelude.{◌≡◌, ℕ, ◌<◌, ◌⊎◌, Bool, true, false, IsTrue, MatchBool, List, [], ◌∷◌, length, get_or}
-use Rattle.std.specs.List.{list_all}
-use Rattle.std.specs.Prelude.{Option, Some, None, is_some, IsSome, IsSomeAnd, Result, IfOk, IfErr}
-use Rattle.plan_model.specs.declared.records.Record.{Record}
-use Rattle.plan_model.specs.declared.scenes.Scene.{Scene}
-use Rattle.plan_model.specs.declared.tasks.Task.{Task}
-use Rattle.plan_model.specs.Spaces.ConfigurationSpace.{space_of}
-use Rattle.plan_model.specs.Spaces.Clearance.{ClearAt}
-use Rattle.plan_model.specs.Scenes.ConvertedScenes.{IsConverted}
-use Rattle.plan_model.specs.Scenes.MarkPoints.{mark_points}
-use Rattle.plan_model.specs.Runs.ClosedLaw.{IsClosed}
-use Rattle.plan_model.specs.Runs.SameRuns.{IsOfTextbookRun}
-use Rattle.plan_model.specs.Texts.Streams.{SourceState}
-use Rattle.plan_model.specs.Runs.Textbook.{setup_of}
-use Rattle.plan_model.specs.Trees.TreeStates.{TreeState, IsSettled}
-use Rattle.plan_model.specs.Trees.BestNode.{best_node, goals_of}
-use Rattle.plan_model.specs.Reports.ReportText.{report_text, summary}
-use Rattle.plan_model.specs.Texts.CanonicalText.{canonical_text}
-use Rattle.grown_runs.specs.declared.grown.Grown.{Grown}
-use Rattle.grown_runs.specs.Runs.GrownRuns.{state_of_grown}
-use Rattle.scene_text.specs.Fetching.{ReadsWithin}
-use Rattle.report_judge.specs.Laws.Judgements.{IsVerdict}
-use Rattle.report_judge.specs.Texts.ReportCuts.{IsCutAtReport}
-use Rattle.path_tools.specs.SmoothedReports.{IsSmoothedReport}
-use Rattle.report_judge.specs.declared.verdicts.Verdict.{Verdict}
-use Rattle.any_time.specs.BestPaths.{has_path}
-use Rattle.any_time.specs.BetterPaths.{AreBetterPaths}
-use Rattle.any_time.specs.BetterReports.{batch_report, better_report}
-use Rattle.any_time.specs.declared.betters.Better.{Better}
-use Rattle.twin_trees.specs.declared.twin_runs.Twin.{Twin}
-use Rattle.twin_trees.specs.TwinReports.{twin_text}
-use Rattle.twin_trees.specs.Twins.{IsTwin, IsWholeRun}
-use Rattle.planner.specs.declared.answers.Answer.{Answer}
-use Rattle.planner.specs.declared.commands.Command.{Command}
+use Rattle.std.specs.Prelude.{◌≡◌, ℕ, ◌<◌, ◌⊎◌, Bool, true, false, IsTrue, MatchBool, List, [], ◌∷◌, length, get_or, Option, Some, None, is_some, IsSome}
+use Rattle.planner.specs.Terms.{Answer, AreBetterPaths, Better, ClearAt, Command, DONE, Done, Grown, IfErr, IfOk, IsClosed, IsConverted, IsCutAtReport}
+use Rattle.planner.specs.Terms.{IsOfTextbookRun, IsSettled, IsSmoothedReport, IsSomeAnd, IsTwin, IsVerdict, IsWholeRun, NO_PATH, ReadsWithin, Record, Refusal}
+use Rattle.planner.specs.Terms.{Result, Scene, SourceState, Task, TreeState, Twin, Verdict, batch_report, best_node, better_report, canonical_text, goals_of}
+use Rattle.planner.specs.Terms.{has_path, list_all, mark_points, report_text, setup_of, space_of, state_of_grown, summary, twin_text}
 use Rattle.planner.specs.declared.commands.Command.TheVariants as commands
-use Rattle.planner.specs.declared.refusals.Refusal.{Refusal}
 use Rattle.planner.specs.declared.refusals.Refusal.TheVariants as refusals
-use Rattle.planner.specs.declared.statuses.TheConstants.{DONE, NO_PATH}
-use Rattle.planner.specs.declared.top_call.Done.{Done}
 use Rattle.planner.specs.Commands.{input_of, plans, reads_text, tests_goal, tests_start}
-use Rattle.planner.specs.Inputs.{AreGoalsClear, AreStartsClear, IsBatchOf, IsTextBeforeReport, IsTextOf, RefusesInput, SpellsInput}
-use Rattle.planner.specs.VerdictLines.{status_of_verdict, verdict_line}
+use Rattle.planner.specs.Inputs.{AreGoalsClear, AreStartsClear, IsBatchOf, IsTextBeforeReport, IsTextOf, RefusesInput, SpellsInput, IsReadWhole, IsUnread}
+use Rattle.planner.specs.Inputs.{IsReadFault, IsTooLong, NoReadFailed}
+use Rattle.planner.specs.Refusals.{status_of_verdict, verdict_line, status_of, line_of}
 use Rattle.planner.specs.GeneratedScenes.{IsGenerated}
-use Rattle.planner.specs.Exchanges.{IsReadWhole, IsUnread, IsReadFault, IsTooLong, NoReadFailed}
-use Rattle.planner.specs.Refusals.{status_of, line_of}
 
 -- nothing is handed out beside the status
 pub record HandsOutNothing (done : Done) : Type 0 where
@@ -142,8 +109,7 @@ pub record ReportsBatch (workers slice : ℕ) (scenes : List Scene) (done : Done
   pub written : text ≡ batch_report 0 done.better done.batch
   pub alone : HandsOutNothing (record done { batch = []; better = [] })
 
--- The text is the line of the verdict on what stands after the line `report`, as a report of the scene before it, and the status is that of
--- the verdict.
+-- The text is the line of the verdict on what stands after the line `report`, as a report of the scene before it, and the status is that of the verdict.
 pub record WritesVerdict (bytes : List ℕ) (scene : Scene) (done : Done) (text : List ℕ) : Type 0 where
   pub front : List ℕ
   pub report : List ℕ
@@ -168,8 +134,7 @@ pub record WritesConverted (scene : Scene) (done : Done) (text : List ℕ) : Typ
   pub of_scene : IsConverted scene converted
   pub written : WritesScene converted done text
 
--- the scene of a command: that which the bytes spell, or what stands before their line `report`, or the generated one of its number; a
--- batch has no such one
+-- the scene of a command: that which the bytes spell, or what stands before their line `report`, or the generated one of its number; a batch has no such one
 abbrev pub IsSceneOf : Command → List ℕ → Scene → Type 0
 IsSceneOf (commands.Plain full) bytes scene = IsTextOf scene bytes
 IsSceneOf (commands.Plan workers full) bytes scene = IsTextOf scene bytes

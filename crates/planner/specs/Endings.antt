@@ -1,14 +1,42 @@
--- How a whole call ends: what it has read, what it hands out, and what is written.
-use Rattle.std.specs.Prelude.{◌≡◌, ◌≢◌, ℕ, ◌⊎◌, Option, None, IfSome, List}
-use Rattle.plan_model.specs.Texts.Streams.{SourceState, SinkState}
-use Rattle.scene_text.specs.Fetching.{ReadsWithin}
-use Rattle.planner.specs.declared.commands.Command.{Command}
-use Rattle.planner.specs.declared.statuses.TheConstants.{WORDS_REFUSED, WRITE_FAULT, NO_MEMORY}
-use Rattle.planner.specs.declared.top_call.Done.{Done}
-use Rattle.planner.specs.Commands.{reads_text}
-use Rattle.planner.specs.Conclusions.{IsAnswer, Asks}
-use Rattle.planner.specs.Decisions.{IsDecided}
-use Rattle.planner.specs.Exchanges.{ReadFailed, WriteFailed, IsUnread, IsWrittenWhole, IsCutShort}
+-- Sessions of the scenes of a batch. Which status the bytes of the source decide, if no read and no write fails. How a whole call ends: what it has
+-- read, what it hands out, and what is written. The statuses, and the number of the last generated scene, as numbers that a caller knows. Worked
+-- values of which statuses words come to.
+use Rattle.std.specs.Prelude.{◌≡◌, ◌<◌, ℕ, List, get_or, ◌≤◌, Option, Some, length, IsTrue, MatchBool, ◌≢◌, ◌⊎◌, None, IfSome, true, [], ◌∷◌, codes}
+use Rattle.std.specs.Prelude.{option_map}
+use Rattle.planner.specs.Terms.{ClearAt, Command, DONE, Done, GOAL_BLOCKED, IsFresh, Kind, MOST_GENERATED, MOST_TEXT_BYTES, NO_MEMORY, NO_PATH, READ_FAULT}
+use Rattle.planner.specs.Terms.{ReadsWithin, START_BLOCKED, Scene, SessionState, SinkState, SourceState, TEXT_REFUSED, Task, WORDS_REFUSED, WRITE_FAULT}
+use Rattle.planner.specs.Terms.{space_of}
+use Rattle.planner.specs.Commands.{input_of, reads_text, tests_goal, tests_start, greatest_success, command_of, plans}
+use Rattle.planner.specs.Conclusions.{MayReach, MayStart, IsAnswer, Asks}
+use Rattle.planner.specs.Inputs.{AreGoalsClear, AreStartsClear, RefusesInput, SpellsInput, ReadFailed, WriteFailed, IsUnread, IsWrittenWhole, IsCutShort}
+
+-- a session of the scene, whose start is clear, that has handled nothing
+pub record IsSessionOf (workers slice : ℕ) (scene : Scene) (s : SessionState) : Type 0 where
+  pub start : ClearAt (space_of scene) scene.start
+  pub task : Task
+  pub of_scene : task.scene ≡ scene
+  pub fresh : IsFresh task workers slice s
+
+-- those of the first of the scenes, so many
+abbrev pub HaveSessions : ℕ → ℕ → List Scene → List SessionState → ℕ → Type 0
+HaveSessions workers slice scenes sessions n =
+    (i : ℕ) (scene : Scene) (s : SessionState) → i < n → IsSessionOf workers slice (get_or scenes i scene) (get_or sessions i s)
+
+-- the status of a command that reads a text, by the bytes of the source
+pub record IsDecidedBy (bytes : List ℕ) (command : Command) (status : ℕ) : Type 0 where
+  pub done : (scenes : List Scene) → SpellsInput (input_of command) bytes scenes → MayStart command scenes → MayReach command scenes
+      → status ≤ greatest_success command
+  pub blocked : (scenes : List Scene) → SpellsInput (input_of command) bytes scenes → IsTrue (tests_start command) → (¬ AreStartsClear scenes)
+      → status ≡ START_BLOCKED
+  pub goal_blocked : (scenes : List Scene) → SpellsInput (input_of command) bytes scenes → IsTrue (tests_goal command) → AreStartsClear scenes
+      → (¬ AreGoalsClear scenes) → status ≡ GOAL_BLOCKED
+  pub refused : (number : ℕ) (kind : Kind) → RefusesInput (input_of command) number kind bytes → status ≡ TEXT_REFUSED
+  pub long : MOST_TEXT_BYTES < length bytes → status ≡ TEXT_REFUSED
+
+-- The status of a command: by the bytes of the source, if they are known; a command that reads nothing succeeds.
+abbrev pub IsDecided : Option (List ℕ) → Command → ℕ → Type 0
+IsDecided left command status =
+    MatchBool (reads_text command) ((bytes : List ℕ) → left ≡ Some bytes → IsDecidedBy bytes command status) (status ≤ greatest_success command)
 
 -- A call has done what the words ask for, over a source and a sink that are known before it and after it.
 pub record HasConcluded (asked : Option Command) (before now : SourceState) (sink_before sink_now : SinkState) (result : Done) : Type 0 where
@@ -26,3 +54,26 @@ pub record HasConcluded (asked : Option Command) (before now : SourceState) (sin
   pub unread : (¬ Asks reads_text asked) → IsUnread before now
   -- never more than one byte past the limit of a text is read
   pub within : ReadsWithin before.bytes_left now.bytes_left
+
+-- each constant with its value, so that it cannot change without its value here
+pub record FixedNumbers : Type 0 where
+  pub done : DONE ≡ 0
+  pub no_path : NO_PATH ≡ 1
+  pub words_refused : WORDS_REFUSED ≡ 2
+  pub text_refused : TEXT_REFUSED ≡ 3
+  pub start_blocked : START_BLOCKED ≡ 4
+  pub read_fault : READ_FAULT ≡ 5
+  pub write_fault : WRITE_FAULT ≡ 6
+  pub no_memory : NO_MEMORY ≡ 7
+  pub goal_blocked : GOAL_BLOCKED ≡ 8
+  pub most_generated : MOST_GENERATED ≡ 9999
+
+pub record WorkedStatuses : Type 0 where
+  -- words that write a scene succeed with 0 alone
+  pub show : option_map greatest_success (command_of (codes "show" ∷ [])) ≡ Some 0
+  pub convert : option_map greatest_success (command_of (codes "convert" ∷ [])) ≡ Some 0
+  pub gen : option_map greatest_success (command_of (codes "gen" ∷ codes "7" ∷ [])) ≡ Some 0
+  -- a trial plans its scene
+  pub trial : option_map plans (command_of (codes "trial" ∷ codes "7" ∷ [])) ≡ Some true
+  -- one byte more than a text may have is refused by whatever reads it
+  pub long : (bytes : List ℕ) (command : Command) (status : ℕ) → length bytes ≡ 16777217 → IsDecidedBy bytes command status → status ≡ 3

@@ -1,13 +1,7 @@
 -- Generated scenes: one for each number. A square room is cut into eight columns and eight rows of cells, each with one
 -- obstacle: a square or a right triangle, whose place in its cell and whose side are drawn.
 use Rattle.std.specs.Prelude.{◌≡◌, ℕ, ◌+◌, ◌*◌, ◌/◌, ◌%◌, ◌==◌, false, pos, List, [], ◌∷◌, map, if◌then◌else◌}
-use Rattle.std.specs.List.{range_with_len}
-use Rattle.plan_model.specs.declared.geometry.Goal.{Goal}
-use Rattle.plan_model.specs.declared.geometry.Point.{Point}
-use Rattle.plan_model.specs.declared.geometry.Vertex.{Vertex}
-use Rattle.plan_model.specs.declared.scenes.Scene.{Scene}
-use Rattle.plan_model.specs.declared.scenes.Marks.TheVariants.{Drawn}
-use Rattle.plan_model.specs.Scenes.MarkPoints.{first_word, second_word}
+use Rattle.planner.specs.Terms.{Drawn, Goal, Point, Scene, Vertex, first_word, range_with_len, second_word}
 
 -- the corner with these coordinates
 abbrev pub lattice_corner : ℕ → ℕ → Vertex

@@ -1,11 +1,28 @@
--- The line that the program writes in place of a report, and the status that it ends with.
-use Rattle.std.specs.Prelude.{ℕ, List, ◌∷◌, [], codes}
-use Rattle.std.specs.List.{join_with_byte}
-use Rattle.plan_model.specs.Texts.KindNames.{fault_words}
-use Rattle.plan_model.specs.Reports.ReportText.{line}
-use Rattle.planner.specs.declared.refusals.Refusal.{Refusal}
+-- Which refusal a fault of the reader, or of two trees, becomes. The line that the program writes in place of a report, and the status that it ends
+-- with. What is written of a verdict on a report, and the status that it gives.
+use Rattle.planner.specs.Terms.{Broken, DONE, FetchFault, GOAL_BLOCKED, Lawful, NO_MEMORY, NO_PATH, READ_FAULT, Refusal, START_BLOCKED, SceneRefusal}
+use Rattle.planner.specs.Terms.{TEXT_REFUSED, TwinFault, Verdict, WORDS_REFUSED, fault_words, join_with_byte, line}
+use Rattle.std.specs.Prelude.{ℕ, List, ◌∷◌, [], codes, decimal}
 use Rattle.planner.specs.declared.refusals.Refusal.TheVariants as refusals
-use Rattle.planner.specs.declared.statuses.TheConstants.{GOAL_BLOCKED, WORDS_REFUSED, TEXT_REFUSED, START_BLOCKED, READ_FAULT, NO_MEMORY}
+use Rattle.scene_text.specs.declared.fetching.FetchFault.TheVariants as fetching
+use Rattle.scene_text.specs.declared.refusals.SceneRefusal.TheVariants as reading
+use Rattle.twin_trees.specs.declared.twin_runs.TwinFault.TheVariants as faults
+
+-- what a fault of two trees becomes
+abbrev pub refusal_of_twin : TwinFault → Refusal
+refusal_of_twin faults.GoalBlocked = refusals.GoalBlocked
+refusal_of_twin faults.Memory = refusals.Memory
+
+-- what a fault of reading the bytes becomes
+abbrev pub refusal_of_fetch : FetchFault → Refusal
+refusal_of_fetch fetching.Read = refusals.ReadFault
+refusal_of_fetch fetching.TooLong = refusals.TooLong
+refusal_of_fetch fetching.Memory = refusals.Memory
+
+-- what a refusal of the text becomes
+abbrev pub refusal_of_scene : SceneRefusal → Refusal
+refusal_of_scene (reading.Fault fault) = refusals.Text fault.line fault.kind
+refusal_of_scene reading.Memory = refusals.Memory
 
 -- the words that the program writes in place of a report
 abbrev pub words_of_refusal : Refusal → List (List ℕ)
@@ -34,3 +51,21 @@ status_of refusals.StartBlocked = START_BLOCKED
 status_of refusals.GoalBlocked = GOAL_BLOCKED
 status_of refusals.ReadFault = READ_FAULT
 status_of refusals.Memory = NO_MEMORY
+
+-- a verdict in words: `lawful`, or `broken line L law N`
+abbrev pub verdict_words : Verdict → List (List ℕ)
+verdict_words Lawful = codes "lawful" ∷ []
+verdict_words (Broken at law) = codes "broken" ∷ codes "line" ∷ decimal at ∷ codes "law" ∷ decimal law ∷ []
+
+-- without a line feed
+abbrev pub verdict_message : Verdict → List ℕ
+verdict_message verdict = join_with_byte 32 (verdict_words verdict)
+
+-- as a line
+abbrev pub verdict_line : Verdict → List ℕ
+verdict_line verdict = line (verdict_words verdict)
+
+-- the status: 0 exactly of a lawful report
+abbrev pub status_of_verdict : Verdict → ℕ
+status_of_verdict Lawful = DONE
+status_of_verdict (Broken at law) = NO_PATH

@@ -2,12 +2,12 @@
 
 ghost use Rattle.std.specs.Prelude.{◌≡◌, ◌≤◌, ◌<◌, ℕ, false, length, All, IfErr, IfNone, IfOk, IfSome, IsTrue, None, Some, [], get_or};
 ghost use Rattle.std.specs.List.{list_all};
-ghost use Rattle.any_time.specs.BestPaths.{has_path};
-ghost use Rattle.any_time.specs.BetterReports.{batch_report};
+ghost use Rattle.any_time.specs.Sessions.{has_path};
+ghost use Rattle.any_time.specs.BetterPaths.{batch_report};
 ghost use Rattle.plan_model.specs.Spaces.Clearance.{ClearAt};
 ghost use Rattle.plan_model.specs.Spaces.ConfigurationSpace.{space_of};
 ghost use Rattle.plan_model.specs.Trees.TreeStates.{IsSettled};
-ghost use Rattle.planner.specs.BatchSessions.{HaveSessions, IsSessionOf};
+ghost use Rattle.planner.specs.Endings.{HaveSessions, IsSessionOf};
 ghost use Rattle.planner.specs.Commands.{input_of};
 ghost use Rattle.planner.specs.Conclusions.{Answers, HandsOutNothing, HasBatch, IsCaused, status_of_report};
 ghost use Rattle.planner.specs.Inputs.{AreStartsClear, several_scenes};

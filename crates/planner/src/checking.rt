@@ -7,9 +7,9 @@ ghost use Rattle.plan_model.specs.Texts.TextLines.{lines_of};
 ghost use Rattle.plan_model.specs.declared.limits.TheConstants.{MOST_TEXT_BYTES};
 ghost use Rattle.planner.specs.CheckedTexts.{Judges, RefusesCheck, RefusesSceneText, RefusesWithoutReport};
 ghost use Rattle.planner.specs.Conclusions.{Answers, HandsOutNothing};
-ghost use Rattle.planner.specs.VerdictLines.{status_of_verdict, verdict_line, verdict_message};
+ghost use Rattle.planner.specs.Refusals.{status_of_verdict, verdict_line, verdict_message};
 ghost use Rattle.planner.specs.declared.commands.Command.{Command};
-ghost use Rattle.scene_text.specs.Refusals.{IsSceneRefusal};
+ghost use Rattle.scene_text.specs.Drafts.{IsSceneRefusal};
 ghost use Rattle.planner.specs.declared.short_lines.TheConstants.{LINE_CAPACITY};
 
 use crate::answers::Answer;

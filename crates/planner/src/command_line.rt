@@ -2,10 +2,9 @@
 
 ghost use Rattle.std.specs.Prelude.{◌≡◌, ◌⊎◌, false, IfOk, IsErr, IsOk};
 ghost use Rattle.std.specs.Process.{exit_status};
-ghost use Rattle.planner.specs.CommandLines.{given, words_after_name, AreNoText, IsOutOfMemory};
-ghost use Rattle.planner.specs.Commands.{command_of};
+ghost use Rattle.planner.specs.Commands.{given, words_after_name, AreNoText, IsOutOfMemory, command_of};
 ghost use Rattle.planner.specs.Endings.{HasConcluded};
-ghost use Rattle.planner.specs.Exchanges.{IsUnread, IsUnwritten};
+ghost use Rattle.planner.specs.Inputs.{IsUnread, IsUnwritten};
 ghost use Rattle.planner.specs.declared.statuses.TheConstants.{WORDS_REFUSED, WRITE_FAULT};
 ghost use Rattle.planner.specs.declared.top_call.Done.{Done};
 

@@ -90,7 +90,7 @@ impl Display for Refusal {
 impl Error for Refusal {}
 
 impl From<FetchFault> for Refusal {
-    ghost use Rattle.planner.specs.Faults.{refusal_of_fetch};
+    ghost use Rattle.planner.specs.Refusals.{refusal_of_fetch};
     ghost use Rattle.std.specs.Prelude.{◌≡◌};
 
     ghost from_gives = { λ fault refusal. refusal ≡ refusal_of_fetch fault };
@@ -105,7 +105,7 @@ impl From<FetchFault> for Refusal {
 }
 
 impl From<SceneRefusal> for Refusal {
-    ghost use Rattle.planner.specs.Faults.{refusal_of_scene};
+    ghost use Rattle.planner.specs.Refusals.{refusal_of_scene};
     ghost use Rattle.std.specs.Prelude.{◌≡◌};
 
     ghost from_gives = { λ fault refusal. refusal ≡ refusal_of_scene fault };
@@ -119,7 +119,7 @@ impl From<SceneRefusal> for Refusal {
 }
 
 impl From<TwinFault> for Refusal {
-    ghost use Rattle.planner.specs.Faults.{refusal_of_twin};
+    ghost use Rattle.planner.specs.Refusals.{refusal_of_twin};
     ghost use Rattle.std.specs.Prelude.{◌≡◌};
 
     ghost from_gives = { λ fault refusal. refusal ≡ refusal_of_twin fault };

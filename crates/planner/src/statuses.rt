@@ -1,7 +1,6 @@
 //! The statuses that the program ends with, each said once.
 
-ghost use Rattle.planner.specs.FixedNumbers.{FixedNumbers};
-ghost use Rattle.planner.specs.WorkedStatuses.{WorkedStatuses};
+ghost use Rattle.planner.specs.Endings.{FixedNumbers, WorkedStatuses};
 
 /// The command is done; for `plain` and `plan W`, in short or in full, for `smooth W`, `anytime W S` and `trial`, a path was found, for
 /// `batch W S` one of each scene, for `twin W` a bridge; for `check`, the report is lawful.

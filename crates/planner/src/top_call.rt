@@ -5,7 +5,7 @@ ghost use Rattle.plan_model.specs.Texts.Streams.{SourceState};
 ghost use Rattle.planner.specs.Conclusions.{Answers, Asks, HandsOutNothing};
 ghost use Rattle.planner.specs.Commands.{command_of, waits};
 ghost use Rattle.planner.specs.Endings.{HasConcluded};
-ghost use Rattle.planner.specs.Exchanges.{IsWrittenWhole, IsCutShort};
+ghost use Rattle.planner.specs.Inputs.{IsWrittenWhole, IsCutShort};
 ghost use Rattle.planner.specs.declared.commands.Command.{Command};
 
 use crate::answers::{Answer, answer_by_waiting, answer_without_waiting};

@@ -1,9 +1,7 @@
 -- The definitions and lemmas that proofs of this crate are about, passed on from one place. Declares nothing.
-pub use Rattle.plan_model.specs.Geometry.Bounds.{IsBounded}
+pub use Rattle.plan_model.specs.Geometry.Plane.{IsBounded}
 pub use Rattle.plan_model.specs.declared.geometry.Point.{Point}
-pub use Rattle.point_bands.specs.BandOrder.{StandsBetween, band_key, lowest_row}
-pub use Rattle.point_bands.specs.Discs.{IsInColumns, IsWithin}
-pub use Rattle.point_bands.specs.Walks.{HasNoneBetween, nowhere, numbered_at}
+pub use Rattle.point_bands.specs.Walks.{HasNoneBetween, IsInColumns, IsWithin, StandsBetween, band_key, lowest_row, nowhere, numbered_at}
 pub use Rattle.point_bands.specs.declared.bands.Numbered.{Numbered}
 pub use Rattle.std.proofs.Common.{All, List, ap, arith, bit_and, bit_or, inl, inr, min, rules, subst, sym, ℕ, ◌%◌, ◌*◌, ◌+◌, ◌/◌, ◌<◌, ◌^◌, ◌∙◌, ◌≡◌}
 pub use Rattle.std.proofs.Math.Nat.{div-div-eq-div-mul, div-mul-le_self, mul-div_cancel}

@@ -1,3 +1,1 @@
-pub mod Discs
 pub mod Walks
-pub mod BandOrder

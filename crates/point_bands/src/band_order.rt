@@ -2,9 +2,8 @@
 
 ghost use Rattle.std.specs.Prelude.{◌≡◌, ◌+◌, ◌-◌, ◌*◌, ◌/◌, ◌^◌, ◌<◌, ◌≤◌, All, ℕ, length};
 ghost use Rattle.std.specs.List.Sorted.{IsNonDecreasingBy};
-ghost use Rattle.plan_model.specs.Geometry.Bounds.{IsBounded};
-ghost use Rattle.point_bands.specs.BandOrder.{StandsBetween, band_key, lowest_row};
-ghost use Rattle.point_bands.specs.Walks.{HasNoneBetween, IsNextStretch, numbered_at};
+ghost use Rattle.plan_model.specs.Geometry.Plane.{IsBounded};
+ghost use Rattle.point_bands.specs.Walks.{StandsBetween, band_key, lowest_row, HasNoneBetween, IsNextStretch, numbered_at};
 
 use crate::bands::{Numbered, Stretch};
 use crate::discs::Disc;

@@ -2,7 +2,7 @@
 
 ghost use Rattle.std.specs.Prelude.{◌≡◌, ◌<◌, ◌≤◌, ◌==◌, All, length};
 ghost use Rattle.std.specs.List.Sorted.{IsPermutation};
-ghost use Rattle.plan_model.specs.Geometry.Bounds.{IsBounded};
+ghost use Rattle.plan_model.specs.Geometry.Plane.{IsBounded};
 ghost use Rattle.point_bands.specs.Walks.{IsNextStretch, numbered_at};
 
 use crate::band_order::{band_rows, height_log_for, key, next_stretch};
@@ -41,8 +41,8 @@ pub struct Bands {
 impl Model for Bands {
     ghost use Rattle.std.specs.Prelude.{◌<◌, All, List};
     ghost use Rattle.std.specs.List.Sorted.{IsNonDecreasingBy};
-    ghost use Rattle.plan_model.specs.Geometry.Bounds.{IsBounded};
-    ghost use Rattle.point_bands.specs.BandOrder.{band_key};
+    ghost use Rattle.plan_model.specs.Geometry.Plane.{IsBounded};
+    ghost use Rattle.point_bands.specs.Walks.{band_key};
     ghost use Rattle.point_bands.specs.declared.bands.Numbered.{Numbered};
 
     ghost Value = { List Numbered };

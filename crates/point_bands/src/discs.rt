@@ -1,8 +1,8 @@
 //! Closed discs: all points within a distance of a center.
 
 ghost use Rattle.std.specs.Prelude.{◌≡◌, ◌↔◌, ◌+◌, ◌-◌, ◌*◌, ◌<◌, ◌≤◌, IsTrue, min};
-ghost use Rattle.plan_model.specs.Geometry.Bounds.{IsBounded};
-ghost use Rattle.point_bands.specs.Discs.{IsWithin};
+ghost use Rattle.plan_model.specs.Geometry.Plane.{IsBounded};
+ghost use Rattle.point_bands.specs.Walks.{IsWithin};
 
 use plan_model::Point;
 

@@ -21,39 +21,34 @@ pub use Rattle.grown_runs.proofs.Common.{report_text-same, same-from_distance, s
 pub use Rattle.grown_runs.proofs.Common.{squared_distance, start-present, state_of_lists, steered, sum_in, sum_in-parent, sums-tight, times-once, times_of}
 pub use Rattle.grown_runs.proofs.Common.{turn-below, turn_of_record, turns_of, unplaced_record, without_costs}
 pub use Rattle.grown_runs.specs.Runs.PackedRuns.{FitsRecord}
-pub use Rattle.plan_model.specs.Texts.SceneBatches.{text_of}
-pub use Rattle.plan_model.specs.Texts.TextNumbers.{is_digit, is_number, is_positive, magnitude, value_of}
-pub use Rattle.point_bands.specs.Discs.{IsWithin}
-pub use Rattle.point_bands.specs.Walks.{HasNoneBetween, IsStretchAfter, nowhere, numbered_at}
+pub use Rattle.plan_model.specs.Texts.SceneGrammar.{text_of}
+pub use Rattle.plan_model.specs.Texts.TextLines.{is_digit, is_number, is_positive, magnitude, value_of}
+pub use Rattle.point_bands.specs.Walks.{HasNoneBetween, IsStretchAfter, IsWithin, nowhere, numbered_at}
 pub use Rattle.point_bands.specs.declared.bands.Numbered.{Numbered}
 pub use Rattle.point_bands.specs.declared.bands.Stretch.{Stretch}
-pub use Rattle.report_judge.specs.Laws.ExactEdges.{FitsEdges, HangsExactly, IsExactEdge, IsHighEdge, KeepsEdges, MayHang}
-pub use Rattle.report_judge.specs.Laws.FirstBreaks.{HasFewTurns, HasLowTurn, IsFirstBreak, IsNewKey, KeepsHead, KeepsNode, KeepsPoint, KeepsPresence, KeepsTurn}
+pub use Rattle.report_judge.specs.Laws.FirstBreaks.{FitsEdges, HangsExactly, HasFewTurns, HasLowTurn, IsExactEdge, IsFirstBreak, IsHighEdge, IsNewKey}
+pub use Rattle.report_judge.specs.Laws.FirstBreaks.{IsSettledList, KeepsEdges, KeepsHead, KeepsNode, KeepsPoint, KeepsPresence, KeepsTurn, MayHang}
 pub use Rattle.report_judge.specs.Laws.FirstBreaks.{earlier_of, point_key, turn_key}
-pub use Rattle.report_judge.specs.Laws.Judgements.{IsVerdict, bytes_of}
-pub use Rattle.report_judge.specs.Laws.ListedTrees.{IsSettledList}
+pub use Rattle.report_judge.specs.Laws.Verdicts.{BreaksLawFirst, IsBroken, IsLawful, IsReportOfRun, IsVerdict, bytes_of}
 pub use Rattle.report_judge.specs.Laws.SheetLaws.{HasOwnTurn, IsSoundNode, IsStartNode, KeepsLaw, KeepsLawAt, KeepsNodeLaw, best_priced_path, path_by}
 pub use Rattle.report_judge.specs.Laws.SheetLaws.{skipped_of, tally_of}
-pub use Rattle.report_judge.specs.Laws.Verdicts.{BreaksLawFirst, IsBroken, IsLawful, IsReportOfRun}
-pub use Rattle.report_judge.specs.Texts.FrontLines.{IsNextNode, ReadsNodes, ReadsPoints, ReadsRecords}
-pub use Rattle.report_judge.specs.Texts.ReportCuts.{HasNoReportLine, IsCutAtReport, IsOtherLine, has_no_feed, report_line}
-pub use Rattle.report_judge.specs.Texts.ReportForms.{AreAll, AreBegun, BreaksFormFirst, MayFollow, MayStandNext, counts_place, nodes_said, nodes_to_come}
+pub use Rattle.report_judge.specs.Texts.ReportForms.{AreAll, AreBegun, BreaksFormFirst, IsNextNode, MayFollow, MayStandNext, ReadsNodes, ReadsPoints}
+pub use Rattle.report_judge.specs.Texts.ReportForms.{ReadsRecords, counts_place, nodes_said, nodes_to_come}
+pub use Rattle.report_judge.specs.Texts.ReportCuts.{HasNoReportLine, IsCutAtReport, IsOtherLine, has_no_feed, priced_path, report_line, sheet_read}
 pub use Rattle.report_judge.specs.Texts.ReportLines.{EndsWithin, Extent, FitsEntry, FitsKnot, FitsLine, FitsSkipped, FitsTally, ReachesWithin, ReportLine}
 pub use Rattle.report_judge.specs.Texts.ReportLines.{Tally, extent_of, field, line_text, line_words, lines_text, mark_front, point_field, skipped_count}
 pub use Rattle.report_judge.specs.Texts.ReportLines.ReportLine.{Counts, MarkLine, NoPath, NodeLine, PathOf, PathPoint}
 pub use Rattle.report_judge.specs.Texts.ReportSheets.{FitsOptionalPath, HasForm, PricedPath, Sheet, SpellsSheet, head_lines, line_of_knot, line_of_record}
 pub use Rattle.report_judge.specs.Texts.ReportSheets.{lines_of_knots, lines_of_records, lines_of_sheet, number_of_mark_line, number_of_node_line, path_lines}
 pub use Rattle.report_judge.specs.Texts.ReportSheets.{state_of_sheet}
-pub use Rattle.report_judge.specs.Texts.SheetsRead.{priced_path, sheet_read}
 pub use Rattle.report_judge.specs.Workers.JudgedRuns.{AreRadiiOf, HaveLowTurns, IsAsked, IsJudged, KeepsRecord, KeepsRecordBelow, KeepsRecordBetween}
 pub use Rattle.report_judge.specs.Workers.JudgedRuns.{KeepsRecordOf, run_of, setup_by}
-pub use Rattle.report_judge.specs.Workers.MarkLaws.{IsReachedLawfully}
-pub use Rattle.report_judge.specs.Workers.OwnMarks.{AreMarksBetween, HasNumber, IsFirstSeen, IsMarkBetween}
-pub use Rattle.report_judge.specs.Workers.OwnNodes.{AreNodesBefore, ArePresent, FitFirstCosts, HasNo, HasOne, IsNearerAt, IsNearestOfEarlier, IsNodeBefore}
-pub use Rattle.report_judge.specs.Workers.OwnNodes.{IsPassedOverAt, IsPlacedAt, IsTaken, IsUnlawfulAt, KeepsNear}
-pub use Rattle.report_judge.specs.Workers.SeenNodes.{AreMarksByTurn, AreSeen, HaveOwnTurns, IsLeastGoalCost, IsLeastIfAny, IsMarkOfTurn, IsTurnOf, count_before}
-pub use Rattle.report_judge.specs.Workers.SeenNodes.{is_before, places_before}
-pub use Rattle.report_judge.specs.Workers.Standings.{AreStandings, no_standing, place_of, standing_at, standing_of, turns_to}
+pub use Rattle.report_judge.specs.Workers.OwnNodes.{AreMarksBetween, AreNodesBefore, ArePresent, FitFirstCosts, HasNo, HasNumber, HasOne, IsFirstSeen}
+pub use Rattle.report_judge.specs.Workers.OwnNodes.{IsMarkBetween, IsNearerAt, IsNearestOfEarlier, IsNodeBefore, IsPassedOverAt, IsPlacedAt}
+pub use Rattle.report_judge.specs.Workers.OwnNodes.{IsReachedLawfully, IsTaken, IsUnlawfulAt, KeepsNear}
+pub use Rattle.report_judge.specs.Workers.SeenNodes.{AreMarksByTurn, AreSeen, AreStandings, HaveOwnTurns, IsLeastGoalCost, IsLeastIfAny, IsMarkOfTurn}
+pub use Rattle.report_judge.specs.Workers.SeenNodes.{IsTurnOf, count_before, is_before, no_standing, place_of, places_before, standing_at, standing_of}
+pub use Rattle.report_judge.specs.Workers.SeenNodes.{turns_to}
 pub use Rattle.report_judge.specs.declared.marks.judged.Judged.{Judged}
 pub use Rattle.report_judge.specs.declared.marks.judged.Marked.{Marked}
 pub use Rattle.report_judge.specs.declared.own.searches.NearerSearch.{NearerSearch}
@@ -64,14 +59,14 @@ pub use Rattle.report_judge.specs.declared.verdicts.Verdict.TheVariants.{Broken,
 pub use Rattle.settle_report.proofs.CountedMarks.{AreCounts-next}
 pub use Rattle.settle_report.proofs.GoalNodes.{best_of, best_of-all, best_of-goal_node, best_of-other}
 pub use Rattle.settle_report.proofs.GrownPaths.{path_to-reverse, points_up, points_up-start, steps_up}
-pub use Rattle.settle_report.specs.OutcomeCounts.{AreCounts}
+pub use Rattle.settle_report.specs.SettledMarks.{AreCounts}
 pub use Rattle.std.proofs.Common.{Bool, Bor, List, None, Option, Some, [], ap, append-nil, append_assoc, arith, below_more, cond, decimal, drop, drop-cons, eqb}
 pub use Rattle.std.proofs.Common.{false, get_or, inl, inr, leb, length, length-append, length-drop, ltb, map, not, pos, refl, replicate, reverse, rules, set}
 pub use Rattle.std.proofs.Common.{subst, suc, sym, take, true, zero, ℕ, ◌%◌, ◌*◌, ◌++◌, ◌+◌, ◌-◌, ◌/◌, ◌<◌, ◌==◌, ◌^◌, ◌∙◌, ◌∷◌, ◌≡◌, ◌≤◌}
 pub use Rattle.std.proofs.Math.Nat.{mul_assoc, mul_comm, pow-le-pow_right, pow-suc}
 pub use Rattle.std.proofs.Math.Seq.{take-append_seam}
 pub use Rattle.std.proofs.lemmas.Bool.{and_from, and_parts, and_right, both_ways, cases_Bool, cases_eq, cases_lt, cases_order, eq-eqb, eqb-true}
-pub use Rattle.std.proofs.lemmas.Bool.{false_from_ne_true, false≢true, iff_false, le-leb, le-ltb, leb-false, leb-true, lt-ltb, ltb-true, ne_eqb, not-false}
+pub use Rattle.std.proofs.lemmas.Bool.{false_from_ne_true, false≢true, iff_false, le-leb, le-ltb, leb-true, lt-ltb, ltb-true, ne_eqb, not-false}
 pub use Rattle.std.proofs.lemmas.Bool.{not-true, true≢false}
 pub use Rattle.std.proofs.lemmas.Bool.Decides.{Decides-eqb, nat_tests}
 pub use Rattle.std.proofs.lemmas.Fmt.{decimal-digits_value, decimal_by_steps, decimal_digit, decimal_injective}

@@ -1,3 +1,4 @@
+pub mod Terms
 pub mod Texts
 pub mod Laws
 pub mod Workers

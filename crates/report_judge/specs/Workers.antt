@@ -1,7 +1,4 @@
 -- What a worker sees of its own nodes and marks, and what a mark is judged by.
-pub mod OwnNodes
 pub mod JudgedRuns
+pub mod OwnNodes
 pub mod SeenNodes
-pub mod MarkLaws
-pub mod Standings
-pub mod OwnMarks

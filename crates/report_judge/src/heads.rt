@@ -3,7 +3,7 @@
 ghost use Rattle.std.specs.Prelude.{◌≡◌, ◌<◌, ◌^◌, IfNone, IfSome, Some, length};
 ghost use Rattle.report_judge.specs.Laws.FirstBreaks.{IsFirstBreak, KeepsHead, KeepsPoint};
 ghost use Rattle.report_judge.specs.Texts.ReportSheets.{head_lines};
-ghost use Rattle.report_judge.specs.Texts.SheetsRead.{priced_path};
+ghost use Rattle.report_judge.specs.Texts.ReportCuts.{priced_path};
 
 use crate::costed_paths::CostedPath;
 use crate::tallies::Tally;

@@ -5,7 +5,7 @@ ghost use Rattle.plan_model.specs.Runs.ClosedLaw.{outcome_count};
 ghost use Rattle.plan_model.specs.Runs.Outcomes.{is_blocked, is_placed, is_same};
 ghost use Rattle.plan_model.specs.declared.limits.TheConstants.{MOST_MARKS};
 ghost use Rattle.plan_model.specs.declared.trees.Knot.{Knot};
-ghost use Rattle.settle_report.specs.OutcomeCounts.{AreCounts};
+ghost use Rattle.settle_report.specs.SettledMarks.{AreCounts};
 ghost use Rattle.grown_runs.specs.Runs.PackedRuns.{state_of_lists};
 ghost use Rattle.report_judge.specs.Laws.SheetLaws.{skipped_of};
 

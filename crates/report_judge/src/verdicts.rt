@@ -4,11 +4,11 @@ ghost use Rattle.std.specs.Prelude.{◌≡◌, ◌<◌, ◌≤◌, ◌^◌, IfNo
 ghost use Rattle.plan_model.specs.Spaces.Clearance.{ClearAt};
 ghost use Rattle.plan_model.specs.declared.limits.TheConstants.{MOST_NODES};
 ghost use Rattle.plan_model.specs.Spaces.ConfigurationSpace.{space_of};
-ghost use Rattle.report_judge.specs.Laws.Judgements.{IsVerdict, bytes_of};
+ghost use Rattle.report_judge.specs.Laws.Verdicts.{IsVerdict, bytes_of};
 ghost use Rattle.report_judge.specs.Texts.ReportLines.{extent_of};
 ghost use Rattle.report_judge.specs.Texts.ReportSheets.{HasForm, number_of_mark_line, number_of_node_line};
 ghost use Rattle.report_judge.specs.Laws.SheetLaws.{KeepsLaw};
-ghost use Rattle.report_judge.specs.Texts.SheetsRead.{sheet_read};
+ghost use Rattle.report_judge.specs.Texts.ReportCuts.{sheet_read};
 ghost use Rattle.report_judge.specs.declared.verdicts.Verdict.TheVariants.{Broken};
 
 use crate::heads::first_wrong_head_line;

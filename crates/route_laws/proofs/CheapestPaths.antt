@@ -6,7 +6,7 @@ use Rattle.route_laws.proofs.Common.{Goal, Point, Scene, Skipped, Record, ending
 use Rattle.route_laws.proofs.Common.{mark_points, ClearAt, space_of, IsGoalNode, best_node, goals_of, is_goal_point, lies_in_goals, point_at}
 use Rattle.route_laws.proofs.Common.{IsSettled, TreeState, sum_in, IsPresent-goal, numbers-closed, no_goal_node}
 use Rattle.route_laws.proofs.Common.{IsClosed-of_textbook, IsSettled-of_textbook}
-use Rattle.plan_model.specs.Trees.GoalBounds.{bound_of}
+use Rattle.plan_model.specs.Trees.BestNode.{bound_of}
 use Rattle.route_laws.proofs.ChainCosts.{best_within}
 use Rattle.route_laws.proofs.FollowedPaths.{IsGoalNode-skipping}
 use Rattle.route_laws.proofs.RouteCosts.{CostsWithin-route}

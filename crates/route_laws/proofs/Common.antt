@@ -26,35 +26,28 @@ pub use Rattle.plan_model.proofs.SteeringLaws.{steered-near}
 pub use Rattle.plan_model.proofs.TextbookRuns.{IsClosed-textbook}
 pub use Rattle.plan_model.proofs.TreeChanges.{points_of-push}
 pub use Rattle.plan_model.proofs.TriangleLaw.{cost_of-triangle}
-pub use Rattle.plan_model.specs.Geometry.Cost.{cost_of}
+pub use Rattle.plan_model.specs.Geometry.Lengths.{cost_of, class_of, radius_of, radius_of_class, advanced, steered}
 pub use Rattle.plan_model.specs.Geometry.Plane.{squared_distance}
-pub use Rattle.plan_model.specs.Geometry.Radius.{class_of, radius_of, radius_of_class}
-pub use Rattle.plan_model.specs.Geometry.Steering.{advanced, steered}
-pub use Rattle.plan_model.specs.Runs.ClosedLaw.{IsClosed, has_outcome, mark_at}
+pub use Rattle.plan_model.specs.Runs.ClosedLaw.{IsClosed, has_outcome, mark_at, HasLawfulEnding, IsEarlier, IsNeighbour, IsPlacedLawfully, IsSkippedLawfully}
+pub use Rattle.plan_model.specs.Runs.ClosedLaw.{IsSteeredLawfully, ReachesLawfully, is_earlier_record}
 pub use Rattle.plan_model.specs.Runs.Endings.{Ending, NewNode, NoWay, Reached, SameNode, SkippedBy, Steered, ending_as, ending_of, first_hanging}
 pub use Rattle.plan_model.specs.Runs.Outcomes.{is_placed, is_same}
-pub use Rattle.plan_model.specs.Runs.RecordLaw.{HasLawfulEnding, IsEarlier, IsNeighbour, IsPlacedLawfully, IsSkippedLawfully, IsSteeredLawfully}
-pub use Rattle.plan_model.specs.Runs.RecordLaw.{ReachesLawfully, is_earlier_record}
-pub use Rattle.plan_model.specs.Runs.SameRuns.{IsOfTextbookRun}
-pub use Rattle.plan_model.specs.Runs.Textbook.{Ends, EndsPlaced, EndsSteered, Handles, HandlesAll, IsCandidate, IsCheaperThrough, IsTextbookRun, Nodes, Rewires}
-pub use Rattle.plan_model.specs.Runs.Textbook.{Setup, cost_through, mark_bound, near_new, setup_of, start_alone}
+pub use Rattle.plan_model.specs.Runs.Textbook.{IsOfTextbookRun, Ends, EndsPlaced, EndsSteered, Handles, HandlesAll, IsCandidate, IsCheaperThrough}
+pub use Rattle.plan_model.specs.Runs.Textbook.{IsTextbookRun, Nodes, Rewires, Setup, cost_through, mark_bound, near_new, setup_of, start_alone}
 pub use Rattle.plan_model.specs.Scenes.MarkPoints.{mark_points}
 pub use Rattle.plan_model.specs.Spaces.Clearance.{Clear, ClearAt, IsClear, on_the_way}
-pub use Rattle.plan_model.specs.Spaces.ConfigurationSpace.{space_among, space_of}
-pub use Rattle.plan_model.specs.Spaces.EmptyRooms.{IsInRoom, empty_room}
-pub use Rattle.plan_model.specs.Spaces.Meeting.{Meets, weighted}
-pub use Rattle.plan_model.specs.Spaces.RoomOfConfigurations.{IsBetweenWalls, IsSamePoint, Rational, at_lattice, moved_by}
+pub use Rattle.plan_model.specs.Spaces.ConfigurationSpace.{space_among, space_of, IsInRoom, empty_room, IsBetweenWalls, IsSamePoint, Rational, at_lattice}
+pub use Rattle.plan_model.specs.Spaces.ConfigurationSpace.{moved_by}
+pub use Rattle.plan_model.specs.Spaces.Zones.{Meets, weighted}
 pub use Rattle.plan_model.specs.Trees.BestNode.{IsGoalNode, best_node, goals_of, is_goal_point, lies_in_goals}
-pub use Rattle.plan_model.specs.Trees.LeastPairs.{IsNotAbove}
-pub use Rattle.plan_model.specs.Trees.Nearness.{IsNearest, distance_to, is_within}
-pub use Rattle.plan_model.specs.Trees.NodeLists.{length_of_path, points_of, sum_of}
-pub use Rattle.plan_model.specs.Trees.PointsByNumber.{AreNumberedTo, IsFree, IsPresent, StandsAt, node_count, point_at, point_of}
+pub use Rattle.plan_model.specs.Trees.Nearness.{IsNotAbove, IsNearest, distance_to, is_within}
+pub use Rattle.plan_model.specs.Trees.NodeLists.{length_of_path, points_of, sum_of, AreNumberedTo, IsFree, IsPresent, StandsAt, node_count, point_at}
+pub use Rattle.plan_model.specs.Trees.NodeLists.{point_of}
 pub use Rattle.plan_model.specs.Trees.TreeStates.{IsSettled, TreeState, first_cost_of, recorded_or, state_of, sum_in}
-pub use Rattle.plan_model.specs.Vectors.Meetings.{great_triangle, point_body, small_square}
-pub use Rattle.plan_model.specs.Vectors.Overlaps.{overlapped}
-pub use Rattle.plan_model.specs.Vectors.Records.{placed_by, placed_record, same_record}
+pub use Rattle.plan_model.specs.Vectors.Spaces.{great_triangle, point_body, small_square, overlapped}
+pub use Rattle.plan_model.specs.Vectors.Reports.{placed_by, placed_record, same_record}
 pub use Rattle.plan_model.specs.Vectors.Runs.{marks_to_rewire, open_setup, open_setup_to, rewired_tree}
-pub use Rattle.plan_model.specs.Vectors.Shapes.{at, corner, two_is_positive}
+pub use Rattle.plan_model.specs.Vectors.Geometry.{at, corner, two_is_positive}
 pub use Rattle.plan_model.specs.declared.geometry.Goal.{Goal}
 pub use Rattle.plan_model.specs.declared.geometry.Point.{Point}
 pub use Rattle.plan_model.specs.declared.geometry.Vertex.{Vertex}

@@ -6,7 +6,7 @@ use Rattle.route_laws.proofs.Common.{Point, Outcome, Placed, Same, Blocked, Skip
 use Rattle.route_laws.proofs.Common.{HasLawfulEnding, ending_as, IsEarlier, IsOfTextbookRun, Ends, Setup, mark_bound, Clear, ClearAt, IsGoalNode, lies_in_goals}
 use Rattle.route_laws.proofs.Common.{length_of_path, StandsAt, point_of, TreeState, recorded_or, cost_of-swap, bound_of-least, IsPresent-stands}
 use Rattle.route_laws.proofs.Common.{point_of-stands, root_ceiling-zero, cost_of-triangle}
-use Rattle.plan_model.specs.Geometry.Roots.{root_ceiling}
+use Rattle.plan_model.specs.Geometry.Lengths.{root_ceiling}
 use Rattle.route_laws.proofs.FollowedLinks.{ClearAt-node, ends_at, near}
 use Rattle.route_laws.proofs.FollowedRoutes.{IsEarlier-below, closed, in_turn, record_there}
 use Rattle.route_laws.proofs.NearNodePairs.{part_of_run}

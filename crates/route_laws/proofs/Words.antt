@@ -1,10 +1,8 @@
 -- The definitions and lemmas that proofs of this crate are about, passed on from one place. Declares nothing.
-pub use Rattle.route_laws.specs.BestPaths.{ShowsPath}
-pub use Rattle.route_laws.specs.Chains.{IsChain, IsChainInOrder, IsLinkInOrder, cost_of_chain}
-pub use Rattle.route_laws.specs.Discs.{HasClearDisc, IsFartherFrom, IsInDisc, KeepsBodyFar, KeepsFromWalls, gap_from, obstacle_less_body}
-pub use Rattle.route_laws.specs.RouteCosts.{EndApart, IsNearLink, cost_of_route, end_of, ends_same, least_radius}
-pub use Rattle.route_laws.specs.Routes.{AreLinks, HasGoalNode, IsOpenLink, IsReached, IsRoute, Rise}
-pub use Rattle.route_laws.specs.WorkersRoutes.{AreHandledInTurn, EndsAtNode, HasNodeAt, IsHandledAfter}
+pub use Rattle.route_laws.specs.Routes.{AreHandledInTurn, AreLinks, EndApart, EndsAtNode, HasClearDisc, HasGoalNode, HasNodeAt, IsChain, IsChainInOrder}
+pub use Rattle.route_laws.specs.Routes.{IsFartherFrom, IsHandledAfter, IsInDisc, IsLinkInOrder, IsNearLink, IsOpenLink, IsReached, IsRoute, KeepsBodyFar}
+pub use Rattle.route_laws.specs.Routes.{KeepsFromWalls, Rise, ShowsPath, cost_of_chain, cost_of_route, end_of, ends_same, gap_from, least_radius}
+pub use Rattle.route_laws.specs.Routes.{obstacle_less_body}
 pub use Rattle.std.proofs.Common.{Bool, List, None, Option, Some, [], ap, append_assoc, arith, cond, eqb, false, inl, inr, leb, length, ltb, map, refl, subst}
 pub use Rattle.std.proofs.Common.{suc, sym, true, zero, ℕ, ◌*◌, ◌++◌, ◌+◌, ◌-◌, ◌<◌, ◌^◌, ◌∙◌, ◌∷◌, ◌≡◌, ◌≤◌, ◌⊎◌}
 pub use Rattle.std.proofs.Math.Nat.{le_of_mul-le-mul_left, le_refl, pow-le-pow_right}

@@ -1,6 +1,2 @@
-pub mod Chains
+pub mod Terms
 pub mod Routes
-pub mod BestPaths
-pub mod Discs
-pub mod RouteCosts
-pub mod WorkersRoutes

@@ -7,7 +7,7 @@ ghost use Rattle.plan_model.specs.Trees.BestNode.{IsGoalNode, best_node};
 ghost use Rattle.plan_model.specs.Trees.TreeStates.{TreeState, sum_in};
 ghost use Rattle.plan_model.specs.declared.geometry.Goal.{Goal};
 ghost use Rattle.plan_model.specs.declared.geometry.Point.{Point};
-ghost use Rattle.route_laws.specs.Chains.{IsChain, cost_of_chain};
+ghost use Rattle.route_laws.specs.Routes.{IsChain, cost_of_chain};
 
 /// In a closed run, of any number of workers, a node is kept at no more than the cost of a chain that ends with it, in 256ths of a
 /// lattice step. So is its sum, before and after the run is settled. If the node lies in a goal, then there is a best node, and the

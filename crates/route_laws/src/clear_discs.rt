@@ -3,8 +3,7 @@
 ghost use Rattle.std.specs.Prelude.{ℕ, List};
 ghost use Rattle.plan_model.specs.Runs.Textbook.{Setup};
 ghost use Rattle.plan_model.specs.declared.geometry.Point.{Point};
-ghost use Rattle.route_laws.specs.Discs.{HasClearDisc, KeepsBodyFar};
-ghost use Rattle.route_laws.specs.Routes.{IsOpenLink, IsRoute};
+ghost use Rattle.route_laws.specs.Routes.{HasClearDisc, KeepsBodyFar, IsOpenLink, IsRoute};
 
 /// A link is open if each rational point in the disc around its end, out to its beginning, is clear: walls, body and clearance included.
 /// So a route of such links is a route of open links.

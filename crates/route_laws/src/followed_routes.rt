@@ -2,21 +2,17 @@
 
 ghost use Rattle.std.specs.Prelude.{◌≡◌, ◌⊎◌, ℕ, All, Bool, Contains, IsTrue, List, [], Some, length, map, ◌≤◌};
 ghost use Rattle.plan_model.specs.Runs.ClosedLaw.{IsClosed, mark_at};
-ghost use Rattle.plan_model.specs.Runs.SameRuns.{IsOfTextbookRun};
-ghost use Rattle.plan_model.specs.Runs.Textbook.{Setup, setup_of};
+ghost use Rattle.plan_model.specs.Runs.Textbook.{IsOfTextbookRun, Setup, setup_of};
 ghost use Rattle.plan_model.specs.Scenes.MarkPoints.{mark_points};
 ghost use Rattle.plan_model.specs.Spaces.Clearance.{ClearAt};
 ghost use Rattle.plan_model.specs.Spaces.ConfigurationSpace.{space_of};
-ghost use Rattle.plan_model.specs.Trees.BestNode.{best_node, goals_of, lies_in_goals};
-ghost use Rattle.plan_model.specs.Trees.GoalBounds.{bound_of};
+ghost use Rattle.plan_model.specs.Trees.BestNode.{best_node, goals_of, lies_in_goals, bound_of};
 ghost use Rattle.plan_model.specs.Trees.TreeStates.{IsSettled, TreeState, sum_in};
 ghost use Rattle.plan_model.specs.declared.geometry.Point.{Point};
 ghost use Rattle.plan_model.specs.declared.records.Outcome.TheVariants.{Skipped};
 ghost use Rattle.plan_model.specs.declared.records.Record.{Record};
 ghost use Rattle.plan_model.specs.declared.scenes.Scene.{Scene};
-ghost use Rattle.route_laws.specs.BestPaths.{ShowsPath};
-ghost use Rattle.route_laws.specs.RouteCosts.{EndApart, IsNearLink, cost_of_route, end_of};
-ghost use Rattle.route_laws.specs.Routes.{HasGoalNode, IsOpenLink, IsReached, IsRoute};
+ghost use Rattle.route_laws.specs.Routes.{ShowsPath, EndApart, IsNearLink, cost_of_route, end_of, HasGoalNode, IsOpenLink, IsReached, IsRoute};
 
 /// A textbook run from a clear start follows a route of open links: once the mark of a point of the route has been handled, some node
 /// stands there, or, where marks may be skipped, the run has a goal node.

@@ -5,8 +5,7 @@ ghost use Rattle.plan_model.specs.Runs.ClosedLaw.{IsClosed, mark_at};
 ghost use Rattle.plan_model.specs.Runs.Textbook.{Setup};
 ghost use Rattle.plan_model.specs.Trees.TreeStates.{TreeState};
 ghost use Rattle.plan_model.specs.declared.geometry.Point.{Point};
-ghost use Rattle.route_laws.specs.Routes.{AreLinks, HasGoalNode, IsOpenLink};
-ghost use Rattle.route_laws.specs.WorkersRoutes.{AreHandledInTurn, HasNodeAt};
+ghost use Rattle.route_laws.specs.Routes.{AreLinks, HasGoalNode, IsOpenLink, AreHandledInTurn, HasNodeAt};
 
 /// In a closed run, of any number of workers, a route of open links is followed if one worker handled its marks in turn: each after the
 /// start or a node that it had placed itself, at which the mark before ended. Then some node stands at each point of the route, or, where

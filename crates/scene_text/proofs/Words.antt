@@ -1,6 +1,6 @@
 -- The definitions and lemmas that proofs of this crate are about, passed on from one place. Declares nothing.
 pub use Rattle.convex_sets.proofs.ZoneLaws.{bounded_corners}
-pub use Rattle.convex_sets.specs.Bounds.{AreBoundedCorners}
+pub use Rattle.convex_sets.specs.Boxes.{AreBoundedCorners}
 pub use Rattle.plan_model.proofs.BatchParts.{first_part, first_part-line, later_parts, later_parts-line, lines_before-next, lines_of-first, parts_of-first}
 pub use Rattle.plan_model.proofs.BatchParts.{some_part}
 pub use Rattle.plan_model.proofs.GivenScenes.{obstacles-given}
@@ -14,7 +14,7 @@ pub use Rattle.plan_model.proofs.Soundness.{Spells-not_refused}
 pub use Rattle.plan_model.proofs.StatementNumbers.{given_by-append, given_by-push, key_of-name, name-key_of, statements_of-push}
 pub use Rattle.plan_model.proofs.WiderRanges.{IsBetween-wider, are_goals-wider, are_obstacles-wider, clearance-wider, is_plan-wider, may_be_informed-wider}
 pub use Rattle.plan_model.proofs.WiderRanges.{step-wider}
-pub use Rattle.plan_model.specs.Geometry.Convexity.{is_strictly_convex}
+pub use Rattle.plan_model.specs.Geometry.Plane.{is_strictly_convex}
 pub use Rattle.plan_model.specs.Reports.ReportText.{line}
 pub use Rattle.plan_model.specs.Scenes.Limits.{IsBetween, are_goals, are_obstacles, by_version, is_body, is_corner_between, is_goal, is_mark, is_obstacle}
 pub use Rattle.plan_model.specs.Scenes.Limits.{is_plan, least_obstacle_coordinate, may_be_informed, most_clearance, most_goals, most_obstacle_coordinate}
@@ -22,19 +22,19 @@ pub use Rattle.plan_model.specs.Scenes.Limits.{most_side, most_step}
 pub use Rattle.plan_model.specs.Texts.CanonicalText.{Covers, canonical_statements, canonical_text, clearance_statements, corner_numbers, goal_numbers}
 pub use Rattle.plan_model.specs.Texts.CanonicalText.{goal_statement, informed_statements, mark_statement, obstacle_statement, plan_statements, point_numbers}
 pub use Rattle.plan_model.specs.Texts.CanonicalText.{has_key, search_statements, statement, task_statements, version_statement}
-pub use Rattle.plan_model.specs.Texts.Keys.{every_key, fits_words, format_name, is_key, key_among, key_of, least_of, most_corners, most_lines, most_of, name_of}
-pub use Rattle.plan_model.specs.Texts.Keys.{rival_of, version_word}
+pub use Rattle.plan_model.specs.Texts.Keys.{every_key, fits_words, format_name, is_key, key_among, key_of, least_of, most_corners, most_lines, most_of}
+pub use Rattle.plan_model.specs.Texts.Keys.{name_of, rival_of, version_word}
 pub use Rattle.plan_model.specs.Texts.LineChecks.{AllMayStand, Check, Format, Given, MayStand, are_between, begins_with, corners_from, fault_after}
 pub use Rattle.plan_model.specs.Texts.LineChecks.{fault_at_end, fault_at_key, fault_of_statement, fault_of_version, fault_of_words, first_failing, given_by}
 pub use Rattle.plan_model.specs.Texts.LineChecks.{has_corners, is_in_range, is_inhabited, is_ordered, is_repeated, is_too_many, stands, stands_any, version_of}
 pub use Rattle.plan_model.specs.Texts.LineChecks.{with_statement}
-pub use Rattle.plan_model.specs.Texts.SceneBatches.{AreSpelledBelow, Part, RefusesBatch, SpellsBatch, lines_before, part_text, parts_of, separator, text_of}
-pub use Rattle.plan_model.specs.Texts.SceneGrammar.{HasFields, IsSoundBelow, Refused, Spells, body_from, fault_of_end, fault_of_line, first_of}
-pub use Rattle.plan_model.specs.Texts.SceneGrammar.{given_after_version, goal_from, is_supported, number_or, plan_from, point_from, supported, version_given}
+pub use Rattle.plan_model.specs.Texts.SceneGrammar.{AreSpelledBelow, HasFields, IsSoundBelow, Part, Refused, RefusesBatch, Spells, SpellsBatch, body_from}
+pub use Rattle.plan_model.specs.Texts.SceneGrammar.{fault_of_end, fault_of_line, first_of, given_after_version, goal_from, is_supported, lines_before}
+pub use Rattle.plan_model.specs.Texts.SceneGrammar.{number_or, part_text, parts_of, plan_from, point_from, separator, supported, text_of, version_given}
 pub use Rattle.plan_model.specs.Texts.SceneGrammar.{whole_format}
 pub use Rattle.plan_model.specs.Texts.Streams.{counted_up}
-pub use Rattle.plan_model.specs.Texts.TextLines.{is_skipped, lines_of, pieces_of, statements_of, words_of}
-pub use Rattle.plan_model.specs.Texts.TextNumbers.{is_digit, is_number, is_positive, magnitude, value_of}
+pub use Rattle.plan_model.specs.Texts.TextLines.{is_digit, is_number, is_positive, is_skipped, lines_of, magnitude, pieces_of, statements_of, value_of}
+pub use Rattle.plan_model.specs.Texts.TextLines.{words_of}
 pub use Rattle.plan_model.specs.declared.geometry.Goal.{Goal}
 pub use Rattle.plan_model.specs.declared.geometry.Point.{Point}
 pub use Rattle.plan_model.specs.declared.geometry.Vertex.{Vertex}
@@ -49,10 +49,9 @@ pub use Rattle.plan_model.specs.declared.scenes.Marks.TheVariants.{Drawn, Listed
 pub use Rattle.plan_model.specs.declared.scenes.Scene.{Scene}
 pub use Rattle.plan_model.specs.declared.text_terms.Key.{Key}
 pub use Rattle.plan_model.specs.declared.text_terms.Kind.{Kind}
-pub use Rattle.scene_text.specs.Batches.{IsBatchRefusal, IsPartRefusal}
-pub use Rattle.scene_text.specs.Drafts.{IsSoundDraft, TakesLine, amount_numbers, given_after, given_by_draft, line_numbers, version_after}
-pub use Rattle.scene_text.specs.Fetching.{Fetches, ReadsWithin}
-pub use Rattle.scene_text.specs.Refusals.{IsLineRefusal, IsSceneRefusal, refusal_at}
+pub use Rattle.scene_text.specs.Fetching.{Fetches, IsBatchRefusal, IsPartRefusal, ReadsWithin}
+pub use Rattle.scene_text.specs.Drafts.{IsLineRefusal, IsSceneRefusal, IsSoundDraft, TakesLine, amount_numbers, given_after, given_by_draft, line_numbers}
+pub use Rattle.scene_text.specs.Drafts.{refusal_at, version_after}
 pub use Rattle.scene_text.specs.declared.drafts.Draft.{Draft}
 pub use Rattle.scene_text.specs.declared.fetching.FetchFault.{FetchFault}
 pub use Rattle.scene_text.specs.declared.refusals.LineRefusal.{LineRefusal}

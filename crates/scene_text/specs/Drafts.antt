@@ -1,15 +1,19 @@
--- What the fields of a draft give, and what one more line adds.
-use Rattle.std.specs.Prelude.{◌≡◌, ℕ, ◌≤◌, true, false, ℤ, pos, Option, Some, None, List, [], ◌∷◌, length, map, if◌then◌else◌}
-use Rattle.std.specs.List.{list_all}
+-- What the fields of a draft give, and what one more line adds. What a refusal says of the text, or of the line, that is refused.
+use Rattle.std.specs.Prelude.{◌≡◌, ℕ, ◌≤◌, true, false, ℤ, pos, Option, Some, None, List, [], ◌∷◌, length, map, if◌then◌else◌, codes}
+use Rattle.std.specs.List.{list_all, join_with_byte}
 use Rattle.plan_model.specs.declared.text_terms.Key.{Key}
-use Rattle.plan_model.specs.declared.text_terms.Key.TheVariants as keys
-use Rattle.plan_model.specs.Texts.TextLines.{is_skipped}
-use Rattle.plan_model.specs.Texts.TextNumbers.{is_number}
-use Rattle.plan_model.specs.Texts.Keys.{fits_words}
+use Rattle.plan_model.specs.Texts.TextLines.{is_skipped, is_number}
+use Rattle.plan_model.specs.Texts.Keys.{fits_words, fault_words}
 use Rattle.plan_model.specs.Texts.LineChecks.{Given, with_statement, version_of, is_repeated, is_too_many, fault_of_words, AllMayStand}
-use Rattle.plan_model.specs.Texts.SceneGrammar.{is_supported, supported}
+use Rattle.plan_model.specs.Texts.SceneGrammar.{is_supported, supported, Refused}
 use Rattle.plan_model.specs.Texts.CanonicalText.{point_numbers, goal_numbers, corner_numbers}
 use Rattle.scene_text.specs.declared.drafts.Draft.{Draft}
+use Rattle.plan_model.specs.declared.text_terms.Kind.{Kind}
+use Rattle.scene_text.specs.declared.refusals.SceneRefusal.{SceneRefusal}
+use Rattle.scene_text.specs.declared.refusals.LineRefusal.{LineRefusal}
+use Rattle.plan_model.specs.declared.text_terms.Key.TheVariants as keys
+use Rattle.scene_text.specs.declared.refusals.SceneRefusal.TheVariants as scene
+use Rattle.scene_text.specs.declared.refusals.LineRefusal.TheVariants as line
 
 -- ---- what a draft gives
 
@@ -69,3 +73,27 @@ pub record TakesLine (old new : Draft) (words : List (List ℕ)) : Type 0 where
   pub sound : fault_of_words supported old.version (given_by_draft old) words ≡ None
   pub version : new.version ≡ version_after old.version words
   pub given : given_by_draft new ≡ given_after old.version (given_by_draft old) words
+
+-- the refusal of a text whose line with this number is refused
+abbrev pub refusal_at : ℕ → LineRefusal → SceneRefusal
+refusal_at number (line.Fault kind) = scene.Fault (record { line = number; kind = kind })
+refusal_at number line.Memory = scene.Memory
+
+-- a line is refused for its fault, or the program is out of memory
+abbrev pub IsLineRefusal : Option Kind → LineRefusal → Type 0
+IsLineRefusal fault (line.Fault kind) = fault ≡ Some kind
+IsLineRefusal fault line.Memory = Unit {0}
+
+-- a text is refused at its first line with a fault, for the first check that the line fails, or the program is out of memory
+abbrev pub IsSceneRefusal : List ℕ → SceneRefusal → Type 0
+IsSceneRefusal text (scene.Fault fault) = Refused supported text fault.line fault.kind
+IsSceneRefusal text scene.Memory = Unit {0}
+
+-- how a fault is shown: the words that name it, with a space between two
+abbrev pub fault_text : ℕ → Kind → List ℕ
+fault_text number kind = join_with_byte 32 (fault_words number kind)
+
+-- how a refusal is shown
+abbrev pub refusal_text : SceneRefusal → List ℕ
+refusal_text (scene.Fault fault) = fault_text fault.line fault.kind
+refusal_text scene.Memory = codes "out of memory"

@@ -1,4 +1,2 @@
-pub mod Batches
-pub mod Drafts
 pub mod Fetching
-pub mod Refusals
+pub mod Drafts

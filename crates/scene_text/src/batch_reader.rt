@@ -1,10 +1,9 @@
 //! The reader of a batch: several scene texts in one text, with a line `next` between two of them.
 
 ghost use Rattle.std.specs.Prelude.{◌≡◌, ◌≤◌, ◌<◌, ◌+◌, [], ◌∷◌, false, bytes_eq, drop, get_or, length, IfOk, IfErr, IfSome, IfNone};
-ghost use Rattle.plan_model.specs.Texts.SceneBatches.{SpellsBatch, part_text, parts_of, separator};
-ghost use Rattle.plan_model.specs.Texts.SceneGrammar.{Spells, supported};
+ghost use Rattle.plan_model.specs.Texts.SceneGrammar.{SpellsBatch, part_text, parts_of, separator, Spells, supported};
 ghost use Rattle.plan_model.specs.Texts.TextLines.{lines_of};
-ghost use Rattle.scene_text.specs.Batches.{IsBatchRefusal, IsPartRefusal};
+ghost use Rattle.scene_text.specs.Fetching.{IsBatchRefusal, IsPartRefusal};
 
 use crate::drafts::Draft;
 use crate::refusals::{SceneFault, SceneRefusal};

@@ -1,6 +1,6 @@
 //! A scene of either version as one of version 2.
 
-ghost use Rattle.plan_model.specs.Scenes.ConvertedScenes.{IsConverted};
+ghost use Rattle.plan_model.specs.Scenes.ChangedScenes.{IsConverted};
 
 use plan_model::Scene;
 

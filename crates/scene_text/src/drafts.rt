@@ -1,15 +1,13 @@
 //! A draft of a scene: what the lines of a scene text give, read one after another.
 
 ghost use Rattle.std.specs.Prelude.{◌≡◌, ◌≤◌, [], ◌∷◌, Some, None, true, false, length, map, IfOk, OnOk, IfErr};
-ghost use Rattle.plan_model.specs.Texts.TextLines.{words_of};
-ghost use Rattle.plan_model.specs.Texts.TextNumbers.{value_of};
+ghost use Rattle.plan_model.specs.Texts.TextLines.{words_of, value_of};
 ghost use Rattle.plan_model.specs.Texts.Keys.{every_version, name_of, version_among};
 ghost use Rattle.plan_model.specs.Texts.LineChecks.{given_by, with_statement, stands, is_repeated, is_too_many, first_failing, number_checks, checks_of};
 ghost use Rattle.plan_model.specs.Texts.LineChecks.{version_of, fault_of_statement, fault_of_words, fault_at_end};
 ghost use Rattle.plan_model.specs.Texts.SceneGrammar.{is_supported, supported, body_from, plan_from, HasFields};
 ghost use Rattle.plan_model.specs.Texts.CanonicalText.{point_numbers, corner_numbers};
-ghost use Rattle.scene_text.specs.Drafts.{line_numbers, amount_numbers};
-ghost use Rattle.scene_text.specs.Refusals.{IsLineRefusal};
+ghost use Rattle.scene_text.specs.Drafts.{line_numbers, amount_numbers, IsLineRefusal};
 
 use crate::field_words::{read_amount, read_body, read_goal, read_obstacle, read_point};
 use crate::key_words::{

@@ -3,16 +3,15 @@
 ghost use Rattle.std.specs.Prelude.{◌≡◌, ◌≤ℤ◌, ◌<◌, ◌%◌, ◌==◌, ◌||◌, [], ◌∷◌, pos, true, false, None, Some, length, map, is_ok, if◌then◌else◌};
 ghost use Rattle.std.specs.Prelude.{IfOk, IfErr, OnOk, IfSome, IfNone, IsTrue};
 ghost use Rattle.std.specs.List.{list_all};
-ghost use Rattle.convex_sets.specs.Bounds.{AreBoundedCorners};
-ghost use Rattle.plan_model.specs.Geometry.Convexity.{is_strictly_convex};
+ghost use Rattle.convex_sets.specs.Boxes.{AreBoundedCorners};
+ghost use Rattle.plan_model.specs.Geometry.Plane.{is_strictly_convex};
 ghost use Rattle.plan_model.specs.Texts.CanonicalText.{point_numbers, goal_numbers, corner_numbers};
-ghost use Rattle.plan_model.specs.Texts.TextLines.{words_of};
-ghost use Rattle.plan_model.specs.Texts.TextNumbers.{is_number, value_of};
+ghost use Rattle.plan_model.specs.Texts.TextLines.{words_of, is_number, value_of};
 ghost use Rattle.plan_model.specs.Texts.Keys.{least_of, most_of};
 ghost use Rattle.plan_model.specs.Texts.LineChecks.{are_between, is_in_range, first_failing, number_checks};
 ghost use Rattle.plan_model.specs.declared.text_terms.Key.TheVariants as keys;
 ghost use Rattle.plan_model.specs.declared.text_terms.Kind.TheVariants as kinds;
-ghost use Rattle.scene_text.specs.Refusals.{IsLineRefusal};
+ghost use Rattle.scene_text.specs.Drafts.{IsLineRefusal};
 
 use crate::key_words::range_of;
 use crate::refusals::LineRefusal;

@@ -2,8 +2,7 @@
 
 ghost use Rattle.std.specs.Prelude.{◌≡◌, length};
 ghost use Rattle.std.specs.List.{list_all};
-ghost use Rattle.plan_model.specs.Texts.TextLines.{words_of};
-ghost use Rattle.plan_model.specs.Texts.TextNumbers.{is_number};
+ghost use Rattle.plan_model.specs.Texts.TextLines.{words_of, is_number};
 
 use plan_model::{is_number, next_word};
 

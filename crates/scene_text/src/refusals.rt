@@ -1,7 +1,7 @@
 //! Why a scene text is refused.
 
 ghost use Rattle.std.specs.Prelude.{◌≡◌};
-ghost use Rattle.scene_text.specs.Refusals.{refusal_at};
+ghost use Rattle.scene_text.specs.Drafts.{refusal_at};
 ghost use Rattle.scene_text.specs.declared.refusals.LineRefusal.TheVariants as line;
 ghost use Rattle.scene_text.specs.declared.refusals.SceneRefusal.TheVariants as scene;
 
@@ -21,7 +21,7 @@ pub struct SceneFault {
 
 impl fmt::Display for SceneFault {
     ghost use Rattle.std.specs.Prelude.{Some};
-    ghost use Rattle.scene_text.specs.Refusals.{fault_text};
+    ghost use Rattle.scene_text.specs.Drafts.{fault_text};
 
     ghost output = { λ fault. Some (fault_text fault.line fault.kind) };
 
@@ -45,7 +45,7 @@ pub enum SceneRefusal {
 
 impl fmt::Display for SceneRefusal {
     ghost use Rattle.std.specs.Prelude.{Some};
-    ghost use Rattle.scene_text.specs.Refusals.{refusal_text};
+    ghost use Rattle.scene_text.specs.Drafts.{refusal_text};
 
     ghost output = { λ refusal. Some (refusal_text refusal) };
 

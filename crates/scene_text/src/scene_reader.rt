@@ -2,7 +2,7 @@
 
 ghost use Rattle.std.specs.Prelude.{◌<◌, length, IfOk, IfErr};
 ghost use Rattle.plan_model.specs.Texts.SceneGrammar.{Spells, supported};
-ghost use Rattle.scene_text.specs.Refusals.{IsSceneRefusal};
+ghost use Rattle.scene_text.specs.Drafts.{IsSceneRefusal};
 
 use crate::drafts::Draft;
 use crate::refusals::SceneRefusal;

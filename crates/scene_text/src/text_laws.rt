@@ -6,7 +6,7 @@ ghost use Rattle.plan_model.specs.Texts.CanonicalText.{canonical_text, Covers};
 ghost use Rattle.plan_model.specs.declared.text_terms.Kind.{Kind};
 ghost use Rattle.plan_model.specs.Texts.LineChecks.{Format};
 ghost use Rattle.plan_model.specs.Texts.SceneGrammar.{Spells, Refused, supported};
-ghost use Rattle.plan_model.specs.Scenes.ConvertedScenes.{IsConverted};
+ghost use Rattle.plan_model.specs.Scenes.ChangedScenes.{IsConverted};
 ghost use Rattle.plan_model.specs.declared.limits.TheConstants.{MOST_TEXT_BYTES};
 
 /// What is written for a scene is read as the same scene: in each format that has its version and its keys its canonical

@@ -5,7 +5,7 @@ use Rattle.seq_planner.proofs.Words.{All-contains, All-push, All-weaker, Contain
 use Rattle.seq_planner.proofs.Words.{Nodes, mark_bound, setup_of, skipping_goals, IsGoalNode, is_goal_point, lies_in_goals, IsFirstLeast, IsNotAbove, node_at}
 use Rattle.seq_planner.proofs.Words.{points_of, sum_of, point_at, IsPresent-goal, points_of-ends, no_goal_node, StandsAt-node, present_below, point_at-absent}
 use Rattle.seq_planner.proofs.Words.{AreGoalNodesBelow, IsGoalNodeBelow, SearchTree, GrowsByMark, IsSkippedBy, IsSoundTree}
-use Rattle.plan_model.specs.Trees.GoalBounds.{bound_of}
+use Rattle.plan_model.specs.Trees.BestNode.{bound_of}
 use Rattle.seq_planner.proofs.SoundTrees.{kept_sum}
 
 -- ---- one mark more

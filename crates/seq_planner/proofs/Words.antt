@@ -26,9 +26,8 @@ pub use Rattle.grown_runs.specs.declared.child_index.ChildIndex.{ChildIndex}
 pub use Rattle.plan_model.proofs.LeastScans.{IsFirstLeast-scanned, IsFirstLeastBelow, IsFirstLeastBelow-first, IsFirstLeastBelow-keeps, IsFirstLeastBelow-takes}
 pub use Rattle.plan_model.proofs.NewNodes.{point_at-absent}
 pub use Rattle.plan_model.proofs.ParentChanges.{CostsFall-cheaper_parent, IsPresent-cheaper_parent}
-pub use Rattle.seq_planner.specs.GoalLists.{AreGoalNodesBelow, IsGoalNodeBelow}
-pub use Rattle.seq_planner.specs.LinkedTrees.{AreLinked, MayJoin, chain_in, chain_of, hangs_below, is_parent_number, parent_if_child}
-pub use Rattle.seq_planner.specs.PlacedLists.{ArePlaced, listed_near, present_numbers}
+pub use Rattle.seq_planner.specs.LinkedTrees.{AreGoalNodesBelow, AreLinked, ArePlaced, IsGoalNodeBelow, MayJoin, chain_in, chain_of, hangs_below}
+pub use Rattle.seq_planner.specs.LinkedTrees.{is_parent_number, listed_near, parent_if_child, present_numbers}
 pub use Rattle.seq_planner.specs.SearchTrees.{AddsRewired, AreBounded, Fits, GrowsByMark, IsExtensionOf, IsSkippedBy, IsSound, IsSoundTree, most_cost}
 pub use Rattle.seq_planner.specs.SearchTrees.{with_costs}
 pub use Rattle.seq_planner.specs.declared.extensions.Extension.{Extension}

@@ -1,4 +1,3 @@
-pub mod PlacedLists
+pub mod Terms
 pub mod LinkedTrees
-pub mod GoalLists
 pub mod SearchTrees

@@ -1,11 +1,32 @@
--- The children of a tree's nodes.
-use Rattle.std.specs.Prelude.{ℕ, zero, suc, ◌≤◌, ◌==◌, Bool, false, Option, Some, None, List, length, option_map}
-use Rattle.plan_model.specs.declared.trees.Twig.{Twig}
-use Rattle.plan_model.specs.Trees.PointsByNumber.{IsPresent}
-use Rattle.plan_model.specs.Trees.NodeLists.{node_at, points_of}
-use Rattle.plan_model.specs.declared.limits.TheConstants.{MOST_NODES}
-use Rattle.grown_runs.specs.ChildChains.{IndexesChains}
-use Rattle.grown_runs.specs.declared.child_index.ChildIndex.{ChildIndex}
+-- Lists of the nodes that lie in a goal. The nodes that are present, in a list of their own. The children of a tree's nodes.
+use Rattle.std.specs.Prelude.{ℕ, ◌<◌, All, Contains, Option, List, ◌≡◌, zero, suc, is_some, [], length, map, filter, ◌≤◌, ◌==◌, Bool, false, Some, None}
+use Rattle.std.specs.Prelude.{option_map}
+use Rattle.seq_planner.specs.Terms.{ChildIndex, Goal, IndexesChains, IsGoalNode, IsPresent, MOST_NODES, PlacedPoints, Point, Twig, near, node_at, point_at}
+use Rattle.seq_planner.specs.Terms.{point_of, points_of, range_with_len}
+
+-- node n lies in a goal and has a number below the limit
+pub record IsGoalNodeBelow (goals : List Goal) (points : List (Option Point)) (limit n : ℕ) : Type 0 where
+  pub below : n < limit
+  pub goal : IsGoalNode goals points n
+
+-- the numbers are those of exactly the nodes below the limit that lie in a goal
+pub record AreGoalNodesBelow (goals : List Goal) (points : List (Option Point)) (limit : ℕ) (numbers : List ℕ) : Type 0 where
+  pub listed : (n : ℕ) → IsGoalNodeBelow goals points limit n → Contains numbers n
+  pub goal_nodes : All (IsGoalNodeBelow goals points limit) numbers
+
+-- the numbers of the nodes that are present, in rising order
+abbrev pub present_numbers : List (Option Point) → List ℕ
+present_numbers points = filter (λ n. is_some (point_at points n)) (range_with_len 0 (length points))
+
+-- the lists have these numbers, and where each of the nodes stands
+pub record ArePlaced (nodes : List (Option Point)) (placed : PlacedPoints) : Type 0 where
+  pub numbers : placed.numbers.items ≡ present_numbers nodes
+  pub points : placed.points.items ≡ map (point_of nodes) (present_numbers nodes)
+
+-- the nodes near a point that are listed: with radius 0 none is, though one may stand there
+abbrev pub listed_near : List (Option Point) → Point → ℕ → List ℕ
+listed_near points p zero = []
+listed_near points p (suc r) = near points p (suc r)
 
 -- the parent of a node that is a child; the start is nobody's, and neither is an absent node
 abbrev pub parent_if_child : List (Option Twig) → ℕ → Option ℕ

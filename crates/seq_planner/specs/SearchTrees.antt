@@ -1,21 +1,10 @@
 -- The search tree: it grows by one number for each mark, and costs are kept beside its nodes.
 use Rattle.std.specs.Prelude.{◌≡◌, ℕ, ◌+◌, ◌-◌, ◌*◌, ◌^◌, ◌≤◌, All, Option, Some, None, List, [], ◌∷◌, ◌++◌, length, map, option_map, slice_index}
-use Rattle.std.specs.List.{zip}
-use Rattle.plan_model.specs.declared.geometry.Point.{Point}
-use Rattle.plan_model.specs.declared.trees.Twig.{Twig}
-use Rattle.plan_model.specs.declared.trees.Knot.{Knot}
-use Rattle.plan_model.specs.declared.scenes.Scene.{Scene}
-use Rattle.plan_model.specs.declared.records.Record.{Record}
-use Rattle.plan_model.specs.Geometry.Bounds.{IsBounded}
-use Rattle.plan_model.specs.declared.configuration_spaces.ConfigurationSpace.{ConfigurationSpace}
-use Rattle.plan_model.specs.Spaces.ConfigurationSpace.{space_of}
-use Rattle.plan_model.specs.Trees.PointsByNumber.{StandsAt, IsPresent, IsFree, AreDistinct, node_count}
-use Rattle.plan_model.specs.Trees.NodeLists.{points_of, sum_of, CostsFall, AreTight}
-use Rattle.plan_model.specs.Runs.Textbook.{IsBestGoalNode, Nodes, setup_of, cost_through, mark_bound, Rewires, Handles}
-use Rattle.seq_planner.specs.declared.extensions.Extension.{Extension}
-use Rattle.seq_planner.specs.declared.placed_points.PlacedPoints.{PlacedPoints}
+use Rattle.seq_planner.specs.Terms.{AreDistinct, AreTight, ConfigurationSpace, CostsFall, Extension, Handles, IsBestGoalNode, IsBounded, IsFree, IsPresent}
+use Rattle.seq_planner.specs.Terms.{Knot, Nodes, PlacedPoints, Point, Record, Rewires, Scene, StandsAt, Twig, cost_through, mark_bound, node_count, points_of}
+use Rattle.seq_planner.specs.Terms.{setup_of, space_of, sum_of, zip}
 use Rattle.seq_planner.specs.declared.search_tree.SearchTree.{SearchTree}
-use Rattle.seq_planner.specs.PlacedLists.{ArePlaced}
+use Rattle.seq_planner.specs.LinkedTrees.{ArePlaced}
 
 -- every node stands where distances can be taken
 abbrev pub AreBounded : List (Option Point) → Type 0

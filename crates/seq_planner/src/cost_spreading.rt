@@ -1,9 +1,8 @@
 //! How a lowered cost reaches the descendants of a node.
 
 ghost use Rattle.std.specs.Prelude.{◌≡◌, ◌<◌, ◌≤◌, length, slice_index, OnOk};
-ghost use Rattle.plan_model.specs.Trees.PointsByNumber.{IsPresent};
-ghost use Rattle.plan_model.specs.Trees.NodeLists.{CostsFall, parent_of, points_of};
-ghost use Rattle.plan_model.specs.Trees.Branches.{IsBranchLowered};
+ghost use Rattle.plan_model.specs.Trees.NodeLists.{IsPresent, CostsFall, parent_of, points_of};
+ghost use Rattle.plan_model.specs.Trees.TreeStates.{IsBranchLowered};
 
 use crate::linked_tree::LinkedTree;
 use plan_model::Memory;

@@ -1,12 +1,12 @@
 //! The nodes that lie in a goal by which marks are skipped.
 
 ghost use Rattle.std.specs.Prelude.{◌≡◌, ◌+◌, ◌<◌, ◌≤◌, ℕ, [], ◌⊎◌, All, Contains, IsTrue, IsFalse, IfSome, MatchOption, OnOk, length, slice_index};
-ghost use Rattle.plan_model.specs.Geometry.Bounds.{IsBounded};
+ghost use Rattle.plan_model.specs.Geometry.Plane.{IsBounded};
 ghost use Rattle.plan_model.specs.Runs.Textbook.{MayBeCheaper, setup_of, skipping_goals};
-ghost use Rattle.plan_model.specs.Trees.LeastPairs.{IsFirstLeast, IsNotAbove};
+ghost use Rattle.plan_model.specs.Trees.Nearness.{IsFirstLeast, IsNotAbove};
 ghost use Rattle.plan_model.specs.Trees.NodeLists.{points_of, sum_of};
 ghost use Rattle.plan_model.specs.declared.limits.TheConstants.{MOST_NODES};
-ghost use Rattle.seq_planner.specs.GoalLists.{AreGoalNodesBelow};
+ghost use Rattle.seq_planner.specs.LinkedTrees.{AreGoalNodesBelow};
 ghost use Rattle.seq_planner.specs.SearchTrees.{IsSkippedBy, IsSoundTree};
 
 use crate::search_tree::SearchTree;

@@ -1,9 +1,8 @@
 //! Nodes by number, with an index of the children of each.
 
 ghost use Rattle.std.specs.Prelude.{◌≡◌, ◌+◌, ◌<◌, ◌≤◌, ℕ, Option, List, ◌∷◌, [], ◌++◌, length, IfOk, OnErr, OnOk, if◌then◌else◌};
-ghost use Rattle.plan_model.specs.Trees.PointsByNumber.{IsPresent, point_of};
+ghost use Rattle.plan_model.specs.Trees.NodeLists.{IsPresent, point_of, points_of};
 ghost use Rattle.plan_model.specs.Runs.Textbook.{start_alone, with_parent};
-ghost use Rattle.plan_model.specs.Trees.NodeLists.{points_of};
 ghost use Rattle.plan_model.specs.declared.limits.TheConstants.{MOST_MARKS};
 ghost use Rattle.plan_model.specs.declared.trees.Twig.{Twig};
 ghost use Rattle.grown_runs.specs.ChildChains.{times};

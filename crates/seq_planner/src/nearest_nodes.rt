@@ -2,12 +2,10 @@
 
 ghost use Rattle.std.specs.Prelude.{◌≡◌, ◌<◌, ℕ, All, Contains, length};
 ghost use Rattle.std.specs.List.Sorted.{IsStrictlyIncreasing};
-ghost use Rattle.plan_model.specs.Geometry.Bounds.{IsBounded};
-ghost use Rattle.plan_model.specs.Trees.LeastPairs.{IsFirstLeast};
-ghost use Rattle.plan_model.specs.Trees.Nearness.{IsNearest, distance_to};
-ghost use Rattle.plan_model.specs.Trees.NodeLists.{points_of};
-ghost use Rattle.plan_model.specs.Trees.PointsByNumber.{IsPresent};
-ghost use Rattle.seq_planner.specs.PlacedLists.{listed_near};
+ghost use Rattle.plan_model.specs.Geometry.Plane.{IsBounded};
+ghost use Rattle.plan_model.specs.Trees.Nearness.{IsFirstLeast, IsNearest, distance_to};
+ghost use Rattle.plan_model.specs.Trees.NodeLists.{points_of, IsPresent};
+ghost use Rattle.seq_planner.specs.LinkedTrees.{listed_near};
 ghost use Rattle.seq_planner.specs.SearchTrees.{IsSoundTree};
 
 use crate::search_tree::SearchTree;

@@ -2,13 +2,12 @@
 
 ghost use Rattle.std.specs.Prelude.{◌≡◌, ◌≤◌, ◌∷◌, length, All, IsTrue, IsFalse};
 ghost use Rattle.edge_cost.specs.LeastParents.{IsLeastParent};
-ghost use Rattle.plan_model.specs.Geometry.Bounds.{IsBounded};
+ghost use Rattle.plan_model.specs.Geometry.Plane.{IsBounded};
 ghost use Rattle.plan_model.specs.Spaces.Clearance.{Clear};
-ghost use Rattle.plan_model.specs.Trees.LeastPairs.{IsNotAbove};
-ghost use Rattle.plan_model.specs.Trees.OpenNodes.{IsOpenTo};
-ghost use Rattle.plan_model.specs.Trees.PointsByNumber.{IsPresent, point_of};
+ghost use Rattle.plan_model.specs.Trees.Nearness.{IsNotAbove};
+ghost use Rattle.plan_model.specs.Trees.BestNode.{IsOpenTo};
+ghost use Rattle.plan_model.specs.Trees.NodeLists.{IsPresent, point_of, points_of};
 ghost use Rattle.plan_model.specs.Runs.Textbook.{cost_through};
-ghost use Rattle.plan_model.specs.Trees.NodeLists.{points_of};
 ghost use Rattle.plan_model.specs.declared.limits.TheConstants.{MOST_NODES};
 ghost use Rattle.seq_planner.specs.SearchTrees.{IsSoundTree};
 

@@ -1,11 +1,11 @@
 //! The points of the nodes that are present, and the scans over them for the nearest node and for the near ones.
 
 ghost use Rattle.std.specs.Prelude.{◌≡◌, ◌<◌, Option, List, Some, [], ◌∷◌, ◌++◌, length, All, IfOk, OnOk};
-ghost use Rattle.plan_model.specs.Geometry.Bounds.{IsBounded};
+ghost use Rattle.plan_model.specs.Geometry.Plane.{IsBounded};
 ghost use Rattle.plan_model.specs.Trees.Nearness.{IsNearest};
-ghost use Rattle.plan_model.specs.Trees.PointsByNumber.{node_count};
+ghost use Rattle.plan_model.specs.Trees.NodeLists.{node_count};
 ghost use Rattle.plan_model.specs.declared.geometry.Point.{Point};
-ghost use Rattle.seq_planner.specs.PlacedLists.{ArePlaced, listed_near};
+ghost use Rattle.seq_planner.specs.LinkedTrees.{ArePlaced, listed_near};
 
 use plan_model::{Memory, Point};
 use std::alloc::Global;

@@ -1,11 +1,10 @@
 //! The search tree: its nodes, the costs that are kept beside them, and the records of the marks.
 
 ghost use Rattle.std.specs.Prelude.{◌≡◌, ◌+◌, ◌≤◌, [], ◌∷◌, ◌++◌, length, IfOk, OnOk};
-ghost use Rattle.plan_model.specs.Geometry.Bounds.{IsBounded};
+ghost use Rattle.plan_model.specs.Geometry.Plane.{IsBounded};
 ghost use Rattle.plan_model.specs.Spaces.Clearance.{ClearAt};
 ghost use Rattle.plan_model.specs.Spaces.ConfigurationSpace.{space_of};
-ghost use Rattle.plan_model.specs.Runs.SameRuns.{IsOfTextbookRun};
-ghost use Rattle.plan_model.specs.Runs.Textbook.{IsTextbookRun, MayBeCheaper, setup_of, start_alone};
+ghost use Rattle.plan_model.specs.Runs.Textbook.{IsOfTextbookRun, IsTextbookRun, MayBeCheaper, setup_of, start_alone};
 ghost use Rattle.plan_model.specs.Trees.NodeLists.{points_of, sum_of};
 ghost use Rattle.plan_model.specs.Trees.TreeStates.{IsSettled};
 ghost use Rattle.plan_model.specs.declared.geometry.Point.{Point};

@@ -1,15 +1,14 @@
 //! The textbook planner over the marks of a task.
 
 ghost use Rattle.std.specs.Prelude.{◌≡◌, ◌+◌, ◌≤◌, length, IfOk, OnOk};
-ghost use Rattle.plan_model.specs.Geometry.Bounds.{IsBounded};
+ghost use Rattle.plan_model.specs.Geometry.Plane.{IsBounded};
 ghost use Rattle.plan_model.specs.Spaces.Clearance.{ClearAt};
 ghost use Rattle.plan_model.specs.Spaces.ConfigurationSpace.{space_of};
-ghost use Rattle.plan_model.specs.Runs.SameRuns.{IsOfTextbookRun};
-ghost use Rattle.plan_model.specs.Runs.Textbook.{setup_of, skipping_goals};
+ghost use Rattle.plan_model.specs.Runs.Textbook.{IsOfTextbookRun, setup_of, skipping_goals};
 ghost use Rattle.plan_model.specs.Trees.NodeLists.{points_of};
 ghost use Rattle.plan_model.specs.Trees.TreeStates.{IsSettled};
 ghost use Rattle.plan_model.specs.declared.limits.TheConstants.{MOST_MARKS};
-ghost use Rattle.seq_planner.specs.GoalLists.{AreGoalNodesBelow};
+ghost use Rattle.seq_planner.specs.LinkedTrees.{AreGoalNodesBelow};
 ghost use Rattle.seq_planner.specs.SearchTrees.{GrowsByMark, IsSoundTree};
 ghost use Rattle.grown_runs.specs.Runs.GrownRuns.{state_of_grown};
 

@@ -1,9 +1,8 @@
 //! The rewiring of nodes near a new one.
 
 ghost use Rattle.std.specs.Prelude.{◌≡◌, ◌↔◌, ◌≤◌, length, All, IsTrue, OnOk};
-ghost use Rattle.plan_model.specs.Trees.PointsByNumber.{IsPresent};
+ghost use Rattle.plan_model.specs.Trees.NodeLists.{IsPresent, points_of};
 ghost use Rattle.plan_model.specs.Runs.Textbook.{IsCheaperThrough, Rewires, RewiresOne};
-ghost use Rattle.plan_model.specs.Trees.NodeLists.{points_of};
 ghost use Rattle.plan_model.specs.declared.limits.TheConstants.{MOST_NODES};
 ghost use Rattle.seq_planner.specs.SearchTrees.{IsSoundTree};
 

@@ -9,9 +9,7 @@ pub use Rattle.grown_runs.proofs.Common.{state_of_grown, state_of_words, sum_by,
 pub use Rattle.grown_runs.proofs.Common.{words_of_grown}
 pub use Rattle.grown_runs.specs.declared.grown.Grown.{Grown}
 pub use Rattle.plan_model.specs.Reports.ReportText.{point_lines}
-pub use Rattle.settle_report.specs.OutcomeCounts.{AreCounts, with_outcome}
-pub use Rattle.settle_report.specs.SettledMarks.{CostsByParent, IsChildOf, LeadsDown, LeadsDownBy, MarksSettled}
-pub use Rattle.settle_report.specs.TightNodes.{IsTight}
+pub use Rattle.settle_report.specs.SettledMarks.{AreCounts, CostsByParent, IsChildOf, IsTight, LeadsDown, LeadsDownBy, MarksSettled, with_outcome}
 pub use Rattle.settle_report.specs.declared.outcome_counts.OutcomeCounts.{OutcomeCounts}
 pub use Rattle.std.proofs.Common.{Bool, IfSome, List, None, Option, Some, [], ap, append-nil, append_assoc, arith, cond, drop, false, filter, inl, inr, length}
 pub use Rattle.std.proofs.Common.{map, refl, replicate, reverse, rules, set, string_bytes, subst, suc, sym, take, true, zero, ℕ, ◌++◌, ◌+◌, ◌-◌, ◌<◌, ◌∙◌, ◌∷◌}

@@ -2,8 +2,8 @@
 
 ghost use Rattle.std.specs.Prelude.{◌≡◌, IfSome, IsTrue};
 ghost use Rattle.plan_model.specs.Trees.BestNode.{best_node, goals_of, is_goal_point};
-ghost use Rattle.plan_model.specs.Trees.LeastPairs.{lesser};
-ghost use Rattle.plan_model.specs.Trees.PointsByNumber.{IsPresent, point_at};
+ghost use Rattle.plan_model.specs.Trees.Nearness.{lesser};
+ghost use Rattle.plan_model.specs.Trees.NodeLists.{IsPresent, point_at};
 ghost use Rattle.plan_model.specs.Trees.TreeStates.{IsSettled, sum_in};
 ghost use Rattle.grown_runs.specs.Runs.GrownRuns.{state_of_grown};
 

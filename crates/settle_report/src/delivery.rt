@@ -3,7 +3,7 @@
 ghost use Rattle.std.specs.Prelude.{◌≡◌, ◌≤◌, IsTrue, OnOk, OnErr};
 ghost use Rattle.std.specs.Io.KnownBytes.{Appends};
 ghost use Rattle.plan_model.specs.Texts.Streams.{FaultsRose, counted_up};
-ghost use Rattle.settle_report.specs.Delivery.{AppendsPrefix};
+ghost use Rattle.settle_report.specs.SettledMarks.{AppendsPrefix};
 
 use plan_model::{Failed, Sink};
 

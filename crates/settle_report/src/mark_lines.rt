@@ -4,7 +4,7 @@ ghost use Rattle.std.specs.Prelude.{◌≡◌, ◌++◌, OnOk, string_bytes};
 ghost use Rattle.plan_model.specs.Reports.ReportText.{ending_words, line, mark_line, mark_lines};
 ghost use Rattle.plan_model.specs.Runs.Endings.{ending_of};
 ghost use Rattle.grown_runs.specs.Runs.GrownRuns.{state_of_grown};
-ghost use Rattle.settle_report.specs.MarkWords.{words_before_outcome};
+ghost use Rattle.settle_report.specs.SettledMarks.{words_before_outcome};
 
 use grown_runs::Grown;
 use plan_model::{Outcome, Record};

@@ -1,11 +1,11 @@
 //! The lines of a full report on the nodes of a settled run.
 
 ghost use Rattle.std.specs.Prelude.{◌≡◌, ◌++◌, OnOk, string_bytes};
-ghost use Rattle.plan_model.specs.Trees.PointsByNumber.{point_at};
+ghost use Rattle.plan_model.specs.Trees.NodeLists.{point_at};
 ghost use Rattle.plan_model.specs.Reports.ReportText.{node_line_if_present, node_lines};
 ghost use Rattle.plan_model.specs.Trees.TreeStates.{IsSettled};
 ghost use Rattle.grown_runs.specs.Runs.GrownRuns.{state_of_grown};
-ghost use Rattle.settle_report.specs.NodeLines.{knot_line};
+ghost use Rattle.settle_report.specs.SettledMarks.{knot_line};
 
 use grown_runs::Grown;
 use plan_model::Knot;

@@ -1,7 +1,7 @@
 //! How many marks had each outcome.
 
 ghost use Rattle.std.specs.Prelude.{◌≡◌, ◌+◌, ◌<◌, ◌^◌};
-ghost use Rattle.settle_report.specs.OutcomeCounts.{with_outcome};
+ghost use Rattle.settle_report.specs.SettledMarks.{with_outcome};
 
 use plan_model::Outcome;
 

@@ -1,7 +1,7 @@
 //! Paths of a run: from the start to a node, by the node's parents.
 
 ghost use Rattle.std.specs.Prelude.{◌≡◌, IfOk, map};
-ghost use Rattle.plan_model.specs.Trees.PointsByNumber.{IsPresent, point_of};
+ghost use Rattle.plan_model.specs.Trees.NodeLists.{IsPresent, point_of};
 ghost use Rattle.plan_model.specs.Reports.ReportText.{path_to};
 ghost use Rattle.plan_model.specs.Trees.TreeStates.{chain_in};
 ghost use Rattle.grown_runs.specs.Runs.GrownRuns.{state_of_grown};

@@ -3,11 +3,11 @@
 
 ghost use Rattle.std.specs.Prelude.{◌≡◌, [], ◌∷◌, ◌++◌, IfOk, IfSome, OnOk, codes, decimal, string_bytes};
 ghost use Rattle.plan_model.specs.Trees.BestNode.{best_node, goals_of};
-ghost use Rattle.plan_model.specs.Trees.PointsByNumber.{IsPresent};
+ghost use Rattle.plan_model.specs.Trees.NodeLists.{IsPresent};
 ghost use Rattle.plan_model.specs.Reports.ReportText as spec;
 ghost use Rattle.plan_model.specs.Reports.ReportText.{line, report_text, summary};
 ghost use Rattle.plan_model.specs.Trees.TreeStates.{IsSettled};
-ghost use Rattle.settle_report.specs.OutcomeCounts.{AreCounts};
+ghost use Rattle.settle_report.specs.SettledMarks.{AreCounts};
 ghost use Rattle.grown_runs.specs.Runs.GrownRuns.{state_of_grown};
 
 use crate::best_node::best;

@@ -22,10 +22,9 @@
 //! climbed over once and lowered once.
 
 ghost use Rattle.std.specs.Prelude.{◌≡◌, ◌↔◌, ◌<◌, ℕ, suc, Bool, true, false, IsOk, IsTrue, OnErr, OnOk, length, slice_index_or, slice_set};
-ghost use Rattle.plan_model.specs.Trees.PointsByNumber.{IsPresent};
+ghost use Rattle.plan_model.specs.Trees.NodeLists.{IsPresent};
 ghost use Rattle.plan_model.specs.Trees.TreeStates.{ChangesCosts, GrowsInto, IsSettled};
-ghost use Rattle.settle_report.specs.SettledMarks.{CostsByParent, LeadsDown, MarksSettled};
-ghost use Rattle.settle_report.specs.TightNodes.{IsTight};
+ghost use Rattle.settle_report.specs.SettledMarks.{CostsByParent, LeadsDown, MarksSettled, IsTight};
 ghost use Rattle.grown_runs.specs.Runs.GrownRuns.{children_of_grown, state_of_grown};
 
 use edge_cost::{cost, costs_less_through};

@@ -19,8 +19,7 @@ pub use Rattle.plan_words.proofs.Common.{AllFull, BelongsTo-later, GoesOn, HasLi
 pub use Rattle.plan_words.proofs.Common.{SharedState, at_hand, goal-at, if_hand, run_in, with_view}
 pub use Rattle.plan_words.proofs.PlainScenes.{no_goals}
 pub use Rattle.plan_words.specs.States.{MayClaim}
-pub use Rattle.shared_tree_tests.specs.HeldPasses.HeldMarks.{HangsFromStart, HoldsMark, TakesBest}
-pub use Rattle.shared_tree_tests.specs.HeldPasses.Sharers.{HasShare}
+pub use Rattle.shared_tree_tests.specs.HeldPasses.HeldMarks.{HangsFromStart, HasShare, HoldsMark, TakesBest}
 pub use Rattle.shared_tree_tests.specs.SmallRuns.SmallRecords.{claimer_at_start, claimer_in, counter_of, dearer, entries, tree_by}
 pub use Rattle.shared_tree_tests.specs.SmallRuns.SmallViews.{waited}
 pub use Rattle.shared_tree_tests.specs.SmallRuns.SmallWorlds.{AreLawfulLooks, claimed_table, filled_at, goal_run, hand_at, idle, linked_table, never, small_run}

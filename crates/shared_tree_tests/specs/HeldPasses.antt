@@ -1,3 +1,2 @@
 -- Passes of the tests of plan_words.
 pub mod HeldMarks
-pub mod Sharers

@@ -1,3 +1,4 @@
+pub mod Terms
 pub mod SmallRuns
 pub mod HeldPasses
 pub mod SteeredPasses

@@ -34,15 +34,14 @@ pub use Rattle.step_core.proofs.Steps.WorldSteps.{HasWord-load, IsWorld-claimed,
 pub use Rattle.step_core.proofs.Whole.ClosedWorlds.{AreSameRuns-cleared, HoldRun-whole, StandsAsSeen-whole, own_workers-whole}
 pub use Rattle.step_core.proofs.Whole.GrownFromWords.{GrowsInto-seen}
 pub use Rattle.step_core.proofs.Whole.WholeCopies.{children-whole, count-whole, nodes-whole, points-whole, records-whole, sees-whole}
-pub use Rattle.step_core.specs.LastViews.{StandsAsSeen}
-pub use Rattle.step_core.specs.LaterViews.{HasLooked, IsLater, IsLawfulView}
+pub use Rattle.step_core.specs.Histories.{StandsAsSeen, HasLooked, IsLater, IsLawfulView}
 pub use Rattle.step_core.specs.Notes.{FillsNoPlace, HasMade, HasNoted, IsLoaded, KnowsAsBefore, NotesAsSeen, SeesSome, last_seen}
 pub use Rattle.step_core.specs.SeenBests.{IsInformed, IsUnskipped, MayBeSkipped, MayPost, SeesGoal, seen_first_cost}
 pub use Rattle.step_core.specs.SeenRecords.{IsOwnNeighbour, MayBeBlocked, MayBePlaced, MayEnd, MayReach, MayRecord, MaySteer, is_own_node, own_count}
 pub use Rattle.step_core.specs.SeenRecords.{own_first_cost}
-pub use Rattle.step_core.specs.SharedWords.{linked_point, linked_points, state_of_links}
-pub use Rattle.step_core.specs.Stages.{MayBeRecorded, has_count, has_first, has_link, has_point}
-pub use Rattle.step_core.specs.ViewStarts.{crew_from, member_of}
+pub use Rattle.step_core.specs.Stages.{linked_point, linked_points, state_of_links, MayBeRecorded, has_count, has_first, has_link, has_point}
+pub use Rattle.step_core.specs.Views.{crew_from, member_of, IsViewOf, last_look, last_zero, run_of, run_sizes, sees, setup_in, share, spent, times, took_over}
+pub use Rattle.step_core.specs.Views.{tree_seen, words_of_run}
 pub use Rattle.step_core.specs.ViewSteps.{best_loaded, best_taken, best_with, claimed, counted, finished, finished_at, half, hand_with_best, hand_with_post}
 pub use Rattle.step_core.specs.ViewSteps.{joined, last_note, linked, linked_at, loaded, looker, lowered, mark_of, new_hand, note_before, noting, one_turn_more}
 pub use Rattle.step_core.specs.ViewSteps.{pair_in_hand, parted, place_in, pointed, post_noted, posted, saw, saw_at, second_alone, stepped, steps_then, treed}
@@ -50,6 +49,4 @@ pub use Rattle.step_core.specs.ViewSteps.{unlooked, with_best, with_post, withou
 pub use Rattle.step_core.specs.ViewTrees.{IsCostBelow, IsSeenPair, IsSteered, LeadsTo, MayHang, MayLoad, MayLower, SeesCost, SeesNode, SeesPoint, SeesTree}
 pub use Rattle.step_core.specs.ViewTrees.{sight_in}
 pub use Rattle.step_core.specs.Steps.{steps_by}
-pub use Rattle.step_core.specs.Views.{IsViewOf, last_look, last_zero, run_of, run_sizes, sees, setup_in, share, spent, times, took_over, tree_seen}
-pub use Rattle.step_core.specs.Views.{words_of_run}
 pub use Rattle.step_core.specs.Worlds.{Agree, EachView, IsMember, IsRecordWord, IsWorld, SeesBest, SomeSharer, Trees, counters, state_in}

@@ -37,7 +37,7 @@ pub use Rattle.grown_runs.proofs.Common.{sum-le, sum-more, sum-most, sum-up, tre
 pub use Rattle.grown_runs.proofs.Common.{turns_of-recorded_by_other, unplaced_at, way_start, way_stops, whole_pair, whole_record, word_at-false, word_at-has}
 pub use Rattle.grown_runs.proofs.Common.{word_at-none, word_count, words_of_grown, worker_in, zeros}
 pub use Rattle.grown_runs.proofs.Table.WordReads.{place_of-once}
-pub use Rattle.grown_runs.specs.Table.ClearedWords.{IsNodeWord}
+pub use Rattle.grown_runs.specs.Table.RunWords.{IsNodeWord}
 pub use Rattle.grown_runs.specs.declared.grown.Grown.{Grown}
 pub use Rattle.plan_model.proofs.ListMembers.{Contains-after}
 pub use Rattle.plan_model.proofs.SumsBelow.{sum-same}
@@ -58,27 +58,24 @@ pub use Rattle.std.specs.Int.{abs_diff}
 pub use Rattle.std.specs.List.{AllByRecursion, count_by, list_any, range_with_len, sum_by}
 pub use Rattle.std.specs.Prelude.{Contains, IsSome, IsTrue, cond, if◌then◌else◌, nat_le, nat_lt, option_map, replicate, slice_index, slice_set, unwrap_or, ◌&&◌}
 pub use Rattle.std.specs.Prelude.{◌==◌, ◌||◌, ◌↔◌}
-pub use Rattle.step_core.specs.Histories.{HasCome, WasEmpty, WasFree, WasSo}
+pub use Rattle.step_core.specs.Histories.{HasCome, HasLooked, HasOrFell, IsLater, IsLawfulView, StandsAsSeen, WasEmpty, WasFree, WasSo}
 pub use Rattle.step_core.specs.Histories.HasCome.{steps}
-pub use Rattle.step_core.specs.LastViews.{HasOrFell, StandsAsSeen}
-pub use Rattle.step_core.specs.LaterViews.{HasLooked, IsLater, IsLawfulView}
 pub use Rattle.step_core.specs.Notes.{Empties, FillsNoPlace, GoesTo, HasMade, HasNoted, IsAmong, IsAsPlaced, IsLoaded, IsNoteOf, IsNoted, KnowsAsBefore, Notes}
 pub use Rattle.step_core.specs.Notes.{NotesAsSeen, SeesSome, SomeNote, last_seen}
 pub use Rattle.step_core.specs.SeenBests.{IsAtMostPlaced, IsInformed, IsUnskipped, MayBeSkipped, MayPost, SeesGoal, seen_first_cost}
 pub use Rattle.step_core.specs.SeenRecords.{IsOwnNeighbour, MayBeBlocked, MayBePlaced, MayEnd, MayReach, MayRecord, MaySteer, is_own_node, own_count}
 pub use Rattle.step_core.specs.SeenRecords.{own_first_cost}
-pub use Rattle.step_core.specs.SharedWords.{linked_point, linked_points, shared_tree_of_words, state_of_links}
-pub use Rattle.step_core.specs.Stages.{MayBeRecorded, has_count, has_first, has_link, has_point, has_tree, holds_at}
+pub use Rattle.step_core.specs.Stages.{MayBeRecorded, has_count, has_first, has_link, has_point, has_tree, holds_at, linked_point, linked_points}
+pub use Rattle.step_core.specs.Stages.{shared_tree_of_words, state_of_links}
 pub use Rattle.step_core.specs.Steps.{IsMoment, MayFinish, Moment, Step, Steps, steps_by, view_after, views_after}
-pub use Rattle.step_core.specs.ViewStarts.{crew_from, member_of, newcomer}
+pub use Rattle.step_core.specs.Views.{IsSharedRun, IsViewOf, crew_from, holds, last_look, last_zero, member_of, newcomer, no_run, run_of, run_sizes, sees}
+pub use Rattle.step_core.specs.Views.{setup_in, share, spent, times, took_over, tree_seen, words_of_run}
 pub use Rattle.step_core.specs.ViewSteps.{best_loaded, best_taken, best_with, claimed, counted, finished, half, hand_with_best, hand_with_post, joined, linked}
 pub use Rattle.step_core.specs.ViewSteps.{loaded, looker, lowered, mark_of, merged, new_hand, one_turn_more, pair_in_hand, parted, place_in, pointed}
 pub use Rattle.step_core.specs.ViewSteps.{post_noted, posted, saw, second_alone, stepped, steps_made, steps_then, treed, unlooked, with_best, without_second}
 pub use Rattle.step_core.specs.ViewSteps.{worker_apart}
 pub use Rattle.step_core.specs.ViewTrees.{IsCostBelow, IsOnWayOf, IsSeenPair, IsSteered, LeadsTo, MayHang, MayLoad, MayLower, SeesCost, SeesHand, SeesNode}
 pub use Rattle.step_core.specs.ViewTrees.{SeesPoint, SeesTree, sight_in}
-pub use Rattle.step_core.specs.Views.{IsSharedRun, IsViewOf, holds, last_look, last_zero, no_run, run_of, run_sizes, sees, setup_in, share, spent, times}
-pub use Rattle.step_core.specs.Views.{took_over, tree_seen, words_of_run}
 pub use Rattle.step_core.specs.Worlds.{Agree, BestCopy, BestWord, ClaimedMarks, Copies, EachView, Hands, IsBestWord, IsFirstOf, IsMember, IsRecordWord, IsTold}
 pub use Rattle.step_core.specs.Worlds.{IsWorld, LinkedTree, Pairs, Records, SeenBehind, SeenBests, SeenPairs, SeesBest, Shares, SomeSharer, Trees, TreesSeen}
 pub use Rattle.step_core.specs.Worlds.{Turns, counted_once, counters, greatest_limit, hands_at, holders, is_recorded, limit_of, maximum, state_in}

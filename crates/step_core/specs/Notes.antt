@@ -1,16 +1,9 @@
 -- The law of notes: each change of a word that others load is noted by the view that makes it, with the steps that all views have made by then.
 -- So it can be said of what a view has seen whether it was so when the view looked.
 use Rattle.std.specs.Prelude.{◌≡◌, ◌≢◌, ℕ, ◌<◌, ◌≤◌, ◌⊎◌, Bool, List, [], ◌∷◌, length, slice_index}
-use lib.ListN.{get_elem?}
-use mathlib.Core.Option.{some}
+use Rattle.step_core.specs.Terms.{Best, ChildOf, Count, Counter, FirstOf, MayBecome, Note, PointOf, RecordOf, SharedRun, TreeOf, View, Word, Words, get_elem?}
+use Rattle.step_core.specs.Terms.{kind_of, place_of, some}
 use Rattle.step_core.specs.Views.{last_look, last_zero, run_sizes, sees}
-use Rattle.grown_runs.specs.Table.WordKinds.{MayBecome, kind_of}
-use Rattle.grown_runs.specs.Table.WordNames.{Word, Words}
-use Rattle.grown_runs.specs.Table.WordNames.Word.{Best, ChildOf, Count, Counter, FirstOf, PointOf, RecordOf, TreeOf}
-use Rattle.grown_runs.specs.Table.WordPlaces.{place_of}
-use Rattle.step_core.specs.declared.views.Note.{Note}
-use Rattle.step_core.specs.declared.views.SharedRun.{SharedRun}
-use Rattle.step_core.specs.declared.views.View.{View}
 
 -- ---- words that others load
 

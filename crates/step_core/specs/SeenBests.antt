@@ -1,16 +1,8 @@
 -- What a view knows of the best word: the least pair of a cost and a goal node that the run began with or a pass has posted.
 use Rattle.std.specs.Prelude.{◌≡◌, ◌≢◌, ℕ, zero, suc, ◌^◌, ◌<◌, ◌≤◌, true, Some, []}
-use Rattle.plan_model.specs.Runs.ClosedLaw.{mark_at}
-use Rattle.plan_model.specs.Runs.Textbook.{mark_bound}
-use Rattle.plan_model.specs.Trees.BestNode.{IsGoalNode}
-use Rattle.grown_runs.specs.Runs.GrownWords.{has_node}
+use Rattle.step_core.specs.Terms.{Claimed, FirstOf, Hand, IsGoalNode, SharedRun, TreeOf, View, best_cost_in, best_node_in, best_word, cost_in, has_node}
+use Rattle.step_core.specs.Terms.{mark_at, mark_bound, no_best}
 use Rattle.step_core.specs.Views.{sees, setup_in, share, tree_seen}
-use Rattle.grown_runs.specs.Table.WordNames.Word.{FirstOf, TreeOf}
-use Rattle.grown_runs.specs.Table.Words.{best_cost_in, best_node_in, best_word, cost_in, no_best}
-use Rattle.step_core.specs.declared.views.Hand.{Hand}
-use Rattle.step_core.specs.declared.views.SharedRun.{SharedRun}
-use Rattle.step_core.specs.declared.views.Stage.TheVariants.{Claimed}
-use Rattle.step_core.specs.declared.views.View.{View}
 
 -- marks may be skipped: there are goals by which they are
 abbrev pub IsInformed : SharedRun → Type 0

@@ -1,28 +1,11 @@
 -- What a pass may record of the mark in its hand, by what it has seen: each fact of the record law is one of the view alone.
 use Rattle.std.specs.Prelude.{◌≡◌, ◌↔◌, ℕ, zero, suc, ◌+◌, ◌^◌, ◌≤◌, Bool, true, IsTrue, Some, length, filter}
-use Rattle.std.specs.List.{range_with_len}
-use Rattle.plan_model.specs.Spaces.Clearance.{Clear}
-use Rattle.plan_model.specs.Runs.ClosedLaw.{mark_at}
-use Rattle.plan_model.specs.Geometry.Cost.{cost_of}
-use Rattle.plan_model.specs.Trees.BestNode.{is_goal_point}
-use Rattle.plan_model.specs.Trees.LeastPairs.{IsNotAbove}
-use Rattle.plan_model.specs.Trees.Nearness.{distance_to, is_within}
-use Rattle.plan_model.specs.Trees.PointsByNumber.{IsPresent, point_at, point_of}
-use Rattle.plan_model.specs.Geometry.Radius.{class_of, radius_of_class}
-use Rattle.plan_model.specs.Runs.Endings.{FirstHanging, Reached, NewNode, SameNode, NoWay, Ending, Steered, SkippedBy, ending_of}
-use Rattle.plan_model.specs.Runs.RecordLaw.{is_earlier_record}
-use Rattle.plan_model.specs.Geometry.Steering.{steered}
-use Rattle.plan_model.specs.declared.geometry.Point.{Point}
-use Rattle.plan_model.specs.declared.records.Record.{Record}
-use Rattle.grown_runs.specs.Runs.GrownWords.{record_at}
+use Rattle.step_core.specs.Terms.{Clear, Count, Ending, FirstHanging, Hand, IsNotAbove, IsPresent, NewNode, NoWay, Point, Posted, Reached, Record, SameNode}
+use Rattle.step_core.specs.Terms.{SkippedBy, Steered, TreeOf, View, class_of, cost_in, cost_of, distance_to, ending_of, is_earlier_record, is_goal_point}
+use Rattle.step_core.specs.Terms.{is_within, mark_at, point_at, point_of, radius_of_class, range_with_len, record_at, steered}
 use Rattle.step_core.specs.SeenBests.{IsUnskipped, MayBeSkipped, seen_first_cost}
 use Rattle.step_core.specs.ViewTrees.{SeesPoint}
 use Rattle.step_core.specs.Views.{sees, setup_in, tree_seen}
-use Rattle.grown_runs.specs.Table.WordNames.Word.{Count, TreeOf}
-use Rattle.grown_runs.specs.Table.Words.{cost_in}
-use Rattle.step_core.specs.declared.views.Hand.{Hand}
-use Rattle.step_core.specs.declared.views.Stage.TheVariants.{Posted}
-use Rattle.step_core.specs.declared.views.View.{View}
 
 -- ---- the worker's own nodes
 

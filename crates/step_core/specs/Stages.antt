@@ -1,10 +1,25 @@
--- How far a mark in hand has come, and which records it may get there.
+-- The tree in the words of a run to which several add: a node is present once it is linked, whatever its mark's record says. How far a mark in hand
+-- has come, and which records it may get there.
+use Rattle.step_core.specs.Terms.{Claimed, Count, Counted, Counter, Half, Hand, Linked, List, Option, Outcome, Point, Pointed, Posted, SharedTree, Sizes}
+use Rattle.step_core.specs.Terms.{Stage, TreeState, Treed, Words, children_of_words, is_linked, is_placed, node_point_by, points_by, state_by, ℕ}
 use Rattle.std.specs.Prelude.{◌≡◌, ℕ, ◌==◌, ◌&&◌, Bool, true, false, Option, Some, None}
-use Rattle.plan_model.specs.Runs.Outcomes.{is_placed}
-use Rattle.plan_model.specs.declared.records.Outcome.{Outcome}
-use Rattle.step_core.specs.declared.views.Hand.{Hand}
-use Rattle.step_core.specs.declared.views.Stage.{Stage}
-use Rattle.step_core.specs.declared.views.Stage.TheVariants.{Claimed, Pointed, Half, Treed, Linked, Counted, Posted}
+
+-- where node n stands, if it is linked
+abbrev pub linked_point : Sizes → Words → ℕ → Option Point
+linked_point sizes words = node_point_by (is_linked sizes words) words
+
+-- where each linked node stands
+abbrev pub linked_points : Sizes → Words → List (Option Point)
+linked_points sizes words = points_by (is_linked sizes words) sizes words
+
+-- the tree of the linked nodes, with its costs and records
+abbrev pub state_of_links : Sizes → Words → TreeState
+state_of_links sizes words = state_by (is_linked sizes words) sizes words
+
+-- the whole, with children, counters and count
+abbrev pub shared_tree_of_words : Sizes → Words → SharedTree
+shared_tree_of_words sizes words =
+    record { state = state_of_links sizes words; child = children_of_words words; counter = λ strip. words (Counter strip); count = words Count }
 
 -- the point of its node is written
 abbrev pub has_point : Stage → Bool

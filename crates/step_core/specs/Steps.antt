@@ -1,10 +1,8 @@
 -- One step of a pass: one load, store or exchange of one word. Of each kind: what it asks of the view that makes it, the word that it writes
 -- with what it leaves there, and the views afterwards.
 use Rattle.std.specs.Prelude.{◌≡◌, ◌≢◌, ℕ, suc, ◌+◌, ◌<◌, ◌≤◌, Bool, Option, Some, None, List, [], ◌∷◌, ◌++◌, length, slice_set}
-use lib.ListN.{get_elem?}
-use mathlib.Core.Option.{some}
-use Rattle.plan_model.specs.declared.geometry.Point.{Point}
-use Rattle.plan_model.specs.declared.records.Record.{Record}
+use Rattle.step_core.specs.Terms.{Best, ChildOf, Count, Counter, FirstOf, FitsWord, Hand, Member, Point, PointOf, Record, RecordOf, SharedRun, Stage, TreeOf}
+use Rattle.step_core.specs.Terms.{View, Word, Words, WritesWord, get_elem?, point_word, record_word, some, tree_word}
 use Rattle.step_core.specs.SeenBests.{IsInformed, IsUnskipped, MayPost}
 use Rattle.step_core.specs.SeenRecords.{MayRecord}
 use Rattle.step_core.specs.Stages.{MayBeRecorded}
@@ -12,16 +10,8 @@ use Rattle.step_core.specs.ViewSteps.{best_loaded, best_with, claimed, counted, 
 use Rattle.step_core.specs.ViewSteps.{pair_in_hand, parted, pointed, posted, stepped, steps_then, treed, worker_apart}
 use Rattle.step_core.specs.ViewTrees.{IsSteered, LeadsTo, MayHang, MayLoad, MayLower}
 use Rattle.step_core.specs.Views.{sees, share, spent}
-use Rattle.grown_runs.specs.Table.WordNames.{Word, Words, WritesWord}
-use Rattle.grown_runs.specs.Table.WordNames.Word.{Best, ChildOf, Count, Counter, FirstOf, PointOf, RecordOf, TreeOf}
-use Rattle.grown_runs.specs.Table.Words.{FitsWord, point_word, record_word, tree_word}
 use Rattle.step_core.specs.Worlds.{IsWorld}
-use Rattle.step_core.specs.declared.views.Hand.{Hand}
-use Rattle.step_core.specs.declared.views.Member.{Member}
-use Rattle.step_core.specs.declared.views.SharedRun.{SharedRun}
-use Rattle.step_core.specs.declared.views.Stage.{Stage}
 use Rattle.step_core.specs.declared.views.Stage.TheVariants as stages
-use Rattle.step_core.specs.declared.views.View.{View}
 
 -- ---- moments and steps
 

@@ -1,22 +1,10 @@
 -- What each kind of step makes of the view that makes it, as a function of the view before. The words are those of WordNames.
-use Rattle.std.specs.Prelude.{ℕ, zero, suc, Bool, ◌+◌, ◌==◌, max, min, Option, Some, None, List, [], ◌∷◌, ◌++◌, length, map, replicate, slice_index}
-use Rattle.std.specs.Prelude.{slice_set, if◌then◌else◌}
-use Rattle.std.specs.List.{range_with_len}
+use Rattle.std.specs.Prelude.{ℕ, zero, suc, Bool, ◌+◌, ◌==◌, max, min, Option, Some, None, List, [], ◌∷◌, ◌++◌, length, map, replicate, if◌then◌else◌}
+use Rattle.step_core.specs.Terms.{Best, ChildOf, Claimed, Count, Counted, Counter, FirstOf, Half, Hand, Linked, Member, Note, Point, PointOf, Pointed, Posted}
+use Rattle.step_core.specs.Terms.{RecordOf, SharedRun, Sizes, Stage, TreeOf, Treed, View, Word, best_word, cost_in, kind_at, later_word, place_of, point_word}
+use Rattle.step_core.specs.Terms.{range_with_len, slice_index, slice_set, tree_word, word_count}
 use Rattle.plan_model.specs.Scenes.MarkPoints.{mark_of as mark_by_strips}
-use Rattle.plan_model.specs.declared.geometry.Point.{Point}
 use Rattle.step_core.specs.Views.{run_sizes, sees}
-use Rattle.grown_runs.specs.Table.WordKinds.{kind_at, later_word}
-use Rattle.grown_runs.specs.Table.WordNames.{Word}
-use Rattle.grown_runs.specs.Table.WordNames.Word.{Best, ChildOf, Count, Counter, FirstOf, PointOf, RecordOf, TreeOf}
-use Rattle.grown_runs.specs.Table.WordPlaces.{Sizes, place_of, word_count}
-use Rattle.grown_runs.specs.Table.Words.{best_word, cost_in, point_word, tree_word}
-use Rattle.step_core.specs.declared.views.Hand.{Hand}
-use Rattle.step_core.specs.declared.views.Member.{Member}
-use Rattle.step_core.specs.declared.views.Note.{Note}
-use Rattle.step_core.specs.declared.views.SharedRun.{SharedRun}
-use Rattle.step_core.specs.declared.views.Stage.{Stage}
-use Rattle.step_core.specs.declared.views.Stage.TheVariants.{Claimed, Counted, Half, Linked, Pointed, Posted, Treed}
-use Rattle.step_core.specs.declared.views.View.{View}
 
 -- the place of a word in the tables of a view
 abbrev pub place_in : View → Word → ℕ

@@ -1,26 +1,11 @@
 -- What a view has seen of the tree, and which steps on nodes that allows it.
 use Rattle.std.specs.Prelude.{◌≡◌, ◌≢◌, ℕ, suc, ◌+◌, ◌^◌, ◌<◌, ◌≤◌, Bool, true, IsTrue, Some, length}
-use Rattle.plan_model.specs.declared.geometry.Point.{Point}
-use Rattle.plan_model.specs.Runs.ClosedLaw.{mark_at}
-use Rattle.plan_model.specs.Geometry.Cost.{cost_of}
-use Rattle.plan_model.specs.Runs.OrderLaw.{IsAllowedEdge}
-use Rattle.plan_model.specs.Trees.BestNode.{is_goal_point}
-use Rattle.plan_model.specs.Trees.PointsByNumber.{IsPresent, StandsAt}
-use Rattle.plan_model.specs.Seen.SeenTrees.{IsRooted, IsSeen}
-use Rattle.plan_model.specs.Seen.Sights.{Sight}
-use Rattle.plan_model.specs.Geometry.Steering.{steered}
-use Rattle.plan_model.specs.Seen.Ways.{IsOnWay, goes_right}
-use Rattle.grown_runs.specs.Runs.GrownWords.{has_node}
-use Rattle.grown_runs.specs.Table.SeenWords.{sight_of_words}
+use Rattle.step_core.specs.Terms.{Best, ChildOf, Count, Counter, FirstOf, Hand, IsAllowedEdge, IsOnWay, IsPresent, IsRooted, IsSeen, Point, PointOf, Posted}
+use Rattle.step_core.specs.Terms.{RecordOf, Sight, StandsAt, TreeOf, View, Word, cost_in, cost_of, goes_right, has_node, is_goal_point, mark_at, parent_in}
+use Rattle.step_core.specs.Terms.{sight_of_words, steered}
 use Rattle.step_core.specs.SeenBests.{IsUnskipped}
 use Rattle.step_core.specs.Stages.{has_link, has_point}
 use Rattle.step_core.specs.Views.{run_sizes, seen_words, sees, setup_in, tree_seen}
-use Rattle.grown_runs.specs.Table.WordNames.{Word}
-use Rattle.grown_runs.specs.Table.WordNames.Word.{Count, Best, Counter, PointOf, ChildOf, TreeOf, FirstOf, RecordOf}
-use Rattle.grown_runs.specs.Table.Words.{cost_in, parent_in}
-use Rattle.step_core.specs.declared.views.Hand.{Hand}
-use Rattle.step_core.specs.declared.views.Stage.TheVariants.{Posted}
-use Rattle.step_core.specs.declared.views.View.{View}
 
 -- what it has seen, and by which of its steps it found places of children empty
 abbrev pub sight_in : View → Sight

@@ -1,20 +1,9 @@
--- What the view of a pass says: its share, its hand, and the words that it has seen. The words are read by their names.
+-- What the view of a pass says: its share, its hand, and the words that it has seen. The words are read by their names. How a shared run begins: with
+-- one view, which has the share of all workers and has seen all words.
 use Rattle.std.specs.Prelude.{◌≡◌, ℕ, ◌<◌, ◌≤◌, ◌==◌, Bool, false, Option, Some, None, List, [], count_by, length}
-use Rattle.plan_model.specs.Geometry.Bounds.{IsBounded}
-use Rattle.plan_model.specs.Runs.ClosedLaw.{mark_at}
-use Rattle.plan_model.specs.Spaces.ConfigurationSpace.{space_among, space_of}
-use Rattle.plan_model.specs.Seen.SeenTrees.{SeenTree}
-use Rattle.plan_model.specs.Runs.Textbook.{Setup, skipping_goals}
-use Rattle.plan_model.specs.declared.limits.TheConstants.{MOST_MARKS, MOST_STEERING_STEP, MOST_STRIPS, MOST_WORKERS}
-use Rattle.plan_model.specs.declared.tasks.Task.{Task}
-use Rattle.grown_runs.specs.Table.SeenWords.{SeenWords, seen_tree_of_words}
-use Rattle.grown_runs.specs.Table.WordNames.{Word, Words}
-use Rattle.grown_runs.specs.Table.WordPlaces.{Sizes, word_at, word_count}
-use Rattle.grown_runs.specs.Table.Words.{no_best}
-use Rattle.step_core.specs.declared.views.Hand.{Hand}
-use Rattle.step_core.specs.declared.views.Member.{Member}
-use Rattle.step_core.specs.declared.views.SharedRun.{SharedRun}
-use Rattle.step_core.specs.declared.views.View.{View}
+use Rattle.step_core.specs.Terms.{Best, Hand, IsBounded, List, MOST_MARKS, MOST_STEERING_STEP, MOST_STRIPS, MOST_WORKERS, Member, None, SeenTree, SeenWords}
+use Rattle.step_core.specs.Terms.{Setup, SharedRun, Sizes, Task, View, Word, Words, [], length, map, mark_at, no_best, range_with_len, record_at, replicate}
+use Rattle.step_core.specs.Terms.{seen_tree_of_words, skipping_goals, space_among, space_of, turns_of, word_at, word_count, ℕ}
 
 -- ---- the run
 
@@ -123,3 +112,27 @@ no_run = record {
 -- what is left of a view that was taken over
 abbrev pub spent : View
 spent = record { run = no_run; crew = []; most = 0; hand = None; seen = []; best = no_best; took = []; steps = 0; looked = []; found_zero = []; notes = [] }
+
+-- a worker, whose next turn is the number of its records
+abbrev pub member_of : SharedRun → Words → ℕ → Member
+member_of run words w = record { worker = w; turn = turns_of (record_at words) (length run.marks) w }
+
+-- so many workers from w on
+abbrev pub crew_from : SharedRun → Words → ℕ → ℕ → List Member
+crew_from run words w count = map (member_of run words) (range_with_len w count)
+
+-- the first view, over the list of all words
+abbrev pub newcomer : SharedRun → List ℕ → View
+newcomer run items = record {
+  run = run;
+  crew = crew_from run (words_of_run run items) 0 run.workers;
+  most = run.opening;
+  hand = None;
+  seen = items;
+  best = words_of_run run items Best;
+  took = [];
+  steps = 0;
+  looked = replicate (length items) 0;
+  found_zero = replicate (length items) 0;
+  notes = [];
+}

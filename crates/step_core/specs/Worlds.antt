@@ -1,40 +1,18 @@
 -- The law of worlds: what holds of the words of a shared run and of the views of its passes between any two steps, whichever passes make
 -- them and in whichever order. Each part speaks of one thing, and has a lemma of its own on a step of one view.
-use Rattle.std.specs.Prelude.{◌≡◌, ◌≢◌, ℕ, suc, ◌+◌, ◌<◌, ◌≤◌, ◌==◌, ◌^◌, ◌⊎◌, nat_lt, max, Bool, true, false, is_some}
-use Rattle.std.specs.Prelude.{Some, None, List, [], ◌∷◌, length, map, if◌then◌else◌}
-use Rattle.std.specs.List.{range_with_len, sum_by}
-use lib.ListN.{get_elem?}
-use mathlib.Core.Option.{some}
-use Rattle.plan_model.specs.Runs.ClosedLaw.{mark_at}
-use Rattle.plan_model.specs.Scenes.MarkPoints.{quota_of, is_claimed}
-use Rattle.plan_model.specs.declared.limits.TheConstants.{MOST_WORKERS}
-use Rattle.plan_model.specs.declared.records.Record.{Record}
-use Rattle.plan_model.specs.Runs.Turns.{AreTurns, is_of_worker, once_if, turns_of}
-use Rattle.plan_model.specs.Runs.OrderLaw.{Hangs, KeepsFirstCosts, KeepsOrder, most_cost_of}
-use Rattle.plan_model.specs.Trees.BestNode.{IsGoalNode}
-use Rattle.plan_model.specs.Trees.PointsByNumber.{IsPresent, node_count}
-use Rattle.plan_model.specs.Runs.RecordLaw.{IsLawfulRecord, first_cost_through}
-use Rattle.plan_model.specs.Seen.SeenParents.{AreSeenLawfully}
-use Rattle.plan_model.specs.Trees.TreeStates.{TreeState}
-use Rattle.plan_model.specs.Seen.Ways.{FollowWays}
-use Rattle.grown_runs.specs.Runs.GrownWords.{IsWritten, children_of_words, has_node, is_linked, record_at}
+use Rattle.std.specs.Prelude.{◌≡◌, ◌≢◌, ℕ, suc, ◌+◌, ◌<◌, ◌≤◌, ◌==◌, ◌^◌, ◌⊎◌, nat_lt, max, Bool, true, false, is_some, Some, None, List, ◌∷◌, if◌then◌else◌}
+use Rattle.step_core.specs.Terms.{AreBehind, AreSeenLawfully, AreTurns, Best, ChildOf, Count, Counter, FirstOf, FitsWord, FollowWays, Hand, Hangs}
+use Rattle.step_core.specs.Terms.{HaveWholePairs, IsGoalNode, IsLawfulRecord, IsPresent, IsWritten, KeepsFirstCosts, KeepsOrder, MOST_WORKERS, Member}
+use Rattle.step_core.specs.Terms.{PointOf, Posted, Record, RecordOf, SharedRun, Stage, TreeOf, TreeState, View, Word, Words, [], best_cost_in, best_node_in}
+use Rattle.step_core.specs.Terms.{best_word, children_of_words, cost_in, first_cost_through, get_elem?, has_node, is_claimed, is_linked, is_of_worker, length}
+use Rattle.step_core.specs.Terms.{map, mark_at, most_cost_of, no_best, node_count, once_if, point_word, quota_of, range_with_len, record_at, record_word}
+use Rattle.step_core.specs.Terms.{some, sum_by, tree_word, turns_of}
 use Rattle.step_core.specs.Notes.{Empties, Notes}
 use Rattle.step_core.specs.SeenBests.{IsAtMostPlaced}
-use Rattle.step_core.specs.SharedWords.{linked_points, state_of_links}
-use Rattle.step_core.specs.Stages.{has_count, has_first, has_link, has_point, has_tree, holds_at}
+use Rattle.step_core.specs.Stages.{linked_points, state_of_links, has_count, has_first, has_link, has_point, has_tree, holds_at}
 use Rattle.step_core.specs.ViewSteps.{pair_in_hand}
 use Rattle.step_core.specs.ViewTrees.{SeesTree}
 use Rattle.step_core.specs.Views.{IsSharedRun, IsViewOf, holds, run_sizes, sees, setup_in, share, spent, times, took_over, tree_seen}
-use Rattle.grown_runs.specs.Table.WordKinds.{AreBehind, HaveWholePairs}
-use Rattle.grown_runs.specs.Table.WordNames.{Word, Words}
-use Rattle.grown_runs.specs.Table.Words.{FitsWord, best_cost_in, best_node_in, best_word, cost_in, no_best, point_word, record_word, tree_word}
-use Rattle.grown_runs.specs.Table.WordNames.Word.{Best, ChildOf, Count, Counter, FirstOf, PointOf, RecordOf, TreeOf}
-use Rattle.step_core.specs.declared.views.Hand.{Hand}
-use Rattle.step_core.specs.declared.views.Member.{Member}
-use Rattle.step_core.specs.declared.views.SharedRun.{SharedRun}
-use Rattle.step_core.specs.declared.views.Stage.{Stage}
-use Rattle.step_core.specs.declared.views.Stage.TheVariants.{Posted}
-use Rattle.step_core.specs.declared.views.View.{View}
 
 -- ---- all views
 

@@ -1,11 +1,10 @@
 //! Laws of what workers have seen of a run in words, each the contract of a function that does nothing.
 
-ghost use Rattle.plan_model.specs.Seen.SeenTrees.{HasSeenAtLeast, IsRooted, IsTrueOf};
+ghost use Rattle.plan_model.specs.Seen.SeenTrees.{HasSeenAtLeast, IsRooted, IsTrueOf, FollowWays};
 ghost use Rattle.plan_model.specs.Seen.Sights.{IsLaterMoment};
-ghost use Rattle.plan_model.specs.Seen.Ways.{FollowWays};
 ghost use Rattle.grown_runs.specs.Runs.GrownWords.{children_of_words};
 ghost use Rattle.grown_runs.specs.Table.SeenWords.{LooksAt, MayLookAt, SeenWords, seen_tree_of_words, sight_of_words};
-ghost use Rattle.step_core.specs.SharedWords.{linked_points, shared_tree_of_words};
+ghost use Rattle.step_core.specs.Stages.{linked_points, shared_tree_of_words};
 ghost use Rattle.grown_runs.specs.Table.WordKinds.{AreBehind};
 ghost use Rattle.grown_runs.specs.Table.WordNames.{Word, Words};
 ghost use Rattle.grown_runs.specs.Table.WordPlaces.{Sizes};

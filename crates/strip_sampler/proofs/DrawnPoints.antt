@@ -6,9 +6,8 @@ use Rattle.std.proofs.lemmas.List.Elements.{All-map}
 use Rattle.plan_model.specs.declared.geometry.Point.{Point}
 use Rattle.plan_model.specs.declared.scenes.Scene.{Scene}
 use Rattle.plan_model.specs.declared.scenes.Marks.TheVariants.{Drawn}
-use Rattle.plan_model.specs.Spaces.ConfigurationSpace.{space_of}
+use Rattle.plan_model.specs.Spaces.ConfigurationSpace.{space_of, InRoom, at_lattice}
 use Rattle.plan_model.specs.Scenes.MarkPoints.{BodyFits, drawn_mark, points_of_marks}
-use Rattle.plan_model.specs.Spaces.RoomOfConfigurations.{InRoom, at_lattice}
 use Rattle.plan_model.proofs.DrawnMarks.{drawn_mark-in_room}
 
 pub All-drawn_in_room :

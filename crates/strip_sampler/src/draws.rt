@@ -1,8 +1,7 @@
 //! How one mark is drawn.
 
 ghost use Rattle.std.specs.Prelude.{◌≡◌, ◌+◌, ◌%◌, ◌^◌, ◌≤◌};
-ghost use Rattle.plan_model.specs.Scenes.MarkPoints.{drawn_mark, first_word, picked, second_word};
-ghost use Rattle.plan_model.specs.Scenes.SpansOfRooms.{AreSpansOf};
+ghost use Rattle.plan_model.specs.Scenes.MarkPoints.{drawn_mark, first_word, picked, second_word, AreSpansOf};
 ghost use Rattle.plan_model.specs.declared.limits.TheConstants.{MOST_COORDINATE};
 
 use crate::strips::columns_of_strip;

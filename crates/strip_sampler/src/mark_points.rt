@@ -1,9 +1,8 @@
 //! The mark points of a scene.
 
 ghost use Rattle.std.specs.Prelude.{◌≡◌, ℕ, All, IfOk};
-ghost use Rattle.plan_model.specs.Spaces.ConfigurationSpace.{space_of};
+ghost use Rattle.plan_model.specs.Spaces.ConfigurationSpace.{space_of, InRoom, at_lattice};
 ghost use Rattle.plan_model.specs.Scenes.MarkPoints.{BodyFits, mark_points, points_of_marks};
-ghost use Rattle.plan_model.specs.Spaces.RoomOfConfigurations.{InRoom, at_lattice};
 ghost use Rattle.plan_model.specs.declared.scenes.Marks.TheVariants.{Drawn};
 
 use crate::draws::drawn;

@@ -8,18 +8,12 @@ pub use Rattle.plan_model.proofs.SceneBounds.{IsBounded-room, clearance-counted,
 pub use Rattle.plan_model.proofs.SegmentLaws.{Clear-first, Clear-last, part_and_rest}
 pub use Rattle.plan_model.proofs.SpanLaws.{InRoom-from_spans, IsInSpans-from_in_room}
 pub use Rattle.plan_model.proofs.Tests.{true_at}
-pub use Rattle.plan_model.specs.Geometry.Bounds.{IsBounded}
-pub use Rattle.plan_model.specs.Geometry.Convexity.{corner_at, next_corner}
-pub use Rattle.plan_model.specs.Geometry.Plane.{orientation}
+pub use Rattle.plan_model.specs.Geometry.Plane.{IsBounded, corner_at, next_corner, orientation}
 pub use Rattle.plan_model.specs.Scenes.Limits.{are_obstacles, is_corner_between, is_obstacle}
-pub use Rattle.plan_model.specs.Scenes.MarkPoints.{IsInSpan}
-pub use Rattle.plan_model.specs.Scenes.SpansOfRooms.{AreSpansOf}
+pub use Rattle.plan_model.specs.Scenes.MarkPoints.{AreSpansOf, IsInSpan}
 pub use Rattle.plan_model.specs.Spaces.Clearance.{Clear, on_the_way}
-pub use Rattle.plan_model.specs.Spaces.ConfigurationSpace.{space_of}
-pub use Rattle.plan_model.specs.Spaces.HalfPlanes.{IsInside, side_of}
-pub use Rattle.plan_model.specs.Spaces.Meeting.{Meets}
-pub use Rattle.plan_model.specs.Spaces.RoomOfConfigurations.{InRoom, at_lattice}
-pub use Rattle.plan_model.specs.Spaces.Zones.{IsZoneOf}
+pub use Rattle.plan_model.specs.Spaces.ConfigurationSpace.{InRoom, at_lattice, space_of}
+pub use Rattle.plan_model.specs.Spaces.Zones.{IsInside, IsZoneOf, Meets, side_of}
 pub use Rattle.plan_model.specs.declared.configuration_spaces.ConfigurationSpace.{ConfigurationSpace}
 pub use Rattle.plan_model.specs.declared.geometry.Point.{Point}
 pub use Rattle.plan_model.specs.declared.geometry.Vertex.{Vertex}
@@ -35,7 +29,5 @@ pub use Rattle.std.proofs.lemmas.List.{get_or_append_left, get_or_default, get_o
 pub use Rattle.std.proofs.lemmas.List.Elements.{All-from_get_or, All-get_or}
 pub use Rattle.std.specs.List.{list_all}
 pub use Rattle.std.specs.Prelude.{IsTrue, int_le, max, min, negsuc, pos, unsigned_abs, ℤ, ◌*ℤ◌, ◌+ℤ◌, ◌-ℤ◌, ◌<ℤ◌, ◌↔◌, ◌≤ℤ◌}
-pub use Rattle.swept_check.specs.Clipping.{IsAdmitted, IsBetweenFractions, value_at}
-pub use Rattle.swept_check.specs.Crossings.{Crosses}
-pub use Rattle.swept_check.specs.Halls.{AreZonesOf}
+pub use Rattle.swept_check.specs.Crossings.{AreZonesOf, Crosses, IsAdmitted, IsBetweenFractions, value_at}
 pub use Rattle.swept_check.specs.declared.fractions.Fraction.{Fraction}

@@ -1,3 +1,1 @@
-pub mod Clipping
 pub mod Crossings
-pub mod Halls

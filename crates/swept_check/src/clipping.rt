@@ -1,10 +1,9 @@
 //! Clipping a segment against the half-planes of a polygon.
 
 ghost use Rattle.std.specs.Prelude.{◌↔◌, ℕ, ◌<◌, ◌≤◌, pos, IsTrue, MatchOption, length};
-ghost use Rattle.convex_sets.specs.Bounds.{AreBoundedCorners};
-ghost use Rattle.plan_model.specs.Geometry.Bounds.{IsBounded};
-ghost use Rattle.swept_check.specs.Clipping.{IsBetweenFractions, IsAdmitted};
-ghost use Rattle.swept_check.specs.Crossings.{Crosses};
+ghost use Rattle.convex_sets.specs.Boxes.{AreBoundedCorners};
+ghost use Rattle.plan_model.specs.Geometry.Plane.{IsBounded};
+ghost use Rattle.swept_check.specs.Crossings.{IsBetweenFractions, IsAdmitted, Crosses};
 
 use crate::fractions::Fraction;
 use convex_sets::{corner_of, next_corner, orientation};

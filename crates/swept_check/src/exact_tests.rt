@@ -1,7 +1,7 @@
 //! The exact test of one zone, which is counted.
 
 ghost use Rattle.std.specs.Prelude.{◌≡◌, ◌↔◌, ◌+◌, IsTrue};
-ghost use Rattle.plan_model.specs.Geometry.Bounds.{IsBounded};
+ghost use Rattle.plan_model.specs.Geometry.Plane.{IsBounded};
 ghost use Rattle.swept_check.specs.Crossings.{Crosses};
 
 use crate::clipping::crosses_polygon;

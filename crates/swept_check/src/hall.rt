@@ -1,8 +1,7 @@
 //! The exact collision checker of a scene.
 
 ghost use Rattle.std.specs.Prelude.{◌≡◌, ◌↔◌, IfOk, IsTrue};
-ghost use Rattle.plan_model.specs.Spaces.ConfigurationSpace.{space_of};
-ghost use Rattle.plan_model.specs.Spaces.RoomOfConfigurations.{InRoom, at_lattice};
+ghost use Rattle.plan_model.specs.Spaces.ConfigurationSpace.{space_of, InRoom, at_lattice};
 
 use crate::clearing::Clearing;
 use crate::zone_crossings::crosses_no_zone;
@@ -35,8 +34,8 @@ pub struct Hall {
 impl Model for Hall {
     ghost use Rattle.plan_model.specs.declared.configuration_spaces.ConfigurationSpace.{ConfigurationSpace};
     ghost use Rattle.plan_model.specs.declared.limits.TheConstants.{MOST_COORDINATE};
-    ghost use Rattle.swept_check.specs.Halls.{AreZonesOf};
-    ghost use Rattle.plan_model.specs.Scenes.SpansOfRooms.{AreSpansOf};
+    ghost use Rattle.swept_check.specs.Crossings.{AreZonesOf};
+    ghost use Rattle.plan_model.specs.Scenes.MarkPoints.{AreSpansOf};
     ghost use Rattle.std.specs.Prelude.{◌≤◌};
 
     ghost Value = { ConfigurationSpace };
@@ -52,9 +51,9 @@ impl Model for Hall {
 }
 
 impl Hall {
-    ghost use Rattle.plan_model.specs.Geometry.Bounds.{IsBounded};
+    ghost use Rattle.plan_model.specs.Geometry.Plane.{IsBounded};
     ghost use Rattle.plan_model.specs.Spaces.Clearance.{ClearAt};
-    ghost use Rattle.swept_check.specs.Halls.{AreZonesOf};
+    ghost use Rattle.swept_check.specs.Crossings.{AreZonesOf};
 
     /// The collision checker of a scene's room, body, obstacles and clearance; without an obstacle the walls alone count.
     /// O(n) for n corners in all of the zones.

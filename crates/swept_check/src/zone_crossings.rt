@@ -1,7 +1,7 @@
 //! Whether a segment crosses zones, by their bounding boxes first.
 
 ghost use Rattle.std.specs.Prelude.{◌≡◌, ◌↔◌, All, IsTrue};
-ghost use Rattle.plan_model.specs.Geometry.Bounds.{IsBounded};
+ghost use Rattle.plan_model.specs.Geometry.Plane.{IsBounded};
 ghost use Rattle.convex_sets.specs.Boxes.{segment_box};
 ghost use Rattle.swept_check.specs.Crossings.{Crosses};
 

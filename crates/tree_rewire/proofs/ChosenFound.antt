@@ -6,7 +6,7 @@ use Rattle.tree_rewire.proofs.Words.{IsFirstLeast, IsNotAbove, IsOpenTo, IsPrese
 use Rattle.tree_rewire.proofs.Words.{cost_in, parent_in, tree_word, cost_in-tree_word, parent_in-tree_word, IsBounded-seen, IsLawfulView, tree_seen}
 use Rattle.tree_rewire.proofs.Words.{Contains-cases, numbers_of, weighed, GoesOn, Found, View, IsMeasured, IsWeighed, IsBlockedBelow, IsClearTo, IsNextOf}
 use Rattle.tree_rewire.proofs.Words.{IsNextWord, IsOpenWord, word_through, IsBestParentSeen, NamesNothing, SeesAnew, SeesPair, seen_cost_through, SeesKnot}
-use Rattle.plan_model.specs.Geometry.Roots.{root_ceiling}
+use Rattle.plan_model.specs.Geometry.Lengths.{root_ceiling}
 use Rattle.tree_rewire.proofs.ChosenParents.{points_later, take_read}
 use Rattle.tree_rewire.proofs.CostSteps.{seen_cost_through-same}
 use Rattle.tree_rewire.proofs.FoundLists.{Contains-image, Contains-source}

@@ -4,7 +4,7 @@ pub use Rattle.edge_cost.specs.declared.parents.Parent.{Parent}
 pub use Rattle.grown_runs.proofs.Common.{AreDistinct, AreTight, AreTight-sums, Best, ChildOf, Clear, ConfigurationSpace, Contains-after, Contains-filter}
 pub use Rattle.grown_runs.proofs.Common.{Contains-first, CostsFall, CostsFall-cheaper_parent, CostsFall-tight, Count, Counter, FirstOf, HasCheaperParent}
 pub use Rattle.grown_runs.proofs.Common.{IsAllowedEdge, IsBounded, IsCheaperThrough, IsFirstLeast, IsNotAbove, IsOpenTo, IsPresent, IsPresent-cheaper_parent}
-pub use Rattle.grown_runs.proofs.Common.{IsPresent-stands, KeepsOrder, KeepsOrder-falls, Nodes, Point, PointOf, RecordOf, Rewires, RewiresOne, Sizes}
+pub use Rattle.grown_runs.proofs.Common.{KeepsOrder, KeepsOrder-falls, Nodes, Point, PointOf, RecordOf, Rewires, RewiresOne, Sizes}
 pub use Rattle.grown_runs.proofs.Common.{StandsAt-present, StandsAt-unique, TreeOf, TreeState, Word, WritesWord, best_word, cost_in, cost_in-tree_word, cost_of}
 pub use Rattle.grown_runs.proofs.Common.{cost_of-swap, cost_through, edge_from, edge_of, if_written-set, parent_in, parent_in-tree_word, parent_kept}
 pub use Rattle.grown_runs.proofs.Common.{parent_new, parent_of, point_at, point_of, point_of-stands, point_of_word, points_of, points_of-cheaper_parent}
@@ -14,7 +14,7 @@ pub use Rattle.plan_words.proofs.Common.{HasLooked-refl, HasPostedGoals, HasPost
 pub use Rattle.plan_words.proofs.Common.{HasSeenParent, HasWholeShare, IsFound, IsLoweredChild, IsOn, KeepsOrPosts-trans, Lists, LooksOn, LowersChildren}
 pub use Rattle.plan_words.proofs.Common.{OnlyPosts, PassState, SearchLists, SeesAsBefore, SeesGoal-kept, SeesSamePoints, SharedState, at_hand, distinct_numbers}
 pub use Rattle.plan_words.proofs.Common.{eqb-swap, if_hand, is_dearer, numbers_of, same_numbers, some_hand, tree_words, weighed, with_lists, with_view}
-pub use Rattle.plan_words.specs.Parents.{IsPairIn}
+pub use Rattle.plan_words.specs.Nodes.{IsPairIn}
 pub use Rattle.plan_words.specs.States.{run_in}
 pub use Rattle.plan_words.specs.declared.spots.Found.{Found}
 pub use Rattle.std.proofs.Common.{Bool, Err, IsFalse, List, None, Ok, Option, Result, Some, [], ap, arith, cond, drop, false, inl, inr, is_some, length, map}
@@ -45,14 +45,12 @@ pub use Rattle.step_core.specs.declared.views.Stage.{Stage}
 pub use Rattle.step_core.specs.declared.views.Stage.TheVariants.{Claimed, Counted, Half, Linked, Pointed, Posted, Treed}
 pub use Rattle.step_core.specs.declared.views.View.{View}
 pub use Rattle.swept_check.proofs.BoundedSegments.{IsBounded-clear_in_scene}
-pub use Rattle.tree_rewire.specs.FoundNodes.{AreOf, IsMeasured, IsWeighed, with_found}
-pub use Rattle.tree_rewire.specs.Mirrors.{Mirrors}
-pub use Rattle.tree_rewire.specs.NearNodes.{AreKnown, AreMeasured, IsBlockedBelow, IsClearTo, IsNextOf, IsNextWord, IsOpenWord, nodes_on, weighed_on}
-pub use Rattle.tree_rewire.specs.NearNodes.{word_through}
-pub use Rattle.tree_rewire.specs.Rewirings.{CostsLess, HangsElsewhere, HasPlaced, HasSpreadFalls, IsInFall, IsShortcut}
+pub use Rattle.tree_rewire.specs.NearNodes.{AreKnown, AreMeasured, AreOf, IsBlockedBelow, IsClearTo, IsMeasured, IsNextOf, IsNextWord, IsOpenWord, IsWeighed}
+pub use Rattle.tree_rewire.specs.NearNodes.{nodes_on, weighed_on, with_found, word_through}
+pub use Rattle.tree_rewire.specs.Spreads.{AllTight, AllTightBut, CostsLess, HangsElsewhere, HasPlaced, HasSettledChanges, HasSpread, HasSpreadFalls, IsInFall}
+pub use Rattle.tree_rewire.specs.Spreads.{IsLooked, IsShortcut, IsSource, IsSpreading, IsTight, IsWithinParent, IsWithinSeenParent, KeepsParents, Mirrors}
+pub use Rattle.tree_rewire.specs.Spreads.{NoneRises, OnlyAt, QueuesFallen, SeesKnot, SpreadsFrom}
 pub use Rattle.tree_rewire.specs.SeenCosts.{IsBestParentSeen, IsInReach, IsLoadedSince, NamesLowered, NamesLoweredOrPoint, NamesNothing, NamesPoint}
 pub use Rattle.tree_rewire.specs.SeenCosts.{NamesTree, PassLowers, PassSees, SeesAnew, SeesPair, cost_seen, parent_seen, seen_cost_through}
-pub use Rattle.tree_rewire.specs.Spreads.{AllTight, AllTightBut, HasSettledChanges, HasSpread, IsLooked, IsSource, IsSpreading, IsTight, IsWithinParent}
-pub use Rattle.tree_rewire.specs.Spreads.{IsWithinSeenParent, KeepsParents, NoneRises, OnlyAt, QueuesFallen, SeesKnot, SpreadsFrom}
 pub use Rattle.tree_rewire.specs.declared.near_nodes.NearNodes.{NearNodes}
 pub use Rattle.tree_rewire.specs.declared.near_nodes.NearNodes.TheVariants.{Listed, Searched}

@@ -1,6 +1,4 @@
+pub mod Terms
 pub mod SeenCosts
 pub mod Spreads
-pub mod Rewirings
-pub mod Mirrors
-pub mod FoundNodes
 pub mod NearNodes

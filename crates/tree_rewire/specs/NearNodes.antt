@@ -1,19 +1,30 @@
--- The nodes near a new one, on whichever list of a pass they are, by number.
-use Rattle.std.specs.Prelude.{◌≡◌, ◌⊎◌, ℕ, ◌<◌, ◌≤◌, All, Contains, List}
-use Rattle.plan_model.specs.Spaces.Clearance.{Clear}
-use Rattle.plan_model.specs.declared.configuration_spaces.ConfigurationSpace.{ConfigurationSpace}
-use Rattle.plan_model.specs.declared.geometry.Point.{Point}
-use Rattle.plan_model.specs.Trees.PointsByNumber.{point_of}
-use Rattle.plan_words.specs.SearchLists.{numbers_of, weighed}
-use Rattle.plan_words.specs.States.{Lists}
-use Rattle.step_core.specs.Views.{tree_seen}
-use Rattle.grown_runs.specs.Table.Words.{tree_word}
-use Rattle.step_core.specs.declared.views.View.{View}
-use Rattle.tree_rewire.specs.FoundNodes.{IsMeasured, IsWeighed}
-use Rattle.tree_rewire.specs.SeenCosts.{seen_cost_through}
+-- Nodes that a search has found, as their records have them. The nodes near a new one, on whichever list of a pass they are, by number.
+use Rattle.std.specs.Prelude.{◌≡◌, ℕ, Contains, List, eqb, ◌⊎◌, ◌<◌, ◌≤◌, All}
+use Rattle.tree_rewire.specs.Terms.{Clear, ConfigurationSpace, Found, IsDistinct, IsPresent, Listed, Lists, NearNodes, PassState, Point, Searched, View}
+use Rattle.tree_rewire.specs.Terms.{cost_of, distance_to, numbers_of, point_of, tree_seen, tree_word, weighed}
+use Rattle.tree_rewire.specs.SeenCosts.{SeesPair, seen_cost_through}
 use Rattle.tree_rewire.specs.Spreads.{SeesKnot}
-use Rattle.tree_rewire.specs.declared.near_nodes.NearNodes.{NearNodes}
-use Rattle.tree_rewire.specs.declared.near_nodes.NearNodes.TheVariants.{Listed, Searched}
+
+-- the pass, with another view and with other records of what its search found
+abbrev pub with_found : PassState → View → List Found → PassState
+with_found pass view found = record pass { view = view; lists = record pass.lists { search = record pass.lists.search { found = found } } }
+
+-- The node is seen with its point, and its record has the square of its distance from p.
+pub record IsMeasured (view : View) (p : Point) (found : Found) : Type 0 where
+  pub present : IsPresent (tree_seen view).points found.node
+  pub distance : found.distance ≡ distance_to p (tree_seen view).points found.node
+
+-- The node is seen with its point and its cost, and its record has the cost of its edge to p.
+pub record IsWeighed (view : View) (p : Point) (found : Found) : Type 0 where
+  pub present : IsPresent (tree_seen view).points found.node
+  pub pair : SeesPair view found.node
+  pub edge : found.edge ≡ cost_of (point_of (tree_seen view).points found.node) p
+
+-- The records are of exactly these nodes, one of each.
+pub record AreOf (found : List Found) (near : List ℕ) : Type 0 where
+  pub once : IsDistinct eqb (numbers_of found)
+  pub all : (n : ℕ) → Contains near n → Contains (numbers_of found) n
+  pub only : (n : ℕ) → Contains (numbers_of found) n → Contains near n
 
 -- the nodes on the list
 abbrev pub nodes_on : NearNodes → Lists → List ℕ

@@ -1,21 +1,8 @@
 -- What a pass has seen of costs, and what calls that look at costs or lower them leave of it.
 use Rattle.std.specs.Prelude.{◌≡◌, ℕ, ◌*◌, ◌^◌, ◌<◌, ◌≤◌, List}
-use Rattle.edge_cost.specs.LeastParents.{IsLeastParent}
-use Rattle.edge_cost.specs.declared.parents.Parent.{Parent}
-use Rattle.plan_model.specs.declared.configuration_spaces.ConfigurationSpace.{ConfigurationSpace}
-use Rattle.plan_model.specs.declared.geometry.Point.{Point}
-use Rattle.plan_model.specs.Geometry.Plane.{squared_distance}
-use Rattle.plan_model.specs.Trees.NodeLists.{cost_through_by}
-use Rattle.plan_model.specs.Trees.OpenNodes.{IsOpenTo}
-use Rattle.plan_model.specs.Trees.PointsByNumber.{IsPresent, point_of}
-use Rattle.plan_words.specs.Bests.{KeepsOrPosts}
-use Rattle.plan_words.specs.States.{BelongsTo, GoesOn, PassState, SharedState, with_view}
-use Rattle.step_core.specs.LaterViews.{HasLooked}
-use Rattle.step_core.specs.Views.{last_look, sees, tree_seen}
-use Rattle.grown_runs.specs.Table.WordNames.{ChangesOnly, Word}
-use Rattle.grown_runs.specs.Table.WordNames.Word.{Best, PointOf, TreeOf}
-use Rattle.grown_runs.specs.Table.Words.{cost_in, parent_in}
-use Rattle.step_core.specs.declared.views.View.{View}
+use Rattle.tree_rewire.specs.Terms.{BelongsTo, Best, ChangesOnly, ConfigurationSpace, GoesOn, HasLooked, IsLeastParent, IsOpenTo, IsPresent, KeepsOrPosts}
+use Rattle.tree_rewire.specs.Terms.{Parent, PassState, Point, PointOf, SharedState, TreeOf, View, Word, cost_in, cost_through_by, last_look, parent_in}
+use Rattle.tree_rewire.specs.Terms.{point_of, sees, squared_distance, tree_seen, with_view}
 
 -- ---- costs
 

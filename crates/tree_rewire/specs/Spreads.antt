@@ -1,13 +1,8 @@
--- What is seen of a subtree after a cost was lowered: costs fall along parents, as far as the subtree was seen.
-use Rattle.std.specs.Prelude.{◌≡◌, ◌≢◌, ◌⊎◌, ℕ, ◌+◌, ◌<◌, ◌≤◌, length}
-use Rattle.plan_model.specs.Trees.PointsByNumber.{IsPresent, point_of}
-use Rattle.plan_words.specs.LoweredChildren.{HasQueued}
-use Rattle.plan_words.specs.States.{GoesOn, PassState}
-use Rattle.plan_words.specs.Waiting.{IsOn}
-use Rattle.step_core.specs.Views.{sees, tree_seen}
-use Rattle.grown_runs.specs.Table.WordNames.{ChangesOnly}
-use Rattle.grown_runs.specs.Table.WordNames.Word.{TreeOf}
-use Rattle.step_core.specs.declared.views.View.{View}
+-- What is seen of a subtree after a cost was lowered: costs fall along parents, as far as the subtree was seen. When near nodes may be rewired, and
+-- what is seen then of the nodes whose costs fell and of those below them. What a pass with the share of all workers sees: a tree of the textbook.
+use Rattle.std.specs.Prelude.{◌≡◌, ◌≢◌, ◌⊎◌, ℕ, ◌+◌, ◌<◌, ◌≤◌, length, suc, true}
+use Rattle.tree_rewire.specs.Terms.{ChangesOnly, Clear, ConfigurationSpace, FirstOf, GoesOn, Hand, HasQueued, IsOn, IsPresent, Nodes, PassState, SeesPoint}
+use Rattle.tree_rewire.specs.Terms.{TreeOf, View, has_count, pair_in_hand, parent_of, point_at, point_of, points_of, sees, sum_of, tree_seen}
 use Rattle.tree_rewire.specs.SeenCosts.{NamesTree, SeesPair, cost_seen, seen_cost_through, parent_seen}
 
 -- Node n and its parent are seen with their points, and it costs at most what it costs through its parent, as all this was seen last.
@@ -92,3 +87,44 @@ NoneRises before after = (n : ℕ) → cost_seen after n ≤ cost_seen before n
 abbrev pub QueuesFallen : PassState → PassState → Type 0
 QueuesFallen before after =
     (length after.lists.waiting ≤ length before.lists.waiting) ⊎ HasQueued before.view after.view after.lists.waiting (length before.view.run.marks + 1)
+
+-- The node of mark k is in this hand, linked and counted. It is seen at its point, with its first cost, and with its parent and its cost.
+pub record HasPlaced (view : View) (k : ℕ) (hand : Hand) : Type 0 where
+  pub mark : hand.mark ≡ k
+  pub counted : has_count hand.stage ≡ true
+  pub stands : SeesPoint view (suc k) hand.point
+  pub first : sees view (FirstOf (suc k)) ≡ pair_in_hand hand
+  pub pair : SeesPair view (suc k)
+
+-- node n is seen to cost less
+abbrev pub CostsLess : View → View → ℕ → Type 0
+CostsLess before after n = cost_seen after n < cost_seen before n
+
+-- Node n or its parent is seen to cost less, and both were seen with their costs before.
+pub record IsInFall (before after : View) (n : ℕ) : Type 0 where
+  pub pair : SeesPair before n
+  pub parent_pair : SeesPair before (parent_seen after n)
+  pub fell : CostsLess before after n ⊎ CostsLess before after (parent_seen after n)
+
+-- Node n was dearer than it is through node m, over a clear edge.
+pub record IsShortcut (space : ConfigurationSpace) (before after : View) (m n : ℕ) : Type 0 where
+  pub clear : Clear space (point_of (tree_seen before).points m) (point_of (tree_seen before).points n)
+  pub dearer : seen_cost_through after (point_of (tree_seen before).points n) m < cost_seen before n
+
+-- Node n is a near one to which this node is a shortcut, and it hangs elsewhere: another pass has lowered it.
+pub record HangsElsewhere (space : ConfigurationSpace) (near : ℕ → Type 0) (node : ℕ) (before after : View) (n : ℕ) : Type 0 where
+  pub listed : near n
+  pub shortcut : IsShortcut space before after node n
+  pub elsewhere : parent_seen after n ≢ node
+
+-- Each node in a fall is within its parent, unless it is a near node to which this node is a shortcut and which hangs elsewhere.
+abbrev pub HasSpreadFalls : ConfigurationSpace → (ℕ → Type 0) → ℕ → View → View → Type 0
+HasSpreadFalls space near node before after =
+    (n : ℕ) → IsInFall before after n → IsWithinParent after n ⊎ HangsElsewhere space near node before after n
+
+-- The nodes that the view sees are those of this tree, at the same points, with the same parents, and each costs its sum.
+pub record Mirrors (view : View) (tree : Nodes) : Type 0 where
+  pub points : (n : ℕ) → point_at (tree_seen view).points n ≡ point_at (points_of tree) n
+  pub written : (n : ℕ) → IsPresent (points_of tree) n → SeesPair view n
+  pub parents : (n : ℕ) → IsPresent (points_of tree) n → parent_seen view n ≡ parent_of tree n
+  pub costs : (n : ℕ) → IsPresent (points_of tree) n → cost_seen view n ≡ sum_of tree n

@@ -1,19 +1,18 @@
 //! The choice of a new node's parent.
 
 ghost use Rattle.std.specs.Prelude.{◌≡◌, ◌∷◌, All};
-ghost use Rattle.plan_model.specs.Geometry.Bounds.{IsBounded};
+ghost use Rattle.plan_model.specs.Geometry.Plane.{IsBounded};
 ghost use Rattle.plan_model.specs.Spaces.Clearance.{Clear};
 ghost use Rattle.plan_model.specs.Spaces.ConfigurationSpace.{space_of};
-ghost use Rattle.plan_model.specs.Trees.LeastPairs.{IsFirstLeast};
-ghost use Rattle.plan_model.specs.Trees.OpenNodes.{IsOpenTo};
-ghost use Rattle.plan_model.specs.Trees.PointsByNumber.{IsPresent, point_of};
+ghost use Rattle.plan_model.specs.Trees.Nearness.{IsFirstLeast};
+ghost use Rattle.plan_model.specs.Trees.BestNode.{IsOpenTo};
+ghost use Rattle.plan_model.specs.Trees.NodeLists.{IsPresent, point_of};
 ghost use Rattle.plan_words.specs.Claims.{SeesAsBefore};
 ghost use Rattle.plan_words.specs.SearchLists.{numbers_of, weighed};
 ghost use Rattle.plan_words.specs.States.{BelongsTo, HasWholeShare, with_lists, with_view};
 ghost use Rattle.step_core.specs.ViewTrees.{IsCostBelow};
 ghost use Rattle.step_core.specs.Views.{tree_seen};
-ghost use Rattle.tree_rewire.specs.FoundNodes.{IsMeasured, with_found};
-ghost use Rattle.tree_rewire.specs.NearNodes.{AreMeasured, nodes_on, weighed_on};
+ghost use Rattle.tree_rewire.specs.NearNodes.{IsMeasured, with_found, AreMeasured, nodes_on, weighed_on};
 ghost use Rattle.tree_rewire.specs.SeenCosts.{IsBestParentSeen, IsInReach, IsLoadedSince, NamesTree, PassSees, SeesAnew, SeesPair, seen_cost_through};
 
 use crate::near_nodes::NearNodes;

@@ -2,13 +2,12 @@
 
 ghost use Rattle.std.specs.Prelude.{◌≡◌, ℕ, ◌+◌, ◌<◌, ◌≤◌, Contains, List};
 ghost use Rattle.plan_model.specs.declared.configuration_spaces.ConfigurationSpace.{ConfigurationSpace};
-ghost use Rattle.plan_model.specs.Geometry.Cost.{cost_of};
-ghost use Rattle.plan_model.specs.Trees.PointsByNumber.{point_of};
+ghost use Rattle.plan_model.specs.Geometry.Lengths.{cost_of};
+ghost use Rattle.plan_model.specs.Trees.NodeLists.{point_of};
 ghost use Rattle.step_core.specs.Views.{tree_seen};
 ghost use Rattle.step_core.specs.declared.views.View.{View};
-ghost use Rattle.tree_rewire.specs.Rewirings.{CostsLess, HasSpreadFalls, IsShortcut};
+ghost use Rattle.tree_rewire.specs.Spreads.{CostsLess, HasSpreadFalls, IsShortcut, HasSpread};
 ghost use Rattle.tree_rewire.specs.SeenCosts.{SeesPair, cost_seen, seen_cost_through, parent_seen};
-ghost use Rattle.tree_rewire.specs.Spreads.{HasSpread};
 
 /// After a spread from a node, its children cost no more than through it, and a grandchild below a child whose cost fell no more
 /// than over both edges.

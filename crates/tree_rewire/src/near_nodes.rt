@@ -1,14 +1,13 @@
 //! The nodes near a new one, on whichever list of a pass they are.
 
 ghost use Rattle.std.specs.Prelude.{◌≡◌, ◌^◌, ◌<◌, All, Some, length, slice_get};
-ghost use Rattle.plan_model.specs.Geometry.Bounds.{IsBounded};
-ghost use Rattle.plan_model.specs.Geometry.Cost.{cost_of};
-ghost use Rattle.plan_model.specs.Trees.PointsByNumber.{point_of};
+ghost use Rattle.plan_model.specs.Geometry.Plane.{IsBounded};
+ghost use Rattle.plan_model.specs.Geometry.Lengths.{cost_of};
+ghost use Rattle.plan_model.specs.Trees.NodeLists.{point_of};
 ghost use Rattle.plan_words.specs.SearchLists.{weighed};
 ghost use Rattle.plan_words.specs.States.{BelongsTo, with_lists};
 ghost use Rattle.step_core.specs.Views.{tree_seen};
-ghost use Rattle.tree_rewire.specs.FoundNodes.{with_found};
-ghost use Rattle.tree_rewire.specs.NearNodes.{AreKnown, AreMeasured, nodes_on, weighed_on};
+ghost use Rattle.tree_rewire.specs.NearNodes.{with_found, AreKnown, AreMeasured, nodes_on, weighed_on};
 ghost use Rattle.tree_rewire.specs.SeenCosts.{NamesNothing, PassSees};
 
 use edge_cost::{cost, cost_of_square};

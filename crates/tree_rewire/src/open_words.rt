@@ -1,8 +1,8 @@
 //! The words of a new node's pairs of parent and cost, and the least of them with a clear edge.
 
 ghost use Rattle.std.specs.Prelude.{◌≡◌, ◌∷◌, ◌⊎◌, ℕ, ◌≢◌, ◌<◌, ◌≤◌, Contains, IsFalse, IsTrue, map};
-ghost use Rattle.plan_model.specs.Geometry.Bounds.{IsBounded};
-ghost use Rattle.plan_model.specs.Trees.PointsByNumber.{IsPresent};
+ghost use Rattle.plan_model.specs.Geometry.Plane.{IsBounded};
+ghost use Rattle.plan_model.specs.Trees.NodeLists.{IsPresent};
 ghost use Rattle.plan_words.specs.States.{BelongsTo};
 ghost use Rattle.step_core.specs.Views.{tree_seen};
 ghost use Rattle.grown_runs.specs.Table.Words.{parent_in};

@@ -2,14 +2,14 @@
 
 ghost use Rattle.std.specs.Prelude.{◌≡◌, ◌≢◌, ℕ, suc, ◌+◌, ◌<◌, ◌≤◌, All, Contains, IfSome, IsSome, List};
 ghost use Rattle.std.specs.List.Sorted.{IsStrictlyIncreasing};
-ghost use Rattle.plan_model.specs.Geometry.Bounds.{IsBounded};
+ghost use Rattle.plan_model.specs.Geometry.Plane.{IsBounded};
 ghost use Rattle.plan_model.specs.Spaces.Clearance.{Clear};
 ghost use Rattle.plan_model.specs.Spaces.ConfigurationSpace.{space_of};
-ghost use Rattle.plan_model.specs.Geometry.Cost.{cost_of};
+ghost use Rattle.plan_model.specs.Geometry.Lengths.{cost_of};
 ghost use Rattle.plan_model.specs.Runs.OrderLaw.{IsAllowedEdge};
-ghost use Rattle.plan_model.specs.Trees.PointsByNumber.{IsPresent, point_of};
+ghost use Rattle.plan_model.specs.Trees.NodeLists.{IsPresent, point_of};
 ghost use Rattle.plan_model.specs.Runs.Textbook.{Nodes, Rewires, RewiresOne};
-ghost use Rattle.plan_words.specs.Bests.{HasPostedGoals};
+ghost use Rattle.plan_words.specs.Nodes.{HasPostedGoals};
 ghost use Rattle.plan_words.specs.Claims.{SeesAsBefore};
 ghost use Rattle.plan_words.specs.SearchLists.{numbers_of};
 ghost use Rattle.plan_words.specs.States.{BelongsTo, HasWholeShare};
@@ -18,12 +18,9 @@ ghost use Rattle.step_core.specs.Views.{sees, setup_in, share, tree_seen};
 ghost use Rattle.grown_runs.specs.Table.WordNames.{WritesWord};
 ghost use Rattle.grown_runs.specs.Table.WordNames.Word.{TreeOf};
 ghost use Rattle.grown_runs.specs.Table.Words.{tree_word};
-ghost use Rattle.tree_rewire.specs.FoundNodes.{AreOf, IsWeighed};
-ghost use Rattle.tree_rewire.specs.Mirrors.{Mirrors};
-ghost use Rattle.tree_rewire.specs.NearNodes.{nodes_on};
-ghost use Rattle.tree_rewire.specs.Rewirings.{HasPlaced, HasSpreadFalls};
+ghost use Rattle.tree_rewire.specs.NearNodes.{AreOf, IsWeighed, nodes_on};
+ghost use Rattle.tree_rewire.specs.Spreads.{Mirrors, HasPlaced, HasSpreadFalls, OnlyAt};
 ghost use Rattle.tree_rewire.specs.SeenCosts.{IsInReach, NamesLowered, NamesLoweredOrPoint, NamesTree, PassLowers, PassSees, SeesAnew, SeesPair, cost_seen};
-ghost use Rattle.tree_rewire.specs.Spreads.{OnlyAt};
 
 use crate::near_nodes::NearNodes;
 use crate::seen_costs::seen_cost;

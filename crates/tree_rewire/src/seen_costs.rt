@@ -1,7 +1,7 @@
 //! What a pass saw of costs last.
 
 ghost use Rattle.std.specs.Prelude.{◌≡◌};
-ghost use Rattle.step_core.specs.LaterViews.{IsLawfulView};
+ghost use Rattle.step_core.specs.Histories.{IsLawfulView};
 ghost use Rattle.tree_rewire.specs.SeenCosts.{SeesPair, cost_seen};
 
 use plan_words::Pass;

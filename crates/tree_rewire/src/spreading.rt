@@ -1,14 +1,14 @@
 //! A lowered cost comes to the subtree of its node.
 
 ghost use Rattle.std.specs.Prelude.{◌≡◌, ◌<◌, IfNone, IfSome};
-ghost use Rattle.plan_words.specs.Bests.{HasPostedGoals};
+ghost use Rattle.plan_words.specs.Nodes.{HasPostedGoals};
 ghost use Rattle.plan_words.specs.Claims.{SeesAsBefore};
 ghost use Rattle.plan_words.specs.States.{BelongsTo, HasWholeShare};
 ghost use Rattle.step_core.specs.ViewTrees.{MayLower};
 ghost use Rattle.step_core.specs.Views.{share};
 ghost use Rattle.tree_rewire.specs.SeenCosts.{NamesPoint, NamesLoweredOrPoint, PassLowers, PassSees, SeesAnew, SeesPair, parent_seen};
-ghost use Rattle.tree_rewire.specs.Spreads.{AllTight, AllTightBut, HasSettledChanges, HasSpread, IsWithinSeenParent, KeepsParents};
-ghost use Rattle.tree_rewire.specs.Spreads.{NoneRises, OnlyAt, QueuesFallen, SpreadsFrom};
+ghost use Rattle.tree_rewire.specs.Spreads.{AllTight, AllTightBut, HasSettledChanges, HasSpread, IsWithinSeenParent, KeepsParents, NoneRises, OnlyAt};
+ghost use Rattle.tree_rewire.specs.Spreads.{QueuesFallen, SpreadsFrom};
 
 use edge_cost::{Parent, cost, costs_less_through};
 use plan_words::{Pass, Shared};

@@ -7,8 +7,7 @@ pub use Rattle.grown_runs.proofs.Common.{most_side, node-held, point_of, point_o
 pub use Rattle.grown_runs.proofs.Common.{squared_distance-swap, state_of_grown, sum_in, sum_in-parent, true_at, with_ends, words_of_grown}
 pub use Rattle.grown_runs.specs.declared.grown.Grown.{Grown}
 pub use Rattle.plan_work.proofs.TextbookEnds.{IsOfTextbook-new, IsOfTextbookRun-whole}
-pub use Rattle.point_bands.specs.Discs.{IsWithin}
-pub use Rattle.point_bands.specs.Walks.{HasNoneBetween, nowhere, numbered_at}
+pub use Rattle.point_bands.specs.Walks.{HasNoneBetween, IsWithin, nowhere, numbered_at}
 pub use Rattle.point_bands.specs.declared.bands.Numbered.{Numbered}
 pub use Rattle.std.proofs.Common.{All, Bool, Contains, List, None, Option, Some, [], ap, arith, false, inl, inr, le-leb, leb-true, length, not, refl, subst}
 pub use Rattle.std.proofs.Common.{suc, sym, true, zero, ℕ, ◌&&◌, ◌*◌, ◌++◌, ◌+◌, ◌<◌, ◌∙◌, ◌∷◌, ◌≡◌, ◌≤◌}
@@ -21,10 +20,7 @@ pub use Rattle.std.specs.Int.{abs_diff}
 pub use Rattle.std.specs.List.{list_all}
 pub use Rattle.std.specs.List.Sorted.{IsPermutation}
 pub use Rattle.std.specs.Prelude.{IfSome, IsTrue, if◌then◌else◌, is_some, nat_le, ◌-◌, ◌==◌}
-pub use Rattle.twin_trees.specs.BridgeOrder.{IsMatched, IsNoWorse}
-pub use Rattle.twin_trees.specs.BridgeSearches.{AreNodes, IsMember, Matches, MatchesIn, MayBeBest, MayBeBestIn}
-pub use Rattle.twin_trees.specs.Bridges.{IsBridge, IsCandidate, IsTripleNotAbove, cost_over}
-pub use Rattle.twin_trees.specs.TurnedScenes.{IsTurnedRound, box_of, first_goal, goal_middle, start_boxes}
-pub use Rattle.twin_trees.specs.Twins.{IsTurnedRun, IsTwin, IsWholeRun}
+pub use Rattle.twin_trees.specs.Twins.{AreNodes, IsBridge, IsCandidate, IsMatched, IsMember, IsNoWorse, IsTripleNotAbove, IsTurnedRound, IsTurnedRun, IsTwin}
+pub use Rattle.twin_trees.specs.Twins.{IsWholeRun, Matches, MatchesIn, MayBeBest, MayBeBestIn, box_of, cost_over, first_goal, goal_middle, start_boxes}
 pub use Rattle.twin_trees.specs.declared.bridges.Bridge.{Bridge}
 pub use Rattle.twin_trees.specs.declared.twin_runs.Twin.{Twin}

@@ -1,6 +1,2 @@
-pub mod Bridges
-pub mod TurnedScenes
+pub mod Terms
 pub mod Twins
-pub mod TwinReports
-pub mod BridgeOrder
-pub mod BridgeSearches

@@ -3,7 +3,7 @@
 ghost use Rattle.std.specs.Prelude.{◌≡◌, ℕ, Option};
 ghost use Rattle.plan_model.specs.Runs.Textbook.{Setup};
 ghost use Rattle.plan_model.specs.Trees.TreeStates.{TreeState};
-ghost use Rattle.twin_trees.specs.Bridges.{IsBridge};
+ghost use Rattle.twin_trees.specs.Twins.{IsBridge};
 
 /// There is one bridge between two trees, or none.
 pub fn bridges_are_unique()

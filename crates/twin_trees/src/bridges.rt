@@ -1,9 +1,9 @@
 //! A bridge, and the order of bridges.
 
 ghost use Rattle.std.specs.Prelude.{◌≡◌, ◌+◌, ◌<◌, ◌≤◌, ◌^◌, ◌⊎◌, IfSome, IsFalse, IsTrue, Some};
-ghost use Rattle.plan_model.specs.Geometry.Bounds.{IsBounded};
-ghost use Rattle.plan_model.specs.Geometry.Cost.{cost_of};
-ghost use Rattle.twin_trees.specs.BridgeOrder.{IsMatched, IsNoWorse};
+ghost use Rattle.plan_model.specs.Geometry.Plane.{IsBounded};
+ghost use Rattle.plan_model.specs.Geometry.Lengths.{cost_of};
+ghost use Rattle.twin_trees.specs.Twins.{IsMatched, IsNoWorse};
 
 use edge_cost::costs_less_through;
 use point_bands::Numbered;

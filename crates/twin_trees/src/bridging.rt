@@ -7,14 +7,11 @@
 ghost use Rattle.std.specs.Prelude.{◌≡◌, ℕ, ◌<◌, ◌≤◌, ◌*◌, ◌^◌, IfOk, IsTrue, length};
 ghost use Rattle.plan_model.specs.Runs.Textbook.{setup_of};
 ghost use Rattle.plan_model.specs.Spaces.ConfigurationSpace.{space_of};
-ghost use Rattle.plan_model.specs.Trees.PointsByNumber.{StandsAt};
+ghost use Rattle.plan_model.specs.Trees.NodeLists.{StandsAt};
 ghost use Rattle.plan_model.specs.Trees.TreeStates.{IsSettled};
-ghost use Rattle.point_bands.specs.Discs.{IsWithin};
-ghost use Rattle.point_bands.specs.Walks.{numbered_at};
+ghost use Rattle.point_bands.specs.Walks.{IsWithin, numbered_at};
 ghost use Rattle.grown_runs.specs.Runs.GrownRuns.{state_of_grown};
-ghost use Rattle.twin_trees.specs.BridgeOrder.{IsNoWorse};
-ghost use Rattle.twin_trees.specs.BridgeSearches.{AreNodes, MatchesIn, MayBeBestIn};
-ghost use Rattle.twin_trees.specs.Bridges.{IsBridge};
+ghost use Rattle.twin_trees.specs.Twins.{IsNoWorse, AreNodes, MatchesIn, MayBeBestIn, IsBridge};
 
 use crate::bridges::{Bridge, so_far_is_beaten};
 use crate::nodes::bands_of;

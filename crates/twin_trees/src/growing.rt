@@ -4,8 +4,7 @@ ghost use Rattle.std.specs.Prelude.{◌≡◌, ◌≤◌, Err, IfOk};
 ghost use Rattle.plan_model.specs.Spaces.Clearance.{ClearAt};
 ghost use Rattle.plan_model.specs.Spaces.ConfigurationSpace.{space_of};
 ghost use Rattle.plan_model.specs.declared.limits.TheConstants.{MOST_WORKERS};
-ghost use Rattle.twin_trees.specs.TurnedScenes.{goal_middle};
-ghost use Rattle.twin_trees.specs.Twins.{IsTurnedRun, IsTwin, IsWholeRun};
+ghost use Rattle.twin_trees.specs.Twins.{goal_middle, IsTurnedRun, IsTwin, IsWholeRun};
 
 use crate::bridging::least_bridge;
 use crate::turned_scenes::{middle_of_first_goal, turned_task};

@@ -1,9 +1,9 @@
 //! The nodes of a run as numbered points, in bands.
 
 ghost use Rattle.std.specs.Prelude.{All, IfOk};
-ghost use Rattle.plan_model.specs.Geometry.Bounds.{IsBounded};
+ghost use Rattle.plan_model.specs.Geometry.Plane.{IsBounded};
 ghost use Rattle.grown_runs.specs.Runs.GrownRuns.{state_of_grown};
-ghost use Rattle.twin_trees.specs.BridgeSearches.{AreNodes};
+ghost use Rattle.twin_trees.specs.Twins.{AreNodes};
 
 use plan_model::Memory;
 use point_bands::{Bands, Numbered};

@@ -1,11 +1,10 @@
 //! The report of two trees as text: the path over the bridge, and the counts of each.
 
 ghost use Rattle.std.specs.Prelude.{◌≡◌, ◌++◌, IfOk, IfSome, OnOk, string_bytes};
-ghost use Rattle.plan_model.specs.Trees.PointsByNumber.{IsPresent};
+ghost use Rattle.plan_model.specs.Trees.NodeLists.{IsPresent};
 ghost use Rattle.plan_model.specs.Trees.TreeStates.{IsSettled};
 ghost use Rattle.grown_runs.specs.Runs.GrownRuns.{state_of_grown};
-ghost use Rattle.twin_trees.specs.Bridges.{cost_over};
-ghost use Rattle.twin_trees.specs.TwinReports.{bridge_lines, joined_path, twin_text, path_after};
+ghost use Rattle.twin_trees.specs.Twins.{cost_over, bridge_lines, joined_path, twin_text, path_after};
 
 use crate::twin_runs::Twin;
 use edge_cost::cost;

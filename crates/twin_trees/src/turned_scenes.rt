@@ -1,7 +1,7 @@
 //! The task from the other end of a scene.
 
 ghost use Rattle.std.specs.Prelude.{◌≡◌, ◌+◌, ◌/◌, IfOk};
-ghost use Rattle.twin_trees.specs.TurnedScenes.{IsTurnedRound, box_of, goal_middle, middle_of};
+ghost use Rattle.twin_trees.specs.Twins.{IsTurnedRound, box_of, goal_middle, middle_of};
 
 use plan_model::{ConfigurationSpace, Goal, Goals, Marks, Memory, Point, Points, Scene, Task};
 use std::alloc::Global;

@@ -1,13 +1,6 @@
 -- Passes as the tests follow them.
 use Rattle.std.specs.Prelude.{◌≡◌, ℕ, ◌<◌, Some, All, IfSome, IsSome}
-use Rattle.kd_shared.specs.declared.placing.Placing.{Placing}
-use Rattle.kd_shared.specs.declared.placing.Placing.TheVariants.{Placed, Same}
-use Rattle.plan_words.specs.States.{BelongsTo, PassState, SharedState}
-use Rattle.step_core.specs.Views.{share}
-use Rattle.step_core.specs.declared.views.Hand.{Hand}
-use Rattle.step_core.specs.declared.views.Stage.{Stage}
-use Rattle.tree_rewire.specs.Rewirings.{HasPlaced}
-use Rattle.tree_rewire.specs.SeenCosts.{IsInReach}
+use Rattle.growing_tests.specs.Terms.{BelongsTo, Hand, HasPlaced, IsInReach, PassState, Placed, Placing, Same, SharedState, Stage, share}
 
 -- a pass of the tree that has a share
 pub record IsAtWork (shared : SharedState) (pass : PassState) : Type 0 where

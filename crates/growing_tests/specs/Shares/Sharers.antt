@@ -1,8 +1,6 @@
 -- Passes and their shares, as the tests follow them.
 use Rattle.std.specs.Prelude.{◌≡◌, ℕ, length, Some}
-use Rattle.plan_words.specs.States.{BelongsTo, MayClaim, PassState, SharedState}
-use Rattle.step_core.specs.ViewSteps.{new_hand}
-use Rattle.step_core.specs.Views.{share}
+use Rattle.growing_tests.specs.Terms.{BelongsTo, MayClaim, PassState, SharedState, new_hand, share}
 
 -- a pass of the tree with this share that may claim a mark
 pub record HasShare (shared : SharedState) (n : ℕ) (pass : PassState) : Type 0 where

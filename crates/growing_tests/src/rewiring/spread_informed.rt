@@ -3,8 +3,7 @@
 ghost use Rattle.std.specs.Prelude.{◌≡◌, IfOk, IsTrue, length, true};
 ghost use Rattle.plan_model.specs.Scenes.Limits.{is_plan};
 ghost use Rattle.plan_model.specs.Spaces.Clearance.{ClearAt};
-ghost use Rattle.plan_model.specs.Spaces.ConfigurationSpace.{space_of};
-ghost use Rattle.plan_model.specs.Spaces.EmptyRooms.{IsInRoom};
+ghost use Rattle.plan_model.specs.Spaces.ConfigurationSpace.{space_of, IsInRoom};
 ghost use Rattle.plan_model.specs.declared.scenes.Marks.TheVariants.{Listed};
 ghost use Rattle.growing_tests.specs.LoweredNodes.HeldMarks.{IsAtWork};
 

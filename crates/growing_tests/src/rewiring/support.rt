@@ -2,7 +2,7 @@
 //! another.
 
 ghost use Rattle.std.specs.Prelude.{◌≡◌, ◌≢◌, ◌≤◌, All, IfSome, IsTrue, Ok, Some, false, length};
-ghost use Rattle.plan_model.specs.Geometry.Bounds.{IsBounded};
+ghost use Rattle.plan_model.specs.Geometry.Plane.{IsBounded};
 ghost use Rattle.plan_model.specs.Runs.OrderLaw.{IsAllowedEdge};
 ghost use Rattle.plan_model.specs.Scenes.Limits.{is_plan};
 ghost use Rattle.plan_model.specs.Spaces.Clearance.{ClearAt};

@@ -1,7 +1,7 @@
 //! A cost that one pass lowers after another saw it, which then finds the lowered one.
 
 ghost use Rattle.std.specs.Prelude.{◌≡◌, length};
-ghost use Rattle.plan_model.specs.Geometry.Bounds.{IsBounded};
+ghost use Rattle.plan_model.specs.Geometry.Plane.{IsBounded};
 ghost use Rattle.plan_model.specs.Spaces.ConfigurationSpace.{space_of};
 ghost use Rattle.plan_words.specs.States.{GoesOn};
 ghost use Rattle.growing_tests.specs.Shares.Sharers.{HasShare};

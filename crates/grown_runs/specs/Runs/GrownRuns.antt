@@ -1,9 +1,6 @@
 -- What a closed run shows of its words, and how one lowered cost changes it.
 use Rattle.std.specs.Prelude.{◌≡◌, ◌≢◌, ℕ, ◌+◌, ◌≤◌}
-use Rattle.plan_model.specs.Geometry.Cost.{cost_of}
-use Rattle.plan_model.specs.Trees.PointsByNumber.{point_of}
-use Rattle.plan_model.specs.Trees.TreeStates.{TreeState}
-use Rattle.plan_model.specs.Seen.Ways.{Children}
+use Rattle.grown_runs.specs.Terms.{Children, TreeState, cost_of, point_of}
 use Rattle.grown_runs.specs.declared.grown.Grown.{Grown}
 use Rattle.grown_runs.specs.Runs.GrownWords.{sizes_of, state_of_words, children_of_words}
 use Rattle.grown_runs.specs.Table.RunWords.{words_in}

@@ -1,17 +1,7 @@
 -- What the words of a run say of its tree, its records and its kd-tree.
-use Rattle.std.specs.Prelude.{◌≡◌, ℕ, zero, suc, ◌+◌, ◌<◌, ◌≤◌, ◌==◌, ◌||◌, Bool, true, false}
-use Rattle.std.specs.Prelude.{Option, Some, None, List, map, length, if◌then◌else◌}
-use Rattle.std.specs.List.{range_with_len, list_any}
-use Rattle.plan_model.specs.declared.geometry.Point.{Point}
-use Rattle.plan_model.specs.declared.records.Record.{Record}
-use Rattle.plan_model.specs.declared.tasks.Task.{Task}
-use Rattle.plan_model.specs.Scenes.MarkPoints.{quota_of}
-use Rattle.plan_model.specs.Trees.PointsByNumber.{IsPresent, node_count}
-use Rattle.plan_model.specs.Runs.Outcomes.{is_placed}
-use Rattle.plan_model.specs.Runs.ClosedLaw.{IsClosed}
-use Rattle.plan_model.specs.Runs.Textbook.{setup_of}
-use Rattle.plan_model.specs.Trees.TreeStates.{TreeState}
-use Rattle.plan_model.specs.Seen.Ways.{Children, FollowWays}
+use Rattle.std.specs.Prelude.{◌≡◌, ℕ, zero, suc, ◌+◌, ◌<◌, ◌≤◌, ◌==◌, ◌||◌, Bool, true, false, Option, Some, None, List, map, length, if◌then◌else◌}
+use Rattle.grown_runs.specs.Terms.{Children, FollowWays, IsClosed, IsPresent, Point, Record, Task, TreeState, is_placed, list_any, node_count, quota_of}
+use Rattle.grown_runs.specs.Terms.{range_with_len, setup_of}
 use Rattle.grown_runs.specs.Table.WordNames.{Words}
 use Rattle.grown_runs.specs.Table.WordNames.Word.{Count, Best, Counter, PointOf, ChildOf, TreeOf, FirstOf, RecordOf}
 use Rattle.grown_runs.specs.Table.WordPlaces.{Sizes, word_at}

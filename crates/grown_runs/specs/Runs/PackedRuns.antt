@@ -1,17 +1,13 @@
--- A run that is given by lists of nodes and of records, and its words.
-use Rattle.std.specs.Prelude.{◌≡◌, ℕ, zero, suc, ◌+◌, ◌<◌, ◌≤◌, ◌^◌, Option, Some, None, List, length, slice_get, slice_index_or}
-use Rattle.plan_model.specs.declared.records.Outcome.TheVariants.{Placed}
-use Rattle.plan_model.specs.declared.records.Record.{Record}
-use Rattle.plan_model.specs.declared.trees.Knot.{Knot}
-use Rattle.plan_model.specs.Geometry.Bounds.{IsBounded}
-use Rattle.plan_model.specs.Scenes.MarkPoints.{quota_of}
-use Rattle.plan_model.specs.Trees.PointsByNumber.{node_count}
-use Rattle.plan_model.specs.Trees.NodeLists.{points_of, parent_of, without_costs}
-use Rattle.plan_model.specs.Trees.TreeStates.{TreeState}
+-- A run that is given by lists of nodes and of records, and its words. The best word that workers on a run begin with. What the words of a closed run
+-- keep has one proof at most, so a run keeps it as it is.
+use Rattle.std.specs.Prelude.{◌≡◌, ℕ, zero, suc, ◌+◌, ◌<◌, ◌≤◌, ◌^◌, Option, Some, None, List, length, slice_get, slice_index_or, ◌≢◌}
+use Rattle.grown_runs.specs.Terms.{FollowWays-prop, Goal, IsBounded, IsClosed-prop, IsGoalNode, Knot, Placed, Record, Task, TreeState, node_count, parent_of}
+use Rattle.grown_runs.specs.Terms.{points_of, props, quota_of, without_costs}
 use Rattle.grown_runs.specs.Table.WordNames.{Word, Words, ChangesOnly, IsCounter, IsKnotWord}
 use Rattle.grown_runs.specs.Table.WordNames.Word.{Count, Counter, PointOf, TreeOf, FirstOf, RecordOf}
 use Rattle.grown_runs.specs.Table.WordPlaces.{Sizes}
-use Rattle.grown_runs.specs.Table.Words.{FitsWord, point_word, tree_word, record_word}
+use Rattle.grown_runs.specs.Table.Words.{FitsWord, point_word, tree_word, record_word, best_cost_in, best_node_in, best_word, no_best}
+use Rattle.grown_runs.specs.Runs.GrownWords.{HoldRun}
 
 -- ---- lists
 
@@ -116,3 +112,19 @@ pub record HoldLists (sizes : Sizes) (knots : List (Option Knot)) (records : Lis
   pub none_else : (k : ℕ) → length records ≤ k → words (RecordOf k) ≡ 0
   pub no_knot : (n : ℕ) → ¬ HasKnot knots n → (words (PointOf n) ≡ 0) × (words (TreeOf n) ≡ 0)
   pub no_first : (k : ℕ) → ((entry : Record) → slice_get records k ≡ Some entry → ¬ (entry.outcome ≡ Placed)) → words (FirstOf (suc k)) ≡ 0
+
+-- The word is the least pair of kept cost and number of the goal nodes of a tree, or says that there is none.
+pub record IsLeastBest (goals : List Goal) (state : TreeState) (word : ℕ) : Type 0 where
+  pub pair : word ≢ no_best → IsGoalNode goals state.points (best_node_in word) × (state.cost (best_node_in word) ≡ best_cost_in word)
+  pub least : (n : ℕ) → IsGoalNode goals state.points n → word ≤ best_word (state.cost n) n
+
+pub HoldRun-prop : (task : Task) (limit : ℕ) (words : Words) → IsProp (HoldRun task limit words)
+HoldRun-prop task limit words = hlevel (props, IsClosed-prop, FollowWays-prop)
+
+-- so has what is said of the best word that a run begins with,
+pub IsLeastBest-prop : (goals : List Goal) (state : TreeState) (word : ℕ) → IsProp (IsLeastBest goals state word)
+IsLeastBest-prop goals state word = hlevel props
+
+-- and so have equal sizes
+pub Sizes-set : (one other : Sizes) → IsProp (one ≡ other)
+Sizes-set one other = hlevel props

@@ -1,10 +1,6 @@
 -- What a table of seen words says of a tree: each word as it was last seen, and 0 if it was not.
 use Rattle.std.specs.Prelude.{◌≡◌, ℕ, suc, ◌+◌, ◌^◌, ◌&&◌, nat_lt, Option, None, map, if◌then◌else◌}
-use Rattle.std.specs.List.{range_with_len}
-use Rattle.plan_model.specs.declared.geometry.Point.{Point}
-use Rattle.plan_model.specs.declared.records.Record.{Record}
-use Rattle.plan_model.specs.Seen.SeenTrees.{SeenTree, IsSeen}
-use Rattle.plan_model.specs.Seen.Sights.{Sight}
+use Rattle.grown_runs.specs.Terms.{IsSeen, Point, Record, SeenTree, Sight, range_with_len}
 use Rattle.grown_runs.specs.Runs.GrownWords.{has_placed, children_of_words}
 use Rattle.grown_runs.specs.Table.WordNames.{Word, Words, WritesWord}
 use Rattle.grown_runs.specs.Table.WordNames.Word.{Count, Counter, PointOf, ChildOf, TreeOf, FirstOf, RecordOf}

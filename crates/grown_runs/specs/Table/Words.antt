@@ -1,12 +1,7 @@
 -- Points, parents with their costs, and records as 64-bit words: bit 63 set, and each field times the power of 2 at which
 -- it stands. The best cost with its goal node is one without bit 63. What a word reads as: each field by division and remainder.
-use Rattle.std.specs.Prelude.{◌≡◌, ℕ, zero, suc, ◌+◌, ◌-◌, ◌*◌, ◌/◌, ◌%◌, ◌^◌, ◌<◌, ◌≤◌, ◌==◌, nat_lt}
-use Rattle.std.specs.Prelude.{if◌then◌else◌, Option, Some, None}
-use Rattle.plan_model.specs.declared.geometry.Point.{Point}
-use Rattle.plan_model.specs.declared.records.Outcome.{Outcome}
-use Rattle.plan_model.specs.declared.records.Outcome.TheVariants.{Placed, Same, Blocked, Skipped}
-use Rattle.plan_model.specs.declared.records.Record.{Record}
-use Rattle.plan_model.specs.Runs.Endings.{NewNode, Steered, record_of_ending, unplaced_record}
+use Rattle.std.specs.Prelude.{◌≡◌, ℕ, zero, suc, ◌+◌, ◌-◌, ◌*◌, ◌/◌, ◌%◌, ◌^◌, ◌<◌, ◌≤◌, ◌==◌, nat_lt, if◌then◌else◌, Option, Some, None}
+use Rattle.grown_runs.specs.Terms.{Blocked, NewNode, Outcome, Placed, Point, Record, Same, Skipped, Steered, record_of_ending, unplaced_record}
 
 -- a word holds its value once bit 63 is set, and nothing before
 abbrev pub if_written : {A : Type 0} → ℕ → A → Option A

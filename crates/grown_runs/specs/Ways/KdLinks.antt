@@ -1,14 +1,47 @@
--- The links of a kd-tree while nodes are linked in rising number.
-use Rattle.std.specs.Prelude.{◌≡◌, ℕ, ◌+◌, ◌<◌, ◌≤◌, nat_lt, is_some, Bool, Option, Some, None, List, map, if◌then◌else◌}
-use Rattle.std.specs.List.{range_with_len}
-use Rattle.plan_model.specs.declared.geometry.Point.{Point}
-use Rattle.plan_model.specs.Seen.SeenTrees.{SeenTree}
-use Rattle.plan_model.specs.Trees.PointsByNumber.{point_at, IsPresent, AreDistinct}
-use Rattle.plan_model.specs.Seen.Ways.{Children, FollowWays}
+-- The sides of a node in a kd-tree by whether its children are split by row, as at odd depth, or by column, as at even depth. Where a walk along the
+-- way of a point has come to. Which of two nodes is nearer to a point. The links of a kd-tree while nodes are linked in rising number. Ways over
+-- nodes that are linked in rising number.
+use Rattle.std.specs.Prelude.{ℕ, ◌%◌, ◌==◌, not, Bool, if◌then◌else◌, ◌≡◌, ◌⊎◌, ◌+◌, ◌<◌, ◌≤◌, nat_lt, is_some, Option, Some, None, List, map}
+use Rattle.grown_runs.specs.Terms.{AreDistinct, Children, FollowWays, IsOnWay, IsPairNotAbove, IsPresent, IsSeen, MOST_MARKS, MOST_NODES, MeasuredNode, Point}
+use Rattle.grown_runs.specs.Terms.{SeenTree, StandsAt, Stop, abs_diff, arith, count_by-le-length, depth_below, goes_right, length-map-range_with_len}
+use Rattle.grown_runs.specs.Terms.{point_at, range_with_len}
 use Rattle.grown_runs.specs.Table.WordNames.{Words, ChangesOnly, IsChildWord}
 use Rattle.grown_runs.specs.Table.WordPlaces.{Sizes}
 use Rattle.grown_runs.specs.Table.SeenWords.{seen_tree_of_words}
 use Rattle.grown_runs.specs.Runs.GrownWords.{node_point, points_of_words, children_of_words}
+
+-- whether the children of nodes at this depth are split by row
+abbrev pub is_by_rows : ℕ → Bool
+is_by_rows depth = not (depth % 2 == 0)
+
+-- whether q goes to the right of a node at p: as at depth 1 by its row, or as at depth 0 by its column
+abbrev pub goes_right_by : Bool → Point → Point → Bool
+goes_right_by by_rows p q = goes_right (if by_rows then 1 else 0) p q
+
+-- how far q is from the line through p that splits its children
+abbrev pub split_distance : Bool → Point → Point → ℕ
+split_distance by_rows p q = if by_rows then abs_diff p.y q.y else abs_diff p.x q.x
+
+-- the side on which the way of p leads on
+abbrev pub side_of : Stop → Point → Bool
+side_of stop p = goes_right_by stop.by_rows stop.here p
+
+-- The way of p over what is seen has this node at this depth, and it is seen here.
+pub record StopsAt (tree : SeenTree) (p : Point) (stop : Stop) : Type 0 where
+  pub on_way : IsOnWay tree.child tree.points p stop.depth stop.node
+  pub seen : IsSeen tree stop.node
+  pub stands : StandsAt tree.points stop.node stop.here
+  pub by_rows_is : stop.by_rows ≡ is_by_rows stop.depth
+
+-- the pair of distance and number of the one is not above that of the other
+abbrev pub IsNotFurther : MeasuredNode → MeasuredNode → Type 0
+IsNotFurther one other = IsPairNotAbove one.distance one.node other.distance other.node
+
+-- It is one of the two, and not further than either.
+pub record IsNearerOf (one other nearer : MeasuredNode) : Type 0 where
+  pub one_of : (nearer ≡ one) ⊎ (nearer ≡ other)
+  pub before : IsNotFurther nearer one
+  pub one_more : IsNotFurther nearer other
 
 -- where the nodes below number m stand, as if there were no others
 abbrev pub points_below : Sizes → Words → ℕ → List (Option Point)
@@ -44,3 +77,14 @@ pub record AreUnlinked (sizes : Sizes) (words : Words) (has : ℕ → Bool) : Ty
   pub distinct : AreDistinct (points_of_words sizes words)
   pub same : (n : ℕ) → is_some (point_at (points_of_words sizes words) n) ≡ has n
   pub no_child : (n : ℕ) (side : Bool) → children_of_words words n side ≡ None
+
+-- none is longer than there are nodes
+pub linked_ways_are_short : (sizes : Sizes) (words : Words) (m : ℕ) → sizes.marks ≤ MOST_MARKS → AreLinkedBelow sizes words m
+    → (q : Point) (depth n : ℕ) → IsOnWay (children_of_words words) (points_below sizes words m) q depth n → depth < MOST_NODES
+linked_ways_are_short sizes words m few linked q depth n way = omega (
+  arith,
+  depth_below (children_of_words words) (points_below sizes words m) linked.ways linked.start q depth n way,
+  count_by-le-length is_some (points_below sizes words m),
+  length-map-range_with_len (λ i. if nat_lt i m then node_point words i else None) 0 (sizes.marks + 1),
+  few,
+)

@@ -1,12 +1,11 @@
 -- The report of a run, as text: lines of words and decimal numbers, each ended by a line feed.
 use Rattle.std.specs.Prelude.{ℕ, suc, Bool, true, false, Option, Some, None, List, [], ◌∷◌, ◌++◌, length, map, reverse, flat_map, codes, decimal}
-use Rattle.std.specs.List.{range_with_len, join_with_byte}
-use Rattle.plan_model.specs.declared.geometry.Point.{Point}
+use Rattle.plan_model.specs.Terms.{Point, join_with_byte, range_with_len}
 use Rattle.plan_model.specs.declared.scenes.Scene.{Scene}
 use Rattle.plan_model.specs.declared.records.Record.{Record}
 use Rattle.plan_model.specs.Runs.Endings.{Reached, NewNode, SameNode, NoWay, Ending, Steered, SkippedBy, ending_of}
 use Rattle.plan_model.specs.Runs.Outcomes.{is_placed, is_same, is_blocked, is_skipped}
-use Rattle.plan_model.specs.Trees.PointsByNumber.{point_at, point_of, node_count}
+use Rattle.plan_model.specs.Trees.NodeLists.{point_at, point_of, node_count}
 use Rattle.plan_model.specs.Trees.TreeStates.{TreeState, chain_in, sum_in}
 use Rattle.plan_model.specs.Runs.ClosedLaw.{outcome_count}
 use Rattle.plan_model.specs.Trees.BestNode.{best_node, goals_of}

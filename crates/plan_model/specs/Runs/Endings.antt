@@ -1,7 +1,5 @@
 -- What became of a mark, each outcome with fields of its own; and the record that says so.
-use Rattle.std.specs.Prelude.{ℕ, refl, IsTrue}
-use Rattle.plan_model.specs.declared.records.Outcome.{Outcome}
-use Rattle.plan_model.specs.declared.records.Outcome.TheVariants.{Placed, Same, Blocked, Skipped}
+use Rattle.plan_model.specs.Terms.{Blocked, IsTrue, Outcome, Placed, Same, Skipped, refl, ℕ}
 use Rattle.plan_model.specs.declared.records.Record.{Record}
 use Rattle.plan_model.specs.Runs.Outcomes.{is_zero_unless_placed}
 

@@ -1,7 +1,6 @@
 -- Which outcome a mark had; and what a record of an unplaced mark has.
 use Rattle.std.specs.Prelude.{ℕ, ◌==◌, ◌&&◌, Bool, true, false}
-use Rattle.plan_model.specs.declared.records.Outcome.{Outcome}
-use Rattle.plan_model.specs.declared.records.Outcome.TheVariants.{Placed, Same, Blocked, Skipped}
+use Rattle.plan_model.specs.Terms.{Blocked, Outcome, Placed, Same, Skipped}
 
 -- a node was placed for the mark
 abbrev pub is_placed : Outcome → Bool

@@ -1,24 +1,19 @@
--- The textbook run: RRT* as in Karaman and Frazzoli, IJRR 2011, algorithm 6, one mark after another. Where there are goals by which marks
--- are skipped, a mark over which no path could be cheaper than the best one is skipped.
+-- The textbook run: RRT* as in Karaman and Frazzoli, IJRR 2011, algorithm 6, one mark after another. Where there are goals by which marks are
+-- skipped, a mark over which no path could be cheaper than the best one is skipped. Records with the same fields, scenes whose textbook runs have the
+-- same inputs, and trees that a textbook run ends with.
 use Rattle.std.specs.Prelude.{◌≡◌, ℕ, suc, ◌+◌, ◌<◌, ◌≤◌, ◌⊎◌, Option, Some, None, List, [], ◌∷◌, ◌++◌, slice_set, if◌then◌else◌}
-use Rattle.plan_model.specs.declared.geometry.Goal.{Goal}
-use Rattle.plan_model.specs.declared.geometry.Point.{Point}
-use Rattle.plan_model.specs.declared.trees.Twig.{Twig}
+use Rattle.plan_model.specs.Terms.{ConfigurationSpace, Goal, Point, Twig}
 use Rattle.plan_model.specs.declared.scenes.Scene.{Scene}
 use Rattle.plan_model.specs.declared.records.Record.{Record}
 use Rattle.plan_model.specs.Runs.Endings.{FirstHanging, Reached, NewNode, SameNode, NoWay, Ending, Steered, SkippedBy, ending_of}
-use Rattle.plan_model.specs.declared.configuration_spaces.ConfigurationSpace.{ConfigurationSpace}
 use Rattle.plan_model.specs.Spaces.ConfigurationSpace.{space_of}
 use Rattle.plan_model.specs.Spaces.Clearance.{Clear}
-use Rattle.plan_model.specs.Geometry.Steering.{steered}
-use Rattle.plan_model.specs.Geometry.Radius.{class_of, radius_of}
-use Rattle.plan_model.specs.Trees.PointsByNumber.{StandsAt, IsFree, point_of, node_count}
-use Rattle.plan_model.specs.Trees.LeastPairs.{IsFirstLeast}
-use Rattle.plan_model.specs.Trees.Nearness.{IsNearest, near}
-use Rattle.plan_model.specs.Trees.NodeLists.{cost_through_by, points_of, sum_of}
-use Rattle.plan_model.specs.Trees.OpenNodes.{IsOpenTo}
-use Rattle.plan_model.specs.Trees.BestNode.{IsGoalNode}
-use Rattle.plan_model.specs.Trees.GoalBounds.{bound_of}
+use Rattle.plan_model.specs.Geometry.Lengths.{steered, class_of, radius_of}
+use Rattle.plan_model.specs.Trees.NodeLists.{StandsAt, IsFree, point_of, node_count, cost_through_by, points_of, sum_of}
+use Rattle.plan_model.specs.Trees.Nearness.{IsFirstLeast, IsNearest, near}
+use Rattle.plan_model.specs.Trees.BestNode.{IsOpenTo, IsGoalNode, bound_of}
+use Rattle.plan_model.specs.Scenes.MarkPoints.{mark_points}
+use Rattle.plan_model.specs.Trees.TreeStates.{TreeState, state_of, AreSameRuns}
 
 -- a tree as a list: the nodes by number, absent if the mark was not placed
 abbrev pub Nodes : Type 0
@@ -161,3 +156,29 @@ HandlesAll setup k tree marks entries after = ⊥
 -- The textbook run over these marks, from the start alone, ends with this tree and these records.
 abbrev pub IsTextbookRun : Setup → List Point → Nodes → List Record → Type 0
 IsTextbookRun setup marks tree records = HandlesAll setup 0 (start_alone setup.start) marks records tree
+
+-- two records say the same of a mark
+pub record HaveSameFields (one other : Record) : Type 0 where
+  pub worker : one.worker ≡ other.worker
+  pub turn : one.turn ≡ other.turn
+  pub nearest : one.nearest ≡ other.nearest
+  pub outcome : one.outcome ≡ other.outcome
+  pub first_parent : one.first_parent ≡ other.first_parent
+  pub first_cost : one.first_cost ≡ other.first_cost
+  pub class : one.class ≡ other.class
+
+-- two scenes agree in all that the textbook run depends on
+pub record HaveSameInputs (one other : Scene) : Type 0 where
+  pub space : space_of one ≡ space_of other
+  pub start : one.start ≡ other.start
+  pub step : one.step ≡ other.step
+  pub gamma : one.gamma ≡ other.gamma
+  pub goals : skipping_goals one ≡ skipping_goals other
+  pub marks : mark_points one ≡ mark_points other
+
+-- The tree and its records are those of the textbook run over these marks, each node kept at its sum.
+pub record IsOfTextbookRun (setup : Setup) (marks : List Point) (state : TreeState) : Type 0 where
+  pub nodes : Nodes
+  pub records : List Record
+  pub run : IsTextbookRun setup marks nodes records
+  pub same : AreSameRuns (state_of nodes records) state

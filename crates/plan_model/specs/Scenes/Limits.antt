@@ -1,16 +1,10 @@
 -- The ranges of a scene's fields, by the version of the scene.
 use Rattle.std.specs.Prelude.{ℕ, ◌≤◌, ◌==◌, nat_le, ◌&&◌, ◌||◌, not, Bool, ℤ, int_le, List, length, if◌then◌else◌}
-use Rattle.std.specs.List.{list_all}
-use Rattle.plan_model.specs.declared.geometry.Point.{Point}
-use Rattle.plan_model.specs.declared.geometry.Goal.{Goal}
-use Rattle.plan_model.specs.declared.geometry.Vertex.{Vertex}
-use Rattle.plan_model.specs.declared.scenes.Marks.{Marks}
-use Rattle.plan_model.specs.declared.scenes.Marks.TheVariants.{Drawn, Listed}
-use Rattle.plan_model.specs.declared.limits.TheConstants.{LEAST_BODY_COORDINATE, LEAST_OBSTACLE_COORDINATE, LEAST_OBSTACLE_COORDINATE_OF_VERSION_2}
-use Rattle.plan_model.specs.declared.limits.TheConstants.{MOST_BODY_COORDINATE, MOST_BODY_CORNERS, MOST_CLEARANCE, MOST_GOALS, MOST_MARKS}
-use Rattle.plan_model.specs.declared.limits.TheConstants.{MOST_OBSTACLE_COORDINATE, MOST_OBSTACLE_COORDINATE_OF_VERSION_2, MOST_OBSTACLE_CORNERS}
-use Rattle.plan_model.specs.declared.limits.TheConstants.{MOST_OBSTACLES, MOST_SIDE, MOST_SIDE_OF_VERSION_2, MOST_STEP, MOST_STEP_OF_VERSION_2}
-use Rattle.plan_model.specs.Geometry.Convexity.{is_strictly_convex}
+use Rattle.plan_model.specs.Terms.{Drawn, Goal, LEAST_BODY_COORDINATE, LEAST_OBSTACLE_COORDINATE, LEAST_OBSTACLE_COORDINATE_OF_VERSION_2, Listed}
+use Rattle.plan_model.specs.Terms.{MOST_BODY_COORDINATE, MOST_BODY_CORNERS, MOST_CLEARANCE, MOST_GOALS, MOST_MARKS, MOST_OBSTACLES, MOST_OBSTACLE_COORDINATE}
+use Rattle.plan_model.specs.Terms.{MOST_OBSTACLE_COORDINATE_OF_VERSION_2, MOST_OBSTACLE_CORNERS, MOST_SIDE, MOST_SIDE_OF_VERSION_2, MOST_STEP}
+use Rattle.plan_model.specs.Terms.{MOST_STEP_OF_VERSION_2, Marks, Point, Vertex, list_all}
+use Rattle.plan_model.specs.Geometry.Plane.{is_strictly_convex}
 
 -- ---- the limits that differ
 

@@ -1,13 +1,7 @@
--- The mark points (the samples) of a scene.
-use Rattle.std.specs.Prelude.{◌≡◌, ℕ, ◌+◌, ◌-◌, ◌*◌, ◌/◌, ◌%◌, ◌^◌, ◌==◌, ◌<◌, ◌≤◌}
-use Rattle.std.specs.Prelude.{nat_lt, ℤ, pos, negsuc, max, bit_xor, Bool, List, map, fold, count_by, if◌then◌else◌}
-use Rattle.std.specs.List.{range_with_len}
-use Rattle.plan_model.specs.declared.geometry.Point.{Point}
-use Rattle.plan_model.specs.declared.geometry.Vertex.{Vertex}
-use Rattle.plan_model.specs.declared.spans.Span.{Span}
+-- The mark points (the samples) of a scene. The columns and the rows of the room of configurations, side by side.
+use Rattle.std.specs.Prelude.{◌≡◌, ℕ, ◌+◌, ◌-◌, ◌*◌, ◌/◌, ◌%◌, ◌^◌, ◌==◌, ◌<◌, ◌≤◌, nat_lt, ℤ, pos, negsuc, max, bit_xor, Bool, List, map, if◌then◌else◌}
+use Rattle.plan_model.specs.Terms.{Drawn, Listed, Marks, Point, RoomSpans, Span, Vertex, count_by, fold, range_with_len}
 use Rattle.plan_model.specs.declared.scenes.Scene.{Scene}
-use Rattle.plan_model.specs.declared.scenes.Marks.{Marks}
-use Rattle.plan_model.specs.declared.scenes.Marks.TheVariants.{Drawn, Listed}
 
 -- SplitMix64 (Steele, Lea and Flood, OOPSLA 2014): the state that follows a state
 abbrev pub next_state : ℕ → ℕ
@@ -113,3 +107,8 @@ pub record IsMarkOf (strips limit k g c : ℕ) : Type 0 where
 -- mark k is claimed where each strip has a counter of those of its marks that are
 abbrev pub is_claimed : ℕ → (ℕ → ℕ) → ℕ → Bool
 is_claimed strips counters k = nat_lt (k / strips) (counters (strip_of_mark strips k))
+
+-- the columns and the rows of the body in the room
+pub record AreSpansOf (room : Point) (body : List Vertex) (spans : RoomSpans) : Type 0 where
+  pub columns : spans.columns ≡ columns room body
+  pub rows : spans.rows ≡ rows room body

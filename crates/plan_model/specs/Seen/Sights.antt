@@ -1,10 +1,8 @@
 -- What a worker has seen of a tree, and by which of its steps: its later moments, what it takes over from another, and which points a call has swept.
 use Rattle.std.specs.Prelude.{◌≡◌, ◌≢◌, ◌⊎◌, ℕ, ◌<◌, ◌≤◌, nat_lt, max, Bool, Option, Some, None, if◌then◌else◌}
-use Rattle.std.specs.Option.{option_or}
-use Rattle.plan_model.specs.declared.geometry.Point.{Point}
-use Rattle.plan_model.specs.Trees.PointsByNumber.{point_at, StandsAt, IsFree}
-use Rattle.plan_model.specs.Seen.SeenTrees.{SeenTree, IsRooted, FollowSeenWays, HasSeenAtLeast}
-use Rattle.plan_model.specs.Seen.Ways.{goes_right, IsOnWay}
+use Rattle.plan_model.specs.Terms.{Point, option_or}
+use Rattle.plan_model.specs.Trees.NodeLists.{point_at, StandsAt, IsFree}
+use Rattle.plan_model.specs.Seen.SeenTrees.{SeenTree, IsRooted, FollowSeenWays, HasSeenAtLeast, goes_right, IsOnWay}
 
 -- What was seen, how many steps the worker has made, and for each place of a child the last of them that found it empty, also after it
 -- was filled: steps are numbered from 1, and 0 is none.

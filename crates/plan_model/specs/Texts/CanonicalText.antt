@@ -1,14 +1,8 @@
 -- The canonical text of a scene: a line for each field and each mark, in one order, also if the value is the one that holds without the line,
 -- but for `informed`, and for `clearance` in version 1, of which it is no key.
 use Rattle.std.specs.Prelude.{◌≡◌, ℕ, ◌==◌, not, Bool, true, false, ℤ, pos, List, [], ◌∷◌, ◌++◌, map, flat_map}
-use Rattle.std.specs.Fmt.{signed_decimal}
-use Rattle.plan_model.specs.declared.geometry.Point.{Point}
-use Rattle.plan_model.specs.declared.geometry.Vertex.{Vertex}
-use Rattle.plan_model.specs.declared.geometry.Goal.{Goal}
+use Rattle.plan_model.specs.Terms.{Drawn, Goal, Key, Listed, Marks, Point, Vertex, signed_decimal}
 use Rattle.plan_model.specs.declared.scenes.Scene.{Scene}
-use Rattle.plan_model.specs.declared.scenes.Marks.{Marks}
-use Rattle.plan_model.specs.declared.scenes.Marks.TheVariants.{Drawn, Listed}
-use Rattle.plan_model.specs.declared.text_terms.Key.{Key}
 use Rattle.plan_model.specs.declared.text_terms.Key.TheVariants as keys
 use Rattle.plan_model.specs.Reports.ReportText.{line}
 use Rattle.plan_model.specs.Scenes.Limits.{by_version}

@@ -1,12 +1,42 @@
--- The versions, the keys of lines, and the tables of what may stand after each key, and how often, by the version.
-use Rattle.std.specs.Prelude.{ℕ, ◌*◌, ◌%◌, ◌==◌, nat_le, ◌&&◌, ◌||◌, not, Bool, true, ℤ, pos, Option, Some, None, List, [], ◌∷◌, bytes_eq, codes}
+-- The numbers and the names of the kinds of faults, and the words that name a fault. The versions, the keys of lines, and the tables of what may
+-- stand after each key, and how often, by the version.
+use Rattle.std.specs.Prelude.{ℕ, List, [], ◌∷◌, codes, decimal, ◌*◌, ◌%◌, ◌==◌, nat_le, ◌&&◌, ◌||◌, not, Bool, true, ℤ, pos, Option, Some, None, bytes_eq}
 use Rattle.std.specs.Prelude.{if◌then◌else◌}
-use Rattle.plan_model.specs.declared.text_terms.Key.{Key}
-use Rattle.plan_model.specs.declared.text_terms.Key.TheVariants as keys
-use Rattle.plan_model.specs.declared.limits.TheConstants.{LEAST_BODY_COORDINATE, LEAST_CORNERS, LEAST_SIDE, LEAST_STEP, LEAST_STRIPS}
-use Rattle.plan_model.specs.declared.limits.TheConstants.{MOST_BODY_COORDINATE, MOST_BODY_CORNERS, MOST_GAMMA, MOST_MARKS, MOST_OBSTACLE_CORNERS}
-use Rattle.plan_model.specs.declared.limits.TheConstants.{MOST_OBSTACLES, MOST_SEED, MOST_STRIPS}
+use Rattle.plan_model.specs.Terms.{Key, Kind, LEAST_BODY_COORDINATE, LEAST_CORNERS, LEAST_SIDE, LEAST_STEP, LEAST_STRIPS, MOST_BODY_COORDINATE}
+use Rattle.plan_model.specs.Terms.{MOST_BODY_CORNERS, MOST_GAMMA, MOST_MARKS, MOST_OBSTACLES, MOST_OBSTACLE_CORNERS, MOST_SEED, MOST_STRIPS, codes}
 use Rattle.plan_model.specs.Scenes.Limits.{by_version, least_obstacle_coordinate, most_clearance, most_goals, most_obstacle_coordinate, most_side, most_step}
+use Rattle.plan_model.specs.declared.text_terms.Kind.TheVariants as kinds
+use Rattle.plan_model.specs.declared.text_terms.Key.TheVariants as keys
+
+-- the number of a kind
+abbrev pub number_of_kind : Kind → ℕ
+number_of_kind kinds.Version = 1
+number_of_kind kinds.Key = 2
+number_of_kind kinds.Words = 3
+number_of_kind kinds.Number = 4
+number_of_kind kinds.Range = 5
+number_of_kind kinds.Repeat = 6
+number_of_kind kinds.Corners = 7
+number_of_kind kinds.Many = 8
+number_of_kind kinds.Missing = 9
+number_of_kind kinds.Unbuilt = 10
+
+-- the name of a kind
+abbrev pub name_of_kind : Kind → List ℕ
+name_of_kind kinds.Version = codes "Version"
+name_of_kind kinds.Key = codes "Key"
+name_of_kind kinds.Words = codes "Words"
+name_of_kind kinds.Number = codes "Number"
+name_of_kind kinds.Range = codes "Range"
+name_of_kind kinds.Repeat = codes "Repeat"
+name_of_kind kinds.Corners = codes "Corners"
+name_of_kind kinds.Many = codes "Many"
+name_of_kind kinds.Missing = codes "Missing"
+name_of_kind kinds.Unbuilt = codes "Unbuilt"
+
+-- the words that name a fault: the number of its line, and its kind by number and by name
+abbrev pub fault_words : ℕ → Kind → List (List ℕ)
+fault_words number kind = codes "line" ∷ decimal number ∷ codes "kind" ∷ decimal (number_of_kind kind) ∷ name_of_kind kind ∷ []
 
 -- ---- names
 

@@ -1,15 +1,10 @@
 -- The checks of a line, over the version and the numbers that the lines before it give.
-use Rattle.std.specs.Prelude.{◌≡◌, ℕ, ◌≤◌, ◌*◌, ◌==◌, nat_lt, nat_le, ◌&&◌, ◌||◌, not, Bool, true, false, ℤ, int_le, Option, Some, None, List, [], ◌∷◌}
-use Rattle.std.specs.Prelude.{◌++◌, length, map, drop, filter, All, bytes_eq, if◌then◌else◌}
-use Rattle.std.specs.List.{list_all}
-use Rattle.plan_model.specs.declared.geometry.Vertex.{Vertex}
-use Rattle.plan_model.specs.declared.text_terms.Key.{Key}
+use Rattle.std.specs.Prelude.{◌≡◌, ℕ, ◌≤◌, ◌*◌, ◌==◌, nat_lt, nat_le, ◌&&◌, ◌||◌, not, Bool, true, false, ℤ, int_le, Option, Some, ◌∷◌, ◌++◌, if◌then◌else◌}
+use Rattle.plan_model.specs.Terms.{All, Key, Kind, List, None, Vertex, [], bytes_eq, drop, filter, length, list_all, map}
 use Rattle.plan_model.specs.declared.text_terms.Key.TheVariants as keys
-use Rattle.plan_model.specs.declared.text_terms.Kind.{Kind}
 use Rattle.plan_model.specs.declared.text_terms.Kind.TheVariants as kinds
-use Rattle.plan_model.specs.Geometry.Convexity.{is_strictly_convex}
-use Rattle.plan_model.specs.Texts.TextLines.{is_skipped}
-use Rattle.plan_model.specs.Texts.TextNumbers.{is_number, value_of}
+use Rattle.plan_model.specs.Geometry.Plane.{is_strictly_convex}
+use Rattle.plan_model.specs.Texts.TextLines.{is_skipped, is_number, value_of}
 use Rattle.plan_model.specs.Texts.Keys.{format_name, every_version, version_among, name_of, key_of, fits_words, most_corners, most_lines, rival_of, least_of}
 use Rattle.plan_model.specs.Texts.Keys.{most_of}
 

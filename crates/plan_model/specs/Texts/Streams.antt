@@ -1,8 +1,6 @@
 -- Sources and sinks: what is known of them, counts of faults, and what a stream in memory is.
-use Rattle.std.specs.Prelude.{ℕ, ◌+◌, ◌-◌, ◌^◌, ◌≤◌, ◌==◌, nat_lt, ◌&&◌, ◌||◌, Bool, Option, min}
-use Rattle.std.specs.Prelude.{List, ◌++◌, length, take, drop, Result, Ok, Err, if◌then◌else◌}
-use Rattle.std.specs.List.{list_any}
-use Rattle.plan_model.specs.declared.errors.Failed.{Failed}
+use Rattle.std.specs.Prelude.{ℕ, ◌+◌, ◌-◌, ◌^◌, ◌≤◌, ◌==◌, nat_lt, ◌&&◌, ◌||◌, Bool, Option, min, List, ◌++◌, length, take, drop, Result, Ok, if◌then◌else◌}
+use Rattle.plan_model.specs.Terms.{Err, Failed, list_any}
 
 -- What is known of a source at one time.
 pub record SourceState : Type 0 where

@@ -1,12 +1,39 @@
--- The best node of a tree: the cheapest of those that lie in a goal.
-use Rattle.std.specs.Prelude.{ℕ, suc, ◌&&◌, nat_le, Bool, false, IsTrue, Option, Some, None, List, filter}
-use Rattle.std.specs.List.{list_any, range_with_len}
-use Rattle.plan_model.specs.declared.geometry.Point.{Point}
-use Rattle.plan_model.specs.declared.geometry.Goal.{Goal}
+-- Nodes that an edge may lead from to a point. The bound of a mark: the least cost of any way over it into a goal, as the heuristic of Informed RRT*
+-- (Gammell, Srinivasa and Barfoot, IROS 2014), here over the lattice points of boxes. That a mark is tested by it, and not drawn by it, is this
+-- project's own. The best node of a tree: the cheapest of those that lie in a goal.
+use Rattle.plan_model.specs.Terms.{ConfigurationSpace, Contains, Goal, List, Option, Point, list_any, range_with_len, ℕ}
+use Rattle.plan_model.specs.Spaces.Clearance.{Clear}
+use Rattle.plan_model.specs.Trees.NodeLists.{point_of, point_at}
+use Rattle.std.specs.Prelude.{ℕ, suc, ◌+◌, ◌-◌, List, [], ◌∷◌, map, min, ◌&&◌, nat_le, Bool, false, IsTrue, Option, Some, None, filter}
+use Rattle.std.specs.List.{range_with_len, flat_map}
+use Rattle.plan_model.specs.Geometry.Lengths.{cost_of}
 use Rattle.plan_model.specs.declared.scenes.Scene.{Scene}
-use Rattle.plan_model.specs.Trees.PointsByNumber.{point_at}
-use Rattle.plan_model.specs.Trees.LeastPairs.{IsFirstLeast, first_least}
+use Rattle.plan_model.specs.Trees.Nearness.{IsFirstLeast, first_least}
 use Rattle.plan_model.specs.Trees.TreeStates.{TreeState, sum_in}
+
+-- one of some nodes with a clear edge to p
+pub record IsOpenTo (space : ConfigurationSpace) (points : List (Option Point)) (p : Point) (candidates : List ℕ) (i : ℕ) : Type 0 where
+  pub among : Contains candidates i
+  pub clear : Clear space (point_of points i) p
+
+-- the whole numbers from one to another, both with them
+abbrev pub numbers_between : ℕ → ℕ → List ℕ
+numbers_between low high = range_with_len low (suc high - low)
+
+-- the lattice points of a closed box
+abbrev pub points_of_goal : Goal → List Point
+points_of_goal goal =
+    flat_map (λ x. map (λ y. record { x = x; y = y }) (numbers_between goal.low.y goal.high.y)) (numbers_between goal.low.x goal.high.x)
+
+-- the least of some numbers (asked only where there is one)
+abbrev pub least_of : List ℕ → ℕ
+least_of [] = 0
+least_of (n ∷ []) = n
+least_of (n ∷ m ∷ ns) = min n (least_of (m ∷ ns))
+
+-- The bound of p: what an edge from the start to p costs, and the least that an edge from p to a lattice point of a goal costs.
+unfoldable pub bound_of : Point → List Goal → Point → ℕ
+bound_of start goals p = cost_of start p + least_of (map (cost_of p) (flat_map points_of_goal goals))
 
 -- the point lies in the closed box
 abbrev pub is_in_goal : Goal → Point → Bool

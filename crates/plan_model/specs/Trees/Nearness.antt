@@ -1,10 +1,33 @@
--- The nearest node to a point, and the nodes near one. Both look at every node.
-use Rattle.std.specs.Prelude.{ℕ, ◌*◌, nat_le, Bool, false, Option, Some, None, List, length, filter}
-use Rattle.std.specs.List.{range_with_len}
-use Rattle.plan_model.specs.declared.geometry.Point.{Point}
+-- The order of pairs (key, number), by which the nearest node, the best parent and the best node are chosen: the lesser key, and of equal keys the
+-- lesser number. The nearest node to a point, and the nodes near one. Both look at every node.
+use Rattle.std.specs.Prelude.{◌≡◌, ℕ, ◌≤◌, nat_lt, Option, Some, None, List, [], ◌∷◌, if◌then◌else◌, ◌*◌, nat_le, Bool, false, length, filter}
+use Rattle.plan_model.specs.Terms.{Point, range_with_len}
 use Rattle.plan_model.specs.Geometry.Plane.{squared_distance}
-use Rattle.plan_model.specs.Trees.PointsByNumber.{point_at, point_of, IsPresent}
-use Rattle.plan_model.specs.Trees.LeastPairs.{IsFirstLeast}
+use Rattle.plan_model.specs.Trees.NodeLists.{point_at, point_of, IsPresent}
+
+-- a pair is not above another one
+pub record IsPairNotAbove (key number other_key other : ℕ) : Type 0 where
+  pub least : key ≤ other_key
+  pub first : other_key ≡ key → number ≤ other
+
+-- the pair of m is not above the pair of i
+abbrev pub IsNotAbove : (ℕ → ℕ) → ℕ → ℕ → Type 0
+IsNotAbove key m i = IsPairNotAbove (key m) m (key i) i
+
+-- m has the least pair among these numbers
+pub record IsFirstLeast (key : ℕ → ℕ) (among : ℕ → Type 0) (m : ℕ) : Type 0 where
+  pub member : among m
+  pub not_above : (i : ℕ) → among i → IsNotAbove key m i
+
+-- of a number and perhaps another that stands after it, the one with the lesser key, the first if both are equal
+abbrev pub lesser : (ℕ → ℕ) → ℕ → Option ℕ → ℕ
+lesser key n None = n
+lesser key n (Some m) = if nat_lt (key m) (key n) then m else n
+
+-- the first of the numbers with the least key
+abbrev pub first_least : (ℕ → ℕ) → List ℕ → Option ℕ
+first_least key [] = None
+first_least key (n ∷ ns) = Some (lesser key n (first_least key ns))
 
 -- the squared distance of a present node to q
 abbrev pub distance_to : Point → List (Option Point) → ℕ → ℕ

@@ -1,10 +1,9 @@
--- A tree with its costs and records at some moment: of a closed run, or of a table in the middle of one.
-use Rattle.std.specs.Prelude.{◌≡◌, ◌<◌, ◌⊎◌, ℕ, zero, suc, Option, Some, None, List, slice_get}
-use Rattle.plan_model.specs.declared.geometry.Point.{Point}
+-- A tree with its costs and records at some moment: of a closed run, or of a table in the middle of one. What becomes of kept costs when a node costs
+-- less than before: its descendants cost less by as much.
+use Rattle.std.specs.Prelude.{◌≡◌, ◌<◌, ◌⊎◌, ℕ, zero, suc, Option, Some, None, List, slice_get, ◌≢◌, ◌+◌, ◌≤◌}
+use Rattle.plan_model.specs.Terms.{Point, Twig}
 use Rattle.plan_model.specs.declared.records.Record.{Record}
-use Rattle.plan_model.specs.declared.trees.Twig.{Twig}
-use Rattle.plan_model.specs.Trees.PointsByNumber.{point_at, StandsAt, IsPresent}
-use Rattle.plan_model.specs.Trees.NodeLists.{points_of, parent_of, sum_of, chain_by, sum_by}
+use Rattle.plan_model.specs.Trees.NodeLists.{point_at, StandsAt, IsPresent, points_of, parent_of, sum_of, chain_by, sum_by}
 
 -- Where each node stands, and by its number its parent, its kept cost, and the cost that was written when it was placed; the
 -- records by mark. Of a number without a node nothing is said.
@@ -70,3 +69,11 @@ pub record ChangesCosts (before after : TreeState) : Type 0 where
   pub parents : (n : ℕ) → after.parent n ≡ before.parent n
   pub written_costs : (n : ℕ) → after.written_cost n ≡ before.written_cost n
   pub records : (k : ℕ) → after.record_of k ≡ before.record_of k
+
+-- Node `node` costs less by `fall`, and every other present node less by as much as its parent does: so the descendants
+-- of `node` cost less by `fall`, and all others what they did.
+pub record IsBranchLowered (points : List (Option Point)) (parents : ℕ → ℕ) (node fall : ℕ) (costs later : ℕ → ℕ) : Type 0 where
+  pub top : later node + fall ≡ costs node
+  pub start : later 0 ≡ costs 0
+  pub with_parent : (n : ℕ) → IsPresent points (suc n) → suc n ≢ node → later (suc n) + costs (parents (suc n)) ≡ costs (suc n) + later (parents (suc n))
+  pub none_rises : (n : ℕ) → later n ≤ costs n

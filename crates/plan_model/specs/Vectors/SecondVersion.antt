@@ -5,7 +5,7 @@ use Rattle.plan_model.specs.declared.scenes.Scene.{Scene}
 use Rattle.plan_model.specs.declared.text_terms.Kind.TheVariants as kinds
 use Rattle.plan_model.specs.Texts.SceneGrammar.{supported, whole_format, Refused, Spells}
 use Rattle.plan_model.specs.Texts.CanonicalText.{canonical_text}
-use Rattle.plan_model.specs.Vectors.Shapes.{at}
+use Rattle.plan_model.specs.Vectors.Geometry.{at}
 
 -- so many lines of a goal after the version, and then these bytes
 abbrev pub goals_and : ℕ → List ℕ → List ℕ

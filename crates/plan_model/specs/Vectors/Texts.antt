@@ -1,12 +1,83 @@
--- Texts that are refused, and a text that spells a scene.
-use Rattle.std.specs.Prelude.{◌≡◌, ◌==◌, false, List, ℕ, [], ◌∷◌, ◌++◌, codes}
+-- Lines, words and numbers of the grammar. Counts of faults, and calls on streams in memory. Texts that are refused, and a text that spells a scene.
+use Rattle.std.specs.Prelude.{◌≡◌, true, false, pos, negsuc, [], ◌∷◌, codes, ℕ, List, Ok, Err, ◌==◌, ◌++◌}
+use Rattle.plan_model.specs.Texts.TextLines.{lines_of, words_of, is_skipped, is_number, value_of}
+use Rattle.plan_model.specs.Texts.Streams.{FaultsRose, MemSinkState, MemSourceState, ended_after, counted_up, write_result, after_write, read_result}
+use Rattle.plan_model.specs.Texts.Streams.{after_read, read_into}
+use Rattle.plan_model.specs.Terms.{Drawn, Listed}
 use Rattle.plan_model.specs.declared.scenes.Scene.{Scene}
-use Rattle.plan_model.specs.declared.scenes.Marks.TheVariants.{Drawn, Listed}
-use Rattle.plan_model.specs.declared.text_terms.Kind.TheVariants as kinds
 use Rattle.plan_model.specs.Texts.LineChecks.{Format}
 use Rattle.plan_model.specs.Texts.SceneGrammar.{supported, Refused, Spells}
 use Rattle.plan_model.specs.Texts.CanonicalText.{canonical_text}
-use Rattle.plan_model.specs.Vectors.Shapes.{at, corner, corner_below}
+use Rattle.plan_model.specs.Vectors.Geometry.{at, corner, corner_below}
+use Rattle.plan_model.specs.declared.text_terms.Kind.TheVariants as kinds
+
+pub record LineVectors : Type 0 where
+  pub unended : lines_of (codes "one\ntwo") ≡ codes "one" ∷ codes "two" ∷ []
+  pub ended : lines_of (codes "one\ntwo\n") ≡ codes "one" ∷ codes "two" ∷ []
+  pub empty_text : lines_of [] ≡ []
+  pub empty_line : lines_of (codes "\n") ≡ [] ∷ []
+  pub spaces : words_of (codes "  step   50 ") ≡ codes "step" ∷ codes "50" ∷ []
+  pub tab : words_of (codes "step\t50  x") ≡ codes "step\t50" ∷ codes "x" ∷ []
+  pub blank : words_of (codes "   ") ≡ []
+  pub two_empty_lines : lines_of (codes "\n\n") ≡ [] ∷ [] ∷ []
+  pub no_words : is_skipped (words_of []) ≡ true
+  pub comment : is_skipped (words_of (codes "  #room 1 1")) ≡ true
+  pub mark_inside : is_skipped (words_of (codes "room# 1 1")) ≡ false
+
+pub record NumberVectors : Type 0 where
+  pub zero : is_number (codes "0") ≡ true
+  pub digits : is_number (codes "7") ≡ true
+  pub below_zero : is_number (codes "-7") ≡ true
+  pub leading_zero : is_number (codes "04") ≡ false
+  pub minus_zero : is_number (codes "-0") ≡ false
+  pub plus : is_number (codes "+1") ≡ false
+  pub minus : is_number (codes "-") ≡ false
+  pub letter : is_number (codes "12a") ≡ false
+  pub no_byte : is_number [] ≡ false
+  pub twelve : value_of (codes "12") ≡ pos 12
+  pub minus_twelve : value_of (codes "-12") ≡ negsuc 11
+  pub two_zeros : is_number (codes "00") ≡ false
+  pub ten : is_number (codes "10") ≡ true
+  pub minus_twice : is_number (codes "--1") ≡ false
+  pub minus_after : is_number (codes "1-") ≡ false
+  pub minus_leading_zero : is_number (codes "-01") ≡ false
+  pub nought : value_of (codes "0") ≡ pos 0
+  -- one more than the last value of a u64
+  pub long : value_of (codes "18446744073709551616") ≡ pos 18446744073709551616
+
+-- room for so many bytes, of which one is taken; the third call fails
+abbrev pub sink_with : ℕ → ℕ → MemSinkState
+sink_with room calls = record { bytes = 65 ∷ []; room = room; most = 2; fails = 3 ∷ []; calls = calls; faults = 0 }
+
+-- a source of these bytes that gives two of them at most in one call; the third call fails
+abbrev pub source_of : List ℕ → ℕ → MemSourceState
+source_of left calls = record { left = left; ended = false; most = 2; fails = 3 ∷ []; calls = calls; faults = 0 }
+
+pub record StreamVectors : Type 0 where
+  pub risen : FaultsRose 0 1
+  pub not_risen : ¬ FaultsRose 7 7
+  -- a count at the last value of a u64 counts as risen
+  pub at_last_value : FaultsRose 18446744073709551615 18446744073709551615
+  pub before_last_value : ¬ FaultsRose 18446744073709551614 18446744073709551614
+  pub stops : counted_up 18446744073709551615 ≡ 18446744073709551615
+  -- the end is given by a read of no byte into a place, and stays given
+  pub end : ended_after false 5 0 ≡ true
+  pub no_place : ended_after false 0 0 ≡ false
+  pub not_yet : ended_after false 5 1 ≡ false
+  pub still : ended_after true 0 0 ≡ true
+  -- a write of no byte is not numbered, also if the room is full or the next call fails
+  pub no_byte : write_result (sink_with 1 2) [] ≡ Ok 0
+  pub no_byte_after : after_write (sink_with 1 2) [] ≡ sink_with 1 2
+  pub full : write_result (sink_with 1 0) (66 ∷ []) ≡ Err (record {})
+  pub listed : write_result (sink_with 9 2) (66 ∷ []) ≡ Err (record {})
+  pub one_place : write_result (sink_with 2 0) (66 ∷ 67 ∷ 68 ∷ []) ≡ Ok 1
+  pub at_most_two : write_result (sink_with 9 0) (66 ∷ 67 ∷ 68 ∷ []) ≡ Ok 2
+  pub read_two : read_result (source_of (65 ∷ 66 ∷ 67 ∷ []) 0) 5 ≡ Ok 2
+  pub read_end : read_result (source_of [] 0) 5 ≡ Ok 0
+  pub read_listed : read_result (source_of [] 2) 5 ≡ Err (record {})
+  pub read_no_place : after_read (source_of [] 2) 0 ≡ source_of [] 2
+  -- the places after the bytes that are read keep what they hold
+  pub prefix : read_into (source_of (65 ∷ []) 0) (1 ∷ 2 ∷ 3 ∷ []) ≡ 65 ∷ 2 ∷ 3 ∷ []
 
 -- version 1 without its keys
 abbrev pub without_keys : Format

@@ -4,8 +4,8 @@ ghost use Rattle.std.specs.Prelude.{ℕ, List, ◌<◌, ◌≤◌, ◌↔◌};
 ghost use Rattle.plan_model.specs.Spaces.Clearance.{Clear, ClearAt, IsClear};
 ghost use Rattle.plan_model.specs.declared.configuration_spaces.ConfigurationSpace.{ConfigurationSpace};
 ghost use Rattle.plan_model.specs.Scenes.MarkPoints.{BodyFits, IsInSpan, columns, rows};
-ghost use Rattle.plan_model.specs.Spaces.Meeting.{Meets, SharesPoint};
-ghost use Rattle.plan_model.specs.Spaces.RoomOfConfigurations.{InRoom, IsSamePoint, Rational, at_lattice, scaled};
+ghost use Rattle.plan_model.specs.Spaces.Zones.{Meets, SharesPoint};
+ghost use Rattle.plan_model.specs.Spaces.ConfigurationSpace.{InRoom, IsSamePoint, Rational, at_lattice, scaled};
 ghost use Rattle.plan_model.specs.declared.geometry.Point.{Point};
 ghost use Rattle.plan_model.specs.declared.geometry.Vertex.{Vertex};
 

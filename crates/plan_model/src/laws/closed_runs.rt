@@ -2,17 +2,14 @@
 
 ghost use Rattle.std.specs.Prelude.{◌≡◌, ℕ, suc, ◌+◌, ◌<◌, List, [], Option, Some, length};
 ghost use Rattle.plan_model.specs.Trees.BestNode.{best_node};
-ghost use Rattle.plan_model.specs.Spaces.Clearance.{ClearAt};
-ghost use Rattle.plan_model.specs.Spaces.ClearPaths.{IsClearPath};
+ghost use Rattle.plan_model.specs.Spaces.Clearance.{ClearAt, IsClearPath};
 ghost use Rattle.plan_model.specs.Runs.ClosedLaw.{IsClosed, mark_at, outcome_count};
-ghost use Rattle.plan_model.specs.Runs.OrderLaw.{KeepsFirstCosts};
+ghost use Rattle.plan_model.specs.Runs.OrderLaw.{KeepsFirstCosts, AreTurns, RunFromZero};
 ghost use Rattle.plan_model.specs.Runs.Outcomes.{is_blocked, is_placed, is_same, is_skipped};
-ghost use Rattle.plan_model.specs.Trees.PointsByNumber.{AreNumberedTo, IsPresent, node_count};
+ghost use Rattle.plan_model.specs.Trees.NodeLists.{AreNumberedTo, IsPresent, node_count};
 ghost use Rattle.plan_model.specs.Reports.ReportText.{best_path, path_to};
-ghost use Rattle.plan_model.specs.Runs.Textbook.{IsTextbookRun, Nodes, Setup};
-ghost use Rattle.plan_model.specs.Runs.SameRuns.{IsOfTextbookRun};
+ghost use Rattle.plan_model.specs.Runs.Textbook.{IsTextbookRun, Nodes, Setup, IsOfTextbookRun};
 ghost use Rattle.plan_model.specs.Trees.TreeStates.{GrowsInto, IsSettled, TreeState, state_of};
-ghost use Rattle.plan_model.specs.Runs.Turns.{AreTurns, RunFromZero};
 ghost use Rattle.plan_model.specs.declared.geometry.Point.{Point};
 ghost use Rattle.plan_model.specs.declared.limits.TheConstants.{MOST_WORKERS};
 ghost use Rattle.plan_model.specs.declared.records.Record.{Record};

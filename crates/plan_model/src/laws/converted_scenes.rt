@@ -3,7 +3,7 @@
 ghost use Rattle.std.specs.Prelude.{◌≡◌, ℕ, Bool, List};
 ghost use Rattle.plan_model.specs.Reports.ReportText.{report_text, summary};
 ghost use Rattle.plan_model.specs.Runs.Textbook.{IsTextbookRun, Nodes, setup_of};
-ghost use Rattle.plan_model.specs.Scenes.ConvertedScenes.{IsConverted};
+ghost use Rattle.plan_model.specs.Scenes.ChangedScenes.{IsConverted};
 ghost use Rattle.plan_model.specs.Scenes.MarkPoints.{mark_points};
 ghost use Rattle.plan_model.specs.Spaces.ConfigurationSpace.{space_of};
 ghost use Rattle.plan_model.specs.Trees.TreeStates.{TreeState};

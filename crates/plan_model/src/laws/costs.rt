@@ -1,8 +1,7 @@
 //! Laws of roots and costs.
 
 ghost use Rattle.std.specs.Prelude.{◌≡◌, ℕ, ◌+◌, ◌≤◌};
-ghost use Rattle.plan_model.specs.Geometry.Cost.{cost_of};
-ghost use Rattle.plan_model.specs.Geometry.Roots.{IsRootCeiling, root_ceiling};
+ghost use Rattle.plan_model.specs.Geometry.Lengths.{cost_of, IsRootCeiling, root_ceiling};
 ghost use Rattle.plan_model.specs.declared.geometry.Point.{Point};
 
 /// The root of a number is the least whose square reaches it.

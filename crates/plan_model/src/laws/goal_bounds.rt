@@ -1,10 +1,9 @@
 //! Laws of the bound of a mark, each the contract of a function that does nothing.
 
 ghost use Rattle.std.specs.Prelude.{◌≡◌, ℕ, ◌+◌, ◌-◌, ◌<◌, ◌≤◌, IsTrue, List, length};
-ghost use Rattle.plan_model.specs.Geometry.Cost.{cost_of};
-ghost use Rattle.plan_model.specs.Spaces.ClearPaths.{path_point};
-ghost use Rattle.plan_model.specs.Trees.BestNode.{lies_in_goals};
-ghost use Rattle.plan_model.specs.Trees.GoalBounds.{bound_of};
+ghost use Rattle.plan_model.specs.Geometry.Lengths.{cost_of};
+ghost use Rattle.plan_model.specs.Spaces.Clearance.{path_point};
+ghost use Rattle.plan_model.specs.Trees.BestNode.{lies_in_goals, bound_of};
 ghost use Rattle.plan_model.specs.Trees.NodeLists.{length_of_path};
 ghost use Rattle.plan_model.specs.declared.geometry.Goal.{Goal};
 ghost use Rattle.plan_model.specs.declared.geometry.Point.{Point};

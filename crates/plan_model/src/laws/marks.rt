@@ -2,10 +2,9 @@
 
 ghost use Rattle.std.specs.Prelude.{◌≡◌, ℕ, ◌+◌, ◌*◌, ◌/◌, ◌<◌, ◌≤◌, ◌↔◌};
 ghost use Rattle.std.specs.List.{range_with_len, sum_by};
-ghost use Rattle.plan_model.specs.Spaces.ConfigurationSpace.{space_of};
+ghost use Rattle.plan_model.specs.Spaces.ConfigurationSpace.{space_of, InRoom, at_lattice};
 ghost use Rattle.plan_model.specs.Scenes.MarkPoints.{BodyFits, IsInSpan, IsMarkOf, columns, drawn_mark, mark_of, quota_of, rows, strip, strip_of_mark};
 ghost use Rattle.plan_model.specs.declared.spans.Span.{Span};
-ghost use Rattle.plan_model.specs.Spaces.RoomOfConfigurations.{InRoom, at_lattice};
 ghost use Rattle.plan_model.specs.declared.scenes.Scene.{Scene};
 
 /// The strips of a span lie one after another from its first column to its last, if there are enough columns.

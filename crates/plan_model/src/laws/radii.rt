@@ -1,8 +1,8 @@
 //! Laws of classes and radii.
 
 ghost use Rattle.std.specs.Prelude.{◌≡◌, ℕ, Option, List, [], ◌-◌, ◌*◌, ◌^◌, ◌<◌, ◌≤◌};
-ghost use Rattle.plan_model.specs.Geometry.Radius.{class_of, radius_of_class};
-ghost use Rattle.plan_model.specs.Trees.PointsByNumber.{IsFree};
+ghost use Rattle.plan_model.specs.Geometry.Lengths.{class_of, radius_of_class};
+ghost use Rattle.plan_model.specs.Trees.NodeLists.{IsFree};
 ghost use Rattle.plan_model.specs.Runs.Textbook.{Setup, near_new};
 ghost use Rattle.plan_model.specs.declared.geometry.Point.{Point};
 

@@ -2,7 +2,7 @@
 
 ghost use Rattle.std.specs.Prelude.{◌≡◌, ℕ, List, ◌⊎◌};
 ghost use Rattle.plan_model.specs.Texts.LineChecks.{Format};
-ghost use Rattle.plan_model.specs.Texts.SceneBatches.{RefusesBatch, SpellsBatch};
+ghost use Rattle.plan_model.specs.Texts.SceneGrammar.{RefusesBatch, SpellsBatch};
 ghost use Rattle.plan_model.specs.declared.scenes.Scene.{Scene};
 ghost use Rattle.plan_model.specs.declared.text_terms.Kind.{Kind};
 

@@ -4,7 +4,7 @@ ghost use Rattle.std.specs.Prelude.{◌≡◌, [], IsTrue, List, if◌then◌els
 ghost use Rattle.plan_model.specs.Spaces.ConfigurationSpace.{space_of};
 ghost use Rattle.plan_model.specs.Scenes.Limits.{IsBetween, are_goals, most_side};
 ghost use Rattle.plan_model.specs.Scenes.MarkPoints.{mark_points};
-ghost use Rattle.plan_model.specs.Scenes.SceneEnds.{with_ends};
+ghost use Rattle.plan_model.specs.Scenes.ChangedScenes.{with_ends};
 ghost use Rattle.plan_model.specs.Runs.Textbook.{setup_of};
 ghost use Rattle.plan_model.specs.declared.geometry.Goal.{Goal};
 ghost use Rattle.plan_model.specs.declared.geometry.Point.{Point};

@@ -2,14 +2,12 @@
 
 ghost use Rattle.std.specs.Prelude.{◌≡◌, ℕ, ◌≤◌, Some};
 ghost use Rattle.plan_model.specs.Runs.OrderLaw.{KeepsFirstCosts, KeepsOrder};
-ghost use Rattle.plan_model.specs.Trees.PointsByNumber.{AreDistinct, IsFree, IsPresent};
-ghost use Rattle.plan_model.specs.Seen.SeenParents.{AreSeenLawfully};
-ghost use Rattle.plan_model.specs.Seen.SeenTrees.{seen_whole, FollowSeenWays, HasSeenAtLeast, IsOnSeenWay, IsRooted, IsSeen};
-ghost use Rattle.plan_model.specs.Seen.SeenTrees.{IsTrueOf, SeenTree, SharedTree, TreeGrows};
+ghost use Rattle.plan_model.specs.Trees.NodeLists.{AreDistinct, IsFree, IsPresent};
+ghost use Rattle.plan_model.specs.Seen.SeenTrees.{AreSeenLawfully, seen_whole, FollowSeenWays, HasSeenAtLeast, IsOnSeenWay, IsRooted, IsSeen, IsTrueOf};
+ghost use Rattle.plan_model.specs.Seen.SeenTrees.{SeenTree, SharedTree, TreeGrows, FollowWays, IsOnWay};
 ghost use Rattle.plan_model.specs.Seen.Sights.{AgreeOnParents, EndsSince, IsLaterMoment, IsSwept, KeepsSight, Sight, TakesOver};
 ghost use Rattle.plan_model.specs.Runs.Textbook.{Setup};
 ghost use Rattle.plan_model.specs.Trees.TreeStates.{GrowsInto, TreeState};
-ghost use Rattle.plan_model.specs.Seen.Ways.{FollowWays, IsOnWay};
 ghost use Rattle.plan_model.specs.declared.geometry.Point.{Point};
 
 /// What a worker has seen of a tree stays seen, and what a call has swept stays swept. Each moment counts as later than

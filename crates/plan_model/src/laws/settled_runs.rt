@@ -3,9 +3,8 @@
 ghost use Rattle.std.specs.Prelude.{ℕ, ◌≤◌, List};
 ghost use Rattle.plan_model.specs.Trees.BestNode.{IsBestNode, IsGoalNode};
 ghost use Rattle.plan_model.specs.Spaces.Clearance.{ClearAt};
-ghost use Rattle.plan_model.specs.Trees.PointsByNumber.{IsPresent};
-ghost use Rattle.plan_model.specs.Runs.SameRuns.{IsOfTextbookRun};
-ghost use Rattle.plan_model.specs.Runs.Textbook.{Setup};
+ghost use Rattle.plan_model.specs.Trees.NodeLists.{IsPresent};
+ghost use Rattle.plan_model.specs.Runs.Textbook.{IsOfTextbookRun, Setup};
 ghost use Rattle.plan_model.specs.Trees.TreeStates.{ChangesCosts, GrowsInto, IsSettled, TreeState, sum_in};
 ghost use Rattle.plan_model.specs.declared.geometry.Point.{Point};
 ghost use Rattle.plan_model.specs.declared.geometry.Goal.{Goal};

@@ -3,8 +3,8 @@
 ghost use Rattle.std.specs.Prelude.{◌≡◌, ◌≢◌, ℕ, List, Option, ◌+◌, ◌-◌, ◌*◌, ◌/◌, ◌<◌, ◌≤◌, ◌↔◌};
 ghost use Rattle.plan_model.specs.Geometry.Plane.{squared_distance};
 ghost use Rattle.plan_model.specs.Trees.Nearness.{IsNearest};
-ghost use Rattle.plan_model.specs.Trees.PointsByNumber.{StandsAt, point_of};
-ghost use Rattle.plan_model.specs.Geometry.Steering.{IsStep, advanced, steered};
+ghost use Rattle.plan_model.specs.Trees.NodeLists.{StandsAt, point_of};
+ghost use Rattle.plan_model.specs.Geometry.Lengths.{IsStep, advanced, steered};
 ghost use Rattle.plan_model.specs.declared.geometry.Point.{Point};
 
 /// Steering moves a coordinate by its share of the way, rounded towards where it stands.

@@ -3,10 +3,9 @@
 ghost use Rattle.std.specs.Prelude.{◌≡◌, ℕ, suc, ◌+◌, ◌<◌, ◌⊎◌, Bool, IsTrue, Option, Some, None, List, [], ◌∷◌, ◌++◌, filter, replicate};
 ghost use Rattle.std.specs.List.{range_with_len};
 ghost use Rattle.plan_model.specs.Trees.BestNode.{IsBestNode, IsGoalNode, best_node};
-ghost use Rattle.plan_model.specs.Trees.LeastPairs.{IsFirstLeast, IsNotAbove, first_least};
-ghost use Rattle.plan_model.specs.Trees.PointsByNumber.{AreNumberedTo, IsPresent};
+ghost use Rattle.plan_model.specs.Trees.Nearness.{IsFirstLeast, IsNotAbove, first_least};
+ghost use Rattle.plan_model.specs.Trees.NodeLists.{AreNumberedTo, IsPresent, AreTightAlong, FallAlong, chain, chain_by, edge_by, sum_by, sum_of};
 ghost use Rattle.plan_model.specs.Trees.TreeStates.{TreeState};
-ghost use Rattle.plan_model.specs.Trees.NodeLists.{AreTightAlong, FallAlong, chain, chain_by, edge_by, sum_by, sum_of};
 ghost use Rattle.plan_model.specs.declared.geometry.Point.{Point};
 ghost use Rattle.plan_model.specs.declared.geometry.Goal.{Goal};
 ghost use Rattle.plan_model.specs.declared.trees.Twig.{Twig};

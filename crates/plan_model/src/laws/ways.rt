@@ -1,8 +1,8 @@
 //! Laws of ways through a kd-tree, each the contract of a function that does nothing.
 
 ghost use Rattle.std.specs.Prelude.{◌≡◌, ℕ, suc, ◌<◌, ◌⊎◌, Bool, Option, Some, None, List};
-ghost use Rattle.plan_model.specs.Trees.PointsByNumber.{AreDistinct, IsFree, IsPresent, StandsAt, node_count};
-ghost use Rattle.plan_model.specs.Seen.Ways.{AddsPoint, Children, EndsBelow, FillsPlaces, FollowWays, IsOnWay, LinksAt, goes_right};
+ghost use Rattle.plan_model.specs.Trees.NodeLists.{AreDistinct, IsFree, IsPresent, StandsAt, node_count};
+ghost use Rattle.plan_model.specs.Seen.SeenTrees.{AddsPoint, Children, EndsBelow, FillsPlaces, FollowWays, IsOnWay, LinksAt, goes_right};
 ghost use Rattle.plan_model.specs.declared.geometry.Point.{Point};
 
 /// The way of a point is one way: it has one node at each depth and one end. If each node is where its way leads, a

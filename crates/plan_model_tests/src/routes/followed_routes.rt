@@ -1,9 +1,7 @@
 //! Worked examples of links and routes, each the contract of a function that does nothing.
 
-ghost use Rattle.plan_model_tests.specs.RouteExamples.Links.{DiscVectors, OpenLinkVectors};
-ghost use Rattle.plan_model_tests.specs.RouteExamples.WorkersTurns.{WorkersTurnVectors};
-ghost use Rattle.plan_model_tests.specs.RouteExamples.NearRoutes.{NearRouteVectors};
-ghost use Rattle.plan_model_tests.specs.RouteExamples.FollowedRuns.{ReachedVectors, RouteVectors, UnfollowedVectors};
+ghost use Rattle.plan_model_tests.specs.RouteExamples.{DiscVectors, OpenLinkVectors, WorkersTurnVectors, NearRouteVectors, ReachedVectors};
+ghost use Rattle.plan_model_tests.specs.RouteExamples.{RouteVectors, UnfollowedVectors};
 
 /// Links that are open, and links that are not: one cut by a corner beside which each lattice point is clear, one a lattice step longer
 /// than the step.

@@ -1,16 +1,53 @@
--- The first number that breaks a law.
-use Rattle.std.specs.Prelude.{◌≡◌, ◌≢◌, ℕ, suc, ◌+◌, ◌*◌, ◌<◌, ◌^◌, min, is_some, Option, Some, None, List, length, slice_get, slice_index_or}
-use Rattle.plan_model.specs.declared.geometry.Point.{Point}
-use Rattle.plan_model.specs.declared.records.Record.{Record}
-use Rattle.plan_model.specs.declared.trees.Knot.{Knot}
-use Rattle.plan_model.specs.Runs.Outcomes.{is_placed}
-use Rattle.plan_model.specs.Runs.Textbook.{Setup}
-use Rattle.plan_model.specs.Runs.Turns.{turns_of}
-use Rattle.plan_model.specs.Trees.PointsByNumber.{IsPresent, point_at}
-use Rattle.grown_runs.specs.Runs.PackedRuns.{state_of_lists}
+-- Trees that are lists of nodes with their costs. Edges of a tree in which each node costs exactly what its parent does and the edge. The first
+-- number that breaks a law.
+use Rattle.report_judge.specs.Terms.{Clear, ConfigurationSpace, FallAlong, IsBounded, IsPresent, IsSettled, Knot, List, Option, Point, Record, Setup, []}
+use Rattle.report_judge.specs.Terms.{cost_of, is_placed, point_at, squared_distance, state_of_lists, turns_of}
+use Rattle.std.specs.Prelude.{◌≡◌, ◌≢◌, ℕ, ◌+◌, ◌^◌, ◌<◌, ◌≤◌, Option, Some, None, List, slice_index_or, suc, ◌*◌, min, is_some, length, slice_get}
 use Rattle.report_judge.specs.Texts.ReportLines.{Tally}
 use Rattle.report_judge.specs.Texts.ReportSheets.{PricedPath, head_lines}
 use Rattle.report_judge.specs.Laws.SheetLaws.{HasOwnTurn, KeepsNodeLaw}
+
+-- each node costs what the edges on its way from the start do, and costs fall along parents
+pub record IsSettledList (knots : List (Option Knot)) : Type 0 where
+  pub fall : FallAlong (state_of_lists knots []).cost (state_of_lists knots []).points (state_of_lists knots []).parent
+  pub settled : IsSettled (state_of_lists knots [])
+
+-- The edge is clear and no longer than a step whose square this is, and the second node costs exactly what the first does and the edge.
+pub record IsExactEdge (space : ConfigurationSpace) (squared_step : ℕ) (from to : Knot) : Type 0 where
+  pub clear : Clear space from.point to.point
+  pub short : squared_distance from.point to.point ≤ squared_step
+  pub exact : to.cost ≡ from.cost + cost_of from.point to.point
+
+-- the distances from a node and the costs through it may be taken
+pub record FitsEdges (knot : Knot) : Type 0 where
+  pub point : IsBounded knot.point
+  pub cost : knot.cost < 2 ^ 44
+
+-- Node n hangs below another node of the list, by an exact edge.
+pub record HangsExactly (space : ConfigurationSpace) (squared_step : ℕ) (knots : List (Option Knot)) (n : ℕ) (knot : Knot) : Type 0 where
+  pub up : Knot
+  pub there : slice_index_or knots knot.parent None ≡ Some up
+  pub other : knot.parent ≢ n
+  pub edge : IsExactEdge space squared_step up knot
+
+-- node n, if it is there and is not the start, hangs exactly below its parent
+abbrev pub KeepsEdges : ConfigurationSpace → ℕ → List (Option Knot) → ℕ → Type 0
+KeepsEdges space squared_step knots n = 0 < n → (knot : Knot) → slice_index_or knots n None ≡ Some knot → HangsExactly space squared_step knots n knot
+
+-- ---- first parents
+
+-- The edge is clear and no longer than a step whose square this is, and the second node costs at least what the first does and the edge.
+pub record IsHighEdge (space : ConfigurationSpace) (squared_step : ℕ) (from to : Knot) : Type 0 where
+  pub clear : Clear space from.point to.point
+  pub short : squared_distance from.point to.point ≤ squared_step
+  pub above : from.cost + cost_of from.point to.point ≤ to.cost
+
+-- Node n may hang where this one does, with its parent and at its cost: below another node of the list, by such an edge.
+pub record MayHang (space : ConfigurationSpace) (squared_step : ℕ) (knots : List (Option Knot)) (n : ℕ) (place : Knot) : Type 0 where
+  pub up : Knot
+  pub there : slice_index_or knots place.parent None ≡ Some up
+  pub other : place.parent ≢ n
+  pub edge : IsHighEdge space squared_step up place
 
 -- the first of the numbers below a limit that breaks a law; none if each of them keeps it
 abbrev pub IsFirstBreak : (ℕ → Type 0) → ℕ → Option ℕ → Type 0

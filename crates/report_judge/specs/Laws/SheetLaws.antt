@@ -1,19 +1,8 @@
 -- The laws of a full report beside its form, line by line: of nodes, turns, presence, records, and the head.
 use Rattle.std.specs.Prelude.{◌≡◌, ◌≢◌, ℕ, zero, suc, ◌+◌, ◌<◌, is_some, Bool, true, false, Option, Some, None, length, slice_get}
-use Rattle.plan_model.specs.declared.records.Record.{Record}
-use Rattle.plan_model.specs.declared.scenes.Scene.{Scene}
-use Rattle.plan_model.specs.declared.tasks.Task.{Task}
-use Rattle.plan_model.specs.Reports.ReportText.{path_to}
-use Rattle.plan_model.specs.Runs.ClosedLaw.{mark_at, outcome_count}
-use Rattle.plan_model.specs.Runs.OrderLaw.{IsAllowedEdge}
-use Rattle.plan_model.specs.Runs.Outcomes.{is_placed, is_same, is_blocked, is_skipped}
-use Rattle.plan_model.specs.Runs.RecordLaw.{IsLawfulRecord}
-use Rattle.plan_model.specs.Runs.Textbook.{Setup, setup_of}
-use Rattle.plan_model.specs.Runs.Turns.{turns_of}
-use Rattle.plan_model.specs.Trees.BestNode.{best_node, goals_of}
-use Rattle.plan_model.specs.Trees.NodeLists.{edge_by}
-use Rattle.plan_model.specs.Trees.PointsByNumber.{StandsAt, IsPresent, point_at, point_of, node_count}
-use Rattle.plan_model.specs.Trees.TreeStates.{TreeState, sum_in}
+use Rattle.report_judge.specs.Terms.{IsAllowedEdge, IsLawfulRecord, IsPresent, Record, Scene, Setup, StandsAt, Task, TreeState, best_node, edge_by, goals_of}
+use Rattle.report_judge.specs.Terms.{is_blocked, is_placed, is_same, is_skipped, mark_at, node_count, outcome_count, path_to, point_at, point_of, setup_of}
+use Rattle.report_judge.specs.Terms.{sum_in, turns_of}
 use Rattle.report_judge.specs.Texts.ReportLines.{Tally}
 use Rattle.report_judge.specs.Texts.ReportSheets.{PricedPath, Sheet, head_lines, state_of_sheet, number_of_node_line, number_of_mark_line}
 

@@ -1,13 +1,10 @@
--- The verdict on the bytes of a report: that they are lawful, or the least law that is broken and the first line that breaks it.
+-- The verdict on the bytes of a report: that they are lawful, or the least law that is broken and the first line that breaks it. What a verdict on a
+-- report says of its bytes.
 use Rattle.std.specs.Prelude.{◌≡◌, ℕ, ◌<◌, ◌⊎◌, List, length}
-use Rattle.plan_model.specs.declared.tasks.Task.{Task}
-use Rattle.plan_model.specs.Reports.ReportText.{full_report}
-use Rattle.plan_model.specs.Runs.ClosedLaw.{IsClosed}
-use Rattle.plan_model.specs.Runs.Textbook.{setup_of}
-use Rattle.plan_model.specs.Trees.TreeStates.{TreeState, IsSettled}
+use Rattle.report_judge.specs.Terms.{Broken, IsClosed, IsSettled, Lawful, List, Task, TreeState, Verdict, full_report, setup_of, ℕ}
 use Rattle.report_judge.specs.Texts.ReportForms.{BreaksFormFirst}
-use Rattle.report_judge.specs.Texts.ReportLines.{extent_of}
-use Rattle.report_judge.specs.Texts.ReportSheets.{Sheet, SpellsSheet}
+use Rattle.report_judge.specs.Texts.ReportLines.{extent_of, lines_text}
+use Rattle.report_judge.specs.Texts.ReportSheets.{Sheet, SpellsSheet, lines_of_sheet}
 use Rattle.report_judge.specs.Laws.SheetLaws.{KeepsLawAt, KeepsLaw}
 
 -- The bytes are the full report of a settled run of the task that is closed over all of its marks.
@@ -34,3 +31,13 @@ pub record BreaksLawFirst (task : Task) (report : List ℕ) (law line : ℕ) : T
 -- The verdict that a law is broken, and a line: the least law that is broken, and the first line that breaks it. Law 1 is the form.
 abbrev pub IsBroken : Task → List ℕ → ℕ → ℕ → Type 0
 IsBroken task report law line = ((law ≡ 1) × BreaksFormFirst (extent_of task) report line) ⊎ BreaksLawFirst task report law line
+
+-- Lawful bytes are the full report of a settled run that is closed over all marks; of others it names the least law that is broken and the
+-- first line that breaks it.
+abbrev pub IsVerdict : Task → List ℕ → Verdict → Type 0
+IsVerdict task report Lawful = IsReportOfRun task report
+IsVerdict task report (Broken line law) = IsBroken task report law line × ¬ IsReportOfRun task report
+
+-- the bytes that a sheet's lines have
+abbrev pub bytes_of : Sheet → List ℕ
+bytes_of sheet = lines_text (lines_of_sheet sheet)

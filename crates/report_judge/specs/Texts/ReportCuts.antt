@@ -1,7 +1,8 @@
--- The text of a scene and the bytes of a report in one text, with a line `report` between them.
+-- The text of a scene and the bytes of a report in one text, with a line `report` between them. What is read of the bytes of a report: a sheet, or
+-- the first line that breaks the form.
 use Rattle.std.specs.Prelude.{◌≡◌, ◌≢◌, ◌⊎◌, ◌==◌, not, ℕ, Bool, true, All, List, [], ◌∷◌, ◌++◌, codes}
-use Rattle.std.specs.List.{list_all}
-use Rattle.plan_model.specs.Texts.SceneBatches.{text_of}
+use Rattle.report_judge.specs.Terms.{CostedPath, Option, SheetRead, list_all, option_map, text_of}
+use Rattle.report_judge.specs.Texts.ReportSheets.{PricedPath, Sheet}
 
 -- the line between them
 abbrev pub report_line : List ℕ
@@ -31,3 +32,11 @@ pub record HasNoReportLine (text : List ℕ) : Type 0 where
   pub split : text ≡ text_of lines ++ last
   pub others : All IsOtherLine lines
   pub end : IsOtherLine last
+
+-- the path that was read, with its cost
+abbrev pub priced_path : Option CostedPath → Option PricedPath
+priced_path path = option_map (λ (p : CostedPath). record { points = p.points.items; cost = p.cost }) path
+
+-- what the lists that were read say
+abbrev pub sheet_read : SheetRead → Sheet
+sheet_read read = record { path = priced_path read.path; tally = read.tally; knots = read.knots.items; records = read.records.items }

@@ -1,7 +1,11 @@
--- Where bytes first break the form of a full report: line by line, each against the lines before it.
-use Rattle.std.specs.Prelude.{◌≡◌, ℕ, suc, ◌+◌, ◌-◌, ◌<◌, ◌≤◌, Option, Some, List, [], ◌++◌, length, take, slice_get}
-use Rattle.report_judge.specs.Texts.ReportLines.{ReportLine, Extent, line_text, lines_text, FitsLine}
+-- Where bytes first break the form of a full report: line by line, each against the lines before it. The lines of one kind at the front of a text,
+-- read as far as they go.
+use Rattle.std.specs.Prelude.{◌≡◌, ℕ, suc, ◌+◌, ◌-◌, ◌<◌, ◌≤◌, Option, Some, List, [], ◌++◌, length, take, slice_get, zero, ◌∷◌, IsSome, All, None, map}
+use Rattle.std.specs.Prelude.{slice_index_or}
+use Rattle.report_judge.specs.Texts.ReportLines.{ReportLine, Extent, line_text, lines_text, FitsLine, Tally, FitsKnot, FitsEntry}
 use Rattle.report_judge.specs.Texts.ReportLines.ReportLine.{NoPath, PathOf, PathPoint, Counts, NodeLine, MarkLine}
+use Rattle.report_judge.specs.Terms.{IsBounded, IsKnot, Knot, Point, Record}
+use Rattle.report_judge.specs.Texts.ReportSheets.{lines_of_knots, lines_of_records}
 
 -- how many points the first line says that the path has
 abbrev pub points_said : Option ReportLine → ℕ
@@ -57,3 +61,38 @@ pub record BreaksFormFirst (extent : Extent) (report : List ℕ) (line : ℕ) : 
   pub number : line ≡ suc (length before)
   pub no_next : (next : ReportLine) (after : List ℕ) → MayStandNext before next → FitsLine extent next → ¬ (rest ≡ line_text next ++ after)
   pub not_all : ¬ (AreAll extent before × (rest ≡ []))
+
+-- Points at the front of a text, at most so many, and the rest of it; if there are fewer, no point stands next.
+pub record ReadsPoints (most : ℕ) (bytes : List ℕ) (points : List Point) (rest : List ℕ) : Type 0 where
+  pub text : bytes ≡ lines_text (map PathPoint points) ++ rest
+  pub few : length points ≤ most
+  pub fit : All IsBounded points
+  pub ended : length points < most → (p : Point) (after : List ℕ) → IsBounded p → ¬ (rest ≡ line_text (PathPoint p) ++ after)
+
+-- Node n may stand after the counts and the lines of these nodes: the start first, and then each after those of lesser numbers.
+abbrev pub MayComeNext : Tally → List (Option Knot) → ℕ → Type 0
+MayComeNext tally knots n = MayFollow n (slice_get (Counts tally ∷ lines_of_knots knots) (length (lines_of_knots knots)))
+
+-- Node n is the start if no number is given away yet, and else has none of the numbers below this.
+abbrev pub IsNextNode : ℕ → ℕ → Type 0
+IsNextNode zero n = n ≡ 0
+IsNextNode (suc m) n = m < n
+
+-- Nodes at the front of a text, at most so many, by number, and the rest of it; if there are fewer, no line of a node may stand next.
+pub record ReadsNodes (marks most : ℕ) (bytes : List ℕ) (knots : List (Option Knot)) (count : ℕ) (rest : List ℕ) : Type 0 where
+  pub numbers : length knots ≡ suc marks
+  pub text : bytes ≡ lines_text (lines_of_knots knots) ++ rest
+  pub counted : length (lines_of_knots knots) ≡ count
+  pub few : count ≤ most
+  pub fit : (n : ℕ) (knot : Knot) → IsKnot knots n knot → FitsKnot marks n knot
+  pub start : 0 < count → IsSome (slice_index_or knots 0 None)
+  pub ended : count < most → (tally : Tally) (n : ℕ) (knot : Knot) (after : List ℕ) → MayComeNext tally knots n → FitsKnot marks n knot
+      → ¬ (rest ≡ line_text (NodeLine n knot) ++ after)
+
+-- Records at the front of a text, of the first marks, and the rest of it; if there are fewer than marks, the next mark has none.
+pub record ReadsRecords (extent : Extent) (bytes : List ℕ) (records : List Record) (rest : List ℕ) : Type 0 where
+  pub text : bytes ≡ lines_text (lines_of_records records) ++ rest
+  pub few : length records ≤ extent.marks
+  pub fit : (k : ℕ) (entry : Record) → slice_get records k ≡ Some entry → FitsEntry extent entry
+  pub ended : length records < extent.marks → (entry : Record) (after : List ℕ) → FitsEntry extent entry
+      → ¬ (rest ≡ line_text (MarkLine (length records) entry) ++ after)

@@ -1,13 +1,7 @@
 -- The lines of a full report: what each says, its text, and the ranges of its numbers.
 use Rattle.std.specs.Prelude.{ℕ, ◌<◌, ◌≤◌, ◌^◌, Bool, true, false, IsTrue, Option, Some, None, List, [], ◌∷◌, ◌++◌, length, codes, decimal, flat_map}
-use Rattle.plan_model.specs.declared.geometry.Point.{Point}
-use Rattle.plan_model.specs.declared.records.Record.{Record}
-use Rattle.plan_model.specs.declared.tasks.Task.{Task}
-use Rattle.plan_model.specs.declared.trees.Knot.{Knot}
-use Rattle.plan_model.specs.Geometry.Bounds.{IsBounded}
-use Rattle.plan_model.specs.Reports.ReportText.{line, ending_words}
-use Rattle.plan_model.specs.Runs.Endings.{Reached, NewNode, SameNode, NoWay, Ending, Steered, SkippedBy, ending_of}
-use Rattle.grown_runs.specs.Runs.PackedRuns.{FitsRecord}
+use Rattle.report_judge.specs.Terms.{Ending, FitsRecord, IsBounded, Knot, NewNode, NoWay, Point, Reached, Record, SameNode, SkippedBy, Steered, Task}
+use Rattle.report_judge.specs.Terms.{ending_of, ending_words, line}
 pub use Rattle.report_judge.specs.declared.tallies.Tally.{Tally}
 
 -- What a line says: that there is no path, or how many points the path has and what it costs; one of these points; the counts;

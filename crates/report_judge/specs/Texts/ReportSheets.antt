@@ -1,14 +1,7 @@
 -- What all lines of a full report say together: the path, the counts, the nodes by number and the records by mark.
-use Rattle.std.specs.Prelude.{◌≡◌, ℕ, suc, ◌+◌, ◌<◌, ◌^◌, Option, Some, None, List, [], ◌∷◌, ◌++◌, length, map, take, slice_get, slice_index_or}
-use Rattle.std.specs.Prelude.{All, count_by, is_some}
+use Rattle.std.specs.Prelude.{◌≡◌, ℕ, suc, ◌+◌, ◌<◌, ◌^◌, Option, Some, None, List, [], ◌∷◌, ◌++◌, length, map, take, slice_get, slice_index_or, All}
+use Rattle.report_judge.specs.Terms.{IsBounded, IsKnot, IsPresent, Knot, Point, Record, TreeState, count_by, is_some, node_count, state_of_lists}
 use Rattle.std.specs.List.{range_with_len, flat_map}
-use Rattle.plan_model.specs.declared.geometry.Point.{Point}
-use Rattle.plan_model.specs.declared.records.Record.{Record}
-use Rattle.plan_model.specs.declared.trees.Knot.{Knot}
-use Rattle.plan_model.specs.Geometry.Bounds.{IsBounded}
-use Rattle.plan_model.specs.Trees.PointsByNumber.{IsPresent, node_count}
-use Rattle.plan_model.specs.Trees.TreeStates.{TreeState}
-use Rattle.grown_runs.specs.Runs.PackedRuns.{IsKnot, state_of_lists}
 use Rattle.report_judge.specs.Texts.ReportLines.{Tally, ReportLine, Extent, lines_text, FitsTally, FitsKnot, FitsEntry}
 use Rattle.report_judge.specs.Texts.ReportLines.ReportLine.{NoPath, PathOf, PathPoint, Counts, NodeLine, MarkLine}
 

@@ -1,31 +1,10 @@
 -- The nodes and the records of a report, with the nodes of a worker, by which its marks are judged.
 use Rattle.std.specs.Prelude.{◌≡◌, ℕ, suc, ◌<◌, ◌≤◌, ◌^◌, List, Option, Some, None, length, slice_get, slice_index_or}
-use Rattle.plan_model.specs.declared.configuration_spaces.ConfigurationSpace.{ConfigurationSpace}
-use Rattle.plan_model.specs.declared.geometry.Goal.{Goal}
-use Rattle.plan_model.specs.declared.geometry.Point.{Point}
-use Rattle.plan_model.specs.declared.limits.TheConstants.{MOST_MARKS}
-use Rattle.plan_model.specs.declared.records.Record.{Record}
-use Rattle.plan_model.specs.declared.scenes.Scene.{Scene}
-use Rattle.plan_model.specs.declared.tasks.Task.{Task}
-use Rattle.plan_model.specs.declared.trees.Knot.{Knot}
-use Rattle.plan_model.specs.Geometry.Bounds.{IsBounded}
-use Rattle.plan_model.specs.Runs.ClosedLaw.{mark_at}
-use Rattle.plan_model.specs.Runs.RecordLaw.{IsLawfulRecord}
-use Rattle.plan_model.specs.Runs.Textbook.{Setup, setup_of}
-use Rattle.plan_model.specs.Runs.Turns.{turns_of}
-use Rattle.plan_model.specs.Spaces.ConfigurationSpace.{space_of}
-use Rattle.plan_model.specs.Trees.PointsByNumber.{node_count}
-use Rattle.plan_model.specs.Trees.TreeStates.{TreeState}
-use Rattle.edge_cost.specs.declared.radii.Radii.{Radii}
-use Rattle.grown_runs.specs.Runs.PackedRuns.{state_of_lists}
-use Rattle.report_judge.specs.declared.marks.judged.Judged.{Judged}
-use Rattle.report_judge.specs.declared.marks.judged.Listed.{Listed}
-use Rattle.report_judge.specs.declared.own.own_histories.OwnHistory.{OwnHistory}
-use Rattle.report_judge.specs.declared.own.seen_nodes.Seen.{Seen}
-use Rattle.report_judge.specs.Workers.SeenNodes.{AreSeen, AreTurnsOf, HaveOwnTurns}
-use Rattle.report_judge.specs.Laws.ExactEdges.{FitsEdges}
+use Rattle.report_judge.specs.Terms.{ConfigurationSpace, Goal, IsBounded, IsLawfulRecord, Judged, Knot, Listed, MOST_MARKS, OwnHistory, Point, Radii, Record}
+use Rattle.report_judge.specs.Terms.{Scene, Seen, Setup, Task, TreeState, mark_at, node_count, setup_of, space_of, state_of_lists, turns_of}
+use Rattle.report_judge.specs.Workers.SeenNodes.{AreSeen, AreTurnsOf, HaveOwnTurns, AreStandings}
+use Rattle.report_judge.specs.Laws.FirstBreaks.{FitsEdges}
 use Rattle.report_judge.specs.Workers.OwnNodes.{AreNodesBefore, ArePresent, FitFirstCosts}
-use Rattle.report_judge.specs.Workers.Standings.{AreStandings}
 
 -- the tree of the nodes and the records
 abbrev pub run_of : Judged → TreeState

@@ -1,28 +1,11 @@
--- The nodes of a worker, as numbered points: the start, and those that it placed.
-use Rattle.std.specs.Prelude.{◌≡◌, ℕ, suc, ◌<◌, ◌⊎◌, ◌+◌, ◌≤◌, ◌^◌, IsTrue, true, ⊤}
-use Rattle.std.specs.Prelude.{All, Contains, Option, Some, None, List, slice_get}
-use Rattle.plan_model.specs.declared.configuration_spaces.ConfigurationSpace.{ConfigurationSpace}
-use Rattle.plan_model.specs.declared.geometry.Point.{Point}
-use Rattle.plan_model.specs.declared.records.Record.{Record}
-use Rattle.plan_model.specs.declared.trees.Knot.{Knot}
-use Rattle.plan_model.specs.Geometry.Bounds.{IsBounded}
-use Rattle.plan_model.specs.Geometry.Cost.{cost_of}
-use Rattle.plan_model.specs.Geometry.Plane.{squared_distance}
-use Rattle.plan_model.specs.Runs.Outcomes.{is_placed}
-use Rattle.plan_model.specs.Runs.RecordLaw.{IsEarlier, first_cost_through}
-use Rattle.plan_model.specs.Spaces.Clearance.{Clear}
-use Rattle.plan_model.specs.Trees.LeastPairs.{IsNotAbove}
-use Rattle.plan_model.specs.Trees.Nearness.{distance_to, is_within}
-use Rattle.plan_model.specs.Trees.PointsByNumber.{StandsAt, IsPresent, point_at, point_of}
-use Rattle.plan_model.specs.Trees.TreeStates.{TreeState}
-use Rattle.point_bands.specs.Walks.{numbered_at}
-use Rattle.point_bands.specs.declared.bands.Numbered.{Numbered}
-use Rattle.grown_runs.specs.Runs.PackedRuns.{state_of_lists}
-use Rattle.report_judge.specs.Workers.SeenNodes.{is_before}
-use Rattle.report_judge.specs.Workers.Standings.{place_of, standing_at}
-use Rattle.report_judge.specs.declared.own.searches.NearerSearch.{NearerSearch}
-use Rattle.report_judge.specs.declared.own.searches.NeighbourSearch.{NeighbourSearch}
-use Rattle.report_judge.specs.declared.own.standings.Standing.{Standing}
+-- The nodes of a worker, as numbered points: the start, and those that it placed. What the record of a mark says once it is known to which point the
+-- mark was steered. The marks of a worker between two of its turns, and the first of them that breaks a law.
+use Rattle.std.specs.Prelude.{◌≡◌, ℕ, suc, ◌<◌, ◌⊎◌, ◌+◌, ◌≤◌, ◌^◌, IsTrue, true, ⊤, All, Contains, Option, Some, None, List, slice_get, length}
+use Rattle.report_judge.specs.Terms.{Clear, ConfigurationSpace, IsBounded, IsEarlier, IsGoalNode, IsNotAbove, IsPresent, Knot, NearerSearch, NeighbourSearch}
+use Rattle.report_judge.specs.Terms.{Numbered, Point, Reached, ReachesLawfully, Record, Setup, Standing, StandsAt, Steered, TreeState, cost_of, distance_to}
+use Rattle.report_judge.specs.Terms.{ending_of, first_cost_of, first_cost_through, is_placed, is_within, numbered_at, point_at, point_of, squared_distance}
+use Rattle.report_judge.specs.Terms.{state_of_lists}
+use Rattle.report_judge.specs.Workers.SeenNodes.{is_before, place_of, standing_at}
 
 -- The numbered point is a node of the worker that stood before a turn, numbered by its place.
 pub record IsNodeBefore (state : TreeState) (worker turn : ℕ) (m : Numbered) : Type 0 where
@@ -117,3 +100,43 @@ KeepsNear space state entry p radius = (i : ℕ) → IsEarlier state entry i →
 -- each first cost fits 44 bits
 abbrev pub FitFirstCosts : List Record → Type 0
 FitFirstCosts records = (k : ℕ) (entry : Record) → slice_get records k ≡ Some entry → entry.first_cost < 2 ^ 44
+
+-- each goal node that stood already was placed at more than a bound
+abbrev pub AreDearer : Setup → TreeState → Record → ℕ → Type 0
+AreDearer setup state entry bound = (i : ℕ) → IsEarlier state entry i → IsGoalNode setup.goals state.points i → bound < first_cost_of state i
+
+-- The nearest node of mark k steered to p, and what was reached there is what its record says.
+pub record IsReachedLawfully (setup : Setup) (state : TreeState) (k : ℕ) (entry : Record) (p : Point) : Type 0 where
+  pub reached : Reached
+  pub ending : ending_of entry ≡ Steered entry.nearest reached
+  pub lawful : ReachesLawfully setup state k entry entry.nearest reached p
+
+-- a cost is at most that of the way to p by a node that is present, as it was placed
+pub record IsWithinFirst (state : TreeState) (cost node : ℕ) (p : Point) : Type 0 where
+  pub present : IsPresent state.points node
+  pub within : cost ≤ first_cost_through state p node
+
+-- mark k was handled by the worker in a turn from one up to another, and without that
+pub record IsMarkBetween (records : List Record) (own from to k : ℕ) : Type 0 where
+  pub entry : Record
+  pub at : slice_get records k ≡ Some entry
+  pub worker : entry.worker ≡ own
+  pub past : from ≤ entry.turn
+  pub before : entry.turn < to
+
+-- a number stands in a list of numbered points
+pub record HasNumber (marks : List Numbered) (k : ℕ) : Type 0 where
+  pub position : ℕ
+  pub inside : position < length marks
+  pub number : (numbered_at marks position).number ≡ k
+
+-- The list has the marks that the worker handled in the turns from one up to another, and no others.
+pub record AreMarksBetween (records : List Record) (worker from to : ℕ) (marks : List Numbered) : Type 0 where
+  pub each : (k : ℕ) → IsMarkBetween records worker from to k → HasNumber marks k
+  pub only : All (λ m. IsMarkBetween records worker from to m.number) marks
+
+-- A number of a list that breaks a law, while each lesser one at the first positions keeps it; none if each at these positions keeps it.
+abbrev pub IsFirstSeen : (ℕ → Type 0) → List Numbered → ℕ → Option ℕ → Type 0
+IsFirstSeen Keeps marks limit None = (j : ℕ) → j < limit → Keeps (numbered_at marks j).number
+IsFirstSeen Keeps marks limit (Some k) =
+    HasNumber marks k × ((j : ℕ) → j < limit → (numbered_at marks j).number < k → Keeps (numbered_at marks j).number) × ¬ Keeps k

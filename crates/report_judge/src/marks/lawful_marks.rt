@@ -1,19 +1,17 @@
 //! Whether the record of a mark keeps the law of records.
 
 ghost use Rattle.std.specs.Prelude.{◌≡◌, ◌≢◌, ◌↔◌, ◌<◌, ◌≤◌, IsFalse, IsTrue};
-ghost use Rattle.plan_model.specs.Geometry.Bounds.{IsBounded};
-ghost use Rattle.plan_model.specs.Geometry.Radius.{radius_of_class};
-ghost use Rattle.plan_model.specs.Runs.RecordLaw.{HasClass, earlier_count, IsBlockedLawfully, IsChosenLawfully};
-ghost use Rattle.plan_model.specs.Runs.RecordLaw.{IsLawfulRecord, IsSkippedLawfully};
+ghost use Rattle.plan_model.specs.Geometry.Plane.{IsBounded};
+ghost use Rattle.plan_model.specs.Geometry.Lengths.{radius_of_class};
+ghost use Rattle.plan_model.specs.Runs.ClosedLaw.{HasClass, earlier_count, IsBlockedLawfully, IsChosenLawfully, IsLawfulRecord, IsSkippedLawfully};
 ghost use Rattle.plan_model.specs.Runs.Endings.{first_hanging};
 ghost use Rattle.plan_model.specs.declared.records.Outcome.TheVariants.{Skipped};
 ghost use Rattle.plan_model.specs.Runs.Textbook.{Setup, mark_bound, setup_of, skipping_goals};
 ghost use Rattle.plan_model.specs.Spaces.Clearance.{Clear};
-ghost use Rattle.plan_model.specs.Trees.PointsByNumber.{IsPresent, node_count, point_of};
+ghost use Rattle.plan_model.specs.Trees.NodeLists.{IsPresent, node_count, point_of};
 ghost use Rattle.plan_model.specs.declared.limits.TheConstants.{MOST_MARKS};
 ghost use Rattle.report_judge.specs.Workers.JudgedRuns.{IsAsked, IsJudged, run_of, setup_by};
-ghost use Rattle.report_judge.specs.Workers.MarkLaws.{AreDearer, IsReachedLawfully};
-ghost use Rattle.report_judge.specs.Workers.OwnNodes.{IsNearestOfEarlier};
+ghost use Rattle.report_judge.specs.Workers.OwnNodes.{AreDearer, IsReachedLawfully, IsNearestOfEarlier};
 ghost use Rattle.report_judge.specs.Workers.SeenNodes.{AreSeen};
 ghost use Rattle.report_judge.specs.declared.marks.judged.Judged.{Judged};
 ghost use Rattle.plan_model.specs.declared.records.Record.{Record};

@@ -2,19 +2,17 @@
 
 ghost use Rattle.std.specs.Prelude.{◌≡◌, ◌<◌, ◌≤◌, ◌↔◌, ℕ, suc, IfNone, IfOk, IfSome, IsTrue, List, None, Some, length, slice_get, slice_index_or};
 ghost use Rattle.plan_model.specs.Runs.Textbook.{skipping_goals};
-ghost use Rattle.plan_model.specs.Runs.Turns.{turns_of};
+ghost use Rattle.plan_model.specs.Runs.OrderLaw.{turns_of};
 ghost use Rattle.plan_model.specs.Spaces.ConfigurationSpace.{space_of};
-ghost use Rattle.plan_model.specs.Trees.PointsByNumber.{node_count};
+ghost use Rattle.plan_model.specs.Trees.NodeLists.{node_count};
 ghost use Rattle.plan_model.specs.declared.limits.TheConstants.{MOST_MARKS, MOST_NODES};
 ghost use Rattle.plan_model.specs.declared.records.Record.{Record};
 ghost use Rattle.plan_model.specs.declared.trees.Knot.{Knot};
 ghost use Rattle.grown_runs.specs.Runs.PackedRuns.{state_of_lists};
-ghost use Rattle.report_judge.specs.Laws.ExactEdges.{FitsEdges};
-ghost use Rattle.report_judge.specs.Laws.FirstBreaks.{HasFewTurns, IsFirstBreak};
+ghost use Rattle.report_judge.specs.Laws.FirstBreaks.{FitsEdges, HasFewTurns, IsFirstBreak};
 ghost use Rattle.report_judge.specs.Workers.JudgedRuns.{AreListed, AreRadiiOf, HaveLowTurns, IsJudged, IsOwnHistory};
 ghost use Rattle.report_judge.specs.Workers.JudgedRuns.{KeepsRecord, KeepsRecordBetween, KeepsRecordOf};
-ghost use Rattle.report_judge.specs.Workers.OwnMarks.{HasNumber, IsFirstSeen, IsMarkBetween};
-ghost use Rattle.report_judge.specs.Workers.OwnNodes.{ArePresent, FitFirstCosts};
+ghost use Rattle.report_judge.specs.Workers.OwnNodes.{HasNumber, IsFirstSeen, IsMarkBetween, ArePresent, FitFirstCosts};
 ghost use Rattle.report_judge.specs.Workers.SeenNodes.{HaveOwnTurns};
 
 use crate::first_breaks::earlier;

@@ -1,15 +1,15 @@
 //! Whether what the record of a placed mark says is borne out by the tree.
 
 ghost use Rattle.std.specs.Prelude.{◌↔◌, ◌<◌, IsTrue, List};
-ghost use Rattle.plan_model.specs.Geometry.Bounds.{IsBounded};
+ghost use Rattle.plan_model.specs.Geometry.Plane.{IsBounded};
 ghost use Rattle.plan_model.specs.Runs.Endings.{first_hanging};
-ghost use Rattle.plan_model.specs.Runs.RecordLaw.{HangsLawfully};
-ghost use Rattle.plan_model.specs.Trees.PointsByNumber.{IsPresent, StandsAt};
+ghost use Rattle.plan_model.specs.Runs.ClosedLaw.{HangsLawfully};
+ghost use Rattle.plan_model.specs.Trees.NodeLists.{IsPresent, StandsAt};
 ghost use Rattle.plan_model.specs.declared.limits.TheConstants.{MOST_MARKS};
 ghost use Rattle.plan_model.specs.declared.records.Record.{Record};
 ghost use Rattle.grown_runs.specs.Runs.PackedRuns.{state_of_lists};
 ghost use Rattle.report_judge.specs.Workers.JudgedRuns.{IsAsked, IsJudged, run_of, setup_by};
-ghost use Rattle.report_judge.specs.Workers.MarkLaws.{IsWithinFirst};
+ghost use Rattle.report_judge.specs.Workers.OwnNodes.{IsWithinFirst};
 
 use crate::marks::judged::{Judged, Marked};
 use crate::trees::best_paths::kept_cost;

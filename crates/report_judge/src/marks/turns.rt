@@ -1,7 +1,7 @@
 //! Whether the turns of each worker run from 0, none of them twice.
 
 ghost use Rattle.std.specs.Prelude.{◌≡◌, ◌+◌, ◌*◌, ◌<◌, ◌≤◌, ◌^◌, ℕ, IfOk, Some, length, slice_get, slice_index_or};
-ghost use Rattle.plan_model.specs.Runs.Turns.{turns_of};
+ghost use Rattle.plan_model.specs.Runs.OrderLaw.{turns_of};
 ghost use Rattle.plan_model.specs.declared.limits.TheConstants.{MOST_MARKS};
 ghost use Rattle.plan_model.specs.declared.records.Record.{Record};
 ghost use Rattle.report_judge.specs.Laws.FirstBreaks.{HasFewTurns, HasLowTurn, IsFirstBreak, KeepsTurn, turn_key};

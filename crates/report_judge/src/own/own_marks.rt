@@ -2,7 +2,7 @@
 
 ghost use Rattle.std.specs.Prelude.{◌≡◌, ◌≤◌, IfOk, length};
 ghost use Rattle.plan_model.specs.declared.limits.TheConstants.{MOST_MARKS};
-ghost use Rattle.report_judge.specs.Workers.OwnMarks.{AreMarksBetween};
+ghost use Rattle.report_judge.specs.Workers.OwnNodes.{AreMarksBetween};
 ghost use Rattle.report_judge.specs.Workers.SeenNodes.{AreTurnsOf, HaveOwnTurns};
 
 use crate::own::own_turns::OwnTurns;

@@ -4,7 +4,7 @@ ghost use Rattle.std.specs.Prelude.{◌≡◌, ◌<◌, ◌≤◌, ℕ, suc, IfO
 ghost use Rattle.plan_model.specs.declared.limits.TheConstants.{MOST_MARKS};
 ghost use Rattle.plan_model.specs.declared.trees.Knot.{Knot};
 ghost use Rattle.grown_runs.specs.Runs.PackedRuns.{state_of_lists};
-ghost use Rattle.report_judge.specs.Laws.ExactEdges.{FitsEdges};
+ghost use Rattle.report_judge.specs.Laws.FirstBreaks.{FitsEdges};
 ghost use Rattle.report_judge.specs.Workers.OwnNodes.{AreNodesBefore, IsPlacedAt};
 ghost use Rattle.report_judge.specs.Workers.SeenNodes.{AreTurnsOf, HaveOwnTurns};
 

@@ -1,11 +1,11 @@
 //! Searches among the nodes of a worker for those that stood already when it handled a mark.
 
 ghost use Rattle.std.specs.Prelude.{◌≡◌, ◌↔◌, ◌*◌, ◌<◌, ◌≤◌, ℕ, IsFalse, IsTrue, length};
-ghost use Rattle.plan_model.specs.Geometry.Bounds.{IsBounded};
-ghost use Rattle.plan_model.specs.Runs.RecordLaw.{IsEarlier};
+ghost use Rattle.plan_model.specs.Geometry.Plane.{IsBounded};
+ghost use Rattle.plan_model.specs.Runs.ClosedLaw.{IsEarlier};
 ghost use Rattle.plan_model.specs.Trees.Nearness.{distance_to};
-ghost use Rattle.plan_model.specs.Trees.PointsByNumber.{IsPresent, StandsAt};
-ghost use Rattle.point_bands.specs.Discs.{IsWithin};
+ghost use Rattle.plan_model.specs.Trees.NodeLists.{IsPresent, StandsAt};
+ghost use Rattle.point_bands.specs.Walks.{IsWithin};
 ghost use Rattle.point_bands.specs.declared.bands.Numbered.{Numbered};
 ghost use Rattle.report_judge.specs.Workers.JudgedRuns.{IsJudged, run_of};
 ghost use Rattle.report_judge.specs.Workers.OwnNodes.{HasNo, HasOne, IsCheaperAt};
@@ -243,7 +243,7 @@ fn has_one_in<C: Clearing, S: Search>(
 
 impl Search for NearerSearch {
     ghost use Rattle.std.specs.Prelude.{◌<◌, length};
-    ghost use Rattle.plan_model.specs.Geometry.Bounds.{IsBounded};
+    ghost use Rattle.plan_model.specs.Geometry.Plane.{IsBounded};
     ghost use Rattle.report_judge.specs.Workers.OwnNodes.{IsNearerAt};
 
     ghost may_look = { λ s standings. IsBounded s.point × (s.turn < length standings) };
@@ -264,7 +264,7 @@ impl Search for NearerSearch {
 
 impl Search for NeighbourSearch {
     ghost use Rattle.std.specs.Prelude.{◌<◌, length};
-    ghost use Rattle.plan_model.specs.Geometry.Bounds.{IsBounded};
+    ghost use Rattle.plan_model.specs.Geometry.Plane.{IsBounded};
     ghost use Rattle.report_judge.specs.Workers.OwnNodes.{IsUnlawfulAt};
 
     ghost may_look = { λ s standings. IsBounded s.nearer.point × (s.nearer.turn < length standings) };

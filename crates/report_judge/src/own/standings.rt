@@ -3,8 +3,7 @@
 ghost use Rattle.std.specs.Prelude.{◌≡◌, ◌≤◌, IfOk, length};
 ghost use Rattle.plan_model.specs.declared.limits.TheConstants.{MOST_MARKS};
 ghost use Rattle.grown_runs.specs.Runs.PackedRuns.{state_of_lists};
-ghost use Rattle.report_judge.specs.Workers.SeenNodes.{AreTurnsOf, HaveOwnTurns};
-ghost use Rattle.report_judge.specs.Workers.Standings.{AreStandings, standing_of};
+ghost use Rattle.report_judge.specs.Workers.SeenNodes.{AreTurnsOf, HaveOwnTurns, AreStandings, standing_of};
 
 use crate::own::own_turns::{OwnTurns, node_of};
 use crate::trees::best_paths::kept_cost;

@@ -2,7 +2,7 @@
 
 ghost use Rattle.std.specs.Prelude.{◌≡◌, ◌++◌, ◌∷◌, ◌%◌, ◌^◌, ◌<◌, ◌≤◌, ℕ, List, IfNone, IfSome, decimal, length, take, true};
 ghost use Rattle.std.specs.List.{list_all, prefix_len};
-ghost use Rattle.plan_model.specs.Texts.TextNumbers.{is_digit, magnitude};
+ghost use Rattle.plan_model.specs.Texts.TextLines.{is_digit, magnitude};
 ghost use Rattle.report_judge.specs.Texts.ReportLines.{field};
 
 use crate::reading::number_words::number_up_to;

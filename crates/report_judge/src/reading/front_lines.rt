@@ -2,7 +2,7 @@
 
 ghost use Rattle.std.specs.Prelude.{◌↔◌, ◌≤◌, IfOk, IsTrue};
 ghost use Rattle.plan_model.specs.declared.limits.TheConstants.{MOST_MARKS};
-ghost use Rattle.report_judge.specs.Texts.FrontLines.{IsNextNode, ReadsNodes, ReadsPoints, ReadsRecords};
+ghost use Rattle.report_judge.specs.Texts.ReportForms.{IsNextNode, ReadsNodes, ReadsPoints, ReadsRecords};
 
 use crate::reading::line_readers::{read_node, read_path_point};
 use crate::reading::mark_readers::read_mark;

@@ -2,7 +2,7 @@
 
 ghost use Rattle.std.specs.Prelude.{◌≡◌, ◌%◌, ◌^◌, ℕ, ◌≤◌, IfNone, IfSome, decimal, true};
 ghost use Rattle.std.specs.List.{list_all};
-ghost use Rattle.plan_model.specs.Texts.TextNumbers.{is_digit, magnitude};
+ghost use Rattle.plan_model.specs.Texts.TextLines.{is_digit, magnitude};
 
 use plan_model::{is_number, natural};
 

@@ -5,7 +5,7 @@ ghost use Rattle.plan_model.specs.declared.limits.TheConstants.{MOST_MARKS};
 ghost use Rattle.report_judge.specs.Texts.ReportForms.{BreaksFormFirst};
 ghost use Rattle.report_judge.specs.Texts.ReportLines.{Extent, lines_text};
 ghost use Rattle.report_judge.specs.Texts.ReportSheets.{FitsOptionalPath, SpellsSheet, path_lines};
-ghost use Rattle.report_judge.specs.Texts.SheetsRead.{priced_path, sheet_read};
+ghost use Rattle.report_judge.specs.Texts.ReportCuts.{priced_path, sheet_read};
 
 use crate::costed_paths::CostedPath;
 use crate::reading::count_readers::read_counts;

@@ -3,15 +3,14 @@
 ghost use Rattle.std.specs.Prelude.{◌≡◌, ◌-◌, ◌<◌, ◌≤◌, [], IfOk, IfSome, IsTrue, map, length, slice_index_or};
 ghost use Rattle.plan_model.specs.Reports.ReportText.{path_to};
 ghost use Rattle.plan_model.specs.Trees.BestNode.{best_node, is_goal_point};
-ghost use Rattle.plan_model.specs.Trees.LeastPairs.{lesser};
-ghost use Rattle.plan_model.specs.Trees.NodeLists.{FallAlong};
-ghost use Rattle.plan_model.specs.Trees.PointsByNumber.{IsPresent, point_at, point_of};
+ghost use Rattle.plan_model.specs.Trees.Nearness.{lesser};
+ghost use Rattle.plan_model.specs.Trees.NodeLists.{FallAlong, IsPresent, point_at, point_of};
 ghost use Rattle.plan_model.specs.Trees.TreeStates.{IsSettled, chain_in, sum_in};
 ghost use Rattle.plan_model.specs.declared.limits.TheConstants.{MOST_NODES};
 ghost use Rattle.grown_runs.specs.Runs.PackedRuns.{kept_cost_of, state_of_lists};
 ghost use Rattle.report_judge.specs.Laws.SheetLaws.{path_by};
-ghost use Rattle.report_judge.specs.Texts.SheetsRead.{priced_path};
-ghost use Rattle.report_judge.specs.Laws.ListedTrees.{IsSettledList};
+ghost use Rattle.report_judge.specs.Texts.ReportCuts.{priced_path};
+ghost use Rattle.report_judge.specs.Laws.FirstBreaks.{IsSettledList};
 
 use crate::costed_paths::CostedPath;
 use crate::trees::exact_edges::knot_at;

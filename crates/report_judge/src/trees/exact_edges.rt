@@ -1,10 +1,9 @@
 //! Whether the cost of a node is exactly that of its parent and the edge.
 
 ghost use Rattle.std.specs.Prelude.{◌≡◌, ◌↔◌, ◌^◌, ◌<◌, ℕ, ◌≤◌, IsFalse, IsTrue, length, slice_index_or};
-ghost use Rattle.plan_model.specs.Geometry.Bounds.{IsBounded};
+ghost use Rattle.plan_model.specs.Geometry.Plane.{IsBounded};
 ghost use Rattle.plan_model.specs.declared.trees.Knot.{Knot};
-ghost use Rattle.report_judge.specs.Laws.ExactEdges.{FitsEdges, HangsExactly, IsExactEdge, KeepsEdges};
-ghost use Rattle.report_judge.specs.Laws.FirstBreaks.{IsFirstBreak};
+ghost use Rattle.report_judge.specs.Laws.FirstBreaks.{FitsEdges, HangsExactly, IsExactEdge, KeepsEdges, IsFirstBreak};
 ghost use Rattle.plan_model.specs.declared.limits.TheConstants.{MOST_NODES};
 
 use edge_cost::cost;

@@ -1,11 +1,11 @@
 //! What the record of a placed mark says of its node's first parent.
 
 ghost use Rattle.std.specs.Prelude.{◌≡◌, ◌↔◌, ◌^◌, ◌<◌, ℕ, IsTrue, List, None, Option, Some, slice_index_or};
-ghost use Rattle.plan_model.specs.Geometry.Bounds.{IsBounded};
+ghost use Rattle.plan_model.specs.Geometry.Plane.{IsBounded};
 ghost use Rattle.plan_model.specs.Trees.TreeStates.{first_cost_of};
 ghost use Rattle.plan_model.specs.declared.trees.Knot.{Knot};
 ghost use Rattle.grown_runs.specs.Runs.PackedRuns.{state_of_lists};
-ghost use Rattle.report_judge.specs.Laws.ExactEdges.{FitsEdges, IsHighEdge, MayHang};
+ghost use Rattle.report_judge.specs.Laws.FirstBreaks.{FitsEdges, IsHighEdge, MayHang};
 
 use crate::trees::exact_edges::knot_at;
 use edge_cost::cost;

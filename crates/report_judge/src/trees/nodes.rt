@@ -1,14 +1,13 @@
 //! Whether each node of a report keeps the law of nodes.
 
 ghost use Rattle.std.specs.Prelude.{◌≡◌, ◌↔◌, ◌*◌, ◌<◌, ◌≤◌, ℕ, IfOk, IsSome, IsTrue, IfSome, List, None, Some, length, slice_index_or};
-ghost use Rattle.plan_model.specs.Geometry.Bounds.{IsBounded};
+ghost use Rattle.plan_model.specs.Geometry.Plane.{IsBounded};
 ghost use Rattle.plan_model.specs.Runs.Textbook.{setup_of};
 ghost use Rattle.plan_model.specs.Spaces.ConfigurationSpace.{space_of};
 ghost use Rattle.plan_model.specs.declared.limits.TheConstants.{MOST_NODES};
 ghost use Rattle.plan_model.specs.declared.records.Record.{Record};
 ghost use Rattle.plan_model.specs.declared.trees.Knot.{Knot};
-ghost use Rattle.report_judge.specs.Laws.ExactEdges.{FitsEdges};
-ghost use Rattle.report_judge.specs.Laws.FirstBreaks.{IsFirstBreak, KeepsNode, point_key};
+ghost use Rattle.report_judge.specs.Laws.FirstBreaks.{FitsEdges, IsFirstBreak, KeepsNode, point_key};
 
 use crate::first_breaks::earlier;
 use crate::repeats::first_repeat;

@@ -3,13 +3,12 @@
 ghost use Rattle.std.specs.Prelude.{◌≡◌, ◌∷◌, ◌≤◌, [], IfOk, IsTrue, None, Ok, Some, length};
 ghost use Rattle.plan_model.specs.Spaces.Clearance.{ClearAt};
 ghost use Rattle.plan_model.specs.Runs.ClosedLaw.{IsClosed};
-ghost use Rattle.plan_model.specs.Spaces.ConfigurationSpace.{space_of};
+ghost use Rattle.plan_model.specs.Spaces.ConfigurationSpace.{space_of, empty_room};
 ghost use Rattle.plan_model.specs.Scenes.Limits.{is_plan};
-ghost use Rattle.plan_model.specs.Spaces.EmptyRooms.{empty_room};
 ghost use Rattle.plan_model.specs.Runs.Textbook.{setup_of};
-ghost use Rattle.plan_model.specs.Vectors.Records.{blocked_record, placed_record, same_record};
+ghost use Rattle.plan_model.specs.Vectors.Reports.{blocked_record, placed_record, same_record};
 ghost use Rattle.plan_model.specs.Vectors.Runs.{rewired_records};
-ghost use Rattle.plan_model.specs.Vectors.Shapes.{at};
+ghost use Rattle.plan_model.specs.Vectors.Geometry.{at};
 ghost use Rattle.plan_model.specs.declared.limits.TheConstants.{MOST_MARKS};
 ghost use Rattle.plan_model.specs.declared.scenes.Marks.TheVariants.{Listed};
 ghost use Rattle.grown_runs.specs.Runs.PackedRuns.{state_of_lists};

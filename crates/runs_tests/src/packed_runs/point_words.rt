@@ -1,6 +1,6 @@
 //! Points that are packed and read.
 
-ghost use Rattle.plan_model.specs.Geometry.Bounds.{IsBounded};
+ghost use Rattle.plan_model.specs.Geometry.Plane.{IsBounded};
 
 use grown_runs::{pack_point, read_point};
 use plan_model::{MOST_COORDINATE, Point};

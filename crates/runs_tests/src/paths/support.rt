@@ -2,8 +2,7 @@
 
 ghost use Rattle.std.specs.Prelude.{◌≡◌, ℕ, suc, ◌<◌, length, vec_len, IfOk, IsTrue, Ok};
 ghost use Rattle.plan_model.specs.Scenes.Limits.{is_obstacle};
-ghost use Rattle.plan_model.specs.Spaces.Clearance.{Clear};
-ghost use Rattle.plan_model.specs.Spaces.ClearPaths.{IsClearPath};
+ghost use Rattle.plan_model.specs.Spaces.Clearance.{Clear, IsClearPath};
 
 use plan_model::{Goal, Marks, Memory, Point, Points, Poly, Scene, Sequence, SmallScene, Vertex};
 use std::alloc::Global;

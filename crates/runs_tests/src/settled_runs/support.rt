@@ -5,13 +5,12 @@
 ghost use Rattle.std.specs.Prelude.{◌≡◌, ◌∷◌, [], IfOk, IsTrue, Ok, Some, length};
 ghost use Rattle.plan_model.specs.Spaces.Clearance.{ClearAt};
 ghost use Rattle.plan_model.specs.Runs.ClosedLaw.{IsClosed};
-ghost use Rattle.plan_model.specs.Spaces.ConfigurationSpace.{space_of};
-ghost use Rattle.plan_model.specs.Spaces.EmptyRooms.{empty_room};
+ghost use Rattle.plan_model.specs.Spaces.ConfigurationSpace.{space_of, empty_room};
 ghost use Rattle.plan_model.specs.Scenes.Limits.{are_goals, is_plan};
 ghost use Rattle.plan_model.specs.Runs.Textbook.{setup_of};
-ghost use Rattle.plan_model.specs.Vectors.Records.{placed_record};
+ghost use Rattle.plan_model.specs.Vectors.Reports.{placed_record};
 ghost use Rattle.plan_model.specs.Trees.TreeStates.{IsSettled};
-ghost use Rattle.plan_model.specs.Vectors.Shapes.{at};
+ghost use Rattle.plan_model.specs.Vectors.Geometry.{at};
 ghost use Rattle.plan_model.specs.declared.scenes.Marks.TheVariants.{Listed};
 ghost use Rattle.grown_runs.specs.Runs.GrownRuns.{state_of_grown};
 ghost use Rattle.grown_runs.specs.Runs.PackedRuns.{state_of_lists};

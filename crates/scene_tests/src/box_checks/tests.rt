@@ -4,11 +4,11 @@
 //! the contract of `counted` says that the steps are as many.
 
 ghost use Rattle.std.specs.Prelude.{◌≡◌, ◌+◌, ◌<◌, ◌≤◌, IfOk, IsTrue, List, false};
-ghost use Rattle.plan_model.specs.Spaces.RoomOfConfigurations.{InRoom, at_lattice};
-ghost use Rattle.plan_model.specs.Geometry.Bounds.{IsBounded};
+ghost use Rattle.plan_model.specs.Spaces.ConfigurationSpace.{InRoom, at_lattice};
+ghost use Rattle.plan_model.specs.Geometry.Plane.{IsBounded};
 ghost use Rattle.plan_model.specs.Scenes.Limits.{are_obstacles};
 ghost use Rattle.plan_model.specs.declared.limits.TheConstants.{MOST_CLEARANCE};
-ghost use Rattle.obstacle_boxes.specs.NearZones.{AreZoneBoxes, near_count};
+ghost use Rattle.obstacle_boxes.specs.Trees.{AreZoneBoxes, near_count};
 
 use crate::box_checks::support::{boxes_of, polygon, scene, sure};
 use convex_sets::BoundingBox;

@@ -1,6 +1,6 @@
 //! Boxes round segments, and boxes that meet.
 
-ghost use Rattle.plan_model.specs.Geometry.Bounds.{IsBounded};
+ghost use Rattle.plan_model.specs.Geometry.Plane.{IsBounded};
 
 use convex_sets::BoundingBox;
 use plan_model::{Point, Vertex};

@@ -1,6 +1,6 @@
 //! Polygons that are strictly convex, and polygons that are not.
 
-ghost use Rattle.convex_sets.specs.Bounds.{AreBoundedCorners};
+ghost use Rattle.convex_sets.specs.Boxes.{AreBoundedCorners};
 
 use convex_sets::is_convex;
 use plan_model::Vertex;

@@ -2,7 +2,7 @@
 
 ghost use Rattle.std.specs.Prelude.{◌≡◌, ◌==◌, ◌||◌, ◌≤◌, IfOk, IsTrue, Ok, length, true};
 ghost use Rattle.std.specs.List.{list_all};
-ghost use Rattle.plan_model.specs.Geometry.Convexity.{is_strictly_convex};
+ghost use Rattle.plan_model.specs.Geometry.Plane.{is_strictly_convex};
 ghost use Rattle.plan_model.specs.Scenes.Limits.{is_corner_between};
 ghost use Rattle.plan_model.specs.declared.limits.TheConstants.{LEAST_BODY_COORDINATE, LEAST_SUMMAND_COORDINATE};
 ghost use Rattle.plan_model.specs.declared.limits.TheConstants.{MOST_BODY_COORDINATE, MOST_CLEARANCE, MOST_SUMMAND_COORDINATE};

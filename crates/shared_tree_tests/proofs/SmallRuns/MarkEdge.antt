@@ -2,8 +2,8 @@
 use Rattle.shared_tree_tests.proofs.Words.{◌≡◌, zero, suc, [], ◌∷◌, arith, sym, subst, Clear, mark_bound, at, Clear-empty_room, root_ceiling-from_squares}
 use Rattle.shared_tree_tests.proofs.Words.{root_ceiling-zero, setup_in, EachView, View, goal_run, small_run}
 use mathlib.Core.Option.{some-injective, some-ne-none}
-use Rattle.plan_model.specs.Geometry.Roots.{root_ceiling}
-use Rattle.plan_model.specs.Trees.GoalBounds.{bound_of}
+use Rattle.plan_model.specs.Geometry.Lengths.{root_ceiling}
+use Rattle.plan_model.specs.Trees.BestNode.{bound_of}
 
 pub edge : root_ceiling 1638400 ≡ 1280
 edge = root_ceiling-from_squares 1638400 1280 (omega arith) (omega arith)

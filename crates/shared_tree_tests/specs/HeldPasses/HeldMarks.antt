@@ -1,17 +1,7 @@
--- Passes with a mark in hand, as the tests follow them.
-use Rattle.std.specs.Prelude.{◌≡◌, ℕ, ◌^◌, ◌≤◌, Option, Some}
-use Rattle.plan_model.specs.Spaces.Clearance.{Clear}
-use Rattle.plan_model.specs.Geometry.Cost.{cost_of}
-use Rattle.plan_model.specs.declared.geometry.Point.{Point}
-use Rattle.plan_words.specs.States.{BelongsTo, PassState, SharedState}
-use Rattle.step_core.specs.SeenBests.{IsUnskipped}
-use Rattle.step_core.specs.ViewTrees.{SeesPoint}
-use Rattle.step_core.specs.Views.{sees, setup_in}
-use Rattle.grown_runs.specs.Table.WordNames.Word.{TreeOf}
-use Rattle.grown_runs.specs.Table.Words.{best_of_word}
-use Rattle.step_core.specs.declared.views.Hand.{Hand}
-use Rattle.step_core.specs.declared.views.Stage.{Stage}
-use Rattle.step_core.specs.declared.views.View.{View}
+-- Passes with a mark in hand, as the tests follow them. Passes and their shares, as the tests follow them.
+use Rattle.std.specs.Prelude.{◌≡◌, ℕ, ◌^◌, ◌≤◌, Option, Some, None}
+use Rattle.shared_tree_tests.specs.Terms.{BelongsTo, Clear, Hand, IsUnskipped, MayClaim, PassState, Point, SeesPoint, SharedState, Stage, TreeOf, View}
+use Rattle.shared_tree_tests.specs.Terms.{best_of_word, cost_of, sees, setup_in, share}
 
 -- a pass of the tree that has the mark in hand, which has come so far, with no other nearest node than the start
 pub record HoldsMark (shared : SharedState) (k : ℕ) (stage : Stage) (pass : PassState) : Type 0 where
@@ -42,3 +32,13 @@ pub record HangsFromStart (cost : ℕ) (view : View) : Type 0 where
   pub clear : Clear (setup_in view.run).space start hand.point
   pub written : 2 ^ 63 ≤ sees view (TreeOf 0)
   pub unskipped : IsUnskipped view hand
+
+-- a pass of the tree with this share that may claim a mark
+pub record HasShare (shared : SharedState) (n : ℕ) (pass : PassState) : Type 0 where
+  pub may_claim : MayClaim shared pass
+  pub share_is : share pass.view ≡ n
+
+-- a pass of the tree with nothing in hand, which may have no share
+pub record IsIdle (shared : SharedState) (pass : PassState) : Type 0 where
+  pub belongs : BelongsTo pass shared
+  pub idle : pass.view.hand ≡ None

@@ -1,21 +1,9 @@
 -- Records that a pass may make of the mark in its hand by what it has seen; a cost that is lowered, and changes that are more; points at
 -- which a node stood.
 use Rattle.std.specs.Prelude.{ℕ, Option, Some, None, List, [], ◌∷◌, slice_get, slice_index_or}
-use Rattle.plan_model.specs.declared.geometry.Point.{Point}
+use Rattle.shared_tree_tests.specs.Terms.{CostsInstead, Counted, MayRecord, Point, Record, TreeState, View, WasFree, at, empty_room, new_hand, placed_by}
+use Rattle.shared_tree_tests.specs.Terms.{unplaced_record, words_of_run}
 use Rattle.plan_model.specs.declared.records.Outcome.TheVariants.{Blocked, Same}
-use Rattle.plan_model.specs.declared.records.Record.{Record}
-use Rattle.plan_model.specs.Runs.Endings.{unplaced_record}
-use Rattle.plan_model.specs.Spaces.EmptyRooms.{empty_room}
-use Rattle.plan_model.specs.Trees.TreeStates.{TreeState}
-use Rattle.plan_model.specs.Vectors.Records.{placed_by}
-use Rattle.plan_model.specs.Vectors.Shapes.{at}
-use Rattle.grown_runs.specs.Runs.GrownRuns.{CostsInstead}
-use Rattle.step_core.specs.Histories.{WasFree}
-use Rattle.step_core.specs.SeenRecords.{MayRecord}
-use Rattle.step_core.specs.ViewSteps.{new_hand}
-use Rattle.step_core.specs.Views.{words_of_run}
-use Rattle.step_core.specs.declared.views.Stage.TheVariants.{Counted}
-use Rattle.step_core.specs.declared.views.View.{View}
 use Rattle.shared_tree_tests.specs.SmallRuns.SmallWorlds.{claimed_table, hand_at, handling, linked_table, mark_node, never, table, small_run, start_above}
 
 -- ---- records

@@ -1,22 +1,11 @@
 -- What a pass may do by what it has seen, in the run of SmallWorlds; views that are not lawful or later, and runs that are not as was seen,
 -- for one thing each.
 use Rattle.std.specs.Prelude.{◌≡◌, ℕ, ◌^◌, true, false, Some, None, List, [], ◌∷◌, ◌++◌, replicate}
+use Rattle.shared_tree_tests.specs.Terms.{ChildOf, Claimed, Count, Counted, Counter, Half, HasOrFell, IsLater, IsLawfulView, IsSteered, IsUnskipped, LeadsTo}
+use Rattle.shared_tree_tests.specs.Terms.{Linked, MayBeRecorded, MayBeSkipped, MayHang, MayLoad, MayLower, MayPost, PointOf, Pointed, Posted, StandsAsSeen}
+use Rattle.shared_tree_tests.specs.Terms.{TreeOf, Treed, View, at, best_loaded, best_word, claimed, joined, loaded, looker, new_hand, newcomer, no_best}
+use Rattle.shared_tree_tests.specs.Terms.{placed_by, point_word, posted, record_word, run_sizes, state_of_links, tree_word, words_of_run}
 use Rattle.plan_model.specs.declared.records.Outcome.TheVariants.{Blocked, Placed, Same, Skipped}
-use Rattle.plan_model.specs.Vectors.Records.{placed_by}
-use Rattle.plan_model.specs.Vectors.Shapes.{at}
-use Rattle.step_core.specs.LastViews.{HasOrFell, StandsAsSeen}
-use Rattle.step_core.specs.LaterViews.{IsLater, IsLawfulView}
-use Rattle.step_core.specs.SeenBests.{IsUnskipped, MayBeSkipped, MayPost}
-use Rattle.step_core.specs.SharedWords.{state_of_links}
-use Rattle.step_core.specs.Stages.{MayBeRecorded}
-use Rattle.step_core.specs.ViewSteps.{best_loaded, claimed, joined, loaded, looker, new_hand, posted}
-use Rattle.step_core.specs.ViewStarts.{newcomer}
-use Rattle.step_core.specs.ViewTrees.{IsSteered, LeadsTo, MayHang, MayLoad, MayLower}
-use Rattle.step_core.specs.Views.{run_sizes, words_of_run}
-use Rattle.grown_runs.specs.Table.WordNames.Word.{ChildOf, Count, Counter, PointOf, TreeOf}
-use Rattle.grown_runs.specs.Table.Words.{best_word, no_best, point_word, record_word, tree_word}
-use Rattle.step_core.specs.declared.views.Stage.TheVariants.{Claimed, Counted, Half, Linked, Pointed, Posted, Treed}
-use Rattle.step_core.specs.declared.views.View.{View}
 use Rattle.shared_tree_tests.specs.SmallRuns.SmallWorlds.{claimed_table, found_right, hand_at, handling, idle, linked_table, mark_node, never, no_node, node_by}
 use Rattle.shared_tree_tests.specs.SmallRuns.SmallWorlds.{recorded_table, small_run, start_above, table, took_best, view_with, with_goal, worker_at}
 

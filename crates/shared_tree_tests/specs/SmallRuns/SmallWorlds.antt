@@ -1,19 +1,7 @@
 -- Words of a small shared run with the views of two passes, and worlds that differ from a lawful one in one thing.
 use Rattle.std.specs.Prelude.{ℕ, ◌+◌, ◌^◌, Option, Some, None, List, [], ◌∷◌, ◌++◌, replicate, slice_set}
-use Rattle.plan_model.specs.Spaces.EmptyRooms.{empty_room}
-use Rattle.plan_model.specs.Vectors.Records.{placed_by}
-use Rattle.plan_model.specs.Vectors.Shapes.{at}
-use Rattle.step_core.specs.Views.{words_of_run}
-use Rattle.step_core.specs.ViewSteps.{new_hand}
-use Rattle.grown_runs.specs.Table.Words.{best_word, no_best, point_word, record_word, tree_word}
-use Rattle.step_core.specs.Worlds.{IsWorld}
-use Rattle.step_core.specs.declared.views.Hand.{Hand}
-use Rattle.step_core.specs.declared.views.Member.{Member}
-use Rattle.step_core.specs.declared.views.Note.{Note}
-use Rattle.step_core.specs.declared.views.SharedRun.{SharedRun}
-use Rattle.step_core.specs.declared.views.Stage.{Stage}
-use Rattle.step_core.specs.declared.views.Stage.TheVariants.{Counted, Half, Linked, Pointed, Posted, Treed}
-use Rattle.step_core.specs.declared.views.View.{View}
+use Rattle.shared_tree_tests.specs.Terms.{Counted, Half, Hand, IsWorld, Linked, Member, Note, Pointed, Posted, SharedRun, Stage, Treed, View, at, best_word}
+use Rattle.shared_tree_tests.specs.Terms.{empty_room, new_hand, no_best, placed_by, point_word, record_word, tree_word, words_of_run}
 
 -- ---- the run
 

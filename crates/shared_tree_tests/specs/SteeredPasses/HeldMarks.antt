@@ -1,22 +1,8 @@
 -- Passes with a mark in hand, as the tests follow them.
 use Rattle.std.specs.Prelude.{◌≡◌, ℕ, suc, true, false, Some}
-use Rattle.plan_model.specs.Spaces.Clearance.{Clear}
-use Rattle.plan_model.specs.Runs.ClosedLaw.{mark_at}
-use Rattle.plan_model.specs.Trees.LeastPairs.{IsNotAbove}
-use Rattle.plan_model.specs.Trees.Nearness.{distance_to}
-use Rattle.plan_model.specs.Trees.PointsByNumber.{point_of}
-use Rattle.plan_model.specs.declared.geometry.Point.{Point}
-use Rattle.plan_words.specs.States.{BelongsTo, PassState, SharedState}
-use Rattle.kd_shared.specs.declared.placing.Placing.{Placing}
+use Rattle.shared_tree_tests.specs.Terms.{BelongsTo, Clear, Counted, Hand, IsNotAbove, PassState, Placing, Point, SeesPoint, SharedState, Stage, Treed, View}
+use Rattle.shared_tree_tests.specs.Terms.{distance_to, has_node, has_point, mark_at, point_of, sees, setup_in, tree_seen}
 use Rattle.kd_shared.specs.declared.placing.Placing.TheVariants.{Placed, Same}
-use Rattle.grown_runs.specs.Runs.GrownWords.{has_node}
-use Rattle.step_core.specs.Stages.{has_point}
-use Rattle.step_core.specs.ViewTrees.{SeesPoint}
-use Rattle.step_core.specs.Views.{sees, setup_in, tree_seen}
-use Rattle.step_core.specs.declared.views.Stage.TheVariants.{Counted, Treed}
-use Rattle.step_core.specs.declared.views.Hand.{Hand}
-use Rattle.step_core.specs.declared.views.Stage.{Stage}
-use Rattle.step_core.specs.declared.views.View.{View}
 
 -- a pass of the tree that has the mark in hand, which has come so far
 pub record HoldsMark (shared : SharedState) (k : ℕ) (stage : Stage) (pass : PassState) : Type 0 where

@@ -2,8 +2,8 @@
 //! no lesser number has that point.
 
 ghost use Rattle.std.specs.Prelude.{◌≤◌, IsTrue, length};
-ghost use Rattle.plan_model.specs.Geometry.Bounds.{IsBounded};
-ghost use Rattle.plan_model.specs.Spaces.EmptyRooms.{IsInRoom};
+ghost use Rattle.plan_model.specs.Geometry.Plane.{IsBounded};
+ghost use Rattle.plan_model.specs.Spaces.ConfigurationSpace.{IsInRoom};
 ghost use Rattle.plan_model.specs.Scenes.Limits.{is_plan};
 ghost use Rattle.plan_model.specs.declared.scenes.Marks.TheVariants.{Listed};
 

@@ -4,8 +4,7 @@
 ghost use Rattle.std.specs.Prelude.{◌≡◌, false, ◌+◌, ◌<◌, ◌≤◌, All, IfNone, IfOk, IfSome, IsTrue, Ok, Some, length};
 ghost use Rattle.shared_tree_tests.specs.SteeredPasses.HeldMarks.{HangsBelowNearest, HoldsMark, HoldsPlaced, SeesHandPoint, SteersFrom};
 ghost use Rattle.plan_model.specs.Spaces.Clearance.{ClearAt};
-ghost use Rattle.plan_model.specs.Spaces.ConfigurationSpace.{space_of};
-ghost use Rattle.plan_model.specs.Spaces.EmptyRooms.{IsInRoom};
+ghost use Rattle.plan_model.specs.Spaces.ConfigurationSpace.{space_of, IsInRoom};
 ghost use Rattle.plan_model.specs.Scenes.Limits.{is_plan};
 ghost use Rattle.plan_model.specs.declared.limits.TheConstants.{LEAST_STRIPS, MOST_STRIPS};
 ghost use Rattle.plan_model.specs.declared.scenes.Marks.TheVariants.{Listed};

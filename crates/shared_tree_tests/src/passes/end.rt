@@ -2,7 +2,7 @@
 
 ghost use Rattle.std.specs.Prelude.{◌≡◌, ◌+◌, All, IfSome, length};
 ghost use Rattle.plan_words.specs.States.{MayClaim};
-ghost use Rattle.shared_tree_tests.specs.HeldPasses.Sharers.{HasShare};
+ghost use Rattle.shared_tree_tests.specs.HeldPasses.HeldMarks.{HasShare};
 ghost use Rattle.step_core.specs.Views.{share};
 
 use crate::passes::support::{some, sure, take_turn, task_on_start};

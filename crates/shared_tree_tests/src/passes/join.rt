@@ -2,7 +2,7 @@
 
 ghost use Rattle.std.specs.Prelude.{◌≡◌, ◌≤◌, ◌<◌, length};
 ghost use Rattle.plan_words.specs.States.{BelongsTo, MayClaim};
-ghost use Rattle.shared_tree_tests.specs.HeldPasses.Sharers.{IsIdle};
+ghost use Rattle.shared_tree_tests.specs.HeldPasses.HeldMarks.{IsIdle};
 
 use crate::passes::support::{
     expect_same, expect_taken, expect_turn, expect_worker, let_go, sure, three_passes,

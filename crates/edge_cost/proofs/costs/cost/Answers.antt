@@ -1,5 +1,5 @@
 use Rattle.std.proofs.Common.{ℕ, ◌*◌, arith, ap}
-use Rattle.plan_model.specs.Geometry.Roots.{root_ceiling}
+use Rattle.plan_model.specs.Geometry.Lengths.{root_ceiling}
 use Rattle.edge_cost.proofs.CostBounds.{cost_of-low}
 use Rattle.edge_cost.proofs.costs.cost.Goals as goal
 

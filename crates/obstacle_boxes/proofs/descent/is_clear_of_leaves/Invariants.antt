@@ -1,4 +1,4 @@
-use Rattle.obstacle_boxes.specs.Searches.{AreApartBelow, HasSearched}
+use Rattle.obstacle_boxes.specs.Trees.{AreApartBelow, HasSearched}
 use Rattle.obstacle_boxes.proofs.descent.is_clear_of_leaves.Given as goal
 
 abbrev pub invariant-loop-low : goal.invariant-loop-low

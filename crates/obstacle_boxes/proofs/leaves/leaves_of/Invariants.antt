@@ -1,4 +1,4 @@
-use Rattle.obstacle_boxes.specs.LeafBoxes.{AreLeavesOf}
+use Rattle.obstacle_boxes.specs.Trees.{AreLeavesOf}
 use Rattle.obstacle_boxes.proofs.leaves.leaves_of.Given as goal
 
 abbrev pub invariant-loop-i : goal.invariant-loop-i

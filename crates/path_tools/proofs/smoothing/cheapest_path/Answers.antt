@@ -1,7 +1,7 @@
 use Rattle.std.proofs.Common.{arith, sym, ap, ◌∙◌, subst}
 use Rattle.std.proofs.lemmas.List.{get_or_read}
 use Rattle.path_tools.specs.declared.rests.Rest.{Rest}
-use Rattle.path_tools.specs.Rests.{rest_at}
+use Rattle.path_tools.specs.SmoothPaths.{rest_at}
 use Rattle.path_tools.proofs.Walks.{HasWalked, HasWalked-start, Steps-read, HasWalked-end}
 use Rattle.path_tools.proofs.smoothing.cheapest_path.Goals as goal
 

@@ -1,5 +1,5 @@
 use Rattle.std.proofs.Common.{◌-◌}
-use Rattle.path_tools.specs.Rests.{rest_at}
+use Rattle.path_tools.specs.SmoothPaths.{rest_at}
 use Rattle.path_tools.proofs.Walks.{HasWalked}
 use Rattle.path_tools.proofs.smoothing.cheapest_path.Given as goal
 

@@ -1,6 +1,6 @@
 use Rattle.std.proofs.Common.{◌≡◌, suc, ◌+◌, ◌-◌, ◌<◌, arith, length, sym, ◌∙◌, subst}
 use Rattle.std.proofs.lemmas.Bool.{false≢true}
-use Rattle.path_tools.specs.Rests.{IsRestBelow, rest_at}
+use Rattle.path_tools.specs.SmoothPaths.{IsRestBelow, rest_at}
 use Rattle.path_tools.proofs.ClearRests.{IsBounded-on_path}
 use Rattle.path_tools.proofs.RestEntries.{HasRoom-later, low-entry, IsRestBelow-straight, IsRestBelow-blocked, IsRestBelow-keeps}
 use Rattle.path_tools.proofs.RestEntries.{IsRestBelow-takes, first-entry, end-entry}

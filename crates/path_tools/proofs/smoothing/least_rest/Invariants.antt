@@ -1,4 +1,4 @@
-use Rattle.path_tools.specs.Rests.{IsRestBelow}
+use Rattle.path_tools.specs.SmoothPaths.{IsRestBelow}
 use Rattle.path_tools.proofs.smoothing.least_rest.Given as goal
 
 abbrev pub invariant-loop-next : goal.invariant-loop-next

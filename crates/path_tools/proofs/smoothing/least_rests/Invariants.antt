@@ -1,4 +1,4 @@
-use Rattle.path_tools.specs.Rests.{AreRestsFrom}
+use Rattle.path_tools.specs.SmoothPaths.{AreRestsFrom}
 use Rattle.path_tools.proofs.smoothing.least_rests.Given as goal
 
 abbrev pub invariant-loop-position : goal.invariant-loop-position

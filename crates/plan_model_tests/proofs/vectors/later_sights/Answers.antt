@@ -1,6 +1,6 @@
 use Rattle.plan_model_tests.proofs.Words.{true, false, [], arith, refl, inl, child_of_none, found_filled, found_with, seen_by, sight_of, IsSeen, at_entry}
 use Rattle.plan_model_tests.proofs.Words.{at_return, three_children, trees_at_entry}
-use Rattle.plan_model.specs.Vectors.Ways.{three_points}
+use Rattle.plan_model.specs.Vectors.SeenTrees.{three_points}
 use Rattle.plan_model_tests.proofs.Decisions.{refuted, shown}
 use Rattle.plan_model_tests.proofs.SeenByOne.{seen_at_return}
 use Rattle.plan_model_tests.proofs.SightDecisions.{is_later, is_seen, keeps_or_finds_empty}

@@ -1,6 +1,6 @@
 use Rattle.plan_model_tests.proofs.Words.{◌≡◌, ℕ, zero, suc, Bool, true, false, arith, refl, inl, inr, ◌⊎◌, two_points, two_children, Point, StandsAt, at}
 use Rattle.plan_model_tests.proofs.Words.{three_children, same_y}
-use Rattle.plan_model.specs.Vectors.Ways.{three_points}
+use Rattle.plan_model.specs.Vectors.SeenTrees.{three_points}
 use Rattle.plan_model_tests.proofs.vectors.links.Goals as goal
 
 elsewhere : (a : ℕ) (b : Bool) → ¬ ((a ≡ 1) × (b ≡ false)) → three_children a b ≡ two_children a b

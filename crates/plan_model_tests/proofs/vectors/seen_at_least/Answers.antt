@@ -1,6 +1,6 @@
 use Rattle.plan_model_tests.proofs.Words.{◌≡◌, ℕ, zero, suc, false, Some, arith, refl, ap, unwrap_or, known, one_record, seen_by, trees_with, placed_by}
 use Rattle.plan_model_tests.proofs.Words.{at_entry, at_return, five_points, at, three_children}
-use Rattle.plan_model.specs.Vectors.Ways.{three_points}
+use Rattle.plan_model.specs.Vectors.SeenTrees.{three_points}
 use Rattle.plan_model_tests.proofs.Decisions.{are_equal, both, either, is_at_most, refuted, shown}
 use Rattle.plan_model_tests.proofs.OrderDecisions.{of_nodes}
 use Rattle.plan_model_tests.proofs.SightDecisions.{counted, has_seen_at_least, keeps_or_lowers_to}

@@ -1,5 +1,5 @@
 use Rattle.plan_model_tests.proofs.Words.{◌≡◌, Some, arith, refl, ap, ◌≢◌, Point, goes_right, IsOnWay, begins, goes_on, at, three_children, way_stops}
-use Rattle.plan_model.specs.Vectors.Ways.{three_points}
+use Rattle.plan_model.specs.Vectors.SeenTrees.{three_points}
 use Rattle.plan_model_tests.proofs.vectors.ways.Goals as goal
 
 other_row : (p q : Point) → p.y ≢ q.y → p ≢ q

@@ -1,6 +1,6 @@
 use Rattle.plan_work.proofs.Words.{List, length, sym, ap, ◌∙◌, subst, arith, All, IsBounded, IsBoundedBox, mark_at, Goal, Point, Task, All-goals_bounded}
 use Rattle.plan_work.proofs.Words.{IsBounded-scene_start, goals-some}
-use Rattle.plan_model.specs.Trees.GoalBounds.{bound_of}
+use Rattle.plan_model.specs.Trees.BestNode.{bound_of}
 use Rattle.plan_work.proofs.mark_skipping.mark_bound.Goals as goal
 
 pub bounds-as_slice-k : goal.bounds-as_slice-k

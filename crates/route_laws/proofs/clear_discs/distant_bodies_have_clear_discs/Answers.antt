@@ -1,4 +1,4 @@
-use Rattle.route_laws.specs.Discs.{HasClearDisc, KeepsBodyFar}
+use Rattle.route_laws.specs.Routes.{HasClearDisc, KeepsBodyFar}
 use Rattle.route_laws.proofs.FollowedBodies.{HasClearDisc-far}
 use Rattle.route_laws.proofs.FollowedDiscs.{IsRoute-weaker}
 use Rattle.route_laws.proofs.clear_discs.distant_bodies_have_clear_discs.Goals as goal

@@ -1,6 +1,6 @@
 use Rattle.std.proofs.Common.{subst}
-use Rattle.plan_model.specs.Trees.PointsByNumber.{IsFree}
-use Rattle.step_core.specs.SharedWords.{linked_points}
+use Rattle.plan_model.specs.Trees.NodeLists.{IsFree}
+use Rattle.step_core.specs.Stages.{linked_points}
 use Rattle.step_core.specs.Views.{run_sizes}
 use Rattle.step_core.proofs.OneView.LawfulSights.{IsFree-leads}
 use Rattle.step_core.proofs.Steps.WorldSteps.{follow, tree}

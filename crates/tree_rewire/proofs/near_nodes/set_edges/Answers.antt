@@ -1,7 +1,7 @@
 use Rattle.tree_rewire.proofs.Words.{◌≡◌, ◌++◌, ◌*◌, ◌^◌, ◌<◌, ◌≤◌, Some, length, map, take, drop, set, ap, arith, refl, subst, sym, ◌∙◌, IfSome, slice_get}
 use Rattle.tree_rewire.proofs.Words.{append-nil, drop_all, take_all, map_over_more, get_or_from_slice_get, slice_get_within, weighed, PassState, with_lists}
 use Rattle.tree_rewire.proofs.Words.{Found, with_found}
-use Rattle.plan_model.specs.Geometry.Roots.{root_ceiling}
+use Rattle.plan_model.specs.Geometry.Lengths.{root_ceiling}
 use Rattle.tree_rewire.proofs.FoundLists.{All-at, rest_read}
 use Rattle.tree_rewire.proofs.near_nodes.set_edges.Goals as goal
 use Rattle.tree_rewire.proofs.near_nodes.set_edges.Goals.{After-found-found, After-edges}

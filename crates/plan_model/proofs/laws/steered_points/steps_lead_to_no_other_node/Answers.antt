@@ -1,4 +1,4 @@
-use Rattle.plan_model.specs.Trees.PointsByNumber.{point_of}
+use Rattle.plan_model.specs.Trees.NodeLists.{point_of}
 use Rattle.plan_model.proofs.SteeringLaws.{steered-moves}
 use Rattle.plan_model.proofs.SteeredNodes.{steered-is_nearest}
 use Rattle.plan_model.proofs.laws.steered_points.steps_lead_to_no_other_node.Goals as goal

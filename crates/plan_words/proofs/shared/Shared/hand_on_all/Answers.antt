@@ -1,7 +1,7 @@
 use Rattle.std.proofs.Common.{◌+◌, ◌<◌, ◌≤◌, ◌∷◌, [], length, length-append, sym, ap, ◌∙◌, subst, arith}
 use mathlib.Core.Option.{some-ne-none}
 use Rattle.plan_words.proofs.Dealing.{IsPassOf-first, IsPassOf-next, StandsFor-next, each_after-push, second-next}
-use Rattle.plan_words.specs.Dealt.{IsPassOf, each_after}
+use Rattle.plan_words.specs.Claims.{IsPassOf, each_after}
 use Rattle.plan_words.proofs.shared.Shared.hand_on_all.Goals as goal
 
 pub loop-worker-init : goal.loop-worker-init

@@ -1,6 +1,6 @@
 use Rattle.report_judge.proofs.Words.{◌≡◌, Bool, true, cond, [], Some, None, arith, sym, ap, ◌∙◌, slice_index_or, le-leb, leb-true, true≢false, Scene}
 use Rattle.report_judge.proofs.Words.{mark_bound, setup_of, skipping_goals, is_goal_point, lies_in_goals, point_at, kept_cost_of, run_of}
-use Rattle.plan_model.specs.Trees.GoalBounds.{bound_of}
+use Rattle.plan_model.specs.Trees.BestNode.{bound_of}
 use Rattle.report_judge.proofs.Laws.ListedNodes.{goal-listed, goal-none, informed_by_goal}
 use Rattle.report_judge.proofs.marks.lawful_marks.is_skipped_lawfully.Goals as goal
 

@@ -1,6 +1,5 @@
 use Rattle.std.proofs.Common.{◌≡◌, ◌+◌, suc, arith, below_more, subst}
-use Rattle.plan_model.specs.Spaces.Clearance.{Clear}
-use Rattle.plan_model.specs.Spaces.ClearPaths.{path_point}
+use Rattle.plan_model.specs.Spaces.Clearance.{Clear, path_point}
 use Rattle.runs_tests.proofs.paths.support.assert_clear.Goals as goal
 
 pub edges-preserved : goal.edges-preserved

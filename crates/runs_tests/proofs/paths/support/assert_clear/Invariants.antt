@@ -1,6 +1,5 @@
 use Rattle.std.proofs.Common.{ℕ, suc, ◌<◌}
-use Rattle.plan_model.specs.Spaces.Clearance.{Clear}
-use Rattle.plan_model.specs.Spaces.ClearPaths.{path_point}
+use Rattle.plan_model.specs.Spaces.Clearance.{Clear, path_point}
 use Rattle.runs_tests.proofs.paths.support.assert_clear.Given as goal
 
 abbrev pub invariant-edges : goal.invariant-edges

@@ -1,5 +1,5 @@
 use Rattle.std.proofs.Common.{◌≡◌, ◌≤◌, take}
-use Rattle.obstacle_boxes.specs.NearZones.{near_count}
+use Rattle.obstacle_boxes.specs.Trees.{near_count}
 use Rattle.scene_tests.proofs.box_checks.tests.near_boxes.Given as goal
 
 abbrev pub invariant-loop-bounds : goal.invariant-loop-bounds

@@ -1,7 +1,7 @@
 use Rattle.shared_tree_tests.proofs.Words.{◌≡◌, ◌+◌, ◌<◌, ◌≤◌, ◌^◌, true, false, Some, None, arith, refl, sym, ap, subst, inr, same_Some}
 use Rattle.shared_tree_tests.proofs.Words.{mark_bound, steered, at, Point, same_x, ChildOf, best_cost_in}
 use Rattle.shared_tree_tests.proofs.Words.{best_word, setup_in, new_hand, Half, Linked, Pointed, Posted, Treed, goal_run, hand_at, took_best}
-use Rattle.plan_model.specs.Geometry.Roots.{root_ceiling}
+use Rattle.plan_model.specs.Geometry.Lengths.{root_ceiling}
 use Rattle.shared_tree_tests.proofs.SmallRuns.MarkEdge.{bound, edge}
 use Rattle.grown_runs.specs.Table.WordPlaces.{word_at}
 use Rattle.shared_tree_tests.proofs.worlds.vectors.unlawful_views.Goals as goal

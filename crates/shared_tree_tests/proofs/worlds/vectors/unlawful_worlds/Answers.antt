@@ -6,7 +6,7 @@ use Rattle.shared_tree_tests.proofs.Words.{Pointed, Posted, Treed, View, AreLawf
 use Rattle.shared_tree_tests.proofs.Words.{view_with, worker_at}
 use mathlib.Core.Option.{some-injective}
 use Rattle.shared_tree_tests.proofs.SmallRuns.MarkEdge.{both, edge}
-use Rattle.plan_model.specs.Geometry.Roots.{root_ceiling}
+use Rattle.plan_model.specs.Geometry.Lengths.{root_ceiling}
 use Rattle.grown_runs.specs.Table.WordPlaces.{word_at}
 use Rattle.shared_tree_tests.proofs.worlds.vectors.unlawful_worlds.Goals as goal
 
