@@ -50,6 +50,7 @@ SMALL = {"room": (100, 60), "start": (5, 5), "goals": [(90, 50, 95, 55)], "obsta
 REFUSED = {
     "clockwise": {"obstacles": [SQUARE[::-1]]},
     "a large room": {"room": (2**20, 60)},
+    "a side below 0": {"room": (-100, 60)},
     "no goal": {"goals": []},
     "a short step": {"step": 3},
     "many marks": {"marks": 2**18},

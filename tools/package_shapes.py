@@ -74,6 +74,8 @@ GOOD_SHAPES = {
         {"room": polygon([(0, 0), (10, 0), (10, 6), (0, 6)]), "goals": [polygon(SQUARE)], "start": Shape("Point", coordinates=(1, 1))},
         lambda scene: scene.goals == ((30, 30, 40, 40),) and scene.start == (10, 10),
     ),
+    "one goal of texts": ({"goals": ("9", "5", "9.5", "5.5")}, lambda scene: scene.goals == ((90, 50, 95, 55),)),
+    "four goals": ({"goals": [Shape("Polygon", coordinates=polygon(SQUARE)["coordinates"])] * 4}, lambda scene: scene.goals == ((30, 30, 40, 40),) * 4),
     "a goal between steps": ({"goals": [("8.01", "5.01", "8.99", 99)]}, lambda scene: scene.goals == ((81, 51, 89, 60),)),
     "a step": ({"step": "0.59"}, lambda scene: scene.step == 5),
     "samples": ({"marks": [(1, 1), ("2.26", 9)]}, lambda scene: scene.marks == ((10, 10), (23, 60))),
@@ -103,6 +105,9 @@ WRONG_SHAPES = {
     "two corners": ("0.1", {"obstacles": [[(1, 1), (2, 2)]]}, "NotAShape"),
     "corners in line": ("0.1", {"obstacles": [[(1, 1), (2, 2), (3, 3)]]}, "NotAShape"),
     "a line": ("0.1", {"obstacles": [Shape("LineString", coordinates=SQUARE)]}, "NotAShape"),
+    "a text for a point": ("0.1", {"start": "11"}, "NotAShape"),
+    "a text for a box": ("0.1", {"room": "96"}, "NotAShape"),
+    "a number for a corner": ("0.1", {"obstacles": SQUARE}, "NotAShape"),
     "a negative clearance": ("0.1", {"clearance": -1}, "NotAShape"),
     "many parts": ("0.1", {"obstacles": [[(1, 1), (2, 1), (1, 2)]] * 1025}, "TooManyParts"),
 }

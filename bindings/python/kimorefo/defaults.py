@@ -20,4 +20,4 @@ def gamma_for(width: int, height: int) -> int:
     gamma times the root of ln n / n. Here it has d / 2^(d - 1) under the root, with d the binary digits of n, which is
     at least log2 n / n: so the root of ln 2 * 3 A / pi will do, and 3 ln 2 / pi is less than 0.662.
     """
-    return min(isqrt(662 * width * height // 1000) + 1, MOST_GAMMA)
+    return min(isqrt(max(662 * width * height // 1000, 0)) + 1, MOST_GAMMA)

@@ -194,7 +194,7 @@ def counts_of(lines, tree):
     line = lines.next().removeprefix(tree) if lines.next().startswith(tree) else ""
     numbers = fit(COUNTS.fullmatch(line) or INFORMED_COUNTS.fullmatch(line), *[MOST_COUNT] * len(line.split()[1::2]))
     if numbers is None:
-        raise lines.none(f"the counts of {tree or 'a '}nodes")
+        raise lines.none(f"the counts of {tree}nodes")
     lines.taken += 1
     return Counts(*numbers)
 

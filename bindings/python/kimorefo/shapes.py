@@ -36,8 +36,15 @@ def point_of(given: Any) -> Point:
         if shape.get("type") != "Point":
             raise NotAShape(f"a {shape.get('type')} is no point")
         given = shape["coordinates"]
+    if is_number(given):
+        raise NotAShape(f"{given!r} is no point")
     x, y, *_ = given
     return exact(x), exact(y)
+
+
+def is_number(given: Any) -> bool:
+    """Whether something can be one number at most: it is a text, or has no parts."""
+    return geometry_of(given) is None and (isinstance(given, str) or not isinstance(given, Iterable))
 
 
 def geometry_of(given: Any) -> Mapping[str, Any] | None:
@@ -88,9 +95,11 @@ def simple_polygons(given: Any) -> list[list[Point]]:
 
 def box_of(given: Any, what: str) -> Box:
     """A box: the width and the height from 0 0 on, the coordinates of two corners, or a shape that is one."""
+    if is_number(given):
+        raise NotAShape(f"{what} is a box, and here it is {given!r}")
     if geometry_of(given) is None:
         given = list(given)
-        if all(not isinstance(number, Iterable) or isinstance(number, str) for number in given):
+        if all(map(is_number, given)):
             numbers = [exact(number) for number in given]
             numbers = [Fraction(0), Fraction(0), *numbers] if len(numbers) == 2 else numbers
             if len(numbers) != 4:

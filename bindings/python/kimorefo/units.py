@@ -20,7 +20,7 @@ from .geometry import bounds, clipped, hull, orientation
 from .polygons import check_simple, cleaned, convex_parts, cut_up, double_area, with_fewer_corners
 from .scene_text import KEYS, MOST_CORNERS
 from .scenes import Scene
-from .shapes import Box, Point, box_of, exact, point_of, polygons_of, shapes_of, simple_polygons
+from .shapes import Box, Point, box_of, exact, is_number, point_of, polygons_of, shapes_of, simple_polygons
 
 MOST_SIDE = KEYS[2][b"room"][1][1]
 MOST_REACH = KEYS[2][b"obstacle"][1][1]
@@ -204,7 +204,7 @@ def near_room(part: list[Point], size: LatticePoint) -> list[Point]:
 def goals_of(given: Any) -> list[Any]:
     """The goals of a list, or the one that is given in its place."""
     goals = shapes_of(given)
-    return [goals] if len(goals) == 4 and not any(isinstance(number, Iterable) for number in goals) else goals
+    return [goals] if len(goals) == 4 and all(map(is_number, goals)) else goals
 
 
 def goal_of(given: Any, frame: Frame, size: LatticePoint, number: int) -> tuple[int, int, int, int]:
