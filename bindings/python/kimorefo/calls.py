@@ -102,7 +102,8 @@ def ended(
     if at is None:
         needs_program = workers > 1 or seconds is not None
         wanted = f"program {programs.NAME}" if needs_program else f"library {library.NAME} and no program {programs.NAME}"
-        raise NoPlanner(f"there is no {wanted} beside the package: set KIMOREFO_LIB, or give `program`")
+        named = "KIMOREFO_PROGRAM" if needs_program else "KIMOREFO_LIB or KIMOREFO_PROGRAM"
+        raise NoPlanner(f"there is no {wanted} beside the package: set {named}, or give `program`")
     return by_program(at)
 
 
