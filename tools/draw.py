@@ -5,7 +5,7 @@ Usage: draw.py SCENE [REPORT] > picture.svg
        draw.py --page SCENE REPORT > page.html
 
 Both are names of files; `-` is standard input. REPORT is what a word wrote for SCENE: `plain` or `plan`, each with
-`full` or not, `smooth`, `anytime`, `twin`, `batch` or `trial`. SCENE may have several scenes, as `batch` reads them;
+`full` or not, `smooth`, `anytime`, `watch`, `twin`, `batch` or `trial`. SCENE may have several, as `batch` reads them;
 each is drawn.
 
 The picture shows the room, its obstacles with the clearance round them, goals, start, body and path; with `full` the
