@@ -189,6 +189,7 @@ def on_terminal(command, scene, text):
         source.flush()
         child, terminal = pty.fork()
         if child == 0:
+            signal.signal(signal.SIGINT, signal.SIG_DFL)
             os.dup2(os.open(source.name, os.O_RDONLY), 0)
             os.execv(command[0], command)
         came = read_terminal(terminal, FOUND)

@@ -5,6 +5,8 @@
 # scene. A scene has $LIMIT seconds, 3600 if that is not set; after them its report is empty. Submitted again with the
 # same words, it does what is left, and what was killed. All nodes see the three paths.
 set -eu
+# With gaps between the numbers of the tasks some scenes would be nobody's.
+[ $((SLURM_ARRAY_TASK_MAX - SLURM_ARRAY_TASK_MIN + 1)) -eq "$SLURM_ARRAY_TASK_COUNT" ] || exit 2
 mkdir -p "$3"
 number=0 failed=0
 for scene in "$2"/*.scene; do
