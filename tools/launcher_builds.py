@@ -212,6 +212,8 @@ def interrupted_by(number):
         begun = f"{tree.folder}/begun"
         env = tree.env | {"STEP": f"sleep 100 & echo $! > '{begun}'; wait"}
         taken = {"stdin": subprocess.DEVNULL, "stdout": subprocess.PIPE, "stderr": subprocess.PIPE}
+        # A shell cannot answer a signal that it is started to ignore, as in the background.
+        taken |= {"preexec_fn": lambda: signal.signal(number, signal.SIG_DFL)}
         with subprocess.Popen(tree.command("plain"), cwd=tree.folder, env=env, **taken) as running:
             waited_for("the build begins", lambda: os.path.exists(begun) and os.path.getsize(begun))
             running.send_signal(number)

@@ -94,10 +94,15 @@ def frame_of(room: Box, start: Point, unit: Fraction, margin: Fraction) -> tuple
     high = [floor((room[k + 2] - start[k]) / unit - margin) for k in (0, 1)]
     size = high[0] - low[0], high[1] - low[1]
     if min(size) < 1:
-        raise UnitTooLarge(f"the room is {max(size[0], 0)} by {max(size[1], 0)} lattice steps, and needs one each way")
+        raise UnitTooLarge(f"the room is {told(size[0])} by {told(size[1])} lattice steps, and needs one each way")
     if max(size) > MOST_SIDE:
-        raise UnitTooSmall(f"the room is {size[0]:,} by {size[1]:,} lattice steps, and may have {MOST_SIDE:,}")
+        raise UnitTooSmall(f"the room is {told(size[0])} by {told(size[1])} lattice steps, and may have {MOST_SIDE:,}")
     return Frame(unit, (start[0] + low[0] * unit, start[1] + low[1] * unit)), size
+
+
+def told(number: int) -> str:
+    """A number in a message, 0 at least: Python refuses to write one of thousands of digits."""
+    return f"{max(number, 0):,}" if number < 2**64 else "more than 2 ** 64"
 
 
 def on_lattice(frame: Frame, point: Point) -> Point:
@@ -160,7 +165,7 @@ def body_of(given: Any, unit: Fraction) -> Body:
     ring = ring if len(ring) == 1 else rounded(corners)
     reach = max(abs(coordinate) for corner in ring for coordinate in corner)
     if reach > MOST_BODY:
-        raise UnitTooSmall(f"the body reaches {reach:,} lattice steps from its origin, and may reach {MOST_BODY:,}")
+        raise UnitTooSmall(f"the body reaches {told(reach)} lattice steps from its origin, and may reach {MOST_BODY:,}")
     return Body(ring, not all(map(is_whole, corners)), tuple(notes))
 
 
@@ -225,7 +230,7 @@ def clearance_of(given: Any, unit: Fraction, was_rounded: bool) -> int:
         raise NotAShape(f"a clearance is not less than 0, and here it is {given}")
     steps = ceil(clearance / unit) + was_rounded
     if steps > MOST_CLEARANCE:
-        raise UnitTooSmall(f"the clearance is {steps:,} lattice steps, and may be {MOST_CLEARANCE:,}")
+        raise UnitTooSmall(f"the clearance is {told(steps)} lattice steps, and may be {MOST_CLEARANCE:,}")
     return steps
 
 
@@ -233,5 +238,6 @@ def step_of(given: Any, unit: Fraction) -> int:
     """The longest edge in lattice steps."""
     steps = floor(exact(given) / unit)
     if steps < defaults.LEAST_STEP:
-        raise StepTooShort(f"a step is {steps} lattice steps, and needs {defaults.LEAST_STEP}: choose a smaller unit")
+        needed = f"{defaults.LEAST_STEP}: choose a smaller unit"
+        raise StepTooShort(f"a step is {told(steps)} lattice steps, and needs {needed}")
     return min(steps, defaults.MOST_STEP)
