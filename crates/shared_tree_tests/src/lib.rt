@@ -7,4 +7,6 @@ mod kd_tree;
 #[cfg(test)]
 mod passes;
 #[cfg(test)]
+mod support;
+#[cfg(test)]
 mod worlds;

@@ -1,6 +1,6 @@
 //! Two passes whose points lead to one place of the kd-tree, and a pass that comes to a point second.
 
-ghost use Rattle.std.specs.Prelude.{◌≡◌, ◌≤◌, All, IsTrue, length};
+ghost use Rattle.std.specs.Prelude.{◌≡◌, ◌≤◌, IsTrue, length};
 ghost use Rattle.shared_tree_tests.specs.SteeredPasses.HeldMarks.{HoldsMark, SteersFrom};
 ghost use Rattle.plan_model.specs.Spaces.Clearance.{ClearAt};
 ghost use Rattle.plan_model.specs.Spaces.ConfigurationSpace.{space_of};
@@ -10,15 +10,13 @@ ghost use Rattle.plan_words.specs.States.{BelongsTo, MayClaim};
 ghost use Rattle.step_core.specs.declared.views.Stage.TheVariants.{Claimed, Pointed};
 
 use crate::kd_tree::searches::{expect_near, expect_nearest};
-use crate::kd_tree::support::{
-    Steering, end_tree, last_pass, place_and_finish, some, sure, take_mark, write_from_nearest,
-};
+use crate::kd_tree::support::{Steering, place_and_finish, take_mark, write_from_nearest};
+use crate::support::{TwoPasses, some, sure, two_over};
 use kd_shared::{Placing, find};
 use plan_model::{Goal, Point, SmallScene, Task};
 use plan_words::{Pass, Shared};
 use std::alloc::Global;
 use std::process::Abort;
-use step_core::Grown;
 use swept_check::Hall;
 
 const ABOVE: Point = Point { x: 0, y: 50 };
@@ -28,20 +26,6 @@ const FAR: Point = Point { x: 40, y: 79 };
 const MIDDLE: Point = Point { x: 22, y: 44 };
 
 const RIGHT: Point = Point { x: 40, y: 30 };
-
-/// A shared tree, the collision checker of its room, and its two passes.
-type Two = (Shared, Hall, Pass, Pass);
-
-/// The shared tree of a task, and two passes that may claim its marks.
-fn shared_by_two<R: Abort>(rt: &R, alloc: Global, task: Task) -> (Shared, Vec<Pass>)
-    requires { ClearAt (space_of task.scene) task.scene.start }
-    ensures opening { result.0.opening ≡ 0 }
-    ensures task { result.0.task ≡ task }
-    ensures passes { All (MayClaim result.0) result.1.items }
-{
-    let grown = sure(rt, Grown::new(alloc, task));
-    sure(rt, Shared::start(alloc, grown, 2))
-}
 
 /// These marks in a small room, from a corner of it.
 fn small_task<R: Abort>(rt: &R, alloc: Global, marks: &[Point]) -> Task
@@ -64,22 +48,16 @@ fn small_task<R: Abort>(rt: &R, alloc: Global, marks: &[Point]) -> Task
     sure(rt, small.task(alloc, marks))
 }
 
-/// Two passes over these marks in a small room, and the collision checker of that.
-fn two_passes<R: Abort>(rt: &R, alloc: Global, marks: &[Point]) -> Two
+/// Two passes over these marks in a small room.
+fn two_passes<R: Abort>(rt: &R, alloc: Global, marks: &[Point]) -> TwoPasses
     requires { IsTrue (is_plan 1 (Listed marks.now)) }
-    ensures opening { result.0.opening ≡ 0 }
-    ensures marks { result.0.task.marks ≡ marks.now }
-    ensures hall { result.1 ≡ space_of result.0.task.scene }
-    ensures first { MayClaim result.0 result.2 }
-    ensures second { MayClaim result.0 result.3 }
+    ensures opening { result.shared.opening ≡ 0 }
+    ensures marks { result.shared.task.marks ≡ marks.now }
+    ensures first { MayClaim result.shared result.first }
+    ensures second { MayClaim result.shared result.second }
 {
     let task = small_task(rt, alloc, marks);
-    let hall = sure(rt, Hall::new(alloc, &task.scene));
-    let (shared, mut passes) = shared_by_two(rt, alloc, task);
-    let second = some(rt, last_pass(&shared, &mut passes));
-    let first = some(rt, last_pass(&shared, &mut passes));
-    drop(passes);
-    (shared, hall, first, second)
+    two_over(rt, alloc, task)
 }
 
 /// Claims this mark, the next one below the limit.
@@ -191,19 +169,14 @@ fn expect_both<R: Abort>(rt: &R, shared: &Shared, pass: &mut Pass)
     expect_number(rt, shared, pass, 3);
 }
 
-/// Ends a tree and its two passes.
-fn end_two(shared: Shared, hall: Hall, first: Pass, second: Pass) {
-    drop(hall);
-    drop(second);
-    end_tree(shared, first);
-}
-
 #[test]
 fn the_second_at_a_place_goes_one_node_deeper(rt: HostRuntime) {
-    let (shared, hall, mut first, mut second) = two_passes(&rt, rt.alloc(), &[ABOVE, FAR, RIGHT]);
-    place_both(&rt, &shared, &hall, &mut first, &mut second);
-    expect_both(&rt, &shared, &mut first);
-    end_two(shared, hall, first, second);
+    let mut two = two_passes(&rt, rt.alloc(), &[ABOVE, FAR, RIGHT]);
+    let hall = sure(&rt, Hall::new(rt.alloc(), &two.shared.task().scene));
+    place_both(&rt, &two.shared, &hall, &mut two.first, &mut two.second);
+    drop(hall);
+    expect_both(&rt, &two.shared, &mut two.first);
+    drop(two);
 }
 
 /// The first pass sees no node at a point, and comes there after the second has placed one.
@@ -224,8 +197,10 @@ fn place_after<R: Abort>(rt: &R, shared: &Shared, hall: &Hall, first: &mut Pass,
 
 #[test]
 fn the_second_at_a_point_is_told_the_first(rt: HostRuntime) {
-    let (shared, hall, mut first, mut second) = two_passes(&rt, rt.alloc(), &[ABOVE, ABOVE]);
-    place_after(&rt, &shared, &hall, &mut first, &mut second);
-    expect_number(&rt, &shared, &mut first, 2);
-    end_two(shared, hall, first, second);
+    let mut two = two_passes(&rt, rt.alloc(), &[ABOVE, ABOVE]);
+    let hall = sure(&rt, Hall::new(rt.alloc(), &two.shared.task().scene));
+    place_after(&rt, &two.shared, &hall, &mut two.first, &mut two.second);
+    drop(hall);
+    expect_number(&rt, &two.shared, &mut two.first, 2);
+    drop(two);
 }

@@ -7,7 +7,8 @@ ghost use Rattle.plan_model.specs.Scenes.Limits.{is_plan};
 ghost use Rattle.plan_model.specs.declared.scenes.Marks.TheVariants.{Listed};
 ghost use Rattle.plan_words.specs.States.{MayClaim};
 
-use crate::kd_tree::support::{last_pass, marks_round, place_next, sure};
+use crate::kd_tree::support::{marks_round, place_next};
+use crate::support::{last_pass, sure};
 use kd_shared::Placing;
 use plan_model::{Memory, Point, Task};
 use plan_words::{Pass, Shared};
@@ -56,14 +57,13 @@ fn work(shared: &Shared, hall: &Hall, worker: &mut Worker)
     requires marks { length shared.now.task.marks ≡ POINTS * WORKERS }
 {
     'points: for _ in 0..POINTS {
-        let Some((mark, placing)) = place_next(shared, hall, &mut worker.pass, POINTS * WORKERS)
-        else {
+        let Some(next) = place_next(shared, hall, &mut worker.pass, POINTS * WORKERS) else {
             return;
         };
-        let node = match placing {
+        let node = match next.placing {
             Placing::Placed => {
                 worker.placed = worker.placed.wrapping_add(1);
-                mark.wrapping_add(1)
+                next.mark.wrapping_add(1)
             }
             Placing::Same(node) => node,
         };

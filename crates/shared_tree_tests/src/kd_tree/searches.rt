@@ -9,7 +9,7 @@ ghost use Rattle.plan_model.specs.declared.scenes.Marks.TheVariants.{Listed};
 ghost use Rattle.plan_words.specs.States.{BelongsTo};
 
 use crate::kd_tree::scans::{is_scan_near, scan_find, scan_nearest};
-use crate::kd_tree::support::{end_tree, tree_of};
+use crate::kd_tree::support::tree_of;
 use kd_shared::{around, find, near, nearest};
 use plan_model::Point;
 use plan_words::{Pass, Shared};
@@ -141,10 +141,10 @@ fn expect_scans<R: Abort>(
     requires side { window.side ≤ 16 }
     requires radius { r + 1 < 2 ^ 32 }
 {
-    let (shared, mut pass) = tree_of(rt, alloc, start, points);
-    let all = all_answer_as_scans(&shared, &mut pass, start, points, window, r);
+    let mut one = tree_of(rt, alloc, start, points);
+    let all = all_answer_as_scans(&one.shared, &mut one.pass, start, points, window, r);
     assert!(rt; all, "with radius {r}");
-    end_tree(shared, pass);
+    drop(one);
 }
 
 fn at(x: u32, y: u32) -> Point
@@ -192,9 +192,9 @@ fn across() -> [Point; 6]
 fn of_equally_near_nodes_across_a_line_the_first_is_nearest(rt: HostRuntime) {
     let window = Window { low: 0, side: 13 };
     expect_scans(&rt, rt.alloc(), at(6, 6), &across(), window, 2);
-    let (shared, mut pass) = tree_of(&rt, rt.alloc(), at(6, 1), &across());
-    expect_nearest(&rt, &shared, &mut pass, at(6, 6), 1);
-    end_tree(shared, pass);
+    let mut one = tree_of(&rt, rt.alloc(), at(6, 1), &across());
+    expect_nearest(&rt, &one.shared, &mut one.pass, at(6, 6), 1);
+    drop(one);
 }
 
 /// A tree of one branch.
@@ -245,16 +245,16 @@ fn the_greatest_coordinates_and_radii_are_searched(rt: HostRuntime) {
     };
     expect_scans(&rt, rt.alloc(), start, &corner(), room, 4096);
     expect_scans(&rt, rt.alloc(), start, &corner(), bound, 1390158);
-    let (shared, mut pass) = tree_of(&rt, rt.alloc(), start, &corner());
+    let mut one = tree_of(&rt, rt.alloc(), start, &corner());
     expect_near(
         &rt,
-        &shared,
-        &mut pass,
+        &one.shared,
+        &mut one.pass,
         at(0, 0),
         u32::MAX,
         &[0, 1, 2, 3, 4],
     );
-    end_tree(shared, pass);
+    drop(one);
 }
 
 #[test]

@@ -1,7 +1,6 @@
 //! What the tests do with a pass: it places the points of marks below the nearest nodes, in scenes whose radius is 0.
-//! Trees and passes end by calls of `drop`: the proof of a call is shared, and that of the end of a scope is each function's own.
 
-ghost use Rattle.std.specs.Prelude.{◌≡◌, false, ◌+◌, ◌<◌, ◌≤◌, All, IfNone, IfOk, IfSome, IsTrue, Ok, Some, length};
+ghost use Rattle.std.specs.Prelude.{◌≡◌, false, ◌≤◌, IfNone, IfOk, IfSome, IsTrue, length};
 ghost use Rattle.shared_tree_tests.specs.SteeredPasses.HeldMarks.{HangsBelowNearest, HoldsMark, HoldsPlaced, SeesHandPoint, SteersFrom};
 ghost use Rattle.plan_model.specs.Spaces.Clearance.{ClearAt};
 ghost use Rattle.plan_model.specs.Spaces.ConfigurationSpace.{space_of, IsInRoom};
@@ -11,6 +10,7 @@ ghost use Rattle.plan_model.specs.declared.scenes.Marks.TheVariants.{Listed};
 ghost use Rattle.plan_words.specs.States.{MayClaim};
 ghost use Rattle.step_core.specs.declared.views.Stage.TheVariants.{Claimed, Counted, Pointed, Treed};
 
+use crate::support::{last_pass, some, sure};
 use edge_cost::{class, cost, steer};
 use kd_shared::{Placing, nearest, place};
 use plan_model::{Goal, Memory, Outcome, Point, Record, SmallScene, Task};
@@ -19,26 +19,6 @@ use std::alloc::Global;
 use std::process::Abort;
 use step_core::Grown;
 use swept_check::{Clearing, Hall};
-
-/// What was made, for which memory lasts. A test ends here if none is left, so that no value is dropped on the way.
-pub(crate) fn sure<R: Abort, T>(rt: &R, made: Result<T, Memory>) -> T
-    ensures { made ≡ Ok result }
-{
-    match made {
-        Ok(value) => value,
-        Err(error) => panic!(rt; "{error}"),
-    }
-}
-
-/// What was found, for which there is something.
-pub(crate) fn some<R: Abort, T>(rt: &R, found: Option<T>) -> T
-    ensures { found ≡ Some result }
-{
-    match found {
-        Some(value) => value,
-        None => panic!(rt; "there is none"),
-    }
-}
 
 /// These marks in the greatest room.
 pub(crate) fn marks_round(
@@ -67,15 +47,6 @@ pub(crate) fn marks_round(
         strips,
     }
     .task(alloc, marks)
-}
-
-/// The last pass of the list.
-pub(crate) fn last_pass(shared: &Shared, passes: &mut Vec<Pass>) -> Option<Pass>
-    requires { All (MayClaim shared.now) passes.old.items }
-    ensures rest { All (MayClaim shared.now) passes.new.items }
-    ensures last { IfSome result (MayClaim shared.now) }
-{
-    passes.pop()
 }
 
 /// Claims a mark.
@@ -224,13 +195,20 @@ pub(crate) fn place_and_finish(
     Some(placing)
 }
 
+/// A mark, and how its node was placed.
+#[derive(Clone, Copy)]
+pub(crate) struct PlacedMark {
+    pub(crate) mark: u32,
+    pub(crate) placing: Placing,
+}
+
 /// Places the next mark, if there is one and no mark may be skipped.
 pub(crate) fn place_next(
     shared: &Shared,
     hall: &Hall,
     pass: &mut Pass,
     limit: u32,
-) -> Option<(u32, Placing)>
+) -> Option<PlacedMark>
     requires may_claim { MayClaim shared.now pass.old }
     requires hall { hall.now ≡ space_of shared.now.task.scene }
     requires low { shared.now.opening ≤ limit }
@@ -243,7 +221,7 @@ pub(crate) fn place_next(
     let mark = take_mark(shared, pass, limit)?;
     let steering = write_from_nearest(shared, pass, mark);
     let placing = place_and_finish(shared, hall, pass, steering.mark, steering.nearest)?;
-    Some((mark, placing))
+    Some(PlacedMark { mark, placing })
 }
 
 /// Places so many marks. Returns `None` if one cannot be placed and recorded.
@@ -260,42 +238,38 @@ fn place_all(shared: &Shared, hall: &Hall, pass: &mut Pass, limit: u32) -> Optio
     Some(())
 }
 
-/// The shared tree of a task, and a pass that has it to itself.
-fn shared_by_one<R: Abort>(rt: &R, alloc: Global, task: Task) -> (Shared, Pass)
+/// A shared tree, and the pass that has it to itself.
+#[derive(Drop)]
+pub(crate) struct OnePass {
+    pub(crate) shared: Shared,
+    pub(crate) pass: Pass,
+}
+
+/// The shared tree of a task, and its pass.
+fn shared_by_one<R: Abort>(rt: &R, alloc: Global, task: Task) -> OnePass
     requires { ClearAt (space_of task.scene) task.scene.start }
-    ensures opening { result.0.opening ≡ 0 }
-    ensures task { result.0.task ≡ task }
-    ensures pass { MayClaim result.0 result.1 }
+    ensures opening { result.shared.opening ≡ 0 }
+    ensures task { result.shared.task ≡ task }
+    ensures pass { MayClaim result.shared result.pass }
 {
     let grown = sure(rt, Grown::new(alloc, task));
     let (shared, mut passes) = sure(rt, Shared::start(alloc, grown, 1));
     let pass = some(rt, last_pass(&shared, &mut passes));
     drop(passes);
-    (shared, pass)
+    OnePass { shared, pass }
 }
 
 /// A tree with nodes at these points round the start, each linked by the pass.
-pub(crate) fn tree_of<R: Abort>(
-    rt: &R,
-    alloc: Global,
-    start: Point,
-    points: &[Point],
-) -> (Shared, Pass)
+pub(crate) fn tree_of<R: Abort>(rt: &R, alloc: Global, start: Point, points: &[Point]) -> OnePass
     requires start { IsInRoom (record { x = 65535; y = 65535 }) start }
     requires plan { IsTrue (is_plan 1 (Listed points.now)) }
-    ensures { MayClaim result.0 result.1 }
+    ensures { MayClaim result.shared result.pass }
 {
     let task = sure(rt, marks_round(alloc, start, 1, points));
     let hall = sure(rt, Hall::new(alloc, &task.scene));
-    let (shared, mut pass) = shared_by_one(rt, alloc, task);
+    let mut one = shared_by_one(rt, alloc, task);
     let limit = points.len() as u32;
-    some(rt, place_all(&shared, &hall, &mut pass, limit));
+    some(rt, place_all(&one.shared, &hall, &mut one.pass, limit));
     drop(hall);
-    (shared, pass)
-}
-
-/// Ends a tree and its pass.
-pub(crate) fn end_tree(shared: Shared, pass: Pass) {
-    drop(shared);
-    drop(pass);
+    one
 }

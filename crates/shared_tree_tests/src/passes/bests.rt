@@ -1,6 +1,6 @@
 //! Passes in an informed scene: one posts the goal node that it places, and others skip marks by the best.
 
-ghost use Rattle.std.specs.Prelude.{◌≡◌, All, IfOk, IsTrue, None, Some, length};
+ghost use Rattle.std.specs.Prelude.{◌≡◌, IfOk, IsTrue, None, Some, length};
 ghost use Rattle.plan_model.specs.Scenes.Limits.{is_plan};
 ghost use Rattle.plan_model.specs.Spaces.Clearance.{ClearAt};
 ghost use Rattle.plan_model.specs.Spaces.ConfigurationSpace.{space_of, IsInRoom};
@@ -10,13 +10,14 @@ ghost use Rattle.shared_tree_tests.specs.HeldPasses.HeldMarks.{HangsFromStart, H
 ghost use Rattle.step_core.specs.declared.views.Stage.TheVariants.{Claimed, Counted, Posted};
 
 use crate::passes::link::{claim_mark, expect_free, hang_at_cost, link_first, write_from_start};
-use crate::passes::support::{START, last_pass, some, sure};
+use crate::passes::support::START;
+use crate::support::{TwoPasses, sure, two_over};
 use edge_cost::bound;
 use plan_model::{Goal, Marks, Memory, Outcome, Point, Record, Scene, Sequence, Task, Vertex};
 use plan_words::{Pass, Shared};
 use std::alloc::Global;
 use std::process::Abort;
-use step_core::{Grown, lies_in_goals};
+use step_core::lies_in_goals;
 use swept_check::Hall;
 
 /// Where the only goal is.
@@ -63,30 +64,16 @@ fn marks_in_goal(alloc: Global, start: Point) -> Result<Task, Memory>
     informed_task(alloc, start, &[GOAL, GOAL, Point { x: 40, y: 30 }])
 }
 
-/// The tree of these marks with this start, and its two passes.
-fn informed_by_two<R: Abort>(rt: &R, alloc: Global, start: Point) -> (Shared, Vec<Pass>)
+/// Two passes over these marks, with this start.
+fn two_informed<R: Abort>(rt: &R, alloc: Global, start: Point) -> TwoPasses
     requires start { IsInRoom (record { x = 100; y = 100 }) start }
-    ensures opening { result.0.opening ≡ 0 }
-    ensures marks { length result.0.task.marks ≡ 3 }
-    ensures passes { All (MayClaim result.0) result.1.items }
+    ensures opening { result.shared.opening ≡ 0 }
+    ensures marks { length result.shared.task.marks ≡ 3 }
+    ensures first { MayClaim result.shared result.first }
+    ensures second { MayClaim result.shared result.second }
 {
     let task = sure(rt, marks_in_goal(alloc, start));
-    let grown = sure(rt, Grown::new(alloc, task));
-    sure(rt, Shared::start(alloc, grown, 2))
-}
-
-/// The tree of these marks with this start, and its first and its second pass.
-fn two_informed<R: Abort>(rt: &R, alloc: Global, start: Point) -> (Shared, Pass, Pass)
-    requires start { IsInRoom (record { x = 100; y = 100 }) start }
-    ensures opening { result.0.opening ≡ 0 }
-    ensures marks { length result.0.task.marks ≡ 3 }
-    ensures first { MayClaim result.0 result.1 }
-    ensures second { MayClaim result.0 result.2 }
-{
-    let (shared, mut passes) = informed_by_two(rt, alloc, start);
-    let second = some(rt, last_pass(&shared, &mut passes));
-    let first = some(rt, last_pass(&shared, &mut passes));
-    (shared, first, second)
+    two_over(rt, alloc, task)
 }
 
 /// Loads the best for the mark in hand: a goal node and a cost, or none.
@@ -228,33 +215,27 @@ fn skip_held<R: Abort>(rt: &R, shared: &Shared, pass: &mut Pass, mark: u32, node
 
 #[test]
 fn a_mark_is_skipped_by_the_node_that_another_pass_posted(rt: HostRuntime) {
-    let (shared, mut first, mut second) = two_informed(&rt, rt.alloc(), START);
-    place_in_goal(&rt, rt.alloc(), &shared, &mut first);
-    claim_and_skip(&rt, &shared, &mut second, 1, 1, 12_800);
-    drop(shared);
-    drop(first);
-    drop(second);
+    let mut two = two_informed(&rt, rt.alloc(), START);
+    place_in_goal(&rt, rt.alloc(), &two.shared, &mut two.first);
+    claim_and_skip(&rt, &two.shared, &mut two.second, 1, 1, 12_800);
+    drop(two);
 }
 
 #[test]
 fn a_pass_that_looks_again_finds_what_another_has_posted_since(rt: HostRuntime) {
-    let (shared, mut first, mut second) = two_informed(&rt, rt.alloc(), START);
-    claim_mark(&rt, &shared, &mut first, 0);
-    claim_mark(&rt, &shared, &mut second, 1);
-    expect_no_best(&rt, &shared, &mut second, 1);
-    place_held_in_goal(&rt, rt.alloc(), &shared, &mut first);
-    skip_held(&rt, &shared, &mut second, 1, 1, 12_800);
-    drop(shared);
-    drop(first);
-    drop(second);
+    let mut two = two_informed(&rt, rt.alloc(), START);
+    claim_mark(&rt, &two.shared, &mut two.first, 0);
+    claim_mark(&rt, &two.shared, &mut two.second, 1);
+    expect_no_best(&rt, &two.shared, &mut two.second, 1);
+    place_held_in_goal(&rt, rt.alloc(), &two.shared, &mut two.first);
+    skip_held(&rt, &two.shared, &mut two.second, 1, 1, 12_800);
+    drop(two);
 }
 
 #[test]
 fn a_tree_begins_with_the_best_of_its_run(rt: HostRuntime) {
-    let (shared, mut first, mut second) = two_informed(&rt, rt.alloc(), GOAL);
-    claim_and_skip(&rt, &shared, &mut first, 0, 0, 0);
-    claim_and_skip(&rt, &shared, &mut second, 1, 0, 0);
-    drop(shared);
-    drop(first);
-    drop(second);
+    let mut two = two_informed(&rt, rt.alloc(), GOAL);
+    claim_and_skip(&rt, &two.shared, &mut two.first, 0, 0, 0);
+    claim_and_skip(&rt, &two.shared, &mut two.second, 1, 0, 0);
+    drop(two);
 }

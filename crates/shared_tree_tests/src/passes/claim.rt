@@ -3,7 +3,7 @@
 ghost use Rattle.std.specs.Prelude.{◌≡◌, ◌≤◌, length};
 ghost use Rattle.plan_words.specs.States.{MayClaim};
 
-use crate::passes::support::{expect_taken, expect_turn, let_go, three_passes};
+use crate::passes::support::{expect_taken, expect_turn, three_passes};
 use plan_words::{Pass, Shared};
 use std::process::Abort;
 
@@ -99,9 +99,15 @@ fn record_seven<R: Abort>(
 
 #[test]
 fn three_passes_record_seven_marks_on_one_point(rt: HostRuntime) {
-    let (shared, mut first, mut second, mut third) = three_passes(&rt, rt.alloc(), 7);
-    record_seven(&rt, &shared, &mut first, &mut second, &mut third);
-    let_go((shared, first, second, third));
+    let mut three = three_passes(&rt, rt.alloc(), 7);
+    record_seven(
+        &rt,
+        &three.shared,
+        &mut three.first,
+        &mut three.second,
+        &mut three.third,
+    );
+    drop(three);
 }
 
 /// The mark of the second of three strips that goes first.
@@ -126,7 +132,7 @@ fn take_own_first<R: Abort>(rt: &R, shared: &Shared, second: &mut Pass)
 
 #[test]
 fn a_worker_takes_its_own_strips_first(rt: HostRuntime) {
-    let (shared, first, mut second, third) = three_passes(&rt, rt.alloc(), 7);
-    take_own_first(&rt, &shared, &mut second);
-    let_go((shared, first, second, third));
+    let mut three = three_passes(&rt, rt.alloc(), 7);
+    take_own_first(&rt, &three.shared, &mut three.second);
+    drop(three);
 }

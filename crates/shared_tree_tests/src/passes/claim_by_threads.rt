@@ -4,7 +4,8 @@ ghost use Rattle.std.specs.Prelude.{◌≡◌, ◌≤◌, All, length};
 ghost use Rattle.plan_words.specs.States.{MayClaim};
 ghost use Rattle.shared_tree_tests.specs.declared.passes.claim_by_threads.TheConstants.{COUNT};
 
-use crate::passes::support::{sure, take_turn, three_passes};
+use crate::passes::support::{ThreePasses, take_turn, three_passes};
+use crate::support::sure;
 use plan_model::Memory;
 use plan_words::{Pass, Shared};
 use std::alloc::Global;
@@ -94,7 +95,12 @@ fn claimed_by<R: Threads + Sync + Abort>(
 
 #[test]
 fn threads_claim_each_mark_once(rt: HostRuntime) {
-    let (shared, first, second, third) = three_passes(&rt, rt.alloc(), COUNT);
+    let ThreePasses {
+        shared,
+        first,
+        second,
+        third,
+    } = three_passes(&rt, rt.alloc(), COUNT);
     let marks = claimed_by(&rt, rt.alloc(), &shared, first, second, third);
     assert!(rt; marks.iter().copied().eq(0..COUNT));
     drop(shared);

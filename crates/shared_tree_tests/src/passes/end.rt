@@ -1,12 +1,11 @@
 //! A shared tree that becomes a closed run again.
 
-ghost use Rattle.std.specs.Prelude.{◌≡◌, ◌+◌, All, IfSome, length};
-ghost use Rattle.plan_words.specs.States.{MayClaim};
+ghost use Rattle.std.specs.Prelude.{◌≡◌, All, IfSome, length};
 ghost use Rattle.shared_tree_tests.specs.HeldPasses.HeldMarks.{HasShare};
-ghost use Rattle.step_core.specs.Views.{share};
 
-use crate::passes::support::{some, sure, take_turn, task_on_start};
-use plan_model::Outcome;
+use crate::passes::support::{take_turn, task_on_start};
+use crate::support::{TwoPasses, some, sure};
+use plan_model::{Outcome, Record};
 use plan_words::{Pass, Shared};
 use std::alloc::Global;
 use std::process::Abort;
@@ -34,17 +33,21 @@ fn shared_by_two<R: Abort>(rt: &R, alloc: Global) -> (Shared, Vec<Pass>)
 }
 
 /// Two passes over five marks that lie on the start.
-fn two_sharers<R: Abort>(rt: &R, alloc: Global) -> (Shared, Pass, Pass)
-    ensures opening { result.0.opening ≡ 0 }
-    ensures workers { result.0.workers ≡ 2 }
-    ensures marks { length result.0.task.marks ≡ 5 }
-    ensures first { HasShare result.0 1 result.1 }
-    ensures second { HasShare result.0 1 result.2 }
+fn two_sharers<R: Abort>(rt: &R, alloc: Global) -> TwoPasses
+    ensures opening { result.shared.opening ≡ 0 }
+    ensures workers { result.shared.workers ≡ 2 }
+    ensures marks { length result.shared.task.marks ≡ 5 }
+    ensures first { HasShare result.shared 1 result.first }
+    ensures second { HasShare result.shared 1 result.second }
 {
     let (shared, mut passes) = shared_by_two(rt, alloc);
     let second = some(rt, last_sharer(&shared, &mut passes));
     let first = some(rt, last_sharer(&shared, &mut passes));
-    (shared, first, second)
+    TwoPasses {
+        shared,
+        first,
+        second,
+    }
 }
 
 /// A pass takes its turns until no mark is left.
@@ -108,9 +111,8 @@ fn expect_record<R: Abort>(rt: &R, grown: &Grown, mark: u32, worker: u32, turn: 
     if mark >= grown.limit() {
         panic!(rt; "the mark was not handled");
     }
-    let entry = grown.record_of(mark);
-    let found = (entry.worker, entry.turn, entry.nearest, entry.outcome);
-    assert_eq!(rt; found, (worker, turn, 0, Outcome::Same(0)));
+    let want = Record::unplaced(worker, turn, 0, Outcome::Same(0));
+    assert_eq!(rt; grown.record_of(mark), want);
 }
 
 /// Compares the records of five marks, of which the second and the last were taken by the second pass.
@@ -124,7 +126,11 @@ fn expect_records<R: Abort>(rt: &R, grown: &Grown) {
 
 #[test]
 fn two_passes_end_as_one_run(rt: HostRuntime) {
-    let (shared, mut first, mut second) = two_sharers(&rt, rt.alloc());
+    let TwoPasses {
+        shared,
+        mut first,
+        mut second,
+    } = two_sharers(&rt, rt.alloc());
     take_turns(&rt, &shared, &mut second, 2);
     take_turns(&rt, &shared, &mut first, 3);
     take_both(&shared, &mut first, second);
@@ -136,10 +142,10 @@ fn two_passes_end_as_one_run(rt: HostRuntime) {
 
 #[test]
 fn what_is_left_of_two_passes_ends_as_one_run(rt: HostRuntime) {
-    let (shared, mut first, mut second) = two_sharers(&rt, rt.alloc());
-    take_turns(&rt, &shared, &mut second, 2);
-    take_turns(&rt, &shared, &mut first, 3);
-    let grown = end_of_left(&rt, shared, first, second);
+    let mut two = two_sharers(&rt, rt.alloc());
+    take_turns(&rt, &two.shared, &mut two.second, 2);
+    take_turns(&rt, &two.shared, &mut two.first, 3);
+    let grown = end_of_left(&rt, two.shared, two.first, two.second);
     assert_eq!(rt; (grown.limit(), grown.count()), (5, 1));
     expect_records(&rt, &grown);
     drop(grown);

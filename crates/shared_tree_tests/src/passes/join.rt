@@ -5,8 +5,9 @@ ghost use Rattle.plan_words.specs.States.{BelongsTo, MayClaim};
 ghost use Rattle.shared_tree_tests.specs.HeldPasses.HeldMarks.{IsIdle};
 
 use crate::passes::support::{
-    expect_same, expect_taken, expect_turn, expect_worker, let_go, sure, three_passes,
+    ThreePasses, expect_same, expect_taken, expect_turn, expect_worker, three_passes,
 };
+use crate::support::sure;
 use plan_model::MOST_MARKS;
 use plan_words::{Pass, Shared};
 use std::process::Abort;
@@ -102,7 +103,12 @@ fn take_over_second<R: Abort>(rt: &R, shared: &Shared, first: &mut Pass, second:
 
 #[test]
 fn a_looker_takes_over_a_worker(rt: HostRuntime) {
-    let (shared, mut first, second, third) = three_passes(&rt, rt.alloc(), 7);
+    let ThreePasses {
+        shared,
+        mut first,
+        second,
+        third,
+    } = three_passes(&rt, rt.alloc(), 7);
     take_over_second(&rt, &shared, &mut first, second);
     drop(shared);
     drop(first);
@@ -128,7 +134,13 @@ fn claim_and_look<R: Abort>(rt: &R, shared: &Shared, first: &mut Pass, third: &m
 
 #[test]
 fn the_longest_task_is_claimed_and_looked_at(rt: HostRuntime) {
-    let (shared, mut first, second, mut third) = three_passes(&rt, rt.alloc(), MOST_MARKS);
-    claim_and_look(&rt, &shared, &mut first, &mut third, MOST_MARKS);
-    let_go((shared, first, second, third));
+    let mut three = three_passes(&rt, rt.alloc(), MOST_MARKS);
+    claim_and_look(
+        &rt,
+        &three.shared,
+        &mut three.first,
+        &mut three.third,
+        MOST_MARKS,
+    );
+    drop(three);
 }

@@ -1,6 +1,6 @@
 //! Two passes whose points lead to one place of the kd-tree.
 
-ghost use Rattle.std.specs.Prelude.{◌≡◌, All, IfErr, IfOk, IfSome, Some, length, true};
+ghost use Rattle.std.specs.Prelude.{◌≡◌, IfErr, IfOk, IfSome, Some, length, true};
 ghost use Rattle.plan_model.specs.Spaces.Clearance.{ClearAt};
 ghost use Rattle.plan_model.specs.Spaces.ConfigurationSpace.{space_of};
 ghost use Rattle.plan_words.specs.States.{MayClaim};
@@ -10,13 +10,13 @@ ghost use Rattle.step_core.specs.ViewTrees.{SeesPoint};
 ghost use Rattle.step_core.specs.Views.{tree_seen};
 ghost use Rattle.step_core.specs.declared.views.Stage.TheVariants.{Claimed, Counted, Pointed, Treed};
 
-use crate::passes::support::{START, last_pass, some, sure};
+use crate::passes::support::START;
+use crate::support::{TwoPasses, sure, two_over};
 use edge_cost::{cost, steer};
 use plan_model::{Goal, Memory, Outcome, Point, Record, SmallScene, Task};
 use plan_words::{Pass, Shared};
 use std::alloc::Global;
 use std::process::Abort;
-use step_core::Grown;
 use swept_check::{Clearing, Hall};
 
 const ABOVE: Point = Point { x: 0, y: 50 };
@@ -46,28 +46,15 @@ fn three_marks(alloc: Global) -> Result<Task, Memory>
     .task(alloc, &[ABOVE, FAR, Point { x: 40, y: 30 }])
 }
 
-/// The tree of three marks, and its two passes.
-fn shared_by_two<R: Abort>(rt: &R, alloc: Global) -> (Shared, Vec<Pass>)
-    ensures opening { result.0.opening ≡ 0 }
-    ensures marks { length result.0.task.marks ≡ 3 }
-    ensures passes { All (MayClaim result.0) result.1.items }
+/// Two passes over three marks.
+fn two_passes<R: Abort>(rt: &R, alloc: Global) -> TwoPasses
+    ensures opening { result.shared.opening ≡ 0 }
+    ensures marks { length result.shared.task.marks ≡ 3 }
+    ensures first { MayClaim result.shared result.first }
+    ensures second { MayClaim result.shared result.second }
 {
     let task = sure(rt, three_marks(alloc));
-    let grown = sure(rt, Grown::new(alloc, task));
-    sure(rt, Shared::start(alloc, grown, 2))
-}
-
-/// The tree of three marks, and its first and its second pass.
-fn two_passes<R: Abort>(rt: &R, alloc: Global) -> (Shared, Pass, Pass)
-    ensures opening { result.0.opening ≡ 0 }
-    ensures marks { length result.0.task.marks ≡ 3 }
-    ensures first { MayClaim result.0 result.1 }
-    ensures second { MayClaim result.0 result.2 }
-{
-    let (shared, mut passes) = shared_by_two(rt, alloc);
-    let second = some(rt, last_pass(&shared, &mut passes));
-    let first = some(rt, last_pass(&shared, &mut passes));
-    (shared, first, second)
+    two_over(rt, alloc, task)
 }
 
 /// Claims a mark.
@@ -390,9 +377,13 @@ fn link_at_one_place<R: Abort>(
 
 #[test]
 fn two_passes_link_at_one_place(rt: HostRuntime) {
-    let (shared, mut first, mut second) = two_passes(&rt, rt.alloc());
-    link_at_one_place(&rt, rt.alloc(), &shared, &mut first, &mut second);
-    drop(shared);
-    drop(first);
-    drop(second);
+    let mut two = two_passes(&rt, rt.alloc());
+    link_at_one_place(
+        &rt,
+        rt.alloc(),
+        &two.shared,
+        &mut two.first,
+        &mut two.second,
+    );
+    drop(two);
 }

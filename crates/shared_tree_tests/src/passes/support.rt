@@ -1,7 +1,6 @@
-//! What the tests share: three passes over marks in three strips, what they do with a pass, and values that they cannot go on
-//! without.
+//! What the tests share: three passes over marks in three strips, and what they do with a pass.
 
-ghost use Rattle.std.specs.Prelude.{◌≡◌, ◌<◌, ◌≤◌, All, IfOk, IfSome, IsTrue, Ok, Some, length};
+ghost use Rattle.std.specs.Prelude.{◌≡◌, ◌<◌, ◌≤◌, IfOk, IsTrue, length};
 ghost use Rattle.plan_model.specs.Spaces.Clearance.{ClearAt};
 ghost use Rattle.plan_model.specs.Runs.ClosedLaw.{mark_at};
 ghost use Rattle.plan_model.specs.Spaces.ConfigurationSpace.{space_of};
@@ -14,6 +13,7 @@ ghost use Rattle.step_core.specs.ViewTrees.{SeesPoint};
 ghost use Rattle.step_core.specs.Views.{share};
 ghost use Rattle.step_core.specs.declared.views.Stage.TheVariants.{Claimed};
 
+use crate::support::{last_pass, some, sure};
 use plan_model::{Goal, MOST_MARKS, Memory, Outcome, Point, Record, SmallScene, Task};
 use plan_words::{Pass, Shared};
 use std::alloc::Global;
@@ -64,55 +64,49 @@ pub(crate) fn task_on_start<R: Abort>(rt: &R, alloc: Global, count: u32) -> Task
     sure(rt, marks_in_strips(alloc, &marks))
 }
 
-/// The last pass of the list.
-pub(crate) fn last_pass(shared: &Shared, passes: &mut Vec<Pass>) -> Option<Pass>
-    requires { All (MayClaim shared.now) passes.old.items }
-    ensures rest { All (MayClaim shared.now) passes.new.items }
-    ensures last { IfSome result (MayClaim shared.now) }
-{
-    passes.pop()
+/// A shared tree, and its first, its second and its third pass.
+#[derive(Drop)]
+pub(crate) struct ThreePasses {
+    pub(crate) shared: Shared,
+    pub(crate) first: Pass,
+    pub(crate) second: Pass,
+    pub(crate) third: Pass,
 }
 
-/// A shared tree, and its first, its second and its third pass.
-pub(crate) type Three = (Shared, Pass, Pass, Pass);
-
-/// Three passes that go on from a run.
-fn passes_from<R: Abort>(rt: &R, alloc: Global, grown: Grown) -> Three
-    ensures opening { result.0.opening ≡ grown.limit }
-    ensures task { result.0.task ≡ grown.task }
-    ensures first { MayClaim result.0 result.1 }
-    ensures second { MayClaim result.0 result.2 }
-    ensures third { MayClaim result.0 result.3 }
+/// Three passes over the marks of a task.
+fn three_over<R: Abort>(rt: &R, alloc: Global, task: Task) -> ThreePasses
+    requires { ClearAt (space_of task.scene) task.scene.start }
+    ensures opening { result.shared.opening ≡ 0 }
+    ensures task { result.shared.task ≡ task }
+    ensures first { MayClaim result.shared result.first }
+    ensures second { MayClaim result.shared result.second }
+    ensures third { MayClaim result.shared result.third }
 {
+    let grown = sure(rt, Grown::new(alloc, task));
     let (shared, mut passes) = sure(rt, Shared::start(alloc, grown, 3));
     let third = some(rt, last_pass(&shared, &mut passes));
     let second = some(rt, last_pass(&shared, &mut passes));
     let first = some(rt, last_pass(&shared, &mut passes));
-    (shared, first, second, third)
+    ThreePasses {
+        shared,
+        first,
+        second,
+        third,
+    }
 }
 
 /// Three passes that may claim this many marks on the start.
-pub(crate) fn three_passes<R: Abort>(rt: &R, alloc: Global, count: u32) -> Three
+pub(crate) fn three_passes<R: Abort>(rt: &R, alloc: Global, count: u32) -> ThreePasses
     requires { count ≤ MOST_MARKS }
-    ensures opening { result.0.opening ≡ 0 }
-    ensures marks { length result.0.task.marks ≡ count }
-    ensures strips { result.0.task.scene.strips ≡ 3 }
-    ensures first { MayClaim result.0 result.1 }
-    ensures second { MayClaim result.0 result.2 }
-    ensures third { MayClaim result.0 result.3 }
+    ensures opening { result.shared.opening ≡ 0 }
+    ensures marks { length result.shared.task.marks ≡ count }
+    ensures strips { result.shared.task.scene.strips ≡ 3 }
+    ensures first { MayClaim result.shared result.first }
+    ensures second { MayClaim result.shared result.second }
+    ensures third { MayClaim result.shared result.third }
 {
     let task = task_on_start(rt, alloc, count);
-    let grown = sure(rt, Grown::new(alloc, task));
-    passes_from(rt, alloc, grown)
-}
-
-/// Lets go of three passes and their tree, by calls: drops that stand at a function's end take long to prove.
-pub(crate) fn let_go(three: Three) {
-    let (shared, first, second, third) = three;
-    drop(shared);
-    drop(first);
-    drop(second);
-    drop(third);
+    three_over(rt, alloc, task)
 }
 
 /// Sees that the mark in hand lies on the start.
@@ -197,24 +191,4 @@ pub(crate) fn expect_worker<R: Abort>(rt: &R, shared: &Shared, pass: &Pass, work
     expect_same(rt, at, worker, "worker");
     let next = pass.turn();
     expect_same(rt, next, turn, "next turn");
-}
-
-/// What was made, for which memory lasts. A test ends here if none is left, so that no value is dropped on the way.
-pub(crate) fn sure<R: Abort, T>(rt: &R, made: Result<T, Memory>) -> T
-    ensures { made ≡ Ok result }
-{
-    match made {
-        Ok(value) => value,
-        Err(error) => panic!(rt; "{error}"),
-    }
-}
-
-/// What was found, for which there is something.
-pub(crate) fn some<R: Abort, T>(rt: &R, found: Option<T>) -> T
-    ensures { found ≡ Some result }
-{
-    match found {
-        Some(value) => value,
-        None => panic!(rt; "there is none"),
-    }
 }
