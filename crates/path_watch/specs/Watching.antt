@@ -1,6 +1,4 @@
--- What is written while a session is watched: a block for each better path, and the end. What a session does until its next item, and how the item's
--- block is handed to a sink. What comes of a session that is watched: which items it gave, what the sink took, and how both ended. What a whole call
--- has done: what it has read, what it watched, what is written, and the status.
+-- What comes of a session that is watched: which items it gave, what the sink took, and how both ended.
 use Rattle.std.specs.Prelude.{ℕ, Bool, true, false, List, [], ◌∷◌, ◌++◌, ◌≡◌, zero, suc, ◌≤◌, Option, Some, None, Result, Ok, IsSomeAnd, ◌⊎◌, map, IfSome}
 use Rattle.std.specs.Prelude.{length}
 use Rattle.path_watch.specs.Terms.{Answers, Better, ClearAt, Ending, FoldsTo, Grown, HasGiven, HasScene, IsCaused, IsCutShort, IsDecided, IsRunBySlices}
@@ -13,6 +11,7 @@ use Rattle.any_time.specs.Sessions as best
 use Rattle.planner.specs.declared.refusals.Refusal.TheVariants as refusals
 use Rattle.path_watch.specs.declared.watching.Ending.TheVariants as endings
 
+-- ---- What is written while a session is watched: a block for each better path, and the end.
 -- what it costs and after how many marks it came, the path with its points, and an empty line
 abbrev pub block : Better → List ℕ
 block item = ((better_line item ++ path_line item.path item.cost) ++ point_lines item.path) ++ 10 ∷ []
@@ -22,10 +21,11 @@ abbrev pub line_unless : Bool → List ℕ
 line_unless true = []
 line_unless false = no_path_line
 
--- that there is no path, if no block came, and the counts of the run
+-- that there is no path, if there is none, and the counts of the run
 abbrev pub end_text : Grown → List ℕ
 end_text run = line_unless (has_path run) ++ counts_line run.task.scene run.limit (state_of_grown run)
 
+-- ---- What a session does until its next item, and how the item's block is handed to a sink.
 -- the answers of so many polls that gave nothing
 abbrev pub pendings : ℕ → Answers
 pendings zero = []
@@ -74,8 +74,8 @@ pub record Steps (before : SessionState × SinkState) (step : Step) (now : Sessi
 abbrev pub Hands : SessionState × SinkState → Better → SessionState × SinkState → Type 0
 Hands before item now = Steps before (steps.Given item) now
 
+-- ---- watching
 -- ---- the last text
-
 -- the line of the refusal was handed to the sink, which took it or cut it
 abbrev pub Refuses : SinkState → SinkState → Refusal → Ending → Type 0
 Refuses before now refusal (endings.Refused it) = (it ≡ refusal) × Takes before (line_of it) now
@@ -90,7 +90,6 @@ HandsEnd before now run (endings.Refused it) = Refuses before now refusals.Memor
 HandsEnd before now run (endings.CutRefusal it) = Refuses before now refusals.Memory (endings.CutRefusal it)
 
 -- ---- the session
-
 -- the sink took the blocks of the items in their order, each whole, and nothing else
 abbrev pub TakesBlocks : SinkState → List Better → SinkState → Type 0
 TakesBlocks before items now = FoldsTo Takes before (map block items) now
@@ -124,6 +123,7 @@ pub record Watches (workers slice : ℕ) (scene : Scene) (before now : SinkState
   pub blocks : TakesBlocks before items then
   pub ends : EndsAfter workers slice scene items then now ending
 
+-- ---- What a whole call has done: what it has read, what it watched, what is written, and the status.
 -- the status that the program ends with
 abbrev pub status_of_ending : Ending → ℕ
 status_of_ending (endings.Ended run has_path) = status_of_report has_path
