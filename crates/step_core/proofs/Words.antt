@@ -58,7 +58,7 @@ pub use Rattle.std.specs.Int.{abs_diff}
 pub use Rattle.std.specs.List.{AllByRecursion, count_by, list_any, range_with_len, sum_by}
 pub use Rattle.std.specs.Prelude.{Contains, IsSome, IsTrue, cond, if◌then◌else◌, nat_le, nat_lt, option_map, replicate, slice_index, slice_set, unwrap_or, ◌&&◌}
 pub use Rattle.std.specs.Prelude.{◌==◌, ◌||◌, ◌↔◌}
-pub use Rattle.step_core.specs.Histories.{HasCome, HasLooked, HasOrFell, IsLater, IsLawfulView, StandsAsSeen, WasEmpty, WasFree, WasSo}
+pub use Rattle.step_core.specs.Histories.{HasCome, HasLooked, HasOrFell, IsLater, IsLawfulView, StandsAsSeen, WasFree, WasSo}
 pub use Rattle.step_core.specs.Histories.HasCome.{steps}
 pub use Rattle.step_core.specs.Notes.{Empties, FillsNoPlace, GoesTo, HasMade, HasNoted, IsAmong, IsAsPlaced, IsLoaded, IsNoteOf, IsNoted, KnowsAsBefore, Notes}
 pub use Rattle.step_core.specs.Notes.{NotesAsSeen, SeesSome, SomeNote, last_seen}

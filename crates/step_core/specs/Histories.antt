@@ -1,5 +1,4 @@
--- What steps of a pass leave of what it knew, and what the law of worlds says of one view. What a view has seen, in the run that the words have come
--- to. How the world goes on while a call of a pass is under way, and what was so at some moment of that time.
+-- How the world goes on while a call of a pass is under way, and what was so at some moment of that time.
 use Rattle.std.specs.Prelude.{◌≡◌, ◌≢◌, ℕ, suc, ◌+◌, ◌^◌, ◌<◌, ◌≤◌, ◌⊎◌, true, false, Some, None, length, Bool, List, slice_set}
 use Rattle.step_core.specs.Terms.{Apart, AreBehind, AreDistinct, ChildOf, Count, Counter, FollowSeenWays, Hand, IsFree, IsPresent, KeepsOrder, Member, Point}
 use Rattle.step_core.specs.Terms.{Record, SharedRun, StandsAt, TreeOf, TreeState, View, Word, Words, best_node_in, cost_in, get_elem?, kind_of, no_best}
@@ -11,6 +10,7 @@ use Rattle.step_core.specs.ViewTrees.{IsSeenPair, SeesNode, SeesPoint, SeesTree}
 use Rattle.step_core.specs.Views.{IsSharedRun, IsViewOf, last_look, last_zero, run_sizes, sees, setup_in, share, took_over, tree_seen}
 use Rattle.step_core.specs.Worlds.{IsWorld}
 
+-- ---- What steps of a pass leave of what it knew, and what the law of worlds says of one view.
 -- A view after some more of its own steps. What was seen of a word may become what is seen, and the best word seen is no greater. The last
 -- look at a word is as before, or a later step. The last step that found it 0 is as before, or a later one, and then nothing had been seen of it before.
 pub record IsLater (before after : View) : Type 0 where
@@ -77,6 +77,7 @@ pub record IsLawfulView (view : View) : Type 0 where
   -- with the share of all workers, the tree in the words seen keeps the order law
   pub order : share view ≡ view.run.workers → KeepsOrder (setup_in view.run) (state_of_links (run_sizes view.run) (sees view))
 
+-- ---- What a view has seen, in the run that the words have come to.
 -- node n has the parent and the cost in this word, or costs less
 abbrev pub HasOrFell : TreeState → ℕ → ℕ → Type 0
 HasOrFell state n word = ((state.cost n ≡ cost_in word) × (state.parent n ≡ parent_in word)) ⊎ (state.cost n < cost_in word)
@@ -90,6 +91,7 @@ pub record StandsAsSeen (view : View) (state : TreeState) : Type 0 where
   pub records : (k : ℕ) (entry : Record) → record_at (sees view) k ≡ Some entry → state.record_of k ≡ Some entry
   pub counters : (g : ℕ) → g < view.run.strips → sees view (Counter g) ≤ quota_of view.run.strips g view.most
 
+-- ---- histories
 -- The world has come so far, by steps of the view at index id and of others. The law holds between any two.
 --
 -- A step of the view itself leaves a later view, and notes no place of a child; of what it says to have found empty nothing is asked. Of a word
@@ -107,16 +109,7 @@ pub data HasCome (run : SharedRun) (id : ℕ) (words : Words) (views : List View
       → ((name : Word) → IsLoaded run name → KnowsAsBefore view then name ⊎ (last_seen then name ≡ after name))
       → HasCome run id words views after next
 
--- at some moment from the first words to the last a place was empty
-pub record WasEmpty (run : SharedRun) (first last : Words) (n : ℕ) (side : Bool) : Type 0 where
-  pub words : Words
-  pub views : List View
-  pub world : IsWorld run words views
-  pub since : AreBehind first words
-  pub until : AreBehind words last
-  pub empty : words (ChildOf n side) ≡ 0
-
--- a word was this
+-- at some moment from the first words to the last a word was this
 pub record WasSo (run : SharedRun) (first last : Words) (name : Word) (word : ℕ) : Type 0 where
   pub words : Words
   pub views : List View

@@ -1,5 +1,5 @@
--- One step of a pass: one load, store or exchange of one word. Of each kind: what it asks of the view that makes it, the word that it writes
--- with what it leaves there, and the views afterwards.
+-- One step of a pass: one load, store or exchange of one word, or of none in a split or a join. Of each kind: what it asks of the view that makes
+-- it, the word that it writes with what it leaves there, and the views afterwards.
 use Rattle.std.specs.Prelude.{◌≡◌, ◌≢◌, ℕ, suc, ◌+◌, ◌<◌, ◌≤◌, Bool, Option, Some, None, List, [], ◌∷◌, ◌++◌, length, slice_set}
 use Rattle.step_core.specs.Terms.{Best, ChildOf, Count, Counter, FirstOf, FitsWord, Hand, Member, Point, PointOf, Record, RecordOf, SharedRun, Stage, TreeOf}
 use Rattle.step_core.specs.Terms.{View, Word, Words, WritesWord, get_elem?, point_word, record_word, some, tree_word}
@@ -14,7 +14,6 @@ use Rattle.step_core.specs.Worlds.{IsWorld}
 use Rattle.step_core.specs.declared.views.Stage.TheVariants as stages
 
 -- ---- moments and steps
-
 -- A moment between two steps: the run, its words, the views of its passes, and the view at an index, which steps next.
 pub record Moment : Type 0 where
   pub run : SharedRun
@@ -54,7 +53,6 @@ pub data Step : Type 0 where
   Join : (other : ℕ) (taken : View) → Step
 
 -- ---- what a step asks of the view that makes it
-
 -- a share, nothing in hand, and a mark of the strip below a limit, which is at most the number of marks
 pub record MayClaim (now : Moment) (strip limit : ℕ) : Type 0 where
   pub part : 0 < share now.view
@@ -120,7 +118,6 @@ MayStep now Step.Look = Unit {0}
 MayStep now (Step.Join other taken) = MayJoin now other taken
 
 -- ---- the word that it writes
-
 -- the word with what is left there; a step that only loads writes none
 abbrev pub written : Moment → Step → Option (Word × ℕ)
 written now (Step.Claim strip limit) = Some (Counter strip, now.words (Counter strip) + 1)
@@ -140,7 +137,6 @@ Leaves words None after = after ≡ words
 Leaves words (Some left) after = WritesWord left.0 left.1 words after
 
 -- ---- the views afterwards
-
 -- the view that stepped
 abbrev pub view_after : Moment → Step → View
 view_after now (Step.Claim strip limit) = claimed now.view strip (now.words (Counter strip)) limit (steps_by now)

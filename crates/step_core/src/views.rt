@@ -105,6 +105,6 @@ pub struct View {
     pub looked: LinkedList<u64>,
     /// For each word the number of its last step that found it 0.
     pub found_zero: LinkedList<u64>,
-    /// The changes of such words that it has made, or that a pass had which it took over, the last first.
+    /// What it has left in words that others load, the last first, and then what a pass had noted that it took over.
     pub notes: LinkedList<Note>,
 }

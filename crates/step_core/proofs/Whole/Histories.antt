@@ -8,7 +8,7 @@ use Rattle.step_core.proofs.Words.{not_empty, way_stops, IsOnWay-fills, child_of
 use Rattle.step_core.proofs.Words.{Best, ChildOf, TreeOf, cost_in, MayBecome-trans, IsLater, FillsNoPlace, HasNoted, IsNoted, IsNoteOf, linked_points}
 use Rattle.step_core.proofs.Words.{shared_tree_of_words, loaded, LeadsTo, sight_in, last_zero, run_sizes, sees, tree_seen, IsTold, IsWorld, Note, SharedRun}
 use Rattle.step_core.proofs.Words.{View, GoesTo, IsLoaded, NotesAsSeen, SeesSome, SomeNote, last_seen, best_loaded, hand_with_best, IsViewOf, last_look, suc}
-use Rattle.step_core.proofs.Words.{Some, is_some, WritesWord, AreBehind-refl, AreBehind-trans, HasCome, WasEmpty, WasFree, WasSo, steps, linked, steps_then}
+use Rattle.step_core.proofs.Words.{Some, is_some, WritesWord, AreBehind-refl, AreBehind-trans, HasCome, WasFree, WasSo, steps, linked, steps_then}
 use Rattle.step_core.proofs.Words.{Hand, Treed}
 use Rattle.step_core.proofs.OneView.LawfulSights.{IsTrueOf-seen}
 use Rattle.step_core.proofs.Parts.LinkedStates.{GrowsInto-behind, unlinked-childless}
@@ -288,15 +288,28 @@ module _ (run : SharedRun) (id : ℕ) (words : Words) (views : List View) (world
   behind_now last lasts (goes_on now after here next view then come at at_then holds go same knows) =
       AreBehind-trans words now after (behind_now now here come) go
 
-  -- what was empty by then was so by now
-  WasEmpty-on : (now after : Words) (n : ℕ) (side : Bool) → AreBehind now after → WasEmpty run words now n side → WasEmpty run words after n side
-  WasEmpty-on now after n side go was = record {
+  -- what was so by then was so by now
+  WasSo-on : (now after : Words) (name : Word) (word : ℕ) → AreBehind now after → WasSo run words now name word → WasSo run words after name word
+  WasSo-on now after name word go was = record {
     words = was.words;
     views = was.views;
     world = was.world;
     since = was.since;
     until = AreBehind-trans was.words now after was.until go;
-    empty = was.empty;
+    so = was.so;
+  }
+
+  -- and so was what is so
+  so_now :
+      (last : Words) (lasts : List View) (name : Word) (word : ℕ) → HasCome run id words views last lasts → last name ≡ word
+      → WasSo run words last name word
+  so_now last lasts name word come is = record {
+    words = last;
+    views = lasts;
+    world = world_now last lasts come;
+    since = behind_now last lasts come;
+    until = AreBehind-refl last;
+    so = is;
   }
 
   module _ (first : View) (at_first : get_elem? views id ≡ some first) (n : ℕ) (side : Bool) where
@@ -308,65 +321,34 @@ module _ (run : SharedRun) (id : ℕ) (words : Words) (views : List View) (world
           | inr live ↦ live.zero_looks (ChildOf n side)
         ]
 
-    pub WasEmpty-found :
+    pub WasSo-found_empty :
         (last : Words) (lasts : List View) → HasCome run id words views last lasts → (end : View) → get_elem? lasts id ≡ some end
-        → first.steps < last_zero end (ChildOf n side) → WasEmpty run words last n side
-    WasEmpty-found last lasts begins end at_end found =
+        → first.steps < last_zero end (ChildOf n side) → WasSo run words last (ChildOf n side) 0
+    WasSo-found_empty last lasts begins end at_end found =
         let same : end ≡ first = some-injective end first (sym at_end ∙ at_first) in
         absurd (omega (arith, found, ap (λ v. last_zero v (ChildOf n side)) same, found_before))
-    WasEmpty-found last lasts (steps now after here next view then come at own is holds go later fills knows) end at_end found =
+    WasSo-found_empty last lasts (steps now after here next view then come at own is holds go later fills knows) end at_end found =
         let same : end ≡ then = some-injective end then (sym at_end ∙ ap (λ l. get_elem? l id) is ∙ at-set here id view then at) in
         let looked = ap (λ v. last_zero v (ChildOf n side)) same in
         elim (later.zero_found (ChildOf n side) (λ e. cc)) [
-          | inl as_before ↦ WasEmpty-on now after n side go (WasEmpty-found now here come view at (omega (arith, found, looked, as_before)))
-          | inr anew ↦ record {
-            words = after;
-            views = next;
-            world = holds;
-            since = AreBehind-trans words now after (behind_now now here come) go;
-            until = AreBehind-refl after;
-            empty = empty-after run now after here id view then (world_now now here come) at (subst (IsWorld run after) is holds) own fills n side anew.0;
-          }
+          | inl as_before ↦
+              WasSo-on now after (ChildOf n side) 0 go (WasSo-found_empty now here come view at (omega (arith, found, looked, as_before)))
+          | inr anew ↦
+              so_now after next (ChildOf n side) 0 (steps now after here next view then come at own is holds go later fills knows)
+              (empty-after run now after here id view then (world_now now here come) at (subst (IsWorld run after) is holds) own fills n side anew.0)
         ]
-    WasEmpty-found last lasts (goes_on now after here next view then come at at_then holds go same knows) end at_end found =
+    WasSo-found_empty last lasts (goes_on now after here next view then come at at_then holds go same knows) end at_end found =
         elim (cases_eq (now (ChildOf n side)) 0) [
-          | inl none ↦ record {
-            words = now;
-            views = here;
-            world = world_now now here come;
-            since = behind_now now here come;
-            until = go;
-            empty = none;
-          }
+          | inl none ↦ WasSo-on now after (ChildOf n side) 0 go (so_now now here (ChildOf n side) 0 come none)
           | inr some_child ↦ (
               let is : end ≡ then = some-injective end then (sym at_end ∙ at_then) in
-              WasEmpty-on now after n side go (WasEmpty-found now here come view at
+              WasSo-on now after (ChildOf n side) 0 go (WasSo-found_empty now here come view at
               (omega (arith, found, ap (λ v. last_zero v (ChildOf n side)) is, same n side some_child))))
         ]
 
 -- So what a view sees last of a word at which it has looked since was so at some moment since.
 module _ (run : SharedRun) (id : ℕ) (words : Words) (views : List View) (world : IsWorld run words views) (first : View)
     (at_first : get_elem? views id ≡ some first) (name : Word) (may : IsLoaded run name) where
-  WasSo-on : (now after : Words) (word : ℕ) → AreBehind now after → WasSo run words now name word → WasSo run words after name word
-  WasSo-on now after word go was = record {
-    words = was.words;
-    views = was.views;
-    world = was.world;
-    since = was.since;
-    until = AreBehind-trans was.words now after was.until go;
-    so = was.so;
-  }
-
-  so_now : (last : Words) (lasts : List View) (word : ℕ) → HasCome run id words views last lasts → last name ≡ word → WasSo run words last name word
-  so_now last lasts word come is = record {
-    words = last;
-    views = lasts;
-    world = world_now run id words views world last lasts come;
-    since = behind_now run id words views world last lasts come;
-    until = AreBehind-refl last;
-    so = is;
-  }
-
   pub WasSo-looked :
       (last : Words) (lasts : List View) → HasCome run id words views last lasts → (end : View) → get_elem? lasts id ≡ some end
       → first.steps < last_look end name → SeesSome end name → WasSo run words last name (last_seen end name)
@@ -383,10 +365,11 @@ module _ (run : SharedRun) (id : ℕ) (words : Words) (views : List View) (world
       let some = subst (λ v. SeesSome v name) same some_seen in
       subst (λ v. WasSo run words after name (last_seen v name)) (sym same) (elim (knows name may) [
         | inl as_before ↦
-            subst (WasSo run words after name) (sym as_before.1) (WasSo-on now after (last_seen view name) go
+            subst (WasSo run words after name) (sym as_before.1) (WasSo-on run id words views world now after name (last_seen view name) go
             (WasSo-looked now here come view at (omega (arith, found, as_before.0)) (λ n e none. some n e (as_before.1 ∙ none))))
         | inr anew ↦
-            so_now after next (last_seen then name) (steps now after here next view then come at own is holds go later fills knows)
+            so_now run id words views world after next name (last_seen then name)
+            (steps now after here next view then come at own is holds go later fills knows)
             (sym (seen-as_it_is run now after here id view then (world_now run id words views world now here come) at own
             (subst (IsWorld run after) is holds) name may anew.0 anew.1 some))
       ])
@@ -394,9 +377,11 @@ module _ (run : SharedRun) (id : ℕ) (words : Words) (views : List View) (world
       let is : end ≡ then = some-injective end then (sym at_end ∙ at_then) in
       let seen : last_seen end name ≡ last_seen then name = ap (λ v. last_seen v name) is in
       subst (WasSo run words after name) (sym seen) (elim (knows name may) [
-        | inr so ↦ so_now after next (last_seen then name) (goes_on now after here next view then come at at_then holds go same knows) (sym so)
+        | inr so ↦
+            so_now run id words views world after next name (last_seen then name)
+            (goes_on now after here next view then come at at_then holds go same knows) (sym so)
         | inl as_before ↦
-            subst (WasSo run words after name) (sym as_before.1) (WasSo-on now after (last_seen view name) go
+            subst (WasSo run words after name) (sym as_before.1) (WasSo-on run id words views world now after name (last_seen view name) go
             (WasSo-looked now here come view at (omega (arith, looked, ap (λ v. last_look v name) is, as_before.0))
             (λ n e none. some_seen n e (seen ∙ as_before.1 ∙ none))))
       ])
@@ -408,7 +393,7 @@ pub WasFree-swept :
     → EndsSince (sight_in end) first.steps q → WasFree run words last q
 WasFree-swept run id words last views lasts first end world at come at_end own q ends =
     let (n, side, leads, found) = LeadsTo-ends end first.steps q ends in
-    let was = WasEmpty-found run id words views world first at n side last lasts come end at_end found in
+    let was = WasSo-found_empty run id words views world first at n side last lasts come end at_end found in
     record {
       words = was.words;
       views = was.views;
@@ -417,7 +402,7 @@ WasFree-swept run id words last views lasts first end world at come at_end own q
       until = was.until;
       free =
           IsFree-since run was.words last was.views lasts id end was.world (world_now run id words views world last lasts come) was.until at_end own q n
-          side leads was.empty;
+          side leads was.so;
     }
 
 -- ---- kinds of steps
