@@ -1,5 +1,4 @@
--- What a poll of a batch does. The items of a batch are those of its sessions. What the future that gathers a session's items gives. What the future
--- that gathers a batch's items gives, and what comes of each of its sessions.
+-- What a poll of a batch does.
 use Rattle.std.specs.Prelude.{◌≡◌, ◌<◌, ◌+◌, ◌-◌, ◌⊎◌, ℕ, Bool, true, false, List, Option, Some, None, Result, Ok, Err, length, slice_index_or, if◌then◌else◌}
 use Rattle.std.specs.Prelude.{◌||◌, [], ◌∷◌, IfSome, nat_eq, ◌++◌, get_or}
 use Rattle.any_time.specs.Terms.{Better, FoldsTo, Grown, Memory, Pending, Poll, Ready, Task, nat_lt}
@@ -18,7 +17,6 @@ abbrev pub at : List SessionState → ℕ → SessionState → SessionState
 at = slice_index_or
 
 -- ---- the order of a poll
-
 -- the number after this one, and after the greatest 0
 abbrev pub turn_after : ℕ → Option ℕ → ℕ
 turn_after count None = 0
@@ -33,7 +31,6 @@ abbrev pub place_of : ℕ → ℕ → ℕ → ℕ
 place_of count from number = if nat_lt number from then count + number - from else number - from
 
 -- ---- what becomes of the sessions
-
 -- the session was polled once and gave no item: it answered Pending, or was at its end and is as it was
 abbrev pub Rests : SessionState → SessionState → Type 0
 Rests s t = Polls s Pending t ⊎ Polls s (Ready None) t
@@ -59,7 +56,6 @@ abbrev pub AllOver : List SessionState → Type 0
 AllOver sessions = (i : ℕ) (d : SessionState) → i < length sessions → IsOver (at sessions i d)
 
 -- ---- the answers
-
 -- after an item `Memory`, or with every session at its end
 abbrev pub IsBatchOver : BatchState → Type 0
 IsBatchOver b = (b.failed ≡ true) ⊎ AllOver b.sessions
@@ -73,6 +69,7 @@ BatchPolls b (Ready (Some (Ok item))) c = (b.failed ≡ false) × (c.failed ≡ 
 BatchPolls b (Ready (Some (Err e))) c = (b.failed ≡ false) × (c.failed ≡ true) × (c.last ≡ b.last)
     × ((number : ℕ) × Gave (first_turn b) b.sessions c.sessions number (Ready (Some (Err e))))
 
+-- ---- The items of a batch are those of its sessions.
 -- the answers of polls of a batch
 abbrev pub BatchAnswers : Type 0
 BatchAnswers = List (Poll (Option (Result (ℕ × Better) Memory)))
@@ -115,10 +112,12 @@ FailsByMemory = (b c : BatchState) (answers : BatchAnswers) → FoldsTo BatchPol
 abbrev pub EndsWithSessions : Type 0
 EndsWithSessions = (b c : BatchState) → BatchPolls b (Ready None) c → b.failed ≡ false → AllOver c.sessions
 
+-- ---- What the future that gathers a session's items gives.
 -- polls took s to its end t, and the paths among their answers came after xs
 abbrev pub Gathers : SessionState → List Better → SessionState → List Better → Type 0
 Gathers s xs t ys = (answers : Answers) × FoldsTo Polls s answers t × IsOver t × (ys ≡ xs ++ betters_among answers)
 
+-- ---- What the future that gathers a batch's items gives, and what comes of each of its sessions.
 -- polls took b to its end c, and the paths of each number among their answers came after those of the list of that number
 pub record GathersBatch (b : BatchState) (xs : List (List Better)) (c : BatchState) (ys : List (List Better)) : Type 0 where
   pub answers : BatchAnswers

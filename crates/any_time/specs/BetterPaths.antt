@@ -1,5 +1,4 @@
--- The better paths of a run, by the run that it has come to. The report of a run that was polled for better paths: a line for each, and then the
--- short report. That of several runs.
+-- The better paths of a run, by the run that it has come to.
 use Rattle.std.specs.Prelude.{◌≡◌, ℕ, List, Some, suc, [], ◌∷◌, ◌++◌, flat_map, codes, decimal}
 use Rattle.any_time.specs.Terms.{Better, Grown, Scene, TreeState, line, short_report, state_of_grown}
 use Rattle.any_time.specs.Items.{HasGiven, MissesNoFall, AreTextbookItems}
@@ -10,6 +9,7 @@ pub record AreBetterPaths (workers slice : ℕ) (run : Grown) (items : List Bett
   pub all : MissesNoFall run.task workers slice items run
   pub textbook : workers ≡ 1 → AreTextbookItems run.task slice items
 
+-- ---- The report of a run that was polled for better paths: a line for each, and then the short report. That of several runs.
 -- what a better path costs, and after how many marks it came
 abbrev pub better_line : Better → List ℕ
 better_line better = line (codes "better" ∷ decimal better.cost ∷ codes "marks" ∷ decimal better.marks ∷ [])

@@ -1,4 +1,4 @@
--- What the items of a session are, however often it is polled. The items of a session by one worker: the best paths of the textbook's runs.
+-- What the items of a session are, however often it is polled.
 use Rattle.std.specs.Prelude.{◌≡◌, ◌<◌, ◌≤◌, ◌*◌, ◌⊎◌, ℕ, List, [], ◌∷◌, All, Option, Some, None, Result, Ok, IfSome, filter, length, nat_le, option_map}
 use Rattle.std.specs.Prelude.{Contains, IsSome, take}
 use Rattle.any_time.specs.Terms.{Better, FoldsTo, Grown, GrowsInto, IsClosed, IsGoalNode, IsOfTextbook, IsOfTextbookRun, IsSettled, Last, Memory, Poll, Ready}
@@ -111,6 +111,7 @@ ItemsFall = (task : Task) (workers slice : ℕ) (s t : SessionState) (answers : 
     → IsFresh task workers slice s → FoldsTo Polls s answers t → HasGiven task workers slice (betters_among answers) t.run
     × (IsOver t → IfSome t.run (λ run. EndsWith task workers run × MissesNoFall task workers slice (betters_among answers) run))
 
+-- ---- The items of a session by one worker: the best paths of the textbook's runs.
 -- The item is the best path of the textbook's run over the first marks of the task, as many as it says.
 pub record IsTextbookPath (task : Task) (item : Better) : Type 0 where
   pub state : TreeState

@@ -1,9 +1,10 @@
--- Paths over the nodes of a run. The best path of a run. What a poll of a session does.
+-- What a poll of a session does.
 use Rattle.std.specs.Prelude.{◌≡◌, ◌<◌, ◌≤◌, ◌-◌, ℕ, suc, IsTrue, List, length, Bool, Option, Some, option_map, is_some, ◌+◌, min, None, Result, Ok, Err}
 use Rattle.std.specs.Prelude.{IsSomeAnd, MatchOption}
 use Rattle.any_time.specs.Terms.{Better, Grown, GrowsInto, IsAllowedEdge, IsOfTextbook, IsSettled, Last, Memory, Pending, Point, Poll, Ready, Record}
 use Rattle.any_time.specs.Terms.{StandsAt, Task, best_node, goals_of, length_of_path, lies_in_goals, path_point, path_to, setup_of, state_of_grown, sum_in}
 
+-- ---- Paths over the nodes of a run.
 -- The path goes from the first point to the last by edges of a kind, over points of a kind.
 pub record Leads (Edge : Point → Point → Type 0) (Node : Point → Type 0) (first last : Point) (path : List Point) : Type 0 where
   pub some : 0 < length path
@@ -24,6 +25,7 @@ pub record LeadsIntoGoal (run : Grown) (item : Better) : Type 0 where
   pub leads : Leads (IsAllowedEdge (setup_of run.task.scene)) (IsOfFirstNodes run item.marks) run.task.scene.start last item.path
   pub cost : item.cost ≡ length_of_path item.path
 
+-- ---- The best path of a run.
 -- the best node of a run, if a node lies in a goal
 abbrev pub best_of : Grown → Option ℕ
 best_of run = best_node (goals_of run.task.scene) run.limit (state_of_grown run)
@@ -44,6 +46,7 @@ pub record Shows (run : Grown) (item : Better) : Type 0 where
   pub cost : item.cost ≡ sum_in (state_of_grown run) node
   pub marks : item.marks ≡ run.limit
 
+-- ---- sessions
 -- A session by its run, which is gone after an item `Memory`, the workers that grow it, the marks that a poll handles, and what it keeps of its last item.
 pub record SessionState : Type 0 where
   pub run : Option Grown

@@ -1,9 +1,9 @@
--- Corners whose coordinates are so small that 64 bits hold their orientations. The bounding boxes of polygons and segments, and boxes that meet.
--- Bodies widened by a clearance: what a body meets with the clearance, the wider one meets without.
-use Rattle.convex_sets.specs.Terms.{BoundingBox, IsTrue, LEAST_CORNER_COORDINATE, List, MOST_CORNER_COORDINATE, Meets, Point, Rational, Vertex, corner_at}
+-- The bounding boxes of polygons and segments, and boxes that meet.
+use Rattle.convex_sets.specs.Terms.{BoundingBox, IsTrue, LEAST_CORNER_COORDINATE, MOST_CORNER_COORDINATE, Meets, Point, Rational, Vertex, corner_at}
 use Rattle.convex_sets.specs.Terms.{is_corner_between, is_strictly_convex, le_refl, list_all}
 use Rattle.std.specs.Prelude.{◌≡◌, ℕ, ◌<◌, pos, ◌≤ℤ◌, int_le, min, max, Bool, true, ◌&&◌, List, length, ◌↔◌, ℤ, neg_ℤ, [], ◌∷◌}
 
+-- ---- Corners whose coordinates are so small that 64 bits hold their orientations.
 -- both coordinates are between the least and the greatest of a corner
 abbrev pub IsBoundedCorner : Vertex → Type 0
 IsBoundedCorner v = IsTrue (is_corner_between LEAST_CORNER_COORDINATE MOST_CORNER_COORDINATE v)
@@ -12,6 +12,7 @@ IsBoundedCorner v = IsTrue (is_corner_between LEAST_CORNER_COORDINATE MOST_CORNE
 abbrev pub AreBoundedCorners : List Vertex → Type 0
 AreBoundedCorners corners = IsTrue (list_all (is_corner_between LEAST_CORNER_COORDINATE MOST_CORNER_COORDINATE) corners)
 
+-- ---- boxes
 -- no corner is further left or lower, and its coordinates are those of corners: the box's lower left corner
 pub record IsLowEnd (corners : List Vertex) (low : Vertex) : Type 0 where
   pub left : (i : ℕ) → i < length corners → low.x ≤ℤ (corner_at corners i).x
@@ -63,6 +64,7 @@ corner_of p = record { x = pos p.x; y = pos p.y }
 abbrev pub at_corner : Vertex → Rational
 at_corner v = record { x = v.x; y = v.y; over = 1; positive = le_refl 1 }
 
+-- ---- Bodies widened by a clearance: what a body meets with the clearance, the wider one meets without.
 -- the corner with these coordinates
 abbrev pub corner : ℤ → ℤ → Vertex
 corner x y = record { x = x; y = y }

@@ -1,9 +1,9 @@
--- Edges of polygons as vectors, and the side to which one turns from another. Closed outlines, and their merging into the outline of the Minkowski
--- sum.
+-- Closed outlines, and their merging into the outline of the Minkowski sum.
 use Rattle.std.specs.Prelude.{ℕ, Bool, ◌==◌, ◌||◌, ℤ, pos, ◌-ℤ◌, ◌*ℤ◌, ◌≤ℤ◌, int_lt, List, ◌≡◌, ◌≢◌, suc, ◌+◌, ◌-◌, nat_lt, if◌then◌else◌, ◌<◌, ◌⊎◌, negsuc}
 use Rattle.std.specs.Prelude.{neg_ℤ, ◌+ℤ◌, ◌<ℤ◌, length, true}
 use Rattle.convex_sets.specs.Terms.{LEAST_CORNER_COORDINATE, MOST_CORNER_COORDINATE, Vertex, corner_at, is_strictly_convex, next_corner, orientation}
 
+-- ---- Edges of polygons as vectors, and the side to which one turns from another.
 -- the vector from one corner to another
 abbrev pub from_to : Vertex → Vertex → Vertex
 from_to a b = record { x = b.x -ℤ a.x; y = b.y -ℤ a.y }
@@ -24,6 +24,7 @@ abbrev pub is_end_or_left : List Vertex → ℕ → ℕ → ℕ → Bool
 is_end_or_left corners from to k =
     k == from || (k == to || int_lt (pos 0) (orientation (corner_at corners from) (corner_at corners to) (corner_at corners k)))
 
+-- ---- outlines
 -- the sum of two corners
 abbrev pub both : Vertex → Vertex → Vertex
 both u v = record { x = u.x +ℤ v.x; y = u.y +ℤ v.y }

@@ -92,7 +92,6 @@ abbrev pub HasOneMore : ChildIndex → ChildIndex → Type 0
 HasOneMore before after = (nodes : ℕ) (chain : ℕ → ℕ) → IndexesChains nodes chain before → IndexesChains (nodes + 1) chain after
 
 -- ---- walks along a chain
-
 -- the numbers on a walk from n by the list of the next ones, as many as are allowed
 abbrev pub walk_from : ℕ → List ℕ → ℕ → List ℕ
 walk_from most next zero = []

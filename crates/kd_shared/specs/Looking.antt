@@ -1,11 +1,11 @@
--- What a load of a point or of a child shows, from the moment before it to the moment after. What calls that look at nodes leave of a pass. What
--- calls that look at nodes leave of a pass, one after another.
+-- What calls that look at nodes leave of a pass.
 use Rattle.std.specs.Prelude.{◌≡◌, ◌≢◌, ℕ, ◌<◌, Bool, Option, Some, None, length}
 use Rattle.kd_shared.specs.Terms.{BelongsTo, ChangesOnly, FillsPlaces, GoesOn, GoesOn-trans, HasLooked, HasLooked-trans, HasWholeShare, IsLaterMoment}
 use Rattle.kd_shared.specs.Terms.{IsLaterMoment-later, IsOnWay, KeepsHand, KeepsSight, KeepsSight-lawful, MOST_NODES, NamesChildOrPoint, PassState, Point}
 use Rattle.kd_shared.specs.Terms.{SearchLists, SeesAsBefore, SharedState, Sight, StandsAt, View, ap, arith, depth_within, point_at, sees, sight_in, sym}
 use Rattle.kd_shared.specs.Terms.{tree_seen, with_view, ◌∙◌}
 
+-- ---- What a load of a point or of a child shows, from the moment before it to the moment after.
 -- no point was seen in between
 abbrev pub KeepsPoints : Sight → Sight → Type 0
 KeepsPoints before after = (n : ℕ) → point_at after.seen.points n ≡ point_at before.seen.points n
@@ -37,6 +37,7 @@ pub record LoadsChild (before after : Sight) (n : ℕ) (side : Bool) (child : Op
   pub finds : FindsChild before after n side child
   pub points : KeepsPoints before after
 
+-- ---- looking
 -- What was seen stays seen, and of all words none is seen anew but children and points.
 pub record GoesOnLooking (before after : View) : Type 0 where
   pub goes_on : GoesOn before after
@@ -67,6 +68,7 @@ pub record PassLooks (shared : SharedState) (before after : PassState) : Type 0 
   pub looks : OnlyLooks before.view after.view
   pub view_alone : after ≡ with_view before after.view
 
+-- ---- What calls that look at nodes leave of a pass, one after another.
 pub GoesOnLooking-trans : (before mid after : View) → GoesOnLooking before mid → GoesOnLooking mid after → GoesOnLooking before after
 GoesOnLooking-trans before mid after one other = record {
   goes_on = GoesOn-trans before mid after one.goes_on other.goes_on;

@@ -50,7 +50,6 @@ WasPlacedSince before after hand Placed = WasLinkedSince before after hand
 WasPlacedSince before after hand (Same j) = HasLooked before after
 
 -- ---- what a pass with the share of all workers sees
-
 -- the words of node n, and the word of the child of node m on this side
 abbrev pub IsWordOfLink : ℕ → Bool → ℕ → Word → Type 0
 IsWordOfLink m side n (PointOf i) = i ≡ n

@@ -1,6 +1,4 @@
--- Where a walk by words has come to. What a search over what is seen has found, from the moment at which it began to the moment at which it returns.
--- What the steps of a search do to the nodes that wait to be visited. What the steps of a walk to the nearest node do to the nodes on its stack,
--- whose far sides are left to walk.
+-- What a search over what is seen has found, from the moment at which it began to the moment at which it returns.
 use Rattle.std.specs.Prelude.{◌≡◌, ◌⊎◌, ℕ, ◌==◌, ◌*◌, ◌≤◌, true, eqb, List, Contains, ◌-◌, Bool, false, not, if◌then◌else◌, Some, [], ◌∷◌, ◌++◌, ◌<◌, Option}
 use Rattle.std.specs.Prelude.{None, MatchOption}
 use Rattle.kd_shared.specs.Terms.{Found, IsDistinct, IsLaterMoment, IsNearest, IsNotAbove, IsPresent, IsSwept, KeepsSight, Point, SeenTree, Sight, Spot}
@@ -8,6 +6,7 @@ use Rattle.kd_shared.specs.Terms.{StandsAt, Stop, StopsAt, WordStop, distance_to
 use Rattle.kd_shared.specs.Terms.{point_of_spot, split_distance, squared_distance}
 use Rattle.kd_shared.specs.Looking.{FindsEmpty, KeepsOtherPoints, KeepsPoints}
 
+-- ---- Where a walk by words has come to.
 -- one of the two coordinates stands so far from the right end of a word
 abbrev pub IsShift : ℕ → Type 0
 IsShift shift = (shift ≡ 0) ⊎ (shift ≡ 20)
@@ -21,6 +20,7 @@ pub record StopsAtWord (tree : SeenTree) (p : Point) (at : WordStop) : Type 0 wh
   pub stops : StopsAt tree p (stop_of at)
   pub shift : IsShift at.shift
 
+-- ---- searches
 -- The search has swept all points whose squared distance to p is at most this.
 abbrev pub SweepsWithin : Sight → Sight → Point → ℕ → Type 0
 SweepsWithin before after p bound = (q : Point) → squared_distance q p ≤ bound → IsSwept after before.steps q
@@ -45,6 +45,7 @@ pub record AreGathered (before after : Sight) (p : Point) (r : ℕ) (found : Lis
       × (f.distance ≤ r * r) × (f.edge ≡ 0)
   pub swept : SweepsWithin before after p (r * r)
 
+-- ---- What the steps of a search do to the nodes that wait to be visited.
 -- The node of a spot has a child on this side, which waits now, last.
 pub record Puts (after : Sight) (spots put : List Spot) (spot : Spot) (side : Bool) : Type 0 where
   pub child : Spot
@@ -91,6 +92,7 @@ abbrev pub IsChildWithin : Sight → Sight → Spot → Bool → Bool → Spot �
 IsChildWithin before after spot side within child =
     (queue put : List Spot) → put ≡ (if not (child.node == 0) then queue ++ child ∷ [] else queue) → QueuesWithin before after queue put spot side within
 
+-- ---- What the steps of a walk to the nearest node do to the nodes on its stack, whose far sides are left to walk.
 -- the side of a node on which the target is, and the other one
 abbrev pub near_side : Spot → Point → Bool
 near_side spot target = goes_right_by spot.by_rows (point_of_spot spot) target
@@ -103,7 +105,6 @@ abbrev pub line_square : Spot → Point → ℕ
 line_square spot target = split_distance spot.by_rows (point_of_spot spot) target * split_distance spot.by_rows (point_of_spot spot) target
 
 -- ---- a child
-
 -- It is that of the node on this side, and its point was loaded.
 pub record IsChildSpot (before after : Sight) (spot : Spot) (side : Bool) (child : Spot) : Type 0 where
   pub link : after.seen.child spot.node side ≡ Some child.node
@@ -118,7 +119,6 @@ pub record LoadsSpot (before after : Sight) (spot : Spot) (side : Bool) (child :
   pub finds : MatchOption child (FindsEmpty before after spot.node side × KeepsPoints before after) (IsChildSpot before after spot side)
 
 -- ---- the stack
-
 -- The far side of a node is empty, or too far.
 abbrev pub IsFinished : Sight → Sight → Point → ℕ → Spot → Type 0
 IsFinished before after target bound spot = FindsEmpty before after spot.node (far_side spot target) ⊎ (bound < line_square spot target)

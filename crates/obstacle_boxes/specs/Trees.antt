@@ -1,10 +1,10 @@
--- Zones with their bounding boxes, and boxes round several of them. A bounding volume hierarchy as one list of nodes. Read from its end it is in the
--- order of a descent. Zones whose bounding boxes meet that of a segment. What a descent has found, when the nodes between two numbers are left.
+-- A bounding volume hierarchy as one list of nodes. Read from its end it is in the order of a descent.
 use Rattle.std.specs.Prelude.{◌≡◌, ℕ, ◌<◌, ◌≤ℤ◌, true, List, [], length, slice_index_or, All, count_by, ◌≤◌, Option, Some, None, ◌++◌, take, drop, filter_map}
 use Rattle.std.specs.Prelude.{IsPermutation, ◌+◌, false}
 use Rattle.obstacle_boxes.specs.Terms.{AreZonesOf, BoundingBox, ConfigurationSpace, Crosses, Halves, IsBoundingBox, Leaf, Node, Point, Vertex, Zone}
 use Rattle.obstacle_boxes.specs.Terms.{boxes_meet, segment_box}
 
+-- ---- Zones with their bounding boxes, and boxes round several of them.
 -- a box holds another one
 pub record Holds (outer inner : BoundingBox) : Type 0 where
   pub left : outer.low.x ≤ℤ inner.low.x
@@ -35,6 +35,7 @@ IsMissed zones a b leaf = ¬ Crosses (slice_index_or zones leaf.zone []) a b
 abbrev pub leaves_met : BoundingBox → List Leaf → ℕ
 leaves_met bounds leaves = count_by (λ leaf. boxes_meet bounds leaf.bounds) leaves
 
+-- ---- trees
 -- the leaf that a node is, if one zone is below it
 abbrev pub leaf_of : Node → Option Leaf
 leaf_of (Halves first middle lower upper) = None
@@ -72,6 +73,7 @@ pub record IsTreeOver (space : ConfigurationSpace) (nodes : List Node) : Type 0 
   pub permutation : IsPermutation leaves (leaves_in nodes)
   pub tree : IsTree nodes
 
+-- ---- Zones whose bounding boxes meet that of a segment.
 -- the least boxes round the zones of the obstacles, in the obstacles' order
 pub record AreZoneBoxes (space : ConfigurationSpace) (boxes : List BoundingBox) : Type 0 where
   pub zones : List (List Vertex)
@@ -83,6 +85,7 @@ pub record AreZoneBoxes (space : ConfigurationSpace) (boxes : List BoundingBox) 
 abbrev pub near_count : List BoundingBox → Point → Point → ℕ
 near_count boxes a b = count_by (boxes_meet (segment_box a b)) boxes
 
+-- ---- What a descent has found, when the nodes between two numbers are left.
 -- the segment crosses one of the zones
 pub record CrossesSome (zones : List (List Vertex)) (a b : Point) : Type 0 where
   pub number : ℕ

@@ -1,5 +1,4 @@
--- Smoothed paths: of all choices of a path's points that keep its ends and leave each segment clear, the least one. The short report of a run with
--- its best path smoothed. The least ways on from a position of a path to its end, as a table keeps them.
+-- Smoothed paths: of all choices of a path's points that keep its ends and leave each segment clear, the least one.
 use Rattle.std.specs.Prelude.{◌≡◌, ℕ, ◌≤◌, List, [], ◌∷◌, length, Option, Some, None, ◌++◌, suc, ◌*◌, ◌-◌, ◌<◌, slice_index_or}
 use Rattle.path_tools.specs.Terms.{Clear, ConfigurationSpace, IsChoice, IsClearPath, Point, Rest, Scene, TreeState, best_node, cost_of_choice, counts_line}
 use Rattle.path_tools.specs.Terms.{goals_of, kept_points, length_of_path, path_line, path_point, path_to, point_lines, short_report, space_of}
@@ -32,6 +31,7 @@ pub record IsSmoothed (space : ConfigurationSpace) (path smoothed : List Point) 
   pub least : IsLeastChoice space path choice
   pub kept : smoothed ≡ kept_points path choice
 
+-- ---- The short report of a run with its best path smoothed.
 -- the text is the short report along the smoothed path to a node
 pub record ReportsSmoothed (scene : Scene) (limit : ℕ) (state : TreeState) (n : ℕ) (text : List ℕ) : Type 0 where
   pub smoothed : List Point
@@ -47,6 +47,7 @@ ReportsSmoothedBest scene limit state (Some n) text = ReportsSmoothed scene limi
 abbrev pub IsSmoothedReport : Scene → ℕ → TreeState → List ℕ → Type 0
 IsSmoothedReport scene limit state text = ReportsSmoothedBest scene limit state (best_node (goals_of scene) limit state) text
 
+-- ---- The least ways on from a position of a path to its end, as a table keeps them.
 -- a point more fits, at whatever cost of an edge
 pub record HasRoom (rest : Rest) : Type 0 where
   pub cost : rest.cost < 2305843009213693952

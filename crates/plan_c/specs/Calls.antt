@@ -1,9 +1,10 @@
--- What is written into the room of a caller. What a call answers to the bytes that it is given: what the program answers by one worker.
+-- What a call answers to the bytes that it is given: what the program answers by one worker.
 use Rattle.std.specs.Prelude.{◌≡◌, ℕ, ◌<◌, ◌≤◌, ◌++◌, List, length, ◌⊎◌, IfErr, IfOk, Result}
 use Rattle.plan_c.specs.Terms.{Answer, Broken, ClearAt, Command, IsVerdict, Lawful, MOST_REPORT_BYTES, MOST_TEXT_BYTES, NO_ROOM, Refusal, RefusesSceneText}
 use Rattle.plan_c.specs.Terms.{Spells, Succeeds, Task, Verdict, drop, number_of_kind, space_of, status_of, status_of_verdict, supported}
 use Rattle.planner.specs.declared.refusals.Refusal.TheVariants as refusals
 
+-- ---- What is written into the room of a caller.
 -- The bytes of a text are counted. If there is room for them, they stand at its front, the rest of it is as it was, and the status is the
 -- one that is given; otherwise all of it is as it was.
 pub record HandsOut (text : List ℕ) (given : ℕ) (before after : List ℕ) (count status : ℕ) : Type 0 where
@@ -11,8 +12,8 @@ pub record HandsOut (text : List ℕ) (given : ℕ) (before after : List ℕ) (c
   pub written : length text ≤ length before → (status ≡ given) × (after ≡ text ++ drop (length text) before)
   pub no_room : length before < length text → (status ≡ NO_ROOM) × (after ≡ before)
 
+-- ---- calls
 -- ---- causes
-
 -- why the text of a scene is refused: it has too many bytes, or else as the program refuses it
 abbrev pub RefusesText : List ℕ → Refusal → Type 0
 RefusesText text refusal =
@@ -24,7 +25,6 @@ RefusesReport text report refusal =
     ((MOST_REPORT_BYTES < length report) × (refusal ≡ refusals.TooLong)) ⊎ ((length report ≤ MOST_REPORT_BYTES) × RefusesText text refusal)
 
 -- ---- answers
-
 -- a success is one of the command, and a refusal has its cause
 pub record AnswersText (command : Command) (text : List ℕ) (answer : Result Answer Refusal) : Type 0 where
   pub success : IfOk answer (λ answer. Succeeds command text answer.done answer.text.items)
@@ -43,7 +43,6 @@ pub record JudgesReport (text report : List ℕ) (answer : Result Verdict Refusa
   pub refusal : IfErr answer (RefusesReport text report)
 
 -- ---- what is handed out
-
 -- the line and the kind of the fault of a text, with 0 for none
 abbrev pub fault_line : Refusal → ℕ
 fault_line (refusals.Text number kind) = number
@@ -77,7 +76,6 @@ pub record TellsVerdict (answer : Result Verdict Refusal) (line kind law status 
   pub refusal : IfErr answer (λ refusal. TellsRefusal refusal line kind status × (law ≡ 0))
 
 -- ---- calls
-
 -- a call that plans: its answer to the text, as it is handed out
 pub record HasAnswered (command : Command) (text before after : List ℕ) (count line kind status : ℕ) : Type 0 where
   pub answer : Result Answer Refusal

@@ -1,5 +1,5 @@
--- A node that is linked into a kd-tree of two nodes, and changes that are not that link or not that node alone. What has been seen at least, later
--- moments and sights that are kept, and what differs from these in one thing; parents that two have seen, and seen parents that are not lawful.
+-- What has been seen at least, later moments and sights that are kept, and what differs from these in one thing; parents that two have seen, and seen
+-- parents that are not lawful.
 use Rattle.std.specs.Prelude.{ℕ, zero, Bool, true, false, Option, Some, None, List, [], ◌∷◌, suc, slice_get, slice_index_or}
 use Rattle.plan_model_tests.specs.Terms.{AddsPoint, AgreeOnParents, AreSeenLawfully, FollowSeenWays, HasSeenAtLeast, IsLaterMoment, IsRooted, KeepsSight}
 use Rattle.plan_model_tests.specs.Terms.{LinksAt, Point, Record, SeenTree, Sight, TreeGrows, at, at_entry, at_return, found_at_entry, found_at_return}
@@ -7,6 +7,7 @@ use Rattle.plan_model_tests.specs.Terms.{four_children, placed_by, three_childre
 use Rattle.plan_model_tests.specs.GrownTrees.{before}
 use Rattle.plan_model_tests.specs.UnlawfulRecords.{room_to}
 
+-- ---- A node that is linked into a kd-tree of two nodes, and changes that are not that link or not that node alone.
 -- the tree of three nodes before node 2 came
 abbrev pub two_points : List (Option Point)
 two_points = Some (at 5 5) ∷ Some (at 5 3) ∷ []
@@ -30,6 +31,7 @@ pub record LinkVectors : Type 0 where
   pub other_node_gone : ¬ AddsPoint two_points (Some (at 5 5) ∷ None ∷ Some (at 9 2) ∷ []) 2 (at 9 2)
   pub other_node_too : ¬ AddsPoint two_points (Some (at 5 5) ∷ Some (at 5 3) ∷ Some (at 9 2) ∷ Some (at 1 1) ∷ []) 2 (at 9 2)
 
+-- ---- lesser sights
 -- children, points, parents with costs and records that were seen, one number of all counters, and the count
 abbrev pub seen_by : (ℕ → Bool → Option ℕ) → List (Option Point) → (ℕ → Option (ℕ × ℕ)) → List Record → ℕ → ℕ → SeenTree
 seen_by child points pairs records counter count =

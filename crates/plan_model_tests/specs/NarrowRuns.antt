@@ -1,6 +1,5 @@
 -- Textbook runs of four marks whose radius is below the step: one in which it falls, and one in which the first near node that is rewired decides
--- that the next one stays. States that differ in one number, of the closed run of two workers or of a run of one mark, and break one clause of the
--- closed law.
+-- that the next one stays.
 use Rattle.std.specs.Prelude.{◌≡◌, List, [], ◌∷◌, map, Some, slice_get, slice_index_or}
 use Rattle.plan_model_tests.specs.Terms.{IsClosed, IsTextbookRun, Nodes, Point, Record, Setup, TreeState, at, early_record, empty_room, marks_to_rewire, node}
 use Rattle.plan_model_tests.specs.Terms.{open_setup, overlapped, placed_by, placed_record, radius_of, same_record, sum_of}
@@ -45,6 +44,7 @@ pub record RewiredInTurnVectors : Type 0 where
   pub cost_of_moved : sum_of tree_in_line 2 ≡ 12036
   pub cost_of_kept : sum_of tree_in_line 3 ≡ 14596
 
+-- ---- States that differ in one number, of the closed run of two workers or of a run of one mark, and break one clause of the closed law.
 -- the tree of the closed run, with these records
 abbrev pub overlapped_with : List Record → TreeState
 overlapped_with records = record {

@@ -1,6 +1,4 @@
--- Points, roots, costs and steps at the limit of a definition, and just beyond it. Which formats cover the canonical text of a scene, and which do
--- not. The words that name a fault, for each kind. Nodes with and without a clear edge to a point, paths whose edges are clear and paths with one
--- that is not; and scenes with the same run.
+-- Nodes with and without a clear edge to a point, paths whose edges are clear and paths with one that is not; and scenes with the same run.
 use Rattle.plan_model_tests.specs.Terms.{ConfigurationSpace, Covers, Drawn, Format, HaveSameInputs, IsBounded, IsClearPath, IsCost, IsInRoom, IsOfTextbookRun}
 use Rattle.plan_model_tests.specs.Terms.{IsOpenTo, IsRootCeiling, IsStep, Key, Listed, Point, Scene, at, empty_room, marks_to_rewire, open_setup}
 use Rattle.plan_model_tests.specs.Terms.{rewired_records, rewired_tree, state_of, whole_format}
@@ -9,6 +7,7 @@ use Rattle.plan_model.specs.Texts.Keys.{fault_words}
 use Rattle.plan_model.specs.declared.text_terms.Key.TheVariants as keys
 use Rattle.plan_model.specs.declared.text_terms.Kind.TheVariants as kinds
 
+-- ---- Points, roots, costs and steps at the limit of a definition, and just beyond it.
 pub record BoundaryVectors : Type 0 where
   pub bounded : IsBounded (at 1048575 1048575)
   pub too_far_right : ¬ IsBounded (at 1048576 0)
@@ -32,6 +31,7 @@ pub record BoundaryVectors : Type 0 where
   pub right_of_room : ¬ IsInRoom (at 10 20) (at 11 20)
   pub above_room : ¬ IsInRoom (at 10 20) (at 10 21)
 
+-- ---- Which formats cover the canonical text of a scene, and which do not.
 -- version 1 alone, with every key
 abbrev pub first_version : Format
 first_version = record { reads = λ version. version == 1; built = λ key. true }
@@ -50,6 +50,7 @@ pub record CoveringVectors : Type 0 where
   pub key_left_out : (scene : Scene) → scene.informed ≡ true → ¬ Covers uninformed scene
   pub version_left_out : (scene : Scene) → scene.version ≡ 2 → ¬ Covers first_version scene
 
+-- ---- The words that name a fault, for each kind.
 pub record FaultWordVectors : Type 0 where
   pub of_each_kind : map (fault_words 20)
       (kinds.Version ∷ kinds.Key ∷ kinds.Words ∷ kinds.Number ∷ kinds.Range ∷ kinds.Repeat ∷ kinds.Corners ∷ kinds.Many ∷ kinds.Missing ∷ kinds.Unbuilt ∷ [])
@@ -64,6 +65,7 @@ pub record FaultWordVectors : Type 0 where
       ∷ (codes "line" ∷ codes "20" ∷ codes "kind" ∷ codes "9" ∷ codes "Missing" ∷ [])
       ∷ (codes "line" ∷ codes "20" ∷ codes "kind" ∷ codes "10" ∷ codes "Unbuilt" ∷ []) ∷ []
 
+-- ---- open paths
 -- 100 wide and 50 high
 abbrev pub low_room : ConfigurationSpace
 low_room = empty_room (at 100 50)

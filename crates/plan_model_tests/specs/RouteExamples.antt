@@ -1,8 +1,4 @@
--- A textbook run in which a node moves below a later one, and then two marks end at older nodes: chains of its nodes that are in order, and chains
--- that are not and cost less than their last node. Links beside a thin triangle, in an empty room, and beside a wide triangle. Routes of the worked
--- run with a node that is rewired, points that are reached, and runs that do not reach their only mark. Routes of near links: the least radius of a
--- run, what routes cost, and marks that end at older nodes. Marks of a route that one worker handled in turn, and marks that two handled, or one out
--- of turn.
+-- Worked examples of routes that are followed, and of chains of nodes.
 use Rattle.std.specs.Prelude.{◌≡◌, None, List, [], ◌∷◌, ℕ, ◌≤◌, All, Option, Some, slice_get}
 use Rattle.plan_model_tests.specs.Terms.{AreHandledInTurn, ClearAt, ConfigurationSpace, EndApart, Goal, HasClearDisc, HasGoalNode, IsChain, IsChainInOrder}
 use Rattle.plan_model_tests.specs.Terms.{IsLinkInOrder, IsNearLink, IsOpenLink, IsReached, IsRoute, IsTextbookRun, KeepsBodyFar, Nodes, Point, Record, Setup}
@@ -12,6 +8,8 @@ use Rattle.plan_model_tests.specs.Terms.{points_of, rewired_records, rewired_tre
 use Rattle.plan_model_tests.specs.Terms.{state_of, sum_of}
 use Rattle.plan_model_tests.specs.NarrowRuns.{narrow_setup}
 
+-- ---- A textbook run in which a node moves below a later one, and then two marks end at older nodes: chains of its nodes that are in order, and
+-- chains that are not and cost less than their last node.
 -- a point body in the corner of an empty room; with this gamma the radius of each class of so few nodes is the step
 abbrev pub small_setup : Setup
 small_setup = record { space = empty_room (at 10 10); start = at 0 3; step = 5; gamma = 20; goals = [] }
@@ -70,8 +68,8 @@ pub record LinkVectors : Type 0 where
   -- the last two marks of the other run were not placed
   pub not_placed : ¬ IsLinkInOrder small_setup late 2 5
 
+-- ---- Links beside a thin triangle, in an empty room, and beside a wide triangle.
 -- ---- open links
-
 -- a triangle with no lattice point but its corners
 abbrev pub thin_triangle : List Vertex
 thin_triangle = corner 0 4 ∷ corner 11 5 ∷ corner 10 5 ∷ []
@@ -95,7 +93,6 @@ pub record OpenLinkVectors : Type 0 where
   pub cut_on_other_side : ¬ IsOpenLink thin_setup (at 5 6) (at 5 5)
 
 -- ---- discs
-
 -- a body beside a wide triangle, at such a clearance
 abbrev pub wide_setup : List Vertex → ℕ → Setup
 wide_setup body clearance = record {
@@ -120,8 +117,8 @@ pub record DiscVectors : Type 0 where
   pub with_wider_body : IsNeither (wide_setup small_square 0) (at 3 15) (at 6 15)
   pub one_too_long : IsNeither (wide_setup point_body 0) (at 0 5) (at 5 5)
 
+-- ---- Routes of the worked run with a node that is rewired, points that are reached, and runs that do not reach their only mark.
 -- ---- routes
-
 -- the numbers are those of a route of open links
 abbrev pub IsOpenRoute : List ℕ → Type 0
 IsOpenRoute numbers = IsRoute open_setup marks_to_rewire (IsOpenLink open_setup) numbers
@@ -138,7 +135,6 @@ pub record RouteVectors : Type 0 where
   pub second_link : ¬ IsRoute open_setup (at 0 50 ∷ at 51 50 ∷ []) (IsOpenLink open_setup) (0 ∷ 1 ∷ [])
 
 -- ---- points that are reached
-
 -- a tree in which mark 1 gave a node at the point of both marks, and mark 0 none
 abbrev pub late_points : List (Option Point)
 late_points = Some (at 0 0) ∷ None ∷ Some (at 0 50) ∷ []
@@ -150,7 +146,6 @@ pub record ReachedVectors : Type 0 where
   pub too_late : ¬ IsReached (at 0 50 ∷ at 0 50 ∷ []) late_points 0
 
 -- ---- runs that do not reach their only mark
-
 -- the start, and no node for the mark
 abbrev pub no_node : Point → Nodes
 no_node start = node start 0 ∷ None ∷ []
@@ -174,6 +169,7 @@ pub record UnfollowedVectors : Type 0 where
   pub not_needed : ¬ IsReached (at 0 50 ∷ []) (points_of (no_node (at 0 0))) 0
   pub goal_node : HasGoalNode goal_at_start (points_of (no_node (at 0 0)))
 
+-- ---- Routes of near links: the least radius of a run, what routes cost, and marks that end at older nodes.
 abbrev pub two_marks : List Point
 two_marks = at 0 40 ∷ at 40 40 ∷ []
 
@@ -207,6 +203,7 @@ pub record NearRouteVectors : Type 0 where
   pub first_two : ¬ EndApartIn six_records (1 ∷ 3 ∷ [])
   pub last_two : ¬ EndApartIn six_records (0 ∷ 2 ∷ 3 ∷ 4 ∷ [])
 
+-- ---- Marks of a route that one worker handled in turn, and marks that two handled, or one out of turn.
 -- worker 0 placed the nodes of marks 0 and 2, in this order, and worker 1 that of mark 1
 abbrev pub two_workers : TreeState
 two_workers = state_of [] (placed_by 0 0 0 0 12800 1 ∷ placed_by 1 0 0 0 12800 1 ∷ placed_by 0 1 1 1 25600 2 ∷ [])

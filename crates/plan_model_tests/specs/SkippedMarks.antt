@@ -15,7 +15,6 @@ pub record BoundVectors : Type 0 where
   pub to_the_second : bound_of (at 35 50) (box 90 40 99 60 ∷ box 20 40 30 60 ∷ []) (at 35 50) ≡ 1280
 
 -- ---- records
-
 -- the goal where node 2 of the worked runs stands
 abbrev pub goal_of_2 : List Goal
 goal_of_2 = box 40 79 40 79 ∷ []
@@ -54,7 +53,6 @@ pub record SkippedRecordVectors : Type 0 where
   pub first_of_another : IsFourth goal_of_2 (goal_reached 1 25344 25344) at_node_3
 
 -- ---- a run
-
 -- the marks of the rewired run, and the last of them once more
 abbrev pub marks_to_skip : List Point
 marks_to_skip = at 0 50 ∷ at 40 79 ∷ at 40 30 ∷ at 40 30 ∷ []

@@ -1,5 +1,5 @@
 -- A record that is lawful, and records that differ from a lawful one in one number, of the record or of its tree, and break one clause of the record
--- law. A start and two nodes below it that keep the order law, and trees that differ in one number and break one clause of it; the bound on costs.
+-- law.
 use Rattle.std.specs.Prelude.{ℕ, Option, Some, List, [], ◌∷◌, slice_get, slice_index_or, ◌≡◌, None, map}
 use Rattle.plan_model_tests.specs.Terms.{Blocked, IsLawfulRecord, KeepsOrder, Point, Record, Same, Setup, TreeState, at, empty_room, most_cost_of, placed_by}
 use Rattle.plan_model_tests.specs.Terms.{unplaced_record}
@@ -14,7 +14,6 @@ nodes_with points costs records =
     record { points = points; parent = λ n. 0; cost = λ n. slice_index_or costs n 0; written_cost = λ n. 0; record_of = slice_get records }
 
 -- ---- placed marks
-
 -- Worker 0 placed mark 0 as node 1, at 12800; node 1 stands here, and costs this much now. Worker 1 placed mark 1 as node 2, at this cost.
 -- Then worker 0 placed mark 2 as node 3, with this record; node 3 costs this much now. So the start and node 1 are earlier nodes.
 abbrev pub third_with : Point → ℕ → ℕ → ℕ → Record → TreeState
@@ -78,7 +77,6 @@ pub record UnlawfulRecordVectors : Type 0 where
   pub cost_rose : ¬ IsThird 100 50 (third_with (at 0 50) 12800 12594 12801) (entry_by 2 0 12800 2)
 
 -- ---- marks without a node
-
 -- worker 1 placed mark 0 at the origin, where worker 0 ends with mark 1; the start stands elsewhere
 abbrev pub ended : Record → TreeState
 ended entry = nodes_with (Some (at 5 5) ∷ Some (at 0 0) ∷ []) (0 ∷ 1811 ∷ []) (placed_by 1 0 0 0 1811 1 ∷ entry ∷ [])
@@ -109,6 +107,7 @@ pub record UnplacedRecordVectors : Type 0 where
   pub blocked_at_own_node :
       ¬ IsLawfulRecord (room_by 5 1 50) (start_at (at 7 7) (unplaced_record 0 0 0 Blocked)) 0 (at 20 20) (unplaced_record 0 0 0 Blocked)
 
+-- ---- A start and two nodes below it that keep the order law, and trees that differ in one number and break one clause of it; the bound on costs.
 -- a point body in an empty room that is 100 wide and so high, with this start, and steps of 50
 abbrev pub room_to : ℕ → Point → Setup
 room_to height start = record { space = empty_room (at 100 height); start = start; step = 50; gamma = 40; goals = [] }

@@ -1,4 +1,4 @@
--- Which mark a claim takes, by the counters that the pass has seen. The passes of all workers, made one by one from the pass that stands for them all.
+-- Which mark a claim takes, by the counters that the pass has seen.
 use Rattle.std.specs.Prelude.{◌≡◌, ◌≢◌, ℕ, ◌+◌, ◌%◌, ◌<◌, ◌≤◌, ◌⊎◌, ◌==◌, max, Bool, true, false, Some, ◌-◌, List, [], ◌∷◌, None}
 use Rattle.plan_words.specs.Terms.{ChangesOnly, Counter, IsCounter, SharedRun, View, Word, WritesWord, counters, crew_from, get_elem?, is_claimed, last_look}
 use Rattle.plan_words.specs.Terms.{mark_of, member_of, new_hand, quota_of, sees, some, strip_of_mark}
@@ -59,7 +59,6 @@ pub record IsClaimed (before after : View) (limit k : ℕ) : Type 0 where
   pub rose : sees before (Counter (strip_of_mark after.run.strips k)) < sees after (Counter (strip_of_mark after.run.strips k))
 
 -- ---- a claim of a pass with the share of all workers
-
 -- Each strip is one of the worker's own: so it is for an only worker, and for worker 0 if there is one strip.
 abbrev pub OwnsAllStrips : SharedRun → ℕ → Type 0
 OwnsAllStrips run worker = (g : ℕ) → g < run.strips → is_own run worker g ≡ true
@@ -79,7 +78,6 @@ pub record IsLeastOpen (view : View) (k : ℕ) : Type 0 where
   pub here : is_claimed view.run.strips (counters (sees view)) k ≡ false
 
 -- ---- how a claim finds it
-
 -- Counters were loaded, and nothing else was done.
 pub record LoadsCounters (shared : SharedState) (before after : PassState) : Type 0 where
   pub belongs : BelongsTo after shared
@@ -104,6 +102,7 @@ pub record IsLeastNext (before after : View) (kind : ℕ → Type 0) (most least
   pub below : (g : ℕ) → g < after.run.strips → kind g → least ≤ next_mark after g
   pub held : (least ≡ most) ⊎ IsNextOf after kind least
 
+-- ---- The passes of all workers, made one by one from the pass that stands for them all.
 -- the pass stands for worker w alone, and has seen what the first pass had
 abbrev pub IsPassOf : SharedState → PassState → ℕ → PassState → Type 0
 IsPassOf shared first w pass =

@@ -1,5 +1,4 @@
--- The tree words that a pass saw, and which chain of an index of children a node is in by them. What steps by the seat of a pass leave, and what a
--- node costs through another, as both were seen last.
+-- What steps by the seat of a pass leave, and what a node costs through another, as both were seen last.
 use Rattle.std.specs.Prelude.{◌≡◌, ℕ, zero, suc, ◌+◌, ◌-◌, ◌≤◌, ◌^◌, List, ◌++◌, if◌then◌else◌, length, nat_lt, replicate, slice_index, ◌≢◌, ◌<◌, [], Option}
 use Rattle.std.specs.Prelude.{None, Some}
 use Rattle.plan_words.specs.Terms.{Above, Aim, ChildIndex, FitsNumbers, FoundChild, HasLooked, IndexesChains, IsBounded, IsLawfulView, Me, Point, PointOf}
@@ -8,6 +7,7 @@ use Rattle.plan_words.specs.Nodes.{KeepsOrPosts}
 use Rattle.plan_words.specs.States.{GoesOn, SharedState, run_in}
 use Rattle.plan_words.specs.SearchLists.{HasSeenParent}
 
+-- ---- The tree words that a pass saw, and which chain of an index of children a node is in by them.
 -- 1 more than the number of its parent, or 0 if it is nobody's child; node 0 is never one
 abbrev pub chain_of : ℕ → ℕ → ℕ
 chain_of zero word = 0
@@ -38,8 +38,8 @@ pub record Reaches (nodes : ℕ) (words : List ℕ) (capacity : ℕ) (children :
   pub first : (all : ℕ) → nodes ≤ all → AreSeenFirst all words capacity children → AreSeenFirst all longer room more
   pub same : (all : ℕ) → nodes ≤ all → AreSeenFirst all words capacity children → seen_words all longer ≡ seen_words all words
 
+-- ---- lowered children
 -- ---- seats
-
 -- the seat is that of a pass of this tree, and what the law says of a view holds of its view
 pub record SitsAt (shared : SharedState) (table : TableId) (me : Me Aim View) : Type 0 where
   pub table_is : table ≡ shared.table
@@ -64,7 +64,6 @@ abbrev pub SeesSamePoints : View → View → Type 0
 SeesSamePoints before after = (n : ℕ) → sees after (PointOf n) ≡ sees before (PointOf n)
 
 -- ---- costs through a node
-
 -- the node is seen at this point, with its parent and at this cost
 pub record IsSeenAbove (view : View) (above : Above) : Type 0 where
   pub stands : SeesPoint view above.node above.point

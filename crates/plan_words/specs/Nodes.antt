@@ -1,4 +1,4 @@
--- What a link leaves, and what one finds that fails. Parents and costs in tree words, and what a pass is told of them. What a pass finds in the best word.
+-- What a link leaves, and what one finds that fails.
 use Rattle.std.specs.Prelude.{◌≡◌, ℕ, suc, Bool, Some, ◌<◌, ◌≤◌, ◌^◌, List, slice_index, ◌⊎◌, Option}
 use Rattle.plan_words.specs.Terms.{Best, ChildOf, Counted, FirstOf, Hand, IsAllowedEdge, IsOnWayOf, LeadsTo, Point, PointOf, SeesGoal, SeesPoint, TreeOf}
 use Rattle.plan_words.specs.Terms.{View, Word, best_word, cost_in, counted, hand_with_post, last_look, last_note, linked, loaded, note_before, pair_in_hand}
@@ -36,6 +36,7 @@ pub record IsLinkedAt (view : View) (n : ℕ) (side : Bool) (hand : Hand) : Type
 abbrev pub LeadsOn : View → View → Point → ℕ → Bool → ℕ → Type 0
 LeadsOn before after p n side c = (leads : LeadsTo before p n side) → IsOnWayOf after p (suc leads.depth) c
 
+-- ---- Parents and costs in tree words, and what a pass is told of them.
 -- the word is written, with this parent and this cost
 pub record IsPairIn (word : ℕ) (pair : ℕ × ℕ) : Type 0 where
   pub written : 2 ^ 63 ≤ word
@@ -55,6 +56,7 @@ pub record FindsLess (word found : ℕ) : Type 0 where
 abbrev pub IsEdgeSeen : View → ℕ → ℕ → Type 0
 IsEdgeSeen view node parent = (at from : Point) → SeesPoint view node at → SeesPoint view parent from → IsAllowedEdge (setup_in view.run) from at
 
+-- ---- What a pass finds in the best word.
 -- The node is seen as a goal node, and costs no more, as it was seen last.
 pub record FindsGoalNode (view : View) (best : ℕ × ℕ) : Type 0 where
   pub goal : SeesGoal view best.0

@@ -19,7 +19,6 @@ abbrev pub TellsHand : Me Aim View → (Hand → View) → Me Aim View → Type 
 TellsHand before view after = (hand : Hand) → before.0.hand ≡ Some hand → Tells before (view hand) after
 
 -- ---- what a step finds
-
 -- if the word is the point of a seen node, it was found written
 abbrev pub FindsPoint : View → ℕ → ℕ → Type 0
 FindsPoint view place found = (n : ℕ) → SeesNode view n → place ≡ place_in view (PointOf n) → 2 ^ 63 ≤ found
@@ -42,7 +41,6 @@ FindsWholeCount view place found = HasWholeShare view → ((hand : Hand) → vie
     → place ≡ place_in view Count → found ≡ node_count (tree_seen view).points
 
 -- ---- claims and loads
-
 -- what a claim asked for
 abbrev pub aim_of : Option Aim → Aim
 aim_of (some aim) = aim
@@ -65,7 +63,6 @@ pub record Loads (step : Step Aim) (before : Me Aim View) (found : ℕ) (after :
   pub whole_count : FindsWholeCount before.0 step.word found
 
 -- ---- the node in hand
-
 -- the point p of the node in hand is written, steered from node m
 abbrev pub WritesPoint : ℕ → Point → Step Aim → Me Aim View → ℕ → Me Aim View → Type 0
 WritesPoint m p step before found after = TellsHand before (λ hand. pointed before.0 hand m p) after
@@ -89,7 +86,6 @@ abbrev pub Counts : Step Aim → Me Aim View → ℕ → Me Aim View → Type 0
 Counts step before found after = TellsHand before (λ hand. counted before.0 hand (note_before after.0 0).word (last_note after.0)) after
 
 -- ---- costs and records
-
 -- the word at this place gave way to another if it was the first, which is noted, or was found otherwise
 abbrev pub exchanged_at : View → ℕ → ℕ → ℕ → ℕ → List ℕ → View
 exchanged_at view place first second found steps =

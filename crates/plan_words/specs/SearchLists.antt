@@ -1,5 +1,4 @@
--- What a search keeps in a pass: the nodes that wait, how many were taken off, and those that it found among these. A list of nodes that wait to be
--- looked at, on which each stands once.
+-- What a search keeps in a pass: the nodes that wait, how many were taken off, and those that it found among these.
 use Rattle.std.specs.Prelude.{◌≡◌, ℕ, ◌+◌, ◌*◌, ◌≤◌, ◌==◌, false, not, if◌then◌else◌, Bool, List, [], drop, length, map, nat_lt, take, suc, ◌<◌, ◌^◌, true}
 use Rattle.std.specs.Prelude.{◌∷◌, SomeIndex, get_or, slice_index}
 use Rattle.plan_words.specs.Terms.{Cell, Found, Point, Spot, TreeOf, View, cost_in, parent_in, point_in, root_ceiling, sees}
@@ -24,7 +23,6 @@ pub record SearchState : Type 0 where
   pub room : ℕ
 
 -- ---- the cells
-
 abbrev pub cell_of : Spot → Cell
 cell_of spot = record { node = spot.node; tag = if spot.by_rows then 1 else 0; word = spot.word }
 
@@ -47,7 +45,6 @@ pub record IsSearchStore (cells : List Cell) (taken count : ℕ) : Type 0 where
   pub within : taken ≤ length cells
 
 -- ---- what is found
-
 -- the node, at this squared distance, as it is noted
 abbrev pub noted : ℕ → ℕ → Found
 noted node distance = record { node = node; edge = 0; distance = distance }
@@ -75,6 +72,7 @@ weighed found = map (λ (f : Found). record f { edge = root_ceiling (65536 * f.d
 abbrev pub is_dearer : (ℕ → ℕ) → ℕ → Found → Bool
 is_dearer words cost found = nat_lt (cost + found.edge) (cost_in (words found.node))
 
+-- ---- A list of nodes that wait to be looked at, on which each stands once.
 -- What contracts see of such a list: its nodes, and below which number they are.
 pub record WaitingState : Type 0 where
   pub nodes : List ℕ

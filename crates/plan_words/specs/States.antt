@@ -7,7 +7,6 @@ use Rattle.plan_words.specs.declared.openings.Opening.{Opening}
 use Rattle.plan_words.specs.SearchLists.{SearchLists, no_search}
 
 -- ---- a shared tree and its passes
-
 -- A shared tree: its table, the task that is planned, how many workers there are, and the limit of the run that they go on from.
 pub record SharedState : Type 0 where
   pub table : TableId
@@ -73,7 +72,6 @@ pub record GoesOn (before after : View) : Type 0 where
   pub lawful : IsLawfulView after
 
 -- ---- what a table keeps
-
 abbrev pub run_of_opening : Opening → SharedRun
 run_of_opening opening = run_of opening.grown.task opening.workers opening.grown.limit
 
@@ -94,7 +92,6 @@ pub record IsTableOf (table : TableId) (key : Opening) (run : SharedRun) (places
   pub run_is : IsSharedRun run
 
 -- ---- what a pass keeps
-
 -- the worker that a pass works as, if it has a share
 abbrev pub first_member : List Member → Option Member
 first_member [] = None
@@ -138,7 +135,6 @@ pub record HasRoom (run : SharedRun) (for_spots for_near for_around for_waiting 
   pub waiting : length run.marks + 1 ≡ for_waiting
 
 -- ---- the start
-
 -- words of which the best is left out: it is no part of a run at rest
 abbrev pub without_best : Words → Words
 without_best words Best = 0

@@ -28,7 +28,6 @@ pub record KeepsRecords (shared : SharedState) (before after : PassState) : Type
   pub most : after.view.most ≡ before.view.most
 
 -- ---- steering
-
 -- The class is that of the count seen, which was loaded since, and is no less than how many nodes a worker has placed, by the records seen. Each
 -- node that was seen before within the radius of p is found, all that are found are in reach, and within the radius, and their records have
 -- their distances. All points within it are swept.
@@ -59,7 +58,6 @@ pub record IsFilledSince (shared : SharedState) (first pass : PassState) (p : Po
   pub filled : HasFilledNear first.view pass.view p class pass.lists.search.found
 
 -- ---- skipping
-
 -- The best word was loaded, and is in hand now, in a scene that is informed. In any other no step was made.
 pub record HasLoadedBest (shared : SharedState) (before after : PassState) : Type 0 where
   pub keeps : KeepsRecords shared before after
@@ -72,7 +70,6 @@ pub record MaySteerOn (shared : SharedState) (pass : PassState) (k : ℕ) : Type
   pub unskipped : IfSome pass.view.hand (IsUnskipped pass.view)
 
 -- ---- placing
-
 -- Node m, which is seen, steers towards mark k to p. By the records seen, no placed node is nearer.
 pub record IsSteeredTo (view : View) (k m : ℕ) (p : Point) : Type 0 where
   pub from : Point
@@ -150,7 +147,6 @@ pub record HasReached (before after : View) (k : ℕ) (entry : Record) (m : ℕ)
   pub as_seen : ReachesAsSeen before after k m reached p
 
 -- ---- records
-
 -- the record of the worker of a view in its next turn: of a mark for which no node was placed, and of one that was placed
 abbrev pub own_unplaced : View → ℕ → Outcome → Record
 own_unplaced view nearest outcome = unplaced_record (worker_of view.crew) (turn_of view.crew) nearest outcome
@@ -172,7 +168,6 @@ pub record HasRecorded (shared : SharedState) (before after : PassState) (entry 
   pub turn : entry.turn ≡ turn_of before.view.crew
 
 -- ---- the whole of a mark that is not skipped
-
 -- Mark k was handled, and not skipped: the record that stands there is the one answered, and it says what the nearest node came to.
 pub record IsSteeredAndHandled (before after : View) (k : ℕ) (entry : Record) : Type 0 where
   pub stored : record_at (sees after) k ≡ Some entry

@@ -30,7 +30,6 @@ pub record HandlesMark (shared : SharedState) (before after : PassState) (k : �
   pub most : after.view.most ≡ before.view.most
 
 -- ---- a placed node
-
 -- the radius at a class
 abbrev pub radius_in : View → ℕ → ℕ
 radius_in view class = radius_of_class view.run.step view.run.gamma class
@@ -79,7 +78,6 @@ pub record IsPlacedAt (before after : View) (k : ℕ) (first : FirstHanging) (p 
   pub rewired : WasRewired before linked_at after k first p
 
 -- ---- outcomes
-
 -- Node m, at a point, steered to p. No node that was seen before is nearer to mark k, and all points at most as far are swept.
 pub record HasSteered (before after : View) (k m : ℕ) (from p : Point) : Type 0 where
   pub stands : SeesPoint after m from
@@ -133,7 +131,6 @@ EndsAsSeen before after k entry (Steered nearest reached) = WasNotSkipped before
 EndsAsSeen before after k entry (SkippedBy goal_node) = WasSkipped before after k entry goal_node
 
 -- ---- the whole
-
 -- Mark k was handled: the record that stands there is the one answered, and the mark ended as it says.
 pub record IsExtended (before after : View) (k : ℕ) (entry : Record) : Type 0 where
   pub stored : record_at (sees after) k ≡ Some entry

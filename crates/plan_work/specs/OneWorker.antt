@@ -1,11 +1,11 @@
--- What the steps of one mark leave of a pass with the share of all workers: it is shown nothing new but the count of nodes. One worker that works
--- alone: what it sees is the textbook run over the marks that it has handled.
+-- One worker that works alone: what it sees is the textbook run over the marks that it has handled.
 use Rattle.std.specs.Prelude.{◌≡◌, ◌≢◌, ℕ, suc, ◌∷◌, Some, List, ◌≤◌, nat_lt, [], slice_get, take}
 use Rattle.plan_work.specs.Terms.{AreOf, ConfigurationSpace, Count, FirstOf, Found, Grown, Hand, Hanging, HasPostedGoals, HasWholeShare, IsBestParentSeen}
 use Rattle.plan_work.specs.Terms.{IsOfTextbookRun, IsTextbookRun, Linked, MayBeCheaper, Mirrors, Nodes, Placed, Placing, Point, PointOf, Record, Same}
 use Rattle.plan_work.specs.Terms.{SteersTo, TreeOf, View, Word, class_of, cost_seen, counters, is_claimed, mark_at, near_new, node_count, record_at, sees}
 use Rattle.plan_work.specs.Terms.{setup_in, setup_of, state_of_grown, tree_seen}
 
+-- ---- What the steps of one mark leave of a pass with the share of all workers: it is shown nothing new but the count of nodes.
 -- no node in hand is linked and not counted yet
 abbrev pub HasCounted : View → Type 0
 HasCounted view = (hand : Hand) → view.hand ≡ Some hand → hand.stage ≢ Linked
@@ -40,6 +40,7 @@ pub record IsTriedWhole (space : ConfigurationSpace) (before after : View) (k : 
   pub best : IsBestParentSeen space before p (nearest ∷ near) hanging.parent
   pub others : KeepsOthers before after k placing
 
+-- ---- one worker
 -- The pass has the share of all workers, as worker 0, whose next turn is k.
 pub record WorksAlone (view : View) (k : ℕ) : Type 0 where
   pub whole : HasWholeShare view

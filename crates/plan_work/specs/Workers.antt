@@ -21,7 +21,6 @@ pub record HasDone (shared : SharedState) (limit : ℕ) (before after : PassStat
   pub textbook : shared.workers ≡ 1 → HandlesRest before.view after.view limit
 
 -- ---- workers
-
 -- workers that have these passes
 abbrev pub workers_with : List PassState → List Worker
 workers_with = map Working
@@ -55,7 +54,6 @@ left_of [] = []
 left_of (worker ∷ crew) = option_to_list (left_by worker) ++ left_of crew
 
 -- ---- marks
-
 -- Between two moments of the call mark k was handled, as `extend` promises, and the record stands that was made of it.
 pub record WasExtended (before after : View) (k : ℕ) : Type 0 where
   pub entry : Record
@@ -71,7 +69,6 @@ abbrev pub AllExtended : View → View → Type 0
 AllExtended before after = (k : ℕ) → sees before (RecordOf k) ≡ 0 → sees after (RecordOf k) ≢ 0 → WasExtended before after k
 
 -- ---- joins
-
 -- the shares of some passes
 abbrev pub shares_of : List PassState → ℕ
 shares_of [] = 0

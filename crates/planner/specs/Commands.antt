@@ -1,5 +1,4 @@
--- The words of the command line, from the arguments that the library gives. The commands of the program, and the tables of what they read, what they
--- test, and how they succeed.
+-- The commands of the program, and the tables of what they read, what they test, and how they succeed.
 use Rattle.std.specs.Prelude.{◌≡◌, ◌≢◌, ℕ, List, [], drop, map, string_bytes, Result, Ok, Err, IsErrAnd, String, ◌≤◌, ◌&&◌, Bool, true, false, Option, Some}
 use Rattle.std.specs.Prelude.{None, option_and_then, ◌∷◌, codes, bytes_eq, if◌then◌else◌, pos}
 use Rattle.planner.specs.Terms.{Command, DONE, Error, Global, IntoIter, MOST_GENERATED, MOST_MARKS, MOST_WORKERS, NO_PATH, OutOfMemory, error_kind, int_le}
@@ -7,6 +6,7 @@ use Rattle.planner.specs.Terms.{into_iter_items, is_number, unsigned_abs, value_
 use Rattle.planner.specs.Inputs.{Input, nothing, one_scene, scene_and_report, several_scenes, reads_bytes}
 use Rattle.planner.specs.declared.commands.Command.TheVariants as commands
 
+-- ---- The words of the command line, from the arguments that the library gives.
 -- the arguments after the program's name; none if they are no text
 abbrev pub given : Result (IntoIter (String Global) Global) Error → List (String Global)
 given (Ok args) = drop 1 (into_iter_items args)
@@ -24,6 +24,7 @@ IsOutOfMemory args = IsErrAnd args (λ error. error_kind error ≡ OutOfMemory)
 abbrev pub AreNoText : Result (IntoIter (String Global) Global) Error → Type 0
 AreNoText args = IsErrAnd args (λ error. error_kind error ≢ OutOfMemory)
 
+-- ---- commands
 -- the command that one word asks for, if it asks for one
 abbrev pub command_of_word : List ℕ → Option Command
 command_of_word word =

@@ -1,6 +1,4 @@
--- Sessions of the scenes of a batch. Which status the bytes of the source decide, if no read and no write fails. How a whole call ends: what it has
--- read, what it hands out, and what is written. The statuses, and the number of the last generated scene, as numbers that a caller knows. Worked
--- values of which statuses words come to.
+-- How a whole call ends: what it has read, what it hands out, and what is written.
 use Rattle.std.specs.Prelude.{◌≡◌, ◌<◌, ℕ, List, get_or, ◌≤◌, Option, Some, length, IsTrue, MatchBool, ◌≢◌, ◌⊎◌, None, IfSome, true, [], ◌∷◌, codes}
 use Rattle.std.specs.Prelude.{option_map}
 use Rattle.planner.specs.Terms.{ClearAt, Command, DONE, Done, GOAL_BLOCKED, IsFresh, Kind, MOST_GENERATED, MOST_TEXT_BYTES, NO_MEMORY, NO_PATH, READ_FAULT}
@@ -10,6 +8,7 @@ use Rattle.planner.specs.Commands.{input_of, reads_text, tests_goal, tests_start
 use Rattle.planner.specs.Conclusions.{MayReach, MayStart, IsAnswer, Asks}
 use Rattle.planner.specs.Inputs.{AreGoalsClear, AreStartsClear, RefusesInput, SpellsInput, ReadFailed, WriteFailed, IsUnread, IsWrittenWhole, IsCutShort}
 
+-- ---- Sessions of the scenes of a batch.
 -- a session of the scene, whose start is clear, that has handled nothing
 pub record IsSessionOf (workers slice : ℕ) (scene : Scene) (s : SessionState) : Type 0 where
   pub start : ClearAt (space_of scene) scene.start
@@ -22,6 +21,7 @@ abbrev pub HaveSessions : ℕ → ℕ → List Scene → List SessionState → �
 HaveSessions workers slice scenes sessions n =
     (i : ℕ) (scene : Scene) (s : SessionState) → i < n → IsSessionOf workers slice (get_or scenes i scene) (get_or sessions i s)
 
+-- ---- Which status the bytes of the source decide, if no read and no write fails.
 -- the status of a command that reads a text, by the bytes of the source
 pub record IsDecidedBy (bytes : List ℕ) (command : Command) (status : ℕ) : Type 0 where
   pub done : (scenes : List Scene) → SpellsInput (input_of command) bytes scenes → MayStart command scenes → MayReach command scenes
@@ -38,6 +38,7 @@ abbrev pub IsDecided : Option (List ℕ) → Command → ℕ → Type 0
 IsDecided left command status =
     MatchBool (reads_text command) ((bytes : List ℕ) → left ≡ Some bytes → IsDecidedBy bytes command status) (status ≤ greatest_success command)
 
+-- ---- endings
 -- A call has done what the words ask for, over a source and a sink that are known before it and after it.
 pub record HasConcluded (asked : Option Command) (before now : SourceState) (sink_before sink_now : SinkState) (result : Done) : Type 0 where
   -- a success by the command, or a refusal by its cause; the whole text is written
@@ -55,6 +56,7 @@ pub record HasConcluded (asked : Option Command) (before now : SourceState) (sin
   -- never more than one byte past the limit of a text is read
   pub within : ReadsWithin before.bytes_left now.bytes_left
 
+-- ---- The statuses, and the number of the last generated scene, as numbers that a caller knows.
 -- each constant with its value, so that it cannot change without its value here
 pub record FixedNumbers : Type 0 where
   pub done : DONE ≡ 0
@@ -68,6 +70,7 @@ pub record FixedNumbers : Type 0 where
   pub goal_blocked : GOAL_BLOCKED ≡ 8
   pub most_generated : MOST_GENERATED ≡ 9999
 
+-- ---- Worked values of which statuses words come to.
 pub record WorkedStatuses : Type 0 where
   -- words that write a scene succeed with 0 alone
   pub show : option_map greatest_success (command_of (codes "show" ∷ [])) ≡ Some 0

@@ -1,11 +1,11 @@
--- What a call did with its source and with its sink, from what is known of them before it and after it. What is known of a source that was not read
--- to its end, if its bytes are known. What a command reads, as a table by kind of input: which scenes the bytes spell, and when they are refused.
+-- What a command reads, as a table by kind of input: which scenes the bytes spell, and when they are refused.
 use Rattle.std.specs.Prelude.{◌≡◌, ℕ, ◌≤◌, true, false, IsTrue, Option, List, length, ◌+◌, Some, ◌⊎◌, Bool, [], ◌∷◌}
 use Rattle.planner.specs.Terms.{Appends, AppendsPrefix, CameTooLong, ClearAt, Consumes, FaultsRose, HasNoReportLine, IsAllOf, IsAtEnd, IsCutAtReport, Keeps}
 use Rattle.planner.specs.Terms.{Kind, MOST_TEXT_BYTES, ReadsWithin, Refused, RefusesBatch, Scene, SinkState, SourceState, Spells, SpellsBatch, counted_up}
 use Rattle.planner.specs.Terms.{goal_middle, lines_of, space_of, supported}
 use Rattle.plan_model.specs.declared.text_terms.Kind.TheVariants as kinds
 
+-- ---- What a call did with its source and with its sink, from what is known of them before it and after it.
 -- the source's count of faults rose
 abbrev pub ReadFailed : SourceState → SourceState → Type 0
 ReadFailed before now = FaultsRose before.fault_count now.fault_count
@@ -64,6 +64,7 @@ pub record IsCutShort (before now : SinkState) (text : List ℕ) : Type 0 where
   pub part : AppendsPrefix before.bytes_taken now.bytes_taken text
   pub one_fault : IsTrue before.counts_failures_alone → now.fault_count ≡ counted_up before.fault_count
 
+-- ---- What is known of a source that was not read to its end, if its bytes are known.
 -- more bytes came than a text may have, or a read failed, and not both
 abbrev pub HasOneCause : Type 0
 HasOneCause = (before now : SourceState) (bytes : List ℕ) → before.bytes_left ≡ Some bytes → IsTooLong before now → ¬ IsReadFault before now
@@ -73,6 +74,7 @@ abbrev pub ReadsOneMore : Type 0
 ReadsOneMore = (before now : SourceState) (bytes rest : List ℕ) → before.bytes_left ≡ Some bytes → now.bytes_left ≡ Some rest
     → IsTooLong before now → ReadsWithin before.bytes_left now.bytes_left → length bytes ≡ length rest + MOST_TEXT_BYTES + 1
 
+-- ---- inputs
 -- a kind of input: nothing at all, the text of one scene, those of several scenes with a line `next` between two of them, or the text of
 -- a scene and the bytes of a report with a line `report` between them
 pub data Input : Type 0 where

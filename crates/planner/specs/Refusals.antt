@@ -1,5 +1,4 @@
--- Which refusal a fault of the reader, or of two trees, becomes. The line that the program writes in place of a report, and the status that it ends
--- with. What is written of a verdict on a report, and the status that it gives.
+-- The line that the program writes in place of a report, and the status that it ends with.
 use Rattle.planner.specs.Terms.{Broken, DONE, FetchFault, GOAL_BLOCKED, Lawful, NO_MEMORY, NO_PATH, READ_FAULT, Refusal, START_BLOCKED, SceneRefusal}
 use Rattle.planner.specs.Terms.{TEXT_REFUSED, TwinFault, Verdict, WORDS_REFUSED, fault_words, join_with_byte, line}
 use Rattle.std.specs.Prelude.{ℕ, List, ◌∷◌, [], codes, decimal}
@@ -8,6 +7,7 @@ use Rattle.scene_text.specs.declared.fetching.FetchFault.TheVariants as fetching
 use Rattle.scene_text.specs.declared.refusals.SceneRefusal.TheVariants as reading
 use Rattle.twin_trees.specs.declared.twin_runs.TwinFault.TheVariants as faults
 
+-- ---- Which refusal a fault of the reader, or of two trees, becomes.
 -- what a fault of two trees becomes
 abbrev pub refusal_of_twin : TwinFault → Refusal
 refusal_of_twin faults.GoalBlocked = refusals.GoalBlocked
@@ -24,6 +24,7 @@ abbrev pub refusal_of_scene : SceneRefusal → Refusal
 refusal_of_scene (reading.Fault fault) = refusals.Text fault.line fault.kind
 refusal_of_scene reading.Memory = refusals.Memory
 
+-- ---- refusals
 -- the words that the program writes in place of a report
 abbrev pub words_of_refusal : Refusal → List (List ℕ)
 words_of_refusal refusals.Words = codes "words" ∷ codes "refused" ∷ []
@@ -52,6 +53,7 @@ status_of refusals.GoalBlocked = GOAL_BLOCKED
 status_of refusals.ReadFault = READ_FAULT
 status_of refusals.Memory = NO_MEMORY
 
+-- ---- What is written of a verdict on a report, and the status that it gives.
 -- a verdict in words: `lawful`, or `broken line L law N`
 abbrev pub verdict_words : Verdict → List (List ℕ)
 verdict_words Lawful = codes "lawful" ∷ []

@@ -1,5 +1,4 @@
--- Closed discs of the plane. A walk over the points within a distance of a center, stretch by stretch: none of them is left out between two
--- stretches. The order of points in bands.
+-- A walk over the points within a distance of a center, stretch by stretch: none of them is left out between two stretches.
 use Rattle.std.specs.Prelude.{ℕ, ◌*◌, ◌≤◌, ◌<◌, Option, Some, None, List, length, slice_index_or, ◌+◌, ◌^◌, ◌/◌}
 use Rattle.std.specs.Int.{abs_diff}
 use Rattle.plan_model.specs.declared.geometry.Point.{Point}
@@ -7,6 +6,7 @@ use Rattle.plan_model.specs.Geometry.Plane.{squared_distance}
 use Rattle.point_bands.specs.declared.bands.Numbered.{Numbered}
 use Rattle.point_bands.specs.declared.bands.Stretch.{Stretch}
 
+-- ---- Closed discs of the plane.
 -- the square of the point's distance to the center is not above this one
 abbrev pub IsWithin : Point → ℕ → Point → Type 0
 IsWithin center square p = squared_distance p center ≤ square
@@ -15,6 +15,7 @@ IsWithin center square p = squared_distance p center ≤ square
 abbrev pub IsInColumns : Point → ℕ → Point → Type 0
 IsInColumns center square p = abs_diff p.x center.x * abs_diff p.x center.x ≤ square
 
+-- ---- walks
 -- what stands for the point at a position past the end (definitions ask it of positions below the length alone)
 abbrev pub nowhere : Numbered
 nowhere = record { point = record { x = 0; y = 0 }; number = 0 }
@@ -41,6 +42,7 @@ abbrev pub IsNextStretch : Point → ℕ → List Numbered → ℕ → Option St
 IsNextStretch center square points from None = HasNoneBetween center square points from (length points)
 IsNextStretch center square points from (Some stretch) = IsStretchAfter center square points from stretch
 
+-- ---- The order of points in bands.
 -- the lowest row of the band of a row, where bands are this high
 abbrev pub lowest_row : ℕ → ℕ → ℕ
 lowest_row height_log y = y / 2 ^ height_log * 2 ^ height_log

@@ -1,8 +1,4 @@
--- Routes: from the start over points of marks, one link after another; and which links a textbook run follows. Routes that cost no less than the best
--- path of a textbook run: what a route costs, how long its links may be, and how its marks end. Reports that show a path: they begin with the line of
--- the path to the best node. Routes in runs of several workers: one worker handles their marks, each after the node at which the one before it ended.
--- Links that can be seen to be open: the disc around their end is clear, or the body there keeps farther from all obstacles and walls. Chains in
--- order: nodes from the start, each placed by one worker after the node before it, and so near to it that RRT* looked at both.
+-- Routes: from the start over points of marks, one link after another; and which links a textbook run follows.
 use Rattle.std.specs.Prelude.{ℕ, suc, ◌*◌, ◌<◌, ◌≤◌, Option, List, [], ◌∷◌, length, map, ◌≡◌, ◌&&◌, Bool, false, ◌++◌, ◌⊎◌, Some, ◌+◌, ℤ, pos, ◌+ℤ◌, ◌-ℤ◌}
 use Rattle.std.specs.Prelude.{◌≤ℤ◌, unsigned_abs, All, sum}
 use Rattle.route_laws.specs.Terms.{Clear, ClearAt, Goal, IsBestNode, IsClear, IsEarlier, IsGoalNode, IsNeighbour, Placed, Point, Rational, Record, Same}
@@ -10,7 +6,6 @@ use Rattle.route_laws.specs.Terms.{Scene, Setup, StandsAt, TreeState, Vertex, go
 use Rattle.route_laws.specs.Terms.{point_of, radius_of, report_text, squared_distance, sum_in, weighted}
 
 -- ---- routes and links
-
 -- numbers that rise, none below the first one allowed, and all below the limit
 abbrev pub Rise : ℕ → ℕ → List ℕ → Type 0
 Rise first limit [] = Unit {0}
@@ -33,7 +28,6 @@ pub record IsOpenLink (setup : Setup) (a b : Point) : Type 0 where
   pub clear : (p : Point) → ClearAt setup.space p → squared_distance p b ≤ squared_distance a b → Clear setup.space p b
 
 -- ---- what a run makes of them
-
 -- A node stands at the point of mark k, by the time that this mark has been handled: none that marks give later has so low a number.
 abbrev pub IsReached : List Point → List (Option Point) → ℕ → Type 0
 IsReached marks points k = (n : ℕ) × (n ≤ suc k) × StandsAt points n (mark_at marks k)
@@ -42,6 +36,7 @@ IsReached marks points k = (n : ℕ) × (n ≤ suc k) × StandsAt points n (mark
 abbrev pub HasGoalNode : List Goal → List (Option Point) → Type 0
 HasGoalNode goals points = (n : ℕ) × IsGoalNode goals points n
 
+-- ---- Routes that cost no less than the best path of a textbook run: what a route costs, how long its links may be, and how its marks end.
 -- the points of the route over the marks with these numbers
 abbrev pub route_points : Setup → List Point → List ℕ → List Point
 route_points setup marks numbers = setup.start ∷ map (mark_at marks) numbers
@@ -74,6 +69,7 @@ EndApart record_of [] = Unit {0}
 EndApart record_of (k ∷ []) = Unit {0}
 EndApart record_of (k ∷ l ∷ numbers) = ((ends_same record_of k && ends_same record_of l) ≡ false) × EndApart record_of (l ∷ numbers)
 
+-- ---- Reports that show a path: they begin with the line of the path to the best node.
 -- the report of the tree begins with the line of the path to its best node, and has no line that there is none
 pub record ShowsPath (full : Bool) (scene : Scene) (limit : ℕ) (state : TreeState) : Type 0 where
   pub node : ℕ
@@ -81,6 +77,7 @@ pub record ShowsPath (full : Bool) (scene : Scene) (limit : ℕ) (state : TreeSt
   pub rest : List ℕ
   pub begins : report_text full scene limit state ≡ path_line (path_to state node) (sum_in state node) ++ rest
 
+-- ---- Routes in runs of several workers: one worker handles their marks, each after the node at which the one before it ended.
 -- mark k ended at node n: it gave this node, or the node stood there
 pub record EndsAtNode (state : TreeState) (k n : ℕ) : Type 0 where
   pub entry : Record
@@ -103,8 +100,8 @@ AreHandledInTurn state n (k ∷ l ∷ numbers) = IsHandledAfter state n k × ((m
 abbrev pub HasNodeAt : List (Option Point) → Point → Type 0
 HasNodeAt points p = (n : ℕ) × StandsAt points n p
 
+-- ---- Links that can be seen to be open: the disc around their end is clear, or the body there keeps farther from all obstacles and walls.
 -- ---- discs
-
 -- how far a coordinate x / over is from b, times over
 abbrev pub gap_from : ℕ → ℤ → ℕ → ℕ
 gap_from over x b = unsigned_abs (x -ℤ pos (over * b))
@@ -120,7 +117,6 @@ pub record HasClearDisc (setup : Setup) (a b : Point) : Type 0 where
   pub clear : (q : Rational) → IsInDisc a b q → IsClear setup.space q
 
 -- ---- distances of the body
-
 -- a point of the obstacle less a point of the body: corners under weights of the same total
 abbrev pub obstacle_less_body : List ℕ → List Vertex → List ℕ → List Vertex → (total : ℕ) → 0 < total → Rational
 obstacle_less_body on_obstacle obstacle on_body body total positive = record {
@@ -155,6 +151,7 @@ pub record KeepsBodyFar (setup : Setup) (a b : Point) : Type 0 where
   pub corners : All (KeepsFromWalls setup.space.room b steps) setup.space.body
   pub obstacles : All (IsFartherFrom setup.space.body a b) setup.space.obstacles
 
+-- ---- Chains in order: nodes from the start, each placed by one worker after the node before it, and so near to it that RRT* looked at both.
 -- The link from node i to node n is in order: n was placed, and i, which is the start or was placed by the same worker in an earlier turn,
 -- stands within the radius of the class in the record of n, with a clear edge.
 pub record IsLinkInOrder (setup : Setup) (state : TreeState) (i n : ℕ) : Type 0 where

@@ -1,4 +1,4 @@
--- What the fields of a draft give, and what one more line adds. What a refusal says of the text, or of the line, that is refused.
+-- What the fields of a draft give, and what one more line adds.
 use Rattle.std.specs.Prelude.{◌≡◌, ℕ, ◌≤◌, true, false, ℤ, pos, Option, Some, None, List, [], ◌∷◌, length, map, if◌then◌else◌, codes}
 use Rattle.std.specs.List.{list_all, join_with_byte}
 use Rattle.plan_model.specs.declared.text_terms.Key.{Key}
@@ -16,7 +16,6 @@ use Rattle.scene_text.specs.declared.refusals.SceneRefusal.TheVariants as scene
 use Rattle.scene_text.specs.declared.refusals.LineRefusal.TheVariants as line
 
 -- ---- what a draft gives
-
 -- the numbers of the one line of a field, if it is known
 abbrev pub line_numbers : {A : Type 0} → (A → List ℤ) → Option A → List (List ℤ)
 line_numbers numbers None = []
@@ -49,7 +48,6 @@ pub record IsSoundDraft (draft : Draft) : Type 0 where
   pub stand : (version : ℕ) → draft.version ≡ Some version → AllMayStand version (given_by_draft draft)
 
 -- ---- one more line
-
 -- the checks of a line that come before those of its numbers pass
 pub record IsFormed (version : ℕ) (given : Given) (key : Key) (words : List (List ℕ)) : Type 0 where
   pub built : is_supported key ≡ true
@@ -74,6 +72,7 @@ pub record TakesLine (old new : Draft) (words : List (List ℕ)) : Type 0 where
   pub version : new.version ≡ version_after old.version words
   pub given : given_by_draft new ≡ given_after old.version (given_by_draft old) words
 
+-- ---- What a refusal says of the text, or of the line, that is refused.
 -- the refusal of a text whose line with this number is refused
 abbrev pub refusal_at : ℕ → LineRefusal → SceneRefusal
 refusal_at number (line.Fault kind) = scene.Fault (record { line = number; kind = kind })

@@ -1,5 +1,5 @@
 -- What a source that is read to its end gives, and what is left of it: before and now are the bytes that it has left before the call and after it, if
--- they are known. What a refusal says of a batch, and of one of its parts.
+-- they are known.
 use Rattle.std.specs.Prelude.{◌≡◌, ℕ, ◌+◌, ◌<◌, ◌≤◌, ◌↔◌, ◌++◌, Option, Some, List, length, Result, Vec, IfOk, IsErrOf, codes, decimal}
 use Rattle.std.specs.Io.KnownBytes.{Consumes}
 use Rattle.plan_model.specs.declared.limits.TheConstants.{MOST_TEXT_BYTES}
@@ -35,6 +35,7 @@ fault_message faults.Read = codes "read failed"
 fault_message faults.TooLong = codes "text longer than " ++ decimal MOST_TEXT_BYTES ++ codes " bytes"
 fault_message faults.Memory = codes "out of memory"
 
+-- ---- What a refusal says of a batch, and of one of its parts.
 -- a part with so many lines before it is refused at its first line with a fault, or the program is out of memory
 abbrev pub IsPartRefusal : ℕ → List ℕ → SceneRefusal → Type 0
 IsPartRefusal before part (scene.Fault fault) = (line : ℕ) × (fault.line ≡ before + line) × Refused supported part line fault.kind

@@ -1,9 +1,10 @@
--- Lists of the nodes that lie in a goal. The nodes that are present, in a list of their own. The children of a tree's nodes.
+-- The children of a tree's nodes.
 use Rattle.std.specs.Prelude.{ℕ, ◌<◌, All, Contains, Option, List, ◌≡◌, zero, suc, is_some, [], length, map, filter, ◌≤◌, ◌==◌, Bool, false, Some, None}
 use Rattle.std.specs.Prelude.{option_map}
 use Rattle.seq_planner.specs.Terms.{ChildIndex, Goal, IndexesChains, IsGoalNode, IsPresent, MOST_NODES, PlacedPoints, Point, Twig, near, node_at, point_at}
 use Rattle.seq_planner.specs.Terms.{point_of, points_of, range_with_len}
 
+-- ---- Lists of the nodes that lie in a goal.
 -- node n lies in a goal and has a number below the limit
 pub record IsGoalNodeBelow (goals : List Goal) (points : List (Option Point)) (limit n : ℕ) : Type 0 where
   pub below : n < limit
@@ -14,6 +15,7 @@ pub record AreGoalNodesBelow (goals : List Goal) (points : List (Option Point)) 
   pub listed : (n : ℕ) → IsGoalNodeBelow goals points limit n → Contains numbers n
   pub goal_nodes : All (IsGoalNodeBelow goals points limit) numbers
 
+-- ---- The nodes that are present, in a list of their own.
 -- the numbers of the nodes that are present, in rising order
 abbrev pub present_numbers : List (Option Point) → List ℕ
 present_numbers points = filter (λ n. is_some (point_at points n)) (range_with_len 0 (length points))
@@ -28,6 +30,7 @@ abbrev pub listed_near : List (Option Point) → Point → ℕ → List ℕ
 listed_near points p zero = []
 listed_near points p (suc r) = near points p (suc r)
 
+-- ---- linked trees
 -- the parent of a node that is a child; the start is nobody's, and neither is an absent node
 abbrev pub parent_if_child : List (Option Twig) → ℕ → Option ℕ
 parent_if_child tree zero = None

@@ -1,6 +1,4 @@
--- Marks on nodes that are settled, and what settling one more of them does. Nodes that are kept at no more than they must be. The marks below a
--- limit, counted by their outcomes. What a failed delivery leaves in a sink. The first words of a mark's line, which say who handled it. The line of
--- a node, from its numbers alone.
+-- Marks on nodes that are settled, and what settling one more of them does.
 use Rattle.std.specs.Prelude.{◌≡◌, ℕ, zero, suc, ◌+◌, ◌<◌, Bool, false, IsTrue, List, length, slice_index, slice_index_or, cond, Option, take, [], ◌∷◌, ◌++◌}
 use Rattle.std.specs.Prelude.{codes, decimal}
 use Rattle.plan_model.specs.Trees.NodeLists.{IsPresent, edge_by}
@@ -42,10 +40,12 @@ LeadsDown state child_of from to = (steps : ℕ) × LeadsDownBy steps state chil
 abbrev pub CostsByParent : TreeState → TreeState → ℕ → Type 0
 CostsByParent before after n = CostsInstead before after n (before.cost (before.parent n) + edge_by before.points before.parent n)
 
+-- ---- Nodes that are kept at no more than they must be.
 -- Node n, if it is present, is kept at what its parent is kept at and the edge.
 abbrev pub IsTight : TreeState → ℕ → Type 0
 IsTight state n = IsPresent state.points n → state.cost n ≡ state.cost (state.parent n) + edge_by state.points state.parent n
 
+-- ---- The marks below a limit, counted by their outcomes.
 -- the counts with one mark more, which had this outcome
 abbrev pub with_outcome : OutcomeCounts → Outcome → OutcomeCounts
 with_outcome counts outcome = record {
@@ -63,15 +63,18 @@ pub record AreCounts (record_of : ℕ → Option Record) (limit : ℕ) (counts :
   pub skipped : counts.skipped ≡ outcome_count record_of limit is_skipped
   pub all : ((counts.placed + counts.same) + counts.blocked) + counts.skipped ≡ limit
 
+-- ---- What a failed delivery leaves in a sink.
 -- known bytes grow by a proper prefix of the text
 abbrev pub AppendsPrefix : Option (List ℕ) → Option (List ℕ) → List ℕ → Type 0
 AppendsPrefix old new text = (n : ℕ) × (n < length text) × Appends old new (take n text)
 
+-- ---- The first words of a mark's line, which say who handled it.
 -- mark k, its worker and turn, and a space
 abbrev pub words_before_outcome : ℕ → Record → List ℕ
 words_before_outcome k entry = join_with_byte 32 (
     codes "mark" ∷ decimal k ∷ codes "worker" ∷ decimal entry.worker ∷ codes "turn" ∷ decimal entry.turn ∷ []) ++ 32 ∷ []
 
+-- ---- The line of a node, from its numbers alone.
 -- Node n, where it stands, its parent and its cost. With the parent and the sum that a tree has, it is `node_line` of the tree.
 abbrev pub knot_line : ℕ → Knot → List ℕ
 knot_line n knot = line (codes "node" ∷ decimal n ∷ codes "at" ∷ decimal knot.point.x ∷ decimal knot.point.y

@@ -6,7 +6,6 @@ use Rattle.step_core.specs.Terms.{kind_of, place_of, some}
 use Rattle.step_core.specs.Views.{last_look, last_zero, run_sizes, sees}
 
 -- ---- words that others load
-
 -- The words that passes load while others change them. Points, first words and records are written once, before they can be seen.
 abbrev pub IsLoaded : SharedRun → Word → Type 0
 IsLoaded run Count = Unit {0}
@@ -39,7 +38,6 @@ GoesTo (FirstOf n) word later = MayBecome (kind_of (FirstOf n)) word later
 GoesTo (RecordOf k) word later = MayBecome (kind_of (RecordOf k)) word later
 
 -- ---- notes
-
 -- the note is one of the list
 abbrev pub IsAmong : Note → List Note → Type 0
 IsAmong note [] = ⊥
@@ -68,7 +66,6 @@ pub record SomeNote (run : SharedRun) (views : List View) (name : Word) (has : N
   pub same : has note
 
 -- ---- the law
-
 -- The view at index i has made so many steps. A spent view says nothing of the steps that it had made.
 abbrev pub HasMade : SharedRun → List View → ℕ → ℕ → Type 0
 HasMade run views i steps = (steps ≡ 0) ⊎ ((view : View) × (get_elem? views i ≡ some view) × (view.run ≡ run → steps ≤ view.steps))
@@ -95,7 +92,6 @@ Empties run words views =
     → (last_zero view (ChildOf n side) ≡ 0) ⊎ SomeNote run views (ChildOf n side) (λ note. last_zero view (ChildOf n side) ≤ slice_index note.steps i)
 
 -- ---- one step
-
 -- The view notes no place of a child that it did not note before.
 abbrev pub FillsNoPlace : View → View → Type 0
 FillsNoPlace view then = (n : ℕ) (side : Bool) (note : Note) → HasNoted then note → IsNoteOf view.run (ChildOf n side) note → HasNoted view note

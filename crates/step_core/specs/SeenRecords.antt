@@ -8,7 +8,6 @@ use Rattle.step_core.specs.ViewTrees.{SeesPoint}
 use Rattle.step_core.specs.Views.{sees, setup_in, tree_seen}
 
 -- ---- the worker's own nodes
-
 -- node n stood already when the worker of this record handled its mark, by the worker's own records: the start, or a node that it placed
 abbrev pub is_own_node : View → Record → ℕ → Bool
 is_own_node view entry zero = true
@@ -29,7 +28,6 @@ pub record IsOwnNeighbour (view : View) (entry : Record) (class : ℕ) (p : Poin
   pub clear : Clear (setup_in view.run).space (point_of (tree_seen view).points i) p
 
 -- ---- outcomes
-
 -- The mark was placed at the point in hand, with the parent and the cost in hand. The segment to it from the nearest node m is clear, the class is
 -- that of a number of nodes between the own ones and the count seen, no own neighbour was a cheaper parent, and none is seen dearer than by way of the
 -- node. It was posted if it lies in a goal by which marks are skipped, and only then.

@@ -1,9 +1,9 @@
--- The tree in the words of a run to which several add: a node is present once it is linked, whatever its mark's record says. How far a mark in hand
--- has come, and which records it may get there.
-use Rattle.step_core.specs.Terms.{Claimed, Count, Counted, Counter, Half, Hand, Linked, List, Option, Outcome, Point, Pointed, Posted, SharedTree, Sizes}
-use Rattle.step_core.specs.Terms.{Stage, TreeState, Treed, Words, children_of_words, is_linked, is_placed, node_point_by, points_by, state_by, ℕ}
+-- How far a mark in hand has come, and which records it may get there.
+use Rattle.step_core.specs.Terms.{Claimed, Count, Counted, Counter, Half, Hand, Linked, List, Outcome, Point, Pointed, Posted, SharedTree, Sizes, Stage}
+use Rattle.step_core.specs.Terms.{TreeState, Treed, Words, children_of_words, is_linked, is_placed, node_point_by, points_by, state_by}
 use Rattle.std.specs.Prelude.{◌≡◌, ℕ, ◌==◌, ◌&&◌, Bool, true, false, Option, Some, None}
 
+-- ---- The tree in the words of a run to which several add: a node is present once it is linked, whatever its mark's record says.
 -- where node n stands, if it is linked
 abbrev pub linked_point : Sizes → Words → ℕ → Option Point
 linked_point sizes words = node_point_by (is_linked sizes words) words
@@ -21,6 +21,7 @@ abbrev pub shared_tree_of_words : Sizes → Words → SharedTree
 shared_tree_of_words sizes words =
     record { state = state_of_links sizes words; child = children_of_words words; counter = λ strip. words (Counter strip); count = words Count }
 
+-- ---- stages
 -- the point of its node is written
 abbrev pub has_point : Stage → Bool
 has_point Claimed = false

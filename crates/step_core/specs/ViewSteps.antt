@@ -11,7 +11,6 @@ abbrev pub place_in : View → Word → ℕ
 place_in view name = place_of (run_sizes view.run) name
 
 -- ---- loads
-
 -- One step more, on the word at this place: it was found so, and is left so.
 abbrev pub saw_at : View → ℕ → ℕ → ℕ → View
 saw_at view place found left = record view {
@@ -34,7 +33,6 @@ abbrev pub loaded : View → Word → ℕ → View
 loaded view name word = saw view name word word
 
 -- ---- notes
-
 -- how many steps each view has made
 abbrev pub steps_made : List View → List ℕ
 steps_made views = map (λ view. view.steps) views
@@ -65,7 +63,6 @@ abbrev pub last_note : View → List ℕ
 last_note view = (note_before view 0).steps
 
 -- ---- claims
-
 -- mark number c of strip g of a run
 abbrev pub mark_of : SharedRun → ℕ → ℕ → ℕ
 mark_of run g c = mark_by_strips run.strips g c
@@ -82,7 +79,6 @@ claimed view g c limit steps = record (noting (saw view (Counter g) c (c + 1)) (
 }
 
 -- ---- the best word
-
 -- a hand for whose mark nothing is written takes the best word that was loaded
 abbrev pub best_taken : Stage → Hand → ℕ → Hand
 best_taken Claimed hand word = record hand { best = Some word }
@@ -122,7 +118,6 @@ abbrev pub posted : View → ℕ → ℕ → List ℕ → View
 posted view n word steps = with_post view n (best_with view n word) steps
 
 -- ---- points, parents, links and counts
-
 -- The point of the node in hand is written, steered from node m. The pass does not see it as a word: only linked nodes are seen.
 abbrev pub pointed : View → Hand → ℕ → Point → View
 pointed view hand m p = record (stepped view) { hand = Some (record hand { stage = Pointed; nearest = m; point = p }) }
@@ -163,7 +158,6 @@ abbrev pub counted : View → Hand → ℕ → List ℕ → View
 counted view hand count steps = record (noting (stepped view) (place_in view Count) count steps) { hand = Some (record hand { stage = Counted }) }
 
 -- ---- costs and records
-
 -- The tree word of node n was the one seen last, and has this parent and this cost now, which is noted.
 abbrev pub lowered : View → ℕ → ℕ → ℕ → List ℕ → View
 lowered view n parent cost steps =
@@ -183,7 +177,6 @@ abbrev pub finished : View → ℕ → ℕ → View
 finished view k word = finished_at view (place_in view (RecordOf k)) word
 
 -- ---- splits
-
 -- a crew without its second, and its second alone
 abbrev pub without_second : List Member → List Member
 without_second [] = []
@@ -210,7 +203,6 @@ abbrev pub looker : View → View
 looker view = record (unlooked view) { crew = []; hand = None }
 
 -- ---- joins
-
 -- the later of what two tables say of each word
 abbrev pub merged : Sizes → List ℕ → List ℕ → List ℕ
 merged sizes one other =

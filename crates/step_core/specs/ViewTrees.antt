@@ -20,7 +20,6 @@ abbrev pub SeesPoint : View → ℕ → Point → Type 0
 SeesPoint view n p = StandsAt (tree_seen view).points n p
 
 -- ---- the mark in hand
-
 -- a step from node m, where that was seen, towards mark k leads to p
 pub record IsSteered (view : View) (k m : ℕ) (p : Point) : Type 0 where
   pub from : Point
@@ -38,7 +37,6 @@ pub record SeesHand (view : View) (hand : Hand) : Type 0 where
   pub posted : hand.stage ≡ Posted → IsTrue (is_goal_point view.run.goals (Some hand.point))
 
 -- ---- all that is seen
-
 -- A view sees its tree from node 0 on, and each node of a placed mark whose record it has seen, with its point and its first word.
 pub record SeesTree (view : View) : Type 0 where
   pub rooted : IsRooted (tree_seen view)
@@ -51,7 +49,6 @@ abbrev pub IsOnWayOf : View → Point → ℕ → ℕ → Type 0
 IsOnWayOf view p depth n = IsOnWay (tree_seen view).child (tree_seen view).points p depth n
 
 -- ---- parents and costs
-
 -- node n is seen at p, with a parent and this cost
 pub record SeesCost (view : View) (n : ℕ) (p : Point) (cost : ℕ) : Type 0 where
   pub stands : SeesPoint view n p
@@ -95,7 +92,6 @@ pub record IsSeenPair (view : View) (n : ℕ) : Type 0 where
   pub first : 2 ^ 63 ≤ sees view (FirstOf n) → cost_in (sees view (TreeOf n)) ≤ cost_in (sees view (FirstOf n))
 
 -- ---- steps
-
 -- It may load the count, the counters, and of the nodes that it has seen their points, children and tree words.
 abbrev pub MayLoad : View → Word → Type 0
 MayLoad view Count = Unit {0}

@@ -1,12 +1,10 @@
--- What the view of a pass says: its share, its hand, and the words that it has seen. The words are read by their names. How a shared run begins: with
--- one view, which has the share of all workers and has seen all words.
+-- What the view of a pass says: its share, its hand, and the words that it has seen. The words are read by their names.
 use Rattle.std.specs.Prelude.{◌≡◌, ℕ, ◌<◌, ◌≤◌, ◌==◌, Bool, false, Option, Some, None, List, [], count_by, length}
-use Rattle.step_core.specs.Terms.{Best, Hand, IsBounded, List, MOST_MARKS, MOST_STEERING_STEP, MOST_STRIPS, MOST_WORKERS, Member, None, SeenTree, SeenWords}
-use Rattle.step_core.specs.Terms.{Setup, SharedRun, Sizes, Task, View, Word, Words, [], length, map, mark_at, no_best, range_with_len, record_at, replicate}
-use Rattle.step_core.specs.Terms.{seen_tree_of_words, skipping_goals, space_among, space_of, turns_of, word_at, word_count, ℕ}
+use Rattle.step_core.specs.Terms.{Best, Hand, IsBounded, MOST_MARKS, MOST_STEERING_STEP, MOST_STRIPS, MOST_WORKERS, Member, SeenTree, SeenWords, Setup}
+use Rattle.step_core.specs.Terms.{SharedRun, Sizes, Task, View, Word, Words, map, mark_at, no_best, range_with_len, record_at, replicate, seen_tree_of_words}
+use Rattle.step_core.specs.Terms.{skipping_goals, space_among, space_of, turns_of, word_at, word_count}
 
 -- ---- the run
-
 -- what those are told who work on a task, from a run at this limit
 abbrev pub run_of : Task → ℕ → ℕ → SharedRun
 run_of task workers opening = record {
@@ -44,7 +42,6 @@ pub record IsSharedRun (run : SharedRun) : Type 0 where
   pub opening : run.opening ≤ length run.marks
 
 -- ---- share and hand
-
 -- for how many workers the pass stands
 abbrev pub share : View → ℕ
 share view = length view.crew
@@ -59,7 +56,6 @@ holds k None = false
 holds k (Some hand) = hand.mark == k
 
 -- ---- seen words
-
 -- each word as the pass last saw it
 abbrev pub sees : View → Words
 sees view = words_of_run view.run view.seen
@@ -94,7 +90,6 @@ pub record IsViewOf (run : SharedRun) (view : View) : Type 0 where
   pub zero_looks : (name : Word) → last_zero view name ≤ view.steps
 
 -- ---- spent views
-
 -- no run
 abbrev pub no_run : SharedRun
 no_run = record {
@@ -113,6 +108,7 @@ no_run = record {
 abbrev pub spent : View
 spent = record { run = no_run; crew = []; most = 0; hand = None; seen = []; best = no_best; took = []; steps = 0; looked = []; found_zero = []; notes = [] }
 
+-- ---- How a shared run begins: with one view, which has the share of all workers and has seen all words.
 -- a worker, whose next turn is the number of its records
 abbrev pub member_of : SharedRun → Words → ℕ → Member
 member_of run words w = record { worker = w; turn = turns_of (record_at words) (length run.marks) w }

@@ -15,7 +15,6 @@ use Rattle.step_core.specs.ViewTrees.{SeesTree}
 use Rattle.step_core.specs.Views.{IsSharedRun, IsViewOf, holds, run_sizes, sees, setup_in, share, spent, times, took_over, tree_seen}
 
 -- ---- all views
-
 -- each view has the property
 abbrev pub EachView : List View → (View → Type 0) → Type 0
 EachView views has = (i : ℕ) (view : View) → get_elem? views i ≡ some view → has view
@@ -38,7 +37,6 @@ abbrev pub greatest_limit : List View → ℕ
 greatest_limit views = maximum (map limit_of views)
 
 -- ---- claimed marks
-
 -- how many marks of each strip are claimed
 abbrev pub counters : Words → ℕ → ℕ
 counters words strip = words (Counter strip)
@@ -60,7 +58,6 @@ pub record ClaimedMarks (run : SharedRun) (words : Words) (views : List View) : 
   pub packed : (k : ℕ) → IsRecordWord (words (RecordOf k))
 
 -- ---- turns and shares
-
 -- The member's next turn is the number of its worker's records, and the view has seen them all.
 pub record IsMember (run : SharedRun) (words : Words) (view : View) (member : Member) : Type 0 where
   pub turn : member.turn ≡ turns_of (record_at words) (length run.marks) member.worker
@@ -78,7 +75,6 @@ pub record Shares (run : SharedRun) (views : List View) : Type 0 where
   pub idle : EachView views (λ view. share view ≡ 0 → view.hand ≡ None)
 
 -- ---- the linked tree and hands
-
 -- how many views have mark k in hand, at a stage that passes the test
 abbrev pub hands_at : (Stage → Bool) → ℕ → List View → ℕ
 hands_at test k views = sum_by (λ view. once_if (holds_at test k view.hand)) views
@@ -103,7 +99,6 @@ pub record Hands (words : Words) (views : List View) : Type 0 where
   pub blank : (k : ℕ) → is_recorded words k ≡ false → hands_at has_point k views ≡ 0 → words (PointOf (suc k)) ≡ 0
 
 -- ---- parents, costs and records
-
 -- the linked nodes with their costs and records
 abbrev pub state_in : SharedRun → Words → TreeState
 state_in run words = state_of_links (run_sizes run) words
@@ -143,7 +138,6 @@ pub record Records (run : SharedRun) (words : Words) : Type 0 where
   pub own_workers : (k : ℕ) (entry : Record) → record_at words k ≡ Some entry → run.opening ≤ k → entry.worker < run.workers
 
 -- ---- what was seen
-
 -- Each node may hang below the parent that a view has seen of it, at the cost that was seen, and cost no less than that when it was placed.
 abbrev pub SeenPairs : SharedRun → Words → List View → Type 0
 SeenPairs run words views = EachView views (λ view. view.run ≡ run → AreSeenLawfully (setup_in run) (tree_seen view) (state_in run words))
@@ -167,7 +161,6 @@ pub record SeenBehind (words : Words) (views : List View) : Type 0 where
   pub agree : EachView views (λ one. EachView views (λ other. Agree (sees one) (sees other)))
 
 -- ---- the best word
-
 -- There is no best, or it is a linked goal node, with a cost that fits its bits and is no less than that which the node has now.
 abbrev pub IsBestWord : SharedRun → Words → ℕ → Type 0
 IsBestWord run words word = word ≢ no_best → IsGoalNode run.goals (linked_points (run_sizes run) words) (best_node_in word)
@@ -193,7 +186,6 @@ abbrev pub SeenBests : SharedRun → Words → List View → Type 0
 SeenBests run words views = EachView views (λ view. view.run ≡ run → SeesBest run words view)
 
 -- ---- copies, and the law
-
 -- The words that tell of the run: its counters, its records, and the words of its linked nodes. The count is not among them: it follows from
 -- the rest. Nor is the best word, which views keep apart.
 abbrev pub IsTold : SharedRun → Words → Word → Type 0

@@ -1,10 +1,11 @@
--- Nodes that a search has found, as their records have them. The nodes near a new one, on whichever list of a pass they are, by number.
+-- The nodes near a new one, on whichever list of a pass they are, by number.
 use Rattle.std.specs.Prelude.{◌≡◌, ℕ, Contains, List, eqb, ◌⊎◌, ◌<◌, ◌≤◌, All}
 use Rattle.tree_rewire.specs.Terms.{Clear, ConfigurationSpace, Found, IsDistinct, IsPresent, Listed, Lists, NearNodes, PassState, Point, Searched, View}
 use Rattle.tree_rewire.specs.Terms.{cost_of, distance_to, numbers_of, point_of, tree_seen, tree_word, weighed}
 use Rattle.tree_rewire.specs.SeenCosts.{SeesPair, seen_cost_through}
 use Rattle.tree_rewire.specs.Spreads.{SeesKnot}
 
+-- ---- Nodes that a search has found, as their records have them.
 -- the pass, with another view and with other records of what its search found
 abbrev pub with_found : PassState → View → List Found → PassState
 with_found pass view found = record pass { view = view; lists = record pass.lists { search = record pass.lists.search { found = found } } }
@@ -26,6 +27,7 @@ pub record AreOf (found : List Found) (near : List ℕ) : Type 0 where
   pub all : (n : ℕ) → Contains near n → Contains (numbers_of found) n
   pub only : (n : ℕ) → Contains (numbers_of found) n → Contains near n
 
+-- ---- near nodes
 -- the nodes on the list
 abbrev pub nodes_on : NearNodes → Lists → List ℕ
 nodes_on Listed lists = lists.near
@@ -62,7 +64,6 @@ abbrev pub IsNextOf : ℕ → ℕ → ℕ → ℕ → Type 0
 IsNextOf low word next result = ((low < word) × (word < next) × (result ≡ word)) ⊎ ((low < word → next ≤ word) × (result ≡ next))
 
 -- ---- edges
-
 -- the edge of node n to p is clear
 abbrev pub IsClearTo : ConfigurationSpace → View → Point → ℕ → Type 0
 IsClearTo space view p n = Clear space (point_of (tree_seen view).points n) p

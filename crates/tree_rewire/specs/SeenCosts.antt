@@ -5,7 +5,6 @@ use Rattle.tree_rewire.specs.Terms.{Parent, PassState, Point, PointOf, SharedSta
 use Rattle.tree_rewire.specs.Terms.{point_of, sees, squared_distance, tree_seen, with_view}
 
 -- ---- costs
-
 -- node n is seen with its parent and its cost
 abbrev pub SeesPair : View → ℕ → Type 0
 SeesPair view n = 2 ^ 63 ≤ sees view (TreeOf n)
@@ -36,7 +35,6 @@ pub record IsInReach (view : View) (p : Point) (n : ℕ) : Type 0 where
   pub short : squared_distance (point_of (tree_seen view).points n) p ≤ view.run.step * view.run.step
 
 -- ---- steps
-
 -- the name is of no word
 abbrev pub NamesNothing : Word → Type 0
 NamesNothing name = ⊥

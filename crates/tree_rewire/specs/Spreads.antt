@@ -1,5 +1,4 @@
--- What is seen of a subtree after a cost was lowered: costs fall along parents, as far as the subtree was seen. When near nodes may be rewired, and
--- what is seen then of the nodes whose costs fell and of those below them. What a pass with the share of all workers sees: a tree of the textbook.
+-- What is seen of a subtree after a cost was lowered: costs fall along parents, as far as the subtree was seen.
 use Rattle.std.specs.Prelude.{◌≡◌, ◌≢◌, ◌⊎◌, ℕ, ◌+◌, ◌<◌, ◌≤◌, length, suc, true}
 use Rattle.tree_rewire.specs.Terms.{ChangesOnly, Clear, ConfigurationSpace, FirstOf, GoesOn, Hand, HasQueued, IsOn, IsPresent, Nodes, PassState, SeesPoint}
 use Rattle.tree_rewire.specs.Terms.{TreeOf, View, has_count, pair_in_hand, parent_of, point_at, point_of, points_of, sees, sum_of, tree_seen}
@@ -28,7 +27,6 @@ abbrev pub HasSettledChanges : View → View → Type 0
 HasSettledChanges before after = (n : ℕ) → sees after (TreeOf n) ≢ sees before (TreeOf n) → IsWithinSeenParent after n
 
 -- ---- exact costs, and steps that change one
-
 -- node n is seen with its point, its parent and its cost
 pub record SeesKnot (view : View) (n : ℕ) : Type 0 where
   pub stands : IsPresent (tree_seen view).points n
@@ -58,7 +56,6 @@ abbrev pub OnlyAt : ℕ → View → View → Type 0
 OnlyAt n before after = (m : ℕ) → m ≢ n → sees after (TreeOf m) ≡ sees before (TreeOf m)
 
 -- ---- a spread
-
 -- Node c is a child that is seen with its parent and its cost. It is settled, or its parent waits.
 pub record IsLooked (now : View) (waits : ℕ → Type 0) (c : ℕ) : Type 0 where
   pub child : 0 < c
@@ -88,6 +85,7 @@ abbrev pub QueuesFallen : PassState → PassState → Type 0
 QueuesFallen before after =
     (length after.lists.waiting ≤ length before.lists.waiting) ⊎ HasQueued before.view after.view after.lists.waiting (length before.view.run.marks + 1)
 
+-- ---- When near nodes may be rewired, and what is seen then of the nodes whose costs fell and of those below them.
 -- The node of mark k is in this hand, linked and counted. It is seen at its point, with its first cost, and with its parent and its cost.
 pub record HasPlaced (view : View) (k : ℕ) (hand : Hand) : Type 0 where
   pub mark : hand.mark ≡ k
@@ -122,6 +120,7 @@ abbrev pub HasSpreadFalls : ConfigurationSpace → (ℕ → Type 0) → ℕ → 
 HasSpreadFalls space near node before after =
     (n : ℕ) → IsInFall before after n → IsWithinParent after n ⊎ HangsElsewhere space near node before after n
 
+-- ---- What a pass with the share of all workers sees: a tree of the textbook.
 -- The nodes that the view sees are those of this tree, at the same points, with the same parents, and each costs its sum.
 pub record Mirrors (view : View) (tree : Nodes) : Type 0 where
   pub points : (n : ℕ) → point_at (tree_seen view).points n ≡ point_at (points_of tree) n

@@ -1,15 +1,12 @@
--- Bridges between two trees: allowed edges between a node of each, and the least of them. Bridges by the triples of what the way over them costs and
--- the numbers of their nodes. The search for the least bridge: the best one of the pairs that were looked at. A scene planned from its other end: it
--- starts in the middle of the first goal, and its goal is the old start. Two trees of a scene, from its start and from the middle of its first goal,
--- and the bridge between them. The report of two trees: the path over the bridge, and the counts of each.
+-- Two trees of a scene, from its start and from the middle of its first goal, and the bridge between them.
 use Rattle.std.specs.Prelude.{◌≡◌, ℕ, ◌+◌, ◌≤◌, Option, Some, None, ◌<◌, ◌^◌, List, All, Contains, IfSome, ◌/◌, IsTrue, [], ◌∷◌, slice_index_or, codes}
 use Rattle.std.specs.Prelude.{length, Bool, ◌==◌, ◌&&◌, ◌++◌, map, if◌then◌else◌}
-use Rattle.twin_trees.specs.Terms.{Bridge, Goal, Grown, IsAllowedEdge, IsBetween, IsClosed, IsOfTextbookRun, IsPresent, IsSettled, None, Numbered, Option}
-use Rattle.twin_trees.specs.Terms.{Point, Record, Scene, Setup, Some, StandsAt, TreeState, Twin, TwinFault, TwoRuns, are_goals, chain_in, cost_of}
-use Rattle.twin_trees.specs.Terms.{counts_line, mark_points, most_side, no_path_line, path_line, path_to, point_lines, point_of, setup_of, state_of_grown}
-use Rattle.twin_trees.specs.Terms.{sum_in, with_ends, ℕ}
+use Rattle.twin_trees.specs.Terms.{Bridge, Goal, Grown, IsAllowedEdge, IsBetween, IsClosed, IsOfTextbookRun, IsPresent, IsSettled, Numbered, Point, Record}
+use Rattle.twin_trees.specs.Terms.{Scene, Setup, StandsAt, TreeState, Twin, TwinFault, TwoRuns, are_goals, chain_in, cost_of, counts_line, mark_points}
+use Rattle.twin_trees.specs.Terms.{most_side, no_path_line, path_line, path_to, point_lines, point_of, setup_of, state_of_grown, sum_in, with_ends}
 use Rattle.twin_trees.specs.declared.twin_runs.TwinFault.TheVariants as faults
 
+-- ---- Bridges between two trees: allowed edges between a node of each, and the least of them.
 -- Node a of one tree and node b of another may be joined: both are present, and the segment between them is clear and no longer than the step.
 pub record IsCandidate (setup : Setup) (one other : TreeState) (a b : ℕ) : Type 0 where
   pub one_present : IsPresent one.points a
@@ -36,6 +33,7 @@ abbrev pub IsBridge : Setup → TreeState → TreeState → Option (ℕ × ℕ) 
 IsBridge setup one other None = (a b : ℕ) → ¬ IsCandidate setup one other a b
 IsBridge setup one other (Some pair) = IsLeastBridge setup one other pair.0 pair.1
 
+-- ---- Bridges by the triples of what the way over them costs and the numbers of their nodes.
 -- there is a bridge whose triple is not above this one
 abbrev pub IsMatched : Option Bridge → ℕ → ℕ → ℕ → Type 0
 IsMatched None cost c d = ⊥
@@ -45,6 +43,7 @@ IsMatched (Some bridge) cost c d = IsTripleNotAbove bridge.cost bridge.first bri
 abbrev pub IsNoWorse : Option Bridge → Option Bridge → Type 0
 IsNoWorse before after = (cost c d : ℕ) → IsMatched before cost c d → IsMatched after cost c d
 
+-- ---- The search for the least bridge: the best one of the pairs that were looked at.
 -- the numbered points are the nodes of a tree
 pub record AreNodes (state : TreeState) (nodes : List Numbered) : Type 0 where
   pub stand : All (λ n. StandsAt state.points n.number n.point) nodes
@@ -72,6 +71,7 @@ MayBeBestIn runs = MayBeBest (setup_of runs.first.now.task.scene) (state_of_grow
 abbrev pub MatchesIn : TwoRuns → Option Bridge → ℕ → ℕ → Type 0
 MatchesIn runs = Matches (setup_of runs.first.now.task.scene) (state_of_grown runs.first.now) (state_of_grown runs.second.now)
 
+-- ---- A scene planned from its other end: it starts in the middle of the first goal, and its goal is the old start.
 -- the middle of a box, rounded down
 abbrev pub middle_of : Goal → Point
 middle_of goal = record { x = (goal.low.x + goal.high.x) / 2; y = (goal.low.y + goal.high.y) / 2 }
@@ -98,6 +98,7 @@ pub record IsTurnedRound (scene turned : Scene) : Type 0 where
   pub goals_within : IsTrue (are_goals scene.version (start_boxes scene))
   pub is : turned ≡ with_ends scene (goal_middle scene) start_within (start_boxes scene) goals_within
 
+-- ---- twins
 -- A run of a scene over all of its marks, each with a record: it keeps the closed law, and each cost is the cost-to-come. Its marks were
 -- handled by so many workers at most, numbered from 0. By one worker it is the textbook run of the scene.
 pub record IsWholeRun (workers : ℕ) (scene : Scene) (grown : Grown) : Type 0 where
@@ -127,6 +128,7 @@ abbrev pub fault_message : TwinFault → List ℕ
 fault_message faults.GoalBlocked = codes "the middle of the first goal is not clear"
 fault_message faults.Memory = codes "out of memory"
 
+-- ---- The report of two trees: the path over the bridge, and the counts of each.
 -- two points are the same
 abbrev pub is_same_point : Point → Point → Bool
 is_same_point p q = (p.x == q.x) && (p.y == q.y)

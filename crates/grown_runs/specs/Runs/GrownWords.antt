@@ -8,7 +8,6 @@ use Rattle.grown_runs.specs.Table.WordPlaces.{Sizes, word_at}
 use Rattle.grown_runs.specs.Table.Words.{point_of_word, point_in, point_word, parent_in, cost_in, tree_word, record_of_word, record_word}
 
 -- ---- records and points
-
 -- the record of mark k, with the first word of its node
 abbrev pub record_at : Words → ℕ → Option Record
 record_at words k = record_of_word (words (RecordOf k)) (words (FirstOf (suc k)))
@@ -19,7 +18,6 @@ has_placed None = false
 has_placed (Some entry) = is_placed entry.outcome
 
 -- ---- which nodes are present
-
 -- By its record a node is present if it is the start, or its mark was placed. That a point is written says nothing.
 abbrev pub has_node : Words → ℕ → Bool
 has_node words zero = true
@@ -39,7 +37,6 @@ pub data IsLinked (words : Words) : ℕ → Type 0 where
   below : (m k : ℕ) (side : Bool) → IsLinked words m → words (ChildOf m side) ≡ suc k → IsLinked words (suc k)
 
 -- ---- the tree
-
 -- where node n stands, if it is present by this test
 abbrev pub node_point_by : (ℕ → Bool) → Words → ℕ → Option Point
 node_point_by present words n = if present n then point_of_word (words (PointOf n)) else None
@@ -69,7 +66,6 @@ abbrev pub state_of_words : Sizes → Words → TreeState
 state_of_words sizes words = state_by (has_node words) sizes words
 
 -- ---- the kd-tree
-
 -- the child that a word names; 0 names none
 abbrev pub child_of_word : ℕ → Option ℕ
 child_of_word zero = None
@@ -80,7 +76,6 @@ abbrev pub children_of_words : Words → Children
 children_of_words words n side = child_of_word (words (ChildOf n side))
 
 -- ---- closed runs
-
 -- the word of a point, with no other bit set
 abbrev pub IsPointWord : ℕ → Type 0
 IsPointWord word = word ≡ point_word (point_in word)

@@ -1,5 +1,4 @@
--- A run that is given by lists of nodes and of records, and its words. The best word that workers on a run begin with. What the words of a closed run
--- keep has one proof at most, so a run keeps it as it is.
+-- A run that is given by lists of nodes and of records, and its words.
 use Rattle.std.specs.Prelude.{◌≡◌, ℕ, zero, suc, ◌+◌, ◌<◌, ◌≤◌, ◌^◌, Option, Some, None, List, length, slice_get, slice_index_or, ◌≢◌}
 use Rattle.grown_runs.specs.Terms.{FollowWays-prop, Goal, IsBounded, IsClosed-prop, IsGoalNode, Knot, Placed, Record, Task, TreeState, node_count, parent_of}
 use Rattle.grown_runs.specs.Terms.{points_of, props, quota_of, without_costs}
@@ -10,7 +9,6 @@ use Rattle.grown_runs.specs.Table.Words.{FitsWord, point_word, tree_word, record
 use Rattle.grown_runs.specs.Runs.GrownWords.{HoldRun}
 
 -- ---- lists
-
 -- the kept cost of a present node
 abbrev pub kept_cost_of : Option Knot → ℕ
 kept_cost_of None = 0
@@ -31,7 +29,6 @@ abbrev pub IsKnot : List (Option Knot) → ℕ → Knot → Type 0
 IsKnot knots n knot = slice_get knots n ≡ Some (Some knot)
 
 -- ---- what fits
-
 -- the node has a number up to that of the last mark, and its words hold it
 pub record FitsNode (sizes : Sizes) (n : ℕ) (knot : Knot) : Type 0 where
   pub within : n ≤ sizes.marks
@@ -52,7 +49,6 @@ pub record FitWords (sizes : Sizes) (knots : List (Option Knot)) (records : List
   pub records_fit : (k : ℕ) (entry : Record) → slice_get records k ≡ Some entry → FitsRecord entry
 
 -- ---- what words hold
-
 -- the point and the tree word of node n
 pub record HoldsNode (words : Words) (n : ℕ) (knot : Knot) : Type 0 where
   pub point : words (PointOf n) ≡ point_word knot.point
@@ -113,11 +109,13 @@ pub record HoldLists (sizes : Sizes) (knots : List (Option Knot)) (records : Lis
   pub no_knot : (n : ℕ) → ¬ HasKnot knots n → (words (PointOf n) ≡ 0) × (words (TreeOf n) ≡ 0)
   pub no_first : (k : ℕ) → ((entry : Record) → slice_get records k ≡ Some entry → ¬ (entry.outcome ≡ Placed)) → words (FirstOf (suc k)) ≡ 0
 
+-- ---- The best word that workers on a run begin with.
 -- The word is the least pair of kept cost and number of the goal nodes of a tree, or says that there is none.
 pub record IsLeastBest (goals : List Goal) (state : TreeState) (word : ℕ) : Type 0 where
   pub pair : word ≢ no_best → IsGoalNode goals state.points (best_node_in word) × (state.cost (best_node_in word) ≡ best_cost_in word)
   pub least : (n : ℕ) → IsGoalNode goals state.points n → word ≤ best_word (state.cost n) n
 
+-- ---- What the words of a closed run keep has one proof at most, so a run keeps it as it is.
 pub HoldRun-prop : (task : Task) (limit : ℕ) (words : Words) → IsProp (HoldRun task limit words)
 HoldRun-prop task limit words = hlevel (props, IsClosed-prop, FollowWays-prop)
 

@@ -1,4 +1,4 @@
--- The words in the list of a run by their names. Words of numbers without a node, while they are cleared one number after another.
+-- The words in the list of a run by their names.
 use Rattle.grown_runs.specs.Table.PlacesOfWords.{sizes_in}
 use Rattle.grown_runs.specs.Table.WordNames.{Words, Word, ChangesOnly}
 use Rattle.grown_runs.specs.Table.WordPlaces.{word_at}
@@ -10,6 +10,7 @@ use Rattle.grown_runs.specs.Runs.GrownWords.{has_node, IsBlank}
 abbrev pub words_in : RunWords → Words
 words_in words = word_at (sizes_in words.places) words.list.items
 
+-- ---- Words of numbers without a node, while they are cleared one number after another.
 -- the point, the tree word and the first word of these numbers
 abbrev pub IsNodeWord : (ℕ → Type 0) → Word → Type 0
 IsNodeWord which (PointOf node) = which node

@@ -8,7 +8,6 @@ use Rattle.grown_runs.specs.Table.WordPlaces.{Sizes}
 use Rattle.grown_runs.specs.Table.Words.{point_of_word, tree_of_word, record_of_word}
 
 -- ---- the tree that seen words say
-
 -- where a node was seen
 abbrev pub seen_point : Words → ℕ → Option Point
 seen_point seen n = point_of_word (seen (PointOf n))
@@ -41,7 +40,6 @@ sight_of_words sizes table =
     record { seen = seen_tree_of_words sizes table.seen; steps = table.steps; found_empty = λ n side. table.found_zero (ChildOf n side) }
 
 -- ---- looks
-
 -- the point, a child or the tree word of a node is looked at if the node was seen, and any other word at any time
 abbrev pub MayLookAt : SeenTree → Word → Type 0
 MayLookAt seen (PointOf n) = IsSeen seen n

@@ -46,7 +46,6 @@ abbrev pub AreBehind : Words → Words → Type 0
 AreBehind words later = (name : Word) → MayBecome (kind_of name) (words name) (later name)
 
 -- ---- two tables
-
 -- of two words of a kind that may both become one word, the later
 abbrev pub later_word : WordKind → ℕ → ℕ → ℕ
 later_word Rising one other = max one other

@@ -18,7 +18,6 @@ abbrev pub Words : Type 0
 Words = Word → ℕ
 
 -- ---- changes
-
 -- no word changes but these
 abbrev pub ChangesOnly : (Word → Type 0) → Words → Words → Type 0
 ChangesOnly which before after = (name : Word) → ¬ which name → after name ≡ before name

@@ -8,7 +8,6 @@ abbrev pub if_written : {A : Type 0} → ℕ → A → Option A
 if_written word value = if nat_lt word (2 ^ 63) then None else Some value
 
 -- ---- points
-
 -- a point as a word: y above the 20 bits of x
 abbrev pub point_word : Point → ℕ
 point_word p = 2 ^ 63 + p.y * 2 ^ 20 + p.x
@@ -22,7 +21,6 @@ abbrev pub point_of_word : ℕ → Option Point
 point_of_word word = if_written word (point_in word)
 
 -- ---- parents and costs
-
 -- a parent and a cost as a word: the cost above the 18 bits of the parent
 abbrev pub tree_word : ℕ → ℕ → ℕ
 tree_word parent cost = 2 ^ 63 + cost * 2 ^ 18 + parent
@@ -40,7 +38,6 @@ abbrev pub tree_of_word : ℕ → Option (ℕ × ℕ)
 tree_of_word word = if_written word (parent_in word, cost_in word)
 
 -- ---- the best cost
-
 -- the best word while no goal node is known
 abbrev pub no_best : ℕ
 no_best = 2 ^ 64 - 1
@@ -62,7 +59,6 @@ abbrev pub best_of_word : ℕ → Option (ℕ × ℕ)
 best_of_word word = if word == no_best then None else Some (best_node_in word, best_cost_in word)
 
 -- ---- records
-
 -- the last field of a record's word: the class of a placed mark, the node of one that ended at a node, 0 of a blocked or a skipped one
 abbrev pub last_field : Outcome → ℕ → ℕ
 last_field Placed class = class

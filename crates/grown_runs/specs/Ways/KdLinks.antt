@@ -1,6 +1,4 @@
--- The sides of a node in a kd-tree by whether its children are split by row, as at odd depth, or by column, as at even depth. Where a walk along the
--- way of a point has come to. Which of two nodes is nearer to a point. The links of a kd-tree while nodes are linked in rising number. Ways over
--- nodes that are linked in rising number.
+-- The links of a kd-tree while nodes are linked in rising number.
 use Rattle.std.specs.Prelude.{ℕ, ◌%◌, ◌==◌, not, Bool, if◌then◌else◌, ◌≡◌, ◌⊎◌, ◌+◌, ◌<◌, ◌≤◌, nat_lt, is_some, Option, Some, None, List, map}
 use Rattle.grown_runs.specs.Terms.{AreDistinct, Children, FollowWays, IsOnWay, IsPairNotAbove, IsPresent, IsSeen, MOST_MARKS, MOST_NODES, MeasuredNode, Point}
 use Rattle.grown_runs.specs.Terms.{SeenTree, StandsAt, Stop, abs_diff, arith, count_by-le-length, depth_below, goes_right, length-map-range_with_len}
@@ -10,6 +8,7 @@ use Rattle.grown_runs.specs.Table.WordPlaces.{Sizes}
 use Rattle.grown_runs.specs.Table.SeenWords.{seen_tree_of_words}
 use Rattle.grown_runs.specs.Runs.GrownWords.{node_point, points_of_words, children_of_words}
 
+-- ---- The sides of a node in a kd-tree by whether its children are split by row, as at odd depth, or by column, as at even depth.
 -- whether the children of nodes at this depth are split by row
 abbrev pub is_by_rows : ℕ → Bool
 is_by_rows depth = not (depth % 2 == 0)
@@ -22,6 +21,7 @@ goes_right_by by_rows p q = goes_right (if by_rows then 1 else 0) p q
 abbrev pub split_distance : Bool → Point → Point → ℕ
 split_distance by_rows p q = if by_rows then abs_diff p.y q.y else abs_diff p.x q.x
 
+-- ---- Where a walk along the way of a point has come to.
 -- the side on which the way of p leads on
 abbrev pub side_of : Stop → Point → Bool
 side_of stop p = goes_right_by stop.by_rows stop.here p
@@ -33,6 +33,7 @@ pub record StopsAt (tree : SeenTree) (p : Point) (stop : Stop) : Type 0 where
   pub stands : StandsAt tree.points stop.node stop.here
   pub by_rows_is : stop.by_rows ≡ is_by_rows stop.depth
 
+-- ---- Which of two nodes is nearer to a point.
 -- the pair of distance and number of the one is not above that of the other
 abbrev pub IsNotFurther : MeasuredNode → MeasuredNode → Type 0
 IsNotFurther one other = IsPairNotAbove one.distance one.node other.distance other.node
@@ -43,6 +44,7 @@ pub record IsNearerOf (one other nearer : MeasuredNode) : Type 0 where
   pub before : IsNotFurther nearer one
   pub one_more : IsNotFurther nearer other
 
+-- ---- kd links
 -- where the nodes below number m stand, as if there were no others
 abbrev pub points_below : Sizes → Words → ℕ → List (Option Point)
 points_below sizes words m = map (λ n. if nat_lt n m then node_point words n else None) (range_with_len 0 (sizes.marks + 1))
@@ -78,6 +80,7 @@ pub record AreUnlinked (sizes : Sizes) (words : Words) (has : ℕ → Bool) : Ty
   pub same : (n : ℕ) → is_some (point_at (points_of_words sizes words) n) ≡ has n
   pub no_child : (n : ℕ) (side : Bool) → children_of_words words n side ≡ None
 
+-- ---- Ways over nodes that are linked in rising number.
 -- none is longer than there are nodes
 pub linked_ways_are_short : (sizes : Sizes) (words : Words) (m : ℕ) → sizes.marks ≤ MOST_MARKS → AreLinkedBelow sizes words m
     → (q : Point) (depth n : ℕ) → IsOnWay (children_of_words words) (points_below sizes words m) q depth n → depth < MOST_NODES

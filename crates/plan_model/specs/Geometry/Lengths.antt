@@ -1,10 +1,10 @@
--- Square roots of whole numbers, rounded up. The cost of an edge, in 256ths of a lattice step. The class of a number of nodes, and the radius within
--- which nodes are near (the radius of RRT*, in whole numbers). Steering from a node towards a mark by at most a step (Steer of RRT*).
+-- Lengths in the plane: whole roots, costs of edges, steering, and the radius within which nodes are near.
 use Rattle.std.specs.Prelude.{ℕ, zero, suc, ◌*◌, ◌≤◌, nat_lt, if◌then◌else◌, ◌-◌, ◌^◌, nat_le, Bool, length, pos, ◌+ℤ◌, ◌-ℤ◌, ◌*ℤ◌, int_div, unsigned_abs}
 use Rattle.plan_model.specs.Terms.{Point}
 use Rattle.plan_model.specs.Geometry.Plane.{squared_distance, IsInBoxOf}
 use Rattle.std.specs.Int.Digits.{digits_of}
 
+-- ---- Square roots of whole numbers, rounded up.
 -- r is the least number whose square is at least n
 pub record IsRootCeiling (n r : ℕ) : Type 0 where
   pub reaches : n ≤ r * r
@@ -15,6 +15,7 @@ unfoldable pub root_ceiling : ℕ → ℕ
 root_ceiling zero = 0
 root_ceiling (suc n) = if nat_lt (root_ceiling n * root_ceiling n) (suc n) then suc (root_ceiling n) else root_ceiling n
 
+-- ---- The cost of an edge, in 256ths of a lattice step.
 -- c is the least whole number with c * c ≥ 65536 * |ab| ^ 2: 256 times the length, rounded up
 abbrev pub IsCost : Point → Point → ℕ → Type 0
 IsCost a b c = IsRootCeiling (65536 * squared_distance a b) c
@@ -23,6 +24,7 @@ IsCost a b c = IsRootCeiling (65536 * squared_distance a b) c
 abbrev pub cost_of : Point → Point → ℕ
 cost_of a b = root_ceiling (65536 * squared_distance a b)
 
+-- ---- The class of a number of nodes, and the radius within which nodes are near (the radius of RRT*, in whole numbers).
 -- how many binary digits n has
 abbrev pub class_of : ℕ → ℕ
 class_of n = length (digits_of 2 n)
@@ -40,6 +42,7 @@ radius_of_class step gamma b = greatest (λ r. nat_le (r * r * 2 ^ (b - 1)) (gam
 abbrev pub radius_of : ℕ → ℕ → ℕ → ℕ
 radius_of step gamma n = radius_of_class step gamma (class_of n)
 
+-- ---- Steering from a node towards a mark by at most a step (Steer of RRT*).
 -- p is at most a step away from a, and lies in the box of a and b
 pub record IsStep (a b : Point) (step : ℕ) (p : Point) : Type 0 where
   pub short : squared_distance a p ≤ step * step

@@ -1,9 +1,9 @@
--- Points whose distances fit 64 bits, and boxes of them. Distances between points, and orientations of corners. Lengths are in lattice steps.
--- Polygons whose corners are strictly convex and counterclockwise.
+-- Distances between points, and orientations of corners. Lengths are in lattice steps.
 use Rattle.std.specs.Prelude.{◌≤◌, ℕ, ◌+◌, ◌*◌, min, max, ℤ, ◌-ℤ◌, ◌*ℤ◌, ◌==◌, nat_le, ◌&&◌, ◌||◌, Bool, pos, int_lt, List, length, if◌then◌else◌}
 use Rattle.std.specs.Prelude.{slice_index_or}
 use Rattle.plan_model.specs.Terms.{Goal, MOST_COORDINATE, Point, Vertex, abs_diff, list_all, range_with_len}
 
+-- ---- Points whose distances fit 64 bits, and boxes of them.
 -- neither coordinate is above the greatest one
 pub record IsBounded (p : Point) : Type 0 where
   pub right : p.x ≤ MOST_COORDINATE
@@ -15,6 +15,7 @@ pub record IsBoundedBox (goal : Goal) : Type 0 where
   pub up : goal.low.y ≤ goal.high.y
   pub high : IsBounded goal.high
 
+-- ---- plane
 -- the square of the distance between two points
 abbrev pub squared_distance : Point → Point → ℕ
 squared_distance a b = abs_diff a.x b.x * abs_diff a.x b.x + abs_diff a.y b.y * abs_diff a.y b.y
@@ -30,6 +31,7 @@ pub record IsInBoxOf (a b p : Point) : Type 0 where
 abbrev pub orientation : Vertex → Vertex → Vertex → ℤ
 orientation a b c = ((b.x -ℤ a.x) *ℤ (c.y -ℤ a.y)) -ℤ ((b.y -ℤ a.y) *ℤ (c.x -ℤ a.x))
 
+-- ---- Polygons whose corners are strictly convex and counterclockwise.
 -- the corner with this number
 abbrev pub corner_at : List Vertex → ℕ → Vertex
 corner_at corners i = slice_index_or corners i (record { x = pos 0; y = pos 0 })

@@ -15,7 +15,6 @@ abbrev pub line : List (List ℕ) → List ℕ
 line words = join_with_byte 32 words ++ 10 ∷ []
 
 -- ---- the path
-
 -- how many points a path has, and what it costs
 abbrev pub path_line : List Point → ℕ → List ℕ
 path_line path cost = line (codes "path" ∷ decimal (length path) ∷ codes "cost" ∷ decimal cost ∷ [])
@@ -47,7 +46,6 @@ best_path state None = []
 best_path state (Some n) = path_to state n
 
 -- ---- the counts
-
 -- how many of the marks below the limit were skipped, in words, if the scene is informed
 abbrev pub skipped_words : Bool → ℕ → (ℕ → Option Record) → List (List ℕ)
 skipped_words false limit record_of = []
@@ -62,7 +60,6 @@ counts_line scene limit state = line (
     ∷ codes "blocked" ∷ decimal (outcome_count state.record_of limit is_blocked) ∷ skipped_words scene.informed limit state.record_of)
 
 -- ---- nodes and marks
-
 -- node n at p with its parent and its sum
 abbrev pub node_line : TreeState → ℕ → Point → List ℕ
 node_line state n p = line (codes "node" ∷ decimal n ∷ codes "at" ∷ decimal p.x ∷ decimal p.y
@@ -104,7 +101,6 @@ abbrev pub mark_lines : ℕ → TreeState → List ℕ
 mark_lines limit state = flat_map (λ k. mark_line_if_recorded k (state.record_of k)) (range_with_len 0 limit)
 
 -- ---- the reports
-
 -- The short report: the best path, or that there is none, and the counts.
 abbrev pub short_report : Scene → ℕ → TreeState → List ℕ
 short_report scene limit state =

@@ -1,5 +1,4 @@
--- The record law: what the record of a mark says is borne out by the tree, whoever handled the mark and whatever others did meanwhile. The closed
--- law: what a run has when no mark is being handled. Each mark below its limit has one record, and each record is lawful.
+-- The closed law: what a run has when no mark is being handled. Each mark below its limit has one record, and each record is lawful.
 use Rattle.std.specs.Prelude.{◌≢◌, ℕ, zero, suc, ◌+◌, ◌==◌, ◌<◌, ◌≤◌, nat_lt, ◌&&◌, Bool, true, false, IsTrue, Option, Some, None, length, filter, ◌≡◌}
 use Rattle.std.specs.Prelude.{IsSome, is_some, List, count_by, slice_index_or}
 use Rattle.plan_model.specs.Terms.{MOST_WORKERS, Outcome, Point, range_with_len}
@@ -15,8 +14,8 @@ use Rattle.plan_model.specs.Runs.Endings.{FirstHanging, Reached, NewNode, SameNo
 use Rattle.plan_model.specs.Runs.OrderLaw.{Hangs, most_cost_of, KeepsOrder, AreTurns}
 use Rattle.plan_model.specs.Runs.Textbook.{Setup, mark_bound}
 
+-- ---- The record law: what the record of a mark says is borne out by the tree, whoever handled the mark and whatever others did meanwhile.
 -- ---- the nodes that the same worker placed earlier
-
 -- a record of a placed mark that the same worker handled in an earlier turn
 abbrev pub is_earlier_record : Record → Option Record → Bool
 is_earlier_record entry None = false
@@ -36,7 +35,6 @@ abbrev pub earlier_count : TreeState → Record → ℕ
 earlier_count state entry = length (filter (is_earlier state entry) (range_with_len 0 (length state.points)))
 
 -- ---- placed marks
-
 -- Node i is a neighbour of a new node at p: an earlier node within the radius of its class, with a clear edge.
 pub record IsNeighbour (setup : Setup) (state : TreeState) (entry : Record) (class : ℕ) (p : Point) (i : ℕ) : Type 0 where
   pub earlier : IsEarlier state entry i
@@ -77,7 +75,6 @@ pub record IsPlacedLawfully (setup : Setup) (state : TreeState) (k : ℕ) (entry
   pub by_tree : HangsLawfully setup state k m first p
 
 -- ---- the law
-
 -- the segment to p from the nearest node m is not clear, and no earlier node stands at p
 pub record IsBlockedLawfully (setup : Setup) (state : TreeState) (entry : Record) (m : ℕ) (p : Point) : Type 0 where
   pub blocked : ¬ Clear setup.space (point_of state.points m) p
@@ -111,6 +108,7 @@ HasLawfulEnding setup state k mark entry (SkippedBy goal_node) = IsSkippedLawful
 abbrev pub IsLawfulRecord : Setup → TreeState → ℕ → Point → Record → Type 0
 IsLawfulRecord setup state k mark entry = HasLawfulEnding setup state k mark entry (ending_of entry)
 
+-- ---- closed law
 -- the point of mark k (asked only of marks below the limit)
 abbrev pub mark_at : List Point → ℕ → Point
 mark_at marks k = slice_index_or marks k (record { x = 0; y = 0 })

@@ -21,7 +21,6 @@ pub data Ending : Type 0 where
   SkippedBy : (goal_node : ℕ) → Ending
 
 -- ---- from the record
-
 -- what the node of a placed mark was given first
 abbrev pub first_hanging : Record → FirstHanging
 first_hanging entry = record { parent = entry.first_parent; cost = entry.first_cost; class = entry.class }
@@ -37,7 +36,6 @@ abbrev pub ending_of : Record → Ending
 ending_of entry = ending_as entry entry.outcome
 
 -- ---- and back
-
 -- three zeros go with any outcome
 abbrev pub zeros : (outcome : Outcome) → IsTrue (is_zero_unless_placed outcome 0 0 0)
 zeros Placed = refl

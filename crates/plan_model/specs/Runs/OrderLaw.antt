@@ -1,5 +1,4 @@
--- The order law: what a tree with kept costs keeps at every moment. Costs strictly fall along parents, so there is no cycle. The turns of workers, by
--- the records of their marks. Those of each worker run from 0, which is an equation of counts.
+-- The order law: what a tree with kept costs keeps at every moment. Costs strictly fall along parents, so there is no cycle.
 use Rattle.std.specs.Prelude.{◌≡◌, ◌≢◌, ℕ, suc, ◌+◌, ◌-◌, ◌*◌, ◌≤◌, ◌==◌, nat_lt, ◌&&◌, Bool, false, Option, Some, None, count_by, if◌then◌else◌}
 use Rattle.plan_model.specs.Terms.{Point, range_with_len}
 use Rattle.plan_model.specs.Spaces.Clearance.{Clear, ClearAt}
@@ -46,8 +45,8 @@ pub record KeepsFirstCosts (setup : Setup) (state : TreeState) : Type 0 where
   pub kept : (n : ℕ) → IsPresent state.points n → state.cost n ≤ first_cost_of state n
   pub bounded : (n : ℕ) → IsPresent state.points n → first_cost_of state n ≤ most_cost_of setup (node_count state.points)
 
+-- ---- The turns of workers, by the records of their marks. Those of each worker run from 0, which is an equation of counts.
 -- ---- counts
-
 -- the record is there, and is this worker's
 abbrev pub is_of_worker : ℕ → Option Record → Bool
 is_of_worker worker None = false
@@ -67,7 +66,6 @@ abbrev pub times_of : (ℕ → Option Record) → ℕ → ℕ → ℕ → ℕ
 times_of record_of limit worker turn = count_by (λ k. is_of_turn worker turn (record_of k)) (range_with_len 0 limit)
 
 -- ---- turns
-
 -- 1 if the test passes, else 0
 abbrev pub once_if : Bool → ℕ
 once_if test = if test then 1 else 0

@@ -1,6 +1,5 @@
 -- The textbook run: RRT* as in Karaman and Frazzoli, IJRR 2011, algorithm 6, one mark after another. Where there are goals by which marks are
--- skipped, a mark over which no path could be cheaper than the best one is skipped. Records with the same fields, scenes whose textbook runs have the
--- same inputs, and trees that a textbook run ends with.
+-- skipped, a mark over which no path could be cheaper than the best one is skipped.
 use Rattle.std.specs.Prelude.{◌≡◌, ℕ, suc, ◌+◌, ◌<◌, ◌≤◌, ◌⊎◌, Option, Some, None, List, [], ◌∷◌, ◌++◌, slice_set, if◌then◌else◌}
 use Rattle.plan_model.specs.Terms.{ConfigurationSpace, Goal, Point, Twig}
 use Rattle.plan_model.specs.declared.scenes.Scene.{Scene}
@@ -41,7 +40,6 @@ abbrev pub start_alone : Point → Nodes
 start_alone start = Some (record { point = start; parent = 0 }) ∷ []
 
 -- ---- the parent of a new node
-
 -- the cost of reaching p through node i
 abbrev pub cost_through : Nodes → Point → ℕ → ℕ
 cost_through tree p i = cost_through_by (sum_of tree) (points_of tree) p i
@@ -59,7 +57,6 @@ abbrev pub IsBestParent : Setup → Nodes → ℕ → Point → ℕ → Type 0
 IsBestParent setup tree nearest p f = IsFirstLeast (cost_through tree p) (IsCandidate setup (points_of tree) nearest p) f
 
 -- ---- rewiring
-
 -- the way through node n to node i is strictly cheaper than the way that i has, and the edge is clear
 pub record IsCheaperThrough (space : ConfigurationSpace) (tree : Nodes) (n i : ℕ) : Type 0 where
   pub cheaper : cost_through tree (point_of (points_of tree) i) n < sum_of tree i
@@ -80,7 +77,6 @@ Rewires space tree n [] after = after ≡ tree
 Rewires space tree n (i ∷ near) after = (between : Nodes) × RewiresOne space tree n i between × Rewires space between n near after
 
 -- ---- skipping
-
 -- the bound of a mark, by the goals by which marks are skipped
 abbrev pub mark_bound : Setup → Point → ℕ
 mark_bound setup mark = bound_of setup.start setup.goals mark
@@ -94,7 +90,6 @@ abbrev pub IsBestGoalNode : Setup → Nodes → ℕ → Type 0
 IsBestGoalNode setup tree g = IsFirstLeast (sum_of tree) (IsGoalNode setup.goals (points_of tree)) g
 
 -- ---- one mark
-
 -- m is the nearest node to the mark, and steers towards it to p
 pub record SteersTo (setup : Setup) (points : List (Option Point)) (mark : Point) (m : ℕ) (p : Point) : Type 0 where
   pub nearest : IsNearest points mark m
@@ -145,7 +140,6 @@ pub record Handles (setup : Setup) (tree : Nodes) (k : ℕ) (mark : Point) (entr
   pub ends : Ends setup tree k mark (ending_of entry) after
 
 -- ---- whole runs
-
 -- The marks from mark k on are handled, one after another.
 abbrev pub HandlesAll : Setup → ℕ → Nodes → List Point → List Record → Nodes → Type 0
 HandlesAll setup k tree [] [] after = after ≡ tree
@@ -157,6 +151,7 @@ HandlesAll setup k tree marks entries after = ⊥
 abbrev pub IsTextbookRun : Setup → List Point → Nodes → List Record → Type 0
 IsTextbookRun setup marks tree records = HandlesAll setup 0 (start_alone setup.start) marks records tree
 
+-- ---- Records with the same fields, scenes whose textbook runs have the same inputs, and trees that a textbook run ends with.
 -- two records say the same of a mark
 pub record HaveSameFields (one other : Record) : Type 0 where
   pub worker : one.worker ≡ other.worker

@@ -7,7 +7,6 @@ use Rattle.plan_model.specs.Terms.{MOST_STEP_OF_VERSION_2, Marks, Point, Vertex,
 use Rattle.plan_model.specs.Geometry.Plane.{is_strictly_convex}
 
 -- ---- the limits that differ
-
 -- the first value in version 1, and the second one in version 2
 abbrev pub by_version : {A : Type 0} → ℕ → A → A → A
 by_version version first second = if version == 1 then first else second
@@ -37,7 +36,6 @@ abbrev pub most_clearance : ℕ → ℕ
 most_clearance version = by_version version 0 MOST_CLEARANCE
 
 -- ---- the fields
-
 -- both coordinates are between low and high
 pub record IsBetween (low high : ℕ) (p : Point) : Type 0 where
   pub left : low ≤ p.x

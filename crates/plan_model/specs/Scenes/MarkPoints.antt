@@ -1,4 +1,4 @@
--- The mark points (the samples) of a scene. The columns and the rows of the room of configurations, side by side.
+-- The mark points (the samples) of a scene.
 use Rattle.std.specs.Prelude.{◌≡◌, ℕ, ◌+◌, ◌-◌, ◌*◌, ◌/◌, ◌%◌, ◌^◌, ◌==◌, ◌<◌, ◌≤◌, nat_lt, ℤ, pos, negsuc, max, bit_xor, Bool, List, map, if◌then◌else◌}
 use Rattle.plan_model.specs.Terms.{Drawn, Listed, Marks, Point, RoomSpans, Span, Vertex, count_by, fold, range_with_len}
 use Rattle.plan_model.specs.declared.scenes.Scene.{Scene}
@@ -108,6 +108,7 @@ pub record IsMarkOf (strips limit k g c : ℕ) : Type 0 where
 abbrev pub is_claimed : ℕ → (ℕ → ℕ) → ℕ → Bool
 is_claimed strips counters k = nat_lt (k / strips) (counters (strip_of_mark strips k))
 
+-- ---- The columns and the rows of the room of configurations, side by side.
 -- the columns and the rows of the body in the room
 pub record AreSpansOf (room : Point) (body : List Vertex) (spans : RoomSpans) : Type 0 where
   pub columns : spans.columns ≡ columns room body

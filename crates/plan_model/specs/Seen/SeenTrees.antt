@@ -1,7 +1,4 @@
--- The way of a point through a kd-tree (Bentley, CACM 1975), whose children are given by number. What is seen of a tree to which others add, and when
--- that is true of the tree. seen by a worker the tree now (both as kd-trees) 0 0 - a step of the worker found this place empty; / \ / \ to the right
--- of node 1 it has not looked. - 1 4 1 It has seen node 2 at cost 1568 below node 1; / / \ node 2 costs 1280 now, below node 0. 2 2 3 What the order
--- law says of parents and costs that were seen earlier: each node may hang so still.
+-- What is seen of a tree to which others add, and when that is true of the tree.
 use Rattle.std.specs.Prelude.{◌≡◌, ◌≢◌, ◌⊎◌, ◌↔◌, ℕ, suc, ◌%◌, ◌==◌, nat_lt, not, Bool, Option, Some, None, List, if◌then◌else◌, ◌<◌, ◌≤◌, IsSome, option_map}
 use Rattle.plan_model.specs.Terms.{Point}
 use Rattle.plan_model.specs.Trees.NodeLists.{StandsAt, IsPresent, point_at, point_of}
@@ -10,6 +7,7 @@ use Rattle.plan_model.specs.Trees.TreeStates.{TreeState, GrowsInto, first_cost_o
 use Rattle.plan_model.specs.Runs.OrderLaw.{Hangs}
 use Rattle.plan_model.specs.Runs.Textbook.{Setup}
 
+-- ---- The way of a point through a kd-tree (Bentley, CACM 1975), whose children are given by number.
 -- whether q goes to the right of a node at p: at even depth by its column, at odd depth by its row, to the left only if it is lesser
 abbrev pub goes_right : ℕ → Point → Point → Bool
 goes_right depth p q = if depth % 2 == 0 then not (nat_lt q.x p.x) else not (nat_lt q.y p.y)
@@ -55,6 +53,15 @@ pub record FillsPlaces (child after : Children) (points later : List (Option Poi
   pub children : (n m : ℕ) (side : Bool) → child n side ≡ Some m → after n side ≡ Some m
   pub nodes : (n : ℕ) (p : Point) → StandsAt points n p → StandsAt later n p
 
+-- ---- seen trees
+--
+--     seen by a worker         the tree now       (both as kd-trees)
+--            0                      0             -  a step of the worker found this place empty;
+--           / \                    / \               to the right of node 1 it has not looked.
+--          -   1                  4   1           It has seen node 2 at cost 1568 below node 1;
+--             /                      / \          node 2 costs 1280 now, below node 0.
+--            2                      2   3
+
 -- Children, points, the last parent and cost of each node, and records, as far as they were seen. The greatest number that was seen
 -- in the counter of each strip, and in the count of nodes.
 pub record SeenTree : Type 0 where
@@ -77,7 +84,6 @@ pub record IsRooted (seen : SeenTree) : Type 0 where
   pub pairs : (n : ℕ) → IsSome (seen.parent_and_cost n) → IsSeen seen n
 
 -- ---- ways over what is seen
-
 -- Node n stands at this depth on the way of q over seen children. If the point of a node is not seen, either child may be on it.
 pub data IsOnSeenWay (seen : SeenTree) (q : Point) : ℕ → ℕ → Type 0 where
   begins : IsOnSeenWay seen q 0 0
@@ -99,7 +105,6 @@ pub record FollowSeenWays (seen : SeenTree) : Type 0 where
   pub root : (a : ℕ) (side : Bool) → seen.child a side ≢ Some 0
 
 -- ---- more was seen
-
 -- what was seen of the parent and the cost of a node stays, or gives way to a lower cost
 abbrev pub KeepsOrLowers : SeenTree → SeenTree → ℕ → Type 0
 KeepsOrLowers before after n = (pair : ℕ × ℕ) → before.parent_and_cost n ≡ Some pair
@@ -115,7 +120,6 @@ pub record HasSeenAtLeast (before after : SeenTree) : Type 0 where
   pub count : before.count ≤ after.count
 
 -- ---- the tree that is seen
-
 -- A tree to which several add, at some moment: its nodes with their costs, and its records; the children in its kd-tree; the counter of
 -- each strip, and the count of nodes.
 pub record SharedTree : Type 0 where
@@ -147,6 +151,7 @@ seen_whole tree = record {
 abbrev pub IsTrueOf : SeenTree → SharedTree → Type 0
 IsTrueOf seen tree = HasSeenAtLeast seen (seen_whole tree)
 
+-- ---- What the order law says of parents and costs that were seen earlier: each node may hang so still.
 -- A parent and a cost were seen of present nodes alone. Each node may hang below the seen parent at the seen cost, by what that parent
 -- costs now, and no seen cost is above the first one. The start was seen as its own parent, at no cost.
 pub record AreSeenLawfully (setup : Setup) (seen : SeenTree) (state : TreeState) : Type 0 where

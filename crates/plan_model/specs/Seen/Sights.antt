@@ -18,7 +18,6 @@ pub record KeepsSight (sight : Sight) : Type 0 where
   pub steps : (n : ℕ) (side : Bool) → sight.found_empty n side ≤ sight.steps
 
 -- ---- later
-
 -- the step that last found a place empty is the same, or one since then, and no child was seen there before
 abbrev pub KeepsOrFindsEmpty : Sight → Sight → ℕ → Bool → Type 0
 KeepsOrFindsEmpty before after n side = (after.found_empty n side ≡ before.found_empty n side)
@@ -32,7 +31,6 @@ pub record IsLaterMoment (before after : Sight) : Type 0 where
   pub empty : (n : ℕ) (side : Bool) → KeepsOrFindsEmpty before after n side
 
 -- ---- seen by two
-
 -- of two parents with costs the one of lesser cost, the first if they are equal
 abbrev pub cheaper_of : Option (ℕ × ℕ) → Option (ℕ × ℕ) → Option (ℕ × ℕ)
 cheaper_of None other = other
@@ -60,7 +58,6 @@ AgreeOnParents one other =
     (n : ℕ) (pair also : ℕ × ℕ) → one.parent_and_cost n ≡ Some pair → other.parent_and_cost n ≡ Some also → pair.1 ≡ also.1 → pair ≡ also
 
 -- ---- swept
-
 -- The way of q over what is seen comes to a place that a step after so many found empty, whether or not it was filled since.
 pub record EndsSince (sight : Sight) (steps : ℕ) (q : Point) : Type 0 where
   pub depth : ℕ

@@ -1,5 +1,4 @@
--- Where the body is clear of the walls and the obstacles: at a point, and at every rational point of a segment. Paths of points with a clear segment
--- between each two that follow each other. Choices of points of a path, which keep its two ends, and what they cost.
+-- Where the body is clear of the walls and the obstacles: at a point, and at every rational point of a segment.
 use Rattle.std.specs.Prelude.{ℕ, ◌<◌, ◌≤◌, pos, ◌+ℤ◌, ◌-ℤ◌, ◌*ℤ◌, All, suc, List, length, slice_index_or, ◌≡◌, [], ◌∷◌, map}
 use Rattle.plan_model.specs.Terms.{ConfigurationSpace, Point}
 use Rattle.plan_model.specs.Spaces.ConfigurationSpace.{Rational, at_lattice, InRoom}
@@ -28,6 +27,7 @@ on_the_way a b s d positive = record {
 abbrev pub Clear : ConfigurationSpace → Point → Point → Type 0
 Clear space a b = (s d : ℕ) (positive : 0 < d) → s ≤ d → IsClear space (on_the_way a b s d positive)
 
+-- ---- Paths of points with a clear segment between each two that follow each other.
 -- point i of a path (asked only of numbers below its length)
 abbrev pub path_point : List Point → ℕ → Point
 path_point path i = slice_index_or path i (record { x = 0; y = 0 })
@@ -36,6 +36,7 @@ path_point path i = slice_index_or path i (record { x = 0; y = 0 })
 pub record IsClearPath (space : ConfigurationSpace) (path : List Point) : Type 0 where
   pub clear : (i : ℕ) → suc i < length path → Clear space (path_point path i) (path_point path (suc i))
 
+-- ---- Choices of points of a path, which keep its two ends, and what they cost.
 -- positions that rise strictly after this one, up to the last of so many
 abbrev pub RiseToLast : ℕ → ℕ → List ℕ → Type 0
 RiseToLast count i [] = suc i ≡ count

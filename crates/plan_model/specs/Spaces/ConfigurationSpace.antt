@@ -1,9 +1,9 @@
--- The room of configurations: where the body lies in the room, touching its walls or not. How configuration spaces are made: of a scene, and of a
--- room, a body and obstacles alone. Rooms with a point body and no obstacle, and points that lie in a room.
+-- How configuration spaces are made: of a scene, and of a room, a body and obstacles alone.
 use Rattle.std.specs.Prelude.{◌≡◌, ℕ, ◌*◌, ◌<◌, ℤ, pos, ◌+ℤ◌, ◌*ℤ◌, ◌≤ℤ◌, All, ◌≤◌, [], ◌∷◌}
 use Rattle.plan_model.specs.Terms.{ConfigurationSpace, List, Point, Vertex, le_refl, mul-pos}
 use Rattle.plan_model.specs.declared.scenes.Scene.{Scene}
 
+-- ---- The room of configurations: where the body lies in the room, touching its walls or not.
 -- the rational point (x / over, y / over)
 pub record Rational : Type 0 where
   pub x : ℤ
@@ -40,6 +40,7 @@ pub record InRoom (space : ConfigurationSpace) (q : Rational) : Type 0 where
   pub here : IsBetweenWalls space.room q
   pub corners : All (λ corner. IsBetweenWalls space.room (moved_by q corner)) space.body
 
+-- ---- configuration space
 -- the configuration space of a body, by its corners, in a room among obstacles, without a clearance
 abbrev pub space_among : Point → List Vertex → List (List Vertex) → ConfigurationSpace
 space_among room body obstacles = record { room = room; body = body; obstacles = obstacles; clearance = 0 }
@@ -48,6 +49,7 @@ space_among room body obstacles = record { room = room; body = body; obstacles =
 abbrev pub space_of : Scene → ConfigurationSpace
 space_of scene = record { room = scene.room; body = scene.body; obstacles = scene.obstacles; clearance = scene.clearance }
 
+-- ---- Rooms with a point body and no obstacle, and points that lie in a room.
 -- the configuration space of a body that is a point, in a room without obstacles
 abbrev pub empty_room : Point → ConfigurationSpace
 empty_room room = space_among room (record { x = pos 0; y = pos 0 } ∷ []) []

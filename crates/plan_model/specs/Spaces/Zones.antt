@@ -1,11 +1,10 @@
--- Closed half-planes to the left of the edges of a polygon, and the points that lie in all of them. Where the body meets an obstacle, with a
--- clearance or without. Both are closed convex hulls of their corners, so touching is meeting. Zones: configuration-space obstacles, the Minkowski
--- sum of an obstacle, the reflected body and the square of the clearance.
+-- Zones: configuration-space obstacles, the Minkowski sum of an obstacle, the reflected body and the square of the clearance.
 use Rattle.std.specs.Prelude.{ℕ, ◌<◌, ℤ, pos, ◌-ℤ◌, ◌*ℤ◌, ◌≤ℤ◌, List, length, ◌≡◌, ◌*◌, ◌+ℤ◌, [], ◌∷◌, sum, ◌↔◌, ◌<ℤ◌, ◌⊎◌, true}
 use Rattle.plan_model.specs.Terms.{Vertex}
 use Rattle.plan_model.specs.Geometry.Plane.{corner_at, next_corner, is_strictly_convex}
 use Rattle.plan_model.specs.Spaces.ConfigurationSpace.{Rational}
 
+-- ---- Closed half-planes to the left of the edges of a polygon, and the points that lie in all of them.
 -- Twice the signed area of the triangle a b q, times the denominator of q: not below 0 exactly if q lies to the left of
 -- the line from a to b, or on it.
 abbrev pub side_of : Vertex → Vertex → Rational → ℤ
@@ -19,6 +18,7 @@ side_of_edge corners i q = side_of (corner_at corners i) (corner_at corners (nex
 abbrev pub IsInside : List Vertex → Rational → Type 0
 IsInside corners q = (i : ℕ) → i < length corners → pos 0 ≤ℤ side_of_edge corners i q
 
+-- ---- Where the body meets an obstacle, with a clearance or without. Both are closed convex hulls of their corners, so touching is meeting.
 -- the sum of a coordinate of the corners, each times its weight
 abbrev pub weighted : (Vertex → ℤ) → List ℕ → List Vertex → ℤ
 weighted coordinate [] corners = pos 0
@@ -60,6 +60,7 @@ pub record SharesPoint (body : List Vertex) (q : Rational) (obstacle : List Vert
   pub horizontal : pos q.over *ℤ (weighted (λ v. v.x) on_obstacle obstacle -ℤ weighted (λ v. v.x) on_body body) ≡ pos total *ℤ q.x
   pub vertical : pos q.over *ℤ (weighted (λ v. v.y) on_obstacle obstacle -ℤ weighted (λ v. v.y) on_body body) ≡ pos total *ℤ q.y
 
+-- ---- zones
 -- a is lower than b, or as low and not further right
 abbrev pub IsLowerOrLeft : Vertex → Vertex → Type 0
 IsLowerOrLeft a b = (a.y <ℤ b.y) ⊎ ((a.y ≡ b.y) × (a.x ≤ℤ b.x))

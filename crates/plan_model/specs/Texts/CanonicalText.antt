@@ -10,7 +10,6 @@ use Rattle.plan_model.specs.Texts.Keys.{format_name, version_word, name_of}
 use Rattle.plan_model.specs.Texts.LineChecks.{Format}
 
 -- ---- the numbers of the parts of a scene
-
 -- the column and the row of a point
 abbrev pub point_numbers : Point → List ℤ
 point_numbers p = pos p.x ∷ pos p.y ∷ []
@@ -24,7 +23,6 @@ abbrev pub corner_numbers : List Vertex → List ℤ
 corner_numbers corners = flat_map (λ corner. corner.x ∷ corner.y ∷ []) corners
 
 -- ---- the words of each line
-
 -- a key, and its numbers in decimal
 abbrev pub statement : Key → List ℤ → List (List ℕ)
 statement key numbers = name_of key ∷ map signed_decimal numbers

@@ -1,13 +1,13 @@
--- The numbers and the names of the kinds of faults, and the words that name a fault. The versions, the keys of lines, and the tables of what may
--- stand after each key, and how often, by the version.
+-- The versions, the keys of lines, and the tables of what may stand after each key, and how often, by the version.
 use Rattle.std.specs.Prelude.{ℕ, List, [], ◌∷◌, codes, decimal, ◌*◌, ◌%◌, ◌==◌, nat_le, ◌&&◌, ◌||◌, not, Bool, true, ℤ, pos, Option, Some, None, bytes_eq}
 use Rattle.std.specs.Prelude.{if◌then◌else◌}
 use Rattle.plan_model.specs.Terms.{Key, Kind, LEAST_BODY_COORDINATE, LEAST_CORNERS, LEAST_SIDE, LEAST_STEP, LEAST_STRIPS, MOST_BODY_COORDINATE}
-use Rattle.plan_model.specs.Terms.{MOST_BODY_CORNERS, MOST_GAMMA, MOST_MARKS, MOST_OBSTACLES, MOST_OBSTACLE_CORNERS, MOST_SEED, MOST_STRIPS, codes}
+use Rattle.plan_model.specs.Terms.{MOST_BODY_CORNERS, MOST_GAMMA, MOST_MARKS, MOST_OBSTACLES, MOST_OBSTACLE_CORNERS, MOST_SEED, MOST_STRIPS}
 use Rattle.plan_model.specs.Scenes.Limits.{by_version, least_obstacle_coordinate, most_clearance, most_goals, most_obstacle_coordinate, most_side, most_step}
 use Rattle.plan_model.specs.declared.text_terms.Kind.TheVariants as kinds
 use Rattle.plan_model.specs.declared.text_terms.Key.TheVariants as keys
 
+-- ---- The numbers and the names of the kinds of faults, and the words that name a fault.
 -- the number of a kind
 abbrev pub number_of_kind : Kind → ℕ
 number_of_kind kinds.Version = 1
@@ -38,8 +38,8 @@ name_of_kind kinds.Unbuilt = codes "Unbuilt"
 abbrev pub fault_words : ℕ → Kind → List (List ℕ)
 fault_words number kind = codes "line" ∷ decimal number ∷ codes "kind" ∷ decimal (number_of_kind kind) ∷ name_of_kind kind ∷ []
 
+-- ---- keys
 -- ---- names
-
 -- the word that a scene text begins with
 abbrev pub format_name : List ℕ
 format_name = codes "prrt"
@@ -99,7 +99,6 @@ abbrev pub key_of : ℕ → List ℕ → Option Key
 key_of version word = key_within version (key_among word every_key)
 
 -- ---- how many words stand after a key
-
 -- the coordinates of the corners of a polygon
 abbrev pub are_polygon_words : ℕ → Bool
 are_polygon_words n = n % 2 == 0 && nat_le (2 * LEAST_CORNERS) n
@@ -121,7 +120,6 @@ most_corners keys.Obstacle = MOST_OBSTACLE_CORNERS
 most_corners key = 2
 
 -- ---- how often a key stands
-
 -- how many lines with the key may stand
 abbrev pub most_lines : ℕ → Key → ℕ
 most_lines version keys.Obstacle = MOST_OBSTACLES
@@ -136,7 +134,6 @@ rival_of keys.Mark = Some keys.Marks
 rival_of key = None
 
 -- ---- the ranges of the numbers after a key
-
 -- the least number that may stand after the key
 abbrev pub least_of : ℕ → Key → ℤ
 least_of version keys.Room = pos LEAST_SIDE

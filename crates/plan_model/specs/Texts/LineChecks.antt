@@ -14,7 +14,6 @@ pub record Format : Type 0 where
   pub built : Key → Bool
 
 -- ---- the numbers that lines give
-
 -- the numbers of the lines with each key, in the order of the lines
 abbrev pub Given : Type 0
 Given = Key → List (List ℤ)
@@ -46,7 +45,6 @@ abbrev pub stands : Given → Key → Bool
 stands given key = is_inhabited (given key)
 
 -- ---- the checks
-
 -- a line with this key stands, if there is one
 abbrev pub stands_any : Given → Option Key → Bool
 stands_any given None = false
@@ -85,7 +83,6 @@ has_corners keys.Obstacle zs = is_strictly_convex (corners_from zs)
 has_corners key zs = true
 
 -- ---- the first check that fails
-
 -- whether a check passes, and the kind of the fault if it does not
 abbrev pub Check : Type 0
 Check = Bool × Kind
@@ -153,7 +150,6 @@ fault_at_end None given = Some kinds.Version
 fault_at_end (Some version) given = if list_all (stands given) needed_keys then None else Some kinds.Missing
 
 -- ---- what lines without a fault give
-
 -- these numbers may stand after the key
 pub record MayStand (version : ℕ) (key : Key) (zs : List ℤ) : Type 0 where
   pub count : fits_words key (length zs) ≡ true

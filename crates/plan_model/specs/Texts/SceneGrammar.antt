@@ -1,8 +1,7 @@
--- The grammar of scene texts: two relations over the list of lines, one for each answer of a reader. Batches: several scene texts in one text, with a
--- line `next` between two of them.
+-- The grammar of scene texts: two relations over the list of lines, one for each answer of a reader.
 use Rattle.std.specs.Prelude.{◌≡◌, ℕ, ◌+◌, ◌<◌, ◌==◌, Bool, true, ℤ, pos, unsigned_abs, ◌⊎◌, Option, Some, None, List, [], ◌∷◌, length, map, take, drop, zero}
 use Rattle.std.specs.Prelude.{suc, ◌≤◌, ◌++◌, get_or, bytes_eq, codes, if◌then◌else◌}
-use Rattle.plan_model.specs.Terms.{Drawn, Goal, Key, Kind, Listed, MOST_SCENES, Marks, Point, Vertex, get_or}
+use Rattle.plan_model.specs.Terms.{Drawn, Goal, Key, Kind, Listed, MOST_SCENES, Marks, Point, Vertex}
 use Rattle.plan_model.specs.declared.scenes.Scene.{Scene}
 use Rattle.plan_model.specs.Texts.TextLines.{lines_of, words_of, statements_of}
 use Rattle.plan_model.specs.Texts.LineChecks.{Format, Given, given_by, version_of, corners_from, fault_of_words, fault_at_end}
@@ -10,7 +9,6 @@ use Rattle.plan_model.specs.declared.text_terms.Key.TheVariants as keys
 use Rattle.plan_model.specs.declared.text_terms.Kind.TheVariants as kinds
 
 -- ---- faults
-
 -- the version that the first of the statements gives
 abbrev pub version_given : (ℕ → Bool) → List (List (List ℕ)) → Option ℕ
 version_given reads [] = None
@@ -30,7 +28,6 @@ abbrev pub fault_of_end : Format → List (List (List ℕ)) → Option Kind
 fault_of_end format statements = fault_at_end (version_given format.reads statements) (given_after_version statements)
 
 -- ---- the scene that lines give
-
 -- the numbers of the first line
 abbrev pub first_of : List (List ℤ) → List ℤ
 first_of lists = get_or lists 0 []
@@ -76,7 +73,6 @@ pub record HasFields (version_read : Option ℕ) (given : Given) (scene : Scene)
   pub plan : scene.plan ≡ plan_from (given keys.Marks) (given keys.Mark)
 
 -- ---- the two relations
-
 -- no line below line n, counted from 0, has a fault
 abbrev pub IsSoundBelow : Format → List (List ℕ) → ℕ → Type 0
 IsSoundBelow format lines n = (i : ℕ) → i < n → fault_of_line format lines i ≡ None
@@ -98,7 +94,6 @@ abbrev pub Refused : Format → List ℕ → ℕ → Kind → Type 0
 Refused format text number kind = (i : ℕ) × (number ≡ i + 1) × IsSoundBelow format (lines_of text) i × FailsAt format (lines_of text) i kind
 
 -- ---- what is supported
-
 -- the keys that are supported: every key
 abbrev pub is_supported : Key → Bool
 is_supported key = true
@@ -111,8 +106,8 @@ supported = record { reads = λ version. true; built = is_supported }
 abbrev pub whole_format : Format
 whole_format = record { reads = λ version. true; built = λ key. true }
 
+-- ---- Batches: several scene texts in one text, with a line `next` between two of them.
 -- ---- the parts of a text
-
 -- a part is a list of lines
 abbrev pub Part : Type 0
 Part = List (List ℕ)
@@ -147,7 +142,6 @@ lines_before [] (suc k) = 0
 lines_before (part ∷ parts) (suc k) = length part + 1 + lines_before parts k
 
 -- ---- the two relations
-
 -- The text spells the scenes: each of its parts spells the scene with its number, and they are not too many.
 pub record SpellsBatch (format : Format) (text : List ℕ) (scenes : List Scene) : Type 0 where
   pub count : length scenes ≡ length (parts_of (lines_of text))

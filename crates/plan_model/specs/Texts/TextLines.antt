@@ -1,4 +1,4 @@
--- The lines of a text, and the words of a line. Words that are numbers, and the numbers that they stand for.
+-- The lines of a text, and the words of a line.
 use Rattle.std.specs.Prelude.{ℕ, ◌==◌, nat_lt, not, Bool, true, List, [], ◌∷◌, length, map, get_or, filter, if◌then◌else◌, ◌+◌, ◌-◌, ◌*◌, nat_le, ◌&&◌, ◌||◌}
 use Rattle.std.specs.Prelude.{false, ℤ, pos, neg_ℤ, fold, bytes_eq}
 use Rattle.plan_model.specs.Terms.{list_all}
@@ -31,6 +31,7 @@ is_skipped (word ∷ words) = get_or word 0 0 == 35
 abbrev pub statements_of : List (List ℕ) → List (List (List ℕ))
 statements_of lines = filter (λ words. not (is_skipped words)) (map words_of lines)
 
+-- ---- Words that are numbers, and the numbers that they stand for.
 -- the byte is one of the digits 0 to 9
 abbrev pub is_digit : ℕ → Bool
 is_digit b = nat_le 48 b && nat_le b 57

@@ -1,7 +1,5 @@
--- Nodes that an edge may lead from to a point. The bound of a mark: the least cost of any way over it into a goal, as the heuristic of Informed RRT*
--- (Gammell, Srinivasa and Barfoot, IROS 2014), here over the lattice points of boxes. That a mark is tested by it, and not drawn by it, is this
--- project's own. The best node of a tree: the cheapest of those that lie in a goal.
-use Rattle.plan_model.specs.Terms.{ConfigurationSpace, Contains, Goal, List, Option, Point, list_any, range_with_len, ℕ}
+-- The best node of a tree: the cheapest of those that lie in a goal.
+use Rattle.plan_model.specs.Terms.{ConfigurationSpace, Contains, Goal, Point, list_any}
 use Rattle.plan_model.specs.Spaces.Clearance.{Clear}
 use Rattle.plan_model.specs.Trees.NodeLists.{point_of, point_at}
 use Rattle.std.specs.Prelude.{ℕ, suc, ◌+◌, ◌-◌, List, [], ◌∷◌, map, min, ◌&&◌, nat_le, Bool, false, IsTrue, Option, Some, None, filter}
@@ -11,11 +9,14 @@ use Rattle.plan_model.specs.declared.scenes.Scene.{Scene}
 use Rattle.plan_model.specs.Trees.Nearness.{IsFirstLeast, first_least}
 use Rattle.plan_model.specs.Trees.TreeStates.{TreeState, sum_in}
 
+-- ---- Nodes that an edge may lead from to a point.
 -- one of some nodes with a clear edge to p
 pub record IsOpenTo (space : ConfigurationSpace) (points : List (Option Point)) (p : Point) (candidates : List ℕ) (i : ℕ) : Type 0 where
   pub among : Contains candidates i
   pub clear : Clear space (point_of points i) p
 
+-- ---- The bound of a mark: the least cost of any way over it into a goal, as the heuristic of Informed RRT* (Gammell, Srinivasa and Barfoot, IROS
+-- 2014), here over the lattice points of boxes. That a mark is tested by it, and not drawn by it, is this project's own.
 -- the whole numbers from one to another, both with them
 abbrev pub numbers_between : ℕ → ℕ → List ℕ
 numbers_between low high = range_with_len low (suc high - low)
@@ -35,6 +36,7 @@ least_of (n ∷ m ∷ ns) = min n (least_of (m ∷ ns))
 unfoldable pub bound_of : Point → List Goal → Point → ℕ
 bound_of start goals p = cost_of start p + least_of (map (cost_of p) (flat_map points_of_goal goals))
 
+-- ---- best node
 -- the point lies in the closed box
 abbrev pub is_in_goal : Goal → Point → Bool
 is_in_goal goal p = (nat_le goal.low.x p.x && nat_le p.x goal.high.x) && (nat_le goal.low.y p.y && nat_le p.y goal.high.y)

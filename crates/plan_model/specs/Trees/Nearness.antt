@@ -1,10 +1,11 @@
--- The order of pairs (key, number), by which the nearest node, the best parent and the best node are chosen: the lesser key, and of equal keys the
--- lesser number. The nearest node to a point, and the nodes near one. Both look at every node.
+-- The nearest node to a point, and the nodes near one. Both look at every node.
 use Rattle.std.specs.Prelude.{◌≡◌, ℕ, ◌≤◌, nat_lt, Option, Some, None, List, [], ◌∷◌, if◌then◌else◌, ◌*◌, nat_le, Bool, false, length, filter}
 use Rattle.plan_model.specs.Terms.{Point, range_with_len}
 use Rattle.plan_model.specs.Geometry.Plane.{squared_distance}
 use Rattle.plan_model.specs.Trees.NodeLists.{point_at, point_of, IsPresent}
 
+-- ---- The order of pairs (key, number), by which the nearest node, the best parent and the best node are chosen: the lesser key, and of equal keys
+-- the lesser number.
 -- a pair is not above another one
 pub record IsPairNotAbove (key number other_key other : ℕ) : Type 0 where
   pub least : key ≤ other_key
@@ -29,6 +30,7 @@ abbrev pub first_least : (ℕ → ℕ) → List ℕ → Option ℕ
 first_least key [] = None
 first_least key (n ∷ ns) = Some (lesser key n (first_least key ns))
 
+-- ---- nearness
 -- the squared distance of a present node to q
 abbrev pub distance_to : Point → List (Option Point) → ℕ → ℕ
 distance_to q points i = squared_distance (point_of points i) q

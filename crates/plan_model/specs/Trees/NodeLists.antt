@@ -1,11 +1,11 @@
--- Points by number: where each node of a tree stands. The start has number 0, and the node that mark k gives has number k + 1; a number without a
--- node has no point. Trees, as lists by number: at each number a point with its parent, or nothing. The start has number 0; the node that mark k
--- gives has number k + 1.
+-- Trees, as lists by number: at each number a point with its parent, or nothing. The start has number 0; the node that mark k gives has number k + 1.
 use Rattle.std.specs.Prelude.{◌≡◌, ◌≤◌, ℕ, Option, Some, None, IsSome, is_some, unwrap_or, List, count_by, slice_index_or, zero, suc, ◌+◌, ◌<◌, [], ◌∷◌, map}
 use Rattle.std.specs.Prelude.{option_map}
 use Rattle.plan_model.specs.Terms.{Knot, Point, Twig}
 use Rattle.plan_model.specs.Geometry.Lengths.{cost_of}
 
+-- ---- Points by number: where each node of a tree stands. The start has number 0, and the node that mark k gives has number k + 1; a number without
+-- a node has no point.
 -- where node n stands, if it is present
 abbrev pub point_at : List (Option Point) → ℕ → Option Point
 point_at points n = slice_index_or points n None
@@ -38,6 +38,7 @@ AreNumberedTo limit points = (n : ℕ) → IsPresent points n → n ≤ limit
 abbrev pub node_count : List (Option Point) → ℕ
 node_count points = count_by is_some points
 
+-- ---- node lists
 -- the node with this number, if it is present
 abbrev pub node_at : List (Option Twig) → ℕ → Option Twig
 node_at tree n = slice_index_or tree n None
@@ -95,7 +96,6 @@ abbrev pub edge_of : List (Option Twig) → ℕ → ℕ
 edge_of tree n = edge_by (points_of tree) (parent_of tree) n
 
 -- ---- kept costs
-
 -- Each present node but the start has a present parent, which costs strictly less.
 pub record FallAlong (costs : ℕ → ℕ) (points : List (Option Point)) (parents : ℕ → ℕ) : Type 0 where
   pub start : IsPresent points 0

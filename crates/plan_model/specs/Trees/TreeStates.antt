@@ -1,5 +1,4 @@
--- A tree with its costs and records at some moment: of a closed run, or of a table in the middle of one. What becomes of kept costs when a node costs
--- less than before: its descendants cost less by as much.
+-- A tree with its costs and records at some moment: of a closed run, or of a table in the middle of one.
 use Rattle.std.specs.Prelude.{◌≡◌, ◌<◌, ◌⊎◌, ℕ, zero, suc, Option, Some, None, List, slice_get, ◌≢◌, ◌+◌, ◌≤◌}
 use Rattle.plan_model.specs.Terms.{Point, Twig}
 use Rattle.plan_model.specs.declared.records.Record.{Record}
@@ -41,7 +40,6 @@ state_of tree records =
     record { points = points_of tree; parent = parent_of tree; cost = sum_of tree; written_cost = λ n. 0; record_of = slice_get records }
 
 -- ---- chains and sums
-
 -- the chain of a node
 abbrev pub chain_in : TreeState → ℕ → List ℕ
 chain_in state n = chain_by state.points state.parent n
@@ -55,7 +53,6 @@ abbrev pub IsSettled : TreeState → Type 0
 IsSettled state = (n : ℕ) → IsPresent state.points n → state.cost n ≡ sum_in state n
 
 -- ---- the same run
-
 -- Two trees have the same nodes, with the same parents and kept costs, and the same records.
 pub record AreSameRuns (one other : TreeState) : Type 0 where
   pub points : (n : ℕ) → point_at other.points n ≡ point_at one.points n
@@ -70,6 +67,7 @@ pub record ChangesCosts (before after : TreeState) : Type 0 where
   pub written_costs : (n : ℕ) → after.written_cost n ≡ before.written_cost n
   pub records : (k : ℕ) → after.record_of k ≡ before.record_of k
 
+-- ---- What becomes of kept costs when a node costs less than before: its descendants cost less by as much.
 -- Node `node` costs less by `fall`, and every other present node less by as much as its parent does: so the descendants
 -- of `node` cost less by `fall`, and all others what they did.
 pub record IsBranchLowered (points : List (Option Point)) (parents : ℕ → ℕ) (node fall : ℕ) (costs later : ℕ → ℕ) : Type 0 where

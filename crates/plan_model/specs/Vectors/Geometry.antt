@@ -1,11 +1,11 @@
--- The classes of numbers of nodes, and the radii of the first ten classes. Points and corners by their coordinates. Costs of edges. Steering by a
--- step of 50, and by the shortest and the longest step. Lists of corners that are strictly convex, and lists that are not.
+-- Worked values of the plane and of lengths: classes and radii, costs, steering, polygons.
 use Rattle.std.specs.Prelude.{◌≡◌, ℕ, List, [], ◌∷◌, map, ◌<◌, ℤ, pos, neg_ℤ, true, false}
 use Rattle.plan_model.specs.Geometry.Lengths.{class_of, radius_of_class, radius_of, cost_of, steered}
 use Rattle.plan_model.specs.Terms.{Point, Vertex, le-suc}
 use Rattle.plan_model.specs.Spaces.ConfigurationSpace.{Rational}
 use Rattle.plan_model.specs.Geometry.Plane.{is_strictly_convex}
 
+-- ---- The classes of numbers of nodes, and the radii of the first ten classes.
 abbrev pub first_classes : List ℕ
 first_classes = 1 ∷ 2 ∷ 3 ∷ 4 ∷ 5 ∷ 6 ∷ 7 ∷ 8 ∷ 9 ∷ 10 ∷ []
 
@@ -20,6 +20,7 @@ pub record RadiusVectors : Type 0 where
   pub no_class : radius_of_class 4096 1000 0 ≡ 0
   pub of_nodes : map (radius_of 4096 1000) (3 ∷ 4 ∷ 7 ∷ 8 ∷ []) ≡ 1000 ∷ 866 ∷ 866 ∷ 707 ∷ []
 
+-- ---- Points and corners by their coordinates.
 abbrev pub at : ℕ → ℕ → Point
 at x y = record { x = x; y = y }
 
@@ -37,6 +38,7 @@ two_is_positive = le-suc 1
 abbrev pub halves : ℤ → ℤ → Rational
 halves x y = record { x = x; y = y; over = 2; positive = two_is_positive }
 
+-- ---- Costs of edges.
 pub record CostVectors : Type 0 where
   pub none : cost_of (at 5 5) (at 5 5) ≡ 0
   pub straight : cost_of (at 0 0) (at 1 0) ≡ 256
@@ -52,6 +54,7 @@ pub record CostVectors : Type 0 where
   pub longest_step : cost_of (at 0 0) (at 4096 0) ≡ 1048576
   pub largest_room : cost_of (at 0 0) (at 65535 65535) ≡ 23726205
 
+-- ---- Steering by a step of 50, and by the shortest and the longest step.
 pub record SteeringVectors : Type 0 where
   pub reached : steered (at 0 0) (at 30 40) 50 ≡ at 30 40
   pub halfway : steered (at 0 0) (at 60 80) 50 ≡ at 30 40
@@ -69,6 +72,7 @@ pub record SteeringVectors : Type 0 where
   pub by_two : steered (at 0 0) (at 2 1) 2 ≡ at 1 0
   pub longest_step : steered (at 0 0) (at 65535 65535) 4096 ≡ at 2896 2896
 
+-- ---- Lists of corners that are strictly convex, and lists that are not.
 pub record ConvexityVectors : Type 0 where
   pub counterclockwise : is_strictly_convex (corner 0 0 ∷ corner 9 0 ∷ corner 9 9 ∷ []) ≡ true
   pub square : is_strictly_convex (corner 0 0 ∷ corner 9 0 ∷ corner 9 9 ∷ corner 0 9 ∷ []) ≡ true

@@ -1,5 +1,4 @@
--- The limits as numbers; lines after the version at the limits of the grammar, and just beyond them. Bodies, obstacles, goals and plans at the limits
--- of a scene's fields, and just beyond them, in either version.
+-- The limits as numbers; lines after the version at the limits of the grammar, and just beyond them.
 use Rattle.std.specs.Prelude.{◌≡◌, ℕ, pos, neg_ℤ, true, false, Option, Some, None, List, [], codes, replicate, ◌∷◌}
 use Rattle.plan_model.specs.Terms.{Drawn, Goal, Kind, LEAST_BODY_COORDINATE, LEAST_CORNERS, LEAST_CORNER_COORDINATE, LEAST_OBSTACLE_COORDINATE}
 use Rattle.plan_model.specs.Terms.{LEAST_OBSTACLE_COORDINATE_OF_VERSION_2, LEAST_SIDE, LEAST_STEP, LEAST_STRIPS, LEAST_SUMMAND_COORDINATE, Listed}
@@ -150,6 +149,7 @@ pub record LimitVectors : Type 0 where
   pub goals_repeated : is_repeated 2 (λ key. replicate 16 []) keys.Goal ≡ false
   pub fewer_goals : is_too_many 2 (λ key. replicate 15 []) keys.Goal 4 ≡ false
 
+-- ---- Bodies, obstacles, goals and plans at the limits of a scene's fields, and just beyond them, in either version.
 -- a goal of either version
 abbrev pub the_goal : Goal
 the_goal = record { low = at 1 1; high = at 2 2 }

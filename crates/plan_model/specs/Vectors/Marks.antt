@@ -1,4 +1,4 @@
--- Words of SplitMix64, and a mark that they draw. Columns cut into three strips, the quotas of three strips, and the columns in which a body fits.
+-- Worked values of marks: points that are drawn, and the strips of marks.
 use Rattle.std.specs.Prelude.{◌≡◌, List, [], ◌∷◌, true, false, map, slice_index_or}
 use Rattle.plan_model.specs.Terms.{Drawn, Listed, Point, Span, Vertex}
 use Rattle.plan_model.specs.declared.scenes.Scene.{Scene}
@@ -6,6 +6,7 @@ use Rattle.plan_model.specs.Scenes.MarkPoints.{picked, first_word, second_word, 
 use Rattle.plan_model.specs.Scenes.MarkPoints.{span_within, columns, rows, reach, below_zero, above_zero}
 use Rattle.plan_model.specs.Vectors.Geometry.{at, corner, corner_below}
 
+-- ---- Words of SplitMix64, and a mark that they draw.
 pub record DrawnVectors : Type 0 where
   pub first : first_word 0 ≡ 0xE220A8397B1DCDAF
   pub second : second_word 0 ≡ 0x6E789E6AA1B965F4
@@ -22,6 +23,7 @@ pub record DrawnVectors : Type 0 where
   pub drawn_marks : (scene : Scene) → scene.plan ≡ Drawn 2 → mark_points scene ≡ drawn_mark scene 0 ∷ drawn_mark scene 1 ∷ []
   pub listed_marks : (scene : Scene) (points : List Point) → scene.plan ≡ Listed points → mark_points scene ≡ points
 
+-- ---- Columns cut into three strips, the quotas of three strips, and the columns in which a body fits.
 abbrev pub hundred : Span
 hundred = record { first = 0; count = 100 }
 

@@ -1,5 +1,4 @@
--- Records of worked runs: each by its worker, the worker's turn and what became of the mark. The best node, and reports of small trees, for every
--- scene with the goal that is named.
+-- The best node, and reports of small trees, for every scene with the goal that is named.
 use Rattle.std.specs.Prelude.{ℕ, ◌≡◌, true, false, Option, Some, None, List, [], ◌∷◌, ◌++◌, codes}
 use Rattle.plan_model.specs.declared.records.Record.{Record}
 use Rattle.plan_model.specs.Runs.Endings.{NewNode, SameNode, NoWay, Steered, SkippedBy, record_of_ending}
@@ -10,6 +9,7 @@ use Rattle.plan_model.specs.Trees.BestNode.{is_in_goal, lies_in_goals, goals_of,
 use Rattle.plan_model.specs.Reports.ReportText.{short_report, full_report}
 use Rattle.plan_model.specs.Vectors.Geometry.{at}
 
+-- ---- Records of worked runs: each by its worker, the worker's turn and what became of the mark.
 -- of a mark that was placed
 abbrev pub placed_by : ℕ → ℕ → ℕ → ℕ → ℕ → ℕ → Record
 placed_by worker turn nearest parent cost class =
@@ -28,6 +28,7 @@ blocked_record k nearest = record_of_ending 0 k (Steered nearest NoWay)
 abbrev pub skipped_record : ℕ → ℕ → Record
 skipped_record k g = record_of_ending 0 k (SkippedBy g)
 
+-- ---- reports
 -- the start, and a node that has it as its parent
 abbrev pub two_nodes : List (Option Twig)
 two_nodes = Some (record { point = at 0 0; parent = 0 }) ∷ Some (record { point = at 30 40; parent = 0 }) ∷ []

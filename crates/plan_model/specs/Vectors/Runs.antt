@@ -1,5 +1,4 @@
--- Chains, sums and near nodes of small trees. Textbook runs of three marks in an empty room, and their reports: one in which a node is rewired, and
--- one in which its cost is equal. Choices from a path of three points.
+-- Textbook runs of three marks in an empty room, and their reports: one in which a node is rewired, and one in which its cost is equal.
 use Rattle.std.specs.Prelude.{◌≡◌, Option, Some, None, List, [], ◌∷◌, ◌++◌, ℕ, false, codes}
 use Rattle.plan_model.specs.Terms.{Goal, Point, Twig}
 use Rattle.plan_model.specs.Trees.NodeLists.{point_of, points_of, chain, sum_of}
@@ -14,6 +13,7 @@ use Rattle.plan_model.specs.Vectors.Reports.{placed_record, box}
 use Rattle.plan_model.specs.Reports.ReportText.{short_report, full_report}
 use Rattle.plan_model.specs.Spaces.Clearance.{IsChoice, cost_of_choice, kept_points}
 
+-- ---- Chains, sums and near nodes of small trees.
 -- the start, an absent node, and a node below the start
 abbrev pub gapped : List (Option Twig)
 gapped = Some (record { point = at 0 0; parent = 0 }) ∷ None ∷ Some (record { point = at 30 40; parent = 0 }) ∷ []
@@ -46,6 +46,7 @@ pub record TreeVectors : Type 0 where
   pub at_radius_0 : near (points_of gapped) (at 30 40) 0 ≡ 2 ∷ []
   pub none_near : near (points_of gapped) (at 30 41) 0 ≡ []
 
+-- ---- runs
 -- a point body in the corner of an empty room, and goals by which marks are skipped; with this gamma the radius is the step for the first three nodes
 abbrev pub open_setup_to : List Goal → Setup
 open_setup_to goals = record { space = empty_room (at 100 100); start = at 0 0; step = 50; gamma = 1000; goals = goals }
@@ -101,6 +102,7 @@ pub record RunVectors : Type 0 where
   pub report_of_kept : (scene : Scene) → scene.goals ≡ box 40 80 40 80 ∷ [] → scene.informed ≡ false
       → short_report scene 3 (state_of kept_tree kept_records) ≡ kept_text
 
+-- ---- Choices from a path of three points.
 -- two sides of a right triangle
 abbrev pub two_sides : List Point
 two_sides = at 0 0 ∷ at 30 0 ∷ at 30 40 ∷ []

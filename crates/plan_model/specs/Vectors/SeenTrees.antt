@@ -1,5 +1,5 @@
--- Ways through a kd-tree of three nodes. What two workers have seen of a kd-tree of five nodes: one when a call begins, after 6 steps, and when it
--- returns, after 10; the other after 7 steps; and what the first has seen when it has taken over what the other has.
+-- What two workers have seen of a kd-tree of five nodes: one when a call begins, after 6 steps, and when it returns, after 10; the other after 7
+-- steps; and what the first has seen when it has taken over what the other has.
 use Rattle.std.specs.Prelude.{◌≡◌, ℕ, zero, suc, Bool, true, false, Option, Some, None, List, [], ◌∷◌}
 use Rattle.plan_model.specs.Terms.{Point}
 use Rattle.plan_model.specs.Seen.SeenTrees.{goes_right, IsOnWay, EndsBelow, IsSeen, HasSeenAtLeast, SharedTree, IsTrueOf}
@@ -7,6 +7,7 @@ use Rattle.plan_model.specs.Vectors.Geometry.{at}
 use Rattle.plan_model.specs.Trees.NodeLists.{IsPresent}
 use Rattle.plan_model.specs.Seen.Sights.{Sight, KeepsSight, IsLaterMoment, TakesOver, IsSwept}
 
+-- ---- Ways through a kd-tree of three nodes.
 abbrev pub three_points : List (Option Point)
 three_points = Some (at 5 5) ∷ Some (at 5 3) ∷ Some (at 9 2) ∷ []
 
@@ -34,6 +35,7 @@ pub record WayVectors : Type 0 where
   pub ends_beside_a_child : EndsBelow three_children three_points (at 9 9) 1 1 (at 5 3)
   pub ends_at_a_leaf : EndsBelow three_children three_points (at 8 1) 2 2 (at 9 2)
 
+-- ---- seen trees
 -- step 3 had found the place to the left of node 0 empty
 abbrev pub found_at_entry : ℕ → Bool → ℕ
 found_at_entry zero false = 3
@@ -76,7 +78,6 @@ at_return = record {
 }
 
 -- ---- another worker
-
 -- its step 2 found the place to the left of node 0 empty
 abbrev pub found_by_other : ℕ → Bool → ℕ
 found_by_other zero false = 2
@@ -102,7 +103,6 @@ of_other = record {
 }
 
 -- ---- both
-
 abbrev pub five_children : ℕ → Bool → Option ℕ
 five_children zero false = Some 4
 five_children n side = four_children n side
@@ -124,7 +124,6 @@ of_both = record {
 }
 
 -- ---- the tree
-
 abbrev pub five_points : List (Option Point)
 five_points = Some (at 5 5) ∷ Some (at 5 3) ∷ Some (at 9 2) ∷ Some (at 9 8) ∷ Some (at 4 3) ∷ []
 

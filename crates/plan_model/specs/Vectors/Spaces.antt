@@ -1,6 +1,4 @@
--- A body in a room of 10 by 10, and points of a segment. Bodies that touch an obstacle or come as close as the clearance, and bodies that lie beside
--- it. Two workers whose first marks overlap: a closed run that no order of whole marks gives. Points and segments of a point body beside a square,
--- and of one with a clearance beside a pillar.
+-- Worked values of configuration spaces: rooms, overlaps, clearances and meetings.
 use Rattle.std.specs.Prelude.{◌≡◌, List, pos, neg_ℤ, [], ◌∷◌, Some, slice_get, slice_index_or}
 use Rattle.plan_model.specs.Terms.{ConfigurationSpace, Vertex, le_refl}
 use Rattle.plan_model.specs.Spaces.ConfigurationSpace.{space_among, at_lattice, InRoom, scaled}
@@ -14,6 +12,7 @@ use Rattle.plan_model.specs.Runs.OrderLaw.{turns_of}
 use Rattle.plan_model.specs.Vectors.Reports.{placed_by}
 use Rattle.plan_model.specs.Vectors.Runs.{open_setup, marks_to_rewire}
 
+-- ---- A body in a room of 10 by 10, and points of a segment.
 abbrev pub triangle : List Vertex
 triangle = corner 0 0 ∷ corner 4 0 ∷ corner 0 4 ∷ []
 
@@ -39,6 +38,7 @@ pub record RoomVectors : Type 0 where
   -- a point with twice its denominator
   pub doubled : scaled 2 two_is_positive (at_lattice (at 3 5)) ≡ halves (pos 6) (pos 10)
 
+-- ---- Bodies that touch an obstacle or come as close as the clearance, and bodies that lie beside it.
 abbrev pub small_triangle : List Vertex
 small_triangle = corner 0 0 ∷ corner 2 0 ∷ corner 0 2 ∷ []
 
@@ -86,6 +86,7 @@ pub record MeetingVectors : Type 0 where
   pub left_of_clearance_and_above : ¬ Meets 5 point_body (at_lattice (at 34 66)) pillar
   pub above_clearance : ¬ Meets 5 point_body (at_lattice (at 35 66)) pillar
 
+-- ---- Two workers whose first marks overlap: a closed run that no order of whole marks gives.
 -- Worker 0 chose the start as nearest for mark 0 before worker 1 placed mark 1, and counted two nodes after it.
 abbrev pub early_record : Record
 early_record = placed_by 0 0 0 0 12800 2
@@ -111,6 +112,7 @@ pub record OverlapVectors : Type 0 where
   pub turns_of_other : turns_of overlapped.record_of 3 1 ≡ 1
   pub turns_of_none : turns_of overlapped.record_of 3 2 ≡ 0
 
+-- ---- Points and segments of a point body beside a square, and of one with a clearance beside a pillar.
 abbrev pub square : List Vertex
 square = corner 10 10 ∷ corner 20 10 ∷ corner 20 20 ∷ corner 10 20 ∷ []
 

@@ -1,4 +1,4 @@
--- Lines, words and numbers of the grammar. Counts of faults, and calls on streams in memory. Texts that are refused, and a text that spells a scene.
+-- Texts that are refused, and a text that spells a scene.
 use Rattle.std.specs.Prelude.{◌≡◌, true, false, pos, negsuc, [], ◌∷◌, codes, ℕ, List, Ok, Err, ◌==◌, ◌++◌}
 use Rattle.plan_model.specs.Texts.TextLines.{lines_of, words_of, is_skipped, is_number, value_of}
 use Rattle.plan_model.specs.Texts.Streams.{FaultsRose, MemSinkState, MemSourceState, ended_after, counted_up, write_result, after_write, read_result}
@@ -11,6 +11,7 @@ use Rattle.plan_model.specs.Texts.CanonicalText.{canonical_text}
 use Rattle.plan_model.specs.Vectors.Geometry.{at, corner, corner_below}
 use Rattle.plan_model.specs.declared.text_terms.Kind.TheVariants as kinds
 
+-- ---- Lines, words and numbers of the grammar.
 pub record LineVectors : Type 0 where
   pub unended : lines_of (codes "one\ntwo") ≡ codes "one" ∷ codes "two" ∷ []
   pub ended : lines_of (codes "one\ntwo\n") ≡ codes "one" ∷ codes "two" ∷ []
@@ -45,6 +46,7 @@ pub record NumberVectors : Type 0 where
   -- one more than the last value of a u64
   pub long : value_of (codes "18446744073709551616") ≡ pos 18446744073709551616
 
+-- ---- Counts of faults, and calls on streams in memory.
 -- room for so many bytes, of which one is taken; the third call fails
 abbrev pub sink_with : ℕ → ℕ → MemSinkState
 sink_with room calls = record { bytes = 65 ∷ []; room = room; most = 2; fails = 3 ∷ []; calls = calls; faults = 0 }
@@ -79,6 +81,7 @@ pub record StreamVectors : Type 0 where
   -- the places after the bytes that are read keep what they hold
   pub prefix : read_into (source_of (65 ∷ []) 0) (1 ∷ 2 ∷ 3 ∷ []) ≡ 65 ∷ 2 ∷ 3 ∷ []
 
+-- ---- texts
 -- version 1 without its keys
 abbrev pub without_keys : Format
 without_keys = record { reads = λ version. version == 1; built = λ key. false }

@@ -1,17 +1,18 @@
--- Trees that are lists of nodes with their costs. Edges of a tree in which each node costs exactly what its parent does and the edge. The first
--- number that breaks a law.
-use Rattle.report_judge.specs.Terms.{Clear, ConfigurationSpace, FallAlong, IsBounded, IsPresent, IsSettled, Knot, List, Option, Point, Record, Setup, []}
-use Rattle.report_judge.specs.Terms.{cost_of, is_placed, point_at, squared_distance, state_of_lists, turns_of}
+-- The first number that breaks a law.
+use Rattle.report_judge.specs.Terms.{Clear, ConfigurationSpace, FallAlong, IsBounded, IsPresent, IsSettled, Knot, Point, Record, Setup, [], cost_of, is_placed}
+use Rattle.report_judge.specs.Terms.{point_at, squared_distance, state_of_lists, turns_of}
 use Rattle.std.specs.Prelude.{◌≡◌, ◌≢◌, ℕ, ◌+◌, ◌^◌, ◌<◌, ◌≤◌, Option, Some, None, List, slice_index_or, suc, ◌*◌, min, is_some, length, slice_get}
 use Rattle.report_judge.specs.Texts.ReportLines.{Tally}
 use Rattle.report_judge.specs.Texts.ReportSheets.{PricedPath, head_lines}
 use Rattle.report_judge.specs.Laws.SheetLaws.{HasOwnTurn, KeepsNodeLaw}
 
+-- ---- Trees that are lists of nodes with their costs.
 -- each node costs what the edges on its way from the start do, and costs fall along parents
 pub record IsSettledList (knots : List (Option Knot)) : Type 0 where
   pub fall : FallAlong (state_of_lists knots []).cost (state_of_lists knots []).points (state_of_lists knots []).parent
   pub settled : IsSettled (state_of_lists knots [])
 
+-- ---- Edges of a tree in which each node costs exactly what its parent does and the edge.
 -- The edge is clear and no longer than a step whose square this is, and the second node costs exactly what the first does and the edge.
 pub record IsExactEdge (space : ConfigurationSpace) (squared_step : ℕ) (from to : Knot) : Type 0 where
   pub clear : Clear space from.point to.point
@@ -35,7 +36,6 @@ abbrev pub KeepsEdges : ConfigurationSpace → ℕ → List (Option Knot) → �
 KeepsEdges space squared_step knots n = 0 < n → (knot : Knot) → slice_index_or knots n None ≡ Some knot → HangsExactly space squared_step knots n knot
 
 -- ---- first parents
-
 -- The edge is clear and no longer than a step whose square this is, and the second node costs at least what the first does and the edge.
 pub record IsHighEdge (space : ConfigurationSpace) (squared_step : ℕ) (from to : Knot) : Type 0 where
   pub clear : Clear space from.point to.point
@@ -49,6 +49,7 @@ pub record MayHang (space : ConfigurationSpace) (squared_step : ℕ) (knots : Li
   pub other : place.parent ≢ n
   pub edge : IsHighEdge space squared_step up place
 
+-- ---- first breaks
 -- the first of the numbers below a limit that breaks a law; none if each of them keeps it
 abbrev pub IsFirstBreak : (ℕ → Type 0) → ℕ → Option ℕ → Type 0
 IsFirstBreak Keeps limit None = (k : ℕ) → k < limit → Keeps k
@@ -65,7 +66,6 @@ abbrev pub IsNewKey : List ℕ → ℕ → Type 0
 IsNewKey keys k = (j : ℕ) → j < k → slice_index_or keys j 0 ≢ slice_index_or keys k 0
 
 -- ---- turns
-
 -- the worker and the turn of a record fit into one number
 pub record HasFewTurns (entry : Record) : Type 0 where
   pub worker : entry.worker < 64
@@ -84,7 +84,6 @@ abbrev pub KeepsTurn : List Record → ℕ → Type 0
 KeepsTurn records k = (entry : Record) → slice_get records k ≡ Some entry → HasOwnTurn (length records) (slice_get records) k entry
 
 -- ---- nodes, and which marks have one
-
 -- Where a node stands, as one number; if there is none, a greater one that is its own.
 abbrev pub point_key : ℕ → Option Knot → ℕ
 point_key n None = 2 ^ 40 + n
@@ -100,7 +99,6 @@ KeepsPresence knots records k = (entry : Record) → slice_get records k ≡ Som
     → is_some (point_at (state_of_lists knots records).points (suc k)) ≡ is_placed entry.outcome
 
 -- ---- the head
-
 -- line i of the head is the one of the own head
 abbrev pub KeepsHead : Option PricedPath → Tally → Option PricedPath → Tally → ℕ → Type 0
 KeepsHead path tally own counts i = slice_get (head_lines path tally) i ≡ slice_get (head_lines own counts) i

@@ -7,7 +7,6 @@ use Rattle.report_judge.specs.Texts.ReportLines.{Tally}
 use Rattle.report_judge.specs.Texts.ReportSheets.{PricedPath, Sheet, head_lines, state_of_sheet, number_of_node_line, number_of_mark_line}
 
 -- ---- nodes and turns
-
 -- node 0 is the start, its own parent, and costs nothing
 pub record IsStartNode (setup : Setup) (state : TreeState) : Type 0 where
   pub stands : StandsAt state.points 0 setup.start
@@ -33,7 +32,6 @@ pub record HasOwnTurn (limit : ℕ) (record_of : ℕ → Option Record) (k : ℕ
   pub below : entry.turn < turns_of record_of limit entry.worker
 
 -- ---- the head
-
 -- the best path with its cost, if there is one
 abbrev pub path_by : TreeState → Option ℕ → Option PricedPath
 path_by state None = None
@@ -59,7 +57,6 @@ tally_of scene limit state = record {
 }
 
 -- ---- the laws by their numbers
-
 -- A line, counted from 1, keeps a law. Law 2 is of nodes, law 3 of turns, law 4 of the presence of a node for each placed mark, law 5 of
 -- records, and law 6 of the lines before those of nodes, which are those of the run's report.
 pub record KeepsLawAt (task : Task) (sheet : Sheet) (law line : ℕ) : Type 0 where

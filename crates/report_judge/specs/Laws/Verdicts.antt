@@ -1,7 +1,6 @@
--- The verdict on the bytes of a report: that they are lawful, or the least law that is broken and the first line that breaks it. What a verdict on a
--- report says of its bytes.
+-- The verdict on the bytes of a report: that they are lawful, or the least law that is broken and the first line that breaks it.
 use Rattle.std.specs.Prelude.{◌≡◌, ℕ, ◌<◌, ◌⊎◌, List, length}
-use Rattle.report_judge.specs.Terms.{Broken, IsClosed, IsSettled, Lawful, List, Task, TreeState, Verdict, full_report, setup_of, ℕ}
+use Rattle.report_judge.specs.Terms.{Broken, IsClosed, IsSettled, Lawful, Task, TreeState, Verdict, full_report, setup_of}
 use Rattle.report_judge.specs.Texts.ReportForms.{BreaksFormFirst}
 use Rattle.report_judge.specs.Texts.ReportLines.{extent_of, lines_text}
 use Rattle.report_judge.specs.Texts.ReportSheets.{Sheet, SpellsSheet, lines_of_sheet}
@@ -32,6 +31,7 @@ pub record BreaksLawFirst (task : Task) (report : List ℕ) (law line : ℕ) : T
 abbrev pub IsBroken : Task → List ℕ → ℕ → ℕ → Type 0
 IsBroken task report law line = ((law ≡ 1) × BreaksFormFirst (extent_of task) report line) ⊎ BreaksLawFirst task report law line
 
+-- ---- What a verdict on a report says of its bytes.
 -- Lawful bytes are the full report of a settled run that is closed over all marks; of others it names the least law that is broken and the
 -- first line that breaks it.
 abbrev pub IsVerdict : Task → List ℕ → Verdict → Type 0

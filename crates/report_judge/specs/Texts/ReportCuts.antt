@@ -1,5 +1,4 @@
--- The text of a scene and the bytes of a report in one text, with a line `report` between them. What is read of the bytes of a report: a sheet, or
--- the first line that breaks the form.
+-- The text of a scene and the bytes of a report in one text, with a line `report` between them.
 use Rattle.std.specs.Prelude.{◌≡◌, ◌≢◌, ◌⊎◌, ◌==◌, not, ℕ, Bool, true, All, List, [], ◌∷◌, ◌++◌, codes}
 use Rattle.report_judge.specs.Terms.{CostedPath, Option, SheetRead, list_all, option_map, text_of}
 use Rattle.report_judge.specs.Texts.ReportSheets.{PricedPath, Sheet}
@@ -33,6 +32,7 @@ pub record HasNoReportLine (text : List ℕ) : Type 0 where
   pub others : All IsOtherLine lines
   pub end : IsOtherLine last
 
+-- ---- What is read of the bytes of a report: a sheet, or the first line that breaks the form.
 -- the path that was read, with its cost
 abbrev pub priced_path : Option CostedPath → Option PricedPath
 priced_path path = option_map (λ (p : CostedPath). record { points = p.points.items; cost = p.cost }) path

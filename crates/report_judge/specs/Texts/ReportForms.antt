@@ -1,5 +1,4 @@
--- Where bytes first break the form of a full report: line by line, each against the lines before it. The lines of one kind at the front of a text,
--- read as far as they go.
+-- Where bytes first break the form of a full report: line by line, each against the lines before it.
 use Rattle.std.specs.Prelude.{◌≡◌, ℕ, suc, ◌+◌, ◌-◌, ◌<◌, ◌≤◌, Option, Some, List, [], ◌++◌, length, take, slice_get, zero, ◌∷◌, IsSome, All, None, map}
 use Rattle.std.specs.Prelude.{slice_index_or}
 use Rattle.report_judge.specs.Texts.ReportLines.{ReportLine, Extent, line_text, lines_text, FitsLine, Tally, FitsKnot, FitsEntry}
@@ -62,6 +61,7 @@ pub record BreaksFormFirst (extent : Extent) (report : List ℕ) (line : ℕ) : 
   pub no_next : (next : ReportLine) (after : List ℕ) → MayStandNext before next → FitsLine extent next → ¬ (rest ≡ line_text next ++ after)
   pub not_all : ¬ (AreAll extent before × (rest ≡ []))
 
+-- ---- The lines of one kind at the front of a text, read as far as they go.
 -- Points at the front of a text, at most so many, and the rest of it; if there are fewer, no point stands next.
 pub record ReadsPoints (most : ℕ) (bytes : List ℕ) (points : List Point) (rest : List ℕ) : Type 0 where
   pub text : bytes ≡ lines_text (map PathPoint points) ++ rest

@@ -15,7 +15,6 @@ pub data ReportLine : Type 0 where
   MarkLine : (k : ℕ) (entry : Record) → ReportLine
 
 -- ---- texts
-
 -- a word, a number in decimal, and a byte after it
 abbrev pub field : List ℕ → ℕ → ℕ → List ℕ → List ℕ
 field word n e rest = word ++ (decimal n ++ e ∷ rest)
@@ -54,7 +53,6 @@ abbrev pub lines_text : List ReportLine → List ℕ
 lines_text lines = flat_map line_text lines
 
 -- ---- ranges
-
 -- what the form of a report depends on: how many marks there are, and whether any may be skipped
 pub record Extent : Type 0 where
   pub marks : ℕ

@@ -18,7 +18,6 @@ pub record Sheet : Type 0 where
   pub records : List Record
 
 -- ---- its lines
-
 -- the lines of the path
 abbrev pub path_lines : Option PricedPath → List ReportLine
 path_lines None = NoPath ∷ []
@@ -51,7 +50,6 @@ abbrev pub lines_of_sheet : Sheet → List ReportLine
 lines_of_sheet sheet = (head_lines sheet.path sheet.tally ++ lines_of_knots sheet.knots) ++ lines_of_records sheet.records
 
 -- ---- its form
-
 -- each number of a path is in its range
 pub record FitsPath (path : PricedPath) : Type 0 where
   pub few : length path.points < 2 ^ 64
@@ -84,7 +82,6 @@ pub record SpellsSheet (extent : Extent) (report : List ℕ) (sheet : Sheet) : T
   pub text : report ≡ lines_text (lines_of_sheet sheet)
 
 -- ---- where lines stand, counted from 1
-
 -- the line of node n
 abbrev pub number_of_node_line : Sheet → ℕ → ℕ
 number_of_node_line sheet n = length (head_lines sheet.path sheet.tally) + suc (count_by is_some (take n sheet.knots))

@@ -68,7 +68,6 @@ pub record AreListed (listed : Listed) : Type 0 where
   pub radii : AreRadiiOf listed.task.now.scene listed.radii.now
 
 -- ---- the law of records, mark by mark
-
 -- mark k keeps the law of records
 abbrev pub KeepsRecord : Task → List (Option Knot) → List Record → ℕ → Type 0
 KeepsRecord task knots records k = (entry : Record) → slice_get records k ≡ Some entry

@@ -1,5 +1,4 @@
--- The nodes of a worker, as numbered points: the start, and those that it placed. What the record of a mark says once it is known to which point the
--- mark was steered. The marks of a worker between two of its turns, and the first of them that breaks a law.
+-- The nodes of a worker, as numbered points: the start, and those that it placed.
 use Rattle.std.specs.Prelude.{◌≡◌, ℕ, suc, ◌<◌, ◌⊎◌, ◌+◌, ◌≤◌, ◌^◌, IsTrue, true, ⊤, All, Contains, Option, Some, None, List, slice_get, length}
 use Rattle.report_judge.specs.Terms.{Clear, ConfigurationSpace, IsBounded, IsEarlier, IsGoalNode, IsNotAbove, IsPresent, Knot, NearerSearch, NeighbourSearch}
 use Rattle.report_judge.specs.Terms.{Numbered, Point, Reached, ReachesLawfully, Record, Setup, Standing, StandsAt, Steered, TreeState, cost_of, distance_to}
@@ -40,7 +39,6 @@ abbrev pub ArePresent : TreeState → Type 0
 ArePresent state = (entry : Record) (n : ℕ) → IsEarlier state entry n → IsPresent state.points n
 
 -- ---- searches by places
-
 -- one of the positions from one up to another has such a point
 pub record HasOne (Such : Numbered → Type 0) (nodes : List Numbered) (from to : ℕ) : Type 0 where
   pub position : ℕ
@@ -76,7 +74,6 @@ abbrev pub IsUnlawfulAt : ConfigurationSpace → List Standing → NeighbourSear
 IsUnlawfulAt space standings search m = IsNearerAt standings search.nearer m ⊎ IsPassedOverAt space standings search m
 
 -- ---- the same by nodes
-
 -- no earlier node is nearer to a mark than the nearest of its record
 abbrev pub IsNearestOfEarlier : TreeState → Record → Point → Type 0
 IsNearestOfEarlier state entry mark = (i : ℕ) → IsEarlier state entry i → IsNotAbove (distance_to mark state.points) entry.nearest i
@@ -101,6 +98,7 @@ KeepsNear space state entry p radius = (i : ℕ) → IsEarlier state entry i →
 abbrev pub FitFirstCosts : List Record → Type 0
 FitFirstCosts records = (k : ℕ) (entry : Record) → slice_get records k ≡ Some entry → entry.first_cost < 2 ^ 44
 
+-- ---- What the record of a mark says once it is known to which point the mark was steered.
 -- each goal node that stood already was placed at more than a bound
 abbrev pub AreDearer : Setup → TreeState → Record → ℕ → Type 0
 AreDearer setup state entry bound = (i : ℕ) → IsEarlier state entry i → IsGoalNode setup.goals state.points i → bound < first_cost_of state i
@@ -116,6 +114,7 @@ pub record IsWithinFirst (state : TreeState) (cost node : ℕ) (p : Point) : Typ
   pub present : IsPresent state.points node
   pub within : cost ≤ first_cost_through state p node
 
+-- ---- The marks of a worker between two of its turns, and the first of them that breaks a law.
 -- mark k was handled by the worker in a turn from one up to another, and without that
 pub record IsMarkBetween (records : List Record) (own from to k : ℕ) : Type 0 where
   pub entry : Record

@@ -1,11 +1,9 @@
--- What a worker has seen of its own nodes before each of its turns: how many there are, and what those in a goal cost at first. What the nodes of a
--- worker cost, in the order in which it placed them.
+-- What a worker has seen of its own nodes before each of its turns: how many there are, and what those in a goal cost at first.
 use Rattle.std.specs.Prelude.{◌≡◌, ℕ, zero, suc, ◌<◌, ◌≤◌, ◌==◌, ◌&&◌, nat_lt, Bool, true, false, Option, Some, None, List, length, count_by, slice_get}
 use Rattle.std.specs.Prelude.{slice_index_or}
-use Rattle.report_judge.specs.Terms.{Goal, IsGoalNode, OwnTurns, Record, Seen, Standing, TreeState, first_cost_of, is_placed, range_with_len, slice_index_or}
+use Rattle.report_judge.specs.Terms.{Goal, IsGoalNode, OwnTurns, Record, Seen, Standing, TreeState, first_cost_of, is_placed, range_with_len}
 
 -- ---- turns of a worker
-
 -- the record is of turn t of this worker
 pub record IsTurnOf (own t : ℕ) (entry : Record) : Type 0 where
   pub worker : entry.worker ≡ own
@@ -30,7 +28,6 @@ HaveOwnTurns records = (j k : ℕ) (one other : Record) → slice_get records j 
     → one.worker ≡ other.worker → one.turn ≡ other.turn → j ≡ k
 
 -- ---- nodes before a turn
-
 -- the record is of a mark that the worker placed before this turn
 abbrev pub places_before : ℕ → ℕ → Option Record → Bool
 places_before worker turn None = false
@@ -63,6 +60,7 @@ pub record AreSeen (goals : List Goal) (state : TreeState) (worker turn : ℕ) (
   pub counted : seen.nodes ≡ count_before state worker turn
   pub least : IsLeastIfAny goals state worker turn seen.least
 
+-- ---- What the nodes of a worker cost, in the order in which it placed them.
 -- the number of turns up to that of a record, and with it; 0 where there is none
 abbrev pub turns_to : Option Record → ℕ
 turns_to None = 0

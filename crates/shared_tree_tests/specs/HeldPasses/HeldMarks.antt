@@ -1,4 +1,4 @@
--- Passes with a mark in hand, as the tests follow them. Passes and their shares, as the tests follow them.
+-- Passes with a mark in hand, as the tests follow them.
 use Rattle.std.specs.Prelude.{◌≡◌, ℕ, ◌^◌, ◌≤◌, Option, Some, None}
 use Rattle.shared_tree_tests.specs.Terms.{BelongsTo, Clear, Hand, IsUnskipped, MayClaim, PassState, Point, SeesPoint, SharedState, Stage, TreeOf, View}
 use Rattle.shared_tree_tests.specs.Terms.{best_of_word, cost_of, sees, setup_in, share}
@@ -33,6 +33,7 @@ pub record HangsFromStart (cost : ℕ) (view : View) : Type 0 where
   pub written : 2 ^ 63 ≤ sees view (TreeOf 0)
   pub unskipped : IsUnskipped view hand
 
+-- ---- Passes and their shares, as the tests follow them.
 -- a pass of the tree with this share that may claim a mark
 pub record HasShare (shared : SharedState) (n : ℕ) (pass : PassState) : Type 0 where
   pub may_claim : MayClaim shared pass

@@ -7,7 +7,6 @@ use Rattle.plan_model.specs.declared.records.Outcome.TheVariants.{Blocked, Same}
 use Rattle.shared_tree_tests.specs.SmallRuns.SmallWorlds.{claimed_table, hand_at, handling, linked_table, mark_node, never, table, small_run, start_above}
 
 -- ---- records
-
 -- a view that has counted its node, and has seen so many nodes
 abbrev pub counter_of : ℕ → ℕ → View
 counter_of cost count = handling (hand_at Counted 0 cost) (table count 1 (start_above 1) mark_node 0)
@@ -28,7 +27,6 @@ pub record AllowedRecordVectors : Type 0 where
   pub dearer_past_the_radius : MayRecord (counter_of 2000 2048) (hand_at Counted 0 2000) (placed_by 0 0 0 0 2000 12)
 
 -- ---- one cost, and free points
-
 -- parents, costs, the cost that was written of each, and records
 abbrev pub tree_by : List (Option Point) → List ℕ → List ℕ → ℕ → List Record → TreeState
 tree_by points parents costs written entries = record {

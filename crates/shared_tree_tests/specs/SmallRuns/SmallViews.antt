@@ -10,7 +10,6 @@ use Rattle.shared_tree_tests.specs.SmallRuns.SmallWorlds.{claimed_table, found_r
 use Rattle.shared_tree_tests.specs.SmallRuns.SmallWorlds.{recorded_table, small_run, start_above, table, took_best, view_with, with_goal, worker_at}
 
 -- ---- what a pass may do
-
 -- the words with node 1 below the start, at one more than the edge costs
 abbrev pub dearer_table : List ℕ
 dearer_table = table 1 1 (start_above 1) (node_by (point_word (at 8 9)) 0 (tree_word 0 1281) (tree_word 0 1281)) 0
@@ -42,7 +41,6 @@ pub record AllowedStepVectors : Type 0 where
   pub goes_on_where_none_is_skipped : IsUnskipped (idle claimed_table) (new_hand 0)
 
 -- ---- what steps leave, and later views
-
 -- two steps later, the third of which found the place to the right of node 0 empty
 abbrev pub waited : View
 waited = record (idle claimed_table) { steps = 5; looked = 4 ∷ replicate 13 0; found_zero = found_right 5 }
@@ -95,7 +93,6 @@ pub record LaterViewVectors : Type 0 where
   pub found_where_a_child_was : ¬ IsLater (idle linked_table) (record waited { seen = linked_table })
 
 -- ---- lawful views
-
 -- these words are lawfully seen by a view with nothing in hand
 abbrev pub IsLawfullySeen : List ℕ → Type 0
 IsLawfullySeen seen = IsLawfulView (idle seen)
@@ -155,7 +152,6 @@ pub record UnlawfulViewVectors : Type 0 where
       (table 1 1 (start_above 1) (node_by (point_word (at 8 9)) 0 (tree_word 0 1279) (tree_word 0 1280)) 0) never [])
 
 -- ---- runs that are as was seen
-
 -- the run of these words is as the view saw it
 abbrev pub StandsIn : List ℕ → View → Type 0
 StandsIn items view = StandsAsSeen view (state_of_links (run_sizes small_run) (words_of_run small_run items))

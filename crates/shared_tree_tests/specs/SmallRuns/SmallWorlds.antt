@@ -4,7 +4,6 @@ use Rattle.shared_tree_tests.specs.Terms.{Counted, Half, Hand, IsWorld, Linked, 
 use Rattle.shared_tree_tests.specs.Terms.{empty_room, new_hand, no_best, placed_by, point_word, record_word, tree_word, words_of_run}
 
 -- ---- the run
-
 -- a run of two workers from limit 0: a point body that starts at (5, 5) in an empty room, and one mark at (8, 9), whose edge costs 1280
 abbrev pub small_run : SharedRun
 small_run =
@@ -15,7 +14,6 @@ abbrev pub goal_run : SharedRun
 goal_run = record small_run { goals = record { low = at 8 9; high = at 8 9 } ∷ [] }
 
 -- ---- its words
-
 -- the words of a node: its point, its left and its right child, its tree word and its first word
 abbrev pub node_by : ℕ → ℕ → ℕ → ℕ → List ℕ
 node_by point right tree first = point ∷ 0 ∷ right ∷ tree ∷ first ∷ []
@@ -57,7 +55,6 @@ abbrev pub recorded_table : ℕ → List ℕ
 recorded_table worker = table 2 1 (start_above 1) mark_node (record_word (placed_by worker 0 0 0 1280 1))
 
 -- ---- views
-
 -- the mark in hand at this stage, steered from the start, with this parent and this cost
 abbrev pub hand_at : Stage → ℕ → ℕ → Hand
 hand_at stage parent cost = record { mark = 0; stage = stage; best = None; nearest = 0; point = at 8 9; parent = parent; cost = cost }
@@ -101,7 +98,6 @@ abbrev pub took_best : ℕ → Hand
 took_best best = record (new_hand 0) { best = Some best }
 
 -- ---- worlds
-
 abbrev pub AreLawful : List ℕ → View → View → Type 0
 AreLawful items one other = IsWorld small_run (words_of_run small_run items) (one ∷ other ∷ [])
 
