@@ -19,8 +19,8 @@ pub struct Numbered {
     pub number: u32,
 }
 
-/// Positions that follow each other in a band: all of that band whose points stand in the columns of a disc. Those points may still lie
-/// outside the disc ([`Disc::has`]).
+/// Positions that follow each other in a band, of points that stand in the columns of a disc. Those points may still lie outside the disc
+/// ([`Disc::has`]).
 #[derive(Clone, Copy, Debug, PartialEq, Eq)]
 pub struct Stretch {
     /// The first position.
