@@ -52,6 +52,23 @@ def first_and_second_call(tree):
     expect("no checksum, nothing said", (second.calls, second.said) == ((), ""))
 
 
+def has_room_for_two():
+    """Whether two crates can be proved side by side here: each needs 4 GB of free memory."""
+    with open("/proc/meminfo", encoding="utf-8") as file:
+        free = next(int(line.split()[1]) for line in file if line.startswith("MemAvailable:"))
+    return free >= 2 << 22
+
+
+def side_by_side(tree):
+    """A first build proves crates side by side, if there is room, and a later one what has changed alone."""
+    os.makedirs(tree.file("crates/plan_words"))
+    ways = {"rt lib", "rt all"}
+    expect("side by side", ways & set(planned(tree, True).calls) == (ways if has_room_for_two() else set()))
+    os.makedirs(tree.file("crates/planner/out/rlib"))
+    append(tree, SOURCE)
+    expect("one by one", not ways & set(planned(tree, True).calls))
+
+
 def newer_dates(tree):
     planned(tree, True)
     for path in sources(tree):
@@ -314,6 +331,7 @@ def called_by_link(tree):
 
 CASES = {
     "the first call builds, the second does not": first_and_second_call,
+    "a first build proves crates side by side": side_by_side,
     "newer dates build nothing": newer_dates,
     "a copy builds nothing": copies,
     "a clone with a copied out/ builds nothing": copied_out_alone,
