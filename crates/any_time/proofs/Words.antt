@@ -37,7 +37,7 @@ pub use Rattle.std.proofs.Math.Nat.{min-le_left, min-le_right, mul-le-mul_right}
 pub use Rattle.std.proofs.lemmas.Bool.{cases_lt, true≢false}
 pub use Rattle.std.proofs.lemmas.Bool.Decides.{nat_tests}
 pub use Rattle.std.proofs.lemmas.Iterator.Adapters.{YieldsList-from_vec}
-pub use Rattle.std.proofs.lemmas.Iterator.Consumers.{YieldsList-turn}
+pub use Rattle.std.proofs.lemmas.Iterator.Consumers.{YieldsList-end, YieldsList-turn}
 pub use Rattle.std.proofs.lemmas.List.{drop_more, get_or-append_right, get_or_append_left, get_or_read, length_push, map-append, map_more, map_push}
 pub use Rattle.std.proofs.lemmas.List.{reverse-append, set-get_or, set-set}
 pub use Rattle.std.proofs.lemmas.List.Elements.{All-cons, All-contains, All-head, All-nil, All-tail, All-weaker, Contains-get_or}

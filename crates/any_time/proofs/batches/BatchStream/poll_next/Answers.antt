@@ -1,3 +1,4 @@
+use Rattle.std.proofs.lemmas.Grind.{common_steps}
 use Rattle.any_time.proofs.Words.{◌≤◌, ℕ, length, refl, ap, ◌∙◌, arith, vec_capacity, turn_after}
 use Rattle.any_time.proofs.KeptRuns.{runs_of_gave}
 use Rattle.any_time.proofs.TurnLoop.{all_rest, gave, turned_ended, turned_pending}
@@ -72,3 +73,15 @@ invariant_of-self-in-Ready-Some-Ok g c =
       omega (arith, gave_it.within, gave_it.count),
       λ fine. all,
     )
+
+pub invariant_of-self : goal.invariant_of-self
+invariant_of-self g c = grind (arith, common_steps)
+
+pub returns-in-Ready-Some-Ok-clause-kept : goal.returns-in-Ready-Some-Ok-clause-kept
+returns-in-Ready-Some-Ok-clause-kept g c = grind (arith, common_steps)
+
+pub returns-in-Ready-Some-Err-clause-kept : goal.returns-in-Ready-Some-Err-clause-kept
+returns-in-Ready-Some-Err-clause-kept g c = grind (arith, common_steps)
+
+pub returns-else-is_pending-clause-polls : goal.returns-else-is_pending-clause-polls
+returns-else-is_pending-clause-polls g c = grind (arith, common_steps)
