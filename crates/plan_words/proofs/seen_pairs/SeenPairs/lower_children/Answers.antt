@@ -4,13 +4,21 @@ use Rattle.plan_words.proofs.Claiming.{IfNone-then}
 use Rattle.plan_words.proofs.FirstPairs.{HasFirstPairs-seen, HasPairs-first, HasPairs-first_set, chain-seen}
 use Rattle.plan_words.proofs.SeenLists.{length-seen}
 use Rattle.plan_words.proofs.seen_pairs.SeenPairs.lower_children.Goals as goal
-use Rattle.plan_words.proofs.seen_pairs.SeenPairs.lower_children.Goals.{After-lower_chain}
+use Rattle.plan_words.proofs.seen_pairs.SeenPairs.lower_children.Goals.{After-lower_chain, After-self}
 
 pub lower_chain-requires-clause-index : goal.lower_chain-requires-clause-index
 lower_chain-requires-clause-index c =
     let words = c.self.inside.words.items in
     IsIndex-same (length words) (sibling_chain_in (seen_words c.self.inside.nodes words)) (sibling_chain_in words) _ _ _ c.self.invariant.index
     (λ n. sym (chain-seen c.self.inside.nodes words n))
+
+-- there is a word for each node
+all_before : (c : After-self) → length c.args.self.now ≡ c.self.inside.nodes
+all_before c = sym (ap (λ l. length l) c.self.view_is) ∙ length-seen c.self.inside.nodes c.self.inside.words.items c.self.invariant.within
+
+pub lower_chain-requires-clause-size : goal.lower_chain-requires-clause-size
+lower_chain-requires-clause-size c =
+    omega (arith, all_before (goal.at.lower_chain-requires-clause-size c).After-self, c.self.invariant.within, c.requires.size)
 
 pub lower_chain-requires-clause-pairs : goal.lower_chain-requires-clause-pairs
 lower_chain-requires-clause-pairs c =
@@ -60,3 +68,8 @@ returns-clause-pairs_found c =
     (λ found has.
     HasPairs-first_set c.lower_chain.new.seat.me.0 c.self.inside.nodes c.lower_chain.new.words.items found.node found.word (within at) (all at)
     (omega (arith, has.0, c.lower_chain.ensures.as_many)) has.1)
+
+pub returns-clause-as_many : goal.returns-clause-as_many
+returns-clause-as_many c =
+    let at = goal.at.returns-clause-as_many c in
+    length-seen c.self.inside.nodes c.lower_chain.new.words.items (within at.After-lower_chain) ∙ sym (all_before at.After-self)

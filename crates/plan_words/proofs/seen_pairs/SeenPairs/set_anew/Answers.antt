@@ -1,4 +1,5 @@
 use Rattle.plan_words.proofs.Words.{length, sym, ap, ◌∙◌, arith, slice_set, vec_capacity, chain_of, seen_words, sibling_chain_in}
+use Rattle.std.proofs.lemmas.Grind.{common_steps}
 use Rattle.plan_words.proofs.SeenLists.{StandFor, StandFor-reached, StandFor-set, needed-within}
 use Rattle.plan_words.proofs.seen_pairs.SeenPairs.set_anew.Goals as goal
 
@@ -46,3 +47,9 @@ invariant_of-self c = (stand_set c).first
 
 pub returns : goal.returns
 returns c = (stand_set c).same
+
+pub overflow_add-node : goal.overflow_add-node
+overflow_add-node c = grind (arith, common_steps)
+
+pub relink-requires-clause-parent : goal.relink-requires-clause-parent
+relink-requires-clause-parent c = grind (arith, common_steps)

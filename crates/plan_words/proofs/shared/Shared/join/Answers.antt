@@ -1,4 +1,5 @@
-use Rattle.plan_words.proofs.Words.{◌+◌, length, ap, refl, subst, sym, ◌∙◌, option_or, HasParentsBelow, first_member}
+use Rattle.plan_words.proofs.Words.{◌+◌, length, ap, arith, refl, subst, sym, ◌∙◌, option_or, HasParentsBelow, first_member}
+use Rattle.std.proofs.lemmas.Grind.{common_steps}
 use Rattle.plan_words.proofs.Joining.{first-joined, keeps_taken_over}
 use Rattle.plan_words.proofs.Owning.{same_run}
 use Rattle.plan_words.proofs.SeenChildren.{HasParentsBelow-seen}
@@ -27,3 +28,6 @@ invariant_of-pass c =
     ∙ sym (first-joined c.pass.inside.seat.me.0.crew c.other.inside.seat.me.0.crew))
     c.take_cheaper.ensures.as_many
     c.take_cheaper.ensures.each
+
+pub returns-clause-share : goal.returns-clause-share
+returns-clause-share c = grind (arith, common_steps)

@@ -1,4 +1,5 @@
-use Rattle.plan_words.proofs.Words.{ap, ◌∙◌, PassState, joined, loaded, sees, Count}
+use Rattle.plan_words.proofs.Words.{ap, arith, ◌∙◌, PassState, joined, loaded, sees, Count}
+use Rattle.std.proofs.lemmas.Grind.{common_steps}
 use Rattle.plan_words.proofs.Owning.{with_view_told}
 use Rattle.plan_words.proofs.shared.Shared.join_retired.Goals as goal
 
@@ -9,3 +10,6 @@ returns-clause-view c =
     c.take_over.ensures.table
     (c.take_over.ensures.told.view_is
     ∙ ap (λ (o : PassState). loaded (joined c.retired.inside.seat.me.0 o.view) Count (sees then Count)) c.other.view_is)
+
+pub returns-clause-share : goal.returns-clause-share
+returns-clause-share c = grind (arith, common_steps)

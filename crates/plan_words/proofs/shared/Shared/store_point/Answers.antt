@@ -1,5 +1,6 @@
 use Rattle.plan_words.proofs.Words.{◌≡◌, ◌<◌, ◌+◌, suc, ap, arith, length, refl, subst, sym, ◌∙◌, IfSome, Tells, IsBounded-steered, IsUnskipped, pointed}
 use Rattle.plan_words.proofs.Words.{IsSteered, sizes_in, PointOf, place_of, point_word, Claimed}
+use Rattle.std.proofs.lemmas.Grind.{common_steps}
 use Rattle.plan_words.proofs.HandSteps.{at_hand}
 use Rattle.plan_words.proofs.KeptPairs.{keeps_hand}
 use Rattle.plan_words.proofs.Allowing.{may_point}
@@ -65,3 +66,9 @@ returns-clause-goes_on g c =
     let held = sym c.pass.invariant.1.hand_is ∙ c.in-Some.is in
     let told = c.store.ensures.2 c.in-Some.hand held in
     goes_on_told _ _ _ _ c.pass.view_is told.view_is told.goes_on
+
+pub point-place-requires : goal.point-place-requires
+point-place-requires g c = grind (arith, common_steps)
+
+pub returns-clause-view : goal.returns-clause-view
+returns-clause-view g c = grind (arith, common_steps)
