@@ -1,5 +1,6 @@
 use Rattle.report_judge.proofs.Words.{◌≡◌, Bool, true, cond, [], Some, None, arith, sym, ap, ◌∙◌, slice_index_or, le-leb, leb-true, true≢false, Scene}
 use Rattle.report_judge.proofs.Words.{mark_bound, setup_of, skipping_goals, is_goal_point, lies_in_goals, point_at, kept_cost_of, run_of}
+use Rattle.plan_model.proofs.SceneBounds.{All-goals_bounded}
 use Rattle.plan_model.specs.Trees.BestNode.{bound_of}
 use Rattle.report_judge.proofs.Laws.ListedNodes.{goal-listed, goal-none, informed_by_goal}
 use Rattle.report_judge.proofs.marks.lawful_marks.is_skipped_lawfully.Goals as goal
@@ -7,6 +8,9 @@ use Rattle.report_judge.proofs.marks.lawful_marks.is_skipped_lawfully.Goals as g
 -- the goals of an informed scene are those by which marks are skipped
 informed_goals : (scene : Scene) → scene.informed ≡ true → skipping_goals scene ≡ scene.goals
 informed_goals scene informed = ap (λ (b : Bool). cond b scene.goals []) informed
+
+pub bound-requires-clause-goals : goal.bound-requires-clause-goals
+bound-requires-clause-goals c = rw c.as_slice-then-lies_in_goals.ensures (All-goals_bounded c.args.scene.now)
 
 pub returns-in_default : goal.returns-in_default
 returns-in_default c = (

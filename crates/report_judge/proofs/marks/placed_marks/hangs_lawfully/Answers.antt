@@ -1,5 +1,5 @@
 use Rattle.report_judge.proofs.Words.{◌≡◌, suc, ◌+◌, ◌-◌, ◌*◌, ◌≤◌, None, arith, sym, ap, ◌∙◌, subst, slice_index_or, Knot, Hangs, StandsAt, node_count}
-use Rattle.report_judge.proofs.Words.{iff_false, kept_cost_of, run_of, setup_by}
+use Rattle.report_judge.proofs.Words.{node_count-some, iff_false, kept_cost_of, run_of, setup_by}
 use Rattle.report_judge.proofs.Laws.HangingNodes.{Hangs-listed, listed-Hangs}
 use Rattle.report_judge.proofs.marks.placed_marks.hangs_lawfully.Goals as goal
 
@@ -21,6 +21,11 @@ returns-then-kept_cost-entry g c = (
       let same = ap (λ n. kept_cost_of (slice_index_or c.args.judged.now.knots.now n None)) next in
       absurd (omega (arith, law.kept, c.if-kept_cost-entry.true, c.kept_cost.ensures, same)),
 )
+
+pub overflow_sub-judged : goal.overflow_sub-judged
+overflow_sub-judged g c =
+    let some = node_count-some (run_of c.args.judged.now).points c.args.marked.entry.nearest c.requires.nearest in
+    omega (arith, c.requires.asked.judges.count, some)
 
 pub returns : goal.returns
 returns g c =
