@@ -63,7 +63,9 @@ def side_by_side(tree):
     """A first build proves crates side by side, if there is room, and a later one what has changed alone."""
     os.makedirs(tree.file("crates/plan_words"))
     ways = {"rt lib", "rt all"}
-    expect("side by side", ways & set(planned(tree, True).calls) == (ways if has_room_for_two() else set()))
+    first = planned(tree, True, STEP="sleep 3")
+    expect("side by side", ways & set(first.calls) == (ways if has_room_for_two() else set()))
+    expect("the last crate that is proved", ("prrt: middle, at most 1 more crates" in first.said) == has_room_for_two())
     os.makedirs(tree.file("crates/planner/out/rlib"))
     append(tree, SOURCE)
     expect("one by one", not ways & set(planned(tree, True).calls))

@@ -17,6 +17,7 @@ RT = """#!/bin/sh
 echo "rt $1" >> "$CALLS"
 case $1 in
     version) echo "$KIT" ;;
+    all) printf '== lowest\n== middle\n== summary\nlowest: ok\nmiddle: ok\n' ;;
     run)
         shift 2
         eval "$STEP" || exit
