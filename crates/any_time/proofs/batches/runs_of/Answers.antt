@@ -1,4 +1,5 @@
-use Rattle.any_time.proofs.Words.{◌≡◌, ◌++◌, ◌∷◌, [], ◌+◌, List, Option, Some, length, map, take, sym, subst, ap, ◌∙◌, arith, rules, true≢false, IsSome, YieldsList-from_vec, YieldsList-turn, YieldsList-end}
+use Rattle.any_time.proofs.Words.{◌≡◌, ◌++◌, ◌∷◌, [], ◌+◌, List, Option, Some, length, map, take, sym, subst, ap, ◌∙◌, arith, rules}
+use Rattle.any_time.proofs.Words.{true≢false, IsSome, YieldsList-from_vec, YieldsList-turn, YieldsList-end}
 use Rattle.any_time.proofs.Words.{length_push, map_more, map_push, Grown, SessionState}
 use Rattle.std.proofs.Math.Seq.{take-length}
 use Rattle.any_time.proofs.batches.runs_of.Goals as goal
@@ -27,13 +28,15 @@ loop-session-preserved g c =
 pub push_reserved-requires : goal.push_reserved-requires
 push_reserved-requires g c =
     let turn = YieldsList-turn (YieldsList-from_vec {s = c.into_iter-session-iterator.result} c.args.sessions.items (search rules) (search rules))
-    c.loop-session.yielded c.loop-session.session-iterator c.loop-session.yielded_by c.next.result c.next.new.self c.in-Some.session c.in-Some.is c.next.ensures.steps in
+    c.loop-session.yielded c.loop-session.session-iterator c.loop-session.yielded_by c.next.result c.next.new.self
+    c.in-Some.session c.in-Some.is c.next.ensures.steps in
     omega (arith, c.loop-session.invariant.0, c.loop-session.invariant.1, turn.0)
 
 pub unreachable-requires : goal.unreachable-requires
 unreachable-requires g c =
     let turn = YieldsList-turn (YieldsList-from_vec {s = c.into_iter-session-iterator.result} c.args.sessions.items (search rules) (search rules))
-    c.loop-session.yielded c.loop-session.session-iterator c.loop-session.yielded_by c.next.result c.next.new.self c.in-Some.session c.in-Some.is c.next.ensures.steps in
+    c.loop-session.yielded c.loop-session.session-iterator c.loop-session.yielded_by c.next.result c.next.new.self
+    c.in-Some.session c.in-Some.is c.next.ensures.steps in
     let some = subst (λ (s : SessionState). IsSome s.run) (sym turn.1) (c.requires.runs (length c.loop-session.yielded) c.in-Some.session turn.0) in
     true≢false (sym (rw (← c.finish.ensures, c.in_default.is) at some))
 
