@@ -4,6 +4,7 @@ use Rattle.path_watch.proofs.Words.{FoldsTo, is_some, MOST_TEXT_BYTES, report_te
 use Rattle.path_watch.proofs.Words.{goals_of, SinkState, SourceState, state_of_grown, ReadsWithin, refusal_decided, success_decided, RefusesSceneText, IsCaused}
 use Rattle.path_watch.proofs.Words.{status_of_report, IsDecided, IsReadWhole, IsUnread, ReadFailed, WriteFailed, status_of, Refusal, NO_MEMORY, Done, Takes}
 use Rattle.path_watch.proofs.Words.{as_plan, orders_of, HasWatched, IsAskedSession, IsRefused, WatchesScene, status_of_ending, Refuses, Watches, Orders, Ending}
+use Rattle.path_watch.proofs.Words.{WORDS_REFUSED, WRITE_FAULT, status_of-words}
 use Rattle.planner.specs.declared.commands.Command.TheVariants as commands
 use Rattle.planner.specs.declared.refusals.Refusal.TheVariants as refusals
 use Rattle.path_watch.specs.declared.watching.Ending.TheVariants as endings
@@ -127,3 +128,19 @@ HasWatched-words asked source k l ending none unended h =
     let unread : IsUnread source source = record { kept = Keeps-refl source.bytes_left; no_end = unended; no_fault = refl } in
     HasWatched-refused asked source source k l ending (refusals.Words, (ap as_plan none, unread), h) (λ _. unread)
     ([], omega arith, Consumes-nil source.bytes_left)
+
+-- without words that ask to watch, the status is that of refused words, unless the sink failed
+pub status_of_ending-words : (before now : SourceState) (k l : SinkState) (ending : Ending) → HasWatched None before now k l ending
+    → (status_of_ending ending ≡ WORDS_REFUSED) ⊎ (status_of_ending ending ≡ WRITE_FAULT)
+status_of_ending-words before now k l ending h =
+    elim h.done [
+      | inl refused ↦ by_ending ending refused
+      | inr watched ↦ absurd (no_orders None watched.orders refl watched.asks)
+    ]
+  where
+    by_ending : (ending : Ending) → IsRefused None before now k l ending
+        → (status_of_ending ending ≡ WORDS_REFUSED) ⊎ (status_of_ending ending ≡ WRITE_FAULT)
+    by_ending (endings.Ended run has_path) h = absurd h.2
+    by_ending (endings.Cut run) h = absurd h.2
+    by_ending (endings.CutRefusal it) h = inr refl
+    by_ending (endings.Refused it) h = inl (ap status_of h.2.0 ∙ status_of-words before now h.0 h.1)

@@ -24,6 +24,7 @@ pub use Rattle.plan_model.specs.Trees.TreeStates.{IsSettled}
 pub use Rattle.plan_model.specs.declared.errors.Memory.{Memory}
 pub use Rattle.plan_model.specs.declared.scenes.Scene.{Scene}
 pub use Rattle.planner.proofs.Causes.{IfErr-only, IsReadWhole-fetched}
+pub use Rattle.planner.proofs.ConcludedCalls.{status_of-words}
 pub use Rattle.planner.proofs.DecidedStatuses.{refusal_decided, success_decided}
 pub use Rattle.planner.proofs.GivenBatches.{IsRunBySlices-finished}
 pub use Rattle.planner.specs.Endings.{IsDecided, IsSessionOf}
@@ -32,7 +33,7 @@ pub use Rattle.planner.specs.Conclusions.{IsCaused, IsRunBySlices, status_of_rep
 pub use Rattle.planner.specs.Inputs.{IsReadWhole, IsUnread, ReadFailed, WriteFailed}
 pub use Rattle.planner.specs.Refusals.{status_of}
 pub use Rattle.planner.specs.declared.refusals.Refusal.{Refusal}
-pub use Rattle.planner.specs.declared.statuses.TheConstants.{NO_MEMORY}
+pub use Rattle.planner.specs.declared.statuses.TheConstants.{NO_MEMORY, WORDS_REFUSED, WRITE_FAULT}
 pub use Rattle.planner.specs.declared.top_call.Done.{Done}
 pub use Rattle.scene_text.specs.Fetching.{ReadsWithin}
 pub use Rattle.std.proofs.Common.{Err, IfSome, IsSome, IsSomeAnd, List, None, Ok, Option, Result, Some, [], ap, append-nil, arith, false, inl, inr, length, map}

@@ -12,7 +12,6 @@
 mod blocks;
 mod handing;
 mod progress;
-mod statuses;
 mod top_call;
 mod watch_words;
 mod watching;

@@ -6,22 +6,22 @@ ghost use Rattle.plan_model.specs.Scenes.MarkPoints.{mark_points};
 ghost use Rattle.plan_model.specs.declared.limits.TheConstants.{MOST_MARKS};
 ghost use Rattle.any_time.specs.Sessions.{IsFresh};
 ghost use Rattle.scene_text.specs.Fetching.{ReadsWithin};
-ghost use Rattle.planner.specs.Commands.{words_after_name, IsOutOfMemory};
+ghost use Rattle.planner.specs.Commands.{words_after_name, AreNoText, IsOutOfMemory};
 ghost use Rattle.planner.specs.Conclusions.{IsCaused};
 ghost use Rattle.planner.specs.Inputs.{IsUnread, IsUnwritten};
-ghost use Rattle.planner.specs.declared.statuses.TheConstants.{NO_MEMORY};
+ghost use Rattle.planner.specs.declared.statuses.TheConstants.{NO_MEMORY, WORDS_REFUSED, WRITE_FAULT};
 ghost use Rattle.path_watch.specs.Watching.{HasWatched, IsAskedSession, status_of_ending};
 ghost use Rattle.path_watch.specs.WatchWords as spec;
 ghost use Rattle.path_watch.specs.declared.watch_words.Orders.{Orders};
 ghost use Rattle.path_watch.specs.declared.watching.Ending.{Ending};
 
 use crate::progress::Progress;
-use crate::statuses::NO_MEMORY;
 use crate::watch_words::{Orders, orders_of};
 use crate::watching::{Ending, refuse, watch_session};
 use any_time::Session;
 use obstacle_boxes::Boxes;
 use plan_model::{Memory, Sink, Source, Task};
+use planner::statuses::NO_MEMORY;
 use planner::{Problem, Refusal, problem_in, words_after_name};
 use scene_text::fetch;
 use std::alloc::{AllocGlobal, Global};
@@ -33,8 +33,8 @@ use std::sync::Wait;
 use std::thread::Threads;
 
 /// Runs the program on the arguments that `env::args` gives, and returns the code that it ends with: the status of [`watch`]. Arguments
-/// that are no text are refused as words. If the program is out of memory for the words, the code is that of want of memory, and
-/// nothing is read or written. The source has not given its end.
+/// that are no text are refused as words, unless the sink fails. If the program is out of memory for the words, the code is that of
+/// want of memory, and nothing is read or written. The source has not given its end.
 pub fn exit_code<
     R: Threads + Sync + Wait + RandomSource + AllocGlobal + Clone + Drop,
     S: Source,
@@ -55,6 +55,8 @@ pub fn exit_code<
         ⊎ ((ending : Ending) × (exit_status result ≡ status_of_ending ending) × HasWatched (spec.orders_of (words_after_name args))
         (S.state source.old) (S.state source.new) (K.state sink.old) (K.state sink.new) ending) }
     ensures no_words { IsOutOfMemory args → exit_status result ≡ NO_MEMORY }
+    // arguments that are no text are refused as words, whatever memory there is, unless the sink fails
+    ensures no_text { AreNoText args → (exit_status result ≡ WORDS_REFUSED) ⊎ (exit_status result ≡ WRITE_FAULT) }
 {
     match words_after_name(alloc, args) {
         Ok(words) => ExitCode::from(watch(rt, alloc, &words, source, sink, progress).status()),

@@ -6,7 +6,7 @@ use Rattle.planner.specs.declared.refusals.Refusal.TheVariants as refusals
 use Rattle.planner.proofs.DecidedStatuses.{success_decided, refusal_decided}
 
 -- words that ask for no command are refused for that alone
-status_of-words : (before now : SourceState) (refusal : Refusal) → IsCaused None before now refusal → status_of refusal ≡ WORDS_REFUSED
+pub status_of-words : (before now : SourceState) (refusal : Refusal) → IsCaused None before now refusal → status_of refusal ≡ WORDS_REFUSED
 status_of-words before now refusals.Words cause = refl
 status_of-words before now refusals.Memory cause = absurd cc
 status_of-words before now refusal cause = absurd cause.0

@@ -3,7 +3,7 @@ use Rattle.std.specs.Prelude.{◌≡◌, ◌<◌, ℕ, List, get_or, ◌≤◌, 
 use Rattle.std.specs.Prelude.{option_map}
 use Rattle.planner.specs.Terms.{ClearAt, Command, DONE, Done, GOAL_BLOCKED, IsFresh, Kind, MOST_GENERATED, MOST_TEXT_BYTES, NO_MEMORY, NO_PATH, READ_FAULT}
 use Rattle.planner.specs.Terms.{ReadsWithin, START_BLOCKED, Scene, SessionState, SinkState, SourceState, TEXT_REFUSED, Task, WORDS_REFUSED, WRITE_FAULT}
-use Rattle.planner.specs.Terms.{space_of}
+use Rattle.planner.specs.Terms.{MOST_SCENES, MOST_SESSIONS, space_of}
 use Rattle.planner.specs.Commands.{input_of, reads_text, tests_goal, tests_start, greatest_success, command_of, plans}
 use Rattle.planner.specs.Conclusions.{MayReach, MayStart, IsAnswer, Asks}
 use Rattle.planner.specs.Inputs.{AreGoalsClear, AreStartsClear, RefusesInput, SpellsInput, ReadFailed, WriteFailed, IsUnread, IsWrittenWhole, IsCutShort}
@@ -56,7 +56,7 @@ pub record HasConcluded (asked : Option Command) (before now : SourceState) (sin
   -- never more than one byte past the limit of a text is read
   pub within : ReadsWithin before.bytes_left now.bytes_left
 
--- ---- The statuses, and the number of the last generated scene, as numbers that a caller knows.
+-- ---- The statuses, the number of the last generated scene, and how many scenes a batch may have, as numbers that a caller knows.
 -- each constant with its value, so that it cannot change without its value here
 pub record FixedNumbers : Type 0 where
   pub done : DONE ≡ 0
@@ -69,6 +69,8 @@ pub record FixedNumbers : Type 0 where
   pub no_memory : NO_MEMORY ≡ 7
   pub goal_blocked : GOAL_BLOCKED ≡ 8
   pub most_generated : MOST_GENERATED ≡ 9999
+  pub most_scenes : MOST_SCENES ≡ 64
+  pub most_sessions : MOST_SESSIONS ≡ 64
 
 -- ---- Worked values of which statuses words come to.
 pub record WorkedStatuses : Type 0 where

@@ -10,6 +10,7 @@ pub use Rattle.std.specs.declared.io.ErrorKind.TheVariants.{OutOfMemory}
 pub use Rattle.std.specs.declared.vec.IntoIter.{IntoIter}
 pub use Rattle.any_time.specs.Sessions.{IsFresh, SessionState, has_path}
 pub use Rattle.any_time.specs.BetterPaths.{AreBetterPaths, batch_report, better_report}
+pub use Rattle.any_time.specs.declared.batches.TheConstants.{MOST_SESSIONS}
 pub use Rattle.any_time.specs.declared.betters.Better.{Better}
 pub use Rattle.path_tools.specs.SmoothPaths.{IsSmoothedReport}
 pub use Rattle.plan_model.specs.Reports.ReportText.{report_text, summary}
@@ -22,7 +23,7 @@ pub use Rattle.plan_model.specs.Texts.SceneGrammar.{Refused, RefusesBatch, Spell
 pub use Rattle.plan_model.specs.Texts.Streams.{FaultsRose, SinkState, SourceState, counted_up}
 pub use Rattle.plan_model.specs.Texts.TextLines.{is_number, lines_of, value_of}
 pub use Rattle.plan_model.specs.declared.geometry.Vertex.{Vertex}
-pub use Rattle.plan_model.specs.declared.limits.TheConstants.{MOST_TEXT_BYTES, MOST_WORKERS}
+pub use Rattle.plan_model.specs.declared.limits.TheConstants.{MOST_SCENES, MOST_TEXT_BYTES, MOST_WORKERS}
 pub use Rattle.plan_model.specs.declared.scenes.Marks.TheVariants.{Drawn}
 pub use Rattle.plan_model.specs.declared.text_terms.Kind.{Kind}
 pub use Rattle.planner.specs.declared.answers.Answer.{Answer}

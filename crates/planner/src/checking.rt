@@ -78,7 +78,7 @@ fn line_count(text: &[u8]) -> u32
     count
 }
 
-/// The problem of the scene that a text spells, whose start is clear.
+/// The problem of the scene that a text spells, whose start is clear. The text has at most `MOST_TEXT_BYTES` bytes.
 ///
 /// # Errors
 ///

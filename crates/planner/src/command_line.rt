@@ -47,6 +47,10 @@ pub fn exit_code<
 }
 
 /// The words after the program's name: none if the arguments are no text.
+///
+/// # Errors
+///
+/// `Memory` if out of memory for the arguments or for the words.
 pub fn words_after_name(alloc: Global, args: io::Result<Args>) -> Result<Vec<String>, Memory>
     ensures words { IfOk result (λ words. words.items ≡ given args) }
     ensures no_memory { IsOutOfMemory args → IsErr result }

@@ -27,13 +27,14 @@ mod read_laws;
 mod refusals;
 mod short_lines;
 mod standard_streams;
-mod statuses;
+pub mod statuses;
 mod top_call;
 mod worker_counts;
 
 pub use answers::{Answer, report_of, smoothed_report_of};
 pub use checking::problem_in;
 pub use command_line::{exit_code, words_after_name};
+pub use generated_scenes::{MOST_GENERATED, gen_scene};
 pub use number_words::slice_in;
 pub use problems::Problem;
 pub use refusals::Refusal;

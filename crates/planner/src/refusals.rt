@@ -31,7 +31,7 @@ pub enum Refusal {
     GoalBlocked,
     /// The source could not be read.
     ReadFault,
-    /// The program is out of memory, or, with `anytime W S` and `batch W S`, the runtime gives no executor.
+    /// The program is out of memory, or, with `anytime W S` and `batch W S`, the runtime cannot be cloned or gives no executor.
     Memory,
 }
 

@@ -26,13 +26,13 @@ pub const READ_FAULT: u8 = 5;
 /// The sink could not be written.
 pub const WRITE_FAULT: u8 = 6;
 
-/// The program is out of memory, or, with `anytime W S` and `batch W S`, the runtime gives no executor.
+/// The program is out of memory, or, with `anytime W S` and `batch W S`, the runtime cannot be cloned or gives no executor.
 pub const NO_MEMORY: u8 = 7;
 
 /// The middle of the scene's first goal is not clear.
 pub const GOAL_BLOCKED: u8 = 8;
 
-/// The statuses and the number of the last generated scene have the values that callers know.
+/// The statuses, the number of the last generated scene, and how many scenes a batch may have, have the values that callers know.
 pub fn fixed_numbers()
     ensures { FixedNumbers }
 {}

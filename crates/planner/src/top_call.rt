@@ -73,9 +73,8 @@ impl Done {
 /// - `gen N` reads nothing and writes the canonical text of a generated scene.
 /// - `trial N` reads nothing, plans a generated scene as `plain` does, and writes the report without the points of its path.
 ///
-/// The text is made whole before anything is written. Each status but `WRITE_FAULT` has one text, which the sink takes
-/// whole; with `WRITE_FAULT` the sink failed, and took a proper prefix of the text. The run that was reported is handed out
-/// even so.
+/// The text is made whole before anything is written. With each status but `WRITE_FAULT` the sink took the whole of it; with
+/// `WRITE_FAULT` the sink failed, and took a proper prefix of it. The run that was reported is handed out even so.
 ///
 /// The words are those after the program's name, and the source has not given its end. Other words are refused with
 /// `WORDS_REFUSED`. Unless they ask for a command that reads a scene, nothing is read; else the source may have been read, in

@@ -2,7 +2,7 @@
 
 use super::*;
 
-static CHECKED: [Case; 7] = [
+static CHECKED: [Case; 11] = [
     Case {
         shows: "the full report of a run",
         scene: "prrt 1\nroom 100 100\nstart 0 0\ngoal 40 79 40 79\nstep 50\ngamma 1000\nmark 0 50\nmark 40 79\nmark 40 30\nreport\n\
@@ -14,6 +14,51 @@ static CHECKED: [Case; 7] = [
                 mark 2 worker 0 turn 2 nearest 1 placed class 2 first 0 12800\n",
         status: 0,
         text: "lawful\n",
+        run: None,
+    },
+    Case {
+        shows: "a report without a path",
+        scene: "prrt 1\nroom 100 100\nstart 0 0\ngoal 90 90 99 99\nstep 50\nmark 60 80\nreport\n\
+                no path\nnodes 2 placed 1 same 0 blocked 0\nnode 0 at 0 0 parent 0 cost 0\n\
+                node 1 at 30 40 parent 0 cost 12800\nmark 0 worker 0 turn 0 nearest 0 placed class 1 first 0 12800\n",
+        status: 0,
+        text: "lawful\n",
+        run: None,
+    },
+    Case {
+        shows: "a cost of one 256th more",
+        scene: "prrt 1\nroom 100 100\nstart 0 0\ngoal 90 90 99 99\nstep 50\nmark 60 80\nreport\n\
+                no path\nnodes 2 placed 1 same 0 blocked 0\nnode 0 at 0 0 parent 0 cost 0\n\
+                node 1 at 30 40 parent 0 cost 12801\nmark 0 worker 0 turn 0 nearest 0 placed class 1 first 0 12800\n",
+        status: 1,
+        text: "broken line 4 law 2\n",
+        run: None,
+    },
+    Case {
+        shows: "no placed mark on the line of counts",
+        scene: "prrt 1\nroom 100 100\nstart 0 0\ngoal 90 90 99 99\nstep 50\nmark 60 80\nreport\n\
+                no path\nnodes 2 placed 0 same 0 blocked 0\nnode 0 at 0 0 parent 0 cost 0\n\
+                node 1 at 30 40 parent 0 cost 12800\nmark 0 worker 0 turn 0 nearest 0 placed class 1 first 0 12800\n",
+        status: 1,
+        text: "broken line 2 law 6\n",
+        run: None,
+    },
+    Case {
+        shows: "a nearest node that the mark itself placed",
+        scene: "prrt 1\nroom 100 100\nstart 0 0\ngoal 90 90 99 99\nstep 50\nmark 60 80\nreport\n\
+                no path\nnodes 2 placed 1 same 0 blocked 0\nnode 0 at 0 0 parent 0 cost 0\n\
+                node 1 at 30 40 parent 0 cost 12800\nmark 0 worker 0 turn 0 nearest 1 placed class 1 first 0 12800\n",
+        status: 1,
+        text: "broken line 5 law 5\n",
+        run: None,
+    },
+    Case {
+        shows: "no line of the last mark",
+        scene: "prrt 1\nroom 100 100\nstart 0 0\ngoal 90 90 99 99\nstep 50\nmark 60 80\nreport\n\
+                no path\nnodes 2 placed 1 same 0 blocked 0\nnode 0 at 0 0 parent 0 cost 0\n\
+                node 1 at 30 40 parent 0 cost 12800\n",
+        status: 1,
+        text: "broken line 5 law 1\n",
         run: None,
     },
     Case {
@@ -32,14 +77,6 @@ static CHECKED: [Case; 7] = [
                 no path\nnodes 1 placed 0 same 0 blocked 0\nnode 0 at 5 5 parent 0 cost 0\n",
         status: 1,
         text: "broken line 2 law 1\n",
-        run: None,
-    },
-    Case {
-        shows: "another number of placed marks",
-        scene: "prrt 1\nroom 10 10\nstart 5 5\ngoal 0 0 1 1\nstep 4\nreport\nno path\nnodes 1 placed 1 same 0 blocked 0\n\
-                node 0 at 5 5 parent 0 cost 0\n",
-        status: 1,
-        text: "broken line 2 law 6\n",
         run: None,
     },
     Case {
