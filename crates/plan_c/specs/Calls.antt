@@ -1,6 +1,6 @@
 -- What a call answers to the bytes that it is given: what the program answers by one worker.
 use Rattle.std.specs.Prelude.{◌≡◌, ℕ, ◌<◌, ◌≤◌, ◌++◌, List, length, ◌⊎◌, IfErr, IfOk, Result}
-use Rattle.plan_c.specs.Terms.{Answer, Broken, ClearAt, Command, IsVerdict, Lawful, MOST_REPORT_BYTES, MOST_TEXT_BYTES, NO_ROOM, Refusal, RefusesSceneText}
+use Rattle.plan_c.specs.Terms.{Answer, Broken, ClearAt, Command, IsVerdict, Lawful, MOST_TEXT_BYTES, Refusal, RefusesSceneText}
 use Rattle.plan_c.specs.Terms.{Spells, Succeeds, Task, Verdict, drop, number_of_kind, space_of, status_of, status_of_verdict, supported}
 use Rattle.planner.specs.declared.refusals.Refusal.TheVariants as refusals
 
@@ -10,7 +10,7 @@ use Rattle.planner.specs.declared.refusals.Refusal.TheVariants as refusals
 pub record HandsOut (text : List ℕ) (given : ℕ) (before after : List ℕ) (count status : ℕ) : Type 0 where
   pub counted : count ≡ length text
   pub written : length text ≤ length before → (status ≡ given) × (after ≡ text ++ drop (length text) before)
-  pub no_room : length before < length text → (status ≡ NO_ROOM) × (after ≡ before)
+  pub no_room : length before < length text → (status ≡ 9) × (after ≡ before)
 
 -- ---- calls
 -- ---- causes
@@ -22,7 +22,7 @@ RefusesText text refusal =
 -- why a report with the text of its scene is: it has too many bytes, or else as the text is refused
 abbrev pub RefusesReport : List ℕ → List ℕ → Refusal → Type 0
 RefusesReport text report refusal =
-    ((MOST_REPORT_BYTES < length report) × (refusal ≡ refusals.TooLong)) ⊎ ((length report ≤ MOST_REPORT_BYTES) × RefusesText text refusal)
+    ((4294967294 < length report) × (refusal ≡ refusals.TooLong)) ⊎ ((length report ≤ 4294967294) × RefusesText text refusal)
 
 -- ---- answers
 -- a success is one of the command, and a refusal has its cause

@@ -1,7 +1,5 @@
 -- What the definitions here say of the crates below and of the types of this one, passed on from one place. Declares nothing.
 pub use lib.ListN.{drop}
-pub use Rattle.plan_c.specs.declared.answers.TheConstants.{MOST_REPORT_BYTES}
-pub use Rattle.plan_c.specs.declared.exports.TheConstants.{NO_ROOM}
 pub use Rattle.plan_model.specs.Texts.Keys.{number_of_kind}
 pub use Rattle.planner.specs.CheckedTexts.{RefusesSceneText}
 pub use Rattle.planner.specs.Conclusions.{Succeeds}
