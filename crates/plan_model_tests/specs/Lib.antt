@@ -5,4 +5,5 @@ pub mod NarrowRuns
 pub mod GrownTrees
 pub mod LesserSights
 pub mod OpenPaths
+pub mod BatchTexts
 pub mod RouteExamples

@@ -10,6 +10,7 @@ ghost use Rattle.plan_model.specs.Vectors.SecondVersion.{SecondVersionSpelling, 
 ghost use Rattle.plan_model.specs.Vectors.SeenTrees.{SeenTreeVectors, WayVectors};
 ghost use Rattle.plan_model.specs.Vectors.Texts.{StreamVectors, FieldSpellingVector, PolygonSpellingVector, RefusalVectors, SpellingVector, LineVectors};
 ghost use Rattle.plan_model.specs.Vectors.Texts.{NumberVectors};
+ghost use Rattle.plan_model_tests.specs.BatchTexts.{BatchTextVectors};
 ghost use Rattle.plan_model_tests.specs.OpenPaths.{BoundaryVectors, FaultWordVectors, OpenPathVectors, SameInputVectors, CoveringVectors};
 ghost use Rattle.plan_model_tests.specs.GrownTrees.{GrownTreeVectors, KeptCostVectors};
 ghost use Rattle.plan_model_tests.specs.LesserSights.{LaterSightVectors, SeenAtLeastVectors, SeenParentVectors, LinkVectors};
@@ -75,6 +76,11 @@ pub fn numbers()
 /// Texts that are refused, and why.
 pub fn refusals()
     ensures { RefusalVectors }
+{}
+
+/// Texts of several scenes.
+pub fn batch_texts()
+    ensures { BatchTextVectors }
 {}
 
 /// A text that spells a scene.

@@ -10,3 +10,5 @@ mod paths;
 mod settled_runs;
 #[cfg(test)]
 mod textbook;
+#[cfg(test)]
+mod vectors;
