@@ -1,29 +1,16 @@
 -- What a session gives after polls that gave nothing, and what all of its items are then.
-use Rattle.path_watch.proofs.Words.{◌≡◌, ℕ, zero, suc, List, [], ◌∷◌, ◌++◌, append-nil, Option, Some, None, Result, Ok, Err, IsSomeAnd, refl, sym, ap, subst}
-use Rattle.path_watch.proofs.Words.{◌∙◌, FoldsTo-push, FoldsTo, Poll, Ready, Pending, Grown, Memory, ArePolled, Shows, best_sum, Answers, betters_among}
-use Rattle.path_watch.proofs.Words.{IsBetter, Moves, Polls, SessionState, Better, Comes, pendings}
+use Rattle.path_watch.proofs.Words.{◌≡◌, ℕ, zero, suc, List, [], ◌∷◌, ◌++◌, append-nil, Option, Some, None, Result, Ok, Err, refl, ap, subst, ◌∙◌}
+use Rattle.path_watch.proofs.Words.{FoldsTo-push, FoldsTo, Poll, Ready, Pending, Memory, ArePolled, Answers, betters_among, Polls, SessionState, Better}
+use Rattle.path_watch.proofs.Words.{Comes, pendings}
 
 -- ---- one poll more before an item
-
 pub Comes-given : (s t : SessionState) (item : Option (Result Better Memory)) → Polls s (Ready item) t → Comes s item t
 Comes-given s t item p = record { count = 0; between = s; waits = refl; gives = p }
 
 pub Comes-pending : (s u t : SessionState) (item : Option (Result Better Memory)) → Polls s Pending u → Comes u item t → Comes s item t
 Comes-pending s u t item p h = record { count = suc h.count; between = h.between; waits = (u, p, h.waits); gives = h.gives }
 
--- the run is that of the item
-shown_at : (before after : Option Grown) (s : SessionState) (item : Better)
-    → IsSomeAnd before (λ b. IsSomeAnd after (λ a. Moves s b a × IsBetter (best_sum a) s.last × Shows a item))
-    → IsSomeAnd after (λ run. run.limit ≡ item.marks)
-shown_at None after s item h = absurd h
-shown_at (Some b) None s item h = absurd h
-shown_at (Some b) (Some a) s item h = sym h.2.marks
-
-pub given_at : (s t : SessionState) (item : Better) → Comes s (Some (Ok item)) t → IsSomeAnd t.run (λ run. run.limit ≡ item.marks)
-given_at s t item h = shown_at h.between.run t.run h.between item h.gives.2
-
 -- ---- all items
-
 pushed : (answers : Answers) (answer : Poll (Option (Result Better Memory)))
     → betters_among (answers ++ answer ∷ []) ≡ betters_among answers ++ betters_among (answer ∷ [])
 pushed [] answer = refl

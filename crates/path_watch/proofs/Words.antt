@@ -3,7 +3,7 @@ pub use Rattle.any_time.proofs.EachSlice.{items_fall_on}
 pub use Rattle.any_time.proofs.GatheredItems.{AreBetterPaths-gathered, EndsWith-gathered}
 pub use Rattle.any_time.proofs.KnownOptions.{there_some}
 pub use Rattle.any_time.specs.Batches.{ArePolled, Gathers}
-pub use Rattle.any_time.specs.Sessions.{IsBetter, IsNew, IsOver, Moves, Polls, SessionState, Shows, best_sum}
+pub use Rattle.any_time.specs.Sessions.{IsNew, IsOver, Polls, SessionState}
 pub use Rattle.any_time.specs.Items.{Answers, HasGiven, betters_among}
 pub use Rattle.any_time.specs.declared.betters.Better.{Better}
 pub use Rattle.futures.specs.declared.task.Poll.{Poll}

@@ -135,7 +135,6 @@ module _ (setup : Setup) (clears : Clears setup.space) (state : TreeState) (reco
       yes (record { order = a; within = b; records = c; workers = d; turns = e; lawful = f; placed = g }))))))))
 
 -- ---- in the room of the worked runs
-
 module _ (state : TreeState) (records : List Record) (is : state.record_of ≡ slice_get records) (marks : List Point) (limit : ℕ) where
   abbrev pub closes : Dec (IsClosed open_setup marks limit state)
   closes = is_closed open_setup (is_clear (at 100 100)) state records is (is_clear_at (at 100 100) (at 0 0)) marks limit

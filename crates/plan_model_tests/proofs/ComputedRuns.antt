@@ -15,7 +15,6 @@ pub IsGoalNode-few : (setup : Setup) (points : List (Option Point)) (i : ℕ) �
 IsGoalNode-few setup points i goal = IsPresent-below points i (IsPresent-goal setup.goals (point_at points i) goal)
 
 -- ---- points
-
 module _ (points : List (Option Point)) (p : Point) where
   abbrev pub is_nearest : (m : ℕ) → Dec (IsNearest points p m)
   is_nearest m =
@@ -28,7 +27,6 @@ module _ (points : List (Option Point)) (p : Point) where
       each_of (λ j. StandsAt points j p) (λ j. ⊥) (length points) (λ j. StandsAt-below points j p) (λ j. denied (is_point (point_at points j) p))
 
 -- ---- what nodes cost
-
 -- what a point costs through each node
 pub through-is : (tree : Nodes) (p : Point) → cost_through tree p ≡ (λ i. sum tree i + cost (point_of (points_of tree) i) p)
 through-is tree p = λ j i. sum-is tree i j + cost-is (point_of (points_of tree) i) p j

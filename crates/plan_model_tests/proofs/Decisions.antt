@@ -6,7 +6,6 @@ use Rattle.std.proofs.lemmas.Bool.{leb-true, leb-false}
 use lib.Dec.{leb, eqb}
 
 -- ---- what a decision tells
-
 abbrev pub holds : {P : Type 0} → Dec P → Bool
 holds (yes p) = true
 holds (no n) = false
@@ -20,7 +19,6 @@ refuted (yes p) e = absurd (true≢false e)
 refuted (no n) e = n
 
 -- ---- of parts
-
 abbrev pub by_test : {P : Type 0} (b : Bool) → (b ≡ true → P) → (b ≡ false → ¬ P) → Dec P
 by_test true f g = yes (f refl)
 by_test false f g = no (g refl)
@@ -73,7 +71,6 @@ value_of None e = absurd (true≢false (sym e))
 value_of (Some t) e = t
 
 -- ---- of numbers
-
 pub above-not : (a b : ℕ) → leb a b ≡ false → ¬ (a ≤ b)
 above-not a b e h = omega (arith, leb-false a b e)
 
@@ -87,7 +84,6 @@ abbrev pub is_true : (b : Bool) → Dec (IsTrue b)
 is_true b = by_test b (λ e. e) (λ e h. true≢false (sym h ∙ e))
 
 -- ---- of all numbers, and of one
-
 module _ (P : ℕ → Type 0) where
   pub all-more : (n : ℕ) → P n × ((k : ℕ) → k < n → P k) → (k : ℕ) → k < suc n → P k
   all-more n h k below = elim (cases_eq k n) [ inl e ↦ subst P (sym e) h.0 | inr apart ↦ h.1 k (omega (arith, below, apart)) ]
@@ -126,7 +122,6 @@ abbrev pub each_of : (A P : ℕ → Type 0) (n : ℕ) → ((k : ℕ) → A k →
 each_of A P n few test = like (λ f k a. f k (few k a) a) (λ g k below. g k) (each_below (λ k. A k → P k) test n)
 
 -- ---- of options
-
 module _ {T : Type 0} (P : T → Type 0) where
   pub of-some : (t : T) → P t → (s : T) → Some t ≡ Some s → P s
   of-some t p s e = subst P (let own : t ≡ s = cc in own) p
@@ -139,7 +134,6 @@ module _ {T : Type 0} (P : T → Type 0) where
   in_option (Some t) test = like (of-some t) (λ h. h t refl) (test t)
 
 -- ---- of points
-
 pub point-by : (a b : Point) → (a.x ≡ b.x) × (a.y ≡ b.y) → a ≡ b
 point-by a b h = λ i. record { x = h.0 i; y = h.1 i }
 
@@ -149,7 +143,6 @@ is_point (Some q) p =
     like (λ h. ap Some (point-by q p h)) (λ e. of-some (λ r. (q.x ≡ r.x) × (q.y ≡ r.y)) q (refl, refl) p e) (both (are_equal q.x p.x) (are_equal q.y p.y))
 
 -- ---- of members
-
 module _ (xs : List ℕ) (P : ℕ → Type 0) where
   -- what is said of each member, by its place
   pub of-places : ((k : ℕ) → k < length xs → P (slice_index_or xs k 0)) → (x : ℕ) → Contains xs x → P x
@@ -165,7 +158,6 @@ abbrev pub contains : (xs : List ℕ) (x : ℕ) → Dec (Contains xs x)
 contains xs x = some_below (λ k. slice_index_or xs k x ≡ x) (λ k. are_equal (slice_index_or xs k x) x) (length xs)
 
 -- ---- of tests and options
-
 abbrev pub agree : (a b : Bool) → Dec (a ≡ b)
 agree true true = yes refl
 agree false false = yes refl

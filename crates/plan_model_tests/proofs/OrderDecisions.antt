@@ -8,7 +8,6 @@ use Rattle.plan_model_tests.proofs.Decisions.{holds, is_point, is_true, like, re
 use Rattle.plan_model_tests.proofs.ComputedCosts.{cost-is, cost}
 
 -- ---- points
-
 pub StandsAt-below : (points : List (Option Point)) (i : ℕ) (p : Point) → StandsAt points i p → i < length points
 StandsAt-below points i p h = IsPresent-below points i (ap is_some h)
 
@@ -51,7 +50,6 @@ of_later_nodes P points test =
     each_of (λ n. IsPresent points (suc n)) P (length points) (IsPresent-before points) (λ n. implied (is_true (is_some (point_at points (suc n)))) (test n))
 
 -- ---- empty rooms
-
 abbrev pub is_in_room : (room p : Point) → Dec (IsInRoom room p)
 is_in_room room p =
     like (λ h. record { horizontal = h.0; vertical = h.1 }) (λ h. (h.horizontal, h.vertical)) (both (is_at_most p.x room.x) (is_at_most p.y room.y))
@@ -66,7 +64,6 @@ is_clear_at room p =
     like (λ h. Clear-first (empty_room room) p p (Clear-empty_room room p p h h)) (IsInRoom-from_clear_at (empty_room room) p) (is_in_room room p)
 
 -- ---- the order law
-
 -- which segments are clear
 abbrev pub Clears : ConfigurationSpace → Type 0
 Clears space = (a b : Point) → Dec (Clear space a b)

@@ -10,7 +10,6 @@ use Rattle.plan_model_tests.proofs.OrderDecisions.{of_nodes}
 use Rattle.plan_model_tests.proofs.SightDecisions.{IsSmall, by-side, counted, each_number, each_side, has_seen_at_least, is_later, is_seen, no_records, past_5}
 
 -- ---- ways
-
 other_row : (p q : Point) → p.y ≢ q.y → p ≢ q
 other_row p q apart e = apart (ap (λ (r : Point). r.y) e)
 
@@ -78,7 +77,6 @@ place_is n (suc (suc a)) false link = cc
 place_is n (suc (suc a)) true link = cc
 
 -- ---- what is seen at the end
-
 pub small_return : IsSmall at_return.seen
 small_return = record { child = λ n side. refl; pairs = λ n. refl }
 
@@ -124,7 +122,6 @@ pub not_seen_4 : ¬ IsSeen at_return.seen 4
 not_seen_4 = refuted (is_seen at_return.seen small_return 4) refl
 
 -- ---- later
-
 pub small_entry : IsSmall at_entry.seen
 small_entry = record { child = λ n side. refl; pairs = λ n. refl }
 
@@ -135,7 +132,6 @@ pub IsLaterMoment-return : IsLaterMoment at_entry at_return
 IsLaterMoment-return = shown (is_later at_entry at_return (λ n side. inl refl) (yes seen_at_return)) refl
 
 -- ---- swept
-
 pub swept_beside_node_1 : IsSwept at_return 6 (at 9 9)
 swept_beside_node_1 free = record {
   depth = 1;

@@ -8,7 +8,6 @@ use Rattle.plan_model_tests.proofs.SeenByOne.{small_entry, small_return}
 use Rattle.plan_model_tests.proofs.SightDecisions.{by-numbers, counted, has_seen_at_least, keeps_or_finds_empty, no_records}
 
 -- ---- true of the tree
-
 pub true_now : IsTrueOf at_entry.seen tree_now
 true_now = shown (has_seen_at_least at_entry.seen (seen_whole tree_now) small_entry (no_records (λ k. None)) (counted 2 3)) refl
 
@@ -21,7 +20,6 @@ not_true_yet =
     refuted (has_seen_at_least at_return.seen (seen_whole tree_before) small_return (no_records (λ k. None)) (counted 2 3)) refl
 
 -- ---- taken over
-
 children_of_both : (n : ℕ) (side : Bool) → five_children n side ≡ option_or (four_children n side) (others_children n side)
 children_of_both zero false = refl
 children_of_both zero true = refl

@@ -6,7 +6,6 @@ use Rattle.plan_model_tests.proofs.Decisions.{are_equal, both, each_below, eithe
 use Rattle.plan_model_tests.proofs.Decisions.{some_below}
 
 -- ---- numbers and sides
-
 abbrev pub past_5 : ℕ → ℕ
 past_5 n = suc (suc (suc (suc (suc (suc n)))))
 
@@ -35,7 +34,6 @@ module _ (P : Bool → Type 0) where
   each_side test = like by-side (λ h. (h false, h true)) (both (test false) (test true))
 
 -- ---- places
-
 abbrev pub is_number : (o : Option ℕ) (m : ℕ) → Dec (o ≡ Some m)
 is_number None m = no (of-none (λ _. ⊥) m)
 is_number (Some n) m = like (ap Some) (of-some (λ k. n ≡ k) n refl m) (are_equal n m)
@@ -61,7 +59,6 @@ module _ (child after : Children) (past : (n : ℕ) (side : Bool) → child (pas
       yes (record { children = a; nodes = λ n p h. b n (IsPresent-below points n (ap is_some h)) p h })))
 
 -- ---- parents with costs
-
 pub pair-by : (p q : ℕ × ℕ) → (p.0 ≡ q.0) × (p.1 ≡ q.1) → p ≡ q
 pair-by p q h = λ i. (h.0 i, h.1 i)
 
@@ -81,7 +78,6 @@ keeps_or_lowers_to (Some now) pair =
     (either (is_pair now pair) (is_at_most (suc now.1) pair.1))
 
 -- ---- more was seen
-
 -- nothing was seen of number 6 and above
 pub record IsSmall (seen : SeenTree) : Type 0 where
   pub child : (n : ℕ) (side : Bool) → seen.child (past_5 n) side ≡ None
@@ -104,7 +100,6 @@ module _ (before after : SeenTree) (small : IsSmall before)
       yes (record { places = a; pairs = b; records = c; counters = d; count = e }))))))
 
 -- ---- seen nodes
-
 module _ (seen : SeenTree) (small : IsSmall seen) (n : ℕ) where
   abbrev pub IsChildOf : ℕ → Type 0
   IsChildOf a = (seen.child a false ≡ Some n) ⊎ (seen.child a true ≡ Some n)
@@ -128,7 +123,6 @@ module _ (seen : SeenTree) (small : IsSmall seen) (n : ℕ) where
       (like child-of of-child (some_below IsChildOf (λ a. either (is_number (seen.child a false) n) (is_number (seen.child a true) n)) 6))
 
 -- ---- later moments
-
 abbrev pub keeps_or_finds_empty : (before after : Sight) (n : ℕ) (side : Bool) → Dec (KeepsOrFindsEmpty before after n side)
 keeps_or_finds_empty before after n side =
     either (are_equal (after.found_empty n side) (before.found_empty n side))

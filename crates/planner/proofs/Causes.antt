@@ -55,8 +55,7 @@ IfErr-only (Err e) error P only h = subst P (sym only) h
 
 -- a start that is not clear is the cause of its refusal
 pub StartBlocked-caused : (command : Command) (before now : SourceState) (scene : Scene) → input_of command ≡ one_scene →
-    IsTrue (plans command) → HasScene before now scene → ¬ ClearAt (space_of scene) scene.start →
-    IsCaused (Some command) before now refusals.StartBlocked
+    IsTrue (plans command) → HasScene before now scene → ¬ ClearAt (space_of scene) scene.start → IsCaused (Some command) before now refusals.StartBlocked
 StartBlocked-caused command before now scene one planned h blocked = (
   and_from (reads_text command) (plans command) (ap reads_bytes one) planned,
   (
@@ -89,7 +88,6 @@ GoalBlocked-caused command before now scene one tests h start blocked = (
 )
 
 -- ---- what an answer of a call says, by which one it is
-
 pub given_some : {A : Type 0} (answer : Option A) (x : A) (P : A → Type 0) → answer ≡ Some x → IfSome answer P → P x
 given_some {A} answer x P is h = subst (λ (o : Option A). IfSome o P) is h
 

@@ -50,7 +50,6 @@ not_met p reach begin body obstacle left right apart meets =
     omega (arith, ints)
 
 -- ---- generated obstacles begin at 200
-
 right_of : (x y : ℕ) → 200 ≤ x → pos 200 ≤ℤ (lattice_corner x y).x
 right_of x y h = omega (arith, ints)
 
@@ -77,7 +76,6 @@ obstacle_right cell u v = by (cell % 2 == 0) refl
     by false e = rw e (triangle_right (place_in_cell cell u v) (side_by u) (omega arith))
 
 -- ---- the start
-
 abbrev start : Point
 start = record { x = 100; y = 100 }
 

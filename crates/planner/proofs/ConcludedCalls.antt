@@ -2,8 +2,15 @@
 use Rattle.planner.proofs.Words.{◌≡◌, ◌≢◌, ℕ, ◌⊎◌, inl, inr, true, false, Option, None, IfSome, List, refl, sym, subst, ◌∙◌, eqb, eqb_tells, SourceState}
 use Rattle.planner.proofs.Words.{SinkState, ReadsWithin, Command, Refusal, WORDS_REFUSED, WRITE_FAULT, NO_MEMORY, Done, reads_text, IsAnswer, IsCaused, Asks}
 use Rattle.planner.proofs.Words.{IsDecided, HasConcluded, ReadFailed, IsUnread, IsWrittenWhole, IsCutShort, status_of}
+use Rattle.planner.proofs.Words.{AreNoText, Err, Error, IntoIter, Ok, Result, String, [], given}
+use Rattle.std.specs.Global.{Global}
 use Rattle.planner.specs.declared.refusals.Refusal.TheVariants as refusals
 use Rattle.planner.proofs.DecidedStatuses.{success_decided, refusal_decided}
+
+-- arguments that are no text are no words
+pub no_words : (args : Result (IntoIter (String Global) Global) Error) → AreNoText args → given args ≡ []
+no_words (Ok args) no_text = absurd no_text
+no_words (Err error) no_text = refl
 
 -- words that ask for no command are refused for that alone
 pub status_of-words : (before now : SourceState) (refusal : Refusal) → IsCaused None before now refusal → status_of refusal ≡ WORDS_REFUSED
@@ -42,9 +49,7 @@ module _ (asked : Option Command) (before now : SourceState) (answered : Done) (
   }
     where
       by_status :
-          asked ≡ None
-          → ((eqb result.status WRITE_FAULT ≡ true) × (result.status ≡ WRITE_FAULT))
-          ⊎ ((eqb result.status WRITE_FAULT ≡ false) × (result.status ≢ WRITE_FAULT))
-          → (result.status ≡ WORDS_REFUSED) ⊎ (result.status ≡ WRITE_FAULT)
+          asked ≡ None → ((eqb result.status WRITE_FAULT ≡ true) × (result.status ≡ WRITE_FAULT))
+          ⊎ ((eqb result.status WRITE_FAULT ≡ false) × (result.status ≢ WRITE_FAULT)) → (result.status ≡ WORDS_REFUSED) ⊎ (result.status ≡ WRITE_FAULT)
       by_status none (inl fault) = inr fault.1
       by_status none (inr other) = inl (rw (whole other.1).0 (status-words answer none))

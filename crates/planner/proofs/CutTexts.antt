@@ -3,7 +3,6 @@ use Rattle.planner.proofs.Words.{◌≡◌, ℕ, ◌==◌, not, true, ◌⊎◌,
 use Rattle.planner.proofs.Words.{and_parts, false≢true, All-head, All-tail, text_of, HasNoReportLine, IsCutAtReport, IsOtherLine, has_no_feed, report_line}
 
 -- ---- the first line
-
 no_feed_in : (line after : List ℕ) → has_no_feed (line ++ 10 ∷ after) ≡ true → ⊥
 no_feed_in [] after h = false≢true (and_parts (not (10 == 10)) (has_no_feed after) h).0
 no_feed_in (b ∷ line) after h = no_feed_in line after (and_parts (not (b == 10)) (has_no_feed (line ++ 10 ∷ after)) h).1
@@ -22,7 +21,6 @@ same_first (a ∷ one) (b ∷ other) x y g h same =
     (λ i. head i ∷ rest.0 i, rest.1)
 
 -- ---- where lines that are not `report` end
-
 -- the line `report` comes, or no line feed is left
 abbrev IsEnd : List ℕ → Type 0
 IsEnd rest = ((after : List ℕ) × (rest ≡ report_line ++ 10 ∷ after)) ⊎ (has_no_feed rest ≡ true)
@@ -46,7 +44,6 @@ same_walk (l ∷ one) (m ∷ other) p q g h e f same =
     (λ i. first.0 i ++ 10 ∷ rest.0 i, rest.1)
 
 -- ---- one cut
-
 -- what stands after the scene: the line `report` and the report, or that line alone, without its line feed
 record BeginsWithReport (text front : List ℕ) : Type 0 where
   rest : List ℕ

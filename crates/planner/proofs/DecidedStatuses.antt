@@ -74,8 +74,7 @@ module _ (bytes : List ℕ) (command : Command) (status : ℕ) where
     long = λ long. let short = short_input (input_of command) bytes scenes t in absurd (omega arith);
   }
 
-  by_fault : (number : ℕ) (kind : Kind) → RefusesInput (input_of command) number kind bytes → status ≡ TEXT_REFUSED →
-      IsDecidedBy bytes command status
+  by_fault : (number : ℕ) (kind : Kind) → RefusesInput (input_of command) number kind bytes → status ≡ TEXT_REFUSED → IsDecidedBy bytes command status
   by_fault number kind f e = record {
     done = λ scenes t may reach. absurd (not_faulty (input_of command) bytes scenes number kind t f);
     blocked = λ scenes t tests blocked. absurd (not_faulty (input_of command) bytes scenes number kind t f);
@@ -169,8 +168,7 @@ by_meaning bytes command done text s reads = by command s reads (Succeeds-low co
     by command s reads low = by_scene bytes command done.status _ s reads (λ tests. absurd (false≢true tests)) low
 
 -- known bytes of which more came than a text may have are too many
-long_before : (before now : Option (List ℕ)) (bytes : List ℕ) → CameTooLong before now → before ≡ Some bytes →
-    MOST_TEXT_BYTES < length bytes
+long_before : (before now : Option (List ℕ)) (bytes : List ℕ) → CameTooLong before now → before ≡ Some bytes → MOST_TEXT_BYTES < length bytes
 long_before before now bytes came is = let count = came_count before now bytes came.0 is came.2 in omega (arith, came.1)
 
 module _ (before now : SourceState) (command : Command) (status : ℕ) where
@@ -209,8 +207,7 @@ tests_goal-reads command tests = absurd (false≢true tests)
 
 -- the status of a refusal, if no read failed
 pub refusal_decided : (asked : Option Command) (before now : SourceState) (refusal : Refusal) → IsCaused asked before now refusal →
-    ¬ ReadFailed before now →
-    (status_of refusal ≡ NO_MEMORY) ⊎ IfSome asked (λ command. IsDecided before.bytes_left command (status_of refusal))
+    ¬ ReadFailed before now → (status_of refusal ≡ NO_MEMORY) ⊎ IfSome asked (λ command. IsDecided before.bytes_left command (status_of refusal))
 refusal_decided None before now refusal cause sure = inr tt
 refusal_decided (Some command) before now refusals.Words cause sure = absurd cc
 refusal_decided (Some command) before now refusals.TooLong cause sure =

@@ -55,7 +55,6 @@ read_batch-caused command before now text (reading.Fault fault) several whole sh
 read_batch-caused command before now text reading.Memory several whole short refused = (refl, whole.no_fault)
 
 -- ---- the starts, by their numbers
-
 pub clear_by_number : (scenes : List Scene) → ((i : ℕ) (d : Scene) → i < length scenes → ClearAt (space_of (get_or scenes i d)) (get_or scenes i d).start)
     → AreStartsClear scenes
 clear_by_number [] h = tt
@@ -68,7 +67,6 @@ clear_at_number (scene ∷ scenes) zero d clear within = clear.0
 clear_at_number (scene ∷ scenes) (suc i) d clear within = clear_at_number scenes i d clear.1 (omega (arith, within))
 
 -- ---- sessions that are made one after another
-
 pub one_session_more : (workers slice : ℕ) (scenes : List Scene) (xs : List SessionState) (y : SessionState) (n : ℕ) → length xs ≡ n
     → HaveSessions workers slice scenes xs n → ((scene : Scene) → IsSessionOf workers slice (get_or scenes n scene) y)
     → HaveSessions workers slice scenes (xs ++ y ∷ []) (n + 1)

@@ -8,7 +8,6 @@ use Rattle.planner.specs.declared.commands.Command.TheVariants as commands
 use Rattle.planner.specs.declared.refusals.Refusal.TheVariants as refusals
 
 -- ---- the parts of a text
-
 -- are no longer than it
 pub IsCutAtReport-short : (text front report : List ℕ) → IsCutAtReport text front report → length front + length report ≤ length text
 IsCutAtReport-short text front report cut = by cut.cut
@@ -19,7 +18,6 @@ IsCutAtReport-short text front report cut = by cut.cut
     by (inr last) = omega (arith, ap length last.0, ap length last.1, length-append front report_line)
 
 -- ---- refusals
-
 -- the scene before the line is refused
 pub RefusesCheck-front : (bytes front report : List ℕ) (refusal : Refusal) → length bytes ≤ MOST_TEXT_BYTES → IsCutAtReport bytes front report
     → RefusesSceneText front refusal → RefusesCheck bytes refusal
@@ -52,7 +50,6 @@ RefusesCheck-whole bytes refusals.Memory short h = tt
 RefusesCheck-whole bytes refusal short h = absurd h
 
 -- ---- answers
-
 module _ (before now : SourceState) (bytes : List ℕ) (within : ReadsWithin before.bytes_left now.bytes_left) (whole : IsReadWhole before now bytes) where
   caused : (refusal : Refusal) → RefusesCheck bytes refusal → IsCaused (Some commands.Check) before now refusal
   caused (refusals.Text number kind) h = (refl, (bytes, whole, h))

@@ -52,6 +52,5 @@ IsBridge-present setup one other (Some pair) h = (h.member.one_present, h.member
 
 -- a report of two runs is one of the scene that the first is of
 pub ReportsTwin-of_scene :
-    (workers : ℕ) (own scene : Scene) (done : Done) (text : List ℕ) → own ≡ scene → ReportsTwin workers own done text
-    → ReportsTwin workers scene done text
+    (workers : ℕ) (own scene : Scene) (done : Done) (text : List ℕ) → own ≡ scene → ReportsTwin workers own done text → ReportsTwin workers scene done text
 ReportsTwin-of_scene workers own scene done text of_scene reported = subst (λ (s : Scene). ReportsTwin workers s done text) of_scene reported

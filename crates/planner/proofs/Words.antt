@@ -19,7 +19,7 @@ pub use Rattle.plan_model.specs.declared.limits.TheConstants.{MOST_MARKS}
 pub use Rattle.plan_work.proofs.TextbookEnds.{IsOfTextbook-new, IsOfTextbookRun-whole}
 pub use Rattle.planner.specs.Endings.{HasConcluded, HaveSessions, IsDecided, IsDecidedBy, IsSessionOf}
 pub use Rattle.planner.specs.CheckedTexts.{Judges, RefusesCheck, RefusesSceneText, RefusesWithoutReport}
-pub use Rattle.planner.specs.Commands.{AreNoText, command_of, greatest_success, input_of, plans, reads_text, tests_goal, tests_start, words_after_name}
+pub use Rattle.planner.specs.Commands.{AreNoText, command_of, given, greatest_success, input_of, plans, reads_text, tests_goal, tests_start}
 pub use Rattle.planner.specs.Conclusions.{Answers, Asks, BlocksGoal, BlocksStart, HandsOutNothing, HandsOutRunAlone, HasBatch, HasScene, IsAnswer}
 pub use Rattle.planner.specs.Conclusions.{IsBetterReport, IsCaused, IsReport, IsRunBySlices, IsSceneOf, IsSuccess, IsSummary, MayReach, MayStart, OfScene}
 pub use Rattle.planner.specs.Conclusions.{Report, ReportsBatch, ReportsGrown, ReportsScene, ReportsTwin, Succeeds, status_of_report}

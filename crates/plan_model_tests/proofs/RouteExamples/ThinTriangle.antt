@@ -6,7 +6,6 @@ use Rattle.plan_model_tests.proofs.ShortLists.{one, three}
 use Rattle.plan_model_tests.proofs.RouteExamples.ShortWeights.{ClearAt-apart}
 
 -- ---- lattice points
-
 -- points of the triangle with such an x lie strictly between y = 4 and y = 5
 between_rows : (t x y a b c : ℕ) → 0 < t → 3 ≤ x → x ≤ 7 → a + b + c ≡ t → 11 * b + 10 * c ≡ t * x → 4 * a + 5 * b + 5 * c ≡ t * y → ⊥
 between_rows t x y a b c some left right total across up =
@@ -38,7 +37,6 @@ ClearAt-near p near =
     ClearAt-apart (at 20 20) p thin_triangle (omega arith) (omega arith) (apart p (omega arith) (omega arith))
 
 -- ---- across the triangle
-
 -- the middle of the lower long edge
 pub meets_middle : (q : Rational) → pos q.over *ℤ pos 10 ≡ pos 2 *ℤ q.x → pos q.over *ℤ pos 9 ≡ pos 2 *ℤ q.y → Meets 0 point_body q thin_triangle
 meets_middle q h k = Meets-shares_point 0 point_body thin_triangle q (record {

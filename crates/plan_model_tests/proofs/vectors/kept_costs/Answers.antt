@@ -11,8 +11,7 @@ none_rises (suc zero) = omega arith
 none_rises (suc (suc zero)) = omega arith
 none_rises (suc (suc (suc n))) = omega arith
 
-edges : (n : ℕ) → IsPresent (points_of gapped) (suc n)
-    → costs_of (0 ∷ 0 ∷ 12800 ∷ []) (suc n)
+edges : (n : ℕ) → IsPresent (points_of gapped) (suc n) → costs_of (0 ∷ 0 ∷ 12800 ∷ []) (suc n)
     ≡ costs_of (0 ∷ 0 ∷ 12800 ∷ []) (parent_of gapped (suc n)) + edge_by (points_of gapped) (parent_of gapped) (suc n)
 edges zero h = cc
 edges (suc zero) h = omega (arith, cost_2500)

@@ -19,8 +19,7 @@ none_above p g r s fails passes =
           absurd (omega (arith, product_grows p (suc r) s (omega arith), leb-false (suc r * suc r * p) g fails, leb-true (s * s * p) g passes))
     ]
 
-greatest-is : (step p g r : ℕ) → r ≤ step → leb (r * r * p) g ≡ true → leb (suc r * suc r * p) g ≡ false
-    → greatest (λ s. leb (s * s * p) g) step ≡ r
+greatest-is : (step p g r : ℕ) → r ≤ step → leb (r * r * p) g ≡ true → leb (suc r * suc r * p) g ≡ false → greatest (λ s. leb (s * s * p) g) step ≡ r
 greatest-is step p g r within passes fails =
     sym (
     greatest-unique (λ s. leb (s * s * p) g) step r (le-leb (0 * 0 * p) g (omega arith)) within passes
